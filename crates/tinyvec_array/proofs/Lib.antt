@@ -1,0 +1,4 @@
+pub mod Lists
+pub mod EndsLemmas
+pub mod DrainLemmas
+pub mod SlotsLemmas

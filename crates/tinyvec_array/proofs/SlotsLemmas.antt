@@ -1,0 +1,47 @@
+-- Lemmas on the list and the spare slots.
+use Rattle.std.proofs.Common.{◌≡◌, ℕ, ◌+◌, ◌-◌, List, [], ◌++◌, drop, replicate, sym, ap, ◌∙◌, arith, take-append-drop}
+use Rattle.std.proofs.lemmas.List.Elements.{All-nil}
+use Rattle.std.proofs.lemmas.List.{same_lists, get_or-replicate, length-replicate}
+use Rattle.tinyvec_array.specs.Slots.{Slots, AreDefaults, Frees, SlotRule, items_len, all_slots, items, spare}
+use Rattle.tinyvec_array.specs.Drain.{DrainLeaves, DrainKeeps, drain_kept, drain_count, drain_spare}
+use Rattle.tinyvec_array.specs.declared.drain.ArrayVecDrain.{ArrayVecDrain}
+
+-- the slots are the list and what stands behind it
+pub slots_are : {T : Type 0} (v : Slots T) → all_slots v ≡ items v ++ spare v
+slots_are v = sym (take-append-drop v.len v.slots)
+
+-- the slot rule of a call that made the list longer, shorter, or neither
+module _ {T : Type 0} (D : T → Type 0) (old new : Slots T) where
+  pub slots_used : (k : ℕ) → items_len new ≡ items_len old + k → spare new ≡ drop k (spare old) → SlotRule D old new
+  slots_used k len behind =
+      let none : items_len old - items_len new ≡ 0 = omega arith in
+      let more : items_len new - items_len old ≡ k = omega arith in
+      ([], (sym none, All-nil D), behind ∙ ap (λ n. drop n (spare old)) (sym more))
+
+  pub slots_freed : (k : ℕ) → items_len old ≡ items_len new + k → Frees D k old new → SlotRule D old new
+  slots_freed k len h =
+      let fewer : items_len old - items_len new ≡ k = omega arith in
+      let none : items_len new - items_len old ≡ 0 = omega arith in
+      (h.0, (h.1.0 ∙ sym fewer, h.1.1), h.2 ∙ ap (λ n. h.0 ++ drop n (spare old)) (sym none))
+
+-- where the item's `Default` answers one value only
+module _ {T : Type 0} (D : T → Type 0) (c : T) (only : (x : T) → D x → x ≡ c) where
+  pub defaults_are : (n : ℕ) (xs : List T) → AreDefaults D n xs → xs ≡ replicate n c
+  defaults_are n xs h =
+      same_lists xs (replicate n c) (h.0 ∙ sym (length-replicate n c))
+      (λ k d lt. only _ (h.1 k d lt) ∙ sym (get_or-replicate n k c d (rw (← h.0) lt)))
+
+  pub freed : (n : ℕ) (old new : Slots T) → Frees D n old new → spare new ≡ replicate n c ++ spare old
+  freed n old new h = h.2 ∙ ap (λ ds. ds ++ spare old) (defaults_are n h.0 h.1)
+
+  -- what a vector is once a drain ended, in the words of the state that the drain began in
+  pub drained : {A : Type 0} (first last : ArrayVecDrain A T) (v : Slots T) → DrainKeeps first last
+      → DrainLeaves D last v
+      → (items v ≡ drain_kept first) × (spare v ≡ replicate (drain_count first) c ++ drain_spare first)
+      × (all_slots v ≡ drain_kept first ++ (replicate (drain_count first) c ++ drain_spare first))
+  drained first last v kept h =
+      let listed = h.0 ∙ kept.1 in
+      let behind : spare v ≡ replicate (drain_count first) c ++ drain_spare first =
+      h.1.2 ∙ ap (λ ds. ds ++ drain_spare last) (defaults_are (drain_count last) h.1.0 h.1.1)
+      ∙ ap (λ n. replicate n c ++ drain_spare last) kept.2 ∙ ap (λ xs. replicate (drain_count first) c ++ xs) kept.3 in
+      (listed, behind, slots_are v ∙ ap (λ xs. xs ++ spare v) listed ∙ ap (λ xs. drain_kept first ++ xs) behind)

@@ -1,0 +1,21 @@
+use Rattle.std.proofs.Common.{arith, refl, ◌-◌, drop-set-lt, length-set}
+use Rattle.tinyvec_array.proofs.Lists.{slice_range_last}
+use Rattle.tinyvec_array.specs.Slots.{spare}
+use Rattle.tinyvec_array.proofs.drain.ArrayVecDrainDoubleEndedIterator.next_back.Goals as goal
+
+pub returns-clause-steps : goal.returns-clause-steps
+returns-clause-steps g c =
+    let d = c.args.self.now in
+    let xs = spare d.vec.now in
+    let after = c.take_spare.ensures.spare in
+    let long = length-set xs (d.back - 1) after.0 in
+    rw (after.1) (
+      slice_range_last xs d.front d.back c.take_spare.result after.0 (omega arith) (omega arith) c.take_spare.ensures.value,
+      (
+        refl,
+        c.take_spare.ensures.items,
+        refl,
+        drop-set-lt d.count xs (d.back - 1) after.0 (omega arith),
+        λ h. (omega arith, omega arith, omega arith),
+      ),
+    )

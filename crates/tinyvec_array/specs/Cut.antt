@@ -1,0 +1,34 @@
+-- What a range cuts a list into.
+use Rattle.std.specs.Prelude.{ℕ, ◌+◌, ◌-◌, ◌^◌, ◌≤◌, min, List, length, take, drop, slice_range}
+use Rattle.std.specs.declared.ops.Bound.{Bound}
+use Rattle.std.specs.declared.ops.Bound.TheVariants.{Included, Excluded, Unbounded}
+
+-- the index after n, or `usize::MAX`
+abbrev pub after_index : ℕ → ℕ
+after_index n = min (n + 1) (2 ^ 64 - 1)
+
+-- The range rule: where a range starts, and where it ends in a list of so many items.
+abbrev pub range_start : Bound ℕ → ℕ
+range_start (Included n) = n
+range_start (Excluded n) = after_index n
+range_start Unbounded = 0
+
+abbrev pub range_end : Bound ℕ → ℕ → ℕ
+range_end (Included n) len = after_index n
+range_end (Excluded n) len = n
+range_end Unbounded len = len
+
+module _ {T : Type 0} where
+  -- the range with these ends lies in the list, and does not run backwards
+  abbrev pub IsRangeOf : List T → Bound ℕ → Bound ℕ → Type 0
+  IsRangeOf xs start end = (range_start start ≤ range_end end (length xs)) × (range_end end (length xs) ≤ length xs)
+
+  -- what stands before the range, in it, and after it
+  abbrev pub before : List T → Bound ℕ → List T
+  before xs start = take (range_start start) xs
+
+  abbrev pub removed : List T → Bound ℕ → Bound ℕ → List T
+  removed xs start end = slice_range xs (range_start start) (range_end end (length xs))
+
+  abbrev pub after : List T → Bound ℕ → List T
+  after xs end = drop (range_end end (length xs)) xs

@@ -1,0 +1,52 @@
+-- Taking from the two ends of a list, by a word of ends.
+use Rattle.std.specs.Prelude.{◌≡◌, ℕ, ◌+◌, ◌-◌, min, List, [], ◌∷◌, ◌++◌, length, take, drop, reverse, slice_range, map, replicate, Option, Some, None}
+
+pub data End : Type 0 where
+  front : End
+  back : End
+
+-- how many letters of a word are `front`, and how many are `back`
+abbrev pub fronts : List End → ℕ
+fronts [] = 0
+fronts (front ∷ word) = fronts word + 1
+fronts (back ∷ word) = fronts word
+
+abbrev pub backs : List End → ℕ
+backs [] = 0
+backs (front ∷ word) = backs word
+backs (back ∷ word) = backs word + 1
+
+module _ {T : Type 0} where
+  -- of the items that the letters of a word gave, those that came from the front
+  abbrev pub from_front : List End → List T → List T
+  from_front [] given = []
+  from_front (e ∷ word) [] = []
+  from_front (front ∷ word) (x ∷ given) = x ∷ from_front word given
+  from_front (back ∷ word) (x ∷ given) = from_front word given
+
+  -- and those that came from the back
+  abbrev pub from_back : List End → List T → List T
+  from_back [] given = []
+  from_back (e ∷ word) [] = []
+  from_back (front ∷ word) (x ∷ given) = from_back word given
+  from_back (back ∷ word) (x ∷ given) = x ∷ from_back word given
+
+-- A word takes from the list xs: each letter is answered with an item as long as there are any and then with `None`.
+-- The letters `front` are given the first items in order, the letters `back` the last items, last first, and what
+-- stands between them is left.
+pub record TakesFromEnds {T : Type 0} (xs : List T) (word : List End) (answers : List (Option T)) (left : List T) : Type 0 where
+  pub given : List T
+  pub count : length given ≡ min (length word) (length xs)
+  pub answered : answers ≡ map Some given ++ replicate (length word - length given) None
+  pub first : from_front word given ≡ take (fronts (take (length given) word)) xs
+  pub last : from_back word given ≡ reverse (drop (length xs - backs (take (length given) word)) xs)
+  pub middle : left ≡ slice_range xs (fronts (take (length given) word)) (length xs - backs (take (length given) word))
+
+-- Calls of `next` and `next_back`, by the letters of a word, took `from` to `to` and were answered so.
+module _ {S T : Type 0} (gives gives_back : S → Option T → S → Type 0) where
+  abbrev pub Asks : S → List End → List (Option T) → S → Type 0
+  Asks from [] [] to = to ≡ from
+  Asks from [] (r ∷ answers) to = ⊥
+  Asks from (e ∷ word) [] to = ⊥
+  Asks from (front ∷ word) (r ∷ answers) to = (mid : S) × gives from r mid × Asks mid word answers to
+  Asks from (back ∷ word) (r ∷ answers) to = (mid : S) × gives_back from r mid × Asks mid word answers to

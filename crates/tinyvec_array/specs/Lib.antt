@@ -1,0 +1,4 @@
+pub mod Slots
+pub mod Cut
+pub mod Ends
+pub mod Drain

@@ -1,0 +1,47 @@
+-- The list and the spare slots, what is a default, and what a change of the list does to the spare slots.
+use Rattle.std.specs.Prelude.{◌≡◌, ℕ, ◌-◌, List, ◌++◌, length, take, drop, All, refl}
+use Rattle.std.specs.Coded.{Coded, code_by, coded×, coded_list, coded_ℕ}
+
+-- all the slots, and how many of them hold the list
+pub record Slots (T : Type 0) : Type 0 where
+  pub slots : List T
+  pub len : ℕ
+
+abbrev pub slots_code : {T : Type 0} → Coded T → Coded (Slots T)
+slots_code {T} code =
+    code_by (List T × ℕ) (coded× (coded_list code) coded_ℕ) (λ v. (v.slots, v.len)) (λ p. record { slots = p.0; len = p.1 }) (λ _. refl)
+
+-- xs is n values of which D holds: with the `is_default` of an item's `Default`, n defaults
+abbrev pub AreDefaults : {T : Type 0} → (T → Type 0) → ℕ → List T → Type 0
+AreDefaults D n xs = (length xs ≡ n) × All D xs
+
+module _ {T : Type 0} where
+  -- the list
+  abbrev pub items : Slots T → List T
+  items v = take v.len v.slots
+
+  -- the spare slots behind it
+  abbrev pub spare : Slots T → List T
+  spare v = drop v.len v.slots
+
+  -- the length of the list
+  abbrev pub items_len : Slots T → ℕ
+  items_len v = length (items v)
+
+  -- the list and the spare slots, one behind the other
+  abbrev pub all_slots : Slots T → List T
+  all_slots v = v.slots
+
+  -- the list is the first n of these slots
+  abbrev pub split_at : ℕ → List T → Slots T
+  split_at n xs = record { slots = xs; len = n }
+
+  -- the n slots that the list gave up stand, as defaults, before the old spare slots
+  abbrev pub Frees : (T → Type 0) → ℕ → Slots T → Slots T → Type 0
+  Frees D n old new = (ds : List T) × AreDefaults D n ds × (spare new ≡ ds ++ spare old)
+
+  -- The slot rule. Where the list got shorter, as many defaults stand before the old spare slots. Where it got longer,
+  -- it used up as many of them. Where it is as long, they are the same.
+  abbrev pub SlotRule : (T → Type 0) → Slots T → Slots T → Type 0
+  SlotRule D old new = (ds : List T) × AreDefaults D (items_len old - items_len new) ds
+      × (spare new ≡ ds ++ drop (items_len new - items_len old) (spare old))

@@ -1,0 +1,75 @@
+//! Reads and writes of an array's slots.
+ghost use Rattle.std.specs.Prelude.{◌≡◌, ℕ, ◌+◌, ◌-◌, ◌<◌, ◌≤◌, List, ◌++◌, length, take, drop, slice_index_or, slice_set, slice_range};
+ghost use Rattle.std.specs.List.{remove_range};
+ghost use Rattle.tinyvec_array.specs.Slots.{AreDefaults};
+
+use crate::Array;
+use std::mem;
+
+/// Writes `x` into the slot at `i`.
+pub(crate) fn put<A: Array>(array: &mut A, i: usize, x: A::Item)
+    requires { i < A.CAPACITY }
+    ensures after { A.slots array.new ≡ slice_set (A.slots array.old) i x }
+    ensures len { length (A.slots array.old) ≡ A.CAPACITY }
+{
+    array.as_slice_mut()[i] = x;
+}
+
+/// Takes what the slot at `i` holds, and leaves a default.
+pub(crate) fn take_slot<A: Array>(array: &mut A, i: usize) -> A::Item
+    requires { i < A.CAPACITY }
+    ensures value { result ≡ slice_index_or (A.slots array.old) i result }
+    ensures after { (d : A.Item) × A.Item.is_default d × (A.slots array.new ≡ slice_set (A.slots array.old) i d) }
+    ensures len { length (A.slots array.old) ≡ A.CAPACITY }
+{
+    mem::take(&mut array.as_slice_mut()[i])
+}
+
+/// Writes a default into each slot.
+fn reset<T: Default + Drop>(slots: &mut [T])
+    ensures { AreDefaults T.is_default (length slots.old) slots.new }
+{
+    for slot in slots.iter_mut() {
+        *slot = T::default();
+    }
+}
+
+/// Writes a default into each slot from `start` up to `end`.
+pub(crate) fn clear<A: Array>(array: &mut A, start: usize, end: usize)
+    requires start_le_end { start ≤ end }
+    requires in_bounds { end ≤ A.CAPACITY }
+    ensures after { (ds : List A.Item) × AreDefaults A.Item.is_default (end - start) ds × (A.slots array.new ≡ take start (A.slots array.old) ++ ds ++ drop end (A.slots array.old)) }
+    ensures len { length (A.slots array.old) ≡ A.CAPACITY }
+{
+    reset(&mut array.as_slice_mut()[start..end]);
+}
+
+// Moves the items from `start` up to `end` behind the others.
+fn move_to_end<T>(items: &mut [T], start: usize, end: usize)
+    requires start_le_end { start ≤ end }
+    requires in_bounds { end ≤ length items.old }
+    ensures { items.new ≡ remove_range items.old start end ++ slice_range items.old start end }
+{
+    items[start..].rotate_left(end - start);
+}
+
+// The same below `len`.
+fn part_to_end<T>(slots: &mut [T], start: usize, end: usize, len: usize)
+    requires start_le_end { start ≤ end }
+    requires in_list { end ≤ len }
+    requires in_bounds { len ≤ length slots.old }
+    ensures { slots.new ≡ remove_range (take len slots.old) start end ++ slice_range (take len slots.old) start end ++ drop len slots.old }
+{
+    move_to_end(&mut slots[..len], start, end);
+}
+
+/// Moves the slots from `start` up to `end` behind the others below `len`.
+pub(crate) fn slots_to_end<A: Array>(array: &mut A, start: usize, end: usize, len: usize)
+    requires start_le_end { start ≤ end }
+    requires in_list { end ≤ len }
+    requires in_bounds { len ≤ A.CAPACITY }
+    ensures after { A.slots array.new ≡ remove_range (take len (A.slots array.old)) start end ++ slice_range (take len (A.slots array.old)) start end ++ drop len (A.slots array.old) }
+    ensures len { length (A.slots array.old) ≡ A.CAPACITY }
+{
+    part_to_end(array.as_slice_mut(), start, end, len);
+}
