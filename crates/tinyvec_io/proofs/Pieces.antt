@@ -1,0 +1,16 @@
+-- Bytes that are written piece by piece.
+use Rattle.std.proofs.Common.{◌≡◌, ◌∙◌, ap, sym, append_assoc, ℕ, List, ◌++◌, take, drop, take-append-drop, Option}
+use Rattle.std.specs.Io.KnownBytes.{Appends}
+use Rattle.std.proofs.KnownBytes.{Appends-trans}
+
+-- a front of the bytes was appended, and the rest is left
+abbrev pub AppendsUpTo : Option (List ℕ) → Option (List ℕ) → List ℕ → List ℕ → Type 0
+AppendsUpTo old new bytes rest = (front : List ℕ) × (bytes ≡ front ++ rest) × Appends old new front
+
+-- a piece more
+pub AppendsUpTo-piece : (old mid new : Option (List ℕ)) (bytes rest : List ℕ) (count : ℕ) → AppendsUpTo old mid bytes rest → Appends mid new (take count rest) → AppendsUpTo old new bytes (drop count rest)
+AppendsUpTo-piece old mid new bytes rest count (front, whole, before) piece = (
+  front ++ take count rest,
+  whole ∙ ap (λ l. front ++ l) (sym (take-append-drop count rest)) ∙ sym (append_assoc front (take count rest) (drop count rest)),
+  Appends-trans old mid new front (take count rest) before piece,
+)

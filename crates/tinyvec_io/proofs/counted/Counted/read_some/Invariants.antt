@@ -1,0 +1,12 @@
+use Rattle.std.proofs.Common.{◌≡◌, ◌≤◌, ◌⊎◌}
+use Rattle.std.specs.Io.KnownBytes.{Keeps}
+use Rattle.tinyvec_io.specs.Counted.{Reported}
+use Rattle.tinyvec_io.proofs.counted.Counted.read_some.Given as goal
+
+-- only interrupted reads so far
+abbrev pub invariant-loop-tries : goal.invariant-loop-tries
+invariant-loop-tries g l = record {
+  bytes : Keeps (g.R.Read.remaining l.fn.self.end) (g.R.Read.remaining l.self.end);
+  grows : l.fn.self.faults ≤ l.self.faults;
+  fault : Reported l.fn.self.faults l.self.faults ⊎ (l._tries ≡ 0);
+}

@@ -1,0 +1,13 @@
+use Rattle.std.proofs.Common.{◌≤◌, length}
+use Rattle.tinyvec_io.proofs.Pieces.{AppendsUpTo}
+use Rattle.tinyvec_io.proofs.counted.writing.CountedWrite.write_all.Given as goal
+
+-- what went before the rest was appended
+abbrev pub invariant-loop-rest : goal.invariant-loop-rest
+invariant-loop-rest g l = record {
+  bytes : AppendsUpTo (g.W.Write.contents l.fn.self.end) (g.W.Write.contents l.self.end) l.buf l.rest;
+  grows : l.fn.self.faults ≤ l.self.faults;
+}
+
+abbrev pub decreases-loop-rest : goal.decreases-loop-rest
+decreases-loop-rest g l = length l.rest

@@ -1,0 +1,58 @@
+//! `Counted`.
+ghost use Rattle.std.specs.Prelude.{◌≡◌, ◌≤◌};
+ghost use Rattle.tinyvec_io.specs.Counted.{CountedEnd, one_more_fault};
+
+mod reading;
+mod writing;
+
+use std::marker::Model;
+
+/// The reader or writer that it holds, and the number of its faults.
+///
+/// A fault is a `read`, `write` or `flush` that answered `Err`, also where it was interrupted, and
+/// a `write` that took nothing of bytes given. The end of input is none. Each of these calls is
+/// passed on as it is, with its answer, and no bytes are kept back.
+#[derive(Drop)]
+pub struct Counted<E> {
+    end: E,
+    faults: u64,
+}
+
+impl<E> Model for Counted<E> {
+    ghost Value = { CountedEnd E };
+
+    ghost view = { λ c. record { end = c.end; faults = c.faults } };
+}
+
+impl<E> Counted<E> {
+    /// Takes over the reader or writer, with no fault so far.
+    pub fn new(end: E) -> Self
+        ensures end { result.end ≡ end }
+        ensures faults { result.faults ≡ 0 }
+    {
+        Counted { end, faults: 0 }
+    }
+
+    /// The number of faults so far. It stays at `u64::MAX` once there.
+    pub fn faults(&self) -> u64
+        ensures { result ≡ self.now.faults }
+    {
+        self.faults
+    }
+
+    /// Gives back the reader or writer, and forgets the number.
+    pub fn into_inner(self) -> E
+        ensures { result ≡ self.end }
+    {
+        let Counted { end, faults: _ } = self;
+        end
+    }
+
+    fn count_fault(&mut self)
+        ensures end { self.new.end ≡ self.old.end }
+        ensures faults { self.new.faults ≡ one_more_fault self.old.faults }
+        ensures grows { self.old.faults ≤ self.new.faults }
+    {
+        self.faults = self.faults.saturating_add(1);
+    }
+}

@@ -1,0 +1,55 @@
+//! The counted end as a reader.
+ghost use Rattle.std.specs.Prelude.{◌≡◌, ◌≢◌, ◌<◌, ◌≤◌, OnErr, IfOk, IfErr, length, take};
+ghost use Rattle.std.specs.Io.{ReadsAtMost};
+ghost use Rattle.std.specs.Io.KnownBytes.{Keeps, Consumes, IsAtEnd, ReadConsumes};
+ghost use Rattle.std.specs.IoError.{error_kind};
+ghost use Rattle.tinyvec_io.specs.Counted.{faults_after, Reported};
+
+use super::Counted;
+use std::io;
+use std::io::{ErrorKind, Read};
+
+impl<R: Read> Read for Counted<R> {
+    ghost remaining = { λ c. R.remaining c.end };
+
+    fn read(&mut self, buf: &mut [u8]) -> io::Result<usize>
+        ensures bound { ReadsAtMost result buf.new }
+        ensures bytes { ReadConsumes (R.remaining self.old.end) (R.remaining self.new.end)
+            result buf.new }
+        ensures faults { self.new.faults ≡ faults_after self.old.faults result }
+        ensures grows { self.old.faults ≤ self.new.faults }
+    {
+        let result = self.end.read(buf);
+        if result.is_err() {
+            self.count_fault();
+        }
+        result
+    }
+}
+
+impl<R: Read> Counted<R> {
+    /// Reads some bytes, and tries again where it was interrupted. An answer of 0 is the end of
+    /// input.
+    ///
+    /// Each interruption counts. After `u64::MAX` of them it gives up with `ErrorKind::TimedOut`.
+    pub fn read_some(&mut self, buf: &mut [u8]) -> io::Result<usize>
+        requires { 0 < length buf.old }
+        ensures bound { ReadsAtMost result buf.new }
+        ensures bytes { IfOk result (λ n. Consumes (R.remaining self.old.end)
+            (R.remaining self.new.end) (take n buf.new)) }
+        ensures end { IfOk result (λ n. n ≡ 0 → IsAtEnd (R.remaining self.new.end)) }
+        ensures err { OnErr result (Keeps (R.remaining self.old.end) (R.remaining self.new.end)) }
+        ensures retried { IfErr result (λ e. error_kind e ≢ ErrorKind.Interrupted) }
+        ensures grows { self.old.faults ≤ self.new.faults }
+        ensures fault { OnErr result (Reported self.old.faults self.new.faults) }
+    {
+        for _tries in 0..u64::MAX {
+            match self.read(buf) {
+                Ok(count) => return Ok(count),
+                Err(e) if e.kind() == ErrorKind::Interrupted => {}
+                Err(e) => return Err(e),
+            }
+        }
+        Err(io::Error::from(ErrorKind::TimedOut))
+    }
+}

@@ -1,0 +1,89 @@
+//! The counted end as a writer.
+ghost use Rattle.std.specs.Prelude.{◌≡◌, ◌≢◌, ◌<◌, ◌≤◌, OnOk, OnErr, IfOk, IfErr, length};
+ghost use Rattle.std.specs.Io.{WritesAtMost};
+ghost use Rattle.std.specs.Io.KnownBytes.{Keeps, Appends, WriteAppends};
+ghost use Rattle.std.specs.IoError.{error_kind};
+ghost use Rattle.tinyvec_io.specs.Counted.{AppendsFront, faults_after, faults_after_write, Reported};
+
+use super::Counted;
+use std::io;
+use std::io::{ErrorKind, Write};
+
+impl<W: Write> Write for Counted<W> {
+    ghost contents = { λ c. W.contents c.end };
+
+    fn write(&mut self, buf: &[u8]) -> io::Result<usize>
+        ensures bound { WritesAtMost result buf.now }
+        ensures bytes { WriteAppends (W.contents self.old.end) (W.contents self.new.end)
+            result buf.now }
+        ensures faults { self.new.faults ≡ faults_after_write self.old.faults result buf.now }
+        ensures grows { self.old.faults ≤ self.new.faults }
+    {
+        let result = self.end.write(buf);
+        let is_fault = match &result {
+            Ok(count) => *count == 0 && !buf.is_empty(),
+            Err(_) => true,
+        };
+        if is_fault {
+            self.count_fault();
+        }
+        result
+    }
+
+    fn flush(&mut self) -> io::Result<()>
+        ensures bytes { Keeps (W.contents self.old.end) (W.contents self.new.end) }
+        ensures faults { self.new.faults ≡ faults_after self.old.faults result }
+        ensures grows { self.old.faults ≤ self.new.faults }
+    {
+        let result = self.end.flush();
+        if result.is_err() {
+            self.count_fault();
+        }
+        result
+    }
+
+    /// Writes all the bytes, a piece after another, and tries again where it was interrupted.
+    ///
+    /// Each interruption counts. Where a write takes nothing it fails with `ErrorKind::WriteZero`,
+    /// and after `u64::MAX` interruptions of a piece with `ErrorKind::TimedOut`.
+    fn write_all(&mut self, buf: &[u8]) -> io::Result<()>
+        ensures bytes { OnOk result (Appends (W.contents self.old.end) (W.contents self.new.end)
+            buf.now) }
+        ensures err { OnErr result (AppendsFront (W.contents self.old.end)
+            (W.contents self.new.end) buf.now) }
+        ensures retried { IfErr result (λ e. error_kind e ≢ ErrorKind.Interrupted) }
+        ensures grows { self.old.faults ≤ self.new.faults }
+        ensures fault { OnErr result (Reported self.old.faults self.new.faults) }
+    {
+        let mut rest = buf;
+        while !rest.is_empty() {
+            let count = self.write_some(rest)?;
+            rest = &rest[count..];
+        }
+        Ok(())
+    }
+}
+
+impl<W: Write> Counted<W> {
+    // Writes some of the bytes, and tries again where it was interrupted.
+    fn write_some(&mut self, buf: &[u8]) -> io::Result<usize>
+        requires { 0 < length buf.now }
+        ensures some { IfOk result (λ n. 0 < n) }
+        ensures bound { WritesAtMost result buf.now }
+        ensures bytes { WriteAppends (W.contents self.old.end) (W.contents self.new.end)
+            result buf.now }
+        ensures retried { IfErr result (λ e. error_kind e ≢ ErrorKind.Interrupted) }
+        ensures grows { self.old.faults ≤ self.new.faults }
+        ensures fault { OnErr result (Reported self.old.faults self.new.faults) }
+    {
+        for _tries in 0..u64::MAX {
+            match self.write(buf) {
+                Ok(0) => return Err(io::Error::from(ErrorKind::WriteZero)),
+                Ok(count) => return Ok(count),
+                Err(e) if e.kind() == ErrorKind::Interrupted => {}
+                Err(e) => return Err(e),
+            }
+        }
+        Err(io::Error::from(ErrorKind::TimedOut))
+    }
+}
