@@ -1,10 +1,13 @@
 -- Lemmas on the list and the spare slots.
-use Rattle.std.proofs.Common.{◌≡◌, ℕ, ◌+◌, ◌-◌, List, [], ◌++◌, drop, replicate, sym, ap, ◌∙◌, arith, take-append-drop}
+use Rattle.std.proofs.Common.{◌≡◌, ℕ, ◌+◌, ◌-◌, List, [], ◌++◌, length, drop, replicate, sym, ap, ◌∙◌, arith, take-append-drop}
 use Rattle.std.proofs.lemmas.List.Elements.{All-nil}
 use Rattle.std.proofs.lemmas.List.{same_lists, get_or-replicate, length-replicate}
 use Rattle.tinyvec_array.specs.Slots.{Slots, AreDefaults, Frees, SlotRule, items_len, all_slots, items, spare}
-use Rattle.tinyvec_array.specs.Drain.{DrainLeaves, DrainKeeps, drain_kept, drain_count, drain_spare}
+use Rattle.std.specs.declared.ops.Bound.{Bound}
+use Rattle.tinyvec_array.specs.Cut.{IsRangeOf, range_start, range_end, before, removed, after}
+use Rattle.tinyvec_array.specs.Drain.{DrainLeaves, DrainKeeps, drain_items, drain_kept, drain_count, drain_spare}
 use Rattle.tinyvec_array.specs.declared.drain.ArrayVecDrain.{ArrayVecDrain}
+use Rattle.tinyvec_array.proofs.Lists.{length-remove_range, length-slice_range}
 
 -- the slots are the list and what stands behind it
 pub slots_are : {T : Type 0} (v : Slots T) → all_slots v ≡ items v ++ spare v
@@ -23,6 +26,24 @@ module _ {T : Type 0} (D : T → Type 0) (old new : Slots T) where
       let fewer : items_len old - items_len new ≡ k = omega arith in
       let none : items_len new - items_len old ≡ 0 = omega arith in
       (h.0, (h.1.0 ∙ sym fewer, h.1.1), h.2 ∙ ap (λ n. h.0 ++ drop n (spare old)) (sym none))
+
+-- What a drain left is the list without its range, by the slot rule. The premises are what `drain` ensures of `first`,
+-- what calls keep up to `last`, and what the end of `last` leaves.
+module _ {A T : Type 0} (D : T → Type 0) (first last : ArrayVecDrain A T) (old new : Slots T) (start end : Bound ℕ)
+    (in_list : IsRangeOf (items old) start end) (rest : drain_items first ≡ removed (items old) start end)
+    (count : drain_count first ≡ length (drain_items first)) (kept : drain_kept first ≡ before (items old) start ++ after (items old) end)
+    (behind : drain_spare first ≡ spare old) (keeps : DrainKeeps first last) (left : DrainLeaves D last new) where
+  pub drained_items : items new ≡ before (items old) start ++ after (items old) end
+  drained_items = left.0 ∙ keeps.1 ∙ kept
+
+  pub drained_slots : SlotRule D old new
+  drained_slots =
+      let i = range_start start in
+      let j = range_end end (items_len old) in
+      let count_is : drain_count last ≡ j - i = keeps.2 ∙ count ∙ ap length rest ∙ length-slice_range (items old) i j in_list.0 in_list.1 in
+      let fewer : items_len new ≡ items_len old - (j - i) = ap length drained_items ∙ length-remove_range (items old) i j in_list.0 in_list.1 in
+      slots_freed D old new (j - i) (omega (arith, in_list.0, in_list.1))
+      (left.1.0, (left.1.1.0 ∙ count_is, left.1.1.1), left.1.2 ∙ ap (λ xs. left.1.0 ++ xs) (keeps.3 ∙ behind))
 
 -- where the item's `Default` answers one value only
 module _ {T : Type 0} (D : T → Type 0) (c : T) (only : (x : T) → D x → x ≡ c) where

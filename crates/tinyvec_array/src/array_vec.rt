@@ -75,6 +75,13 @@ impl<A: Array> ArrayVec<A> {
         &self.array.as_slice()[..self.len]
     }
 
+    /// The spare slots.
+    pub fn grab_spare_slice(&self) -> &[A::Item]
+        ensures { result.now ≡ spare self.now }
+    {
+        &self.array.as_slice()[self.len..]
+    }
+
     /// The array, spare slots too.
     pub fn as_inner(&self) -> &A
         ensures slots { A.slots result.now ≡ all_slots self.now }

@@ -1,12 +1,13 @@
 //! Making an `ArrayVec`.
 ghost use Rattle.std.specs.Prelude.{◌≡◌, ◌≤◌, []};
-ghost use Rattle.tinyvec_array.specs.Slots.{items, spare, split_at, AreDefaults};
+ghost use Rattle.tinyvec_array.specs.Slots.{items, spare, all_slots, split_at, AreDefaults};
 
 use crate::{Array, ArrayVec};
 
 impl<A: Array> ArrayVec<A> {
     /// An empty vector, all of whose slots hold defaults.
     pub fn new() -> Self
+        ensures border { result ≡ split_at 0 (all_slots result) }
         ensures items { items result ≡ [] }
         ensures spare { AreDefaults A.Item.is_default A.CAPACITY (spare result) }
     {
@@ -48,7 +49,7 @@ impl<A: Array> ArrayVec<A> {
 }
 
 impl<A: Array> Default for ArrayVec<A> {
-    ghost is_default = { λ v. (items v ≡ []) × AreDefaults A.Item.is_default A.CAPACITY (spare v) };
+    ghost is_default = { λ v. (v ≡ split_at 0 (all_slots v)) × AreDefaults A.Item.is_default A.CAPACITY (all_slots v) };
 
     fn default() -> Self {
         Self::new()

@@ -1,0 +1,120 @@
+-- A run goes on: by a byte, by the end of a line, by the end of the input.
+use Rattle.std.proofs.Common.{◌≡◌, ◌≢◌, ℕ, ◌<◌, ◌≤◌, List, [], ◌∷◌, ◌++◌, length, Option, None, Some, refl, sym, ap, subst, ◌∙◌, append_assoc, append-nil, length-append, arith}
+use Rattle.std.specs.List.{AllByRecursion}
+use Rattle.std.proofs.lemmas.Grind.{flat_map-append}
+use Rattle.std.proofs.lemmas.Bool.Decides.{nat_tests}
+use Rattle.tinyvec_script.specs.Script.{State, start, IsLine, ended, last_line, Answered, Answers, Script, CompleteLines}
+use Rattle.tinyvec_script.specs.History.{kept, push_kept, Progress, Feeds, Ends}
+
+all_more : {X : Type 0} (P : X → Type 0) (xs : List X) (x : X) → AllByRecursion P xs → P x → AllByRecursion P (xs ++ x ∷ [])
+all_more P [] x h p = (p, tt)
+all_more P (y ∷ ys) x h p = (h.0, all_more P ys x h.1 p)
+
+pub kept_more : (rest : List ℕ) (byte : ℕ) → push_kept (kept rest) byte ≡ kept (rest ++ byte ∷ [])
+kept_more rest byte = grind (arith, nat_tests, length-append {A = ℕ})
+
+-- what is kept of a line is the line, or nothing of one that is too long
+pub kept_is : (rest bytes : List ℕ) → Some bytes ≡ kept rest → (bytes ≡ rest) × (length rest ≤ 128)
+kept_is rest bytes h = grind (arith, nat_tests)
+
+pub none_is_long : (rest : List ℕ) → None ≡ kept rest → 128 < length rest
+none_is_long rest h = grind (arith, nat_tests)
+
+ended_more : (lines : List (List ℕ)) (line : List ℕ) → ended (lines ++ line ∷ []) ≡ ended lines ++ (line ++ 10 ∷ [])
+ended_more lines line = flat_map-append _ lines (line ∷ []) ∙ ap (λ l. ended lines ++ l) (append-nil (line ++ 10 ∷ []))
+
+-- one line more is answered
+answers_more : (old mid new : State) (lines : List (List ℕ)) (output line text : List ℕ) → Answers old lines output mid → Answered mid line text new → Answers old (lines ++ line ∷ []) (output ++ (text ++ 10 ∷ [])) new
+answers_more old mid new [] output line text h a =
+    (text, new, [], subst (λ m. Answered m line text new) h.1 a, ap (λ l. l ++ (text ++ 10 ∷ [])) h.0, (refl, refl))
+answers_more old mid new (first ∷ lines) output line text h a =
+    (h.0, h.1, h.2 ++ (text ++ 10 ∷ []), h.3, ap (λ l. l ++ (text ++ 10 ∷ [])) h.4 ∙ append_assoc h.0 (10 ∷ h.2) (text ++ 10 ∷ []), answers_more h.1 mid new lines h.2 line text h.5 a)
+
+pub progress_byte : (text output rest : List ℕ) (state : State) (byte : ℕ) → Progress text output state rest → byte ≢ 10 → Progress (text ++ byte ∷ []) (output ++ []) state (rest ++ byte ∷ [])
+progress_byte text output rest state byte p other = record {
+  lines = p.lines;
+  split = record {
+    whole = ap (λ l. l ++ byte ∷ []) p.split.whole ∙ append_assoc (ended p.lines) rest (byte ∷ []);
+    each = p.split.each;
+    partial = all_more (λ b. b ≢ 10) rest byte p.split.partial other;
+  };
+  answers = subst (λ o. Answers start p.lines o state) (sym (append-nil output)) p.answers;
+}
+
+pub progress_line : (text output rest answer : List ℕ) (state new : State) → Progress text output state rest → Answered state rest answer new → Progress (text ++ 10 ∷ []) (output ++ (answer ++ 10 ∷ [])) new []
+progress_line text output rest answer state new p a = record {
+  lines = p.lines ++ rest ∷ [];
+  split = record {
+    whole = ap (λ l. l ++ 10 ∷ []) p.split.whole ∙ append_assoc (ended p.lines) rest (10 ∷ []) ∙ sym (ended_more p.lines rest) ∙ sym (append-nil (ended (p.lines ++ rest ∷ [])));
+    each = all_more IsLine p.lines rest p.split.each p.split.partial;
+    partial = tt;
+  };
+  answers = answers_more start state new p.lines output rest answer p.answers a;
+}
+
+pub Progress-start : Progress [] [] start []
+Progress-start = record {
+  lines = [];
+  split = record { whole = refl; each = tt; partial = tt };
+  answers = (refl, refl);
+}
+
+-- a line goes on, or is ended and answered
+pub feeds_byte : (state : State) (line line' : Option (List ℕ)) (byte : ℕ) → byte ≢ 10 → line' ≡ push_kept line byte → Feeds state line (byte ∷ []) [] state line'
+feeds_byte state line line' byte other e = λ text output rest p k.
+    (rest ++ byte ∷ [], progress_byte text output rest state byte p other, e ∙ ap (λ l. push_kept l byte) k ∙ kept_more rest byte)
+
+pub feeds_line : (state new : State) (line line' : Option (List ℕ)) (answer : List ℕ) → ((rest : List ℕ) → line ≡ kept rest → Answered state rest answer new) → line' ≡ Some [] → Feeds state line (10 ∷ []) (answer ++ 10 ∷ []) new line'
+feeds_line state new line line' answer a e = λ text output rest p k.
+    ([], progress_line text output rest answer state new p (a rest k), e)
+
+pub feeds_nothing : (state : State) (line : Option (List ℕ)) → Feeds state line [] [] state line
+feeds_nothing state line = λ text output rest p k.
+    (rest, subst (λ t. Progress t (output ++ []) state rest) (sym (append-nil text)) (subst (λ o. Progress text o state rest) (sym (append-nil output)) p), k)
+
+pub feeds_then : (state mid new : State) (line line' line'' : Option (List ℕ)) (bytes more written next : List ℕ) → Feeds state line bytes written mid line' → Feeds mid line' more next new line''
+    → Feeds state line (bytes ++ more) (written ++ next) new line''
+feeds_then state mid new line line' line'' bytes more written next f g = λ text output rest p k.
+    let first = f text output rest p k in
+    let second = g (text ++ bytes) (output ++ written) first.0 first.1 first.2 in
+    (second.0, subst (λ t. Progress t (output ++ (written ++ next)) new second.0) (append_assoc text bytes more) (subst (λ o. Progress ((text ++ bytes) ++ more) o new second.0) (append_assoc output written next) second.1), second.2)
+
+-- the end of the input, with and without a line
+pub ends_empty : (state : State) (line : Option (List ℕ)) → line ≡ Some [] → Ends state line []
+ends_empty state line e = λ text output rest p k.
+    let none : [] ≡ rest = (kept_is rest [] (sym e ∙ k)).0 in
+    record {
+      lines = p.lines;
+      rest = rest;
+      state = state;
+      split = p.split;
+      answers = subst (λ r. Answers start (p.lines ++ last_line r) (output ++ []) state) none
+          (subst (λ ls. Answers start ls (output ++ []) state) (sym (append-nil p.lines)) (subst (λ o. Answers start p.lines o state) (sym (append-nil output)) p.answers));
+    }
+
+last_line_is : (rest : List ℕ) → rest ≢ [] → last_line rest ≡ rest ∷ []
+last_line_is [] h = absurd (h refl)
+last_line_is (byte ∷ bytes) h = refl
+
+pub ends_line : (state new : State) (line : Option (List ℕ)) (answer : List ℕ) → line ≢ Some [] → ((rest : List ℕ) → line ≡ kept rest → Answered state rest answer new) → Ends state line (answer ++ 10 ∷ [])
+ends_line state new line answer some a = λ text output rest p k.
+    let bytes : rest ≢ [] = λ e. some (k ∙ ap kept e) in
+    record {
+      lines = p.lines;
+      rest = rest;
+      state = new;
+      split = p.split;
+      answers = subst (λ ls. Answers start (p.lines ++ ls) (output ++ (answer ++ 10 ∷ [])) new) (sym (last_line_is rest bytes))
+          (answers_more start state new p.lines output rest answer p.answers (a rest k));
+    }
+
+-- a run from its start
+pub complete_lines : (input output : List ℕ) (state : State) (line : Option (List ℕ)) → Feeds start (Some []) input output state line → CompleteLines input output
+complete_lines input output state line f =
+    let now = f [] [] [] Progress-start refl in
+    record { lines = now.1.lines; rest = now.0; state = state; split = now.1.split; answers = now.1.answers }
+
+pub whole_script : (input output written : List ℕ) (state : State) (line : Option (List ℕ)) → Feeds start (Some []) input output state line → Ends state line written → Script input (output ++ written)
+whole_script input output written state line f ends =
+    let now = f [] [] [] Progress-start refl in
+    ends input output now.0 now.1 now.2

@@ -1,0 +1,6 @@
+pub mod Numbers
+pub mod Indices
+pub mod Words
+pub mod RunLemmas
+pub mod HistoryLemmas
+pub mod Written

@@ -1,0 +1,28 @@
+-- A text cut at its first blank.
+use Rattle.std.proofs.Common.{◌≡◌, ◌≢◌, ℕ, List, [], ◌∷◌, ◌++◌, refl, sym, ◌∙◌}
+use Rattle.std.specs.List.{All, AllByRecursion}
+use Rattle.std.proofs.lemmas.List.Elements.{recursion_from_All}
+
+abbrev pub IsWord : List ℕ → Type 0
+IsWord = AllByRecursion (λ byte. byte ≢ 32)
+
+no_blank_in : (xs ys : List ℕ) → IsWord (xs ++ 32 ∷ ys) → ⊥
+no_blank_in [] ys h = h.0 refl
+no_blank_in (x ∷ xs) ys h = no_blank_in xs ys h.1
+
+pub has_blank : (text xs ys : List ℕ) → All (λ byte. byte ≢ 32) text → text ≡ xs ++ 32 ∷ ys → ⊥
+has_blank text xs ys h e = no_blank_in xs ys (recursion_from_All _ _ (rw e at h))
+
+cut_once : (a b c d : List ℕ) → IsWord a → IsWord c → a ++ 32 ∷ b ≡ c ++ 32 ∷ d → (a ≡ c) × (b ≡ d)
+cut_once [] b [] d p q e = (refl, cc)
+cut_once [] b (y ∷ c) d p q e = absurd (q.0 (cc))
+cut_once (x ∷ a) b [] d p q e = absurd (p.0 (cc))
+cut_once (x ∷ a) b (y ∷ c) d p q e =
+    let head : x ≡ y = cc in
+    let tail : a ++ 32 ∷ b ≡ c ++ 32 ∷ d = cc in
+    let rest = cut_once a b c d p.1 q.1 tail in
+    (cc, rest.1)
+
+-- a text is cut at its first blank in one way
+pub one_cut : (text a b c d : List ℕ) → text ≡ a ++ 32 ∷ b → All (λ byte. byte ≢ 32) a → text ≡ c ++ 32 ∷ d → All (λ byte. byte ≢ 32) c → (a ≡ c) × (b ≡ d)
+one_cut text a b c d e p f q = cut_once a b c d (recursion_from_All _ _ p) (recursion_from_All _ _ q) (sym e ∙ f)

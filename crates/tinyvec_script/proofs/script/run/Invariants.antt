@@ -1,0 +1,17 @@
+use Rattle.std.proofs.Common.{◌≤◌, List, ℕ, [], Some, length}
+use Rattle.std.specs.Io.KnownBytes.{Appends, Consumes}
+use Rattle.tinyvec_script.specs.Script.{start}
+use Rattle.tinyvec_script.specs.History.{Feeds}
+use Rattle.tinyvec_script.proofs.script.run.Given as goal
+
+-- what was read so far, and what was written for it
+abbrev pub invariant-loop-piece : goal.invariant-loop-piece
+invariant-loop-piece g l = record {
+  so_far : (input : List ℕ) × (output : List ℕ)
+      × Consumes (g.R.Read.remaining l.fn.reader.end) (g.R.Read.remaining l.reader.end) input
+      × Appends (g.W.Write.contents l.fn.writer.end) (g.W.Write.contents l.writer.end) output
+      × Feeds start (Some []) input output l.vector l.line
+      × (l._piece ≤ length input);
+  read_grows : l.fn.reader.faults ≤ l.reader.faults;
+  write_grows : l.fn.writer.faults ≤ l.writer.faults;
+}

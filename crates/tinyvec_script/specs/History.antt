@@ -1,0 +1,27 @@
+-- Words for what is under way between two bytes of the input.
+use Rattle.std.specs.Prelude.{◌≡◌, ℕ, List, [], ◌∷◌, ◌++◌, length, Option, None, Some, nat_lt, if◌then◌else◌}
+use Rattle.tinyvec_script.specs.Script.{State, start, Splits, Answers, Script}
+
+-- what is kept of a line that isn't ended: nothing where it is too long for a command
+abbrev pub kept : List ℕ → Option (List ℕ)
+kept rest = if nat_lt 128 (length rest) then None else Some rest
+
+-- one byte more
+abbrev pub push_kept : Option (List ℕ) → ℕ → Option (List ℕ)
+push_kept None byte = None
+push_kept (Some bytes) byte = if nat_lt (length bytes) 128 then Some (bytes ++ byte ∷ []) else None
+
+-- the output answers the complete lines of the text, and leaves the list; the rest has come of the next line
+pub record Progress (text output : List ℕ) (state : State) (rest : List ℕ) : Type 0 where
+  pub lines : List (List ℕ)
+  pub split : Splits text lines rest
+  pub answers : Answers start lines output state
+
+-- wherever a run stands, these bytes and what is written for them take it further
+abbrev pub Feeds : State → Option (List ℕ) → List ℕ → List ℕ → State → Option (List ℕ) → Type 0
+Feeds old line bytes written new line' = (text output rest : List ℕ) → Progress text output old rest → line ≡ kept rest
+    → (rest' : List ℕ) × Progress (text ++ bytes) (output ++ written) new rest' × (line' ≡ kept rest')
+
+-- wherever a run stands, the end of the input and what is written for it complete it
+abbrev pub Ends : State → Option (List ℕ) → List ℕ → Type 0
+Ends old line written = (text output rest : List ℕ) → Progress text output old rest → line ≡ kept rest → Script text (output ++ written)

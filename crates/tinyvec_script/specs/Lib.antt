@@ -1,0 +1,6 @@
+pub mod Step
+pub mod Command
+pub mod Text
+pub mod Script
+pub mod History
+pub mod Writes

@@ -1,0 +1,67 @@
+-- The script as a relation of whole texts: what is read, and what is written.
+use Rattle.std.specs.Prelude.{◌≡◌, ◌≢◌, ℕ, List, [], ◌∷◌, ◌++◌, ℤ, pos, codes, replicate}
+use Rattle.std.specs.List.{flat_map, AllByRecursion}
+use Rattle.tinyvec_array.specs.Slots.{Slots, split_at}
+use Rattle.tinyvec_script.specs.declared.call.Call.{Call}
+use Rattle.tinyvec_script.specs.declared.call.Answer.{Answer}
+use Rattle.tinyvec_script.specs.Step.{ArrayStep}
+use Rattle.tinyvec_script.specs.Command.{IsCommand}
+use Rattle.tinyvec_script.specs.Text.{answer_text, vector_text}
+
+-- the vector `A`
+abbrev pub State : Type 0
+State = Slots ℤ
+
+-- it starts as an empty list over four zeros
+abbrev pub start : State
+start = split_at 0 (replicate 4 (pos 0))
+
+-- what is a default of an `i32`
+abbrev pub IsZero : ℤ → Type 0
+IsZero number = number ≡ pos 0
+
+-- no line feed stands in the line
+abbrev pub IsLine : List ℕ → Type 0
+IsLine line = AllByRecursion (λ byte. byte ≢ 10) line
+
+-- lines, each ended by a line feed
+abbrev pub ended : List (List ℕ) → List ℕ
+ended lines = flat_map (λ line. line ++ 10 ∷ []) lines
+
+-- the text is these complete lines, and then what has come of the next
+pub record Splits (text : List ℕ) (lines : List (List ℕ)) (rest : List ℕ) : Type 0 where
+  pub whole : text ≡ ended lines ++ rest
+  pub each : AllByRecursion IsLine lines
+  pub partial : IsLine rest
+
+-- the end of the text ends a line, unless it has no bytes
+abbrev pub last_line : List ℕ → List (List ℕ)
+last_line [] = []
+last_line (byte ∷ bytes) = (byte ∷ bytes) ∷ []
+
+-- What is answered to one line, and the state that it leaves: a line that spells a call is answered by a step of the
+-- vector, any other is `bad` and changes nothing.
+pub data Answered : State → List ℕ → List ℕ → State → Type 0 where
+  done : {old new : State} {line text : List ℕ} (call : Call ℤ) (answer : Answer ℤ) → IsCommand line call → ArrayStep IsZero 4 old call answer new → text ≡ answer_text answer ++ codes " " ++ vector_text new → Answered old line text new
+  bad : {old new : State} {line text : List ℕ} → ((call : Call ℤ) → IsCommand line call → ⊥) → text ≡ codes "bad" → new ≡ old → Answered old line text new
+
+-- the answer lines to lines, one after another
+abbrev pub Answers : State → List (List ℕ) → List ℕ → State → Type 0
+Answers old [] output new = (output ≡ []) × (new ≡ old)
+Answers old (line ∷ lines) output new = (text : List ℕ) × (mid : State) × (rest : List ℕ) × Answered old line text mid × (output ≡ text ++ 10 ∷ rest) × Answers mid lines rest new
+
+-- the whole output to the whole input
+pub record Script (input output : List ℕ) : Type 0 where
+  pub lines : List (List ℕ)
+  pub rest : List ℕ
+  pub state : State
+  pub split : Splits input lines rest
+  pub answers : Answers start (lines ++ last_line rest) output state
+
+-- the output to the complete lines of the input
+pub record CompleteLines (input output : List ℕ) : Type 0 where
+  pub lines : List (List ℕ)
+  pub rest : List ℕ
+  pub state : State
+  pub split : Splits input lines rest
+  pub answers : Answers start lines output state

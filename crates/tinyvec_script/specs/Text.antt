@@ -1,0 +1,24 @@
+-- The text of a list, of an answer and of a vector.
+use Rattle.std.specs.Prelude.{ℕ, List, ◌++◌, ℤ, codes}
+use Rattle.std.specs.Fmt.{signed_decimal}
+use Rattle.std.specs.List.{join_by}
+use Rattle.tinyvec_array.specs.Slots.{Slots, items, spare}
+use Rattle.tinyvec_script.specs.declared.call.Answer.{Answer}
+use Rattle.tinyvec_script.specs.declared.call.Answer.TheVariants as answers
+
+-- a list in brackets
+unfoldable pub list_text : List ℤ → List ℕ
+list_text numbers = codes "[" ++ join_by signed_decimal (codes ", ") numbers ++ codes "]"
+
+abbrev pub answer_text : Answer ℤ → List ℕ
+answer_text answers.Done = codes "ok"
+answer_text (answers.Some number) = codes "some " ++ signed_decimal number
+answer_text answers.None = codes "none"
+answer_text (answers.Items numbers) = codes "items " ++ list_text numbers.items
+answer_text answers.Full = codes "full"
+answer_text answers.Range = codes "range"
+answer_text answers.Memory = codes "memory"
+
+-- a vector: its list and its spare slots
+unfoldable pub vector_text : Slots ℤ → List ℕ
+vector_text v = list_text (items v) ++ codes " " ++ list_text (spare v)

@@ -1,0 +1,112 @@
+//! Answer lines, written in pieces and without memory.
+ghost use Rattle.std.specs.Prelude.{◌≡◌, ◌++◌, ◌∷◌, [], codes};
+ghost use Rattle.std.specs.List.{flat_map};
+ghost use Rattle.std.specs.Fmt.{signed_decimal};
+ghost use Rattle.tinyvec_script.specs.Writes.{Gathers};
+ghost use Rattle.tinyvec_script.specs.Text.{list_text, answer_text, vector_text};
+
+use crate::Answer;
+use crate::decimal::Decimal;
+use crate::gathered::Gathered;
+use std::io;
+use std::io::Write;
+use tinyvec_array::ArrayVec;
+use tinyvec_io::Counted;
+
+/// The vector `A` of the script.
+pub(crate) type VectorA = ArrayVec<[i32; 4]>;
+
+/// Writes an answer line: the answer, and the vector as it is then.
+pub(crate) fn write_line<W: Write>(
+    gathered: &mut Gathered,
+    writer: &mut Counted<W>,
+    answer: &Answer<i32>,
+    vector: &VectorA,
+) -> io::Result<()>
+    ensures { Gathers W.contents writer.old gathered.old writer.new gathered.new result (answer_text answer.now ++ codes " " ++ vector_text vector.now ++ 10 ∷ []) }
+{
+    write_answer(gathered, writer, answer)?;
+    gathered.put(writer, b" ")?;
+    write_vector(gathered, writer, vector)?;
+    gathered.put(writer, b"\n")
+}
+
+fn write_answer<W: Write>(
+    gathered: &mut Gathered,
+    writer: &mut Counted<W>,
+    answer: &Answer<i32>,
+) -> io::Result<()>
+    ensures { Gathers W.contents writer.old gathered.old writer.new gathered.new result (answer_text answer.now) }
+{
+    match answer {
+        Answer::Done => gathered.put(writer, b"ok"),
+        Answer::Some(number) => {
+            gathered.put(writer, b"some ")?;
+            write_number(gathered, writer, *number)
+        }
+        Answer::None => gathered.put(writer, b"none"),
+        Answer::Items(numbers) => {
+            gathered.put(writer, b"items ")?;
+            write_list(gathered, writer, numbers.as_slice())
+        }
+        Answer::Full => gathered.put(writer, b"full"),
+        Answer::Range => gathered.put(writer, b"range"),
+        Answer::Memory => gathered.put(writer, b"memory"),
+    }
+}
+
+/// Writes the list, a blank and the spare slots.
+#[tactic(auto, unfolding(crate::specs::Text::vector_text))]
+fn write_vector<W: Write>(
+    gathered: &mut Gathered,
+    writer: &mut Counted<W>,
+    vector: &VectorA,
+) -> io::Result<()>
+    ensures { Gathers W.contents writer.old gathered.old writer.new gathered.new result (vector_text vector.now) }
+{
+    write_list(gathered, writer, vector.as_slice())?;
+    gathered.put(writer, b" ")?;
+    write_list(gathered, writer, vector.grab_spare_slice())
+}
+
+/// Writes a list in brackets.
+#[tactic(auto, unfolding(crate::specs::Text::list_text))]
+fn write_list<W: Write>(
+    gathered: &mut Gathered,
+    writer: &mut Counted<W>,
+    numbers: &[i32],
+) -> io::Result<()>
+    ensures { Gathers W.contents writer.old gathered.old writer.new gathered.new result (list_text numbers.now) }
+{
+    gathered.put(writer, b"[")?;
+    if let Some((first, others)) = numbers.split_first() {
+        write_number(gathered, writer, *first)?;
+        write_more(gathered, writer, others)?;
+    }
+    gathered.put(writer, b"]")
+}
+
+/// Writes numbers, each behind a comma and a blank.
+fn write_more<W: Write>(
+    gathered: &mut Gathered,
+    writer: &mut Counted<W>,
+    numbers: &[i32],
+) -> io::Result<()>
+    ensures { Gathers W.contents writer.old gathered.old writer.new gathered.new result (flat_map (λ number. codes ", " ++ signed_decimal number) numbers.now) }
+{
+    for number in numbers {
+        gathered.put(writer, b", ")?;
+        write_number(gathered, writer, *number)?;
+    }
+    Ok(())
+}
+
+fn write_number<W: Write>(
+    gathered: &mut Gathered,
+    writer: &mut Counted<W>,
+    number: i32,
+) -> io::Result<()>
+    ensures { Gathers W.contents writer.old gathered.old writer.new gathered.new result (signed_decimal number) }
+{
+    gathered.put(writer, Decimal::new(number).as_bytes())
+}

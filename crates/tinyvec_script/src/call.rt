@@ -1,0 +1,31 @@
+//! Calls of a vector, as values, and what answers them.
+
+/// A call of a vector of `T`.
+#[derive(PartialEq, Debug, Drop)]
+pub enum Call<T> {
+    /// Appends the item.
+    Push(T),
+    /// Takes the last item.
+    Pop,
+    /// Takes the items from the first index up to the second.
+    Drain(usize, usize),
+}
+
+/// What answers a call of a vector of `T`.
+#[derive(PartialEq, Debug, Drop)]
+pub enum Answer<T> {
+    /// It was done.
+    Done,
+    /// The item that was taken.
+    Some(T),
+    /// There was no item to take.
+    None,
+    /// The items that were taken, in order.
+    Items(Vec<T>),
+    /// There was no room, and nothing has changed.
+    Full,
+    /// No such place is in the list, and nothing has changed.
+    Range,
+    /// Memory was refused, and nothing has changed.
+    Memory,
+}

@@ -1,0 +1,56 @@
+//! The call that a line spells.
+ghost use Rattle.std.specs.Prelude.{◌≡◌, ◌≢◌, ◌<◌, ◌^◌, ◌++◌, ◌∷◌, ℕ, ℤ, IfSome, IfNone, All};
+ghost use Rattle.std.specs.Fmt.{decimal};
+ghost use Rattle.tinyvec_script.specs.Command.{IsCall, IsCommand};
+ghost use Rattle.tinyvec_script.specs.declared.call.Call.{Call};
+
+use crate::Call;
+use crate::number::{parse_index, parse_number};
+
+/// The call that the line spells, if it spells one.
+pub(crate) fn parse_line(line: &[u8]) -> Option<Call<i32>>
+    ensures some { IfSome result (IsCommand line.now) }
+    ensures none { IfNone result ((call : Call ℤ) → IsCommand line.now call → ⊥) }
+{
+    if line.len() > 128 {
+        return None;
+    }
+    parse_call(line.strip_prefix(b"A ")?)
+}
+
+/// The call that the text spells behind the vector's name.
+fn parse_call(text: &[u8]) -> Option<Call<i32>>
+    ensures some { IfSome result (IsCall text.now) }
+    ensures none { IfNone result ((call : Call ℤ) → IsCall text.now call → ⊥) }
+{
+    if text == b"pop".as_slice() {
+        return Some(Call::Pop);
+    }
+    if let Some(number) = text.strip_prefix(b"push ") {
+        return Some(Call::Push(parse_number(number)?));
+    }
+    let (start, end) = parse_two_indices(text.strip_prefix(b"drain ")?)?;
+    Some(Call::Drain(start, end))
+}
+
+fn parse_two_indices(text: &[u8]) -> Option<(usize, usize)>
+    ensures some { IfSome result (λ pair. text.now ≡ decimal pair.0 ++ 32 ∷ decimal pair.1) }
+    ensures none { IfNone result ((first second : ℕ) → first < 2 ^ 64 → second < 2 ^ 64 → text.now ≢ decimal first ++ 32 ∷ decimal second) }
+{
+    let (first, second) = split_word(text)?;
+    Some((parse_index(first)?, parse_index(second)?))
+}
+
+/// What stands before the first blank, and behind it.
+fn split_word(text: &[u8]) -> Option<(&[u8], &[u8])>
+    ensures some { IfSome result (λ parts. text.now ≡ parts.0.now ++ 32 ∷ parts.1.now) }
+    ensures word { IfSome result (λ parts. All (λ byte. byte ≢ 32) parts.0.now) }
+    ensures none { IfNone result (All (λ byte. byte ≢ 32) text.now) }
+{
+    for (index, byte) in text.iter().enumerate() {
+        if *byte == b' ' {
+            return Some((&text[..index], &text[index + 1..]));
+        }
+    }
+    None
+}

@@ -1,0 +1,19 @@
+//! Runs of calls of a vector, and the script that spells them, a line each.
+#![tactic(auto)]
+
+mod answers;
+mod call;
+mod command;
+mod decimal;
+mod gathered;
+mod line;
+mod number;
+mod runs;
+mod script;
+mod step;
+#[cfg(test)]
+mod tests;
+
+pub use call::{Answer, Call};
+pub use runs::run_array;
+pub use script::{RunError, run};

@@ -1,0 +1,68 @@
+//! What has come of a line.
+ghost use Rattle.std.specs.Prelude.{◌≡◌, ◌≤◌, ◌↔◌, List, ℕ, [], None, Some, MatchOption, IsTrue, take, if◌then◌else◌, Option};
+ghost use Rattle.tinyvec_script.specs.History.{push_kept};
+
+use std::marker::Model;
+
+/// The bytes of a line so far, unless there are too many for a command.
+#[derive(Drop)]
+pub struct Line {
+    bytes: [u8; 128],
+    len: usize,
+    is_long: bool,
+}
+
+impl Model for Line {
+    ghost Value = { Option (List ℕ) };
+
+    ghost view = { λ l. if l.is_long then None else Some (take l.len l.bytes) };
+
+    ghost invariant = { λ l. l.len ≤ 128 };
+}
+
+impl Line {
+    pub fn new() -> Self
+        ensures { result ≡ Some [] }
+    {
+        Line {
+            bytes: [0; 128],
+            len: 0,
+            is_long: false,
+        }
+    }
+
+    pub fn clear(&mut self)
+        ensures { self.new ≡ Some [] }
+    {
+        self.len = 0;
+        self.is_long = false;
+    }
+
+    pub fn push(&mut self, byte: u8)
+        ensures { self.new ≡ push_kept self.old byte }
+    {
+        if self.len < 128 {
+            self.bytes[self.len] = byte;
+            self.len += 1;
+        } else {
+            self.is_long = true;
+        }
+    }
+
+    pub fn is_empty(&self) -> bool
+        ensures { IsTrue result ↔ (self.now ≡ Some []) }
+    {
+        self.len == 0 && !self.is_long
+    }
+
+    /// The bytes, unless there are too many for a command.
+    pub fn as_slice(&self) -> Option<&[u8]>
+        ensures { MatchOption result (self.now ≡ None) (λ bytes. self.now ≡ Some bytes.now) }
+    {
+        if self.is_long {
+            None
+        } else {
+            Some(&self.bytes[..self.len])
+        }
+    }
+}

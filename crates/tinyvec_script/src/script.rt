@@ -1,0 +1,199 @@
+//! A script, read and answered.
+ghost use Rattle.std.specs.Prelude.{◌≡◌, ◌≤◌, ◌^◌, ◌-◌, ◌++◌, ◌∷◌, List, ℕ, ℤ, [], OnOk, OnErr, IsErrOf, MatchOption, length};
+ghost use Rattle.std.specs.Io.KnownBytes.{Appends, Consumes, IsAtEnd, append_known};
+ghost use Rattle.tinyvec_io.specs.Counted.{Reported};
+ghost use Rattle.tinyvec_script.specs.Command.{IsCommand};
+ghost use Rattle.tinyvec_script.specs.Script.{Answered, Script, CompleteLines};
+ghost use Rattle.tinyvec_script.specs.History.{kept, Feeds, Ends};
+ghost use Rattle.tinyvec_script.specs.declared.call.Call.{Call};
+
+use crate::Call;
+use crate::answers::{VectorA, write_line};
+use crate::command::parse_line;
+use crate::gathered::Gathered;
+use crate::line::Line;
+use crate::step::answer;
+use std::alloc::Global;
+use std::io;
+use std::io::{Read, Write};
+use thiserror::Error;
+use tinyvec_io::Counted;
+
+/// How many bytes are read at a time.
+const CHUNK: usize = 4096;
+
+/// Why a script ended before its input.
+#[derive(PartialEq, Debug, Error, Drop)]
+pub enum RunError {
+    /// The reader reported a fault.
+    #[error("cannot read input")]
+    Read,
+    /// The writer reported a fault.
+    #[error("cannot write output")]
+    Write,
+    /// `u64::MAX` bytes were read, and the input goes on.
+    #[error("input too long")]
+    TooLong,
+}
+
+/// Reads lines, and writes an answer line to each. The answers to all lines that have come are written before more is
+/// read. Memory is asked for by the calls alone.
+pub fn run<R: Read, W: Write>(
+    alloc: Global,
+    reader: &mut Counted<R>,
+    writer: &mut Counted<W>,
+) -> Result<(), RunError>
+    // All was read, and what was written is the output to it.
+    ensures ok { OnOk result ((input output : List ℕ)
+        × Consumes (R.remaining reader.old.end) (R.remaining reader.new.end) input
+        × IsAtEnd (R.remaining reader.new.end)
+        × Appends (W.contents writer.old.end) (W.contents writer.new.end) output
+        × Script input output) }
+
+    // The complete lines before the fault were answered.
+    ensures read { IsErrOf result RunError.Read → (input output : List ℕ)
+        × Consumes (R.remaining reader.old.end) (R.remaining reader.new.end) input
+        × Appends (W.contents writer.old.end) (W.contents writer.new.end) output
+        × CompleteLines input output }
+    ensures read_fault { IsErrOf result RunError.Read → Reported reader.old.faults reader.new.faults }
+    ensures write_fault { IsErrOf result RunError.Write → Reported writer.old.faults writer.new.faults }
+
+    // So long an input is not read on.
+    ensures too_long { IsErrOf result RunError.TooLong → (input output : List ℕ)
+        × Consumes (R.remaining reader.old.end) (R.remaining reader.new.end) input
+        × (2 ^ 64 - 1 ≤ length input)
+        × Appends (W.contents writer.old.end) (W.contents writer.new.end) output
+        × CompleteLines input output }
+{
+    let mut vector = VectorA::new();
+    let mut line = Line::new();
+    let mut chunk = [0; CHUNK];
+    for _piece in 0..u64::MAX {
+        let Ok(count) = reader.read_some(&mut chunk) else {
+            return Err(RunError::Read);
+        };
+        if count == 0 {
+            return match finish(alloc, &mut vector, &line, writer) {
+                Ok(()) => Ok(()),
+                Err(_) => Err(RunError::Write),
+            };
+        }
+        let Ok(()) = answer_chunk(alloc, &mut vector, &mut line, writer, &chunk[..count]) else {
+            return Err(RunError::Write);
+        };
+    }
+    Err(RunError::TooLong)
+}
+
+/// Takes bytes of the input, and writes the answers to the lines that they end.
+fn answer_chunk<W: Write>(
+    alloc: Global,
+    vector: &mut VectorA,
+    line: &mut Line,
+    writer: &mut Counted<W>,
+    bytes: &[u8],
+) -> io::Result<()>
+    ensures ok { OnOk result ((written : List ℕ)
+        × Appends (W.contents writer.old.end) (W.contents writer.new.end) written
+        × Feeds vector.old line.old bytes.now written vector.new line.new) }
+    ensures grows { writer.old.faults ≤ writer.new.faults }
+    ensures fault { OnErr result (Reported writer.old.faults writer.new.faults) }
+{
+    let mut gathered = Gathered::new();
+    feed(alloc, vector, line, &mut gathered, writer, bytes)?;
+    gathered.send(writer)
+}
+
+/// Ends the last line, if it has bytes, and sends on what was written.
+fn finish<W: Write>(
+    alloc: Global,
+    vector: &mut VectorA,
+    line: &Line,
+    writer: &mut Counted<W>,
+) -> io::Result<()>
+    ensures ok { OnOk result ((written : List ℕ)
+        × Appends (W.contents writer.old.end) (W.contents writer.new.end) written
+        × Ends vector.old line.now written) }
+    ensures grows { writer.old.faults ≤ writer.new.faults }
+    ensures fault { OnErr result (Reported writer.old.faults writer.new.faults) }
+{
+    if line.is_empty() {
+        return writer.flush();
+    }
+    let mut gathered = Gathered::new();
+    answer_line(alloc, vector, line, &mut gathered, writer)?;
+    gathered.send(writer)?;
+    writer.flush()
+}
+
+/// Takes bytes of the input.
+fn feed<W: Write>(
+    alloc: Global,
+    vector: &mut VectorA,
+    line: &mut Line,
+    gathered: &mut Gathered,
+    writer: &mut Counted<W>,
+    bytes: &[u8],
+) -> io::Result<()>
+    ensures ok { OnOk result ((written : List ℕ)
+        × Appends (append_known (W.contents writer.old.end) gathered.old) (append_known (W.contents writer.new.end) gathered.new) written
+        × Feeds vector.old line.old bytes.now written vector.new line.new) }
+    ensures grows { writer.old.faults ≤ writer.new.faults }
+    ensures fault { OnErr result (Reported writer.old.faults writer.new.faults) }
+{
+    for byte in bytes {
+        feed_byte(alloc, vector, line, gathered, writer, *byte)?;
+    }
+    Ok(())
+}
+
+/// Takes a byte of the input.
+fn feed_byte<W: Write>(
+    alloc: Global,
+    vector: &mut VectorA,
+    line: &mut Line,
+    gathered: &mut Gathered,
+    writer: &mut Counted<W>,
+    byte: u8,
+) -> io::Result<()>
+    ensures ok { OnOk result ((written : List ℕ)
+        × Appends (append_known (W.contents writer.old.end) gathered.old) (append_known (W.contents writer.new.end) gathered.new) written
+        × Feeds vector.old line.old (byte ∷ []) written vector.new line.new) }
+    ensures grows { writer.old.faults ≤ writer.new.faults }
+    ensures fault { OnErr result (Reported writer.old.faults writer.new.faults) }
+{
+    if byte == b'\n' {
+        answer_line(alloc, vector, line, gathered, writer)?;
+        line.clear();
+    } else {
+        line.push(byte);
+    }
+    Ok(())
+}
+
+/// Answers a line that is ended.
+fn answer_line<W: Write>(
+    alloc: Global,
+    vector: &mut VectorA,
+    line: &Line,
+    gathered: &mut Gathered,
+    writer: &mut Counted<W>,
+) -> io::Result<()>
+    ensures ok { OnOk result ((text : List ℕ)
+        × Appends (append_known (W.contents writer.old.end) gathered.old) (append_known (W.contents writer.new.end) gathered.new) (text ++ 10 ∷ [])
+        × ((rest : List ℕ) → line.now ≡ kept rest → Answered vector.old rest text vector.new)) }
+    ensures grows { writer.old.faults ≤ writer.new.faults }
+    ensures fault { OnErr result (Reported writer.old.faults writer.new.faults) }
+{
+    let Some(call) = read_command(line) else {
+        return gathered.put(writer, b"bad\n");
+    };
+    let answered = answer(alloc, vector, call);
+    write_line(gathered, writer, &answered, vector)
+}
+
+fn read_command(line: &Line) -> Option<Call<i32>>
+    ensures { (rest : List ℕ) → line.now ≡ kept rest → MatchOption result ((call : Call ℤ) → IsCommand rest call → ⊥) (IsCommand rest) }
+{
+    parse_line(line.as_slice()?)
+}

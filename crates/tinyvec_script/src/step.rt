@@ -1,0 +1,62 @@
+//! One call of an `ArrayVec`, answered.
+ghost use Rattle.std.specs.Prelude.{◌≡◌, ◌-◌, ◌≤◌, [], vec_capacity};
+ghost use Rattle.tinyvec_array.specs.Slots.{items_len};
+ghost use Rattle.tinyvec_script.specs.Step.{ArrayStep, ArrayDrains};
+
+use crate::{Answer, Call};
+use std::alloc::Global;
+use tinyvec_array::{Array, ArrayVec};
+
+/// Makes the call.
+pub(crate) fn answer<A: Array>(
+    alloc: Global,
+    vec: &mut ArrayVec<A>,
+    call: Call<A::Item>,
+) -> Answer<A::Item>
+    ensures { ArrayStep A.Item.is_default A.CAPACITY vec.old call result vec.new }
+{
+    match call {
+        Call::Push(x) => {
+            if vec.is_full() {
+                return Answer::Full;
+            }
+            vec.push(x);
+            Answer::Done
+        }
+        Call::Pop => match vec.pop() {
+            Some(x) => Answer::Some(x),
+            None => Answer::None,
+        },
+        Call::Drain(start, end) => {
+            if start > end {
+                return Answer::Range;
+            }
+            if end > vec.len() {
+                return Answer::Range;
+            }
+            let Ok(items) = Vec::with_capacity(alloc, end - start) else {
+                return Answer::Memory;
+            };
+            Answer::Items(drained(vec, start, end, items))
+        }
+    }
+}
+
+// Takes the items from `start` up to `end`, into an empty vector with room for them.
+fn drained<A: Array>(
+    vec: &mut ArrayVec<A>,
+    start: usize,
+    end: usize,
+    mut items: Vec<A::Item>,
+) -> Vec<A::Item>
+    requires start_le_end { start ≤ end }
+    requires in_bounds { end ≤ items_len vec.old }
+    requires empty { items.items ≡ [] }
+    requires room { end - start ≤ vec_capacity items }
+    ensures { ArrayDrains A.Item.is_default vec.old start end result.items vec.new }
+{
+    for item in vec.drain(start..end) {
+        items.push_reserved(item);
+    }
+    items
+}
