@@ -1,0 +1,2 @@
+pub mod DrainEnded
+pub mod BothEnds

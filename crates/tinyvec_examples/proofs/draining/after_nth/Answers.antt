@@ -1,0 +1,17 @@
+use Rattle.std.proofs.Common.{◌≡◌, ◌∷◌, [], pos, refl, ◌∙◌, rules}
+use Rattle.tinyvec_array.specs.Slots.{all_slots}
+use Rattle.tinyvec_array.proofs.DrainLemmas.{nth-keeps}
+use Rattle.tinyvec_examples.proofs.DrainEnded.{numbers_left}
+use Rattle.tinyvec_examples.proofs.draining.after_nth.Goals as goal
+
+pub returns-clause-left : goal.returns-clause-left
+returns-clause-left c =
+    let first = c.drain-d.result in
+    let last = c.nth-x.new.self in
+    let made = c.drain-d.ensures in
+    let kept = nth-keeps first 1 c.nth-x.result last c.nth-x.ensures.ran in
+    let left : all_slots c.drop.new.self.0 ≡ pos 1 ∷ pos 4 ∷ pos 0 ∷ pos 0 ∷ [] =
+    numbers_left first last c.drop.new.self.0 made.ready kept c.drop.ensures
+    ∙ rw (made.kept, made.spare, made.count, made.rest, c.from_array_len-v.ensures) (refl {a = pos 1 ∷ pos 4 ∷ pos 0 ∷ pos 0 ∷ []}) in
+    let same = kept.0 in
+    search rules

@@ -1,0 +1,34 @@
+use Rattle.std.proofs.Common.{◌≡◌, ◌++◌, rules}
+use Rattle.tinyvec_array.specs.Cut.{before, after}
+use Rattle.tinyvec_array.specs.Slots.{SlotRule, items}
+use Rattle.tinyvec_array.proofs.DrainLemmas.{nth-keeps}
+use Rattle.tinyvec_array.proofs.SlotsLemmas.{drained_items, drained_slots}
+use Rattle.tinyvec_examples.proofs.draining.nth_of.Goals as goal
+
+pub returns-clause-left : goal.returns-clause-left
+returns-clause-left g c =
+    let old = c.args.v.now in
+    let new = c.drop-d.new.self.0 in
+    let start = g.R.RangeBounds.start_bound c.args.range in
+    let end = g.R.RangeBounds.end_bound c.args.range in
+    let made = c.drain-d.ensures in
+    let kept = nth-keeps c.drain-d.result c.args.n c.nth.result c.nth.new.self c.nth.ensures.ran in
+    let listed : items new ≡ before (items old) start ++ after (items old) end =
+    drained_items g.A.Item.Default.is_default c.drain-d.result c.nth.new.self old new start end
+    c.requires.in_list made.rest made.count made.kept made.spare kept (c.drop-d.ensures (kept.4 made.ready)) in
+    let same = kept.0 in
+    search rules
+
+pub returns-clause-spare : goal.returns-clause-spare
+returns-clause-spare g c =
+    let old = c.args.v.now in
+    let new = c.drop-d.new.self.0 in
+    let start = g.R.RangeBounds.start_bound c.args.range in
+    let end = g.R.RangeBounds.end_bound c.args.range in
+    let made = c.drain-d.ensures in
+    let kept = nth-keeps c.drain-d.result c.args.n c.nth.result c.nth.new.self c.nth.ensures.ran in
+    let ruled : SlotRule g.A.Item.Default.is_default old new =
+    drained_slots g.A.Item.Default.is_default c.drain-d.result c.nth.new.self old new start end
+    c.requires.in_list made.rest made.count made.kept made.spare kept (c.drop-d.ensures (kept.4 made.ready)) in
+    let same = kept.0 in
+    (ruled.0, (search rules, ruled.1.1), search rules)

@@ -1,0 +1,7 @@
+use Rattle.tinyvec_array.specs.Drain.{DrainKeeps}
+use Rattle.tinyvec_examples.proofs.draining.run_to_its_end.Given as goal
+
+abbrev pub invariant-loop-x : goal.invariant-loop-x
+invariant-loop-x l = (goal.iterator-loop-x).can_next l._x-iterator
+    × (goal.iterator-loop-x).is_finite l._x-iterator
+    × DrainKeeps l.initial._x-iterator l._x-iterator

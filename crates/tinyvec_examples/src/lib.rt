@@ -1,0 +1,8 @@
+//! What a caller of the vectors can prove, and the vectors' tests.
+#![tactic(auto)]
+
+pub mod draining;
+pub mod ends;
+pub mod making;
+#[cfg(test)]
+mod tests;

@@ -1,0 +1,69 @@
+//! Vectors made of arrays, and given back.
+ghost use Rattle.std.specs.Prelude.{◌≡◌, ◌≤◌, length, []};
+ghost use Rattle.tinyvec_array.specs.Slots.{items, spare, items_len, AreDefaults};
+
+use std::convert::AsSlice;
+use std::mem;
+use tinyvec_array::{Array, ArrayVec};
+
+/// The array comes back as it was, however many of its slots were the list.
+pub fn there_and_back<A: Array>(array: A, len: usize) -> A
+    requires { len ≤ A.CAPACITY }
+    ensures { result ≡ array }
+{
+    ArrayVec::from_array_len(array, len).into_inner()
+}
+
+/// Any conversion, by its trait.
+pub fn converted<S, T: From<S>>(source: S) -> T
+    ensures { T.from_gives source result }
+{
+    T::from(source)
+}
+
+/// The whole array is the list.
+pub fn full_list<A: Array>(array: A) -> ArrayVec<A>
+    ensures items { items result ≡ A.slots array }
+    ensures spare { spare result ≡ [] }
+{
+    // It tells the proof how many slots there are.
+    let _slots = array.as_slice();
+    converted(array)
+}
+
+/// A default, by its trait.
+pub fn default_of<T: Default>() -> T
+    ensures { T.is_default result }
+{
+    T::default()
+}
+
+/// A vector's default has no items, and defaults in each slot.
+pub fn no_items<A: Array>() -> ArrayVec<A>
+    ensures items { items result ≡ [] }
+    ensures spare { AreDefaults A.Item.is_default A.CAPACITY (spare result) }
+{
+    default_of()
+}
+
+/// Takes the vector, and leaves an empty one.
+pub fn taken<A: Array>(v: &mut ArrayVec<A>) -> ArrayVec<A>
+    ensures value { result ≡ v.old }
+    ensures left { items v.new ≡ [] }
+{
+    mem::take(v)
+}
+
+/// The number of items of what lends them as a slice.
+pub fn count<T, L: AsSlice<T>>(list: &L) -> usize
+    ensures { result ≡ length (L.items list.now) }
+{
+    list.as_slice().len()
+}
+
+/// A vector lends its items.
+pub fn count_items<A: Array>(v: &ArrayVec<A>) -> usize
+    ensures { result ≡ items_len v.now }
+{
+    count(v)
+}

@@ -1,0 +1,5 @@
+//! The vectors' tests.
+mod draining;
+mod ends;
+mod making;
+mod owned;

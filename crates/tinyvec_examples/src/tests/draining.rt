@@ -1,0 +1,160 @@
+//! Tests of the drain.
+ghost use Rattle.std.specs.Prelude.{◌≤◌};
+ghost use Rattle.tinyvec_array.specs.Cut.{range_start, range_end};
+
+use crate::draining::*;
+use std::alloc::AllocGlobal;
+use std::mem;
+use std::ops::{Bound, RangeBounds};
+use std::process::Abort;
+use std::test::Fail;
+use tinyvec_array::ArrayVec;
+
+// Drains the range of `[1, 2, 3]` in ten slots, of which the emptied ones then hold 0 as the others do.
+fn drains<R: RangeBounds<usize>>(
+    rt: &(impl Abort + AllocGlobal),
+    range: R,
+    given: &[i32],
+    left: &[i32],
+) -> Result<(), Fail>
+    requires known { R.has_bounds range }
+    requires start_le_end { range_start (R.start_bound range) ≤ range_end (R.end_bound range) 3 }
+    requires in_list { range_end (R.end_bound range) 3 ≤ 3 }
+{
+    let mut v: ArrayVec<[i32; 10]> = ArrayVec::new();
+    v.push(1);
+    v.push(2);
+    v.push(3);
+    let mut drained = Vec::new(rt.alloc());
+    for item in v.drain(range) {
+        drained.push(item)?;
+    }
+    assert_eq!(rt; drained.as_slice(), given);
+    assert_eq!(rt; v.as_slice(), left);
+    assert!(rt; v.as_inner()[v.len()..].iter().all(|slot| *slot == 0));
+    Ok(())
+}
+
+#[test]
+fn ranges(rt: HostRuntime) -> Result<(), Fail> {
+    drains(&rt, .., &[1, 2, 3], &[])?;
+    drains(&rt, ..2, &[1, 2], &[3])?;
+    drains(&rt, ..3, &[1, 2, 3], &[])?;
+    drains(&rt, ..=1, &[1, 2], &[3])?;
+    drains(&rt, ..=2, &[1, 2, 3], &[])?;
+    drains(&rt, 0.., &[1, 2, 3], &[])?;
+    drains(&rt, 1.., &[2, 3], &[1])?;
+    drains(&rt, 0..2, &[1, 2], &[3])?;
+    drains(&rt, 0..3, &[1, 2, 3], &[])?;
+    drains(&rt, 1..2, &[2], &[1, 3])?;
+    drains(&rt, 1..3, &[2, 3], &[1])?;
+    drains(&rt, 0..=1, &[1, 2], &[3])?;
+    drains(&rt, 0..=2, &[1, 2, 3], &[])?;
+    drains(&rt, 1..=1, &[2], &[1, 3])?;
+    drains(&rt, 1..=2, &[2, 3], &[1])?;
+    drains(&rt, 2..2, &[], &[1, 2, 3])?;
+    drains(&rt, 3.., &[], &[1, 2, 3])?;
+    drains(&rt, (Bound::Excluded(0), Bound::Included(2)), &[2, 3], &[1])
+}
+
+#[test]
+fn passed_over(rt: HostRuntime) {
+    let mut v = ArrayVec::from_array_len([1, 2, 3, 4], 4);
+    let mut d = v.drain(1..3);
+    assert_eq!(rt; d.nth(1), Some(3));
+    drop(d);
+    assert_eq!(rt; v.len(), 2);
+    assert_eq!(rt; v.into_inner(), [1, 4, 0, 0]);
+}
+
+#[test]
+fn from_both_ends_to_none(rt: HostRuntime) {
+    let mut v = ArrayVec::from_array([0, 1, 2, 3, 4, 5, 6, 7]);
+    let mut d = v.drain(1..);
+    assert_eq!(rt; d.len(), 7);
+    assert_eq!(rt; d.size_hint(), (7, Some(7)));
+    assert_eq!(rt; d.next(), Some(1));
+    assert_eq!(rt; d.next_back(), Some(7));
+    assert_eq!(rt; d.nth(1), Some(3));
+    assert_eq!(rt; d.nth_back(1), Some(5));
+    assert_eq!(rt; d.len(), 1);
+    assert_eq!(rt; d.size_hint(), (1, Some(1)));
+    assert_eq!(rt; d.next_back(), Some(4));
+    assert_eq!(rt; d.len(), 0);
+    for _again in 0..2 {
+        assert_eq!(rt; d.next(), None);
+        assert_eq!(rt; d.next_back(), None);
+        assert_eq!(rt; d.size_hint(), (0, Some(0)));
+    }
+    drop(d);
+    assert_eq!(rt; v.into_inner(), [0, 0, 0, 0, 0, 0, 0, 0]);
+}
+
+#[test]
+fn past_the_end(rt: HostRuntime) {
+    let mut v = ArrayVec::from_array([1, 2, 3]);
+    assert_eq!(rt; v.drain(..2).nth(2), None);
+    assert_eq!(rt; v.as_slice(), [3].as_slice());
+    assert_eq!(rt; v.drain(..).nth_back(1), None);
+    assert_eq!(rt; v.as_slice(), [].as_slice());
+    assert_eq!(rt; v.drain(..).last(), None);
+}
+
+#[test]
+fn no_slots(rt: HostRuntime) {
+    let mut v: ArrayVec<[i32; 0]> = ArrayVec::new();
+    let mut d = v.drain(..);
+    assert_eq!(rt; d.len(), 0);
+    assert_eq!(rt; d.next(), None);
+    assert_eq!(rt; d.next_back(), None);
+}
+
+// No contract says what a drain that is never dropped leaves.
+#[test]
+fn forgotten(rt: HostRuntime) {
+    let mut v = ArrayVec::from_array([1, 2, 3, 4]);
+    mem::forget(v.drain(1..3));
+    assert_eq!(rt; v.as_slice(), [1, 4].as_slice());
+}
+
+#[test]
+fn callers(rt: HostRuntime) {
+    let (first, after_first) = after_next();
+    let (last, after_last) = after_next_back();
+    let (second, after_second) = after_nth();
+    for left in [
+        dropped(),
+        out_of_scope(),
+        run_to_its_end(),
+        after_first,
+        after_last,
+        after_second,
+    ] {
+        assert_eq!(rt; left, [1, 4, 0, 0]);
+    }
+    assert_eq!(rt; (first, last, second), (Some(2), Some(3), Some(3)));
+    assert_eq!(rt; from_both_ends(), (Some(2), Some(4), [1, 0, 0, 0]));
+    assert_eq!(rt; last_drained(), Some(3));
+    assert_eq!(rt; counted(), (1, (1, Some(1))));
+    assert_eq!(rt; inclusive(), Some(2));
+    assert_eq!(rt; from_behind(), Some(3));
+}
+
+#[test]
+fn generic_callers(rt: HostRuntime) {
+    let mut v = ArrayVec::from_array([1, 2, 3, 4]);
+    cut(&mut v, ..=0);
+    assert_eq!(rt; v.as_slice(), [2, 3, 4].as_slice());
+    assert_eq!(rt; nth_of(&mut v, ..2, 1), Some(3));
+    assert_eq!(rt; v.as_slice(), [4].as_slice());
+    assert_eq!(rt; last_of(&mut v), Some(4));
+
+    let mut from = ArrayVec::from_array([1, 2, 3]);
+    let mut to = ArrayVec::new();
+    move_all(&mut from, &mut to);
+    assert_eq!(rt; from.into_inner(), [0, 0, 0]);
+    assert_eq!(rt; to.as_slice(), [1, 2, 3].as_slice());
+    assert_eq!(rt; ends_of(&mut to), (Some(1), Some(3)));
+    drain_all(&mut to);
+    assert_eq!(rt; to.into_inner(), [0, 0, 0]);
+}
