@@ -43,6 +43,15 @@ module _ {A T : Type 0} where
   nth-keeps d n r e h =
       DrainKeeps-then d h.1.0 e (Yields-keeps d h.0 h.1.0 h.1.1) (DrainSteps-keeps h.1.0 r e h.1.2)
 
+  -- and `nth_back`
+  Yields-back-keeps : (d : ArrayVecDrain A T) (items : List T) (later : ArrayVecDrain A T) → Yields DrainStepsBack d items later → DrainKeeps d later
+  Yields-back-keeps d [] later y = subst (DrainKeeps d) y (DrainKeeps-refl d)
+  Yields-back-keeps d (x ∷ xs) later y = DrainKeeps-then d y.0 later y.1.1 (Yields-back-keeps y.0 xs later y.2)
+
+  pub nth_back-keeps : (d : ArrayVecDrain A T) (n : ℕ) (r : Option T) (e : ArrayVecDrain A T) → SkipsThenYields DrainStepsBack d n r e → DrainKeeps d e
+  nth_back-keeps d n r e h =
+      DrainKeeps-then d h.1.0 e (Yields-back-keeps d h.0 h.1.0 h.1.1) (DrainStepsBack-keeps h.1.0 r e h.1.2)
+
   -- and each that a word of ends leads to
   Asks-keeps : (d : ArrayVecDrain A T) (word : List End) (answers : List (Option T)) (later : ArrayVecDrain A T)
       → Asks DrainSteps DrainStepsBack d word answers later → DrainKeeps d later

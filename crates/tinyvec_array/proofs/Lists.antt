@@ -1,6 +1,7 @@
 -- Facts on parts of a list.
-use Rattle.std.proofs.Common.{◌≡◌, ℕ, suc, ◌+◌, ◌-◌, ◌<◌, ◌≤◌, List, [], ◌∷◌, ◌++◌, length, get_or, take, drop, set, slice_range, sym, ap, ◌∙◌, arith, rules, drop-set-lt, length-set, append_assoc, take_at}
-use Rattle.std.proofs.lemmas.List.{same_lists, places, get_or-set_same, get_or_default, drop-drop, drop_more, drop_at}
+use Rattle.std.proofs.Common.{◌≡◌, ℕ, zero, suc, add-one, ◌+◌, ◌-◌, ◌<◌, ◌≤◌, List, [], ◌∷◌, ◌++◌, length, get_or, take, drop, set, slice_range, sym, ap, ◌∙◌, arith, rules, drop-set-lt, length-set, append_assoc, append-nil, take_at, take_all, length-append, length-drop}
+use Rattle.std.specs.Prelude.{reverse}
+use Rattle.std.proofs.lemmas.List.{same_lists, places, get_or-set_same, get_or_default, drop-drop, drop_more, drop_at, drop_all, length-take-le, length-reverse, reverse-append, reverse-reverse}
 use Rattle.std.specs.List.{remove_range}
 use Rattle.std.proofs.lemmas.Bool.{cases_eq}
 
@@ -51,3 +52,79 @@ module _ {X : Type 0} (xs : List X) (i j : ℕ) (le : i ≤ j) (within : j ≤ l
 
   pub length-slice_range : length (slice_range xs i j) ≡ j - i
   length-slice_range = search (rules, places)
+
+module _ {X : Type 0} where
+  -- one more place written over
+  overwrite_next : (xs ys : List X) (i : ℕ) (y : X) → i < length xs → length ys ≡ length xs → y ≡ get_or xs i y
+      → set (take i xs ++ drop i ys) i y ≡ take (suc i) xs ++ drop (suc i) ys
+  overwrite_next [] ys i y lt long is = search (rules, arith)
+  overwrite_next (x ∷ xs) [] i y lt long is = search rules
+  overwrite_next (x ∷ xs) (z ∷ ys) zero y lt long is = ap (λ w. w ∷ ys) is
+  overwrite_next (x ∷ xs) (z ∷ ys) (suc i) y lt long is =
+      ap (λ l. x ∷ l) (overwrite_next xs ys i y (omega (arith, lt)) (omega (arith, long)) is)
+
+  pub overwrite_one : (xs ys : List X) (i : ℕ) (y : X) → i < length xs → length ys ≡ length xs → y ≡ get_or xs i y
+      → set (take i xs ++ drop i ys) i y ≡ take (i + 1) xs ++ drop (i + 1) ys
+  overwrite_one xs ys i y lt long is = rw add-one (overwrite_next xs ys i y lt long is)
+
+-- three reversals move the items from i up to j behind the others
+module _ {X : Type 0} (xs once twice : List X) (i j n : ℕ) (le : i ≤ j) (within : j ≤ n) (long : length xs ≡ n)
+    (first : once ≡ take i xs ++ reverse (slice_range xs i j) ++ drop j xs)
+    (second : twice ≡ take j once ++ reverse (slice_range once j n) ++ drop n once) where
+  abbrev P : List X
+  P = take i xs
+
+  abbrev M : List X
+  M = slice_range xs i j
+
+  abbrev F : List X
+  F = drop j xs
+
+  long-P : length P ≡ i
+  long-P = length-take-le i xs (omega arith)
+
+  long-M : length (reverse M) ≡ j - i
+  long-M = length-reverse M ∙ length-slice_range xs i j le (omega arith)
+
+  long-F : length F ≡ n - j
+  long-F = length-drop j xs ∙ ap (λ k. k - j) long
+
+  long-PM : length (P ++ reverse M) ≡ j
+  long-PM = let one = long-P in let two = long-M in let all = length-append P (reverse M) in omega arith
+
+  once_left : take j once ≡ P ++ reverse M
+  once_left = ap (take j) first ∙ take_at (P ++ reverse M) F j long-PM
+
+  once_right : drop j once ≡ F
+  once_right = ap (drop j) first ∙ drop_at (P ++ reverse M) F j long-PM
+
+  twice_is : twice ≡ P ++ (reverse M ++ reverse F)
+  twice_is =
+      let all = length-append (P ++ reverse M) F in
+      let one = long-PM in
+      let two = long-F in
+      let ends : drop n once ≡ [] = ap (drop n) first ∙ drop_all n ((P ++ reverse M) ++ F) (omega arith) in
+      let right : slice_range once j n ≡ F = ap (take (n - j)) once_right ∙ take_all (n - j) F (omega arith) in
+      second ∙ ap (λ l. l ++ reverse (slice_range once j n) ++ drop n once) once_left
+      ∙ ap (λ l. (P ++ reverse M) ++ reverse l ++ drop n once) right
+      ∙ ap (λ l. ((P ++ reverse M) ++ reverse F) ++ l) ends
+      ∙ append-nil ((P ++ reverse M) ++ reverse F) ∙ append_assoc P (reverse M) (reverse F)
+
+  pub turned : (thrice : List X) → thrice ≡ take i twice ++ reverse (slice_range twice i n) ++ drop n twice
+      → thrice ≡ remove_range xs i j ++ slice_range xs i j
+  turned thrice third =
+      let both = length-append (reverse M) (reverse F) in
+      let all = length-append P (reverse M ++ reverse F) in
+      let one = long-P in
+      let two = long-M in
+      let three = length-reverse F ∙ long-F in
+      let left : take i twice ≡ P = ap (take i) twice_is ∙ take_at P (reverse M ++ reverse F) i long-P in
+      let right : drop i twice ≡ reverse M ++ reverse F = ap (drop i) twice_is ∙ drop_at P (reverse M ++ reverse F) i long-P in
+      let ends : drop n twice ≡ [] = ap (drop n) twice_is ∙ drop_all n (P ++ (reverse M ++ reverse F)) (omega arith) in
+      let whole : slice_range twice i n ≡ reverse M ++ reverse F = ap (take (n - i)) right ∙ take_all (n - i) (reverse M ++ reverse F) (omega arith) in
+      let back : reverse (reverse M ++ reverse F) ≡ F ++ M = reverse-append (reverse M) (reverse F) ∙ ap (λ l. l ++ reverse (reverse M)) (reverse-reverse F) ∙ ap (λ l. F ++ l) (reverse-reverse M) in
+      third ∙ ap (λ l. l ++ reverse (slice_range twice i n) ++ drop n twice) left
+      ∙ ap (λ l. P ++ reverse l ++ drop n twice) whole
+      ∙ ap (λ l. (P ++ l) ++ drop n twice) back
+      ∙ ap (λ l. (P ++ (F ++ M)) ++ l) ends
+      ∙ append-nil (P ++ (F ++ M)) ∙ sym (append_assoc P F M)

@@ -1,8 +1,9 @@
 -- Lemmas on the list and the spare slots.
-use Rattle.std.proofs.Common.{◌≡◌, ℕ, ◌+◌, ◌-◌, List, [], ◌++◌, length, drop, replicate, sym, ap, ◌∙◌, arith, take-append-drop}
+use Rattle.std.proofs.Common.{◌≡◌, ℕ, ◌+◌, ◌-◌, List, [], ◌++◌, length, drop, replicate, sym, ap, ◌∙◌, ◌<◌, slice_set, drop-set-lt, arith, rules, take-append-drop}
+use Rattle.std.proofs.Math.Seq.{take-set-lt}
 use Rattle.std.proofs.lemmas.List.Elements.{All-nil}
-use Rattle.std.proofs.lemmas.List.{same_lists, get_or-replicate, length-replicate}
-use Rattle.tinyvec_array.specs.Slots.{Slots, AreDefaults, Frees, SlotRule, items_len, all_slots, items, spare}
+use Rattle.std.proofs.lemmas.List.{same_lists, places, get_or-replicate, length-replicate}
+use Rattle.tinyvec_array.specs.Slots.{Slots, AreDefaults, Frees, SlotRule, items_len, all_slots, items, spare, with_items, with_slot}
 use Rattle.std.specs.declared.ops.Bound.{Bound}
 use Rattle.tinyvec_array.specs.Cut.{IsRangeOf, range_start, range_end, before, removed, after}
 use Rattle.tinyvec_array.specs.Drain.{DrainLeaves, DrainKeeps, drain_items, drain_kept, drain_count, drain_spare}
@@ -12,6 +13,22 @@ use Rattle.tinyvec_array.proofs.Lists.{length-remove_range, length-slice_range}
 -- the slots are the list and what stands behind it
 pub slots_are : {T : Type 0} (v : Slots T) → all_slots v ≡ items v ++ spare v
 slots_are v = sym (take-append-drop v.len v.slots)
+
+-- a write through the slice of the items, which keeps its length, leaves what the slice shows
+pub items-with_items : {T : Type 0} (v : Slots T) (ws : List T) → length ws ≡ items_len v → items (with_items v ws) ≡ ws
+items-with_items v ws e = same_lists _ _ (search (rules, places, e)) (λ k d h. grind (arith, places, e))
+
+-- and leaves the slots behind
+pub spare-with_items : {T : Type 0} (v : Slots T) (ws : List T) → length ws ≡ items_len v → spare (with_items v ws) ≡ spare v
+spare-with_items v ws e = same_lists _ _ (search (rules, places, e)) (λ k d h. grind (arith, places, e))
+
+-- a write of one slot of the list writes that item
+pub items-with_slot : {T : Type 0} (v : Slots T) (i : ℕ) (x : T) → i < items_len v → items (with_slot v i x) ≡ slice_set (items v) i x
+items-with_slot v i x h = take-set-lt v.len v.slots i x (search (rules, h, places))
+
+-- and leaves the others alone
+pub spare-with_slot : {T : Type 0} (v : Slots T) (i : ℕ) (x : T) → i < items_len v → spare (with_slot v i x) ≡ spare v
+spare-with_slot v i x h = drop-set-lt v.len v.slots i x (search (rules, h, places))
 
 -- the slot rule of a call that made the list longer, shorter, or neither
 module _ {T : Type 0} (D : T → Type 0) (old new : Slots T) where
@@ -36,14 +53,19 @@ module _ {A T : Type 0} (D : T → Type 0) (first last : ArrayVecDrain A T) (old
   pub drained_items : items new ≡ before (items old) start ++ after (items old) end
   drained_items = left.0 ∙ keeps.1 ∙ kept
 
+  pub drained_frees : Frees D (range_end end (items_len old) - range_start start) old new
+  drained_frees =
+      let i = range_start start in
+      let j = range_end end (items_len old) in
+      let count_is : drain_count last ≡ j - i = keeps.2 ∙ count ∙ ap length rest ∙ length-slice_range (items old) i j in_list.0 in_list.1 in
+      (left.1.0, (left.1.1.0 ∙ count_is, left.1.1.1), left.1.2 ∙ ap (λ xs. left.1.0 ++ xs) (keeps.3 ∙ behind))
+
   pub drained_slots : SlotRule D old new
   drained_slots =
       let i = range_start start in
       let j = range_end end (items_len old) in
-      let count_is : drain_count last ≡ j - i = keeps.2 ∙ count ∙ ap length rest ∙ length-slice_range (items old) i j in_list.0 in_list.1 in
       let fewer : items_len new ≡ items_len old - (j - i) = ap length drained_items ∙ length-remove_range (items old) i j in_list.0 in_list.1 in
-      slots_freed D old new (j - i) (omega (arith, in_list.0, in_list.1))
-      (left.1.0, (left.1.1.0 ∙ count_is, left.1.1.1), left.1.2 ∙ ap (λ xs. left.1.0 ++ xs) (keeps.3 ∙ behind))
+      slots_freed D old new (j - i) (omega (arith, in_list.0, in_list.1)) drained_frees
 
 -- where the item's `Default` answers one value only
 module _ {T : Type 0} (D : T → Type 0) (c : T) (only : (x : T) → D x → x ≡ c) where

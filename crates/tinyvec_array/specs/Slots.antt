@@ -1,5 +1,6 @@
 -- The list and the spare slots, what is a default, and what a change of the list does to the spare slots.
-use Rattle.std.specs.Prelude.{◌≡◌, ℕ, ◌-◌, List, ◌++◌, length, take, drop, All, refl}
+use Rattle.std.specs.Prelude.{◌≡◌, ℕ, ◌-◌, List, ◌++◌, length, take, drop, slice_set, All, refl}
+use Rattle.std.specs.List.{refill}
 use Rattle.std.specs.Coded.{Coded, code_by, coded×, coded_list, coded_ℕ}
 
 -- all the slots, and how many of them hold the list
@@ -45,3 +46,15 @@ module _ {T : Type 0} where
   abbrev pub SlotRule : (T → Type 0) → Slots T → Slots T → Type 0
   SlotRule D old new = (ds : List T) × AreDefaults D (items_len old - items_len new) ds
       × (spare new ≡ ds ++ drop (items_len new - items_len old) (spare old))
+
+  -- v with its slot i set to x
+  abbrev pub with_slot : Slots T → ℕ → T → Slots T
+  with_slot v i x = record v { slots = slice_set v.slots i x }
+
+  -- v after its items were written as a slice, which keeps its length
+  abbrev pub with_items : Slots T → List T → Slots T
+  with_items v xs = record v { slots = refill v.len (items v) xs ++ spare v }
+
+  -- v after its spare slots were written as a slice
+  abbrev pub with_spare : Slots T → List T → Slots T
+  with_spare v xs = record v { slots = items v ++ refill (length (spare v)) (spare v) xs }

@@ -3,8 +3,18 @@ ghost use Rattle.std.specs.Prelude.{◌≡◌, ◌<◌, ◌≤◌, ◌==◌, len
 ghost use Rattle.std.specs.List.{remove_range};
 ghost use Rattle.tinyvec_array.specs.Slots.{items, spare, items_len, all_slots, split_at, AreDefaults};
 
+mod clones;
+mod draining;
+mod edits;
 mod ends;
+mod filling;
+mod filters;
+mod growing;
+mod iterating;
+mod joining;
+mod lending;
 mod making;
+mod trying;
 
 use crate::Array;
 use crate::slots::{clear, slots_to_end, take_slot};
@@ -35,6 +45,8 @@ impl<A: Array> Model for ArrayVec<A> {
 
     ghost inverse_ok = { λ a h t. record { len = a.len; array = h.1 t } };
 }
+
+impl<A: Array + Copy> Copy for ArrayVec<A> {}
 
 impl<A: Array> ArrayVec<A> {
     /// The number of items.

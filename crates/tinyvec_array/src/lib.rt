@@ -3,12 +3,21 @@
 
 mod array;
 mod array_vec;
+mod clone_slots;
 mod drain;
+mod filtering;
+mod iterator;
+mod lent;
 mod no_memory;
+mod no_room;
 mod range;
 mod slots;
+mod try_from_slice_error;
 
 pub use array::Array;
 pub use array_vec::ArrayVec;
 pub use drain::ArrayVecDrain;
+pub use iterator::ArrayVecIterator;
 pub use no_memory::NoMemory;
+pub use no_room::{FromIterRest, NoRoom};
+pub use try_from_slice_error::TryFromSliceError;

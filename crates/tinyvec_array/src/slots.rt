@@ -1,10 +1,13 @@
 //! Reads and writes of an array's slots.
-ghost use Rattle.std.specs.Prelude.{◌≡◌, ℕ, ◌+◌, ◌-◌, ◌<◌, ◌≤◌, List, ◌++◌, length, take, drop, slice_index_or, slice_set, slice_range};
+ghost use Rattle.std.specs.Prelude.{◌≡◌, ℕ, ◌+◌, ◌-◌, ◌<◌, ◌≤◌, List, [], ◌∷◌, ◌++◌, length, take, drop, reverse, slice_index_or, slice_set, slice_range, insert};
 ghost use Rattle.std.specs.List.{remove_range};
 ghost use Rattle.tinyvec_array.specs.Slots.{AreDefaults};
 
 use crate::Array;
 use std::mem;
+
+/// Up to so many items are turned rather than rotated.
+const FEW: usize = 64;
 
 /// Writes `x` into the slot at `i`.
 pub(crate) fn put<A: Array>(array: &mut A, i: usize, x: A::Item)
@@ -50,7 +53,35 @@ fn move_to_end<T>(items: &mut [T], start: usize, end: usize)
     requires in_bounds { end ≤ length items.old }
     ensures { items.new ≡ remove_range items.old start end ++ slice_range items.old start end }
 {
+    if end == items.len() {
+        return;
+    }
+    // A rotation clears a room of its own first, unless it goes by one. For few items that costs more than turning them.
+    if end - start != 1 && items.len() - start <= FEW {
+        turn(items, start, end);
+        return;
+    }
     items[start..].rotate_left(end - start);
+}
+
+// The same by three reversals.
+fn turn<T>(items: &mut [T], start: usize, end: usize)
+    requires start_le_end { start ≤ end }
+    requires in_bounds { end ≤ length items.old }
+    ensures { items.new ≡ remove_range items.old start end ++ slice_range items.old start end }
+{
+    let len = items.len();
+    reverse_part(items, start, end);
+    reverse_part(items, end, len);
+    reverse_part(items, start, len);
+}
+
+fn reverse_part<T>(items: &mut [T], start: usize, end: usize)
+    requires start_le_end { start ≤ end }
+    requires in_bounds { end ≤ length items.old }
+    ensures { items.new ≡ take start items.old ++ reverse (slice_range items.old start end) ++ drop end items.old }
+{
+    items[start..end].reverse();
 }
 
 // The same below `len`.
@@ -72,4 +103,31 @@ pub(crate) fn slots_to_end<A: Array>(array: &mut A, start: usize, end: usize, le
     ensures len { length (A.slots array.old) ≡ A.CAPACITY }
 {
     part_to_end(array.as_slice_mut(), start, end, len);
+}
+
+// Moves the last item to `index`, and the items from there on up.
+fn move_last<T>(items: &mut [T], index: usize)
+    requires { index < length items.old }
+    ensures { (front : List T) (last : T) → items.old ≡ front ++ last ∷ [] → items.new ≡ insert front index last }
+{
+    items[index..].rotate_right(1);
+}
+
+// The same below `len`.
+fn last_to<T>(slots: &mut [T], index: usize, len: usize)
+    requires in_list { index < len }
+    requires in_bounds { len ≤ length slots.old }
+    ensures { (front : List T) (last : T) → take len slots.old ≡ front ++ last ∷ [] → slots.new ≡ insert front index last ++ drop len slots.old }
+{
+    move_last(&mut slots[..len], index);
+}
+
+/// Moves the last slot below `len` to `index`, and those from there on up.
+pub(crate) fn last_slot_to<A: Array>(array: &mut A, index: usize, len: usize)
+    requires in_list { index < len }
+    requires in_bounds { len ≤ A.CAPACITY }
+    ensures after { (front : List A.Item) (last : A.Item) → take len (A.slots array.old) ≡ front ++ last ∷ [] → A.slots array.new ≡ insert front index last ++ drop len (A.slots array.old) }
+    ensures len { length (A.slots array.old) ≡ A.CAPACITY }
+{
+    last_to(array.as_slice_mut(), index, len);
 }

@@ -2,7 +2,9 @@
 #![tactic(auto)]
 
 pub mod draining;
+pub mod edits;
 pub mod ends;
+pub mod lending;
 pub mod making;
 #[cfg(test)]
 mod tests;

@@ -1,5 +1,10 @@
 //! The vectors' tests.
+mod clones;
 mod draining;
+mod edits;
 mod ends;
+mod filling;
+mod filters;
+mod iterators;
 mod making;
 mod owned;

@@ -1,10 +1,11 @@
 -- What a call may be answered, and what it then leaves: steps, and runs of them.
-use Rattle.std.specs.Prelude.{◌≡◌, ℕ, ◌<◌, List, [], ◌∷◌, ◌++◌}
+use Rattle.std.specs.Prelude.{◌≡◌, ℕ, ◌<◌, ◌≤◌, List, [], ◌∷◌, ◌++◌, take, insert, remove, slice_get, Some}
+use Rattle.std.specs.List.{swap_remove}
 use Rattle.std.specs.declared.ops.Bound.TheVariants.{Included, Excluded}
-use Rattle.tinyvec_array.specs.Slots.{Slots, items, items_len, SlotRule}
+use Rattle.tinyvec_array.specs.Slots.{Slots, items, items_len, all_slots, split_at, SlotRule}
 use Rattle.tinyvec_array.specs.Cut.{IsRangeOf, before, removed, after}
 use Rattle.tinyvec_script.specs.declared.call.Call.{Call}
-use Rattle.tinyvec_script.specs.declared.call.Call.TheVariants.{Push, Pop, Drain}
+use Rattle.tinyvec_script.specs.declared.call.Call.TheVariants.{Push, Pop, Insert, Remove, SwapRemove, Truncate, Drain, SetLen}
 use Rattle.tinyvec_script.specs.declared.call.Answer.{Answer}
 use Rattle.tinyvec_script.specs.declared.call.Answer.TheVariants as answers
 
@@ -21,9 +22,19 @@ module _ {T : Type 0} (D : T → Type 0) where
   ArrayStep capacity old (Push x) answers.Full new = (items_len old ≡ capacity) × (new ≡ old)
   ArrayStep capacity old Pop (answers.Some x) new = (items old ≡ items new ++ x ∷ []) × SlotRule D old new
   ArrayStep capacity old Pop answers.None new = (items old ≡ []) × (new ≡ old)
+  ArrayStep capacity old (Insert i x) answers.Done new = (i ≤ items_len old) × (items_len old < capacity) × (items new ≡ insert (items old) i x) × SlotRule D old new
+  ArrayStep capacity old (Insert i x) answers.Range new = (items_len old < i) × (new ≡ old)
+  ArrayStep capacity old (Insert i x) answers.Full new = (i ≤ items_len old) × (items_len old ≡ capacity) × (new ≡ old)
+  ArrayStep capacity old (Remove i) (answers.Some x) new = (slice_get (items old) i ≡ Some x) × (items new ≡ remove (items old) i) × SlotRule D old new
+  ArrayStep capacity old (Remove i) answers.Range new = (items_len old ≤ i) × (new ≡ old)
+  ArrayStep capacity old (SwapRemove i) (answers.Some x) new = (slice_get (items old) i ≡ Some x) × (items new ≡ swap_remove (items old) i x) × SlotRule D old new
+  ArrayStep capacity old (SwapRemove i) answers.Range new = (items_len old ≤ i) × (new ≡ old)
+  ArrayStep capacity old (Truncate n) answers.Done new = (items new ≡ take n (items old)) × SlotRule D old new
   ArrayStep capacity old (Drain start end) answers.Range new = (IsRangeOf (items old) (Included start) (Excluded end) → ⊥) × (new ≡ old)
   ArrayStep capacity old (Drain start end) answers.Memory new = IsRangeOf (items old) (Included start) (Excluded end) × (start < end) × (new ≡ old)
   ArrayStep capacity old (Drain start end) (answers.Items given) new = IsRangeOf (items old) (Included start) (Excluded end) × ArrayDrains old start end given.items new
+  ArrayStep capacity old (SetLen n) answers.Done new = (n ≤ capacity) × (new ≡ split_at n (all_slots old))
+  ArrayStep capacity old (SetLen n) answers.Range new = (capacity < n) × (new ≡ old)
   -- no other answer is given
   ArrayStep capacity old call answer new = ⊥
 

@@ -7,8 +7,18 @@ pub enum Call<T> {
     Push(T),
     /// Takes the last item.
     Pop,
+    /// Puts the item at the index, and moves the later ones up.
+    Insert(usize, T),
+    /// Takes the item at the index, and moves the later ones down.
+    Remove(usize),
+    /// Takes the item at the index, and moves the last one into its place.
+    SwapRemove(usize),
+    /// Keeps the first items, so many.
+    Truncate(usize),
     /// Takes the items from the first index up to the second.
     Drain(usize, usize),
+    /// Moves the border between the items and the spare slots.
+    SetLen(usize),
 }
 
 /// What answers a call of a vector of `T`.

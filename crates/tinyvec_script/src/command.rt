@@ -1,6 +1,7 @@
 //! The call that a line spells.
-ghost use Rattle.std.specs.Prelude.{◌≡◌, ◌≢◌, ◌<◌, ◌^◌, ◌++◌, ◌∷◌, ℕ, ℤ, IfSome, IfNone, All};
-ghost use Rattle.std.specs.Fmt.{decimal};
+ghost use Rattle.std.specs.Prelude.{◌≡◌, ◌≢◌, ◌<◌, ◌^◌, ◌++◌, ◌∷◌, ℕ, ℤ, IfSome, IfNone, All, FitsSigned};
+ghost use Rattle.std.specs.Int.{w32};
+ghost use Rattle.std.specs.Fmt.{decimal, signed_decimal};
 ghost use Rattle.tinyvec_script.specs.Command.{IsCall, IsCommand};
 ghost use Rattle.tinyvec_script.specs.declared.call.Call.{Call};
 
@@ -29,6 +30,22 @@ fn parse_call(text: &[u8]) -> Option<Call<i32>>
     if let Some(number) = text.strip_prefix(b"push ") {
         return Some(Call::Push(parse_number(number)?));
     }
+    if let Some(rest) = text.strip_prefix(b"insert ") {
+        let (index, number) = parse_index_and_number(rest)?;
+        return Some(Call::Insert(index, number));
+    }
+    if let Some(index) = text.strip_prefix(b"remove ") {
+        return Some(Call::Remove(parse_index(index)?));
+    }
+    if let Some(index) = text.strip_prefix(b"swap ") {
+        return Some(Call::SwapRemove(parse_index(index)?));
+    }
+    if let Some(index) = text.strip_prefix(b"truncate ") {
+        return Some(Call::Truncate(parse_index(index)?));
+    }
+    if let Some(index) = text.strip_prefix(b"setlen ") {
+        return Some(Call::SetLen(parse_index(index)?));
+    }
     let (start, end) = parse_two_indices(text.strip_prefix(b"drain ")?)?;
     Some(Call::Drain(start, end))
 }
@@ -39,6 +56,14 @@ fn parse_two_indices(text: &[u8]) -> Option<(usize, usize)>
 {
     let (first, second) = split_word(text)?;
     Some((parse_index(first)?, parse_index(second)?))
+}
+
+fn parse_index_and_number(text: &[u8]) -> Option<(usize, i32)>
+    ensures some { IfSome result (λ pair. text.now ≡ decimal pair.0 ++ 32 ∷ signed_decimal pair.1) }
+    ensures none { IfNone result ((index : ℕ) (number : ℤ) → index < 2 ^ 64 → FitsSigned w32 number → text.now ≢ decimal index ++ 32 ∷ signed_decimal number) }
+{
+    let (index, number) = split_word(text)?;
+    Some((parse_index(index)?, parse_number(number)?))
 }
 
 /// What stands before the first blank, and behind it.

@@ -27,6 +27,32 @@ pub(crate) fn answer<A: Array>(
             Some(x) => Answer::Some(x),
             None => Answer::None,
         },
+        Call::Insert(i, x) => {
+            if i > vec.len() {
+                return Answer::Range;
+            }
+            if vec.is_full() {
+                return Answer::Full;
+            }
+            vec.insert(i, x);
+            Answer::Done
+        }
+        Call::Remove(i) => {
+            if i >= vec.len() {
+                return Answer::Range;
+            }
+            Answer::Some(vec.remove(i))
+        }
+        Call::SwapRemove(i) => {
+            if i >= vec.len() {
+                return Answer::Range;
+            }
+            Answer::Some(vec.swap_remove(i))
+        }
+        Call::Truncate(n) => {
+            vec.truncate(n);
+            Answer::Done
+        }
         Call::Drain(start, end) => {
             if start > end {
                 return Answer::Range;
@@ -38,6 +64,13 @@ pub(crate) fn answer<A: Array>(
                 return Answer::Memory;
             };
             Answer::Items(drained(vec, start, end, items))
+        }
+        Call::SetLen(n) => {
+            if n > vec.capacity() {
+                return Answer::Range;
+            }
+            vec.set_len(n);
+            Answer::Done
         }
     }
 }

@@ -10,7 +10,7 @@ mod ends;
 use ends::{Breaks, Fills};
 
 // Lines from the start of a script, each with its answer.
-const LINES: [(&[u8], &[u8]); 32] = [
+const LINES: [(&[u8], &[u8]); 53] = [
     (b"A pop", b"none [] [0, 0, 0, 0]"),
     (b"A push 2", b"ok [2] [0, 0, 0]"),
     (b"A push 1", b"ok [2, 1] [0, 0]"),
@@ -52,6 +52,27 @@ const LINES: [(&[u8], &[u8]); 32] = [
         b"A drain 0 2",
         b"items [2147483647, -2147483648] [] [0, 0, 0, 0]",
     ),
+    (b"A push 1", b"ok [1] [0, 0, 0]"),
+    (b"A push 2", b"ok [1, 2] [0, 0]"),
+    (b"A push 3", b"ok [1, 2, 3] [0]"),
+    (b"A insert 4 0", b"range [1, 2, 3] [0]"),
+    (b"A insert 0 9", b"ok [9, 1, 2, 3] []"),
+    (b"A insert 5 0", b"range [9, 1, 2, 3] []"),
+    (b"A insert 4 0", b"full [9, 1, 2, 3] []"),
+    (b"A remove 0", b"some 9 [1, 2, 3] [0]"),
+    (b"A swap 0", b"some 1 [3, 2] [0, 0]"),
+    (b"A truncate 1", b"ok [3] [0, 0, 0]"),
+    (b"A setlen 3", b"ok [3, 0, 0] [0]"),
+    (b"A setlen 5", b"range [3, 0, 0] [0]"),
+    (b"A truncate 9", b"ok [3, 0, 0] [0]"),
+    (b"A swap 3", b"range [3, 0, 0] [0]"),
+    (b"A remove 3", b"range [3, 0, 0] [0]"),
+    (b"A insert 0", b"bad"),
+    (b"A insert 0 2147483648", b"bad"),
+    (b"A insert 00 1", b"bad"),
+    (b"A remove -1", b"bad"),
+    (b"A swap", b"bad"),
+    (b"A truncate 0", b"ok [] [0, 0, 0, 0]"),
 ];
 
 // What a script over memory writes.
@@ -210,6 +231,16 @@ fn a_run_answers_each_call(rt: HostRuntime) -> Result<(), Fail> {
             Call::Pop,
             Call::Pop,
             Call::Pop,
+            Call::Insert(1, 6),
+            Call::Insert(0, 6),
+            Call::Insert(0, 7),
+            Call::SetLen(3),
+            Call::SwapRemove(0),
+            Call::SwapRemove(2),
+            Call::Remove(0),
+            Call::Remove(1),
+            Call::SetLen(5),
+            Call::Truncate(0),
         ],
     )?;
     let answers = run_array(rt.alloc(), &mut vec, calls)?;
@@ -225,6 +256,16 @@ fn a_run_answers_each_call(rt: HostRuntime) -> Result<(), Fail> {
         Answer::Some(4),
         Answer::Some(1),
         Answer::None,
+        Answer::Range,
+        Answer::Done,
+        Answer::Done,
+        Answer::Done,
+        Answer::Some(7),
+        Answer::Range,
+        Answer::Some(0),
+        Answer::Range,
+        Answer::Range,
+        Answer::Done,
     ];
     assert_eq!(rt; answers.as_slice(), wanted.as_slice());
     assert_eq!(rt; vec.into_inner(), [0, 0, 0, 0]);

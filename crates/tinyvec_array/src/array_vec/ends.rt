@@ -50,7 +50,7 @@ impl<A: Array> ArrayVec<A> {
     }
 
     // Takes the last item.
-    fn take_last(&mut self) -> A::Item
+    pub(crate) fn take_last(&mut self) -> A::Item
         requires { 0 < items_len self.old }
         ensures items { items self.old ≡ items self.new ++ result ∷ [] }
         ensures rest { items self.new ≡ take (items_len self.old - 1) (items self.old) }

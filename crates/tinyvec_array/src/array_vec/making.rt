@@ -57,7 +57,7 @@ impl<A: Array> Default for ArrayVec<A> {
 }
 
 impl<A: Array> From<A> for ArrayVec<A> {
-    ghost from_gives = { λ array v. v ≡ split_at A.CAPACITY (A.slots array) };
+    ghost from_gives = { λ array v. (v ≡ split_at A.CAPACITY (A.slots array)) × (items v ≡ A.slots array) × (spare v ≡ []) };
 
     fn from(array: A) -> Self {
         Self::from_array(array)

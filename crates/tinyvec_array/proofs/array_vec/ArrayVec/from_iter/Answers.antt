@@ -1,0 +1,21 @@
+use Rattle.std.proofs.Common.{◌-◌, ◌≤◌, ◌≡◌, ◌++◌, length, take, ap, ◌∙◌, arith, rules, take_all}
+use Rattle.tinyvec_array.specs.Slots.{items_len}
+use Rattle.tinyvec_array.proofs.array_vec.ArrayVec.from_iter.Goals as goal
+
+pub returns-in-Ok-clause-listed : goal.returns-in-Ok-clause-listed
+returns-in-Ok-clause-listed g c = λ rest shows.
+    let slots = g.A.Array.CAPACITY in
+    let empty = c.new-vec.ensures.items in
+    let room : slots - items_len c.new-vec.result ≡ slots = omega (arith, ap length empty) in
+    let listed = rw room at c.in-Ok.ensures.listed rest shows in
+    let le : length (rest listed.0) ≤ slots = listed.2.0 (search rules) in
+    let all = listed.3 ∙ ap (λ l. l ++ take slots (rest listed.0)) empty ∙ take_all slots (rest listed.0) le in
+    (listed.0, listed.1, listed.2, all)
+
+pub returns-in-Err-clause-listed : goal.returns-in-Err-clause-listed
+returns-in-Err-clause-listed g c = λ rest shows.
+    let slots = g.A.Array.CAPACITY in
+    let empty = c.new-vec.ensures.items in
+    let room : slots - items_len c.new-vec.result ≡ slots = omega (arith, ap length empty) in
+    let listed = rw room at c.in-Err.ensures.listed rest shows in
+    (listed.0, listed.1, listed.2, (listed.3 ∙ ap (λ l. l ++ take slots (rest listed.0)) empty, listed.4))

@@ -1,0 +1,11 @@
+use Rattle.std.proofs.Common.{◌≡◌, ◌++◌, length, take, drop}
+use Rattle.std.specs.Prelude.{All}
+use Rattle.tinyvec_array.specs.Slots.{items, spare}
+use Rattle.tinyvec_array.proofs.array_vec.ArrayVec.push_taken.Given as goal
+
+abbrev pub invariant-loop-i : goal.invariant-loop-i
+invariant-loop-i g l = (length l.from ≡ length l.initial.from)
+    × (items l.self ≡ items l.initial.self ++ take l.i l.initial.from)
+    × (spare l.self ≡ drop l.i (spare l.initial.self))
+    × (drop l.i l.from ≡ drop l.i l.initial.from)
+    × All g.A.Item.Default.is_default (take l.i l.from)

@@ -1,0 +1,13 @@
+-- Items asked of an iterator, as long as there is room.
+use Rattle.std.specs.Prelude.{◌≡◌, ℕ, ◌<◌, ◌≤◌, List, length, Option, None}
+use Rattle.std.specs.Iterator.{Yields, YieldsThen, YieldsFirst}
+
+-- Calls of `next` from s gave xs and left u. They stopped at n items, or at `None` where fewer came.
+pub record YieldsUpTo {S A : Type 0} (steps : S → Option A → S → Type 0) (n : ℕ) (s : S) (xs : List A) (u : S) : Type 0 where
+  pub at_most_n : length xs ≤ n
+  pub stopped : length xs ≡ n → Yields steps s xs u
+  pub ended : length xs < n → YieldsThen steps s xs None u
+
+-- `rest` shows what an iterator will give, in order
+abbrev pub ShowsItems : {S A : Type 0} → (S → Option A → S → Type 0) → (S → List A) → Type 0
+ShowsItems {S} {A} steps rest = (s : S) (r : Option A) (t : S) → steps s r t → YieldsFirst rest s r t

@@ -1,0 +1,24 @@
+-- What a contract says of an `ArrayVecIterator`, which is seen as the list of the items that are left.
+use Rattle.std.specs.Prelude.{◌≡◌, ◌<◌, ◌^◌, List, length, Option}
+use Rattle.std.specs.Iterator.{YieldsFirst, YieldsLast}
+use Rattle.std.specs.Iterator.Runs.{YieldsInOrder, YieldsInReverse}
+use Rattle.tinyvec_array.specs.Ends.{End, TakesFromEnds, Asks}
+
+module _ {T : Type 0} where
+  -- `next` answers with the first item that is left, and leaves the others
+  abbrev pub GivesFirst : List T → Option T → List T → Type 0
+  GivesFirst = YieldsFirst (λ left. left)
+
+  -- `next_back` answers with the last
+  abbrev pub GivesLast : List T → Option T → List T → Type 0
+  GivesLast = YieldsLast (λ left. left)
+
+  -- however calls of `next` and `next_back` follow one another, they take from the two ends of what is left
+  abbrev pub GivesFromEnds : List T → Type 0
+  GivesFromEnds left = (word : List End) (answers : List (Option T)) (later : List T)
+      → Asks GivesFirst GivesLast left word answers later → TakesFromEnds left word answers later
+
+  -- what is left are these items, whose number fits a `usize`, and each run gives what is left, in order or in reverse
+  abbrev pub IteratesOver : List T → List T → Type 0
+  IteratesOver xs left = (left ≡ xs) × (length left < 2 ^ 64)
+      × YieldsInOrder GivesFirst (λ left. left) × YieldsInReverse GivesLast (λ left. left)

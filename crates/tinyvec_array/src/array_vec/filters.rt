@@ -1,0 +1,66 @@
+//! Keeping some of the items.
+ghost use Rattle.std.specs.Prelude.{◌≡◌, ◌-◌, ◌≤◌};
+ghost use Rattle.std.specs.Fn.{CalledAt, CalledAtMut, CalledAtPairMut, ComparesKeys};
+ghost use Rattle.std.specs.List.{dedup as dedup_list};
+ghost use Rattle.std.specs.List.Retain.{IsFiltered, RetainsInTurn, IsDeduped};
+ghost use Rattle.tinyvec_array.specs.Slots.{items, items_len, Frees};
+
+use crate::filtering::{dedup_in_front, dedup_keys_in_front, retain_in_front, retain_mut_in_front};
+use crate::{Array, ArrayVec};
+
+impl<A: Array> ArrayVec<A> {
+    /// Asks `f` about each item in turn, and keeps those at which it answers `true`.
+    pub fn retain<F: FnMut(&A::Item) -> bool>(&mut self, f: F)
+        requires { F.IsAlwaysCallable f }
+        ensures filtered { IsFiltered (CalledAt F.FnMut) f (items self.old) (items self.new) }
+        ensures bound { items_len self.new ≤ items_len self.old }
+        ensures spare { Frees A.Item.is_default (items_len self.old - items_len self.new) self.old self.new }
+    {
+        let kept = retain_in_front(self.as_mut_slice(), f);
+        self.truncate(kept);
+    }
+
+    /// Asks `f` about each item in turn, and keeps those at which it answers `true`, as it left them.
+    pub fn retain_mut<F: FnMut(&mut A::Item) -> bool>(&mut self, f: F)
+        requires { F.IsAlwaysCallable f }
+        ensures filtered { RetainsInTurn (CalledAtMut F.FnMut) f (items self.old) (items self.new) }
+        ensures bound { items_len self.new ≤ items_len self.old }
+        ensures spare { Frees A.Item.is_default (items_len self.old - items_len self.new) self.old self.new }
+    {
+        let kept = retain_mut_in_front(self.as_mut_slice(), f);
+        self.truncate(kept);
+    }
+
+    /// Removes each item that equals the last one kept.
+    pub fn dedup(&mut self)
+    where
+        A::Item: PartialEq,
+        ensures items { items self.new ≡ dedup_list A.Item.eq (items self.old) }
+        ensures bound { items_len self.new ≤ items_len self.old }
+        ensures spare { Frees A.Item.is_default (items_len self.old - items_len self.new) self.old self.new }
+    {
+        self.dedup_by(|current, last| *current == *last);
+    }
+
+    /// Asks `same` about each item after the first and the last one kept, in this order, and removes the item at `true`.
+    pub fn dedup_by<F: FnMut(&mut A::Item, &mut A::Item) -> bool>(&mut self, same: F)
+        requires { F.IsAlwaysCallable same }
+        ensures filtered { IsDeduped (CalledAtPairMut F.FnMut) same (items self.old) (items self.new) }
+        ensures bound { items_len self.new ≤ items_len self.old }
+        ensures spare { Frees A.Item.is_default (items_len self.old - items_len self.new) self.old self.new }
+    {
+        let kept = dedup_in_front(self.as_mut_slice(), same);
+        self.truncate(kept);
+    }
+
+    /// Removes each item whose key equals that of the last one kept. The item's own key is asked for first.
+    pub fn dedup_by_key<K: PartialEq + Drop, F: FnMut(&mut A::Item) -> K>(&mut self, key: F)
+        requires { F.IsAlwaysCallable key }
+        ensures filtered { IsDeduped (ComparesKeys F.FnMut K.eq) key (items self.old) (items self.new) }
+        ensures bound { items_len self.new ≤ items_len self.old }
+        ensures spare { Frees A.Item.is_default (items_len self.old - items_len self.new) self.old self.new }
+    {
+        let kept = dedup_keys_in_front(self.as_mut_slice(), key);
+        self.truncate(kept);
+    }
+}

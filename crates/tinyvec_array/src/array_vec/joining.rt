@@ -1,0 +1,75 @@
+//! Lists joined, and emptied.
+ghost use Rattle.std.specs.Prelude.{◌≡◌, ◌+◌, ◌-◌, ◌<◌, ◌≤◌, ◌↔◌, ◌++◌, [], drop, length, false, IsTrue, IsSome, IfSome, IfNone};
+ghost use Rattle.tinyvec_array.specs.Slots.{items, spare, items_len, AreDefaults, Frees};
+
+use crate::{Array, ArrayVec};
+use std::mem;
+
+impl<A: Array> ArrayVec<A> {
+    /// Empties the list.
+    pub fn clear(&mut self)
+        ensures items { items self.new ≡ [] }
+        ensures spare { Frees A.Item.is_default (items_len self.old) self.old self.new }
+    {
+        self.truncate(0);
+    }
+
+    // Appends what `from` holds, and leaves defaults there.
+    fn push_taken(&mut self, from: &mut [A::Item])
+        requires { length from.old ≤ A.CAPACITY - items_len self.old }
+        ensures items { items self.new ≡ items self.old ++ from.old }
+        ensures spare { spare self.new ≡ drop (length from.old) (spare self.old) }
+        ensures left { AreDefaults A.Item.is_default (length from.old) from.new }
+    {
+        for i in 0..from.len() {
+            self.push(mem::take(&mut from[i]));
+        }
+    }
+
+    /// Moves the items of `other` behind the list, and leaves `other` empty.
+    pub fn append(&mut self, other: &mut Self)
+        requires { items_len other.old ≤ A.CAPACITY - items_len self.old }
+        ensures items { items self.new ≡ items self.old ++ items other.old }
+        ensures spare { spare self.new ≡ drop (items_len other.old) (spare self.old) }
+        ensures other_items { items other.new ≡ [] }
+        ensures other_spare { Frees A.Item.is_default (items_len other.old) other.old other.new }
+    {
+        let _len = self.len();
+        let _other_len = other.len();
+        self.push_taken(other.as_mut_slice());
+        other.set_border(0);
+    }
+
+    // Moves the items of `other` behind the list, and leaves `other` empty. Where they don't fit, both stay, and it says no.
+    fn append_if_fits(&mut self, other: &mut Self) -> bool
+        ensures fits { IsTrue result ↔ (items_len self.old + items_len other.old ≤ A.CAPACITY) }
+        ensures items { IsTrue result → items self.new ≡ items self.old ++ items other.old }
+        ensures spare { IsTrue result → spare self.new ≡ drop (items_len other.old) (spare self.old) }
+        ensures other_items { IsTrue result → items other.new ≡ [] }
+        ensures other_spare { IsTrue result → Frees A.Item.is_default (items_len other.old) other.old other.new }
+        ensures refused { result ≡ false → (self.new ≡ self.old) × (other.new ≡ other.old) }
+    {
+        if other.len() > self.capacity() - self.len() {
+            return false;
+        }
+        self.append(other);
+        true
+    }
+
+    /// Moves the items of `other` behind the list, and leaves `other` empty, as `append` does. Where they don't fit, `other`
+    /// comes back, and both are as they were.
+    // What may have gone into the result has no value after the call. So that `other` is empty at `None` is said by
+    // `append_if_fits`.
+    pub fn try_append<'o>(&mut self, other: &'o mut Self) -> Option<&'o mut Self>
+        ensures full { IsSome result ↔ (A.CAPACITY < items_len self.old + items_len other.old) }
+        ensures refused { IfSome result (λ back. (back.now ≡ other.old) × (self.new ≡ self.old)) }
+        ensures same_reference { IfSome result (λ back. back.ghost_name ≡ other.entry.ghost_name) }
+        ensures items { IfNone result (items self.new ≡ items self.old ++ items other.old) }
+        ensures spare { IfNone result (spare self.new ≡ drop (items_len other.old) (spare self.old)) }
+    {
+        if self.append_if_fits(other) {
+            return None;
+        }
+        Some(other)
+    }
+}

@@ -1,0 +1,76 @@
+//! Clones written into slots.
+ghost use Rattle.std.specs.Prelude.{◌≡◌, ◌+◌, ◌-◌, ◌<◌, ◌≤◌, ◌++◌, ℕ, All, length, take, drop, replicate, IsOk, OnOk, OnErr};
+ghost use Rattle.tinyvec_array.specs.Clones.{RefusedAt};
+
+use crate::Array;
+use std::alloc::AllocError;
+
+// Writes clones of `from` over the first slots of `to`.
+fn clone_over<T: Clone>(to: &mut [T], from: &[T]) -> Result<(), AllocError>
+    requires fits { length from.now ≤ length to.old }
+    requires clones { (x y : T) → T.is_clone x y → y ≡ x }
+    ensures ok { OnOk result (to.new ≡ from.now ++ drop (length from.now) to.old) }
+    ensures refused { OnErr result ((j : ℕ) × RefusedAt T.is_infallible from.now j × (to.new ≡ take j from.now ++ drop j to.old)) }
+    ensures len { length to.new ≡ length to.old }
+    ensures succeeds { All T.is_infallible from.now → IsOk result }
+{
+    for i in 0..from.len() {
+        to[i] = from[i].clone()?;
+    }
+    Ok(())
+}
+
+/// Writes clones of `from` into the slots from `start` on.
+pub(crate) fn put_clones<A: Array>(
+    array: &mut A,
+    start: usize,
+    from: &[A::Item],
+) -> Result<(), AllocError>
+where
+    A::Item: Clone,
+    requires in_bounds { start ≤ A.CAPACITY }
+    requires fits { length from.now ≤ A.CAPACITY - start }
+    requires clones { (x y : A.Item) → A.Item.is_clone x y → y ≡ x }
+    ensures ok { OnOk result (A.slots array.new ≡ take start (A.slots array.old) ++ from.now ++ drop (start + length from.now) (A.slots array.old)) }
+    ensures refused { OnErr result ((j : ℕ) × RefusedAt A.Item.is_infallible from.now j
+        × (A.slots array.new ≡ take start (A.slots array.old) ++ take j from.now ++ drop (start + j) (A.slots array.old))) }
+    ensures len { length (A.slots array.old) ≡ A.CAPACITY }
+    ensures succeeds { All A.Item.is_infallible from.now → IsOk result }
+{
+    clone_over(&mut array.as_slice_mut()[start..], from)
+}
+
+// Writes a clone of `x` into each slot.
+fn clone_through<T: Clone>(to: &mut [T], x: &T) -> Result<(), AllocError>
+    requires clones { (x y : T) → T.is_clone x y → y ≡ x }
+    ensures ok { OnOk result (to.new ≡ replicate (length to.old) x.now) }
+    ensures refused { OnErr result ((j : ℕ) × (j < length to.old) × ¬ (T.is_infallible x.now) × (to.new ≡ replicate j x.now ++ drop j to.old)) }
+    ensures len { length to.new ≡ length to.old }
+    ensures succeeds { T.is_infallible x.now → IsOk result }
+{
+    for i in 0..to.len() {
+        to[i] = x.clone()?;
+    }
+    Ok(())
+}
+
+/// Writes clones of `x` into the slots from `start` up to `end`.
+pub(crate) fn put_copies<A: Array>(
+    array: &mut A,
+    start: usize,
+    end: usize,
+    x: &A::Item,
+) -> Result<(), AllocError>
+where
+    A::Item: Clone,
+    requires start_le_end { start ≤ end }
+    requires in_bounds { end ≤ A.CAPACITY }
+    requires clones { (x y : A.Item) → A.Item.is_clone x y → y ≡ x }
+    ensures ok { OnOk result (A.slots array.new ≡ take start (A.slots array.old) ++ replicate (end - start) x.now ++ drop end (A.slots array.old)) }
+    ensures refused { OnErr result ((j : ℕ) × (j < end - start) × ¬ (A.Item.is_infallible x.now)
+        × (A.slots array.new ≡ take start (A.slots array.old) ++ replicate j x.now ++ drop (start + j) (A.slots array.old))) }
+    ensures len { length (A.slots array.old) ≡ A.CAPACITY }
+    ensures succeeds { A.Item.is_infallible x.now → IsOk result }
+{
+    clone_through(&mut array.as_slice_mut()[start..end], x)
+}

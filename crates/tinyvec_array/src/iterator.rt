@@ -1,0 +1,100 @@
+//! The iterator that moves the items out of a vector which it owns.
+ghost use Rattle.std.specs.Prelude.{◌≡◌, ◌≤◌, length, take, Some, IfSome};
+ghost use Rattle.std.specs.Iterator.{UpTo, item_count};
+ghost use Rattle.std.specs.Iterator.SizeHint.{IsWithinCount};
+ghost use Rattle.tinyvec_array.specs.Iterator.{GivesFirst, GivesLast};
+
+use crate::Array;
+use crate::slots::take_slot;
+use std::iter::FusedIterator;
+use std::marker::Model;
+
+/// Gives the items of a vector from both ends.
+#[derive(Drop)]
+pub struct ArrayVecIterator<A: Array> {
+    // The slots from `front` up to `back` hold what is left. Those that an item was taken from hold defaults.
+    front: usize,
+    back: usize,
+    array: A,
+}
+
+impl<A: Array> Model for ArrayVecIterator<A> {
+    ghost use Rattle.std.specs.Prelude.{◌≤◌, List, slice_range};
+
+    ghost Value = { List A.Item };
+
+    ghost view = { λ it. slice_range (A.slots it.array) it.front it.back };
+
+    ghost invariant = { λ it. (it.front ≤ it.back) × (it.back ≤ A.CAPACITY) };
+}
+
+impl<A: Array> ArrayVecIterator<A> {
+    // Gives what the first `len` slots hold.
+    pub(crate) fn over(array: A, len: usize) -> Self
+        requires { len ≤ A.CAPACITY }
+        ensures { result ≡ take len (A.slots array) }
+    {
+        ArrayVecIterator {
+            front: 0,
+            back: len,
+            array,
+        }
+    }
+
+    /// The items that are left.
+    pub fn as_slice(&self) -> &[A::Item]
+        ensures { result.now ≡ self.now }
+    {
+        &self.array.as_slice()[self.front..self.back]
+    }
+}
+
+impl<A: Array> Iterator for ArrayVecIterator<A> {
+    type Item = A::Item;
+
+    ghost next_gives = { GivesFirst };
+
+    ghost remaining = { item_count (λ left. left) };
+
+    fn next(&mut self) -> Option<A::Item> {
+        let index = self.front;
+        if index == self.back {
+            return None;
+        }
+        self.front = index + 1;
+        Some(take_slot(&mut self.array, index))
+    }
+
+    /// Both bounds are the number of items that are left.
+    fn size_hint(&self) -> (usize, Option<usize>)
+        ensures lower { IsWithinCount result.0 (item_count (λ left. left) self.now) }
+        ensures upper { IfSome result.1 (UpTo (item_count (λ left. left) self.now)) }
+        ensures exact { (result.0 ≡ length self.now) × (result.1 ≡ Some (length self.now)) }
+    {
+        let len = self.len();
+        (len, Some(len))
+    }
+}
+
+impl<A: Array> DoubleEndedIterator for ArrayVecIterator<A> {
+    ghost next_back_gives = { GivesLast };
+
+    fn next_back(&mut self) -> Option<A::Item> {
+        if self.front == self.back {
+            return None;
+        }
+        let index = self.back - 1;
+        self.back = index;
+        Some(take_slot(&mut self.array, index))
+    }
+}
+
+impl<A: Array> ExactSizeIterator for ArrayVecIterator<A> {
+    fn len(&self) -> usize {
+        // It tells the proof how many slots there are.
+        let _slots = self.array.as_slice();
+        self.back - self.front
+    }
+}
+
+impl<A: Array> FusedIterator for ArrayVecIterator<A> {}

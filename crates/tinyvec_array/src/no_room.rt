@@ -1,0 +1,16 @@
+//! What is handed back where an item found no room.
+
+/// `item` found no room, and `rest` gives what follows it.
+#[derive(Drop)]
+pub struct NoRoom<T, I> {
+    pub item: T,
+    pub rest: I,
+}
+
+/// `vec` holds what came before `item`, which found no room, and `rest` gives what follows it.
+#[derive(Drop)]
+pub struct FromIterRest<V, T, I> {
+    pub vec: V,
+    pub item: T,
+    pub rest: I,
+}

@@ -1,0 +1,38 @@
+//! Callers of edits.
+ghost use Rattle.std.specs.Prelude.{◌≡◌, ◌≤◌, ◌<◌, ◌++◌, ◌∷◌, [], pos, insert, remove};
+ghost use Rattle.tinyvec_array.specs.Slots.{items, items_len};
+
+use tinyvec_array::{Array, ArrayVec};
+
+/// Taken out and put back elsewhere.
+pub fn edited() -> [i32; 4]
+    ensures { result ≡ pos 1 ∷ pos 7 ∷ pos 3 ∷ pos 4 ∷ [] }
+{
+    let mut v = ArrayVec::from_array_len([1, 2, 3, 4], 3);
+    let _two = v.remove(1);
+    v.insert(1, 7);
+    v.into_inner()
+}
+
+/// An item moved to another place, in any vector.
+pub fn moved<A: Array>(v: &mut ArrayVec<A>, from: usize, to: usize)
+    requires from { from < items_len v.old }
+    requires to { to < items_len v.old }
+    ensures { (x : A.Item) × (items v.new ≡ insert (remove (items v.old) from) to x) }
+{
+    // It tells the proof that the list fits.
+    let _len = v.len();
+    let x = v.remove(from);
+    v.insert(to, x);
+}
+
+/// The list cut in two and joined again is the same list.
+pub fn cut_and_joined<A: Array>(v: &mut ArrayVec<A>, at: usize)
+    requires { at ≤ items_len v.old }
+    ensures { items v.new ≡ items v.old }
+{
+    // It tells the proof that the list fits.
+    let _len = v.len();
+    let mut tail = v.split_off(at);
+    v.append(&mut tail);
+}

@@ -1,0 +1,71 @@
+//! Callers that write through what a vector lends.
+ghost use Rattle.std.specs.Prelude.{◌≡◌, ◌<◌, ◌∷◌, [], pos, take, drop, slice_set};
+ghost use Rattle.tinyvec_array.specs.Slots.{items, spare, items_len};
+
+use tinyvec_array::{Array, ArrayVec};
+
+/// One item of four slots is written, through the slice of the items.
+pub fn first_written() -> [i32; 4]
+    ensures { result ≡ pos 9 ∷ pos 2 ∷ pos 3 ∷ pos 4 ∷ [] }
+{
+    let mut v = ArrayVec::from_array_len([1, 2, 3, 4], 2);
+    v.as_mut_slice()[0] = 9;
+    v.into_inner()
+}
+
+/// One item is written, by its index.
+pub fn second_written() -> [i32; 4]
+    ensures { result ≡ pos 1 ∷ pos 7 ∷ pos 3 ∷ pos 4 ∷ [] }
+{
+    let mut v = ArrayVec::from_array_len([1, 2, 3, 4], 3);
+    v[1] = 7;
+    v.into_inner()
+}
+
+/// A spare slot is written, through the array.
+pub fn written_behind() -> ArrayVec<[i32; 3]>
+    ensures items { items result ≡ pos 1 ∷ [] }
+    ensures spare { spare result ≡ pos 2 ∷ pos 9 ∷ [] }
+{
+    let mut v = ArrayVec::from_array_len([1, 2, 3], 1);
+    v.as_mut_inner()[2] = 9;
+    v
+}
+
+/// A spare slot is written, and then made an item.
+pub fn grabbed() -> [i32; 4]
+    ensures { result ≡ pos 1 ∷ pos 2 ∷ pos 9 ∷ pos 4 ∷ [] }
+{
+    let mut v = ArrayVec::from_array_len([1, 2, 3, 4], 2);
+    v.grab_spare_slice_mut()[0] = 9;
+    v.set_len(3);
+    v.into_inner()
+}
+
+/// The whole array is written: the length stays, and so does the border.
+pub fn replaced<T: Default + Drop, const N: usize>(v: &mut ArrayVec<[T; N]>, array: [T; N])
+    ensures items { items v.new ≡ take v.old.len array }
+    ensures spare { spare v.new ≡ drop v.old.len array }
+{
+    *v.as_mut_inner() = array;
+}
+
+/// One item of any vector: that item, and nothing else.
+pub fn set<A: Array>(v: &mut ArrayVec<A>, i: usize, x: A::Item)
+    requires { i < items_len v.old }
+    ensures items { items v.new ≡ slice_set (items v.old) i x }
+    ensures spare { spare v.new ≡ spare v.old }
+{
+    v[i] = x;
+}
+
+/// A copy and its original go on by themselves.
+pub fn copied() -> ([i32; 2], [i32; 2])
+    ensures one { result.0 ≡ pos 1 ∷ pos 0 ∷ [] }
+    ensures two { result.1 ≡ pos 1 ∷ pos 2 ∷ [] }
+{
+    let v = ArrayVec::from_array_len([1, 0], 1);
+    let mut w = v;
+    w.push(2);
+    (v.into_inner(), w.into_inner())
+}

@@ -1,0 +1,15 @@
+use Rattle.std.proofs.Common.{rules, ◌∙◌, ap, ◌++◌, codes, Some, FitsSigned}
+use Rattle.std.specs.Int.{w32}
+use Rattle.std.proofs.lemmas.Int.{to_z-of_z}
+use Rattle.std.proofs.lemmas.Slice.Eq.{strip_prefix_is}
+use Rattle.std.proofs.lemmas.Bool.Decides.{Decides-eqb}
+use Rattle.tinyvec_script.proofs.command.parse_call.Goals as goal
+
+pub returns-in-Some-strip_prefix-clause-some : goal.returns-in-Some-strip_prefix-clause-some
+returns-in-Some-strip_prefix-clause-some c =
+    let fits : FitsSigned w32 c.in_ok-index.number = search rules in
+    let rest = strip_prefix_is Decides-eqb c.args.text.now (codes "insert ") (Some c.in-Some-strip_prefix.rest) c.in-Some-strip_prefix.ensures.cases in
+    rw to_z-of_z (record {
+      spelled = rest ∙ ap (λ l. codes "insert " ++ l) c.in_ok-index.ensures.some;
+      fits = (search rules, fits);
+    })

@@ -1,0 +1,16 @@
+use Rattle.std.specs.Fmt.{decimal, signed_decimal}
+use Rattle.tinyvec_script.proofs.Words.{has_blank, one_cut}
+use Rattle.tinyvec_script.proofs.Indices.{decimal_is_word}
+use Rattle.tinyvec_script.proofs.command.parse_index_and_number.Goals as goal
+
+pub returns-in_err-index-clause-none : goal.returns-in_err-index-clause-none
+returns-in_err-index-clause-none c = rw c.from_residual.ensures (λ i z hi hz e.
+    has_blank c.args.text.now (decimal i) (signed_decimal z) c.in_err-index.ensures.none e)
+
+pub returns-in_err-parse_index-clause-none : goal.returns-in_err-parse_index-clause-none
+returns-in_err-parse_index-clause-none c = rw c.from_residual-in_err-parse_index.ensures (λ i z hi hz e.
+    c.in_err-parse_index.ensures.none i hi (one_cut c.args.text.now _ _ (decimal i) (signed_decimal z) c.in_ok-index.ensures.some c.in_ok-index.ensures.word e (decimal_is_word i hi)).0)
+
+pub returns-in_err-parse_number-clause-none : goal.returns-in_err-parse_number-clause-none
+returns-in_err-parse_number-clause-none c = rw c.from_residual-in_err-parse_number.ensures (λ i z hi hz e.
+    c.in_err-parse_number.ensures.none z hz (one_cut c.args.text.now _ _ (decimal i) (signed_decimal z) c.in_ok-index.ensures.some c.in_ok-index.ensures.word e (decimal_is_word i hi)).1)
