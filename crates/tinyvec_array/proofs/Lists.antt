@@ -1,5 +1,5 @@
 -- Facts on parts of a list.
-use Rattle.std.proofs.Common.{◌≡◌, ℕ, zero, suc, add-one, ◌+◌, ◌-◌, ◌<◌, ◌≤◌, List, [], ◌∷◌, ◌++◌, length, get_or, take, drop, set, slice_range, sym, ap, ◌∙◌, arith, rules, drop-set-lt, length-set, append_assoc, append-nil, take_at, take_all, length-append, length-drop}
+use Rattle.std.proofs.Common.{◌≡◌, ℕ, suc, ◌+◌, ◌-◌, ◌<◌, ◌≤◌, List, [], ◌∷◌, ◌++◌, length, get_or, take, drop, set, slice_range, sym, ap, ◌∙◌, arith, rules, drop-set-lt, length-set, append_assoc, append-nil, take_at, take_all, length-append, length-drop}
 use Rattle.std.specs.Prelude.{reverse}
 use Rattle.std.proofs.lemmas.List.{same_lists, places, get_or-set_same, get_or_default, drop-drop, drop_more, drop_at, drop_all, length-take-le, length-reverse, reverse-append, reverse-reverse}
 use Rattle.std.specs.List.{remove_range}
@@ -52,20 +52,6 @@ module _ {X : Type 0} (xs : List X) (i j : ℕ) (le : i ≤ j) (within : j ≤ l
 
   pub length-slice_range : length (slice_range xs i j) ≡ j - i
   length-slice_range = search (rules, places)
-
-module _ {X : Type 0} where
-  -- one more place written over
-  overwrite_next : (xs ys : List X) (i : ℕ) (y : X) → i < length xs → length ys ≡ length xs → y ≡ get_or xs i y
-      → set (take i xs ++ drop i ys) i y ≡ take (suc i) xs ++ drop (suc i) ys
-  overwrite_next [] ys i y lt long is = search (rules, arith)
-  overwrite_next (x ∷ xs) [] i y lt long is = search rules
-  overwrite_next (x ∷ xs) (z ∷ ys) zero y lt long is = ap (λ w. w ∷ ys) is
-  overwrite_next (x ∷ xs) (z ∷ ys) (suc i) y lt long is =
-      ap (λ l. x ∷ l) (overwrite_next xs ys i y (omega (arith, lt)) (omega (arith, long)) is)
-
-  pub overwrite_one : (xs ys : List X) (i : ℕ) (y : X) → i < length xs → length ys ≡ length xs → y ≡ get_or xs i y
-      → set (take i xs ++ drop i ys) i y ≡ take (i + 1) xs ++ drop (i + 1) ys
-  overwrite_one xs ys i y lt long is = rw add-one (overwrite_next xs ys i y lt long is)
 
 -- three reversals move the items from i up to j behind the others
 module _ {X : Type 0} (xs once twice : List X) (i j n : ℕ) (le : i ≤ j) (within : j ≤ n) (long : length xs ≡ n)

@@ -1,5 +1,5 @@
 //! Reads and writes of an array's slots.
-ghost use Rattle.std.specs.Prelude.{◌≡◌, ℕ, ◌+◌, ◌-◌, ◌<◌, ◌≤◌, List, [], ◌∷◌, ◌++◌, length, take, drop, reverse, slice_index_or, slice_set, slice_range, insert};
+ghost use Rattle.std.specs.Prelude.{◌≡◌, ◌-◌, ◌<◌, ◌≤◌, List, [], ◌∷◌, ◌++◌, length, take, drop, reverse, slice_index_or, slice_set, slice_range, insert};
 ghost use Rattle.std.specs.List.{remove_range};
 ghost use Rattle.tinyvec_array.specs.Slots.{AreDefaults};
 

@@ -7,6 +7,8 @@ use crate::{Array, ArrayVec, TryFromSliceError};
 
 impl<A: Array> ArrayVec<A> {
     /// A vector whose list is the first `len` slots of the array. An array with fewer slots comes back.
+    // Inlined, since LLVM takes minutes over a function that hands back one of two large values.
+    #[inline(always)]
     pub fn try_from_array_len(array: A, len: usize) -> Result<Self, A>
         ensures refused { IsErr result ↔ (A.CAPACITY < len) }
         ensures value { IfOk result (λ v. v ≡ split_at len (A.slots array)) }

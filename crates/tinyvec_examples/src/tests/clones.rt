@@ -78,21 +78,30 @@ fn texts(rt: HostRuntime) {
 }
 
 #[test]
-fn try_from_array_len(rt: HostRuntime) -> Result<(), Fail> {
+fn try_from_array_len(rt: HostRuntime) {
     let two = ArrayVec::try_from_array_len([1, 2, 3, 4], 2).expect(&rt, "two of four");
     assert_eq!(rt; two.as_slice(), [1, 2].as_slice());
     assert_eq!(rt; two.grab_spare_slice(), [3, 4].as_slice());
     let back = ArrayVec::try_from_array_len([1, 2, 3, 4], 5).err();
     assert_eq!(rt; back, Some([1, 2, 3, 4]));
-    Ok(())
 }
 
 #[test]
 fn many_slots(rt: HostRuntime) {
-    let full = ArrayVec::<[u8; 65536]>::try_from_array_len([7; 65536], 65536);
-    assert!(rt; matches!(&full, Ok(list) if list.len() == 65536));
-    let refused = ArrayVec::<[u8; 65536]>::try_from_array_len([7; 65536], 65537);
-    assert!(rt; matches!(&refused, Err(array) if array.iter().all(|byte| *byte == 7)));
+    let Ok(full) = ArrayVec::<[u8; 65536]>::try_from_array_len([7; 65536], 65536) else {
+        panic!(&rt; "there are as many slots");
+    };
+    assert_eq!(rt; full.len(), 65536);
+}
+
+#[test]
+fn one_more_than_many_slots(rt: HostRuntime) {
+    let Err(back) = ArrayVec::<[u8; 65536]>::try_from_array_len([7; 65536], 65537) else {
+        panic!(&rt; "there are fewer slots");
+    };
+    for x in back.as_slice() {
+        assert_eq!(rt; *x, 7);
+    }
 }
 
 #[test]
