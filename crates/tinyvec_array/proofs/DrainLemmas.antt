@@ -3,10 +3,10 @@ use Rattle.std.proofs.Common.{ℕ, List, Option, Some, None, [], ◌∷◌, leng
 use Rattle.std.specs.Iterator.{YieldsFirst, YieldsLast, SkipsThenYields, Yields}
 use Rattle.std.specs.Iterator.Runs.{YieldsInOrder, YieldsInReverse}
 use Rattle.std.proofs.iter.runs.Sources.{from_front, from_back, as_is, as_is_back}
-use Rattle.tinyvec_array.specs.Ends.{End, front, back, Asks}
+use Rattle.tinyvec_slots.specs.Ends.{End, front, back, Asks}
 use Rattle.tinyvec_array.specs.Drain.{drain_items, DrainSteps, DrainStepsBack, DrainKeeps, DrainsFromEnds}
 use Rattle.tinyvec_array.specs.declared.drain.ArrayVecDrain.{ArrayVecDrain}
-use Rattle.tinyvec_array.proofs.EndsLemmas.{Asks-takes}
+use Rattle.tinyvec_slots.proofs.EndsLemmas.{Asks-takes}
 
 module _ {A T : Type 0} where
   pub drain_runs : YieldsInOrder (DrainSteps {A = A} {T = T}) drain_items

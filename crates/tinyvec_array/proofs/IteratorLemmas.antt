@@ -3,7 +3,7 @@ use Rattle.std.proofs.Common.{List, length, ap}
 use Rattle.std.specs.Iterator.Runs.{YieldsInOrder, YieldsInReverse}
 use Rattle.std.proofs.iter.runs.Sources.{from_front, from_back, as_is, as_is_back}
 use Rattle.tinyvec_array.specs.Iterator.{GivesFirst, GivesLast, GivesFromEnds}
-use Rattle.tinyvec_array.proofs.EndsLemmas.{Asks-takes}
+use Rattle.tinyvec_slots.proofs.EndsLemmas.{Asks-takes}
 
 module _ {T : Type 0} where
   pub gives_runs : YieldsInOrder (GivesFirst {T = T}) (λ left. left)

@@ -1,10 +1,4 @@
-pub mod Lists
-pub mod EndsLemmas
 pub mod DrainLemmas
-pub mod SlotsLemmas
+pub mod DrainedLemmas
 pub mod IteratorLemmas
 pub mod IteratingLemmas
-pub mod FiltersLemmas
-pub mod CloneLemmas
-pub mod CloneFromLemmas
-pub mod FillingLemmas

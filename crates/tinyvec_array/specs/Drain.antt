@@ -1,8 +1,8 @@
 -- What a contract sees of an `ArrayVecDrain`.
 use Rattle.std.specs.Prelude.{◌≡◌, ℕ, ◌-◌, ◌≤◌, List, [], ◌∷◌, ◌++◌, length, drop, slice_range, Option, MatchOption}
 use Rattle.std.specs.Borrow.{GName}
-use Rattle.tinyvec_array.specs.Slots.{Slots, AreDefaults, items, spare}
-use Rattle.tinyvec_array.specs.Ends.{End, TakesFromEnds, Asks}
+use Rattle.tinyvec_slots.specs.Slots.{Slots, AreDefaults, items, spare}
+use Rattle.tinyvec_slots.specs.Ends.{End, TakesFromEnds, Asks}
 use Rattle.tinyvec_array.specs.declared.drain.ArrayVecDrain.{ArrayVecDrain}
 
 module _ {A T : Type 0} where

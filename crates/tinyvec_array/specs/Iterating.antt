@@ -4,7 +4,7 @@ use Rattle.std.specs.Slice.Iter.{iter_mut_name}
 use Rattle.std.specs.declared.slice.IterMut.{IterMut}
 use Rattle.std.specs.declared.default.Default as Default
 use Rattle.tinyvec_array.specs.declared.array.Array as Slots
-use Rattle.tinyvec_array.specs.Slots.{Slots as Value, with_items}
+use Rattle.tinyvec_slots.specs.Slots.{Slots as Value, with_items}
 use Rattle.tinyvec_array.specs.contracts.array_vec.ArrayVec.{the_row}
 
 module _ (A I : RattleType) (a : Slots.Ghosts A.Denot I.Denot) (d : Default.Ghosts I.Denot) (v : MutBor (Value I.Denot)) where

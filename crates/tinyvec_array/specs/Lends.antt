@@ -3,7 +3,7 @@ use Rattle.std.specs.Prelude.{ℕ, List}
 use Rattle.std.specs.Borrow.{Lends, Fml, RattleType, MutBor, Array}
 use Rattle.std.specs.declared.default.Default as Default
 use Rattle.tinyvec_array.specs.declared.array.Array as Slots
-use Rattle.tinyvec_array.specs.Slots.{Slots as Value, with_items, with_slot, with_spare}
+use Rattle.tinyvec_slots.specs.Slots.{Slots as Value, with_items, with_slot, with_spare}
 use Rattle.tinyvec_array.specs.contracts.array_vec.ArrayVec.{the_row}
 
 module _ (A I : RattleType) (a : Slots.Ghosts A.Denot I.Denot) (d : Default.Ghosts I.Denot) (v : MutBor (Value I.Denot)) where

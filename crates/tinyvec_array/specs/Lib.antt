@@ -1,11 +1,5 @@
-pub mod Slots
-pub mod Cut
-pub mod Ends
 pub mod Parts
 pub mod Lends
 pub mod Drain
 pub mod Iterator
 pub mod Iterating
-pub mod Filters
-pub mod Clones
-pub mod Filling

@@ -1,7 +1,7 @@
 //! `ArrayVec`.
 ghost use Rattle.std.specs.Prelude.{◌≡◌, ◌<◌, ◌≤◌, ◌==◌, length, List, ℕ, slice_index_or, slice_set, slice_range, ◌++◌, ◌-◌, drop};
 ghost use Rattle.std.specs.List.{remove_range};
-ghost use Rattle.tinyvec_array.specs.Slots.{items, spare, items_len, all_slots, split_at, AreDefaults};
+ghost use Rattle.tinyvec_slots.specs.Slots.{items, spare, items_len, all_slots, split_at, AreDefaults};
 
 mod clones;
 mod draining;
@@ -31,7 +31,7 @@ pub struct ArrayVec<A: Array> {
 
 impl<A: Array> Model for ArrayVec<A> {
     ghost use Rattle.std.specs.Prelude.{◌≡◌, ◌≤◌};
-    ghost use Rattle.tinyvec_array.specs.Slots.{Slots, slots_code};
+    ghost use Rattle.tinyvec_slots.specs.Slots.{Slots, slots_code};
 
     ghost Value = { Slots A.Item };
 
@@ -156,7 +156,7 @@ impl<A: Array> ArrayVec<A> {
 }
 
 impl<A: Array> AsSlice<A::Item> for ArrayVec<A> {
-    ghost use Rattle.tinyvec_array.specs.Slots.{items as list};
+    ghost use Rattle.tinyvec_slots.specs.Slots.{items as list};
 
     ghost items = { list };
 

@@ -1,24 +1,10 @@
-//! Clones written into slots.
+//! Clones written into an array's slots.
 ghost use Rattle.std.specs.Prelude.{◌≡◌, ◌+◌, ◌-◌, ◌<◌, ◌≤◌, ◌++◌, ℕ, All, length, take, drop, replicate, IsOk, OnOk, OnErr};
-ghost use Rattle.tinyvec_array.specs.Clones.{RefusedAt};
+ghost use Rattle.tinyvec_slots.specs.Clones.{RefusedAt};
 
 use crate::Array;
 use std::alloc::AllocError;
-
-// Writes clones of `from` over the first slots of `to`.
-fn clone_over<T: Clone>(to: &mut [T], from: &[T]) -> Result<(), AllocError>
-    requires fits { length from.now ≤ length to.old }
-    requires clones { (x y : T) → T.is_clone x y → y ≡ x }
-    ensures ok { OnOk result (to.new ≡ from.now ++ drop (length from.now) to.old) }
-    ensures refused { OnErr result ((j : ℕ) × RefusedAt T.is_infallible from.now j × (to.new ≡ take j from.now ++ drop j to.old)) }
-    ensures len { length to.new ≡ length to.old }
-    ensures succeeds { All T.is_infallible from.now → IsOk result }
-{
-    for i in 0..from.len() {
-        to[i] = from[i].clone()?;
-    }
-    Ok(())
-}
+use tinyvec_slots::{clone_over, clone_through};
 
 /// Writes clones of `from` into the slots from `start` on.
 pub(crate) fn put_clones<A: Array>(
@@ -38,20 +24,6 @@ where
     ensures succeeds { All A.Item.is_infallible from.now → IsOk result }
 {
     clone_over(&mut array.as_slice_mut()[start..], from)
-}
-
-// Writes a clone of `x` into each slot.
-fn clone_through<T: Clone>(to: &mut [T], x: &T) -> Result<(), AllocError>
-    requires clones { (x y : T) → T.is_clone x y → y ≡ x }
-    ensures ok { OnOk result (to.new ≡ replicate (length to.old) x.now) }
-    ensures refused { OnErr result ((j : ℕ) × (j < length to.old) × ¬ (T.is_infallible x.now) × (to.new ≡ replicate j x.now ++ drop j to.old)) }
-    ensures len { length to.new ≡ length to.old }
-    ensures succeeds { T.is_infallible x.now → IsOk result }
-{
-    for i in 0..to.len() {
-        to[i] = x.clone()?;
-    }
-    Ok(())
 }
 
 /// Writes clones of `x` into the slots from `start` up to `end`.

@@ -3,13 +3,13 @@ ghost use Rattle.std.specs.Prelude.{◌≡◌, ◌≤◌, ◌++◌, length, Some
 ghost use Rattle.std.specs.Iterator.{at_most, UpTo};
 ghost use Rattle.std.specs.Iterator.SizeHint.{IsWithinCount};
 ghost use Rattle.std.specs.Iterator.Runs.{YieldsInOrder, YieldsInReverse};
-ghost use Rattle.tinyvec_array.specs.Slots.{items, spare, items_len};
-ghost use Rattle.tinyvec_array.specs.Cut.{IsRangeOf, before, removed, after};
+ghost use Rattle.tinyvec_slots.specs.Slots.{items, spare, items_len};
+ghost use Rattle.tinyvec_slots.specs.Cut.{IsRangeOf, before, removed, after};
 
-use crate::range::resolve;
 use crate::{Array, ArrayVec};
 use std::iter::FusedIterator;
 use std::ops::RangeBounds;
+use tinyvec_slots::resolve;
 
 /// Gives the items of a range, which the vector has lost already. When it ends, their slots hold defaults.
 pub struct ArrayVecDrain<'a, A: Array> {

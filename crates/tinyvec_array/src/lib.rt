@@ -5,12 +5,10 @@ mod array;
 mod array_vec;
 mod clone_slots;
 mod drain;
-mod filtering;
 mod iterator;
 mod lent;
 mod no_memory;
 mod no_room;
-mod range;
 mod slots;
 mod try_from_slice_error;
 

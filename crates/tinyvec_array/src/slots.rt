@@ -1,13 +1,11 @@
 //! Reads and writes of an array's slots.
-ghost use Rattle.std.specs.Prelude.{◌≡◌, ◌-◌, ◌<◌, ◌≤◌, List, [], ◌∷◌, ◌++◌, length, take, drop, reverse, slice_index_or, slice_set, slice_range, insert};
+ghost use Rattle.std.specs.Prelude.{◌≡◌, ◌-◌, ◌<◌, ◌≤◌, List, [], ◌∷◌, ◌++◌, length, take, drop, slice_index_or, slice_set, slice_range, insert};
 ghost use Rattle.std.specs.List.{remove_range};
-ghost use Rattle.tinyvec_array.specs.Slots.{AreDefaults};
+ghost use Rattle.tinyvec_slots.specs.Slots.{AreDefaults};
 
 use crate::Array;
 use std::mem;
-
-/// Up to so many items are turned rather than rotated.
-const FEW: usize = 64;
+use tinyvec_slots::{last_to, part_to_end, reset};
 
 /// Writes `x` into the slot at `i`.
 pub(crate) fn put<A: Array>(array: &mut A, i: usize, x: A::Item)
@@ -28,15 +26,6 @@ pub(crate) fn take_slot<A: Array>(array: &mut A, i: usize) -> A::Item
     mem::take(&mut array.as_slice_mut()[i])
 }
 
-/// Writes a default into each slot.
-fn reset<T: Default + Drop>(slots: &mut [T])
-    ensures { AreDefaults T.is_default (length slots.old) slots.new }
-{
-    for slot in slots.iter_mut() {
-        *slot = T::default();
-    }
-}
-
 /// Writes a default into each slot from `start` up to `end`.
 pub(crate) fn clear<A: Array>(array: &mut A, start: usize, end: usize)
     requires start_le_end { start ≤ end }
@@ -45,53 +34,6 @@ pub(crate) fn clear<A: Array>(array: &mut A, start: usize, end: usize)
     ensures len { length (A.slots array.old) ≡ A.CAPACITY }
 {
     reset(&mut array.as_slice_mut()[start..end]);
-}
-
-// Moves the items from `start` up to `end` behind the others.
-fn move_to_end<T>(items: &mut [T], start: usize, end: usize)
-    requires start_le_end { start ≤ end }
-    requires in_bounds { end ≤ length items.old }
-    ensures { items.new ≡ remove_range items.old start end ++ slice_range items.old start end }
-{
-    if end == items.len() {
-        return;
-    }
-    // A rotation clears a room of its own first, unless it goes by one. For few items that costs more than turning them.
-    if end - start != 1 && items.len() - start <= FEW {
-        turn(items, start, end);
-        return;
-    }
-    items[start..].rotate_left(end - start);
-}
-
-// The same by three reversals.
-fn turn<T>(items: &mut [T], start: usize, end: usize)
-    requires start_le_end { start ≤ end }
-    requires in_bounds { end ≤ length items.old }
-    ensures { items.new ≡ remove_range items.old start end ++ slice_range items.old start end }
-{
-    let len = items.len();
-    reverse_part(items, start, end);
-    reverse_part(items, end, len);
-    reverse_part(items, start, len);
-}
-
-fn reverse_part<T>(items: &mut [T], start: usize, end: usize)
-    requires start_le_end { start ≤ end }
-    requires in_bounds { end ≤ length items.old }
-    ensures { items.new ≡ take start items.old ++ reverse (slice_range items.old start end) ++ drop end items.old }
-{
-    items[start..end].reverse();
-}
-
-// The same below `len`.
-fn part_to_end<T>(slots: &mut [T], start: usize, end: usize, len: usize)
-    requires start_le_end { start ≤ end }
-    requires in_list { end ≤ len }
-    requires in_bounds { len ≤ length slots.old }
-    ensures { slots.new ≡ remove_range (take len slots.old) start end ++ slice_range (take len slots.old) start end ++ drop len slots.old }
-{
-    move_to_end(&mut slots[..len], start, end);
 }
 
 /// Moves the slots from `start` up to `end` behind the others below `len`.
@@ -103,23 +45,6 @@ pub(crate) fn slots_to_end<A: Array>(array: &mut A, start: usize, end: usize, le
     ensures len { length (A.slots array.old) ≡ A.CAPACITY }
 {
     part_to_end(array.as_slice_mut(), start, end, len);
-}
-
-// Moves the last item to `index`, and the items from there on up.
-fn move_last<T>(items: &mut [T], index: usize)
-    requires { index < length items.old }
-    ensures { (front : List T) (last : T) → items.old ≡ front ++ last ∷ [] → items.new ≡ insert front index last }
-{
-    items[index..].rotate_right(1);
-}
-
-// The same below `len`.
-fn last_to<T>(slots: &mut [T], index: usize, len: usize)
-    requires in_list { index < len }
-    requires in_bounds { len ≤ length slots.old }
-    ensures { (front : List T) (last : T) → take len slots.old ≡ front ++ last ∷ [] → slots.new ≡ insert front index last ++ drop len slots.old }
-{
-    move_last(&mut slots[..len], index);
 }
 
 /// Moves the last slot below `len` to `index`, and those from there on up.

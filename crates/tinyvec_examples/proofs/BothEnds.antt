@@ -1,7 +1,7 @@
 -- What a drain gives from its two ends, read off its clause `both_ends`.
 use Rattle.std.proofs.Common.{◌≡◌, ◌-◌, List, [], ◌∷◌, ◌++◌, length, take, drop, map, replicate, Option, Some, None, slice_range, arith}
 use Rattle.std.specs.Prelude.{reverse}
-use Rattle.tinyvec_array.specs.Ends.{front, back, fronts, backs, from_front, from_back, TakesFromEnds}
+use Rattle.tinyvec_slots.specs.Ends.{front, back, fronts, backs, from_front, from_back, TakesFromEnds}
 
 module _ {T : Type 0} (x y z : T) (r s : Option T) (left : List T) where
   -- of three items, what came from the front and from the back, where two were given

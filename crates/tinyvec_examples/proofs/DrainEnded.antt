@@ -1,9 +1,9 @@
 -- What an array of numbers is once a drain of its vector ended.
 use Rattle.std.proofs.Common.{◌≡◌, ℤ, pos, ◌++◌, replicate}
-use Rattle.tinyvec_array.specs.Slots.{Slots, all_slots}
+use Rattle.tinyvec_slots.specs.Slots.{Slots, all_slots}
 use Rattle.tinyvec_array.specs.Drain.{DrainCanStep, DrainKeeps, DrainLeaves, drain_kept, drain_count, drain_spare}
 use Rattle.tinyvec_array.specs.declared.drain.ArrayVecDrain.{ArrayVecDrain}
-use Rattle.tinyvec_array.proofs.SlotsLemmas.{drained}
+use Rattle.tinyvec_array.proofs.DrainedLemmas.{drained}
 
 -- the emptied slots hold 0
 pub numbers_left : {A : Type 0} (first last : ArrayVecDrain A ℤ) (v : Slots ℤ) → DrainCanStep first → DrainKeeps first last

@@ -1,7 +1,7 @@
 //! Callers of a drain.
 ghost use Rattle.std.specs.Prelude.{◌≡◌, ◌≤◌, ◌-◌, ◌++◌, ◌∷◌, [], pos, Some, slice_get};
-ghost use Rattle.tinyvec_array.specs.Slots.{items, items_len, SlotRule};
-ghost use Rattle.tinyvec_array.specs.Cut.{IsRangeOf, before, removed, after};
+ghost use Rattle.tinyvec_slots.specs.Slots.{items, items_len, SlotRule};
+ghost use Rattle.tinyvec_slots.specs.Cut.{IsRangeOf, before, removed, after};
 
 use std::ops::{Bound, RangeBounds};
 use tinyvec_array::{Array, ArrayVec};

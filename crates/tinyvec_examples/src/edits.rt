@@ -1,6 +1,6 @@
 //! Callers of edits.
 ghost use Rattle.std.specs.Prelude.{◌≡◌, ◌≤◌, ◌<◌, ◌++◌, ◌∷◌, [], pos, insert, remove};
-ghost use Rattle.tinyvec_array.specs.Slots.{items, items_len};
+ghost use Rattle.tinyvec_slots.specs.Slots.{items, items_len};
 
 use tinyvec_array::{Array, ArrayVec};
 

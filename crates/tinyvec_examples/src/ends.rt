@@ -1,6 +1,6 @@
 //! Callers of `push`, `try_push` and `pop`.
 ghost use Rattle.std.specs.Prelude.{◌≡◌, ◌<◌, List, ◌∷◌, [], ◌++◌, pos, drop, Some, None};
-ghost use Rattle.tinyvec_array.specs.Slots.{items, spare, items_len, AreDefaults};
+ghost use Rattle.tinyvec_slots.specs.Slots.{items, spare, items_len, AreDefaults};
 
 use tinyvec_array::{Array, ArrayVec};
 

@@ -1,6 +1,6 @@
 -- Runs, one call longer.
 use Rattle.std.proofs.Common.{ℕ, List, [], ◌∷◌, ◌++◌, refl, subst}
-use Rattle.tinyvec_array.specs.Slots.{Slots}
+use Rattle.tinyvec_slots.specs.Slots.{Slots}
 use Rattle.tinyvec_script.specs.declared.call.Call.{Call}
 use Rattle.tinyvec_script.specs.declared.call.Answer.{Answer}
 use Rattle.tinyvec_script.specs.Step.{ArrayStep, ArrayRun}

@@ -1,7 +1,7 @@
 -- The script as a relation of whole texts: what is read, and what is written.
 use Rattle.std.specs.Prelude.{◌≡◌, ◌≢◌, ℕ, List, [], ◌∷◌, ◌++◌, ℤ, pos, codes, replicate}
 use Rattle.std.specs.List.{flat_map, AllByRecursion}
-use Rattle.tinyvec_array.specs.Slots.{Slots, split_at}
+use Rattle.tinyvec_slots.specs.Slots.{Slots, split_at}
 use Rattle.tinyvec_script.specs.declared.call.Call.{Call}
 use Rattle.tinyvec_script.specs.declared.call.Answer.{Answer}
 use Rattle.tinyvec_script.specs.Step.{ArrayStep}

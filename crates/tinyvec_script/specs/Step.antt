@@ -2,8 +2,8 @@
 use Rattle.std.specs.Prelude.{◌≡◌, ℕ, ◌<◌, ◌≤◌, List, [], ◌∷◌, ◌++◌, take, insert, remove, slice_get, Some}
 use Rattle.std.specs.List.{swap_remove}
 use Rattle.std.specs.declared.ops.Bound.TheVariants.{Included, Excluded}
-use Rattle.tinyvec_array.specs.Slots.{Slots, items, items_len, all_slots, split_at, SlotRule}
-use Rattle.tinyvec_array.specs.Cut.{IsRangeOf, before, removed, after}
+use Rattle.tinyvec_slots.specs.Slots.{Slots, items, items_len, all_slots, split_at, SlotRule}
+use Rattle.tinyvec_slots.specs.Cut.{IsRangeOf, before, removed, after}
 use Rattle.tinyvec_script.specs.declared.call.Call.{Call}
 use Rattle.tinyvec_script.specs.declared.call.Call.TheVariants.{Push, Pop, Insert, Remove, SwapRemove, Truncate, Drain, SetLen}
 use Rattle.tinyvec_script.specs.declared.call.Answer.{Answer}

@@ -1,6 +1,6 @@
 //! One call of an `ArrayVec`, answered.
 ghost use Rattle.std.specs.Prelude.{◌≡◌, ◌-◌, ◌≤◌, [], vec_capacity};
-ghost use Rattle.tinyvec_array.specs.Slots.{items_len};
+ghost use Rattle.tinyvec_slots.specs.Slots.{items_len};
 ghost use Rattle.tinyvec_script.specs.Step.{ArrayStep, ArrayDrains};
 
 use crate::{Answer, Call};

@@ -1,7 +1,7 @@
 //! Copies and clones.
 ghost use Rattle.std.specs.Prelude.{◌≡◌, ℕ, All, min, length, IfOk, OnOk, OnErr, IsOk, ⊤};
-ghost use Rattle.tinyvec_array.specs.Slots.{items, items_len, all_slots, SlotRule};
-ghost use Rattle.tinyvec_array.specs.Clones.{RefusedAt, ClonesInPart};
+ghost use Rattle.tinyvec_slots.specs.Slots.{items, items_len, all_slots, SlotRule};
+ghost use Rattle.tinyvec_slots.specs.Clones.{RefusedAt, ClonesInPart};
 
 use crate::clone_slots::put_clones;
 use crate::{Array, ArrayVec};

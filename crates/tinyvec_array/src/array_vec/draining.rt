@@ -1,6 +1,6 @@
 //! The whole list, moved into a `Vec`.
 ghost use Rattle.std.specs.Prelude.{◌≡◌, ◌+◌, ◌^◌, ◌≤◌, [], ◌++◌, length, vec_len, vec_capacity, IsOk, IsErr, IfOk, OnOk, OnErr};
-ghost use Rattle.tinyvec_array.specs.Slots.{items, spare, items_len, AreDefaults, Frees};
+ghost use Rattle.tinyvec_slots.specs.Slots.{items, spare, items_len, AreDefaults, Frees};
 
 use crate::{Array, ArrayVec};
 use std::alloc::{AllocError, Global};

@@ -1,7 +1,7 @@
 //! Items put in and taken out at a place.
 ghost use Rattle.std.specs.Prelude.{◌≡◌, ◌+◌, ◌-◌, ◌<◌, ◌≤◌, ◌↔◌, take, drop, slice_index_or, remove, insert, IsSome, IfSome, IfNone};
 ghost use Rattle.std.specs.List.{swap_remove};
-ghost use Rattle.tinyvec_array.specs.Slots.{items, spare, items_len, all_slots, split_at, AreDefaults, Frees};
+ghost use Rattle.tinyvec_slots.specs.Slots.{items, spare, items_len, all_slots, split_at, AreDefaults, Frees};
 
 use crate::slots::{clear, last_slot_to};
 use crate::{Array, ArrayVec};

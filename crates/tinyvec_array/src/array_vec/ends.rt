@@ -1,6 +1,6 @@
 //! The last item, pushed and popped.
 ghost use Rattle.std.specs.Prelude.{◌≡◌, ◌-◌, ◌<◌, ◌↔◌, [], ◌∷◌, ◌++◌, take, drop, slice_get, slice_index_or, IsSome, OnSome, IfNone, IfSome};
-ghost use Rattle.tinyvec_array.specs.Slots.{items, spare, items_len, Frees};
+ghost use Rattle.tinyvec_slots.specs.Slots.{items, spare, items_len, Frees};
 
 use crate::slots::{put, take_slot};
 use crate::{Array, ArrayVec};

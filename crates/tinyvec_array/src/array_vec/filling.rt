@@ -2,8 +2,8 @@
 ghost use Rattle.std.specs.Prelude.{◌≡◌, ◌-◌, ◌≤◌, ◌↔◌, [], ◌∷◌, ◌++◌, List, length, drop, take, MatchResult, IsOk, IfOk, OnErr, IfErr, Some};
 ghost use Rattle.std.specs.List.{AppendsResults};
 ghost use Rattle.std.specs.Iterator.{Drains, YieldsThen};
-ghost use Rattle.tinyvec_array.specs.Filling.{YieldsUpTo, ShowsItems};
-ghost use Rattle.tinyvec_array.specs.Slots.{items, spare, items_len, AreDefaults, SlotRule};
+ghost use Rattle.tinyvec_slots.specs.Filling.{YieldsUpTo, ShowsItems};
+ghost use Rattle.tinyvec_slots.specs.Slots.{items, spare, items_len, AreDefaults, SlotRule};
 
 use crate::{Array, ArrayVec, FromIterRest, NoRoom};
 

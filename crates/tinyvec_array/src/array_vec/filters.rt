@@ -3,10 +3,10 @@ ghost use Rattle.std.specs.Prelude.{◌≡◌, ◌-◌, ◌≤◌};
 ghost use Rattle.std.specs.Fn.{CalledAt, CalledAtMut, CalledAtPairMut, ComparesKeys};
 ghost use Rattle.std.specs.List.{dedup as dedup_list};
 ghost use Rattle.std.specs.List.Retain.{IsFiltered, RetainsInTurn, IsDeduped};
-ghost use Rattle.tinyvec_array.specs.Slots.{items, items_len, Frees};
+ghost use Rattle.tinyvec_slots.specs.Slots.{items, items_len, Frees};
 
-use crate::filtering::{dedup_in_front, dedup_keys_in_front, retain_in_front, retain_mut_in_front};
 use crate::{Array, ArrayVec};
+use tinyvec_slots::{dedup_in_front, dedup_keys_in_front, retain_in_front, retain_mut_in_front};
 
 impl<A: Array> ArrayVec<A> {
     /// Asks `f` about each item in turn, and keeps those at which it answers `true`.

@@ -1,7 +1,7 @@
 //! Growing by clones.
 ghost use Rattle.std.specs.Prelude.{◌≡◌, ◌-◌, ◌<◌, ◌≤◌, ◌++◌, ℕ, All, length, take, drop, replicate, IfErr, IsOk, OnOk, OnErr};
-ghost use Rattle.tinyvec_array.specs.Slots.{items, spare, items_len, SlotRule};
-ghost use Rattle.tinyvec_array.specs.Clones.{RefusedAt};
+ghost use Rattle.tinyvec_slots.specs.Slots.{items, spare, items_len, SlotRule};
+ghost use Rattle.tinyvec_slots.specs.Clones.{RefusedAt};
 
 use crate::clone_slots::{put_clones, put_copies};
 use crate::{Array, ArrayVec, NoMemory};

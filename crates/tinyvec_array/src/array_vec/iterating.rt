@@ -4,7 +4,7 @@ ghost use Rattle.std.specs.Borrow.{sem};
 ghost use Rattle.std.specs.Slice.Iter.{iter_rest, iter_mut_rest, iter_steps, iter_mut_steps, iter_mut_steps_back};
 ghost use Rattle.std.specs.Iterator.Adapters.{IterYieldsInOrder, IterYieldsInReverse};
 ghost use Rattle.std.specs.Iterator.Runs.{EveryRun, ItemsMapTo, ItemsMapToReversed, YieldsInOrder, YieldsInReverse};
-ghost use Rattle.tinyvec_array.specs.Slots.{items, items_len, with_items};
+ghost use Rattle.tinyvec_slots.specs.Slots.{items, items_len, with_items};
 ghost use Rattle.tinyvec_array.specs.Iterator.{GivesFirst, GivesLast, GivesFromEnds, IteratesOver};
 
 use crate::{Array, ArrayVec, ArrayVecIterator};

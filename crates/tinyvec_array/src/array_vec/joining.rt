@@ -1,6 +1,6 @@
 //! Lists joined, and emptied.
 ghost use Rattle.std.specs.Prelude.{◌≡◌, ◌+◌, ◌-◌, ◌<◌, ◌≤◌, ◌↔◌, ◌++◌, [], drop, length, false, IsTrue, IsSome, IfSome, IfNone};
-ghost use Rattle.tinyvec_array.specs.Slots.{items, spare, items_len, AreDefaults, Frees};
+ghost use Rattle.tinyvec_slots.specs.Slots.{items, spare, items_len, AreDefaults, Frees};
 
 use crate::{Array, ArrayVec};
 use std::mem;

@@ -1,7 +1,7 @@
 //! Items, spare slots and the array, lent for writing.
 ghost use Rattle.std.specs.Prelude.{◌≡◌, ◌<◌, slice_index_or};
 ghost use Rattle.std.specs.Borrow.{sem};
-ghost use Rattle.tinyvec_array.specs.Slots.{items, spare, items_len, all_slots};
+ghost use Rattle.tinyvec_slots.specs.Slots.{items, spare, items_len, all_slots};
 
 use crate::lent::{part_of, slot_of};
 use crate::{Array, ArrayVec};

@@ -1,6 +1,6 @@
 //! Making an `ArrayVec`.
 ghost use Rattle.std.specs.Prelude.{◌≡◌, ◌≤◌, []};
-ghost use Rattle.tinyvec_array.specs.Slots.{items, spare, all_slots, split_at, AreDefaults};
+ghost use Rattle.tinyvec_slots.specs.Slots.{items, spare, all_slots, split_at, AreDefaults};
 
 use crate::{Array, ArrayVec};
 

@@ -1,7 +1,7 @@
 //! Making an `ArrayVec` from what may be too long.
 ghost use Rattle.std.specs.Prelude.{◌≡◌, ◌-◌, ◌<◌, ◌≤◌, ◌↔◌, ℕ, All, length, IfOk, IfErr, IsErr, IsOk};
-ghost use Rattle.tinyvec_array.specs.Slots.{items, spare, split_at, AreDefaults};
-ghost use Rattle.tinyvec_array.specs.Clones.{RefusedAt};
+ghost use Rattle.tinyvec_slots.specs.Slots.{items, spare, split_at, AreDefaults};
+ghost use Rattle.tinyvec_slots.specs.Clones.{RefusedAt};
 
 use crate::{Array, ArrayVec, TryFromSliceError};
 

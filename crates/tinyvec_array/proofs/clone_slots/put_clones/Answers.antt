@@ -1,6 +1,6 @@
 use Rattle.std.proofs.Common.{◌<◌, ◌-◌, length, take, ◌∙◌, arith}
 use Rattle.std.proofs.lemmas.Result.{on_err_weaker}
-use Rattle.tinyvec_array.proofs.CloneLemmas.{written_part}
+use Rattle.tinyvec_slots.proofs.CloneLemmas.{written_part}
 use Rattle.tinyvec_array.proofs.clone_slots.put_clones.Goals as goal
 
 pub returns-clause-refused : goal.returns-clause-refused

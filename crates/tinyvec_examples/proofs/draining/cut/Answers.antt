@@ -1,7 +1,7 @@
 use Rattle.std.proofs.Common.{rules}
-use Rattle.tinyvec_array.specs.Slots.{SlotRule}
+use Rattle.tinyvec_slots.specs.Slots.{SlotRule}
 use Rattle.tinyvec_array.proofs.DrainLemmas.{DrainKeeps-refl}
-use Rattle.tinyvec_array.proofs.SlotsLemmas.{drained_slots}
+use Rattle.tinyvec_array.proofs.DrainedLemmas.{drained_slots}
 use Rattle.tinyvec_examples.proofs.draining.cut.Goals as goal
 
 pub returns-clause-spare : goal.returns-clause-spare

@@ -1,5 +1,5 @@
 use Rattle.std.proofs.Common.{◌≡◌, ◌∷◌, [], pos, refl, ◌∙◌, rules}
-use Rattle.tinyvec_array.specs.Slots.{all_slots}
+use Rattle.tinyvec_slots.specs.Slots.{all_slots}
 use Rattle.tinyvec_array.proofs.DrainLemmas.{DrainKeeps-refl}
 use Rattle.tinyvec_examples.proofs.DrainEnded.{numbers_left}
 use Rattle.tinyvec_examples.proofs.draining.dropped.Goals as goal

@@ -1,7 +1,7 @@
 use Rattle.std.proofs.Common.{◌≡◌, ◌∷◌, [], pos, refl, subst, ◌∙◌, rules}
-use Rattle.tinyvec_array.specs.Slots.{all_slots}
+use Rattle.tinyvec_slots.specs.Slots.{all_slots}
 use Rattle.tinyvec_array.specs.Drain.{drain_items}
-use Rattle.tinyvec_array.specs.Ends.{front, back, TakesFromEnds}
+use Rattle.tinyvec_slots.specs.Ends.{front, back, TakesFromEnds}
 use Rattle.tinyvec_examples.proofs.BothEnds.{one_from_each_end}
 use Rattle.tinyvec_examples.proofs.DrainEnded.{numbers_left}
 use Rattle.tinyvec_examples.proofs.draining.from_both_ends.Goals as goal

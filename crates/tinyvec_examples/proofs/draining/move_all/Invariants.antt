@@ -1,5 +1,5 @@
 use Rattle.std.proofs.Common.{◌≡◌, ◌++◌}
-use Rattle.tinyvec_array.specs.Slots.{items}
+use Rattle.tinyvec_slots.specs.Slots.{items}
 use Rattle.tinyvec_array.specs.Drain.{DrainKeeps, drain_items}
 use Rattle.tinyvec_examples.proofs.draining.move_all.Given as goal
 

@@ -1,8 +1,8 @@
 use Rattle.std.proofs.Common.{◌≡◌, ◌++◌, rules}
-use Rattle.tinyvec_array.specs.Cut.{before, after}
-use Rattle.tinyvec_array.specs.Slots.{SlotRule, items}
+use Rattle.tinyvec_slots.specs.Cut.{before, after}
+use Rattle.tinyvec_slots.specs.Slots.{SlotRule, items}
 use Rattle.tinyvec_array.proofs.DrainLemmas.{nth-keeps}
-use Rattle.tinyvec_array.proofs.SlotsLemmas.{drained_items, drained_slots}
+use Rattle.tinyvec_array.proofs.DrainedLemmas.{drained_items, drained_slots}
 use Rattle.tinyvec_examples.proofs.draining.nth_of.Goals as goal
 
 pub returns-clause-left : goal.returns-clause-left

@@ -1,5 +1,5 @@
 use Rattle.std.proofs.Common.{◌≡◌, ◌∷◌, [], pos, refl, subst, ◌∙◌, rules}
-use Rattle.tinyvec_array.specs.Slots.{all_slots}
+use Rattle.tinyvec_slots.specs.Slots.{all_slots}
 use Rattle.tinyvec_array.specs.Drain.{DrainKeeps}
 use Rattle.tinyvec_array.proofs.DrainLemmas.{DrainSteps-keeps, DrainKeeps-then}
 use Rattle.tinyvec_examples.proofs.DrainEnded.{numbers_left}

@@ -1,6 +1,6 @@
 use Rattle.std.proofs.Common.{◌≡◌, ◌∷◌, [], pos, rules, refl, ◌∙◌}
-use Rattle.tinyvec_array.specs.Slots.{Frees, items, spare}
-use Rattle.tinyvec_array.proofs.SlotsLemmas.{defaults_are, freed, slots_are}
+use Rattle.tinyvec_slots.specs.Slots.{Frees, items, spare}
+use Rattle.tinyvec_slots.proofs.SlotsLemmas.{defaults_are, freed, slots_are}
 use Rattle.tinyvec_examples.proofs.ends.popped.Goals as goal
 
 pub returns : goal.returns

@@ -1,4 +1,4 @@
-use Rattle.tinyvec_array.proofs.SlotsLemmas.{items-with_slot}
+use Rattle.tinyvec_slots.proofs.SlotsLemmas.{items-with_slot}
 use Rattle.tinyvec_examples.proofs.lending.set.Goals as goal
 
 pub returns-clause-items : goal.returns-clause-items

@@ -1,6 +1,6 @@
 use Rattle.std.proofs.Common.{◌≡◌, ◌≤◌, ◌+◌, ◌++◌, List, ℕ, [], Some, length, take, pos, sym, ap, ◌∙◌, arith, append-nil, length-append}
-use Rattle.tinyvec_array.specs.Slots.{spare, split_at}
-use Rattle.tinyvec_array.proofs.SlotsLemmas.{defaults_are}
+use Rattle.tinyvec_slots.specs.Slots.{spare, split_at}
+use Rattle.tinyvec_slots.proofs.SlotsLemmas.{defaults_are}
 use Rattle.tinyvec_script.specs.Script.{start, IsZero}
 use Rattle.std.proofs.KnownBytes.{Appends-nil, Appends-trans, Consumes-nil, Consumes-trans, Consumes-kept}
 use Rattle.tinyvec_script.proofs.HistoryLemmas.{feeds_nothing, feeds_then, complete_lines, whole_script}

@@ -1,10 +1,10 @@
 use Rattle.std.proofs.Common.{◌≡◌, ◌++◌, subst, sym, ap, ◌∙◌, append-nil, rules}
 use Rattle.std.specs.declared.ops.Bound.TheVariants.{Included, Excluded}
-use Rattle.tinyvec_array.specs.Slots.{Slots, items}
-use Rattle.tinyvec_array.specs.Cut.{IsRangeOf}
+use Rattle.tinyvec_slots.specs.Slots.{Slots, items}
+use Rattle.tinyvec_slots.specs.Cut.{IsRangeOf}
 use Rattle.tinyvec_array.specs.Drain.{drain_items, DrainKeeps}
 use Rattle.tinyvec_array.proofs.DrainLemmas.{DrainSteps-keeps, DrainKeeps-then}
-use Rattle.tinyvec_array.proofs.SlotsLemmas.{drained_items, drained_slots}
+use Rattle.tinyvec_array.proofs.DrainedLemmas.{drained_items, drained_slots}
 use Rattle.tinyvec_script.specs.Step.{ArrayDrains}
 use Rattle.tinyvec_script.proofs.step.drained.Goals as goal
 

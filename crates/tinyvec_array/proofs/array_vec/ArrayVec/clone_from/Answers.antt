@@ -1,7 +1,7 @@
 use Rattle.std.proofs.Common.{◌≡◌, ◌+◌, ◌≤◌, ◌++◌, length, take, drop, sym, ap, ◌∙◌, arith, rules, take_at, drop_at}
-use Rattle.tinyvec_array.specs.Slots.{items, spare, split_at}
-use Rattle.tinyvec_array.proofs.CloneLemmas.{on_err}
-use Rattle.tinyvec_array.proofs.CloneFromLemmas.{clones_in_part, all_cloned}
+use Rattle.tinyvec_slots.specs.Slots.{items, spare, split_at}
+use Rattle.tinyvec_slots.proofs.CloneLemmas.{on_err}
+use Rattle.tinyvec_slots.proofs.CloneFromLemmas.{clones_in_part, all_cloned}
 use Rattle.tinyvec_array.proofs.array_vec.ArrayVec.clone_from.Goals as goal
 
 pub returns-in_err-put_clones-clause-refused : goal.returns-in_err-put_clones-clause-refused

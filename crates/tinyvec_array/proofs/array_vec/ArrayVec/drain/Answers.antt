@@ -1,9 +1,9 @@
 use Rattle.std.proofs.Common.{◌≡◌, ℕ, ◌-◌, ◌≤◌, ◌++◌, length, take, drop, slice_range, refl, sym, ap, ◌∙◌, le_refl, zero-le, arith, rules}
 use Rattle.std.specs.List.{remove_range}
-use Rattle.tinyvec_array.specs.Cut.{range_end}
-use Rattle.tinyvec_array.specs.Slots.{split_at, items, spare}
-use Rattle.tinyvec_array.proofs.Lists.{first_part, second_part, second_part_within, third_part, length-remove_range, length-slice_range}
-use Rattle.tinyvec_array.proofs.SlotsLemmas.{slots_are}
+use Rattle.tinyvec_slots.specs.Cut.{range_end}
+use Rattle.tinyvec_slots.specs.Slots.{split_at, items, spare}
+use Rattle.tinyvec_slots.proofs.Lists.{first_part, second_part, second_part_within, third_part, length-remove_range, length-slice_range}
+use Rattle.tinyvec_slots.proofs.SlotsLemmas.{slots_are}
 use Rattle.tinyvec_array.proofs.DrainLemmas.{drain_runs, drain_runs_back, drains_from_ends}
 use Rattle.tinyvec_array.proofs.array_vec.ArrayVec.drain.Goals as goal
 

@@ -1,6 +1,6 @@
 use Rattle.std.proofs.Common.{◌-◌, ◌<◌, ◌≤◌, ◌≡◌, ◌∷◌, Some, None, length, drop, sym, ◌∙◌, arith, rules}
-use Rattle.tinyvec_array.specs.Slots.{items_len}
-use Rattle.tinyvec_array.proofs.FillingLemmas.{longer, no_longer}
+use Rattle.tinyvec_slots.specs.Slots.{items_len}
+use Rattle.tinyvec_slots.proofs.FillingLemmas.{longer, no_longer}
 use Rattle.tinyvec_array.proofs.array_vec.ArrayVec.extend.Goals as goal
 
 pub returns-in-Some-clause-listed : goal.returns-in-Some-clause-listed

@@ -1,5 +1,5 @@
 use Rattle.std.proofs.Common.{◌≤◌, length, take, rules}
-use Rattle.tinyvec_array.proofs.CloneLemmas.{on_err, behind_writes}
+use Rattle.tinyvec_slots.proofs.CloneLemmas.{on_err, behind_writes}
 use Rattle.tinyvec_array.proofs.array_vec.ArrayVec.extend_from_slice.Goals as goal
 
 pub returns-in_err-put_clones-clause-refused : goal.returns-in_err-put_clones-clause-refused

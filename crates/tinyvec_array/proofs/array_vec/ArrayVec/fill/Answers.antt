@@ -2,8 +2,8 @@ use Rattle.std.proofs.Common.{◌++◌, ◌∷◌, [], refl, sym, ap, ◌∙◌,
 use Rattle.std.proofs.iter.Next.{Yields-more}
 use Rattle.std.proofs.lemmas.Grind.{common_steps}
 use Rattle.std.proofs.lemmas.List.{length_push}
-use Rattle.tinyvec_array.specs.Slots.{items, spare, items_len}
-use Rattle.tinyvec_array.proofs.FillingLemmas.{spare_after, stopped_full, stopped_early, filled}
+use Rattle.tinyvec_slots.specs.Slots.{items, spare, items_len}
+use Rattle.tinyvec_slots.proofs.FillingLemmas.{spare_after, stopped_full, stopped_early, filled}
 use Rattle.tinyvec_array.proofs.array_vec.ArrayVec.fill.Goals as goal
 
 pub loop-items-init : goal.loop-items-init

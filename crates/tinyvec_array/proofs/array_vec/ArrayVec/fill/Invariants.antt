@@ -1,6 +1,6 @@
 use Rattle.std.proofs.Common.{◌≡◌, ◌-◌, ◌≤◌, ◌++◌, List, drop}
 use Rattle.std.specs.Iterator.{Yields}
-use Rattle.tinyvec_array.specs.Slots.{items, spare, items_len}
+use Rattle.tinyvec_slots.specs.Slots.{items, spare, items_len}
 use Rattle.tinyvec_array.proofs.array_vec.ArrayVec.fill.Given as goal
 
 abbrev pub invariant-loop-items : goal.invariant-loop-items

@@ -1,5 +1,5 @@
 use Rattle.std.proofs.Common.{◌-◌, ◌≤◌, ◌≡◌, ◌++◌, length, take, ap, ◌∙◌, arith, rules, take_all}
-use Rattle.tinyvec_array.specs.Slots.{items_len}
+use Rattle.tinyvec_slots.specs.Slots.{items_len}
 use Rattle.tinyvec_array.proofs.array_vec.ArrayVec.from_iter.Goals as goal
 
 pub returns-in-Ok-clause-listed : goal.returns-in-Ok-clause-listed

@@ -1,4 +1,4 @@
-use Rattle.tinyvec_array.proofs.Lists.{drop-put}
+use Rattle.tinyvec_slots.proofs.Lists.{drop-put}
 use Rattle.tinyvec_array.proofs.array_vec.ArrayVec.push.Goals as goal
 
 pub returns-clause-spare : goal.returns-clause-spare

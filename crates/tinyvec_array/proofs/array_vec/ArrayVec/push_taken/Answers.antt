@@ -1,8 +1,8 @@
 use Rattle.std.proofs.Common.{◌<◌, ◌∷◌, ◌++◌, [], length, take, drop, sym, ap, ◌∙◌, arith, append_assoc, length-set}
 use Rattle.std.proofs.lemmas.List.{drop-drop, take_all, take_more_set}
 use Rattle.std.proofs.lemmas.List.Elements.{All-push, All-same}
-use Rattle.tinyvec_array.specs.Slots.{items}
-use Rattle.tinyvec_array.proofs.FillingLemmas.{one_taken, rest_after_one}
+use Rattle.tinyvec_slots.specs.Slots.{items}
+use Rattle.tinyvec_slots.proofs.FillingLemmas.{one_taken, rest_after_one}
 use Rattle.tinyvec_array.proofs.array_vec.ArrayVec.push_taken.Goals as goal
 
 pub loop-i-preserved : goal.loop-i-preserved

@@ -1,6 +1,6 @@
 use Rattle.std.proofs.Common.{◌≡◌, ◌++◌, length, take, drop}
 use Rattle.std.specs.Prelude.{All}
-use Rattle.tinyvec_array.specs.Slots.{items, spare}
+use Rattle.tinyvec_slots.specs.Slots.{items, spare}
 use Rattle.tinyvec_array.proofs.array_vec.ArrayVec.push_taken.Given as goal
 
 abbrev pub invariant-loop-i : goal.invariant-loop-i

@@ -1,7 +1,7 @@
 use Rattle.std.proofs.Common.{◌+◌, ◌-◌, ◌++◌, arith, length, slice_range, add-one, take_at, length-append}
 use Rattle.std.specs.List.{remove_range}
-use Rattle.tinyvec_array.proofs.Lists.{length-remove_range, length-slice_range}
-use Rattle.tinyvec_array.specs.Slots.{items}
+use Rattle.tinyvec_slots.proofs.Lists.{length-remove_range, length-slice_range}
+use Rattle.tinyvec_slots.specs.Slots.{items}
 use Rattle.tinyvec_array.proofs.array_vec.ArrayVec.remove.Goals as goal
 
 pub returns-clause-items : goal.returns-clause-items

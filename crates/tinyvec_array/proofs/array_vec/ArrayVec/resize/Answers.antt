@@ -1,7 +1,7 @@
 use Rattle.std.proofs.Common.{◌≡◌, ◌+◌, ◌-◌, ◌≤◌, length, replicate, ap, ◌∙◌, arith, rules}
 use Rattle.std.proofs.lemmas.List.{length-replicate}
-use Rattle.tinyvec_array.specs.Slots.{split_at}
-use Rattle.tinyvec_array.proofs.CloneLemmas.{grown}
+use Rattle.tinyvec_slots.specs.Slots.{split_at}
+use Rattle.tinyvec_slots.proofs.CloneLemmas.{grown}
 use Rattle.tinyvec_array.proofs.array_vec.ArrayVec.resize.Goals as goal
 
 pub returns-in-Ok-clause-spare : goal.returns-in-Ok-clause-spare

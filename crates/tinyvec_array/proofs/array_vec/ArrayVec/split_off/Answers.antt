@@ -2,11 +2,11 @@ use Rattle.std.proofs.Common.{◌∷◌, ◌++◌, [], length, ap, ◌∙◌, sy
 use Rattle.std.proofs.lemmas.List.{length_push}
 use Rattle.std.proofs.lemmas.List.Elements.{All-drop}
 use Rattle.std.specs.declared.ops.Bound.TheVariants.{Included, Unbounded}
-use Rattle.tinyvec_array.specs.Cut.{IsRangeOf}
+use Rattle.tinyvec_slots.specs.Cut.{IsRangeOf}
 use Rattle.tinyvec_array.specs.Drain.{drain_items, DrainKeeps}
 use Rattle.tinyvec_array.proofs.DrainLemmas.{DrainSteps-keeps, DrainKeeps-then}
-use Rattle.tinyvec_array.proofs.SlotsLemmas.{drained_frees}
-use Rattle.tinyvec_array.specs.Slots.{items, spare}
+use Rattle.tinyvec_array.proofs.DrainedLemmas.{drained_frees}
+use Rattle.tinyvec_slots.specs.Slots.{items, spare}
 use Rattle.tinyvec_array.proofs.array_vec.ArrayVec.split_off.Goals as goal
 
 pub returns-clause-spare : goal.returns-clause-spare

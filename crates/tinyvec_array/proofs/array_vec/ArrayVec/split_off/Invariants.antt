@@ -1,7 +1,7 @@
 use Rattle.std.proofs.Common.{◌≡◌, ◌+◌, ◌≤◌, ◌++◌, length}
 use Rattle.std.specs.Prelude.{All}
 use Rattle.tinyvec_array.specs.Drain.{drain_items, DrainKeeps}
-use Rattle.tinyvec_array.specs.Slots.{items, spare}
+use Rattle.tinyvec_slots.specs.Slots.{items, spare}
 use Rattle.tinyvec_array.proofs.array_vec.ArrayVec.split_off.Given as goal
 
 abbrev pub invariant-loop-x : goal.invariant-loop-x

@@ -1,6 +1,6 @@
 use Rattle.std.proofs.Common.{rules, refl, ◌<◌, ◌≤◌, length, ◌∷◌, []}
 use Rattle.std.proofs.lemmas.List.Elements.{All-cons, All-nil}
-use Rattle.tinyvec_array.proofs.Lists.{drop-emptied}
+use Rattle.tinyvec_slots.proofs.Lists.{drop-emptied}
 use Rattle.tinyvec_array.proofs.array_vec.ArrayVec.take_last.Goals as goal
 
 pub returns-clause-spare : goal.returns-clause-spare

@@ -1,6 +1,6 @@
 use Rattle.std.proofs.Common.{arith, refl, ◌-◌, drop-set-lt, length-set}
-use Rattle.tinyvec_array.proofs.Lists.{slice_range_last}
-use Rattle.tinyvec_array.specs.Slots.{spare}
+use Rattle.tinyvec_slots.proofs.Lists.{slice_range_last}
+use Rattle.tinyvec_slots.specs.Slots.{spare}
 use Rattle.tinyvec_array.proofs.drain.ArrayVecDrainDoubleEndedIterator.next_back.Goals as goal
 
 pub returns-clause-steps : goal.returns-clause-steps

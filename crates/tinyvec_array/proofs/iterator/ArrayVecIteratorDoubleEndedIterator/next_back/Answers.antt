@@ -1,5 +1,5 @@
 use Rattle.std.proofs.Common.{◌<◌, ◌≤◌, length, arith}
-use Rattle.tinyvec_array.proofs.Lists.{slice_range_last}
+use Rattle.tinyvec_slots.proofs.Lists.{slice_range_last}
 use Rattle.tinyvec_array.proofs.iterator.ArrayVecIteratorDoubleEndedIterator.next_back.Goals as goal
 
 pub returns-clause-steps : goal.returns-clause-steps

@@ -1,0 +1,127 @@
+-- Lemmas on a list that is cut to the length of another, over whose slots clones of that other's items are then written.
+use Rattle.std.proofs.Common.{◌≡◌, ℕ, ◌+◌, ◌-◌, ◌<◌, ◌≤◌, ◌⊎◌, inl, inr, min, List, [], ◌++◌, length, take, drop, slice_range, refl, sym, ap, ◌∙◌, le_refl, arith, length-take-le, length-take}
+use Rattle.std.proofs.lemmas.Bool.{cases_lt}
+use Rattle.std.proofs.lemmas.List.{drop-drop, take-take, take-append-le, take_min, append-nil, nil_from_length}
+use Rattle.std.proofs.lemmas.Slice.{drop-append-drop}
+use Rattle.std.proofs.Math.Nat.{min_comm}
+use Rattle.tinyvec_slots.specs.Slots.{Slots, AreDefaults, Frees, SlotRule, items_len, all_slots, items, spare, split_at}
+use Rattle.tinyvec_slots.specs.Clones.{RefusedAt, ClonesInPart}
+use Rattle.tinyvec_slots.proofs.CloneLemmas.{drop_within, range_within, take_writes, drop_writes}
+
+empty_range : {X : Type 0} (xs : List X) (i j : ℕ) → j ≡ i → slice_range xs i j ≡ []
+empty_range xs i j e =
+    let none : j - i ≡ 0 = omega arith in
+    ap (λ n. take n (drop i xs)) none
+
+-- `cut` is `left`, which `truncate` left of `old` at n items, the length of `source`.
+module _ {T : Type 0} (D I : T → Type 0) (old left cut : Slots T) (source : List T) (n : ℕ) (same : cut ≡ left) (long : n ≡ length source)
+    (fits : cut.len ≤ length (all_slots cut)) (left_items : items left ≡ take n (items old)) (left_frees : Frees D (items_len old - n) old left) where
+  listed : items cut ≡ take (length source) (items old)
+  listed = ap (λ v. items v) same ∙ left_items ∙ ap (λ k. take k (items old)) long
+
+  abbrev freed : Frees D (items_len old - length source) old cut
+  freed = (left_frees.0, (left_frees.1.0 ∙ ap (λ k. items_len old - k) long, left_frees.1.1), ap (λ v. spare v) same ∙ left_frees.2)
+
+  abbrev lesser : ℕ
+  lesser = min (items_len old) (length source)
+
+  cut_len : cut.len ≡ lesser
+  cut_len = sym (length-take-le cut.len (all_slots cut) fits) ∙ ap length listed ∙ length-take (length source) (items old) ∙ min_comm (length source) (items_len old)
+
+  as_listed : items cut ≡ take lesser (items old)
+  as_listed = listed ∙ sym (take_min (length source) (items old)) ∙ ap (λ n. take n (items old)) (min_comm (length source) (items_len old))
+
+  module _ (j : ℕ) (xs : List T) (refused : RefusedAt I source j) (written : xs ≡ take j source ++ drop j (all_slots cut)) where
+    made : length (take j source) ≡ j
+    made =
+        let below : j < length source = refused.0 in
+        length-take-le j source (omega arith)
+
+    defaults : AreDefaults D (items_len old - lesser) freed.0
+    defaults =
+        let count : items_len old - length source ≡ items_len old - lesser = omega arith in
+        (freed.1.0 ∙ count, freed.1.1)
+
+    -- the refused clone is one of the first
+    early : j ≤ lesser → ClonesInPart D I source old (split_at cut.len xs) lesser
+    early le =
+        let L = items old in
+        let within : j ≤ cut.len = rw cut_len le in
+        let sum : j + 0 ≡ j = omega arith in
+        let kept : slice_range (all_slots cut) j cut.len ≡ slice_range L j lesser =
+        sym (range_within (all_slots cut) j cut.len within) ∙ ap (λ l. slice_range l j cut.len) as_listed
+        ∙ ap (λ n. slice_range (take lesser L) j n) cut_len ∙ range_within L j lesser le in
+        let start : take cut.len xs ≡ take j source ++ slice_range L j lesser =
+        ap (take cut.len) written ∙ take_writes (take j source) (all_slots cut) j cut.len made within ∙ ap (λ l. take j source ++ l) kept in
+        let rest : drop cut.len xs ≡ freed.0 ++ spare old =
+        ap (drop cut.len) written ∙ drop-append-drop j (all_slots cut) (take j source) cut.len within made ∙ freed.2 in
+        record {
+          k = j;
+          j = 0;
+          freed = freed.0;
+          within = le;
+          in_order = λ h. absurd (omega (arith, h));
+          refused_at = rw sum refused;
+          listed = start;
+          defaults = defaults;
+          behind = rw (empty_range source lesser (lesser + 0) (omega arith), append-nil freed.0) rest;
+        }
+
+    -- the list is as long as it was, and clones stand behind it
+    late : lesser < j → ClonesInPart D I source old (split_at cut.len xs) lesser
+    late lt =
+        let below : j < length source = refused.0 in
+        let le : cut.len ≤ j = rw cut_len (omega arith) in
+        let sum : lesser + (j - lesser) ≡ j = omega arith in
+        let none : freed.0 ≡ [] = nil_from_length freed.0 (omega (arith, defaults.0)) in
+        let start : take cut.len xs ≡ take lesser source ++ slice_range (items old) lesser lesser =
+        ap (take cut.len) written ∙ take-append-le cut.len (take j source) (drop j (all_slots cut)) (rw made le) ∙ take-take cut.len j source le
+        ∙ ap (λ n. take n source) cut_len ∙ sym (ap (λ l. take lesser source ++ l) (empty_range (items old) lesser lesser refl) ∙ append-nil (take lesser source)) in
+        let count : j - lesser ≡ lesser + (j - lesser) - lesser = omega arith in
+        let more = slice_range source lesser (lesser + (j - lesser)) in
+        let further : drop cut.len (take j source) ≡ more =
+        ap (λ n. drop n (take j source)) cut_len ∙ drop_within source lesser j (omega arith) ∙ ap (λ n. take n (drop lesser source)) count in
+        let others : drop (j - cut.len) (spare cut) ≡ drop (j - lesser) (spare old) =
+        ap (λ n. drop (j - n) (spare cut)) cut_len ∙ ap (drop (j - lesser)) (freed.2 ∙ ap (λ ds. ds ++ spare old) none) in
+        let rest : drop cut.len xs ≡ more ++ drop (j - lesser) (spare old) =
+        ap (drop cut.len) written ∙ drop_writes (take j source) (all_slots cut) j cut.len made le
+        ∙ ap (λ l. l ++ drop (j - cut.len) (spare cut)) further ∙ ap (λ l. more ++ l) others in
+        record {
+          k = lesser;
+          j = j - lesser;
+          freed = freed.0;
+          within = le_refl _;
+          in_order = λ _. refl;
+          refused_at = rw sum refused;
+          listed = start;
+          defaults = defaults;
+          behind = rw none rest;
+        }
+
+    part : (lesser < j) ⊎ (j ≤ lesser) → ClonesInPart D I source old (split_at cut.len xs) lesser
+    part (inl lt) = late lt
+    part (inr le) = early le
+
+    pub clones_in_part : ClonesInPart D I source old (split_at cut.len xs) lesser
+    clones_in_part = part (cases_lt lesser j)
+
+  beyond : (length source < items_len old) ⊎ (items_len old ≤ length source)
+      → drop (length source - lesser) (freed.0 ++ spare old) ≡ freed.0 ++ drop (length source - items_len old) (spare old)
+  beyond (inl lt) =
+      let none : length source - lesser ≡ 0 = omega arith in
+      let no_more : length source - items_len old ≡ 0 = omega arith in
+      rw (none, no_more) refl
+  beyond (inr le) =
+      let none : freed.0 ≡ [] = nil_from_length freed.0 (omega (arith, freed.1.0)) in
+      let more : length source - lesser ≡ length source - items_len old = omega arith in
+      rw (none, more) refl
+
+  -- every clone was made: what lies behind them is by the slot rule
+  pub all_cloned : (new : Slots T) → items_len new ≡ length source → spare new ≡ drop (length source) (all_slots cut) → SlotRule D old new
+  all_cloned new reaches behind =
+      let ends : length source ≡ cut.len + (length source - cut.len) = omega (arith, cut_len) in
+      let behind_cut : drop (length source) (all_slots cut) ≡ drop (length source - lesser) (freed.0 ++ spare old) =
+      ap (λ n. drop n (all_slots cut)) ends ∙ sym (drop-drop (length source - cut.len) cut.len (all_slots cut))
+      ∙ ap (λ n. drop (length source - n) (spare cut)) cut_len ∙ ap (drop (length source - lesser)) freed.2 in
+      let spared = behind ∙ behind_cut ∙ beyond (cases_lt (length source) (items_len old)) in
+      (freed.0, (freed.1.0 ∙ ap (λ n. items_len old - n) (sym reaches), freed.1.1), spared ∙ ap (λ n. freed.0 ++ drop (n - items_len old) (spare old)) (sym reaches))

@@ -1,0 +1,87 @@
+-- Lemmas on clones written over slots.
+use Rattle.std.proofs.Common.{◌≡◌, ℕ, ◌+◌, ◌-◌, ◌<◌, ◌≤◌, List, [], ◌∷◌, ◌++◌, length, take, drop, set, get_or, slice_range, sym, ap, ◌∙◌, le_refl, arith, append_assoc, length-take-le, length-append, length-drop, take-append-drop, Result, Ok, Err, OnErr}
+use Rattle.std.proofs.lemmas.List.{drop_more, set_at, drop-drop, drop-append-le, drop-take, take_more, take-take, take_at, drop_at}
+use Rattle.std.proofs.Math.Seq.{take-append-add}
+use Rattle.tinyvec_slots.specs.Slots.{Slots, SlotRule, all_slots, items, spare, split_at}
+use Rattle.tinyvec_slots.proofs.SlotsLemmas.{slots_used}
+use borrow.Rule.Slice.PartMut.{post_of}
+
+-- what holds at all holds of an error
+pub on_err : {X E P : Type 0} (r : Result X E) → P → OnErr r P
+on_err (Ok x) p = tt
+on_err (Err e) p = p
+
+module _ {X : Type 0} where
+  -- one more write behind those that were made
+  pub set_next : (xs ys : List X) (i : ℕ) (y : X) → length xs ≡ i → i < length ys
+      → set (xs ++ drop i ys) i y ≡ (xs ++ y ∷ []) ++ drop (i + 1) ys
+  set_next xs ys i y long lt =
+      ap (λ l. set (xs ++ l) i y) (drop_more ys i y lt) ∙ set_at xs (get_or ys i y) (drop (i + 1) ys) y i long
+      ∙ sym (append_assoc xs (y ∷ []) (drop (i + 1) ys))
+
+  -- the same where the writes are the elements of a list
+  pub overwrite_next : (xs ys : List X) (i : ℕ) (y : X) → i < length xs → length xs ≤ length ys → y ≡ get_or xs i y
+      → set (take i xs ++ drop i ys) i y ≡ take (i + 1) xs ++ drop (i + 1) ys
+  overwrite_next xs ys i y lt fits is =
+      let long : length (take i xs) ≡ i = length-take-le i xs (omega arith) in
+      set_next (take i xs) ys i y long (omega arith)
+      ∙ ap (λ z. (take i xs ++ z ∷ []) ++ drop (i + 1) ys) is ∙ ap (λ l. l ++ drop (i + 1) ys) (sym (take_more xs i y lt))
+
+  pub length-part : (xs : List X) (a k : ℕ) → a + k ≤ length xs → length (take k (drop a xs)) ≡ k
+  length-part xs a k fits = length-take-le k (drop a xs) (omega (arith, length-drop a xs))
+
+  -- what j writes at the front of the k slots from a on leave of all the slots
+  pub in_part : (xs ws : List X) (a k j : ℕ) → j ≤ k → a + k ≤ length xs
+      → take a xs ++ ((ws ++ drop j (take k (drop a xs))) ++ post_of a k xs) ≡ take a xs ++ ws ++ drop (a + j) xs
+  in_part xs ws a k j le fits =
+      let part = drop a xs in
+      let long = length-part xs a k fits in
+      let rest : drop j (take k part) ++ drop k part ≡ drop (a + j) xs =
+      sym (drop-append-le j (take k part) (drop k part) (omega arith)) ∙ ap (drop j) (take-append-drop k part) ∙ drop-drop j a xs in
+      ap (λ l. take a xs ++ l) (append_assoc ws (drop j (take k part)) (drop k part) ∙ ap (λ l. ws ++ l) rest)
+      ∙ sym (append_assoc (take a xs) ws (drop (a + j) xs))
+
+  -- the same of the slots that were seen before, where the part then held the writes before what it held
+  pub written_part : (xs seen ws new : List X) (a k j : ℕ) → xs ≡ seen → new ≡ ws ++ drop j (take k (drop a xs)) → j ≤ k → a + k ≤ length xs
+      → take a xs ++ (new ++ post_of a k xs) ≡ take a seen ++ ws ++ drop (a + j) seen
+  written_part xs seen ws new a k j same is le fits =
+      ap (λ l. take a xs ++ (l ++ post_of a k xs)) is ∙ in_part xs ws a k j le fits ∙ ap (λ l. take a l ++ ws ++ drop (a + j) l) same
+
+  -- behind what was written from n on lies what stood there
+  pub behind_writes : (xs ws : List X) (n k : ℕ) → n ≤ length xs → drop n (take n xs ++ ws ++ drop (n + k) xs) ≡ ws ++ drop k (drop n xs)
+  behind_writes xs ws n k fits =
+      ap (drop n) (append_assoc (take n xs) ws (drop (n + k) xs)) ∙ drop_at (take n xs) (ws ++ drop (n + k) xs) n (length-take-le n xs fits)
+      ∙ ap (λ l. ws ++ l) (sym (drop-drop k n xs))
+
+  -- the first j of m elements left out
+  pub drop_within : (xs : List X) (j m : ℕ) → j ≤ m → drop j (take m xs) ≡ take (m - j) (drop j xs)
+  drop_within xs j m le =
+      let ends : m ≡ j + (m - j) = omega arith in
+      ap (λ n. drop j (take n xs)) ends ∙ drop-take j (m - j) xs
+
+  -- a range does not see what lies behind its end
+  pub range_within : (xs : List X) (j m : ℕ) → j ≤ m → slice_range (take m xs) j m ≡ slice_range xs j m
+  range_within xs j m le = ap (take (m - j)) (drop_within xs j m le) ∙ take-take (m - j) (m - j) (drop j xs) (le_refl _)
+
+  -- a list that starts with j writes, cut to no fewer
+  pub take_writes : (ws xs : List X) (j m : ℕ) → length ws ≡ j → j ≤ m → take m (ws ++ drop j xs) ≡ ws ++ slice_range xs j m
+  take_writes ws xs j m long le =
+      let more : m ≡ length ws + (m - j) = omega arith in
+      ap (λ n. take n (ws ++ drop j xs)) more ∙ take-append-add ws (drop j xs) (m - j)
+
+  -- and cut to fewer
+  pub drop_writes : (ws xs : List X) (j m : ℕ) → length ws ≡ j → m ≤ j → drop m (ws ++ drop j xs) ≡ drop m ws ++ drop (j - m) (drop m xs)
+  drop_writes ws xs j m long le =
+      let ends : m + (j - m) ≡ j = omega arith in
+      drop-append-le m ws (drop j xs) (omega arith) ∙ ap (λ l. drop m ws ++ l) (sym (drop-drop (j - m) m xs ∙ ap (λ n. drop n xs) ends))
+
+-- a list that was made longer by writes over its spare slots
+pub grown : {T : Type 0} (D : T → Type 0) (old : Slots T) (ws xs : List T) (n : ℕ) → old.len ≤ length (all_slots old) → old.len + length ws ≡ n
+    → xs ≡ items old ++ ws ++ drop n (all_slots old) → SlotRule D old (split_at n xs)
+grown D old ws xs n fits ends is =
+    let front : length (items old ++ ws) ≡ n = length-append (items old) ws ∙ ap (λ k. k + length ws) (length-take-le old.len (all_slots old) fits) ∙ ends in
+    let listed : take n xs ≡ items old ++ ws = ap (take n) is ∙ take_at (items old ++ ws) (drop n (all_slots old)) n front in
+    let behind : drop n xs ≡ drop (length ws) (spare old) =
+    ap (drop n) is ∙ drop_at (items old ++ ws) (drop n (all_slots old)) n front
+    ∙ sym (drop-drop (length ws) old.len (all_slots old) ∙ ap (λ k. drop k (all_slots old)) ends) in
+    slots_used D old (split_at n xs) (length ws) (ap length listed ∙ length-append (items old) ws) behind

@@ -1,0 +1,126 @@
+-- Calls of `next` and `next_back` take from the two ends, by whatever word they follow.
+use Rattle.std.proofs.Common.{◌≡◌, ℕ, suc, ◌+◌, ◌-◌, ◌≤◌, min, List, [], ◌∷◌, ◌++◌, length, take, drop, slice_range, Option, Some, None, map, replicate, refl, sym, ap, subst, ◌∙◌, arith, rules, add-one, length-append, length-drop, length-take, take_all}
+use Rattle.std.specs.Prelude.{reverse}
+use Rattle.std.specs.Iterator.{YieldsFirst, YieldsLast}
+use Rattle.std.proofs.lemmas.List.{reverse-append, take-append-le, drop-append-le, drop_all}
+use Rattle.tinyvec_slots.specs.Ends.{End, front, back, fronts, backs, TakesFromEnds, Asks}
+
+-- each letter is one or the other
+pub fronts-backs : (word : List End) → fronts word + backs word ≡ length word
+fronts-backs [] = refl
+fronts-backs (front ∷ word) = let rest = fronts-backs word in omega arith
+fronts-backs (back ∷ word) = let rest = fronts-backs word in omega arith
+
+module _ {T : Type 0} where
+  -- the letters that were given an item are no more than the items
+  given_within : (xs : List T) (word : List End) (n : ℕ) → n ≡ min (length word) (length xs)
+      → fronts (take n word) + backs (take n word) ≤ length xs
+  given_within xs word n count =
+      let cut = length-take n word in
+      let all = fronts-backs (take n word) in
+      omega arith
+
+  none_given : (given : List T) → length given ≡ 0 → given ≡ []
+  none_given [] none = refl
+  none_given (x ∷ given) none = absurd (omega arith)
+
+  -- no letter takes nothing
+  TakesFromEnds-nil : (xs : List T) → TakesFromEnds xs [] [] xs
+  TakesFromEnds-nil xs = record {
+    given = [];
+    count = omega arith;
+    answered = refl;
+    first = refl;
+    last = sym (ap reverse (drop_all (length xs - 0) xs (omega arith)));
+    middle = sym (take_all (length xs - 0 - 0) xs (omega arith));
+  }
+
+  -- where nothing is left, a letter is answered with `None`
+  TakesFromEnds-none : (word : List End) (e : End) (answers : List (Option T)) (left : List T)
+      → TakesFromEnds [] word answers left → TakesFromEnds [] (e ∷ word) (None ∷ answers) left
+  TakesFromEnds-none word e answers left h =
+      let none : h.given ≡ [] = none_given h.given (omega (arith, h.count)) in
+      let gone : slice_range [] (fronts (take (length h.given) word)) (0 - backs (take (length h.given) word)) ≡ [] = search rules in
+      let one : length word - 0 + 1 ≡ length (e ∷ word) - 0 = omega arith in
+      let all : answers ≡ replicate (length word - 0) None = h.answered ∙ ap (λ given. map Some given ++ replicate (length word - length given) None) none in
+      record {
+        given = [];
+        count = omega arith;
+        answered = ap (λ l. None ∷ l) all ∙ ap (λ n. replicate n None) (sym (add-one (length word - 0)) ∙ one);
+        first = refl;
+        last = refl;
+        middle = h.middle ∙ gone;
+      }
+
+  -- `front` takes the first item
+  TakesFromEnds-front : (x : T) (xs : List T) (word : List End) (answers : List (Option T)) (left : List T)
+      → TakesFromEnds xs word answers left → TakesFromEnds (x ∷ xs) (front ∷ word) (Some x ∷ answers) left
+  TakesFromEnds-front x xs word answers left h =
+      let m = length h.given in
+      let p = fronts (take m word) in
+      let q = backs (take m word) in
+      let within : p + q ≤ length xs = given_within xs word m h.count in
+      let last_is : suc (length xs) - q ≡ suc (length xs - q) = omega arith in
+      let still : suc (length word) - suc m ≡ length word - m = omega arith in
+      let between : length xs - q - p ≡ suc (length xs) - q - (p + 1) = omega arith in
+      record {
+        given = x ∷ h.given;
+        count = omega (arith, h.count);
+        answered = ap (λ l. Some x ∷ l) h.answered ∙ ap (λ n. Some x ∷ (map Some h.given ++ replicate n None)) (sym still);
+        first = ap (λ l. x ∷ l) h.first ∙ ap (λ n. take n (x ∷ xs)) (sym (add-one p));
+        last = h.last ∙ ap (λ n. reverse (drop n (x ∷ xs))) (sym last_is);
+        middle = h.middle ∙ ap (λ n. take n (drop p xs)) between ∙ ap (λ n. take (suc (length xs) - q - (p + 1)) (drop n (x ∷ xs))) (sym (add-one p));
+      }
+
+  -- `back` takes the last
+  TakesFromEnds-back : (x : T) (xs : List T) (word : List End) (answers : List (Option T)) (left : List T)
+      → TakesFromEnds xs word answers left → TakesFromEnds (xs ++ x ∷ []) (back ∷ word) (Some x ∷ answers) left
+  TakesFromEnds-back x xs word answers left h =
+      let m = length h.given in
+      let p = fronts (take m word) in
+      let q = backs (take m word) in
+      let all = xs ++ x ∷ [] in
+      let long = length-append xs (x ∷ []) in
+      let within : p + q ≤ length xs = given_within xs word m h.count in
+      let last_is : length all - (q + 1) ≡ length xs - q = omega arith in
+      let still : suc (length word) - suc m ≡ length word - m = omega arith in
+      let behind = length-drop p xs in
+      record {
+        given = x ∷ h.given;
+        count = omega (arith, h.count);
+        answered = ap (λ l. Some x ∷ l) h.answered ∙ ap (λ n. Some x ∷ (map Some h.given ++ replicate n None)) (sym still);
+        first = h.first ∙ sym (take-append-le p xs (x ∷ []) (omega arith));
+        last = ap (λ l. x ∷ l) h.last ∙ sym (reverse-append (drop (length xs - q) xs) (x ∷ []))
+            ∙ ap reverse (sym (drop-append-le (length xs - q) xs (x ∷ []) (omega arith))) ∙ ap (λ n. reverse (drop n all)) (sym last_is);
+        middle = h.middle ∙ sym (take-append-le (length xs - q - p) (drop p xs) (x ∷ []) (omega arith))
+            ∙ ap (take (length xs - q - p)) (sym (drop-append-le p xs (x ∷ []) (omega arith))) ∙ ap (λ n. take (n - p) (drop p all)) (sym last_is);
+      }
+
+module _ {S T : Type 0} (gives gives_back : S → Option T → S → Type 0) (rest : S → List T)
+    (first : (s : S) (r : Option T) (t : S) → gives s r t → YieldsFirst rest s r t)
+    (last : (s : S) (r : Option T) (t : S) → gives_back s r t → YieldsLast rest s r t) where
+  one_front : (s : S) (r : Option T) (t : S) (word : List End) (answers : List (Option T)) (left : List T)
+      → YieldsFirst rest s r t → TakesFromEnds (rest t) word answers left → TakesFromEnds (rest s) (front ∷ word) (r ∷ answers) left
+  one_front s None t word answers left y h =
+      subst (λ l. TakesFromEnds l (front ∷ word) (None ∷ answers) left) (sym y.0)
+      (TakesFromEnds-none word front answers left (subst (λ l. TakesFromEnds l word answers left) y.1 h))
+  one_front s (Some x) t word answers left y h =
+      subst (λ l. TakesFromEnds l (front ∷ word) (Some x ∷ answers) left) (sym y) (TakesFromEnds-front x (rest t) word answers left h)
+
+  one_back : (s : S) (r : Option T) (t : S) (word : List End) (answers : List (Option T)) (left : List T)
+      → YieldsLast rest s r t → TakesFromEnds (rest t) word answers left → TakesFromEnds (rest s) (back ∷ word) (r ∷ answers) left
+  one_back s None t word answers left y h =
+      subst (λ l. TakesFromEnds l (back ∷ word) (None ∷ answers) left) (sym y.0)
+      (TakesFromEnds-none word back answers left (subst (λ l. TakesFromEnds l word answers left) y.1 h))
+  one_back s (Some x) t word answers left y h =
+      subst (λ l. TakesFromEnds l (back ∷ word) (Some x ∷ answers) left) (sym y) (TakesFromEnds-back x (rest t) word answers left h)
+
+  pub Asks-takes : (from : S) (word : List End) (answers : List (Option T)) (to : S)
+      → Asks gives gives_back from word answers to → TakesFromEnds (rest from) word answers (rest to)
+  Asks-takes from [] [] to same = subst (λ t. TakesFromEnds (rest from) [] [] (rest t)) (sym same) (TakesFromEnds-nil (rest from))
+  Asks-takes from [] (r ∷ answers) to asks = absurd asks
+  Asks-takes from (e ∷ word) [] to asks = absurd asks
+  Asks-takes from (front ∷ word) (r ∷ answers) to asks =
+      one_front from r asks.0 word answers (rest to) (first from r asks.0 asks.1) (Asks-takes asks.0 word answers to asks.2)
+  Asks-takes from (back ∷ word) (r ∷ answers) to asks =
+      one_back from r asks.0 word answers (rest to) (last from r asks.0 asks.1) (Asks-takes asks.0 word answers to asks.2)

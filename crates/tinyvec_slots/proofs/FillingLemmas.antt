@@ -1,0 +1,108 @@
+-- Lemmas on items that are placed one by one.
+use Rattle.std.proofs.Common.{◌≡◌, ℕ, ◌+◌, ◌-◌, ◌<◌, ◌≤◌, List, ◌∷◌, ◌++◌, [], Option, Some, None, length, get_or, take, drop, set, inl, inr, sym, ap, ◌∙◌, arith, rules, length-take, length-drop, drop-set-lt, append-nil, take_at}
+use Rattle.std.proofs.lemmas.Bool.{cases_lt}
+use Rattle.std.proofs.lemmas.List.{drop-drop, drop_at, drop_all, take_all, get_or-drop, length_push, take_more}
+use Rattle.std.specs.Iterator.{Yields, YieldsThen}
+use Rattle.tinyvec_slots.specs.Filling.{YieldsUpTo, ShowsItems}
+use Rattle.tinyvec_slots.specs.Slots.{Slots, Frees, SlotRule, items, spare, items_len}
+use Rattle.tinyvec_slots.proofs.SlotsLemmas.{slots_used, slots_freed}
+
+-- one more item used up one more spare slot
+pub spare_after : {T : Type 0} (old mid new : Slots T) (x : T) → items_len old ≤ items_len mid → items new ≡ items mid ++ x ∷ []
+    → spare mid ≡ drop (items_len mid - items_len old) (spare old) → spare new ≡ drop 1 (spare mid)
+    → spare new ≡ drop (items_len new - items_len old) (spare old)
+spare_after old mid new x le more before after =
+    let grown : items_len new ≡ items_len mid + 1 = ap length more ∙ length_push (items mid) x in
+    let used : items_len mid - items_len old + 1 ≡ items_len new - items_len old = omega (arith, grown) in
+    after ∙ ap (drop 1) before ∙ drop-drop 1 (items_len mid - items_len old) (spare old) ∙ ap (λ k. drop k (spare old)) used
+
+module _ {S A : Type 0} (steps : S → Option A → S → Type 0) (n : ℕ) (s : S) (xs : List A) (u : S) where
+  -- the calls ended with the last item that there was room for
+  pub stopped_full : length xs ≡ n → Yields steps s xs u → YieldsUpTo steps n s xs u
+  stopped_full all run = record {
+    at_most_n = omega (arith, all);
+    stopped = λ _. run;
+    ended = λ less. absurd (omega (arith, all, less));
+  }
+
+  -- or with `None` before that
+  pub stopped_early : length xs < n → YieldsThen steps s xs None u → YieldsUpTo steps n s xs u
+  stopped_early less run = record {
+    at_most_n = omega (arith, less);
+    stopped = λ all. absurd (omega (arith, all, less));
+    ended = λ _. run;
+  }
+
+module _ {X : Type 0} (from first : List X) (i : ℕ) where
+  -- what stands at i of a list that is left from i on as it was
+  pub one_taken : (x : X) → i < length first → drop i from ≡ drop i first → x ≡ get_or from i x
+      → take (i + 1) first ≡ take i first ++ x ∷ []
+  one_taken x lt rest is =
+      let zero : i + 0 ≡ i = omega arith in
+      let head : (l : List X) → get_or (drop i l) 0 x ≡ get_or l i x = λ l. get_or-drop i l 0 x ∙ ap (λ k. get_or l k x) zero in
+      let same : get_or first i x ≡ x = sym (head first) ∙ ap (λ l. get_or l 0 x) (sym rest) ∙ head from ∙ sym is in
+      take_more first i x lt ∙ ap (λ y. take i first ++ y ∷ []) same
+
+  -- what lies behind it stays as it was
+  pub rest_after_one : (d : X) → drop i from ≡ drop i first → drop (i + 1) (set from i d) ≡ drop (i + 1) first
+  rest_after_one d rest =
+      drop-set-lt (i + 1) from i d (omega arith) ∙ sym (drop-drop 1 i from) ∙ ap (drop 1) rest ∙ drop-drop 1 i first
+
+none_of : {T : Type 0} (ds : List T) → length ds ≡ 0 → (xs : List T) → ds ++ xs ≡ xs
+none_of [] e xs = search rules
+none_of (d ∷ ds) e xs = search (rules, arith)
+
+-- a list that is cut to n items, and then filled up to as many
+pub slots_resized : {T : Type 0} (D : T → Type 0) (old mid new : Slots T) (n : ℕ) → items mid ≡ take n (items old)
+    → Frees D (items_len old - n) old mid → items_len mid ≤ items_len new → items_len new ≡ n
+    → spare new ≡ drop (items_len new - items_len mid) (spare mid) → SlotRule D old new
+slots_resized D old mid new n cut frees le long used =
+    let short = ap length cut ∙ length-take n (items old) in
+    elim (cases_lt (items_len old) n) [
+      | inl more ↦
+          let none : items_len old - n ≡ 0 = omega (arith, more) in
+          let same : spare mid ≡ spare old = frees.2 ∙ none_of frees.0 (frees.1.0 ∙ none) (spare old) in
+          let count : items_len new - items_len mid ≡ n - items_len old = omega (arith, more, short, long) in
+          slots_used D old new (n - items_len old) (omega (arith, more, long)) (used ∙ ap (drop (items_len new - items_len mid)) same ∙ ap (λ k. drop k (spare old)) count)
+      | inr less ↦
+          let none : items_len new - items_len mid ≡ 0 = omega (arith, less, short, long) in
+          let same : spare new ≡ spare mid = used ∙ ap (λ k. drop k (spare mid)) none in
+          slots_freed D old new (items_len old - n) (omega (arith, less, long)) (frees.0, frees.1, same ∙ frees.2)
+    ]
+
+-- of an iterator whose items `rest` shows
+module _ {S A : Type 0} (steps : S → Option A → S → Type 0) (rest : S → List A) (shows : ShowsItems steps rest) where
+  pub yielded : (s : S) (xs : List A) (u : S) → Yields steps s xs u → rest s ≡ xs ++ rest u
+  yielded s [] u run = ap rest run
+  yielded s (x ∷ xs) u run = shows s (Some x) run.0 run.1 ∙ ap (λ l. x ∷ l) (yielded run.0 xs u run.2)
+
+  pub drained : (s : S) (xs : List A) (u : S) → YieldsThen steps s xs None u → rest s ≡ xs
+  drained s xs u run =
+      let none = shows run.0 None u run.2 in
+      yielded s xs run.0 run.1 ∙ ap (λ l. xs ++ l) none.0 ∙ append-nil xs
+
+  pub refused : (s : S) (xs : List A) (x : A) (u : S) → YieldsThen steps s xs (Some x) u → rest s ≡ xs ++ x ∷ rest u
+  refused s xs x u run = yielded s xs run.0 run.1 ∙ ap (λ l. xs ++ l) (shows run.0 (Some x) u run.2)
+
+  -- what `YieldsUpTo` placed, and what it left
+  pub filled : (n : ℕ) (s : S) (xs : List A) (u : S) → YieldsUpTo steps n s xs u
+      → (xs ≡ take n (rest s)) × (rest u ≡ drop n (rest s))
+  filled n s xs u run =
+      elim (cases_lt (length xs) n) [
+        | inl less ↦
+            let all = drained s xs u (run.ended less) in
+            let le : length (rest s) ≤ n = omega (arith, less, ap length all) in
+            (sym all ∙ sym (take_all n (rest s) le), (shows _ None u (run.ended less).2).1 ∙ sym (drop_all n (rest s) le))
+        | inr more ↦
+            let full : length xs ≡ n = omega (arith, more, run.at_most_n) in
+            let all = yielded s xs u (run.stopped full) in
+            (sym (take_at xs (rest u) n full) ∙ ap (take n) (sym all), sym (drop_at xs (rest u) n full) ∙ ap (drop n) (sym all))
+      ]
+
+-- whether something lies behind the first n
+module _ {X : Type 0} (n : ℕ) (xs : List X) where
+  pub longer : (x : X) (ys : List X) → drop n xs ≡ x ∷ ys → n < length xs
+  longer x ys e = omega (arith, ap length e, length-drop n xs)
+
+  pub no_longer : drop n xs ≡ [] → length xs ≤ n
+  no_longer e = omega (arith, ap length e, length-drop n xs)

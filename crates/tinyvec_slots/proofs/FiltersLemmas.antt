@@ -1,0 +1,147 @@
+-- The turns of the loops that keep some items of a slice.
+use Rattle.std.proofs.Common.{cond, ◌⊎◌, inl, inr, ◌≡◌, ℕ, zero, suc, ◌+◌, ◌-◌, ◌<◌, ◌≤◌, Bool, true, false, List, [], ◌∷◌, ◌++◌, length, get_or, set, take, drop, swap, refl, sym, ap, subst, ◌∙◌, arith, length-set, drop-set-lt}
+use Rattle.std.proofs.lemmas.List.{get_or-set_same, set-get_or, take-set-le, take-set, take-take, take_more_set, get_or-take, set_comm}
+use Rattle.std.proofs.lemmas.List.Edits.{swap_is}
+use Rattle.std.proofs.lemmas.Bool.{cases_lt}
+use Rattle.std.proofs.RetainMut.{RetainMutInvariant, sift_on, DedupInvariant, merge_on}
+use Rattle.std.specs.List.{items_where_true}
+use Rattle.std.specs.List.Retain.{RetainsInTurn, IsFiltered}
+use Rattle.tinyvec_slots.specs.Filters.{AsksPair}
+
+-- after a swap of k and i, what stood at i stands behind the first k items, and those past i are the same
+module _ {X : Type 0} (ys : List X) (k i : ℕ) (x : X) (le : k ≤ i) (lt : i < length ys) (is : x ≡ get_or ys i x) where
+  -- the item goes down, or stays in its place
+  front_at : (k < i) ⊎ (i ≤ k) → take (k + 1) (set (set ys k (get_or ys i x)) i (get_or ys k x)) ≡ take k ys ++ x ∷ []
+  front_at (inl below) =
+      take-set-le (k + 1) (set ys k (get_or ys i x)) i (get_or ys k x) (omega arith)
+      ∙ take_more_set ys k (get_or ys i x) (omega arith) ∙ ap (λ y. take k ys ++ y ∷ []) (sym is)
+  front_at (inr same) =
+      let at : i ≡ k = omega arith in
+      ap (λ j. take (k + 1) (set (set ys k (get_or ys i x)) j (get_or ys k x))) at
+      ∙ take_more_set (set ys k (get_or ys i x)) k (get_or ys k x) (omega (arith, length-set ys k (get_or ys i x)))
+      ∙ (λ t. take-set ys k (get_or ys i x) t ++ get_or ys (sym at t) x ∷ []) ∙ ap (λ y. take k ys ++ y ∷ []) (sym is)
+
+  swapped_front : take (k + 1) (swap ys k i) ≡ take k ys ++ x ∷ []
+  swapped_front = ap (take (k + 1)) (sym (swap_is ys k i x (omega arith) lt)) ∙ front_at (cases_lt k i)
+
+  swapped_behind : drop (i + 1) (swap ys k i) ≡ drop (i + 1) ys
+  swapped_behind =
+      ap (drop (i + 1)) (sym (swap_is ys k i x (omega arith) lt)) ∙ drop-set-lt (i + 1) (set ys k (get_or ys i x)) i (get_or ys k x) (omega arith)
+      ∙ drop-set-lt (i + 1) ys k (get_or ys i x) (omega arith)
+
+module _ {S X : Type 0} (R : S → X → Bool → S → X → Type 0) where
+  -- the invariant reads the first k items and those from i on
+  retain_moved : (s₀ : S) (xs : List X) (s : S) (ys zs : List X) (k i : ℕ) → drop i zs ≡ drop i ys → take k zs ≡ take k ys
+      → RetainMutInvariant R s₀ xs s ys k i → RetainMutInvariant R s₀ xs s zs k i
+  retain_moved s₀ xs s ys zs k i tail front h = (tail ∙ h.0, λ rest g. rw front (h.1 rest g))
+
+  -- a turn of `retain_mut` at i, with k items kept so far, where the question left y
+  module _ (s₀ : S) (xs : List X) (s t : S) (ys : List X) (k i : ℕ) (x y : X) (le : k ≤ i) (lt : i < length ys)
+      (is : x ≡ get_or ys i x) (h : RetainMutInvariant R s₀ xs s ys k i) where
+    pub keeps_item : R s x true t y → RetainMutInvariant R s₀ xs t (swap (set ys i y) k i) (k + 1) (i + 1)
+    keeps_item asked =
+        let zs = set ys i y in
+        let long = length-set ys i y in
+        let here = sym (get_or-set_same ys i y y lt) in
+        retain_moved s₀ xs t (set zs k y) (swap zs k i) (k + 1) (i + 1)
+        (swapped_behind zs k i y le (omega arith) here ∙ sym (drop-set-lt (i + 1) zs k y (omega arith)))
+        (swapped_front zs k i y le (omega arith) here ∙ sym (take_more_set zs k y (omega arith)))
+        (sift_on R s₀ xs s t ys k i x y le lt is h true asked)
+
+    pub drops_item : R s x false t y → RetainMutInvariant R s₀ xs t (set ys i y) k (i + 1)
+    drops_item asked =
+        let zs = set ys i y in
+        retain_moved s₀ xs t (set zs k y) zs k (i + 1) (sym (drop-set-lt (i + 1) zs k y (omega arith)))
+        (sym (take-set zs k y)) (sift_on R s₀ xs s t ys k i x y le lt is h false asked)
+
+module _ {S X : Type 0} (R : S → X → Bool → S → Type 0) where
+  -- a question that leaves the item as it was
+  abbrev pub OnlyAsks : S → X → Bool → S → X → Type 0
+  OnlyAsks s x b t y = R s x b t × (y ≡ x)
+
+  chosen : (b : Bool) (bs : List Bool) (x y : X) (xs ys zs : List X) → ys ≡ cond b (y ∷ zs) zs → y ≡ x → zs ≡ items_where_true bs xs
+      → ys ≡ items_where_true (b ∷ bs) (x ∷ xs)
+  chosen true bs x y xs ys zs is same rest = is ∙ ap (λ z. z ∷ zs) same ∙ ap (λ l. x ∷ l) rest
+  chosen false bs x y xs ys zs is same rest = is ∙ rest
+
+  -- then what stays is the items that were answered with `true`
+  pub filtered_in_turn : (s : S) (xs ys : List X) → RetainsInTurn OnlyAsks s xs ys → IsFiltered R s xs ys
+  filtered_in_turn s [] ys h = ([], s, refl, refl, h)
+  filtered_in_turn s (x ∷ xs) ys h =
+      let rest = filtered_in_turn h.1 xs h.4 h.5 in (
+        h.0 ∷ rest.0,
+        rest.1,
+        ap suc rest.2,
+        (h.1, h.3.0, rest.3),
+        chosen h.0 rest.0 x h.2 xs ys h.4 h.6 h.3.1 rest.4,
+      )
+
+  -- a turn of `retain` at i
+  module _ (s₀ : S) (xs : List X) (s t : S) (ys : List X) (k i : ℕ) (x : X) (le : k ≤ i) (lt : i < length ys)
+      (is : x ≡ get_or ys i x) (h : RetainMutInvariant OnlyAsks s₀ xs s ys k i) where
+    unchanged : set ys i x ≡ ys
+    unchanged = ap (set ys i) is ∙ set-get_or ys i x
+
+    pub keeps_shown : R s x true t → RetainMutInvariant OnlyAsks s₀ xs t (swap ys k i) (k + 1) (i + 1)
+    keeps_shown asked =
+        subst (λ zs. RetainMutInvariant OnlyAsks s₀ xs t (swap zs k i) (k + 1) (i + 1)) unchanged
+        (keeps_item OnlyAsks s₀ xs s t ys k i x x le lt is h (asked, refl))
+
+    pub drops_shown : R s x false t → RetainMutInvariant OnlyAsks s₀ xs t ys k (i + 1)
+    drops_shown asked =
+        subst (λ zs. RetainMutInvariant OnlyAsks s₀ xs t zs k (i + 1)) unchanged
+        (drops_item OnlyAsks s₀ xs s t ys k i x x le lt is h (asked, refl))
+
+module _ {S X : Type 0} (R : S → X → X → Bool → S → X → X → Type 0) where
+  -- the invariant reads the first k items and those from i on
+  dedup_moved : (s₀ : S) (xs : List X) (s : S) (ys zs : List X) (k i : ℕ) → 0 < k → drop i zs ≡ drop i ys → take k zs ≡ take k ys
+      → DedupInvariant R s₀ xs s ys k i → DedupInvariant R s₀ xs s zs k i
+  dedup_moved s₀ xs s ys zs k i pos tail front h =
+      let less = sym (take-take (k - 1) k zs (omega arith)) ∙ ap (take (k - 1)) front ∙ take-take (k - 1) k ys (omega arith) in (
+        tail ∙ h.0,
+        λ w rest read g. rw less (h.1 w rest (read ∙ sym (get_or-take k zs (k - 1) w (omega arith)) ∙ ap (λ l. get_or l (k - 1) w) front ∙ get_or-take k ys (k - 1) w (omega arith)) g),
+      )
+
+  -- a turn of `dedup_by` at i, with k items kept so far, where the question left zs
+  module _ (s₀ : S) (xs : List X) (s t : S) (ys zs : List X) (k i : ℕ) (pos : 0 < k) (le : k ≤ i) (lt : i < length ys)
+      (h : DedupInvariant R s₀ xs s ys k i) where
+    apart : (left beside : X) → zs ≡ set (set ys i left) (k - 1) beside → zs ≡ set (set ys (k - 1) beside) i left
+    apart left beside after = after ∙ set_comm ys i (k - 1) left beside (λ e. absurd (omega arith))
+
+    pub drops_repeat : AsksPair R s ys i (k - 1) true t zs → DedupInvariant R s₀ xs t zs k (i + 1)
+    drops_repeat a =
+        let written = set ys (k - 1) a.left_beside in
+        let is = apart a.left a.left_beside a.after in
+        dedup_moved s₀ xs t written zs k (i + 1) pos
+        (ap (drop (i + 1)) is ∙ drop-set-lt (i + 1) written i a.left (omega arith))
+        (ap (take k) is ∙ take-set-le k written i a.left le)
+        (merge_on R s₀ xs s t ys k i a.shown a.beside a.left a.left_beside pos le lt a.shows.0 a.shows.1 h true a.asked).1
+
+    pub keeps_other : AsksPair R s ys i (k - 1) false t zs → DedupInvariant R s₀ xs t (swap zs k i) (k + 1) (i + 1)
+    keeps_other a =
+        let written = set ys (k - 1) a.left_beside in
+        let is = apart a.left a.left_beside a.after in
+        let first = length-set ys (k - 1) a.left_beside in
+        let long = ap length is ∙ length-set written i a.left ∙ first in
+        let here : a.left ≡ get_or zs i a.left = sym (ap (λ l. get_or l i a.left) is ∙ get_or-set_same written i a.left a.left (omega arith)) in
+        dedup_moved s₀ xs t (set written k a.left) (swap zs k i) (k + 1) (i + 1) (omega arith)
+        (swapped_behind zs k i a.left le (omega arith) here ∙ ap (drop (i + 1)) is ∙ drop-set-lt (i + 1) written i a.left (omega arith)
+        ∙ sym (drop-set-lt (i + 1) written k a.left (omega arith)))
+        (swapped_front zs k i a.left le (omega arith) here ∙ ap (λ l. l ++ a.left ∷ []) (ap (take k) is ∙ take-set-le k written i a.left le)
+        ∙ sym (take_more_set written k a.left (omega arith)))
+        (merge_on R s₀ xs s t ys k i a.shown a.beside a.left a.left_beside pos le lt a.shows.0 a.shows.1 h false a.asked).1
+
+module _ {X : Type 0} where
+  write_behind : (xs : List X) (i : ℕ) (x : X) → take i xs ++ set (drop i xs) 0 x ≡ set xs i x
+  write_behind [] zero x = refl
+  write_behind [] (suc i) x = refl
+  write_behind (z ∷ xs) zero x = refl
+  write_behind (z ∷ xs) (suc i) x = ap (λ l. z ∷ l) (write_behind xs i x)
+
+  -- writes to the two parts of a slice that was cut at i
+  pub joined_writes : (xs : List X) (i j : ℕ) (x y : X) → j < i → set (take i xs) j y ++ set (drop i xs) 0 x ≡ set (set xs i x) j y
+  joined_writes xs zero j x y lt = absurd (omega (arith, lt))
+  joined_writes [] (suc i) zero x y lt = refl
+  joined_writes [] (suc i) (suc j) x y lt = refl
+  joined_writes (z ∷ xs) (suc i) zero x y lt = ap (λ l. y ∷ l) (write_behind xs i x)
+  joined_writes (z ∷ xs) (suc i) (suc j) x y lt = ap (λ l. z ∷ l) (joined_writes xs i j x y (omega (arith, lt)))

@@ -1,0 +1,50 @@
+-- Lemmas on the list and the spare slots.
+use Rattle.std.proofs.Common.{◌≡◌, ℕ, ◌+◌, ◌-◌, List, [], ◌++◌, length, drop, replicate, sym, ap, ◌∙◌, ◌<◌, slice_set, drop-set-lt, arith, rules, take-append-drop}
+use Rattle.std.proofs.Math.Seq.{take-set-lt}
+use Rattle.std.proofs.lemmas.List.Elements.{All-nil}
+use Rattle.std.proofs.lemmas.List.{same_lists, places, get_or-replicate, length-replicate}
+use Rattle.tinyvec_slots.specs.Slots.{Slots, AreDefaults, Frees, SlotRule, items_len, all_slots, items, spare, with_items, with_slot}
+
+-- the slots are the list and what stands behind it
+pub slots_are : {T : Type 0} (v : Slots T) → all_slots v ≡ items v ++ spare v
+slots_are v = sym (take-append-drop v.len v.slots)
+
+-- a write through the slice of the items, which keeps its length, leaves what the slice shows
+pub items-with_items : {T : Type 0} (v : Slots T) (ws : List T) → length ws ≡ items_len v → items (with_items v ws) ≡ ws
+items-with_items v ws e = same_lists _ _ (search (rules, places, e)) (λ k d h. grind (arith, places, e))
+
+-- and leaves the slots behind
+pub spare-with_items : {T : Type 0} (v : Slots T) (ws : List T) → length ws ≡ items_len v → spare (with_items v ws) ≡ spare v
+spare-with_items v ws e = same_lists _ _ (search (rules, places, e)) (λ k d h. grind (arith, places, e))
+
+-- a write of one slot of the list writes that item
+pub items-with_slot : {T : Type 0} (v : Slots T) (i : ℕ) (x : T) → i < items_len v → items (with_slot v i x) ≡ slice_set (items v) i x
+items-with_slot v i x h = take-set-lt v.len v.slots i x (search (rules, h, places))
+
+-- and leaves the others alone
+pub spare-with_slot : {T : Type 0} (v : Slots T) (i : ℕ) (x : T) → i < items_len v → spare (with_slot v i x) ≡ spare v
+spare-with_slot v i x h = drop-set-lt v.len v.slots i x (search (rules, h, places))
+
+-- the slot rule of a call that made the list longer, shorter, or neither
+module _ {T : Type 0} (D : T → Type 0) (old new : Slots T) where
+  pub slots_used : (k : ℕ) → items_len new ≡ items_len old + k → spare new ≡ drop k (spare old) → SlotRule D old new
+  slots_used k len behind =
+      let none : items_len old - items_len new ≡ 0 = omega arith in
+      let more : items_len new - items_len old ≡ k = omega arith in
+      ([], (sym none, All-nil D), behind ∙ ap (λ n. drop n (spare old)) (sym more))
+
+  pub slots_freed : (k : ℕ) → items_len old ≡ items_len new + k → Frees D k old new → SlotRule D old new
+  slots_freed k len h =
+      let fewer : items_len old - items_len new ≡ k = omega arith in
+      let none : items_len new - items_len old ≡ 0 = omega arith in
+      (h.0, (h.1.0 ∙ sym fewer, h.1.1), h.2 ∙ ap (λ n. h.0 ++ drop n (spare old)) (sym none))
+
+-- where the item's `Default` answers one value only
+module _ {T : Type 0} (D : T → Type 0) (c : T) (only : (x : T) → D x → x ≡ c) where
+  pub defaults_are : (n : ℕ) (xs : List T) → AreDefaults D n xs → xs ≡ replicate n c
+  defaults_are n xs h =
+      same_lists xs (replicate n c) (h.0 ∙ sym (length-replicate n c))
+      (λ k d lt. only _ (h.1 k d lt) ∙ sym (get_or-replicate n k c d (rw (← h.0) lt)))
+
+  pub freed : (n : ℕ) (old new : Slots T) → Frees D n old new → spare new ≡ replicate n c ++ spare old
+  freed n old new h = h.2 ∙ ap (λ ds. ds ++ spare old) (defaults_are n h.0 h.1)

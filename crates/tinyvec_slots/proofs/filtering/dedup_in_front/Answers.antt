@@ -1,0 +1,36 @@
+use Rattle.std.proofs.Common.{◌<◌, length, arith}
+use Rattle.std.specs.Fn.{CalledAtPairMut}
+use Rattle.std.proofs.RetainMut.{dedup_end}
+use Rattle.tinyvec_slots.proofs.FiltersLemmas.{drops_repeat, keeps_other}
+use Rattle.tinyvec_slots.proofs.filtering.dedup_in_front.Goals.{then-not-ask_pair, else-not-ask_pair}
+use Rattle.tinyvec_slots.proofs.filtering.dedup_in_front.Goals as goal
+
+pub loop-i-preserved : goal.loop-i-preserved
+loop-i-preserved g c =
+    let at = c.loop-i in
+    let R = CalledAtPairMut g.F.FnMut in
+    let within : at.i < length at.items = omega arith in
+    let asked = c.ask_pair.ensures.asked in
+    let again = c.ask_pair.ensures.callable in
+    elim c.if-not-ask_pair.branch [
+      | then-not-ask_pair w ↦ rw (w.items-is, w.kept-is, w.swap.ensures.after) (record {
+        some = omega arith;
+        order = omega arith;
+        callable = again;
+        so_far = keeps_other R c.args.same c.args.items.now at.same _ at.items _ at.kept at.i at.invariant.some at.invariant.order within
+            at.invariant.so_far (rw w.if-not-ask_pair.true at asked);
+      })
+      | else-not-ask_pair w ↦ rw (w.items-is, w.kept-is) (record {
+        some = at.invariant.some;
+        order = omega arith;
+        callable = again;
+        so_far = drops_repeat R c.args.same c.args.items.now at.same _ at.items _ at.kept at.i at.invariant.some at.invariant.order within
+            at.invariant.so_far (rw w.if-not-ask_pair.false at asked);
+      })
+    ]
+
+pub returns-clause-filtered : goal.returns-clause-filtered
+returns-clause-filtered g c =
+    let at = c.loop-i in
+    dedup_end (CalledAtPairMut g.F.FnMut) c.args.same c.args.items.now at.same at.items at.kept at.i at.invariant.some
+    (omega arith) (omega arith) at.invariant.so_far

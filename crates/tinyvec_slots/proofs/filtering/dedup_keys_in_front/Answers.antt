@@ -1,0 +1,36 @@
+use Rattle.std.proofs.Common.{◌<◌, length, arith}
+use Rattle.std.specs.Fn.{ComparesKeys}
+use Rattle.std.proofs.RetainMut.{dedup_end}
+use Rattle.tinyvec_slots.proofs.FiltersLemmas.{drops_repeat, keeps_other}
+use Rattle.tinyvec_slots.proofs.filtering.dedup_keys_in_front.Goals.{then-not-compare_keys, else-not-compare_keys}
+use Rattle.tinyvec_slots.proofs.filtering.dedup_keys_in_front.Goals as goal
+
+pub loop-i-preserved : goal.loop-i-preserved
+loop-i-preserved g c =
+    let at = c.loop-i in
+    let R = ComparesKeys g.F.FnMut g.K.PartialEq.eq in
+    let within : at.i < length at.items = omega arith in
+    let asked = c.compare_keys.ensures.asked in
+    let again = c.compare_keys.ensures.callable in
+    elim c.if-not-compare_keys.branch [
+      | then-not-compare_keys w ↦ rw (w.items-is, w.kept-is, w.swap.ensures.after) (record {
+        some = omega arith;
+        order = omega arith;
+        callable = again;
+        so_far = keeps_other R c.args.key c.args.items.now at.key _ at.items _ at.kept at.i at.invariant.some at.invariant.order within
+            at.invariant.so_far (rw w.if-not-compare_keys.true at asked);
+      })
+      | else-not-compare_keys w ↦ rw (w.items-is, w.kept-is) (record {
+        some = at.invariant.some;
+        order = omega arith;
+        callable = again;
+        so_far = drops_repeat R c.args.key c.args.items.now at.key _ at.items _ at.kept at.i at.invariant.some at.invariant.order within
+            at.invariant.so_far (rw w.if-not-compare_keys.false at asked);
+      })
+    ]
+
+pub returns-clause-filtered : goal.returns-clause-filtered
+returns-clause-filtered g c =
+    let at = c.loop-i in
+    dedup_end (ComparesKeys g.F.FnMut g.K.PartialEq.eq) c.args.key c.args.items.now at.key at.items at.kept at.i at.invariant.some
+    (omega arith) (omega arith) at.invariant.so_far

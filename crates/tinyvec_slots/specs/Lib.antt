@@ -1,0 +1,6 @@
+pub mod Slots
+pub mod Cut
+pub mod Ends
+pub mod Filters
+pub mod Clones
+pub mod Filling

@@ -1,0 +1,132 @@
+//! Keeping some items of a slice: those kept move to its front, in order.
+ghost use Rattle.std.specs.Prelude.{◌≡◌, ◌<◌, ◌≤◌, length, take};
+ghost use Rattle.std.specs.Fn.{CalledAt, CalledAtMut, CalledAtPairMut, ComparesKeys};
+ghost use Rattle.std.specs.List.Retain.{IsFiltered, RetainsInTurn, IsDeduped};
+ghost use Rattle.tinyvec_slots.specs.Filters.{AsksPair};
+
+/// Moves the items at which `f` answers `true` to the front, and counts them.
+pub fn retain_in_front<T, F: FnMut(&T) -> bool>(items: &mut [T], mut f: F) -> usize
+    requires { F.IsAlwaysCallable f }
+    ensures filtered { IsFiltered (CalledAt F.FnMut) f items.old (take result items.new) }
+    ensures bound { result ≤ length items.old }
+    ensures len { length items.new ≡ length items.old }
+{
+    let mut kept = 0;
+    for i in 0..items.len() {
+        if f(&items[i]) {
+            items.swap(kept, i);
+            kept += 1;
+        }
+    }
+    kept
+}
+
+/// The same where `f` may write to the item that it is asked about.
+pub fn retain_mut_in_front<T, F: FnMut(&mut T) -> bool>(items: &mut [T], mut f: F) -> usize
+    requires { F.IsAlwaysCallable f }
+    ensures filtered { RetainsInTurn (CalledAtMut F.FnMut) f items.old (take result items.new) }
+    ensures bound { result ≤ length items.old }
+    ensures len { length items.new ≡ length items.old }
+{
+    let mut kept = 0;
+    for i in 0..items.len() {
+        if f(&mut items[i]) {
+            items.swap(kept, i);
+            kept += 1;
+        }
+    }
+    kept
+}
+
+/// Moves the items that `dedup_by` keeps to the front, and counts them.
+pub fn dedup_in_front<T, F: FnMut(&mut T, &mut T) -> bool>(items: &mut [T], mut same: F) -> usize
+    requires { F.IsAlwaysCallable same }
+    ensures filtered { IsDeduped (CalledAtPairMut F.FnMut) same items.old (take result items.new) }
+    ensures bound { result ≤ length items.old }
+    ensures len { length items.new ≡ length items.old }
+{
+    let count = items.len();
+    if count == 0 {
+        return 0;
+    }
+    let mut kept = 1;
+    for i in 1..count {
+        if !ask_pair(items, &mut same, i, kept - 1) {
+            items.swap(kept, i);
+            kept += 1;
+        }
+    }
+    kept
+}
+
+/// Moves the items that `dedup_by_key` keeps to the front, and counts them.
+pub fn dedup_keys_in_front<T, F: FnMut(&mut T) -> K, K: PartialEq + Drop>(
+    items: &mut [T],
+    mut key: F,
+) -> usize
+    requires { F.IsAlwaysCallable key }
+    ensures filtered { IsDeduped (ComparesKeys F.FnMut K.eq) key items.old (take result items.new) }
+    ensures bound { result ≤ length items.old }
+    ensures len { length items.new ≡ length items.old }
+{
+    let count = items.len();
+    if count == 0 {
+        return 0;
+    }
+    let mut kept = 1;
+    for i in 1..count {
+        if !compare_keys(items, &mut key, i, kept - 1) {
+            items.swap(kept, i);
+            kept += 1;
+        }
+    }
+    kept
+}
+
+// Asks `same` about the item at `current` and the one at `last` before it.
+fn ask_pair<T, F: FnMut(&mut T, &mut T) -> bool>(
+    items: &mut [T],
+    same: &mut F,
+    current: usize,
+    last: usize,
+) -> bool
+    requires callable { F.IsAlwaysCallable same.old }
+    requires before { last < current }
+    requires in_bounds { current < length items.old }
+    ensures asked { AsksPair (CalledAtPairMut F.FnMut) same.old items.old current last result same.new items.new }
+    ensures callable { F.IsAlwaysCallable same.new }
+{
+    let (front, back) = items.split_at_mut(current);
+    ask_at_one_lifetime(same, &mut back[0], &mut front[last])
+}
+
+// Gives both references one lifetime, which the proof of the loan needs.
+fn ask_at_one_lifetime<'a, T, F: FnMut(&mut T, &mut T) -> bool>(
+    same: &mut F,
+    current: &'a mut T,
+    last: &'a mut T,
+) -> bool
+    requires { F.IsAlwaysCallable same.old }
+    ensures called { CalledAtPairMut F.FnMut same.old current.old last.old result same.new current.new last.new }
+    ensures callable { F.IsAlwaysCallable same.new }
+{
+    same(current, last)
+}
+
+// Compares the key of the item at `current` with that of the one at `last` before it.
+fn compare_keys<T, F: FnMut(&mut T) -> K, K: PartialEq + Drop>(
+    items: &mut [T],
+    key: &mut F,
+    current: usize,
+    last: usize,
+) -> bool
+    requires callable { F.IsAlwaysCallable key.old }
+    requires before { last < current }
+    requires in_bounds { current < length items.old }
+    ensures asked { AsksPair (ComparesKeys F.FnMut K.eq) key.old items.old current last result key.new items.new }
+    ensures callable { F.IsAlwaysCallable key.new }
+{
+    let current_key = key(&mut items[current]);
+    let last_key = key(&mut items[last]);
+    current_key == last_key
+}

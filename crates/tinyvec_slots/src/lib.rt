@@ -1,0 +1,14 @@
+//! What the vectors of this workspace share: the range rule, and what they do to a slice of slots.
+#![tactic(auto)]
+
+mod cloning;
+mod filtering;
+mod moving;
+mod range;
+mod resetting;
+
+pub use cloning::{clone_over, clone_through};
+pub use filtering::{dedup_in_front, dedup_keys_in_front, retain_in_front, retain_mut_in_front};
+pub use moving::{last_to, part_to_end};
+pub use range::resolve;
+pub use resetting::reset;
