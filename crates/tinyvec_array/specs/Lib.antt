@@ -3,3 +3,6 @@ pub mod Lends
 pub mod Drain
 pub mod Iterator
 pub mod Iterating
+pub mod Touches
+pub mod Fused
+pub mod Splice

@@ -10,6 +10,8 @@ mod lent;
 mod no_memory;
 mod no_room;
 mod slots;
+mod splice;
+mod touches;
 mod try_from_slice_error;
 
 pub use array::Array;
@@ -17,5 +19,6 @@ pub use array_vec::ArrayVec;
 pub use drain::ArrayVecDrain;
 pub use iterator::ArrayVecIterator;
 pub use no_memory::NoMemory;
-pub use no_room::{FromIterRest, NoRoom};
+pub use no_room::{FromIterRest, NoRoom, SpliceRest};
+pub use splice::ArrayVecSplice;
 pub use try_from_slice_error::TryFromSliceError;

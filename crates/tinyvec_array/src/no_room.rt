@@ -14,3 +14,10 @@ pub struct FromIterRest<V, T, I> {
     pub item: T,
     pub rest: I,
 }
+
+/// What `finish` of a splice found no room for: the first such item, and what gives the others.
+#[derive(Drop)]
+pub struct SpliceRest<T, I> {
+    pub item: T,
+    pub rest: I,
+}

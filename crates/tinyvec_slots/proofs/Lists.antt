@@ -32,6 +32,10 @@ module _ {X : Type 0} where
       same_lists _ _ (search (rules, places))
       (λ k e h. grind (arith, places, cases_eq (i + k) (j - 1), get_or_default xs (j - 1) e x))
 
+  -- what lies from the written place on
+  pub drop_from_set : (xs : List X) (j k : ℕ) (y : X) → 0 < j → j ≤ length xs → j ≡ k → drop (j - 1) (set xs (j - 1) y) ≡ y ∷ drop k xs
+  drop_from_set xs j k y pos le same = drop-emptied xs j y pos le ∙ ap (λ n. y ∷ drop n xs) same
+
 module _ {X : Type 0} (B M S : List X) (k n : ℕ) (long-B : length B ≡ k) (long-M : length M ≡ n) where
   -- three parts of a list, cut apart
   pub first_part : take k (B ++ M ++ S) ≡ B

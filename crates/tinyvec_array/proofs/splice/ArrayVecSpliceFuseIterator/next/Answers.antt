@@ -1,0 +1,52 @@
+use Rattle.std.proofs.Common.{◌≡◌, ◌<◌, ap, length, Some, None, refl, arith, append-nil, sym, ◌∙◌, slice_set, slice_index_or, length-set, drop-set-lt}
+use Rattle.std.proofs.lemmas.List.{take_more_set, take-set-le}
+use Rattle.tinyvec_slots.specs.Slots.{items, items_len, with_items}
+use Rattle.tinyvec_slots.proofs.Lists.{slice_range_first}
+use Rattle.tinyvec_slots.proofs.SlotsLemmas.{items-with_items, spare-with_items}
+use Rattle.tinyvec_array.proofs.Fused.{not_ended}
+use Rattle.tinyvec_array.proofs.splice.ArrayVecSpliceFuseIterator.next.Goals as goal
+
+pub returns-in-Some-clause-steps : goal.returns-in-Some-clause-steps
+returns-in-Some-clause-steps g c =
+    let s = c.args.self.now in
+    let xs = items s.vec.now in
+    let ws = c.replace-item.new.slots in
+    let ready = c.requires.0 in
+    let asked = rw c.in-Some.is at c.next.ensures.steps in
+    let no_gap = (ready.4 (not_ended g.I.Iterator.next_gives _ _ _ asked)).0 in
+    let within : s.next < items_len s.vec.now = omega (arith, ready.2, ready.3) in
+    let is : ws ≡ slice_set xs s.next c.in-Some.new = c.replace-item.ensures.after ∙ ap (λ l. slice_set l s.next c.in-Some.new) c.as_mut_slice.ensures.value in
+    let long : length ws ≡ items_len s.vec.now = ap length is ∙ length-set xs s.next c.in-Some.new in
+    let after : items (with_items s.vec.now ws) ≡ slice_set xs s.next c.in-Some.new = items-with_items s.vec.now ws long ∙ is in
+    let x = c.replace-item.result in
+    let value : x ≡ slice_index_or xs s.next x = c.replace-item.ensures.value ∙ ap (λ l. slice_index_or l s.next x) c.as_mut_slice.ensures.value in record {
+      left = rw after (slice_range_first xs s.next s.end _ _ (omega arith) (omega (arith, ready.2, ready.3)) value);
+      placed = Some c.in-Some.new;
+      asked = asked;
+      front = rw (after, no_gap) (take_more_set xs s.next c.in-Some.new within);
+      back = rw after (drop-set-lt s.back xs s.next c.in-Some.new (omega (arith, ready.2)));
+      touches = c.replace-item.ensures.count ∙ omega arith;
+      keeps = (refl, spare-with_items s.vec.now ws long, ap length (items-with_items s.vec.now ws long) ∙ long);
+    }
+
+pub returns-in-None-clause-steps : goal.returns-in-None-clause-steps
+returns-in-None-clause-steps g c =
+    let s = c.args.self.now in
+    let xs = items s.vec.now in
+    let ws = c.take-item.new.slots in
+    let ready = c.requires.0 in
+    let asked = rw c.in-None.is at c.next.ensures.steps in
+    let d = c.take-item.ensures.after.0 in
+    let is : ws ≡ slice_set xs s.next d = c.take-item.ensures.after.1 ∙ ap (λ l. slice_set l s.next d) c.as_mut_slice-in-None.ensures.value in
+    let long : length ws ≡ items_len s.vec.now = ap length is ∙ length-set xs s.next d in
+    let after : items (with_items s.vec.now ws) ≡ slice_set xs s.next d = items-with_items s.vec.now ws long ∙ is in
+    let x = c.take-item.result in
+    let value : x ≡ slice_index_or xs s.next x = c.take-item.ensures.value ∙ ap (λ l. slice_index_or l s.next x) c.as_mut_slice-in-None.ensures.value in record {
+      left = rw after (slice_range_first xs s.next s.end _ _ (omega arith) (omega (arith, ready.2, ready.3)) value);
+      placed = None;
+      asked = asked;
+      front = rw after (take-set-le s.front xs s.next d ready.0 ∙ sym (append-nil _));
+      back = rw after (drop-set-lt s.back xs s.next d (omega (arith, ready.2)));
+      touches = c.take-item.ensures.count ∙ omega arith;
+      keeps = (refl, spare-with_items s.vec.now ws long, ap length (items-with_items s.vec.now ws long) ∙ long);
+    }

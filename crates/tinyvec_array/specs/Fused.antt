@@ -1,0 +1,14 @@
+-- A fused iterator that shows what is left of it.
+use Rattle.std.specs.Prelude.{List, [], if◌then◌else◌, Option}
+use Rattle.std.specs.declared.iter.Fuse.{Fuse}
+use Rattle.std.specs.Iterator.{YieldsFirst, YieldsLast}
+use Rattle.std.specs.Iterator.Adapters.{fuse_done, fuse_source}
+
+-- what is left of a fused iterator, where `rest` is what is left of its source
+abbrev pub fused_rest : {S A : Type 0} → (S → List A) → Fuse S → List A
+fused_rest rest s = if fuse_done s then [] else rest (fuse_source s)
+
+-- an iterator gives the first item of a list by `next` and the last by `next_back`, and `rest` shows the list
+pub record HasTwoEnds {S A : Type 0} (gives gives_back : S → Option A → S → Type 0) (rest : S → List A) : Type 0 where
+  pub first : (s : S) (r : Option A) (t : S) → gives s r t → YieldsFirst rest s r t
+  pub last : (s : S) (r : Option A) (t : S) → gives_back s r t → YieldsLast rest s r t

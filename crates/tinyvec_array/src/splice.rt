@@ -1,0 +1,180 @@
+//! The iterator that moves a range of items out of a vector and puts others in its place.
+ghost use Rattle.std.specs.Prelude.{◌≡◌, ◌+◌, ◌-◌, ◌*◌, ◌≤◌, ◌^◌, ◌++◌, List, length, take, drop, max, false, Some, IfSome, IfErr, IsOk, OnErr, MatchResult, ◌↔◌};
+ghost use Rattle.std.specs.Iterator.{UpTo, MakesProgress, at_most, Drains, YieldsThen};
+ghost use Rattle.std.specs.Iterator.Adapters.{fuse_done, fuse_source, fuse_steps};
+ghost use Rattle.std.specs.Iterator.SizeHint.{IsWithinCount};
+ghost use Rattle.tinyvec_slots.specs.Slots.{items, spare, items_len, SlotRule};
+ghost use Rattle.tinyvec_slots.specs.Cut.{IsRangeOf, before, removed, after};
+ghost use Rattle.tinyvec_slots.specs.Filling.{ShowsItems};
+ghost use Rattle.tinyvec_array.specs.Fused.{fused_rest};
+
+mod filling;
+mod finishing;
+
+use crate::touches::Touches;
+use crate::{Array, ArrayVec};
+use std::iter::{Fuse, FusedIterator};
+use std::ops::RangeBounds;
+use tinyvec_slots::resolve;
+
+/// Gives the items of a range, in whose place those of `replacement` are put. For an item that is taken from an end, the
+/// replacement is asked for one from the same end, which stands there then. It must be spent by `finish` or
+/// `finish_counted`.
+pub struct ArrayVecSplice<'a, A: Array, I: Drop> {
+    vec: &'a mut ArrayVec<A>,
+    // What stays or was placed from the front ends at `front`, and what was placed from the back or stays begins at `back`.
+    front: usize,
+    // The removed items that are left.
+    next: usize,
+    end: usize,
+    back: usize,
+    touches: Touches,
+    replacement: I,
+    // Always true: it keeps a splice from being let go.
+    unspent: bool,
+}
+
+impl<'a, A: Array, I: Drop> Drop for ArrayVecSplice<'a, A, I> {
+    // No caller can show this, so a splice is spent by `finish`.
+    fn drop(self)
+        requires { self.unspent ≡ false }
+    {
+        let ArrayVecSplice {
+            vec: _,
+            front: _,
+            next: _,
+            end: _,
+            back: _,
+            touches: _,
+            replacement: _,
+            unspent: _,
+        } = self;
+    }
+}
+
+impl<A: Array> ArrayVec<A> {
+    ghost use Rattle.tinyvec_array.specs.Splice.{splice_front, splice_left, splice_len, splice_back, splice_replacement, splice_touches, splice_slots, splice_lender, SpliceCanStep};
+
+    /// Takes the items of the range out of the list, gives them from both ends, and puts those of `replacement` in their
+    /// place.
+    pub fn splice<R: RangeBounds<usize>, I: IntoIterator<Item = A::Item>>(
+        &mut self,
+        range: R,
+        replacement: I,
+    ) -> ArrayVecSplice<'_, A, Fuse<I::IntoIter>>
+        requires known { R.has_bounds range }
+        requires in_list { IsRangeOf (items self.old) (R.start_bound range) (R.end_bound range) }
+        ensures front { splice_front result ≡ before (items self.old) (R.start_bound range) }
+        ensures left { splice_left result ≡ removed (items self.old) (R.start_bound range) (R.end_bound range) }
+        ensures len { splice_len result ≡ length (splice_left result) }
+        ensures back { splice_back result ≡ after (items self.old) (R.end_bound range) }
+        ensures replacement { I.into_iter_gives replacement (fuse_source (splice_replacement result)) }
+        ensures unasked { fuse_done (splice_replacement result) ≡ false }
+        ensures touches { splice_touches result ≡ 0 }
+        ensures slots { splice_slots result ≡ self.old }
+        ensures same_reference { splice_lender result ≡ self.entry.ghost_name }
+        ensures ready { SpliceCanStep result }
+    {
+        let part = resolve(range, self.len());
+        ArrayVecSplice {
+            vec: self,
+            front: part.start,
+            next: part.start,
+            end: part.end,
+            back: part.end,
+            touches: Touches::new(),
+            replacement: replacement.into_iter().fuse(),
+            unspent: true,
+        }
+    }
+}
+
+impl<'a, A: Array, I: Iterator<Item = A::Item>> Iterator for ArrayVecSplice<'a, A, Fuse<I>> {
+    ghost use Rattle.tinyvec_array.specs.Splice.{splice_len, splice_replacement, SpliceCanStep, SpliceSteps};
+
+    type Item = A::Item;
+
+    ghost can_next = { λ s. SpliceCanStep s × (fuse_done (splice_replacement s) ≡ false → I.can_next (fuse_source (splice_replacement s))) };
+
+    ghost next_gives = { SpliceSteps (fuse_steps I.next_gives) };
+
+    ghost remaining = { λ s. at_most (splice_len s) };
+
+    fn next(&mut self) -> Option<A::Item>
+        requires { SpliceCanStep self.old × (fuse_done (splice_replacement self.old) ≡ false → I.can_next (fuse_source (splice_replacement self.old))) }
+        ensures steps { SpliceSteps (fuse_steps I.next_gives) self.old result self.new }
+        ensures goes { MakesProgress (λ s. SpliceCanStep s × (fuse_done (splice_replacement s) ≡ false → I.can_next (fuse_source (splice_replacement s)))) (λ s. at_most (splice_len s)) self.old result self.new }
+        ensures ready { SpliceCanStep self.new }
+    {
+        if self.next >= self.end {
+            return None;
+        }
+        let at = self.next;
+        match self.replacement.next() {
+            Some(new) => {
+                let item = self.touches.replace(self.vec.as_mut_slice(), at, new);
+                self.next = at + 1;
+                self.front = at + 1;
+                Some(item)
+            }
+            None => {
+                let item = self.touches.take(self.vec.as_mut_slice(), at);
+                self.next = at + 1;
+                Some(item)
+            }
+        }
+    }
+
+    /// Both bounds are the number of removed items that are left.
+    fn size_hint(&self) -> (usize, Option<usize>)
+        ensures lower { IsWithinCount result.0 (at_most (splice_len self.now)) }
+        ensures upper { IfSome result.1 (UpTo (at_most (splice_len self.now))) }
+        ensures exact { (result.0 ≡ splice_len self.now) × (result.1 ≡ Some (splice_len self.now)) }
+    {
+        let len = self.len();
+        (len, Some(len))
+    }
+}
+
+impl<'a, A: Array, I: DoubleEndedIterator<Item = A::Item>> DoubleEndedIterator
+    for ArrayVecSplice<'a, A, Fuse<I>> {
+    ghost use Rattle.tinyvec_array.specs.Splice.{splice_len, splice_replacement, SpliceCanStep, SpliceStepsBack};
+
+    ghost can_next_back = { λ s. SpliceCanStep s × (fuse_done (splice_replacement s) ≡ false → I.can_next_back (fuse_source (splice_replacement s))) };
+
+    ghost next_back_gives = { SpliceStepsBack (fuse_steps I.next_back_gives) };
+
+    fn next_back(&mut self) -> Option<A::Item>
+        requires { SpliceCanStep self.old × (fuse_done (splice_replacement self.old) ≡ false → I.can_next_back (fuse_source (splice_replacement self.old))) }
+        ensures steps { SpliceStepsBack (fuse_steps I.next_back_gives) self.old result self.new }
+        ensures goes { MakesProgress (λ s. SpliceCanStep s × (fuse_done (splice_replacement s) ≡ false → I.can_next_back (fuse_source (splice_replacement s)))) (λ s. at_most (splice_len s)) self.old result self.new }
+        ensures ready { SpliceCanStep self.new }
+    {
+        if self.next >= self.end {
+            return None;
+        }
+        let at = self.end - 1;
+        match self.replacement.next_back() {
+            Some(new) => {
+                let item = self.touches.replace(self.vec.as_mut_slice(), at, new);
+                self.end = at;
+                self.back = at;
+                Some(item)
+            }
+            None => {
+                let item = self.touches.take(self.vec.as_mut_slice(), at);
+                self.end = at;
+                Some(item)
+            }
+        }
+    }
+}
+
+impl<'a, A: Array, I: Iterator<Item = A::Item>> ExactSizeIterator
+    for ArrayVecSplice<'a, A, Fuse<I>> {
+    fn len(&self) -> usize {
+        self.end.saturating_sub(self.next)
+    }
+}
+
+impl<'a, A: Array, I: Iterator<Item = A::Item>> FusedIterator for ArrayVecSplice<'a, A, Fuse<I>> {}
