@@ -6,3 +6,4 @@ pub mod TurnLemmas
 pub mod Fused
 pub mod Runs
 pub mod SpliceLemmas
+pub mod SplicingLemmas

@@ -6,3 +6,4 @@ pub mod Iterating
 pub mod Touches
 pub mod Fused
 pub mod Splice
+pub mod Splicing

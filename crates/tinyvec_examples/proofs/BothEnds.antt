@@ -18,4 +18,4 @@ module _ {T : Type 0} (x y z : T) (r s : Option T) (left : List T) where
 
   -- one item from each end of three
   pub one_from_each_end : TakesFromEnds (x ∷ y ∷ z ∷ []) (front ∷ back ∷ []) (r ∷ s ∷ []) left → (r ≡ Some x) × (s ≡ Some z) × (left ≡ y ∷ [])
-  one_from_each_end h = read_off h.given h.count h.answered h.first h.last h.middle
+  one_from_each_end h = read_off h.given h.by_word.count h.answered h.by_word.first h.by_word.last h.middle

@@ -1,9 +1,10 @@
 -- Calls of `next` and `next_back` take from the two ends, by whatever word they follow.
-use Rattle.std.proofs.Common.{◌≡◌, ℕ, suc, ◌+◌, ◌-◌, ◌≤◌, min, List, [], ◌∷◌, ◌++◌, length, take, drop, slice_range, Option, Some, None, map, replicate, refl, sym, ap, subst, ◌∙◌, arith, rules, add-one, length-append, length-drop, length-take, take_all}
+use Rattle.std.proofs.Common.{◌≡◌, ℕ, zero, suc, ◌+◌, ◌-◌, ◌≤◌, min, List, [], ◌∷◌, ◌++◌, length, take, drop, slice_range, Option, Some, None, map, replicate, refl, sym, ap, subst, ◌∙◌, arith, rules, add-one, length-append, length-drop, length-take, take_all}
 use Rattle.std.specs.Prelude.{reverse}
 use Rattle.std.specs.Iterator.{YieldsFirst, YieldsLast}
+use Rattle.std.specs.Option.{option_to_list}
 use Rattle.std.proofs.lemmas.List.{reverse-append, take-append-le, drop-append-le, drop_all}
-use Rattle.tinyvec_slots.specs.Ends.{End, front, back, fronts, backs, TakesFromEnds, Asks}
+use Rattle.tinyvec_slots.specs.Ends.{End, front, back, fronts, backs, GivenByWord, TakesFromEnds, Asks, given_items}
 
 -- each letter is one or the other
 pub fronts-backs : (word : List End) → fronts word + backs word ≡ length word
@@ -28,10 +29,12 @@ module _ {T : Type 0} where
   TakesFromEnds-nil : (xs : List T) → TakesFromEnds xs [] [] xs
   TakesFromEnds-nil xs = record {
     given = [];
-    count = omega arith;
+    by_word = record {
+      count = omega arith;
+      first = refl;
+      last = sym (ap reverse (drop_all (length xs - 0) xs (omega arith)));
+    };
     answered = refl;
-    first = refl;
-    last = sym (ap reverse (drop_all (length xs - 0) xs (omega arith)));
     middle = sym (take_all (length xs - 0 - 0) xs (omega arith));
   }
 
@@ -39,16 +42,18 @@ module _ {T : Type 0} where
   TakesFromEnds-none : (word : List End) (e : End) (answers : List (Option T)) (left : List T)
       → TakesFromEnds [] word answers left → TakesFromEnds [] (e ∷ word) (None ∷ answers) left
   TakesFromEnds-none word e answers left h =
-      let none : h.given ≡ [] = none_given h.given (omega (arith, h.count)) in
+      let none : h.given ≡ [] = none_given h.given (omega (arith, h.by_word.count)) in
       let gone : slice_range [] (fronts (take (length h.given) word)) (0 - backs (take (length h.given) word)) ≡ [] = search rules in
       let one : length word - 0 + 1 ≡ length (e ∷ word) - 0 = omega arith in
       let all : answers ≡ replicate (length word - 0) None = h.answered ∙ ap (λ given. map Some given ++ replicate (length word - length given) None) none in
       record {
         given = [];
-        count = omega arith;
+        by_word = record {
+          count = omega arith;
+          first = refl;
+          last = refl;
+        };
         answered = ap (λ l. None ∷ l) all ∙ ap (λ n. replicate n None) (sym (add-one (length word - 0)) ∙ one);
-        first = refl;
-        last = refl;
         middle = h.middle ∙ gone;
       }
 
@@ -59,16 +64,18 @@ module _ {T : Type 0} where
       let m = length h.given in
       let p = fronts (take m word) in
       let q = backs (take m word) in
-      let within : p + q ≤ length xs = given_within xs word m h.count in
+      let within : p + q ≤ length xs = given_within xs word m h.by_word.count in
       let last_is : suc (length xs) - q ≡ suc (length xs - q) = omega arith in
       let still : suc (length word) - suc m ≡ length word - m = omega arith in
       let between : length xs - q - p ≡ suc (length xs) - q - (p + 1) = omega arith in
       record {
         given = x ∷ h.given;
-        count = omega (arith, h.count);
+        by_word = record {
+          count = omega (arith, h.by_word.count);
+          first = ap (λ l. x ∷ l) h.by_word.first ∙ ap (λ n. take n (x ∷ xs)) (sym (add-one p));
+          last = h.by_word.last ∙ ap (λ n. reverse (drop n (x ∷ xs))) (sym last_is);
+        };
         answered = ap (λ l. Some x ∷ l) h.answered ∙ ap (λ n. Some x ∷ (map Some h.given ++ replicate n None)) (sym still);
-        first = ap (λ l. x ∷ l) h.first ∙ ap (λ n. take n (x ∷ xs)) (sym (add-one p));
-        last = h.last ∙ ap (λ n. reverse (drop n (x ∷ xs))) (sym last_is);
         middle = h.middle ∙ ap (λ n. take n (drop p xs)) between ∙ ap (λ n. take (suc (length xs) - q - (p + 1)) (drop n (x ∷ xs))) (sym (add-one p));
       }
 
@@ -81,17 +88,19 @@ module _ {T : Type 0} where
       let q = backs (take m word) in
       let all = xs ++ x ∷ [] in
       let long = length-append xs (x ∷ []) in
-      let within : p + q ≤ length xs = given_within xs word m h.count in
+      let within : p + q ≤ length xs = given_within xs word m h.by_word.count in
       let last_is : length all - (q + 1) ≡ length xs - q = omega arith in
       let still : suc (length word) - suc m ≡ length word - m = omega arith in
       let behind = length-drop p xs in
       record {
         given = x ∷ h.given;
-        count = omega (arith, h.count);
+        by_word = record {
+          count = omega (arith, h.by_word.count);
+          first = h.by_word.first ∙ sym (take-append-le p xs (x ∷ []) (omega arith));
+          last = ap (λ l. x ∷ l) h.by_word.last ∙ sym (reverse-append (drop (length xs - q) xs) (x ∷ []))
+              ∙ ap reverse (sym (drop-append-le (length xs - q) xs (x ∷ []) (omega arith))) ∙ ap (λ n. reverse (drop n all)) (sym last_is);
+        };
         answered = ap (λ l. Some x ∷ l) h.answered ∙ ap (λ n. Some x ∷ (map Some h.given ++ replicate n None)) (sym still);
-        first = h.first ∙ sym (take-append-le p xs (x ∷ []) (omega arith));
-        last = ap (λ l. x ∷ l) h.last ∙ sym (reverse-append (drop (length xs - q) xs) (x ∷ []))
-            ∙ ap reverse (sym (drop-append-le (length xs - q) xs (x ∷ []) (omega arith))) ∙ ap (λ n. reverse (drop n all)) (sym last_is);
         middle = h.middle ∙ sym (take-append-le (length xs - q - p) (drop p xs) (x ∷ []) (omega arith))
             ∙ ap (take (length xs - q - p)) (sym (drop-append-le p xs (x ∷ []) (omega arith))) ∙ ap (λ n. take (n - p) (drop p all)) (sym last_is);
       }
@@ -124,3 +133,41 @@ module _ {S T : Type 0} (gives gives_back : S → Option T → S → Type 0) (re
       one_front from r asks.0 word answers (rest to) (first from r asks.0 asks.1) (Asks-takes asks.0 word answers to asks.2)
   Asks-takes from (back ∷ word) (r ∷ answers) to asks =
       one_back from r asks.0 word answers (rest to) (last from r asks.0 asks.1) (Asks-takes asks.0 word answers to asks.2)
+
+-- the items among the answers to a word are those that it is given
+pub items_given : {T : Type 0} (xs : List T) (word : List End) (answers : List (Option T)) (left : List T) → TakesFromEnds xs word answers left
+    → GivenByWord xs word (given_items answers)
+items_given {T} xs word answers left h =
+    subst (GivenByWord xs word) (sym (ap given_items h.answered ∙ among h.given (length word - length h.given))) h.by_word
+  where
+    none : (n : ℕ) → given_items {T = T} (replicate n None) ≡ []
+    none zero = refl
+    none (suc n) = none n
+    among : (given : List T) (n : ℕ) → given_items (map Some given ++ replicate n None) ≡ given
+    among [] n = none n
+    among (x ∷ given) n = ap (λ l. x ∷ l) (among given n)
+
+-- one letter more, asked after a word
+module _ {S T : Type 0} (gives gives_back : S → Option T → S → Type 0) where
+  pub Asks-front : (from : S) (word : List End) (answers : List (Option T)) (mid : S) (r : Option T) (to : S)
+      → Asks gives gives_back from word answers mid → gives mid r to → Asks gives gives_back from (word ++ front ∷ []) (answers ++ r ∷ []) to
+  Asks-front from [] [] mid r to same step = (to, subst (λ s. gives s r to) same step, refl)
+  Asks-front from [] (q ∷ answers) mid r to asks step = absurd asks
+  Asks-front from (e ∷ word) [] mid r to asks step = absurd asks
+  Asks-front from (front ∷ word) (q ∷ answers) mid r to asks step = (asks.0, asks.1, Asks-front asks.0 word answers mid r to asks.2 step)
+  Asks-front from (back ∷ word) (q ∷ answers) mid r to asks step = (asks.0, asks.1, Asks-front asks.0 word answers mid r to asks.2 step)
+
+  pub Asks-back : (from : S) (word : List End) (answers : List (Option T)) (mid : S) (r : Option T) (to : S)
+      → Asks gives gives_back from word answers mid → gives_back mid r to → Asks gives gives_back from (word ++ back ∷ []) (answers ++ r ∷ []) to
+  Asks-back from [] [] mid r to same step = (to, subst (λ s. gives_back s r to) same step, refl)
+  Asks-back from [] (q ∷ answers) mid r to asks step = absurd asks
+  Asks-back from (e ∷ word) [] mid r to asks step = absurd asks
+  Asks-back from (front ∷ word) (q ∷ answers) mid r to asks step = (asks.0, asks.1, Asks-back asks.0 word answers mid r to asks.2 step)
+  Asks-back from (back ∷ word) (q ∷ answers) mid r to asks step = (asks.0, asks.1, Asks-back asks.0 word answers mid r to asks.2 step)
+
+-- one answer more
+pub given_items-more : {T : Type 0} (answers : List (Option T)) (r : Option T) → given_items (answers ++ r ∷ []) ≡ given_items answers ++ option_to_list r
+given_items-more [] None = refl
+given_items-more [] (Some x) = refl
+given_items-more (None ∷ answers) r = given_items-more answers r
+given_items-more (Some x ∷ answers) r = ap (λ l. x ∷ l) (given_items-more answers r)

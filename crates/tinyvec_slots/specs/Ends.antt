@@ -31,16 +31,26 @@ module _ {T : Type 0} where
   from_back (front ∷ word) (x ∷ given) = from_back word given
   from_back (back ∷ word) (x ∷ given) = x ∷ from_back word given
 
--- A word takes from the list xs: each letter is answered with an item as long as there are any and then with `None`.
--- The letters `front` are given the first items in order, the letters `back` the last items, last first, and what
--- stands between them is left.
-pub record TakesFromEnds {T : Type 0} (xs : List T) (word : List End) (answers : List (Option T)) (left : List T) : Type 0 where
-  pub given : List T
+-- A word takes these items from the list xs: each letter one, as long as there are any. The letters `front` are given the
+-- first items in order, the letters `back` the last items, last first.
+pub record GivenByWord {T : Type 0} (xs : List T) (word : List End) (given : List T) : Type 0 where
   pub count : length given ≡ min (length word) (length xs)
-  pub answered : answers ≡ map Some given ++ replicate (length word - length given) None
   pub first : from_front word given ≡ take (fronts (take (length given) word)) xs
   pub last : from_back word given ≡ reverse (drop (length xs - backs (take (length given) word)) xs)
+
+-- The letters of a word are answered with the items that they are given and then with `None`, and what stands between
+-- those items is left.
+pub record TakesFromEnds {T : Type 0} (xs : List T) (word : List End) (answers : List (Option T)) (left : List T) : Type 0 where
+  pub given : List T
+  pub by_word : GivenByWord xs word given
+  pub answered : answers ≡ map Some given ++ replicate (length word - length given) None
   pub middle : left ≡ slice_range xs (fronts (take (length given) word)) (length xs - backs (take (length given) word))
+
+-- the items among the answers
+abbrev pub given_items : {T : Type 0} → List (Option T) → List T
+given_items [] = []
+given_items (None ∷ answers) = given_items answers
+given_items (Some x ∷ answers) = x ∷ given_items answers
 
 -- Calls of `next` and `next_back`, by the letters of a word, took `from` to `to` and were answered so.
 module _ {S T : Type 0} (gives gives_back : S → Option T → S → Type 0) where
