@@ -4,3 +4,4 @@ pub mod Words
 pub mod RunLemmas
 pub mod HistoryLemmas
 pub mod Written
+pub mod DrivingLemmas

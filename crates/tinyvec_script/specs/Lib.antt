@@ -4,3 +4,4 @@ pub mod Text
 pub mod Script
 pub mod History
 pub mod Writes
+pub mod Driving

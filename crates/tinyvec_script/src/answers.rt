@@ -49,6 +49,12 @@ fn write_answer<W: Write>(
             gathered.put(writer, b"items ")?;
             write_list(gathered, writer, numbers.as_slice())
         }
+        Answer::Spliced(numbers, rest) => {
+            gathered.put(writer, b"items ")?;
+            write_list(gathered, writer, numbers.as_slice())?;
+            gathered.put(writer, b" rest ")?;
+            write_list(gathered, writer, rest.as_slice())
+        }
         Answer::Full => gathered.put(writer, b"full"),
         Answer::Range => gathered.put(writer, b"range"),
         Answer::Memory => gathered.put(writer, b"memory"),

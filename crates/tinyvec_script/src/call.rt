@@ -1,5 +1,12 @@
 //! Calls of a vector, as values, and what answers them.
 
+/// An end of a list.
+#[derive(Clone, Copy, PartialEq, Debug, Drop)]
+pub enum End {
+    Front,
+    Back,
+}
+
 /// A call of a vector of `T`.
 #[derive(PartialEq, Debug, Drop)]
 pub enum Call<T> {
@@ -17,6 +24,9 @@ pub enum Call<T> {
     Truncate(usize),
     /// Takes the items from the first index up to the second.
     Drain(usize, usize),
+    /// Puts the items in the place of those from the first index up to the second, from which it first takes one at each
+    /// of the ends.
+    Splice(usize, usize, Vec<End>, Vec<T>),
     /// Moves the border between the items and the spare slots.
     SetLen(usize),
 }
@@ -32,6 +42,8 @@ pub enum Answer<T> {
     None,
     /// The items that were taken, in order.
     Items(Vec<T>),
+    /// The items that were taken, in order, and those that found no room.
+    Spliced(Vec<T>, Vec<T>),
     /// There was no room, and nothing has changed.
     Full,
     /// No such place is in the list, and nothing has changed.

@@ -5,6 +5,7 @@ mod answers;
 mod call;
 mod command;
 mod decimal;
+mod driving;
 mod gathered;
 mod line;
 mod number;
@@ -14,6 +15,7 @@ mod step;
 #[cfg(test)]
 mod tests;
 
-pub use call::{Answer, Call};
+pub use call::{Answer, Call, End};
+pub use driving::{Driven, drive_array_splice};
 pub use runs::run_array;
 pub use script::{RunError, run};

@@ -1,9 +1,9 @@
 //! One call of an `ArrayVec`, answered.
 ghost use Rattle.std.specs.Prelude.{◌≡◌, ◌-◌, ◌≤◌, [], vec_capacity};
 ghost use Rattle.tinyvec_slots.specs.Slots.{items_len};
-ghost use Rattle.tinyvec_script.specs.Step.{ArrayStep, ArrayDrains};
+ghost use Rattle.tinyvec_script.specs.Step.{ArrayStep, ArrayDrains, ArraySpliceStep};
 
-use crate::{Answer, Call};
+use crate::{Answer, Call, Driven, End, drive_array_splice};
 use std::alloc::Global;
 use tinyvec_array::{Array, ArrayVec};
 
@@ -65,6 +65,15 @@ pub(crate) fn answer<A: Array>(
             };
             Answer::Items(drained(vec, start, end, items))
         }
+        Call::Splice(start, end, word, replacement) => {
+            if start > end {
+                return Answer::Range;
+            }
+            if end > vec.len() {
+                return Answer::Range;
+            }
+            spliced(alloc, vec, start, end, word.as_slice(), replacement)
+        }
         Call::SetLen(n) => {
             if n > vec.capacity() {
                 return Answer::Range;
@@ -92,4 +101,29 @@ fn drained<A: Array>(
         items.push_reserved(item);
     }
     items
+}
+
+// Replaces the items from `start` up to `end`, from which it first takes one at each of the ends.
+fn spliced<A: Array>(
+    alloc: Global,
+    vec: &mut ArrayVec<A>,
+    start: usize,
+    end: usize,
+    word: &[End],
+    replacement: Vec<A::Item>,
+) -> Answer<A::Item>
+    requires start_le_end { start ≤ end }
+    requires in_bounds { end ≤ items_len vec.old }
+    ensures { ArraySpliceStep A.Item.is_default A.CAPACITY vec.old start end word.now replacement.items result vec.new }
+{
+    match drive_array_splice(alloc, vec, start, end, replacement, word) {
+        Ok(driven) => {
+            let Driven { yields, rest } = driven;
+            if rest.is_empty() {
+                return Answer::Items(yields);
+            }
+            Answer::Spliced(yields, rest)
+        }
+        Err(_) => Answer::Memory,
+    }
 }
