@@ -1,5 +1,5 @@
 -- A run goes on: by a byte, by the end of a line, by the end of the input.
-use Rattle.std.proofs.Common.{◌≡◌, ◌≢◌, ℕ, ◌<◌, ◌≤◌, List, [], ◌∷◌, ◌++◌, length, Option, Some, refl, sym, ap, subst, ◌∙◌, append_assoc, append-nil, length-append, arith}
+use Rattle.std.proofs.Common.{◌≡◌, ◌≢◌, ℕ, ◌<◌, ◌≤◌, List, [], ◌∷◌, ◌++◌, length, Option, None, Some, refl, sym, ap, subst, ◌∙◌, append_assoc, append-nil, length-append, arith}
 use Rattle.std.specs.List.{AllByRecursion}
 use Rattle.std.proofs.lemmas.Grind.{flat_map-append}
 use Rattle.std.proofs.lemmas.Bool.Decides.{nat_tests}
@@ -16,6 +16,9 @@ kept_more rest byte = grind (arith, nat_tests, length-append {A = ℕ})
 -- what is kept of a line is the line, or nothing of one that is too long
 pub kept_is : (rest bytes : List ℕ) → Some bytes ≡ kept rest → (bytes ≡ rest) × (length rest ≤ 128)
 kept_is rest bytes h = grind (arith, nat_tests)
+
+pub too_long_kept : (rest : List ℕ) → None ≡ kept rest → 128 < length rest
+too_long_kept rest h = grind (arith, nat_tests)
 
 ended_more : (lines : List (List ℕ)) (line : List ℕ) → ended (lines ++ line ∷ []) ≡ ended lines ++ (line ++ 10 ∷ [])
 ended_more lines line = flat_map-append _ lines (line ∷ []) ∙ ap (λ l. ended lines ++ l) (append-nil (line ++ 10 ∷ []))

@@ -5,3 +5,4 @@ pub mod RunLemmas
 pub mod HistoryLemmas
 pub mod Written
 pub mod DrivingLemmas
+pub mod SpliceText

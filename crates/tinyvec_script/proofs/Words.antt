@@ -1,6 +1,7 @@
 -- A text cut at its first blank.
 use Rattle.std.proofs.Common.{◌≡◌, ◌≢◌, ℕ, List, [], ◌∷◌, ◌++◌, refl, sym, ◌∙◌}
 use Rattle.std.specs.List.{All, AllByRecursion}
+use Rattle.tinyvec_script.specs.Words.{StartsBlank}
 use Rattle.std.proofs.lemmas.List.Elements.{recursion_from_All}
 
 abbrev pub IsWord : List ℕ → Type 0
@@ -26,3 +27,19 @@ cut_once (x ∷ a) b (y ∷ c) d p q e =
 -- a text is cut at its first blank in one way
 pub one_cut : (text a b c d : List ℕ) → text ≡ a ++ 32 ∷ b → All (λ byte. byte ≢ 32) a → text ≡ c ++ 32 ∷ d → All (λ byte. byte ≢ 32) c → (a ≡ c) × (b ≡ d)
 one_cut text a b c d e p f q = cut_once a b c d (recursion_from_All _ _ p) (recursion_from_All _ _ q) (sym e ∙ f)
+
+split_once : (a b c d : List ℕ) → IsWord a → IsWord c → StartsBlank b → StartsBlank d → a ++ b ≡ c ++ d → (a ≡ c) × (b ≡ d)
+split_once [] b [] d p q s t e = (refl, e)
+split_once [] [] (y ∷ c) d p q s t e = absurd (let no : [] ≡ y ∷ (c ++ d) = e in cc)
+split_once [] (z ∷ b) (y ∷ c) d p q s t e = absurd (q.0 (let same : z ≡ y = cc in sym same ∙ s))
+split_once (x ∷ a) b [] [] p q s t e = absurd (let no : x ∷ (a ++ b) ≡ [] = e in cc)
+split_once (x ∷ a) b [] (z ∷ d) p q s t e = absurd (p.0 (let same : x ≡ z = cc in same ∙ t))
+split_once (x ∷ a) b (y ∷ c) d p q s t e =
+    let head : x ≡ y = cc in
+    let tail : a ++ b ≡ c ++ d = cc in
+    let rest = split_once a b c d p.1 q.1 s t tail in
+    (cc, rest.1)
+
+-- a text is parted where its first blank is, or at its end, in one way
+pub one_split : (text a b c d : List ℕ) → text ≡ a ++ b → All (λ byte. byte ≢ 32) a → StartsBlank b → text ≡ c ++ d → All (λ byte. byte ≢ 32) c → StartsBlank d → (a ≡ c) × (b ≡ d)
+one_split text a b c d e p s f q t = split_once a b c d (recursion_from_All _ _ p) (recursion_from_All _ _ q) s t (sym e ∙ f)

@@ -1,5 +1,5 @@
 -- How calls are spelled, and which lines spell one.
-use Rattle.std.specs.Prelude.{◌≡◌, ℕ, ◌<◌, ◌≤◌, ◌^◌, List, [], ◌∷◌, ◌++◌, length, map, All, ℤ, FitsSigned, codes}
+use Rattle.std.specs.Prelude.{◌≡◌, ℕ, ◌+◌, ◌<◌, ◌≤◌, ◌^◌, List, [], ◌∷◌, ◌++◌, length, map, All, ℤ, FitsSigned, codes}
 use Rattle.std.specs.Int.{w32}
 use Rattle.std.specs.Fmt.{decimal, signed_decimal}
 use Rattle.std.specs.List.{flat_map}
@@ -7,6 +7,8 @@ use Rattle.tinyvec_script.specs.declared.call.End.{End}
 use Rattle.tinyvec_script.specs.declared.call.End.TheVariants.{Front, Back}
 use Rattle.tinyvec_script.specs.declared.call.Call.{Call}
 use Rattle.tinyvec_script.specs.declared.call.Call.TheVariants.{Push, Pop, Insert, Remove, SwapRemove, Truncate, Drain, Splice, SetLen}
+use Rattle.tinyvec_script.specs.declared.command.Name.{Name}
+use Rattle.tinyvec_script.specs.declared.command.Name.TheVariants.{A, S}
 
 -- a word of ends, which is a dash where it has no letters
 abbrev pub letter_code : End → ℕ
@@ -15,11 +17,14 @@ letter_code Back = 98
 
 abbrev pub word_text : List End → List ℕ
 word_text [] = codes "-"
-word_text (letter ∷ word) = map letter_code (letter ∷ word)
+word_text (letter ∷ word) = letter_code letter ∷ map letter_code word
 
 -- numbers, each behind a blank
 abbrev pub numbers_text : List ℤ → List ℕ
 numbers_text numbers = flat_map (λ number. 32 ∷ signed_decimal number) numbers
+
+abbrev pub splice_text : ℕ → ℕ → List End → List ℤ → List ℕ
+splice_text start end word numbers = decimal start ++ 32 ∷ (decimal end ++ 32 ∷ (word_text word ++ numbers_text numbers))
 
 -- how a call is spelled behind the name of its vector
 abbrev pub spelling : Call ℤ → List ℕ
@@ -30,8 +35,8 @@ spelling (Remove index) = codes "remove " ++ decimal index
 spelling (SwapRemove index) = codes "swap " ++ decimal index
 spelling (Truncate index) = codes "truncate " ++ decimal index
 spelling (SetLen index) = codes "setlen " ++ decimal index
-spelling (Splice start end word numbers) = codes "splice " ++ (decimal start ++ 32 ∷ (decimal end ++ 32 ∷ (word_text word.items ++ numbers_text numbers.items)))
 spelling (Drain start end) = codes "drain " ++ (decimal start ++ 32 ∷ decimal end)
+spelling (Splice start end word numbers) = codes "splice " ++ splice_text start end word.items numbers.items
 
 -- its numbers are of their types
 abbrev pub Fits : Call ℤ → Type 0
@@ -42,16 +47,34 @@ Fits (Remove index) = index < 2 ^ 64
 Fits (SwapRemove index) = index < 2 ^ 64
 Fits (Truncate index) = index < 2 ^ 64
 Fits (SetLen index) = index < 2 ^ 64
-Fits (Splice start end word numbers) = (start < 2 ^ 64) × (end < 2 ^ 64) × All (FitsSigned w32) numbers.items
 Fits (Drain start end) = (start < 2 ^ 64) × (end < 2 ^ 64)
+Fits (Splice start end word numbers) = (start < 2 ^ 64) × (end < 2 ^ 64) × All (FitsSigned w32) numbers.items
 
 -- the text spells this call
 pub record IsCall (text : List ℕ) (call : Call ℤ) : Type 0 where
   pub spelled : text ≡ spelling call
   pub fits : Fits call
 
--- the line spells this call of the vector `A`
-pub record IsCommand (line : List ℕ) (call : Call ℤ) : Type 0 where
-  pub spelled : line ≡ codes "A " ++ spelling call
+-- the text spells a splice by these, for which memory is asked
+pub record IsSplice (text : List ℕ) (start end : ℕ) (word : List End) (numbers : List ℤ) : Type 0 where
+  pub spelled : text ≡ codes "splice " ++ splice_text start end word numbers
+  pub fits : (start < 2 ^ 64) × (end < 2 ^ 64) × All (FitsSigned w32) numbers
+  pub some : 0 < length word + length numbers
+
+-- how a vector is named
+abbrev pub name_text : Name → List ℕ
+name_text A = codes "A "
+name_text S = codes "S "
+
+-- which calls a vector has
+abbrev pub Has : Name → Call ℤ → Type 0
+Has S (Splice start end word numbers) = ⊥
+Has name call = Unit {0}
+
+-- the line spells this call of the vector
+pub record IsCommand (line : List ℕ) (name : Name) (call : Call ℤ) : Type 0 where
+  pub text : List ℕ
+  pub named : line ≡ name_text name ++ text
+  pub called : IsCall text call
+  pub has : Has name call
   pub short : length line ≤ 128
-  pub fits : Fits call

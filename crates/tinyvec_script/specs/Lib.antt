@@ -5,3 +5,6 @@ pub mod Script
 pub mod History
 pub mod Writes
 pub mod Driving
+pub mod Words
+pub mod Parsed
+pub mod State

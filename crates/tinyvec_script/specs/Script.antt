@@ -4,17 +4,30 @@ use Rattle.std.specs.List.{flat_map, AllByRecursion}
 use Rattle.tinyvec_slots.specs.Slots.{Slots, split_at}
 use Rattle.tinyvec_script.specs.declared.call.Call.{Call}
 use Rattle.tinyvec_script.specs.declared.call.Answer.{Answer}
-use Rattle.tinyvec_script.specs.Step.{ArrayStep}
+use Rattle.tinyvec_script.specs.declared.command.Name.{Name}
+use Rattle.tinyvec_script.specs.declared.command.Name.TheVariants.{A, S}
+use Rattle.tinyvec_script.specs.Step.{ArrayStep, SliceStep}
 use Rattle.tinyvec_script.specs.Command.{IsCommand}
+use Rattle.tinyvec_script.specs.Parsed.{AsksMemory}
 use Rattle.tinyvec_script.specs.Text.{answer_text, vector_text}
 
--- the vector `A`
-abbrev pub State : Type 0
-State = Slots ℤ
+-- the vectors of a script: `A` in an array, and `S` in a lent slice
+pub record State : Type 0 where
+  pub a : Slots ℤ
+  pub s : Slots ℤ
 
--- it starts as an empty list over four zeros
+-- four zeros, of which none holds the list
+abbrev pub zeros : Slots ℤ
+zeros = split_at 0 (replicate 4 (pos 0))
+
+-- they start as empty lists over four zeros
 abbrev pub start : State
-start = split_at 0 (replicate 4 (pos 0))
+start = record { a = zeros; s = zeros }
+
+-- the vector of a name
+abbrev pub vector : Name → State → Slots ℤ
+vector A state = state.a
+vector S state = state.s
 
 -- what is a default of an `i32`
 abbrev pub IsZero : ℤ → Type 0
@@ -39,11 +52,18 @@ abbrev pub last_line : List ℕ → List (List ℕ)
 last_line [] = []
 last_line (byte ∷ bytes) = (byte ∷ bytes) ∷ []
 
--- What is answered to one line, and the state that it leaves: a line that spells a call is answered by a step of the
--- vector, any other is `bad` and changes nothing.
+-- a call of the vector of that name takes the old vectors to the new, and is answered so
+abbrev pub Steps : Name → State → Call ℤ → Answer ℤ → State → Type 0
+Steps A old call answer new = ArrayStep IsZero 4 old.a call answer new.a × (new.s ≡ old.s)
+Steps S old call answer new = SliceStep IsZero old.s call answer new.s × (new.a ≡ old.a)
+
+-- What is answered to one line, and the vectors that it leaves: a line that spells a call is answered by a step of its
+-- vector, one for whose letters or numbers memory was refused is `memory` and changes nothing, and any other is `bad` and
+-- changes nothing.
 pub data Answered : State → List ℕ → List ℕ → State → Type 0 where
-  done : {old new : State} {line text : List ℕ} (call : Call ℤ) (answer : Answer ℤ) → IsCommand line call → ArrayStep IsZero 4 old call answer new → text ≡ answer_text answer ++ codes " " ++ vector_text new → Answered old line text new
-  bad : {old new : State} {line text : List ℕ} → ((call : Call ℤ) → IsCommand line call → ⊥) → text ≡ codes "bad" → new ≡ old → Answered old line text new
+  done : {old new : State} {line text : List ℕ} (name : Name) (call : Call ℤ) (answer : Answer ℤ) → IsCommand line name call → Steps name old call answer new → text ≡ answer_text answer ++ codes " " ++ vector_text (vector name new) → Answered old line text new
+  memory : {old new : State} {line text : List ℕ} → AsksMemory line → text ≡ codes "memory" ++ codes " " ++ vector_text old.a → new ≡ old → Answered old line text new
+  bad : {old new : State} {line text : List ℕ} → ((name : Name) (call : Call ℤ) → IsCommand line name call → ⊥) → text ≡ codes "bad" → new ≡ old → Answered old line text new
 
 -- the answer lines to lines, one after another
 abbrev pub Answers : State → List (List ℕ) → List ℕ → State → Type 0

@@ -52,9 +52,16 @@ module _ {T : Type 0} (D : T → Type 0) where
   -- no other answer is given
   ArrayStep capacity old call answer new = ⊥
 
-  -- the answers to the calls, one after another
-  abbrev pub ArrayRun : ℕ → Slots T → List (Call T) → List (Answer T) → Slots T → Type 0
-  ArrayRun capacity old [] [] new = new ≡ old
-  ArrayRun capacity old (call ∷ calls) (answer ∷ more) new = (mid : Slots T) × ArrayStep capacity old call answer mid × ArrayRun capacity mid calls more new
-  ArrayRun capacity old [] (answer ∷ more) new = ⊥
-  ArrayRun capacity old (call ∷ calls) [] new = ⊥
+  -- the same of a vector in a lent slice, which has no splice
+  abbrev pub SliceStep : Slots T → Call T → Answer T → Slots T → Type 0
+  SliceStep old (Splice start end word replacement) answers.Unfit new = new ≡ old
+  SliceStep old (Splice start end word replacement) answer new = ⊥
+  SliceStep old call answer new = ArrayStep (length (all_slots old)) old call answer new
+
+-- the answers to calls, one after another
+module _ {V T : Type 0} (Step : V → Call T → Answer T → V → Type 0) where
+  abbrev pub Run : V → List (Call T) → List (Answer T) → V → Type 0
+  Run old [] [] new = new ≡ old
+  Run old (call ∷ calls) (answer ∷ more) new = (mid : V) × Step old call answer mid × Run mid calls more new
+  Run old [] (answer ∷ more) new = ⊥
+  Run old (call ∷ calls) [] new = ⊥

@@ -19,7 +19,12 @@ answer_text (answers.Spliced numbers rest) = codes "items " ++ list_text numbers
 answer_text answers.Full = codes "full"
 answer_text answers.Range = codes "range"
 answer_text answers.Memory = codes "memory"
+answer_text answers.Unfit = codes "unfit"
+
+-- a list and the spare slots behind it
+unfoldable pub state_text : List ℤ → List ℤ → List ℕ
+state_text items spare = list_text items ++ codes " " ++ list_text spare
 
 -- a vector: its list and its spare slots
-unfoldable pub vector_text : Slots ℤ → List ℕ
-vector_text v = list_text (items v) ++ codes " " ++ list_text (spare v)
+abbrev pub vector_text : Slots ℤ → List ℕ
+vector_text v = state_text (items v) (spare v)

@@ -3,31 +3,28 @@ ghost use Rattle.std.specs.Prelude.{◌≡◌, ◌++◌, ◌∷◌, [], codes};
 ghost use Rattle.std.specs.List.{flat_map};
 ghost use Rattle.std.specs.Fmt.{signed_decimal};
 ghost use Rattle.tinyvec_script.specs.Writes.{Gathers};
-ghost use Rattle.tinyvec_script.specs.Text.{list_text, answer_text, vector_text};
+ghost use Rattle.tinyvec_script.specs.Text.{list_text, answer_text, state_text};
 
 use crate::Answer;
 use crate::decimal::Decimal;
 use crate::gathered::Gathered;
 use std::io;
 use std::io::Write;
-use tinyvec_array::ArrayVec;
 use tinyvec_io::Counted;
 
-/// The vector `A` of the script.
-pub(crate) type VectorA = ArrayVec<[i32; 4]>;
-
-/// Writes an answer line: the answer, and the vector as it is then.
+/// Writes an answer line: the answer, and the list and the spare slots of the vector as it is then.
 pub(crate) fn write_line<W: Write>(
     gathered: &mut Gathered,
     writer: &mut Counted<W>,
     answer: &Answer<i32>,
-    vector: &VectorA,
+    items: &[i32],
+    spare: &[i32],
 ) -> io::Result<()>
-    ensures { Gathers W.contents writer.old gathered.old writer.new gathered.new result (answer_text answer.now ++ codes " " ++ vector_text vector.now ++ 10 ∷ []) }
+    ensures { Gathers W.contents writer.old gathered.old writer.new gathered.new result (answer_text answer.now ++ codes " " ++ state_text items.now spare.now ++ 10 ∷ []) }
 {
     write_answer(gathered, writer, answer)?;
     gathered.put(writer, b" ")?;
-    write_vector(gathered, writer, vector)?;
+    write_state(gathered, writer, items, spare)?;
     gathered.put(writer, b"\n")
 }
 
@@ -58,21 +55,23 @@ fn write_answer<W: Write>(
         Answer::Full => gathered.put(writer, b"full"),
         Answer::Range => gathered.put(writer, b"range"),
         Answer::Memory => gathered.put(writer, b"memory"),
+        Answer::Unfit => gathered.put(writer, b"unfit"),
     }
 }
 
 /// Writes the list, a blank and the spare slots.
-#[tactic(auto, unfolding(crate::specs::Text::vector_text))]
-fn write_vector<W: Write>(
+#[tactic(auto, unfolding(crate::specs::Text::state_text))]
+fn write_state<W: Write>(
     gathered: &mut Gathered,
     writer: &mut Counted<W>,
-    vector: &VectorA,
+    items: &[i32],
+    spare: &[i32],
 ) -> io::Result<()>
-    ensures { Gathers W.contents writer.old gathered.old writer.new gathered.new result (vector_text vector.now) }
+    ensures { Gathers W.contents writer.old gathered.old writer.new gathered.new result (state_text items.now spare.now) }
 {
-    write_list(gathered, writer, vector.as_slice())?;
+    write_list(gathered, writer, items)?;
     gathered.put(writer, b" ")?;
-    write_list(gathered, writer, vector.grab_spare_slice())
+    write_list(gathered, writer, spare)
 }
 
 /// Writes a list in brackets.

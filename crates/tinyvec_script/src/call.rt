@@ -50,4 +50,6 @@ pub enum Answer<T> {
     Range,
     /// Memory was refused, and nothing has changed.
     Memory,
+    /// The vector has no such call, and nothing has changed.
+    Unfit,
 }

@@ -1,28 +1,89 @@
 //! The call that a line spells.
-ghost use Rattle.std.specs.Prelude.{◌≡◌, ◌≢◌, ◌<◌, ◌^◌, ◌++◌, ◌∷◌, ℕ, ℤ, IfSome, IfNone, All, FitsSigned};
+ghost use Rattle.std.specs.Prelude.{◌≡◌, ◌≢◌, ◌<◌, ◌≤◌, ◌^◌, ◌++◌, ◌∷◌, ℕ, ℤ, length, codes, IfSome, IfNone, All, FitsSigned};
 ghost use Rattle.std.specs.Int.{w32};
 ghost use Rattle.std.specs.Fmt.{decimal, signed_decimal};
-ghost use Rattle.tinyvec_script.specs.Command.{IsCall, IsCommand};
+ghost use Rattle.tinyvec_script.specs.Command.{IsCall, Has};
+ghost use Rattle.tinyvec_script.specs.Parsed.{IsParsed, IsParsedFor};
+ghost use Rattle.tinyvec_script.specs.declared.command.Name.TheVariants.{A, S};
 ghost use Rattle.tinyvec_script.specs.declared.call.Call.{Call};
 
 use crate::Call;
 use crate::number::{parse_index, parse_number};
+use crate::splice_text::{Numbers, letters, parse_splice};
+use std::alloc::Global;
 
-/// The call that the line spells, if it spells one.
-pub(crate) fn parse_line(line: &[u8]) -> Option<Call<i32>>
-    ensures some { IfSome result (IsCommand line.now) }
-    ensures none { IfNone result ((call : Call ℤ) → IsCommand line.now call → ⊥) }
-{
-    if line.len() > 128 {
-        return None;
-    }
-    parse_call(line.strip_prefix(b"A ")?)
+/// The name of a vector.
+#[derive(Clone, Copy, PartialEq, Debug, Drop)]
+pub(crate) enum Name {
+    A,
+    S,
 }
 
-/// The call that the text spells behind the vector's name.
+/// What a line spells.
+#[derive(Drop)]
+pub(crate) enum Parsed {
+    /// A call of the vector.
+    Call(Name, Call<i32>),
+    /// No call.
+    Bad,
+    /// A splice, for whose letters or numbers memory was refused.
+    Memory,
+}
+
+/// What the line spells. Memory is asked for once it is known that it spells a splice.
+pub(crate) fn parse_line(alloc: Global, line: &[u8]) -> Parsed
+    ensures { IsParsed line.now result }
+{
+    if line.len() > 128 {
+        return Parsed::Bad;
+    }
+    if let Some(text) = line.strip_prefix(b"A ") {
+        return parse_array_call(alloc, text);
+    }
+    if let Some(text) = line.strip_prefix(b"S ") {
+        return match parse_call(text) {
+            Some(call) => Parsed::Call(Name::S, call),
+            None => Parsed::Bad,
+        };
+    }
+    Parsed::Bad
+}
+
+fn parse_array_call(alloc: Global, text: &[u8]) -> Parsed
+    requires { length text.now ≤ 126 }
+    ensures { IsParsedFor A text.now result }
+{
+    if let Some(rest) = text.strip_prefix(b"splice ") {
+        return parse_array_splice(alloc, rest);
+    }
+    match parse_call(text) {
+        Some(call) => Parsed::Call(Name::A, call),
+        None => Parsed::Bad,
+    }
+}
+
+fn parse_array_splice(alloc: Global, rest: &[u8]) -> Parsed
+    requires { length rest.now ≤ 119 }
+    ensures { IsParsedFor A (codes "splice " ++ rest.now) result }
+{
+    let mut numbers = Numbers::new();
+    let Some((start, end, word)) = parse_splice(rest, &mut numbers) else {
+        return Parsed::Bad;
+    };
+    let Ok(word) = letters(alloc, word) else {
+        return Parsed::Memory;
+    };
+    let Ok(numbers) = numbers.drain_to_vec(alloc) else {
+        return Parsed::Memory;
+    };
+    Parsed::Call(Name::A, Call::Splice(start, end, word, numbers))
+}
+
+/// The call, but for a splice, that the text spells behind the vector's name.
 fn parse_call(text: &[u8]) -> Option<Call<i32>>
     ensures some { IfSome result (IsCall text.now) }
-    ensures none { IfNone result ((call : Call ℤ) → IsCall text.now call → ⊥) }
+    ensures has { IfSome result (Has S) }
+    ensures none { IfNone result ((call : Call ℤ) → Has S call → IsCall text.now call → ⊥) }
 {
     if text == b"pop".as_slice() {
         return Some(Call::Pop);
@@ -67,7 +128,7 @@ fn parse_index_and_number(text: &[u8]) -> Option<(usize, i32)>
 }
 
 /// What stands before the first blank, and behind it.
-fn split_word(text: &[u8]) -> Option<(&[u8], &[u8])>
+pub(crate) fn split_word(text: &[u8]) -> Option<(&[u8], &[u8])>
     ensures some { IfSome result (λ parts. text.now ≡ parts.0.now ++ 32 ∷ parts.1.now) }
     ensures word { IfSome result (λ parts. All (λ byte. byte ≢ 32) parts.0.now) }
     ensures none { IfNone result (All (λ byte. byte ≢ 32) text.now) }

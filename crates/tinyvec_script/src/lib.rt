@@ -2,6 +2,7 @@
 #![tactic(auto)]
 
 mod answers;
+mod array_step;
 mod call;
 mod command;
 mod decimal;
@@ -11,11 +12,13 @@ mod line;
 mod number;
 mod runs;
 mod script;
-mod step;
+mod slice_step;
+mod splice_text;
+mod vectors;
 #[cfg(test)]
 mod tests;
 
 pub use call::{Answer, Call, End};
 pub use driving::{Driven, drive_array_splice};
-pub use runs::run_array;
+pub use runs::{run_array, run_slice};
 pub use script::{RunError, run};

@@ -1,11 +1,14 @@
 //! A list of calls, answered one after another.
 ghost use Rattle.std.specs.Prelude.{◌≡◌, [], IsOk, IfOk, IfErr};
-ghost use Rattle.tinyvec_script.specs.Step.{ArrayRun};
+ghost use Rattle.tinyvec_slice.specs.View.{seen_of, name_of};
+ghost use Rattle.tinyvec_script.specs.Step.{ArrayStep, SliceStep, Run};
 
-use crate::step::answer;
+use crate::array_step::answer_array;
+use crate::slice_step::answer_slice;
 use crate::{Answer, Call};
 use std::alloc::Global;
 use tinyvec_array::{Array, ArrayVec, NoMemory};
+use tinyvec_slice::{Lent, SliceVecOver};
 
 /// Makes the calls in order, and gives one answer to each. Room for all answers is asked for first: where that is
 /// refused, no call is made and the calls come back.
@@ -14,7 +17,7 @@ pub fn run_array<A: Array>(
     vec: &mut ArrayVec<A>,
     calls: Vec<Call<A::Item>>,
 ) -> Result<Vec<Answer<A::Item>>, NoMemory<Vec<Call<A::Item>>>>
-    ensures run { IfOk result (λ answers. ArrayRun A.Item.is_default A.CAPACITY vec.old calls.items answers.items vec.new) }
+    ensures run { IfOk result (λ answers. Run (ArrayStep A.Item.is_default A.CAPACITY) vec.old calls.items answers.items vec.new) }
     ensures refused { IfErr result (λ refused. (refused.0 ≡ calls) × (vec.new ≡ vec.old)) }
     ensures none { calls.items ≡ [] → IsOk result }
 {
@@ -22,7 +25,30 @@ pub fn run_array<A: Array>(
         return Err(NoMemory(calls));
     };
     for call in calls {
-        let answered = answer(alloc, vec, call);
+        let answered = answer_array(alloc, vec, call);
+        answers.push_reserved(answered);
+    }
+    Ok(answers)
+}
+
+/// The same for a vector in a lent slice, and for any other slots that are lent.
+pub fn run_slice<B: Lent>(
+    alloc: Global,
+    vec: &mut SliceVecOver<B>,
+    calls: Vec<Call<B::Item>>,
+) -> Result<Vec<Answer<B::Item>>, NoMemory<Vec<Call<B::Item>>>>
+where
+    B::Item: Default,
+    ensures run { IfOk result (λ answers. Run (SliceStep B.Item.is_default) (seen_of B.Lent vec.old) calls.items answers.items (seen_of B.Lent vec.new)) }
+    ensures refused { IfErr result (λ refused. (refused.0 ≡ calls) × (vec.new ≡ vec.old)) }
+    ensures same_slots { name_of B.Lent vec.new ≡ name_of B.Lent vec.old }
+    ensures none { calls.items ≡ [] → IsOk result }
+{
+    let Ok(mut answers) = Vec::with_capacity(alloc, calls.len()) else {
+        return Err(NoMemory(calls));
+    };
+    for call in calls {
+        let answered = answer_slice(alloc, vec, call);
         answers.push_reserved(answered);
     }
     Ok(answers)

@@ -1,23 +1,23 @@
 //! A script, read and answered.
-ghost use Rattle.std.specs.Prelude.{◌≡◌, ◌≤◌, ◌^◌, ◌-◌, ◌++◌, ◌∷◌, List, ℕ, ℤ, [], OnOk, OnErr, IsErrOf, MatchOption, length};
+ghost use Rattle.std.specs.Prelude.{◌≡◌, ◌≤◌, ◌^◌, ◌-◌, ◌++◌, ◌∷◌, List, ℕ, [], OnOk, OnErr, IsErrOf, length};
 ghost use Rattle.std.specs.Io.KnownBytes.{Appends, Consumes, IsAtEnd, append_known};
 ghost use Rattle.tinyvec_io.specs.Counted.{Reported};
-ghost use Rattle.tinyvec_script.specs.Command.{IsCommand};
+ghost use Rattle.tinyvec_script.specs.State.{state_of};
 ghost use Rattle.tinyvec_script.specs.Script.{Answered, Script, CompleteLines};
 ghost use Rattle.tinyvec_script.specs.History.{kept, Feeds, Ends};
-ghost use Rattle.tinyvec_script.specs.declared.call.Call.{Call};
 
-use crate::Call;
-use crate::answers::{VectorA, write_line};
-use crate::command::parse_line;
+use crate::Answer;
+use crate::command::{Name, Parsed, parse_line};
 use crate::gathered::Gathered;
 use crate::line::Line;
-use crate::step::answer;
+use crate::vectors::Vectors;
 use std::alloc::Global;
 use std::io;
 use std::io::{Read, Write};
 use thiserror::Error;
+use tinyvec_array::ArrayVec;
 use tinyvec_io::Counted;
+use tinyvec_slice::{Lent, SliceVec};
 
 /// How many bytes are read at a time.
 const CHUNK: usize = 4096;
@@ -65,7 +65,11 @@ pub fn run<R: Read, W: Write>(
         × Appends (W.contents writer.old.end) (W.contents writer.new.end) output
         × CompleteLines input output }
 {
-    let mut vector = VectorA::new();
+    let mut slots = [0; 4];
+    let mut vectors = Vectors {
+        a: ArrayVec::new(),
+        s: SliceVec::from_slice_len(&mut slots, 0),
+    };
     let mut line = Line::new();
     let mut chunk = [0; CHUNK];
     for _piece in 0..u64::MAX {
@@ -73,12 +77,12 @@ pub fn run<R: Read, W: Write>(
             return Err(RunError::Read);
         };
         if count == 0 {
-            return match finish(alloc, &mut vector, &line, writer) {
+            return match finish(alloc, &mut vectors, &line, writer) {
                 Ok(()) => Ok(()),
                 Err(_) => Err(RunError::Write),
             };
         }
-        let Ok(()) = answer_chunk(alloc, &mut vector, &mut line, writer, &chunk[..count]) else {
+        let Ok(()) = answer_chunk(alloc, &mut vectors, &mut line, writer, &chunk[..count]) else {
             return Err(RunError::Write);
         };
     }
@@ -86,34 +90,34 @@ pub fn run<R: Read, W: Write>(
 }
 
 /// Takes bytes of the input, and writes the answers to the lines that they end.
-fn answer_chunk<W: Write>(
+fn answer_chunk<W: Write, B: Lent<Item = i32>>(
     alloc: Global,
-    vector: &mut VectorA,
+    vectors: &mut Vectors<B>,
     line: &mut Line,
     writer: &mut Counted<W>,
     bytes: &[u8],
 ) -> io::Result<()>
     ensures ok { OnOk result ((written : List ℕ)
         × Appends (W.contents writer.old.end) (W.contents writer.new.end) written
-        × Feeds vector.old line.old bytes.now written vector.new line.new) }
+        × Feeds (state_of B.Lent vectors.old) line.old bytes.now written (state_of B.Lent vectors.new) line.new) }
     ensures grows { writer.old.faults ≤ writer.new.faults }
     ensures fault { OnErr result (Reported writer.old.faults writer.new.faults) }
 {
     let mut gathered = Gathered::new();
-    feed(alloc, vector, line, &mut gathered, writer, bytes)?;
+    feed(alloc, vectors, line, &mut gathered, writer, bytes)?;
     gathered.send(writer)
 }
 
 /// Ends the last line, if it has bytes, and sends on what was written.
-fn finish<W: Write>(
+fn finish<W: Write, B: Lent<Item = i32>>(
     alloc: Global,
-    vector: &mut VectorA,
+    vectors: &mut Vectors<B>,
     line: &Line,
     writer: &mut Counted<W>,
 ) -> io::Result<()>
     ensures ok { OnOk result ((written : List ℕ)
         × Appends (W.contents writer.old.end) (W.contents writer.new.end) written
-        × Ends vector.old line.now written) }
+        × Ends (state_of B.Lent vectors.old) line.now written) }
     ensures grows { writer.old.faults ≤ writer.new.faults }
     ensures fault { OnErr result (Reported writer.old.faults writer.new.faults) }
 {
@@ -121,15 +125,15 @@ fn finish<W: Write>(
         return writer.flush();
     }
     let mut gathered = Gathered::new();
-    answer_line(alloc, vector, line, &mut gathered, writer)?;
+    answer_line(alloc, vectors, line, &mut gathered, writer)?;
     gathered.send(writer)?;
     writer.flush()
 }
 
 /// Takes bytes of the input.
-fn feed<W: Write>(
+fn feed<W: Write, B: Lent<Item = i32>>(
     alloc: Global,
-    vector: &mut VectorA,
+    vectors: &mut Vectors<B>,
     line: &mut Line,
     gathered: &mut Gathered,
     writer: &mut Counted<W>,
@@ -137,20 +141,20 @@ fn feed<W: Write>(
 ) -> io::Result<()>
     ensures ok { OnOk result ((written : List ℕ)
         × Appends (append_known (W.contents writer.old.end) gathered.old) (append_known (W.contents writer.new.end) gathered.new) written
-        × Feeds vector.old line.old bytes.now written vector.new line.new) }
+        × Feeds (state_of B.Lent vectors.old) line.old bytes.now written (state_of B.Lent vectors.new) line.new) }
     ensures grows { writer.old.faults ≤ writer.new.faults }
     ensures fault { OnErr result (Reported writer.old.faults writer.new.faults) }
 {
     for byte in bytes {
-        feed_byte(alloc, vector, line, gathered, writer, *byte)?;
+        feed_byte(alloc, vectors, line, gathered, writer, *byte)?;
     }
     Ok(())
 }
 
 /// Takes a byte of the input.
-fn feed_byte<W: Write>(
+fn feed_byte<W: Write, B: Lent<Item = i32>>(
     alloc: Global,
-    vector: &mut VectorA,
+    vectors: &mut Vectors<B>,
     line: &mut Line,
     gathered: &mut Gathered,
     writer: &mut Counted<W>,
@@ -158,12 +162,12 @@ fn feed_byte<W: Write>(
 ) -> io::Result<()>
     ensures ok { OnOk result ((written : List ℕ)
         × Appends (append_known (W.contents writer.old.end) gathered.old) (append_known (W.contents writer.new.end) gathered.new) written
-        × Feeds vector.old line.old (byte ∷ []) written vector.new line.new) }
+        × Feeds (state_of B.Lent vectors.old) line.old (byte ∷ []) written (state_of B.Lent vectors.new) line.new) }
     ensures grows { writer.old.faults ≤ writer.new.faults }
     ensures fault { OnErr result (Reported writer.old.faults writer.new.faults) }
 {
     if byte == b'\n' {
-        answer_line(alloc, vector, line, gathered, writer)?;
+        answer_line(alloc, vectors, line, gathered, writer)?;
         line.clear();
     } else {
         line.push(byte);
@@ -172,28 +176,28 @@ fn feed_byte<W: Write>(
 }
 
 /// Answers a line that is ended.
-fn answer_line<W: Write>(
+fn answer_line<W: Write, B: Lent<Item = i32>>(
     alloc: Global,
-    vector: &mut VectorA,
+    vectors: &mut Vectors<B>,
     line: &Line,
     gathered: &mut Gathered,
     writer: &mut Counted<W>,
 ) -> io::Result<()>
     ensures ok { OnOk result ((text : List ℕ)
         × Appends (append_known (W.contents writer.old.end) gathered.old) (append_known (W.contents writer.new.end) gathered.new) (text ++ 10 ∷ [])
-        × ((rest : List ℕ) → line.now ≡ kept rest → Answered vector.old rest text vector.new)) }
+        × ((rest : List ℕ) → line.now ≡ kept rest → Answered (state_of B.Lent vectors.old) rest text (state_of B.Lent vectors.new))) }
     ensures grows { writer.old.faults ≤ writer.new.faults }
     ensures fault { OnErr result (Reported writer.old.faults writer.new.faults) }
 {
-    let Some(call) = read_command(line) else {
+    let Some(text) = line.as_slice() else {
         return gathered.put(writer, b"bad\n");
     };
-    let answered = answer(alloc, vector, call);
-    write_line(gathered, writer, &answered, vector)
-}
-
-fn read_command(line: &Line) -> Option<Call<i32>>
-    ensures { (rest : List ℕ) → line.now ≡ kept rest → MatchOption result ((call : Call ℤ) → IsCommand rest call → ⊥) (IsCommand rest) }
-{
-    parse_line(line.as_slice()?)
+    match parse_line(alloc, text) {
+        Parsed::Bad => gathered.put(writer, b"bad\n"),
+        Parsed::Memory => vectors.write_line(gathered, writer, &Answer::Memory, Name::A),
+        Parsed::Call(name, call) => {
+            let answered = vectors.answer(alloc, name, call);
+            vectors.write_line(gathered, writer, &answered, name)
+        }
+    }
 }

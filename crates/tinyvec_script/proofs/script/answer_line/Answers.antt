@@ -1,16 +1,50 @@
-use Rattle.std.proofs.Common.{◌++◌, codes, refl}
+use Rattle.std.proofs.Common.{◌≡◌, ◌++◌, None, Some, codes, refl, sym, ◌∙◌, subst, arith}
 use Rattle.std.proofs.lemmas.Result.{on_ok_weaker}
 use Rattle.tinyvec_script.specs.Text.{answer_text, vector_text}
-use Rattle.tinyvec_script.specs.Script.Answered.{done, bad}
+use Rattle.tinyvec_script.specs.Parsed.{IsParsed}
+use Rattle.tinyvec_script.specs.Script.{vector}
+use Rattle.tinyvec_script.specs.Script.Answered.{done, memory, bad}
+use Rattle.tinyvec_script.specs.State.{state_of}
+use Rattle.tinyvec_script.specs.declared.call.Answer.TheVariants as answers
+use Rattle.tinyvec_script.specs.declared.command.Name.TheVariants.{A}
+use Rattle.tinyvec_script.specs.declared.command.Parsed.{Parsed}
+use Rattle.tinyvec_script.specs.declared.command.Parsed.TheVariants as parsed
+use Rattle.tinyvec_script.proofs.HistoryLemmas.{kept_is, too_long_kept}
 use Rattle.tinyvec_script.proofs.script.answer_line.Goals as goal
 
 pub returns-in_default-clause-ok : goal.returns-in_default-clause-ok
-returns-in_default-clause-ok g c =
-    on_ok_weaker c.put.result (λ written. (codes "bad", written, λ rest k. bad (c.in_default.ensures rest k) refl refl)) c.put.ensures.0
-
-pub returns-clause-ok : goal.returns-clause-ok
-returns-clause-ok g c = on_ok_weaker c.write_line.result (λ written. (
-  answer_text c.answer-answered.result ++ codes " " ++ vector_text c.answer-answered.new.vec,
+returns-in_default-clause-ok g c = on_ok_weaker c.put.result (λ written. (
+  codes "bad",
   written,
-  λ rest k. done c.in-Some.call c.answer-answered.result (c.in-Some.ensures rest k) c.answer-answered.ensures refl,
-)) c.write_line.ensures.0
+  λ rest k. let long = too_long_kept rest (sym c.in_default.ensures ∙ k) in bad (λ name call h. omega (arith, long, h.short)) refl refl,
+)) c.put.ensures.0
+
+pub returns-in-Bad-clause-ok : goal.returns-in-Bad-clause-ok
+returns-in-Bad-clause-ok g c =
+    let none : IsParsed c.in-Some.text.now parsed.Bad = subst (IsParsed c.in-Some.text.now) c.in-Bad.is c.parse_line.ensures in
+    on_ok_weaker c.put-in-Bad.result (λ written. (
+      codes "bad",
+      written,
+      λ rest k. bad (subst (λ l. IsParsed l parsed.Bad) (kept_is rest c.in-Some.text.now (sym c.in-Some.ensures ∙ k)).0 none) refl refl,
+    )) c.put-in-Bad.ensures.0
+
+pub returns-in-Memory-clause-ok : goal.returns-in-Memory-clause-ok
+returns-in-Memory-clause-ok g c =
+    let asks : IsParsed c.in-Some.text.now parsed.Memory = subst (IsParsed c.in-Some.text.now) c.in-Memory.is c.parse_line.ensures in
+    on_ok_weaker c.write_line.result (λ written. (
+      codes "memory" ++ codes " " ++ vector_text (state_of g.B.Lent c.args.vectors.now).a,
+      written,
+      λ rest k. memory (subst (λ l. IsParsed l parsed.Memory) (kept_is rest c.in-Some.text.now (sym c.in-Some.ensures ∙ k)).0 asks) refl refl,
+    )) c.write_line.ensures.0
+
+pub returns-in-Call-clause-ok : goal.returns-in-Call-clause-ok
+returns-in-Call-clause-ok g c =
+    let name = c.in-Call.name in
+    let call = c.in-Call.call in
+    let answer = c.answer-answered.result in
+    let spelled : IsParsed c.in-Some.text.now (parsed.Call name call) = subst (IsParsed c.in-Some.text.now) c.in-Call.is c.parse_line.ensures in
+    on_ok_weaker c.write_line-in-Call.result (λ written. (
+      answer_text answer ++ codes " " ++ vector_text (vector name (state_of g.B.Lent c.answer-answered.new.self)),
+      written,
+      λ rest k. done name call answer (subst (λ l. IsParsed l (parsed.Call name call)) (kept_is rest c.in-Some.text.now (sym c.in-Some.ensures ∙ k)).0 spelled) c.answer-answered.ensures refl,
+    )) c.write_line-in-Call.ensures.0

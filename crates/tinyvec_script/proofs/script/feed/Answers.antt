@@ -2,11 +2,12 @@ use Rattle.std.proofs.Common.{◌<◌, [], ◌++◌, length, arith}
 use Rattle.std.proofs.lemmas.List.{take_more, take_all}
 use Rattle.std.proofs.KnownBytes.{Appends-nil, Appends-trans}
 use Rattle.tinyvec_script.proofs.HistoryLemmas.{feeds_nothing, feeds_then}
+use Rattle.tinyvec_script.specs.State.{state_of}
 use Rattle.tinyvec_script.proofs.script.feed.Goals as goal
 
 pub loop-byte-init : goal.loop-byte-init
 loop-byte-init g c = record {
-  fed = ([], Appends-nil _, feeds_nothing c.args.vector.now c.args.line.now);
+  fed = ([], Appends-nil _, feeds_nothing (state_of g.B.Lent c.args.vectors.now) c.args.line.now);
   grows = omega arith;
 }
 
@@ -20,7 +21,7 @@ loop-byte-preserved g c =
         so_far.0 ++ step.0,
         Appends-trans _ _ _ so_far.0 step.0 so_far.1 step.1,
         rw (take_more c.args.bytes.now c.loop-byte.byte-index 0 lt)
-            (feeds_then c.args.vector.now c.loop-byte.vector c.feed_byte.new.vector c.args.line.now c.loop-byte.line c.feed_byte.new.line _ _ so_far.0 step.0 so_far.2 step.2),
+            (feeds_then (state_of g.B.Lent c.args.vectors.now) (state_of g.B.Lent c.loop-byte.vectors) (state_of g.B.Lent c.feed_byte.new.vectors) c.args.line.now c.loop-byte.line c.feed_byte.new.line _ _ so_far.0 step.0 so_far.2 step.2),
       );
       grows = omega (arith, c.in_ok-feed_byte.ensures.grows);
     }

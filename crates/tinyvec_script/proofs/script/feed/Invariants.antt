@@ -1,12 +1,13 @@
 use Rattle.std.proofs.Common.{◌≤◌, List, ℕ, take}
 use Rattle.std.specs.Io.KnownBytes.{Appends, append_known}
 use Rattle.tinyvec_script.specs.History.{Feeds}
+use Rattle.tinyvec_script.specs.State.{state_of}
 use Rattle.tinyvec_script.proofs.script.feed.Given as goal
 
 abbrev pub invariant-loop-byte : goal.invariant-loop-byte
 invariant-loop-byte g l = record {
   fed : (written : List ℕ)
       × Appends (append_known (g.W.Write.contents l.fn.writer.end) l.fn.gathered) (append_known (g.W.Write.contents l.writer.end) l.gathered) written
-      × Feeds l.fn.vector l.fn.line (take l.byte-index l.bytes) written l.vector l.line;
+      × Feeds (state_of g.B.Lent l.fn.vectors) l.fn.line (take l.byte-index l.bytes) written (state_of g.B.Lent l.vectors) l.line;
   grows : l.fn.writer.faults ≤ l.writer.faults;
 }

@@ -1,17 +1,22 @@
 use Rattle.std.proofs.Common.{◌≡◌, ◌≤◌, ◌+◌, ◌++◌, List, ℕ, [], Some, length, take, pos, sym, ap, ◌∙◌, arith, append-nil, length-append}
 use Rattle.tinyvec_slots.specs.Slots.{spare, split_at}
 use Rattle.tinyvec_slots.proofs.SlotsLemmas.{defaults_are}
-use Rattle.tinyvec_script.specs.Script.{start, IsZero}
+use Rattle.tinyvec_script.specs.Script.{start, zeros, State, IsZero}
+use Rattle.tinyvec_slice.specs.View.{seen}
+use Rattle.tinyvec_script.specs.State.{held}
 use Rattle.std.proofs.KnownBytes.{Appends-nil, Appends-trans, Consumes-nil, Consumes-trans, Consumes-kept}
 use Rattle.tinyvec_script.proofs.HistoryLemmas.{feeds_nothing, feeds_then, complete_lines, whole_script}
 use Rattle.tinyvec_script.proofs.script.run.Goals as goal
 
 pub loop-piece-init : goal.loop-piece-init
 loop-piece-init g c =
-    let vector = c.new-vector.result in
-    let border = c.new-vector.ensures.border in
-    let zeros = defaults_are IsZero (pos 0) (λ x h. h) 4 (spare vector) c.new-vector.ensures.spare in
-    let begins : vector ≡ start = border ∙ ap (split_at 0) (sym (ap spare border) ∙ zeros) in
+    let array = c.new.result in
+    let border = c.new.ensures.border in
+    let empty = defaults_are IsZero (pos 0) (λ x h. h) 4 (spare array) c.new.ensures.spare in
+    let a_begins : array ≡ zeros = border ∙ ap (split_at 0) (sym (ap spare border) ∙ empty) in
+    let s_begins : seen c.from_slice_len.result ≡ zeros = c.from_slice_len.ensures.value in
+    let state : State = record { a = array; s = seen c.from_slice_len.result } in
+    let begins : state ≡ start = λ t. record { a = a_begins t; s = s_begins t } in
     record {
       so_far = ([], [], Consumes-nil _, Appends-nil _, rw (begins, c.new-line.ensures) (feeds_nothing start (Some [])), omega arith);
       read_grows = omega arith;
@@ -21,7 +26,7 @@ loop-piece-init g c =
 pub returns-in_default-clause-read : goal.returns-in_default-clause-read
 returns-in_default-clause-read g c =
     let s = c.loop-piece.invariant.so_far in
-    λ _. (s.0, s.1, Consumes-kept _ _ _ s.0 s.2 c.in_default.ensures.err, s.3, complete_lines s.0 s.1 c.loop-piece.vector c.loop-piece.line s.4)
+    λ _. (s.0, s.1, Consumes-kept _ _ _ s.0 s.2 c.in_default.ensures.err, s.3, complete_lines s.0 s.1 (held c.loop-piece.vectors) c.loop-piece.line s.4)
 
 pub returns-in-Ok-finish-clause-ok : goal.returns-in-Ok-finish-clause-ok
 returns-in-Ok-finish-clause-ok g c =
@@ -29,7 +34,7 @@ returns-in-Ok-finish-clause-ok g c =
     let f = c.in-Ok-finish.ensures.ok in
     let none : c.in-Ok.count ≡ 0 = c.if-count-eq0.true in
     let last = rw none at c.in-Ok.ensures.bytes in
-    (s.0, s.1 ++ f.0, rw append-nil at (Consumes-trans _ _ _ s.0 [] s.2 last), c.in-Ok.ensures.end none, Appends-trans _ _ _ s.1 f.0 s.3 f.1, whole_script s.0 s.1 f.0 c.loop-piece.vector c.loop-piece.line s.4 f.2)
+    (s.0, s.1 ++ f.0, rw append-nil at (Consumes-trans _ _ _ s.0 [] s.2 last), c.in-Ok.ensures.end none, Appends-trans _ _ _ s.1 f.0 s.3 f.1, whole_script s.0 s.1 f.0 (held c.loop-piece.vectors) c.loop-piece.line s.4 f.2)
 
 pub loop-piece-preserved : goal.loop-piece-preserved
 loop-piece-preserved g c =
@@ -43,7 +48,7 @@ loop-piece-preserved g c =
         s.1 ++ f.0,
         Consumes-trans _ _ _ s.0 bytes s.2 c.in-Ok.ensures.bytes,
         Appends-trans _ _ _ s.1 f.0 s.3 f.1,
-        feeds_then _ c.loop-piece.vector c.answer_chunk.new.vector (Some []) c.loop-piece.line c.answer_chunk.new.line s.0 bytes s.1 f.0 s.4 f.2,
+        feeds_then _ (held c.loop-piece.vectors) (held c.answer_chunk.new.vectors) (Some []) c.loop-piece.line c.answer_chunk.new.line s.0 bytes s.1 f.0 s.4 f.2,
         longer,
       );
       read_grows = omega (arith, c.in-Ok.ensures.grows);
@@ -53,4 +58,4 @@ loop-piece-preserved g c =
 pub returns-clause-too_long : goal.returns-clause-too_long
 returns-clause-too_long g c =
     let s = c.loop-piece.invariant.so_far in
-    λ _. (s.0, s.1, s.2, omega arith, s.3, complete_lines s.0 s.1 c.loop-piece.vector c.loop-piece.line s.4)
+    λ _. (s.0, s.1, s.2, omega arith, s.3, complete_lines s.0 s.1 (held c.loop-piece.vectors) c.loop-piece.line s.4)

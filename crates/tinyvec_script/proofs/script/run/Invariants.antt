@@ -2,6 +2,7 @@ use Rattle.std.proofs.Common.{◌≤◌, List, ℕ, [], Some, length}
 use Rattle.std.specs.Io.KnownBytes.{Appends, Consumes}
 use Rattle.tinyvec_script.specs.Script.{start}
 use Rattle.tinyvec_script.specs.History.{Feeds}
+use Rattle.tinyvec_script.specs.State.{held}
 use Rattle.tinyvec_script.proofs.script.run.Given as goal
 
 -- what was read so far, and what was written for it
@@ -10,7 +11,7 @@ invariant-loop-piece g l = record {
   so_far : (input : List ℕ) × (output : List ℕ)
       × Consumes (g.R.Read.remaining l.fn.reader.end) (g.R.Read.remaining l.reader.end) input
       × Appends (g.W.Write.contents l.fn.writer.end) (g.W.Write.contents l.writer.end) output
-      × Feeds start (Some []) input output l.vector l.line
+      × Feeds start (Some []) input output (held l.vectors) l.line
       × (l._piece ≤ length input);
   read_grows : l.fn.reader.faults ≤ l.reader.faults;
   write_grows : l.fn.writer.faults ≤ l.writer.faults;

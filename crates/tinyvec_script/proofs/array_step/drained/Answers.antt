@@ -6,7 +6,7 @@ use Rattle.tinyvec_array.specs.Drain.{drain_items, DrainKeeps}
 use Rattle.tinyvec_array.proofs.DrainLemmas.{DrainSteps-keeps, DrainKeeps-then}
 use Rattle.tinyvec_array.proofs.DrainedLemmas.{drained_items, drained_slots}
 use Rattle.tinyvec_script.specs.Step.{ArrayDrains}
-use Rattle.tinyvec_script.proofs.step.drained.Goals as goal
+use Rattle.tinyvec_script.proofs.array_step.drained.Goals as goal
 
 pub returns : goal.returns
 returns g c =

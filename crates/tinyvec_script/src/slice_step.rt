@@ -1,19 +1,22 @@
-//! One call of an `ArrayVec`, answered.
-ghost use Rattle.std.specs.Prelude.{◌≡◌, ◌-◌, ◌≤◌, [], vec_capacity};
-ghost use Rattle.tinyvec_slots.specs.Slots.{items_len};
-ghost use Rattle.tinyvec_script.specs.Step.{ArrayStep, ArrayDrains, ArraySpliceStep};
+//! One call of a vector in lent slots, answered.
+ghost use Rattle.std.specs.Prelude.{◌≡◌, ◌-◌, ◌≤◌, [], length, vec_capacity};
+ghost use Rattle.tinyvec_slice.specs.View.{seen_of, items_of, name_of};
+ghost use Rattle.tinyvec_script.specs.Step.{SliceStep, ArrayDrains};
 
-use crate::{Answer, Call, Driven, End, drive_array_splice};
+use crate::{Answer, Call};
 use std::alloc::Global;
-use tinyvec_array::{Array, ArrayVec};
+use tinyvec_slice::{Lent, SliceVecOver};
 
 /// Makes the call.
-pub(crate) fn answer<A: Array>(
+pub(crate) fn answer_slice<B: Lent>(
     alloc: Global,
-    vec: &mut ArrayVec<A>,
-    call: Call<A::Item>,
-) -> Answer<A::Item>
-    ensures { ArrayStep A.Item.is_default A.CAPACITY vec.old call result vec.new }
+    vec: &mut SliceVecOver<B>,
+    call: Call<B::Item>,
+) -> Answer<B::Item>
+where
+    B::Item: Default,
+    ensures step { SliceStep B.Item.is_default (seen_of B.Lent vec.old) call result (seen_of B.Lent vec.new) }
+    ensures same_slots { name_of B.Lent vec.new ≡ name_of B.Lent vec.old }
 {
     match call {
         Call::Push(x) => {
@@ -65,15 +68,7 @@ pub(crate) fn answer<A: Array>(
             };
             Answer::Items(drained(vec, start, end, items))
         }
-        Call::Splice(start, end, word, replacement) => {
-            if start > end {
-                return Answer::Range;
-            }
-            if end > vec.len() {
-                return Answer::Range;
-            }
-            spliced(alloc, vec, start, end, word.as_slice(), replacement)
-        }
+        Call::Splice(_, _, _, _) => Answer::Unfit,
         Call::SetLen(n) => {
             if n > vec.capacity() {
                 return Answer::Range;
@@ -85,45 +80,23 @@ pub(crate) fn answer<A: Array>(
 }
 
 // Takes the items from `start` up to `end`, into an empty vector with room for them.
-fn drained<A: Array>(
-    vec: &mut ArrayVec<A>,
+fn drained<B: Lent>(
+    vec: &mut SliceVecOver<B>,
     start: usize,
     end: usize,
-    mut items: Vec<A::Item>,
-) -> Vec<A::Item>
+    mut items: Vec<B::Item>,
+) -> Vec<B::Item>
+where
+    B::Item: Default,
     requires start_le_end { start ≤ end }
-    requires in_bounds { end ≤ items_len vec.old }
+    requires in_bounds { end ≤ length (items_of B.Lent vec.old) }
     requires empty { items.items ≡ [] }
     requires room { end - start ≤ vec_capacity items }
-    ensures { ArrayDrains A.Item.is_default vec.old start end result.items vec.new }
+    ensures drains { ArrayDrains B.Item.is_default (seen_of B.Lent vec.old) start end result.items (seen_of B.Lent vec.new) }
+    ensures same_slots { name_of B.Lent vec.new ≡ name_of B.Lent vec.old }
 {
     for item in vec.drain(start..end) {
         items.push_reserved(item);
     }
     items
-}
-
-// Replaces the items from `start` up to `end`, from which it first takes one at each of the ends.
-fn spliced<A: Array>(
-    alloc: Global,
-    vec: &mut ArrayVec<A>,
-    start: usize,
-    end: usize,
-    word: &[End],
-    replacement: Vec<A::Item>,
-) -> Answer<A::Item>
-    requires start_le_end { start ≤ end }
-    requires in_bounds { end ≤ items_len vec.old }
-    ensures { ArraySpliceStep A.Item.is_default A.CAPACITY vec.old start end word.now replacement.items result vec.new }
-{
-    match drive_array_splice(alloc, vec, start, end, replacement, word) {
-        Ok(driven) => {
-            let Driven { yields, rest } = driven;
-            if rest.is_empty() {
-                return Answer::Items(yields);
-            }
-            Answer::Spliced(yields, rest)
-        }
-        Err(_) => Answer::Memory,
-    }
 }

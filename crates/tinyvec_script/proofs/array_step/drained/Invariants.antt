@@ -1,6 +1,6 @@
 use Rattle.std.proofs.Common.{◌≡◌, ◌-◌, ◌≤◌, ◌++◌, vec_capacity}
 use Rattle.tinyvec_array.specs.Drain.{drain_items, DrainKeeps}
-use Rattle.tinyvec_script.proofs.step.drained.Given as goal
+use Rattle.tinyvec_script.proofs.array_step.drained.Given as goal
 
 abbrev pub invariant-loop-item : goal.invariant-loop-item
 invariant-loop-item g l = record {

@@ -3,7 +3,7 @@ use Rattle.std.proofs.lemmas.List.Edits.{length-insert, length-remove}
 use Rattle.std.proofs.lemmas.Option.{slice_get_read}
 use Rattle.tinyvec_slots.specs.Slots.{items, items_len}
 use Rattle.tinyvec_slots.proofs.SlotsLemmas.{slots_used, slots_freed}
-use Rattle.tinyvec_script.proofs.step.answer.Goals as goal
+use Rattle.tinyvec_script.proofs.array_step.answer_array.Goals as goal
 
 pub returns-else-is_full-2 : goal.returns-else-is_full-2
 returns-else-is_full-2 g c =

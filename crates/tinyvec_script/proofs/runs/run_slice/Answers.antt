@@ -1,0 +1,14 @@
+use Rattle.std.proofs.Common.{◌∙◌, arith, length-append}
+use Rattle.tinyvec_slice.specs.View.{seen_of}
+use Rattle.tinyvec_script.specs.Step.{SliceStep}
+use Rattle.tinyvec_script.proofs.RunLemmas.{Run-more}
+use Rattle.tinyvec_script.proofs.runs.run_slice.Goals as goal
+
+pub loop-call-preserved : goal.loop-call-preserved
+loop-call-preserved g c = record {
+  run = rw c.push_reserved.ensures.items (Run-more (SliceStep g.B.Item.Default.is_default) (seen_of g.B.Lent c.args.vec.now) (seen_of g.B.Lent c.loop-call.vec) (seen_of g.B.Lent c.answer_slice-answered.new.vec)
+      c.loop-call.yielded c.loop-call.answers.items c.in-Some.call c.answer_slice-answered.result c.loop-call.invariant.run c.answer_slice-answered.ensures.step);
+  same = c.answer_slice-answered.ensures.same_slots ∙ c.loop-call.invariant.same;
+  count = grind (arith, length-append);
+  room = grind arith;
+}

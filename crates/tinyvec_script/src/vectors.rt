@@ -1,0 +1,60 @@
+//! The vectors of a script.
+ghost use Rattle.std.specs.Prelude.{◌≡◌, ◌++◌, ◌∷◌, [], codes};
+ghost use Rattle.tinyvec_script.specs.Command.{Has};
+ghost use Rattle.tinyvec_script.specs.Script.{Steps, vector};
+ghost use Rattle.tinyvec_script.specs.Text.{answer_text, vector_text};
+ghost use Rattle.tinyvec_script.specs.Writes.{Gathers};
+
+use crate::answers::write_line;
+use crate::array_step::answer_array;
+use crate::command::Name;
+use crate::gathered::Gathered;
+use crate::slice_step::answer_slice;
+use crate::{Answer, Call};
+use std::alloc::Global;
+use std::io;
+use std::io::Write;
+use tinyvec_array::ArrayVec;
+use tinyvec_io::Counted;
+use tinyvec_slice::{Lent, SliceVecOver};
+
+/// The vectors of a script, each under its name.
+#[derive(Drop)]
+pub(crate) struct Vectors<B: Lent<Item = i32>> {
+    pub a: ArrayVec<[i32; 4]>,
+    pub s: SliceVecOver<B>,
+}
+
+impl<B: Lent<Item = i32>> Vectors<B> {
+    ghost use Rattle.tinyvec_script.specs.State.{state_of};
+
+    /// Makes the call of the vector of that name.
+    pub(crate) fn answer(&mut self, alloc: Global, name: Name, call: Call<i32>) -> Answer<i32>
+        ensures { Steps name (state_of B.Lent self.old) call result (state_of B.Lent self.new) }
+    {
+        match name {
+            Name::A => answer_array(alloc, &mut self.a, call),
+            Name::S => answer_slice(alloc, &mut self.s, call),
+        }
+    }
+
+    /// Writes an answer line: the answer, and the vector of that name as it is then.
+    pub(crate) fn write_line<W: Write>(
+        &self,
+        gathered: &mut Gathered,
+        writer: &mut Counted<W>,
+        answer: &Answer<i32>,
+        name: Name,
+    ) -> io::Result<()>
+        ensures { Gathers W.contents writer.old gathered.old writer.new gathered.new result (answer_text answer.now ++ codes " " ++ vector_text (vector name (state_of B.Lent self.now)) ++ 10 ∷ []) }
+    {
+        match name {
+            Name::A => {
+                write_line(gathered, writer, answer, self.a.as_slice(), self.a.grab_spare_slice())
+            }
+            Name::S => {
+                write_line(gathered, writer, answer, self.s.as_slice(), self.s.grab_spare_slice())
+            }
+        }
+    }
+}

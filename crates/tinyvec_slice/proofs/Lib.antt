@@ -1,0 +1,3 @@
+pub mod ViewLemmas
+pub mod DrainLemmas
+mod ResizingLemmas

@@ -1,0 +1,19 @@
+use Rattle.std.proofs.Common.{◌<◌, ◌-◌, length, take, ap, ◌∙◌, arith}
+use Rattle.std.proofs.lemmas.Result.{on_err_weaker}
+use Rattle.tinyvec_slots.proofs.CloneLemmas.{written_part}
+use Rattle.tinyvec_slice.proofs.clone_slots.put_clones.Goals as goal
+
+pub returns-clause-refused : goal.returns-clause-refused
+returns-clause-refused g c =
+    let start = c.args.start in
+    let xs = c.args.from.now in
+    let slots = c.all_mut.result.now in
+    let all = ap length c.all_mut.ensures.value in
+    on_err_weaker c.clone_over.result (λ h.
+    let below : h.0 < length xs = h.1.0 in (
+      h.0,
+      h.1,
+      g.B.Lent.slots_written _ _
+          ∙ written_part slots _ (take h.0 xs) c.clone_over.new.to start (length slots - start) h.0 c.all_mut.ensures.value h.2 (omega arith) (omega (arith, all)),
+    ))
+    c.clone_over.ensures.refused

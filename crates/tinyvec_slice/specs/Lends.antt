@@ -1,0 +1,29 @@
+-- What a vector in lent slots ends as, where a `&mut` to its items is returned.
+use Rattle.std.specs.Prelude.{ℕ, List, length, slice_set}
+use Rattle.std.specs.Borrow.{Lends, Fml, MutBor, RattleType, Array}
+use Rattle.tinyvec_slice.specs.Parts.{with_front, with_back}
+use Rattle.tinyvec_slice.specs.View.{items_of}
+use Rattle.tinyvec_slice.specs.declared.lent.Lent as Lent
+use Rattle.tinyvec_slice.specs.declared.slice_vec.SliceVecOver.{SliceVecOver}
+use Rattle.tinyvec_slice.specs.contracts.slice_vec.SliceVecOver.{the_row}
+
+-- v where its slots hold xs
+abbrev pub at_slots : {B T : Type 0} → Lent.Ghosts B T → SliceVecOver B T → List T → SliceVecOver B T
+at_slots g v xs = record v { lent = g.with_slots v.lent xs }
+
+module _ (B I : RattleType) (g : Lent.Ghosts B.Denot I.Denot) (v : MutBor (SliceVecOver B.Denot I.Denot)) where
+  -- once the borrow r ends, the items are those that r shows last
+  abbrev pub lends_items : MutBor (List I.Denot) → Fml
+  lends_items r = Lends (the_row B I) (Array I 0) v r (λ ws. at_slots g v.now (with_front (g.slots v.now.lent) (length (items_of g v.now)) ws))
+
+  -- once the borrow r ends, the spare slots are those that r shows last
+  abbrev pub lends_spare : MutBor (List I.Denot) → Fml
+  lends_spare r = Lends (the_row B I) (Array I 0) v r (λ ws. at_slots g v.now (with_back (g.slots v.now.lent) (length (items_of g v.now)) ws))
+
+  -- once the borrow r ends, slot i is what r shows last
+  abbrev pub lends_item : ℕ → MutBor I.Denot → Fml
+  lends_item i r = Lends (the_row B I) I v r (λ x. at_slots g v.now (slice_set (g.slots v.now.lent) i x))
+
+  -- once the borrow r ends, the slots are those that r shows last
+  abbrev pub lends_inner : MutBor (List I.Denot) → Fml
+  lends_inner r = Lends (the_row B I) (Array I 0) v r (at_slots g v.now)

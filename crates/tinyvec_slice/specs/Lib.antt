@@ -1,0 +1,5 @@
+pub mod Parts
+pub mod View
+pub mod Lends
+pub mod Iterating
+pub mod Drain

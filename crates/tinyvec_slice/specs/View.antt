@@ -1,0 +1,45 @@
+-- What a contract sees of a vector in lent slots.
+use Rattle.std.specs.Prelude.{ℕ, List, length, take, drop}
+use Rattle.std.specs.Borrow.{GName, MutBor}
+use Rattle.tinyvec_slots.specs.Slots.{Slots, items as items_in, spare as spare_in}
+use Rattle.tinyvec_slice.specs.declared.lent.Lent as Lent
+use Rattle.tinyvec_slice.specs.declared.slice_vec.SliceVecOver.{SliceVecOver}
+
+-- The words of generic code, over what the trait says of the slots that are lent.
+module _ {B T : Type 0} (g : Lent.Ghosts B T) where
+  -- the slots, and how many of them hold the list
+  abbrev pub seen_of : SliceVecOver B T → Slots T
+  seen_of v = record { slots = g.slots v.lent; len = v.len }
+
+  -- the list
+  abbrev pub items_of : SliceVecOver B T → List T
+  items_of v = items_in (seen_of v)
+
+  -- the spare slots behind it
+  abbrev pub spare_of : SliceVecOver B T → List T
+  spare_of v = spare_in (seen_of v)
+
+  -- the list and the spare slots, one behind the other
+  abbrev pub slots_of : SliceVecOver B T → List T
+  slots_of v = g.slots v.lent
+
+  -- the ghost name of the reference to the slots
+  abbrev pub name_of : SliceVecOver B T → GName
+  name_of v = g.name v.lent
+
+-- The same words of a vector in a lent slice.
+module _ {T : Type 0} where
+  abbrev pub seen : SliceVecOver (MutBor (List T)) T → Slots T
+  seen v = record { slots = v.lent.now; len = v.len }
+
+  abbrev pub items : SliceVecOver (MutBor (List T)) T → List T
+  items v = items_in (seen v)
+
+  abbrev pub spare : SliceVecOver (MutBor (List T)) T → List T
+  spare v = spare_in (seen v)
+
+  abbrev pub slots : SliceVecOver (MutBor (List T)) T → List T
+  slots v = v.lent.now
+
+  abbrev pub name : SliceVecOver (MutBor (List T)) T → GName
+  name v = v.lent.ghost_name

@@ -1,0 +1,41 @@
+//! Keeping some of the items.
+ghost use Rattle.std.specs.Prelude.{◌≡◌, ◌-◌, ◌≤◌, length, take};
+ghost use Rattle.std.specs.Fn.{CalledAt};
+ghost use Rattle.std.specs.List.Retain.{IsFiltered};
+ghost use Rattle.tinyvec_slots.specs.Slots.{Frees};
+ghost use Rattle.tinyvec_slice.specs.View.{items_of, spare_of, name_of, seen_of};
+
+use crate::{Lent, SliceVecOver};
+use tinyvec_slots::retain_in_front;
+
+impl<B: Lent> SliceVecOver<B>
+where
+    B::Item: Default,
+{
+    /// Asks `f` about each item in turn, and keeps those at which it answers `true`. The emptied slots stand before the
+    /// old spare slots.
+    pub fn retain<F: FnMut(&B::Item) -> bool>(&mut self, f: F)
+        requires { F.IsAlwaysCallable f }
+        ensures same_reference { name_of B.Lent self.new ≡ name_of B.Lent self.old }
+        ensures filtered { IsFiltered (CalledAt F.FnMut) f (items_of B.Lent self.old) (items_of B.Lent self.new) }
+        ensures bound { length (items_of B.Lent self.new) ≤ length (items_of B.Lent self.old) }
+        ensures spare { Frees B.Item.is_default (length (items_of B.Lent self.old) - length (items_of B.Lent self.new)) (seen_of B.Lent self.old) (seen_of B.Lent self.new) }
+    {
+        let kept = self.retain_first(f);
+        self.truncate(kept);
+    }
+}
+
+impl<B: Lent> SliceVecOver<B> {
+    // Moves the items at which `f` answers `true` to the front of the list, and counts them.
+    fn retain_first<F: FnMut(&B::Item) -> bool>(&mut self, f: F) -> usize
+        requires { F.IsAlwaysCallable f }
+        ensures same_reference { name_of B.Lent self.new ≡ name_of B.Lent self.old }
+        ensures filtered { IsFiltered (CalledAt F.FnMut) f (items_of B.Lent self.old) (take result (items_of B.Lent self.new)) }
+        ensures bound { result ≤ length (items_of B.Lent self.old) }
+        ensures len { length (items_of B.Lent self.new) ≡ length (items_of B.Lent self.old) }
+        ensures spare { spare_of B.Lent self.new ≡ spare_of B.Lent self.old }
+    {
+        retain_in_front(self.as_mut_slice(), f)
+    }
+}

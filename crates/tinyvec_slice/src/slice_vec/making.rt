@@ -1,0 +1,65 @@
+//! Making a `SliceVec`.
+ghost use Rattle.std.specs.Prelude.{◌≡◌, ◌≤◌, ◌↔◌, [], length, take, drop, IsSome, IfSome};
+ghost use Rattle.tinyvec_slots.specs.Slots.{split_at};
+ghost use Rattle.tinyvec_slice.specs.View.{seen, items, spare, name};
+
+use crate::SliceVecOver;
+
+impl<'s, T: Drop> SliceVecOver<&'s mut [T]> {
+    /// A vector whose list is the first `len` slots of the slice. The others are its spare slots.
+    pub fn from_slice_len(slice: &'s mut [T], len: usize) -> Self
+        requires { len ≤ length slice.old }
+        ensures same_reference { name result ≡ slice.entry.ghost_name }
+        ensures value { seen result ≡ split_at len slice.old }
+        ensures items { items result ≡ take len slice.old }
+        ensures spare { spare result ≡ drop len slice.old }
+    {
+        SliceVecOver { len, lent: slice }
+    }
+
+    /// A vector whose list is the first `len` slots of the slice. A slice with fewer slots gives none, and is not written.
+    pub fn try_from_slice_len(slice: &'s mut [T], len: usize) -> Option<Self>
+        ensures fits { IsSome result ↔ (len ≤ length slice.old) }
+        ensures same_reference { IfSome result (λ v. name v ≡ slice.entry.ghost_name) }
+        ensures value { IfSome result (λ v. seen v ≡ split_at len slice.old) }
+    {
+        if len > slice.len() {
+            return None;
+        }
+        Some(Self::from_slice_len(slice, len))
+    }
+}
+
+impl<'s, T: Drop> Default for SliceVecOver<&'s mut [T]> {
+    ghost is_default = { λ v. seen v ≡ split_at 0 [] };
+
+    /// A vector over no slots.
+    fn default() -> Self {
+        SliceVecOver {
+            len: 0,
+            lent: &mut [],
+        }
+    }
+}
+
+impl<'s, T: Drop> From<&'s mut [T]> for SliceVecOver<&'s mut [T]> {
+    ghost from_gives = { λ slice v. (name v ≡ slice.ghost_name) × (seen v ≡ split_at (length slice.now) slice.now) };
+
+    /// A full vector, whose list is the whole slice.
+    fn from(slice: &'s mut [T]) -> Self {
+        let len = slice.len();
+        SliceVecOver { len, lent: slice }
+    }
+}
+
+impl<'s, T: Drop, const N: usize> From<&'s mut [T; N]> for SliceVecOver<&'s mut [T]> {
+    ghost from_gives = { λ array v. seen v ≡ split_at (length array.now) array.now };
+
+    /// A full vector, whose list is the whole array.
+    fn from(array: &'s mut [T; N]) -> Self {
+        SliceVecOver {
+            len: N,
+            lent: array,
+        }
+    }
+}
