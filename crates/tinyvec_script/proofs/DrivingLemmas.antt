@@ -83,23 +83,27 @@ module _ {A I T : Type 0} (D : T → Type 0) (capacity : ℕ) (rest : I → List
   same_rule : SlotRule D old new
   same_rule =
       let count : items_len (splice_slots t) ≡ items_len old = along.keeps.2 ∙ ap items_len slots in
-      let spare_is : spare (splice_slots t) ≡ spare old = along.keeps.1 ∙ ap spare slots in
-      (slot_rule.0, (slot_rule.1.0 ∙ ap (λ n. n - items_len new) count, slot_rule.1.1),
+      let spare_is : spare (splice_slots t) ≡ spare old = along.keeps.1 ∙ ap spare slots in (
+        slot_rule.0,
+        (slot_rule.1.0 ∙ ap (λ n. n - items_len new) count, slot_rule.1.1),
         slot_rule.2 ∙ ap (λ n. slot_rule.0 ++ drop (items_len new - n) (spare (splice_slots t))) count
-            ∙ ap (λ l. slot_rule.0 ++ drop (items_len new - items_len old) l) spare_is)
+            ∙ ap (λ l. slot_rule.0 ++ drop (items_len new - items_len old) l) spare_is,
+      )
 
   pub splices_all : (u : Unit) → FinishesWith rest capacity t (Ok u) new
       → (start + length replacement + (items_len old - end) ≤ capacity) × ArraySplices D capacity old start end word replacement (given_items answers) [] new
   splices_all u f =
       let fits = f.fits.0 refl in
       let is = spliced_all rest capacity s t (word_of word) new _ _ _ replacement along ahead left behind whole f.all in
-      let le : start + length replacement + (items_len old - end) ≤ capacity = omega (arith, fits, sum) in
-      (le, record {
-        yields_are = yields_are;
-        placed = λ h. (refl, is);
-        refused = λ more. absurd (omega (arith, le, more));
-        slot_rule = same_rule;
-      })
+      let le : start + length replacement + (items_len old - end) ≤ capacity = omega (arith, fits, sum) in (
+        le,
+        record {
+          yields_are = yields_are;
+          placed = λ h. (refl, is);
+          refused = λ more. absurd (omega (arith, le, more));
+          slot_rule = same_rule;
+        },
+      )
 
   pub splices_refused : (back : SpliceRest T I) → FinishesWith rest capacity t (Err back) new
       → (capacity < start + length replacement + (items_len old - end))
@@ -109,13 +113,15 @@ module _ {A I T : Type 0} (D : T → Type 0) (capacity : ℕ) (rest : I → List
       let more : capacity < start + length replacement + (items_len old - end) = grind (arith, no, sum) in
       let h = f.refused in
       let n = length-slice_range (items old) start end in_order in_list in
-      let is = spliced_refused rest capacity s t (word_of word) new _ _ _ replacement along ahead left behind whole h.0 back.item (rest back.rest) h.1 h.2 in
-      (more, record {
-        yields_are = yields_are;
-        placed = λ le. absurd (omega (arith, le, more));
-        refused = λ over. (subst (λ k. IsSpliceRefused (word_of word) k (before (items old) (Included start)) (after (items old) (Excluded end)) replacement (items new) (back.item ∷ rest back.rest)) n is, h.3);
-        slot_rule = same_rule;
-      })
+      let is = spliced_refused rest capacity s t (word_of word) new _ _ _ replacement along ahead left behind whole h.0 back.item (rest back.rest) h.1 h.2 in (
+        more,
+        record {
+          yields_are = yields_are;
+          placed = λ le. absurd (omega (arith, le, more));
+          refused = λ over. (subst (λ k. IsSpliceRefused (word_of word) k (before (items old) (Included start)) (after (items old) (Excluded end)) replacement (items new) (back.item ∷ rest back.rest)) n is, h.3);
+          slot_rule = same_rule;
+        },
+      )
 
   -- what is handed back is no longer than the replacement
   pub rest_within : (back : SpliceRest T I) → FinishesWith rest capacity t (Err back) new → length (rest back.rest) < length replacement

@@ -14,9 +14,9 @@ mod runs;
 mod script;
 mod slice_step;
 mod splice_text;
-mod vectors;
 #[cfg(test)]
 mod tests;
+mod vectors;
 
 pub use call::{Answer, Call, End};
 pub use driving::{Driven, drive_array_splice};

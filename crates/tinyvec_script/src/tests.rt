@@ -6,6 +6,8 @@ use tinyvec_array::ArrayVec;
 use tinyvec_io::Counted;
 
 mod ends;
+mod slices;
+mod splices;
 
 use ends::{Breaks, Fills};
 
@@ -83,17 +85,22 @@ fn written(alloc: Global, input: &[u8]) -> Result<Vec<u8>, Fail> {
     Ok(writer.into_inner())
 }
 
-#[test]
-fn each_line_is_answered(rt: HostRuntime) -> Result<(), Fail> {
-    let mut input = Vec::new(rt.alloc());
-    let mut output = Vec::new(rt.alloc());
-    for (line, answer) in LINES {
+// What a script of these lines writes, and the answers that they should get.
+fn answered(alloc: Global, lines: &[(&[u8], &[u8])]) -> Result<(Vec<u8>, Vec<u8>), Fail> {
+    let mut input = Vec::new(alloc);
+    let mut output = Vec::new(alloc);
+    for (line, answer) in lines {
         input.extend_from_slice(line)?;
         input.extend_from_slice(b"\n")?;
         output.extend_from_slice(answer)?;
         output.extend_from_slice(b"\n")?;
     }
-    let answers = written(rt.alloc(), input.as_slice())?;
+    Ok((written(alloc, input.as_slice())?, output))
+}
+
+#[test]
+fn each_line_is_answered(rt: HostRuntime) -> Result<(), Fail> {
+    let (answers, output) = answered(rt.alloc(), LINES.as_slice())?;
     assert_eq!(rt; answers.as_slice(), output.as_slice());
     Ok(())
 }

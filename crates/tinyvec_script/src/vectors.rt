@@ -50,10 +50,22 @@ impl<B: Lent<Item = i32>> Vectors<B> {
     {
         match name {
             Name::A => {
-                write_line(gathered, writer, answer, self.a.as_slice(), self.a.grab_spare_slice())
+                write_line(
+                    gathered,
+                    writer,
+                    answer,
+                    self.a.as_slice(),
+                    self.a.grab_spare_slice(),
+                )
             }
             Name::S => {
-                write_line(gathered, writer, answer, self.s.as_slice(), self.s.grab_spare_slice())
+                write_line(
+                    gathered,
+                    writer,
+                    answer,
+                    self.s.as_slice(),
+                    self.s.grab_spare_slice(),
+                )
             }
         }
     }

@@ -1,7 +1,7 @@
 use Rattle.std.proofs.Common.{arith, length-append}
 use Rattle.tinyvec_script.specs.Step.{ArrayStep}
 use Rattle.tinyvec_script.proofs.RunLemmas.{Run-more}
-use Rattle.tinyvec_script.proofs.runs.run_array.Goals as goal
+use Rattle.tinyvec_script.proofs.runs.array.run_array.Goals as goal
 
 pub loop-call-preserved : goal.loop-call-preserved
 loop-call-preserved g c = record {

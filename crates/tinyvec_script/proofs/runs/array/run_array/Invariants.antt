@@ -1,6 +1,6 @@
 use Rattle.std.proofs.Common.{◌≡◌, ◌≤◌, length, vec_len, vec_capacity}
 use Rattle.tinyvec_script.specs.Step.{ArrayStep, Run}
-use Rattle.tinyvec_script.proofs.runs.run_array.Given as goal
+use Rattle.tinyvec_script.proofs.runs.array.run_array.Given as goal
 
 abbrev pub invariant-loop-call : goal.invariant-loop-call
 invariant-loop-call g l = record {

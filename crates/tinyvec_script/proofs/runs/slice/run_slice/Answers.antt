@@ -2,7 +2,7 @@ use Rattle.std.proofs.Common.{◌∙◌, arith, length-append}
 use Rattle.tinyvec_slice.specs.View.{seen_of}
 use Rattle.tinyvec_script.specs.Step.{SliceStep}
 use Rattle.tinyvec_script.proofs.RunLemmas.{Run-more}
-use Rattle.tinyvec_script.proofs.runs.run_slice.Goals as goal
+use Rattle.tinyvec_script.proofs.runs.slice.run_slice.Goals as goal
 
 pub loop-call-preserved : goal.loop-call-preserved
 loop-call-preserved g c = record {

@@ -1,0 +1,34 @@
+//! A list of calls of a vector in lent slots.
+ghost use Rattle.std.specs.Prelude.{◌≡◌, [], IsOk, IfOk, IfErr};
+ghost use Rattle.tinyvec_slice.specs.View.{seen_of, name_of};
+ghost use Rattle.tinyvec_script.specs.Step.{SliceStep, Run};
+
+use crate::slice_step::answer_slice;
+use crate::{Answer, Call};
+use std::alloc::Global;
+use tinyvec_array::NoMemory;
+use tinyvec_slice::{Lent, SliceVecOver};
+
+/// Makes the calls in order, and gives one answer to each. Room for all answers is asked for first: where that is
+/// refused, no call is made and the calls come back.
+pub fn run_slice<B: Lent>(
+    alloc: Global,
+    vec: &mut SliceVecOver<B>,
+    calls: Vec<Call<B::Item>>,
+) -> Result<Vec<Answer<B::Item>>, NoMemory<Vec<Call<B::Item>>>>
+where
+    B::Item: Default,
+    ensures run { IfOk result (λ answers. Run (SliceStep B.Item.is_default) (seen_of B.Lent vec.old) calls.items answers.items (seen_of B.Lent vec.new)) }
+    ensures refused { IfErr result (λ refused. (refused.0 ≡ calls) × (vec.new ≡ vec.old)) }
+    ensures same_slots { name_of B.Lent vec.new ≡ name_of B.Lent vec.old }
+    ensures none { calls.items ≡ [] → IsOk result }
+{
+    let Ok(mut answers) = Vec::with_capacity(alloc, calls.len()) else {
+        return Err(NoMemory(calls));
+    };
+    for call in calls {
+        let answered = answer_slice(alloc, vec, call);
+        answers.push_reserved(answered);
+    }
+    Ok(answers)
+}
