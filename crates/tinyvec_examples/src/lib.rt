@@ -6,5 +6,6 @@ pub mod edits;
 pub mod ends;
 pub mod lending;
 pub mod making;
+pub mod slices;
 #[cfg(test)]
 mod tests;

@@ -8,3 +8,4 @@ mod filters;
 mod iterators;
 mod making;
 mod owned;
+mod slices;

@@ -1,5 +1,5 @@
 -- What a contract sees of a vector in lent slots.
-use Rattle.std.specs.Prelude.{ℕ, List, length, take, drop}
+use Rattle.std.specs.Prelude.{List}
 use Rattle.std.specs.Borrow.{GName, MutBor}
 use Rattle.tinyvec_slots.specs.Slots.{Slots, items as items_in, spare as spare_in}
 use Rattle.tinyvec_slice.specs.declared.lent.Lent as Lent

@@ -1,5 +1,5 @@
 //! The iterator that moves a range of items out of a vector.
-ghost use Rattle.std.specs.Prelude.{◌≡◌, ◌≤◌, ◌++◌, length, None, IfSome};
+ghost use Rattle.std.specs.Prelude.{◌≡◌, ◌++◌, length, None, IfSome};
 ghost use Rattle.std.specs.Iterator.{at_most, UpTo};
 ghost use Rattle.std.specs.Iterator.SizeHint.{IsWithinCount};
 ghost use Rattle.std.specs.Iterator.Runs.{YieldsInOrder};

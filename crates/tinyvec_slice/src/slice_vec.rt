@@ -38,7 +38,7 @@ impl<B: Lent> SliceVecOver<B> {
         ensures value { result ≡ length (items_of B.Lent self.now) }
         ensures fits { result ≤ length (slots_of B.Lent self.now) }
     {
-        self.len.min(self.lent.all().len())
+        self.len.min(self.capacity())
     }
 
     /// How many items fit, which is the number of slots.
@@ -46,7 +46,7 @@ impl<B: Lent> SliceVecOver<B> {
         ensures value { result ≡ length (slots_of B.Lent self.now) }
         ensures parts { result ≡ length (items_of B.Lent self.now) + length (spare_of B.Lent self.now) }
     {
-        self.lent.all().len()
+        self.as_inner().len()
     }
 
     pub fn is_empty(&self) -> bool
@@ -59,7 +59,7 @@ impl<B: Lent> SliceVecOver<B> {
     pub fn is_full(&self) -> bool
         ensures { result ≡ (length (spare_of B.Lent self.now) == 0) }
     {
-        self.len() == self.capacity()
+        self.len >= self.capacity()
     }
 
     /// The items.
@@ -67,7 +67,7 @@ impl<B: Lent> SliceVecOver<B> {
         ensures { result.now ≡ items_of B.Lent self.now }
     {
         let len = self.len();
-        &self.lent.all()[..len]
+        &self.as_inner()[..len]
     }
 
     /// The spare slots.
@@ -75,7 +75,7 @@ impl<B: Lent> SliceVecOver<B> {
         ensures { result.now ≡ spare_of B.Lent self.now }
     {
         let len = self.len();
-        &self.lent.all()[len..]
+        &self.as_inner()[len..]
     }
 
     /// The slots, spare slots too.
@@ -112,7 +112,7 @@ where
         ensures items { items_of B.Lent self.new ≡ items_of B.Lent self.old }
         ensures spare { (d : B.Item) × (spare_of B.Lent self.new ≡ slice_set (spare_of B.Lent self.old) i d) }
     {
-        let _slots = self.lent.all();
+        let _slots = self.as_inner();
         let len = self.len();
         take_slot(&mut self.lent, len + i)
     }

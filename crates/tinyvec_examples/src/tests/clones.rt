@@ -9,7 +9,7 @@ use tinyvec_array::{ArrayVec, NoMemory, TryFromSliceError};
 
 // An item with the value 99 refuses its clone.
 #[derive(Debug, PartialEq, Eq, Default, Drop)]
-struct Item(u8);
+pub(crate) struct Item(pub(crate) u8);
 
 impl Clone for Item {
     ghost is_clone = { λ x y. y ≡ x };
@@ -24,9 +24,9 @@ impl Clone for Item {
 
 // It can be cloned as often as the cell says, and a default cannot.
 #[derive(Default, Drop)]
-struct Limited<'a> {
-    name: u8,
-    left: Option<&'a Cell<u8>>,
+pub(crate) struct Limited<'a> {
+    pub(crate) name: u8,
+    pub(crate) left: Option<&'a Cell<u8>>,
 }
 
 impl<'a> Clone for Limited<'a> {

@@ -14,7 +14,7 @@ impl<B: Lent> SliceVecOver<B> {
         ensures items { items_of B.Lent self.new ≡ items_of B.Lent self.old ++ x ∷ [] }
         ensures spare { spare_of B.Lent self.new ≡ drop 1 (spare_of B.Lent self.old) }
     {
-        let _slots = self.lent.all();
+        let _slots = self.as_inner();
         let len = self.len();
         put(&mut self.lent, len, x);
         self.len = len + 1;
@@ -50,7 +50,7 @@ where
         ensures value { result ≡ slice_index_or (items_of B.Lent self.old) (length (items_of B.Lent self.old) - 1) result }
         ensures spare { Frees B.Item.is_default 1 (seen_of B.Lent self.old) (seen_of B.Lent self.new) }
     {
-        let _slots = self.lent.all();
+        let _slots = self.as_inner();
         let last = self.len() - 1;
         self.len = last;
         take_slot(&mut self.lent, last)

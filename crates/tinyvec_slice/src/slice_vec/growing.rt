@@ -24,7 +24,7 @@ impl<B: Lent> SliceVecOver<B> {
             × (spare_of B.Lent self.new ≡ take j other.now ++ drop j (spare_of B.Lent self.old))) }
         ensures succeeds { All B.Item.is_infallible other.now → IsOk result }
     {
-        let _slots = self.lent.all();
+        let _slots = self.as_inner();
         let len = self.len();
         put_clones(&mut self.lent, len, other)?;
         self.len = len + other.len();

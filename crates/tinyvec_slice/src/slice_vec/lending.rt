@@ -54,7 +54,7 @@ impl<B: Lent> IndexMut<usize> for SliceVecOver<B> {
         ensures* writes_back { sem 𝓛 (lends_item B.row B.Item.row B.Lent self.entry i result) }
         ensures value { result.now ≡ slice_index_or (items_of B.Lent self.old) i result.now }
     {
-        let _slots = self.lent.all();
+        let _slots = self.as_inner();
         slot_of(&mut self.lent, i)
     }
 }

@@ -48,7 +48,7 @@ impl<'s, T: Drop> From<&'s mut [T]> for SliceVecOver<&'s mut [T]> {
     /// A full vector, whose list is the whole slice.
     fn from(slice: &'s mut [T]) -> Self {
         let len = slice.len();
-        SliceVecOver { len, lent: slice }
+        Self::from_slice_len(slice, len)
     }
 }
 

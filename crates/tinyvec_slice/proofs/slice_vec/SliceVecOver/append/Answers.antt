@@ -1,4 +1,4 @@
-use Rattle.std.proofs.Common.{◌≡◌, ◌++◌, length, drop, ap, ◌∙◌}
+use Rattle.std.proofs.Common.{◌≡◌, length, ap, ◌∙◌}
 use Rattle.tinyvec_slots.specs.Slots.{spare}
 use Rattle.tinyvec_slice.specs.View.{items_of}
 use Rattle.tinyvec_slice.proofs.ViewLemmas.{slots_of-written}

@@ -1,4 +1,4 @@
-use Rattle.std.proofs.Common.{◌≡◌, ℕ, ◌-◌, ◌≤◌, ◌++◌, length, take, drop, slice_range, refl, sym, ap, subst, ◌∙◌, le_refl, zero-le, arith, rules, length-append}
+use Rattle.std.proofs.Common.{◌≡◌, ℕ, ◌-◌, ◌≤◌, ◌++◌, length, take, drop, slice_range, refl, sym, ap, subst, ◌∙◌, zero-le, arith, rules, length-append}
 use Rattle.std.specs.List.{remove_range}
 use Rattle.tinyvec_slots.specs.Cut.{range_end}
 use Rattle.tinyvec_slots.specs.Slots.{split_at, items, spare}

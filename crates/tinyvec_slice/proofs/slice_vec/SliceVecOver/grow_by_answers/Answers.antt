@@ -1,4 +1,4 @@
-use Rattle.std.proofs.Common.{◌∷◌, [], refl, ◌++◌, ◌-◌, length, drop, ap, ◌∙◌, arith, append_assoc, length-drop, of_calls, ◌≡◌}
+use Rattle.std.proofs.Common.{◌∷◌, [], refl, ◌++◌, ◌-◌, length, ap, ◌∙◌, arith, append_assoc, length-drop, of_calls}
 use Rattle.std.specs.Fn.{Called}
 use Rattle.std.proofs.SliceLists.{chained_more}
 use Rattle.std.proofs.iter.Next.{called}

@@ -1,7 +1,7 @@
 use Rattle.std.proofs.Common.{◌≡◌, ◌≤◌, ◌-◌, ◌+◌, List, ◌++◌, length, drop}
 use Rattle.std.specs.Fn.{Called}
 use Rattle.std.specs.List.{FoldsTo}
-use Rattle.tinyvec_slice.specs.View.{items_of, spare_of, slots_of, name_of}
+use Rattle.tinyvec_slice.specs.View.{items_of, spare_of, name_of}
 use Rattle.tinyvec_slice.proofs.slice_vec.SliceVecOver.grow_by_answers.Given as goal
 
 abbrev pub invariant-loop-self : goal.invariant-loop-self

@@ -1,4 +1,4 @@
-use Rattle.std.proofs.Common.{◌<◌, ◌≤◌, ◌∷◌, ◌++◌, [], length, take, drop, sym, ap, ◌∙◌, arith, append_assoc, length-set, length-drop}
+use Rattle.std.proofs.Common.{◌<◌, ◌∷◌, ◌++◌, [], length, take, drop, sym, ap, ◌∙◌, arith, append_assoc, length-set, length-drop}
 use Rattle.std.proofs.lemmas.List.{drop-drop, take_all, take_more_set}
 use Rattle.std.proofs.lemmas.List.Elements.{All-push, All-same}
 use Rattle.tinyvec_slots.proofs.FillingLemmas.{one_taken, rest_after_one}

@@ -1,4 +1,4 @@
-use Rattle.std.proofs.Common.{◌≡◌, ◌≤◌, length, drop, sym, ap, ◌∙◌, arith}
+use Rattle.std.proofs.Common.{◌≤◌, drop, sym, ap, ◌∙◌, arith}
 use Rattle.tinyvec_slots.proofs.CloneLemmas.{drop_within}
 use Rattle.tinyvec_slice.proofs.ViewLemmas.{list_to}
 use Rattle.tinyvec_slice.proofs.slice_vec.joining.SliceVecOver+mut+slice+T.split_off.Goals as goal

@@ -1,0 +1,41 @@
+use Rattle.std.proofs.Common.{rules, arith, ◌≡◌, ◌-◌, ◌∙◌, ap, length, length-append, slice_range, subst}
+use Rattle.std.proofs.lemmas.List.{places}
+use Rattle.tinyvec_slots.specs.Slots.{Frees}
+use Rattle.tinyvec_slice.specs.View.{items_of, seen_of}
+use Rattle.tinyvec_slice.specs.Drain.{drain_count, drain_items, DrainKeeps}
+use Rattle.tinyvec_slice.proofs.DrainLemmas.{DrainSteps-keeps, DrainKeeps-then, drain_frees}
+use Rattle.tinyvec_examples.proofs.slices.draining.drain_into.Goals as goal
+
+pub push_reserved-requires : goal.push_reserved-requires
+push_reserved-requires g c =
+    let inv = c.loop-x.invariant in
+    let first = c.drain-x-items.result in
+    let made = c.drain-x-items.ensures in
+    let start = c.into_iter-x-iterator.ensures.into_iter_gives in
+    let D0 = drain_items g.B.Lent c.into_iter-x-iterator.result in
+    let D1 = drain_items g.B.Lent c.loop-x.x-iterator in
+    let long : length (slice_range (items_of g.B.Lent c.args.v.now) c.args.start c.args.end) ≡ c.args.end - c.args.start = search (rules, places) in
+    let begun : length D0 ≡ c.args.end - c.args.start = ap (λ d. length (drain_items g.B.Lent d)) start ∙ ap length made.rest ∙ long in
+    let one = ap length c.in-Some.ensures.steps.0 in
+    let same = ap length inv.3 in
+    let left = length-append c.loop-x.out.items D1 in
+    let right = length-append c.args.out.now.items D0 in
+    let cap = inv.4 in
+    let room = c.requires.room in
+    omega arith
+
+pub returns-clause-spare : goal.returns-clause-spare
+returns-clause-spare g c =
+    let first = c.drain-x-items.result in
+    let last = c.next.new.self in
+    let made = c.drain-x-items.ensures in
+    let start = c.into_iter-x-iterator.ensures.into_iter_gives in
+    let n = c.args.end - c.args.start in
+    let kept : DrainKeeps g.B.Lent first last =
+    subst (λ d. DrainKeeps g.B.Lent d last) start
+    (DrainKeeps-then g.B.Lent c.into_iter-x-iterator.result c.loop-x.x-iterator last c.loop-x.invariant.2 (DrainSteps-keeps g.B.Lent _ c.next.result last c.next.ensures.steps)) in
+    let long : length (slice_range (items_of g.B.Lent c.args.v.now) c.args.start c.args.end) ≡ n = search (rules, places) in
+    let count : drain_count first ≡ n = made.count ∙ ap length made.rest ∙ long in
+    let frees : Frees g.B.Item.Default.is_default n (seen_of g.B.Lent c.args.v.now) (seen_of g.B.Lent c.drop-x-iterator.new.self.0) =
+    drain_frees g.B.Lent g.B.Item.Default.is_default n c.args.v.now c.drop-x-iterator.new.self.0 first last kept count made.spare (c.drop-x-iterator.ensures (kept.5 made.ready)) in
+    search rules

@@ -1,0 +1,15 @@
+use Rattle.std.proofs.Common.{rules, arith, ◌∷◌, [], ◌∙◌, ap, length, take, drop, pos}
+use Rattle.std.proofs.lemmas.List.{drop-drop, take-append-le, places}
+use Rattle.tinyvec_slice.specs.View.{items, spare}
+use Rattle.tinyvec_examples.proofs.slices.edits.push_fives.Goals as goal
+
+pub loop-i-preserved : goal.loop-i-preserved
+loop-i-preserved c =
+    let inv = c.loop-i.invariant in
+    let put = c.push.ensures in
+    let first = length (items c.args.v.now) in (
+      put.same_reference ∙ inv.0,
+      ap (take first) put.items ∙ take-append-le first (items c.loop-i.v) (pos 5 ∷ []) (omega (arith, inv.2)) ∙ inv.1,
+      search (rules, places),
+      put.spare ∙ ap (drop 1) inv.3 ∙ drop-drop 1 c.loop-i._i (spare c.args.v.now),
+    )

@@ -1,0 +1,6 @@
+use Rattle.std.proofs.Common.{◌≡◌, ◌+◌, length, take, drop}
+use Rattle.tinyvec_slice.specs.View.{items, spare, name}
+use Rattle.tinyvec_examples.proofs.slices.edits.push_fives.Given as goal
+
+abbrev pub invariant-loop-i : goal.invariant-loop-i
+invariant-loop-i l = (name l.v ≡ name l.fn.v) × (take (length (items l.fn.v)) (items l.v) ≡ items l.fn.v) × (length (items l.v) ≡ length (items l.fn.v) + l._i) × (spare l.v ≡ drop l._i (spare l.fn.v))

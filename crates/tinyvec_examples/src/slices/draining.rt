@@ -1,0 +1,83 @@
+//! Callers of a drain. One that is generic over what is lent knows what is left, and so does who calls it with a slice.
+ghost use Rattle.std.specs.Prelude.{◌≡◌, ◌≤◌, ◌-◌, ◌+◌, ◌++◌, ◌∷◌, [], pos, length, drop, slice_get, slice_range, vec_len, vec_capacity};
+ghost use Rattle.std.specs.List.{remove_range};
+ghost use Rattle.tinyvec_slots.specs.Slots.{Frees};
+ghost use Rattle.tinyvec_slots.specs.Cut.{IsRangeOf, before, after};
+ghost use Rattle.tinyvec_slice.specs.View.{items_of, name_of, seen_of, items, spare, name};
+
+use std::ops::RangeBounds;
+use tinyvec_slice::{Lent, SliceVec, SliceVecOver};
+
+/// Left at the end of its scope, after one item of two.
+pub fn drain_one<B: Lent>(v: &mut SliceVecOver<B>) -> Option<B::Item>
+where
+    B::Item: Default,
+    requires { 3 ≤ length (items_of B.Lent v.old) }
+    ensures same_reference { name_of B.Lent v.new ≡ name_of B.Lent v.old }
+    ensures items { items_of B.Lent v.new ≡ remove_range (items_of B.Lent v.old) 1 3 }
+    ensures spare { Frees B.Item.is_default 2 (seen_of B.Lent v.old) (seen_of B.Lent v.new) }
+    ensures value { result ≡ slice_get (items_of B.Lent v.old) 1 }
+{
+    let mut d = v.drain(1..3);
+    d.next()
+}
+
+/// What the owner sees after that.
+pub fn one_drained() -> [i32; 5]
+    ensures { result ≡ pos 1 ∷ pos 4 ∷ pos 0 ∷ pos 0 ∷ pos 9 ∷ [] }
+{
+    let mut array = [1, 2, 3, 4, 9];
+    {
+        let mut v = SliceVec::from_slice_len(&mut array, 4);
+        let _second = drain_one(&mut v);
+    }
+    array
+}
+
+/// Any range of any vector: what stood before and after it is left.
+pub fn cut<B: Lent, R: RangeBounds<usize>>(v: &mut SliceVecOver<B>, range: R)
+where
+    B::Item: Default,
+    requires known { R.has_bounds range }
+    requires in_list { IsRangeOf (items_of B.Lent v.old) (R.start_bound range) (R.end_bound range) }
+    ensures same_reference { name_of B.Lent v.new ≡ name_of B.Lent v.old }
+    ensures items { items_of B.Lent v.new ≡ before (items_of B.Lent v.old) (R.start_bound range) ++ after (items_of B.Lent v.old) (R.end_bound range) }
+{
+    let _items = v.drain(range);
+}
+
+/// Moves the items from `start` up to `end` behind those of `out`, which has room for them.
+pub fn drain_into<B: Lent>(
+    v: &mut SliceVecOver<B>,
+    start: usize,
+    end: usize,
+    out: &mut Vec<B::Item>,
+)
+where
+    B::Item: Default,
+    requires start_le_end { start ≤ end }
+    requires in_bounds { end ≤ length (items_of B.Lent v.old) }
+    requires room { vec_len out.old + (end - start) ≤ vec_capacity out.old }
+    ensures same_reference { name_of B.Lent v.new ≡ name_of B.Lent v.old }
+    ensures items { items_of B.Lent v.new ≡ remove_range (items_of B.Lent v.old) start end }
+    ensures spare { Frees B.Item.is_default (end - start) (seen_of B.Lent v.old) (seen_of B.Lent v.new) }
+    ensures moved { out.new.items ≡ out.old.items ++ slice_range (items_of B.Lent v.old) start end }
+{
+    for x in v.drain(start..end) {
+        out.push_reserved(x);
+    }
+}
+
+/// A push, and then a drain, of a vector in a lent slice.
+pub fn push_then_drain(v: &mut SliceVec<'_, i32>, out: &mut Vec<i32>)
+    requires list { 1 ≤ length (items v.old) }
+    requires spare { 1 ≤ length (spare v.old) }
+    requires room { vec_len out.old + 2 ≤ vec_capacity out.old }
+    ensures same_reference { name v.new ≡ name v.old }
+    ensures items { items v.new ≡ remove_range (items v.old ++ pos 5 ∷ []) 0 2 }
+    ensures spare { spare v.new ≡ pos 0 ∷ pos 0 ∷ drop 1 (spare v.old) }
+    ensures moved { out.new.items ≡ out.old.items ++ slice_range (items v.old ++ pos 5 ∷ []) 0 2 }
+{
+    v.push(5);
+    drain_into(v, 0, 2, out);
+}

@@ -1,0 +1,132 @@
+//! What the owner sees after pushes and edits.
+ghost use Rattle.std.specs.Prelude.{◌≡◌, ◌<◌, ◌≤◌, ◌+◌, ◌∷◌, [], ◌++◌, length, take, drop, insert, pos, remove};
+ghost use Rattle.tinyvec_slice.specs.View.{items, spare, name};
+
+use tinyvec_slice::SliceVec;
+
+/// A push writes the slot behind the list, and no other.
+pub fn pushed(slots: &mut [u8])
+    requires { 3 ≤ length slots.old }
+    ensures { slots.new ≡ take 2 slots.old ++ 7 ∷ [] ++ drop 3 slots.old }
+{
+    let mut v = SliceVec::from_slice_len(slots, 2);
+    v.push(7);
+}
+
+/// So it does in an array.
+pub fn pushed_in_array() -> [i32; 4]
+    ensures { result ≡ pos 1 ∷ pos 2 ∷ pos 7 ∷ pos 8 ∷ [] }
+{
+    let mut array = [1, 2, 3, 4];
+    let mut v = SliceVec::from_slice_len(&mut array, 2);
+    v.push(7);
+    v.push(8);
+    array
+}
+
+/// As many pushes as it is told, in a loop.
+pub fn push_fives(v: &mut SliceVec<'_, i32>, n: usize)
+    requires { n ≤ length (spare v.old) }
+    ensures same_reference { name v.new ≡ name v.old }
+    ensures items { take (length (items v.old)) (items v.new) ≡ items v.old }
+    ensures len { length (items v.new) ≡ length (items v.old) + n }
+    ensures spare { spare v.new ≡ drop n (spare v.old) }
+{
+    for _i in 0..n {
+        v.push(5);
+    }
+}
+
+/// What the owner sees after that loop.
+pub fn fives_pushed(slots: &mut [i32])
+    requires { 4 ≤ length slots.old }
+    ensures list { take 2 slots.new ≡ take 2 slots.old }
+    ensures spare { drop 4 slots.new ≡ drop 4 slots.old }
+{
+    let mut v = SliceVec::from_slice_len(slots, 2);
+    push_fives(&mut v, 2);
+}
+
+/// A list of four is cut to three, loses its second item and is given another.
+pub fn edit(v: &mut SliceVec<'_, i32>)
+    requires { length (items v.old) ≡ 4 }
+    ensures same_reference { name v.new ≡ name v.old }
+    ensures items { items v.new ≡ insert (remove (take 3 (items v.old)) 1) 1 (pos 8) }
+    ensures spare { spare v.new ≡ pos 0 ∷ spare v.old }
+{
+    v.truncate(3);
+    let _second = v.remove(1);
+    v.insert(1, 8);
+}
+
+/// The owner sees the list, then a default in the slot that it gave up, then what stood behind.
+pub fn edited() -> [i32; 5]
+    ensures { result ≡ pos 1 ∷ pos 8 ∷ pos 3 ∷ pos 0 ∷ pos 9 ∷ [] }
+{
+    let mut array = [1, 2, 3, 4, 9];
+    {
+        let mut v = SliceVec::from_slice_len(&mut array, 4);
+        edit(&mut v);
+    }
+    array
+}
+
+/// The last item moves into the place of the one that is taken.
+pub fn swapped() -> [i32; 4]
+    ensures { result ≡ pos 3 ∷ pos 2 ∷ pos 0 ∷ pos 9 ∷ [] }
+{
+    let mut array = [1, 2, 3, 9];
+    {
+        let mut v = SliceVec::from_slice_len(&mut array, 3);
+        let _first = v.swap_remove(0);
+    }
+    array
+}
+
+/// A popped slot holds a default.
+pub fn popped() -> [i32; 3]
+    ensures { result ≡ pos 1 ∷ pos 0 ∷ pos 9 ∷ [] }
+{
+    let mut array = [1, 2, 9];
+    {
+        let mut v = SliceVec::from_slice_len(&mut array, 2);
+        let _two = v.pop();
+    }
+    array
+}
+
+/// So do the slots of a list that is emptied.
+pub fn cleared() -> [i32; 3]
+    ensures { result ≡ pos 0 ∷ pos 0 ∷ pos 9 ∷ [] }
+{
+    let mut array = [1, 2, 9];
+    {
+        let mut v = SliceVec::from_slice_len(&mut array, 2);
+        v.clear();
+    }
+    array
+}
+
+/// Where only the border moves, the owner sees no change.
+pub fn border_moved(slots: &mut [u8], n: usize)
+    requires { n ≤ length slots.old }
+    ensures { slots.new ≡ slots.old }
+{
+    let mut v = SliceVec::from_slice_len(slots, 0);
+    v.set_len(n);
+}
+
+/// The items of one vector move behind those of another.
+pub fn appended() -> ([i32; 4], [i32; 3])
+    ensures longer { result.0 ≡ pos 1 ∷ pos 2 ∷ pos 3 ∷ pos 9 ∷ [] }
+    ensures emptied { result.1 ≡ pos 0 ∷ pos 0 ∷ pos 8 ∷ [] }
+{
+    let mut one = [1, 9, 9, 9];
+    let mut two = [2, 3, 8];
+    {
+        let mut v = SliceVec::from_slice_len(&mut one, 1);
+        let mut w = SliceVec::from_slice_len(&mut two, 2);
+        v.append(&mut w);
+    }
+    (one, two)
+}

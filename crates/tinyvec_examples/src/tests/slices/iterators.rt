@@ -1,0 +1,28 @@
+//! Iteration over the items.
+use tinyvec_slice::SliceVec;
+
+#[test]
+fn into_iter_lends_the_list_alone(rt: HostRuntime) {
+    let mut slots = [1_i32, 2, 3];
+    let mut count = 0_u32;
+    for x in SliceVec::from_slice_len(&mut slots, 2) {
+        *x = x.wrapping_add(10);
+        count = count.saturating_add(1);
+    }
+    assert_eq!(rt; count, 2);
+    assert_eq!(rt; slots, [11, 12, 3]);
+}
+
+#[test]
+fn iter_and_iter_mut(rt: HostRuntime) {
+    let mut slots = [1_i32, 2, 3];
+    let mut vec = SliceVec::from_slice_len(&mut slots, 2);
+    for x in vec.iter_mut() {
+        *x = x.wrapping_neg();
+    }
+    let mut items = vec.iter();
+    assert_eq!(rt; items.next(), Some(&-1));
+    assert_eq!(rt; items.next_back(), Some(&-2));
+    assert_eq!(rt; items.next(), None);
+    assert_eq!(rt; slots, [-1, -2, 3]);
+}
