@@ -9,3 +9,4 @@ mod iterators;
 mod making;
 mod owned;
 mod slices;
+mod splices;
