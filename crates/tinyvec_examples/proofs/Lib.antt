@@ -1,2 +1,3 @@
 pub mod DrainEnded
 pub mod BothEnds
+pub mod SpliceEnded

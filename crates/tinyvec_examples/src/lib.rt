@@ -7,5 +7,6 @@ pub mod ends;
 pub mod lending;
 pub mod making;
 pub mod slices;
+pub mod splicing;
 #[cfg(test)]
 mod tests;

@@ -340,13 +340,12 @@ fn how_many_are_left(rt: HostRuntime) {
     assert_eq!(rt; v.into_inner(), [1, 7, 8, 9, 5, 6]);
 }
 
-// A `for` takes what is left of it by a reference, since the splice itself is spent by `finish`.
 #[test]
-fn taken_by_a_for(rt: HostRuntime) {
+fn taken_until_none(rt: HostRuntime) {
     let mut v = one_two_three();
     let mut taken: ArrayVec<[i32; 4]> = ArrayVec::new();
     let mut splice = v.splice(1.., [4, 5, 6]);
-    for x in &mut splice {
+    while let Some(x) = splice.next() {
         assert_eq!(rt; taken.try_push(x), None);
     }
     assert!(rt; splice.finish().is_ok());

@@ -1,0 +1,66 @@
+use Rattle.std.proofs.Common.{◌≡◌, ◌++◌, [], ◌∷◌, Some, Ok, Err, pos, refl, subst, ◌∙◌, arith, rules, ap, length}
+use Rattle.std.specs.Array.Iter.{array_into_iter_items}
+use Rattle.tinyvec_slots.specs.Slots.{all_slots, items}
+use Rattle.tinyvec_slots.specs.Ends.{front, back}
+use Rattle.tinyvec_array.specs.Fused.{fused_rest}
+use Rattle.tinyvec_array.specs.Splice.{splice_front, splice_left, splice_back, splice_replacement, FinishesWith}
+use Rattle.tinyvec_array.specs.Splicing.{SplicedByWord}
+use Rattle.tinyvec_array.proofs.Fused.{fused_first, fused_ends}
+use Rattle.tinyvec_array.proofs.SplicingLemmas.{Asks-splices}
+use Rattle.tinyvec_examples.proofs.SpliceEnded.{array_ends, ended_no_room, ended_refused, ended_full, ended_slots, numbers_spliced, refused_at, next_is}
+use Rattle.tinyvec_examples.proofs.splicing.refused.Goals.{After-finish}
+use Rattle.tinyvec_examples.proofs.splicing.refused.Goals as goal
+
+module _ (c : After-finish) where
+  abbrev along : SplicedByWord (fused_rest array_into_iter_items) c.splice-splice.result (front ∷ []) c.next-two.new.self
+  along =
+      Asks-splices (fused_rest array_into_iter_items) _ _ (fused_ends _ _ _ array_ends) c.splice-splice.result (front ∷ []) (c.next-two.result ∷ []) c.next-two.new.self
+      (c.next-two.new.self, c.next-two.ensures.steps, refl)
+
+  ahead : splice_front c.splice-splice.result ≡ pos 1 ∷ []
+  ahead = c.splice-splice.ensures.front ∙ rw c.from_array_len-v.ensures (refl {a = pos 1 ∷ []})
+
+  left : splice_left c.splice-splice.result ≡ pos 2 ∷ []
+  left = c.splice-splice.ensures.left ∙ rw c.from_array_len-v.ensures (refl {a = pos 2 ∷ []})
+
+  behind : splice_back c.splice-splice.result ≡ pos 3 ∷ []
+  behind = c.splice-splice.ensures.back ∙ rw c.from_array_len-v.ensures (refl {a = pos 3 ∷ []})
+
+  whole : fused_rest array_into_iter_items (splice_replacement c.splice-splice.result) ≡ pos 7 ∷ pos 8 ∷ pos 9 ∷ pos 10 ∷ []
+  whole = rw c.splice-splice.ensures.unasked c.splice-splice.ensures.replacement.0
+
+  finished : FinishesWith (fused_rest array_into_iter_items) 4 c.next-two.new.self c.finish.result c.finish.new.self.0
+  finished = c.finish.ensures.listed array_into_iter_items array_ends.first
+
+pub unreachable-requires : goal.unreachable-requires
+unreachable-requires c =
+    let all = subst (λ r. FinishesWith (fused_rest array_into_iter_items) 4 c.next-two.new.self r c.finish.new.self.0) c.in-Ok.is (finished c) in
+    let le = ended_no_room (fused_rest array_into_iter_items) 4 c.splice-splice.result c.next-two.new.self (front ∷ []) c.finish.new.self.0 _ _ _ _
+    (along c) (ahead c) (left c) (behind c) (whole c) c.in-Ok.field-0 all in
+    omega (arith, le)
+
+pub returns : goal.returns
+returns c =
+    let R = fused_rest array_into_iter_items in
+    let s = c.splice-splice.result in
+    let t = c.next-two.new.self in
+    let v = c.finish.new.self.0 in
+    let gave = c.in-Err.field-0 in
+    let old = c.from_array_len-v.result in
+    let ended = subst (λ r. FinishesWith R 4 t r v) c.in-Err.is (finished c) in
+    let is = ended_refused R 4 s t (front ∷ []) v _ _ _ _ (along c) (ahead c) (left c) (behind c) (whole c) (Err gave) ended in
+    let full = ended_full R 4 s t (front ∷ []) v _ _ _ _ (along c) (ahead c) (left c) (behind c) (whole c) (Err gave) ended in
+    let at = refused_at (front ∷ []) 1 (pos 1 ∷ []) (pos 3 ∷ []) (pos 7 ∷ pos 8 ∷ pos 9 ∷ pos 10 ∷ []) (items v) (gave.item ∷ R gave.rest) 0 2 refl is full in
+    let rule = ended_slots (λ x. x ≡ pos 0) s t old v (along c).keeps c.splice-splice.ensures.slots c.finish.ensures.slots in
+    let slots : all_slots v ≡ pos 1 ∷ pos 7 ∷ pos 8 ∷ pos 3 ∷ [] =
+    numbers_spliced old v _ at.0 rule ∙ rw c.from_array_len-v.ensures (refl {a = pos 1 ∷ pos 7 ∷ pos 8 ∷ pos 3 ∷ []}) in
+    let split : gave.item ∷ R gave.rest ≡ pos 9 ∷ pos 10 ∷ [] = at.1 in
+    let item : gave.item ≡ pos 9 = cc in
+    let others : R gave.rest ≡ pos 10 ∷ [] = cc in
+    let same = (along c).keeps.0 in
+    let lender = c.splice-splice.ensures.same_reference in
+    record {
+      item = search rules;
+      rest = next_is R gave.rest c.next.new.self c.next.result (pos 10) [] (fused_first _ _ array_ends.first _ _ _ c.next.ensures.steps) others;
+      left = search rules;
+    }

@@ -1,0 +1,71 @@
+use Rattle.std.proofs.Common.{◌≡◌, ◌+◌, ◌-◌, ◌≤◌, List, [], ◌∷◌, length, max, sym, subst, ap, ◌∙◌, arith, rules}
+use Rattle.std.proofs.lemmas.List.{length-take-le, length-drop}
+use Rattle.std.specs.Iterator.Adapters.{fuse_steps}
+use Rattle.std.specs.Vec.Iter.{into_iter_items, into_iter_steps}
+use Rattle.tinyvec_slots.specs.Slots.{items, items_len}
+use Rattle.tinyvec_slots.specs.Ends.{front, back, given_items}
+use Rattle.tinyvec_slots.proofs.Lists.{length-slice_range}
+use Rattle.tinyvec_array.specs.Fused.{fused_rest}
+use Rattle.tinyvec_array.specs.Splice.{splice_front, splice_left, splice_back, splice_slots}
+use Rattle.tinyvec_array.specs.Splicing.{SplicedByWord}
+use Rattle.tinyvec_array.proofs.SpliceLemmas.{finished_len}
+use Rattle.tinyvec_examples.proofs.SpliceEnded.{vec_ends, kept_around, touched_at_least, touched_at_most}
+use Rattle.tinyvec_examples.proofs.splicing.touches_of_replace.Goals.{After-finish_counted-finished}
+use Rattle.tinyvec_examples.proofs.splicing.touches_of_replace.Goals as goal
+
+module _ (g : _) (c : After-finish_counted-finished g) where
+  abbrev along : SplicedByWord (fused_rest into_iter_items) c.splice-splice.result (front ∷ back ∷ []) c.one_from_each_end-first.new.splice
+  along = c.one_from_each_end-first.ensures.spliced into_iter_items vec_ends
+
+  -- what stands around the range, and in it
+  around : length (splice_front c.splice-splice.result) + length (splice_back c.splice-splice.result) ≡ items_len c.args.vec.now - (c.args.end - c.args.start)
+  around =
+      let xs = items c.args.vec.now in
+      let made = c.splice-splice.ensures in
+      let one = ap length made.front ∙ length-take-le c.args.start xs (omega (arith, c.requires.start_le_end, c.requires.in_bounds)) in
+      let two = ap length made.back ∙ length-drop c.args.end xs in
+      omega (arith, c.requires.start_le_end, c.requires.in_bounds)
+
+  inside : length (splice_left c.splice-splice.result) ≡ c.args.end - c.args.start
+  inside = ap length c.splice-splice.ensures.left ∙ length-slice_range (items c.args.vec.now) c.args.start c.args.end c.requires.start_le_end c.requires.in_bounds
+
+  within : length (splice_front c.one_from_each_end-first.new.splice) + length (splice_back c.one_from_each_end-first.new.splice) ≤ items_len c.finish_counted-finished.new.self.0
+  within =
+      let long = finished_len (fuse_steps into_iter_steps) g.A.Array.CAPACITY c.one_from_each_end-first.new.splice c.finish_counted-finished.new.self.0 c.finish_counted-finished.result.0 c.finish_counted-finished.ensures.finished in
+      omega arith
+
+pub returns-clause-kept : goal.returns-clause-kept
+returns-clause-kept g c =
+    let same = (along g c).keeps.0 in
+    let lender = c.splice-splice.ensures.same_reference in
+    let borders = kept_around (fused_rest into_iter_items) c.splice-splice.result c.one_from_each_end-first.new.splice (front ∷ back ∷ []) c.finish_counted-finished.new.self.0 (along g c) (within g c) in
+    let is = around g c in
+    let fact : items_len c.args.vec.now - (c.args.end - c.args.start) ≤ items_len c.finish_counted-finished.new.self.0 = omega arith in
+    subst (λ w. items_len c.args.vec.now - (c.args.end - c.args.start) ≤ items_len w) (search rules) fact
+
+pub returns-clause-at_least : goal.returns-clause-at_least
+returns-clause-at_least g c =
+    let same = (along g c).keeps.0 in
+    let lender = c.splice-splice.ensures.same_reference in
+    let v = c.finish_counted-finished.new.self.0 in
+    let least = touched_at_least (fused_rest into_iter_items) c.splice-splice.result c.one_from_each_end-first.new.splice (front ∷ back ∷ []) _ v (along g c)
+    c.one_from_each_end-first.ensures.yields c.splice-splice.ensures.touches (within g c) c.finish_counted-finished.result.1 c.finish_counted-finished.ensures.at_least in
+    let given = length (given_items (c.one_from_each_end-first.result.0 ∷ c.one_from_each_end-first.result.1 ∷ [])) in
+    let fact : given + (items_len v - (items_len c.args.vec.now - (c.args.end - c.args.start))) ≤ c.finish_counted-finished.result.1 =
+    subst (λ n. given + (items_len v - n) ≤ c.finish_counted-finished.result.1) (around g c) least in
+    subst (λ w. given + (items_len w - (items_len c.args.vec.now - (c.args.end - c.args.start))) ≤ c.finish_counted-finished.result.1) (search rules) fact
+
+pub returns-clause-at_most : goal.returns-clause-at_most
+returns-clause-at_most g c =
+    let same = (along g c).keeps.0 in
+    let lender = c.splice-splice.ensures.same_reference in
+    let v = c.finish_counted-finished.new.self.0 in
+    let old = c.args.vec.now in
+    let touches = c.finish_counted-finished.result.1 in
+    let most = touched_at_most (fused_rest into_iter_items) c.splice-splice.result c.one_from_each_end-first.new.splice (front ∷ back ∷ []) _ v (along g c)
+    c.one_from_each_end-first.ensures.yields c.splice-splice.ensures.touches (within g c) touches c.one_from_each_end-first.ensures.ready c.finish_counted-finished.ensures.at_most in
+    let is = around g c in
+    let all = inside g c in
+    let slots = ap items_len c.splice-splice.ensures.slots in
+    let fact : touches ≤ (c.args.end - c.args.start) + (items_len v - (items_len old - (c.args.end - c.args.start))) + max (items_len old) (items_len v) = omega (arith, most, is, all, slots) in
+    subst (λ w. touches ≤ (c.args.end - c.args.start) + (items_len w - (items_len old - (c.args.end - c.args.start))) + max (items_len old) (items_len w)) (search rules) fact

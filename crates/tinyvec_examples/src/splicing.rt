@@ -1,0 +1,127 @@
+//! Callers of a splice.
+ghost use Rattle.std.specs.Prelude.{◌≡◌, ◌≤◌, ◌+◌, ◌-◌, ◌++◌, ◌∷◌, [], List, pos, Some, None, length, take, drop, max, vec_len, IsOk, OnOk, OnErr, IfErr, ◌↔◌};
+ghost use Rattle.std.specs.Vec.Iter.{into_iter_items};
+ghost use Rattle.tinyvec_slots.specs.Slots.{items, items_len, SlotRule};
+ghost use Rattle.tinyvec_slots.specs.Ends.{front, back, given_items, TakesFromEnds};
+ghost use Rattle.tinyvec_array.specs.Fused.{fused_rest, HasTwoEnds};
+ghost use Rattle.tinyvec_array.specs.Splice.{splice_left, SpliceCanStep};
+ghost use Rattle.tinyvec_array.specs.Splicing.{IsSpliceRefused, SplicedByWord};
+
+use std::alloc::Global;
+use std::iter::Fuse;
+use std::vec::IntoIter;
+use tinyvec_array::{Array, ArrayVec, ArrayVecSplice, SpliceRest};
+
+/// One item from each end of any splice, whose replacement may be any iterator with two ends.
+pub fn one_from_each_end<A: Array, I: DoubleEndedIterator<Item = A::Item>>(
+    splice: &mut ArrayVecSplice<'_, A, Fuse<I>>,
+) -> (Option<A::Item>, Option<A::Item>)
+    requires ready { SpliceCanStep splice.old }
+    requires can { (s : I) → I.can_next s × I.can_next_back s }
+    ensures yields { TakesFromEnds (splice_left splice.old) (front ∷ back ∷ []) (result.0 ∷ result.1 ∷ []) (splice_left splice.new) }
+    ensures spliced { (rest : I → List A.Item) → HasTwoEnds I.next_gives I.next_back_gives rest
+        → SplicedByWord (fused_rest rest) splice.old (front ∷ back ∷ []) splice.new }
+    ensures ready { SpliceCanStep splice.new }
+{
+    let first = splice.next();
+    let last = splice.next_back();
+    (first, last)
+}
+
+/// Replaces a range of any vector, of which one item is taken from each end.
+pub fn replace<A: Array>(
+    vec: &mut ArrayVec<A>,
+    start: usize,
+    end: usize,
+    replacement: Vec<A::Item>,
+) -> Result<(), SpliceRest<A::Item, Fuse<IntoIter<A::Item, Global>>>>
+    requires start_le_end { start ≤ end }
+    requires in_bounds { end ≤ items_len vec.old }
+    ensures fits { IsOk result ↔ (start + vec_len replacement + (items_len vec.old - end) ≤ A.CAPACITY) }
+    ensures list { OnOk result (items vec.new ≡ take start (items vec.old) ++ replacement.items ++ drop end (items vec.old)) }
+    ensures refused { IfErr result (λ refused. IsSpliceRefused (front ∷ back ∷ []) (end - start) (take start (items vec.old)) (drop end (items vec.old))
+        replacement.items (items vec.new) (refused.item ∷ fused_rest into_iter_items refused.rest)) }
+    ensures full { OnErr result (items_len vec.new ≡ A.CAPACITY) }
+    ensures spare { SlotRule A.Item.is_default vec.old vec.new }
+{
+    let mut splice = vec.splice(start..end, replacement);
+    let _ends = one_from_each_end(&mut splice);
+    splice.finish()
+}
+
+/// How often slots are touched where a range of any vector is replaced, of which one item is taken from each end.
+pub fn touches_of_replace<A: Array>(
+    vec: &mut ArrayVec<A>,
+    start: usize,
+    end: usize,
+    replacement: Vec<A::Item>,
+) -> (Option<A::Item>, Option<A::Item>, u128)
+    requires start_le_end { start ≤ end }
+    requires in_bounds { end ≤ items_len vec.old }
+    ensures kept { items_len vec.old - (end - start) ≤ items_len vec.new }
+    ensures at_least { length (given_items (result.0 ∷ result.1 ∷ [])) + (items_len vec.new - (items_len vec.old - (end - start))) ≤ result.2 }
+    ensures at_most { result.2 ≤ (end - start) + (items_len vec.new - (items_len vec.old - (end - start))) + max (items_len vec.old) (items_len vec.new) }
+{
+    let mut splice = vec.splice(start..end, replacement);
+    let (first, last) = one_from_each_end(&mut splice);
+    let (_finished, touches) = splice.finish_counted();
+    (first, last, touches)
+}
+
+/// As many items as were removed, and one more, from both ends.
+pub fn longer() -> (Option<i32>, Option<i32>, [i32; 6])
+    ensures last { result.0 ≡ Some (pos 3) }
+    ensures first { result.1 ≡ Some (pos 2) }
+    ensures left { result.2 ≡ pos 1 ∷ pos 7 ∷ pos 8 ∷ pos 9 ∷ pos 4 ∷ pos 6 ∷ [] }
+{
+    let mut v = ArrayVec::from_array_len([1, 2, 3, 4, 5, 6], 4);
+    let mut splice = v.splice(1..3, [7, 8, 9]);
+    let last = splice.next_back();
+    let first = splice.next();
+    let _all_fit = splice.finish();
+    (last, first, v.into_inner())
+}
+
+/// Fewer items than were removed: the emptied slots hold 0.
+pub fn shorter() -> (Option<i32>, Option<i32>, [i32; 6])
+    ensures last { result.0 ≡ Some (pos 4) }
+    ensures first { result.1 ≡ Some (pos 2) }
+    ensures left { result.2 ≡ pos 1 ∷ pos 7 ∷ pos 0 ∷ pos 0 ∷ pos 5 ∷ pos 6 ∷ [] }
+{
+    let mut v = ArrayVec::from_array_len([1, 2, 3, 4, 5, 6], 4);
+    let mut splice = v.splice(1..4, [7]);
+    let last = splice.next_back();
+    let first = splice.next();
+    let _all_fit = splice.finish();
+    (last, first, v.into_inner())
+}
+
+/// More items than there is room for, one of them placed from the front.
+pub fn refused() -> (i32, Option<i32>, [i32; 4])
+    ensures item { result.0 ≡ pos 9 }
+    ensures rest { result.1 ≡ Some (pos 10) }
+    ensures left { result.2 ≡ pos 1 ∷ pos 7 ∷ pos 8 ∷ pos 3 ∷ [] }
+{
+    let mut v = ArrayVec::from_array_len([1, 2, 3, 0], 3);
+    let mut splice = v.splice(1..2, [7, 8, 9, 10]);
+    let _two = splice.next();
+    match splice.finish() {
+        Ok(()) => unreachable!(),
+        Err(SpliceRest { item, mut rest }) => (item, rest.next(), v.into_inner()),
+    }
+}
+
+/// The same of an item placed from the back.
+pub fn refused_before_the_back() -> (i32, Option<i32>, [i32; 4])
+    ensures item { result.0 ≡ pos 8 }
+    ensures rest { result.1 ≡ None }
+    ensures left { result.2 ≡ pos 1 ∷ pos 7 ∷ pos 9 ∷ pos 3 ∷ [] }
+{
+    let mut v = ArrayVec::from_array_len([1, 2, 3, 0], 3);
+    let mut splice = v.splice(1..2, [7, 8, 9]);
+    let _two = splice.next_back();
+    match splice.finish() {
+        Ok(()) => unreachable!(),
+        Err(SpliceRest { item, mut rest }) => (item, rest.next(), v.into_inner()),
+    }
+}
