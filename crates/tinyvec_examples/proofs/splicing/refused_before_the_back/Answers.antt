@@ -8,10 +8,24 @@ use Rattle.tinyvec_array.specs.Splicing.{SplicedByWord}
 use Rattle.tinyvec_array.proofs.Fused.{fused_first, fused_ends}
 use Rattle.tinyvec_array.proofs.SplicingLemmas.{Asks-splices}
 use Rattle.tinyvec_examples.proofs.SpliceEnded.{array_ends, ended_no_room, ended_refused, ended_full, ended_slots, numbers_spliced, refused_at, next_is_none}
-use Rattle.tinyvec_examples.proofs.splicing.refused_before_the_back.Goals.{After-finish}
+use Rattle.tinyvec_examples.proofs.splicing.refused_before_the_back.Goals.{After-drop-rest}
 use Rattle.tinyvec_examples.proofs.splicing.refused_before_the_back.Goals as goal
 
-module _ (c : After-finish) where
+pub unreachable-requires : goal.unreachable-requires
+unreachable-requires c =
+    let R = fused_rest array_into_iter_items in
+    let s = c.splice-splice.result in
+    let t = c.next_back-two.new.self in
+    let made = c.splice-splice.ensures in
+    let ahead : splice_front s ≡ pos 1 ∷ [] = made.front ∙ rw c.from_array_len-v.ensures (refl {a = pos 1 ∷ []}) in
+    let behind : splice_back s ≡ pos 3 ∷ [] = made.back ∙ rw c.from_array_len-v.ensures (refl {a = pos 3 ∷ []}) in
+    let whole : R (splice_replacement s) ≡ pos 7 ∷ pos 8 ∷ pos 9 ∷ [] = rw made.unasked made.replacement.0 in
+    let along = Asks-splices R _ _ (fused_ends _ _ _ array_ends) s (back ∷ []) (c.next_back-two.result ∷ []) t (t, c.next_back-two.ensures.steps, refl) in
+    let ended = subst (λ r. FinishesWith R 4 t r c.finish.new.self.0) c.in-Ok.is (c.finish.ensures.listed array_into_iter_items array_ends.first) in
+    let le = ended_no_room R 4 s t (back ∷ []) c.finish.new.self.0 _ _ _ _ along ahead made.left behind whole c.in-Ok.field-0 ended in
+    omega (arith, le)
+
+module _ (c : After-drop-rest) where
   abbrev along : SplicedByWord (fused_rest array_into_iter_items) c.splice-splice.result (back ∷ []) c.next_back-two.new.self
   along =
       Asks-splices (fused_rest array_into_iter_items) _ _ (fused_ends _ _ _ array_ends) c.splice-splice.result (back ∷ []) (c.next_back-two.result ∷ []) c.next_back-two.new.self
@@ -31,13 +45,6 @@ module _ (c : After-finish) where
 
   finished : FinishesWith (fused_rest array_into_iter_items) 4 c.next_back-two.new.self c.finish.result c.finish.new.self.0
   finished = c.finish.ensures.listed array_into_iter_items array_ends.first
-
-pub unreachable-requires : goal.unreachable-requires
-unreachable-requires c =
-    let all = subst (λ r. FinishesWith (fused_rest array_into_iter_items) 4 c.next_back-two.new.self r c.finish.new.self.0) c.in-Ok.is (finished c) in
-    let le = ended_no_room (fused_rest array_into_iter_items) 4 c.splice-splice.result c.next_back-two.new.self (back ∷ []) c.finish.new.self.0 _ _ _ _
-    (along c) (ahead c) (left c) (behind c) (whole c) c.in-Ok.field-0 all in
-    omega (arith, le)
 
 pub returns : goal.returns
 returns c =

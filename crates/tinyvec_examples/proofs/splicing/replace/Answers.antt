@@ -8,10 +8,10 @@ use Rattle.tinyvec_array.specs.Fused.{fused_rest}
 use Rattle.tinyvec_array.specs.Splice.{splice_replacement, FinishesWith}
 use Rattle.tinyvec_array.specs.Splicing.{IsSpliceRefused, SplicedByWord}
 use Rattle.tinyvec_examples.proofs.SpliceEnded.{vec_ends, ended_fits, ended_list, ended_refused, ended_full, ended_slots}
-use Rattle.tinyvec_examples.proofs.splicing.replace.Goals.{After-finish}
+use Rattle.tinyvec_examples.proofs.splicing.replace.Goals.{Joined-ends-2}
 use Rattle.tinyvec_examples.proofs.splicing.replace.Goals as goal
 
-module _ (g : _) (c : After-finish g) where
+module _ (g : _) (c : Joined-ends-2 g) where
   abbrev along : SplicedByWord (fused_rest into_iter_items) c.splice-splice.result (front ∷ back ∷ []) c.one_from_each_end-ends.new.splice
   along = c.one_from_each_end-ends.ensures.spliced into_iter_items vec_ends
 

@@ -10,10 +10,10 @@ use Rattle.tinyvec_array.specs.Splice.{splice_front, splice_left, splice_back, s
 use Rattle.tinyvec_array.specs.Splicing.{SplicedByWord}
 use Rattle.tinyvec_array.proofs.SpliceLemmas.{finished_len}
 use Rattle.tinyvec_examples.proofs.SpliceEnded.{vec_ends, kept_around, touched_at_least, touched_at_most}
-use Rattle.tinyvec_examples.proofs.splicing.touches_of_replace.Goals.{After-finish_counted-finished}
+use Rattle.tinyvec_examples.proofs.splicing.touches_of_replace.Goals.{Joined-finished}
 use Rattle.tinyvec_examples.proofs.splicing.touches_of_replace.Goals as goal
 
-module _ (g : _) (c : After-finish_counted-finished g) where
+module _ (g : _) (c : Joined-finished g) where
   abbrev along : SplicedByWord (fused_rest into_iter_items) c.splice-splice.result (front ∷ back ∷ []) c.one_from_each_end-first.new.splice
   along = c.one_from_each_end-first.ensures.spliced into_iter_items vec_ends
 
