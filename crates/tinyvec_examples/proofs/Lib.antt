@@ -1,3 +1,4 @@
 pub mod DrainEnded
 pub mod BothEnds
 pub mod SpliceEnded
+pub mod SpliceCounted

@@ -1,41 +1,20 @@
 -- What a splice made of a list, once it was driven by a word of ends and finished.
-use Rattle.std.proofs.Common.{◌≡◌, ℕ, ◌+◌, ◌-◌, ◌≤◌, List, [], ◌∷◌, ◌++◌, length, take, drop, slice_range, Option, Some, None, Result, Ok, Err, IsOk, OnOk, IfErr, OnErr, ◌↔◌, max, false, true, ℤ, pos, replicate, refl, sym, ap, ◌∙◌, arith, length-append, length-take}
+use Rattle.std.proofs.Common.{◌≡◌, ℕ, ◌+◌, ◌-◌, ◌≤◌, List, [], ◌∷◌, ◌++◌, length, take, drop, slice_range, Option, Some, None, Result, Ok, Err, IsOk, OnOk, IfErr, OnErr, ◌↔◌, false, true, ℤ, pos, replicate, refl, sym, ap, ◌∙◌, arith, length-append, length-take}
 use Rattle.std.proofs.lemmas.List.{nil_from_length, length_push, same_from_push, length-drop}
-use Rattle.std.specs.declared.iter.Fuse.{Fuse}
 use Rattle.std.specs.Iterator.{YieldsFirst, YieldsLast}
-use Rattle.std.specs.Vec.Iter.{into_iter_items, into_iter_len, into_iter_steps, into_iter_steps_back}
-use Rattle.std.specs.declared.vec.IntoIter.{IntoIter}
 use Rattle.std.specs.declared.array.IntoIter.{IntoIter as Items}
 use Rattle.std.specs.Array.Iter.{array_into_iter_items, array_steps, array_steps_back}
 use Rattle.tinyvec_slots.specs.Slots.{Slots, items, spare, items_len, all_slots, SlotRule}
-use Rattle.tinyvec_slots.specs.Ends.{End, fronts, backs, TakesFromEnds, given_items}
-use Rattle.tinyvec_slots.proofs.EndsLemmas.{fronts-backs, items_given}
-use Rattle.tinyvec_slots.proofs.Lists.{length-slice_range}
+use Rattle.tinyvec_slots.specs.Ends.{End}
 use Rattle.tinyvec_slots.proofs.SlotsLemmas.{defaults_are, slots_are}
 use Rattle.tinyvec_array.specs.Fused.{HasTwoEnds}
-use Rattle.tinyvec_array.specs.Splice.{splice_front, splice_left, splice_back, splice_replacement, splice_slots, splice_touches, finish_placed, finish_bound, SpliceCanStep, SpliceKeeps, SpliceSteps, SpliceStepsBack, FinishesWith}
+use Rattle.tinyvec_array.specs.Splice.{splice_front, splice_left, splice_back, splice_replacement, splice_slots, SpliceKeeps, SpliceSteps, SpliceStepsBack, FinishesWith}
 use Rattle.tinyvec_array.specs.Splicing.{placed_back, IsSpliceRefused, SplicedByWord}
 use Rattle.tinyvec_array.specs.declared.splice.ArrayVecSplice.{ArrayVecSplice}
 use Rattle.tinyvec_array.specs.declared.no_room.SpliceRest.{SpliceRest}
 use Rattle.tinyvec_array.proofs.SplicingLemmas.{spliced_len, spliced_all, spliced_refused}
 
--- a vector's items have two ends
-module _ {X Z : Type 0} where
-  none_left : (s : IntoIter X Z) → into_iter_len s ≡ 0 → into_iter_items s ≡ []
-  none_left s h = nil_from_length _ (sym s.rest.ok.0 ∙ h)
-
-  first_item : (s : IntoIter X Z) (r : Option X) (t : IntoIter X Z) → into_iter_steps s r t → YieldsFirst into_iter_items s r t
-  first_item s None t h = (none_left s h.0, none_left t h.1)
-  first_item s (Some x) t h = h.0
-
-  last_item : (s : IntoIter X Z) (r : Option X) (t : IntoIter X Z) → into_iter_steps_back s r t → YieldsLast into_iter_items s r t
-  last_item s None t h = (none_left s h.0, none_left t h.1)
-  last_item s (Some x) t h = h
-
-  pub vec_ends : HasTwoEnds {S = IntoIter X Z} into_iter_steps into_iter_steps_back into_iter_items
-  vec_ends = record { first = first_item; last = last_item }
-
--- so do an array's
+-- an array's items have two ends
 module _ {X : Type 0} {n : ℕ} where
   first_of_array : (s : Items X n) (r : Option X) (t : Items X n) → array_steps s r t → YieldsFirst array_into_iter_items s r t
   first_of_array s None t h = let none = nil_from_length _ h.0 in (none, ap array_into_iter_items h.1 ∙ none)
@@ -60,35 +39,37 @@ module _ {A I T : Type 0} (rest : I → List T) (capacity : ℕ) (s t : ArrayVec
 
   pub ended_list : (result : Result Unit (SpliceRest T I)) → FinishesWith rest capacity t result v → OnOk result (items v ≡ before ++ replacement ++ after)
   ended_list (Ok u) f = spliced_all rest capacity s t word v before removed after replacement along ahead left behind whole f.all
-  ended_list (Err back) f = tt
+  ended_list (Err refused) f = tt
 
   pub ended_refused : (result : Result Unit (SpliceRest T I)) → FinishesWith rest capacity t result v
-      → IfErr result (λ back. IsSpliceRefused word (length removed) before after replacement (items v) (back.item ∷ rest back.rest))
+      → IfErr result (λ refused. IsSpliceRefused word (length removed) before after replacement (items v) (refused.item ∷ rest refused.rest))
   ended_refused (Ok u) f = tt
-  ended_refused (Err back) f =
+  ended_refused (Err refused) f =
       let h = f.refused in
-      spliced_refused rest capacity s t word v before removed after replacement along ahead left behind whole h.0 back.item (rest back.rest) h.1 h.2
+      spliced_refused rest capacity s t word v before removed after replacement along ahead left behind whole h.0 refused.item (rest refused.rest) h.1 h.2
 
   pub ended_all : (result : Result Unit (SpliceRest T I)) → FinishesWith rest capacity t result v → length before + length replacement + length after ≤ capacity
       → items v ≡ before ++ replacement ++ after
   ended_all (Ok u) f le = ended_list (Ok u) f
-  ended_all (Err back) f le = absurd (let no : false ≡ true = (ended_fits (Err back) f).1 le in cc)
+  ended_all (Err refused) f le = absurd (let no : false ≡ true = (ended_fits (Err refused) f).1 le in cc)
 
   pub ended_no_room : (u : Unit) → FinishesWith rest capacity t (Ok u) v → length before + length replacement + length after ≤ capacity
   ended_no_room u f = (ended_fits (Ok u) f).0 refl
 
   pub ended_full : (result : Result Unit (SpliceRest T I)) → FinishesWith rest capacity t result v → OnErr result (items_len v ≡ capacity)
   ended_full (Ok u) f = tt
-  ended_full (Err back) f = f.refused.3
+  ended_full (Err refused) f = f.refused.3
 
 -- the slot rule from the splice on
 pub ended_slots : {A I T : Type 0} (D : T → Type 0) (s t : ArrayVecSplice A I T) (old v : Slots T) → SpliceKeeps s t → splice_slots s ≡ old
     → SlotRule D (splice_slots t) v → SlotRule D old v
 ended_slots D s t old v keeps slots rule =
     let count : items_len (splice_slots t) ≡ items_len old = keeps.2 ∙ ap items_len slots in
-    let behind : spare (splice_slots t) ≡ spare old = keeps.1 ∙ ap spare slots in
-    (rule.0, (rule.1.0 ∙ ap (λ n. n - items_len v) count, rule.1.1),
-      rule.2 ∙ ap (λ n. rule.0 ++ drop (items_len v - n) (spare (splice_slots t))) count ∙ ap (λ l. rule.0 ++ drop (items_len v - items_len old) l) behind)
+    let behind : spare (splice_slots t) ≡ spare old = keeps.1 ∙ ap spare slots in (
+      rule.0,
+      (rule.1.0 ∙ ap (λ n. n - items_len v) count, rule.1.1),
+      rule.2 ∙ ap (λ n. rule.0 ++ drop (items_len v - n) (spare (splice_slots t))) count ∙ ap (λ l. rule.0 ++ drop (items_len v - items_len old) l) behind,
+    )
 
 -- what was taken from an end
 module _ {A I T : Type 0} (gives : I → Option T → I → Type 0) (s t : ArrayVecSplice A I T) where
@@ -99,46 +80,6 @@ module _ {A I T : Type 0} (gives : I → Option T → I → Type 0) (s t : Array
   pub last_taken : (r : Option T) (x : T) (xs : List T) → SpliceStepsBack gives s r t → splice_left s ≡ xs ++ x ∷ [] → (r ≡ Some x) × (splice_left t ≡ xs)
   last_taken None x xs h is = absurd (let long = ap length is ∙ length_push xs x in let none = ap length h.0 in omega arith)
   last_taken (Some y) x xs h is = let same = same_from_push (splice_left t) xs y x (sym h.left ∙ is) in (ap (λ z. Some z) same.1, same.0)
-
--- how many items a word was given
-given_count : {T : Type 0} (xs : List T) (word : List End) (answers : List (Option T)) (left : List T) → TakesFromEnds xs word answers left
-    → length xs ≡ length left + length (given_items answers)
-given_count xs word answers left took =
-    let n = length took.given in
-    let count = (items_given xs word answers left took).count in
-    let letters = fronts-backs (take n word) ∙ length-take n word in
-    let middle = ap length took.middle ∙ length-slice_range xs (fronts (take n word)) (length xs - backs (take n word)) (omega (arith, letters, took.by_word.count)) (omega arith) in
-    omega (arith, letters, count, middle, took.by_word.count)
-
--- what stands in front and at the back, with what was placed there
-module _ {A I T : Type 0} (rest : I → List T) (s t : ArrayVecSplice A I T) (word : List End) (v : Slots T) (along : SplicedByWord rest s word t)
-    (within : length (splice_front t) + length (splice_back t) ≤ items_len v) where
-  borders : length (splice_front t) + length (splice_back t) ≡ length (splice_front s) + length (splice_back s) + (length along.in_front + length along.at_back)
-  borders =
-      let one = ap length along.front ∙ length-append (splice_front s) along.in_front in
-      let two = ap length along.back ∙ length-append along.at_back (splice_back s) in
-      omega arith
-
-  pub kept_around : length (splice_front s) + length (splice_back s) ≤ items_len v
-  kept_around = omega (arith, borders)
-
--- how many slots were touched
-module _ {A S T : Type 0} (rest : Fuse S → List T) (s t : ArrayVecSplice A (Fuse S) T) (word : List End) (answers : List (Option T)) (v : Slots T)
-    (along : SplicedByWord rest s word t) (took : TakesFromEnds (splice_left s) word answers (splice_left t)) (start : splice_touches s ≡ 0)
-    (within : length (splice_front t) + length (splice_back t) ≤ items_len v) where
-  touched : splice_touches t ≡ length (given_items answers) + (length along.in_front + length along.at_back)
-  touched = let given = given_count (splice_left s) word answers (splice_left t) took in omega (arith, along.touches)
-
-  pub touched_at_least : (touches : ℕ) → splice_touches t + finish_placed t v ≤ touches
-      → length (given_items answers) + (items_len v - (length (splice_front s) + length (splice_back s))) ≤ touches
-  touched_at_least touches le = omega (arith, borders rest s t word v along within, touched)
-
-  pub touched_at_most : (touches : ℕ) → SpliceCanStep t → touches ≤ splice_touches t + finish_bound t v
-      → touches ≤ length (splice_left s) + (items_len v - (length (splice_front s) + length (splice_back s))) + max (items_len (splice_slots s)) (items_len v)
-  touched_at_most touches ready le =
-      let given = given_count (splice_left s) word answers (splice_left t) took in
-      let left = length-slice_range (items (splice_slots t)) t.next t.end ready.1 (omega (arith, ready.2, ready.3)) in
-      omega (arith, borders rest s t word v along within, touched, left, along.keeps.2)
 
 -- where a splice was refused, by how many items found room
 pub refused_at : {T : Type 0} (word : List End) (n : ℕ) (before after replacement list rest : List T) (y k : ℕ) → placed_back word n (length replacement) ≡ y

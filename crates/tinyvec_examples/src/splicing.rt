@@ -1,15 +1,13 @@
 //! Callers of a splice.
-ghost use Rattle.std.specs.Prelude.{◌≡◌, ◌≤◌, ◌+◌, ◌-◌, ◌++◌, ◌∷◌, [], List, pos, Some, None, length, take, drop, max, vec_len, IsOk, OnOk, OnErr, IfErr, ◌↔◌};
-ghost use Rattle.std.specs.Vec.Iter.{into_iter_items};
+ghost use Rattle.std.specs.Prelude.{◌≡◌, ◌≤◌, ◌+◌, ◌-◌, ◌++◌, ◌∷◌, [], List, pos, Some, None, length, take, drop, max, IsOk, OnOk, OnErr, IfErr, ◌↔◌};
+ghost use Rattle.std.specs.Iterator.Adapters.{fuse_steps};
 ghost use Rattle.tinyvec_slots.specs.Slots.{items, items_len, SlotRule};
-ghost use Rattle.tinyvec_slots.specs.Ends.{front, back, given_items, TakesFromEnds};
+ghost use Rattle.tinyvec_slots.specs.Ends.{front, back, given_items, Asks, TakesFromEnds};
 ghost use Rattle.tinyvec_array.specs.Fused.{fused_rest, HasTwoEnds};
-ghost use Rattle.tinyvec_array.specs.Splice.{splice_left, SpliceCanStep};
+ghost use Rattle.tinyvec_array.specs.Splice.{splice_left, SpliceCanStep, SpliceSteps, SpliceStepsBack};
 ghost use Rattle.tinyvec_array.specs.Splicing.{IsSpliceRefused, SplicedByWord};
 
-use std::alloc::Global;
 use std::iter::Fuse;
-use std::vec::IntoIter;
 use tinyvec_array::{Array, ArrayVec, ArrayVecSplice, SpliceRest};
 
 /// One item from each end of any splice, whose replacement may be any iterator with two ends.
@@ -18,6 +16,7 @@ pub fn one_from_each_end<A: Array, I: DoubleEndedIterator<Item = A::Item>>(
 ) -> (Option<A::Item>, Option<A::Item>)
     requires ready { SpliceCanStep splice.old }
     requires can { (s : I) → I.can_next s × I.can_next_back s }
+    ensures asked { Asks (SpliceSteps (fuse_steps I.next_gives)) (SpliceStepsBack (fuse_steps I.next_back_gives)) splice.old (front ∷ back ∷ []) (result.0 ∷ result.1 ∷ []) splice.new }
     ensures yields { TakesFromEnds (splice_left splice.old) (front ∷ back ∷ []) (result.0 ∷ result.1 ∷ []) (splice_left splice.new) }
     ensures spliced { (rest : I → List A.Item) → HasTwoEnds I.next_gives I.next_back_gives rest
         → SplicedByWord (fused_rest rest) splice.old (front ∷ back ∷ []) splice.new }
@@ -28,19 +27,30 @@ pub fn one_from_each_end<A: Array, I: DoubleEndedIterator<Item = A::Item>>(
     (first, last)
 }
 
-/// Replaces a range of any vector, of which one item is taken from each end.
-pub fn replace<A: Array>(
+/// Replaces the whole list of any vector, as far as there is room.
+pub fn replace_all<A: Array>(vec: &mut ArrayVec<A>, replacement: Vec<A::Item>)
+    ensures fits { items_len vec.new ≤ A.CAPACITY }
+    ensures spare { SlotRule A.Item.is_default vec.old vec.new }
+{
+    let splice = vec.splice(.., replacement);
+    let _finished = splice.finish();
+}
+
+/// Replaces a range of any vector by any replacement with two ends, of which one item is taken from each end.
+pub fn replace<A: Array, I: DoubleEndedIterator<Item = A::Item>>(
     vec: &mut ArrayVec<A>,
     start: usize,
     end: usize,
-    replacement: Vec<A::Item>,
-) -> Result<(), SpliceRest<A::Item, Fuse<IntoIter<A::Item, Global>>>>
+    replacement: I,
+) -> Result<(), SpliceRest<A::Item, Fuse<I>>>
     requires start_le_end { start ≤ end }
     requires in_bounds { end ≤ items_len vec.old }
-    ensures fits { IsOk result ↔ (start + vec_len replacement + (items_len vec.old - end) ≤ A.CAPACITY) }
-    ensures list { OnOk result (items vec.new ≡ take start (items vec.old) ++ replacement.items ++ drop end (items vec.old)) }
-    ensures refused { IfErr result (λ refused. IsSpliceRefused (front ∷ back ∷ []) (end - start) (take start (items vec.old)) (drop end (items vec.old))
-        replacement.items (items vec.new) (refused.item ∷ fused_rest into_iter_items refused.rest)) }
+    requires can { (s : I) → I.can_next s × I.can_next_back s }
+    ensures list { (rest : I → List A.Item) → HasTwoEnds I.next_gives I.next_back_gives rest
+        → (IsOk result ↔ (start + length (rest replacement) + (items_len vec.old - end) ≤ A.CAPACITY))
+        × OnOk result (items vec.new ≡ take start (items vec.old) ++ rest replacement ++ drop end (items vec.old))
+        × IfErr result (λ refused. IsSpliceRefused (front ∷ back ∷ []) (end - start) (take start (items vec.old)) (drop end (items vec.old))
+        (rest replacement) (items vec.new) (refused.item ∷ fused_rest rest refused.rest)) }
     ensures full { OnErr result (items_len vec.new ≡ A.CAPACITY) }
     ensures spare { SlotRule A.Item.is_default vec.old vec.new }
 {
@@ -49,15 +59,16 @@ pub fn replace<A: Array>(
     splice.finish()
 }
 
-/// How often slots are touched where a range of any vector is replaced, of which one item is taken from each end.
-pub fn touches_of_replace<A: Array>(
+/// How often slots are touched where a range of any vector is replaced so. Nothing is asked of the replacement but two ends.
+pub fn touches_of_replace<A: Array, I: DoubleEndedIterator<Item = A::Item>>(
     vec: &mut ArrayVec<A>,
     start: usize,
     end: usize,
-    replacement: Vec<A::Item>,
+    replacement: I,
 ) -> (Option<A::Item>, Option<A::Item>, u128)
     requires start_le_end { start ≤ end }
     requires in_bounds { end ≤ items_len vec.old }
+    requires can { (s : I) → I.can_next s × I.can_next_back s }
     ensures kept { items_len vec.old - (end - start) ≤ items_len vec.new }
     ensures at_least { length (given_items (result.0 ∷ result.1 ∷ [])) + (items_len vec.new - (items_len vec.old - (end - start))) ≤ result.2 }
     ensures at_most { result.2 ≤ (end - start) + (items_len vec.new - (items_len vec.old - (end - start))) + max (items_len vec.old) (items_len vec.new) }

@@ -7,6 +7,9 @@ use Rattle.tinyvec_array.proofs.Fused.{fused_ends}
 use Rattle.tinyvec_array.proofs.SplicingLemmas.{Asks-splices, Asks-takes_removed}
 use Rattle.tinyvec_examples.proofs.splicing.one_from_each_end.Goals as goal
 
+pub returns-clause-asked : goal.returns-clause-asked
+returns-clause-asked g c = let t = c.next_back-last.new.self in (c.next-first.new.self, c.next-first.ensures.steps, (t, c.next_back-last.ensures.steps, refl))
+
 pub returns-clause-yields : goal.returns-clause-yields
 returns-clause-yields g c =
     let t = c.next_back-last.new.self in

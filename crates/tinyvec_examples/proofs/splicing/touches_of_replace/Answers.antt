@@ -1,21 +1,19 @@
-use Rattle.std.proofs.Common.{◌≡◌, ◌+◌, ◌-◌, ◌≤◌, List, [], ◌∷◌, length, max, sym, subst, ap, ◌∙◌, arith, rules}
+use Rattle.std.proofs.Common.{◌≡◌, ◌+◌, ◌-◌, ◌≤◌, List, [], ◌∷◌, length, max, subst, ap, ◌∙◌, arith, rules}
 use Rattle.std.proofs.lemmas.List.{length-take-le, length-drop}
 use Rattle.std.specs.Iterator.Adapters.{fuse_steps}
-use Rattle.std.specs.Vec.Iter.{into_iter_items, into_iter_steps}
 use Rattle.tinyvec_slots.specs.Slots.{items, items_len}
 use Rattle.tinyvec_slots.specs.Ends.{front, back, given_items}
 use Rattle.tinyvec_slots.proofs.Lists.{length-slice_range}
-use Rattle.tinyvec_array.specs.Fused.{fused_rest}
-use Rattle.tinyvec_array.specs.Splice.{splice_front, splice_left, splice_back, splice_slots}
-use Rattle.tinyvec_array.specs.Splicing.{SplicedByWord}
+use Rattle.tinyvec_array.specs.Splice.{splice_front, splice_left, splice_back}
 use Rattle.tinyvec_array.proofs.SpliceLemmas.{finished_len}
-use Rattle.tinyvec_examples.proofs.SpliceEnded.{vec_ends, kept_around, touched_at_least, touched_at_most}
+use Rattle.tinyvec_examples.proofs.SpliceCounted.{Counts, counted, kept_around, touched_at_least, touched_at_most}
 use Rattle.tinyvec_examples.proofs.splicing.touches_of_replace.Goals.{Joined-finished}
 use Rattle.tinyvec_examples.proofs.splicing.touches_of_replace.Goals as goal
 
 module _ (g : _) (c : Joined-finished g) where
-  abbrev along : SplicedByWord (fused_rest into_iter_items) c.splice-splice.result (front ∷ back ∷ []) c.one_from_each_end-first.new.splice
-  along = c.one_from_each_end-first.ensures.spliced into_iter_items vec_ends
+  counts : Counts c.splice-splice.result (c.one_from_each_end-first.result.0 ∷ c.one_from_each_end-first.result.1 ∷ []) c.one_from_each_end-first.new.splice
+  counts =
+      counted (fuse_steps g.I.Iterator.next_gives) (fuse_steps g.I.DoubleEndedIterator.next_back_gives) c.splice-splice.result (front ∷ back ∷ []) _ c.one_from_each_end-first.new.splice c.one_from_each_end-first.ensures.asked
 
   -- what stands around the range, and in it
   around : length (splice_front c.splice-splice.result) + length (splice_back c.splice-splice.result) ≡ items_len c.args.vec.now - (c.args.end - c.args.start)
@@ -31,25 +29,24 @@ module _ (g : _) (c : Joined-finished g) where
 
   within : length (splice_front c.one_from_each_end-first.new.splice) + length (splice_back c.one_from_each_end-first.new.splice) ≤ items_len c.finish_counted-finished.new.self.0
   within =
-      let long = finished_len (fuse_steps into_iter_steps) g.A.Array.CAPACITY c.one_from_each_end-first.new.splice c.finish_counted-finished.new.self.0 c.finish_counted-finished.result.0 c.finish_counted-finished.ensures.finished in
+      let long = finished_len (fuse_steps g.I.Iterator.next_gives) g.A.Array.CAPACITY c.one_from_each_end-first.new.splice c.finish_counted-finished.new.self.0 c.finish_counted-finished.result.0 c.finish_counted-finished.ensures.finished in
       omega arith
 
 pub returns-clause-kept : goal.returns-clause-kept
 returns-clause-kept g c =
-    let same = (along g c).keeps.0 in
+    let same = (counts g c).keeps.0 in
     let lender = c.splice-splice.ensures.same_reference in
-    let borders = kept_around (fused_rest into_iter_items) c.splice-splice.result c.one_from_each_end-first.new.splice (front ∷ back ∷ []) c.finish_counted-finished.new.self.0 (along g c) (within g c) in
+    let kept = kept_around c.splice-splice.result c.one_from_each_end-first.new.splice _ c.finish_counted-finished.new.self.0 (counts g c) c.splice-splice.ensures.touches (within g c) in
     let is = around g c in
     let fact : items_len c.args.vec.now - (c.args.end - c.args.start) ≤ items_len c.finish_counted-finished.new.self.0 = omega arith in
     subst (λ w. items_len c.args.vec.now - (c.args.end - c.args.start) ≤ items_len w) (search rules) fact
 
 pub returns-clause-at_least : goal.returns-clause-at_least
 returns-clause-at_least g c =
-    let same = (along g c).keeps.0 in
+    let same = (counts g c).keeps.0 in
     let lender = c.splice-splice.ensures.same_reference in
     let v = c.finish_counted-finished.new.self.0 in
-    let least = touched_at_least (fused_rest into_iter_items) c.splice-splice.result c.one_from_each_end-first.new.splice (front ∷ back ∷ []) _ v (along g c)
-    c.one_from_each_end-first.ensures.yields c.splice-splice.ensures.touches (within g c) c.finish_counted-finished.result.1 c.finish_counted-finished.ensures.at_least in
+    let least = touched_at_least c.splice-splice.result c.one_from_each_end-first.new.splice _ v (counts g c) c.splice-splice.ensures.touches (within g c) c.finish_counted-finished.result.1 c.finish_counted-finished.ensures.at_least in
     let given = length (given_items (c.one_from_each_end-first.result.0 ∷ c.one_from_each_end-first.result.1 ∷ [])) in
     let fact : given + (items_len v - (items_len c.args.vec.now - (c.args.end - c.args.start))) ≤ c.finish_counted-finished.result.1 =
     subst (λ n. given + (items_len v - n) ≤ c.finish_counted-finished.result.1) (around g c) least in
@@ -57,13 +54,12 @@ returns-clause-at_least g c =
 
 pub returns-clause-at_most : goal.returns-clause-at_most
 returns-clause-at_most g c =
-    let same = (along g c).keeps.0 in
+    let same = (counts g c).keeps.0 in
     let lender = c.splice-splice.ensures.same_reference in
     let v = c.finish_counted-finished.new.self.0 in
     let old = c.args.vec.now in
     let touches = c.finish_counted-finished.result.1 in
-    let most = touched_at_most (fused_rest into_iter_items) c.splice-splice.result c.one_from_each_end-first.new.splice (front ∷ back ∷ []) _ v (along g c)
-    c.one_from_each_end-first.ensures.yields c.splice-splice.ensures.touches (within g c) touches c.one_from_each_end-first.ensures.ready c.finish_counted-finished.ensures.at_most in
+    let most = touched_at_most c.splice-splice.result c.one_from_each_end-first.new.splice _ v (counts g c) c.splice-splice.ensures.touches (within g c) touches c.one_from_each_end-first.ensures.ready c.finish_counted-finished.ensures.at_most in
     let is = around g c in
     let all = inside g c in
     let slots = ap items_len c.splice-splice.ensures.slots in
