@@ -299,6 +299,7 @@ fn touches_of_a_longer_replacement(rt: HostRuntime) {
 fn touches_of_a_thousand_slots(rt: HostRuntime) {
     let mut v: ArrayVec<[i32; 1000]> = ArrayVec::new();
     let _rest = v.fill(0..);
+    assert!(rt; v.len() == 1000);
     let (finished, touches) = v.splice(0..500, None).finish_counted();
     assert!(rt; finished.is_ok());
     assert!(rt; touches <= 1500);
