@@ -1,5 +1,4 @@
 use Rattle.std.proofs.Common.{◌∷◌, [], refl, ◌++◌, ◌-◌, ◌<◌, length, take, sym, ap, ◌∙◌, le_refl, arith, add-one, suc, take_all, of_calls, ◌≡◌}
-use Rattle.std.specs.Prelude.{reverse}
 use Rattle.std.specs.Fn.{Called}
 use Rattle.std.proofs.SliceLists.{chained_more}
 use Rattle.std.proofs.iter.Next.{called}
