@@ -1,0 +1,3 @@
+pub mod TinyLemmas
+pub mod DrainLemmas
+pub mod RefusedLemmas

@@ -1,0 +1,109 @@
+-- Lemmas on the list, the spare slots and the place.
+use Rattle.std.proofs.Common.{◌≡◌, ℕ, ◌+◌, ◌-◌, ◌<◌, ◌≤◌, replicate, List, [], ◌∷◌, length, drop, ◌++◌, refl, sym, ap, subst, ◌∙◌, take_at, length-set, slice_set, arith, rules}
+use Rattle.std.specs.Prelude.{OnOk, OnErr, Result, Ok, Err}
+use Rattle.std.proofs.lemmas.List.{drop-drop}
+use Rattle.tinyvec_array.specs.Slots.{Slots, SlotRule, items, items_len, spare}
+use Rattle.tinyvec_array.proofs.SlotsLemmas.{slots_used, defaults_are, items-with_items, spare-with_items, items-with_slot, spare-with_slot}
+use Rattle.tinyvec.specs.Tiny.{tiny_items, tiny_len, tiny_spare, is_inline, IsInline, TinySlotRule, SameFrame}
+use Rattle.tinyvec.specs.Lends.{tiny_with_items, tiny_with_item}
+use Rattle.tinyvec.specs.declared.tiny_vec.TinyVec.{TinyVec}
+use Rattle.tinyvec.specs.declared.tiny_vec.TinyVec.TheVariants.{Inline, Heap}
+
+module _ {A T : Type 0} where
+  -- a write through the slice of the items, which keeps its length, leaves what the slice shows
+  pub tiny_items-with : (v : TinyVec A T) (ws : List T) → length ws ≡ tiny_len v → tiny_items (tiny_with_items v ws) ≡ ws
+  tiny_items-with (Inline v alloc) ws e = items-with_items v ws e
+  tiny_items-with (Heap v) ws e = take_at ws (drop (length ws) v.items) v.len (e ∙ sym v.ok.0)
+
+  -- and leaves spare slots, place and room
+  pub tiny_framed-with : (v : TinyVec A T) (ws : List T) → length ws ≡ tiny_len v → SameFrame v (tiny_with_items v ws)
+  tiny_framed-with (Inline v alloc) ws e = (ap length (items-with_items v ws e) ∙ e, spare-with_items v ws e, refl, λ n. refl)
+  tiny_framed-with (Heap v) ws e = (ap length (tiny_items-with (Heap v) ws e) ∙ e, refl, refl, λ n. refl)
+
+  -- a write of one item writes that item
+  pub tiny_items-with_item : (v : TinyVec A T) (i : ℕ) (x : T) → i < tiny_len v → tiny_items (tiny_with_item v i x) ≡ slice_set (tiny_items v) i x
+  tiny_items-with_item (Inline v alloc) i x h = items-with_slot v i x h
+  tiny_items-with_item (Heap v) i x h = refl
+
+  -- and leaves spare slots, place and room
+  pub tiny_framed-with_item : (v : TinyVec A T) (i : ℕ) (x : T) → i < tiny_len v → SameFrame v (tiny_with_item v i x)
+  tiny_framed-with_item (Inline v alloc) i x h = (ap length (items-with_slot v i x h) ∙ length-set (items v) i x, spare-with_slot v i x h, refl, λ n. refl)
+  tiny_framed-with_item (Heap v) i x h = (length-set v.items i x, refl, refl, λ n. refl)
+
+  pub SameFrame-refl : (v : TinyVec A T) → SameFrame v v
+  SameFrame-refl v = (refl, refl, refl, λ n. refl)
+
+  pub SameFrame-then : (u v w : TinyVec A T) → SameFrame u v → SameFrame v w → SameFrame u w
+  SameFrame-then u v w h k = (k.0 ∙ h.0, k.1 ∙ h.1, k.2 ∙ h.2, λ n. k.3 n ∙ h.3 n)
+
+module _ {A T : Type 0} (D : T → Type 0) where
+  pub tiny_slots_same : (v : TinyVec A T) → TinySlotRule D v v
+  tiny_slots_same (Inline v alloc) = slots_used D v v 0 (search rules) refl
+  tiny_slots_same (Heap v) = tt
+
+  pub tiny_slots_kept : (v w : TinyVec A T) → w ≡ v → TinySlotRule D v w
+  tiny_slots_kept v w e = subst (TinySlotRule D v) (sym e) (tiny_slots_same v)
+
+  -- the slot rule of a call that first made room, and then made the list longer by k
+  pub tiny_slots_grown : (old mid new : TinyVec A T) (k : ℕ) → (IsInline mid → mid ≡ old) → is_inline new ≡ is_inline mid
+      → tiny_len new ≡ tiny_len mid + k → tiny_spare new ≡ drop k (tiny_spare mid) → TinySlotRule D old new
+  tiny_slots_grown old (Inline m a) (Inline n b) k stays place len behind =
+      subst (λ v. TinySlotRule D v (Inline n b)) (stays refl) (slots_used D m n k len behind)
+  tiny_slots_grown (Inline v a) (Inline m b) (Heap n) k stays place len behind = tt
+  tiny_slots_grown (Heap v) (Inline m b) (Heap n) k stays place len behind = tt
+  tiny_slots_grown (Inline v a) (Heap m) (Heap n) k stays place len behind = tt
+  tiny_slots_grown (Heap v) (Heap m) new k stays place len behind = tt
+  tiny_slots_grown (Inline v a) (Heap m) (Inline n b) k stays place len behind = search rules
+
+  -- the slot rule reads no more of the old vector than its frame
+  pub tiny_slots_framed : (old mid new : TinyVec A T) → SameFrame old mid → TinySlotRule D mid new → TinySlotRule D old new
+  tiny_slots_framed (Inline v a) (Inline m b) (Inline n d) frame h = rw (sym frame.0, sym frame.1) h
+  tiny_slots_framed (Inline v a) (Heap m) (Inline n d) frame h = search rules
+  tiny_slots_framed (Inline v a) mid (Heap n) frame h = tt
+  tiny_slots_framed (Heap v) mid new frame h = tt
+
+  module _ (c : T) (only : (x : T) → D x → x ≡ c) where
+    -- the slot rule where the item's `Default` answers one value only
+    pub tiny_slots_only : (old new : TinyVec A T) → IsInline old → IsInline new → TinySlotRule D old new
+        → tiny_spare new ≡ replicate (tiny_len old - tiny_len new) c ++ drop (tiny_len new - tiny_len old) (tiny_spare old)
+    tiny_slots_only (Inline v a) (Inline w b) i j h =
+        h.2 ∙ ap (λ ds. ds ++ drop (items_len w - items_len v) (spare v)) (defaults_are D c only (items_len v - items_len w) h.0 h.1)
+    tiny_slots_only (Inline v a) (Heap w) i j h = search rules
+    tiny_slots_only (Heap v) new i j h = search rules
+
+none_of : {T : Type 0} (ds : List T) → length ds ≡ 0 → ds ≡ []
+none_of [] e = refl
+none_of (d ∷ ds) e = search (rules, arith)
+
+module _ {T : Type 0} (D : T → Type 0) where
+  -- what a longer list used up
+  used : (old new : Slots T) → items_len old ≤ items_len new → SlotRule D old new → spare new ≡ drop (items_len new - items_len old) (spare old)
+  used old new le h =
+      h.2 ∙ ap (λ ds. ds ++ drop (items_len new - items_len old) (spare old)) (none_of h.0 (h.1.0 ∙ omega arith))
+
+  slots_then : (a b c : Slots T) → items_len a ≤ items_len b → items_len b ≤ items_len c → SlotRule D a b → SlotRule D b c → SlotRule D a c
+  slots_then a b c le more h k =
+      let first = items_len b - items_len a in
+      let second = items_len c - items_len b in
+      let both : first + second ≡ items_len c - items_len a = omega arith in
+      slots_used D a c (items_len c - items_len a) (omega arith)
+      (used b c more k ∙ ap (drop second) (used a b le h) ∙ drop-drop second first (spare a) ∙ ap (λ n. drop n (spare a)) both)
+
+module _ {A T : Type 0} (D : T → Type 0) where
+  -- the slot rule over two calls, one after the other, that make the list longer
+  pub tiny_slots_then : (a b c : TinyVec A T) → (IsInline c → IsInline b) → tiny_len a ≤ tiny_len b → tiny_len b ≤ tiny_len c
+      → TinySlotRule D a b → TinySlotRule D b c → TinySlotRule D a c
+  tiny_slots_then (Inline u i) (Inline v j) (Inline w k) place le more g h = slots_then D u v w le more g h
+  tiny_slots_then (Inline u i) (Heap v) (Inline w k) place le more g h = search rules
+  tiny_slots_then (Inline u i) b (Heap w) place le more g h = tt
+  tiny_slots_then (Heap u) b c place le more g h = tt
+
+-- two facts of a call that succeeded
+pub on_ok_two : {T E P Q R : Type 0} (r : Result T E) → OnOk r P → OnOk r Q → (P → Q → R) → OnOk r R
+on_ok_two (Ok x) p q f = f p q
+on_ok_two (Err e) p q f = tt
+
+-- and of one that was refused
+pub on_err_two : {T E P Q R : Type 0} (r : Result T E) → OnErr r P → OnErr r Q → (P → Q → R) → OnErr r R
+on_err_two (Ok x) p q f = tt
+on_err_two (Err e) p q f = f p q

@@ -1,0 +1,83 @@
+use Rattle.std.proofs.Common.{◌≡◌, ◌-◌, ◌<◌, ◌≤◌, inr, ◌++◌, min, length, take, drop, sym, ap, subst, ◌∙◌, arith, length-append, length-take, length-drop, take_all}
+use Rattle.std.proofs.lemmas.List.{take-take}
+use Rattle.std.proofs.lemmas.Result.{on_err_weaker}
+use Rattle.tinyvec_array.specs.Clones.{RefusedAt}
+use Rattle.tinyvec_array.proofs.CloneLemmas.{on_err}
+use Rattle.tinyvec.specs.Tiny.{tiny_items}
+use Rattle.tinyvec.proofs.TinyLemmas.{tiny_slots_grown, on_ok_two, on_err_two}
+use Rattle.tinyvec.proofs.RefusedLemmas.{refused_in_front, refused_behind, partly_over, partly_behind, place_kept, place_then}
+use Rattle.tinyvec.proofs.tiny_vec.TinyVec.clone_from.Goals as goal
+
+pub returns-then-count-len-clause-refused : goal.returns-then-count-len-clause-refused
+returns-then-count-len-clause-refused g c =
+    let olds = tiny_items c.args.self.now in
+    let xs = tiny_items c.args.source.now in
+    let new = c.overwrite.new.self in
+    let is_len = c.len-len.ensures.value in
+    let is_count = c.len-count.ensures.value in
+    let le = c.if-count-len.true in
+    let least : c.len-count.result ≡ min (length olds) (length xs) = omega arith in
+    on_err_weaker c.overwrite.result (λ h.
+    let below : h.0 < length xs = rw c.as_slice.ensures at h.1.0 in
+    inr (
+      place_kept _ _ _ _ (c.overwrite.ensures.frame.2 ∙ c.truncate.ensures.place) (omega (arith, c.len-len.ensures.fits)),
+      partly_over g.A.Item.Clone.is_infallible xs olds (tiny_items new) _ h.0 (omega arith) (rw c.as_slice.ensures at h.1)
+          (h.2 ∙ ap (λ l. take h.0 l ++ drop h.0 (tiny_items c.truncate.new.self)) c.as_slice.ensures
+          ∙ ap (λ l. take h.0 xs ++ drop h.0 l) (c.truncate.ensures.items ∙ ap (λ n. take n olds) least)),
+    ))
+    c.overwrite.ensures.refused
+
+pub returns-in_err-overwrite-clause-refused : goal.returns-in_err-overwrite-clause-refused
+returns-in_err-overwrite-clause-refused g c =
+    let olds = tiny_items c.args.self.now in
+    let xs = tiny_items c.args.source.now in
+    let new = c.overwrite-2.new.self in
+    let n = c.len-len.result in
+    let is_len = c.len-len.ensures.value in
+    let is_count = c.len-count.ensures.value in
+    let more = c.if-count-len.false in
+    let h = rw c.as_slice-2.ensures at c.in_err-overwrite.ensures.refused in
+    let below = h.1.0 in
+    let front = length-take n xs in
+    let early : h.0 ≤ n = omega (arith, below, front) in
+    let all : take (min (length olds) (length xs)) olds ≡ olds = take_all _ olds (omega arith) in
+    on_err c.from_residual-in_err-overwrite.result (inr (
+      place_then _ _ _ c.reserve.new.self _ _ (omega arith) c.overwrite-2.ensures.frame.2 c.in_ok-reserve.ensures.place,
+      partly_over g.A.Item.Clone.is_infallible xs olds (tiny_items new) _ h.0 (omega arith) (refused_in_front g.A.Item.Clone.is_infallible xs n h.0 h.1)
+          (h.2 ∙ ap (λ l. l ++ drop h.0 (tiny_items c.reserve.new.self)) (take-take h.0 n xs early)
+          ∙ ap (λ l. take h.0 xs ++ drop h.0 l) (c.reserve.ensures.items ∙ sym all)),
+    ))
+
+pub returns-clause-slots : goal.returns-clause-slots
+returns-clause-slots g c =
+    let mid = c.overwrite-2.new.self in
+    let new = c.extend_reserved.new.self in
+    let made = c.extend_reserved.ensures in
+    let frame = c.overwrite-2.ensures.frame in
+    let xs = c.as_slice-3.result.now in
+    let ys = take (length xs - c.len-len.result) (drop c.len-len.result xs) in
+    on_ok_two c.extend_reserved.result made.items made.spare (λ items spare.
+    let long = ap length items ∙ length-append (tiny_items mid) ys in
+    tiny_slots_grown g.A.Item.Default.is_default c.args.self.now c.reserve.new.self new (length ys)
+    c.reserve.ensures.stays (made.place ∙ frame.2) (omega (arith, frame.0)) (spare ∙ ap (drop (length ys)) frame.1))
+
+pub returns-clause-refused : goal.returns-clause-refused
+returns-clause-refused g c =
+    let olds = tiny_items c.args.self.now in
+    let xs = tiny_items c.args.source.now in
+    let mid = c.overwrite-2.new.self in
+    let new = c.extend_reserved.new.self in
+    let n = c.len-len.result in
+    let is_len = c.len-len.ensures.value in
+    let is_count = c.len-count.ensures.value in
+    let more = c.if-count-len.false in
+    let made = c.extend_reserved.ensures in
+    let least : n ≡ min (length olds) (length xs) = omega arith in
+    let others : take (length c.as_slice-3.result.now - n) (drop n c.as_slice-3.result.now) ≡ drop n xs =
+    ap (λ l. take (length l - n) (drop n l)) c.as_slice-3.ensures ∙ take_all (length xs - n) (drop n xs) (omega (arith, length-drop n xs)) in
+    let first : tiny_items mid ≡ take n xs = c.in_ok-overwrite.ensures.ok ∙ ap (take n) c.as_slice-2.ensures in
+    on_err_two c.extend_reserved.result made.refused made.kept (λ h kept. inr (
+      place_then _ _ _ c.reserve.new.self _ _ (omega arith) (made.place ∙ c.overwrite-2.ensures.frame.2) c.in_ok-reserve.ensures.place,
+      rw (← least) (partly_behind g.A.Item.Clone.is_infallible xs olds (tiny_items new) n h.0
+          (refused_behind g.A.Item.Clone.is_infallible xs n h.0 (subst (λ l. RefusedAt g.A.Item.Clone.is_infallible l h.0) others h.1)) (kept ∙ first)),
+    ))

@@ -1,0 +1,17 @@
+use Rattle.std.proofs.Common.{◌≡◌, ◌++◌, length, take, drop, ap, ◌∙◌}
+use Rattle.std.proofs.lemmas.Result.{on_err_weaker}
+use Rattle.tinyvec.specs.Tiny.{tiny_len}
+use Rattle.tinyvec.proofs.TinyLemmas.{tiny_items-with, tiny_framed-with}
+use Rattle.tinyvec.proofs.tiny_vec.TinyVec.overwrite.Goals as goal
+
+pub returns-clause-refused : goal.returns-clause-refused
+returns-clause-refused g c =
+    let v = c.args.self.now in
+    let ws = c.clone_over.new.to in
+    let same = c.as_mut_slice.ensures.value in
+    let long : length ws ≡ tiny_len v = c.clone_over.ensures.len ∙ ap length same in
+    on_err_weaker c.clone_over.result
+    (λ h. (h.0, h.1, tiny_items-with v ws long ∙ h.2 ∙ ap (λ l. take h.0 c.args.source.now ++ drop h.0 l) same)) c.clone_over.ensures.refused
+
+pub returns-clause-frame : goal.returns-clause-frame
+returns-clause-frame g c = tiny_framed-with c.args.self.now c.clone_over.new.to (c.clone_over.ensures.len ∙ ap length c.as_mut_slice.ensures.value)

@@ -1,0 +1,24 @@
+use Rattle.std.proofs.Common.{◌<◌, ◌∷◌, ◌++◌, [], length, take, drop, sym, ap, ◌∙◌, append_assoc, length-set}
+use Rattle.std.proofs.lemmas.List.{drop-drop}
+use Rattle.tinyvec_array.proofs.FillingLemmas.{one_taken, rest_after_one}
+use Rattle.tinyvec.specs.Tiny.{tiny_items}
+use Rattle.tinyvec.proofs.tiny_vec.TinyVec.push_taken.Goals as goal
+
+pub loop-i-preserved : goal.loop-i-preserved
+loop-i-preserved g c =
+    let at = c.loop-i in
+    let i = at.i in
+    let inv = at.invariant in
+    let first = c.args.from.now in
+    let d = c.take.new.dest in
+    let put = c.push_reserved.ensures in
+    let within : i < length first = c.loop-i-test.true in
+    let taken = c.take.ensures.value ∙ sym c.index-from-i.is in (
+      put.items ∙ ap (λ l. l ++ c.take.result ∷ []) inv.0 ∙ append_assoc _ (take i first) _
+          ∙ ap (λ l. tiny_items c.args.self.now ++ l) (ap (λ y. take i first ++ y ∷ []) taken ∙ sym (one_taken at.from first i c.index-from-i.result within inv.5 c.index-from-i.is)),
+      put.spare ∙ ap (drop 1) inv.1 ∙ drop-drop 1 i _,
+      put.place ∙ inv.2,
+      put.capacity ∙ inv.3,
+      length-set at.from i d ∙ inv.4,
+      rest_after_one at.from first i d inv.5,
+    )

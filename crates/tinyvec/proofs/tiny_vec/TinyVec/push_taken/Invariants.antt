@@ -1,0 +1,11 @@
+use Rattle.std.proofs.Common.{◌≡◌, ◌++◌, length, take, drop}
+use Rattle.tinyvec.specs.Tiny.{tiny_items, tiny_spare, is_inline, tiny_capacity}
+use Rattle.tinyvec.proofs.tiny_vec.TinyVec.push_taken.Given as goal
+
+abbrev pub invariant-loop-i : goal.invariant-loop-i
+invariant-loop-i g l = (tiny_items l.self ≡ tiny_items l.initial.self ++ take l.i l.initial.from)
+    × (tiny_spare l.self ≡ drop l.i (tiny_spare l.initial.self))
+    × (is_inline l.self ≡ is_inline l.initial.self)
+    × (tiny_capacity g.A.Array.CAPACITY l.self ≡ tiny_capacity g.A.Array.CAPACITY l.initial.self)
+    × (length l.from ≡ length l.initial.from)
+    × (drop l.i l.from ≡ drop l.i l.initial.from)

@@ -1,0 +1,29 @@
+-- What a `TinyVec` ends as, where a `&mut` to its items is returned.
+use Rattle.std.specs.Prelude.{ℕ, List}
+use Rattle.std.specs.Borrow.{Lends, Fml, RattleType, MutBor, Array}
+use Rattle.std.specs.declared.default.Default as Default
+use Rattle.std.specs.Vec as vec
+use Rattle.tinyvec_array.specs.declared.array.Array as Slots
+use Rattle.tinyvec_array.specs.Slots as inline
+use Rattle.tinyvec.specs.declared.tiny_vec.TinyVec.{TinyVec}
+use Rattle.tinyvec.specs.declared.tiny_vec.TinyVec.TheVariants.{Inline, Heap}
+use Rattle.tinyvec.specs.contracts.tiny_vec.TinyVec.{the_row}
+
+-- v after its items were written as a slice, which keeps its length
+abbrev pub tiny_with_items : {A T : Type 0} → TinyVec A T → List T → TinyVec A T
+tiny_with_items (Inline v alloc) xs = Inline (inline.with_items v xs) alloc
+tiny_with_items (Heap v) xs = Heap (vec.with_items v xs)
+
+-- v with its item i set to x
+abbrev pub tiny_with_item : {A T : Type 0} → TinyVec A T → ℕ → T → TinyVec A T
+tiny_with_item (Inline v alloc) i x = Inline (inline.with_slot v i x) alloc
+tiny_with_item (Heap v) i x = Heap (vec.with_item v i x)
+
+module _ (A I : RattleType) (a : Slots.Ghosts A.Denot I.Denot) (d : Default.Ghosts I.Denot) (v : MutBor (TinyVec A.Denot I.Denot)) where
+  -- once the borrow r ends, the items are those that r shows last
+  abbrev pub lends_items : MutBor (List I.Denot) → Fml
+  lends_items r = Lends (the_row A I a d) (Array I 0) v r (tiny_with_items v.now)
+
+  -- once the borrow r ends, item i is what r shows last
+  abbrev pub lends_item : ℕ → MutBor I.Denot → Fml
+  lends_item i r = Lends (the_row A I a d) I v r (tiny_with_item v.now i)

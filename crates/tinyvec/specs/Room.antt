@@ -1,0 +1,36 @@
+-- Calls for room, and moves to the heap. A call and its `try_` form have one word.
+use Rattle.std.specs.Prelude.{◌≡◌, ℕ, ◌+◌, ◌<◌, ◌≤◌, false, Result, IsOk, OnOk, OnErr}
+use Rattle.tinyvec.specs.Tiny.{tiny_items, tiny_len, is_inline, tiny_capacity, IsInline, PlaceRule, TinySlotRule, Unchanged}
+use Rattle.tinyvec.specs.declared.tiny_vec.TinyVec.{TinyVec}
+
+module _ {A T X E : Type 0} where
+  -- a call for room for n more items took `old` to `new`, and was answered so
+  pub record Reserves (D : T → Type 0) (slots n : ℕ) (old new : TinyVec A T) (result : Result X E) : Type 0 where
+    pub items : tiny_items new ≡ tiny_items old
+    pub place : OnOk result (PlaceRule slots (tiny_len old + n) old new)
+    pub slot_rule : TinySlotRule D old new
+    pub stays : IsInline new → new ≡ old
+    pub room : OnOk result (tiny_len old + n ≤ tiny_capacity slots new)
+    pub capacity : tiny_capacity slots old ≤ tiny_capacity slots new
+    -- where there is room no memory is asked for, and a refusal changes nothing
+    pub succeeds : tiny_len old + n ≤ tiny_capacity slots old → IsOk result
+    pub full : OnErr result (tiny_capacity slots old < tiny_len old + n)
+    pub refused : OnErr result (Unchanged old new)
+
+  -- a move to the heap took `old` to `new`, and was answered so
+  pub record MovesToHeap (old new : TinyVec A T) (result : Result X E) : Type 0 where
+    pub items : tiny_items new ≡ tiny_items old
+    pub place : OnOk result (is_inline new ≡ false)
+    -- a list on the heap stays as it is, and a refusal changes nothing
+    pub kept : is_inline old ≡ false → new ≡ old
+    pub succeeds : is_inline old ≡ false → IsOk result
+    pub refused : OnErr result (Unchanged old new)
+
+  -- the same with room for n more items there
+  pub record MovesToHeapWithRoom (slots n : ℕ) (old new : TinyVec A T) (result : Result X E) : Type 0 where
+    pub items : tiny_items new ≡ tiny_items old
+    pub place : OnOk result (is_inline new ≡ false)
+    pub room : OnOk result (tiny_len old + n ≤ tiny_capacity slots new)
+    -- on the heap no memory is asked for where there is room, and a refusal changes nothing
+    pub succeeds : is_inline old ≡ false → tiny_len old + n ≤ tiny_capacity slots old → IsOk result
+    pub refused : OnErr result (Unchanged old new)

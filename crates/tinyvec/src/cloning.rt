@@ -1,0 +1,66 @@
+//! Clones, made one by one.
+ghost use Rattle.std.specs.Prelude.{◌≡◌, ◌+◌, ◌<◌, ◌≤◌, ◌++◌, ℕ, All, length, take, drop, replicate, IsOk, OnOk, OnErr, vec_len, vec_capacity};
+ghost use Rattle.tinyvec_array.specs.Clones.{RefusedAt};
+
+use std::alloc::AllocError;
+
+/// Writes clones of `from` over the first items of `to`.
+pub(crate) fn clone_over<T: Clone>(to: &mut [T], from: &[T]) -> Result<(), AllocError>
+    requires same_len { length from.now ≡ length to.old }
+    requires clones { (x y : T) → T.is_clone x y → y ≡ x }
+    ensures ok { OnOk result (to.new ≡ from.now) }
+    ensures refused { OnErr result ((j : ℕ) × RefusedAt T.is_infallible from.now j × (to.new ≡ take j from.now ++ drop j to.old)) }
+    ensures len { length to.new ≡ length to.old }
+    ensures succeeds { All T.is_infallible from.now → IsOk result }
+{
+    for i in 0..from.len() {
+        to[i] = from[i].clone()?;
+    }
+    Ok(())
+}
+
+/// Appends clones of `from`, where there is room.
+pub(crate) fn push_clones<T: Clone>(heap: &mut Vec<T>, from: &[T]) -> Result<(), AllocError>
+    requires room { vec_len heap.old + length from.now ≤ vec_capacity heap.old }
+    requires clones { (x y : T) → T.is_clone x y → y ≡ x }
+    ensures items { OnOk result (heap.new.items ≡ heap.old.items ++ from.now) }
+    ensures kept { OnErr result (heap.new.items ≡ heap.old.items) }
+    ensures refused { OnErr result ((j : ℕ) × RefusedAt T.is_infallible from.now j) }
+    ensures capacity { vec_capacity heap.new ≡ vec_capacity heap.old }
+    ensures succeeds { All T.is_infallible from.now → IsOk result }
+{
+    let len = heap.len();
+    for i in 0..from.len() {
+        match from[i].clone() {
+            Ok(x) => heap.push_reserved(x),
+            Err(error) => {
+                heap.truncate(len);
+                return Err(error);
+            }
+        }
+    }
+    Ok(())
+}
+
+/// Appends `n` clones of `x`, where there is room.
+pub(crate) fn push_copies<T: Clone>(heap: &mut Vec<T>, n: usize, x: &T) -> Result<(), AllocError>
+    requires room { vec_len heap.old + n ≤ vec_capacity heap.old }
+    requires clones { (x y : T) → T.is_clone x y → y ≡ x }
+    ensures items { OnOk result (heap.new.items ≡ heap.old.items ++ replicate n x.now) }
+    ensures kept { OnErr result (heap.new.items ≡ heap.old.items) }
+    ensures refused { OnErr result (¬ (T.is_infallible x.now)) }
+    ensures capacity { vec_capacity heap.new ≡ vec_capacity heap.old }
+    ensures succeeds { T.is_infallible x.now → IsOk result }
+{
+    let len = heap.len();
+    for _i in 0..n {
+        match x.clone() {
+            Ok(y) => heap.push_reserved(y),
+            Err(error) => {
+                heap.truncate(len);
+                return Err(error);
+            }
+        }
+    }
+    Ok(())
+}

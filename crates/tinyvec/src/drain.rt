@@ -1,0 +1,127 @@
+//! The iterator that moves a range of items out of a vector.
+ghost use Rattle.std.specs.Prelude.{◌≡◌, ◌≤◌, ◌++◌, length, Some, IfSome};
+ghost use Rattle.std.specs.Iterator.{at_most, UpTo};
+ghost use Rattle.std.specs.Iterator.SizeHint.{IsWithinCount};
+ghost use Rattle.std.specs.Iterator.Runs.{YieldsInOrder, YieldsInReverse};
+ghost use Rattle.tinyvec_array.specs.Cut.{IsRangeOf, before, removed, after};
+ghost use Rattle.tinyvec.specs.Tiny.{tiny_items, SameFrame};
+
+use crate::TinyVec;
+use crate::range::resolve;
+use std::iter::FusedIterator;
+use std::ops::RangeBounds;
+use tinyvec_array::Array;
+
+/// Gives the items of a range. When it ends, the vector has the others, in its place.
+pub struct TinyVecDrain<'a, A: Array> {
+    // The first `keep` items stay, and those from `front` up to `back` are still to come.
+    vec: &'a mut TinyVec<A>,
+    keep: usize,
+    front: usize,
+    back: usize,
+}
+
+impl<A: Array> TinyVec<A> {
+    ghost use Rattle.tinyvec.specs.Drain.{drain_items, drain_len, drain_lender, drain_kept, drain_vec, DrainCanStep, DrainSteps, DrainStepsBack, DrainsFromEnds};
+
+    /// Takes the items of the range out of the list, and gives them from both ends.
+    pub fn drain<R: RangeBounds<usize>>(&mut self, range: R) -> TinyVecDrain<'_, A>
+        requires known { R.has_bounds range }
+        requires in_list { IsRangeOf (tiny_items self.old) (R.start_bound range) (R.end_bound range) }
+
+        // The iterator gives the items of the range.
+        ensures rest { drain_items result ≡ removed (tiny_items self.old) (R.start_bound range) (R.end_bound range) }
+        ensures len { drain_len result ≡ length (drain_items result) }
+        ensures ready { DrainCanStep result }
+        ensures runs { YieldsInOrder (DrainSteps {A = A} {T = A.Item}) drain_items }
+        ensures runs_back { YieldsInReverse (DrainStepsBack {A = A} {T = A.Item}) drain_items }
+        ensures both_ends { DrainsFromEnds result }
+
+        // Once it ends, the list is what stood before and after, in its place.
+        ensures same_reference { drain_lender result ≡ self.entry.ghost_name }
+        ensures kept { drain_kept result ≡ before (tiny_items self.old) (R.start_bound range) ++ after (tiny_items self.old) (R.end_bound range) }
+        ensures frame { SameFrame self.old (drain_vec result) }
+    {
+        let len = self.len();
+        let part = resolve(range, len);
+        let keep = len - (part.end - part.start);
+        self.items_to_end(part.start, part.end);
+        TinyVecDrain {
+            vec: self,
+            keep,
+            front: keep,
+            back: len,
+        }
+    }
+}
+
+impl<'a, A: Array> Drop for TinyVecDrain<'a, A> {
+    ghost use Rattle.tinyvec.specs.Drain.{DrainLeaves};
+
+    fn drop(self)
+        ensures { DrainLeaves A.Item.is_default self.entry self.exit.0.now }
+    {
+        let TinyVecDrain {
+            vec,
+            keep,
+            front: _,
+            back: _,
+        } = self;
+        vec.truncate(keep);
+    }
+}
+
+impl<'a, A: Array> Iterator for TinyVecDrain<'a, A> {
+    ghost use Rattle.tinyvec.specs.Drain.{drain_len, DrainCanStep, DrainSteps};
+
+    type Item = A::Item;
+
+    ghost can_next = { DrainCanStep };
+
+    ghost next_gives = { DrainSteps };
+
+    ghost remaining = { λ d. at_most (drain_len d) };
+
+    fn next(&mut self) -> Option<A::Item> {
+        let index = self.front;
+        if index >= self.back {
+            return None;
+        }
+        self.front = index + 1;
+        Some(self.vec.take_at(index))
+    }
+
+    /// Both bounds are the number of items that are left.
+    fn size_hint(&self) -> (usize, Option<usize>)
+        ensures lower { IsWithinCount result.0 (at_most (drain_len self.now)) }
+        ensures upper { IfSome result.1 (UpTo (at_most (drain_len self.now))) }
+        ensures exact { (result.0 ≡ drain_len self.now) × (result.1 ≡ Some (drain_len self.now)) }
+    {
+        let len = self.len();
+        (len, Some(len))
+    }
+}
+
+impl<'a, A: Array> DoubleEndedIterator for TinyVecDrain<'a, A> {
+    ghost use Rattle.tinyvec.specs.Drain.{DrainCanStep, DrainStepsBack};
+
+    ghost can_next_back = { DrainCanStep };
+
+    ghost next_back_gives = { DrainStepsBack };
+
+    fn next_back(&mut self) -> Option<A::Item> {
+        if self.front >= self.back {
+            return None;
+        }
+        self.back -= 1;
+        Some(self.vec.take_at(self.back))
+    }
+}
+
+impl<'a, A: Array> ExactSizeIterator for TinyVecDrain<'a, A> {
+    fn len(&self) -> usize {
+        self.back.saturating_sub(self.front)
+    }
+}
+
+impl<'a, A: Array> FusedIterator for TinyVecDrain<'a, A> {}

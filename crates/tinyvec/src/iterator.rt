@@ -1,0 +1,101 @@
+//! The iterator that moves the items out of a vector which it owns.
+ghost use Rattle.std.specs.Prelude.{◌≡◌, ◌^◌, ◌<◌, ◌≤◌, length, Some, IfSome};
+ghost use Rattle.std.specs.Iterator.{UpTo, item_count};
+ghost use Rattle.std.specs.Iterator.SizeHint.{IsWithinCount};
+ghost use Rattle.tinyvec_array.specs.Iterator.{GivesFirst, GivesLast};
+ghost use Rattle.tinyvec.specs.Tiny.{tiny_items};
+
+use crate::TinyVec;
+use std::iter::FusedIterator;
+use std::marker::Model;
+use tinyvec_array::Array;
+
+/// Gives the items of a vector from both ends.
+#[derive(Drop)]
+pub struct TinyVecIterator<A: Array> {
+    // The items from `front` up to `back` are left. Those that were taken are defaults now.
+    front: usize,
+    back: usize,
+    vec: TinyVec<A>,
+}
+
+impl<A: Array> Model for TinyVecIterator<A> {
+    ghost use Rattle.std.specs.Prelude.{◌≤◌, List, slice_range};
+    ghost use Rattle.tinyvec.specs.Tiny.{tiny_items, tiny_len};
+
+    ghost Value = { List A.Item };
+
+    ghost view = { λ it. slice_range (tiny_items it.vec) it.front it.back };
+
+    ghost invariant = { λ it. (it.front ≤ it.back) × (it.back ≤ tiny_len it.vec) };
+}
+
+impl<A: Array> TinyVecIterator<A> {
+    // Gives the items of `vec`.
+    pub(crate) fn over(vec: TinyVec<A>) -> Self
+        ensures items { result ≡ tiny_items vec }
+        ensures bound { length result < 2 ^ 64 }
+    {
+        let back = vec.len();
+        TinyVecIterator {
+            front: 0,
+            back,
+            vec,
+        }
+    }
+
+    /// The items that are left.
+    pub fn as_slice(&self) -> &[A::Item]
+        ensures { result.now ≡ self.now }
+    {
+        &self.vec.as_slice()[self.front..self.back]
+    }
+}
+
+impl<A: Array> Iterator for TinyVecIterator<A> {
+    type Item = A::Item;
+
+    ghost next_gives = { GivesFirst };
+
+    ghost remaining = { item_count (λ left. left) };
+
+    fn next(&mut self) -> Option<A::Item> {
+        let index = self.front;
+        if index == self.back {
+            return None;
+        }
+        self.front = index + 1;
+        Some(self.vec.take_at(index))
+    }
+
+    /// Both bounds are the number of items that are left.
+    fn size_hint(&self) -> (usize, Option<usize>)
+        ensures lower { IsWithinCount result.0 (item_count (λ left. left) self.now) }
+        ensures upper { IfSome result.1 (UpTo (item_count (λ left. left) self.now)) }
+        ensures exact { (result.0 ≡ length self.now) × (result.1 ≡ Some (length self.now)) }
+    {
+        let len = self.len();
+        (len, Some(len))
+    }
+}
+
+impl<A: Array> DoubleEndedIterator for TinyVecIterator<A> {
+    ghost next_back_gives = { GivesLast };
+
+    fn next_back(&mut self) -> Option<A::Item> {
+        if self.front == self.back {
+            return None;
+        }
+        let index = self.back - 1;
+        self.back = index;
+        Some(self.vec.take_at(index))
+    }
+}
+
+impl<A: Array> ExactSizeIterator for TinyVecIterator<A> {
+    fn len(&self) -> usize {
+        self.back - self.front
+    }
+}
+
+impl<A: Array> FusedIterator for TinyVecIterator<A> {}

@@ -1,0 +1,20 @@
+//! A vector that lives in an array while its list fits, and then moves to the heap.
+#![tactic(auto)]
+
+mod cloning;
+mod drain;
+mod iterator;
+mod range;
+mod rotation;
+mod tiny_vec;
+
+pub use drain::TinyVecDrain;
+pub use iterator::TinyVecIterator;
+pub use tiny_vec::TinyVec;
+pub use tinyvec_array::{
+    Array, ArrayVec, ArrayVecDrain, ArrayVecIterator, FromIterRest, NoMemory, NoRoom,
+    TryFromSliceError,
+};
+
+#[cfg(test)]
+mod tests;

@@ -1,0 +1,24 @@
+//! The range rule.
+ghost use Rattle.std.specs.Prelude.{◌≡◌};
+ghost use Rattle.tinyvec_array.specs.Cut.{range_start, range_end};
+
+use std::ops::{Bound, Range, RangeBounds};
+
+/// Where the range starts and ends in a list of `len` items. A bound past `usize::MAX` is `usize::MAX`.
+pub(crate) fn resolve<R: RangeBounds<usize>>(range: R, len: usize) -> Range<usize>
+    requires { R.has_bounds range }
+    ensures start { result.start ≡ range_start (R.start_bound range) }
+    ensures end { result.end ≡ range_end (R.end_bound range) len }
+{
+    let start = match range.start_bound() {
+        Bound::Included(first) => *first,
+        Bound::Excluded(before) => before.saturating_add(1),
+        Bound::Unbounded => 0,
+    };
+    let end = match range.end_bound() {
+        Bound::Included(last) => last.saturating_add(1),
+        Bound::Excluded(end) => *end,
+        Bound::Unbounded => len,
+    };
+    start..end
+}

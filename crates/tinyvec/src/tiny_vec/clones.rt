@@ -1,0 +1,95 @@
+//! Clones of lists.
+ghost use Rattle.std.specs.Prelude.{◌≡◌, ◌-◌, ◌<◌, ◌≤◌, ◌↔◌, ◌++◌, ℕ, All, min, length, take, drop, IfOk, OnOk, OnErr, IsOk};
+ghost use Rattle.tinyvec_array.specs.Slots.{AreDefaults};
+ghost use Rattle.tinyvec_array.specs.Clones.{RefusedAt};
+ghost use Rattle.tinyvec.specs.Tiny.{tiny_items, tiny_len, tiny_spare, is_inline, tiny_capacity, IsInline, PlaceRule, TinySlotRule, SameFrame};
+ghost use Rattle.tinyvec.specs.Growth.{RefusedFor, PartlyCloned};
+
+use crate::TinyVec;
+use crate::cloning::clone_over;
+use std::alloc::{AllocError, Global};
+use tinyvec_array::Array;
+
+impl<A: Array> TinyVec<A> {
+    /// A list of clones of the slice's items, inline where they fit the array.
+    pub fn from_slice(alloc: Global, slice: &[A::Item]) -> Result<Self, AllocError>
+    where
+        A::Item: Clone,
+        requires clones { (x y : A.Item) → A.Item.is_clone x y → y ≡ x }
+        ensures items { IfOk result (λ v. tiny_items v ≡ slice.now) }
+        ensures spare { IfOk result (λ v. IsInline v → AreDefaults A.Item.is_default (A.CAPACITY - length slice.now) (tiny_spare v)) }
+        ensures place { IfOk result (λ v. IsInline v ↔ (length slice.now ≤ A.CAPACITY)) }
+        ensures refused { OnErr result (length slice.now ≤ A.CAPACITY → (j : ℕ) × RefusedAt A.Item.is_infallible slice.now j) }
+        ensures succeeds { length slice.now ≤ A.CAPACITY → All A.Item.is_infallible slice.now → IsOk result }
+    {
+        let mut vec = Self::with_capacity(alloc, slice.len())?;
+        vec.extend_reserved(slice)?;
+        Ok(vec)
+    }
+
+    /// A vector of clones, in the same place, inline in the spare slots too.
+    pub fn clone(&self) -> Result<Self, AllocError>
+    where
+        A::Item: Clone,
+        requires clones { (x y : A.Item) → A.Item.is_clone x y → y ≡ x }
+        ensures items { IfOk result (λ v. tiny_items v ≡ tiny_items self.now) }
+        ensures spare { IfOk result (λ v. tiny_spare v ≡ tiny_spare self.now) }
+        ensures place { IfOk result (λ v. is_inline v ≡ is_inline self.now) }
+        ensures refused { OnErr result (IsInline self.now → (j : ℕ) × RefusedAt A.Item.is_infallible (tiny_items self.now ++ tiny_spare self.now) j) }
+        ensures succeeds { IsInline self.now → All A.Item.is_infallible (tiny_items self.now ++ tiny_spare self.now) → IsOk result }
+    {
+        match self {
+            TinyVec::Inline(v, alloc) => {
+                let copy = v.clone()?;
+                Ok(TinyVec::Inline(copy, *alloc))
+            }
+            TinyVec::Heap(v) => {
+                let mut copy = TinyVec::Heap(Vec::with_capacity(*v.allocator(), v.len())?);
+                copy.extend_reserved(v.as_slice())?;
+                Ok(copy)
+            }
+        }
+    }
+
+    // Writes clones of `source` over the items, which are as many.
+    fn overwrite(&mut self, source: &[A::Item]) -> Result<(), AllocError>
+    where
+        A::Item: Clone,
+        requires same_len { length source.now ≡ tiny_len self.old }
+        requires clones { (x y : A.Item) → A.Item.is_clone x y → y ≡ x }
+        ensures ok { OnOk result (tiny_items self.new ≡ source.now) }
+        ensures refused { OnErr result ((j : ℕ) × RefusedAt A.Item.is_infallible source.now j
+            × (tiny_items self.new ≡ take j source.now ++ drop j (tiny_items self.old))) }
+        ensures frame { SameFrame self.old self.new }
+        ensures succeeds { All A.Item.is_infallible source.now → IsOk result }
+    {
+        clone_over(self.as_mut_slice(), source)
+    }
+
+    /// Makes the list clones of the other's items. Where memory for a longer one is refused, nothing changes.
+    pub fn clone_from(&mut self, source: &Self) -> Result<(), AllocError>
+    where
+        A::Item: Clone,
+        requires clones { (x y : A.Item) → A.Item.is_clone x y → y ≡ x }
+        ensures items { OnOk result (tiny_items self.new ≡ tiny_items source.now) }
+        ensures place { OnOk result (PlaceRule A.CAPACITY (tiny_len source.now) self.old self.new) }
+        ensures slots { OnOk result (TinySlotRule A.Item.is_default self.old self.new) }
+        ensures capacity { tiny_capacity A.CAPACITY self.old ≤ tiny_capacity A.CAPACITY self.new }
+
+        // Where there is room no memory is asked for but by clones.
+        ensures succeeds { tiny_len source.now ≤ tiny_capacity A.CAPACITY self.old → All A.Item.is_infallible (tiny_items source.now) → IsOk result }
+        ensures refused { OnErr result (RefusedFor A.CAPACITY (tiny_len source.now)
+            (PartlyCloned A.Item.is_infallible (tiny_items source.now) (tiny_items self.old) (tiny_items self.new) (min (tiny_len self.old) (tiny_len source.now)))
+            self.old self.new) }
+    {
+        let len = self.len();
+        let count = source.len();
+        if count <= len {
+            self.truncate(count);
+            return self.overwrite(source.as_slice());
+        }
+        self.reserve(count - len)?;
+        self.overwrite(&source.as_slice()[..len])?;
+        self.extend_reserved(&source.as_slice()[len..])
+    }
+}

@@ -1,0 +1,79 @@
+//! Room asked for.
+ghost use Rattle.std.specs.Prelude.{◌≡◌, ◌+◌, ◌*◌, ◌<◌, ◌≤◌, max, false, OnOk, OnErr};
+ghost use Rattle.tinyvec.specs.Tiny.{tiny_items, tiny_len, is_inline, tiny_capacity, IsInline, Unchanged};
+ghost use Rattle.tinyvec.specs.Room.{Reserves};
+
+use crate::TinyVec;
+use std::alloc::AllocError;
+use tinyvec_array::Array;
+
+impl<A: Array> TinyVec<A> {
+    // Makes room for one item more, where there is none. An inline list asks for room for twice as many items.
+    #[cold]
+    #[inline(never)]
+    pub(crate) fn grow_one(&mut self) -> Result<(), AllocError>
+        requires { tiny_capacity A.CAPACITY self.old ≤ tiny_len self.old }
+        ensures items { tiny_items self.new ≡ tiny_items self.old }
+        ensures place { OnOk result (is_inline self.new ≡ false) }
+        ensures room { OnOk result (tiny_len self.old < tiny_capacity A.CAPACITY self.new) }
+        ensures asked { OnOk result (IsInline self.old
+            → max (2 * tiny_len self.old) (tiny_len self.old + 1) ≤ tiny_capacity A.CAPACITY self.new) }
+        ensures capacity { tiny_capacity A.CAPACITY self.old ≤ tiny_capacity A.CAPACITY self.new }
+        ensures refused { OnErr result (Unchanged self.old self.new) }
+    {
+        match self {
+            TinyVec::Inline(v, alloc) => {
+                let len = v.len();
+                let more = if len > usize::MAX - len {
+                    1
+                } else {
+                    len.max(1)
+                };
+                let heap = v.drain_to_vec_and_reserve(*alloc, more)?;
+                *self = TinyVec::Heap(heap);
+                Ok(())
+            }
+            TinyVec::Heap(v) => v.reserve(1),
+        }
+    }
+
+    /// Makes room for `n` items more. A list that has no such room in its array moves to the heap.
+    pub fn reserve(&mut self, n: usize) -> Result<(), AllocError>
+        ensures { Reserves A.Item.is_default A.CAPACITY n self.old self.new result }
+    {
+        match self {
+            TinyVec::Inline(v, alloc) => {
+                if n > v.capacity() - v.len() {
+                    let heap = v.drain_to_vec_and_reserve(*alloc, n)?;
+                    *self = TinyVec::Heap(heap);
+                }
+                Ok(())
+            }
+            TinyVec::Heap(v) => v.reserve(n),
+        }
+    }
+
+    /// The same as `reserve`.
+    pub fn try_reserve(&mut self, n: usize) -> Result<(), AllocError>
+        ensures { Reserves A.Item.is_default A.CAPACITY n self.old self.new result }
+    {
+        self.reserve(n)
+    }
+
+    /// Makes room for `n` items more as `reserve` does, and on the heap for no further ones.
+    pub fn reserve_exact(&mut self, n: usize) -> Result<(), AllocError>
+        ensures { Reserves A.Item.is_default A.CAPACITY n self.old self.new result }
+    {
+        match self {
+            TinyVec::Inline(_, _) => self.reserve(n),
+            TinyVec::Heap(v) => v.reserve_exact(n),
+        }
+    }
+
+    /// The same as `reserve_exact`.
+    pub fn try_reserve_exact(&mut self, n: usize) -> Result<(), AllocError>
+        ensures { Reserves A.Item.is_default A.CAPACITY n self.old self.new result }
+    {
+        self.reserve_exact(n)
+    }
+}
