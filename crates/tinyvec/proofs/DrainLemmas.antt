@@ -3,8 +3,8 @@ use Rattle.std.proofs.Common.{◌≡◌, ℕ, List, Option, Some, None, [], ◌�
 use Rattle.std.specs.Iterator.{YieldsFirst, YieldsLast, SkipsThenYields, Yields}
 use Rattle.std.specs.Iterator.Runs.{YieldsInOrder, YieldsInReverse}
 use Rattle.std.proofs.iter.runs.Sources.{from_front, from_back, as_is, as_is_back}
-use Rattle.tinyvec_array.specs.Ends.{End, front, back, Asks}
-use Rattle.tinyvec_array.proofs.EndsLemmas.{Asks-takes}
+use Rattle.tinyvec_slots.specs.Ends.{End, front, back, Asks}
+use Rattle.tinyvec_slots.proofs.EndsLemmas.{Asks-takes}
 use Rattle.tinyvec.specs.Tiny.{tiny_items, is_inline, tiny_capacity, TinySlotRule, SameFrame}
 use Rattle.tinyvec.specs.Drain.{drain_items, drain_vec, drain_kept, DrainSteps, DrainStepsBack, DrainKeeps, DrainLeaves, DrainsFromEnds}
 use Rattle.tinyvec.specs.declared.tiny_vec.TinyVec.{TinyVec}

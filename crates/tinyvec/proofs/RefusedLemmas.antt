@@ -1,8 +1,8 @@
 -- Lemmas on what refused calls leave.
 use Rattle.std.proofs.Common.{◌≡◌, ℕ, ◌+◌, ◌-◌, ◌≤◌, List, [], ◌++◌, take, drop, slice_range, refl, sym, ap, subst, ◌∙◌, le_refl, arith, rules, append-nil, length-take, length-drop}
 use Rattle.std.proofs.lemmas.List.{get_or-take, get_or-drop}
-use Rattle.tinyvec_array.specs.Clones.{RefusedAt}
-use Rattle.tinyvec_array.proofs.CloneLemmas.{drop_within}
+use Rattle.tinyvec_slots.specs.Clones.{RefusedAt}
+use Rattle.tinyvec_slots.proofs.CloneLemmas.{drop_within}
 use Rattle.tinyvec.specs.Tiny.{is_inline, tiny_capacity, PlaceRule}
 use Rattle.tinyvec.specs.Growth.{PartlyCloned}
 use Rattle.tinyvec.specs.declared.tiny_vec.TinyVec.{TinyVec}

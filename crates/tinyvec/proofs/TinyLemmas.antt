@@ -2,8 +2,8 @@
 use Rattle.std.proofs.Common.{◌≡◌, ℕ, ◌+◌, ◌-◌, ◌<◌, ◌≤◌, replicate, List, [], ◌∷◌, length, drop, ◌++◌, refl, sym, ap, subst, ◌∙◌, take_at, length-set, slice_set, arith, rules}
 use Rattle.std.specs.Prelude.{OnOk, OnErr, Result, Ok, Err}
 use Rattle.std.proofs.lemmas.List.{drop-drop}
-use Rattle.tinyvec_array.specs.Slots.{Slots, SlotRule, items, items_len, spare}
-use Rattle.tinyvec_array.proofs.SlotsLemmas.{slots_used, defaults_are, items-with_items, spare-with_items, items-with_slot, spare-with_slot}
+use Rattle.tinyvec_slots.specs.Slots.{Slots, SlotRule, items, items_len, spare}
+use Rattle.tinyvec_slots.proofs.SlotsLemmas.{slots_used, defaults_are, items-with_items, spare-with_items, items-with_slot, spare-with_slot}
 use Rattle.tinyvec.specs.Tiny.{tiny_items, tiny_len, tiny_spare, is_inline, IsInline, TinySlotRule, SameFrame}
 use Rattle.tinyvec.specs.Lends.{tiny_with_items, tiny_with_item}
 use Rattle.tinyvec.specs.declared.tiny_vec.TinyVec.{TinyVec}

@@ -1,7 +1,7 @@
 -- What a contract sees of a `TinyVecDrain`.
 use Rattle.std.specs.Prelude.{◌≡◌, ℕ, ◌-◌, ◌≤◌, List, [], ◌∷◌, ◌++◌, take, slice_range, Option, MatchOption}
 use Rattle.std.specs.Borrow.{GName}
-use Rattle.tinyvec_array.specs.Ends.{End, TakesFromEnds, Asks}
+use Rattle.tinyvec_slots.specs.Ends.{End, TakesFromEnds, Asks}
 use Rattle.tinyvec.specs.Tiny.{tiny_items, tiny_len, is_inline, tiny_capacity, TinySlotRule, SameFrame}
 use Rattle.tinyvec.specs.declared.tiny_vec.TinyVec.{TinyVec}
 use Rattle.tinyvec.specs.declared.drain.TinyVecDrain.{TinyVecDrain}

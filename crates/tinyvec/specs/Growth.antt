@@ -1,6 +1,6 @@
 -- What a refused call leaves.
 use Rattle.std.specs.Prelude.{◌≡◌, ℕ, ◌+◌, ◌<◌, ◌≤◌, ◌⊎◌, List, ◌++◌, take, slice_range}
-use Rattle.tinyvec_array.specs.Clones.{RefusedAt}
+use Rattle.tinyvec_slots.specs.Clones.{RefusedAt}
 use Rattle.tinyvec.specs.Tiny.{tiny_capacity, PlaceRule, Unchanged}
 use Rattle.tinyvec.specs.declared.tiny_vec.TinyVec.{TinyVec}
 

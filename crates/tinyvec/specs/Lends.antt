@@ -4,7 +4,7 @@ use Rattle.std.specs.Borrow.{Lends, Fml, RattleType, MutBor, Array}
 use Rattle.std.specs.declared.default.Default as Default
 use Rattle.std.specs.Vec as vec
 use Rattle.tinyvec_array.specs.declared.array.Array as Slots
-use Rattle.tinyvec_array.specs.Slots as inline
+use Rattle.tinyvec_slots.specs.Slots as inline
 use Rattle.tinyvec.specs.declared.tiny_vec.TinyVec.{TinyVec}
 use Rattle.tinyvec.specs.declared.tiny_vec.TinyVec.TheVariants.{Inline, Heap}
 use Rattle.tinyvec.specs.contracts.tiny_vec.TinyVec.{the_row}

@@ -1,6 +1,6 @@
 -- What a contract sees of a `TinyVec`: its list, the spare slots behind it, its place, and its room.
 use Rattle.std.specs.Prelude.{◌≡◌, ℕ, ◌≤◌, List, [], length, Bool, true, false, IsTrue, ◌↔◌, vec_capacity, ⊤}
-use Rattle.tinyvec_array.specs.Slots.{SlotRule, items, spare}
+use Rattle.tinyvec_slots.specs.Slots.{SlotRule, items, spare}
 use Rattle.tinyvec.specs.declared.tiny_vec.TinyVec.{TinyVec}
 use Rattle.tinyvec.specs.declared.tiny_vec.TinyVec.TheVariants.{Inline, Heap}
 

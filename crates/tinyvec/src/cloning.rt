@@ -1,6 +1,6 @@
 //! Clones, made one by one.
 ghost use Rattle.std.specs.Prelude.{◌≡◌, ◌+◌, ◌<◌, ◌≤◌, ◌++◌, ℕ, All, length, take, drop, replicate, IsOk, OnOk, OnErr, vec_len, vec_capacity};
-ghost use Rattle.tinyvec_array.specs.Clones.{RefusedAt};
+ghost use Rattle.tinyvec_slots.specs.Clones.{RefusedAt};
 
 use std::alloc::AllocError;
 

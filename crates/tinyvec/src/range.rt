@@ -1,6 +1,6 @@
 //! The range rule.
 ghost use Rattle.std.specs.Prelude.{◌≡◌};
-ghost use Rattle.tinyvec_array.specs.Cut.{range_start, range_end};
+ghost use Rattle.tinyvec_slots.specs.Cut.{range_start, range_end};
 
 use std::ops::{Bound, Range, RangeBounds};
 

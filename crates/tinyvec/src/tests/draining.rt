@@ -1,6 +1,6 @@
 //! Tests of the drain.
 ghost use Rattle.std.specs.Prelude.{◌≤◌};
-ghost use Rattle.tinyvec_array.specs.Cut.{range_start, range_end};
+ghost use Rattle.tinyvec_slots.specs.Cut.{range_start, range_end};
 
 use super::{lies, spares};
 use crate::TinyVec;

@@ -1,7 +1,7 @@
 //! Clones of lists.
 ghost use Rattle.std.specs.Prelude.{◌≡◌, ◌-◌, ◌<◌, ◌≤◌, ◌↔◌, ◌++◌, ℕ, All, min, length, take, drop, IfOk, OnOk, OnErr, IsOk};
-ghost use Rattle.tinyvec_array.specs.Slots.{AreDefaults};
-ghost use Rattle.tinyvec_array.specs.Clones.{RefusedAt};
+ghost use Rattle.tinyvec_slots.specs.Slots.{AreDefaults};
+ghost use Rattle.tinyvec_slots.specs.Clones.{RefusedAt};
 ghost use Rattle.tinyvec.specs.Tiny.{tiny_items, tiny_len, tiny_spare, is_inline, tiny_capacity, IsInline, PlaceRule, TinySlotRule, SameFrame};
 ghost use Rattle.tinyvec.specs.Growth.{RefusedFor, PartlyCloned};
 

@@ -1,7 +1,7 @@
 //! Items put in and taken out at a place.
 ghost use Rattle.std.specs.Prelude.{◌≡◌, ◌+◌, ◌*◌, ◌-◌, ◌<◌, ◌≤◌, max, [], take, drop, insert, remove, slice_index_or, IsOk, OnOk, OnErr, IfOk, IfErr};
 ghost use Rattle.std.specs.List.{swap_remove};
-ghost use Rattle.tinyvec_array.specs.Slots.{AreDefaults};
+ghost use Rattle.tinyvec_slots.specs.Slots.{AreDefaults};
 ghost use Rattle.tinyvec.specs.Tiny.{tiny_items, tiny_len, tiny_spare, is_inline, tiny_capacity, IsInline, PlaceRule, TinySlotRule, Unchanged};
 
 use crate::TinyVec;

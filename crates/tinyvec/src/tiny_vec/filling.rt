@@ -2,8 +2,8 @@
 ghost use Rattle.std.specs.Prelude.{◌≡◌, ◌-◌, ◌≤◌, ◌↔◌, ◌++◌, ◌∷◌, List, max, length, take, Some, MatchResult, IsOk, IfOk, OnOk, OnErr, IfErr};
 ghost use Rattle.std.specs.List.{AppendsResults};
 ghost use Rattle.std.specs.Iterator.{IsFinite, Drains, YieldsThen};
-ghost use Rattle.tinyvec_array.specs.Slots.{AreDefaults};
-ghost use Rattle.tinyvec_array.specs.Filling.{ShowsItems};
+ghost use Rattle.tinyvec_slots.specs.Slots.{AreDefaults};
+ghost use Rattle.tinyvec_slots.specs.Filling.{ShowsItems};
 ghost use Rattle.tinyvec.specs.Tiny.{tiny_items, tiny_len, tiny_spare, tiny_capacity, IsInline, PlaceRule, TinySlotRule, Unchanged};
 
 use crate::TinyVec;

@@ -1,6 +1,6 @@
 //! Growing by clones.
 ghost use Rattle.std.specs.Prelude.{◌≡◌, ◌+◌, ◌-◌, ◌<◌, ◌≤◌, ◌++◌, ℕ, All, max, length, take, drop, replicate, IfErr, IsOk, OnOk, OnErr};
-ghost use Rattle.tinyvec_array.specs.Clones.{RefusedAt};
+ghost use Rattle.tinyvec_slots.specs.Clones.{RefusedAt};
 ghost use Rattle.tinyvec.specs.Tiny.{tiny_items, tiny_len, tiny_spare, is_inline, tiny_capacity, PlaceRule, TinySlotRule};
 ghost use Rattle.tinyvec.specs.Growth.{RefusedFor};
 

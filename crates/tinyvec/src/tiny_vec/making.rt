@@ -1,6 +1,6 @@
 //! Making a `TinyVec`.
 ghost use Rattle.std.specs.Prelude.{◌≡◌, ◌-◌, ◌<◌, ◌≤◌, ◌↔◌, [], take, drop, IsOk, IsErr, IfOk, IfErr, vec_capacity};
-ghost use Rattle.tinyvec_array.specs.Slots.{AreDefaults, items, spare};
+ghost use Rattle.tinyvec_slots.specs.Slots.{AreDefaults, items, spare};
 ghost use Rattle.tinyvec.specs.Tiny.{tiny_items, tiny_spare, tiny_capacity, IsInline};
 
 use crate::TinyVec;

@@ -1,7 +1,7 @@
 //! Moving between the array and the heap.
 ghost use Rattle.std.specs.Prelude.{◌≡◌, ◌+◌, ◌-◌, ◌≤◌, ◌↔◌, false, length, IsOk, IfOk, IfErr, OnOk, OnErr, vec_len, vec_capacity};
 ghost use Rattle.std.specs.Box.{boxed_slice_items};
-ghost use Rattle.tinyvec_array.specs.Slots.{AreDefaults, items, spare};
+ghost use Rattle.tinyvec_slots.specs.Slots.{AreDefaults, items, spare};
 ghost use Rattle.tinyvec.specs.Tiny.{tiny_items, tiny_len, tiny_spare, is_inline, tiny_capacity, IsInline, TinySlotRule};
 ghost use Rattle.tinyvec.specs.Room.{MovesToHeap, MovesToHeapWithRoom};
 

@@ -1,5 +1,5 @@
 use Rattle.std.proofs.Common.{◌≡◌, ap, ◌∙◌, arith, rules, set, get_or, length-set}
-use Rattle.tinyvec_array.proofs.CloneLemmas.{overwrite_next}
+use Rattle.tinyvec_slots.proofs.CloneLemmas.{overwrite_next}
 use Rattle.tinyvec.proofs.cloning.clone_over.Goals as goal
 
 pub loop-i-preserved : goal.loop-i-preserved

@@ -1,5 +1,5 @@
 use Rattle.std.proofs.Common.{refl}
-use Rattle.tinyvec_array.proofs.Lists.{turned}
+use Rattle.tinyvec_slots.proofs.Lists.{turned}
 use Rattle.tinyvec.proofs.rotation.move_to_end.Goals as goal
 
 pub returns : goal.returns

@@ -1,5 +1,5 @@
 use Rattle.std.proofs.Common.{◌<◌, arith}
-use Rattle.tinyvec_array.proofs.Lists.{slice_range_first}
+use Rattle.tinyvec_slots.proofs.Lists.{slice_range_first}
 use Rattle.tinyvec.specs.Tiny.{tiny_items}
 use Rattle.tinyvec.proofs.iterator.TinyVecIteratorIterator.next.Goals as goal
 

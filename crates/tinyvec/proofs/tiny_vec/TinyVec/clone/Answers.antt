@@ -1,8 +1,8 @@
 use Rattle.std.proofs.Common.{◌≡◌, ◌++◌, All, sym, ap, subst, ◌∙◌, rules}
-use Rattle.tinyvec_array.specs.Slots.{all_slots}
-use Rattle.tinyvec_array.specs.Clones.{RefusedAt}
-use Rattle.tinyvec_array.proofs.SlotsLemmas.{slots_are}
-use Rattle.tinyvec_array.proofs.CloneLemmas.{on_err}
+use Rattle.tinyvec_slots.specs.Slots.{all_slots}
+use Rattle.tinyvec_slots.specs.Clones.{RefusedAt}
+use Rattle.tinyvec_slots.proofs.SlotsLemmas.{slots_are}
+use Rattle.tinyvec_slots.proofs.CloneLemmas.{on_err}
 use Rattle.tinyvec.specs.Tiny.{tiny_items, tiny_spare}
 use Rattle.tinyvec.proofs.tiny_vec.TinyVec.clone.Goals as goal
 

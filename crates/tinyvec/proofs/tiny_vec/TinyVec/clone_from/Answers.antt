@@ -1,8 +1,8 @@
 use Rattle.std.proofs.Common.{◌≡◌, ◌-◌, ◌<◌, ◌≤◌, inr, ◌++◌, min, length, take, drop, sym, ap, subst, ◌∙◌, arith, length-append, length-take, length-drop, take_all}
 use Rattle.std.proofs.lemmas.List.{take-take}
 use Rattle.std.proofs.lemmas.Result.{on_err_weaker}
-use Rattle.tinyvec_array.specs.Clones.{RefusedAt}
-use Rattle.tinyvec_array.proofs.CloneLemmas.{on_err}
+use Rattle.tinyvec_slots.specs.Clones.{RefusedAt}
+use Rattle.tinyvec_slots.proofs.CloneLemmas.{on_err}
 use Rattle.tinyvec.specs.Tiny.{tiny_items}
 use Rattle.tinyvec.proofs.TinyLemmas.{tiny_slots_grown, on_ok_two, on_err_two}
 use Rattle.tinyvec.proofs.RefusedLemmas.{refused_in_front, refused_behind, partly_over, partly_behind, place_kept, place_then}

@@ -1,6 +1,6 @@
 use Rattle.std.proofs.Common.{◌≤◌, ◌∷◌, ◌++◌, [], append_assoc, length, sym, ap, ◌∙◌, arith, rules}
 use Rattle.std.proofs.lemmas.List.{length_push}
-use Rattle.tinyvec_array.proofs.FillingLemmas.{drained, refused}
+use Rattle.tinyvec_slots.proofs.FillingLemmas.{drained, refused}
 use Rattle.tinyvec.specs.Tiny.{tiny_items, tiny_len}
 use Rattle.tinyvec.proofs.TinyLemmas.{tiny_slots_then}
 use Rattle.tinyvec.proofs.tiny_vec.TinyVec.extend.Goals as goal

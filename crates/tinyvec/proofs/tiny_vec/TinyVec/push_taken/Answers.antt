@@ -1,6 +1,6 @@
 use Rattle.std.proofs.Common.{◌<◌, ◌∷◌, ◌++◌, [], length, take, drop, sym, ap, ◌∙◌, append_assoc, length-set}
 use Rattle.std.proofs.lemmas.List.{drop-drop}
-use Rattle.tinyvec_array.proofs.FillingLemmas.{one_taken, rest_after_one}
+use Rattle.tinyvec_slots.proofs.FillingLemmas.{one_taken, rest_after_one}
 use Rattle.tinyvec.specs.Tiny.{tiny_items}
 use Rattle.tinyvec.proofs.tiny_vec.TinyVec.push_taken.Goals as goal
 

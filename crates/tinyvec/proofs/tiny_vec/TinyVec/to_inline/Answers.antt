@@ -2,7 +2,7 @@ use Rattle.std.proofs.Common.{◌∷◌, ◌++◌, [], length, ap, ◌∙◌, sy
 use Rattle.std.proofs.lemmas.List.{length_push}
 use Rattle.std.proofs.lemmas.List.Elements.{All-drop}
 use Rattle.std.specs.Vec.Iter.{drain_items}
-use Rattle.tinyvec_array.specs.Slots.{items, spare}
+use Rattle.tinyvec_slots.specs.Slots.{items, spare}
 use Rattle.tinyvec.proofs.tiny_vec.TinyVec.to_inline.Goals as goal
 
 pub loop-x-preserved : goal.loop-x-preserved

@@ -1,7 +1,7 @@
 use Rattle.std.proofs.Common.{◌≡◌, ◌+◌, ◌++◌, length}
 use Rattle.std.specs.Prelude.{All}
 use Rattle.std.specs.Vec.Iter.{drain_items}
-use Rattle.tinyvec_array.specs.Slots.{items, spare}
+use Rattle.tinyvec_slots.specs.Slots.{items, spare}
 use Rattle.tinyvec.proofs.tiny_vec.TinyVec.to_inline.Given as goal
 
 abbrev pub invariant-loop-x : goal.invariant-loop-x

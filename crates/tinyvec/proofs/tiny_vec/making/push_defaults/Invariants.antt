@@ -1,5 +1,5 @@
 use Rattle.std.proofs.Common.{◌≡◌, vec_capacity}
-use Rattle.tinyvec_array.specs.Slots.{AreDefaults}
+use Rattle.tinyvec_slots.specs.Slots.{AreDefaults}
 use Rattle.tinyvec.proofs.tiny_vec.making.push_defaults.Given as goal
 
 abbrev pub invariant-loop-i : goal.invariant-loop-i
