@@ -4,8 +4,6 @@
 mod cloning;
 mod drain;
 mod iterator;
-mod range;
-mod rotation;
 mod tiny_vec;
 
 pub use drain::TinyVecDrain;

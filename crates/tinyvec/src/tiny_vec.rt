@@ -16,11 +16,11 @@ mod making;
 mod moving;
 mod reserving;
 
-use crate::rotation::move_to_end;
 use std::alloc::Global;
 use std::convert::AsSlice;
 use std::mem;
 use tinyvec_array::{Array, ArrayVec};
+use tinyvec_slots::move_to_end;
 
 /// A list in an array, or on the heap once it needed more room than the array has.
 #[derive(Drop)]

@@ -9,6 +9,6 @@ mod resetting;
 
 pub use cloning::{clone_over, clone_through};
 pub use filtering::{dedup_in_front, dedup_keys_in_front, retain_in_front, retain_mut_in_front};
-pub use moving::{last_to, part_to_end};
+pub use moving::{last_to, move_to_end, part_to_end};
 pub use range::resolve;
 pub use resetting::reset;

@@ -5,8 +5,8 @@ ghost use Rattle.std.specs.List.{remove_range};
 /// Up to so many items are turned rather than rotated.
 const FEW: usize = 64;
 
-// Moves the items from `start` up to `end` behind the others.
-fn move_to_end<T>(items: &mut [T], start: usize, end: usize)
+/// Moves the items from `start` up to `end` behind the others.
+pub fn move_to_end<T>(items: &mut [T], start: usize, end: usize)
     requires start_le_end { start ≤ end }
     requires in_bounds { end ≤ length items.old }
     ensures { items.new ≡ remove_range items.old start end ++ slice_range items.old start end }

@@ -1,0 +1,133 @@
+//! Callers of a `TinyVec`: one list, and where it lies.
+ghost use Rattle.std.specs.Prelude.{◌≡◌, ◌+◌, ◌-◌, ◌<◌, ◌≤◌, ◌++◌, ◌∷◌, [], pos, slice_get, slice_set, false, IsTrue, OnOk, OnErr};
+ghost use Rattle.tinyvec_slots.specs.Cut.{IsRangeOf, before, removed, after};
+ghost use Rattle.tinyvec.specs.Tiny.{tiny_items, tiny_len, tiny_spare, is_inline, tiny_capacity, IsInline, TinySlotRule, Unchanged};
+
+use std::alloc::{AllocError, Global};
+use std::ops::RangeBounds;
+use tinyvec::{Array, NoRoom, TinyVec, TinyVecIterator};
+
+/// Pushes that have room take no memory, so they need no test.
+pub fn three(alloc: Global) -> TinyVec<[i32; 4]>
+    ensures items { tiny_items result ≡ pos 1 ∷ pos 2 ∷ pos 3 ∷ [] }
+    ensures place { IsInline result }
+{
+    let mut v: TinyVec<[i32; 4]> = TinyVec::new(alloc);
+    let _one = v.push(1);
+    let _two = v.push(2);
+    let _three = v.push(3);
+    v
+}
+
+/// A full inline list goes to the heap where memory is granted, and else nothing changes.
+pub fn one_too_many<A: Array>(v: &mut TinyVec<A>, x: A::Item) -> bool
+    requires { tiny_len v.old ≡ A.CAPACITY }
+    ensures heap { IsTrue result → is_inline v.new ≡ false }
+    ensures items { IsTrue result → tiny_items v.new ≡ tiny_items v.old ++ x ∷ [] }
+    ensures kept { result ≡ false → Unchanged v.old v.new }
+{
+    v.push(x).is_ok()
+}
+
+/// Once there is room, two pushes succeed.
+pub fn two_more<A: Array>(v: &mut TinyVec<A>, x: A::Item, y: A::Item) -> Result<(), AllocError>
+    ensures items { OnOk result (tiny_items v.new ≡ (tiny_items v.old ++ x ∷ []) ++ y ∷ []) }
+    ensures kept { OnErr result (Unchanged v.old v.new) }
+{
+    v.reserve(2)?;
+    let _first = v.push(x);
+    let _second = v.push(y);
+    Ok(())
+}
+
+/// To the heap and back: the same list, inline where it was inline.
+pub fn there_and_back<A: Array>(v: &mut TinyVec<A>) -> Result<(), AllocError>
+    ensures items { tiny_items v.new ≡ tiny_items v.old }
+    ensures place { IsInline v.old → IsInline v.new }
+{
+    let _len = v.len();
+    v.move_to_the_heap()?;
+    v.shrink_to_fit();
+    Ok(())
+}
+
+/// One item of any vector is written: that item, and nothing else.
+pub fn set<A: Array>(v: &mut TinyVec<A>, i: usize, x: A::Item)
+    requires { i < tiny_len v.old }
+    ensures items { tiny_items v.new ≡ slice_set (tiny_items v.old) i x }
+    ensures spare { tiny_spare v.new ≡ tiny_spare v.old }
+    ensures place { is_inline v.new ≡ is_inline v.old }
+{
+    v[i] = x;
+}
+
+/// Any range of any vector: what stood before and after it is left, in its place.
+pub fn cut<A: Array, R: RangeBounds<usize>>(v: &mut TinyVec<A>, range: R)
+    requires known { R.has_bounds range }
+    requires in_list { IsRangeOf (tiny_items v.old) (R.start_bound range) (R.end_bound range) }
+    ensures items { tiny_items v.new ≡ before (tiny_items v.old) (R.start_bound range) ++ after (tiny_items v.old) (R.end_bound range) }
+    ensures place { is_inline v.new ≡ is_inline v.old }
+    ensures slots { TinySlotRule A.Item.is_default v.old v.new }
+    ensures capacity { tiny_capacity A.CAPACITY v.new ≡ tiny_capacity A.CAPACITY v.old }
+{
+    drop(v.drain(range));
+}
+
+/// The item at `n` of any range of any vector. What was passed over and what was never asked for are gone too.
+pub fn nth_of<A: Array, R: RangeBounds<usize>>(
+    v: &mut TinyVec<A>,
+    range: R,
+    n: usize,
+) -> Option<A::Item>
+    requires known { R.has_bounds range }
+    requires in_list { IsRangeOf (tiny_items v.old) (R.start_bound range) (R.end_bound range) }
+    ensures item { result ≡ slice_get (removed (tiny_items v.old) (R.start_bound range) (R.end_bound range)) n }
+    ensures left { tiny_items v.new ≡ before (tiny_items v.old) (R.start_bound range) ++ after (tiny_items v.old) (R.end_bound range) }
+    ensures place { is_inline v.new ≡ is_inline v.old }
+    ensures slots { TinySlotRule A.Item.is_default v.old v.new }
+    ensures capacity { tiny_capacity A.CAPACITY v.new ≡ tiny_capacity A.CAPACITY v.old }
+{
+    let mut d = v.drain(range);
+    d.nth(n)
+}
+
+/// The last item, of any drain.
+pub fn last_of<A: Array>(v: &mut TinyVec<A>) -> Option<A::Item>
+    ensures { result ≡ slice_get (tiny_items v.old) (tiny_len v.old - 1) }
+{
+    v.drain(..).last()
+}
+
+/// The middle of four, drained: two zeros stand behind what is left.
+pub fn middle_drained(alloc: Global) -> TinyVec<[i32; 4]>
+    ensures items { tiny_items result ≡ pos 1 ∷ pos 4 ∷ [] }
+    ensures place { IsInline result }
+    ensures spare { tiny_spare result ≡ pos 0 ∷ pos 0 ∷ [] }
+{
+    let mut v = TinyVec::from_array_len(alloc, [1, 2, 3, 4], 4);
+    {
+        let mut d = v.drain(1..3);
+        let _two = d.next();
+    }
+    v
+}
+
+/// The list cut in two and joined again is the same list.
+pub fn cut_and_joined<A: Array>(v: &mut TinyVec<A>, at: usize) -> Result<(), AllocError>
+    requires { at ≤ tiny_len v.old }
+    ensures { OnOk result (tiny_items v.new ≡ tiny_items v.old) }
+{
+    let mut tail = v.split_off(at)?;
+    v.append(&mut tail)
+}
+
+/// Moves all items to an empty vector. Where memory is refused for one, that item and the others come back.
+pub fn moved_by_iterator<A: Array>(
+    from: TinyVec<A>,
+    to: &mut TinyVec<A>,
+) -> Result<(), NoRoom<A::Item, TinyVecIterator<A>>>
+    requires { tiny_items to.old ≡ [] }
+    ensures { OnOk result (tiny_items to.new ≡ tiny_items from) }
+{
+    to.extend(from)
+}
