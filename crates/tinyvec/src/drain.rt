@@ -7,11 +7,10 @@ ghost use Rattle.tinyvec_slots.specs.Cut.{IsRangeOf, before, removed, after};
 ghost use Rattle.tinyvec.specs.Tiny.{tiny_items, SameFrame};
 
 use crate::TinyVec;
-
 use std::iter::FusedIterator;
 use std::ops::RangeBounds;
-use tinyvec_slots::resolve;
 use tinyvec_array::Array;
+use tinyvec_slots::resolve;
 
 /// Gives the items of a range. When it ends, the vector has the others, in its place.
 pub struct TinyVecDrain<'a, A: Array> {

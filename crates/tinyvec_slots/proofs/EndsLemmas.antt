@@ -143,6 +143,7 @@ items_given {T} xs word answers left h =
     none : (n : ℕ) → given_items {T = T} (replicate n None) ≡ []
     none zero = refl
     none (suc n) = none n
+
     among : (given : List T) (n : ℕ) → given_items (map Some given ++ replicate n None) ≡ given
     among [] n = none n
     among (x ∷ given) n = ap (λ l. x ∷ l) (among given n)

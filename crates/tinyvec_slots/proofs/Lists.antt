@@ -1,9 +1,9 @@
 -- Facts on parts of a list.
-use Rattle.std.proofs.Common.{◌≡◌, ℕ, suc, ◌+◌, ◌-◌, ◌<◌, ◌≤◌, List, [], ◌∷◌, ◌++◌, length, get_or, take, drop, set, slice_range, sym, ap, ◌∙◌, arith, rules, drop-set-lt, length-set, append_assoc, append-nil, take_at, take_all, length-append, length-drop}
+use Rattle.std.proofs.Common.{◌≡◌, ℕ, suc, ◌+◌, ◌-◌, ◌<◌, ◌≤◌, List, [], ◌∷◌, ◌++◌, length, get_or, take, drop, set, insert, remove, slice_range, sym, ap, ◌∙◌, arith, rules, drop-set-lt, length-set, append_assoc, append-nil, take_at, take_all, length-append, length-drop}
 use Rattle.std.specs.Prelude.{reverse}
-use Rattle.std.proofs.lemmas.List.{same_lists, places, get_or-set_same, get_or_default, drop-drop, drop_more, drop_at, drop_all, length-take-le, length-reverse, reverse-append, reverse-reverse}
+use Rattle.std.proofs.lemmas.List.{same_lists, take-append-le, drop-append-le, places, get_or-set_same, get_or_default, drop-drop, drop_more, drop_at, drop_all, length-take-le, length-reverse, reverse-append, reverse-reverse}
 use Rattle.std.specs.List.{remove_range}
-use Rattle.std.proofs.lemmas.Bool.{cases_eq}
+use Rattle.std.proofs.lemmas.Bool.{cases_eq, cases_lt}
 
 module _ {X : Type 0} where
   -- behind an item that was put at n lie the others but for the first
@@ -118,3 +118,39 @@ module _ {X : Type 0} (xs once twice : List X) (i j n : ℕ) (le : i ≤ j) (wit
       ∙ ap (λ l. (P ++ l) ++ drop n twice) back
       ∙ ap (λ l. (P ++ (F ++ M)) ++ l) ends
       ∙ append-nil (P ++ (F ++ M)) ∙ sym (append_assoc P F M)
+
+-- what is put in is the same after it changed places with the item that it stood before
+pub insert_carried : {X : Type 0} (xs : List X) (i : ℕ) (x y : X) → i < length xs → y ≡ get_or xs i y
+    → insert (set xs i x) (i + 1) y ≡ insert xs i x
+insert_carried xs i x y lt is =
+    let right : drop (i + 1) (set xs i x) ≡ drop (i + 1) xs = drop-set-lt (i + 1) xs i x (omega arith) in
+    let left : take (i + 1) (set xs i x) ≡ take i xs ++ x ∷ [] = same_lists _ _ (search (rules, places)) (λ k e h. grind (arith, places, get_or-set_same, cases_eq k i)) in
+    let rest : drop i xs ≡ y ∷ drop (i + 1) xs = drop_more xs i y lt ∙ ap (λ z. z ∷ drop (i + 1) xs) (sym is) in
+    ap (λ l. l ++ y ∷ drop (i + 1) (set xs i x)) left ∙ append_assoc (take i xs) (x ∷ []) (y ∷ drop (i + 1) (set xs i x))
+    ∙ ap (λ l. take i xs ++ x ∷ y ∷ l) right ∙ ap (λ l. take i xs ++ x ∷ l) (sym rest)
+
+-- the same downwards
+pub insert_carried_down : {X : Type 0} (xs : List X) (i : ℕ) (x y : X) → i < length xs → y ≡ get_or xs i y
+    → insert (set xs i x) i y ≡ insert xs (i + 1) x
+insert_carried_down xs i x y lt is =
+    let long = length-set xs i x in
+    let right : drop i (set xs i x) ≡ x ∷ drop (i + 1) xs = same_lists _ _ (search (rules, places)) (λ k e h. grind (arith, places, get_or-set_same, cases_eq k 0)) in
+    let left : take i (set xs i x) ≡ take i xs = same_lists _ _ (search (rules, places)) (λ k e h. grind (arith, places)) in
+    let more : take (i + 1) xs ≡ take i xs ++ y ∷ [] = same_lists _ _ (search (rules, places)) (λ k e h. grind (arith, places, cases_eq k i, get_or_default xs i e y)) in
+    ap (λ l. l ++ y ∷ drop i (set xs i x)) left ∙ ap (λ l. take i xs ++ y ∷ l) right
+    ∙ sym (append_assoc (take i xs) (y ∷ []) (x ∷ drop (i + 1) xs)) ∙ ap (λ l. l ++ x ∷ drop (i + 1) xs) (sym more)
+
+-- what was put in at i is the item there, and the others are the list
+pub insert_taken : {X : Type 0} (xs : List X) (i : ℕ) (x : X) → i ≤ length xs → x ≡ get_or (insert xs i x) i x
+insert_taken xs i x le = grind (arith, places)
+
+pub insert_removed : {X : Type 0} (xs : List X) (i : ℕ) (x : X) → i ≤ length xs → remove (insert xs i x) i ≡ xs
+insert_removed xs i x le = same_lists _ _ (search (rules, places)) (λ k e h. grind (arith, places, cases_lt k i))
+
+-- a removal leaves what stands behind
+pub remove_in_front : {X : Type 0} (xs : List X) (i : ℕ) (x : X) → i < length xs → remove (xs ++ x ∷ []) i ≡ remove xs i ++ x ∷ []
+remove_in_front xs i x lt =
+    let front : take i (xs ++ x ∷ []) ≡ take i xs = take-append-le i xs (x ∷ []) (omega (arith, lt)) in
+    let back : drop (suc i) (xs ++ x ∷ []) ≡ drop (suc i) xs ++ x ∷ [] = drop-append-le (suc i) xs (x ∷ []) (omega (arith, lt)) in
+    ap (λ l. l ++ drop (suc i) (xs ++ x ∷ [])) front ∙ ap (λ l. take i xs ++ l) back
+    ∙ sym (append_assoc (take i xs) (drop (suc i) xs) (x ∷ []))

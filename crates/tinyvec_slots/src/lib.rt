@@ -1,12 +1,14 @@
 //! What the vectors of this workspace share: the range rule, and what they do to a slice of slots.
 #![tactic(auto)]
 
+mod carrying;
 mod cloning;
 mod filtering;
 mod moving;
 mod range;
 mod resetting;
 
+pub use carrying::{carry_down, carry_up};
 pub use cloning::{clone_over, clone_through};
 pub use filtering::{dedup_in_front, dedup_keys_in_front, retain_in_front, retain_mut_in_front};
 pub use moving::{last_to, move_to_end, part_to_end};

@@ -5,6 +5,10 @@ ghost use Rattle.tinyvec_slots.specs.Slots.{items, spare, items_len, all_slots, 
 
 use crate::slots::{clear, last_slot_to};
 use crate::{Array, ArrayVec};
+use tinyvec_slots::{carry_down, carry_up};
+
+/// Up to so many items are carried over one by one rather than rotated.
+const FEW: usize = 16;
 
 impl<A: Array> ArrayVec<A> {
     /// Puts `x` at `i`, and moves the later items up.
@@ -14,6 +18,12 @@ impl<A: Array> ArrayVec<A> {
         ensures items { items self.new ≡ insert (items self.old) i x }
         ensures spare { spare self.new ≡ drop 1 (spare self.old) }
     {
+        let len = self.len();
+        if len - i <= FEW {
+            let last = carry_up(self.as_mut_slice(), i, x);
+            self.push(last);
+            return;
+        }
         self.push(x);
         let len = self.len();
         last_slot_to(&mut self.array, i, len);
@@ -41,9 +51,26 @@ impl<A: Array> ArrayVec<A> {
         ensures items { items self.new ≡ remove (items self.old) i }
         ensures spare { Frees A.Item.is_default 1 self.old self.new }
     {
-        let _len = self.len();
+        let len = self.len();
+        if len - i <= FEW {
+            return self.remove_by_carrying(i);
+        }
         self.items_to_end(i, i + 1);
         self.take_last()
+    }
+
+    // The same, item by item.
+    fn remove_by_carrying(&mut self, i: usize) -> A::Item
+        requires { i < items_len self.old }
+        ensures value { result ≡ slice_index_or (items self.old) i result }
+        ensures items { items self.new ≡ remove (items self.old) i }
+        ensures spare { Frees A.Item.is_default 1 self.old self.new }
+    {
+        let last = self.take_last();
+        if i == self.len() {
+            return last;
+        }
+        carry_down(self.as_mut_slice(), i, last)
     }
 
     /// Takes the item at `i`, and moves the last one into its place.

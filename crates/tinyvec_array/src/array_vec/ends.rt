@@ -59,7 +59,9 @@ impl<A: Array> ArrayVec<A> {
     {
         let _len = self.len();
         let last = self.len - 1;
+        let item = take_slot(&mut self.array, last);
+        // Written last: the compiler then knows the length in a loop of pops.
         self.len = last;
-        take_slot(&mut self.array, last)
+        item
     }
 }

@@ -7,7 +7,7 @@ pub returns-clause-spare : goal.returns-clause-spare
 returns-clause-spare g c =
     let inside = c.self.inside in
     let slots = g.A.Array.slots inside.array in
-    let after = c.take_slot.ensures.after in
+    let after = c.take_slot-item.ensures.after in
     let one = All-cons g.A.Item.Default.is_default after.0 [] after.1 (All-nil _) in
     let le : inside.len ≤ length slots = search rules in
     let pos : 0 < inside.len = search rules in

@@ -1,0 +1,203 @@
+//! The benchmarks. Each has the loop of the one of the same name in `crates/tinyvec_bench`.
+
+use crate::number::Number;
+use crate::vector::Vector;
+
+/// A new vector, and two pushes.
+#[inline(never)]
+pub fn two_pushes<T: Number, V: Vector<T, N>, const N: usize>(x: u64) -> V {
+    let mut vec = V::new();
+    if N >= 2 {
+        vec.push(T::of(x));
+        vec.push(T::of(x));
+    }
+    vec
+}
+
+/// Pushes until the vector is full, and pops until it is empty.
+#[inline(never)]
+pub fn push_and_pop<T: Number, V: Vector<T, N>, const N: usize>(vec: &mut V, x: u64) -> u64 {
+    vec.set_len(0);
+    push_until_full(vec, x);
+    pop_until_empty(vec)
+}
+
+/// Cuts the list to its first half, and pushes until the vector is full.
+#[inline(never)]
+pub fn truncate_and_refill<T: Number, V: Vector<T, N>, const N: usize>(vec: &mut V, x: u64) -> u64 {
+    vec.truncate(N / 2);
+    push_until_full(vec, x)
+}
+
+fn push_until_full<T: Number, V: Vector<T, N>, const N: usize>(vec: &mut V, x: u64) -> u64 {
+    let mut next = x;
+    while !vec.is_full() {
+        vec.push(T::of(next));
+        next = next.wrapping_add(1);
+    }
+    next
+}
+
+fn pop_until_empty<T: Number, V: Vector<T, N>, const N: usize>(vec: &mut V) -> u64 {
+    let mut sum: u64 = 0;
+    while let Some(y) = vec.pop() {
+        sum = sum.wrapping_add(y.value());
+    }
+    sum
+}
+
+/// Pops an item, and inserts one in front.
+#[inline(never)]
+pub fn insert_front<T: Number, V: Vector<T, N>, const N: usize>(vec: &mut V, x: u64) -> u64 {
+    let Some(last) = vec.pop() else {
+        return 0;
+    };
+    vec.insert(0, T::of(x));
+    last.value()
+}
+
+/// Pops an item, and inserts one in the middle.
+#[inline(never)]
+pub fn insert_middle<T: Number, V: Vector<T, N>, const N: usize>(vec: &mut V, x: u64) -> u64 {
+    let Some(last) = vec.pop() else {
+        return 0;
+    };
+    let middle = vec.as_slice().len() / 2;
+    vec.insert(middle, T::of(x));
+    last.value()
+}
+
+/// Removes the first item, and pushes one.
+#[inline(never)]
+pub fn remove_front<T: Number, V: Vector<T, N>, const N: usize>(vec: &mut V, x: u64) -> u64 {
+    if vec.as_slice().is_empty() {
+        return 0;
+    }
+    let first = vec.remove(0);
+    vec.push(T::of(x));
+    first.value()
+}
+
+/// Removes the item in the middle, and pushes one.
+#[inline(never)]
+pub fn remove_middle<T: Number, V: Vector<T, N>, const N: usize>(vec: &mut V, x: u64) -> u64 {
+    if vec.as_slice().is_empty() {
+        return 0;
+    }
+    let middle = vec.as_slice().len() / 2;
+    let removed = vec.remove(middle);
+    vec.push(T::of(x));
+    removed.value()
+}
+
+/// Swaps the item in the middle out, and pushes one.
+#[inline(never)]
+pub fn swap_remove<T: Number, V: Vector<T, N>, const N: usize>(vec: &mut V, x: u64) -> u64 {
+    if vec.as_slice().is_empty() {
+        return 0;
+    }
+    let middle = vec.as_slice().len() / 2;
+    let removed = vec.swap_remove(middle);
+    vec.push(T::of(x));
+    removed.value()
+}
+
+/// Makes the list the items of `source`, by one copy.
+#[inline(never)]
+pub fn extend_from_slice<T: Number, V: Vector<T, N>, const N: usize>(vec: &mut V, source: &[T]) -> u64 {
+    vec.set_len(0);
+    if source.len() > N {
+        return 0;
+    }
+    vec.extend_from_slice(source);
+    vec.as_slice().len() as u64
+}
+
+/// Makes the list as many numbers from `x` on as fit.
+#[inline(never)]
+pub fn extend_from_range<V: Vector<u64, N>, const N: usize>(vec: &mut V, x: u64) -> u64 {
+    vec.set_len(0);
+    let start = x % 65536;
+    vec.extend(start..start.saturating_add(N as u64));
+    vec.as_slice().len() as u64
+}
+
+/// A clone.
+#[inline(never)]
+pub fn clone_of<T: Number, V: Vector<T, N>, const N: usize>(vec: &V) -> V {
+    vec.clone()
+}
+
+/// Fills the vector, and takes the middle half out.
+#[inline(never)]
+pub fn drain_taken<V: Vector<u64, N>, const N: usize>(vec: &mut V, source: &[u64]) -> u64 {
+    extend_from_slice(vec, source);
+    let len = vec.as_slice().len();
+    let mut sum: u64 = 0;
+    for y in vec.drain(len / 4..len - len / 4) {
+        sum = sum.wrapping_add(y);
+    }
+    sum
+}
+
+/// Fills the vector, and drops the middle half.
+#[inline(never)]
+pub fn drain_dropped<V: Vector<u64, N>, const N: usize>(vec: &mut V, source: &[u64]) -> u64 {
+    extend_from_slice(vec, source);
+    let len = vec.as_slice().len();
+    drop(vec.drain(len / 4..len - len / 4));
+    vec.as_slice().len() as u64
+}
+
+/// Fills the vector, and keeps the odd items.
+#[inline(never)]
+pub fn retain_half<V: Vector<u64, N>, const N: usize>(vec: &mut V, source: &[u64]) -> u64 {
+    extend_from_slice(vec, source);
+    vec.retain(|y| *y % 2 == 1);
+    vec.as_slice().len() as u64
+}
+
+/// Fills the vector with runs, and keeps one of each.
+#[inline(never)]
+pub fn dedup<V: Vector<u64, N>, const N: usize>(vec: &mut V, runs: &[u64]) -> u64 {
+    extend_from_slice(vec, runs);
+    vec.dedup();
+    vec.as_slice().len() as u64
+}
+
+/// Fills three quarters of the vector, and puts `count` numbers in the place of the second quarter.
+#[inline(never)]
+pub fn splice<V: Vector<u64, N>, const N: usize>(vec: &mut V, source: &[u64], count: u64) -> u64 {
+    extend_from_slice(vec, source);
+    let quarter = vec.as_slice().len() / 4;
+    vec.set_len(3 * quarter);
+    vec.splice(quarter..2 * quarter, 0..count);
+    vec.as_slice().len() as u64
+}
+
+/// `x` where the lists are equal.
+#[inline(never)]
+pub fn equal<T: Number, V: Vector<T, N>, const N: usize>(vec: &V, source: &[T], x: u64) -> u64 {
+    if *vec.as_slice() == *source {
+        return x;
+    }
+    0
+}
+
+/// The sum of the items and `x`.
+#[inline(never)]
+pub fn sum<T: Number, V: Vector<T, N>, const N: usize>(vec: &V, x: u64) -> u64 {
+    let mut sum = x;
+    for y in vec.as_slice().iter() {
+        sum = sum.wrapping_add((*y).value());
+    }
+    sum
+}
+
+/// The last item, or 0 where there is none.
+pub fn last<T: Number>(items: &[T]) -> u64 {
+    match items.last() {
+        Some(x) => (*x).value(),
+        None => 0,
+    }
+}

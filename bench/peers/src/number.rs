@@ -1,0 +1,28 @@
+//! What the benchmarks' vectors hold.
+
+/// A number that is made from a `u64` and adds up to one.
+pub trait Number: Copy + Default + PartialEq {
+    fn of(x: u64) -> Self;
+
+    fn value(self) -> u64;
+}
+
+impl Number for u64 {
+    fn of(x: u64) -> u64 {
+        x
+    }
+
+    fn value(self) -> u64 {
+        self
+    }
+}
+
+impl Number for u8 {
+    fn of(x: u64) -> u8 {
+        x as u8
+    }
+
+    fn value(self) -> u64 {
+        self as u64
+    }
+}

@@ -1,0 +1,73 @@
+//! The rows, benchmark by benchmark, at one capacity.
+
+use crate::benchmarks::*;
+use crate::report::Report;
+use crate::slices::*;
+use crate::sources::{pairs, scattered};
+use crate::vector::Vector;
+
+/// Every benchmark of a vector of `u64`.
+pub fn of_words<V: Vector<u64, N>, const N: usize>(report: &Report) {
+    let source = scattered::<u64, N>();
+    let mut vec = V::from_array(source);
+    report.row("two_pushes", N, |x| last(two_pushes::<u64, V, N>(x).as_slice()));
+    report.row("push_and_pop", N, |x| push_and_pop(&mut vec, x));
+    vec = V::from_array(source);
+    report.row("insert_front", N, |x| insert_front(&mut vec, x));
+    report.row("insert_middle", N, |x| insert_middle(&mut vec, x));
+    report.row("remove_front", N, |x| remove_front(&mut vec, x));
+    report.row("remove_middle", N, |x| remove_middle(&mut vec, x));
+    report.row("swap_remove", N, |x| swap_remove(&mut vec, x));
+    report.row("truncate_and_refill", N, |x| truncate_and_refill(&mut vec, x));
+    cuts_of_words::<V, N>(report);
+}
+
+fn cuts_of_words<V: Vector<u64, N>, const N: usize>(report: &Report) {
+    let source = scattered::<u64, N>();
+    let runs = pairs::<N>();
+    let count = N as u64;
+    let mut vec = V::from_array(source);
+    report.row("extend_from_slice", N, |_| extend_from_slice(&mut vec, &source));
+    report.row("extend_from_range", N, |x| extend_from_range(&mut vec, x));
+    report.row("drain_taken", N, |_| drain_taken(&mut vec, &source));
+    report.row("drain_dropped", N, |_| drain_dropped(&mut vec, &source));
+    report.row("retain_half", N, |_| retain_half(&mut vec, &runs));
+    if V::HAS_DEDUP {
+        report.row("dedup", N, |_| dedup(&mut vec, &runs));
+    }
+    if V::HAS_SPLICE {
+        report.row("splice_as_many", N, |_| splice(&mut vec, &source, count / 4));
+        report.row("splice_fewer", N, |_| splice(&mut vec, &source, count / 8));
+        report.row("splice_more", N, |_| splice(&mut vec, &source, count / 2));
+    }
+    vec = V::from_array(source);
+    report.row("clone", N, |_| last(clone_of(&vec).as_slice()));
+    report.row("equal", N, |x| equal(&vec, &source, x));
+    report.row("sum", N, |x| sum(&vec, x));
+}
+
+/// The benchmarks of a vector of `u8`, where the size of an item matters.
+pub fn of_bytes<V: Vector<u8, N>, const N: usize>(report: &Report) {
+    let source = scattered::<u8, N>();
+    let mut vec = V::from_array(source);
+    report.row("bytes_push_and_pop", N, |x| push_and_pop(&mut vec, x));
+    vec = V::from_array(source);
+    report.row("bytes_insert_front", N, |x| insert_front(&mut vec, x));
+    report.row("bytes_remove_front", N, |x| remove_front(&mut vec, x));
+    report.row("bytes_extend_from_slice", N, |_| extend_from_slice(&mut vec, &source));
+    report.row("bytes_clone", N, |_| last(clone_of(&vec).as_slice()));
+    report.row("bytes_equal", N, |x| equal(&vec, &source, x));
+    report.row("bytes_sum", N, |x| sum(&vec, x));
+}
+
+/// The benchmarks of a vector over a lent slice of `u64`.
+pub fn of_slices<const N: usize>(report: &Report) {
+    let source = scattered::<u64, N>();
+    let runs = pairs::<N>();
+    let mut slots = source;
+    report.row("slice_push", N, |x| slice_push(&mut slots, x));
+    report.row("slice_insert", N, |x| slice_insert(&mut slots, x));
+    report.row("slice_remove", N, |x| slice_remove(&mut slots, x));
+    report.row("slice_drain", N, |_| slice_drain(&mut slots, &source));
+    report.row("slice_retain", N, |_| slice_retain(&mut slots, &runs));
+}

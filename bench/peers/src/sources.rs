@@ -1,0 +1,25 @@
+//! The numbers that the lists are filled with.
+
+use crate::number::Number;
+
+/// Numbers that look random.
+pub fn scattered<T: Number, const N: usize>() -> [T; N] {
+    let mut numbers = [T::of(0); N];
+    let mut state: u64 = 1;
+    for slot in numbers.iter_mut() {
+        state = state.wrapping_mul(6364136223846793005).wrapping_add(1442695040888963407);
+        *slot = T::of(state / 4294967296);
+    }
+    numbers
+}
+
+/// Numbers that stand twice each.
+pub fn pairs<const N: usize>() -> [u64; N] {
+    let mut numbers = [0; N];
+    let mut next: u64 = 0;
+    for slot in numbers.iter_mut() {
+        *slot = next / 2;
+        next = next.wrapping_add(1);
+    }
+    numbers
+}

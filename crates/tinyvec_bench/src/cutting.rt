@@ -1,0 +1,54 @@
+//! Parts of a list taken out, replaced, and filtered.
+
+use crate::filling::extend_from_slice;
+use crate::number::Number;
+use tinyvec_array::ArrayVec;
+
+/// Fills the vector, and takes the middle half out.
+#[inline(never)]
+pub fn drain_taken<const N: usize>(vec: &mut ArrayVec<[u64; N]>, source: &[u64]) -> u64 {
+    extend_from_slice(vec, source);
+    let len = vec.len();
+    let mut sum: u64 = 0;
+    for y in vec.drain(len / 4..len - len / 4) {
+        sum = sum.wrapping_add(y);
+    }
+    sum
+}
+
+/// Fills the vector, and drops the middle half.
+#[inline(never)]
+pub fn drain_dropped<const N: usize>(vec: &mut ArrayVec<[u64; N]>, source: &[u64]) -> u64 {
+    extend_from_slice(vec, source);
+    let len = vec.len();
+    drop(vec.drain(len / 4..len - len / 4));
+    vec.len() as u64
+}
+
+/// Fills the vector, and keeps the odd items.
+#[inline(never)]
+pub fn retain_half<const N: usize>(vec: &mut ArrayVec<[u64; N]>, source: &[u64]) -> u64 {
+    extend_from_slice(vec, source);
+    vec.retain(|y| *y % 2 == 1);
+    vec.len() as u64
+}
+
+/// Fills the vector with runs, and keeps one of each.
+#[inline(never)]
+pub fn dedup<const N: usize>(vec: &mut ArrayVec<[u64; N]>, runs: &[u64]) -> u64 {
+    extend_from_slice(vec, runs);
+    vec.dedup();
+    vec.len() as u64
+}
+
+/// Fills three quarters of the vector, and puts `count` numbers in the place of the second quarter.
+#[inline(never)]
+pub fn splice<const N: usize>(vec: &mut ArrayVec<[u64; N]>, source: &[u64], count: u64) -> u64 {
+    extend_from_slice(vec, source);
+    let quarter = vec.len() / 4;
+    vec.set_len(3 * quarter);
+    match vec.splice(quarter..2 * quarter, 0..count).finish() {
+        Ok(()) => vec.len() as u64,
+        Err(_) => 0,
+    }
+}

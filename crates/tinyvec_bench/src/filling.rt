@@ -1,0 +1,42 @@
+//! Vectors filled from elsewhere.
+ghost use Rattle.std.specs.Prelude.{◌≡◌};
+
+use crate::number::Number;
+use tinyvec_array::ArrayVec;
+
+/// Makes the list the items of `source`, by one copy.
+#[inline(never)]
+pub fn extend_from_slice<T: Number, const N: usize>(vec: &mut ArrayVec<[T; N]>, source: &[T]) -> u64
+    requires clones { (x y : T) → T.is_clone x y → y ≡ x }
+{
+    vec.set_len(0);
+    if source.len() > vec.capacity() {
+        return 0;
+    }
+    match vec.extend_from_slice(source) {
+        Ok(()) => vec.len() as u64,
+        Err(_) => 0,
+    }
+}
+
+/// Makes the list as many numbers from `x` on as fit.
+#[inline(never)]
+pub fn extend_from_range<const N: usize>(vec: &mut ArrayVec<[u64; N]>, x: u64) -> u64 {
+    vec.set_len(0);
+    let start = x % 65536;
+    match vec.extend(start..start.saturating_add(N as u64)) {
+        Ok(()) => vec.len() as u64,
+        Err(_) => 0,
+    }
+}
+
+/// A clone.
+#[inline(never)]
+pub fn clone_of<T: Number, const N: usize>(vec: &ArrayVec<[T; N]>) -> ArrayVec<[T; N]>
+    requires clones { (x y : T) → T.is_clone x y → y ≡ x }
+{
+    match vec.clone() {
+        Ok(copy) => copy,
+        Err(_) => ArrayVec::new(),
+    }
+}
