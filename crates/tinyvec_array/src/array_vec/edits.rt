@@ -8,7 +8,7 @@ use crate::{Array, ArrayVec};
 use tinyvec_slots::{carry_down, carry_up};
 
 /// Up to so many items are carried over one by one rather than rotated.
-const FEW: usize = 16;
+const FEW: usize = 64;
 
 impl<A: Array> ArrayVec<A> {
     /// Puts `x` at `i`, and moves the later items up.
