@@ -6,9 +6,9 @@ use Rattle.std.specs.List.{flat_map}
 use Rattle.tinyvec_script.specs.declared.call.End.{End}
 use Rattle.tinyvec_script.specs.declared.call.End.TheVariants.{Front, Back}
 use Rattle.tinyvec_script.specs.declared.call.Call.{Call}
-use Rattle.tinyvec_script.specs.declared.call.Call.TheVariants.{Push, Pop, Insert, Remove, SwapRemove, Truncate, Drain, Splice, SetLen}
+use Rattle.tinyvec_script.specs.declared.call.Call.TheVariants.{Push, Pop, Insert, Remove, SwapRemove, Truncate, Drain, Splice, SetLen, Reserve, Heap, Shrink}
 use Rattle.tinyvec_script.specs.declared.command.Name.{Name}
-use Rattle.tinyvec_script.specs.declared.command.Name.TheVariants.{A, S}
+use Rattle.tinyvec_script.specs.declared.command.Name.TheVariants.{A, S, T}
 
 -- a word of ends, which is a dash where it has no letters
 abbrev pub letter_code : End → ℕ
@@ -35,6 +35,9 @@ spelling (Remove index) = codes "remove " ++ decimal index
 spelling (SwapRemove index) = codes "swap " ++ decimal index
 spelling (Truncate index) = codes "truncate " ++ decimal index
 spelling (SetLen index) = codes "setlen " ++ decimal index
+spelling (Reserve index) = codes "reserve " ++ decimal index
+spelling Heap = codes "heap"
+spelling Shrink = codes "shrink"
 spelling (Drain start end) = codes "drain " ++ (decimal start ++ 32 ∷ decimal end)
 spelling (Splice start end word numbers) = codes "splice " ++ splice_text start end word.items numbers.items
 
@@ -47,6 +50,9 @@ Fits (Remove index) = index < 2 ^ 64
 Fits (SwapRemove index) = index < 2 ^ 64
 Fits (Truncate index) = index < 2 ^ 64
 Fits (SetLen index) = index < 2 ^ 64
+Fits (Reserve index) = index < 2 ^ 64
+Fits Heap = Unit {0}
+Fits Shrink = Unit {0}
 Fits (Drain start end) = (start < 2 ^ 64) × (end < 2 ^ 64)
 Fits (Splice start end word numbers) = (start < 2 ^ 64) × (end < 2 ^ 64) × All (FitsSigned w32) numbers.items
 
@@ -65,10 +71,19 @@ pub record IsSplice (text : List ℕ) (start end : ℕ) (word : List End) (numbe
 abbrev pub name_text : Name → List ℕ
 name_text A = codes "A "
 name_text S = codes "S "
+name_text T = codes "T "
 
 -- which calls a vector has
 abbrev pub Has : Name → Call ℤ → Type 0
 Has S (Splice start end word numbers) = ⊥
+Has T (Splice start end word numbers) = ⊥
+Has T (SetLen index) = ⊥
+Has A (Reserve index) = ⊥
+Has A Heap = ⊥
+Has A Shrink = ⊥
+Has S (Reserve index) = ⊥
+Has S Heap = ⊥
+Has S Shrink = ⊥
 Has name call = Unit {0}
 
 -- the line spells this call of the vector

@@ -8,3 +8,5 @@ pub mod Driving
 pub mod Words
 pub mod Parsed
 pub mod State
+pub mod Place
+pub mod TinyCalls

@@ -5,16 +5,19 @@ use Rattle.tinyvec_slots.specs.Slots.{Slots, split_at}
 use Rattle.tinyvec_script.specs.declared.call.Call.{Call}
 use Rattle.tinyvec_script.specs.declared.call.Answer.{Answer}
 use Rattle.tinyvec_script.specs.declared.command.Name.{Name}
-use Rattle.tinyvec_script.specs.declared.command.Name.TheVariants.{A, S}
+use Rattle.tinyvec_script.specs.declared.command.Name.TheVariants.{A, S, T}
 use Rattle.tinyvec_script.specs.Step.{ArrayStep, SliceStep}
+use Rattle.tinyvec_script.specs.Place.{Tiny, in_array}
+use Rattle.tinyvec_script.specs.TinyCalls.{TinyStep}
 use Rattle.tinyvec_script.specs.Command.{IsCommand}
 use Rattle.tinyvec_script.specs.Parsed.{AsksMemory}
-use Rattle.tinyvec_script.specs.Text.{answer_text, vector_text}
+use Rattle.tinyvec_script.specs.Text.{answer_text, vector_text, tiny_text}
 
--- the vectors of a script: `A` in an array, and `S` in a lent slice
+-- the vectors of a script: `A` in an array, `S` in a lent slice, and `T` in an array or on the heap
 pub record State : Type 0 where
   pub a : Slots ℤ
   pub s : Slots ℤ
+  pub t : Tiny ℤ
 
 -- four zeros, of which none holds the list
 abbrev pub zeros : Slots ℤ
@@ -22,12 +25,13 @@ zeros = split_at 0 (replicate 4 (pos 0))
 
 -- they start as empty lists over four zeros
 abbrev pub start : State
-start = record { a = zeros; s = zeros }
+start = record { a = zeros; s = zeros; t = record { items = []; spare = replicate 4 (pos 0); place = in_array } }
 
--- the vector of a name
-abbrev pub vector : Name → State → Slots ℤ
-vector A state = state.a
-vector S state = state.s
+-- the text of the vector of a name
+abbrev pub text_of : Name → State → List ℕ
+text_of A state = vector_text state.a
+text_of S state = vector_text state.s
+text_of T state = tiny_text state.t
 
 -- what is a default of an `i32`
 abbrev pub IsZero : ℤ → Type 0
@@ -54,14 +58,15 @@ last_line (byte ∷ bytes) = (byte ∷ bytes) ∷ []
 
 -- a call of the vector of that name takes the old vectors to the new, and is answered so
 abbrev pub Steps : Name → State → Call ℤ → Answer ℤ → State → Type 0
-Steps A old call answer new = ArrayStep IsZero 4 old.a call answer new.a × (new.s ≡ old.s)
-Steps S old call answer new = SliceStep IsZero old.s call answer new.s × (new.a ≡ old.a)
+Steps A old call answer new = ArrayStep IsZero 4 old.a call answer new.a × (new.s ≡ old.s) × (new.t ≡ old.t)
+Steps S old call answer new = SliceStep IsZero old.s call answer new.s × (new.a ≡ old.a) × (new.t ≡ old.t)
+Steps T old call answer new = TinyStep IsZero 4 old.t call answer new.t × (new.a ≡ old.a) × (new.s ≡ old.s)
 
 -- What is answered to one line, and the vectors that it leaves: a line that spells a call is answered by a step of its
 -- vector, one for whose letters or numbers memory was refused is `memory` and changes nothing, and any other is `bad` and
 -- changes nothing.
 pub data Answered : State → List ℕ → List ℕ → State → Type 0 where
-  done : {old new : State} {line text : List ℕ} (name : Name) (call : Call ℤ) (answer : Answer ℤ) → IsCommand line name call → Steps name old call answer new → text ≡ answer_text answer ++ codes " " ++ vector_text (vector name new) → Answered old line text new
+  done : {old new : State} {line text : List ℕ} (name : Name) (call : Call ℤ) (answer : Answer ℤ) → IsCommand line name call → Steps name old call answer new → text ≡ answer_text answer ++ codes " " ++ text_of name new → Answered old line text new
   memory : {old new : State} {line text : List ℕ} → AsksMemory line → text ≡ codes "memory" ++ codes " " ++ vector_text old.a → new ≡ old → Answered old line text new
   bad : {old new : State} {line text : List ℕ} → ((name : Name) (call : Call ℤ) → IsCommand line name call → ⊥) → text ≡ codes "bad" → new ≡ old → Answered old line text new
 

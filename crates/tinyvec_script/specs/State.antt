@@ -3,12 +3,13 @@ use Rattle.std.specs.Prelude.{List, ℤ}
 use Rattle.std.specs.Borrow.{MutBor}
 use Rattle.tinyvec_slice.specs.View.{seen_of, seen}
 use Rattle.tinyvec_slice.specs.declared.lent.Lent as Lent
+use Rattle.tinyvec_script.specs.Place.{tiny_of}
 use Rattle.tinyvec_script.specs.Script.{State}
 use Rattle.tinyvec_script.specs.declared.vectors.Vectors.{Vectors}
 
 abbrev pub state_of : {B : Type 0} → Lent.Ghosts B ℤ → Vectors B → State
-state_of g vectors = record { a = vectors.a; s = seen_of g vectors.s }
+state_of g vectors = record { a = vectors.a; s = seen_of g vectors.s; t = tiny_of vectors.t }
 
 -- the same over a lent slice
 abbrev pub held : Vectors (MutBor (List ℤ)) → State
-held vectors = record { a = vectors.a; s = seen vectors.s }
+held vectors = record { a = vectors.a; s = seen vectors.s; t = tiny_of vectors.t }

@@ -7,7 +7,7 @@ use Rattle.tinyvec_slots.specs.Cut.{IsRangeOf, before, removed, after}
 use Rattle.tinyvec_script.specs.Driving.{ArraySplices}
 use Rattle.tinyvec_script.specs.declared.call.End.{End}
 use Rattle.tinyvec_script.specs.declared.call.Call.{Call}
-use Rattle.tinyvec_script.specs.declared.call.Call.TheVariants.{Push, Pop, Insert, Remove, SwapRemove, Truncate, Drain, Splice, SetLen}
+use Rattle.tinyvec_script.specs.declared.call.Call.TheVariants.{Push, Pop, Insert, Remove, SwapRemove, Truncate, Drain, Splice, SetLen, Reserve, Heap, Shrink}
 use Rattle.tinyvec_script.specs.declared.call.Answer.{Answer}
 use Rattle.tinyvec_script.specs.declared.call.Answer.TheVariants as answers
 
@@ -49,6 +49,10 @@ module _ {T : Type 0} (D : T → Type 0) where
       × ArraySpliceStep capacity old start end word.items replacement.items answer new
   ArrayStep capacity old (SetLen n) answers.Done new = (n ≤ capacity) × (new ≡ split_at n (all_slots old))
   ArrayStep capacity old (SetLen n) answers.Range new = (capacity < n) × (new ≡ old)
+  -- it has no such call
+  ArrayStep capacity old (Reserve n) answers.Unfit new = new ≡ old
+  ArrayStep capacity old Heap answers.Unfit new = new ≡ old
+  ArrayStep capacity old Shrink answers.Unfit new = new ≡ old
   -- no other answer is given
   ArrayStep capacity old call answer new = ⊥
 

@@ -1,8 +1,9 @@
 -- The text of a list, of an answer and of a vector.
-use Rattle.std.specs.Prelude.{ℕ, List, ◌++◌, ℤ, codes}
+use Rattle.std.specs.Prelude.{ℕ, List, ◌++◌, ℤ, codes, Bool, true, false}
 use Rattle.std.specs.Fmt.{signed_decimal}
 use Rattle.std.specs.List.{join_by}
 use Rattle.tinyvec_slots.specs.Slots.{Slots, items, spare}
+use Rattle.tinyvec_script.specs.Place.{Tiny, lies_inline}
 use Rattle.tinyvec_script.specs.declared.call.Answer.{Answer}
 use Rattle.tinyvec_script.specs.declared.call.Answer.TheVariants as answers
 
@@ -28,3 +29,15 @@ state_text items spare = list_text items ++ codes " " ++ list_text spare
 -- a vector: its list and its spare slots
 abbrev pub vector_text : Slots ℤ → List ℕ
 vector_text v = state_text (items v) (spare v)
+
+-- where a list lies
+abbrev pub place_text : Bool → List ℕ
+place_text true = codes "inline"
+place_text false = codes "heap"
+
+-- a list and where it lies
+unfoldable pub place_state_text : List ℤ → Bool → List ℕ
+place_state_text items inline = list_text items ++ codes " " ++ place_text inline
+
+abbrev pub tiny_text : Tiny ℤ → List ℕ
+tiny_text v = place_state_text v.items (lies_inline v.place)

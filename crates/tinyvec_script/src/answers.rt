@@ -3,7 +3,7 @@ ghost use Rattle.std.specs.Prelude.{◌≡◌, ◌++◌, ◌∷◌, [], codes};
 ghost use Rattle.std.specs.List.{flat_map};
 ghost use Rattle.std.specs.Fmt.{signed_decimal};
 ghost use Rattle.tinyvec_script.specs.Writes.{Gathers};
-ghost use Rattle.tinyvec_script.specs.Text.{list_text, answer_text, state_text};
+ghost use Rattle.tinyvec_script.specs.Text.{list_text, answer_text, state_text, place_text, place_state_text};
 
 use crate::Answer;
 use crate::decimal::Decimal;
@@ -25,6 +25,22 @@ pub(crate) fn write_line<W: Write>(
     write_answer(gathered, writer, answer)?;
     gathered.put(writer, b" ")?;
     write_state(gathered, writer, items, spare)?;
+    gathered.put(writer, b"\n")
+}
+
+/// The same for a vector that has a place: the answer, the list, and where it lies.
+pub(crate) fn write_tiny_line<W: Write>(
+    gathered: &mut Gathered,
+    writer: &mut Counted<W>,
+    answer: &Answer<i32>,
+    items: &[i32],
+    inline: bool,
+) -> io::Result<()>
+    ensures { Gathers W.contents writer.old gathered.old writer.new gathered.new result (answer_text answer.now ++ codes " " ++ place_state_text items.now inline ++ 10 ∷ []) }
+{
+    write_answer(gathered, writer, answer)?;
+    gathered.put(writer, b" ")?;
+    write_place_state(gathered, writer, items, inline)?;
     gathered.put(writer, b"\n")
 }
 
@@ -72,6 +88,34 @@ fn write_state<W: Write>(
     write_list(gathered, writer, items)?;
     gathered.put(writer, b" ")?;
     write_list(gathered, writer, spare)
+}
+
+/// Writes the list, a blank and the place.
+#[tactic(auto, unfolding(crate::specs::Text::place_state_text))]
+fn write_place_state<W: Write>(
+    gathered: &mut Gathered,
+    writer: &mut Counted<W>,
+    items: &[i32],
+    inline: bool,
+) -> io::Result<()>
+    ensures { Gathers W.contents writer.old gathered.old writer.new gathered.new result (place_state_text items.now inline) }
+{
+    write_list(gathered, writer, items)?;
+    gathered.put(writer, b" ")?;
+    write_place(gathered, writer, inline)
+}
+
+fn write_place<W: Write>(
+    gathered: &mut Gathered,
+    writer: &mut Counted<W>,
+    inline: bool,
+) -> io::Result<()>
+    ensures { Gathers W.contents writer.old gathered.old writer.new gathered.new result (place_text inline) }
+{
+    if inline {
+        return gathered.put(writer, b"inline");
+    }
+    gathered.put(writer, b"heap")
 }
 
 /// Writes a list in brackets.

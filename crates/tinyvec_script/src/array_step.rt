@@ -81,6 +81,9 @@ pub(crate) fn answer_array<A: Array>(
             vec.set_len(n);
             Answer::Done
         }
+        Call::Reserve(_) => Answer::Unfit,
+        Call::Heap => Answer::Unfit,
+        Call::Shrink => Answer::Unfit,
     }
 }
 

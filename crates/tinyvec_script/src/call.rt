@@ -29,6 +29,12 @@ pub enum Call<T> {
     Splice(usize, usize, Vec<End>, Vec<T>),
     /// Moves the border between the items and the spare slots.
     SetLen(usize),
+    /// Makes room for so many items more.
+    Reserve(usize),
+    /// Moves the items to the heap.
+    Heap,
+    /// Moves the items into the array, where they fit.
+    Shrink,
 }
 
 /// What answers a call of a vector of `T`.

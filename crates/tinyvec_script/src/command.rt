@@ -4,7 +4,7 @@ ghost use Rattle.std.specs.Int.{w32};
 ghost use Rattle.std.specs.Fmt.{decimal, signed_decimal};
 ghost use Rattle.tinyvec_script.specs.Command.{IsCall, Has};
 ghost use Rattle.tinyvec_script.specs.Parsed.{IsParsed, IsParsedFor};
-ghost use Rattle.tinyvec_script.specs.declared.command.Name.TheVariants.{A, S};
+ghost use Rattle.tinyvec_script.specs.declared.command.Name.TheVariants.{A, S, T};
 ghost use Rattle.tinyvec_script.specs.declared.call.Call.{Call};
 
 use crate::Call;
@@ -17,6 +17,7 @@ use std::alloc::Global;
 pub(crate) enum Name {
     A,
     S,
+    T,
 }
 
 /// What a line spells.
@@ -41,8 +42,14 @@ pub(crate) fn parse_line(alloc: Global, line: &[u8]) -> Parsed
         return parse_array_call(alloc, text);
     }
     if let Some(text) = line.strip_prefix(b"S ") {
-        return match parse_call(text) {
+        return match parse_slots_call(text) {
             Some(call) => Parsed::Call(Name::S, call),
+            None => Parsed::Bad,
+        };
+    }
+    if let Some(text) = line.strip_prefix(b"T ") {
+        return match parse_tiny_call(text) {
+            Some(call) => Parsed::Call(Name::T, call),
             None => Parsed::Bad,
         };
     }
@@ -56,7 +63,7 @@ fn parse_array_call(alloc: Global, text: &[u8]) -> Parsed
     if let Some(rest) = text.strip_prefix(b"splice ") {
         return parse_array_splice(alloc, rest);
     }
-    match parse_call(text) {
+    match parse_slots_call(text) {
         Some(call) => Parsed::Call(Name::A, call),
         None => Parsed::Bad,
     }
@@ -79,11 +86,41 @@ fn parse_array_splice(alloc: Global, rest: &[u8]) -> Parsed
     Parsed::Call(Name::A, Call::Splice(start, end, word, numbers))
 }
 
-/// The call, but for a splice, that the text spells behind the vector's name.
-fn parse_call(text: &[u8]) -> Option<Call<i32>>
+/// The call of `A` or `S`, but for a splice, that the text spells behind the vector's name.
+fn parse_slots_call(text: &[u8]) -> Option<Call<i32>>
     ensures some { IfSome result (IsCall text.now) }
     ensures has { IfSome result (Has S) }
     ensures none { IfNone result ((call : Call ℤ) → Has S call → IsCall text.now call → ⊥) }
+{
+    if let Some(index) = text.strip_prefix(b"setlen ") {
+        return Some(Call::SetLen(parse_index(index)?));
+    }
+    parse_call(text)
+}
+
+/// The call of `T` that the text spells behind the vector's name.
+fn parse_tiny_call(text: &[u8]) -> Option<Call<i32>>
+    ensures some { IfSome result (IsCall text.now) }
+    ensures has { IfSome result (Has T) }
+    ensures none { IfNone result ((call : Call ℤ) → Has T call → IsCall text.now call → ⊥) }
+{
+    if text == b"heap".as_slice() {
+        return Some(Call::Heap);
+    }
+    if text == b"shrink".as_slice() {
+        return Some(Call::Shrink);
+    }
+    if let Some(index) = text.strip_prefix(b"reserve ") {
+        return Some(Call::Reserve(parse_index(index)?));
+    }
+    parse_call(text)
+}
+
+/// The call that the text spells behind the name of any vector.
+fn parse_call(text: &[u8]) -> Option<Call<i32>>
+    ensures some { IfSome result (IsCall text.now) }
+    ensures has { IfSome result (λ call. Has S call × Has T call) }
+    ensures none { IfNone result ((call : Call ℤ) → Has S call → Has T call → IsCall text.now call → ⊥) }
 {
     if text == b"pop".as_slice() {
         return Some(Call::Pop);
@@ -103,9 +140,6 @@ fn parse_call(text: &[u8]) -> Option<Call<i32>>
     }
     if let Some(index) = text.strip_prefix(b"truncate ") {
         return Some(Call::Truncate(parse_index(index)?));
-    }
-    if let Some(index) = text.strip_prefix(b"setlen ") {
-        return Some(Call::SetLen(parse_index(index)?));
     }
     let (start, end) = parse_two_indices(text.strip_prefix(b"drain ")?)?;
     Some(Call::Drain(start, end))

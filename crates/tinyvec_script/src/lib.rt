@@ -16,9 +16,10 @@ mod slice_step;
 mod splice_text;
 #[cfg(test)]
 mod tests;
+mod tiny_step;
 mod vectors;
 
 pub use call::{Answer, Call, End};
 pub use driving::{Driven, drive_array_splice};
-pub use runs::{run_array, run_slice};
+pub use runs::{run_array, run_slice, run_tiny};
 pub use script::{RunError, run};

@@ -15,6 +15,7 @@ use std::alloc::Global;
 use std::io;
 use std::io::{Read, Write};
 use thiserror::Error;
+use tinyvec::TinyVec;
 use tinyvec_array::ArrayVec;
 use tinyvec_io::Counted;
 use tinyvec_slice::{Lent, SliceVec};
@@ -69,6 +70,7 @@ pub fn run<R: Read, W: Write>(
     let mut vectors = Vectors {
         a: ArrayVec::new(),
         s: SliceVec::from_slice_len(&mut slots, 0),
+        t: TinyVec::new(alloc),
     };
     let mut line = Line::new();
     let mut chunk = [0; CHUNK];
@@ -77,10 +79,10 @@ pub fn run<R: Read, W: Write>(
             return Err(RunError::Read);
         };
         if count == 0 {
-            return match finish(alloc, &mut vectors, &line, writer) {
-                Ok(()) => Ok(()),
-                Err(_) => Err(RunError::Write),
+            let Ok(()) = finish(alloc, &mut vectors, &line, writer) else {
+                return Err(RunError::Write);
             };
+            return Ok(());
         }
         let Ok(()) = answer_chunk(alloc, &mut vectors, &mut line, writer, &chunk[..count]) else {
             return Err(RunError::Write);

@@ -76,6 +76,9 @@ where
             vec.set_len(n);
             Answer::Done
         }
+        Call::Reserve(_) => Answer::Unfit,
+        Call::Heap => Answer::Unfit,
+        Call::Shrink => Answer::Unfit,
     }
 }
 

@@ -8,6 +8,7 @@ use tinyvec_io::Counted;
 mod ends;
 mod slices;
 mod splices;
+mod tiny;
 
 use ends::{Breaks, Fills};
 

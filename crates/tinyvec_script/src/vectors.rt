@@ -1,19 +1,21 @@
 //! The vectors of a script.
 ghost use Rattle.std.specs.Prelude.{◌≡◌, ◌++◌, ◌∷◌, [], codes};
 ghost use Rattle.tinyvec_script.specs.Command.{Has};
-ghost use Rattle.tinyvec_script.specs.Script.{Steps, vector};
-ghost use Rattle.tinyvec_script.specs.Text.{answer_text, vector_text};
+ghost use Rattle.tinyvec_script.specs.Script.{Steps, text_of};
+ghost use Rattle.tinyvec_script.specs.Text.{answer_text};
 ghost use Rattle.tinyvec_script.specs.Writes.{Gathers};
 
-use crate::answers::write_line;
+use crate::answers::{write_line, write_tiny_line};
 use crate::array_step::answer_array;
 use crate::command::Name;
 use crate::gathered::Gathered;
 use crate::slice_step::answer_slice;
+use crate::tiny_step::answer_tiny;
 use crate::{Answer, Call};
 use std::alloc::Global;
 use std::io;
 use std::io::Write;
+use tinyvec::TinyVec;
 use tinyvec_array::ArrayVec;
 use tinyvec_io::Counted;
 use tinyvec_slice::{Lent, SliceVecOver};
@@ -23,6 +25,7 @@ use tinyvec_slice::{Lent, SliceVecOver};
 pub(crate) struct Vectors<B: Lent<Item = i32>> {
     pub a: ArrayVec<[i32; 4]>,
     pub s: SliceVecOver<B>,
+    pub t: TinyVec<[i32; 4]>,
 }
 
 impl<B: Lent<Item = i32>> Vectors<B> {
@@ -35,6 +38,7 @@ impl<B: Lent<Item = i32>> Vectors<B> {
         match name {
             Name::A => answer_array(alloc, &mut self.a, call),
             Name::S => answer_slice(alloc, &mut self.s, call),
+            Name::T => answer_tiny(alloc, &mut self.t, call),
         }
     }
 
@@ -46,7 +50,7 @@ impl<B: Lent<Item = i32>> Vectors<B> {
         answer: &Answer<i32>,
         name: Name,
     ) -> io::Result<()>
-        ensures { Gathers W.contents writer.old gathered.old writer.new gathered.new result (answer_text answer.now ++ codes " " ++ vector_text (vector name (state_of B.Lent self.now)) ++ 10 ∷ []) }
+        ensures { Gathers W.contents writer.old gathered.old writer.new gathered.new result (answer_text answer.now ++ codes " " ++ text_of name (state_of B.Lent self.now) ++ 10 ∷ []) }
     {
         match name {
             Name::A => {
@@ -65,6 +69,15 @@ impl<B: Lent<Item = i32>> Vectors<B> {
                     answer,
                     self.s.as_slice(),
                     self.s.grab_spare_slice(),
+                )
+            }
+            Name::T => {
+                write_tiny_line(
+                    gathered,
+                    writer,
+                    answer,
+                    self.t.as_slice(),
+                    self.t.is_inline(),
                 )
             }
         }

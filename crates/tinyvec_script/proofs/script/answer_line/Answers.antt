@@ -1,13 +1,10 @@
-use Rattle.std.proofs.Common.{◌≡◌, ◌++◌, None, Some, codes, refl, sym, ◌∙◌, subst, arith}
+use Rattle.std.proofs.Common.{◌++◌, codes, refl, sym, ◌∙◌, subst, arith}
 use Rattle.std.proofs.lemmas.Result.{on_ok_weaker}
 use Rattle.tinyvec_script.specs.Text.{answer_text, vector_text}
 use Rattle.tinyvec_script.specs.Parsed.{IsParsed}
-use Rattle.tinyvec_script.specs.Script.{vector}
+use Rattle.tinyvec_script.specs.Script.{text_of}
 use Rattle.tinyvec_script.specs.Script.Answered.{done, memory, bad}
 use Rattle.tinyvec_script.specs.State.{state_of}
-use Rattle.tinyvec_script.specs.declared.call.Answer.TheVariants as answers
-use Rattle.tinyvec_script.specs.declared.command.Name.TheVariants.{A}
-use Rattle.tinyvec_script.specs.declared.command.Parsed.{Parsed}
 use Rattle.tinyvec_script.specs.declared.command.Parsed.TheVariants as parsed
 use Rattle.tinyvec_script.proofs.HistoryLemmas.{kept_is, too_long_kept}
 use Rattle.tinyvec_script.proofs.script.answer_line.Goals as goal
@@ -44,7 +41,7 @@ returns-in-Call-clause-ok g c =
     let answer = c.answer-answered.result in
     let spelled : IsParsed c.in-Some.text.now (parsed.Call name call) = subst (IsParsed c.in-Some.text.now) c.in-Call.is c.parse_line.ensures in
     on_ok_weaker c.write_line-in-Call.result (λ written. (
-      answer_text answer ++ codes " " ++ vector_text (vector name (state_of g.B.Lent c.answer-answered.new.self)),
+      answer_text answer ++ codes " " ++ text_of name (state_of g.B.Lent c.answer-answered.new.self),
       written,
       λ rest k. done name call answer (subst (λ l. IsParsed l (parsed.Call name call)) (kept_is rest c.in-Some.text.now (sym c.in-Some.ensures ∙ k)).0 spelled) c.answer-answered.ensures refl,
     )) c.write_line-in-Call.ensures.0

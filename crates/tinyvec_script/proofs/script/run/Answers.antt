@@ -1,8 +1,10 @@
-use Rattle.std.proofs.Common.{◌≡◌, ◌≤◌, ◌+◌, ◌++◌, List, ℕ, [], Some, length, take, pos, sym, ap, ◌∙◌, arith, append-nil, length-append}
+use Rattle.std.proofs.Common.{◌≡◌, ◌≤◌, ◌+◌, ◌++◌, List, ℕ, [], Some, length, take, replicate, pos, sym, ap, ◌∙◌, arith, append-nil, length-append}
 use Rattle.tinyvec_slots.specs.Slots.{spare, split_at}
 use Rattle.tinyvec_slots.proofs.SlotsLemmas.{defaults_are}
 use Rattle.tinyvec_script.specs.Script.{start, zeros, State, IsZero}
 use Rattle.tinyvec_slice.specs.View.{seen}
+use Rattle.tinyvec_script.specs.Place.{tiny_of}
+use Rattle.tinyvec_script.proofs.PlaceLemmas.{tiny_of-begins}
 use Rattle.tinyvec_script.specs.State.{held}
 use Rattle.std.proofs.KnownBytes.{Appends-nil, Appends-trans, Consumes-nil, Consumes-trans, Consumes-kept}
 use Rattle.tinyvec_script.proofs.HistoryLemmas.{feeds_nothing, feeds_then, complete_lines, whole_script}
@@ -15,8 +17,11 @@ loop-piece-init g c =
     let empty = defaults_are IsZero (pos 0) (λ x h. h) 4 (spare array) c.new.ensures.spare in
     let a_begins : array ≡ zeros = border ∙ ap (split_at 0) (sym (ap spare border) ∙ empty) in
     let s_begins : seen c.from_slice_len.result ≡ zeros = c.from_slice_len.ensures.value in
-    let state : State = record { a = array; s = seen c.from_slice_len.result } in
-    let begins : state ≡ start = λ t. record { a = a_begins t; s = s_begins t } in
+    let tiny = c.new-2 in
+    let tiny_spare = defaults_are IsZero (pos 0) (λ x h. h) 4 _ tiny.ensures.spare in
+    let t_begins : tiny_of tiny.result ≡ start.t = tiny_of-begins tiny.result (replicate 4 (pos 0)) tiny.ensures.items tiny_spare tiny.ensures.place in
+    let state : State = record { a = array; s = seen c.from_slice_len.result; t = tiny_of tiny.result } in
+    let begins : state ≡ start = λ t. record { a = a_begins t; s = s_begins t; t = t_begins t } in
     record {
       so_far = ([], [], Consumes-nil _, Appends-nil _, rw (begins, c.new-line.ensures) (feeds_nothing start (Some [])), omega arith);
       read_grows = omega arith;
@@ -28,8 +33,8 @@ returns-in_default-clause-read g c =
     let s = c.loop-piece.invariant.so_far in
     λ _. (s.0, s.1, Consumes-kept _ _ _ s.0 s.2 c.in_default.ensures.err, s.3, complete_lines s.0 s.1 (held c.loop-piece.vectors) c.loop-piece.line s.4)
 
-pub returns-in-Ok-finish-clause-ok : goal.returns-in-Ok-finish-clause-ok
-returns-in-Ok-finish-clause-ok g c =
+pub returns-then-count-eq0-clause-ok : goal.returns-then-count-eq0-clause-ok
+returns-then-count-eq0-clause-ok g c =
     let s = c.loop-piece.invariant.so_far in
     let f = c.in-Ok-finish.ensures.ok in
     let none : c.in-Ok.count ≡ 0 = c.if-count-eq0.true in

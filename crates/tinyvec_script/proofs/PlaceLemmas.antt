@@ -1,0 +1,43 @@
+-- What is seen of a `TinyVec`, from what its calls tell.
+use Rattle.std.proofs.Common.{◌≡◌, ℕ, ◌≤◌, List, [], refl, rules, arith}
+use Rattle.tinyvec.specs.Tiny.{tiny_items, tiny_spare, tiny_capacity, is_inline, IsInline, PlaceRule, TinySlotRule, Unchanged}
+use Rattle.tinyvec.specs.declared.tiny_vec.TinyVec.{TinyVec}
+use Rattle.tinyvec.specs.declared.tiny_vec.TinyVec.TheVariants.{Inline, Heap}
+use Rattle.tinyvec_script.specs.Place.{place_of, tiny_of, lies_inline, room, in_array, on_heap, Ruled}
+
+module _ {A T : Type 0} where
+  pub place_of-inline : (v : TinyVec A T) → lies_inline (place_of v) ≡ is_inline v
+  place_of-inline (Inline v alloc) = refl
+  place_of-inline (Heap v) = refl
+
+  pub place_of-room : (slots : ℕ) (v : TinyVec A T) → room slots (place_of v) ≡ tiny_capacity slots v
+  place_of-room slots (Inline v alloc) = refl
+  place_of-room slots (Heap v) = refl
+
+  -- a call that changed nothing shows the same
+  pub tiny_of-same : (old new : TinyVec A T) → Unchanged old new → tiny_of new ≡ tiny_of old
+  tiny_of-same (Inline v a) (Inline w b) h = λ t. record { items = h.0 t; spare = h.1 t; place = in_array }
+  tiny_of-same (Inline v a) (Heap w) h = search rules
+  tiny_of-same (Heap v) (Inline w b) h = search rules
+  tiny_of-same (Heap v) (Heap w) h = λ t. record { items = h.0 t; spare = []; place = on_heap (h.3 0 t) }
+
+  -- a vector that begins as an empty list in its array
+  pub tiny_of-begins : (v : TinyVec A T) (xs : List T) → tiny_items v ≡ [] → tiny_spare v ≡ xs → IsInline v
+      → tiny_of v ≡ record { items = []; spare = xs; place = in_array }
+  tiny_of-begins (Inline v a) xs empty behind place = λ t. record { items = empty t; spare = behind t; place = in_array }
+  tiny_of-begins (Heap v) xs empty behind place = search rules
+
+  -- a call that needs no room and keeps the place keeps the place rule
+  pub place_kept : (slots : ℕ) (old new : TinyVec A T) → is_inline new ≡ is_inline old → PlaceRule slots 0 old new
+  place_kept slots (Inline v a) (Inline w b) h = search (rules, arith)
+  place_kept slots (Inline v a) (Heap w) h = search rules
+  place_kept slots (Heap v) (Inline w b) h = search rules
+  place_kept slots (Heap v) (Heap w) h = search (rules, arith)
+
+  -- the three rules, as they are seen
+  pub ruled : (D : T → Type 0) (slots need : ℕ) (old new : TinyVec A T) → PlaceRule slots need old new → TinySlotRule D old new
+      → tiny_capacity slots old ≤ tiny_capacity slots new → Ruled D slots need (tiny_of old) (tiny_of new)
+  ruled D slots need (Inline v a) (Inline w b) place slot keeps = record { place_rule = place; slot_rule = λ i j. slot; keeps_room = keeps }
+  ruled D slots need (Inline v a) (Heap w) place slot keeps = record { place_rule = place; slot_rule = λ i j. search rules; keeps_room = keeps }
+  ruled D slots need (Heap v) (Inline w b) place slot keeps = record { place_rule = place; slot_rule = λ i j. search rules; keeps_room = keeps }
+  ruled D slots need (Heap v) (Heap w) place slot keeps = record { place_rule = place; slot_rule = λ i j. search rules; keeps_room = keeps }

@@ -1,0 +1,53 @@
+-- What a run sees of a `TinyVec`: its list, the spare slots behind it, and where it lies.
+use Rattle.std.specs.Prelude.{◌≡◌, ℕ, ◌-◌, ◌≤◌, List, ◌++◌, length, drop, Bool, true, false, IsTrue, ◌↔◌, vec_capacity}
+use Rattle.tinyvec_slots.specs.Slots.{AreDefaults}
+use Rattle.tinyvec.specs.Tiny.{tiny_items, tiny_spare}
+use Rattle.tinyvec.specs.declared.tiny_vec.TinyVec.{TinyVec}
+use Rattle.tinyvec.specs.declared.tiny_vec.TinyVec.TheVariants as tiny
+
+-- where a list lies: in the array, or on the heap with room for so many items
+pub data Place : Type 0 where
+  in_array : Place
+  on_heap : ℕ → Place
+
+abbrev pub lies_inline : Place → Bool
+lies_inline in_array = true
+lies_inline (on_heap n) = false
+
+-- how many items fit there, if an array has so many slots
+abbrev pub room : ℕ → Place → ℕ
+room slots in_array = slots
+room slots (on_heap n) = n
+
+-- a list, the spare slots behind it, and where it lies
+pub record Tiny (T : Type 0) : Type 0 where
+  pub items : List T
+  pub spare : List T
+  pub place : Place
+
+module _ {A T : Type 0} where
+  abbrev pub place_of : TinyVec A T → Place
+  place_of (tiny.Inline v alloc) = in_array
+  place_of (tiny.Heap v) = on_heap (vec_capacity v)
+
+  -- what is seen of a vector
+  abbrev pub tiny_of : TinyVec A T → Tiny T
+  tiny_of v = record { items = tiny_items v; spare = tiny_spare v; place = place_of v }
+
+module _ {T : Type 0} where
+  abbrev pub count : Tiny T → ℕ
+  count v = length v.items
+
+  abbrev pub Inline : Tiny T → Type 0
+  Inline v = IsTrue (lies_inline v.place)
+
+module _ {T : Type 0} (D : T → Type 0) (slots : ℕ) where
+  -- What a call leaves that was done, needs room for so many items, and moves nothing by its name.
+  pub record Ruled (need : ℕ) (old new : Tiny T) : Type 0 where
+    -- the list is inline exactly where it was inline and the need is within the slots
+    pub place_rule : Inline new ↔ (Inline old × (need ≤ slots))
+    -- slots that the list gave up hold defaults, and it used up those that it grew into
+    pub slot_rule : Inline old → Inline new → (ds : List T) × AreDefaults D (count old - count new) ds
+        × (new.spare ≡ ds ++ drop (count new - count old) old.spare)
+    -- there is no less room
+    pub keeps_room : room slots old.place ≤ room slots new.place

@@ -1,0 +1,61 @@
+-- What a call of a `TinyVec` may be answered, and what it then leaves.
+use Rattle.std.specs.Prelude.{◌≡◌, ℕ, ◌+◌, ◌-◌, ◌<◌, ◌≤◌, ◌↔◌, List, [], ◌∷◌, ◌++◌, take, insert, remove, slice_get, Some, false}
+use Rattle.std.specs.List.{swap_remove}
+use Rattle.std.specs.declared.ops.Bound.TheVariants.{Included, Excluded}
+use Rattle.tinyvec_slots.specs.Slots.{AreDefaults}
+use Rattle.tinyvec_slots.specs.Cut.{IsRangeOf, before, removed, after}
+use Rattle.tinyvec_script.specs.Place.{Tiny, count, Inline, lies_inline, room, Ruled}
+use Rattle.tinyvec_script.specs.declared.call.Call.{Call}
+use Rattle.tinyvec_script.specs.declared.call.Call.TheVariants.{Push, Pop, Insert, Remove, SwapRemove, Truncate, Drain, Splice, SetLen, Reserve, Heap, Shrink}
+use Rattle.tinyvec_script.specs.declared.call.Answer.{Answer}
+use Rattle.tinyvec_script.specs.declared.call.Answer.TheVariants as answers
+
+module _ {T : Type 0} (D : T → Type 0) (slots : ℕ) where
+  -- the items from start up to end were taken out
+  pub record Drained (old : Tiny T) (start end : ℕ) (given : List T) (new : Tiny T) : Type 0 where
+    pub given_are : given ≡ removed old.items (Included start) (Excluded end)
+    pub items_are : new.items ≡ before old.items (Included start) ++ after old.items (Excluded end)
+    pub rules : Ruled D slots 0 old new
+
+  -- A move to the heap left the list there. A list that lay there stays as it is.
+  pub record Moved (old new : Tiny T) : Type 0 where
+    pub items_are : new.items ≡ old.items
+    pub place_is : lies_inline new.place ≡ false
+    pub kept : lies_inline old.place ≡ false → new ≡ old
+
+  -- A move back left the list in the array where it fits, with defaults behind it. An inline list stays as it is.
+  pub record Shrunk (old new : Tiny T) : Type 0 where
+    pub items_are : new.items ≡ old.items
+    pub place_is : Inline new ↔ (count old ≤ slots)
+    pub kept : Inline old → new ≡ old
+    pub spare_are : lies_inline old.place ≡ false → Inline new → AreDefaults D (slots - count old) new.spare
+
+  -- From the old value the call may be answered so, and leave the new value. Want of memory is a case of its own, and comes
+  -- only where there is no such room: of a list that lies in the array only where the need is above the slots.
+  abbrev pub TinyStep : Tiny T → Call T → Answer T → Tiny T → Type 0
+  TinyStep old (Push x) answers.Done new = (new.items ≡ old.items ++ x ∷ []) × Ruled D slots (count old + 1) old new
+  TinyStep old (Push x) answers.Memory new = (count old ≡ room slots old.place) × (new ≡ old)
+  TinyStep old Pop (answers.Some x) new = (old.items ≡ new.items ++ x ∷ []) × Ruled D slots 0 old new
+  TinyStep old Pop answers.None new = (old.items ≡ []) × (new ≡ old)
+  TinyStep old (Insert i x) answers.Done new = (i ≤ count old) × (new.items ≡ insert old.items i x) × Ruled D slots (count old + 1) old new
+  TinyStep old (Insert i x) answers.Range new = (count old < i) × (new ≡ old)
+  TinyStep old (Insert i x) answers.Memory new = (i ≤ count old) × (count old ≡ room slots old.place) × (new ≡ old)
+  TinyStep old (Remove i) (answers.Some x) new = (slice_get old.items i ≡ Some x) × (new.items ≡ remove old.items i) × Ruled D slots 0 old new
+  TinyStep old (Remove i) answers.Range new = (count old ≤ i) × (new ≡ old)
+  TinyStep old (SwapRemove i) (answers.Some x) new = (slice_get old.items i ≡ Some x) × (new.items ≡ swap_remove old.items i x) × Ruled D slots 0 old new
+  TinyStep old (SwapRemove i) answers.Range new = (count old ≤ i) × (new ≡ old)
+  TinyStep old (Truncate n) answers.Done new = (new.items ≡ take n old.items) × Ruled D slots 0 old new
+  TinyStep old (Drain start end) answers.Range new = (IsRangeOf old.items (Included start) (Excluded end) → ⊥) × (new ≡ old)
+  TinyStep old (Drain start end) answers.Memory new = IsRangeOf old.items (Included start) (Excluded end) × (start < end) × (new ≡ old)
+  TinyStep old (Drain start end) (answers.Items given) new = IsRangeOf old.items (Included start) (Excluded end)
+      × Drained old start end given.items new
+  TinyStep old (Reserve n) answers.Done new = (new.items ≡ old.items) × (count old + n ≤ room slots new.place) × Ruled D slots (count old + n) old new
+  TinyStep old (Reserve n) answers.Memory new = (room slots old.place < count old + n) × (new ≡ old)
+  TinyStep old Heap answers.Done new = Moved old new
+  TinyStep old Heap answers.Memory new = Inline old × (new ≡ old)
+  TinyStep old Shrink answers.Done new = Shrunk old new
+  -- it has no such call
+  TinyStep old (Splice start end word replacement) answers.Unfit new = new ≡ old
+  TinyStep old (SetLen n) answers.Unfit new = new ≡ old
+  -- no other answer is given
+  TinyStep old call answer new = ⊥
