@@ -8,6 +8,6 @@ pub mod lending;
 pub mod making;
 pub mod slices;
 pub mod splicing;
-pub mod tiny_vec;
 #[cfg(test)]
 mod tests;
+pub mod tiny_vec;

@@ -333,11 +333,11 @@ fn how_many_are_left(rt: HostRuntime) {
     assert_eq!(rt; splice.next(), Some(2));
     assert_eq!(rt; splice.next_back(), Some(3));
     assert_eq!(rt; splice.len(), 0);
-    for _again in 0..2 {
-        assert_eq!(rt; splice.next(), None);
-        assert_eq!(rt; splice.next_back(), None);
-        assert_eq!(rt; splice.size_hint(), (0, Some(0)));
-    }
+    assert_eq!(rt; splice.next(), None);
+    assert_eq!(rt; splice.next_back(), None);
+    assert_eq!(rt; splice.size_hint(), (0, Some(0)));
+    assert_eq!(rt; splice.next_back(), None);
+    assert_eq!(rt; splice.next(), None);
     assert!(rt; splice.finish().is_ok());
     assert_eq!(rt; v.into_inner(), [1, 7, 8, 9, 5, 6]);
 }
