@@ -13,7 +13,9 @@ pub(crate) fn put<A: Array>(array: &mut A, i: usize, x: A::Item)
     ensures after { A.slots array.new ≡ slice_set (A.slots array.old) i x }
     ensures len { length (A.slots array.old) ≡ A.CAPACITY }
 {
-    array.as_slice_mut()[i] = x;
+    let slots = array.as_slice_mut();
+    let at = below(i, slots.len());
+    slots[at] = x;
 }
 
 /// Takes what the slot at `i` holds, and leaves a default.
@@ -23,7 +25,22 @@ pub(crate) fn take_slot<A: Array>(array: &mut A, i: usize) -> A::Item
     ensures after { (d : A.Item) × A.Item.is_default d × (A.slots array.new ≡ slice_set (A.slots array.old) i d) }
     ensures len { length (A.slots array.old) ≡ A.CAPACITY }
 {
-    mem::take(&mut array.as_slice_mut()[i])
+    let slots = array.as_slice_mut();
+    let at = below(i, slots.len());
+    mem::take(&mut slots[at])
+}
+
+// It is `i`. Of an index in 32 bits the compiler knows that it can't lead round all addresses to the length, which lies in
+// front of the slots. So it keeps the length in a register over a loop of pushes, and makes such a loop vector code.
+#[inline(always)]
+fn below(i: usize, count: usize) -> usize
+    requires { i < count }
+    ensures { result ≡ i }
+{
+    if count > u32::MAX as usize {
+        return i;
+    }
+    i as u32 as usize
 }
 
 /// Writes a default into each slot from `start` up to `end`.

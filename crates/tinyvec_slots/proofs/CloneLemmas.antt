@@ -1,7 +1,9 @@
 -- Lemmas on clones written over slots.
-use Rattle.std.proofs.Common.{◌≡◌, ℕ, ◌+◌, ◌-◌, ◌<◌, ◌≤◌, List, [], ◌∷◌, ◌++◌, length, take, drop, set, get_or, slice_range, sym, ap, ◌∙◌, le_refl, arith, append_assoc, length-take-le, length-append, length-drop, take-append-drop, Result, Ok, Err, OnErr}
-use Rattle.std.proofs.lemmas.List.{drop_more, set_at, drop-drop, drop-append-le, drop-take, take_more, take-take, take_at, drop_at}
-use Rattle.std.proofs.Math.Seq.{take-append-add}
+use Rattle.std.proofs.Common.{◌≡◌, ℕ, ◌+◌, ◌-◌, ◌<◌, ◌≤◌, List, [], ◌∷◌, ◌++◌, length, take, drop, set, get_or, slice_range, sym, ap, subst, ◌∙◌, le_refl, arith, append_assoc, length-take-le, length-append, length-drop, take-append-drop, Result, Ok, Err, OnErr}
+use Rattle.std.proofs.lemmas.List.{drop_more, set_at, drop-drop, drop-append-le, drop-take, take_more, take-take, take_at, drop_at, take_all, get_or-drop}
+use Rattle.std.proofs.Math.Seq.{take-append-add, take-add}
+use Rattle.std.specs.List.{HoldsAt}
+use Rattle.tinyvec_slots.specs.Clones.{RefusedAt}
 use Rattle.tinyvec_slots.specs.Slots.{Slots, SlotRule, all_slots, items, spare, split_at}
 use Rattle.tinyvec_slots.proofs.SlotsLemmas.{slots_used}
 use borrow.Rule.Slice.PartMut.{post_of}
@@ -74,6 +76,62 @@ module _ {X : Type 0} where
   drop_writes ws xs j m long le =
       let ends : m + (j - m) ≡ j = omega arith in
       drop-append-le m ws (drop j xs) (omega arith) ∙ ap (λ l. drop m ws ++ l) (sym (drop-drop (j - m) m xs ∙ ap (λ n. drop n xs) ends))
+
+-- writes over the slots from a on, behind a writes of the first elements of `from`
+module _ {X : Type 0} (from old to part : List X) (a : ℕ) (fits : length from ≤ length old) (long : length to ≡ length old)
+    (within : a ≤ length from) (done : to ≡ take a from ++ drop a old) where
+  abbrev rest : List X
+  rest = take (length from - a) (drop a from)
+
+  abbrev lent : List X
+  lent = take (length to - a) (drop a to)
+
+  abbrev written : List X
+  written = take a to ++ (part ++ post_of a (length to - a) to)
+
+  pub written_further : (k : ℕ) → a + k ≤ length from → part ≡ take k (drop a from) ++ drop k lent
+      → written ≡ take (a + k) from ++ drop (a + k) old
+  written_further k fit is =
+      let front : length (take a from) ≡ a = length-take-le a from within in
+      let start : take a (take a from ++ drop a old) ≡ take a from = take_at (take a from) (drop a old) a front in
+      let end : drop (a + k) (take a from ++ drop a old) ≡ drop (a + k) old =
+      sym (drop-drop k a (take a from ++ drop a old)) ∙ ap (drop k) (drop_at (take a from) (drop a old) a front) ∙ drop-drop k a old in
+      written_part to (take a from ++ drop a old) (take k (drop a from)) part a (length to - a) k done is (omega arith) (omega arith)
+      ∙ ap (λ l. l ++ take k (drop a from) ++ drop (a + k) (take a from ++ drop a old)) start
+      ∙ ap (λ l. take a from ++ take k (drop a from) ++ l) end
+      ∙ ap (λ l. l ++ drop (a + k) old) (sym (take-add a k from))
+
+  rest_len : length rest ≡ length from - a
+  rest_len = length-part from a (length from - a) (omega arith)
+
+  pub rest_whole : rest ≡ drop a from
+  rest_whole = take_all (length from - a) (drop a from) (omega (arith, length-drop a from))
+
+  pub written_block : (k : ℕ) → k ≤ length rest → part ≡ take k rest ++ drop k lent
+      → (a + k ≤ length from) × (written ≡ take (a + k) from ++ drop (a + k) old)
+  written_block k fit is =
+      let fits_behind : a + k ≤ length from = omega (arith, fit, rest_len) in
+      (fits_behind, written_further k fits_behind (is ∙ ap (λ l. take k l ++ drop k lent) rest_whole))
+
+  -- all were written
+  pub written_whole : part ≡ rest ++ drop (length rest) lent → written ≡ from ++ drop (length from) old
+  written_whole is =
+      let all : a + (length from - a) ≡ length from = omega arith in
+      written_further (length from - a) (omega arith) (is ∙ ap (λ n. rest ++ drop n lent) rest_len)
+      ∙ ap (λ n. take n from ++ drop n old) all ∙ ap (λ l. l ++ drop (length from) old) (take_all (length from) from (le_refl _))
+
+  -- a clone was refused
+  pub written_in_part : (I : X → Type 0) → (j : ℕ) × RefusedAt I rest j × (part ≡ take j rest ++ drop j lent)
+      → (j : ℕ) × RefusedAt I from j × (written ≡ take j from ++ drop j old)
+  written_in_part I found =
+      let j : ℕ = found.0 in
+      let below : j < length rest = found.1.0 in
+      let refused : HoldsAt (λ x. ¬ (I x)) from (a + j) =
+      λ d. subst (λ x. ¬ (I x)) (ap (λ l. get_or l j d) rest_whole ∙ get_or-drop a from j d) (found.1.1 d) in (
+        a + j,
+        (omega (arith, below, rest_len), refused),
+        (written_block j (omega (arith, below)) found.2).1,
+      )
 
 -- a list that was made longer by writes over its spare slots
 pub grown : {T : Type 0} (D : T → Type 0) (old : Slots T) (ws xs : List T) (n : ℕ) → old.len ≤ length (all_slots old) → old.len + length ws ≡ n

@@ -1,11 +1,40 @@
 //! Clones written into slots.
 ghost use Rattle.std.specs.Prelude.{◌≡◌, ◌<◌, ◌≤◌, ◌++◌, ℕ, All, length, drop, take, replicate, IsOk, OnOk, OnErr};
+ghost use Rattle.std.specs.Bool.{MatchBool};
 ghost use Rattle.tinyvec_slots.specs.Clones.{RefusedAt};
 
 use std::alloc::AllocError;
+use std::mem;
 
 /// Writes clones of `from` over the first slots of `to`.
 pub fn clone_over<T: Clone>(to: &mut [T], from: &[T]) -> Result<(), AllocError>
+    requires fits { length from.now ≤ length to.old }
+    requires clones { (x y : T) → T.is_clone x y → y ≡ x }
+    ensures ok { OnOk result (to.new ≡ from.now ++ drop (length from.now) to.old) }
+    ensures refused { OnErr result ((j : ℕ) × RefusedAt T.is_infallible from.now j × (to.new ≡ take j from.now ++ drop j to.old)) }
+    ensures len { length to.new ≡ length to.old }
+    ensures succeeds { All T.is_infallible from.now → IsOk result }
+{
+    let done = clone_blocks::<T, 16>(to, from);
+    clone_tail(&mut to[done..], &from[done..])
+}
+
+// The same, where few are left.
+fn clone_tail<T: Clone>(to: &mut [T], from: &[T]) -> Result<(), AllocError>
+    requires fits { length from.now ≤ length to.old }
+    requires clones { (x y : T) → T.is_clone x y → y ≡ x }
+    ensures ok { OnOk result (to.new ≡ from.now ++ drop (length from.now) to.old) }
+    ensures refused { OnErr result ((j : ℕ) × RefusedAt T.is_infallible from.now j × (to.new ≡ take j from.now ++ drop j to.old)) }
+    ensures len { length to.new ≡ length to.old }
+    ensures succeeds { All T.is_infallible from.now → IsOk result }
+{
+    let done = clone_blocks::<T, 4>(to, from);
+    clone_each(&mut to[done..], &from[done..])
+}
+
+/// The same, item by item. Where the compiler knows `to` and `from` apart, as where `to` is a new array, it makes this one
+/// move of memory.
+pub fn clone_each<T: Clone>(to: &mut [T], from: &[T]) -> Result<(), AllocError>
     requires fits { length from.now ≤ length to.old }
     requires clones { (x y : T) → T.is_clone x y → y ≡ x }
     ensures ok { OnOk result (to.new ≡ from.now ++ drop (length from.now) to.old) }
@@ -17,6 +46,49 @@ pub fn clone_over<T: Clone>(to: &mut [T], from: &[T]) -> Result<(), AllocError>
         to[i] = from[i].clone()?;
     }
     Ok(())
+}
+
+// Clones items in blocks of N, and answers how many it cloned. It stops where fewer than N are left, and at a block one of
+// whose clones is refused, which it leaves to be cloned item by item. The items of a block are all read before one is
+// written, so that the compiler can move blocks of numbers as a whole.
+fn clone_blocks<T: Clone, const N: usize>(to: &mut [T], from: &[T]) -> usize
+    requires some { 0 < N }
+    requires fits { length from.now ≤ length to.old }
+    requires clones { (x y : T) → T.is_clone x y → y ≡ x }
+    ensures within { result ≤ length from.now }
+    ensures cloned { to.new ≡ take result from.now ++ drop result to.old }
+    ensures len { length to.new ≡ length to.old }
+{
+    let mut done = 0;
+    while clone_block::<T, N>(&mut to[done..], &from[done..]) {
+        done += N;
+    }
+    done
+}
+
+// Clones the first N items, and answers whether there are so many and no clone was refused.
+fn clone_block<T: Clone, const N: usize>(to: &mut [T], from: &[T]) -> bool
+    requires fits { length from.now ≤ length to.old }
+    requires clones { (x y : T) → T.is_clone x y → y ≡ x }
+    ensures cloned { MatchBool result ((N ≤ length from.now) × (to.new ≡ take N from.now ++ drop N to.old)) (to.new ≡ to.old) }
+    ensures len { length to.new ≡ length to.old }
+{
+    if from.len() < N {
+        return false;
+    }
+    // It tells the proof that so many items fit in memory.
+    let _bytes = from.len() * mem::size_of::<T>();
+    let Some(block) = from.first_chunk::<N>() else {
+        return false;
+    };
+    let Ok(clones) = block.clone() else {
+        return false;
+    };
+    if let Some(place) = to.first_chunk_mut::<N>() {
+        *place = clones;
+        return true;
+    }
+    false
 }
 
 /// Writes a clone of `x` into each slot.

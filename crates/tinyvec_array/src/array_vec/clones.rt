@@ -6,6 +6,7 @@ ghost use Rattle.tinyvec_slots.specs.Clones.{RefusedAt, ClonesInPart};
 use crate::clone_slots::put_clones;
 use crate::{Array, ArrayVec};
 use std::alloc::AllocError;
+use tinyvec_slots::clone_each;
 
 impl<A: Array + Copy> Clone for ArrayVec<A> {
     ghost is_clone = { λ v w. w ≡ v };
@@ -33,7 +34,7 @@ impl<A: Array> ArrayVec<A> {
     {
         let _len = self.len();
         let mut array = A::default();
-        put_clones(&mut array, 0, self.array.as_slice())?;
+        clone_each(array.as_slice_mut(), self.array.as_slice())?;
         Ok(ArrayVec {
             len: self.len,
             array,

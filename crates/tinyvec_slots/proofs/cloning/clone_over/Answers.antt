@@ -1,15 +1,17 @@
-use Rattle.std.proofs.Common.{◌≡◌, ap, ◌∙◌, arith, rules, set, get_or, length-set}
-use Rattle.tinyvec_slots.proofs.CloneLemmas.{overwrite_next}
+use Rattle.std.proofs.lemmas.Result.{on_ok_weaker, on_err_weaker}
+use Rattle.tinyvec_slots.proofs.CloneLemmas.{written_whole, written_in_part}
 use Rattle.tinyvec_slots.proofs.cloning.clone_over.Goals as goal
 
-pub loop-i-preserved : goal.loop-i-preserved
-loop-i-preserved g c =
-    let inv = c.loop-i.invariant in
-    let i = c.loop-i.i in
-    let xs = c.args.from.now in
-    let y = c.in_ok-to.field-0 in
-    let same : y ≡ c.index-from-i.result = c.requires.clones c.index-from-i.result y c.in_ok-to.ensures.cases in
-    let is : y ≡ get_or xs i y = search rules in (
-      ap (λ l. set l i y) inv.0 ∙ overwrite_next xs c.args.to.now i y (omega arith) c.requires.fits is,
-      length-set c.loop-i.to i y ∙ inv.1,
-    )
+pub returns-clause-ok : goal.returns-clause-ok
+returns-clause-ok g c =
+    let first = c.clone_blocks-done in
+    on_ok_weaker c.clone_tail.result
+    (written_whole c.args.from.now c.args.to.now first.new.to c.clone_tail.new.to first.result c.requires.fits first.ensures.len first.ensures.within first.ensures.cloned)
+    c.clone_tail.ensures.ok
+
+pub returns-clause-refused : goal.returns-clause-refused
+returns-clause-refused g c =
+    let first = c.clone_blocks-done in
+    on_err_weaker c.clone_tail.result
+    (written_in_part c.args.from.now c.args.to.now first.new.to c.clone_tail.new.to first.result c.requires.fits first.ensures.len first.ensures.within first.ensures.cloned g.T.Clone.is_infallible)
+    c.clone_tail.ensures.refused
