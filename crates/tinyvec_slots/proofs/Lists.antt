@@ -1,7 +1,7 @@
 -- Facts on parts of a list.
-use Rattle.std.proofs.Common.{◌≡◌, ℕ, suc, ◌+◌, ◌-◌, ◌<◌, ◌≤◌, List, [], ◌∷◌, ◌++◌, length, get_or, take, drop, set, insert, remove, slice_range, sym, ap, ◌∙◌, arith, rules, drop-set-lt, length-set, append_assoc, append-nil, take_at, take_all, length-append, length-drop}
-use Rattle.std.specs.Prelude.{reverse}
-use Rattle.std.proofs.lemmas.List.{same_lists, take-append-le, drop-append-le, places, get_or-set_same, get_or_default, drop-drop, drop_more, drop_at, drop_all, length-take-le, length-reverse, reverse-append, reverse-reverse}
+use Rattle.std.proofs.Common.{◌≡◌, ℕ, suc, ◌+◌, ◌-◌, ◌<◌, ◌≤◌, List, [], ◌∷◌, ◌++◌, length, get_or, take, drop, set, insert, remove, slice_range, sym, ap, ◌∙◌, arith, rules, drop-set-lt, length-set, append_assoc, append-nil, take_at, take_all, take-append-drop, length-append, length-drop}
+use Rattle.std.proofs.Math.Seq.{take-add}
+use Rattle.std.proofs.lemmas.List.{same_lists, take-append-le, drop-append-le, places, get_or-set_same, get_or_default, drop-drop, drop_more, drop_at, drop_all, length-take-le}
 use Rattle.std.specs.List.{remove_range}
 use Rattle.std.proofs.lemmas.Bool.{cases_eq, cases_lt}
 
@@ -57,67 +57,61 @@ module _ {X : Type 0} (xs : List X) (i j : ℕ) (le : i ≤ j) (within : j ≤ l
   pub length-slice_range : length (slice_range xs i j) ≡ j - i
   length-slice_range = search (rules, places)
 
--- three reversals move the items from i up to j behind the others
-module _ {X : Type 0} (xs once twice : List X) (i j n : ℕ) (le : i ≤ j) (within : j ≤ n) (long : length xs ≡ n)
-    (first : once ≡ take i xs ++ reverse (slice_range xs i j) ++ drop j xs)
-    (second : twice ≡ take j once ++ reverse (slice_range once j n) ++ drop n once) where
-  abbrev P : List X
-  P = take i xs
+-- the first n elements changed places with the last ones
+module _ {X : Type 0} (xs ys : List X) (n : ℕ) (fits : n ≤ length xs) (apart : n ≤ length xs - n)
+    (swapped : ys ≡ drop (length xs - n) xs ++ slice_range xs n (length xs - n) ++ take n xs) where
+  abbrev B : List X
+  B = drop (length xs - n) xs
 
   abbrev M : List X
-  M = slice_range xs i j
+  M = slice_range xs n (length xs - n)
 
-  abbrev F : List X
-  F = drop j xs
+  abbrev A : List X
+  A = take n xs
 
-  long-P : length P ≡ i
-  long-P = length-take-le i xs (omega arith)
+  long-B : length B ≡ n
+  long-B = omega (arith, length-drop (length xs - n) xs)
 
-  long-M : length (reverse M) ≡ j - i
-  long-M = length-reverse M ∙ length-slice_range xs i j le (omega arith)
+  long-M : length M ≡ length xs - n - n
+  long-M = length-slice_range xs n (length xs - n) apart (omega arith)
 
-  long-F : length F ≡ n - j
-  long-F = length-drop j xs ∙ ap (λ k. k - j) long
+  long-BM : length (B ++ M) ≡ length xs - n
+  long-BM = omega (arith, length-append B M, long-B, long-M)
 
-  long-PM : length (P ++ reverse M) ≡ j
-  long-PM = let one = long-P in let two = long-M in let all = length-append P (reverse M) in omega arith
+  long-ys : length ys ≡ length xs
+  long-ys = omega (arith, ap length swapped, length-append (B ++ M) A, long-BM, length-take-le n xs fits)
 
-  once_left : take j once ≡ P ++ reverse M
-  once_left = ap (take j) first ∙ take_at (P ++ reverse M) F j long-PM
+  -- what stood behind the first n
+  whole : M ++ B ≡ drop n xs
+  whole =
+      let ends : n + (length xs - n - n) ≡ length xs - n = omega arith in
+      ap (λ l. M ++ l) (ap (λ k. drop k xs) (sym ends) ∙ sym (drop-drop (length xs - n - n) n xs)) ∙ take-append-drop (length xs - n - n) (drop n xs)
 
-  once_right : drop j once ≡ F
-  once_right = ap (drop j) first ∙ drop_at (P ++ reverse M) F j long-PM
+  -- the rest stands in order once what came to the front is turned with it
+  pub turned_in_front : (zs : List X) → zs ≡ drop n (take (length xs - n) ys) ++ take n (take (length xs - n) ys)
+      → zs ++ drop (length xs - n) ys ≡ drop n xs ++ take n xs
+  turned_in_front zs is =
+      let front : take (length xs - n) ys ≡ B ++ M = ap (take (length xs - n)) swapped ∙ take_at (B ++ M) A (length xs - n) long-BM in
+      let behind : drop (length xs - n) ys ≡ A = ap (drop (length xs - n)) swapped ∙ drop_at (B ++ M) A (length xs - n) long-BM in
+      let turned : zs ≡ M ++ B = is ∙ ap (λ l. drop n l ++ take n l) front ∙ ap (λ l. l ++ take n (B ++ M)) (drop_at B M n long-B) ∙ ap (λ l. M ++ l) (take_at B M n long-B) in
+      ap (λ l. l ++ drop (length xs - n) ys) (turned ∙ whole) ∙ ap (λ l. drop n xs ++ l) behind
 
-  twice_is : twice ≡ P ++ (reverse M ++ reverse F)
-  twice_is =
-      let all = length-append (P ++ reverse M) F in
-      let one = long-PM in
-      let two = long-F in
-      let ends : drop n once ≡ [] = ap (drop n) first ∙ drop_all n ((P ++ reverse M) ++ F) (omega arith) in
-      let right : slice_range once j n ≡ F = ap (take (n - j)) once_right ∙ take_all (n - j) F (omega arith) in
-      second ∙ ap (λ l. l ++ reverse (slice_range once j n) ++ drop n once) once_left
-      ∙ ap (λ l. (P ++ reverse M) ++ reverse l ++ drop n once) right
-      ∙ ap (λ l. ((P ++ reverse M) ++ reverse F) ++ l) ends
-      ∙ append-nil ((P ++ reverse M) ++ reverse F) ∙ append_assoc P (reverse M) (reverse F)
-
-  pub turned : (thrice : List X) → thrice ≡ take i twice ++ reverse (slice_range twice i n) ++ drop n twice
-      → thrice ≡ remove_range xs i j ++ slice_range xs i j
-  turned thrice third =
-      let both = length-append (reverse M) (reverse F) in
-      let all = length-append P (reverse M ++ reverse F) in
-      let one = long-P in
-      let two = long-M in
-      let three = length-reverse F ∙ long-F in
-      let left : take i twice ≡ P = ap (take i) twice_is ∙ take_at P (reverse M ++ reverse F) i long-P in
-      let right : drop i twice ≡ reverse M ++ reverse F = ap (drop i) twice_is ∙ drop_at P (reverse M ++ reverse F) i long-P in
-      let ends : drop n twice ≡ [] = ap (drop n) twice_is ∙ drop_all n (P ++ (reverse M ++ reverse F)) (omega arith) in
-      let whole : slice_range twice i n ≡ reverse M ++ reverse F = ap (take (n - i)) right ∙ take_all (n - i) (reverse M ++ reverse F) (omega arith) in
-      let back : reverse (reverse M ++ reverse F) ≡ F ++ M = reverse-append (reverse M) (reverse F) ∙ ap (λ l. l ++ reverse (reverse M)) (reverse-reverse F) ∙ ap (λ l. F ++ l) (reverse-reverse M) in
-      third ∙ ap (λ l. l ++ reverse (slice_range twice i n) ++ drop n twice) left
-      ∙ ap (λ l. P ++ reverse l ++ drop n twice) whole
-      ∙ ap (λ l. (P ++ l) ++ drop n twice) back
-      ∙ ap (λ l. (P ++ (F ++ M)) ++ l) ends
-      ∙ append-nil (P ++ (F ++ M)) ∙ sym (append_assoc P F M)
+  -- where the last n were the whole rest
+  pub turned_behind : (c : ℕ) → c ≡ length xs - n → (zs : List X)
+      → zs ≡ drop (c - n) (take (length ys - n) (drop n ys)) ++ take (c - n) (take (length ys - n) (drop n ys))
+      → take n ys ++ (zs ++ drop (length ys - n) (drop n ys)) ≡ drop c xs ++ take c xs
+  turned_behind c same zs is =
+      let tail : drop n ys ≡ M ++ A = ap (drop n) (swapped ∙ append_assoc B M A) ∙ drop_at B (M ++ A) n long-B in
+      let front : take n ys ≡ B = ap (take n) (swapped ∙ append_assoc B M A) ∙ take_at B (M ++ A) n long-B in
+      let long : length (drop n ys) ≡ length ys - n = length-drop n ys in
+      let all : take (length ys - n) (drop n ys) ≡ M ++ A = take_all (length ys - n) (drop n ys) (omega (arith, long)) ∙ tail in
+      let none : drop (length ys - n) (drop n ys) ≡ [] = drop_all (length ys - n) (drop n ys) (omega (arith, long)) in
+      let part : length M ≡ c - n = omega (arith, long-M, same) in
+      let turned : zs ≡ A ++ M = is ∙ ap (λ l. drop (c - n) l ++ take (c - n) l) all ∙ ap (λ l. l ++ take (c - n) (M ++ A)) (drop_at M A (c - n) part) ∙ ap (λ l. A ++ l) (take_at M A (c - n) part) in
+      let ends : n + (length xs - n - n) ≡ c = omega (arith, same) in
+      let joined : A ++ M ≡ take c xs = sym (take-add n (length xs - n - n) xs) ∙ ap (λ k. take k xs) ends in
+      ap (λ l. l ++ (zs ++ drop (length ys - n) (drop n ys))) (front ∙ ap (λ k. drop k xs) (sym same))
+      ∙ ap (λ l. drop c xs ++ l) (ap (λ l. zs ++ l) none ∙ append-nil zs ∙ turned ∙ joined)
 
 -- what is put in is the same after it changed places with the item that it stood before
 pub insert_carried : {X : Type 0} (xs : List X) (i : ℕ) (x y : X) → i < length xs → y ≡ get_or xs i y

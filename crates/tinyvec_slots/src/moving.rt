@@ -1,5 +1,5 @@
 //! Items that change their places.
-ghost use Rattle.std.specs.Prelude.{◌≡◌, ◌<◌, ◌≤◌, List, [], ◌∷◌, ◌++◌, length, take, drop, reverse, slice_range, insert};
+ghost use Rattle.std.specs.Prelude.{◌≡◌, ◌-◌, ◌<◌, ◌≤◌, List, [], ◌∷◌, ◌++◌, length, take, drop, slice_range, insert};
 ghost use Rattle.std.specs.List.{remove_range};
 
 /// Up to so many items are turned rather than rotated.
@@ -14,32 +14,41 @@ pub fn move_to_end<T>(items: &mut [T], start: usize, end: usize)
     if end == items.len() {
         return;
     }
-    // A rotation clears a room of its own first, unless it goes by one. For few items that costs more than turning them.
+    // A rotation clears a room of its own first, unless it goes by one. For few items that costs more than swaps.
     if end - start != 1 && items.len() - start <= FEW {
-        turn(items, start, end);
+        turn(&mut items[start..], end - start);
         return;
     }
     items[start..].rotate_left(end - start);
 }
 
-// The same by three reversals.
-fn turn<T>(items: &mut [T], start: usize, end: usize)
-    requires start_le_end { start ≤ end }
-    requires in_bounds { end ≤ length items.old }
-    ensures { items.new ≡ remove_range items.old start end ++ slice_range items.old start end }
+// Moves the first `count` items behind the others. The shorter side changes places with as many items at the other end,
+// which then stand where they belong, until a side is empty.
+fn turn<T>(items: &mut [T], count: usize)
+    requires { count ≤ length items.old }
+    ensures { items.new ≡ drop count items.old ++ take count items.old }
 {
-    let len = items.len();
-    reverse_part(items, start, end);
-    reverse_part(items, end, len);
-    reverse_part(items, start, len);
+    let rest = items.len() - count;
+    if count == 0 || rest == 0 {
+        return;
+    }
+    if count <= rest {
+        swap_ends(items, count);
+        turn(&mut items[..rest], count);
+    } else {
+        swap_ends(items, rest);
+        turn(&mut items[rest..], count - rest);
+    }
 }
 
-fn reverse_part<T>(items: &mut [T], start: usize, end: usize)
-    requires start_le_end { start ≤ end }
-    requires in_bounds { end ≤ length items.old }
-    ensures { items.new ≡ take start items.old ++ reverse (slice_range items.old start end) ++ drop end items.old }
+// Swaps the first `count` items with the last ones.
+fn swap_ends<T>(items: &mut [T], count: usize)
+    requires { count ≤ length items.old - count }
+    ensures { items.new ≡ drop (length items.old - count) items.old ++ slice_range items.old count (length items.old - count) ++ take count items.old }
 {
-    items[start..end].reverse();
+    let border = items.len() - count;
+    let (front, back) = items.split_at_mut(border);
+    front[..count].swap_with_slice(back);
 }
 
 /// Moves the items from `start` up to `end` behind the others below `len`.
