@@ -15,7 +15,7 @@ pub fn clone_over<T: Clone>(to: &mut [T], from: &[T]) -> Result<(), AllocError>
     ensures len { length to.new ≡ length to.old }
     ensures succeeds { All T.is_infallible from.now → IsOk result }
 {
-    let done = clone_blocks::<T, 16>(to, from);
+    let done = clone_blocks::<T, 64>(to, from);
     clone_tail(&mut to[done..], &from[done..])
 }
 
@@ -48,9 +48,9 @@ pub fn clone_each<T: Clone>(to: &mut [T], from: &[T]) -> Result<(), AllocError>
     Ok(())
 }
 
-// Clones items in blocks of N, and answers how many it cloned. It stops where fewer than N are left, and at a block one of
-// whose clones is refused, which it leaves to be cloned item by item. The items of a block are all read before one is
-// written, so that the compiler can move blocks of numbers as a whole.
+// Clones small items in blocks of N, and answers how many it cloned. It stops where fewer than N are left, and at a block
+// one of whose clones is refused, which it leaves to be cloned item by item. The items of a block are all read before one is
+// written, so that the compiler moves blocks of numbers as a whole.
 fn clone_blocks<T: Clone, const N: usize>(to: &mut [T], from: &[T]) -> usize
     requires some { 0 < N }
     requires fits { length from.now ≤ length to.old }
@@ -59,6 +59,10 @@ fn clone_blocks<T: Clone, const N: usize>(to: &mut [T], from: &[T]) -> usize
     ensures cloned { to.new ≡ take result from.now ++ drop result to.old }
     ensures len { length to.new ≡ length to.old }
 {
+    // A block is made on the stack, which large items would fill.
+    if from.len() * mem::size_of::<T>() / 16 > from.len() {
+        return 0;
+    }
     let mut done = 0;
     while clone_block::<T, N>(&mut to[done..], &from[done..]) {
         done += N;

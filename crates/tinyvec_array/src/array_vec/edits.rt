@@ -5,10 +5,7 @@ ghost use Rattle.tinyvec_slots.specs.Slots.{items, spare, items_len, all_slots, 
 
 use crate::slots::{clear, last_slot_to};
 use crate::{Array, ArrayVec};
-use tinyvec_slots::{carry_down, carry_up};
-
-/// Up to so many items are carried over one by one rather than rotated.
-const FEW: usize = 64;
+use tinyvec_slots::{are_few, carry_down, carry_up};
 
 impl<A: Array> ArrayVec<A> {
     /// Puts `x` at `i`, and moves the later items up.
@@ -18,8 +15,8 @@ impl<A: Array> ArrayVec<A> {
         ensures items { items self.new ≡ insert (items self.old) i x }
         ensures spare { spare self.new ≡ drop 1 (spare self.old) }
     {
-        let len = self.len();
-        if len - i <= FEW {
+        let _len = self.len();
+        if are_few(&self.as_slice()[i..]) {
             let last = carry_up(self.as_mut_slice(), i, x);
             self.push(last);
             return;
@@ -51,8 +48,8 @@ impl<A: Array> ArrayVec<A> {
         ensures items { items self.new ≡ remove (items self.old) i }
         ensures spare { Frees A.Item.is_default 1 self.old self.new }
     {
-        let len = self.len();
-        if len - i <= FEW {
+        let _len = self.len();
+        if are_few(&self.as_slice()[i..]) {
             return self.remove_by_carrying(i);
         }
         self.items_to_end(i, i + 1);
