@@ -48,7 +48,7 @@ pub(crate) fn push_copies<T: Clone>(heap: &mut Vec<T>, n: usize, x: &T) -> Resul
     requires clones { (x y : T) → T.is_clone x y → y ≡ x }
     ensures items { OnOk result (heap.new.items ≡ heap.old.items ++ replicate n x.now) }
     ensures kept { OnErr result (heap.new.items ≡ heap.old.items) }
-    ensures refused { OnErr result (¬ (T.is_infallible x.now)) }
+    ensures refused { OnErr result ((j : ℕ) × (j < n) × ¬ (T.is_infallible x.now)) }
     ensures capacity { vec_capacity heap.new ≡ vec_capacity heap.old }
     ensures succeeds { T.is_infallible x.now → IsOk result }
 {

@@ -79,7 +79,7 @@ impl<A: Array> TinyVec<A> {
         // Where there is room no memory is asked for but by clones.
         ensures succeeds { tiny_len source.now ≤ tiny_capacity A.CAPACITY self.old → All A.Item.is_infallible (tiny_items source.now) → IsOk result }
         ensures refused { OnErr result (RefusedFor A.CAPACITY (tiny_len source.now)
-            (PartlyCloned A.Item.is_infallible (tiny_items source.now) (tiny_items self.old) (tiny_items self.new) (min (tiny_len self.old) (tiny_len source.now)))
+            (PartlyCloned A.Item.is_default A.Item.is_infallible (tiny_items source.now) self.old self.new (min (tiny_len self.old) (tiny_len source.now)))
             self.old self.new) }
     {
         let len = self.len();

@@ -1,7 +1,7 @@
 //! Growing by clones.
 ghost use Rattle.std.specs.Prelude.{◌≡◌, ◌+◌, ◌-◌, ◌<◌, ◌≤◌, ◌++◌, ℕ, All, max, length, take, drop, replicate, IfErr, IsOk, OnOk, OnErr};
 ghost use Rattle.tinyvec_slots.specs.Clones.{RefusedAt};
-ghost use Rattle.tinyvec.specs.Tiny.{tiny_items, tiny_len, tiny_spare, is_inline, tiny_capacity, PlaceRule, TinySlotRule};
+ghost use Rattle.tinyvec.specs.Tiny.{tiny_items, tiny_len, tiny_spare, is_inline, tiny_capacity, IsInline, PlaceRule, TinySlotRule};
 ghost use Rattle.tinyvec.specs.Growth.{RefusedFor};
 
 use crate::TinyVec;
@@ -21,7 +21,10 @@ impl<A: Array> TinyVec<A> {
         ensures place { is_inline self.new ≡ is_inline self.old }
         ensures capacity { tiny_capacity A.CAPACITY self.new ≡ tiny_capacity A.CAPACITY self.old }
         ensures kept { OnErr result (tiny_items self.new ≡ tiny_items self.old) }
-        ensures refused { OnErr result ((j : ℕ) × RefusedAt A.Item.is_infallible other.now j) }
+
+        // Inline, the first j spare slots hold the clones that were made.
+        ensures refused { OnErr result ((j : ℕ) × RefusedAt A.Item.is_infallible other.now j
+            × (IsInline self.new → tiny_spare self.new ≡ take j other.now ++ drop j (tiny_spare self.old))) }
         ensures succeeds { All A.Item.is_infallible other.now → IsOk result }
     {
         match self {
@@ -43,10 +46,12 @@ impl<A: Array> TinyVec<A> {
         // Where there is room no memory is asked for but by clones.
         ensures succeeds { tiny_len self.old + length other.now ≤ tiny_capacity A.CAPACITY self.old → All A.Item.is_infallible other.now → IsOk result }
 
-        // A refusal leaves the list. Where only a clone was refused, it lies where its room was granted.
+        // A refusal leaves the list. Where only a clone was refused, it lies where its room was granted, and inline the
+        // first j spare slots hold the clones that were made.
         ensures kept { OnErr result (tiny_items self.new ≡ tiny_items self.old) }
         ensures refused { OnErr result (RefusedFor A.CAPACITY (tiny_len self.old + length other.now)
-            ((j : ℕ) × RefusedAt A.Item.is_infallible other.now j) self.old self.new) }
+            ((j : ℕ) × RefusedAt A.Item.is_infallible other.now j
+            × (IsInline self.new → tiny_spare self.new ≡ take j other.now ++ drop j (tiny_spare self.old))) self.old self.new) }
     {
         self.reserve(other.len())?;
         self.extend_reserved(other)
@@ -64,7 +69,10 @@ impl<A: Array> TinyVec<A> {
         ensures capacity { tiny_capacity A.CAPACITY self.new ≡ tiny_capacity A.CAPACITY self.old }
         ensures back { IfErr result (λ refused. refused.0 ≡ x) }
         ensures kept { OnErr result (tiny_items self.new ≡ tiny_items self.old) }
-        ensures refused { OnErr result (¬ (A.Item.is_infallible x)) }
+
+        // Inline, the first j spare slots hold the clones that were made.
+        ensures refused { OnErr result ((j : ℕ) × (j < n) × ¬ (A.Item.is_infallible x)
+            × (IsInline self.new → tiny_spare self.new ≡ replicate j x ++ drop j (tiny_spare self.old))) }
         ensures succeeds { A.Item.is_infallible x → IsOk result }
     {
         match self {
@@ -96,10 +104,12 @@ impl<A: Array> TinyVec<A> {
         ensures succeeds { n ≤ tiny_capacity A.CAPACITY self.old → A.Item.is_infallible x → IsOk result }
 
         // A refusal leaves the list, and hands `x` back. Where only a clone was refused, the list lies where its room was
-        // granted.
+        // granted, and inline the first j spare slots hold the clones that were made.
         ensures back { IfErr result (λ refused. refused.0 ≡ x) }
         ensures kept { OnErr result (tiny_items self.new ≡ tiny_items self.old) }
-        ensures refused { OnErr result (RefusedFor A.CAPACITY (max n (tiny_len self.old)) (¬ (A.Item.is_infallible x)) self.old self.new) }
+        ensures refused { OnErr result (RefusedFor A.CAPACITY (max n (tiny_len self.old))
+            ((j : ℕ) × (j < n - tiny_len self.old) × ¬ (A.Item.is_infallible x)
+            × (IsInline self.new → tiny_spare self.new ≡ replicate j x ++ drop j (tiny_spare self.old))) self.old self.new) }
     {
         let len = self.len();
         if n <= len {

@@ -3,27 +3,32 @@ use Rattle.std.proofs.lemmas.List.{take-take}
 use Rattle.std.proofs.lemmas.Result.{on_err_weaker}
 use Rattle.tinyvec_slots.specs.Clones.{RefusedAt}
 use Rattle.tinyvec_slots.proofs.CloneLemmas.{on_err}
-use Rattle.tinyvec.specs.Tiny.{tiny_items}
+use Rattle.tinyvec.specs.Tiny.{tiny_items, tiny_spare}
 use Rattle.tinyvec.proofs.TinyLemmas.{tiny_slots_grown, on_ok_two, on_err_two}
-use Rattle.tinyvec.proofs.RefusedLemmas.{refused_in_front, refused_behind, partly_over, partly_behind, place_kept, place_then}
+use Rattle.tinyvec.proofs.RefusedLemmas.{refused_in_front, refused_behind, partly_over, partly_behind, cut_freed, none_freed, spare_kept, place_kept, place_then}
 use Rattle.tinyvec.proofs.tiny_vec.TinyVec.clone_from.Goals as goal
 
 pub returns-then-count-len-clause-refused : goal.returns-then-count-len-clause-refused
 returns-then-count-len-clause-refused g c =
     let olds = tiny_items c.args.self.now in
     let xs = tiny_items c.args.source.now in
+    let m = min (length olds) (length xs) in
+    let left = c.truncate.new.self in
     let new = c.overwrite.new.self in
     let is_len = c.len-len.ensures.value in
     let is_count = c.len-count.ensures.value in
     let le = c.if-count-len.true in
-    let least : c.len-count.result ≡ min (length olds) (length xs) = omega arith in
+    let least : c.len-count.result ≡ m = omega arith in
+    let within : m ≤ length olds = omega arith in
+    let cut : tiny_items left ≡ take m olds = c.truncate.ensures.items ∙ ap (λ n. take n olds) least in
     on_err_weaker c.overwrite.result (λ h.
     let below : h.0 < length xs = rw c.as_slice.ensures at h.1.0 in
+    let early : h.0 ≤ m = omega arith in
     inr (
       place_kept _ _ _ _ (c.overwrite.ensures.frame.2 ∙ c.truncate.ensures.place) (omega (arith, c.len-len.ensures.fits)),
-      partly_over g.A.Item.Clone.is_infallible xs olds (tiny_items new) _ h.0 (omega arith) (rw c.as_slice.ensures at h.1)
-          (h.2 ∙ ap (λ l. take h.0 l ++ drop h.0 (tiny_items c.truncate.new.self)) c.as_slice.ensures
-          ∙ ap (λ l. take h.0 xs ++ drop h.0 l) (c.truncate.ensures.items ∙ ap (λ n. take n olds) least)),
+      partly_over g.A.Item.Default.is_default g.A.Item.Clone.is_infallible xs c.args.self.now new m h.0 early (rw c.as_slice.ensures at h.1)
+          (h.2 ∙ ap (λ l. take h.0 l ++ drop h.0 (tiny_items left)) c.as_slice.ensures ∙ ap (λ l. take h.0 xs ++ drop h.0 l) cut)
+          (cut_freed g.A.Item.Default.is_default c.args.self.now left new m c.overwrite.ensures.frame c.truncate.ensures.place c.truncate.ensures.slots cut within),
     ))
     c.overwrite.ensures.refused
 
@@ -31,6 +36,8 @@ pub returns-in_err-overwrite-clause-refused : goal.returns-in_err-overwrite-clau
 returns-in_err-overwrite-clause-refused g c =
     let olds = tiny_items c.args.self.now in
     let xs = tiny_items c.args.source.now in
+    let m = min (length olds) (length xs) in
+    let mid = c.reserve.new.self in
     let new = c.overwrite-2.new.self in
     let n = c.len-len.result in
     let is_len = c.len-len.ensures.value in
@@ -40,12 +47,16 @@ returns-in_err-overwrite-clause-refused g c =
     let below = h.1.0 in
     let front = length-take n xs in
     let early : h.0 ≤ n = omega (arith, below, front) in
-    let all : take (min (length olds) (length xs)) olds ≡ olds = take_all _ olds (omega arith) in
+    let all : take m olds ≡ olds = take_all m olds (omega arith) in
+    let frame = c.overwrite-2.ensures.frame in
+    let long : m ≡ length olds = omega arith in
     on_err c.from_residual-in_err-overwrite.result (inr (
-      place_then _ _ _ c.reserve.new.self _ _ (omega arith) c.overwrite-2.ensures.frame.2 c.in_ok-reserve.ensures.place,
-      partly_over g.A.Item.Clone.is_infallible xs olds (tiny_items new) _ h.0 (omega arith) (refused_in_front g.A.Item.Clone.is_infallible xs n h.0 h.1)
-          (h.2 ∙ ap (λ l. l ++ drop h.0 (tiny_items c.reserve.new.self)) (take-take h.0 n xs early)
-          ∙ ap (λ l. take h.0 xs ++ drop h.0 l) (c.reserve.ensures.items ∙ sym all)),
+      place_then _ _ _ mid _ _ (omega arith) frame.2 c.in_ok-reserve.ensures.place,
+      partly_over g.A.Item.Default.is_default g.A.Item.Clone.is_infallible xs c.args.self.now new m h.0 (omega arith) (refused_in_front g.A.Item.Clone.is_infallible xs n h.0 h.1)
+          (h.2 ∙ ap (λ l. l ++ drop h.0 (tiny_items mid)) (take-take h.0 n xs early)
+          ∙ ap (λ l. take h.0 xs ++ drop h.0 l) (c.reserve.ensures.items ∙ sym all))
+          (λ i. none_freed g.A.Item.Default.is_default c.args.self.now new m long
+          (frame.1 ∙ spare_kept c.args.self.now mid new c.reserve.ensures.stays frame.2 i)),
     ))
 
 pub returns-clause-slots : goal.returns-clause-slots
@@ -72,12 +83,15 @@ returns-clause-refused g c =
     let is_count = c.len-count.ensures.value in
     let more = c.if-count-len.false in
     let made = c.extend_reserved.ensures in
+    let frame = c.overwrite-2.ensures.frame in
     let least : n ≡ min (length olds) (length xs) = omega arith in
     let others : take (length c.as_slice-3.result.now - n) (drop n c.as_slice-3.result.now) ≡ drop n xs =
     ap (λ l. take (length l - n) (drop n l)) c.as_slice-3.ensures ∙ take_all (length xs - n) (drop n xs) (omega (arith, length-drop n xs)) in
     let first : tiny_items mid ≡ take n xs = c.in_ok-overwrite.ensures.ok ∙ ap (take n) c.as_slice-2.ensures in
     on_err_two c.extend_reserved.result made.refused made.kept (λ h kept. inr (
-      place_then _ _ _ c.reserve.new.self _ _ (omega arith) (made.place ∙ c.overwrite-2.ensures.frame.2) c.in_ok-reserve.ensures.place,
-      rw (← least) (partly_behind g.A.Item.Clone.is_infallible xs olds (tiny_items new) n h.0
-          (refused_behind g.A.Item.Clone.is_infallible xs n h.0 (subst (λ l. RefusedAt g.A.Item.Clone.is_infallible l h.0) others h.1)) (kept ∙ first)),
+      place_then _ _ _ c.reserve.new.self _ _ (omega arith) (made.place ∙ frame.2) c.in_ok-reserve.ensures.place,
+      rw (← least) (partly_behind g.A.Item.Default.is_default g.A.Item.Clone.is_infallible xs c.args.self.now new n h.0 is_len
+          (refused_behind g.A.Item.Clone.is_infallible xs n h.0 (subst (λ l. RefusedAt g.A.Item.Clone.is_infallible l h.0) others h.1)) (kept ∙ first)
+          (λ i. h.2 i ∙ ap (λ l. take h.0 l ++ drop h.0 (tiny_spare mid)) others
+          ∙ ap (λ l. take h.0 (drop n xs) ++ drop h.0 l) (frame.1 ∙ spare_kept c.args.self.now c.reserve.new.self new c.reserve.ensures.stays (made.place ∙ frame.2) i))),
     ))
