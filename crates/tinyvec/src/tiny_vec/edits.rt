@@ -111,6 +111,7 @@ impl<A: Array> TinyVec<A> {
         ensures place { is_inline self.new ≡ is_inline self.old }
         ensures tail_place { IfOk result (λ v. is_inline v ≡ is_inline self.old) }
         ensures slots { OnOk result (TinySlotRule A.Item.is_default self.old self.new) }
+        ensures capacity { tiny_capacity A.CAPACITY self.new ≡ tiny_capacity A.CAPACITY self.old }
         ensures tail_spare { IfOk result (λ v. IsInline v → AreDefaults A.Item.is_default (A.CAPACITY - (tiny_len self.old - at)) (tiny_spare v)) }
         ensures succeeds { IsInline self.old → IsOk result }
         ensures refused { OnErr result (self.new ≡ self.old) }
