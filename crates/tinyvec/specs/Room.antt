@@ -31,6 +31,8 @@ module _ {A T X E : Type 0} where
     pub items : tiny_items new ≡ tiny_items old
     pub place : OnOk result (is_inline new ≡ false)
     pub room : OnOk result (tiny_len old + n ≤ tiny_capacity slots new)
-    -- on the heap no memory is asked for where there is room, and a refusal changes nothing
+    -- on the heap no room is lost and no memory is asked for where there is room, and a refusal changes nothing
+    pub keeps_room : is_inline old ≡ false → tiny_capacity slots old ≤ tiny_capacity slots new
     pub succeeds : is_inline old ≡ false → tiny_len old + n ≤ tiny_capacity slots old → IsOk result
+    pub full : is_inline old ≡ false → OnErr result (tiny_capacity slots old < tiny_len old + n)
     pub refused : OnErr result (Unchanged old new)

@@ -1,5 +1,5 @@
 //! Items taken from iterators and closures.
-ghost use Rattle.std.specs.Prelude.{◌≡◌, ◌-◌, ◌≤◌, ◌↔◌, ◌++◌, ◌∷◌, List, max, length, take, Some, MatchResult, IsOk, IfOk, OnOk, OnErr, IfErr};
+ghost use Rattle.std.specs.Prelude.{◌≡◌, ◌-◌, ◌<◌, ◌≤◌, ◌↔◌, ◌++◌, ◌∷◌, List, max, length, take, Some, MatchResult, IsOk, IfOk, OnOk, OnErr, IfErr};
 ghost use Rattle.std.specs.List.{AppendsResults};
 ghost use Rattle.std.specs.Iterator.{IsFinite, Drains, YieldsThen};
 ghost use Rattle.tinyvec_slots.specs.Slots.{AreDefaults};
@@ -92,6 +92,7 @@ impl<A: Array> TinyVec<A> {
 
         // Where there is room no memory is asked for, and a refusal changes nothing.
         ensures succeeds { n ≤ tiny_capacity A.CAPACITY self.old → IsOk result }
+        ensures full { OnErr result (tiny_capacity A.CAPACITY self.old < n) }
         ensures refused { OnErr result (Unchanged self.old self.new) }
     {
         let len = self.len();
