@@ -83,6 +83,24 @@ fn extend_from_slice_refused(rt: HostRuntime) {
 }
 
 #[test]
+fn clones_made_before_a_refused_one(rt: HostRuntime) {
+    let mut v = TinyVec::from_array_len(rt.alloc(), [Item(1), Item(0), Item(0), Item(0)], 1);
+    assert_eq!(rt;
+        v.extend_from_slice(&[Item(2), Item(3), Item(99)]),
+        Err(AllocError)
+    );
+    match &v {
+        TinyVec::Inline(v, _) => {
+            assert_eq!(rt;
+                v.grab_spare_slice(),
+                [Item(2), Item(3), Item(0)].as_slice()
+            );
+        }
+        TinyVec::Heap(_) => panic!(rt; "there was room"),
+    }
+}
+
+#[test]
 fn resize_refused(rt: HostRuntime) {
     let mut v = three(rt.alloc());
     assert_eq!(rt; v.resize(4, Item(99)), Err(NoMemory(Item(99))));
@@ -102,6 +120,12 @@ fn clone_from_refused(rt: HostRuntime) -> Result<(), Fail> {
     assert_eq!(rt; v.clone_from(&source), Err(AllocError));
     assert!(rt; v.is_inline());
     assert_eq!(rt; v.as_slice(), [Item(7), Item(2)].as_slice());
+    match &v {
+        TinyVec::Inline(v, _) => {
+            assert_eq!(rt; v.grab_spare_slice(), [Item(0), Item(4)].as_slice());
+        }
+        TinyVec::Heap(_) => panic!(rt; "there was room"),
+    }
     // Among the first, of a longer one: the room was granted.
     let mut v = three(rt.alloc());
     let mut source = three(rt.alloc());
