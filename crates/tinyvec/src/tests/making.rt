@@ -27,6 +27,10 @@ fn room_that_no_allocator_grants(rt: HostRuntime) {
     assert_eq!(rt; refused.err(), Some(AllocError));
     let refused = TinyVec::<[i32; 4]>::with_initial_len(rt.alloc(), 1 << 60);
     assert_eq!(rt; refused.err(), Some(AllocError));
+    let refused = TinyVec::<[i32; 4]>::with_capacity(rt.alloc(), usize::MAX);
+    assert_eq!(rt; refused.err(), Some(AllocError));
+    let refused = TinyVec::<[i32; 4]>::with_initial_len(rt.alloc(), usize::MAX);
+    assert_eq!(rt; refused.err(), Some(AllocError));
 }
 
 #[test]
@@ -105,4 +109,22 @@ fn many_slots(rt: HostRuntime) {
     assert_eq!(rt; v.len(), 65537);
     assert_eq!(rt; v.pop(), Some(8));
     assert!(rt; v.iter().all(|x| *x == 7));
+}
+
+#[test]
+fn many_slots_there_and_back(rt: HostRuntime) -> Result<(), Fail> {
+    let mut v: TinyVec<[u8; 65536]> = TinyVec::with_capacity(rt.alloc(), 65536)?;
+    assert!(rt; v.is_inline());
+    assert_eq!(rt; v.capacity(), 65536);
+    v.move_to_the_heap()?;
+    match v.resize(65536, 7) {
+        Ok(()) => {}
+        Err(_) => panic!(rt; "memory was granted"),
+    }
+    assert!(rt; v.is_heap());
+    v.shrink_to_fit();
+    assert!(rt; v.is_inline());
+    assert_eq!(rt; v.len(), 65536);
+    assert!(rt; v.iter().all(|x| *x == 7));
+    Ok(())
 }

@@ -41,7 +41,9 @@ fn try_there_and_back(rt: HostRuntime) -> Result<(), Fail> {
 fn back_once_it_fits(rt: HostRuntime) -> Result<(), Fail> {
     let mut v: TinyVec<[i32; 2]> = TinyVec::from_slice(rt.alloc(), &[1, 2, 3])?;
     assert!(rt; lies(&v, &[1, 2, 3], false));
+    v.reserve(100)?;
     v.shrink_to_fit();
+    assert!(rt; v.capacity() < 103);
     assert!(rt; lies(&v, &[1, 2, 3], false));
     assert_eq!(rt; v.pop(), Some(3));
     assert!(rt; lies(&v, &[1, 2], false));
@@ -61,6 +63,17 @@ fn refused(rt: HostRuntime) {
         assert!(rt; lies(&v, &[1], true));
         assert!(rt; spares(&v, &[7, 7]));
     }
+}
+
+#[test]
+fn refused_on_the_heap(rt: HostRuntime) -> Result<(), Fail> {
+    let mut v = TinyVec::from_array_len(rt.alloc(), [1, 7, 7], 1);
+    v.move_to_the_heap()?;
+    let capacity = v.capacity();
+    assert_eq!(rt; v.move_to_the_heap_and_reserve(usize::MAX), Err(AllocError));
+    assert!(rt; lies(&v, &[1], false));
+    assert_eq!(rt; v.capacity(), capacity);
+    Ok(())
 }
 
 #[test]

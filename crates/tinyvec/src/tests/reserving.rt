@@ -12,6 +12,30 @@ fn capacities(rt: HostRuntime) -> Result<(), Fail> {
     one.extend_from_slice(&[1, 2, 3, 4])?;
     assert!(rt; one.capacity() >= 4);
     assert!(rt; lies(&one, &[1, 2, 3, 4], false));
+    let five: TinyVec<[i32; 10]> = TinyVec::with_capacity(rt.alloc(), 5)?;
+    assert!(rt; lies(&five, &[], true));
+    assert!(rt; five.capacity() >= 5);
+    let twenty: TinyVec<[i32; 10]> = TinyVec::with_capacity(rt.alloc(), 20)?;
+    assert!(rt; lies(&twenty, &[], false));
+    assert!(rt; twenty.capacity() >= 20);
+    Ok(())
+}
+
+#[test]
+fn no_slots(rt: HostRuntime) -> Result<(), Fail> {
+    let mut v: TinyVec<[i32; 0]> = TinyVec::new(rt.alloc());
+    v.reserve(0)?;
+    assert!(rt; lies(&v, &[], true));
+    assert_eq!(rt; v.pop(), None);
+    assert_eq!(rt; v.drain(..).next(), None);
+    assert!(rt; lies(&v, &[], true));
+    v.reserve(1)?;
+    assert!(rt; lies(&v, &[], false));
+    assert!(rt; v.capacity() >= 1);
+    v.shrink_to_fit();
+    assert!(rt; lies(&v, &[], true));
+    assert!(rt; v.insert(0, 5).is_ok());
+    assert!(rt; lies(&v, &[5], false));
     Ok(())
 }
 
