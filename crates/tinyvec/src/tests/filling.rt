@@ -1,6 +1,31 @@
 //! Items taken from iterators, one by one.
+ghost use Rattle.std.specs.Prelude.{◌-◌};
+ghost use Rattle.std.specs.Iterator.{at_most};
+
 use super::{lies, spares};
 use crate::TinyVec;
+
+// Gives the numbers below `end`, and hints at nothing.
+#[derive(Drop)]
+struct Unhinted {
+    next: u8,
+    end: u8,
+}
+
+impl Iterator for Unhinted {
+    type Item = i32;
+
+    ghost remaining = { λ s. at_most (s.end - s.next) };
+
+    fn next(&mut self) -> Option<i32> {
+        if self.next >= self.end {
+            return None;
+        }
+        let given = self.next;
+        self.next += 1;
+        Some(i32::from(given))
+    }
+}
 
 #[test]
 fn listed(rt: HostRuntime) {
@@ -12,4 +37,14 @@ fn listed(rt: HostRuntime) {
     assert!(rt; lies(&v, &[1, 5, 6, 7, 8, 9], false));
     assert!(rt; v.extend(10..12).is_ok());
     assert!(rt; lies(&v, &[1, 5, 6, 7, 8, 9, 10, 11], false));
+}
+
+#[test]
+fn without_a_hint(rt: HostRuntime) {
+    let mut v = TinyVec::from_array_len(rt.alloc(), [1, 0, 0, 0], 1);
+    assert!(rt; v.extend(Unhinted { next: 2, end: 3 }).is_ok());
+    assert!(rt; lies(&v, &[1, 2], true));
+    let mut v = TinyVec::from_array_len(rt.alloc(), [1, 0, 0, 0], 1);
+    assert!(rt; v.extend(Unhinted { next: 2, end: 6 }).is_ok());
+    assert!(rt; lies(&v, &[1, 2, 3, 4, 5], false));
 }
