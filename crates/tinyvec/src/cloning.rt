@@ -1,23 +1,8 @@
 //! Clones, made one by one.
-ghost use Rattle.std.specs.Prelude.{◌≡◌, ◌+◌, ◌<◌, ◌≤◌, ◌++◌, ℕ, All, length, take, drop, replicate, IsOk, OnOk, OnErr, vec_len, vec_capacity};
+ghost use Rattle.std.specs.Prelude.{◌≡◌, ◌+◌, ◌<◌, ◌≤◌, ◌++◌, ℕ, All, length, replicate, IsOk, OnOk, OnErr, vec_len, vec_capacity};
 ghost use Rattle.tinyvec_slots.specs.Clones.{RefusedAt};
 
 use std::alloc::AllocError;
-
-/// Writes clones of `from` over the first items of `to`.
-pub(crate) fn clone_over<T: Clone>(to: &mut [T], from: &[T]) -> Result<(), AllocError>
-    requires same_len { length from.now ≡ length to.old }
-    requires clones { (x y : T) → T.is_clone x y → y ≡ x }
-    ensures ok { OnOk result (to.new ≡ from.now) }
-    ensures refused { OnErr result ((j : ℕ) × RefusedAt T.is_infallible from.now j × (to.new ≡ take j from.now ++ drop j to.old)) }
-    ensures len { length to.new ≡ length to.old }
-    ensures succeeds { All T.is_infallible from.now → IsOk result }
-{
-    for i in 0..from.len() {
-        to[i] = from[i].clone()?;
-    }
-    Ok(())
-}
 
 /// Appends clones of `from`, where there is room.
 pub(crate) fn push_clones<T: Clone>(heap: &mut Vec<T>, from: &[T]) -> Result<(), AllocError>

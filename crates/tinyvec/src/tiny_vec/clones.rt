@@ -6,9 +6,9 @@ ghost use Rattle.tinyvec.specs.Tiny.{tiny_items, tiny_len, tiny_spare, is_inline
 ghost use Rattle.tinyvec.specs.Growth.{RefusedFor, PartlyCloned};
 
 use crate::TinyVec;
-use crate::cloning::clone_over;
 use std::alloc::{AllocError, Global};
 use tinyvec_array::Array;
+use tinyvec_slots::clone_over;
 
 impl<A: Array> TinyVec<A> {
     /// A list of clones of the slice's items, inline where they fit the array.

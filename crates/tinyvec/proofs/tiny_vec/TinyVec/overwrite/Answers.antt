@@ -1,8 +1,20 @@
-use Rattle.std.proofs.Common.{◌≡◌, ◌++◌, length, take, drop, ap, ◌∙◌}
-use Rattle.std.proofs.lemmas.Result.{on_err_weaker}
-use Rattle.tinyvec.specs.Tiny.{tiny_len}
+use Rattle.std.proofs.Common.{◌≡◌, [], ◌++◌, length, take, drop, append-nil, ap, ◌∙◌, arith}
+use Rattle.std.proofs.lemmas.List.{drop_all}
+use Rattle.std.proofs.lemmas.Result.{on_ok_weaker, on_err_weaker}
+use Rattle.tinyvec.specs.Tiny.{tiny_items, tiny_len}
 use Rattle.tinyvec.proofs.TinyLemmas.{tiny_items-with, tiny_framed-with}
 use Rattle.tinyvec.proofs.tiny_vec.TinyVec.overwrite.Goals as goal
+
+pub returns-clause-ok : goal.returns-clause-ok
+returns-clause-ok g c =
+    let v = c.args.self.now in
+    let xs = c.args.source.now in
+    let ws = c.clone_over.new.to in
+    let same = c.as_mut_slice.ensures.value in
+    let long : length ws ≡ tiny_len v = c.clone_over.ensures.len ∙ ap length same in
+    let none : drop (length xs) c.as_mut_slice.result.now ≡ [] = ap (drop (length xs)) same ∙ drop_all (length xs) (tiny_items v) (omega (arith, c.requires.same_len)) in
+    on_ok_weaker c.clone_over.result
+    (λ h. tiny_items-with v ws long ∙ h ∙ ap (λ l. xs ++ l) none ∙ append-nil xs) c.clone_over.ensures.ok
 
 pub returns-clause-refused : goal.returns-clause-refused
 returns-clause-refused g c =
