@@ -30,8 +30,8 @@ module _ {T : Type 0} (D : T → Type 0) (slots : ℕ) where
     pub kept : Inline old → new ≡ old
     pub spare_are : lies_inline old.place ≡ false → Inline new → AreDefaults D (slots - count old) new.spare
 
-  -- From the old value the call may be answered so, and leave the new value. Want of memory is a case of its own, and comes
-  -- only where there is no such room: of a list that lies in the array only where the need is above the slots.
+  -- From the old value the call may be answered so, and leave the new value. Want of memory is a case of its own: `Memory`
+  -- only where there is no such room, for the move of an inline list to the heap, or for the items of a drain.
   abbrev pub TinyStep : Tiny T → Call T → Answer T → Tiny T → Type 0
   TinyStep old (Push x) answers.Done new = (new.items ≡ old.items ++ x ∷ []) × Ruled D slots (count old + 1) old new
   TinyStep old (Push x) answers.Memory new = (count old ≡ room slots old.place) × (new ≡ old)
