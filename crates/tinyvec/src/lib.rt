@@ -10,8 +10,8 @@ pub use drain::TinyVecDrain;
 pub use iterator::TinyVecIterator;
 pub use tiny_vec::TinyVec;
 pub use tinyvec_array::{
-    Array, ArrayVec, ArrayVecDrain, ArrayVecIterator, ArrayVecSplice, FromIterRest, NoMemory, NoRoom,
-    SpliceRest, TryFromSliceError,
+    Array, ArrayVec, ArrayVecDrain, ArrayVecIterator, ArrayVecSplice, FromIterRest, NoMemory,
+    NoRoom, SpliceRest, TryFromSliceError,
 };
 pub use tinyvec_slice::{Lent, SliceVec, SliceVecDrain, SliceVecDrainOver, SliceVecOver};
 

@@ -5,7 +5,7 @@ ghost use Rattle.tinyvec_script.specs.Step.{ArrayStep, ArrayDrains, ArraySpliceS
 
 use crate::{Answer, Call, Driven, End, drive_array_splice};
 use std::alloc::Global;
-use tinyvec_array::{Array, ArrayVec};
+use tinyvec::{Array, ArrayVec};
 
 /// Makes the call.
 pub(crate) fn answer_array<A: Array>(

@@ -12,7 +12,7 @@ use crate::End;
 use std::alloc::Global;
 use std::iter::Fuse;
 use std::vec::IntoIter;
-use tinyvec_array::{Array, ArrayVec, ArrayVecSplice, NoMemory, SpliceRest};
+use tinyvec::{Array, ArrayVec, ArrayVecSplice, NoMemory, SpliceRest};
 
 /// What a splice gave, and what of its replacement found no room.
 #[derive(PartialEq, Debug, Drop)]

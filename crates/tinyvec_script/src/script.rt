@@ -15,10 +15,8 @@ use std::alloc::Global;
 use std::io;
 use std::io::{Read, Write};
 use thiserror::Error;
-use tinyvec::TinyVec;
-use tinyvec_array::ArrayVec;
+use tinyvec::{ArrayVec, Lent, SliceVec, TinyVec};
 use tinyvec_io::Counted;
-use tinyvec_slice::{Lent, SliceVec};
 
 /// How many bytes are read at a time.
 const CHUNK: usize = 4096;

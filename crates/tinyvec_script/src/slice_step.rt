@@ -5,7 +5,7 @@ ghost use Rattle.tinyvec_script.specs.Step.{SliceStep, ArrayDrains};
 
 use crate::{Answer, Call};
 use std::alloc::Global;
-use tinyvec_slice::{Lent, SliceVecOver};
+use tinyvec::{Lent, SliceVecOver};
 
 /// Makes the call.
 pub(crate) fn answer_slice<B: Lent>(

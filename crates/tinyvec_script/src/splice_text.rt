@@ -10,7 +10,7 @@ use crate::End;
 use crate::command::split_word;
 use crate::number::{parse_index, parse_number};
 use std::alloc::{AllocError, Global};
-use tinyvec_array::ArrayVec;
+use tinyvec::ArrayVec;
 
 /// The numbers of a line.
 pub(crate) type Numbers = ArrayVec<[i32; 64]>;

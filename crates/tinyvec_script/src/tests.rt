@@ -2,7 +2,7 @@
 use crate::{Answer, Call, RunError, run, run_array};
 use std::alloc::Global;
 use std::test::Fail;
-use tinyvec_array::ArrayVec;
+use tinyvec::ArrayVec;
 use tinyvec_io::Counted;
 
 mod ends;

@@ -6,8 +6,7 @@ ghost use Rattle.tinyvec_script.specs.TinyCalls.{TinyStep, Drained};
 
 use crate::{Answer, Call};
 use std::alloc::Global;
-use tinyvec::TinyVec;
-use tinyvec_array::Array;
+use tinyvec::{Array, TinyVec};
 
 /// Makes the call.
 pub(crate) fn answer_tiny<A: Array>(

@@ -15,10 +15,8 @@ use crate::{Answer, Call};
 use std::alloc::Global;
 use std::io;
 use std::io::Write;
-use tinyvec::TinyVec;
-use tinyvec_array::ArrayVec;
+use tinyvec::{ArrayVec, Lent, SliceVecOver, TinyVec};
 use tinyvec_io::Counted;
-use tinyvec_slice::{Lent, SliceVecOver};
 
 /// The vectors of a script, each under its name.
 #[derive(Drop)]

@@ -5,7 +5,7 @@ ghost use Rattle.tinyvec_script.specs.Step.{ArrayStep, Run};
 use crate::array_step::answer_array;
 use crate::{Answer, Call};
 use std::alloc::Global;
-use tinyvec_array::{Array, ArrayVec, NoMemory};
+use tinyvec::{Array, ArrayVec, NoMemory};
 
 /// Makes the calls in order, and gives one answer to each. Room for all answers is asked for first: where that is
 /// refused, no call is made and the calls come back.

@@ -6,8 +6,7 @@ ghost use Rattle.tinyvec_script.specs.Step.{SliceStep, Run};
 use crate::slice_step::answer_slice;
 use crate::{Answer, Call};
 use std::alloc::Global;
-use tinyvec_array::NoMemory;
-use tinyvec_slice::{Lent, SliceVecOver};
+use tinyvec::{Lent, NoMemory, SliceVecOver};
 
 /// Makes the calls in order, and gives one answer to each. Room for all answers is asked for first: where that is
 /// refused, no call is made and the calls come back.

@@ -7,8 +7,7 @@ ghost use Rattle.tinyvec_script.specs.TinyCalls.{TinyStep};
 use crate::tiny_step::answer_tiny;
 use crate::{Answer, Call};
 use std::alloc::Global;
-use tinyvec::TinyVec;
-use tinyvec_array::{Array, NoMemory};
+use tinyvec::{Array, NoMemory, TinyVec};
 
 /// Makes the calls in order, and gives one answer to each. Room for all answers is asked for first: where that is
 /// refused, no call is made and the calls come back.

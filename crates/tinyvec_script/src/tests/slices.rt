@@ -2,7 +2,7 @@
 use super::answered;
 use crate::{Answer, Call, run_slice};
 use std::test::Fail;
-use tinyvec_slice::SliceVec;
+use tinyvec::SliceVec;
 
 const LINES: [(&[u8], &[u8]); 19] = [
     (b"S push 7", b"ok [7] [0, 0, 0]"),

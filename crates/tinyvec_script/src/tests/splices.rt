@@ -2,7 +2,7 @@
 use super::{answered, written};
 use crate::{Answer, Call, End, drive_array_splice, run_array};
 use std::test::Fail;
-use tinyvec_array::ArrayVec;
+use tinyvec::ArrayVec;
 
 const LINES: [(&[u8], &[u8]); 17] = [
     (

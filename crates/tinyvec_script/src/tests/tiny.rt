@@ -2,9 +2,7 @@
 use super::written;
 use crate::{Answer, Call, run_array, run_slice, run_tiny};
 use std::test::Fail;
-use tinyvec::TinyVec;
-use tinyvec_array::ArrayVec;
-use tinyvec_slice::SliceVec;
+use tinyvec::{ArrayVec, SliceVec, TinyVec};
 
 // Lines from the start of a script, each with its answer.
 const LINES: [(&[u8], &[u8]); 38] = [
