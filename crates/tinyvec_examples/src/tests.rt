@@ -10,3 +10,4 @@ mod making;
 mod owned;
 mod slices;
 mod splices;
+mod tiny_vec;

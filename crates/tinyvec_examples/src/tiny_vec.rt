@@ -3,6 +3,7 @@ ghost use Rattle.std.specs.Prelude.{◌≡◌, ◌+◌, ◌-◌, ◌<◌, ◌≤
 ghost use Rattle.tinyvec_slots.specs.Cut.{IsRangeOf, before, removed, after};
 ghost use Rattle.tinyvec.specs.Tiny.{tiny_items, tiny_len, tiny_spare, is_inline, tiny_capacity, IsInline, TinySlotRule, Unchanged};
 
+use crate::making::count;
 use std::alloc::{AllocError, Global};
 use std::ops::RangeBounds;
 use tinyvec::{Array, NoRoom, TinyVec, TinyVecIterator};
@@ -17,6 +18,13 @@ pub fn three(alloc: Global) -> TinyVec<[i32; 4]>
     let _two = v.push(2);
     let _three = v.push(3);
     v
+}
+
+/// A vector lends its items.
+pub fn lent_items<A: Array>(v: &TinyVec<A>) -> usize
+    ensures { result ≡ tiny_len v.now }
+{
+    count(v)
 }
 
 /// A full inline list goes to the heap where memory is granted, and else nothing changes.
