@@ -3,7 +3,7 @@ ghost use Rattle.std.specs.Prelude.{◌≡◌, IfOk, vec_items};
 ghost use Rattle.std.specs.Io.{StartsWith};
 
 use crate::Counted;
-use std::alloc::Global;
+use std::alloc::{AllocError, Global};
 use std::io;
 use std::io::ErrorKind::{BrokenPipe, Interrupted, Other, WriteZero};
 use std::io::{ErrorKind, Read, Write};
@@ -32,13 +32,14 @@ struct FakeEnd<'a> {
 }
 
 impl<'a> FakeEnd<'a> {
-    fn new(alloc: Global, input: &'a [u8], script: &'a [Answer]) -> Self {
-        FakeEnd {
+    // It has room for what it records, so that only this asks for memory.
+    fn new(alloc: Global, input: &'a [u8], script: &'a [Answer]) -> Result<Self, AllocError> {
+        Ok(FakeEnd {
             script,
             input,
-            output: Vec::new(alloc),
-            calls: Vec::new(alloc),
-        }
+            output: Vec::with_capacity(alloc, 8)?,
+            calls: Vec::with_capacity(alloc, 8)?,
+        })
     }
 
     // How many bytes the script has this call move. Past its end every call fails.
@@ -82,7 +83,7 @@ fn a_read_is_passed_on_and_counts_where_it_fails(rt: HostRuntime) -> Result<(), 
         Answer::Fails(BrokenPipe),
         Answer::Moves(0),
     ];
-    let mut reader = Counted::new(FakeEnd::new(rt.alloc(), b"tiny", &script));
+    let mut reader = Counted::new(FakeEnd::new(rt.alloc(), b"tiny", &script)?);
     let mut buf = [b'.'; 4];
     let wanted = [
         (Ok(3), 0),
@@ -112,7 +113,7 @@ fn a_write_is_passed_on_and_counts_where_it_fails_or_takes_nothing(
         Answer::Moves(0),
         Answer::Fails(BrokenPipe),
     ];
-    let mut writer = Counted::new(FakeEnd::new(rt.alloc(), b"", &script));
+    let mut writer = Counted::new(FakeEnd::new(rt.alloc(), b"", &script)?);
     let wanted = [
         (Ok(3), 0),
         (Err(Interrupted), 1),
@@ -132,7 +133,7 @@ fn a_write_is_passed_on_and_counts_where_it_fails_or_takes_nothing(
 #[test]
 fn a_write_of_no_bytes_is_passed_on_and_is_no_fault(rt: HostRuntime) -> Result<(), Fail> {
     let script = [Answer::Moves(0)];
-    let mut writer = Counted::new(FakeEnd::new(rt.alloc(), b"", &script));
+    let mut writer = Counted::new(FakeEnd::new(rt.alloc(), b"", &script)?);
     assert_eq!(rt; writer.write(b"").map_err(|e| e.kind()), Ok(0));
     assert_eq!(rt; writer.faults(), 0);
     assert_eq!(rt;
@@ -149,7 +150,7 @@ fn a_flush_is_passed_on_and_counts_where_it_fails(rt: HostRuntime) -> Result<(),
         Answer::Fails(Interrupted),
         Answer::Fails(BrokenPipe),
     ];
-    let mut writer = Counted::new(FakeEnd::new(rt.alloc(), b"", &script));
+    let mut writer = Counted::new(FakeEnd::new(rt.alloc(), b"", &script)?);
     let wanted = [(Ok(()), 0), (Err(Interrupted), 1), (Err(BrokenPipe), 2)];
     for (answer, faults) in wanted {
         assert_eq!(rt; writer.flush().map_err(|e| e.kind()), answer);
@@ -172,7 +173,7 @@ fn read_some_tries_again_after_interruptions_alone(rt: HostRuntime) -> Result<()
         Answer::Fails(BrokenPipe),
         Answer::Moves(0),
     ];
-    let mut reader = Counted::new(FakeEnd::new(rt.alloc(), b"tiny", &script));
+    let mut reader = Counted::new(FakeEnd::new(rt.alloc(), b"tiny", &script)?);
     let mut buf = [b'.'; 4];
     for (answer, faults) in [(Ok(3), 2), (Err(BrokenPipe), 4), (Ok(0), 4)] {
         assert_eq!(rt; reader.read_some(&mut buf).map_err(|e| e.kind()), answer);
@@ -194,7 +195,7 @@ fn write_all_writes_in_pieces_and_tries_again(rt: HostRuntime) -> Result<(), Fai
         Answer::Moves(2),
         Answer::Moves(1),
     ];
-    let mut writer = Counted::new(FakeEnd::new(rt.alloc(), b"", &script));
+    let mut writer = Counted::new(FakeEnd::new(rt.alloc(), b"", &script)?);
     writer.write_all(b"tiny")?;
     writer.write_all(b"")?;
     assert_eq!(rt; writer.faults(), 1);
@@ -218,7 +219,7 @@ fn write_all_fails_at_a_write_that_fails_or_takes_nothing(rt: HostRuntime) -> Re
     ];
     for (answer, kind) in cases {
         let script = [Answer::Moves(3), answer];
-        let mut writer = Counted::new(FakeEnd::new(rt.alloc(), b"", &script));
+        let mut writer = Counted::new(FakeEnd::new(rt.alloc(), b"", &script)?);
         assert_eq!(rt; writer.write_all(b"tiny").map_err(|e| e.kind()), Err(kind));
         assert_eq!(rt; writer.faults(), 1);
         assert_eq!(rt; writer.into_inner().output.as_slice(), b"tin".as_slice());

@@ -1,6 +1,7 @@
 // What scripts and runs answer, over memory and over ends that fail.
 use crate::{Answer, Call, RunError, run, run_array};
-use std::alloc::Global;
+use std::alloc::{AllocGlobal, Global};
+use std::process::Abort;
 use std::test::Fail;
 use tinyvec::ArrayVec;
 use tinyvec_io::Counted;
@@ -78,32 +79,69 @@ const LINES: [(&[u8], &[u8]); 53] = [
     (b"A truncate 0", b"ok [] [0, 0, 0, 0]"),
 ];
 
+// Room for all that a test here reads or writes.
+const ROOM: usize = 1 << 15;
+
 // What a script over memory writes.
 fn written(alloc: Global, input: &[u8]) -> Result<Vec<u8>, Fail> {
     let mut reader = Counted::new(input);
-    let mut writer = Counted::new(Vec::new(alloc));
+    let mut writer = Counted::new(Vec::with_capacity(alloc, ROOM)?);
     run(alloc, &mut reader, &mut writer)?;
     Ok(writer.into_inner())
 }
 
-// What a script of these lines writes, and the answers that they should get.
-fn answered(alloc: Global, lines: &[(&[u8], &[u8])]) -> Result<(Vec<u8>, Vec<u8>), Fail> {
-    let mut input = Vec::new(alloc);
-    let mut output = Vec::new(alloc);
+// Whether the first line that differs from what is wanted tells of refused memory.
+fn tells_refused_memory(answers: &[u8], wanted: &[u8]) -> bool {
+    let is_end = |byte: &u8| *byte == b'\n';
+    for (answer, line) in answers.split(is_end).zip(wanted.split(is_end)) {
+        if answer != line {
+            return answer.starts_with(b"memory ");
+        }
+    }
+    false
+}
+
+// Asserts that a script writes this, if no memory is refused.
+fn assert_written(
+    rt: &(impl Abort + AllocGlobal),
+    input: &[u8],
+    output: &[u8],
+) -> Result<(), Fail> {
+    let answers = written(rt.alloc(), input)?;
+    assert!(rt;
+        !tells_refused_memory(answers.as_slice(), output),
+        "memory was granted"
+    );
+    assert_eq!(rt; answers.as_slice(), output);
+    Ok(())
+}
+
+// Asserts that each line of a script is answered so, if no memory is refused.
+fn assert_answered(rt: &(impl Abort + AllocGlobal), lines: &[(&[u8], &[u8])]) -> Result<(), Fail> {
+    let mut input = Vec::with_capacity(rt.alloc(), ROOM)?;
+    let mut output = Vec::with_capacity(rt.alloc(), ROOM)?;
     for (line, answer) in lines {
         input.extend_from_slice(line)?;
         input.extend_from_slice(b"\n")?;
         output.extend_from_slice(answer)?;
         output.extend_from_slice(b"\n")?;
     }
-    Ok((written(alloc, input.as_slice())?, output))
+    assert_written(rt, input.as_slice(), output.as_slice())
+}
+
+// Asserts that a run gives these answers, if no memory is refused.
+fn assert_answers(rt: &impl Abort, answers: &[Answer<i32>], wanted: &[Answer<i32>]) {
+    for (answer, one) in answers.iter().zip(wanted) {
+        let refused = matches!(answer, Answer::Memory) && answer != one;
+        assert!(rt; !refused, "memory was granted");
+        assert_eq!(rt; answer, one);
+    }
+    assert_eq!(rt; answers.len(), wanted.len());
 }
 
 #[test]
 fn each_line_is_answered(rt: HostRuntime) -> Result<(), Fail> {
-    let (answers, output) = answered(rt.alloc(), LINES.as_slice())?;
-    assert_eq!(rt; answers.as_slice(), output.as_slice());
-    Ok(())
+    assert_answered(&rt, LINES.as_slice())
 }
 
 #[test]
@@ -115,15 +153,16 @@ fn the_end_of_input_ends_a_line_that_has_bytes(rt: HostRuntime) -> Result<(), Fa
         (b"\n", b"bad\n"),
     ];
     for (input, output) in cases {
-        assert_eq!(rt; written(rt.alloc(), input)?.as_slice(), output);
+        assert_written(&rt, input, output)?;
     }
     Ok(())
 }
 
 #[test]
 fn a_long_line_is_read_whole_and_bad_once(rt: HostRuntime) -> Result<(), Fail> {
+    let mut input = Vec::with_capacity(rt.alloc(), ROOM)?;
     for len in [127, 128, 129, 130, 5000, 20000] {
-        let mut input = Vec::new(rt.alloc());
+        input.clear();
         input.extend_from_slice(b"A push ")?;
         for _digit in 7..len {
             input.push(b'1')?;
@@ -139,10 +178,11 @@ fn a_long_line_is_read_whole_and_bad_once(rt: HostRuntime) -> Result<(), Fail> {
     Ok(())
 }
 
-const SCRIPT: &[u8] = b"A push 1\nA push 2\nA drain 0 1\nA pop\nA pop\n";
+// It asks for no memory, so that only an end fails.
+const SCRIPT: &[u8] = b"A push 1\nA push 2\nA remove 0\nA pop\nA pop\n";
 
 const OUTPUT: &[u8] =
-    b"ok [1] [0, 0, 0]\nok [1, 2] [0, 0]\nitems [1] [2] [0, 0, 0]\nsome 2 [] [0, 0, 0, 0]\nnone [] [0, 0, 0, 0]\n";
+    b"ok [1] [0, 0, 0]\nok [1, 2] [0, 0]\nsome 1 [2] [0, 0, 0]\nsome 2 [] [0, 0, 0, 0]\nnone [] [0, 0, 0, 0]\n";
 
 // The first so many lines of a text.
 fn first_lines(text: &[u8], lines: usize) -> &[u8] {
@@ -160,47 +200,49 @@ fn first_lines(text: &[u8], lines: usize) -> &[u8] {
 
 #[test]
 fn a_read_that_fails_after_each_byte(rt: HostRuntime) -> Result<(), Fail> {
+    let mut output = Vec::with_capacity(rt.alloc(), ROOM)?;
     for count in 0..=SCRIPT.len() {
         let input = &SCRIPT[..count];
         let mut reader = Counted::new(Breaks::new(input));
-        let mut writer = Counted::new(Vec::new(rt.alloc()));
+        let mut writer = Counted::new(output);
         let result = run(rt.alloc(), &mut reader, &mut writer);
         assert_eq!(rt; result, Err(RunError::Read), "after {count}");
         let lines = input.iter().filter(|byte| **byte == b'\n').count();
+        output = writer.into_inner();
         assert_eq!(rt;
-            writer.into_inner().as_slice(),
+            output.as_slice(),
             first_lines(OUTPUT, lines),
             "after {count}"
         );
+        output.clear();
     }
     Ok(())
 }
 
 #[test]
 fn a_write_that_fails_after_each_byte(rt: HostRuntime) -> Result<(), Fail> {
+    let mut output = Vec::with_capacity(rt.alloc(), ROOM)?;
     for room in 0..OUTPUT.len() {
         let mut reader = Counted::new(SCRIPT);
-        let mut writer = Counted::new(Fills::new(Vec::new(rt.alloc()), room));
+        let mut writer = Counted::new(Fills::new(output, room));
         let result = run(rt.alloc(), &mut reader, &mut writer);
         assert_eq!(rt; result, Err(RunError::Write), "after {room}");
         assert_eq!(rt; writer.faults(), 1, "after {room}");
-        assert_eq!(rt;
-            writer.into_inner().taken.as_slice(),
-            &OUTPUT[..room],
-            "after {room}"
-        );
+        output = writer.into_inner().taken;
+        assert_eq!(rt; output.as_slice(), &OUTPUT[..room], "after {room}");
+        output.clear();
     }
     Ok(())
 }
 
 #[test]
 fn the_answers_to_a_chunk_go_out_in_few_writes(rt: HostRuntime) -> Result<(), Fail> {
-    let mut input = Vec::new(rt.alloc());
+    let mut input = Vec::with_capacity(rt.alloc(), ROOM)?;
     for _line in 0..1000 {
         input.extend_from_slice(b"A pop\n")?;
     }
     let mut reader = Counted::new(input.as_slice());
-    let mut writer = Counted::new(Fills::new(Vec::new(rt.alloc()), usize::MAX));
+    let mut writer = Counted::new(Fills::new(Vec::with_capacity(rt.alloc(), ROOM)?, usize::MAX));
     run(rt.alloc(), &mut reader, &mut writer)?;
     let writer = writer.into_inner();
     // 6000 bytes are two chunks of 4 KiB, and 21000 bytes of answers.
@@ -275,7 +317,7 @@ fn a_run_answers_each_call(rt: HostRuntime) -> Result<(), Fail> {
         Answer::Range,
         Answer::Done,
     ];
-    assert_eq!(rt; answers.as_slice(), wanted.as_slice());
+    assert_answers(&rt, answers.as_slice(), wanted.as_slice());
     assert_eq!(rt; vec.into_inner(), [0, 0, 0, 0]);
     Ok(())
 }

@@ -78,8 +78,8 @@ fn extend_from_slice_refused(rt: HostRuntime) {
     assert_eq!(rt; v.as_slice(), [Item(1), Item(2), Item(3)].as_slice());
     // The room was granted before the clone was refused.
     assert_eq!(rt; v.extend_from_slice(&[Item(5), Item(99)]), Err(AllocError));
-    assert!(rt; v.is_heap());
     assert_eq!(rt; v.as_slice(), [Item(1), Item(2), Item(3)].as_slice());
+    assert!(rt; v.is_heap(), "memory was granted");
 }
 
 #[test]
@@ -106,8 +106,8 @@ fn resize_refused(rt: HostRuntime) {
     assert_eq!(rt; v.resize(4, Item(99)), Err(NoMemory(Item(99))));
     assert!(rt; v.is_inline());
     assert_eq!(rt; v.resize(6, Item(99)), Err(NoMemory(Item(99))));
-    assert!(rt; v.is_heap());
     assert_eq!(rt; v.as_slice(), [Item(1), Item(2), Item(3)].as_slice());
+    assert!(rt; v.is_heap(), "memory was granted");
     assert!(rt; v.resize(2, Item(99)).is_ok());
     assert_eq!(rt; v.as_slice(), [Item(1), Item(2)].as_slice());
 }
@@ -130,17 +130,17 @@ fn clone_from_refused(rt: HostRuntime) -> Result<(), Fail> {
     let mut v = three(rt.alloc());
     let mut source = three(rt.alloc());
     assert!(rt; source.push(Item(5)).is_ok());
-    assert!(rt; source.push(Item(6)).is_ok());
+    assert!(rt; source.push(Item(6)).is_ok(), "memory was granted");
     if source.len() == 5 {
         source[1] = Item(99);
     }
     assert_eq!(rt; v.clone_from(&source), Err(AllocError));
-    assert!(rt; v.is_heap());
     assert_eq!(rt; v.as_slice(), [Item(1), Item(2), Item(3)].as_slice());
+    assert!(rt; v.is_heap(), "memory was granted");
     // Behind them.
     let mut v = TinyVec::from_array_len(rt.alloc(), [Item(8), Item(0), Item(0), Item(0)], 1);
     assert_eq!(rt; v.clone_from(&source), Err(AllocError));
+    assert!(rt; v.is_heap(), "memory was granted");
     assert_eq!(rt; v.as_slice(), [Item(1)].as_slice());
-    assert!(rt; v.is_heap());
     Ok(())
 }

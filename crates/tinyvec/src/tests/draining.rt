@@ -3,7 +3,7 @@ ghost use Rattle.std.specs.Prelude.{◌≤◌};
 ghost use Rattle.tinyvec_slots.specs.Cut.{range_start, range_end};
 
 use super::{lies, spares};
-use crate::TinyVec;
+use crate::{ArrayVec, TinyVec};
 use std::alloc::AllocGlobal;
 use std::mem;
 use std::ops::{Bound, RangeBounds};
@@ -30,9 +30,9 @@ fn drains<R: RangeBounds<usize>>(
     if v.len() != 3 {
         panic!(rt; "there are three items");
     }
-    let mut drained = Vec::new(rt.alloc());
+    let mut drained: ArrayVec<[i32; 3]> = ArrayVec::new();
     for item in v.drain(range) {
-        drained.push(item)?;
+        assert!(rt; drained.try_push(item).is_none());
     }
     assert_eq!(rt; drained.as_slice(), given);
     assert!(rt; lies(&v, left, inline));
@@ -41,7 +41,7 @@ fn drains<R: RangeBounds<usize>>(
 }
 
 #[test]
-fn ranges(rt: HostRuntime) -> Result<(), Fail> {
+fn ranges_with_an_open_end(rt: HostRuntime) -> Result<(), Fail> {
     for inline in [true, false] {
         drains(&rt, inline, .., &[1, 2, 3], &[])?;
         drains(&rt, inline, ..2, &[1, 2], &[3])?;
@@ -50,16 +50,23 @@ fn ranges(rt: HostRuntime) -> Result<(), Fail> {
         drains(&rt, inline, ..=2, &[1, 2, 3], &[])?;
         drains(&rt, inline, 0.., &[1, 2, 3], &[])?;
         drains(&rt, inline, 1.., &[2, 3], &[1])?;
+        drains(&rt, inline, 3.., &[], &[1, 2, 3])?;
+    }
+    Ok(())
+}
+
+#[test]
+fn ranges_with_both_ends(rt: HostRuntime) -> Result<(), Fail> {
+    for inline in [true, false] {
         drains(&rt, inline, 0..2, &[1, 2], &[3])?;
         drains(&rt, inline, 0..3, &[1, 2, 3], &[])?;
         drains(&rt, inline, 1..2, &[2], &[1, 3])?;
         drains(&rt, inline, 1..3, &[2, 3], &[1])?;
+        drains(&rt, inline, 2..2, &[], &[1, 2, 3])?;
         drains(&rt, inline, 0..=1, &[1, 2], &[3])?;
         drains(&rt, inline, 0..=2, &[1, 2, 3], &[])?;
         drains(&rt, inline, 1..=1, &[2], &[1, 3])?;
         drains(&rt, inline, 1..=2, &[2, 3], &[1])?;
-        drains(&rt, inline, 2..2, &[], &[1, 2, 3])?;
-        drains(&rt, inline, 3.., &[], &[1, 2, 3])?;
         let behind = (Bound::Excluded(0), Bound::Included(2));
         drains(&rt, inline, behind, &[2, 3], &[1])?;
     }

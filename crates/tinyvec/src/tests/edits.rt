@@ -10,7 +10,7 @@ fn pushed_past_the_array(rt: HostRuntime) {
     assert!(rt; lies(&v, &[1], true));
     assert!(rt; v.push(2).is_ok());
     assert!(rt; lies(&v, &[1, 2], true));
-    assert!(rt; v.push(3).is_ok());
+    assert!(rt; v.push(3).is_ok(), "memory was granted");
     assert!(rt; lies(&v, &[1, 2, 3], false));
     assert!(rt; v.capacity() >= 4);
     assert_eq!(rt; v.pop(), Some(3));
@@ -19,7 +19,7 @@ fn pushed_past_the_array(rt: HostRuntime) {
     assert_eq!(rt; v.pop(), None);
     assert!(rt; lies(&v, &[], false));
     let mut none: TinyVec<[i32; 0]> = TinyVec::new(rt.alloc());
-    assert!(rt; none.push(5).is_ok());
+    assert!(rt; none.push(5).is_ok(), "memory was granted");
     assert!(rt; lies(&none, &[5], false));
 }
 
@@ -36,7 +36,7 @@ fn inserted(rt: HostRuntime) {
     let mut v = TinyVec::from_array_len(rt.alloc(), [1, 2, 9], 2);
     assert!(rt; v.insert(1, 7).is_ok());
     assert!(rt; lies(&v, &[1, 7, 2], true));
-    assert!(rt; v.insert(0, 8).is_ok());
+    assert!(rt; v.insert(0, 8).is_ok(), "memory was granted");
     assert!(rt; lies(&v, &[8, 1, 7, 2], false));
     assert!(rt; v.capacity() >= 6);
 }
@@ -113,7 +113,7 @@ fn joined_and_cut(rt: HostRuntime) -> Result<(), Fail> {
     assert!(rt; lies(&v, &[1, 2, 3, 4], true));
     assert!(rt; lies(&other, &[], false));
     if v.len() == 4 {
-        assert!(rt; v.insert(1, 9).is_ok());
+        assert!(rt; v.insert(1, 9).is_ok(), "memory was granted");
     }
     assert!(rt; lies(&v, &[1, 9, 2, 3, 4], false));
     if v.len() == 5 {

@@ -33,9 +33,9 @@ fn listed(rt: HostRuntime) {
     assert!(rt; v.extend([5, 6]).is_ok());
     assert!(rt; lies(&v, &[1, 5, 6], true));
     assert!(rt; spares(&v, &[7]));
-    assert!(rt; v.extend([7, 8, 9]).is_ok());
+    assert!(rt; v.extend([7, 8, 9]).is_ok(), "memory was granted");
     assert!(rt; lies(&v, &[1, 5, 6, 7, 8, 9], false));
-    assert!(rt; v.extend(10..12).is_ok());
+    assert!(rt; v.extend(10..12).is_ok(), "memory was granted");
     assert!(rt; lies(&v, &[1, 5, 6, 7, 8, 9, 10, 11], false));
 }
 

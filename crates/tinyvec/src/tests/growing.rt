@@ -33,19 +33,19 @@ fn extend(rt: HostRuntime) {
     let mut v = full(rt.alloc());
     assert!(rt; v.extend(3..3).is_ok());
     assert!(rt; lies(&v, &[1, 2], true));
-    assert!(rt; v.extend(3..=3).is_ok());
+    assert!(rt; v.extend(3..=3).is_ok(), "memory was granted");
     assert!(rt; lies(&v, &[1, 2, 3], false));
 }
 
 #[test]
 fn resize(rt: HostRuntime) {
     let mut v = full(rt.alloc());
-    assert!(rt; v.resize(3, 3).is_ok());
+    assert!(rt; v.resize(3, 3).is_ok(), "memory was granted");
     assert!(rt; lies(&v, &[1, 2, 3], false));
     assert!(rt; v.resize(1, 9).is_ok());
     assert!(rt; lies(&v, &[1], false));
     let mut many: TinyVec<[i32; 10]> = TinyVec::new(rt.alloc());
-    assert!(rt; many.resize(20, 5).is_ok());
+    assert!(rt; many.resize(20, 5).is_ok(), "memory was granted");
     assert!(rt; lies(&many, &[5; 20], false));
     let mut few: TinyVec<[i32; 4]> = TinyVec::from_array_len(rt.alloc(), [1, 0, 0, 0], 1);
     assert!(rt; few.resize(3, 6).is_ok());
@@ -77,9 +77,9 @@ fn resize_with(rt: HostRuntime) -> Result<(), Fail> {
 #[test]
 fn push_and_insert(rt: HostRuntime) {
     let mut v = full(rt.alloc());
-    assert!(rt; v.push(3).is_ok());
+    assert!(rt; v.push(3).is_ok(), "memory was granted");
     assert!(rt; lies(&v, &[1, 2, 3], false));
     let mut v = TinyVec::from_array(rt.alloc(), [1, 2]);
-    assert!(rt; v.insert(2, 3).is_ok());
+    assert!(rt; v.insert(2, 3).is_ok(), "memory was granted");
     assert!(rt; lies(&v, &[1, 2, 3], false));
 }

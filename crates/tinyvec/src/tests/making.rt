@@ -104,7 +104,7 @@ fn many_slots(rt: HostRuntime) {
     assert!(rt; v.resize(65536, 7).is_ok());
     assert!(rt; v.is_inline());
     assert_eq!(rt; v.len(), 65536);
-    assert!(rt; v.push(8).is_ok());
+    assert!(rt; v.push(8).is_ok(), "memory was granted");
     assert!(rt; v.is_heap());
     assert_eq!(rt; v.len(), 65537);
     assert_eq!(rt; v.pop(), Some(8));

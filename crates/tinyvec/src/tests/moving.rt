@@ -9,7 +9,7 @@ fn there_and_back(rt: HostRuntime) -> Result<(), Fail> {
     let mut v: TinyVec<[i32; 4]> = TinyVec::new(rt.alloc());
     v.move_to_the_heap()?;
     assert!(rt; lies(&v, &[], false));
-    assert!(rt; v.push(1).is_ok());
+    assert!(rt; v.push(1).is_ok(), "memory was granted");
     v.shrink_to_fit();
     assert!(rt; lies(&v, &[1], true));
     assert!(rt; spares(&v, &[0, 0, 0]));

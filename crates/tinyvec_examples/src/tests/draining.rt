@@ -3,20 +3,13 @@ ghost use Rattle.std.specs.Prelude.{◌≤◌};
 ghost use Rattle.tinyvec_slots.specs.Cut.{range_start, range_end};
 
 use crate::draining::*;
-use std::alloc::AllocGlobal;
 use std::mem;
 use std::ops::{Bound, RangeBounds};
 use std::process::Abort;
-use std::test::Fail;
 use tinyvec_array::ArrayVec;
 
 // Drains the range of `[1, 2, 3]` in ten slots, of which the emptied ones then hold 0 as the others do.
-fn drains<R: RangeBounds<usize>>(
-    rt: &(impl Abort + AllocGlobal),
-    range: R,
-    given: &[i32],
-    left: &[i32],
-) -> Result<(), Fail>
+fn drains<R: RangeBounds<usize>>(rt: &impl Abort, range: R, given: &[i32], left: &[i32])
     requires known { R.has_bounds range }
     requires start_le_end { range_start (R.start_bound range) ≤ range_end (R.end_bound range) 3 }
     requires in_list { range_end (R.end_bound range) 3 ≤ 3 }
@@ -25,36 +18,35 @@ fn drains<R: RangeBounds<usize>>(
     v.push(1);
     v.push(2);
     v.push(3);
-    let mut drained = Vec::new(rt.alloc());
+    let mut drained: ArrayVec<[i32; 3]> = ArrayVec::new();
     for item in v.drain(range) {
-        drained.push(item)?;
+        assert!(rt; drained.try_push(item).is_none());
     }
     assert_eq!(rt; drained.as_slice(), given);
     assert_eq!(rt; v.as_slice(), left);
     assert!(rt; v.as_inner()[v.len()..].iter().all(|slot| *slot == 0));
-    Ok(())
 }
 
 #[test]
-fn ranges(rt: HostRuntime) -> Result<(), Fail> {
-    drains(&rt, .., &[1, 2, 3], &[])?;
-    drains(&rt, ..2, &[1, 2], &[3])?;
-    drains(&rt, ..3, &[1, 2, 3], &[])?;
-    drains(&rt, ..=1, &[1, 2], &[3])?;
-    drains(&rt, ..=2, &[1, 2, 3], &[])?;
-    drains(&rt, 0.., &[1, 2, 3], &[])?;
-    drains(&rt, 1.., &[2, 3], &[1])?;
-    drains(&rt, 0..2, &[1, 2], &[3])?;
-    drains(&rt, 0..3, &[1, 2, 3], &[])?;
-    drains(&rt, 1..2, &[2], &[1, 3])?;
-    drains(&rt, 1..3, &[2, 3], &[1])?;
-    drains(&rt, 0..=1, &[1, 2], &[3])?;
-    drains(&rt, 0..=2, &[1, 2, 3], &[])?;
-    drains(&rt, 1..=1, &[2], &[1, 3])?;
-    drains(&rt, 1..=2, &[2, 3], &[1])?;
-    drains(&rt, 2..2, &[], &[1, 2, 3])?;
-    drains(&rt, 3.., &[], &[1, 2, 3])?;
-    drains(&rt, (Bound::Excluded(0), Bound::Included(2)), &[2, 3], &[1])
+fn ranges(rt: HostRuntime) {
+    drains(&rt, .., &[1, 2, 3], &[]);
+    drains(&rt, ..2, &[1, 2], &[3]);
+    drains(&rt, ..3, &[1, 2, 3], &[]);
+    drains(&rt, ..=1, &[1, 2], &[3]);
+    drains(&rt, ..=2, &[1, 2, 3], &[]);
+    drains(&rt, 0.., &[1, 2, 3], &[]);
+    drains(&rt, 1.., &[2, 3], &[1]);
+    drains(&rt, 0..2, &[1, 2], &[3]);
+    drains(&rt, 0..3, &[1, 2, 3], &[]);
+    drains(&rt, 1..2, &[2], &[1, 3]);
+    drains(&rt, 1..3, &[2, 3], &[1]);
+    drains(&rt, 0..=1, &[1, 2], &[3]);
+    drains(&rt, 0..=2, &[1, 2, 3], &[]);
+    drains(&rt, 1..=1, &[2], &[1, 3]);
+    drains(&rt, 1..=2, &[2, 3], &[1]);
+    drains(&rt, 2..2, &[], &[1, 2, 3]);
+    drains(&rt, 3.., &[], &[1, 2, 3]);
+    drains(&rt, (Bound::Excluded(0), Bound::Included(2)), &[2, 3], &[1]);
 }
 
 #[test]

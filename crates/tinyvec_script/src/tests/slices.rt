@@ -1,5 +1,5 @@
 // The vector in a lent slice, as calls and as lines.
-use super::answered;
+use super::{assert_answered, assert_answers};
 use crate::{Answer, Call, run_slice};
 use std::test::Fail;
 use tinyvec::SliceVec;
@@ -28,9 +28,7 @@ const LINES: [(&[u8], &[u8]); 19] = [
 
 #[test]
 fn each_line_of_s_is_answered(rt: HostRuntime) -> Result<(), Fail> {
-    let (answers, output) = answered(rt.alloc(), LINES.as_slice())?;
-    assert_eq!(rt; answers.as_slice(), output.as_slice());
-    Ok(())
+    assert_answered(&rt, LINES.as_slice())
 }
 
 #[test]
@@ -83,7 +81,7 @@ fn a_run_over_a_slice(rt: HostRuntime) -> Result<(), Fail> {
         Answer::Done,
         Answer::Range,
     ];
-    assert_eq!(rt; answers.as_slice(), wanted.as_slice());
+    assert_answers(&rt, answers.as_slice(), wanted.as_slice());
     assert_eq!(rt; array, [0, 9, 0]);
     Ok(())
 }

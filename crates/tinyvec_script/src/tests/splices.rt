@@ -1,5 +1,5 @@
 // Splices, as calls, as lines and driven.
-use super::{answered, written};
+use super::{ROOM, assert_answered, assert_answers, assert_written};
 use crate::{Answer, Call, End, drive_array_splice, run_array};
 use std::test::Fail;
 use tinyvec::ArrayVec;
@@ -32,25 +32,27 @@ const LINES: [(&[u8], &[u8]); 17] = [
 
 #[test]
 fn each_splice_is_answered(rt: HostRuntime) -> Result<(), Fail> {
-    let (answers, output) = answered(rt.alloc(), LINES.as_slice())?;
-    assert_eq!(rt; answers.as_slice(), output.as_slice());
-    Ok(())
+    assert_answered(&rt, LINES.as_slice())
 }
 
 #[test]
 fn a_splice_from_both_ends_that_does_not_fit(rt: HostRuntime) -> Result<(), Fail> {
-    let answers = written(
-        rt.alloc(),
-        b"A push 1\nA push 2\nA push 3\nA push 4\nA splice 1 3 bf 7 8 9\n",
-    )?;
-    let last = b"\nitems [3, 2] rest [8] [1, 7, 9, 4] []\n".as_slice();
-    assert!(rt; answers.as_slice().ends_with(last));
-    Ok(())
+    let lines: [(&[u8], &[u8]); 5] = [
+        (b"A push 1", b"ok [1] [0, 0, 0]"),
+        (b"A push 2", b"ok [1, 2] [0, 0]"),
+        (b"A push 3", b"ok [1, 2, 3] [0]"),
+        (b"A push 4", b"ok [1, 2, 3, 4] []"),
+        (
+            b"A splice 1 3 bf 7 8 9",
+            b"items [3, 2] rest [8] [1, 7, 9, 4] []",
+        ),
+    ];
+    assert_answered(&rt, lines.as_slice())
 }
 
 // `A splice 0 0 -`, followed by 56 ones and the last number.
 fn longest(rt: &HostRuntime, last: &[u8]) -> Result<Vec<u8>, Fail> {
-    let mut line = Vec::new(rt.alloc());
+    let mut line = Vec::with_capacity(rt.alloc(), ROOM)?;
     line.extend_from_slice(b"A splice 0 0 -")?;
     for _number in 0..56 {
         line.extend_from_slice(b" 1")?;
@@ -63,23 +65,16 @@ fn longest(rt: &HostRuntime, last: &[u8]) -> Result<Vec<u8>, Fail> {
 fn the_longest_splice(rt: HostRuntime) -> Result<(), Fail> {
     let line = longest(&rt, b" 1")?;
     assert_eq!(rt; line.len(), 128);
-    let mut answer = Vec::new(rt.alloc());
+    let mut answer = Vec::with_capacity(rt.alloc(), ROOM)?;
     answer.extend_from_slice(b"items [] rest [1")?;
     for _number in 0..52 {
         answer.extend_from_slice(b", 1")?;
     }
     answer.extend_from_slice(b"] [1, 1, 1, 1] []\n")?;
-    assert_eq!(rt;
-        written(rt.alloc(), line.as_slice())?.as_slice(),
-        answer.as_slice()
-    );
+    assert_written(&rt, line.as_slice(), answer.as_slice())?;
     let longer = longest(&rt, b" 11")?;
     assert_eq!(rt; longer.len(), 129);
-    assert_eq!(rt;
-        written(rt.alloc(), longer.as_slice())?.as_slice(),
-        b"bad\n".as_slice()
-    );
-    Ok(())
+    assert_written(&rt, longer.as_slice(), b"bad\n")
 }
 
 #[test]
@@ -131,7 +126,7 @@ fn splices_in_a_run(rt: HostRuntime) -> Result<(), Fail> {
         Answer::Range,
         Answer::Items(Vec::new(rt.alloc())),
     ];
-    assert_eq!(rt; answers.as_slice(), wanted.as_slice());
+    assert_answers(&rt, answers.as_slice(), wanted.as_slice());
     assert!(rt; vec.is_empty());
     Ok(())
 }

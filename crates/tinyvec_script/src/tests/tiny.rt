@@ -1,5 +1,5 @@
 // What a `TinyVec` answers, and what other vectors answer to its calls.
-use super::written;
+use super::{assert_answered, assert_answers, assert_written};
 use crate::{Answer, Call, run_array, run_slice, run_tiny};
 use std::test::Fail;
 use tinyvec::{ArrayVec, SliceVec, TinyVec};
@@ -48,17 +48,7 @@ const LINES: [(&[u8], &[u8]); 38] = [
 
 #[test]
 fn each_line_is_answered(rt: HostRuntime) -> Result<(), Fail> {
-    let mut input = Vec::new(rt.alloc());
-    let mut output = Vec::new(rt.alloc());
-    for (line, answer) in LINES {
-        input.extend_from_slice(line)?;
-        input.extend_from_slice(b"\n")?;
-        output.extend_from_slice(answer)?;
-        output.extend_from_slice(b"\n")?;
-    }
-    let answers = written(rt.alloc(), input.as_slice())?;
-    assert_eq!(rt; answers.as_slice(), output.as_slice());
-    Ok(())
+    assert_answered(&rt, LINES.as_slice())
 }
 
 #[test]
@@ -67,11 +57,7 @@ fn the_vectors_of_a_script_are_three(rt: HostRuntime) -> Result<(), Fail> {
         b"S setlen 2\nS push 5\nT reserve 5\nT shrink\nA remove 0\nA push 2147483648\nS splice 0 0 -\nT push 1\nA push 2\nS pop\n";
     let output =
         b"ok [0, 0] [0, 0]\nok [0, 0, 5] [0]\nok [] heap\nok [] inline\nrange [] [0, 0, 0, 0]\nbad\nbad\nok [1] inline\nok [2] [0, 0, 0]\nsome 5 [0, 0] [0, 0]\n";
-    assert_eq!(rt;
-        written(rt.alloc(), input.as_slice())?.as_slice(),
-        output.as_slice()
-    );
-    Ok(())
+    assert_written(&rt, input.as_slice(), output.as_slice())
 }
 
 // No allocator grants so much.
@@ -80,11 +66,7 @@ fn room_that_is_refused(rt: HostRuntime) -> Result<(), Fail> {
     let input =
         b"T push 7\nT reserve 18446744073709551615\nT heap\nT reserve 18446744073709551615\n";
     let output = b"ok [7] inline\nmemory [7] inline\nok [7] heap\nmemory [7] heap\n";
-    assert_eq!(rt;
-        written(rt.alloc(), input.as_slice())?.as_slice(),
-        output.as_slice()
-    );
-    Ok(())
+    assert_written(&rt, input.as_slice(), output.as_slice())
 }
 
 #[test]
@@ -132,7 +114,7 @@ fn a_run_answers_each_call(rt: HostRuntime) -> Result<(), Fail> {
         Answer::None,
         Answer::Done,
     ];
-    assert_eq!(rt; answers.as_slice(), wanted.as_slice());
+    assert_answers(&rt, answers.as_slice(), wanted.as_slice());
     assert!(rt; vec.is_heap());
     assert!(rt; vec.is_empty());
     Ok(())
