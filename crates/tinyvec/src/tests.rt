@@ -8,6 +8,7 @@ mod growing;
 mod iterators;
 mod making;
 mod moving;
+mod refusals;
 mod reserving;
 
 use crate::TinyVec;
