@@ -4,7 +4,19 @@ ghost use Rattle.tinyvec_slots.specs.Clones.{RefusedAt};
 
 use crate::Array;
 use std::alloc::AllocError;
-use tinyvec_slots::{clone_over, clone_through};
+use tinyvec_slots::{clone_each, clone_over, clone_through};
+
+/// Writes clones of all slots of `from`.
+pub(crate) fn clone_slots<A: Array>(to: &mut A, from: &A) -> Result<(), AllocError>
+where
+    A::Item: Clone,
+    requires clones { (x y : A.Item) → A.Item.is_clone x y → y ≡ x }
+    ensures ok { OnOk result (A.slots to.new ≡ A.slots from.now) }
+    ensures refused { OnErr result ((j : ℕ) × RefusedAt A.Item.is_infallible (A.slots from.now) j) }
+    ensures succeeds { All A.Item.is_infallible (A.slots from.now) → IsOk result }
+{
+    clone_each(to.as_slice_mut(), from.as_slice())
+}
 
 /// Writes clones of `from` into the slots from `start` on.
 pub(crate) fn put_clones<A: Array>(

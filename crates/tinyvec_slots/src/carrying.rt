@@ -3,11 +3,11 @@ ghost use Rattle.std.specs.Prelude.{◌≡◌, ◌<◌, ◌≤◌, [], ◌∷◌
 
 use std::mem;
 
-/// Whether items are carried over sooner than they are rotated. A rotation moves memory as a whole, and takes some time
-/// beforehand. Of the smallest items a carrier's compiled loop moves few at once, so a rotation pays for fewer of them.
-pub fn are_few<T>(items: &[T]) -> bool {
-    let count = items.len();
-    count <= 8 || (count <= 64 && count * mem::size_of::<T>() >= 4 * count)
+/// Whether so many items like `one` are carried over sooner than they are rotated. A rotation moves memory as a whole, and
+/// takes some time beforehand. It moves more of the smallest items at once than a loop does.
+#[inline(always)]
+pub fn are_few<T>(count: usize, one: &T) -> bool {
+    count <= 8 || (count <= 64 && mem::size_of_val(one) >= 4)
 }
 
 /// Puts `x` at `index`, moves the items from there on up, and gives the one that finds no place.

@@ -3,10 +3,9 @@ ghost use Rattle.std.specs.Prelude.{◌≡◌, ℕ, All, min, length, IfOk, OnOk
 ghost use Rattle.tinyvec_slots.specs.Slots.{items, items_len, all_slots, SlotRule};
 ghost use Rattle.tinyvec_slots.specs.Clones.{RefusedAt, ClonesInPart};
 
-use crate::clone_slots::put_clones;
+use crate::clone_slots::{clone_slots, put_clones};
 use crate::{Array, ArrayVec};
 use std::alloc::AllocError;
-use tinyvec_slots::clone_each;
 
 impl<A: Array + Copy> Clone for ArrayVec<A> {
     ghost is_clone = { λ v w. w ≡ v };
@@ -34,7 +33,7 @@ impl<A: Array> ArrayVec<A> {
     {
         let _len = self.len();
         let mut array = A::default();
-        clone_each(array.as_slice_mut(), self.array.as_slice())?;
+        clone_slots(&mut array, &self.array)?;
         Ok(ArrayVec {
             len: self.len,
             array,

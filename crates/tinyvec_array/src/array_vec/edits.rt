@@ -15,8 +15,8 @@ impl<A: Array> ArrayVec<A> {
         ensures items { items self.new ≡ insert (items self.old) i x }
         ensures spare { spare self.new ≡ drop 1 (spare self.old) }
     {
-        let _len = self.len();
-        if are_few(&self.as_slice()[i..]) {
+        let len = self.len();
+        if are_few(len - i, &x) {
             let last = carry_up(self.as_mut_slice(), i, x);
             self.push(last);
             return;
@@ -48,8 +48,8 @@ impl<A: Array> ArrayVec<A> {
         ensures items { items self.new ≡ remove (items self.old) i }
         ensures spare { Frees A.Item.is_default 1 self.old self.new }
     {
-        let _len = self.len();
-        if are_few(&self.as_slice()[i..]) {
+        let len = self.len();
+        if are_few(len - i, &self.as_slice()[i]) {
             return self.remove_by_carrying(i);
         }
         self.items_to_end(i, i + 1);
