@@ -45,6 +45,9 @@ fn without_a_hint(rt: HostRuntime) {
     assert!(rt; v.extend(Unhinted { next: 2, end: 3 }).is_ok());
     assert!(rt; lies(&v, &[1, 2], true));
     let mut v = TinyVec::from_array_len(rt.alloc(), [1, 0, 0, 0], 1);
-    assert!(rt; v.extend(Unhinted { next: 2, end: 6 }).is_ok());
+    assert!(rt;
+        v.extend(Unhinted { next: 2, end: 6 }).is_ok(),
+        "memory was granted"
+    );
     assert!(rt; lies(&v, &[1, 2, 3, 4, 5], false));
 }

@@ -34,7 +34,7 @@ fn no_slots(rt: HostRuntime) -> Result<(), Fail> {
     assert!(rt; v.capacity() >= 1);
     v.shrink_to_fit();
     assert!(rt; lies(&v, &[], true));
-    assert!(rt; v.insert(0, 5).is_ok());
+    assert!(rt; v.insert(0, 5).is_ok(), "memory was granted");
     assert!(rt; lies(&v, &[5], false));
     Ok(())
 }
