@@ -84,7 +84,9 @@ impl<A: Array> ArrayVec<A> {
     pub fn as_slice(&self) -> &[A::Item]
         ensures { result.now ≡ items self.now }
     {
-        &self.array.as_slice()[..self.len]
+        let slots = self.array.as_slice();
+        // The minimum is the length. By it the compiler knows how often a loop over the items turns at the most.
+        &slots[..self.len.min(slots.len())]
     }
 
     /// The spare slots.
