@@ -104,13 +104,13 @@ pub fn swap_remove<T: Number, V: Vector<T, N>, const N: usize>(vec: &mut V, x: u
 
 /// Makes the list the items of `source`, by one copy.
 #[inline(never)]
-pub fn extend_from_slice<T: Number, V: Vector<T, N>, const N: usize>(vec: &mut V, source: &[T]) -> u64 {
+pub fn extend_from_slice<T: Number, V: Vector<T, N>, const N: usize>(vec: &mut V, source: &[T], x: u64) -> u64 {
     vec.set_len(0);
     if source.len() > N {
         return 0;
     }
     vec.extend_from_slice(source);
-    vec.as_slice().len() as u64
+    x.wrapping_add(vec.as_slice().len() as u64)
 }
 
 /// Makes the list as many numbers from `x` on as fit.
@@ -122,18 +122,19 @@ pub fn extend_from_range<V: Vector<u64, N>, const N: usize>(vec: &mut V, x: u64)
     vec.as_slice().len() as u64
 }
 
-/// A clone.
+/// A clone of the one or the other, as `x` is even or odd.
 #[inline(never)]
-pub fn clone_of<T: Number, V: Vector<T, N>, const N: usize>(vec: &V) -> V {
+pub fn clone_of<T: Number, V: Vector<T, N>, const N: usize>(even: &V, odd: &V, x: u64) -> V {
+    let vec = if x % 2 == 0 { even } else { odd };
     vec.clone()
 }
 
 /// Fills the vector, and takes the middle half out.
 #[inline(never)]
-pub fn drain_taken<V: Vector<u64, N>, const N: usize>(vec: &mut V, source: &[u64]) -> u64 {
-    extend_from_slice(vec, source);
+pub fn drain_taken<V: Vector<u64, N>, const N: usize>(vec: &mut V, source: &[u64], x: u64) -> u64 {
+    extend_from_slice(vec, source, x);
     let len = vec.as_slice().len();
-    let mut sum: u64 = 0;
+    let mut sum = x;
     for y in vec.drain(len / 4..len - len / 4) {
         sum = sum.wrapping_add(y);
     }
@@ -142,37 +143,37 @@ pub fn drain_taken<V: Vector<u64, N>, const N: usize>(vec: &mut V, source: &[u64
 
 /// Fills the vector, and drops the middle half.
 #[inline(never)]
-pub fn drain_dropped<V: Vector<u64, N>, const N: usize>(vec: &mut V, source: &[u64]) -> u64 {
-    extend_from_slice(vec, source);
+pub fn drain_dropped<V: Vector<u64, N>, const N: usize>(vec: &mut V, source: &[u64], x: u64) -> u64 {
+    extend_from_slice(vec, source, x);
     let len = vec.as_slice().len();
     drop(vec.drain(len / 4..len - len / 4));
-    vec.as_slice().len() as u64
+    x.wrapping_add(vec.as_slice().len() as u64)
 }
 
 /// Fills the vector, and keeps the odd items.
 #[inline(never)]
-pub fn retain_half<V: Vector<u64, N>, const N: usize>(vec: &mut V, source: &[u64]) -> u64 {
-    extend_from_slice(vec, source);
+pub fn retain_half<V: Vector<u64, N>, const N: usize>(vec: &mut V, source: &[u64], x: u64) -> u64 {
+    extend_from_slice(vec, source, x);
     vec.retain(|y| *y % 2 == 1);
-    vec.as_slice().len() as u64
+    x.wrapping_add(vec.as_slice().len() as u64)
 }
 
 /// Fills the vector with runs, and keeps one of each.
 #[inline(never)]
-pub fn dedup<V: Vector<u64, N>, const N: usize>(vec: &mut V, runs: &[u64]) -> u64 {
-    extend_from_slice(vec, runs);
+pub fn dedup<V: Vector<u64, N>, const N: usize>(vec: &mut V, runs: &[u64], x: u64) -> u64 {
+    extend_from_slice(vec, runs, x);
     vec.dedup();
-    vec.as_slice().len() as u64
+    x.wrapping_add(vec.as_slice().len() as u64)
 }
 
 /// Fills three quarters of the vector, and puts `count` numbers in the place of the second quarter.
 #[inline(never)]
-pub fn splice<V: Vector<u64, N>, const N: usize>(vec: &mut V, source: &[u64], count: u64) -> u64 {
-    extend_from_slice(vec, source);
+pub fn splice<V: Vector<u64, N>, const N: usize>(vec: &mut V, source: &[u64], count: u64, x: u64) -> u64 {
+    extend_from_slice(vec, source, x);
     let quarter = vec.as_slice().len() / 4;
     vec.set_len(3 * quarter);
     vec.splice(quarter..2 * quarter, 0..count);
-    vec.as_slice().len() as u64
+    x.wrapping_add(vec.as_slice().len() as u64)
 }
 
 /// `x` where the lists are equal.

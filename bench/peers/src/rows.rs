@@ -27,21 +27,22 @@ fn cuts_of_words<V: Vector<u64, N>, const N: usize>(report: &Report) {
     let runs = pairs::<N>();
     let count = N as u64;
     let mut vec = V::from_array(source);
-    report.row("extend_from_slice", N, |_| extend_from_slice(&mut vec, &source));
+    report.row("extend_from_slice", N, |x| extend_from_slice(&mut vec, &source, x));
     report.row("extend_from_range", N, |x| extend_from_range(&mut vec, x));
-    report.row("drain_taken", N, |_| drain_taken(&mut vec, &source));
-    report.row("drain_dropped", N, |_| drain_dropped(&mut vec, &source));
-    report.row("retain_half", N, |_| retain_half(&mut vec, &runs));
+    report.row("drain_taken", N, |x| drain_taken(&mut vec, &source, x));
+    report.row("drain_dropped", N, |x| drain_dropped(&mut vec, &source, x));
+    report.row("retain_half", N, |x| retain_half(&mut vec, &runs, x));
     if V::HAS_DEDUP {
-        report.row("dedup", N, |_| dedup(&mut vec, &runs));
+        report.row("dedup", N, |x| dedup(&mut vec, &runs, x));
     }
     if V::HAS_SPLICE {
-        report.row("splice_as_many", N, |_| splice(&mut vec, &source, count / 4));
-        report.row("splice_fewer", N, |_| splice(&mut vec, &source, count / 8));
-        report.row("splice_more", N, |_| splice(&mut vec, &source, count / 2));
+        report.row("splice_as_many", N, |x| splice(&mut vec, &source, count / 4, x));
+        report.row("splice_fewer", N, |x| splice(&mut vec, &source, count / 8, x));
+        report.row("splice_more", N, |x| splice(&mut vec, &source, count / 2, x));
     }
     vec = V::from_array(source);
-    report.row("clone", N, |_| last(clone_of(&vec).as_slice()));
+    let odd = V::from_array(runs);
+    report.row("clone", N, |x| last(clone_of(&vec, &odd, x).as_slice()));
     report.row("equal", N, |x| equal(&vec, &source, x));
     report.row("sum", N, |x| sum(&vec, x));
 }
@@ -54,8 +55,9 @@ pub fn of_bytes<V: Vector<u8, N>, const N: usize>(report: &Report) {
     vec = V::from_array(source);
     report.row("bytes_insert_front", N, |x| insert_front(&mut vec, x));
     report.row("bytes_remove_front", N, |x| remove_front(&mut vec, x));
-    report.row("bytes_extend_from_slice", N, |_| extend_from_slice(&mut vec, &source));
-    report.row("bytes_clone", N, |_| last(clone_of(&vec).as_slice()));
+    report.row("bytes_extend_from_slice", N, |x| extend_from_slice(&mut vec, &source, x));
+    let odd = V::from_array([1; N]);
+    report.row("bytes_clone", N, |x| last(clone_of(&vec, &odd, x).as_slice()));
     report.row("bytes_equal", N, |x| equal(&vec, &source, x));
     report.row("bytes_sum", N, |x| sum(&vec, x));
 }
@@ -68,6 +70,6 @@ pub fn of_slices<const N: usize>(report: &Report) {
     report.row("slice_push", N, |x| slice_push(&mut slots, x));
     report.row("slice_insert", N, |x| slice_insert(&mut slots, x));
     report.row("slice_remove", N, |x| slice_remove(&mut slots, x));
-    report.row("slice_drain", N, |_| slice_drain(&mut slots, &source));
-    report.row("slice_retain", N, |_| slice_retain(&mut slots, &runs));
+    report.row("slice_drain", N, |x| slice_drain(&mut slots, &source, x));
+    report.row("slice_retain", N, |x| slice_retain(&mut slots, &runs, x));
 }

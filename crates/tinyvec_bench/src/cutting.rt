@@ -6,10 +6,10 @@ use tinyvec_array::ArrayVec;
 
 /// Fills the vector, and takes the middle half out.
 #[inline(never)]
-pub fn drain_taken<const N: usize>(vec: &mut ArrayVec<[u64; N]>, source: &[u64]) -> u64 {
-    extend_from_slice(vec, source);
+pub fn drain_taken<const N: usize>(vec: &mut ArrayVec<[u64; N]>, source: &[u64], x: u64) -> u64 {
+    extend_from_slice(vec, source, x);
     let len = vec.len();
-    let mut sum: u64 = 0;
+    let mut sum = x;
     for y in vec.drain(len / 4..len - len / 4) {
         sum = sum.wrapping_add(y);
     }
@@ -18,37 +18,42 @@ pub fn drain_taken<const N: usize>(vec: &mut ArrayVec<[u64; N]>, source: &[u64])
 
 /// Fills the vector, and drops the middle half.
 #[inline(never)]
-pub fn drain_dropped<const N: usize>(vec: &mut ArrayVec<[u64; N]>, source: &[u64]) -> u64 {
-    extend_from_slice(vec, source);
+pub fn drain_dropped<const N: usize>(vec: &mut ArrayVec<[u64; N]>, source: &[u64], x: u64) -> u64 {
+    extend_from_slice(vec, source, x);
     let len = vec.len();
     drop(vec.drain(len / 4..len - len / 4));
-    vec.len() as u64
+    x.wrapping_add(vec.len() as u64)
 }
 
 /// Fills the vector, and keeps the odd items.
 #[inline(never)]
-pub fn retain_half<const N: usize>(vec: &mut ArrayVec<[u64; N]>, source: &[u64]) -> u64 {
-    extend_from_slice(vec, source);
+pub fn retain_half<const N: usize>(vec: &mut ArrayVec<[u64; N]>, source: &[u64], x: u64) -> u64 {
+    extend_from_slice(vec, source, x);
     vec.retain(|y| *y % 2 == 1);
-    vec.len() as u64
+    x.wrapping_add(vec.len() as u64)
 }
 
 /// Fills the vector with runs, and keeps one of each.
 #[inline(never)]
-pub fn dedup<const N: usize>(vec: &mut ArrayVec<[u64; N]>, runs: &[u64]) -> u64 {
-    extend_from_slice(vec, runs);
+pub fn dedup<const N: usize>(vec: &mut ArrayVec<[u64; N]>, runs: &[u64], x: u64) -> u64 {
+    extend_from_slice(vec, runs, x);
     vec.dedup();
-    vec.len() as u64
+    x.wrapping_add(vec.len() as u64)
 }
 
 /// Fills three quarters of the vector, and puts `count` numbers in the place of the second quarter.
 #[inline(never)]
-pub fn splice<const N: usize>(vec: &mut ArrayVec<[u64; N]>, source: &[u64], count: u64) -> u64 {
-    extend_from_slice(vec, source);
+pub fn splice<const N: usize>(
+    vec: &mut ArrayVec<[u64; N]>,
+    source: &[u64],
+    count: u64,
+    x: u64,
+) -> u64 {
+    extend_from_slice(vec, source, x);
     let quarter = vec.len() / 4;
     vec.set_len(3 * quarter);
     match vec.splice(quarter..2 * quarter, 0..count).finish() {
-        Ok(()) => vec.len() as u64,
+        Ok(()) => x.wrapping_add(vec.len() as u64),
         Err(_) => 0,
     }
 }

@@ -6,15 +6,19 @@ use tinyvec_array::ArrayVec;
 
 /// Makes the list the items of `source`, by one copy.
 #[inline(never)]
-pub fn extend_from_slice<T: Number, const N: usize>(vec: &mut ArrayVec<[T; N]>, source: &[T]) -> u64
-    requires clones { (x y : T) → T.is_clone x y → y ≡ x }
+pub fn extend_from_slice<T: Number, const N: usize>(
+    vec: &mut ArrayVec<[T; N]>,
+    source: &[T],
+    x: u64,
+) -> u64
+    requires clones { (a b : T) → T.is_clone a b → b ≡ a }
 {
     vec.set_len(0);
     if source.len() > vec.capacity() {
         return 0;
     }
     match vec.extend_from_slice(source) {
-        Ok(()) => vec.len() as u64,
+        Ok(()) => x.wrapping_add(vec.len() as u64),
         Err(_) => 0,
     }
 }
@@ -30,11 +34,16 @@ pub fn extend_from_range<const N: usize>(vec: &mut ArrayVec<[u64; N]>, x: u64) -
     }
 }
 
-/// A clone.
+/// A clone of the one or the other, as `x` is even or odd.
 #[inline(never)]
-pub fn clone_of<T: Number, const N: usize>(vec: &ArrayVec<[T; N]>) -> ArrayVec<[T; N]>
-    requires clones { (x y : T) → T.is_clone x y → y ≡ x }
+pub fn clone_of<T: Number, const N: usize>(
+    even: &ArrayVec<[T; N]>,
+    odd: &ArrayVec<[T; N]>,
+    x: u64,
+) -> ArrayVec<[T; N]>
+    requires clones { (a b : T) → T.is_clone a b → b ≡ a }
 {
+    let vec = if x % 2 == 0 { even } else { odd };
     match vec.clone() {
         Ok(copy) => copy,
         Err(_) => ArrayVec::new(),

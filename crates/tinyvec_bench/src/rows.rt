@@ -51,22 +51,31 @@ fn cuts_of_words<R: Runtime, const N: usize>(report: &Report<'_, R>) -> io::Resu
     report.row(
         "extend_from_slice",
         N,
-        |_| extend_from_slice(&mut vec, &source),
+        |x| extend_from_slice(&mut vec, &source, x),
     )?;
     report.row("extend_from_range", N, |x| extend_from_range(&mut vec, x))?;
-    report.row("drain_taken", N, |_| drain_taken(&mut vec, &source))?;
-    report.row("drain_dropped", N, |_| drain_dropped(&mut vec, &source))?;
-    report.row("retain_half", N, |_| retain_half(&mut vec, &runs))?;
-    report.row("dedup", N, |_| dedup(&mut vec, &runs))?;
+    report.row("drain_taken", N, |x| drain_taken(&mut vec, &source, x))?;
+    report.row("drain_dropped", N, |x| drain_dropped(&mut vec, &source, x))?;
+    report.row("retain_half", N, |x| retain_half(&mut vec, &runs, x))?;
+    report.row("dedup", N, |x| dedup(&mut vec, &runs, x))?;
     report.row(
         "splice_as_many",
         N,
-        |_| splice(&mut vec, &source, count / 4),
+        |x| splice(&mut vec, &source, count / 4, x),
     )?;
-    report.row("splice_fewer", N, |_| splice(&mut vec, &source, count / 8))?;
-    report.row("splice_more", N, |_| splice(&mut vec, &source, count / 2))?;
+    report.row(
+        "splice_fewer",
+        N,
+        |x| splice(&mut vec, &source, count / 8, x),
+    )?;
+    report.row(
+        "splice_more",
+        N,
+        |x| splice(&mut vec, &source, count / 2, x),
+    )?;
     vec = ArrayVec::from_array(source);
-    report.row("clone", N, |_| last(clone_of(&vec).as_slice()))?;
+    let odd = ArrayVec::from_array(runs);
+    report.row("clone", N, |x| last(clone_of(&vec, &odd, x).as_slice()))?;
     report.row("equal", N, |x| equal(&vec, &source, x))?;
     report.row("sum", N, |x| sum(&vec, x))
 }
@@ -84,9 +93,14 @@ pub fn of_bytes<R: Runtime, const N: usize>(report: &Report<'_, R>) -> io::Resul
     report.row(
         "bytes_extend_from_slice",
         N,
-        |_| extend_from_slice(&mut vec, &source),
+        |x| extend_from_slice(&mut vec, &source, x),
     )?;
-    report.row("bytes_clone", N, |_| last(clone_of(&vec).as_slice()))?;
+    let odd = ArrayVec::from_array([1; N]);
+    report.row(
+        "bytes_clone",
+        N,
+        |x| last(clone_of(&vec, &odd, x).as_slice()),
+    )?;
     report.row("bytes_equal", N, |x| equal(&vec, &source, x))?;
     report.row("bytes_sum", N, |x| sum(&vec, x))
 }
@@ -101,6 +115,6 @@ pub fn of_slices<R: Runtime, const N: usize>(report: &Report<'_, R>) -> io::Resu
     report.row("slice_push", N, |x| slice_push(&mut slots, x))?;
     report.row("slice_insert", N, |x| slice_insert(&mut slots, x))?;
     report.row("slice_remove", N, |x| slice_remove(&mut slots, x))?;
-    report.row("slice_drain", N, |_| slice_drain(&mut slots, &source))?;
-    report.row("slice_retain", N, |_| slice_retain(&mut slots, &runs))
+    report.row("slice_drain", N, |x| slice_drain(&mut slots, &source, x))?;
+    report.row("slice_retain", N, |x| slice_retain(&mut slots, &runs, x))
 }

@@ -45,14 +45,14 @@ pub fn slice_remove(slots: &mut [u64], x: u64) -> u64 {
 
 /// Takes the middle half out, where the slots hold `source`.
 #[inline(never)]
-pub fn slice_drain(slots: &mut [u64], source: &[u64]) -> u64 {
+pub fn slice_drain(slots: &mut [u64], source: &[u64], x: u64) -> u64 {
     if slots.len() != source.len() {
         return 0;
     }
     slots.copy_from_slice(source);
     let len = slots.len();
     let mut vec = SliceVec::from_slice_len(slots, len);
-    let mut sum: u64 = 0;
+    let mut sum = x;
     for y in vec.drain(len / 4..len - len / 4) {
         sum = sum.wrapping_add(y);
     }
@@ -61,7 +61,7 @@ pub fn slice_drain(slots: &mut [u64], source: &[u64]) -> u64 {
 
 /// Keeps the odd items, where the slots hold `source`.
 #[inline(never)]
-pub fn slice_retain(slots: &mut [u64], source: &[u64]) -> u64 {
+pub fn slice_retain(slots: &mut [u64], source: &[u64], x: u64) -> u64 {
     if slots.len() != source.len() {
         return 0;
     }
@@ -69,5 +69,5 @@ pub fn slice_retain(slots: &mut [u64], source: &[u64]) -> u64 {
     let len = slots.len();
     let mut vec = SliceVec::from_slice_len(slots, len);
     vec.retain(|y| *y % 2 == 1);
-    vec.len() as u64
+    x.wrapping_add(vec.len() as u64)
 }
