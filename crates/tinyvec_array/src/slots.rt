@@ -1,11 +1,11 @@
 //! Reads and writes of an array's slots.
-ghost use Rattle.std.specs.Prelude.{◌≡◌, ◌-◌, ◌<◌, ◌≤◌, List, [], ◌∷◌, ◌++◌, length, take, drop, slice_index_or, slice_set, slice_range, insert};
+ghost use Rattle.std.specs.Prelude.{◌≡◌, ◌+◌, ◌-◌, ◌<◌, ◌≤◌, List, [], ◌∷◌, ◌++◌, length, take, drop, slice_index_or, slice_set, slice_range, insert, remove};
 ghost use Rattle.std.specs.List.{remove_range};
 ghost use Rattle.tinyvec_slots.specs.Slots.{AreDefaults};
 
 use crate::Array;
 use std::mem;
-use tinyvec_slots::{last_to, part_to_end, reset};
+use tinyvec_slots::{are_few, insert_carrying, last_to, part_to_end, remove_carrying, reset};
 
 /// Writes `x` into the slot at `i`.
 pub(crate) fn put<A: Array>(array: &mut A, i: usize, x: A::Item)
@@ -62,6 +62,33 @@ pub(crate) fn slots_to_end<A: Array>(array: &mut A, start: usize, end: usize, le
     ensures len { length (A.slots array.old) ≡ A.CAPACITY }
 {
     part_to_end(array.as_slice_mut(), start, end, len);
+}
+
+/// Whether so many slots of an `A` are moved one by one. Where it has no more in all, the compiler knows the answer.
+#[inline(always)]
+pub(crate) fn are_few_of<A: Array>(count: usize) -> bool {
+    are_few(A::CAPACITY) || are_few(count)
+}
+
+/// Puts `x` into the slot at `index`, and moves those from there on up, over the one at `len`.
+pub(crate) fn insert_slot<A: Array>(array: &mut A, index: usize, len: usize, x: A::Item)
+    requires in_list { index ≤ len }
+    requires room { len < A.CAPACITY }
+    ensures after { A.slots array.new ≡ insert (take len (A.slots array.old)) index x ++ drop (len + 1) (A.slots array.old) }
+    ensures len { length (A.slots array.old) ≡ A.CAPACITY }
+{
+    insert_carrying(array.as_slice_mut(), index, len, x);
+}
+
+/// Takes what the slot at `index` holds, moves those behind it below `len` down, and leaves a default in the last.
+pub(crate) fn remove_slot<A: Array>(array: &mut A, index: usize, len: usize) -> A::Item
+    requires in_list { index < len }
+    requires in_bounds { len ≤ A.CAPACITY }
+    ensures value { result ≡ slice_index_or (A.slots array.old) index result }
+    ensures after { (d : A.Item) × A.Item.is_default d × (A.slots array.new ≡ remove (take len (A.slots array.old)) index ++ d ∷ drop len (A.slots array.old)) }
+    ensures len { length (A.slots array.old) ≡ A.CAPACITY }
+{
+    remove_carrying(array.as_slice_mut(), index, len)
 }
 
 /// Moves the last slot below `len` to `index`, and those from there on up.

@@ -1,9 +1,9 @@
 -- Lemmas on the list and the spare slots of a vector in lent slots.
-use Rattle.std.proofs.Common.{◌≡◌, ℕ, ◌+◌, ◌-◌, ◌<◌, ◌≤◌, List, ◌∷◌, ◌++◌, length, take, drop, set, refl, sym, ap, ◌∙◌, arith, rules, length-append, take-append-drop, drop-set-lt}
+use Rattle.std.proofs.Common.{◌≡◌, ℕ, ◌+◌, ◌-◌, ◌<◌, ◌≤◌, List, ◌∷◌, ◌++◌, length, take, drop, set, insert, remove, refl, sym, ap, ◌∙◌, arith, rules, length-append, take-append-drop, drop-set-lt}
 use Rattle.std.proofs.Math.Seq.{take-set-lt}
 use Rattle.std.proofs.lemmas.List.{same_lists, places, drop-set-add}
 use Rattle.std.specs.Borrow.{MutBor}
-use Rattle.tinyvec_slots.proofs.Lists.{drop-put, drop-emptied}
+use Rattle.tinyvec_slots.proofs.Lists.{drop-put, drop-emptied, drop-inserted, drop-removed}
 use Rattle.tinyvec_slice.specs.Parts.{with_front}
 use Rattle.tinyvec_slice.specs.View.{items_of, spare_of, slots_of, items, spare, slots}
 use Rattle.tinyvec_slice.specs.Lends.{at_slots}
@@ -32,6 +32,17 @@ module _ {X : Type 0} (k : ℕ) (xs : List X) (n : ℕ) (is : n ≡ length (take
   -- what the last item was replaced by stands before the spare slots
   pub drop-popped : (d : X) → 0 < n → drop (n - 1) (set xs (n - 1) d) ≡ d ∷ drop k xs
   drop-popped d pos = drop-emptied xs n d pos within ∙ ap (λ l. d ∷ l) spare_from
+
+  -- behind the list into which an item was put lie the spare slots but for the first
+  pub drop-put_in : (i : ℕ) (x : X) → i ≤ n → 0 < length (drop k xs)
+      → drop (n + 1) (insert (take n xs) i x ++ drop (n + 1) xs) ≡ drop 1 (drop k xs)
+  drop-put_in i x le room =
+      let lt : n < length xs = search (rules, places, is) in
+      drop-inserted xs i n x le lt ∙ ap (drop 1) spare_from
+
+  -- what the list that lost an item leaves stands before the spare slots
+  pub drop-taken : (i : ℕ) (d : X) → i < n → drop (n - 1) (remove (take n xs) i ++ d ∷ drop n xs) ≡ d ∷ drop k xs
+  drop-taken i d lt = drop-removed xs i n d lt within ∙ ap (λ l. d ∷ l) spare_from
 
   -- the list after it was written as a slice, which keeps its length
   pub list-written : (ws : List X) → length ws ≡ n → take k (ws ++ drop n xs) ≡ ws

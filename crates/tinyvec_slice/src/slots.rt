@@ -1,11 +1,11 @@
 //! Reads and writes of lent slots.
-ghost use Rattle.std.specs.Prelude.{◌≡◌, ◌-◌, ◌<◌, ◌≤◌, List, [], ◌∷◌, ◌++◌, length, take, drop, slice_index_or, slice_set, slice_range, insert};
+ghost use Rattle.std.specs.Prelude.{◌≡◌, ◌+◌, ◌-◌, ◌<◌, ◌≤◌, List, [], ◌∷◌, ◌++◌, length, take, drop, slice_index_or, slice_set, slice_range, insert, remove};
 ghost use Rattle.std.specs.List.{remove_range};
 ghost use Rattle.tinyvec_slots.specs.Slots.{AreDefaults};
 
 use crate::Lent;
 use std::mem;
-use tinyvec_slots::{last_to, part_to_end, reset};
+use tinyvec_slots::{insert_carrying, last_to, part_to_end, remove_carrying, reset};
 
 /// Writes `x` into the slot at `i`.
 pub(crate) fn put<B: Lent>(lent: &mut B, i: usize, x: B::Item)
@@ -49,6 +49,29 @@ pub(crate) fn slots_to_end<B: Lent>(lent: &mut B, start: usize, end: usize, len:
     ensures after { B.slots lent.new ≡ remove_range (take len (B.slots lent.old)) start end ++ slice_range (take len (B.slots lent.old)) start end ++ drop len (B.slots lent.old) }
 {
     part_to_end(lent.all_mut(), start, end, len);
+}
+
+/// Puts `x` into the slot at `index`, and moves those from there on up, over the one at `len`.
+pub(crate) fn insert_slot<B: Lent>(lent: &mut B, index: usize, len: usize, x: B::Item)
+    requires in_list { index ≤ len }
+    requires room { len < length (B.slots lent.old) }
+    ensures same_reference { B.name lent.new ≡ B.name lent.old }
+    ensures after { B.slots lent.new ≡ insert (take len (B.slots lent.old)) index x ++ drop (len + 1) (B.slots lent.old) }
+{
+    insert_carrying(lent.all_mut(), index, len, x);
+}
+
+/// Takes what the slot at `index` holds, moves those behind it below `len` down, and leaves a default in the last.
+pub(crate) fn remove_slot<B: Lent>(lent: &mut B, index: usize, len: usize) -> B::Item
+where
+    B::Item: Default,
+    requires in_list { index < len }
+    requires in_bounds { len ≤ length (B.slots lent.old) }
+    ensures same_reference { B.name lent.new ≡ B.name lent.old }
+    ensures value { result ≡ slice_index_or (B.slots lent.old) index result }
+    ensures after { (d : B.Item) × B.Item.is_default d × (B.slots lent.new ≡ remove (take len (B.slots lent.old)) index ++ d ∷ drop len (B.slots lent.old)) }
+{
+    remove_carrying(lent.all_mut(), index, len)
 }
 
 /// Moves the last slot below `len` to `index`, and those from there on up.

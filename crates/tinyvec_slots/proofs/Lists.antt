@@ -2,6 +2,7 @@
 use Rattle.std.proofs.Common.{◌≡◌, ℕ, suc, ◌+◌, ◌-◌, ◌<◌, ◌≤◌, List, [], ◌∷◌, ◌++◌, length, get_or, take, drop, set, insert, remove, slice_range, sym, ap, ◌∙◌, arith, rules, drop-set-lt, length-set, append_assoc, append-nil, take_at, take_all, take-append-drop, length-append, length-drop}
 use Rattle.std.proofs.Math.Seq.{take-add}
 use Rattle.std.proofs.lemmas.List.{same_lists, take-append-le, drop-append-le, places, get_or-set_same, get_or_default, drop-drop, drop_more, drop_at, drop_all, length-take-le}
+use Rattle.std.proofs.lemmas.List.Edits.{insert-append_left}
 use Rattle.std.specs.List.{remove_range}
 use Rattle.std.proofs.lemmas.Bool.{cases_eq, cases_lt}
 
@@ -122,6 +123,34 @@ insert_carried xs i x y lt is =
     let rest : drop i xs ≡ y ∷ drop (i + 1) xs = drop_more xs i y lt ∙ ap (λ z. z ∷ drop (i + 1) xs) (sym is) in
     ap (λ l. l ++ y ∷ drop (i + 1) (set xs i x)) left ∙ append_assoc (take i xs) (x ∷ []) (y ∷ drop (i + 1) (set xs i x))
     ∙ ap (λ l. take i xs ++ x ∷ y ∷ l) right ∙ ap (λ l. take i xs ++ x ∷ l) (sym rest)
+
+-- what is put in among the first n items moves the item behind them out
+pub insert_over : {X : Type 0} (xs ys : List X) (i n : ℕ) (x y : X) → i ≤ n → n < length xs → ys ++ y ∷ [] ≡ insert (take (n + 1) xs) i x
+    → ys ≡ insert (take n xs) i x
+insert_over xs ys i n x y le lt is =
+    let z = get_or xs n y in
+    let long : length (take n xs) ≡ n = length-take-le n xs (omega (arith, lt)) in
+    let more : take (n + 1) xs ≡ take n xs ++ z ∷ [] = same_lists _ _ (search (rules, places)) (λ k e h. grind (arith, places, cases_eq k n, get_or_default xs n e y)) in
+    let all : ys ++ y ∷ [] ≡ insert (take n xs) i x ++ z ∷ [] = is ∙ ap (λ l. insert l i x) more ∙ insert-append_left (take n xs) (z ∷ []) i x (omega (arith, long, le)) in
+    let long-new : length (insert (take n xs) i x) ≡ n + 1 = search (rules, places, long) in
+    let long-ys : length ys ≡ n + 1 = omega (arith, ap length all, length-append ys (y ∷ []), length-append (insert (take n xs) i x) (z ∷ []), long-new) in
+    sym (take_at ys (y ∷ []) (n + 1) long-ys) ∙ ap (take (n + 1)) all ∙ take_at (insert (take n xs) i x) (z ∷ []) (n + 1) long-new
+
+-- behind the first n and one that was put in among them lie the others but for the first
+pub drop-inserted : {X : Type 0} (xs : List X) (i n : ℕ) (x : X) → i ≤ n → n < length xs
+    → drop (n + 1) (insert (take n xs) i x ++ drop (n + 1) xs) ≡ drop 1 (drop n xs)
+drop-inserted xs i n x le lt =
+    let long : length (take n xs) ≡ n = length-take-le n xs (omega (arith, lt)) in
+    let long-new : length (insert (take n xs) i x) ≡ n + 1 = search (rules, places, long) in
+    drop_at (insert (take n xs) i x) (drop (n + 1) xs) (n + 1) long-new ∙ sym (drop-drop 1 n xs)
+
+-- what one of the first n left behind, and the items behind them
+pub drop-removed : {X : Type 0} (xs : List X) (i n : ℕ) (d : X) → i < n → n ≤ length xs
+    → drop (n - 1) (remove (take n xs) i ++ d ∷ drop n xs) ≡ d ∷ drop n xs
+drop-removed xs i n d lt le =
+    let long : length (take n xs) ≡ n = length-take-le n xs le in
+    let long-new : length (remove (take n xs) i) ≡ n - 1 = search (rules, places, long) in
+    drop_at (remove (take n xs) i) (d ∷ drop n xs) (n - 1) long-new
 
 -- the same downwards
 pub insert_carried_down : {X : Type 0} (xs : List X) (i : ℕ) (x y : X) → i < length xs → y ≡ get_or xs i y

@@ -15,20 +15,7 @@ pub fn clone_over<T: Clone>(to: &mut [T], from: &[T]) -> Result<(), AllocError>
     ensures len { length to.new ≡ length to.old }
     ensures succeeds { All T.is_infallible from.now → IsOk result }
 {
-    let done = clone_blocks::<T, 64>(to, from);
-    clone_tail(&mut to[done..], &from[done..])
-}
-
-// The same, where few are left.
-fn clone_tail<T: Clone>(to: &mut [T], from: &[T]) -> Result<(), AllocError>
-    requires fits { length from.now ≤ length to.old }
-    requires clones { (x y : T) → T.is_clone x y → y ≡ x }
-    ensures ok { OnOk result (to.new ≡ from.now ++ drop (length from.now) to.old) }
-    ensures refused { OnErr result ((j : ℕ) × RefusedAt T.is_infallible from.now j × (to.new ≡ take j from.now ++ drop j to.old)) }
-    ensures len { length to.new ≡ length to.old }
-    ensures succeeds { All T.is_infallible from.now → IsOk result }
-{
-    let done = clone_blocks::<T, 4>(to, from);
+    let done = clone_blocks(to, from);
     clone_each(&mut to[done..], &from[done..])
 }
 
@@ -48,11 +35,9 @@ pub fn clone_each<T: Clone>(to: &mut [T], from: &[T]) -> Result<(), AllocError>
     Ok(())
 }
 
-// Clones small items in blocks of N, and answers how many it cloned. It stops where fewer than N are left, and at a block
-// one of whose clones is refused, which it leaves to be cloned item by item. The items of a block are all read before one is
-// written, so that the compiler moves blocks of numbers as a whole.
-fn clone_blocks<T: Clone, const N: usize>(to: &mut [T], from: &[T]) -> usize
-    requires some { 0 < N }
+// Clones small items in blocks, and answers how many it cloned. The items of a block are all read before one is written, so
+// that the compiler moves blocks of numbers as a whole.
+fn clone_blocks<T: Clone>(to: &mut [T], from: &[T]) -> usize
     requires fits { length from.now ≤ length to.old }
     requires clones { (x y : T) → T.is_clone x y → y ≡ x }
     ensures within { result ≤ length from.now }
@@ -63,6 +48,20 @@ fn clone_blocks<T: Clone, const N: usize>(to: &mut [T], from: &[T]) -> usize
     if from.len() * mem::size_of::<T>() / 16 > from.len() {
         return 0;
     }
+    let many = clone_blocks_of::<T, 512>(to, from);
+    let more = many + clone_blocks_of::<T, 16>(&mut to[many..], &from[many..]);
+    more + clone_blocks_of::<T, 4>(&mut to[more..], &from[more..])
+}
+
+// The same in blocks of N. It stops where fewer than N are left, and at a block one of whose clones is refused.
+fn clone_blocks_of<T: Clone, const N: usize>(to: &mut [T], from: &[T]) -> usize
+    requires some { 0 < N }
+    requires fits { length from.now ≤ length to.old }
+    requires clones { (x y : T) → T.is_clone x y → y ≡ x }
+    ensures within { result ≤ length from.now }
+    ensures cloned { to.new ≡ take result from.now ++ drop result to.old }
+    ensures len { length to.new ≡ length to.old }
+{
     let mut done = 0;
     while clone_block::<T, N>(&mut to[done..], &from[done..]) {
         done += N;

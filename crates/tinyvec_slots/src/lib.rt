@@ -8,7 +8,7 @@ mod moving;
 mod range;
 mod resetting;
 
-pub use carrying::{are_few, carry_down, carry_up};
+pub use carrying::{are_few, insert_carrying, remove_carrying};
 pub use cloning::{clone_each, clone_over, clone_through};
 pub use filtering::{dedup_in_front, dedup_keys_in_front, retain_in_front, retain_mut_in_front};
 pub use moving::{last_to, move_to_end, part_to_end};

@@ -2,8 +2,7 @@
 ghost use Rattle.std.specs.Prelude.{◌≡◌, ◌-◌, ◌<◌, ◌≤◌, List, [], ◌∷◌, ◌++◌, length, take, drop, slice_range, insert};
 ghost use Rattle.std.specs.List.{remove_range};
 
-/// Up to so many items are turned rather than rotated.
-const FEW: usize = 64;
+use crate::carrying::are_few;
 
 /// Moves the items from `start` up to `end` behind the others.
 pub fn move_to_end<T>(items: &mut [T], start: usize, end: usize)
@@ -15,7 +14,7 @@ pub fn move_to_end<T>(items: &mut [T], start: usize, end: usize)
         return;
     }
     // A rotation clears a room of its own first, unless it goes by one. For few items that costs more than swaps.
-    if end - start != 1 && items.len() - start <= FEW {
+    if end - start != 1 && are_few(items.len() - start) {
         turn(&mut items[start..], end - start);
         return;
     }

@@ -3,9 +3,8 @@ ghost use Rattle.std.specs.Prelude.{◌≡◌, ◌+◌, ◌-◌, ◌<◌, ◌≤
 ghost use Rattle.std.specs.List.{swap_remove};
 ghost use Rattle.tinyvec_slots.specs.Slots.{items, spare, items_len, all_slots, split_at, AreDefaults, Frees};
 
-use crate::slots::{clear, last_slot_to};
+use crate::slots::{are_few_of, clear, insert_slot, last_slot_to, remove_slot};
 use crate::{Array, ArrayVec};
-use tinyvec_slots::{are_few, carry_down, carry_up};
 
 impl<A: Array> ArrayVec<A> {
     /// Puts `x` at `i`, and moves the later items up.
@@ -15,10 +14,13 @@ impl<A: Array> ArrayVec<A> {
         ensures items { items self.new ≡ insert (items self.old) i x }
         ensures spare { spare self.new ≡ drop 1 (spare self.old) }
     {
-        let len = self.len();
-        if are_few(len - i, &x) {
-            let last = carry_up(self.as_mut_slice(), i, x);
-            self.push(last);
+        let _len = self.len();
+        // It tells the proof that the number of slots fits.
+        let _slots = A::CAPACITY;
+        let len = self.len;
+        if are_few_of::<A>(len - i) {
+            insert_slot(&mut self.array, i, len, x);
+            self.len = len + 1;
             return;
         }
         self.push(x);
@@ -48,26 +50,15 @@ impl<A: Array> ArrayVec<A> {
         ensures items { items self.new ≡ remove (items self.old) i }
         ensures spare { Frees A.Item.is_default 1 self.old self.new }
     {
-        let len = self.len();
-        if are_few(len - i, &self.as_slice()[i]) {
-            return self.remove_by_carrying(i);
+        let _len = self.len();
+        let len = self.len;
+        if are_few_of::<A>(len - i) {
+            let item = remove_slot(&mut self.array, i, len);
+            self.len = len - 1;
+            return item;
         }
         self.items_to_end(i, i + 1);
         self.take_last()
-    }
-
-    // The same, item by item.
-    fn remove_by_carrying(&mut self, i: usize) -> A::Item
-        requires { i < items_len self.old }
-        ensures value { result ≡ slice_index_or (items self.old) i result }
-        ensures items { items self.new ≡ remove (items self.old) i }
-        ensures spare { Frees A.Item.is_default 1 self.old self.new }
-    {
-        let last = self.take_last();
-        if i == self.len() {
-            return last;
-        }
-        carry_down(self.as_mut_slice(), i, last)
     }
 
     /// Takes the item at `i`, and moves the last one into its place.

@@ -4,8 +4,9 @@ ghost use Rattle.std.specs.List.{swap_remove, SwappedAt};
 ghost use Rattle.tinyvec_slots.specs.Slots.{Frees, split_at};
 ghost use Rattle.tinyvec_slice.specs.View.{items_of, spare_of, slots_of, name_of, seen_of};
 
-use crate::slots::{clear, last_slot_to};
+use crate::slots::{clear, insert_slot, last_slot_to, remove_slot};
 use crate::{Lent, SliceVecOver};
+use tinyvec_slots::are_few;
 
 impl<B: Lent> SliceVecOver<B> {
     /// Puts `x` at `i`, and moves the later items up.
@@ -16,6 +17,13 @@ impl<B: Lent> SliceVecOver<B> {
         ensures items { items_of B.Lent self.new ≡ insert (items_of B.Lent self.old) i x }
         ensures spare { spare_of B.Lent self.new ≡ drop 1 (spare_of B.Lent self.old) }
     {
+        let _slots = self.as_inner();
+        let len = self.len();
+        if are_few(len - i) {
+            insert_slot(&mut self.lent, i, len, x);
+            self.len = len + 1;
+            return;
+        }
         self.push(x);
         let len = self.len();
         last_slot_to(&mut self.lent, i, len);
@@ -55,7 +63,13 @@ where
         ensures items { items_of B.Lent self.new ≡ remove (items_of B.Lent self.old) i }
         ensures spare { Frees B.Item.is_default 1 (seen_of B.Lent self.old) (seen_of B.Lent self.new) }
     {
-        let _len = self.len();
+        let _slots = self.as_inner();
+        let len = self.len();
+        if are_few(len - i) {
+            let item = remove_slot(&mut self.lent, i, len);
+            self.len = len - 1;
+            return item;
+        }
         self.items_to_end(i, i + 1);
         self.take_last()
     }

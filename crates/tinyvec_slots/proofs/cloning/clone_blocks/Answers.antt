@@ -1,16 +1,17 @@
-use Rattle.std.proofs.Common.{◌≡◌, ◌≤◌, ◌-◌, ◌++◌, take, drop, length, ◌∙◌, rules}
+use Rattle.std.proofs.Common.{◌+◌, ◌-◌, length, ◌∙◌}
 use Rattle.tinyvec_slots.proofs.CloneLemmas.{written_block}
 use Rattle.tinyvec_slots.proofs.cloning.clone_blocks.Goals as goal
-use borrow.Rule.Slice.PartMut.{same_len_mid}
+use borrow.Rule.Slice.PartMut.{put_mid, same_len_mid}
 
-pub loop-done-preserved : goal.loop-done-preserved
-loop-done-preserved g c =
-    let inv = c.loop-done.invariant in
+pub returns-clause-cloned : goal.returns-clause-cloned
+returns-clause-cloned g c =
+    let many = c.clone_blocks_of-many in
+    let some = c.clone_blocks_of in
+    let few = c.clone_blocks_of-2 in
     let from = c.args.from.now in
-    let done = c.loop-done.done in
-    let to = c.loop-done.to in
-    let rest = take (length from - done) (drop done from) in
-    let lent = take (length to - done) (drop done to) in
-    let block : (g.row.N ≤ length rest) × (c.clone_block.new.to ≡ take g.row.N rest ++ drop g.row.N lent) = search rules in
-    let next = written_block from c.args.to.now to c.clone_block.new.to done c.requires.fits inv.2 inv.0 inv.1 g.row.N block.0 block.1 in
-    (next.0, next.1, same_len_mid done (length to - done) to c.clone_block.new.to c.clone_block.ensures.len ∙ inv.2)
+    let old = c.args.to.now in
+    let fits = c.requires.fits in
+    let room = length many.new.to - many.result in
+    let next = written_block from old many.new.to some.new.to many.result fits many.ensures.len many.ensures.within many.ensures.cloned some.result some.ensures.within some.ensures.cloned in
+    let long = same_len_mid many.result room many.new.to some.new.to some.ensures.len ∙ many.ensures.len in
+    (written_block from old (put_mid many.result room many.new.to some.new.to) few.new.to (many.result + some.result) fits long next.0 next.1 few.result few.ensures.within few.ensures.cloned).1

@@ -1,7 +1,9 @@
-use Rattle.std.proofs.Common.{◌+◌, ◌-◌, ◌++◌, arith, length, slice_range, add-one, take_at, length-append}
+use Rattle.std.proofs.Common.{refl, rules, ◌<◌, ◌+◌, ◌-◌, ◌++◌, ◌∷◌, [], arith, length, slice_range, add-one, take_at, length-append}
+use Rattle.std.proofs.lemmas.List.Elements.{All-cons, All-nil}
 use Rattle.std.specs.List.{remove_range}
 use Rattle.tinyvec_slots.proofs.Lists.{length-remove_range, length-slice_range}
 use Rattle.tinyvec_slice.specs.View.{items_of}
+use Rattle.tinyvec_slice.proofs.ViewLemmas.{drop-taken}
 use Rattle.tinyvec_slice.proofs.slice_vec.SliceVecOver.remove.Goals as goal
 
 pub returns-clause-items : goal.returns-clause-items
@@ -15,3 +17,12 @@ returns-clause-items g c =
     let all = length-append B M in
     let cut = take_at B M (length (B ++ M) - 1) (omega arith) in
     rw (c.take_last.ensures.rest, c.items_to_end.ensures.items, cut, add-one)
+
+pub returns-then-are_few-clause-spare : goal.returns-then-are_few-clause-spare
+returns-then-are_few-clause-spare g c =
+    let v = c.args.self.now in
+    let n = c.len-len.result in
+    let after = c.remove_slot-item.ensures.after in
+    let one = All-cons g.B.Item.Default.is_default after.0 [] after.1 (All-nil _) in
+    let in_list : c.args.i < n = search rules in
+    (after.0 ∷ [], (refl, one), rw (after.2) (drop-taken v.len (g.B.Lent.slots v.lent) n c.len-len.ensures.value c.args.i after.0 in_list))
