@@ -17,7 +17,7 @@ mod making;
 mod trying;
 
 use crate::Array;
-use crate::slots::{clear, slots_to_end, take_slot};
+use crate::slots::{clear, slots_to_end, take_slot_behind};
 use std::convert::AsSlice;
 use std::marker::Model;
 
@@ -142,7 +142,7 @@ impl<A: Array> ArrayVec<A> {
         // It tells the proof that the number of slots fits.
         let _slots = A::CAPACITY;
         let len = self.len;
-        take_slot(&mut self.array, len + i)
+        take_slot_behind(&mut self.array, len, i)
     }
 
     // Writes defaults into the first `n` spare slots, or none where there are fewer.

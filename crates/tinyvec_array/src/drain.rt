@@ -6,6 +6,7 @@ ghost use Rattle.std.specs.Iterator.Runs.{YieldsInOrder, YieldsInReverse};
 ghost use Rattle.tinyvec_slots.specs.Slots.{items, spare, items_len};
 ghost use Rattle.tinyvec_slots.specs.Cut.{IsRangeOf, before, removed, after};
 
+use crate::slots::narrow;
 use crate::{Array, ArrayVec};
 use std::iter::FusedIterator;
 use std::ops::RangeBounds;
@@ -44,7 +45,7 @@ impl<A: Array> ArrayVec<A> {
     {
         let len = self.len();
         let part = resolve(range, len);
-        let count = part.end - part.start;
+        let count = narrow(part.end - part.start, A::CAPACITY);
         self.items_to_end(part.start, part.end);
         self.set_border(len - count);
         ArrayVecDrain {

@@ -14,7 +14,7 @@ pub(crate) fn put<A: Array>(array: &mut A, i: usize, x: A::Item)
     ensures len { length (A.slots array.old) ≡ A.CAPACITY }
 {
     let slots = array.as_slice_mut();
-    let at = below(i, slots.len());
+    let at = narrow(i, slots.len());
     slots[at] = x;
 }
 
@@ -26,18 +26,30 @@ pub(crate) fn take_slot<A: Array>(array: &mut A, i: usize) -> A::Item
     ensures len { length (A.slots array.old) ≡ A.CAPACITY }
 {
     let slots = array.as_slice_mut();
-    let at = below(i, slots.len());
+    let at = narrow(i, slots.len());
+    mem::take(&mut slots[at])
+}
+
+/// Takes what the slot at `i` behind the first `len` holds, and leaves a default.
+pub(crate) fn take_slot_behind<A: Array>(array: &mut A, len: usize, i: usize) -> A::Item
+    requires { i < A.CAPACITY - len }
+    ensures value { result ≡ slice_index_or (A.slots array.old) (len + i) result }
+    ensures after { (d : A.Item) × A.Item.is_default d × (A.slots array.new ≡ slice_set (A.slots array.old) (len + i) d) }
+    ensures len { length (A.slots array.old) ≡ A.CAPACITY }
+{
+    let slots = array.as_slice_mut();
+    let at = narrow(len, slots.len()) + narrow(i, slots.len());
     mem::take(&mut slots[at])
 }
 
 // It is `i`. Of an index in 32 bits the compiler knows that it can't lead round all addresses to the length, which lies in
 // front of the slots. So it keeps the length in a register over a loop of pushes, and makes such a loop vector code.
 #[inline(always)]
-fn below(i: usize, count: usize) -> usize
-    requires { i < count }
+pub(crate) fn narrow(i: usize, most: usize) -> usize
+    requires { i ≤ most }
     ensures { result ≡ i }
 {
-    if count > u32::MAX as usize {
+    if most > u32::MAX as usize {
         return i;
     }
     i as u32 as usize

@@ -5,5 +5,5 @@ pub returns-clause-spare : goal.returns-clause-spare
 returns-clause-spare g c =
     let inside = c.self.inside in
     let slots = g.A.Array.slots inside.array in
-    let after = c.take_slot.ensures.after in
+    let after = c.take_slot_behind.ensures.after in
     (after.0, rw (after.2, ← c.self.view_is) (drop-set-add inside.len slots c.args.i after.0))
