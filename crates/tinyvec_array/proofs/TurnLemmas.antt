@@ -81,23 +81,6 @@ module _ {X : Type 0} (xs : List X) where
   pub turned_all : (f n : ℕ) → turned xs f n n ≡ take f xs ++ drop n xs ++ slice_range xs f n
   turned_all f n = ap (λ l. take f xs ++ drop n xs ++ l ++ slice_range xs f n) (none n) ∙ ap (λ l. l ++ slice_range xs f n) (append-nil (take f xs ++ drop n xs))
 
-  pub turned_done : (f m n : ℕ) → f ≤ m → m ≤ n → n ≤ length xs → (f ≡ m → n ≡ m) → (n ≡ length xs → n ≡ m)
-      → (f < m → n < length xs → ⊥) → turned xs f m n ≡ xs
-  turned_done f m n le behind within last first over =
-      elim (cases_eq f m) [
-        | inl same ↦
-            ap (turned xs f m) (last same) ∙ turned_all f m ∙ ap (λ k. take f xs ++ drop m xs ++ slice_range xs k m) same
-            ∙ ap (λ l. take f xs ++ drop m xs ++ l) (none m) ∙ append-nil (take f xs ++ drop m xs)
-            ∙ ap (λ k. take k xs ++ drop m xs) same ∙ take-append-drop m xs
-        | inr other ↦
-            let all : n ≡ length xs = grind (arith, over) in
-            ap (turned xs f m) (first all) ∙ turned_all f m
-            ∙ ap (λ l. take f xs ++ l ++ slice_range xs f m) (drop_all m xs (omega (arith, first all)))
-            ∙ ap (λ l. l ++ slice_range xs f m) (append-nil (take f xs))
-            ∙ ap (λ l. take f xs ++ l) (take_all (m - f) (drop f xs) (omega (arith, first all, length-drop f xs)))
-            ∙ take-append-drop f xs
-      ]
-
 -- where the parts begin once a part that ran out gave way
 module _ {X : Type 0} (xs : List X) (f m n a b : ℕ) (le : f ≤ m) (behind : m ≤ n) (within : n ≤ length xs)
     (last : f ≡ m → (a ≡ n) × (b ≡ n)) (first : f ≢ m → n ≡ length xs → (a ≡ m) × (b ≡ m))

@@ -1,5 +1,5 @@
 -- Lemmas on the list and the spare slots of a vector in lent slots.
-use Rattle.std.proofs.Common.{◌≡◌, ℕ, ◌+◌, ◌-◌, ◌<◌, ◌≤◌, List, ◌∷◌, ◌++◌, length, take, drop, set, insert, remove, refl, sym, ap, ◌∙◌, arith, rules, length-append, take-append-drop, drop-set-lt}
+use Rattle.std.proofs.Common.{◌≡◌, ℕ, ◌+◌, ◌-◌, ◌<◌, ◌≤◌, List, ◌∷◌, ◌++◌, length, take, drop, set, insert, remove, refl, sym, ap, ◌∙◌, arith, rules, length-append, take-append-drop}
 use Rattle.std.proofs.Math.Seq.{take-set-lt}
 use Rattle.std.proofs.lemmas.List.{same_lists, places, drop-set-add}
 use Rattle.std.specs.Borrow.{MutBor}
@@ -90,9 +90,6 @@ module _ {B T : Type 0} (g : Lent.Ghosts B T) (v : SliceVecOver B T) where
 module _ {B T : Type 0} (g : Lent.Ghosts B T) (v : SliceVecOver B T) (i : ℕ) (x : T) (lt : i < length (items_of g v)) where
   pub items_of-set : items_of g (at_slots g v (set (g.slots v.lent) i x)) ≡ set (items_of g v) i x
   items_of-set = ap (take v.len) (g.slots_written v.lent (set (g.slots v.lent) i x)) ∙ take-set-lt v.len (g.slots v.lent) i x (search (rules, lt, places))
-
-  pub spare_of-set : spare_of g (at_slots g v (set (g.slots v.lent) i x)) ≡ spare_of g v
-  spare_of-set = ap (drop v.len) (g.slots_written v.lent (set (g.slots v.lent) i x)) ∙ drop-set-lt v.len (g.slots v.lent) i x (search (rules, lt, places))
 
 -- what the owner of a slice sees of a vector over it
 pub owner_sees : {T : Type 0} (v : SliceVecOver (MutBor (List T)) T) (xs ys : List T) → items v ≡ xs → spare v ≡ ys → slots v ≡ xs ++ ys

@@ -63,22 +63,21 @@ fn clone_blocks_of<T: Clone, const N: usize>(to: &mut [T], from: &[T]) -> usize
     ensures len { length to.new ≡ length to.old }
 {
     let mut done = 0;
-    while clone_block::<T, N>(&mut to[done..], &from[done..]) {
+    while N <= from.len() - done && clone_block::<T, N>(&mut to[done..], &from[done..]) {
         done += N;
     }
     done
 }
 
-// Clones the first N items, and answers whether there are so many and no clone was refused.
+// Clones the first N items, and answers whether no clone was refused. It is called only where there are so many, since it
+// clears its room on the stack.
 fn clone_block<T: Clone, const N: usize>(to: &mut [T], from: &[T]) -> bool
+    requires enough { N ≤ length from.now }
     requires fits { length from.now ≤ length to.old }
     requires clones { (x y : T) → T.is_clone x y → y ≡ x }
-    ensures cloned { MatchBool result ((N ≤ length from.now) × (to.new ≡ take N from.now ++ drop N to.old)) (to.new ≡ to.old) }
+    ensures cloned { MatchBool result (to.new ≡ take N from.now ++ drop N to.old) (to.new ≡ to.old) }
     ensures len { length to.new ≡ length to.old }
 {
-    if from.len() < N {
-        return false;
-    }
     // It tells the proof that so many items fit in memory.
     let _bytes = from.len() * mem::size_of::<T>();
     let Some(block) = from.first_chunk::<N>() else {

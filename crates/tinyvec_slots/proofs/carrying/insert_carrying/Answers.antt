@@ -1,4 +1,4 @@
-use Rattle.std.proofs.Common.{◌≡◌, ◌+◌, ◌∙◌, ◌++◌, ◌∷◌, [], ap, arith, rules, insert, take, drop}
+use Rattle.std.proofs.Common.{◌≡◌, ◌+◌, ◌∙◌, ◌++◌, ◌∷◌, [], ap, rules, insert, take, drop}
 use Rattle.tinyvec_slots.proofs.Lists.{insert_over}
 use Rattle.tinyvec_slots.proofs.carrying.insert_carrying.Goals as goal
 
