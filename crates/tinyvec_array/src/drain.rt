@@ -45,6 +45,7 @@ impl<A: Array> ArrayVec<A> {
     {
         let len = self.len();
         let part = resolve(range, len);
+        // Of so many turns the compiler knows that their indexes stay in 32 bits.
         let count = narrow(part.end - part.start, A::CAPACITY);
         self.items_to_end(part.start, part.end);
         self.set_border(len - count);

@@ -42,8 +42,8 @@ pub(crate) fn take_slot_behind<A: Array>(array: &mut A, len: usize, i: usize) ->
     mem::take(&mut slots[at])
 }
 
-// It is `i`. Of an index in 32 bits the compiler knows that it can't lead round all addresses to the length, which lies in
-// front of the slots. So it keeps the length in a register over a loop of pushes, and makes such a loop vector code.
+/// It is `i`. Of an index in 32 bits the compiler knows that it can't lead round all addresses to the length, which lies in
+/// front of the slots. So it keeps the length in a register over a loop of pushes, and makes such a loop vector code.
 #[inline(always)]
 pub(crate) fn narrow(i: usize, most: usize) -> usize
     requires { i ≤ most }
