@@ -14,6 +14,3 @@ pub use tinyvec_array::{
     NoRoom, SpliceRest, TryFromSliceError,
 };
 pub use tinyvec_slice::{Lent, SliceVec, SliceVecDrain, SliceVecDrainOver, SliceVecOver};
-
-#[cfg(test)]
-mod tests;

@@ -8,7 +8,7 @@ use Rattle.tinyvec_slots.specs.Filling.{ShowsItems}
 use Rattle.tinyvec_slots.proofs.FillingLemmas.{drained, refused}
 use Rattle.tinyvec_array.specs.Splice.{splice_front, splice_back, splice_len, splice_replacement, finish_placed, SpliceCanStep, Finishes, FinishesWith}
 use Rattle.tinyvec_array.specs.declared.splice.ArrayVecSplice.{ArrayVecSplice}
-use Rattle.tinyvec_array.specs.declared.no_room.SpliceRest.{SpliceRest}
+use Rattle.tinyvec_slots.specs.declared.no_room.SpliceRest.{SpliceRest}
 use Rattle.tinyvec_array.proofs.Fused.{ended_gives_none}
 
 module _ {A I T : Type 0} (gives : I → Option T → I → Type 0) (capacity : _) (s : ArrayVecSplice A I T) (v : Slots T) where

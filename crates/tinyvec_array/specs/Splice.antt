@@ -8,7 +8,7 @@ use Rattle.std.specs.Iterator.{Drains, YieldsThen}
 use Rattle.tinyvec_slots.specs.Slots.{Slots, items, spare, items_len}
 use Rattle.tinyvec_array.specs.Touches.{touch_count}
 use Rattle.tinyvec_array.specs.declared.splice.ArrayVecSplice.{ArrayVecSplice}
-use Rattle.tinyvec_array.specs.declared.no_room.SpliceRest.{SpliceRest}
+use Rattle.tinyvec_slots.specs.declared.no_room.SpliceRest.{SpliceRest}
 
 module _ {A I T : Type 0} where
   -- what stood before the range, and the replacement items placed from the front

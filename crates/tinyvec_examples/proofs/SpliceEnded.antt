@@ -11,7 +11,7 @@ use Rattle.tinyvec_array.specs.Fused.{HasTwoEnds}
 use Rattle.tinyvec_array.specs.Splice.{splice_front, splice_left, splice_back, splice_replacement, splice_slots, SpliceKeeps, SpliceSteps, SpliceStepsBack, FinishesWith}
 use Rattle.tinyvec_array.specs.Splicing.{placed_back, IsSpliceRefused, SplicedByWord}
 use Rattle.tinyvec_array.specs.declared.splice.ArrayVecSplice.{ArrayVecSplice}
-use Rattle.tinyvec_array.specs.declared.no_room.SpliceRest.{SpliceRest}
+use Rattle.tinyvec_slots.specs.declared.no_room.SpliceRest.{SpliceRest}
 use Rattle.tinyvec_array.proofs.SplicingLemmas.{spliced_len, spliced_all, spliced_refused}
 
 -- an array's items have two ends

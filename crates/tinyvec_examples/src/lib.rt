@@ -1,4 +1,4 @@
-//! What a caller of the vectors can prove, and the vectors' tests.
+//! What a caller of the vectors can prove.
 #![tactic(auto)]
 
 pub mod draining;
@@ -8,6 +8,4 @@ pub mod lending;
 pub mod making;
 pub mod slices;
 pub mod splicing;
-#[cfg(test)]
-mod tests;
 pub mod tiny_vec;

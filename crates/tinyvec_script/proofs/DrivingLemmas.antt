@@ -14,7 +14,7 @@ use Rattle.tinyvec_array.specs.Fused.{HasTwoEnds}
 use Rattle.tinyvec_array.specs.Splice.{splice_front, splice_left, splice_back, splice_replacement, splice_slots, SpliceSteps, SpliceStepsBack, FinishesWith}
 use Rattle.tinyvec_array.specs.Splicing.{IsSpliceRefused, SplicedByWord}
 use Rattle.tinyvec_array.specs.declared.splice.ArrayVecSplice.{ArrayVecSplice}
-use Rattle.tinyvec_array.specs.declared.no_room.SpliceRest.{SpliceRest}
+use Rattle.tinyvec_slots.specs.declared.no_room.SpliceRest.{SpliceRest}
 use Rattle.tinyvec_array.proofs.SplicingLemmas.{Asks-splices, Asks-takes_removed, spliced_len, spliced_all, spliced_refused}
 use Rattle.tinyvec_script.specs.Driving.{letter, word_of, SpliceTakes, ArraySplices}
 use Rattle.tinyvec_script.specs.declared.call.End.{End}

@@ -14,8 +14,6 @@ mod runs;
 mod script;
 mod slice_step;
 mod splice_text;
-#[cfg(test)]
-mod tests;
 mod tiny_step;
 mod vectors;
 

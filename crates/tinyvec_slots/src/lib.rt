@@ -1,10 +1,12 @@
-//! What the vectors of this workspace share: the range rule, and what they do to a slice of slots.
+//! What the vectors of this workspace share: the range rule, what they do to a slice of slots, and what refusals hand back.
 #![tactic(auto)]
 
 mod carrying;
 mod cloning;
 mod filtering;
 mod moving;
+mod no_memory;
+mod no_room;
 mod range;
 mod resetting;
 
@@ -12,5 +14,7 @@ pub use carrying::{are_few, insert_carrying, remove_carrying};
 pub use cloning::{clone_each, clone_over, clone_through};
 pub use filtering::{dedup_in_front, dedup_keys_in_front, retain_in_front, retain_mut_in_front};
 pub use moving::{last_to, move_to_end, part_to_end};
+pub use no_memory::NoMemory;
+pub use no_room::{FromIterRest, NoRoom, SpliceRest};
 pub use range::resolve;
 pub use resetting::reset;

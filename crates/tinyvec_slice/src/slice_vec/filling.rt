@@ -5,7 +5,7 @@ ghost use Rattle.tinyvec_slots.specs.Filling.{YieldsUpTo, ShowsItems};
 ghost use Rattle.tinyvec_slice.specs.View.{items_of, spare_of, name_of};
 
 use crate::{Lent, SliceVecOver};
-use tinyvec_array::NoRoom;
+use tinyvec_slots::NoRoom;
 
 impl<B: Lent> SliceVecOver<B> {
     /// Appends items until the vector is full or there are no more. What comes back gives the others. No item beyond

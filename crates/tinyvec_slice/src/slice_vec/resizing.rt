@@ -7,7 +7,7 @@ use crate::clone_slots::put_copies;
 use crate::slots::put;
 use crate::{Lent, SliceVecOver};
 use std::alloc::AllocError;
-use tinyvec_array::NoMemory;
+use tinyvec_slots::NoMemory;
 
 impl<B: Lent> SliceVecOver<B> {
     /// Fills the list up to `n` items with clones of `x`, or cuts it to `n` items and fills the emptied slots with clones

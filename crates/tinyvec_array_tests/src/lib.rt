@@ -1,0 +1,23 @@
+//! The tests of `ArrayVec`.
+#![tactic(auto)]
+
+#[cfg(test)]
+mod clones;
+#[cfg(test)]
+mod draining;
+#[cfg(test)]
+mod edits;
+#[cfg(test)]
+mod ends;
+#[cfg(test)]
+mod filling;
+#[cfg(test)]
+mod filters;
+#[cfg(test)]
+mod iterators;
+#[cfg(test)]
+mod making;
+#[cfg(test)]
+mod owned;
+#[cfg(test)]
+mod splices;

@@ -1,0 +1,17 @@
+//! Each example, run.
+#![tactic(auto)]
+
+#[cfg(test)]
+mod draining;
+#[cfg(test)]
+mod edits;
+#[cfg(test)]
+mod ends;
+#[cfg(test)]
+mod making;
+#[cfg(test)]
+mod slices;
+#[cfg(test)]
+mod splices;
+#[cfg(test)]
+mod tiny_vec;

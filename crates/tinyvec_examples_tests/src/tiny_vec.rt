@@ -1,0 +1,50 @@
+//! The callers of a `TinyVec`.
+use std::test::Fail;
+use tinyvec::*;
+use tinyvec_examples::tiny_vec::{
+    cut, cut_and_joined, last_of, lent_items, middle_drained, moved_by_iterator, nth_of,
+    one_too_many, set, there_and_back, three, two_more,
+};
+
+#[test]
+fn grown(rt: HostRuntime) -> Result<(), Fail> {
+    assert_eq!(rt; lent_items(&three(rt.alloc())), 3);
+    let mut v = TinyVec::from_array(rt.alloc(), [1, 2]);
+    assert!(rt; one_too_many(&mut v, 3), "memory was granted");
+    two_more(&mut v, 4, 5)?;
+    assert_eq!(rt; v.as_slice(), [1, 2, 3, 4, 5].as_slice());
+    Ok(())
+}
+
+#[test]
+fn moved(rt: HostRuntime) -> Result<(), Fail> {
+    let mut v = TinyVec::from_array_len(rt.alloc(), [1, 2, 3, 4, 9], 4);
+    there_and_back(&mut v)?;
+    assert!(rt; v.is_inline());
+    let mut to = TinyVec::new(rt.alloc());
+    assert!(rt; moved_by_iterator(v, &mut to).is_ok(), "memory was granted");
+    assert_eq!(rt; to.as_slice(), [1, 2, 3, 4].as_slice());
+    Ok(())
+}
+
+#[test]
+fn changed(rt: HostRuntime) -> Result<(), Fail> {
+    let mut v = three(rt.alloc());
+    set(&mut v, 1, 7);
+    assert_eq!(rt; v.as_slice(), [1, 7, 3].as_slice());
+    cut_and_joined(&mut v, 1)?;
+    assert_eq!(rt; v.as_slice(), [1, 7, 3].as_slice());
+    assert!(rt; v.is_inline());
+    Ok(())
+}
+
+#[test]
+fn drained(rt: HostRuntime) {
+    assert_eq!(rt; middle_drained(rt.alloc()).as_slice(), [1, 4].as_slice());
+    let mut v = three(rt.alloc());
+    assert_eq!(rt; nth_of(&mut v, ..2, 1), Some(2));
+    assert_eq!(rt; v.as_slice(), [3].as_slice());
+    cut(&mut v, ..0);
+    assert_eq!(rt; last_of(&mut v), Some(3));
+    assert!(rt; v.is_empty());
+}

@@ -1,0 +1,69 @@
+//! What scripts and runs answer, held against what is wanted.
+use std::alloc::{AllocGlobal, Global};
+use std::process::Abort;
+use std::test::Fail;
+use tinyvec_io::Counted;
+use tinyvec_script::{Answer, run};
+
+// Room for all that a test here reads or writes.
+pub(crate) const ROOM: usize = 1 << 15;
+
+// What a script over memory writes.
+pub(crate) fn written(alloc: Global, input: &[u8]) -> Result<Vec<u8>, Fail> {
+    let mut reader = Counted::new(input);
+    let mut writer = Counted::new(Vec::with_capacity(alloc, ROOM)?);
+    run(alloc, &mut reader, &mut writer)?;
+    Ok(writer.into_inner())
+}
+
+// Whether the first line that differs from what is wanted tells of refused memory.
+fn tells_refused_memory(answers: &[u8], wanted: &[u8]) -> bool {
+    let is_end = |byte: &u8| *byte == b'\n';
+    for (answer, line) in answers.split(is_end).zip(wanted.split(is_end)) {
+        if answer != line {
+            return answer.starts_with(b"memory ");
+        }
+    }
+    false
+}
+
+// Asserts that a script writes this, if no memory is refused.
+pub(crate) fn assert_written(
+    rt: &(impl Abort + AllocGlobal),
+    input: &[u8],
+    output: &[u8],
+) -> Result<(), Fail> {
+    let answers = written(rt.alloc(), input)?;
+    assert!(rt;
+        !tells_refused_memory(answers.as_slice(), output),
+        "memory was granted"
+    );
+    assert_eq!(rt; answers.as_slice(), output);
+    Ok(())
+}
+
+// Asserts that each line of a script is answered so, if no memory is refused.
+pub(crate) fn assert_answered(
+    rt: &(impl Abort + AllocGlobal),
+    lines: &[(&[u8], &[u8])],
+) -> Result<(), Fail> {
+    let mut input = Vec::with_capacity(rt.alloc(), ROOM)?;
+    let mut output = Vec::with_capacity(rt.alloc(), ROOM)?;
+    for (line, answer) in lines {
+        input.extend_from_slice(line)?;
+        input.extend_from_slice(b"\n")?;
+        output.extend_from_slice(answer)?;
+        output.extend_from_slice(b"\n")?;
+    }
+    assert_written(rt, input.as_slice(), output.as_slice())
+}
+
+// Asserts that a run gives these answers, if no memory is refused.
+pub(crate) fn assert_answers(rt: &impl Abort, answers: &[Answer<i32>], wanted: &[Answer<i32>]) {
+    for (answer, one) in answers.iter().zip(wanted) {
+        let refused = matches!(answer, Answer::Memory) && answer != one;
+        assert!(rt; !refused, "memory was granted");
+        assert_eq!(rt; answer, one);
+    }
+    assert_eq!(rt; answers.len(), wanted.len());
+}

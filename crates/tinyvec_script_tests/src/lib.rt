@@ -1,0 +1,17 @@
+//! The tests of runs and of the script.
+#![tactic(auto)]
+
+#[cfg(test)]
+mod answered;
+#[cfg(test)]
+mod array;
+#[cfg(test)]
+mod ends;
+#[cfg(test)]
+mod script;
+#[cfg(test)]
+mod slices;
+#[cfg(test)]
+mod splices;
+#[cfg(test)]
+mod tiny;

@@ -1,0 +1,101 @@
+//! Clones, granted and refused.
+use std::alloc::AllocError;
+use std::cell::Cell;
+use std::test::Fail;
+use tinyvec_slice::SliceVec;
+use tinyvec_slots::NoMemory;
+use tinyvec_test_items::{Item, Limited};
+
+#[test]
+fn extend_from_slice(rt: HostRuntime) -> Result<(), Fail> {
+    let mut slots = [1, 5, 5, 5];
+    let mut vec = SliceVec::from_slice_len(&mut slots, 1);
+    vec.extend_from_slice(&[2, 3])?;
+    assert_eq!(rt; vec.as_slice(), [1, 2, 3].as_slice());
+    assert_eq!(rt; slots, [1, 2, 3, 5]);
+    Ok(())
+}
+
+#[test]
+fn extend_from_slice_refused(rt: HostRuntime) -> Result<(), Fail> {
+    let mut slots = [Item(1), Item(5), Item(6), Item(7)];
+    let mut vec = SliceVec::from_slice_len(&mut slots, 1);
+    assert_eq!(rt;
+        vec.extend_from_slice(&[Item(2), Item(3), Item(99)]),
+        Err(AllocError)
+    );
+    assert_eq!(rt; vec.as_slice(), [Item(1)].as_slice());
+    assert_eq!(rt;
+        vec.grab_spare_slice(),
+        [Item(2), Item(3), Item(7)].as_slice()
+    );
+    vec.extend_from_slice(&[Item(4)])?;
+    assert_eq!(rt; slots, [Item(1), Item(4), Item(3), Item(7)]);
+    Ok(())
+}
+
+#[test]
+fn resize(rt: HostRuntime) {
+    let mut slots = [Item(1), Item(2), Item(3), Item(8)];
+    let mut vec = SliceVec::from_slice_len(&mut slots, 3);
+    assert_eq!(rt; vec.resize(1, Item(6)), Ok(()));
+    assert_eq!(rt; vec.as_slice(), [Item(1)].as_slice());
+    assert_eq!(rt;
+        vec.grab_spare_slice(),
+        [Item(6), Item(6), Item(8)].as_slice()
+    );
+    assert_eq!(rt; vec.resize(3, Item(4)), Ok(()));
+    assert_eq!(rt; vec.as_slice(), [Item(1), Item(4), Item(4)].as_slice());
+    assert_eq!(rt; vec.resize(3, Item(99)), Ok(()));
+    assert_eq!(rt; vec.resize(4, Item(99)), Err(NoMemory(Item(99))));
+    assert_eq!(rt; vec.resize(0, Item(99)), Err(NoMemory(Item(99))));
+    assert_eq!(rt; slots, [Item(1), Item(4), Item(4), Item(8)]);
+}
+
+// The second clone is refused.
+#[test]
+fn growing_refused(rt: HostRuntime) {
+    let left = Cell::new(1);
+    let mut slots = [named(1), named(2), named(3), named(4)];
+    let mut vec = SliceVec::from_slice_len(&mut slots, 1);
+    let refused = vec.resize(
+        4,
+        Limited {
+            name: 7,
+            left: Some(&left),
+        },
+    );
+    assert_eq!(rt; refused.err().map(|refused| refused.0.name), Some(7));
+    assert_eq!(rt; vec.len(), 1);
+    assert_eq!(rt; names(&slots), [1, 7, 3, 4]);
+}
+
+// So it is here. The list is shorter by the slot that was filled.
+#[test]
+fn cutting_refused(rt: HostRuntime) {
+    let left = Cell::new(1);
+    let mut slots = [named(1), named(2), named(3), named(4)];
+    let mut vec = SliceVec::from_slice_len(&mut slots, 4);
+    let refused = vec.resize(
+        1,
+        Limited {
+            name: 7,
+            left: Some(&left),
+        },
+    );
+    assert_eq!(rt; refused.err().map(|refused| refused.0.name), Some(7));
+    assert_eq!(rt; vec.len(), 3);
+    assert_eq!(rt; names(&slots), [1, 2, 3, 7]);
+}
+
+fn named<'a>(name: u8) -> Limited<'a> {
+    Limited { name, left: None }
+}
+
+fn names(slots: &[Limited<'_>; 4]) -> [u8; 4] {
+    let mut names = [0; 4];
+    for (name, slot) in names.iter_mut().zip(slots) {
+        *name = slot.name;
+    }
+    names
+}

@@ -1,0 +1,101 @@
+//! Items taken from iterators and closures, and items kept.
+use std::iter;
+use tinyvec_slice::SliceVec;
+use tinyvec_slots::NoRoom;
+
+#[test]
+fn fill_stops_when_full(rt: HostRuntime) {
+    let mut slots = [7, 7, 7];
+    let mut vec = SliceVec::from_slice_len(&mut slots, 1);
+    let mut rest = vec.fill(0..);
+    assert_eq!(rt; vec.as_slice(), [7, 0, 1].as_slice());
+    assert_eq!(rt; rest.next(), Some(2));
+}
+
+#[test]
+fn fill_stops_at_the_end(rt: HostRuntime) {
+    let mut slots = [1, 9, 9, 9];
+    let mut vec = SliceVec::from_slice_len(&mut slots, 1);
+    let mut rest = vec.fill(5..7);
+    assert_eq!(rt; vec.as_slice(), [1, 5, 6].as_slice());
+    assert_eq!(rt; vec.grab_spare_slice(), [9].as_slice());
+    assert_eq!(rt; rest.next(), None);
+}
+
+#[test]
+fn extend_answers_what_found_no_room(rt: HostRuntime) {
+    let mut slots = [0, 0];
+    let mut vec = SliceVec::from_slice_len(&mut slots, 0);
+    match vec.extend(1..=4) {
+        Ok(()) => panic!(rt; "there was no room"),
+        Err(NoRoom { item, mut rest }) => {
+            assert_eq!(rt; item, 3);
+            assert_eq!(rt; rest.next(), Some(4));
+            assert_eq!(rt; rest.next(), None);
+        }
+    }
+    assert_eq!(rt; slots, [1, 2]);
+}
+
+#[test]
+fn extend_by_endless_items(rt: HostRuntime) {
+    let mut slots = [1, 9];
+    let mut vec = SliceVec::from_slice_len(&mut slots, 1);
+    assert!(rt; vec.extend(iter::repeat(6)).is_err());
+    assert_eq!(rt; slots, [1, 6]);
+}
+
+#[test]
+fn extend_by_what_fits(rt: HostRuntime) {
+    let mut slots = [1, 9, 9];
+    let mut vec = SliceVec::from_slice_len(&mut slots, 1);
+    assert!(rt; vec.extend(2..3).is_ok());
+    assert_eq!(rt; vec.as_slice(), [1, 2].as_slice());
+    assert!(rt; vec.extend(3..4).is_ok());
+    assert!(rt; vec.is_full());
+    assert!(rt; vec.extend(4..4).is_ok());
+    assert_eq!(rt; slots, [1, 2, 3]);
+}
+
+#[test]
+fn resize_with_fills_the_last_slot_first(rt: HostRuntime) {
+    let mut slots = [1, 2, 3, 7, 7];
+    let mut last = 9_i32;
+    let mut vec = SliceVec::from_slice_len(&mut slots, 3);
+    vec.resize_with(1, || {
+        last = last.wrapping_add(1);
+        last
+    });
+    assert_eq!(rt; last, 11);
+    assert_eq!(rt; vec.as_slice(), [1].as_slice());
+    assert_eq!(rt; slots, [1, 11, 10, 7, 7]);
+}
+
+#[test]
+fn resize_with_answers_in_order(rt: HostRuntime) {
+    let mut slots = [1, 2, 3, 9, 9];
+    let mut last = 10_i32;
+    let mut vec = SliceVec::from_slice_len(&mut slots, 2);
+    vec.resize_with(4, || {
+        last = last.wrapping_add(1);
+        last
+    });
+    assert_eq!(rt; last, 12);
+    assert_eq!(rt; vec.as_slice(), [1, 2, 11, 12].as_slice());
+    vec.resize_with(4, || 5);
+    assert_eq!(rt; slots, [1, 2, 11, 12, 9]);
+}
+
+#[test]
+fn retain_the_even(rt: HostRuntime) {
+    let mut slots = [1, 2, 3, 4, 9];
+    let mut asked = 0_i32;
+    let mut vec = SliceVec::from_slice_len(&mut slots, 4);
+    vec.retain(|x| {
+        asked = asked.wrapping_add(1);
+        *x % 2 == 0
+    });
+    assert_eq!(rt; asked, 4);
+    assert_eq!(rt; vec.len(), 2);
+    assert_eq!(rt; slots, [2, 4, 0, 0, 9]);
+}

@@ -1,0 +1,17 @@
+//! The tests of `SliceVec`.
+#![tactic(auto)]
+
+#[cfg(test)]
+mod clones;
+#[cfg(test)]
+mod draining;
+#[cfg(test)]
+mod edits;
+#[cfg(test)]
+mod filling;
+#[cfg(test)]
+mod iterators;
+#[cfg(test)]
+mod joining;
+#[cfg(test)]
+mod making;

@@ -1,0 +1,137 @@
+//! Tests of the drain.
+ghost use Rattle.std.specs.Prelude.{◌≤◌};
+ghost use Rattle.tinyvec_slots.specs.Cut.{range_start, range_end};
+
+use crate::looks::{lies, spares};
+use std::alloc::AllocGlobal;
+use std::mem;
+use std::ops::{Bound, RangeBounds};
+use std::process::Abort;
+use std::test::Fail;
+use tinyvec::{ArrayVec, TinyVec};
+
+// Drains the range of `[1, 2, 3]`, inline in ten slots or on the heap.
+fn drains<R: RangeBounds<usize>>(
+    rt: &(impl Abort + AllocGlobal),
+    inline: bool,
+    range: R,
+    given: &[i32],
+    left: &[i32],
+) -> Result<(), Fail>
+    requires known { R.has_bounds range }
+    requires start_le_end { range_start (R.start_bound range) ≤ range_end (R.end_bound range) 3 }
+    requires in_list { range_end (R.end_bound range) 3 ≤ 3 }
+{
+    let mut v = TinyVec::from_array_len(rt.alloc(), [1, 2, 3, 0, 0, 0, 0, 0, 0, 0], 3);
+    if !inline {
+        v.move_to_the_heap()?;
+    }
+    let room = v.capacity();
+    if v.len() != 3 {
+        panic!(rt; "there are three items");
+    }
+    let mut drained: ArrayVec<[i32; 3]> = ArrayVec::new();
+    for item in v.drain(range) {
+        assert!(rt; drained.try_push(item).is_none());
+    }
+    assert_eq!(rt; drained.as_slice(), given);
+    assert!(rt; lies(&v, left, inline));
+    assert_eq!(rt; v.capacity(), room);
+    Ok(())
+}
+
+#[test]
+fn ranges_with_an_open_end(rt: HostRuntime) -> Result<(), Fail> {
+    for inline in [true, false] {
+        drains(&rt, inline, .., &[1, 2, 3], &[])?;
+        drains(&rt, inline, ..2, &[1, 2], &[3])?;
+        drains(&rt, inline, ..3, &[1, 2, 3], &[])?;
+        drains(&rt, inline, ..=1, &[1, 2], &[3])?;
+        drains(&rt, inline, ..=2, &[1, 2, 3], &[])?;
+        drains(&rt, inline, 0.., &[1, 2, 3], &[])?;
+        drains(&rt, inline, 1.., &[2, 3], &[1])?;
+        drains(&rt, inline, 3.., &[], &[1, 2, 3])?;
+    }
+    Ok(())
+}
+
+#[test]
+fn ranges_with_both_ends(rt: HostRuntime) -> Result<(), Fail> {
+    for inline in [true, false] {
+        drains(&rt, inline, 0..2, &[1, 2], &[3])?;
+        drains(&rt, inline, 0..3, &[1, 2, 3], &[])?;
+        drains(&rt, inline, 1..2, &[2], &[1, 3])?;
+        drains(&rt, inline, 1..3, &[2, 3], &[1])?;
+        drains(&rt, inline, 2..2, &[], &[1, 2, 3])?;
+        drains(&rt, inline, 0..=1, &[1, 2], &[3])?;
+        drains(&rt, inline, 0..=2, &[1, 2, 3], &[])?;
+        drains(&rt, inline, 1..=1, &[2], &[1, 3])?;
+        drains(&rt, inline, 1..=2, &[2, 3], &[1])?;
+        let behind = (Bound::Excluded(0), Bound::Included(2));
+        drains(&rt, inline, behind, &[2, 3], &[1])?;
+    }
+    Ok(())
+}
+
+#[test]
+fn passed_over(rt: HostRuntime) {
+    let mut v = TinyVec::from_array(rt.alloc(), [1, 2, 3, 4]);
+    let mut d = v.drain(1..3);
+    assert_eq!(rt; d.nth(1), Some(3));
+    drop(d);
+    assert!(rt; lies(&v, &[1, 4], true));
+    assert!(rt; spares(&v, &[0, 0]));
+}
+
+#[test]
+fn never_asked(rt: HostRuntime) -> Result<(), Fail> {
+    let mut v = TinyVec::from_array_len(rt.alloc(), [1, 2, 3, 4, 9], 4);
+    drop(v.drain(..2));
+    assert!(rt; lies(&v, &[3, 4], true));
+    assert!(rt; spares(&v, &[0, 0, 9]));
+    let mut heap: TinyVec<[i32; 2]> = TinyVec::from_slice(rt.alloc(), &[1, 2, 3, 4])?;
+    drop(heap.drain(..));
+    assert!(rt; lies(&heap, &[], false));
+    Ok(())
+}
+
+#[test]
+fn from_both_ends_to_none(rt: HostRuntime) -> Result<(), Fail> {
+    let mut v: TinyVec<[i32; 4]> = TinyVec::from_slice(rt.alloc(), &[0, 1, 2, 3, 4, 5, 6, 7])?;
+    if v.len() != 8 {
+        panic!(rt; "there are eight items");
+    }
+    let mut d = v.drain(1..);
+    assert_eq!(rt; d.len(), 7);
+    assert_eq!(rt; d.size_hint(), (7, Some(7)));
+    assert_eq!(rt; d.next(), Some(1));
+    assert_eq!(rt; d.next_back(), Some(7));
+    assert_eq!(rt; d.nth(1), Some(3));
+    assert_eq!(rt; d.nth_back(1), Some(5));
+    assert_eq!(rt; d.len(), 1);
+    assert_eq!(rt; d.next_back(), Some(4));
+    assert_eq!(rt; d.next(), None);
+    assert_eq!(rt; d.next_back(), None);
+    assert_eq!(rt; d.size_hint(), (0, Some(0)));
+    drop(d);
+    assert!(rt; lies(&v, &[0], false));
+    Ok(())
+}
+
+#[test]
+fn last_and_count(rt: HostRuntime) {
+    let mut v = TinyVec::from_array(rt.alloc(), [1, 2, 3, 4]);
+    assert_eq!(rt; v.drain(1..3).last(), Some(3));
+    assert!(rt; lies(&v, &[1, 4], true));
+    assert_eq!(rt; v.drain(..).count(), 2);
+    assert!(rt; lies(&v, &[], true));
+}
+
+#[test]
+fn forgotten(rt: HostRuntime) {
+    let mut v = TinyVec::from_array(rt.alloc(), [1, 2, 3, 4]);
+    mem::forget(v.drain(1..3));
+    assert!(rt; v.is_inline());
+    assert_eq!(rt; v.capacity(), 4);
+    assert_eq!(rt; v.as_slice().first(), Some(&1));
+}

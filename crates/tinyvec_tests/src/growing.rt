@@ -1,0 +1,85 @@
+//! Each growing call on a full `[1, 2]`, with memory granted.
+use crate::looks::lies;
+use std::alloc::{AllocError, Global};
+use std::test::Fail;
+use tinyvec::{NoMemory, TinyVec};
+
+fn full(alloc: Global) -> TinyVec<[i32; 2]> {
+    TinyVec::from_array(alloc, [1, 2])
+}
+
+#[test]
+fn append(rt: HostRuntime) -> Result<(), Fail> {
+    let mut v = full(rt.alloc());
+    let mut other = TinyVec::from_array_len(rt.alloc(), [3, 0], 1);
+    v.append(&mut other)?;
+    assert!(rt; lies(&v, &[1, 2, 3], false));
+    assert!(rt; lies(&other, &[], true));
+    Ok(())
+}
+
+#[test]
+fn extend_from_slice(rt: HostRuntime) -> Result<(), Fail> {
+    let mut v = full(rt.alloc());
+    v.extend_from_slice(&[])?;
+    assert!(rt; lies(&v, &[1, 2], true));
+    v.extend_from_slice(&[3])?;
+    assert!(rt; lies(&v, &[1, 2, 3], false));
+    Ok(())
+}
+
+#[test]
+fn extend(rt: HostRuntime) {
+    let mut v = full(rt.alloc());
+    assert!(rt; v.extend(3..3).is_ok());
+    assert!(rt; lies(&v, &[1, 2], true));
+    assert!(rt; v.extend(3..=3).is_ok(), "memory was granted");
+    assert!(rt; lies(&v, &[1, 2, 3], false));
+}
+
+#[test]
+fn resize(rt: HostRuntime) {
+    let mut v = full(rt.alloc());
+    assert!(rt; v.resize(3, 3).is_ok(), "memory was granted");
+    assert!(rt; lies(&v, &[1, 2, 3], false));
+    assert!(rt; v.resize(1, 9).is_ok());
+    assert!(rt; lies(&v, &[1], false));
+    let mut many: TinyVec<[i32; 10]> = TinyVec::new(rt.alloc());
+    assert!(rt; many.resize(20, 5).is_ok(), "memory was granted");
+    assert!(rt; lies(&many, &[5; 20], false));
+    let mut few: TinyVec<[i32; 4]> = TinyVec::from_array_len(rt.alloc(), [1, 0, 0, 0], 1);
+    assert!(rt; few.resize(3, 6).is_ok());
+    assert!(rt; lies(&few, &[1, 6, 6], true));
+    assert_eq!(rt; few.resize(1 << 60, 7), Err(NoMemory(7)));
+    assert!(rt; lies(&few, &[1, 6, 6], true));
+}
+
+#[test]
+fn resize_with(rt: HostRuntime) -> Result<(), Fail> {
+    let mut v = full(rt.alloc());
+    v.resize_with(3, || 3)?;
+    assert!(rt; lies(&v, &[1, 2, 3], false));
+    let mut few: TinyVec<[i32; 4]> = TinyVec::from_array_len(rt.alloc(), [1, 0, 0, 0], 1);
+    let mut last = 10_i32;
+    few.resize_with(3, || {
+        last = last.wrapping_add(1);
+        last
+    })?;
+    assert_eq!(rt; last, 12);
+    assert!(rt; lies(&few, &[1, 11, 12], true));
+    few.resize_with(2, || 9)?;
+    assert!(rt; lies(&few, &[1, 11], true));
+    assert_eq!(rt; few.resize_with(1 << 60, || 9), Err(AllocError));
+    assert!(rt; lies(&few, &[1, 11], true));
+    Ok(())
+}
+
+#[test]
+fn push_and_insert(rt: HostRuntime) {
+    let mut v = full(rt.alloc());
+    assert!(rt; v.push(3).is_ok(), "memory was granted");
+    assert!(rt; lies(&v, &[1, 2, 3], false));
+    let mut v = TinyVec::from_array(rt.alloc(), [1, 2]);
+    assert!(rt; v.insert(2, 3).is_ok(), "memory was granted");
+    assert!(rt; lies(&v, &[1, 2, 3], false));
+}

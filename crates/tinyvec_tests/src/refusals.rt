@@ -1,0 +1,586 @@
+//! Each call that may ask for memory, granted or refused. `tests/refuse` has each allocation refused in turn.
+use crate::looks::{lies, spares};
+use std::alloc::{AllocError, Global};
+use std::process::Abort;
+use std::test::Fail;
+use tinyvec::{FromIterRest, NoMemory, NoRoom, TinyVec};
+
+// Says that a refusal was met. The script asks this of each test here.
+fn refused(rt: &impl Print) -> Result<(), Fail> {
+    println!(rt; "refused")?;
+    Ok(())
+}
+
+// `[1, 2]`, before one spare slot.
+fn in_the_array(alloc: Global) -> TinyVec<[i32; 3]> {
+    TinyVec::from_array_len(alloc, [1, 2, 9], 2)
+}
+
+// `[1, 2, 3]`, with no spare slot.
+fn full(alloc: Global) -> TinyVec<[i32; 3]> {
+    TinyVec::from_array(alloc, [1, 2, 3])
+}
+
+// `[1, 2, 3, 4]`, with room for no more.
+fn on_the_heap(alloc: Global) -> Result<TinyVec<[i32; 3]>, AllocError> {
+    TinyVec::from_slice(alloc, &[1, 2, 3, 4])
+}
+
+#[test]
+fn with_capacity(rt: HostRuntime) -> Result<(), Fail> {
+    assert!(rt; TinyVec::<[i32; 3]>::with_capacity(rt.alloc(), 3).is_ok());
+    match TinyVec::<[i32; 3]>::with_capacity(rt.alloc(), 4) {
+        Ok(v) => assert!(rt; lies(&v, &[], false)),
+        Err(AllocError) => refused(&rt)?,
+    }
+    Ok(())
+}
+
+#[test]
+fn with_initial_len(rt: HostRuntime) -> Result<(), Fail> {
+    assert!(rt; TinyVec::<[i32; 3]>::with_initial_len(rt.alloc(), 3).is_ok());
+    match TinyVec::<[i32; 3]>::with_initial_len(rt.alloc(), 4) {
+        Ok(v) => assert!(rt; lies(&v, &[0, 0, 0, 0], false)),
+        Err(AllocError) => refused(&rt)?,
+    }
+    Ok(())
+}
+
+#[test]
+fn from_slice(rt: HostRuntime) -> Result<(), Fail> {
+    assert!(rt; TinyVec::<[i32; 3]>::from_slice(rt.alloc(), &[1, 2, 3]).is_ok());
+    match on_the_heap(rt.alloc()) {
+        Ok(v) => assert!(rt; lies(&v, &[1, 2, 3, 4], false)),
+        Err(AllocError) => refused(&rt)?,
+    }
+    Ok(())
+}
+
+#[test]
+fn from_iter(rt: HostRuntime) -> Result<(), Fail> {
+    match TinyVec::<[i32; 3]>::from_iter(rt.alloc(), 1..=5) {
+        Ok(v) => assert!(rt; lies(&v, &[1, 2, 3, 4, 5], false)),
+        Err(
+            FromIterRest {
+                vec,
+                item,
+                mut rest,
+            },
+        ) => {
+            assert!(rt; lies(&vec, &[1, 2, 3], true));
+            assert_eq!(rt; item, 4);
+            assert_eq!(rt; rest.next(), Some(5));
+            assert_eq!(rt; rest.next(), None);
+            refused(&rt)?;
+        }
+    }
+    Ok(())
+}
+
+#[test]
+fn push(rt: HostRuntime) -> Result<(), Fail> {
+    let mut v = full(rt.alloc());
+    if let Err(NoMemory(item)) = v.push(4) {
+        assert_eq!(rt; item, 4);
+        assert!(rt; lies(&v, &[1, 2, 3], true));
+        refused(&rt)?;
+        assert!(rt; v.push(4).is_ok());
+    }
+    assert!(rt; lies(&v, &[1, 2, 3, 4], false));
+    let mut heap = on_the_heap(rt.alloc())?;
+    let room = heap.capacity();
+    if let Err(NoMemory(item)) = heap.push(5) {
+        assert_eq!(rt; item, 5);
+        assert!(rt; lies(&heap, &[1, 2, 3, 4], false));
+        assert_eq!(rt; heap.capacity(), room);
+        refused(&rt)?;
+        assert!(rt; heap.push(5).is_ok());
+    }
+    assert!(rt; lies(&heap, &[1, 2, 3, 4, 5], false));
+    Ok(())
+}
+
+#[test]
+fn insert(rt: HostRuntime) -> Result<(), Fail> {
+    let mut v = full(rt.alloc());
+    if let Err(NoMemory(item)) = v.insert(0, 4) {
+        assert_eq!(rt; item, 4);
+        assert!(rt; lies(&v, &[1, 2, 3], true));
+        refused(&rt)?;
+        assert!(rt; v.insert(0, 4).is_ok());
+    }
+    assert!(rt; lies(&v, &[4, 1, 2, 3], false));
+    let mut heap = on_the_heap(rt.alloc())?;
+    let room = heap.capacity();
+    if let Err(NoMemory(item)) = heap.insert(0, 5) {
+        assert_eq!(rt; item, 5);
+        assert!(rt; lies(&heap, &[1, 2, 3, 4], false));
+        assert_eq!(rt; heap.capacity(), room);
+        refused(&rt)?;
+        assert!(rt; heap.insert(0, 5).is_ok());
+    }
+    assert!(rt; lies(&heap, &[5, 1, 2, 3, 4], false));
+    Ok(())
+}
+
+#[test]
+fn append_inline(rt: HostRuntime) -> Result<(), Fail> {
+    let mut v = full(rt.alloc());
+    let mut other = in_the_array(rt.alloc());
+    match v.append(&mut other) {
+        Ok(()) => {
+            assert!(rt; lies(&v, &[1, 2, 3, 1, 2], false));
+            assert!(rt; lies(&other, &[], true));
+            assert!(rt; spares(&other, &[0, 0, 9]));
+        }
+        Err(AllocError) => {
+            assert!(rt; lies(&v, &[1, 2, 3], true));
+            assert!(rt; lies(&other, &[1, 2], true));
+            assert!(rt; spares(&other, &[9]));
+            refused(&rt)?;
+        }
+    }
+    Ok(())
+}
+
+#[test]
+fn append_a_heap_list(rt: HostRuntime) -> Result<(), Fail> {
+    let mut v = in_the_array(rt.alloc());
+    let mut other = on_the_heap(rt.alloc())?;
+    let room = other.capacity();
+    match v.append(&mut other) {
+        Ok(()) => {
+            assert!(rt; lies(&v, &[1, 2, 1, 2, 3, 4], false));
+            assert!(rt; lies(&other, &[], false));
+        }
+        Err(AllocError) => {
+            assert!(rt; lies(&v, &[1, 2], true));
+            assert!(rt; spares(&v, &[9]));
+            assert!(rt; lies(&other, &[1, 2, 3, 4], false));
+            refused(&rt)?;
+        }
+    }
+    assert_eq!(rt; other.capacity(), room);
+    Ok(())
+}
+
+#[test]
+fn append_on_the_heap(rt: HostRuntime) -> Result<(), Fail> {
+    let mut v = on_the_heap(rt.alloc())?;
+    let mut other = on_the_heap(rt.alloc())?;
+    let room = v.capacity();
+    match v.append(&mut other) {
+        Ok(()) => {
+            assert!(rt; lies(&v, &[1, 2, 3, 4, 1, 2, 3, 4], false));
+            assert!(rt; lies(&other, &[], false));
+        }
+        Err(AllocError) => {
+            assert!(rt; lies(&v, &[1, 2, 3, 4], false));
+            assert_eq!(rt; v.capacity(), room);
+            assert!(rt; lies(&other, &[1, 2, 3, 4], false));
+            refused(&rt)?;
+        }
+    }
+    Ok(())
+}
+
+#[test]
+fn split_off(rt: HostRuntime) -> Result<(), Fail> {
+    let mut v = on_the_heap(rt.alloc())?;
+    let room = v.capacity();
+    if v.len() != 4 {
+        panic!(rt; "there are four items");
+    }
+    match v.split_off(1) {
+        Ok(tail) => {
+            assert!(rt; lies(&v, &[1], false));
+            assert!(rt; lies(&tail, &[2, 3, 4], false));
+        }
+        Err(AllocError) => {
+            assert!(rt; lies(&v, &[1, 2, 3, 4], false));
+            assert_eq!(rt; v.capacity(), room);
+            refused(&rt)?;
+        }
+    }
+    Ok(())
+}
+
+#[test]
+fn extend_from_slice(rt: HostRuntime) -> Result<(), Fail> {
+    let mut v = in_the_array(rt.alloc());
+    match v.extend_from_slice(&[3, 4]) {
+        Ok(()) => assert!(rt; lies(&v, &[1, 2, 3, 4], false)),
+        Err(AllocError) => {
+            assert!(rt; lies(&v, &[1, 2], true));
+            assert!(rt; spares(&v, &[9]));
+            refused(&rt)?;
+        }
+    }
+    let mut heap = on_the_heap(rt.alloc())?;
+    let room = heap.capacity();
+    match heap.extend_from_slice(&[5, 6]) {
+        Ok(()) => assert!(rt; lies(&heap, &[1, 2, 3, 4, 5, 6], false)),
+        Err(AllocError) => {
+            assert!(rt; lies(&heap, &[1, 2, 3, 4], false));
+            assert_eq!(rt; heap.capacity(), room);
+            refused(&rt)?;
+        }
+    }
+    Ok(())
+}
+
+#[test]
+fn extend(rt: HostRuntime) -> Result<(), Fail> {
+    let mut v = in_the_array(rt.alloc());
+    match v.extend(3..=5) {
+        Ok(()) => assert!(rt; lies(&v, &[1, 2, 3, 4, 5], false)),
+        Err(NoRoom { item, mut rest }) => {
+            // The first item found room in the array.
+            assert!(rt; lies(&v, &[1, 2, 3], true));
+            assert_eq!(rt; item, 4);
+            assert_eq!(rt; rest.next(), Some(5));
+            assert_eq!(rt; rest.next(), None);
+            refused(&rt)?;
+        }
+    }
+    Ok(())
+}
+
+#[test]
+fn extend_on_the_heap(rt: HostRuntime) -> Result<(), Fail> {
+    let mut v = on_the_heap(rt.alloc())?;
+    v.truncate(3);
+    let room = v.capacity();
+    match v.extend(7..=8) {
+        Ok(()) => assert!(rt; lies(&v, &[1, 2, 3, 7, 8], false)),
+        Err(NoRoom { item, mut rest }) => {
+            assert!(rt; lies(&v, &[1, 2, 3, 7], false));
+            assert_eq!(rt; v.capacity(), room);
+            assert_eq!(rt; item, 8);
+            assert_eq!(rt; rest.next(), None);
+            refused(&rt)?;
+        }
+    }
+    Ok(())
+}
+
+#[test]
+fn resize(rt: HostRuntime) -> Result<(), Fail> {
+    let mut v = in_the_array(rt.alloc());
+    match v.resize(5, 7) {
+        Ok(()) => assert!(rt; lies(&v, &[1, 2, 7, 7, 7], false)),
+        Err(NoMemory(item)) => {
+            assert_eq!(rt; item, 7);
+            assert!(rt; lies(&v, &[1, 2], true));
+            assert!(rt; spares(&v, &[9]));
+            refused(&rt)?;
+        }
+    }
+    let mut heap = on_the_heap(rt.alloc())?;
+    let room = heap.capacity();
+    match heap.resize(6, 7) {
+        Ok(()) => assert!(rt; lies(&heap, &[1, 2, 3, 4, 7, 7], false)),
+        Err(NoMemory(item)) => {
+            assert_eq!(rt; item, 7);
+            assert!(rt; lies(&heap, &[1, 2, 3, 4], false));
+            assert_eq!(rt; heap.capacity(), room);
+            refused(&rt)?;
+        }
+    }
+    Ok(())
+}
+
+#[test]
+fn resize_with(rt: HostRuntime) -> Result<(), Fail> {
+    let mut v = in_the_array(rt.alloc());
+    match v.resize_with(5, || 7) {
+        Ok(()) => assert!(rt; lies(&v, &[1, 2, 7, 7, 7], false)),
+        Err(AllocError) => {
+            assert!(rt; lies(&v, &[1, 2], true));
+            assert!(rt; spares(&v, &[9]));
+            refused(&rt)?;
+        }
+    }
+    let mut heap = on_the_heap(rt.alloc())?;
+    let room = heap.capacity();
+    match heap.resize_with(6, || 7) {
+        Ok(()) => assert!(rt; lies(&heap, &[1, 2, 3, 4, 7, 7], false)),
+        Err(AllocError) => {
+            assert!(rt; lies(&heap, &[1, 2, 3, 4], false));
+            assert_eq!(rt; heap.capacity(), room);
+            refused(&rt)?;
+        }
+    }
+    Ok(())
+}
+
+// What a call for this room, or to move, was answered by `[1, 2]` before its spare slot, and left.
+fn moved(
+    rt: &(impl Abort + Print),
+    answer: Result<(), AllocError>,
+    v: &TinyVec<[i32; 3]>,
+    room: usize,
+) -> Result<(), Fail> {
+    match answer {
+        Ok(()) => {
+            assert!(rt; lies(v, &[1, 2], false));
+            assert!(rt; v.capacity() >= room);
+        }
+        Err(AllocError) => {
+            assert!(rt; lies(v, &[1, 2], true));
+            assert!(rt; spares(v, &[9]));
+            refused(rt)?;
+        }
+    }
+    Ok(())
+}
+
+// What a call for this room was answered by `[1, 2, 3, 4]` on the heap, and left.
+fn grown(
+    rt: &(impl Abort + Print),
+    answer: Result<(), AllocError>,
+    v: &TinyVec<[i32; 3]>,
+    before: usize,
+    room: usize,
+) -> Result<(), Fail> {
+    match answer {
+        Ok(()) => assert!(rt; v.capacity() >= room),
+        Err(AllocError) => {
+            assert_eq!(rt; v.capacity(), before);
+            refused(rt)?;
+        }
+    }
+    assert!(rt; lies(v, &[1, 2, 3, 4], false));
+    Ok(())
+}
+
+#[test]
+fn reserve(rt: HostRuntime) -> Result<(), Fail> {
+    let mut v = in_the_array(rt.alloc());
+    let answer = v.reserve(2);
+    moved(&rt, answer, &v, 4)?;
+    let mut heap = on_the_heap(rt.alloc())?;
+    let before = heap.capacity();
+    let answer = heap.reserve(40);
+    grown(&rt, answer, &heap, before, 44)
+}
+
+#[test]
+fn try_reserve(rt: HostRuntime) -> Result<(), Fail> {
+    let mut v = in_the_array(rt.alloc());
+    let answer = v.try_reserve(2);
+    moved(&rt, answer, &v, 4)?;
+    let mut heap = on_the_heap(rt.alloc())?;
+    let before = heap.capacity();
+    let answer = heap.try_reserve(40);
+    grown(&rt, answer, &heap, before, 44)
+}
+
+#[test]
+fn reserve_exact(rt: HostRuntime) -> Result<(), Fail> {
+    let mut v = in_the_array(rt.alloc());
+    let answer = v.reserve_exact(2);
+    moved(&rt, answer, &v, 4)?;
+    let mut heap = on_the_heap(rt.alloc())?;
+    let before = heap.capacity();
+    let answer = heap.reserve_exact(40);
+    grown(&rt, answer, &heap, before, 44)
+}
+
+#[test]
+fn try_reserve_exact(rt: HostRuntime) -> Result<(), Fail> {
+    let mut v = in_the_array(rt.alloc());
+    let answer = v.try_reserve_exact(2);
+    moved(&rt, answer, &v, 4)?;
+    let mut heap = on_the_heap(rt.alloc())?;
+    let before = heap.capacity();
+    let answer = heap.try_reserve_exact(40);
+    grown(&rt, answer, &heap, before, 44)
+}
+
+#[test]
+fn move_to_the_heap(rt: HostRuntime) -> Result<(), Fail> {
+    let mut v = in_the_array(rt.alloc());
+    let answer = v.move_to_the_heap();
+    moved(&rt, answer, &v, 2)
+}
+
+#[test]
+fn try_move_to_the_heap(rt: HostRuntime) -> Result<(), Fail> {
+    let mut v = in_the_array(rt.alloc());
+    let answer = v.try_move_to_the_heap();
+    moved(&rt, answer, &v, 2)
+}
+
+#[test]
+fn move_to_the_heap_and_reserve(rt: HostRuntime) -> Result<(), Fail> {
+    let mut v = in_the_array(rt.alloc());
+    let answer = v.move_to_the_heap_and_reserve(1);
+    moved(&rt, answer, &v, 3)?;
+    let mut heap = on_the_heap(rt.alloc())?;
+    let before = heap.capacity();
+    let answer = heap.move_to_the_heap_and_reserve(40);
+    grown(&rt, answer, &heap, before, 44)
+}
+
+#[test]
+fn try_move_to_the_heap_and_reserve(rt: HostRuntime) -> Result<(), Fail> {
+    let mut v = in_the_array(rt.alloc());
+    let answer = v.try_move_to_the_heap_and_reserve(1);
+    moved(&rt, answer, &v, 3)?;
+    let mut heap = on_the_heap(rt.alloc())?;
+    let before = heap.capacity();
+    let answer = heap.try_move_to_the_heap_and_reserve(40);
+    grown(&rt, answer, &heap, before, 44)
+}
+
+#[test]
+fn shrink_to_fit(rt: HostRuntime) -> Result<(), Fail> {
+    let mut v = on_the_heap(rt.alloc())?;
+    v.reserve(40)?;
+    let before = v.capacity();
+    v.shrink_to_fit();
+    assert!(rt; lies(&v, &[1, 2, 3, 4], false));
+    assert!(rt; v.capacity() <= before);
+    // No answer tells a refusal.
+    if v.capacity() == before {
+        refused(&rt)?;
+    }
+    v.truncate(2);
+    v.shrink_to_fit();
+    assert!(rt; lies(&v, &[1, 2], true));
+    assert!(rt; spares(&v, &[0]));
+    Ok(())
+}
+
+#[test]
+fn clone(rt: HostRuntime) -> Result<(), Fail> {
+    assert!(rt; in_the_array(rt.alloc()).clone().is_ok());
+    let v = on_the_heap(rt.alloc())?;
+    match v.clone() {
+        Ok(copy) => assert!(rt; lies(&copy, &[1, 2, 3, 4], false)),
+        Err(AllocError) => refused(&rt)?,
+    }
+    assert!(rt; lies(&v, &[1, 2, 3, 4], false));
+    Ok(())
+}
+
+#[test]
+fn clone_from(rt: HostRuntime) -> Result<(), Fail> {
+    let mut v = in_the_array(rt.alloc());
+    let source = on_the_heap(rt.alloc())?;
+    match v.clone_from(&source) {
+        Ok(()) => assert!(rt; lies(&v, &[1, 2, 3, 4], false)),
+        Err(AllocError) => {
+            assert!(rt; lies(&v, &[1, 2], true));
+            assert!(rt; spares(&v, &[9]));
+            refused(&rt)?;
+        }
+    }
+    assert!(rt; lies(&source, &[1, 2, 3, 4], false));
+    Ok(())
+}
+
+#[test]
+fn clone_from_on_the_heap(rt: HostRuntime) -> Result<(), Fail> {
+    let mut v = on_the_heap(rt.alloc())?;
+    let room = v.capacity();
+    let source: TinyVec<[i32; 3]> = TinyVec::from_slice(rt.alloc(), &[5, 6, 7, 8, 9])?;
+    match v.clone_from(&source) {
+        Ok(()) => assert!(rt; lies(&v, &[5, 6, 7, 8, 9], false)),
+        Err(AllocError) => {
+            assert!(rt; lies(&v, &[1, 2, 3, 4], false));
+            assert_eq!(rt; v.capacity(), room);
+            refused(&rt)?;
+        }
+    }
+    Ok(())
+}
+
+#[test]
+fn into_vec(rt: HostRuntime) -> Result<(), Fail> {
+    match in_the_array(rt.alloc()).into_vec() {
+        Ok(vec) => assert_eq!(rt; vec.as_slice(), [1, 2].as_slice()),
+        Err(NoMemory(v)) => {
+            assert!(rt; lies(&v, &[1, 2], true));
+            assert!(rt; spares(&v, &[9]));
+            refused(&rt)?;
+        }
+    }
+    let mut heap = on_the_heap(rt.alloc())?;
+    heap.reserve(40)?;
+    match heap.into_vec() {
+        Ok(vec) => assert_eq!(rt; vec.as_slice(), [1, 2, 3, 4].as_slice()),
+        Err(_) => panic!(rt; "it takes no memory"),
+    }
+    Ok(())
+}
+
+#[test]
+fn into_boxed_slice(rt: HostRuntime) -> Result<(), Fail> {
+    match in_the_array(rt.alloc()).into_boxed_slice() {
+        Ok(boxed) => assert_eq!(rt; boxed.as_slice(), [1, 2].as_slice()),
+        Err(AllocError) => refused(&rt)?,
+    }
+    let mut heap = on_the_heap(rt.alloc())?;
+    heap.reserve(40)?;
+    match heap.into_boxed_slice() {
+        Ok(boxed) => assert_eq!(rt; boxed.as_slice(), [1, 2, 3, 4].as_slice()),
+        Err(_) => panic!(rt; "it is refused none"),
+    }
+    Ok(())
+}
+
+// An item that owns memory.
+type Owned = Option<Box<i32>>;
+
+fn owned(alloc: Global, number: i32) -> Result<Owned, Fail> {
+    Ok(Some(Box::new(alloc, number)?))
+}
+
+fn holds(items: &[Owned], numbers: &[i32]) -> bool {
+    items.len() == numbers.len()
+        && items.iter().zip(numbers).all(|(item, number)| match item {
+            Some(boxed) => **boxed == *number,
+            None => false,
+        })
+}
+
+#[test]
+fn push_what_owns(rt: HostRuntime) -> Result<(), Fail> {
+    let mut v = TinyVec::from_array(rt.alloc(), [owned(rt.alloc(), 1)?, owned(rt.alloc(), 2)?]);
+    match v.push(owned(rt.alloc(), 3)?) {
+        Ok(()) => {
+            assert!(rt; v.is_heap());
+            assert!(rt; holds(v.as_slice(), &[1, 2, 3]));
+        }
+        Err(NoMemory(item)) => {
+            assert!(rt; holds(&[item], &[3]));
+            assert!(rt; v.is_inline());
+            assert!(rt; holds(v.as_slice(), &[1, 2]));
+            refused(&rt)?;
+        }
+    }
+    Ok(())
+}
+
+#[test]
+fn append_what_owns(rt: HostRuntime) -> Result<(), Fail> {
+    let mut v = TinyVec::from_array(rt.alloc(), [owned(rt.alloc(), 1)?, owned(rt.alloc(), 2)?]);
+    let mut other = TinyVec::from_array(rt.alloc(), [owned(rt.alloc(), 3)?, None]);
+    match v.append(&mut other) {
+        Ok(()) => {
+            assert!(rt; other.is_empty());
+            assert_eq!(rt; v.pop(), Some(None));
+            assert!(rt; holds(v.as_slice(), &[1, 2, 3]));
+        }
+        Err(AllocError) => {
+            assert_eq!(rt; other.pop(), Some(None));
+            assert!(rt; holds(other.as_slice(), &[3]));
+            assert!(rt; v.is_inline());
+            assert!(rt; holds(v.as_slice(), &[1, 2]));
+            refused(&rt)?;
+        }
+    }
+    Ok(())
+}
