@@ -1,0 +1,141 @@
+"""The functions of a crate's sources: where each stands, how a check names it, and which others its body may reach."""
+import dataclasses
+import pathlib
+import re
+
+FUNCTION = re.compile(r"^( *)(?:pub(?:\([a-z]+\))? )?(?:const )?fn (\w+)", re.M)
+IMPL = re.compile(r"^impl\b(?:<(?:[^<>{]|<[^<>]*>)*>)? (?:(?P<trait>[^{]*?) for )?(?P<type>[^{]*?)(?:\s+where\b[^{]*)?\s*\{", re.M)
+COMMENT = re.compile(r"//[^\n]*")
+CALL = re.compile(r"\b([a-z_]\w*)\s*(?:::<[^;{}()]*>)?\(")
+# What the language calls where a body only says `for`, or holds a guard to the end.
+CALLED_BY_FOR = {"into_iter", "next"}
+GUARDS = {"drain", "splice"}
+
+
+@dataclasses.dataclass(frozen=True)
+class Function:
+    """A function of a file, from `start` up to `end`, in a block for `type` and of `trait` where there are such."""
+
+    file: str
+    name: str
+    type: str
+    trait: str
+    start: int
+    end: int
+    calls: frozenset[str]
+
+    def owner(self):
+        """How the names of its edits begin."""
+        return f"{plain_name(self.type)}_{self.name}" if self.type else self.name
+
+    def is_at(self, file, offset):
+        return file == self.file and self.start <= offset < self.end
+
+    def is_named(self, path):
+        """Whether a check means this function by the path, as in `a_crate::a_module::ATypeATrait::a_name`."""
+        _, *modules, name = path.split("::")
+        if name != self.name or "fn" in modules:
+            return False
+        if not self.type:
+            return modules == modules_of(self.file)
+        own = modules.pop()
+        if self.trait in ("", "Drop"):
+            return own.split("+")[0] == plain_name(self.type)
+        return modules == modules_of(self.file) and own == flat(self.type) + flat(self.trait)
+
+    def has_closure(self, path):
+        """Whether a check means a closure in this function by the path, as in `a_crate::a_module::fn::AType::a_name::..`."""
+        _, _, inside = path.partition("::fn::")
+        owners = [plain_name(self.type), self.name] if self.type else [self.name]
+        return inside.split("::")[: len(owners)] == owners
+
+
+def of_crate(folder):
+    """The functions of a formatted crate."""
+    files = sorted((folder / "src").rglob("*.rt"))
+    return [it for file in files for it in of_file(str(file.relative_to(folder)), file.read_text(encoding="utf-8"))]
+
+
+def of_file(file, text):
+    code = COMMENT.sub(lambda it: " " * len(it[0]), text)
+    blocks = [(it, item_end(code, it.start(), "")) for it in IMPL.finditer(code)]
+    found = []
+    for it in FUNCTION.finditer(code):
+        body = body_start(code, it)
+        if body is None:
+            continue
+        end = item_end(code, it.start(), it[1])
+        block = next((block for block, stop in blocks if block.start() < it.start() < stop), None)
+        of_type, of_trait = (block["type"], block["trait"] or "") if block else ("", "")
+        found.append(Function(file, it[2], of_type, of_trait, it.start(), end, called(code[body:end])))
+    return found
+
+
+def item_end(code, start, indent):
+    """The end of the item that starts there: its own line where that closes it, else the next brace at the same indent."""
+    line_end = code.find("\n", start)
+    if code[start:line_end].rstrip().endswith("}"):
+        return line_end
+    found = re.compile(rf"^{indent}\}}", re.M).search(code, start)
+    return found.end() if found else len(code)
+
+
+def body_start(code, function):
+    """Where the body begins, behind the clauses, or none where a trait only declares the function."""
+    at = function.start()
+    for line in code[at:].splitlines(keepends=True):
+        end = line.rstrip()
+        is_head = at == function.start() or end.startswith(function[1] + ")")
+        if end == function[1] + "{" or is_head and end.endswith(("{", "}")):
+            return at + line.index("{")
+        if end.endswith(";"):
+            return None
+        at += len(line)
+    return None
+
+
+def called(body):
+    found = set(CALL.findall(body))
+    if re.search(r"\bfor\b", body):
+        found |= CALLED_BY_FOR
+    if found & GUARDS:
+        found.add("drop")
+    return frozenset(found)
+
+
+def modules_of(file):
+    """The modules that a file of src/ stands for."""
+    parts = pathlib.PurePosixPath(file).with_suffix("").parts[1:]
+    return [] if parts in (("lib",), ("main",)) else list(parts)
+
+
+def plain_name(text):
+    """The name of a type alone."""
+    found = re.search(r"\b([A-Z]\w+)", text)
+    return found[1] if found else flat(text)
+
+
+def flat(text):
+    """The letters by which a check names a type or trait: no lifetimes, no parameters, and words for `&`, `mut` and brackets."""
+    text = re.sub(r"'\w+", "", text)
+    text = text.replace("&", " Ref ").replace(" mut ", " Mut ")
+    text = re.sub(r"\[[^\[\];]*;[^\]]*\]", " Array ", text)
+    text = re.sub(r"\[[^\[\]]*\]", " Slice ", text)
+    words = [it for it in re.findall(r"\w+", text) if not re.fullmatch(r"[A-Z]|_", it)]
+    return "".join(it[0].upper() + it[1:] for it in words)
+
+
+def reached(functions):
+    """By each function, the functions that its body may reach, told by their names alone: rather one too many."""
+    named = {}
+    for it in functions:
+        named.setdefault(it.name, set()).add(it)
+    found = {}
+    for it in functions:
+        below, left = set(), [it]
+        while left:
+            fresh = {one for name in left.pop().calls for one in named.get(name, ())} - below
+            below |= fresh
+            left += fresh
+        found[it] = below - {it}
+    return found
