@@ -140,6 +140,12 @@ def say(text):
     print(text, file=sys.stderr, flush=True)
 
 
+def write_files(folder, files):
+    for path, text in files.items():
+        (folder / path).parent.mkdir(parents=True, exist_ok=True)
+        (folder / path).write_bytes(text)
+
+
 class Copy:
     """A crate and those below it as a repository of their own, with the work that earlier runs kept."""
 
@@ -164,9 +170,7 @@ class Copy:
     def add(self, crate, files):
         folder = self.top / "crates" / crate.name
         (folder / "out").mkdir(parents=True)
-        for path, text in files.items():
-            (folder / path).parent.mkdir(parents=True, exist_ok=True)
-            (folder / path).write_bytes(text)
+        write_files(folder, files)
         if (crate.out / "rlib").is_dir():
             # rt removes these files and writes them anew, and never writes into them.
             shutil.copytree(crate.out / "rlib", folder / "out/rlib", copy_function=os.link)
@@ -200,7 +204,7 @@ class Run:
         self.places = {crate: f"{crate.name} ({at} of {len(crates)})" for at, crate in enumerate(crates, 1)}
         self.is_told, self.is_terminal = is_told, sys.stderr.isatty()
         self.begun = time.monotonic()
-        self.counts, self.started, self.is_stopped = {}, set(), False
+        self.counts, self.started, self.is_stopped = {}, [], False
         self.guard = threading.RLock()
 
     def build(self, crate, jobs):
@@ -215,26 +219,32 @@ class Run:
 
     def rt(self, crate, folder, words, log):
         """Runs rt, with what it says in a file of the crate's out/. Returns its status."""
-        how = {"stdin": subprocess.DEVNULL, "stdout": subprocess.PIPE, "stderr": subprocess.STDOUT}
-        with self.guard:
-            if self.is_stopped:
-                return 1
-            ran = subprocess.Popen(["rt", *words], cwd=folder, encoding="utf-8", errors="replace", **how)
-            self.started.add(ran)
-        with ran, open(crate.out / log, "a", encoding="utf-8") as written:
+        pipes = {"stdin": subprocess.DEVNULL, "stdout": subprocess.PIPE, "stderr": subprocess.STDOUT}
+        ran = self.start(["rt", *words], folder, encoding="utf-8", errors="replace", **pipes)
+        with ran, open(crate.out / log, "w", encoding="utf-8") as written:
             for line in ran.stdout:
                 written.write(line)
                 counted = COUNT.match(line)
                 if counted:
                     self.counts[crate] = f"{counted[1]} of {counted[2]} functions"
-        self.started.discard(ran)
+        if self.is_stopped:
+            raise Stopped
         return ran.returncode
+
+    def start(self, words, folder, **how):
+        """Starts a command that ends where this process is told to end."""
+        with self.guard:
+            if self.is_stopped:
+                raise Stopped
+            ran = subprocess.Popen(words, cwd=folder, **how)
+            self.started.append(ran)
+            return ran
 
     def stop(self):
         """Ends all that was started. rt sees to it that what it started ends with it."""
         with self.guard:
             self.is_stopped = True
-            for ran in [*self.started]:
+            for ran in self.started:
                 ran.terminate()
 
     def do(self, steps):
@@ -245,10 +255,10 @@ class Run:
                 while waiting or running:
                     ready = [it for it in waiting if ended.issuperset(it.after)]
                     ready = sorted(ready, key=lambda it: it.is_last)[: CORES - len(running)]
-                    shares = [it.is_last for it in [*ready, *running.values()]]
+                    beside = [*ready, *running.values()]
                     for step in ready:
                         waiting.remove(step)
-                        running[pool.submit(step.do, max(1, CORES // shares.count(step.is_last)))] = step
+                        running[pool.submit(step.do, jobs_of(step, beside))] = step
                     over, _ = concurrent.futures.wait(running, self.pause(), concurrent.futures.FIRST_COMPLETED)
                     if not over:
                         self.tell()
@@ -298,9 +308,22 @@ class Step:
         self.do, self.after, self.is_last = do, after, is_last
 
 
+def jobs_of(step, beside):
+    """How many processes a step gets, where these steps, itself among them, go side by side."""
+    if step.is_last:
+        return max(1, CORES // len(beside))
+    rivals = sum(not it.is_last for it in beside)
+    # One more than its share, since each step has times of one process, and they do not end at once.
+    return max(1, CORES // rivals + (1 if rivals > 1 else 0))
+
+
 def duration(seconds):
     minutes, seconds = divmod(round(seconds), 60)
     return f"{minutes} min {seconds} s" if minutes else f"{seconds} s"
+
+
+class Stopped(Exception):
+    """Nothing more is to be done, since another step failed or this process is told to end."""
 
 
 class Interrupted(BaseException):
