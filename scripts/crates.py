@@ -131,7 +131,7 @@ def lock(crates):
             fcntl.flock(held, fcntl.LOCK_EX | fcntl.LOCK_NB)
         except BlockingIOError:
             if not has_told:
-                say(f"waiting for another run that works on {crate.name}")
+                say(f"waiting for another run, which works on {crate.name}, to end")
                 has_told = True
             fcntl.flock(held, fcntl.LOCK_EX)
 
@@ -201,6 +201,9 @@ class Run:
     """Runs rt for some crates side by side, and says on standard error how far it is."""
 
     def __init__(self, crates, is_told=True):
+        for crate in crates:
+            # One state of all sources is proved, and not of each crate when its turn comes.
+            _ = crate.files
         self.places = {crate: f"{crate.name} ({at} of {len(crates)})" for at, crate in enumerate(crates, 1)}
         self.is_told, self.is_terminal = is_told, sys.stderr.isatty()
         self.begun = time.monotonic()
@@ -273,7 +276,7 @@ class Run:
         return 1 if self.is_terminal else PAUSE
 
     def begins(self, crate):
-        self.counts[crate] = "begun"
+        self.counts[crate] = "at work"
         self.say(f"{self.places[crate]}: begun")
 
     def ends(self, crate, how):
