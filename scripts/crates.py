@@ -1,0 +1,353 @@
+"""The crates of this repository, and how they are proved side by side, over what earlier runs kept.
+
+As long as `rt` works in a crate's folder, it keeps every other `rt` out of it and out of the folders below, so that two
+crates over one library would be proved in turn. Here each is proved in a copy: a repository of its own, inside the crate's
+out/, that has the crate and those below it, while this process keeps others out of the folders themselves. A copy also
+holds the sources still: an edit made meanwhile is seen by the next run, and a run that is cut off leaves nothing
+half-made in out/.
+"""
+import concurrent.futures
+import fcntl
+import functools
+import hashlib
+import os
+import pathlib
+import re
+import shutil
+import signal
+import subprocess
+import sys
+import threading
+import time
+
+TOP = pathlib.Path(__file__).resolve().parent.parent
+
+# What a library or program is made from. A crate's other files only judge it.
+PARTS = ("src", "specs", "proofs")
+
+# As `nproc` counts them.
+CORES = len(os.sched_getaffinity(0))
+
+# Seconds between two lines of progress.
+PAUSE = 10
+
+COUNT = re.compile(r"^so far: (\d+) of (\d+) functions checked")
+
+
+class Crate:
+    def __init__(self, name, row, uses):
+        self.name, self.row, self.uses = name, row, uses
+        self.folder = TOP / "crates" / name
+        self.out = self.folder / "out"
+        self.is_program = (self.folder / "src/main.rt").is_file()
+        # rt's own mark, which it leaves beside what it made of unchanged sources.
+        self.mark = f"{name}.stamp" if self.is_program else "rlib/stamp"
+        self.made = [name, self.mark] if self.is_program else ["rlib"]
+
+    @functools.cached_property
+    def below(self):
+        """The crates that this one needs, each after those that it needs itself."""
+        return list(dict.fromkeys(it for used in self.uses for it in [*used.below, used]))
+
+    @functools.cached_property
+    def files(self):
+        """The contents of the crate's files by their paths, as they are when this is first asked."""
+        found = {}
+        for folder, folders, names in os.walk(self.folder):
+            if folder == str(self.folder):
+                folders[:] = [it for it in folders if it != "out"]
+            for path in (pathlib.Path(folder, name) for name in names):
+                found[str(path.relative_to(self.folder))] = path.read_bytes()
+        return dict(sorted(found.items()))
+
+    @functools.cached_property
+    def sources(self):
+        return {path: text for path, text in self.files.items() if path.startswith(tuple(f"{it}/" for it in PARTS))}
+
+    @functools.cached_property
+    def sum(self):
+        """Differs where anything differs that the library or program is made from."""
+        return sum_of(kit(), self.row, self.sources, [it.sum for it in self.uses])
+
+    def record(self):
+        """What out/built holds where the crate was built from these very sources, and nobody built it anew since."""
+        return f"{self.sum}\n{text_of(self.out / self.mark)}"
+
+    def is_built(self):
+        return all((self.out / it).exists() for it in self.made) and text_of(self.out / "built") == self.record()
+
+
+def read_crates():
+    """The crates of crates.txt by name, each after those that it uses."""
+    lines = (TOP / "crates.txt").read_text(encoding="utf-8").splitlines()
+    rows = [row for row in (line.partition("#")[0].strip() for line in lines) if row]
+    rows = {re.match(r"\w+", row)[0]: row for row in rows}
+    crates = {}
+
+    def add(name):
+        if name not in crates:
+            used = rows[name].partition(":")[2].split()
+            crates[name] = Crate(name, rows[name], [add(it) for it in used if it in rows])
+        return crates[name]
+
+    for name in rows:
+        add(name)
+    return crates
+
+
+def with_below(crates):
+    """The crates and all that they need, lowest first."""
+    return list(dict.fromkeys(it for crate in crates for it in [*crate.below, crate]))
+
+
+def sum_of(*parts):
+    return hashlib.sha256(repr(parts).encode()).hexdigest()
+
+
+def text_of(file):
+    return file.read_text(encoding="utf-8") if file.is_file() else ""
+
+
+def require_rt():
+    if not shutil.which("rt"):
+        sys.exit(
+            "The command `rt`, which proves and builds the crates, is not on the path: take the version that README.md names "
+            "under `Toolchain`, and add the folder of its `rt` to PATH."
+        )
+
+
+@functools.lru_cache(maxsize=None)
+def kit():
+    return subprocess.run(["rt", "version"], check=True, stdin=subprocess.DEVNULL, stdout=subprocess.PIPE).stdout
+
+
+def lock(crates):
+    """Keeps other runs of these scripts, and of rt, out of the crates' folders until this process ends."""
+    has_told = False
+    # In the order in which rt takes them, so that no two runs wait for each other.
+    for crate in sorted(crates, key=lambda it: str(it.folder)):
+        held = os.open(crate.folder, os.O_RDONLY)
+        try:
+            fcntl.flock(held, fcntl.LOCK_EX | fcntl.LOCK_NB)
+        except BlockingIOError:
+            if not has_told:
+                say(f"waiting for another run, which works on {crate.name}, to end")
+                has_told = True
+            fcntl.flock(held, fcntl.LOCK_EX)
+
+
+def say(text):
+    print(text, file=sys.stderr, flush=True)
+
+
+def write_files(folder, files):
+    for path, text in files.items():
+        (folder / path).parent.mkdir(parents=True, exist_ok=True)
+        (folder / path).write_bytes(text)
+
+
+class Copy:
+    """A crate and those below it as a repository of their own, with the work that earlier runs kept."""
+
+    def __init__(self, crate):
+        self.crate = crate
+        self.top = crate.out / "copy"
+        self.folder = self.top / "crates" / crate.name
+        self.out = self.folder / "out"
+
+    def __enter__(self):
+        # A run that was killed may have left one.
+        self.clear()
+        for crate in [*self.crate.below, self.crate]:
+            self.add(crate, crate.files if crate is self.crate else crate.sources)
+        rows = [crate.row for crate in [*self.crate.below, self.crate]]
+        (self.top / "crates.txt").write_text("\n".join(rows) + "\n", encoding="utf-8")
+        kept = self.crate.out / "incremental"
+        if kept.is_dir():
+            kept.rename(self.out / "incremental")
+        return self
+
+    def add(self, crate, files):
+        folder = self.top / "crates" / crate.name
+        (folder / "out").mkdir(parents=True)
+        write_files(folder, files)
+        if (crate.out / "rlib").is_dir():
+            # rt removes these files and writes them anew, and never writes into them.
+            shutil.copytree(crate.out / "rlib", folder / "out/rlib", copy_function=os.link)
+
+    def publish(self):
+        """Puts what rt made in place of what the crate had."""
+        built = self.crate.out / "built"
+        built.unlink(missing_ok=True)
+        for name in self.crate.made:
+            if (self.crate.out / name).is_dir():
+                (self.crate.out / name).rename(self.top / "old")
+            (self.out / name).replace(self.crate.out / name)
+        (self.top / "built").write_text(self.crate.record(), encoding="utf-8")
+        (self.top / "built").replace(built)
+
+    def __exit__(self, *_):
+        self.clear()
+
+    def clear(self):
+        kept = self.out / "incremental"
+        if kept.is_dir() and not (self.crate.out / "incremental").exists():
+            kept.rename(self.crate.out / "incremental")
+        # What rt has only just ended may still write here. The next copy removes that.
+        shutil.rmtree(self.top, ignore_errors=True)
+
+
+class Run:
+    """Runs rt for some crates side by side, and says on standard error how far it is."""
+
+    def __init__(self, crates, is_told=True):
+        for crate in crates:
+            # One state of all sources is proved, and not of each crate when its turn comes.
+            _ = crate.files
+        self.places = {crate: f"{crate.name} ({at} of {len(crates)})" for at, crate in enumerate(crates, 1)}
+        self.is_told, self.is_terminal = is_told, sys.stderr.isatty()
+        self.begun = time.monotonic()
+        self.counts, self.started, self.is_stopped = {}, [], False
+        self.guard = threading.RLock()
+
+    def build(self, crate, jobs):
+        """Proves and builds a crate over those below it. Returns whether it is proved."""
+        with Copy(crate) as copy:
+            # The program is run too, on no input: its status tells nothing, but rt's mark does.
+            self.rt(crate, copy.folder, ["run" if crate.is_program else "lib", "--jobs", str(jobs)], "build.log")
+            is_proved = all((copy.out / it).exists() for it in [*crate.made, crate.mark])
+            if is_proved:
+                copy.publish()
+        return is_proved
+
+    def rt(self, crate, folder, words, log):
+        """Runs rt, with what it says in a file of the crate's out/. Returns its status."""
+        pipes = {"stdin": subprocess.DEVNULL, "stdout": subprocess.PIPE, "stderr": subprocess.STDOUT}
+        ran = self.start(["rt", *words], folder, encoding="utf-8", errors="replace", **pipes)
+        with ran, open(crate.out / log, "w", encoding="utf-8") as written:
+            for line in ran.stdout:
+                written.write(line)
+                counted = COUNT.match(line)
+                if counted:
+                    self.counts[crate] = f"{counted[1]} of {counted[2]} functions"
+        if self.is_stopped:
+            raise Stopped
+        return ran.returncode
+
+    def start(self, words, folder, **how):
+        """Starts a command that ends where this process is told to end."""
+        with self.guard:
+            if self.is_stopped:
+                raise Stopped
+            ran = subprocess.Popen(words, cwd=folder, **how)
+            self.started.append(ran)
+            return ran
+
+    def stop(self):
+        """Ends all that was started. rt sees to it that what it started ends with it."""
+        with self.guard:
+            self.is_stopped = True
+            for ran in self.started:
+                ran.terminate()
+
+    def do(self, steps):
+        """Does the steps, each after those that it waits for and else side by side, until one raises an error."""
+        waiting, running, ended = list(steps), {}, set()
+        with concurrent.futures.ThreadPoolExecutor(CORES) as pool:
+            try:
+                while waiting or running:
+                    ready = [it for it in waiting if ended.issuperset(it.after)]
+                    ready = sorted(ready, key=lambda it: it.is_last)[: CORES - len(running)]
+                    beside = [*ready, *running.values()]
+                    for step in ready:
+                        waiting.remove(step)
+                        running[pool.submit(step.do, jobs_of(step, beside))] = step
+                    over, _ = concurrent.futures.wait(running, self.pause(), concurrent.futures.FIRST_COMPLETED)
+                    if not over:
+                        self.tell()
+                    for it in over:
+                        ended.add(running.pop(it))
+                        it.result()
+            except BaseException:
+                self.stop()
+                raise
+
+    def pause(self):
+        return 1 if self.is_terminal else PAUSE
+
+    def begins(self, crate):
+        self.counts[crate] = "at work"
+        self.say(f"{self.places[crate]}: begun")
+
+    def ends(self, crate, how):
+        self.counts.pop(crate, None)
+        self.say(f"{self.places[crate]}: {how}")
+
+    def tell(self):
+        """Says how far each crate is: in one line that is written over on a terminal, else in a line each."""
+        lines = [f"{self.places[crate]}: {count}" for crate, count in list(self.counts.items())]
+        if self.is_terminal and self.is_told:
+            width = shutil.get_terminal_size().columns - 1
+            print("\r\033[K" + f"{', '.join(lines)}, {self.so_far()}"[:width], end="", file=sys.stderr, flush=True)
+        else:
+            for line in lines:
+                self.say(line)
+
+    def say(self, line):
+        if self.is_told:
+            say(f"{self.clear_line()}{line}, {self.so_far()}")
+
+    def clear_line(self):
+        return "\r\033[K" if self.is_terminal else ""
+
+    def so_far(self):
+        return f"{duration(time.monotonic() - self.begun)} so far"
+
+
+class Step:
+    """Something to do once other steps are over. What is last is begun only where a core is left, and nothing waits for it."""
+
+    def __init__(self, do, after=(), is_last=False):
+        self.do, self.after, self.is_last = do, after, is_last
+
+
+def jobs_of(step, beside):
+    """How many processes a step gets, where these steps, itself among them, go side by side."""
+    if step.is_last:
+        return max(1, CORES // len(beside))
+    rivals = sum(not it.is_last for it in beside)
+    # One more than its share, since each step has times of one process, and they do not end at once.
+    return max(1, CORES // rivals + (1 if rivals > 1 else 0))
+
+
+def duration(seconds):
+    minutes, seconds = divmod(round(seconds), 60)
+    return f"{minutes} min {seconds} s" if minutes else f"{seconds} s"
+
+
+class Stopped(Exception):
+    """Nothing more is to be done, since another step failed or this process is told to end."""
+
+
+class Interrupted(BaseException):
+    pass
+
+
+def run_main(main):
+    """Calls main so that it can put things in order where it is told to end, and then ends as the signal asks."""
+
+    def interrupt(number, _):
+        # What follows is short, and a second signal would cut it off.
+        for it in signals:
+            signal.signal(it, signal.SIG_IGN)
+        raise Interrupted(number)
+
+    signals = [it for it in (signal.SIGINT, signal.SIGTERM, signal.SIGHUP) if signal.getsignal(it) != signal.SIG_IGN]
+    for it in signals:
+        signal.signal(it, interrupt)
+    try:
+        sys.exit(main())
+    except Interrupted as interrupted:
+        number = interrupted.args[0]
+    signal.signal(number, signal.SIG_DFL)
+    os.kill(os.getpid(), number)
