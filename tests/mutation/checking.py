@@ -4,6 +4,8 @@ import re
 import shutil
 import subprocess
 
+import crates
+
 KEPT = "out/incremental"
 VERDICT = re.compile(r"^fn (\S+): (.*)$", re.M)
 PROVED = re.compile(r"^logic=proved\b", re.M)
@@ -36,18 +38,16 @@ class Said:
 class Desk:
     """Where a crate's edits are tried: its texts are changed here, and what a check keeps is thrown away."""
 
-    def __init__(self, top, crate, uses, room):
-        self.source = top / "crates" / crate
-        self.copy = room / crate / "crates" / crate
-        self.kept = room / crate / "kept"
+    def __init__(self, crate, room):
+        self.source = crate.folder
+        self.copy = room / crate.name / "crates" / crate.name
+        self.kept = room / crate.name / "kept"
         self.copy.mkdir(parents=True)
-        for name in below(crate, uses):
-            link(top / "crates" / name, room / crate / "crates" / name, without=("incremental",))
-        rows = (f"{it}: {' '.join(uses[it])}\n" for it in [*below(crate, uses), crate])
-        (room / crate / "crates.txt").write_text("".join(rows), encoding="utf-8")
-        for part in ("src", "specs", "proofs"):
-            if (self.source / part).is_dir():
-                shutil.copytree(self.source / part, self.copy / part)
+        for one in crate.below:
+            link(one.folder, room / crate.name / "crates" / one.name, without=("incremental",))
+        rows = [one.row for one in (*crate.below, crate)]
+        (room / crate.name / "crates.txt").write_text("\n".join(rows) + "\n", encoding="utf-8")
+        crates.write_files(self.copy, crate.sources)
         if (self.source / KEPT).is_dir():
             link(self.source / KEPT, self.kept)
 
@@ -89,22 +89,7 @@ def link_file(source, target):
         shutil.copyfile(source, target)
 
 
-def uses_of(top):
-    """By each crate of the repository, the libraries that it uses."""
-    rows = (it.partition("#")[0].strip() for it in (top / "crates.txt").read_text(encoding="utf-8").splitlines())
-    return {name.strip(): words.split() for name, _, words in (it.partition(":") for it in rows if it)}
-
-
-def below(crate, uses):
-    """The repository's libraries that a crate uses, and those that these use, lowest first."""
-    found = []
-    for it in uses[crate]:
-        if it in uses:
-            found += [one for one in [*below(it, uses), it] if one not in found]
-    return found
-
-
-def build(top, name):
+def build(crate):
     """Builds a library over the work that was kept, where it is not built as its files are now."""
-    ran = subprocess.run(["rt", "lib"], cwd=top / "crates" / name, capture_output=True, encoding="utf-8", errors="replace")
+    ran = subprocess.run(["rt", "lib"], cwd=crate.folder, capture_output=True, encoding="utf-8", errors="replace")
     return Said(ran.stdout + ran.stderr) if ran.returncode else None
