@@ -11,21 +11,21 @@ use tinyvec_test_items::{Item, Limited};
 #[test]
 fn array_vec_try_from_slice(rt: HostRuntime) -> Result<(), Fail> {
     let none = ArrayVec::<[i32; 2]>::try_from_slice(&[])?;
-    assert_eq!(rt; none.as_slice(), [].as_slice());
-    assert_eq!(rt; none.grab_spare_slice(), [0, 0].as_slice());
+    assert!(rt; none.as_slice() == [].as_slice());
+    assert!(rt; none.grab_spare_slice() == [0, 0].as_slice());
     let two = ArrayVec::<[i32; 2]>::try_from_slice(&[1, 2])?;
-    assert_eq!(rt; two.as_slice(), [1, 2].as_slice());
+    assert!(rt; two.as_slice() == [1, 2].as_slice());
     let four = ArrayVec::<[i32; 2]>::try_from_slice(&[1, 2, 3, 4]);
-    assert_eq!(rt; four.err(), Some(TryFromSliceError::TooLong));
+    assert!(rt; four.err() == Some(TryFromSliceError::TooLong));
     Ok(())
 }
 
 #[test]
 fn try_from_slice_refused(rt: HostRuntime) {
     let refused = ArrayVec::<[Item; 2]>::try_from_slice(&[Item(1), Item(99)]);
-    assert_eq!(rt; refused.err(), Some(TryFromSliceError::Memory));
+    assert!(rt; refused.err() == Some(TryFromSliceError::Memory));
     let long = ArrayVec::<[Item; 2]>::try_from_slice(&[Item(99), Item(1), Item(1)]);
-    assert_eq!(rt; long.err(), Some(TryFromSliceError::TooLong));
+    assert!(rt; long.err() == Some(TryFromSliceError::TooLong));
 }
 
 #[test]
@@ -33,18 +33,18 @@ fn texts(rt: HostRuntime) {
     for error in [TryFromSliceError::TooLong, TryFromSliceError::Memory] {
         let copy = error;
         let text = InlineText::<64>::of(copy);
-        assert_eq!(rt; text.as_str(), "could not convert slice to ArrayVec");
-        assert_eq!(rt; copy, error);
+        assert!(rt; text.as_str() == "could not convert slice to ArrayVec");
+        assert!(rt; copy == error);
     }
 }
 
 #[test]
 fn try_from_array_len(rt: HostRuntime) {
     let two = ArrayVec::try_from_array_len([1, 2, 3, 4], 2).expect(&rt, "two of four");
-    assert_eq!(rt; two.as_slice(), [1, 2].as_slice());
-    assert_eq!(rt; two.grab_spare_slice(), [3, 4].as_slice());
+    assert!(rt; two.as_slice() == [1, 2].as_slice());
+    assert!(rt; two.grab_spare_slice() == [3, 4].as_slice());
     let back = ArrayVec::try_from_array_len([1, 2, 3, 4], 5).err();
-    assert_eq!(rt; back, Some([1, 2, 3, 4]));
+    assert!(rt; back == Some([1, 2, 3, 4]));
 }
 
 #[test]
@@ -52,7 +52,7 @@ fn many_slots(rt: HostRuntime) {
     let Ok(full) = ArrayVec::<[u8; 65536]>::try_from_array_len([7; 65536], 65536) else {
         panic!(&rt; "there are as many slots");
     };
-    assert_eq!(rt; full.len(), 65536);
+    assert!(rt; full.len() == 65536);
 }
 
 #[test]
@@ -61,7 +61,7 @@ fn one_more_than_many_slots(rt: HostRuntime) {
         panic!(&rt; "there are fewer slots");
     };
     for x in back.as_slice() {
-        assert_eq!(rt; *x, 7);
+        assert!(rt; *x == 7);
     }
 }
 
@@ -69,11 +69,11 @@ fn one_more_than_many_slots(rt: HostRuntime) {
 fn clone_from_shorter(rt: HostRuntime) -> Result<(), Fail> {
     let mut vec = ArrayVec::from_array_len([1, 2, 3, 8], 3);
     vec.clone_from(&ArrayVec::from_array_len([9, 7, 7, 7], 1))?;
-    assert_eq!(rt; vec.as_slice(), [9].as_slice());
-    assert_eq!(rt; vec.grab_spare_slice(), [0, 0, 8].as_slice());
+    assert!(rt; vec.as_slice() == [9].as_slice());
+    assert!(rt; vec.grab_spare_slice() == [0, 0, 8].as_slice());
     vec.clone_from(&ArrayVec::new())?;
-    assert_eq!(rt; vec.as_slice(), [].as_slice());
-    assert_eq!(rt; vec.grab_spare_slice(), [0, 0, 0, 8].as_slice());
+    assert!(rt; vec.as_slice() == [].as_slice());
+    assert!(rt; vec.grab_spare_slice() == [0, 0, 0, 8].as_slice());
     Ok(())
 }
 
@@ -81,8 +81,8 @@ fn clone_from_shorter(rt: HostRuntime) -> Result<(), Fail> {
 fn clone_from_longer(rt: HostRuntime) -> Result<(), Fail> {
     let mut vec = ArrayVec::from_array_len([1, 5, 5, 5], 1);
     vec.clone_from(&ArrayVec::from_array_len([7, 8, 6, 6], 2))?;
-    assert_eq!(rt; vec.as_slice(), [7, 8].as_slice());
-    assert_eq!(rt; vec.grab_spare_slice(), [5, 5].as_slice());
+    assert!(rt; vec.as_slice() == [7, 8].as_slice());
+    assert!(rt; vec.grab_spare_slice() == [5, 5].as_slice());
     Ok(())
 }
 
@@ -93,9 +93,9 @@ fn clone_from_refused_early(rt: HostRuntime) {
         [Item(7), Item(99), Item(6), Item(6)],
         2,
     ));
-    assert_eq!(rt; refused, Err(AllocError));
-    assert_eq!(rt; vec.as_slice(), [Item(7), Item(2)].as_slice());
-    assert_eq!(rt; vec.grab_spare_slice(), [Item(0), Item(8)].as_slice());
+    assert!(rt; refused == Err(AllocError));
+    assert!(rt; vec.as_slice() == [Item(7), Item(2)].as_slice());
+    assert!(rt; vec.grab_spare_slice() == [Item(0), Item(8)].as_slice());
 }
 
 #[test]
@@ -105,24 +105,21 @@ fn clone_from_refused_late(rt: HostRuntime) {
         [Item(7), Item(8), Item(99), Item(6)],
         3,
     ));
-    assert_eq!(rt; refused, Err(AllocError));
-    assert_eq!(rt; vec.as_slice(), [Item(7)].as_slice());
-    assert_eq!(rt;
-        vec.grab_spare_slice(),
-        [Item(8), Item(5), Item(5)].as_slice()
-    );
+    assert!(rt; refused == Err(AllocError));
+    assert!(rt; vec.as_slice() == [Item(7)].as_slice());
+    assert!(rt; vec.grab_spare_slice() == [Item(8), Item(5), Item(5)].as_slice());
 }
 
 #[test]
 fn clone(rt: HostRuntime) -> Result<(), Fail> {
     let vec = ArrayVec::from_array_len([1, 2, 3, 4], 2);
     let cloned = vec.clone()?;
-    assert_eq!(rt; cloned.as_slice(), [1, 2].as_slice());
-    assert_eq!(rt; cloned.grab_spare_slice(), [3, 4].as_slice());
+    assert!(rt; cloned.as_slice() == [1, 2].as_slice());
+    assert!(rt; cloned.grab_spare_slice() == [3, 4].as_slice());
     let mut copied = vec;
     copied.push(9);
-    assert_eq!(rt; copied.as_inner(), &[1, 2, 9, 4]);
-    assert_eq!(rt; vec.as_inner(), &[1, 2, 3, 4]);
+    assert!(rt; copied.as_inner() == &[1, 2, 9, 4]);
+    assert!(rt; vec.as_inner() == &[1, 2, 3, 4]);
     Ok(())
 }
 
@@ -137,11 +134,11 @@ fn clone_refused(rt: HostRuntime) {
 fn extend_from_slice(rt: HostRuntime) -> Result<(), Fail> {
     let mut vec = ArrayVec::from_array_len([1, 5, 5, 5], 1);
     vec.extend_from_slice(&[2, 3])?;
-    assert_eq!(rt; vec.as_slice(), [1, 2, 3].as_slice());
-    assert_eq!(rt; vec.grab_spare_slice(), [5].as_slice());
+    assert!(rt; vec.as_slice() == [1, 2, 3].as_slice());
+    assert!(rt; vec.grab_spare_slice() == [5].as_slice());
     let mut none = ArrayVec::<[i32; 0]>::new();
     none.extend_from_slice(&[])?;
-    assert_eq!(rt; none.len(), 0);
+    assert!(rt; none.len() == 0);
     Ok(())
 }
 
@@ -149,36 +146,27 @@ fn extend_from_slice(rt: HostRuntime) -> Result<(), Fail> {
 fn extend_from_slice_refused(rt: HostRuntime) -> Result<(), Fail> {
     let mut vec = ArrayVec::<[Item; 4]>::new();
     vec.push(Item(1));
-    assert_eq!(rt;
-        vec.extend_from_slice(&[Item(2), Item(3), Item(99)]),
-        Err(AllocError)
-    );
-    assert_eq!(rt; vec.as_slice(), [Item(1)].as_slice());
-    assert_eq!(rt;
-        vec.grab_spare_slice(),
-        [Item(2), Item(3), Item(0)].as_slice()
-    );
+    assert!(rt; vec.extend_from_slice(&[Item(2), Item(3), Item(99)]) == Err(AllocError));
+    assert!(rt; vec.as_slice() == [Item(1)].as_slice());
+    assert!(rt; vec.grab_spare_slice() == [Item(2), Item(3), Item(0)].as_slice());
     vec.extend_from_slice(&[Item(4)])?;
-    assert_eq!(rt; vec.as_slice(), [Item(1), Item(4)].as_slice());
-    assert_eq!(rt; vec.grab_spare_slice(), [Item(3), Item(0)].as_slice());
+    assert!(rt; vec.as_slice() == [Item(1), Item(4)].as_slice());
+    assert!(rt; vec.grab_spare_slice() == [Item(3), Item(0)].as_slice());
     Ok(())
 }
 
 #[test]
 fn resize(rt: HostRuntime) {
     let mut vec = ArrayVec::from_array_len([Item(1), Item(2), Item(3), Item(8)], 3);
-    assert_eq!(rt; vec.resize(1, Item(99)), Ok(()));
-    assert_eq!(rt; vec.as_slice(), [Item(1)].as_slice());
-    assert_eq!(rt;
-        vec.grab_spare_slice(),
-        [Item(0), Item(0), Item(8)].as_slice()
-    );
-    assert_eq!(rt; vec.resize(3, Item(4)), Ok(()));
-    assert_eq!(rt; vec.as_slice(), [Item(1), Item(4), Item(4)].as_slice());
-    assert_eq!(rt; vec.grab_spare_slice(), [Item(8)].as_slice());
-    assert_eq!(rt; vec.resize(4, Item(99)), Err(NoMemory(Item(99))));
-    assert_eq!(rt; vec.as_slice(), [Item(1), Item(4), Item(4)].as_slice());
-    assert_eq!(rt; vec.grab_spare_slice(), [Item(8)].as_slice());
+    assert!(rt; vec.resize(1, Item(99)) == Ok(()));
+    assert!(rt; vec.as_slice() == [Item(1)].as_slice());
+    assert!(rt; vec.grab_spare_slice() == [Item(0), Item(0), Item(8)].as_slice());
+    assert!(rt; vec.resize(3, Item(4)) == Ok(()));
+    assert!(rt; vec.as_slice() == [Item(1), Item(4), Item(4)].as_slice());
+    assert!(rt; vec.grab_spare_slice() == [Item(8)].as_slice());
+    assert!(rt; vec.resize(4, Item(99)) == Err(NoMemory(Item(99))));
+    assert!(rt; vec.as_slice() == [Item(1), Item(4), Item(4)].as_slice());
+    assert!(rt; vec.grab_spare_slice() == [Item(8)].as_slice());
 }
 
 // The second clone is refused.
@@ -193,11 +181,11 @@ fn resize_refused(rt: HostRuntime) {
             left: Some(&left),
         },
     );
-    assert_eq!(rt; refused.err().map(|refused| refused.0.name), Some(7));
-    assert_eq!(rt; vec.len(), 0);
+    assert!(rt; refused.err().map(|refused| refused.0.name) == Some(7));
+    assert!(rt; vec.len() == 0);
     let mut names = [9; 3];
     for (name, slot) in names.iter_mut().zip(vec.grab_spare_slice()) {
         *name = slot.name;
     }
-    assert_eq!(rt; names, [7, 0, 0]);
+    assert!(rt; names == [7, 0, 0]);
 }

@@ -21,8 +21,8 @@ fn drains<R: RangeBounds<usize>>(rt: &impl Abort, range: R, given: &[i32], left:
     for item in v.drain(range) {
         assert!(rt; drained.try_push(item).is_none());
     }
-    assert_eq!(rt; drained.as_slice(), given);
-    assert_eq!(rt; v.as_slice(), left);
+    assert!(rt; drained.as_slice() == given);
+    assert!(rt; v.as_slice() == left);
     assert!(rt; v.as_inner()[v.len()..].iter().all(|slot| *slot == 0));
 }
 
@@ -52,52 +52,52 @@ fn ranges(rt: HostRuntime) {
 fn passed_over(rt: HostRuntime) {
     let mut v = ArrayVec::from_array_len([1, 2, 3, 4], 4);
     let mut d = v.drain(1..3);
-    assert_eq!(rt; d.nth(1), Some(3));
+    assert!(rt; d.nth(1) == Some(3));
     drop(d);
-    assert_eq!(rt; v.len(), 2);
-    assert_eq!(rt; v.into_inner(), [1, 4, 0, 0]);
+    assert!(rt; v.len() == 2);
+    assert!(rt; v.into_inner() == [1, 4, 0, 0]);
 }
 
 #[test]
 fn from_both_ends_to_none(rt: HostRuntime) {
     let mut v = ArrayVec::from_array([0, 1, 2, 3, 4, 5, 6, 7]);
     let mut d = v.drain(1..);
-    assert_eq!(rt; d.len(), 7);
-    assert_eq!(rt; d.size_hint(), (7, Some(7)));
-    assert_eq!(rt; d.next(), Some(1));
-    assert_eq!(rt; d.next_back(), Some(7));
-    assert_eq!(rt; d.nth(1), Some(3));
-    assert_eq!(rt; d.nth_back(1), Some(5));
-    assert_eq!(rt; d.len(), 1);
-    assert_eq!(rt; d.size_hint(), (1, Some(1)));
-    assert_eq!(rt; d.next_back(), Some(4));
-    assert_eq!(rt; d.len(), 0);
+    assert!(rt; d.len() == 7);
+    assert!(rt; d.size_hint() == (7, Some(7)));
+    assert!(rt; d.next() == Some(1));
+    assert!(rt; d.next_back() == Some(7));
+    assert!(rt; d.nth(1) == Some(3));
+    assert!(rt; d.nth_back(1) == Some(5));
+    assert!(rt; d.len() == 1);
+    assert!(rt; d.size_hint() == (1, Some(1)));
+    assert!(rt; d.next_back() == Some(4));
+    assert!(rt; d.len() == 0);
     for _again in 0..2 {
-        assert_eq!(rt; d.next(), None);
-        assert_eq!(rt; d.next_back(), None);
-        assert_eq!(rt; d.size_hint(), (0, Some(0)));
+        assert!(rt; d.next() == None);
+        assert!(rt; d.next_back() == None);
+        assert!(rt; d.size_hint() == (0, Some(0)));
     }
     drop(d);
-    assert_eq!(rt; v.into_inner(), [0, 0, 0, 0, 0, 0, 0, 0]);
+    assert!(rt; v.into_inner() == [0, 0, 0, 0, 0, 0, 0, 0]);
 }
 
 #[test]
 fn past_the_end(rt: HostRuntime) {
     let mut v = ArrayVec::from_array([1, 2, 3]);
-    assert_eq!(rt; v.drain(..2).nth(2), None);
-    assert_eq!(rt; v.as_slice(), [3].as_slice());
-    assert_eq!(rt; v.drain(..).nth_back(1), None);
-    assert_eq!(rt; v.as_slice(), [].as_slice());
-    assert_eq!(rt; v.drain(..).last(), None);
+    assert!(rt; v.drain(..2).nth(2) == None);
+    assert!(rt; v.as_slice() == [3].as_slice());
+    assert!(rt; v.drain(..).nth_back(1) == None);
+    assert!(rt; v.as_slice() == [].as_slice());
+    assert!(rt; v.drain(..).last() == None);
 }
 
 #[test]
 fn no_slots(rt: HostRuntime) {
     let mut v: ArrayVec<[i32; 0]> = ArrayVec::new();
     let mut d = v.drain(..);
-    assert_eq!(rt; d.len(), 0);
-    assert_eq!(rt; d.next(), None);
-    assert_eq!(rt; d.next_back(), None);
+    assert!(rt; d.len() == 0);
+    assert!(rt; d.next() == None);
+    assert!(rt; d.next_back() == None);
 }
 
 // No contract says what a drain that is never dropped leaves.
@@ -105,5 +105,5 @@ fn no_slots(rt: HostRuntime) {
 fn forgotten(rt: HostRuntime) {
     let mut v = ArrayVec::from_array([1, 2, 3, 4]);
     mem::forget(v.drain(1..3));
-    assert_eq!(rt; v.as_slice(), [1, 4].as_slice());
+    assert!(rt; v.as_slice() == [1, 4].as_slice());
 }

@@ -4,43 +4,43 @@ use tinyvec_array::{ArrayVec, NoMemory};
 #[test]
 fn four_slots(rt: HostRuntime) {
     let mut v: ArrayVec<[i32; 4]> = ArrayVec::new();
-    assert_eq!(rt; v.pop(), None);
+    assert!(rt; v.pop() == None);
     v.push(10);
-    assert_eq!(rt; v.as_slice()[0], 10);
-    assert_eq!(rt; v.pop(), Some(10));
-    assert_eq!(rt; v.pop(), None);
+    assert!(rt; v.as_slice()[0] == 10);
+    assert!(rt; v.pop() == Some(10));
+    assert!(rt; v.pop() == None);
 
     v.push(10);
     v.push(11);
     v.push(12);
     v.push(13);
-    assert_eq!(rt; v.as_slice()[0], 10);
-    assert_eq!(rt; v.as_slice()[1], 11);
-    assert_eq!(rt; v.as_slice()[2], 12);
-    assert_eq!(rt; v.as_slice()[3], 13);
-    assert_eq!(rt; v.pop(), Some(13));
-    assert_eq!(rt; v.pop(), Some(12));
-    assert_eq!(rt; v.pop(), Some(11));
-    assert_eq!(rt; v.pop(), Some(10));
-    assert_eq!(rt; v.pop(), None);
+    assert!(rt; v.as_slice()[0] == 10);
+    assert!(rt; v.as_slice()[1] == 11);
+    assert!(rt; v.as_slice()[2] == 12);
+    assert!(rt; v.as_slice()[3] == 13);
+    assert!(rt; v.pop() == Some(13));
+    assert!(rt; v.pop() == Some(12));
+    assert!(rt; v.pop() == Some(11));
+    assert!(rt; v.pop() == Some(10));
+    assert!(rt; v.pop() == None);
 }
 
 #[test]
 fn popped_slot_is_emptied(rt: HostRuntime) {
     let mut v = ArrayVec::from_array([87, 48, 33, 9, 26]);
-    assert_eq!(rt; v.pop(), Some(26));
-    assert_eq!(rt; v.into_inner(), [87, 48, 33, 9, 0]);
+    assert!(rt; v.pop() == Some(26));
+    assert!(rt; v.into_inner() == [87, 48, 33, 9, 0]);
 }
 
 #[test]
 fn no_room_hands_back(rt: HostRuntime) {
     let mut none: ArrayVec<[i32; 0]> = ArrayVec::new();
-    assert_eq!(rt; none.try_push(7), Some(7));
-    assert_eq!(rt; none.pop(), None);
+    assert!(rt; none.try_push(7) == Some(7));
+    assert!(rt; none.pop() == None);
 
     let mut one: ArrayVec<[i32; 1]> = ArrayVec::new();
-    assert_eq!(rt; one.try_push(7), None);
-    assert_eq!(rt; one.try_push(8), Some(8));
-    assert_eq!(rt; one.as_slice(), [7].as_slice());
-    assert_eq!(rt; NoMemory(7).0, 7);
+    assert!(rt; one.try_push(7) == None);
+    assert!(rt; one.try_push(8) == Some(8));
+    assert!(rt; one.as_slice() == [7].as_slice());
+    assert!(rt; NoMemory(7).0 == 7);
 }

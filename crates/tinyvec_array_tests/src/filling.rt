@@ -8,19 +8,19 @@ use tinyvec_test_items::Unhinted;
 fn fill_stops_when_full(rt: HostRuntime) {
     let mut vec = ArrayVec::<[i32; 4]>::new();
     let mut rest = vec.fill(0..);
-    assert_eq!(rt; vec.as_slice(), [0, 1, 2, 3].as_slice());
-    assert_eq!(rt; rest.next(), Some(4));
+    assert!(rt; vec.as_slice() == [0, 1, 2, 3].as_slice());
+    assert!(rt; rest.next() == Some(4));
     let mut none = vec.fill(7..9);
-    assert_eq!(rt; none.next(), Some(7));
+    assert!(rt; none.next() == Some(7));
 }
 
 #[test]
 fn fill_stops_at_the_end(rt: HostRuntime) {
     let mut vec = ArrayVec::from_array_len([1, 9, 9, 9], 1);
     let mut rest = vec.fill(5..7);
-    assert_eq!(rt; vec.as_slice(), [1, 5, 6].as_slice());
-    assert_eq!(rt; vec.grab_spare_slice(), [9].as_slice());
-    assert_eq!(rt; rest.next(), None);
+    assert!(rt; vec.as_slice() == [1, 5, 6].as_slice());
+    assert!(rt; vec.grab_spare_slice() == [9].as_slice());
+    assert!(rt; rest.next() == None);
 }
 
 #[test]
@@ -29,20 +29,20 @@ fn extend_answers_what_found_no_room(rt: HostRuntime) {
     match vec.extend(3..=6) {
         Ok(()) => panic!(rt; "there was no room"),
         Err(NoRoom { item, mut rest }) => {
-            assert_eq!(rt; item, 5);
-            assert_eq!(rt; rest.next(), Some(6));
-            assert_eq!(rt; rest.next(), None);
+            assert!(rt; item == 5);
+            assert!(rt; rest.next() == Some(6));
+            assert!(rt; rest.next() == None);
         }
     }
-    assert_eq!(rt; vec.as_slice(), [1, 2, 3, 4].as_slice());
+    assert!(rt; vec.as_slice() == [1, 2, 3, 4].as_slice());
 }
 
 #[test]
 fn extend_without_a_hint(rt: HostRuntime) {
     let mut vec = ArrayVec::from_array_len([1, 0, 0, 0, 0, 7], 1);
     assert!(rt; vec.extend(Unhinted { next: 5, end: 9 }).is_ok());
-    assert_eq!(rt; vec.as_slice(), [1, 5, 6, 7, 8].as_slice());
-    assert_eq!(rt; vec.grab_spare_slice(), [7].as_slice());
+    assert!(rt; vec.as_slice() == [1, 5, 6, 7, 8].as_slice());
+    assert!(rt; vec.grab_spare_slice() == [7].as_slice());
     let mut exact = ArrayVec::<[i32; 4]>::new();
     assert!(rt; exact.extend(Unhinted { next: 5, end: 9 }).is_ok());
     assert!(rt; exact.is_full());
@@ -59,9 +59,9 @@ fn from_iter_of_endless_items(rt: HostRuntime) {
                 mut rest,
             },
         ) => {
-            assert_eq!(rt; vec.as_slice(), [0, 1].as_slice());
-            assert_eq!(rt; item, 2);
-            assert_eq!(rt; rest.next(), Some(3));
+            assert!(rt; vec.as_slice() == [0, 1].as_slice());
+            assert!(rt; item == 2);
+            assert!(rt; rest.next() == Some(3));
         }
     }
 }
@@ -69,13 +69,13 @@ fn from_iter_of_endless_items(rt: HostRuntime) {
 #[test]
 fn from_iter_of_all(rt: HostRuntime) {
     match ArrayVec::<[i32; 4]>::from_iter(10..14) {
-        Ok(vec) => assert_eq!(rt; vec.as_slice(), [10, 11, 12, 13].as_slice()),
+        Ok(vec) => assert!(rt; vec.as_slice() == [10, 11, 12, 13].as_slice()),
         Err(_) => panic!(rt; "there was room"),
     }
     match ArrayVec::<[i32; 4]>::from_iter(10..12) {
         Ok(vec) => {
-            assert_eq!(rt; vec.as_slice(), [10, 11].as_slice());
-            assert_eq!(rt; vec.grab_spare_slice(), [0, 0].as_slice());
+            assert!(rt; vec.as_slice() == [10, 11].as_slice());
+            assert!(rt; vec.grab_spare_slice() == [0, 0].as_slice());
         }
         Err(_) => panic!(rt; "there was room"),
     }
@@ -86,9 +86,9 @@ fn from_iter_of_all(rt: HostRuntime) {
 fn many_slots(rt: HostRuntime) {
     let mut vec = ArrayVec::<[u8; 65536]>::new();
     let _rest = vec.fill(iter::repeat(1));
-    assert_eq!(rt; vec.len(), 65536);
+    assert!(rt; vec.len() == 65536);
     assert!(rt; vec.grab_spare_slice().is_empty());
-    assert_eq!(rt; vec.try_push(2), Some(2));
+    assert!(rt; vec.try_push(2) == Some(2));
 }
 
 #[test]
@@ -99,12 +99,12 @@ fn resize_with_answers_in_order(rt: HostRuntime) {
         last = last.wrapping_add(1);
         last
     });
-    assert_eq!(rt; last, 12);
-    assert_eq!(rt; vec.as_slice(), [1, 2, 11, 12].as_slice());
+    assert!(rt; last == 12);
+    assert!(rt; vec.as_slice() == [1, 2, 11, 12].as_slice());
     vec.resize_with(1, || 7);
-    assert_eq!(rt; vec.as_inner().as_slice(), [1, 0, 0, 0, 9].as_slice());
+    assert!(rt; vec.as_inner().as_slice() == [1, 0, 0, 0, 9].as_slice());
     vec.clear();
-    assert_eq!(rt; vec.as_inner().as_slice(), [0, 0, 0, 0, 9].as_slice());
+    assert!(rt; vec.as_inner().as_slice() == [0, 0, 0, 0, 9].as_slice());
 }
 
 #[test]
@@ -112,12 +112,9 @@ fn append_moves_the_items(rt: HostRuntime) {
     let mut front = ArrayVec::from_array_len([1, 2, 3, 0, 0, 0, 0, 0], 3);
     let mut back = ArrayVec::from_array_len([4, 5, 6, 0, 0, 0, 0, 8], 3);
     front.append(&mut back);
-    assert_eq!(rt; front.as_slice(), [1, 2, 3, 4, 5, 6].as_slice());
+    assert!(rt; front.as_slice() == [1, 2, 3, 4, 5, 6].as_slice());
     assert!(rt; back.is_empty());
-    assert_eq!(rt;
-        back.as_inner().as_slice(),
-        [0, 0, 0, 0, 0, 0, 0, 8].as_slice()
-    );
+    assert!(rt; back.as_inner().as_slice() == [0, 0, 0, 0, 0, 0, 0, 8].as_slice());
 }
 
 #[test]
@@ -125,10 +122,10 @@ fn try_append_hands_back(rt: HostRuntime) {
     let mut front = ArrayVec::from_array_len([1, 2, 3, 4, 5, 6, 0], 6);
     let mut back = ArrayVec::from_array_len([7, 8, 9, 0, 0, 0, 0], 3);
     assert!(rt; front.try_append(&mut back).is_some());
-    assert_eq!(rt; front.as_slice(), [1, 2, 3, 4, 5, 6].as_slice());
-    assert_eq!(rt; back.as_slice(), [7, 8, 9].as_slice());
+    assert!(rt; front.as_slice() == [1, 2, 3, 4, 5, 6].as_slice());
+    assert!(rt; back.as_slice() == [7, 8, 9].as_slice());
     back.truncate(1);
     assert!(rt; front.try_append(&mut back).is_none());
-    assert_eq!(rt; front.as_slice(), [1, 2, 3, 4, 5, 6, 7].as_slice());
+    assert!(rt; front.as_slice() == [1, 2, 3, 4, 5, 6, 7].as_slice());
     assert!(rt; back.is_empty());
 }

@@ -45,33 +45,33 @@ fn shapes(rt: HostRuntime) {
             (1, 1, false, true),
         ),
     ] {
-        assert_eq!(rt; got, want, "{name}");
+        assert!(rt; got == want, "{name}");
     }
 }
 
 #[test]
 fn slots(rt: HostRuntime) {
     let new: ArrayVec<[i32; 3]> = ArrayVec::new();
-    assert_eq!(rt; new.as_inner(), &[0, 0, 0]);
+    assert!(rt; new.as_inner() == &[0, 0, 0]);
     let empty = ArrayVec::from_array_empty([1, 2, 3]);
-    assert_eq!(rt; empty.as_slice(), [].as_slice());
-    assert_eq!(rt; empty.as_inner(), &[1, 2, 3]);
+    assert!(rt; empty.as_slice() == [].as_slice());
+    assert!(rt; empty.as_inner() == &[1, 2, 3]);
     let part = ArrayVec::from_array_len([1, 2, 3], 2);
-    assert_eq!(rt; part.as_slice(), [1, 2].as_slice());
-    assert_eq!(rt; part.grab_spare_slice(), [3].as_slice());
-    assert_eq!(rt; part.as_inner(), &[1, 2, 3]);
-    assert_eq!(rt; part.into_inner(), [1, 2, 3]);
+    assert!(rt; part.as_slice() == [1, 2].as_slice());
+    assert!(rt; part.grab_spare_slice() == [3].as_slice());
+    assert!(rt; part.as_inner() == &[1, 2, 3]);
+    assert!(rt; part.into_inner() == [1, 2, 3]);
     let full = ArrayVec::from([1, 2, 3]);
-    assert_eq!(rt; full.as_slice(), [1, 2, 3].as_slice());
+    assert!(rt; full.as_slice() == [1, 2, 3].as_slice());
 }
 
 #[test]
 fn many_slots(rt: HostRuntime) {
     let mut v = ArrayVec::from_array_len([7u8; 65536], 65536);
-    assert_eq!(rt; shape(&v), (65536, 65536, false, true));
+    assert!(rt; shape(&v) == (65536, 65536, false, true));
     assert!(rt; v.as_slice().iter().all(|x| *x == 7));
-    assert_eq!(rt; v.try_push(8), Some(8));
-    assert_eq!(rt; v.drain(1..).last(), Some(7));
-    assert_eq!(rt; v.as_slice(), [7].as_slice());
+    assert!(rt; v.try_push(8) == Some(8));
+    assert!(rt; v.drain(1..).last() == Some(7));
+    assert!(rt; v.as_slice() == [7].as_slice());
     assert!(rt; v.as_inner()[1..].iter().all(|x| *x == 0));
 }

@@ -12,11 +12,8 @@ fn popped(rt: HostRuntime) -> Result<(), Fail> {
     let mut v: ArrayVec<[Option<Vec<u8>>; 3]> = ArrayVec::new();
     v.push(Some([1, 2].to_vec(rt.alloc())?));
     v.push(Some([3].to_vec(rt.alloc())?));
-    assert_eq!(rt; v.pop(), Some(Some([3].to_vec(rt.alloc())?)));
-    assert_eq!(rt;
-        v.into_inner(),
-        [Some([1, 2].to_vec(rt.alloc())?), None, None]
-    );
+    assert!(rt; v.pop() == Some(Some([3].to_vec(rt.alloc())?)));
+    assert!(rt; v.into_inner() == [Some([1, 2].to_vec(rt.alloc())?), None, None]);
     Ok(())
 }
 
@@ -33,17 +30,16 @@ fn drained(rt: HostRuntime) -> Result<(), Fail> {
     };
     let mut v = ArrayVec::from_array([first, second, third]);
     let mut d = v.drain(..2);
-    assert_eq!(rt;
-        d.next_back(),
-        Some(Name {
-            letters: Some([2].to_vec(rt.alloc())?)
-        })
+    assert!(rt;
+        d.next_back()
+            == Some(Name {
+                letters: Some([2].to_vec(rt.alloc())?)
+            })
     );
     drop(d);
     let left = v.into_inner();
-    assert_eq!(rt;
-        left,
-        [
+    assert!(rt;
+        left == [
             Name {
                 letters: Some([3].to_vec(rt.alloc())?)
             },

@@ -29,12 +29,12 @@ fn one_from_the_front<R: RangeBounds<usize>>(
 {
     let mut v = one_two_three();
     let mut splice = v.splice(range, replacement);
-    assert_eq!(rt; splice.next(), given[0]);
-    assert_eq!(rt; splice.next(), given[1]);
-    assert_eq!(rt; splice.next(), given[2]);
-    assert_eq!(rt; splice.next(), None);
+    assert!(rt; splice.next() == given[0]);
+    assert!(rt; splice.next() == given[1]);
+    assert!(rt; splice.next() == given[2]);
+    assert!(rt; splice.next() == None);
     assert!(rt; splice.finish().is_ok());
-    assert_eq!(rt; v.as_slice(), list);
+    assert!(rt; v.as_slice() == list);
     assert!(rt; v.as_inner()[v.len()..].iter().all(|slot| *slot == 0));
 }
 
@@ -51,12 +51,12 @@ fn three_from_the_front<R: RangeBounds<usize>>(
 {
     let mut v = one_two_three();
     let mut splice = v.splice(range, 4..=6);
-    assert_eq!(rt; splice.next(), given[0]);
-    assert_eq!(rt; splice.next(), given[1]);
-    assert_eq!(rt; splice.next(), given[2]);
-    assert_eq!(rt; splice.next(), None);
+    assert!(rt; splice.next() == given[0]);
+    assert!(rt; splice.next() == given[1]);
+    assert!(rt; splice.next() == given[2]);
+    assert!(rt; splice.next() == None);
     assert!(rt; splice.finish().is_ok());
-    assert_eq!(rt; v.as_slice(), list);
+    assert!(rt; v.as_slice() == list);
 }
 
 // The same from the back, so `given` comes last first.
@@ -72,12 +72,12 @@ fn three_from_the_back<R: RangeBounds<usize>>(
 {
     let mut v = one_two_three();
     let mut splice = v.splice(range, 4..=6);
-    assert_eq!(rt; splice.next_back(), given[0]);
-    assert_eq!(rt; splice.next_back(), given[1]);
-    assert_eq!(rt; splice.next_back(), given[2]);
-    assert_eq!(rt; splice.next_back(), None);
+    assert!(rt; splice.next_back() == given[0]);
+    assert!(rt; splice.next_back() == given[1]);
+    assert!(rt; splice.next_back() == given[2]);
+    assert!(rt; splice.next_back() == None);
     assert!(rt; splice.finish().is_ok());
-    assert_eq!(rt; v.as_slice(), list);
+    assert!(rt; v.as_slice() == list);
 }
 
 // The same, with no item asked for.
@@ -88,7 +88,7 @@ fn three_at_the_end<R: RangeBounds<usize>>(rt: &impl Abort, range: R, list: &[i3
 {
     let mut v = one_two_three();
     assert!(rt; v.splice(range, 4..=6).finish().is_ok());
-    assert_eq!(rt; v.as_slice(), list);
+    assert!(rt; v.as_slice() == list);
 }
 
 #[test]
@@ -188,68 +188,68 @@ fn empty_ranges(rt: HostRuntime) {
 fn as_long_from_both_ends(rt: HostRuntime) {
     let mut v = ArrayVec::from_array_len([1, 2, 3, 4, 0, 0, 0, 0, 0, 0], 4);
     let mut splice = v.splice(1..3, [7, 8, 9]);
-    assert_eq!(rt; splice.next_back(), Some(3));
-    assert_eq!(rt; splice.next(), Some(2));
+    assert!(rt; splice.next_back() == Some(3));
+    assert!(rt; splice.next() == Some(2));
     assert!(rt; splice.finish().is_ok());
-    assert_eq!(rt; v.as_slice(), [1, 7, 8, 9, 4].as_slice());
+    assert!(rt; v.as_slice() == [1, 7, 8, 9, 4].as_slice());
 }
 
 #[test]
 fn shorter_from_both_ends(rt: HostRuntime) {
     let mut v = ArrayVec::from_array_len([1, 2, 3, 4, 0, 0, 0, 0, 0, 0], 4);
     let mut splice = v.splice(1..4, [7]);
-    assert_eq!(rt; splice.next_back(), Some(4));
-    assert_eq!(rt; splice.next(), Some(2));
+    assert!(rt; splice.next_back() == Some(4));
+    assert!(rt; splice.next() == Some(2));
     let (finished, touches) = splice.finish_counted();
     assert!(rt; finished.is_ok());
     assert!(rt; touches <= 8);
-    assert_eq!(rt; v.as_slice(), [1, 7].as_slice());
-    assert_eq!(rt; v.grab_spare_slice(), [0, 0, 0, 0, 0, 0, 0, 0].as_slice());
+    assert!(rt; v.as_slice() == [1, 7].as_slice());
+    assert!(rt; v.grab_spare_slice() == [0, 0, 0, 0, 0, 0, 0, 0].as_slice());
 }
 
 #[test]
 fn asked_beyond_the_range(rt: HostRuntime) {
     let mut v = one_two_three();
     let mut splice = v.splice(0..2, [7, 8, 9]);
-    assert_eq!(rt; splice.next(), Some(1));
-    assert_eq!(rt; splice.next(), Some(2));
-    assert_eq!(rt; splice.next(), None);
+    assert!(rt; splice.next() == Some(1));
+    assert!(rt; splice.next() == Some(2));
+    assert!(rt; splice.next() == None);
     assert!(rt; splice.finish().is_ok());
-    assert_eq!(rt; v.as_slice(), [7, 8, 9, 3].as_slice());
+    assert!(rt; v.as_slice() == [7, 8, 9, 3].as_slice());
 }
 
 #[test]
 fn refused_after_the_front(rt: HostRuntime) {
     let mut v = ArrayVec::from_array_len([1, 2, 3, 0], 3);
     let mut splice = v.splice(1..2, [7, 8, 9, 10]);
-    assert_eq!(rt; splice.next(), Some(2));
+    assert!(rt; splice.next() == Some(2));
     match splice.finish() {
         Ok(()) => panic!(rt; "there was no room"),
         Err(SpliceRest { item, mut rest }) => {
-            assert_eq!(rt; item, 9);
-            assert_eq!(rt; rest.next(), Some(10));
-            assert_eq!(rt; rest.next(), None);
-            assert_eq!(rt; rest.next(), None);
+            assert!(rt; item == 9);
+            assert!(rt; rest.next() == Some(10));
+            assert!(rt; rest.next() == None);
+            assert!(rt; rest.next() == None);
         }
     }
     assert!(rt; v.is_full());
-    assert_eq!(rt; v.as_slice(), [1, 7, 8, 3].as_slice());
+    assert!(rt; v.as_slice() == [1, 7, 8, 3].as_slice());
 }
 
 #[test]
 fn refused_after_the_back(rt: HostRuntime) {
     let mut v = ArrayVec::from_array_len([1, 2, 3, 0], 3);
     let mut splice = v.splice(1..2, [7, 8, 9]);
-    assert_eq!(rt; splice.next_back(), Some(2));
+    assert!(rt; splice.next_back() == Some(2));
     match splice.finish() {
         Ok(()) => panic!(rt; "there was no room"),
         Err(SpliceRest { item, mut rest }) => {
-            assert_eq!(rt; item, 8);
-            assert_eq!(rt; rest.next(), None);
-            assert_eq!(rt; rest.next_back(), None);
+            assert!(rt; item == 8);
+            assert!(rt; rest.next() == None);
+            assert!(rt; rest.next_back() == None);
         }
     }
-    assert_eq!(rt; v.as_slice(), [1, 7, 9, 3].as_slice());
+    assert!(rt; v.as_slice() == [1, 7, 9, 3].as_slice());
 }
 
 #[test]
@@ -259,11 +259,11 @@ fn refused_in_an_empty_range(rt: HostRuntime) {
     match splice.finish() {
         Ok(()) => panic!(rt; "there was no room"),
         Err(SpliceRest { item, mut rest }) => {
-            assert_eq!(rt; item, 8);
-            assert_eq!(rt; rest.next(), None);
+            assert!(rt; item == 8);
+            assert!(rt; rest.next() == None);
         }
     }
-    assert_eq!(rt; v.as_slice(), [1, 7, 2, 3].as_slice());
+    assert!(rt; v.as_slice() == [1, 7, 2, 3].as_slice());
 }
 
 #[test]
@@ -272,26 +272,26 @@ fn endless_replacement(rt: HostRuntime) {
     match v.splice(1..2, 5..).finish() {
         Ok(()) => panic!(rt; "there was no room"),
         Err(SpliceRest { item, mut rest }) => {
-            assert_eq!(rt; item, 8);
-            assert_eq!(rt; rest.next(), Some(9));
+            assert!(rt; item == 8);
+            assert!(rt; rest.next() == Some(9));
         }
     }
-    assert_eq!(rt; v.as_slice(), [1, 5, 6, 7].as_slice());
+    assert!(rt; v.as_slice() == [1, 5, 6, 7].as_slice());
 }
 
 #[test]
 fn touches_of_a_longer_replacement(rt: HostRuntime) {
     let mut v = ArrayVec::from_array_len([1, 2, 3, 4, 5, 0, 0, 0], 5);
     let mut splice = v.splice(1..3, [7, 8, 9, 10]);
-    assert_eq!(rt; splice.touches(), 0);
-    assert_eq!(rt; splice.next_back(), Some(3));
-    assert_eq!(rt; splice.touches(), 2);
+    assert!(rt; splice.touches() == 0);
+    assert!(rt; splice.next_back() == Some(3));
+    assert!(rt; splice.touches() == 2);
     let (finished, touches) = splice.finish_counted();
     assert!(rt; finished.is_ok());
     assert!(rt; touches <= 13);
     assert!(rt; 5 <= touches);
-    assert_eq!(rt; v.as_slice(), [1, 7, 8, 9, 10, 4, 5].as_slice());
-    assert_eq!(rt; v.grab_spare_slice(), [0].as_slice());
+    assert!(rt; v.as_slice() == [1, 7, 8, 9, 10, 4, 5].as_slice());
+    assert!(rt; v.grab_spare_slice() == [0].as_slice());
 }
 
 #[test]
@@ -302,9 +302,9 @@ fn touches_of_a_thousand_slots(rt: HostRuntime) {
     let (finished, touches) = v.splice(0..500, None).finish_counted();
     assert!(rt; finished.is_ok());
     assert!(rt; touches <= 1500);
-    assert_eq!(rt; v.len(), 500);
+    assert!(rt; v.len() == 500);
     assert!(rt; v.iter().copied().eq(500..1000));
-    assert_eq!(rt; v.grab_spare_slice().len(), 500);
+    assert!(rt; v.grab_spare_slice().len() == 500);
     assert!(rt; v.grab_spare_slice().iter().all(|slot| *slot == 0));
 }
 
@@ -312,10 +312,10 @@ fn touches_of_a_thousand_slots(rt: HostRuntime) {
 fn touches_of_items_that_nothing_replaces(rt: HostRuntime) {
     let mut v = one_two_three();
     let mut splice = v.splice(.., None);
-    assert_eq!(rt; splice.next_back(), Some(3));
-    assert_eq!(rt; splice.touches(), 1);
-    assert_eq!(rt; splice.next(), Some(1));
-    assert_eq!(rt; splice.touches(), 2);
+    assert!(rt; splice.next_back() == Some(3));
+    assert!(rt; splice.touches() == 1);
+    assert!(rt; splice.next() == Some(1));
+    assert!(rt; splice.touches() == 2);
     assert!(rt; splice.finish().is_ok());
     assert!(rt; v.is_empty());
 }
@@ -324,60 +324,60 @@ fn touches_of_items_that_nothing_replaces(rt: HostRuntime) {
 fn how_many_are_left(rt: HostRuntime) {
     let mut v = ArrayVec::from_array([1, 2, 3, 4, 5, 6]);
     let mut splice = v.splice(1..4, [7, 8, 9]);
-    assert_eq!(rt; splice.len(), 3);
-    assert_eq!(rt; splice.size_hint(), (3, Some(3)));
-    assert_eq!(rt; splice.next_back(), Some(4));
-    assert_eq!(rt; splice.len(), 2);
-    assert_eq!(rt; splice.size_hint(), (2, Some(2)));
-    assert_eq!(rt; splice.next(), Some(2));
-    assert_eq!(rt; splice.next_back(), Some(3));
-    assert_eq!(rt; splice.len(), 0);
-    assert_eq!(rt; splice.next(), None);
-    assert_eq!(rt; splice.next_back(), None);
-    assert_eq!(rt; splice.size_hint(), (0, Some(0)));
-    assert_eq!(rt; splice.next_back(), None);
-    assert_eq!(rt; splice.next(), None);
+    assert!(rt; splice.len() == 3);
+    assert!(rt; splice.size_hint() == (3, Some(3)));
+    assert!(rt; splice.next_back() == Some(4));
+    assert!(rt; splice.len() == 2);
+    assert!(rt; splice.size_hint() == (2, Some(2)));
+    assert!(rt; splice.next() == Some(2));
+    assert!(rt; splice.next_back() == Some(3));
+    assert!(rt; splice.len() == 0);
+    assert!(rt; splice.next() == None);
+    assert!(rt; splice.next_back() == None);
+    assert!(rt; splice.size_hint() == (0, Some(0)));
+    assert!(rt; splice.next_back() == None);
+    assert!(rt; splice.next() == None);
     assert!(rt; splice.finish().is_ok());
-    assert_eq!(rt; v.into_inner(), [1, 7, 8, 9, 5, 6]);
+    assert!(rt; v.into_inner() == [1, 7, 8, 9, 5, 6]);
 }
 
 #[test]
 fn taken_until_none(rt: HostRuntime) {
     let mut v = one_two_three();
     let mut splice = v.splice(1.., [4, 5, 6]);
-    assert_eq!(rt; splice.next(), Some(2));
-    assert_eq!(rt; splice.next(), Some(3));
-    assert_eq!(rt; splice.next(), None);
+    assert!(rt; splice.next() == Some(2));
+    assert!(rt; splice.next() == Some(3));
+    assert!(rt; splice.next() == None);
     assert!(rt; splice.finish().is_ok());
-    assert_eq!(rt; v.as_slice(), [1, 4, 5, 6].as_slice());
+    assert!(rt; v.as_slice() == [1, 4, 5, 6].as_slice());
 }
 
 #[test]
 fn spare_slots(rt: HostRuntime) {
     let mut v = ArrayVec::from_array_len([1, 2, 3, 8, 9], 3);
     assert!(rt; v.splice(1..2, [6, 7]).finish().is_ok());
-    assert_eq!(rt; v.as_slice(), [1, 6, 7, 3].as_slice());
-    assert_eq!(rt; v.grab_spare_slice(), [9].as_slice());
+    assert!(rt; v.as_slice() == [1, 6, 7, 3].as_slice());
+    assert!(rt; v.grab_spare_slice() == [9].as_slice());
     assert!(rt; v.splice(..2, [5, 4]).finish().is_ok());
-    assert_eq!(rt; v.grab_spare_slice(), [9].as_slice());
+    assert!(rt; v.grab_spare_slice() == [9].as_slice());
     assert!(rt; v.splice(..3, [2]).finish().is_ok());
-    assert_eq!(rt; v.into_inner(), [2, 3, 0, 0, 9]);
+    assert!(rt; v.into_inner() == [2, 3, 0, 0, 9]);
 }
 
 #[test]
 fn no_slots(rt: HostRuntime) {
     let mut v: ArrayVec<[i32; 0]> = ArrayVec::new();
     let mut splice = v.splice(.., None);
-    assert_eq!(rt; splice.len(), 0);
-    assert_eq!(rt; splice.next(), None);
+    assert!(rt; splice.len() == 0);
+    assert!(rt; splice.next() == None);
     let (finished, touches) = splice.finish_counted();
     assert!(rt; finished.is_ok());
-    assert_eq!(rt; touches, 0);
+    assert!(rt; touches == 0);
     match v.splice(.., [7, 8]).finish() {
         Ok(()) => panic!(rt; "there was no room"),
         Err(SpliceRest { item, mut rest }) => {
-            assert_eq!(rt; item, 7);
-            assert_eq!(rt; rest.next(), Some(8));
+            assert!(rt; item == 7);
+            assert!(rt; rest.next() == Some(8));
         }
     }
     assert!(rt; v.is_empty());
@@ -389,7 +389,7 @@ fn no_item_at_all(rt: HostRuntime) {
     assert!(rt; v.splice(.., iter::empty()).finish().is_ok());
     assert!(rt; v.is_empty());
     assert!(rt; v.splice(.., [3, 4]).finish().is_ok());
-    assert_eq!(rt; v.as_slice(), [3, 4].as_slice());
+    assert!(rt; v.as_slice() == [3, 4].as_slice());
 }
 
 #[test]
@@ -399,8 +399,8 @@ fn a_vec_of_replacements(rt: HostRuntime) -> Result<(), Fail> {
     replacement.push(9)?;
     let mut v = one_two_three();
     let mut splice = v.splice(2.., replacement);
-    assert_eq!(rt; splice.next_back(), Some(3));
+    assert!(rt; splice.next_back() == Some(3));
     assert!(rt; splice.finish().is_ok());
-    assert_eq!(rt; v.as_slice(), [1, 2, 8, 9].as_slice());
+    assert!(rt; v.as_slice() == [1, 2, 8, 9].as_slice());
     Ok(())
 }

@@ -5,18 +5,18 @@ use tinyvec_examples::ends::*;
 #[test]
 fn callers(rt: HostRuntime) {
     let mut v = ArrayVec::from_array_len([1, 2, 3], 2);
-    assert_eq!(rt; push_then_pop(&mut v, 5), Some(5));
-    assert_eq!(rt; try_push_then_pop(&mut v, 6), (None, Some(6)));
+    assert!(rt; push_then_pop(&mut v, 5) == Some(5));
+    assert!(rt; try_push_then_pop(&mut v, 6) == (None, Some(6)));
     pop_two(&mut v);
     push_if_room(&mut v, 7);
-    assert_eq!(rt; v.into_inner(), [7, 0, 0]);
+    assert!(rt; v.into_inner() == [7, 0, 0]);
 
     let mut full = ArrayVec::from_array([1, 2]);
-    assert_eq!(rt; push_on_full(&mut full, 3), Some(3));
+    assert!(rt; push_on_full(&mut full, 3) == Some(3));
     push_if_room(&mut full, 4);
-    assert_eq!(rt; full.into_inner(), [1, 2]);
+    assert!(rt; full.into_inner() == [1, 2]);
 
-    assert_eq!(rt; popped(), [1, 0, 0, 0]);
-    assert_eq!(rt; popped_in_array(), [87, 48, 33, 9, 0]);
-    assert_eq!(rt; pushed_in_array(), [1, 2, 9, 4]);
+    assert!(rt; popped() == [1, 0, 0, 0]);
+    assert!(rt; popped_in_array() == [87, 48, 33, 9, 0]);
+    assert!(rt; pushed_in_array() == [1, 2, 9, 4]);
 }

@@ -8,11 +8,11 @@ use tinyvec_examples::tiny_vec::{
 
 #[test]
 fn grown(rt: HostRuntime) -> Result<(), Fail> {
-    assert_eq!(rt; lent_items(&three(rt.alloc())), 3);
+    assert!(rt; lent_items(&three(rt.alloc())) == 3);
     let mut v = TinyVec::from_array(rt.alloc(), [1, 2]);
     assert!(rt; one_too_many(&mut v, 3), "memory was granted");
     two_more(&mut v, 4, 5)?;
-    assert_eq!(rt; v.as_slice(), [1, 2, 3, 4, 5].as_slice());
+    assert!(rt; v.as_slice() == [1, 2, 3, 4, 5].as_slice());
     Ok(())
 }
 
@@ -23,7 +23,7 @@ fn moved(rt: HostRuntime) -> Result<(), Fail> {
     assert!(rt; v.is_inline());
     let mut to = TinyVec::new(rt.alloc());
     assert!(rt; moved_by_iterator(v, &mut to).is_ok(), "memory was granted");
-    assert_eq!(rt; to.as_slice(), [1, 2, 3, 4].as_slice());
+    assert!(rt; to.as_slice() == [1, 2, 3, 4].as_slice());
     Ok(())
 }
 
@@ -31,20 +31,20 @@ fn moved(rt: HostRuntime) -> Result<(), Fail> {
 fn changed(rt: HostRuntime) -> Result<(), Fail> {
     let mut v = three(rt.alloc());
     set(&mut v, 1, 7);
-    assert_eq!(rt; v.as_slice(), [1, 7, 3].as_slice());
+    assert!(rt; v.as_slice() == [1, 7, 3].as_slice());
     cut_and_joined(&mut v, 1)?;
-    assert_eq!(rt; v.as_slice(), [1, 7, 3].as_slice());
+    assert!(rt; v.as_slice() == [1, 7, 3].as_slice());
     assert!(rt; v.is_inline());
     Ok(())
 }
 
 #[test]
 fn drained(rt: HostRuntime) {
-    assert_eq!(rt; middle_drained(rt.alloc()).as_slice(), [1, 4].as_slice());
+    assert!(rt; middle_drained(rt.alloc()).as_slice() == [1, 4].as_slice());
     let mut v = three(rt.alloc());
-    assert_eq!(rt; nth_of(&mut v, ..2, 1), Some(2));
-    assert_eq!(rt; v.as_slice(), [3].as_slice());
+    assert!(rt; nth_of(&mut v, ..2, 1) == Some(2));
+    assert!(rt; v.as_slice() == [3].as_slice());
     cut(&mut v, ..0);
-    assert_eq!(rt; last_of(&mut v), Some(3));
+    assert!(rt; last_of(&mut v) == Some(3));
     assert!(rt; v.is_empty());
 }

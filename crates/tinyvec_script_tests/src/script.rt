@@ -101,9 +101,8 @@ fn a_long_line_is_read_whole_and_bad_once(rt: HostRuntime) -> Result<(), Fail> {
         }
         input.extend_from_slice(b"\nA push 7\n")?;
         let answers = written(rt.alloc(), input.as_slice())?;
-        assert_eq!(rt;
-            answers.as_slice(),
-            b"bad\nok [7] [0, 0, 0]\n".as_slice(),
+        assert!(rt;
+            answers.as_slice() == b"bad\nok [7] [0, 0, 0]\n".as_slice(),
             "at {len}"
         );
     }
@@ -138,12 +137,11 @@ fn a_read_that_fails_after_each_byte(rt: HostRuntime) -> Result<(), Fail> {
         let mut reader = Counted::new(Breaks::new(input));
         let mut writer = Counted::new(output);
         let result = run(rt.alloc(), &mut reader, &mut writer);
-        assert_eq!(rt; result, Err(RunError::Read), "after {count}");
+        assert!(rt; result == Err(RunError::Read), "after {count}");
         let lines = input.iter().filter(|byte| **byte == b'\n').count();
         output = writer.into_inner();
-        assert_eq!(rt;
-            output.as_slice(),
-            first_lines(OUTPUT, lines),
+        assert!(rt;
+            output.as_slice() == first_lines(OUTPUT, lines),
             "after {count}"
         );
         output.clear();
@@ -158,10 +156,10 @@ fn a_write_that_fails_after_each_byte(rt: HostRuntime) -> Result<(), Fail> {
         let mut reader = Counted::new(SCRIPT);
         let mut writer = Counted::new(Fills::new(output, room));
         let result = run(rt.alloc(), &mut reader, &mut writer);
-        assert_eq!(rt; result, Err(RunError::Write), "after {room}");
-        assert_eq!(rt; writer.faults(), 1, "after {room}");
+        assert!(rt; result == Err(RunError::Write), "after {room}");
+        assert!(rt; writer.faults() == 1, "after {room}");
         output = writer.into_inner().taken;
-        assert_eq!(rt; output.as_slice(), &OUTPUT[..room], "after {room}");
+        assert!(rt; output.as_slice() == &OUTPUT[..room], "after {room}");
         output.clear();
     }
     Ok(())
@@ -178,8 +176,8 @@ fn the_answers_to_a_chunk_go_out_in_few_writes(rt: HostRuntime) -> Result<(), Fa
     run(rt.alloc(), &mut reader, &mut writer)?;
     let writer = writer.into_inner();
     // 6000 bytes are two chunks of 4 KiB, and 21000 bytes of answers.
-    assert_eq!(rt; writer.taken.len(), 21000);
-    assert_eq!(rt; writer.writes, 2);
+    assert!(rt; writer.taken.len() == 21000);
+    assert!(rt; writer.writes == 2);
     Ok(())
 }
 
@@ -191,7 +189,7 @@ fn the_texts_of_the_errors(rt: HostRuntime) -> Result<(), Fail> {
         (RunError::TooLong, "input too long"),
     ];
     for (error, text) in texts {
-        assert_eq!(rt; format!(in rt.alloc(); "{error}")?.as_str(), text);
+        assert!(rt; format!(in rt.alloc(); "{error}")?.as_str() == text);
     }
     Ok(())
 }

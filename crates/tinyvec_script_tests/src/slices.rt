@@ -82,6 +82,6 @@ fn a_run_over_a_slice(rt: HostRuntime) -> Result<(), Fail> {
         Answer::Range,
     ];
     assert_answers(&rt, answers.as_slice(), wanted.as_slice());
-    assert_eq!(rt; array, [0, 9, 0]);
+    assert!(rt; array == [0, 9, 0]);
     Ok(())
 }

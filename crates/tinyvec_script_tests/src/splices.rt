@@ -64,7 +64,7 @@ fn longest(rt: &HostRuntime, last: &[u8]) -> Result<Vec<u8>, Fail> {
 #[test]
 fn the_longest_splice(rt: HostRuntime) -> Result<(), Fail> {
     let line = longest(&rt, b" 1")?;
-    assert_eq!(rt; line.len(), 128);
+    assert!(rt; line.len() == 128);
     let mut answer = Vec::with_capacity(rt.alloc(), ROOM)?;
     answer.extend_from_slice(b"items [] rest [1")?;
     for _number in 0..52 {
@@ -73,7 +73,7 @@ fn the_longest_splice(rt: HostRuntime) -> Result<(), Fail> {
     answer.extend_from_slice(b"] [1, 1, 1, 1] []\n")?;
     assert_written(&rt, line.as_slice(), answer.as_slice())?;
     let longer = longest(&rt, b" 11")?;
-    assert_eq!(rt; longer.len(), 129);
+    assert!(rt; longer.len() == 129);
     assert_written(&rt, longer.as_slice(), b"bad\n")
 }
 
@@ -82,9 +82,9 @@ fn a_driven_splice(rt: HostRuntime) -> Result<(), Fail> {
     let mut vec = ArrayVec::from_array_len([1, 2, 3, 0], 3);
     let replacement = Vec::from_array(rt.alloc(), [7, 8, 9])?;
     let driven = drive_array_splice(rt.alloc(), &mut vec, 1, 2, replacement, &[End::Back])?;
-    assert_eq!(rt; driven.yields.as_slice(), [2].as_slice());
-    assert_eq!(rt; driven.rest.as_slice(), [8].as_slice());
-    assert_eq!(rt; vec.as_slice(), [1, 7, 9, 3].as_slice());
+    assert!(rt; driven.yields.as_slice() == [2].as_slice());
+    assert!(rt; driven.rest.as_slice() == [8].as_slice());
+    assert!(rt; vec.as_slice() == [1, 7, 9, 3].as_slice());
     Ok(())
 }
 
@@ -94,10 +94,10 @@ fn a_word_longer_than_the_range(rt: HostRuntime) -> Result<(), Fail> {
     let replacement = Vec::from_array(rt.alloc(), [7])?;
     let word = [End::Front, End::Back, End::Back, End::Front];
     let driven = drive_array_splice(rt.alloc(), &mut vec, 1, 3, replacement, &word)?;
-    assert_eq!(rt; driven.yields.as_slice(), [2, 3].as_slice());
+    assert!(rt; driven.yields.as_slice() == [2, 3].as_slice());
     assert!(rt; driven.rest.is_empty());
-    assert_eq!(rt; vec.as_slice(), [1, 7, 4].as_slice());
-    assert_eq!(rt; vec.into_inner(), [1, 7, 4, 0, 0, 0]);
+    assert!(rt; vec.as_slice() == [1, 7, 4].as_slice());
+    assert!(rt; vec.into_inner() == [1, 7, 4, 0, 0, 0]);
     Ok(())
 }
 

@@ -11,8 +11,8 @@ fn extend_from_slice(rt: HostRuntime) -> Result<(), Fail> {
     let mut slots = [1, 5, 5, 5];
     let mut vec = SliceVec::from_slice_len(&mut slots, 1);
     vec.extend_from_slice(&[2, 3])?;
-    assert_eq!(rt; vec.as_slice(), [1, 2, 3].as_slice());
-    assert_eq!(rt; slots, [1, 2, 3, 5]);
+    assert!(rt; vec.as_slice() == [1, 2, 3].as_slice());
+    assert!(rt; slots == [1, 2, 3, 5]);
     Ok(())
 }
 
@@ -20,17 +20,11 @@ fn extend_from_slice(rt: HostRuntime) -> Result<(), Fail> {
 fn extend_from_slice_refused(rt: HostRuntime) -> Result<(), Fail> {
     let mut slots = [Item(1), Item(5), Item(6), Item(7)];
     let mut vec = SliceVec::from_slice_len(&mut slots, 1);
-    assert_eq!(rt;
-        vec.extend_from_slice(&[Item(2), Item(3), Item(99)]),
-        Err(AllocError)
-    );
-    assert_eq!(rt; vec.as_slice(), [Item(1)].as_slice());
-    assert_eq!(rt;
-        vec.grab_spare_slice(),
-        [Item(2), Item(3), Item(7)].as_slice()
-    );
+    assert!(rt; vec.extend_from_slice(&[Item(2), Item(3), Item(99)]) == Err(AllocError));
+    assert!(rt; vec.as_slice() == [Item(1)].as_slice());
+    assert!(rt; vec.grab_spare_slice() == [Item(2), Item(3), Item(7)].as_slice());
     vec.extend_from_slice(&[Item(4)])?;
-    assert_eq!(rt; slots, [Item(1), Item(4), Item(3), Item(7)]);
+    assert!(rt; slots == [Item(1), Item(4), Item(3), Item(7)]);
     Ok(())
 }
 
@@ -38,18 +32,15 @@ fn extend_from_slice_refused(rt: HostRuntime) -> Result<(), Fail> {
 fn resize(rt: HostRuntime) {
     let mut slots = [Item(1), Item(2), Item(3), Item(8)];
     let mut vec = SliceVec::from_slice_len(&mut slots, 3);
-    assert_eq!(rt; vec.resize(1, Item(6)), Ok(()));
-    assert_eq!(rt; vec.as_slice(), [Item(1)].as_slice());
-    assert_eq!(rt;
-        vec.grab_spare_slice(),
-        [Item(6), Item(6), Item(8)].as_slice()
-    );
-    assert_eq!(rt; vec.resize(3, Item(4)), Ok(()));
-    assert_eq!(rt; vec.as_slice(), [Item(1), Item(4), Item(4)].as_slice());
-    assert_eq!(rt; vec.resize(3, Item(99)), Ok(()));
-    assert_eq!(rt; vec.resize(4, Item(99)), Err(NoMemory(Item(99))));
-    assert_eq!(rt; vec.resize(0, Item(99)), Err(NoMemory(Item(99))));
-    assert_eq!(rt; slots, [Item(1), Item(4), Item(4), Item(8)]);
+    assert!(rt; vec.resize(1, Item(6)) == Ok(()));
+    assert!(rt; vec.as_slice() == [Item(1)].as_slice());
+    assert!(rt; vec.grab_spare_slice() == [Item(6), Item(6), Item(8)].as_slice());
+    assert!(rt; vec.resize(3, Item(4)) == Ok(()));
+    assert!(rt; vec.as_slice() == [Item(1), Item(4), Item(4)].as_slice());
+    assert!(rt; vec.resize(3, Item(99)) == Ok(()));
+    assert!(rt; vec.resize(4, Item(99)) == Err(NoMemory(Item(99))));
+    assert!(rt; vec.resize(0, Item(99)) == Err(NoMemory(Item(99))));
+    assert!(rt; slots == [Item(1), Item(4), Item(4), Item(8)]);
 }
 
 // The second clone is refused.
@@ -65,9 +56,9 @@ fn growing_refused(rt: HostRuntime) {
             left: Some(&left),
         },
     );
-    assert_eq!(rt; refused.err().map(|refused| refused.0.name), Some(7));
-    assert_eq!(rt; vec.len(), 1);
-    assert_eq!(rt; names(&slots), [1, 7, 3, 4]);
+    assert!(rt; refused.err().map(|refused| refused.0.name) == Some(7));
+    assert!(rt; vec.len() == 1);
+    assert!(rt; names(&slots) == [1, 7, 3, 4]);
 }
 
 // So it is here. The list is shorter by the slot that was filled.
@@ -83,9 +74,9 @@ fn cutting_refused(rt: HostRuntime) {
             left: Some(&left),
         },
     );
-    assert_eq!(rt; refused.err().map(|refused| refused.0.name), Some(7));
-    assert_eq!(rt; vec.len(), 3);
-    assert_eq!(rt; names(&slots), [1, 2, 3, 7]);
+    assert!(rt; refused.err().map(|refused| refused.0.name) == Some(7));
+    assert!(rt; vec.len() == 3);
+    assert!(rt; names(&slots) == [1, 2, 3, 7]);
 }
 
 fn named<'a>(name: u8) -> Limited<'a> {

@@ -7,10 +7,10 @@ fn left_early(rt: HostRuntime) {
     let mut vec = SliceVec::from_slice_len(&mut slots, 4);
     {
         let mut items = vec.drain(1..3);
-        assert_eq!(rt; items.next(), Some(2));
+        assert!(rt; items.next() == Some(2));
     }
-    assert_eq!(rt; vec.len(), 2);
-    assert_eq!(rt; slots, [1, 4, 0, 0, 9]);
+    assert!(rt; vec.len() == 2);
+    assert!(rt; slots == [1, 4, 0, 0, 9]);
 }
 
 #[test]
@@ -19,23 +19,23 @@ fn run_to_its_end(rt: HostRuntime) {
     let mut vec = SliceVec::from_slice_len(&mut slots, 4);
     {
         let mut items = vec.drain(2..);
-        assert_eq!(rt; items.size_hint(), (0, None));
-        assert_eq!(rt; items.next(), Some(3));
-        assert_eq!(rt; items.size_hint(), (0, None));
-        assert_eq!(rt; items.next(), Some(4));
-        assert_eq!(rt; items.next(), None);
-        assert_eq!(rt; items.next(), None);
+        assert!(rt; items.size_hint() == (0, None));
+        assert!(rt; items.next() == Some(3));
+        assert!(rt; items.size_hint() == (0, None));
+        assert!(rt; items.next() == Some(4));
+        assert!(rt; items.next() == None);
+        assert!(rt; items.next() == None);
     }
-    assert_eq!(rt; vec.as_slice(), [1, 2].as_slice());
-    assert_eq!(rt; vec.grab_spare_slice(), [0, 0].as_slice());
+    assert!(rt; vec.as_slice() == [1, 2].as_slice());
+    assert!(rt; vec.grab_spare_slice() == [0, 0].as_slice());
     assert!(rt; vec.drain(1..1).next().is_none());
-    assert_eq!(rt; vec.len(), 2);
+    assert!(rt; vec.len() == 2);
 }
 
 #[test]
 fn passed_over(rt: HostRuntime) {
     let mut slots = [1, 2, 3, 4];
     let mut vec = SliceVec::from_slice_len(&mut slots, 4);
-    assert_eq!(rt; vec.drain(..=2).nth(1), Some(2));
-    assert_eq!(rt; slots, [4, 0, 0, 0]);
+    assert!(rt; vec.drain(..=2).nth(1) == Some(2));
+    assert!(rt; slots == [4, 0, 0, 0]);
 }

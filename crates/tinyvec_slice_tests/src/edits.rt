@@ -5,16 +5,16 @@ use tinyvec_slice::SliceVec;
 fn push_and_pop(rt: HostRuntime) {
     let mut slots = [7, 7, 7];
     let mut vec = SliceVec::from_slice_len(&mut slots, 0);
-    assert_eq!(rt; vec.pop(), None);
+    assert!(rt; vec.pop() == None);
     vec.push(1);
     vec.push(2);
-    assert_eq!(rt; vec.as_slice(), [1, 2].as_slice());
-    assert_eq!(rt; vec.grab_spare_slice(), [7].as_slice());
+    assert!(rt; vec.as_slice() == [1, 2].as_slice());
+    assert!(rt; vec.grab_spare_slice() == [7].as_slice());
     vec.push(3);
     assert!(rt; vec.is_full());
-    assert_eq!(rt; vec.pop(), Some(3));
-    assert_eq!(rt; vec.pop(), Some(2));
-    assert_eq!(rt; slots, [1, 0, 0]);
+    assert!(rt; vec.pop() == Some(3));
+    assert!(rt; vec.pop() == Some(2));
+    assert!(rt; slots == [1, 0, 0]);
 }
 
 #[test]
@@ -22,25 +22,25 @@ fn insert_and_remove(rt: HostRuntime) {
     let mut slots = [1, 2, 3, 9];
     let mut vec = SliceVec::from_slice_len(&mut slots, 3);
     vec.insert(1, 8);
-    assert_eq!(rt; vec.as_slice(), [1, 8, 2, 3].as_slice());
-    assert_eq!(rt; vec.remove(0), 1);
-    assert_eq!(rt; vec.remove(2), 3);
-    assert_eq!(rt; vec.as_slice(), [8, 2].as_slice());
+    assert!(rt; vec.as_slice() == [1, 8, 2, 3].as_slice());
+    assert!(rt; vec.remove(0) == 1);
+    assert!(rt; vec.remove(2) == 3);
+    assert!(rt; vec.as_slice() == [8, 2].as_slice());
     vec.insert(2, 5);
-    assert_eq!(rt; slots, [8, 2, 5, 0]);
+    assert!(rt; slots == [8, 2, 5, 0]);
 }
 
 #[test]
 fn swap_remove(rt: HostRuntime) {
     let mut slots = [1, 2, 3, 4, 9];
     let mut vec = SliceVec::from_slice_len(&mut slots, 4);
-    assert_eq!(rt; vec.swap_remove(3), 4);
-    assert_eq!(rt; vec.as_slice(), [1, 2, 3].as_slice());
-    assert_eq!(rt; vec.swap_remove(0), 1);
-    assert_eq!(rt; vec.as_slice(), [3, 2].as_slice());
-    assert_eq!(rt; vec.swap_remove(0), 3);
-    assert_eq!(rt; vec.swap_remove(0), 2);
-    assert_eq!(rt; slots, [0, 0, 0, 0, 9]);
+    assert!(rt; vec.swap_remove(3) == 4);
+    assert!(rt; vec.as_slice() == [1, 2, 3].as_slice());
+    assert!(rt; vec.swap_remove(0) == 1);
+    assert!(rt; vec.as_slice() == [3, 2].as_slice());
+    assert!(rt; vec.swap_remove(0) == 3);
+    assert!(rt; vec.swap_remove(0) == 2);
+    assert!(rt; slots == [0, 0, 0, 0, 9]);
 }
 
 #[test]
@@ -48,12 +48,12 @@ fn truncate_and_clear(rt: HostRuntime) {
     let mut slots = [1, 2, 3, 4, 9];
     let mut vec = SliceVec::from_slice_len(&mut slots, 4);
     vec.truncate(7);
-    assert_eq!(rt; vec.len(), 4);
+    assert!(rt; vec.len() == 4);
     vec.truncate(2);
-    assert_eq!(rt; vec.as_slice(), [1, 2].as_slice());
-    assert_eq!(rt; vec.grab_spare_slice(), [0, 0, 9].as_slice());
+    assert!(rt; vec.as_slice() == [1, 2].as_slice());
+    assert!(rt; vec.grab_spare_slice() == [0, 0, 9].as_slice());
     vec.clear();
-    assert_eq!(rt; slots, [0, 0, 0, 0, 9]);
+    assert!(rt; slots == [0, 0, 0, 0, 9]);
 }
 
 #[test]
@@ -61,11 +61,11 @@ fn set_len_writes_nothing(rt: HostRuntime) {
     let mut slots = [1, 2, 3];
     let mut vec = SliceVec::from_slice_len(&mut slots, 3);
     vec.set_len(1);
-    assert_eq!(rt; vec.as_slice(), [1].as_slice());
+    assert!(rt; vec.as_slice() == [1].as_slice());
     vec.push(9);
     vec.set_len(3);
-    assert_eq!(rt; vec.as_slice(), [1, 9, 3].as_slice());
-    assert_eq!(rt; slots, [1, 9, 3]);
+    assert!(rt; vec.as_slice() == [1, 9, 3].as_slice());
+    assert!(rt; slots == [1, 9, 3]);
 }
 
 #[test]
@@ -75,9 +75,9 @@ fn writes_by_index(rt: HostRuntime) {
     vec[1] = 8;
     vec.as_mut_slice()[0] = 7;
     vec.grab_spare_slice_mut()[0] = 9;
-    assert_eq!(rt; vec.as_slice(), [7, 8].as_slice());
+    assert!(rt; vec.as_slice() == [7, 8].as_slice());
     vec.as_mut_inner()[2] = 5;
-    assert_eq!(rt; slots, [7, 8, 5]);
+    assert!(rt; slots == [7, 8, 5]);
 }
 
 #[test]
@@ -85,11 +85,11 @@ fn items_without_bytes(rt: HostRuntime) {
     let mut slots = [(), (), ()];
     let mut vec = SliceVec::from_slice_len(&mut slots, 1);
     vec.push(());
-    assert_eq!(rt; vec.len(), 2);
+    assert!(rt; vec.len() == 2);
     vec.insert(0, ());
     assert!(rt; vec.is_full());
-    assert_eq!(rt; vec.pop(), Some(()));
-    assert_eq!(rt; vec.capacity(), 3);
+    assert!(rt; vec.pop() == Some(()));
+    assert!(rt; vec.capacity() == 3);
     vec.clear();
     assert!(rt; vec.is_empty());
 }

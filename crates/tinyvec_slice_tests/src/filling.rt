@@ -8,8 +8,8 @@ fn fill_stops_when_full(rt: HostRuntime) {
     let mut slots = [7, 7, 7];
     let mut vec = SliceVec::from_slice_len(&mut slots, 1);
     let mut rest = vec.fill(0..);
-    assert_eq!(rt; vec.as_slice(), [7, 0, 1].as_slice());
-    assert_eq!(rt; rest.next(), Some(2));
+    assert!(rt; vec.as_slice() == [7, 0, 1].as_slice());
+    assert!(rt; rest.next() == Some(2));
 }
 
 #[test]
@@ -17,9 +17,9 @@ fn fill_stops_at_the_end(rt: HostRuntime) {
     let mut slots = [1, 9, 9, 9];
     let mut vec = SliceVec::from_slice_len(&mut slots, 1);
     let mut rest = vec.fill(5..7);
-    assert_eq!(rt; vec.as_slice(), [1, 5, 6].as_slice());
-    assert_eq!(rt; vec.grab_spare_slice(), [9].as_slice());
-    assert_eq!(rt; rest.next(), None);
+    assert!(rt; vec.as_slice() == [1, 5, 6].as_slice());
+    assert!(rt; vec.grab_spare_slice() == [9].as_slice());
+    assert!(rt; rest.next() == None);
 }
 
 #[test]
@@ -29,12 +29,12 @@ fn extend_answers_what_found_no_room(rt: HostRuntime) {
     match vec.extend(1..=4) {
         Ok(()) => panic!(rt; "there was no room"),
         Err(NoRoom { item, mut rest }) => {
-            assert_eq!(rt; item, 3);
-            assert_eq!(rt; rest.next(), Some(4));
-            assert_eq!(rt; rest.next(), None);
+            assert!(rt; item == 3);
+            assert!(rt; rest.next() == Some(4));
+            assert!(rt; rest.next() == None);
         }
     }
-    assert_eq!(rt; slots, [1, 2]);
+    assert!(rt; slots == [1, 2]);
 }
 
 #[test]
@@ -42,7 +42,7 @@ fn extend_by_endless_items(rt: HostRuntime) {
     let mut slots = [1, 9];
     let mut vec = SliceVec::from_slice_len(&mut slots, 1);
     assert!(rt; vec.extend(iter::repeat(6)).is_err());
-    assert_eq!(rt; slots, [1, 6]);
+    assert!(rt; slots == [1, 6]);
 }
 
 #[test]
@@ -50,11 +50,11 @@ fn extend_by_what_fits(rt: HostRuntime) {
     let mut slots = [1, 9, 9];
     let mut vec = SliceVec::from_slice_len(&mut slots, 1);
     assert!(rt; vec.extend(2..3).is_ok());
-    assert_eq!(rt; vec.as_slice(), [1, 2].as_slice());
+    assert!(rt; vec.as_slice() == [1, 2].as_slice());
     assert!(rt; vec.extend(3..4).is_ok());
     assert!(rt; vec.is_full());
     assert!(rt; vec.extend(4..4).is_ok());
-    assert_eq!(rt; slots, [1, 2, 3]);
+    assert!(rt; slots == [1, 2, 3]);
 }
 
 #[test]
@@ -66,9 +66,9 @@ fn resize_with_fills_the_last_slot_first(rt: HostRuntime) {
         last = last.wrapping_add(1);
         last
     });
-    assert_eq!(rt; last, 11);
-    assert_eq!(rt; vec.as_slice(), [1].as_slice());
-    assert_eq!(rt; slots, [1, 11, 10, 7, 7]);
+    assert!(rt; last == 11);
+    assert!(rt; vec.as_slice() == [1].as_slice());
+    assert!(rt; slots == [1, 11, 10, 7, 7]);
 }
 
 #[test]
@@ -80,10 +80,10 @@ fn resize_with_answers_in_order(rt: HostRuntime) {
         last = last.wrapping_add(1);
         last
     });
-    assert_eq!(rt; last, 12);
-    assert_eq!(rt; vec.as_slice(), [1, 2, 11, 12].as_slice());
+    assert!(rt; last == 12);
+    assert!(rt; vec.as_slice() == [1, 2, 11, 12].as_slice());
     vec.resize_with(4, || 5);
-    assert_eq!(rt; slots, [1, 2, 11, 12, 9]);
+    assert!(rt; slots == [1, 2, 11, 12, 9]);
 }
 
 #[test]
@@ -95,7 +95,7 @@ fn retain_the_even(rt: HostRuntime) {
         asked = asked.wrapping_add(1);
         *x % 2 == 0
     });
-    assert_eq!(rt; asked, 4);
-    assert_eq!(rt; vec.len(), 2);
-    assert_eq!(rt; slots, [2, 4, 0, 0, 9]);
+    assert!(rt; asked == 4);
+    assert!(rt; vec.len() == 2);
+    assert!(rt; slots == [2, 4, 0, 0, 9]);
 }

@@ -9,8 +9,8 @@ fn into_iter_lends_the_list_alone(rt: HostRuntime) {
         *x = x.wrapping_add(10);
         count = count.saturating_add(1);
     }
-    assert_eq!(rt; count, 2);
-    assert_eq!(rt; slots, [11, 12, 3]);
+    assert!(rt; count == 2);
+    assert!(rt; slots == [11, 12, 3]);
 }
 
 #[test]
@@ -21,8 +21,8 @@ fn iter_and_iter_mut(rt: HostRuntime) {
         *x = x.wrapping_neg();
     }
     let mut items = vec.iter();
-    assert_eq!(rt; items.next(), Some(&-1));
-    assert_eq!(rt; items.next_back(), Some(&-2));
-    assert_eq!(rt; items.next(), None);
-    assert_eq!(rt; slots, [-1, -2, 3]);
+    assert!(rt; items.next() == Some(&-1));
+    assert!(rt; items.next_back() == Some(&-2));
+    assert!(rt; items.next() == None);
+    assert!(rt; slots == [-1, -2, 3]);
 }

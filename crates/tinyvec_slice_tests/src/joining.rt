@@ -8,11 +8,11 @@ fn append_moves_the_items(rt: HostRuntime) {
     let mut front = SliceVec::from_slice_len(&mut one, 3);
     let mut back = SliceVec::from_slice_len(&mut two, 2);
     front.append(&mut back);
-    assert_eq!(rt; front.as_slice(), [1, 2, 3, 4, 5].as_slice());
+    assert!(rt; front.as_slice() == [1, 2, 3, 4, 5].as_slice());
     assert!(rt; back.is_empty());
     front.append(&mut back);
-    assert_eq!(rt; one, [1, 2, 3, 4, 5, 8]);
-    assert_eq!(rt; two, [0, 0, 9]);
+    assert!(rt; one == [1, 2, 3, 4, 5, 8]);
+    assert!(rt; two == [0, 0, 9]);
 }
 
 #[test]
@@ -21,11 +21,11 @@ fn split_off_keeps_the_first_full(rt: HostRuntime) {
     let mut first = SliceVec::from_slice_len(&mut slots, 3);
     let mut second = first.split_off(1);
     second.push(4);
-    assert_eq!(rt; first.as_slice(), [1].as_slice());
+    assert!(rt; first.as_slice() == [1].as_slice());
     assert!(rt; first.is_full());
-    assert_eq!(rt; second.as_slice(), [2, 3, 4].as_slice());
+    assert!(rt; second.as_slice() == [2, 3, 4].as_slice());
     first[0] = 7;
-    assert_eq!(rt; slots, [7, 2, 3, 4]);
+    assert!(rt; slots == [7, 2, 3, 4]);
 }
 
 #[test]
@@ -33,11 +33,11 @@ fn split_off_everything(rt: HostRuntime) {
     let mut slots = [1, 2];
     let mut first = SliceVec::from_slice_len(&mut slots, 2);
     let second = first.split_off(0);
-    assert_eq!(rt; first.capacity(), 0);
+    assert!(rt; first.capacity() == 0);
     assert!(rt; first.is_full());
-    assert_eq!(rt; second.as_slice(), [1, 2].as_slice());
+    assert!(rt; second.as_slice() == [1, 2].as_slice());
     assert!(rt; SliceVec::try_from_slice_len(&mut slots, 3).is_none());
-    assert_eq!(rt; slots, [1, 2]);
+    assert!(rt; slots == [1, 2]);
 }
 
 #[test]
@@ -45,10 +45,10 @@ fn split_off_nothing(rt: HostRuntime) {
     let mut slots = [1, 2, 9];
     let mut first = SliceVec::from_slice_len(&mut slots, 2);
     let mut second = first.split_off(2);
-    assert_eq!(rt; first.as_slice(), [1, 2].as_slice());
+    assert!(rt; first.as_slice() == [1, 2].as_slice());
     assert!(rt; first.is_full());
     assert!(rt; second.is_empty());
-    assert_eq!(rt; second.grab_spare_slice(), [9].as_slice());
+    assert!(rt; second.grab_spare_slice() == [9].as_slice());
     second.push(3);
-    assert_eq!(rt; slots, [1, 2, 3]);
+    assert!(rt; slots == [1, 2, 3]);
 }

@@ -6,18 +6,18 @@ use tinyvec_slice::SliceVec;
 fn of_the_first_slots(rt: HostRuntime) {
     let mut slots = [1, 2, 3];
     let vec = SliceVec::from_slice_len(&mut slots, 2);
-    assert_eq!(rt; vec.len(), 2);
-    assert_eq!(rt; vec.capacity(), 3);
+    assert!(rt; vec.len() == 2);
+    assert!(rt; vec.capacity() == 3);
     assert!(rt; !vec.is_full());
     assert!(rt; !vec.is_empty());
-    assert_eq!(rt; vec.as_slice(), [1, 2].as_slice());
-    assert_eq!(rt; AsSlice::as_slice(&vec), [1, 2].as_slice());
-    assert_eq!(rt; vec.grab_spare_slice(), [3].as_slice());
-    assert_eq!(rt; vec.as_inner(), [1, 2, 3].as_slice());
-    assert_eq!(rt; vec[1], 2);
+    assert!(rt; vec.as_slice() == [1, 2].as_slice());
+    assert!(rt; AsSlice::as_slice(&vec) == [1, 2].as_slice());
+    assert!(rt; vec.grab_spare_slice() == [3].as_slice());
+    assert!(rt; vec.as_inner() == [1, 2, 3].as_slice());
+    assert!(rt; vec[1] == 2);
     let none = SliceVec::from_slice_len(&mut slots, 0);
     assert!(rt; none.is_empty());
-    assert_eq!(rt; none.as_slice(), [].as_slice());
+    assert!(rt; none.as_slice() == [].as_slice());
 }
 
 #[test]
@@ -25,23 +25,23 @@ fn of_a_whole_slice(rt: HostRuntime) {
     let mut slots = [1, 2, 3];
     let vec = SliceVec::from(slots.as_mut_slice());
     assert!(rt; vec.is_full());
-    assert_eq!(rt; vec.as_slice(), [1, 2, 3].as_slice());
+    assert!(rt; vec.as_slice() == [1, 2, 3].as_slice());
     let mut array = [4, 5];
     let mut whole = SliceVec::from(&mut array);
-    assert_eq!(rt; whole.as_slice(), [4, 5].as_slice());
+    assert!(rt; whole.as_slice() == [4, 5].as_slice());
     whole[0] = 6;
-    assert_eq!(rt; array, [6, 5]);
+    assert!(rt; array == [6, 5]);
 }
 
 #[test]
 fn of_more_slots_than_there_are(rt: HostRuntime) {
     let mut slots = [1, 2];
     assert!(rt; SliceVec::try_from_slice_len(&mut slots, 3).is_none());
-    assert_eq!(rt; slots, [1, 2]);
+    assert!(rt; slots == [1, 2]);
     let Some(both) = SliceVec::try_from_slice_len(&mut slots, 2) else {
         panic!(&rt; "there are two slots");
     };
-    assert_eq!(rt; both.as_slice(), [1, 2].as_slice());
+    assert!(rt; both.as_slice() == [1, 2].as_slice());
 }
 
 #[test]
@@ -49,8 +49,8 @@ fn over_no_slots(rt: HostRuntime) {
     let mut vec: SliceVec<'_, i32> = SliceVec::default();
     assert!(rt; vec.is_empty());
     assert!(rt; vec.is_full());
-    assert_eq!(rt; vec.capacity(), 0);
-    assert_eq!(rt; vec.pop(), None);
+    assert!(rt; vec.capacity() == 0);
+    assert!(rt; vec.pop() == None);
     vec.truncate(0);
     vec.clear();
     vec.set_len(0);

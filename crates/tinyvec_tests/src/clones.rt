@@ -51,36 +51,30 @@ fn three(alloc: Global) -> TinyVec<[Item; 4]> {
 fn clone_refused(rt: HostRuntime) {
     let v = TinyVec::from_array_len(rt.alloc(), [Item(1), Item(99)], 1);
     // The spare slots are cloned too.
-    assert_eq!(rt; v.clone().err(), Some(AllocError));
+    assert!(rt; v.clone().err() == Some(AllocError));
     let refused = TinyVec::<[Item; 4]>::from_slice(rt.alloc(), &[Item(1), Item(99)]);
-    assert_eq!(rt; refused.err(), Some(AllocError));
+    assert!(rt; refused.err() == Some(AllocError));
 }
 
 #[test]
 fn extend_from_slice_refused(rt: HostRuntime) {
     let mut v = three(rt.alloc());
-    assert_eq!(rt; v.extend_from_slice(&[Item(99)]), Err(AllocError));
+    assert!(rt; v.extend_from_slice(&[Item(99)]) == Err(AllocError));
     assert!(rt; v.is_inline());
-    assert_eq!(rt; v.as_slice(), [Item(1), Item(2), Item(3)].as_slice());
+    assert!(rt; v.as_slice() == [Item(1), Item(2), Item(3)].as_slice());
     // The room was granted before the clone was refused.
-    assert_eq!(rt; v.extend_from_slice(&[Item(5), Item(99)]), Err(AllocError));
-    assert_eq!(rt; v.as_slice(), [Item(1), Item(2), Item(3)].as_slice());
+    assert!(rt; v.extend_from_slice(&[Item(5), Item(99)]) == Err(AllocError));
+    assert!(rt; v.as_slice() == [Item(1), Item(2), Item(3)].as_slice());
     assert!(rt; v.is_heap(), "memory was granted");
 }
 
 #[test]
 fn clones_made_before_a_refused_one(rt: HostRuntime) {
     let mut v = TinyVec::from_array_len(rt.alloc(), [Item(1), Item(0), Item(0), Item(0)], 1);
-    assert_eq!(rt;
-        v.extend_from_slice(&[Item(2), Item(3), Item(99)]),
-        Err(AllocError)
-    );
+    assert!(rt; v.extend_from_slice(&[Item(2), Item(3), Item(99)]) == Err(AllocError));
     match &v {
         TinyVec::Inline(v, _) => {
-            assert_eq!(rt;
-                v.grab_spare_slice(),
-                [Item(2), Item(3), Item(0)].as_slice()
-            );
+            assert!(rt; v.grab_spare_slice() == [Item(2), Item(3), Item(0)].as_slice());
         }
         TinyVec::Heap(_) => panic!(rt; "there was room"),
     }
@@ -89,13 +83,13 @@ fn clones_made_before_a_refused_one(rt: HostRuntime) {
 #[test]
 fn resize_refused(rt: HostRuntime) {
     let mut v = three(rt.alloc());
-    assert_eq!(rt; v.resize(4, Item(99)), Err(NoMemory(Item(99))));
+    assert!(rt; v.resize(4, Item(99)) == Err(NoMemory(Item(99))));
     assert!(rt; v.is_inline());
-    assert_eq!(rt; v.resize(6, Item(99)), Err(NoMemory(Item(99))));
-    assert_eq!(rt; v.as_slice(), [Item(1), Item(2), Item(3)].as_slice());
+    assert!(rt; v.resize(6, Item(99)) == Err(NoMemory(Item(99))));
+    assert!(rt; v.as_slice() == [Item(1), Item(2), Item(3)].as_slice());
     assert!(rt; v.is_heap(), "memory was granted");
     assert!(rt; v.resize(2, Item(99)).is_ok());
-    assert_eq!(rt; v.as_slice(), [Item(1), Item(2)].as_slice());
+    assert!(rt; v.as_slice() == [Item(1), Item(2)].as_slice());
 }
 
 #[test]
@@ -103,12 +97,12 @@ fn clone_from_refused(rt: HostRuntime) -> Result<(), Fail> {
     // Among the first, of a shorter source.
     let mut v = three(rt.alloc());
     let source = TinyVec::from_array_len(rt.alloc(), [Item(7), Item(99), Item(6), Item(6)], 2);
-    assert_eq!(rt; v.clone_from(&source), Err(AllocError));
+    assert!(rt; v.clone_from(&source) == Err(AllocError));
     assert!(rt; v.is_inline());
-    assert_eq!(rt; v.as_slice(), [Item(7), Item(2)].as_slice());
+    assert!(rt; v.as_slice() == [Item(7), Item(2)].as_slice());
     match &v {
         TinyVec::Inline(v, _) => {
-            assert_eq!(rt; v.grab_spare_slice(), [Item(0), Item(4)].as_slice());
+            assert!(rt; v.grab_spare_slice() == [Item(0), Item(4)].as_slice());
         }
         TinyVec::Heap(_) => panic!(rt; "there was room"),
     }
@@ -120,13 +114,13 @@ fn clone_from_refused(rt: HostRuntime) -> Result<(), Fail> {
     if source.len() == 5 {
         source[1] = Item(99);
     }
-    assert_eq!(rt; v.clone_from(&source), Err(AllocError));
-    assert_eq!(rt; v.as_slice(), [Item(1), Item(2), Item(3)].as_slice());
+    assert!(rt; v.clone_from(&source) == Err(AllocError));
+    assert!(rt; v.as_slice() == [Item(1), Item(2), Item(3)].as_slice());
     assert!(rt; v.is_heap(), "memory was granted");
     // Behind them.
     let mut v = TinyVec::from_array_len(rt.alloc(), [Item(8), Item(0), Item(0), Item(0)], 1);
-    assert_eq!(rt; v.clone_from(&source), Err(AllocError));
+    assert!(rt; v.clone_from(&source) == Err(AllocError));
     assert!(rt; v.is_heap(), "memory was granted");
-    assert_eq!(rt; v.as_slice(), [Item(1)].as_slice());
+    assert!(rt; v.as_slice() == [Item(1)].as_slice());
     Ok(())
 }

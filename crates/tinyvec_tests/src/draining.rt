@@ -34,9 +34,9 @@ fn drains<R: RangeBounds<usize>>(
     for item in v.drain(range) {
         assert!(rt; drained.try_push(item).is_none());
     }
-    assert_eq!(rt; drained.as_slice(), given);
+    assert!(rt; drained.as_slice() == given);
     assert!(rt; lies(&v, left, inline));
-    assert_eq!(rt; v.capacity(), room);
+    assert!(rt; v.capacity() == room);
     Ok(())
 }
 
@@ -77,7 +77,7 @@ fn ranges_with_both_ends(rt: HostRuntime) -> Result<(), Fail> {
 fn passed_over(rt: HostRuntime) {
     let mut v = TinyVec::from_array(rt.alloc(), [1, 2, 3, 4]);
     let mut d = v.drain(1..3);
-    assert_eq!(rt; d.nth(1), Some(3));
+    assert!(rt; d.nth(1) == Some(3));
     drop(d);
     assert!(rt; lies(&v, &[1, 4], true));
     assert!(rt; spares(&v, &[0, 0]));
@@ -102,17 +102,17 @@ fn from_both_ends_to_none(rt: HostRuntime) -> Result<(), Fail> {
         panic!(rt; "there are eight items");
     }
     let mut d = v.drain(1..);
-    assert_eq!(rt; d.len(), 7);
-    assert_eq!(rt; d.size_hint(), (7, Some(7)));
-    assert_eq!(rt; d.next(), Some(1));
-    assert_eq!(rt; d.next_back(), Some(7));
-    assert_eq!(rt; d.nth(1), Some(3));
-    assert_eq!(rt; d.nth_back(1), Some(5));
-    assert_eq!(rt; d.len(), 1);
-    assert_eq!(rt; d.next_back(), Some(4));
-    assert_eq!(rt; d.next(), None);
-    assert_eq!(rt; d.next_back(), None);
-    assert_eq!(rt; d.size_hint(), (0, Some(0)));
+    assert!(rt; d.len() == 7);
+    assert!(rt; d.size_hint() == (7, Some(7)));
+    assert!(rt; d.next() == Some(1));
+    assert!(rt; d.next_back() == Some(7));
+    assert!(rt; d.nth(1) == Some(3));
+    assert!(rt; d.nth_back(1) == Some(5));
+    assert!(rt; d.len() == 1);
+    assert!(rt; d.next_back() == Some(4));
+    assert!(rt; d.next() == None);
+    assert!(rt; d.next_back() == None);
+    assert!(rt; d.size_hint() == (0, Some(0)));
     drop(d);
     assert!(rt; lies(&v, &[0], false));
     Ok(())
@@ -121,9 +121,9 @@ fn from_both_ends_to_none(rt: HostRuntime) -> Result<(), Fail> {
 #[test]
 fn last_and_count(rt: HostRuntime) {
     let mut v = TinyVec::from_array(rt.alloc(), [1, 2, 3, 4]);
-    assert_eq!(rt; v.drain(1..3).last(), Some(3));
+    assert!(rt; v.drain(1..3).last() == Some(3));
     assert!(rt; lies(&v, &[1, 4], true));
-    assert_eq!(rt; v.drain(..).count(), 2);
+    assert!(rt; v.drain(..).count() == 2);
     assert!(rt; lies(&v, &[], true));
 }
 
@@ -132,6 +132,6 @@ fn forgotten(rt: HostRuntime) {
     let mut v = TinyVec::from_array(rt.alloc(), [1, 2, 3, 4]);
     mem::forget(v.drain(1..3));
     assert!(rt; v.is_inline());
-    assert_eq!(rt; v.capacity(), 4);
-    assert_eq!(rt; v.as_slice().first(), Some(&1));
+    assert!(rt; v.capacity() == 4);
+    assert!(rt; v.as_slice().first() == Some(&1));
 }

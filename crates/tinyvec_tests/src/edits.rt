@@ -13,10 +13,10 @@ fn pushed_past_the_array(rt: HostRuntime) {
     assert!(rt; v.push(3).is_ok(), "memory was granted");
     assert!(rt; lies(&v, &[1, 2, 3], false));
     assert!(rt; v.capacity() >= 4);
-    assert_eq!(rt; v.pop(), Some(3));
-    assert_eq!(rt; v.pop(), Some(2));
-    assert_eq!(rt; v.pop(), Some(1));
-    assert_eq!(rt; v.pop(), None);
+    assert!(rt; v.pop() == Some(3));
+    assert!(rt; v.pop() == Some(2));
+    assert!(rt; v.pop() == Some(1));
+    assert!(rt; v.pop() == None);
     assert!(rt; lies(&v, &[], false));
     let mut none: TinyVec<[i32; 0]> = TinyVec::new(rt.alloc());
     assert!(rt; none.push(5).is_ok(), "memory was granted");
@@ -26,7 +26,7 @@ fn pushed_past_the_array(rt: HostRuntime) {
 #[test]
 fn popped_inline(rt: HostRuntime) {
     let mut v = TinyVec::from_array_len(rt.alloc(), [1, 2, 9], 2);
-    assert_eq!(rt; v.pop(), Some(2));
+    assert!(rt; v.pop() == Some(2));
     assert!(rt; lies(&v, &[1], true));
     assert!(rt; spares(&v, &[0, 9]));
 }
@@ -59,11 +59,11 @@ fn swap_remove<const N: usize>(v: &mut TinyVec<[i32; N]>, index: usize) -> Optio
 #[test]
 fn removed(rt: HostRuntime) -> Result<(), Fail> {
     let mut v = TinyVec::from_array_len(rt.alloc(), [1, 2, 3, 9], 3);
-    assert_eq!(rt; remove(&mut v, 1), Some(2));
+    assert!(rt; remove(&mut v, 1) == Some(2));
     assert!(rt; lies(&v, &[1, 3], true));
     assert!(rt; spares(&v, &[0, 9]));
     let mut heap: TinyVec<[i32; 2]> = TinyVec::from_slice(rt.alloc(), &[1, 2, 3])?;
-    assert_eq!(rt; remove(&mut heap, 0), Some(1));
+    assert!(rt; remove(&mut heap, 0) == Some(1));
     assert!(rt; lies(&heap, &[2, 3], false));
     Ok(())
 }
@@ -77,11 +77,11 @@ fn swap_removed(rt: HostRuntime) -> Result<(), Fail> {
         (0, 3, [2].as_slice()),
         (0, 2, [].as_slice()),
     ] {
-        assert_eq!(rt; swap_remove(&mut v, index), Some(item));
+        assert!(rt; swap_remove(&mut v, index) == Some(item));
         assert!(rt; lies(&v, left, true));
     }
     let mut heap: TinyVec<[i32; 1]> = TinyVec::from_slice(rt.alloc(), &[1, 2, 3])?;
-    assert_eq!(rt; swap_remove(&mut heap, 0), Some(1));
+    assert!(rt; swap_remove(&mut heap, 0) == Some(1));
     assert!(rt; lies(&heap, &[3, 2], false));
     Ok(())
 }
@@ -148,8 +148,8 @@ fn cut_inline(rt: HostRuntime) -> Result<(), Fail> {
 fn written(rt: HostRuntime) {
     let mut v = TinyVec::from_array_len(rt.alloc(), [1, 2, 3, 9], 3);
     v[1] = 7;
-    assert_eq!(rt; v[1], 7);
-    assert_eq!(rt; v[0], 1);
+    assert!(rt; v[1] == 7);
+    assert!(rt; v[0] == 1);
     v.as_mut_slice()[0] = 8;
     assert!(rt; lies(&v, &[8, 7, 3], true));
     assert!(rt; spares(&v, &[9]));
@@ -161,7 +161,7 @@ fn written_on_the_heap(rt: HostRuntime) -> Result<(), Fail> {
     if v.len() == 2 {
         v[1] = 7;
         v.as_mut_slice()[0] = 8;
-        assert_eq!(rt; v[0], 8);
+        assert!(rt; v[0] == 8);
     }
     assert!(rt; lies(&v, &[8, 7], false));
     Ok(())

@@ -25,7 +25,7 @@ fn negated(rt: HostRuntime) -> Result<(), Fail> {
     for x in &heap {
         sum = sum.wrapping_add(*x);
     }
-    assert_eq!(rt; sum, -60);
+    assert!(rt; sum == -60);
     assert!(rt; heap.iter().zip(&inline).all(|(a, b)| a == b));
     Ok(())
 }
@@ -36,18 +36,18 @@ fn both_ends(rt: HostRuntime) -> Result<(), Fail> {
         let mut v = listed(rt.alloc(), &[1, 2, 3, 4])?;
         v.extend_from_slice(more)?;
         v.truncate(4);
-        assert_eq!(rt; v.is_inline(), more.is_empty());
+        assert!(rt; v.is_inline() == more.is_empty());
         let mut items = v.into_iter();
-        assert_eq!(rt; items.len(), 4);
-        assert_eq!(rt; items.next(), Some(1));
-        assert_eq!(rt; items.next_back(), Some(4));
-        assert_eq!(rt; items.as_slice(), [2, 3].as_slice());
-        assert_eq!(rt; items.size_hint(), (2, Some(2)));
-        assert_eq!(rt; items.next(), Some(2));
-        assert_eq!(rt; items.next_back(), Some(3));
-        assert_eq!(rt; items.next(), None);
-        assert_eq!(rt; items.next_back(), None);
-        assert_eq!(rt; items.len(), 0);
+        assert!(rt; items.len() == 4);
+        assert!(rt; items.next() == Some(1));
+        assert!(rt; items.next_back() == Some(4));
+        assert!(rt; items.as_slice() == [2, 3].as_slice());
+        assert!(rt; items.size_hint() == (2, Some(2)));
+        assert!(rt; items.next() == Some(2));
+        assert!(rt; items.next_back() == Some(3));
+        assert!(rt; items.next() == None);
+        assert!(rt; items.next_back() == None);
+        assert!(rt; items.len() == 0);
     }
     Ok(())
 }
@@ -58,29 +58,26 @@ fn skips_from_the_back(rt: HostRuntime) {
         panic!(rt; "memory was granted");
     };
     let mut items = vec.into_iter();
-    assert_eq!(rt; items.nth_back(0), Some(31));
-    assert_eq!(rt; items.nth_back(2), Some(28));
-    assert_eq!(rt; items.nth_back(0), Some(27));
-    assert_eq!(rt; items.nth_back(99), None);
-    assert_eq!(rt; items.nth_back(99), None);
+    assert!(rt; items.nth_back(0) == Some(31));
+    assert!(rt; items.nth_back(2) == Some(28));
+    assert!(rt; items.nth_back(0) == Some(27));
+    assert!(rt; items.nth_back(99) == None);
+    assert!(rt; items.nth_back(99) == None);
 }
 
 #[test]
 fn last_and_count(rt: HostRuntime) -> Result<(), Fail> {
     let mut items = listed(rt.alloc(), &[1, 2, 3, 4])?.into_iter();
-    assert_eq!(rt; items.nth(3), Some(4));
-    assert_eq!(rt; items.next(), None);
-    assert_eq!(rt; items.last(), None);
-    assert_eq!(rt; listed(rt.alloc(), &[1, 2, 3])?.into_iter().next(), Some(1));
-    assert_eq!(rt; listed(rt.alloc(), &[1, 2, 3])?.into_iter().last(), Some(3));
-    assert_eq!(rt;
-        listed(rt.alloc(), &[1, 2, 3, 4, 5])?.into_iter().count(),
-        5
-    );
+    assert!(rt; items.nth(3) == Some(4));
+    assert!(rt; items.next() == None);
+    assert!(rt; items.last() == None);
+    assert!(rt; listed(rt.alloc(), &[1, 2, 3])?.into_iter().next() == Some(1));
+    assert!(rt; listed(rt.alloc(), &[1, 2, 3])?.into_iter().last() == Some(3));
+    assert!(rt; listed(rt.alloc(), &[1, 2, 3, 4, 5])?.into_iter().count() == 5);
     let gathered: Vec<i32> = listed(rt.alloc(), &[1, 2, 3])?
         .into_iter()
         .rev()
         .collect(rt.alloc())?;
-    assert_eq!(rt; gathered.as_slice(), [3, 2, 1].as_slice());
+    assert!(rt; gathered.as_slice() == [3, 2, 1].as_slice());
     Ok(())
 }

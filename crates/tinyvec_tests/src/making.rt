@@ -9,7 +9,7 @@ fn empty(rt: HostRuntime) -> Result<(), Fail> {
     let new: TinyVec<[i32; 4]> = TinyVec::new(rt.alloc());
     assert!(rt; lies(&new, &[], true));
     assert!(rt; spares(&new, &[0, 0, 0, 0]));
-    assert_eq!(rt; new.capacity(), 4);
+    assert!(rt; new.capacity() == 4);
     let four: TinyVec<[i32; 4]> = TinyVec::with_capacity(rt.alloc(), 4)?;
     assert!(rt; lies(&four, &[], true));
     let five: TinyVec<[i32; 4]> = TinyVec::with_capacity(rt.alloc(), 5)?;
@@ -17,20 +17,20 @@ fn empty(rt: HostRuntime) -> Result<(), Fail> {
     assert!(rt; five.capacity() >= 5);
     let none: TinyVec<[i32; 0]> = TinyVec::new(rt.alloc());
     assert!(rt; lies(&none, &[], true));
-    assert_eq!(rt; none.capacity(), 0);
+    assert!(rt; none.capacity() == 0);
     Ok(())
 }
 
 #[test]
 fn room_that_no_allocator_grants(rt: HostRuntime) {
     let refused = TinyVec::<[i32; 4]>::with_capacity(rt.alloc(), 1 << 60);
-    assert_eq!(rt; refused.err(), Some(AllocError));
+    assert!(rt; refused.err() == Some(AllocError));
     let refused = TinyVec::<[i32; 4]>::with_initial_len(rt.alloc(), 1 << 60);
-    assert_eq!(rt; refused.err(), Some(AllocError));
+    assert!(rt; refused.err() == Some(AllocError));
     let refused = TinyVec::<[i32; 4]>::with_capacity(rt.alloc(), usize::MAX);
-    assert_eq!(rt; refused.err(), Some(AllocError));
+    assert!(rt; refused.err() == Some(AllocError));
     let refused = TinyVec::<[i32; 4]>::with_initial_len(rt.alloc(), usize::MAX);
-    assert_eq!(rt; refused.err(), Some(AllocError));
+    assert!(rt; refused.err() == Some(AllocError));
 }
 
 #[test]
@@ -63,17 +63,17 @@ fn arrays(rt: HostRuntime) {
         Err(_) => panic!(rt; "there are as many slots"),
     }
     let back = TinyVec::try_from_array_len(rt.alloc(), [1, 2, 3], 4).err();
-    assert_eq!(rt; back, Some([1, 2, 3]));
+    assert!(rt; back == Some([1, 2, 3]));
 }
 
 #[test]
 fn slices(rt: HostRuntime) -> Result<(), Fail> {
     let long: TinyVec<[u8; 10]> = TinyVec::from_slice(rt.alloc(), &[7; 11])?;
     assert!(rt; long.is_heap());
-    assert_eq!(rt; long.as_slice(), [7; 11].as_slice());
+    assert!(rt; long.as_slice() == [7; 11].as_slice());
     let short: TinyVec<[u8; 10]> = TinyVec::from_slice(rt.alloc(), b"inner")?;
     assert!(rt; short.is_inline());
-    assert_eq!(rt; short.as_slice(), b"inner".as_slice());
+    assert!(rt; short.as_slice() == b"inner".as_slice());
     let full: TinyVec<[i32; 4]> = TinyVec::from_slice(rt.alloc(), &[1, 2, 3, 4])?;
     assert!(rt; lies(&full, &[1, 2, 3, 4], true));
     let three: TinyVec<[i32; 2]> = TinyVec::from_slice(rt.alloc(), &[1, 2, 3])?;
@@ -103,11 +103,11 @@ fn many_slots(rt: HostRuntime) {
     let mut v: TinyVec<[u8; 65536]> = TinyVec::new(rt.alloc());
     assert!(rt; v.resize(65536, 7).is_ok());
     assert!(rt; v.is_inline());
-    assert_eq!(rt; v.len(), 65536);
+    assert!(rt; v.len() == 65536);
     assert!(rt; v.push(8).is_ok(), "memory was granted");
     assert!(rt; v.is_heap());
-    assert_eq!(rt; v.len(), 65537);
-    assert_eq!(rt; v.pop(), Some(8));
+    assert!(rt; v.len() == 65537);
+    assert!(rt; v.pop() == Some(8));
     assert!(rt; v.iter().all(|x| *x == 7));
 }
 
@@ -115,7 +115,7 @@ fn many_slots(rt: HostRuntime) {
 fn many_slots_there_and_back(rt: HostRuntime) -> Result<(), Fail> {
     let mut v: TinyVec<[u8; 65536]> = TinyVec::with_capacity(rt.alloc(), 65536)?;
     assert!(rt; v.is_inline());
-    assert_eq!(rt; v.capacity(), 65536);
+    assert!(rt; v.capacity() == 65536);
     v.move_to_the_heap()?;
     match v.resize(65536, 7) {
         Ok(()) => {}
@@ -124,7 +124,7 @@ fn many_slots_there_and_back(rt: HostRuntime) -> Result<(), Fail> {
     assert!(rt; v.is_heap());
     v.shrink_to_fit();
     assert!(rt; v.is_inline());
-    assert_eq!(rt; v.len(), 65536);
+    assert!(rt; v.len() == 65536);
     assert!(rt; v.iter().all(|x| *x == 7));
     Ok(())
 }

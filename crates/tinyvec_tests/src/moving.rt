@@ -45,7 +45,7 @@ fn back_once_it_fits(rt: HostRuntime) -> Result<(), Fail> {
     v.shrink_to_fit();
     assert!(rt; lies(&v, &[1, 2, 3], false));
     assert!(rt; v.capacity() < 103, "memory was granted");
-    assert_eq!(rt; v.pop(), Some(3));
+    assert!(rt; v.pop() == Some(3));
     assert!(rt; lies(&v, &[1, 2], false));
     v.shrink_to_fit();
     assert!(rt; lies(&v, &[1, 2], true));
@@ -58,8 +58,8 @@ fn back_once_it_fits(rt: HostRuntime) -> Result<(), Fail> {
 fn refused(rt: HostRuntime) {
     let mut v = TinyVec::from_array_len(rt.alloc(), [1, 7, 7], 1);
     for n in [usize::MAX, 1 << 60] {
-        assert_eq!(rt; v.move_to_the_heap_and_reserve(n), Err(AllocError));
-        assert_eq!(rt; v.try_move_to_the_heap_and_reserve(n), Err(AllocError));
+        assert!(rt; v.move_to_the_heap_and_reserve(n) == Err(AllocError));
+        assert!(rt; v.try_move_to_the_heap_and_reserve(n) == Err(AllocError));
         assert!(rt; lies(&v, &[1], true));
         assert!(rt; spares(&v, &[7, 7]));
     }
@@ -70,9 +70,9 @@ fn refused_on_the_heap(rt: HostRuntime) -> Result<(), Fail> {
     let mut v = TinyVec::from_array_len(rt.alloc(), [1, 7, 7], 1);
     v.move_to_the_heap()?;
     let capacity = v.capacity();
-    assert_eq!(rt; v.move_to_the_heap_and_reserve(usize::MAX), Err(AllocError));
+    assert!(rt; v.move_to_the_heap_and_reserve(usize::MAX) == Err(AllocError));
     assert!(rt; lies(&v, &[1], false));
-    assert_eq!(rt; v.capacity(), capacity);
+    assert!(rt; v.capacity() == capacity);
     Ok(())
 }
 
@@ -82,16 +82,16 @@ fn given_up(rt: HostRuntime) -> Result<(), Fail> {
     let Ok(vec) = inline.into_vec() else {
         panic!(rt; "memory was granted");
     };
-    assert_eq!(rt; vec.as_slice(), [1, 2].as_slice());
+    assert!(rt; vec.as_slice() == [1, 2].as_slice());
     let heap: TinyVec<[i32; 2]> = TinyVec::from_slice(rt.alloc(), &[1, 2, 3])?;
     let Ok(vec) = heap.into_vec() else {
         panic!(rt; "it takes no memory");
     };
-    assert_eq!(rt; vec.as_slice(), [1, 2, 3].as_slice());
+    assert!(rt; vec.as_slice() == [1, 2, 3].as_slice());
     let inline = TinyVec::from_array(rt.alloc(), [1, 2]).into_boxed_slice()?;
-    assert_eq!(rt; inline.as_slice(), [1, 2].as_slice());
+    assert!(rt; inline.as_slice() == [1, 2].as_slice());
     let heap: TinyVec<[i32; 1]> = TinyVec::from_slice(rt.alloc(), &[1, 2])?;
     let boxed = heap.into_boxed_slice()?;
-    assert_eq!(rt; boxed.as_slice(), [1, 2].as_slice());
+    assert!(rt; boxed.as_slice() == [1, 2].as_slice());
     Ok(())
 }

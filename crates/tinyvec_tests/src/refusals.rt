@@ -68,9 +68,9 @@ fn from_iter(rt: HostRuntime) -> Result<(), Fail> {
             },
         ) => {
             assert!(rt; lies(&vec, &[1, 2, 3], true));
-            assert_eq!(rt; item, 4);
-            assert_eq!(rt; rest.next(), Some(5));
-            assert_eq!(rt; rest.next(), None);
+            assert!(rt; item == 4);
+            assert!(rt; rest.next() == Some(5));
+            assert!(rt; rest.next() == None);
             refused(&rt)?;
         }
     }
@@ -81,7 +81,7 @@ fn from_iter(rt: HostRuntime) -> Result<(), Fail> {
 fn push(rt: HostRuntime) -> Result<(), Fail> {
     let mut v = full(rt.alloc());
     if let Err(NoMemory(item)) = v.push(4) {
-        assert_eq!(rt; item, 4);
+        assert!(rt; item == 4);
         assert!(rt; lies(&v, &[1, 2, 3], true));
         refused(&rt)?;
         assert!(rt; v.push(4).is_ok());
@@ -90,9 +90,9 @@ fn push(rt: HostRuntime) -> Result<(), Fail> {
     let mut heap = on_the_heap(rt.alloc())?;
     let room = heap.capacity();
     if let Err(NoMemory(item)) = heap.push(5) {
-        assert_eq!(rt; item, 5);
+        assert!(rt; item == 5);
         assert!(rt; lies(&heap, &[1, 2, 3, 4], false));
-        assert_eq!(rt; heap.capacity(), room);
+        assert!(rt; heap.capacity() == room);
         refused(&rt)?;
         assert!(rt; heap.push(5).is_ok());
     }
@@ -104,7 +104,7 @@ fn push(rt: HostRuntime) -> Result<(), Fail> {
 fn insert(rt: HostRuntime) -> Result<(), Fail> {
     let mut v = full(rt.alloc());
     if let Err(NoMemory(item)) = v.insert(0, 4) {
-        assert_eq!(rt; item, 4);
+        assert!(rt; item == 4);
         assert!(rt; lies(&v, &[1, 2, 3], true));
         refused(&rt)?;
         assert!(rt; v.insert(0, 4).is_ok());
@@ -113,9 +113,9 @@ fn insert(rt: HostRuntime) -> Result<(), Fail> {
     let mut heap = on_the_heap(rt.alloc())?;
     let room = heap.capacity();
     if let Err(NoMemory(item)) = heap.insert(0, 5) {
-        assert_eq!(rt; item, 5);
+        assert!(rt; item == 5);
         assert!(rt; lies(&heap, &[1, 2, 3, 4], false));
-        assert_eq!(rt; heap.capacity(), room);
+        assert!(rt; heap.capacity() == room);
         refused(&rt)?;
         assert!(rt; heap.insert(0, 5).is_ok());
     }
@@ -160,7 +160,7 @@ fn append_a_heap_list(rt: HostRuntime) -> Result<(), Fail> {
             refused(&rt)?;
         }
     }
-    assert_eq!(rt; other.capacity(), room);
+    assert!(rt; other.capacity() == room);
     Ok(())
 }
 
@@ -176,7 +176,7 @@ fn append_on_the_heap(rt: HostRuntime) -> Result<(), Fail> {
         }
         Err(AllocError) => {
             assert!(rt; lies(&v, &[1, 2, 3, 4], false));
-            assert_eq!(rt; v.capacity(), room);
+            assert!(rt; v.capacity() == room);
             assert!(rt; lies(&other, &[1, 2, 3, 4], false));
             refused(&rt)?;
         }
@@ -198,7 +198,7 @@ fn split_off(rt: HostRuntime) -> Result<(), Fail> {
         }
         Err(AllocError) => {
             assert!(rt; lies(&v, &[1, 2, 3, 4], false));
-            assert_eq!(rt; v.capacity(), room);
+            assert!(rt; v.capacity() == room);
             refused(&rt)?;
         }
     }
@@ -222,7 +222,7 @@ fn extend_from_slice(rt: HostRuntime) -> Result<(), Fail> {
         Ok(()) => assert!(rt; lies(&heap, &[1, 2, 3, 4, 5, 6], false)),
         Err(AllocError) => {
             assert!(rt; lies(&heap, &[1, 2, 3, 4], false));
-            assert_eq!(rt; heap.capacity(), room);
+            assert!(rt; heap.capacity() == room);
             refused(&rt)?;
         }
     }
@@ -237,9 +237,9 @@ fn extend(rt: HostRuntime) -> Result<(), Fail> {
         Err(NoRoom { item, mut rest }) => {
             // The first item found room in the array.
             assert!(rt; lies(&v, &[1, 2, 3], true));
-            assert_eq!(rt; item, 4);
-            assert_eq!(rt; rest.next(), Some(5));
-            assert_eq!(rt; rest.next(), None);
+            assert!(rt; item == 4);
+            assert!(rt; rest.next() == Some(5));
+            assert!(rt; rest.next() == None);
             refused(&rt)?;
         }
     }
@@ -255,9 +255,9 @@ fn extend_on_the_heap(rt: HostRuntime) -> Result<(), Fail> {
         Ok(()) => assert!(rt; lies(&v, &[1, 2, 3, 7, 8], false)),
         Err(NoRoom { item, mut rest }) => {
             assert!(rt; lies(&v, &[1, 2, 3, 7], false));
-            assert_eq!(rt; v.capacity(), room);
-            assert_eq!(rt; item, 8);
-            assert_eq!(rt; rest.next(), None);
+            assert!(rt; v.capacity() == room);
+            assert!(rt; item == 8);
+            assert!(rt; rest.next() == None);
             refused(&rt)?;
         }
     }
@@ -270,7 +270,7 @@ fn resize(rt: HostRuntime) -> Result<(), Fail> {
     match v.resize(5, 7) {
         Ok(()) => assert!(rt; lies(&v, &[1, 2, 7, 7, 7], false)),
         Err(NoMemory(item)) => {
-            assert_eq!(rt; item, 7);
+            assert!(rt; item == 7);
             assert!(rt; lies(&v, &[1, 2], true));
             assert!(rt; spares(&v, &[9]));
             refused(&rt)?;
@@ -281,9 +281,9 @@ fn resize(rt: HostRuntime) -> Result<(), Fail> {
     match heap.resize(6, 7) {
         Ok(()) => assert!(rt; lies(&heap, &[1, 2, 3, 4, 7, 7], false)),
         Err(NoMemory(item)) => {
-            assert_eq!(rt; item, 7);
+            assert!(rt; item == 7);
             assert!(rt; lies(&heap, &[1, 2, 3, 4], false));
-            assert_eq!(rt; heap.capacity(), room);
+            assert!(rt; heap.capacity() == room);
             refused(&rt)?;
         }
     }
@@ -307,7 +307,7 @@ fn resize_with(rt: HostRuntime) -> Result<(), Fail> {
         Ok(()) => assert!(rt; lies(&heap, &[1, 2, 3, 4, 7, 7], false)),
         Err(AllocError) => {
             assert!(rt; lies(&heap, &[1, 2, 3, 4], false));
-            assert_eq!(rt; heap.capacity(), room);
+            assert!(rt; heap.capacity() == room);
             refused(&rt)?;
         }
     }
@@ -346,7 +346,7 @@ fn grown(
     match answer {
         Ok(()) => assert!(rt; v.capacity() >= room),
         Err(AllocError) => {
-            assert_eq!(rt; v.capacity(), before);
+            assert!(rt; v.capacity() == before);
             refused(rt)?;
         }
     }
@@ -490,7 +490,7 @@ fn clone_from_on_the_heap(rt: HostRuntime) -> Result<(), Fail> {
         Ok(()) => assert!(rt; lies(&v, &[5, 6, 7, 8, 9], false)),
         Err(AllocError) => {
             assert!(rt; lies(&v, &[1, 2, 3, 4], false));
-            assert_eq!(rt; v.capacity(), room);
+            assert!(rt; v.capacity() == room);
             refused(&rt)?;
         }
     }
@@ -500,7 +500,7 @@ fn clone_from_on_the_heap(rt: HostRuntime) -> Result<(), Fail> {
 #[test]
 fn into_vec(rt: HostRuntime) -> Result<(), Fail> {
     match in_the_array(rt.alloc()).into_vec() {
-        Ok(vec) => assert_eq!(rt; vec.as_slice(), [1, 2].as_slice()),
+        Ok(vec) => assert!(rt; vec.as_slice() == [1, 2].as_slice()),
         Err(NoMemory(v)) => {
             assert!(rt; lies(&v, &[1, 2], true));
             assert!(rt; spares(&v, &[9]));
@@ -510,7 +510,7 @@ fn into_vec(rt: HostRuntime) -> Result<(), Fail> {
     let mut heap = on_the_heap(rt.alloc())?;
     heap.reserve(40)?;
     match heap.into_vec() {
-        Ok(vec) => assert_eq!(rt; vec.as_slice(), [1, 2, 3, 4].as_slice()),
+        Ok(vec) => assert!(rt; vec.as_slice() == [1, 2, 3, 4].as_slice()),
         Err(_) => panic!(rt; "it takes no memory"),
     }
     Ok(())
@@ -519,13 +519,13 @@ fn into_vec(rt: HostRuntime) -> Result<(), Fail> {
 #[test]
 fn into_boxed_slice(rt: HostRuntime) -> Result<(), Fail> {
     match in_the_array(rt.alloc()).into_boxed_slice() {
-        Ok(boxed) => assert_eq!(rt; boxed.as_slice(), [1, 2].as_slice()),
+        Ok(boxed) => assert!(rt; boxed.as_slice() == [1, 2].as_slice()),
         Err(AllocError) => refused(&rt)?,
     }
     let mut heap = on_the_heap(rt.alloc())?;
     heap.reserve(40)?;
     match heap.into_boxed_slice() {
-        Ok(boxed) => assert_eq!(rt; boxed.as_slice(), [1, 2, 3, 4].as_slice()),
+        Ok(boxed) => assert!(rt; boxed.as_slice() == [1, 2, 3, 4].as_slice()),
         Err(_) => panic!(rt; "it is refused none"),
     }
     Ok(())
@@ -571,11 +571,11 @@ fn append_what_owns(rt: HostRuntime) -> Result<(), Fail> {
     match v.append(&mut other) {
         Ok(()) => {
             assert!(rt; other.is_empty());
-            assert_eq!(rt; v.pop(), Some(None));
+            assert!(rt; v.pop() == Some(None));
             assert!(rt; holds(v.as_slice(), &[1, 2, 3]));
         }
         Err(AllocError) => {
-            assert_eq!(rt; other.pop(), Some(None));
+            assert!(rt; other.pop() == Some(None));
             assert!(rt; holds(other.as_slice(), &[3]));
             assert!(rt; v.is_inline());
             assert!(rt; holds(v.as_slice(), &[1, 2]));
