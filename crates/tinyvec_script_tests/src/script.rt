@@ -168,22 +168,6 @@ fn a_write_that_fails_after_each_byte(rt: HostRuntime) -> Result<(), Fail> {
 }
 
 #[test]
-fn the_answers_to_a_chunk_go_out_in_few_writes(rt: HostRuntime) -> Result<(), Fail> {
-    let mut input = Vec::with_capacity(rt.alloc(), ROOM)?;
-    for _line in 0..1000 {
-        input.extend_from_slice(b"A pop\n")?;
-    }
-    let mut reader = Counted::new(input.as_slice());
-    let mut writer = Counted::new(Fills::new(Vec::with_capacity(rt.alloc(), ROOM)?, usize::MAX));
-    run(rt.alloc(), &mut reader, &mut writer)?;
-    let writer = writer.into_inner();
-    // 6000 bytes are two chunks of 4 KiB, and 21000 bytes of answers.
-    assert_eq!(rt; writer.taken.len(), 21000);
-    assert_eq!(rt; writer.writes, 2);
-    Ok(())
-}
-
-#[test]
 fn the_texts_of_the_errors(rt: HostRuntime) -> Result<(), Fail> {
     let texts = [
         (RunError::Read, "cannot read input"),
