@@ -7,3 +7,4 @@ pub mod Written
 pub mod DrivingLemmas
 pub mod SpliceText
 pub mod PlaceLemmas
+pub mod WrongRuns

@@ -30,32 +30,38 @@ module _ {T : Type 0} (D : T → Type 0) (slots : ℕ) where
     pub kept : Inline old → new ≡ old
     pub spare_are : lies_inline old.place ≡ false → Inline new → AreDefaults D (slots - count old) new.spare
 
-  -- From the old value the call may be answered so, and leave the new value. Want of memory is a case of its own: `Memory`
-  -- only where there is no such room, for the move of an inline list to the heap, or for the items of a drain.
-  abbrev pub TinyStep : Tiny T → Call T → Answer T → Tiny T → Type 0
-  TinyStep old (Push x) answers.Done new = (new.items ≡ old.items ++ x ∷ []) × Ruled D slots (count old + 1) old new
-  TinyStep old (Push x) answers.Memory new = (count old ≡ room slots old.place) × (new ≡ old)
-  TinyStep old Pop (answers.Some x) new = (old.items ≡ new.items ++ x ∷ []) × Ruled D slots 0 old new
-  TinyStep old Pop answers.None new = (old.items ≡ []) × (new ≡ old)
-  TinyStep old (Insert i x) answers.Done new = (i ≤ count old) × (new.items ≡ insert old.items i x) × Ruled D slots (count old + 1) old new
-  TinyStep old (Insert i x) answers.Range new = (count old < i) × (new ≡ old)
-  TinyStep old (Insert i x) answers.Memory new = (i ≤ count old) × (count old ≡ room slots old.place) × (new ≡ old)
-  TinyStep old (Remove i) (answers.Some x) new = (slice_get old.items i ≡ Some x) × (new.items ≡ remove old.items i) × Ruled D slots 0 old new
-  TinyStep old (Remove i) answers.Range new = (count old ≤ i) × (new ≡ old)
-  TinyStep old (SwapRemove i) (answers.Some x) new = (slice_get old.items i ≡ Some x) × (new.items ≡ swap_remove old.items i x) × Ruled D slots 0 old new
-  TinyStep old (SwapRemove i) answers.Range new = (count old ≤ i) × (new ≡ old)
-  TinyStep old (Truncate n) answers.Done new = (new.items ≡ take n old.items) × Ruled D slots 0 old new
-  TinyStep old (Drain start end) answers.Range new = (IsRangeOf old.items (Included start) (Excluded end) → ⊥) × (new ≡ old)
-  TinyStep old (Drain start end) answers.Memory new = IsRangeOf old.items (Included start) (Excluded end) × (start < end) × (new ≡ old)
-  TinyStep old (Drain start end) (answers.Items given) new = IsRangeOf old.items (Included start) (Excluded end)
+  -- From the old value the call may be answered so, and leave the new value, if that fits. Want of memory is a case of its
+  -- own: `Memory` only where there is no such room, for the move of an inline list to the heap, or for the items of a drain.
+  abbrev pub TinyAnswers : Tiny T → Call T → Answer T → Tiny T → Type 0
+  TinyAnswers old (Push x) answers.Done new = (new.items ≡ old.items ++ x ∷ []) × Ruled D slots (count old + 1) old new
+  TinyAnswers old (Push x) answers.Memory new = (count old ≡ room slots old.place) × (new ≡ old)
+  TinyAnswers old Pop (answers.Some x) new = (old.items ≡ new.items ++ x ∷ []) × Ruled D slots 0 old new
+  TinyAnswers old Pop answers.None new = (old.items ≡ []) × (new ≡ old)
+  TinyAnswers old (Insert i x) answers.Done new = (i ≤ count old) × (new.items ≡ insert old.items i x) × Ruled D slots (count old + 1) old new
+  TinyAnswers old (Insert i x) answers.Range new = (count old < i) × (new ≡ old)
+  TinyAnswers old (Insert i x) answers.Memory new = (i ≤ count old) × (count old ≡ room slots old.place) × (new ≡ old)
+  TinyAnswers old (Remove i) (answers.Some x) new = (slice_get old.items i ≡ Some x) × (new.items ≡ remove old.items i) × Ruled D slots 0 old new
+  TinyAnswers old (Remove i) answers.Range new = (count old ≤ i) × (new ≡ old)
+  TinyAnswers old (SwapRemove i) (answers.Some x) new = (slice_get old.items i ≡ Some x) × (new.items ≡ swap_remove old.items i x) × Ruled D slots 0 old new
+  TinyAnswers old (SwapRemove i) answers.Range new = (count old ≤ i) × (new ≡ old)
+  TinyAnswers old (Truncate n) answers.Done new = (new.items ≡ take n old.items) × Ruled D slots 0 old new
+  TinyAnswers old (Drain start end) answers.Range new = (IsRangeOf old.items (Included start) (Excluded end) → ⊥) × (new ≡ old)
+  TinyAnswers old (Drain start end) answers.Memory new = IsRangeOf old.items (Included start) (Excluded end) × (start < end) × (new ≡ old)
+  TinyAnswers old (Drain start end) (answers.Items given) new = IsRangeOf old.items (Included start) (Excluded end)
       × Drained old start end given.items new
-  TinyStep old (Reserve n) answers.Done new = (new.items ≡ old.items) × (count old + n ≤ room slots new.place) × Ruled D slots (count old + n) old new
-  TinyStep old (Reserve n) answers.Memory new = (room slots old.place < count old + n) × (new ≡ old)
-  TinyStep old Heap answers.Done new = Moved old new
-  TinyStep old Heap answers.Memory new = Inline old × (new ≡ old)
-  TinyStep old Shrink answers.Done new = Shrunk old new
+  TinyAnswers old (Reserve n) answers.Done new = (new.items ≡ old.items) × (count old + n ≤ room slots new.place) × Ruled D slots (count old + n) old new
+  TinyAnswers old (Reserve n) answers.Memory new = (room slots old.place < count old + n) × (new ≡ old)
+  TinyAnswers old Heap answers.Done new = Moved old new
+  TinyAnswers old Heap answers.Memory new = Inline old × (new ≡ old)
+  TinyAnswers old Shrink answers.Done new = Shrunk old new
   -- it has no such call
-  TinyStep old (Splice start end word replacement) answers.Unfit new = new ≡ old
-  TinyStep old (SetLen n) answers.Unfit new = new ≡ old
+  TinyAnswers old (Splice start end word replacement) answers.Unfit new = new ≡ old
+  TinyAnswers old (SetLen n) answers.Unfit new = new ≡ old
   -- no other answer is given
-  TinyStep old call answer new = ⊥
+  TinyAnswers old call answer new = ⊥
+
+  -- A step: the call may be answered so, and the list that it leaves fits where it lies. Without that a list could be longer
+  -- than its room, and a push after a pop be refused.
+  pub record TinyStep (old : Tiny T) (call : Call T) (answer : Answer T) (new : Tiny T) : Type 0 where
+    pub answered : TinyAnswers old call answer new
+    pub fits : count new ≤ room slots new.place

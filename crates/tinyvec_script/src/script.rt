@@ -36,7 +36,7 @@ pub enum RunError {
 }
 
 /// Reads lines, and writes an answer line to each. The answers to all lines that have come are written before more is
-/// read. Memory is asked for by the calls alone.
+/// read, and the writer is flushed once, at the end of the input. Memory is asked for by the calls alone.
 pub fn run<R: Read, W: Write>(
     alloc: Global,
     reader: &mut Counted<R>,

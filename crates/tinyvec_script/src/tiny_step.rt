@@ -2,7 +2,7 @@
 ghost use Rattle.std.specs.Prelude.{◌≡◌, ◌-◌, ◌≤◌, [], vec_capacity};
 ghost use Rattle.tinyvec.specs.Tiny.{tiny_len};
 ghost use Rattle.tinyvec_script.specs.Place.{tiny_of};
-ghost use Rattle.tinyvec_script.specs.TinyCalls.{TinyStep, Drained};
+ghost use Rattle.tinyvec_script.specs.TinyCalls.{TinyAnswers, TinyStep, Drained};
 
 use crate::{Answer, Call};
 use std::alloc::Global;
@@ -15,6 +15,16 @@ pub(crate) fn answer_tiny<A: Array>(
     call: Call<A::Item>,
 ) -> Answer<A::Item>
     ensures { TinyStep A.Item.is_default A.CAPACITY (tiny_of vec.old) call result (tiny_of vec.new) }
+{
+    let answer = make_call(alloc, vec, call);
+    // It tells the proof that the list fits where it lies.
+    let _len = vec.len();
+    answer
+}
+
+// Makes the call. Its clause says all of a step but that the list fits.
+fn make_call<A: Array>(alloc: Global, vec: &mut TinyVec<A>, call: Call<A::Item>) -> Answer<A::Item>
+    ensures { TinyAnswers A.Item.is_default A.CAPACITY (tiny_of vec.old) call result (tiny_of vec.new) }
 {
     match call {
         Call::Push(x) => match vec.push(x) {

@@ -8,6 +8,8 @@ mod array;
 #[cfg(test)]
 mod ends;
 #[cfg(test)]
+mod order;
+#[cfg(test)]
 mod script;
 #[cfg(test)]
 mod slices;

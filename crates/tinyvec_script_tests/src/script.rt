@@ -101,10 +101,7 @@ fn a_long_line_is_read_whole_and_bad_once(rt: HostRuntime) -> Result<(), Fail> {
         }
         input.extend_from_slice(b"\nA push 7\n")?;
         let answers = written(rt.alloc(), input.as_slice())?;
-        assert!(rt;
-            answers.as_slice() == b"bad\nok [7] [0, 0, 0]\n".as_slice(),
-            "at {len}"
-        );
+        assert!(rt; answers.as_slice() == b"bad\nok [7] [0, 0, 0]\n".as_slice(), "at {len}");
     }
     Ok(())
 }
@@ -140,10 +137,7 @@ fn a_read_that_fails_after_each_byte(rt: HostRuntime) -> Result<(), Fail> {
         assert!(rt; result == Err(RunError::Read), "after {count}");
         let lines = input.iter().filter(|byte| **byte == b'\n').count();
         output = writer.into_inner();
-        assert!(rt;
-            output.as_slice() == first_lines(OUTPUT, lines),
-            "after {count}"
-        );
+        assert!(rt; output.as_slice() == first_lines(OUTPUT, lines), "after {count}");
         output.clear();
     }
     Ok(())
@@ -162,22 +156,6 @@ fn a_write_that_fails_after_each_byte(rt: HostRuntime) -> Result<(), Fail> {
         assert!(rt; output.as_slice() == &OUTPUT[..room], "after {room}");
         output.clear();
     }
-    Ok(())
-}
-
-#[test]
-fn the_answers_to_a_chunk_go_out_in_few_writes(rt: HostRuntime) -> Result<(), Fail> {
-    let mut input = Vec::with_capacity(rt.alloc(), ROOM)?;
-    for _line in 0..1000 {
-        input.extend_from_slice(b"A pop\n")?;
-    }
-    let mut reader = Counted::new(input.as_slice());
-    let mut writer = Counted::new(Fills::new(Vec::with_capacity(rt.alloc(), ROOM)?, usize::MAX));
-    run(rt.alloc(), &mut reader, &mut writer)?;
-    let writer = writer.into_inner();
-    // 6000 bytes are two chunks of 4 KiB, and 21000 bytes of answers.
-    assert!(rt; writer.taken.len() == 21000);
-    assert!(rt; writer.writes == 2);
     Ok(())
 }
 

@@ -1,0 +1,23 @@
+-- Runs that no `TinyVec` makes.
+use Rattle.std.proofs.Common.{◌≡◌, ℕ, ◌≤◌, ◌+◌, List, [], ◌∷◌, ◌++◌, length, length-append, ap, ◌∙◌, arith}
+use Rattle.tinyvec_script.specs.Step.{Run}
+use Rattle.tinyvec_script.specs.Place.{Tiny, count, room}
+use Rattle.tinyvec_script.specs.TinyCalls.{TinyStep}
+use Rattle.tinyvec_script.specs.declared.call.Call.{Call}
+use Rattle.tinyvec_script.specs.declared.call.Call.TheVariants.{Push, Pop}
+use Rattle.tinyvec_script.specs.declared.call.Answer.{Answer}
+use Rattle.tinyvec_script.specs.declared.call.Answer.TheVariants as answers
+
+module _ {T : Type 0} (D : T → Type 0) (slots : ℕ) where
+  -- Whatever was called before, and whatever comes after: where a pop took an item there is room for one, so a push that
+  -- follows is not refused.
+  pub memory_after_a_pop : (call : Call T) (answer : Answer T) (x y : T) (calls : List (Call T)) (more : List (Answer T)) (old new : Tiny T)
+      → Run (TinyStep D slots) old (call ∷ Pop ∷ Push x ∷ calls) (answer ∷ answers.Some y ∷ answers.Memory ∷ more) new → ⊥
+  memory_after_a_pop call answer x y calls more old new run =
+      let first = run.0 in
+      let second = run.2.0 in
+      let begun = run.1 in
+      let popped = run.2.1 in
+      let refused = run.2.2.1 in
+      let longer : count first ≡ count second + 1 = ap length popped.answered.0 ∙ length-append second.items (y ∷ []) in
+      omega (arith, begun.fits, popped.answered.1.keeps_room, refused.answered.0)
