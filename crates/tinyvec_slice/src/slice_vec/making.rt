@@ -1,6 +1,8 @@
 //! Making a `SliceVec`.
 ghost use Rattle.std.specs.Prelude.{◌≡◌, ◌≤◌, ◌↔◌, [], length, take, drop, min, IsSome, IfSome};
+ghost use Rattle.std.specs.Borrow.{sem};
 ghost use Rattle.tinyvec_slots.specs.Slots.{split_at};
+ghost use Rattle.tinyvec_slice.specs.Making.{lends_array};
 ghost use Rattle.tinyvec_slice.specs.View.{seen, items, spare, name};
 
 use crate::SliceVecOver;
@@ -78,7 +80,10 @@ impl<'s, T: Drop, const N: usize> From<&'s mut [T; N]> for SliceVecOver<&'s mut 
 
     /// A full vector, whose list is the whole array. The owner of the array is not told what the vector did:
     /// `from_slice` and `from_slice_len` tell it.
-    fn from(array: &'s mut [T; N]) -> Self {
-        Self::from_slice(array)
+    fn from(array: &'s mut [T; N]) -> Self
+        ensures* writes_back { sem 𝓛 (lends_array T.row N array.entry result) }
+        ensures value { seen result ≡ split_at (length array.old) array.old }
+    {
+        Self::from_slice(array.as_mut_slice())
     }
 }
