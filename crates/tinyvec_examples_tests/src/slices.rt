@@ -62,6 +62,12 @@ fn vectors_made(rt: HostRuntime) {
     making::last_written(&mut slots);
     assert!(rt; slots == [1, 2, 7]);
     assert!(rt; making::over_no_slots() == (true, 0));
+    assert!(rt; making::array_written() == [1, 5, 3]);
+    let mut bytes = [1, 2, 3];
+    making::written_if_there(&mut bytes[..2]);
+    assert!(rt; bytes == [1, 2, 3]);
+    making::written_if_there(&mut bytes);
+    assert!(rt; bytes == [1, 2, 7]);
 }
 
 #[test]
@@ -75,5 +81,12 @@ fn drains(rt: HostRuntime) -> Result<(), Fail> {
     draining::push_then_drain(&mut vec, &mut out);
     assert!(rt; out.as_slice() == [3, 4].as_slice());
     assert!(rt; slots == [5, 0, 0, 0, 9]);
+    assert!(rt; draining::two_dropped() == [1, 4, 0, 0, 9]);
+    assert!(rt; draining::counted(&mut [1, 2, 3, 4]) == 2);
+    let mut tail = [1, 2, 3, 9];
+    let mut rest = Vec::with_capacity(rt.alloc(), 3)?;
+    draining::move_tail(&mut SliceVec::from_slice_len(&mut tail, 3), &mut rest);
+    assert!(rt; rest.as_slice() == [2, 3].as_slice());
+    assert!(rt; tail == [1, 0, 0, 9]);
     Ok(())
 }

@@ -3,3 +3,4 @@ pub mod View
 pub mod Lends
 pub mod Iterating
 pub mod Drain
+pub mod Making

@@ -2,9 +2,11 @@
 ghost use Rattle.std.specs.Prelude.{◌≡◌, List, refl};
 ghost use Rattle.std.specs.Borrow.{Lends, sem, GName, Array as SliceOf};
 
-/// Slots that are lent for writing, as `&mut [T]` is. A function that is generic over what is lent knows what a drain
-/// left, and so does who calls it with a slice.
-pub trait Lent: Drop {
+use crate::sealed::IsSlice;
+
+/// Slots that are lent for writing. `&mut [T]` alone is so. A function that is generic over what is lent knows what a
+/// drain left, and so does who calls it with a slice.
+pub trait Lent: Drop + IsSlice {
     /// What a slot holds.
     type Item: Drop;
 

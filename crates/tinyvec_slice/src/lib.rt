@@ -5,6 +5,7 @@ mod clone_slots;
 mod drain;
 mod lent;
 mod parts;
+mod sealed;
 mod slice_vec;
 mod slots;
 

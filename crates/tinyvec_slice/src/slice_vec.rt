@@ -3,6 +3,7 @@ ghost use Rattle.std.specs.Prelude.{◌≡◌, ◌<◌, ◌≤◌, ◌==◌, ◌
 ghost use Rattle.std.specs.List.{remove_range};
 ghost use Rattle.tinyvec_slots.specs.Slots.{AreDefaults};
 
+mod draining;
 mod edits;
 mod ends;
 mod filling;
@@ -110,7 +111,7 @@ where
         ensures same_reference { name_of B.Lent self.new ≡ name_of B.Lent self.old }
         ensures value { result ≡ slice_index_or (spare_of B.Lent self.old) i result }
         ensures items { items_of B.Lent self.new ≡ items_of B.Lent self.old }
-        ensures spare { (d : B.Item) × (spare_of B.Lent self.new ≡ slice_set (spare_of B.Lent self.old) i d) }
+        ensures spare { (d : B.Item) × B.Item.is_default d × (spare_of B.Lent self.new ≡ slice_set (spare_of B.Lent self.old) i d) }
     {
         let _slots = self.as_inner();
         let len = self.len();

@@ -1,4 +1,5 @@
 //! Drains.
+use std::test::Fail;
 use tinyvec_slice::SliceVec;
 
 #[test]
@@ -38,4 +39,40 @@ fn passed_over(rt: HostRuntime) {
     let mut vec = SliceVec::from_slice_len(&mut slots, 4);
     assert!(rt; vec.drain(..=2).nth(1) == Some(2));
     assert!(rt; slots == [4, 0, 0, 0]);
+}
+
+#[test]
+fn handed_to_a_closure(rt: HostRuntime) {
+    let mut slots = [1, 2, 3, 4, 9];
+    let mut vec = SliceVec::from_slice_len(&mut slots, 4);
+    let mut given = 0_i32;
+    vec.drain_each(
+        1..3,
+        &mut |x| {
+            given = given.wrapping_mul(10).wrapping_add(x);
+        },
+    );
+    assert!(rt; given == 23);
+    assert!(rt; vec.as_slice() == [1, 4].as_slice());
+    vec.drain_each(
+        2..,
+        &mut |x| {
+            given = x;
+        },
+    );
+    assert!(rt; given == 23);
+    assert!(rt; slots == [1, 4, 0, 0, 9]);
+}
+
+#[test]
+fn moved_behind_others(rt: HostRuntime) -> Result<(), Fail> {
+    let mut slots = [1, 2, 3, 4, 9];
+    let mut vec = SliceVec::from_slice_len(&mut slots, 4);
+    let mut out = Vec::with_capacity(rt.alloc(), 4)?;
+    vec.drain_into(..1, &mut out);
+    vec.drain_into(1..=2, &mut out);
+    vec.drain_into(1..1, &mut out);
+    assert!(rt; out.as_slice() == [1, 3, 4].as_slice());
+    assert!(rt; slots == [2, 0, 0, 0, 9]);
+    Ok(())
 }

@@ -13,6 +13,25 @@ fn into_iter_lends_the_list_alone(rt: HostRuntime) {
     assert!(rt; slots == [11, 12, 3]);
 }
 
+// Every length of the list: each slot keeps its place, whether or not the iterator is asked.
+#[test]
+fn into_iter_moves_no_slot(rt: HostRuntime) {
+    for len in 0..5 {
+        let mut slots = [1, 2, 3, 4];
+        let mut unasked = SliceVec::from_slice_len(&mut slots, len).into_iter();
+        assert!(rt; unasked.next().is_some() == (len > 0));
+        assert!(rt; slots == [1, 2, 3, 4]);
+        let mut at = 10;
+        for x in SliceVec::from_slice_len(&mut slots, len) {
+            *x = at;
+            at = at.min(19) + 1;
+        }
+        let mut wanted = [10, 11, 12, 13];
+        wanted[len..].copy_from_slice(&[1, 2, 3, 4][len..]);
+        assert!(rt; slots == wanted);
+    }
+}
+
 #[test]
 fn iter_and_iter_mut(rt: HostRuntime) {
     let mut slots = [1_i32, 2, 3];

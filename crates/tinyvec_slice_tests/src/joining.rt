@@ -52,3 +52,55 @@ fn split_off_nothing(rt: HostRuntime) {
     second.push(3);
     assert!(rt; slots == [1, 2, 3]);
 }
+
+// Two parts of one length, each written: the part that comes back lies behind.
+#[test]
+fn split_off_in_halves(rt: HostRuntime) {
+    let mut slots = [1, 2, 3, 4];
+    let mut first = SliceVec::from_slice_len(&mut slots, 4);
+    let mut second = first.split_off(2);
+    assert!(rt; first.as_inner() == [1, 2].as_slice());
+    assert!(rt; second.as_inner() == [3, 4].as_slice());
+    first[0] = 7;
+    second[0] = 8;
+    assert!(rt; slots == [7, 2, 8, 4]);
+}
+
+// No slot is written, whatever the lengths of list and parts.
+#[test]
+fn split_off_writes_no_slot(rt: HostRuntime) {
+    for len in 0..6 {
+        for at in 0..=len {
+            let mut slots = [1, 2, 3, 4, 5];
+            {
+                let mut first = SliceVec::from_slice_len(&mut slots, len);
+                let second = first.split_off(at);
+                assert!(rt; first.len() == at);
+                assert!(rt; first.capacity() == at);
+                assert!(rt; second.len() == len - at);
+                assert!(rt; second.capacity() == 5 - at);
+            }
+            assert!(rt; slots == [1, 2, 3, 4, 5]);
+        }
+    }
+}
+
+// A push to each part that has room, and a write to each that has an item, in the slots that are its own.
+#[test]
+fn split_off_parts_write_their_own_slots(rt: HostRuntime) {
+    for at in 1..4 {
+        let mut slots = [0, 0, 0, 0, 0];
+        let mut first = SliceVec::from_slice_len(&mut slots, 4);
+        let mut second = first.split_off(at);
+        for x in first.as_mut_slice() {
+            *x = 1;
+        }
+        for x in second.as_mut_slice() {
+            *x = 2;
+        }
+        second.push(3);
+        let mut wanted = [1, 2, 2, 2, 3];
+        wanted[..at].fill(1);
+        assert!(rt; slots == wanted);
+    }
+}

@@ -44,6 +44,45 @@ fn of_more_slots_than_there_are(rt: HostRuntime) {
     assert!(rt; both.as_slice() == [1, 2].as_slice());
 }
 
+// However many are missing, a slice that is refused keeps each of its items in its place.
+#[test]
+fn a_refused_slice_is_as_it_was(rt: HostRuntime) {
+    for len in [4, 5, 6, 7, 100, usize::MAX] {
+        let mut slots = [1, 2, 3];
+        assert!(rt; SliceVec::try_from_slice_len(&mut slots, len).is_none());
+        assert!(rt; slots == [1, 2, 3]);
+    }
+    let mut pair = [1, 2];
+    assert!(rt; SliceVec::try_from_slice_len(&mut pair, 3).is_none());
+    assert!(rt; SliceVec::try_from_slice_len(&mut pair[..1], 2).is_none());
+    assert!(rt; SliceVec::try_from_slice_len(&mut pair[..0], 1).is_none());
+    assert!(rt; pair == [1, 2]);
+}
+
+#[test]
+fn of_at_most_so_many_slots(rt: HostRuntime) {
+    let mut slots = [1, 2, 3];
+    let vec = SliceVec::from_slice_at_most(&mut slots, 2);
+    assert!(rt; vec.as_slice() == [1, 2].as_slice());
+    assert!(rt; vec.grab_spare_slice() == [3].as_slice());
+    let mut all = SliceVec::from_slice_at_most(&mut slots, 4);
+    assert!(rt; all.as_slice() == [1, 2, 3].as_slice());
+    all[2] = 7;
+    assert!(rt; slots == [1, 2, 7]);
+}
+
+#[test]
+fn of_a_whole_array(rt: HostRuntime) {
+    let mut array = [4, 5, 6];
+    let mut vec = SliceVec::from_slice(&mut array);
+    assert!(rt; vec.is_full());
+    vec[0] = 7;
+    let mut same = SliceVec::from(&mut array);
+    assert!(rt; same.as_slice() == [7, 5, 6].as_slice());
+    same[1] = 8;
+    assert!(rt; array == [7, 8, 6]);
+}
+
 #[test]
 fn over_no_slots(rt: HostRuntime) {
     let mut vec: SliceVec<'_, i32> = SliceVec::default();

@@ -1,5 +1,6 @@
 //! Callers of a drain. One that is generic over what is lent knows what is left, and so does who calls it with a slice.
-ghost use Rattle.std.specs.Prelude.{◌≡◌, ◌≤◌, ◌-◌, ◌+◌, ◌++◌, ◌∷◌, [], pos, length, drop, slice_get, slice_range, vec_len, vec_capacity};
+//! One that names `SliceVec` knows it by `drain_each` and `drain_into`.
+ghost use Rattle.std.specs.Prelude.{◌≡◌, ◌≤◌, ◌-◌, ◌+◌, ◌++◌, ◌∷◌, [], pos, length, take, drop, slice_get, slice_range, vec_len, vec_capacity};
 ghost use Rattle.std.specs.List.{remove_range};
 ghost use Rattle.tinyvec_slots.specs.Slots.{Frees};
 ghost use Rattle.tinyvec_slots.specs.Cut.{IsRangeOf, before, after};
@@ -66,6 +67,55 @@ where
     for x in v.drain(start..end) {
         out.push_reserved(x);
     }
+}
+
+/// A caller by name: the items are taken one by one, and what stood before and after them is left.
+pub fn drop_two(v: &mut SliceVec<'_, i32>)
+    requires { 3 ≤ length (items v.old) }
+    ensures same_reference { name v.new ≡ name v.old }
+    ensures items { items v.new ≡ remove_range (items v.old) 1 3 }
+    ensures spare { spare v.new ≡ pos 0 ∷ pos 0 ∷ spare v.old }
+{
+    v.drain_each(1..3, &mut |_x| {});
+}
+
+/// What the owner sees after that.
+pub fn two_dropped() -> [i32; 5]
+    ensures { result ≡ pos 1 ∷ pos 4 ∷ pos 0 ∷ pos 0 ∷ pos 9 ∷ [] }
+{
+    let mut array = [1, 2, 3, 4, 9];
+    {
+        let mut v = SliceVec::from_slice_len(&mut array, 4);
+        drop_two(&mut v);
+    }
+    array
+}
+
+/// The closure is called once for each item.
+pub fn counted(slots: &mut [i32]) -> u64
+    requires { 4 ≤ length slots.old }
+    ensures { result ≡ 2 }
+{
+    let mut n = 0_u64;
+    let mut v = SliceVec::from_slice_len(slots, 4);
+    v.drain_each(
+        1..3,
+        &mut |_x| {
+            n = n.wrapping_add(1);
+        },
+    );
+    n
+}
+
+/// A caller by name: the items from the second on move behind those of `out`.
+pub fn move_tail(v: &mut SliceVec<'_, i32>, out: &mut Vec<i32>)
+    requires list { 1 ≤ length (items v.old) }
+    requires room { vec_len out.old + length (items v.old) ≤ vec_capacity out.old }
+    ensures same_reference { name v.new ≡ name v.old }
+    ensures items { items v.new ≡ take 1 (items v.old) }
+    ensures moved { out.new.items ≡ out.old.items ++ drop 1 (items v.old) }
+{
+    v.drain_into(1.., out);
 }
 
 /// A push, and then a drain, of a vector in a lent slice.

@@ -1,5 +1,5 @@
 //! Vectors made over a slice.
-ghost use Rattle.std.specs.Prelude.{◌≡◌, ◌<◌, length, slice_set, true};
+ghost use Rattle.std.specs.Prelude.{◌≡◌, ◌<◌, ◌≤◌, ◌∷◌, [], length, pos, slice_set, true};
 
 use tinyvec_slice::SliceVec;
 
@@ -17,6 +17,27 @@ pub fn last_written(slots: &mut [u8])
 {
     let mut v = SliceVec::from(slots);
     v[2] = 7;
+}
+
+/// The owner of an array sees what a vector over all of it did.
+pub fn array_written() -> [i32; 3]
+    ensures { result ≡ pos 1 ∷ pos 5 ∷ pos 3 ∷ [] }
+{
+    let mut array = [1, 2, 3];
+    let mut v = SliceVec::from_slice(&mut array);
+    v[1] = 5;
+    array
+}
+
+/// Where there are fewer slots, the owner knows that none was written.
+pub fn written_if_there(slots: &mut [u8])
+    ensures short { length slots.old < 3 → slots.new ≡ slots.old }
+    ensures long { 3 ≤ length slots.old → slots.new ≡ slice_set slots.old 2 7 }
+{
+    let mut v = SliceVec::from_slice_at_most(slots, 3);
+    if v.len() == 3 {
+        v[2] = 7;
+    }
 }
 
 /// A vector over no slots is full.

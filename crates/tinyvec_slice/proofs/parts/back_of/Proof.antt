@@ -53,6 +53,7 @@ use types.ByLocal.{alloc_all, pass_all, free_all, look_at, get, get_in, is, thro
 use denote.Slice.{MutSlice, Room, slice_val, mut_slice_Tells}
 use borrow.Table.Elements.{at, at_mul, cut_app, join_app, length-take-le}
 use Rattle.tinyvec_slice.specs.declared.lent.Lent as Slots
+use Rattle.tinyvec_slice.specs.declared.sealed.IsSlice as Sealed
 use Rattle.tinyvec_slice.specs.Parts.{with_back}
 use Rattle.tinyvec_slice.specs.contracts.lent.Lent.all_mut as AM
 use Rattle.tinyvec_slice.specs.contracts.parts.back_of as F
@@ -114,7 +115,9 @@ pub record Par : Type 2 where
   pub self : RattleType
   pub item : RattleType
   pub g : Slots.Ghosts self.Denot item.Denot
+  pub sealed : Sealed.Ghosts self.Denot
   pub d : Dict
+  pub ds : Dict
   pub xs : Dict
   pub xi : Dict
 
@@ -126,13 +129,13 @@ module _ (Z : Par) where
   R = param 1 Z.item
 
   abbrev args : Args
-  args = bounded (a_type ∷ a_type ∷ []) (Z.self, (Z.item, tt)) (dcons Z.d (dcons Z.xs (dcons Z.xi dnil)))
+  args = bounded (a_type ∷ a_type ∷ []) (Z.self, (Z.item, tt)) (dcons Z.d (dcons Z.ds (dcons Z.xs (dcons Z.xi dnil))))
 
   abbrev function : Fn
   function = inst_fn args code.function
 
   abbrev ended : Ended
-  ended = F.ended Z.self Z.item Z.g Z.d Z.xs Z.xi
+  ended = F.ended Z.self Z.item Z.g Z.d Z.sealed Z.ds Z.xs Z.xi
 
   abbrev stayed : Stays ended.signature.params ended.kept
   stayed = (
@@ -147,10 +150,10 @@ module _ (Z : Par) {M : Type 1} {𝓤 : Ura M} (𝓛 : Logic 𝓤) (at_mem : Mem
   open 𝓛 use {H, A}
 
   abbrev clauses : Clauses 𝓤 (ended Z)
-  clauses = F.clauses Z.self Z.item Z.g Z.d Z.xs Z.xi 𝓛 at_mem run
+  clauses = F.clauses Z.self Z.item Z.g Z.d Z.sealed Z.ds Z.xs Z.xi 𝓛 at_mem run
 
   abbrev Con : Contract 𝓤
-  Con = triple_of 𝓛 (AM.signature Z.self Z.item) (AM.spec Z.self Z.item Z.g Z.d Z.xs Z.xi 𝓛 at_mem run)
+  Con = triple_of 𝓛 (AM.signature Z.self Z.item) (AM.spec Z.self Z.item Z.g Z.d Z.sealed Z.ds Z.xs Z.xi 𝓛 at_mem run)
 
   module _ (𝓣 : Tables 𝓤 H) (tk : Triple 𝓤 (𝓣.C (key Z)) Con) (κ κA κI : Lft) (q qA qI : Share)
       (bd : AllOutlive 3 (ended Z).signature.outlives (κ, (κA, (κI, tt)))) (b o : ℕ) (γ : GName)
@@ -242,8 +245,8 @@ module _ (Z : Par) {M : Type 1} {𝓤 : Ura M} (𝓛 : Logic 𝓤) (at_mem : Mem
 
 pub back_of_spec : {M : Type 1} → stated.statement M
 unfolding tables_of
-back_of_spec 𝓤 𝓛 𝓜 𝓡 wired X Y LX LY g d xs xi met glue glue-item =
-    let Z : Par = record { self = X; item = Y; g = g; d = d; xs = xs; xi = xi } in
+back_of_spec 𝓤 𝓛 𝓜 𝓡 wired X Y LX LY g d sealed ds xs xi met glue glue-sealed glue-item =
+    let Z : Par = record { self = X; item = Y; g = g; sealed = sealed; d = d; ds = ds; xs = xs; xi = xi } in
     let 𝓣 : Tables 𝓤 𝓛.H = tables_of 𝓤 𝓛.H 𝓜 (tables 𝓤 𝓛.H 𝓜 𝓡 𝓡.env) in
-    entered 𝓤 𝓛.H (triple_of 𝓛 (ended Z).signature (F.spec X Y g d xs xi 𝓛 𝓜.mem 𝓡.returns)) 𝓣.C 𝓣.Λ (#self (args Z)) (function Z) (code.unfolded 𝓤 𝓛.H 𝓜 𝓡 wired (X, (Y, tt)) d xs xi)
+    entered 𝓤 𝓛.H (triple_of 𝓛 (ended Z).signature (F.spec X Y g d sealed ds xs xi 𝓛 𝓜.mem 𝓡.returns)) 𝓣.C 𝓣.Λ (#self (args Z)) (function Z) (code.unfolded 𝓤 𝓛.H 𝓜 𝓡 wired (X, (Y, tt)) d ds xs xi)
     (meets Z 𝓛 𝓜.mem 𝓡.returns 𝓣 (met.all_mut xs xi))

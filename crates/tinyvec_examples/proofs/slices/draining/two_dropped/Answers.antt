@@ -1,0 +1,12 @@
+use Rattle.std.proofs.Common.{◌≡◌, ◌∷◌, [], pos, rules, refl, ◌∙◌}
+use Rattle.tinyvec_slice.specs.View.{items, spare, slots}
+use Rattle.tinyvec_slice.proofs.ViewLemmas.{owner_sees}
+use Rattle.tinyvec_examples.proofs.slices.draining.two_dropped.Goals as goal
+
+pub returns : goal.returns
+returns c =
+    let v = c.drop_two.new.v in
+    let list : items v ≡ pos 1 ∷ pos 4 ∷ [] = c.drop_two.ensures.items ∙ rw (c.from_slice_len-v.ensures.items) refl in
+    let rest : spare v ≡ pos 0 ∷ pos 0 ∷ pos 9 ∷ [] = c.drop_two.ensures.spare ∙ rw (c.from_slice_len-v.ensures.spare) refl in
+    let whole : slots v ≡ pos 1 ∷ pos 4 ∷ pos 0 ∷ pos 0 ∷ pos 9 ∷ [] = owner_sees v _ _ list rest in
+    search rules
