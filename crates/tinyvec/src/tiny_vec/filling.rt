@@ -24,6 +24,7 @@ impl<A: Array> TinyVec<A> {
         ensures place { PlaceRule A.CAPACITY (tiny_len self.new) self.old self.new }
         ensures slots { TinySlotRule A.Item.is_default self.old self.new }
         ensures capacity { tiny_capacity A.CAPACITY self.old ≤ tiny_capacity A.CAPACITY self.new }
+        ensures same_room { tiny_len self.new ≤ tiny_capacity A.CAPACITY self.old → tiny_capacity A.CAPACITY self.new ≡ tiny_capacity A.CAPACITY self.old }
 
         // It refuses none while there is room.
         ensures full { OnErr result (tiny_len self.new ≡ tiny_capacity A.CAPACITY self.new) }
@@ -93,6 +94,7 @@ impl<A: Array> TinyVec<A> {
         ensures place { OnOk result (PlaceRule A.CAPACITY (max n (tiny_len self.old)) self.old self.new) }
         ensures slots { TinySlotRule A.Item.is_default self.old self.new }
         ensures capacity { tiny_capacity A.CAPACITY self.old ≤ tiny_capacity A.CAPACITY self.new }
+        ensures same_room { n ≤ tiny_capacity A.CAPACITY self.old → tiny_capacity A.CAPACITY self.new ≡ tiny_capacity A.CAPACITY self.old }
 
         // Where there is room no memory is asked for, and a refusal changes nothing.
         ensures succeeds { n ≤ tiny_capacity A.CAPACITY self.old → IsOk result }
@@ -110,6 +112,7 @@ impl<A: Array> TinyVec<A> {
         ensures place { OnOk result (PlaceRule A.CAPACITY (max n (tiny_len self.old)) self.old self.new) }
         ensures slots { TinySlotRule A.Item.is_default self.old self.new }
         ensures capacity { tiny_capacity A.CAPACITY self.old ≤ tiny_capacity A.CAPACITY self.new }
+        ensures same_room { n ≤ tiny_capacity A.CAPACITY self.old → tiny_capacity A.CAPACITY self.new ≡ tiny_capacity A.CAPACITY self.old }
         ensures succeeds { n ≤ tiny_capacity A.CAPACITY self.old → IsOk result }
         ensures full { OnErr result (tiny_capacity A.CAPACITY self.old < n) }
         ensures refused { OnErr result (Unchanged self.old self.new × (f.new ≡ f.old)) }
