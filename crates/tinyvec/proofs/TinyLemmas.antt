@@ -62,6 +62,10 @@ module _ {A T : Type 0} (D : T → Type 0) where
   tiny_slots_framed (Inline v a) mid (Heap n) frame h = tt
   tiny_slots_framed (Heap v) mid new frame h = tt
 
+  -- nor than it has after its items were written
+  pub tiny_slots_written : (v new : TinyVec A T) (ws : List T) → length ws ≡ tiny_len v → TinySlotRule D (tiny_with_items v ws) new → TinySlotRule D v new
+  tiny_slots_written v new ws e h = tiny_slots_framed v (tiny_with_items v ws) new (tiny_framed-with v ws e) h
+
   module _ (c : T) (only : (x : T) → D x → x ≡ c) where
     -- the slot rule where the item's `Default` answers one value only
     pub tiny_slots_only : (old new : TinyVec A T) → IsInline old → IsInline new → TinySlotRule D old new

@@ -12,18 +12,23 @@ module _ {A T X E : Type 0} where
     pub stays : IsInline new → new ≡ old
     pub room : OnOk result (tiny_len old + n ≤ tiny_capacity slots new)
     pub capacity : tiny_capacity slots old ≤ tiny_capacity slots new
-    -- where there is room no memory is asked for, and a refusal changes nothing
+    -- a list that moves has room for no further items there
+    pub moved : IsInline old → is_inline new ≡ false → tiny_capacity slots new ≡ tiny_len old + n
+    -- where there is room no memory is asked for, and nothing changes; neither does it by a refusal
+    pub kept : tiny_len old + n ≤ tiny_capacity slots old → new ≡ old
     pub succeeds : tiny_len old + n ≤ tiny_capacity slots old → IsOk result
     pub full : OnErr result (tiny_capacity slots old < tiny_len old + n)
     pub refused : OnErr result (Unchanged old new)
 
   -- a move to the heap took `old` to `new`, and was answered so
-  pub record MovesToHeap (old new : TinyVec A T) (result : Result X E) : Type 0 where
+  pub record MovesToHeap (slots : ℕ) (old new : TinyVec A T) (result : Result X E) : Type 0 where
     pub items : tiny_items new ≡ tiny_items old
     pub place : OnOk result (is_inline new ≡ false)
     -- a list on the heap stays as it is, and a refusal changes nothing
     pub kept : is_inline old ≡ false → new ≡ old
     pub succeeds : is_inline old ≡ false → IsOk result
+    -- one that moves has room for itself there, and for no more
+    pub moved : IsInline old → OnOk result (tiny_capacity slots new ≡ tiny_len old)
     pub refused : OnErr result (Unchanged old new)
 
   -- the same with room for n more items there
@@ -31,8 +36,11 @@ module _ {A T X E : Type 0} where
     pub items : tiny_items new ≡ tiny_items old
     pub place : OnOk result (is_inline new ≡ false)
     pub room : OnOk result (tiny_len old + n ≤ tiny_capacity slots new)
-    -- on the heap no room is lost and no memory is asked for where there is room, and a refusal changes nothing
+    -- a list that moves has room for no further items. On the heap no room is lost, and where there is room no memory is
+    -- asked for and nothing changes. Neither does it by a refusal.
+    pub moved : IsInline old → OnOk result (tiny_capacity slots new ≡ tiny_len old + n)
     pub keeps_room : is_inline old ≡ false → tiny_capacity slots old ≤ tiny_capacity slots new
+    pub kept : is_inline old ≡ false → tiny_len old + n ≤ tiny_capacity slots old → new ≡ old
     pub succeeds : is_inline old ≡ false → tiny_len old + n ≤ tiny_capacity slots old → IsOk result
     pub full : is_inline old ≡ false → OnErr result (tiny_capacity slots old < tiny_len old + n)
     pub refused : OnErr result (Unchanged old new)

@@ -106,7 +106,7 @@ impl<A: Array> TinyVec<A> {
     pub(crate) fn take_at(&mut self, i: usize) -> A::Item
         requires { i < tiny_len self.old }
         ensures value { result ≡ slice_index_or (tiny_items self.old) i result }
-        ensures after { (d : A.Item) × (tiny_items self.new ≡ slice_set (tiny_items self.old) i d) }
+        ensures after { (d : A.Item) × A.Item.is_default d × (tiny_items self.new ≡ slice_set (tiny_items self.old) i d) }
         ensures frame { SameFrame self.old self.new }
     {
         mem::take(&mut self.as_mut_slice()[i])

@@ -136,7 +136,7 @@ impl<A: Array> ArrayVec<A> {
         requires { i < length (spare self.old) }
         ensures value { result ≡ slice_index_or (spare self.old) i result }
         ensures items { items self.new ≡ items self.old }
-        ensures spare { (d : A.Item) × (spare self.new ≡ slice_set (spare self.old) i d) }
+        ensures spare { (d : A.Item) × A.Item.is_default d × (spare self.new ≡ slice_set (spare self.old) i d) }
     {
         let _len = self.len();
         // It tells the proof that the number of slots fits.

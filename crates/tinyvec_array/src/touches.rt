@@ -45,7 +45,7 @@ impl Touches {
         requires in_bounds { i < length slots.old }
         requires few { touch_count self.old < 2 ^ 120 }
         ensures value { result ≡ slice_index_or slots.old i result }
-        ensures after { (d : T) × (slots.new ≡ slice_set slots.old i d) }
+        ensures after { (d : T) × T.is_default d × (slots.new ≡ slice_set slots.old i d) }
         ensures count { touch_count self.new ≡ touch_count self.old + 1 }
     {
         self.count += 1;

@@ -107,6 +107,23 @@ fn resize_with_answers_in_order(rt: HostRuntime) {
     assert!(rt; vec.as_inner().as_slice() == [0, 0, 0, 0, 9].as_slice());
 }
 
+/// It asks for the items that are missing, and never where none is.
+#[test]
+fn resize_with_asks_once_for_each_missing_item(rt: HostRuntime) {
+    for len in 0..=4 {
+        for n in 0..=4 {
+            let mut asked = 0_usize;
+            let mut vec = ArrayVec::from_array_len([1, 2, 3, 4], len);
+            vec.resize_with(n, || {
+                asked = asked.wrapping_add(1);
+                7
+            });
+            assert!(rt; vec.len() == n);
+            assert!(rt; asked == n.saturating_sub(len));
+        }
+    }
+}
+
 #[test]
 fn append_moves_the_items(rt: HostRuntime) {
     let mut front = ArrayVec::from_array_len([1, 2, 3, 0, 0, 0, 0, 0], 3);
@@ -117,15 +134,43 @@ fn append_moves_the_items(rt: HostRuntime) {
     assert!(rt; back.as_inner().as_slice() == [0, 0, 0, 0, 0, 0, 0, 8].as_slice());
 }
 
+/// At both outcomes, with the slots that hold no item.
+#[test]
+fn append_if_fits_hands_back_the_other(rt: HostRuntime) {
+    let mut front = ArrayVec::from_array_len([1, 2, 3, 4, 5, 6, 20], 6);
+    let mut back = ArrayVec::from_array_len([7, 8, 9, 30, 31, 32, 33], 2);
+    match front.append_if_fits(&mut back) {
+        Ok(_) => panic!(rt; "there was no room"),
+        Err(refused) => {
+            assert!(rt; refused.as_slice() == [7, 8].as_slice());
+            refused.truncate(1);
+        }
+    }
+    assert!(rt; front.as_slice() == [1, 2, 3, 4, 5, 6].as_slice());
+    assert!(rt; front.as_inner().as_slice() == [1, 2, 3, 4, 5, 6, 20].as_slice());
+    assert!(rt; back.as_slice() == [7].as_slice());
+    assert!(rt; back.as_inner().as_slice() == [7, 0, 9, 30, 31, 32, 33].as_slice());
+    match front.append_if_fits(&mut back) {
+        Ok(emptied) => emptied.push(40),
+        Err(_) => panic!(rt; "there was room"),
+    }
+    assert!(rt; front.as_slice() == [1, 2, 3, 4, 5, 6, 7].as_slice());
+    assert!(rt; back.as_slice() == [40].as_slice());
+    assert!(rt; back.as_inner().as_slice() == [40, 0, 9, 30, 31, 32, 33].as_slice());
+}
+
 #[test]
 fn try_append_hands_back(rt: HostRuntime) {
-    let mut front = ArrayVec::from_array_len([1, 2, 3, 4, 5, 6, 0], 6);
-    let mut back = ArrayVec::from_array_len([7, 8, 9, 0, 0, 0, 0], 3);
+    let mut front = ArrayVec::from_array_len([1, 2, 3, 4, 5, 6, 20], 6);
+    let mut back = ArrayVec::from_array_len([7, 8, 9, 30, 31, 32, 33], 3);
     assert!(rt; front.try_append(&mut back).is_some());
     assert!(rt; front.as_slice() == [1, 2, 3, 4, 5, 6].as_slice());
+    assert!(rt; front.as_inner().as_slice() == [1, 2, 3, 4, 5, 6, 20].as_slice());
     assert!(rt; back.as_slice() == [7, 8, 9].as_slice());
+    assert!(rt; back.as_inner().as_slice() == [7, 8, 9, 30, 31, 32, 33].as_slice());
     back.truncate(1);
     assert!(rt; front.try_append(&mut back).is_none());
     assert!(rt; front.as_slice() == [1, 2, 3, 4, 5, 6, 7].as_slice());
     assert!(rt; back.is_empty());
+    assert!(rt; back.as_inner().as_slice() == [0, 0, 0, 30, 31, 32, 33].as_slice());
 }

@@ -1,4 +1,9 @@
 //! `retain` and `dedup` in their forms.
+ghost use Rattle.std.specs.Prelude.{nat_eq};
+ghost use Rattle.std.proofs.Common.{rules};
+ghost use Rattle.std.specs.Cmp.Rules.{comparing};
+
+use std::cell::Cell;
 use tinyvec_array::ArrayVec;
 
 fn is_even(x: i32) -> bool {
@@ -218,4 +223,141 @@ fn filters_items_without_bytes(rt: HostRuntime) {
     assert!(rt; vec.len() == 3);
     vec.dedup();
     assert!(rt; vec.len() == 1);
+}
+
+const NUMBERS: [u8; 4] = [1, 2, 3, 4];
+
+/// Each of no item, of one and of more is asked about once, whether none of them or all stay.
+#[test]
+fn retain_asks_about_each_item_once(rt: HostRuntime) {
+    for stays in [false, true] {
+        for len in 0..=4 {
+            let mut asked: ArrayVec<[u8; 8]> = ArrayVec::new();
+            let mut vec = ArrayVec::from_array_len(NUMBERS, len);
+            vec.retain(|x| {
+                let _full = asked.try_push(*x);
+                stays
+            });
+            assert!(rt; vec.len() == if stays { len } else { 0 });
+            assert!(rt; asked.as_slice() == &NUMBERS[..len]);
+        }
+    }
+}
+
+#[test]
+fn retain_mut_asks_about_each_item_once(rt: HostRuntime) {
+    for stays in [false, true] {
+        for len in 0..=4 {
+            let mut asked: ArrayVec<[u8; 8]> = ArrayVec::new();
+            let mut vec = ArrayVec::from_array_len(NUMBERS, len);
+            vec.retain_mut(|x| {
+                let _full = asked.try_push(*x);
+                stays
+            });
+            assert!(rt; vec.len() == if stays { len } else { 0 });
+            assert!(rt; asked.as_slice() == &NUMBERS[..len]);
+        }
+    }
+}
+
+/// No item and one are not asked about. Of more each after the first is asked about once, beside the last one kept.
+#[test]
+fn dedup_by_asks_about_each_item_after_the_first(rt: HostRuntime) {
+    for len in 0..=4 {
+        let mut currents: ArrayVec<[u8; 8]> = ArrayVec::new();
+        let mut lasts: ArrayVec<[u8; 8]> = ArrayVec::new();
+        let mut repeats = ArrayVec::from_array_len(NUMBERS, len);
+        repeats.dedup_by(|current, last| {
+            let _full = currents.try_push(*current);
+            let _full = lasts.try_push(*last);
+            true
+        });
+        assert!(rt; repeats.len() == len.min(1));
+        assert!(rt; currents.as_slice() == &[2, 3, 4][..len.saturating_sub(1)]);
+        assert!(rt; lasts.as_slice() == &[1, 1, 1][..len.saturating_sub(1)]);
+        currents.clear();
+        lasts.clear();
+        let mut unlike = ArrayVec::from_array_len(NUMBERS, len);
+        unlike.dedup_by(|current, last| {
+            let _full = currents.try_push(*current);
+            let _full = lasts.try_push(*last);
+            false
+        });
+        assert!(rt; unlike.len() == len);
+        assert!(rt; currents.as_slice() == &[2, 3, 4][..len.saturating_sub(1)]);
+        assert!(rt; lasts.as_slice() == &[1, 2, 3][..len.saturating_sub(1)]);
+    }
+}
+
+#[test]
+fn dedup_by_key_asks_for_two_keys_of_each_item_after_the_first(rt: HostRuntime) {
+    for len in 0..=4 {
+        let mut asked: ArrayVec<[u8; 8]> = ArrayVec::new();
+        let mut repeats = ArrayVec::from_array_len(NUMBERS, len);
+        repeats.dedup_by_key(|x| {
+            let _full = asked.try_push(*x);
+            0u8
+        });
+        assert!(rt; repeats.len() == len.min(1));
+        let pairs = len.saturating_sub(1);
+        assert!(rt; asked.as_slice() == &[2, 1, 3, 1, 4, 1][..2 * pairs]);
+        asked.clear();
+        let mut unlike = ArrayVec::from_array_len(NUMBERS, len);
+        unlike.dedup_by_key(|x| {
+            let _full = asked.try_push(*x);
+            *x
+        });
+        assert!(rt; unlike.len() == len);
+        assert!(rt; asked.as_slice() == &[2, 1, 3, 2, 4, 3][..2 * pairs]);
+    }
+}
+
+/// A letter that counts how often it was compared.
+#[derive(Default, Drop)]
+struct Counted<'a> {
+    letter: u8,
+    compared: Option<&'a Cell<u8>>,
+}
+
+impl<'a> PartialEq for Counted<'a> {
+    ghost eq = { λ x y. nat_eq x.letter y.letter };
+
+    ghost laws = { Prim.search (comparing, rules) };
+
+    fn eq(&self, other: &Counted<'a>) -> bool {
+        if let Some(compared) = self.compared {
+            compared.set(compared.get().wrapping_add(1));
+        }
+        self.letter == other.letter
+    }
+}
+
+#[test]
+fn dedup_compares_each_item_after_the_first(rt: HostRuntime) {
+    for (letters, len) in [(*b"aaa", 1), (*b"abc", 3)] {
+        for count in 0..=3 {
+            let compared = Cell::new(0);
+            let [a, b, c] = letters;
+            let mut vec = ArrayVec::from_array_len(
+                [
+                    Counted {
+                        letter: a,
+                        compared: Some(&compared),
+                    },
+                    Counted {
+                        letter: b,
+                        compared: Some(&compared),
+                    },
+                    Counted {
+                        letter: c,
+                        compared: Some(&compared),
+                    },
+                ],
+                count,
+            );
+            vec.dedup();
+            assert!(rt; vec.len() == count.min(len));
+            assert!(rt; usize::from(compared.get()) == count.saturating_sub(1));
+        }
+    }
 }

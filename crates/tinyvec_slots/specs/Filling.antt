@@ -1,5 +1,6 @@
 -- Items asked of an iterator, as long as there is room.
-use Rattle.std.specs.Prelude.{◌≡◌, ℕ, ◌<◌, ◌≤◌, List, length, Option, None}
+use Rattle.std.specs.Prelude.{◌≡◌, ℕ, ◌<◌, ◌≤◌, List, ◌++◌, length, Option, None}
+use Rattle.std.specs.List.{FoldsTo}
 use Rattle.std.specs.Iterator.{Yields, YieldsThen, YieldsFirst}
 
 -- Calls of `next` from s gave xs and left u. They stopped at n items, or at `None` where fewer came.
@@ -11,3 +12,7 @@ pub record YieldsUpTo {S A : Type 0} (steps : S → Option A → S → Type 0) (
 -- `rest` shows what an iterator will give, in order
 abbrev pub ShowsItems : {S A : Type 0} → (S → Option A → S → Type 0) → (S → List A) → Type 0
 ShowsItems {S} {A} steps rest = (s : S) (r : Option A) (t : S) → steps s r t → YieldsFirst rest s r t
+
+-- new is old, followed by what calls of f returned, one after another, the last of which left `last`: `AppendsResults`, with the last state
+abbrev pub AppendsResultsTo : {F X : Type 0} → (F → X → F → Type 0) → List X → List X → F → F → Type 0
+AppendsResultsTo {F} {X} step old new f last = (ys : List X) × (new ≡ old ++ ys) × FoldsTo step f ys last

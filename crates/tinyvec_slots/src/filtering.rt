@@ -2,12 +2,13 @@
 ghost use Rattle.std.specs.Prelude.{◌≡◌, ◌<◌, ◌≤◌, length, take};
 ghost use Rattle.std.specs.Fn.{CalledAt, CalledAtMut, CalledAtPairMut, ComparesKeys};
 ghost use Rattle.std.specs.List.Retain.{IsFiltered, RetainsInTurn, IsDeduped};
-ghost use Rattle.tinyvec_slots.specs.Filters.{AsksPair};
+ghost use Rattle.tinyvec_slots.specs.Filters.{AsksPair, RetainsTo, IsFilteredTo, IsDedupedTo};
 
 /// Moves the items at which `f` answers `true` to the front, and counts them.
-pub fn retain_in_front<T, F: FnMut(&T) -> bool>(items: &mut [T], mut f: F) -> usize
-    requires { F.IsAlwaysCallable f }
-    ensures filtered { IsFiltered (CalledAt F.FnMut) f items.old (take result items.new) }
+pub fn retain_in_front<T, F: FnMut(&T) -> bool>(items: &mut [T], f: &mut F) -> usize
+    requires { F.IsAlwaysCallable f.old }
+    ensures filtered { IsFiltered (CalledAt F.FnMut) f.old items.old (take result items.new) }
+    ensures asked { IsFilteredTo (CalledAt F.FnMut) f.old items.old (take result items.new) f.new }
     ensures bound { result ≤ length items.old }
     ensures len { length items.new ≡ length items.old }
 {
@@ -22,9 +23,10 @@ pub fn retain_in_front<T, F: FnMut(&T) -> bool>(items: &mut [T], mut f: F) -> us
 }
 
 /// The same where `f` may write to the item that it is asked about.
-pub fn retain_mut_in_front<T, F: FnMut(&mut T) -> bool>(items: &mut [T], mut f: F) -> usize
-    requires { F.IsAlwaysCallable f }
-    ensures filtered { RetainsInTurn (CalledAtMut F.FnMut) f items.old (take result items.new) }
+pub fn retain_mut_in_front<T, F: FnMut(&mut T) -> bool>(items: &mut [T], f: &mut F) -> usize
+    requires { F.IsAlwaysCallable f.old }
+    ensures filtered { RetainsInTurn (CalledAtMut F.FnMut) f.old items.old (take result items.new) }
+    ensures asked { RetainsTo (CalledAtMut F.FnMut) f.old items.old (take result items.new) f.new }
     ensures bound { result ≤ length items.old }
     ensures len { length items.new ≡ length items.old }
 {
@@ -39,9 +41,10 @@ pub fn retain_mut_in_front<T, F: FnMut(&mut T) -> bool>(items: &mut [T], mut f: 
 }
 
 /// Moves the items that `dedup_by` keeps to the front, and counts them.
-pub fn dedup_in_front<T, F: FnMut(&mut T, &mut T) -> bool>(items: &mut [T], mut same: F) -> usize
-    requires { F.IsAlwaysCallable same }
-    ensures filtered { IsDeduped (CalledAtPairMut F.FnMut) same items.old (take result items.new) }
+pub fn dedup_in_front<T, F: FnMut(&mut T, &mut T) -> bool>(items: &mut [T], same: &mut F) -> usize
+    requires { F.IsAlwaysCallable same.old }
+    ensures filtered { IsDeduped (CalledAtPairMut F.FnMut) same.old items.old (take result items.new) }
+    ensures asked { IsDedupedTo (CalledAtPairMut F.FnMut) same.old items.old (take result items.new) same.new }
     ensures bound { result ≤ length items.old }
     ensures len { length items.new ≡ length items.old }
 {
@@ -51,7 +54,7 @@ pub fn dedup_in_front<T, F: FnMut(&mut T, &mut T) -> bool>(items: &mut [T], mut 
     }
     let mut kept = 1;
     for i in 1..count {
-        if !ask_pair(items, &mut same, i, kept - 1) {
+        if !ask_pair(items, same, i, kept - 1) {
             items.swap(kept, i);
             kept += 1;
         }
@@ -62,10 +65,11 @@ pub fn dedup_in_front<T, F: FnMut(&mut T, &mut T) -> bool>(items: &mut [T], mut 
 /// Moves the items that `dedup_by_key` keeps to the front, and counts them.
 pub fn dedup_keys_in_front<T, F: FnMut(&mut T) -> K, K: PartialEq + Drop>(
     items: &mut [T],
-    mut key: F,
+    key: &mut F,
 ) -> usize
-    requires { F.IsAlwaysCallable key }
-    ensures filtered { IsDeduped (ComparesKeys F.FnMut K.eq) key items.old (take result items.new) }
+    requires { F.IsAlwaysCallable key.old }
+    ensures filtered { IsDeduped (ComparesKeys F.FnMut K.eq) key.old items.old (take result items.new) }
+    ensures asked { IsDedupedTo (ComparesKeys F.FnMut K.eq) key.old items.old (take result items.new) key.new }
     ensures bound { result ≤ length items.old }
     ensures len { length items.new ≡ length items.old }
 {
@@ -75,7 +79,7 @@ pub fn dedup_keys_in_front<T, F: FnMut(&mut T) -> K, K: PartialEq + Drop>(
     }
     let mut kept = 1;
     for i in 1..count {
-        if !compare_keys(items, &mut key, i, kept - 1) {
+        if !compare_keys(items, key, i, kept - 1) {
             items.swap(kept, i);
             kept += 1;
         }

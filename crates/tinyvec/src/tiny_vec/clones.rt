@@ -75,6 +75,7 @@ impl<A: Array> TinyVec<A> {
         ensures place { OnOk result (PlaceRule A.CAPACITY (tiny_len source.now) self.old self.new) }
         ensures slots { OnOk result (TinySlotRule A.Item.is_default self.old self.new) }
         ensures capacity { tiny_capacity A.CAPACITY self.old ≤ tiny_capacity A.CAPACITY self.new }
+        ensures same_room { tiny_len source.now ≤ tiny_capacity A.CAPACITY self.old → tiny_capacity A.CAPACITY self.new ≡ tiny_capacity A.CAPACITY self.old }
 
         // Where there is room no memory is asked for but by clones.
         ensures succeeds { tiny_len source.now ≤ tiny_capacity A.CAPACITY self.old → All A.Item.is_infallible (tiny_items source.now) → IsOk result }

@@ -36,6 +36,7 @@ impl<A: Array> TinyVec<A> {
         ensures asked { OnOk result (IsInline self.old → tiny_len self.old ≡ A.CAPACITY
             → max (2 * tiny_len self.old) (tiny_len self.old + 1) ≤ tiny_capacity A.CAPACITY self.new) }
         ensures capacity { tiny_capacity A.CAPACITY self.old ≤ tiny_capacity A.CAPACITY self.new }
+        ensures same_room { tiny_len self.old + 1 ≤ tiny_capacity A.CAPACITY self.old → tiny_capacity A.CAPACITY self.new ≡ tiny_capacity A.CAPACITY self.old }
 
         // Where there is room no memory is asked for, and a refusal changes nothing.
         ensures succeeds { tiny_len self.old < tiny_capacity A.CAPACITY self.old → IsOk result }

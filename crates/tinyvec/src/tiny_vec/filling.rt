@@ -1,10 +1,10 @@
 //! Items taken from iterators and closures.
-ghost use Rattle.std.specs.Prelude.{◌≡◌, ◌-◌, ◌<◌, ◌≤◌, ◌↔◌, ◌++◌, ◌∷◌, List, max, length, take, Some, MatchResult, IsOk, IfOk, OnOk, OnErr, IfErr};
+ghost use Rattle.std.specs.Prelude.{◌≡◌, ◌-◌, ◌<◌, ◌≤◌, ◌↔◌, ◌++◌, ◌∷◌, List, max, length, take, drop, Some, MatchResult, IsOk, IfOk, OnOk, OnErr, IfErr};
 ghost use Rattle.std.specs.List.{AppendsResults};
 ghost use Rattle.std.specs.Iterator.{IsFinite, Drains, YieldsThen};
 ghost use Rattle.tinyvec_slots.specs.Slots.{AreDefaults};
-ghost use Rattle.tinyvec_slots.specs.Filling.{ShowsItems};
-ghost use Rattle.tinyvec.specs.Tiny.{tiny_items, tiny_len, tiny_spare, tiny_capacity, IsInline, PlaceRule, TinySlotRule, Unchanged};
+ghost use Rattle.tinyvec_slots.specs.Filling.{ShowsItems, AppendsResultsTo};
+ghost use Rattle.tinyvec.specs.Tiny.{tiny_items, tiny_len, tiny_spare, is_inline, tiny_capacity, IsInline, PlaceRule, TinySlotRule, Unchanged};
 
 use crate::TinyVec;
 use std::alloc::{AllocError, Global};
@@ -24,6 +24,7 @@ impl<A: Array> TinyVec<A> {
         ensures place { PlaceRule A.CAPACITY (tiny_len self.new) self.old self.new }
         ensures slots { TinySlotRule A.Item.is_default self.old self.new }
         ensures capacity { tiny_capacity A.CAPACITY self.old ≤ tiny_capacity A.CAPACITY self.new }
+        ensures same_room { tiny_len self.new ≤ tiny_capacity A.CAPACITY self.old → tiny_capacity A.CAPACITY self.new ≡ tiny_capacity A.CAPACITY self.old }
 
         // It refuses none while there is room.
         ensures full { OnErr result (tiny_len self.new ≡ tiny_capacity A.CAPACITY self.new) }
@@ -82,29 +83,63 @@ impl<A: Array> TinyVec<A> {
     }
 
     /// Cuts the list to `n` items, or fills it up with what `f` answers. `f` is asked only for the items that are missing.
-    pub fn resize_with<F: FnMut() -> A::Item>(&mut self, n: usize, f: F) -> Result<(), AllocError>
+    pub fn resize_with<F: FnMut() -> A::Item>(
+        &mut self,
+        n: usize,
+        mut f: F,
+    ) -> Result<(), AllocError>
         requires { F.IsAlwaysCallable f }
         ensures items { OnOk result (AppendsResults F.step (take n (tiny_items self.old)) (tiny_items self.new) f) }
         ensures len { OnOk result (tiny_len self.new ≡ n) }
         ensures place { OnOk result (PlaceRule A.CAPACITY (max n (tiny_len self.old)) self.old self.new) }
         ensures slots { TinySlotRule A.Item.is_default self.old self.new }
         ensures capacity { tiny_capacity A.CAPACITY self.old ≤ tiny_capacity A.CAPACITY self.new }
+        ensures same_room { n ≤ tiny_capacity A.CAPACITY self.old → tiny_capacity A.CAPACITY self.new ≡ tiny_capacity A.CAPACITY self.old }
 
         // Where there is room no memory is asked for, and a refusal changes nothing.
         ensures succeeds { n ≤ tiny_capacity A.CAPACITY self.old → IsOk result }
         ensures full { OnErr result (tiny_capacity A.CAPACITY self.old < n) }
         ensures refused { OnErr result (Unchanged self.old self.new) }
     {
+        self.resize_asked(n, &mut f)
+    }
+
+    // `resize_with`, and the state in which the last question leaves `f`.
+    fn resize_asked<F: FnMut() -> A::Item>(&mut self, n: usize, f: &mut F) -> Result<(), AllocError>
+        requires { F.IsAlwaysCallable f.old }
+        ensures items { OnOk result (AppendsResultsTo F.step (take n (tiny_items self.old)) (tiny_items self.new) f.old f.new) }
+        ensures len { OnOk result (tiny_len self.new ≡ n) }
+        ensures place { OnOk result (PlaceRule A.CAPACITY (max n (tiny_len self.old)) self.old self.new) }
+        ensures slots { TinySlotRule A.Item.is_default self.old self.new }
+        ensures capacity { tiny_capacity A.CAPACITY self.old ≤ tiny_capacity A.CAPACITY self.new }
+        ensures same_room { n ≤ tiny_capacity A.CAPACITY self.old → tiny_capacity A.CAPACITY self.new ≡ tiny_capacity A.CAPACITY self.old }
+        ensures succeeds { n ≤ tiny_capacity A.CAPACITY self.old → IsOk result }
+        ensures full { OnErr result (tiny_capacity A.CAPACITY self.old < n) }
+        ensures refused { OnErr result (Unchanged self.old self.new × (f.new ≡ f.old)) }
+    {
         let len = self.len();
         if n > len {
             self.reserve(n - len)?;
+            self.push_answers(n, f);
+            return Ok(());
         }
-        match self {
-            TinyVec::Inline(v, _) => {
-                v.resize_with(n, f);
-                Ok(())
-            }
-            TinyVec::Heap(v) => v.resize_with(n, f),
+        self.truncate(n);
+        Ok(())
+    }
+
+    // Fills the list up to `n` items with what `f` answers, where there is room.
+    fn push_answers<F: FnMut() -> A::Item>(&mut self, n: usize, f: &mut F)
+        requires longer { tiny_len self.old ≤ n }
+        requires room { n ≤ tiny_capacity A.CAPACITY self.old }
+        requires callable { F.IsAlwaysCallable f.old }
+        ensures items { AppendsResultsTo F.step (tiny_items self.old) (tiny_items self.new) f.old f.new }
+        ensures len { tiny_len self.new ≡ n }
+        ensures spare { tiny_spare self.new ≡ drop (n - tiny_len self.old) (tiny_spare self.old) }
+        ensures place { is_inline self.new ≡ is_inline self.old }
+        ensures capacity { tiny_capacity A.CAPACITY self.new ≡ tiny_capacity A.CAPACITY self.old }
+    {
+        while self.len() < n {
+            self.push_reserved(f());
         }
     }
 }

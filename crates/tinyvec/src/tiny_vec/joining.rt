@@ -1,5 +1,6 @@
 //! Lists joined.
 ghost use Rattle.std.specs.Prelude.{◌≡◌, ◌+◌, ◌<◌, ◌≤◌, ◌++◌, [], drop, length, IsOk, OnOk, OnErr};
+ghost use Rattle.tinyvec_slots.specs.Slots.{AreDefaults};
 ghost use Rattle.tinyvec.specs.Tiny.{tiny_items, tiny_len, tiny_spare, is_inline, tiny_capacity, PlaceRule, TinySlotRule, Unchanged};
 
 use crate::TinyVec;
@@ -15,7 +16,7 @@ impl<A: Array> TinyVec<A> {
         ensures spare { tiny_spare self.new ≡ drop (length from.old) (tiny_spare self.old) }
         ensures place { is_inline self.new ≡ is_inline self.old }
         ensures capacity { tiny_capacity A.CAPACITY self.new ≡ tiny_capacity A.CAPACITY self.old }
-        ensures len { length from.new ≡ length from.old }
+        ensures left { AreDefaults A.Item.is_default (length from.old) from.new }
     {
         for i in 0..from.len() {
             self.push_reserved(mem::take(&mut from[i]));

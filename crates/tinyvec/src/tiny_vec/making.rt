@@ -1,5 +1,5 @@
 //! Making a `TinyVec`.
-ghost use Rattle.std.specs.Prelude.{◌≡◌, ◌-◌, ◌<◌, ◌≤◌, ◌↔◌, [], take, drop, IsOk, IsErr, IfOk, IfErr, vec_capacity};
+ghost use Rattle.std.specs.Prelude.{◌≡◌, ◌-◌, ◌<◌, ◌≤◌, ◌↔◌, max, [], take, drop, IsOk, IsErr, IfOk, IfErr, vec_capacity};
 ghost use Rattle.tinyvec_slots.specs.Slots.{AreDefaults, items, spare};
 ghost use Rattle.tinyvec.specs.Tiny.{tiny_items, tiny_spare, tiny_capacity, IsInline};
 
@@ -23,6 +23,7 @@ impl<A: Array> TinyVec<A> {
         ensures spare { IfOk result (λ v. IsInline v → AreDefaults A.Item.is_default A.CAPACITY (tiny_spare v)) }
         ensures place { IfOk result (λ v. IsInline v ↔ (n ≤ A.CAPACITY)) }
         ensures room { IfOk result (λ v. n ≤ tiny_capacity A.CAPACITY v) }
+        ensures exact { IfOk result (λ v. tiny_capacity A.CAPACITY v ≡ max n A.CAPACITY) }
         ensures succeeds { n ≤ A.CAPACITY → IsOk result }
     {
         if n <= A::CAPACITY {

@@ -26,7 +26,7 @@ impl<A: Array> TinyVec<A> {
 
     /// Moves an inline list to the heap.
     pub fn move_to_the_heap(&mut self) -> Result<(), AllocError>
-        ensures { MovesToHeap self.old self.new result }
+        ensures { MovesToHeap A.CAPACITY self.old self.new result }
     {
         if let TinyVec::Inline(v, alloc) = self {
             let heap = v.drain_to_vec(*alloc)?;
@@ -37,7 +37,7 @@ impl<A: Array> TinyVec<A> {
 
     /// The same as `move_to_the_heap`.
     pub fn try_move_to_the_heap(&mut self) -> Result<(), AllocError>
-        ensures { MovesToHeap self.old self.new result }
+        ensures { MovesToHeap A.CAPACITY self.old self.new result }
     {
         self.move_to_the_heap()
     }
@@ -52,7 +52,7 @@ impl<A: Array> TinyVec<A> {
                 *self = TinyVec::Heap(heap);
                 Ok(())
             }
-            TinyVec::Heap(v) => v.reserve(n),
+            TinyVec::Heap(_) => self.reserve(n),
         }
     }
 

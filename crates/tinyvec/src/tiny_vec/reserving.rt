@@ -41,12 +41,13 @@ impl<A: Array> TinyVec<A> {
     pub fn reserve(&mut self, n: usize) -> Result<(), AllocError>
         ensures { Reserves A.Item.is_default A.CAPACITY n self.old self.new result }
     {
+        if n <= self.capacity() - self.len() {
+            return Ok(());
+        }
         match self {
             TinyVec::Inline(v, alloc) => {
-                if n > v.capacity() - v.len() {
-                    let heap = v.drain_to_vec_and_reserve(*alloc, n)?;
-                    *self = TinyVec::Heap(heap);
-                }
+                let heap = v.drain_to_vec_and_reserve(*alloc, n)?;
+                *self = TinyVec::Heap(heap);
                 Ok(())
             }
             TinyVec::Heap(v) => v.reserve(n),
@@ -62,17 +63,24 @@ impl<A: Array> TinyVec<A> {
 
     /// Makes room for `n` items more as `reserve` does, and on the heap for no further ones.
     pub fn reserve_exact(&mut self, n: usize) -> Result<(), AllocError>
-        ensures { Reserves A.Item.is_default A.CAPACITY n self.old self.new result }
+        ensures reserves { Reserves A.Item.is_default A.CAPACITY n self.old self.new result }
+        ensures exact { OnOk result (tiny_capacity A.CAPACITY self.new ≡ max (tiny_capacity A.CAPACITY self.old) (tiny_len self.old + n)) }
     {
         match self {
             TinyVec::Inline(_, _) => self.reserve(n),
-            TinyVec::Heap(v) => v.reserve_exact(n),
+            TinyVec::Heap(v) => {
+                if n <= v.capacity() - v.len() {
+                    return Ok(());
+                }
+                v.reserve_exact(n)
+            }
         }
     }
 
     /// The same as `reserve_exact`.
     pub fn try_reserve_exact(&mut self, n: usize) -> Result<(), AllocError>
-        ensures { Reserves A.Item.is_default A.CAPACITY n self.old self.new result }
+        ensures reserves { Reserves A.Item.is_default A.CAPACITY n self.old self.new result }
+        ensures exact { OnOk result (tiny_capacity A.CAPACITY self.new ≡ max (tiny_capacity A.CAPACITY self.old) (tiny_len self.old + n)) }
     {
         self.reserve_exact(n)
     }

@@ -7,10 +7,10 @@ use std::alloc::{AllocError, Global};
 use std::mem;
 
 impl<A: Array> ArrayVec<A> {
-    /// Moves the list into a `Vec` that has room for as much.
+    /// Moves the list into a `Vec` that has room for it, and for no more.
     pub fn drain_to_vec(&mut self, alloc: Global) -> Result<Vec<A::Item>, AllocError>
         ensures items { IfOk result (λ v. v.items ≡ items self.old) }
-        ensures room { IfOk result (λ v. items_len self.old ≤ vec_capacity v) }
+        ensures room { IfOk result (λ v. vec_capacity v ≡ items_len self.old) }
         ensures emptied { OnOk result (items self.new ≡ []) }
         ensures spare { OnOk result (Frees A.Item.is_default (items_len self.old) self.old self.new) }
         ensures refused { OnErr result (self.new ≡ self.old) }
@@ -22,7 +22,7 @@ impl<A: Array> ArrayVec<A> {
     /// The same as `drain_to_vec`.
     pub fn try_drain_to_vec(&mut self, alloc: Global) -> Result<Vec<A::Item>, AllocError>
         ensures items { IfOk result (λ v. v.items ≡ items self.old) }
-        ensures room { IfOk result (λ v. items_len self.old ≤ vec_capacity v) }
+        ensures room { IfOk result (λ v. vec_capacity v ≡ items_len self.old) }
         ensures emptied { OnOk result (items self.new ≡ []) }
         ensures spare { OnOk result (Frees A.Item.is_default (items_len self.old) self.old self.new) }
         ensures refused { OnErr result (self.new ≡ self.old) }
@@ -31,14 +31,14 @@ impl<A: Array> ArrayVec<A> {
         self.drain_to_vec(alloc)
     }
 
-    /// Moves the list into a `Vec` that has room for it and for `n` more items.
+    /// Moves the list into a `Vec` that has room for it and for `n` more items, and for no more.
     pub fn drain_to_vec_and_reserve(
         &mut self,
         alloc: Global,
         n: usize,
     ) -> Result<Vec<A::Item>, AllocError>
         ensures items { IfOk result (λ v. v.items ≡ items self.old) }
-        ensures room { IfOk result (λ v. items_len self.old + n ≤ vec_capacity v) }
+        ensures room { IfOk result (λ v. vec_capacity v ≡ items_len self.old + n) }
         ensures emptied { OnOk result (items self.new ≡ []) }
         ensures spare { OnOk result (Frees A.Item.is_default (items_len self.old) self.old self.new) }
         ensures refused { OnErr result (self.new ≡ self.old) }
@@ -62,7 +62,7 @@ impl<A: Array> ArrayVec<A> {
         n: usize,
     ) -> Result<Vec<A::Item>, AllocError>
         ensures items { IfOk result (λ v. v.items ≡ items self.old) }
-        ensures room { IfOk result (λ v. items_len self.old + n ≤ vec_capacity v) }
+        ensures room { IfOk result (λ v. vec_capacity v ≡ items_len self.old + n) }
         ensures emptied { OnOk result (items self.new ≡ []) }
         ensures spare { OnOk result (Frees A.Item.is_default (items_len self.old) self.old self.new) }
         ensures refused { OnErr result (self.new ≡ self.old) }

@@ -2,7 +2,7 @@
 ghost use Rattle.std.specs.Prelude.{◌≡◌, ◌-◌, ◌≤◌, ◌↔◌, [], ◌∷◌, ◌++◌, List, length, drop, take, MatchResult, IsOk, IfOk, OnErr, IfErr, Some};
 ghost use Rattle.std.specs.List.{AppendsResults};
 ghost use Rattle.std.specs.Iterator.{Drains, YieldsThen};
-ghost use Rattle.tinyvec_slots.specs.Filling.{YieldsUpTo, ShowsItems};
+ghost use Rattle.tinyvec_slots.specs.Filling.{YieldsUpTo, ShowsItems, AppendsResultsTo};
 ghost use Rattle.tinyvec_slots.specs.Slots.{items, spare, items_len, AreDefaults, SlotRule};
 
 use crate::{Array, ArrayVec, FromIterRest, NoRoom};
@@ -107,6 +107,18 @@ impl<A: Array> ArrayVec<A> {
         requires room { n ≤ A.CAPACITY }
         requires callable { F.IsAlwaysCallable f }
         ensures items { AppendsResults F.step (take n (items self.old)) (items self.new) f }
+        ensures len { items_len self.new ≡ n }
+        ensures spare { SlotRule A.Item.is_default self.old self.new }
+    {
+        self.resize_asked(n, &mut f);
+    }
+
+    // `resize_with`, and the state in which the last question leaves `f`.
+    fn resize_asked<F: FnMut() -> A::Item>(&mut self, n: usize, f: &mut F)
+        requires room { n ≤ A.CAPACITY }
+        requires callable { F.IsAlwaysCallable f.old }
+        ensures items { AppendsResults F.step (take n (items self.old)) (items self.new) f.old }
+        ensures asked { AppendsResultsTo F.step (take n (items self.old)) (items self.new) f.old f.new }
         ensures len { items_len self.new ≡ n }
         ensures spare { SlotRule A.Item.is_default self.old self.new }
     {

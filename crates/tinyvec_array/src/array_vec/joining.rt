@@ -1,5 +1,5 @@
 //! Lists joined, and emptied.
-ghost use Rattle.std.specs.Prelude.{◌≡◌, ◌+◌, ◌-◌, ◌<◌, ◌≤◌, ◌↔◌, ◌++◌, [], drop, length, false, IsTrue, IsSome, IfSome, IfNone};
+ghost use Rattle.std.specs.Prelude.{◌≡◌, ◌+◌, ◌-◌, ◌<◌, ◌≤◌, ◌↔◌, ◌++◌, [], drop, length, IsSome, IfSome, IfNone, IsOk, IfOk, OnOk, IfErr, MatchResult};
 ghost use Rattle.tinyvec_slots.specs.Slots.{items, spare, items_len, AreDefaults, Frees};
 
 use crate::{Array, ArrayVec};
@@ -40,26 +40,27 @@ impl<A: Array> ArrayVec<A> {
         other.set_border(0);
     }
 
-    // Moves the items of `other` behind the list, and leaves `other` empty. Where they don't fit, both stay, and it says no.
-    fn append_if_fits(&mut self, other: &mut Self) -> bool
-        ensures fits { IsTrue result ↔ (items_len self.old + items_len other.old ≤ A.CAPACITY) }
-        ensures items { IsTrue result → items self.new ≡ items self.old ++ items other.old }
-        ensures spare { IsTrue result → spare self.new ≡ drop (items_len other.old) (spare self.old) }
-        ensures other_items { IsTrue result → items other.new ≡ [] }
-        ensures other_spare { IsTrue result → Frees A.Item.is_default (items_len other.old) other.old other.new }
-        ensures refused { result ≡ false → (self.new ≡ self.old) × (other.new ≡ other.old) }
+    /// Moves the items of `other` behind the list where they fit, and leaves `other` empty, as `append` does. Where they
+    /// don't, both are as they were. `other` comes back either way: in `Ok` it was emptied, in `Err` it was refused.
+    pub fn append_if_fits<'o>(&mut self, other: &'o mut Self) -> Result<&'o mut Self, &'o mut Self>
+        ensures fits { IsOk result ↔ (items_len self.old + items_len other.old ≤ A.CAPACITY) }
+        ensures items { OnOk result (items self.new ≡ items self.old ++ items other.old) }
+        ensures spare { OnOk result (spare self.new ≡ drop (items_len other.old) (spare self.old)) }
+        ensures other_items { IfOk result (λ emptied. items emptied.now ≡ []) }
+        ensures other_spare { IfOk result (λ emptied. Frees A.Item.is_default (items_len other.old) other.old emptied.now) }
+        ensures refused { IfErr result (λ back. (self.new ≡ self.old) × (back.now ≡ other.old)) }
+        ensures same_reference { MatchResult result (λ emptied. emptied.ghost_name ≡ other.entry.ghost_name) (λ back. back.ghost_name ≡ other.entry.ghost_name) }
     {
         if other.len() > self.capacity() - self.len() {
-            return false;
+            return Err(other);
         }
         self.append(other);
-        true
+        Ok(other)
     }
 
     /// Moves the items of `other` behind the list, and leaves `other` empty, as `append` does. Where they don't fit, `other`
-    /// comes back, and both are as they were.
-    // What may have gone into the result has no value after the call. So that `other` is empty at `None` is said by
-    // `append_if_fits`.
+    /// comes back, and both are as they were. `append_if_fits` does the same, and tells what `other` is in both cases.
+    // What may have gone into the result has no value after the call, so no clause can say that `other` is empty at `None`.
     pub fn try_append<'o>(&mut self, other: &'o mut Self) -> Option<&'o mut Self>
         ensures full { IsSome result ↔ (A.CAPACITY < items_len self.old + items_len other.old) }
         ensures refused { IfSome result (λ back. (back.now ≡ other.old) × (self.new ≡ self.old)) }
@@ -67,9 +68,9 @@ impl<A: Array> ArrayVec<A> {
         ensures items { IfNone result (items self.new ≡ items self.old ++ items other.old) }
         ensures spare { IfNone result (spare self.new ≡ drop (items_len other.old) (spare self.old)) }
     {
-        if self.append_if_fits(other) {
-            return None;
+        match self.append_if_fits(other) {
+            Ok(_emptied) => None,
+            Err(refused) => Some(refused),
         }
-        Some(other)
     }
 }

@@ -2,6 +2,7 @@
 ghost use Rattle.std.specs.Prelude.{◌≡◌, ◌-◌, ◌≤◌, length, take};
 ghost use Rattle.std.specs.Fn.{CalledAt};
 ghost use Rattle.std.specs.List.Retain.{IsFiltered};
+ghost use Rattle.tinyvec_slots.specs.Filters.{IsFilteredTo};
 ghost use Rattle.tinyvec_slots.specs.Slots.{Frees};
 ghost use Rattle.tinyvec_slice.specs.View.{items_of, spare_of, name_of, seen_of};
 
@@ -14,10 +15,22 @@ where
 {
     /// Asks `f` about each item in turn, and keeps those at which it answers `true`. The emptied slots stand before the
     /// old spare slots.
-    pub fn retain<F: FnMut(&B::Item) -> bool>(&mut self, f: F)
+    pub fn retain<F: FnMut(&B::Item) -> bool>(&mut self, mut f: F)
         requires { F.IsAlwaysCallable f }
         ensures same_reference { name_of B.Lent self.new ≡ name_of B.Lent self.old }
         ensures filtered { IsFiltered (CalledAt F.FnMut) f (items_of B.Lent self.old) (items_of B.Lent self.new) }
+        ensures bound { length (items_of B.Lent self.new) ≤ length (items_of B.Lent self.old) }
+        ensures spare { Frees B.Item.is_default (length (items_of B.Lent self.old) - length (items_of B.Lent self.new)) (seen_of B.Lent self.old) (seen_of B.Lent self.new) }
+    {
+        self.retain_asked(&mut f);
+    }
+
+    // `retain`, and the state in which the last question leaves `f`.
+    fn retain_asked<F: FnMut(&B::Item) -> bool>(&mut self, f: &mut F)
+        requires { F.IsAlwaysCallable f.old }
+        ensures same_reference { name_of B.Lent self.new ≡ name_of B.Lent self.old }
+        ensures filtered { IsFiltered (CalledAt F.FnMut) f.old (items_of B.Lent self.old) (items_of B.Lent self.new) }
+        ensures asked { IsFilteredTo (CalledAt F.FnMut) f.old (items_of B.Lent self.old) (items_of B.Lent self.new) f.new }
         ensures bound { length (items_of B.Lent self.new) ≤ length (items_of B.Lent self.old) }
         ensures spare { Frees B.Item.is_default (length (items_of B.Lent self.old) - length (items_of B.Lent self.new)) (seen_of B.Lent self.old) (seen_of B.Lent self.new) }
     {
@@ -28,10 +41,11 @@ where
 
 impl<B: Lent> SliceVecOver<B> {
     // Moves the items at which `f` answers `true` to the front of the list, and counts them.
-    fn retain_first<F: FnMut(&B::Item) -> bool>(&mut self, f: F) -> usize
-        requires { F.IsAlwaysCallable f }
+    fn retain_first<F: FnMut(&B::Item) -> bool>(&mut self, f: &mut F) -> usize
+        requires { F.IsAlwaysCallable f.old }
         ensures same_reference { name_of B.Lent self.new ≡ name_of B.Lent self.old }
-        ensures filtered { IsFiltered (CalledAt F.FnMut) f (items_of B.Lent self.old) (take result (items_of B.Lent self.new)) }
+        ensures filtered { IsFiltered (CalledAt F.FnMut) f.old (items_of B.Lent self.old) (take result (items_of B.Lent self.new)) }
+        ensures asked { IsFilteredTo (CalledAt F.FnMut) f.old (items_of B.Lent self.old) (take result (items_of B.Lent self.new)) f.new }
         ensures bound { result ≤ length (items_of B.Lent self.old) }
         ensures len { length (items_of B.Lent self.new) ≡ length (items_of B.Lent self.old) }
         ensures spare { spare_of B.Lent self.new ≡ spare_of B.Lent self.old }

@@ -1,6 +1,7 @@
 //! The list made longer or shorter to a length. A slot that the list gives up is given a clone or an answer, and no default.
 ghost use Rattle.std.specs.Prelude.{◌≡◌, ◌-◌, ◌<◌, ◌≤◌, ◌++◌, ◌∷◌, [], ℕ, List, length, take, drop, replicate, reverse, IfErr, IsOk, OnOk, OnErr};
 ghost use Rattle.std.specs.List.{AppendsResults};
+ghost use Rattle.tinyvec_slots.specs.Filling.{AppendsResultsTo};
 ghost use Rattle.tinyvec_slice.specs.View.{items_of, spare_of, slots_of, name_of};
 
 use crate::clone_slots::put_copies;
@@ -91,7 +92,7 @@ impl<B: Lent> SliceVecOver<B> {
 
     /// Fills the list up to `n` items with what `f` answers, or cuts it to `n` items and fills the emptied slots with what
     /// `f` answers, the last slot first.
-    pub fn resize_with<F: FnMut() -> B::Item>(&mut self, n: usize, f: F)
+    pub fn resize_with<F: FnMut() -> B::Item>(&mut self, n: usize, mut f: F)
         requires room { n ≤ length (slots_of B.Lent self.old) }
         requires callable { F.IsAlwaysCallable f }
         ensures same_reference { name_of B.Lent self.new ≡ name_of B.Lent self.old }
@@ -102,6 +103,21 @@ impl<B: Lent> SliceVecOver<B> {
             × ((ys : List B.Item) × AppendsResults F.step [] ys f × (length ys ≡ length (items_of B.Lent self.old) - n)
             × (spare_of B.Lent self.new ≡ reverse ys ++ spare_of B.Lent self.old)) }
     {
+        self.resize_asked(n, &mut f);
+    }
+
+    // `resize_with`, and the state in which the last question leaves `f`.
+    fn resize_asked<F: FnMut() -> B::Item>(&mut self, n: usize, f: &mut F)
+        requires room { n ≤ length (slots_of B.Lent self.old) }
+        requires callable { F.IsAlwaysCallable f.old }
+        ensures same_reference { name_of B.Lent self.new ≡ name_of B.Lent self.old }
+        ensures len { length (items_of B.Lent self.new) ≡ n }
+        ensures grown { length (items_of B.Lent self.old) ≤ n → AppendsResultsTo F.step (items_of B.Lent self.old) (items_of B.Lent self.new) f.old f.new
+            × (spare_of B.Lent self.new ≡ drop (n - length (items_of B.Lent self.old)) (spare_of B.Lent self.old)) }
+        ensures cut { n ≤ length (items_of B.Lent self.old) → (items_of B.Lent self.new ≡ take n (items_of B.Lent self.old))
+            × ((ys : List B.Item) × AppendsResultsTo F.step [] ys f.old f.new × (length ys ≡ length (items_of B.Lent self.old) - n)
+            × (spare_of B.Lent self.new ≡ reverse ys ++ spare_of B.Lent self.old)) }
+    {
         if n <= self.len() {
             self.cut_to_answers(n, f);
             return;
@@ -110,13 +126,13 @@ impl<B: Lent> SliceVecOver<B> {
     }
 
     // Fills the list up to `n` items with what `f` answers.
-    fn grow_by_answers<F: FnMut() -> B::Item>(&mut self, n: usize, mut f: F)
+    fn grow_by_answers<F: FnMut() -> B::Item>(&mut self, n: usize, f: &mut F)
         requires longer { length (items_of B.Lent self.old) ≤ n }
         requires room { n ≤ length (slots_of B.Lent self.old) }
-        requires callable { F.IsAlwaysCallable f }
+        requires callable { F.IsAlwaysCallable f.old }
         ensures same_reference { name_of B.Lent self.new ≡ name_of B.Lent self.old }
         ensures len { length (items_of B.Lent self.new) ≡ n }
-        ensures items { AppendsResults F.step (items_of B.Lent self.old) (items_of B.Lent self.new) f }
+        ensures items { AppendsResultsTo F.step (items_of B.Lent self.old) (items_of B.Lent self.new) f.old f.new }
         ensures spare { spare_of B.Lent self.new ≡ drop (n - length (items_of B.Lent self.old)) (spare_of B.Lent self.old) }
     {
         while self.len() < n {
@@ -125,12 +141,12 @@ impl<B: Lent> SliceVecOver<B> {
     }
 
     // Cuts the list to `n` items, and fills the emptied slots with what `f` answers, the last slot first.
-    fn cut_to_answers<F: FnMut() -> B::Item>(&mut self, n: usize, mut f: F)
+    fn cut_to_answers<F: FnMut() -> B::Item>(&mut self, n: usize, f: &mut F)
         requires shorter { n ≤ length (items_of B.Lent self.old) }
-        requires callable { F.IsAlwaysCallable f }
+        requires callable { F.IsAlwaysCallable f.old }
         ensures same_reference { name_of B.Lent self.new ≡ name_of B.Lent self.old }
         ensures items { items_of B.Lent self.new ≡ take n (items_of B.Lent self.old) }
-        ensures spare { (ys : List B.Item) × AppendsResults F.step [] ys f × (length ys ≡ length (items_of B.Lent self.old) - n)
+        ensures spare { (ys : List B.Item) × AppendsResultsTo F.step [] ys f.old f.new × (length ys ≡ length (items_of B.Lent self.old) - n)
             × (spare_of B.Lent self.new ≡ reverse ys ++ spare_of B.Lent self.old) }
     {
         while self.len() > n {

@@ -2,8 +2,8 @@ use Rattle.std.proofs.Common.{◌<◌, length, arith, of_calls, refl}
 use Rattle.std.specs.Fn.{CalledAt}
 use Rattle.std.proofs.lemmas.Fn.{called_at}
 use Rattle.std.proofs.lemmas.List.{get_or_default}
-use Rattle.std.proofs.RetainMut.{retain_mut_end}
-use Rattle.tinyvec_slots.proofs.FiltersLemmas.{OnlyAsks, keeps_shown, drops_shown, filtered_in_turn}
+use Rattle.tinyvec_slots.proofs.LastStateLemmas.{retain_mut_end, IsFilteredTo-filtered}
+use Rattle.tinyvec_slots.proofs.FiltersLemmas.{OnlyAsks, keeps_shown, drops_shown, filtered_to}
 use Rattle.tinyvec_slots.proofs.filtering.retain_in_front.Goals.{then-f, else-f}
 use Rattle.tinyvec_slots.proofs.filtering.retain_in_front.Goals as goal
 
@@ -18,20 +18,23 @@ loop-i-preserved g c =
         order = omega arith;
         callable = search of_calls;
         so_far = rw (w.items-is, w.kept-is, w.swap.ensures.after)
-            (keeps_shown R c.args.f c.args.items.now at.f _ at.items at.kept at.i _ at.invariant.order within
-            (get_or_default at.items at.i _ _ within) at.invariant.so_far (rw w.if-f.true at called));
+            (λ last. keeps_shown R last c.args.f.now c.args.items.now at.f _ at.items at.kept at.i _ at.invariant.order within
+            (get_or_default at.items at.i _ _ within) (at.invariant.so_far last) (rw w.if-f.true at called));
       }
       | else-f w ↦ record {
         order = omega arith;
         callable = search of_calls;
         so_far = rw (w.items-is, w.kept-is)
-            (drops_shown R c.args.f c.args.items.now at.f _ at.items at.kept at.i _ at.invariant.order within
-            (get_or_default at.items at.i _ _ within) at.invariant.so_far (rw w.if-f.false at called));
+            (λ last. drops_shown R last c.args.f.now c.args.items.now at.f _ at.items at.kept at.i _ at.invariant.order within
+            (get_or_default at.items at.i _ _ within) (at.invariant.so_far last) (rw w.if-f.false at called));
       }
     ]
 
-pub returns-clause-filtered : goal.returns-clause-filtered
-returns-clause-filtered g c =
+pub returns-clause-asked : goal.returns-clause-asked
+returns-clause-asked g c =
     let at = c.loop-i in
     let R = CalledAt g.F.FnMut in
-    filtered_in_turn R _ _ _ (retain_mut_end (OnlyAsks R) _ _ at.f at.items at.kept at.i (omega arith) at.invariant.so_far)
+    filtered_to R at.f _ _ _ (retain_mut_end (OnlyAsks R) at.f _ _ at.f at.items at.kept at.i (omega arith) refl (at.invariant.so_far at.f))
+
+pub returns-clause-filtered : goal.returns-clause-filtered
+returns-clause-filtered g c = IsFilteredTo-filtered _ _ _ _ _ (returns-clause-asked g c)

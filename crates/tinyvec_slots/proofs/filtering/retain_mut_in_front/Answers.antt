@@ -1,7 +1,8 @@
-use Rattle.std.proofs.Common.{◌<◌, length, arith, of_calls}
+use Rattle.std.proofs.Common.{◌<◌, length, arith, of_calls, refl}
 use Rattle.std.specs.Fn.{CalledAtMut}
 use Rattle.std.proofs.lemmas.List.{get_or_default}
-use Rattle.std.proofs.RetainMut.{Called-Mut, retain_mut_end}
+use Rattle.std.proofs.RetainMut.{Called-Mut}
+use Rattle.tinyvec_slots.proofs.LastStateLemmas.{retain_mut_end, RetainsTo-in_turn}
 use Rattle.tinyvec_slots.proofs.FiltersLemmas.{keeps_item, drops_item}
 use Rattle.tinyvec_slots.proofs.filtering.retain_mut_in_front.Goals.{then-f, else-f}
 use Rattle.tinyvec_slots.proofs.filtering.retain_mut_in_front.Goals as goal
@@ -17,19 +18,22 @@ loop-i-preserved g c =
         order = omega arith;
         callable = search of_calls;
         so_far = rw (w.items-is, w.kept-is, w.swap.ensures.after)
-            (keeps_item R c.args.f c.args.items.now at.f _ at.items at.kept at.i _ _ at.invariant.order within
-            (get_or_default at.items at.i _ _ within) at.invariant.so_far (rw w.if-f.true at called));
+            (λ last. keeps_item R last c.args.f.now c.args.items.now at.f _ at.items at.kept at.i _ _ at.invariant.order within
+            (get_or_default at.items at.i _ _ within) (at.invariant.so_far last) (rw w.if-f.true at called));
       }
       | else-f w ↦ record {
         order = omega arith;
         callable = search of_calls;
         so_far = rw (w.items-is, w.kept-is)
-            (drops_item R c.args.f c.args.items.now at.f _ at.items at.kept at.i _ _ at.invariant.order within
-            (get_or_default at.items at.i _ _ within) at.invariant.so_far (rw w.if-f.false at called));
+            (λ last. drops_item R last c.args.f.now c.args.items.now at.f _ at.items at.kept at.i _ _ at.invariant.order within
+            (get_or_default at.items at.i _ _ within) (at.invariant.so_far last) (rw w.if-f.false at called));
       }
     ]
 
-pub returns-clause-filtered : goal.returns-clause-filtered
-returns-clause-filtered g c =
+pub returns-clause-asked : goal.returns-clause-asked
+returns-clause-asked g c =
     let at = c.loop-i in
-    retain_mut_end (CalledAtMut g.F.FnMut) _ _ at.f at.items at.kept at.i (omega arith) at.invariant.so_far
+    retain_mut_end (CalledAtMut g.F.FnMut) at.f _ _ at.f at.items at.kept at.i (omega arith) refl (at.invariant.so_far at.f)
+
+pub returns-clause-filtered : goal.returns-clause-filtered
+returns-clause-filtered g c = RetainsTo-in_turn _ _ _ _ _ (returns-clause-asked g c)

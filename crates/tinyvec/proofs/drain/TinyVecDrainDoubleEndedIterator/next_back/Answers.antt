@@ -10,11 +10,11 @@ returns-clause-steps g c =
     let xs = tiny_items d.vec.now in
     let after = c.take_at.ensures.after in
     let frame = c.take_at.ensures.frame in (
-      rw after.1 (slice_range_last xs d.front d.back c.take_at.result after.0
+      rw after.2 (slice_range_last xs d.front d.back c.take_at.result after.0
           (omega arith) c.requires.1 c.take_at.ensures.value),
       (
         refl,
-        ap (take d.keep) after.1 ∙ take-set-le d.keep xs (d.back - 1) after.0 (omega arith),
+        ap (take d.keep) after.2 ∙ take-set-le d.keep xs (d.back - 1) after.0 (omega arith),
         frame,
         λ h. (omega arith, omega (arith, frame.0, h.1)),
       ),

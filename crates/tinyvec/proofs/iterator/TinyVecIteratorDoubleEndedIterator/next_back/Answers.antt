@@ -8,4 +8,4 @@ returns-clause-steps g c =
     let inside = c.self.inside in
     let after = c.take_at.ensures.after in
     let left : inside.front < inside.back = omega (arith, c.self.invariant.0) in
-    rw (after.1, ← c.self.view_is) (slice_range_last (tiny_items inside.vec) inside.front inside.back c.take_at.result after.0 left c.self.invariant.1 c.take_at.ensures.value)
+    rw (after.2, ← c.self.view_is) (slice_range_last (tiny_items inside.vec) inside.front inside.back c.take_at.result after.0 left c.self.invariant.1 c.take_at.ensures.value)

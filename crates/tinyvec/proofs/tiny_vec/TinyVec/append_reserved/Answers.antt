@@ -7,5 +7,5 @@ pub returns-clause-other_slots : goal.returns-clause-other_slots
 returns-clause-other_slots g c =
     let old = c.args.other.now in
     let left = c.push_taken.new.from in
-    let frame = tiny_framed-with old left (c.push_taken.ensures.len ∙ ap length c.as_mut_slice.ensures.value) in
+    let frame = tiny_framed-with old left (c.push_taken.ensures.left.0 ∙ ap length c.as_mut_slice.ensures.value) in
     tiny_slots_framed g.A.Item.Default.is_default old (tiny_with_items old left) c.clear.new.self frame c.clear.ensures.slots

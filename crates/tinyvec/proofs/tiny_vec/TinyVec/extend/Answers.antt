@@ -19,6 +19,9 @@ loop-item-preserved g c =
       search rules,
       omega (arith, inv.5),
       tiny_slots_then g.A.Item.Default.is_default c.args.self.now old c.push.new.self (λ i. (made.place.0 i).0) inv.5 more inv.6 c.push.ensures.slots,
+      λ fits.
+          let same = inv.7 (omega (arith, grown, fits)) in
+          c.push.ensures.same_room (omega (arith, grown, fits, same)) ∙ same,
     )
 
 pub returns-in-Err-clause-listed : goal.returns-in-Err-clause-listed

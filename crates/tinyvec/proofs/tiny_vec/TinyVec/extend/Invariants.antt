@@ -10,3 +10,5 @@ invariant-loop-item g l = (goal.iterator-loop-item g).can_next l.items
     × PlaceRule g.A.Array.CAPACITY (tiny_len l.self) l.initial.self l.self
     × (tiny_len l.initial.self ≤ tiny_len l.self)
     × TinySlotRule g.A.Item.Default.is_default l.initial.self l.self
+    × (tiny_len l.self ≤ tiny_capacity g.A.Array.CAPACITY l.initial.self
+    → tiny_capacity g.A.Array.CAPACITY l.self ≡ tiny_capacity g.A.Array.CAPACITY l.initial.self)

@@ -1,5 +1,6 @@
-use Rattle.std.proofs.Common.{◌<◌, ◌∷◌, ◌++◌, [], length, take, drop, sym, ap, ◌∙◌, append_assoc, length-set}
-use Rattle.std.proofs.lemmas.List.{drop-drop}
+use Rattle.std.proofs.Common.{◌<◌, ◌∷◌, ◌++◌, [], length, take, drop, sym, ap, ◌∙◌, arith, append_assoc, length-set}
+use Rattle.std.proofs.lemmas.List.{drop-drop, take_all, take_more_set}
+use Rattle.std.proofs.lemmas.List.Elements.{All-push, All-same}
 use Rattle.tinyvec_slots.proofs.FillingLemmas.{one_taken, rest_after_one}
 use Rattle.tinyvec.specs.Tiny.{tiny_items}
 use Rattle.tinyvec.proofs.tiny_vec.TinyVec.push_taken.Goals as goal
@@ -12,7 +13,9 @@ loop-i-preserved g c =
     let first = c.args.from.now in
     let d = c.take.new.dest in
     let put = c.push_reserved.ensures in
+    let D = g.A.Item.Default.is_default in
     let within : i < length first = c.loop-i-test.true in
+    let long : i < length at.from = omega (arith, inv.4) in
     let taken = c.take.ensures.value ∙ sym c.index-from-i.is in (
       put.items ∙ ap (λ l. l ++ c.take.result ∷ []) inv.0 ∙ append_assoc _ (take i first) _
           ∙ ap (λ l. tiny_items c.args.self.now ++ l) (ap (λ y. take i first ++ y ∷ []) taken ∙ sym (one_taken at.from first i c.index-from-i.result within inv.5 c.index-from-i.is)),
@@ -21,4 +24,11 @@ loop-i-preserved g c =
       put.capacity ∙ inv.3,
       length-set at.from i d ∙ inv.4,
       rest_after_one at.from first i d inv.5,
+      All-same D _ _ (take_more_set at.from i d long) (All-push D (take i at.from) d inv.6 c.take.ensures.after),
     )
+
+pub returns-clause-left : goal.returns-clause-left
+returns-clause-left g c =
+    let at = c.loop-i in
+    let all = take_all at.i at.from (omega (arith, at.invariant.4)) in
+    (at.invariant.4, All-same g.A.Item.Default.is_default _ _ (sym all) at.invariant.6)

@@ -1,4 +1,5 @@
 use Rattle.std.proofs.Common.{◌≡◌, ◌++◌, length, take, drop}
+use Rattle.std.specs.Prelude.{All}
 use Rattle.tinyvec.specs.Tiny.{tiny_items, tiny_spare, is_inline, tiny_capacity}
 use Rattle.tinyvec.proofs.tiny_vec.TinyVec.push_taken.Given as goal
 
@@ -9,3 +10,4 @@ invariant-loop-i g l = (tiny_items l.self ≡ tiny_items l.initial.self ++ take 
     × (tiny_capacity g.A.Array.CAPACITY l.self ≡ tiny_capacity g.A.Array.CAPACITY l.initial.self)
     × (length l.from ≡ length l.initial.from)
     × (drop l.i l.from ≡ drop l.i l.initial.from)
+    × All g.A.Item.Default.is_default (take l.i l.from)

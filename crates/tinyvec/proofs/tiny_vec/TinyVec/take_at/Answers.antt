@@ -10,7 +10,7 @@ returns-clause-after g c =
     let d = c.take.new.dest in
     let same = c.as_mut_slice.ensures.value in
     let long : length (set xs c.args.i d) ≡ tiny_len v = length-set xs c.args.i d ∙ ap length same in
-    (d, tiny_items-with v (set xs c.args.i d) long ∙ ap (λ l. set l c.args.i d) same)
+    (d, c.take.ensures.after, tiny_items-with v (set xs c.args.i d) long ∙ ap (λ l. set l c.args.i d) same)
 
 pub returns-clause-frame : goal.returns-clause-frame
 returns-clause-frame g c =

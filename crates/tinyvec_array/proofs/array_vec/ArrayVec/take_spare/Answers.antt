@@ -6,4 +6,4 @@ returns-clause-spare g c =
     let inside = c.self.inside in
     let slots = g.A.Array.slots inside.array in
     let after = c.take_slot_behind.ensures.after in
-    (after.0, rw (after.2, ← c.self.view_is) (drop-set-add inside.len slots c.args.i after.0))
+    (after.0, after.1, rw (after.2, ← c.self.view_is) (drop-set-add inside.len slots c.args.i after.0))

@@ -9,7 +9,7 @@ returns-clause-steps g c =
     let xs = spare d.vec.now in
     let after = c.take_spare.ensures.spare in
     let long = length-set xs d.front after.0 in
-    rw (after.1) (
+    rw (after.2) (
       slice_range_first xs d.front d.back c.take_spare.result after.0 (omega arith) (omega arith) c.take_spare.ensures.value,
       (
         refl,

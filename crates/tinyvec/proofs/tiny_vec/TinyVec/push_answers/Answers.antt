@@ -1,0 +1,32 @@
+use Rattle.std.proofs.Common.{◌≡◌, ◌+◌, ◌-◌, ◌∷◌, [], refl, ◌++◌, length, drop, ap, ◌∙◌, arith, append_assoc, of_calls}
+use Rattle.std.specs.Fn.{Called}
+use Rattle.std.proofs.SliceLists.{chained_more}
+use Rattle.std.proofs.iter.Next.{called}
+use Rattle.std.proofs.lemmas.List.{length_push, drop-drop}
+use Rattle.tinyvec.specs.Tiny.{tiny_items, tiny_len, tiny_spare}
+use Rattle.tinyvec.proofs.tiny_vec.TinyVec.push_answers.Goals as goal
+
+pub loop-self-preserved : goal.loop-self-preserved
+loop-self-preserved g c =
+    let at = c.loop-self in
+    let put = c.push_reserved.ensures in
+    let y = c.f.result in
+    let run = at.invariant.3 in
+    let len = c.len.ensures.value in
+    let more = c.loop-self-test.true in
+    let first = tiny_len c.args.self.now in
+    let grown = ap length put.items ∙ length_push (tiny_items at.self) y in
+    let used : tiny_len at.self - first + 1 ≡ tiny_len c.push_reserved.new.self - first = omega (arith, grown, at.invariant.1) in (
+      omega (arith, grown),
+      omega (arith, grown, at.invariant.1),
+      put.spare ∙ ap (drop 1) at.invariant.2 ∙ drop-drop 1 (tiny_len at.self - first) (tiny_spare c.args.self.now)
+          ∙ ap (λ k. drop k (tiny_spare c.args.self.now)) used,
+      (
+        run.0 ++ y ∷ [],
+        put.items ∙ ap (λ l. l ++ y ∷ []) run.1 ∙ append_assoc _ run.0 (y ∷ []),
+        chained_more (λ f y f'. Called g.F.FnMut f tt y f') _ run.0 at.f y _ run.2 (called g.F.FnMut c.f.ensures refl),
+      ),
+      search of_calls,
+      put.place ∙ at.invariant.5,
+      put.capacity ∙ at.invariant.6,
+    )
