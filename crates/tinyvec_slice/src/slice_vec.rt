@@ -123,6 +123,7 @@ where
         ensures same_reference { name_of B.Lent self.new ≡ name_of B.Lent self.old }
         ensures items { items_of B.Lent self.new ≡ items_of B.Lent self.old }
         ensures spare { n ≤ length (spare_of B.Lent self.old) → (ds : List B.Item) × AreDefaults B.Item.is_default n ds × (spare_of B.Lent self.new ≡ ds ++ drop n (spare_of B.Lent self.old)) }
+        ensures none { length (spare_of B.Lent self.old) < n → self.new ≡ self.old }
     {
         let len = self.len();
         if n <= self.capacity() - len {

@@ -46,7 +46,8 @@ impl<'s, T: Drop> IntoIterator for SliceVecOver<&'s mut [T]> {
     ghost into_iter_gives = { λ v it. (iter_mut_rest it ≡ items v) × (length (iter_mut_rest it) < 2 ^ 64)
         × EveryRun (iter_mut_steps {A = T}) (λ p. ItemsMapTo p (λ x. x.now) (iter_mut_rest p.from)) };
 
-    /// The items of the list for writing, without the spare slots.
+    /// The items of the list for writing, without the spare slots. The owner of the slots is not told what is written: a
+    /// loop over `as_mut_slice().iter_mut()` tells it.
     fn into_iter(self) -> slice::IterMut<'s, T> {
         let len = self.len();
         let SliceVecOver { len: _, lent } = self;

@@ -49,7 +49,8 @@ where
 
 impl<'s, T: Drop> SliceVecOver<&'s mut [T]> {
     /// Cuts the list at `at`. The vector keeps the slots before that, all of which hold the list. What comes back has the
-    /// items from there on, and all spare slots. No slot is written.
+    /// items from there on, and all spare slots. No slot is written. The owner of the slots is not told which part lies
+    /// where: a caller that parts `as_mut_inner()` by `split_at_mut`, and makes a vector over each part, knows it.
     pub fn split_off(&mut self, at: usize) -> SliceVec<'s, T>
         requires { at ≤ length (items self.old) }
         ensures items { items self.new ≡ take at (items self.old) }
