@@ -84,17 +84,19 @@ impl Read for Pieces<'_> {
     }
 }
 
-/// Passes so many calls on to the end that it holds, fails at the next one, and passes on those after it.
+/// Passes so many calls on to the end that it holds, answers the next one with an error of that kind, and passes on those
+/// after it.
 #[derive(Drop)]
 pub struct FailsOnce<E: Drop> {
     end: E,
     before: Option<usize>,
+    kind: ErrorKind,
 }
 
 impl<E: Drop> FailsOnce<E> {
     /// With `None` it never fails.
-    pub fn new(end: E, before: Option<usize>) -> Self {
-        FailsOnce { end, before }
+    pub fn new(end: E, before: Option<usize>, kind: ErrorKind) -> Self {
+        FailsOnce { end, before, kind }
     }
 
     fn try_once(&mut self) -> io::Result<()> {
@@ -102,7 +104,7 @@ impl<E: Drop> FailsOnce<E> {
             None => Ok(()),
             Some(0) => {
                 self.before = None;
-                Err(io::Error::other("broken"))
+                Err(io::Error::from(self.kind))
             }
             Some(more) => {
                 self.before = Some(more - 1);

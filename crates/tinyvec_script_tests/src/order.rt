@@ -3,7 +3,7 @@ use crate::answered::ROOM;
 use crate::ends::{Event, FailsOnce, Pieces, Recorded};
 use std::alloc::Global;
 use std::cell::RefCell;
-use std::io::{Read, Write};
+use std::io::{ErrorKind, Read, Write};
 use std::test::Fail;
 use tinyvec_io::Counted;
 use tinyvec_script::{RunError, run};
@@ -188,11 +188,64 @@ fn nothing_is_asked_after_a_fault(rt: HostRuntime) -> Result<(), Fail> {
         ),
     ];
     for (index, (pieces, reads, writes, wanted, error)) in cases.into_iter().enumerate() {
-        let reader = FailsOnce::new(Pieces::new(pieces), reads);
-        let writer = FailsOnce::new(Vec::with_capacity(rt.alloc(), ROOM)?, writes);
+        let reader = FailsOnce::new(Pieces::new(pieces), reads, ErrorKind::Other);
+        let writer = FailsOnce::new(
+            Vec::with_capacity(rt.alloc(), ROOM)?,
+            writes,
+            ErrorKind::Other,
+        );
         let (events, result) = asked(rt.alloc(), reader, writer)?;
         assert_eq!(rt; events.as_slice(), wanted, "case {index}");
         assert_eq!(rt; result, Err(error), "case {index}");
+    }
+    Ok(())
+}
+
+#[test]
+fn a_script_goes_on_after_an_interruption(rt: HostRuntime) -> Result<(), Fail> {
+    let cases: [(Option<usize>, Option<usize>, &[Event]); 3] = [
+        (
+            Some(0),
+            None,
+            &[
+                Event::Fault,
+                Event::Read(6),
+                Event::Write(21),
+                Event::Read(0),
+                Event::Flush,
+            ],
+        ),
+        (
+            Some(1),
+            None,
+            &[
+                Event::Read(6),
+                Event::Write(21),
+                Event::Fault,
+                Event::Read(0),
+                Event::Flush,
+            ],
+        ),
+        (
+            None,
+            Some(0),
+            &[
+                Event::Read(6),
+                Event::Fault,
+                Event::Write(21),
+                Event::Read(0),
+                Event::Flush,
+            ],
+        ),
+    ];
+    for (index, (reads, writes, wanted)) in cases.into_iter().enumerate() {
+        let input: &[u8] = b"A pop\n";
+        let output = Vec::with_capacity(rt.alloc(), ROOM)?;
+        let reader = FailsOnce::new(input, reads, ErrorKind::Interrupted);
+        let writer = FailsOnce::new(output, writes, ErrorKind::Interrupted);
+        let (events, result) = asked(rt.alloc(), reader, writer)?;
+        assert_eq!(rt; events.as_slice(), wanted, "case {index}");
+        assert_eq!(rt; result, Ok(()), "case {index}");
     }
     Ok(())
 }
