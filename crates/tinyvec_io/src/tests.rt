@@ -227,6 +227,57 @@ fn write_all_fails_at_a_write_that_fails_or_takes_nothing(rt: HostRuntime) -> Re
     Ok(())
 }
 
+// An end that is interrupted so often, and then is one over memory.
+#[derive(Drop)]
+struct Interrupts<E: Drop> {
+    end: E,
+    left: u64,
+}
+
+impl<E: Drop> Interrupts<E> {
+    fn try_once(&mut self) -> io::Result<()> {
+        if self.left == 0 {
+            return Ok(());
+        }
+        self.left -= 1;
+        Err(io::Error::from(Interrupted))
+    }
+}
+
+impl<R: Read + Drop> Read for Interrupts<R> {
+    fn read(&mut self, buf: &mut [u8]) -> io::Result<usize> {
+        self.try_once()?;
+        self.end.read(buf)
+    }
+}
+
+impl<W: Write + Drop> Write for Interrupts<W> {
+    fn write(&mut self, buf: &[u8]) -> io::Result<usize> {
+        self.try_once()?;
+        self.end.write(buf)
+    }
+
+    fn flush(&mut self) -> io::Result<()> {
+        self.end.flush()
+    }
+}
+
+#[test]
+fn many_interruptions_are_no_end(rt: HostRuntime) -> Result<(), Fail> {
+    let text: &[u8] = b"tiny";
+    let left = 100_000;
+    let mut reader = Counted::new(Interrupts { end: text, left });
+    let mut buf = [b'.'; 4];
+    assert_eq!(rt; reader.read_some(&mut buf)?, 4);
+    assert_eq!(rt; reader.faults(), left);
+    let end = Vec::with_capacity(rt.alloc(), 8)?;
+    let mut writer = Counted::new(Interrupts { end, left });
+    writer.write_all(&buf)?;
+    assert_eq!(rt; writer.faults(), left);
+    assert_eq!(rt; writer.into_inner().end.as_slice(), text);
+    Ok(())
+}
+
 // Over a slice and a vector the clauses name the bytes.
 fn copied_front(alloc: Global, text: &[u8]) -> io::Result<Vec<u8>>
     ensures { IfOk result (λ copy. StartsWith text.now copy.items) }

@@ -60,22 +60,6 @@ impl Write for Fills {
     }
 }
 
-/// Takes all bytes, and fails to flush.
-#[derive(Drop)]
-pub struct Clogs {
-    pub taken: Vec<u8>,
-}
-
-impl Write for Clogs {
-    fn write(&mut self, buf: &[u8]) -> io::Result<usize> {
-        self.taken.write(buf)
-    }
-
-    fn flush(&mut self) -> io::Result<()> {
-        Err(io::Error::other("clogged"))
-    }
-}
-
 /// Gives its pieces, one a read.
 #[derive(Drop)]
 pub struct Pieces<'a> {
@@ -100,22 +84,77 @@ impl Read for Pieces<'_> {
     }
 }
 
-/// What was asked of an end, and how many bytes that moved.
+/// Passes so many calls on to the end that it holds, answers the next one with an error of that kind, and passes on those
+/// after it.
+#[derive(Drop)]
+pub struct FailsOnce<E: Drop> {
+    end: E,
+    before: Option<usize>,
+    kind: ErrorKind,
+}
+
+impl<E: Drop> FailsOnce<E> {
+    /// With `None` it never fails.
+    pub fn new(end: E, before: Option<usize>, kind: ErrorKind) -> Self {
+        FailsOnce { end, before, kind }
+    }
+
+    fn try_once(&mut self) -> io::Result<()> {
+        match self.before {
+            None => Ok(()),
+            Some(0) => {
+                self.before = None;
+                Err(io::Error::from(self.kind))
+            }
+            Some(more) => {
+                self.before = Some(more - 1);
+                Ok(())
+            }
+        }
+    }
+}
+
+impl<R: Read + Drop> Read for FailsOnce<R> {
+    fn read(&mut self, buf: &mut [u8]) -> io::Result<usize> {
+        self.try_once()?;
+        self.end.read(buf)
+    }
+}
+
+impl<W: Write + Drop> Write for FailsOnce<W> {
+    fn write(&mut self, buf: &[u8]) -> io::Result<usize> {
+        self.try_once()?;
+        self.end.write(buf)
+    }
+
+    fn flush(&mut self) -> io::Result<()> {
+        self.try_once()?;
+        self.end.flush()
+    }
+}
+
+/// What an end was asked, and how many bytes that moved.
 #[derive(Clone, Copy, PartialEq, Debug, Drop)]
 pub enum Event {
     Read(usize),
     Write(usize),
     Flush,
+    /// The call failed.
+    Fault,
 }
 
-/// Records what is asked of the end that it holds, in a list that several ends may share.
+/// Records what the end that it holds is asked, in a list that several ends may share.
 #[derive(Drop)]
 pub struct Recorded<'a, E: Drop> {
-    pub end: E,
-    pub events: &'a RefCell<Vec<Event>>,
+    end: E,
+    events: &'a RefCell<Vec<Event>>,
 }
 
-impl<E: Drop> Recorded<'_, E> {
+impl<'a, E: Drop> Recorded<'a, E> {
+    pub fn new(end: E, events: &'a RefCell<Vec<Event>>) -> Self {
+        Recorded { end, events }
+    }
+
     fn record(&self, event: Event) -> io::Result<()> {
         let Ok(mut events) = self.events.try_borrow_mut() else {
             return Err(io::Error::other("borrowed"));
@@ -127,21 +166,31 @@ impl<E: Drop> Recorded<'_, E> {
 
 impl<R: Read + Drop> Read for Recorded<'_, R> {
     fn read(&mut self, buf: &mut [u8]) -> io::Result<usize> {
-        let count = self.end.read(buf)?;
-        self.record(Event::Read(count))?;
-        Ok(count)
+        let result = self.end.read(buf);
+        match &result {
+            Ok(count) => self.record(Event::Read(*count))?,
+            Err(_) => self.record(Event::Fault)?,
+        }
+        result
     }
 }
 
 impl<W: Write + Drop> Write for Recorded<'_, W> {
     fn write(&mut self, buf: &[u8]) -> io::Result<usize> {
-        let count = self.end.write(buf)?;
-        self.record(Event::Write(count))?;
-        Ok(count)
+        let result = self.end.write(buf);
+        match &result {
+            Ok(count) => self.record(Event::Write(*count))?,
+            Err(_) => self.record(Event::Fault)?,
+        }
+        result
     }
 
     fn flush(&mut self) -> io::Result<()> {
-        self.record(Event::Flush)?;
-        self.end.flush()
+        let result = self.end.flush();
+        match &result {
+            Ok(()) => self.record(Event::Flush)?,
+            Err(_) => self.record(Event::Fault)?,
+        }
+        result
     }
 }

@@ -1,9 +1,9 @@
 //! In which order a script reads, writes and flushes.
 use crate::answered::ROOM;
-use crate::ends::{Clogs, Event, Pieces, Recorded};
+use crate::ends::{Event, FailsOnce, Pieces, Recorded};
 use std::alloc::Global;
 use std::cell::RefCell;
-use std::io::{Read, Write};
+use std::io::{ErrorKind, Read, Write};
 use std::test::Fail;
 use tinyvec_io::Counted;
 use tinyvec_script::{RunError, run};
@@ -16,14 +16,8 @@ fn asked<R: Read + Drop, W: Write + Drop>(
 ) -> Result<(Vec<Event>, Result<(), RunError>), Fail> {
     let events = RefCell::new(Vec::with_capacity(alloc, 16)?);
     let result = {
-        let mut reader = Counted::new(Recorded {
-            end: reader,
-            events: &events,
-        });
-        let mut writer = Counted::new(Recorded {
-            end: writer,
-            events: &events,
-        });
+        let mut reader = Counted::new(Recorded::new(reader, &events));
+        let mut writer = Counted::new(Recorded::new(writer, &events));
         run(alloc, &mut reader, &mut writer)
     };
     Ok((events.into_inner(), result))
@@ -107,22 +101,151 @@ fn a_long_input_is_answered_in_chunks(rt: HostRuntime) -> Result<(), Fail> {
     Ok(())
 }
 
+// Pieces of input, how many calls the reader and the writer take before one fails, what is asked, and the answer.
+type Broken<'a> = (
+    &'a [&'a [u8]],
+    Option<usize>,
+    Option<usize>,
+    &'a [Event],
+    RunError,
+);
+
 #[test]
-fn a_flush_that_fails(rt: HostRuntime) -> Result<(), Fail> {
-    let cases: [(&[u8], &[u8]); 3] = [
-        (b"", b""),
-        (b"A pop\n", b"none [] [0, 0, 0, 0]\n"),
-        (b"A pop", b"none [] [0, 0, 0, 0]\n"),
+fn nothing_is_asked_after_a_fault(rt: HostRuntime) -> Result<(), Fail> {
+    let cases: [Broken<'_>; 8] = [
+        (
+            &[b"A pop\n"],
+            Some(0),
+            None,
+            &[Event::Fault],
+            RunError::Read,
+        ),
+        (
+            &[b"A pop\n", b"A pop\n"],
+            Some(1),
+            None,
+            &[Event::Read(6), Event::Write(21), Event::Fault],
+            RunError::Read,
+        ),
+        (
+            &[b"A pop\nA p", b"op\n"],
+            Some(1),
+            None,
+            &[Event::Read(9), Event::Write(21), Event::Fault],
+            RunError::Read,
+        ),
+        (
+            &[b"A pop\n", b"A pop\n"],
+            None,
+            Some(0),
+            &[Event::Read(6), Event::Fault],
+            RunError::Write,
+        ),
+        (
+            &[b"A pop\n", b"A pop"],
+            None,
+            Some(1),
+            &[
+                Event::Read(6),
+                Event::Write(21),
+                Event::Read(5),
+                Event::Read(0),
+                Event::Fault,
+            ],
+            RunError::Write,
+        ),
+        // Here a flush fails.
+        (
+            &[],
+            None,
+            Some(0),
+            &[Event::Read(0), Event::Fault],
+            RunError::Write,
+        ),
+        (
+            &[b"A pop\n"],
+            None,
+            Some(1),
+            &[
+                Event::Read(6),
+                Event::Write(21),
+                Event::Read(0),
+                Event::Fault,
+            ],
+            RunError::Write,
+        ),
+        (
+            &[b"A pop"],
+            None,
+            Some(1),
+            &[
+                Event::Read(5),
+                Event::Read(0),
+                Event::Write(21),
+                Event::Fault,
+            ],
+            RunError::Write,
+        ),
     ];
-    for (index, (input, output)) in cases.iter().enumerate() {
-        let mut reader = Counted::new(*input);
-        let mut writer = Counted::new(Clogs {
-            taken: Vec::with_capacity(rt.alloc(), ROOM)?,
-        });
-        let result = run(rt.alloc(), &mut reader, &mut writer);
-        assert!(rt; result == Err(RunError::Write), "case {index}");
-        assert!(rt; writer.faults() == 1, "case {index}");
-        assert!(rt; writer.into_inner().taken.as_slice() == *output, "case {index}");
+    for (index, (pieces, reads, writes, wanted, error)) in cases.into_iter().enumerate() {
+        let reader = FailsOnce::new(Pieces::new(pieces), reads, ErrorKind::Other);
+        let writer = FailsOnce::new(
+            Vec::with_capacity(rt.alloc(), ROOM)?,
+            writes,
+            ErrorKind::Other,
+        );
+        let (events, result) = asked(rt.alloc(), reader, writer)?;
+        assert!(rt; events.as_slice() == wanted, "case {index}");
+        assert!(rt; result == Err(error), "case {index}");
+    }
+    Ok(())
+}
+
+#[test]
+fn a_script_goes_on_after_an_interruption(rt: HostRuntime) -> Result<(), Fail> {
+    let cases: [(Option<usize>, Option<usize>, &[Event]); 3] = [
+        (
+            Some(0),
+            None,
+            &[
+                Event::Fault,
+                Event::Read(6),
+                Event::Write(21),
+                Event::Read(0),
+                Event::Flush,
+            ],
+        ),
+        (
+            Some(1),
+            None,
+            &[
+                Event::Read(6),
+                Event::Write(21),
+                Event::Fault,
+                Event::Read(0),
+                Event::Flush,
+            ],
+        ),
+        (
+            None,
+            Some(0),
+            &[
+                Event::Read(6),
+                Event::Fault,
+                Event::Write(21),
+                Event::Read(0),
+                Event::Flush,
+            ],
+        ),
+    ];
+    for (index, (reads, writes, wanted)) in cases.into_iter().enumerate() {
+        let input: &[u8] = b"A pop\n";
+        let output = Vec::with_capacity(rt.alloc(), ROOM)?;
+        let reader = FailsOnce::new(input, reads, ErrorKind::Interrupted);
+        let writer = FailsOnce::new(output, writes, ErrorKind::Interrupted);
+        let (events, result) = asked(rt.alloc(), reader, writer)?;
+        assert!(rt; events.as_slice() == wanted, "case {index}");
+        assert!(rt; result == Ok(()), "case {index}");
     }
     Ok(())
 }

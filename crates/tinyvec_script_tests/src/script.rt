@@ -77,6 +77,15 @@ fn each_line_is_answered(rt: HostRuntime) -> Result<(), Fail> {
 }
 
 #[test]
+fn full_vectors_are_emptied_at_once(rt: HostRuntime) -> Result<(), Fail> {
+    let input =
+        b"A setlen 4\nA drain 0 4\nA setlen 4\nA splice 0 4 fbfb 1 2 3 4\nS setlen 4\nS drain 0 4\nT push 1\nT push 2\nT push 3\nT push 4\nT drain 0 4\n";
+    let output =
+        b"ok [0, 0, 0, 0] []\nitems [0, 0, 0, 0] [] [0, 0, 0, 0]\nok [0, 0, 0, 0] []\nitems [0, 0, 0, 0] [1, 2, 3, 4] []\nok [0, 0, 0, 0] []\nitems [0, 0, 0, 0] [] [0, 0, 0, 0]\nok [1] inline\nok [1, 2] inline\nok [1, 2, 3] inline\nok [1, 2, 3, 4] inline\nitems [1, 2, 3, 4] [] inline\n";
+    assert_written(&rt, input.as_slice(), output.as_slice())
+}
+
+#[test]
 fn the_end_of_input_ends_a_line_that_has_bytes(rt: HostRuntime) -> Result<(), Fail> {
     let cases: [(&[u8], &[u8]); 4] = [
         (b"", b""),

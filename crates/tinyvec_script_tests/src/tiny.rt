@@ -121,6 +121,32 @@ fn a_run_answers_each_call(rt: HostRuntime) -> Result<(), Fail> {
 }
 
 #[test]
+fn a_list_that_grows_and_shrinks_on_the_heap(rt: HostRuntime) -> Result<(), Fail> {
+    let mut vec = TinyVec::<[i32; 2]>::new(rt.alloc());
+    let mut calls = Vec::with_capacity(rt.alloc(), 64)?;
+    let mut wanted = Vec::with_capacity(rt.alloc(), 64)?;
+    for number in 0..20 {
+        calls.push(Call::Push(number))?;
+        wanted.push(Answer::Done)?;
+    }
+    for number in 0..30 {
+        calls.push(Call::Insert(0, number))?;
+        wanted.push(Answer::Done)?;
+    }
+    calls.push(Call::Reserve(1000))?;
+    wanted.push(Answer::Done)?;
+    let answers = run_tiny(rt.alloc(), &mut vec, calls)?;
+    assert_answers(&rt, answers.as_slice(), wanted.as_slice());
+    assert!(rt; vec.capacity() >= 1050);
+    let calls = Vec::from_array(rt.alloc(), [Call::Shrink])?;
+    let answers = run_tiny(rt.alloc(), &mut vec, calls)?;
+    assert_answers(&rt, answers.as_slice(), [Answer::Done].as_slice());
+    assert!(rt; vec.len() == 50);
+    assert!(rt; vec.capacity() < 1050, "memory was granted");
+    Ok(())
+}
+
+#[test]
 fn a_vector_that_cannot_move_has_no_such_call(rt: HostRuntime) -> Result<(), Fail> {
     let wanted = [Answer::Unfit, Answer::Unfit, Answer::Unfit];
     let mut array = ArrayVec::<[i32; 4]>::from_array_len([1, 2, 0, 0], 2);
