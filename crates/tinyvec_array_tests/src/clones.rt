@@ -203,21 +203,21 @@ fn each_item_is_cloned_once(rt: HostRuntime) {
     }
     left.set(100);
     assert!(rt; source.clone().is_ok());
-    assert_eq!(rt; left.get(), 79);
+    assert!(rt; left.get() == 79);
     assert!(rt; ArrayVec::<[Limited; 30]>::try_from_slice(source.as_slice()).is_ok());
-    assert_eq!(rt; left.get(), 58);
+    assert!(rt; left.get() == 58);
     let mut vec = ArrayVec::<[Limited; 21]>::new();
-    assert_eq!(rt; vec.extend_from_slice(source.as_slice()), Ok(()));
-    assert_eq!(rt; left.get(), 37);
-    assert_eq!(rt; vec.clone_from(&source), Ok(()));
-    assert_eq!(rt; left.get(), 16);
+    assert!(rt; vec.extend_from_slice(source.as_slice()) == Ok(()));
+    assert!(rt; left.get() == 37);
+    assert!(rt; vec.clone_from(&source) == Ok(()));
+    assert!(rt; left.get() == 16);
     source.truncate(2);
-    assert_eq!(rt; vec.clone_from(&source), Ok(()));
-    assert_eq!(rt; left.get(), 14);
+    assert!(rt; vec.clone_from(&source) == Ok(()));
+    assert!(rt; left.get() == 14);
     let item = Limited {
         name: 7,
         left: Some(&left),
     };
     assert!(rt; vec.resize(9, item).is_ok());
-    assert_eq!(rt; left.get(), 7);
+    assert!(rt; left.get() == 7);
 }

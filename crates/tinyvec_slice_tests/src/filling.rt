@@ -117,8 +117,8 @@ fn retain_asks_about_each_item_once(rt: HostRuntime) {
                 }
                 stays
             });
-            assert_eq!(rt; vec.len(), if stays { len } else { 0 });
-            assert_eq!(rt; asked.as_slice(), &NUMBERS[..len]);
+            assert!(rt; vec.len() == if stays { len } else { 0 });
+            assert!(rt; asked.as_slice() == &NUMBERS[..len]);
         }
     }
 }
@@ -135,8 +135,8 @@ fn resize_with_asks_once_for_each_slot(rt: HostRuntime) {
                 asked = asked.wrapping_add(1);
                 7
             });
-            assert_eq!(rt; vec.len(), n);
-            assert_eq!(rt; asked, n.abs_diff(len));
+            assert!(rt; vec.len() == n);
+            assert!(rt; asked == n.abs_diff(len));
         }
     }
 }
