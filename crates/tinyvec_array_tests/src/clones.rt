@@ -189,3 +189,35 @@ fn resize_refused(rt: HostRuntime) {
     }
     assert!(rt; names == [7, 0, 0]);
 }
+
+/// Where nothing is refused, each item is cloned once: in blocks, and what is left of them.
+#[test]
+fn each_item_is_cloned_once(rt: HostRuntime) {
+    let left = Cell::new(0);
+    let mut source = ArrayVec::<[Limited; 21]>::new();
+    for name in 0..21 {
+        let _full = source.try_push(Limited {
+            name,
+            left: Some(&left),
+        });
+    }
+    left.set(100);
+    assert!(rt; source.clone().is_ok());
+    assert!(rt; left.get() == 79);
+    assert!(rt; ArrayVec::<[Limited; 30]>::try_from_slice(source.as_slice()).is_ok());
+    assert!(rt; left.get() == 58);
+    let mut vec = ArrayVec::<[Limited; 21]>::new();
+    assert!(rt; vec.extend_from_slice(source.as_slice()) == Ok(()));
+    assert!(rt; left.get() == 37);
+    assert!(rt; vec.clone_from(&source) == Ok(()));
+    assert!(rt; left.get() == 16);
+    source.truncate(2);
+    assert!(rt; vec.clone_from(&source) == Ok(()));
+    assert!(rt; left.get() == 14);
+    let item = Limited {
+        name: 7,
+        left: Some(&left),
+    };
+    assert!(rt; vec.resize(9, item).is_ok());
+    assert!(rt; left.get() == 7);
+}

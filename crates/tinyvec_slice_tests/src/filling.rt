@@ -99,3 +99,44 @@ fn retain_the_even(rt: HostRuntime) {
     assert!(rt; vec.len() == 2);
     assert!(rt; slots == [2, 4, 0, 0, 9]);
 }
+
+const NUMBERS: [i32; 4] = [1, 2, 3, 4];
+
+/// Each of no item, of one and of more is asked about once, whether none of them or all stay.
+#[test]
+fn retain_asks_about_each_item_once(rt: HostRuntime) {
+    for stays in [false, true] {
+        for len in 0..=4 {
+            let mut seen = [0; 8];
+            let mut asked = SliceVec::from_slice_len(&mut seen, 0);
+            let mut slots = NUMBERS;
+            let mut vec = SliceVec::from_slice_len(&mut slots, len);
+            vec.retain(|x| {
+                if !asked.is_full() {
+                    asked.push(*x);
+                }
+                stays
+            });
+            assert!(rt; vec.len() == if stays { len } else { 0 });
+            assert!(rt; asked.as_slice() == &NUMBERS[..len]);
+        }
+    }
+}
+
+/// It asks for the items that are missing, or for what fills the emptied slots, and never where the list is as long.
+#[test]
+fn resize_with_asks_once_for_each_slot(rt: HostRuntime) {
+    for len in 0..=4usize {
+        for n in 0..=4usize {
+            let mut asked = 0_usize;
+            let mut slots = NUMBERS;
+            let mut vec = SliceVec::from_slice_len(&mut slots, len);
+            vec.resize_with(n, || {
+                asked = asked.wrapping_add(1);
+                7
+            });
+            assert!(rt; vec.len() == n);
+            assert!(rt; asked == n.abs_diff(len));
+        }
+    }
+}

@@ -3,9 +3,10 @@ ghost use Rattle.std.specs.Prelude.{◌≡◌};
 
 use crate::looks::{lies, spares};
 use std::alloc::{AllocError, Global};
+use std::cell::Cell;
 use std::test::Fail;
 use tinyvec::{NoMemory, TinyVec};
-use tinyvec_test_items::Item;
+use tinyvec_test_items::{Item, Limited};
 
 #[test]
 fn cloned(rt: HostRuntime) -> Result<(), Fail> {
@@ -122,5 +123,44 @@ fn clone_from_refused(rt: HostRuntime) -> Result<(), Fail> {
     assert!(rt; v.clone_from(&source) == Err(AllocError));
     assert!(rt; v.is_heap(), "memory was granted");
     assert!(rt; v.as_slice() == [Item(1)].as_slice());
+    Ok(())
+}
+
+/// Where nothing is refused, each item is cloned once, in both places.
+#[test]
+fn each_item_is_cloned_once(rt: HostRuntime) -> Result<(), Fail> {
+    for inline in [true, false] {
+        let left = Cell::new(0);
+        let mut source: TinyVec<[Limited; 21]> = TinyVec::new(rt.alloc());
+        for name in 0..21 {
+            let _granted = source.push(Limited {
+                name,
+                left: Some(&left),
+            });
+        }
+        if !inline {
+            source.move_to_the_heap()?;
+        }
+        left.set(100);
+        let mut v = source.clone()?;
+        assert_eq!(rt; left.get(), 79);
+        v.clear();
+        v.extend_from_slice(source.as_slice())?;
+        assert_eq!(rt; left.get(), 58);
+        v.clone_from(&source)?;
+        assert_eq!(rt; left.get(), 37);
+        source.truncate(2);
+        v.clone_from(&source)?;
+        assert_eq!(rt; left.get(), 35);
+        let item = Limited {
+            name: 7,
+            left: Some(&left),
+        };
+        assert!(rt; v.resize(9, item).is_ok());
+        assert_eq!(rt; left.get(), 28);
+        let copied: TinyVec<[Limited; 1]> = TinyVec::from_slice(rt.alloc(), v.as_slice())?;
+        assert_eq!(rt; copied.len(), 9);
+        assert_eq!(rt; left.get(), 19);
+    }
     Ok(())
 }

@@ -3,6 +3,7 @@ ghost use Rattle.std.specs.Prelude.{◌-◌};
 ghost use Rattle.std.specs.Iterator.{at_most};
 
 use crate::looks::{lies, spares};
+use std::test::Fail;
 use tinyvec::TinyVec;
 use tinyvec_test_items::Unhinted;
 
@@ -29,4 +30,28 @@ fn without_a_hint(rt: HostRuntime) {
         "memory was granted"
     );
     assert!(rt; lies(&v, &[1, 2, 3, 4, 5], false));
+}
+
+/// It asks for the items that are missing, and never where none is, in both places and where it moves to the heap.
+#[test]
+fn resize_with_asks_once_for_each_missing_item(rt: HostRuntime) -> Result<(), Fail> {
+    for inline in [true, false] {
+        for len in 0..=4 {
+            for n in 0..=6usize {
+                let mut asked = 0_usize;
+                let mut v = TinyVec::from_array_len(rt.alloc(), [1, 2, 3, 4], len);
+                if !inline {
+                    v.move_to_the_heap()?;
+                }
+                v.resize_with(n, || {
+                    asked = asked.wrapping_add(1);
+                    7
+                })?;
+                assert_eq!(rt; v.len(), n);
+                assert_eq!(rt; v.is_inline(), inline && n <= 4);
+                assert_eq!(rt; asked, n.saturating_sub(len));
+            }
+        }
+    }
+    Ok(())
 }

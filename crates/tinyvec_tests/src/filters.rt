@@ -1,5 +1,8 @@
 //! `retain` and `dedup` in their forms, in both places.
+ghost use Rattle.std.specs.Prelude.{◌≤◌};
+
 use crate::looks::{lies, spares};
+use std::alloc::{AllocError, Global};
 use std::test::Fail;
 use tinyvec::TinyVec;
 
@@ -70,5 +73,114 @@ fn dedup_by_key(rt: HostRuntime) -> Result<(), Fail> {
     let mut heap: TinyVec<[i32; 2]> = TinyVec::from_slice(rt.alloc(), &[1i32, 2, 3, 10, 11])?;
     heap.dedup_by_key(|x| *x / 10);
     assert!(rt; lies(&heap, &[1, 10], false));
+    Ok(())
+}
+
+const NUMBERS: [i32; 4] = [1, 2, 3, 4];
+
+// The first `len` of the numbers, in the array or on the heap.
+fn numbers(alloc: Global, len: usize, inline: bool) -> Result<TinyVec<[i32; 4]>, AllocError>
+    requires { len ≤ 4 }
+{
+    let mut v = TinyVec::from_array_len(alloc, NUMBERS, len);
+    if !inline {
+        v.move_to_the_heap()?;
+    }
+    Ok(v)
+}
+
+/// Each of no item, of one and of more is asked about once, whether none of them or all stay.
+#[test]
+fn retain_asks_about_each_item_once(rt: HostRuntime) -> Result<(), Fail> {
+    for inline in [true, false] {
+        for stays in [false, true] {
+            for len in 0..=4 {
+                let mut asked: TinyVec<[i32; 8]> = TinyVec::new(rt.alloc());
+                let mut v = numbers(rt.alloc(), len, inline)?;
+                v.retain(|x| {
+                    let _granted = asked.push(*x);
+                    stays
+                });
+                let left = if stays { len } else { 0 };
+                assert!(rt; lies(&v, &NUMBERS[..left], inline));
+                assert_eq!(rt; asked.as_slice(), &NUMBERS[..len]);
+            }
+        }
+    }
+    Ok(())
+}
+
+#[test]
+fn retain_mut_asks_about_each_item_once(rt: HostRuntime) -> Result<(), Fail> {
+    for inline in [true, false] {
+        for stays in [false, true] {
+            for len in 0..=4 {
+                let mut asked: TinyVec<[i32; 8]> = TinyVec::new(rt.alloc());
+                let mut v = numbers(rt.alloc(), len, inline)?;
+                v.retain_mut(|x| {
+                    let _granted = asked.push(*x);
+                    stays
+                });
+                let left = if stays { len } else { 0 };
+                assert!(rt; lies(&v, &NUMBERS[..left], inline));
+                assert_eq!(rt; asked.as_slice(), &NUMBERS[..len]);
+            }
+        }
+    }
+    Ok(())
+}
+
+/// No item and one are not asked about. Of more each after the first is asked about once, beside the last one kept.
+#[test]
+fn dedup_by_asks_about_each_item_after_the_first(rt: HostRuntime) -> Result<(), Fail> {
+    for inline in [true, false] {
+        for len in 0..=4usize {
+            let pairs = len.saturating_sub(1);
+            let mut asked: TinyVec<[(i32, i32); 8]> = TinyVec::new(rt.alloc());
+            let mut repeats = numbers(rt.alloc(), len, inline)?;
+            repeats.dedup_by(|current, last| {
+                let _granted = asked.push((*current, *last));
+                true
+            });
+            assert!(rt; lies(&repeats, &NUMBERS[..len.min(1)], inline));
+            assert_eq!(rt; asked.as_slice(), &[(2, 1), (3, 1), (4, 1)][..pairs]);
+            asked.clear();
+            let mut unlike = numbers(rt.alloc(), len, inline)?;
+            unlike.dedup_by(|current, last| {
+                let _granted = asked.push((*current, *last));
+                false
+            });
+            assert!(rt; lies(&unlike, &NUMBERS[..len], inline));
+            assert_eq!(rt; asked.as_slice(), &[(2, 1), (3, 2), (4, 3)][..pairs]);
+        }
+    }
+    Ok(())
+}
+
+#[test]
+fn dedup_by_key_asks_for_two_keys_of_each_item_after_the_first(
+    rt: HostRuntime,
+) -> Result<(), Fail> {
+    for inline in [true, false] {
+        for len in 0..=4usize {
+            let pairs = len.saturating_sub(1);
+            let mut asked: TinyVec<[i32; 8]> = TinyVec::new(rt.alloc());
+            let mut repeats = numbers(rt.alloc(), len, inline)?;
+            repeats.dedup_by_key(|x| {
+                let _granted = asked.push(*x);
+                0
+            });
+            assert!(rt; lies(&repeats, &NUMBERS[..len.min(1)], inline));
+            assert_eq!(rt; asked.as_slice(), &[2, 1, 3, 1, 4, 1][..2 * pairs]);
+            asked.clear();
+            let mut unlike = numbers(rt.alloc(), len, inline)?;
+            unlike.dedup_by_key(|x| {
+                let _granted = asked.push(*x);
+                *x
+            });
+            assert!(rt; lies(&unlike, &NUMBERS[..len], inline));
+            assert_eq!(rt; asked.as_slice(), &[2, 1, 3, 2, 4, 3][..2 * pairs]);
+        }
+    }
     Ok(())
 }

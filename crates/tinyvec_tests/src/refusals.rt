@@ -293,9 +293,14 @@ fn resize(rt: HostRuntime) -> Result<(), Fail> {
 #[test]
 fn resize_with(rt: HostRuntime) -> Result<(), Fail> {
     let mut v = in_the_array(rt.alloc());
-    match v.resize_with(5, || 7) {
+    let mut asked = 0_usize;
+    match v.resize_with(5, || {
+        asked = asked.wrapping_add(1);
+        7
+    }) {
         Ok(()) => assert!(rt; lies(&v, &[1, 2, 7, 7, 7], false)),
         Err(AllocError) => {
+            assert_eq!(rt; asked, 0);
             assert!(rt; lies(&v, &[1, 2], true));
             assert!(rt; spares(&v, &[9]));
             refused(&rt)?;

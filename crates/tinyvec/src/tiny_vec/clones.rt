@@ -1,5 +1,5 @@
 //! Clones of lists.
-ghost use Rattle.std.specs.Prelude.{◌≡◌, ◌-◌, ◌<◌, ◌≤◌, ◌↔◌, ◌++◌, ℕ, All, min, length, take, drop, IfOk, OnOk, OnErr, IsOk};
+ghost use Rattle.std.specs.Prelude.{◌≡◌, ◌-◌, ◌<◌, ◌≤◌, ◌↔◌, ◌++◌, ℕ, All, min, max, false, length, take, drop, IfOk, OnOk, OnErr, IsOk};
 ghost use Rattle.tinyvec_slots.specs.Slots.{AreDefaults};
 ghost use Rattle.tinyvec_slots.specs.Clones.{RefusedAt};
 ghost use Rattle.tinyvec.specs.Tiny.{tiny_items, tiny_len, tiny_spare, is_inline, tiny_capacity, IsInline, PlaceRule, TinySlotRule, SameFrame};
@@ -19,6 +19,7 @@ impl<A: Array> TinyVec<A> {
         ensures items { IfOk result (λ v. tiny_items v ≡ slice.now) }
         ensures spare { IfOk result (λ v. IsInline v → AreDefaults A.Item.is_default (A.CAPACITY - length slice.now) (tiny_spare v)) }
         ensures place { IfOk result (λ v. IsInline v ↔ (length slice.now ≤ A.CAPACITY)) }
+        ensures room { IfOk result (λ v. tiny_capacity A.CAPACITY v ≡ max (length slice.now) A.CAPACITY) }
         ensures refused { OnErr result (length slice.now ≤ A.CAPACITY → (j : ℕ) × RefusedAt A.Item.is_infallible slice.now j) }
         ensures succeeds { length slice.now ≤ A.CAPACITY → All A.Item.is_infallible slice.now → IsOk result }
     {
@@ -35,6 +36,7 @@ impl<A: Array> TinyVec<A> {
         ensures items { IfOk result (λ v. tiny_items v ≡ tiny_items self.now) }
         ensures spare { IfOk result (λ v. tiny_spare v ≡ tiny_spare self.now) }
         ensures place { IfOk result (λ v. is_inline v ≡ is_inline self.now) }
+        ensures room { IfOk result (λ v. is_inline v ≡ false → tiny_capacity A.CAPACITY v ≡ tiny_len self.now) }
         ensures refused { OnErr result (IsInline self.now → (j : ℕ) × RefusedAt A.Item.is_infallible (tiny_items self.now ++ tiny_spare self.now) j) }
         ensures succeeds { IsInline self.now → All A.Item.is_infallible (tiny_items self.now ++ tiny_spare self.now) → IsOk result }
     {

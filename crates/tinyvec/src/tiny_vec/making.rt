@@ -36,6 +36,7 @@ impl<A: Array> TinyVec<A> {
     /// A list of `n` defaults, inline where they fit the array.
     pub fn with_initial_len(alloc: Global, n: usize) -> Result<Self, AllocError>
         ensures items { IfOk result (λ v. AreDefaults A.Item.is_default n (tiny_items v)) }
+        ensures room { IfOk result (λ v. tiny_capacity A.CAPACITY v ≡ max n A.CAPACITY) }
         ensures spare { IfOk result (λ v. IsInline v → AreDefaults A.Item.is_default (A.CAPACITY - n) (tiny_spare v)) }
         ensures place { IfOk result (λ v. IsInline v ↔ (n ≤ A.CAPACITY)) }
         ensures succeeds { n ≤ A.CAPACITY → IsOk result }
@@ -97,7 +98,8 @@ impl<A: Array> TinyVec<A> {
 fn push_defaults<T: Default>(heap: &mut Vec<T>, n: usize)
     requires empty { heap.old.items ≡ [] }
     requires room { n ≤ vec_capacity heap.old }
-    ensures { AreDefaults T.is_default n heap.new.items }
+    ensures items { AreDefaults T.is_default n heap.new.items }
+    ensures capacity { vec_capacity heap.new ≡ vec_capacity heap.old }
 {
     for _i in 0..n {
         heap.push_reserved(T::default());
