@@ -1,8 +1,11 @@
 """A copy of a crate beside the libraries that it uses, checked with edits over work that earlier checks kept."""
 import os
+import pathlib
 import re
 import shutil
 import subprocess
+import tempfile
+import threading
 
 import crates
 
@@ -36,45 +39,39 @@ class Said:
 
 
 class Desk:
-    """Where a crate's edits are tried: its texts are changed here, and what a check keeps is thrown away."""
+    """Where a crate's edits are tried, each check in a copy of its own over the work that was kept."""
 
     def __init__(self, crate, room):
-        self.source = crate.folder
-        self.copy = room / crate.name / "crates" / crate.name
-        self.kept = room / crate.name / "kept"
-        self.copy.mkdir(parents=True)
-        for one in crate.below:
-            link(one.folder, room / crate.name / "crates" / one.name, without=("incremental",))
-        rows = [one.row for one in (*crate.below, crate)]
-        (room / crate.name / "crates.txt").write_text("\n".join(rows) + "\n", encoding="utf-8")
-        crates.write_files(self.copy, crate.sources)
-        if (self.source / KEPT).is_dir():
-            link(self.source / KEPT, self.kept)
+        self.crate = crate
+        self.room = room / crate.name
+        self.kept = self.room / "kept"
+        self.room.mkdir()
+        if (crate.folder / KEPT).is_dir():
+            link(crate.folder / KEPT, self.kept)
 
-    def check(self, texts, jobs):
-        """Checks the crate with these texts in place of its own. What the check keeps goes into the copy's own folder."""
-        shutil.rmtree(self.copy / KEPT, ignore_errors=True)
+    def check(self, texts, jobs, keeps=False):
+        """Checks the crate with these texts in place of its own. Other checks begin with what this one kept where they are to."""
+        with tempfile.TemporaryDirectory(prefix="check-", dir=self.room) as top:
+            copy = self.lay(pathlib.Path(top))
+            for path, text in texts.items():
+                (copy / path).write_text(text, encoding="utf-8")
+            said = Said(run(["rt", "check", "--jobs", str(jobs)], copy))
+            if keeps:
+                shutil.rmtree(self.kept, ignore_errors=True)
+                (copy / KEPT).rename(self.kept)
+        return said
+
+    def lay(self, top):
+        """Makes a repository of the crate and those below it."""
+        for one in self.crate.below:
+            link(one.folder, top / "crates" / one.name, without=("incremental",))
+        copy = top / "crates" / self.crate.name
+        crates.write_files(copy, self.crate.sources)
         if self.kept.is_dir():
-            link(self.kept, self.copy / KEPT)
-        for path, text in texts.items():
-            (self.copy / path).write_text(text, encoding="utf-8")
-        ran = subprocess.run(
-            ["rt", "check", "--jobs", str(jobs)],
-            cwd=self.copy,
-            stdin=subprocess.DEVNULL,
-            stdout=subprocess.PIPE,
-            stderr=subprocess.STDOUT,
-            encoding="utf-8",
-            errors="replace",
-        )
-        for path in texts:
-            shutil.copyfile(self.source / path, self.copy / path)
-        return Said(ran.stdout)
-
-    def keep(self):
-        """Makes what the last check kept the work that all later checks begin with."""
-        shutil.rmtree(self.kept, ignore_errors=True)
-        (self.copy / KEPT).rename(self.kept)
+            link(self.kept, copy / KEPT)
+        rows = [one.row for one in (*self.crate.below, self.crate)]
+        (top / "crates.txt").write_text("\n".join(rows) + "\n", encoding="utf-8")
+        return copy
 
 
 def link(source, target, without=()):
@@ -90,6 +87,45 @@ def link_file(source, target):
 
 
 def build(crate):
-    """Builds a library over the work that was kept, where it is not built as its files are now."""
-    ran = subprocess.run(["rt", "lib"], cwd=crate.folder, capture_output=True, encoding="utf-8", errors="replace")
-    return Said(ran.stdout + ran.stderr) if ran.returncode else None
+    """Builds a library over the work that was kept, where it is not built as its files are now. Returns what is wrong."""
+    said = Said(run(["rt", "lib"], crate.folder))
+    return None if said.is_proved or not said.is_judged else said
+
+
+class Stopped(Exception):
+    """Nothing more is to be checked."""
+
+
+class Running:
+    """The commands that are under way, so that they end where this process is told to end."""
+
+    def __init__(self):
+        self.guard, self.started, self.is_stopped = threading.Lock(), set(), False
+
+    def start(self, words, folder):
+        with self.guard:
+            if self.is_stopped:
+                raise Stopped
+            pipes = {"stdin": subprocess.DEVNULL, "stdout": subprocess.PIPE, "stderr": subprocess.STDOUT}
+            ran = subprocess.Popen(words, cwd=folder, encoding="utf-8", errors="replace", **pipes)
+            self.started.add(ran)
+            return ran
+
+    def stop(self):
+        with self.guard:
+            self.is_stopped = True
+            for ran in self.started:
+                ran.terminate()
+
+
+running = Running()
+
+
+def run(words, folder):
+    """What a command says."""
+    with running.start(words, folder) as ran:
+        said = ran.communicate()[0]
+    running.started.discard(ran)
+    if running.is_stopped:
+        raise Stopped
+    return said

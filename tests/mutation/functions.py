@@ -6,10 +6,11 @@ import re
 FUNCTION = re.compile(r"^( *)(?:pub(?:\([a-z]+\))? )?(?:const )?fn (\w+)", re.M)
 IMPL = re.compile(r"^impl\b(?:<(?:[^<>{]|<[^<>]*>)*>)? (?:(?P<trait>[^{]*?) for )?(?P<type>[^{]*?)(?:\s+where\b[^{]*)?\s*\{", re.M)
 COMMENT = re.compile(r"//[^\n]*")
-CALL = re.compile(r"\b([a-z_]\w*)\s*(?:::<[^;{}()]*>)?\(")
+# A call: of a method, of what stands in a type or module, or of a plain name.
+CALL = re.compile(r"(?P<before>\.\s*|\b\w+(?:::<[^;{}()]*>)?::|(?<![\w.:]))(?P<name>[a-z_]\w*)\s*(?:::<[^;{}()]*>)?\(")
 # What the language calls where a body only says `for`, or holds a guard to the end.
-CALLED_BY_FOR = {"into_iter", "next"}
-GUARDS = {"drain", "splice"}
+CALLED_BY_FOR = ("into_iter", "next")
+GUARDS = ("drain", "splice")
 
 
 @dataclasses.dataclass(frozen=True)
@@ -22,7 +23,9 @@ class Function:
     trait: str
     start: int
     end: int
-    calls: frozenset[str]
+    calls: frozenset[tuple[str, str]]
+    # All words of the file, by which is told which types it can know.
+    words: frozenset[str]
 
     def owner(self):
         """How the names of its edits begin."""
@@ -59,7 +62,7 @@ def of_crate(folder):
 def of_file(file, text):
     code = COMMENT.sub(lambda it: " " * len(it[0]), text)
     blocks = [(it, item_end(code, it.start(), "")) for it in IMPL.finditer(code)]
-    found = []
+    words, found = frozenset(re.findall(r"\w+", code)), []
     for it in FUNCTION.finditer(code):
         body = body_start(code, it)
         if body is None:
@@ -67,7 +70,7 @@ def of_file(file, text):
         end = item_end(code, it.start(), it[1])
         block = next((block for block, stop in blocks if block.start() < it.start() < stop), None)
         of_type, of_trait = (block["type"], block["trait"] or "") if block else ("", "")
-        found.append(Function(file, it[2], of_type, of_trait, it.start(), end, called(code[body:end])))
+        found.append(Function(file, it[2], of_type, of_trait, it.start(), end, called(code[body:end]), words))
     return found
 
 
@@ -95,11 +98,12 @@ def body_start(code, function):
 
 
 def called(body):
-    found = set(CALL.findall(body))
+    """The calls of a body, as pairs of what stands before the name and the name: `.`, a type or module, `any` or nothing."""
+    found = {(it["before"].rstrip().split("::")[0], it["name"]) for it in CALL.finditer(body)}
     if re.search(r"\bfor\b", body):
-        found |= CALLED_BY_FOR
-    if found & GUARDS:
-        found.add("drop")
+        found |= {("any", it) for it in CALLED_BY_FOR}
+    if any(name in GUARDS for _, name in found):
+        found.add(("any", "drop"))
     return frozenset(found)
 
 
@@ -126,16 +130,32 @@ def flat(text):
 
 
 def reached(functions):
-    """By each function, the functions that its body may reach, told by their names alone: rather one too many."""
+    """By each function, the functions that its body may reach, as far as names tell: rather one too many."""
     named = {}
     for it in functions:
-        named.setdefault(it.name, set()).add(it)
+        named.setdefault(it.name, []).append(it)
+    direct = {it: {to for call in it.calls for to in targets(it, call, named.get(call[1], []))} for it in functions}
     found = {}
     for it in functions:
         below, left = set(), [it]
         while left:
-            fresh = {one for name in left.pop().calls for one in named.get(name, ())} - below
+            fresh = direct[left.pop()] - below
             below |= fresh
             left += fresh
         found[it] = below - {it}
     return found
+
+
+def targets(caller, call, namesakes):
+    """Which functions of the name a call may mean."""
+    before, _ = call
+    if before == "any":
+        return namesakes
+    if before == ".":
+        return [it for it in namesakes if it.type and plain_name(it.type) in caller.words]
+    if before == "Self":
+        return [it for it in namesakes if plain_name(it.type) == plain_name(caller.type)]
+    if before[:1].isupper():
+        return [it for it in namesakes if it.type and plain_name(it.type) == before]
+    free = [it for it in namesakes if not it.type]
+    return [it for it in free if it.file == caller.file] or free

@@ -110,7 +110,10 @@ fn a_long_line_is_read_whole_and_bad_once(rt: HostRuntime) -> Result<(), Fail> {
         }
         input.extend_from_slice(b"\nA push 7\n")?;
         let answers = written(rt.alloc(), input.as_slice())?;
-        assert!(rt; answers.as_slice() == b"bad\nok [7] [0, 0, 0]\n".as_slice(), "at {len}");
+        assert!(rt;
+            answers.as_slice() == b"bad\nok [7] [0, 0, 0]\n".as_slice(),
+            "at {len}"
+        );
     }
     Ok(())
 }
@@ -146,7 +149,10 @@ fn a_read_that_fails_after_each_byte(rt: HostRuntime) -> Result<(), Fail> {
         assert!(rt; result == Err(RunError::Read), "after {count}");
         let lines = input.iter().filter(|byte| **byte == b'\n').count();
         output = writer.into_inner();
-        assert!(rt; output.as_slice() == first_lines(OUTPUT, lines), "after {count}");
+        assert!(rt;
+            output.as_slice() == first_lines(OUTPUT, lines),
+            "after {count}"
+        );
         output.clear();
     }
     Ok(())
