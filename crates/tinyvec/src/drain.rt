@@ -25,6 +25,8 @@ impl<A: Array> TinyVec<A> {
     ghost use Rattle.tinyvec.specs.Drain.{drain_items, drain_len, drain_lender, drain_kept, drain_vec, DrainCanStep, DrainSteps, DrainStepsBack, DrainsFromEnds};
 
     /// Takes the items of the range out of the list, and gives them from both ends.
+    ///
+    /// `known` is false of an `a..=b` that was iterated to its end, and of no other range of std.
     pub fn drain<R: RangeBounds<usize>>(&mut self, range: R) -> TinyVecDrain<'_, A>
         requires known { R.has_bounds range }
         requires in_list { IsRangeOf (tiny_items self.old) (R.start_bound range) (R.end_bound range) }

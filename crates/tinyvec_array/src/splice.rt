@@ -57,6 +57,8 @@ impl<A: Array> ArrayVec<A> {
 
     /// Takes the items of the range out of the list, gives them from both ends, and puts those of `replacement` in their
     /// place.
+    ///
+    /// `known` is false of an `a..=b` that was iterated to its end, and of no other range of std.
     pub fn splice<R: RangeBounds<usize>, I: IntoIterator<Item = A::Item>>(
         &mut self,
         range: R,

@@ -34,6 +34,8 @@ where
     /// Takes the items of the range out of the list, and gives them in order. A caller that is generic over what is lent
     /// knows what the vector holds afterwards. One that names `SliceVec` learns nothing of that: `drain_each` and
     /// `drain_into` tell it.
+    ///
+    /// `known` is false of an `a..=b` that was iterated to its end, and of no other range of std.
     pub fn drain<R: RangeBounds<usize>>(&mut self, range: R) -> SliceVecDrainOver<'_, B>
         requires known { R.has_bounds range }
         requires in_list { IsRangeOf (items_of B.Lent self.old) (R.start_bound range) (R.end_bound range) }

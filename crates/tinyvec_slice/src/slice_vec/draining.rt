@@ -14,6 +14,8 @@ where
 {
     /// Takes the items of the range out of the list, and calls `f` with each, in order. A caller that names `SliceVec`
     /// knows what is left.
+    ///
+    /// `known` is false of an `a..=b` that was iterated to its end, and of no other range of std.
     pub fn drain_each<R: RangeBounds<usize>, F: FnMut(B::Item)>(&mut self, range: R, f: &mut F)
         requires known { R.has_bounds range }
         requires in_list { IsRangeOf (items_of B.Lent self.old) (R.start_bound range) (R.end_bound range) }
@@ -33,6 +35,8 @@ where
 
     /// Moves the items of the range behind those of `out`, which has room for them. A caller that names `SliceVec` knows
     /// what is left.
+    ///
+    /// `known` is false of an `a..=b` that was iterated to its end, and of no other range of std.
     pub fn drain_into<R: RangeBounds<usize>>(&mut self, range: R, out: &mut Vec<B::Item>)
         requires known { R.has_bounds range }
         requires in_list { IsRangeOf (items_of B.Lent self.old) (R.start_bound range) (R.end_bound range) }
