@@ -1,5 +1,7 @@
 //! What a `TinyVec` answers, and what other vectors answer to its calls.
 use crate::answered::{assert_answered, assert_answers, assert_written};
+use std::alloc::AllocGlobal;
+use std::process::Abort;
 use std::test::Fail;
 use tinyvec::{ArrayVec, SliceVec, TinyVec};
 use tinyvec_script::{Answer, Call, run_array, run_slice, run_tiny};
@@ -120,29 +122,39 @@ fn a_run_answers_each_call(rt: HostRuntime) -> Result<(), Fail> {
     Ok(())
 }
 
+// Asserts that all calls are done, if no memory is refused.
+fn assert_done(
+    rt: &(impl Abort + AllocGlobal),
+    vec: &mut TinyVec<[i32; 2]>,
+    calls: Vec<Call<i32>>,
+) -> Result<(), Fail> {
+    let count = calls.len();
+    let answers = run_tiny(rt.alloc(), vec, calls)?;
+    assert!(rt; answers.len() == count);
+    for answer in answers {
+        assert_answers(rt, [answer].as_slice(), [Answer::Done].as_slice());
+    }
+    Ok(())
+}
+
 #[test]
 fn a_list_that_grows_and_shrinks_on_the_heap(rt: HostRuntime) -> Result<(), Fail> {
-    let mut vec = TinyVec::<[i32; 2]>::new(rt.alloc());
-    let mut calls = Vec::with_capacity(rt.alloc(), 64)?;
-    let mut wanted = Vec::with_capacity(rt.alloc(), 64)?;
+    let mut vec = TinyVec::new(rt.alloc());
+    let mut pushes = Vec::with_capacity(rt.alloc(), 20)?;
+    let mut inserts = Vec::with_capacity(rt.alloc(), 20)?;
     for number in 0..20 {
-        calls.push(Call::Push(number))?;
-        wanted.push(Answer::Done)?;
+        pushes.push(Call::Push(number))?;
+        inserts.push(Call::Insert(0, number))?;
     }
-    for number in 0..30 {
-        calls.push(Call::Insert(0, number))?;
-        wanted.push(Answer::Done)?;
-    }
-    calls.push(Call::Reserve(1000))?;
-    wanted.push(Answer::Done)?;
-    let answers = run_tiny(rt.alloc(), &mut vec, calls)?;
-    assert_answers(&rt, answers.as_slice(), wanted.as_slice());
-    assert!(rt; vec.capacity() >= 1050);
-    let calls = Vec::from_array(rt.alloc(), [Call::Shrink])?;
-    let answers = run_tiny(rt.alloc(), &mut vec, calls)?;
-    assert_answers(&rt, answers.as_slice(), [Answer::Done].as_slice());
-    assert!(rt; vec.len() == 50);
-    assert!(rt; vec.capacity() < 1050, "memory was granted");
+    assert_done(&rt, &mut vec, pushes)?;
+    assert_done(&rt, &mut vec, inserts)?;
+    let reserve = Vec::from_array(rt.alloc(), [Call::Reserve(1000)])?;
+    assert_done(&rt, &mut vec, reserve)?;
+    assert!(rt; vec.capacity() >= 1040);
+    let shrink = Vec::from_array(rt.alloc(), [Call::Shrink])?;
+    assert_done(&rt, &mut vec, shrink)?;
+    assert!(rt; vec.len() == 40);
+    assert!(rt; vec.capacity() < 1040, "memory was granted");
     Ok(())
 }
 
