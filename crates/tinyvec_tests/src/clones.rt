@@ -143,24 +143,24 @@ fn each_item_is_cloned_once(rt: HostRuntime) -> Result<(), Fail> {
         }
         left.set(100);
         let mut v = source.clone()?;
-        assert_eq!(rt; left.get(), 79);
+        assert!(rt; left.get() == 79);
         v.clear();
         v.extend_from_slice(source.as_slice())?;
-        assert_eq!(rt; left.get(), 58);
+        assert!(rt; left.get() == 58);
         v.clone_from(&source)?;
-        assert_eq!(rt; left.get(), 37);
+        assert!(rt; left.get() == 37);
         source.truncate(2);
         v.clone_from(&source)?;
-        assert_eq!(rt; left.get(), 35);
+        assert!(rt; left.get() == 35);
         let item = Limited {
             name: 7,
             left: Some(&left),
         };
         assert!(rt; v.resize(9, item).is_ok());
-        assert_eq!(rt; left.get(), 28);
+        assert!(rt; left.get() == 28);
         let copied: TinyVec<[Limited; 1]> = TinyVec::from_slice(rt.alloc(), v.as_slice())?;
-        assert_eq!(rt; copied.len(), 9);
-        assert_eq!(rt; left.get(), 19);
+        assert!(rt; copied.len() == 9);
+        assert!(rt; left.get() == 19);
     }
     Ok(())
 }

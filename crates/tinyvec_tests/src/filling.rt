@@ -47,9 +47,9 @@ fn resize_with_asks_once_for_each_missing_item(rt: HostRuntime) -> Result<(), Fa
                     asked = asked.wrapping_add(1);
                     7
                 })?;
-                assert_eq!(rt; v.len(), n);
-                assert_eq!(rt; v.is_inline(), inline && n <= 4);
-                assert_eq!(rt; asked, n.saturating_sub(len));
+                assert!(rt; v.len() == n);
+                assert!(rt; v.is_inline() == (inline && n <= 4));
+                assert!(rt; asked == n.saturating_sub(len));
             }
         }
     }

@@ -83,3 +83,36 @@ fn push_and_insert(rt: HostRuntime) {
     assert!(rt; v.insert(2, 3).is_ok(), "memory was granted");
     assert!(rt; lies(&v, &[1, 2, 3], false));
 }
+
+/// On the heap room grows by steps, so that items that come one by one are seldom moved.
+#[test]
+fn room_grows_by_steps(rt: HostRuntime) -> Result<(), Fail> {
+    let mut pushed: TinyVec<[u16; 4]> = TinyVec::new(rt.alloc());
+    let mut copied: TinyVec<[u16; 4]> = TinyVec::new(rt.alloc());
+    pushed.move_to_the_heap()?;
+    copied.move_to_the_heap()?;
+    let mut steps = 0_usize;
+    for x in 0..500u16 {
+        let before = (pushed.capacity(), copied.capacity());
+        assert!(rt; pushed.push(x).is_ok(), "memory was granted");
+        copied.extend_from_slice(&[x])?;
+        if (pushed.capacity(), copied.capacity()) != before {
+            steps = steps.wrapping_add(1);
+        }
+    }
+    assert!(rt; steps < 30);
+    Ok(())
+}
+
+/// Two lists on the heap are joined where the first has room.
+#[test]
+fn append_keeps_the_room_that_is_there(rt: HostRuntime) -> Result<(), Fail> {
+    let mut v: TinyVec<[i32; 2]> = TinyVec::with_capacity(rt.alloc(), 9)?;
+    let mut other: TinyVec<[i32; 2]> = TinyVec::from_slice(rt.alloc(), &[1, 2, 3])?;
+    v.append(&mut other)?;
+    v.append(&mut other)?;
+    assert!(rt; lies(&v, &[1, 2, 3], false));
+    assert!(rt; lies(&other, &[], false));
+    assert!(rt; v.capacity() == 9);
+    Ok(())
+}

@@ -65,17 +65,6 @@ fn refused(rt: HostRuntime) {
     }
 }
 
-/// A list that is too long for the array stays on the heap, with room for no more.
-#[test]
-fn shrink_to_fit_gives_back_room(rt: HostRuntime) -> Result<(), Fail> {
-    let mut v: TinyVec<[i32; 2]> = TinyVec::from_slice(rt.alloc(), &[1, 2, 3])?;
-    v.reserve(40)?;
-    v.shrink_to_fit();
-    assert!(rt; lies(&v, &[1, 2, 3], false));
-    assert!(rt; v.capacity() < 40, "memory was granted");
-    Ok(())
-}
-
 #[test]
 fn refused_on_the_heap(rt: HostRuntime) -> Result<(), Fail> {
     let mut v = TinyVec::from_array_len(rt.alloc(), [1, 7, 7], 1);
