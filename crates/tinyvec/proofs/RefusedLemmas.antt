@@ -4,10 +4,10 @@ use Rattle.std.proofs.lemmas.List.{get_or-take, get_or-drop}
 use Rattle.std.specs.Prelude.{IsTrue, false, true}
 use Rattle.std.proofs.lemmas.List.Elements.{All-nil}
 use Rattle.tinyvec_slots.specs.Slots.{AreDefaults, items, items_len, spare}
-use Rattle.tinyvec_slots.specs.Clones.{RefusedAt}
+use Rattle.std.specs.List.{AllZip}
+use Rattle.tinyvec_slots.specs.Clones.{RefusedAt, ClonesOver, ClonesInPart}
 use Rattle.tinyvec_slots.proofs.CloneLemmas.{drop_within}
 use Rattle.tinyvec.specs.Tiny.{tiny_items, tiny_len, tiny_spare, is_inline, tiny_capacity, IsInline, PlaceRule, TinySlotRule, SameFrame}
-use Rattle.tinyvec.specs.Growth.{PartlyCloned}
 use Rattle.tinyvec.specs.declared.tiny_vec.TinyVec.{TinyVec}
 use Rattle.tinyvec.specs.declared.tiny_vec.TinyVec.TheVariants.{Inline, Heap}
 
@@ -26,34 +26,39 @@ module _ {T : Type 0} (I : T → Type 0) (xs : List T) where
       let long = length-drop n xs in
       (omega (arith, below, long), λ d. subst (λ x. ¬ (I x)) (get_or-drop n xs j d) (h.1 d))
 
--- what stands behind the list, where it gave up the slots from m on
+-- what stands behind the list, with defaults in the slots that were vacated from m on
 abbrev Behind : {A T : Type 0} → (T → Type 0) → TinyVec A T → TinyVec A T → ℕ → List T → Type 0
 Behind {A} {T} D old new m spares = (freed : List T) × AreDefaults D (tiny_len old - m) freed × (tiny_spare new ≡ freed ++ spares)
 
-module _ {A T : Type 0} (D I : T → Type 0) (source : List T) (old new : TinyVec A T) (m : ℕ) where
+module _ {A T : Type 0} (D I : T → Type 0) (C : T → T → Type 0) (source : List T) (old new : TinyVec A T) (m : ℕ) where
+  abbrev InPart : Type 0
+  InPart = ClonesInPart D I C source (tiny_items old) (tiny_items new) m (IsInline new) (tiny_spare old) (tiny_spare new)
+
   -- the refused clone is one of the first
-  pub partly_over : (j : ℕ) → j ≤ m → RefusedAt I source j → tiny_items new ≡ take j source ++ drop j (take m (tiny_items old))
-      → (IsInline new → Behind D old new m (tiny_spare old)) → PartlyCloned D I source old new m
-  partly_over j le refused is spares =
+  pub partly_over : (j : ℕ) → j ≤ m → RefusedAt I source j → ClonesOver C (take j source) j (take m (tiny_items old)) (tiny_items new)
+      → (IsInline new → Behind D old new m (tiny_spare old)) → InPart
+  partly_over j le refused made spares =
       let sum : j + 0 ≡ j = omega arith in
       let none : m + 0 - m ≡ 0 = omega arith in
       let nothing : slice_range source m (m + 0) ≡ [] = ap (λ n. take n (drop m source)) none in
       record {
         k = j;
         j = 0;
+        made = made.0;
         within = le;
         in_order = λ h. absurd (omega (arith, h));
         refused_at = rw sum refused;
-        listed = is ∙ ap (λ l. take j source ++ l) (drop_within (tiny_items old) j m le);
-        behind = λ i.
+        clones = made.1;
+        listed = made.3 ∙ ap (λ l. made.0 ++ l) (drop_within (tiny_items old) j m le);
+        left = λ i.
             let h = spares i in
-            (h.0, h.1, rw (nothing, append-nil h.0) h.2);
+            (h.0, h.1, [], rw nothing tt, rw (append-nil h.0) h.2);
       }
 
   -- or one of those behind, and the list is as long
-  pub partly_behind : (j : ℕ) → m ≡ tiny_len old → RefusedAt I source (m + j) → tiny_items new ≡ take m source
-      → (IsInline new → tiny_spare new ≡ take j (drop m source) ++ drop j (tiny_spare old)) → PartlyCloned D I source old new m
-  partly_behind j long refused is spares =
+  pub partly_behind : (j : ℕ) → m ≡ tiny_len old → RefusedAt I source (m + j) → AllZip C (take m source) (tiny_items new)
+      → (IsInline new → ClonesOver C (take j (drop m source)) j (tiny_spare old) (tiny_spare new)) → InPart
+  partly_behind j long refused clones spares =
       let none : m - m ≡ 0 = omega arith in
       let nothing : slice_range (tiny_items old) m m ≡ [] = ap (λ n. take n (drop m (tiny_items old))) none in
       let freed : 0 ≡ tiny_len old - m = omega arith in
@@ -61,15 +66,19 @@ module _ {A T : Type 0} (D I : T → Type 0) (source : List T) (old new : TinyVe
       record {
         k = m;
         j = j;
+        made = tiny_items new;
         within = le_refl m;
         in_order = λ h. refl;
         refused_at = refused;
-        listed = is ∙ sym (ap (λ l. take m source ++ l) nothing ∙ append-nil (take m source));
-        behind = λ i. ([], (freed, All-nil D), rw more (spares i));
+        clones = clones;
+        listed = sym (ap (λ l. tiny_items new ++ l) nothing ∙ append-nil (tiny_items new));
+        left = λ i.
+            let h = spares i in
+            ([], (freed, All-nil D), h.0, rw more h.1, h.3);
       }
 
 module _ {A T : Type 0} (D : T → Type 0) where
-  -- the slots that a cut gave up stand as defaults before the old spare ones
+  -- the slots that a cut vacated stand as defaults before the old spare ones
   pub cut_freed : (old mid new : TinyVec A T) (m : ℕ) → SameFrame mid new → is_inline mid ≡ is_inline old → TinySlotRule D old mid
       → tiny_items mid ≡ take m (tiny_items old) → m ≤ tiny_len old → IsInline new → Behind D old new m (tiny_spare old)
   cut_freed (Inline v a) (Inline w b) new m frame same rule cut le i =
@@ -83,7 +92,7 @@ module _ {A T : Type 0} (D : T → Type 0) where
   cut_freed (Heap v) (Inline w b) new m frame same rule cut le i = search rules
   cut_freed (Heap v) (Heap w) new m frame same rule cut le i = absurd (let no : false ≡ true = subst IsTrue frame.2 i in cc)
 
-  -- a list that is as long gave up none
+  -- a list that is as long vacated none
   pub none_freed : (old new : TinyVec A T) (m : ℕ) → m ≡ tiny_len old → tiny_spare new ≡ tiny_spare old → Behind D old new m (tiny_spare old)
   none_freed old new m long same =
       let freed : 0 ≡ tiny_len old - m = omega arith in

@@ -1,10 +1,12 @@
 -- Lemmas on the list, the spare slots and the place.
-use Rattle.std.proofs.Common.{◌≡◌, ℕ, ◌+◌, ◌-◌, ◌<◌, ◌≤◌, replicate, List, [], ◌∷◌, length, drop, ◌++◌, refl, sym, ap, subst, ◌∙◌, take_at, length-set, slice_set, arith, rules}
+use Rattle.std.proofs.Common.{◌≡◌, ℕ, ◌+◌, ◌-◌, ◌<◌, ◌≤◌, replicate, List, [], ◌∷◌, length, take, drop, ◌++◌, refl, sym, ap, subst, ◌∙◌, take_at, length-set, length-drop, slice_set, insert, remove, All, arith, rules}
 use Rattle.std.specs.Prelude.{OnOk, OnErr, Result, Ok, Err}
-use Rattle.std.proofs.lemmas.List.{drop-drop}
-use Rattle.tinyvec_slots.specs.Slots.{Slots, SlotRule, items, items_len, spare}
-use Rattle.tinyvec_slots.proofs.SlotsLemmas.{slots_used, defaults_are, items-with_items, spare-with_items, items-with_slot, spare-with_slot}
-use Rattle.tinyvec.specs.Tiny.{tiny_items, tiny_len, tiny_spare, is_inline, IsInline, TinySlotRule, SameFrame}
+use Rattle.std.proofs.lemmas.List.{drop-drop, nil_from_length, length_push}
+use Rattle.std.proofs.lemmas.List.Edits.{length-insert, length-remove}
+use Rattle.std.proofs.lemmas.List.Elements.{All-drop}
+use Rattle.tinyvec_slots.specs.Slots.{Slots, AreDefaults, Frees, SlotRule, items, items_len, spare}
+use Rattle.tinyvec_slots.proofs.SlotsLemmas.{slots_used, slots_freed, defaults_are, items-with_items, spare-with_items, items-with_slot, spare-with_slot}
+use Rattle.tinyvec.specs.Tiny.{tiny_items, tiny_len, tiny_spare, is_inline, IsInline, TinySlotRule, SameFrame, ShrinksInPlace}
 use Rattle.tinyvec.specs.Lends.{tiny_with_items, tiny_with_item}
 use Rattle.tinyvec.specs.declared.tiny_vec.TinyVec.{TinyVec}
 use Rattle.tinyvec.specs.declared.tiny_vec.TinyVec.TheVariants.{Inline, Heap}
@@ -36,6 +38,17 @@ module _ {A T : Type 0} where
   pub SameFrame-then : (u v w : TinyVec A T) → SameFrame u v → SameFrame v w → SameFrame u w
   SameFrame-then u v w h k = (k.0 ∙ h.0, k.1 ∙ h.1, k.2 ∙ h.2, λ n. k.3 n ∙ h.3 n)
 
+-- the slot rule of a call that pushed, inserted or removed one item
+module _ {T : Type 0} (D : T → Type 0) (old new : Slots T) where
+  pub slots_pushed : (x : T) → items new ≡ items old ++ x ∷ [] → spare new ≡ drop 1 (spare old) → SlotRule D old new
+  slots_pushed x is = slots_used D old new 1 (ap length is ∙ length_push (items old) x)
+
+  pub slots_inserted : (i : ℕ) (x : T) → i ≤ items_len old → items new ≡ insert (items old) i x → spare new ≡ drop 1 (spare old) → SlotRule D old new
+  slots_inserted i x in_list is = slots_used D old new 1 (ap length is ∙ length-insert (items old) i x in_list)
+
+  pub slots_removed : (i : ℕ) → i < items_len old → items new ≡ remove (items old) i → Frees D 1 old new → SlotRule D old new
+  slots_removed i in_list is = slots_freed D old new 1 (sym (ap (λ l. length l + 1) is ∙ length-remove (items old) i in_list))
+
 module _ {A T : Type 0} (D : T → Type 0) where
   pub tiny_slots_same : (v : TinyVec A T) → TinySlotRule D v v
   tiny_slots_same (Inline v alloc) = slots_used D v v 0 (search rules) refl
@@ -43,6 +56,19 @@ module _ {A T : Type 0} (D : T → Type 0) where
 
   pub tiny_slots_kept : (v w : TinyVec A T) → w ≡ v → TinySlotRule D v w
   tiny_slots_kept v w e = subst (TinySlotRule D v) (sym e) (tiny_slots_same v)
+
+  -- an empty inline list among defaults was made longer: what is left of them
+  pub defaults_left : (slots : ℕ) (old new : TinyVec A T) → tiny_items old ≡ [] → IsInline old → AreDefaults D slots (tiny_spare old)
+      → TinySlotRule D old new → IsInline new → AreDefaults D (slots - tiny_len new) (tiny_spare new)
+  defaults_left slots (Inline v a) (Inline w b) none inline made rule still =
+      let zero : items_len v ≡ 0 = ap length none in
+      let no : rule.0 ≡ [] = nil_from_length rule.0 (omega (arith, rule.1.0, zero)) in
+      let used : items_len w - items_len v ≡ items_len w = omega (arith, zero) in
+      let is : spare w ≡ drop (items_len w) (spare v) =
+      rule.2 ∙ ap (λ ds. ds ++ drop (items_len w - items_len v) (spare v)) no ∙ ap (λ k. drop k (spare v)) used in
+      (ap length is ∙ length-drop (items_len w) (spare v) ∙ ap (λ n. n - items_len w) made.0, subst (All D) (sym is) (All-drop D (items_len w) (spare v) made.1))
+  defaults_left slots (Inline v a) (Heap w) none inline made rule still = search rules
+  defaults_left slots (Heap v) new none inline made rule still = search rules
 
   -- the slot rule of a call that first made room, and then made the list longer by k
   pub tiny_slots_grown : (old mid new : TinyVec A T) (k : ℕ) → (IsInline mid → mid ≡ old) → is_inline new ≡ is_inline mid
@@ -62,9 +88,29 @@ module _ {A T : Type 0} (D : T → Type 0) where
   tiny_slots_framed (Inline v a) mid (Heap n) frame h = tt
   tiny_slots_framed (Heap v) mid new frame h = tt
 
-  -- nor than it has after its items were written
-  pub tiny_slots_written : (v new : TinyVec A T) (ws : List T) → length ws ≡ tiny_len v → TinySlotRule D (tiny_with_items v ws) new → TinySlotRule D v new
-  tiny_slots_written v new ws e h = tiny_slots_framed v (tiny_with_items v ws) new (tiny_framed-with v ws e) h
+  -- and no more of the new one
+  pub tiny_slots_then_framed : (old mid new : TinyVec A T) → TinySlotRule D old mid → SameFrame mid new → TinySlotRule D old new
+  tiny_slots_then_framed (Inline v a) (Inline m b) (Inline n d) h frame = rw (frame.0, frame.1) h
+  tiny_slots_then_framed (Inline v a) (Heap m) (Inline n d) h frame = search rules
+  tiny_slots_then_framed (Inline v a) mid (Heap n) h frame = tt
+  tiny_slots_then_framed (Heap v) mid new h frame = tt
+
+  -- a list whose items were written, which is then cut to the first n
+  pub kept_in_front : (slots : ℕ) (v new : TinyVec A T) (ws seen : List T) (n : ℕ) → seen ≡ tiny_items v → length ws ≡ length seen
+      → tiny_items new ≡ take n (tiny_items (tiny_with_items v ws)) → ShrinksInPlace D slots (tiny_with_items v ws) new
+      → (tiny_items new ≡ take n ws) × ShrinksInPlace D slots v new
+  kept_in_front slots v new ws seen n shows len cut h =
+      let long : length ws ≡ tiny_len v = len ∙ ap length shows in
+      let frame = tiny_framed-with v ws long in (
+        cut ∙ ap (take n) (tiny_items-with v ws long),
+        record {
+          bound = omega (arith, frame.0, h.bound);
+          place = h.place ∙ frame.2;
+          slot_rule = tiny_slots_framed v (tiny_with_items v ws) new frame h.slot_rule;
+          capacity = h.capacity ∙ frame.3 slots;
+          fits = h.fits;
+        },
+      )
 
   module _ (c : T) (only : (x : T) → D x → x ≡ c) where
     -- the slot rule where the item's `Default` answers one value only

@@ -1,13 +1,13 @@
 -- What a contract sees of a `TinyVecDrain`.
-use Rattle.std.specs.Prelude.{◌≡◌, ℕ, ◌-◌, ◌≤◌, List, [], ◌∷◌, ◌++◌, take, slice_range, Option, MatchOption}
+use Rattle.std.specs.Prelude.{◌≡◌, ℕ, ◌-◌, ◌≤◌, List, take, slice_range, Option}
 use Rattle.std.specs.Borrow.{GName}
-use Rattle.tinyvec_slots.specs.Ends.{End, TakesFromEnds, Asks}
+use Rattle.tinyvec_slots.specs.Drains.{Steps, StepsBack, TakesAnyWord}
 use Rattle.tinyvec.specs.Tiny.{tiny_items, tiny_len, is_inline, tiny_capacity, TinySlotRule, SameFrame}
 use Rattle.tinyvec.specs.declared.tiny_vec.TinyVec.{TinyVec}
 use Rattle.tinyvec.specs.declared.drain.TinyVecDrain.{TinyVecDrain}
 
 module _ {A T : Type 0} where
-  -- the items that are still to come
+  -- the remaining items
   abbrev pub drain_items : TinyVecDrain A T → List T
   drain_items d = slice_range (tiny_items d.vec.now) d.front d.back
 
@@ -27,7 +27,7 @@ module _ {A T : Type 0} where
   abbrev pub drain_lender : TinyVecDrain A T → GName
   drain_lender d = d.vec.ghost_name
 
-  -- what is to come lies behind what stays
+  -- the remaining items lie behind what stays
   abbrev pub DrainCanStep : TinyVecDrain A T → Type 0
   DrainCanStep d = (d.keep ≤ d.front) × (d.back ≤ tiny_len d.vec.now)
 
@@ -43,16 +43,12 @@ module _ {A T : Type 0} where
 
   -- `next` took old to new, and answered with the first item
   abbrev pub DrainSteps : TinyVecDrain A T → Option T → TinyVecDrain A T → Type 0
-  DrainSteps old item new = MatchOption item ((drain_items old ≡ []) × (new ≡ old))
-      (λ x. (drain_items old ≡ x ∷ drain_items new) × DrainKeeps old new)
+  DrainSteps = Steps drain_items DrainKeeps
 
   -- `next_back` took old to new, and answered with the last item
   abbrev pub DrainStepsBack : TinyVecDrain A T → Option T → TinyVecDrain A T → Type 0
-  DrainStepsBack old item new = MatchOption item ((drain_items old ≡ []) × (new ≡ old))
-      (λ x. (drain_items old ≡ drain_items new ++ x ∷ []) × DrainKeeps old new)
+  DrainStepsBack = StepsBack drain_items DrainKeeps
 
-  -- however calls of `next` and `next_back` follow one another, they take from the two ends of what is to come
+  -- however calls of `next` and `next_back` follow one another, they take from the two ends of the remaining items
   abbrev pub DrainsFromEnds : TinyVecDrain A T → Type 0
-  DrainsFromEnds d = (word : List End) (answers : List (Option T)) (later : TinyVecDrain A T)
-      → Asks DrainSteps DrainStepsBack d word answers later
-      → TakesFromEnds (drain_items d) word answers (drain_items later) × DrainKeeps d later
+  DrainsFromEnds = TakesAnyWord drain_items DrainKeeps

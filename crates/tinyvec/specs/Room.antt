@@ -1,7 +1,17 @@
 -- Calls for room, and moves to the heap. A call and its `try_` form have one word.
-use Rattle.std.specs.Prelude.{◌≡◌, ℕ, ◌+◌, ◌<◌, ◌≤◌, false, Result, IsOk, OnOk, OnErr}
+use Rattle.std.specs.Prelude.{◌≡◌, ℕ, ◌+◌, ◌*◌, ◌<◌, ◌≤◌, max, false, Result, IsOk, OnOk, OnErr}
 use Rattle.tinyvec.specs.Tiny.{tiny_items, tiny_len, is_inline, tiny_capacity, IsInline, PlaceRule, TinySlotRule, Unchanged}
 use Rattle.tinyvec.specs.declared.tiny_vec.TinyVec.{TinyVec}
+
+module _ {A T : Type 0} where
+  -- where there was room for `need` items, the capacity is as it was
+  abbrev pub KeepsRoom : ℕ → ℕ → TinyVec A T → TinyVec A T → Type 0
+  KeepsRoom slots need old new = need ≤ tiny_capacity slots old → tiny_capacity slots new ≡ tiny_capacity slots old
+
+  -- a full inline list moved to where there is room for twice as many items, and for one at least
+  abbrev pub MovesForTwice : ℕ → TinyVec A T → TinyVec A T → Type 0
+  MovesForTwice slots old new = IsInline old → tiny_len old ≡ slots
+      → max (2 * tiny_len old) (tiny_len old + 1) ≤ tiny_capacity slots new
 
 module _ {A T X E : Type 0} where
   -- a call for room for n more items took `old` to `new`, and was answered so
@@ -12,6 +22,7 @@ module _ {A T X E : Type 0} where
     pub stays : IsInline new → new ≡ old
     pub room : OnOk result (tiny_len old + n ≤ tiny_capacity slots new)
     pub capacity : tiny_capacity slots old ≤ tiny_capacity slots new
+    pub fits : tiny_len new ≤ tiny_capacity slots new
     -- a list that moves has room for no further items there
     pub moved : IsInline old → is_inline new ≡ false → tiny_capacity slots new ≡ tiny_len old + n
     -- where there is room no memory is asked for, and nothing changes; neither does it by a refusal
@@ -29,6 +40,7 @@ module _ {A T X E : Type 0} where
     pub succeeds : is_inline old ≡ false → IsOk result
     -- one that moves has room for itself there, and for no more
     pub moved : IsInline old → OnOk result (tiny_capacity slots new ≡ tiny_len old)
+    pub fits : tiny_len new ≤ tiny_capacity slots new
     pub refused : OnErr result (Unchanged old new)
 
   -- the same with room for n more items there
@@ -36,6 +48,7 @@ module _ {A T X E : Type 0} where
     pub items : tiny_items new ≡ tiny_items old
     pub place : OnOk result (is_inline new ≡ false)
     pub room : OnOk result (tiny_len old + n ≤ tiny_capacity slots new)
+    pub fits : tiny_len new ≤ tiny_capacity slots new
     -- a list that moves has room for no further items. On the heap no room is lost, and where there is room no memory is
     -- asked for and nothing changes. Neither does it by a refusal.
     pub moved : IsInline old → OnOk result (tiny_capacity slots new ≡ tiny_len old + n)

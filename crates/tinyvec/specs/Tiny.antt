@@ -49,6 +49,14 @@ module _ {A T : Type 0} where
   SameFrame old new = (tiny_len new ≡ tiny_len old) × (tiny_spare new ≡ tiny_spare old)
       × (is_inline new ≡ is_inline old) × ((slots : ℕ) → tiny_capacity slots new ≡ tiny_capacity slots old)
 
+  -- a call that makes the list no longer took `old` to `new`, which lies in its place, with its room
+  pub record ShrinksInPlace (D : T → Type 0) (slots : ℕ) (old new : TinyVec A T) : Type 0 where
+    pub bound : tiny_len new ≤ tiny_len old
+    pub place : is_inline new ≡ is_inline old
+    pub slot_rule : TinySlotRule D old new
+    pub capacity : tiny_capacity slots new ≡ tiny_capacity slots old
+    pub fits : tiny_len new ≤ tiny_capacity slots new
+
   -- list, spare slots, place and room are as before
   abbrev pub Unchanged : TinyVec A T → TinyVec A T → Type 0
   Unchanged old new = (tiny_items new ≡ tiny_items old) × (tiny_spare new ≡ tiny_spare old)

@@ -1,14 +1,14 @@
 //! Clones, made one by one.
-ghost use Rattle.std.specs.Prelude.{◌≡◌, ◌+◌, ◌<◌, ◌≤◌, ◌++◌, ℕ, All, length, replicate, IsOk, OnOk, OnErr, vec_len, vec_capacity};
+ghost use Rattle.std.specs.Prelude.{◌≡◌, ◌+◌, ◌<◌, ◌≤◌, ℕ, All, length, replicate, IsOk, OnOk, OnErr, vec_len, vec_capacity};
+ghost use Rattle.std.specs.List.{AppendsClones};
 ghost use Rattle.tinyvec_slots.specs.Clones.{RefusedAt};
 
 use std::alloc::AllocError;
 
-/// Appends clones of `from`, where there is room.
+// Appends clones of `from`, where there is room.
 pub(crate) fn push_clones<T: Clone>(heap: &mut Vec<T>, from: &[T]) -> Result<(), AllocError>
     requires room { vec_len heap.old + length from.now ≤ vec_capacity heap.old }
-    requires clones { (x y : T) → T.is_clone x y → y ≡ x }
-    ensures items { OnOk result (heap.new.items ≡ heap.old.items ++ from.now) }
+    ensures items { OnOk result (AppendsClones T.is_clone heap.old.items heap.new.items from.now) }
     ensures kept { OnErr result (heap.new.items ≡ heap.old.items) }
     ensures refused { OnErr result ((j : ℕ) × RefusedAt T.is_infallible from.now j) }
     ensures capacity { vec_capacity heap.new ≡ vec_capacity heap.old }
@@ -27,11 +27,10 @@ pub(crate) fn push_clones<T: Clone>(heap: &mut Vec<T>, from: &[T]) -> Result<(),
     Ok(())
 }
 
-/// Appends `n` clones of `x`, where there is room.
+// Appends `n` clones of `x`, where there is room.
 pub(crate) fn push_copies<T: Clone>(heap: &mut Vec<T>, n: usize, x: &T) -> Result<(), AllocError>
     requires room { vec_len heap.old + n ≤ vec_capacity heap.old }
-    requires clones { (x y : T) → T.is_clone x y → y ≡ x }
-    ensures items { OnOk result (heap.new.items ≡ heap.old.items ++ replicate n x.now) }
+    ensures items { OnOk result (AppendsClones T.is_clone heap.old.items heap.new.items (replicate n x.now)) }
     ensures kept { OnErr result (heap.new.items ≡ heap.old.items) }
     ensures refused { OnErr result ((j : ℕ) × (j < n) × ¬ (T.is_infallible x.now)) }
     ensures capacity { vec_capacity heap.new ≡ vec_capacity heap.old }

@@ -1,5 +1,5 @@
 //! The iterator that moves a range of items out of a vector.
-ghost use Rattle.std.specs.Prelude.{◌≡◌, ◌≤◌, ◌++◌, length, Some, IfSome};
+ghost use Rattle.std.specs.Prelude.{◌≡◌, ◌++◌, length, Some, IfSome};
 ghost use Rattle.std.specs.Iterator.{at_most, UpTo};
 ghost use Rattle.std.specs.Iterator.SizeHint.{IsWithinCount};
 ghost use Rattle.std.specs.Iterator.Runs.{YieldsInOrder, YieldsInReverse};
@@ -14,7 +14,7 @@ use tinyvec_slots::resolve;
 
 /// Gives the items of a range. When it ends, the vector has the others, in its place.
 pub struct TinyVecDrain<'a, A: Array> {
-    // The first `keep` items stay, and those from `front` up to `back` are still to come.
+    // The first `keep` items stay, and those from `front` up to `back` remain.
     vec: &'a mut TinyVec<A>,
     keep: usize,
     front: usize,
@@ -41,7 +41,8 @@ impl<A: Array> TinyVec<A> {
 
         // Once it ends, the list is what stood before and after, in its place.
         ensures same_reference { drain_lender result ≡ self.entry.ghost_name }
-        ensures kept { drain_kept result ≡ before (tiny_items self.old) (R.start_bound range) ++ after (tiny_items self.old) (R.end_bound range) }
+        ensures kept { drain_kept result
+            ≡ before (tiny_items self.old) (R.start_bound range) ++ after (tiny_items self.old) (R.end_bound range) }
         ensures frame { SameFrame self.old (drain_vec result) }
     {
         let len = self.len();

@@ -4,6 +4,8 @@ ghost use Rattle.std.specs.List.{remove_range};
 ghost use Rattle.tinyvec.specs.Tiny.{tiny_items, tiny_len, tiny_spare, is_inline, tiny_capacity, IsInline, SameFrame};
 
 mod clones;
+mod cutting;
+mod draining;
 mod edits;
 mod ends;
 mod filling;
@@ -15,6 +17,7 @@ mod lending;
 mod making;
 mod moving;
 mod reserving;
+mod resizing;
 
 use std::alloc::Global;
 use std::convert::AsSlice;
@@ -57,10 +60,7 @@ impl<A: Array> TinyVec<A> {
         ensures fits { tiny_len self.now ≤ result }
     {
         match self {
-            TinyVec::Inline(v, _) => {
-                let _len = v.len();
-                v.capacity()
-            }
+            TinyVec::Inline(v, _) => v.capacity(),
             TinyVec::Heap(v) => v.capacity(),
         }
     }
@@ -96,7 +96,8 @@ impl<A: Array> TinyVec<A> {
     pub(crate) fn items_to_end(&mut self, start: usize, end: usize)
         requires start_le_end { start ≤ end }
         requires in_bounds { end ≤ tiny_len self.old }
-        ensures items { tiny_items self.new ≡ remove_range (tiny_items self.old) start end ++ slice_range (tiny_items self.old) start end }
+        ensures items { tiny_items self.new
+            ≡ remove_range (tiny_items self.old) start end ++ slice_range (tiny_items self.old) start end }
         ensures frame { SameFrame self.old self.new }
     {
         move_to_end(self.as_mut_slice(), start, end);
@@ -106,7 +107,8 @@ impl<A: Array> TinyVec<A> {
     pub(crate) fn take_at(&mut self, i: usize) -> A::Item
         requires { i < tiny_len self.old }
         ensures value { result ≡ slice_index_or (tiny_items self.old) i result }
-        ensures after { (d : A.Item) × A.Item.is_default d × (tiny_items self.new ≡ slice_set (tiny_items self.old) i d) }
+        ensures after { (d : A.Item) × A.Item.is_default d
+            × (tiny_items self.new ≡ slice_set (tiny_items self.old) i d) }
         ensures frame { SameFrame self.old self.new }
     {
         mem::take(&mut self.as_mut_slice()[i])

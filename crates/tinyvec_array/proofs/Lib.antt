@@ -7,3 +7,4 @@ pub mod Fused
 pub mod Runs
 pub mod SpliceLemmas
 pub mod SplicingLemmas
+mod ArrayWalks

@@ -1,12 +1,12 @@
 -- What a contract sees of an `ArrayVecDrain`.
-use Rattle.std.specs.Prelude.{◌≡◌, ℕ, ◌-◌, ◌≤◌, List, [], ◌∷◌, ◌++◌, length, drop, slice_range, Option, MatchOption}
+use Rattle.std.specs.Prelude.{◌≡◌, ℕ, ◌-◌, ◌≤◌, List, ◌++◌, length, drop, slice_range, Option}
 use Rattle.std.specs.Borrow.{GName}
 use Rattle.tinyvec_slots.specs.Slots.{Slots, AreDefaults, items, spare}
-use Rattle.tinyvec_slots.specs.Ends.{End, TakesFromEnds, Asks}
+use Rattle.tinyvec_slots.specs.Drains.{Steps, StepsBack, TakesAnyWord}
 use Rattle.tinyvec_array.specs.declared.drain.ArrayVecDrain.{ArrayVecDrain}
 
 module _ {A T : Type 0} where
-  -- the items that are still to come
+  -- the remaining items
   abbrev pub drain_items : ArrayVecDrain A T → List T
   drain_items d = slice_range (spare d.vec.now) d.front d.back
 
@@ -14,7 +14,7 @@ module _ {A T : Type 0} where
   abbrev pub drain_len : ArrayVecDrain A T → ℕ
   drain_len d = d.back - d.front
 
-  -- the list of the vector, how many slots are emptied, and the spare slots behind those
+  -- the list of the vector, how many slots are vacated, and the spare slots behind those
   abbrev pub drain_kept : ArrayVecDrain A T → List T
   drain_kept d = items d.vec.now
 
@@ -28,11 +28,11 @@ module _ {A T : Type 0} where
   abbrev pub drain_lender : ArrayVecDrain A T → GName
   drain_lender d = d.vec.ghost_name
 
-  -- what is to come lies among the emptied slots
+  -- the remaining items lie among the vacated slots
   abbrev pub DrainCanStep : ArrayVecDrain A T → Type 0
   DrainCanStep d = (d.front ≤ d.back) × (d.back ≤ d.count) × (d.count ≤ length (spare d.vec.now))
 
-  -- what the vector is once d ended: the list as it was kept, and the emptied slots as defaults before the other spare ones
+  -- what the vector is once d ended: the list as it was kept, and the vacated slots as defaults before the other spare ones
   abbrev pub DrainLeaves : (T → Type 0) → ArrayVecDrain A T → Slots T → Type 0
   DrainLeaves D d v = (items v ≡ drain_kept d)
       × ((ds : List T) × AreDefaults D (drain_count d) ds × (spare v ≡ ds ++ drain_spare d))
@@ -45,16 +45,12 @@ module _ {A T : Type 0} where
 
   -- `next` took old to new, and answered with the first item
   abbrev pub DrainSteps : ArrayVecDrain A T → Option T → ArrayVecDrain A T → Type 0
-  DrainSteps old item new = MatchOption item ((drain_items old ≡ []) × (new ≡ old))
-      (λ x. (drain_items old ≡ x ∷ drain_items new) × DrainKeeps old new)
+  DrainSteps = Steps drain_items DrainKeeps
 
   -- `next_back` took old to new, and answered with the last item
   abbrev pub DrainStepsBack : ArrayVecDrain A T → Option T → ArrayVecDrain A T → Type 0
-  DrainStepsBack old item new = MatchOption item ((drain_items old ≡ []) × (new ≡ old))
-      (λ x. (drain_items old ≡ drain_items new ++ x ∷ []) × DrainKeeps old new)
+  DrainStepsBack = StepsBack drain_items DrainKeeps
 
-  -- however calls of `next` and `next_back` follow one another, they take from the two ends of what is to come
+  -- however calls of `next` and `next_back` follow one another, they take from the two ends of the remaining items
   abbrev pub DrainsFromEnds : ArrayVecDrain A T → Type 0
-  DrainsFromEnds d = (word : List End) (answers : List (Option T)) (later : ArrayVecDrain A T)
-      → Asks DrainSteps DrainStepsBack d word answers later
-      → TakesFromEnds (drain_items d) word answers (drain_items later) × DrainKeeps d later
+  DrainsFromEnds = TakesAnyWord drain_items DrainKeeps

@@ -1,8 +1,12 @@
 -- A fused iterator that shows what is left of it.
-use Rattle.std.specs.Prelude.{List, [], if◌then◌else◌, Option}
+use Rattle.std.specs.Prelude.{◌≡◌, false, List, [], if◌then◌else◌, Option}
 use Rattle.std.specs.declared.iter.Fuse.{Fuse}
 use Rattle.std.specs.Iterator.{YieldsFirst, YieldsLast}
 use Rattle.std.specs.Iterator.Adapters.{fuse_done, fuse_source}
+
+-- a fused iterator may be asked: where it has not ended, its source may
+abbrev pub FusedCan : {S : Type 0} → (S → Type 0) → Fuse S → Type 0
+FusedCan can s = fuse_done s ≡ false → can (fuse_source s)
 
 -- what is left of a fused iterator, where `rest` is what is left of its source
 abbrev pub fused_rest : {S A : Type 0} → (S → List A) → Fuse S → List A

@@ -1,19 +1,19 @@
 -- What an `ArrayVec` ends as, where a `&mut` to its items is returned.
 use Rattle.std.specs.Prelude.{ℕ, List}
-use Rattle.std.specs.Borrow.{Lends, Fml, RattleType, MutBor, Array}
+use Rattle.std.specs.Borrow.{Lends, Fml, RattleType, MutBor, Array as ListOf}
 use Rattle.std.specs.declared.default.Default as Default
-use Rattle.tinyvec_array.specs.declared.array.Array as Slots
-use Rattle.tinyvec_slots.specs.Slots.{Slots as Value, with_items, with_slot, with_spare}
+use Rattle.tinyvec_array.specs.declared.array.Array
+use Rattle.tinyvec_slots.specs.Slots.{Slots, with_items, with_slot, with_spare}
 use Rattle.tinyvec_array.specs.contracts.array_vec.ArrayVec.{the_row}
 
-module _ (A I : RattleType) (a : Slots.Ghosts A.Denot I.Denot) (d : Default.Ghosts I.Denot) (v : MutBor (Value I.Denot)) where
+module _ (A I : RattleType) (a : Array.Ghosts A.Denot I.Denot) (d : Default.Ghosts I.Denot) (v : MutBor (Slots I.Denot)) where
   -- once the borrow r ends, the items are those that r shows last
   abbrev pub lends_items : MutBor (List I.Denot) → Fml
-  lends_items r = Lends (the_row A I a d) (Array I 0) v r (with_items v.now)
+  lends_items r = Lends (the_row A I a d) (ListOf I 0) v r (with_items v.now)
 
   -- once the borrow r ends, the spare slots are those that r shows last
   abbrev pub lends_spare : MutBor (List I.Denot) → Fml
-  lends_spare r = Lends (the_row A I a d) (Array I 0) v r (with_spare v.now)
+  lends_spare r = Lends (the_row A I a d) (ListOf I 0) v r (with_spare v.now)
 
   -- once the borrow r ends, slot i is what r shows last
   abbrev pub lends_item : ℕ → MutBor I.Denot → Fml

@@ -6,6 +6,7 @@ use Rattle.std.specs.declared.iter.Fuse.{Fuse}
 use Rattle.std.specs.Iterator.Adapters.{fuse_done}
 use Rattle.std.specs.Iterator.{Drains, YieldsThen}
 use Rattle.tinyvec_slots.specs.Slots.{Slots, items, spare, items_len}
+use Rattle.tinyvec_array.specs.Fused.{FusedCan}
 use Rattle.tinyvec_array.specs.Touches.{touch_count}
 use Rattle.tinyvec_array.specs.declared.splice.ArrayVecSplice.{ArrayVecSplice}
 use Rattle.tinyvec_slots.specs.declared.no_room.SpliceRest.{SpliceRest}
@@ -62,6 +63,10 @@ abbrev pub SpliceCanStep : {A I T : Type 0} → ArrayVecSplice A (Fuse I) T → 
 SpliceCanStep s = (s.front ≤ s.next) × (s.next ≤ s.end) × (s.end ≤ s.back) × (s.back ≤ items_len s.vec.now)
     × (fuse_done s.replacement ≡ false → (s.front ≡ s.next) × (s.end ≡ s.back))
     × (splice_touches s + 2 * splice_len s ≤ 2 ^ 66)
+
+-- the same, and its replacement may be asked
+abbrev pub SpliceCanNext : {A I T : Type 0} → (I → Type 0) → ArrayVecSplice A (Fuse I) T → Type 0
+SpliceCanNext can s = SpliceCanStep s × FusedCan can s.replacement
 
 module _ {A I T : Type 0} (gives : I → Option T → I → Type 0) where
   -- `next` gave x, the first removed item that was left. The replacement was asked for one item, which stands in front now.

@@ -1,9 +1,10 @@
 //! `ArrayVec`.
-ghost use Rattle.std.specs.Prelude.{◌≡◌, ◌<◌, ◌≤◌, ◌==◌, length, List, ℕ, slice_index_or, slice_set, slice_range, ◌++◌, ◌-◌, drop};
+ghost use Rattle.std.specs.Prelude.{◌≡◌, ◌<◌, ◌≤◌, ◌^◌, ◌==◌, length, List, slice_index_or, slice_set, slice_range, ◌++◌, ◌-◌, drop};
 ghost use Rattle.std.specs.List.{remove_range};
 ghost use Rattle.tinyvec_slots.specs.Slots.{items, spare, items_len, all_slots, split_at, AreDefaults};
 
 mod clones;
+mod cutting;
 mod draining;
 mod edits;
 mod ends;
@@ -14,15 +15,16 @@ mod iterating;
 mod joining;
 mod lending;
 mod making;
-mod trying;
+mod resizing;
+mod to_vec;
 
 use crate::Array;
 use crate::slots::{clear, slots_to_end, take_slot_behind};
 use std::convert::AsSlice;
 use std::marker::Model;
 
-/// A list in an array. The slots behind the list are its spare slots: they hold values too, and those that the list gave
-/// up hold defaults.
+/// A list in an array. The slots behind the list are its spare slots: they hold values too, and the vacated ones hold
+/// defaults.
 #[derive(Drop)]
 pub struct ArrayVec<A: Array> {
     len: usize,
@@ -54,15 +56,22 @@ impl<A: Array> ArrayVec<A> {
         ensures value { result ≡ items_len self.now }
         ensures fits { result ≤ A.CAPACITY }
         ensures slots { length (all_slots self.now) ≡ A.CAPACITY }
+        ensures field { result ≡ self.now.len }
+        ensures small { A.CAPACITY < 2 ^ 64 }
     {
+        // They tell the proof how many slots there are, and that their number is a `usize`.
         let _slots = self.array.as_slice();
+        let _capacity = A::CAPACITY;
         self.len
     }
 
     /// How many items fit, which is the number of slots.
     pub fn capacity(&self) -> usize
-        ensures { result ≡ A.CAPACITY }
+        ensures value { result ≡ A.CAPACITY }
+        ensures fits { items_len self.now ≤ A.CAPACITY }
     {
+        // It tells the proof that the list fits.
+        let _len = self.len();
         A::CAPACITY
     }
 
@@ -112,11 +121,14 @@ impl<A: Array> ArrayVec<A> {
         self.array
     }
 
-    // Moves the border between the items and the spare slots.
-    pub(crate) fn set_border(&mut self, len: usize)
+    /// Moves the border between the items and the spare slots. No slot is written.
+    pub fn set_len(&mut self, len: usize)
         requires { len ≤ A.CAPACITY }
-        ensures { self.new ≡ split_at len (all_slots self.old) }
+        ensures value { self.new ≡ split_at len (all_slots self.old) }
+        ensures fits { items_len self.new ≡ len }
     {
+        // It tells the proof how many slots there are.
+        let _slots = self.array.as_slice();
         self.len = len;
     }
 
@@ -124,7 +136,8 @@ impl<A: Array> ArrayVec<A> {
     pub(crate) fn items_to_end(&mut self, start: usize, end: usize)
         requires start_le_end { start ≤ end }
         requires in_bounds { end ≤ items_len self.old }
-        ensures items { items self.new ≡ remove_range (items self.old) start end ++ slice_range (items self.old) start end }
+        ensures items { items self.new
+            ≡ remove_range (items self.old) start end ++ slice_range (items self.old) start end }
         ensures spare { spare self.new ≡ spare self.old }
     {
         let len = self.len();
@@ -138,17 +151,15 @@ impl<A: Array> ArrayVec<A> {
         ensures items { items self.new ≡ items self.old }
         ensures spare { (d : A.Item) × A.Item.is_default d × (spare self.new ≡ slice_set (spare self.old) i d) }
     {
-        let _len = self.len();
-        // It tells the proof that the number of slots fits.
-        let _slots = A::CAPACITY;
-        let len = self.len;
+        let len = self.len();
         take_slot_behind(&mut self.array, len, i)
     }
 
     // Writes defaults into the first `n` spare slots, or none where there are fewer.
     pub(crate) fn reset_spare(&mut self, n: usize)
         ensures items { items self.new ≡ items self.old }
-        ensures spare { n ≤ length (spare self.old) → (ds : List A.Item) × AreDefaults A.Item.is_default n ds × (spare self.new ≡ ds ++ drop n (spare self.old)) }
+        ensures spare { n ≤ length (spare self.old) → (ds : List A.Item) × AreDefaults A.Item.is_default n ds
+            × (spare self.new ≡ ds ++ drop n (spare self.old)) }
     {
         let len = self.len();
         if n <= A::CAPACITY - len {

@@ -1,24 +1,24 @@
 //! Clones written into an array's slots.
-ghost use Rattle.std.specs.Prelude.{◌≡◌, ◌+◌, ◌-◌, ◌<◌, ◌≤◌, ◌++◌, ℕ, All, length, take, drop, replicate, IsOk, OnOk, OnErr};
-ghost use Rattle.tinyvec_slots.specs.Clones.{RefusedAt};
+ghost use Rattle.std.specs.Prelude.{◌≡◌, ◌-◌, ◌<◌, ◌≤◌, ℕ, All, length, take, replicate, IsOk, OnOk, OnErr};
+ghost use Rattle.std.specs.List.{AllZip};
+ghost use Rattle.tinyvec_slots.specs.Clones.{RefusedAt, ClonesOverFrom};
 
 use crate::Array;
 use std::alloc::AllocError;
 use tinyvec_slots::{clone_each, clone_over, clone_through};
 
-/// Writes clones of all slots of `from`.
+// Writes clones of all slots of `from`.
 pub(crate) fn clone_slots<A: Array>(to: &mut A, from: &A) -> Result<(), AllocError>
 where
     A::Item: Clone,
-    requires clones { (x y : A.Item) → A.Item.is_clone x y → y ≡ x }
-    ensures ok { OnOk result (A.slots to.new ≡ A.slots from.now) }
+    ensures ok { OnOk result (AllZip A.Item.is_clone (A.slots from.now) (A.slots to.new)) }
     ensures refused { OnErr result ((j : ℕ) × RefusedAt A.Item.is_infallible (A.slots from.now) j) }
     ensures succeeds { All A.Item.is_infallible (A.slots from.now) → IsOk result }
 {
     clone_each(to.as_slice_mut(), from.as_slice())
 }
 
-/// Writes clones of `from` into the slots from `start` on.
+// Writes clones of `from` into the slots from `start` on.
 pub(crate) fn put_clones<A: Array>(
     array: &mut A,
     start: usize,
@@ -28,17 +28,16 @@ where
     A::Item: Clone,
     requires in_bounds { start ≤ A.CAPACITY }
     requires fits { length from.now ≤ A.CAPACITY - start }
-    requires clones { (x y : A.Item) → A.Item.is_clone x y → y ≡ x }
-    ensures ok { OnOk result (A.slots array.new ≡ take start (A.slots array.old) ++ from.now ++ drop (start + length from.now) (A.slots array.old)) }
+    ensures ok { OnOk result (ClonesOverFrom A.Item.is_clone start from.now (length from.now) (A.slots array.old) (A.slots array.new)) }
     ensures refused { OnErr result ((j : ℕ) × RefusedAt A.Item.is_infallible from.now j
-        × (A.slots array.new ≡ take start (A.slots array.old) ++ take j from.now ++ drop (start + j) (A.slots array.old))) }
+        × ClonesOverFrom A.Item.is_clone start (take j from.now) j (A.slots array.old) (A.slots array.new)) }
     ensures len { length (A.slots array.old) ≡ A.CAPACITY }
     ensures succeeds { All A.Item.is_infallible from.now → IsOk result }
 {
     clone_over(&mut array.as_slice_mut()[start..], from)
 }
 
-/// Writes clones of `x` into the slots from `start` up to `end`.
+// Writes clones of `x` into the slots from `start` up to `end`.
 pub(crate) fn put_copies<A: Array>(
     array: &mut A,
     start: usize,
@@ -49,10 +48,9 @@ where
     A::Item: Clone,
     requires start_le_end { start ≤ end }
     requires in_bounds { end ≤ A.CAPACITY }
-    requires clones { (x y : A.Item) → A.Item.is_clone x y → y ≡ x }
-    ensures ok { OnOk result (A.slots array.new ≡ take start (A.slots array.old) ++ replicate (end - start) x.now ++ drop end (A.slots array.old)) }
+    ensures ok { OnOk result (ClonesOverFrom A.Item.is_clone start (replicate (end - start) x.now) (end - start) (A.slots array.old) (A.slots array.new)) }
     ensures refused { OnErr result ((j : ℕ) × (j < end - start) × ¬ (A.Item.is_infallible x.now)
-        × (A.slots array.new ≡ take start (A.slots array.old) ++ replicate j x.now ++ drop (start + j) (A.slots array.old))) }
+        × ClonesOverFrom A.Item.is_clone start (replicate j x.now) j (A.slots array.old) (A.slots array.new)) }
     ensures len { length (A.slots array.old) ≡ A.CAPACITY }
     ensures succeeds { A.Item.is_infallible x.now → IsOk result }
 {

@@ -14,7 +14,7 @@ use tinyvec_slots::resolve;
 
 /// Gives the items of a range, which the vector has lost already. When it ends, their slots hold defaults.
 pub struct ArrayVecDrain<'a, A: Array> {
-    // The first `count` spare slots are the emptied ones. Those from `front` up to `back` still hold items.
+    // The first `count` spare slots are the vacated ones. Those from `front` up to `back` still hold items.
     vec: &'a mut ArrayVec<A>,
     count: usize,
     front: usize,
@@ -39,9 +39,11 @@ impl<A: Array> ArrayVec<A> {
         ensures runs_back { YieldsInReverse (DrainStepsBack {A = A} {T = A.Item}) drain_items }
         ensures both_ends { DrainsFromEnds result }
 
-        // The list is what stood before and after, and the spare slots will be the emptied ones and the old.
+        // The list is what stood before and after, and the spare slots will be the vacated ones and the old.
+        ensures fits { items_len self.old ≤ A.CAPACITY }
         ensures same_reference { drain_lender result ≡ self.entry.ghost_name }
-        ensures kept { drain_kept result ≡ before (items self.old) (R.start_bound range) ++ after (items self.old) (R.end_bound range) }
+        ensures kept { drain_kept result
+            ≡ before (items self.old) (R.start_bound range) ++ after (items self.old) (R.end_bound range) }
         ensures count { drain_count result ≡ length (drain_items result) }
         ensures spare { drain_spare result ≡ spare self.old }
     {
@@ -50,7 +52,7 @@ impl<A: Array> ArrayVec<A> {
         // Of so many turns the compiler knows that their indexes stay in 32 bits.
         let count = narrow(part.end - part.start, A::CAPACITY);
         self.items_to_end(part.start, part.end);
-        self.set_border(len - count);
+        self.set_len(len - count);
         ArrayVecDrain {
             vec: self,
             count,

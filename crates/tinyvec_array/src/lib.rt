@@ -6,7 +6,7 @@ mod array_vec;
 mod clone_slots;
 mod drain;
 mod iterator;
-mod lent;
+mod parts;
 mod slots;
 mod splice;
 mod touches;

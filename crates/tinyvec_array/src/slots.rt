@@ -5,9 +5,9 @@ ghost use Rattle.tinyvec_slots.specs.Slots.{AreDefaults};
 
 use crate::Array;
 use std::mem;
-use tinyvec_slots::{are_few, insert_carrying, last_to, part_to_end, remove_carrying, reset};
+use tinyvec_slots::{are_few, insert_shifting, last_to, part_to_end, remove_shifting, reset};
 
-/// Writes `x` into the slot at `i`.
+// Writes `x` into the slot at `i`.
 pub(crate) fn put<A: Array>(array: &mut A, i: usize, x: A::Item)
     requires { i < A.CAPACITY }
     ensures after { A.slots array.new ≡ slice_set (A.slots array.old) i x }
@@ -18,7 +18,7 @@ pub(crate) fn put<A: Array>(array: &mut A, i: usize, x: A::Item)
     slots[at] = x;
 }
 
-/// Takes what the slot at `i` holds, and leaves a default.
+// Takes what the slot at `i` holds, and leaves a default.
 pub(crate) fn take_slot<A: Array>(array: &mut A, i: usize) -> A::Item
     requires { i < A.CAPACITY }
     ensures value { result ≡ slice_index_or (A.slots array.old) i result }
@@ -30,11 +30,12 @@ pub(crate) fn take_slot<A: Array>(array: &mut A, i: usize) -> A::Item
     mem::take(&mut slots[at])
 }
 
-/// Takes what the slot at `i` behind the first `len` holds, and leaves a default.
+// Takes what the slot at `i` behind the first `len` holds, and leaves a default.
 pub(crate) fn take_slot_behind<A: Array>(array: &mut A, len: usize, i: usize) -> A::Item
     requires { i < A.CAPACITY - len }
     ensures value { result ≡ slice_index_or (A.slots array.old) (len + i) result }
-    ensures after { (d : A.Item) × A.Item.is_default d × (A.slots array.new ≡ slice_set (A.slots array.old) (len + i) d) }
+    ensures after { (d : A.Item) × A.Item.is_default d
+        × (A.slots array.new ≡ slice_set (A.slots array.old) (len + i) d) }
     ensures len { length (A.slots array.old) ≡ A.CAPACITY }
 {
     let slots = array.as_slice_mut();
@@ -42,8 +43,8 @@ pub(crate) fn take_slot_behind<A: Array>(array: &mut A, len: usize, i: usize) ->
     mem::take(&mut slots[at])
 }
 
-/// It is `i`. Of an index in 32 bits the compiler knows that it can't lead round all addresses to the length, which lies in
-/// front of the slots. So it keeps the length in a register over a loop of pushes, and makes such a loop vector code.
+// It is `i`. Of an index in 32 bits the compiler knows that it can't lead round all addresses to the length, which lies in
+// front of the slots. So it keeps the length in a register over a loop of pushes, and makes such a loop vector code.
 #[inline(always)]
 pub(crate) fn narrow(i: usize, most: usize) -> usize
     requires { i ≤ most }
@@ -55,59 +56,65 @@ pub(crate) fn narrow(i: usize, most: usize) -> usize
     i as u32 as usize
 }
 
-/// Writes a default into each slot from `start` up to `end`.
+// Writes a default into each slot from `start` up to `end`.
 pub(crate) fn clear<A: Array>(array: &mut A, start: usize, end: usize)
     requires start_le_end { start ≤ end }
     requires in_bounds { end ≤ A.CAPACITY }
-    ensures after { (ds : List A.Item) × AreDefaults A.Item.is_default (end - start) ds × (A.slots array.new ≡ take start (A.slots array.old) ++ ds ++ drop end (A.slots array.old)) }
+    ensures after { (ds : List A.Item) × AreDefaults A.Item.is_default (end - start) ds
+        × (A.slots array.new ≡ take start (A.slots array.old) ++ ds ++ drop end (A.slots array.old)) }
     ensures len { length (A.slots array.old) ≡ A.CAPACITY }
 {
     reset(&mut array.as_slice_mut()[start..end]);
 }
 
-/// Moves the slots from `start` up to `end` behind the others below `len`.
+// Moves the slots from `start` up to `end` behind the others below `len`.
 pub(crate) fn slots_to_end<A: Array>(array: &mut A, start: usize, end: usize, len: usize)
     requires start_le_end { start ≤ end }
     requires in_list { end ≤ len }
     requires in_bounds { len ≤ A.CAPACITY }
-    ensures after { A.slots array.new ≡ remove_range (take len (A.slots array.old)) start end ++ slice_range (take len (A.slots array.old)) start end ++ drop len (A.slots array.old) }
+    ensures after { A.slots array.new
+        ≡ remove_range (take len (A.slots array.old)) start end
+        ++ slice_range (take len (A.slots array.old)) start end ++ drop len (A.slots array.old) }
     ensures len { length (A.slots array.old) ≡ A.CAPACITY }
 {
     part_to_end(array.as_slice_mut(), start, end, len);
 }
 
-/// Whether so many slots of an `A` are moved one by one. Where it has no more in all, the compiler knows the answer.
+// Whether so many slots of an `A` are moved one by one. Where it has no more in all, the compiler knows the answer.
 #[inline(always)]
 pub(crate) fn are_few_of<A: Array>(count: usize) -> bool {
     are_few(A::CAPACITY) || are_few(count)
 }
 
-/// Puts `x` into the slot at `index`, and moves those from there on up, over the one at `len`.
+// Puts `x` into the slot at `index`, and moves those from there on up, over the one at `len`.
 pub(crate) fn insert_slot<A: Array>(array: &mut A, index: usize, len: usize, x: A::Item)
     requires in_list { index ≤ len }
     requires room { len < A.CAPACITY }
-    ensures after { A.slots array.new ≡ insert (take len (A.slots array.old)) index x ++ drop (len + 1) (A.slots array.old) }
+    ensures after { A.slots array.new
+        ≡ insert (take len (A.slots array.old)) index x ++ drop (len + 1) (A.slots array.old) }
     ensures len { length (A.slots array.old) ≡ A.CAPACITY }
 {
-    insert_carrying(array.as_slice_mut(), index, len, x);
+    insert_shifting(array.as_slice_mut(), index, len, x);
 }
 
-/// Takes what the slot at `index` holds, moves those behind it below `len` down, and leaves a default in the last.
+// Takes what the slot at `index` holds, moves those behind it below `len` down, and leaves a default in the last.
 pub(crate) fn remove_slot<A: Array>(array: &mut A, index: usize, len: usize) -> A::Item
     requires in_list { index < len }
     requires in_bounds { len ≤ A.CAPACITY }
     ensures value { result ≡ slice_index_or (A.slots array.old) index result }
-    ensures after { (d : A.Item) × A.Item.is_default d × (A.slots array.new ≡ remove (take len (A.slots array.old)) index ++ d ∷ drop len (A.slots array.old)) }
+    ensures after { (d : A.Item) × A.Item.is_default d
+        × (A.slots array.new ≡ remove (take len (A.slots array.old)) index ++ d ∷ drop len (A.slots array.old)) }
     ensures len { length (A.slots array.old) ≡ A.CAPACITY }
 {
-    remove_carrying(array.as_slice_mut(), index, len)
+    remove_shifting(array.as_slice_mut(), index, len)
 }
 
-/// Moves the last slot below `len` to `index`, and those from there on up.
+// Moves the last slot below `len` to `index`, and those from there on up.
 pub(crate) fn last_slot_to<A: Array>(array: &mut A, index: usize, len: usize)
     requires in_list { index < len }
     requires in_bounds { len ≤ A.CAPACITY }
-    ensures after { (front : List A.Item) (last : A.Item) → take len (A.slots array.old) ≡ front ++ last ∷ [] → A.slots array.new ≡ insert front index last ++ drop len (A.slots array.old) }
+    ensures after { (front : List A.Item) (last : A.Item) → take len (A.slots array.old) ≡ front ++ last ∷ []
+        → A.slots array.new ≡ insert front index last ++ drop len (A.slots array.old) }
     ensures len { length (A.slots array.old) ≡ A.CAPACITY }
 {
     last_to(array.as_slice_mut(), index, len);

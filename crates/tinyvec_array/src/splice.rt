@@ -1,12 +1,10 @@
 //! The iterator that moves a range of items out of a vector and puts others in its place.
-ghost use Rattle.std.specs.Prelude.{◌≡◌, ◌+◌, ◌-◌, ◌*◌, ◌≤◌, ◌^◌, ◌++◌, List, length, take, drop, max, false, Some, IfSome, IfErr, IsOk, OnErr, MatchResult, ◌↔◌};
-ghost use Rattle.std.specs.Iterator.{UpTo, MakesProgress, at_most, Drains, YieldsThen};
+ghost use Rattle.std.specs.Prelude.{◌≡◌, ◌+◌, ◌-◌, length, drop, false, Some, IfSome};
+ghost use Rattle.std.specs.Iterator.{UpTo, MakesProgress, at_most};
 ghost use Rattle.std.specs.Iterator.Adapters.{fuse_done, fuse_source, fuse_steps};
 ghost use Rattle.std.specs.Iterator.SizeHint.{IsWithinCount};
-ghost use Rattle.tinyvec_slots.specs.Slots.{items, spare, items_len, SlotRule};
+ghost use Rattle.tinyvec_slots.specs.Slots.{items};
 ghost use Rattle.tinyvec_slots.specs.Cut.{IsRangeOf, before, removed, after};
-ghost use Rattle.tinyvec_slots.specs.Filling.{ShowsItems};
-ghost use Rattle.tinyvec_array.specs.Fused.{fused_rest};
 
 mod filling;
 mod finishing;
@@ -92,20 +90,20 @@ impl<A: Array> ArrayVec<A> {
 }
 
 impl<'a, A: Array, I: Iterator<Item = A::Item>> Iterator for ArrayVecSplice<'a, A, Fuse<I>> {
-    ghost use Rattle.tinyvec_array.specs.Splice.{splice_len, splice_replacement, SpliceCanStep, SpliceSteps};
+    ghost use Rattle.tinyvec_array.specs.Splice.{splice_len, SpliceCanStep, SpliceCanNext, SpliceSteps};
 
     type Item = A::Item;
 
-    ghost can_next = { λ s. SpliceCanStep s × (fuse_done (splice_replacement s) ≡ false → I.can_next (fuse_source (splice_replacement s))) };
+    ghost can_next = { SpliceCanNext I.can_next };
 
     ghost next_gives = { SpliceSteps (fuse_steps I.next_gives) };
 
     ghost remaining = { λ s. at_most (splice_len s) };
 
     fn next(&mut self) -> Option<A::Item>
-        requires { SpliceCanStep self.old × (fuse_done (splice_replacement self.old) ≡ false → I.can_next (fuse_source (splice_replacement self.old))) }
+        requires { SpliceCanNext I.can_next self.old }
         ensures steps { SpliceSteps (fuse_steps I.next_gives) self.old result self.new }
-        ensures goes { MakesProgress (λ s. SpliceCanStep s × (fuse_done (splice_replacement s) ≡ false → I.can_next (fuse_source (splice_replacement s)))) (λ s. at_most (splice_len s)) self.old result self.new }
+        ensures goes { MakesProgress (SpliceCanNext I.can_next) (λ s. at_most (splice_len s)) self.old result self.new }
         ensures ready { SpliceCanStep self.new }
     {
         if self.next >= self.end {
@@ -140,16 +138,17 @@ impl<'a, A: Array, I: Iterator<Item = A::Item>> Iterator for ArrayVecSplice<'a, 
 
 impl<'a, A: Array, I: DoubleEndedIterator<Item = A::Item>> DoubleEndedIterator
     for ArrayVecSplice<'a, A, Fuse<I>> {
-    ghost use Rattle.tinyvec_array.specs.Splice.{splice_len, splice_replacement, SpliceCanStep, SpliceStepsBack};
+    ghost use Rattle.tinyvec_array.specs.Splice.{splice_len, SpliceCanStep, SpliceCanNext, SpliceStepsBack};
 
-    ghost can_next_back = { λ s. SpliceCanStep s × (fuse_done (splice_replacement s) ≡ false → I.can_next_back (fuse_source (splice_replacement s))) };
+    ghost can_next_back = { SpliceCanNext I.can_next_back };
 
     ghost next_back_gives = { SpliceStepsBack (fuse_steps I.next_back_gives) };
 
     fn next_back(&mut self) -> Option<A::Item>
-        requires { SpliceCanStep self.old × (fuse_done (splice_replacement self.old) ≡ false → I.can_next_back (fuse_source (splice_replacement self.old))) }
+        requires { SpliceCanNext I.can_next_back self.old }
         ensures steps { SpliceStepsBack (fuse_steps I.next_back_gives) self.old result self.new }
-        ensures goes { MakesProgress (λ s. SpliceCanStep s × (fuse_done (splice_replacement s) ≡ false → I.can_next_back (fuse_source (splice_replacement s)))) (λ s. at_most (splice_len s)) self.old result self.new }
+        ensures goes { MakesProgress (SpliceCanNext I.can_next_back)
+            (λ s. at_most (splice_len s)) self.old result self.new }
         ensures ready { SpliceCanStep self.new }
     {
         if self.next >= self.end {

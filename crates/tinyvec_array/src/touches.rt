@@ -7,8 +7,8 @@ ghost use Rattle.tinyvec_array.specs.Touches.{touch_count};
 use crate::{Array, ArrayVec};
 use std::mem;
 
-/// Reaches slots, and counts how often: a touch is one slot read out with the default that it may leave, one item placed
-/// in a slot, or two slots swapped.
+// Reaches slots, and counts how often: a touch is one slot read out with the default that it may leave, one item placed
+// in a slot, or two slots swapped.
 #[derive(Drop)]
 pub(crate) struct Touches {
     count: u128,
@@ -21,14 +21,14 @@ impl Touches {
         Touches { count: 0 }
     }
 
-    /// How many touches there were.
+    // How many touches there were.
     pub(crate) fn count(&self) -> u128
         ensures { result ≡ touch_count self.now }
     {
         self.count
     }
 
-    /// Places `x` in the slot at `i`, and takes out what was there.
+    // Places `x` in the slot at `i`, and takes out what was there.
     pub(crate) fn replace<T>(&mut self, slots: &mut [T], i: usize, x: T) -> T
         requires in_bounds { i < length slots.old }
         requires few { touch_count self.old < 2 ^ 120 }
@@ -40,7 +40,7 @@ impl Touches {
         mem::replace(&mut slots[i], x)
     }
 
-    /// Takes out what the slot at `i` holds, and leaves a default.
+    // Takes out what the slot at `i` holds, and leaves a default.
     pub(crate) fn take<T: Default>(&mut self, slots: &mut [T], i: usize) -> T
         requires in_bounds { i < length slots.old }
         requires few { touch_count self.old < 2 ^ 120 }
@@ -52,7 +52,7 @@ impl Touches {
         mem::take(&mut slots[i])
     }
 
-    /// Places `x` behind the items.
+    // Places `x` behind the items.
     pub(crate) fn push<A: Array>(&mut self, vec: &mut ArrayVec<A>, x: A::Item)
         requires room { items_len vec.old < A.CAPACITY }
         requires few { touch_count self.old < 2 ^ 120 }
@@ -64,7 +64,7 @@ impl Touches {
         vec.push(x);
     }
 
-    /// Gives up the last item.
+    // Drops the last item.
     pub(crate) fn drop_last<A: Array>(&mut self, vec: &mut ArrayVec<A>)
         requires some { 0 < items_len vec.old }
         requires few { touch_count self.old < 2 ^ 120 }
@@ -89,7 +89,7 @@ impl Touches {
         slots.swap(i, j);
     }
 
-    /// Moves what stands from `back` on down to `at`. What stood between goes behind it.
+    // Moves what stands from `back` on down to `at`. What stood between goes behind it.
     pub(crate) fn close<T>(&mut self, slots: &mut [T], at: usize, back: usize)
         requires in_order { at ≤ back }
         requires in_bounds { back ≤ length slots.old }
@@ -104,12 +104,13 @@ impl Touches {
         }
     }
 
-    /// Moves what stands from `middle` on before what stands from `start` on.
+    // Moves what stands from `middle` on before what stands from `start` on.
     pub(crate) fn rotate<T>(&mut self, slots: &mut [T], start: usize, middle: usize)
         requires in_order { start ≤ middle }
         requires in_bounds { middle ≤ length slots.old }
         requires few { touch_count self.old < 2 ^ 100 }
-        ensures after { slots.new ≡ take start slots.old ++ drop middle slots.old ++ slice_range slots.old start middle }
+        ensures after { slots.new
+            ≡ take start slots.old ++ drop middle slots.old ++ slice_range slots.old start middle }
         ensures grows { touch_count self.old ≤ touch_count self.new }
         ensures count { touch_count self.new ≤ touch_count self.old + (length slots.old - start) }
     {

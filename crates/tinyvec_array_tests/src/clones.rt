@@ -1,5 +1,4 @@
 //! Clones, granted and refused.
-ghost use Rattle.std.specs.Prelude.{◌≡◌};
 
 use std::alloc::AllocError;
 use std::cell::Cell;
@@ -15,9 +14,13 @@ fn array_vec_try_from_slice(rt: HostRuntime) -> Result<(), Fail> {
     assert!(rt; none.grab_spare_slice() == [0, 0].as_slice());
     let two = ArrayVec::<[i32; 2]>::try_from_slice(&[1, 2])?;
     assert!(rt; two.as_slice() == [1, 2].as_slice());
+    Ok(())
+}
+
+#[test]
+fn array_vec_try_from_a_longer_slice(rt: HostRuntime) {
     let four = ArrayVec::<[i32; 2]>::try_from_slice(&[1, 2, 3, 4]);
     assert!(rt; four.err() == Some(TryFromSliceError::TooLong));
-    Ok(())
 }
 
 #[test]

@@ -5,6 +5,7 @@ ghost use Rattle.tinyvec_slots.specs.Cut.{range_start, range_end};
 use std::mem;
 use std::ops::{Bound, RangeBounds};
 use std::process::Abort;
+use std::test::Fail;
 use tinyvec_array::ArrayVec;
 
 // Drains the range of `[1, 2, 3]` in ten slots, of which the emptied ones then hold 0 as the others do.
@@ -59,7 +60,7 @@ fn passed_over(rt: HostRuntime) {
 }
 
 #[test]
-fn from_both_ends_to_none(rt: HostRuntime) {
+fn from_both_ends(rt: HostRuntime) {
     let mut v = ArrayVec::from_array([0, 1, 2, 3, 4, 5, 6, 7]);
     let mut d = v.drain(1..);
     assert!(rt; d.len() == 7);
@@ -70,7 +71,16 @@ fn from_both_ends_to_none(rt: HostRuntime) {
     assert!(rt; d.nth_back(1) == Some(5));
     assert!(rt; d.len() == 1);
     assert!(rt; d.size_hint() == (1, Some(1)));
-    assert!(rt; d.next_back() == Some(4));
+    drop(d);
+    assert!(rt; v.into_inner() == [0, 0, 0, 0, 0, 0, 0, 0]);
+}
+
+#[test]
+fn from_both_ends_to_none(rt: HostRuntime) {
+    let mut v = ArrayVec::from_array([0, 1, 2]);
+    let mut d = v.drain(1..);
+    assert!(rt; d.next() == Some(1));
+    assert!(rt; d.next_back() == Some(2));
     assert!(rt; d.len() == 0);
     for _again in 0..2 {
         assert!(rt; d.next() == None);
@@ -78,7 +88,7 @@ fn from_both_ends_to_none(rt: HostRuntime) {
         assert!(rt; d.size_hint() == (0, Some(0)));
     }
     drop(d);
-    assert!(rt; v.into_inner() == [0, 0, 0, 0, 0, 0, 0, 0]);
+    assert!(rt; v.into_inner() == [0, 0, 0]);
 }
 
 #[test]
@@ -106,4 +116,22 @@ fn forgotten(rt: HostRuntime) {
     let mut v = ArrayVec::from_array([1, 2, 3, 4]);
     mem::forget(v.drain(1..3));
     assert!(rt; v.as_slice() == [1, 4].as_slice());
+}
+
+#[test]
+fn moved_behind_others(rt: HostRuntime) -> Result<(), Fail> {
+    let mut v = ArrayVec::from_array_len([1, 2, 3, 4, 9], 4);
+    let mut out = Vec::with_capacity(rt.alloc(), 5)?;
+    out.push(7)?;
+    v.drain_into(1..3, &mut out);
+    assert!(rt; out.as_slice() == [7, 2, 3].as_slice());
+    assert!(rt; v.as_inner() == &[1, 4, 0, 0, 9]);
+    v.drain_into(1..1, &mut out);
+    assert!(rt; out.as_slice() == [7, 2, 3].as_slice());
+    assert!(rt; v.as_slice() == [1, 4].as_slice());
+    v.drain_into(.., &mut out);
+    assert!(rt; out.as_slice() == [7, 2, 3, 1, 4].as_slice());
+    assert!(rt; v.into_inner() == [0, 0, 0, 0, 9]);
+    assert!(rt; out.capacity() == 5);
+    Ok(())
 }

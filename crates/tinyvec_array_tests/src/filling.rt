@@ -49,6 +49,30 @@ fn extend_without_a_hint(rt: HostRuntime) {
 }
 
 #[test]
+fn extend_by_a_vec(rt: HostRuntime) -> Result<(), Fail> {
+    let mut vec = ArrayVec::from_array_len([1, 0, 0, 9], 1);
+    assert!(rt; vec.extend([2, 3].to_vec(rt.alloc())?).is_ok());
+    assert!(rt; vec.as_slice() == [1, 2, 3].as_slice());
+    assert!(rt; vec.grab_spare_slice() == [9].as_slice());
+    Ok(())
+}
+
+#[test]
+fn extend_by_copies_of_a_slice(rt: HostRuntime) {
+    let mut vec = ArrayVec::from_array_len([1, 0, 0], 1);
+    assert!(rt; vec.extend([2, 3].iter().copied()).is_ok());
+    assert!(rt; vec.as_slice() == [1, 2, 3].as_slice());
+    match vec.extend([4].iter().copied()) {
+        Ok(()) => panic!(rt; "there was no room"),
+        Err(NoRoom { item, mut rest }) => {
+            assert!(rt; item == 4);
+            assert!(rt; rest.next() == None);
+        }
+    }
+    assert!(rt; vec.as_slice() == [1, 2, 3].as_slice());
+}
+
+#[test]
 fn from_iter_of_endless_items(rt: HostRuntime) {
     match ArrayVec::<[i32; 2]>::from_iter(0..) {
         Ok(_) => panic!(rt; "there was no room"),
@@ -134,7 +158,7 @@ fn append_moves_the_items(rt: HostRuntime) {
     assert!(rt; back.as_inner().as_slice() == [0, 0, 0, 0, 0, 0, 0, 8].as_slice());
 }
 
-/// At both outcomes, with the slots that hold no item.
+/// With the slots that hold no item.
 #[test]
 fn append_if_fits_hands_back_the_other(rt: HostRuntime) {
     let mut front = ArrayVec::from_array_len([1, 2, 3, 4, 5, 6, 20], 6);
@@ -150,6 +174,13 @@ fn append_if_fits_hands_back_the_other(rt: HostRuntime) {
     assert!(rt; front.as_inner().as_slice() == [1, 2, 3, 4, 5, 6, 20].as_slice());
     assert!(rt; back.as_slice() == [7].as_slice());
     assert!(rt; back.as_inner().as_slice() == [7, 0, 9, 30, 31, 32, 33].as_slice());
+}
+
+/// It gives the emptied list, with the slots that hold no item.
+#[test]
+fn append_if_fits_hands_back_the_emptied(rt: HostRuntime) {
+    let mut front = ArrayVec::from_array_len([1, 2, 3, 4, 5, 6, 20], 6);
+    let mut back = ArrayVec::from_array_len([7, 0, 9, 30, 31, 32, 33], 1);
     match front.append_if_fits(&mut back) {
         Ok(emptied) => emptied.push(40),
         Err(_) => panic!(rt; "there was room"),

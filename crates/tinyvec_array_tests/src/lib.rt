@@ -10,6 +10,8 @@ mod edits;
 #[cfg(test)]
 mod ends;
 #[cfg(test)]
+mod errors;
+#[cfg(test)]
 mod filling;
 #[cfg(test)]
 mod filters;

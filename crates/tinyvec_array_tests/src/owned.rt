@@ -49,3 +49,75 @@ fn drained(rt: HostRuntime) -> Result<(), Fail> {
     );
     Ok(())
 }
+
+// A clone has memory of its own.
+#[test]
+fn cloned(rt: HostRuntime) -> Result<(), Fail> {
+    let mut v = ArrayVec::from_array_len(
+        [
+            Some([1, 2].to_vec(rt.alloc())?),
+            None,
+            Some([9].to_vec(rt.alloc())?),
+        ],
+        2,
+    );
+    let copy = v.clone()?;
+    v.clear();
+    assert!(rt;
+        copy.into_inner()
+            == [
+                Some([1, 2].to_vec(rt.alloc())?),
+                None,
+                Some([9].to_vec(rt.alloc())?)
+            ]
+    );
+    Ok(())
+}
+
+#[test]
+fn cloned_from_a_slice(rt: HostRuntime) -> Result<(), Fail> {
+    let source = [
+        Some([1].to_vec(rt.alloc())?),
+        Some([2, 3].to_vec(rt.alloc())?),
+    ];
+    let mut v = ArrayVec::<[Option<Vec<u8>>; 4]>::try_from_slice(&source)?;
+    v.extend_from_slice(&source[1..])?;
+    assert!(rt; v.len() == 3);
+    assert!(rt; v.pop() == Some(Some([2, 3].to_vec(rt.alloc())?)));
+    assert!(rt; v.as_slice() == source.as_slice());
+    Ok(())
+}
+
+#[test]
+fn resized(rt: HostRuntime) -> Result<(), Fail> {
+    let mut v = ArrayVec::<[Option<Vec<u8>>; 3]>::new();
+    assert!(rt;
+        v.resize(2, Some([5].to_vec(rt.alloc())?)).is_ok(),
+        "memory was granted"
+    );
+    assert!(rt;
+        v.into_inner()
+            == [
+                Some([5].to_vec(rt.alloc())?),
+                Some([5].to_vec(rt.alloc())?),
+                None
+            ]
+    );
+    Ok(())
+}
+
+#[test]
+fn cloned_over(rt: HostRuntime) -> Result<(), Fail> {
+    let mut v = ArrayVec::from_array_len([Some([1].to_vec(rt.alloc())?), None, None], 1);
+    let source = ArrayVec::from_array_len(
+        [
+            Some([2, 3].to_vec(rt.alloc())?),
+            Some([4].to_vec(rt.alloc())?),
+            None,
+        ],
+        2,
+    );
+    v.clone_from(&source)?;
+    assert!(rt; v.as_slice() == source.as_slice());
+    Ok(())
+}

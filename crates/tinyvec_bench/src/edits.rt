@@ -6,7 +6,6 @@ use tinyvec_array::ArrayVec;
 /// Pops an item, and inserts one in front.
 #[inline(never)]
 pub fn insert_front<T: Number, const N: usize>(vec: &mut ArrayVec<[T; N]>, x: u64) -> u64 {
-    let _len = vec.len();
     let Some(last) = vec.pop() else {
         return 0;
     };
@@ -17,7 +16,6 @@ pub fn insert_front<T: Number, const N: usize>(vec: &mut ArrayVec<[T; N]>, x: u6
 /// Pops an item, and inserts one in the middle.
 #[inline(never)]
 pub fn insert_middle<T: Number, const N: usize>(vec: &mut ArrayVec<[T; N]>, x: u64) -> u64 {
-    let _len = vec.len();
     let Some(last) = vec.pop() else {
         return 0;
     };
@@ -32,7 +30,6 @@ pub fn remove_front<T: Number, const N: usize>(vec: &mut ArrayVec<[T; N]>, x: u6
     if vec.is_empty() {
         return 0;
     }
-    let _len = vec.len();
     let first = vec.remove(0);
     vec.push(T::of(x));
     first.value()

@@ -1,6 +1,4 @@
 //! Vectors filled from elsewhere.
-ghost use Rattle.std.specs.Prelude.{◌≡◌};
-
 use crate::number::Number;
 use tinyvec_array::ArrayVec;
 
@@ -10,9 +8,7 @@ pub fn extend_from_slice<T: Number, const N: usize>(
     vec: &mut ArrayVec<[T; N]>,
     source: &[T],
     x: u64,
-) -> u64
-    requires clones { (a b : T) → T.is_clone a b → b ≡ a }
-{
+) -> u64 {
     vec.set_len(0);
     if source.len() > vec.capacity() {
         return 0;
@@ -40,9 +36,7 @@ pub fn clone_of<T: Number, const N: usize>(
     even: &ArrayVec<[T; N]>,
     odd: &ArrayVec<[T; N]>,
     x: u64,
-) -> ArrayVec<[T; N]>
-    requires clones { (a b : T) → T.is_clone a b → b ≡ a }
-{
+) -> ArrayVec<[T; N]> {
     let vec = if x % 2 == 0 { even } else { odd };
     match vec.clone() {
         Ok(copy) => copy,

@@ -5,7 +5,7 @@ use Rattle.tinyvec_array.specs.Drain.{DrainCanStep, DrainKeeps, DrainLeaves, dra
 use Rattle.tinyvec_array.specs.declared.drain.ArrayVecDrain.{ArrayVecDrain}
 use Rattle.tinyvec_array.proofs.DrainedLemmas.{drained}
 
--- the emptied slots hold 0
+-- the vacated slots hold 0
 pub numbers_left : {A : Type 0} (first last : ArrayVecDrain A ℤ) (v : Slots ℤ) → DrainCanStep first → DrainKeeps first last
     → (DrainCanStep last → DrainLeaves (λ x. x ≡ pos 0) last v)
     → all_slots v ≡ drain_kept first ++ (replicate (drain_count first) (pos 0) ++ drain_spare first)

@@ -6,7 +6,7 @@ use Rattle.std.specs.declared.array.IntoIter.{IntoIter as Items}
 use Rattle.std.specs.Array.Iter.{array_into_iter_items, array_steps, array_steps_back}
 use Rattle.tinyvec_slots.specs.Slots.{Slots, items, spare, items_len, all_slots, SlotRule}
 use Rattle.tinyvec_slots.specs.Ends.{End}
-use Rattle.tinyvec_slots.proofs.SlotsLemmas.{defaults_are, slots_are}
+use Rattle.tinyvec_slots.proofs.SlotsLemmas.{zeros_are, slots_are}
 use Rattle.tinyvec_array.specs.Fused.{HasTwoEnds}
 use Rattle.tinyvec_array.specs.Splice.{splice_front, splice_left, splice_back, splice_replacement, splice_slots, SpliceKeeps, SpliceSteps, SpliceStepsBack, FinishesWith}
 use Rattle.tinyvec_array.specs.Splicing.{placed_back, IsSpliceRefused, SplicedByWord}
@@ -102,7 +102,7 @@ refused_at word n before after replacement list rest y k at_back h long =
 pub numbers_spliced : (old v : Slots ℤ) (xs : List ℤ) → items v ≡ xs → SlotRule (λ x. x ≡ pos 0) old v
     → all_slots v ≡ xs ++ (replicate (items_len old - length xs) (pos 0) ++ drop (length xs - items_len old) (spare old))
 numbers_spliced old v xs is rule =
-    let zeros : rule.0 ≡ replicate (items_len old - items_len v) (pos 0) = defaults_are _ (pos 0) (λ x h. h) (items_len old - items_len v) rule.0 rule.1 in
+    let zeros : rule.0 ≡ replicate (items_len old - items_len v) (pos 0) = zeros_are (pos 0) (items_len old - items_len v) rule.0 rule.1 in
     slots_are v ∙ ap (λ l. items v ++ l) (rule.2 ∙ ap (λ l. l ++ drop (items_len v - items_len old) (spare old)) zeros)
     ∙ ap (λ l. l ++ (replicate (items_len old - length l) (pos 0) ++ drop (length l - items_len old) (spare old))) is
 

@@ -1,7 +1,7 @@
 //! Callers of a drain.
 ghost use Rattle.std.specs.Prelude.{◌≡◌, ◌≤◌, ◌-◌, ◌++◌, ◌∷◌, [], pos, Some, slice_get};
-ghost use Rattle.tinyvec_slots.specs.Slots.{items, items_len, SlotRule};
-ghost use Rattle.tinyvec_slots.specs.Cut.{IsRangeOf, before, removed, after};
+ghost use Rattle.tinyvec_array.specs.Slots.{items, items_len, SlotRule};
+ghost use Rattle.tinyvec_array.specs.Cut.{IsRangeOf, before, removed, after};
 
 use std::ops::{Bound, RangeBounds};
 use tinyvec_array::{Array, ArrayVec};
@@ -135,7 +135,8 @@ pub fn drain_all<A: Array>(v: &mut ArrayVec<A>)
 pub fn cut<A: Array, R: RangeBounds<usize>>(v: &mut ArrayVec<A>, range: R)
     requires known { R.has_bounds range }
     requires in_list { IsRangeOf (items v.old) (R.start_bound range) (R.end_bound range) }
-    ensures items { items v.new ≡ before (items v.old) (R.start_bound range) ++ after (items v.old) (R.end_bound range) }
+    ensures items { items v.new
+        ≡ before (items v.old) (R.start_bound range) ++ after (items v.old) (R.end_bound range) }
     ensures spare { SlotRule A.Item.is_default v.old v.new }
 {
     drop(v.drain(range));
@@ -182,8 +183,6 @@ pub fn move_all<A: Array>(from: &mut ArrayVec<A>, to: &mut ArrayVec<A>)
     ensures moved { items to.new ≡ items from.old }
     ensures left { items from.new ≡ [] }
 {
-    // It tells the proof that the items fit.
-    let _len = from.len();
     for x in from.drain(..) {
         to.push(x);
     }

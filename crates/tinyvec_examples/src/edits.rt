@@ -1,6 +1,6 @@
 //! Callers of edits.
-ghost use Rattle.std.specs.Prelude.{◌≡◌, ◌≤◌, ◌<◌, ◌++◌, ◌∷◌, [], pos, insert, remove};
-ghost use Rattle.tinyvec_slots.specs.Slots.{items, items_len};
+ghost use Rattle.std.specs.Prelude.{◌≡◌, ◌≤◌, ◌<◌, ◌∷◌, [], pos, insert, remove};
+ghost use Rattle.tinyvec_array.specs.Slots.{items, items_len};
 
 use tinyvec_array::{Array, ArrayVec};
 
@@ -20,8 +20,6 @@ pub fn moved<A: Array>(v: &mut ArrayVec<A>, from: usize, to: usize)
     requires to { to < items_len v.old }
     ensures { (x : A.Item) × (items v.new ≡ insert (remove (items v.old) from) to x) }
 {
-    // It tells the proof that the list fits.
-    let _len = v.len();
     let x = v.remove(from);
     v.insert(to, x);
 }
@@ -31,8 +29,6 @@ pub fn cut_and_joined<A: Array>(v: &mut ArrayVec<A>, at: usize)
     requires { at ≤ items_len v.old }
     ensures { items v.new ≡ items v.old }
 {
-    // It tells the proof that the list fits.
-    let _len = v.len();
     let mut tail = v.split_off(at);
     v.append(&mut tail);
 }

@@ -1,19 +1,8 @@
 //! Callers of `push`, `try_push` and `pop`.
-ghost use Rattle.std.specs.Prelude.{◌≡◌, ◌<◌, List, ◌∷◌, [], ◌++◌, pos, drop, Some, None};
-ghost use Rattle.tinyvec_slots.specs.Slots.{items, spare, items_len, AreDefaults};
+ghost use Rattle.std.specs.Prelude.{◌≡◌, ◌<◌, ◌∷◌, [], ◌++◌, pos, Some, None};
+ghost use Rattle.tinyvec_array.specs.Slots.{items, items_len};
 
 use tinyvec_array::{Array, ArrayVec};
-
-/// What was pushed is popped, the items are the same, and the slot that it stood in holds a default.
-pub fn push_then_pop<A: Array>(v: &mut ArrayVec<A>, x: A::Item) -> Option<A::Item>
-    requires { items_len v.old < A.CAPACITY }
-    ensures back { result ≡ Some x }
-    ensures same { items v.new ≡ items v.old }
-    ensures emptied { (ds : List A.Item) × AreDefaults A.Item.is_default 1 ds × (spare v.new ≡ ds ++ drop 1 (spare v.old)) }
-{
-    v.push(x);
-    v.pop()
-}
 
 /// A push with room answers nothing, and what was pushed is popped.
 pub fn try_push_then_pop<A: Array>(

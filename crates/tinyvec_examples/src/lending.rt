@@ -1,6 +1,6 @@
 //! Callers that write through what a vector lends.
 ghost use Rattle.std.specs.Prelude.{◌≡◌, ◌<◌, ◌∷◌, [], pos, take, drop, slice_set};
-ghost use Rattle.tinyvec_slots.specs.Slots.{items, spare, items_len};
+ghost use Rattle.tinyvec_array.specs.Slots.{items, spare, items_len};
 
 use tinyvec_array::{Array, ArrayVec};
 

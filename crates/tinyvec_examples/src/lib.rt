@@ -1,11 +1,14 @@
 //! What a caller of the vectors can prove.
 #![tactic(auto)]
 
+pub mod clones;
 pub mod draining;
 pub mod edits;
 pub mod ends;
+pub mod known_items;
 pub mod lending;
 pub mod making;
+pub mod readme;
 pub mod slices;
 pub mod splicing;
 pub mod tiny_vec;

@@ -1,6 +1,6 @@
 //! Vectors made of arrays, and given back.
 ghost use Rattle.std.specs.Prelude.{◌≡◌, ◌≤◌, length, []};
-ghost use Rattle.tinyvec_slots.specs.Slots.{items, spare, items_len, AreDefaults};
+ghost use Rattle.tinyvec_array.specs.Slots.{items, spare, items_len, AreDefaults};
 
 use std::convert::AsSlice;
 use std::mem;

@@ -1,8 +1,8 @@
 //! Callers of a splice.
 ghost use Rattle.std.specs.Prelude.{◌≡◌, ◌≤◌, ◌+◌, ◌-◌, ◌++◌, ◌∷◌, [], List, pos, Some, None, length, take, drop, max, IsOk, OnOk, OnErr, IfErr, ◌↔◌};
 ghost use Rattle.std.specs.Iterator.Adapters.{fuse_steps};
-ghost use Rattle.tinyvec_slots.specs.Slots.{items, items_len, SlotRule};
-ghost use Rattle.tinyvec_slots.specs.Ends.{front, back, given_items, Asks, TakesFromEnds};
+ghost use Rattle.tinyvec_array.specs.Slots.{items, items_len, SlotRule};
+ghost use Rattle.tinyvec_array.specs.Ends.{front, back, given_items, Asks, TakesFromEnds};
 ghost use Rattle.tinyvec_array.specs.Fused.{fused_rest, HasTwoEnds};
 ghost use Rattle.tinyvec_array.specs.Splice.{splice_left, SpliceCanStep, SpliceSteps, SpliceStepsBack};
 ghost use Rattle.tinyvec_array.specs.Splicing.{IsSpliceRefused, SplicedByWord};
@@ -49,7 +49,8 @@ pub fn replace<A: Array, I: DoubleEndedIterator<Item = A::Item>>(
     ensures list { (rest : I → List A.Item) → HasTwoEnds I.next_gives I.next_back_gives rest
         → (IsOk result ↔ (start + length (rest replacement) + (items_len vec.old - end) ≤ A.CAPACITY))
         × OnOk result (items vec.new ≡ take start (items vec.old) ++ rest replacement ++ drop end (items vec.old))
-        × IfErr result (λ refused. IsSpliceRefused (front ∷ back ∷ []) (end - start) (take start (items vec.old)) (drop end (items vec.old))
+        × IfErr result
+        (λ refused. IsSpliceRefused (front ∷ back ∷ []) (end - start) (take start (items vec.old)) (drop end (items vec.old))
         (rest replacement) (items vec.new) (refused.item ∷ fused_rest rest refused.rest)) }
     ensures full { OnErr result (items_len vec.new ≡ A.CAPACITY) }
     ensures spare { SlotRule A.Item.is_default vec.old vec.new }
@@ -93,7 +94,7 @@ pub fn longer() -> (Option<i32>, Option<i32>, [i32; 6])
     (last, first, v.into_inner())
 }
 
-/// Fewer items than were removed: the emptied slots hold 0.
+/// Fewer items than were removed: the vacated slots hold 0.
 pub fn shorter() -> (Option<i32>, Option<i32>, [i32; 6])
     ensures last { result.0 ≡ Some (pos 4) }
     ensures first { result.1 ≡ Some (pos 2) }

@@ -1,6 +1,6 @@
 //! Callers of a `TinyVec`: one list, and where it lies.
 ghost use Rattle.std.specs.Prelude.{◌≡◌, ◌+◌, ◌-◌, ◌<◌, ◌≤◌, ◌++◌, ◌∷◌, [], pos, slice_get, slice_set, false, IsTrue, OnOk, OnErr};
-ghost use Rattle.tinyvec_slots.specs.Cut.{IsRangeOf, before, removed, after};
+ghost use Rattle.tinyvec.specs.Cut.{IsRangeOf, before, removed, after};
 ghost use Rattle.tinyvec.specs.Tiny.{tiny_items, tiny_len, tiny_spare, is_inline, tiny_capacity, IsInline, TinySlotRule, Unchanged};
 
 use crate::making::count;
@@ -53,6 +53,7 @@ pub fn there_and_back<A: Array>(v: &mut TinyVec<A>) -> Result<(), AllocError>
     ensures items { tiny_items v.new ≡ tiny_items v.old }
     ensures place { IsInline v.old → IsInline v.new }
 {
+    // It tells the proof that the list fits the array where it lies there.
     let _len = v.len();
     v.move_to_the_heap()?;
     v.shrink_to_fit();
@@ -73,7 +74,8 @@ pub fn set<A: Array>(v: &mut TinyVec<A>, i: usize, x: A::Item)
 pub fn cut<A: Array, R: RangeBounds<usize>>(v: &mut TinyVec<A>, range: R)
     requires known { R.has_bounds range }
     requires in_list { IsRangeOf (tiny_items v.old) (R.start_bound range) (R.end_bound range) }
-    ensures items { tiny_items v.new ≡ before (tiny_items v.old) (R.start_bound range) ++ after (tiny_items v.old) (R.end_bound range) }
+    ensures items { tiny_items v.new
+        ≡ before (tiny_items v.old) (R.start_bound range) ++ after (tiny_items v.old) (R.end_bound range) }
     ensures place { is_inline v.new ≡ is_inline v.old }
     ensures slots { TinySlotRule A.Item.is_default v.old v.new }
     ensures capacity { tiny_capacity A.CAPACITY v.new ≡ tiny_capacity A.CAPACITY v.old }
@@ -90,7 +92,8 @@ pub fn nth_of<A: Array, R: RangeBounds<usize>>(
     requires known { R.has_bounds range }
     requires in_list { IsRangeOf (tiny_items v.old) (R.start_bound range) (R.end_bound range) }
     ensures item { result ≡ slice_get (removed (tiny_items v.old) (R.start_bound range) (R.end_bound range)) n }
-    ensures left { tiny_items v.new ≡ before (tiny_items v.old) (R.start_bound range) ++ after (tiny_items v.old) (R.end_bound range) }
+    ensures left { tiny_items v.new
+        ≡ before (tiny_items v.old) (R.start_bound range) ++ after (tiny_items v.old) (R.end_bound range) }
     ensures place { is_inline v.new ≡ is_inline v.old }
     ensures slots { TinySlotRule A.Item.is_default v.old v.new }
     ensures capacity { tiny_capacity A.CAPACITY v.new ≡ tiny_capacity A.CAPACITY v.old }

@@ -1,6 +1,7 @@
 //! The callers that push and pop.
 use tinyvec_array::ArrayVec;
 use tinyvec_examples::ends::*;
+use tinyvec_examples::readme::array::push_then_pop;
 
 #[test]
 fn callers(rt: HostRuntime) {

@@ -2,11 +2,17 @@
 #![tactic(auto)]
 
 #[cfg(test)]
+mod clones;
+#[cfg(test)]
 mod draining;
 #[cfg(test)]
 mod edits;
 #[cfg(test)]
 mod ends;
+#[cfg(test)]
+mod known_items;
+#[cfg(test)]
+mod loops;
 #[cfg(test)]
 mod making;
 #[cfg(test)]

@@ -1,13 +1,14 @@
 //! The callers that are proved, run.
 use std::alloc::AllocGlobal;
 use std::test::Fail;
+use tinyvec_examples::readme::slice::pushed;
 use tinyvec_examples::slices::{draining, edits, filling, lending, making, parting};
 use tinyvec_slice::SliceVec;
 
 #[test]
 fn edits_of_slices(rt: HostRuntime) {
     let mut slots = [1, 2, 3, 4];
-    edits::pushed(&mut slots);
+    pushed(&mut slots);
     assert!(rt; slots == [1, 2, 7, 4]);
     assert!(rt; edits::pushed_in_array() == [1, 2, 7, 8]);
     let mut fives = [1, 2, 3, 4, 9];

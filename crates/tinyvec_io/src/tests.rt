@@ -1,5 +1,5 @@
 // What no clause says: that the end is asked, and that its answers are passed on.
-ghost use Rattle.std.specs.Prelude.{◌≡◌, IfOk, vec_items};
+ghost use Rattle.std.specs.Prelude.{IfOk};
 ghost use Rattle.std.specs.Io.{StartsWith};
 
 use crate::Counted;

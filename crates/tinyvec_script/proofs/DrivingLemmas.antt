@@ -1,5 +1,6 @@
 -- Lemmas on a splice that is driven by a word of ends.
-use Rattle.std.proofs.Common.{◌≡◌, ℕ, ◌+◌, ◌-◌, ◌<◌, ◌≤◌, List, [], ◌∷◌, ◌++◌, length, map, take, drop, Option, Some, None, Ok, Err, refl, sym, ap, subst, ◌∙◌, arith, get_or, true, false, length-append}
+use Rattle.std.proofs.Common.{◌≡◌, ℕ, inl, inr, slice_range, if◌then◌else◌, ◌+◌, ◌-◌, ◌<◌, ◌≤◌, List, [], ◌∷◌, ◌++◌, length, take, drop, Option, Some, None, Ok, Err, refl, sym, ap, subst, ◌∙◌, arith, get_or, true, false, length-append}
+use Rattle.std.proofs.lemmas.Bool.{cases_lt, lt-ltb, le-ltb}
 use Rattle.std.proofs.lemmas.List.{length_push, nil_from_length, take_more, map-append, length-take-le, length-drop}
 use Rattle.std.specs.Iterator.{YieldsFirst, YieldsLast}
 use Rattle.std.specs.Vec.Iter.{into_iter_items, into_iter_len, into_iter_steps, into_iter_steps_back}
@@ -8,7 +9,7 @@ use Rattle.std.specs.declared.ops.Bound.TheVariants.{Included, Excluded}
 use Rattle.tinyvec_slots.specs.Slots.{Slots, items, spare, items_len, SlotRule}
 use Rattle.tinyvec_slots.specs.Cut.{before, removed, after}
 use Rattle.tinyvec_slots.specs.Ends.{Asks, GivenByWord, given_items}
-use Rattle.tinyvec_slots.proofs.EndsLemmas.{Asks-front, Asks-back, items_given}
+use Rattle.tinyvec_slots.proofs.EndsLemmas.{Asks-front, Asks-back, items_given, given_is_taken}
 use Rattle.tinyvec_slots.proofs.Lists.{length-slice_range}
 use Rattle.tinyvec_array.specs.Fused.{HasTwoEnds}
 use Rattle.tinyvec_array.specs.Splice.{splice_front, splice_left, splice_back, splice_replacement, splice_slots, SpliceSteps, SpliceStepsBack, FinishesWith}
@@ -16,7 +17,7 @@ use Rattle.tinyvec_array.specs.Splicing.{IsSpliceRefused, SplicedByWord}
 use Rattle.tinyvec_array.specs.declared.splice.ArrayVecSplice.{ArrayVecSplice}
 use Rattle.tinyvec_slots.specs.declared.no_room.SpliceRest.{SpliceRest}
 use Rattle.tinyvec_array.proofs.SplicingLemmas.{Asks-splices, Asks-takes_removed, spliced_len, spliced_all, spliced_refused}
-use Rattle.tinyvec_script.specs.Driving.{letter, word_of, SpliceTakes, ArraySplices}
+use Rattle.tinyvec_script.specs.Driving.{letter, word_of, SpliceTakes, ArraySplices, SpliceComputes, unplaced_from, unplaced_to}
 use Rattle.tinyvec_script.specs.declared.call.End.{End}
 use Rattle.tinyvec_script.specs.declared.call.End.TheVariants.{Front, Back}
 
@@ -131,3 +132,79 @@ module _ {A I T : Type 0} (D : T → Type 0) (capacity : ℕ) (rest : I → List
       let all = sym (ap length whole) ∙ ap length along.replacement ∙ length-append along.in_front (rest (splice_replacement t) ++ along.at_back) in
       let some = length-append (rest (splice_replacement t)) along.at_back in
       omega (arith, split, all, some)
+
+-- what a splice makes of a list, computed
+module _ {T : Type 0} (D : T → Type 0) (capacity : ℕ) (old new : Slots T) (start end : ℕ) (word : List End) (replacement yields rest : List T)
+    (in_order : start ≤ end) (in_list : end ≤ items_len old) where
+  cut_at : (at : ℕ) (list : List T) → length list ≡ capacity → at < unplaced_to capacity (items old) start end word replacement
+      → list ≡ before (items old) (Included start) ++ take at replacement ++ drop (unplaced_to capacity (items old) start end word replacement) replacement
+      ++ after (items old) (Excluded end)
+      → at ≡ unplaced_from capacity (items old) start end word replacement
+  cut_at at list full below is =
+      let to = unplaced_to capacity (items old) start end word replacement in
+      let A = before (items old) (Included start) in
+      let B = take at replacement in
+      let C = drop to replacement in
+      let E = after (items old) (Excluded end) in
+      let all = ap length is in
+      let one = length-append (A ++ B ++ C) E in
+      let two = length-append (A ++ B) C in
+      let three = length-append A B in
+      let first = length-take-le start (items old) (omega (arith, in_order, in_list)) in
+      let middle = length-take-le at replacement (omega (arith, below)) in
+      let last = length-drop to replacement in
+      let behind = length-drop end (items old) in
+      omega (arith, full, below, all, one, two, three, first, middle, last, behind)
+
+  pub splice_computes : ArraySplices D capacity old start end word replacement yields rest new
+      → SpliceComputes capacity (items old) start end word replacement yields rest (items new)
+  splice_computes h =
+      let xs = items old in
+      let sum = start + length replacement + (items_len old - end) in
+      let to = unplaced_to capacity xs start end word replacement in
+      let at = unplaced_from capacity xs start end word replacement in
+      let A = before xs (Included start) in
+      let E = after xs (Excluded end) in
+      let run = slice_range replacement at to in
+      let cut = A ++ take at replacement ++ drop to replacement ++ E in
+      let whole = A ++ replacement ++ E in
+      let given = given_is_taken (removed xs (Included start) (Excluded end)) (word_of word) yields h.yields_are in
+      elim (cases_lt capacity sum) [
+        | inl over ↦
+            (let r = (h.refused over).0 in
+            let is = cut_at r.at (items new) (h.refused over).1 r.below r.list_is in
+            let yes = sym (lt-ltb capacity sum over) in
+            record {
+              yields_are = given;
+              rest_is = r.rest_is ∙ ap (λ n. slice_range replacement n to) is ∙ ap (λ b. if b then run else []) yes;
+              list_is = r.list_is ∙ ap (λ n. A ++ take n replacement ++ drop to replacement ++ E) is ∙ ap (λ b. if b then cut else whole) yes;
+            })
+        | inr fits ↦
+            (let placed = h.placed fits in
+            let no = sym (le-ltb capacity sum fits) in
+            record {
+              yields_are = given;
+              rest_is = placed.0 ∙ ap (λ b. if b then run else []) no;
+              list_is = placed.1 ∙ ap (λ b. if b then cut else whole) no;
+            })
+      ]
+
+  -- it fits where nothing is left over
+  pub splice_fits : ArraySplices D capacity old start end word replacement yields rest new → rest ≡ []
+      → (start + length replacement + (items_len old - end) ≤ capacity) × ArraySplices D capacity old start end word replacement yields [] new
+  splice_fits h none = elim (cases_lt capacity (start + length replacement + (items_len old - end))) [
+    | inl over ↦
+        (let r = (h.refused over).0 in
+        let to = unplaced_to capacity (items old) start end word replacement in
+        let long = length-slice_range replacement r.at to (omega (arith, r.below)) (omega arith) in
+        absurd (omega (arith, ap length none, ap length r.rest_is, long, r.below)))
+    | inr fits ↦ (fits, subst (λ left. ArraySplices D capacity old start end word replacement yields left new) none h)
+  ]
+
+  -- and does not where something is
+  pub splice_overflows : ArraySplices D capacity old start end word replacement yields rest new → 0 < length rest
+      → capacity < start + length replacement + (items_len old - end)
+  splice_overflows h some = elim (cases_lt capacity (start + length replacement + (items_len old - end))) [
+    | inl over ↦ over
+    | inr fits ↦ absurd (omega (arith, some, ap length (h.placed fits).0))
+  ]

@@ -6,5 +6,6 @@ pub mod HistoryLemmas
 pub mod Written
 pub mod DrivingLemmas
 pub mod SpliceText
+pub mod StepLemmas
 pub mod PlaceLemmas
 pub mod WrongRuns

@@ -1,8 +1,11 @@
 -- What is seen of a `TinyVec`, from what its calls tell.
 use Rattle.std.proofs.Common.{◌≡◌, ℕ, ◌≤◌, List, [], refl, rules, arith}
-use Rattle.tinyvec.specs.Tiny.{tiny_items, tiny_spare, tiny_capacity, is_inline, IsInline, PlaceRule, TinySlotRule, Unchanged}
+use Rattle.tinyvec.specs.Tiny.{tiny_items, tiny_len, tiny_spare, tiny_capacity, is_inline, IsInline, PlaceRule, TinySlotRule, Unchanged}
 use Rattle.tinyvec.specs.declared.tiny_vec.TinyVec.{TinyVec}
 use Rattle.tinyvec.specs.declared.tiny_vec.TinyVec.TheVariants.{Inline, Heap}
+use Rattle.tinyvec_script.specs.TinyCalls.{TinyAnswers, TinyStep}
+use Rattle.tinyvec_script.specs.declared.call.Call.{Call}
+use Rattle.tinyvec_script.specs.declared.call.Answer.{Answer}
 use Rattle.tinyvec_script.specs.Place.{place_of, tiny_of, lies_inline, room, in_array, on_heap, Ruled}
 
 module _ {A T : Type 0} where
@@ -41,3 +44,9 @@ module _ {A T : Type 0} where
   ruled D slots need (Inline v a) (Heap w) place slot keeps = record { place_rule = place; slot_rule = λ i j. search rules; keeps_room = keeps }
   ruled D slots need (Heap v) (Inline w b) place slot keeps = record { place_rule = place; slot_rule = λ i j. search rules; keeps_room = keeps }
   ruled D slots need (Heap v) (Heap w) place slot keeps = record { place_rule = place; slot_rule = λ i j. search rules; keeps_room = keeps }
+
+  -- an answer is a step where the list fits
+  pub tiny_steps : (D : T → Type 0) (slots : ℕ) (old new : TinyVec A T) (call : Call T) (answer : Answer T)
+      → TinyAnswers D slots (tiny_of old) call answer (tiny_of new) → tiny_len new ≤ tiny_capacity slots new
+      → TinyStep D slots (tiny_of old) call answer (tiny_of new)
+  tiny_steps D slots old new call answer answered fits = record { answered = answered; fits = rw (place_of-room slots new) fits }

@@ -1,7 +1,7 @@
 -- Runs that no `TinyVec` makes.
-use Rattle.std.proofs.Common.{◌≡◌, ℕ, ◌≤◌, ◌+◌, List, [], ◌∷◌, ◌++◌, length, length-append, ap, ◌∙◌, arith}
+use Rattle.std.proofs.Common.{◌≡◌, ℕ, ◌+◌, List, [], ◌∷◌, length, length-append, ap, ◌∙◌, arith}
 use Rattle.tinyvec_script.specs.Step.{Run}
-use Rattle.tinyvec_script.specs.Place.{Tiny, count, room}
+use Rattle.tinyvec_script.specs.Place.{Tiny, count}
 use Rattle.tinyvec_script.specs.TinyCalls.{TinyStep}
 use Rattle.tinyvec_script.specs.declared.call.Call.{Call}
 use Rattle.tinyvec_script.specs.declared.call.Call.TheVariants.{Push, Pop}

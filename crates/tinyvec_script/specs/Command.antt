@@ -73,10 +73,15 @@ name_text A = codes "A "
 name_text S = codes "S "
 name_text T = codes "T "
 
+-- which vectors have splices
+abbrev pub HasSplice : Name → Type 0
+HasSplice A = Unit {0}
+HasSplice S = ⊥
+HasSplice T = ⊥
+
 -- which calls a vector has
 abbrev pub Has : Name → Call ℤ → Type 0
-Has S (Splice start end word numbers) = ⊥
-Has T (Splice start end word numbers) = ⊥
+Has name (Splice start end word numbers) = HasSplice name
 Has T (SetLen index) = ⊥
 Has A (Reserve index) = ⊥
 Has A Heap = ⊥

@@ -24,4 +24,5 @@ Feeds old line bytes written new line' = (text output rest : List ℕ) → Progr
 
 -- wherever a run stands, the end of the input and what is written for it complete it
 abbrev pub Ends : State → Option (List ℕ) → List ℕ → Type 0
-Ends old line written = (text output rest : List ℕ) → Progress text output old rest → line ≡ kept rest → Script text (output ++ written)
+Ends old line written =
+    (text output rest : List ℕ) → Progress text output old rest → line ≡ kept rest → Script text (output ++ written)

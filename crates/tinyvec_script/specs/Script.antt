@@ -66,14 +66,20 @@ Steps T old call answer new = TinyStep IsZero 4 old.t call answer new.t × (new.
 -- vector, one for whose letters or numbers memory was refused is `memory` and changes nothing, and any other is `bad` and
 -- changes nothing.
 pub data Answered : State → List ℕ → List ℕ → State → Type 0 where
-  done : {old new : State} {line text : List ℕ} (name : Name) (call : Call ℤ) (answer : Answer ℤ) → IsCommand line name call → Steps name old call answer new → text ≡ answer_text answer ++ codes " " ++ text_of name new → Answered old line text new
-  memory : {old new : State} {line text : List ℕ} → AsksMemory line → text ≡ codes "memory" ++ codes " " ++ vector_text old.a → new ≡ old → Answered old line text new
-  bad : {old new : State} {line text : List ℕ} → ((name : Name) (call : Call ℤ) → IsCommand line name call → ⊥) → text ≡ codes "bad" → new ≡ old → Answered old line text new
+  done : {old new : State} {line text : List ℕ} (name : Name) (call : Call ℤ) (answer : Answer ℤ) → IsCommand line name call
+      → Steps name old call answer new
+      → text ≡ answer_text answer ++ codes " " ++ text_of name new → Answered old line text new
+  memory : {old new : State} {line text : List ℕ} (name : Name) → AsksMemory line name
+      → text ≡ codes "memory" ++ codes " " ++ text_of name old → new ≡ old → Answered old line text new
+  bad : {old new : State} {line text : List ℕ} → ((name : Name) (call : Call ℤ) → IsCommand line name call → ⊥)
+      → text ≡ codes "bad" → new ≡ old → Answered old line text new
 
 -- the answer lines to lines, one after another
 abbrev pub Answers : State → List (List ℕ) → List ℕ → State → Type 0
 Answers old [] output new = (output ≡ []) × (new ≡ old)
-Answers old (line ∷ lines) output new = (text : List ℕ) × (mid : State) × (rest : List ℕ) × Answered old line text mid × (output ≡ text ++ 10 ∷ rest) × Answers mid lines rest new
+Answers old (line ∷ lines) output new =
+    (text : List ℕ) × (mid : State) × (rest : List ℕ) × Answered old line text mid × (output ≡ text ++ 10 ∷ rest)
+    × Answers mid lines rest new
 
 -- the whole output to the whole input
 pub record Script (input output : List ℕ) : Type 0 where

@@ -20,32 +20,44 @@ module _ {T : Type 0} (D : T → Type 0) where
 
   -- How a splice of a range that is in the list is answered: by what was taken, and by what found no room if there is such.
   abbrev pub ArraySpliceStep : ℕ → Slots T → ℕ → ℕ → List End → List T → Answer T → Slots T → Type 0
-  ArraySpliceStep capacity old start end word replacement answers.Memory new = (start < end + length replacement) × (new ≡ old)
-  ArraySpliceStep capacity old start end word replacement (answers.Items given) new = (start + length replacement + (items_len old - end) ≤ capacity)
+  ArraySpliceStep capacity old start end word replacement answers.Memory new = (start < end + length replacement)
+      × (new ≡ old)
+  ArraySpliceStep capacity old start end word replacement (answers.Items given) new =
+      (start + length replacement + (items_len old - end) ≤ capacity)
       × ArraySplices D capacity old start end word replacement given.items [] new
-  ArraySpliceStep capacity old start end word replacement (answers.Spliced given rest) new = (capacity < start + length replacement + (items_len old - end))
+  ArraySpliceStep capacity old start end word replacement (answers.Spliced given rest) new =
+      (capacity < start + length replacement + (items_len old - end))
       × ArraySplices D capacity old start end word replacement given.items rest.items new
   ArraySpliceStep capacity old start end word replacement answer new = ⊥
 
   -- From the old value the call may be answered so, and leave the new value. Want of memory is a case of its own.
   abbrev pub ArrayStep : ℕ → Slots T → Call T → Answer T → Slots T → Type 0
-  ArrayStep capacity old (Push x) answers.Done new = (items_len old < capacity) × (items new ≡ items old ++ x ∷ []) × SlotRule D old new
+  ArrayStep capacity old (Push x) answers.Done new = (items_len old < capacity) × (items new ≡ items old ++ x ∷ [])
+      × SlotRule D old new
   ArrayStep capacity old (Push x) answers.Full new = (items_len old ≡ capacity) × (new ≡ old)
   ArrayStep capacity old Pop (answers.Some x) new = (items old ≡ items new ++ x ∷ []) × SlotRule D old new
   ArrayStep capacity old Pop answers.None new = (items old ≡ []) × (new ≡ old)
-  ArrayStep capacity old (Insert i x) answers.Done new = (i ≤ items_len old) × (items_len old < capacity) × (items new ≡ insert (items old) i x) × SlotRule D old new
+  ArrayStep capacity old (Insert i x) answers.Done new = (i ≤ items_len old) × (items_len old < capacity)
+      × (items new ≡ insert (items old) i x) × SlotRule D old new
   ArrayStep capacity old (Insert i x) answers.Range new = (items_len old < i) × (new ≡ old)
   ArrayStep capacity old (Insert i x) answers.Full new = (i ≤ items_len old) × (items_len old ≡ capacity) × (new ≡ old)
-  ArrayStep capacity old (Remove i) (answers.Some x) new = (slice_get (items old) i ≡ Some x) × (items new ≡ remove (items old) i) × SlotRule D old new
+  ArrayStep capacity old (Remove i) (answers.Some x) new = (slice_get (items old) i ≡ Some x)
+      × (items new ≡ remove (items old) i) × SlotRule D old new
   ArrayStep capacity old (Remove i) answers.Range new = (items_len old ≤ i) × (new ≡ old)
-  ArrayStep capacity old (SwapRemove i) (answers.Some x) new = (slice_get (items old) i ≡ Some x) × (items new ≡ swap_remove (items old) i x) × SlotRule D old new
+  ArrayStep capacity old (SwapRemove i) (answers.Some x) new = (slice_get (items old) i ≡ Some x)
+      × (items new ≡ swap_remove (items old) i x) × SlotRule D old new
   ArrayStep capacity old (SwapRemove i) answers.Range new = (items_len old ≤ i) × (new ≡ old)
   ArrayStep capacity old (Truncate n) answers.Done new = (items new ≡ take n (items old)) × SlotRule D old new
-  ArrayStep capacity old (Drain start end) answers.Range new = (IsRangeOf (items old) (Included start) (Excluded end) → ⊥) × (new ≡ old)
-  ArrayStep capacity old (Drain start end) answers.Memory new = IsRangeOf (items old) (Included start) (Excluded end) × (start < end) × (new ≡ old)
-  ArrayStep capacity old (Drain start end) (answers.Items given) new = IsRangeOf (items old) (Included start) (Excluded end) × ArrayDrains old start end given.items new
-  ArrayStep capacity old (Splice start end word replacement) answers.Range new = (IsRangeOf (items old) (Included start) (Excluded end) → ⊥) × (new ≡ old)
-  ArrayStep capacity old (Splice start end word replacement) answer new = IsRangeOf (items old) (Included start) (Excluded end)
+  ArrayStep capacity old (Drain start end) answers.Range new =
+      (IsRangeOf (items old) (Included start) (Excluded end) → ⊥) × (new ≡ old)
+  ArrayStep capacity old (Drain start end) answers.Memory new = IsRangeOf (items old) (Included start) (Excluded end)
+      × (start < end) × (new ≡ old)
+  ArrayStep capacity old (Drain start end) (answers.Items given) new =
+      IsRangeOf (items old) (Included start) (Excluded end) × ArrayDrains old start end given.items new
+  ArrayStep capacity old (Splice start end word replacement) answers.Range new =
+      (IsRangeOf (items old) (Included start) (Excluded end) → ⊥) × (new ≡ old)
+  ArrayStep capacity old (Splice start end word replacement) answer new =
+      IsRangeOf (items old) (Included start) (Excluded end)
       × ArraySpliceStep capacity old start end word.items replacement.items answer new
   ArrayStep capacity old (SetLen n) answers.Done new = (n ≤ capacity) × (new ≡ split_at n (all_slots old))
   ArrayStep capacity old (SetLen n) answers.Range new = (capacity < n) × (new ≡ old)

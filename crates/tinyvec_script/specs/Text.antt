@@ -16,7 +16,8 @@ answer_text answers.Done = codes "ok"
 answer_text (answers.Some number) = codes "some " ++ signed_decimal number
 answer_text answers.None = codes "none"
 answer_text (answers.Items numbers) = codes "items " ++ list_text numbers.items
-answer_text (answers.Spliced numbers rest) = codes "items " ++ list_text numbers.items ++ codes " rest " ++ list_text rest.items
+answer_text (answers.Spliced numbers rest) =
+    codes "items " ++ list_text numbers.items ++ codes " rest " ++ list_text rest.items
 answer_text answers.Full = codes "full"
 answer_text answers.Range = codes "range"
 answer_text answers.Memory = codes "memory"

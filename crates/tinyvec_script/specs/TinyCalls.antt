@@ -37,19 +37,25 @@ module _ {T : Type 0} (D : T → Type 0) (slots : ℕ) where
   TinyAnswers old (Push x) answers.Memory new = (count old ≡ room slots old.place) × (new ≡ old)
   TinyAnswers old Pop (answers.Some x) new = (old.items ≡ new.items ++ x ∷ []) × Ruled D slots 0 old new
   TinyAnswers old Pop answers.None new = (old.items ≡ []) × (new ≡ old)
-  TinyAnswers old (Insert i x) answers.Done new = (i ≤ count old) × (new.items ≡ insert old.items i x) × Ruled D slots (count old + 1) old new
+  TinyAnswers old (Insert i x) answers.Done new = (i ≤ count old) × (new.items ≡ insert old.items i x)
+      × Ruled D slots (count old + 1) old new
   TinyAnswers old (Insert i x) answers.Range new = (count old < i) × (new ≡ old)
   TinyAnswers old (Insert i x) answers.Memory new = (i ≤ count old) × (count old ≡ room slots old.place) × (new ≡ old)
-  TinyAnswers old (Remove i) (answers.Some x) new = (slice_get old.items i ≡ Some x) × (new.items ≡ remove old.items i) × Ruled D slots 0 old new
+  TinyAnswers old (Remove i) (answers.Some x) new = (slice_get old.items i ≡ Some x)
+      × (new.items ≡ remove old.items i) × Ruled D slots 0 old new
   TinyAnswers old (Remove i) answers.Range new = (count old ≤ i) × (new ≡ old)
-  TinyAnswers old (SwapRemove i) (answers.Some x) new = (slice_get old.items i ≡ Some x) × (new.items ≡ swap_remove old.items i x) × Ruled D slots 0 old new
+  TinyAnswers old (SwapRemove i) (answers.Some x) new = (slice_get old.items i ≡ Some x)
+      × (new.items ≡ swap_remove old.items i x) × Ruled D slots 0 old new
   TinyAnswers old (SwapRemove i) answers.Range new = (count old ≤ i) × (new ≡ old)
   TinyAnswers old (Truncate n) answers.Done new = (new.items ≡ take n old.items) × Ruled D slots 0 old new
-  TinyAnswers old (Drain start end) answers.Range new = (IsRangeOf old.items (Included start) (Excluded end) → ⊥) × (new ≡ old)
-  TinyAnswers old (Drain start end) answers.Memory new = IsRangeOf old.items (Included start) (Excluded end) × (start < end) × (new ≡ old)
+  TinyAnswers old (Drain start end) answers.Range new = (IsRangeOf old.items (Included start) (Excluded end) → ⊥)
+      × (new ≡ old)
+  TinyAnswers old (Drain start end) answers.Memory new = IsRangeOf old.items (Included start) (Excluded end)
+      × (start < end) × (new ≡ old)
   TinyAnswers old (Drain start end) (answers.Items given) new = IsRangeOf old.items (Included start) (Excluded end)
       × Drained old start end given.items new
-  TinyAnswers old (Reserve n) answers.Done new = (new.items ≡ old.items) × (count old + n ≤ room slots new.place) × Ruled D slots (count old + n) old new
+  TinyAnswers old (Reserve n) answers.Done new = (new.items ≡ old.items) × (count old + n ≤ room slots new.place)
+      × Ruled D slots (count old + n) old new
   TinyAnswers old (Reserve n) answers.Memory new = (room slots old.place < count old + n) × (new ≡ old)
   TinyAnswers old Heap answers.Done new = Moved old new
   TinyAnswers old Heap answers.Memory new = Inline old × (new ≡ old)

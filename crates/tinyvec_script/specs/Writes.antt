@@ -9,6 +9,8 @@ Writes contents old new result text = OnOk result (Appends (contents old.end) (c
     × (old.faults ≤ new.faults) × OnErr result (Reported old.faults new.faults)
 
 -- the same of what was written and what is gathered behind it
-abbrev pub Gathers : {W T E : Type 0} → (W → Option (List ℕ)) → CountedEnd W → List ℕ → CountedEnd W → List ℕ → Result T E → List ℕ → Type 0
-Gathers contents old gathered new gathered' result text = OnOk result (Appends (append_known (contents old.end) gathered) (append_known (contents new.end) gathered') text)
+abbrev pub Gathers : {W T E : Type 0} → (W → Option (List ℕ)) → CountedEnd W → List ℕ → CountedEnd W → List ℕ
+    → Result T E → List ℕ → Type 0
+Gathers contents old gathered new gathered' result text =
+    OnOk result (Appends (append_known (contents old.end) gathered) (append_known (contents new.end) gathered') text)
     × (old.faults ≤ new.faults) × OnErr result (Reported old.faults new.faults)

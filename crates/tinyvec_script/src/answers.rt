@@ -1,5 +1,5 @@
 //! Answer lines, written in pieces and without memory.
-ghost use Rattle.std.specs.Prelude.{◌≡◌, ◌++◌, ◌∷◌, [], codes};
+ghost use Rattle.std.specs.Prelude.{◌++◌, ◌∷◌, [], codes};
 ghost use Rattle.std.specs.List.{flat_map};
 ghost use Rattle.std.specs.Fmt.{signed_decimal};
 ghost use Rattle.tinyvec_script.specs.Writes.{Gathers};
@@ -12,7 +12,7 @@ use std::io;
 use std::io::Write;
 use tinyvec_io::Counted;
 
-/// Writes an answer line: the answer, and the list and the spare slots of the vector as it is then.
+// Writes an answer line: the answer, and the list and the spare slots of the vector as it is then.
 pub(crate) fn write_line<W: Write>(
     gathered: &mut Gathered,
     writer: &mut Counted<W>,
@@ -20,7 +20,8 @@ pub(crate) fn write_line<W: Write>(
     items: &[i32],
     spare: &[i32],
 ) -> io::Result<()>
-    ensures { Gathers W.contents writer.old gathered.old writer.new gathered.new result (answer_text answer.now ++ codes " " ++ state_text items.now spare.now ++ 10 ∷ []) }
+    ensures { Gathers W.contents writer.old gathered.old writer.new gathered.new result
+        (answer_text answer.now ++ codes " " ++ state_text items.now spare.now ++ 10 ∷ []) }
 {
     write_answer(gathered, writer, answer)?;
     gathered.put(writer, b" ")?;
@@ -28,7 +29,7 @@ pub(crate) fn write_line<W: Write>(
     gathered.put(writer, b"\n")
 }
 
-/// The same for a vector that has a place: the answer, the list, and where it lies.
+// The same for a vector that has a place: the answer, the list, and where it lies.
 pub(crate) fn write_tiny_line<W: Write>(
     gathered: &mut Gathered,
     writer: &mut Counted<W>,
@@ -36,7 +37,8 @@ pub(crate) fn write_tiny_line<W: Write>(
     items: &[i32],
     inline: bool,
 ) -> io::Result<()>
-    ensures { Gathers W.contents writer.old gathered.old writer.new gathered.new result (answer_text answer.now ++ codes " " ++ place_state_text items.now inline ++ 10 ∷ []) }
+    ensures { Gathers W.contents writer.old gathered.old writer.new gathered.new result
+        (answer_text answer.now ++ codes " " ++ place_state_text items.now inline ++ 10 ∷ []) }
 {
     write_answer(gathered, writer, answer)?;
     gathered.put(writer, b" ")?;
@@ -75,7 +77,7 @@ fn write_answer<W: Write>(
     }
 }
 
-/// Writes the list, a blank and the spare slots.
+// Writes the list, a blank and the spare slots.
 #[tactic(auto, unfolding(crate::specs::Text::state_text))]
 fn write_state<W: Write>(
     gathered: &mut Gathered,
@@ -90,7 +92,7 @@ fn write_state<W: Write>(
     write_list(gathered, writer, spare)
 }
 
-/// Writes the list, a blank and the place.
+// Writes the list, a blank and the place.
 #[tactic(auto, unfolding(crate::specs::Text::place_state_text))]
 fn write_place_state<W: Write>(
     gathered: &mut Gathered,
@@ -118,7 +120,7 @@ fn write_place<W: Write>(
     gathered.put(writer, b"heap")
 }
 
-/// Writes a list in brackets.
+// Writes a list in brackets.
 #[tactic(auto, unfolding(crate::specs::Text::list_text))]
 fn write_list<W: Write>(
     gathered: &mut Gathered,
@@ -135,13 +137,14 @@ fn write_list<W: Write>(
     gathered.put(writer, b"]")
 }
 
-/// Writes numbers, each behind a comma and a blank.
+// Writes numbers, each behind a comma and a blank.
 fn write_more<W: Write>(
     gathered: &mut Gathered,
     writer: &mut Counted<W>,
     numbers: &[i32],
 ) -> io::Result<()>
-    ensures { Gathers W.contents writer.old gathered.old writer.new gathered.new result (flat_map (λ number. codes ", " ++ signed_decimal number) numbers.now) }
+    ensures { Gathers W.contents writer.old gathered.old writer.new gathered.new result
+        (flat_map (λ number. codes ", " ++ signed_decimal number) numbers.now) }
 {
     for number in numbers {
         gathered.put(writer, b", ")?;

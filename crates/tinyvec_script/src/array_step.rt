@@ -1,13 +1,13 @@
 //! One call of an `ArrayVec`, answered.
-ghost use Rattle.std.specs.Prelude.{◌≡◌, ◌-◌, ◌≤◌, [], vec_capacity};
+ghost use Rattle.std.specs.Prelude.{◌≤◌};
 ghost use Rattle.tinyvec_slots.specs.Slots.{items_len};
-ghost use Rattle.tinyvec_script.specs.Step.{ArrayStep, ArrayDrains, ArraySpliceStep};
+ghost use Rattle.tinyvec_script.specs.Step.{ArrayStep, ArraySpliceStep};
 
 use crate::{Answer, Call, Driven, End, drive_array_splice};
 use std::alloc::Global;
 use tinyvec::{Array, ArrayVec};
 
-/// Makes the call.
+// Makes the call.
 pub(crate) fn answer_array<A: Array>(
     alloc: Global,
     vec: &mut ArrayVec<A>,
@@ -54,22 +54,17 @@ pub(crate) fn answer_array<A: Array>(
             Answer::Done
         }
         Call::Drain(start, end) => {
-            if start > end {
+            if start > end || end > vec.len() {
                 return Answer::Range;
             }
-            if end > vec.len() {
-                return Answer::Range;
-            }
-            let Ok(items) = Vec::with_capacity(alloc, end - start) else {
+            let Ok(mut items) = Vec::with_capacity(alloc, end - start) else {
                 return Answer::Memory;
             };
-            Answer::Items(drained(vec, start, end, items))
+            vec.drain_into(start..end, &mut items);
+            Answer::Items(items)
         }
         Call::Splice(start, end, word, replacement) => {
-            if start > end {
-                return Answer::Range;
-            }
-            if end > vec.len() {
+            if start > end || end > vec.len() {
                 return Answer::Range;
             }
             spliced(alloc, vec, start, end, word.as_slice(), replacement)
@@ -85,25 +80,6 @@ pub(crate) fn answer_array<A: Array>(
         Call::Heap => Answer::Unfit,
         Call::Shrink => Answer::Unfit,
     }
-}
-
-// Takes the items from `start` up to `end`, into an empty vector with room for them.
-fn drained<A: Array>(
-    vec: &mut ArrayVec<A>,
-    start: usize,
-    end: usize,
-    mut items: Vec<A::Item>,
-) -> Vec<A::Item>
-    requires start_le_end { start ≤ end }
-    requires in_bounds { end ≤ items_len vec.old }
-    requires empty { items.items ≡ [] }
-    requires room { end - start ≤ vec_capacity items }
-    ensures { ArrayDrains A.Item.is_default vec.old start end result.items vec.new }
-{
-    for item in vec.drain(start..end) {
-        items.push_reserved(item);
-    }
-    items
 }
 
 // Replaces the items from `start` up to `end`, from which it first takes one at each of the ends.

@@ -12,7 +12,7 @@ use crate::number::{parse_index, parse_number};
 use crate::splice_text::{Numbers, letters, parse_splice};
 use std::alloc::Global;
 
-/// The name of a vector.
+// The name of a vector.
 #[derive(Clone, Copy, PartialEq, Debug, Drop)]
 pub(crate) enum Name {
     A,
@@ -20,18 +20,18 @@ pub(crate) enum Name {
     T,
 }
 
-/// What a line spells.
+// What a line spells.
 #[derive(Drop)]
 pub(crate) enum Parsed {
     /// A call of the vector.
     Call(Name, Call<i32>),
     /// No call.
     Bad,
-    /// A splice, for whose letters or numbers memory was refused.
-    Memory,
+    /// A splice of the vector, for whose letters or numbers memory was refused.
+    Memory(Name),
 }
 
-/// What the line spells. Memory is asked for once it is known that it spells a splice.
+// What the line spells. Memory is asked for once it is known that it spells a splice.
 pub(crate) fn parse_line(alloc: Global, line: &[u8]) -> Parsed
     ensures { IsParsed line.now result }
 {
@@ -78,15 +78,15 @@ fn parse_array_splice(alloc: Global, rest: &[u8]) -> Parsed
         return Parsed::Bad;
     };
     let Ok(word) = letters(alloc, word) else {
-        return Parsed::Memory;
+        return Parsed::Memory(Name::A);
     };
     let Ok(numbers) = numbers.drain_to_vec(alloc) else {
-        return Parsed::Memory;
+        return Parsed::Memory(Name::A);
     };
     Parsed::Call(Name::A, Call::Splice(start, end, word, numbers))
 }
 
-/// The call of `A` or `S`, but for a splice, that the text spells behind the vector's name.
+// The call of `A` or `S`, but for a splice, that the text spells behind the vector's name.
 fn parse_slots_call(text: &[u8]) -> Option<Call<i32>>
     ensures some { IfSome result (IsCall text.now) }
     ensures has { IfSome result (Has S) }
@@ -98,7 +98,7 @@ fn parse_slots_call(text: &[u8]) -> Option<Call<i32>>
     parse_call(text)
 }
 
-/// The call of `T` that the text spells behind the vector's name.
+// The call of `T` that the text spells behind the vector's name.
 fn parse_tiny_call(text: &[u8]) -> Option<Call<i32>>
     ensures some { IfSome result (IsCall text.now) }
     ensures has { IfSome result (Has T) }
@@ -116,7 +116,7 @@ fn parse_tiny_call(text: &[u8]) -> Option<Call<i32>>
     parse_call(text)
 }
 
-/// The call that the text spells behind the name of any vector.
+// The call that the text spells behind the name of any vector.
 fn parse_call(text: &[u8]) -> Option<Call<i32>>
     ensures some { IfSome result (IsCall text.now) }
     ensures has { IfSome result (λ call. Has S call × Has T call) }
@@ -147,7 +147,8 @@ fn parse_call(text: &[u8]) -> Option<Call<i32>>
 
 fn parse_two_indices(text: &[u8]) -> Option<(usize, usize)>
     ensures some { IfSome result (λ pair. text.now ≡ decimal pair.0 ++ 32 ∷ decimal pair.1) }
-    ensures none { IfNone result ((first second : ℕ) → first < 2 ^ 64 → second < 2 ^ 64 → text.now ≢ decimal first ++ 32 ∷ decimal second) }
+    ensures none { IfNone result ((first second : ℕ) → first < 2 ^ 64 → second < 2 ^ 64
+        → text.now ≢ decimal first ++ 32 ∷ decimal second) }
 {
     let (first, second) = split_word(text)?;
     Some((parse_index(first)?, parse_index(second)?))
@@ -155,13 +156,14 @@ fn parse_two_indices(text: &[u8]) -> Option<(usize, usize)>
 
 fn parse_index_and_number(text: &[u8]) -> Option<(usize, i32)>
     ensures some { IfSome result (λ pair. text.now ≡ decimal pair.0 ++ 32 ∷ signed_decimal pair.1) }
-    ensures none { IfNone result ((index : ℕ) (number : ℤ) → index < 2 ^ 64 → FitsSigned w32 number → text.now ≢ decimal index ++ 32 ∷ signed_decimal number) }
+    ensures none { IfNone result ((index : ℕ) (number : ℤ) → index < 2 ^ 64 → FitsSigned w32 number
+        → text.now ≢ decimal index ++ 32 ∷ signed_decimal number) }
 {
     let (index, number) = split_word(text)?;
     Some((parse_index(index)?, parse_number(number)?))
 }
 
-/// What stands before the first blank, and behind it.
+// What stands before the first blank, and behind it.
 pub(crate) fn split_word(text: &[u8]) -> Option<(&[u8], &[u8])>
     ensures some { IfSome result (λ parts. text.now ≡ parts.0.now ++ 32 ∷ parts.1.now) }
     ensures word { IfSome result (λ parts. All (λ byte. byte ≢ 32) parts.0.now) }

@@ -4,10 +4,10 @@ ghost use Rattle.std.specs.Fmt.{decimal, signed_decimal};
 
 use std::marker::Model;
 
-/// The most bytes that an `i32` takes in decimal.
+// The most bytes that an `i32` takes in decimal.
 const MOST: usize = 11;
 
-/// The decimal text of an `i32`.
+// The decimal text of an `i32`.
 #[derive(Drop)]
 pub(crate) struct Decimal {
     bytes: [u8; MOST],
@@ -23,7 +23,7 @@ impl Model for Decimal {
 }
 
 impl Decimal {
-    /// The text of the number.
+    // The text of the number.
     pub(crate) fn new(number: i32) -> Self
         ensures { result ≡ signed_decimal number }
     {
@@ -47,7 +47,7 @@ impl Decimal {
     }
 }
 
-/// Writes the digits of the number at the end, and answers where they start.
+// Writes the digits of the number at the end, and answers where they start.
 fn put_digits(number: u32, out: &mut [u8]) -> usize
     requires { length out.old ≡ 11 }
     ensures low { 0 < result }

@@ -1,12 +1,12 @@
 //! A splice that is driven by a word of ends.
-ghost use Rattle.std.specs.Prelude.{◌≡◌, ◌+◌, ◌<◌, ◌≤◌, ◌∷◌, ◌++◌, [], List, Option, length, IfOk, IfErr, OnErr, vec_len, vec_capacity};
+ghost use Rattle.std.specs.Prelude.{◌≡◌, ◌+◌, ◌<◌, ◌≤◌, ◌∷◌, ◌++◌, List, Option, length, IfOk, IfErr, OnErr, vec_len, vec_capacity};
 ghost use Rattle.std.specs.Iterator.Adapters.{fuse_steps};
 ghost use Rattle.std.specs.Vec.Iter.{into_iter_items};
-ghost use Rattle.tinyvec_slots.specs.Slots.{items_len};
+ghost use Rattle.tinyvec_slots.specs.Slots.{items, items_len};
 ghost use Rattle.tinyvec_slots.specs.Ends.{Asks, given_items};
 ghost use Rattle.tinyvec_array.specs.Fused.{fused_rest};
 ghost use Rattle.tinyvec_array.specs.Splice.{splice_left, SpliceCanStep, SpliceSteps, SpliceStepsBack};
-ghost use Rattle.tinyvec_script.specs.Driving.{word_of, SpliceTakes, ArraySplices};
+ghost use Rattle.tinyvec_script.specs.Driving.{word_of, SpliceTakes, ArraySplices, SpliceComputes};
 
 use crate::End;
 use std::alloc::Global;
@@ -33,7 +33,10 @@ pub fn drive_array_splice<A: Array>(
 ) -> Result<Driven<A::Item>, NoMemory<Vec<A::Item>>>
     requires start_le_end { start ≤ end }
     requires in_bounds { end ≤ items_len vec.old }
-    ensures splices { IfOk result (λ driven. ArraySplices A.Item.is_default A.CAPACITY vec.old start end word.now replacement.items driven.yields.items driven.rest.items vec.new) }
+    ensures splices { IfOk result (λ driven. ArraySplices A.Item.is_default A.CAPACITY vec.old start end word.now replacement.items
+        driven.yields.items driven.rest.items vec.new) }
+    ensures computed { IfOk result (λ driven. SpliceComputes A.CAPACITY (items vec.old) start end word.now replacement.items
+        driven.yields.items driven.rest.items (items vec.new)) }
     ensures no_memory { IfErr result (λ refused. refused.0 ≡ replacement) }
     ensures needed { OnErr result (start < end + vec_len replacement) }
     ensures unchanged { OnErr result (vec.new ≡ vec.old) }
@@ -65,7 +68,8 @@ fn take_word<A: Array, I: DoubleEndedIterator<Item = A::Item>>(
     requires can { (s : I) → I.can_next s × I.can_next_back s }
     requires room { vec_len yields.old + length (splice_left splice.old) ≤ vec_capacity yields.old }
     ensures asks { (answers : List (Option A.Item))
-        × Asks (SpliceSteps (fuse_steps I.next_gives)) (SpliceStepsBack (fuse_steps I.next_back_gives)) splice.old (word_of word.now) answers splice.new
+        × Asks (SpliceSteps (fuse_steps I.next_gives)) (SpliceStepsBack (fuse_steps I.next_back_gives))
+        splice.old (word_of word.now) answers splice.new
         × (yields.new.items ≡ yields.old.items ++ given_items answers) }
     ensures ready { SpliceCanStep splice.new }
 {

@@ -7,10 +7,10 @@ use std::io::Write;
 use std::marker::Model;
 use tinyvec_io::Counted;
 
-/// How many bytes are gathered. The answers to 4 KiB of lines are mostly fewer.
+// How many bytes are gathered. The answers to 4 KiB of lines are mostly fewer.
 const ROOM: usize = 16384;
 
-/// Bytes that are gathered before they are written.
+// Bytes that are gathered before they are written.
 #[derive(Drop)]
 pub(crate) struct Gathered {
     bytes: [u8; ROOM],
@@ -35,7 +35,7 @@ impl Gathered {
         }
     }
 
-    /// Appends the text, and writes what was gathered before where there is no room.
+    // Appends the text, and writes what was gathered before where there is no room.
     pub(crate) fn put<W: Write>(&mut self, writer: &mut Counted<W>, text: &[u8]) -> io::Result<()>
         ensures { Gathers W.contents writer.old self.old writer.new self.new result text.now }
     {
@@ -59,7 +59,7 @@ impl Gathered {
         self.len = end;
     }
 
-    /// Writes what was gathered.
+    // Writes what was gathered.
     pub(crate) fn send<W: Write>(&mut self, writer: &mut Counted<W>) -> io::Result<()>
         ensures writes { Writes W.contents writer.old writer.new result self.old }
         ensures gathered { OnOk result (self.new ≡ []) }

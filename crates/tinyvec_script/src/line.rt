@@ -1,23 +1,22 @@
 //! What has come of a line.
-ghost use Rattle.std.specs.Prelude.{◌≡◌, ◌≤◌, ◌↔◌, List, ℕ, [], None, Some, MatchOption, IsTrue, take, if◌then◌else◌, Option};
+ghost use Rattle.std.specs.Prelude.{◌≡◌, ◌↔◌, List, ℕ, [], None, Some, MatchOption, IsTrue, if◌then◌else◌, Option};
+ghost use Rattle.tinyvec_slots.specs.Slots.{items};
 ghost use Rattle.tinyvec_script.specs.History.{push_kept};
 
 use std::marker::Model;
+use tinyvec::ArrayVec;
 
 /// The bytes of a line so far, unless there are too many for a command.
 #[derive(Drop)]
 pub struct Line {
-    bytes: [u8; 128],
-    len: usize,
+    bytes: ArrayVec<[u8; 128]>,
     is_long: bool,
 }
 
 impl Model for Line {
     ghost Value = { Option (List ℕ) };
 
-    ghost view = { λ l. if l.is_long then None else Some (take l.len l.bytes) };
-
-    ghost invariant = { λ l. l.len ≤ 128 };
+    ghost view = { λ l. if l.is_long then None else Some (items l.bytes) };
 }
 
 impl Line {
@@ -25,8 +24,7 @@ impl Line {
         ensures { result ≡ Some [] }
     {
         Line {
-            bytes: [0; 128],
-            len: 0,
+            bytes: ArrayVec::new(),
             is_long: false,
         }
     }
@@ -34,25 +32,24 @@ impl Line {
     pub fn clear(&mut self)
         ensures { self.new ≡ Some [] }
     {
-        self.len = 0;
+        self.bytes.set_len(0);
         self.is_long = false;
     }
 
     pub fn push(&mut self, byte: u8)
         ensures { self.new ≡ push_kept self.old byte }
     {
-        if self.len < 128 {
-            self.bytes[self.len] = byte;
-            self.len += 1;
-        } else {
+        if self.bytes.is_full() {
             self.is_long = true;
+        } else {
+            self.bytes.push(byte);
         }
     }
 
     pub fn is_empty(&self) -> bool
         ensures { IsTrue result ↔ (self.now ≡ Some []) }
     {
-        self.len == 0 && !self.is_long
+        self.bytes.is_empty() && !self.is_long
     }
 
     /// The bytes, unless there are too many for a command.
@@ -62,7 +59,7 @@ impl Line {
         if self.is_long {
             None
         } else {
-            Some(&self.bytes[..self.len])
+            Some(self.bytes.as_slice())
         }
     }
 }

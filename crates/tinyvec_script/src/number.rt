@@ -6,7 +6,7 @@ ghost use Rattle.std.specs.Fmt.{decimal, signed_decimal};
 use crate::decimal::Decimal;
 use std::str;
 
-/// The number that the bytes spell.
+// The number that the bytes spell.
 pub(crate) fn parse_number(bytes: &[u8]) -> Option<i32>
     ensures some { IfSome result (λ number. bytes.now ≡ signed_decimal number) }
     ensures none { IfNone result ((number : ℤ) → FitsSigned w32 number → bytes.now ≢ signed_decimal number) }
@@ -24,7 +24,7 @@ pub(crate) fn parse_number(bytes: &[u8]) -> Option<i32>
     }
 }
 
-/// The index that the bytes spell.
+// The index that the bytes spell.
 pub(crate) fn parse_index(bytes: &[u8]) -> Option<usize>
     ensures some { IfSome result (λ index. bytes.now ≡ decimal index) }
     ensures none { IfNone result ((index : ℕ) → index < 2 ^ 64 → bytes.now ≢ decimal index) }

@@ -7,7 +7,7 @@ ghost use Rattle.tinyvec_script.specs.Script.{Answered, Script, CompleteLines};
 ghost use Rattle.tinyvec_script.specs.History.{kept, Feeds, Ends};
 
 use crate::Answer;
-use crate::command::{Name, Parsed, parse_line};
+use crate::command::{Parsed, parse_line};
 use crate::gathered::Gathered;
 use crate::line::Line;
 use crate::vectors::Vectors;
@@ -18,7 +18,7 @@ use thiserror::Error;
 use tinyvec::{ArrayVec, Lent, SliceVec, TinyVec};
 use tinyvec_io::Counted;
 
-/// How many bytes are read at a time.
+// How many bytes are read at a time.
 const CHUNK: usize = 4096;
 
 /// Why a script ended before its input.
@@ -89,7 +89,7 @@ pub fn run<R: Read, W: Write>(
     Err(RunError::TooLong)
 }
 
-/// Takes bytes of the input, and writes the answers to the lines that they end.
+// Takes bytes of the input, and writes the answers to the lines that they end.
 fn answer_chunk<W: Write, B: Lent<Item = i32>>(
     alloc: Global,
     vectors: &mut Vectors<B>,
@@ -108,7 +108,7 @@ fn answer_chunk<W: Write, B: Lent<Item = i32>>(
     gathered.send(writer)
 }
 
-/// Ends the last line, if it has bytes, and sends on what was written.
+// Ends the last line, if it has bytes, and sends on what was written.
 fn finish<W: Write, B: Lent<Item = i32>>(
     alloc: Global,
     vectors: &mut Vectors<B>,
@@ -130,7 +130,7 @@ fn finish<W: Write, B: Lent<Item = i32>>(
     writer.flush()
 }
 
-/// Takes bytes of the input.
+// Takes bytes of the input.
 fn feed<W: Write, B: Lent<Item = i32>>(
     alloc: Global,
     vectors: &mut Vectors<B>,
@@ -140,7 +140,8 @@ fn feed<W: Write, B: Lent<Item = i32>>(
     bytes: &[u8],
 ) -> io::Result<()>
     ensures ok { OnOk result ((written : List ℕ)
-        × Appends (append_known (W.contents writer.old.end) gathered.old) (append_known (W.contents writer.new.end) gathered.new) written
+        × Appends (append_known (W.contents writer.old.end) gathered.old)
+        (append_known (W.contents writer.new.end) gathered.new) written
         × Feeds (state_of B.Lent vectors.old) line.old bytes.now written (state_of B.Lent vectors.new) line.new) }
     ensures grows { writer.old.faults ≤ writer.new.faults }
     ensures fault { OnErr result (Reported writer.old.faults writer.new.faults) }
@@ -151,7 +152,7 @@ fn feed<W: Write, B: Lent<Item = i32>>(
     Ok(())
 }
 
-/// Takes a byte of the input.
+// Takes a byte of the input.
 fn feed_byte<W: Write, B: Lent<Item = i32>>(
     alloc: Global,
     vectors: &mut Vectors<B>,
@@ -161,7 +162,8 @@ fn feed_byte<W: Write, B: Lent<Item = i32>>(
     byte: u8,
 ) -> io::Result<()>
     ensures ok { OnOk result ((written : List ℕ)
-        × Appends (append_known (W.contents writer.old.end) gathered.old) (append_known (W.contents writer.new.end) gathered.new) written
+        × Appends (append_known (W.contents writer.old.end) gathered.old)
+        (append_known (W.contents writer.new.end) gathered.new) written
         × Feeds (state_of B.Lent vectors.old) line.old (byte ∷ []) written (state_of B.Lent vectors.new) line.new) }
     ensures grows { writer.old.faults ≤ writer.new.faults }
     ensures fault { OnErr result (Reported writer.old.faults writer.new.faults) }
@@ -175,7 +177,7 @@ fn feed_byte<W: Write, B: Lent<Item = i32>>(
     Ok(())
 }
 
-/// Answers a line that is ended.
+// Answers a line that is ended.
 fn answer_line<W: Write, B: Lent<Item = i32>>(
     alloc: Global,
     vectors: &mut Vectors<B>,
@@ -184,8 +186,10 @@ fn answer_line<W: Write, B: Lent<Item = i32>>(
     writer: &mut Counted<W>,
 ) -> io::Result<()>
     ensures ok { OnOk result ((text : List ℕ)
-        × Appends (append_known (W.contents writer.old.end) gathered.old) (append_known (W.contents writer.new.end) gathered.new) (text ++ 10 ∷ [])
-        × ((rest : List ℕ) → line.now ≡ kept rest → Answered (state_of B.Lent vectors.old) rest text (state_of B.Lent vectors.new))) }
+        × Appends (append_known (W.contents writer.old.end) gathered.old)
+        (append_known (W.contents writer.new.end) gathered.new) (text ++ 10 ∷ [])
+        × ((rest : List ℕ) → line.now ≡ kept rest
+        → Answered (state_of B.Lent vectors.old) rest text (state_of B.Lent vectors.new))) }
     ensures grows { writer.old.faults ≤ writer.new.faults }
     ensures fault { OnErr result (Reported writer.old.faults writer.new.faults) }
 {
@@ -194,7 +198,7 @@ fn answer_line<W: Write, B: Lent<Item = i32>>(
     };
     match parse_line(alloc, text) {
         Parsed::Bad => gathered.put(writer, b"bad\n"),
-        Parsed::Memory => vectors.write_line(gathered, writer, &Answer::Memory, Name::A),
+        Parsed::Memory(name) => vectors.write_line(gathered, writer, &Answer::Memory, name),
         Parsed::Call(name, call) => {
             let answered = vectors.answer(alloc, name, call);
             vectors.write_line(gathered, writer, &answered, name)

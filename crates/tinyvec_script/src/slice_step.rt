@@ -1,13 +1,13 @@
 //! One call of a vector in lent slots, answered.
-ghost use Rattle.std.specs.Prelude.{◌≡◌, ◌-◌, ◌≤◌, [], length, vec_capacity};
-ghost use Rattle.tinyvec_slice.specs.View.{seen_of, items_of, name_of};
-ghost use Rattle.tinyvec_script.specs.Step.{SliceStep, ArrayDrains};
+ghost use Rattle.std.specs.Prelude.{◌≡◌};
+ghost use Rattle.tinyvec_slice.specs.View.{seen_of, name_of};
+ghost use Rattle.tinyvec_script.specs.Step.{SliceStep};
 
 use crate::{Answer, Call};
 use std::alloc::Global;
 use tinyvec::{Lent, SliceVecOver};
 
-/// Makes the call.
+// Makes the call.
 pub(crate) fn answer_slice<B: Lent>(
     alloc: Global,
     vec: &mut SliceVecOver<B>,
@@ -57,16 +57,14 @@ where
             Answer::Done
         }
         Call::Drain(start, end) => {
-            if start > end {
+            if start > end || end > vec.len() {
                 return Answer::Range;
             }
-            if end > vec.len() {
-                return Answer::Range;
-            }
-            let Ok(items) = Vec::with_capacity(alloc, end - start) else {
+            let Ok(mut items) = Vec::with_capacity(alloc, end - start) else {
                 return Answer::Memory;
             };
-            Answer::Items(drained(vec, start, end, items))
+            vec.drain_into(start..end, &mut items);
+            Answer::Items(items)
         }
         Call::Splice(_, _, _, _) => Answer::Unfit,
         Call::SetLen(n) => {
@@ -80,26 +78,4 @@ where
         Call::Heap => Answer::Unfit,
         Call::Shrink => Answer::Unfit,
     }
-}
-
-// Takes the items from `start` up to `end`, into an empty vector with room for them.
-fn drained<B: Lent>(
-    vec: &mut SliceVecOver<B>,
-    start: usize,
-    end: usize,
-    mut items: Vec<B::Item>,
-) -> Vec<B::Item>
-where
-    B::Item: Default,
-    requires start_le_end { start ≤ end }
-    requires in_bounds { end ≤ length (items_of B.Lent vec.old) }
-    requires empty { items.items ≡ [] }
-    requires room { end - start ≤ vec_capacity items }
-    ensures drains { ArrayDrains B.Item.is_default (seen_of B.Lent vec.old) start end result.items (seen_of B.Lent vec.new) }
-    ensures same_slots { name_of B.Lent vec.new ≡ name_of B.Lent vec.old }
-{
-    for item in vec.drain(start..end) {
-        items.push_reserved(item);
-    }
-    items
 }

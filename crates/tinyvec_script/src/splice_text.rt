@@ -1,5 +1,5 @@
 //! The text of a splice.
-ghost use Rattle.std.specs.Prelude.{◌≡◌, ◌≢◌, ◌+◌, ◌*◌, ◌<◌, ◌≤◌, ◌^◌, ◌++◌, ◌↔◌, [], List, ℕ, ℤ, All, length, false, IsTrue, IfSome, IfNone, IfOk, OnErr, FitsSigned};
+ghost use Rattle.std.specs.Prelude.{◌≡◌, ◌≢◌, ◌+◌, ◌*◌, ◌<◌, ◌≤◌, ◌^◌, ◌++◌, [], List, ℕ, ℤ, All, length, false, IsTrue, IfSome, IfNone, IfOk, OnErr, FitsSigned};
 ghost use Rattle.std.specs.Int.{w32};
 ghost use Rattle.tinyvec_slots.specs.Slots.{items, items_len};
 ghost use Rattle.tinyvec_script.specs.Command.{letter_code, word_text, numbers_text, splice_text};
@@ -12,18 +12,21 @@ use crate::number::{parse_index, parse_number};
 use std::alloc::{AllocError, Global};
 use tinyvec::ArrayVec;
 
-/// The numbers of a line.
+// The numbers of a line.
 pub(crate) type Numbers = ArrayVec<[i32; 64]>;
 
-/// The range and the letters that the text spells, if it spells a splice. Its numbers are put into `numbers`.
+// The range and the letters that the text spells, if it spells a splice. Its numbers are put into `numbers`.
 pub(crate) fn parse_splice<'a>(
     text: &'a [u8],
     numbers: &mut Numbers,
 ) -> Option<(usize, usize, &'a [u8])>
     requires short { length text.now ≤ 128 }
     requires empty { items numbers.old ≡ [] }
-    ensures some { IfSome result (λ parts. (word : List End) × (parts.2.now ≡ word_text word) × (text.now ≡ splice_text parts.0 parts.1 word (items numbers.new)) × All (FitsSigned w32) (items numbers.new)) }
-    ensures none { IfNone result ((start end : ℕ) (word : List End) (ns : List ℤ) → start < 2 ^ 64 → end < 2 ^ 64 → All (FitsSigned w32) ns → text.now ≢ splice_text start end word ns) }
+    ensures some { IfSome result (λ parts. (word : List End) × (parts.2.now ≡ word_text word)
+        × (text.now ≡ splice_text parts.0 parts.1 word (items numbers.new))
+        × All (FitsSigned w32) (items numbers.new)) }
+    ensures none { IfNone result ((start end : ℕ) (word : List End) (ns : List ℤ) → start < 2 ^ 64 → end < 2 ^ 64
+        → All (FitsSigned w32) ns → text.now ≢ splice_text start end word ns) }
 {
     let (first, rest) = split_word(text)?;
     let start = parse_index(first)?;
@@ -39,7 +42,7 @@ pub(crate) fn parse_splice<'a>(
     Some((start, end, word))
 }
 
-/// What stands before the first blank, and what begins with it.
+// What stands before the first blank, and what begins with it.
 fn until_blank(text: &[u8]) -> (&[u8], &[u8])
     ensures whole { text.now ≡ result.0.now ++ result.1.now }
     ensures word { All (λ byte. byte ≢ 32) result.0.now }
@@ -53,7 +56,7 @@ fn until_blank(text: &[u8]) -> (&[u8], &[u8])
     (text, &text[text.len()..])
 }
 
-/// Whether the text is a word of ends.
+// Whether the text is a word of ends.
 fn is_word(text: &[u8]) -> bool
     ensures yes { IsTrue result → (word : List End) × (text.now ≡ word_text word) }
     ensures no { result ≡ false → (word : List End) → text.now ≢ word_text word }
@@ -72,10 +75,11 @@ fn is_word(text: &[u8]) -> bool
     true
 }
 
-/// Appends the numbers that the text spells, each behind a blank. Where it spells none, some may be appended too.
+// Appends the numbers that the text spells, each behind a blank. Where it spells none, some may be appended too.
 fn parse_numbers(text: &[u8], numbers: &mut Numbers) -> bool
     requires { 2 * items_len numbers.old + length text.now ≤ 128 }
-    ensures yes { IsTrue result → (ns : List ℤ) × (text.now ≡ numbers_text ns) × All (FitsSigned w32) ns × (items numbers.new ≡ items numbers.old ++ ns) }
+    ensures yes { IsTrue result → (ns : List ℤ) × (text.now ≡ numbers_text ns) × All (FitsSigned w32) ns
+        × (items numbers.new ≡ items numbers.old ++ ns) }
     ensures no { result ≡ false → (ns : List ℤ) → All (FitsSigned w32) ns → text.now ≢ numbers_text ns }
 {
     if text.is_empty() {
@@ -92,7 +96,7 @@ fn parse_numbers(text: &[u8], numbers: &mut Numbers) -> bool
     parse_numbers(rest, numbers)
 }
 
-/// The letters of a word of ends.
+// The letters of a word of ends.
 pub(crate) fn letters(alloc: Global, text: &[u8]) -> Result<Vec<End>, AllocError>
     requires { (word : List End) × (text.now ≡ word_text word) }
     ensures ok { IfOk result (λ word. text.now ≡ word_text word.items) }

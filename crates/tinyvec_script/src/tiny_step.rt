@@ -1,31 +1,23 @@
 //! One call of a `TinyVec`, answered.
-ghost use Rattle.std.specs.Prelude.{◌≡◌, ◌-◌, ◌≤◌, [], vec_capacity};
-ghost use Rattle.tinyvec.specs.Tiny.{tiny_len};
+ghost use Rattle.std.specs.Prelude.{◌≤◌};
+ghost use Rattle.tinyvec.specs.Tiny.{tiny_len, tiny_capacity};
 ghost use Rattle.tinyvec_script.specs.Place.{tiny_of};
-ghost use Rattle.tinyvec_script.specs.TinyCalls.{TinyAnswers, TinyStep, Drained};
+ghost use Rattle.tinyvec_script.specs.TinyCalls.{TinyAnswers};
 
 use crate::{Answer, Call};
 use std::alloc::Global;
 use tinyvec::{Array, TinyVec};
 
-/// Makes the call.
+// Makes the call.
 pub(crate) fn answer_tiny<A: Array>(
     alloc: Global,
     vec: &mut TinyVec<A>,
     call: Call<A::Item>,
 ) -> Answer<A::Item>
-    ensures { TinyStep A.Item.is_default A.CAPACITY (tiny_of vec.old) call result (tiny_of vec.new) }
+    ensures answered { TinyAnswers A.Item.is_default A.CAPACITY (tiny_of vec.old) call result (tiny_of vec.new) }
+    ensures fits { tiny_len vec.new ≤ tiny_capacity A.CAPACITY vec.new }
 {
-    let answer = make_call(alloc, vec, call);
-    // It tells the proof that the list fits where it lies.
-    let _len = vec.len();
-    answer
-}
-
-// Makes the call. Its clause says all of a step but that the list fits.
-fn make_call<A: Array>(alloc: Global, vec: &mut TinyVec<A>, call: Call<A::Item>) -> Answer<A::Item>
-    ensures { TinyAnswers A.Item.is_default A.CAPACITY (tiny_of vec.old) call result (tiny_of vec.new) }
-{
+    let len = vec.len();
     match call {
         Call::Push(x) => match vec.push(x) {
             Ok(()) => Answer::Done,
@@ -36,7 +28,7 @@ fn make_call<A: Array>(alloc: Global, vec: &mut TinyVec<A>, call: Call<A::Item>)
             None => Answer::None,
         },
         Call::Insert(i, x) => {
-            if i > vec.len() {
+            if i > len {
                 return Answer::Range;
             }
             match vec.insert(i, x) {
@@ -45,13 +37,13 @@ fn make_call<A: Array>(alloc: Global, vec: &mut TinyVec<A>, call: Call<A::Item>)
             }
         }
         Call::Remove(i) => {
-            if i >= vec.len() {
+            if i >= len {
                 return Answer::Range;
             }
             Answer::Some(vec.remove(i))
         }
         Call::SwapRemove(i) => {
-            if i >= vec.len() {
+            if i >= len {
                 return Answer::Range;
             }
             Answer::Some(vec.swap_remove(i))
@@ -61,16 +53,14 @@ fn make_call<A: Array>(alloc: Global, vec: &mut TinyVec<A>, call: Call<A::Item>)
             Answer::Done
         }
         Call::Drain(start, end) => {
-            if start > end {
+            if start > end || end > len {
                 return Answer::Range;
             }
-            if end > vec.len() {
-                return Answer::Range;
-            }
-            let Ok(items) = Vec::with_capacity(alloc, end - start) else {
+            let Ok(mut items) = Vec::with_capacity(alloc, end - start) else {
                 return Answer::Memory;
             };
-            Answer::Items(drained(vec, start, end, items))
+            vec.drain_into(start..end, &mut items);
+            Answer::Items(items)
         }
         Call::Splice(_, _, _, _) => Answer::Unfit,
         Call::SetLen(_) => Answer::Unfit,
@@ -87,23 +77,4 @@ fn make_call<A: Array>(alloc: Global, vec: &mut TinyVec<A>, call: Call<A::Item>)
             Answer::Done
         }
     }
-}
-
-// Takes the items from `start` up to `end`, into an empty vector with room for them.
-fn drained<A: Array>(
-    vec: &mut TinyVec<A>,
-    start: usize,
-    end: usize,
-    mut items: Vec<A::Item>,
-) -> Vec<A::Item>
-    requires start_le_end { start ≤ end }
-    requires in_bounds { end ≤ tiny_len vec.old }
-    requires empty { items.items ≡ [] }
-    requires room { end - start ≤ vec_capacity items }
-    ensures { Drained A.Item.is_default A.CAPACITY (tiny_of vec.old) start end result.items (tiny_of vec.new) }
-{
-    for item in vec.drain(start..end) {
-        items.push_reserved(item);
-    }
-    items
 }

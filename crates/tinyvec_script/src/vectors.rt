@@ -1,6 +1,5 @@
 //! The vectors of a script.
-ghost use Rattle.std.specs.Prelude.{◌≡◌, ◌++◌, ◌∷◌, [], codes};
-ghost use Rattle.tinyvec_script.specs.Command.{Has};
+ghost use Rattle.std.specs.Prelude.{◌++◌, ◌∷◌, [], codes};
 ghost use Rattle.tinyvec_script.specs.Script.{Steps, text_of};
 ghost use Rattle.tinyvec_script.specs.Text.{answer_text};
 ghost use Rattle.tinyvec_script.specs.Writes.{Gathers};
@@ -18,7 +17,7 @@ use std::io::Write;
 use tinyvec::{ArrayVec, Lent, SliceVecOver, TinyVec};
 use tinyvec_io::Counted;
 
-/// The vectors of a script, each under its name.
+// The vectors of a script, each under its name.
 #[derive(Drop)]
 pub(crate) struct Vectors<B: Lent<Item = i32>> {
     pub a: ArrayVec<[i32; 4]>,
@@ -29,7 +28,7 @@ pub(crate) struct Vectors<B: Lent<Item = i32>> {
 impl<B: Lent<Item = i32>> Vectors<B> {
     ghost use Rattle.tinyvec_script.specs.State.{state_of};
 
-    /// Makes the call of the vector of that name.
+    // Makes the call of the vector of that name.
     pub(crate) fn answer(&mut self, alloc: Global, name: Name, call: Call<i32>) -> Answer<i32>
         ensures { Steps name (state_of B.Lent self.old) call result (state_of B.Lent self.new) }
     {
@@ -40,7 +39,7 @@ impl<B: Lent<Item = i32>> Vectors<B> {
         }
     }
 
-    /// Writes an answer line: the answer, and the vector of that name as it is then.
+    // Writes an answer line: the answer, and the vector of that name as it is then.
     pub(crate) fn write_line<W: Write>(
         &self,
         gathered: &mut Gathered,
@@ -48,7 +47,8 @@ impl<B: Lent<Item = i32>> Vectors<B> {
         answer: &Answer<i32>,
         name: Name,
     ) -> io::Result<()>
-        ensures { Gathers W.contents writer.old gathered.old writer.new gathered.new result (answer_text answer.now ++ codes " " ++ text_of name (state_of B.Lent self.now) ++ 10 ∷ []) }
+        ensures { Gathers W.contents writer.old gathered.old writer.new gathered.new result
+            (answer_text answer.now ++ codes " " ++ text_of name (state_of B.Lent self.now) ++ 10 ∷ []) }
     {
         match name {
             Name::A => {

@@ -5,6 +5,7 @@
 mod answered;
 #[cfg(test)]
 mod array;
+pub mod driven;
 #[cfg(test)]
 mod ends;
 #[cfg(test)]

@@ -1,9 +1,9 @@
 -- What calls of `next` give, for a drain.
-use Rattle.std.proofs.Common.{ℕ, List, Option, Some, None, [], ◌∷◌, ◌++◌, ◌≡◌, length, refl, sym, ap, subst, ◌∙◌}
-use Rattle.std.specs.Iterator.{SkipsThenYields, Yields}
+use Rattle.std.proofs.Common.{ℕ, Option, ◌++◌, ◌≡◌, refl, ap, ◌∙◌}
+use Rattle.std.specs.Iterator.{SkipsThenYields}
 use Rattle.std.specs.Iterator.Runs.{YieldsInOrder}
-use Rattle.std.proofs.iter.runs.Sources.{from_front, as_is}
 use Rattle.tinyvec_slots.specs.Slots.{Frees}
+use Rattle.tinyvec_slots.proofs.DrainsLemmas.{runs_in_order, step_keeps, nth_keeps}
 use Rattle.tinyvec_slice.specs.View.{seen_of, spare_of}
 use Rattle.tinyvec_slice.specs.Drain.{drain_items, drain_count, drain_spare, DrainSteps, DrainKeeps, DrainLeaves}
 use Rattle.tinyvec_slice.specs.declared.lent.Lent as Lent
@@ -12,8 +12,7 @@ use Rattle.tinyvec_slice.specs.declared.drain.SliceVecDrainOver.{SliceVecDrainOv
 
 module _ {B T : Type 0} (g : Lent.Ghosts B T) where
   pub drain_runs : YieldsInOrder (DrainSteps g) (drain_items g)
-  drain_runs p s = as_is p (drain_items g p.from) (from_front (DrainSteps g)
-      (λ x. x) (drain_items g) (λ s t h. ap length h.0) (λ s x t h. h.0) p s)
+  drain_runs = runs_in_order (drain_items g) (DrainKeeps g)
 
   pub DrainKeeps-refl : (d : SliceVecDrainOver B T) → DrainKeeps g d d
   DrainKeeps-refl d = (refl, refl, refl, refl, refl, λ h. h)
@@ -21,20 +20,11 @@ module _ {B T : Type 0} (g : Lent.Ghosts B T) where
   pub DrainKeeps-then : (d e f : SliceVecDrainOver B T) → DrainKeeps g d e → DrainKeeps g e f → DrainKeeps g d f
   DrainKeeps-then d e f h k = (k.0 ∙ h.0, k.1 ∙ h.1, k.2 ∙ h.2, k.3 ∙ h.3, k.4 ∙ h.4, λ t. k.5 (h.5 t))
 
-  -- a step keeps what the first state keeps, at `None` too
   pub DrainSteps-keeps : (d : SliceVecDrainOver B T) (r : Option T) (e : SliceVecDrainOver B T) → DrainSteps g d r e → DrainKeeps g d e
-  DrainSteps-keeps d (Some x) e h = h.1
-  DrainSteps-keeps d None e h = subst (DrainKeeps g d) (sym h.1) (DrainKeeps-refl d)
+  DrainSteps-keeps = step_keeps (drain_items g) (DrainKeeps g) DrainKeeps-refl DrainKeeps-then
 
-  -- so does each state that calls of `next` lead to
-  pub Yields-keeps : (d : SliceVecDrainOver B T) (items : List T) (later : SliceVecDrainOver B T) → Yields (DrainSteps g) d items later → DrainKeeps g d later
-  Yields-keeps d [] later y = subst (DrainKeeps g d) y (DrainKeeps-refl d)
-  Yields-keeps d (x ∷ xs) later y = DrainKeeps-then d y.0 later y.1.1 (Yields-keeps y.0 xs later y.2)
-
-  -- and `nth`
   pub nth-keeps : (d : SliceVecDrainOver B T) (n : ℕ) (r : Option T) (e : SliceVecDrainOver B T) → SkipsThenYields (DrainSteps g) d n r e → DrainKeeps g d e
-  nth-keeps d n r e h =
-      DrainKeeps-then d h.1.0 e (Yields-keeps d h.0 h.1.0 h.1.1) (DrainSteps-keeps h.1.0 r e h.1.2)
+  nth-keeps = nth_keeps (drain_items g) (DrainKeeps g) DrainKeeps-refl DrainKeeps-then
 
   -- what a drain that ended as `last` left as spare slots, in the words of the vector that it began at
   pub drain_frees : (D : T → Type 0) (n : ℕ) (old v : SliceVecOver B T) (first last : SliceVecDrainOver B T)

@@ -1,3 +1,4 @@
 pub mod ViewLemmas
 pub mod DrainLemmas
 mod ResizingLemmas
+mod LentWalks

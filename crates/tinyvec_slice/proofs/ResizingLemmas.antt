@@ -1,6 +1,10 @@
--- Lemmas on a list that is cut item by item, where each slot that it gives up is written.
-use Rattle.std.proofs.Common.{◌≡◌, ℕ, suc, ◌-◌, ◌<◌, ◌≤◌, List, ◌∷◌, ◌++◌, length, take, replicate, sym, ap, ◌∙◌, arith, length-take-le}
+-- Lemmas on a list that is cut item by item, where each vacated slot is written.
+use Rattle.std.proofs.Common.{◌≡◌, ℕ, suc, ◌-◌, ◌<◌, ◌≤◌, List, ◌∷◌, ◌++◌, length, take, replicate, sym, ap, subst, ◌∙◌, arith, length-take-le}
 use Rattle.std.proofs.lemmas.List.{take-take}
+use Rattle.std.proofs.lemmas.List.Elements.{same_from_all_zip}
+use Rattle.std.specs.List.{AllZip, AppendsClones}
+use Rattle.tinyvec_slots.specs.Clones.{ClonesAreEqual}
+use Rattle.tinyvec_slots.specs.Clones.{ClonesBefore}
 
 module _ {X : Type 0} (whole old new : List X) (some : 0 < length old) (last : new ≡ take (length old - 1) old) where
   -- one item less
@@ -17,13 +21,23 @@ module _ {X : Type 0} (whole old new : List X) (some : 0 < length old) (last : n
   pub one_more : length old ≤ length whole → suc (length whole - length old) ≡ length whole - length new
   one_more le = omega (arith, one_less)
 
-  -- with the same value as the others
-  pub replicate-more : (x : X) (rest : List X) → length old ≤ length whole
-      → x ∷ (replicate (length whole - length old) x ++ rest) ≡ replicate (length whole - length new) x ++ rest
-  replicate-more x rest le = ap (λ n. replicate n x ++ rest) (one_more le)
+  -- with a clone, as the others were
+  pub clone_before : (C : X → X → Type 0) (x y : X) (base behind after : List X) → length old ≤ length whole → C x y → after ≡ y ∷ behind
+      → ClonesBefore C (replicate (length whole - length old) x) base behind → ClonesBefore C (replicate (length whole - length new) x) base after
+  clone_before C x y base behind after le clone is h =
+      let ys : List X = h.0 in
+      (y ∷ ys, subst (λ n. AllZip C (replicate n x) (y ∷ ys)) (one_more le) (clone, h.1), is ∙ ap (λ l. y ∷ l) h.2)
 
 -- what is left, in the words of how many slots were written
 pub left_after : {X : Type 0} (xs : List X) (k : ℕ) → k ≤ length xs → take k xs ≡ take (length xs - (length xs - k)) xs
 left_after xs k le =
     let back : k ≡ length xs - (length xs - k) = omega arith in
     ap (λ n. take n xs) back
+
+-- where clones equal their originals
+module _ {X : Type 0} (C : X → X → Type 0) (rule : ClonesAreEqual C) where
+  pub appends_equal : (old new more : List X) → AppendsClones C old new more → new ≡ old ++ more
+  appends_equal old new more h = h.1 ∙ ap (λ l. old ++ l) (same_from_all_zip C more h.0 h.2 rule)
+
+  pub before_equal : (xs old new : List X) → ClonesBefore C xs old new → new ≡ xs ++ old
+  before_equal xs old new h = h.2 ∙ ap (λ l. l ++ old) (same_from_all_zip C xs h.0 h.1 rule)

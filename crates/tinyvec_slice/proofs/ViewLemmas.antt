@@ -3,7 +3,7 @@ use Rattle.std.proofs.Common.{◌≡◌, ℕ, ◌+◌, ◌-◌, ◌<◌, ◌≤�
 use Rattle.std.proofs.Math.Seq.{take-set-lt}
 use Rattle.std.proofs.lemmas.List.{same_lists, places, drop-set-add}
 use Rattle.std.specs.Borrow.{MutBor}
-use Rattle.tinyvec_slots.proofs.Lists.{drop-put, drop-emptied, drop-inserted, drop-removed}
+use Rattle.tinyvec_slots.proofs.Lists.{drop-put, drop-vacated, drop-inserted, drop-removed}
 use Rattle.tinyvec_slice.specs.Parts.{with_front}
 use Rattle.tinyvec_slice.specs.View.{items_of, spare_of, slots_of, items, spare, slots}
 use Rattle.tinyvec_slice.specs.Lends.{at_slots}
@@ -31,7 +31,7 @@ module _ {X : Type 0} (k : ℕ) (xs : List X) (n : ℕ) (is : n ≡ length (take
 
   -- what the last item was replaced by stands before the spare slots
   pub drop-popped : (d : X) → 0 < n → drop (n - 1) (set xs (n - 1) d) ≡ d ∷ drop k xs
-  drop-popped d pos = drop-emptied xs n d pos within ∙ ap (λ l. d ∷ l) spare_from
+  drop-popped d pos = drop-vacated xs n d pos within ∙ ap (λ l. d ∷ l) spare_from
 
   -- behind the list into which an item was put lie the spare slots but for the first
   pub drop-put_in : (i : ℕ) (x : X) → i ≤ n → 0 < length (drop k xs)

@@ -1,18 +1,19 @@
 -- What a contract sees of the drain of a vector in lent slots.
-use Rattle.std.specs.Prelude.{◌≡◌, ℕ, ◌-◌, ◌≤◌, List, [], ◌∷◌, ◌++◌, length, drop, slice_range, Option, MatchOption}
+use Rattle.std.specs.Prelude.{◌≡◌, ℕ, ◌-◌, ◌≤◌, List, ◌++◌, length, drop, slice_range, Option}
 use Rattle.std.specs.Borrow.{GName}
 use Rattle.tinyvec_slots.specs.Slots.{AreDefaults}
+use Rattle.tinyvec_slots.specs.Drains.{Steps}
 use Rattle.tinyvec_slice.specs.View.{items_of, spare_of, name_of}
 use Rattle.tinyvec_slice.specs.declared.lent.Lent as Lent
 use Rattle.tinyvec_slice.specs.declared.slice_vec.SliceVecOver.{SliceVecOver}
 use Rattle.tinyvec_slice.specs.declared.drain.SliceVecDrainOver.{SliceVecDrainOver}
 
 module _ {B T : Type 0} where
-  -- how many items are still to come
+  -- how many items remain
   abbrev pub drain_left : SliceVecDrainOver B T → ℕ
   drain_left d = d.count - d.front
 
-  -- how many slots are emptied
+  -- how many slots are vacated
   abbrev pub drain_count : SliceVecDrainOver B T → ℕ
   drain_count d = d.count
 
@@ -21,11 +22,11 @@ module _ {B T : Type 0} where
   drain_lender d = d.vec.ghost_name
 
 module _ {B T : Type 0} (g : Lent.Ghosts B T) where
-  -- the items that are still to come
+  -- the remaining items
   abbrev pub drain_items : SliceVecDrainOver B T → List T
   drain_items d = slice_range (spare_of g d.vec.now) d.front d.count
 
-  -- the list of the vector, and the spare slots behind the emptied ones
+  -- the list of the vector, and the spare slots behind the vacated ones
   abbrev pub drain_kept : SliceVecDrainOver B T → List T
   drain_kept d = items_of g d.vec.now
 
@@ -36,11 +37,11 @@ module _ {B T : Type 0} (g : Lent.Ghosts B T) where
   abbrev pub drain_name : SliceVecDrainOver B T → GName
   drain_name d = name_of g d.vec.now
 
-  -- what is to come lies among the emptied slots
+  -- the remaining items lie in the vacated slots
   abbrev pub DrainCanStep : SliceVecDrainOver B T → Type 0
   DrainCanStep d = (d.front ≤ d.count) × (d.count ≤ length (spare_of g d.vec.now))
 
-  -- what the vector is once d ended: the list as it was kept, and the emptied slots as defaults before the other spare ones
+  -- what the vector is once d ended: the list as it was kept, and the vacated slots as defaults before the other spare ones
   abbrev pub DrainLeaves : (T → Type 0) → SliceVecDrainOver B T → SliceVecOver B T → Type 0
   DrainLeaves D d v = (name_of g v ≡ drain_name d) × (items_of g v ≡ drain_kept d)
       × ((ds : List T) × AreDefaults D (drain_count d) ds × (spare_of g v ≡ ds ++ drain_spare d))
@@ -53,5 +54,4 @@ module _ {B T : Type 0} (g : Lent.Ghosts B T) where
 
   -- `next` took old to new, and answered with the first item
   abbrev pub DrainSteps : SliceVecDrainOver B T → Option T → SliceVecDrainOver B T → Type 0
-  DrainSteps old item new = MatchOption item ((drain_items old ≡ []) × (new ≡ old))
-      (λ x. (drain_items old ≡ x ∷ drain_items new) × DrainKeeps old new)
+  DrainSteps = Steps drain_items DrainKeeps

@@ -1,3 +1,9 @@
+-- The words of `tinyvec_slots` that contracts here cite, so that a caller names one crate.
+pub use Rattle.tinyvec_slots.specs.Slots
+pub use Rattle.tinyvec_slots.specs.Cut
+pub use Rattle.tinyvec_slots.specs.Filling
+pub use Rattle.tinyvec_slots.specs.Filters
+pub use Rattle.tinyvec_slots.specs.Clones
 pub mod Parts
 pub mod View
 pub mod Lends

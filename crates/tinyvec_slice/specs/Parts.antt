@@ -11,13 +11,13 @@ with_front xs n ws = ws ++ drop n xs
 abbrev pub with_back : {X : Type 0} → List X → ℕ → List X → List X
 with_back xs n ws = take n xs ++ ws
 
--- the slots end with the first n as r shows them last
-abbrev pub lends_front : (B I : RattleType) → Lent.Ghosts B.Denot I.Denot → MutBor B.Denot → ℕ → MutBor (List I.Denot) → Fml
-lends_front B I g s n r = Lends B (Array I 0) s r (λ ws. g.with_slots s.now (with_front (g.slots s.now) n ws))
+-- xs with its elements from i up to j replaced by ws
+abbrev pub with_part : {X : Type 0} → List X → ℕ → ℕ → List X → List X
+with_part xs i j ws = take i xs ++ ws ++ drop j xs
 
--- the slots end with those behind the first n as r shows them last
-abbrev pub lends_back : (B I : RattleType) → Lent.Ghosts B.Denot I.Denot → MutBor B.Denot → ℕ → MutBor (List I.Denot) → Fml
-lends_back B I g s n r = Lends B (Array I 0) s r (λ ws. g.with_slots s.now (with_back (g.slots s.now) n ws))
+-- the slots end with those from i up to j as r shows them last
+abbrev pub lends_part : (B I : RattleType) → Lent.Ghosts B.Denot I.Denot → MutBor B.Denot → ℕ → ℕ → MutBor (List I.Denot) → Fml
+lends_part B I g s i j r = Lends B (Array I 0) s r (λ ws. g.with_slots s.now (with_part (g.slots s.now) i j ws))
 
 -- the slots end with slot i as r shows it last
 abbrev pub lends_slot : (B I : RattleType) → Lent.Ghosts B.Denot I.Denot → MutBor B.Denot → ℕ → MutBor I.Denot → Fml

@@ -1,7 +1,7 @@
 -- What a contract sees of a vector in lent slots.
-use Rattle.std.specs.Prelude.{List}
+use Rattle.std.specs.Prelude.{ℕ, List, length}
 use Rattle.std.specs.Borrow.{GName, MutBor}
-use Rattle.tinyvec_slots.specs.Slots.{Slots, items as items_in, spare as spare_in}
+use Rattle.tinyvec_slots.specs.Slots.{Slots, Frees, items as items_in, spare as spare_in}
 use Rattle.tinyvec_slice.specs.declared.lent.Lent as Lent
 use Rattle.tinyvec_slice.specs.declared.slice_vec.SliceVecOver.{SliceVecOver}
 
@@ -19,6 +19,10 @@ module _ {B T : Type 0} (g : Lent.Ghosts B T) where
   abbrev pub spare_of : SliceVecOver B T → List T
   spare_of v = spare_in (seen_of v)
 
+  -- the length of the list
+  abbrev pub len_of : SliceVecOver B T → ℕ
+  len_of v = length (items_of v)
+
   -- the list and the spare slots, one behind the other
   abbrev pub slots_of : SliceVecOver B T → List T
   slots_of v = g.slots v.lent
@@ -26,6 +30,10 @@ module _ {B T : Type 0} (g : Lent.Ghosts B T) where
   -- the ghost name of the reference to the slots
   abbrev pub name_of : SliceVecOver B T → GName
   name_of v = g.name v.lent
+
+  -- the n vacated slots stand, as defaults, before the old spare slots
+  abbrev pub FreesOf : (T → Type 0) → ℕ → SliceVecOver B T → SliceVecOver B T → Type 0
+  FreesOf D n old new = Frees D n (seen_of old) (seen_of new)
 
 -- The same words of a vector in a lent slice.
 module _ {T : Type 0} where

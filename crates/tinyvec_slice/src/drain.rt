@@ -15,7 +15,7 @@ pub struct SliceVecDrainOver<'a, B: Lent>
 where
     B::Item: Default,
 {
-    // The first `count` spare slots are the emptied ones. Those from `front` on still hold items.
+    // The first `count` spare slots are the vacated ones. Those from `front` on still hold items.
     vec: &'a mut SliceVecOver<B>,
     count: usize,
     front: usize,
@@ -41,14 +41,16 @@ where
         requires in_list { IsRangeOf (items_of B.Lent self.old) (R.start_bound range) (R.end_bound range) }
 
         // The iterator gives the items of the range.
-        ensures rest { drain_items B.Lent result ≡ removed (items_of B.Lent self.old) (R.start_bound range) (R.end_bound range) }
+        ensures rest { drain_items B.Lent result
+            ≡ removed (items_of B.Lent self.old) (R.start_bound range) (R.end_bound range) }
         ensures ready { DrainCanStep B.Lent result }
         ensures runs { YieldsInOrder (DrainSteps B.Lent) (drain_items B.Lent) }
 
-        // The list is what stood before and after, and the spare slots will be the emptied ones and the old.
+        // The list is what stood before and after, and the spare slots will be the vacated ones and the old.
         ensures same_reference { drain_lender result ≡ self.entry.ghost_name }
         ensures same_slots { drain_name B.Lent result ≡ name_of B.Lent self.old }
-        ensures kept { drain_kept B.Lent result ≡ before (items_of B.Lent self.old) (R.start_bound range) ++ after (items_of B.Lent self.old) (R.end_bound range) }
+        ensures kept { drain_kept B.Lent result ≡ before (items_of B.Lent self.old) (R.start_bound range)
+            ++ after (items_of B.Lent self.old) (R.end_bound range) }
         ensures count { drain_count result ≡ length (drain_items B.Lent result) }
         ensures spare { drain_spare B.Lent result ≡ spare_of B.Lent self.old }
     {

@@ -1,8 +1,9 @@
 //! `SliceVec`.
-ghost use Rattle.std.specs.Prelude.{◌≡◌, ◌<◌, ◌≤◌, ◌==◌, ◌+◌, length, drop, slice_range, slice_index_or, slice_set, List, ◌++◌};
+ghost use Rattle.std.specs.Prelude.{◌≡◌, ◌<◌, ◌≤◌, ◌==◌, ◌+◌, ◌^◌, length, drop, slice_range, slice_index_or, slice_set, List, ◌++◌};
 ghost use Rattle.std.specs.List.{remove_range};
-ghost use Rattle.tinyvec_slots.specs.Slots.{AreDefaults};
+ghost use Rattle.tinyvec_slots.specs.Slots.{AreDefaults, split_at};
 
+mod cutting;
 mod draining;
 mod edits;
 mod ends;
@@ -19,8 +20,8 @@ use crate::Lent;
 use crate::slots::{clear, slots_to_end, take_slot};
 use std::convert::AsSlice;
 
-/// A list in lent slots. The slots behind the list are its spare slots: they hold values too, and those that the list
-/// gave up hold defaults. When it ends, the owner of the slots sees the list followed by the spare slots.
+/// A list in lent slots. The slots behind the list are its spare slots: they hold values too, and the vacated
+/// ones hold defaults. When it ends, the owner of the slots sees the list followed by the spare slots.
 #[derive(Drop)]
 pub struct SliceVecOver<B: Lent> {
     // Where this is more than there are slots, all of them hold the list.
@@ -32,12 +33,13 @@ pub struct SliceVecOver<B: Lent> {
 pub type SliceVec<'s, T> = SliceVecOver<&'s mut [T]>;
 
 impl<B: Lent> SliceVecOver<B> {
-    ghost use Rattle.tinyvec_slice.specs.View.{items_of, spare_of, slots_of, name_of};
+    ghost use Rattle.tinyvec_slice.specs.View.{items_of, spare_of, slots_of, name_of, seen_of, len_of};
 
     /// The number of items.
     pub fn len(&self) -> usize
-        ensures value { result ≡ length (items_of B.Lent self.now) }
+        ensures value { result ≡ len_of B.Lent self.now }
         ensures fits { result ≤ length (slots_of B.Lent self.now) }
+        ensures small { length (slots_of B.Lent self.now) < 2 ^ 64 }
     {
         self.len.min(self.capacity())
     }
@@ -45,13 +47,13 @@ impl<B: Lent> SliceVecOver<B> {
     /// How many items fit, which is the number of slots.
     pub fn capacity(&self) -> usize
         ensures value { result ≡ length (slots_of B.Lent self.now) }
-        ensures parts { result ≡ length (items_of B.Lent self.now) + length (spare_of B.Lent self.now) }
+        ensures parts { result ≡ len_of B.Lent self.now + length (spare_of B.Lent self.now) }
     {
         self.as_inner().len()
     }
 
     pub fn is_empty(&self) -> bool
-        ensures { result ≡ (length (items_of B.Lent self.now) == 0) }
+        ensures { result ≡ (len_of B.Lent self.now == 0) }
     {
         self.len() == 0
     }
@@ -86,12 +88,23 @@ impl<B: Lent> SliceVecOver<B> {
         self.lent.all()
     }
 
+    /// Moves the border between the items and the spare slots. No slot is written.
+    pub fn set_len(&mut self, len: usize)
+        requires { len ≤ length (slots_of B.Lent self.old) }
+        ensures same_reference { name_of B.Lent self.new ≡ name_of B.Lent self.old }
+        ensures value { seen_of B.Lent self.new ≡ split_at len (slots_of B.Lent self.old) }
+        ensures fits { len_of B.Lent self.new ≡ len }
+    {
+        self.len = len;
+    }
+
     // Moves the items from `start` up to `end` behind the others.
     pub(crate) fn items_to_end(&mut self, start: usize, end: usize)
         requires start_le_end { start ≤ end }
-        requires in_bounds { end ≤ length (items_of B.Lent self.old) }
+        requires in_bounds { end ≤ len_of B.Lent self.old }
         ensures same_reference { name_of B.Lent self.new ≡ name_of B.Lent self.old }
-        ensures items { items_of B.Lent self.new ≡ remove_range (items_of B.Lent self.old) start end ++ slice_range (items_of B.Lent self.old) start end }
+        ensures items { items_of B.Lent self.new ≡ remove_range (items_of B.Lent self.old) start end
+            ++ slice_range (items_of B.Lent self.old) start end }
         ensures spare { spare_of B.Lent self.new ≡ spare_of B.Lent self.old }
     {
         let len = self.len();
@@ -103,7 +116,7 @@ impl<B: Lent> SliceVecOver<B>
 where
     B::Item: Default,
 {
-    ghost use Rattle.tinyvec_slice.specs.View.{items_of, spare_of, slots_of, name_of};
+    ghost use Rattle.tinyvec_slice.specs.View.{items_of, spare_of, slots_of, name_of, len_of};
 
     // Takes what the spare slot at `i` holds, and leaves a default.
     pub(crate) fn take_spare(&mut self, i: usize) -> B::Item
@@ -111,9 +124,9 @@ where
         ensures same_reference { name_of B.Lent self.new ≡ name_of B.Lent self.old }
         ensures value { result ≡ slice_index_or (spare_of B.Lent self.old) i result }
         ensures items { items_of B.Lent self.new ≡ items_of B.Lent self.old }
-        ensures spare { (d : B.Item) × B.Item.is_default d × (spare_of B.Lent self.new ≡ slice_set (spare_of B.Lent self.old) i d) }
+        ensures spare { (d : B.Item) × B.Item.is_default d
+            × (spare_of B.Lent self.new ≡ slice_set (spare_of B.Lent self.old) i d) }
     {
-        let _slots = self.as_inner();
         let len = self.len();
         take_slot(&mut self.lent, len + i)
     }
@@ -122,7 +135,8 @@ where
     pub(crate) fn reset_spare(&mut self, n: usize)
         ensures same_reference { name_of B.Lent self.new ≡ name_of B.Lent self.old }
         ensures items { items_of B.Lent self.new ≡ items_of B.Lent self.old }
-        ensures spare { n ≤ length (spare_of B.Lent self.old) → (ds : List B.Item) × AreDefaults B.Item.is_default n ds × (spare_of B.Lent self.new ≡ ds ++ drop n (spare_of B.Lent self.old)) }
+        ensures spare { n ≤ length (spare_of B.Lent self.old) → (ds : List B.Item) × AreDefaults B.Item.is_default n ds
+            × (spare_of B.Lent self.new ≡ ds ++ drop n (spare_of B.Lent self.old)) }
         ensures none { length (spare_of B.Lent self.old) < n → self.new ≡ self.old }
     {
         let len = self.len();
@@ -133,7 +147,7 @@ where
 }
 
 impl<B: Lent> AsSlice<B::Item> for SliceVecOver<B> {
-    ghost use Rattle.tinyvec_slice.specs.View.{items_of};
+    ghost use Rattle.tinyvec_slice.specs.View.{items_of, len_of};
 
     ghost items = { items_of B.Lent };
 

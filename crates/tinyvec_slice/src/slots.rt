@@ -5,9 +5,9 @@ ghost use Rattle.tinyvec_slots.specs.Slots.{AreDefaults};
 
 use crate::Lent;
 use std::mem;
-use tinyvec_slots::{insert_carrying, last_to, part_to_end, remove_carrying, reset};
+use tinyvec_slots::{insert_shifting, last_to, part_to_end, remove_shifting, reset};
 
-/// Writes `x` into the slot at `i`.
+// Writes `x` into the slot at `i`.
 pub(crate) fn put<B: Lent>(lent: &mut B, i: usize, x: B::Item)
     requires { i < length (B.slots lent.old) }
     ensures same_reference { B.name lent.new ≡ B.name lent.old }
@@ -16,7 +16,7 @@ pub(crate) fn put<B: Lent>(lent: &mut B, i: usize, x: B::Item)
     lent.all_mut()[i] = x;
 }
 
-/// Takes what the slot at `i` holds, and leaves a default.
+// Takes what the slot at `i` holds, and leaves a default.
 pub(crate) fn take_slot<B: Lent>(lent: &mut B, i: usize) -> B::Item
 where
     B::Item: Default,
@@ -28,40 +28,43 @@ where
     mem::take(&mut lent.all_mut()[i])
 }
 
-/// Writes a default into each slot from `start` up to `end`.
+// Writes a default into each slot from `start` up to `end`.
 pub(crate) fn clear<B: Lent>(lent: &mut B, start: usize, end: usize)
 where
     B::Item: Default,
     requires start_le_end { start ≤ end }
     requires in_bounds { end ≤ length (B.slots lent.old) }
     ensures same_reference { B.name lent.new ≡ B.name lent.old }
-    ensures after { (ds : List B.Item) × AreDefaults B.Item.is_default (end - start) ds × (B.slots lent.new ≡ take start (B.slots lent.old) ++ ds ++ drop end (B.slots lent.old)) }
+    ensures after { (ds : List B.Item) × AreDefaults B.Item.is_default (end - start) ds
+        × (B.slots lent.new ≡ take start (B.slots lent.old) ++ ds ++ drop end (B.slots lent.old)) }
 {
     reset(&mut lent.all_mut()[start..end]);
 }
 
-/// Moves the slots from `start` up to `end` behind the others below `len`.
+// Moves the slots from `start` up to `end` behind the others below `len`.
 pub(crate) fn slots_to_end<B: Lent>(lent: &mut B, start: usize, end: usize, len: usize)
     requires start_le_end { start ≤ end }
     requires in_list { end ≤ len }
     requires in_bounds { len ≤ length (B.slots lent.old) }
     ensures same_reference { B.name lent.new ≡ B.name lent.old }
-    ensures after { B.slots lent.new ≡ remove_range (take len (B.slots lent.old)) start end ++ slice_range (take len (B.slots lent.old)) start end ++ drop len (B.slots lent.old) }
+    ensures after { B.slots lent.new ≡ remove_range (take len (B.slots lent.old)) start end
+        ++ slice_range (take len (B.slots lent.old)) start end ++ drop len (B.slots lent.old) }
 {
     part_to_end(lent.all_mut(), start, end, len);
 }
 
-/// Puts `x` into the slot at `index`, and moves those from there on up, over the one at `len`.
+// Puts `x` into the slot at `index`, and moves those from there on up, over the one at `len`.
 pub(crate) fn insert_slot<B: Lent>(lent: &mut B, index: usize, len: usize, x: B::Item)
     requires in_list { index ≤ len }
     requires room { len < length (B.slots lent.old) }
     ensures same_reference { B.name lent.new ≡ B.name lent.old }
-    ensures after { B.slots lent.new ≡ insert (take len (B.slots lent.old)) index x ++ drop (len + 1) (B.slots lent.old) }
+    ensures after { B.slots lent.new
+        ≡ insert (take len (B.slots lent.old)) index x ++ drop (len + 1) (B.slots lent.old) }
 {
-    insert_carrying(lent.all_mut(), index, len, x);
+    insert_shifting(lent.all_mut(), index, len, x);
 }
 
-/// Takes what the slot at `index` holds, moves those behind it below `len` down, and leaves a default in the last.
+// Takes what the slot at `index` holds, moves those behind it below `len` down, and leaves a default in the last.
 pub(crate) fn remove_slot<B: Lent>(lent: &mut B, index: usize, len: usize) -> B::Item
 where
     B::Item: Default,
@@ -69,17 +72,19 @@ where
     requires in_bounds { len ≤ length (B.slots lent.old) }
     ensures same_reference { B.name lent.new ≡ B.name lent.old }
     ensures value { result ≡ slice_index_or (B.slots lent.old) index result }
-    ensures after { (d : B.Item) × B.Item.is_default d × (B.slots lent.new ≡ remove (take len (B.slots lent.old)) index ++ d ∷ drop len (B.slots lent.old)) }
+    ensures after { (d : B.Item) × B.Item.is_default d
+        × (B.slots lent.new ≡ remove (take len (B.slots lent.old)) index ++ d ∷ drop len (B.slots lent.old)) }
 {
-    remove_carrying(lent.all_mut(), index, len)
+    remove_shifting(lent.all_mut(), index, len)
 }
 
-/// Moves the last slot below `len` to `index`, and those from there on up.
+// Moves the last slot below `len` to `index`, and those from there on up.
 pub(crate) fn last_slot_to<B: Lent>(lent: &mut B, index: usize, len: usize)
     requires in_list { index < len }
     requires in_bounds { len ≤ length (B.slots lent.old) }
     ensures same_reference { B.name lent.new ≡ B.name lent.old }
-    ensures after { (front : List B.Item) (last : B.Item) → take len (B.slots lent.old) ≡ front ++ last ∷ [] → B.slots lent.new ≡ insert front index last ++ drop len (B.slots lent.old) }
+    ensures after { (front : List B.Item) (last : B.Item) → take len (B.slots lent.old) ≡ front ++ last ∷ []
+        → B.slots lent.new ≡ insert front index last ++ drop len (B.slots lent.old) }
 {
     last_to(lent.all_mut(), index, len);
 }

@@ -37,6 +37,13 @@ fn resize(rt: HostRuntime) {
     assert!(rt; vec.grab_spare_slice() == [Item(6), Item(6), Item(8)].as_slice());
     assert!(rt; vec.resize(3, Item(4)) == Ok(()));
     assert!(rt; vec.as_slice() == [Item(1), Item(4), Item(4)].as_slice());
+    assert!(rt; slots == [Item(1), Item(4), Item(4), Item(8)]);
+}
+
+#[test]
+fn resize_refused(rt: HostRuntime) {
+    let mut slots = [Item(1), Item(4), Item(4), Item(8)];
+    let mut vec = SliceVec::from_slice_len(&mut slots, 3);
     assert!(rt; vec.resize(3, Item(99)) == Ok(()));
     assert!(rt; vec.resize(4, Item(99)) == Err(NoMemory(Item(99))));
     assert!(rt; vec.resize(0, Item(99)) == Err(NoMemory(Item(99))));
@@ -77,6 +84,44 @@ fn cutting_refused(rt: HostRuntime) {
     assert!(rt; refused.err().map(|refused| refused.0.name) == Some(7));
     assert!(rt; vec.len() == 3);
     assert!(rt; names(&slots) == [1, 2, 3, 7]);
+}
+
+// A clone has memory of its own.
+#[test]
+fn what_owns(rt: HostRuntime) -> Result<(), Fail> {
+    let source = [
+        Some([1].to_vec(rt.alloc())?),
+        Some([2, 3].to_vec(rt.alloc())?),
+    ];
+    let mut slots = [None, None, None, None];
+    let mut vec = SliceVec::from_slice_len(&mut slots, 0);
+    vec.extend_from_slice(&source)?;
+    assert!(rt; vec.as_slice() == source.as_slice());
+    assert!(rt;
+        vec.resize(3, Some([5].to_vec(rt.alloc())?)).is_ok(),
+        "memory was granted"
+    );
+    assert!(rt; vec.pop() == Some(Some([5].to_vec(rt.alloc())?)));
+    assert!(rt;
+        vec.resize(1, Some([6].to_vec(rt.alloc())?)).is_ok(),
+        "memory was granted"
+    );
+    assert!(rt; slots[1] == Some([6].to_vec(rt.alloc())?));
+    Ok(())
+}
+
+fn fill_up(vec: &mut SliceVec<'_, Item>, item: Item) -> Result<(), AllocError> {
+    vec.resize(vec.capacity(), item)?;
+    Ok(())
+}
+
+#[test]
+fn as_a_refusal_of_memory(rt: HostRuntime) {
+    let mut slots = [Item(1), Item(2)];
+    let mut vec = SliceVec::from_slice_len(&mut slots, 1);
+    assert!(rt; fill_up(&mut vec, Item(99)) == Err(AllocError));
+    assert!(rt; fill_up(&mut vec, Item(7)) == Ok(()));
+    assert!(rt; slots == [Item(1), Item(7)]);
 }
 
 fn named<'a>(name: u8) -> Limited<'a> {

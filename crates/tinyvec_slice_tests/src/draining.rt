@@ -29,6 +29,12 @@ fn run_to_its_end(rt: HostRuntime) {
     }
     assert!(rt; vec.as_slice() == [1, 2].as_slice());
     assert!(rt; vec.grab_spare_slice() == [0, 0].as_slice());
+}
+
+#[test]
+fn an_empty_range(rt: HostRuntime) {
+    let mut slots = [1, 2];
+    let mut vec = SliceVec::from_slice_len(&mut slots, 2);
     assert!(rt; vec.drain(1..1).next().is_none());
     assert!(rt; vec.len() == 2);
 }

@@ -1,5 +1,6 @@
 //! Items taken from iterators and closures, and items kept.
 use std::iter;
+use std::test::Fail;
 use tinyvec_slice::SliceVec;
 use tinyvec_slots::NoRoom;
 
@@ -54,6 +55,31 @@ fn extend_by_what_fits(rt: HostRuntime) {
     assert!(rt; vec.extend(3..4).is_ok());
     assert!(rt; vec.is_full());
     assert!(rt; vec.extend(4..4).is_ok());
+    assert!(rt; slots == [1, 2, 3]);
+}
+
+#[test]
+fn extend_by_a_vec(rt: HostRuntime) -> Result<(), Fail> {
+    let mut slots = [1, 0, 0, 9];
+    let mut vec = SliceVec::from_slice_len(&mut slots, 1);
+    assert!(rt; vec.extend([2, 3].to_vec(rt.alloc())?).is_ok());
+    assert!(rt; vec.as_slice() == [1, 2, 3].as_slice());
+    assert!(rt; slots == [1, 2, 3, 9]);
+    Ok(())
+}
+
+#[test]
+fn extend_by_copies_of_a_slice(rt: HostRuntime) {
+    let mut slots = [1, 0, 0];
+    let mut vec = SliceVec::from_slice_len(&mut slots, 1);
+    assert!(rt; vec.extend([2, 3].iter().copied()).is_ok());
+    match vec.extend([4].iter().copied()) {
+        Ok(()) => panic!(rt; "there was no room"),
+        Err(NoRoom { item, mut rest }) => {
+            assert!(rt; item == 4);
+            assert!(rt; rest.next() == None);
+        }
+    }
     assert!(rt; slots == [1, 2, 3]);
 }
 

@@ -10,14 +10,20 @@ fn of_the_first_slots(rt: HostRuntime) {
     assert!(rt; vec.capacity() == 3);
     assert!(rt; !vec.is_full());
     assert!(rt; !vec.is_empty());
+    let none = SliceVec::from_slice_len(&mut slots, 0);
+    assert!(rt; none.is_empty());
+    assert!(rt; none.as_slice() == [].as_slice());
+}
+
+#[test]
+fn shown(rt: HostRuntime) {
+    let mut slots = [1, 2, 3];
+    let vec = SliceVec::from_slice_len(&mut slots, 2);
     assert!(rt; vec.as_slice() == [1, 2].as_slice());
     assert!(rt; AsSlice::as_slice(&vec) == [1, 2].as_slice());
     assert!(rt; vec.grab_spare_slice() == [3].as_slice());
     assert!(rt; vec.as_inner() == [1, 2, 3].as_slice());
     assert!(rt; vec[1] == 2);
-    let none = SliceVec::from_slice_len(&mut slots, 0);
-    assert!(rt; none.is_empty());
-    assert!(rt; none.as_slice() == [].as_slice());
 }
 
 #[test]

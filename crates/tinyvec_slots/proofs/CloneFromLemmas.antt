@@ -1,12 +1,16 @@
 -- Lemmas on a list that is cut to the length of another, over whose slots clones of that other's items are then written.
-use Rattle.std.proofs.Common.{◌≡◌, ℕ, ◌+◌, ◌-◌, ◌<◌, ◌≤◌, ◌⊎◌, inl, inr, min, List, [], ◌++◌, length, take, drop, slice_range, refl, sym, ap, ◌∙◌, le_refl, arith, length-take-le, length-take}
+use Rattle.std.proofs.Common.{◌≡◌, ℕ, ◌+◌, ◌-◌, ◌<◌, ◌≤◌, ◌⊎◌, inl, inr, min, List, [], ◌++◌, length, take, drop, slice_range, refl, sym, ap, subst, ◌∙◌, le_refl, arith, length-take-le, length-take}
 use Rattle.std.proofs.lemmas.Bool.{cases_lt}
 use Rattle.std.proofs.lemmas.List.{drop-drop, take-take, take-append-le, take_min, append-nil, nil_from_length}
 use Rattle.std.proofs.lemmas.Slice.{drop-append-drop}
 use Rattle.std.proofs.Math.Nat.{min_comm}
-use Rattle.tinyvec_slots.specs.Slots.{Slots, AreDefaults, Frees, SlotRule, items_len, all_slots, items, spare, split_at}
+use Rattle.tinyvec_slots.specs.Slots.{Slots, AreDefaults, Frees, SlotRule, items_len, all_slots, items, spare}
+use Rattle.std.proofs.lemmas.List.Elements.{length_all_zip}
+use Rattle.std.specs.Bool.{⊤}
+use Rattle.std.specs.List.{AllZip}
 use Rattle.tinyvec_slots.specs.Clones.{RefusedAt, ClonesInPart}
 use Rattle.tinyvec_slots.proofs.CloneLemmas.{drop_within, range_within, take_writes, drop_writes}
+use Rattle.tinyvec_slots.proofs.ClonesOverLemmas.{AllZip-take, AllZip-drop}
 
 empty_range : {X : Type 0} (xs : List X) (i j : ℕ) → j ≡ i → slice_range xs i j ≡ []
 empty_range xs i j e =
@@ -14,7 +18,7 @@ empty_range xs i j e =
     ap (λ n. take n (drop i xs)) none
 
 -- `cut` is `left`, which `truncate` left of `old` at n items, the length of `source`.
-module _ {T : Type 0} (D I : T → Type 0) (old left cut : Slots T) (source : List T) (n : ℕ) (same : cut ≡ left) (long : n ≡ length source)
+module _ {T : Type 0} (D I : T → Type 0) (C : T → T → Type 0) (old left cut : Slots T) (source : List T) (n : ℕ) (same : cut ≡ left) (long : n ≡ length source)
     (fits : cut.len ≤ length (all_slots cut)) (left_items : items left ≡ take n (items old)) (left_frees : Frees D (items_len old - n) old left) where
   listed : items cut ≡ take (length source) (items old)
   listed = ap (λ v. items v) same ∙ left_items ∙ ap (λ k. take k (items old)) long
@@ -31,11 +35,14 @@ module _ {T : Type 0} (D I : T → Type 0) (old left cut : Slots T) (source : Li
   as_listed : items cut ≡ take lesser (items old)
   as_listed = listed ∙ sym (take_min (length source) (items old)) ∙ ap (λ n. take n (items old)) (min_comm (length source) (items_len old))
 
-  module _ (j : ℕ) (xs : List T) (refused : RefusedAt I source j) (written : xs ≡ take j source ++ drop j (all_slots cut)) where
-    made : length (take j source) ≡ j
+  module _ (j : ℕ) (ws xs : List T) (refused : RefusedAt I source j) (cloned : AllZip C (take j source) ws) (written : xs ≡ ws ++ drop j (all_slots cut)) where
+    abbrev InPart : Type 0
+    InPart = ClonesInPart D I C source (items old) (take cut.len xs) lesser ⊤ (spare old) (drop cut.len xs)
+
+    made : length ws ≡ j
     made =
         let below : j < length source = refused.0 in
-        length-take-le j source (omega arith)
+        sym (length_all_zip C (take j source) ws cloned) ∙ length-take-le j source (omega arith)
 
     defaults : AreDefaults D (items_len old - lesser) freed.0
     defaults =
@@ -43,7 +50,7 @@ module _ {T : Type 0} (D I : T → Type 0) (old left cut : Slots T) (source : Li
         (freed.1.0 ∙ count, freed.1.1)
 
     -- the refused clone is one of the first
-    early : j ≤ lesser → ClonesInPart D I source old (split_at cut.len xs) lesser
+    early : j ≤ lesser → InPart
     early le =
         let L = items old in
         let within : j ≤ cut.len = rw cut_len le in
@@ -51,58 +58,60 @@ module _ {T : Type 0} (D I : T → Type 0) (old left cut : Slots T) (source : Li
         let kept : slice_range (all_slots cut) j cut.len ≡ slice_range L j lesser =
         sym (range_within (all_slots cut) j cut.len within) ∙ ap (λ l. slice_range l j cut.len) as_listed
         ∙ ap (λ n. slice_range (take lesser L) j n) cut_len ∙ range_within L j lesser le in
-        let start : take cut.len xs ≡ take j source ++ slice_range L j lesser =
-        ap (take cut.len) written ∙ take_writes (take j source) (all_slots cut) j cut.len made within ∙ ap (λ l. take j source ++ l) kept in
+        let start : take cut.len xs ≡ ws ++ slice_range L j lesser =
+        ap (take cut.len) written ∙ take_writes ws (all_slots cut) j cut.len made within ∙ ap (λ l. ws ++ l) kept in
         let rest : drop cut.len xs ≡ freed.0 ++ spare old =
-        ap (drop cut.len) written ∙ drop-append-drop j (all_slots cut) (take j source) cut.len within made ∙ freed.2 in
+        ap (drop cut.len) written ∙ drop-append-drop j (all_slots cut) ws cut.len within made ∙ freed.2 in
         record {
           k = j;
           j = 0;
-          freed = freed.0;
+          made = ws;
           within = le;
           in_order = λ h. absurd (omega (arith, h));
           refused_at = rw sum refused;
+          clones = cloned;
           listed = start;
-          defaults = defaults;
-          behind = rw (empty_range source lesser (lesser + 0) (omega arith), append-nil freed.0) rest;
+          left = λ _. (freed.0, defaults, [], rw (empty_range source lesser (lesser + 0) (omega arith)) tt, rw (append-nil freed.0) rest);
         }
 
     -- the list is as long as it was, and clones stand behind it
-    late : lesser < j → ClonesInPart D I source old (split_at cut.len xs) lesser
+    late : lesser < j → InPart
     late lt =
         let below : j < length source = refused.0 in
         let le : cut.len ≤ j = rw cut_len (omega arith) in
         let sum : lesser + (j - lesser) ≡ j = omega arith in
         let none : freed.0 ≡ [] = nil_from_length freed.0 (omega (arith, defaults.0)) in
-        let start : take cut.len xs ≡ take lesser source ++ slice_range (items old) lesser lesser =
-        ap (take cut.len) written ∙ take-append-le cut.len (take j source) (drop j (all_slots cut)) (rw made le) ∙ take-take cut.len j source le
-        ∙ ap (λ n. take n source) cut_len ∙ sym (ap (λ l. take lesser source ++ l) (empty_range (items old) lesser lesser refl) ∙ append-nil (take lesser source)) in
+        let start : take cut.len xs ≡ take lesser ws ++ slice_range (items old) lesser lesser =
+        ap (take cut.len) written ∙ take-append-le cut.len ws (drop j (all_slots cut)) (rw made le)
+        ∙ ap (λ n. take n ws) cut_len ∙ sym (ap (λ l. take lesser ws ++ l) (empty_range (items old) lesser lesser refl) ∙ append-nil (take lesser ws)) in
         let count : j - lesser ≡ lesser + (j - lesser) - lesser = omega arith in
-        let more = slice_range source lesser (lesser + (j - lesser)) in
-        let further : drop cut.len (take j source) ≡ more =
-        ap (λ n. drop n (take j source)) cut_len ∙ drop_within source lesser j (omega arith) ∙ ap (λ n. take n (drop lesser source)) count in
+        let first : AllZip C (take lesser source) (take lesser ws) =
+        subst (λ l. AllZip C l (take lesser ws)) (take-take lesser j source (omega arith)) (AllZip-take C lesser (take j source) ws cloned) in
+        let further : drop lesser (take j source) ≡ slice_range source lesser (lesser + (j - lesser)) =
+        drop_within source lesser j (omega arith) ∙ ap (λ n. take n (drop lesser source)) count in
+        let later = subst (λ l. AllZip C l (drop lesser ws)) further (AllZip-drop C lesser (take j source) ws cloned) in
         let others : drop (j - cut.len) (spare cut) ≡ drop (j - lesser) (spare old) =
         ap (λ n. drop (j - n) (spare cut)) cut_len ∙ ap (drop (j - lesser)) (freed.2 ∙ ap (λ ds. ds ++ spare old) none) in
-        let rest : drop cut.len xs ≡ more ++ drop (j - lesser) (spare old) =
-        ap (drop cut.len) written ∙ drop_writes (take j source) (all_slots cut) j cut.len made le
-        ∙ ap (λ l. l ++ drop (j - cut.len) (spare cut)) further ∙ ap (λ l. more ++ l) others in
+        let rest : drop cut.len xs ≡ drop lesser ws ++ drop (j - lesser) (spare old) =
+        ap (drop cut.len) written ∙ drop_writes ws (all_slots cut) j cut.len made le
+        ∙ ap (λ n. drop n ws ++ drop (j - cut.len) (spare cut)) cut_len ∙ ap (λ l. drop lesser ws ++ l) others in
         record {
           k = lesser;
           j = j - lesser;
-          freed = freed.0;
+          made = take lesser ws;
           within = le_refl _;
           in_order = λ _. refl;
           refused_at = rw sum refused;
+          clones = first;
           listed = start;
-          defaults = defaults;
-          behind = rw none rest;
+          left = λ _. (freed.0, defaults, drop lesser ws, later, rw none rest);
         }
 
-    part : (lesser < j) ⊎ (j ≤ lesser) → ClonesInPart D I source old (split_at cut.len xs) lesser
+    part : (lesser < j) ⊎ (j ≤ lesser) → InPart
     part (inl lt) = late lt
     part (inr le) = early le
 
-    pub clones_in_part : ClonesInPart D I source old (split_at cut.len xs) lesser
+    pub clones_in_part : InPart
     clones_in_part = part (cases_lt lesser j)
 
   beyond : (length source < items_len old) ⊎ (items_len old ≤ length source)

@@ -1,9 +1,7 @@
 -- Lemmas on clones written over slots.
-use Rattle.std.proofs.Common.{◌≡◌, ℕ, ◌+◌, ◌-◌, ◌<◌, ◌≤◌, List, [], ◌∷◌, ◌++◌, length, take, drop, set, get_or, slice_range, sym, ap, subst, ◌∙◌, le_refl, arith, append_assoc, length-take-le, length-append, length-drop, take-append-drop, Result, Ok, Err, OnErr}
-use Rattle.std.proofs.lemmas.List.{drop_more, set_at, drop-drop, drop-append-le, drop-take, take_more, take-take, take_at, drop_at, take_all, get_or-drop}
-use Rattle.std.proofs.Math.Seq.{take-append-add, take-add}
-use Rattle.std.specs.List.{HoldsAt}
-use Rattle.tinyvec_slots.specs.Clones.{RefusedAt}
+use Rattle.std.proofs.Common.{◌≡◌, ℕ, ◌+◌, ◌-◌, ◌<◌, ◌≤◌, List, [], ◌∷◌, ◌++◌, length, take, drop, set, get_or, slice_range, sym, ap, ◌∙◌, le_refl, arith, append_assoc, length-take-le, length-append, length-drop, take-append-drop, Result, Ok, Err, OnErr}
+use Rattle.std.proofs.lemmas.List.{drop_more, set_at, drop-drop, drop-append-le, drop-take, take-take, take_at, drop_at}
+use Rattle.std.proofs.Math.Seq.{take-append-add}
 use Rattle.tinyvec_slots.specs.Slots.{Slots, SlotRule, all_slots, items, spare, split_at}
 use Rattle.tinyvec_slots.proofs.SlotsLemmas.{slots_used}
 use borrow.Rule.Slice.PartMut.{post_of}
@@ -20,14 +18,6 @@ module _ {X : Type 0} where
   set_next xs ys i y long lt =
       ap (λ l. set (xs ++ l) i y) (drop_more ys i y lt) ∙ set_at xs (get_or ys i y) (drop (i + 1) ys) y i long
       ∙ sym (append_assoc xs (y ∷ []) (drop (i + 1) ys))
-
-  -- the same where the writes are the elements of a list
-  pub overwrite_next : (xs ys : List X) (i : ℕ) (y : X) → i < length xs → length xs ≤ length ys → y ≡ get_or xs i y
-      → set (take i xs ++ drop i ys) i y ≡ take (i + 1) xs ++ drop (i + 1) ys
-  overwrite_next xs ys i y lt fits is =
-      let long : length (take i xs) ≡ i = length-take-le i xs (omega arith) in
-      set_next (take i xs) ys i y long (omega arith)
-      ∙ ap (λ z. (take i xs ++ z ∷ []) ++ drop (i + 1) ys) is ∙ ap (λ l. l ++ drop (i + 1) ys) (sym (take_more xs i y lt))
 
   pub length-part : (xs : List X) (a k : ℕ) → a + k ≤ length xs → length (take k (drop a xs)) ≡ k
   length-part xs a k fits = length-take-le k (drop a xs) (omega (arith, length-drop a xs))
@@ -77,69 +67,18 @@ module _ {X : Type 0} where
       let ends : m + (j - m) ≡ j = omega arith in
       drop-append-le m ws (drop j xs) (omega arith) ∙ ap (λ l. drop m ws ++ l) (sym (drop-drop (j - m) m xs ∙ ap (λ n. drop n xs) ends))
 
--- writes over the slots from a on, behind a writes of the first elements of `from`
-module _ {X : Type 0} (from old to part : List X) (a : ℕ) (fits : length from ≤ length old) (long : length to ≡ length old)
-    (within : a ≤ length from) (done : to ≡ take a from ++ drop a old) where
-  abbrev rest : List X
-  rest = take (length from - a) (drop a from)
-
-  abbrev lent : List X
-  lent = take (length to - a) (drop a to)
-
-  abbrev written : List X
-  written = take a to ++ (part ++ post_of a (length to - a) to)
-
-  pub written_further : (k : ℕ) → a + k ≤ length from → part ≡ take k (drop a from) ++ drop k lent
-      → written ≡ take (a + k) from ++ drop (a + k) old
-  written_further k fit is =
-      let front : length (take a from) ≡ a = length-take-le a from within in
-      let start : take a (take a from ++ drop a old) ≡ take a from = take_at (take a from) (drop a old) a front in
-      let end : drop (a + k) (take a from ++ drop a old) ≡ drop (a + k) old =
-      sym (drop-drop k a (take a from ++ drop a old)) ∙ ap (drop k) (drop_at (take a from) (drop a old) a front) ∙ drop-drop k a old in
-      written_part to (take a from ++ drop a old) (take k (drop a from)) part a (length to - a) k done is (omega arith) (omega arith)
-      ∙ ap (λ l. l ++ take k (drop a from) ++ drop (a + k) (take a from ++ drop a old)) start
-      ∙ ap (λ l. take a from ++ take k (drop a from) ++ l) end
-      ∙ ap (λ l. l ++ drop (a + k) old) (sym (take-add a k from))
-
-  rest_len : length rest ≡ length from - a
-  rest_len = length-part from a (length from - a) (omega arith)
-
-  pub rest_whole : rest ≡ drop a from
-  rest_whole = take_all (length from - a) (drop a from) (omega (arith, length-drop a from))
-
-  pub written_block : (k : ℕ) → k ≤ length rest → part ≡ take k rest ++ drop k lent
-      → (a + k ≤ length from) × (written ≡ take (a + k) from ++ drop (a + k) old)
-  written_block k fit is =
-      let fits_behind : a + k ≤ length from = omega (arith, fit, rest_len) in
-      (fits_behind, written_further k fits_behind (is ∙ ap (λ l. take k l ++ drop k lent) rest_whole))
-
-  -- all were written
-  pub written_whole : part ≡ rest ++ drop (length rest) lent → written ≡ from ++ drop (length from) old
-  written_whole is =
-      let all : a + (length from - a) ≡ length from = omega arith in
-      written_further (length from - a) (omega arith) (is ∙ ap (λ n. rest ++ drop n lent) rest_len)
-      ∙ ap (λ n. take n from ++ drop n old) all ∙ ap (λ l. l ++ drop (length from) old) (take_all (length from) from (le_refl _))
-
-  -- a clone was refused
-  pub written_in_part : (I : X → Type 0) → (j : ℕ) × RefusedAt I rest j × (part ≡ take j rest ++ drop j lent)
-      → (j : ℕ) × RefusedAt I from j × (written ≡ take j from ++ drop j old)
-  written_in_part I found =
-      let j : ℕ = found.0 in
-      let below : j < length rest = found.1.0 in
-      let refused : HoldsAt (λ x. ¬ (I x)) from (a + j) =
-      λ d. subst (λ x. ¬ (I x)) (ap (λ l. get_or l j d) rest_whole ∙ get_or-drop a from j d) (found.1.1 d) in (
-        a + j,
-        (omega (arith, below, rest_len), refused),
-        (written_block j (omega (arith, below)) found.2).1,
-      )
-
 -- a list that was made longer by writes over its spare slots
-pub grown : {T : Type 0} (D : T → Type 0) (old : Slots T) (ws xs : List T) (n : ℕ) → old.len ≤ length (all_slots old) → old.len + length ws ≡ n
-    → xs ≡ items old ++ ws ++ drop n (all_slots old) → SlotRule D old (split_at n xs)
-grown D old ws xs n fits ends is =
-    let front : length (items old ++ ws) ≡ n = length-append (items old) ws ∙ ap (λ k. k + length ws) (length-take-le old.len (all_slots old) fits) ∙ ends in
-    let listed : take n xs ≡ items old ++ ws = ap (take n) is ∙ take_at (items old ++ ws) (drop n (all_slots old)) n front in
-    let behind : drop n xs ≡ drop (length ws) (spare old) =
-    ap (drop n) is ∙ drop_at (items old ++ ws) (drop n (all_slots old)) n front
-    ∙ sym (drop-drop (length ws) old.len (all_slots old) ∙ ap (λ k. drop k (all_slots old)) ends) in
-    slots_used D old (split_at n xs) (length ws) (ap length listed ∙ length-append (items old) ws) behind
+module _ {T : Type 0} (old : Slots T) (ws xs : List T) (n : ℕ) (fits : old.len ≤ length (all_slots old)) (ends : old.len + length ws ≡ n)
+    (is : xs ≡ items old ++ ws ++ drop n (all_slots old)) where
+  front : length (items old ++ ws) ≡ n
+  front = length-append (items old) ws ∙ ap (λ k. k + length ws) (length-take-le old.len (all_slots old) fits) ∙ ends
+
+  pub grown_items : take n xs ≡ items old ++ ws
+  grown_items = ap (take n) is ∙ take_at (items old ++ ws) (drop n (all_slots old)) n front
+
+  pub grown : (D : T → Type 0) → SlotRule D old (split_at n xs)
+  grown D =
+      let behind : drop n xs ≡ drop (length ws) (spare old) =
+      ap (drop n) is ∙ drop_at (items old ++ ws) (drop n (all_slots old)) n front
+      ∙ sym (drop-drop (length ws) old.len (all_slots old) ∙ ap (λ k. drop k (all_slots old)) ends) in
+      slots_used D old (split_at n xs) (length ws) (ap length grown_items ∙ length-append (items old) ws) behind

@@ -1,10 +1,10 @@
 -- Calls of `next` and `next_back` take from the two ends, by whatever word they follow.
-use Rattle.std.proofs.Common.{◌≡◌, ℕ, zero, suc, ◌+◌, ◌-◌, ◌≤◌, min, List, [], ◌∷◌, ◌++◌, length, take, drop, slice_range, Option, Some, None, map, replicate, refl, sym, ap, subst, ◌∙◌, arith, rules, add-one, length-append, length-drop, length-take, take_all}
+use Rattle.std.proofs.Common.{◌≡◌, ℕ, zero, suc, ◌+◌, ◌-◌, ◌≤◌, min, List, [], ◌∷◌, ◌++◌, length, get_or, take, drop, slice_range, Option, Some, None, map, replicate, refl, sym, ap, subst, ◌∙◌, arith, rules, add-one, length-append, length-drop, length-take, take_all}
 use Rattle.std.specs.Prelude.{reverse}
 use Rattle.std.specs.Iterator.{YieldsFirst, YieldsLast}
 use Rattle.std.specs.Option.{option_to_list}
-use Rattle.std.proofs.lemmas.List.{reverse-append, take-append-le, drop-append-le, drop_all}
-use Rattle.tinyvec_slots.specs.Ends.{End, front, back, fronts, backs, GivenByWord, TakesFromEnds, Asks, given_items}
+use Rattle.std.proofs.lemmas.List.{take_more, reverse-append, take-append-le, drop-append-le, drop_all}
+use Rattle.tinyvec_slots.specs.Ends.{End, front, back, fronts, backs, from_front, from_back, GivenByWord, TakesFromEnds, Asks, given_items, answered_by, taken, untaken}
 
 -- each letter is one or the other
 pub fronts-backs : (word : List End) → fronts word + backs word ≡ length word
@@ -147,6 +147,64 @@ items_given {T} xs word answers left h =
     among : (given : List T) (n : ℕ) → given_items (map Some given ++ replicate n None) ≡ given
     among [] n = none n
     among (x ∷ given) n = ap (λ l. x ∷ l) (among given n)
+
+-- what a word takes is one list, and what it leaves is another
+module _ {T : Type 0} where
+  given_once : (word : List End) (given other : List T) → length given ≡ length other → length given ≤ length word
+      → from_front word given ≡ from_front word other → from_back word given ≡ from_back word other → given ≡ other
+  given_once word [] [] same within first last = refl
+  given_once word [] (y ∷ other) same within first last = absurd (omega arith)
+  given_once word (x ∷ given) [] same within first last = absurd (omega arith)
+  given_once [] (x ∷ given) (y ∷ other) same within first last = absurd (omega arith)
+  given_once (front ∷ word) (x ∷ given) (y ∷ other) same within first last =
+      let rest = given_once word given other (omega (arith, same)) (omega (arith, within)) (cc) last in
+      cc
+  given_once (back ∷ word) (x ∷ given) (y ∷ other) same within first last =
+      let rest = given_once word given other (omega (arith, same)) (omega (arith, within)) first (cc) in
+      cc
+
+  one_given : (xs : List T) (word : List End) (given other : List T) → GivenByWord xs word given → GivenByWord xs word other → given ≡ other
+  one_given xs word given other h k =
+      let same : length given ≡ length other = h.count ∙ sym k.count in
+      given_once word given other same (omega (arith, h.count))
+      (h.first ∙ ap (λ n. take (fronts (take n word)) xs) same ∙ sym k.first)
+      (h.last ∙ ap (λ n. reverse (drop (length xs - backs (take n word)) xs)) same ∙ sym k.last)
+
+  -- the list behind its last item, and that item
+  init_last : (x : T) (xs : List T) → take (length xs) (x ∷ xs) ++ get_or (x ∷ xs) (length xs) x ∷ [] ≡ x ∷ xs
+  init_last x xs = sym (take_more (x ∷ xs) (length xs) x (omega arith)) ∙ take_all (length xs + 1) (x ∷ xs) (omega arith)
+
+  takes_by : (word : List End) (xs : List T) → TakesFromEnds xs word (answered_by word xs) (untaken word xs)
+  takes_by [] xs = TakesFromEnds-nil xs
+  takes_by (front ∷ word) [] = TakesFromEnds-none word front (answered_by word []) (untaken word []) (takes_by word [])
+  takes_by (back ∷ word) [] = TakesFromEnds-none word back (answered_by word []) (untaken word []) (takes_by word [])
+  takes_by (front ∷ word) (x ∷ xs) = TakesFromEnds-front x xs word (answered_by word xs) (untaken word xs) (takes_by word xs)
+  takes_by (back ∷ word) (x ∷ xs) =
+      let init = take (length xs) (x ∷ xs) in
+      let last = get_or (x ∷ xs) (length xs) x in
+      subst (λ l. TakesFromEnds l (back ∷ word) (Some last ∷ answered_by word init) (untaken word init)) (init_last x xs)
+      (TakesFromEnds-back last init word (answered_by word init) (untaken word init) (takes_by word init))
+
+  -- what a word takes, computed
+  pub given_is_taken : (xs : List T) (word : List End) (given : List T) → GivenByWord xs word given → given ≡ taken word xs
+  given_is_taken xs word given h =
+      one_given xs word given (taken word xs) h (items_given xs word (answered_by word xs) (untaken word xs) (takes_by word xs))
+
+  -- what it leaves, computed
+  pub left_is_untaken : (xs : List T) (word : List End) (answers : List (Option T)) (left : List T)
+      → TakesFromEnds xs word answers left → left ≡ untaken word xs
+  left_is_untaken xs word answers left h =
+      let k = takes_by word xs in
+      let same = one_given xs word h.given k.given h.by_word k.by_word in
+      h.middle ∙ ap (λ given. slice_range xs (fronts (take (length given) word)) (length xs - backs (take (length given) word))) same ∙ sym k.middle
+
+  -- and how its letters are answered
+  pub answers_are : (xs : List T) (word : List End) (answers : List (Option T)) (left : List T)
+      → TakesFromEnds xs word answers left → answers ≡ answered_by word xs
+  answers_are xs word answers left h =
+      let k = takes_by word xs in
+      let same = one_given xs word h.given k.given h.by_word k.by_word in
+      h.answered ∙ ap (λ given. map Some given ++ replicate (length word - length given) None) same ∙ sym k.answered
 
 -- one letter more, asked after a word
 module _ {S T : Type 0} (gives gives_back : S → Option T → S → Type 0) where

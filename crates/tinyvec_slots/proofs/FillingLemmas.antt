@@ -1,8 +1,9 @@
 -- Lemmas on items that are placed one by one.
-use Rattle.std.proofs.Common.{◌≡◌, ℕ, ◌+◌, ◌-◌, ◌<◌, ◌≤◌, List, ◌∷◌, ◌++◌, [], Option, Some, None, length, get_or, take, drop, set, inl, inr, sym, ap, ◌∙◌, arith, rules, length-take, length-drop, drop-set-lt, append-nil, take_at}
+use Rattle.std.proofs.Common.{◌≡◌, ℕ, ◌+◌, ◌-◌, ◌<◌, ◌≤◌, List, ◌∷◌, ◌++◌, [], Option, Some, None, length, get_or, take, drop, set, inl, inr, sym, ap, ◌∙◌, arith, rules, length-take, length-drop, length-append, drop-set-lt, append-nil, take_at, map, map-id}
 use Rattle.std.proofs.lemmas.Bool.{cases_lt}
 use Rattle.std.proofs.lemmas.List.{drop-drop, drop_at, drop_all, take_all, get_or-drop, length_push, take_more}
-use Rattle.std.specs.Iterator.{Yields, YieldsThen}
+use Rattle.std.proofs.iter.Yields.{gives_left, gives_Drains}
+use Rattle.std.specs.Iterator.{Yields, YieldsThen, AlwaysYields}
 use Rattle.tinyvec_slots.specs.Filling.{YieldsUpTo, ShowsItems}
 use Rattle.tinyvec_slots.specs.Slots.{Slots, Frees, SlotRule, items, spare, items_len}
 use Rattle.tinyvec_slots.proofs.SlotsLemmas.{slots_used, slots_freed}
@@ -106,3 +107,21 @@ module _ {X : Type 0} (n : ℕ) (xs : List X) where
 
   pub no_longer : drop n xs ≡ [] → length xs ≤ n
   no_longer e = omega (arith, ap length e, length-drop n xs)
+
+-- of an iterator each of whose runs gives the same list
+module _ {S A : Type 0} (steps : S → Option A → S → Type 0) (all : List A) (s : S) (yields : AlwaysYields steps (λ x. x) s all) (xs : List A) (u : S) where
+  -- what came before `None` is the list
+  pub drained_all : YieldsThen steps s xs None u → xs ≡ all
+  drained_all run = sym (map-id xs) ∙ gives_Drains steps (λ x. x) xs all s yields (u, run)
+
+  more_left : (t : S) (x : A) (more : List A) → AlwaysYields steps (λ x. x) t more → steps t (Some x) u → 0 < length more
+  more_left t x [] left step = absurd (left x u step)
+  more_left t x (y ∷ more) left step = omega arith
+
+  -- and before an item came fewer
+  pub refused_early : (x : A) → YieldsThen steps s xs (Some x) u → length xs < length all
+  refused_early x run =
+      let left = gives_left steps (λ x. x) xs all s run.0 yields run.1 in
+      let some = more_left run.0 x left.0 left.2 run.2 in
+      let long = ap length left.1 ∙ length-append (map (λ x. x) xs) left.0 in
+      omega (arith, some, long, ap length (map-id xs))

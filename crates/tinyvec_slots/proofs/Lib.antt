@@ -1,8 +1,12 @@
 pub mod Lists
 pub mod SlotsLemmas
+pub mod BorderLemmas
 pub mod EndsLemmas
+pub mod DrainsLemmas
 pub mod LastStateLemmas
 pub mod FiltersLemmas
 pub mod CloneLemmas
+pub mod ClonesOverLemmas
 pub mod CloneFromLemmas
 pub mod FillingLemmas
+pub mod Walks

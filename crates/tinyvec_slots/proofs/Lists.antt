@@ -12,8 +12,8 @@ module _ {X : Type 0} where
   drop-put xs n x = drop-set-lt (n + 1) xs n x (omega arith) ∙ sym (drop-drop 1 n xs)
 
   -- what the last item before n was replaced by stands before the items from n on
-  pub drop-emptied : (xs : List X) (n : ℕ) (d : X) → 0 < n → n ≤ length xs → drop (n - 1) (set xs (n - 1) d) ≡ d ∷ drop n xs
-  drop-emptied xs n d pos le = same_lists _ _ (search (rules, places)) (λ k e h. grind (arith, places, get_or-set_same, cases_eq k 0))
+  pub drop-vacated : (xs : List X) (n : ℕ) (d : X) → 0 < n → n ≤ length xs → drop (n - 1) (set xs (n - 1) d) ≡ d ∷ drop n xs
+  drop-vacated xs n d pos le = same_lists _ _ (search (rules, places)) (λ k e h. grind (arith, places, get_or-set_same, cases_eq k 0))
 
   -- a write at the first place of a range leaves the rest of the range
   pub slice_range_first : (xs : List X) (i j : ℕ) (x d : X) → i < j → j ≤ length xs
@@ -35,7 +35,7 @@ module _ {X : Type 0} where
 
   -- what lies from the written place on
   pub drop_from_set : (xs : List X) (j k : ℕ) (y : X) → 0 < j → j ≤ length xs → j ≡ k → drop (j - 1) (set xs (j - 1) y) ≡ y ∷ drop k xs
-  drop_from_set xs j k y pos le same = drop-emptied xs j y pos le ∙ ap (λ n. y ∷ drop n xs) same
+  drop_from_set xs j k y pos le same = drop-vacated xs j y pos le ∙ ap (λ n. y ∷ drop n xs) same
 
 module _ {X : Type 0} (B M S : List X) (k n : ℕ) (long-B : length B ≡ k) (long-M : length M ≡ n) where
   -- three parts of a list, cut apart
@@ -115,9 +115,9 @@ module _ {X : Type 0} (xs ys : List X) (n : ℕ) (fits : n ≤ length xs) (apart
       ∙ ap (λ l. drop c xs ++ l) (ap (λ l. zs ++ l) none ∙ append-nil zs ∙ turned ∙ joined)
 
 -- what is put in is the same after it changed places with the item that it stood before
-pub insert_carried : {X : Type 0} (xs : List X) (i : ℕ) (x y : X) → i < length xs → y ≡ get_or xs i y
+pub insert_shifted : {X : Type 0} (xs : List X) (i : ℕ) (x y : X) → i < length xs → y ≡ get_or xs i y
     → insert (set xs i x) (i + 1) y ≡ insert xs i x
-insert_carried xs i x y lt is =
+insert_shifted xs i x y lt is =
     let right : drop (i + 1) (set xs i x) ≡ drop (i + 1) xs = drop-set-lt (i + 1) xs i x (omega arith) in
     let left : take (i + 1) (set xs i x) ≡ take i xs ++ x ∷ [] = same_lists _ _ (search (rules, places)) (λ k e h. grind (arith, places, get_or-set_same, cases_eq k i)) in
     let rest : drop i xs ≡ y ∷ drop (i + 1) xs = drop_more xs i y lt ∙ ap (λ z. z ∷ drop (i + 1) xs) (sym is) in
@@ -153,9 +153,9 @@ drop-removed xs i n d lt le =
     drop_at (remove (take n xs) i) (d ∷ drop n xs) (n - 1) long-new
 
 -- the same downwards
-pub insert_carried_down : {X : Type 0} (xs : List X) (i : ℕ) (x y : X) → i < length xs → y ≡ get_or xs i y
+pub insert_shifted_down : {X : Type 0} (xs : List X) (i : ℕ) (x y : X) → i < length xs → y ≡ get_or xs i y
     → insert (set xs i x) i y ≡ insert xs (i + 1) x
-insert_carried_down xs i x y lt is =
+insert_shifted_down xs i x y lt is =
     let long = length-set xs i x in
     let right : drop i (set xs i x) ≡ x ∷ drop (i + 1) xs = same_lists _ _ (search (rules, places)) (λ k e h. grind (arith, places, get_or-set_same, cases_eq k 0)) in
     let left : take i (set xs i x) ≡ take i xs = same_lists _ _ (search (rules, places)) (λ k e h. grind (arith, places)) in

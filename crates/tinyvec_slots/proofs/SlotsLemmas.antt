@@ -39,7 +39,7 @@ module _ {T : Type 0} (D : T → Type 0) (old new : Slots T) where
       let none : items_len new - items_len old ≡ 0 = omega arith in
       (h.0, (h.1.0 ∙ sym fewer, h.1.1), h.2 ∙ ap (λ n. h.0 ++ drop n (spare old)) (sym none))
 
--- what two calls gave up, one after the other
+-- what two calls vacated, one after the other
 pub Frees-more : {T : Type 0} (D : T → Type 0) (old mid new : Slots T) (j k : ℕ) → Frees D j old mid → Frees D k mid new → Frees D (j + k) old new
 Frees-more D old mid new j k first then =
     let sum : length (then.0 ++ first.0) ≡ j + k = length-append then.0 first.0 ∙ omega (arith, first.1.0, then.1.0) in
@@ -54,3 +54,7 @@ module _ {T : Type 0} (D : T → Type 0) (c : T) (only : (x : T) → D x → x �
 
   pub freed : (n : ℕ) (old new : Slots T) → Frees D n old new → spare new ≡ replicate n c ++ spare old
   freed n old new h = h.2 ∙ ap (λ ds. ds ++ spare old) (defaults_are n h.0 h.1)
+
+-- the vacated slots of numbers hold zeros
+pub zeros_are : {T : Type 0} (zero : T) (n : ℕ) (xs : List T) → AreDefaults (λ x. x ≡ zero) n xs → xs ≡ replicate n zero
+zeros_are zero = defaults_are (λ x. x ≡ zero) zero (λ x h. h)

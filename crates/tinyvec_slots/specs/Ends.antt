@@ -1,5 +1,5 @@
 -- Taking from the two ends of a list, by a word of ends.
-use Rattle.std.specs.Prelude.{◌≡◌, ℕ, ◌+◌, ◌-◌, min, List, [], ◌∷◌, ◌++◌, length, take, drop, reverse, slice_range, map, replicate, Option, Some, None}
+use Rattle.std.specs.Prelude.{◌≡◌, ℕ, ◌+◌, ◌-◌, min, List, [], ◌∷◌, ◌++◌, length, get_or, take, drop, reverse, slice_range, map, replicate, Option, Some, None}
 
 pub data End : Type 0 where
   front : End
@@ -51,6 +51,24 @@ abbrev pub given_items : {T : Type 0} → List (Option T) → List T
 given_items [] = []
 given_items (None ∷ answers) = given_items answers
 given_items (Some x ∷ answers) = x ∷ given_items answers
+
+-- The same by recursion on the word, so that it computes for a given word: how the letters are answered as they take from
+-- xs, the items that they take, and those that they leave.
+module _ {T : Type 0} where
+  abbrev pub answered_by : List End → List T → List (Option T)
+  answered_by [] xs = []
+  answered_by (e ∷ word) [] = None ∷ answered_by word []
+  answered_by (front ∷ word) (x ∷ xs) = Some x ∷ answered_by word xs
+  answered_by (back ∷ word) (x ∷ xs) = Some (get_or (x ∷ xs) (length xs) x) ∷ answered_by word (take (length xs) (x ∷ xs))
+
+  abbrev pub taken : List End → List T → List T
+  taken word xs = given_items (answered_by word xs)
+
+  abbrev pub untaken : List End → List T → List T
+  untaken [] xs = xs
+  untaken (e ∷ word) [] = untaken word []
+  untaken (front ∷ word) (x ∷ xs) = untaken word xs
+  untaken (back ∷ word) (x ∷ xs) = untaken word (take (length xs) (x ∷ xs))
 
 -- Calls of `next` and `next_back`, by the letters of a word, took `from` to `to` and were answered so.
 module _ {S T : Type 0} (gives gives_back : S → Option T → S → Type 0) where

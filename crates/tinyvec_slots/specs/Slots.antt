@@ -37,7 +37,7 @@ module _ {T : Type 0} where
   abbrev pub split_at : ℕ → List T → Slots T
   split_at n xs = record { slots = xs; len = n }
 
-  -- the n slots that the list gave up stand, as defaults, before the old spare slots
+  -- the n vacated slots stand, as defaults, before the old spare slots
   abbrev pub Frees : (T → Type 0) → ℕ → Slots T → Slots T → Type 0
   Frees D n old new = (ds : List T) × AreDefaults D n ds × (spare new ≡ ds ++ spare old)
 

@@ -1,7 +1,7 @@
 //! Clones written into slots.
-ghost use Rattle.std.specs.Prelude.{◌≡◌, ◌<◌, ◌≤◌, ◌++◌, ℕ, All, length, drop, take, replicate, IsOk, OnOk, OnErr};
+ghost use Rattle.std.specs.Prelude.{◌≡◌, ◌<◌, ◌≤◌, ℕ, All, length, take, replicate, IsOk, OnOk, OnErr};
 ghost use Rattle.std.specs.Bool.{MatchBool};
-ghost use Rattle.tinyvec_slots.specs.Clones.{RefusedAt};
+ghost use Rattle.tinyvec_slots.specs.Clones.{RefusedAt, ClonesOver};
 
 use std::alloc::AllocError;
 use std::mem;
@@ -9,9 +9,9 @@ use std::mem;
 /// Writes clones of `from` over the first slots of `to`.
 pub fn clone_over<T: Clone>(to: &mut [T], from: &[T]) -> Result<(), AllocError>
     requires fits { length from.now ≤ length to.old }
-    requires clones { (x y : T) → T.is_clone x y → y ≡ x }
-    ensures ok { OnOk result (to.new ≡ from.now ++ drop (length from.now) to.old) }
-    ensures refused { OnErr result ((j : ℕ) × RefusedAt T.is_infallible from.now j × (to.new ≡ take j from.now ++ drop j to.old)) }
+    ensures ok { OnOk result (ClonesOver T.is_clone from.now (length from.now) to.old to.new) }
+    ensures refused { OnErr result ((j : ℕ) × RefusedAt T.is_infallible from.now j
+        × ClonesOver T.is_clone (take j from.now) j to.old to.new) }
     ensures len { length to.new ≡ length to.old }
     ensures succeeds { All T.is_infallible from.now → IsOk result }
 {
@@ -23,9 +23,9 @@ pub fn clone_over<T: Clone>(to: &mut [T], from: &[T]) -> Result<(), AllocError>
 /// move of memory.
 pub fn clone_each<T: Clone>(to: &mut [T], from: &[T]) -> Result<(), AllocError>
     requires fits { length from.now ≤ length to.old }
-    requires clones { (x y : T) → T.is_clone x y → y ≡ x }
-    ensures ok { OnOk result (to.new ≡ from.now ++ drop (length from.now) to.old) }
-    ensures refused { OnErr result ((j : ℕ) × RefusedAt T.is_infallible from.now j × (to.new ≡ take j from.now ++ drop j to.old)) }
+    ensures ok { OnOk result (ClonesOver T.is_clone from.now (length from.now) to.old to.new) }
+    ensures refused { OnErr result ((j : ℕ) × RefusedAt T.is_infallible from.now j
+        × ClonesOver T.is_clone (take j from.now) j to.old to.new) }
     ensures len { length to.new ≡ length to.old }
     ensures succeeds { All T.is_infallible from.now → IsOk result }
 {
@@ -39,9 +39,8 @@ pub fn clone_each<T: Clone>(to: &mut [T], from: &[T]) -> Result<(), AllocError>
 // that the compiler moves blocks of numbers as a whole.
 fn clone_blocks<T: Clone>(to: &mut [T], from: &[T]) -> usize
     requires fits { length from.now ≤ length to.old }
-    requires clones { (x y : T) → T.is_clone x y → y ≡ x }
     ensures within { result ≤ length from.now }
-    ensures cloned { to.new ≡ take result from.now ++ drop result to.old }
+    ensures cloned { ClonesOver T.is_clone (take result from.now) result to.old to.new }
     ensures len { length to.new ≡ length to.old }
 {
     // A block is made on the stack, which large items would fill.
@@ -57,9 +56,8 @@ fn clone_blocks<T: Clone>(to: &mut [T], from: &[T]) -> usize
 fn clone_blocks_of<T: Clone, const N: usize>(to: &mut [T], from: &[T]) -> usize
     requires some { 0 < N }
     requires fits { length from.now ≤ length to.old }
-    requires clones { (x y : T) → T.is_clone x y → y ≡ x }
     ensures within { result ≤ length from.now }
-    ensures cloned { to.new ≡ take result from.now ++ drop result to.old }
+    ensures cloned { ClonesOver T.is_clone (take result from.now) result to.old to.new }
     ensures len { length to.new ≡ length to.old }
 {
     let mut done = 0;
@@ -74,8 +72,7 @@ fn clone_blocks_of<T: Clone, const N: usize>(to: &mut [T], from: &[T]) -> usize
 fn clone_block<T: Clone, const N: usize>(to: &mut [T], from: &[T]) -> bool
     requires enough { N ≤ length from.now }
     requires fits { length from.now ≤ length to.old }
-    requires clones { (x y : T) → T.is_clone x y → y ≡ x }
-    ensures cloned { MatchBool result (to.new ≡ take N from.now ++ drop N to.old) (to.new ≡ to.old) }
+    ensures cloned { MatchBool result (ClonesOver T.is_clone (take N from.now) N to.old to.new) (to.new ≡ to.old) }
     ensures len { length to.new ≡ length to.old }
 {
     // It tells the proof that so many items fit in memory.
@@ -95,9 +92,9 @@ fn clone_block<T: Clone, const N: usize>(to: &mut [T], from: &[T]) -> bool
 
 /// Writes a clone of `x` into each slot.
 pub fn clone_through<T: Clone>(to: &mut [T], x: &T) -> Result<(), AllocError>
-    requires clones { (x y : T) → T.is_clone x y → y ≡ x }
-    ensures ok { OnOk result (to.new ≡ replicate (length to.old) x.now) }
-    ensures refused { OnErr result ((j : ℕ) × (j < length to.old) × ¬ (T.is_infallible x.now) × (to.new ≡ replicate j x.now ++ drop j to.old)) }
+    ensures ok { OnOk result (ClonesOver T.is_clone (replicate (length to.old) x.now) (length to.old) to.old to.new) }
+    ensures refused { OnErr result ((j : ℕ) × (j < length to.old) × ¬ (T.is_infallible x.now)
+        × ClonesOver T.is_clone (replicate j x.now) j to.old to.new) }
     ensures len { length to.new ≡ length to.old }
     ensures succeeds { T.is_infallible x.now → IsOk result }
 {

@@ -1,7 +1,6 @@
 //! What the vectors of this workspace share: the range rule, what they do to a slice of slots, and what refusals hand back.
 #![tactic(auto)]
 
-mod carrying;
 mod cloning;
 mod filtering;
 mod moving;
@@ -9,8 +8,8 @@ mod no_memory;
 mod no_room;
 mod range;
 mod resetting;
+mod shifting;
 
-pub use carrying::{are_few, insert_carrying, remove_carrying};
 pub use cloning::{clone_each, clone_over, clone_through};
 pub use filtering::{dedup_in_front, dedup_keys_in_front, retain_in_front, retain_mut_in_front};
 pub use moving::{last_to, move_to_end, part_to_end};
@@ -18,3 +17,4 @@ pub use no_memory::NoMemory;
 pub use no_room::{FromIterRest, NoRoom, SpliceRest};
 pub use range::resolve;
 pub use resetting::reset;
+pub use shifting::{are_few, insert_shifting, remove_shifting};

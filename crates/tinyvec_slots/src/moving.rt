@@ -2,7 +2,7 @@
 ghost use Rattle.std.specs.Prelude.{◌≡◌, ◌-◌, ◌<◌, ◌≤◌, List, [], ◌∷◌, ◌++◌, length, take, drop, slice_range, insert};
 ghost use Rattle.std.specs.List.{remove_range};
 
-use crate::carrying::are_few;
+use crate::shifting::are_few;
 
 /// Moves the items from `start` up to `end` behind the others.
 pub fn move_to_end<T>(items: &mut [T], start: usize, end: usize)
@@ -15,7 +15,7 @@ pub fn move_to_end<T>(items: &mut [T], start: usize, end: usize)
     }
     // A rotation clears a room of its own first, unless it goes by one. For few items that costs more than swaps.
     if end - start != 1 && are_few(items.len() - start) {
-        turn(&mut items[start..], end - start);
+        rotate_few(&mut items[start..], end - start);
         return;
     }
     items[start..].rotate_left(end - start);
@@ -23,7 +23,7 @@ pub fn move_to_end<T>(items: &mut [T], start: usize, end: usize)
 
 // Moves the first `count` items behind the others. The shorter side changes places with as many items at the other end,
 // which then stand where they belong, until a side is empty.
-fn turn<T>(items: &mut [T], count: usize)
+fn rotate_few<T>(items: &mut [T], count: usize)
     requires { count ≤ length items.old }
     ensures { items.new ≡ drop count items.old ++ take count items.old }
 {
@@ -33,17 +33,19 @@ fn turn<T>(items: &mut [T], count: usize)
     }
     if count <= rest {
         swap_ends(items, count);
-        turn(&mut items[..rest], count);
+        rotate_few(&mut items[..rest], count);
     } else {
         swap_ends(items, rest);
-        turn(&mut items[rest..], count - rest);
+        rotate_few(&mut items[rest..], count - rest);
     }
 }
 
 // Swaps the first `count` items with the last ones.
 fn swap_ends<T>(items: &mut [T], count: usize)
     requires { count ≤ length items.old - count }
-    ensures { items.new ≡ drop (length items.old - count) items.old ++ slice_range items.old count (length items.old - count) ++ take count items.old }
+    ensures { items.new
+        ≡ drop (length items.old - count) items.old ++ slice_range items.old count (length items.old - count)
+        ++ take count items.old }
 {
     let border = items.len() - count;
     let (front, back) = items.split_at_mut(border);
@@ -55,7 +57,9 @@ pub fn part_to_end<T>(slots: &mut [T], start: usize, end: usize, len: usize)
     requires start_le_end { start ≤ end }
     requires in_list { end ≤ len }
     requires in_bounds { len ≤ length slots.old }
-    ensures { slots.new ≡ remove_range (take len slots.old) start end ++ slice_range (take len slots.old) start end ++ drop len slots.old }
+    ensures { slots.new
+        ≡ remove_range (take len slots.old) start end ++ slice_range (take len slots.old) start end
+        ++ drop len slots.old }
 {
     move_to_end(&mut slots[..len], start, end);
 }
@@ -72,7 +76,8 @@ fn move_last<T>(items: &mut [T], index: usize)
 pub fn last_to<T>(slots: &mut [T], index: usize, len: usize)
     requires in_list { index < len }
     requires in_bounds { len ≤ length slots.old }
-    ensures { (front : List T) (last : T) → take len slots.old ≡ front ++ last ∷ [] → slots.new ≡ insert front index last ++ drop len slots.old }
+    ensures { (front : List T) (last : T) → take len slots.old ≡ front ++ last ∷ []
+        → slots.new ≡ insert front index last ++ drop len slots.old }
 {
     move_last(&mut slots[..len], index);
 }

@@ -1,5 +1,4 @@
 //! Clones, granted and refused.
-ghost use Rattle.std.specs.Prelude.{◌≡◌};
 
 use crate::looks::{lies, spares};
 use std::alloc::{AllocError, Global};
@@ -19,11 +18,17 @@ fn cloned(rt: HostRuntime) -> Result<(), Fail> {
 }
 
 #[test]
-fn clone_from_there_and_back(rt: HostRuntime) -> Result<(), Fail> {
+fn clone_from_longer(rt: HostRuntime) -> Result<(), Fail> {
     let mut v = TinyVec::from_array_len(rt.alloc(), [1, 0], 1);
-    let source: TinyVec<[i32; 2]> = TinyVec::from_slice(rt.alloc(), &[7, 8, 9])?;
+    let source = TinyVec::from_slice(rt.alloc(), &[7, 8, 9])?;
     v.clone_from(&source)?;
     assert!(rt; lies(&v, &[7, 8, 9], false));
+    Ok(())
+}
+
+#[test]
+fn clone_from_shorter_on_the_heap(rt: HostRuntime) -> Result<(), Fail> {
+    let mut v: TinyVec<[i32; 2]> = TinyVec::from_slice(rt.alloc(), &[7, 8, 9])?;
     v.clone_from(&TinyVec::from_array_len(rt.alloc(), [5, 0], 1))?;
     assert!(rt; lies(&v, &[5], false));
     Ok(())

@@ -1,16 +1,28 @@
 //! Tests of the drain.
-ghost use Rattle.std.specs.Prelude.{◌≤◌};
+ghost use Rattle.std.specs.Prelude.{◌≡◌, ◌≤◌, IfOk};
 ghost use Rattle.tinyvec_slots.specs.Cut.{range_start, range_end};
+ghost use Rattle.tinyvec.specs.Tiny.{tiny_len};
 
 use crate::looks::{lies, spares};
-use std::alloc::AllocGlobal;
+use std::alloc::{AllocError, AllocGlobal, Global};
 use std::mem;
 use std::ops::{Bound, RangeBounds};
 use std::process::Abort;
 use std::test::Fail;
 use tinyvec::{ArrayVec, TinyVec};
 
-// Drains the range of `[1, 2, 3]`, inline in ten slots or on the heap.
+// `[1, 2, 3]`, inline in ten slots or on the heap.
+fn one_two_three(alloc: Global, inline: bool) -> Result<TinyVec<[i32; 10]>, AllocError>
+    ensures { IfOk result (λ v. tiny_len v ≡ 3) }
+{
+    let mut v = TinyVec::from_array_len(alloc, [1, 2, 3, 0, 0, 0, 0, 0, 0, 0], 3);
+    if !inline {
+        v.move_to_the_heap()?;
+    }
+    Ok(v)
+}
+
+// Drains the range of these.
 fn drains<R: RangeBounds<usize>>(
     rt: &(impl Abort + AllocGlobal),
     inline: bool,
@@ -22,14 +34,8 @@ fn drains<R: RangeBounds<usize>>(
     requires start_le_end { range_start (R.start_bound range) ≤ range_end (R.end_bound range) 3 }
     requires in_list { range_end (R.end_bound range) 3 ≤ 3 }
 {
-    let mut v = TinyVec::from_array_len(rt.alloc(), [1, 2, 3, 0, 0, 0, 0, 0, 0, 0], 3);
-    if !inline {
-        v.move_to_the_heap()?;
-    }
+    let mut v = one_two_three(rt.alloc(), inline)?;
     let room = v.capacity();
-    if v.len() != 3 {
-        panic!(rt; "there are three items");
-    }
     let mut drained: ArrayVec<[i32; 3]> = ArrayVec::new();
     for item in v.drain(range) {
         assert!(rt; drained.try_push(item).is_none());
@@ -96,11 +102,8 @@ fn never_asked(rt: HostRuntime) -> Result<(), Fail> {
 }
 
 #[test]
-fn from_both_ends_to_none(rt: HostRuntime) -> Result<(), Fail> {
+fn from_both_ends(rt: HostRuntime) -> Result<(), Fail> {
     let mut v: TinyVec<[i32; 4]> = TinyVec::from_slice(rt.alloc(), &[0, 1, 2, 3, 4, 5, 6, 7])?;
-    if v.len() != 8 {
-        panic!(rt; "there are eight items");
-    }
     let mut d = v.drain(1..);
     assert!(rt; d.len() == 7);
     assert!(rt; d.size_hint() == (7, Some(7)));
@@ -109,12 +112,48 @@ fn from_both_ends_to_none(rt: HostRuntime) -> Result<(), Fail> {
     assert!(rt; d.nth(1) == Some(3));
     assert!(rt; d.nth_back(1) == Some(5));
     assert!(rt; d.len() == 1);
-    assert!(rt; d.next_back() == Some(4));
+    drop(d);
+    assert!(rt; lies(&v, &[0], false));
+    Ok(())
+}
+
+#[test]
+fn from_both_ends_to_none(rt: HostRuntime) -> Result<(), Fail> {
+    let mut v: TinyVec<[i32; 2]> = TinyVec::from_slice(rt.alloc(), &[0, 1, 2])?;
+    let mut d = v.drain(1..);
+    assert!(rt; d.next() == Some(1));
+    assert!(rt; d.next_back() == Some(2));
     assert!(rt; d.next() == None);
     assert!(rt; d.next_back() == None);
     assert!(rt; d.size_hint() == (0, Some(0)));
     drop(d);
     assert!(rt; lies(&v, &[0], false));
+    Ok(())
+}
+
+#[test]
+fn moved_behind_others(rt: HostRuntime) -> Result<(), Fail> {
+    for inline in [true, false] {
+        let mut v = TinyVec::from_array_len(rt.alloc(), [1, 2, 3, 4, 9], 4);
+        if !inline {
+            v.move_to_the_heap()?;
+        }
+        if v.len() != 4 {
+            panic!(rt; "there are four items");
+        }
+        let mut out = Vec::with_capacity(rt.alloc(), 5)?;
+        out.push(7)?;
+        v.drain_into(1..3, &mut out);
+        assert!(rt; out.as_slice() == [7, 2, 3].as_slice());
+        assert!(rt; lies(&v, &[1, 4], inline));
+        v.drain_into(1..1, &mut out);
+        assert!(rt; lies(&v, &[1, 4], inline));
+        v.drain_into(.., &mut out);
+        assert!(rt; out.as_slice() == [7, 2, 3, 1, 4].as_slice());
+        assert!(rt; lies(&v, &[], inline));
+        assert!(rt; spares(&v, &[0, 0, 0, 0, 9]) == inline);
+        assert!(rt; out.capacity() == 5);
+    }
     Ok(())
 }
 

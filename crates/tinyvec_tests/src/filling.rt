@@ -1,6 +1,4 @@
 //! Items taken from iterators, one by one.
-ghost use Rattle.std.specs.Prelude.{◌-◌};
-ghost use Rattle.std.specs.Iterator.{at_most};
 
 use crate::looks::{lies, spares};
 use std::test::Fail;
@@ -17,6 +15,29 @@ fn listed(rt: HostRuntime) {
     assert!(rt; lies(&v, &[1, 5, 6, 7, 8, 9], false));
     assert!(rt; v.extend(10..12).is_ok(), "memory was granted");
     assert!(rt; lies(&v, &[1, 5, 6, 7, 8, 9, 10, 11], false));
+}
+
+#[test]
+fn a_vec(rt: HostRuntime) -> Result<(), Fail> {
+    let mut v = TinyVec::from_array_len(rt.alloc(), [1, 0, 0, 9], 1);
+    assert!(rt; v.extend([2, 3].to_vec(rt.alloc())?).is_ok());
+    assert!(rt; lies(&v, &[1, 2, 3], true));
+    assert!(rt; spares(&v, &[9]));
+    assert!(rt;
+        v.extend([4, 5].to_vec(rt.alloc())?).is_ok(),
+        "memory was granted"
+    );
+    assert!(rt; lies(&v, &[1, 2, 3, 4, 5], false));
+    Ok(())
+}
+
+#[test]
+fn copies_of_a_slice(rt: HostRuntime) {
+    let mut v = TinyVec::from_array_len(rt.alloc(), [1, 0, 0], 1);
+    assert!(rt; v.extend([2, 3].iter().copied()).is_ok());
+    assert!(rt; lies(&v, &[1, 2, 3], true));
+    assert!(rt; v.extend([4].iter().copied()).is_ok(), "memory was granted");
+    assert!(rt; lies(&v, &[1, 2, 3, 4], false));
 }
 
 #[test]

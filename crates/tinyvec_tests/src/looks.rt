@@ -3,11 +3,10 @@ use tinyvec::TinyVec;
 
 // Whether these are the items, and lie there.
 pub(crate) fn lies<const N: usize>(v: &TinyVec<[i32; N]>, items: &[i32], inline: bool) -> bool {
-    v.as_slice() == items
-        && v.len() == items.len()
-        && v.is_empty() == items.is_empty()
-        && v.is_inline() == inline
-        && v.is_heap() != inline
+    // No branch, which would be one more case of each later step of the proof.
+    let place = (v.is_inline() == inline) & (v.is_heap() != inline);
+    let count = (v.len() == items.len()) & (v.is_empty() == items.is_empty());
+    place & count & (v.as_slice() == items)
 }
 
 // Whether the list is inline, before these spare slots.

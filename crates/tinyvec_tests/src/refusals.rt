@@ -589,3 +589,89 @@ fn append_what_owns(rt: HostRuntime) -> Result<(), Fail> {
     }
     Ok(())
 }
+
+// Each clone asks for memory too.
+type Letters = Option<Vec<u8>>;
+
+fn letters(alloc: Global, letter: u8) -> Result<Letters, AllocError> {
+    Ok(Some([letter].to_vec(alloc)?))
+}
+
+fn spells(items: &[Letters], word: &[u8]) -> bool {
+    items.len() == word.len()
+        && items.iter().zip(word).all(|(item, letter)| match item {
+            Some(text) => text.as_slice() == [*letter].as_slice(),
+            None => false,
+        })
+}
+
+#[test]
+fn clone_what_owns(rt: HostRuntime) -> Result<(), Fail> {
+    let items = [letters(rt.alloc(), 1)?, letters(rt.alloc(), 2)?];
+    let mut v = TinyVec::from_array(rt.alloc(), items);
+    match v.clone() {
+        Ok(copy) => {
+            v.clear();
+            assert!(rt; copy.is_inline());
+            assert!(rt; spells(copy.as_slice(), &[1, 2]));
+        }
+        Err(AllocError) => {
+            assert!(rt; spells(v.as_slice(), &[1, 2]));
+            refused(&rt)?;
+        }
+    }
+    Ok(())
+}
+
+#[test]
+fn extend_from_slice_what_owns(rt: HostRuntime) -> Result<(), Fail> {
+    let source = [
+        letters(rt.alloc(), 1)?,
+        letters(rt.alloc(), 2)?,
+        letters(rt.alloc(), 3)?,
+    ];
+    let mut v: TinyVec<[Letters; 2]> = TinyVec::new(rt.alloc());
+    match v.extend_from_slice(&source) {
+        Ok(()) => {
+            assert!(rt; v.is_heap());
+            assert!(rt; spells(v.as_slice(), &[1, 2, 3]));
+        }
+        Err(AllocError) => {
+            assert!(rt; v.is_empty());
+            refused(&rt)?;
+        }
+    }
+    assert!(rt; spells(&source, &[1, 2, 3]));
+    Ok(())
+}
+
+#[test]
+fn resize_what_owns(rt: HostRuntime) -> Result<(), Fail> {
+    let mut v: TinyVec<[Letters; 2]> = TinyVec::new(rt.alloc());
+    match v.resize(3, letters(rt.alloc(), 5)?) {
+        Ok(()) => assert!(rt; spells(v.as_slice(), &[5, 5, 5])),
+        Err(NoMemory(item)) => {
+            assert!(rt; spells(&[item], &[5]));
+            assert!(rt; v.is_empty());
+            refused(&rt)?;
+        }
+    }
+    Ok(())
+}
+
+#[test]
+fn clone_from_what_owns(rt: HostRuntime) -> Result<(), Fail> {
+    let items = [letters(rt.alloc(), 1)?, letters(rt.alloc(), 2)?];
+    let source = TinyVec::from_array(rt.alloc(), items);
+    let mut v = TinyVec::from_array_len(rt.alloc(), [letters(rt.alloc(), 7)?, None], 1);
+    match v.clone_from(&source) {
+        Ok(()) => assert!(rt; spells(v.as_slice(), &[1, 2])),
+        Err(AllocError) => {
+            assert!(rt; v.len() == 1);
+            assert!(rt; v.is_inline());
+            refused(&rt)?;
+        }
+    }
+    assert!(rt; spells(source.as_slice(), &[1, 2]));
+    Ok(())
+}

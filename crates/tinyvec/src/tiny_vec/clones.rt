@@ -1,44 +1,32 @@
 //! Clones of lists.
-ghost use Rattle.std.specs.Prelude.{◌≡◌, ◌-◌, ◌<◌, ◌≤◌, ◌↔◌, ◌++◌, ℕ, All, min, max, false, length, take, drop, IfOk, OnOk, OnErr, IsOk};
-ghost use Rattle.tinyvec_slots.specs.Slots.{AreDefaults};
-ghost use Rattle.tinyvec_slots.specs.Clones.{RefusedAt};
+ghost use Rattle.std.specs.Prelude.{◌≡◌, ◌≤◌, ◌++◌, ℕ, All, min, false, length, take, IfOk, OnOk, OnErr, IsOk};
+ghost use Rattle.std.specs.List.{AllZip};
+ghost use Rattle.tinyvec_slots.specs.Clones.{RefusedAt, ClonesAreEqual, ClonesOver, ClonesInPart};
 ghost use Rattle.tinyvec.specs.Tiny.{tiny_items, tiny_len, tiny_spare, is_inline, tiny_capacity, IsInline, PlaceRule, TinySlotRule, SameFrame};
-ghost use Rattle.tinyvec.specs.Growth.{RefusedFor, PartlyCloned};
+ghost use Rattle.tinyvec.specs.Growth.{RefusedFor};
+ghost use Rattle.tinyvec.specs.Room.{KeepsRoom};
 
 use crate::TinyVec;
-use std::alloc::{AllocError, Global};
+use std::alloc::AllocError;
 use tinyvec_array::Array;
 use tinyvec_slots::clone_over;
 
 impl<A: Array> TinyVec<A> {
-    /// A list of clones of the slice's items, inline where they fit the array.
-    pub fn from_slice(alloc: Global, slice: &[A::Item]) -> Result<Self, AllocError>
-    where
-        A::Item: Clone,
-        requires clones { (x y : A.Item) → A.Item.is_clone x y → y ≡ x }
-        ensures items { IfOk result (λ v. tiny_items v ≡ slice.now) }
-        ensures spare { IfOk result (λ v. IsInline v → AreDefaults A.Item.is_default (A.CAPACITY - length slice.now) (tiny_spare v)) }
-        ensures place { IfOk result (λ v. IsInline v ↔ (length slice.now ≤ A.CAPACITY)) }
-        ensures room { IfOk result (λ v. tiny_capacity A.CAPACITY v ≡ max (length slice.now) A.CAPACITY) }
-        ensures refused { OnErr result (length slice.now ≤ A.CAPACITY → (j : ℕ) × RefusedAt A.Item.is_infallible slice.now j) }
-        ensures succeeds { length slice.now ≤ A.CAPACITY → All A.Item.is_infallible slice.now → IsOk result }
-    {
-        let mut vec = Self::with_capacity(alloc, slice.len())?;
-        vec.extend_reserved(slice)?;
-        Ok(vec)
-    }
-
     /// A vector of clones, in the same place, inline in the spare slots too.
     pub fn clone(&self) -> Result<Self, AllocError>
     where
         A::Item: Clone,
-        requires clones { (x y : A.Item) → A.Item.is_clone x y → y ≡ x }
-        ensures items { IfOk result (λ v. tiny_items v ≡ tiny_items self.now) }
-        ensures spare { IfOk result (λ v. tiny_spare v ≡ tiny_spare self.now) }
+        ensures items { IfOk result (λ v. AllZip A.Item.is_clone (tiny_items self.now) (tiny_items v)) }
+        ensures spare { IfOk result (λ v. AllZip A.Item.is_clone (tiny_spare self.now) (tiny_spare v)) }
+        ensures len { IfOk result (λ v. tiny_len v ≡ tiny_len self.now) }
+        ensures if_clones_equal { IfOk result (λ v. ClonesAreEqual A.Item.is_clone
+            → (tiny_items v ≡ tiny_items self.now) × (tiny_spare v ≡ tiny_spare self.now)) }
         ensures place { IfOk result (λ v. is_inline v ≡ is_inline self.now) }
         ensures room { IfOk result (λ v. is_inline v ≡ false → tiny_capacity A.CAPACITY v ≡ tiny_len self.now) }
-        ensures refused { OnErr result (IsInline self.now → (j : ℕ) × RefusedAt A.Item.is_infallible (tiny_items self.now ++ tiny_spare self.now) j) }
-        ensures succeeds { IsInline self.now → All A.Item.is_infallible (tiny_items self.now ++ tiny_spare self.now) → IsOk result }
+        ensures refused { OnErr result (IsInline self.now
+            → (j : ℕ) × RefusedAt A.Item.is_infallible (tiny_items self.now ++ tiny_spare self.now) j) }
+        ensures succeeds { IsInline self.now
+            → All A.Item.is_infallible (tiny_items self.now ++ tiny_spare self.now) → IsOk result }
     {
         match self {
             TinyVec::Inline(v, alloc) => {
@@ -58,10 +46,9 @@ impl<A: Array> TinyVec<A> {
     where
         A::Item: Clone,
         requires same_len { length source.now ≡ tiny_len self.old }
-        requires clones { (x y : A.Item) → A.Item.is_clone x y → y ≡ x }
-        ensures ok { OnOk result (tiny_items self.new ≡ source.now) }
+        ensures ok { OnOk result (AllZip A.Item.is_clone source.now (tiny_items self.new)) }
         ensures refused { OnErr result ((j : ℕ) × RefusedAt A.Item.is_infallible source.now j
-            × (tiny_items self.new ≡ take j source.now ++ drop j (tiny_items self.old))) }
+            × ClonesOver A.Item.is_clone (take j source.now) j (tiny_items self.old) (tiny_items self.new)) }
         ensures frame { SameFrame self.old self.new }
         ensures succeeds { All A.Item.is_infallible source.now → IsOk result }
     {
@@ -72,17 +59,24 @@ impl<A: Array> TinyVec<A> {
     pub fn clone_from(&mut self, source: &Self) -> Result<(), AllocError>
     where
         A::Item: Clone,
-        requires clones { (x y : A.Item) → A.Item.is_clone x y → y ≡ x }
-        ensures items { OnOk result (tiny_items self.new ≡ tiny_items source.now) }
+        ensures items { OnOk result (AllZip A.Item.is_clone (tiny_items source.now) (tiny_items self.new)) }
+        ensures len { OnOk result (tiny_len self.new ≡ tiny_len source.now) }
+        ensures if_clones_equal { OnOk result (ClonesAreEqual A.Item.is_clone
+            → tiny_items self.new ≡ tiny_items source.now) }
         ensures place { OnOk result (PlaceRule A.CAPACITY (tiny_len source.now) self.old self.new) }
         ensures slots { OnOk result (TinySlotRule A.Item.is_default self.old self.new) }
         ensures capacity { tiny_capacity A.CAPACITY self.old ≤ tiny_capacity A.CAPACITY self.new }
-        ensures same_room { tiny_len source.now ≤ tiny_capacity A.CAPACITY self.old → tiny_capacity A.CAPACITY self.new ≡ tiny_capacity A.CAPACITY self.old }
+        ensures same_room { KeepsRoom A.CAPACITY (tiny_len source.now) self.old self.new }
+        ensures fits { tiny_len self.new ≤ tiny_capacity A.CAPACITY self.new }
 
         // Where there is room no memory is asked for but by clones.
-        ensures succeeds { tiny_len source.now ≤ tiny_capacity A.CAPACITY self.old → All A.Item.is_infallible (tiny_items source.now) → IsOk result }
+        ensures succeeds { tiny_len source.now ≤ tiny_capacity A.CAPACITY self.old
+            → All A.Item.is_infallible (tiny_items source.now) → IsOk result }
         ensures refused { OnErr result (RefusedFor A.CAPACITY (tiny_len source.now)
-            (PartlyCloned A.Item.is_default A.Item.is_infallible (tiny_items source.now) self.old self.new (min (tiny_len self.old) (tiny_len source.now)))
+            (ClonesInPart A.Item.is_default A.Item.is_infallible A.Item.is_clone
+            (tiny_items source.now) (tiny_items self.old) (tiny_items self.new)
+            (min (tiny_len self.old) (tiny_len source.now))
+            (IsInline self.new) (tiny_spare self.old) (tiny_spare self.new))
             self.old self.new) }
     {
         let len = self.len();

@@ -1,11 +1,10 @@
 //! Items put in and taken out at a place.
-ghost use Rattle.std.specs.Prelude.{◌≡◌, ◌+◌, ◌*◌, ◌-◌, ◌<◌, ◌≤◌, max, [], take, drop, insert, remove, slice_index_or, IsOk, OnOk, OnErr, IfOk, IfErr};
+ghost use Rattle.std.specs.Prelude.{◌≡◌, ◌+◌, ◌<◌, ◌≤◌, insert, remove, slice_index_or, IsOk, OnOk, OnErr, IfErr};
 ghost use Rattle.std.specs.List.{swap_remove};
-ghost use Rattle.tinyvec_slots.specs.Slots.{AreDefaults};
-ghost use Rattle.tinyvec.specs.Tiny.{tiny_items, tiny_len, tiny_spare, is_inline, tiny_capacity, IsInline, PlaceRule, TinySlotRule, Unchanged};
+ghost use Rattle.tinyvec.specs.Tiny.{tiny_items, tiny_len, is_inline, tiny_capacity, PlaceRule, TinySlotRule, Unchanged};
+ghost use Rattle.tinyvec.specs.Room.{KeepsRoom, MovesForTwice};
 
 use crate::TinyVec;
-use std::alloc::AllocError;
 use tinyvec_array::{Array, NoMemory};
 
 impl<A: Array> TinyVec<A> {
@@ -17,6 +16,7 @@ impl<A: Array> TinyVec<A> {
         ensures place { is_inline self.new ≡ is_inline self.old }
         ensures slots { TinySlotRule A.Item.is_default self.old self.new }
         ensures capacity { tiny_capacity A.CAPACITY self.new ≡ tiny_capacity A.CAPACITY self.old }
+        ensures fits { tiny_len self.new ≤ tiny_capacity A.CAPACITY self.new }
     {
         match self {
             TinyVec::Inline(v, _) => v.insert(i, x),
@@ -33,10 +33,10 @@ impl<A: Array> TinyVec<A> {
         ensures items { OnOk result (tiny_items self.new ≡ insert (tiny_items self.old) i x) }
         ensures place { OnOk result (PlaceRule A.CAPACITY (tiny_len self.old + 1) self.old self.new) }
         ensures slots { TinySlotRule A.Item.is_default self.old self.new }
-        ensures asked { OnOk result (IsInline self.old → tiny_len self.old ≡ A.CAPACITY
-            → max (2 * tiny_len self.old) (tiny_len self.old + 1) ≤ tiny_capacity A.CAPACITY self.new) }
+        ensures asked { OnOk result (MovesForTwice A.CAPACITY self.old self.new) }
         ensures capacity { tiny_capacity A.CAPACITY self.old ≤ tiny_capacity A.CAPACITY self.new }
-        ensures same_room { tiny_len self.old + 1 ≤ tiny_capacity A.CAPACITY self.old → tiny_capacity A.CAPACITY self.new ≡ tiny_capacity A.CAPACITY self.old }
+        ensures same_room { KeepsRoom A.CAPACITY (tiny_len self.old + 1) self.old self.new }
+        ensures fits { tiny_len self.new ≤ tiny_capacity A.CAPACITY self.new }
 
         // Where there is room no memory is asked for, and a refusal changes nothing.
         ensures succeeds { tiny_len self.old < tiny_capacity A.CAPACITY self.old → IsOk result }
@@ -59,6 +59,7 @@ impl<A: Array> TinyVec<A> {
         ensures place { is_inline self.new ≡ is_inline self.old }
         ensures slots { TinySlotRule A.Item.is_default self.old self.new }
         ensures capacity { tiny_capacity A.CAPACITY self.new ≡ tiny_capacity A.CAPACITY self.old }
+        ensures fits { tiny_len self.new ≤ tiny_capacity A.CAPACITY self.new }
     {
         match self {
             TinyVec::Inline(v, _) => v.remove(i),
@@ -74,55 +75,11 @@ impl<A: Array> TinyVec<A> {
         ensures place { is_inline self.new ≡ is_inline self.old }
         ensures slots { TinySlotRule A.Item.is_default self.old self.new }
         ensures capacity { tiny_capacity A.CAPACITY self.new ≡ tiny_capacity A.CAPACITY self.old }
+        ensures fits { tiny_len self.new ≤ tiny_capacity A.CAPACITY self.new }
     {
         match self {
             TinyVec::Inline(v, _) => v.swap_remove(i),
             TinyVec::Heap(v) => v.swap_remove(i),
-        }
-    }
-
-    /// Keeps the first `n` items, or all where there are no more.
-    pub fn truncate(&mut self, n: usize)
-        ensures items { tiny_items self.new ≡ take n (tiny_items self.old) }
-        ensures place { is_inline self.new ≡ is_inline self.old }
-        ensures slots { TinySlotRule A.Item.is_default self.old self.new }
-        ensures capacity { tiny_capacity A.CAPACITY self.new ≡ tiny_capacity A.CAPACITY self.old }
-    {
-        match self {
-            TinyVec::Inline(v, _) => v.truncate(n),
-            TinyVec::Heap(v) => v.truncate(n),
-        }
-    }
-
-    /// Empties the list.
-    pub fn clear(&mut self)
-        ensures items { tiny_items self.new ≡ [] }
-        ensures place { is_inline self.new ≡ is_inline self.old }
-        ensures slots { TinySlotRule A.Item.is_default self.old self.new }
-        ensures capacity { tiny_capacity A.CAPACITY self.new ≡ tiny_capacity A.CAPACITY self.old }
-    {
-        self.truncate(0);
-    }
-
-    /// Cuts the list at `at`, and gives what stood from there on, in the same place. An inline list takes no memory.
-    pub fn split_off(&mut self, at: usize) -> Result<Self, AllocError>
-        requires { at ≤ tiny_len self.old }
-        ensures items { OnOk result (tiny_items self.new ≡ take at (tiny_items self.old)) }
-        ensures tail { IfOk result (λ v. tiny_items v ≡ drop at (tiny_items self.old)) }
-        ensures place { is_inline self.new ≡ is_inline self.old }
-        ensures tail_place { IfOk result (λ v. is_inline v ≡ is_inline self.old) }
-        ensures slots { OnOk result (TinySlotRule A.Item.is_default self.old self.new) }
-        ensures capacity { tiny_capacity A.CAPACITY self.new ≡ tiny_capacity A.CAPACITY self.old }
-        ensures tail_spare { IfOk result (λ v. IsInline v → AreDefaults A.Item.is_default (A.CAPACITY - (tiny_len self.old - at)) (tiny_spare v)) }
-        ensures succeeds { IsInline self.old → IsOk result }
-        ensures refused { OnErr result (self.new ≡ self.old) }
-    {
-        match self {
-            TinyVec::Inline(v, alloc) => Ok(TinyVec::Inline(v.split_off(at), *alloc)),
-            TinyVec::Heap(v) => {
-                let back = v.split_off(at)?;
-                Ok(TinyVec::Heap(back))
-            }
         }
     }
 }

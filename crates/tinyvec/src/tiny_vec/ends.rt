@@ -1,6 +1,7 @@
 //! The last item, pushed and popped.
-ghost use Rattle.std.specs.Prelude.{◌≡◌, ◌+◌, ◌*◌, ◌-◌, ◌<◌, ◌≤◌, ◌↔◌, max, [], ◌∷◌, ◌++◌, take, drop, slice_get, IsSome, IfSome, IsOk, OnOk, OnErr, IfErr};
-ghost use Rattle.tinyvec.specs.Tiny.{tiny_items, tiny_len, tiny_spare, is_inline, tiny_capacity, IsInline, PlaceRule, TinySlotRule, Unchanged};
+ghost use Rattle.std.specs.Prelude.{◌≡◌, ◌+◌, ◌-◌, ◌<◌, ◌≤◌, ◌↔◌, [], ◌∷◌, ◌++◌, take, drop, slice_get, IsSome, IfSome, IsOk, OnOk, OnErr, IfErr};
+ghost use Rattle.tinyvec.specs.Tiny.{tiny_items, tiny_len, tiny_spare, is_inline, tiny_capacity, PlaceRule, TinySlotRule, Unchanged};
+ghost use Rattle.tinyvec.specs.Room.{KeepsRoom, MovesForTwice};
 
 use crate::TinyVec;
 use tinyvec_array::{Array, NoMemory};
@@ -14,6 +15,7 @@ impl<A: Array> TinyVec<A> {
         ensures spare { tiny_spare self.new ≡ drop 1 (tiny_spare self.old) }
         ensures slots { TinySlotRule A.Item.is_default self.old self.new }
         ensures capacity { tiny_capacity A.CAPACITY self.new ≡ tiny_capacity A.CAPACITY self.old }
+        ensures fits { tiny_len self.new ≤ tiny_capacity A.CAPACITY self.new }
     {
         match self {
             TinyVec::Inline(v, _) => v.push(x),
@@ -27,10 +29,10 @@ impl<A: Array> TinyVec<A> {
         ensures items { OnOk result (tiny_items self.new ≡ tiny_items self.old ++ x ∷ []) }
         ensures place { OnOk result (PlaceRule A.CAPACITY (tiny_len self.old + 1) self.old self.new) }
         ensures slots { TinySlotRule A.Item.is_default self.old self.new }
-        ensures asked { OnOk result (IsInline self.old → tiny_len self.old ≡ A.CAPACITY
-            → max (2 * tiny_len self.old) (tiny_len self.old + 1) ≤ tiny_capacity A.CAPACITY self.new) }
+        ensures asked { OnOk result (MovesForTwice A.CAPACITY self.old self.new) }
         ensures capacity { tiny_capacity A.CAPACITY self.old ≤ tiny_capacity A.CAPACITY self.new }
-        ensures same_room { tiny_len self.old + 1 ≤ tiny_capacity A.CAPACITY self.old → tiny_capacity A.CAPACITY self.new ≡ tiny_capacity A.CAPACITY self.old }
+        ensures same_room { KeepsRoom A.CAPACITY (tiny_len self.old + 1) self.old self.new }
+        ensures fits { tiny_len self.new ≤ tiny_capacity A.CAPACITY self.new }
 
         // Where there is room no memory is asked for, and a refusal changes nothing.
         ensures succeeds { tiny_len self.old < tiny_capacity A.CAPACITY self.old → IsOk result }
@@ -54,6 +56,7 @@ impl<A: Array> TinyVec<A> {
         ensures place { is_inline self.new ≡ is_inline self.old }
         ensures slots { TinySlotRule A.Item.is_default self.old self.new }
         ensures capacity { tiny_capacity A.CAPACITY self.new ≡ tiny_capacity A.CAPACITY self.old }
+        ensures fits { tiny_len self.new ≤ tiny_capacity A.CAPACITY self.new }
     {
         match self {
             TinyVec::Inline(v, _) => v.pop(),

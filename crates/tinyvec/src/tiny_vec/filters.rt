@@ -1,10 +1,10 @@
 //! Keeping some of the items.
-ghost use Rattle.std.specs.Prelude.{◌≡◌, ◌≤◌};
+ghost use Rattle.std.specs.Prelude.{◌≡◌, ◌≤◌, take};
 ghost use Rattle.std.specs.Fn.{CalledAt, CalledAtMut, CalledAtPairMut, ComparesKeys};
 ghost use Rattle.std.specs.List.{dedup as dedup_list};
 ghost use Rattle.std.specs.List.Retain.{IsFiltered, RetainsInTurn, IsDeduped};
 ghost use Rattle.tinyvec_slots.specs.Filters.{RetainsTo, IsFilteredTo, IsDedupedTo};
-ghost use Rattle.tinyvec.specs.Tiny.{tiny_items, tiny_len, is_inline, tiny_capacity, TinySlotRule};
+ghost use Rattle.tinyvec.specs.Tiny.{tiny_items, tiny_len, is_inline, tiny_capacity, TinySlotRule, ShrinksInPlace};
 
 use crate::TinyVec;
 use tinyvec_array::Array;
@@ -19,6 +19,7 @@ impl<A: Array> TinyVec<A> {
         ensures place { is_inline self.new ≡ is_inline self.old }
         ensures slots { TinySlotRule A.Item.is_default self.old self.new }
         ensures capacity { tiny_capacity A.CAPACITY self.new ≡ tiny_capacity A.CAPACITY self.old }
+        ensures fits { tiny_len self.new ≤ tiny_capacity A.CAPACITY self.new }
     {
         self.retain_asked(&mut f);
     }
@@ -31,6 +32,7 @@ impl<A: Array> TinyVec<A> {
         ensures place { is_inline self.new ≡ is_inline self.old }
         ensures slots { TinySlotRule A.Item.is_default self.old self.new }
         ensures capacity { tiny_capacity A.CAPACITY self.new ≡ tiny_capacity A.CAPACITY self.old }
+        ensures fits { tiny_len self.new ≤ tiny_capacity A.CAPACITY self.new }
     {
         self.retain_mut_asked(&mut f);
     }
@@ -44,6 +46,7 @@ impl<A: Array> TinyVec<A> {
         ensures place { is_inline self.new ≡ is_inline self.old }
         ensures slots { TinySlotRule A.Item.is_default self.old self.new }
         ensures capacity { tiny_capacity A.CAPACITY self.new ≡ tiny_capacity A.CAPACITY self.old }
+        ensures fits { tiny_len self.new ≤ tiny_capacity A.CAPACITY self.new }
     {
         self.dedup_by(|current, last| *current == *last);
     }
@@ -56,6 +59,7 @@ impl<A: Array> TinyVec<A> {
         ensures place { is_inline self.new ≡ is_inline self.old }
         ensures slots { TinySlotRule A.Item.is_default self.old self.new }
         ensures capacity { tiny_capacity A.CAPACITY self.new ≡ tiny_capacity A.CAPACITY self.old }
+        ensures fits { tiny_len self.new ≤ tiny_capacity A.CAPACITY self.new }
     {
         self.dedup_asked(&mut same);
     }
@@ -68,6 +72,7 @@ impl<A: Array> TinyVec<A> {
         ensures place { is_inline self.new ≡ is_inline self.old }
         ensures slots { TinySlotRule A.Item.is_default self.old self.new }
         ensures capacity { tiny_capacity A.CAPACITY self.new ≡ tiny_capacity A.CAPACITY self.old }
+        ensures fits { tiny_len self.new ≤ tiny_capacity A.CAPACITY self.new }
     {
         self.dedup_keys_asked(&mut key);
     }
@@ -77,13 +82,10 @@ impl<A: Array> TinyVec<A> {
         requires { F.IsAlwaysCallable f.old }
         ensures filtered { IsFiltered (CalledAt F.FnMut) f.old (tiny_items self.old) (tiny_items self.new) }
         ensures asked { IsFilteredTo (CalledAt F.FnMut) f.old (tiny_items self.old) (tiny_items self.new) f.new }
-        ensures bound { tiny_len self.new ≤ tiny_len self.old }
-        ensures place { is_inline self.new ≡ is_inline self.old }
-        ensures slots { TinySlotRule A.Item.is_default self.old self.new }
-        ensures capacity { tiny_capacity A.CAPACITY self.new ≡ tiny_capacity A.CAPACITY self.old }
+        ensures cut { ShrinksInPlace A.Item.is_default A.CAPACITY self.old self.new }
     {
         let kept = retain_in_front(self.as_mut_slice(), f);
-        self.truncate(kept);
+        self.keep_front(kept);
     }
 
     // `retain_mut`, and the state in which the last question leaves `f`.
@@ -91,40 +93,41 @@ impl<A: Array> TinyVec<A> {
         requires { F.IsAlwaysCallable f.old }
         ensures filtered { RetainsInTurn (CalledAtMut F.FnMut) f.old (tiny_items self.old) (tiny_items self.new) }
         ensures asked { RetainsTo (CalledAtMut F.FnMut) f.old (tiny_items self.old) (tiny_items self.new) f.new }
-        ensures bound { tiny_len self.new ≤ tiny_len self.old }
-        ensures place { is_inline self.new ≡ is_inline self.old }
-        ensures slots { TinySlotRule A.Item.is_default self.old self.new }
-        ensures capacity { tiny_capacity A.CAPACITY self.new ≡ tiny_capacity A.CAPACITY self.old }
+        ensures cut { ShrinksInPlace A.Item.is_default A.CAPACITY self.old self.new }
     {
         let kept = retain_mut_in_front(self.as_mut_slice(), f);
-        self.truncate(kept);
+        self.keep_front(kept);
     }
 
     // `dedup_by`, and the state in which the last question leaves `same`.
     fn dedup_asked<F: FnMut(&mut A::Item, &mut A::Item) -> bool>(&mut self, same: &mut F)
         requires { F.IsAlwaysCallable same.old }
         ensures filtered { IsDeduped (CalledAtPairMut F.FnMut) same.old (tiny_items self.old) (tiny_items self.new) }
-        ensures asked { IsDedupedTo (CalledAtPairMut F.FnMut) same.old (tiny_items self.old) (tiny_items self.new) same.new }
-        ensures bound { tiny_len self.new ≤ tiny_len self.old }
-        ensures place { is_inline self.new ≡ is_inline self.old }
-        ensures slots { TinySlotRule A.Item.is_default self.old self.new }
-        ensures capacity { tiny_capacity A.CAPACITY self.new ≡ tiny_capacity A.CAPACITY self.old }
+        ensures asked { IsDedupedTo (CalledAtPairMut F.FnMut)
+            same.old (tiny_items self.old) (tiny_items self.new) same.new }
+        ensures cut { ShrinksInPlace A.Item.is_default A.CAPACITY self.old self.new }
     {
         let kept = dedup_in_front(self.as_mut_slice(), same);
-        self.truncate(kept);
+        self.keep_front(kept);
     }
 
     // `dedup_by_key`, and the state in which the last question leaves `key`.
     fn dedup_keys_asked<K: PartialEq + Drop, F: FnMut(&mut A::Item) -> K>(&mut self, key: &mut F)
         requires { F.IsAlwaysCallable key.old }
         ensures filtered { IsDeduped (ComparesKeys F.FnMut K.eq) key.old (tiny_items self.old) (tiny_items self.new) }
-        ensures asked { IsDedupedTo (ComparesKeys F.FnMut K.eq) key.old (tiny_items self.old) (tiny_items self.new) key.new }
-        ensures bound { tiny_len self.new ≤ tiny_len self.old }
-        ensures place { is_inline self.new ≡ is_inline self.old }
-        ensures slots { TinySlotRule A.Item.is_default self.old self.new }
-        ensures capacity { tiny_capacity A.CAPACITY self.new ≡ tiny_capacity A.CAPACITY self.old }
+        ensures asked { IsDedupedTo (ComparesKeys F.FnMut K.eq)
+            key.old (tiny_items self.old) (tiny_items self.new) key.new }
+        ensures cut { ShrinksInPlace A.Item.is_default A.CAPACITY self.old self.new }
     {
         let kept = dedup_keys_in_front(self.as_mut_slice(), key);
+        self.keep_front(kept);
+    }
+
+    // Cuts the list to its first `kept` items, after a loop moved there what stays.
+    fn keep_front(&mut self, kept: usize)
+        ensures items { tiny_items self.new ≡ take kept (tiny_items self.old) }
+        ensures cut { ShrinksInPlace A.Item.is_default A.CAPACITY self.old self.new }
+    {
         self.truncate(kept);
     }
 }

@@ -39,7 +39,8 @@ impl<A: Array> TinyVec<A> {
 
         // It lends the items in order, or from the back.
         ensures runs { EveryRun (iter_mut_steps {A = A.Item}) (λ p. ItemsMapTo p (λ x. x.now) (iter_mut_rest p.from)) }
-        ensures runs_back { EveryRun (iter_mut_steps_back {A = A.Item}) (λ p. ItemsMapToReversed p (λ x. x.now) (iter_mut_rest p.from)) }
+        ensures runs_back { EveryRun (iter_mut_steps_back {A = A.Item})
+            (λ p. ItemsMapToReversed p (λ x. x.now) (iter_mut_rest p.from)) }
     {
         match self {
             TinyVec::Inline(v, _) => v.iter_mut(),
@@ -74,7 +75,8 @@ impl<'a, T: Default + Drop + 'a, A: Array<Item = T>> IntoIterator for &'a mut Ti
 
     fn into_iter(self) -> slice::IterMut<'a, T>
         ensures* writes_back { sem 𝓛 (lends_iter A.row T.row A.Array T.Default self.entry result) }
-        ensures into_iter_gives { (iter_mut_rest result ≡ tiny_items self.old) × (length (iter_mut_rest result) < 2 ^ 64)
+        ensures into_iter_gives { (iter_mut_rest result ≡ tiny_items self.old)
+            × (length (iter_mut_rest result) < 2 ^ 64)
             × EveryRun (iter_mut_steps {A = T}) (λ p. ItemsMapTo p (λ x. x.now) (iter_mut_rest p.from)) }
         ensures keeps_len { (ws : List T) → tiny_len (tiny_with_items self.old ws) ≡ tiny_len self.old }
     {

@@ -16,6 +16,7 @@ impl<A: Array> TinyVec<A> {
         ensures spare { tiny_spare self.new ≡ drop (length from.old) (tiny_spare self.old) }
         ensures place { is_inline self.new ≡ is_inline self.old }
         ensures capacity { tiny_capacity A.CAPACITY self.new ≡ tiny_capacity A.CAPACITY self.old }
+        ensures fits { tiny_len self.new ≤ tiny_capacity A.CAPACITY self.new }
         ensures left { AreDefaults A.Item.is_default (length from.old) from.new }
     {
         for i in 0..from.len() {
@@ -30,6 +31,7 @@ impl<A: Array> TinyVec<A> {
         ensures spare { tiny_spare self.new ≡ drop (tiny_len other.old) (tiny_spare self.old) }
         ensures place { is_inline self.new ≡ is_inline self.old }
         ensures capacity { tiny_capacity A.CAPACITY self.old ≤ tiny_capacity A.CAPACITY self.new }
+        ensures fits { tiny_len self.new ≤ tiny_capacity A.CAPACITY self.new }
         ensures other_items { tiny_items other.new ≡ [] }
         ensures other_place { is_inline other.new ≡ is_inline other.old }
         ensures other_slots { TinySlotRule A.Item.is_default other.old other.new }
@@ -51,6 +53,7 @@ impl<A: Array> TinyVec<A> {
         ensures place { OnOk result (PlaceRule A.CAPACITY (tiny_len self.old + tiny_len other.old) self.old self.new) }
         ensures slots { TinySlotRule A.Item.is_default self.old self.new }
         ensures capacity { tiny_capacity A.CAPACITY self.old ≤ tiny_capacity A.CAPACITY self.new }
+        ensures fits { tiny_len self.new ≤ tiny_capacity A.CAPACITY self.new }
         ensures other_items { OnOk result (tiny_items other.new ≡ []) }
         ensures other_place { is_inline other.new ≡ is_inline other.old }
         ensures other_slots { TinySlotRule A.Item.is_default other.old other.new }

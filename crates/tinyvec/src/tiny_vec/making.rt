@@ -1,7 +1,9 @@
 //! Making a `TinyVec`.
-ghost use Rattle.std.specs.Prelude.{◌≡◌, ◌-◌, ◌<◌, ◌≤◌, ◌↔◌, max, [], take, drop, IsOk, IsErr, IfOk, IfErr, vec_capacity};
+ghost use Rattle.std.specs.Prelude.{◌≡◌, ◌-◌, ◌<◌, ◌≤◌, ◌↔◌, ℕ, All, length, max, [], take, drop, IsOk, IsErr, IfOk, IfErr, OnErr, vec_capacity};
+ghost use Rattle.std.specs.List.{AllZip};
 ghost use Rattle.tinyvec_slots.specs.Slots.{AreDefaults, items, spare};
-ghost use Rattle.tinyvec.specs.Tiny.{tiny_items, tiny_spare, tiny_capacity, IsInline};
+ghost use Rattle.tinyvec_slots.specs.Clones.{RefusedAt, ClonesAreEqual};
+ghost use Rattle.tinyvec.specs.Tiny.{tiny_items, tiny_len, tiny_spare, tiny_capacity, IsInline};
 
 use crate::TinyVec;
 use std::alloc::{AllocError, Global};
@@ -91,6 +93,26 @@ impl<A: Array> TinyVec<A> {
             return Err(array);
         }
         Ok(Self::from_array_len(alloc, array, len))
+    }
+
+    /// A list of clones of the slice's items, inline where they fit the array.
+    pub fn from_slice(alloc: Global, slice: &[A::Item]) -> Result<Self, AllocError>
+    where
+        A::Item: Clone,
+        ensures items { IfOk result (λ v. AllZip A.Item.is_clone slice.now (tiny_items v)) }
+        ensures len { IfOk result (λ v. tiny_len v ≡ length slice.now) }
+        ensures if_clones_equal { IfOk result (λ v. ClonesAreEqual A.Item.is_clone → tiny_items v ≡ slice.now) }
+        ensures spare { IfOk result (λ v. IsInline v
+            → AreDefaults A.Item.is_default (A.CAPACITY - length slice.now) (tiny_spare v)) }
+        ensures place { IfOk result (λ v. IsInline v ↔ (length slice.now ≤ A.CAPACITY)) }
+        ensures room { IfOk result (λ v. tiny_capacity A.CAPACITY v ≡ max (length slice.now) A.CAPACITY) }
+        ensures refused { OnErr result (length slice.now ≤ A.CAPACITY
+            → (j : ℕ) × RefusedAt A.Item.is_infallible slice.now j) }
+        ensures succeeds { length slice.now ≤ A.CAPACITY → All A.Item.is_infallible slice.now → IsOk result }
+    {
+        let mut vec = Self::with_capacity(alloc, slice.len())?;
+        vec.extend_reserved(slice)?;
+        Ok(vec)
     }
 }
 

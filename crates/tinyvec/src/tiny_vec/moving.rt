@@ -1,5 +1,5 @@
 //! Moving between the array and the heap.
-ghost use Rattle.std.specs.Prelude.{◌≡◌, ◌+◌, ◌-◌, ◌≤◌, ◌↔◌, false, length, IsOk, IfOk, IfErr, OnOk, OnErr, vec_len, vec_capacity};
+ghost use Rattle.std.specs.Prelude.{◌≡◌, ◌-◌, ◌≤◌, ◌↔◌, false, IsOk, IfOk, IfErr, vec_len, vec_capacity};
 ghost use Rattle.std.specs.Box.{boxed_slice_items};
 ghost use Rattle.tinyvec_slots.specs.Slots.{AreDefaults, items, spare};
 ghost use Rattle.tinyvec.specs.Tiny.{tiny_items, tiny_len, tiny_spare, is_inline, tiny_capacity, IsInline, TinySlotRule};
@@ -72,20 +72,18 @@ impl<A: Array> TinyVec<A> {
             → AreDefaults A.Item.is_default (A.CAPACITY - tiny_len self.old) (tiny_spare self.new) }
         ensures kept { IsInline self.old → self.new ≡ self.old }
         ensures slots { TinySlotRule A.Item.is_default self.old self.new }
-        ensures capacity { is_inline self.new ≡ false → tiny_capacity A.CAPACITY self.new ≤ tiny_capacity A.CAPACITY self.old }
+        ensures capacity { is_inline self.new ≡ false
+            → tiny_capacity A.CAPACITY self.new ≤ tiny_capacity A.CAPACITY self.old }
+        ensures fits { tiny_len self.new ≤ tiny_capacity A.CAPACITY self.new }
     {
-        match self {
-            TinyVec::Inline(v, _) => {
-                let _len = v.len();
-            }
-            TinyVec::Heap(v) => {
-                if v.len() <= A::CAPACITY {
-                    let alloc = *v.allocator();
-                    let inline = Self::to_inline(v);
-                    *self = TinyVec::Inline(inline, alloc);
-                } else {
-                    v.shrink_to_fit();
-                }
+        let len = self.len();
+        if let TinyVec::Heap(v) = self {
+            if len <= A::CAPACITY {
+                let alloc = *v.allocator();
+                let inline = Self::to_inline(v);
+                *self = TinyVec::Inline(inline, alloc);
+            } else {
+                v.shrink_to_fit();
             }
         }
     }
@@ -107,7 +105,7 @@ impl<A: Array> TinyVec<A> {
         }
     }
 
-    /// The list as a boxed slice. Where memory is refused for it, the items are given up.
+    /// The list as a boxed slice. Where memory is refused for it, the items are dropped.
     pub fn into_boxed_slice(self) -> Result<BoxedSlice<A::Item>, AllocError>
         ensures items { IfOk result (λ b. boxed_slice_items b ≡ tiny_items self) }
         ensures succeeds { is_inline self ≡ false → IsOk result }

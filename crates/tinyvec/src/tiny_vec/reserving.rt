@@ -19,6 +19,7 @@ impl<A: Array> TinyVec<A> {
         ensures asked { OnOk result (IsInline self.old
             → max (2 * tiny_len self.old) (tiny_len self.old + 1) ≤ tiny_capacity A.CAPACITY self.new) }
         ensures capacity { tiny_capacity A.CAPACITY self.old ≤ tiny_capacity A.CAPACITY self.new }
+        ensures fits { tiny_len self.new ≤ tiny_capacity A.CAPACITY self.new }
         ensures refused { OnErr result (Unchanged self.old self.new) }
     {
         match self {
@@ -64,7 +65,8 @@ impl<A: Array> TinyVec<A> {
     /// Makes room for `n` items more as `reserve` does, and on the heap for no further ones.
     pub fn reserve_exact(&mut self, n: usize) -> Result<(), AllocError>
         ensures reserves { Reserves A.Item.is_default A.CAPACITY n self.old self.new result }
-        ensures exact { OnOk result (tiny_capacity A.CAPACITY self.new ≡ max (tiny_capacity A.CAPACITY self.old) (tiny_len self.old + n)) }
+        ensures exact { OnOk result (tiny_capacity A.CAPACITY self.new
+            ≡ max (tiny_capacity A.CAPACITY self.old) (tiny_len self.old + n)) }
     {
         match self {
             TinyVec::Inline(_, _) => self.reserve(n),
@@ -80,7 +82,8 @@ impl<A: Array> TinyVec<A> {
     /// The same as `reserve_exact`.
     pub fn try_reserve_exact(&mut self, n: usize) -> Result<(), AllocError>
         ensures reserves { Reserves A.Item.is_default A.CAPACITY n self.old self.new result }
-        ensures exact { OnOk result (tiny_capacity A.CAPACITY self.new ≡ max (tiny_capacity A.CAPACITY self.old) (tiny_len self.old + n)) }
+        ensures exact { OnOk result (tiny_capacity A.CAPACITY self.new
+            ≡ max (tiny_capacity A.CAPACITY self.old) (tiny_len self.old + n)) }
     {
         self.reserve_exact(n)
     }

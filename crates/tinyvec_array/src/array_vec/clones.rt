@@ -1,7 +1,8 @@
 //! Copies and clones.
-ghost use Rattle.std.specs.Prelude.{◌≡◌, ℕ, All, min, length, IfOk, OnOk, OnErr, IsOk, ⊤};
-ghost use Rattle.tinyvec_slots.specs.Slots.{items, items_len, all_slots, SlotRule};
-ghost use Rattle.tinyvec_slots.specs.Clones.{RefusedAt, ClonesInPart};
+ghost use Rattle.std.specs.Prelude.{◌≡◌, ◌≤◌, ℕ, All, min, length, IfOk, OnOk, OnErr, IsOk, ⊤};
+ghost use Rattle.tinyvec_slots.specs.Slots.{items, spare, items_len, all_slots, SlotRule};
+ghost use Rattle.std.specs.List.{AllZip};
+ghost use Rattle.tinyvec_slots.specs.Clones.{RefusedAt, ClonesAreEqual, ClonesInPart};
 
 use crate::clone_slots::{clone_slots, put_clones};
 use crate::{Array, ArrayVec};
@@ -26,29 +27,31 @@ impl<A: Array> ArrayVec<A> {
     pub fn clone(&self) -> Result<Self, AllocError>
     where
         A::Item: Clone,
-        requires clones { (x y : A.Item) → A.Item.is_clone x y → y ≡ x }
-        ensures ok { IfOk result (λ v. v ≡ self.now) }
+        ensures items { IfOk result (λ v. AllZip A.Item.is_clone (items self.now) (items v)) }
+        ensures slots { IfOk result (λ v. AllZip A.Item.is_clone (all_slots self.now) (all_slots v)) }
+        ensures len { IfOk result (λ v. items_len v ≡ items_len self.now) }
+        ensures if_clones_equal { IfOk result (λ v. ClonesAreEqual A.Item.is_clone → v ≡ self.now) }
         ensures refused { OnErr result ((j : ℕ) × RefusedAt A.Item.is_infallible (all_slots self.now) j) }
         ensures succeeds { All A.Item.is_infallible (all_slots self.now) → IsOk result }
     {
-        let _len = self.len();
+        let len = self.len();
         let mut array = A::default();
         clone_slots(&mut array, &self.array)?;
-        Ok(ArrayVec {
-            len: self.len,
-            array,
-        })
+        Ok(ArrayVec { len, array })
     }
 
     /// Makes the list clones of the other's items. Where a clone is refused, the list is cut to the other's length first.
     pub fn clone_from(&mut self, source: &Self) -> Result<(), AllocError>
     where
         A::Item: Clone,
-        requires clones { (x y : A.Item) → A.Item.is_clone x y → y ≡ x }
-        ensures items { OnOk result (items self.new ≡ items source.now) }
+        ensures items { OnOk result (AllZip A.Item.is_clone (items source.now) (items self.new)) }
+        ensures len { OnOk result (items_len self.new ≡ items_len source.now) }
+        ensures if_clones_equal { OnOk result (ClonesAreEqual A.Item.is_clone → items self.new ≡ items source.now) }
         ensures spare { OnOk result (SlotRule A.Item.is_default self.old self.new) }
-        ensures refused { OnErr result (ClonesInPart A.Item.is_default A.Item.is_infallible
-            (items source.now) self.old self.new (min (items_len self.old) (items_len source.now))) }
+        ensures fits { items_len self.new ≤ A.CAPACITY }
+        ensures refused { OnErr result (ClonesInPart A.Item.is_default A.Item.is_infallible A.Item.is_clone
+            (items source.now) (items self.old) (items self.new) (min (items_len self.old) (items_len source.now))
+            ⊤ (spare self.old) (spare self.new)) }
         ensures succeeds { All A.Item.is_infallible (items source.now) → IsOk result }
     {
         let len = source.len();

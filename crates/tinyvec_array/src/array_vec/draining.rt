@@ -1,86 +1,29 @@
-//! The whole list, moved into a `Vec`.
-ghost use Rattle.std.specs.Prelude.{◌≡◌, ◌+◌, ◌^◌, ◌≤◌, [], ◌++◌, length, vec_len, vec_capacity, IsOk, IsErr, IfOk, OnOk, OnErr};
-ghost use Rattle.tinyvec_slots.specs.Slots.{items, spare, items_len, AreDefaults, Frees};
+//! The items of a range, moved into a `Vec`.
+ghost use Rattle.std.specs.Prelude.{◌≡◌, ◌≤◌, ◌+◌, ◌++◌, length, vec_len, vec_capacity};
+ghost use Rattle.tinyvec_slots.specs.Slots.{items, items_len, Frees};
+ghost use Rattle.tinyvec_slots.specs.Cut.{IsRangeOf, before, removed, after};
 
 use crate::{Array, ArrayVec};
-use std::alloc::{AllocError, Global};
-use std::mem;
+use std::ops::RangeBounds;
 
 impl<A: Array> ArrayVec<A> {
-    /// Moves the list into a `Vec` that has room for it, and for no more.
-    pub fn drain_to_vec(&mut self, alloc: Global) -> Result<Vec<A::Item>, AllocError>
-        ensures items { IfOk result (λ v. v.items ≡ items self.old) }
-        ensures room { IfOk result (λ v. vec_capacity v ≡ items_len self.old) }
-        ensures emptied { OnOk result (items self.new ≡ []) }
-        ensures spare { OnOk result (Frees A.Item.is_default (items_len self.old) self.old self.new) }
-        ensures refused { OnErr result (self.new ≡ self.old) }
-        ensures succeeds { items_len self.old ≡ 0 → IsOk result }
+    /// Moves the items of the range behind those of `out`, which has room for them.
+    ///
+    /// `known` is false of an `a..=b` that was iterated to its end, and of no other range of std.
+    pub fn drain_into<R: RangeBounds<usize>>(&mut self, range: R, out: &mut Vec<A::Item>)
+        requires known { R.has_bounds range }
+        requires in_list { IsRangeOf (items self.old) (R.start_bound range) (R.end_bound range) }
+        requires room { vec_len out.old + length (removed (items self.old) (R.start_bound range) (R.end_bound range)) ≤ vec_capacity out.old }
+        ensures items { items self.new
+            ≡ before (items self.old) (R.start_bound range) ++ after (items self.old) (R.end_bound range) }
+        ensures spare { Frees A.Item.is_default (length (removed (items self.old) (R.start_bound range) (R.end_bound range))) self.old self.new }
+        ensures fits { items_len self.new ≤ A.CAPACITY }
+        ensures moved { out.new.items
+            ≡ out.old.items ++ removed (items self.old) (R.start_bound range) (R.end_bound range) }
+        ensures capacity { vec_capacity out.new ≡ vec_capacity out.old }
     {
-        self.drain_to_vec_and_reserve(alloc, 0)
-    }
-
-    /// The same as `drain_to_vec`.
-    pub fn try_drain_to_vec(&mut self, alloc: Global) -> Result<Vec<A::Item>, AllocError>
-        ensures items { IfOk result (λ v. v.items ≡ items self.old) }
-        ensures room { IfOk result (λ v. vec_capacity v ≡ items_len self.old) }
-        ensures emptied { OnOk result (items self.new ≡ []) }
-        ensures spare { OnOk result (Frees A.Item.is_default (items_len self.old) self.old self.new) }
-        ensures refused { OnErr result (self.new ≡ self.old) }
-        ensures succeeds { items_len self.old ≡ 0 → IsOk result }
-    {
-        self.drain_to_vec(alloc)
-    }
-
-    /// Moves the list into a `Vec` that has room for it and for `n` more items, and for no more.
-    pub fn drain_to_vec_and_reserve(
-        &mut self,
-        alloc: Global,
-        n: usize,
-    ) -> Result<Vec<A::Item>, AllocError>
-        ensures items { IfOk result (λ v. v.items ≡ items self.old) }
-        ensures room { IfOk result (λ v. vec_capacity v ≡ items_len self.old + n) }
-        ensures emptied { OnOk result (items self.new ≡ []) }
-        ensures spare { OnOk result (Frees A.Item.is_default (items_len self.old) self.old self.new) }
-        ensures refused { OnErr result (self.new ≡ self.old) }
-        ensures too_long { 2 ^ 64 ≤ items_len self.old + n → IsErr result }
-        ensures succeeds { items_len self.old ≡ 0 → n ≡ 0 → IsOk result }
-    {
-        let len = self.len();
-        if n > usize::MAX - len {
-            return Err(AllocError);
+        for x in self.drain(range) {
+            out.push_reserved(x);
         }
-        let mut vec = Vec::with_capacity(alloc, len + n)?;
-        take_all(self.as_mut_slice(), &mut vec);
-        self.set_border(0);
-        Ok(vec)
-    }
-
-    /// The same as `drain_to_vec_and_reserve`.
-    pub fn try_drain_to_vec_and_reserve(
-        &mut self,
-        alloc: Global,
-        n: usize,
-    ) -> Result<Vec<A::Item>, AllocError>
-        ensures items { IfOk result (λ v. v.items ≡ items self.old) }
-        ensures room { IfOk result (λ v. vec_capacity v ≡ items_len self.old + n) }
-        ensures emptied { OnOk result (items self.new ≡ []) }
-        ensures spare { OnOk result (Frees A.Item.is_default (items_len self.old) self.old self.new) }
-        ensures refused { OnErr result (self.new ≡ self.old) }
-        ensures too_long { 2 ^ 64 ≤ items_len self.old + n → IsErr result }
-        ensures succeeds { items_len self.old ≡ 0 → n ≡ 0 → IsOk result }
-    {
-        self.drain_to_vec_and_reserve(alloc, n)
-    }
-}
-
-// Moves what the slots hold behind the items of `vec`, and leaves defaults.
-fn take_all<T: Default + Drop>(slots: &mut [T], vec: &mut Vec<T>)
-    requires { vec_len vec.old + length slots.old ≤ vec_capacity vec.old }
-    ensures items { vec.new.items ≡ vec.old.items ++ slots.old }
-    ensures capacity { vec_capacity vec.new ≡ vec_capacity vec.old }
-    ensures emptied { AreDefaults T.is_default (length slots.old) slots.new }
-{
-    for slot in slots.iter_mut() {
-        vec.push_reserved(mem::take(slot));
     }
 }

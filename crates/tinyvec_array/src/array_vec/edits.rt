@@ -1,7 +1,7 @@
 //! Items put in and taken out at a place.
-ghost use Rattle.std.specs.Prelude.{◌≡◌, ◌+◌, ◌-◌, ◌<◌, ◌≤◌, ◌↔◌, take, drop, slice_index_or, remove, insert, IsSome, IfSome, IfNone};
-ghost use Rattle.std.specs.List.{swap_remove};
-ghost use Rattle.tinyvec_slots.specs.Slots.{items, spare, items_len, all_slots, split_at, AreDefaults, Frees};
+ghost use Rattle.std.specs.Prelude.{◌≡◌, ◌+◌, ◌-◌, ◌<◌, ◌≤◌, ◌↔◌, drop, slice_index_or, remove, insert, IsSome, IfSome, IfNone};
+ghost use Rattle.std.specs.List.{swap_remove, SwappedAt};
+ghost use Rattle.tinyvec_slots.specs.Slots.{items, spare, items_len, Frees};
 
 use crate::slots::{are_few_of, clear, insert_slot, last_slot_to, remove_slot};
 use crate::{Array, ArrayVec};
@@ -13,11 +13,9 @@ impl<A: Array> ArrayVec<A> {
         requires room { items_len self.old < A.CAPACITY }
         ensures items { items self.new ≡ insert (items self.old) i x }
         ensures spare { spare self.new ≡ drop 1 (spare self.old) }
+        ensures fits { items_len self.new ≤ A.CAPACITY }
     {
-        let _len = self.len();
-        // It tells the proof that the number of slots fits.
-        let _slots = A::CAPACITY;
-        let len = self.len;
+        let len = self.len();
         if are_few_of::<A>(len - i) {
             insert_slot(&mut self.array, i, len, x);
             self.len = len + 1;
@@ -35,6 +33,7 @@ impl<A: Array> ArrayVec<A> {
         ensures refused { IfSome result (λ y. (y ≡ x) × (self.new ≡ self.old)) }
         ensures items { IfNone result (items self.new ≡ insert (items self.old) i x) }
         ensures spare { IfNone result (spare self.new ≡ drop 1 (spare self.old)) }
+        ensures fits { items_len self.new ≤ A.CAPACITY }
     {
         if self.is_full() {
             return Some(x);
@@ -49,9 +48,9 @@ impl<A: Array> ArrayVec<A> {
         ensures value { result ≡ slice_index_or (items self.old) i result }
         ensures items { items self.new ≡ remove (items self.old) i }
         ensures spare { Frees A.Item.is_default 1 self.old self.new }
+        ensures fits { items_len self.new < A.CAPACITY }
     {
-        let _len = self.len();
-        let len = self.len;
+        let len = self.len();
         if are_few_of::<A>(len - i) {
             let item = remove_slot(&mut self.array, i, len);
             self.len = len - 1;
@@ -67,45 +66,21 @@ impl<A: Array> ArrayVec<A> {
         ensures value { result ≡ slice_index_or (items self.old) i result }
         ensures items { items self.new ≡ swap_remove (items self.old) i result }
         ensures spare { Frees A.Item.is_default 1 self.old self.new }
+        ensures fits { items_len self.new < A.CAPACITY }
     {
         let last = self.len() - 1;
-        self.as_mut_slice().swap(i, last);
+        self.swap_items(i, last);
         self.take_last()
     }
 
-    /// Keeps the first `n` items, or all where there are no more.
-    pub fn truncate(&mut self, n: usize)
-        ensures items { items self.new ≡ take n (items self.old) }
-        ensures spare { Frees A.Item.is_default (items_len self.old - n) self.old self.new }
+    // Swaps the items at `i` and `j`.
+    fn swap_items(&mut self, i: usize, j: usize)
+        requires first { i < items_len self.old }
+        requires second { j < items_len self.old }
+        ensures swapped { SwappedAt (items self.old) (items self.new) i j }
+        ensures len { items_len self.new ≡ items_len self.old }
+        ensures spare { spare self.new ≡ spare self.old }
     {
-        let len = self.len();
-        if n < len {
-            clear(&mut self.array, n, len);
-            self.len = n;
-        }
-    }
-
-    /// Moves the border between the items and the spare slots. No slot is written.
-    pub fn set_len(&mut self, len: usize)
-        requires { len ≤ A.CAPACITY }
-        ensures { self.new ≡ split_at len (all_slots self.old) }
-    {
-        self.len = len;
-    }
-
-    /// Cuts the list at `at`, and gives what stood from there on.
-    pub fn split_off(&mut self, at: usize) -> Self
-        requires { at ≤ items_len self.old }
-        ensures items { items self.new ≡ take at (items self.old) }
-        ensures spare { Frees A.Item.is_default (items_len self.old - at) self.old self.new }
-        ensures tail { items result ≡ drop at (items self.old) }
-        ensures tail_spare { AreDefaults A.Item.is_default (A.CAPACITY - (items_len self.old - at)) (spare result) }
-    {
-        let _len = self.len();
-        let mut back = ArrayVec::new();
-        for x in self.drain(at..) {
-            back.push(x);
-        }
-        back
+        self.as_mut_slice().swap(i, j);
     }
 }

@@ -1,5 +1,5 @@
 //! The last item, pushed and popped.
-ghost use Rattle.std.specs.Prelude.{◌≡◌, ◌-◌, ◌<◌, ◌↔◌, [], ◌∷◌, ◌++◌, take, drop, slice_get, slice_index_or, IsSome, OnSome, IfNone, IfSome};
+ghost use Rattle.std.specs.Prelude.{◌≡◌, ◌-◌, ◌<◌, ◌≤◌, ◌↔◌, [], ◌∷◌, ◌++◌, take, drop, slice_get, slice_index_or, IsSome, OnSome, IfNone, IfSome};
 ghost use Rattle.tinyvec_slots.specs.Slots.{items, spare, items_len, Frees};
 
 use crate::slots::{put, take_slot};
@@ -11,11 +11,9 @@ impl<A: Array> ArrayVec<A> {
         requires { items_len self.old < A.CAPACITY }
         ensures items { items self.new ≡ items self.old ++ x ∷ [] }
         ensures spare { spare self.new ≡ drop 1 (spare self.old) }
+        ensures fits { items_len self.new ≤ A.CAPACITY }
     {
-        let _len = self.len();
-        // It tells the proof that the number of slots fits.
-        let _slots = A::CAPACITY;
-        let len = self.len;
+        let len = self.len();
         put(&mut self.array, len, x);
         self.len = len + 1;
     }
@@ -26,6 +24,7 @@ impl<A: Array> ArrayVec<A> {
         ensures refused { IfSome result (λ y. (y ≡ x) × (self.new ≡ self.old)) }
         ensures items { IfNone result (items self.new ≡ items self.old ++ x ∷ []) }
         ensures spare { IfNone result (spare self.new ≡ drop 1 (spare self.old)) }
+        ensures fits { items_len self.new ≤ A.CAPACITY }
     {
         if self.is_full() {
             return Some(x);
@@ -42,6 +41,8 @@ impl<A: Array> ArrayVec<A> {
         ensures items { items self.new ≡ take (items_len self.old - 1) (items self.old) }
         ensures spare { OnSome result (Frees A.Item.is_default 1 self.old self.new) }
         ensures empty { IfNone result (self.new ≡ self.old) }
+        ensures fits { items_len self.new ≤ A.CAPACITY }
+        ensures room { OnSome result (items_len self.new < A.CAPACITY) }
     {
         if self.is_empty() {
             return None;
@@ -56,9 +57,9 @@ impl<A: Array> ArrayVec<A> {
         ensures rest { items self.new ≡ take (items_len self.old - 1) (items self.old) }
         ensures value { result ≡ slice_index_or (items self.old) (items_len self.old - 1) result }
         ensures spare { Frees A.Item.is_default 1 self.old self.new }
+        ensures fits { items_len self.new < A.CAPACITY }
     {
-        let _len = self.len();
-        let last = self.len - 1;
+        let last = self.len() - 1;
         let item = take_slot(&mut self.array, last);
         // Written last: the compiler then knows the length in a loop of pops.
         self.len = last;

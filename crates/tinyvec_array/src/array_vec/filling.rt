@@ -1,9 +1,8 @@
 //! Items taken from iterators and closures.
 ghost use Rattle.std.specs.Prelude.{◌≡◌, ◌-◌, ◌≤◌, ◌↔◌, [], ◌∷◌, ◌++◌, List, length, drop, take, MatchResult, IsOk, IfOk, OnErr, IfErr, Some};
-ghost use Rattle.std.specs.List.{AppendsResults};
 ghost use Rattle.std.specs.Iterator.{Drains, YieldsThen};
-ghost use Rattle.tinyvec_slots.specs.Filling.{YieldsUpTo, ShowsItems, AppendsResultsTo};
-ghost use Rattle.tinyvec_slots.specs.Slots.{items, spare, items_len, AreDefaults, SlotRule};
+ghost use Rattle.tinyvec_slots.specs.Filling.{YieldsUpTo, ShowsItems, IntoIterYields};
+ghost use Rattle.tinyvec_slots.specs.Slots.{items, spare, items_len, AreDefaults};
 
 use crate::{Array, ArrayVec, FromIterRest, NoRoom};
 
@@ -60,7 +59,12 @@ impl<A: Array> ArrayVec<A> {
             → (it : I.IntoIter) × I.into_iter_gives iter it
             × (IsOk result ↔ (length (rest it) ≤ A.CAPACITY - items_len self.old))
             × (items self.new ≡ items self.old ++ take (A.CAPACITY - items_len self.old) (rest it))
-            × IfErr result (λ refused. drop (A.CAPACITY - items_len self.old) (rest it) ≡ refused.item ∷ rest refused.rest) }
+            × IfErr result
+            (λ refused. drop (A.CAPACITY - items_len self.old) (rest it) ≡ refused.item ∷ rest refused.rest) }
+
+        // Of items that are known, as those of a `Vec`, a range or a slice, and that fit.
+        ensures known { (xs : List A.Item) → IntoIterYields I.into_iter_gives I.IntoIter.next_gives iter xs
+            → length xs ≤ A.CAPACITY - items_len self.old → IsOk result × (items self.new ≡ items self.old ++ xs) }
     {
         let mut items = self.fill(iter);
         if !self.is_full() {
@@ -80,7 +84,8 @@ impl<A: Array> ArrayVec<A> {
         requires { (it : I.IntoIter) → I.into_iter_gives iter it → I.IntoIter.can_next it }
         ensures ran { (it : I.IntoIter) × (xs : List A.Item) × I.into_iter_gives iter it
             × MatchResult result (λ v. Drains I.IntoIter.next_gives it xs × (items v ≡ xs))
-            (λ refused. YieldsThen I.IntoIter.next_gives it xs (Some refused.item) refused.rest × (items refused.vec ≡ xs)) }
+            (λ refused. YieldsThen I.IntoIter.next_gives it xs (Some refused.item) refused.rest
+            × (items refused.vec ≡ xs)) }
         ensures full { IfErr result (λ refused. (items_len refused.vec ≡ A.CAPACITY) × (spare refused.vec ≡ [])) }
         ensures spare { IfOk result (λ v. AreDefaults A.Item.is_default (A.CAPACITY - items_len v) (spare v)) }
         ensures fits { IfOk result (λ v. items_len v ≤ A.CAPACITY) }
@@ -93,38 +98,17 @@ impl<A: Array> ArrayVec<A> {
             → (it : I.IntoIter) × I.into_iter_gives iter it
             × (IsOk result ↔ (length (rest it) ≤ A.CAPACITY))
             × MatchResult result (λ v. items v ≡ rest it)
-            (λ refused. (items refused.vec ≡ take A.CAPACITY (rest it)) × (drop A.CAPACITY (rest it) ≡ refused.item ∷ rest refused.rest)) }
+            (λ refused. (items refused.vec ≡ take A.CAPACITY (rest it))
+            × (drop A.CAPACITY (rest it) ≡ refused.item ∷ rest refused.rest)) }
+
+        // Of items that are known, and that fit.
+        ensures known { (xs : List A.Item) → IntoIterYields I.into_iter_gives I.IntoIter.next_gives iter xs
+            → length xs ≤ A.CAPACITY → IsOk result × IfOk result (λ v. items v ≡ xs) }
     {
         let mut vec = ArrayVec::new();
         match vec.extend(iter) {
             Ok(()) => Ok(vec),
             Err(NoRoom { item, rest }) => Err(FromIterRest { vec, item, rest }),
-        }
-    }
-
-    /// Cuts the list to `n` items, or fills it up with what `f` answers. `f` is asked only for the items that are missing.
-    pub fn resize_with<F: FnMut() -> A::Item>(&mut self, n: usize, mut f: F)
-        requires room { n ≤ A.CAPACITY }
-        requires callable { F.IsAlwaysCallable f }
-        ensures items { AppendsResults F.step (take n (items self.old)) (items self.new) f }
-        ensures len { items_len self.new ≡ n }
-        ensures spare { SlotRule A.Item.is_default self.old self.new }
-    {
-        self.resize_asked(n, &mut f);
-    }
-
-    // `resize_with`, and the state in which the last question leaves `f`.
-    fn resize_asked<F: FnMut() -> A::Item>(&mut self, n: usize, f: &mut F)
-        requires room { n ≤ A.CAPACITY }
-        requires callable { F.IsAlwaysCallable f.old }
-        ensures items { AppendsResults F.step (take n (items self.old)) (items self.new) f.old }
-        ensures asked { AppendsResultsTo F.step (take n (items self.old)) (items self.new) f.old f.new }
-        ensures len { items_len self.new ≡ n }
-        ensures spare { SlotRule A.Item.is_default self.old self.new }
-    {
-        self.truncate(n);
-        while self.len() < n {
-            self.push(f());
         }
     }
 }

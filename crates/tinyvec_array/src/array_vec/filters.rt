@@ -15,6 +15,7 @@ impl<A: Array> ArrayVec<A> {
         requires { F.IsAlwaysCallable f }
         ensures filtered { IsFiltered (CalledAt F.FnMut) f (items self.old) (items self.new) }
         ensures bound { items_len self.new ≤ items_len self.old }
+        ensures fits { items_len self.new ≤ A.CAPACITY }
         ensures spare { Frees A.Item.is_default (items_len self.old - items_len self.new) self.old self.new }
     {
         self.retain_asked(&mut f);
@@ -25,6 +26,7 @@ impl<A: Array> ArrayVec<A> {
         requires { F.IsAlwaysCallable f }
         ensures filtered { RetainsInTurn (CalledAtMut F.FnMut) f (items self.old) (items self.new) }
         ensures bound { items_len self.new ≤ items_len self.old }
+        ensures fits { items_len self.new ≤ A.CAPACITY }
         ensures spare { Frees A.Item.is_default (items_len self.old - items_len self.new) self.old self.new }
     {
         self.retain_mut_asked(&mut f);
@@ -36,6 +38,7 @@ impl<A: Array> ArrayVec<A> {
         A::Item: PartialEq,
         ensures items { items self.new ≡ dedup_list A.Item.eq (items self.old) }
         ensures bound { items_len self.new ≤ items_len self.old }
+        ensures fits { items_len self.new ≤ A.CAPACITY }
         ensures spare { Frees A.Item.is_default (items_len self.old - items_len self.new) self.old self.new }
     {
         self.dedup_by(|current, last| *current == *last);
@@ -46,6 +49,7 @@ impl<A: Array> ArrayVec<A> {
         requires { F.IsAlwaysCallable same }
         ensures filtered { IsDeduped (CalledAtPairMut F.FnMut) same (items self.old) (items self.new) }
         ensures bound { items_len self.new ≤ items_len self.old }
+        ensures fits { items_len self.new ≤ A.CAPACITY }
         ensures spare { Frees A.Item.is_default (items_len self.old - items_len self.new) self.old self.new }
     {
         self.dedup_asked(&mut same);
@@ -56,6 +60,7 @@ impl<A: Array> ArrayVec<A> {
         requires { F.IsAlwaysCallable key }
         ensures filtered { IsDeduped (ComparesKeys F.FnMut K.eq) key (items self.old) (items self.new) }
         ensures bound { items_len self.new ≤ items_len self.old }
+        ensures fits { items_len self.new ≤ A.CAPACITY }
         ensures spare { Frees A.Item.is_default (items_len self.old - items_len self.new) self.old self.new }
     {
         self.dedup_keys_asked(&mut key);
@@ -67,6 +72,7 @@ impl<A: Array> ArrayVec<A> {
         ensures filtered { IsFiltered (CalledAt F.FnMut) f.old (items self.old) (items self.new) }
         ensures asked { IsFilteredTo (CalledAt F.FnMut) f.old (items self.old) (items self.new) f.new }
         ensures bound { items_len self.new ≤ items_len self.old }
+        ensures fits { items_len self.new ≤ A.CAPACITY }
         ensures spare { Frees A.Item.is_default (items_len self.old - items_len self.new) self.old self.new }
     {
         let kept = retain_in_front(self.as_mut_slice(), f);
@@ -79,6 +85,7 @@ impl<A: Array> ArrayVec<A> {
         ensures filtered { RetainsInTurn (CalledAtMut F.FnMut) f.old (items self.old) (items self.new) }
         ensures asked { RetainsTo (CalledAtMut F.FnMut) f.old (items self.old) (items self.new) f.new }
         ensures bound { items_len self.new ≤ items_len self.old }
+        ensures fits { items_len self.new ≤ A.CAPACITY }
         ensures spare { Frees A.Item.is_default (items_len self.old - items_len self.new) self.old self.new }
     {
         let kept = retain_mut_in_front(self.as_mut_slice(), f);
@@ -91,6 +98,7 @@ impl<A: Array> ArrayVec<A> {
         ensures filtered { IsDeduped (CalledAtPairMut F.FnMut) same.old (items self.old) (items self.new) }
         ensures asked { IsDedupedTo (CalledAtPairMut F.FnMut) same.old (items self.old) (items self.new) same.new }
         ensures bound { items_len self.new ≤ items_len self.old }
+        ensures fits { items_len self.new ≤ A.CAPACITY }
         ensures spare { Frees A.Item.is_default (items_len self.old - items_len self.new) self.old self.new }
     {
         let kept = dedup_in_front(self.as_mut_slice(), same);
@@ -103,6 +111,7 @@ impl<A: Array> ArrayVec<A> {
         ensures filtered { IsDeduped (ComparesKeys F.FnMut K.eq) key.old (items self.old) (items self.new) }
         ensures asked { IsDedupedTo (ComparesKeys F.FnMut K.eq) key.old (items self.old) (items self.new) key.new }
         ensures bound { items_len self.new ≤ items_len self.old }
+        ensures fits { items_len self.new ≤ A.CAPACITY }
         ensures spare { Frees A.Item.is_default (items_len self.old - items_len self.new) self.old self.new }
     {
         let kept = dedup_keys_in_front(self.as_mut_slice(), key);

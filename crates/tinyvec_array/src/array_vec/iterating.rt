@@ -37,11 +37,11 @@ impl<A: Array> ArrayVec<A> {
 
         // It lends the items in order, or from the back.
         ensures runs { EveryRun (iter_mut_steps {A = A.Item}) (λ p. ItemsMapTo p (λ x. x.now) (iter_mut_rest p.from)) }
-        ensures runs_back { EveryRun (iter_mut_steps_back {A = A.Item}) (λ p. ItemsMapToReversed p (λ x. x.now) (iter_mut_rest p.from)) }
+        ensures runs_back { EveryRun (iter_mut_steps_back {A = A.Item})
+            (λ p. ItemsMapToReversed p (λ x. x.now) (iter_mut_rest p.from)) }
     {
-        // They tell the proof that the list lies within the slots.
-        let _len = self.len;
-        let _slots = self.array.as_slice();
+        // It tells the proof that the list lies within the slots.
+        let _len = self.len();
         self.as_mut_slice().iter_mut()
     }
 }
@@ -95,9 +95,7 @@ impl<A: Array> IntoIterator for ArrayVec<A> {
         ensures both_ends { GivesFromEnds result }
         ensures into_iter_gives { IteratesOver (items self) result }
     {
-        // It tells the proof that the number of slots fits.
-        let _slots = A::CAPACITY;
-        let len = self.len;
+        let len = self.len();
         ArrayVecIterator::over(self.array, len)
     }
 }

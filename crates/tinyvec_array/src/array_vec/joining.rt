@@ -6,21 +6,16 @@ use crate::{Array, ArrayVec};
 use std::mem;
 
 impl<A: Array> ArrayVec<A> {
-    /// Empties the list.
-    pub fn clear(&mut self)
-        ensures items { items self.new ≡ [] }
-        ensures spare { Frees A.Item.is_default (items_len self.old) self.old self.new }
-    {
-        self.truncate(0);
-    }
-
     // Appends what `from` holds, and leaves defaults there.
     fn push_taken(&mut self, from: &mut [A::Item])
         requires { length from.old ≤ A.CAPACITY - items_len self.old }
         ensures items { items self.new ≡ items self.old ++ from.old }
         ensures spare { spare self.new ≡ drop (length from.old) (spare self.old) }
         ensures left { AreDefaults A.Item.is_default (length from.old) from.new }
+        ensures fits { items_len self.new ≤ A.CAPACITY }
     {
+        // It tells the proof that the list fits where nothing is pushed.
+        let _len = self.len();
         for i in 0..from.len() {
             self.push(mem::take(&mut from[i]));
         }
@@ -33,23 +28,25 @@ impl<A: Array> ArrayVec<A> {
         ensures spare { spare self.new ≡ drop (items_len other.old) (spare self.old) }
         ensures other_items { items other.new ≡ [] }
         ensures other_spare { Frees A.Item.is_default (items_len other.old) other.old other.new }
+        ensures fits { items_len self.new ≤ A.CAPACITY }
     {
-        let _len = self.len();
-        let _other_len = other.len();
         self.push_taken(other.as_mut_slice());
-        other.set_border(0);
+        other.set_len(0);
     }
 
     /// Moves the items of `other` behind the list where they fit, and leaves `other` empty, as `append` does. Where they
     /// don't, both are as they were. `other` comes back either way: in `Ok` it was emptied, in `Err` it was refused.
     pub fn append_if_fits<'o>(&mut self, other: &'o mut Self) -> Result<&'o mut Self, &'o mut Self>
-        ensures fits { IsOk result ↔ (items_len self.old + items_len other.old ≤ A.CAPACITY) }
+        ensures cases { IsOk result ↔ (items_len self.old + items_len other.old ≤ A.CAPACITY) }
         ensures items { OnOk result (items self.new ≡ items self.old ++ items other.old) }
         ensures spare { OnOk result (spare self.new ≡ drop (items_len other.old) (spare self.old)) }
         ensures other_items { IfOk result (λ emptied. items emptied.now ≡ []) }
-        ensures other_spare { IfOk result (λ emptied. Frees A.Item.is_default (items_len other.old) other.old emptied.now) }
+        ensures other_spare { IfOk result
+            (λ emptied. Frees A.Item.is_default (items_len other.old) other.old emptied.now) }
         ensures refused { IfErr result (λ back. (self.new ≡ self.old) × (back.now ≡ other.old)) }
-        ensures same_reference { MatchResult result (λ emptied. emptied.ghost_name ≡ other.entry.ghost_name) (λ back. back.ghost_name ≡ other.entry.ghost_name) }
+        ensures fits { items_len self.new ≤ A.CAPACITY }
+        ensures same_reference { MatchResult result (λ emptied. emptied.ghost_name ≡ other.entry.ghost_name)
+            (λ back. back.ghost_name ≡ other.entry.ghost_name) }
     {
         if other.len() > self.capacity() - self.len() {
             return Err(other);
@@ -67,6 +64,7 @@ impl<A: Array> ArrayVec<A> {
         ensures same_reference { IfSome result (λ back. back.ghost_name ≡ other.entry.ghost_name) }
         ensures items { IfNone result (items self.new ≡ items self.old ++ items other.old) }
         ensures spare { IfNone result (spare self.new ≡ drop (items_len other.old) (spare self.old)) }
+        ensures fits { items_len self.new ≤ A.CAPACITY }
     {
         match self.append_if_fits(other) {
             Ok(_emptied) => None,

@@ -3,7 +3,7 @@ ghost use Rattle.std.specs.Prelude.{◌≡◌, ◌<◌, slice_index_or};
 ghost use Rattle.std.specs.Borrow.{sem};
 ghost use Rattle.tinyvec_slots.specs.Slots.{items, spare, items_len, all_slots};
 
-use crate::lent::{part_of, slot_of};
+use crate::parts::{part_of, slot_of};
 use crate::{Array, ArrayVec};
 use std::ops::{Index, IndexMut};
 
@@ -15,8 +15,8 @@ impl<A: Array> ArrayVec<A> {
         ensures* writes_back { sem 𝓛 (lends_items A.row A.Item.row A.Array A.Item.Default self.entry result) }
         ensures value { result.now ≡ items self.old }
     {
-        let _len = self.len();
-        part_of(&mut self.array, 0, self.len)
+        let len = self.len();
+        part_of(&mut self.array, 0, len)
     }
 
     /// The spare slots, for writing.
@@ -24,8 +24,8 @@ impl<A: Array> ArrayVec<A> {
         ensures* writes_back { sem 𝓛 (lends_spare A.row A.Item.row A.Array A.Item.Default self.entry result) }
         ensures value { result.now ≡ spare self.old }
     {
-        let _len = self.len();
-        part_of(&mut self.array, self.len, A::CAPACITY)
+        let len = self.len();
+        part_of(&mut self.array, len, A::CAPACITY)
     }
 
     /// The array, spare slots too, for writing.

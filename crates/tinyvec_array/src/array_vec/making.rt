@@ -1,8 +1,10 @@
 //! Making an `ArrayVec`.
-ghost use Rattle.std.specs.Prelude.{◌≡◌, ◌≤◌, []};
-ghost use Rattle.tinyvec_slots.specs.Slots.{items, spare, all_slots, split_at, AreDefaults};
+ghost use Rattle.std.specs.Prelude.{◌≡◌, ◌-◌, ◌<◌, ◌≤◌, ◌↔◌, [], ℕ, All, length, IfOk, IfErr, IsErr, IsOk};
+ghost use Rattle.std.specs.List.{AllZip};
+ghost use Rattle.tinyvec_slots.specs.Slots.{items, spare, items_len, all_slots, split_at, AreDefaults};
+ghost use Rattle.tinyvec_slots.specs.Clones.{RefusedAt, ClonesAreEqual};
 
-use crate::{Array, ArrayVec};
+use crate::{Array, ArrayVec, TryFromSliceError};
 
 impl<A: Array> ArrayVec<A> {
     /// An empty vector, all of whose slots hold defaults.
@@ -10,6 +12,7 @@ impl<A: Array> ArrayVec<A> {
         ensures border { result ≡ split_at 0 (all_slots result) }
         ensures items { items result ≡ [] }
         ensures spare { AreDefaults A.Item.is_default A.CAPACITY (spare result) }
+        ensures fits { items_len result ≤ A.CAPACITY }
     {
         ArrayVec {
             len: 0,
@@ -45,6 +48,42 @@ impl<A: Array> ArrayVec<A> {
         ensures spare { spare result ≡ A.slots array }
     {
         ArrayVec { len: 0, array }
+    }
+
+    /// A vector whose list is the first `len` slots of the array. An array with fewer slots comes back.
+    // Inlined, since LLVM takes minutes over a function that hands back one of two large values.
+    #[inline(always)]
+    pub fn try_from_array_len(array: A, len: usize) -> Result<Self, A>
+        ensures refused { IsErr result ↔ (A.CAPACITY < len) }
+        ensures value { IfOk result (λ v. v ≡ split_at len (A.slots array)) }
+        ensures back { IfErr result (λ a. a ≡ array) }
+    {
+        if len > A::CAPACITY {
+            return Err(array);
+        }
+        Ok(Self::from_array_len(array, len))
+    }
+
+    /// A vector of clones of the slice's items.
+    pub fn try_from_slice(slice: &[A::Item]) -> Result<Self, TryFromSliceError>
+    where
+        A::Item: Clone,
+        ensures items { IfOk result (λ v. AllZip A.Item.is_clone slice.now (items v)) }
+        ensures len { IfOk result (λ v. items_len v ≡ length slice.now) }
+        ensures if_clones_equal { IfOk result (λ v. ClonesAreEqual A.Item.is_clone → items v ≡ slice.now) }
+        ensures spare { IfOk result (λ v. AreDefaults A.Item.is_default (A.CAPACITY - length slice.now) (spare v)) }
+        ensures too_long { (result ≡ Err TryFromSliceError.TooLong) ↔ (A.CAPACITY < length slice.now) }
+        ensures memory { result ≡ Err TryFromSliceError.Memory → (j : ℕ) × RefusedAt A.Item.is_infallible slice.now j }
+        ensures succeeds { length slice.now ≤ A.CAPACITY → All A.Item.is_infallible slice.now → IsOk result }
+    {
+        if slice.len() > A::CAPACITY {
+            return Err(TryFromSliceError::TooLong);
+        }
+        let mut vec = Self::new();
+        match vec.extend_from_slice(slice) {
+            Ok(()) => Ok(vec),
+            Err(_) => Err(TryFromSliceError::Memory),
+        }
     }
 }
 

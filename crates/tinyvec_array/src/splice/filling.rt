@@ -8,8 +8,8 @@ ghost use Rattle.tinyvec_array.specs.Touches.{touch_count};
 use crate::touches::Touches;
 use crate::{Array, ArrayVec, SpliceRest};
 
-/// Puts what `replacement` gives in the place of the items from `front` up to `back`. Where one finds no room, the vector
-/// is full, and that item and what follows it come back.
+// Puts what `replacement` gives in the place of the items from `front` up to `back`. Where one finds no room, the vector
+// is full, and that item and what follows it come back.
 pub(crate) fn fill<A: Array, I: Iterator<Item = A::Item>>(
     vec: &mut ArrayVec<A>,
     touches: &mut Touches,
@@ -31,9 +31,8 @@ pub(crate) fn fill<A: Array, I: Iterator<Item = A::Item>>(
     ensures slots { SlotRule A.Item.is_default vec.old vec.new }
     ensures goes_on { IfErr result (λ refused. I.can_next refused.rest) }
 {
-    // They tell the proof that the list and the number of slots fit.
+    // It tells the proof that the list and the number of slots fit.
     let _len = vec.len();
-    let _slots = A::CAPACITY;
     let at = place(vec, touches, front, back, &mut replacement);
     if at < back {
         close(vec, touches, at, back);
@@ -41,7 +40,7 @@ pub(crate) fn fill<A: Array, I: Iterator<Item = A::Item>>(
     }
     let end = vec.len();
     let pushed = push_rest(vec, touches, replacement);
-    turn_in(vec, touches, at, end);
+    rotate_in(vec, touches, at, end);
     pushed
 }
 
@@ -87,8 +86,10 @@ fn place_one<A: Array, I: Iterator<Item = A::Item>>(
     requires in_bounds { at < items_len vec.old }
     requires few { touch_count touches.old < 2 ^ 100 }
     requires can { I.can_next replacement.old }
-    ensures { MatchBool result ((new : A.Item) × I.next_gives replacement.old (Some new) replacement.new × I.can_next replacement.new
-        × (items vec.new ≡ slice_set (items vec.old) at new) × (spare vec.new ≡ spare vec.old) × (touch_count touches.new ≡ touch_count touches.old + 2))
+    ensures { MatchBool result ((new : A.Item) × I.next_gives replacement.old (Some new) replacement.new
+        × I.can_next replacement.new
+        × (items vec.new ≡ slice_set (items vec.old) at new) × (spare vec.new ≡ spare vec.old)
+        × (touch_count touches.new ≡ touch_count touches.old + 2))
         (I.next_gives replacement.old None replacement.new × (vec.new ≡ vec.old) × (touches.new ≡ touches.old)) }
 {
     match replacement.next() {
@@ -135,11 +136,12 @@ fn push_rest<A: Array, I: Iterator<Item = A::Item>>(
 }
 
 // Moves the items from `end` on before those from `at` on.
-fn turn_in<A: Array>(vec: &mut ArrayVec<A>, touches: &mut Touches, at: usize, end: usize)
+fn rotate_in<A: Array>(vec: &mut ArrayVec<A>, touches: &mut Touches, at: usize, end: usize)
     requires in_order { at ≤ end }
     requires in_bounds { end ≤ items_len vec.old }
     requires few { touch_count touches.old < 2 ^ 100 }
-    ensures items { items vec.new ≡ take at (items vec.old) ++ drop end (items vec.old) ++ slice_range (items vec.old) at end }
+    ensures items { items vec.new
+        ≡ take at (items vec.old) ++ drop end (items vec.old) ++ slice_range (items vec.old) at end }
     ensures spare { spare vec.new ≡ spare vec.old }
     ensures grows { touch_count touches.old ≤ touch_count touches.new }
     ensures touches { touch_count touches.new ≤ touch_count touches.old + (items_len vec.old - at) }
@@ -160,11 +162,11 @@ fn close<A: Array>(vec: &mut ArrayVec<A>, touches: &mut Touches, at: usize, back
 {
     let len = vec.len();
     touches.close(vec.as_mut_slice(), at, back);
-    give_up(vec, touches, len - (back - at));
+    drop_behind(vec, touches, len - (back - at));
 }
 
-// Gives up the items behind the first `keep`.
-fn give_up<A: Array>(vec: &mut ArrayVec<A>, touches: &mut Touches, keep: usize)
+// Drops the items behind the first `keep`.
+fn drop_behind<A: Array>(vec: &mut ArrayVec<A>, touches: &mut Touches, keep: usize)
     requires in_list { keep ≤ items_len vec.old }
     requires few { touch_count touches.old < 2 ^ 100 }
     ensures items { items vec.new ≡ take keep (items vec.old) }

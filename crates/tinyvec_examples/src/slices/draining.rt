@@ -2,8 +2,8 @@
 //! One that names `SliceVec` knows it by `drain_each` and `drain_into`.
 ghost use Rattle.std.specs.Prelude.{◌≡◌, ◌≤◌, ◌-◌, ◌+◌, ◌++◌, ◌∷◌, [], pos, length, take, drop, slice_get, slice_range, vec_len, vec_capacity};
 ghost use Rattle.std.specs.List.{remove_range};
-ghost use Rattle.tinyvec_slots.specs.Slots.{Frees};
-ghost use Rattle.tinyvec_slots.specs.Cut.{IsRangeOf, before, after};
+ghost use Rattle.tinyvec_slice.specs.Slots.{Frees};
+ghost use Rattle.tinyvec_slice.specs.Cut.{IsRangeOf, before, after};
 ghost use Rattle.tinyvec_slice.specs.View.{items_of, name_of, seen_of, items, spare, name};
 
 use std::ops::RangeBounds;
@@ -42,7 +42,8 @@ where
     requires known { R.has_bounds range }
     requires in_list { IsRangeOf (items_of B.Lent v.old) (R.start_bound range) (R.end_bound range) }
     ensures same_reference { name_of B.Lent v.new ≡ name_of B.Lent v.old }
-    ensures items { items_of B.Lent v.new ≡ before (items_of B.Lent v.old) (R.start_bound range) ++ after (items_of B.Lent v.old) (R.end_bound range) }
+    ensures items { items_of B.Lent v.new
+        ≡ before (items_of B.Lent v.old) (R.start_bound range) ++ after (items_of B.Lent v.old) (R.end_bound range) }
 {
     let _items = v.drain(range);
 }

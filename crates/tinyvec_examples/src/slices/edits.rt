@@ -1,19 +1,10 @@
 //! What the owner sees after pushes and edits.
-ghost use Rattle.std.specs.Prelude.{◌≡◌, ◌<◌, ◌≤◌, ◌+◌, ◌∷◌, [], ◌++◌, length, take, drop, insert, pos, remove};
+ghost use Rattle.std.specs.Prelude.{◌≡◌, ◌<◌, ◌≤◌, ◌+◌, ◌∷◌, [], length, take, drop, insert, pos, remove};
 ghost use Rattle.tinyvec_slice.specs.View.{items, spare, name};
 
 use tinyvec_slice::SliceVec;
 
-/// A push writes the slot behind the list, and no other.
-pub fn pushed(slots: &mut [u8])
-    requires { 3 ≤ length slots.old }
-    ensures { slots.new ≡ take 2 slots.old ++ 7 ∷ [] ++ drop 3 slots.old }
-{
-    let mut v = SliceVec::from_slice_len(slots, 2);
-    v.push(7);
-}
-
-/// So it does in an array.
+/// A push writes the slot behind the list, in an array.
 pub fn pushed_in_array() -> [i32; 4]
     ensures { result ≡ pos 1 ∷ pos 2 ∷ pos 7 ∷ pos 8 ∷ [] }
 {
@@ -59,7 +50,7 @@ pub fn edit(v: &mut SliceVec<'_, i32>)
     v.insert(1, 8);
 }
 
-/// The owner sees the list, then a default in the slot that it gave up, then what stood behind.
+/// The owner sees the list, then a default in the vacated slot, then what stood behind.
 pub fn edited() -> [i32; 5]
     ensures { result ≡ pos 1 ∷ pos 8 ∷ pos 3 ∷ pos 0 ∷ pos 9 ∷ [] }
 {

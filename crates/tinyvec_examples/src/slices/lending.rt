@@ -9,7 +9,8 @@ pub fn write_two(v: &mut SliceVec<'_, u8>)
     requires { 2 ≤ length (items v.old) }
     ensures same_reference { name v.new ≡ name v.old }
     ensures len { (seen v.new).len ≡ (seen v.old).len }
-    ensures slots { slots v.new ≡ slice_set (slice_set (items v.old) 0 7) 1 8 ++ drop (length (items v.old)) (slots v.old) }
+    ensures slots { slots v.new
+        ≡ slice_set (slice_set (items v.old) 0 7) 1 8 ++ drop (length (items v.old)) (slots v.old) }
 {
     let all = v.as_mut_slice();
     all[0] = 7;

@@ -14,7 +14,8 @@ pub fn run_array<A: Array>(
     vec: &mut ArrayVec<A>,
     calls: Vec<Call<A::Item>>,
 ) -> Result<Vec<Answer<A::Item>>, NoMemory<Vec<Call<A::Item>>>>
-    ensures run { IfOk result (λ answers. Run (ArrayStep A.Item.is_default A.CAPACITY) vec.old calls.items answers.items vec.new) }
+    ensures run { IfOk result (λ answers. Run (ArrayStep A.Item.is_default A.CAPACITY)
+        vec.old calls.items answers.items vec.new) }
     ensures refused { IfErr result (λ refused. (refused.0 ≡ calls) × (vec.new ≡ vec.old)) }
     ensures none { calls.items ≡ [] → IsOk result }
 {

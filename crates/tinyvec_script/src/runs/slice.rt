@@ -17,7 +17,8 @@ pub fn run_slice<B: Lent>(
 ) -> Result<Vec<Answer<B::Item>>, NoMemory<Vec<Call<B::Item>>>>
 where
     B::Item: Default,
-    ensures run { IfOk result (λ answers. Run (SliceStep B.Item.is_default) (seen_of B.Lent vec.old) calls.items answers.items (seen_of B.Lent vec.new)) }
+    ensures run { IfOk result (λ answers. Run (SliceStep B.Item.is_default)
+        (seen_of B.Lent vec.old) calls.items answers.items (seen_of B.Lent vec.new)) }
     ensures refused { IfErr result (λ refused. (refused.0 ≡ calls) × (vec.new ≡ vec.old)) }
     ensures same_slots { name_of B.Lent vec.new ≡ name_of B.Lent vec.old }
     ensures none { calls.items ≡ [] → IsOk result }

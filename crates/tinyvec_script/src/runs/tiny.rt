@@ -16,7 +16,8 @@ pub fn run_tiny<A: Array>(
     vec: &mut TinyVec<A>,
     calls: Vec<Call<A::Item>>,
 ) -> Result<Vec<Answer<A::Item>>, NoMemory<Vec<Call<A::Item>>>>
-    ensures run { IfOk result (λ answers. Run (TinyStep A.Item.is_default A.CAPACITY) (tiny_of vec.old) calls.items answers.items (tiny_of vec.new)) }
+    ensures run { IfOk result (λ answers. Run (TinyStep A.Item.is_default A.CAPACITY)
+        (tiny_of vec.old) calls.items answers.items (tiny_of vec.new)) }
     ensures refused { IfErr result (λ refused. (refused.0 ≡ calls) × (vec.new ≡ vec.old)) }
     ensures none { calls.items ≡ [] → IsOk result }
 {

@@ -1,8 +1,8 @@
 //! Items taken from iterators.
 ghost use Rattle.std.specs.Prelude.{◌≡◌, ◌-◌, ◌≤◌, ◌↔◌, [], ◌∷◌, ◌++◌, List, length, drop, take, MatchResult, IsOk, OnErr, IfErr, Some};
 ghost use Rattle.std.specs.Iterator.{Drains, YieldsThen};
-ghost use Rattle.tinyvec_slots.specs.Filling.{YieldsUpTo, ShowsItems};
-ghost use Rattle.tinyvec_slice.specs.View.{items_of, spare_of, name_of};
+ghost use Rattle.tinyvec_slots.specs.Filling.{YieldsUpTo, ShowsItems, IntoIterYields};
+ghost use Rattle.tinyvec_slice.specs.View.{items_of, spare_of, name_of, len_of};
 
 use crate::{Lent, SliceVecOver};
 use tinyvec_slots::NoRoom;
@@ -16,7 +16,8 @@ impl<B: Lent> SliceVecOver<B> {
         ensures ran { (it : I.IntoIter) × (xs : List B.Item) × I.into_iter_gives iter it
             × YieldsUpTo I.IntoIter.next_gives (length (spare_of B.Lent self.old)) it xs result
             × (items_of B.Lent self.new ≡ items_of B.Lent self.old ++ xs) }
-        ensures spare { spare_of B.Lent self.new ≡ drop (length (items_of B.Lent self.new) - length (items_of B.Lent self.old)) (spare_of B.Lent self.old) }
+        ensures spare { spare_of B.Lent self.new
+            ≡ drop (len_of B.Lent self.new - len_of B.Lent self.old) (spare_of B.Lent self.old) }
 
         // After an item it may be asked again.
         ensures goes_on { length (spare_of B.Lent self.new) ≡ 0 → I.IntoIter.can_next result }
@@ -24,7 +25,8 @@ impl<B: Lent> SliceVecOver<B> {
         // The same of an iterator whose items are known.
         ensures listed { (rest : I.IntoIter → List B.Item) → ShowsItems I.IntoIter.next_gives rest
             → (it : I.IntoIter) × I.into_iter_gives iter it
-            × (items_of B.Lent self.new ≡ items_of B.Lent self.old ++ take (length (spare_of B.Lent self.old)) (rest it))
+            × (items_of B.Lent self.new
+            ≡ items_of B.Lent self.old ++ take (length (spare_of B.Lent self.old)) (rest it))
             × (rest result ≡ drop (length (spare_of B.Lent self.old)) (rest it)) }
     {
         let mut items = iter.into_iter();
@@ -50,7 +52,8 @@ impl<B: Lent> SliceVecOver<B> {
             (λ refused. YieldsThen I.IntoIter.next_gives it xs (Some refused.item) refused.rest)
             × (items_of B.Lent self.new ≡ items_of B.Lent self.old ++ xs) }
         ensures full { OnErr result (spare_of B.Lent self.new ≡ []) }
-        ensures spare { spare_of B.Lent self.new ≡ drop (length (items_of B.Lent self.new) - length (items_of B.Lent self.old)) (spare_of B.Lent self.old) }
+        ensures spare { spare_of B.Lent self.new
+            ≡ drop (len_of B.Lent self.new - len_of B.Lent self.old) (spare_of B.Lent self.old) }
 
         // After an item it may be asked again.
         ensures goes_on { IfErr result (λ refused. I.IntoIter.can_next refused.rest) }
@@ -59,8 +62,15 @@ impl<B: Lent> SliceVecOver<B> {
         ensures listed { (rest : I.IntoIter → List B.Item) → ShowsItems I.IntoIter.next_gives rest
             → (it : I.IntoIter) × I.into_iter_gives iter it
             × (IsOk result ↔ (length (rest it) ≤ length (spare_of B.Lent self.old)))
-            × (items_of B.Lent self.new ≡ items_of B.Lent self.old ++ take (length (spare_of B.Lent self.old)) (rest it))
-            × IfErr result (λ refused. drop (length (spare_of B.Lent self.old)) (rest it) ≡ refused.item ∷ rest refused.rest) }
+            × (items_of B.Lent self.new
+            ≡ items_of B.Lent self.old ++ take (length (spare_of B.Lent self.old)) (rest it))
+            × IfErr result (λ refused. drop (length (spare_of B.Lent self.old)) (rest it)
+            ≡ refused.item ∷ rest refused.rest) }
+
+        // Of items that are known, as those of a `Vec`, a range or a slice, and that fit.
+        ensures known { (xs : List B.Item) → IntoIterYields I.into_iter_gives I.IntoIter.next_gives iter xs
+            → length xs ≤ length (spare_of B.Lent self.old)
+            → IsOk result × (items_of B.Lent self.new ≡ items_of B.Lent self.old ++ xs) }
     {
         let mut items = self.fill(iter);
         if !self.is_full() {

@@ -4,7 +4,7 @@ ghost use Rattle.std.specs.Borrow.{sem};
 ghost use Rattle.std.specs.Slice.Iter.{iter_rest, iter_mut_rest, iter_mut_steps, iter_mut_steps_back};
 ghost use Rattle.std.specs.Iterator.Adapters.{IterYieldsInOrder, IterYieldsInReverse};
 ghost use Rattle.std.specs.Iterator.Runs.{EveryRun, ItemsMapTo, ItemsMapToReversed};
-ghost use Rattle.tinyvec_slice.specs.View.{items_of, items};
+ghost use Rattle.tinyvec_slice.specs.View.{items_of, items, len_of};
 
 use crate::{Lent, SliceVecOver};
 use std::slice;
@@ -15,7 +15,7 @@ impl<B: Lent> SliceVecOver<B> {
     /// The items, in order or from the back.
     pub fn iter(&self) -> slice::Iter<'_, B::Item>
         ensures rest { iter_rest result ≡ items_of B.Lent self.now }
-        ensures len { length (iter_rest result) ≡ length (items_of B.Lent self.now) }
+        ensures len { length (iter_rest result) ≡ len_of B.Lent self.now }
         ensures bound { length (iter_rest result) < 2 ^ 64 }
         ensures runs { IterYieldsInOrder B.Item }
         ensures runs_back { IterYieldsInReverse B.Item }
@@ -27,12 +27,13 @@ impl<B: Lent> SliceVecOver<B> {
     pub fn iter_mut(&mut self) -> slice::IterMut<'_, B::Item>
         ensures* writes_back { sem 𝓛 (lends_iter B.row B.Item.row B.Lent self.entry result) }
         ensures rest { iter_mut_rest result ≡ items_of B.Lent self.old }
-        ensures len { length (iter_mut_rest result) ≡ length (items_of B.Lent self.old) }
+        ensures len { length (iter_mut_rest result) ≡ len_of B.Lent self.old }
         ensures bound { length (iter_mut_rest result) < 2 ^ 64 }
 
         // It lends the items in order, or from the back.
         ensures runs { EveryRun (iter_mut_steps {A = B.Item}) (λ p. ItemsMapTo p (λ x. x.now) (iter_mut_rest p.from)) }
-        ensures runs_back { EveryRun (iter_mut_steps_back {A = B.Item}) (λ p. ItemsMapToReversed p (λ x. x.now) (iter_mut_rest p.from)) }
+        ensures runs_back { EveryRun (iter_mut_steps_back {A = B.Item})
+            (λ p. ItemsMapToReversed p (λ x. x.now) (iter_mut_rest p.from)) }
     {
         self.as_mut_slice().iter_mut()
     }

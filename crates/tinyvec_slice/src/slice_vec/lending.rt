@@ -1,10 +1,10 @@
 //! Items, spare slots and all slots, lent for writing.
 ghost use Rattle.std.specs.Prelude.{◌≡◌, ◌<◌, length, slice_index_or};
 ghost use Rattle.std.specs.Borrow.{sem};
-ghost use Rattle.tinyvec_slice.specs.View.{items_of, spare_of, slots_of};
+ghost use Rattle.tinyvec_slice.specs.View.{items_of, spare_of, slots_of, len_of};
 ghost use Rattle.tinyvec_slice.specs.Lends.{lends_items, lends_inner, lends_spare, lends_item};
 
-use crate::parts::{back_of, front_of, slot_of};
+use crate::parts::{part_of, slot_of};
 use crate::{Lent, SliceVecOver};
 use std::ops::{Index, IndexMut};
 
@@ -15,7 +15,7 @@ impl<B: Lent> SliceVecOver<B> {
         ensures value { result.now ≡ items_of B.Lent self.old }
     {
         let len = self.len();
-        front_of(&mut self.lent, len)
+        part_of(&mut self.lent, 0, len)
     }
 
     /// The spare slots, for writing.
@@ -24,7 +24,8 @@ impl<B: Lent> SliceVecOver<B> {
         ensures value { result.now ≡ spare_of B.Lent self.old }
     {
         let len = self.len();
-        back_of(&mut self.lent, len)
+        let all = self.capacity();
+        part_of(&mut self.lent, len, all)
     }
 
     /// All slots, for writing.
@@ -50,11 +51,10 @@ impl<B: Lent> Index<usize> for SliceVecOver<B> {
 
 impl<B: Lent> IndexMut<usize> for SliceVecOver<B> {
     fn index_mut(&mut self, i: usize) -> &mut B::Item
-        requires { i < length (items_of B.Lent self.old) }
+        requires { i < len_of B.Lent self.old }
         ensures* writes_back { sem 𝓛 (lends_item B.row B.Item.row B.Lent self.entry i result) }
         ensures value { result.now ≡ slice_index_or (items_of B.Lent self.old) i result.now }
     {
-        let _slots = self.as_inner();
         slot_of(&mut self.lent, i)
     }
 }

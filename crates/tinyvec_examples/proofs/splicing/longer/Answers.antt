@@ -1,6 +1,5 @@
-use Rattle.std.proofs.Common.{◌≡◌, [], ◌∷◌, Some, pos, refl, ◌∙◌, arith, rules, ap}
+use Rattle.std.proofs.Common.{◌≡◌, [], ◌∷◌, pos, refl, ◌∙◌, arith, rules}
 use Rattle.std.specs.Array.Iter.{array_into_iter_items}
-use Rattle.std.specs.Iterator.Adapters.{fuse_steps}
 use Rattle.tinyvec_slots.specs.Slots.{all_slots}
 use Rattle.tinyvec_slots.specs.Ends.{front, back}
 use Rattle.tinyvec_array.specs.Fused.{fused_rest}

@@ -1,8 +1,7 @@
-use Rattle.std.proofs.Common.{List, [], ◌∷◌, Option, refl}
+use Rattle.std.proofs.Common.{[], ◌∷◌, refl}
 use Rattle.std.specs.Iterator.Adapters.{fuse_steps}
-use Rattle.tinyvec_slots.specs.Ends.{front, back, Asks}
+use Rattle.tinyvec_slots.specs.Ends.{front, back}
 use Rattle.tinyvec_array.specs.Fused.{fused_rest}
-use Rattle.tinyvec_array.specs.Splice.{SpliceSteps, SpliceStepsBack}
 use Rattle.tinyvec_array.proofs.Fused.{fused_ends}
 use Rattle.tinyvec_array.proofs.SplicingLemmas.{Asks-splices, Asks-takes_removed}
 use Rattle.tinyvec_examples.proofs.splicing.one_from_each_end.Goals as goal

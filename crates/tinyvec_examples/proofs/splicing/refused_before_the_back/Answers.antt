@@ -1,7 +1,7 @@
-use Rattle.std.proofs.Common.{◌≡◌, ◌++◌, [], ◌∷◌, Some, Ok, Err, pos, refl, subst, ◌∙◌, arith, rules, ap, length}
+use Rattle.std.proofs.Common.{◌≡◌, [], ◌∷◌, Err, pos, refl, subst, ◌∙◌, arith, rules}
 use Rattle.std.specs.Array.Iter.{array_into_iter_items}
 use Rattle.tinyvec_slots.specs.Slots.{all_slots, items}
-use Rattle.tinyvec_slots.specs.Ends.{front, back}
+use Rattle.tinyvec_slots.specs.Ends.{back}
 use Rattle.tinyvec_array.specs.Fused.{fused_rest}
 use Rattle.tinyvec_array.specs.Splice.{splice_front, splice_left, splice_back, splice_replacement, FinishesWith}
 use Rattle.tinyvec_array.specs.Splicing.{SplicedByWord}

@@ -1,7 +1,7 @@
-use Rattle.std.proofs.Common.{◌≡◌, ◌+◌, ◌-◌, ◌≤◌, List, [], ◌∷◌, ◌++◌, length, take, drop, IsOk, OnOk, OnErr, IfErr, ◌↔◌, refl, subst, ◌∙◌, arith, rules}
+use Rattle.std.proofs.Common.{◌≡◌, ◌-◌, [], ◌∷◌, ◌++◌, take, drop, OnOk, OnErr, IfErr, refl, subst, arith, rules}
 use Rattle.std.proofs.lemmas.List.{length-take-le, length-drop}
 use Rattle.std.specs.Iterator.Adapters.{fuse_steps}
-use Rattle.tinyvec_slots.specs.Slots.{Slots, items, items_len, SlotRule}
+use Rattle.tinyvec_slots.specs.Slots.{items, items_len, SlotRule}
 use Rattle.tinyvec_slots.specs.Ends.{front, back}
 use Rattle.tinyvec_slots.proofs.Lists.{length-slice_range}
 use Rattle.tinyvec_array.specs.Fused.{fused_rest}

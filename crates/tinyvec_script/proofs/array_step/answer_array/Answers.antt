@@ -1,41 +1,45 @@
-use Rattle.std.proofs.Common.{◌≡◌, ◌+◌, ◌-◌, ◌<◌, ◌≤◌, length, set, get_or, refl, ap, ◌∙◌, sym, arith, rules, length-take, length-set}
-use Rattle.std.proofs.lemmas.List.Edits.{length-insert, length-remove}
-use Rattle.std.proofs.lemmas.Option.{slice_get_read}
+use Rattle.std.proofs.Common.{◌≤◌, ◌++◌, ap, ◌∙◌, arith, rules}
+use Rattle.std.specs.declared.ops.Bound.TheVariants.{Included, Excluded}
 use Rattle.tinyvec_slots.specs.Slots.{items, items_len}
-use Rattle.tinyvec_slots.proofs.SlotsLemmas.{slots_used, slots_freed}
+use Rattle.tinyvec_slots.specs.Cut.{removed}
+use Rattle.tinyvec_script.proofs.StepLemmas.{pushes, inserts, removes, swap_removes, drains}
 use Rattle.tinyvec_script.proofs.array_step.answer_array.Goals as goal
+
+pub returns-else-is_full : goal.returns-else-is_full
+returns-else-is_full g c =
+    let made = c.push.ensures in
+    rw c.in-Push.is (pushes g.A.Item.Default.is_default g.A.Array.CAPACITY c.args.vec.now c.push.new.self c.in-Push.x
+    (search rules) made.items made.spare)
 
 pub returns-else-is_full-2 : goal.returns-else-is_full-2
 returns-else-is_full-2 g c =
-    let D = g.A.Item.Default.is_default in
-    let old = c.args.vec.now in
-    let new = c.insert.new.self in
-    let i = c.in-Insert.i in
-    let in_list : i ≤ items_len old = omega arith in
-    let room : items_len old < g.A.Array.CAPACITY = search rules in
-    let more : items_len new ≡ items_len old + 1 = ap length c.insert.ensures.items ∙ length-insert (items old) i c.in-Insert.x in_list in
-    rw c.in-Insert.is (in_list, room, c.insert.ensures.items, slots_used D old new 1 more c.insert.ensures.spare)
+    let made = c.insert.ensures in
+    rw c.in-Insert.is (inserts g.A.Item.Default.is_default g.A.Array.CAPACITY c.args.vec.now c.insert.new.self c.in-Insert.i c.in-Insert.x
+    (omega arith) (search rules) made.items made.spare)
 
 pub returns-else-i-len-2 : goal.returns-else-i-len-2
 returns-else-i-len-2 g c =
-    let D = g.A.Item.Default.is_default in
-    let old = c.args.vec.now in
-    let new = c.remove.new.self in
-    let i = c.in-Remove.i in
-    let in_list : i < items_len old = omega arith in
-    let fewer : items_len old ≡ items_len new + 1 = sym (ap (λ n. n + 1) (ap length c.remove.ensures.items) ∙ length-remove (items old) i in_list) in
-    rw c.in-Remove.is (slice_get_read (items old) _ i _ refl in_list c.remove.ensures.value, c.remove.ensures.items, slots_freed D old new 1 fewer c.remove.ensures.spare)
+    let made = c.remove.ensures in
+    rw c.in-Remove.is (removes g.A.Item.Default.is_default g.A.Array.CAPACITY c.args.vec.now c.remove.new.self c.in-Remove.i c.remove.result
+    (omega arith) made.value made.items made.spare)
 
 pub returns-else-i-len-3 : goal.returns-else-i-len-3
 returns-else-i-len-3 g c =
-    let D = g.A.Item.Default.is_default in
+    let made = c.swap_remove.ensures in
+    rw c.in-SwapRemove.is (swap_removes g.A.Item.Default.is_default g.A.Array.CAPACITY c.args.vec.now c.swap_remove.new.self c.in-SwapRemove.i
+    c.swap_remove.result (omega arith) made.value made.items made.spare)
+
+pub returns-in-Ok : goal.returns-in-Ok
+returns-in-Ok g c =
     let old = c.args.vec.now in
-    let new = c.swap_remove.new.self in
-    let i = c.in-SwapRemove.i in
-    let in_list : i < items_len old = omega arith in
-    let last = get_or (items old) (items_len old - 1) c.swap_remove.result in
-    let cut = length-take (items_len old - 1) (set (items old) i last) in
-    let long = length-set (items old) i last in
-    let all = ap length c.swap_remove.ensures.items in
-    let fewer : items_len old ≡ items_len new + 1 = omega arith in
-    rw c.in-SwapRemove.is (slice_get_read (items old) _ i _ refl in_list c.swap_remove.ensures.value, c.swap_remove.ensures.items, slots_freed D old new 1 fewer c.swap_remove.ensures.spare)
+    let i = c.in-Drain.start in
+    let j = c.in-Drain.end in
+    let left = c.drain_into.ensures in
+    let in_order : i ≤ j = omega arith in
+    let in_list : j ≤ items_len old = omega arith in
+    let taken = left.moved ∙ ap (λ xs. xs ++ removed (items old) (Included i) (Excluded j)) c.in-Ok.ensures.items in
+    rw c.in-Drain.is (
+      (in_order, in_list),
+      drains g.A.Item.Default.is_default g.A.Array.CAPACITY old c.drain_into.new.self i j
+          c.drain_into.new.out.items in_order in_list taken left.items left.spare,
+    )

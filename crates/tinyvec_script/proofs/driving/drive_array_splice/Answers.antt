@@ -1,14 +1,13 @@
-use Rattle.std.proofs.Common.{◌≡◌, ◌++◌, ◌∷◌, [], List, Option, Ok, Err, refl, sym, ap, subst, ◌∙◌, arith, rules}
+use Rattle.std.proofs.Common.{◌≡◌, ◌++◌, ◌∷◌, [], ap, subst, ◌∙◌, arith, rules}
 use Rattle.std.specs.Iterator.Adapters.{fuse_steps}
 use Rattle.std.specs.Vec.Iter.{into_iter_items, into_iter_steps, into_iter_steps_back}
-use Rattle.tinyvec_slots.specs.Slots.{Slots}
 use Rattle.tinyvec_slots.specs.Ends.{given_items}
 use Rattle.tinyvec_array.specs.Fused.{fused_rest}
 use Rattle.tinyvec_array.specs.Splice.{splice_replacement, FinishesWith}
 use Rattle.tinyvec_array.proofs.Fused.{fused_ends}
 use Rattle.tinyvec_array.proofs.SplicingLemmas.{Asks-splices}
 use Rattle.tinyvec_script.specs.Driving.{word_of, ArraySplices}
-use Rattle.tinyvec_script.proofs.DrivingLemmas.{into_iter_ends, splices_all, splices_refused, rest_within}
+use Rattle.tinyvec_script.proofs.DrivingLemmas.{into_iter_ends, splices_all, splices_refused, rest_within, splice_computes}
 use Rattle.tinyvec_script.proofs.driving.drive_array_splice.Goals.{in-Ok-finish, in-Err-finish}
 use Rattle.tinyvec_script.proofs.driving.drive_array_splice.Goals as goal
 
@@ -63,3 +62,8 @@ returns-clause-splices g c =
           let fact : ArraySplices D capacity c.args.vec.now c.args.start c.args.end word P c.take_word.new.yields.items c.match-finish.rest.items v = rw (yields, rest) is.1 in
           subst (ArraySplices D capacity c.args.vec.now c.args.start c.args.end word P c.take_word.new.yields.items c.match-finish.rest.items) (search rules) fact)
     ]
+
+pub returns-clause-computed : goal.returns-clause-computed
+returns-clause-computed g c =
+    splice_computes g.A.Item.Default.is_default g.A.Array.CAPACITY c.args.vec.now _ c.args.start c.args.end c.args.word.now c.args.replacement.items
+    c.take_word.new.yields.items c.match-finish.rest.items c.requires.start_le_end c.requires.in_bounds (returns-clause-splices g c)

@@ -1,10 +1,10 @@
-use Rattle.std.proofs.Common.{◌≡◌, ◌+◌, ◌++◌, ◌∷◌, [], Some, None, ap, ◌∙◌, subst, sym, append-nil, append_assoc, arith, take, length}
+use Rattle.std.proofs.Common.{◌+◌, ◌++◌, ◌∷◌, [], ap, ◌∙◌, subst, sym, append-nil, append_assoc, arith, take, length}
 use Rattle.std.proofs.lemmas.List.{length_push}
 use Rattle.std.specs.Iterator.Adapters.{fuse_steps}
 use Rattle.std.specs.Option.{option_to_list}
 use Rattle.tinyvec_slots.specs.Ends.{Asks, given_items}
 use Rattle.tinyvec_slots.proofs.EndsLemmas.{given_items-more}
-use Rattle.tinyvec_array.specs.Splice.{splice_left, SpliceSteps, SpliceStepsBack}
+use Rattle.tinyvec_array.specs.Splice.{SpliceSteps, SpliceStepsBack}
 use Rattle.tinyvec_script.specs.Driving.{word_of}
 use Rattle.tinyvec_script.specs.declared.call.End.TheVariants.{Front}
 use Rattle.tinyvec_script.proofs.DrivingLemmas.{Asks-letter, one_fewer, none_fewer, word_of-more}

@@ -1,6 +1,6 @@
 use Rattle.std.proofs.Common.{◌++◌, codes, refl, sym, ◌∙◌, subst, arith}
 use Rattle.std.proofs.lemmas.Result.{on_ok_weaker}
-use Rattle.tinyvec_script.specs.Text.{answer_text, vector_text}
+use Rattle.tinyvec_script.specs.Text.{answer_text}
 use Rattle.tinyvec_script.specs.Parsed.{IsParsed}
 use Rattle.tinyvec_script.specs.Script.{text_of}
 use Rattle.tinyvec_script.specs.Script.Answered.{done, memory, bad}
@@ -27,11 +27,12 @@ returns-in-Bad-clause-ok g c =
 
 pub returns-in-Memory-clause-ok : goal.returns-in-Memory-clause-ok
 returns-in-Memory-clause-ok g c =
-    let asks : IsParsed c.in-Some.text.now parsed.Memory = subst (IsParsed c.in-Some.text.now) c.in-Memory.is c.parse_line.ensures in
+    let name = c.in-Memory.name in
+    let asks : IsParsed c.in-Some.text.now (parsed.Memory name) = subst (IsParsed c.in-Some.text.now) c.in-Memory.is c.parse_line.ensures in
     on_ok_weaker c.write_line.result (λ written. (
-      codes "memory" ++ codes " " ++ vector_text (state_of g.B.Lent c.args.vectors.now).a,
+      codes "memory" ++ codes " " ++ text_of name (state_of g.B.Lent c.args.vectors.now),
       written,
-      λ rest k. memory (subst (λ l. IsParsed l parsed.Memory) (kept_is rest c.in-Some.text.now (sym c.in-Some.ensures ∙ k)).0 asks) refl refl,
+      λ rest k. memory name (subst (λ l. IsParsed l (parsed.Memory name)) (kept_is rest c.in-Some.text.now (sym c.in-Some.ensures ∙ k)).0 asks) refl refl,
     )) c.write_line.ensures.0
 
 pub returns-in-Call-clause-ok : goal.returns-in-Call-clause-ok

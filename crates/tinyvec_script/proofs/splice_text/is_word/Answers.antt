@@ -1,4 +1,4 @@
-use Rattle.std.proofs.Common.{◌≡◌, ◌≢◌, ◌<◌, inl, inr, length, get_or, codes, sym, ◌∙◌, arith, rules, take_all}
+use Rattle.std.proofs.Common.{◌≢◌, ◌<◌, inl, inr, length, get_or, codes, sym, ◌∙◌, rules, take_all}
 use Rattle.std.proofs.lemmas.List.Elements.{All-get_or, All-same}
 use Rattle.tinyvec_script.specs.Words.{IsLetter}
 use Rattle.tinyvec_script.proofs.SpliceText.{word_is, is_word_from}

@@ -1,4 +1,4 @@
-use Rattle.std.proofs.Common.{◌≡◌, ◌≢◌, inl, inr, length, codes, ◌∙◌, arith, rules}
+use Rattle.std.proofs.Common.{◌≢◌, inl, inr, codes, ◌∙◌, rules}
 use Rattle.std.proofs.lemmas.List.Elements.{All-get_or, All-same}
 use Rattle.tinyvec_script.specs.Words.{IsLetter}
 use Rattle.tinyvec_script.proofs.SpliceText.{word_is}

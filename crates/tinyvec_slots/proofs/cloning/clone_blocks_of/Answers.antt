@@ -1,5 +1,6 @@
-use Rattle.std.proofs.Common.{◌≡◌, ◌≤◌, ◌-◌, ◌++◌, take, drop, length, ◌∙◌, rules}
-use Rattle.tinyvec_slots.proofs.CloneLemmas.{written_block}
+use Rattle.std.proofs.Common.{◌≤◌, ◌-◌, take, drop, length, ◌∙◌, rules, refl, zero-le}
+use Rattle.tinyvec_slots.proofs.ClonesOverLemmas.{clones_none, clones_further}
+use Rattle.tinyvec_slots.specs.Clones.{ClonesOver}
 use Rattle.tinyvec_slots.proofs.cloning.clone_blocks_of.Goals as goal
 use borrow.Rule.Slice.PartMut.{same_len_mid}
 
@@ -12,6 +13,9 @@ loop-done-preserved g c =
     let rest = take (length from - done) (drop done from) in
     let lent = take (length to - done) (drop done to) in
     let enough : g.row.N ≤ length rest = search rules in
-    let block : c.clone_block.new.to ≡ take g.row.N rest ++ drop g.row.N lent = search rules in
-    let next = written_block from c.args.to.now to c.clone_block.new.to done c.requires.fits inv.2 inv.0 inv.1 g.row.N enough block in
+    let block : ClonesOver g.T.Clone.is_clone (take g.row.N rest) g.row.N lent c.clone_block.new.to = search rules in
+    let next = clones_further g.T.Clone.is_clone from c.args.to.now to c.clone_block.new.to done c.requires.fits inv.2 inv.0 inv.1 g.row.N enough block in
     (next.0, next.1, same_len_mid done (length to - done) to c.clone_block.new.to c.clone_block.ensures.len ∙ inv.2)
+
+pub loop-done-init : goal.loop-done-init
+loop-done-init g c = (zero-le, clones_none g.T.Clone.is_clone c.args.from.now c.args.to.now, refl)

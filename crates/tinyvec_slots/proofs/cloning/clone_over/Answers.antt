@@ -1,17 +1,17 @@
 use Rattle.std.proofs.lemmas.Result.{on_ok_weaker, on_err_weaker}
-use Rattle.tinyvec_slots.proofs.CloneLemmas.{written_whole, written_in_part}
+use Rattle.tinyvec_slots.proofs.ClonesOverLemmas.{clones_whole, clones_in_part}
 use Rattle.tinyvec_slots.proofs.cloning.clone_over.Goals as goal
 
 pub returns-clause-ok : goal.returns-clause-ok
 returns-clause-ok g c =
     let first = c.clone_blocks-done in
     on_ok_weaker c.clone_each.result
-    (written_whole c.args.from.now c.args.to.now first.new.to c.clone_each.new.to first.result c.requires.fits first.ensures.len first.ensures.within first.ensures.cloned)
+    (clones_whole g.T.Clone.is_clone c.args.from.now c.args.to.now first.new.to c.clone_each.new.to first.result c.requires.fits first.ensures.len first.ensures.within first.ensures.cloned)
     c.clone_each.ensures.ok
 
 pub returns-clause-refused : goal.returns-clause-refused
 returns-clause-refused g c =
     let first = c.clone_blocks-done in
     on_err_weaker c.clone_each.result
-    (written_in_part c.args.from.now c.args.to.now first.new.to c.clone_each.new.to first.result c.requires.fits first.ensures.len first.ensures.within first.ensures.cloned g.T.Clone.is_infallible)
+    (clones_in_part g.T.Clone.is_clone c.args.from.now c.args.to.now first.new.to c.clone_each.new.to first.result c.requires.fits first.ensures.len first.ensures.within first.ensures.cloned g.T.Clone.is_infallible)
     c.clone_each.ensures.refused

@@ -1,12 +1,32 @@
-use Rattle.std.proofs.Common.{◌≡◌, ◌-◌, ◌<◌, ◌≤◌, inr, ◌++◌, min, length, take, drop, sym, ap, subst, ◌∙◌, arith, length-append, length-take, length-drop, take_all}
+use Rattle.std.proofs.Common.{rules, All, ◌≡◌, ◌-◌, ◌<◌, ◌≤◌, inr, min, length, take, drop, sym, ap, subst, ◌∙◌, arith, length-take, length-drop, take_all}
 use Rattle.std.proofs.lemmas.List.{take-take}
-use Rattle.std.proofs.lemmas.Result.{on_err_weaker}
+use Rattle.std.proofs.lemmas.List.Elements.{same_from_all_zip, length_all_zip, All-take, All-drop}
+use Rattle.std.proofs.lemmas.Result.{on_ok_weaker, on_err_weaker}
+use Rattle.std.specs.List.{AllZip}
 use Rattle.tinyvec_slots.specs.Clones.{RefusedAt}
 use Rattle.tinyvec_slots.proofs.CloneLemmas.{on_err}
-use Rattle.tinyvec.specs.Tiny.{tiny_items, tiny_spare}
-use Rattle.tinyvec.proofs.TinyLemmas.{tiny_slots_grown, on_ok_two, on_err_two}
+use Rattle.tinyvec.specs.Tiny.{tiny_items}
+use Rattle.tinyvec.proofs.TinyLemmas.{tiny_slots_grown, tiny_slots_then_framed, on_ok_two, on_err_two}
+use Rattle.tinyvec.proofs.CloneLemmas.{appends_len, appends_rest}
 use Rattle.tinyvec.proofs.RefusedLemmas.{refused_in_front, refused_behind, partly_over, partly_behind, cut_freed, none_freed, spare_kept, place_kept, place_then}
 use Rattle.tinyvec.proofs.tiny_vec.TinyVec.clone_from.Goals as goal
+
+pub returns-then-count-len-clause-items : goal.returns-then-count-len-clause-items
+returns-then-count-len-clause-items g c = rw c.as_slice.ensures at c.overwrite.ensures.ok
+
+pub returns-then-count-len-clause-place : goal.returns-then-count-len-clause-place
+returns-then-count-len-clause-place g c =
+    let is_count = c.len-count.ensures.value in
+    let le = c.if-count-len.true in
+    on_ok_weaker c.overwrite.result
+    (λ _. place_kept _ _ c.args.self.now c.overwrite.new.self (c.overwrite.ensures.frame.2 ∙ c.truncate.ensures.place) (omega (arith, c.len-len.ensures.fits)))
+    c.overwrite.ensures.ok
+
+pub returns-then-count-len-clause-slots : goal.returns-then-count-len-clause-slots
+returns-then-count-len-clause-slots g c =
+    on_ok_weaker c.overwrite.result
+    (λ _. tiny_slots_then_framed g.A.Item.Default.is_default c.args.self.now c.truncate.new.self c.overwrite.new.self c.truncate.ensures.slots c.overwrite.ensures.frame)
+    c.overwrite.ensures.ok
 
 pub returns-then-count-len-clause-refused : goal.returns-then-count-len-clause-refused
 returns-then-count-len-clause-refused g c =
@@ -26,8 +46,8 @@ returns-then-count-len-clause-refused g c =
     let early : h.0 ≤ m = omega arith in
     inr (
       place_kept _ _ _ _ (c.overwrite.ensures.frame.2 ∙ c.truncate.ensures.place) (omega (arith, c.len-len.ensures.fits)),
-      partly_over g.A.Item.Default.is_default g.A.Item.Clone.is_infallible xs c.args.self.now new m h.0 early (rw c.as_slice.ensures at h.1)
-          (h.2 ∙ ap (λ l. take h.0 l ++ drop h.0 (tiny_items left)) c.as_slice.ensures ∙ ap (λ l. take h.0 xs ++ drop h.0 l) cut)
+      partly_over g.A.Item.Default.is_default g.A.Item.Clone.is_infallible g.A.Item.Clone.is_clone xs c.args.self.now new m h.0 early
+          (rw c.as_slice.ensures at h.1) (rw (c.as_slice.ensures, cut) at h.2)
           (cut_freed g.A.Item.Default.is_default c.args.self.now left new m c.overwrite.ensures.frame c.truncate.ensures.place c.truncate.ensures.slots cut within),
     ))
     c.overwrite.ensures.refused
@@ -52,12 +72,30 @@ returns-in_err-overwrite-clause-refused g c =
     let long : m ≡ length olds = omega arith in
     on_err c.from_residual-in_err-overwrite.result (inr (
       place_then _ _ _ mid _ _ (omega arith) frame.2 c.in_ok-reserve.ensures.place,
-      partly_over g.A.Item.Default.is_default g.A.Item.Clone.is_infallible xs c.args.self.now new m h.0 (omega arith) (refused_in_front g.A.Item.Clone.is_infallible xs n h.0 h.1)
-          (h.2 ∙ ap (λ l. l ++ drop h.0 (tiny_items mid)) (take-take h.0 n xs early)
-          ∙ ap (λ l. take h.0 xs ++ drop h.0 l) (c.reserve.ensures.items ∙ sym all))
+      partly_over g.A.Item.Default.is_default g.A.Item.Clone.is_infallible g.A.Item.Clone.is_clone xs c.args.self.now new m h.0 (omega arith)
+          (refused_in_front g.A.Item.Clone.is_infallible xs n h.0 h.1) (rw (take-take h.0 n xs early, c.reserve.ensures.items ∙ sym all) at h.2)
           (λ i. none_freed g.A.Item.Default.is_default c.args.self.now new m long
           (frame.1 ∙ spare_kept c.args.self.now mid new c.reserve.ensures.stays frame.2 i)),
     ))
+
+pub returns-clause-items : goal.returns-clause-items
+returns-clause-items g c =
+    on_ok_weaker c.extend_reserved.result
+    (appends_rest g.A.Item.Clone.is_clone (tiny_items c.overwrite-2.new.self) (tiny_items c.extend_reserved.new.self) (tiny_items c.args.source.now) c.as_slice-2.result.now
+    c.as_slice-3.result.now c.len-len.result c.as_slice-2.ensures c.as_slice-3.ensures c.in_ok-overwrite.ensures.ok)
+    c.extend_reserved.ensures.items
+
+pub returns-clause-len : goal.returns-clause-len
+returns-clause-len g c =
+    let xs = tiny_items c.args.source.now in
+    let new = tiny_items c.extend_reserved.new.self in
+    on_ok_weaker c.extend_reserved.result (λ clones. sym (length_all_zip g.A.Item.Clone.is_clone xs new clones)) (returns-clause-items g c)
+
+pub returns-clause-if_clones_equal : goal.returns-clause-if_clones_equal
+returns-clause-if_clones_equal g c =
+    let xs = tiny_items c.args.source.now in
+    let new = tiny_items c.extend_reserved.new.self in
+    on_ok_weaker c.extend_reserved.result (λ clones rule. same_from_all_zip g.A.Item.Clone.is_clone xs new clones rule) (returns-clause-items g c)
 
 pub returns-clause-slots : goal.returns-clause-slots
 returns-clause-slots g c =
@@ -68,7 +106,7 @@ returns-clause-slots g c =
     let xs = c.as_slice-3.result.now in
     let ys = take (length xs - c.len-len.result) (drop c.len-len.result xs) in
     on_ok_two c.extend_reserved.result made.items made.spare (λ items spare.
-    let long = ap length items ∙ length-append (tiny_items mid) ys in
+    let long = appends_len g.A.Item.Clone.is_clone (tiny_items mid) (tiny_items new) ys items in
     tiny_slots_grown g.A.Item.Default.is_default c.args.self.now c.reserve.new.self new (length ys)
     c.reserve.ensures.stays (made.place ∙ frame.2) (omega (arith, frame.0)) (spare ∙ ap (drop (length ys)) frame.1))
 
@@ -87,11 +125,28 @@ returns-clause-refused g c =
     let least : n ≡ min (length olds) (length xs) = omega arith in
     let others : take (length c.as_slice-3.result.now - n) (drop n c.as_slice-3.result.now) ≡ drop n xs =
     ap (λ l. take (length l - n) (drop n l)) c.as_slice-3.ensures ∙ take_all (length xs - n) (drop n xs) (omega (arith, length-drop n xs)) in
-    let first : tiny_items mid ≡ take n xs = c.in_ok-overwrite.ensures.ok ∙ ap (take n) c.as_slice-2.ensures in
+    let first : AllZip g.A.Item.Clone.is_clone (take n xs) (tiny_items mid) = rw c.as_slice-2.ensures at c.in_ok-overwrite.ensures.ok in
     on_err_two c.extend_reserved.result made.refused made.kept (λ h kept. inr (
       place_then _ _ _ c.reserve.new.self _ _ (omega arith) (made.place ∙ frame.2) c.in_ok-reserve.ensures.place,
-      rw (← least) (partly_behind g.A.Item.Default.is_default g.A.Item.Clone.is_infallible xs c.args.self.now new n h.0 is_len
-          (refused_behind g.A.Item.Clone.is_infallible xs n h.0 (subst (λ l. RefusedAt g.A.Item.Clone.is_infallible l h.0) others h.1)) (kept ∙ first)
-          (λ i. h.2 i ∙ ap (λ l. take h.0 l ++ drop h.0 (tiny_spare mid)) others
-          ∙ ap (λ l. take h.0 (drop n xs) ++ drop h.0 l) (frame.1 ∙ spare_kept c.args.self.now c.reserve.new.self new c.reserve.ensures.stays (made.place ∙ frame.2) i))),
+      rw (← least) (partly_behind g.A.Item.Default.is_default g.A.Item.Clone.is_infallible g.A.Item.Clone.is_clone xs c.args.self.now new n h.0 is_len
+          (refused_behind g.A.Item.Clone.is_infallible xs n h.0 (subst (λ l. RefusedAt g.A.Item.Clone.is_infallible l h.0) others h.1))
+          (subst (AllZip g.A.Item.Clone.is_clone (take n xs)) (sym kept) first)
+          (λ i. rw (others, frame.1 ∙ spare_kept c.args.self.now c.reserve.new.self new c.reserve.ensures.stays (made.place ∙ frame.2) i) at h.2 i)),
     ))
+
+pub returns-in_err-overwrite-clause-succeeds : goal.returns-in_err-overwrite-clause-succeeds
+returns-in_err-overwrite-clause-succeeds g c = λ fits all.
+    let P = g.A.Item.Clone.is_infallible in
+    let xs = tiny_items c.args.source.now in
+    let n = c.len-len.result in
+    let first : All P (take n c.as_slice-2.result.now) = rw c.as_slice-2.ensures (All-take P n xs all) in
+    let never = c.in_err-overwrite.ensures.succeeds first in
+    search rules
+
+pub returns-clause-succeeds : goal.returns-clause-succeeds
+returns-clause-succeeds g c = λ fits all.
+    let P = g.A.Item.Clone.is_infallible in
+    let n = c.len-len.result in
+    let xs = c.as_slice-3.result.now in
+    let every : All P xs = rw c.as_slice-3.ensures all in
+    c.extend_reserved.ensures.succeeds (All-take P (length xs - n) (drop n xs) (All-drop P n xs every))

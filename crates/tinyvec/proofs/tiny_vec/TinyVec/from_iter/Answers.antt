@@ -1,4 +1,5 @@
-use Rattle.std.proofs.Common.{◌++◌, ◌∷◌, sym, ap, ◌∙◌}
+use Rattle.std.proofs.Common.{◌++◌, ◌∷◌, refl, sym, ap, ◌∙◌}
+use Rattle.tinyvec.proofs.TinyLemmas.{defaults_left}
 use Rattle.tinyvec.proofs.tiny_vec.TinyVec.from_iter.Goals as goal
 
 pub returns-in-Err-clause-listed : goal.returns-in-Err-clause-listed
@@ -6,3 +7,18 @@ returns-in-Err-clause-listed g c = λ rest shows.
     let h = c.in-Err.ensures.listed rest shows in
     let refused = c.in-Err.field-0 in
     (h.0, h.2, h.3 ∙ ap (λ l. l ++ refused.item ∷ rest refused.rest) (sym (h.4 ∙ ap (λ l. l ++ h.1) c.new-vec.ensures.items)))
+
+pub returns-in-Ok-clause-listed : goal.returns-in-Ok-clause-listed
+returns-in-Ok-clause-listed g c = λ rest shows.
+    let h = c.in-Ok.ensures.listed rest shows in
+    (h.0, h.2, h.3 ∙ sym (h.4 ∙ ap (λ l. l ++ h.1) c.new-vec.ensures.items))
+
+pub returns-in-Ok-clause-known : goal.returns-in-Ok-clause-known
+returns-in-Ok-clause-known g c = λ xs yields.
+    let h = c.in-Ok.ensures.known xs yields in
+    (h.0 ∙ ap (λ l. l ++ xs) c.new-vec.ensures.items, λ _. refl)
+
+pub returns-in-Ok-clause-spare : goal.returns-in-Ok-clause-spare
+returns-in-Ok-clause-spare g c =
+    let made = c.new-vec.ensures in
+    defaults_left g.A.Item.Default.is_default g.A.Array.CAPACITY c.new-vec.result c.extend.new.self made.items made.place made.spare c.in-Ok.ensures.slots

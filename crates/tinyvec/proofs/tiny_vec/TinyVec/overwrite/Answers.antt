@@ -1,4 +1,5 @@
-use Rattle.std.proofs.Common.{◌≡◌, [], ◌++◌, length, take, drop, append-nil, ap, ◌∙◌, arith}
+use Rattle.std.proofs.Common.{◌≡◌, [], ◌++◌, length, drop, append-nil, ap, subst, ◌∙◌, sym, arith}
+use Rattle.std.specs.List.{AllZip}
 use Rattle.std.proofs.lemmas.List.{drop_all}
 use Rattle.std.proofs.lemmas.Result.{on_ok_weaker, on_err_weaker}
 use Rattle.tinyvec.specs.Tiny.{tiny_items, tiny_len}
@@ -14,7 +15,10 @@ returns-clause-ok g c =
     let long : length ws ≡ tiny_len v = c.clone_over.ensures.len ∙ ap length same in
     let none : drop (length xs) c.as_mut_slice.result.now ≡ [] = ap (drop (length xs)) same ∙ drop_all (length xs) (tiny_items v) (omega (arith, c.requires.same_len)) in
     on_ok_weaker c.clone_over.result
-    (λ h. tiny_items-with v ws long ∙ h ∙ ap (λ l. xs ++ l) none ∙ append-nil xs) c.clone_over.ensures.ok
+    (λ made.
+    let whole = tiny_items-with v ws long ∙ made.3 ∙ ap (λ l. made.0 ++ l) none ∙ append-nil made.0 in
+    subst (AllZip g.A.Item.Clone.is_clone xs) (sym whole) made.1)
+    c.clone_over.ensures.ok
 
 pub returns-clause-refused : goal.returns-clause-refused
 returns-clause-refused g c =
@@ -23,7 +27,10 @@ returns-clause-refused g c =
     let same = c.as_mut_slice.ensures.value in
     let long : length ws ≡ tiny_len v = c.clone_over.ensures.len ∙ ap length same in
     on_err_weaker c.clone_over.result
-    (λ h. (h.0, h.1, tiny_items-with v ws long ∙ h.2 ∙ ap (λ l. take h.0 c.args.source.now ++ drop h.0 l) same)) c.clone_over.ensures.refused
+    (λ h.
+    let made = h.2 in
+    (h.0, h.1, (made.0, made.1, made.2, tiny_items-with v ws long ∙ made.3 ∙ ap (λ l. made.0 ++ drop h.0 l) same)))
+    c.clone_over.ensures.refused
 
 pub returns-clause-frame : goal.returns-clause-frame
 returns-clause-frame g c = tiny_framed-with c.args.self.now c.clone_over.new.to (c.clone_over.ensures.len ∙ ap length c.as_mut_slice.ensures.value)

@@ -1,4 +1,4 @@
-use Rattle.std.proofs.Common.{◌≡◌, ◌+◌, ◌-◌, ◌∷◌, [], refl, ◌++◌, length, drop, ap, ◌∙◌, arith, append_assoc, of_calls}
+use Rattle.std.proofs.Common.{◌≡◌, ◌+◌, ◌-◌, ◌∷◌, [], refl, ◌++◌, drop, ap, ◌∙◌, arith, append_assoc, of_calls}
 use Rattle.std.specs.Fn.{Called}
 use Rattle.std.proofs.SliceLists.{chained_more}
 use Rattle.std.proofs.iter.Next.{called}
@@ -15,7 +15,8 @@ loop-self-preserved g c =
     let len = c.len.ensures.value in
     let more = c.loop-self-test.true in
     let first = tiny_len c.args.self.now in
-    let grown = ap length put.items ∙ length_push (tiny_items at.self) y in
+    let grown : tiny_len c.push_reserved.new.self ≡ tiny_len at.self + 1 = rw put.items (length_push (tiny_items at.self) y) in
+    let all : tiny_items at.self ++ y ∷ [] ≡ tiny_items c.args.self.now ++ (run.0 ++ y ∷ []) = ap (λ l. l ++ y ∷ []) run.1 ∙ append_assoc (tiny_items c.args.self.now) run.0 (y ∷ []) in
     let used : tiny_len at.self - first + 1 ≡ tiny_len c.push_reserved.new.self - first = omega (arith, grown, at.invariant.1) in (
       omega (arith, grown),
       omega (arith, grown, at.invariant.1),
@@ -23,10 +24,10 @@ loop-self-preserved g c =
           ∙ ap (λ k. drop k (tiny_spare c.args.self.now)) used,
       (
         run.0 ++ y ∷ [],
-        put.items ∙ ap (λ l. l ++ y ∷ []) run.1 ∙ append_assoc _ run.0 (y ∷ []),
+        rw put.items all,
         chained_more (λ f y f'. Called g.F.FnMut f tt y f') _ run.0 at.f y _ run.2 (called g.F.FnMut c.f.ensures refl),
       ),
       search of_calls,
-      put.place ∙ at.invariant.5,
-      put.capacity ∙ at.invariant.6,
+      rw put.place at.invariant.5,
+      rw put.capacity at.invariant.6,
     )

@@ -1,8 +1,15 @@
-use Rattle.std.proofs.Common.{length, ap, ◌∙◌}
-use Rattle.tinyvec.proofs.TinyLemmas.{tiny_slots_written}
+use Rattle.tinyvec.proofs.TinyLemmas.{kept_in_front}
 use Rattle.tinyvec.proofs.tiny_vec.TinyVec.retain_mut_asked.Goals as goal
 
-pub returns-clause-slots : goal.returns-clause-slots
-returns-clause-slots g c =
-    tiny_slots_written g.A.Item.Default.is_default c.args.self.now c.truncate.new.self c.retain_mut_in_front-kept.new.items
-    (c.retain_mut_in_front-kept.ensures.len ∙ ap length c.as_mut_slice.ensures.value) c.truncate.ensures.slots
+pub returns : goal.returns
+returns g c =
+    let lent = c.as_mut_slice in
+    let made = c.retain_mut_in_front-kept in
+    let cut = c.keep_front in
+    let is = kept_in_front g.A.Item.Default.is_default g.A.Array.CAPACITY c.args.self.now cut.new.self made.new.items lent.result.now made.result
+    lent.ensures.value made.ensures.len cut.ensures.items cut.ensures.cut in
+    record {
+      filtered = rw (is.0, ← lent.ensures.value) made.ensures.filtered;
+      asked = rw (is.0, ← lent.ensures.value) made.ensures.asked;
+      cut = is.1;
+    }

@@ -25,14 +25,14 @@ returns g c =
     let end_is = c.resolve-part.ensures.end ∙ ap (range_end bounds) c.len-len.ensures.value in
     let long-B : length B ≡ k = search (rules, length-remove_range) in
     let long-M : length M ≡ n = search (rules, length-slice_range) in
-    let cut : c.set_border.new.self ≡ split_at k (B ++ M ++ S) =
-    c.set_border.ensures ∙ ap (split_at k) (slots_are c.items_to_end.new.self ∙ ap (λ xs. xs ++ spare c.items_to_end.new.self) c.items_to_end.ensures.items
+    let cut : c.set_len.new.self ≡ split_at k (B ++ M ++ S) =
+    c.set_len.ensures.value ∙ ap (split_at k) (slots_are c.items_to_end.new.self ∙ ap (λ xs. xs ++ spare c.items_to_end.new.self) c.items_to_end.ensures.items
     ∙ ap (λ xs. B ++ M ++ xs) c.items_to_end.ensures.spare) in
-    let rest : slice_range (spare c.set_border.new.self) 0 n ≡ M =
-    ap (λ m. take m (spare c.set_border.new.self)) (minus_zero n) ∙ ap (λ v. take n (spare v)) cut ∙ second_part B M S k n long-B long-M in
-    let within : n ≤ length (spare c.set_border.new.self) = rw cut (second_part_within B M S k n long-B long-M) in
-    let kept : items c.set_border.new.self ≡ B = ap (λ v. items v) cut ∙ first_part B M S k n long-B long-M in
-    let behind : drop n (spare c.set_border.new.self) ≡ S = ap (λ v. drop n (spare v)) cut ∙ third_part B M S k n long-B long-M in
+    let rest : slice_range (spare c.set_len.new.self) 0 n ≡ M =
+    ap (λ m. take m (spare c.set_len.new.self)) (minus_zero n) ∙ ap (λ v. take n (spare v)) cut ∙ second_part B M S k n long-B long-M in
+    let within : n ≤ length (spare c.set_len.new.self) = rw cut (second_part_within B M S k n long-B long-M) in
+    let kept : items c.set_len.new.self ≡ B = ap (λ v. items v) cut ∙ first_part B M S k n long-B long-M in
+    let behind : drop n (spare c.set_len.new.self) ≡ S = ap (λ v. drop n (spare v)) cut ∙ third_part B M S k n long-B long-M in
     record {
       rest = rw (← start_is, ← end_is) rest;
       len = minus_zero n ∙ sym (ap length rest ∙ long-M);
@@ -40,6 +40,7 @@ returns g c =
       runs = drain_runs;
       runs_back = drain_runs_back;
       both_ends = drains_from_ends _;
+      fits = omega arith;
       same_reference = refl;
       kept = rw (← start_is, ← end_is) kept;
       count = sym (ap length rest ∙ long-M);

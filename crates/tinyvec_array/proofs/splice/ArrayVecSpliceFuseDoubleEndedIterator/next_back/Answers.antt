@@ -1,4 +1,4 @@
-use Rattle.std.proofs.Common.{◌≡◌, ◌-◌, ap, length, Some, None, refl, arith, ◌∙◌, slice_set, slice_index_or, length-set, drop-set-lt}
+use Rattle.std.proofs.Common.{le_refl, sym, true≢false, ◌≡◌, ◌-◌, ap, length, Some, None, refl, arith, ◌∙◌, slice_set, slice_index_or, length-set, drop-set-lt}
 use Rattle.std.proofs.lemmas.List.{take-set-le}
 use Rattle.tinyvec_slots.specs.Slots.{items, items_len, with_items}
 use Rattle.tinyvec_slots.proofs.Lists.{slice_range_last, drop_from_set}
@@ -50,4 +50,35 @@ returns-in-None-clause-steps g c =
       back = rw after (drop-set-lt s.back xs at d (omega (arith, ready.2)));
       touches = c.take-item.ensures.count ∙ omega arith;
       keeps = (refl, spare-with_items s.vec.now ws long, ap length (items-with_items s.vec.now ws long) ∙ long);
+    }
+
+pub returns-in-Some-clause-ready : goal.returns-in-Some-clause-ready
+returns-in-Some-clause-ready g c =
+    let ready = c.requires.0 in
+    let kept = (returns-in-Some-clause-steps g c).keeps.2 in
+    let asked = rw c.in-Some.is at c.next_back.ensures.steps in
+    let joined = ready.4 (not_ended g.I.DoubleEndedIterator.next_back_gives _ _ _ asked) in
+    (ready.0, omega arith, le_refl _, omega (arith, ready.2, ready.3, kept), λ _. (joined.0, refl), omega (arith, ready.5, c.replace-item.ensures.count))
+
+pub returns-in-Some-clause-goes : goal.returns-in-Some-clause-goes
+returns-in-Some-clause-goes g c =
+    let can = c.in-Some.ensures.goes.keeps in record {
+      on = λ _. ((returns-in-Some-clause-ready g c, can), tt, omega arith);
+      keeps = (returns-in-Some-clause-ready g c, can);
+      rests = λ _. tt;
+    }
+
+pub returns-in-None-clause-ready : goal.returns-in-None-clause-ready
+returns-in-None-clause-ready g c =
+    let ready = c.requires.0 in
+    let kept = (returns-in-None-clause-steps g c).keeps.2 in
+    let asked = rw c.in-None.is at c.next_back.ensures.steps in
+    (ready.0, omega arith, omega (arith, ready.2), omega (arith, ready.3, kept), λ more. absurd (true≢false (sym asked.1 ∙ more)), omega (arith, ready.5, c.take-item.ensures.count))
+
+pub returns-in-None-clause-goes : goal.returns-in-None-clause-goes
+returns-in-None-clause-goes g c =
+    let asked = rw c.in-None.is at c.next_back.ensures.steps in record {
+      on = λ _. ((returns-in-None-clause-ready g c, λ more. absurd (true≢false (sym asked.1 ∙ more))), tt, omega arith);
+      keeps = (returns-in-None-clause-ready g c, λ more. absurd (true≢false (sym asked.1 ∙ more)));
+      rests = λ _. tt;
     }

@@ -1,4 +1,5 @@
-use Rattle.std.proofs.Common.{arith, length-append}
+use Rattle.std.proofs.Common.{◌+◌, ◌∙◌, sym, ap}
+use Rattle.std.proofs.lemmas.List.{length_push}
 use Rattle.tinyvec_script.specs.Step.{ArrayStep}
 use Rattle.tinyvec_script.proofs.RunLemmas.{Run-more}
 use Rattle.tinyvec_script.proofs.runs.array.run_array.Goals as goal
@@ -7,6 +8,6 @@ pub loop-call-preserved : goal.loop-call-preserved
 loop-call-preserved g c = record {
   run = rw c.push_reserved.ensures.items (Run-more (ArrayStep g.A.Item.Default.is_default g.A.Array.CAPACITY) c.args.vec.now c.loop-call.vec c.answer_array-answered.new.vec
       c.loop-call.yielded c.loop-call.answers.items c.in-Some.call c.answer_array-answered.result c.loop-call.invariant.run c.answer_array-answered.ensures);
-  count = grind (arith, length-append);
-  room = grind arith;
+  count = c.push_reserved.ensures.len ∙ ap (λ n. n + 1) c.loop-call.invariant.count ∙ sym (length_push c.loop-call.yielded c.in-Some.call);
+  room = rw c.push_reserved.ensures.capacity c.loop-call.invariant.room;
 }

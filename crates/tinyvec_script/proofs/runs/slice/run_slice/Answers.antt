@@ -1,4 +1,5 @@
-use Rattle.std.proofs.Common.{◌∙◌, arith, length-append}
+use Rattle.std.proofs.Common.{◌+◌, ◌∙◌, sym, ap}
+use Rattle.std.proofs.lemmas.List.{length_push}
 use Rattle.tinyvec_slice.specs.View.{seen_of}
 use Rattle.tinyvec_script.specs.Step.{SliceStep}
 use Rattle.tinyvec_script.proofs.RunLemmas.{Run-more}
@@ -9,6 +10,6 @@ loop-call-preserved g c = record {
   run = rw c.push_reserved.ensures.items (Run-more (SliceStep g.B.Item.Default.is_default) (seen_of g.B.Lent c.args.vec.now) (seen_of g.B.Lent c.loop-call.vec) (seen_of g.B.Lent c.answer_slice-answered.new.vec)
       c.loop-call.yielded c.loop-call.answers.items c.in-Some.call c.answer_slice-answered.result c.loop-call.invariant.run c.answer_slice-answered.ensures.step);
   same = c.answer_slice-answered.ensures.same_slots ∙ c.loop-call.invariant.same;
-  count = grind (arith, length-append);
-  room = grind arith;
+  count = c.push_reserved.ensures.len ∙ ap (λ n. n + 1) c.loop-call.invariant.count ∙ sym (length_push c.loop-call.yielded c.in-Some.call);
+  room = rw c.push_reserved.ensures.capacity c.loop-call.invariant.room;
 }

@@ -1,13 +1,23 @@
-use Rattle.std.proofs.Common.{arith, length-append}
+use Rattle.std.proofs.Common.{◌+◌, ◌∙◌, sym, ap}
+use Rattle.std.proofs.lemmas.List.{length_push}
 use Rattle.tinyvec_script.specs.Place.{tiny_of}
 use Rattle.tinyvec_script.specs.TinyCalls.{TinyStep}
 use Rattle.tinyvec_script.proofs.RunLemmas.{Run-more}
+use Rattle.tinyvec_script.proofs.PlaceLemmas.{tiny_steps}
 use Rattle.tinyvec_script.proofs.runs.tiny.run_tiny.Goals as goal
 
 pub loop-call-preserved : goal.loop-call-preserved
-loop-call-preserved g c = record {
-  run = rw c.push_reserved.ensures.items (Run-more (TinyStep g.A.Item.Default.is_default g.A.Array.CAPACITY) (tiny_of c.args.vec.now) (tiny_of c.loop-call.vec) (tiny_of c.answer_tiny-answered.new.vec)
-      c.loop-call.yielded c.loop-call.answers.items c.in-Some.call c.answer_tiny-answered.result c.loop-call.invariant.run c.answer_tiny-answered.ensures);
-  count = grind (arith, length-append);
-  room = grind arith;
-}
+loop-call-preserved g c =
+    let D = g.A.Item.Default.is_default in
+    let slots = g.A.Array.CAPACITY in
+    let old = c.loop-call.vec in
+    let new = c.answer_tiny-answered.new.vec in
+    let call = c.in-Some.call in
+    let answer = c.answer_tiny-answered.result in
+    let made = c.answer_tiny-answered.ensures in
+    record {
+      run = rw c.push_reserved.ensures.items (Run-more (TinyStep D slots) (tiny_of c.args.vec.now) (tiny_of old) (tiny_of new)
+          c.loop-call.yielded c.loop-call.answers.items call answer c.loop-call.invariant.run (tiny_steps D slots old new call answer made.answered made.fits));
+      count = c.push_reserved.ensures.len ∙ ap (λ n. n + 1) c.loop-call.invariant.count ∙ sym (length_push c.loop-call.yielded c.in-Some.call);
+      room = rw c.push_reserved.ensures.capacity c.loop-call.invariant.room;
+    }

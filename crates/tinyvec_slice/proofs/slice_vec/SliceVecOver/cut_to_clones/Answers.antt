@@ -1,7 +1,9 @@
-use Rattle.std.proofs.Common.{◌∷◌, ◌-◌, ◌<◌, ◌≡◌, length, take, replicate, ◌++◌, refl, sym, ap, ◌∙◌, le_refl, arith, take_all}
+use Rattle.std.proofs.Common.{[], ◌-◌, ◌<◌, ◌≡◌, length, take, replicate, refl, sym, ap, subst, ◌∙◌, le_refl, arith, take_all}
+use Rattle.std.specs.List.{AllZip}
 use Rattle.tinyvec_slots.proofs.CloneLemmas.{on_err}
+use Rattle.tinyvec_slots.specs.Clones.{ClonesBefore}
 use Rattle.tinyvec_slice.specs.View.{items_of, spare_of}
-use Rattle.tinyvec_slice.proofs.ResizingLemmas.{one_less, first_items, replicate-more, left_after}
+use Rattle.tinyvec_slice.proofs.ResizingLemmas.{one_less, first_items, clone_before, left_after}
 use Rattle.tinyvec_slice.proofs.slice_vec.SliceVecOver.cut_to_clones.Goals as goal
 
 pub loop-n-init : goal.loop-n-init
@@ -11,7 +13,7 @@ loop-n-init g c =
       c.requires.shorter,
       le_refl _,
       sym (take_all (length L) L (le_refl _)),
-      ap (λ n. replicate n c.args.x.now ++ spare_of g.B.Lent c.args.self.now) none,
+      ([], subst (λ n. AllZip g.B.Item.Clone.is_clone (replicate n c.args.x.now) []) none tt, refl),
       refl,
     )
 
@@ -27,12 +29,13 @@ loop-n-preserved g c =
     let more = c.loop-n-test.true in
     let some : 0 < length old = omega (arith, len, more) in
     let less = one_less whole old new some put.items in
-    let same = c.requires.clones c.args.x.now c.in_ok-filling.filling c.in_ok-filling.ensures.cases in
-    let rest = spare_of g.B.Lent c.args.self.now in (
+    let base = spare_of g.B.Lent c.args.self.now in
+    let behind = spare_of g.B.Lent at.self in
+    let after = spare_of g.B.Lent c.replace_last.new.self in (
       omega (arith, less, len, more),
       omega (arith, less),
       first_items whole old new some put.items inv.2,
-      put.spare ∙ ap (λ x. x ∷ spare_of g.B.Lent at.self) same ∙ ap (λ l. c.args.x.now ∷ l) inv.3 ∙ replicate-more whole old new some put.items c.args.x.now rest inv.1,
+      clone_before whole old new some put.items g.B.Item.Clone.is_clone c.args.x.now c.in_ok-filling.filling base behind after inv.1 c.in_ok-filling.ensures.cases put.spare inv.3,
       put.same_reference ∙ inv.4,
     )
 
@@ -60,4 +63,6 @@ returns-clause-spare g c =
     let len = c.len.ensures.value in
     let done = c.loop-n-test.false in
     let ends : length (items_of g.B.Lent at.self) ≡ c.args.n = omega (arith, at.invariant.0) in
-    at.invariant.3 ∙ ap (λ n. replicate (length (items_of g.B.Lent c.args.self.now) - n) c.args.x.now ++ spare_of g.B.Lent c.args.self.now) ends
+    let old = c.args.self.now in
+    let base = spare_of g.B.Lent old in
+    subst (λ n. ClonesBefore g.B.Item.Clone.is_clone (replicate (length (items_of g.B.Lent old) - n) c.args.x.now) base (spare_of g.B.Lent at.self)) ends at.invariant.3

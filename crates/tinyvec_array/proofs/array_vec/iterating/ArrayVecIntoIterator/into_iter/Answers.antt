@@ -14,9 +14,8 @@ returns-clause-both_ends g c = gives_from_ends c.over.result
 pub returns-clause-bound : goal.returns-clause-bound
 returns-clause-bound g c =
     let inside = c.self.inside in
-    let cut = ap length c.over.ensures ∙ length-take inside.len (g.A.Array.slots inside.array) in
-    let slots_fit = c.CAPACITY-slots in
-    omega (arith, c.self.invariant.0)
+    let cut = ap length c.over.ensures ∙ length-take c.len-len.result (g.A.Array.slots inside.array) in
+    omega arith
 
 pub returns-clause-into_iter_gives : goal.returns-clause-into_iter_gives
 returns-clause-into_iter_gives g c = (search rules, returns-clause-bound g c, gives_runs, gives_runs_back)

@@ -21,7 +21,7 @@ pub returns-clause-at_most : goal.returns-clause-at_most
 returns-clause-at_most g c =
     let gives = g.I.Iterator.next_gives in
     let filled = c.fill-finished.ensures in
-    let over = written_over gives c.args.self c.requires.ready filled.ran.0 c.fill-finished.result filled.ran.1 in
+    let over = written_over gives c.args.self c.requires.0 filled.ran.0 c.fill-finished.result filled.ran.1 in
     let count = finish_placed-is (fuse_steps gives) g.A.Array.CAPACITY c.args.self c.fill-finished.new.vec c.fill-finished.result (finished g c) in
     omega (arith, over, count, filled.ran.4, c.count.ensures)
 

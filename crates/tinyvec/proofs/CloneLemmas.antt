@@ -1,0 +1,55 @@
+-- Lemmas on lists of clones. C is the `is_clone` of an item's `Clone`.
+use Rattle.std.proofs.Common.{◌≡◌, ℕ, ◌+◌, ◌-◌, ◌<◌, List, [], ◌∷◌, ◌++◌, length, take, drop, get_or, replicate, refl, sym, ap, subst, ◌∙◌, append_assoc, arith, length-append, length-drop, drop_at, take_all, take-append-drop}
+use Rattle.std.proofs.lemmas.List.{take_more, replicate_more}
+use Rattle.std.proofs.lemmas.List.Elements.{AllZip-push, length_all_zip}
+use Rattle.std.specs.List.{AllZip, AppendsClones}
+use Rattle.tinyvec_slots.specs.Slots.{Slots, items, items_len, spare, all_slots}
+use Rattle.tinyvec_slots.proofs.SlotsLemmas.{slots_are}
+use Rattle.tinyvec_slots.proofs.ClonesOverLemmas.{AllZip-drop, AllZip-join}
+
+module _ {T : Type 0} (C : T → T → Type 0) where
+  -- one more
+  appends_next : (old new xs more : List T) (x y : T) → xs ++ x ∷ [] ≡ more → C x y → AppendsClones C old new xs → AppendsClones C old (new ++ y ∷ []) more
+  appends_next old new xs more x y is clone h =
+      let ys : List T = h.0 in (
+        ys ++ y ∷ [],
+        ap (λ l. l ++ y ∷ []) h.1 ∙ append_assoc old ys (y ∷ []),
+        subst (λ l. AllZip C l (ys ++ y ∷ [])) is (AllZip-push C xs ys x y h.2 clone),
+      )
+
+  -- one more of the elements of a list
+  pub appends_of_next : (old new from : List T) (i : ℕ) (x y : T) → i < length from → x ≡ get_or from i x → C x y
+      → AppendsClones C old new (take i from) → AppendsClones C old (new ++ y ∷ []) (take (i + 1) from)
+  appends_of_next old new from i x y lt is =
+      appends_next old new (take i from) (take (i + 1) from) x y (ap (λ z. take i from ++ z ∷ []) is ∙ sym (take_more from i x lt))
+
+  -- one more of one value
+  pub appends_copy : (old new : List T) (i : ℕ) (x y : T) → C x y
+      → AppendsClones C old new (replicate i x) → AppendsClones C old (new ++ y ∷ []) (replicate (i + 1) x)
+  appends_copy old new i x y = appends_next old new (replicate i x) (replicate (i + 1) x) x y (replicate_more i x)
+
+  pub appends_len : (old new more : List T) → AppendsClones C old new more → length new ≡ length old + length more
+  appends_len old new more h =
+      ap length h.1 ∙ length-append old h.0 ∙ ap (λ n. length old + n) (sym (length_all_zip C more h.0 h.2))
+
+  -- behind an empty list
+  pub appends_alone : (old new more : List T) → old ≡ [] → AppendsClones C old new more → AllZip C more new
+  appends_alone old new more none h = subst (AllZip C more) (sym (h.1 ∙ ap (λ l. l ++ h.0) none)) h.2
+
+  -- behind clones of the first n
+  pub appends_rest : (mid new source seen other : List T) (n : ℕ) → seen ≡ source → other ≡ source → AllZip C (take n seen) mid
+      → AppendsClones C mid new (take (length other - n) (drop n other)) → AllZip C source new
+  appends_rest mid new source seen other n front back first h =
+      let rest : take (length other - n) (drop n other) ≡ drop n source =
+      take_all (length other - n) (drop n other) (omega (arith, length-drop n other)) ∙ ap (drop n) back in
+      let clones = AllZip-join C (take n seen) mid (take (length other - n) (drop n other)) h.0 first h.2 in
+      let all = ap (λ l. take n l ++ take (length other - n) (drop n other)) front ∙ ap (λ l. take n source ++ l) rest ∙ take-append-drop n source in
+      subst (λ l. AllZip C l new) all (subst (AllZip C (take n seen ++ take (length other - n) (drop n other))) (sym h.1) clones)
+
+  -- clones of all slots are clones of the spare ones
+  pub spare_cloned : (v w : Slots T) → items_len w ≡ items_len v → AllZip C (all_slots v) (all_slots w) → AllZip C (spare v) (spare w)
+  spare_cloned v w long h =
+      let k = items_len v in
+      let behind : drop k (all_slots v) ≡ spare v = ap (drop k) (slots_are v) ∙ drop_at (items v) (spare v) k refl in
+      let behind_clones : drop k (all_slots w) ≡ spare w = ap (drop k) (slots_are w) ∙ drop_at (items w) (spare w) k long in
+      subst (λ l. AllZip C l (spare w)) behind (subst (AllZip C (drop k (all_slots v))) behind_clones (AllZip-drop C k (all_slots v) (all_slots w) h))

@@ -1,0 +1,59 @@
+//! Clones, of items that own memory and of numbers.
+ghost use Rattle.std.specs.Prelude.{◌≡◌, ◌+◌, ◌-◌, ◌≤◌, length, IfOk, OnOk};
+ghost use Rattle.std.specs.List.{AppendsClones};
+ghost use Rattle.tinyvec.specs.Slots.{items, items_len};
+ghost use Rattle.tinyvec.specs.Tiny.{tiny_items, tiny_len};
+
+use std::alloc::AllocError;
+use tinyvec::{Array, ArrayVec, TinyVec};
+
+/// Items that own memory: a clone is as long.
+pub fn cloned(
+    v: &ArrayVec<[Option<Vec<u8>>; 4]>,
+) -> Result<ArrayVec<[Option<Vec<u8>>; 4]>, AllocError>
+    ensures { IfOk result (λ w. items_len w ≡ items_len v.now) }
+{
+    v.clone()
+}
+
+/// Clones of any items are appended.
+pub fn appended<A: Array>(v: &mut ArrayVec<A>, more: &[A::Item]) -> Result<(), AllocError>
+where
+    A::Item: Clone,
+    requires { length more.now ≤ A.CAPACITY - items_len v.old }
+    ensures items { OnOk result (AppendsClones A.Item.is_clone (items v.old) (items v.new) more.now) }
+    ensures len { OnOk result (items_len v.new ≡ items_len v.old + length more.now) }
+{
+    v.extend_from_slice(more)
+}
+
+/// Numbers equal their clones.
+pub fn same(v: &ArrayVec<[i32; 4]>) -> Result<ArrayVec<[i32; 4]>, AllocError>
+    ensures { IfOk result (λ w. w ≡ v.now) }
+{
+    v.clone()
+}
+
+/// The same of a `TinyVec`.
+pub fn texts_cloned(
+    v: &TinyVec<[Option<Vec<u8>>; 2]>,
+) -> Result<TinyVec<[Option<Vec<u8>>; 2]>, AllocError>
+    ensures { IfOk result (λ w. tiny_len w ≡ tiny_len v.now) }
+{
+    v.clone()
+}
+
+/// Numbers of a `TinyVec` equal their clones.
+pub fn same_numbers(v: &TinyVec<[u32; 8]>) -> Result<TinyVec<[u32; 8]>, AllocError>
+    ensures { IfOk result (λ w. tiny_items w ≡ tiny_items v.now) }
+{
+    v.clone()
+}
+
+/// `?` drops the item that a refused call hands back.
+pub fn filled_up(v: &mut TinyVec<[u32; 8]>, n: usize) -> Result<(), AllocError>
+    ensures { OnOk result (tiny_len v.new ≡ n) }
+{
+    v.resize(n, 7)?;
+    Ok(())
+}

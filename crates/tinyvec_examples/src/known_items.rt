@@ -1,0 +1,69 @@
+//! Items that are known beforehand, and fit: `extend` succeeds, and the list is known.
+ghost use Rattle.std.specs.Prelude.{◌≡◌, ◌+◌, ◌-◌, ◌≤◌, ◌++◌, length, vec_len, IsOk};
+ghost use Rattle.std.specs.List.{range_with_len};
+ghost use Rattle.tinyvec.specs.Slots.{items, items_len};
+ghost use Rattle.tinyvec.specs.Tiny.{tiny_items, tiny_len, tiny_capacity};
+ghost use Rattle.tinyvec.specs.View.{items as slice_items, spare as slice_spare, name};
+
+use std::alloc::Global;
+use std::iter::Copied;
+use std::ops::Range;
+use std::{slice, vec};
+use tinyvec::{Array, ArrayVec, NoRoom, SliceVec, TinyVec};
+
+/// The items of a `Vec`.
+pub fn by_vec<A: Array>(
+    v: &mut ArrayVec<A>,
+    more: Vec<A::Item>,
+) -> Result<(), NoRoom<A::Item, vec::IntoIter<A::Item, Global>>>
+    requires { vec_len more ≤ A.CAPACITY - items_len v.old }
+    ensures { IsOk result × (items v.new ≡ items v.old ++ more.items) }
+{
+    v.extend(more)
+}
+
+/// The numbers of a range.
+pub fn by_range<A: Array<Item = usize>>(
+    v: &mut ArrayVec<A>,
+    start: usize,
+    end: usize,
+) -> Result<(), NoRoom<usize, Range<usize>>>
+    requires { end - start ≤ A.CAPACITY - items_len v.old }
+    ensures { IsOk result × (items v.new ≡ items v.old ++ range_with_len start (end - start)) }
+{
+    v.extend(start..end)
+}
+
+/// Copies of a slice's items.
+pub fn by_copies<'a, T: Copy + Default + Drop + 'a, A: Array<Item = T>>(
+    v: &mut ArrayVec<A>,
+    more: &'a [T],
+) -> Result<(), NoRoom<T, Copied<slice::Iter<'a, T>>>>
+    requires { length more.now ≤ A.CAPACITY - items_len v.old }
+    ensures { IsOk result × (items v.new ≡ items v.old ++ more.now) }
+{
+    v.extend(more.iter().copied())
+}
+
+/// The items of a `Vec`, into lent slots.
+pub fn into_slots(
+    v: &mut SliceVec<'_, u8>,
+    more: Vec<u8>,
+) -> Result<(), NoRoom<u8, vec::IntoIter<u8, Global>>>
+    requires { vec_len more ≤ length (slice_spare v.old) }
+    ensures items { IsOk result × (slice_items v.new ≡ slice_items v.old ++ more.items) }
+    ensures same_slots { name v.new ≡ name v.old }
+{
+    v.extend(more)
+}
+
+/// The items of a `Vec`, where there is room for them, inline or on the heap: no memory is asked for.
+pub fn into_room<A: Array>(
+    v: &mut TinyVec<A>,
+    more: Vec<A::Item>,
+) -> Result<(), NoRoom<A::Item, vec::IntoIter<A::Item, Global>>>
+    requires { tiny_len v.old + vec_len more ≤ tiny_capacity A.CAPACITY v.old }
+    ensures { IsOk result × (tiny_items v.new ≡ tiny_items v.old ++ more.items) }
+{
+    v.extend(more)
+}

@@ -1,0 +1,5 @@
+//! The examples of the README, each as it stands there.
+
+pub mod array;
+pub mod loops;
+pub mod slice;

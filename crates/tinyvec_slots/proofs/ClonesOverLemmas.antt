@@ -1,0 +1,137 @@
+-- Clones written over slots, block by block.
+use Rattle.std.proofs.Common.{◌≡◌, ℕ, zero, suc, ◌+◌, ◌-◌, ◌<◌, ◌≤◌, List, [], ◌∷◌, ◌++◌, length, take, drop, set, get_or, replicate, refl, sym, ap, subst, ◌∙◌, le_refl, arith, append-nil, length-append, length-drop, take_at, drop_at, take_all, drop-drop, get_or-drop}
+use Rattle.std.proofs.lemmas.List.{take_more, replicate_more, drop_all}
+use Rattle.std.proofs.lemmas.List.Elements.{AllZip-push, same_from_all_zip}
+use Rattle.std.proofs.Math.Seq.{take-add}
+use Rattle.std.specs.List.{AllZip, HoldsAt}
+use Rattle.tinyvec_slots.specs.Clones.{RefusedAt, ClonesOver, ClonesOverFrom}
+use Rattle.tinyvec_slots.proofs.CloneLemmas.{set_next, written_part, length-part}
+use borrow.Rule.Slice.PartMut.{post_of}
+
+module _ {X : Type 0} (C : X → X → Type 0) where
+  pub AllZip-join : (xs ys vs ws : List X) → AllZip C xs ys → AllZip C vs ws → AllZip C (xs ++ vs) (ys ++ ws)
+  AllZip-join [] [] vs ws h k = k
+  AllZip-join [] (y ∷ ys) vs ws h k = absurd h
+  AllZip-join (x ∷ xs) [] vs ws h k = absurd h
+  AllZip-join (x ∷ xs) (y ∷ ys) vs ws h k = (h.0, AllZip-join xs ys vs ws h.1 k)
+
+  -- none yet
+  pub clones_none : (from old : List X) → ClonesOver C (take 0 from) 0 old old
+  clones_none from old = ([], tt, refl, refl)
+
+  -- one more
+  clones_next : (xs more old new : List X) (i : ℕ) (x y : X) → xs ++ x ∷ [] ≡ more → i < length old → C x y
+      → ClonesOver C xs i old new → ClonesOver C more (i + 1) old (set new i y)
+  clones_next xs more old new i x y is lt clone h =
+      let ys : List X = h.0 in (
+        ys ++ y ∷ [],
+        subst (λ l. AllZip C l (ys ++ y ∷ [])) is (AllZip-push C xs ys x y h.1 clone),
+        length-append ys (y ∷ []) ∙ ap (λ n. n + 1) h.2,
+        ap (λ l. set l i y) h.3 ∙ set_next ys old i y h.2 lt,
+      )
+
+  -- one more of the elements of a list
+  pub clones_of_next : (from old new : List X) (i : ℕ) (x y : X) → i < length from → length from ≤ length old → x ≡ get_or from i x → C x y
+      → ClonesOver C (take i from) i old new → ClonesOver C (take (i + 1) from) (i + 1) old (set new i y)
+  clones_of_next from old new i x y lt fits is =
+      clones_next (take i from) (take (i + 1) from) old new i x y (ap (λ z. take i from ++ z ∷ []) is ∙ sym (take_more from i x lt)) (omega arith)
+
+  -- one more of one value
+  pub copies_next : (old new : List X) (i : ℕ) (x y : X) → i < length old → C x y
+      → ClonesOver C (replicate i x) i old new → ClonesOver C (replicate (i + 1) x) (i + 1) old (set new i y)
+  copies_next old new i x y = clones_next (replicate i x) (replicate (i + 1) x) old new i x y (replicate_more i x)
+
+  -- all of them
+  pub clones_all : (from old new : List X) (n : ℕ) → length from ≤ n → ClonesOver C (take n from) n old new → n ≤ length from → ClonesOver C from (length from) old new
+  clones_all from old new n le h fits =
+      let same : n ≡ length from = omega arith in
+      subst (λ k. ClonesOver C from k old new) same (subst (λ l. ClonesOver C l n old new) (take_all n from le) h)
+
+  -- over all elements
+  pub clones_whole_of : (xs old new : List X) → length xs ≡ length old → ClonesOver C xs (length xs) old new → AllZip C xs new
+  clones_whole_of xs old new same h =
+      let whole : new ≡ h.0 = h.3 ∙ ap (λ l. h.0 ++ l) (drop_all (length xs) old (omega (arith, same))) ∙ append-nil h.0 in
+      subst (AllZip C xs) (sym whole) h.1
+
+  -- where clones equal their originals
+  pub clones_equal : (xs old new : List X) (n : ℕ) → ((x y : X) → C x y → y ≡ x) → ClonesOver C xs n old new → new ≡ xs ++ drop n old
+  clones_equal xs old new n rule h = h.3 ∙ ap (λ l. l ++ drop n old) (same_from_all_zip C xs h.0 h.1 rule)
+
+  pub clones_equal_from : (start : ℕ) (xs old new : List X) (n : ℕ) → ((x y : X) → C x y → y ≡ x) → ClonesOverFrom C start xs n old new
+      → new ≡ take start old ++ xs ++ drop (start + n) old
+  clones_equal_from start xs old new n rule h = h.3 ∙ ap (λ l. take start old ++ l ++ drop (start + n) old) (same_from_all_zip C xs h.0 h.1 rule)
+
+  -- the first n of a list of clones
+  pub AllZip-take : (n : ℕ) (xs ys : List X) → AllZip C xs ys → AllZip C (take n xs) (take n ys)
+  AllZip-take zero xs ys h = tt
+  AllZip-take (suc n) [] [] h = tt
+  AllZip-take (suc n) [] (y ∷ ys) h = absurd h
+  AllZip-take (suc n) (x ∷ xs) [] h = absurd h
+  AllZip-take (suc n) (x ∷ xs) (y ∷ ys) h = (h.0, AllZip-take n xs ys h.1)
+
+  -- and the others
+  pub AllZip-drop : (n : ℕ) (xs ys : List X) → AllZip C xs ys → AllZip C (drop n xs) (drop n ys)
+  AllZip-drop zero xs ys h = h
+  AllZip-drop (suc n) [] [] h = tt
+  AllZip-drop (suc n) [] (y ∷ ys) h = absurd h
+  AllZip-drop (suc n) (x ∷ xs) [] h = absurd h
+  AllZip-drop (suc n) (x ∷ xs) (y ∷ ys) h = AllZip-drop n xs ys h.1
+
+  -- more clones behind the first a
+  module _ (from old to part : List X) (a : ℕ) (fits : length from ≤ length old) (long : length to ≡ length old)
+      (within : a ≤ length from) (done : ClonesOver C (take a from) a old to) where
+    abbrev rest : List X
+    rest = take (length from - a) (drop a from)
+
+    abbrev lent : List X
+    lent = take (length to - a) (drop a to)
+
+    abbrev written : List X
+    written = take a to ++ (part ++ post_of a (length to - a) to)
+
+    rest_whole : rest ≡ drop a from
+    rest_whole = take_all (length from - a) (drop a from) (omega (arith, length-drop a from))
+
+    rest_len : length rest ≡ length from - a
+    rest_len = length-part from a (length from - a) (omega arith)
+
+    pub clones_further : (k : ℕ) → k ≤ length rest → ClonesOver C (take k rest) k lent part
+        → (a + k ≤ length from) × ClonesOver C (take (a + k) from) (a + k) old written
+    clones_further k fit h =
+        let ys : List X = done.0 in
+        let zs : List X = h.0 in
+        let ends : a + k ≤ length from = omega (arith, fit, rest_len) in
+        let start : take a (ys ++ drop a old) ≡ ys = take_at ys (drop a old) a done.2 in
+        let end : drop (a + k) (ys ++ drop a old) ≡ drop (a + k) old =
+        sym (drop-drop k a (ys ++ drop a old)) ∙ ap (drop k) (drop_at ys (drop a old) a done.2) ∙ drop-drop k a old in
+        let clones = AllZip-join (take a from) ys (take k rest) zs done.1 h.1 in
+        let cut : take a from ++ take k rest ≡ take (a + k) from = ap (λ l. take a from ++ take k l) rest_whole ∙ sym (take-add a k from) in (
+          ends,
+          (
+            ys ++ zs,
+            subst (λ l. AllZip C l (ys ++ zs)) cut clones,
+            length-append ys zs ∙ ap (λ n. n + length zs) done.2 ∙ ap (λ n. a + n) h.2,
+            written_part to (ys ++ drop a old) zs part a (length to - a) k done.3 h.3 (omega arith) (omega arith)
+                ∙ ap (λ l. l ++ zs ++ drop (a + k) (ys ++ drop a old)) start ∙ ap (λ l. ys ++ zs ++ l) end,
+          ),
+        )
+
+    -- all were written
+    pub clones_whole : ClonesOver C rest (length rest) lent part → ClonesOver C from (length from) old written
+    clones_whole h =
+        let whole : ClonesOver C (take (length rest) rest) (length rest) lent part = subst (λ l. ClonesOver C l (length rest) lent part) (sym (take_all (length rest) rest (le_refl _))) h in
+        let further = clones_further (length rest) (le_refl _) whole in
+        clones_all from old written (a + length rest) (omega (arith, rest_len)) further.1 further.0
+
+    -- a clone was refused
+    pub clones_in_part : (I : X → Type 0) → (j : ℕ) × RefusedAt I rest j × ClonesOver C (take j rest) j lent part
+        → (j : ℕ) × RefusedAt I from j × ClonesOver C (take j from) j old written
+    clones_in_part I found =
+        let j : ℕ = found.0 in
+        let below : j < length rest = found.1.0 in
+        let refused : HoldsAt (λ x. ¬ (I x)) from (a + j) =
+        λ d. subst (λ x. ¬ (I x)) (ap (λ l. get_or l j d) rest_whole ∙ get_or-drop a from j d) (found.1.1 d) in (
+          a + j,
+          (omega (arith, below, rest_len), refused),
+          (clones_further j (omega (arith, below)) found.2).1,
+        )

@@ -1,0 +1,152 @@
+-- Lemmas for proofs by hand of functions that lend on a part of a slice, which a call lent them.
+use mathlib.Core.Path.{◌≡◌, refl, sym, ap, ◌∙◌}
+use Prim.Native.Nat.{ℕ, zero, suc, ◌+◌, ◌-◌, ◌*◌, ◌^◌, ◌<◌, ◌≤◌}
+use native.Mathlib.Nat.{zero-mul, suc-mul, not-suc-le-zero}
+use native.Mathlib.Omega.{arith}
+use mathlib.Core.List.{List, [], ◌∷◌, ◌++◌}
+use seplogic.Ra.Ura.{Ura}
+use mir.Syntax.{named}
+use mir.Val.{Val, vptr}
+use base.Logic.{SProp, ent, sep, ex, wand, all, all_e, apply∗}
+use base.Stored.{coded_list}
+use base.Fml.{Fml, Lft, GName, Share, flft, fsep, fobs, fbor, fwand}
+use prog.Memory.{capped}
+use prog.Capped.{capped_is}
+use types.Logic.{Logic, sem}
+use types.Mut.{open_ref}
+use types.Follow.{takes_part}
+use types.Kit.{‵, ◌⊛◌, raw, some, later, ◌$◌, ◌∵◌, !, qed, move, drop, split, split3, fsplit, fsplit3, fjoin, fjoin3, use1, use2, await, pick, done, updating, group, now, show, rewrite, feq_l, feq_i}
+use types.SemTy.{SemTy, cells, Arr, Body}
+use denote.Array.{Array}
+use denote.Follow.{follows}
+use denote.FollowSlice.{heres_id, slice_of}
+use denote.Memory.{mem}
+use denote.RattleType.{RattleType}
+use denote.Ref.{MutRef}
+use denote.Slice.{MutSlice, Room, slice_val}
+use lib.ListN.{length, take, drop as drop_list, set, get_or, take-append-drop, length-drop, length-append, length-set}
+use borrow.Table.Elements.{at, at_mul, cut_app, join_app, focus_any, length-take-le}
+
+-- where the product fits a word, the count is zero or the size fits too
+pub uncapped : (i k : ℕ) → i * k < 2 ^ 64 → i * capped k ≡ i * k
+uncapped zero k h = zero-mul (capped k) ∙ sym (zero-mul k)
+uncapped (suc i) k h = let step = suc-mul i k in ap (λ (j : ℕ). suc i * j) (capped_is k (omega arith))
+
+-- an element, where there is one
+pub an_element : {X : Type 0} (xs : List X) (i : ℕ) → i < length xs → X
+an_element [] i h = absurd (not-suc-le-zero h)
+an_element (x ∷ xs) i h = x
+
+module _ {M : Type 1} {𝓤 : Ura M} (𝓛 : Logic 𝓤) (R : RattleType) (κ : Lft) (q : Share) (b o : ℕ) (γ : GName) (xs : List R.Denot) where
+  open 𝓛 use {H, A}
+
+  abbrev L : ℕ → SemTy
+  L n = Arr (mem R) n
+
+  -- the slice
+  abbrev Whole : List Val → SProp 𝓤
+  Whole vs = sem 𝓛 ((MutSlice (named 0) κ R).own_val (record { ref_ptr = (b, o); ghost_name = γ; now = xs }) vs)
+
+  -- The elements from i up to j are lent on. The slice ends as `filled` of what is then there.
+  module _ (i j : ℕ) (le : i ≤ j) (within : j ≤ length xs) where
+    abbrev m : ℕ
+    m = j - i
+
+    abbrev p : ℕ
+    p = i * (mem R).size + o
+
+    abbrev front : List R.Denot
+    front = take i xs
+
+    abbrev pub run : List R.Denot
+    run = take m (drop_list i xs)
+
+    abbrev pub tail : List R.Denot
+    tail = drop_list m (drop_list i xs)
+
+    front_long : length front ≡ i
+    front_long = length-take-le i xs (omega arith)
+
+    pub run_long : length run ≡ m
+    run_long = let cut = length-drop i xs in length-take-le m (drop_list i xs) (omega arith)
+
+    begins : at o (mem R).size (length front) ≡ p
+    begins = ap (at o (mem R).size) front_long ∙ at_mul o (mem R).size i
+
+    module _ (filled : List R.Denot → List R.Denot) (joins : (ws : List R.Denot) → length ws ≡ m → front ++ (ws ++ tail) ≡ filled ws)
+        (room : Room R (length run)) where
+      abbrev Rest : Fml
+      Rest = fsep (cells (mem R) front b o) (cells (mem R) tail b (at p (mem R).size (length run)))
+
+      abbrev LentRun : GName → SProp 𝓤
+      LentRun δ = sep 𝓤 (sem 𝓛 ((MutSlice (named 0) κ R).own_val (record { ref_ptr = (b, p); ghost_name = δ; now = run }) (slice_val (b, p) (length run) ∷ []))) (sep 𝓤 (A.lft κ q) (sem 𝓛 (follows (Array R 0) (Array R 0) γ δ filled)))
+
+      put_run : (ws : List R.Denot) → ent 𝓤 (sep 𝓤 (sem 𝓛 ((L (length run)).own_at ws b p)) (sem 𝓛 Rest)) (sem 𝓛 ((L (length xs)).own_at (filled ws) b o))
+      put_run ws =
+          qed 𝓛 (‵ ((L (length run)).own_at ws b p) ∷ ‵ Rest ∷ []) ∵ fsplit ! $ feq_l ! (λ e.
+          let same : front ++ (ws ++ tail) ≡ filled ws = joins ws (e ∙ run_long) in
+          let one = front_long in
+          let two = length-append front (ws ++ tail) in
+          let three = length-append ws tail in
+          let four = length-drop m (drop_list i xs) in
+          let five = length-drop i xs in
+          let six = run_long in
+          let all = ap length same in
+          -- [ws; the rest]
+          move ! (1 ∷ []) $ fsplit ! $
+          -- [front; tail; ws]
+          rewrite ! 1 (λ (k : ℕ). ‵ (cells (mem R) tail b (at p (mem R).size k))) (sym e) refl $ move ! (2 ∷ 1 ∷ []) $
+          use2 𝓛 (‵ (cells (mem R) (ws ++ tail) b p)) (join_app 𝓛 (mem R) ws tail b p) $
+          rewrite ! 0 (λ (k : ℕ). ‵ (cells (mem R) (ws ++ tail) b k)) (sym begins) refl $ move ! (1 ∷ 0 ∷ []) $
+          use2 𝓛 (‵ (cells (mem R) (front ++ (ws ++ tail)) b o)) (join_app 𝓛 (mem R) front (ws ++ tail) b o) $
+          rewrite ! 0 (λ (l : List R.Denot). ‵ (cells (mem R) l b o)) same refl $
+          feq_i ! ℕ (length (filled ws)) (length xs) (omega arith) $ fjoin ! $ done !)
+
+      pub lends_run : (vs : List Val) → ent 𝓤 (sep 𝓤 (Whole vs) (A.lft κ q)) (H.⇛ (ex 𝓤 LentRun))
+      lends_run vs =
+          qed 𝓛 (‵ ((MutSlice (named 0) κ R).own_val (record { ref_ptr = (b, o); ghost_name = γ; now = xs }) vs) ∷ ‵ (flft κ q) ∷ []) ∵ updating ! $ fsplit3 ! $ drop ! $
+          rewrite ! 0 (λ (l : List R.Denot). ‵ (fobs γ ((coded_list R.coded).code l))) (heres_id R xs) refl $ open_ref ! tt (L (length xs)) {b = b} {o = o} $ fsplit ! $ drop ! $
+          rewrite ! 0 (λ (l : List R.Denot). ‵ (cells (mem R) l b o)) (sym (take-append-drop i xs)) refl $
+          use1 𝓛 (‵ (cells (mem R) front b o) ⊛ ‵ (cells (mem R) (drop_list i xs) b (at o (mem R).size (length front)))) (cut_app 𝓛 (mem R) front (drop_list i xs) b o) $
+          split ! $ move ! (1 ∷ []) $
+          rewrite ! 0 (λ (k : ℕ). ‵ (cells (mem R) (drop_list i xs) b k)) begins refl $
+          rewrite ! 0 (λ (l : List R.Denot). ‵ (cells (mem R) l b p)) (sym (take-append-drop m (drop_list i xs))) refl $
+          use1 𝓛 (‵ (cells (mem R) run b p) ⊛ ‵ (cells (mem R) tail b (at p (mem R).size (length run)))) (cut_app 𝓛 (mem R) run tail b p) $
+          -- [the run; the tail; the front; the open borrow; obs; auth]
+          split ! $ move ! (2 ∷ 1 ∷ []) $ fjoin ! $ move ! (1 ∷ []) $
+          feq_i ! ℕ (length run) (length run) refl $ fjoin ! $ move ! (2 ∷ 3 ∷ 4 ∷ 0 ∷ 1 ∷ []) $ group ! 5 $
+          use1 𝓛 (later (some (λ (δ : GName). ‵ (fobs δ ((coded_list R.coded).code run)) ⊛ ‵ (fbor κ (Body (L (length run)) b p δ)) ⊛ ‵ (flft κ q) ⊛ ‵ (follows (Array R 0) (Array R 0) γ δ filled))))
+          (takes_part 𝓛 (L (length xs)) (L (length run)) filled κ q b o b p γ (sem 𝓛 Rest) put_run ((coded_list R.coded).code xs) ((coded_list R.coded).code xs) run) $ await ! tt $ pick ! (λ δ. split3 ! $
+          use2 𝓛 (‵ ((MutSlice (named 0) κ R).own_val (record { ref_ptr = (b, p); ghost_name = δ; now = run }) (slice_val (b, p) (length run) ∷ []))) (slice_of 𝓛 R (named 0) κ b p δ run room) $ now ! $ show ! LentRun δ $ done !)
+
+  -- the element at i is lent on
+  module _ (i : ℕ) (lt : i < length xs) (d : R.Denot) where
+    abbrev place : ℕ
+    place = i * (mem R).size + o
+
+    abbrev x : R.Denot
+    x = get_or xs i d
+
+    -- the others, as the way from any element at i back to all of them
+    abbrev Ways : SProp 𝓤
+    Ways = all 𝓤 (λ (w : R.Denot). wand 𝓤 (sem 𝓛 ((mem R).own_at w b (at o (mem R).size i))) (sem 𝓛 (cells (mem R) (set xs i w) b o)))
+
+    abbrev LentElement : GName → SProp 𝓤
+    LentElement δ = sep 𝓤 (sem 𝓛 ((MutRef (named 0) κ R).own_val (record { ref_ptr = (b, place); ghost_name = δ; now = x }) (vptr b place ∷ []))) (sep 𝓤 (A.lft κ q) (sem 𝓛 (follows (Array R 0) R γ δ (set xs i))))
+
+    put_element : (w : R.Denot) → ent 𝓤 (sep 𝓤 (sem 𝓛 ((mem R).own_at w b place)) Ways) (sem 𝓛 ((L (length xs)).own_at (set xs i w) b o))
+    put_element w =
+        qed 𝓛 (‵ ((mem R).own_at w b place) ∷ raw Ways ∷ []) ∵ rewrite ! 0 (λ (k : ℕ). ‵ ((mem R).own_at w b k)) (sym (at_mul o (mem R).size i)) refl $ move ! (1 ∷ []) $
+        use1 𝓛 (‵ (fwand ((mem R).own_at w b (at o (mem R).size i)) (cells (mem R) (set xs i w) b o))) (all_e 𝓤 (λ (z : R.Denot). wand 𝓤 (sem 𝓛 ((mem R).own_at z b (at o (mem R).size i))) (sem 𝓛 (cells (mem R) (set xs i z) b o))) w) $ move ! (1 ∷ 0 ∷ []) $
+        use2 𝓛 (‵ (cells (mem R) (set xs i w) b o)) (apply∗ 𝓤 (sem 𝓛 ((mem R).own_at w b (at o (mem R).size i))) (sem 𝓛 (cells (mem R) (set xs i w) b o))) $
+        feq_i ! ℕ (length (set xs i w)) (length xs) (length-set xs i w) $ fjoin ! $ done !
+
+    pub lends_element : (vs : List Val) → ent 𝓤 (sep 𝓤 (Whole vs) (A.lft κ q)) (H.⇛ (ex 𝓤 LentElement))
+    lends_element vs =
+        qed 𝓛 (‵ ((MutSlice (named 0) κ R).own_val (record { ref_ptr = (b, o); ghost_name = γ; now = xs }) vs) ∷ ‵ (flft κ q) ∷ []) ∵ updating ! $ fsplit3 ! $ drop ! $
+        rewrite ! 0 (λ (l : List R.Denot). ‵ (fobs γ ((coded_list R.coded).code l))) (heres_id R xs) refl $ open_ref ! tt (L (length xs)) {b = b} {o = o} $ fsplit ! $ drop ! $
+        use1 𝓛 (‵ ((mem R).own_at x b (at o (mem R).size i)) ⊛ raw Ways) (focus_any 𝓛 (mem R) d i xs b o lt) $
+        split ! $ rewrite ! 0 (λ (k : ℕ). ‵ ((mem R).own_at x b k)) (at_mul o (mem R).size i) refl $ move ! (2 ∷ 3 ∷ 4 ∷ 0 ∷ 1 ∷ []) $ group ! 5 $
+        use1 𝓛 (later (some (λ (δ : GName). ‵ (fobs δ (R.coded.code x)) ⊛ ‵ (fbor κ (Body (mem R) b place δ)) ⊛ ‵ (flft κ q) ⊛ ‵ (follows (Array R 0) R γ δ (set xs i)))))
+        (takes_part 𝓛 (L (length xs)) (mem R) (set xs i) κ q b o b place γ Ways put_element ((coded_list R.coded).code xs) ((coded_list R.coded).code xs) x) $ await ! tt $ pick ! (λ δ. split3 ! $
+        feq_i ! (List Val) (vptr b place ∷ []) (vptr b place ∷ []) refl $ fjoin3 ! $ now ! $ show ! LentElement δ $ done !)
