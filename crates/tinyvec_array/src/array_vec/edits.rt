@@ -3,7 +3,7 @@ ghost use Rattle.std.specs.Prelude.{◌≡◌, ◌+◌, ◌-◌, ◌<◌, ◌≤
 ghost use Rattle.std.specs.List.{swap_remove, SwappedAt};
 ghost use Rattle.tinyvec_slots.specs.Slots.{items, spare, items_len, Frees};
 
-use crate::slots::{are_few_of, clear, insert_slot, last_slot_to, remove_slot};
+use crate::slots::{are_few_of, insert_slot, last_slot_to, remove_slot};
 use crate::{Array, ArrayVec};
 
 impl<A: Array> ArrayVec<A> {
