@@ -80,11 +80,12 @@ fn cloned_from_a_slice(rt: HostRuntime) -> Result<(), Fail> {
         Some([1].to_vec(rt.alloc())?),
         Some([2, 3].to_vec(rt.alloc())?),
     ];
-    let mut v = ArrayVec::<[Option<Vec<u8>>; 4]>::try_from_slice(&source)?;
-    v.extend_from_slice(&source[1..])?;
+    let items = source.as_slice();
+    let mut v = ArrayVec::<[Option<Vec<u8>>; 4]>::try_from_slice(items)?;
+    v.extend_from_slice(&items[1..])?;
     assert!(rt; v.len() == 3);
     assert!(rt; v.pop() == Some(Some([2, 3].to_vec(rt.alloc())?)));
-    assert!(rt; v.as_slice() == source.as_slice());
+    assert!(rt; v.as_slice() == items);
     Ok(())
 }
 
