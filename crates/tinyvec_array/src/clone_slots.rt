@@ -28,7 +28,8 @@ where
     A::Item: Clone,
     requires in_bounds { start ≤ A.CAPACITY }
     requires fits { length from.now ≤ A.CAPACITY - start }
-    ensures ok { OnOk result (ClonesOverFrom A.Item.is_clone start from.now (length from.now) (A.slots array.old) (A.slots array.new)) }
+    ensures ok { OnOk result (ClonesOverFrom A.Item.is_clone start from.now (length from.now)
+        (A.slots array.old) (A.slots array.new)) }
     ensures refused { OnErr result ((j : ℕ) × RefusedAt A.Item.is_infallible from.now j
         × ClonesOverFrom A.Item.is_clone start (take j from.now) j (A.slots array.old) (A.slots array.new)) }
     ensures len { length (A.slots array.old) ≡ A.CAPACITY }
@@ -48,7 +49,8 @@ where
     A::Item: Clone,
     requires start_le_end { start ≤ end }
     requires in_bounds { end ≤ A.CAPACITY }
-    ensures ok { OnOk result (ClonesOverFrom A.Item.is_clone start (replicate (end - start) x.now) (end - start) (A.slots array.old) (A.slots array.new)) }
+    ensures ok { OnOk result (ClonesOverFrom A.Item.is_clone start (replicate (end - start) x.now) (end - start)
+        (A.slots array.old) (A.slots array.new)) }
     ensures refused { OnErr result ((j : ℕ) × (j < end - start) × ¬ (A.Item.is_infallible x.now)
         × ClonesOverFrom A.Item.is_clone start (replicate j x.now) j (A.slots array.old) (A.slots array.new)) }
     ensures len { length (A.slots array.old) ≡ A.CAPACITY }

@@ -40,7 +40,8 @@ impl<A: Array> TinyVec<A> {
             × MatchResult result (λ _. rest it ≡ xs) (λ refused. rest it ≡ xs ++ refused.item ∷ rest refused.rest)
             × (tiny_items self.new ≡ tiny_items self.old ++ xs) }
 
-        // Of items that are known, as those of a `Vec`, a range or a slice. Where there is room for them no memory is asked for.
+        // Of items that are known, as those of a `Vec`, a range or a slice. Where there is room for them no memory is asked
+        // for.
         ensures known { (xs : List A.Item) → IntoIterYields I.into_iter_gives I.IntoIter.next_gives iter xs
             → OnOk result (tiny_items self.new ≡ tiny_items self.old ++ xs)
             × (tiny_len self.old + length xs ≤ tiny_capacity A.CAPACITY self.old

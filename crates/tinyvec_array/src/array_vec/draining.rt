@@ -13,10 +13,12 @@ impl<A: Array> ArrayVec<A> {
     pub fn drain_into<R: RangeBounds<usize>>(&mut self, range: R, out: &mut Vec<A::Item>)
         requires known { R.has_bounds range }
         requires in_list { IsRangeOf (items self.old) (R.start_bound range) (R.end_bound range) }
-        requires room { vec_len out.old + length (removed (items self.old) (R.start_bound range) (R.end_bound range)) ≤ vec_capacity out.old }
+        requires room { vec_len out.old + length (removed (items self.old) (R.start_bound range) (R.end_bound range))
+            ≤ vec_capacity out.old }
         ensures items { items self.new
             ≡ before (items self.old) (R.start_bound range) ++ after (items self.old) (R.end_bound range) }
-        ensures spare { Frees A.Item.is_default (length (removed (items self.old) (R.start_bound range) (R.end_bound range))) self.old self.new }
+        ensures spare { Frees A.Item.is_default (length (removed (items self.old) (R.start_bound range) (R.end_bound range)))
+            self.old self.new }
         ensures fits { items_len self.new ≤ A.CAPACITY }
         ensures moved { out.new.items
             ≡ out.old.items ++ removed (items self.old) (R.start_bound range) (R.end_bound range) }

@@ -14,7 +14,8 @@ impl<A: Array> ArrayVec<A> {
     where
         A::Item: Clone,
         requires in_bounds { n ≤ A.CAPACITY }
-        ensures items { OnOk result (AppendsClones A.Item.is_clone (take n (items self.old)) (items self.new) (replicate (n - items_len self.old) x)) }
+        ensures items { OnOk result (AppendsClones A.Item.is_clone (take n (items self.old)) (items self.new)
+            (replicate (n - items_len self.old) x)) }
         ensures len { OnOk result (items_len self.new ≡ n) }
         ensures if_clones_equal { OnOk result (ClonesAreEqual A.Item.is_clone
             → items self.new ≡ take n (items self.old) ++ replicate (n - items_len self.old) x) }
