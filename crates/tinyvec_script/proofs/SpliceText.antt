@@ -56,7 +56,12 @@ word_from (byte ∷ text) all =
     letter_from byte (inl e) rest = (Front ∷ rest.0, ap (λ b. b ∷ text) e ∙ ap (λ l. 102 ∷ l) rest.1)
     letter_from byte (inr e) rest = (Back ∷ rest.0, ap (λ b. b ∷ text) e ∙ ap (λ l. 98 ∷ l) rest.1)
 
-some_word : (text : List ℕ) → 0 < length text → (word : List End) → text ≡ map letter_code word → text ≡ word_text word
+-- the text of a word is not empty
+pub word_some : (text : List ℕ) (word : List End) → text ≡ word_text word → 0 < length text
+word_some text [] e = rw e (omega arith)
+word_some text (letter ∷ word) e = rw e (omega arith)
+
+pub some_word : (text : List ℕ) → 0 < length text → (word : List End) → text ≡ map letter_code word → text ≡ word_text word
 some_word text some [] e = absurd (let none = ap length e in omega arith)
 some_word text some (letter ∷ word) e = e
 

@@ -13,3 +13,24 @@ returns-in-Some-strip_prefix-clause-some c =
       spelled = rest ∙ ap (λ l. codes "insert " ++ l) c.in_ok-index.ensures.some;
       fits = (search rules, fits);
     })
+
+pub returns-in_err-parse_number : goal.returns-in_err-parse_number
+returns-in_err-parse_number c = rw c.from_residual.ensures (record { some = tt; has = tt; none = search rules })
+
+pub returns-in_err-index : goal.returns-in_err-index
+returns-in_err-index c = rw c.from_residual-in_err-index.ensures (record { some = tt; has = tt; none = search rules })
+
+pub returns-in_err-parse_index : goal.returns-in_err-parse_index
+returns-in_err-parse_index c = rw c.from_residual-in_err-parse_index.ensures (record { some = tt; has = tt; none = search rules })
+
+pub returns-in_err-parse_index-2 : goal.returns-in_err-parse_index-2
+returns-in_err-parse_index-2 c = rw c.from_residual-in_err-parse_index-2.ensures (record { some = tt; has = tt; none = search rules })
+
+pub returns-in_err-parse_index-3 : goal.returns-in_err-parse_index-3
+returns-in_err-parse_index-3 c = rw c.from_residual-in_err-parse_index-3.ensures (record { some = tt; has = tt; none = search rules })
+
+pub returns-in_err-strip_prefix : goal.returns-in_err-strip_prefix
+returns-in_err-strip_prefix c = rw c.from_residual-in_err-strip_prefix.ensures (record { some = tt; has = tt; none = search rules })
+
+pub returns-in_err-start : goal.returns-in_err-start
+returns-in_err-start c = rw c.from_residual-in_err-start.ensures (record { some = tt; has = tt; none = search rules })
