@@ -18,7 +18,8 @@ OnOk-anyway (Err e) p = tt
 
 -- a call gathered the text, and the next one more behind it
 pub gathered_then : (a b c : Option (List ℕ)) (text more : List ℕ) (f g h : ℕ)
-    → Appends a b text × (f ≤ g) × Unit {0} → Appends b c more × (g ≤ h) × Unit {0} → Appends a c (text ++ more) × (f ≤ h) × Unit {0}
+    → Appends a b text × (f ≤ g) × Unit {0} → Appends b c more × (g ≤ h) × Unit {0}
+    → Appends a c (text ++ more) × (f ≤ h) × Unit {0}
 gathered_then a b c text more f g h p q = (Appends-trans a b c text more p.0 q.0, omega (arith, p.1, q.1), tt)
 
 -- a fault that was reported since then was reported since before
