@@ -9,10 +9,11 @@ mod rows;
 mod script;
 mod slices;
 mod sources;
+mod tiny;
 mod vector;
 
 use crate::report::Report;
-use crate::rows::{of_bytes, of_slices, of_words};
+use crate::rows::{of_bytes, of_slices, of_tiny, of_words};
 use std::env;
 use std::process::ExitCode;
 
@@ -66,6 +67,10 @@ fn main() -> ExitCode {
             of_slices::<16>(&report);
             of_slices::<64>(&report);
             of_slices::<1024>(&report);
+            of_tiny::<4>(&report);
+            of_tiny::<16>(&report);
+            of_tiny::<64>(&report);
+            of_tiny::<1024>(&report);
         }
         Some("smallvec") => at_each_capacity!(&report, smallvec_of),
         Some("arrayvec") => at_each_capacity!(&report, arrayvec_of),

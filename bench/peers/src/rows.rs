@@ -4,7 +4,9 @@ use crate::benchmarks::*;
 use crate::report::Report;
 use crate::slices::*;
 use crate::sources::{pairs, scattered};
+use crate::tiny::tiny_splice;
 use crate::vector::Vector;
+use tinyvec::TinyVec;
 
 /// Every benchmark of a vector of `u64`.
 pub fn of_words<V: Vector<u64, N>, const N: usize>(report: &Report) {
@@ -72,4 +74,21 @@ pub fn of_slices<const N: usize>(report: &Report) {
     report.row("slice_remove", N, |x| slice_remove(&mut slots, x));
     report.row("slice_drain", N, |x| slice_drain(&mut slots, &source, x));
     report.row("slice_retain", N, |x| slice_retain(&mut slots, &runs, x));
+}
+
+/// The splices of a `TinyVec` of `u64`, inline and on the heap.
+pub fn of_tiny<const N: usize>(report: &Report)
+where
+    [u64; N]: tinyvec::Array<Item = u64>,
+{
+    let source = scattered::<u64, N>();
+    let count = N as u64;
+    let mut vec = TinyVec::new();
+    report.row("tiny_splice_as_many", N, |x| tiny_splice(&mut vec, &source, count / 4, x));
+    report.row("tiny_splice_fewer", N, |x| tiny_splice(&mut vec, &source, count / 8, x));
+    report.row("tiny_splice_more", N, |x| tiny_splice(&mut vec, &source, count / 2, x));
+    vec.move_to_the_heap_and_reserve(N);
+    report.row("tiny_heap_splice_as_many", N, |x| tiny_splice(&mut vec, &source, count / 4, x));
+    report.row("tiny_heap_splice_fewer", N, |x| tiny_splice(&mut vec, &source, count / 8, x));
+    report.row("tiny_heap_splice_more", N, |x| tiny_splice(&mut vec, &source, count / 2, x));
 }

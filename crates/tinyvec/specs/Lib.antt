@@ -5,9 +5,10 @@ pub use Rattle.tinyvec_slots.specs.Ends
 pub use Rattle.tinyvec_slots.specs.Filling
 pub use Rattle.tinyvec_slots.specs.Filters
 pub use Rattle.tinyvec_slots.specs.Clones
-pub use Rattle.tinyvec_array.specs.Fused
+pub use Rattle.tinyvec_slots.specs.Fused
+pub use Rattle.tinyvec_slots.specs.Splices
+pub use Rattle.tinyvec_slots.specs.Splicing
 pub use Rattle.tinyvec_array.specs.Splice
-pub use Rattle.tinyvec_array.specs.Splicing
 pub use Rattle.tinyvec_array.specs.Iterator
 pub use Rattle.tinyvec_slice.specs.View
 pub mod Tiny
@@ -16,3 +17,4 @@ pub mod Drain
 pub mod Growth
 pub mod Room
 pub mod Iterating
+pub mod TinySplice

@@ -4,10 +4,12 @@
 mod cloning;
 mod drain;
 mod iterator;
+mod splice;
 mod tiny_vec;
 
 pub use drain::TinyVecDrain;
 pub use iterator::TinyVecIterator;
+pub use splice::TinyVecSplice;
 pub use tiny_vec::TinyVec;
 pub use tinyvec_array::{
     Array, ArrayVec, ArrayVecDrain, ArrayVecIterator, ArrayVecSplice, FromIterRest, NoMemory,

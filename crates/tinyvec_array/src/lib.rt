@@ -9,7 +9,6 @@ mod iterator;
 mod parts;
 mod slots;
 mod splice;
-mod touches;
 mod try_from_slice_error;
 
 pub use array::Array;

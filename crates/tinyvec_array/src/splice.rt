@@ -6,27 +6,19 @@ ghost use Rattle.std.specs.Iterator.SizeHint.{IsWithinCount};
 ghost use Rattle.tinyvec_slots.specs.Slots.{items};
 ghost use Rattle.tinyvec_slots.specs.Cut.{IsRangeOf, before, removed, after};
 
-mod filling;
 mod finishing;
 
-use crate::touches::Touches;
 use crate::{Array, ArrayVec};
 use std::iter::{Fuse, FusedIterator};
 use std::ops::RangeBounds;
-use tinyvec_slots::resolve;
+use tinyvec_slots::{Gap, resolve};
 
 /// Gives the items of a range, in whose place those of `replacement` are put. For an item that is taken from an end, the
 /// replacement is asked for one from the same end, which stands there then. It must be spent by `finish` or
 /// `finish_counted`.
 pub struct ArrayVecSplice<'a, A: Array, I: Drop> {
     vec: &'a mut ArrayVec<A>,
-    // What stays or was placed from the front ends at `front`, and what was placed from the back or stays begins at `back`.
-    front: usize,
-    // The removed items that are left.
-    next: usize,
-    end: usize,
-    back: usize,
-    touches: Touches,
+    gap: Gap,
     replacement: I,
     // Always true: it keeps a splice from being let go.
     unspent: bool,
@@ -39,11 +31,7 @@ impl<'a, A: Array, I: Drop> Drop for ArrayVecSplice<'a, A, I> {
     {
         let ArrayVecSplice {
             vec: _,
-            front: _,
-            next: _,
-            end: _,
-            back: _,
-            touches: _,
+            gap: _,
             replacement: _,
             unspent: _,
         } = self;
@@ -78,11 +66,7 @@ impl<A: Array> ArrayVec<A> {
         let part = resolve(range, self.len());
         ArrayVecSplice {
             vec: self,
-            front: part.start,
-            next: part.start,
-            end: part.end,
-            back: part.end,
-            touches: Touches::new(),
+            gap: Gap::new(part.start, part.end),
             replacement: replacement.into_iter().fuse(),
             unspent: true,
         }
@@ -106,23 +90,11 @@ impl<'a, A: Array, I: Iterator<Item = A::Item>> Iterator for ArrayVecSplice<'a, 
         ensures goes { MakesProgress (SpliceCanNext I.can_next) (λ s. at_most (splice_len s)) self.old result self.new }
         ensures ready { SpliceCanStep self.new }
     {
-        if self.next >= self.end {
+        if self.gap.is_empty() {
             return None;
         }
-        let at = self.next;
-        match self.replacement.next() {
-            Some(new) => {
-                let item = self.touches.replace(self.vec.as_mut_slice(), at, new);
-                self.next = at + 1;
-                self.front = at + 1;
-                Some(item)
-            }
-            None => {
-                let item = self.touches.take(self.vec.as_mut_slice(), at);
-                self.next = at + 1;
-                Some(item)
-            }
-        }
+        let slots = self.vec.as_mut_slice();
+        Some(self.gap.take_first(slots, &mut self.replacement))
     }
 
     /// Both bounds are the number of removed items that are left.
@@ -151,30 +123,18 @@ impl<'a, A: Array, I: DoubleEndedIterator<Item = A::Item>> DoubleEndedIterator
             (λ s. at_most (splice_len s)) self.old result self.new }
         ensures ready { SpliceCanStep self.new }
     {
-        if self.next >= self.end {
+        if self.gap.is_empty() {
             return None;
         }
-        let at = self.end - 1;
-        match self.replacement.next_back() {
-            Some(new) => {
-                let item = self.touches.replace(self.vec.as_mut_slice(), at, new);
-                self.end = at;
-                self.back = at;
-                Some(item)
-            }
-            None => {
-                let item = self.touches.take(self.vec.as_mut_slice(), at);
-                self.end = at;
-                Some(item)
-            }
-        }
+        let slots = self.vec.as_mut_slice();
+        Some(self.gap.take_last(slots, &mut self.replacement))
     }
 }
 
 impl<'a, A: Array, I: Iterator<Item = A::Item>> ExactSizeIterator
     for ArrayVecSplice<'a, A, Fuse<I>> {
     fn len(&self) -> usize {
-        self.end.saturating_sub(self.next)
+        self.gap.len()
     }
 }
 

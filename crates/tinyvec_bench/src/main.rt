@@ -12,9 +12,11 @@ mod report;
 mod rows;
 mod slices;
 mod sources;
+mod tiny;
 
 use crate::report::Report;
-use crate::rows::{of_bytes, of_slices, of_words};
+use crate::rows::{of_bytes, of_slices, of_tiny, of_words};
+use std::alloc::Global;
 use std::rt::Runtime;
 use std::{env, io};
 
@@ -28,7 +30,7 @@ fn main(rt: HostRuntime) -> io::Result<()> {
         None => Report::of_checksums(&rt, FEW_ROUNDS),
         Some(command) => Report::of_times(&rt, asked_rounds(command.as_str(), args.next())?),
     };
-    run(&report)
+    run(&report, rt.alloc())
 }
 
 // The rounds, where the command is to take the time.
@@ -45,7 +47,7 @@ fn asked_rounds(command: &str, rounds: Option<String>) -> io::Result<u64> {
     }
 }
 
-fn run<R: Runtime>(report: &Report<'_, R>) -> io::Result<()> {
+fn run<R: Runtime>(report: &Report<'_, R>, alloc: Global) -> io::Result<()> {
     of_words::<R, 4>(report)?;
     of_words::<R, 16>(report)?;
     of_words::<R, 64>(report)?;
@@ -57,5 +59,9 @@ fn run<R: Runtime>(report: &Report<'_, R>) -> io::Result<()> {
     of_slices::<R, 4>(report)?;
     of_slices::<R, 16>(report)?;
     of_slices::<R, 64>(report)?;
-    of_slices::<R, 1024>(report)
+    of_slices::<R, 1024>(report)?;
+    of_tiny::<R, 4>(report, alloc)?;
+    of_tiny::<R, 16>(report, alloc)?;
+    of_tiny::<R, 64>(report, alloc)?;
+    of_tiny::<R, 1024>(report, alloc)
 }

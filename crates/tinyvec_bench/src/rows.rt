@@ -9,8 +9,11 @@ use crate::reading::{equal, last, sum};
 use crate::report::Report;
 use crate::slices::{slice_drain, slice_insert, slice_push, slice_remove, slice_retain};
 use crate::sources::{pairs, scattered};
+use crate::tiny::tiny_splice;
+use std::alloc::Global;
 use std::io;
 use std::rt::Runtime;
+use tinyvec::TinyVec;
 use tinyvec_array::ArrayVec;
 
 /// Every benchmark of an `ArrayVec` of `u64`.
@@ -117,4 +120,44 @@ pub fn of_slices<R: Runtime, const N: usize>(report: &Report<'_, R>) -> io::Resu
     report.row("slice_remove", N, |x| slice_remove(&mut slots, x))?;
     report.row("slice_drain", N, |x| slice_drain(&mut slots, &source, x))?;
     report.row("slice_retain", N, |x| slice_retain(&mut slots, &runs, x))
+}
+
+/// The splices of a `TinyVec` of `u64`, inline and on the heap.
+pub fn of_tiny<R: Runtime, const N: usize>(report: &Report<'_, R>, alloc: Global) -> io::Result<()>
+    requires { N * 8 < 2 ^ 63 }
+{
+    let source = scattered::<u64, N>();
+    let count = N as u64;
+    let mut vec = TinyVec::new(alloc);
+    report.row(
+        "tiny_splice_as_many",
+        N,
+        |x| tiny_splice(&mut vec, &source, count / 4, x),
+    )?;
+    report.row(
+        "tiny_splice_fewer",
+        N,
+        |x| tiny_splice(&mut vec, &source, count / 8, x),
+    )?;
+    report.row(
+        "tiny_splice_more",
+        N,
+        |x| tiny_splice(&mut vec, &source, count / 2, x),
+    )?;
+    vec.move_to_the_heap_and_reserve(N)?;
+    report.row(
+        "tiny_heap_splice_as_many",
+        N,
+        |x| tiny_splice(&mut vec, &source, count / 4, x),
+    )?;
+    report.row(
+        "tiny_heap_splice_fewer",
+        N,
+        |x| tiny_splice(&mut vec, &source, count / 8, x),
+    )?;
+    report.row(
+        "tiny_heap_splice_more",
+        N,
+        |x| tiny_splice(&mut vec, &source, count / 2, x),
+    )
 }

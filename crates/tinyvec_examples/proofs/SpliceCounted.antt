@@ -1,86 +1,105 @@
 -- How many slots a splice touches.
-use Rattle.std.proofs.Common.{◌≡◌, ℕ, ◌+◌, ◌-◌, ◌≤◌, max, List, [], ◌∷◌, length, Option, Some, None, refl, sym, ap, subst, ◌∙◌, arith, length-append}
+use Rattle.std.proofs.Common.{◌≡◌, ℕ, ◌+◌, ◌-◌, ◌≤◌, max, List, [], ◌∷◌, length, Option, Some, None, sym, ap, subst, refl, ◌∙◌, arith, length-append}
 use Rattle.std.proofs.lemmas.List.{length_push}
 use Rattle.std.specs.Option.{option_to_list}
 use Rattle.std.specs.declared.iter.Fuse.{Fuse}
-use Rattle.tinyvec_slots.specs.Slots.{Slots, items, items_len}
 use Rattle.tinyvec_slots.specs.Ends.{End, front, back, Asks, given_items}
-use Rattle.tinyvec_slots.proofs.Lists.{length-slice_range}
-use Rattle.tinyvec_array.specs.Splice.{splice_front, splice_left, splice_back, splice_slots, splice_touches, finish_placed, finish_bound, SpliceCanStep, SpliceKeeps, SpliceSteps, SpliceStepsBack}
+use Rattle.tinyvec_slots.specs.Splices.{SpliceView, Splices, SplicesBack, finish_placed, finish_bound}
+use Rattle.tinyvec_array.specs.Splice.{splice_view, SpliceKeeps, SpliceSteps, SpliceStepsBack}
 use Rattle.tinyvec_array.specs.declared.splice.ArrayVecSplice.{ArrayVecSplice}
+use Rattle.tinyvec.specs.TinySplice as tiny
+use Rattle.tinyvec.specs.declared.splice.TinyVecSplice.{TinyVecSplice}
+use Rattle.tinyvec.proofs.TinyLemmas.{SameFrame-refl, SameFrame-then}
 
 -- what a word placed, however the replacement gives it
-pub record Counts {A I T : Type 0} (s : ArrayVecSplice A I T) (answers : List (Option T)) (t : ArrayVecSplice A I T) : Type 0 where
+pub record Counts {S I T : Type 0} (view : S → SpliceView I T) (keeps : S → S → Type 0) (s : S) (answers : List (Option T)) (t : S) : Type 0 where
   pub placed : ℕ
-  pub given : length (splice_left s) ≡ length (splice_left t) + length (given_items answers)
-  pub borders : length (splice_front t) + length (splice_back t) ≡ length (splice_front s) + length (splice_back s) + placed
-  pub touches : splice_touches t ≡ splice_touches s + length (given_items answers) + placed
-  pub keeps : SpliceKeeps s t
+  pub given : length (view s).left ≡ length (view t).left + length (given_items answers)
+  pub borders : length (view t).front + length (view t).back ≡ length (view s).front + length (view s).back + placed
+  pub touches : (view t).touches ≡ (view s).touches + length (given_items answers) + placed
+  pub kept : keeps s t
 
--- a letter where nothing is left
-nothing_given : {A I T : Type 0} (s : ArrayVecSplice A I T) (answers : List (Option T)) (t : ArrayVecSplice A I T) → Counts s answers t → Counts s (None ∷ answers) t
-nothing_given s answers t h = record {
-  placed = h.placed;
-  given = h.given;
-  borders = h.borders;
-  touches = h.touches;
-  keeps = h.keeps;
-}
+module _ {S I T : Type 0} (view : S → SpliceView I T) (keeps : S → S → Type 0) (same : (s : S) → keeps s s)
+    (then : (s t u : S) → keeps s t → keeps t u → keeps s u) (gives gives_back : I → Option T → I → Type 0) where
+  -- a letter where nothing is left
+  nothing_given : (s : S) (answers : List (Option T)) (t : S) → Counts view keeps s answers t → Counts view keeps s (None ∷ answers) t
+  nothing_given s answers t h = record {
+    placed = h.placed;
+    given = h.given;
+    borders = h.borders;
+    touches = h.touches;
+    kept = h.kept;
+  }
 
-module _ {A I T : Type 0} (gives gives_back : I → Option T → I → Type 0) where
-  pub counted : (s : ArrayVecSplice A I T) (word : List End) (answers : List (Option T)) (t : ArrayVecSplice A I T)
-      → Asks (SpliceSteps gives) (SpliceStepsBack gives_back) s word answers t → Counts s answers t
-  counted s [] [] t same =
-      subst (Counts s []) (sym same) record {
+  pub counted : (s : S) (word : List End) (answers : List (Option T)) (t : S)
+      → Asks (Splices view keeps gives) (SplicesBack view keeps gives_back) s word answers t → Counts view keeps s answers t
+  counted s [] [] t is =
+      subst (Counts view keeps s []) (sym is) record {
         placed = 0;
         given = omega arith;
         borders = omega arith;
         touches = omega arith;
-        keeps = (refl, refl, refl);
+        kept = same s;
       }
   counted s [] (r ∷ answers) t asks = absurd asks
   counted s (e ∷ word) [] t asks = absurd asks
   counted s (front ∷ word) (None ∷ answers) t asks =
-      subst (λ m. Counts m (None ∷ answers) t) asks.1.1 (nothing_given asks.0 answers t (counted asks.0 word answers t asks.2))
+      subst (λ m. Counts view keeps m (None ∷ answers) t) asks.1.1 (nothing_given asks.0 answers t (counted asks.0 word answers t asks.2))
   counted s (back ∷ word) (None ∷ answers) t asks =
-      subst (λ m. Counts m (None ∷ answers) t) asks.1.1 (nothing_given asks.0 answers t (counted asks.0 word answers t asks.2))
+      subst (λ m. Counts view keeps m (None ∷ answers) t) asks.1.1 (nothing_given asks.0 answers t (counted asks.0 word answers t asks.2))
   counted s (front ∷ word) (Some x ∷ answers) t asks =
-      let step = asks.1 in
+      let step = asks.1.0 in
       let h = counted asks.0 word answers t asks.2 in
       let fewer = ap length step.left in
-      let ahead = ap length step.front ∙ length-append (splice_front s) (option_to_list step.placed) in
+      let ahead = ap length step.front ∙ length-append (view s).front (option_to_list step.placed) in
       let behind = ap length step.back in record {
         placed = length (option_to_list step.placed) + h.placed;
         given = omega (arith, h.given);
         borders = omega (arith, h.borders);
         touches = omega (arith, h.touches, step.touches);
-        keeps = (h.keeps.0 ∙ step.keeps.0, h.keeps.1 ∙ step.keeps.1, h.keeps.2 ∙ step.keeps.2);
+        kept = then s asks.0 t asks.1.1 h.kept;
       }
   counted s (back ∷ word) (Some x ∷ answers) t asks =
-      let step = asks.1 in
+      let step = asks.1.0 in
       let h = counted asks.0 word answers t asks.2 in
-      let fewer = ap length step.left ∙ length_push (splice_left asks.0) x in
+      let fewer = ap length step.left ∙ length_push (view asks.0).left x in
       let ahead = ap length step.front in
-      let behind = ap length step.back ∙ length-append (option_to_list step.placed) (splice_back s) in record {
+      let behind = ap length step.back ∙ length-append (option_to_list step.placed) (view s).back in record {
         placed = length (option_to_list step.placed) + h.placed;
         given = omega (arith, h.given);
         borders = omega (arith, h.borders);
         touches = omega (arith, h.touches, step.touches);
-        keeps = (h.keeps.0 ∙ step.keeps.0, h.keeps.1 ∙ step.keeps.1, h.keeps.2 ∙ step.keeps.2);
+        kept = then s asks.0 t asks.1.1 h.kept;
       }
 
+-- the same of an array's splice
+pub array_counted : {A I T : Type 0} (gives gives_back : Fuse I → Option T → Fuse I → Type 0)
+    → (s : ArrayVecSplice A (Fuse I) T) (word : List End) (answers : List (Option T)) (t : ArrayVecSplice A (Fuse I) T)
+    → Asks (SpliceSteps gives) (SpliceStepsBack gives_back) s word answers t → Counts splice_view SpliceKeeps s answers t
+array_counted =
+    counted splice_view SpliceKeeps (λ s. (refl, refl, refl, λ ready. ready))
+    (λ s mid t h k. (k.0 ∙ h.0, k.1 ∙ h.1, k.2 ∙ h.2, λ ready. k.3 (h.3 ready)))
+
+-- and of a `TinyVec`'s
+pub tiny_counted : {A I T : Type 0} (gives gives_back : Fuse I → Option T → Fuse I → Type 0)
+    → (s : TinyVecSplice A (Fuse I) T) (word : List End) (answers : List (Option T)) (t : TinyVecSplice A (Fuse I) T)
+    → Asks (tiny.SpliceSteps gives) (tiny.SpliceStepsBack gives_back) s word answers t
+    → Counts tiny.splice_view tiny.SpliceKeeps s answers t
+tiny_counted =
+    counted tiny.splice_view tiny.SpliceKeeps (λ s. (refl, SameFrame-refl (tiny.splice_vec s), λ ready. ready))
+    (λ s mid t h k. (k.0 ∙ h.0, SameFrame-then (tiny.splice_vec s) (tiny.splice_vec mid) (tiny.splice_vec t) h.1 k.1, λ ready. k.2 (h.2 ready)))
+
 -- how many slots were touched up to the end of a splice
-module _ {A S T : Type 0} (s t : ArrayVecSplice A (Fuse S) T) (answers : List (Option T)) (v : Slots T) (counts : Counts s answers t) (start : splice_touches s ≡ 0)
-    (within : length (splice_front t) + length (splice_back t) ≤ items_len v) where
-  pub kept_around : length (splice_front s) + length (splice_back s) ≤ items_len v
+module _ {S I T : Type 0} {view : S → SpliceView I T} {keeps : S → S → Type 0} (s t : S) (answers : List (Option T)) (list : List T)
+    (counts : Counts view keeps s answers t) (start : (view s).touches ≡ 0)
+    (within : length (view t).front + length (view t).back ≤ length list) where
+  pub kept_around : length (view s).front + length (view s).back ≤ length list
   kept_around = omega (arith, counts.borders)
 
-  pub touched_at_least : (touches : ℕ) → splice_touches t + finish_placed t v ≤ touches
-      → length (given_items answers) + (items_len v - (length (splice_front s) + length (splice_back s))) ≤ touches
+  pub touched_at_least : (touches : ℕ) → (view t).touches + finish_placed (view t) list ≤ touches
+      → length (given_items answers) + (length list - (length (view s).front + length (view s).back)) ≤ touches
   touched_at_least touches le = omega (arith, counts.borders, counts.touches)
 
-  pub touched_at_most : (touches : ℕ) → SpliceCanStep t → touches ≤ splice_touches t + finish_bound t v
-      → touches ≤ length (splice_left s) + (items_len v - (length (splice_front s) + length (splice_back s))) + max (items_len (splice_slots s)) (items_len v)
-  touched_at_most touches ready le =
-      let left = length-slice_range (items (splice_slots t)) t.next t.end ready.1 (omega (arith, ready.2, ready.3)) in
-      omega (arith, counts.borders, counts.touches, counts.given, left, counts.keeps.2)
+  pub touched_at_most : (touches slots : ℕ) → touches ≤ (view t).touches + finish_bound (view t) slots list
+      → touches ≤ length (view s).left + (length list - (length (view s).front + length (view s).back)) + max slots (length list)
+  touched_at_most touches slots le = omega (arith, counts.borders, counts.touches, counts.given)

@@ -3,16 +3,21 @@ use Rattle.std.proofs.Common.{◌≡◌, ℕ, ◌+◌, ◌-◌, ◌≤◌, List,
 use Rattle.std.proofs.lemmas.List.{nil_from_length, length_push, same_from_push, length-drop}
 use Rattle.std.specs.Iterator.{YieldsFirst, YieldsLast}
 use Rattle.std.specs.declared.array.IntoIter.{IntoIter as Items}
+use Rattle.std.specs.declared.iter.Fuse.{Fuse}
 use Rattle.std.specs.Array.Iter.{array_into_iter_items, array_steps, array_steps_back}
 use Rattle.tinyvec_slots.specs.Slots.{Slots, items, spare, items_len, all_slots, SlotRule}
 use Rattle.tinyvec_slots.specs.Ends.{End}
 use Rattle.tinyvec_slots.proofs.SlotsLemmas.{zeros_are, slots_are}
-use Rattle.tinyvec_array.specs.Fused.{HasTwoEnds}
-use Rattle.tinyvec_array.specs.Splice.{splice_front, splice_left, splice_back, splice_replacement, splice_slots, SpliceKeeps, SpliceSteps, SpliceStepsBack, FinishesWith}
-use Rattle.tinyvec_array.specs.Splicing.{placed_back, IsSpliceRefused, SplicedByWord}
-use Rattle.tinyvec_array.specs.declared.splice.ArrayVecSplice.{ArrayVecSplice}
+use Rattle.tinyvec_slots.specs.Fused.{HasTwoEnds}
+use Rattle.tinyvec_slots.specs.Splices.{SpliceView, Splices, SplicesBack, FinishesWith}
+use Rattle.tinyvec_slots.specs.Splicing.{placed_back, IsSpliceRefused, SplicedByWord}
 use Rattle.tinyvec_slots.specs.declared.no_room.SpliceRest.{SpliceRest}
-use Rattle.tinyvec_array.proofs.SplicingLemmas.{spliced_len, spliced_all, spliced_refused}
+use Rattle.tinyvec_slots.proofs.SplicingLemmas.{spliced_len, spliced_all, spliced_refused}
+use Rattle.tinyvec_array.specs.Splice.{splice_slots, SpliceKeeps}
+use Rattle.tinyvec_array.specs.declared.splice.ArrayVecSplice.{ArrayVecSplice}
+use Rattle.tinyvec.specs.Tiny.{tiny_capacity, IsInline}
+use Rattle.tinyvec.specs.declared.tiny_vec.TinyVec.{TinyVec}
+use Rattle.tinyvec.specs.declared.tiny_vec.TinyVec.TheVariants.{Inline, Heap}
 
 -- an array's items have two ends
 module _ {X : Type 0} {n : ℕ} where
@@ -27,41 +32,41 @@ module _ {X : Type 0} {n : ℕ} where
   pub array_ends : HasTwoEnds {S = Items X n} array_steps array_steps_back array_into_iter_items
   array_ends = record { first = first_of_array; last = last_of_array }
 
--- the list and the spare slots, where the replacement was known
-module _ {A I T : Type 0} (rest : I → List T) (capacity : ℕ) (s t : ArrayVecSplice A I T) (word : List End) (v : Slots T)
-    (before removed after replacement : List T) (along : SplicedByWord rest s word t)
-    (ahead : splice_front s ≡ before) (left : splice_left s ≡ removed) (behind : splice_back s ≡ after) (whole : rest (splice_replacement s) ≡ replacement) where
-  pub ended_fits : (result : Result Unit (SpliceRest T I)) → FinishesWith rest capacity t result v
+-- the list, where the replacement was known
+module _ {S I T : Type 0} {view : S → SpliceView I T} {keeps : S → S → Type 0} (rest : I → List T) (capacity : ℕ) (s t : S) (word : List End) (list : List T)
+    (before removed after replacement : List T) (along : SplicedByWord view keeps rest s word t)
+    (ahead : (view s).front ≡ before) (left : (view s).left ≡ removed) (behind : (view s).back ≡ after) (whole : rest (view s).replacement ≡ replacement) where
+  pub ended_fits : (result : Result Unit (SpliceRest T I)) → FinishesWith rest capacity (view t) result list
       → IsOk result ↔ (length before + length replacement + length after ≤ capacity)
   ended_fits result f =
-      let sum = spliced_len rest capacity s t word v before removed after replacement along ahead left behind whole in
+      let sum = spliced_len view keeps rest s t word list before removed after replacement along ahead left behind whole in
       (λ ok. let le = f.fits.0 ok in omega (arith, le, sum), λ le. f.fits.1 (omega (arith, le, sum)))
 
-  pub ended_list : (result : Result Unit (SpliceRest T I)) → FinishesWith rest capacity t result v → OnOk result (items v ≡ before ++ replacement ++ after)
-  ended_list (Ok u) f = spliced_all rest capacity s t word v before removed after replacement along ahead left behind whole f.all
+  pub ended_list : (result : Result Unit (SpliceRest T I)) → FinishesWith rest capacity (view t) result list → OnOk result (list ≡ before ++ replacement ++ after)
+  ended_list (Ok u) f = spliced_all view keeps rest s t word list before removed after replacement along ahead left behind whole f.all
   ended_list (Err refused) f = tt
 
-  pub ended_refused : (result : Result Unit (SpliceRest T I)) → FinishesWith rest capacity t result v
-      → IfErr result (λ refused. IsSpliceRefused word (length removed) before after replacement (items v) (refused.item ∷ rest refused.rest))
+  pub ended_refused : (result : Result Unit (SpliceRest T I)) → FinishesWith rest capacity (view t) result list
+      → IfErr result (λ refused. IsSpliceRefused word (length removed) before after replacement list (refused.item ∷ rest refused.rest))
   ended_refused (Ok u) f = tt
   ended_refused (Err refused) f =
       let h = f.refused in
-      spliced_refused rest capacity s t word v before removed after replacement along ahead left behind whole h.0 refused.item (rest refused.rest) h.1 h.2
+      spliced_refused view keeps rest s t word list before removed after replacement along ahead left behind whole h.0 refused.item (rest refused.rest) h.1 h.2
 
-  pub ended_all : (result : Result Unit (SpliceRest T I)) → FinishesWith rest capacity t result v → length before + length replacement + length after ≤ capacity
-      → items v ≡ before ++ replacement ++ after
+  pub ended_all : (result : Result Unit (SpliceRest T I)) → FinishesWith rest capacity (view t) result list → length before + length replacement + length after ≤ capacity
+      → list ≡ before ++ replacement ++ after
   ended_all (Ok u) f le = ended_list (Ok u) f
   ended_all (Err refused) f le = absurd (let no : false ≡ true = (ended_fits (Err refused) f).1 le in cc)
 
-  pub ended_no_room : (u : Unit) → FinishesWith rest capacity t (Ok u) v → length before + length replacement + length after ≤ capacity
+  pub ended_no_room : (u : Unit) → FinishesWith rest capacity (view t) (Ok u) list → length before + length replacement + length after ≤ capacity
   ended_no_room u f = (ended_fits (Ok u) f).0 refl
 
-  pub ended_full : (result : Result Unit (SpliceRest T I)) → FinishesWith rest capacity t result v → OnErr result (items_len v ≡ capacity)
+  pub ended_full : (result : Result Unit (SpliceRest T I)) → FinishesWith rest capacity (view t) result list → OnErr result (length list ≡ capacity)
   ended_full (Ok u) f = tt
   ended_full (Err refused) f = f.refused.3
 
 -- the slot rule from the splice on
-pub ended_slots : {A I T : Type 0} (D : T → Type 0) (s t : ArrayVecSplice A I T) (old v : Slots T) → SpliceKeeps s t → splice_slots s ≡ old
+pub ended_slots : {A I T : Type 0} (D : T → Type 0) (s t : ArrayVecSplice A (Fuse I) T) (old v : Slots T) → SpliceKeeps s t → splice_slots s ≡ old
     → SlotRule D (splice_slots t) v → SlotRule D old v
 ended_slots D s t old v keeps slots rule =
     let count : items_len (splice_slots t) ≡ items_len old = keeps.2 ∙ ap items_len slots in
@@ -72,14 +77,14 @@ ended_slots D s t old v keeps slots rule =
     )
 
 -- what was taken from an end
-module _ {A I T : Type 0} (gives : I → Option T → I → Type 0) (s t : ArrayVecSplice A I T) where
-  pub first_taken : (r : Option T) (x : T) (xs : List T) → SpliceSteps gives s r t → splice_left s ≡ x ∷ xs → (r ≡ Some x) × (splice_left t ≡ xs)
+module _ {S I T : Type 0} (view : S → SpliceView I T) (keeps : S → S → Type 0) (gives : I → Option T → I → Type 0) (s t : S) where
+  pub first_taken : (r : Option T) (x : T) (xs : List T) → Splices view keeps gives s r t → (view s).left ≡ x ∷ xs → (r ≡ Some x) × ((view t).left ≡ xs)
   first_taken None x xs h is = absurd (let no : x ∷ xs ≡ [] = sym is ∙ h.0 in cc)
-  first_taken (Some y) x xs h is = let same : y ∷ splice_left t ≡ x ∷ xs = sym h.left ∙ is in (cc, cc)
+  first_taken (Some y) x xs h is = let same : y ∷ (view t).left ≡ x ∷ xs = sym h.0.left ∙ is in (cc, cc)
 
-  pub last_taken : (r : Option T) (x : T) (xs : List T) → SpliceStepsBack gives s r t → splice_left s ≡ xs ++ x ∷ [] → (r ≡ Some x) × (splice_left t ≡ xs)
+  pub last_taken : (r : Option T) (x : T) (xs : List T) → SplicesBack view keeps gives s r t → (view s).left ≡ xs ++ x ∷ [] → (r ≡ Some x) × ((view t).left ≡ xs)
   last_taken None x xs h is = absurd (let long = ap length is ∙ length_push xs x in let none = ap length h.0 in omega arith)
-  last_taken (Some y) x xs h is = let same = same_from_push (splice_left t) xs y x (sym h.left ∙ is) in (ap (λ z. Some z) same.1, same.0)
+  last_taken (Some y) x xs h is = let same = same_from_push (view t).left xs y x (sym h.0.left ∙ is) in (ap (λ z. Some z) same.1, same.0)
 
 -- where a splice was refused, by how many items found room
 pub refused_at : {T : Type 0} (word : List End) (n : ℕ) (before after replacement list rest : List T) (y k : ℕ) → placed_back word n (length replacement) ≡ y
@@ -115,3 +120,8 @@ module _ {S T : Type 0} (rest : S → List T) (s t : S) where
   pub next_is_none : (r : Option T) → YieldsFirst rest s r t → rest s ≡ [] → r ≡ None
   next_is_none None h is = refl
   next_is_none (Some y) h is = absurd (let no : y ∷ rest t ≡ [] = sym h ∙ is in cc)
+
+-- how many items fit a list that lies in its array
+pub capacity_inline : {A T : Type 0} (slots : ℕ) (v : TinyVec A T) → IsInline v → tiny_capacity slots v ≡ slots
+capacity_inline slots (Inline v alloc) is = refl
+capacity_inline slots (Heap v) is = absurd (let no : false ≡ true = is in cc)

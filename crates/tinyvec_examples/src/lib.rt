@@ -11,4 +11,5 @@ pub mod making;
 pub mod readme;
 pub mod slices;
 pub mod splicing;
+pub mod tiny_splicing;
 pub mod tiny_vec;

@@ -4,7 +4,7 @@ ghost use Rattle.std.specs.Iterator.Adapters.{fuse_steps};
 ghost use Rattle.tinyvec_array.specs.Slots.{items, items_len, SlotRule};
 ghost use Rattle.tinyvec_array.specs.Ends.{front, back, given_items, Asks, TakesFromEnds};
 ghost use Rattle.tinyvec_array.specs.Fused.{fused_rest, HasTwoEnds};
-ghost use Rattle.tinyvec_array.specs.Splice.{splice_left, SpliceCanStep, SpliceSteps, SpliceStepsBack};
+ghost use Rattle.tinyvec_array.specs.Splice.{splice_view, splice_left, SpliceKeeps, SpliceCanStep, SpliceSteps, SpliceStepsBack};
 ghost use Rattle.tinyvec_array.specs.Splicing.{IsSpliceRefused, SplicedByWord};
 
 use std::iter::Fuse;
@@ -16,10 +16,12 @@ pub fn one_from_each_end<A: Array, I: DoubleEndedIterator<Item = A::Item>>(
 ) -> (Option<A::Item>, Option<A::Item>)
     requires ready { SpliceCanStep splice.old }
     requires can { (s : I) → I.can_next s × I.can_next_back s }
-    ensures asked { Asks (SpliceSteps (fuse_steps I.next_gives)) (SpliceStepsBack (fuse_steps I.next_back_gives)) splice.old (front ∷ back ∷ []) (result.0 ∷ result.1 ∷ []) splice.new }
-    ensures yields { TakesFromEnds (splice_left splice.old) (front ∷ back ∷ []) (result.0 ∷ result.1 ∷ []) (splice_left splice.new) }
+    ensures asked { Asks (SpliceSteps (fuse_steps I.next_gives)) (SpliceStepsBack (fuse_steps I.next_back_gives))
+        splice.old (front ∷ back ∷ []) (result.0 ∷ result.1 ∷ []) splice.new }
+    ensures yields { TakesFromEnds (splice_left splice.old) (front ∷ back ∷ [])
+        (result.0 ∷ result.1 ∷ []) (splice_left splice.new) }
     ensures spliced { (rest : I → List A.Item) → HasTwoEnds I.next_gives I.next_back_gives rest
-        → SplicedByWord (fused_rest rest) splice.old (front ∷ back ∷ []) splice.new }
+        → SplicedByWord splice_view SpliceKeeps (fused_rest rest) splice.old (front ∷ back ∷ []) splice.new }
     ensures ready { SpliceCanStep splice.new }
 {
     let first = splice.next();
@@ -50,8 +52,9 @@ pub fn replace<A: Array, I: DoubleEndedIterator<Item = A::Item>>(
         → (IsOk result ↔ (start + length (rest replacement) + (items_len vec.old - end) ≤ A.CAPACITY))
         × OnOk result (items vec.new ≡ take start (items vec.old) ++ rest replacement ++ drop end (items vec.old))
         × IfErr result
-        (λ refused. IsSpliceRefused (front ∷ back ∷ []) (end - start) (take start (items vec.old)) (drop end (items vec.old))
-        (rest replacement) (items vec.new) (refused.item ∷ fused_rest rest refused.rest)) }
+        (λ refused. IsSpliceRefused (front ∷ back ∷ []) (end - start)
+        (take start (items vec.old)) (drop end (items vec.old)) (rest replacement)
+        (items vec.new) (refused.item ∷ fused_rest rest refused.rest)) }
     ensures full { OnErr result (items_len vec.new ≡ A.CAPACITY) }
     ensures spare { SlotRule A.Item.is_default vec.old vec.new }
 {
@@ -60,7 +63,8 @@ pub fn replace<A: Array, I: DoubleEndedIterator<Item = A::Item>>(
     splice.finish()
 }
 
-/// How often slots are touched where a range of any vector is replaced so. Nothing is asked of the replacement but two ends.
+/// How often slots are touched where a range of any vector is replaced so. Nothing is asked of the replacement but two
+/// ends.
 pub fn touches_of_replace<A: Array, I: DoubleEndedIterator<Item = A::Item>>(
     vec: &mut ArrayVec<A>,
     start: usize,
@@ -71,8 +75,10 @@ pub fn touches_of_replace<A: Array, I: DoubleEndedIterator<Item = A::Item>>(
     requires in_bounds { end ≤ items_len vec.old }
     requires can { (s : I) → I.can_next s × I.can_next_back s }
     ensures kept { items_len vec.old - (end - start) ≤ items_len vec.new }
-    ensures at_least { length (given_items (result.0 ∷ result.1 ∷ [])) + (items_len vec.new - (items_len vec.old - (end - start))) ≤ result.2 }
-    ensures at_most { result.2 ≤ (end - start) + (items_len vec.new - (items_len vec.old - (end - start))) + max (items_len vec.old) (items_len vec.new) }
+    ensures at_least { length (given_items (result.0 ∷ result.1 ∷ []))
+        + (items_len vec.new - (items_len vec.old - (end - start))) ≤ result.2 }
+    ensures at_most { result.2 ≤ (end - start) + (items_len vec.new - (items_len vec.old - (end - start)))
+        + max (items_len vec.old) (items_len vec.new) }
 {
     let mut splice = vec.splice(start..end, replacement);
     let (first, last) = one_from_each_end(&mut splice);

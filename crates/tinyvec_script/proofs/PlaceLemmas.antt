@@ -1,11 +1,16 @@
 -- What is seen of a `TinyVec`, from what its calls tell.
-use Rattle.std.proofs.Common.{◌≡◌, ℕ, ◌≤◌, List, [], refl, rules, arith}
+use Rattle.std.proofs.Common.{◌≡◌, ℕ, ◌<◌, ◌≤◌, List, [], length, Vec, Global, refl, rules, arith}
 use Rattle.tinyvec.specs.Tiny.{tiny_items, tiny_len, tiny_spare, tiny_capacity, is_inline, IsInline, PlaceRule, TinySlotRule, Unchanged}
 use Rattle.tinyvec.specs.declared.tiny_vec.TinyVec.{TinyVec}
 use Rattle.tinyvec.specs.declared.tiny_vec.TinyVec.TheVariants.{Inline, Heap}
-use Rattle.tinyvec_script.specs.TinyCalls.{TinyAnswers, TinyStep}
+use Rattle.tinyvec_script.specs.Driving.{TinySplices}
+use Rattle.tinyvec_script.specs.TinyCalls.{TinyAnswers, TinyStep, Spliced}
+use Rattle.tinyvec_script.proofs.DrivingLemmas.{driven_answered, splice_fits, splice_overflows}
+use Rattle.tinyvec_script.specs.declared.call.End.{End}
 use Rattle.tinyvec_script.specs.declared.call.Call.{Call}
+use Rattle.tinyvec_script.specs.declared.call.Call.TheVariants.{Splice}
 use Rattle.tinyvec_script.specs.declared.call.Answer.{Answer}
+use Rattle.tinyvec_script.specs.declared.call.Answer.TheVariants as answers
 use Rattle.tinyvec_script.specs.Place.{place_of, tiny_of, lies_inline, room, in_array, on_heap, Ruled}
 
 module _ {A T : Type 0} where
@@ -50,3 +55,27 @@ module _ {A T : Type 0} where
       → TinyAnswers D slots (tiny_of old) call answer (tiny_of new) → tiny_len new ≤ tiny_capacity slots new
       → TinyStep D slots (tiny_of old) call answer (tiny_of new)
   tiny_steps D slots old new call answer answered fits = record { answered = answered; fits = rw (place_of-room slots new) fits }
+
+  -- a splice, as it is seen
+  tiny_spliced : (D : T → Type 0) (slots start end : ℕ) (word : List End) (replacement yields rest : List T) (old new : TinyVec A T)
+      → TinySplices D slots old start end word replacement yields rest new → Spliced D slots (tiny_of old) start end word replacement yields rest (tiny_of new)
+  tiny_spliced D slots start end word replacement yields rest old new h = record {
+    list = rw (place_of-room slots new) h.list;
+    rules = ruled D slots (tiny_len new) old new h.place h.slot_rule h.capacity;
+    same_room = rw (place_of-room slots old, place_of-room slots new) h.same_room;
+  }
+
+  -- and answered
+  pub splices : (D : T → Type 0) (slots start end : ℕ) (word : Vec End Global) (replacement yields rest : Vec T Global) (answer : Answer T) (old new : TinyVec A T)
+      → start ≤ end → end ≤ tiny_len old
+      → (rest.items ≡ [] → answer ≡ answers.Items yields) → (0 < length rest.items → answer ≡ answers.Spliced yields rest)
+      → TinySplices D slots old start end word.items replacement.items yields.items rest.items new
+      → TinyAnswers D slots (tiny_of old) (Splice start end word replacement) answer (tiny_of new)
+  splices D slots start end word replacement yields rest answer old new in_order in_list all some h =
+      let capacity = tiny_capacity slots new in
+      let seen = tiny_spliced D slots start end word.items replacement.items yields.items rest.items old new h in
+      driven_answered (λ a. TinyAnswers D slots (tiny_of old) (Splice start end word replacement) a (tiny_of new)) yields rest answer all some
+      (λ none. let fits = splice_fits capacity (tiny_items old) (tiny_items new) start end word.items replacement.items yields.items rest.items in_order in_list h.list none in
+      ((in_order, in_list), (rw (place_of-room slots new) fits.0, record { list = rw (place_of-room slots new) fits.1; rules = seen.rules; same_room = seen.same_room })))
+      (λ more. let over = splice_overflows capacity (tiny_items old) (tiny_items new) start end word.items replacement.items yields.items rest.items in_order in_list h.list more in
+      ((in_order, in_list), (rw (place_of-room slots new) over, h.no_shorter over, seen)))

@@ -77,7 +77,7 @@ name_text T = codes "T "
 abbrev pub HasSplice : Name → Type 0
 HasSplice A = Unit {0}
 HasSplice S = ⊥
-HasSplice T = ⊥
+HasSplice T = Unit {0}
 
 -- which calls a vector has
 abbrev pub Has : Name → Call ℤ → Type 0
@@ -90,6 +90,11 @@ Has S (Reserve index) = ⊥
 Has S Heap = ⊥
 Has S Shrink = ⊥
 Has name call = Unit {0}
+
+-- the call is no splice
+abbrev pub IsNoSplice : Call ℤ → Type 0
+IsNoSplice (Splice start end word numbers) = ⊥
+IsNoSplice call = Unit {0}
 
 -- the line spells this call of the vector
 pub record IsCommand (line : List ℕ) (name : Name) (call : Call ℤ) : Type 0 where

@@ -1,13 +1,15 @@
 -- A splice that is driven by a word of ends, from the call to `finish`.
-use Rattle.std.specs.Prelude.{◌≡◌, ℕ, ◌+◌, ◌-◌, ◌<◌, ◌≤◌, List, [], ◌++◌, length, map, take, drop, slice_range, Option, Bool, nat_lt, if◌then◌else◌}
+use Rattle.std.specs.Prelude.{◌≡◌, ℕ, ◌+◌, ◌-◌, ◌<◌, ◌≤◌, List, [], ◌∷◌, ◌++◌, length, map, take, drop, slice_range, Option, Bool, nat_lt, if◌then◌else◌, Result, Ok, Err}
 use Rattle.std.specs.declared.ops.Bound.TheVariants.{Included, Excluded}
-use Rattle.tinyvec_slots.specs.Slots.{Slots, items, items_len, SlotRule}
+use Rattle.tinyvec_slots.specs.Slots.{Slots, items, SlotRule}
 use Rattle.tinyvec_slots.specs.Cut.{before, removed, after}
-use Rattle.tinyvec_slots.specs.Ends.{front, back, GivenByWord, taken}
+use Rattle.tinyvec_slots.specs.Ends.{front, back, Asks, GivenByWord, taken}
 use Rattle.tinyvec_slots.specs.Ends as ends
-use Rattle.tinyvec_array.specs.Splice.{SpliceSteps, SpliceStepsBack}
-use Rattle.tinyvec_array.specs.Splicing.{IsSpliceRefused, placed_back}
-use Rattle.tinyvec_array.specs.declared.splice.ArrayVecSplice.{ArrayVecSplice}
+use Rattle.tinyvec_slots.specs.Splicing.{IsSpliceRefused, placed_back}
+use Rattle.tinyvec_slots.specs.declared.no_room.SpliceRest.{SpliceRest}
+use Rattle.tinyvec.specs.Tiny.{tiny_items, tiny_len, tiny_capacity, PlaceRule, TinySlotRule}
+use Rattle.tinyvec.specs.Room.{KeepsRoom}
+use Rattle.tinyvec.specs.declared.tiny_vec.TinyVec.{TinyVec}
 use Rattle.tinyvec_script.specs.declared.call.End.{End}
 use Rattle.tinyvec_script.specs.declared.call.End.TheVariants.{Front, Back}
 
@@ -19,23 +21,50 @@ letter Back = back
 abbrev pub word_of : List End → List ends.End
 word_of = map letter
 
-module _ {A I T : Type 0} (gives gives_back : I → Option T → I → Type 0) where
-  -- `next` or `next_back` took old to new
-  abbrev pub SpliceTakes : End → ArrayVecSplice A I T → Option T → ArrayVecSplice A I T → Type 0
-  SpliceTakes Front = SpliceSteps gives
-  SpliceTakes Back = SpliceStepsBack gives_back
+module _ {S T : Type 0} (gives gives_back : S → Option T → S → Type 0) where
+  -- a call at that end took old to new
+  abbrev pub TakesAt : End → S → Option T → S → Type 0
+  TakesAt Front = gives
+  TakesAt Back = gives_back
+
+  -- this holds of the answers to any word that is asked of s, and where it leads
+  abbrev pub WhateverIsAsked : S → (List (Option T) → S → Type 0) → Type 0
+  WhateverIsAsked s Holds = (word : List ends.End) (answers : List (Option T)) (t : S)
+      → Asks gives gives_back s word answers t → Holds answers t
+
+-- the item that found no room, and what gives the others
+abbrev pub refused_items : {I T : Type 0} → (I → List T) → Result Unit (SpliceRest T I) → List T
+refused_items rest (Ok u) = []
+refused_items rest (Err refused) = refused.item ∷ rest refused.rest
 
 -- The items from start up to end were replaced, after a word of ends had taken yields from them. Where not all of the
 -- replacement fits, the list is full, and rest is the one run that was not placed.
+pub record ListSplices {T : Type 0} (capacity : ℕ) (old : List T) (start end : ℕ) (word : List End)
+    (replacement yields rest new : List T) : Type 0 where
+  pub yields_are : GivenByWord (removed old (Included start) (Excluded end)) (word_of word) yields
+  pub placed : start + length replacement + (length old - end) ≤ capacity
+      → (rest ≡ []) × (new ≡ before old (Included start) ++ replacement ++ after old (Excluded end))
+  pub refused : capacity < start + length replacement + (length old - end)
+      → IsSpliceRefused (word_of word) (end - start) (before old (Included start)) (after old (Excluded end))
+      replacement new rest × (length new ≡ capacity)
+
+-- so an `ArrayVec` was changed
 pub record ArraySplices {T : Type 0} (D : T → Type 0) (capacity : ℕ) (old : Slots T) (start end : ℕ) (word : List End)
     (replacement yields rest : List T) (new : Slots T) : Type 0 where
-  pub yields_are : GivenByWord (removed (items old) (Included start) (Excluded end)) (word_of word) yields
-  pub placed : start + length replacement + (items_len old - end) ≤ capacity
-      → (rest ≡ []) × (items new ≡ before (items old) (Included start) ++ replacement ++ after (items old) (Excluded end))
-  pub refused : capacity < start + length replacement + (items_len old - end)
-      → IsSpliceRefused (word_of word) (end - start) (before (items old) (Included start)) (after (items old) (Excluded end))
-      replacement (items new) rest × (items_len new ≡ capacity)
+  pub list : ListSplices capacity (items old) start end word replacement yields rest (items new)
   pub slot_rule : SlotRule D old new
+
+-- And so a `TinyVec`, which has the room that it has then. There is no less than before, so where the old room holds the
+-- list nothing is refused.
+pub record TinySplices {A T : Type 0} (D : T → Type 0) (slots : ℕ) (old : TinyVec A T) (start end : ℕ) (word : List End)
+    (replacement yields rest : List T) (new : TinyVec A T) : Type 0 where
+  pub list : ListSplices (tiny_capacity slots new) (tiny_items old) start end word replacement yields rest (tiny_items new)
+  pub place : PlaceRule slots (tiny_len new) old new
+  pub slot_rule : TinySlotRule D old new
+  pub capacity : tiny_capacity slots old ≤ tiny_capacity slots new
+  pub same_room : KeepsRoom slots (tiny_len new) old new
+  pub fits : tiny_len new ≤ tiny_capacity slots new
+  pub no_shorter : tiny_capacity slots new < start + length replacement + (tiny_len old - end) → tiny_len old ≤ tiny_len new
 
 -- What a splice makes of a list, computed for given numbers and a given word.
 module _ {T : Type 0} (capacity : ℕ) (xs : List T) (start end : ℕ) (word : List End) (replacement : List T) where

@@ -1,10 +1,12 @@
 -- What a call of a `TinyVec` may be answered, and what it then leaves.
-use Rattle.std.specs.Prelude.{◌≡◌, ℕ, ◌+◌, ◌-◌, ◌<◌, ◌≤◌, ◌↔◌, List, [], ◌∷◌, ◌++◌, take, insert, remove, slice_get, Some, false}
+use Rattle.std.specs.Prelude.{◌≡◌, ℕ, ◌+◌, ◌-◌, ◌<◌, ◌≤◌, ◌↔◌, List, [], ◌∷◌, ◌++◌, length, take, insert, remove, slice_get, Some, false}
 use Rattle.std.specs.List.{swap_remove}
 use Rattle.std.specs.declared.ops.Bound.TheVariants.{Included, Excluded}
 use Rattle.tinyvec_slots.specs.Slots.{AreDefaults}
 use Rattle.tinyvec_slots.specs.Cut.{IsRangeOf, before, removed, after}
 use Rattle.tinyvec_script.specs.Place.{Tiny, count, Inline, lies_inline, room, Ruled}
+use Rattle.tinyvec_script.specs.Driving.{ListSplices}
+use Rattle.tinyvec_script.specs.declared.call.End.{End}
 use Rattle.tinyvec_script.specs.declared.call.Call.{Call}
 use Rattle.tinyvec_script.specs.declared.call.Call.TheVariants.{Push, Pop, Insert, Remove, SwapRemove, Truncate, Drain, Splice, SetLen, Reserve, Heap, Shrink}
 use Rattle.tinyvec_script.specs.declared.call.Answer.{Answer}
@@ -30,8 +32,28 @@ module _ {T : Type 0} (D : T → Type 0) (slots : ℕ) where
     pub kept : Inline old → new ≡ old
     pub spare_are : lies_inline old.place ≡ false → Inline new → AreDefaults D (slots - count old) new.spare
 
+  -- The items from start up to end were replaced, as far as there is room where the list lies then. Where the old room
+  -- holds the list, the room is the same.
+  pub record Spliced (old : Tiny T) (start end : ℕ) (word : List End) (replacement yields rest : List T) (new : Tiny T) : Type 0 where
+    pub list : ListSplices (room slots new.place) old.items start end word replacement yields rest new.items
+    pub rules : Ruled D slots (count new) old new
+    pub same_room : count new ≤ room slots old.place → room slots new.place ≡ room slots old.place
+
+  -- How a splice of a range that is in the list is answered: by what was taken, and by what found no room if there is such.
+  -- Then the list is full, and no shorter.
+  abbrev pub TinySpliceAnswers : Tiny T → ℕ → ℕ → List End → List T → Answer T → Tiny T → Type 0
+  TinySpliceAnswers old start end word replacement answers.Memory new = (start < end + length replacement) × (new ≡ old)
+  TinySpliceAnswers old start end word replacement (answers.Items given) new =
+      (start + length replacement + (count old - end) ≤ room slots new.place)
+      × Spliced old start end word replacement given.items [] new
+  TinySpliceAnswers old start end word replacement (answers.Spliced given rest) new =
+      (room slots new.place < start + length replacement + (count old - end)) × (count old ≤ count new)
+      × Spliced old start end word replacement given.items rest.items new
+  TinySpliceAnswers old start end word replacement answer new = ⊥
+
   -- From the old value the call may be answered so, and leave the new value, if that fits. Want of memory is a case of its
-  -- own: `Memory` only where there is no such room, for the move of an inline list to the heap, or for the items of a drain.
+  -- own: `Memory` only where there is no such room, for the move of an inline list to the heap, or for the items that a drain
+  -- takes, or a splice, or for those that a splice may give back.
   abbrev pub TinyAnswers : Tiny T → Call T → Answer T → Tiny T → Type 0
   TinyAnswers old (Push x) answers.Done new = (new.items ≡ old.items ++ x ∷ []) × Ruled D slots (count old + 1) old new
   TinyAnswers old (Push x) answers.Memory new = (count old ≡ room slots old.place) × (new ≡ old)
@@ -54,6 +76,10 @@ module _ {T : Type 0} (D : T → Type 0) (slots : ℕ) where
       × (start < end) × (new ≡ old)
   TinyAnswers old (Drain start end) (answers.Items given) new = IsRangeOf old.items (Included start) (Excluded end)
       × Drained old start end given.items new
+  TinyAnswers old (Splice start end word replacement) answers.Range new = (IsRangeOf old.items (Included start) (Excluded end) → ⊥)
+      × (new ≡ old)
+  TinyAnswers old (Splice start end word replacement) answer new = IsRangeOf old.items (Included start) (Excluded end)
+      × TinySpliceAnswers old start end word.items replacement.items answer new
   TinyAnswers old (Reserve n) answers.Done new = (new.items ≡ old.items) × (count old + n ≤ room slots new.place)
       × Ruled D slots (count old + n) old new
   TinyAnswers old (Reserve n) answers.Memory new = (room slots old.place < count old + n) × (new ≡ old)
@@ -61,7 +87,6 @@ module _ {T : Type 0} (D : T → Type 0) (slots : ℕ) where
   TinyAnswers old Heap answers.Memory new = Inline old × (new ≡ old)
   TinyAnswers old Shrink answers.Done new = Shrunk old new
   -- it has no such call
-  TinyAnswers old (Splice start end word replacement) answers.Unfit new = new ≡ old
   TinyAnswers old (SetLen n) answers.Unfit new = new ≡ old
   -- no other answer is given
   TinyAnswers old call answer new = ⊥

@@ -1,9 +1,8 @@
 //! One call of an `ArrayVec`, answered.
-ghost use Rattle.std.specs.Prelude.{◌≤◌};
-ghost use Rattle.tinyvec_slots.specs.Slots.{items_len};
-ghost use Rattle.tinyvec_script.specs.Step.{ArrayStep, ArraySpliceStep};
+ghost use Rattle.tinyvec_script.specs.Step.{ArrayStep};
 
-use crate::{Answer, Call, Driven, End, drive_array_splice};
+use crate::driving::answer_driven;
+use crate::{Answer, Call, drive_array_splice};
 use std::alloc::Global;
 use tinyvec::{Array, ArrayVec};
 
@@ -67,7 +66,10 @@ pub(crate) fn answer_array<A: Array>(
             if start > end || end > vec.len() {
                 return Answer::Range;
             }
-            spliced(alloc, vec, start, end, word.as_slice(), replacement)
+            match drive_array_splice(alloc, vec, start, end, replacement, word.as_slice()) {
+                Ok(driven) => answer_driven(driven),
+                Err(_) => Answer::Memory,
+            }
         }
         Call::SetLen(n) => {
             if n > vec.capacity() {
@@ -79,30 +81,5 @@ pub(crate) fn answer_array<A: Array>(
         Call::Reserve(_) => Answer::Unfit,
         Call::Heap => Answer::Unfit,
         Call::Shrink => Answer::Unfit,
-    }
-}
-
-// Replaces the items from `start` up to `end`, from which it first takes one at each of the ends.
-fn spliced<A: Array>(
-    alloc: Global,
-    vec: &mut ArrayVec<A>,
-    start: usize,
-    end: usize,
-    word: &[End],
-    replacement: Vec<A::Item>,
-) -> Answer<A::Item>
-    requires start_le_end { start ≤ end }
-    requires in_bounds { end ≤ items_len vec.old }
-    ensures { ArraySpliceStep A.Item.is_default A.CAPACITY vec.old start end word.now replacement.items result vec.new }
-{
-    match drive_array_splice(alloc, vec, start, end, replacement, word) {
-        Ok(driven) => {
-            let Driven { yields, rest } = driven;
-            if rest.is_empty() {
-                return Answer::Items(yields);
-            }
-            Answer::Spliced(yields, rest)
-        }
-        Err(_) => Answer::Memory,
     }
 }

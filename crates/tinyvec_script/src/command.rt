@@ -2,7 +2,7 @@
 ghost use Rattle.std.specs.Prelude.{◌≡◌, ◌≢◌, ◌<◌, ◌≤◌, ◌^◌, ◌++◌, ◌∷◌, ℕ, ℤ, length, codes, IfSome, IfNone, All, FitsSigned};
 ghost use Rattle.std.specs.Int.{w32};
 ghost use Rattle.std.specs.Fmt.{decimal, signed_decimal};
-ghost use Rattle.tinyvec_script.specs.Command.{IsCall, Has};
+ghost use Rattle.tinyvec_script.specs.Command.{IsCall, IsNoSplice, Has, HasSplice};
 ghost use Rattle.tinyvec_script.specs.Parsed.{IsParsed, IsParsedFor};
 ghost use Rattle.tinyvec_script.specs.declared.command.Name.TheVariants.{A, S, T};
 ghost use Rattle.tinyvec_script.specs.declared.call.Call.{Call};
@@ -48,10 +48,7 @@ pub(crate) fn parse_line(alloc: Global, line: &[u8]) -> Parsed
         };
     }
     if let Some(text) = line.strip_prefix(b"T ") {
-        return match parse_tiny_call(text) {
-            Some(call) => Parsed::Call(Name::T, call),
-            None => Parsed::Bad,
-        };
+        return parse_movable_call(alloc, text);
     }
     Parsed::Bad
 }
@@ -61,7 +58,7 @@ fn parse_array_call(alloc: Global, text: &[u8]) -> Parsed
     ensures { IsParsedFor A text.now result }
 {
     if let Some(rest) = text.strip_prefix(b"splice ") {
-        return parse_array_splice(alloc, rest);
+        return parse_splice_call(alloc, Name::A, rest);
     }
     match parse_slots_call(text) {
         Some(call) => Parsed::Call(Name::A, call),
@@ -69,21 +66,35 @@ fn parse_array_call(alloc: Global, text: &[u8]) -> Parsed
     }
 }
 
-fn parse_array_splice(alloc: Global, rest: &[u8]) -> Parsed
-    requires { length rest.now ≤ 119 }
-    ensures { IsParsedFor A (codes "splice " ++ rest.now) result }
+fn parse_movable_call(alloc: Global, text: &[u8]) -> Parsed
+    requires { length text.now ≤ 126 }
+    ensures { IsParsedFor T text.now result }
+{
+    if let Some(rest) = text.strip_prefix(b"splice ") {
+        return parse_splice_call(alloc, Name::T, rest);
+    }
+    match parse_tiny_call(text) {
+        Some(call) => Parsed::Call(Name::T, call),
+        None => Parsed::Bad,
+    }
+}
+
+fn parse_splice_call(alloc: Global, name: Name, rest: &[u8]) -> Parsed
+    requires short { length rest.now ≤ 119 }
+    requires has { HasSplice name }
+    ensures { IsParsedFor name (codes "splice " ++ rest.now) result }
 {
     let mut numbers = Numbers::new();
     let Some((start, end, word)) = parse_splice(rest, &mut numbers) else {
         return Parsed::Bad;
     };
     let Ok(word) = letters(alloc, word) else {
-        return Parsed::Memory(Name::A);
+        return Parsed::Memory(name);
     };
     let Ok(numbers) = numbers.drain_to_vec(alloc) else {
-        return Parsed::Memory(Name::A);
+        return Parsed::Memory(name);
     };
-    Parsed::Call(Name::A, Call::Splice(start, end, word, numbers))
+    Parsed::Call(name, Call::Splice(start, end, word, numbers))
 }
 
 // The call of `A` or `S`, but for a splice, that the text spells behind the vector's name.
@@ -98,11 +109,11 @@ fn parse_slots_call(text: &[u8]) -> Option<Call<i32>>
     parse_call(text)
 }
 
-// The call of `T` that the text spells behind the vector's name.
+// The call of `T`, but for a splice, that the text spells behind the vector's name.
 fn parse_tiny_call(text: &[u8]) -> Option<Call<i32>>
     ensures some { IfSome result (IsCall text.now) }
     ensures has { IfSome result (Has T) }
-    ensures none { IfNone result ((call : Call ℤ) → Has T call → IsCall text.now call → ⊥) }
+    ensures none { IfNone result ((call : Call ℤ) → Has T call → IsNoSplice call → IsCall text.now call → ⊥) }
 {
     if text == b"heap".as_slice() {
         return Some(Call::Heap);

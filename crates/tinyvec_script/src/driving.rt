@@ -1,18 +1,21 @@
 //! A splice that is driven by a word of ends.
-ghost use Rattle.std.specs.Prelude.{◌≡◌, ◌+◌, ◌<◌, ◌≤◌, ◌∷◌, ◌++◌, List, Option, length, IfOk, IfErr, OnErr, vec_len, vec_capacity};
-ghost use Rattle.std.specs.Iterator.Adapters.{fuse_steps};
+ghost use Rattle.std.specs.Prelude.{◌≡◌, ◌+◌, ◌<◌, ◌≤◌, ◌∷◌, ◌++◌, [], List, Option, length, IfOk, OnErr, vec_len, vec_capacity};
 ghost use Rattle.std.specs.Vec.Iter.{into_iter_items};
-ghost use Rattle.tinyvec_slots.specs.Slots.{items, items_len};
 ghost use Rattle.tinyvec_slots.specs.Ends.{Asks, given_items};
-ghost use Rattle.tinyvec_array.specs.Fused.{fused_rest};
-ghost use Rattle.tinyvec_array.specs.Splice.{splice_left, SpliceCanStep, SpliceSteps, SpliceStepsBack};
-ghost use Rattle.tinyvec_script.specs.Driving.{word_of, SpliceTakes, ArraySplices, SpliceComputes};
+ghost use Rattle.tinyvec_slots.specs.Fused.{fused_rest};
+ghost use Rattle.tinyvec_script.specs.Driving.{word_of, TakesAt, WhateverIsAsked, refused_items};
+ghost use Rattle.tinyvec_script.specs.declared.call.Answer.TheVariants as answers;
 
-use crate::End;
-use std::alloc::Global;
+mod array;
+mod tiny;
+
+use crate::{Answer, End};
+pub use array::drive_array_splice;
+use std::alloc::{AllocError, Global};
 use std::iter::Fuse;
 use std::vec::IntoIter;
-use tinyvec::{Array, ArrayVec, ArrayVecSplice, NoMemory, SpliceRest};
+pub use tiny::drive_tiny_splice;
+use tinyvec::SpliceRest;
 
 /// What a splice gave, and what of its replacement found no room.
 #[derive(PartialEq, Debug, Drop)]
@@ -21,79 +24,73 @@ pub struct Driven<T> {
     pub rest: Vec<T>,
 }
 
-/// Replaces the items from `start` up to `end`. Before that an item is taken from each end that the word names. Room for
-/// what is taken and for what may find no room is asked for first: where it is refused, the replacement comes back.
-pub fn drive_array_splice<A: Array>(
-    alloc: Global,
-    vec: &mut ArrayVec<A>,
-    start: usize,
-    end: usize,
-    replacement: Vec<A::Item>,
-    word: &[End],
-) -> Result<Driven<A::Item>, NoMemory<Vec<A::Item>>>
-    requires start_le_end { start ≤ end }
-    requires in_bounds { end ≤ items_len vec.old }
-    ensures splices { IfOk result (λ driven. ArraySplices A.Item.is_default A.CAPACITY vec.old start end word.now replacement.items
-        driven.yields.items driven.rest.items vec.new) }
-    ensures computed { IfOk result (λ driven. SpliceComputes A.CAPACITY (items vec.old) start end word.now replacement.items
-        driven.yields.items driven.rest.items (items vec.new)) }
-    ensures no_memory { IfErr result (λ refused. refused.0 ≡ replacement) }
-    ensures needed { OnErr result (start < end + vec_len replacement) }
-    ensures unchanged { OnErr result (vec.new ≡ vec.old) }
+// What answers a splice that was driven so: what was taken, and what found no room if there is such.
+pub(crate) fn answer_driven<T: Drop>(driven: Driven<T>) -> Answer<T>
+    ensures items { driven.rest.items ≡ [] → result ≡ answers.Items driven.yields }
+    ensures spliced { 0 < length driven.rest.items → result ≡ answers.Spliced driven.yields driven.rest }
 {
-    let mut yields = match Vec::with_capacity(alloc, end - start) {
-        Ok(yields) => yields,
-        Err(_) => return Err(NoMemory(replacement)),
-    };
-    let mut rest = match Vec::with_capacity(alloc, replacement.len()) {
-        Ok(rest) => rest,
-        Err(_) => return Err(NoMemory(replacement)),
-    };
-    let mut splice = vec.splice(start..end, replacement);
-    take_word(&mut splice, word, &mut yields);
-    match splice.finish() {
-        Ok(()) => {}
-        Err(refused) => keep(&mut rest, refused),
+    let Driven { yields, rest } = driven;
+    if rest.is_empty() {
+        return Answer::Items(yields);
     }
+    Answer::Spliced(yields, rest)
+}
+
+// Empty lists with room for so many items.
+fn with_room<T: Drop>(alloc: Global, yields: usize, rest: usize) -> Result<Driven<T>, AllocError>
+    ensures empty { IfOk result (λ driven. (driven.yields.items ≡ []) × (driven.rest.items ≡ [])) }
+    ensures room { IfOk result (λ driven. (yields ≤ vec_capacity driven.yields) × (rest ≤ vec_capacity driven.rest)) }
+    ensures needed { OnErr result (0 < yields + rest) }
+{
+    let yields = Vec::with_capacity(alloc, yields)?;
+    let rest = Vec::with_capacity(alloc, rest)?;
     Ok(Driven { yields, rest })
 }
 
+// What gives items from both of its ends. A splice may not be let go, as an iterator in a generic call may.
+trait TwoEnds {
+    type Item;
+
+    ghost can: { Self → Type 0 };
+
+    ghost gives: { Self → Option Self.Item → Self → Type 0 };
+
+    ghost gives_back: { Self → Option Self.Item → Self → Type 0 };
+
+    // Takes an item from `end`.
+    fn take_from(&mut self, end: End) -> Option<Self::Item>
+        requires { can self.old }
+        ensures { TakesAt gives gives_back end self.old result self.new };
+}
+
 // Takes an item from each end that the word names, and appends it.
-fn take_word<A: Array, I: DoubleEndedIterator<Item = A::Item>>(
-    splice: &mut ArrayVecSplice<'_, A, Fuse<I>>,
-    word: &[End],
-    yields: &mut Vec<A::Item>,
-)
-    requires ready { SpliceCanStep splice.old }
-    requires can { (s : I) → I.can_next s × I.can_next_back s }
-    requires room { vec_len yields.old + length (splice_left splice.old) ≤ vec_capacity yields.old }
-    ensures asks { (answers : List (Option A.Item))
-        × Asks (SpliceSteps (fuse_steps I.next_gives)) (SpliceStepsBack (fuse_steps I.next_back_gives))
-        splice.old (word_of word.now) answers splice.new
+fn take_word<S: TwoEnds>(splice: &mut S, word: &[End], yields: &mut Vec<S::Item>)
+    requires can { WhateverIsAsked S.gives S.gives_back splice.old (λ answers t. S.can t) }
+    requires room { WhateverIsAsked S.gives S.gives_back splice.old
+        (λ answers t. vec_len yields.old + length (given_items answers) ≤ vec_capacity yields.old) }
+    ensures asks { (answers : List (Option S.Item))
+        × Asks S.gives S.gives_back splice.old (word_of word.now) answers splice.new
         × (yields.new.items ≡ yields.old.items ++ given_items answers) }
-    ensures ready { SpliceCanStep splice.new }
 {
     for letter in word {
-        match take_from(splice, *letter) {
+        match splice.take_from(*letter) {
             Some(item) => yields.push_reserved(item),
             None => {}
         }
     }
 }
 
-// Takes an item from `end`.
-fn take_from<A: Array, I: DoubleEndedIterator<Item = A::Item>>(
-    splice: &mut ArrayVecSplice<'_, A, Fuse<I>>,
-    end: End,
-) -> Option<A::Item>
-    requires ready { SpliceCanStep splice.old }
-    requires can { (s : I) → I.can_next s × I.can_next_back s }
-    ensures takes { SpliceTakes (fuse_steps I.next_gives) (fuse_steps I.next_back_gives) end splice.old result splice.new }
-    ensures ready { SpliceCanStep splice.new }
+// Appends what found no room, if something did.
+fn keep_refused<T: Drop>(
+    list: &mut Vec<T>,
+    finished: Result<(), SpliceRest<T, Fuse<IntoIter<T, Global>>>>,
+)
+    requires { vec_len list.old + length (refused_items (fused_rest into_iter_items) finished) ≤ vec_capacity list.old }
+    ensures { list.new.items ≡ list.old.items ++ refused_items (fused_rest into_iter_items) finished }
 {
-    match end {
-        End::Front => splice.next(),
-        End::Back => splice.next_back(),
+    match finished {
+        Ok(()) => {}
+        Err(refused) => keep(list, refused),
     }
 }
 

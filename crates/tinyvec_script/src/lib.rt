@@ -18,6 +18,6 @@ mod tiny_step;
 mod vectors;
 
 pub use call::{Answer, Call, End};
-pub use driving::{Driven, drive_array_splice};
+pub use driving::{Driven, drive_array_splice, drive_tiny_splice};
 pub use runs::{run_array, run_slice, run_tiny};
 pub use script::{RunError, run};

@@ -4,7 +4,8 @@ ghost use Rattle.tinyvec.specs.Tiny.{tiny_len, tiny_capacity};
 ghost use Rattle.tinyvec_script.specs.Place.{tiny_of};
 ghost use Rattle.tinyvec_script.specs.TinyCalls.{TinyAnswers};
 
-use crate::{Answer, Call};
+use crate::driving::answer_driven;
+use crate::{Answer, Call, drive_tiny_splice};
 use std::alloc::Global;
 use tinyvec::{Array, TinyVec};
 
@@ -62,7 +63,15 @@ pub(crate) fn answer_tiny<A: Array>(
             vec.drain_into(start..end, &mut items);
             Answer::Items(items)
         }
-        Call::Splice(_, _, _, _) => Answer::Unfit,
+        Call::Splice(start, end, word, replacement) => {
+            if start > end || end > len {
+                return Answer::Range;
+            }
+            match drive_tiny_splice(alloc, vec, start, end, replacement, word.as_slice()) {
+                Ok(driven) => answer_driven(driven),
+                Err(_) => Answer::Memory,
+            }
+        }
         Call::SetLen(_) => Answer::Unfit,
         Call::Reserve(n) => match vec.reserve(n) {
             Ok(()) => Answer::Done,

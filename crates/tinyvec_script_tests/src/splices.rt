@@ -1,8 +1,10 @@
 //! Splices, as calls, as lines and driven.
 use crate::answered::{ROOM, assert_answered, assert_answers, assert_written};
 use std::test::Fail;
-use tinyvec::ArrayVec;
-use tinyvec_script::{Answer, Call, End, drive_array_splice, run_array};
+use tinyvec::{ArrayVec, TinyVec};
+use tinyvec_script::{
+    Answer, Call, End, drive_array_splice, drive_tiny_splice, run_array, run_tiny,
+};
 
 const LINES: [(&[u8], &[u8]); 17] = [
     (
@@ -46,6 +48,50 @@ fn a_splice_from_both_ends_that_does_not_fit(rt: HostRuntime) -> Result<(), Fail
             b"A splice 1 3 bf 7 8 9",
             b"items [3, 2] rest [8] [1, 7, 9, 4] []",
         ),
+    ];
+    assert_answered(&rt, lines.as_slice())
+}
+
+#[test]
+fn a_splice_that_moves_to_the_heap(rt: HostRuntime) -> Result<(), Fail> {
+    let lines: [(&[u8], &[u8]); 9] = [
+        (b"T push 1", b"ok [1] inline"),
+        (b"T push 2", b"ok [1, 2] inline"),
+        (b"T push 3", b"ok [1, 2, 3] inline"),
+        (b"T push 4", b"ok [1, 2, 3, 4] inline"),
+        (
+            b"T splice 1 3 bf 7 8 9",
+            b"items [3, 2] [1, 7, 8, 9, 4] heap",
+        ),
+        (b"T splice 1 4 f 5", b"items [7] [1, 5, 4] heap"),
+        (b"T splice 2 3 - 6 7 8", b"items [] [1, 5, 6, 7, 8] heap"),
+        (b"T splice 0 5 bbbbbb", b"items [8, 7, 6, 5, 1] [] heap"),
+        (b"T shrink", b"ok [] inline"),
+    ];
+    assert_answered(&rt, lines.as_slice())
+}
+
+#[test]
+fn a_splice_of_an_empty_list(rt: HostRuntime) -> Result<(), Fail> {
+    assert_written(
+        &rt,
+        b"T splice 0 0 b 1 2 3 4 5\n",
+        b"items [] [1, 2, 3, 4, 5] heap\n",
+    )
+}
+
+#[test]
+fn a_splice_that_stays_inline(rt: HostRuntime) -> Result<(), Fail> {
+    let lines: [(&[u8], &[u8]); 9] = [
+        (b"T splice 0 0 - 1 2 3 4", b"items [] [1, 2, 3, 4] inline"),
+        (b"T splice 1 3 f 7", b"items [2] [1, 7, 4] inline"),
+        (b"T splice 1 2 -", b"items [] [1, 4] inline"),
+        (b"T splice 0 3 -", b"range [1, 4] inline"),
+        (b"T splice 1 0 -", b"range [1, 4] inline"),
+        (b"T splice 0 1 x 5", b"bad"),
+        (b"T splice 0 0 f-", b"bad"),
+        (b"T splice 0 0 - 2147483648", b"bad"),
+        (b"S splice 0 0 -", b"bad"),
     ];
     assert_answered(&rt, lines.as_slice())
 }
@@ -98,6 +144,67 @@ fn a_word_longer_than_the_range(rt: HostRuntime) -> Result<(), Fail> {
     assert!(rt; driven.rest.is_empty());
     assert!(rt; vec.as_slice() == [1, 7, 4].as_slice());
     assert!(rt; vec.into_inner() == [1, 7, 4, 0, 0, 0]);
+    Ok(())
+}
+
+#[test]
+fn a_driven_splice_that_moves_to_the_heap(rt: HostRuntime) -> Result<(), Fail> {
+    let mut vec = TinyVec::from_array(rt.alloc(), [1, 2, 3, 4]);
+    let replacement = Vec::from_array(rt.alloc(), [7, 8, 9])?;
+    let word = [End::Back, End::Front];
+    let driven = drive_tiny_splice(rt.alloc(), &mut vec, 1, 3, replacement, &word)?;
+    assert!(rt; driven.yields.as_slice() == [3, 2].as_slice());
+    assert!(rt; driven.rest.is_empty(), "memory was granted");
+    assert!(rt; vec.as_slice() == [1, 7, 8, 9, 4].as_slice());
+    assert!(rt; vec.is_heap());
+    Ok(())
+}
+
+#[test]
+fn a_driven_splice_that_shrinks_on_the_heap(rt: HostRuntime) -> Result<(), Fail> {
+    let mut vec = TinyVec::from_array(rt.alloc(), [1, 2, 3, 4]);
+    vec.move_to_the_heap()?;
+    let room = vec.capacity();
+    let replacement = Vec::from_array(rt.alloc(), [7])?;
+    let driven = drive_tiny_splice(rt.alloc(), &mut vec, 1, 4, replacement, &[End::Front])?;
+    assert!(rt; driven.yields.as_slice() == [2].as_slice());
+    assert!(rt; driven.rest.is_empty());
+    assert!(rt; vec.as_slice() == [1, 7].as_slice());
+    assert!(rt; vec.is_heap());
+    assert!(rt; vec.capacity() == room);
+    Ok(())
+}
+
+#[test]
+fn splices_of_a_tiny_in_a_run(rt: HostRuntime) -> Result<(), Fail> {
+    let mut vec = TinyVec::<[i32; 4]>::new(rt.alloc());
+    let calls = Vec::from_array(
+        rt.alloc(),
+        [
+            Call::Splice(
+                0,
+                0,
+                Vec::from_array(rt.alloc(), [End::Back])?,
+                Vec::from_array(rt.alloc(), [1, 2, 3, 4, 5])?,
+            ),
+            Call::Splice(0, 6, Vec::new(rt.alloc()), Vec::new(rt.alloc())),
+            Call::Splice(
+                3,
+                5,
+                Vec::from_array(rt.alloc(), [End::Back])?,
+                Vec::new(rt.alloc()),
+            ),
+        ],
+    )?;
+    let answers = run_tiny(rt.alloc(), &mut vec, calls)?;
+    let wanted = [
+        Answer::Items(Vec::new(rt.alloc())),
+        Answer::Range,
+        Answer::Items(Vec::from_array(rt.alloc(), [5])?),
+    ];
+    assert_answers(&rt, answers.as_slice(), wanted.as_slice());
+    assert!(rt; vec.as_slice() == [1, 2, 3].as_slice());
+    assert!(rt; vec.is_heap());
     Ok(())
 }
 

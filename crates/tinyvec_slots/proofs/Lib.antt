@@ -10,3 +10,8 @@ pub mod ClonesOverLemmas
 pub mod CloneFromLemmas
 pub mod FillingLemmas
 pub mod Walks
+pub mod Runs
+pub mod Fused
+pub mod TurnLemmas
+pub mod SpliceLemmas
+pub mod SplicingLemmas

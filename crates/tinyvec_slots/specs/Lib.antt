@@ -5,3 +5,8 @@ pub mod Drains
 pub mod Filters
 pub mod Clones
 pub mod Filling
+pub mod Touches
+pub mod Fused
+pub mod Gap
+pub mod Splices
+pub mod Splicing

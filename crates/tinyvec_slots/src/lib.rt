@@ -3,15 +3,18 @@
 
 mod cloning;
 mod filtering;
+mod gap;
 mod moving;
 mod no_memory;
 mod no_room;
 mod range;
 mod resetting;
 mod shifting;
+mod touches;
 
 pub use cloning::{clone_each, clone_over, clone_through};
 pub use filtering::{dedup_in_front, dedup_keys_in_front, retain_in_front, retain_mut_in_front};
+pub use gap::Gap;
 pub use moving::{last_to, move_to_end, part_to_end};
 pub use no_memory::NoMemory;
 pub use no_room::{FromIterRest, NoRoom, SpliceRest};

@@ -25,3 +25,5 @@ mod moving;
 mod refusals;
 #[cfg(test)]
 mod reserving;
+#[cfg(test)]
+mod splices;

@@ -1,9 +1,12 @@
 //! Each call that may ask for memory, granted or refused. `tests/refuse` has each allocation refused in turn.
+ghost use Rattle.std.specs.Prelude.{◌≡◌, IfOk};
+ghost use Rattle.tinyvec.specs.Tiny.{tiny_len};
+
 use crate::looks::{lies, spares};
 use std::alloc::{AllocError, Global};
 use std::process::Abort;
 use std::test::Fail;
-use tinyvec::{FromIterRest, NoMemory, NoRoom, TinyVec};
+use tinyvec::{FromIterRest, NoMemory, NoRoom, SpliceRest, TinyVec};
 
 // Says that a refusal was met. The script asks this of each test here.
 fn refused(rt: &impl Print) -> Result<(), Fail> {
@@ -22,7 +25,9 @@ fn full(alloc: Global) -> TinyVec<[i32; 3]> {
 }
 
 // `[1, 2, 3, 4]`, with room for no more.
-fn on_the_heap(alloc: Global) -> Result<TinyVec<[i32; 3]>, AllocError> {
+fn on_the_heap(alloc: Global) -> Result<TinyVec<[i32; 3]>, AllocError>
+    ensures { IfOk result (λ v. tiny_len v ≡ 4) }
+{
     TinyVec::from_slice(alloc, &[1, 2, 3, 4])
 }
 
@@ -97,6 +102,35 @@ fn push(rt: HostRuntime) -> Result<(), Fail> {
         assert!(rt; heap.push(5).is_ok());
     }
     assert!(rt; lies(&heap, &[1, 2, 3, 4, 5], false));
+    Ok(())
+}
+
+#[test]
+fn splice(rt: HostRuntime) -> Result<(), Fail> {
+    let mut v = TinyVec::from_array_len(rt.alloc(), [1, 2, 3, 0], 3);
+    let mut splice = v.splice(1..2, [7, 8, 9]);
+    assert!(rt; splice.next_back() == Some(2));
+    match splice.finish() {
+        Ok(()) => assert!(rt; lies(&v, &[1, 7, 8, 9, 3], false)),
+        Err(SpliceRest { item, mut rest }) => {
+            assert!(rt; item == 8);
+            assert!(rt; rest.next() == None);
+            assert!(rt; lies(&v, &[1, 7, 9, 3], true));
+            refused(&rt)?;
+        }
+    }
+    let mut heap = on_the_heap(rt.alloc())?;
+    let room = heap.capacity();
+    match heap.splice(2..3, [7, 8, 9]).finish() {
+        Ok(()) => assert!(rt; lies(&heap, &[1, 2, 7, 8, 9, 4], false)),
+        Err(SpliceRest { item, mut rest }) => {
+            assert!(rt; item == 8);
+            assert!(rt; rest.next() == Some(9));
+            assert!(rt; lies(&heap, &[1, 2, 7, 4], false));
+            assert!(rt; heap.capacity() == room);
+            refused(&rt)?;
+        }
+    }
     Ok(())
 }
 

@@ -1,23 +1,26 @@
 //! The end of a splice.
-ghost use Rattle.std.specs.Prelude.{◌≡◌, ◌+◌, ◌≤◌, List, IfErr};
+ghost use Rattle.std.specs.Prelude.{◌≡◌, ◌+◌, ◌-◌, ◌<◌, ◌≤◌, ◌^◌, ◌++◌, List, Some, take, drop, OnErr, IfErr, MatchResult};
+ghost use Rattle.std.specs.Iterator.{Drains, YieldsThen};
 ghost use Rattle.std.specs.Iterator.Adapters.{fuse_steps};
-ghost use Rattle.tinyvec_slots.specs.Slots.{SlotRule};
 ghost use Rattle.tinyvec_slots.specs.Filling.{ShowsItems};
-ghost use Rattle.tinyvec_array.specs.Fused.{FusedCan, fused_rest};
+ghost use Rattle.tinyvec_slots.specs.Fused.{FusedCan, fused_rest};
+ghost use Rattle.tinyvec_slots.specs.Gap.{gap_front, gap_back, gap_touches};
+ghost use Rattle.tinyvec_slots.specs.Slots.{items, spare, items_len, Frees, SlotRule};
+ghost use Rattle.tinyvec_slots.specs.Splices.{finish_placed, finish_bound, Finishes, FinishesWith};
 
-use crate::splice::filling::fill;
-use crate::{Array, ArrayVecSplice, SpliceRest};
+use crate::{Array, ArrayVec, ArrayVecSplice, NoRoom, SpliceRest};
 use std::iter::Fuse;
+use tinyvec_slots::Gap;
 
 impl<'a, A: Array, I: Iterator<Item = A::Item>> ArrayVecSplice<'a, A, Fuse<I>> {
-    ghost use Rattle.tinyvec_array.specs.Splice.{splice_slots, splice_touches, SpliceCanNext, finish_placed, finish_bound, Finishes, FinishesWith};
+    ghost use Rattle.tinyvec_array.specs.Splice.{splice_view, splice_slots, splice_touches, SpliceCanNext};
 
     /// How many slots were touched since `splice`: a touch is one slot read out with the default that it may leave, one
     /// item placed in a slot, or two slots swapped.
     pub fn touches(&self) -> u128
         ensures { result ≡ splice_touches self.now }
     {
-        self.touches.count()
+        self.gap.touches()
     }
 
     /// Drops the removed items that are left, and puts what the replacement still gives between what was placed from
@@ -25,7 +28,8 @@ impl<'a, A: Array, I: Iterator<Item = A::Item>> ArrayVecSplice<'a, A, Fuse<I>> {
     /// asked for beyond those placed, so the replacement may be endless.
     pub fn finish(self) -> Result<(), SpliceRest<A::Item, Fuse<I>>>
         requires { SpliceCanNext I.can_next self }
-        ensures finished { Finishes (fuse_steps I.next_gives) A.CAPACITY self.entry result self.exit.0.now }
+        ensures finished { Finishes (fuse_steps I.next_gives) A.CAPACITY
+            (splice_view self.entry) result (items self.exit.0.now) }
         ensures slots { SlotRule A.Item.is_default (splice_slots self.entry) self.exit.0.now }
 
         // After an item the replacement may be asked again.
@@ -33,7 +37,7 @@ impl<'a, A: Array, I: Iterator<Item = A::Item>> ArrayVecSplice<'a, A, Fuse<I>> {
 
         // The same of a replacement whose items are known.
         ensures listed { (rest : I → List A.Item) → ShowsItems I.next_gives rest
-            → FinishesWith (fused_rest rest) A.CAPACITY self.entry result self.exit.0.now }
+            → FinishesWith (fused_rest rest) A.CAPACITY (splice_view self.entry) result (items self.exit.0.now) }
     {
         let (finished, _touches) = self.finish_counted();
         finished
@@ -42,25 +46,75 @@ impl<'a, A: Array, I: Iterator<Item = A::Item>> ArrayVecSplice<'a, A, Fuse<I>> {
     /// Does the same, and tells the touches from `splice` on.
     pub fn finish_counted(self) -> (Result<(), SpliceRest<A::Item, Fuse<I>>>, u128)
         requires { SpliceCanNext I.can_next self }
-        ensures at_least { splice_touches self.entry + finish_placed self.entry self.exit.0.now ≤ result.1 }
-        ensures at_most { result.1 ≤ splice_touches self.entry + finish_bound self.entry self.exit.0.now }
-        ensures finished { Finishes (fuse_steps I.next_gives) A.CAPACITY self.entry result.0 self.exit.0.now }
+        ensures at_least { splice_touches self.entry + finish_placed (splice_view self.entry) (items self.exit.0.now)
+            ≤ result.1 }
+        ensures at_most { result.1 ≤ splice_touches self.entry
+            + finish_bound (splice_view self.entry) (items_len (splice_slots self.entry)) (items self.exit.0.now) }
+        ensures finished { Finishes (fuse_steps I.next_gives) A.CAPACITY
+            (splice_view self.entry) result.0 (items self.exit.0.now) }
         ensures slots { SlotRule A.Item.is_default (splice_slots self.entry) self.exit.0.now }
         ensures goes_on { IfErr result.0 (λ refused. FusedCan I.can_next refused.rest) }
         ensures listed { (rest : I → List A.Item) → ShowsItems I.next_gives rest
-            → FinishesWith (fused_rest rest) A.CAPACITY self.entry result.0 self.exit.0.now }
+            → FinishesWith (fused_rest rest) A.CAPACITY (splice_view self.entry) result.0 (items self.exit.0.now) }
     {
         let ArrayVecSplice {
             vec,
-            front,
-            next: _,
-            end: _,
-            back,
-            mut touches,
-            replacement,
+            mut gap,
+            mut replacement,
             unspent: _,
         } = self;
-        let finished = fill(vec, &mut touches, front, back, replacement);
-        (finished, touches.count())
+        if !gap.fill(vec.as_mut_slice(), &mut replacement) {
+            close(vec, &mut gap);
+            return (Ok(()), gap.touches());
+        }
+        let finished = append_in(vec, &mut gap, replacement);
+        (finished, gap.touches())
+    }
+}
+
+// Removes what is left of the gap.
+fn close<A: Array>(vec: &mut ArrayVec<A>, gap: &mut Gap)
+    requires in_order { gap_front gap.old ≤ gap_back gap.old }
+    requires in_bounds { gap_back gap.old ≤ items_len vec.old }
+    requires few { gap_touches gap.old < 2 ^ 80 }
+    ensures items { items vec.new ≡ take (gap_front gap.old) (items vec.old) ++ drop (gap_back gap.old) (items vec.old) }
+    ensures len { items_len vec.old ≡ items_len vec.new + (gap_back gap.old - gap_front gap.old) }
+    ensures slots { Frees A.Item.is_default (gap_back gap.old - gap_front gap.old) vec.old vec.new }
+    ensures fits { items_len vec.new ≤ A.CAPACITY }
+    ensures touches { gap_touches gap.new ≡ gap_touches gap.old + (items_len vec.old - gap_front gap.old) }
+{
+    let keep = gap.close(vec.as_mut_slice());
+    vec.truncate(keep);
+}
+
+// Appends what `replacement` gives, and brings it to where the gap was. Where an item finds no room, the vector is full,
+// and that item and what follows it come back.
+fn append_in<A: Array, I: Iterator<Item = A::Item>>(
+    vec: &mut ArrayVec<A>,
+    gap: &mut Gap,
+    replacement: I,
+) -> Result<(), SpliceRest<A::Item, I>>
+    requires in_bounds { gap_front gap.old ≤ items_len vec.old }
+    requires few { gap_touches gap.old < 2 ^ 80 }
+    requires can { I.can_next replacement }
+    ensures ran { (placed : List A.Item) × MatchResult result (λ _. Drains I.next_gives replacement placed)
+        (λ refused. YieldsThen I.next_gives replacement placed (Some refused.item) refused.rest)
+        × (items vec.new ≡ take (gap_front gap.old) (items vec.old) ++ placed
+        ++ drop (gap_front gap.old) (items vec.old)) }
+    ensures full { OnErr result (items_len vec.new ≡ A.CAPACITY) }
+    ensures longer { items_len vec.old ≤ items_len vec.new }
+    ensures fits { items_len vec.new ≤ A.CAPACITY }
+    ensures spare { spare vec.new ≡ drop (items_len vec.new - items_len vec.old) (spare vec.old) }
+    ensures goes_on { IfErr result (λ refused. I.can_next refused.rest) }
+    ensures at_least { gap_touches gap.old + (items_len vec.new - items_len vec.old) ≤ gap_touches gap.new }
+    ensures at_most { gap_touches gap.new ≤ gap_touches gap.old + (items_len vec.new - items_len vec.old)
+        + (items_len vec.new - gap_front gap.old) }
+{
+    let end = vec.len();
+    let appended = vec.extend(replacement);
+    gap.bring_in(vec.as_mut_slice(), end);
+    match appended {
+        Ok(()) => Ok(()),
+        Err(NoRoom { item, rest }) => Err(SpliceRest { item, rest }),
     }
 }

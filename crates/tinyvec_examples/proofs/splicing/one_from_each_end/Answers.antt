@@ -1,9 +1,9 @@
 use Rattle.std.proofs.Common.{[], ◌∷◌, refl}
 use Rattle.std.specs.Iterator.Adapters.{fuse_steps}
 use Rattle.tinyvec_slots.specs.Ends.{front, back}
-use Rattle.tinyvec_array.specs.Fused.{fused_rest}
-use Rattle.tinyvec_array.proofs.Fused.{fused_ends}
-use Rattle.tinyvec_array.proofs.SplicingLemmas.{Asks-splices, Asks-takes_removed}
+use Rattle.tinyvec_slots.specs.Fused.{fused_rest}
+use Rattle.tinyvec_slots.proofs.Fused.{fused_ends}
+use Rattle.tinyvec_array.proofs.SpliceLemmas.{Asks-splices, Asks-takes_removed}
 use Rattle.tinyvec_examples.proofs.splicing.one_from_each_end.Goals as goal
 
 pub returns-clause-asked : goal.returns-clause-asked

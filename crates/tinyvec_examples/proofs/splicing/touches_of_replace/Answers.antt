@@ -4,16 +4,16 @@ use Rattle.std.specs.Iterator.Adapters.{fuse_steps}
 use Rattle.tinyvec_slots.specs.Slots.{items, items_len}
 use Rattle.tinyvec_slots.specs.Ends.{front, back, given_items}
 use Rattle.tinyvec_slots.proofs.Lists.{length-slice_range}
-use Rattle.tinyvec_array.specs.Splice.{splice_front, splice_left, splice_back}
-use Rattle.tinyvec_array.proofs.SpliceLemmas.{finished_len}
-use Rattle.tinyvec_examples.proofs.SpliceCounted.{Counts, counted, kept_around, touched_at_least, touched_at_most}
+use Rattle.tinyvec_array.specs.Splice.{splice_view, splice_front, splice_left, splice_back, SpliceKeeps}
+use Rattle.tinyvec_slots.proofs.SpliceLemmas.{finished_len}
+use Rattle.tinyvec_examples.proofs.SpliceCounted.{Counts, array_counted, kept_around, touched_at_least, touched_at_most}
 use Rattle.tinyvec_examples.proofs.splicing.touches_of_replace.Goals.{Joined-finished}
 use Rattle.tinyvec_examples.proofs.splicing.touches_of_replace.Goals as goal
 
 module _ (g : _) (c : Joined-finished g) where
-  counts : Counts c.splice-splice.result (c.one_from_each_end-first.result.0 ∷ c.one_from_each_end-first.result.1 ∷ []) c.one_from_each_end-first.new.splice
+  counts : Counts splice_view SpliceKeeps c.splice-splice.result (c.one_from_each_end-first.result.0 ∷ c.one_from_each_end-first.result.1 ∷ []) c.one_from_each_end-first.new.splice
   counts =
-      counted (fuse_steps g.I.Iterator.next_gives) (fuse_steps g.I.DoubleEndedIterator.next_back_gives) c.splice-splice.result (front ∷ back ∷ []) _ c.one_from_each_end-first.new.splice c.one_from_each_end-first.ensures.asked
+      array_counted (fuse_steps g.I.Iterator.next_gives) (fuse_steps g.I.DoubleEndedIterator.next_back_gives) c.splice-splice.result (front ∷ back ∷ []) _ c.one_from_each_end-first.new.splice c.one_from_each_end-first.ensures.asked
 
   -- what stands around the range, and in it
   around : length (splice_front c.splice-splice.result) + length (splice_back c.splice-splice.result) ≡ items_len c.args.vec.now - (c.args.end - c.args.start)
@@ -29,24 +29,24 @@ module _ (g : _) (c : Joined-finished g) where
 
   within : length (splice_front c.one_from_each_end-first.new.splice) + length (splice_back c.one_from_each_end-first.new.splice) ≤ items_len c.finish_counted-finished.new.self.0
   within =
-      let long = finished_len (fuse_steps g.I.Iterator.next_gives) g.A.Array.CAPACITY c.one_from_each_end-first.new.splice c.finish_counted-finished.new.self.0 c.finish_counted-finished.result.0 c.finish_counted-finished.ensures.finished in
+      let long = finished_len (fuse_steps g.I.Iterator.next_gives) g.A.Array.CAPACITY (splice_view c.one_from_each_end-first.new.splice) (items c.finish_counted-finished.new.self.0) c.finish_counted-finished.result.0 c.finish_counted-finished.ensures.finished in
       omega arith
 
 pub returns-clause-kept : goal.returns-clause-kept
 returns-clause-kept g c =
-    let same = (counts g c).keeps.0 in
+    let same = (counts g c).kept.0 in
     let lender = c.splice-splice.ensures.same_reference in
-    let kept = kept_around c.splice-splice.result c.one_from_each_end-first.new.splice _ c.finish_counted-finished.new.self.0 (counts g c) c.splice-splice.ensures.touches (within g c) in
+    let kept = kept_around c.splice-splice.result c.one_from_each_end-first.new.splice _ (items c.finish_counted-finished.new.self.0) (counts g c) c.splice-splice.ensures.touches (within g c) in
     let is = around g c in
     let fact : items_len c.args.vec.now - (c.args.end - c.args.start) ≤ items_len c.finish_counted-finished.new.self.0 = omega arith in
     subst (λ w. items_len c.args.vec.now - (c.args.end - c.args.start) ≤ items_len w) (search rules) fact
 
 pub returns-clause-at_least : goal.returns-clause-at_least
 returns-clause-at_least g c =
-    let same = (counts g c).keeps.0 in
+    let same = (counts g c).kept.0 in
     let lender = c.splice-splice.ensures.same_reference in
     let v = c.finish_counted-finished.new.self.0 in
-    let least = touched_at_least c.splice-splice.result c.one_from_each_end-first.new.splice _ v (counts g c) c.splice-splice.ensures.touches (within g c) c.finish_counted-finished.result.1 c.finish_counted-finished.ensures.at_least in
+    let least = touched_at_least c.splice-splice.result c.one_from_each_end-first.new.splice _ (items v) (counts g c) c.splice-splice.ensures.touches (within g c) c.finish_counted-finished.result.1 c.finish_counted-finished.ensures.at_least in
     let given = length (given_items (c.one_from_each_end-first.result.0 ∷ c.one_from_each_end-first.result.1 ∷ [])) in
     let fact : given + (items_len v - (items_len c.args.vec.now - (c.args.end - c.args.start))) ≤ c.finish_counted-finished.result.1 =
     subst (λ n. given + (items_len v - n) ≤ c.finish_counted-finished.result.1) (around g c) least in
@@ -54,14 +54,14 @@ returns-clause-at_least g c =
 
 pub returns-clause-at_most : goal.returns-clause-at_most
 returns-clause-at_most g c =
-    let same = (counts g c).keeps.0 in
+    let same = (counts g c).kept.0 in
     let lender = c.splice-splice.ensures.same_reference in
     let v = c.finish_counted-finished.new.self.0 in
     let old = c.args.vec.now in
     let touches = c.finish_counted-finished.result.1 in
-    let most = touched_at_most c.splice-splice.result c.one_from_each_end-first.new.splice _ v (counts g c) c.splice-splice.ensures.touches (within g c) touches c.one_from_each_end-first.ensures.ready c.finish_counted-finished.ensures.at_most in
+    let most = touched_at_most c.splice-splice.result c.one_from_each_end-first.new.splice _ (items v) (counts g c) c.splice-splice.ensures.touches (within g c) touches _ c.finish_counted-finished.ensures.at_most in
     let is = around g c in
     let all = inside g c in
-    let slots = ap items_len c.splice-splice.ensures.slots in
+    let slots = (counts g c).kept.2 ∙ ap items_len c.splice-splice.ensures.slots in
     let fact : touches ≤ (c.args.end - c.args.start) + (items_len v - (items_len old - (c.args.end - c.args.start))) + max (items_len old) (items_len v) = omega (arith, most, is, all, slots) in
     subst (λ w. touches ≤ (c.args.end - c.args.start) + (items_len w - (items_len old - (c.args.end - c.args.start))) + max (items_len old) (items_len w)) (search rules) fact

@@ -1,6 +1,6 @@
 use Rattle.std.proofs.Common.{◌≡◌, ◌++◌}
 use Rattle.std.specs.Vec.Iter.{into_iter_items}
-use Rattle.tinyvec_array.specs.Fused.{fused_rest}
+use Rattle.tinyvec_slots.specs.Fused.{fused_rest}
 use Rattle.tinyvec_script.proofs.driving.keep.Given as goal
 
 abbrev pub invariant-loop-item : goal.invariant-loop-item

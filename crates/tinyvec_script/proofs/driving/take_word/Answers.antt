@@ -1,63 +1,63 @@
-use Rattle.std.proofs.Common.{◌+◌, ◌++◌, ◌∷◌, [], ap, ◌∙◌, subst, sym, append-nil, append_assoc, arith, take, length}
-use Rattle.std.proofs.lemmas.List.{length_push}
-use Rattle.std.specs.Iterator.Adapters.{fuse_steps}
+use Rattle.std.proofs.Common.{◌+◌, ◌++◌, ◌∷◌, [], ap, ◌∙◌, subst, sym, append-nil, append_assoc, arith, take, length, length-append}
 use Rattle.std.specs.Option.{option_to_list}
 use Rattle.tinyvec_slots.specs.Ends.{Asks, given_items}
 use Rattle.tinyvec_slots.proofs.EndsLemmas.{given_items-more}
-use Rattle.tinyvec_array.specs.Splice.{SpliceSteps, SpliceStepsBack}
 use Rattle.tinyvec_script.specs.Driving.{word_of}
 use Rattle.tinyvec_script.specs.declared.call.End.TheVariants.{Front}
-use Rattle.tinyvec_script.proofs.DrivingLemmas.{Asks-letter, one_fewer, none_fewer, word_of-more}
-use Rattle.tinyvec_script.proofs.driving.take_word.Goals.{in-Some, in-None}
+use Rattle.tinyvec_script.proofs.DrivingLemmas.{Asks-letter, word_of-more}
+use Rattle.tinyvec_script.proofs.driving.take_word.Goals.{After-take_from, in-Some, in-None}
 use Rattle.tinyvec_script.proofs.driving.take_word.Goals as goal
+
+-- the word with this letter was asked
+asked_more : (g : _) (c : After-take_from g)
+    → Asks g.S.TwoEnds.gives g.S.TwoEnds.gives_back c.args.splice.now (word_of (take (c.loop-letter.letter-index + 1) c.args.word.now))
+    (c.loop-letter.invariant.asks.0 ++ c.take_from.result ∷ []) c.take_from.new.self
+asked_more g c =
+    let gives = g.S.TwoEnds.gives in
+    let gives_back = g.S.TwoEnds.gives_back in
+    let turn = c.loop-letter in
+    let asked = turn.invariant.asks in
+    let r = c.take_from.result in
+    let to = c.take_from.new.self in
+    let word = c.args.word.now in
+    subst (λ w. Asks gives gives_back c.args.splice.now w (asked.0 ++ r ∷ []) to) (sym (word_of-more word turn.letter-index Front c.loop-letter-test.true))
+    (Asks-letter gives gives_back _ c.args.splice.now (word_of (take turn.letter-index word)) asked.0 turn.splice r to asked.1 c.take_from.ensures)
+
+pub push_reserved-requires : goal.push_reserved-requires
+push_reserved-requires g c =
+    let asked = c.loop-letter.invariant.asks in
+    let r = c.take_from.result in
+    let asks = asked_more g (goal.at.push_reserved-requires g c).After-take_from in
+    let given = given_items-more asked.0 r ∙ ap (λ o. given_items asked.0 ++ option_to_list o) c.in-Some.is in
+    let long = ap length given ∙ length-append (given_items asked.0) (c.in-Some.item ∷ []) in
+    let before = ap length asked.2 ∙ length-append c.args.yields.now.items (given_items asked.0) in
+    let room = c.requires.room _ _ _ asks in
+    let was = c.args.yields.now.ok.0 in
+    let now = c.loop-letter.yields.ok.0 in
+    omega (arith, room, long, before, was, now, c.loop-letter.invariant.capacity)
 
 pub loop-letter-preserved : goal.loop-letter-preserved
 loop-letter-preserved g c =
-    let gives = fuse_steps g.I.Iterator.next_gives in
-    let gives_back = fuse_steps g.I.DoubleEndedIterator.next_back_gives in
-    let turn = c.loop-letter in
-    let inv = turn.invariant in
-    let asked = inv.asks in
+    let asked = c.loop-letter.invariant.asks in
     let r = c.take_from.result in
-    let to = c.take_from.new.splice in
-    let word = c.args.word.now in
-    let more = word_of-more word turn.letter-index Front c.loop-letter-test.true in
-    let asks : Asks (SpliceSteps gives) (SpliceStepsBack gives_back) c.args.splice.now (word_of (take (turn.letter-index + 1) word)) (asked.0 ++ r ∷ []) to =
-    subst (λ w. Asks (SpliceSteps gives) (SpliceStepsBack gives_back) c.args.splice.now w (asked.0 ++ r ∷ []) to) (sym more)
-    (Asks-letter gives gives_back _ c.args.splice.now (word_of (take turn.letter-index word)) asked.0 turn.splice r to asked.1 c.take_from.ensures.takes) in
+    let asks = asked_more g (goal.at.loop-letter-preserved g c).After-take_from in
     let given = given_items-more asked.0 r in
     elim c.match-take_from.branch [
       | in-Some w ↦
-          (let some = w.in-Some.is in
-          let fewer = one_fewer gives gives_back _ turn.splice w.in-Some.item to (rw some at c.take_from.ensures.takes) in
-          let pushed = ap (λ v. v.items) w.yields-is ∙ w.push_reserved.ensures.items in
-          let cap = ap (λ v. v.cap) w.yields-is ∙ w.push_reserved.ensures.capacity in
-          let long = ap length pushed ∙ length_push turn.yields.items w.in-Some.item in
-          let now = c.match-take_from.yields.ok.0 in
-          let was = turn.yields.ok.0 in
+          (let is = given ∙ ap (λ o. given_items asked.0 ++ option_to_list o) w.in-Some.is in
           record {
-            ready = c.take_from.ensures.ready;
             asks = (
               asked.0 ++ r ∷ [],
               asks,
-              pushed ∙ ap (λ l. l ++ w.in-Some.item ∷ []) asked.2 ∙ append_assoc c.args.yields.now.items (given_items asked.0) (w.in-Some.item ∷ [])
-                  ∙ ap (λ l. c.args.yields.now.items ++ l) (sym (given ∙ ap (λ o. given_items asked.0 ++ option_to_list o) some)),
+              ap (λ v. v.items) w.yields-is ∙ w.push_reserved.ensures.items ∙ ap (λ l. l ++ w.in-Some.item ∷ []) asked.2
+                  ∙ append_assoc c.args.yields.now.items (given_items asked.0) (w.in-Some.item ∷ []) ∙ ap (λ l. c.args.yields.now.items ++ l) (sym is),
             );
-            capacity = cap ∙ inv.capacity;
-            room = omega (arith, fewer, long, now, was, inv.room);
+            capacity = ap (λ v. v.cap) w.yields-is ∙ w.push_reserved.ensures.capacity ∙ c.loop-letter.invariant.capacity;
           })
       | in-None w ↦
-          (let none = w.in-None.is in
-          let same = none_fewer gives gives_back _ turn.splice to (rw none at c.take_from.ensures.takes) in
+          (let is = given ∙ ap (λ o. given_items asked.0 ++ option_to_list o) w.in-None.is ∙ append-nil (given_items asked.0) in
           record {
-            ready = c.take_from.ensures.ready;
-            asks = (
-              asked.0 ++ r ∷ [],
-              asks,
-              ap (λ v. v.items) w.yields-is ∙ asked.2
-                  ∙ ap (λ l. c.args.yields.now.items ++ l) (sym (given ∙ ap (λ o. given_items asked.0 ++ option_to_list o) none ∙ append-nil (given_items asked.0))),
-            );
-            capacity = ap (λ v. v.cap) w.yields-is ∙ inv.capacity;
-            room = rw (w.yields-is, same) inv.room;
+            asks = (asked.0 ++ r ∷ [], asks, ap (λ v. v.items) w.yields-is ∙ asked.2 ∙ ap (λ l. c.args.yields.now.items ++ l) (sym is));
+            capacity = ap (λ v. v.cap) w.yields-is ∙ c.loop-letter.invariant.capacity;
           })
     ]

@@ -1,31 +1,147 @@
-use Rattle.std.proofs.Common.{arith}
+use Rattle.std.proofs.Common.{◌≡◌, ◌+◌, ◌-◌, ◌++◌, ◌≤◌, take, drop, length, Ok, ap, ◌∙◌, arith, length-append}
+use Rattle.std.proofs.lemmas.List.{length-take-le, length-drop}
 use Rattle.std.specs.Iterator.Adapters.{fuse_steps}
-use Rattle.tinyvec_array.specs.Fused.{fused_rest}
-use Rattle.tinyvec_array.specs.Splice.{Finishes}
-use Rattle.tinyvec_array.proofs.Fused.{fused_first}
-use Rattle.tinyvec_array.proofs.SpliceLemmas.{finishes_with, finish_placed-is, written_over}
+use Rattle.tinyvec_slots.specs.Fused.{fused_rest}
+use Rattle.tinyvec_slots.specs.Gap.{gap_front, gap_back}
+use Rattle.tinyvec_slots.specs.Slots.{items, spare, items_len, with_items}
+use Rattle.tinyvec_slots.specs.Splices.{Finishes, finish_placed, finish_bound}
+use Rattle.tinyvec_slots.proofs.Fused.{fused_first}
+use Rattle.tinyvec_slots.proofs.Lists.{length-slice_range}
+use Rattle.tinyvec_slots.proofs.SlotsLemmas.{items-with_items, spare-with_items, slots_used, slots_freed}
+use Rattle.tinyvec_slots.proofs.SpliceLemmas.{finishes_with, finished_len, finishes_closed, finishes_appended, filled_within}
+use Rattle.tinyvec_array.specs.Splice.{splice_view, splice_left, splice_touches}
+use Rattle.tinyvec_array.proofs.splice.finishing.ArrayVecSplice+A+Fuse+I.finish_counted.Goals.{After-fill}
 use Rattle.tinyvec_array.proofs.splice.finishing.ArrayVecSplice+A+Fuse+I.finish_counted.Goals as goal
 
-module _ (g : _) (c : goal.After-count g) where
-  abbrev finished : Finishes (fuse_steps g.I.Iterator.next_gives) g.A.Array.CAPACITY c.args.self c.fill-finished.result c.fill-finished.new.vec
-  finished =
-      let filled = c.fill-finished.ensures in record {
-        placed = filled.ran.0;
-        ran = filled.ran.1;
-        list = filled.ran.2;
-        full = filled.full;
-        fits = filled.fits;
-      }
+-- the gap, as it was filled
+module _ (g : _) (c : After-fill g) where
+  same : length c.fill.new.slots ≡ items_len c.args.self.vec.now
+  same = c.fill.ensures.slots ∙ ap length c.as_mut_slice.ensures.value
 
-pub returns-clause-at_most : goal.returns-clause-at_most
-returns-clause-at_most g c =
-    let gives = g.I.Iterator.next_gives in
-    let filled = c.fill-finished.ensures in
-    let over = written_over gives c.args.self c.requires.0 filled.ran.0 c.fill-finished.result filled.ran.1 in
-    let count = finish_placed-is (fuse_steps gives) g.A.Array.CAPACITY c.args.self c.fill-finished.new.vec c.fill-finished.result (finished g c) in
-    omega (arith, over, count, filled.ran.4, c.count.ensures)
+  mid_is : items (with_items c.args.self.vec.now c.fill.new.slots) ≡ c.fill.new.slots
+  mid_is = items-with_items c.args.self.vec.now c.fill.new.slots same
+
+  front_is : take (gap_front c.fill.new.self) c.fill.new.slots ≡ take (gap_front c.args.self.gap) (items c.args.self.vec.now) ++ c.fill.ensures.placed.0
+  front_is = c.fill.ensures.placed.1 ∙ ap (λ l. take (gap_front c.args.self.gap) l ++ c.fill.ensures.placed.0) c.as_mut_slice.ensures.value
+
+  back_is : drop (gap_back c.args.self.gap) c.fill.new.slots ≡ drop (gap_back c.args.self.gap) (items c.args.self.vec.now)
+  back_is = c.fill.ensures.behind ∙ ap (drop (gap_back c.args.self.gap)) c.as_mut_slice.ensures.value
+
+  -- no more was placed there than removed items are left
+  within : length c.fill.ensures.placed.0 ≤ length (splice_left c.args.self)
+  within =
+      let fill = c.fill.ensures in
+      let gap = c.args.self.gap in
+      let ready = c.requires.0 in
+      let some = filled_within g.I.Iterator.next_gives gap c.args.self.replacement c.fill.new.replacement (items_len c.args.self.vec.now) fill.placed.0
+      c.fill.result ready fill.placed.3 (omega (arith, fill.placed.2, fill.in_order)) in
+      omega (arith, some, length-slice_range (items c.args.self.vec.now) gap.next gap.end ready.1 (omega (arith, ready.2, ready.3)))
+
+pub returns-then-not-fill-clause-finished : goal.returns-then-not-fill-clause-finished
+returns-then-not-fill-clause-finished g c =
+    let at = gap_front c.fill.new.self in
+    let back = gap_back c.args.self.gap in
+    let filled = (goal.at.returns-then-not-fill-clause-finished g c).After-fill in
+    let closed = c.close.ensures in
+    let is = closed.items ∙ ap (λ l. take at l ++ drop (gap_back c.fill.new.self) l) (mid_is g filled) ∙ ap (λ k. take at c.fill.new.slots ++ drop k c.fill.new.slots) c.fill.ensures.back in
+    finishes_closed (fuse_steps g.I.Iterator.next_gives) g.A.Array.CAPACITY (splice_view c.args.self) c.fill.ensures.placed.0 at back c.fill.new.slots
+    (front_is g filled) (back_is g filled) tt (items c.close.new.vec) (rw c.if-not-fill.true at c.fill.ensures.placed.3) is closed.fits
+
+module _ (g : _) (c : goal.After-touches-2 g) where
+  finished : Finishes (fuse_steps g.I.Iterator.next_gives) g.A.Array.CAPACITY (splice_view c.args.self) c.append_in-finished.result (items c.append_in-finished.new.vec)
+  finished =
+      let fill = c.fill.ensures in
+      let more = c.append_in-finished.ensures in
+      let at = gap_front c.fill.new.self in
+      let filled = (goal.at.returns-clause-finished g c).After-fill in
+      let is = more.ran.2 ∙ ap (λ l. take at l ++ more.ran.0 ++ drop at l) (mid_is g filled) in
+      finishes_appended (fuse_steps g.I.Iterator.next_gives) g.A.Array.CAPACITY (splice_view c.args.self) fill.placed.0 at (gap_back c.args.self.gap) c.fill.new.slots
+      (front_is g filled) (back_is g filled) c.fill.new.replacement more.ran.0 c.append_in-finished.result (items c.append_in-finished.new.vec)
+      (rw c.if-not-fill.false at fill.filled).0 (rw c.if-not-fill.false at fill.placed.3) more.ran.1 is more.full more.fits
+
+pub returns-clause-finished : goal.returns-clause-finished
+returns-clause-finished = finished
 
 pub returns-clause-listed : goal.returns-clause-listed
 returns-clause-listed g c = λ rest shows.
     let gives = g.I.Iterator.next_gives in
-    finishes_with (fuse_steps gives) g.A.Array.CAPACITY c.args.self c.fill-finished.new.vec (fused_rest rest) (fused_first gives rest shows) c.fill-finished.result (finished g c)
+    finishes_with (fuse_steps gives) g.A.Array.CAPACITY (splice_view c.args.self) (items c.append_in-finished.new.vec) (fused_rest rest) (fused_first gives rest shows)
+    c.append_in-finished.result (finished g c)
+
+pub returns-then-not-fill-clause-listed : goal.returns-then-not-fill-clause-listed
+returns-then-not-fill-clause-listed g c = λ rest shows.
+    let gives = g.I.Iterator.next_gives in
+    finishes_with (fuse_steps gives) g.A.Array.CAPACITY (splice_view c.args.self) (items c.close.new.vec) (fused_rest rest) (fused_first gives rest shows)
+    (Ok tt) (returns-then-not-fill-clause-finished g c)
+
+pub returns-then-not-fill-clause-slots : goal.returns-then-not-fill-clause-slots
+returns-then-not-fill-clause-slots g c =
+    let filled = (goal.at.returns-then-not-fill-clause-slots g c).After-fill in
+    let old = c.args.self.vec.now in
+    let closed = c.close.ensures in
+    let frees = closed.slots in
+    let len = closed.len in
+    let long = ap length (mid_is g filled) ∙ same g filled in
+    slots_freed g.A.Item.Default.is_default old c.close.new.vec _ (omega (arith, len, long))
+    (frees.0, frees.1, frees.2 ∙ ap (λ l. frees.0 ++ l) (spare-with_items old c.fill.new.slots (same g filled)))
+
+pub returns-clause-slots : goal.returns-clause-slots
+returns-clause-slots g c =
+    let filled = (goal.at.returns-clause-slots g c).After-fill in
+    let old = c.args.self.vec.now in
+    let new = c.append_in-finished.new.vec in
+    let more = c.append_in-finished.ensures in
+    let long : items_len (with_items old c.fill.new.slots) ≡ items_len old = ap length (mid_is g filled) ∙ same g filled in
+    slots_used g.A.Item.Default.is_default old new (items_len new - items_len old) (omega (arith, more.longer, long))
+    (more.spare ∙ ap (λ l. drop (items_len new - items_len (with_items old c.fill.new.slots)) l) (spare-with_items old c.fill.new.slots (same g filled))
+    ∙ ap (λ n. drop (items_len new - n) (spare old)) long)
+
+-- how many touches there were, by how many items were placed
+module _ (g : _) (c : goal.After-drop-replacement g) where
+  bounds : (splice_touches c.args.self + finish_placed (splice_view c.args.self) (items c.close.new.vec) ≤ c.touches.result)
+      × (c.touches.result ≤ splice_touches c.args.self + finish_bound (splice_view c.args.self) (items_len c.args.self.vec.now) (items c.close.new.vec))
+  bounds =
+      let filled = (goal.at.returns-then-not-fill-clause-finished g c).After-fill in
+      let gap = c.args.self.gap in
+      let old = items c.args.self.vec.now in
+      let ready = c.requires.0 in
+      let fill = c.fill.ensures in
+      let closed = c.close.ensures in
+      let ahead = length-take-le gap.front old (omega (arith, ready.0, ready.1, ready.2, ready.3)) in
+      let behind = length-drop gap.back old in
+      let long = ap length (mid_is g filled) ∙ same g filled in (
+        omega (arith, closed.len, ahead, behind, long, ready.3, fill.back, fill.in_order, fill.placed.2, fill.touches, closed.touches, c.touches.ensures),
+        omega (arith, within g filled, closed.len, ahead, behind, long, ready.3, fill.back, fill.in_order, fill.placed.2, fill.touches, closed.touches, c.touches.ensures),
+      )
+
+pub returns-then-not-fill-clause-at_least : goal.returns-then-not-fill-clause-at_least
+returns-then-not-fill-clause-at_least g c = (bounds g c).0
+
+pub returns-then-not-fill-clause-at_most : goal.returns-then-not-fill-clause-at_most
+returns-then-not-fill-clause-at_most g c = (bounds g c).1
+
+module _ (g : _) (c : goal.After-touches-2 g) where
+  bounds_longer : (splice_touches c.args.self + finish_placed (splice_view c.args.self) (items c.append_in-finished.new.vec) ≤ c.touches-2.result)
+      × (c.touches-2.result ≤ splice_touches c.args.self + finish_bound (splice_view c.args.self) (items_len c.args.self.vec.now) (items c.append_in-finished.new.vec))
+  bounds_longer =
+      let filled = (goal.at.returns-clause-finished g c).After-fill in
+      let gap = c.args.self.gap in
+      let old = items c.args.self.vec.now in
+      let ready = c.requires.0 in
+      let fill = c.fill.ensures in
+      let more = c.append_in-finished.ensures in
+      let sum = finished_len (fuse_steps g.I.Iterator.next_gives) g.A.Array.CAPACITY (splice_view c.args.self) (items c.append_in-finished.new.vec) c.append_in-finished.result (finished g c) in
+      let both = length-append fill.placed.0 more.ran.0 in
+      let ahead = length-take-le gap.front old (omega (arith, ready.0, ready.1, ready.2, ready.3)) in
+      let behind = length-drop gap.back old in
+      let long = ap length (mid_is g filled) ∙ same g filled in
+      let full = (rw c.if-not-fill.false at fill.filled).0 in (
+        omega (arith, sum, both, ahead, behind, long, full, ready.3, fill.in_order, fill.placed.2, fill.touches, more.at_least, c.touches-2.ensures),
+        omega (arith, within g filled, sum, both, ahead, behind, long, full, ready.3, fill.in_order, fill.placed.2, fill.touches, more.at_most, c.touches-2.ensures),
+      )
+
+pub returns-clause-at_least : goal.returns-clause-at_least
+returns-clause-at_least g c = (bounds_longer g c).0
+
+pub returns-clause-at_most : goal.returns-clause-at_most
+returns-clause-at_most g c = (bounds_longer g c).1

@@ -1,0 +1,29 @@
+-- A `TinyVec`'s splice along a word of ends.
+use Rattle.std.proofs.Common.{List, Option, refl, ◌∙◌}
+use Rattle.std.specs.declared.iter.Fuse.{Fuse}
+use Rattle.tinyvec_slots.specs.Ends.{End, TakesFromEnds, Asks}
+use Rattle.tinyvec_slots.specs.Fused.{HasTwoEnds}
+use Rattle.tinyvec_slots.specs.Splicing.{SplicedByWord}
+use Rattle.tinyvec_slots.proofs.SplicingLemmas as all
+use Rattle.tinyvec.specs.TinySplice.{splice_view, splice_left, splice_vec, SpliceKeeps, SpliceSteps, SpliceStepsBack}
+use Rattle.tinyvec.proofs.TinyLemmas.{SameFrame-refl, SameFrame-then}
+use Rattle.tinyvec.specs.declared.splice.TinyVecSplice.{TinyVecSplice}
+
+module _ {A I T : Type 0} where
+  keeps_same : (s : TinyVecSplice A (Fuse I) T) → SpliceKeeps s s
+  keeps_same s = (refl, SameFrame-refl (splice_vec s), λ ready. ready)
+
+  keeps_then : (s mid t : TinyVecSplice A (Fuse I) T) → SpliceKeeps s mid → SpliceKeeps mid t → SpliceKeeps s t
+  keeps_then s mid t h k = (k.0 ∙ h.0, SameFrame-then (splice_vec s) (splice_vec mid) (splice_vec t) h.1 k.1, λ ready. k.2 (h.2 ready))
+
+  -- what its calls placed, of a replacement of which `rest` shows what it gives
+  pub Asks-splices : (rest : Fuse I → List T) (gives gives_back : Fuse I → Option T → Fuse I → Type 0) → HasTwoEnds gives gives_back rest
+      → (s : TinyVecSplice A (Fuse I) T) (word : List End) (answers : List (Option T)) (t : TinyVecSplice A (Fuse I) T)
+      → Asks (SpliceSteps gives) (SpliceStepsBack gives_back) s word answers t → SplicedByWord splice_view SpliceKeeps rest s word t
+  Asks-splices rest = all.Asks-splices splice_view SpliceKeeps rest keeps_same keeps_then
+
+  -- and the removed items that they gave
+  pub Asks-takes_removed : (gives gives_back : Fuse I → Option T → Fuse I → Type 0)
+      → (s : TinyVecSplice A (Fuse I) T) (word : List End) (answers : List (Option T)) (t : TinyVecSplice A (Fuse I) T)
+      → Asks (SpliceSteps gives) (SpliceStepsBack gives_back) s word answers t → TakesFromEnds (splice_left s) word answers (splice_left t)
+  Asks-takes_removed = all.Asks-takes_removed splice_view SpliceKeeps

@@ -1,0 +1,150 @@
+use Rattle.std.proofs.Common.{◌≡◌, ◌+◌, ◌-◌, ◌++◌, ◌≤◌, List, take, drop, length, Ok, sym, ap, ◌∙◌, arith, length-append}
+use Rattle.std.proofs.lemmas.List.{length-take-le, length-drop}
+use Rattle.std.specs.Iterator.Adapters.{fuse_steps}
+use Rattle.tinyvec_slots.specs.Fused.{fused_rest}
+use Rattle.tinyvec_slots.specs.Gap.{gap_front, gap_back}
+use Rattle.tinyvec_slots.specs.Splices.{Finishes, finish_placed, finish_bound}
+use Rattle.tinyvec_slots.proofs.Fused.{fused_first}
+use Rattle.tinyvec_slots.proofs.Lists.{length-slice_range}
+use Rattle.tinyvec_slots.proofs.SpliceLemmas.{finishes_with, finished_len, finishes_closed, finishes_appended, filled_within}
+use Rattle.tinyvec.specs.Tiny.{tiny_items, tiny_len, tiny_capacity, is_inline, SameFrame}
+use Rattle.tinyvec.specs.Lends.{tiny_with_items}
+use Rattle.tinyvec.specs.TinySplice.{splice_view, splice_left, splice_touches, items_moved}
+use Rattle.tinyvec.proofs.TinyLemmas.{tiny_items-with, tiny_framed-with, tiny_slots_framed}
+use Rattle.tinyvec.proofs.splice.finishing.TinyVecSplice+A+Fuse+I.finish_counted.Goals.{After-fill}
+use Rattle.tinyvec.proofs.splice.finishing.TinyVecSplice+A+Fuse+I.finish_counted.Goals as goal
+
+-- the gap, as it was filled
+module _ (g : _) (c : After-fill g) where
+  same : length c.fill.new.slots ≡ tiny_len c.args.self.vec.now
+  same = c.fill.ensures.slots ∙ ap length c.as_mut_slice.ensures.value
+
+  mid_is : tiny_items (tiny_with_items c.args.self.vec.now c.fill.new.slots) ≡ c.fill.new.slots
+  mid_is = tiny_items-with c.args.self.vec.now c.fill.new.slots same
+
+  framed : SameFrame c.args.self.vec.now (tiny_with_items c.args.self.vec.now c.fill.new.slots)
+  framed = tiny_framed-with c.args.self.vec.now c.fill.new.slots same
+
+  front_is : take (gap_front c.fill.new.self) c.fill.new.slots ≡ take (gap_front c.args.self.gap) (tiny_items c.args.self.vec.now) ++ c.fill.ensures.placed.0
+  front_is = c.fill.ensures.placed.1 ∙ ap (λ l. take (gap_front c.args.self.gap) l ++ c.fill.ensures.placed.0) c.as_mut_slice.ensures.value
+
+  back_is : drop (gap_back c.args.self.gap) c.fill.new.slots ≡ drop (gap_back c.args.self.gap) (tiny_items c.args.self.vec.now)
+  back_is = c.fill.ensures.behind ∙ ap (drop (gap_back c.args.self.gap)) c.as_mut_slice.ensures.value
+
+  -- no more was placed there than removed items are left
+  within : length c.fill.ensures.placed.0 ≤ length (splice_left c.args.self)
+  within =
+      let fill = c.fill.ensures in
+      let gap = c.args.self.gap in
+      let ready = c.requires.can.0 in
+      let some = filled_within g.I.Iterator.next_gives gap c.args.self.replacement c.fill.new.replacement (tiny_len c.args.self.vec.now) fill.placed.0
+      c.fill.result ready fill.placed.3 (omega (arith, fill.placed.2, fill.in_order)) in
+      omega (arith, some, length-slice_range (tiny_items c.args.self.vec.now) gap.next gap.end ready.1 (omega (arith, ready.2, ready.3)))
+
+-- the replacement ended in the gap
+module _ (g : _) (c : goal.After-drop-replacement g) where
+  abbrev filled : After-fill g
+  filled = (goal.at.returns-then-not-fill-clause-finished g c).After-fill
+
+  closed : Finishes (fuse_steps g.I.Iterator.next_gives) (tiny_capacity g.A.Array.CAPACITY c.close.new.vec) (splice_view c.args.self) (Ok tt) (tiny_items c.close.new.vec)
+  closed =
+      let at = gap_front c.fill.new.self in
+      let is = c.close.ensures.items ∙ ap (λ l. take at l ++ drop (gap_back c.fill.new.self) l) (mid_is g filled)
+      ∙ ap (λ k. take at c.fill.new.slots ++ drop k c.fill.new.slots) c.fill.ensures.back in
+      finishes_closed (fuse_steps g.I.Iterator.next_gives) (tiny_capacity g.A.Array.CAPACITY c.close.new.vec) (splice_view c.args.self) c.fill.ensures.placed.0 at
+      (gap_back c.args.self.gap) c.fill.new.slots (front_is g filled) (back_is g filled) tt (tiny_items c.close.new.vec)
+      (rw c.if-not-fill.true at c.fill.ensures.placed.3) is c.close.ensures.fits
+
+  closed_bounds : (splice_touches c.args.self + finish_placed (splice_view c.args.self) (tiny_items c.close.new.vec) ≤ c.touches.result)
+      × (c.touches.result ≤ splice_touches c.args.self + finish_bound (splice_view c.args.self) (tiny_len c.args.self.vec.now) (tiny_items c.close.new.vec))
+  closed_bounds =
+      let gap = c.args.self.gap in
+      let old = tiny_items c.args.self.vec.now in
+      let ready = c.requires.can.0 in
+      let fill = c.fill.ensures in
+      let closed = c.close.ensures in
+      let ahead = length-take-le gap.front old (omega (arith, ready.0, ready.1, ready.2, ready.3)) in
+      let behind = length-drop gap.back old in
+      let long = ap length (mid_is g filled) ∙ same g filled in (
+        omega (arith, closed.len, ahead, behind, long, ready.3, fill.back, fill.in_order, fill.placed.2, fill.touches, closed.touches, c.touches.ensures),
+        omega (arith, within g filled, closed.len, ahead, behind, long, ready.3, fill.back, fill.in_order, fill.placed.2, fill.touches, closed.touches, c.touches.ensures),
+      )
+
+pub returns-then-not-fill-clause-finished : goal.returns-then-not-fill-clause-finished
+returns-then-not-fill-clause-finished = closed
+
+pub returns-then-not-fill-clause-listed : goal.returns-then-not-fill-clause-listed
+returns-then-not-fill-clause-listed g c = λ rest shows.
+    let gives = g.I.Iterator.next_gives in
+    finishes_with (fuse_steps gives) _ (splice_view c.args.self) (tiny_items c.close.new.vec) (fused_rest rest) (fused_first gives rest shows) (Ok tt) (closed g c)
+
+pub returns-then-not-fill-clause-slots : goal.returns-then-not-fill-clause-slots
+returns-then-not-fill-clause-slots g c =
+    let filled = (goal.at.returns-then-not-fill-clause-slots g c).After-fill in
+    tiny_slots_framed g.A.Item.Default.is_default c.args.self.vec.now _ c.close.new.vec (framed g filled) c.close.ensures.slots
+
+pub returns-then-not-fill-clause-at_least : goal.returns-then-not-fill-clause-at_least
+returns-then-not-fill-clause-at_least g c = (closed_bounds g c).0
+
+-- more was appended
+module _ (g : _) (c : goal.After-touches-2 g) where
+  abbrev filled-2 : After-fill g
+  filled-2 = (goal.at.returns-clause-finished g c).After-fill
+
+  appended : Finishes (fuse_steps g.I.Iterator.next_gives) (tiny_capacity g.A.Array.CAPACITY c.append_in-finished.new.vec) (splice_view c.args.self) c.append_in-finished.result
+      (tiny_items c.append_in-finished.new.vec)
+  appended =
+      let fill = c.fill.ensures in
+      let more = c.append_in-finished.ensures in
+      let at = gap_front c.fill.new.self in
+      let is = more.ran.2 ∙ ap (λ l. take at l ++ more.ran.0 ++ drop at l) (mid_is g filled-2) in
+      finishes_appended (fuse_steps g.I.Iterator.next_gives) (tiny_capacity g.A.Array.CAPACITY c.append_in-finished.new.vec) (splice_view c.args.self) fill.placed.0 at
+      (gap_back c.args.self.gap) c.fill.new.slots (front_is g filled-2) (back_is g filled-2) c.fill.new.replacement more.ran.0 c.append_in-finished.result
+      (tiny_items c.append_in-finished.new.vec) (rw c.if-not-fill.false at fill.filled).0 (rw c.if-not-fill.false at fill.placed.3) more.ran.1 is more.full more.fits
+
+  appended_bounds : (splice_touches c.args.self + finish_placed (splice_view c.args.self) (tiny_items c.append_in-finished.new.vec) ≤ c.touches-2.result)
+      × (c.touches-2.result ≤ splice_touches c.args.self + finish_bound (splice_view c.args.self) (tiny_len c.args.self.vec.now) (tiny_items c.append_in-finished.new.vec)
+      + items_moved g.A.Array.CAPACITY (is_inline c.args.self.vec.now) (is_inline c.append_in-finished.new.vec))
+  appended_bounds =
+      let gap = c.args.self.gap in
+      let old = tiny_items c.args.self.vec.now in
+      let ready = c.requires.can.0 in
+      let fill = c.fill.ensures in
+      let more = c.append_in-finished.ensures in
+      let sum = finished_len (fuse_steps g.I.Iterator.next_gives) _ (splice_view c.args.self) (tiny_items c.append_in-finished.new.vec) c.append_in-finished.result appended in
+      let both = length-append fill.placed.0 more.ran.0 in
+      let ahead = length-take-le gap.front old (omega (arith, ready.0, ready.1, ready.2, ready.3)) in
+      let behind = length-drop gap.back old in
+      let long = ap length (mid_is g filled-2) ∙ same g filled-2 in
+      let place = ap (λ b. items_moved g.A.Array.CAPACITY b (is_inline c.append_in-finished.new.vec)) (framed g filled-2).2 in
+      let full = (rw c.if-not-fill.false at fill.filled).0 in (
+        omega (arith, sum, both, ahead, behind, long, full, ready.3, fill.in_order, fill.placed.2, fill.touches, more.at_least, c.touches-2.ensures),
+        omega (arith, within g filled-2, place, sum, both, ahead, behind, long, full, ready.3, fill.in_order, fill.placed.2, fill.touches, more.at_most, c.touches-2.ensures),
+      )
+
+pub returns-clause-finished : goal.returns-clause-finished
+returns-clause-finished = appended
+
+pub returns-clause-listed : goal.returns-clause-listed
+returns-clause-listed g c = λ rest shows.
+    let gives = g.I.Iterator.next_gives in
+    finishes_with (fuse_steps gives) _ (splice_view c.args.self) (tiny_items c.append_in-finished.new.vec) (fused_rest rest) (fused_first gives rest shows)
+    c.append_in-finished.result (appended g c)
+
+pub returns-clause-slots : goal.returns-clause-slots
+returns-clause-slots g c =
+    let filled = (goal.at.returns-clause-slots g c).After-fill in
+    tiny_slots_framed g.A.Item.Default.is_default c.args.self.vec.now _ c.append_in-finished.new.vec (framed g filled) c.append_in-finished.ensures.slots
+
+pub returns-clause-at_least : goal.returns-clause-at_least
+returns-clause-at_least g c = (appended_bounds g c).0
+
+pub returns-clause-at_most : goal.returns-clause-at_most
+returns-clause-at_most g c = (appended_bounds g c).1
+
+pub returns-clause-succeeds : goal.returns-clause-succeeds
+returns-clause-succeeds g c = λ rest shows within.
+    let listed = returns-clause-listed g c rest shows in
+    let room = c.append_in-finished.ensures.capacity in
+    let same = (framed g (goal.at.returns-clause-succeeds g c).After-fill).3 g.A.Array.CAPACITY in
+    listed.fits.1 (omega (arith, within, room, same))

@@ -1,0 +1,184 @@
+//! The end of a splice.
+ghost use Rattle.std.specs.Prelude.{◌≡◌, ◌+◌, ◌-◌, ◌<◌, ◌≤◌, ◌^◌, ◌++◌, List, Some, length, take, drop, IsOk, OnErr, IfErr, MatchResult};
+ghost use Rattle.std.specs.Iterator.{Drains, YieldsThen, IsFinite};
+ghost use Rattle.std.specs.Iterator.Adapters.{fuse_steps};
+ghost use Rattle.tinyvec_slots.specs.Filling.{ShowsItems};
+ghost use Rattle.tinyvec_slots.specs.Fused.{FusedCan, FusedFinite, fused_rest};
+ghost use Rattle.tinyvec_slots.specs.Gap.{gap_front, gap_back, gap_touches};
+ghost use Rattle.tinyvec_slots.specs.Splices.{finish_placed, finish_bound, Finishes, FinishesWith};
+ghost use Rattle.tinyvec.specs.Tiny.{tiny_items, tiny_len, is_inline, tiny_capacity, PlaceRule, TinySlotRule};
+ghost use Rattle.tinyvec.specs.Room.{KeepsRoom};
+ghost use Rattle.tinyvec.specs.TinySplice.{items_moved};
+
+use crate::{TinyVec, TinyVecSplice};
+use std::iter::Fuse;
+use tinyvec_array::{Array, NoRoom, SpliceRest};
+use tinyvec_slots::Gap;
+
+impl<'a, A: Array, I: Iterator<Item = A::Item>> TinyVecSplice<'a, A, Fuse<I>> {
+    ghost use Rattle.tinyvec.specs.TinySplice.{splice_view, splice_front, splice_back, splice_replacement, splice_vec, splice_touches, SpliceCanNext};
+
+    /// How many slots were touched since `splice`: a touch is one slot read out with the default that it may leave, one
+    /// item placed in a slot, two slots swapped, or one item moved to the heap.
+    pub fn touches(&self) -> u128
+        ensures { result ≡ splice_touches self.now }
+    {
+        self.gap.touches()
+    }
+
+    /// Drops the removed items that are left, and puts what the replacement still gives between what was placed from
+    /// both ends, on the heap where it would overflow the array. Where memory is refused for an item, that item and what
+    /// follows it come back. Its items are pushed one by one, whatever the replacement hints at.
+    pub fn finish(self) -> Result<(), SpliceRest<A::Item, Fuse<I>>>
+        requires can { SpliceCanNext I.can_next self }
+        requires finite { FusedFinite I.remaining (splice_replacement self) }
+        ensures finished { Finishes (fuse_steps I.next_gives) (tiny_capacity A.CAPACITY self.exit.0.now)
+            (splice_view self.entry) result (tiny_items self.exit.0.now) }
+
+        // It refuses none while there is room.
+        ensures place { PlaceRule A.CAPACITY (tiny_len self.exit.0.now) (splice_vec self.entry) self.exit.0.now }
+        ensures slots { TinySlotRule A.Item.is_default (splice_vec self.entry) self.exit.0.now }
+        ensures capacity { tiny_capacity A.CAPACITY (splice_vec self.entry) ≤ tiny_capacity A.CAPACITY self.exit.0.now }
+        ensures same_room { KeepsRoom A.CAPACITY (tiny_len self.exit.0.now) (splice_vec self.entry) self.exit.0.now }
+        ensures no_shorter { OnErr result (tiny_len (splice_vec self.entry) ≤ tiny_len self.exit.0.now) }
+
+        // After an item the replacement may be asked again.
+        ensures goes_on { IfErr result (λ refused. FusedCan I.can_next refused.rest) }
+
+        // The same of a replacement whose items are known. Where there is room for them no memory is asked for.
+        ensures listed { (rest : I → List A.Item) → ShowsItems I.next_gives rest
+            → FinishesWith (fused_rest rest) (tiny_capacity A.CAPACITY self.exit.0.now)
+            (splice_view self.entry) result (tiny_items self.exit.0.now) }
+        ensures succeeds { (rest : I → List A.Item) → ShowsItems I.next_gives rest
+            → length (splice_front self.entry) + length (fused_rest rest (splice_replacement self.entry))
+            + length (splice_back self.entry) ≤ tiny_capacity A.CAPACITY (splice_vec self.entry) → IsOk result }
+    {
+        let (finished, _touches) = self.finish_counted();
+        finished
+    }
+
+    /// Does the same, and tells the touches from `splice` on.
+    pub fn finish_counted(self) -> (Result<(), SpliceRest<A::Item, Fuse<I>>>, u128)
+        requires can { SpliceCanNext I.can_next self }
+        requires finite { FusedFinite I.remaining (splice_replacement self) }
+        ensures at_least { splice_touches self.entry + finish_placed (splice_view self.entry) (tiny_items self.exit.0.now)
+            ≤ result.1 }
+        ensures at_most { result.1 ≤ splice_touches self.entry
+            + finish_bound (splice_view self.entry) (tiny_len (splice_vec self.entry)) (tiny_items self.exit.0.now)
+            + items_moved A.CAPACITY (is_inline (splice_vec self.entry)) (is_inline self.exit.0.now) }
+        ensures finished { Finishes (fuse_steps I.next_gives) (tiny_capacity A.CAPACITY self.exit.0.now)
+            (splice_view self.entry) result.0 (tiny_items self.exit.0.now) }
+        ensures place { PlaceRule A.CAPACITY (tiny_len self.exit.0.now) (splice_vec self.entry) self.exit.0.now }
+        ensures slots { TinySlotRule A.Item.is_default (splice_vec self.entry) self.exit.0.now }
+        ensures capacity { tiny_capacity A.CAPACITY (splice_vec self.entry) ≤ tiny_capacity A.CAPACITY self.exit.0.now }
+        ensures same_room { KeepsRoom A.CAPACITY (tiny_len self.exit.0.now) (splice_vec self.entry) self.exit.0.now }
+        ensures no_shorter { OnErr result.0 (tiny_len (splice_vec self.entry) ≤ tiny_len self.exit.0.now) }
+        ensures goes_on { IfErr result.0 (λ refused. FusedCan I.can_next refused.rest) }
+        ensures listed { (rest : I → List A.Item) → ShowsItems I.next_gives rest
+            → FinishesWith (fused_rest rest) (tiny_capacity A.CAPACITY self.exit.0.now)
+            (splice_view self.entry) result.0 (tiny_items self.exit.0.now) }
+        ensures succeeds { (rest : I → List A.Item) → ShowsItems I.next_gives rest
+            → length (splice_front self.entry) + length (fused_rest rest (splice_replacement self.entry))
+            + length (splice_back self.entry) ≤ tiny_capacity A.CAPACITY (splice_vec self.entry) → IsOk result.0 }
+    {
+        let TinyVecSplice {
+            vec,
+            mut gap,
+            mut replacement,
+            unspent: _,
+        } = self;
+        if !gap.fill(vec.as_mut_slice(), &mut replacement) {
+            close(vec, &mut gap);
+            return (Ok(()), gap.touches());
+        }
+        let finished = append_in(vec, &mut gap, replacement);
+        (finished, gap.touches())
+    }
+}
+
+// Removes what is left of the gap.
+fn close<A: Array>(vec: &mut TinyVec<A>, gap: &mut Gap)
+    requires in_order { gap_front gap.old ≤ gap_back gap.old }
+    requires in_bounds { gap_back gap.old ≤ tiny_len vec.old }
+    requires few { gap_touches gap.old < 2 ^ 80 }
+    ensures items { tiny_items vec.new
+        ≡ take (gap_front gap.old) (tiny_items vec.old) ++ drop (gap_back gap.old) (tiny_items vec.old) }
+    ensures len { tiny_len vec.old ≡ tiny_len vec.new + (gap_back gap.old - gap_front gap.old) }
+    ensures place { is_inline vec.new ≡ is_inline vec.old }
+    ensures slots { TinySlotRule A.Item.is_default vec.old vec.new }
+    ensures capacity { tiny_capacity A.CAPACITY vec.new ≡ tiny_capacity A.CAPACITY vec.old }
+    ensures fits { tiny_len vec.new ≤ tiny_capacity A.CAPACITY vec.new }
+    ensures touches { gap_touches gap.new ≡ gap_touches gap.old + (tiny_len vec.old - gap_front gap.old) }
+{
+    let keep = gap.close(vec.as_mut_slice());
+    vec.truncate(keep);
+}
+
+// Appends what `replacement` gives, and brings it to where the gap was. Where memory is refused for an item, that item and
+// what follows it come back.
+fn append_in<A: Array, I: Iterator<Item = A::Item>>(
+    vec: &mut TinyVec<A>,
+    gap: &mut Gap,
+    replacement: I,
+) -> Result<(), SpliceRest<A::Item, I>>
+    requires in_bounds { gap_front gap.old ≤ tiny_len vec.old }
+    requires few { gap_touches gap.old < 2 ^ 70 }
+    requires can { I.can_next replacement }
+    requires finite { IsFinite (I.remaining replacement) }
+    ensures ran { (placed : List A.Item) × MatchResult result (λ _. Drains I.next_gives replacement placed)
+        (λ refused. YieldsThen I.next_gives replacement placed (Some refused.item) refused.rest)
+        × (tiny_items vec.new ≡ take (gap_front gap.old) (tiny_items vec.old) ++ placed
+        ++ drop (gap_front gap.old) (tiny_items vec.old)) }
+    ensures full { OnErr result (tiny_len vec.new ≡ tiny_capacity A.CAPACITY vec.new) }
+    ensures longer { tiny_len vec.old ≤ tiny_len vec.new }
+    ensures place { PlaceRule A.CAPACITY (tiny_len vec.new) vec.old vec.new }
+    ensures slots { TinySlotRule A.Item.is_default vec.old vec.new }
+    ensures capacity { tiny_capacity A.CAPACITY vec.old ≤ tiny_capacity A.CAPACITY vec.new }
+    ensures same_room { KeepsRoom A.CAPACITY (tiny_len vec.new) vec.old vec.new }
+    ensures fits { tiny_len vec.new ≤ tiny_capacity A.CAPACITY vec.new }
+    ensures goes_on { IfErr result (λ refused. I.can_next refused.rest) }
+    ensures at_least { gap_touches gap.old + (tiny_len vec.new - tiny_len vec.old) ≤ gap_touches gap.new }
+    ensures at_most { gap_touches gap.new ≤ gap_touches gap.old + (tiny_len vec.new - tiny_len vec.old)
+        + (tiny_len vec.new - gap_front gap.old) + items_moved A.CAPACITY (is_inline vec.old) (is_inline vec.new) }
+{
+    let end = vec.len();
+    let was_inline = vec.is_inline();
+    let appended = append(vec, replacement);
+    gap.bring_in(vec.as_mut_slice(), end);
+    count_move::<A>(gap, was_inline, vec.is_inline());
+    appended
+}
+
+// Appends what `replacement` gives.
+fn append<A: Array, I: Iterator<Item = A::Item>>(
+    vec: &mut TinyVec<A>,
+    replacement: I,
+) -> Result<(), SpliceRest<A::Item, I>>
+    requires can { I.can_next replacement }
+    requires finite { IsFinite (I.remaining replacement) }
+    ensures ran { (placed : List A.Item) × MatchResult result (λ _. Drains I.next_gives replacement placed)
+        (λ refused. YieldsThen I.next_gives replacement placed (Some refused.item) refused.rest)
+        × (tiny_items vec.new ≡ tiny_items vec.old ++ placed) }
+    ensures full { OnErr result (tiny_len vec.new ≡ tiny_capacity A.CAPACITY vec.new) }
+    ensures place { PlaceRule A.CAPACITY (tiny_len vec.new) vec.old vec.new }
+    ensures slots { TinySlotRule A.Item.is_default vec.old vec.new }
+    ensures capacity { tiny_capacity A.CAPACITY vec.old ≤ tiny_capacity A.CAPACITY vec.new }
+    ensures same_room { KeepsRoom A.CAPACITY (tiny_len vec.new) vec.old vec.new }
+    ensures fits { tiny_len vec.new ≤ tiny_capacity A.CAPACITY vec.new }
+    ensures goes_on { IfErr result (λ refused. I.can_next refused.rest) }
+{
+    match vec.extend(replacement) {
+        Ok(()) => Ok(()),
+        Err(NoRoom { item, rest }) => Err(SpliceRest { item, rest }),
+    }
+}
+
+// Counts the items of an array that moved to the heap.
+fn count_move<A: Array>(gap: &mut Gap, was_inline: bool, is_inline: bool)
+    requires { gap_touches gap.old < 2 ^ 100 }
+    ensures { gap_touches gap.new ≡ gap_touches gap.old + items_moved A.CAPACITY was_inline is_inline }
+{
+    if was_inline && !is_inline {
+        gap.count_moved(A::CAPACITY);
+    }
+}

@@ -1,6 +1,0 @@
--- How often slots were reached.
-use Rattle.std.specs.Prelude.{ℕ}
-use Rattle.tinyvec_array.specs.declared.touches.Touches.{Touches}
-
-abbrev pub touch_count : Touches → ℕ
-touch_count t = t.count

@@ -1,0 +1,78 @@
+//! Callers of a splice of a `TinyVec`.
+ghost use Rattle.std.specs.Prelude.{◌≡◌, ◌≤◌, ◌+◌, ◌-◌, ◌++◌, ◌∷◌, [], List, pos, Some, length, take, drop, IsTrue, IsOk, OnOk, OnErr, IfErr};
+ghost use Rattle.std.specs.Iterator.{IsFinite};
+ghost use Rattle.std.specs.Iterator.Adapters.{fuse_steps};
+ghost use Rattle.tinyvec.specs.Ends.{front, back, Asks};
+ghost use Rattle.tinyvec.specs.Fused.{fused_rest, FusedFinite, HasTwoEnds};
+ghost use Rattle.tinyvec.specs.Splicing.{IsSpliceRefused, SplicedByWord};
+ghost use Rattle.tinyvec.specs.Tiny.{tiny_items, tiny_len, tiny_capacity, IsInline, PlaceRule, TinySlotRule};
+ghost use Rattle.tinyvec.specs.TinySplice.{splice_view, splice_replacement, SpliceKeeps, SpliceCanStep, SpliceSteps, SpliceStepsBack};
+
+use crate::tiny_vec::three;
+use std::alloc::Global;
+use std::iter::Fuse;
+use tinyvec::{Array, SpliceRest, TinyVec, TinyVecSplice};
+
+/// A replacement that fits the array: it is all there, the list stays inline, and no memory can be refused.
+pub fn replaced_inline(alloc: Global) -> (Option<i32>, bool, TinyVec<[i32; 4]>)
+    ensures first { result.0 ≡ Some (pos 2) }
+    ensures all_fit { IsTrue result.1 }
+    ensures items { tiny_items result.2 ≡ pos 1 ∷ pos 7 ∷ pos 8 ∷ pos 3 ∷ [] }
+    ensures place { IsInline result.2 }
+{
+    let mut v = three(alloc);
+    let mut splice = v.splice(1..2, [7, 8]);
+    let first = splice.next();
+    let finished = splice.finish();
+    (first, finished.is_ok(), v)
+}
+
+/// One item from each end of any splice, whose replacement may be any iterator with two ends.
+pub fn one_from_each_end<A: Array, I: DoubleEndedIterator<Item = A::Item>>(
+    splice: &mut TinyVecSplice<'_, A, Fuse<I>>,
+) -> (Option<A::Item>, Option<A::Item>)
+    requires ready { SpliceCanStep splice.old }
+    requires can { (s : I) → I.can_next s × I.can_next_back s }
+    ensures asked { Asks (SpliceSteps (fuse_steps I.next_gives)) (SpliceStepsBack (fuse_steps I.next_back_gives))
+        splice.old (front ∷ back ∷ []) (result.0 ∷ result.1 ∷ []) splice.new }
+    ensures spliced { (rest : I → List A.Item) → HasTwoEnds I.next_gives I.next_back_gives rest
+        → SplicedByWord splice_view SpliceKeeps (fused_rest rest) splice.old (front ∷ back ∷ []) splice.new }
+    ensures kept { SpliceKeeps splice.old splice.new }
+    ensures ready { SpliceCanStep splice.new }
+    ensures finite { FusedFinite I.remaining (splice_replacement splice.old)
+        → FusedFinite I.remaining (splice_replacement splice.new) }
+{
+    let first = splice.next();
+    let last = splice.next_back();
+    (first, last)
+}
+
+/// Replaces a range of any vector by any replacement with two ends that ends, of which one item is taken from each end.
+pub fn replace<A: Array, I: DoubleEndedIterator<Item = A::Item>>(
+    vec: &mut TinyVec<A>,
+    start: usize,
+    end: usize,
+    replacement: I,
+) -> Result<(), SpliceRest<A::Item, Fuse<I>>>
+    requires start_le_end { start ≤ end }
+    requires in_bounds { end ≤ tiny_len vec.old }
+    requires can { (s : I) → I.can_next s × I.can_next_back s }
+    requires finite { IsFinite (I.remaining replacement) }
+    ensures list { (rest : I → List A.Item) → HasTwoEnds I.next_gives I.next_back_gives rest
+        → OnOk result
+        (tiny_items vec.new ≡ take start (tiny_items vec.old) ++ rest replacement ++ drop end (tiny_items vec.old))
+        × IfErr result
+        (λ refused. IsSpliceRefused (front ∷ back ∷ []) (end - start) (take start (tiny_items vec.old))
+        (drop end (tiny_items vec.old)) (rest replacement) (tiny_items vec.new)
+        (refused.item ∷ fused_rest rest refused.rest)) }
+    ensures succeeds { (rest : I → List A.Item) → HasTwoEnds I.next_gives I.next_back_gives rest
+        → start + length (rest replacement) + (tiny_len vec.old - end) ≤ tiny_capacity A.CAPACITY vec.old
+        → IsOk result }
+    ensures full { OnErr result (tiny_len vec.new ≡ tiny_capacity A.CAPACITY vec.new) }
+    ensures place { PlaceRule A.CAPACITY (tiny_len vec.new) vec.old vec.new }
+    ensures slots { TinySlotRule A.Item.is_default vec.old vec.new }
+{
+    let mut splice = vec.splice(start..end, replacement);
+    let _ends = one_from_each_end(&mut splice);
+    splice.finish()
+}

@@ -1,0 +1,151 @@
+-- Lemmas on items that change their places by swaps.
+use Rattle.std.proofs.Common.{◌≡◌, ◌≢◌, ℕ, ◌+◌, ◌-◌, ◌<◌, ◌≤◌, List, [], ◌∷◌, ◌++◌, length, get_or, take, drop, slice_range, inl, inr, refl, sym, ap, ◌∙◌, arith, rules, append_assoc, append-nil, length-append, length-drop, take-append-drop, take_at}
+use Rattle.std.specs.List.{SwappedAt}
+use Rattle.std.proofs.lemmas.Bool.{cases_eq}
+use Rattle.std.proofs.lemmas.List.{same_lists, places, get_or_default, get_or-drop, drop_more, drop-drop, drop_at, drop_all, take_all, take-append-le, drop-append-le}
+
+-- where the items at i and j stand in each other's place
+module _ {X : Type 0} (xs ys : List X) (i j : ℕ) (le : i ≤ j) (within : j < length xs) (long : length ys ≡ length xs) (is : SwappedAt xs ys i j) (d : X) where
+  -- up to i
+  pub take-swapped : take (i + 1) ys ≡ take i xs ++ get_or xs j d ∷ []
+  take-swapped =
+      same_lists _ _ (grind (arith, places, long)) (λ k e h. grind (arith, places, cases_eq k i, is.0 e, is.2 k e, get_or_default xs j d e))
+
+  -- behind j
+  pub drop-swapped : drop (j + 1) ys ≡ drop (j + 1) xs
+  drop-swapped = same_lists _ _ (grind (arith, places, long)) (λ k e h. grind (arith, places, is.2 (j + 1 + k) e))
+
+  -- from a place between them up to j
+  pub slice_range-swapped : (m : ℕ) → i < m → m ≤ j → slice_range ys m (j + 1) ≡ slice_range xs m j ++ get_or xs i d ∷ []
+  slice_range-swapped m above below =
+      same_lists _ _ (grind (arith, places, long)) (λ k e h. grind (arith, places, cases_eq (m + k) j, is.1 e, is.2 (m + k) e, get_or_default xs i d e))
+
+  -- and up to that place
+  pub slice_range-between : (m : ℕ) → i < m → m ≤ j → slice_range ys (i + 1) m ≡ slice_range xs (i + 1) m
+  slice_range-between m above below = same_lists _ _ (grind (arith, places, long)) (λ k e h. grind (arith, places, is.2 (i + 1 + k) e))
+
+-- what three parts of a list are to be turned into: what stands from next on first, what stands from first on last
+abbrev pub turned : {X : Type 0} → List X → ℕ → ℕ → ℕ → List X
+turned xs first middle next = take first xs ++ drop next xs ++ slice_range xs middle next ++ slice_range xs first middle
+
+-- one swap brings an item of the last part into its place
+module _ {X : Type 0} (xs ys : List X) (first middle next : ℕ) (some : first < middle) (behind : middle ≤ next)
+    (within : next < length xs) (long : length ys ≡ length xs) (is : SwappedAt xs ys first next) (d : X) where
+  pub turned_more : turned ys (first + 1) middle (next + 1) ≡ turned xs first middle next
+  turned_more =
+      let p = get_or xs first d in
+      let r = get_or xs next d in
+      let left : take (first + 1) ys ≡ take first xs ++ r ∷ [] = take-swapped xs ys first next (omega arith) within long is d in
+      let right : drop (next + 1) ys ≡ drop (next + 1) xs = drop-swapped xs ys first next (omega arith) within long is d in
+      let mid : slice_range ys middle (next + 1) ≡ slice_range xs middle next ++ p ∷ [] = slice_range-swapped xs ys first next (omega arith) within long is d middle some behind in
+      let rest : slice_range ys (first + 1) middle ≡ slice_range xs (first + 1) middle = slice_range-between xs ys first next (omega arith) within long is d middle some behind in
+      let from_next : drop next xs ≡ r ∷ drop (next + 1) xs = drop_more xs next d within in
+      let from_first : slice_range xs first middle ≡ p ∷ slice_range xs (first + 1) middle = slice_range-first xs first middle d some (omega arith) in
+      let A = take first xs in
+      let R = drop (next + 1) xs in
+      let Q = slice_range xs middle next in
+      let P = slice_range xs (first + 1) middle in
+      rw (left, right, mid, rest, from_next, from_first, append_assoc A (r ∷ []) R, append_assoc (A ++ (r ∷ R)) (Q ++ p ∷ []) P, append_assoc Q (p ∷ []) P, append_assoc (A ++ (r ∷ R)) Q (p ∷ P)) refl
+    where
+      slice_range-first : (xs : List X) (i j : ℕ) (d : X) → i < j → j ≤ length xs → slice_range xs i j ≡ get_or xs i d ∷ slice_range xs (i + 1) j
+      slice_range-first xs i j d lt le = same_lists _ _ (grind (arith, places)) (λ k e h. grind (arith, places, cases_eq k 0, get_or_default xs i d e))
+
+-- the same where no value is at hand
+pub turned_step : {X : Type 0} (xs ys : List X) (first middle next : ℕ) → first < middle → middle ≤ next → next < length xs
+    → length ys ≡ length xs → SwappedAt xs ys first next → turned ys (first + 1) middle (next + 1) ≡ turned xs first middle next
+turned_step [] ys first middle next some behind within long is = absurd (omega arith)
+turned_step (x ∷ xs) ys first middle next some behind within long is = turned_more (x ∷ xs) ys first middle next some behind within long is x
+
+-- a part that ran out gives way to the next one
+module _ {X : Type 0} (xs : List X) where
+  none : (i : ℕ) → slice_range xs i i ≡ []
+  none i = search (rules, places)
+
+  pub turned_last : (m n : ℕ) → turned xs m m n ≡ turned xs m n n
+  turned_last m n =
+      ap (λ l. take m xs ++ drop n xs ++ slice_range xs m n ++ l) (none m) ∙ append-nil _
+      ∙ ap (λ l. l ++ slice_range xs m n) (sym (append-nil (take m xs ++ drop n xs)))
+      ∙ ap (λ l. take m xs ++ drop n xs ++ l ++ slice_range xs m n) (sym (none n))
+
+  pub turned_first : (f m n : ℕ) → m ≤ n → n ≡ length xs → turned xs f m n ≡ turned xs f m m
+  turned_first f m n behind all =
+      let gone : drop n xs ≡ [] = drop_all n xs (omega arith) in
+      let whole : slice_range xs m n ≡ drop m xs = take_all (n - m) (drop m xs) (omega (arith, length-drop m xs)) in
+      ap (λ l. take f xs ++ l ++ slice_range xs m n ++ slice_range xs f m) gone
+      ∙ ap (λ l. l ++ slice_range xs m n ++ slice_range xs f m) (append-nil (take f xs))
+      ∙ ap (λ l. take f xs ++ l ++ slice_range xs f m) whole
+      ∙ ap (λ l. l ++ slice_range xs f m) (sym (append-nil (take f xs ++ drop m xs)))
+      ∙ ap (λ l. take f xs ++ drop m xs ++ l ++ slice_range xs f m) (sym (none m))
+
+  -- nothing is left to turn
+  pub turned_all : (f n : ℕ) → turned xs f n n ≡ take f xs ++ drop n xs ++ slice_range xs f n
+  turned_all f n = ap (λ l. take f xs ++ drop n xs ++ l ++ slice_range xs f n) (none n) ∙ ap (λ l. l ++ slice_range xs f n) (append-nil (take f xs ++ drop n xs))
+
+-- where the parts begin once a part that ran out gave way
+module _ {X : Type 0} (xs : List X) (f m n a b : ℕ) (le : f ≤ m) (behind : m ≤ n) (within : n ≤ length xs)
+    (last : f ≡ m → (a ≡ n) × (b ≡ n)) (first : f ≢ m → n ≡ length xs → (a ≡ m) × (b ≡ m))
+    (neither : f ≢ m → n ≢ length xs → (a ≡ m) × (b ≡ n)) where
+  pub turned_after : turned xs f a b ≡ turned xs f m n
+  turned_after =
+      elim (cases_eq f m) [
+        | inl same ↦
+            ap (λ k. turned xs f k b) (last same).0 ∙ ap (turned xs f n) (last same).1 ∙ ap (λ k. turned xs k n n) same
+            ∙ sym (turned_last xs m n) ∙ ap (λ k. turned xs k m n) (sym same)
+        | inr other ↦ elim (cases_eq n (length xs)) [
+          | inl all ↦
+              let is = first other all in
+              ap (λ k. turned xs f k b) is.0 ∙ ap (turned xs f m) is.1 ∙ sym (turned_first xs f m n behind all)
+          | inr more ↦
+              let is = neither other more in
+              ap (λ k. turned xs f k b) is.0 ∙ ap (turned xs f m) is.1
+        ]
+      ]
+
+  pub borders_after : (f ≤ a) × (a ≤ b) × (b ≤ length xs) × (f ≡ a → b ≡ a) × (b ≡ length xs → b ≡ a)
+  borders_after =
+      elim (cases_eq f m) [
+        | inl same ↦ (let is = last same in (omega (arith, is.0), omega (arith, is.0, is.1), omega (arith, is.1), λ e. is.1 ∙ sym is.0, λ e. is.1 ∙ sym is.0))
+        | inr other ↦ elim (cases_eq n (length xs)) [
+          | inl all ↦ (let is = first other all in (omega (arith, is.0), omega (arith, is.0, is.1), omega (arith, is.1), λ e. is.1 ∙ sym is.0, λ e. is.1 ∙ sym is.0))
+          | inr more ↦ (let is = neither other more in (omega (arith, is.0), omega (arith, is.0, is.1), omega (arith, is.1), λ e. absurd (other (e ∙ is.0)), λ e. absurd (more (sym is.1 ∙ e))))
+        ]
+      ]
+
+-- one more item behind a gap is moved down over it
+module _ {X : Type 0} (first xs ys : List X) (i j : ℕ) (le : i ≤ j) (within : j < length xs) (same : length xs ≡ length first) (long : length ys ≡ length xs) where
+  pub closed_more : (at back : ℕ) → back ≤ j → SwappedAt xs ys i j → drop j xs ≡ drop j first
+      → take i xs ≡ take at first ++ slice_range first back j
+      → (take (i + 1) ys ≡ take at first ++ slice_range first back (j + 1)) × (drop (j + 1) ys ≡ drop (j + 1) first)
+  closed_more at back above is rest kept = closed first refl
+    where
+      closed : (l : List X) → l ≡ first → (take (i + 1) ys ≡ take at first ++ slice_range first back (j + 1)) × (drop (j + 1) ys ≡ drop (j + 1) first)
+      closed [] e = absurd (omega (arith, ap length e))
+      closed (d ∷ l) e =
+          let zero : j + 0 ≡ j = omega arith in
+          let head : (zs : List X) → get_or (drop j zs) 0 d ≡ get_or zs j d = λ zs. get_or-drop j zs 0 d ∙ ap (λ k. get_or zs k d) zero in
+          let item : get_or xs j d ≡ get_or first j d = sym (head xs) ∙ ap (λ zs. get_or zs 0 d) rest ∙ head first in
+          let more : slice_range first back (j + 1) ≡ slice_range first back j ++ get_or first j d ∷ [] =
+          same_lists _ _ (grind (arith, places, same)) (λ k e h. grind (arith, places, same, cases_eq (back + k) j, get_or_default first j d e)) in (
+            take-swapped xs ys i j le within long is d ∙ ap (λ y. take i xs ++ y ∷ []) item ∙ ap (λ zs. zs ++ get_or first j d ∷ []) kept
+                ∙ append_assoc (take at first) (slice_range first back j) (get_or first j d ∷ []) ∙ ap (λ zs. take at first ++ zs) (sym more),
+            drop-swapped xs ys i j le within long is d ∙ sym (drop-drop 1 j xs) ∙ ap (drop 1) rest ∙ drop-drop 1 j first,
+          )
+
+-- what was appended to a list is turned in at a place
+module _ {X : Type 0} (xs ys : List X) (at : ℕ) (le : at ≤ length xs) where
+  pub turned_in : take at (xs ++ ys) ++ drop (length xs) (xs ++ ys) ++ slice_range (xs ++ ys) at (length xs) ≡ take at xs ++ ys ++ drop at xs
+  turned_in =
+      let count : length (drop at xs) ≡ length xs - at = length-drop at xs in
+      rw (take-append-le at xs ys le, drop_at xs ys (length xs) refl, drop-append-le at xs ys le, take_at (drop at xs) ys (length xs - at) count) refl
+
+  pub length-turned_in : length (take at xs ++ ys ++ drop at xs) ≡ length xs + length ys
+  length-turned_in =
+      let whole = length-append (take at xs) (drop at xs) in
+      let all = ap length (take-append-drop at xs) in
+      length-append (take at xs ++ ys) (drop at xs) ∙ ap (λ n. n + length (drop at xs)) (length-append (take at xs) ys) ∙ omega (arith, whole, all)
+
+-- what was appended to xs stands at a place of them once it was turned in there
+pub brought_in : {X : Type 0} (xs ys long new : List X) (at : ℕ) → at ≤ length xs → long ≡ xs ++ ys
+    → new ≡ take at long ++ drop (length xs) long ++ slice_range long at (length xs) → new ≡ take at xs ++ ys ++ drop at xs
+brought_in xs ys long new at le grown is =
+    is ∙ ap (λ l. take at l ++ drop (length xs) l ++ slice_range l at (length xs)) grown ∙ turned_in xs ys at le

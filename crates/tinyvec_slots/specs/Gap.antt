@@ -1,0 +1,44 @@
+-- What a contract sees of a `Gap`, with the replacement of its splice and the slots that it lies in.
+use Rattle.std.specs.Prelude.{◌≡◌, ℕ, ◌+◌, ◌*◌, ◌-◌, ◌≤◌, ◌^◌, false, Bool, List, take, drop, slice_range}
+use Rattle.tinyvec_slots.specs.Splices.{SpliceView}
+use Rattle.tinyvec_slots.specs.Touches.{touch_count}
+use Rattle.tinyvec_slots.specs.declared.gap.Gap.{Gap}
+
+-- what was placed from the front ends here, and what was placed from the back begins there
+abbrev pub gap_front : Gap → ℕ
+gap_front g = g.front
+
+abbrev pub gap_back : Gap → ℕ
+gap_back g = g.back
+
+-- how many removed items are left
+abbrev pub gap_len : Gap → ℕ
+gap_len g = g.end - g.next
+
+-- how many slots were touched
+abbrev pub gap_touches : Gap → ℕ
+gap_touches g = touch_count g.touches
+
+-- what a splice shows of itself, whose list these slots are
+abbrev pub gap_view : {I T : Type 0} → Gap → I → List T → SpliceView I T
+gap_view g replacement xs = record {
+  front = take g.front xs;
+  left = slice_range xs g.next g.end;
+  back = drop g.back xs;
+  replacement = replacement;
+  touches = gap_touches g;
+}
+
+-- all items of the range are left
+abbrev pub GapOpens : ℕ → ℕ → Gap → Type 0
+GapOpens start end g = (g.front ≡ start) × (g.next ≡ start) × (g.end ≡ end) × (g.back ≡ end) × (gap_touches g ≡ 0)
+
+-- the gap lies in so many slots, and its touches can be counted on
+abbrev pub GapLies : Gap → ℕ → Type 0
+GapLies g len = (g.front ≤ g.back) × (g.back ≤ len) × (gap_touches g ≤ 2 ^ 66)
+
+-- the removed items that are left lie in it, there is no slot besides before the replacement has ended, and the touches
+-- can be counted on
+abbrev pub GapCanStep : Gap → Bool → ℕ → Type 0
+GapCanStep g ended len = (g.front ≤ g.next) × (g.next ≤ g.end) × (g.end ≤ g.back) × (g.back ≤ len)
+    × (ended ≡ false → (g.front ≡ g.next) × (g.end ≡ g.back)) × (gap_touches g + 2 * gap_len g ≤ 2 ^ 66)

@@ -1,0 +1,78 @@
+-- What all splices do: a splice shows a view of itself, and `keeps` says what its calls leave as it was.
+use Rattle.std.specs.Prelude.{◌≡◌, ℕ, ◌+◌, ◌-◌, ◌≤◌, List, [], ◌∷◌, ◌++◌, length, Option, Some, MatchOption, Result, MatchResult, max, IsOk, OnOk, OnErr, IfErr, ◌↔◌}
+use Rattle.std.specs.Option.{option_to_list}
+use Rattle.std.specs.Iterator.{Drains, YieldsThen}
+use Rattle.tinyvec_slots.specs.declared.no_room.SpliceRest.{SpliceRest}
+
+-- what a contract sees of a splice
+pub record SpliceView (I T : Type 0) : Type 0 where
+  -- what stood before the range, and the replacement items placed from the front
+  pub front : List T
+  -- the removed items that are left
+  pub left : List T
+  -- the replacement items placed from the back, and what stood after the range
+  pub back : List T
+  -- the replacement, as far as it was not asked
+  pub replacement : I
+  -- how many slots were touched since `splice`
+  pub touches : ℕ
+
+module _ {I T : Type 0} (gives : I → Option T → I → Type 0) where
+  -- x was given, the first removed item that was left. The replacement was asked for one item, which stands in front now.
+  pub record GivesFromFront (old : SpliceView I T) (x : T) (new : SpliceView I T) : Type 0 where
+    pub left : old.left ≡ x ∷ new.left
+    pub placed : Option T
+    pub asked : gives old.replacement placed new.replacement
+    pub front : new.front ≡ old.front ++ option_to_list placed
+    pub back : new.back ≡ old.back
+    pub touches : new.touches ≡ old.touches + 1 + length (option_to_list placed)
+
+  -- the same from the back
+  pub record GivesFromBack (old : SpliceView I T) (x : T) (new : SpliceView I T) : Type 0 where
+    pub left : old.left ≡ new.left ++ x ∷ []
+    pub placed : Option T
+    pub asked : gives old.replacement placed new.replacement
+    pub front : new.front ≡ old.front
+    pub back : new.back ≡ option_to_list placed ++ old.back
+    pub touches : new.touches ≡ old.touches + 1 + length (option_to_list placed)
+
+module _ {S I T : Type 0} (view : S → SpliceView I T) (keeps : S → S → Type 0) (gives : I → Option T → I → Type 0) where
+  -- `next` took old to new
+  abbrev pub Splices : S → Option T → S → Type 0
+  Splices old item new = MatchOption item (((view old).left ≡ []) × (new ≡ old))
+      (λ x. GivesFromFront gives (view old) x (view new) × keeps old new)
+
+  -- `next_back` took old to new
+  abbrev pub SplicesBack : S → Option T → S → Type 0
+  SplicesBack old item new = MatchOption item (((view old).left ≡ []) × (new ≡ old))
+      (λ x. GivesFromBack gives (view old) x (view new) × keeps old new)
+
+-- how a splice ended, which left a list
+module _ {I T : Type 0} where
+  -- how many items of the replacement `finish` placed
+  abbrev pub finish_placed : SpliceView I T → List T → ℕ
+  finish_placed s list = length list - (length s.front + length s.back)
+
+  -- how many touches `finish` may need for the removed items that are left, for those that it places and for moving,
+  -- where so many slots held the list
+  abbrev pub finish_bound : SpliceView I T → ℕ → List T → ℕ
+  finish_bound s slots list = length s.left + finish_placed s list + max slots (length list)
+
+module _ {I T : Type 0} (gives : I → Option T → I → Type 0) (capacity : ℕ) where
+  -- `finish` of s was answered with result. It placed what the replacement still gave, as far as there was room, between
+  -- what stood in front and what stood at the back.
+  pub record Finishes (s : SpliceView I T) (result : Result Unit (SpliceRest T I)) (list : List T) : Type 0 where
+    pub placed : List T
+    pub ran : MatchResult result (λ _. Drains gives s.replacement placed)
+        (λ refused. YieldsThen gives s.replacement placed (Some refused.item) refused.rest)
+    pub list_is : list ≡ s.front ++ placed ++ s.back
+    pub full : OnErr result (length list ≡ capacity)
+    pub fits : length list ≤ capacity
+
+-- the same of a replacement of which it is known what it still gives: it all went in, or did not fit
+module _ {I T : Type 0} (rest : I → List T) (capacity : ℕ) where
+  pub record FinishesWith (s : SpliceView I T) (result : Result Unit (SpliceRest T I)) (list : List T) : Type 0 where
+    pub fits : IsOk result ↔ (length s.front + length (rest s.replacement) + length s.back ≤ capacity)
+    pub all : OnOk result (list ≡ s.front ++ rest s.replacement ++ s.back)
+    pub refused : IfErr result (λ refused. (placed : List T) × (rest s.replacement ≡ placed ++ refused.item ∷ rest refused.rest)
+        × (list ≡ s.front ++ placed ++ s.back) × (length list ≡ capacity))

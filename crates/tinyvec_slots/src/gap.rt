@@ -1,0 +1,120 @@
+//! The gap that a splice moves through a list.
+ghost use Rattle.std.specs.Prelude.{◌≡◌, ◌+◌, ◌<◌, ◌==◌, length};
+ghost use Rattle.std.specs.Iterator.Adapters.{fuse_done, fuse_steps};
+ghost use Rattle.tinyvec_slots.specs.Fused.{FusedCan, FusedFinite};
+ghost use Rattle.tinyvec_slots.specs.Gap.{gap_len, gap_touches, gap_view, GapOpens, GapCanStep};
+ghost use Rattle.tinyvec_slots.specs.Splices.{GivesFromFront, GivesFromBack};
+
+mod closing;
+
+use crate::touches::Touches;
+use std::iter::Fuse;
+
+/// Where a splice stands in the slots of a list, and how often it touched them: a touch is one slot read out with the
+/// default that it may leave, one item placed in a slot, or two slots swapped.
+#[derive(Drop)]
+pub struct Gap {
+    // What stays or was placed from the front ends at `front`, and what was placed from the back or stays begins at `back`.
+    front: usize,
+    // The removed items that are left.
+    next: usize,
+    end: usize,
+    back: usize,
+    touches: Touches,
+}
+
+impl Gap {
+    /// The items from `start` up to `end` are left.
+    pub fn new(start: usize, end: usize) -> Self
+        ensures { GapOpens start end result }
+    {
+        Gap {
+            front: start,
+            next: start,
+            end,
+            back: end,
+            touches: Touches::new(),
+        }
+    }
+
+    /// How many removed items are left.
+    pub fn len(&self) -> usize
+        ensures { result ≡ gap_len self.now }
+    {
+        self.end.saturating_sub(self.next)
+    }
+
+    /// Whether no removed item is left.
+    pub fn is_empty(&self) -> bool
+        ensures { result ≡ (gap_len self.now == 0) }
+    {
+        self.len() == 0
+    }
+
+    /// How many slots were touched.
+    pub fn touches(&self) -> u128
+        ensures { result ≡ gap_touches self.now }
+    {
+        self.touches.count()
+    }
+
+    /// Takes the first removed item that is left. What `replacement` gives next stands there then.
+    pub fn take_first<I: Iterator>(
+        &mut self,
+        slots: &mut [I::Item],
+        replacement: &mut Fuse<I>,
+    ) -> I::Item
+    where
+        I::Item: Default,
+        requires left { 0 < gap_len self.old }
+        requires ready { GapCanStep self.old (fuse_done replacement.old) (length slots.old) }
+        requires can { FusedCan I.can_next replacement.old }
+        ensures gives { GivesFromFront (fuse_steps I.next_gives)
+            (gap_view self.old replacement.old slots.old) result (gap_view self.new replacement.new slots.new) }
+        ensures ready { GapCanStep self.new (fuse_done replacement.new) (length slots.new) }
+        ensures can { FusedCan I.can_next replacement.new }
+        ensures finite { FusedFinite I.remaining replacement.old → FusedFinite I.remaining replacement.new }
+        ensures slots { length slots.new ≡ length slots.old }
+        ensures fewer { gap_len self.old ≡ gap_len self.new + 1 }
+    {
+        let at = self.next;
+        self.next = at + 1;
+        match replacement.next() {
+            Some(new) => {
+                self.front = at + 1;
+                self.touches.replace(slots, at, new)
+            }
+            None => self.touches.take(slots, at),
+        }
+    }
+
+    /// Takes the last removed item that is left. What `replacement` gives from its back stands there then.
+    pub fn take_last<I: DoubleEndedIterator>(
+        &mut self,
+        slots: &mut [I::Item],
+        replacement: &mut Fuse<I>,
+    ) -> I::Item
+    where
+        I::Item: Default,
+        requires left { 0 < gap_len self.old }
+        requires ready { GapCanStep self.old (fuse_done replacement.old) (length slots.old) }
+        requires can { FusedCan I.can_next_back replacement.old }
+        ensures gives { GivesFromBack (fuse_steps I.next_back_gives)
+            (gap_view self.old replacement.old slots.old) result (gap_view self.new replacement.new slots.new) }
+        ensures ready { GapCanStep self.new (fuse_done replacement.new) (length slots.new) }
+        ensures can { FusedCan I.can_next_back replacement.new }
+        ensures finite { FusedFinite I.remaining replacement.old → FusedFinite I.remaining replacement.new }
+        ensures slots { length slots.new ≡ length slots.old }
+        ensures fewer { gap_len self.old ≡ gap_len self.new + 1 }
+    {
+        let at = self.end - 1;
+        self.end = at;
+        match replacement.next_back() {
+            Some(new) => {
+                self.back = at;
+                self.touches.replace(slots, at, new)
+            }
+            None => self.touches.take(slots, at),
+        }
+    }
+}

@@ -1,0 +1,142 @@
+//! The end of a splice: the gap is filled, and what is left of it closed, or what found no place in it brought in.
+ghost use Rattle.std.specs.Prelude.{◌≡◌, ◌+◌, ◌*◌, ◌-◌, ◌<◌, ◌≤◌, ◌^◌, ◌++◌, List, Some, None, length, take, drop, slice_range, slice_set};
+ghost use Rattle.std.specs.Bool.{MatchBool};
+ghost use Rattle.std.specs.Iterator.{Drains, Yields, IsFinite};
+ghost use Rattle.tinyvec_slots.specs.Gap.{gap_front, gap_back, gap_touches, GapLies};
+ghost use Rattle.tinyvec_slots.specs.Touches.{touch_count};
+
+use crate::gap::Gap;
+use crate::touches::Touches;
+
+impl Gap {
+    /// Drops the removed items that are left, places what `replacement` gives between what was placed from both ends, and
+    /// says whether it is all filled. Where it is not, `replacement` has ended.
+    pub fn fill<I: Iterator>(&mut self, slots: &mut [I::Item], replacement: &mut I) -> bool
+    where
+        I::Item: Drop,
+        requires lies { GapLies self.old (length slots.old) }
+        requires can { I.can_next replacement.old }
+        ensures placed { (placed : List I.Item)
+            × (take (gap_front self.new) slots.new ≡ take (gap_front self.old) slots.old ++ placed)
+            × (length placed ≡ gap_front self.new - gap_front self.old)
+            × MatchBool result (Yields I.next_gives replacement.old placed replacement.new)
+            (Drains I.next_gives replacement.old placed) }
+        ensures in_order { (gap_front self.old ≤ gap_front self.new) × (gap_front self.new ≤ gap_back self.old) }
+        ensures filled { MatchBool result ((gap_front self.new ≡ gap_back self.old) × I.can_next replacement.new)
+            (gap_front self.new < gap_back self.old) }
+        ensures finite { IsFinite (I.remaining replacement.old) → IsFinite (I.remaining replacement.new) }
+        ensures back { gap_back self.new ≡ gap_back self.old }
+        ensures behind { drop (gap_back self.old) slots.new ≡ drop (gap_back self.old) slots.old }
+        ensures slots { length slots.new ≡ length slots.old }
+        ensures touches { gap_touches self.new ≡ gap_touches self.old + 2 * (gap_front self.new - gap_front self.old) }
+    {
+        self.front = place(slots, &mut self.touches, self.front, self.back, replacement);
+        self.front == self.back
+    }
+
+    /// Moves what stands behind the gap down over it, and says how many slots hold the list then. The others are for the
+    /// caller to empty, each a touch.
+    pub fn close<T>(&mut self, slots: &mut [T]) -> usize
+        requires in_order { gap_front self.old ≤ gap_back self.old }
+        requires in_bounds { gap_back self.old ≤ length slots.old }
+        requires few { gap_touches self.old < 2 ^ 80 }
+        ensures len { result ≡ length slots.old - (gap_back self.old - gap_front self.old) }
+        ensures kept { take result slots.new ≡ take (gap_front self.old) slots.old ++ drop (gap_back self.old) slots.old }
+        ensures slots { length slots.new ≡ length slots.old }
+        ensures touches { gap_touches self.new ≡ gap_touches self.old + (length slots.old - gap_front self.old) }
+    {
+        let gap = self.back - self.front;
+        self.touches.close(slots, self.front, self.back);
+        self.touches.add(gap);
+        slots.len() - gap
+    }
+
+    /// Moves the items from `end` on, which the caller appended, each with a touch, to where the gap was.
+    pub fn bring_in<T>(&mut self, slots: &mut [T], end: usize)
+        requires in_order { gap_front self.old ≤ end }
+        requires in_bounds { end ≤ length slots.old }
+        requires few { gap_touches self.old < 2 ^ 80 }
+        ensures brought { slots.new ≡ take (gap_front self.old) slots.old ++ drop end slots.old
+            ++ slice_range slots.old (gap_front self.old) end }
+        ensures slots { length slots.new ≡ length slots.old }
+        ensures at_least { gap_touches self.old + (length slots.old - end) ≤ gap_touches self.new }
+        ensures at_most { gap_touches self.new
+            ≤ gap_touches self.old + (length slots.old - end) + (length slots.old - gap_front self.old) }
+    {
+        let appended = slots.len() - end;
+        self.touches.add(appended);
+        if appended > 0 {
+            self.touches.rotate(slots, self.front, end);
+        }
+    }
+
+    /// Counts that so many items were moved to other slots.
+    pub fn count_moved(&mut self, n: usize)
+        requires few { gap_touches self.old < 2 ^ 100 }
+        ensures { gap_touches self.new ≡ gap_touches self.old + n }
+    {
+        self.touches.add(n);
+    }
+}
+
+// Places what `replacement` gives over the slots from `front` up to `back`, and says where that ends: before `back` only
+// where `replacement` has ended.
+fn place<I: Iterator>(
+    slots: &mut [I::Item],
+    touches: &mut Touches,
+    front: usize,
+    back: usize,
+    replacement: &mut I,
+) -> usize
+where
+    I::Item: Drop,
+    requires in_order { front ≤ back }
+    requires in_bounds { back ≤ length slots.old }
+    requires few { touch_count touches.old ≤ 2 ^ 66 }
+    requires can { I.can_next replacement.old }
+    ensures bounds { (front ≤ result) × (result ≤ back) }
+    ensures len { length slots.new ≡ length slots.old }
+    ensures behind { drop back slots.new ≡ drop back slots.old }
+    ensures can { result ≡ back → I.can_next replacement.new }
+    ensures finite { IsFinite (I.remaining replacement.old) → IsFinite (I.remaining replacement.new) }
+    ensures placed { (placed : List I.Item) × (take result slots.new ≡ take front slots.old ++ placed)
+        × (length placed ≡ result - front)
+        × (result ≡ back → Yields I.next_gives replacement.old placed replacement.new)
+        × (result < back → Drains I.next_gives replacement.old placed) }
+    ensures touches { touch_count touches.new ≡ touch_count touches.old + 2 * (result - front) }
+{
+    for at in front..back {
+        if !place_one(slots, touches, at, replacement) {
+            return at;
+        }
+    }
+    back
+}
+
+// Places the next item of `replacement` at `at`, and says whether there was one.
+fn place_one<I: Iterator>(
+    slots: &mut [I::Item],
+    touches: &mut Touches,
+    at: usize,
+    replacement: &mut I,
+) -> bool
+where
+    I::Item: Drop,
+    requires in_bounds { at < length slots.old }
+    requires few { touch_count touches.old < 2 ^ 100 }
+    requires can { I.can_next replacement.old }
+    ensures finite { IsFinite (I.remaining replacement.old) → IsFinite (I.remaining replacement.new) }
+    ensures placed { MatchBool result ((new : I.Item) × I.next_gives replacement.old (Some new) replacement.new
+        × I.can_next replacement.new
+        × (slots.new ≡ slice_set slots.old at new)
+        × (touch_count touches.new ≡ touch_count touches.old + 2))
+        (I.next_gives replacement.old None replacement.new × (slots.new ≡ slots.old) × (touches.new ≡ touches.old)) }
+{
+    match replacement.next() {
+        Some(new) => {
+            touches.replace(slots, at, new);
+            true
+        }
+        None => false,
+    }
+}

@@ -1,0 +1,125 @@
+//! The slots that a splice reaches, each touch counted.
+ghost use Rattle.std.specs.Prelude.{◌≡◌, ◌≢◌, ◌+◌, ◌-◌, ◌<◌, ◌≤◌, ◌^◌, ◌++◌, length, take, drop, slice_index_or, slice_set, slice_range};
+ghost use Rattle.std.specs.List.{SwappedAt};
+ghost use Rattle.tinyvec_slots.specs.Touches.{touch_count};
+
+use std::mem;
+
+// Reaches slots, and counts how often: a touch is one slot read out with the default that it may leave, one item placed
+// in a slot, or two slots swapped.
+#[derive(Drop)]
+pub(crate) struct Touches {
+    count: u128,
+}
+
+impl Touches {
+    pub(crate) fn new() -> Self
+        ensures { touch_count result ≡ 0 }
+    {
+        Touches { count: 0 }
+    }
+
+    // How many touches there were.
+    pub(crate) fn count(&self) -> u128
+        ensures { result ≡ touch_count self.now }
+    {
+        self.count
+    }
+
+    // Counts `n` touches that a vector made of its own slots.
+    pub(crate) fn add(&mut self, n: usize)
+        requires few { touch_count self.old < 2 ^ 120 }
+        ensures { touch_count self.new ≡ touch_count self.old + n }
+    {
+        self.count += n as u128;
+    }
+
+    // Places `x` in the slot at `i`, and takes out what was there.
+    pub(crate) fn replace<T>(&mut self, slots: &mut [T], i: usize, x: T) -> T
+        requires in_bounds { i < length slots.old }
+        requires few { touch_count self.old < 2 ^ 120 }
+        ensures value { result ≡ slice_index_or slots.old i result }
+        ensures after { slots.new ≡ slice_set slots.old i x }
+        ensures count { touch_count self.new ≡ touch_count self.old + 2 }
+    {
+        self.count += 2;
+        mem::replace(&mut slots[i], x)
+    }
+
+    // Takes out what the slot at `i` holds, and leaves a default.
+    pub(crate) fn take<T: Default>(&mut self, slots: &mut [T], i: usize) -> T
+        requires in_bounds { i < length slots.old }
+        requires few { touch_count self.old < 2 ^ 120 }
+        ensures value { result ≡ slice_index_or slots.old i result }
+        ensures after { (d : T) × T.is_default d × (slots.new ≡ slice_set slots.old i d) }
+        ensures count { touch_count self.new ≡ touch_count self.old + 1 }
+    {
+        self.count += 1;
+        mem::take(&mut slots[i])
+    }
+
+    // Swaps two slots.
+    fn swap<T>(&mut self, slots: &mut [T], i: usize, j: usize)
+        requires first { i < length slots.old }
+        requires second { j < length slots.old }
+        requires few { touch_count self.old < 2 ^ 120 }
+        ensures by_index { SwappedAt slots.old slots.new i j }
+        ensures len { length slots.new ≡ length slots.old }
+        ensures count { touch_count self.new ≡ touch_count self.old + 1 }
+    {
+        self.count += 1;
+        slots.swap(i, j);
+    }
+
+    // Moves what stands from `back` on down to `at`. What stood between goes behind it.
+    pub(crate) fn close<T>(&mut self, slots: &mut [T], at: usize, back: usize)
+        requires in_order { at ≤ back }
+        requires in_bounds { back ≤ length slots.old }
+        requires few { touch_count self.old < 2 ^ 100 }
+        ensures kept { take (length slots.old - (back - at)) slots.new ≡ take at slots.old ++ drop back slots.old }
+        ensures len { length slots.new ≡ length slots.old }
+        ensures count { touch_count self.new ≡ touch_count self.old + (length slots.old - back) }
+    {
+        let gap = back - at;
+        for from in back..slots.len() {
+            self.swap(slots, from - gap, from);
+        }
+    }
+
+    // Moves what stands from `middle` on before what stands from `start` on.
+    pub(crate) fn rotate<T>(&mut self, slots: &mut [T], start: usize, middle: usize)
+        requires in_order { start ≤ middle }
+        requires in_bounds { middle ≤ length slots.old }
+        requires few { touch_count self.old < 2 ^ 100 }
+        ensures after { slots.new
+            ≡ take start slots.old ++ drop middle slots.old ++ slice_range slots.old start middle }
+        ensures grows { touch_count self.old ≤ touch_count self.new }
+        ensures count { touch_count self.new ≤ touch_count self.old + (length slots.old - start) }
+    {
+        let mut first = start;
+        let mut middle = middle;
+        let mut next = middle;
+        while first < middle && next < slots.len() {
+            self.swap(slots, first, next);
+            first += 1;
+            (middle, next) = after_swap(first, middle, next + 1, slots.len());
+        }
+    }
+}
+
+// Where the parts that are still to be turned begin. Three parts stand one behind another: what is to come last, from
+// `first` up to `middle`, what is to come before it, up to `next`, and what is to come first of all, up to `len`. A part
+// that ran out gives way to the one that follows it.
+fn after_swap(first: usize, middle: usize, next: usize, len: usize) -> (usize, usize)
+    ensures last_ran_out { first ≡ middle → (result.0 ≡ next) × (result.1 ≡ next) }
+    ensures first_ran_out { first ≢ middle → next ≡ len → (result.0 ≡ middle) × (result.1 ≡ middle) }
+    ensures none_ran_out { first ≢ middle → next ≢ len → (result.0 ≡ middle) × (result.1 ≡ next) }
+{
+    if first == middle {
+        return (next, next);
+    }
+    if next == len {
+        return (middle, middle);
+    }
+    (middle, next)
+}
