@@ -120,8 +120,8 @@ def plain_name(text):
 
 
 def flat(text):
-    """The letters by which a check names a type or trait: no lifetimes, no parameters, and words for `&`, `mut` and brackets."""
-    text = re.sub(r"'\w+", "", text)
+    """The letters by which a check names a type or trait: no paths, lifetimes or parameters, words for `&`, `mut`, brackets."""
+    text = re.sub(r"'\w+|\b\w+::", "", text)
     text = text.replace("&", " Ref ").replace(" mut ", " Mut ")
     text = re.sub(r"\[[^\[\];]*;[^\]]*\]", " Array ", text)
     text = re.sub(r"\[[^\[\]]*\]", " Slice ", text)

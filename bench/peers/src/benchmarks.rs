@@ -176,15 +176,6 @@ pub fn splice<V: Vector<u64, N>, const N: usize>(vec: &mut V, source: &[u64], co
     x.wrapping_add(vec.as_slice().len() as u64)
 }
 
-/// `x` where the lists are equal.
-#[inline(never)]
-pub fn equal<T: Number, V: Vector<T, N>, const N: usize>(vec: &V, source: &[T], x: u64) -> u64 {
-    if *vec.as_slice() == *source {
-        return x;
-    }
-    0
-}
-
 /// The sum of the items and `x`.
 #[inline(never)]
 pub fn sum<T: Number, V: Vector<T, N>, const N: usize>(vec: &V, x: u64) -> u64 {

@@ -3,7 +3,10 @@
 //! checksums, and with `time ROUNDS` times too.
 
 mod benchmarks;
+mod comparing;
+mod fnv;
 mod number;
+mod printing;
 mod report;
 mod rows;
 mod script;

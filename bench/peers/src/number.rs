@@ -1,7 +1,10 @@
 //! What the benchmarks' vectors hold.
 
+use std::fmt::Debug;
+use std::hash::Hash;
+
 /// A number that is made from a `u64` and adds up to one.
-pub trait Number: Copy + Default + PartialEq {
+pub trait Number: Copy + Default + PartialOrd + Hash + Debug {
     fn of(x: u64) -> Self;
 
     fn value(self) -> u64;

@@ -1,12 +1,14 @@
 //! The rows, benchmark by benchmark, at one capacity.
 
 use crate::benchmarks::*;
+use crate::comparing::{compare, equal, hash};
+use crate::printing::{debug_print, Text};
 use crate::report::Report;
 use crate::slices::*;
-use crate::sources::{pairs, scattered};
+use crate::sources::{higher_at, pairs, scattered};
 use crate::tiny::tiny_splice;
 use crate::vector::Vector;
-use tinyvec::TinyVec;
+use tinyvec::{SliceVec, TinyVec};
 
 /// Every benchmark of a vector of `u64`.
 pub fn of_words<V: Vector<u64, N>, const N: usize>(report: &Report) {
@@ -22,6 +24,7 @@ pub fn of_words<V: Vector<u64, N>, const N: usize>(report: &Report) {
     report.row("swap_remove", N, |x| swap_remove(&mut vec, x));
     report.row("truncate_and_refill", N, |x| truncate_and_refill(&mut vec, x));
     cuts_of_words::<V, N>(report);
+    looks_at_words::<V, N>(report);
 }
 
 fn cuts_of_words<V: Vector<u64, N>, const N: usize>(report: &Report) {
@@ -45,8 +48,21 @@ fn cuts_of_words<V: Vector<u64, N>, const N: usize>(report: &Report) {
     vec = V::from_array(source);
     let odd = V::from_array(runs);
     report.row("clone", N, |x| last(clone_of(&vec, &odd, x).as_slice()));
-    report.row("equal", N, |x| equal(&vec, &source, x));
     report.row("sum", N, |x| sum(&vec, x));
+}
+
+fn looks_at_words<V: Vector<u64, N>, const N: usize>(report: &Report) {
+    let source = scattered::<u64, N>();
+    let vec = V::from_array(source);
+    let same = V::from_array(source);
+    let last_higher = V::from_array(higher_at(source, N.saturating_sub(1)));
+    let first_higher = V::from_array(higher_at(source, 0));
+    let mut text = Text::new();
+    report.row("equal", N, |x| equal(&vec, &same, x));
+    report.row("compare", N, |x| compare(&vec, &last_higher, x));
+    report.row("compare_first", N, |x| compare(&vec, &first_higher, x));
+    report.row("hash", N, |x| hash(&vec, x));
+    report.row("debug_print", N, |x| debug_print(&vec, &mut text, x));
 }
 
 /// The benchmarks of a vector of `u8`, where the size of an item matters.
@@ -60,7 +76,8 @@ pub fn of_bytes<V: Vector<u8, N>, const N: usize>(report: &Report) {
     report.row("bytes_extend_from_slice", N, |x| extend_from_slice(&mut vec, &source, x));
     let odd = V::from_array([1; N]);
     report.row("bytes_clone", N, |x| last(clone_of(&vec, &odd, x).as_slice()));
-    report.row("bytes_equal", N, |x| equal(&vec, &source, x));
+    let same = V::from_array(source);
+    report.row("bytes_equal", N, |x| equal(&vec, &same, x));
     report.row("bytes_sum", N, |x| sum(&vec, x));
 }
 
@@ -74,9 +91,24 @@ pub fn of_slices<const N: usize>(report: &Report) {
     report.row("slice_remove", N, |x| slice_remove(&mut slots, x));
     report.row("slice_drain", N, |x| slice_drain(&mut slots, &source, x));
     report.row("slice_retain", N, |x| slice_retain(&mut slots, &runs, x));
+    looks_at_slices::<N>(report);
 }
 
-/// The splices of a `TinyVec` of `u64`, inline and on the heap.
+fn looks_at_slices<const N: usize>(report: &Report) {
+    let mut slots = scattered::<u64, N>();
+    let mut same_slots = slots;
+    let mut higher_slots = higher_at(slots, N.saturating_sub(1));
+    let mut text = Text::new();
+    let vec = SliceVec::from_slice_len(&mut slots, N);
+    let same = SliceVec::from_slice_len(&mut same_slots, N);
+    let last_higher = SliceVec::from_slice_len(&mut higher_slots, N);
+    report.row("slice_equal", N, |x| equal(&vec, &same, x));
+    report.row("slice_compare", N, |x| compare(&vec, &last_higher, x));
+    report.row("slice_hash", N, |x| hash(&vec, x));
+    report.row("slice_debug_print", N, |x| debug_print(&vec, &mut text, x));
+}
+
+/// The splices of a `TinyVec` of `u64`, inline and on the heap, and comparisons of inline ones.
 pub fn of_tiny<const N: usize>(report: &Report)
 where
     [u64; N]: tinyvec::Array<Item = u64>,
@@ -91,4 +123,20 @@ where
     report.row("tiny_heap_splice_as_many", N, |x| tiny_splice(&mut vec, &source, count / 4, x));
     report.row("tiny_heap_splice_fewer", N, |x| tiny_splice(&mut vec, &source, count / 8, x));
     report.row("tiny_heap_splice_more", N, |x| tiny_splice(&mut vec, &source, count / 2, x));
+    looks_at_tiny::<N>(report);
+}
+
+fn looks_at_tiny<const N: usize>(report: &Report)
+where
+    [u64; N]: tinyvec::Array<Item = u64>,
+{
+    let source = scattered::<u64, N>();
+    let vec = TinyVec::from(source);
+    let same = TinyVec::from(source);
+    let last_higher = TinyVec::from(higher_at(source, N.saturating_sub(1)));
+    let mut text = Text::new();
+    report.row("tiny_equal", N, |x| equal(&vec, &same, x));
+    report.row("tiny_compare", N, |x| compare(&vec, &last_higher, x));
+    report.row("tiny_hash", N, |x| hash(&vec, x));
+    report.row("tiny_debug_print", N, |x| debug_print(&vec, &mut text, x));
 }

@@ -1,10 +1,12 @@
 //! The calls that the benchmarks make, at each of the peers.
 
 use crate::number::Number;
+use std::fmt::Debug;
+use std::hash::Hash;
 use std::ops::Range;
 
 /// A vector over `N` numbers.
-pub trait Vector<T: Number, const N: usize>: Clone {
+pub trait Vector<T: Number, const N: usize>: Clone + PartialOrd + Hash + Debug {
     /// Whether the peer has the call.
     const HAS_DEDUP: bool = true;
     const HAS_SPLICE: bool = true;

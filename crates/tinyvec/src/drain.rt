@@ -1,5 +1,6 @@
 //! The iterator that moves a range of items out of a vector.
-ghost use Rattle.std.specs.Prelude.{◌≡◌, ◌++◌, length, Some, IfSome};
+ghost use Rattle.std.specs.Prelude.{◌≡◌, ◌++◌, length, codes, Some, IfSome};
+ghost use Rattle.std.specs.Fmt.{debug_list, debug_variant};
 ghost use Rattle.std.specs.Iterator.{at_most, UpTo};
 ghost use Rattle.std.specs.Iterator.SizeHint.{IsWithinCount};
 ghost use Rattle.std.specs.Iterator.Runs.{YieldsInOrder, YieldsInReverse};
@@ -7,10 +8,11 @@ ghost use Rattle.tinyvec_slots.specs.Cut.{IsRangeOf, before, removed, after};
 ghost use Rattle.tinyvec.specs.Tiny.{tiny_items, SameFrame};
 
 use crate::TinyVec;
+use std::fmt;
 use std::iter::FusedIterator;
 use std::ops::RangeBounds;
 use tinyvec_array::Array;
-use tinyvec_slots::resolve;
+use tinyvec_slots::{part, resolve, write_named};
 
 /// Gives the items of a range. When it ends, the vector has the others, in its place.
 pub struct TinyVecDrain<'a, A: Array> {
@@ -128,3 +130,20 @@ impl<'a, A: Array> ExactSizeIterator for TinyVecDrain<'a, A> {
 }
 
 impl<'a, A: Array> FusedIterator for TinyVecDrain<'a, A> {}
+
+impl<'a, A: Array> fmt::Debug for TinyVecDrain<'a, A>
+where
+    A::Item: fmt::Debug,
+{
+    ghost use Rattle.tinyvec.specs.Drain.{drain_items};
+
+    ghost debug_output = { λ d. debug_variant (codes "TinyVecDrain") (debug_list A.Item.debug_output (drain_items d)) };
+
+    fn fmt<W: fmt::Write>(&self, f: &mut fmt::Formatter<W>) -> fmt::Result {
+        write_named(
+            f,
+            "TinyVecDrain",
+            part(self.vec.as_slice(), self.front, self.back),
+        )
+    }
+}

@@ -1,14 +1,17 @@
 //! The iterator that moves the items out of a vector which it owns.
-ghost use Rattle.std.specs.Prelude.{◌≡◌, ◌^◌, ◌<◌, ◌≤◌, length, Some, IfSome};
+ghost use Rattle.std.specs.Prelude.{◌≡◌, ◌^◌, ◌<◌, ◌≤◌, length, codes, Some, IfSome};
 ghost use Rattle.std.specs.Iterator.{UpTo, item_count};
 ghost use Rattle.std.specs.Iterator.SizeHint.{IsWithinCount};
+ghost use Rattle.std.specs.Fmt.{debug_list, debug_variant};
 ghost use Rattle.tinyvec_array.specs.Iterator.{GivesFirst, GivesLast};
 ghost use Rattle.tinyvec.specs.Tiny.{tiny_items};
 
 use crate::TinyVec;
+use std::fmt;
 use std::iter::FusedIterator;
 use std::marker::Model;
 use tinyvec_array::Array;
+use tinyvec_slots::write_named;
 
 /// Gives the items of a vector from both ends.
 #[derive(Drop)]
@@ -99,3 +102,14 @@ impl<A: Array> ExactSizeIterator for TinyVecIterator<A> {
 }
 
 impl<A: Array> FusedIterator for TinyVecIterator<A> {}
+
+impl<A: Array> fmt::Debug for TinyVecIterator<A>
+where
+    A::Item: fmt::Debug,
+{
+    ghost debug_output = { λ left. debug_variant (codes "TinyVecIterator") (debug_list A.Item.debug_output left) };
+
+    fn fmt<W: fmt::Write>(&self, f: &mut fmt::Formatter<W>) -> fmt::Result {
+        write_named(f, "TinyVecIterator", self.as_slice())
+    }
+}

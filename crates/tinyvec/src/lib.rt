@@ -4,6 +4,7 @@
 mod cloning;
 mod drain;
 mod iterator;
+mod macros;
 mod splice;
 mod tiny_vec;
 
@@ -13,6 +14,6 @@ pub use splice::TinyVecSplice;
 pub use tiny_vec::TinyVec;
 pub use tinyvec_array::{
     Array, ArrayVec, ArrayVecDrain, ArrayVecIterator, ArrayVecSplice, FromIterRest, NoMemory,
-    NoRoom, SpliceRest, TryFromSliceError,
+    NoRoom, SpliceRest, TryFromSliceError, array_vec,
 };
 pub use tinyvec_slice::{Lent, SliceVec, SliceVecDrain, SliceVecDrainOver, SliceVecOver};

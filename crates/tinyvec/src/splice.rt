@@ -1,5 +1,6 @@
 //! The iterator that moves a range of items out of a vector and puts others in its place.
-ghost use Rattle.std.specs.Prelude.{◌≡◌, length, false, Some, IfSome};
+ghost use Rattle.std.specs.Prelude.{◌≡◌, length, false, codes, Some, IfSome};
+ghost use Rattle.std.specs.Fmt.{debug_list, debug_variant};
 ghost use Rattle.std.specs.Iterator.{UpTo, MakesProgress, at_most};
 ghost use Rattle.std.specs.Iterator.Adapters.{fuse_done, fuse_source, fuse_steps};
 ghost use Rattle.std.specs.Iterator.SizeHint.{IsWithinCount};
@@ -10,10 +11,11 @@ ghost use Rattle.tinyvec.specs.Tiny.{tiny_items};
 mod finishing;
 
 use crate::TinyVec;
+use std::fmt;
 use std::iter::{Fuse, FusedIterator};
 use std::ops::RangeBounds;
 use tinyvec_array::Array;
-use tinyvec_slots::{Gap, resolve};
+use tinyvec_slots::{Gap, resolve, write_named};
 
 /// Gives the items of a range, in whose place those of `replacement` are put. For an item that is taken from an end, the
 /// replacement is asked for one from the same end, which stands there then. It must be spent by `finish` or
@@ -145,3 +147,16 @@ impl<'a, A: Array, I: Iterator<Item = A::Item>> ExactSizeIterator
 }
 
 impl<'a, A: Array, I: Iterator<Item = A::Item>> FusedIterator for TinyVecSplice<'a, A, Fuse<I>> {}
+
+impl<'a, A: Array, I: Drop> fmt::Debug for TinyVecSplice<'a, A, I>
+where
+    A::Item: fmt::Debug,
+{
+    ghost use Rattle.tinyvec.specs.TinySplice.{splice_left};
+
+    ghost debug_output = { λ s. debug_variant (codes "TinyVecSplice") (debug_list A.Item.debug_output (splice_left s)) };
+
+    fn fmt<W: fmt::Write>(&self, f: &mut fmt::Formatter<W>) -> fmt::Result {
+        write_named(f, "TinyVecSplice", self.gap.left(self.vec.as_slice()))
+    }
+}

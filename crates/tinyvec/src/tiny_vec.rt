@@ -4,6 +4,7 @@ ghost use Rattle.std.specs.List.{remove_range};
 ghost use Rattle.tinyvec.specs.Tiny.{tiny_items, tiny_len, tiny_spare, is_inline, tiny_capacity, IsInline, SameFrame};
 
 mod clones;
+mod comparing;
 mod cutting;
 mod draining;
 mod edits;
@@ -16,8 +17,10 @@ mod joining;
 mod lending;
 mod making;
 mod moving;
+mod printing;
 mod reserving;
 mod resizing;
+mod writing;
 
 use std::alloc::Global;
 use std::convert::AsSlice;

@@ -4,6 +4,7 @@ ghost use Rattle.std.specs.List.{remove_range};
 ghost use Rattle.tinyvec_slots.specs.Slots.{items, spare, items_len, all_slots, split_at, AreDefaults};
 
 mod clones;
+mod comparing;
 mod cutting;
 mod draining;
 mod edits;
@@ -15,8 +16,10 @@ mod iterating;
 mod joining;
 mod lending;
 mod making;
+mod printing;
 mod resizing;
 mod to_vec;
+mod writing;
 
 use crate::Array;
 use crate::slots::{clear, slots_to_end, take_slot_behind};

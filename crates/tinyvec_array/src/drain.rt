@@ -1,5 +1,6 @@
 //! The iterator that moves a range of items out of a vector.
-ghost use Rattle.std.specs.Prelude.{◌≡◌, ◌≤◌, ◌++◌, length, Some, IfSome};
+ghost use Rattle.std.specs.Prelude.{◌≡◌, ◌≤◌, ◌++◌, length, codes, Some, IfSome};
+ghost use Rattle.std.specs.Fmt.{debug_list, debug_variant};
 ghost use Rattle.std.specs.Iterator.{at_most, UpTo};
 ghost use Rattle.std.specs.Iterator.SizeHint.{IsWithinCount};
 ghost use Rattle.std.specs.Iterator.Runs.{YieldsInOrder, YieldsInReverse};
@@ -8,9 +9,10 @@ ghost use Rattle.tinyvec_slots.specs.Cut.{IsRangeOf, before, removed, after};
 
 use crate::slots::narrow;
 use crate::{Array, ArrayVec};
+use std::fmt;
 use std::iter::FusedIterator;
 use std::ops::RangeBounds;
-use tinyvec_slots::resolve;
+use tinyvec_slots::{part, resolve, write_named};
 
 /// Gives the items of a range, which the vector has lost already. When it ends, their slots hold defaults.
 pub struct ArrayVecDrain<'a, A: Array> {
@@ -132,3 +134,17 @@ impl<'a, A: Array> ExactSizeIterator for ArrayVecDrain<'a, A> {
 }
 
 impl<'a, A: Array> FusedIterator for ArrayVecDrain<'a, A> {}
+
+impl<'a, A: Array> fmt::Debug for ArrayVecDrain<'a, A>
+where
+    A::Item: fmt::Debug,
+{
+    ghost use Rattle.tinyvec_array.specs.Drain.{drain_items};
+
+    ghost debug_output = { λ d. debug_variant (codes "ArrayVecDrain") (debug_list A.Item.debug_output (drain_items d)) };
+
+    fn fmt<W: fmt::Write>(&self, f: &mut fmt::Formatter<W>) -> fmt::Result {
+        let vacated = self.vec.grab_spare_slice();
+        write_named(f, "ArrayVecDrain", part(vacated, self.front, self.back))
+    }
+}

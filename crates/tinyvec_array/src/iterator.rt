@@ -1,13 +1,16 @@
 //! The iterator that moves the items out of a vector which it owns.
-ghost use Rattle.std.specs.Prelude.{◌≡◌, ◌≤◌, length, take, Some, IfSome};
+ghost use Rattle.std.specs.Prelude.{◌≡◌, ◌≤◌, length, take, codes, Some, IfSome};
 ghost use Rattle.std.specs.Iterator.{UpTo, item_count};
 ghost use Rattle.std.specs.Iterator.SizeHint.{IsWithinCount};
+ghost use Rattle.std.specs.Fmt.{debug_list, debug_variant};
 ghost use Rattle.tinyvec_array.specs.Iterator.{GivesFirst, GivesLast};
 
 use crate::Array;
 use crate::slots::take_slot;
+use std::fmt;
 use std::iter::FusedIterator;
 use std::marker::Model;
+use tinyvec_slots::write_named;
 
 /// Gives the items of a vector from both ends.
 #[derive(Drop)]
@@ -98,3 +101,14 @@ impl<A: Array> ExactSizeIterator for ArrayVecIterator<A> {
 }
 
 impl<A: Array> FusedIterator for ArrayVecIterator<A> {}
+
+impl<A: Array> fmt::Debug for ArrayVecIterator<A>
+where
+    A::Item: fmt::Debug,
+{
+    ghost debug_output = { λ left. debug_variant (codes "ArrayVecIterator") (debug_list A.Item.debug_output left) };
+
+    fn fmt<W: fmt::Write>(&self, f: &mut fmt::Formatter<W>) -> fmt::Result {
+        write_named(f, "ArrayVecIterator", self.as_slice())
+    }
+}

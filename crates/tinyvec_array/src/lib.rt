@@ -6,6 +6,7 @@ mod array_vec;
 mod clone_slots;
 mod drain;
 mod iterator;
+mod macros;
 mod parts;
 mod slots;
 mod splice;

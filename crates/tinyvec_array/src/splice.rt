@@ -1,5 +1,6 @@
 //! The iterator that moves a range of items out of a vector and puts others in its place.
-ghost use Rattle.std.specs.Prelude.{◌≡◌, ◌+◌, ◌-◌, length, drop, false, Some, IfSome};
+ghost use Rattle.std.specs.Prelude.{◌≡◌, ◌+◌, ◌-◌, length, drop, false, codes, Some, IfSome};
+ghost use Rattle.std.specs.Fmt.{debug_list, debug_variant};
 ghost use Rattle.std.specs.Iterator.{UpTo, MakesProgress, at_most};
 ghost use Rattle.std.specs.Iterator.Adapters.{fuse_done, fuse_source, fuse_steps};
 ghost use Rattle.std.specs.Iterator.SizeHint.{IsWithinCount};
@@ -9,9 +10,10 @@ ghost use Rattle.tinyvec_slots.specs.Cut.{IsRangeOf, before, removed, after};
 mod finishing;
 
 use crate::{Array, ArrayVec};
+use std::fmt;
 use std::iter::{Fuse, FusedIterator};
 use std::ops::RangeBounds;
-use tinyvec_slots::{Gap, resolve};
+use tinyvec_slots::{Gap, resolve, write_named};
 
 /// Gives the items of a range, in whose place those of `replacement` are put. For an item that is taken from an end, the
 /// replacement is asked for one from the same end, which stands there then. It must be spent by `finish` or
@@ -139,3 +141,16 @@ impl<'a, A: Array, I: Iterator<Item = A::Item>> ExactSizeIterator
 }
 
 impl<'a, A: Array, I: Iterator<Item = A::Item>> FusedIterator for ArrayVecSplice<'a, A, Fuse<I>> {}
+
+impl<'a, A: Array, I: Drop> fmt::Debug for ArrayVecSplice<'a, A, I>
+where
+    A::Item: fmt::Debug,
+{
+    ghost use Rattle.tinyvec_array.specs.Splice.{splice_left};
+
+    ghost debug_output = { λ s. debug_variant (codes "ArrayVecSplice") (debug_list A.Item.debug_output (splice_left s)) };
+
+    fn fmt<W: fmt::Write>(&self, f: &mut fmt::Formatter<W>) -> fmt::Result {
+        write_named(f, "ArrayVecSplice", self.gap.left(self.vec.as_slice()))
+    }
+}

@@ -4,6 +4,8 @@
 #[cfg(test)]
 mod clones;
 #[cfg(test)]
+mod comparing;
+#[cfg(test)]
 mod draining;
 #[cfg(test)]
 mod edits;
@@ -18,8 +20,14 @@ mod filters;
 #[cfg(test)]
 mod iterators;
 #[cfg(test)]
+mod macros;
+#[cfg(test)]
 mod making;
 #[cfg(test)]
 mod owned;
 #[cfg(test)]
+mod printing;
+#[cfg(test)]
 mod splices;
+#[cfg(test)]
+mod writing;

@@ -280,6 +280,25 @@ fn endless_replacement(rt: HostRuntime) {
 }
 
 #[test]
+fn stopped(rt: HostRuntime) {
+    let mut v = one_two_three();
+    let mut splice = v.splice(1.., iter::repeat(7));
+    assert!(rt; splice.next() == Some(2));
+    let mut rest = splice.stop();
+    assert!(rt; rest.next() == Some(7));
+    assert!(rt; v.as_slice() == [1, 7].as_slice());
+    let mut w = one_two_three();
+    let mut splice = w.splice(.., [7, 8, 9]);
+    assert!(rt; splice.next() == Some(1));
+    assert!(rt; splice.next_back() == Some(3));
+    let mut rest = splice.stop();
+    assert!(rt; rest.next() == Some(8));
+    assert!(rt; rest.next() == None);
+    assert!(rt; w.as_slice() == [7, 9].as_slice());
+    assert!(rt; w.grab_spare_slice()[0] == 0);
+}
+
+#[test]
 fn touches_of_a_longer_replacement(rt: HostRuntime) {
     let mut v = ArrayVec::from_array_len([1, 2, 3, 4, 5, 0, 0, 0], 5);
     let mut splice = v.splice(1..3, [7, 8, 9, 10]);

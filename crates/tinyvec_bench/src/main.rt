@@ -2,11 +2,14 @@
 //! prints its name, capacity, rounds, nanoseconds and checksum.
 #![tactic(auto)]
 
+mod comparing;
 mod cutting;
 mod edits;
 mod ends;
 mod filling;
+mod fnv;
 mod number;
+mod printing;
 mod reading;
 mod report;
 mod rows;

@@ -3,15 +3,6 @@
 use crate::number::Number;
 use tinyvec_array::ArrayVec;
 
-/// `x` where the lists are equal.
-#[inline(never)]
-pub fn equal<T: Number, const N: usize>(vec: &ArrayVec<[T; N]>, source: &[T], x: u64) -> u64 {
-    if *vec.as_slice() == *source {
-        return x;
-    }
-    0
-}
-
 /// The sum of the items and `x`.
 #[inline(never)]
 pub fn sum<T: Number, const N: usize>(vec: &ArrayVec<[T; N]>, x: u64) -> u64 {

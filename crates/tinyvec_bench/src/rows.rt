@@ -1,27 +1,31 @@
 //! The rows, benchmark by benchmark, at one capacity. Each asks that an array of so many items has a size.
 ghost use Rattle.std.specs.Prelude.{◌*◌, ◌^◌, ◌<◌};
 
+use crate::comparing::{compare, equal, hash};
 use crate::cutting::{dedup, drain_dropped, drain_taken, retain_half, splice};
 use crate::edits::{insert_front, insert_middle, remove_front, remove_middle, swap_remove};
 use crate::ends::{push_and_pop, truncate_and_refill, two_pushes};
 use crate::filling::{clone_of, extend_from_range, extend_from_slice};
-use crate::reading::{equal, last, sum};
+use crate::printing::{Text, debug_print};
+use crate::reading::{last, sum};
 use crate::report::Report;
 use crate::slices::{slice_drain, slice_insert, slice_push, slice_remove, slice_retain};
-use crate::sources::{pairs, scattered};
+use crate::sources::{higher_at, pairs, scattered};
 use crate::tiny::tiny_splice;
 use std::alloc::Global;
 use std::io;
 use std::rt::Runtime;
 use tinyvec::TinyVec;
 use tinyvec_array::ArrayVec;
+use tinyvec_slice::SliceVec;
 
 /// Every benchmark of an `ArrayVec` of `u64`.
 pub fn of_words<R: Runtime, const N: usize>(report: &Report<'_, R>) -> io::Result<()>
     requires { N * 8 < 2 ^ 63 }
 {
     edits_of_words::<R, N>(report)?;
-    cuts_of_words::<R, N>(report)
+    cuts_of_words::<R, N>(report)?;
+    looks_at_words::<R, N>(report)
 }
 
 fn edits_of_words<R: Runtime, const N: usize>(report: &Report<'_, R>) -> io::Result<()>
@@ -79,8 +83,23 @@ fn cuts_of_words<R: Runtime, const N: usize>(report: &Report<'_, R>) -> io::Resu
     vec = ArrayVec::from_array(source);
     let odd = ArrayVec::from_array(runs);
     report.row("clone", N, |x| last(clone_of(&vec, &odd, x).as_slice()))?;
-    report.row("equal", N, |x| equal(&vec, &source, x))?;
     report.row("sum", N, |x| sum(&vec, x))
+}
+
+fn looks_at_words<R: Runtime, const N: usize>(report: &Report<'_, R>) -> io::Result<()>
+    requires { N * 8 < 2 ^ 63 }
+{
+    let source = scattered::<u64, N>();
+    let vec = ArrayVec::from_array(source);
+    let same = ArrayVec::from_array(source);
+    let last_higher = ArrayVec::from_array(higher_at(source, N.saturating_sub(1)));
+    let first_higher = ArrayVec::from_array(higher_at(source, 0));
+    let mut text = Text::new();
+    report.row("equal", N, |x| equal(&vec, &same, x))?;
+    report.row("compare", N, |x| compare(&vec, &last_higher, x))?;
+    report.row("compare_first", N, |x| compare(&vec, &first_higher, x))?;
+    report.row("hash", N, |x| hash(&vec, x))?;
+    report.row("debug_print", N, |x| debug_print(&vec, &mut text, x))
 }
 
 /// The benchmarks of an `ArrayVec` of `u8`, where the size of an item matters.
@@ -104,7 +123,8 @@ pub fn of_bytes<R: Runtime, const N: usize>(report: &Report<'_, R>) -> io::Resul
         N,
         |x| last(clone_of(&vec, &odd, x).as_slice()),
     )?;
-    report.row("bytes_equal", N, |x| equal(&vec, &source, x))?;
+    let same = ArrayVec::from_array(source);
+    report.row("bytes_equal", N, |x| equal(&vec, &same, x))?;
     report.row("bytes_sum", N, |x| sum(&vec, x))
 }
 
@@ -119,10 +139,27 @@ pub fn of_slices<R: Runtime, const N: usize>(report: &Report<'_, R>) -> io::Resu
     report.row("slice_insert", N, |x| slice_insert(&mut slots, x))?;
     report.row("slice_remove", N, |x| slice_remove(&mut slots, x))?;
     report.row("slice_drain", N, |x| slice_drain(&mut slots, &source, x))?;
-    report.row("slice_retain", N, |x| slice_retain(&mut slots, &runs, x))
+    report.row("slice_retain", N, |x| slice_retain(&mut slots, &runs, x))?;
+    looks_at_slices::<R, N>(report)
 }
 
-/// The splices of a `TinyVec` of `u64`, inline and on the heap.
+fn looks_at_slices<R: Runtime, const N: usize>(report: &Report<'_, R>) -> io::Result<()>
+    requires { N * 8 < 2 ^ 63 }
+{
+    let mut slots = scattered::<u64, N>();
+    let mut same_slots = slots;
+    let mut higher_slots = higher_at(slots, N.saturating_sub(1));
+    let mut text = Text::new();
+    let vec = SliceVec::from_slice_len(&mut slots, N);
+    let same = SliceVec::from_slice_len(&mut same_slots, N);
+    let last_higher = SliceVec::from_slice_len(&mut higher_slots, N);
+    report.row("slice_equal", N, |x| equal(&vec, &same, x))?;
+    report.row("slice_compare", N, |x| compare(&vec, &last_higher, x))?;
+    report.row("slice_hash", N, |x| hash(&vec, x))?;
+    report.row("slice_debug_print", N, |x| debug_print(&vec, &mut text, x))
+}
+
+/// The splices of a `TinyVec` of `u64`, inline and on the heap, and comparisons of inline ones.
 pub fn of_tiny<R: Runtime, const N: usize>(report: &Report<'_, R>, alloc: Global) -> io::Result<()>
     requires { N * 8 < 2 ^ 63 }
 {
@@ -159,5 +196,23 @@ pub fn of_tiny<R: Runtime, const N: usize>(report: &Report<'_, R>, alloc: Global
         "tiny_heap_splice_more",
         N,
         |x| tiny_splice(&mut vec, &source, count / 2, x),
-    )
+    )?;
+    looks_at_tiny::<R, N>(report, alloc)
+}
+
+fn looks_at_tiny<R: Runtime, const N: usize>(
+    report: &Report<'_, R>,
+    alloc: Global,
+) -> io::Result<()>
+    requires { N * 8 < 2 ^ 63 }
+{
+    let source = scattered::<u64, N>();
+    let vec = TinyVec::from_array(alloc, source);
+    let same = TinyVec::from_array(alloc, source);
+    let last_higher = TinyVec::from_array(alloc, higher_at(source, N.saturating_sub(1)));
+    let mut text = Text::new();
+    report.row("tiny_equal", N, |x| equal(&vec, &same, x))?;
+    report.row("tiny_compare", N, |x| compare(&vec, &last_higher, x))?;
+    report.row("tiny_hash", N, |x| hash(&vec, x))?;
+    report.row("tiny_debug_print", N, |x| debug_print(&vec, &mut text, x))
 }

@@ -25,3 +25,12 @@ pub fn pairs<const N: usize>() -> [u64; N] {
     }
     numbers
 }
+
+/// The numbers, of which the one at `i` is higher by one.
+pub fn higher_at<const N: usize>(numbers: [u64; N], i: usize) -> [u64; N] {
+    let mut higher = numbers;
+    if i < N {
+        higher[i] = higher[i].wrapping_add(1);
+    }
+    higher
+}

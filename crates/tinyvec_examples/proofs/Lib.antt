@@ -2,3 +2,4 @@ pub mod DrainEnded
 pub mod BothEnds
 pub mod SpliceEnded
 pub mod SpliceCounted
+pub mod Texts

@@ -2,14 +2,18 @@
 #![tactic(auto)]
 
 pub mod clones;
+pub mod comparing;
 pub mod draining;
 pub mod edits;
 pub mod ends;
 pub mod known_items;
 pub mod lending;
+pub mod macros;
 pub mod making;
+pub mod printing;
 pub mod readme;
 pub mod slices;
 pub mod splicing;
 pub mod tiny_splicing;
 pub mod tiny_vec;
+pub mod writing;

@@ -3,3 +3,4 @@
 pub mod array;
 pub mod loops;
 pub mod slice;
+pub mod texts;

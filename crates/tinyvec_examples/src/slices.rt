@@ -6,3 +6,4 @@ pub mod filling;
 pub mod lending;
 pub mod making;
 pub mod parting;
+pub mod writing;

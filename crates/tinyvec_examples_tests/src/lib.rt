@@ -4,6 +4,8 @@
 #[cfg(test)]
 mod clones;
 #[cfg(test)]
+mod comparing;
+#[cfg(test)]
 mod draining;
 #[cfg(test)]
 mod edits;
@@ -14,10 +16,16 @@ mod known_items;
 #[cfg(test)]
 mod loops;
 #[cfg(test)]
+mod macros;
+#[cfg(test)]
 mod making;
+#[cfg(test)]
+mod printing;
 #[cfg(test)]
 mod slices;
 #[cfg(test)]
 mod splices;
 #[cfg(test)]
 mod tiny_vec;
+#[cfg(test)]
+mod writing;

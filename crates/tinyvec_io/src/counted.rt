@@ -12,7 +12,7 @@ use std::marker::Model;
 /// A fault is a `read`, `write` or `flush` that answered `Err`, also where it was interrupted, and
 /// a `write` that took nothing of bytes given. The end of input is none. Each of these calls is
 /// passed on as it is, with its answer, and no bytes are kept back.
-#[derive(Drop)]
+#[derive(Debug, Drop)]
 pub struct Counted<E> {
     end: E,
     faults: u64,

@@ -4,6 +4,7 @@ pub use Rattle.tinyvec_slots.specs.Cut
 pub use Rattle.tinyvec_slots.specs.Filling
 pub use Rattle.tinyvec_slots.specs.Filters
 pub use Rattle.tinyvec_slots.specs.Clones
+pub use Rattle.tinyvec_slots.specs.Texts
 pub mod Parts
 pub mod View
 pub mod Lends

@@ -1,14 +1,16 @@
 //! The iterator that moves a range of items out of a vector.
-ghost use Rattle.std.specs.Prelude.{◌≡◌, ◌++◌, length, None, IfSome};
+ghost use Rattle.std.specs.Prelude.{◌≡◌, ◌++◌, length, codes, None, IfSome};
+ghost use Rattle.std.specs.Fmt.{debug_list, debug_variant};
 ghost use Rattle.std.specs.Iterator.{at_most, UpTo};
 ghost use Rattle.std.specs.Iterator.SizeHint.{IsWithinCount};
 ghost use Rattle.std.specs.Iterator.Runs.{YieldsInOrder};
 ghost use Rattle.tinyvec_slots.specs.Cut.{IsRangeOf, before, removed, after};
 
 use crate::{Lent, SliceVecOver};
+use std::fmt;
 use std::iter::FusedIterator;
 use std::ops::RangeBounds;
-use tinyvec_slots::resolve;
+use tinyvec_slots::{part, resolve, write_named};
 
 /// Gives the items of a range, which the vector has lost already. When it ends, their slots hold defaults.
 pub struct SliceVecDrainOver<'a, B: Lent>
@@ -122,3 +124,18 @@ impl<'a, B: Lent> FusedIterator for SliceVecDrainOver<'a, B>
 where
     B::Item: Default,
 {}
+
+impl<'a, B: Lent> fmt::Debug for SliceVecDrainOver<'a, B>
+where
+    B::Item: Default + fmt::Debug,
+{
+    ghost use Rattle.tinyvec_slice.specs.Drain.{drain_items};
+
+    ghost debug_output = { λ d. debug_variant (codes "SliceVecDrain")
+        (debug_list B.Item.debug_output (drain_items B.Lent d)) };
+
+    fn fmt<W: fmt::Write>(&self, f: &mut fmt::Formatter<W>) -> fmt::Result {
+        let vacated = self.vec.grab_spare_slice();
+        write_named(f, "SliceVecDrain", part(vacated, self.front, self.count))
+    }
+}

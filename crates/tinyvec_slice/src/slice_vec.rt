@@ -3,6 +3,7 @@ ghost use Rattle.std.specs.Prelude.{◌≡◌, ◌<◌, ◌≤◌, ◌==◌, ◌
 ghost use Rattle.std.specs.List.{remove_range};
 ghost use Rattle.tinyvec_slots.specs.Slots.{AreDefaults, split_at};
 
+mod comparing;
 mod cutting;
 mod draining;
 mod edits;
@@ -14,7 +15,9 @@ mod iterating;
 mod joining;
 mod lending;
 mod making;
+mod printing;
 mod resizing;
+mod writing;
 
 use crate::Lent;
 use crate::slots::{clear, slots_to_end, take_slot};

@@ -4,6 +4,8 @@
 #[cfg(test)]
 mod clones;
 #[cfg(test)]
+mod comparing;
+#[cfg(test)]
 mod draining;
 #[cfg(test)]
 mod edits;
@@ -15,3 +17,7 @@ mod iterators;
 mod joining;
 #[cfg(test)]
 mod making;
+#[cfg(test)]
+mod printing;
+#[cfg(test)]
+mod writing;

@@ -9,6 +9,7 @@ pub mod CloneLemmas
 pub mod ClonesOverLemmas
 pub mod CloneFromLemmas
 pub mod FillingLemmas
+pub mod ComparingLemmas
 pub mod Walks
 pub mod Runs
 pub mod Fused

@@ -15,6 +15,10 @@ gap_back g = g.back
 abbrev pub gap_len : Gap → ℕ
 gap_len g = g.end - g.next
 
+-- the removed items that are left
+abbrev pub gap_left : {T : Type 0} → Gap → List T → List T
+gap_left g xs = slice_range xs g.next g.end
+
 -- how many slots were touched
 abbrev pub gap_touches : Gap → ℕ
 gap_touches g = touch_count g.touches
@@ -23,7 +27,7 @@ gap_touches g = touch_count g.touches
 abbrev pub gap_view : {I T : Type 0} → Gap → I → List T → SpliceView I T
 gap_view g replacement xs = record {
   front = take g.front xs;
-  left = slice_range xs g.next g.end;
+  left = gap_left g xs;
   back = drop g.back xs;
   replacement = replacement;
   touches = gap_touches g;

@@ -5,6 +5,8 @@ pub mod Drains
 pub mod Filters
 pub mod Clones
 pub mod Filling
+pub mod Comparing
+pub mod Texts
 pub mod Touches
 pub mod Fused
 pub mod Gap

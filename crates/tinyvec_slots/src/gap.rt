@@ -2,17 +2,18 @@
 ghost use Rattle.std.specs.Prelude.{◌≡◌, ◌+◌, ◌<◌, ◌==◌, length};
 ghost use Rattle.std.specs.Iterator.Adapters.{fuse_done, fuse_steps};
 ghost use Rattle.tinyvec_slots.specs.Fused.{FusedCan, FusedFinite};
-ghost use Rattle.tinyvec_slots.specs.Gap.{gap_len, gap_touches, gap_view, GapOpens, GapCanStep};
+ghost use Rattle.tinyvec_slots.specs.Gap.{gap_len, gap_left, gap_touches, gap_view, GapOpens, GapCanStep};
 ghost use Rattle.tinyvec_slots.specs.Splices.{GivesFromFront, GivesFromBack};
 
 mod closing;
 
+use crate::part;
 use crate::touches::Touches;
 use std::iter::Fuse;
 
 /// Where a splice stands in the slots of a list, and how often it touched them: a touch is one slot read out with the
 /// default that it may leave, one item placed in a slot, or two slots swapped.
-#[derive(Drop)]
+#[derive(Debug, Drop)]
 pub struct Gap {
     // What stays or was placed from the front ends at `front`, and what was placed from the back or stays begins at `back`.
     front: usize,
@@ -49,6 +50,13 @@ impl Gap {
         ensures { result ≡ (gap_len self.now == 0) }
     {
         self.len() == 0
+    }
+
+    /// The removed items that are left, of the items that the slots hold.
+    pub fn left<'s, T>(&self, slots: &'s [T]) -> &'s [T]
+        ensures { result.now ≡ gap_left self.now slots.now }
+    {
+        part(slots, self.next, self.end)
     }
 
     /// How many slots were touched.

@@ -2,22 +2,28 @@
 #![tactic(auto)]
 
 mod cloning;
+mod comparing;
 mod filtering;
 mod gap;
 mod moving;
 mod no_memory;
 mod no_room;
+mod printing;
 mod range;
 mod resetting;
 mod shifting;
 mod touches;
 
 pub use cloning::{clone_each, clone_over, clone_through};
+pub use comparing::{hash_items, order, partial_order, same_items};
 pub use filtering::{dedup_in_front, dedup_keys_in_front, retain_in_front, retain_mut_in_front};
 pub use gap::Gap;
 pub use moving::{last_to, move_to_end, part_to_end};
 pub use no_memory::NoMemory;
 pub use no_room::{FromIterRest, NoRoom, SpliceRest};
-pub use range::resolve;
+pub use printing::{
+    InBinary, InHex, InOctal, InUpperHex, ItemText, Plain, write_items, write_named,
+};
+pub use range::{part, resolve};
 pub use resetting::reset;
 pub use shifting::{are_few, insert_shifting, remove_shifting};

@@ -1,5 +1,5 @@
-//! The range rule.
-ghost use Rattle.std.specs.Prelude.{◌≡◌};
+//! The range rule, and a part of a slice.
+ghost use Rattle.std.specs.Prelude.{◌≡◌, slice_range};
 ghost use Rattle.tinyvec_slots.specs.Cut.{range_start, range_end};
 
 use std::ops::{Bound, Range, RangeBounds};
@@ -21,4 +21,12 @@ pub fn resolve<R: RangeBounds<usize>>(range: R, len: usize) -> Range<usize>
         Bound::Unbounded => len,
     };
     start..end
+}
+
+/// The items from `start` up to `end`, as far as there are any.
+pub fn part<T>(items: &[T], start: usize, end: usize) -> &[T]
+    ensures { result.now ≡ slice_range items.now start end }
+{
+    let behind = &items[start.min(items.len())..];
+    &behind[..end.saturating_sub(start).min(behind.len())]
 }

@@ -7,7 +7,7 @@ use std::mem;
 
 // Reaches slots, and counts how often: a touch is one slot read out with the default that it may leave, one item placed
 // in a slot, or two slots swapped.
-#[derive(Drop)]
+#[derive(Debug, Drop)]
 pub(crate) struct Touches {
     count: u128,
 }
@@ -81,9 +81,12 @@ impl Touches {
         ensures count { touch_count self.new ≡ touch_count self.old + (length slots.old - back) }
     {
         let gap = back - at;
+        // A count of its own stays in a register while slots are written.
+        let mut touches = Touches { count: self.count };
         for from in back..slots.len() {
-            self.swap(slots, from - gap, from);
+            touches.swap(slots, from - gap, from);
         }
+        self.count = touches.count;
     }
 
     // Moves what stands from `middle` on before what stands from `start` on.
@@ -99,11 +102,14 @@ impl Touches {
         let mut first = start;
         let mut middle = middle;
         let mut next = middle;
+        // A count of its own stays in a register while slots are written.
+        let mut touches = Touches { count: self.count };
         while first < middle && next < slots.len() {
-            self.swap(slots, first, next);
+            touches.swap(slots, first, next);
             first += 1;
             (middle, next) = after_swap(first, middle, next + 1, slots.len());
         }
+        self.count = touches.count;
     }
 }
 

@@ -4,6 +4,8 @@
 #[cfg(test)]
 mod clones;
 #[cfg(test)]
+mod comparing;
+#[cfg(test)]
 mod draining;
 #[cfg(test)]
 mod edits;
@@ -18,12 +20,18 @@ mod iterators;
 #[cfg(test)]
 mod looks;
 #[cfg(test)]
+mod macros;
+#[cfg(test)]
 mod making;
 #[cfg(test)]
 mod moving;
+#[cfg(test)]
+mod printing;
 #[cfg(test)]
 mod refusals;
 #[cfg(test)]
 mod reserving;
 #[cfg(test)]
 mod splices;
+#[cfg(test)]
+mod writing;

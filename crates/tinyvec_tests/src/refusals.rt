@@ -3,10 +3,14 @@ ghost use Rattle.std.specs.Prelude.{◌≡◌, IfOk};
 ghost use Rattle.tinyvec.specs.Tiny.{tiny_len};
 
 use crate::looks::{lies, spares};
+use crate::macros::counted;
+use crate::writing::{has_bytes, has_spare_bytes};
 use std::alloc::{AllocError, Global};
+use std::cell::Cell;
+use std::io::Write;
 use std::process::Abort;
 use std::test::Fail;
-use tinyvec::{FromIterRest, NoMemory, NoRoom, SpliceRest, TinyVec};
+use tinyvec::{FromIterRest, NoMemory, NoRoom, SpliceRest, TinyVec, tiny_vec};
 
 // Says that a refusal was met. The script asks this of each test here.
 fn refused(rt: &impl Print) -> Result<(), Fail> {
@@ -76,6 +80,37 @@ fn from_iter(rt: HostRuntime) -> Result<(), Fail> {
             assert!(rt; item == 4);
             assert!(rt; rest.next() == Some(5));
             assert!(rt; rest.next() == None);
+            refused(&rt)?;
+        }
+    }
+    Ok(())
+}
+
+// No item is evaluated before there is room for all.
+#[test]
+fn tiny_vec(rt: HostRuntime) -> Result<(), Fail> {
+    assert!(rt; tiny_vec!(rt.alloc(); [i32; 3] => 1, 2, 3).is_ok());
+    let count = Cell::new(0);
+    match tiny_vec!(rt.alloc(); [i32; 3] => counted(&count), counted(&count), 3, 4) {
+        Ok(v) => assert!(rt; lies(&v, &[1, 2, 3, 4], false)),
+        Err(AllocError) => {
+            assert!(rt; count.get() == 0);
+            refused(&rt)?;
+        }
+    }
+    Ok(())
+}
+
+// The same where the place of the call says which array it is.
+#[test]
+fn tiny_vec_told_by_its_place(rt: HostRuntime) -> Result<(), Fail> {
+    let count = Cell::new(0);
+    let made: Result<TinyVec<[i32; 1]>, AllocError> =
+        tiny_vec!(rt.alloc(); counted(&count), counted(&count));
+    match made {
+        Ok(v) => assert!(rt; lies(&v, &[1, 2], false)),
+        Err(AllocError) => {
+            assert!(rt; count.get() == 0);
             refused(&rt)?;
         }
     }
@@ -260,6 +295,34 @@ fn extend_from_slice(rt: HostRuntime) -> Result<(), Fail> {
             refused(&rt)?;
         }
     }
+    Ok(())
+}
+
+#[test]
+fn write(rt: HostRuntime) -> Result<(), Fail> {
+    let mut v = TinyVec::from_array_len(rt.alloc(), [1, 2, 9], 2);
+    match v.write(&[3, 4]) {
+        Ok(count) => assert!(rt; count == 2),
+        Err(_) => {
+            assert!(rt; has_bytes(&v, &[1, 2], true));
+            assert!(rt; has_spare_bytes(&v, &[9]));
+            refused(&rt)?;
+            assert!(rt; v.write(&[3, 4])? == 2);
+        }
+    }
+    assert!(rt; has_bytes(&v, &[1, 2, 3, 4], false));
+    let mut heap: TinyVec<[u8; 3]> = TinyVec::from_slice(rt.alloc(), &[1, 2, 3, 4])?;
+    let room = heap.capacity();
+    match heap.write(&[5; 100]) {
+        Ok(count) => assert!(rt; count == 100),
+        Err(_) => {
+            assert!(rt; has_bytes(&heap, &[1, 2, 3, 4], false));
+            assert!(rt; heap.capacity() == room);
+            refused(&rt)?;
+            assert!(rt; heap.write(&[5; 100])? == 100);
+        }
+    }
+    assert!(rt; heap.len() == 104);
     Ok(())
 }
 

@@ -5,10 +5,11 @@ ghost use Rattle.tinyvec.specs.Tiny.{tiny_len};
 
 use crate::looks::{lies, spares};
 use std::alloc::{AllocError, AllocGlobal, Global};
+use std::iter;
 use std::ops::{Bound, RangeBounds};
 use std::process::Abort;
 use std::test::Fail;
-use tinyvec::TinyVec;
+use tinyvec::{SpliceRest, TinyVec};
 use tinyvec_test_items::Unhinted;
 
 // `[1, 2, 3]`, inline in ten slots or on the heap.
@@ -328,5 +329,50 @@ fn a_vec_of_replacements(rt: HostRuntime) -> Result<(), Fail> {
     assert!(rt; splice.next_back() == Some(3));
     assert!(rt; splice.finish().is_ok());
     assert!(rt; lies(&v, &[1, 2, 8, 9], true));
+    Ok(())
+}
+
+// There is no number of items above this one, so room for one more is granted by no allocator.
+#[test]
+fn refused_by_the_count(rt: HostRuntime) {
+    let mut v = TinyVec::from_array(rt.alloc(), [(); usize::MAX]);
+    let mut splice = v.splice(1..3, [(), (), (), ()]);
+    assert!(rt; splice.next() == Some(()));
+    assert!(rt; splice.next_back() == Some(()));
+    match splice.finish() {
+        Ok(()) => assert!(rt; false),
+        Err(SpliceRest { item, mut rest }) => {
+            assert!(rt; item == ());
+            assert!(rt; rest.next() == Some(()));
+            assert!(rt; rest.next() == None);
+        }
+    }
+    assert!(rt; v.len() == usize::MAX);
+    assert!(rt; v.is_inline());
+}
+
+// Splices the last two of `[1, 2, 3]` by an endless replacement, takes one, and stops.
+fn stopped(rt: &(impl Abort + AllocGlobal), inline: bool) -> Result<(), Fail> {
+    let mut v = one_two_three(rt.alloc(), inline)?;
+    let mut splice = v.splice(1.., iter::repeat(7));
+    assert!(rt; splice.next() == Some(2));
+    let mut rest = splice.stop();
+    assert!(rt; rest.next() == Some(7));
+    assert!(rt; lies(&v, &[1, 7], inline));
+    Ok(())
+}
+
+#[test]
+fn stopped_amid_an_endless_replacement(rt: HostRuntime) -> Result<(), Fail> {
+    stopped(&rt, true)?;
+    stopped(&rt, false)?;
+    let mut v = one_two_three(rt.alloc(), true)?;
+    let mut splice = v.splice(.., [7, 8, 9]);
+    assert!(rt; splice.next() == Some(1));
+    assert!(rt; splice.next_back() == Some(3));
+    let mut rest = splice.stop();
+    assert!(rt; rest.next() == Some(8));
+    assert!(rt; rest.next() == None);
+    assert!(rt; lies(&v, &[7, 9], true));
     Ok(())
 }

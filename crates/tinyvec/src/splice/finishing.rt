@@ -16,7 +16,7 @@ use tinyvec_array::{Array, NoRoom, SpliceRest};
 use tinyvec_slots::Gap;
 
 impl<'a, A: Array, I: Iterator<Item = A::Item>> TinyVecSplice<'a, A, Fuse<I>> {
-    ghost use Rattle.tinyvec.specs.TinySplice.{splice_view, splice_front, splice_back, splice_replacement, splice_vec, splice_touches, SpliceCanNext};
+    ghost use Rattle.tinyvec.specs.TinySplice.{splice_view, splice_front, splice_back, splice_replacement, splice_vec, splice_touches, SpliceCanStep, SpliceCanNext};
 
     /// How many slots were touched since `splice`: a touch is one slot read out with the default that it may leave, one
     /// item placed in a slot, two slots swapped, or one item moved to the heap.
@@ -93,6 +93,27 @@ impl<'a, A: Array, I: Iterator<Item = A::Item>> TinyVecSplice<'a, A, Fuse<I>> {
         }
         let finished = append_in(vec, &mut gap, replacement);
         (finished, gap.touches())
+    }
+
+    /// Ends the splice as it stands: drops the removed items that are left, asks the replacement for nothing more, and hands
+    /// it back. So it ends a splice whose replacement is endless too.
+    pub fn stop(self) -> Fuse<I>
+        requires { SpliceCanStep self }
+        ensures rest { result ≡ splice_replacement self.entry }
+        ensures items { tiny_items self.exit.0.now ≡ splice_front self.entry ++ splice_back self.entry }
+        ensures place { is_inline self.exit.0.now ≡ is_inline (splice_vec self.entry) }
+        ensures slots { TinySlotRule A.Item.is_default (splice_vec self.entry) self.exit.0.now }
+        ensures capacity { tiny_capacity A.CAPACITY self.exit.0.now ≡ tiny_capacity A.CAPACITY (splice_vec self.entry) }
+        ensures fits { tiny_len self.exit.0.now ≤ tiny_capacity A.CAPACITY self.exit.0.now }
+    {
+        let TinyVecSplice {
+            vec,
+            gap: mut unfilled,
+            replacement,
+            unspent: _,
+        } = self;
+        close(vec, &mut unfilled);
+        replacement
     }
 }
 

@@ -7,8 +7,8 @@ use crate::TinyVec;
 use tinyvec_array::{Array, NoMemory};
 
 impl<A: Array> TinyVec<A> {
-    // Appends `x`, where there is room.
-    pub(crate) fn push_reserved(&mut self, x: A::Item)
+    /// Appends `x`, where there is room already. It asks for no memory, so it answers nothing.
+    pub fn push_reserved(&mut self, x: A::Item)
         requires { tiny_len self.old < tiny_capacity A.CAPACITY self.old }
         ensures items { tiny_items self.new ≡ tiny_items self.old ++ x ∷ [] }
         ensures place { is_inline self.new ≡ is_inline self.old }

@@ -13,7 +13,7 @@ use std::iter::Fuse;
 use tinyvec_slots::Gap;
 
 impl<'a, A: Array, I: Iterator<Item = A::Item>> ArrayVecSplice<'a, A, Fuse<I>> {
-    ghost use Rattle.tinyvec_array.specs.Splice.{splice_view, splice_slots, splice_touches, SpliceCanNext};
+    ghost use Rattle.tinyvec_array.specs.Splice.{splice_view, splice_front, splice_back, splice_replacement, splice_slots, splice_touches, SpliceCanStep, SpliceCanNext};
 
     /// How many slots were touched since `splice`: a touch is one slot read out with the default that it may leave, one
     /// item placed in a slot, or two slots swapped.
@@ -69,6 +69,25 @@ impl<'a, A: Array, I: Iterator<Item = A::Item>> ArrayVecSplice<'a, A, Fuse<I>> {
         }
         let finished = append_in(vec, &mut gap, replacement);
         (finished, gap.touches())
+    }
+
+    /// Ends the splice as it stands: drops the removed items that are left, asks the replacement for nothing more, and hands
+    /// it back.
+    pub fn stop(self) -> Fuse<I>
+        requires { SpliceCanStep self }
+        ensures rest { result ≡ splice_replacement self.entry }
+        ensures items { items self.exit.0.now ≡ splice_front self.entry ++ splice_back self.entry }
+        ensures slots { SlotRule A.Item.is_default (splice_slots self.entry) self.exit.0.now }
+        ensures fits { items_len self.exit.0.now ≤ A.CAPACITY }
+    {
+        let ArrayVecSplice {
+            vec,
+            gap: mut unfilled,
+            replacement,
+            unspent: _,
+        } = self;
+        close(vec, &mut unfilled);
+        replacement
     }
 }
 

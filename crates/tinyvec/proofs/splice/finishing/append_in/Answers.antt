@@ -1,4 +1,4 @@
-use Rattle.std.proofs.Common.{◌≡◌, ◌++◌, List, take, drop, slice_range, length, ap, ◌∙◌}
+use Rattle.std.proofs.Common.{◌≡◌, ◌++◌, take, drop, slice_range, length, ap, ◌∙◌}
 use Rattle.tinyvec_slots.proofs.TurnLemmas.{brought_in}
 use Rattle.tinyvec.specs.Tiny.{tiny_items, tiny_len, SameFrame}
 use Rattle.tinyvec.specs.Lends.{tiny_with_items}

@@ -5,7 +5,7 @@ use Rattle.tinyvec_slots.proofs.touches.Touches.rotate.Given as goal
 
 abbrev pub invariant-loop-first : goal.invariant-loop-first
 invariant-loop-first g l = record {
-  count : touch_count l.self ≡ touch_count l.initial.self + (l.first - l.start);
+  count : touch_count l.touches ≡ touch_count l.initial.touches + (l.first - l.start);
   len : length l.slots ≡ length l.initial.slots;
   started : l.start ≤ l.first;
   in_order : l.first ≤ l.middle;

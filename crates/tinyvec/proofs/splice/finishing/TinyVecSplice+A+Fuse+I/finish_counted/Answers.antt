@@ -1,4 +1,4 @@
-use Rattle.std.proofs.Common.{◌≡◌, ◌+◌, ◌-◌, ◌++◌, ◌≤◌, List, take, drop, length, Ok, sym, ap, ◌∙◌, arith, length-append}
+use Rattle.std.proofs.Common.{◌≡◌, ◌+◌, ◌++◌, ◌≤◌, take, drop, length, Ok, ap, ◌∙◌, arith, length-append}
 use Rattle.std.proofs.lemmas.List.{length-take-le, length-drop}
 use Rattle.std.specs.Iterator.Adapters.{fuse_steps}
 use Rattle.tinyvec_slots.specs.Fused.{fused_rest}

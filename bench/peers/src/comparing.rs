@@ -1,0 +1,30 @@
+//! Vectors compared and hashed, each as a whole.
+
+use crate::fnv::Fnv;
+use std::hash::{Hash, Hasher};
+
+/// `x` where the lists are equal.
+#[inline(never)]
+pub fn equal<V: PartialEq>(a: &V, b: &V, x: u64) -> u64 {
+    if *a == *b {
+        return x;
+    }
+    0
+}
+
+/// `x` where `a` comes first.
+#[inline(never)]
+pub fn compare<V: PartialOrd>(a: &V, b: &V, x: u64) -> u64 {
+    if *a < *b {
+        return x;
+    }
+    0
+}
+
+/// The hash of the list, by a hasher that starts at `x`.
+#[inline(never)]
+pub fn hash<V: Hash>(vec: &V, x: u64) -> u64 {
+    let mut state = Fnv::new(x);
+    vec.hash(&mut state);
+    state.finish()
+}

@@ -1,0 +1,175 @@
+//! Vectors and their iterators as text.
+ghost use Rattle.std.specs.Prelude.{true, false};
+ghost use Rattle.tinyvec_slots.specs.Slots.{items};
+ghost use Rattle.tinyvec_slots.specs.Texts.{list_in_radix};
+
+use std::fmt;
+use std::fmt::HasDigits;
+use std::test::Fail;
+use tinyvec_array::{Array, ArrayVec};
+
+// `{:x}`, `{:X}`, `{:o}` and `{:b}` write numbers alone, so a list needs a type that calls its trait.
+#[derive(Drop)]
+struct LowerHex<'a, A: Array>(&'a ArrayVec<A>);
+
+impl<'a, A: Array> fmt::Display for LowerHex<'a, A>
+where
+    A::Item: HasDigits + Copy,
+{
+    ghost output = { λ x. list_in_radix A.Item.word 16 false (items x.0.now) };
+
+    fn fmt<W: fmt::Write>(&self, f: &mut fmt::Formatter<W>) -> fmt::Result {
+        fmt::LowerHex::fmt(self.0, f)
+    }
+}
+
+#[derive(Drop)]
+struct UpperHex<'a, A: Array>(&'a ArrayVec<A>);
+
+impl<'a, A: Array> fmt::Display for UpperHex<'a, A>
+where
+    A::Item: HasDigits + Copy,
+{
+    ghost output = { λ x. list_in_radix A.Item.word 16 true (items x.0.now) };
+
+    fn fmt<W: fmt::Write>(&self, f: &mut fmt::Formatter<W>) -> fmt::Result {
+        fmt::UpperHex::fmt(self.0, f)
+    }
+}
+
+#[derive(Drop)]
+struct Octal<'a, A: Array>(&'a ArrayVec<A>);
+
+impl<'a, A: Array> fmt::Display for Octal<'a, A>
+where
+    A::Item: HasDigits + Copy,
+{
+    ghost output = { λ x. list_in_radix A.Item.word 8 false (items x.0.now) };
+
+    fn fmt<W: fmt::Write>(&self, f: &mut fmt::Formatter<W>) -> fmt::Result {
+        fmt::Octal::fmt(self.0, f)
+    }
+}
+
+#[derive(Drop)]
+struct Binary<'a, A: Array>(&'a ArrayVec<A>);
+
+impl<'a, A: Array> fmt::Display for Binary<'a, A>
+where
+    A::Item: HasDigits + Copy,
+{
+    ghost output = { λ x. list_in_radix A.Item.word 2 false (items x.0.now) };
+
+    fn fmt<W: fmt::Write>(&self, f: &mut fmt::Formatter<W>) -> fmt::Result {
+        fmt::Binary::fmt(self.0, f)
+    }
+}
+
+#[test]
+fn lists(rt: HostRuntime) -> Result<(), Fail> {
+    let mut v = ArrayVec::from_array_empty([99, 99, 99, 99]);
+    assert!(rt; format!(in rt.alloc(); "{v} {v:?}")?.as_str() == "[] []");
+    v.push(10);
+    assert!(rt; format!(in rt.alloc(); "{v} {v:?}")?.as_str() == "[10] [10]");
+    v.push(11);
+    assert!(rt; format!(in rt.alloc(); "{v} {v:?}")?.as_str() == "[10, 11] [10, 11]");
+    v.push(12);
+    assert!(rt; format!(in rt.alloc(); "{v} {v:?}")?.as_str() == "[10, 11, 12] [10, 11, 12]");
+    Ok(())
+}
+
+#[test]
+fn texts_of_items(rt: HostRuntime) -> Result<(), Fail> {
+    let v = ArrayVec::from_array_len(["a", "b, c", "d"], 2);
+    assert!(rt; format!(in rt.alloc(); "{v}")?.as_str() == "[a, b, c]");
+    assert!(rt; format!(in rt.alloc(); "{v:?}")?.as_str() == "[\"a\", \"b, c\"]");
+    Ok(())
+}
+
+#[test]
+fn numbers_in_other_bases(rt: HostRuntime) -> Result<(), Fail> {
+    let v = ArrayVec::from_array_len([10u8, 255, 7], 2);
+    assert!(rt; format!(in rt.alloc(); "{}", UpperHex(&v))?.as_str() == "[A, FF]");
+    assert!(rt; format!(in rt.alloc(); "{}", LowerHex(&v))?.as_str() == "[a, ff]");
+    let v = ArrayVec::from_array([8u32, 9]);
+    assert!(rt; format!(in rt.alloc(); "{}", Octal(&v))?.as_str() == "[10, 11]");
+    let v = ArrayVec::from_array([2u64, 5]);
+    assert!(rt; format!(in rt.alloc(); "{}", Binary(&v))?.as_str() == "[10, 101]");
+    Ok(())
+}
+
+// A negative number is written as the bits that stand for it.
+#[test]
+fn negative_numbers_in_other_bases(rt: HostRuntime) -> Result<(), Fail> {
+    let v = ArrayVec::from_array([-1i8, 1]);
+    assert!(rt; format!(in rt.alloc(); "{v}")?.as_str() == "[-1, 1]");
+    assert!(rt; format!(in rt.alloc(); "{}", UpperHex(&v))?.as_str() == "[FF, 1]");
+    assert!(rt; format!(in rt.alloc(); "{}", LowerHex(&v))?.as_str() == "[ff, 1]");
+    assert!(rt; format!(in rt.alloc(); "{}", Octal(&v))?.as_str() == "[377, 1]");
+    assert!(rt; format!(in rt.alloc(); "{}", Binary(&v))?.as_str() == "[11111111, 1]");
+    Ok(())
+}
+
+#[test]
+fn empty_lists_in_other_bases(rt: HostRuntime) -> Result<(), Fail> {
+    let v = ArrayVec::from_array_empty([1u16, 2]);
+    assert!(rt; format!(in rt.alloc(); "{}", UpperHex(&v))?.as_str() == "[]");
+    assert!(rt; format!(in rt.alloc(); "{}", LowerHex(&v))?.as_str() == "[]");
+    assert!(rt; format!(in rt.alloc(); "{}", Octal(&v))?.as_str() == "[]");
+    assert!(rt; format!(in rt.alloc(); "{}", Binary(&v))?.as_str() == "[]");
+    Ok(())
+}
+
+#[test]
+fn lists_of_lists(rt: HostRuntime) -> Result<(), Fail> {
+    let mut v: ArrayVec<[ArrayVec<[u8; 2]>; 3]> = ArrayVec::new();
+    v.push(ArrayVec::from_array_len([1, 9], 1));
+    v.push(ArrayVec::from_array([2, 3]));
+    assert!(rt; format!(in rt.alloc(); "{v} {v:?}")?.as_str() == "[[1], [2, 3]] [[1], [2, 3]]");
+    Ok(())
+}
+
+#[test]
+fn iterators(rt: HostRuntime) -> Result<(), Fail> {
+    let mut items = ArrayVec::from_array([1, 2, 3]).into_iter();
+    assert!(rt; items.next() == Some(1));
+    assert!(rt; format!(in rt.alloc(); "{items:?}")?.as_str() == "ArrayVecIterator([2, 3])");
+    assert!(rt; items.next_back() == Some(3));
+    assert!(rt; format!(in rt.alloc(); "{items:?}")?.as_str() == "ArrayVecIterator([2])");
+    assert!(rt; items.next() == Some(2));
+    assert!(rt; format!(in rt.alloc(); "{items:?}")?.as_str() == "ArrayVecIterator([])");
+    Ok(())
+}
+
+#[test]
+fn drains(rt: HostRuntime) -> Result<(), Fail> {
+    let mut v = ArrayVec::from_array_len([1, 2, 3, 4, 5, 6, 99], 6);
+    let mut drain = v.drain(1..5);
+    assert!(rt; format!(in rt.alloc(); "{drain:?}")?.as_str() == "ArrayVecDrain([2, 3, 4, 5])");
+    assert!(rt; drain.next() == Some(2));
+    assert!(rt; drain.next_back() == Some(5));
+    assert!(rt; format!(in rt.alloc(); "{drain:?}")?.as_str() == "ArrayVecDrain([3, 4])");
+    assert!(rt; drain.next() == Some(3));
+    assert!(rt; drain.next() == Some(4));
+    assert!(rt; format!(in rt.alloc(); "{drain:?}")?.as_str() == "ArrayVecDrain([])");
+    Ok(())
+}
+
+// No splice may be let go, so the texts are looked at when it has ended.
+#[test]
+fn splices(rt: HostRuntime) -> Result<(), Fail> {
+    let mut v = ArrayVec::from_array_len([1, 2, 3, 4, 5, 99], 5);
+    let mut splice = v.splice(1..4, [7]);
+    let whole = format!(in rt.alloc(); "{splice:?}");
+    assert!(rt; splice.next() == Some(2));
+    let after_one = format!(in rt.alloc(); "{splice:?}");
+    assert!(rt; splice.next_back() == Some(4));
+    assert!(rt; splice.next() == Some(3));
+    let used_up = format!(in rt.alloc(); "{splice:?}");
+    assert!(rt; splice.finish().is_ok());
+    assert!(rt; whole?.as_str() == "ArrayVecSplice([2, 3, 4])");
+    assert!(rt; after_one?.as_str() == "ArrayVecSplice([3, 4])");
+    assert!(rt; used_up?.as_str() == "ArrayVecSplice([])");
+    assert!(rt; v.as_slice() == [1, 7, 5].as_slice());
+    Ok(())
+}

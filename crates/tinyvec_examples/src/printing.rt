@@ -1,0 +1,81 @@
+//! Vectors as texts.
+ghost use Rattle.std.specs.Prelude.{◌≡◌, ◌++◌, List, ℕ, Some, IfOk, string_bytes, codes, false};
+ghost use Rattle.std.specs.Fmt.{decimal};
+ghost use Rattle.std.specs.List.{join_by};
+ghost use Rattle.tinyvec.specs.Slots.{items};
+ghost use Rattle.tinyvec.specs.Texts.{list_in_radix};
+ghost use Rattle.tinyvec.specs.Tiny.{tiny_items};
+
+use std::alloc::{AllocError, Global};
+use std::fmt;
+use std::fmt::HasDigits;
+use tinyvec::{Array, ArrayVec, TinyVec};
+
+/// The list, and no spare slot.
+pub fn displayed(alloc: Global) -> Result<String, AllocError>
+    ensures { IfOk result (λ s. string_bytes s ≡ codes "[10, 11, 12]") }
+{
+    let v = ArrayVec::from_array_len([10u8, 11, 12, 13], 3);
+    format!(in alloc; "{v}")
+}
+
+/// The list, with text before it.
+pub fn debugged(alloc: Global) -> Result<String, AllocError>
+    ensures { IfOk result (λ s. string_bytes s ≡ codes "v: [10, -11, 12]") }
+{
+    let v = ArrayVec::from_array_len([10, -11, 12, 13], 3);
+    format!(in alloc; "v: {v:?}")
+}
+
+/// What is left to an iterator, with its name.
+pub fn iterator_debugged(alloc: Global) -> Result<String, AllocError>
+    ensures { IfOk result (λ s. string_bytes s ≡ codes "ArrayVecIterator([2, 3])") }
+{
+    let mut left = ArrayVec::from_array([1u8, 2, 3]).into_iter();
+    let _one = left.next();
+    format!(in alloc; "{left:?}")
+}
+
+/// A list whose items' texts are known: these, joined by a comma and a blank, in brackets.
+pub fn displayed_items<A: Array>(alloc: Global, v: &ArrayVec<A>) -> Result<String, AllocError>
+where
+    A::Item: fmt::Display,
+    ensures { (text : A.Item → List ℕ) → ((x : A.Item) → A.Item.output x ≡ Some (text x))
+        → IfOk result (λ s. string_bytes s ≡ codes "[" ++ (join_by text (codes ", ") (items v.now) ++ codes "]")) }
+{
+    format!(in alloc; "{}", *v)
+}
+
+/// A list of numbers, wherever it lies.
+pub fn displayed_numbers<A: Array<Item = u32>>(
+    alloc: Global,
+    v: &TinyVec<A>,
+) -> Result<String, AllocError>
+    ensures { IfOk result (λ s. string_bytes s
+        ≡ codes "[" ++ (join_by decimal (codes ", ") (tiny_items v.now) ++ codes "]")) }
+{
+    format!(in alloc; "{}", *v)
+}
+
+/// Prints a list in base 16.
+#[derive(Drop)]
+struct InHex<'a, A: Array>(&'a ArrayVec<A>);
+
+impl<'a, A: Array> fmt::Display for InHex<'a, A>
+where
+    A::Item: HasDigits + Copy,
+{
+    ghost output = { λ shown. list_in_radix A.Item.word 16 false (items shown.0.now) };
+
+    fn fmt<W: fmt::Write>(&self, f: &mut fmt::Formatter<W>) -> fmt::Result {
+        fmt::LowerHex::fmt(self.0, f)
+    }
+}
+
+/// The list in base 16.
+pub fn in_hex(alloc: Global) -> Result<String, AllocError>
+    ensures { IfOk result (λ s. string_bytes s ≡ codes "[a, b, ff]") }
+{
+    let v = ArrayVec::from_array_len([10u8, 11, 255, 13], 3);
+    format!(in alloc; "{}", InHex(&v))
+}

@@ -1,0 +1,76 @@
+//! Text written into a vector of bytes, and what the owner of the bytes sees.
+ghost use Rattle.std.specs.Prelude.{◌≡◌, ◌≤◌, ◌↔◌, ◌++◌, ◌∷◌, [], length, drop, codes, OnOk, IsTrue};
+ghost use Rattle.std.specs.Bool.{OnTrue, OnFalse};
+ghost use Rattle.std.specs.Fmt.{decimal};
+ghost use Rattle.tinyvec_slice.specs.View.{items_of, spare_of, name_of, items, spare, name};
+
+use std::fmt;
+use std::fmt::Write;
+use tinyvec_slice::{Lent, SliceVec, SliceVecOver};
+
+/// Two numbers and text between them, behind the list of any vector of bytes. Where not all of it fits, the caller of
+/// `write!` knows nothing of the vector.
+pub fn write_pair<B: Lent<Item = u8>>(v: &mut SliceVecOver<B>, x: u32, y: u32) -> fmt::Result
+    ensures same_reference { OnOk result (name_of B.Lent v.new ≡ name_of B.Lent v.old) }
+    ensures items { OnOk result
+        (items_of B.Lent v.new ≡ items_of B.Lent v.old ++ (decimal x ++ (codes ", " ++ decimal y))) }
+    ensures spare { OnOk result (spare_of B.Lent v.new
+        ≡ drop (length (decimal x ++ (codes ", " ++ decimal y))) (spare_of B.Lent v.old)) }
+{
+    write!(v, "{x}, {y}")
+}
+
+/// A caller by name: the same, and a line feed.
+pub fn write_line(v: &mut SliceVec<'_, u8>, x: u32, y: u32) -> fmt::Result
+    ensures same_reference { OnOk result (name v.new ≡ name v.old) }
+    ensures items { OnOk result
+        (items v.new ≡ items v.old ++ (decimal x ++ (codes ", " ++ decimal y)) ++ codes "\n") }
+    ensures spare { OnOk result
+        (spare v.new ≡ drop 1 (drop (length (decimal x ++ (codes ", " ++ decimal y))) (spare v.old))) }
+{
+    write_pair(v, x, y)?;
+    v.write_str("\n")
+}
+
+/// What the owner sees: the text before the other bytes, which are as they were.
+pub fn pair_into(bytes: &mut [u8], x: u32, y: u32) -> bool
+    ensures { OnTrue result (bytes.new ≡ (decimal x ++ (codes ", " ++ decimal y))
+        ++ drop (length (decimal x ++ (codes ", " ++ decimal y))) bytes.old) }
+{
+    let mut v = SliceVec::from_slice_len(bytes, 0);
+    write_pair(&mut v, x, y).is_ok()
+}
+
+/// Any text behind the list of any vector of bytes. It is written as a whole or not at all.
+pub fn write_text<B: Lent<Item = u8>>(v: &mut SliceVecOver<B>, s: &str) -> bool
+    ensures fits { IsTrue result ↔ (length s.now ≤ length (spare_of B.Lent v.old)) }
+    ensures same_reference { name_of B.Lent v.new ≡ name_of B.Lent v.old }
+    ensures items { OnTrue result (items_of B.Lent v.new ≡ items_of B.Lent v.old ++ s.now) }
+    ensures spare { OnTrue result (spare_of B.Lent v.new ≡ drop (length s.now) (spare_of B.Lent v.old)) }
+    ensures refused { OnFalse result (v.new ≡ v.old) }
+{
+    v.write_str(s).is_ok()
+}
+
+/// What the owner sees after that: the text before the other bytes, or no change.
+pub fn text_into(bytes: &mut [u8], s: &str) -> bool
+    ensures fits { IsTrue result ↔ (length s.now ≤ length bytes.old) }
+    ensures written { OnTrue result (bytes.new ≡ s.now ++ drop (length s.now) bytes.old) }
+    ensures refused { OnFalse result (bytes.new ≡ bytes.old) }
+{
+    let mut v = SliceVec::from_slice_len(bytes, 0);
+    write_text(&mut v, s)
+}
+
+/// The owner of an array sees the first text alone. The second is longer than the spare slots.
+pub fn one_of_two() -> [u8; 5]
+    ensures { result ≡ 1 ∷ 97 ∷ 98 ∷ 99 ∷ 9 ∷ [] }
+{
+    let mut array = [1, 9, 9, 9, 9];
+    {
+        let mut v = SliceVec::from_slice_len(&mut array, 1);
+        let _written = v.write_str("abc");
+        let _refused = v.write_str("de");
+    }
+    array
+}

@@ -1,0 +1,53 @@
+//! Texts and bytes written into vectors of bytes.
+ghost use Rattle.std.specs.Prelude.{◌≡◌, ◌+◌, ◌≤◌, ◌++◌, ◌↔◌, length, drop, codes, false, IsTrue, OnOk};
+ghost use Rattle.std.specs.Fmt.{decimal};
+ghost use Rattle.tinyvec.specs.Slots.{items, spare, items_len};
+ghost use Rattle.tinyvec.specs.Tiny.{tiny_items};
+
+use std::fmt::Write as _;
+use std::io::Write as _;
+use std::{fmt, io};
+use tinyvec::{Array, ArrayVec, TinyVec};
+
+/// Two numbers with text between them are appended.
+pub fn pair_written<A: Array<Item = u8>>(v: &mut ArrayVec<A>, x: u32, y: u32) -> fmt::Result
+    ensures { OnOk result (items v.new ≡ items v.old ++ (decimal x ++ (codes ", " ++ decimal y))) }
+{
+    write!(v, "{x}, {y}")
+}
+
+/// A text that fits is appended.
+pub fn text_written<A: Array<Item = u8>>(v: &mut ArrayVec<A>, s: &str)
+    requires { items_len v.old + length s.now ≤ A.CAPACITY }
+    ensures items { items v.new ≡ items v.old ++ s.now }
+    ensures spare { spare v.new ≡ drop (length s.now) (spare v.old) }
+{
+    let _written = v.write_str(s);
+}
+
+/// A text that does not fit is refused, and nothing of it is written.
+pub fn written_if_it_fits<A: Array<Item = u8>>(v: &mut ArrayVec<A>, s: &str) -> bool
+    ensures fits { IsTrue result ↔ (items_len v.old + length s.now ≤ A.CAPACITY) }
+    ensures items { IsTrue result → items v.new ≡ items v.old ++ s.now }
+    ensures refused { result ≡ false → v.new ≡ v.old }
+{
+    v.write_str(s).is_ok()
+}
+
+/// The same into a vector that may move to the heap for it.
+pub fn pair_written_anywhere<A: Array<Item = u8>>(
+    v: &mut TinyVec<A>,
+    x: u32,
+    y: u32,
+) -> io::Result<()>
+    ensures { OnOk result (tiny_items v.new ≡ tiny_items v.old ++ (decimal x ++ (codes ", " ++ decimal y))) }
+{
+    write!(v, "{x}, {y}")
+}
+
+/// Bytes are appended, wherever the list lies.
+pub fn bytes_written<A: Array<Item = u8>>(v: &mut TinyVec<A>, bytes: &[u8]) -> io::Result<()>
+    ensures { OnOk result (tiny_items v.new ≡ tiny_items v.old ++ bytes.now) }
+{
+    v.write_all(bytes)
+}

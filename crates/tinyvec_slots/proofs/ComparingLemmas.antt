@@ -1,0 +1,177 @@
+-- Equality of lists, part by part.
+use Rattle.std.proofs.Common.{◌≡◌, ℕ, Option, Some, None, true≢false, min, suc, zero, ◌+◌, ◌-◌, ◌<◌, ◌≤◌, Bool, true, false, ◌&&◌, List, [], ◌∷◌, ◌++◌, length, length-drop, length-take-le, get_or, take, drop, refl, sym, ◌∙◌, ap, arith, rules, add-one}
+use Rattle.std.specs.Cmp.{IsPartialOrder, Equal-is, first_so, second_so}
+use Rattle.std.specs.Cmp.Lexicographic.{pointwise, slice_cmp, slice_partial_cmp}
+use Rattle.tinyvec_slots.specs.Comparing.{FirstDifference}
+use Rattle.std.specs.Ordering.{eq_by_cmp, is_eq, nat_cmp, ordering_then, partial_ordering_then}
+use Rattle.std.specs.declared.cmp.Ordering.{Ordering}
+use Rattle.std.specs.declared.cmp.Ordering.TheVariants.{Less, Equal, Greater}
+use Rattle.std.proofs.lemmas.List.{take_all, take_rest, get_or-take}
+use Rattle.std.proofs.Math.Seq.{take-add}
+
+and_assoc : (a b c : Bool) → (a && b) && c ≡ a && (b && c)
+and_assoc true b c = refl
+and_assoc false b c = refl
+
+and_true : (a : Bool) → a && true ≡ a
+and_true true = refl
+and_true false = refl
+
+nat_cmp-less : (n : ℕ) → nat_cmp 0 (suc n) ≡ Less
+nat_cmp-less n = search rules
+
+nat_cmp-greater : (n : ℕ) → nat_cmp (suc n) 0 ≡ Greater
+nat_cmp-greater n = search rules
+
+nat_cmp-suc : (m n : ℕ) → nat_cmp (suc m) (suc n) ≡ nat_cmp m n
+nat_cmp-suc m n = search rules
+
+module _ {T : Type 0} (E : T → T → Bool) where
+  -- the first n items, and the others
+  pub pointwise_split : (n : ℕ) (xs ys : List T) → n ≤ length xs → n ≤ length ys
+      → pointwise E xs ys ≡ pointwise E (take n xs) (take n ys) && pointwise E (drop n xs) (drop n ys)
+  pointwise_split zero xs ys _ _ = refl
+  pointwise_split (suc n) (x ∷ xs) (y ∷ ys) h k =
+      ap (λ b. E x y && b) (pointwise_split n xs ys (omega arith) (omega arith)) ∙ sym (and_assoc (E x y) _ _)
+  pointwise_split (suc n) [] ys h k = absurd (omega arith)
+  pointwise_split (suc n) (x ∷ xs) [] h k = absurd (omega arith)
+
+  by_suc : (i : ℕ) (xs ys : List T) (x y : T) → i < length xs → i < length ys → x ≡ get_or xs i x → y ≡ get_or ys i y
+      → pointwise E (take (suc i) xs) (take (suc i) ys) ≡ pointwise E (take i xs) (take i ys) && E x y
+  by_suc zero (p ∷ xs) (q ∷ ys) x y h k ex ey = rw (ex, ey) (and_true (E p q))
+  by_suc (suc i) (p ∷ xs) (q ∷ ys) x y h k ex ey =
+      ap (λ b. E p q && b) (by_suc i xs ys x y (omega arith) (omega arith) ex ey) ∙ sym (and_assoc (E p q) _ _)
+  by_suc i [] ys x y h k ex ey = absurd (omega arith)
+  by_suc i (p ∷ xs) [] x y h k ex ey = absurd (omega arith)
+
+  -- one pair more
+  pub pointwise_take : (i : ℕ) (xs ys : List T) (x y : T) → i < length xs → i < length ys → x ≡ get_or xs i x → y ≡ get_or ys i y
+      → pointwise E (take (i + 1) xs) (take (i + 1) ys) ≡ pointwise E (take i xs) (take i ys) && E x y
+  pointwise_take i xs ys x y h k ex ey = rw add-one (by_suc i xs ys x y h k ex ey)
+
+  -- lists that are as long in front
+  pointwise_append : (xs ys more others : List T) → length xs ≡ length ys
+      → pointwise E (xs ++ more) (ys ++ others) ≡ pointwise E xs ys && pointwise E more others
+  pointwise_append [] [] more others e = refl
+  pointwise_append (x ∷ xs) (y ∷ ys) more others e =
+      ap (λ b. E x y && b) (pointwise_append xs ys more others (omega arith)) ∙ sym (and_assoc (E x y) _ _)
+  pointwise_append [] (y ∷ ys) more others e = absurd (omega arith)
+  pointwise_append (x ∷ xs) [] more others e = absurd (omega arith)
+
+  -- i items are equal, and n more
+  pub pointwise_more : (i n : ℕ) (xs ys : List T) → length xs ≡ length ys → i ≤ length xs
+      → pointwise E (take i xs) (take i ys) ≡ true
+      → pointwise E (take n (take (length xs - i) (drop i xs))) (take n (take (length ys - i) (drop i ys))) ≡ true
+      → pointwise E (take (i + n) xs) (take (i + n) ys) ≡ true
+  pointwise_more i n xs ys long within h e =
+      let w : i ≤ length ys = rw (← long) within in
+      let f : pointwise E (take n (drop i xs)) (take n (drop i ys)) ≡ true = rw (take_rest xs i, take_rest ys i) at e in
+      let k : length (take i xs) ≡ length (take i ys) = length-take-le i xs within ∙ sym (length-take-le i ys w) in
+      rw (take-add i n xs, take-add i n ys, pointwise_append (take i xs) (take i ys) (take n (drop i xs)) (take n (drop i ys)) k, h, f)
+
+  -- the first i items are equal, so the others decide
+  pub pointwise_rest : (i : ℕ) (xs ys : List T) → length xs ≡ length ys → i ≤ length xs
+      → pointwise E (take i xs) (take i ys) ≡ true
+      → pointwise E (take (length xs - i) (drop i xs)) (take (length ys - i) (drop i ys)) ≡ pointwise E xs ys
+  pointwise_rest i xs ys long within h =
+      let w : i ≤ length ys = rw (← long) within in
+      rw (take_rest xs i, take_rest ys i, pointwise_split i xs ys within w, h)
+
+  -- the first n items are not all equal
+  pub pointwise_front : (n : ℕ) (xs ys : List T) → n ≤ length xs → length xs ≡ length ys
+      → pointwise E (take n xs) (take n ys) ≡ false → pointwise E xs ys ≡ false
+  pointwise_front n xs ys within long h =
+      let w : n ≤ length ys = rw (← long) within in
+      rw (pointwise_split n xs ys within w, h)
+
+  -- the n items behind the first i are not all equal
+  pub pointwise_behind : (i n : ℕ) (xs ys : List T) → length xs ≡ length ys → i ≤ length xs → n ≤ length xs - i
+      → pointwise E (take i xs) (take i ys) ≡ true
+      → pointwise E (take n (take (length xs - i) (drop i xs))) (take n (take (length ys - i) (drop i ys))) ≡ false
+      → pointwise E xs ys ≡ false
+  pointwise_behind i n xs ys long within more same h =
+      let w : i ≤ length ys = rw (← long) within in
+      let f : pointwise E (take n (drop i xs)) (take n (drop i ys)) ≡ false = rw (take_rest xs i, take_rest ys i) at h in
+      let m : n ≤ length (drop i xs) = rw (length-drop i xs) more in
+      let l : length (drop i xs) ≡ length (drop i ys) = rw (length-drop i xs, length-drop i ys, long) refl in
+      rw (pointwise_split i xs ys within w, same) (pointwise_front n (drop i xs) (drop i ys) m l f)
+
+  -- the first m pairs were looked at, and the first that is not equal is x and y
+  pub unlike_at : (n m : ℕ) (xs ys : List T) (x y : T) → FirstDifference E (take m xs) (take m ys) (length (take m xs)) n
+      → n < m → m ≤ length xs → x ≡ get_or xs n x → y ≡ get_or ys n y → E x y ≡ false
+  unlike_at n m xs ys x y at l h ex ey =
+      at.2 (rw (length-take-le m xs h) l) x y (ex ∙ sym (get_or-take m xs n x l)) (ey ∙ sym (get_or-take m ys n y l))
+
+  -- all of them are equal
+  pub alike_all : (n m : ℕ) (xs ys : List T) → FirstDifference E (take m xs) (take m ys) (length (take m xs)) n
+      → m ≤ n → m ≤ length xs → m ≤ length ys → pointwise E (take m xs) (take m ys) ≡ true
+  alike_all n m xs ys at l h k =
+      rw (take_all n (take m xs) (omega (arith, l, length-take-le m xs h)), take_all n (take m ys) (omega (arith, l, length-take-le m ys k))) at at.1
+
+  -- the first n of the first m pairs are equal
+  abbrev pub SameOf : ℕ → ℕ → List T → List T → Type 0
+  SameOf n m xs ys = pointwise E (take n (take m xs)) (take n (take m ys)) ≡ true
+
+  -- of the first m pairs the first that is not equal is x and y, so it decides the order
+  module _ {C : T → T → Option Ordering} (o : IsPartialOrder E C) where
+    decides : (x y : T) (r rest : Option Ordering) → C x y ≡ r → E x y ≡ false → partial_ordering_then r rest ≡ r
+    decides x y None rest e u = refl
+    decides x y (Some Less) rest e u = refl
+    decides x y (Some Greater) rest e u = refl
+    decides x y (Some Equal) rest e u = absurd (true≢false (sym ((o.matches_eq x y).1 e) ∙ u))
+
+    pub partial_order_at : (n m : ℕ) (xs ys : List T) (x y : T) → n < m → m ≤ length xs → m ≤ length ys → SameOf n m xs ys
+        → x ≡ get_or xs n x → y ≡ get_or ys n y → E x y ≡ false → C x y ≡ slice_partial_cmp C xs ys
+    partial_order_at zero m (p ∷ xs) (q ∷ ys) x y l h k e ex ey u =
+        sym (decides x y (C x y) (slice_partial_cmp C xs ys) refl u) ∙ (λ i. partial_ordering_then (C (ex i) (ey i)) (slice_partial_cmp C xs ys))
+    partial_order_at (suc n) (suc m) (p ∷ xs) (q ∷ ys) x y l h k e ex ey u =
+        let same = (o.matches_eq p q).0 (first_so (E p q) (pointwise E (take n (take m xs)) (take n (take m ys))) e) in
+        let others = second_so (E p q) (pointwise E (take n (take m xs)) (take n (take m ys))) e in
+        rw same (partial_order_at n m xs ys x y (omega arith) (omega arith) (omega arith) others ex ey u)
+    partial_order_at zero m [] ys x y l h k e ex ey u = absurd (omega arith)
+    partial_order_at zero m (p ∷ xs) [] x y l h k e ex ey u = absurd (omega arith)
+    partial_order_at (suc n) zero xs ys x y l h k e ex ey u = absurd (omega arith)
+    partial_order_at (suc n) (suc m) [] ys x y l h k e ex ey u = absurd (omega arith)
+    partial_order_at (suc n) (suc m) (p ∷ xs) [] x y l h k e ex ey u = absurd (omega arith)
+
+    -- all pairs are equal, so the lengths decide
+    pub partial_order_long : (m : ℕ) (xs ys : List T) → m ≡ min (length xs) (length ys) → pointwise E (take m xs) (take m ys) ≡ true
+        → Some (nat_cmp (length xs) (length ys)) ≡ slice_partial_cmp C xs ys
+    partial_order_long m [] [] e same = refl
+    partial_order_long m [] (q ∷ ys) e same = ap Some (nat_cmp-less (length ys))
+    partial_order_long m (p ∷ xs) [] e same = ap Some (nat_cmp-greater (length xs))
+    partial_order_long zero (p ∷ xs) (q ∷ ys) e same = absurd (omega (arith, e))
+    partial_order_long (suc m) (p ∷ xs) (q ∷ ys) e same =
+        let now = (o.matches_eq p q).0 (first_so (E p q) (pointwise E (take m xs) (take m ys)) same) in
+        rw now (rw (nat_cmp-suc (length xs) (length ys)) (partial_order_long m xs ys (omega (arith, e)) (second_so (E p q) (pointwise E (take m xs) (take m ys)) same)))
+
+  module _ (R : T → T → Ordering) (ties : (x y : T) → E x y ≡ eq_by_cmp R x y) where
+    decides_all : (x y : T) (r rest : Ordering) → R x y ≡ r → E x y ≡ false → ordering_then r rest ≡ r
+    decides_all x y Less rest e u = refl
+    decides_all x y Greater rest e u = refl
+    decides_all x y Equal rest e u = absurd (true≢false (sym (ties x y ∙ ap is_eq e) ∙ u))
+
+    pub order_at : (n m : ℕ) (xs ys : List T) (x y : T) → n < m → m ≤ length xs → m ≤ length ys → SameOf n m xs ys
+        → x ≡ get_or xs n x → y ≡ get_or ys n y → E x y ≡ false → R x y ≡ slice_cmp R xs ys
+    order_at zero m (p ∷ xs) (q ∷ ys) x y l h k e ex ey u =
+        sym (decides_all x y (R x y) (slice_cmp R xs ys) refl u) ∙ (λ i. ordering_then (R (ex i) (ey i)) (slice_cmp R xs ys))
+    order_at (suc n) (suc m) (p ∷ xs) (q ∷ ys) x y l h k e ex ey u =
+        let same = (Equal-is (R p q)).0 (sym (ties p q) ∙ first_so (E p q) (pointwise E (take n (take m xs)) (take n (take m ys))) e) in
+        let others = second_so (E p q) (pointwise E (take n (take m xs)) (take n (take m ys))) e in
+        rw same (order_at n m xs ys x y (omega arith) (omega arith) (omega arith) others ex ey u)
+    order_at zero m [] ys x y l h k e ex ey u = absurd (omega arith)
+    order_at zero m (p ∷ xs) [] x y l h k e ex ey u = absurd (omega arith)
+    order_at (suc n) zero xs ys x y l h k e ex ey u = absurd (omega arith)
+    order_at (suc n) (suc m) [] ys x y l h k e ex ey u = absurd (omega arith)
+    order_at (suc n) (suc m) (p ∷ xs) [] x y l h k e ex ey u = absurd (omega arith)
+
+    -- all pairs are equal, so the lengths decide
+    pub order_long : (m : ℕ) (xs ys : List T) → m ≡ min (length xs) (length ys) → pointwise E (take m xs) (take m ys) ≡ true
+        → nat_cmp (length xs) (length ys) ≡ slice_cmp R xs ys
+    order_long m [] [] e same = refl
+    order_long m [] (q ∷ ys) e same = nat_cmp-less (length ys)
+    order_long m (p ∷ xs) [] e same = nat_cmp-greater (length xs)
+    order_long zero (p ∷ xs) (q ∷ ys) e same = absurd (omega (arith, e))
+    order_long (suc m) (p ∷ xs) (q ∷ ys) e same =
+        let now = (Equal-is (R p q)).0 (sym (ties p q) ∙ first_so (E p q) (pointwise E (take m xs) (take m ys)) same) in
+        rw now (rw (nat_cmp-suc (length xs) (length ys)) (order_long m xs ys (omega (arith, e)) (second_so (E p q) (pointwise E (take m xs) (take m ys)) same)))
