@@ -75,11 +75,12 @@ def of_file(file, text):
 
 
 def item_end(code, start, indent):
-    """The end of the item that starts there: its own line where that closes it, else the next brace at the same indent."""
+    """The end of the item that starts there: its own line where that closes it, else the next brace, or pair of them, at the
+    same indent."""
     line_end = code.find("\n", start)
     if code[start:line_end].rstrip().endswith("}"):
         return line_end
-    found = re.compile(rf"^{indent}\}}", re.M).search(code, start)
+    found = re.compile(rf"^{indent}(?:\{{)?\}}", re.M).search(code, start)
     return found.end() if found else len(code)
 
 
