@@ -295,7 +295,7 @@ fn stopped(rt: HostRuntime) {
     assert!(rt; rest.next() == Some(8));
     assert!(rt; rest.next() == None);
     assert!(rt; w.as_slice() == [7, 9].as_slice());
-    assert!(rt; w.grab_spare_slice()[0] == 0);
+    assert!(rt; w.into_inner() == [7, 9, 0, 0, 0, 0, 0, 0, 0, 0]);
 }
 
 #[test]
