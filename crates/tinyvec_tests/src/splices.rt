@@ -9,7 +9,7 @@ use std::iter;
 use std::ops::{Bound, RangeBounds};
 use std::process::Abort;
 use std::test::Fail;
-use tinyvec::{SpliceRest, TinyVec};
+use tinyvec::TinyVec;
 use tinyvec_test_items::Unhinted;
 
 // `[1, 2, 3]`, inline in ten slots or on the heap.
@@ -330,25 +330,6 @@ fn a_vec_of_replacements(rt: HostRuntime) -> Result<(), Fail> {
     assert!(rt; splice.finish().is_ok());
     assert!(rt; lies(&v, &[1, 2, 8, 9], true));
     Ok(())
-}
-
-// There is no number of items above this one, so room for one more is granted by no allocator.
-#[test]
-fn refused_by_the_count(rt: HostRuntime) {
-    let mut v = TinyVec::from_array(rt.alloc(), [(); usize::MAX]);
-    let mut splice = v.splice(1..3, [(), (), (), ()]);
-    assert!(rt; splice.next() == Some(()));
-    assert!(rt; splice.next_back() == Some(()));
-    match splice.finish() {
-        Ok(()) => assert!(rt; false),
-        Err(SpliceRest { item, mut rest }) => {
-            assert!(rt; item == ());
-            assert!(rt; rest.next() == Some(()));
-            assert!(rt; rest.next() == None);
-        }
-    }
-    assert!(rt; v.len() == usize::MAX);
-    assert!(rt; v.is_inline());
 }
 
 // Splices the last two of `[1, 2, 3]` by an endless replacement, takes one, and stops.
