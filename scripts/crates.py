@@ -36,7 +36,7 @@ COUNT = re.compile(r"^so far: (\d+) of (\d+) functions checked")
 
 class Crate:
     def __init__(self, name, row, uses):
-        self.name, self.row, self.uses = name, row, uses
+        self.name, self.row, self.uses, self.is_used = name, row, uses, False
         self.folder = TOP / "crates" / name
         self.out = self.folder / "out"
         self.is_program = (self.folder / "src/main.rt").is_file()
@@ -88,6 +88,8 @@ def read_crates():
         if name not in crates:
             used = rows[name].partition(":")[2].split()
             crates[name] = Crate(name, rows[name], [add(it) for it in used if it in rows])
+            for it in crates[name].uses:
+                it.is_used = True
         return crates[name]
 
     for name in rows:

@@ -1,10 +1,6 @@
-//! The tests of `ArrayVec`.
+//! The tests of what an `ArrayVec` does with its list.
 #![tactic(auto)]
 
-#[cfg(test)]
-mod clones;
-#[cfg(test)]
-mod comparing;
 #[cfg(test)]
 mod draining;
 #[cfg(test)]
@@ -12,22 +8,10 @@ mod edits;
 #[cfg(test)]
 mod ends;
 #[cfg(test)]
-mod errors;
-#[cfg(test)]
 mod filling;
 #[cfg(test)]
 mod filters;
 #[cfg(test)]
-mod iterators;
-#[cfg(test)]
-mod macros;
-#[cfg(test)]
 mod making;
 #[cfg(test)]
-mod owned;
-#[cfg(test)]
-mod printing;
-#[cfg(test)]
 mod splices;
-#[cfg(test)]
-mod writing;

@@ -22,11 +22,23 @@ pub fn same_items<T: PartialEq>(a: &[T], b: &[T]) -> bool
     if a.len() < 4 || are_large(a) {
         return *a == *b;
     }
-    // Most lists that differ do so in their first items.
-    if !same_block::<T, 4>(a, b) {
-        return false;
+    // Bytes are compared by the block as fast as by the item.
+    if are_bytes(a) {
+        return same_from(a, b, 0);
     }
-    let many = pass_same::<T, 64>(a, b, 4);
+    // Most lists that differ do so in their first items.
+    same_block::<T, 4>(a, b) && same_from(a, b, 4)
+}
+
+// From `start` on, where all before are equal pair by pair: whether all are.
+#[inline(always)]
+fn same_from<T: PartialEq>(a: &[T], b: &[T], start: usize) -> bool
+    requires as_long { length a.now ≡ length b.now }
+    requires from_within { start ≤ length a.now }
+    requires same_before { SameInFront T.eq a.now b.now start }
+    ensures { result ≡ pointwise T.eq a.now b.now }
+{
+    let many = pass_same::<T, 64>(a, b, start);
     if 64 <= a.len() - many {
         return false;
     }
@@ -82,6 +94,15 @@ fn are_large<T>(items: &[T]) -> bool {
     items.len() * mem::size_of::<T>() / 16 > items.len()
 }
 
+// Whether an item takes one byte.
+#[inline(always)]
+fn are_bytes<T>(items: &[T]) -> bool
+    requires some { 0 < length items.now }
+{
+    let first = &items[..1];
+    first.len() * mem::size_of::<T>() == 1
+}
+
 // Where the first pair stands that is not equal, or how many pairs there are.
 #[inline(always)]
 fn first_difference<T: PartialEq>(a: &[T], b: &[T]) -> usize
@@ -91,10 +112,13 @@ fn first_difference<T: PartialEq>(a: &[T], b: &[T]) -> usize
     // Most lists that differ do so in their first items.
     let few = a.len().min(4);
     let first = difference_before(a, b, 0, few);
-    if first < few || are_large(a) {
-        return difference_before(a, b, first, a.len());
+    if first < few {
+        return first;
     }
-    let more = pass_same::<T, 16>(a, b, first);
+    if are_large(a) {
+        return difference_before(a, b, few, a.len());
+    }
+    let more = pass_same::<T, 16>(a, b, few);
     let done = pass_same::<T, 4>(a, b, more);
     difference_before(a, b, done, a.len())
 }

@@ -105,9 +105,12 @@ impl Touches {
         // A count of its own stays in a register while slots are written.
         let mut touches = Touches { count: self.count };
         while first < middle && next < slots.len() {
-            touches.swap(slots, first, next);
-            first += 1;
-            (middle, next) = after_swap(first, middle, next + 1, slots.len());
+            let pairs = (middle - first).min(slots.len() - next);
+            for i in 0..pairs {
+                touches.swap(slots, first + i, next + i);
+            }
+            first += pairs;
+            (middle, next) = after_swap(first, middle, next + pairs, slots.len());
         }
         self.count = touches.count;
     }

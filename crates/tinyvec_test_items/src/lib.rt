@@ -2,7 +2,9 @@
 #![tactic(auto)]
 
 mod cloned;
+mod counting;
 mod unhinted;
 
 pub use cloned::{Item, Limited};
+pub use counting::counted;
 pub use unhinted::Unhinted;

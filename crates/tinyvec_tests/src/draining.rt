@@ -3,13 +3,13 @@ ghost use Rattle.std.specs.Prelude.{◌≡◌, ◌≤◌, IfOk};
 ghost use Rattle.tinyvec_slots.specs.Cut.{range_start, range_end};
 ghost use Rattle.tinyvec.specs.Tiny.{tiny_len};
 
-use crate::looks::{lies, spares};
 use std::alloc::{AllocError, AllocGlobal, Global};
 use std::mem;
 use std::ops::{Bound, RangeBounds};
 use std::process::Abort;
 use std::test::Fail;
 use tinyvec::{ArrayVec, TinyVec};
+use tinyvec_test_looks::{lies, spares};
 
 // `[1, 2, 3]`, inline in ten slots or on the heap.
 fn one_two_three(alloc: Global, inline: bool) -> Result<TinyVec<[i32; 10]>, AllocError>

@@ -1,7 +1,7 @@
 //! Items put in and taken out.
-use crate::looks::{lies, spares};
 use std::test::Fail;
 use tinyvec::TinyVec;
+use tinyvec_test_looks::{lies, spares};
 
 #[test]
 fn pushed_past_the_array(rt: HostRuntime) {

@@ -1,9 +1,9 @@
 //! Items taken from iterators, one by one.
 
-use crate::looks::{lies, spares};
 use std::test::Fail;
 use tinyvec::TinyVec;
 use tinyvec_test_items::Unhinted;
+use tinyvec_test_looks::{lies, spares};
 
 #[test]
 fn listed(rt: HostRuntime) {

@@ -1,10 +1,10 @@
 //! `retain` and `dedup` in their forms, in both places.
 ghost use Rattle.std.specs.Prelude.{◌≤◌};
 
-use crate::looks::{lies, spares};
 use std::alloc::{AllocError, Global};
 use std::test::Fail;
 use tinyvec::TinyVec;
+use tinyvec_test_looks::{lies, spares};
 
 fn is_even(x: i32) -> bool {
     x % 2 == 0

@@ -1,8 +1,8 @@
 //! Making a `TinyVec`.
-use crate::looks::{lies, spares};
 use std::alloc::AllocError;
 use std::test::Fail;
 use tinyvec::{ArrayVec, TinyVec};
+use tinyvec_test_looks::{lies, spares};
 
 #[test]
 fn empty(rt: HostRuntime) -> Result<(), Fail> {

@@ -3,14 +3,14 @@ ghost use Rattle.std.specs.Prelude.{◌≡◌, ◌≤◌, IfOk};
 ghost use Rattle.tinyvec_slots.specs.Cut.{range_start, range_end};
 ghost use Rattle.tinyvec.specs.Tiny.{tiny_len};
 
-use crate::looks::{lies, spares};
 use std::alloc::{AllocError, AllocGlobal, Global};
 use std::iter;
 use std::ops::{Bound, RangeBounds};
 use std::process::Abort;
 use std::test::Fail;
-use tinyvec::TinyVec;
+use tinyvec::{SpliceRest, TinyVec};
 use tinyvec_test_items::Unhinted;
+use tinyvec_test_looks::{lies, spares};
 
 // `[1, 2, 3]`, inline in ten slots or on the heap.
 fn one_two_three(alloc: Global, inline: bool) -> Result<TinyVec<[i32; 10]>, AllocError>
@@ -330,6 +330,33 @@ fn a_vec_of_replacements(rt: HostRuntime) -> Result<(), Fail> {
     assert!(rt; splice.finish().is_ok());
     assert!(rt; lies(&v, &[1, 2, 8, 9], true));
     Ok(())
+}
+
+// Splices four items in place of two in a full list of N, and meets a refusal.
+fn refused_by_the_count<const N: usize>(rt: &(impl Abort + AllocGlobal)) {
+    let mut v = TinyVec::from_array(rt.alloc(), [(); N]);
+    if v.len() < 3 {
+        return;
+    }
+    let mut splice = v.splice(1..3, [(), (), (), ()]);
+    assert!(rt; splice.next() == Some(()));
+    assert!(rt; splice.next_back() == Some(()));
+    match splice.finish() {
+        Ok(()) => assert!(rt; false),
+        Err(SpliceRest { item, mut rest }) => {
+            assert!(rt; item == ());
+            assert!(rt; rest.next() == Some(()));
+            assert!(rt; rest.next() == None);
+        }
+    }
+    assert!(rt; v.len() == N);
+    assert!(rt; v.is_inline());
+}
+
+// There is no number of items above this one, so room for one more is granted by no allocator.
+#[test]
+fn refused_by_the_greatest_count(rt: HostRuntime) {
+    refused_by_the_count::<{ usize::MAX }>(&rt);
 }
 
 // Splices the last two of `[1, 2, 3]` by an endless replacement, takes one, and stops.

@@ -58,6 +58,7 @@ impl<'a, A: Array, I: Iterator<Item = A::Item>> TinyVecSplice<'a, A, Fuse<I>> {
     }
 
     /// Does the same, and tells the touches from `splice` on.
+    #[inline(always)]
     pub fn finish_counted(self) -> (Result<(), SpliceRest<A::Item, Fuse<I>>>, u128)
         requires can { SpliceCanNext I.can_next self }
         requires finite { FusedFinite I.remaining (splice_replacement self) }
@@ -118,6 +119,7 @@ impl<'a, A: Array, I: Iterator<Item = A::Item>> TinyVecSplice<'a, A, Fuse<I>> {
 }
 
 // Removes what is left of the gap.
+#[inline(always)]
 fn close<A: Array>(vec: &mut TinyVec<A>, gap: &mut Gap)
     requires in_order { gap_front gap.old ≤ gap_back gap.old }
     requires in_bounds { gap_back gap.old ≤ tiny_len vec.old }
@@ -137,6 +139,7 @@ fn close<A: Array>(vec: &mut TinyVec<A>, gap: &mut Gap)
 
 // Appends what `replacement` gives, and brings it to where the gap was. Where memory is refused for an item, that item and
 // what follows it come back.
+#[inline(always)]
 fn append_in<A: Array, I: Iterator<Item = A::Item>>(
     vec: &mut TinyVec<A>,
     gap: &mut Gap,

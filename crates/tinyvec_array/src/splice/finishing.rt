@@ -44,6 +44,7 @@ impl<'a, A: Array, I: Iterator<Item = A::Item>> ArrayVecSplice<'a, A, Fuse<I>> {
     }
 
     /// Does the same, and tells the touches from `splice` on.
+    #[inline(always)]
     pub fn finish_counted(self) -> (Result<(), SpliceRest<A::Item, Fuse<I>>>, u128)
         requires { SpliceCanNext I.can_next self }
         ensures at_least { splice_touches self.entry + finish_placed (splice_view self.entry) (items self.exit.0.now)
@@ -92,6 +93,7 @@ impl<'a, A: Array, I: Iterator<Item = A::Item>> ArrayVecSplice<'a, A, Fuse<I>> {
 }
 
 // Removes what is left of the gap.
+#[inline(always)]
 fn close<A: Array>(vec: &mut ArrayVec<A>, gap: &mut Gap)
     requires in_order { gap_front gap.old ≤ gap_back gap.old }
     requires in_bounds { gap_back gap.old ≤ items_len vec.old }
@@ -108,6 +110,7 @@ fn close<A: Array>(vec: &mut ArrayVec<A>, gap: &mut Gap)
 
 // Appends what `replacement` gives, and brings it to where the gap was. Where an item finds no room, the vector is full,
 // and that item and what follows it come back.
+#[inline(always)]
 fn append_in<A: Array, I: Iterator<Item = A::Item>>(
     vec: &mut ArrayVec<A>,
     gap: &mut Gap,

@@ -1,4 +1,5 @@
-//! The end of a splice: the gap is filled, and what is left of it closed, or what found no place in it brought in.
+//! The end of a splice: the gap is filled, and what is left of it closed, or what found no place in it brought in. It is
+//! part of the caller's code, since calls would cost a short splice as much as its moves.
 ghost use Rattle.std.specs.Prelude.{◌≡◌, ◌+◌, ◌*◌, ◌-◌, ◌<◌, ◌≤◌, ◌^◌, ◌++◌, List, Some, None, length, take, drop, slice_range, slice_set};
 ghost use Rattle.std.specs.Bool.{MatchBool};
 ghost use Rattle.std.specs.Iterator.{Drains, Yields, IsFinite};
@@ -11,6 +12,7 @@ use crate::touches::Touches;
 impl Gap {
     /// Drops the removed items that are left, places what `replacement` gives between what was placed from both ends, and
     /// says whether it is all filled. Where it is not, `replacement` has ended.
+    #[inline(always)]
     pub fn fill<I: Iterator>(&mut self, slots: &mut [I::Item], replacement: &mut I) -> bool
     where
         I::Item: Drop,
@@ -36,6 +38,7 @@ impl Gap {
 
     /// Moves what stands behind the gap down over it, and says how many slots hold the list then. The others are for the
     /// caller to empty, each a touch.
+    #[inline(always)]
     pub fn close<T>(&mut self, slots: &mut [T]) -> usize
         requires in_order { gap_front self.old ≤ gap_back self.old }
         requires in_bounds { gap_back self.old ≤ length slots.old }
@@ -52,6 +55,7 @@ impl Gap {
     }
 
     /// Moves the items from `end` on, which the caller appended, each with a touch, to where the gap was.
+    #[inline(always)]
     pub fn bring_in<T>(&mut self, slots: &mut [T], end: usize)
         requires in_order { gap_front self.old ≤ end }
         requires in_bounds { end ≤ length slots.old }
@@ -81,6 +85,7 @@ impl Gap {
 
 // Places what `replacement` gives over the slots from `front` up to `back`, and says where that ends: before `back` only
 // where `replacement` has ended.
+#[inline(always)]
 fn place<I: Iterator>(
     slots: &mut [I::Item],
     touches: &mut Touches,
@@ -114,6 +119,7 @@ where
 }
 
 // Places the next item of `replacement` at `at`, and says whether there was one.
+#[inline(always)]
 fn place_one<I: Iterator>(
     slots: &mut [I::Item],
     touches: &mut Touches,

@@ -18,3 +18,10 @@ invariant-loop-first g l = record {
 
 abbrev pub decreases-loop-first : goal.decreases-loop-first
 decreases-loop-first g l = length l.slots - l.first
+
+abbrev pub invariant-loop-i : goal.invariant-loop-i
+invariant-loop-i g l = record {
+  count : touch_count l.touches ≡ touch_count l.initial.touches + l.i;
+  len : length l.slots ≡ length l.initial.slots;
+  turns : turned l.slots (l.first + l.i) l.middle (l.next + l.i) ≡ turned l.initial.slots l.first l.middle l.next;
+}

@@ -1,8 +1,8 @@
 //! Iteration, in both places.
-use crate::looks::{lies, spares};
 use std::alloc::{AllocError, Global};
 use std::test::Fail;
 use tinyvec::TinyVec;
+use tinyvec_test_looks::{lies, spares};
 
 fn listed(alloc: Global, items: &[i32]) -> Result<TinyVec<[i32; 4]>, AllocError> {
     TinyVec::from_slice(alloc, items)

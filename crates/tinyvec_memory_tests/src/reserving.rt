@@ -1,8 +1,8 @@
 //! Room asked for, granted and refused.
-use crate::looks::lies;
 use std::alloc::AllocError;
 use std::test::Fail;
 use tinyvec::TinyVec;
+use tinyvec_test_looks::lies;
 
 #[test]
 fn capacities(rt: HostRuntime) -> Result<(), Fail> {

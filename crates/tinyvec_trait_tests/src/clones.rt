@@ -1,11 +1,11 @@
 //! Clones, granted and refused.
 
-use crate::looks::{lies, spares};
 use std::alloc::{AllocError, Global};
 use std::cell::Cell;
 use std::test::Fail;
 use tinyvec::{NoMemory, TinyVec};
 use tinyvec_test_items::{Item, Limited};
+use tinyvec_test_looks::{lies, spares};
 
 #[test]
 fn cloned(rt: HostRuntime) -> Result<(), Fail> {

@@ -1,18 +1,11 @@
 //! `tiny_vec!` in its forms.
-use crate::looks::{lies, spares};
 use std::alloc::{AllocError, Global};
 use std::cell::Cell;
 use std::process::Abort;
 use std::test::Fail;
 use tinyvec::{TinyVec, tiny_vec};
-use tinyvec_test_items::Item;
-
-// Counts one more, and answers the count.
-pub(crate) fn counted(count: &Cell<i32>) -> i32 {
-    let more = count.get().wrapping_add(1);
-    count.set(more);
-    more
-}
+use tinyvec_test_items::{Item, counted};
+use tinyvec_test_looks::{lies, spares};
 
 #[test]
 fn items_of_a_named_array(rt: HostRuntime) -> Result<(), Fail> {

@@ -1,8 +1,8 @@
 //! Moves between the array and the heap.
-use crate::looks::{lies, spares};
 use std::alloc::AllocError;
 use std::test::Fail;
 use tinyvec::TinyVec;
+use tinyvec_test_looks::{lies, spares};
 
 #[test]
 fn there_and_back(rt: HostRuntime) -> Result<(), Fail> {

@@ -3,29 +3,17 @@ use std::io::Write;
 use std::process::Abort;
 use std::test::Fail;
 use tinyvec::TinyVec;
-
-// Whether these are the bytes, and lie there.
-pub(crate) fn has_bytes<const N: usize>(v: &TinyVec<[u8; N]>, bytes: &[u8], inline: bool) -> bool {
-    (v.is_inline() == inline) & (v.len() == bytes.len()) & (v.as_slice() == bytes)
-}
-
-// Whether the list is inline, before these spare slots.
-pub(crate) fn has_spare_bytes<const N: usize>(v: &TinyVec<[u8; N]>, slots: &[u8]) -> bool {
-    match v {
-        TinyVec::Inline(v, _) => v.grab_spare_slice() == slots,
-        TinyVec::Heap(_) => false,
-    }
-}
+use tinyvec_test_looks::{lies, spares};
 
 #[test]
 fn inline_then_on_the_heap(rt: HostRuntime) -> Result<(), Fail> {
     let mut v: TinyVec<[u8; 3]> = TinyVec::new(rt.alloc());
     assert!(rt; v.write(b"foo")? == 3);
-    assert!(rt; has_bytes(&v, b"foo", true));
+    assert!(rt; lies(&v, b"foo", true));
     assert!(rt; v.write(b"bar")? == 3);
-    assert!(rt; has_bytes(&v, b"foobar", false));
+    assert!(rt; lies(&v, b"foobar", false));
     assert!(rt; v.write(b"!")? == 1);
-    assert!(rt; has_bytes(&v, b"foobar!", false));
+    assert!(rt; lies(&v, b"foobar!", false));
     Ok(())
 }
 
@@ -33,8 +21,8 @@ fn inline_then_on_the_heap(rt: HostRuntime) -> Result<(), Fail> {
 fn behind_what_is_there(rt: HostRuntime) -> Result<(), Fail> {
     let mut v = TinyVec::from_array_len(rt.alloc(), [1, 9, 8, 7], 1);
     assert!(rt; v.write(&[2, 3])? == 2);
-    assert!(rt; has_bytes(&v, &[1, 2, 3], true));
-    assert!(rt; has_spare_bytes(&v, &[7]));
+    assert!(rt; lies(&v, &[1, 2, 3], true));
+    assert!(rt; spares(&v, &[7]));
     Ok(())
 }
 
@@ -42,12 +30,12 @@ fn behind_what_is_there(rt: HostRuntime) -> Result<(), Fail> {
 fn no_bytes(rt: HostRuntime) -> Result<(), Fail> {
     let mut full = TinyVec::from_array(rt.alloc(), [1, 2]);
     assert!(rt; full.write(&[])? == 0);
-    assert!(rt; has_bytes(&full, &[1, 2], true));
+    assert!(rt; lies(&full, &[1, 2], true));
     let mut none: TinyVec<[u8; 0]> = TinyVec::new(rt.alloc());
     assert!(rt; none.write(&[])? == 0);
-    assert!(rt; has_bytes(&none, &[], true));
+    assert!(rt; lies(&none, &[], true));
     assert!(rt; none.write(&[5])? == 1);
-    assert!(rt; has_bytes(&none, &[5], false));
+    assert!(rt; lies(&none, &[5], false));
     Ok(())
 }
 
@@ -55,7 +43,7 @@ fn no_bytes(rt: HostRuntime) -> Result<(), Fail> {
 fn more_than_the_array_has_at_once(rt: HostRuntime) -> Result<(), Fail> {
     let mut v: TinyVec<[u8; 3]> = TinyVec::new(rt.alloc());
     assert!(rt; v.write(&[7; 100])? == 100);
-    assert!(rt; has_bytes(&v, &[7; 100], false));
+    assert!(rt; lies(&v, &[7; 100], false));
     Ok(())
 }
 
@@ -64,11 +52,11 @@ fn all_and_flushed(rt: HostRuntime) -> Result<(), Fail> {
     let mut v: TinyVec<[u8; 10]> = TinyVec::new(rt.alloc());
     v.write_all(b"abc")?;
     v.flush()?;
-    assert!(rt; has_bytes(&v, b"abc", true));
-    assert!(rt; has_spare_bytes(&v, &[0; 7]));
+    assert!(rt; lies(&v, b"abc", true));
+    assert!(rt; spares(&v, &[0; 7]));
     v.write_all(b"defghijk")?;
     v.flush()?;
-    assert!(rt; has_bytes(&v, b"abcdefghijk", false));
+    assert!(rt; lies(&v, b"abcdefghijk", false));
     Ok(())
 }
 
@@ -78,8 +66,8 @@ fn formatted(rt: HostRuntime) -> Result<(), Fail> {
     let x = 12_u32;
     let y = -5_i32;
     write!(v, "{x}, {y}")?;
-    assert!(rt; has_bytes(&v, b"12, -5", true));
+    assert!(rt; lies(&v, b"12, -5", true));
     write!(v, "; {y:?}")?;
-    assert!(rt; has_bytes(&v, b"12, -5; -5", false));
+    assert!(rt; lies(&v, b"12, -5; -5", false));
     Ok(())
 }

@@ -2,15 +2,14 @@
 ghost use Rattle.std.specs.Prelude.{◌≡◌, IfOk};
 ghost use Rattle.tinyvec.specs.Tiny.{tiny_len};
 
-use crate::looks::{lies, spares};
-use crate::macros::counted;
-use crate::writing::{has_bytes, has_spare_bytes};
 use std::alloc::{AllocError, Global};
 use std::cell::Cell;
 use std::io::Write;
 use std::process::Abort;
 use std::test::Fail;
 use tinyvec::{FromIterRest, NoMemory, NoRoom, SpliceRest, TinyVec, tiny_vec};
+use tinyvec_test_items::counted;
+use tinyvec_test_looks::{lies, spares};
 
 // Says that a refusal was met. The script asks this of each test here.
 fn refused(rt: &impl Print) -> Result<(), Fail> {
@@ -304,19 +303,19 @@ fn write(rt: HostRuntime) -> Result<(), Fail> {
     match v.write(&[3, 4]) {
         Ok(count) => assert!(rt; count == 2),
         Err(_) => {
-            assert!(rt; has_bytes(&v, &[1, 2], true));
-            assert!(rt; has_spare_bytes(&v, &[9]));
+            assert!(rt; lies(&v, &[1, 2], true));
+            assert!(rt; spares(&v, &[9]));
             refused(&rt)?;
             assert!(rt; v.write(&[3, 4])? == 2);
         }
     }
-    assert!(rt; has_bytes(&v, &[1, 2, 3, 4], false));
+    assert!(rt; lies(&v, &[1, 2, 3, 4], false));
     let mut heap: TinyVec<[u8; 3]> = TinyVec::from_slice(rt.alloc(), &[1, 2, 3, 4])?;
     let room = heap.capacity();
     match heap.write(&[5; 100]) {
         Ok(count) => assert!(rt; count == 100),
         Err(_) => {
-            assert!(rt; has_bytes(&heap, &[1, 2, 3, 4], false));
+            assert!(rt; lies(&heap, &[1, 2, 3, 4], false));
             assert!(rt; heap.capacity() == room);
             refused(&rt)?;
             assert!(rt; heap.write(&[5; 100])? == 100);

@@ -1,8 +1,8 @@
 //! Each growing call on a full `[1, 2]`, with memory granted.
-use crate::looks::lies;
 use std::alloc::{AllocError, Global};
 use std::test::Fail;
 use tinyvec::{NoMemory, TinyVec};
+use tinyvec_test_looks::lies;
 
 fn full(alloc: Global) -> TinyVec<[i32; 2]> {
     TinyVec::from_array(alloc, [1, 2])

@@ -1,0 +1,11 @@
+//! The tests of a `TinyVec`'s room: of what moves it, and of each call whose memory is refused.
+#![tactic(auto)]
+
+#[cfg(test)]
+mod growing;
+#[cfg(test)]
+mod moving;
+#[cfg(test)]
+mod refusals;
+#[cfg(test)]
+mod reserving;
