@@ -1,6 +1,7 @@
 //! The examples of the README, each as it stands there.
 
 pub mod array;
+pub mod inline_text;
 pub mod loops;
 pub mod slice;
 pub mod texts;

@@ -1,0 +1,6 @@
+//! A text that lives in an array while its bytes fit, and then moves to the heap.
+#![tactic(auto)]
+
+mod inline_text;
+
+pub use inline_text::InlineText;
