@@ -5,6 +5,7 @@ import re
 
 FUNCTION = re.compile(r"^( *)(?:pub(?:\([a-z]+\))? )?(?:const )?fn (\w+)", re.M)
 IMPL = re.compile(r"^impl\b(?:<(?:[^<>{]|<[^<>]*>)*>)? (?:(?P<trait>[^{]*?) for )?(?P<type>[^{]*?)(?:\s+where\b[^{]*)?\s*\{", re.M)
+TRAIT = re.compile(r"^(?:pub(?:\([a-z]+\))? )?(?P<trait>)trait (?P<type>\w+)", re.M)
 COMMENT = re.compile(r"//[^\n]*")
 # A call: of a method, of what stands in a type or module, or of a plain name.
 CALL = re.compile(r"(?P<before>\.\s*|\b\w+(?:::<[^;{}()]*>)?::|(?<![\w.:]))(?P<name>[a-z_]\w*)\s*(?:::<[^;{}()]*>)?\(")
@@ -15,7 +16,8 @@ GUARDS = ("drain", "splice")
 
 @dataclasses.dataclass(frozen=True)
 class Function:
-    """A function of a file, from `start` up to `end`, in a block for `type` and of `trait` where there are such."""
+    """A function of a file, from `start` up to `end`, in a block for `type` and of `trait` where there are such. The type of
+    a function that a trait itself has is the trait."""
 
     file: str
     name: str
@@ -61,7 +63,7 @@ def of_crate(folder):
 
 def of_file(file, text):
     code = COMMENT.sub(lambda it: " " * len(it[0]), text)
-    blocks = [(it, item_end(code, it.start(), "")) for it in IMPL.finditer(code)]
+    blocks = [(it, item_end(code, it.start(), "")) for it in (*IMPL.finditer(code), *TRAIT.finditer(code))]
     words, found = frozenset(re.findall(r"\w+", code)), []
     for it in FUNCTION.finditer(code):
         body = body_start(code, it)

@@ -188,6 +188,31 @@ fn read_some_tries_again_after_interruptions_alone(rt: HostRuntime) -> Result<()
 }
 
 #[test]
+fn fill_reads_until_the_buffer_is_full_or_the_input_has_ended(rt: HostRuntime) -> Result<(), Fail> {
+    let script = [
+        Answer::Moves(1),
+        Answer::Fails(Interrupted),
+        Answer::Moves(3),
+        Answer::Moves(2),
+        Answer::Moves(0),
+        Answer::Fails(BrokenPipe),
+    ];
+    let mut reader = Counted::new(FakeEnd::new(rt.alloc(), b"tinyvec", &script)?);
+    let mut buf = [b'.'; 4];
+    assert_eq!(rt; reader.fill(&mut buf)?, 4);
+    assert_eq!(rt; buf, *b"tiny");
+    assert_eq!(rt; reader.fill(&mut buf)?, 2);
+    assert_eq!(rt; buf, *b"veny");
+    assert_eq!(rt; reader.faults(), 1);
+    assert_eq!(rt;
+        reader.fill(&mut buf).map_err(|e| e.kind()),
+        Err(BrokenPipe)
+    );
+    assert_eq!(rt; reader.faults(), 2);
+    Ok(())
+}
+
+#[test]
 fn write_all_writes_in_pieces_and_tries_again(rt: HostRuntime) -> Result<(), Fail> {
     let script = [
         Answer::Moves(1),

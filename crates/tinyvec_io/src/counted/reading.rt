@@ -1,5 +1,6 @@
 //! The counted end as a reader.
 ghost use Rattle.std.specs.Prelude.{◌≡◌, ◌≢◌, ◌<◌, ◌≤◌, OnErr, IfOk, IfErr, length, take};
+ghost use Rattle.std.specs.List.{AllByRecursion};
 ghost use Rattle.std.specs.Io.{ReadsAtMost};
 ghost use Rattle.std.specs.Io.KnownBytes.{Keeps, Consumes, IsAtEnd, ReadConsumes};
 ghost use Rattle.std.specs.IoError.{error_kind};
@@ -51,5 +52,27 @@ impl<R: Read> Counted<R> {
             }
         }
         Err(io::Error::from(ErrorKind::TimedOut))
+    }
+
+    /// Reads until the buffer is full or the input has ended, and answers how many bytes it read. It
+    /// tries again where it was interrupted.
+    pub fn fill(&mut self, buf: &mut [u8]) -> io::Result<usize>
+        ensures bound { ReadsAtMost result buf.new }
+        ensures bytes { IfOk result (λ n. Consumes (R.remaining self.old.end)
+            (R.remaining self.new.end) (take n buf.new)) }
+        ensures end { IfOk result (λ n. n < length buf.new → IsAtEnd (R.remaining self.new.end)) }
+        ensures small { IfOk result (λ n. AllByRecursion (λ byte. byte < 256) (take n buf.new)) }
+        ensures grows { self.old.faults ≤ self.new.faults }
+        ensures fault { OnErr result (Reported self.old.faults self.new.faults) }
+    {
+        let mut filled = 0;
+        while filled < buf.len() {
+            let count = self.read_some(&mut buf[filled..])?;
+            if count == 0 {
+                return Ok(filled);
+            }
+            filled += count;
+        }
+        Ok(filled)
     }
 }

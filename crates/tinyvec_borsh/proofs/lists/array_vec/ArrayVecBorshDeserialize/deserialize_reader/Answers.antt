@@ -1,0 +1,65 @@
+use Rattle.std.proofs.Common.{◌≡◌, ◌∙◌, ◌≤◌, ap, take, inl, arith, rules, min, ◌+◌, ◌∷◌, [], map, length, length-append}
+use Rattle.std.proofs.lemmas.List.{length-map}
+use Rattle.std.proofs.lemmas.Result.{err_from_is_err_and}
+use Rattle.tinyvec_slots.specs.Slots.{items}
+use Rattle.tinyvec_borsh.proofs.ItemByItem.{fails-block, fails-item, maybe-so, read-all, read-block, read-first, read-more, rest-many, too-many}
+use Rattle.tinyvec_borsh.proofs.lists.array_vec.ArrayVecBorshDeserialize.deserialize_reader.Goals as goal
+
+pub returns-in_err-read_items-clause-err : goal.returns-in_err-read_items-clause-err
+returns-in_err-read_items-clause-err g c =
+    let p = err_from_is_err_and c.from_residual-in_err-read_items.result c.from_residual-in_err-read_items.ensures.1 in
+    rw (p.1, p.2) (fails-block g.A.Item.BorshForm.Spells g.A.Item.BorshForm.Fits g.A.Item.BorshDeserialize.IsCut g.A.Item.BorshDeserialize.IsTooLong g.A.Item.BorshDeserialize.MayAsk _ g.A.Array.CAPACITY
+    c.in_ok-count.count _ [] _ _ _ _ _ _ (read-first g.A.Item.BorshForm.Spells g.A.Item.BorshForm.Fits _ _ _ c.in_ok-count.ensures.ok) (search rules) (search rules) c.in_ok-count.ensures.grows (λ input asks. asks) c.in_err-read_items.ensures.err)
+
+pub returns-in_err-deserialize_reader-clause-err : goal.returns-in_err-deserialize_reader-clause-err
+returns-in_err-deserialize_reader-clause-err g c =
+    let p = err_from_is_err_and c.from_residual-in_err-deserialize_reader.result c.from_residual-in_err-deserialize_reader.ensures.1 in
+    let t = c.in_ok-read_items.ensures.ok in
+    let long = length-map t.0 g.A.Item.BorshForm.content_of in
+    let full : length t.0 ≡ min c.in_ok-count.count g.A.Array.CAPACITY = search rules in
+    let above : min c.in_ok-count.count g.A.Array.CAPACITY + 1 ≤ c.in_ok-count.count = search rules in
+    rw (p.1, p.2) (fails-item g.A.Item.BorshForm.Spells g.A.Item.BorshForm.Fits g.A.Item.BorshDeserialize.IsCut g.A.Item.BorshDeserialize.IsTooLong g.A.Item.BorshDeserialize.MayAsk _ g.A.Array.CAPACITY
+    _ _ _ _ _ _ _ _ (read-block g.A.Item.BorshForm.Spells g.A.Item.BorshForm.Fits _ [] _ _ _ _ (read-first g.A.Item.BorshForm.Spells g.A.Item.BorshForm.Fits _ _ _ c.in_ok-count.ensures.ok) t.4 t.3)
+    (omega (arith, long, full, above)) (omega (arith, long, full, above)) (search rules) (λ input asks. asks) c.in_err-deserialize_reader.ensures.err)
+
+pub returns-then-len-count-clause-err : goal.returns-then-len-count-clause-err
+returns-then-len-count-clause-err g c =
+    let t = c.in_ok-read_items.ensures.ok in
+    let long = length-map t.0 g.A.Item.BorshForm.content_of in
+    let full : length t.0 ≡ min c.in_ok-count.count g.A.Array.CAPACITY = search rules in
+    let above : min c.in_ok-count.count g.A.Array.CAPACITY + 1 ≤ c.in_ok-count.count = search rules in
+    let one_more = length-append (map g.A.Item.BorshForm.content_of t.0) (g.A.Item.BorshForm.content_of c.in_ok-deserialize_reader.field-0 ∷ []) in
+    maybe-so _ _ _ (λ input many. inl many) (too-many g.A.Item.BorshForm.Spells g.A.Item.BorshForm.Fits g.A.Array.CAPACITY _ _ _ _
+    (read-more g.A.Item.BorshForm.Spells g.A.Item.BorshForm.Fits _ _ _ _ _ _ (read-block g.A.Item.BorshForm.Spells g.A.Item.BorshForm.Fits _ [] _ _ _ _ (read-first g.A.Item.BorshForm.Spells g.A.Item.BorshForm.Fits _ _ _ c.in_ok-count.ensures.ok) t.4 t.3)
+    c.in_ok-deserialize_reader.ensures.ok c.in_ok-deserialize_reader.ensures.fits)
+    (omega (arith, one_more, long, full, above)) (omega (arith, above)))
+
+pub returns-then-len-count-clause-rest : goal.returns-then-len-count-clause-rest
+returns-then-len-count-clause-rest g c =
+    let t = c.in_ok-read_items.ensures.ok in
+    let long = length-map t.0 g.A.Item.BorshForm.content_of in
+    let full : length t.0 ≡ min c.in_ok-count.count g.A.Array.CAPACITY = search rules in
+    let above : min c.in_ok-count.count g.A.Array.CAPACITY + 1 ≤ c.in_ok-count.count = search rules in
+    let one_more = length-append (map g.A.Item.BorshForm.content_of t.0) (g.A.Item.BorshForm.content_of c.in_ok-deserialize_reader.field-0 ∷ []) in
+    rest-many g.A.Item.BorshForm.Spells g.A.Item.BorshForm.Fits g.A.Item.BorshDeserialize.IsTooLong g.A.Array.CAPACITY _ _ _ _
+    (read-more g.A.Item.BorshForm.Spells g.A.Item.BorshForm.Fits _ _ _ _ _ _ (read-block g.A.Item.BorshForm.Spells g.A.Item.BorshForm.Fits _ [] _ _ _ _ (read-first g.A.Item.BorshForm.Spells g.A.Item.BorshForm.Fits _ _ _ c.in_ok-count.ensures.ok) t.4 t.3)
+    c.in_ok-deserialize_reader.ensures.ok c.in_ok-deserialize_reader.ensures.fits)
+    (omega (arith, one_more, long, full, above)) (omega (arith, above))
+
+pub returns-clause-ok : goal.returns-clause-ok
+returns-clause-ok g c =
+    let t = c.in_ok-read_items.ensures.ok in
+    let same : items c.from_array_len.result ≡ t.0 = ap items c.from_array_len.ensures ∙ ap (take c.min-len.result) (g.met.A.Array.slots_of_slots _) ∙ t.1 in
+    let long = length-map t.0 g.A.Item.BorshForm.content_of in
+    let full : length t.0 ≡ c.min-len.result = search rules in
+    let all : c.in_ok-count.count ≡ c.min-len.result = search rules in
+    rw same (read-all g.A.Item.BorshForm.Spells g.A.Item.BorshForm.Fits c.in_ok-count.count _ _ _ (omega (arith, long, full, all))
+    (read-block g.A.Item.BorshForm.Spells g.A.Item.BorshForm.Fits _ [] _ _ _ _ (read-first g.A.Item.BorshForm.Spells g.A.Item.BorshForm.Fits _ _ _ c.in_ok-count.ensures.ok) t.4 t.3))
+
+pub returns-clause-fits : goal.returns-clause-fits
+returns-clause-fits g c =
+    let t = c.in_ok-read_items.ensures.ok in
+    let same : items c.from_array_len.result ≡ t.0 = ap items c.from_array_len.ensures ∙ ap (take c.min-len.result) (g.met.A.Array.slots_of_slots _) ∙ t.1 in
+    let long = length-map t.0 g.A.Item.BorshForm.content_of in
+    let full : length t.0 ≡ min c.in_ok-count.count g.A.Array.CAPACITY = search rules in
+    rw same (record { few = omega (arith, long, full); counted = omega (arith, long, full, c.in_ok-count.ensures.fits); items = t.3 })

@@ -1,0 +1,16 @@
+use Rattle.std.proofs.Common.{map, arith}
+use Rattle.std.proofs.lemmas.List.{length-map}
+use Rattle.tinyvec_slots.specs.Slots.{items}
+use Rattle.tinyvec_borsh.proofs.Outcomes.{on-ok}
+use Rattle.tinyvec_borsh.proofs.ItemByItem.{wrote-list}
+use Rattle.tinyvec_borsh.proofs.lists.array_vec.ArrayVecBorshSerialize.serialize.Goals as goal
+
+pub returns-clause-ok : goal.returns-clause-ok
+returns-clause-ok g c =
+    let long = length-map (items c.args.self.now) g.A.Item.BorshForm.content_of in
+    on-ok c.serialize_items.result (wrote-list g.A.Item.BorshForm.Spells _ (map g.A.Item.BorshForm.content_of (items c.args.self.now)) _ _ _ (omega (arith, long, c.len.ensures.value)) c.in_ok-serialize.ensures.ok) (rw c.as_slice.ensures at c.serialize_items.ensures.ok)
+
+pub returns-clause-fits : goal.returns-clause-fits
+returns-clause-fits g c =
+    let long = length-map (items c.args.self.now) g.A.Item.BorshForm.content_of in
+    on-ok c.serialize_items.result (λ fit. record { few = omega (arith, long, c.len.ensures.value, c.len.ensures.fits); counted = omega (arith, long, c.len.ensures.value, c.len.type_inv); items = fit }) (rw c.as_slice.ensures at c.serialize_items.ensures.fits)

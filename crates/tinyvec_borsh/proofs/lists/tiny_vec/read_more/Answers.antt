@@ -1,0 +1,37 @@
+use Rattle.std.proofs.Common.{◌≡◌, ◌∙◌, ◌+◌, ◌≤◌, inr, length, max, arith, rules}
+use Rattle.tinyvec.specs.Tiny.{tiny_items, tiny_len}
+use Rattle.tinyvec.specs.Lends.{tiny_with_items}
+use Rattle.tinyvec.proofs.TinyLemmas.{tiny_framed-with, tiny_items-with}
+use Rattle.tinyvec_borsh.proofs.Blocks.{fails-of-more, grown}
+use Rattle.tinyvec_borsh.proofs.Outcomes.{err-so, on-ok}
+use Rattle.tinyvec_borsh.proofs.Place.{place-framed}
+use Rattle.tinyvec_borsh.proofs.lists.tiny_vec.read_more.Goals as goal
+
+pub returns-clause-place : goal.returns-clause-place
+returns-clause-place g c =
+    let mid = c.resize_with.new.self in
+    let same : length c.read_items.new.slots ≡ tiny_len mid = search rules in
+    let framed = tiny_framed-with mid c.read_items.new.slots same in
+    let long : tiny_len mid ≡ max (tiny_len mid) (tiny_len c.args.v.now) = search rules in
+    on-ok c.read_items.result (λ _. place-framed g.A.Array.CAPACITY _ c.args.v.now mid (tiny_with_items mid c.read_items.new.slots) (search rules) framed.2 (framed.0 ∙ long)) c.read_items.ensures.ok
+
+pub returns-clause-ok : goal.returns-clause-ok
+returns-clause-ok g c =
+    let mid = c.resize_with.new.self in
+    let same : length c.read_items.new.slots ≡ tiny_len mid = search rules in
+    let framed = tiny_framed-with mid c.read_items.new.slots same in
+    let long : tiny_len c.args.v.now ≤ tiny_len mid = search rules in
+    let fewer : tiny_len mid ≤ c.args.count = search rules in
+    let some : tiny_len c.args.v.now + 1 ≤ tiny_len mid = search rules in
+    on-ok c.read_items.result (λ t. (
+      t.0,
+      tiny_items-with mid c.read_items.new.slots same ∙ grown c.len-start.result (c.len-start.result + c.min.result) (tiny_items c.args.v.now) c.in-Ok.ensures.items.0 (tiny_items mid) c.read_items.new.slots t.0 (search rules) (search rules) c.in-Ok.ensures.items.2 (search rules) (search rules),
+      search rules,
+      omega (arith, framed.0, fewer),
+      t.3,
+      t.4,
+    )) c.read_items.ensures.ok
+
+pub returns-clause-err : goal.returns-clause-err
+returns-clause-err g c =
+    err-so c.read_items.result (λ e f. inr (fails-of-more g.A.Item.BorshForm.Spells g.A.Item.BorshForm.Fits g.A.Item.BorshDeserialize.IsCut g.A.Item.BorshDeserialize.IsTooLong g.A.Item.BorshDeserialize.MayAsk _ _ _ _ _ e (search rules) f)) c.read_items.ensures.err

@@ -1,0 +1,11 @@
+use Rattle.std.proofs.Common.{arith}
+use Rattle.tinyvec_borsh.proofs.NumberBytes.{small-bytes}
+use Rattle.tinyvec_borsh.proofs.Outcomes.{on-ok}
+use Rattle.tinyvec_borsh.proofs.ByteBlocks.{small-map, spells-bytes}
+use Rattle.tinyvec_borsh.proofs.numbers.unsigned.U8BorshSerialize.serialize_items.Goals as goal
+
+pub returns-clause-ok : goal.returns-clause-ok
+returns-clause-ok g c = on-ok c.write_bytes.result (λ h. (c.args.items.now, spells-bytes c.args.items.now (small-bytes c.args.items.now (λ i. omega (arith, c.type_inv.items i))), h)) c.write_bytes.ensures.ok
+
+pub returns-clause-fits : goal.returns-clause-fits
+returns-clause-fits g c = on-ok c.write_bytes.result (λ _. small-map c.args.items.now (small-bytes c.args.items.now (λ i. omega (arith, c.type_inv.items i)))) c.write_bytes.ensures.ok

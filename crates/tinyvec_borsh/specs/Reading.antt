@@ -1,0 +1,48 @@
+-- What a reading answers, by what the input is.
+use Rattle.std.specs.Prelude.{◌≡◌, ℕ, ◌+◌, ◌<◌, ◌⊎◌, List, ◌++◌, length, None, Some, Option, Ok, Err, Result}
+use Rattle.std.specs.List.{AllByRecursion}
+use Rattle.std.specs.Io.KnownBytes.{Consumes}
+use Rattle.tinyvec_io.specs.Counted.{Reported}
+use Rattle.tinyvec_borsh.specs.Items.{IsCount, SpellsItems}
+use Rattle.tinyvec_borsh.specs.declared.borsh_error.BorshError.{BorshError}
+use Rattle.tinyvec_borsh.specs.declared.borsh_error.BorshError.TheVariants.{Ended, InvalidLength, Io, Memory}
+
+-- the input is so, where it is known; else it may be so
+abbrev pub MayBe : Option (List ℕ) → (List ℕ → Type 0) → Type 0
+MayBe None P = (input : List ℕ) × P input
+MayBe (Some input) P = P input
+
+-- the whole input is bytes, fewer than this
+abbrev pub IsFewBytes : ℕ → List ℕ → Type 0
+IsFewBytes n input = AllByRecursion (λ byte. byte < 256) input × (length input < n)
+
+-- What was taken from the front of the input spells it.
+abbrev pub Takes : (List ℕ → Type 0) → Option (List ℕ) → Option (List ℕ) → Type 0
+Takes SpellsIt old new = (bytes : List ℕ) × SpellsIt bytes × Consumes old new bytes
+
+-- Why nothing was read. `Ended` comes only where the input is cut, `InvalidLength` only where it is too long, `Memory` only
+-- where memory may be asked for, and `Io` only where the reader reported a fault.
+abbrev pub Fails : (IsCut IsTooLong MayAsk : List ℕ → Type 0) → Option (List ℕ) → ℕ → ℕ → BorshError → Type 0
+Fails IsCut IsTooLong MayAsk input old_faults new_faults Ended = MayBe input IsCut
+Fails IsCut IsTooLong MayAsk input old_faults new_faults InvalidLength = MayBe input IsTooLong
+Fails IsCut IsTooLong MayAsk input old_faults new_faults Io = Reported old_faults new_faults
+Fails IsCut IsTooLong MayAsk input old_faults new_faults Memory = MayBe input MayAsk
+
+-- A value of the content was read, and what follows stays unread; or the reader reported a fault, or memory was refused that
+-- may be asked for to read this input.
+abbrev pub ReadsBack : {T C : Type 0} → (T → C) → (List ℕ → Type 0) → C → (input rest : List ℕ) → Option (List ℕ) → ℕ → ℕ → Result T BorshError → Type 0
+ReadsBack content MayAsk c input rest new old_faults new_faults (Ok v) = (content v ≡ c) × (new ≡ Some rest)
+ReadsBack content MayAsk c input rest new old_faults new_faults (Err Io) = Reported old_faults new_faults
+ReadsBack content MayAsk c input rest new old_faults new_faults (Err Memory) = MayAsk input
+ReadsBack content MayAsk c input rest new old_faults new_faults (Err Ended) = ⊥
+ReadsBack content MayAsk c input rest new old_faults new_faults (Err InvalidLength) = ⊥
+
+-- After `InvalidLength` just the count, above the room, and one item more than the room were taken; or an inner list is too
+-- long.
+abbrev pub LeavesRest : {C : Type 0} → (C → List ℕ → Type 0) → (IsTooLong : List ℕ → Type 0) → (room : ℕ) → (old new : Option (List ℕ)) → BorshError → Type 0
+LeavesRest {C} Spells IsTooLong room old new InvalidLength =
+    ((n : ℕ) × (cs : List C) × (count bytes : List ℕ) × IsCount n count × SpellsItems Spells cs bytes × (length cs ≡ room + 1) × (room < n) × Consumes old new (count ++ bytes))
+    ⊎ ((input : List ℕ) × IsTooLong input)
+LeavesRest Spells IsTooLong room old new Ended = Unit {0}
+LeavesRest Spells IsTooLong room old new Io = Unit {0}
+LeavesRest Spells IsTooLong room old new Memory = Unit {0}

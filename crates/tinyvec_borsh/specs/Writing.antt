@@ -1,0 +1,7 @@
+-- What a writing adds.
+use Rattle.std.specs.Prelude.{ℕ, List, Option}
+use Rattle.std.specs.Io.KnownBytes.{Appends}
+
+-- What was written spells it, and was added to what the writer had, where that is known.
+abbrev pub Adds : (List ℕ → Type 0) → Option (List ℕ) → Option (List ℕ) → Type 0
+Adds SpellsIt old new = (bytes : List ℕ) × SpellsIt bytes × Appends old new bytes

@@ -1,0 +1,39 @@
+//! Bytes that are read and written whole.
+ghost use Rattle.std.specs.Prelude.{◌≡◌, ◌<◌, ◌≤◌, length, IfErr, OnOk};
+ghost use Rattle.std.specs.Io.KnownBytes.{Appends, Consumes};
+ghost use Rattle.std.specs.List.{AllByRecursion};
+ghost use Rattle.tinyvec_io.specs.Counted.{Reported};
+ghost use Rattle.tinyvec_borsh.specs.Reading.{Fails, IsFewBytes, MayBe};
+
+use crate::BorshError;
+use std::io::{Read, Write};
+use tinyvec_io::Counted;
+
+// Fills the buffer.
+pub(crate) fn read_bytes<R: Read>(reader: &mut Counted<R>, buf: &mut [u8]) -> Result<(), BorshError>
+    ensures ok { OnOk result (Consumes (R.remaining reader.old.end) (R.remaining reader.new.end) buf.new) }
+    ensures small { OnOk result (AllByRecursion (λ byte. byte < 256) buf.new) }
+    ensures err { IfErr result (Fails (λ input. length input < length buf.old) (λ _. ⊥) (λ _. ⊥)
+        (R.remaining reader.old.end) reader.old.faults reader.new.faults) }
+    ensures ended { IfErr result (λ e. e ≡ BorshError.Ended
+        → MayBe (R.remaining reader.old.end) (IsFewBytes (length buf.old))) }
+    ensures grows { reader.old.faults ≤ reader.new.faults }
+{
+    match reader.fill(buf) {
+        Ok(count) if count < buf.len() => Err(BorshError::Ended),
+        Ok(_) => Ok(()),
+        Err(_) => Err(BorshError::Io),
+    }
+}
+
+// Writes all the bytes.
+pub(crate) fn write_bytes<W: Write>(writer: &mut Counted<W>, bytes: &[u8]) -> Result<(), BorshError>
+    ensures ok { OnOk result (Appends (W.contents writer.old.end) (W.contents writer.new.end) bytes.now) }
+    ensures err { IfErr result (λ e. (e ≡ BorshError.Io) × Reported writer.old.faults writer.new.faults) }
+    ensures grows { writer.old.faults ≤ writer.new.faults }
+{
+    match writer.write_all(bytes) {
+        Ok(()) => Ok(()),
+        Err(_) => Err(BorshError::Io),
+    }
+}

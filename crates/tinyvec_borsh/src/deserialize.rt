@@ -1,0 +1,61 @@
+//! Reading.
+ghost use Rattle.std.specs.Prelude.{◌≤◌, ℕ, List, length, map, IfErr, IfOk, OnOk};
+ghost use Rattle.std.specs.List.{AllByRecursion};
+ghost use Rattle.tinyvec_borsh.specs.Items.{AfterItems, SpellsItems};
+ghost use Rattle.tinyvec_borsh.specs.Reading.{Fails, Takes};
+ghost use Rattle.tinyvec_borsh.specs.Apart.{AreApart};
+
+use crate::{BorshError, BorshForm};
+use std::alloc::Global;
+use std::io::Read;
+use tinyvec_io::Counted;
+
+/// What can be read.
+pub trait BorshDeserialize: BorshForm + Sized {
+    // The input ends before the last byte that is to be read.
+    ghost IsCut: { List ℕ → Type 0 };
+
+    // The input has a list with more items than there is room for.
+    ghost IsTooLong: { List ℕ → Type 0 };
+
+    // Memory may be asked for to read this input.
+    ghost MayAsk: { List ℕ → Type 0 };
+
+    /// Reads the value whose spelling begins the input. What follows stays unread.
+    fn deserialize_reader<R: Read>(
+        alloc: Global,
+        reader: &mut Counted<R>,
+    ) -> Result<Self, BorshError>
+        ensures ok { IfOk result (λ v. Takes (Self.Spells (Self.content_of v))
+            (R.remaining reader.old.end) (R.remaining reader.new.end)) }
+        ensures fits { IfOk result (λ v. Self.Fits (Self.content_of v)) }
+        ensures err { IfErr result (Fails IsCut IsTooLong MayAsk
+            (R.remaining reader.old.end) reader.old.faults reader.new.faults) }
+        ensures grows { reader.old.faults ≤ reader.new.faults };
+
+    /// Reads a value into each slot. Their spellings stand one behind the other.
+    fn deserialize_slots<R: Read>(
+        alloc: Global,
+        slots: &mut [Self],
+        reader: &mut Counted<R>,
+    ) -> Result<(), BorshError>
+    where
+        Self: Drop,
+        ensures ok { OnOk result (Takes (SpellsItems Self.Spells (map Self.content_of slots.new))
+            (R.remaining reader.old.end) (R.remaining reader.new.end)) }
+        ensures fits { OnOk result (AllByRecursion Self.Fits (map Self.content_of slots.new)) }
+        ensures err { IfErr result (Fails (AfterItems Self.Spells Self.Fits IsCut (length slots.old))
+            (AfterItems Self.Spells Self.Fits IsTooLong (length slots.old))
+            (AfterItems Self.Spells Self.Fits MayAsk (length slots.old))
+            (R.remaining reader.old.end) reader.old.faults reader.new.faults) }
+        ensures grows { reader.old.faults ≤ reader.new.faults }
+    {
+        for i in 0..slots.len() {
+            slots[i] = Self::deserialize_reader(alloc, reader)?;
+        }
+        Ok(())
+    }
+
+    // By these, which of the answers it is follows from the input, faults and want of memory aside.
+    ghost apart: { AreApart Self.Spells Self.Fits IsCut IsTooLong };
+}

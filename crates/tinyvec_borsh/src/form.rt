@@ -1,0 +1,23 @@
+//! What stands for a value in the form.
+ghost use Rattle.std.specs.Prelude.{ℕ, List};
+ghost use Rattle.tinyvec_borsh.specs.Code.{IsCode};
+
+/// A type whose values have a content, which is spelled by bytes.
+pub trait BorshForm {
+    // What of a value is written. Two values of the same content are written alike.
+    ghost Content: { Type 0 };
+
+    ghost content_of: { Self → Content };
+
+    // The bytes spell the content.
+    ghost Spells: { Content → List ℕ → Type 0 };
+
+    // A value of the type has this content.
+    ghost Fits: { Content → Type 0 };
+
+    // A content has at most one spelling, of at least one byte, and no spelling begins, or is, that of another content.
+    ghost code: { IsCode Spells };
+
+    // What fits has a spelling.
+    ghost spelled: { (c : Content) → Fits c → (bytes : List ℕ) × Spells c bytes };
+}

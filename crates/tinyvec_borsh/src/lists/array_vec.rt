@@ -1,0 +1,81 @@
+//! An `ArrayVec` of what can be written and read.
+ghost use Rattle.std.specs.Prelude.{◌≡◌, ◌<◌, ◌≤◌, ◌^◌, ℕ, List, length, map, IfOk, IfErr, OnOk};
+ghost use Rattle.tinyvec_slots.specs.Slots.{items};
+ghost use Rattle.tinyvec_borsh.specs.Items.{SpellsList, ListFits, InItem, IsListCut, IsListTooLong};
+ghost use Rattle.tinyvec_borsh.specs.Reading.{Fails, LeavesRest, Takes};
+ghost use Rattle.tinyvec_borsh.specs.ItemsLaws.{list_code, list_apart, list_spelled};
+
+use super::read_items;
+use crate::{BorshDeserialize, BorshError, BorshForm, BorshSerialize};
+use std::alloc::Global;
+use std::io::{Read, Write};
+use tinyvec_array::{Array, ArrayVec};
+use tinyvec_io::Counted;
+
+impl<A: Array> BorshForm for ArrayVec<A>
+where
+    A::Item: BorshForm,
+{
+    ghost Content = { List A.Item.Content };
+
+    ghost content_of = { λ v. map A.Item.content_of (items v) };
+
+    ghost Spells = { SpellsList A.Item.Spells };
+
+    ghost Fits = { ListFits A.Item.Spells A.Item.Fits A.CAPACITY };
+
+    ghost code = { list_code A.Item.Spells A.Item.code };
+
+    ghost spelled = { list_spelled A.Item.Spells A.Item.Fits A.Item.spelled A.CAPACITY };
+}
+
+impl<A: Array> BorshSerialize for ArrayVec<A>
+where
+    A::Item: BorshSerialize,
+{
+    fn serialize<W: Write>(&self, writer: &mut Counted<W>) -> Result<(), BorshError> {
+        (self.len() as u64).serialize(writer)?;
+        A::Item::serialize_items(self.as_slice(), writer)
+    }
+}
+
+impl<A: Array> BorshDeserialize for ArrayVec<A>
+where
+    A::Item: BorshDeserialize,
+{
+    ghost IsCut = { IsListCut A.Item.Spells A.Item.Fits A.Item.IsCut A.CAPACITY };
+
+    ghost IsTooLong = { IsListTooLong A.Item.Spells A.Item.Fits A.Item.IsTooLong A.CAPACITY };
+
+    ghost MayAsk = { InItem A.Item.Spells A.Item.Fits A.Item.MayAsk A.CAPACITY };
+
+    ghost apart = { list_apart A.Item.Spells A.Item.code A.Item.Fits A.Item.IsCut A.Item.IsTooLong A.Item.apart
+        A.CAPACITY };
+
+    fn deserialize_reader<R: Read>(
+        alloc: Global,
+        reader: &mut Counted<R>,
+    ) -> Result<Self, BorshError>
+        ensures ok { IfOk result (λ v. Takes (SpellsList A.Item.Spells (map A.Item.content_of (items v)))
+            (R.remaining reader.old.end) (R.remaining reader.new.end)) }
+        ensures fits { IfOk result (λ v. ListFits A.Item.Spells A.Item.Fits A.CAPACITY
+            (map A.Item.content_of (items v))) }
+        ensures err { IfErr result (Fails (IsListCut A.Item.Spells A.Item.Fits A.Item.IsCut A.CAPACITY)
+            (IsListTooLong A.Item.Spells A.Item.Fits A.Item.IsTooLong A.CAPACITY)
+            (InItem A.Item.Spells A.Item.Fits A.Item.MayAsk A.CAPACITY)
+            (R.remaining reader.old.end) reader.old.faults reader.new.faults) }
+        ensures grows { reader.old.faults ≤ reader.new.faults }
+        ensures rest { IfErr result (LeavesRest A.Item.Spells A.Item.IsTooLong A.CAPACITY
+            (R.remaining reader.old.end) (R.remaining reader.new.end)) }
+    {
+        let count = u64::deserialize_reader(alloc, reader)?;
+        let len = count.min(A::CAPACITY as u64) as usize;
+        let mut array = A::default();
+        read_items(alloc, array.as_slice_mut(), 0, len, reader)?;
+        if (len as u64) < count {
+            A::Item::deserialize_reader(alloc, reader)?;
+            return Err(BorshError::InvalidLength);
+        }
+        Ok(ArrayVec::from_array_len(array, len))
+    }
+}

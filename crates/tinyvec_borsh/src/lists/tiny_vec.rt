@@ -1,0 +1,116 @@
+//! A `TinyVec` of what can be written and read.
+ghost use Rattle.std.specs.Prelude.{◌≡◌, ◌<◌, ◌≤◌, ◌^◌, ◌-◌, ◌++◌, ◌⊎◌, ◌↔◌, ℕ, List, length, map, IfOk, IfErr, OnOk};
+ghost use Rattle.std.specs.List.{AllByRecursion};
+ghost use Rattle.tinyvec.specs.Tiny.{IsInline, PlaceRule, tiny_capacity, tiny_items, tiny_len};
+ghost use Rattle.tinyvec_borsh.specs.Items.{AfterItems, CountsAbove, InItem, IsListCut, IsListTooLong, ListFits};
+ghost use Rattle.tinyvec_borsh.specs.Items.{SpellsItems, SpellsList};
+ghost use Rattle.tinyvec_borsh.specs.ItemsLaws.{list_apart, list_code, list_spelled};
+ghost use Rattle.tinyvec_borsh.specs.Reading.{Fails, Takes};
+
+use super::read_items;
+use crate::{BorshDeserialize, BorshError, BorshForm, BorshSerialize};
+use std::alloc::Global;
+use std::io::{Read, Write};
+use tinyvec::{Array, TinyVec};
+use tinyvec_io::Counted;
+
+/// For so many items room is asked for before the first is read.
+const ROOM_AHEAD: u64 = 1024;
+
+impl<A: Array> BorshForm for TinyVec<A>
+where
+    A::Item: BorshForm,
+{
+    ghost Content = { List A.Item.Content };
+
+    ghost content_of = { λ v. map A.Item.content_of (tiny_items v) };
+
+    ghost Spells = { SpellsList A.Item.Spells };
+
+    // A count of eight bytes is at most `usize::MAX`.
+    ghost Fits = { ListFits A.Item.Spells A.Item.Fits (2 ^ 64 - 1) };
+
+    ghost code = { list_code A.Item.Spells A.Item.code };
+
+    ghost spelled = { list_spelled A.Item.Spells A.Item.Fits A.Item.spelled (2 ^ 64 - 1) };
+}
+
+impl<A: Array> BorshSerialize for TinyVec<A>
+where
+    A::Item: BorshSerialize,
+{
+    fn serialize<W: Write>(&self, writer: &mut Counted<W>) -> Result<(), BorshError> {
+        (self.len() as u64).serialize(writer)?;
+        A::Item::serialize_items(self.as_slice(), writer)
+    }
+}
+
+impl<A: Array> BorshDeserialize for TinyVec<A>
+where
+    A::Item: BorshDeserialize,
+{
+    ghost IsCut = { IsListCut A.Item.Spells A.Item.Fits A.Item.IsCut (2 ^ 64 - 1) };
+
+    ghost IsTooLong = { IsListTooLong A.Item.Spells A.Item.Fits A.Item.IsTooLong (2 ^ 64 - 1) };
+
+    ghost MayAsk = { λ input. CountsAbove A.CAPACITY input
+        ⊎ InItem A.Item.Spells A.Item.Fits A.Item.MayAsk (2 ^ 64 - 1) input };
+
+    ghost apart = { list_apart A.Item.Spells A.Item.code A.Item.Fits A.Item.IsCut A.Item.IsTooLong A.Item.apart
+        (2 ^ 64 - 1) };
+
+    fn deserialize_reader<R: Read>(
+        alloc: Global,
+        reader: &mut Counted<R>,
+    ) -> Result<Self, BorshError>
+        ensures ok { IfOk result (λ v. Takes (SpellsList A.Item.Spells (map A.Item.content_of (tiny_items v)))
+            (R.remaining reader.old.end) (R.remaining reader.new.end)) }
+        ensures fits { IfOk result (λ v. ListFits A.Item.Spells A.Item.Fits (2 ^ 64 - 1)
+            (map A.Item.content_of (tiny_items v))) }
+        ensures err { IfErr result (Fails (IsListCut A.Item.Spells A.Item.Fits A.Item.IsCut (2 ^ 64 - 1))
+            (IsListTooLong A.Item.Spells A.Item.Fits A.Item.IsTooLong (2 ^ 64 - 1))
+            (λ input. CountsAbove A.CAPACITY input ⊎ InItem A.Item.Spells A.Item.Fits A.Item.MayAsk (2 ^ 64 - 1) input)
+            (R.remaining reader.old.end) reader.old.faults reader.new.faults) }
+        ensures grows { reader.old.faults ≤ reader.new.faults }
+        ensures place { IfOk result (λ v. IsInline v ↔ (tiny_len v ≤ A.CAPACITY)) }
+    {
+        let count = u64::deserialize_reader(alloc, reader)?;
+        let Ok(mut v) = TinyVec::with_capacity(alloc, count.min(ROOM_AHEAD) as usize) else {
+            return Err(BorshError::Memory);
+        };
+        while (v.len() as u64) < count {
+            read_more(alloc, &mut v, count, reader)?;
+        }
+        Ok(v)
+    }
+}
+
+// Reads the next items of so many in all, up to 1024 of them, into room that is made first.
+fn read_more<A: Array, R: Read>(
+    alloc: Global,
+    v: &mut TinyVec<A>,
+    count: u64,
+    reader: &mut Counted<R>,
+) -> Result<(), BorshError>
+where
+    A::Item: BorshDeserialize,
+    requires { tiny_len v.old < count }
+    ensures ok { OnOk result ((xs : List A.Item) × (tiny_items v.new ≡ tiny_items v.old ++ xs)
+        × (0 < length xs) × (tiny_len v.new ≤ count) × AllByRecursion A.Item.Fits (map A.Item.content_of xs)
+        × Takes (SpellsItems A.Item.Spells (map A.Item.content_of xs))
+        (R.remaining reader.old.end) (R.remaining reader.new.end)) }
+    ensures place { OnOk result (PlaceRule A.CAPACITY (tiny_len v.new) v.old v.new) }
+    ensures err { IfErr result (λ e. ((e ≡ BorshError.Memory) × (tiny_capacity A.CAPACITY v.old < count))
+        ⊎ Fails (AfterItems A.Item.Spells A.Item.Fits A.Item.IsCut (count - tiny_len v.old))
+        (AfterItems A.Item.Spells A.Item.Fits A.Item.IsTooLong (count - tiny_len v.old))
+        (AfterItems A.Item.Spells A.Item.Fits A.Item.MayAsk (count - tiny_len v.old))
+        (R.remaining reader.old.end) reader.old.faults reader.new.faults e) }
+    ensures grows { reader.old.faults ≤ reader.new.faults }
+{
+    let start = v.len();
+    let end = start + (count - start as u64).min(ROOM_AHEAD) as usize;
+    let Ok(()) = v.resize_with(end, || A::Item::default()) else {
+        return Err(BorshError::Memory);
+    };
+    read_items(alloc, v.as_mut_slice(), start, end, reader)
+}

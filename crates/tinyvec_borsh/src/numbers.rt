@@ -1,0 +1,4 @@
+//! Whole numbers: so many bytes, least first.
+
+mod signed;
+mod unsigned;
