@@ -10,3 +10,4 @@ pub mod Parsed
 pub mod State
 pub mod Place
 pub mod TinyCalls
+pub mod TextCalls

@@ -8,8 +8,8 @@ use Rattle.tinyvec_script.specs.Script.{State}
 use Rattle.tinyvec_script.specs.declared.vectors.Vectors.{Vectors}
 
 abbrev pub state_of : {B : Type 0} → Lent.Ghosts B ℤ → Vectors B → State
-state_of g vectors = record { a = vectors.a; s = seen_of g vectors.s; t = tiny_of vectors.t }
+state_of g vectors = record { a = vectors.a; s = seen_of g vectors.s; t = tiny_of vectors.t; x = vectors.x }
 
 -- the same over a lent slice
 abbrev pub held : Vectors (MutBor (List ℤ)) → State
-held vectors = record { a = vectors.a; s = seen vectors.s; t = tiny_of vectors.t }
+held vectors = record { a = vectors.a; s = seen vectors.s; t = tiny_of vectors.t; x = vectors.x }

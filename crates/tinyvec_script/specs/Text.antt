@@ -3,6 +3,7 @@ use Rattle.std.specs.Prelude.{ℕ, List, ◌++◌, ℤ, codes, Bool, true, false
 use Rattle.std.specs.Fmt.{signed_decimal}
 use Rattle.std.specs.List.{join_by}
 use Rattle.tinyvec_slots.specs.Slots.{Slots, items, spare}
+use Rattle.tinyvec_text.specs.Text.{Text}
 use Rattle.tinyvec_script.specs.Place.{Tiny, lies_inline}
 use Rattle.tinyvec_script.specs.declared.call.Answer.{Answer}
 use Rattle.tinyvec_script.specs.declared.call.Answer.TheVariants as answers
@@ -42,3 +43,10 @@ place_state_text items inline = list_text items ++ codes " " ++ place_text inlin
 
 abbrev pub tiny_text : Tiny ℤ → List ℕ
 tiny_text v = place_state_text v.items (lies_inline v.place)
+
+-- the bytes of a text in brackets, and where it lies
+unfoldable pub text_state_text : List ℕ → Bool → List ℕ
+text_state_text bytes inline = codes "[" ++ bytes ++ codes "] " ++ place_text inline
+
+abbrev pub inline_text_text : Text → List ℕ
+inline_text_text x = text_state_text x.bytes x.inline

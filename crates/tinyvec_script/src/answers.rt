@@ -3,7 +3,7 @@ ghost use Rattle.std.specs.Prelude.{◌++◌, ◌∷◌, [], codes};
 ghost use Rattle.std.specs.List.{flat_map};
 ghost use Rattle.std.specs.Fmt.{signed_decimal};
 ghost use Rattle.tinyvec_script.specs.Writes.{Gathers};
-ghost use Rattle.tinyvec_script.specs.Text.{list_text, answer_text, state_text, place_text, place_state_text};
+ghost use Rattle.tinyvec_script.specs.Text.{list_text, answer_text, state_text, place_text, place_state_text, text_state_text};
 
 use crate::Answer;
 use crate::decimal::Decimal;
@@ -43,6 +43,23 @@ pub(crate) fn write_tiny_line<W: Write>(
     write_answer(gathered, writer, answer)?;
     gathered.put(writer, b" ")?;
     write_place_state(gathered, writer, items, inline)?;
+    gathered.put(writer, b"\n")
+}
+
+// And for a text: the answer, the bytes of the text, and where it lies.
+pub(crate) fn write_text_line<W: Write>(
+    gathered: &mut Gathered,
+    writer: &mut Counted<W>,
+    answer: &Answer<i32>,
+    bytes: &[u8],
+    inline: bool,
+) -> io::Result<()>
+    ensures { Gathers W.contents writer.old gathered.old writer.new gathered.new result
+        (answer_text answer.now ++ codes " " ++ text_state_text bytes.now inline ++ 10 ∷ []) }
+{
+    write_answer(gathered, writer, answer)?;
+    gathered.put(writer, b" ")?;
+    write_text_state(gathered, writer, bytes, inline)?;
     gathered.put(writer, b"\n")
 }
 
@@ -104,6 +121,22 @@ fn write_place_state<W: Write>(
 {
     write_list(gathered, writer, items)?;
     gathered.put(writer, b" ")?;
+    write_place(gathered, writer, inline)
+}
+
+// Writes the bytes in brackets, a blank and the place.
+#[tactic(auto, unfolding(crate::specs::Text::text_state_text))]
+fn write_text_state<W: Write>(
+    gathered: &mut Gathered,
+    writer: &mut Counted<W>,
+    bytes: &[u8],
+    inline: bool,
+) -> io::Result<()>
+    ensures { Gathers W.contents writer.old gathered.old writer.new gathered.new result (text_state_text bytes.now inline) }
+{
+    gathered.put(writer, b"[")?;
+    gathered.put(writer, bytes)?;
+    gathered.put(writer, b"] ")?;
     write_place(gathered, writer, inline)
 }
 

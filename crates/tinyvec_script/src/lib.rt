@@ -14,6 +14,8 @@ mod runs;
 mod script;
 mod slice_step;
 mod splice_text;
+mod text_command;
+mod text_step;
 mod tiny_step;
 mod vectors;
 

@@ -1,15 +1,19 @@
 //! A script, read and answered.
-ghost use Rattle.std.specs.Prelude.{◌≡◌, ◌≤◌, ◌^◌, ◌-◌, ◌++◌, ◌∷◌, List, ℕ, [], OnOk, OnErr, IsErrOf, length};
+ghost use Rattle.std.specs.Prelude.{◌≡◌, ◌≤◌, ◌^◌, ◌-◌, ◌++◌, ◌∷◌, List, ℕ, ℤ, [], OnOk, OnErr, IsErrOf, length};
 ghost use Rattle.std.specs.Io.KnownBytes.{Appends, Consumes, IsAtEnd, append_known};
 ghost use Rattle.tinyvec_io.specs.Counted.{Reported};
 ghost use Rattle.tinyvec_script.specs.State.{state_of};
+ghost use Rattle.tinyvec_script.specs.Command.{IsCommand};
 ghost use Rattle.tinyvec_script.specs.Script.{Answered, Script, CompleteLines};
+ghost use Rattle.tinyvec_script.specs.declared.call.Call.{Call};
+ghost use Rattle.tinyvec_script.specs.declared.command.Name.{Name};
 ghost use Rattle.tinyvec_script.specs.History.{kept, Feeds, Ends};
 
 use crate::Answer;
 use crate::command::{Parsed, parse_line};
 use crate::gathered::Gathered;
 use crate::line::Line;
+use crate::text_command::parse_text_line;
 use crate::vectors::Vectors;
 use std::alloc::Global;
 use std::io;
@@ -17,6 +21,7 @@ use std::io::{Read, Write};
 use thiserror::Error;
 use tinyvec::{ArrayVec, Lent, SliceVec, TinyVec};
 use tinyvec_io::Counted;
+use tinyvec_text::InlineText;
 
 // How many bytes are read at a time.
 const CHUNK: usize = 4096;
@@ -69,6 +74,7 @@ pub fn run<R: Read, W: Write>(
         a: ArrayVec::new(),
         s: SliceVec::from_slice_len(&mut slots, 0),
         t: TinyVec::new(alloc),
+        x: InlineText::new(alloc),
     };
     let mut line = Line::new();
     let mut chunk = [0; CHUNK];
@@ -197,11 +203,33 @@ fn answer_line<W: Write, B: Lent<Item = i32>>(
         return gathered.put(writer, b"bad\n");
     };
     match parse_line(alloc, text) {
-        Parsed::Bad => gathered.put(writer, b"bad\n"),
+        Parsed::Bad => answer_text_line(vectors, text, gathered, writer),
         Parsed::Memory(name) => vectors.write_line(gathered, writer, &Answer::Memory, name),
         Parsed::Call(name, call) => {
             let answered = vectors.answer(alloc, name, call);
             vectors.write_line(gathered, writer, &answered, name)
         }
     }
+}
+
+// Answers a line that spells no call of a vector: it may spell one of the text.
+fn answer_text_line<W: Write, B: Lent<Item = i32>>(
+    vectors: &mut Vectors<B>,
+    line: &[u8],
+    gathered: &mut Gathered,
+    writer: &mut Counted<W>,
+) -> io::Result<()>
+    requires { (name : Name) (call : Call ℤ) → IsCommand line.now name call → ⊥ }
+    ensures ok { OnOk result ((text : List ℕ)
+        × Appends (append_known (W.contents writer.old.end) gathered.old)
+        (append_known (W.contents writer.new.end) gathered.new) (text ++ 10 ∷ [])
+        × Answered (state_of B.Lent vectors.old) line.now text (state_of B.Lent vectors.new)) }
+    ensures grows { writer.old.faults ≤ writer.new.faults }
+    ensures fault { OnErr result (Reported writer.old.faults writer.new.faults) }
+{
+    let Some(call) = parse_text_line(line) else {
+        return gathered.put(writer, b"bad\n");
+    };
+    let answered = vectors.answer_text(call);
+    vectors.write_text_line(gathered, writer, &answered)
 }

@@ -1,14 +1,17 @@
 //! The vectors of a script.
 ghost use Rattle.std.specs.Prelude.{◌++◌, ◌∷◌, [], codes};
-ghost use Rattle.tinyvec_script.specs.Script.{Steps, text_of};
-ghost use Rattle.tinyvec_script.specs.Text.{answer_text};
+ghost use Rattle.tinyvec_script.specs.Script.{Steps, TextSteps, text_of};
+ghost use Rattle.tinyvec_script.specs.Text.{answer_text, inline_text_text};
+ghost use Rattle.tinyvec_script.specs.TextCalls.{call_of};
 ghost use Rattle.tinyvec_script.specs.Writes.{Gathers};
 
-use crate::answers::{write_line, write_tiny_line};
+use crate::answers::{write_line, write_text_line, write_tiny_line};
 use crate::array_step::answer_array;
 use crate::command::Name;
 use crate::gathered::Gathered;
 use crate::slice_step::answer_slice;
+use crate::text_command::TextCall;
+use crate::text_step::answer_text;
 use crate::tiny_step::answer_tiny;
 use crate::{Answer, Call};
 use std::alloc::Global;
@@ -16,6 +19,7 @@ use std::io;
 use std::io::Write;
 use tinyvec::{ArrayVec, Lent, SliceVecOver, TinyVec};
 use tinyvec_io::Counted;
+use tinyvec_text::InlineText;
 
 // The vectors of a script, each under its name.
 #[derive(Drop)]
@@ -23,6 +27,7 @@ pub(crate) struct Vectors<B: Lent<Item = i32>> {
     pub a: ArrayVec<[i32; 4]>,
     pub s: SliceVecOver<B>,
     pub t: TinyVec<[i32; 4]>,
+    pub x: InlineText<4>,
 }
 
 impl<B: Lent<Item = i32>> Vectors<B> {
@@ -37,6 +42,32 @@ impl<B: Lent<Item = i32>> Vectors<B> {
             Name::S => answer_slice(alloc, &mut self.s, call),
             Name::T => answer_tiny(alloc, &mut self.t, call),
         }
+    }
+
+    // Makes the call of the text.
+    pub(crate) fn answer_text(&mut self, call: TextCall<'_>) -> Answer<i32>
+        ensures { TextSteps (state_of B.Lent self.old) (call_of call.entry) result (state_of B.Lent self.new) }
+    {
+        answer_text(&mut self.x, call)
+    }
+
+    // Writes an answer line: the answer, and the text as it is then.
+    pub(crate) fn write_text_line<W: Write>(
+        &self,
+        gathered: &mut Gathered,
+        writer: &mut Counted<W>,
+        answer: &Answer<i32>,
+    ) -> io::Result<()>
+        ensures { Gathers W.contents writer.old gathered.old writer.new gathered.new result
+            (answer_text answer.now ++ codes " " ++ inline_text_text self.now.x ++ 10 ∷ []) }
+    {
+        write_text_line(
+            gathered,
+            writer,
+            answer,
+            self.x.as_bytes(),
+            self.x.is_inline(),
+        )
     }
 
     // Writes an answer line: the answer, and the vector of that name as it is then.

@@ -20,8 +20,10 @@ loop-piece-init g c =
     let tiny = c.new-2 in
     let tiny_spare = defaults_are IsZero (pos 0) (λ x h. h) 4 _ tiny.ensures.spare in
     let t_begins : tiny_of tiny.result ≡ start.t = tiny_of-begins tiny.result (replicate 4 (pos 0)) tiny.ensures.items tiny_spare tiny.ensures.place in
-    let state : State = record { a = array; s = seen c.from_slice_len.result; t = tiny_of tiny.result } in
-    let begins : state ≡ start = λ t. record { a = a_begins t; s = s_begins t; t = t_begins t } in
+    let text = c.new-3 in
+    let x_begins : text.result ≡ start.x = λ t. record { bytes = text.ensures.bytes t; inline = text.ensures.place t; room = text.ensures.room t } in
+    let state : State = record { a = array; s = seen c.from_slice_len.result; t = tiny_of tiny.result; x = text.result } in
+    let begins : state ≡ start = λ t. record { a = a_begins t; s = s_begins t; t = t_begins t; x = x_begins t } in
     record {
       so_far = ([], [], Consumes-nil _, Appends-nil _, rw (begins, c.new-line.ensures) (feeds_nothing start (Some [])), omega arith);
       read_grows = omega arith;

@@ -1,0 +1,63 @@
+-- The text of a script: how its calls are spelled, what they may be answered, and what they then leave.
+use Rattle.std.specs.Prelude.{◌≡◌, ℕ, ℤ, ◌+◌, ◌<◌, ◌≤◌, ◌^◌, List, ◌++◌, length, take, codes, chars, IsUtf8}
+use Rattle.std.specs.Fmt.{decimal}
+use Rattle.tinyvec_text.specs.Text.{Text, text_chars, text_len, TextPlaceRule, IsBoundary}
+use Rattle.tinyvec_script.specs.declared.call.Answer.{Answer}
+use Rattle.tinyvec_script.specs.declared.call.Answer.TheVariants as answers
+use Rattle.tinyvec_script.specs.declared.text_command.TextCall.{TextCall as Said}
+use Rattle.tinyvec_script.specs.declared.text_command.TextCall.TheVariants as said
+
+-- a call of a text: to append these bytes, or to keep its first bytes, so many
+pub data TextCall : Type 0 where
+  add : List ℕ → TextCall
+  cut : ℕ → TextCall
+
+-- what the program takes a line for
+abbrev pub call_of : Said → TextCall
+call_of (said.Add text) = add text.now
+call_of (said.Cut index) = cut index
+
+-- how a call is spelled behind the name of the text
+abbrev pub text_spelling : TextCall → List ℕ
+text_spelling (add text) = codes "add " ++ text
+text_spelling (cut index) = codes "cut " ++ decimal index
+
+-- what is appended are characters, one at least, and an index is of its type
+abbrev pub TextFits : TextCall → Type 0
+TextFits (add text) = (0 < length text) × IsUtf8 text
+TextFits (cut index) = index < 2 ^ 64
+
+-- the line spells this call of the text
+pub record IsTextCommand (line : List ℕ) (call : TextCall) : Type 0 where
+  pub spelled : line ≡ codes "X " ++ text_spelling call
+  pub fits : TextFits call
+  pub short : length line ≤ 128
+
+-- The bytes were appended, by the place rule at the joined length. There is no less room than before, and enough; where
+-- the old room holds the text it is the same.
+pub record Added (slots : ℕ) (old : Text) (text : List ℕ) (new : Text) : Type 0 where
+  pub chars_are : text_chars new ≡ text_chars old ++ chars text
+  pub bytes_are : new.bytes ≡ old.bytes ++ text
+  pub place : TextPlaceRule slots (text_len old + length text) old new
+  pub keeps_room : old.room ≤ new.room
+  pub fits : text_len new ≤ new.room
+  pub same_room : text_len old + length text ≤ old.room → new.room ≡ old.room
+
+-- the first characters were kept, those whose bytes are so many, where they lie
+pub record CutAt (old : Text) (index : ℕ) (new : Text) : Type 0 where
+  pub boundary : IsBoundary (text_chars old) index
+  pub chars_are : (rest : List ℕ) × (text_chars old ≡ text_chars new ++ rest)
+  pub bytes_are : new.bytes ≡ take index old.bytes
+  pub len : text_len new ≡ index
+  pub place : new.inline ≡ old.inline
+  pub room : new.room ≡ old.room
+
+-- From the old text the call may be answered so, and leave the new one. Want of memory is a case of its own: `Memory` only
+-- where the joined text has no room where the old one lies. It changes nothing, and neither does `Range`.
+abbrev pub TextStep : ℕ → Text → TextCall → Answer ℤ → Text → Type 0
+TextStep slots old (add text) answers.Done new = Added slots old text new
+TextStep slots old (add text) answers.Memory new = (old.room < text_len old + length text) × (new ≡ old)
+TextStep slots old (cut index) answers.Done new = CutAt old index new
+TextStep slots old (cut index) answers.Range new = (IsBoundary (text_chars old) index → ⊥) × (new ≡ old)
+-- no other answer is given
+TextStep slots old call answer new = ⊥
