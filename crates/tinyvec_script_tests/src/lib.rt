@@ -11,10 +11,14 @@ mod ends;
 #[cfg(test)]
 mod order;
 #[cfg(test)]
+mod refusals;
+#[cfg(test)]
 mod script;
 #[cfg(test)]
 mod slices;
 #[cfg(test)]
 mod splices;
+#[cfg(test)]
+mod text;
 #[cfg(test)]
 mod tiny;
