@@ -1,8 +1,10 @@
--- Runs that no `TinyVec` makes.
-use Rattle.std.proofs.Common.{◌≡◌, ℕ, ◌+◌, List, [], ◌∷◌, length, length-append, ap, ◌∙◌, arith}
+-- Runs that no `TinyVec` makes, and none of the script's text.
+use Rattle.std.proofs.Common.{◌≡◌, ℕ, ◌+◌, ◌≤◌, List, [], ◌∷◌, length, length-append, ap, ◌∙◌, arith}
+use Rattle.tinyvec_text.specs.Text.{Text, text_len}
 use Rattle.tinyvec_script.specs.Step.{Run}
 use Rattle.tinyvec_script.specs.Place.{Tiny, count}
 use Rattle.tinyvec_script.specs.TinyCalls.{TinyStep}
+use Rattle.tinyvec_script.specs.TextCalls.{add, cut, TextStep}
 use Rattle.tinyvec_script.specs.declared.call.Call.{Call}
 use Rattle.tinyvec_script.specs.declared.call.Call.TheVariants.{Push, Pop}
 use Rattle.tinyvec_script.specs.declared.call.Answer.{Answer}
@@ -21,3 +23,11 @@ module _ {T : Type 0} (D : T → Type 0) (slots : ℕ) where
       let refused = run.2.2.1 in
       let longer : count first ≡ count second + 1 = ap length popped.answered.0 ∙ length-append second.items (y ∷ []) in
       omega (arith, begun.fits, popped.answered.1.keeps_room, refused.answered.0)
+
+-- Where a text was appended there is room for all of it, and a cut keeps that room: what is no longer than what was cut off is
+-- not refused afterwards.
+pub memory_after_a_cut : (slots : ℕ) (text more : List ℕ) (index : ℕ) (old first second new : Text)
+    → TextStep slots old (add text) answers.Done first → TextStep slots first (cut index) answers.Done second
+    → TextStep slots second (add more) answers.Memory new → text_len second + length more ≤ text_len first → ⊥
+memory_after_a_cut slots text more index old first second new added shortened refused within =
+    omega (arith, added.fits, shortened.room, refused.0, within)
