@@ -2,25 +2,25 @@
 use std::iter;
 use std::test::Fail;
 use tinyvec_array::{ArrayVec, FromIterRest, NoRoom};
-use tinyvec_test_items::Unhinted;
+use tinyvec_test_items::{Unhinted, assert_is, assert_items};
 
 #[test]
 fn fill_stops_when_full(rt: HostRuntime) {
     let mut vec = ArrayVec::<[i32; 4]>::new();
     let mut rest = vec.fill(0..);
-    assert!(rt; vec.as_slice() == [0, 1, 2, 3].as_slice());
-    assert!(rt; rest.next() == Some(4));
+    assert_items!(rt; vec.as_slice(), [0, 1, 2, 3]);
+    assert_is!(rt; rest.next(), Some(4));
     let mut none = vec.fill(7..9);
-    assert!(rt; none.next() == Some(7));
+    assert_is!(rt; none.next(), Some(7));
 }
 
 #[test]
 fn fill_stops_at_the_end(rt: HostRuntime) {
     let mut vec = ArrayVec::from_array_len([1, 9, 9, 9], 1);
     let mut rest = vec.fill(5..7);
-    assert!(rt; vec.as_slice() == [1, 5, 6].as_slice());
-    assert!(rt; vec.grab_spare_slice() == [9].as_slice());
-    assert!(rt; rest.next() == None);
+    assert_items!(rt; vec.as_slice(), [1, 5, 6]);
+    assert_items!(rt; vec.grab_spare_slice(), [9]);
+    assert_is!(rt; rest.next(), None);
 }
 
 #[test]
@@ -30,19 +30,19 @@ fn extend_answers_what_found_no_room(rt: HostRuntime) {
         Ok(()) => panic!(rt; "there was no room"),
         Err(NoRoom { item, mut rest }) => {
             assert!(rt; item == 5);
-            assert!(rt; rest.next() == Some(6));
-            assert!(rt; rest.next() == None);
+            assert_is!(rt; rest.next(), Some(6));
+            assert_is!(rt; rest.next(), None);
         }
     }
-    assert!(rt; vec.as_slice() == [1, 2, 3, 4].as_slice());
+    assert_items!(rt; vec.as_slice(), [1, 2, 3, 4]);
 }
 
 #[test]
 fn extend_without_a_hint(rt: HostRuntime) {
     let mut vec = ArrayVec::from_array_len([1, 0, 0, 0, 0, 7], 1);
     assert!(rt; vec.extend(Unhinted { next: 5, end: 9 }).is_ok());
-    assert!(rt; vec.as_slice() == [1, 5, 6, 7, 8].as_slice());
-    assert!(rt; vec.grab_spare_slice() == [7].as_slice());
+    assert_items!(rt; vec.as_slice(), [1, 5, 6, 7, 8]);
+    assert_items!(rt; vec.grab_spare_slice(), [7]);
     let mut exact = ArrayVec::<[i32; 4]>::new();
     assert!(rt; exact.extend(Unhinted { next: 5, end: 9 }).is_ok());
     assert!(rt; exact.is_full());
@@ -52,8 +52,8 @@ fn extend_without_a_hint(rt: HostRuntime) {
 fn extend_by_a_vec(rt: HostRuntime) -> Result<(), Fail> {
     let mut vec = ArrayVec::from_array_len([1, 0, 0, 9], 1);
     assert!(rt; vec.extend([2, 3].to_vec(rt.alloc())?).is_ok());
-    assert!(rt; vec.as_slice() == [1, 2, 3].as_slice());
-    assert!(rt; vec.grab_spare_slice() == [9].as_slice());
+    assert_items!(rt; vec.as_slice(), [1, 2, 3]);
+    assert_items!(rt; vec.grab_spare_slice(), [9]);
     Ok(())
 }
 
@@ -61,15 +61,15 @@ fn extend_by_a_vec(rt: HostRuntime) -> Result<(), Fail> {
 fn extend_by_copies_of_a_slice(rt: HostRuntime) {
     let mut vec = ArrayVec::from_array_len([1, 0, 0], 1);
     assert!(rt; vec.extend([2, 3].iter().copied()).is_ok());
-    assert!(rt; vec.as_slice() == [1, 2, 3].as_slice());
+    assert_items!(rt; vec.as_slice(), [1, 2, 3]);
     match vec.extend([4].iter().copied()) {
         Ok(()) => panic!(rt; "there was no room"),
         Err(NoRoom { item, mut rest }) => {
             assert!(rt; item == 4);
-            assert!(rt; rest.next() == None);
+            assert_is!(rt; rest.next(), None);
         }
     }
-    assert!(rt; vec.as_slice() == [1, 2, 3].as_slice());
+    assert_items!(rt; vec.as_slice(), [1, 2, 3]);
 }
 
 #[test]
@@ -83,9 +83,9 @@ fn from_iter_of_endless_items(rt: HostRuntime) {
                 mut rest,
             },
         ) => {
-            assert!(rt; vec.as_slice() == [0, 1].as_slice());
+            assert_items!(rt; vec.as_slice(), [0, 1]);
             assert!(rt; item == 2);
-            assert!(rt; rest.next() == Some(3));
+            assert_is!(rt; rest.next(), Some(3));
         }
     }
 }
@@ -93,13 +93,13 @@ fn from_iter_of_endless_items(rt: HostRuntime) {
 #[test]
 fn from_iter_of_all(rt: HostRuntime) {
     match ArrayVec::<[i32; 4]>::from_iter(10..14) {
-        Ok(vec) => assert!(rt; vec.as_slice() == [10, 11, 12, 13].as_slice()),
+        Ok(vec) => assert_items!(rt; vec.as_slice(), [10, 11, 12, 13]),
         Err(_) => panic!(rt; "there was room"),
     }
     match ArrayVec::<[i32; 4]>::from_iter(10..12) {
         Ok(vec) => {
-            assert!(rt; vec.as_slice() == [10, 11].as_slice());
-            assert!(rt; vec.grab_spare_slice() == [0, 0].as_slice());
+            assert_items!(rt; vec.as_slice(), [10, 11]);
+            assert_items!(rt; vec.grab_spare_slice(), [0, 0]);
         }
         Err(_) => panic!(rt; "there was room"),
     }
@@ -112,7 +112,7 @@ fn many_slots(rt: HostRuntime) {
     let _rest = vec.fill(iter::repeat(1));
     assert!(rt; vec.len() == 65536);
     assert!(rt; vec.grab_spare_slice().is_empty());
-    assert!(rt; vec.try_push(2) == Some(2));
+    assert_is!(rt; vec.try_push(2), Some(2));
 }
 
 #[test]
@@ -124,11 +124,11 @@ fn resize_with_answers_in_order(rt: HostRuntime) {
         last
     });
     assert!(rt; last == 12);
-    assert!(rt; vec.as_slice() == [1, 2, 11, 12].as_slice());
+    assert_items!(rt; vec.as_slice(), [1, 2, 11, 12]);
     vec.resize_with(1, || 7);
-    assert!(rt; vec.as_inner().as_slice() == [1, 0, 0, 0, 9].as_slice());
+    assert_items!(rt; vec.as_inner(), [1, 0, 0, 0, 9]);
     vec.clear();
-    assert!(rt; vec.as_inner().as_slice() == [0, 0, 0, 0, 9].as_slice());
+    assert_items!(rt; vec.as_inner(), [0, 0, 0, 0, 9]);
 }
 
 /// It asks for the items that are missing, and never where none is.
@@ -153,9 +153,9 @@ fn append_moves_the_items(rt: HostRuntime) {
     let mut front = ArrayVec::from_array_len([1, 2, 3, 0, 0, 0, 0, 0], 3);
     let mut back = ArrayVec::from_array_len([4, 5, 6, 0, 0, 0, 0, 8], 3);
     front.append(&mut back);
-    assert!(rt; front.as_slice() == [1, 2, 3, 4, 5, 6].as_slice());
+    assert_items!(rt; front.as_slice(), [1, 2, 3, 4, 5, 6]);
     assert!(rt; back.is_empty());
-    assert!(rt; back.as_inner().as_slice() == [0, 0, 0, 0, 0, 0, 0, 8].as_slice());
+    assert_items!(rt; back.as_inner(), [0, 0, 0, 0, 0, 0, 0, 8]);
 }
 
 /// With the slots that hold no item.
@@ -166,14 +166,14 @@ fn append_if_fits_hands_back_the_other(rt: HostRuntime) {
     match front.append_if_fits(&mut back) {
         Ok(_) => panic!(rt; "there was no room"),
         Err(refused) => {
-            assert!(rt; refused.as_slice() == [7, 8].as_slice());
+            assert_items!(rt; refused.as_slice(), [7, 8]);
             refused.truncate(1);
         }
     }
-    assert!(rt; front.as_slice() == [1, 2, 3, 4, 5, 6].as_slice());
-    assert!(rt; front.as_inner().as_slice() == [1, 2, 3, 4, 5, 6, 20].as_slice());
-    assert!(rt; back.as_slice() == [7].as_slice());
-    assert!(rt; back.as_inner().as_slice() == [7, 0, 9, 30, 31, 32, 33].as_slice());
+    assert_items!(rt; front.as_slice(), [1, 2, 3, 4, 5, 6]);
+    assert_items!(rt; front.as_inner(), [1, 2, 3, 4, 5, 6, 20]);
+    assert_items!(rt; back.as_slice(), [7]);
+    assert_items!(rt; back.as_inner(), [7, 0, 9, 30, 31, 32, 33]);
 }
 
 /// It gives the emptied list, with the slots that hold no item.
@@ -185,9 +185,9 @@ fn append_if_fits_hands_back_the_emptied(rt: HostRuntime) {
         Ok(emptied) => emptied.push(40),
         Err(_) => panic!(rt; "there was room"),
     }
-    assert!(rt; front.as_slice() == [1, 2, 3, 4, 5, 6, 7].as_slice());
-    assert!(rt; back.as_slice() == [40].as_slice());
-    assert!(rt; back.as_inner().as_slice() == [40, 0, 9, 30, 31, 32, 33].as_slice());
+    assert_items!(rt; front.as_slice(), [1, 2, 3, 4, 5, 6, 7]);
+    assert_items!(rt; back.as_slice(), [40]);
+    assert_items!(rt; back.as_inner(), [40, 0, 9, 30, 31, 32, 33]);
 }
 
 #[test]
@@ -195,13 +195,13 @@ fn try_append_hands_back(rt: HostRuntime) {
     let mut front = ArrayVec::from_array_len([1, 2, 3, 4, 5, 6, 20], 6);
     let mut back = ArrayVec::from_array_len([7, 8, 9, 30, 31, 32, 33], 3);
     assert!(rt; front.try_append(&mut back).is_some());
-    assert!(rt; front.as_slice() == [1, 2, 3, 4, 5, 6].as_slice());
-    assert!(rt; front.as_inner().as_slice() == [1, 2, 3, 4, 5, 6, 20].as_slice());
-    assert!(rt; back.as_slice() == [7, 8, 9].as_slice());
-    assert!(rt; back.as_inner().as_slice() == [7, 8, 9, 30, 31, 32, 33].as_slice());
+    assert_items!(rt; front.as_slice(), [1, 2, 3, 4, 5, 6]);
+    assert_items!(rt; front.as_inner(), [1, 2, 3, 4, 5, 6, 20]);
+    assert_items!(rt; back.as_slice(), [7, 8, 9]);
+    assert_items!(rt; back.as_inner(), [7, 8, 9, 30, 31, 32, 33]);
     back.truncate(1);
     assert!(rt; front.try_append(&mut back).is_none());
-    assert!(rt; front.as_slice() == [1, 2, 3, 4, 5, 6, 7].as_slice());
+    assert_items!(rt; front.as_slice(), [1, 2, 3, 4, 5, 6, 7]);
     assert!(rt; back.is_empty());
-    assert!(rt; back.as_inner().as_slice() == [0, 0, 0, 30, 31, 32, 33].as_slice());
+    assert_items!(rt; back.as_inner(), [0, 0, 0, 30, 31, 32, 33]);
 }

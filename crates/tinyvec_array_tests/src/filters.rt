@@ -5,6 +5,7 @@ ghost use Rattle.std.specs.Cmp.Rules.{comparing};
 
 use std::cell::Cell;
 use tinyvec_array::ArrayVec;
+use tinyvec_test_items::assert_items;
 
 fn is_even(x: i32) -> bool {
     x % 2 == 0
@@ -21,8 +22,8 @@ fn even_items<const N: usize>(items: [i32; N]) -> ArrayVec<[i32; N]> {
 fn retain_keeps_the_even_before_defaults_and_old_spare_slots(rt: HostRuntime) {
     let mut vec = ArrayVec::from_array_len([1, 2, 3, 4, 9], 4);
     vec.retain(|x| is_even(*x));
-    assert!(rt; vec.as_slice() == [2, 4].as_slice());
-    assert!(rt; vec.into_inner() == [2, 4, 0, 0, 9]);
+    assert_items!(rt; vec.as_slice(), [2, 4]);
+    assert_items!(rt; &vec.into_inner(), [2, 4, 0, 0, 9]);
 }
 
 #[test]
@@ -33,8 +34,8 @@ fn retain_mut_keeps_the_even_and_doubles_them(rt: HostRuntime) {
         *x = x.wrapping_mul(2);
         stays
     });
-    assert!(rt; vec.as_slice() == [4, 8].as_slice());
-    assert!(rt; vec.into_inner() == [4, 8, 0, 0, 0, 0]);
+    assert_items!(rt; vec.as_slice(), [4, 8]);
+    assert_items!(rt; &vec.into_inner(), [4, 8, 0, 0, 0, 0]);
 }
 
 #[test]
@@ -47,22 +48,22 @@ fn retain_mut_empty_vec(rt: HostRuntime) {
 #[test]
 fn retain_mut_all_elements(rt: HostRuntime) {
     let vec = even_items([2, 4, 6, 8]);
-    assert!(rt; vec.as_slice() == [2, 4, 6, 8].as_slice());
-    assert!(rt; vec.into_inner() == [2, 4, 6, 8]);
+    assert_items!(rt; vec.as_slice(), [2, 4, 6, 8]);
+    assert_items!(rt; &vec.into_inner(), [2, 4, 6, 8]);
 }
 
 #[test]
 fn retain_mut_some_elements(rt: HostRuntime) {
     let vec = even_items([1, 2, 3, 4]);
-    assert!(rt; vec.as_slice() == [2, 4].as_slice());
-    assert!(rt; vec.into_inner() == [2, 4, 0, 0]);
+    assert_items!(rt; vec.as_slice(), [2, 4]);
+    assert_items!(rt; &vec.into_inner(), [2, 4, 0, 0]);
 }
 
 #[test]
 fn retain_mut_no_elements(rt: HostRuntime) {
     let vec = even_items([1, 3, 5, 7]);
     assert!(rt; vec.is_empty());
-    assert!(rt; vec.into_inner() == [0, 0, 0, 0]);
+    assert_items!(rt; &vec.into_inner(), [0, 0, 0, 0]);
 }
 
 #[test]
@@ -83,8 +84,8 @@ fn retain_asks_once_in_order(rt: HostRuntime) {
         keeps = !keeps;
         keeps
     });
-    assert!(rt; vec.as_slice() == [3, 3, 2].as_slice());
-    assert!(rt; asked.as_slice() == [3, 1, 3, 2, 2].as_slice());
+    assert_items!(rt; vec.as_slice(), [3, 3, 2]);
+    assert_items!(rt; asked.as_slice(), [3, 1, 3, 2, 2]);
 }
 
 /// The answers are the closure's own count, and the items are left as it wrote them.
@@ -97,17 +98,17 @@ fn retain_mut_asks_once_in_order(rt: HostRuntime) {
         *x = x.wrapping_add(count);
         count != 2
     });
-    assert!(rt; vec.as_slice() == [11, 33, 44].as_slice());
+    assert_items!(rt; vec.as_slice(), [11, 33, 44]);
     assert!(rt; count == 4);
-    assert!(rt; vec.into_inner() == [11, 33, 44, 0]);
+    assert_items!(rt; &vec.into_inner(), [11, 33, 44, 0]);
 }
 
 #[test]
 fn dedup_removes_repeats(rt: HostRuntime) {
     let mut vec = ArrayVec::from_array([1, 1, 2, 3, 3, 1]);
     vec.dedup();
-    assert!(rt; vec.as_slice() == [1, 2, 3, 1].as_slice());
-    assert!(rt; vec.into_inner() == [1, 2, 3, 1, 0, 0]);
+    assert_items!(rt; vec.as_slice(), [1, 2, 3, 1]);
+    assert_items!(rt; &vec.into_inner(), [1, 2, 3, 1, 0, 0]);
 }
 
 #[test]
@@ -120,11 +121,11 @@ fn dedup_of_no_item_one_and_no_repeat(rt: HostRuntime) {
     assert!(rt; no_slots.is_empty());
     let mut one = ArrayVec::from_array_len([7, 8], 1);
     one.dedup();
-    assert!(rt; one.as_slice() == [7].as_slice());
-    assert!(rt; one.into_inner() == [7, 8]);
+    assert_items!(rt; one.as_slice(), [7]);
+    assert_items!(rt; &one.into_inner(), [7, 8]);
     let mut unlike = ArrayVec::from_array([1, 2, 1]);
     unlike.dedup();
-    assert!(rt; unlike.as_slice() == [1, 2, 1].as_slice());
+    assert_items!(rt; unlike.as_slice(), [1, 2, 1]);
 }
 
 #[test]
@@ -132,8 +133,8 @@ fn dedup_by_asks_for_the_current_item_and_the_last_kept(rt: HostRuntime) {
     let mut vec = ArrayVec::from_array([1i32, 2, 3, 5]);
     vec.dedup_by(|current, last| *current == last.wrapping_add(1));
     assert!(rt; vec.len() == 3);
-    assert!(rt; vec.as_slice() == [1, 3, 5].as_slice());
-    assert!(rt; vec.into_inner() == [1, 3, 5, 0]);
+    assert_items!(rt; vec.as_slice(), [1, 3, 5]);
+    assert_items!(rt; &vec.into_inner(), [1, 3, 5, 0]);
 }
 
 /// A repeat is added to the last item kept, and the others are counted.
@@ -150,17 +151,17 @@ fn dedup_by_leaves_the_items_as_it_wrote_them(rt: HostRuntime) {
         *current = current.wrapping_add(2);
         false
     });
-    assert!(rt; vec.as_slice() == [11, 24, 32, 11].as_slice());
+    assert_items!(rt; vec.as_slice(), [11, 24, 32, 11]);
     assert!(rt; asked == 6);
-    assert!(rt; vec.into_inner() == [11, 24, 32, 11, 0, 0, 0]);
+    assert_items!(rt; &vec.into_inner(), [11, 24, 32, 11, 0, 0, 0]);
 }
 
 #[test]
 fn dedup_by_key_with_the_tenth_part(rt: HostRuntime) {
     let mut vec = ArrayVec::from_array([1, 2, 3, 10, 11]);
     vec.dedup_by_key(|x| *x / 10);
-    assert!(rt; vec.as_slice() == [1, 10].as_slice());
-    assert!(rt; vec.into_inner() == [1, 10, 0, 0, 0]);
+    assert_items!(rt; vec.as_slice(), [1, 10]);
+    assert_items!(rt; &vec.into_inner(), [1, 10, 0, 0, 0]);
 }
 
 /// Of the two keys, that of the current item is asked for first.
@@ -172,8 +173,8 @@ fn dedup_by_key_asks_for_the_current_items_key_first(rt: HostRuntime) {
         let _full = asked.try_push(*x);
         *x / 10
     });
-    assert!(rt; vec.as_slice() == [10, 25].as_slice());
-    assert!(rt; asked.as_slice() == [12, 10, 25, 10, 27, 25].as_slice());
+    assert_items!(rt; vec.as_slice(), [10, 25]);
+    assert_items!(rt; asked.as_slice(), [12, 10, 25, 10, 27, 25]);
 }
 
 /// An item that can't be copied, and whose default is not made of zeros.
@@ -239,7 +240,7 @@ fn retain_asks_about_each_item_once(rt: HostRuntime) {
                 stays
             });
             assert!(rt; vec.len() == if stays { len } else { 0 });
-            assert!(rt; asked.as_slice() == &NUMBERS[..len]);
+            assert_items!(rt; asked.as_slice(), NUMBERS[..len]);
         }
     }
 }
@@ -255,7 +256,7 @@ fn retain_mut_asks_about_each_item_once(rt: HostRuntime) {
                 stays
             });
             assert!(rt; vec.len() == if stays { len } else { 0 });
-            assert!(rt; asked.as_slice() == &NUMBERS[..len]);
+            assert_items!(rt; asked.as_slice(), NUMBERS[..len]);
         }
     }
 }
@@ -273,8 +274,8 @@ fn dedup_by_asks_about_each_item_after_the_first(rt: HostRuntime) {
             true
         });
         assert!(rt; repeats.len() == len.min(1));
-        assert!(rt; currents.as_slice() == &[2, 3, 4][..len.saturating_sub(1)]);
-        assert!(rt; lasts.as_slice() == &[1, 1, 1][..len.saturating_sub(1)]);
+        assert_items!(rt; currents.as_slice(), [2, 3, 4][..len.saturating_sub(1)]);
+        assert_items!(rt; lasts.as_slice(), [1, 1, 1][..len.saturating_sub(1)]);
         currents.clear();
         lasts.clear();
         let mut unlike = ArrayVec::from_array_len(NUMBERS, len);
@@ -284,8 +285,8 @@ fn dedup_by_asks_about_each_item_after_the_first(rt: HostRuntime) {
             false
         });
         assert!(rt; unlike.len() == len);
-        assert!(rt; currents.as_slice() == &[2, 3, 4][..len.saturating_sub(1)]);
-        assert!(rt; lasts.as_slice() == &[1, 2, 3][..len.saturating_sub(1)]);
+        assert_items!(rt; currents.as_slice(), [2, 3, 4][..len.saturating_sub(1)]);
+        assert_items!(rt; lasts.as_slice(), [1, 2, 3][..len.saturating_sub(1)]);
     }
 }
 
@@ -300,7 +301,7 @@ fn dedup_by_key_asks_for_two_keys_of_each_item_after_the_first(rt: HostRuntime) 
         });
         assert!(rt; repeats.len() == len.min(1));
         let pairs = len.saturating_sub(1);
-        assert!(rt; asked.as_slice() == &[2, 1, 3, 1, 4, 1][..2 * pairs]);
+        assert_items!(rt; asked.as_slice(), [2, 1, 3, 1, 4, 1][..2 * pairs]);
         asked.clear();
         let mut unlike = ArrayVec::from_array_len(NUMBERS, len);
         unlike.dedup_by_key(|x| {
@@ -308,7 +309,7 @@ fn dedup_by_key_asks_for_two_keys_of_each_item_after_the_first(rt: HostRuntime) 
             *x
         });
         assert!(rt; unlike.len() == len);
-        assert!(rt; asked.as_slice() == &[2, 1, 3, 2, 4, 3][..2 * pairs]);
+        assert_items!(rt; asked.as_slice(), [2, 1, 3, 2, 4, 3][..2 * pairs]);
     }
 }
 

@@ -1,5 +1,6 @@
 //! Tests of what makes a vector, and of what tells its shape.
 use tinyvec_array::{Array, ArrayVec};
+use tinyvec_test_items::{assert_is, assert_items};
 
 // The length, the capacity, and whether it is empty and full.
 fn shape<A: Array>(v: &ArrayVec<A>) -> (usize, usize, bool, bool) {
@@ -52,17 +53,17 @@ fn shapes(rt: HostRuntime) {
 #[test]
 fn slots(rt: HostRuntime) {
     let new: ArrayVec<[i32; 3]> = ArrayVec::new();
-    assert!(rt; new.as_inner() == &[0, 0, 0]);
+    assert_items!(rt; new.as_inner(), [0, 0, 0]);
     let empty = ArrayVec::from_array_empty([1, 2, 3]);
-    assert!(rt; empty.as_slice() == [].as_slice());
-    assert!(rt; empty.as_inner() == &[1, 2, 3]);
+    assert_items!(rt; empty.as_slice(), []);
+    assert_items!(rt; empty.as_inner(), [1, 2, 3]);
     let part = ArrayVec::from_array_len([1, 2, 3], 2);
-    assert!(rt; part.as_slice() == [1, 2].as_slice());
-    assert!(rt; part.grab_spare_slice() == [3].as_slice());
-    assert!(rt; part.as_inner() == &[1, 2, 3]);
-    assert!(rt; part.into_inner() == [1, 2, 3]);
+    assert_items!(rt; part.as_slice(), [1, 2]);
+    assert_items!(rt; part.grab_spare_slice(), [3]);
+    assert_items!(rt; part.as_inner(), [1, 2, 3]);
+    assert_items!(rt; &part.into_inner(), [1, 2, 3]);
     let full = ArrayVec::from([1, 2, 3]);
-    assert!(rt; full.as_slice() == [1, 2, 3].as_slice());
+    assert_items!(rt; full.as_slice(), [1, 2, 3]);
 }
 
 #[test]
@@ -70,8 +71,8 @@ fn many_slots(rt: HostRuntime) {
     let mut v = ArrayVec::from_array_len([7u8; 65536], 65536);
     assert!(rt; shape(&v) == (65536, 65536, false, true));
     assert!(rt; v.as_slice().iter().all(|x| *x == 7));
-    assert!(rt; v.try_push(8) == Some(8));
-    assert!(rt; v.drain(1..).last() == Some(7));
-    assert!(rt; v.as_slice() == [7].as_slice());
+    assert_is!(rt; v.try_push(8), Some(8));
+    assert_is!(rt; v.drain(1..).last(), Some(7));
+    assert_items!(rt; v.as_slice(), [7]);
     assert!(rt; v.as_inner()[1..].iter().all(|x| *x == 0));
 }

@@ -8,6 +8,7 @@ use std::ops::{Bound, RangeBounds};
 use std::process::Abort;
 use std::test::Fail;
 use tinyvec_array::{ArrayVec, SpliceRest};
+use tinyvec_test_items::{assert_is, assert_items};
 
 fn one_two_three() -> ArrayVec<[i32; 10]>
     ensures { items_len result ≡ 3 }
@@ -32,7 +33,7 @@ fn one_from_the_front<R: RangeBounds<usize>>(
     assert!(rt; splice.next() == given[0]);
     assert!(rt; splice.next() == given[1]);
     assert!(rt; splice.next() == given[2]);
-    assert!(rt; splice.next() == None);
+    assert_is!(rt; splice.next(), None);
     assert!(rt; splice.finish().is_ok());
     assert!(rt; v.as_slice() == list);
     assert!(rt; v.as_inner()[v.len()..].iter().all(|slot| *slot == 0));
@@ -54,7 +55,7 @@ fn three_from_the_front<R: RangeBounds<usize>>(
     assert!(rt; splice.next() == given[0]);
     assert!(rt; splice.next() == given[1]);
     assert!(rt; splice.next() == given[2]);
-    assert!(rt; splice.next() == None);
+    assert_is!(rt; splice.next(), None);
     assert!(rt; splice.finish().is_ok());
     assert!(rt; v.as_slice() == list);
 }
@@ -75,7 +76,7 @@ fn three_from_the_back<R: RangeBounds<usize>>(
     assert!(rt; splice.next_back() == given[0]);
     assert!(rt; splice.next_back() == given[1]);
     assert!(rt; splice.next_back() == given[2]);
-    assert!(rt; splice.next_back() == None);
+    assert_is!(rt; splice.next_back(), None);
     assert!(rt; splice.finish().is_ok());
     assert!(rt; v.as_slice() == list);
 }
@@ -188,68 +189,68 @@ fn empty_ranges(rt: HostRuntime) {
 fn as_long_from_both_ends(rt: HostRuntime) {
     let mut v = ArrayVec::from_array_len([1, 2, 3, 4, 0, 0, 0, 0, 0, 0], 4);
     let mut splice = v.splice(1..3, [7, 8, 9]);
-    assert!(rt; splice.next_back() == Some(3));
-    assert!(rt; splice.next() == Some(2));
+    assert_is!(rt; splice.next_back(), Some(3));
+    assert_is!(rt; splice.next(), Some(2));
     assert!(rt; splice.finish().is_ok());
-    assert!(rt; v.as_slice() == [1, 7, 8, 9, 4].as_slice());
+    assert_items!(rt; v.as_slice(), [1, 7, 8, 9, 4]);
 }
 
 #[test]
 fn shorter_from_both_ends(rt: HostRuntime) {
     let mut v = ArrayVec::from_array_len([1, 2, 3, 4, 0, 0, 0, 0, 0, 0], 4);
     let mut splice = v.splice(1..4, [7]);
-    assert!(rt; splice.next_back() == Some(4));
-    assert!(rt; splice.next() == Some(2));
+    assert_is!(rt; splice.next_back(), Some(4));
+    assert_is!(rt; splice.next(), Some(2));
     let (finished, touches) = splice.finish_counted();
     assert!(rt; finished.is_ok());
     assert!(rt; touches <= 8);
-    assert!(rt; v.as_slice() == [1, 7].as_slice());
-    assert!(rt; v.grab_spare_slice() == [0, 0, 0, 0, 0, 0, 0, 0].as_slice());
+    assert_items!(rt; v.as_slice(), [1, 7]);
+    assert_items!(rt; v.grab_spare_slice(), [0, 0, 0, 0, 0, 0, 0, 0]);
 }
 
 #[test]
 fn asked_beyond_the_range(rt: HostRuntime) {
     let mut v = one_two_three();
     let mut splice = v.splice(0..2, [7, 8, 9]);
-    assert!(rt; splice.next() == Some(1));
-    assert!(rt; splice.next() == Some(2));
-    assert!(rt; splice.next() == None);
+    assert_is!(rt; splice.next(), Some(1));
+    assert_is!(rt; splice.next(), Some(2));
+    assert_is!(rt; splice.next(), None);
     assert!(rt; splice.finish().is_ok());
-    assert!(rt; v.as_slice() == [7, 8, 9, 3].as_slice());
+    assert_items!(rt; v.as_slice(), [7, 8, 9, 3]);
 }
 
 #[test]
 fn refused_after_the_front(rt: HostRuntime) {
     let mut v = ArrayVec::from_array_len([1, 2, 3, 0], 3);
     let mut splice = v.splice(1..2, [7, 8, 9, 10]);
-    assert!(rt; splice.next() == Some(2));
+    assert_is!(rt; splice.next(), Some(2));
     match splice.finish() {
         Ok(()) => panic!(rt; "there was no room"),
         Err(SpliceRest { item, mut rest }) => {
             assert!(rt; item == 9);
-            assert!(rt; rest.next() == Some(10));
-            assert!(rt; rest.next() == None);
-            assert!(rt; rest.next() == None);
+            assert_is!(rt; rest.next(), Some(10));
+            assert_is!(rt; rest.next(), None);
+            assert_is!(rt; rest.next(), None);
         }
     }
     assert!(rt; v.is_full());
-    assert!(rt; v.as_slice() == [1, 7, 8, 3].as_slice());
+    assert_items!(rt; v.as_slice(), [1, 7, 8, 3]);
 }
 
 #[test]
 fn refused_after_the_back(rt: HostRuntime) {
     let mut v = ArrayVec::from_array_len([1, 2, 3, 0], 3);
     let mut splice = v.splice(1..2, [7, 8, 9]);
-    assert!(rt; splice.next_back() == Some(2));
+    assert_is!(rt; splice.next_back(), Some(2));
     match splice.finish() {
         Ok(()) => panic!(rt; "there was no room"),
         Err(SpliceRest { item, mut rest }) => {
             assert!(rt; item == 8);
-            assert!(rt; rest.next() == None);
-            assert!(rt; rest.next_back() == None);
+            assert_is!(rt; rest.next(), None);
+            assert_is!(rt; rest.next_back(), None);
         }
     }
-    assert!(rt; v.as_slice() == [1, 7, 9, 3].as_slice());
+    assert_items!(rt; v.as_slice(), [1, 7, 9, 3]);
 }
 
 #[test]
@@ -260,10 +261,10 @@ fn refused_in_an_empty_range(rt: HostRuntime) {
         Ok(()) => panic!(rt; "there was no room"),
         Err(SpliceRest { item, mut rest }) => {
             assert!(rt; item == 8);
-            assert!(rt; rest.next() == None);
+            assert_is!(rt; rest.next(), None);
         }
     }
-    assert!(rt; v.as_slice() == [1, 7, 2, 3].as_slice());
+    assert_items!(rt; v.as_slice(), [1, 7, 2, 3]);
 }
 
 #[test]
@@ -273,44 +274,44 @@ fn endless_replacement(rt: HostRuntime) {
         Ok(()) => panic!(rt; "there was no room"),
         Err(SpliceRest { item, mut rest }) => {
             assert!(rt; item == 8);
-            assert!(rt; rest.next() == Some(9));
+            assert_is!(rt; rest.next(), Some(9));
         }
     }
-    assert!(rt; v.as_slice() == [1, 5, 6, 7].as_slice());
+    assert_items!(rt; v.as_slice(), [1, 5, 6, 7]);
 }
 
 #[test]
 fn stopped(rt: HostRuntime) {
     let mut v = one_two_three();
     let mut splice = v.splice(1.., iter::repeat(7));
-    assert!(rt; splice.next() == Some(2));
+    assert_is!(rt; splice.next(), Some(2));
     let mut rest = splice.stop();
-    assert!(rt; rest.next() == Some(7));
-    assert!(rt; v.as_slice() == [1, 7].as_slice());
+    assert_is!(rt; rest.next(), Some(7));
+    assert_items!(rt; v.as_slice(), [1, 7]);
     let mut w = one_two_three();
     let mut splice = w.splice(.., [7, 8, 9]);
-    assert!(rt; splice.next() == Some(1));
-    assert!(rt; splice.next_back() == Some(3));
+    assert_is!(rt; splice.next(), Some(1));
+    assert_is!(rt; splice.next_back(), Some(3));
     let mut rest = splice.stop();
-    assert!(rt; rest.next() == Some(8));
-    assert!(rt; rest.next() == None);
-    assert!(rt; w.as_slice() == [7, 9].as_slice());
-    assert!(rt; w.into_inner() == [7, 9, 0, 0, 0, 0, 0, 0, 0, 0]);
+    assert_is!(rt; rest.next(), Some(8));
+    assert_is!(rt; rest.next(), None);
+    assert_items!(rt; w.as_slice(), [7, 9]);
+    assert_items!(rt; &w.into_inner(), [7, 9, 0, 0, 0, 0, 0, 0, 0, 0]);
 }
 
 #[test]
 fn touches_of_a_longer_replacement(rt: HostRuntime) {
     let mut v = ArrayVec::from_array_len([1, 2, 3, 4, 5, 0, 0, 0], 5);
     let mut splice = v.splice(1..3, [7, 8, 9, 10]);
-    assert!(rt; splice.touches() == 0);
-    assert!(rt; splice.next_back() == Some(3));
-    assert!(rt; splice.touches() == 2);
+    assert_is!(rt; splice.touches(), 0);
+    assert_is!(rt; splice.next_back(), Some(3));
+    assert_is!(rt; splice.touches(), 2);
     let (finished, touches) = splice.finish_counted();
     assert!(rt; finished.is_ok());
     assert!(rt; touches <= 13);
     assert!(rt; 5 <= touches);
-    assert!(rt; v.as_slice() == [1, 7, 8, 9, 10, 4, 5].as_slice());
-    assert!(rt; v.grab_spare_slice() == [0].as_slice());
+    assert_items!(rt; v.as_slice(), [1, 7, 8, 9, 10, 4, 5]);
+    assert_items!(rt; v.grab_spare_slice(), [0]);
 }
 
 #[test]
@@ -331,10 +332,10 @@ fn touches_of_a_thousand_slots(rt: HostRuntime) {
 fn touches_of_items_that_nothing_replaces(rt: HostRuntime) {
     let mut v = one_two_three();
     let mut splice = v.splice(.., None);
-    assert!(rt; splice.next_back() == Some(3));
-    assert!(rt; splice.touches() == 1);
-    assert!(rt; splice.next() == Some(1));
-    assert!(rt; splice.touches() == 2);
+    assert_is!(rt; splice.next_back(), Some(3));
+    assert_is!(rt; splice.touches(), 1);
+    assert_is!(rt; splice.next(), Some(1));
+    assert_is!(rt; splice.touches(), 2);
     assert!(rt; splice.finish().is_ok());
     assert!(rt; v.is_empty());
 }
@@ -344,31 +345,31 @@ fn how_many_are_left(rt: HostRuntime) {
     let mut v = ArrayVec::from_array([1, 2, 3, 4, 5, 6]);
     let mut splice = v.splice(1..4, [7, 8, 9]);
     assert!(rt; splice.len() == 3);
-    assert!(rt; splice.size_hint() == (3, Some(3)));
-    assert!(rt; splice.next_back() == Some(4));
+    assert_is!(rt; splice.size_hint(), (3, Some(3)));
+    assert_is!(rt; splice.next_back(), Some(4));
     assert!(rt; splice.len() == 2);
-    assert!(rt; splice.size_hint() == (2, Some(2)));
-    assert!(rt; splice.next() == Some(2));
-    assert!(rt; splice.next_back() == Some(3));
+    assert_is!(rt; splice.size_hint(), (2, Some(2)));
+    assert_is!(rt; splice.next(), Some(2));
+    assert_is!(rt; splice.next_back(), Some(3));
     assert!(rt; splice.len() == 0);
-    assert!(rt; splice.next() == None);
-    assert!(rt; splice.next_back() == None);
-    assert!(rt; splice.size_hint() == (0, Some(0)));
-    assert!(rt; splice.next_back() == None);
-    assert!(rt; splice.next() == None);
+    assert_is!(rt; splice.next(), None);
+    assert_is!(rt; splice.next_back(), None);
+    assert_is!(rt; splice.size_hint(), (0, Some(0)));
+    assert_is!(rt; splice.next_back(), None);
+    assert_is!(rt; splice.next(), None);
     assert!(rt; splice.finish().is_ok());
-    assert!(rt; v.into_inner() == [1, 7, 8, 9, 5, 6]);
+    assert_items!(rt; &v.into_inner(), [1, 7, 8, 9, 5, 6]);
 }
 
 #[test]
 fn taken_until_none(rt: HostRuntime) {
     let mut v = one_two_three();
     let mut splice = v.splice(1.., [4, 5, 6]);
-    assert!(rt; splice.next() == Some(2));
-    assert!(rt; splice.next() == Some(3));
-    assert!(rt; splice.next() == None);
+    assert_is!(rt; splice.next(), Some(2));
+    assert_is!(rt; splice.next(), Some(3));
+    assert_is!(rt; splice.next(), None);
     assert!(rt; splice.finish().is_ok());
-    assert!(rt; v.as_slice() == [1, 4, 5, 6].as_slice());
+    assert_items!(rt; v.as_slice(), [1, 4, 5, 6]);
 }
 
 #[test]
@@ -380,7 +381,7 @@ fn spare_slots(rt: HostRuntime) {
     assert!(rt; v.splice(..2, [5, 4]).finish().is_ok());
     assert!(rt; v.grab_spare_slice() == [9].as_slice());
     assert!(rt; v.splice(..3, [2]).finish().is_ok());
-    assert!(rt; v.into_inner() == [2, 3, 0, 0, 9]);
+    assert_items!(rt; &v.into_inner(), [2, 3, 0, 0, 9]);
 }
 
 #[test]
@@ -388,7 +389,7 @@ fn no_slots(rt: HostRuntime) {
     let mut v: ArrayVec<[i32; 0]> = ArrayVec::new();
     let mut splice = v.splice(.., None);
     assert!(rt; splice.len() == 0);
-    assert!(rt; splice.next() == None);
+    assert_is!(rt; splice.next(), None);
     let (finished, touches) = splice.finish_counted();
     assert!(rt; finished.is_ok());
     assert!(rt; touches == 0);
@@ -396,7 +397,7 @@ fn no_slots(rt: HostRuntime) {
         Ok(()) => panic!(rt; "there was no room"),
         Err(SpliceRest { item, mut rest }) => {
             assert!(rt; item == 7);
-            assert!(rt; rest.next() == Some(8));
+            assert_is!(rt; rest.next(), Some(8));
         }
     }
     assert!(rt; v.is_empty());
@@ -408,7 +409,7 @@ fn no_item_at_all(rt: HostRuntime) {
     assert!(rt; v.splice(.., iter::empty()).finish().is_ok());
     assert!(rt; v.is_empty());
     assert!(rt; v.splice(.., [3, 4]).finish().is_ok());
-    assert!(rt; v.as_slice() == [3, 4].as_slice());
+    assert_items!(rt; v.as_slice(), [3, 4]);
 }
 
 #[test]
@@ -418,8 +419,8 @@ fn a_vec_of_replacements(rt: HostRuntime) -> Result<(), Fail> {
     replacement.push(9)?;
     let mut v = one_two_three();
     let mut splice = v.splice(2.., replacement);
-    assert!(rt; splice.next_back() == Some(3));
+    assert_is!(rt; splice.next_back(), Some(3));
     assert!(rt; splice.finish().is_ok());
-    assert!(rt; v.as_slice() == [1, 2, 8, 9].as_slice());
+    assert_items!(rt; v.as_slice(), [1, 2, 8, 9]);
     Ok(())
 }

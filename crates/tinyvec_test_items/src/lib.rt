@@ -1,10 +1,12 @@
-//! Items and iterators that tests of several vectors need.
+//! Items, iterators and assertions that tests of several vectors need.
 #![tactic(auto)]
 
+mod asserting;
 mod cloned;
 mod counting;
 mod unhinted;
 
+pub use asserting::{same_items, same_value};
 pub use cloned::{Item, Limited};
 pub use counting::counted;
 pub use unhinted::Unhinted;
