@@ -2,6 +2,7 @@
 use std::cmp::Ordering;
 use std::hash::{DefaultHasher, Hash, Hasher};
 use tinyvec_slice::SliceVec;
+use tinyvec_test_items::assert_is;
 
 #[test]
 fn a_prefix_is_less(rt: HostRuntime) {
@@ -13,9 +14,9 @@ fn a_prefix_is_less(rt: HostRuntime) {
     assert!(rt; v <= w);
     assert!(rt; w > v);
     assert!(rt; v != w);
-    assert!(rt; v.partial_cmp(&w) == Some(Ordering::Less));
-    assert!(rt; v.cmp(&w) == Ordering::Less);
-    assert!(rt; w.cmp(&v) == Ordering::Greater);
+    assert_is!(rt; v.partial_cmp(&w), Some(Ordering::Less));
+    assert_is!(rt; v.cmp(&w), Ordering::Less);
+    assert_is!(rt; w.cmp(&v), Ordering::Greater);
 }
 
 #[test]
@@ -27,9 +28,9 @@ fn the_first_difference_decides(rt: HostRuntime) {
     assert!(rt; v > w);
     assert!(rt; v >= w);
     assert!(rt; v != w);
-    assert!(rt; v.partial_cmp(&w) == Some(Ordering::Greater));
-    assert!(rt; v.cmp(&w) == Ordering::Greater);
-    assert!(rt; w.cmp(&v) == Ordering::Less);
+    assert_is!(rt; v.partial_cmp(&w), Some(Ordering::Greater));
+    assert_is!(rt; v.cmp(&w), Ordering::Greater);
+    assert_is!(rt; w.cmp(&v), Ordering::Less);
 }
 
 // Long lists are compared in blocks, so each length has its turn.
@@ -44,12 +45,12 @@ fn the_last_item_decides(rt: HostRuntime) {
         let w = SliceVec::from_slice_at_most(&mut same, last + 1);
         let x = SliceVec::from_slice_at_most(&mut high, last + 1);
         assert!(rt; v == w);
-        assert!(rt; v.cmp(&w) == Ordering::Equal);
-        assert!(rt; v.partial_cmp(&w) == Some(Ordering::Equal));
+        assert_is!(rt; v.cmp(&w), Ordering::Equal);
+        assert_is!(rt; v.partial_cmp(&w), Some(Ordering::Equal));
         assert!(rt; v != x);
-        assert!(rt; v.cmp(&x) == Ordering::Less);
-        assert!(rt; x.cmp(&v) == Ordering::Greater);
-        assert!(rt; v.partial_cmp(&x) == Some(Ordering::Less));
+        assert_is!(rt; v.cmp(&x), Ordering::Less);
+        assert_is!(rt; x.cmp(&v), Ordering::Greater);
+        assert_is!(rt; v.partial_cmp(&x), Some(Ordering::Less));
     }
 }
 
@@ -60,8 +61,8 @@ fn spare_slots_do_not_count(rt: HostRuntime) {
     let v = SliceVec::from_slice_len(&mut few, 2);
     let w = SliceVec::from_slice_len(&mut many, 2);
     assert!(rt; v == w);
-    assert!(rt; v.partial_cmp(&w) == Some(Ordering::Equal));
-    assert!(rt; v.cmp(&w) == Ordering::Equal);
+    assert_is!(rt; v.partial_cmp(&w), Some(Ordering::Equal));
+    assert_is!(rt; v.cmp(&w), Ordering::Equal);
     assert!(rt; hash_of(&v) == hash_of(&w));
     assert!(rt; v.as_inner() != w.as_inner());
 }
@@ -90,10 +91,10 @@ fn empty_lists(rt: HostRuntime) {
     let least = SliceVec::from_slice_len(&mut two, 1);
     let over_no_slots: SliceVec<'_, i32> = SliceVec::default();
     assert!(rt; none == over_no_slots);
-    assert!(rt; none.cmp(&over_no_slots) == Ordering::Equal);
+    assert_is!(rt; none.cmp(&over_no_slots), Ordering::Equal);
     assert!(rt; hash_of(&none) == hash_of(&over_no_slots));
     assert!(rt; none < least);
-    assert!(rt; least.cmp(&none) == Ordering::Greater);
+    assert_is!(rt; least.cmp(&none), Ordering::Greater);
 }
 
 // An item that is equal to none, not even to itself, has no order.
@@ -105,14 +106,14 @@ fn no_order(rt: HostRuntime) {
         let v = SliceVec::from_slice_len(&mut one, 2);
         let w = SliceVec::from_slice_len(&mut two, 2);
         assert!(rt; v != w);
-        assert!(rt; v.partial_cmp(&w) == None);
+        assert_is!(rt; v.partial_cmp(&w), None);
         assert!(rt; !(v < w));
         assert!(rt; !(v >= w));
     }
     two[0] = 2.0;
     let v = SliceVec::from_slice_len(&mut one, 2);
     let w = SliceVec::from_slice_len(&mut two, 2);
-    assert!(rt; v.partial_cmp(&w) == Some(Ordering::Less));
+    assert_is!(rt; v.partial_cmp(&w), Some(Ordering::Less));
 }
 
 // A vector feeds a hasher what a slice of its items feeds it.

@@ -1,20 +1,21 @@
 //! Items put in and taken out.
 use tinyvec_slice::SliceVec;
+use tinyvec_test_items::{assert_is, assert_items};
 
 #[test]
 fn push_and_pop(rt: HostRuntime) {
     let mut slots = [7, 7, 7];
     let mut vec = SliceVec::from_slice_len(&mut slots, 0);
-    assert!(rt; vec.pop() == None);
+    assert_is!(rt; vec.pop(), None);
     vec.push(1);
     vec.push(2);
-    assert!(rt; vec.as_slice() == [1, 2].as_slice());
-    assert!(rt; vec.grab_spare_slice() == [7].as_slice());
+    assert_items!(rt; vec.as_slice(), [1, 2]);
+    assert_items!(rt; vec.grab_spare_slice(), [7]);
     vec.push(3);
     assert!(rt; vec.is_full());
-    assert!(rt; vec.pop() == Some(3));
-    assert!(rt; vec.pop() == Some(2));
-    assert!(rt; slots == [1, 0, 0]);
+    assert_is!(rt; vec.pop(), Some(3));
+    assert_is!(rt; vec.pop(), Some(2));
+    assert_items!(rt; &slots, [1, 0, 0]);
 }
 
 #[test]
@@ -22,25 +23,25 @@ fn insert_and_remove(rt: HostRuntime) {
     let mut slots = [1, 2, 3, 9];
     let mut vec = SliceVec::from_slice_len(&mut slots, 3);
     vec.insert(1, 8);
-    assert!(rt; vec.as_slice() == [1, 8, 2, 3].as_slice());
-    assert!(rt; vec.remove(0) == 1);
-    assert!(rt; vec.remove(2) == 3);
-    assert!(rt; vec.as_slice() == [8, 2].as_slice());
+    assert_items!(rt; vec.as_slice(), [1, 8, 2, 3]);
+    assert_is!(rt; vec.remove(0), 1);
+    assert_is!(rt; vec.remove(2), 3);
+    assert_items!(rt; vec.as_slice(), [8, 2]);
     vec.insert(2, 5);
-    assert!(rt; slots == [8, 2, 5, 0]);
+    assert_items!(rt; &slots, [8, 2, 5, 0]);
 }
 
 #[test]
 fn swap_remove(rt: HostRuntime) {
     let mut slots = [1, 2, 3, 4, 9];
     let mut vec = SliceVec::from_slice_len(&mut slots, 4);
-    assert!(rt; vec.swap_remove(3) == 4);
-    assert!(rt; vec.as_slice() == [1, 2, 3].as_slice());
-    assert!(rt; vec.swap_remove(0) == 1);
-    assert!(rt; vec.as_slice() == [3, 2].as_slice());
-    assert!(rt; vec.swap_remove(0) == 3);
-    assert!(rt; vec.swap_remove(0) == 2);
-    assert!(rt; slots == [0, 0, 0, 0, 9]);
+    assert_is!(rt; vec.swap_remove(3), 4);
+    assert_items!(rt; vec.as_slice(), [1, 2, 3]);
+    assert_is!(rt; vec.swap_remove(0), 1);
+    assert_items!(rt; vec.as_slice(), [3, 2]);
+    assert_is!(rt; vec.swap_remove(0), 3);
+    assert_is!(rt; vec.swap_remove(0), 2);
+    assert_items!(rt; &slots, [0, 0, 0, 0, 9]);
 }
 
 #[test]
@@ -50,10 +51,10 @@ fn truncate_and_clear(rt: HostRuntime) {
     vec.truncate(7);
     assert!(rt; vec.len() == 4);
     vec.truncate(2);
-    assert!(rt; vec.as_slice() == [1, 2].as_slice());
-    assert!(rt; vec.grab_spare_slice() == [0, 0, 9].as_slice());
+    assert_items!(rt; vec.as_slice(), [1, 2]);
+    assert_items!(rt; vec.grab_spare_slice(), [0, 0, 9]);
     vec.clear();
-    assert!(rt; slots == [0, 0, 0, 0, 9]);
+    assert_items!(rt; &slots, [0, 0, 0, 0, 9]);
 }
 
 #[test]
@@ -61,11 +62,11 @@ fn set_len_writes_nothing(rt: HostRuntime) {
     let mut slots = [1, 2, 3];
     let mut vec = SliceVec::from_slice_len(&mut slots, 3);
     vec.set_len(1);
-    assert!(rt; vec.as_slice() == [1].as_slice());
+    assert_items!(rt; vec.as_slice(), [1]);
     vec.push(9);
     vec.set_len(3);
-    assert!(rt; vec.as_slice() == [1, 9, 3].as_slice());
-    assert!(rt; slots == [1, 9, 3]);
+    assert_items!(rt; vec.as_slice(), [1, 9, 3]);
+    assert_items!(rt; &slots, [1, 9, 3]);
 }
 
 #[test]
@@ -75,9 +76,9 @@ fn writes_by_index(rt: HostRuntime) {
     vec[1] = 8;
     vec.as_mut_slice()[0] = 7;
     vec.grab_spare_slice_mut()[0] = 9;
-    assert!(rt; vec.as_slice() == [7, 8].as_slice());
+    assert_items!(rt; vec.as_slice(), [7, 8]);
     vec.as_mut_inner()[2] = 5;
-    assert!(rt; slots == [7, 8, 5]);
+    assert_items!(rt; &slots, [7, 8, 5]);
 }
 
 #[test]
@@ -88,7 +89,7 @@ fn items_without_bytes(rt: HostRuntime) {
     assert!(rt; vec.len() == 2);
     vec.insert(0, ());
     assert!(rt; vec.is_full());
-    assert!(rt; vec.pop() == Some(()));
+    assert_is!(rt; vec.pop(), Some(()));
     assert!(rt; vec.capacity() == 3);
     vec.clear();
     assert!(rt; vec.is_empty());

@@ -3,14 +3,15 @@ use std::iter;
 use std::test::Fail;
 use tinyvec_slice::SliceVec;
 use tinyvec_slots::NoRoom;
+use tinyvec_test_items::{assert_is, assert_items};
 
 #[test]
 fn fill_stops_when_full(rt: HostRuntime) {
     let mut slots = [7, 7, 7];
     let mut vec = SliceVec::from_slice_len(&mut slots, 1);
     let mut rest = vec.fill(0..);
-    assert!(rt; vec.as_slice() == [7, 0, 1].as_slice());
-    assert!(rt; rest.next() == Some(2));
+    assert_items!(rt; vec.as_slice(), [7, 0, 1]);
+    assert_is!(rt; rest.next(), Some(2));
 }
 
 #[test]
@@ -18,9 +19,9 @@ fn fill_stops_at_the_end(rt: HostRuntime) {
     let mut slots = [1, 9, 9, 9];
     let mut vec = SliceVec::from_slice_len(&mut slots, 1);
     let mut rest = vec.fill(5..7);
-    assert!(rt; vec.as_slice() == [1, 5, 6].as_slice());
-    assert!(rt; vec.grab_spare_slice() == [9].as_slice());
-    assert!(rt; rest.next() == None);
+    assert_items!(rt; vec.as_slice(), [1, 5, 6]);
+    assert_items!(rt; vec.grab_spare_slice(), [9]);
+    assert_is!(rt; rest.next(), None);
 }
 
 #[test]
@@ -31,11 +32,11 @@ fn extend_answers_what_found_no_room(rt: HostRuntime) {
         Ok(()) => panic!(rt; "there was no room"),
         Err(NoRoom { item, mut rest }) => {
             assert!(rt; item == 3);
-            assert!(rt; rest.next() == Some(4));
-            assert!(rt; rest.next() == None);
+            assert_is!(rt; rest.next(), Some(4));
+            assert_is!(rt; rest.next(), None);
         }
     }
-    assert!(rt; slots == [1, 2]);
+    assert_items!(rt; &slots, [1, 2]);
 }
 
 #[test]
@@ -43,7 +44,7 @@ fn extend_by_endless_items(rt: HostRuntime) {
     let mut slots = [1, 9];
     let mut vec = SliceVec::from_slice_len(&mut slots, 1);
     assert!(rt; vec.extend(iter::repeat(6)).is_err());
-    assert!(rt; slots == [1, 6]);
+    assert_items!(rt; &slots, [1, 6]);
 }
 
 #[test]
@@ -51,11 +52,11 @@ fn extend_by_what_fits(rt: HostRuntime) {
     let mut slots = [1, 9, 9];
     let mut vec = SliceVec::from_slice_len(&mut slots, 1);
     assert!(rt; vec.extend(2..3).is_ok());
-    assert!(rt; vec.as_slice() == [1, 2].as_slice());
+    assert_items!(rt; vec.as_slice(), [1, 2]);
     assert!(rt; vec.extend(3..4).is_ok());
     assert!(rt; vec.is_full());
     assert!(rt; vec.extend(4..4).is_ok());
-    assert!(rt; slots == [1, 2, 3]);
+    assert_items!(rt; &slots, [1, 2, 3]);
 }
 
 #[test]
@@ -63,8 +64,8 @@ fn extend_by_a_vec(rt: HostRuntime) -> Result<(), Fail> {
     let mut slots = [1, 0, 0, 9];
     let mut vec = SliceVec::from_slice_len(&mut slots, 1);
     assert!(rt; vec.extend([2, 3].to_vec(rt.alloc())?).is_ok());
-    assert!(rt; vec.as_slice() == [1, 2, 3].as_slice());
-    assert!(rt; slots == [1, 2, 3, 9]);
+    assert_items!(rt; vec.as_slice(), [1, 2, 3]);
+    assert_items!(rt; &slots, [1, 2, 3, 9]);
     Ok(())
 }
 
@@ -77,10 +78,10 @@ fn extend_by_copies_of_a_slice(rt: HostRuntime) {
         Ok(()) => panic!(rt; "there was no room"),
         Err(NoRoom { item, mut rest }) => {
             assert!(rt; item == 4);
-            assert!(rt; rest.next() == None);
+            assert_is!(rt; rest.next(), None);
         }
     }
-    assert!(rt; slots == [1, 2, 3]);
+    assert_items!(rt; &slots, [1, 2, 3]);
 }
 
 #[test]
@@ -93,8 +94,8 @@ fn resize_with_fills_the_last_slot_first(rt: HostRuntime) {
         last
     });
     assert!(rt; last == 11);
-    assert!(rt; vec.as_slice() == [1].as_slice());
-    assert!(rt; slots == [1, 11, 10, 7, 7]);
+    assert_items!(rt; vec.as_slice(), [1]);
+    assert_items!(rt; &slots, [1, 11, 10, 7, 7]);
 }
 
 #[test]
@@ -107,9 +108,9 @@ fn resize_with_answers_in_order(rt: HostRuntime) {
         last
     });
     assert!(rt; last == 12);
-    assert!(rt; vec.as_slice() == [1, 2, 11, 12].as_slice());
+    assert_items!(rt; vec.as_slice(), [1, 2, 11, 12]);
     vec.resize_with(4, || 5);
-    assert!(rt; slots == [1, 2, 11, 12, 9]);
+    assert_items!(rt; &slots, [1, 2, 11, 12, 9]);
 }
 
 #[test]
@@ -123,7 +124,7 @@ fn retain_the_even(rt: HostRuntime) {
     });
     assert!(rt; asked == 4);
     assert!(rt; vec.len() == 2);
-    assert!(rt; slots == [2, 4, 0, 0, 9]);
+    assert_items!(rt; &slots, [2, 4, 0, 0, 9]);
 }
 
 const NUMBERS: [i32; 4] = [1, 2, 3, 4];
@@ -144,7 +145,7 @@ fn retain_asks_about_each_item_once(rt: HostRuntime) {
                 stays
             });
             assert!(rt; vec.len() == if stays { len } else { 0 });
-            assert!(rt; asked.as_slice() == &NUMBERS[..len]);
+            assert_items!(rt; asked.as_slice(), NUMBERS[..len]);
         }
     }
 }

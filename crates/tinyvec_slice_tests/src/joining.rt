@@ -1,5 +1,6 @@
 //! Lists joined and parted.
 use tinyvec_slice::SliceVec;
+use tinyvec_test_items::assert_items;
 
 #[test]
 fn append_moves_the_items(rt: HostRuntime) {
@@ -8,11 +9,11 @@ fn append_moves_the_items(rt: HostRuntime) {
     let mut front = SliceVec::from_slice_len(&mut one, 3);
     let mut back = SliceVec::from_slice_len(&mut two, 2);
     front.append(&mut back);
-    assert!(rt; front.as_slice() == [1, 2, 3, 4, 5].as_slice());
+    assert_items!(rt; front.as_slice(), [1, 2, 3, 4, 5]);
     assert!(rt; back.is_empty());
     front.append(&mut back);
-    assert!(rt; one == [1, 2, 3, 4, 5, 8]);
-    assert!(rt; two == [0, 0, 9]);
+    assert_items!(rt; &one, [1, 2, 3, 4, 5, 8]);
+    assert_items!(rt; &two, [0, 0, 9]);
 }
 
 #[test]
@@ -21,11 +22,11 @@ fn split_off_keeps_the_first_full(rt: HostRuntime) {
     let mut first = SliceVec::from_slice_len(&mut slots, 3);
     let mut second = first.split_off(1);
     second.push(4);
-    assert!(rt; first.as_slice() == [1].as_slice());
+    assert_items!(rt; first.as_slice(), [1]);
     assert!(rt; first.is_full());
-    assert!(rt; second.as_slice() == [2, 3, 4].as_slice());
+    assert_items!(rt; second.as_slice(), [2, 3, 4]);
     first[0] = 7;
-    assert!(rt; slots == [7, 2, 3, 4]);
+    assert_items!(rt; &slots, [7, 2, 3, 4]);
 }
 
 #[test]
@@ -35,9 +36,9 @@ fn split_off_everything(rt: HostRuntime) {
     let second = first.split_off(0);
     assert!(rt; first.capacity() == 0);
     assert!(rt; first.is_full());
-    assert!(rt; second.as_slice() == [1, 2].as_slice());
+    assert_items!(rt; second.as_slice(), [1, 2]);
     assert!(rt; SliceVec::try_from_slice_len(&mut slots, 3).is_none());
-    assert!(rt; slots == [1, 2]);
+    assert_items!(rt; &slots, [1, 2]);
 }
 
 #[test]
@@ -45,12 +46,12 @@ fn split_off_nothing(rt: HostRuntime) {
     let mut slots = [1, 2, 9];
     let mut first = SliceVec::from_slice_len(&mut slots, 2);
     let mut second = first.split_off(2);
-    assert!(rt; first.as_slice() == [1, 2].as_slice());
+    assert_items!(rt; first.as_slice(), [1, 2]);
     assert!(rt; first.is_full());
     assert!(rt; second.is_empty());
-    assert!(rt; second.grab_spare_slice() == [9].as_slice());
+    assert_items!(rt; second.grab_spare_slice(), [9]);
     second.push(3);
-    assert!(rt; slots == [1, 2, 3]);
+    assert_items!(rt; &slots, [1, 2, 3]);
 }
 
 // Two parts of one length, each written: the part that comes back lies behind.
@@ -59,11 +60,11 @@ fn split_off_in_halves(rt: HostRuntime) {
     let mut slots = [1, 2, 3, 4];
     let mut first = SliceVec::from_slice_len(&mut slots, 4);
     let mut second = first.split_off(2);
-    assert!(rt; first.as_inner() == [1, 2].as_slice());
-    assert!(rt; second.as_inner() == [3, 4].as_slice());
+    assert_items!(rt; first.as_inner(), [1, 2]);
+    assert_items!(rt; second.as_inner(), [3, 4]);
     first[0] = 7;
     second[0] = 8;
-    assert!(rt; slots == [7, 2, 8, 4]);
+    assert_items!(rt; &slots, [7, 2, 8, 4]);
 }
 
 // No slot is written, whatever the lengths of list and parts.
@@ -80,7 +81,7 @@ fn split_off_writes_no_slot(rt: HostRuntime) {
                 assert!(rt; second.len() == len - at);
                 assert!(rt; second.capacity() == 5 - at);
             }
-            assert!(rt; slots == [1, 2, 3, 4, 5]);
+            assert_items!(rt; &slots, [1, 2, 3, 4, 5]);
         }
     }
 }

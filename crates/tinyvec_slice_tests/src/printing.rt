@@ -1,8 +1,8 @@
 //! Texts.
-use std::alloc::{AllocError, Global};
 use std::fmt;
 use std::test::Fail;
-use tinyvec_slice::{SliceVec, SliceVecDrain};
+use tinyvec_slice::SliceVec;
+use tinyvec_test_items::{assert_debugs, assert_is, assert_shows};
 
 /// Shows a vector in base 2.
 #[derive(Drop)]
@@ -48,13 +48,13 @@ impl<'a, 's> fmt::Display for UpperHex<'a, 's> {
 fn shown_after_each_push(rt: HostRuntime) -> Result<(), Fail> {
     let mut slots = [1, 2, 3, 4];
     let mut v = SliceVec::from_slice_len(&mut slots, 0);
-    assert!(rt; format!(in rt.alloc(); "{v}")?.as_str() == "[]");
+    assert_shows!(rt; v, "[]");
     v.push(10);
-    assert!(rt; format!(in rt.alloc(); "{v}")?.as_str() == "[10]");
+    assert_shows!(rt; v, "[10]");
     v.push(11);
-    assert!(rt; format!(in rt.alloc(); "{v}")?.as_str() == "[10, 11]");
+    assert_shows!(rt; v, "[10, 11]");
     v.push(12);
-    assert!(rt; format!(in rt.alloc(); "{v}")?.as_str() == "[10, 11, 12]");
+    assert_shows!(rt; v, "[10, 11, 12]");
     Ok(())
 }
 
@@ -62,13 +62,13 @@ fn shown_after_each_push(rt: HostRuntime) -> Result<(), Fail> {
 fn debugged_after_each_push(rt: HostRuntime) -> Result<(), Fail> {
     let mut slots = [1, 2, 3, 4];
     let mut v = SliceVec::from_slice_len(&mut slots, 0);
-    assert!(rt; format!(in rt.alloc(); "{v:?}")?.as_str() == "[]");
+    assert_debugs!(rt; v, "[]");
     v.push(10);
-    assert!(rt; format!(in rt.alloc(); "{v:?}")?.as_str() == "[10]");
+    assert_debugs!(rt; v, "[10]");
     v.push(11);
-    assert!(rt; format!(in rt.alloc(); "{v:?}")?.as_str() == "[10, 11]");
+    assert_debugs!(rt; v, "[10, 11]");
     v.push(12);
-    assert!(rt; format!(in rt.alloc(); "{v:?}")?.as_str() == "[10, 11, 12]");
+    assert_debugs!(rt; v, "[10, 11, 12]");
     Ok(())
 }
 
@@ -77,8 +77,8 @@ fn debugged_after_each_push(rt: HostRuntime) -> Result<(), Fail> {
 fn each_item_by_its_own_text(rt: HostRuntime) -> Result<(), Fail> {
     let mut slots = ['a', 'b', 'c'];
     let v = SliceVec::from_slice_len(&mut slots, 2);
-    assert!(rt; format!(in rt.alloc(); "{v}")?.as_str() == "[a, b]");
-    assert!(rt; format!(in rt.alloc(); "{v:?}")?.as_str() == "['a', 'b']");
+    assert_shows!(rt; v, "[a, b]");
+    assert_debugs!(rt; v, "['a', 'b']");
     Ok(())
 }
 
@@ -86,7 +86,7 @@ fn each_item_by_its_own_text(rt: HostRuntime) -> Result<(), Fail> {
 fn in_base_2(rt: HostRuntime) -> Result<(), Fail> {
     let mut slots = [2, 5, 9];
     let v = SliceVec::from_slice_len(&mut slots, 2);
-    assert!(rt; format!(in rt.alloc(); "{}", Binary(&v))?.as_str() == "[10, 101]");
+    assert_shows!(rt; Binary(&v), "[10, 101]");
     Ok(())
 }
 
@@ -94,7 +94,7 @@ fn in_base_2(rt: HostRuntime) -> Result<(), Fail> {
 fn in_base_8(rt: HostRuntime) -> Result<(), Fail> {
     let mut slots = [8, 9, 9];
     let v = SliceVec::from_slice_len(&mut slots, 2);
-    assert!(rt; format!(in rt.alloc(); "{}", Octal(&v))?.as_str() == "[10, 11]");
+    assert_shows!(rt; Octal(&v), "[10, 11]");
     Ok(())
 }
 
@@ -102,8 +102,8 @@ fn in_base_8(rt: HostRuntime) -> Result<(), Fail> {
 fn in_base_16(rt: HostRuntime) -> Result<(), Fail> {
     let mut slots = [10, 255, 9];
     let v = SliceVec::from_slice_len(&mut slots, 2);
-    assert!(rt; format!(in rt.alloc(); "{}", Hex(&v))?.as_str() == "[a, ff]");
-    assert!(rt; format!(in rt.alloc(); "{}", UpperHex(&v))?.as_str() == "[A, FF]");
+    assert_shows!(rt; Hex(&v), "[a, ff]");
+    assert_shows!(rt; UpperHex(&v), "[A, FF]");
     Ok(())
 }
 
@@ -111,10 +111,10 @@ fn in_base_16(rt: HostRuntime) -> Result<(), Fail> {
 fn an_empty_list_in_each_base(rt: HostRuntime) -> Result<(), Fail> {
     let mut slots = [10, 255];
     let v = SliceVec::from_slice_len(&mut slots, 0);
-    assert!(rt; format!(in rt.alloc(); "{}", Binary(&v))?.as_str() == "[]");
-    assert!(rt; format!(in rt.alloc(); "{}", Octal(&v))?.as_str() == "[]");
-    assert!(rt; format!(in rt.alloc(); "{}", Hex(&v))?.as_str() == "[]");
-    assert!(rt; format!(in rt.alloc(); "{}", UpperHex(&v))?.as_str() == "[]");
+    assert_shows!(rt; Binary(&v), "[]");
+    assert_shows!(rt; Octal(&v), "[]");
+    assert_shows!(rt; Hex(&v), "[]");
+    assert_shows!(rt; UpperHex(&v), "[]");
     Ok(())
 }
 
@@ -123,16 +123,11 @@ fn what_is_left_of_a_drain(rt: HostRuntime) -> Result<(), Fail> {
     let mut slots = [1, 2, 3, 4, 5, 9];
     let mut v = SliceVec::from_slice_len(&mut slots, 5);
     let mut items = v.drain(1..4);
-    assert!(rt; text_left(rt.alloc(), &items)?.as_str() == "SliceVecDrain([2, 3, 4])");
-    assert!(rt; items.next() == Some(2));
-    assert!(rt; text_left(rt.alloc(), &items)?.as_str() == "SliceVecDrain([3, 4])");
-    assert!(rt; items.next() == Some(3));
-    assert!(rt; items.next() == Some(4));
-    assert!(rt; text_left(rt.alloc(), &items)?.as_str() == "SliceVecDrain([])");
+    assert_debugs!(rt; items, "SliceVecDrain([2, 3, 4])");
+    assert_is!(rt; items.next(), Some(2));
+    assert_debugs!(rt; items, "SliceVecDrain([3, 4])");
+    assert_is!(rt; items.next(), Some(3));
+    assert_is!(rt; items.next(), Some(4));
+    assert_debugs!(rt; items, "SliceVecDrain([])");
     Ok(())
-}
-
-// The borrow checker does not follow a drain that a format names where it was made, but does where it is lent.
-fn text_left(alloc: Global, items: &SliceVecDrain<'_, '_, i32>) -> Result<String, AllocError> {
-    format!(in alloc; "{items:?}")
 }

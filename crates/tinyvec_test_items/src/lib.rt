@@ -6,7 +6,7 @@ mod cloned;
 mod counting;
 mod unhinted;
 
-pub use asserting::{same_items, same_value};
+pub use asserting::{debugs, same_items, same_value, shows};
 pub use cloned::{Item, Limited};
 pub use counting::counted;
 pub use unhinted::Unhinted;
