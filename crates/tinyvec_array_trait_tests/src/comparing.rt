@@ -3,6 +3,7 @@ use std::cmp::Ordering;
 use std::hash::{DefaultHasher, Hash, Hasher};
 use std::process::Abort;
 use tinyvec_array::{Array, ArrayVec};
+use tinyvec_test_items::assert_is;
 
 // Lists that end before, at and behind the blocks in which items are compared.
 const LENGTHS: [usize; 13] = [0, 3, 4, 5, 16, 17, 63, 64, 65, 68, 69, 84, 200];
@@ -158,12 +159,12 @@ fn not_a_number(rt: HostRuntime) {
     let v = ArrayVec::from_array([1.0, f64::NAN]);
     let w = ArrayVec::from_array([2.0, f64::NAN]);
     assert!(rt; v != v);
-    assert!(rt; v.partial_cmp(&v) == None);
+    assert_is!(rt; v.partial_cmp(&v), None);
     assert!(rt; v != w);
-    assert!(rt; v.partial_cmp(&w) == Some(Ordering::Less));
-    assert!(rt; w.partial_cmp(&v) == Some(Ordering::Greater));
+    assert_is!(rt; v.partial_cmp(&w), Some(Ordering::Less));
+    assert_is!(rt; w.partial_cmp(&v), Some(Ordering::Greater));
     let first = ArrayVec::from_array_len([1.0, f64::NAN], 1);
-    assert!(rt; first.partial_cmp(&v) == Some(Ordering::Less));
+    assert_is!(rt; first.partial_cmp(&v), Some(Ordering::Less));
     assert!(rt; first == ArrayVec::from_array_len([1.0, 7.0], 1));
 }
 
@@ -173,11 +174,11 @@ fn not_a_number_in_a_long_list(rt: HostRuntime) {
     slots[66] = f64::NAN;
     let v = ArrayVec::from_array(slots);
     assert!(rt; v != v);
-    assert!(rt; v.partial_cmp(&v) == None);
+    assert_is!(rt; v.partial_cmp(&v), None);
     slots[69] = 0.75;
-    assert!(rt; v.partial_cmp(&ArrayVec::from_array(slots)) == None);
+    assert_is!(rt; v.partial_cmp(&ArrayVec::from_array(slots)), None);
     slots[65] = 0.25;
-    assert!(rt; v.partial_cmp(&ArrayVec::from_array(slots)) == Some(Ordering::Greater));
+    assert_is!(rt; v.partial_cmp(&ArrayVec::from_array(slots)), Some(Ordering::Greater));
     slots[3] = 0.75;
-    assert!(rt; v.partial_cmp(&ArrayVec::from_array(slots)) == Some(Ordering::Less));
+    assert_is!(rt; v.partial_cmp(&ArrayVec::from_array(slots)), Some(Ordering::Less));
 }

@@ -2,25 +2,19 @@
 use std::alloc::AllocError;
 use std::test::Fail;
 use tinyvec_array::{ArrayVec, FromIterRest, NoMemory, NoRoom, SpliceRest};
-use tinyvec_test_items::Item;
+use tinyvec_test_items::{Item, assert_debugs, assert_is};
 
 #[test]
 fn as_text(rt: HostRuntime) -> Result<(), Fail> {
-    let refused = format!(in rt.alloc(); "{:?}", NoMemory(7))?;
-    assert!(rt; refused.as_str() == "NoMemory(7)");
-    let refused = format!(in rt.alloc(); "{:?}", NoRoom { item: 7, rest: 8 })?;
-    assert!(rt; refused.as_str() == "NoRoom { item: 7, rest: 8 }");
-    let refused = format!(in rt.alloc(); "{:?}", SpliceRest { item: 7, rest: 8 })?;
-    assert!(rt; refused.as_str() == "SpliceRest { item: 7, rest: 8 }");
-    let refused = format!(in rt.alloc();
-        "{:?}",
-        FromIterRest {
-            vec: [6],
-            item: 7,
-            rest: 8
-        }
-    )?;
-    assert!(rt; refused.as_str() == "FromIterRest { vec: [6], item: 7, rest: 8 }");
+    assert_debugs!(rt; NoMemory(7), "NoMemory(7)");
+    assert_debugs!(rt; NoRoom { item: 7, rest: 8 }, "NoRoom { item: 7, rest: 8 }");
+    assert_debugs!(rt; SpliceRest { item: 7, rest: 8 }, "SpliceRest { item: 7, rest: 8 }");
+    let refused = FromIterRest {
+        vec: [6],
+        item: 7,
+        rest: 8,
+    };
+    assert_debugs!(rt; refused, "FromIterRest { vec: [6], item: 7, rest: 8 }");
     Ok(())
 }
 
@@ -75,8 +69,8 @@ fn fill_up(vec: &mut ArrayVec<[Item; 2]>, item: Item) -> Result<(), AllocError> 
 #[test]
 fn as_a_refusal_of_memory(rt: HostRuntime) {
     let mut vec = ArrayVec::<[Item; 2]>::new();
-    assert!(rt; fill_up(&mut vec, Item(99)) == Err(AllocError));
+    assert_is!(rt; fill_up(&mut vec, Item(99)), Err(AllocError));
     assert!(rt; vec.is_empty());
-    assert!(rt; fill_up(&mut vec, Item(7)) == Ok(()));
+    assert_is!(rt; fill_up(&mut vec, Item(7)), Ok(()));
     assert!(rt; vec.is_full());
 }
