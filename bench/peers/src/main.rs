@@ -5,6 +5,7 @@
 mod benchmarks;
 mod comparing;
 mod fnv;
+mod form;
 mod number;
 mod printing;
 mod report;
@@ -12,11 +13,12 @@ mod rows;
 mod script;
 mod slices;
 mod sources;
+mod texts;
 mod tiny;
 mod vector;
 
 use crate::report::Report;
-use crate::rows::{of_bytes, of_slices, of_tiny, of_words};
+use crate::rows::{of_bytes, of_forms, of_slices, of_texts, of_tiny, of_words};
 use std::env;
 use std::process::ExitCode;
 
@@ -74,10 +76,17 @@ fn main() -> ExitCode {
             of_tiny::<16>(&report);
             of_tiny::<64>(&report);
             of_tiny::<1024>(&report);
+            of_forms::<16>(&report);
+            of_forms::<1024>(&report);
         }
         Some("smallvec") => at_each_capacity!(&report, smallvec_of),
         Some("arrayvec") => at_each_capacity!(&report, arrayvec_of),
-        Some("vec") => at_each_capacity!(&report, vec_of),
+        Some("vec") => {
+            at_each_capacity!(&report, vec_of);
+            of_texts(&report, 4);
+            of_texts(&report, 16);
+            of_texts(&report, 64);
+        }
         Some("script") => return script::run(),
         _ => return ExitCode::FAILURE,
     }

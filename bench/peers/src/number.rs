@@ -29,3 +29,13 @@ impl Number for u8 {
         self as u64
     }
 }
+
+impl Number for u32 {
+    fn of(x: u64) -> u32 {
+        x as u32
+    }
+
+    fn value(self) -> u64 {
+        self as u64
+    }
+}

@@ -2,13 +2,15 @@
 
 use crate::benchmarks::*;
 use crate::comparing::{compare, equal, hash};
+use crate::form::{borsh_read, borsh_write};
 use crate::printing::{debug_print, Text};
 use crate::report::Report;
 use crate::slices::*;
-use crate::sources::{higher_at, pairs, scattered};
+use crate::sources::{higher_at, pairs, scattered, LETTERS};
+use crate::texts::{text_push, text_push_str};
 use crate::tiny::tiny_splice;
 use crate::vector::Vector;
-use tinyvec::{SliceVec, TinyVec};
+use tinyvec::{ArrayVec, SliceVec, TinyVec};
 
 /// Every benchmark of a vector of `u64`.
 pub fn of_words<V: Vector<u64, N>, const N: usize>(report: &Report) {
@@ -139,4 +141,29 @@ where
     report.row("tiny_compare", N, |x| compare(&vec, &last_higher, x));
     report.row("tiny_hash", N, |x| hash(&vec, x));
     report.row("tiny_debug_print", N, |x| debug_print(&vec, &mut text, x));
+}
+
+/// Lists of bytes and of `u32` written and read in the Borsh form.
+pub fn of_forms<const N: usize>(report: &Report)
+where
+    [u8; N]: tinyvec::Array<Item = u8>,
+    [u32; N]: tinyvec::Array<Item = u32>,
+{
+    let mut bytes = ArrayVec::from(scattered::<u8, N>());
+    let mut numbers = ArrayVec::from(scattered::<u32, N>());
+    let mut form = Vec::new();
+    report.row("borsh_write_bytes", N, |x| borsh_write(&mut bytes, &mut form, x));
+    report.row("borsh_read_bytes", N, |x| borsh_read(&mut bytes, &mut form, x));
+    report.row("borsh_write_u32", N, |x| borsh_write(&mut numbers, &mut form, x));
+    report.row("borsh_read_u32", N, |x| borsh_read(&mut numbers, &mut form, x));
+}
+
+/// The first bytes of a text. A `String` has no array, so the rows are the same in pairs.
+pub fn of_texts(report: &Report, count: usize) {
+    let text = &LETTERS[..count];
+    let mut made = String::new();
+    report.row("text_push_str", count, |x| text_push_str(&mut made, text, x));
+    report.row("text_push_str_spilled", count, |x| text_push_str(&mut made, text, x));
+    report.row("text_push", count, |x| text_push(&mut made, text, x));
+    report.row("text_push_spilled", count, |x| text_push(&mut made, text, x));
 }

@@ -2,6 +2,9 @@
 
 use crate::number::Number;
 
+/// A text of 64 characters of a byte each.
+pub const LETTERS: &str = "abcdefghijklmnopqrstuvwxyzABCDEFGHIJKLMNOPQRSTUVWXYZ0123456789-_";
+
 /// Numbers that look random.
 pub fn scattered<T: Number, const N: usize>() -> [T; N] {
     let mut numbers = [T::of(0); N];

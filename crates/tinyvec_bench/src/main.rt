@@ -8,6 +8,7 @@ mod edits;
 mod ends;
 mod filling;
 mod fnv;
+mod form;
 mod number;
 mod printing;
 mod reading;
@@ -15,13 +16,15 @@ mod report;
 mod rows;
 mod slices;
 mod sources;
+mod texts;
 mod tiny;
 
 use crate::report::Report;
-use crate::rows::{of_bytes, of_slices, of_tiny, of_words};
+use crate::rows::{of_bytes, of_forms, of_slices, of_spilled_texts, of_texts, of_tiny, of_words};
 use std::alloc::Global;
 use std::rt::Runtime;
 use std::{env, io};
+use tinyvec_text::InlineText;
 
 /// So often a benchmark runs for its checksum alone.
 const FEW_ROUNDS: u64 = 20;
@@ -66,5 +69,13 @@ fn run<R: Runtime>(report: &Report<'_, R>, alloc: Global) -> io::Result<()> {
     of_tiny::<R, 4>(report, alloc)?;
     of_tiny::<R, 16>(report, alloc)?;
     of_tiny::<R, 64>(report, alloc)?;
-    of_tiny::<R, 1024>(report, alloc)
+    of_tiny::<R, 1024>(report, alloc)?;
+    of_forms::<R, 16>(report, alloc)?;
+    of_forms::<R, 1024>(report, alloc)?;
+    of_texts(report, &mut InlineText::<4>::new(alloc), alloc)?;
+    of_texts(report, &mut InlineText::<16>::new(alloc), alloc)?;
+    of_texts(report, &mut InlineText::<64>::new(alloc), alloc)?;
+    of_spilled_texts(report, &mut InlineText::<2>::new(alloc), alloc, 4)?;
+    of_spilled_texts(report, &mut InlineText::<8>::new(alloc), alloc, 16)?;
+    of_spilled_texts(report, &mut InlineText::<32>::new(alloc), alloc, 64)
 }

@@ -26,3 +26,13 @@ impl Number for u8 {
         self as u64
     }
 }
+
+impl Number for u32 {
+    fn of(x: u64) -> u32 {
+        (x % 4294967296) as u32
+    }
+
+    fn value(self) -> u64 {
+        self as u64
+    }
+}

@@ -6,11 +6,13 @@ use crate::cutting::{dedup, drain_dropped, drain_taken, retain_half, splice};
 use crate::edits::{insert_front, insert_middle, remove_front, remove_middle, swap_remove};
 use crate::ends::{push_and_pop, truncate_and_refill, two_pushes};
 use crate::filling::{clone_of, extend_from_range, extend_from_slice};
+use crate::form::{borsh_read, borsh_write};
 use crate::printing::{Text, debug_print};
 use crate::reading::{last, sum};
 use crate::report::Report;
 use crate::slices::{slice_drain, slice_insert, slice_push, slice_remove, slice_retain};
-use crate::sources::{higher_at, pairs, scattered};
+use crate::sources::{LETTERS, higher_at, pairs, scattered};
+use crate::texts::{text_push, text_push_str};
 use crate::tiny::tiny_splice;
 use std::alloc::Global;
 use std::io;
@@ -18,6 +20,7 @@ use std::rt::Runtime;
 use tinyvec::TinyVec;
 use tinyvec_array::ArrayVec;
 use tinyvec_slice::SliceVec;
+use tinyvec_text::InlineText;
 
 /// Every benchmark of an `ArrayVec` of `u64`.
 pub fn of_words<R: Runtime, const N: usize>(report: &Report<'_, R>) -> io::Result<()>
@@ -215,4 +218,68 @@ fn looks_at_tiny<R: Runtime, const N: usize>(
     report.row("tiny_compare", N, |x| compare(&vec, &last_higher, x))?;
     report.row("tiny_hash", N, |x| hash(&vec, x))?;
     report.row("tiny_debug_print", N, |x| debug_print(&vec, &mut text, x))
+}
+
+/// Lists of bytes and of `u32` written and read in the Borsh form.
+pub fn of_forms<R: Runtime, const N: usize>(report: &Report<'_, R>, alloc: Global) -> io::Result<()>
+    requires { N * 4 < 2 ^ 63 }
+{
+    let mut bytes = ArrayVec::from_array(scattered::<u8, N>());
+    let mut numbers = ArrayVec::from_array(scattered::<u32, N>());
+    let mut form = Vec::new(alloc);
+    report.row(
+        "borsh_write_bytes",
+        N,
+        |x| borsh_write(&mut bytes, &mut form, x),
+    )?;
+    report.row(
+        "borsh_read_bytes",
+        N,
+        |x| borsh_read(alloc, &mut bytes, &mut form, x),
+    )?;
+    report.row(
+        "borsh_write_u32",
+        N,
+        |x| borsh_write(&mut numbers, &mut form, x),
+    )?;
+    report.row(
+        "borsh_read_u32",
+        N,
+        |x| borsh_read(alloc, &mut numbers, &mut form, x),
+    )
+}
+
+/// The first bytes of a text, as many as the array has slots.
+pub fn of_texts<R: Runtime, const N: usize>(
+    report: &Report<'_, R>,
+    made: &mut InlineText<N>,
+    alloc: Global,
+) -> io::Result<()> {
+    let Some(text) = LETTERS.get(..N) else {
+        return Ok(());
+    };
+    report.row("text_push_str", N, |x| text_push_str(alloc, made, text, x))?;
+    report.row("text_push", N, |x| text_push(alloc, made, text, x))
+}
+
+/// The first bytes of a text, so many that they move to the heap.
+pub fn of_spilled_texts<R: Runtime, const N: usize>(
+    report: &Report<'_, R>,
+    made: &mut InlineText<N>,
+    alloc: Global,
+    count: usize,
+) -> io::Result<()> {
+    let Some(text) = LETTERS.get(..count) else {
+        return Ok(());
+    };
+    report.row(
+        "text_push_str_spilled",
+        count,
+        |x| text_push_str(alloc, made, text, x),
+    )?;
+    report.row(
+        "text_push_spilled",
+        count,
+        |x| text_push(alloc, made, text, x),
+    )
 }

@@ -1,0 +1,63 @@
+//! Lists written and read in the Borsh form.
+
+use crate::number::Number;
+use crate::reading::last;
+use std::alloc::Global;
+use tinyvec_array::ArrayVec;
+use tinyvec_borsh::{BorshDeserialize, BorshSerialize};
+use tinyvec_io::Counted;
+
+// So many bytes are the count in front of the items.
+const COUNT: usize = 8;
+
+/// Writes the list, whose first item is made from `x`, and answers the first byte behind the count, and how many bytes
+/// there are.
+#[inline(never)]
+pub fn borsh_write<T: Number + BorshSerialize, const N: usize>(
+    vec: &mut ArrayVec<[T; N]>,
+    form: &mut Vec<u8>,
+    x: u64,
+) -> u64 {
+    if let Some(first) = vec.as_mut_slice().first_mut() {
+        *first = T::of(x);
+    }
+    form.clear();
+    match vec.serialize(&mut Counted::new(&mut *form)) {
+        Ok(()) => {}
+        Err(_) => return 0,
+    }
+    let byte = match form.get(COUNT) {
+        Some(b) => *b as u64,
+        None => 0,
+    };
+    byte.wrapping_add(form.len() as u64)
+}
+
+/// Reads the list from bytes, of which the one behind the count is made from `x`, and answers its first and last item and
+/// its length, added up.
+#[inline(never)]
+pub fn borsh_read<T: Number + BorshDeserialize, const N: usize>(
+    alloc: Global,
+    vec: &mut ArrayVec<[T; N]>,
+    form: &mut Vec<u8>,
+    x: u64,
+) -> u64 {
+    if let Some(byte) = form.get_mut(COUNT) {
+        *byte = u8::of(x);
+    }
+    match ArrayVec::deserialize_reader(alloc, &mut Counted::new(form.as_slice())) {
+        Ok(list) => *vec = list,
+        Err(_) => return 0,
+    }
+    ends(vec.as_slice())
+}
+
+fn ends<T: Number>(list: &[T]) -> u64 {
+    let Some(first) = list.first() else {
+        return 0;
+    };
+    (*first)
+        .value()
+        .wrapping_add(last(list))
+        .wrapping_add(list.len() as u64)
+}
