@@ -43,6 +43,8 @@ class Crate:
         # rt's own mark, which it leaves beside what it made of unchanged sources.
         self.mark = f"{name}.stamp" if self.is_program else "rlib/stamp"
         self.made = [name, self.mark] if self.is_program else ["rlib"]
+        # The program that lists its tests, and runs one of them.
+        self.tests = self.out / f"{name}_tests"
 
     @functools.cached_property
     def below(self):
@@ -68,6 +70,17 @@ class Crate:
     def sum(self):
         """Differs where anything differs that the library or program is made from."""
         return sum_of(kit(), self.row, self.sources, [it.sum for it in self.uses])
+
+    def has_tests(self):
+        return any(path.endswith(".rt") and b"#[test]" in text for path, text in self.sources.items())
+
+    def has_new_tests(self):
+        """Whether the tests are there, built after each source of theirs was written."""
+        if not self.tests.exists():
+            return False
+        sources = [TOP / "crates.txt"]
+        sources += [crate.folder / path for crate in [*self.below, self] for path in crate.sources]
+        return max(it.stat().st_mtime for it in sources) <= self.tests.stat().st_mtime
 
     def record(self):
         """What out/built holds where the crate was built from these very sources, and nobody built it anew since."""
@@ -188,6 +201,12 @@ class Copy:
         (self.top / "built").write_text(self.crate.record(), encoding="utf-8")
         (self.top / "built").replace(built)
 
+    def keep_tests(self, read_at):
+        """Keeps the tests that rt built, as old as the text that it was given."""
+        made = self.out / self.crate.tests.name
+        os.utime(made, (read_at, read_at))
+        made.replace(self.crate.tests)
+
     def __exit__(self, *_):
         self.clear()
 
@@ -203,6 +222,7 @@ class Run:
     """Runs rt for some crates side by side, and says on standard error how far it is."""
 
     def __init__(self, crates, is_told=True):
+        self.read_at = time.time()
         for crate in crates:
             # One state of all sources is proved, and not of each crate when its turn comes.
             _ = crate.files

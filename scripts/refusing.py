@@ -1,0 +1,45 @@
+"""Runs a program with one of its requests for memory refused, and counts the requests and the blocks that it gives back.
+
+It needs a C compiler, `cc`, for a small library that is loaded before the C library.
+"""
+import os
+import pathlib
+import re
+import subprocess
+import sys
+
+SOURCE = pathlib.Path(__file__).resolve().parent / "refusing.c"
+
+# What the library says at the program's end.
+TOLD = re.compile(rb"^requests (\d+), blocks (-?\d+)\n", re.M)
+
+# Seconds that a run may take.
+LIMIT = 120
+
+
+class Refusing:
+    def __init__(self, folder, watched_by=()):
+        """The library goes into the folder. Each run is watched by a command, as `valgrind`, where there is one."""
+        self.library = f"{folder}/refusing.so"
+        self.watched_by = watched_by
+        made = ["cc", "-O2", "-shared", "-fPIC", "-o", self.library, SOURCE]
+        if subprocess.run(made).returncode:
+            sys.exit("the library that refuses memory was not made")
+
+    def run(self, words, number, given=b""):
+        """Refuses the request of that number, none where it is 0."""
+        environment = {**os.environ, "LD_PRELOAD": self.library, "REFUSED": str(number)}
+        try:
+            ran = subprocess.run([*self.watched_by, *words], input=given, env=environment, capture_output=True, timeout=LIMIT)
+        except subprocess.TimeoutExpired:
+            return Ran(None, b"", b"it had not ended after %d seconds\n" % LIMIT)
+        return Ran(ran.returncode, ran.stdout, ran.stderr)
+
+
+class Ran:
+    """How a program ended, what it wrote, how many requests it made, and how many blocks it kept to its end."""
+
+    def __init__(self, status, out, error):
+        told = TOLD.search(error)
+        self.status, self.out, self.error = status, out, TOLD.sub(b"", error)
+        self.requests, self.blocks = (int(told[1]), int(told[2])) if told else (0, 0)
