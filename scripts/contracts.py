@@ -1,0 +1,59 @@
+"""Functions with their contracts, read off sources and off what documents quote, and compared."""
+import re
+
+COMMENT = re.compile(r"^ *//.*\n", re.M)
+LEFT_OUT = re.compile(r"^ *// \.\.\n", re.M)
+FUNCTION = re.compile(r"^ *(?:pub(?:\(crate\))? )?fn \w", re.M)
+SIGNATURE_END = re.compile(r"\s(?:requires|ensures)\b|\s\{|;$|\Z", re.M)
+CLAUSE = re.compile(r"\s*((?:requires|ensures\*?)(?: \w+)? \{)")
+
+
+def without_comments(text):
+    return COMMENT.sub("", text)
+
+
+def functions_in(text):
+    """The functions that a text declares, each as `function` gives it."""
+    starts = [it.start() for it in FUNCTION.finditer(text)]
+    return [function(text[start:end]) for start, end in zip(starts, [*starts[1:], len(text)])]
+
+
+def function(text):
+    """A function's signature, its clauses by what of them counts, what follows these, and whether some are left out."""
+    is_short = bool(LEFT_OUT.search(text))
+    text = LEFT_OUT.sub("", text)
+    at = SIGNATURE_END.search(text).start()
+    signature, clauses = text[:at], {}
+    while found := CLAUSE.match(text, at):
+        at = end_of_braces(text, found.end())
+        clauses[squeezed(text[found.start(1) : at])] = " ".join(text[found.start(1) : at].split())
+    return signature, clauses, text[at:].strip(), is_short
+
+
+def end_of_braces(text, at):
+    depth = 1
+    while depth and at < len(text):
+        depth += {"{": 1, "}": -1}.get(text[at], 0)
+        at += 1
+    return at
+
+
+def squeezed(text):
+    return re.sub(r"\s", "", text).replace(",)", ")").rstrip(",")
+
+
+def differences(quote, functions):
+    """What a quoted contract has otherwise than the function of its signature that is most like it."""
+    signature, clauses, rest, is_short = quote
+    name = " ".join(signature.split())
+    if rest:
+        return [f"{name}: this is no clause: {rest.splitlines()[0]}"]
+    found = [differences_from(it[1], clauses, is_short) for it in functions if squeezed(it[0]) == squeezed(signature)]
+    return [f"{name}: {it}" for it in min(found, key=len, default=["no function of the crate has this signature"])]
+
+
+def differences_from(clauses, quoted, is_short):
+    lacking = [it for it in clauses if it not in quoted]
+    faults = [f"not in the source: {quoted[it]}" for it in quoted if it not in clauses]
+    faults += [f"left out: {clauses[it]}" for it in lacking if it.startswith("requires") or not is_short]
+    return faults + (["`// ..` stands for nothing"] if is_short and not lacking else [])
