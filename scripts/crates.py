@@ -53,12 +53,12 @@ class Crate:
 
     @functools.cached_property
     def files(self):
-        """The contents of the crate's files by their paths, as they are when this is first asked."""
+        """The contents of the crate's files but documents by their paths, as they are when this is first asked."""
         found = {}
         for folder, folders, names in os.walk(self.folder):
             if folder == str(self.folder):
                 folders[:] = [it for it in folders if it != "out"]
-            for path in (pathlib.Path(folder, name) for name in names):
+            for path in (pathlib.Path(folder, name) for name in names if not name.endswith(".md")):
                 found[str(path.relative_to(self.folder))] = path.read_bytes()
         return dict(sorted(found.items()))
 
