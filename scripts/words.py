@@ -1,6 +1,8 @@
 #!/usr/bin/env python3
 """Tells which words of specs/ a clause of a public item cites, that docs/DEFINITIONS.md does not have in backticks.
 
+A word is there where it begins what stands between two backticks, as in `AreDefaults D n xs`.
+
 A clause is a `requires`, an `ensures`, or a `ghost` member of a trait or of an `impl`, as an invariant is one. The words are
 those that a file imports from crates/*/specs/*.antt. Words of the toolchain are left out, and so are words that only clauses
 of private functions cite.
@@ -76,7 +78,8 @@ def end_of(text, place):
 def missing():
     """Each word that is not explained, with a file that cites it."""
     page = (TOP / "docs/DEFINITIONS.md").read_text(encoding="utf-8")
-    explained = {word for span in re.findall(r"`([^`\n]+)`", page) for word in re.findall(r"[\w-]+", span)}
+    # What stands behind a word, between the same backticks, are its parameters.
+    explained = {re.match(r"[\w-]*", it)[0] for it in re.findall(r"`([^`\n]+)`", page)}
     cited = {}
     for file, text, exported, hidden in sources():
         names, modules = imported(text)
