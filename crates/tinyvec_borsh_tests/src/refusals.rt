@@ -27,6 +27,8 @@ fn deserialize_reader(rt: HostRuntime) -> Result<(), Fail> {
         Err(error) => {
             assert!(rt; error == BorshError::Memory);
             refused(&rt)?;
+            let (again, _) = read::<TinyVec<[u8; 2]>>(rt.alloc(), &bytes);
+            assert!(rt; again.is_ok());
         }
     }
     Ok(())

@@ -39,7 +39,10 @@ fn with_capacity(rt: HostRuntime) -> Result<(), Fail> {
     assert!(rt; TinyVec::<[i32; 3]>::with_capacity(rt.alloc(), 3).is_ok());
     match TinyVec::<[i32; 3]>::with_capacity(rt.alloc(), 4) {
         Ok(v) => assert!(rt; lies(&v, &[], false)),
-        Err(AllocError) => refused(&rt)?,
+        Err(AllocError) => {
+            refused(&rt)?;
+            assert!(rt; TinyVec::<[i32; 3]>::with_capacity(rt.alloc(), 4).is_ok());
+        }
     }
     Ok(())
 }
@@ -49,7 +52,10 @@ fn with_initial_len(rt: HostRuntime) -> Result<(), Fail> {
     assert!(rt; TinyVec::<[i32; 3]>::with_initial_len(rt.alloc(), 3).is_ok());
     match TinyVec::<[i32; 3]>::with_initial_len(rt.alloc(), 4) {
         Ok(v) => assert!(rt; lies(&v, &[0, 0, 0, 0], false)),
-        Err(AllocError) => refused(&rt)?,
+        Err(AllocError) => {
+            refused(&rt)?;
+            assert!(rt; TinyVec::<[i32; 3]>::with_initial_len(rt.alloc(), 4).is_ok());
+        }
     }
     Ok(())
 }
@@ -59,7 +65,10 @@ fn from_slice(rt: HostRuntime) -> Result<(), Fail> {
     assert!(rt; TinyVec::<[i32; 3]>::from_slice(rt.alloc(), &[1, 2, 3]).is_ok());
     match on_the_heap(rt.alloc()) {
         Ok(v) => assert!(rt; lies(&v, &[1, 2, 3, 4], false)),
-        Err(AllocError) => refused(&rt)?,
+        Err(AllocError) => {
+            refused(&rt)?;
+            assert!(rt; on_the_heap(rt.alloc()).is_ok());
+        }
     }
     Ok(())
 }
@@ -80,6 +89,7 @@ fn from_iter(rt: HostRuntime) -> Result<(), Fail> {
             assert!(rt; rest.next() == Some(5));
             assert!(rt; rest.next() == None);
             refused(&rt)?;
+            assert!(rt; TinyVec::<[i32; 3]>::from_iter(rt.alloc(), 1..=5).is_ok());
         }
     }
     Ok(())
@@ -195,19 +205,16 @@ fn insert(rt: HostRuntime) -> Result<(), Fail> {
 fn append_inline(rt: HostRuntime) -> Result<(), Fail> {
     let mut v = full(rt.alloc());
     let mut other = in_the_array(rt.alloc());
-    match v.append(&mut other) {
-        Ok(()) => {
-            assert!(rt; lies(&v, &[1, 2, 3, 1, 2], false));
-            assert!(rt; lies(&other, &[], true));
-            assert!(rt; spares(&other, &[0, 0, 9]));
-        }
-        Err(AllocError) => {
-            assert!(rt; lies(&v, &[1, 2, 3], true));
-            assert!(rt; lies(&other, &[1, 2], true));
-            assert!(rt; spares(&other, &[9]));
-            refused(&rt)?;
-        }
+    if let Err(AllocError) = v.append(&mut other) {
+        assert!(rt; lies(&v, &[1, 2, 3], true));
+        assert!(rt; lies(&other, &[1, 2], true));
+        assert!(rt; spares(&other, &[9]));
+        refused(&rt)?;
+        assert!(rt; v.append(&mut other).is_ok());
     }
+    assert!(rt; lies(&v, &[1, 2, 3, 1, 2], false));
+    assert!(rt; lies(&other, &[], true));
+    assert!(rt; spares(&other, &[0, 0, 9]));
     Ok(())
 }
 
@@ -216,18 +223,15 @@ fn append_a_heap_list(rt: HostRuntime) -> Result<(), Fail> {
     let mut v = in_the_array(rt.alloc());
     let mut other = on_the_heap(rt.alloc())?;
     let room = other.capacity();
-    match v.append(&mut other) {
-        Ok(()) => {
-            assert!(rt; lies(&v, &[1, 2, 1, 2, 3, 4], false));
-            assert!(rt; lies(&other, &[], false));
-        }
-        Err(AllocError) => {
-            assert!(rt; lies(&v, &[1, 2], true));
-            assert!(rt; spares(&v, &[9]));
-            assert!(rt; lies(&other, &[1, 2, 3, 4], false));
-            refused(&rt)?;
-        }
+    if let Err(AllocError) = v.append(&mut other) {
+        assert!(rt; lies(&v, &[1, 2], true));
+        assert!(rt; spares(&v, &[9]));
+        assert!(rt; lies(&other, &[1, 2, 3, 4], false));
+        refused(&rt)?;
+        assert!(rt; v.append(&mut other).is_ok());
     }
+    assert!(rt; lies(&v, &[1, 2, 1, 2, 3, 4], false));
+    assert!(rt; lies(&other, &[], false));
     assert!(rt; other.capacity() == room);
     Ok(())
 }
@@ -237,18 +241,15 @@ fn append_on_the_heap(rt: HostRuntime) -> Result<(), Fail> {
     let mut v = on_the_heap(rt.alloc())?;
     let mut other = on_the_heap(rt.alloc())?;
     let room = v.capacity();
-    match v.append(&mut other) {
-        Ok(()) => {
-            assert!(rt; lies(&v, &[1, 2, 3, 4, 1, 2, 3, 4], false));
-            assert!(rt; lies(&other, &[], false));
-        }
-        Err(AllocError) => {
-            assert!(rt; lies(&v, &[1, 2, 3, 4], false));
-            assert!(rt; v.capacity() == room);
-            assert!(rt; lies(&other, &[1, 2, 3, 4], false));
-            refused(&rt)?;
-        }
+    if let Err(AllocError) = v.append(&mut other) {
+        assert!(rt; lies(&v, &[1, 2, 3, 4], false));
+        assert!(rt; v.capacity() == room);
+        assert!(rt; lies(&other, &[1, 2, 3, 4], false));
+        refused(&rt)?;
+        assert!(rt; v.append(&mut other).is_ok());
     }
+    assert!(rt; lies(&v, &[1, 2, 3, 4, 1, 2, 3, 4], false));
+    assert!(rt; lies(&other, &[], false));
     Ok(())
 }
 
@@ -268,6 +269,8 @@ fn split_off(rt: HostRuntime) -> Result<(), Fail> {
             assert!(rt; lies(&v, &[1, 2, 3, 4], false));
             assert!(rt; v.capacity() == room);
             refused(&rt)?;
+            assert!(rt; v.split_off(1).is_ok());
+            assert!(rt; lies(&v, &[1], false));
         }
     }
     Ok(())
@@ -276,24 +279,22 @@ fn split_off(rt: HostRuntime) -> Result<(), Fail> {
 #[test]
 fn extend_from_slice(rt: HostRuntime) -> Result<(), Fail> {
     let mut v = in_the_array(rt.alloc());
-    match v.extend_from_slice(&[3, 4]) {
-        Ok(()) => assert!(rt; lies(&v, &[1, 2, 3, 4], false)),
-        Err(AllocError) => {
-            assert!(rt; lies(&v, &[1, 2], true));
-            assert!(rt; spares(&v, &[9]));
-            refused(&rt)?;
-        }
+    if let Err(AllocError) = v.extend_from_slice(&[3, 4]) {
+        assert!(rt; lies(&v, &[1, 2], true));
+        assert!(rt; spares(&v, &[9]));
+        refused(&rt)?;
+        assert!(rt; v.extend_from_slice(&[3, 4]).is_ok());
     }
+    assert!(rt; lies(&v, &[1, 2, 3, 4], false));
     let mut heap = on_the_heap(rt.alloc())?;
     let room = heap.capacity();
-    match heap.extend_from_slice(&[5, 6]) {
-        Ok(()) => assert!(rt; lies(&heap, &[1, 2, 3, 4, 5, 6], false)),
-        Err(AllocError) => {
-            assert!(rt; lies(&heap, &[1, 2, 3, 4], false));
-            assert!(rt; heap.capacity() == room);
-            refused(&rt)?;
-        }
+    if let Err(AllocError) = heap.extend_from_slice(&[5, 6]) {
+        assert!(rt; lies(&heap, &[1, 2, 3, 4], false));
+        assert!(rt; heap.capacity() == room);
+        refused(&rt)?;
+        assert!(rt; heap.extend_from_slice(&[5, 6]).is_ok());
     }
+    assert!(rt; lies(&heap, &[1, 2, 3, 4, 5, 6], false));
     Ok(())
 }
 
@@ -337,6 +338,8 @@ fn extend(rt: HostRuntime) -> Result<(), Fail> {
             assert!(rt; rest.next() == Some(5));
             assert!(rt; rest.next() == None);
             refused(&rt)?;
+            assert!(rt; v.extend(4..=5).is_ok());
+            assert!(rt; lies(&v, &[1, 2, 3, 4, 5], false));
         }
     }
     Ok(())
@@ -355,6 +358,8 @@ fn extend_on_the_heap(rt: HostRuntime) -> Result<(), Fail> {
             assert!(rt; item == 8);
             assert!(rt; rest.next() == None);
             refused(&rt)?;
+            assert!(rt; v.extend(8..=8).is_ok());
+            assert!(rt; lies(&v, &[1, 2, 3, 7, 8], false));
         }
     }
     Ok(())
@@ -363,26 +368,24 @@ fn extend_on_the_heap(rt: HostRuntime) -> Result<(), Fail> {
 #[test]
 fn resize(rt: HostRuntime) -> Result<(), Fail> {
     let mut v = in_the_array(rt.alloc());
-    match v.resize(5, 7) {
-        Ok(()) => assert!(rt; lies(&v, &[1, 2, 7, 7, 7], false)),
-        Err(NoMemory(item)) => {
-            assert!(rt; item == 7);
-            assert!(rt; lies(&v, &[1, 2], true));
-            assert!(rt; spares(&v, &[9]));
-            refused(&rt)?;
-        }
+    if let Err(NoMemory(item)) = v.resize(5, 7) {
+        assert!(rt; item == 7);
+        assert!(rt; lies(&v, &[1, 2], true));
+        assert!(rt; spares(&v, &[9]));
+        refused(&rt)?;
+        assert!(rt; v.resize(5, 7).is_ok());
     }
+    assert!(rt; lies(&v, &[1, 2, 7, 7, 7], false));
     let mut heap = on_the_heap(rt.alloc())?;
     let room = heap.capacity();
-    match heap.resize(6, 7) {
-        Ok(()) => assert!(rt; lies(&heap, &[1, 2, 3, 4, 7, 7], false)),
-        Err(NoMemory(item)) => {
-            assert!(rt; item == 7);
-            assert!(rt; lies(&heap, &[1, 2, 3, 4], false));
-            assert!(rt; heap.capacity() == room);
-            refused(&rt)?;
-        }
+    if let Err(NoMemory(item)) = heap.resize(6, 7) {
+        assert!(rt; item == 7);
+        assert!(rt; lies(&heap, &[1, 2, 3, 4], false));
+        assert!(rt; heap.capacity() == room);
+        refused(&rt)?;
+        assert!(rt; heap.resize(6, 7).is_ok());
     }
+    assert!(rt; lies(&heap, &[1, 2, 3, 4, 7, 7], false));
     Ok(())
 }
 
@@ -400,18 +403,18 @@ fn resize_with(rt: HostRuntime) -> Result<(), Fail> {
             assert!(rt; lies(&v, &[1, 2], true));
             assert!(rt; spares(&v, &[9]));
             refused(&rt)?;
+            assert!(rt; v.resize_with(5, || 7).is_ok());
         }
     }
     let mut heap = on_the_heap(rt.alloc())?;
     let room = heap.capacity();
-    match heap.resize_with(6, || 7) {
-        Ok(()) => assert!(rt; lies(&heap, &[1, 2, 3, 4, 7, 7], false)),
-        Err(AllocError) => {
-            assert!(rt; lies(&heap, &[1, 2, 3, 4], false));
-            assert!(rt; heap.capacity() == room);
-            refused(&rt)?;
-        }
+    if let Err(AllocError) = heap.resize_with(6, || 7) {
+        assert!(rt; lies(&heap, &[1, 2, 3, 4], false));
+        assert!(rt; heap.capacity() == room);
+        refused(&rt)?;
+        assert!(rt; heap.resize_with(6, || 7).is_ok());
     }
+    assert!(rt; lies(&heap, &[1, 2, 3, 4, 7, 7], false));
     Ok(())
 }
 
@@ -460,10 +463,15 @@ fn reserve(rt: HostRuntime) -> Result<(), Fail> {
     let mut v = in_the_array(rt.alloc());
     let answer = v.reserve(2);
     moved(&rt, answer, &v, 4)?;
+    assert!(rt; v.reserve(2).is_ok());
+    assert!(rt; lies(&v, &[1, 2], false));
     let mut heap = on_the_heap(rt.alloc())?;
     let before = heap.capacity();
     let answer = heap.reserve(40);
-    grown(&rt, answer, &heap, before, 44)
+    grown(&rt, answer, &heap, before, 44)?;
+    assert!(rt; heap.reserve(40).is_ok());
+    assert!(rt; heap.capacity() >= 44);
+    Ok(())
 }
 
 #[test]
@@ -471,10 +479,15 @@ fn try_reserve(rt: HostRuntime) -> Result<(), Fail> {
     let mut v = in_the_array(rt.alloc());
     let answer = v.try_reserve(2);
     moved(&rt, answer, &v, 4)?;
+    assert!(rt; v.try_reserve(2).is_ok());
+    assert!(rt; lies(&v, &[1, 2], false));
     let mut heap = on_the_heap(rt.alloc())?;
     let before = heap.capacity();
     let answer = heap.try_reserve(40);
-    grown(&rt, answer, &heap, before, 44)
+    grown(&rt, answer, &heap, before, 44)?;
+    assert!(rt; heap.try_reserve(40).is_ok());
+    assert!(rt; heap.capacity() >= 44);
+    Ok(())
 }
 
 #[test]
@@ -482,10 +495,15 @@ fn reserve_exact(rt: HostRuntime) -> Result<(), Fail> {
     let mut v = in_the_array(rt.alloc());
     let answer = v.reserve_exact(2);
     moved(&rt, answer, &v, 4)?;
+    assert!(rt; v.reserve_exact(2).is_ok());
+    assert!(rt; lies(&v, &[1, 2], false));
     let mut heap = on_the_heap(rt.alloc())?;
     let before = heap.capacity();
     let answer = heap.reserve_exact(40);
-    grown(&rt, answer, &heap, before, 44)
+    grown(&rt, answer, &heap, before, 44)?;
+    assert!(rt; heap.reserve_exact(40).is_ok());
+    assert!(rt; heap.capacity() >= 44);
+    Ok(())
 }
 
 #[test]
@@ -493,24 +511,35 @@ fn try_reserve_exact(rt: HostRuntime) -> Result<(), Fail> {
     let mut v = in_the_array(rt.alloc());
     let answer = v.try_reserve_exact(2);
     moved(&rt, answer, &v, 4)?;
+    assert!(rt; v.try_reserve_exact(2).is_ok());
+    assert!(rt; lies(&v, &[1, 2], false));
     let mut heap = on_the_heap(rt.alloc())?;
     let before = heap.capacity();
     let answer = heap.try_reserve_exact(40);
-    grown(&rt, answer, &heap, before, 44)
+    grown(&rt, answer, &heap, before, 44)?;
+    assert!(rt; heap.try_reserve_exact(40).is_ok());
+    assert!(rt; heap.capacity() >= 44);
+    Ok(())
 }
 
 #[test]
 fn move_to_the_heap(rt: HostRuntime) -> Result<(), Fail> {
     let mut v = in_the_array(rt.alloc());
     let answer = v.move_to_the_heap();
-    moved(&rt, answer, &v, 2)
+    moved(&rt, answer, &v, 2)?;
+    assert!(rt; v.move_to_the_heap().is_ok());
+    assert!(rt; lies(&v, &[1, 2], false));
+    Ok(())
 }
 
 #[test]
 fn try_move_to_the_heap(rt: HostRuntime) -> Result<(), Fail> {
     let mut v = in_the_array(rt.alloc());
     let answer = v.try_move_to_the_heap();
-    moved(&rt, answer, &v, 2)
+    moved(&rt, answer, &v, 2)?;
+    assert!(rt; v.try_move_to_the_heap().is_ok());
+    assert!(rt; lies(&v, &[1, 2], false));
+    Ok(())
 }
 
 #[test]
@@ -518,10 +547,15 @@ fn move_to_the_heap_and_reserve(rt: HostRuntime) -> Result<(), Fail> {
     let mut v = in_the_array(rt.alloc());
     let answer = v.move_to_the_heap_and_reserve(1);
     moved(&rt, answer, &v, 3)?;
+    assert!(rt; v.move_to_the_heap_and_reserve(1).is_ok());
+    assert!(rt; lies(&v, &[1, 2], false));
     let mut heap = on_the_heap(rt.alloc())?;
     let before = heap.capacity();
     let answer = heap.move_to_the_heap_and_reserve(40);
-    grown(&rt, answer, &heap, before, 44)
+    grown(&rt, answer, &heap, before, 44)?;
+    assert!(rt; heap.move_to_the_heap_and_reserve(40).is_ok());
+    assert!(rt; heap.capacity() >= 44);
+    Ok(())
 }
 
 #[test]
@@ -529,10 +563,15 @@ fn try_move_to_the_heap_and_reserve(rt: HostRuntime) -> Result<(), Fail> {
     let mut v = in_the_array(rt.alloc());
     let answer = v.try_move_to_the_heap_and_reserve(1);
     moved(&rt, answer, &v, 3)?;
+    assert!(rt; v.try_move_to_the_heap_and_reserve(1).is_ok());
+    assert!(rt; lies(&v, &[1, 2], false));
     let mut heap = on_the_heap(rt.alloc())?;
     let before = heap.capacity();
     let answer = heap.try_move_to_the_heap_and_reserve(40);
-    grown(&rt, answer, &heap, before, 44)
+    grown(&rt, answer, &heap, before, 44)?;
+    assert!(rt; heap.try_move_to_the_heap_and_reserve(40).is_ok());
+    assert!(rt; heap.capacity() >= 44);
+    Ok(())
 }
 
 #[test]
@@ -560,7 +599,10 @@ fn clone(rt: HostRuntime) -> Result<(), Fail> {
     let v = on_the_heap(rt.alloc())?;
     match v.clone() {
         Ok(copy) => assert!(rt; lies(&copy, &[1, 2, 3, 4], false)),
-        Err(AllocError) => refused(&rt)?,
+        Err(AllocError) => {
+            refused(&rt)?;
+            assert!(rt; v.clone().is_ok());
+        }
     }
     assert!(rt; lies(&v, &[1, 2, 3, 4], false));
     Ok(())
@@ -570,14 +612,13 @@ fn clone(rt: HostRuntime) -> Result<(), Fail> {
 fn clone_from(rt: HostRuntime) -> Result<(), Fail> {
     let mut v = in_the_array(rt.alloc());
     let source = on_the_heap(rt.alloc())?;
-    match v.clone_from(&source) {
-        Ok(()) => assert!(rt; lies(&v, &[1, 2, 3, 4], false)),
-        Err(AllocError) => {
-            assert!(rt; lies(&v, &[1, 2], true));
-            assert!(rt; spares(&v, &[9]));
-            refused(&rt)?;
-        }
+    if let Err(AllocError) = v.clone_from(&source) {
+        assert!(rt; lies(&v, &[1, 2], true));
+        assert!(rt; spares(&v, &[9]));
+        refused(&rt)?;
+        assert!(rt; v.clone_from(&source).is_ok());
     }
+    assert!(rt; lies(&v, &[1, 2, 3, 4], false));
     assert!(rt; lies(&source, &[1, 2, 3, 4], false));
     Ok(())
 }
@@ -587,14 +628,13 @@ fn clone_from_on_the_heap(rt: HostRuntime) -> Result<(), Fail> {
     let mut v = on_the_heap(rt.alloc())?;
     let room = v.capacity();
     let source: TinyVec<[i32; 3]> = TinyVec::from_slice(rt.alloc(), &[5, 6, 7, 8, 9])?;
-    match v.clone_from(&source) {
-        Ok(()) => assert!(rt; lies(&v, &[5, 6, 7, 8, 9], false)),
-        Err(AllocError) => {
-            assert!(rt; lies(&v, &[1, 2, 3, 4], false));
-            assert!(rt; v.capacity() == room);
-            refused(&rt)?;
-        }
+    if let Err(AllocError) = v.clone_from(&source) {
+        assert!(rt; lies(&v, &[1, 2, 3, 4], false));
+        assert!(rt; v.capacity() == room);
+        refused(&rt)?;
+        assert!(rt; v.clone_from(&source).is_ok());
     }
+    assert!(rt; lies(&v, &[5, 6, 7, 8, 9], false));
     Ok(())
 }
 
@@ -606,6 +646,7 @@ fn into_vec(rt: HostRuntime) -> Result<(), Fail> {
             assert!(rt; lies(&v, &[1, 2], true));
             assert!(rt; spares(&v, &[9]));
             refused(&rt)?;
+            assert!(rt; v.into_vec().is_ok());
         }
     }
     let mut heap = on_the_heap(rt.alloc())?;
@@ -621,7 +662,10 @@ fn into_vec(rt: HostRuntime) -> Result<(), Fail> {
 fn into_boxed_slice(rt: HostRuntime) -> Result<(), Fail> {
     match in_the_array(rt.alloc()).into_boxed_slice() {
         Ok(boxed) => assert!(rt; boxed.as_slice() == [1, 2].as_slice()),
-        Err(AllocError) => refused(&rt)?,
+        Err(AllocError) => {
+            refused(&rt)?;
+            assert!(rt; in_the_array(rt.alloc()).into_boxed_slice().is_ok());
+        }
     }
     let mut heap = on_the_heap(rt.alloc())?;
     heap.reserve(40)?;
@@ -656,10 +700,11 @@ fn push_what_owns(rt: HostRuntime) -> Result<(), Fail> {
             assert!(rt; holds(v.as_slice(), &[1, 2, 3]));
         }
         Err(NoMemory(item)) => {
-            assert!(rt; holds(&[item], &[3]));
             assert!(rt; v.is_inline());
             assert!(rt; holds(v.as_slice(), &[1, 2]));
             refused(&rt)?;
+            assert!(rt; v.push(item).is_ok());
+            assert!(rt; holds(v.as_slice(), &[1, 2, 3]));
         }
     }
     Ok(())
@@ -735,6 +780,8 @@ fn extend_from_slice_what_owns(rt: HostRuntime) -> Result<(), Fail> {
         Err(AllocError) => {
             assert!(rt; v.is_empty());
             refused(&rt)?;
+            assert!(rt; v.extend_from_slice(&source).is_ok());
+            assert!(rt; spells(v.as_slice(), &[1, 2, 3]));
         }
     }
     assert!(rt; spells(&source, &[1, 2, 3]));

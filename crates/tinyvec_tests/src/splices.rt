@@ -42,7 +42,7 @@ fn one_from_the_front<R: RangeBounds<usize>>(
     assert!(rt; splice.next() == given[1]);
     assert!(rt; splice.next() == given[2]);
     assert!(rt; splice.next() == None);
-    assert!(rt; splice.finish().is_ok());
+    assert!(rt; splice.finish().is_ok(), "memory was granted");
     assert!(rt; lies(&v, list, inline));
     Ok(())
 }
@@ -65,7 +65,7 @@ fn three_from_the_front<R: RangeBounds<usize>>(
     assert!(rt; splice.next() == given[1]);
     assert!(rt; splice.next() == given[2]);
     assert!(rt; splice.next() == None);
-    assert!(rt; splice.finish().is_ok());
+    assert!(rt; splice.finish().is_ok(), "memory was granted");
     assert!(rt; lies(&v, list, inline));
     Ok(())
 }
@@ -88,7 +88,7 @@ fn three_from_the_back<R: RangeBounds<usize>>(
     assert!(rt; splice.next_back() == given[1]);
     assert!(rt; splice.next_back() == given[2]);
     assert!(rt; splice.next_back() == None);
-    assert!(rt; splice.finish().is_ok());
+    assert!(rt; splice.finish().is_ok(), "memory was granted");
     assert!(rt; lies(&v, list, inline));
     Ok(())
 }
@@ -199,7 +199,7 @@ fn inline_to_the_heap(rt: HostRuntime) {
     let mut v = TinyVec::from_array_len(rt.alloc(), [1, 2, 3, 0], 3);
     let mut splice = v.splice(1..2, [7, 8, 9]);
     assert!(rt; splice.next_back() == Some(2));
-    assert!(rt; splice.finish().is_ok());
+    assert!(rt; splice.finish().is_ok(), "memory was granted");
     assert!(rt; lies(&v, &[1, 7, 8, 9, 3], false));
 }
 
@@ -239,7 +239,7 @@ fn a_step_moves_nothing(rt: HostRuntime) {
     assert!(rt; splice.next() == None);
     assert!(rt; splice.next_back() == None);
     assert!(rt; splice.touches() == 6);
-    assert!(rt; splice.finish().is_ok());
+    assert!(rt; splice.finish().is_ok(), "memory was granted");
     assert!(rt; lies(&v, &[7, 8, 9, 10], false));
 }
 
@@ -303,7 +303,10 @@ fn hints_are_not_read(rt: HostRuntime) {
             .is_ok()
     );
     assert!(rt; lies(&v, &[1, 0, 1, 3], true));
-    assert!(rt; v.splice(..1, Unhinted { next: 4, end: 6 }).finish().is_ok());
+    assert!(rt;
+        v.splice(..1, Unhinted { next: 4, end: 6 }).finish().is_ok(),
+        "memory was granted"
+    );
     assert!(rt; lies(&v, &[4, 5, 0, 1, 3], false));
 }
 
@@ -315,7 +318,7 @@ fn no_slots(rt: HostRuntime) {
     assert!(rt; splice.next() == None);
     assert!(rt; splice.finish().is_ok());
     assert!(rt; lies(&v, &[], true));
-    assert!(rt; v.splice(.., [7, 8]).finish().is_ok());
+    assert!(rt; v.splice(.., [7, 8]).finish().is_ok(), "memory was granted");
     assert!(rt; lies(&v, &[7, 8], false));
 }
 

@@ -17,7 +17,10 @@ fn from_str(rt: HostRuntime) -> Result<(), Fail> {
     assert!(rt; InlineText::<4>::from_str(rt.alloc(), "hell").is_ok());
     match InlineText::<4>::from_str(rt.alloc(), "hello") {
         Ok(t) => assert!(rt; lies(&t, "hello", false)),
-        Err(AllocError) => refused(&rt)?,
+        Err(AllocError) => {
+            refused(&rt)?;
+            assert!(rt; InlineText::<4>::from_str(rt.alloc(), "hello").is_ok());
+        }
     }
     Ok(())
 }
