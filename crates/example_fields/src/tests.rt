@@ -1,0 +1,27 @@
+// Lines whose fields were written down by hand.
+use crate::{key_and_value, split};
+use std::test::Fail;
+
+#[test]
+fn three_fields(rt: HostRuntime) -> Result<(), Fail> {
+    let line = b"a,bc,";
+    let fields = split(line, b',').expect(&rt, "there are three fields");
+    assert!(rt; fields.len() == 3);
+    assert!(rt; (fields[0].start, fields[0].end) == (0, 1));
+    assert!(rt; (fields[1].start, fields[1].end) == (2, 4));
+    assert!(rt; (fields[2].start, fields[2].end) == (5, 5));
+    Ok(())
+}
+
+#[test]
+fn too_many_fields(rt: HostRuntime) {
+    assert!(rt; split(b"1,2,3,4,5,6,7,8", b',').is_some());
+    assert!(rt; split(b"1,2,3,4,5,6,7,8,", b',').is_none());
+}
+
+#[test]
+fn key_and_value_of_a_line(rt: HostRuntime) {
+    assert!(rt; key_and_value(b"depth=12") == Some((b"depth".as_slice(), b"12".as_slice())));
+    assert!(rt; key_and_value(b"depth").is_none());
+    assert!(rt; key_and_value(b"a=b=c").is_none());
+}
