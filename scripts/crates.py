@@ -78,8 +78,7 @@ class Crate:
         """Whether the tests are there, built after each source of theirs was written."""
         if not self.tests.exists():
             return False
-        sources = [TOP / "crates.txt"]
-        sources += [crate.folder / path for crate in [*self.below, self] for path in crate.sources]
+        sources = [crate.folder / path for crate in [*self.below, self] for path in crate.sources]
         return max(it.stat().st_mtime for it in sources) <= self.tests.stat().st_mtime
 
     def record(self):

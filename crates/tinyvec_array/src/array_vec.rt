@@ -78,6 +78,7 @@ impl<A: Array> ArrayVec<A> {
         A::CAPACITY
     }
 
+    /// Whether the list has no items.
     pub fn is_empty(&self) -> bool
         ensures { result ≡ (items_len self.now == 0) }
     {

@@ -26,7 +26,8 @@ pub struct ArrayVecDrain<'a, A: Array> {
 impl<A: Array> ArrayVec<A> {
     ghost use Rattle.tinyvec_array.specs.Drain.{drain_items, drain_len, drain_lender, drain_kept, drain_count, drain_spare, DrainCanStep, DrainSteps, DrainStepsBack, DrainsFromEnds};
 
-    /// Takes the items of the range out of the list, and gives them from both ends.
+    /// Takes the items of the range out of the list, and gives them from both ends. The items behind the range are
+    /// moved down at the call.
     ///
     /// `known` is false of an `a..=b` that was iterated to its end, and of no other range of std.
     pub fn drain<R: RangeBounds<usize>>(&mut self, range: R) -> ArrayVecDrain<'_, A>

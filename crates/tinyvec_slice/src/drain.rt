@@ -33,9 +33,9 @@ where
     ghost use Rattle.tinyvec_slice.specs.View.{items_of, spare_of, name_of};
     ghost use Rattle.tinyvec_slice.specs.Drain.{drain_items, drain_lender, drain_name, drain_kept, drain_count, drain_spare, DrainCanStep, DrainSteps};
 
-    /// Takes the items of the range out of the list, and gives them in order. A caller that is generic over what is lent
-    /// knows what the vector holds afterwards. One that names `SliceVec` learns nothing of that: `drain_each` and
-    /// `drain_into` tell it.
+    /// Takes the items of the range out of the list, and gives them in order. A caller that is generic over what is
+    /// lent knows what the vector holds afterwards. One that names `SliceVec` learns nothing of that: `drain_each` and
+    /// `drain_into` tell it. The items behind the range are moved down at the call.
     ///
     /// `known` is false of an `a..=b` that was iterated to its end, and of no other range of std.
     pub fn drain<R: RangeBounds<usize>>(&mut self, range: R) -> SliceVecDrainOver<'_, B>

@@ -55,6 +55,7 @@ impl<B: Lent> SliceVecOver<B> {
         self.as_inner().len()
     }
 
+    /// Whether the list has no items.
     pub fn is_empty(&self) -> bool
         ensures { result ≡ (len_of B.Lent self.now == 0) }
     {

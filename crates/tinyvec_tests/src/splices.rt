@@ -268,7 +268,7 @@ fn touches_of_a_longer_replacement(rt: HostRuntime) {
 fn touches_of_a_move(rt: HostRuntime) {
     let mut v = TinyVec::from_array(rt.alloc(), [1, 2, 3]);
     let (finished, touches) = v.splice(3.., [4]).finish_counted();
-    assert!(rt; finished.is_ok());
+    assert!(rt; finished.is_ok(), "memory was granted");
     assert!(rt; touches <= 8);
     assert!(rt; lies(&v, &[1, 2, 3, 4], false));
 }

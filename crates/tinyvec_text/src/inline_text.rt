@@ -98,7 +98,7 @@ impl<const N: usize> InlineText<N> {
         self.list.as_slice()
     }
 
-    /// The bytes of the text, in their place.
+    /// The bytes of the text, in their place. It asks for no memory.
     pub fn into_bytes(self) -> TinyVec<[u8; N]>
         ensures bytes { tiny_items result ≡ self.entry.bytes }
         ensures place { is_inline result ≡ self.entry.inline }

@@ -8,7 +8,7 @@ use std::alloc::AllocError;
 use tinyvec_array::Array;
 
 impl<A: Array> TinyVec<A> {
-    /// Keeps the first `n` items, or all where there are no more.
+    /// Keeps the first `n` items, or all where there are no more. In the array each vacated slot is given a default.
     pub fn truncate(&mut self, n: usize)
         ensures items { tiny_items self.new ≡ take n (tiny_items self.old) }
         ensures place { is_inline self.new ≡ is_inline self.old }
@@ -22,7 +22,7 @@ impl<A: Array> TinyVec<A> {
         }
     }
 
-    /// Empties the list.
+    /// Empties the list. In the array each vacated slot is given a default.
     pub fn clear(&mut self)
         ensures items { tiny_items self.new ≡ [] }
         ensures place { is_inline self.new ≡ is_inline self.old }
@@ -34,6 +34,7 @@ impl<A: Array> TinyVec<A> {
     }
 
     /// Cuts the list at `at`, and gives what stood from there on, in the same place. An inline list takes no memory.
+    /// One on the heap asks for room for what stood from there on.
     pub fn split_off(&mut self, at: usize) -> Result<Self, AllocError>
         requires { at ≤ tiny_len self.old }
         ensures items { OnOk result (tiny_items self.new ≡ take at (tiny_items self.old)) }

@@ -47,7 +47,7 @@ impl<A: Array> TinyVec<A> {
         Ok(())
     }
 
-    /// Takes the last item.
+    /// Takes the last item. In the array its slot is given a default.
     pub fn pop(&mut self) -> Option<A::Item>
         ensures variant { IsSome result ↔ (0 < tiny_len self.old) }
         ensures some { IfSome result (λ x. tiny_items self.old ≡ tiny_items self.new ++ x ∷ []) }

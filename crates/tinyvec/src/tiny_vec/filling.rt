@@ -11,7 +11,8 @@ use std::alloc::Global;
 use tinyvec_array::{Array, FromIterRest, NoMemory, NoRoom};
 
 impl<A: Array> TinyVec<A> {
-    /// Appends the items, one by one. Where memory is refused for one, that item and what follows it come back.
+    /// Appends the items, one by one. Where memory is refused for one, that item and what follows it come back. Memory
+    /// is asked for by each push that finds no room.
     pub fn extend<I: IntoIterator<Item = A::Item>>(
         &mut self,
         iter: I,
@@ -60,7 +61,7 @@ impl<A: Array> TinyVec<A> {
     }
 
     /// A list of the items, inline while they fit the array. Where memory is refused for one, the list of those before
-    /// it, that item and what follows it come back.
+    /// it, that item and what follows it come back. Memory is asked for by each push that finds no room.
     pub fn from_iter<I: IntoIterator<Item = A::Item>>(
         alloc: Global,
         iter: I,

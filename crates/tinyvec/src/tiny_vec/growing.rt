@@ -36,7 +36,7 @@ impl<A: Array> TinyVec<A> {
         }
     }
 
-    /// Appends clones of the slice's items.
+    /// Appends clones of the slice's items. Room for all is asked for once, before any is cloned.
     pub fn extend_from_slice(&mut self, other: &[A::Item]) -> Result<(), AllocError>
     where
         A::Item: Clone,

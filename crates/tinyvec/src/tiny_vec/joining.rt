@@ -47,7 +47,8 @@ impl<A: Array> TinyVec<A> {
         other.clear();
     }
 
-    /// Moves the items of `other` behind the list, and leaves `other` empty, in its place.
+    /// Moves the items of `other` behind the list, and leaves `other` empty, in its place. Room for all is asked for
+    /// once, before any is moved.
     pub fn append(&mut self, other: &mut Self) -> Result<(), AllocError>
         ensures items { OnOk result (tiny_items self.new ≡ tiny_items self.old ++ tiny_items other.old) }
         ensures place { OnOk result (PlaceRule A.CAPACITY (tiny_len self.old + tiny_len other.old) self.old self.new) }

@@ -19,7 +19,7 @@ impl<A: Array> TinyVec<A> {
         TinyVec::Inline(ArrayVec::new(), alloc)
     }
 
-    /// An empty list with room for `n` items, inline where the array has that room.
+    /// An empty list with room for `n` items, inline where the array has that room. Else that room is asked for once.
     pub fn with_capacity(alloc: Global, n: usize) -> Result<Self, AllocError>
         ensures items { IfOk result (λ v. tiny_items v ≡ []) }
         ensures spare { IfOk result (λ v. IsInline v → AreDefaults A.Item.is_default A.CAPACITY (tiny_spare v)) }
@@ -35,7 +35,7 @@ impl<A: Array> TinyVec<A> {
         Ok(TinyVec::Heap(heap))
     }
 
-    /// A list of `n` defaults, inline where they fit the array.
+    /// A list of `n` defaults, inline where they fit the array. Else room for all is asked for once.
     pub fn with_initial_len(alloc: Global, n: usize) -> Result<Self, AllocError>
         ensures items { IfOk result (λ v. AreDefaults A.Item.is_default n (tiny_items v)) }
         ensures room { IfOk result (λ v. tiny_capacity A.CAPACITY v ≡ max n A.CAPACITY) }
@@ -95,7 +95,8 @@ impl<A: Array> TinyVec<A> {
         Ok(Self::from_array_len(alloc, array, len))
     }
 
-    /// A list of clones of the slice's items, inline where they fit the array.
+    /// A list of clones of the slice's items, inline where they fit the array. Else room for all is asked for once,
+    /// before any is cloned.
     pub fn from_slice(alloc: Global, slice: &[A::Item]) -> Result<Self, AllocError>
     where
         A::Item: Clone,

@@ -24,7 +24,7 @@ impl<A: Array> TinyVec<A> {
         v
     }
 
-    /// Moves an inline list to the heap.
+    /// Moves an inline list to the heap. It asks for room for the list; one on the heap asks for none.
     pub fn move_to_the_heap(&mut self) -> Result<(), AllocError>
         ensures { MovesToHeap A.CAPACITY self.old self.new result }
     {

@@ -38,7 +38,8 @@ impl<A: Array> TinyVec<A> {
         }
     }
 
-    /// Makes room for `n` items more. A list that has no such room in its array moves to the heap.
+    /// Makes room for `n` items more. A list that has no such room in its array moves to the heap. Where there is that
+    /// room already, nothing is asked for.
     pub fn reserve(&mut self, n: usize) -> Result<(), AllocError>
         ensures { Reserves A.Item.is_default A.CAPACITY n self.old self.new result }
     {

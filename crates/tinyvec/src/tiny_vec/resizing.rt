@@ -13,7 +13,8 @@ use std::alloc::AllocError;
 use tinyvec_array::{Array, NoMemory};
 
 impl<A: Array> TinyVec<A> {
-    /// Cuts the list to `n` items, or fills it up to `n` with clones of `x`.
+    /// Cuts the list to `n` items, or fills it up to `n` with clones of `x`. Room for all that are missing is asked for
+    /// once, before any is cloned.
     pub fn resize(&mut self, n: usize, x: A::Item) -> Result<(), NoMemory<A::Item>>
     where
         A::Item: Clone,
@@ -83,7 +84,8 @@ impl<A: Array> TinyVec<A> {
         }
     }
 
-    /// Cuts the list to `n` items, or fills it up with what `f` answers. `f` is asked only for the items that are missing.
+    /// Cuts the list to `n` items, or fills it up with what `f` answers. `f` is asked only for the items that are
+    /// missing. Room for all that are missing is asked for once, before `f` is.
     pub fn resize_with<F: FnMut() -> A::Item>(
         &mut self,
         n: usize,

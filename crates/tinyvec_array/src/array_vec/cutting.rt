@@ -6,7 +6,7 @@ use crate::slots::clear;
 use crate::{Array, ArrayVec};
 
 impl<A: Array> ArrayVec<A> {
-    /// Keeps the first `n` items, or all where there are no more.
+    /// Keeps the first `n` items, or all where there are no more. Each vacated slot is given a default.
     pub fn truncate(&mut self, n: usize)
         ensures items { items self.new ≡ take n (items self.old) }
         ensures spare { Frees A.Item.is_default (items_len self.old - n) self.old self.new }
@@ -19,7 +19,7 @@ impl<A: Array> ArrayVec<A> {
         }
     }
 
-    /// Empties the list.
+    /// Empties the list. Each vacated slot is given a default.
     pub fn clear(&mut self)
         ensures items { items self.new ≡ [] }
         ensures spare { Frees A.Item.is_default (items_len self.old) self.old self.new }
@@ -28,7 +28,7 @@ impl<A: Array> ArrayVec<A> {
         self.truncate(0);
     }
 
-    /// Cuts the list at `at`, and gives what stood from there on.
+    /// Cuts the list at `at`, and gives what stood from there on. These items are moved one by one.
     pub fn split_off(&mut self, at: usize) -> Self
         requires { at ≤ items_len self.old }
         ensures items { items self.new ≡ take at (items self.old) }

@@ -26,7 +26,7 @@ impl<A: Array> ArrayVec<A> {
         last_slot_to(&mut self.array, i, len);
     }
 
-    /// Puts `x` at `i`, or hands it back where the vector is full.
+    /// Puts `x` at `i` and moves the later items up, or hands it back where the vector is full.
     pub fn try_insert(&mut self, i: usize, x: A::Item) -> Option<A::Item>
         requires { i ≤ items_len self.old }
         ensures full { IsSome result ↔ (items_len self.old ≡ A.CAPACITY) }

@@ -33,7 +33,7 @@ impl<A: Array> ArrayVec<A> {
         None
     }
 
-    /// Takes the last item.
+    /// Takes the last item. Its slot is given a default.
     pub fn pop(&mut self) -> Option<A::Item>
         ensures variant { IsSome result ↔ (0 < items_len self.old) }
         ensures some { IfSome result (λ x. items self.old ≡ items self.new ++ x ∷ []) }

@@ -9,7 +9,7 @@ use crate::{Array, ArrayVec};
 use std::alloc::AllocError;
 
 impl<A: Array> ArrayVec<A> {
-    /// Appends clones of the slice's items.
+    /// Appends clones of the slice's items. Only clones of items may ask for memory.
     pub fn extend_from_slice(&mut self, other: &[A::Item]) -> Result<(), AllocError>
     where
         A::Item: Clone,

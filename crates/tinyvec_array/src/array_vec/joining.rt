@@ -21,7 +21,7 @@ impl<A: Array> ArrayVec<A> {
         }
     }
 
-    /// Moves the items of `other` behind the list, and leaves `other` empty.
+    /// Moves the items of `other` behind the list, and leaves `other` empty. Each item is moved once.
     pub fn append(&mut self, other: &mut Self)
         requires { items_len other.old ≤ A.CAPACITY - items_len self.old }
         ensures items { items self.new ≡ items self.old ++ items other.old }

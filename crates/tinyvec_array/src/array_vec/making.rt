@@ -64,7 +64,7 @@ impl<A: Array> ArrayVec<A> {
         Ok(Self::from_array_len(array, len))
     }
 
-    /// A vector of clones of the slice's items.
+    /// A vector of clones of the slice's items. Only clones of items may ask for memory.
     pub fn try_from_slice(slice: &[A::Item]) -> Result<Self, TryFromSliceError>
     where
         A::Item: Clone,

@@ -9,7 +9,7 @@ use crate::clone_slots::put_copies;
 use crate::{Array, ArrayVec, NoMemory};
 
 impl<A: Array> ArrayVec<A> {
-    /// Cuts the list to `n` items, or fills it up to `n` with clones of `x`.
+    /// Cuts the list to `n` items, or fills it up to `n` with clones of `x`. Only clones of items may ask for memory.
     pub fn resize(&mut self, n: usize, x: A::Item) -> Result<(), NoMemory<A::Item>>
     where
         A::Item: Clone,

@@ -10,7 +10,7 @@ impl<B: Lent> SliceVecOver<B>
 where
     B::Item: Default,
 {
-    /// Keeps the first `n` items, or all where there are no more.
+    /// Keeps the first `n` items, or all where there are no more. Each vacated slot is given a default.
     pub fn truncate(&mut self, n: usize)
         ensures same_reference { name_of B.Lent self.new ≡ name_of B.Lent self.old }
         ensures items { items_of B.Lent self.new ≡ take n (items_of B.Lent self.old) }
@@ -23,7 +23,7 @@ where
         }
     }
 
-    /// Empties the list.
+    /// Empties the list. Each vacated slot is given a default.
     pub fn clear(&mut self)
         ensures same_reference { name_of B.Lent self.new ≡ name_of B.Lent self.old }
         ensures items { items_of B.Lent self.new ≡ [] }

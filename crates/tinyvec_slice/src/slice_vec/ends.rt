@@ -23,7 +23,7 @@ impl<B: Lent> SliceVecOver<B>
 where
     B::Item: Default,
 {
-    /// Takes the last item.
+    /// Takes the last item. Its slot is given a default.
     pub fn pop(&mut self) -> Option<B::Item>
         ensures same_reference { name_of B.Lent self.new ≡ name_of B.Lent self.old }
         ensures variant { IsSome result ↔ (0 < len_of B.Lent self.old) }

@@ -13,7 +13,7 @@ where
     B::Item: Default,
 {
     /// Asks `f` about each item in turn, and keeps those at which it answers `true`. The vacated slots stand before the
-    /// old spare slots.
+    /// old spare slots. An item that is kept is moved by one swap at most.
     pub fn retain<F: FnMut(&B::Item) -> bool>(&mut self, mut f: F)
         requires { F.IsAlwaysCallable f }
         ensures same_reference { name_of B.Lent self.new ≡ name_of B.Lent self.old }

@@ -9,7 +9,7 @@ use crate::{Lent, SliceVecOver};
 use std::alloc::AllocError;
 
 impl<B: Lent> SliceVecOver<B> {
-    /// Appends clones of the slice's items.
+    /// Appends clones of the slice's items. Only clones of items may ask for memory.
     pub fn extend_from_slice(&mut self, other: &[B::Item]) -> Result<(), AllocError>
     where
         B::Item: Clone,

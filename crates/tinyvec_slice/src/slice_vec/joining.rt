@@ -23,7 +23,7 @@ where
         }
     }
 
-    /// Moves the items of `other` behind the list, and leaves `other` empty.
+    /// Moves the items of `other` behind the list, and leaves `other` empty. Each item is moved once.
     pub fn append(&mut self, other: &mut Self)
         requires { len_of B.Lent other.old ≤ length (spare_of B.Lent self.old) }
         ensures same_reference { name_of B.Lent self.new ≡ name_of B.Lent self.old }

@@ -12,8 +12,8 @@ use std::alloc::AllocError;
 use tinyvec_slots::NoMemory;
 
 impl<B: Lent> SliceVecOver<B> {
-    /// Fills the list up to `n` items with clones of `x`, or cuts it to `n` items and fills the vacated slots with clones
-    /// of `x`, the last slot first.
+    /// Fills the list up to `n` items with clones of `x`, or cuts it to `n` items and fills the vacated slots with
+    /// clones of `x`, the last slot first. Only clones of items may ask for memory.
     pub fn resize(&mut self, n: usize, x: B::Item) -> Result<(), NoMemory<B::Item>>
     where
         B::Item: Clone,

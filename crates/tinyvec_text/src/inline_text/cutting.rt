@@ -14,7 +14,7 @@ impl<const N: usize> InlineText<N> {
         is_split_point(self.list.as_slice(), i)
     }
 
-    /// Keeps the first characters, those whose bytes are `i`.
+    /// Keeps the first characters, those whose bytes are `i`. It asks for no memory, and the text stays in its place.
     pub fn truncate(&mut self, i: usize)
         requires { IsBoundary (text_chars self.old) i }
         ensures bytes { self.new.bytes ≡ take i self.old.bytes }
@@ -26,7 +26,7 @@ impl<const N: usize> InlineText<N> {
         self.list.truncate(i);
     }
 
-    /// Empties the text.
+    /// Empties the text. It asks for no memory, and the text stays in its place.
     pub fn clear(&mut self)
         ensures bytes { self.new.bytes ≡ [] }
         ensures text { text_chars self.new ≡ [] }
@@ -36,7 +36,7 @@ impl<const N: usize> InlineText<N> {
         self.list.clear();
     }
 
-    /// Takes off the last character, if there is one.
+    /// Takes off the last character, if there is one. It asks for no memory, and the text stays in its place.
     pub fn pop(&mut self) -> Option<char>
         ensures variant { IsSome result ↔ (0 < text_len self.old) }
         ensures bytes { IfSome result (λ c. self.old.bytes ≡ self.new.bytes ++ encode_utf8 c) }

@@ -6,7 +6,7 @@ use super::InlineText;
 use std::alloc::{AllocError, Global};
 
 impl<const N: usize> InlineText<N> {
-    /// A copy of `s`, inline where its bytes fit the array.
+    /// A copy of `s`, inline where its bytes fit the array. Memory is asked for only where the bytes do not fit.
     pub fn from_str(alloc: Global, s: &str) -> Result<Self, AllocError>
         ensures bytes { IfOk result (λ t. t.bytes ≡ s.now) }
         ensures text { IfOk result (λ t. text_chars t ≡ chars s.now) }
@@ -18,7 +18,7 @@ impl<const N: usize> InlineText<N> {
         Ok(text)
     }
 
-    /// Appends `s`.
+    /// Appends `s`. Memory is asked for only where the bytes do not fit.
     pub fn push_str(&mut self, s: &str) -> Result<(), AllocError>
         ensures bytes { OnOk result (self.new.bytes ≡ self.old.bytes ++ s.now) }
         ensures text { OnOk result (text_chars self.new ≡ text_chars self.old ++ chars s.now) }
@@ -36,7 +36,7 @@ impl<const N: usize> InlineText<N> {
         Ok(())
     }
 
-    /// Appends `c`.
+    /// Appends `c`. Memory is asked for only where the bytes do not fit.
     pub fn push(&mut self, c: char) -> Result<(), AllocError>
         ensures bytes { OnOk result (self.new.bytes ≡ self.old.bytes ++ encode_utf8 c) }
         ensures text { OnOk result (text_chars self.new ≡ text_chars self.old ++ c ∷ []) }
