@@ -2,4 +2,12 @@
 #![tactic(auto)]
 
 #[cfg(test)]
+mod blocks;
+#[cfg(test)]
+mod endless;
+#[cfg(test)]
+mod greatest;
+#[cfg(test)]
+mod hints;
+#[cfg(test)]
 mod refusals;
