@@ -122,6 +122,23 @@ fn fill_a_slice(rt: HostRuntime) {
 }
 
 #[test]
+fn extend_a_slice(rt: HostRuntime) {
+    let mut slots: [Owned; 2] = [None, None];
+    let mut v = SliceVec::from_slice_len(&mut slots, 0);
+    match v.extend(Endless {
+        alloc: rt.alloc(),
+        next: 7,
+    }) {
+        Ok(()) => panic!(rt; "there was no room"),
+        Err(NoRoom { item, rest }) => {
+            assert!(rt; own(&[item], &[9]), "memory was granted");
+            assert!(rt; rest.next == 10);
+        }
+    }
+    assert!(rt; own(&slots, &[7, 8]), "memory was granted");
+}
+
+#[test]
 fn extend_by_numbers(rt: HostRuntime) {
     let mut v = ArrayVec::from_array_len([1, 0, 0], 1);
     match v.extend(5..) {

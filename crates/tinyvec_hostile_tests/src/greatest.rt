@@ -1,11 +1,60 @@
 //! The greatest number, as an index, a count, a length and a bound.
 use std::alloc::AllocError;
-use std::ops::Bound;
 use std::test::Fail;
 use tinyvec::{ArrayVec, SliceVec, TinyVec};
 use tinyvec_test_items::{assert_is, assert_items};
 use tinyvec_test_looks::lies;
 use tinyvec_text::InlineText;
+
+#[test]
+fn a_drain_skipped_past_its_end(rt: HostRuntime) {
+    let mut v = ArrayVec::from_array_len([1, 2, 3, 0], 3);
+    let mut d = v.drain(..);
+    assert_is!(rt; d.nth(usize::MAX), None);
+    assert_is!(rt; d.size_hint(), (0, Some(0)));
+    drop(d);
+    assert!(rt; v.is_empty());
+    assert_items!(rt; &v.into_inner(), [0, 0, 0, 0]);
+}
+
+#[test]
+fn a_drain_skipped_past_its_start(rt: HostRuntime) {
+    let mut v = ArrayVec::from_array([1, 2, 3, 4]);
+    let mut d = v.drain(1..3);
+    assert_is!(rt; d.nth_back(usize::MAX), None);
+    assert_is!(rt; d.size_hint(), (0, Some(0)));
+    drop(d);
+    assert!(rt; v.len() == 2);
+    assert_items!(rt; &v.into_inner(), [1, 4, 0, 0]);
+}
+
+#[test]
+fn a_drain_of_a_slice_skipped(rt: HostRuntime) {
+    let mut slots = [1, 2, 3, 4];
+    let mut v = SliceVec::from_slice_len(&mut slots, 4);
+    let mut d = v.drain(..);
+    assert_is!(rt; d.nth(usize::MAX), None);
+    drop(d);
+    assert!(rt; v.is_empty());
+    assert_items!(rt; &slots, [0, 0, 0, 0]);
+}
+
+#[test]
+fn a_drain_of_a_tiny_vec_skipped(rt: HostRuntime) -> Result<(), Fail> {
+    let mut inline = TinyVec::from_array(rt.alloc(), [1, 2, 3, 4]);
+    let mut d = inline.drain(1..3);
+    assert!(rt; d.nth(usize::MAX) == None);
+    assert!(rt; d.len() == 0);
+    drop(d);
+    assert!(rt; lies(&inline, &[1, 4], true));
+    let mut heap: TinyVec<[i32; 1]> = TinyVec::from_slice(rt.alloc(), &[1, 2, 3, 4])?;
+    let mut d = heap.drain(1..3);
+    assert!(rt; d.nth_back(usize::MAX) == None);
+    assert!(rt; d.len() == 0);
+    drop(d);
+    assert!(rt; lies(&heap, &[1, 4], false));
+    Ok(())
+}
 
 #[test]
 fn iterators_skipped_past_their_ends(rt: HostRuntime) {
@@ -86,12 +135,4 @@ fn room_for_a_text(rt: HostRuntime) -> Result<(), Fail> {
     assert!(rt; heap.reserve(usize::MAX).is_err());
     assert!(rt; heap.as_str() == "ab");
     Ok(())
-}
-
-// As many items as there are numbers: a bound at the greatest one is in the list, and one behind it is its end.
-#[test]
-fn as_bounds_of_a_range(rt: HostRuntime) {
-    let mut v = ArrayVec::from_array([1, 2, 3]);
-    assert_is!(rt; v.drain((Bound::Unbounded, Bound::Excluded(0))).next(), None);
-    assert_items!(rt; v.as_slice(), [1, 2, 3]);
 }

@@ -192,3 +192,19 @@ fn a_tiny_vec_is_made(rt: HostRuntime) {
         Err(_) => panic!(rt; "memory was granted"),
     }
 }
+
+#[test]
+fn a_tiny_vec_is_spliced(rt: HostRuntime) {
+    let mut v = TinyVec::from_array_len(rt.alloc(), [1, 2, 3, 0], 3);
+    assert!(rt;
+        v.splice(1..2, Promising { next: 5, end: 7 })
+            .finish()
+            .is_ok()
+    );
+    assert!(rt; lies(&v, &[1, 5, 6, 3], true));
+    if v.len() == 4 {
+        let finished = v.splice(3..3, Promising { next: 8, end: 10 }).finish();
+        assert!(rt; finished.is_ok(), "memory was granted");
+    }
+    assert!(rt; lies(&v, &[1, 5, 6, 8, 9, 3], false));
+}

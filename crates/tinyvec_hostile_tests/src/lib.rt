@@ -4,10 +4,18 @@
 #[cfg(test)]
 mod blocks;
 #[cfg(test)]
+mod empty;
+#[cfg(test)]
 mod endless;
 #[cfg(test)]
 mod greatest;
 #[cfg(test)]
 mod hints;
 #[cfg(test)]
+mod pages;
+#[cfg(test)]
 mod refusals;
+#[cfg(test)]
+mod stateful;
+#[cfg(test)]
+mod units;
