@@ -12,6 +12,12 @@ mod greatest;
 #[cfg(test)]
 mod hints;
 #[cfg(test)]
+mod many;
+#[cfg(test)]
+mod many_lent;
+#[cfg(test)]
+mod many_tiny;
+#[cfg(test)]
 mod pages;
 #[cfg(test)]
 mod refusals;
