@@ -1,0 +1,60 @@
+//! A line that is no command, put before any line of a script.
+use crate::answered::{ROOM, assert_written};
+use std::alloc::AllocGlobal;
+use std::process::Abort;
+use std::test::Fail;
+
+const LINES: [(&[u8], &[u8]); 3] = [
+    (b"A push 1\n", b"ok [1] [0, 0, 0]\n"),
+    (b"A push 2\n", b"ok [1, 2] [0, 0]\n"),
+    (b"A drain 0 1\n", b"items [1] [2] [0, 0, 0]\n"),
+];
+
+// Asserts that this line, at any place of the script, is answered `bad`, and that the others are answered as without it.
+fn assert_bad_at_each_place(rt: &(impl Abort + AllocGlobal), bad: &[u8]) -> Result<(), Fail> {
+    let mut input = Vec::with_capacity(rt.alloc(), ROOM)?;
+    let mut output = Vec::with_capacity(rt.alloc(), ROOM)?;
+    for place in 0..=LINES.len() {
+        input.clear();
+        output.clear();
+        for (index, (line, answer)) in LINES.iter().enumerate() {
+            if index == place {
+                input.extend_from_slice(bad)?;
+                output.extend_from_slice(b"bad\n")?;
+            }
+            input.extend_from_slice(line)?;
+            output.extend_from_slice(answer)?;
+        }
+        if place == LINES.len() {
+            input.extend_from_slice(bad)?;
+            output.extend_from_slice(b"bad\n")?;
+        }
+        assert_written(rt, input.as_slice(), output.as_slice())?;
+    }
+    Ok(())
+}
+
+#[test]
+fn an_empty_line(rt: HostRuntime) -> Result<(), Fail> {
+    assert_bad_at_each_place(&rt, b"\n")
+}
+
+#[test]
+fn a_vector_without_a_command(rt: HostRuntime) -> Result<(), Fail> {
+    assert_bad_at_each_place(&rt, b"A\n")
+}
+
+#[test]
+fn a_command_of_no_vector(rt: HostRuntime) -> Result<(), Fail> {
+    assert_bad_at_each_place(&rt, b"Q pop\n")
+}
+
+#[test]
+fn a_line_that_ends_by_a_carriage_return(rt: HostRuntime) -> Result<(), Fail> {
+    assert_bad_at_each_place(&rt, b"A pop\r\n")
+}
+
+#[test]
+fn a_byte_that_no_text_has(rt: HostRuntime) -> Result<(), Fail> {
+    assert_bad_at_each_place(&rt, b"\xff\n")
+}

@@ -1,0 +1,41 @@
+//! Scripts whose input is cut at every byte.
+use crate::answered::{ROOM, assert_granted, first_lines};
+use std::test::Fail;
+use tinyvec_io::Counted;
+use tinyvec_script::run;
+
+// Of no line is what stands before its last byte a command too.
+const INPUT: &[u8] =
+    b"A setlen 3\nA insert 1 5\nA swap 0\nA remove 1\nA drain 0 1\nA push 7\nA splice 0 1 f\nA truncate 0\nA pop\nS setlen 4\nS drain 1 3\nS remove 0\nT push 1\nT insert 0 2\nT splice 0 1 b\nT reserve 4\nT drain 0 1\nT shrink\nT heap\nT pop\nX add \xf0\x9f\x98\x80\nX cut 1\nX add \xc2\x80\nX cut 4\n";
+
+const OUTPUT: &[u8] =
+    b"ok [0, 0, 0] [0]\nok [0, 5, 0, 0] []\nsome 0 [0, 5, 0] [0]\nsome 5 [0, 0] [0, 0]\nitems [0] [0] [0, 0, 0]\nok [0, 7] [0, 0]\nitems [0] [7] [0, 0, 0]\nok [] [0, 0, 0, 0]\nnone [] [0, 0, 0, 0]\nok [0, 0, 0, 0] []\nitems [0, 0] [0, 0] [0, 0]\nsome 0 [0] [0, 0, 0]\nok [1] inline\nok [2, 1] inline\nitems [2] [1] inline\nok [1] heap\nitems [1] [] heap\nok [] inline\nok [] heap\nnone [] heap\nok [\xf0\x9f\x98\x80] inline\nrange [\xf0\x9f\x98\x80] inline\nok [\xf0\x9f\x98\x80\xc2\x80] heap\nok [\xf0\x9f\x98\x80] heap\n";
+
+#[test]
+fn input_that_ends_after_each_byte(rt: HostRuntime) -> Result<(), Fail> {
+    let mut answers = Vec::with_capacity(rt.alloc(), ROOM)?;
+    let mut wanted = Vec::with_capacity(rt.alloc(), ROOM)?;
+    let mut is_cut = false;
+    for (count, byte) in INPUT.iter().enumerate() {
+        // The line of this byte counts where only its line feed is missing.
+        let lines = INPUT[..=count]
+            .iter()
+            .filter(|byte| **byte == b'\n')
+            .count();
+        wanted.clear();
+        wanted.extend_from_slice(first_lines(OUTPUT, lines))?;
+        if is_cut && *byte != b'\n' {
+            wanted.extend_from_slice(b"bad\n")?;
+        }
+        let mut reader = Counted::new(&INPUT[..count]);
+        let mut writer = Counted::new(answers);
+        let result = run(rt.alloc(), &mut reader, &mut writer);
+        answers = writer.into_inner();
+        assert_granted(&rt, answers.as_slice(), wanted.as_slice());
+        assert!(rt; answers.as_slice() == wanted.as_slice(), "after {count}");
+        assert!(rt; result == Ok(()), "after {count}");
+        answers.clear();
+        is_cut = *byte != b'\n';
+    }
+    Ok(())
+}
