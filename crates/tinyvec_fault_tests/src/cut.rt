@@ -1,5 +1,5 @@
 //! Scripts whose input is cut at every byte.
-use crate::answered::{ROOM, assert_granted, first_lines};
+use crate::answered::{ROOM, assert_granted, first_lines, written};
 use std::test::Fail;
 use tinyvec_io::Counted;
 use tinyvec_script::run;
@@ -36,6 +36,20 @@ fn input_that_ends_after_each_byte(rt: HostRuntime) -> Result<(), Fail> {
         assert!(rt; result == Ok(()), "after {count}");
         answers.clear();
         is_cut = *byte != b'\n';
+    }
+    Ok(())
+}
+
+// `A pop` has 5 bytes, and its line feed, and the answer 21. Of 4095 bytes and of 4096 the last line is no command.
+#[test]
+fn input_that_ends_at_the_end_of_a_chunk(rt: HostRuntime) -> Result<(), Fail> {
+    let mut input = Vec::with_capacity(rt.alloc(), ROOM)?;
+    for _line in 0..1000 {
+        input.extend_from_slice(b"A pop\n")?;
+    }
+    for (count, len) in [(4095, 682 * 21 + 4), (4096, 682 * 21 + 4), (4097, 683 * 21)] {
+        let answers = written(rt.alloc(), &input.as_slice()[..count.min(input.len())])?;
+        assert!(rt; answers.len() == len, "after {count}");
     }
     Ok(())
 }

@@ -149,6 +149,24 @@ fn a_tiny_vec_on_the_heap(rt: HostRuntime) -> Result<(), Fail> {
     assert_whole(&rt, &v, &[2, 0, 0, 0, 0, 0, 0, 0, 1, 2])
 }
 
+#[test]
+fn a_tiny_vec_read_to_its_last_byte(rt: HostRuntime) -> Result<(), Fail> {
+    let bytes: &[u8] = &[2, 0, 0, 0, 0, 0, 0, 0, 1, 2];
+    let mut reader = Counted::new(bytes);
+    match TinyVec::<[u8; 1]>::deserialize_reader(rt.alloc(), &mut reader) {
+        Ok(v) => {
+            assert!(rt; v.is_heap());
+            assert!(rt; v.as_slice() == [1, 2].as_slice());
+        }
+        Err(error) => {
+            assert!(rt; error != Memory, "memory was granted");
+            assert!(rt; false);
+        }
+    }
+    assert!(rt; reader.into_inner().is_empty());
+    Ok(())
+}
+
 // `[[1], []]`
 const LISTS: [u8; 25] = [
     2, 0, 0, 0, 0, 0, 0, 0, 1, 0, 0, 0, 0, 0, 0, 0, 1, 0, 0, 0, 0, 0, 0, 0, 0,

@@ -169,22 +169,3 @@ fn a_count_of_a_tiny_vec(rt: HostRuntime) -> Result<(), Fail> {
     }
     Ok(())
 }
-
-// The bytes of the list, cut nowhere.
-#[test]
-fn a_small_count_of_a_tiny_vec(rt: HostRuntime) -> Result<(), Fail> {
-    let bytes: &[u8] = &[2, 0, 0, 0, 0, 0, 0, 0, 1, 2];
-    let mut reader = Counted::new(bytes);
-    match TinyVec::<[u8; 1]>::deserialize_reader(rt.alloc(), &mut reader) {
-        Ok(v) => {
-            assert!(rt; v.is_heap());
-            assert!(rt; v.as_slice() == [1, 2].as_slice());
-        }
-        Err(error) => {
-            assert!(rt; error != BorshError::Memory, "memory was granted");
-            assert!(rt; false);
-        }
-    }
-    assert!(rt; reader.into_inner().is_empty());
-    Ok(())
-}
