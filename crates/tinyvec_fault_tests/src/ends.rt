@@ -68,17 +68,20 @@ impl Write for Fills {
 #[derive(Drop)]
 pub(crate) struct Interrupted<E: Drop> {
     pub(crate) end: E,
-    pub(crate) was: bool,
+    pub(crate) is_interrupted: bool,
 }
 
 impl<E: Drop> Interrupted<E> {
     pub(crate) fn new(end: E) -> Self {
-        Interrupted { end, was: false }
+        Interrupted {
+            end,
+            is_interrupted: false,
+        }
     }
 
     fn interrupt(&mut self) -> io::Result<()> {
-        self.was = !self.was;
-        if self.was {
+        self.is_interrupted = !self.is_interrupted;
+        if self.is_interrupted {
             return Err(io::Error::from(ErrorKind::Interrupted));
         }
         Ok(())

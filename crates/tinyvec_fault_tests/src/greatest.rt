@@ -1,11 +1,12 @@
-//! The greatest `usize` as an index of a line, and as a count of the Borsh form.
+//! The greatest `usize` as an index of a line or a call, and as a count of the Borsh form.
 use crate::answered::assert_answered;
 use std::alloc::AllocError;
 use std::process::Abort;
 use std::test::Fail;
-use tinyvec::TinyVec;
+use tinyvec::{ArrayVec, SliceVec, TinyVec};
 use tinyvec_borsh::{BorshDeserialize, BorshError};
 use tinyvec_io::Counted;
+use tinyvec_script::{Answer, Call, run_array, run_slice, run_tiny};
 
 #[test]
 fn a_range_at_the_start_of_a_script(rt: HostRuntime) -> Result<(), Fail> {
@@ -154,6 +155,107 @@ fn one_more_than_the_greatest(rt: HostRuntime) -> Result<(), Fail> {
         (b"A pop", b"some 1 [] [0, 0, 0, 0]"),
     ];
     assert_answered(&rt, lines.as_slice())
+}
+
+#[test]
+fn calls_of_an_array(rt: HostRuntime) -> Result<(), Fail> {
+    let mut v = ArrayVec::from_array_len([1, 2, 8, 9], 2);
+    let (word, items) = (Vec::new(rt.alloc()), Vec::new(rt.alloc()));
+    let calls = Vec::from_array(
+        rt.alloc(),
+        [
+            Call::Insert(usize::MAX, 3),
+            Call::Remove(usize::MAX),
+            Call::SwapRemove(usize::MAX),
+            Call::Drain(0, usize::MAX),
+            Call::Drain(usize::MAX, usize::MAX),
+            Call::Splice(usize::MAX, usize::MAX, word, items),
+            Call::SetLen(usize::MAX),
+            Call::Truncate(usize::MAX),
+        ],
+    )?;
+    let answers = run_array(rt.alloc(), &mut v, calls)?;
+    let wanted = [
+        Answer::Range,
+        Answer::Range,
+        Answer::Range,
+        Answer::Range,
+        Answer::Range,
+        Answer::Range,
+        Answer::Range,
+        Answer::Done,
+    ];
+    assert!(rt; answers.as_slice() == wanted.as_slice());
+    assert!(rt; v.len() == 2);
+    assert!(rt; v.into_inner() == [1, 2, 8, 9]);
+    Ok(())
+}
+
+#[test]
+fn calls_over_a_slice(rt: HostRuntime) -> Result<(), Fail> {
+    let mut slots = [1, 2, 8, 9];
+    let calls = Vec::from_array(
+        rt.alloc(),
+        [
+            Call::Insert(usize::MAX, 3),
+            Call::Remove(usize::MAX),
+            Call::SwapRemove(usize::MAX),
+            Call::Drain(0, usize::MAX),
+            Call::Drain(usize::MAX, usize::MAX),
+            Call::SetLen(usize::MAX),
+            Call::Truncate(usize::MAX),
+        ],
+    )?;
+    let answers = {
+        let mut v = SliceVec::from_slice_len(&mut slots, 2);
+        run_slice(rt.alloc(), &mut v, calls)?
+    };
+    let wanted = [
+        Answer::Range,
+        Answer::Range,
+        Answer::Range,
+        Answer::Range,
+        Answer::Range,
+        Answer::Range,
+        Answer::Done,
+    ];
+    assert!(rt; answers.as_slice() == wanted.as_slice());
+    assert!(rt; slots == [1, 2, 8, 9]);
+    Ok(())
+}
+
+#[test]
+fn calls_of_a_tiny(rt: HostRuntime) -> Result<(), Fail> {
+    let mut v = TinyVec::from_array_len(rt.alloc(), [1, 2, 8, 9], 2);
+    let (word, items) = (Vec::new(rt.alloc()), Vec::new(rt.alloc()));
+    let calls = Vec::from_array(
+        rt.alloc(),
+        [
+            Call::Insert(usize::MAX, 3),
+            Call::Remove(usize::MAX),
+            Call::SwapRemove(usize::MAX),
+            Call::Drain(0, usize::MAX),
+            Call::Drain(usize::MAX, usize::MAX),
+            Call::Splice(usize::MAX, usize::MAX, word, items),
+            Call::Reserve(usize::MAX),
+            Call::Truncate(usize::MAX),
+        ],
+    )?;
+    let answers = run_tiny(rt.alloc(), &mut v, calls)?;
+    let wanted = [
+        Answer::Range,
+        Answer::Range,
+        Answer::Range,
+        Answer::Range,
+        Answer::Range,
+        Answer::Range,
+        Answer::Memory,
+        Answer::Done,
+    ];
+    assert!(rt; answers.as_slice() == wanted.as_slice());
+    assert!(rt; v.is_inline());
+    assert!(rt; v.as_slice() == [1, 2].as_slice());
+    Ok(())
 }
 
 #[test]
