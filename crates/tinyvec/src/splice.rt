@@ -18,8 +18,8 @@ use tinyvec_array::Array;
 use tinyvec_slots::{Gap, resolve, write_named};
 
 /// Gives the items of a range, in whose place those of `replacement` are put. For an item that is taken from an end, the
-/// replacement is asked for one from the same end, which stands there then. It must be spent by `finish` or
-/// `finish_counted`.
+/// replacement is asked for one from the same end, which stands there then. It must be spent by `finish`,
+/// `finish_counted` or `stop`.
 pub struct TinyVecSplice<'a, A: Array, I: Drop> {
     vec: &'a mut TinyVec<A>,
     gap: Gap,

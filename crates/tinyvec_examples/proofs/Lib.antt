@@ -2,4 +2,3 @@ pub mod DrainEnded
 pub mod BothEnds
 pub mod SpliceEnded
 pub mod SpliceCounted
-pub mod Texts

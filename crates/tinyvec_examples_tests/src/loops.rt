@@ -1,4 +1,4 @@
-//! The loops of the README.
+//! The loops of the documents.
 use std::test::Fail;
 use tinyvec::{ArrayVec, TinyVec};
 use tinyvec_examples::readme::loops::*;

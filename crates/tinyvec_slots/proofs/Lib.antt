@@ -16,3 +16,4 @@ pub mod Fused
 pub mod TurnLemmas
 pub mod SpliceLemmas
 pub mod SplicingLemmas
+pub mod TextLemmas

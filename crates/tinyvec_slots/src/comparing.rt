@@ -22,9 +22,10 @@ pub fn same_items<T: PartialEq>(a: &[T], b: &[T]) -> bool
     if a.len() < 4 || are_large(a) {
         return *a == *b;
     }
-    // Bytes are compared by the block as fast as by the item.
+    // Bytes are compared by the block as fast as by the item, and more of them at once.
     if are_bytes(a) {
-        return same_from(a, b, 0);
+        let many = pass_same::<T, 64>(a, b, 0);
+        return a.len() - many < 64 && same_from(a, b, many);
     }
     // Most lists that differ do so in their first items.
     same_block::<T, 4>(a, b) && same_from(a, b, 4)
@@ -38,11 +39,7 @@ fn same_from<T: PartialEq>(a: &[T], b: &[T], start: usize) -> bool
     requires same_before { SameInFront T.eq a.now b.now start }
     ensures { result ≡ pointwise T.eq a.now b.now }
 {
-    let many = pass_same::<T, 64>(a, b, start);
-    if 64 <= a.len() - many {
-        return false;
-    }
-    let more = pass_same::<T, 16>(a, b, many);
+    let more = pass_same::<T, 16>(a, b, start);
     if 16 <= a.len() - more {
         return false;
     }
@@ -110,15 +107,15 @@ fn first_difference<T: PartialEq>(a: &[T], b: &[T]) -> usize
     ensures { FirstDifference T.eq a.now b.now (length a.now) result }
 {
     // Most lists that differ do so in their first items.
-    let few = a.len().min(4);
-    let first = difference_before(a, b, 0, few);
-    if first < few {
+    let one = a.len().min(1);
+    let first = difference_before(a, b, 0, one);
+    if first < one {
         return first;
     }
     if are_large(a) {
-        return difference_before(a, b, few, a.len());
+        return difference_before(a, b, one, a.len());
     }
-    let more = pass_same::<T, 16>(a, b, few);
+    let more = pass_same::<T, 16>(a, b, one);
     let done = pass_same::<T, 4>(a, b, more);
     difference_before(a, b, done, a.len())
 }

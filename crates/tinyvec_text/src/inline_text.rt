@@ -79,7 +79,7 @@ impl<const N: usize> InlineText<N> {
     }
 
     /// The text.
-    // The bytes are checked at each call: only `unsafe` code could leave that out.
+    // The bytes are checked at each call: no call of std takes bytes for text without a look at them and is safe.
     pub fn as_str(&self) -> &str
         ensures value { result.now ≡ self.now.bytes }
         ensures spelled { encode_utf8_all (text_chars self.now) ≡ result.now }

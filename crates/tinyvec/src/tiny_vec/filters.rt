@@ -11,7 +11,8 @@ use tinyvec_array::Array;
 use tinyvec_slots::{dedup_in_front, dedup_keys_in_front, retain_in_front, retain_mut_in_front};
 
 impl<A: Array> TinyVec<A> {
-    /// Asks `f` about each item in turn, and keeps those at which it answers `true`.
+    /// Asks `f` about each item in turn, and keeps those at which it answers `true`. An item that is kept is moved by
+    /// one swap at most.
     pub fn retain<F: FnMut(&A::Item) -> bool>(&mut self, mut f: F)
         requires { F.IsAlwaysCallable f }
         ensures filtered { IsFiltered (CalledAt F.FnMut) f (tiny_items self.old) (tiny_items self.new) }
@@ -24,7 +25,8 @@ impl<A: Array> TinyVec<A> {
         self.retain_asked(&mut f);
     }
 
-    /// Asks `f` about each item in turn, and keeps those at which it answers `true`, as it left them.
+    /// Asks `f` about each item in turn, and keeps those at which it answers `true`, as it left them. An item that is
+    /// kept is moved by one swap at most.
     pub fn retain_mut<F: FnMut(&mut A::Item) -> bool>(&mut self, mut f: F)
         requires { F.IsAlwaysCallable f }
         ensures filtered { RetainsInTurn (CalledAtMut F.FnMut) f (tiny_items self.old) (tiny_items self.new) }
@@ -37,7 +39,7 @@ impl<A: Array> TinyVec<A> {
         self.retain_mut_asked(&mut f);
     }
 
-    /// Removes each item that equals the last one kept.
+    /// Removes each item that equals the last one kept. An item that is kept is moved by one swap at most.
     pub fn dedup(&mut self)
     where
         A::Item: PartialEq,
@@ -51,7 +53,8 @@ impl<A: Array> TinyVec<A> {
         self.dedup_by(|current, last| *current == *last);
     }
 
-    /// Asks `same` about each item after the first and the last one kept, in this order, and removes the item at `true`.
+    /// Asks `same` about each item after the first and the last one kept, in this order, and removes the item at
+    /// `true`. An item that is kept is moved by one swap at most.
     pub fn dedup_by<F: FnMut(&mut A::Item, &mut A::Item) -> bool>(&mut self, mut same: F)
         requires { F.IsAlwaysCallable same }
         ensures filtered { IsDeduped (CalledAtPairMut F.FnMut) same (tiny_items self.old) (tiny_items self.new) }
@@ -64,7 +67,8 @@ impl<A: Array> TinyVec<A> {
         self.dedup_asked(&mut same);
     }
 
-    /// Removes each item whose key equals that of the last one kept. The item's own key is asked for first.
+    /// Removes each item whose key equals that of the last one kept. The item's own key is asked for first. An item
+    /// that is kept is moved by one swap at most.
     pub fn dedup_by_key<K: PartialEq + Drop, F: FnMut(&mut A::Item) -> K>(&mut self, mut key: F)
         requires { F.IsAlwaysCallable key }
         ensures filtered { IsDeduped (ComparesKeys F.FnMut K.eq) key (tiny_items self.old) (tiny_items self.new) }

@@ -1,6 +1,6 @@
 use Rattle.std.proofs.Common.{◌≡◌, subst, IfOk, IfSome, string_bytes}
 use Rattle.tinyvec_slots.specs.Slots.{items}
-use Rattle.tinyvec_examples.proofs.Texts.{debug_list-known}
+use Rattle.tinyvec_slots.proofs.TextLemmas.{debug_list-known}
 use Rattle.tinyvec_examples.proofs.printing.displayed_items.Goals as goal
 
 pub returns : goal.returns

@@ -1,5 +1,5 @@
 use Rattle.std.proofs.Common.{rules}
-use Rattle.tinyvec_examples.proofs.Texts.{items_after}
+use Rattle.tinyvec_slots.proofs.TextLemmas.{items_after}
 use Rattle.tinyvec_examples.proofs.writing.pair_written.Goals as goal
 
 pub returns : goal.returns

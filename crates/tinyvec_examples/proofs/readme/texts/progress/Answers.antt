@@ -1,4 +1,4 @@
-use Rattle.tinyvec_examples.proofs.Texts.{items_written}
+use Rattle.tinyvec_slots.proofs.TextLemmas.{items_written}
 use Rattle.tinyvec_examples.proofs.readme.texts.progress.Goals as goal
 
 pub returns : goal.returns
