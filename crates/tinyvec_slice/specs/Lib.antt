@@ -11,3 +11,4 @@ pub mod Lends
 pub mod Iterating
 pub mod Drain
 pub mod Making
+pub mod Appends

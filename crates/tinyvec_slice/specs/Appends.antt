@@ -1,0 +1,11 @@
+-- What a function that appends leaves in a vector over a lent slice. No call of this crate says it: it is for callers.
+use Rattle.std.specs.Prelude.{◌≡◌, List, ◌++◌, length, drop}
+use Rattle.std.specs.Borrow.{MutBor}
+use Rattle.tinyvec_slice.specs.View.{items, spare, name}
+use Rattle.tinyvec_slice.specs.declared.slice_vec.SliceVecOver.{SliceVecOver}
+
+-- the items stand behind the old list, in spare slots, and all else is as it was
+pub record Appends {T : Type 0} (xs : List T) (old new : SliceVecOver (MutBor (List T)) T) : Type 0 where
+  pub same_reference : name new ≡ name old
+  pub items : items new ≡ items old ++ xs
+  pub spare : spare new ≡ drop (length xs) (spare old)
