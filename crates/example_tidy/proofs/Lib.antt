@@ -1,0 +1,6 @@
+pub mod Joining
+pub mod Lines
+pub mod NormalForms
+pub mod Repeats
+pub mod Splitting
+pub mod WordLemmas

@@ -1,0 +1,7 @@
+use Rattle.std.proofs.Common.{◌≡◌, map, take}
+use Rattle.std.specs.Char.{to_ascii_lowercase}
+use Rattle.tinyvec.specs.Tiny.{tiny_items}
+use Rattle.example_tidy.proofs.line.lower.Given as goal
+
+abbrev pub invariant-loop-byte : goal.invariant-loop-byte
+invariant-loop-byte l = tiny_items l.low ≡ map to_ascii_lowercase (take l.byte-index l.line)

@@ -1,0 +1,41 @@
+-- The normal form of a line and of a text.
+use Rattle.std.specs.Prelude.{◌≡◌, ℕ, ◌≤◌, ◌==◌, Bool, not, List, [], ◌∷◌, ◌++◌, map, length, slice_range}
+use Rattle.std.specs.List.{slice_split, filter, dedup, flat_map, join_with_byte}
+use Rattle.std.specs.Char.{is_ascii_whitespace, to_ascii_lowercase}
+use Rattle.std.specs.Str.{bytes_eq}
+use Rattle.std.specs.Str.Lines.{lines}
+use Rattle.example_tidy.specs.declared.words.Word.{Word}
+
+-- the bytes of a word of this line
+abbrev pub bytes_of : List ℕ → Word → List ℕ
+bytes_of line word = slice_range line word.start word.end
+
+-- the word lies in this line
+abbrev pub IsIn : List ℕ → Word → Type 0
+IsIn line word = (word.start ≤ word.end) × (word.end ≤ length line)
+
+-- some byte stands in it
+abbrev pub has_bytes : List ℕ → Bool
+has_bytes bytes = not (length bytes == 0)
+
+-- what stands between the blanks of a line: spaces, tabs and the other white space of ASCII
+abbrev pub words : List ℕ → List (List ℕ)
+words line = filter has_bytes (slice_split is_ascii_whitespace line)
+
+-- the words of the line in lower case, each said once where it repeats the one before
+abbrev pub normal_words : List ℕ → List (List ℕ)
+normal_words line = dedup bytes_eq (words (map to_ascii_lowercase line))
+
+-- The normal form of a line: these words with one space between each two.
+unfoldable pub normal_line : List ℕ → List ℕ
+normal_line line = join_with_byte 32 (normal_words line)
+
+-- lines, each ended by a line feed
+abbrev pub ended : List (List ℕ) → List ℕ
+ended all = flat_map (λ line. line ++ 10 ∷ []) all
+
+-- The output is the normal form of the input: its lines are the normal forms of the input's lines, and each is ended. The
+-- lines are those of Rust's `str::lines`.
+pub record Tidied (input output : List ℕ) : Type 0 where
+  pub lines_of : lines output ≡ map normal_line (lines input)
+  pub ended_by : output ≡ ended (lines output)

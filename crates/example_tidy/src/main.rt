@@ -1,0 +1,7 @@
+//! Puts each line of standard input in its normal form.
+#![tactic(auto)]
+
+mod line;
+mod words;
+
+fn main(_rt: HostRuntime) {}
