@@ -1,5 +1,5 @@
 -- The normal form of a line and of a text.
-use Rattle.std.specs.Prelude.{◌≡◌, ℕ, ◌≤◌, ◌==◌, Bool, not, List, [], ◌∷◌, ◌++◌, map, length, slice_range}
+use Rattle.std.specs.Prelude.{◌≡◌, ◌≢◌, ℕ, ◌≤◌, ◌==◌, Bool, not, List, [], ◌∷◌, ◌++◌, map, length, slice_range, All}
 use Rattle.std.specs.List.{slice_split, filter, dedup, flat_map, join_with_byte}
 use Rattle.std.specs.Char.{is_ascii_whitespace, to_ascii_lowercase}
 use Rattle.std.specs.Str.{bytes_eq}
@@ -39,3 +39,31 @@ ended all = flat_map (λ line. line ++ 10 ∷ []) all
 pub record Tidied (input output : List ℕ) : Type 0 where
   pub lines_of : lines output ≡ map normal_line (lines input)
   pub ended_by : output ≡ ended (lines output)
+
+-- no line feed stands in it
+abbrev pub IsLine : List ℕ → Type 0
+IsLine line = All (λ byte. byte ≢ 10) line
+
+-- The output is the normal form of the first lines of the input, which may go on.
+pub record TidiedFront (input output : List ℕ) : Type 0 where
+  pub all : List (List ℕ)
+  pub rest : List ℕ
+  pub whole : input ≡ ended all ++ rest
+  pub each : All IsLine all
+  pub says : output ≡ ended (map normal_line all)
+
+-- The output is the normal form of the complete lines of the input, and this has come of the next line.
+pub record TidiedUpTo (input output line : List ℕ) : Type 0 where
+  pub all : List (List ℕ)
+  pub whole : input ≡ ended all ++ line
+  pub each : All IsLine all
+  pub partial : IsLine line
+  pub says : output ≡ ended (map normal_line all)
+
+-- after these bytes, for which this is said, `new` has come of the next line, where `old` had
+abbrev pub Advances : List ℕ → List ℕ → List ℕ → List ℕ → Type 0
+Advances old bytes said new = (input output : List ℕ) → TidiedUpTo input output old → TidiedUpTo (input ++ bytes) (output ++ said) new
+
+-- what is said is the normal form of the lines that some of these bytes end
+abbrev pub EndsSome : List ℕ → List ℕ → List ℕ → Type 0
+EndsSome old bytes said = (input output : List ℕ) → TidiedUpTo input output old → TidiedFront (input ++ bytes) (output ++ said)

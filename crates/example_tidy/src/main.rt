@@ -2,6 +2,7 @@
 #![tactic(auto)]
 
 mod line;
+mod text;
 mod words;
 
 fn main(_rt: HostRuntime) {}

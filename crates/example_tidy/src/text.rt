@@ -1,0 +1,73 @@
+//! The normal form of a whole text.
+ghost use Rattle.std.specs.Prelude.{◌≡◌, ◌<◌, ◌++◌, ◌∷◌, [], List, ℕ, IfOk, OnOk, OnErr};
+ghost use Rattle.tinyvec.specs.Tiny.{tiny_items, tiny_len};
+ghost use Rattle.example_tidy.specs.Tidy.{Advances, EndsSome, Tidied, normal_line};
+
+use crate::line::{LineText, tidy_line};
+use std::alloc::{AllocError, Global};
+use tinyvec::TinyVec;
+
+/// Lines that are to be written. Up to 4096 bytes of them lie in the value.
+pub type Output = TinyVec<[u8; 4096]>;
+
+/// The normal form of a text. The one error is that memory was refused.
+pub fn tidy_text(alloc: Global, text: &[u8]) -> Result<Output, AllocError>
+    ensures tidied { IfOk result (λ output. Tidied text.now (tiny_items output)) }
+    ensures twice { IfOk result (λ output. Tidied (tiny_items output) (tiny_items output)) }
+{
+    let mut line = TinyVec::new(alloc);
+    let mut output = TinyVec::new(alloc);
+    feed(alloc, &mut line, &mut output, text)?;
+    if !line.is_empty() {
+        end_line(alloc, line.as_slice(), &mut output)?;
+    }
+    Ok(output)
+}
+
+// Takes bytes of the text, and appends the normal forms of the lines that they end.
+pub(crate) fn feed(
+    alloc: Global,
+    line: &mut LineText,
+    output: &mut Output,
+    bytes: &[u8],
+) -> Result<(), AllocError>
+    ensures ok { OnOk result ((said : List ℕ) × (tiny_items output.new ≡ tiny_items output.old ++ said)
+        × Advances (tiny_items line.old) bytes.now said (tiny_items line.new)) }
+    ensures refused { OnErr result ((said : List ℕ) × (tiny_items output.new ≡ tiny_items output.old ++ said)
+        × EndsSome (tiny_items line.old) bytes.now said) }
+{
+    for byte in bytes {
+        feed_byte(alloc, line, output, *byte)?;
+    }
+    Ok(())
+}
+
+// Takes a byte of the text. Where memory was refused, nothing was appended.
+fn feed_byte(
+    alloc: Global,
+    line: &mut LineText,
+    output: &mut Output,
+    byte: u8,
+) -> Result<(), AllocError>
+    ensures ok { OnOk result ((said : List ℕ) × (tiny_items output.new ≡ tiny_items output.old ++ said)
+        × Advances (tiny_items line.old) (byte ∷ []) said (tiny_items line.new)) }
+    ensures refused { OnErr result (tiny_items output.new ≡ tiny_items output.old) }
+{
+    if byte == b'\n' {
+        end_line(alloc, line.as_slice(), output)?;
+        line.clear();
+    } else {
+        line.push(byte)?;
+    }
+    Ok(())
+}
+
+// Appends the normal form of a line and a line feed. Where memory was refused, nothing was appended.
+pub(crate) fn end_line(alloc: Global, line: &[u8], output: &mut Output) -> Result<(), AllocError>
+    ensures ok { OnOk result (tiny_items output.new ≡ tiny_items output.old ++ (normal_line line.now ++ 10 ∷ [])) }
+    ensures refused { OnErr result (tiny_items output.new ≡ tiny_items output.old) }
+{
+    let mut text = tidy_line(alloc, line)?;
+    text.push(b'\n')?;
+    output.extend_from_slice(text.as_slice())
+}
