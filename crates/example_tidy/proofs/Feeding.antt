@@ -1,9 +1,9 @@
 -- What a byte of the input does to what was said.
-use Rattle.std.proofs.Common.{◌≡◌, ◌≢◌, ◌∙◌, ℕ, List, [], ◌∷◌, ◌++◌, ap, refl, sym, subst, map, All, ◌<◌, length, append-nil, append_assoc}
+use Rattle.std.proofs.Common.{◌≡◌, ◌≢◌, ◌∙◌, ℕ, List, [], ◌∷◌, ◌++◌, ap, refl, sym, subst, map, All, ◌<◌, length, append-nil, append_assoc, Result, Ok, Err, OnOk, OnErr}
 use Rattle.std.proofs.lemmas.Grind.{flat_map-append}
 use Rattle.std.proofs.lemmas.List.{map-append, nil_from_length}
 use Rattle.std.proofs.lemmas.List.Elements.{All-nil, All-push, All-same}
-use Rattle.example_tidy.specs.Tidy.{Tidied, TidiedFront, TidiedUpTo, Advances, EndsSome, IsLine, ended, normal_line}
+use Rattle.example_tidy.specs.Tidy.{Tidied, TidiedFront, TidiedUpTo, Advances, Ends, EndsSome, IsLine, ended, normal_line}
 use Rattle.example_tidy.proofs.Lines.{tidied_none, tidied_some}
 
 -- a line that is ended is one line more
@@ -67,14 +67,32 @@ ends_some old new bytes rest all said joined advances input output so_far =
       says = now.says;
     }
 
--- the input ended behind a line feed, or has no bytes
-pub tidied_all : (input output line : List ℕ) → TidiedUpTo input output line → length line ≡ 0 → Tidied input output
-tidied_all input output line so_far none =
-    tidied_none so_far.all input output so_far.each (so_far.whole ∙ ap (λ left. ended so_far.all ++ left) (nil_from_length line none)) so_far.says
+-- what is said at the end, behind nothing
+pub ends_text : (line empty text said : List ℕ) → empty ≡ [] → text ≡ empty ++ said → Ends line said → Ends line text
+ends_text line empty text said none grown ends = subst (Ends line) (sym (grown ∙ ap (λ front. front ++ said) none)) ends
 
--- the input ended within a line
-pub tidied_last : (input output line grown : List ℕ) → TidiedUpTo input output line → 0 < length line → grown ≡ output ++ (normal_line line ++ 10 ∷ [])
-    → Tidied input grown
-tidied_last input output line grown so_far some is =
-    tidied_some so_far.all line input grown so_far.each so_far.partial some so_far.whole
-    (is ∙ ap (λ front. front ++ (normal_line line ++ 10 ∷ [])) so_far.says)
+-- the complete lines are the first ones
+pub front_of : (input output line : List ℕ) → TidiedUpTo input output line → TidiedFront input output
+front_of input output line so_far = record { all = so_far.all; rest = line; whole = so_far.whole; each = so_far.each; says = so_far.says }
+
+-- The end of the input: it ended behind a line feed, or has no bytes.
+pub ends_none : (line : List ℕ) → length line ≡ 0 → Ends line []
+ends_none line none input output so_far =
+    subst (Tidied input) (sym (append-nil output))
+    (tidied_none so_far.all input output so_far.each (so_far.whole ∙ ap (λ left. ended so_far.all ++ left) (nil_from_length line none)) so_far.says)
+
+-- Or it ended within a line.
+pub ends_last : (line : List ℕ) → 0 < length line → Ends line (normal_line line ++ 10 ∷ [])
+ends_last line some input output so_far =
+    tidied_some so_far.all line input (output ++ (normal_line line ++ 10 ∷ [])) so_far.each so_far.partial some so_far.whole
+    (ap (λ front. front ++ (normal_line line ++ 10 ∷ [])) so_far.says)
+
+-- what was fed, whether memory was refused or not
+pub ends_either : {T E : Type 0} (r : Result T E) (old new bytes empty text : List ℕ) → empty ≡ []
+    → OnOk r ((said : List ℕ) × (text ≡ empty ++ said) × Advances old bytes said new)
+    → OnErr r ((said : List ℕ) × (text ≡ empty ++ said) × EndsSome old bytes said)
+    → EndsSome old bytes text
+ends_either (Ok done) old new bytes empty text none fed refused =
+    subst (EndsSome old bytes) (sym (fed.1 ∙ ap (λ front. front ++ fed.0) none)) (ends_some old new bytes [] bytes fed.0 (append-nil bytes) fed.2)
+ends_either (Err error) old new bytes empty text none fed refused =
+    subst (EndsSome old bytes) (sym (refused.1 ∙ ap (λ front. front ++ refused.0) none)) refused.2

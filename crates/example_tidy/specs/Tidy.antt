@@ -1,5 +1,5 @@
 -- The normal form of a line and of a text.
-use Rattle.std.specs.Prelude.{◌≡◌, ◌≢◌, ℕ, ◌≤◌, ◌==◌, Bool, not, List, [], ◌∷◌, ◌++◌, map, length, slice_range, All}
+use Rattle.std.specs.Prelude.{◌≡◌, ◌≢◌, ◌⊎◌, ℕ, ◌≤◌, ◌==◌, Bool, not, List, [], ◌∷◌, ◌++◌, map, length, slice_range, All}
 use Rattle.std.specs.List.{slice_split, filter, dedup, flat_map, join_with_byte}
 use Rattle.std.specs.Char.{is_ascii_whitespace, to_ascii_lowercase}
 use Rattle.std.specs.Str.{bytes_eq}
@@ -67,3 +67,11 @@ Advances old bytes said new = (input output : List ℕ) → TidiedUpTo input out
 -- what is said is the normal form of the lines that some of these bytes end
 abbrev pub EndsSome : List ℕ → List ℕ → List ℕ → Type 0
 EndsSome old bytes said = (input output : List ℕ) → TidiedUpTo input output old → TidiedFront (input ++ bytes) (output ++ said)
+
+-- what is said at the end of the input makes the output its normal form
+abbrev pub Ends : List ℕ → List ℕ → Type 0
+Ends line said = (input output : List ℕ) → TidiedUpTo input output line → Tidied input (output ++ said)
+
+-- The output is a beginning of the normal form of the input, or of its first lines.
+abbrev pub IsBegun : List ℕ → List ℕ → Type 0
+IsBegun input output = (missing : List ℕ) × (TidiedFront input (output ++ missing) ⊎ Tidied input (output ++ missing))

@@ -1,8 +1,20 @@
-//! Puts each line of standard input in its normal form.
+//! Puts each line of standard input in its normal form, and writes it to standard output.
 #![tactic(auto)]
 
 mod line;
+mod stream;
 mod text;
 mod words;
 
-fn main(_rt: HostRuntime) {}
+use std::process::ExitCode;
+use stream::tidy;
+use tinyvec_io::Counted;
+
+fn main(rt: HostRuntime) -> ExitCode {
+    let mut reader = Counted::new(rt.stdin());
+    let mut writer = Counted::new(rt.stdout());
+    match tidy(rt.alloc(), &mut reader, &mut writer) {
+        Ok(()) => ExitCode::SUCCESS,
+        Err(_) => ExitCode::FAILURE,
+    }
+}

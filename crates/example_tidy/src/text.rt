@@ -1,7 +1,7 @@
 //! The normal form of a whole text.
-ghost use Rattle.std.specs.Prelude.{◌≡◌, ◌<◌, ◌++◌, ◌∷◌, [], List, ℕ, IfOk, OnOk, OnErr};
-ghost use Rattle.tinyvec.specs.Tiny.{tiny_items, tiny_len};
-ghost use Rattle.example_tidy.specs.Tidy.{Advances, EndsSome, Tidied, normal_line};
+ghost use Rattle.std.specs.Prelude.{◌≡◌, ◌++◌, ◌∷◌, [], List, ℕ, IfOk, OnOk, OnErr};
+ghost use Rattle.tinyvec.specs.Tiny.{tiny_items};
+ghost use Rattle.example_tidy.specs.Tidy.{Advances, Ends, EndsSome, Tidied, normal_line};
 
 use crate::line::{LineText, tidy_line};
 use std::alloc::{AllocError, Global};
@@ -18,9 +18,7 @@ pub fn tidy_text(alloc: Global, text: &[u8]) -> Result<Output, AllocError>
     let mut line = TinyVec::new(alloc);
     let mut output = TinyVec::new(alloc);
     feed(alloc, &mut line, &mut output, text)?;
-    if !line.is_empty() {
-        end_line(alloc, line.as_slice(), &mut output)?;
-    }
+    end_text(alloc, line.as_slice(), &mut output)?;
     Ok(output)
 }
 
@@ -63,11 +61,23 @@ fn feed_byte(
 }
 
 // Appends the normal form of a line and a line feed. Where memory was refused, nothing was appended.
-pub(crate) fn end_line(alloc: Global, line: &[u8], output: &mut Output) -> Result<(), AllocError>
+fn end_line(alloc: Global, line: &[u8], output: &mut Output) -> Result<(), AllocError>
     ensures ok { OnOk result (tiny_items output.new ≡ tiny_items output.old ++ (normal_line line.now ++ 10 ∷ [])) }
     ensures refused { OnErr result (tiny_items output.new ≡ tiny_items output.old) }
 {
     let mut text = tidy_line(alloc, line)?;
     text.push(b'\n')?;
     output.extend_from_slice(text.as_slice())
+}
+
+// Ends the last line, if it has bytes. Where memory was refused, nothing was appended.
+pub(crate) fn end_text(alloc: Global, line: &[u8], output: &mut Output) -> Result<(), AllocError>
+    ensures ok { OnOk result ((said : List ℕ) × (tiny_items output.new ≡ tiny_items output.old ++ said)
+        × Ends line.now said) }
+    ensures refused { OnErr result (tiny_items output.new ≡ tiny_items output.old) }
+{
+    if line.is_empty() {
+        return Ok(());
+    }
+    end_line(alloc, line, output)
 }

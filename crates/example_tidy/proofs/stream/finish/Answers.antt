@@ -1,0 +1,34 @@
+use Rattle.std.proofs.Common.{◌∙◌, [], ◌++◌, sym, subst, append-nil}
+use Rattle.std.proofs.KnownBytes.{Appends-kept}
+use Rattle.example_tidy.specs.Tidy.{Ends}
+use Rattle.example_tidy.proofs.Feeding.{ends_text}
+use Rattle.example_tidy.proofs.stream.finish.Goals as goal
+
+pub returns-in_default-write_all-clause-write : goal.returns-in_default-write_all-clause-write
+returns-in_default-write_all-clause-write g c =
+    let line = c.args.line.now in
+    let said = c.in-Ok.ensures.ok in
+    let whole = ends_text line _ _ said.0 c.new-output.ensures.items said.1 said.2 in
+    let front = c.in_default-write_all.ensures.err in
+    λ _. (front.0, front.1, front.3, subst (Ends line) (sym c.as_slice.ensures ∙ front.2) whole)
+
+pub returns-in_default-flush-clause-write : goal.returns-in_default-flush-clause-write
+returns-in_default-flush-clause-write g c =
+    let line = c.args.line.now in
+    let text = c.as_slice.result.now in
+    let said = c.in-Ok.ensures.ok in
+    let whole = ends_text line _ _ said.0 c.new-output.ensures.items said.1 said.2 in
+    λ _. (
+      text,
+      [],
+      Appends-kept _ _ _ text c.in-Ok-write_all.ensures.bytes c.in_default-flush.ensures.bytes,
+      subst (Ends line) (sym c.as_slice.ensures ∙ sym (append-nil text)) whole,
+    )
+
+pub returns-clause-ok : goal.returns-clause-ok
+returns-clause-ok g c =
+    let line = c.args.line.now in
+    let text = c.as_slice.result.now in
+    let said = c.in-Ok.ensures.ok in
+    let whole = ends_text line _ _ said.0 c.new-output.ensures.items said.1 said.2 in
+    (text, Appends-kept _ _ _ text c.in-Ok-write_all.ensures.bytes c.in-Ok-flush.ensures.bytes, subst (Ends line) (sym c.as_slice.ensures) whole)

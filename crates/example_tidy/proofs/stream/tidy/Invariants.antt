@@ -1,0 +1,17 @@
+use Rattle.std.proofs.Common.{◌≤◌, List, ℕ, length}
+use Rattle.std.specs.Io.KnownBytes.{Appends, Consumes}
+use Rattle.tinyvec.specs.Tiny.{tiny_items}
+use Rattle.example_tidy.specs.Tidy.{TidiedUpTo}
+use Rattle.example_tidy.proofs.stream.tidy.Given as goal
+
+-- what was read so far, and what was written for it
+abbrev pub invariant-loop-piece : goal.invariant-loop-piece
+invariant-loop-piece g l = record {
+  so_far : (input : List ℕ) × (output : List ℕ)
+      × Consumes (g.R.Read.remaining l.fn.reader.end) (g.R.Read.remaining l.reader.end) input
+      × Appends (g.W.Write.contents l.fn.writer.end) (g.W.Write.contents l.writer.end) output
+      × TidiedUpTo input output (tiny_items l.line)
+      × (l._piece ≤ length input);
+  read_grows : l.fn.reader.faults ≤ l.reader.faults;
+  write_grows : l.fn.writer.faults ≤ l.writer.faults;
+}

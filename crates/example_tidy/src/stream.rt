@@ -1,0 +1,147 @@
+//! A text that is read and written as its lines come.
+ghost use Rattle.std.specs.Prelude.{◌≡◌, ◌≢◌, ◌≤◌, ◌^◌, ◌-◌, ◌++◌, List, ℕ, OnOk, IsErrOf, length};
+ghost use Rattle.std.specs.Io.KnownBytes.{Appends, Consumes, IsAtEnd, Keeps};
+ghost use Rattle.tinyvec.specs.Tiny.{tiny_items};
+ghost use Rattle.tinyvec_io.specs.Counted.{Reported};
+ghost use Rattle.example_tidy.specs.Tidy.{Advances, Ends, EndsSome, IsBegun, Tidied, TidiedFront, TidiedUpTo};
+
+use crate::line::LineText;
+use crate::text::{end_text, feed};
+use std::alloc::Global;
+use std::io::{Read, Write};
+use thiserror::Error;
+use tinyvec::TinyVec;
+use tinyvec_io::Counted;
+
+// How many bytes are read at a time.
+const CHUNK: usize = 4096;
+
+/// Why a text was not read or written to its end.
+#[derive(PartialEq, Debug, Error, Drop)]
+pub enum TidyError {
+    /// The reader reported a fault.
+    #[error("cannot read input")]
+    Read,
+    /// The writer reported a fault.
+    #[error("cannot write output")]
+    Write,
+    /// Memory was refused, for a line that does not fit its place in the program.
+    #[error("out of memory")]
+    Memory,
+    /// `u64::MAX` pieces were read, and the input goes on.
+    #[error("input too long")]
+    TooLong,
+}
+
+/// Reads a text to its end, and writes its normal form. The complete lines of what has come are written before more is
+/// read, and the writer is flushed once, at the end of the input.
+pub fn tidy<R: Read, W: Write>(
+    alloc: Global,
+    reader: &mut Counted<R>,
+    writer: &mut Counted<W>,
+) -> Result<(), TidyError>
+    // All was read, and what was written is its normal form, and also its own.
+    ensures ok { OnOk result ((input output : List ℕ)
+        × Consumes (R.remaining reader.old.end) (R.remaining reader.new.end) input
+        × IsAtEnd (R.remaining reader.new.end)
+        × Appends (W.contents writer.old.end) (W.contents writer.new.end) output
+        × Tidied input output × Tidied output output) }
+
+    // What came before the fault was read, and the normal forms of its complete lines were written.
+    ensures read { IsErrOf result TidyError.Read → (input output line : List ℕ)
+        × Consumes (R.remaining reader.old.end) (R.remaining reader.new.end) input
+        × Appends (W.contents writer.old.end) (W.contents writer.new.end) output
+        × TidiedUpTo input output line }
+
+    // The normal forms of the lines before the one that memory was refused for were written.
+    ensures memory { IsErrOf result TidyError.Memory → (input output : List ℕ)
+        × Consumes (R.remaining reader.old.end) (R.remaining reader.new.end) input
+        × Appends (W.contents writer.old.end) (W.contents writer.new.end) output
+        × TidiedFront input output }
+
+    // What was written is a beginning of what was to be written.
+    ensures write { IsErrOf result TidyError.Write → (input output : List ℕ)
+        × Consumes (R.remaining reader.old.end) (R.remaining reader.new.end) input
+        × Appends (W.contents writer.old.end) (W.contents writer.new.end) output
+        × IsBegun input output }
+
+    // So long an input is not read on.
+    ensures too_long { IsErrOf result TidyError.TooLong → (input output line : List ℕ)
+        × Consumes (R.remaining reader.old.end) (R.remaining reader.new.end) input
+        × (2 ^ 64 - 1 ≤ length input)
+        × Appends (W.contents writer.old.end) (W.contents writer.new.end) output
+        × TidiedUpTo input output line }
+    ensures read_fault { IsErrOf result TidyError.Read → Reported reader.old.faults reader.new.faults }
+    ensures write_fault { IsErrOf result TidyError.Write → Reported writer.old.faults writer.new.faults }
+{
+    let mut line = TinyVec::new(alloc);
+    let mut chunk = [0; CHUNK];
+    for _piece in 0..u64::MAX {
+        let Ok(count) = reader.read_some(&mut chunk) else {
+            return Err(TidyError::Read);
+        };
+        if count == 0 {
+            return finish(alloc, line.as_slice(), writer);
+        }
+        tidy_chunk(alloc, &mut line, &chunk[..count], writer)?;
+    }
+    Err(TidyError::TooLong)
+}
+
+// Takes bytes of the input, and writes the normal forms of the lines that they end.
+fn tidy_chunk<W: Write>(
+    alloc: Global,
+    line: &mut LineText,
+    bytes: &[u8],
+    writer: &mut Counted<W>,
+) -> Result<(), TidyError>
+    ensures ok { OnOk result ((said : List ℕ) × Appends (W.contents writer.old.end) (W.contents writer.new.end) said
+        × Advances (tiny_items line.old) bytes.now said (tiny_items line.new)) }
+    ensures memory { IsErrOf result TidyError.Memory → (said : List ℕ)
+        × Appends (W.contents writer.old.end) (W.contents writer.new.end) said
+        × EndsSome (tiny_items line.old) bytes.now said }
+    ensures write { IsErrOf result TidyError.Write → (said missing : List ℕ)
+        × Appends (W.contents writer.old.end) (W.contents writer.new.end) said
+        × EndsSome (tiny_items line.old) bytes.now (said ++ missing) }
+    ensures no_read { IsErrOf result TidyError.Read → ⊥ }
+    ensures not_long { IsErrOf result TidyError.TooLong → ⊥ }
+    ensures grows { writer.old.faults ≤ writer.new.faults }
+    ensures write_fault { IsErrOf result TidyError.Write → Reported writer.old.faults writer.new.faults }
+{
+    let mut output = TinyVec::new(alloc);
+    let fed = feed(alloc, line, &mut output, bytes);
+    let Ok(()) = writer.write_all(output.as_slice()) else {
+        return Err(TidyError::Write);
+    };
+    let Ok(()) = fed else {
+        return Err(TidyError::Memory);
+    };
+    Ok(())
+}
+
+// Ends the last line, if it has bytes.
+fn finish<W: Write>(alloc: Global, line: &[u8], writer: &mut Counted<W>) -> Result<(), TidyError>
+    ensures ok { OnOk result ((said : List ℕ) × Appends (W.contents writer.old.end) (W.contents writer.new.end) said
+        × Ends line.now said) }
+    ensures memory { IsErrOf result TidyError.Memory
+        → Keeps (W.contents writer.old.end) (W.contents writer.new.end) }
+    ensures write { IsErrOf result TidyError.Write → (said missing : List ℕ)
+        × Appends (W.contents writer.old.end) (W.contents writer.new.end) said
+        × Ends line.now (said ++ missing) }
+    ensures no_read { IsErrOf result TidyError.Read → ⊥ }
+    ensures not_long { IsErrOf result TidyError.TooLong → ⊥ }
+    ensures grows { writer.old.faults ≤ writer.new.faults }
+    ensures write_fault { IsErrOf result TidyError.Write → Reported writer.old.faults writer.new.faults }
+{
+    let mut output = TinyVec::new(alloc);
+    let Ok(()) = end_text(alloc, line, &mut output) else {
+        return Err(TidyError::Memory);
+    };
+    let Ok(()) = writer.write_all(output.as_slice()) else {
+        return Err(TidyError::Write);
+    };
+    let Ok(()) = writer.flush() else {
+        return Err(TidyError::Write);
+    };
+    Ok(())
+}
