@@ -3,6 +3,8 @@
 
 mod line;
 mod stream;
+#[cfg(test)]
+mod tests;
 mod text;
 mod words;
 
