@@ -1,0 +1,4 @@
+pub mod AppendsLemmas
+pub mod Faults
+pub mod Labels
+pub mod MessageLemmas

@@ -1,0 +1,19 @@
+use Rattle.std.proofs.Common.{◌≤◌, length, All}
+use Rattle.std.specs.List.{flat_map}
+use Rattle.std.specs.Option.{option_copied}
+use Rattle.tinyvec_slice.specs.View.{spare}
+use Rattle.example_dns_query.specs.Appends.{Bytes, Appends}
+use Rattle.example_dns_query.specs.Name.{IsLabel, labels_in, label_wire}
+use Rattle.example_dns_query.proofs.query.push_labels.Given as goal
+
+-- what appends the labels that are left has appended all
+abbrev pub invariant-loop-rest : goal.invariant-loop-rest
+invariant-loop-rest l = record {
+  are_labels : All IsLabel (labels_in (option_copied l.rest));
+  room : length (flat_map label_wire (labels_in (option_copied l.rest))) ≤ length (spare l.message);
+  appends : (end : Bytes) → Appends (flat_map label_wire (labels_in (option_copied l.rest))) l.message end
+      → Appends (flat_map label_wire (labels_in (option_copied l.body))) l.initial.message end;
+}
+
+abbrev pub decreases-loop-rest : goal.decreases-loop-rest
+decreases-loop-rest l = length (flat_map label_wire (labels_in (option_copied l.rest)))

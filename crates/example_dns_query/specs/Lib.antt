@@ -1,0 +1,3 @@
+pub mod Appends
+pub mod Message
+pub mod Name
