@@ -1,4 +1,6 @@
 pub mod AppendsLemmas
 pub mod Faults
-pub mod Labels
+pub mod LineLemmas
 pub mod MessageLemmas
+pub mod NameLemmas
+pub mod PartsLemmas

@@ -1,3 +1,5 @@
 pub mod Appends
+pub mod Line
 pub mod Message
 pub mod Name
+pub mod Parts

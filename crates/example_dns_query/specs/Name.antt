@@ -1,6 +1,7 @@
 -- A name is a list of labels. How it is spelled in text, and what is wrong with it.
-use Rattle.std.specs.Prelude.{ℕ, ◌-◌, ◌<◌, ◌≤◌, ◌==◌, if◌then◌else◌, nat_lt, List, [], ◌∷◌, ◌++◌, length, take, All, Option, None, Some, slice_index}
-use Rattle.std.specs.List.{slice_split, flat_map}
+use Rattle.std.specs.Prelude.{◌⊎◌, ◌≢◌, ◌≡◌, ℕ, ◌-◌, ◌<◌, ◌≤◌, ◌==◌, if◌then◌else◌, nat_lt, List, [], ◌∷◌, ◌++◌, length, take, All, Option, None, Some, slice_index}
+use Rattle.std.specs.List.{join_with_byte, flat_map}
+use Rattle.example_dns_query.specs.Parts.{parts_left}
 use Rattle.example_dns_query.specs.declared.query.QueryError.{QueryError}
 use Rattle.example_dns_query.specs.declared.query.QueryError.TheVariants.{EmptyLabel, LongLabel}
 
@@ -18,12 +19,16 @@ body_of text = if length text == 1 then (if slice_index text 0 == 46 then None e
 
 -- the labels in such a text
 abbrev pub labels_in : Option (List ℕ) → List (List ℕ)
-labels_in None = []
-labels_in (Some body) = slice_split (λ byte. byte == 46) body
+labels_in body = parts_left 46 body
 
 -- the labels of the name that a text spells
 abbrev pub labels_of : List ℕ → List (List ℕ)
 labels_of text = labels_in (body_of text)
+
+-- the text is the labels with a dot between two, and perhaps a dot behind them. No label has a dot
+pub record Spells (text : List ℕ) (labels : List (List ℕ)) : Type 0 where
+  pub joined : (text ≡ join_with_byte 46 labels) ⊎ (text ≡ join_with_byte 46 labels ++ 46 ∷ [])
+  pub undotted : All (All (λ byte. byte ≢ 46)) labels
 
 -- a label has 1 to 63 bytes
 abbrev pub IsLabel : List ℕ → Type 0

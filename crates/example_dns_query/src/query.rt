@@ -1,13 +1,14 @@
 //! A query in a lent slice.
-ghost use Rattle.std.specs.Prelude.{◌≡◌, ◌≢◌, ◌+◌, ◌<◌, ◌≤◌, ◌↔◌, ◌++◌, ◌∷◌, [], ℕ, List, map, length, drop, ◌==◌, All, Any, IsTrue, OnOk, IfOk, OnErr, Some, None, Err, slice_get};
+ghost use Rattle.std.specs.Prelude.{◌≡◌, ◌≢◌, ◌+◌, ◌<◌, ◌≤◌, ◌↔◌, ◌++◌, ◌∷◌, [], ℕ, List, map, length, drop, ◌==◌, All, Any, IsTrue, OnOk, IfOk, IsOk, OnErr, Some, None, Err, slice_get};
 ghost use Rattle.std.specs.List.{flat_map, slice_split};
 ghost use Rattle.std.specs.Option.{option_copied};
 ghost use Rattle.tinyvec_slice.specs.View.{items, spare, name};
 ghost use Rattle.example_dns_query.specs.Appends.{Appends};
 ghost use Rattle.example_dns_query.specs.Message.{two_bytes, header, type_and_class, query};
-ghost use Rattle.example_dns_query.specs.Name.{IsPrinted, IsLabel, IsName, body_of as body_in, labels_in, labels_of, first_fault, label_wire, name_wire};
+ghost use Rattle.example_dns_query.specs.Name.{IsPrinted, IsLabel, IsName, Spells, body_of as body_in, labels_in, labels_of, first_fault, label_wire, name_wire};
 ghost use Rattle.example_dns_query.specs.declared.query.QueryError.TheVariants.{BadByte, EmptyLabel, LongLabel, LongName, Full};
 
+use crate::parts::first_part;
 use crate::record_type::{RecordType, code};
 use thiserror::Error;
 use tinyvec_slice::SliceVec;
@@ -62,18 +63,6 @@ fn push_label(message: &mut SliceVec<'_, u8>, label: &[u8])
     push_bytes(message, label);
 }
 
-// The first label of a text, and the text behind its dot.
-fn first_label(body: &[u8]) -> (&[u8], Option<&[u8]>)
-    ensures { slice_split (λ byte. byte == 46) body.now ≡ result.0.now ∷ labels_in (option_copied result.1) }
-{
-    for (index, byte) in body.iter().enumerate() {
-        if *byte == b'.' {
-            return (&body[..index], Some(&body[index + 1..]));
-        }
-    }
-    (body, None)
-}
-
 // Appends the labels of a text.
 fn push_labels(message: &mut SliceVec<'_, u8>, body: Option<&[u8]>)
     requires are_labels { All IsLabel (labels_in (option_copied body)) }
@@ -82,7 +71,7 @@ fn push_labels(message: &mut SliceVec<'_, u8>, body: Option<&[u8]>)
 {
     let mut rest = body;
     while let Some(text) = rest {
-        let (label, more) = first_label(text);
+        let (label, more) = first_part(text, b'.');
         push_label(message, label);
         rest = more;
     }
@@ -117,7 +106,7 @@ fn label_fault(body: Option<&[u8]>) -> Option<QueryError>
 {
     let mut rest = body;
     while let Some(text) = rest {
-        let (label, more) = first_label(text);
+        let (label, more) = first_part(text, b'.');
         if label.is_empty() {
             return Some(QueryError::EmptyLabel);
         }
@@ -214,7 +203,10 @@ pub fn write_query(
     ensures written { IfOk result (λ len. slice.new ≡ query id (labels_of name.now) record_type ++ drop len slice.old) }
     ensures len { IfOk result (λ len. len ≡ length (query id (labels_of name.now) record_type)) }
     ensures is_name { OnOk result (IsName name.now) }
+    ensures spelling { Spells name.now (labels_of name.now) }
     ensures unchanged { OnErr result (slice.new ≡ slice.old) }
+    ensures succeeds { IsName name.now
+        → length (query id (labels_of name.now) record_type) ≤ length slice.old → IsOk result }
 
     // When each error comes.
     ensures bad_byte { (result ≡ Err BadByte) ↔ (All IsPrinted name.now → ⊥) }

@@ -1,7 +1,7 @@
 use Rattle.std.proofs.Common.{◌∙◌, ap, sym, length}
 use Rattle.std.specs.Option.{option_copied}
 use Rattle.example_dns_query.specs.Name.{labels_in, name_wire}
-use Rattle.example_dns_query.proofs.Labels.{length-name_wire}
+use Rattle.example_dns_query.proofs.NameLemmas.{length-name_wire}
 use Rattle.example_dns_query.proofs.query.name_len.Goals as goal
 
 pub returns-in-Some : goal.returns-in-Some

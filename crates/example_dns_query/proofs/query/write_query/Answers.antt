@@ -4,6 +4,7 @@ use Rattle.example_dns_query.specs.Appends.{Appends}
 use Rattle.example_dns_query.specs.Name.{labels_of, labels_in, name_wire}
 use Rattle.example_dns_query.specs.Message.{query}
 use Rattle.example_dns_query.proofs.AppendsLemmas.{owner_sees_appended}
+use Rattle.example_dns_query.proofs.NameLemmas.{spells}
 use Rattle.example_dns_query.proofs.MessageLemmas.{length-query}
 use Rattle.example_dns_query.proofs.query.write_query.Goals as goal
 
@@ -24,3 +25,12 @@ returns-clause-written c =
     let whole : slots v ≡ wire ++ drop (length wire) old = owner_sees_appended wire old _ v made.items made.spare step in
     let seen : slots v ≡ wire ++ drop (12 + c.name_len.result + 4) old = whole ∙ ap (λ n. wire ++ drop n old) len in
     search rules
+
+pub returns-clause-spelling : goal.returns-clause-spelling
+returns-clause-spelling c = spells c.args.name.now
+
+pub returns-in_err-check_name-clause-spelling : goal.returns-in_err-check_name-clause-spelling
+returns-in_err-check_name-clause-spelling c = spells c.args.name.now
+
+pub returns-then-slice-len-clause-spelling : goal.returns-then-slice-len-clause-spelling
+returns-then-slice-len-clause-spelling c = spells c.args.name.now

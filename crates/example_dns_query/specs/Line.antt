@@ -1,0 +1,48 @@
+-- A line that asks for a query.
+use Rattle.std.specs.Prelude.{◌≡◌, ◌<◌, ◌^◌, ℕ, List, [], ◌∷◌, ◌++◌, length, drop, codes}
+use Rattle.std.specs.Str.Parse.{IsNumeral, digits_value, without_leading_plus}
+use Rattle.example_dns_query.specs.Message.{query}
+use Rattle.example_dns_query.specs.Name.{IsName, labels_of}
+use Rattle.example_dns_query.specs.Parts.{parts}
+use Rattle.example_dns_query.specs.declared.record_type.RecordType.{RecordType}
+use Rattle.example_dns_query.specs.declared.record_type.RecordType.TheVariants.{A, Ns, Cname, Soa, Ptr, Mx, Txt, Aaaa}
+
+-- the words of a line, with a blank between two
+abbrev pub words : List ℕ → List (List ℕ)
+words line = parts 32 line
+
+-- the word spells the number in decimal: perhaps a plus, and then digits
+pub record IsDecimal (word : List ℕ) (number : ℕ) : Type 0 where
+  pub numeral : IsNumeral 10 (without_leading_plus word)
+  pub value : digits_value 10 (without_leading_plus word) ≡ number
+
+-- the word spells a number of two bytes
+abbrev pub IsId : List ℕ → Type 0
+IsId word = (id : ℕ) × (id < 2 ^ 16) × IsDecimal word id
+
+-- the word for a type of record
+abbrev pub word_of : RecordType → List ℕ
+word_of A = codes "A"
+word_of Ns = codes "NS"
+word_of Cname = codes "CNAME"
+word_of Soa = codes "SOA"
+word_of Ptr = codes "PTR"
+word_of Mx = codes "MX"
+word_of Txt = codes "TXT"
+word_of Aaaa = codes "AAAA"
+
+-- the line is a number, the text of a name and the word for a type
+pub record Asks (line : List ℕ) (id : ℕ) (name : List ℕ) (record_type : RecordType) : Type 0 where
+  pub number : List ℕ
+  pub three : words line ≡ number ∷ name ∷ word_of record_type ∷ []
+  pub decimal : IsDecimal number id
+
+-- the slice begins with the query that the line asks for, which is so long, and is otherwise as it was
+pub record Answers (line old new : List ℕ) (len : ℕ) : Type 0 where
+  pub id : ℕ
+  pub name : List ℕ
+  pub record_type : RecordType
+  pub asks : Asks line id name record_type
+  pub is_name : IsName name
+  pub long : len ≡ length (query id (labels_of name) record_type)
+  pub written : new ≡ query id (labels_of name) record_type ++ drop len old
