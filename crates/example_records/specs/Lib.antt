@@ -1,0 +1,3 @@
+pub mod Sequence
+pub mod SequenceLaws
+pub mod Readings

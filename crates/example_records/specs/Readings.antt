@@ -1,0 +1,103 @@
+-- A reading: the number of a station, up to eight samples, and a note, one behind the other in the Borsh form.
+use Rattle.std.specs.Prelude.{ℕ, ◌-◌, ◌^◌, ◌<◌, ◌⊎◌, List, length}
+use Rattle.std.proofs.Common.{lit<}
+use Rattle.tinyvec_slots.specs.Slots.{items}
+use Rattle.tinyvec.specs.Tiny.{tiny_items}
+use Rattle.tinyvec_borsh.specs.Code.{IsCode}
+use Rattle.tinyvec_borsh.specs.Apart.{AreApart}
+use Rattle.tinyvec_borsh.specs.Number.{SpellsNumber}
+use Rattle.tinyvec_borsh.specs.NumberLaws.{number_apart, number_code, number_spelled}
+use Rattle.tinyvec_borsh.specs.Items.{CountsAbove, InItem, IsListCut, IsListTooLong, ListFits, SpellsList}
+use Rattle.tinyvec_borsh.specs.ItemsLaws.{list_apart, list_code, list_spelled}
+use Rattle.example_records.specs.Sequence.{SpellsBoth, BothFit, InEither}
+use Rattle.example_records.specs.SequenceLaws.{both_apart, both_code, both_spelled}
+use Rattle.example_records.specs.declared.reading.Reading.{Reading}
+
+-- what a reading says: the station, the samples and the note's bytes
+abbrev pub Said : Type 0
+Said = ℕ × (List ℕ × List ℕ)
+
+abbrev pub said : Reading → Said
+said r = (r.station, (items r.samples, tiny_items r.note))
+
+-- ---- the fields
+
+abbrev pub SpellsSamples : List ℕ → List ℕ → Type 0
+SpellsSamples = SpellsList (SpellsNumber 2)
+
+abbrev pub SpellsNote : List ℕ → List ℕ → Type 0
+SpellsNote = SpellsList (SpellsNumber 1)
+
+abbrev pub StationFits : ℕ → Type 0
+StationFits n = n < 2 ^ 32
+
+abbrev pub SamplesFit : List ℕ → Type 0
+SamplesFit = ListFits (SpellsNumber 2) (λ n. n < 2 ^ 16) 8
+
+abbrev pub NoteFits : List ℕ → Type 0
+NoteFits = ListFits (SpellsNumber 1) (λ n. n < 2 ^ 8) (2 ^ 64 - 1)
+
+-- ---- the reading
+
+-- four bytes of the station, the list of the samples, the list of the note's bytes
+abbrev pub SpellsReading : Said → List ℕ → Type 0
+SpellsReading = SpellsBoth (SpellsNumber 4) (SpellsBoth SpellsSamples SpellsNote)
+
+-- a station below 2 ^ 32, up to eight samples below 2 ^ 16, a note of bytes
+abbrev pub ReadingFits : Said → Type 0
+ReadingFits = BothFit StationFits (BothFit SamplesFit NoteFits)
+
+-- ---- what an input is that is no reading
+
+-- The input ends before the last byte of a station.
+abbrev pub IsStationCut : List ℕ → Type 0
+IsStationCut input = length input < 4
+
+abbrev pub AreSamplesCut : List ℕ → Type 0
+AreSamplesCut = IsListCut (SpellsNumber 2) (λ n. n < 2 ^ 16) (λ input. length input < 2) 8
+
+abbrev pub AreSamplesTooMany : List ℕ → Type 0
+AreSamplesTooMany = IsListTooLong (SpellsNumber 2) (λ n. n < 2 ^ 16) (λ _. ⊥) 8
+
+abbrev pub SamplesAsk : List ℕ → Type 0
+SamplesAsk = InItem (SpellsNumber 2) (λ n. n < 2 ^ 16) (λ _. ⊥) 8
+
+abbrev pub IsNoteCut : List ℕ → Type 0
+IsNoteCut = IsListCut (SpellsNumber 1) (λ n. n < 2 ^ 8) (λ input. length input < 1) (2 ^ 64 - 1)
+
+abbrev pub IsNoteTooLong : List ℕ → Type 0
+IsNoteTooLong = IsListTooLong (SpellsNumber 1) (λ n. n < 2 ^ 8) (λ _. ⊥) (2 ^ 64 - 1)
+
+-- a note of more than sixteen bytes
+abbrev pub NoteAsks : List ℕ → Type 0
+NoteAsks input = CountsAbove 16 input ⊎ InItem (SpellsNumber 1) (λ n. n < 2 ^ 8) (λ _. ⊥) (2 ^ 64 - 1) input
+
+-- The input ends before the last byte of the reading that it begins.
+abbrev pub IsReadingCut : List ℕ → Type 0
+IsReadingCut = InEither (SpellsNumber 4) StationFits IsStationCut (InEither SpellsSamples SamplesFit AreSamplesCut IsNoteCut)
+
+-- There are nine samples or more.
+abbrev pub IsReadingTooLong : List ℕ → Type 0
+IsReadingTooLong = InEither (SpellsNumber 4) StationFits (λ _. ⊥) (InEither SpellsSamples SamplesFit AreSamplesTooMany IsNoteTooLong)
+
+-- memory may be asked for
+abbrev pub ReadingAsks : List ℕ → Type 0
+ReadingAsks = InEither (SpellsNumber 4) StationFits (λ _. ⊥) (InEither SpellsSamples SamplesFit SamplesAsk NoteAsks)
+
+-- ---- the four laws, from those of the fields
+
+pub reading_code : IsCode SpellsReading
+reading_code = both_code (SpellsNumber 4) (SpellsBoth SpellsSamples SpellsNote) (number_code 4 (lit< tt))
+    (both_code SpellsSamples SpellsNote (list_code (SpellsNumber 2) (number_code 2 (lit< tt))) (list_code (SpellsNumber 1) (number_code 1 (lit< tt))))
+
+pub reading_apart : AreApart SpellsReading ReadingFits IsReadingCut IsReadingTooLong
+reading_apart =
+    let samples = list_apart (SpellsNumber 2) (number_code 2 (lit< tt)) (λ n. n < 2 ^ 16) (λ input. length input < 2) (λ _. ⊥) (number_apart 2 (λ n. n < 2 ^ 16)) 8 in
+    let note = list_apart (SpellsNumber 1) (number_code 1 (lit< tt)) (λ n. n < 2 ^ 8) (λ input. length input < 1) (λ _. ⊥) (number_apart 1 (λ n. n < 2 ^ 8)) (2 ^ 64 - 1) in
+    let behind = both_apart SpellsSamples SpellsNote (list_code (SpellsNumber 2) (number_code 2 (lit< tt))) SamplesFit NoteFits AreSamplesCut AreSamplesTooMany IsNoteCut IsNoteTooLong samples note in
+    both_apart (SpellsNumber 4) (SpellsBoth SpellsSamples SpellsNote) (number_code 4 (lit< tt)) StationFits (BothFit SamplesFit NoteFits) IsStationCut (λ _. ⊥)
+    (InEither SpellsSamples SamplesFit AreSamplesCut IsNoteCut) (InEither SpellsSamples SamplesFit AreSamplesTooMany IsNoteTooLong) (number_apart 4 StationFits) behind
+
+pub reading_spelled : (c : Said) → ReadingFits c → (bytes : List ℕ) × SpellsReading c bytes
+reading_spelled = both_spelled (SpellsNumber 4) (SpellsBoth SpellsSamples SpellsNote) StationFits (BothFit SamplesFit NoteFits) (number_spelled 4)
+    (both_spelled SpellsSamples SpellsNote SamplesFit NoteFits (list_spelled (SpellsNumber 2) (λ n. n < 2 ^ 16) (number_spelled 2) 8) (list_spelled (SpellsNumber 1) (λ n. n < 2 ^ 8) (number_spelled 1) (2 ^ 64 - 1)))
