@@ -1,1 +1,6 @@
+pub mod CutStreams
+pub mod FrameLaws
+pub mod Frames
 pub mod Sequence
+pub mod SoFar
+pub mod WholeStreams

@@ -1,3 +1,5 @@
+pub mod Errors
+pub mod Readings
 pub mod Sequence
 pub mod SequenceLaws
-pub mod Readings
+pub mod Stream

@@ -2,5 +2,7 @@
 #![tactic(auto)]
 
 mod reading;
+mod stream;
+mod stream_error;
 
 fn main(_rt: HostRuntime) {}

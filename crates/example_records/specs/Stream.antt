@@ -1,0 +1,85 @@
+-- A stream: records one behind the other, each behind a tag.
+use Rattle.std.specs.Prelude.{◌≡◌, ◌≢◌, ℕ, ◌^◌, ◌<◌, List, [], ◌∷◌, ◌++◌, Option, None, Some, Ok, Err, Result}
+use Rattle.tinyvec_io.specs.Counted.{Reported}
+use Rattle.tinyvec_borsh.specs.Items.{HasTooMany, SpellsItems}
+use Rattle.tinyvec_borsh.specs.Number.{SpellsNumber}
+use Rattle.tinyvec_borsh.specs.Reading.{MayBe, Takes}
+use Rattle.example_records.specs.Sequence.{IsBehind}
+use Rattle.example_records.specs.Readings.{IsReadingCut, ReadingFits, Said, SpellsReading, StationFits, said}
+use Rattle.example_records.specs.declared.reading.Reading.{Reading}
+use Rattle.example_records.specs.declared.stream_error.StreamError.{StreamError}
+use Rattle.example_records.specs.declared.stream_error.StreamError.TheVariants.{Cut, Io, Memory, TooManySamples, WrongTag}
+
+-- the byte before each record: the letter R
+abbrev pub tag : ℕ
+tag = 82
+
+-- the tag, and then the record
+abbrev pub SpellsFrame : Said → List ℕ → Type 0
+SpellsFrame c bytes = (reading : List ℕ) × SpellsReading c reading × (bytes ≡ tag ∷ reading)
+
+-- the records in order, one behind the other, and nothing else
+abbrev pub SpellsStream : List Said → List ℕ → Type 0
+SpellsStream = SpellsItems SpellsFrame
+
+-- The input has a tag, and is so behind it.
+abbrev pub IsTagged : (List ℕ → Type 0) → List ℕ → Type 0
+IsTagged P input = (rest : List ℕ) × (input ≡ tag ∷ rest) × P rest
+
+-- a station, a count above eight, and nine samples
+abbrev pub HasTooManySamples : List ℕ → Type 0
+HasTooManySamples = IsBehind (SpellsNumber 4) StationFits (HasTooMany (SpellsNumber 2) (λ n. n < 2 ^ 16) 8)
+
+-- What stands behind the last record, where it is the input that ended the reading: no byte; a record that is cut behind its
+-- tag; another byte in the place of the tag; a record with more samples than there is room for.
+abbrev pub IsEnd : Result (Unit {0}) StreamError → List ℕ → Type 0
+IsEnd (Ok done) tail = tail ≡ []
+IsEnd (Err Cut) tail = IsTagged IsReadingCut tail
+IsEnd (Err WrongTag) tail = (byte : ℕ) × (rest : List ℕ) × (byte ≢ tag) × (tail ≡ byte ∷ rest)
+IsEnd (Err TooManySamples) tail = IsTagged HasTooManySamples tail
+IsEnd (Err Io) tail = ⊥
+IsEnd (Err Memory) tail = ⊥
+
+-- What stands behind the last record that was read. Of a fault of the reader nothing is known, and where memory was refused
+-- there is a further tag.
+abbrev pub StandsBehind : Result (Unit {0}) StreamError → List ℕ → Type 0
+StandsBehind (Ok done) tail = IsEnd (Ok done) tail
+StandsBehind (Err Cut) tail = IsEnd (Err Cut) tail
+StandsBehind (Err WrongTag) tail = IsEnd (Err WrongTag) tail
+StandsBehind (Err TooManySamples) tail = IsEnd (Err TooManySamples) tail
+StandsBehind (Err Io) tail = Unit {0}
+StandsBehind (Err Memory) tail = IsTagged (λ rest. Unit {0}) tail
+
+-- The input begins with these records, and is so behind them.
+abbrev pub BeginsWith : List Said → (List ℕ → Type 0) → List ℕ → Type 0
+BeginsWith cs P input = (bytes tail : List ℕ) × SpellsStream cs bytes × (input ≡ bytes ++ tail) × P tail
+
+-- A record was taken from the front of the input, or none, and then the input stands as the answer says.
+abbrev pub NextIs : (old new : Option (List ℕ)) → Result (Option Reading) StreamError → Type 0
+NextIs old new (Ok (Some reading)) = Takes (SpellsFrame (said reading)) old new × ReadingFits (said reading)
+NextIs old new (Ok None) = MayBe old (StandsBehind (Ok tt))
+NextIs old new (Err error) = MayBe old (StandsBehind (Err error))
+
+-- The records that were read are the first ones of these.
+abbrev pub AreFirst : (read cs : List Said) → Type 0
+AreFirst read cs = (more : List Said) × (cs ≡ read ++ more)
+
+-- Just these records were read, and this end was told; or the reader reported a fault, or memory was refused, and the first
+-- ones were read.
+abbrev pub Gives : List Said → Result (Unit {0}) StreamError → (before after : ℕ) → List Said → Result (Unit {0}) StreamError → Type 0
+Gives cs end before after read (Ok done) = (read ≡ cs) × (end ≡ Ok done)
+Gives cs end before after read (Err Cut) = (read ≡ cs) × (end ≡ Err Cut)
+Gives cs end before after read (Err WrongTag) = (read ≡ cs) × (end ≡ Err WrongTag)
+Gives cs end before after read (Err TooManySamples) = (read ≡ cs) × (end ≡ Err TooManySamples)
+Gives cs end before after read (Err Io) = AreFirst read cs × Reported before after
+Gives cs end before after read (Err Memory) = AreFirst read cs
+
+-- The records before the cut were read. The end is told as a clean one only where no byte stands behind them, and `Cut` only
+-- where a record was cut.
+abbrev pub GivesCut : List Said → (front : List ℕ) → (before after : ℕ) → List Said → Result (Unit {0}) StreamError → Type 0
+GivesCut cs front before after read (Ok done) = AreFirst read cs × SpellsStream read front
+GivesCut cs front before after read (Err Cut) = AreFirst read cs × BeginsWith read (IsTagged IsReadingCut) front
+GivesCut cs front before after read (Err WrongTag) = ⊥
+GivesCut cs front before after read (Err TooManySamples) = ⊥
+GivesCut cs front before after read (Err Io) = AreFirst read cs × Reported before after
+GivesCut cs front before after read (Err Memory) = AreFirst read cs

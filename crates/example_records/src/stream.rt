@@ -1,0 +1,105 @@
+//! A stream of records: a tag before each, and no byte behind the last.
+ghost use Rattle.std.specs.Prelude.{◌≡◌, ◌≤◌, ◌++◌, ℕ, List, Result, Some, IfErr, OnOk, IsErrOf, map};
+ghost use Rattle.std.specs.List.{AllByRecursion};
+ghost use Rattle.tinyvec_io.specs.Counted.{Reported};
+ghost use Rattle.tinyvec_borsh.specs.Reading.{MayBe, Takes};
+ghost use Rattle.tinyvec_borsh.specs.Writing.{Adds};
+ghost use Rattle.example_records.specs.Readings.{ReadingFits, Said, said};
+ghost use Rattle.example_records.specs.Stream.{BeginsWith, Gives, GivesCut, IsEnd, NextIs, SpellsFrame, SpellsStream, StandsBehind};
+ghost use Rattle.example_records.specs.declared.stream_error.StreamError.{StreamError};
+
+use crate::reading::Reading;
+use crate::stream_error::StreamError;
+use std::alloc::Global;
+use std::io::{Read, Write};
+use tinyvec_borsh::{BorshDeserialize, BorshError, BorshSerialize};
+use tinyvec_io::Counted;
+
+/// The byte before each record: the letter R.
+pub const TAG: u8 = b'R';
+
+/// Appends a record to the stream.
+pub fn append<W: Write>(record: &Reading, writer: &mut Counted<W>) -> Result<(), BorshError>
+    ensures ok { OnOk result (Adds (SpellsFrame (said record.now))
+        (W.contents writer.old.end) (W.contents writer.new.end)) }
+    ensures fits { OnOk result (ReadingFits (said record.now)) }
+    ensures err { IfErr result (λ e. (e ≡ BorshError.Io) × Reported writer.old.faults writer.new.faults) }
+    ensures grows { writer.old.faults ≤ writer.new.faults }
+{
+    TAG.serialize(writer)?;
+    record.serialize(writer)
+}
+
+/// What was read of a stream.
+#[derive(Debug, Drop)]
+pub struct Recovered {
+    /// The records, in order.
+    pub records: Vec<Reading>,
+    /// `Ok` where no byte stands behind them, else what stands there, or why no more was read.
+    pub end: Result<(), StreamError>,
+}
+
+/// Reads the records of a stream up to its end, or up to what is no record.
+pub fn read_all<R: Read>(alloc: Global, reader: &mut Counted<R>) -> Recovered
+    // What was read stands at the front of the input, in order, and behind it stands what the end says.
+    ensures stands { MayBe (R.remaining reader.old.end)
+        (BeginsWith (map said result.records.items) (StandsBehind result.end)) }
+    ensures fit { AllByRecursion ReadingFits (map said result.records.items) }
+    ensures fault { IsErrOf result.end StreamError.Io → Reported reader.old.faults reader.new.faults }
+
+    // Records that stand at the front of the input are read, each of them, and how they end is told.
+    ensures all { (cs : List Said) (bytes tail : List ℕ) (end : Result (Unit {0}) StreamError)
+        → AllByRecursion ReadingFits cs → SpellsStream cs bytes → IsEnd end tail
+        → R.remaining reader.old.end ≡ Some (bytes ++ tail)
+        → Gives cs end reader.old.faults reader.new.faults (map said result.records.items) result.end }
+
+    // Of a stream that is cut after any byte, the records before the cut are read.
+    ensures cut { (cs : List Said) (front back : List ℕ)
+        → AllByRecursion ReadingFits cs → SpellsStream cs (front ++ back)
+        → R.remaining reader.old.end ≡ Some front
+        → GivesCut cs front reader.old.faults reader.new.faults (map said result.records.items) result.end }
+{
+    let mut records = Vec::new(alloc);
+    let end = read_records(alloc, &mut records, reader);
+    Recovered { records, end }
+}
+
+// Reads records behind those that are there.
+fn read_records<R: Read>(
+    alloc: Global,
+    records: &mut Vec<Reading>,
+    reader: &mut Counted<R>,
+) -> Result<(), StreamError>
+    ensures stands { (more : List Reading) × (records.new.items ≡ records.old.items ++ more)
+        × AllByRecursion ReadingFits (map said more)
+        × MayBe (R.remaining reader.old.end) (BeginsWith (map said more) (StandsBehind result)) }
+    ensures fault { IsErrOf result StreamError.Io → Reported reader.old.faults reader.new.faults }
+{
+    while let Some(record) = read_next(alloc, reader)? {
+        let Ok(()) = records.push(record) else {
+            return Err(StreamError::Memory);
+        };
+    }
+    Ok(())
+}
+
+// Reads the next record, or none where no byte is left.
+fn read_next<R: Read>(
+    alloc: Global,
+    reader: &mut Counted<R>,
+) -> Result<Option<Reading>, StreamError>
+    ensures next { NextIs (R.remaining reader.old.end) (R.remaining reader.new.end) result }
+    ensures fault { IsErrOf result StreamError.Io → Reported reader.old.faults reader.new.faults }
+    ensures grows { reader.old.faults ≤ reader.new.faults }
+{
+    let tag = match u8::deserialize_reader(alloc, reader) {
+        Ok(tag) => tag,
+        Err(BorshError::Ended) => return Ok(None),
+        Err(error) => return Err(StreamError::from(error)),
+    };
+    if tag != TAG {
+        return Err(StreamError::WrongTag);
+    }
+    let record = Reading::deserialize_reader(alloc, reader)?;
+    Ok(Some(record))
+}
