@@ -9,7 +9,7 @@ use Rattle.tinyvec_borsh.specs.Items.{SpellsItems}
 use Rattle.tinyvec_borsh.specs.ItemsLaws.{next-item, same-item, same-items}
 use Rattle.tinyvec_borsh.specs.Reading.{MayBe}
 use Rattle.example_records.specs.Readings.{ReadingFits, Said}
-use Rattle.example_records.specs.Stream.{AreFirst, BeginsWith, Gives, IsEnd, SpellsFrame, SpellsStream, StandsBehind}
+use Rattle.example_records.specs.Stream.{AreFirst, BeginsWith, Gives, IsCopy, IsEnd, SpellsFrame, SpellsStream, StandsBehind}
 use Rattle.example_records.specs.declared.stream_error.StreamError.{StreamError}
 use Rattle.example_records.specs.declared.stream_error.StreamError.TheVariants.{Cut, Io, Memory, TooManySamples, WrongTag}
 use Rattle.example_records.proofs.FrameLaws.{frame_code, no-frame, one-end}
@@ -70,3 +70,12 @@ module _ (before after : ℕ) (cs read : List Said) (fit_cs : AllByRecursion Rea
   pub gives-all : (end given : Result (Unit {0}) StreamError) (old : Option (List ℕ)) (bytes tail : List ℕ) → SpellsStream cs bytes → IsEnd end tail → old ≡ Some (bytes ++ tail)
       → (IsErrOf given Io → Reported before after) → MayBe old (BeginsWith read (StandsBehind given)) → Gives cs end before after read given
   gives-all end given old bytes tail p is known fault may = gives-known end given bytes tail p is fault (subst (λ o. MayBe o (BeginsWith read (StandsBehind given))) known may)
+
+-- a whole stream is copied
+pub copy-of : (before after : ℕ) (cs read : List Said) (given : Result (Unit {0}) StreamError) → Gives cs (Ok tt) before after read given → IsCopy cs read given
+copy-of before after cs read (Ok done) g = g.0
+copy-of before after cs read (Err Cut) g = cc
+copy-of before after cs read (Err WrongTag) g = cc
+copy-of before after cs read (Err TooManySamples) g = cc
+copy-of before after cs read (Err Io) g = g.0
+copy-of before after cs read (Err Memory) g = g

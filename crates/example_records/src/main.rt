@@ -1,8 +1,23 @@
-//! Records in a stream.
+//! Keeps a stream of records in memory: adds to it, cuts it and reads it, by commands on standard input.
 #![tactic(auto)]
 
+mod command;
+mod length;
 mod reading;
 mod stream;
 mod stream_error;
+#[cfg(test)]
+mod tests;
 
-fn main(_rt: HostRuntime) {}
+use std::io;
+
+fn main(rt: HostRuntime) -> io::Result<()> {
+    let mut bytes = Vec::new(rt.alloc());
+    for line in rt.lines(rt.alloc()) {
+        match command::run(rt.alloc(), line?.as_str(), &mut bytes) {
+            Ok(text) => println!(rt; "{text}")?,
+            Err(error) => println!(rt; "refused: {error}")?,
+        }
+    }
+    Ok(())
+}

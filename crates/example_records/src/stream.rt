@@ -1,11 +1,12 @@
 //! A stream of records: a tag before each, and no byte behind the last.
-ghost use Rattle.std.specs.Prelude.{◌≡◌, ◌≤◌, ◌++◌, ℕ, List, Result, Some, IfErr, OnOk, IsErrOf, map};
+ghost use Rattle.std.specs.Prelude.{◌≡◌, ◌≤◌, ◌++◌, ℕ, List, Result, Some, IfErr, IfOk, OnOk, IsErrOf, map};
 ghost use Rattle.std.specs.List.{AllByRecursion};
 ghost use Rattle.tinyvec_io.specs.Counted.{Reported};
 ghost use Rattle.tinyvec_borsh.specs.Reading.{MayBe, Takes};
 ghost use Rattle.tinyvec_borsh.specs.Writing.{Adds};
 ghost use Rattle.example_records.specs.Readings.{ReadingFits, Said, said};
-ghost use Rattle.example_records.specs.Stream.{BeginsWith, Gives, GivesCut, IsEnd, NextIs, SpellsFrame, SpellsStream, StandsBehind};
+ghost use Rattle.example_records.specs.Stream.{BeginsWith, Gives, GivesCut, IsCopy, IsEnd, NextIs, SpellsFrame};
+ghost use Rattle.example_records.specs.Stream.{SpellsStream, StandsBehind};
 ghost use Rattle.example_records.specs.declared.stream_error.StreamError.{StreamError};
 
 use crate::reading::Reading;
@@ -19,15 +20,29 @@ use tinyvec_io::Counted;
 pub const TAG: u8 = b'R';
 
 /// Appends a record to the stream.
-pub fn append<W: Write>(record: &Reading, writer: &mut Counted<W>) -> Result<(), BorshError>
-    ensures ok { OnOk result (Adds (SpellsFrame (said record.now))
+pub fn append<W: Write>(reading: &Reading, writer: &mut Counted<W>) -> Result<(), BorshError>
+    ensures ok { OnOk result (Adds (SpellsFrame (said reading.now))
         (W.contents writer.old.end) (W.contents writer.new.end)) }
-    ensures fits { OnOk result (ReadingFits (said record.now)) }
+    ensures fits { OnOk result (ReadingFits (said reading.now)) }
     ensures err { IfErr result (λ e. (e ≡ BorshError.Io) × Reported writer.old.faults writer.new.faults) }
     ensures grows { writer.old.faults ≤ writer.new.faults }
 {
     TAG.serialize(writer)?;
-    record.serialize(writer)
+    reading.serialize(writer)
+}
+
+/// Appends records to the stream, in order.
+pub fn append_all<W: Write>(readings: &[Reading], writer: &mut Counted<W>) -> Result<(), BorshError>
+    ensures ok { OnOk result (Adds (SpellsStream (map said readings.now))
+        (W.contents writer.old.end) (W.contents writer.new.end)) }
+    ensures fit { OnOk result (AllByRecursion ReadingFits (map said readings.now)) }
+    ensures err { IfErr result (λ e. (e ≡ BorshError.Io) × Reported writer.old.faults writer.new.faults) }
+    ensures grows { writer.old.faults ≤ writer.new.faults }
+{
+    for reading in readings {
+        append(reading, writer)?;
+    }
+    Ok(())
 }
 
 /// What was read of a stream.
@@ -64,6 +79,17 @@ pub fn read_all<R: Read>(alloc: Global, reader: &mut Counted<R>) -> Recovered
     Recovered { records, end }
 }
 
+/// Appends the records to a new stream, and reads that. What is read is what was written, in order.
+pub fn copied(alloc: Global, readings: &[Reading]) -> Result<Recovered, BorshError>
+    ensures { IfOk result (λ copy. IsCopy (map said readings.now) (map said copy.records.items) copy.end) }
+{
+    let mut writer = Counted::new(Vec::new(alloc));
+    append_all(readings, &mut writer)?;
+    let bytes = writer.into_inner();
+    let mut reader = Counted::new(bytes.as_slice());
+    Ok(read_all(alloc, &mut reader))
+}
+
 // Reads records behind those that are there.
 fn read_records<R: Read>(
     alloc: Global,
@@ -75,8 +101,8 @@ fn read_records<R: Read>(
         × MayBe (R.remaining reader.old.end) (BeginsWith (map said more) (StandsBehind result)) }
     ensures fault { IsErrOf result StreamError.Io → Reported reader.old.faults reader.new.faults }
 {
-    while let Some(record) = read_next(alloc, reader)? {
-        let Ok(()) = records.push(record) else {
+    while let Some(reading) = read_next(alloc, reader)? {
+        let Ok(()) = records.push(reading) else {
             return Err(StreamError::Memory);
         };
     }
@@ -100,6 +126,6 @@ fn read_next<R: Read>(
     if tag != TAG {
         return Err(StreamError::WrongTag);
     }
-    let record = Reading::deserialize_reader(alloc, reader)?;
-    Ok(Some(record))
+    let reading = Reading::deserialize_reader(alloc, reader)?;
+    Ok(Some(reading))
 }

@@ -6,10 +6,10 @@ use Rattle.example_records.proofs.stream.read_next.Goals as goal
 pub returns-then-tag-ne-TAG-clause-next : goal.returns-then-tag-ne-TAG-clause-next
 returns-then-tag-ne-TAG-clause-next g c = wrong-tag c.in-Ok.tag _ _ c.in-Ok.ensures.ok (search rules)
 
-pub returns-in_err-record-clause-next : goal.returns-in_err-record-clause-next
-returns-in_err-record-clause-next g c =
+pub returns-in_err-reading-clause-next : goal.returns-in_err-reading-clause-next
+returns-in_err-reading-clause-next g c =
     let p = err_from_is_err_and c.from_residual.result c.from_residual.ensures.1 in
-    rw (p.1, p.2) (record-fails c.in-Ok.tag _ _ c.in-Ok.ensures.ok (search rules) _ _ _ c.in_err-record.ensures.err)
+    rw (p.1, p.2) (record-fails c.in-Ok.tag _ _ c.in-Ok.ensures.ok (search rules) _ _ _ c.in_err-reading.ensures.err)
 
 pub returns-clause-next : goal.returns-clause-next
-returns-clause-next g c = (takes-frame c.in-Ok.tag _ _ c.in-Ok.ensures.ok (search rules) _ _ c.in_ok-record.ensures.ok, c.in_ok-record.ensures.fits)
+returns-clause-next g c = (takes-frame c.in-Ok.tag _ _ c.in-Ok.ensures.ok (search rules) _ _ c.in_ok-reading.ensures.ok, c.in_ok-reading.ensures.fits)

@@ -3,22 +3,22 @@ use Rattle.std.proofs.lemmas.Result.{err_from_is_err_and}
 use Rattle.example_records.proofs.SoFar.{ended, next-some, not-kept, one-more}
 use Rattle.example_records.proofs.stream.read_records.Goals as goal
 
-pub returns-in_err-record-clause-stands : goal.returns-in_err-record-clause-stands
-returns-in_err-record-clause-stands g c =
+pub returns-in_err-reading-clause-stands : goal.returns-in_err-reading-clause-stands
+returns-in_err-reading-clause-stands g c =
     let p = err_from_is_err_and c.from_residual.result c.from_residual.ensures.1 in
-    rw (p.1, p.2) (ended _ _ _ _ _ c.loop-record.invariant.read c.in_err-record.ensures.next)
+    rw (p.1, p.2) (ended _ _ _ _ _ c.loop-reading.invariant.read c.in_err-reading.ensures.next)
 
-pub loop-record-preserved : goal.loop-record-preserved
-loop-record-preserved g c =
-    let next = next-some _ _ _ c.in-Some.record c.in-Some.is c.in_ok-record.ensures.next in
-    let pushed : c.push.new.self.items ≡ c.loop-record.records.items ++ c.in-Some.record ∷ [] = search rules in
+pub loop-reading-preserved : goal.loop-reading-preserved
+loop-reading-preserved g c =
+    let next = next-some _ _ _ c.in-Some.reading c.in-Some.is c.in_ok-reading.ensures.next in
+    let pushed : c.push.new.self.items ≡ c.loop-reading.records.items ++ c.in-Some.reading ∷ [] = search rules in
     record {
-      read = one-more _ _ _ c.in-Some.record _ _ _ c.loop-record.invariant.read next.0 next.1 pushed;
+      read = one-more _ _ _ c.in-Some.reading _ _ _ c.loop-reading.invariant.read next.0 next.1 pushed;
       grows = omega arith;
     }
 
 pub returns-in_default-push-clause-stands : goal.returns-in_default-push-clause-stands
 returns-in_default-push-clause-stands g c =
-    let next = next-some _ _ _ c.in-Some.record c.in-Some.is c.in_ok-record.ensures.next in
-    let same : c.push.new.self.items ≡ c.loop-record.records.items = search rules in
-    rw same (ended _ _ _ _ _ c.loop-record.invariant.read (not-kept c.in-Some.record _ _ next.0))
+    let next = next-some _ _ _ c.in-Some.reading c.in-Some.is c.in_ok-reading.ensures.next in
+    let same : c.push.new.self.items ≡ c.loop-reading.records.items = search rules in
+    rw same (ended _ _ _ _ _ c.loop-reading.invariant.read (not-kept c.in-Some.reading _ _ next.0))

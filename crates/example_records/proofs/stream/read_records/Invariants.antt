@@ -3,12 +3,12 @@ use Rattle.example_records.proofs.SoFar.{ReadSoFar}
 use Rattle.example_records.proofs.stream.read_records.Given as goal
 
 -- the records so far were read
-abbrev pub invariant-loop-record : goal.invariant-loop-record
-invariant-loop-record g l = record {
+abbrev pub invariant-loop-reading : goal.invariant-loop-reading
+invariant-loop-reading g l = record {
   read : ReadSoFar l.fn.records.items l.records.items (g.R.Read.remaining l.fn.reader.end) (g.R.Read.remaining l.reader.end);
   grows : l.fn.reader.faults ≤ l.reader.faults;
 }
 
 -- no vector has so many items
-abbrev pub decreases-loop-record : goal.decreases-loop-record
-decreases-loop-record g l = 2 ^ 64 - length l.records.items
+abbrev pub decreases-loop-reading : goal.decreases-loop-reading
+decreases-loop-reading g l = 2 ^ 64 - length l.records.items

@@ -1,0 +1,14 @@
+use Rattle.std.proofs.Common.{◌≤◌, map, take}
+use Rattle.std.specs.List.{AllByRecursion}
+use Rattle.tinyvec_borsh.proofs.ItemByItem.{WroteItems}
+use Rattle.example_records.specs.Readings.{ReadingFits, said}
+use Rattle.example_records.specs.Stream.{SpellsFrame}
+use Rattle.example_records.proofs.stream.append_all.Given as goal
+
+-- the records so far were written
+abbrev pub invariant-loop-reading : goal.invariant-loop-reading
+invariant-loop-reading g l = record {
+  wrote : WroteItems SpellsFrame (map said (take l.reading-index l.readings)) (g.W.Write.contents l.fn.writer.end) (g.W.Write.contents l.writer.end);
+  fit : AllByRecursion ReadingFits (map said (take l.reading-index l.readings));
+  grows : l.fn.writer.faults ≤ l.writer.faults;
+}

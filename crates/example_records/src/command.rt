@@ -1,0 +1,158 @@
+//! The commands of the program.
+
+use crate::length::stream_len;
+use crate::reading::Reading;
+use crate::stream::{Recovered, append, read_all};
+use std::alloc::{AllocError, Global};
+use thiserror::Error;
+use tinyvec::{ArrayVec, TinyVec};
+use tinyvec_io::Counted;
+
+/// Why a command was not carried out. The stream is as it was.
+#[derive(Debug, Clone, Copy, PartialEq, Eq, Error)]
+pub enum CommandError {
+    /// There is no such command.
+    #[error("no command: add, hex, cut and read are")]
+    Unknown,
+    /// The station is no number that fits a `u32`.
+    #[error("no station")]
+    Station,
+    /// The samples are no list of up to eight numbers that fit a `u16`.
+    #[error("no list of up to eight samples")]
+    Samples,
+    /// There are no pairs of digits in hex.
+    #[error("no bytes in hex")]
+    Hex,
+    /// The length is no number, or is above that of the stream.
+    #[error("no length within the stream")]
+    Length,
+    /// Memory was refused.
+    #[error("out of memory")]
+    Memory(#[from(alloc)] AllocError),
+}
+
+/// Carries out the command on a line, and answers with text.
+pub fn run(alloc: Global, line: &str, stream: &mut Vec<u8>) -> Result<String, CommandError> {
+    let (word, rest) = line.split_once(' ').unwrap_or((line, ""));
+    match word {
+        "add" => add(alloc, rest, stream)?,
+        "hex" => stream.extend_from_slice(bytes_of_hex(alloc, rest)?.as_slice())?,
+        "cut" => cut(rest, stream)?,
+        "read" => return Ok(shown(alloc, stream.as_slice())?),
+        _ => return Err(CommandError::Unknown),
+    }
+    Ok(format!(in alloc; "{} bytes", stream.len())?)
+}
+
+// The record is spelled apart first, so that no part of one is left in the stream where memory is refused.
+fn add(alloc: Global, text: &str, stream: &mut Vec<u8>) -> Result<(), CommandError> {
+    let reading = parse_reading(alloc, text)?;
+    let mut writer = Counted::new(Vec::new(alloc));
+    let Ok(()) = append(&reading, &mut writer) else {
+        return Err(CommandError::Memory(AllocError));
+    };
+    stream.extend_from_slice(writer.into_inner().as_slice())?;
+    Ok(())
+}
+
+// `STATION SAMPLE,SAMPLE,.. NOTE`, or `STATION - NOTE` for no samples.
+fn parse_reading(alloc: Global, text: &str) -> Result<Reading, CommandError> {
+    let (station, rest) = text.split_once(' ').unwrap_or((text, ""));
+    let (samples, note) = rest.split_once(' ').unwrap_or((rest, ""));
+    let Ok(station) = station.parse::<u32>() else {
+        return Err(CommandError::Station);
+    };
+    Ok(Reading {
+        station,
+        samples: parse_samples(samples)?,
+        note: TinyVec::from_slice(alloc, note.as_bytes())?,
+    })
+}
+
+fn parse_samples(text: &str) -> Result<ArrayVec<[u16; 8]>, CommandError> {
+    let mut samples = ArrayVec::new();
+    if text == "-" {
+        return Ok(samples);
+    }
+    for part in text.split(',') {
+        let Ok(sample) = part.parse::<u16>() else {
+            return Err(CommandError::Samples);
+        };
+        if samples.try_push(sample).is_some() {
+            return Err(CommandError::Samples);
+        }
+    }
+    Ok(samples)
+}
+
+fn bytes_of_hex(alloc: Global, text: &str) -> Result<Vec<u8>, CommandError> {
+    let mut bytes = Vec::new(alloc);
+    let mut high = None;
+    for digit in text.bytes() {
+        let value = hex_value(digit)?;
+        match high {
+            None => high = Some(value),
+            Some(before) => {
+                bytes.push(before << 4 | value)?;
+                high = None;
+            }
+        }
+    }
+    match high {
+        None => Ok(bytes),
+        Some(_) => Err(CommandError::Hex),
+    }
+}
+
+fn hex_value(digit: u8) -> Result<u8, CommandError> {
+    match digit {
+        b'0'..=b'9' => Ok(digit - b'0'),
+        b'a'..=b'f' => Ok(digit - b'a' + 10),
+        _ => Err(CommandError::Hex),
+    }
+}
+
+fn cut(text: &str, stream: &mut Vec<u8>) -> Result<(), CommandError> {
+    match text.parse::<usize>() {
+        Ok(len) if len <= stream.len() => {
+            stream.truncate(len);
+            Ok(())
+        }
+        _ => Err(CommandError::Length),
+    }
+}
+
+// The records, a line each, and then how the stream ends.
+fn shown(alloc: Global, stream: &[u8]) -> Result<String, AllocError> {
+    let mut reader = Counted::new(stream);
+    let recovered = read_all(alloc, &mut reader);
+    let mut text = String::new(alloc);
+    for reading in &recovered.records {
+        let line = shown_reading(alloc, reading)?;
+        text.push_str(line.as_str())?;
+    }
+    let end = shown_end(alloc, &recovered)?;
+    text.push_str(end.as_str())?;
+    Ok(text)
+}
+
+fn shown_reading(alloc: Global, reading: &Reading) -> Result<String, AllocError> {
+    let station = reading.station;
+    let samples = &reading.samples;
+    match str::from_utf8(reading.note.as_slice()) {
+        Ok(note) => format!(in alloc; "{station} {samples:?} {note:?}\n"),
+        Err(_) => {
+            let note = &reading.note;
+            format!(in alloc; "{station} {samples:?} {note:?}\n")
+        }
+    }
+}
+
+// Where the records end, and why no more were read.
+fn shown_end(alloc: Global, recovered: &Recovered) -> Result<String, AllocError> {
+    let len = stream_len(recovered.records.as_slice());
+    match recovered.end {
+        Ok(()) => format!(in alloc; "end after {len} bytes"),
+        Err(error) => format!(in alloc; "end after {len} bytes: {error}"),
+    }
+}
