@@ -1,8 +1,9 @@
 //! The commands of the program.
+ghost use Rattle.std.specs.Prelude.{◌≡◌, IfOk, IsSome, OnErr};
 
 use crate::length::stream_len;
 use crate::reading::Reading;
-use crate::stream::{Recovered, append, read_all};
+use crate::stream::{Recovered, append_to, read_all};
 use std::alloc::{AllocError, Global};
 use thiserror::Error;
 use tinyvec::{ArrayVec, TinyVec};
@@ -31,28 +32,39 @@ pub enum CommandError {
     Memory(#[from(alloc)] AllocError),
 }
 
-/// Carries out the command on a line, and answers with text.
-pub fn run(alloc: Global, line: &str, stream: &mut Vec<u8>) -> Result<String, CommandError> {
+/// Carries out the command on a line. Answers what was read where the command is to read.
+pub fn run(
+    alloc: Global,
+    line: &str,
+    stream: &mut Vec<u8>,
+) -> Result<Option<Recovered>, CommandError>
+    ensures refused { OnErr result (stream.new.items ≡ stream.old.items) }
+    ensures read { IfOk result (λ answer. IsSome answer → stream.new.items ≡ stream.old.items) }
+{
     let (word, rest) = line.split_once(' ').unwrap_or((line, ""));
     match word {
-        "add" => add(alloc, rest, stream)?,
+        "add" => append_to(alloc, &parse_reading(alloc, rest)?, stream)?,
         "hex" => stream.extend_from_slice(bytes_of_hex(alloc, rest)?.as_slice())?,
         "cut" => cut(rest, stream)?,
-        "read" => return Ok(shown(alloc, stream.as_slice())?),
+        "read" => {
+            let mut reader = Counted::new(stream.as_slice());
+            return Ok(Some(read_all(alloc, &mut reader)));
+        }
         _ => return Err(CommandError::Unknown),
     }
-    Ok(format!(in alloc; "{} bytes", stream.len())?)
+    Ok(None)
 }
 
-// The record is spelled apart first, so that no part of one is left in the stream where memory is refused.
-fn add(alloc: Global, text: &str, stream: &mut Vec<u8>) -> Result<(), CommandError> {
-    let reading = parse_reading(alloc, text)?;
-    let mut writer = Counted::new(Vec::new(alloc));
-    let Ok(()) = append(&reading, &mut writer) else {
-        return Err(CommandError::Memory(AllocError));
-    };
-    stream.extend_from_slice(writer.into_inner().as_slice())?;
-    Ok(())
+/// The records, a line each, and then where they end, and why no more were read.
+pub fn shown(alloc: Global, recovered: &Recovered) -> Result<String, AllocError> {
+    let mut text = String::new(alloc);
+    for reading in &recovered.records {
+        let line = shown_reading(alloc, reading)?;
+        text.push_str(line.as_str())?;
+    }
+    let end = shown_end(alloc, recovered)?;
+    text.push_str(end.as_str())?;
+    Ok(text)
 }
 
 // `STATION SAMPLE,SAMPLE,.. NOTE`, or `STATION - NOTE` for no samples.
@@ -112,7 +124,9 @@ fn hex_value(digit: u8) -> Result<u8, CommandError> {
     }
 }
 
-fn cut(text: &str, stream: &mut Vec<u8>) -> Result<(), CommandError> {
+fn cut(text: &str, stream: &mut Vec<u8>) -> Result<(), CommandError>
+    ensures refused { OnErr result (stream.new.items ≡ stream.old.items) }
+{
     match text.parse::<usize>() {
         Ok(len) if len <= stream.len() => {
             stream.truncate(len);
@@ -120,20 +134,6 @@ fn cut(text: &str, stream: &mut Vec<u8>) -> Result<(), CommandError> {
         }
         _ => Err(CommandError::Length),
     }
-}
-
-// The records, a line each, and then how the stream ends.
-fn shown(alloc: Global, stream: &[u8]) -> Result<String, AllocError> {
-    let mut reader = Counted::new(stream);
-    let recovered = read_all(alloc, &mut reader);
-    let mut text = String::new(alloc);
-    for reading in &recovered.records {
-        let line = shown_reading(alloc, reading)?;
-        text.push_str(line.as_str())?;
-    }
-    let end = shown_end(alloc, &recovered)?;
-    text.push_str(end.as_str())?;
-    Ok(text)
 }
 
 fn shown_reading(alloc: Global, reading: &Reading) -> Result<String, AllocError> {

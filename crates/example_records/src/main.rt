@@ -15,7 +15,8 @@ fn main(rt: HostRuntime) -> io::Result<()> {
     let mut bytes = Vec::new(rt.alloc());
     for line in rt.lines(rt.alloc()) {
         match command::run(rt.alloc(), line?.as_str(), &mut bytes) {
-            Ok(text) => println!(rt; "{text}")?,
+            Ok(Some(recovered)) => println!(rt; "{}", command::shown(rt.alloc(), &recovered)?)?,
+            Ok(None) => println!(rt; "{} bytes", bytes.len())?,
             Err(error) => println!(rt; "refused: {error}")?,
         }
     }

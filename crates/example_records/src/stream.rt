@@ -1,5 +1,5 @@
 //! A stream of records: a tag before each, and no byte behind the last.
-ghost use Rattle.std.specs.Prelude.{◌≡◌, ◌≤◌, ◌++◌, ℕ, List, Result, Some, IfErr, IfOk, OnOk, IsErrOf, map};
+ghost use Rattle.std.specs.Prelude.{◌≡◌, ◌≤◌, ◌++◌, ℕ, List, Result, Some, IfErr, IfOk, OnErr, OnOk, IsErrOf, map};
 ghost use Rattle.std.specs.List.{AllByRecursion};
 ghost use Rattle.tinyvec_io.specs.Counted.{Reported};
 ghost use Rattle.tinyvec_borsh.specs.Reading.{MayBe, Takes};
@@ -11,7 +11,7 @@ ghost use Rattle.example_records.specs.declared.stream_error.StreamError.{Stream
 
 use crate::reading::Reading;
 use crate::stream_error::StreamError;
-use std::alloc::Global;
+use std::alloc::{AllocError, Global};
 use std::io::{Read, Write};
 use tinyvec_borsh::{BorshDeserialize, BorshError, BorshSerialize};
 use tinyvec_io::Counted;
@@ -43,6 +43,20 @@ pub fn append_all<W: Write>(readings: &[Reading], writer: &mut Counted<W>) -> Re
         append(reading, writer)?;
     }
     Ok(())
+}
+
+/// Appends a record to a stream in memory. Where memory is refused, the stream is as it was.
+pub fn append_to(alloc: Global, reading: &Reading, stream: &mut Vec<u8>) -> Result<(), AllocError>
+    ensures ok { OnOk result ((frame : List ℕ) × SpellsFrame (said reading.now) frame
+        × ReadingFits (said reading.now) × (stream.new.items ≡ stream.old.items ++ frame)) }
+    ensures refused { OnErr result (stream.new.items ≡ stream.old.items) }
+{
+    let mut writer = Counted::new(Vec::new(alloc));
+    let Ok(()) = append(reading, &mut writer) else {
+        return Err(AllocError);
+    };
+    let frame = writer.into_inner();
+    stream.extend_from_slice(frame.as_slice())
 }
 
 /// What was read of a stream.
