@@ -1,0 +1,7 @@
+pub mod Expanding
+pub mod Flat
+pub mod Kept
+pub mod Places
+pub mod Readings
+pub mod Spliced
+pub mod Turn
