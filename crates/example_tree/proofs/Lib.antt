@@ -5,3 +5,4 @@ pub mod Places
 pub mod Readings
 pub mod Spliced
 pub mod Turn
+pub mod Growing

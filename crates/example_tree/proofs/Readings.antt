@@ -15,13 +15,13 @@ trees_same v w [] same = refl
 trees_same v w (id ∷ ids) same =
     ap (λ x. more x (trees_of v ids)) (All-head (λ i. v i ≡ w i) id ids same) ∙ ap (λ xs. more (w id) xs) (trees_same v w ids (All-tail (λ i. v i ≡ w i) id ids same))
 
-tree_same : (v w : ℕ → Tree) (f : Form) → All (λ id. v id ≡ w id) (children f) → tree_of v f ≡ tree_of w f
+pub tree_same : (v w : ℕ → Tree) (f : Form) → All (λ id. v id ≡ w id) (children f) → tree_of v f ≡ tree_of w f
 tree_same v w (leaf_form l) same = refl
 tree_same v w (sum_form ids) same = ap sum (trees_same v w ids same)
 tree_same v w (product_form ids) same = ap product (trees_same v w ids same)
 
 -- more levels than there are show nothing new
-levels : (fs : List Form) → IsOrdered fs → (n m id : ℕ) → id < n → id < m → tree_to fs n id ≡ tree_to fs m id
+pub levels : (fs : List Form) → IsOrdered fs → (n m id : ℕ) → id < n → id < m → tree_to fs n id ≡ tree_to fs m id
 levels fs ordered zero m id below under = absurd (omega arith)
 levels fs ordered (suc n) zero id below under = absurd (omega arith)
 levels fs ordered (suc n) (suc m) id below under =

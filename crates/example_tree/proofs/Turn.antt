@@ -95,7 +95,8 @@ always : {E : Type 0} (result : Result Unit E) → OnOk result (Unit {0})
 always (Ok u) = tt
 always (Err e) = tt
 
-on_ok : {E : Type 0} {P Q : Type 0} (result : Result Unit E) → (P → Q) → OnOk result P → OnOk result Q
+-- what an `Ok` tells, and what follows from it
+pub on_ok : {E : Type 0} {P Q : Type 0} (result : Result Unit E) → (P → Q) → OnOk result P → OnOk result Q
 on_ok (Ok u) follows p = follows p
 on_ok (Err e) follows p = tt
 

@@ -1,2 +1,4 @@
 pub mod Tree
 pub mod Nodes
+pub mod Forest
+pub mod Text
