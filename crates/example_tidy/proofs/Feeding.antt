@@ -1,9 +1,9 @@
 -- What a byte of the input does to what was said.
-use Rattle.std.proofs.Common.{◌≡◌, ◌≢◌, ◌∙◌, ℕ, List, [], ◌∷◌, ◌++◌, ap, refl, sym, subst, map, All, ◌<◌, length, append-nil, append_assoc, Result, Ok, Err, OnOk, OnErr}
+use Rattle.std.proofs.Common.{◌≡◌, ◌≢◌, ◌∙◌, ℕ, List, [], ◌∷◌, ◌++◌, inl, inr, ap, refl, sym, subst, map, ◌<◌, length, append-nil, append_assoc, Result, Ok, Err, OnOk, OnErr}
 use Rattle.std.proofs.lemmas.Grind.{flat_map-append}
 use Rattle.std.proofs.lemmas.List.{map-append, nil_from_length}
 use Rattle.std.proofs.lemmas.List.Elements.{All-nil, All-push, All-same}
-use Rattle.example_tidy.specs.Tidy.{Tidied, TidiedFront, TidiedUpTo, Advances, Ends, EndsSome, IsLine, ended, normal_line}
+use Rattle.example_tidy.specs.Tidy.{Tidied, TidiedFront, TidiedUpTo, Advances, Ends, EndsSome, IsBegun, IsLine, ended, normal_line}
 use Rattle.example_tidy.proofs.Lines.{tidied_none, tidied_some}
 
 -- a line that is ended is one line more
@@ -96,3 +96,11 @@ ends_either (Ok done) old new bytes empty text none fed refused =
     subst (EndsSome old bytes) (sym (fed.1 ∙ ap (λ front. front ++ fed.0) none)) (ends_some old new bytes [] bytes fed.0 (append-nil bytes) fed.2)
 ends_either (Err error) old new bytes empty text none fed refused =
     subst (EndsSome old bytes) (sym (refused.1 ∙ ap (λ front. front ++ refused.0) none)) refused.2
+
+-- a front of what ends some lines was written
+pub begun_front : (input output said missing : List ℕ) → TidiedFront input (output ++ (said ++ missing)) → IsBegun input (output ++ said)
+begun_front input output said missing front = (missing, inl (subst (TidiedFront input) (sym (append_assoc output said missing)) front))
+
+-- a front of what ends the input was written
+pub begun_whole : (input output said missing : List ℕ) → Tidied input (output ++ (said ++ missing)) → IsBegun input (output ++ said)
+begun_whole input output said missing tidied = (missing, inr (subst (Tidied input) (sym (append_assoc output said missing)) tidied))

@@ -1,8 +1,9 @@
 -- Words that are said one behind another, each behind a space.
-use Rattle.std.proofs.Common.{◌≡◌, ◌≢◌, ◌∙◌, ℕ, suc, ◌+◌, ◌<◌, true, false, cond, List, [], ◌∷◌, ◌++◌, inl, inr, ap, refl, sym, map, drop, get_or, append_assoc, append-nil, length, add-one, drop-cons}
-use Rattle.std.specs.List.{dedup, dedup_from, flat_map, join_with_byte}
+use Rattle.std.proofs.Common.{◌≡◌, ◌≢◌, ◌∙◌, ℕ, ◌+◌, ◌<◌, false, cond, List, [], ◌∷◌, ◌++◌, inl, inr, ap, sym, map, drop, get_or, append_assoc, append-nil, length}
+use Rattle.std.specs.List.{dedup, flat_map, join_with_byte}
 use Rattle.std.specs.Str.{bytes_eq}
 use Rattle.std.proofs.lemmas.Bool.{cases_Bool}
+use Rattle.std.proofs.lemmas.List.{drop_more}
 use Rattle.std.proofs.lemmas.Slice.Eq.{bytes_eq-Decides}
 use Rattle.example_tidy.specs.declared.words.Word.{Word}
 use Rattle.example_tidy.specs.Tidy.{bytes_of}
@@ -36,13 +37,10 @@ said_new last word words other =
     ap (λ b. flat_map (λ next. 32 ∷ next) (cond b (kept_after bytes_eq last words) (word ∷ kept_after bytes_eq word words)))
     (differs word last other)
 
-drop_next : (rest : List Word) (i : ℕ) → drop (suc i) rest ≡ drop (i + 1) rest
-drop_next rest i = rw add-one refl
-
 next_word : (line word : List ℕ) (rest : List Word) (i : ℕ) (d : Word) → i < length rest → word ≡ bytes_of line (get_or rest i d)
     → map (bytes_of line) (drop i rest) ≡ word ∷ map (bytes_of line) (drop (i + 1) rest)
 next_word line word rest i d inside is =
-    ap (map (bytes_of line)) (drop-cons rest i d inside ∙ ap (λ left. get_or rest i d ∷ left) (drop_next rest i))
+    ap (map (bytes_of line)) (drop_more rest i d inside)
     ∙ ap (λ first. first ∷ map (bytes_of line) (drop (i + 1) rest)) (sym is)
 
 -- a word that repeats the one before it is passed over

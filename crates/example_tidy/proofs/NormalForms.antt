@@ -1,5 +1,5 @@
 -- A normal form is its own normal form.
-use Rattle.std.proofs.Common.{◌≡◌, ◌≢◌, ◌∙◌, ℕ, true, false, List, [], ◌∷◌, ◌++◌, ap, refl, sym, map, All, arith, get_or}
+use Rattle.std.proofs.Common.{◌≡◌, ◌≢◌, ◌∙◌, ℕ, true, false, List, [], ◌∷◌, ap, refl, map, All, arith, get_or}
 use Rattle.std.specs.List.{dedup, filter, join_with_byte, slice_split}
 use Rattle.std.specs.Char.{is_ascii_whitespace, to_ascii_lowercase}
 use Rattle.std.specs.Str.{bytes_eq}

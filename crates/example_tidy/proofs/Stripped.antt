@@ -1,5 +1,5 @@
 -- A carriage return at the end of a line is a blank: its normal form is the same without it.
-use Rattle.std.proofs.Common.{◌≡◌, ◌∙◌, ℕ, ◌+◌, ◌-◌, ◌<◌, ◌≤◌, ◌==◌, Bool, true, false, cond, List, [], ◌∷◌, ◌++◌, ap, refl, sym, map, length, take, get_or, arith, append-nil}
+use Rattle.std.proofs.Common.{◌≡◌, ◌∙◌, ℕ, ◌+◌, ◌-◌, ◌<◌, ◌==◌, Bool, true, false, cond, List, [], ◌∷◌, ◌++◌, ap, refl, sym, map, length, take, get_or, arith, append-nil}
 use Rattle.std.specs.List.{slice_split, onto_first, filter, dedup, join_with_byte}
 use Rattle.std.specs.Char.{is_ascii_whitespace, to_ascii_lowercase}
 use Rattle.std.specs.Str.{bytes_eq}

@@ -1,10 +1,10 @@
 -- What a step of the loop over a line does to its words.
-use Rattle.std.proofs.Common.{◌≡◌, ◌≢◌, ◌∙◌, ℕ, suc, ◌+◌, ◌-◌, ◌<◌, ◌≤◌, ◌==◌, true, false, cond, not, List, [], ◌∷◌, ◌++◌, All, ap, sym, refl, map, length, drop, get_or, slice_range, arith, add-one, append-nil, append_assoc, drop-cons}
+use Rattle.std.proofs.Common.{◌≡◌, ◌∙◌, ℕ, ◌+◌, ◌-◌, ◌<◌, ◌≤◌, true, false, cond, not, List, [], ◌∷◌, ◌++◌, All, ap, sym, map, length, drop, get_or, slice_range, arith, append-nil, append_assoc}
 use Rattle.std.specs.List.{slice_split, filter}
 use Rattle.std.specs.Char.{is_ascii_whitespace}
 use Rattle.std.proofs.Math.ListN.{drop_of_length-le}
 use Rattle.std.proofs.lemmas.Bool.{ne_eqb}
-use Rattle.std.proofs.lemmas.List.{map-append, get_or-drop, get_or-take}
+use Rattle.std.proofs.lemmas.List.{map-append, drop_more, get_or-drop, get_or-take}
 use Rattle.std.proofs.lemmas.List.Elements.{All-from_get_or}
 use Rattle.std.proofs.lemmas.List.Folds.{drop_split}
 use Rattle.std.proofs.lemmas.List.Splits.{slice_split_at, slice_split_none}
@@ -28,16 +28,12 @@ one_part : (part : List ℕ) (rest : List (List ℕ)) → 0 < length part → fi
 one_part part rest some =
     ap (λ b. cond (not b) (part ∷ filter has_bytes rest) (filter has_bytes rest)) (ne_eqb (length part) 0 (omega arith))
 
-drop_next : (line : List ℕ) (i : ℕ) → drop (suc i) line ≡ drop (i + 1) line
-drop_next line i = rw add-one refl
-
 -- a part ends at a blank
 part_at : (line : List ℕ) (start i : ℕ) → start ≤ i → i < length line → NoneIn line start i → is_ascii_whitespace (get_or line i 0) ≡ true
     → words (drop start line) ≡ filter has_bytes (slice_range line start i ∷ slice_split is_ascii_whitespace (drop (i + 1) line))
 part_at line start i order inside none here =
-    ap words (drop_split line start i order ∙ ap (λ rest. slice_range line start i ++ rest) (drop-cons line i 0 inside))
-    ∙ ap (filter has_bytes) (slice_split_at is_ascii_whitespace (slice_range line start i) (get_or line i 0) (drop (suc i) line) (plain line start i (omega arith) none) here)
-    ∙ ap (λ rest. filter has_bytes (slice_range line start i ∷ slice_split is_ascii_whitespace rest)) (drop_next line i)
+    ap words (drop_split line start i order ∙ ap (λ rest. slice_range line start i ++ rest) (drop_more line i 0 inside))
+    ∙ ap (filter has_bytes) (slice_split_at is_ascii_whitespace (slice_range line start i) (get_or line i 0) (drop (i + 1) line) (plain line start i (omega arith) none) here)
 
 -- a word ends at a blank
 word_at : (line : List ℕ) (start i : ℕ) → start < i → i < length line → NoneIn line start i → is_ascii_whitespace (get_or line i 0) ≡ true
@@ -50,9 +46,8 @@ word_at line start i order inside none here =
 pub blank_at : (line : List ℕ) (start i : ℕ) → start ≤ i → i ≤ start → i < length line → is_ascii_whitespace (get_or line i 0) ≡ true
     → words (drop start line) ≡ words (drop (i + 1) line)
 blank_at line start i order least inside here =
-    ap words (ap (λ n. drop n line) (omega arith) ∙ drop-cons line i 0 inside)
-    ∙ ap (filter has_bytes) (slice_split_at is_ascii_whitespace [] (get_or line i 0) (drop (suc i) line) (λ k d below. absurd (omega arith)) here)
-    ∙ ap words (drop_next line i)
+    ap words (ap (λ n. drop n line) (omega arith) ∙ drop_more line i 0 inside)
+    ∙ ap (filter has_bytes) (slice_split_at is_ascii_whitespace [] (get_or line i 0) (drop (i + 1) line) (λ k d below. absurd (omega arith)) here)
 
 -- the last word ends with the line
 word_to_end : (line : List ℕ) (start : ℕ) → start < length line → NoneIn line start (length line)

@@ -1,7 +1,7 @@
-use Rattle.std.proofs.Common.{◌≡◌, ◌≢◌, ◌∙◌, ◌++◌, ◌∷◌, rules, ap, sym, map, length, get_or}
+use Rattle.std.proofs.Common.{◌≡◌, ◌≢◌, ◌∙◌, ◌++◌, ◌∷◌, rules, ap, sym, map}
 use Rattle.std.specs.List.{dedup, join_with_byte}
 use Rattle.std.specs.Str.{bytes_eq}
-use Rattle.std.proofs.lemmas.List.Elements.{All-head, All-tail, All-same, All-get_or}
+use Rattle.std.proofs.lemmas.List.Elements.{All-tail, All-same, All-get_or}
 use Rattle.tinyvec.specs.Tiny.{tiny_items}
 use Rattle.example_tidy.specs.Tidy.{bytes_of, IsIn}
 use Rattle.example_tidy.proofs.Joining.{said, said_all, passed, spoken}

@@ -1,4 +1,4 @@
-use Rattle.std.proofs.Common.{◌∙◌, [], ◌++◌, sym, subst, append-nil}
+use Rattle.std.proofs.Common.{◌∙◌, [], sym, subst, append-nil}
 use Rattle.std.proofs.KnownBytes.{Appends-kept}
 use Rattle.example_tidy.specs.Tidy.{Ends}
 use Rattle.example_tidy.proofs.Feeding.{ends_text}

@@ -1,9 +1,9 @@
-use Rattle.std.proofs.Common.{◌≡◌, ◌≤◌, ◌+◌, ◌∙◌, ◌++◌, inl, inr, List, ℕ, [], length, take, sym, subst, rules, arith, append-nil, append_assoc, length-append, Err}
+use Rattle.std.proofs.Common.{◌≡◌, ◌≤◌, ◌+◌, ◌++◌, List, ℕ, [], length, take, sym, subst, rules, arith, append-nil, length-append, Err}
 use Rattle.std.proofs.KnownBytes.{Appends-nil, Appends-trans, Appends-kept, Consumes-nil, Consumes-trans}
 use Rattle.std.proofs.lemmas.Result.{on_ok_weaker}
-use Rattle.example_tidy.specs.Tidy.{Tidied, TidiedUpTo, TidiedFront}
+use Rattle.example_tidy.specs.Tidy.{TidiedUpTo}
 use Rattle.example_tidy.specs.declared.stream.TidyError.TheVariants.{Memory, Write}
-use Rattle.example_tidy.proofs.Feeding.{nothing_yet, front_of}
+use Rattle.example_tidy.proofs.Feeding.{nothing_yet, front_of, begun_front, begun_whole}
 use Rattle.example_tidy.proofs.Lines.{tidied_again}
 use Rattle.example_tidy.proofs.stream.tidy.Goals as goal
 
@@ -47,7 +47,7 @@ returns-then-count-eq0-clause-write g c =
     let all = rw append-nil at (Consumes-trans _ _ _ s.0 [] s.2 last) in
     let so_far = subst (TidiedUpTo s.0 s.1) (sym c.as_slice.ensures) s.4 in
     λ is. let f = c.finish.ensures.write is in
-    (s.0, s.1 ++ f.0, all, Appends-trans _ _ _ s.1 f.0 s.3 f.2, (f.1, inr (subst (Tidied s.0) (sym (append_assoc s.1 f.0 f.1)) (f.3 s.0 s.1 so_far))))
+    (s.0, s.1 ++ f.0, all, Appends-trans _ _ _ s.1 f.0 s.3 f.2, begun_whole s.0 s.1 f.0 f.1 (f.3 s.0 s.1 so_far))
 
 pub returns-in_err-tidy_chunk-clause-memory : goal.returns-in_err-tidy_chunk-clause-memory
 returns-in_err-tidy_chunk-clause-memory g c =
@@ -67,7 +67,7 @@ returns-in_err-tidy_chunk-clause-write g c =
       s.1 ++ f.0,
       Consumes-trans _ _ _ s.0 bytes s.2 c.in-Ok.ensures.bytes,
       Appends-trans _ _ _ s.1 f.0 s.3 f.2,
-      (f.1, inl (subst (TidiedFront (s.0 ++ bytes)) (sym (append_assoc s.1 f.0 f.1)) (f.3 s.0 s.1 s.4))),
+      begun_front (s.0 ++ bytes) s.1 f.0 f.1 (f.3 s.0 s.1 s.4),
     )
 
 pub loop-piece-preserved : goal.loop-piece-preserved

@@ -1,4 +1,4 @@
-use Rattle.std.proofs.Common.{arith, below_more, ◌++◌, ◌∙◌, ap, map, sym, length}
+use Rattle.std.proofs.Common.{arith, below_more, ◌++◌, ◌∙◌, ap, map, sym}
 use Rattle.std.proofs.lemmas.List.Elements.{All-push, All-same}
 use Rattle.tinyvec.specs.Tiny.{tiny_items}
 use Rattle.example_tidy.specs.Tidy.{bytes_of, IsIn}
