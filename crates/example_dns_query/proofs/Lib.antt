@@ -4,3 +4,4 @@ pub mod LineLemmas
 pub mod MessageLemmas
 pub mod NameLemmas
 pub mod PartsLemmas
+pub mod SpellingLemmas

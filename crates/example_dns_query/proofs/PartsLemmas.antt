@@ -30,7 +30,7 @@ pub some_part : (s : ℕ) (text : List ℕ) → 0 < length (parts s text)
 some_part s text = omega (arith, length-slice_split (λ byte. byte == s) text)
 
 -- no byte of the text is the separator
-abbrev Lacks : ℕ → List ℕ → Type 0
+abbrev pub Lacks : ℕ → List ℕ → Type 0
 Lacks s text = All (λ byte. byte ≢ s) text
 
 Lacks-cons : (s byte : ℕ) (text : List ℕ) → byte ≢ s → Lacks s text → Lacks s (byte ∷ text)

@@ -15,7 +15,9 @@ without_last_dot text = if slice_index text (length text - 1) == 46 then take (l
 
 -- the text of the labels, with a dot between two. The name that is spelled by one dot has none: it is the root
 abbrev pub body_of : List ℕ → Option (List ℕ)
-body_of text = if length text == 1 then (if slice_index text 0 == 46 then None else Some text) else Some (without_last_dot text)
+body_of text =
+    if length text == 1 then (if slice_index text 0 == 46 then None else Some text)
+    else Some (without_last_dot text)
 
 -- the labels in such a text
 abbrev pub labels_in : Option (List ℕ) → List (List ℕ)
@@ -37,7 +39,15 @@ IsLabel label = (0 < length label) × (length label ≤ 63)
 -- what is wrong with the first label that has no byte or more than 63
 abbrev pub first_fault : List (List ℕ) → Option QueryError
 first_fault [] = None
-first_fault (label ∷ labels) = if length label == 0 then Some EmptyLabel else if nat_lt 63 (length label) then Some LongLabel else first_fault labels
+first_fault (label ∷ labels) =
+    if length label == 0 then Some EmptyLabel
+    else if nat_lt 63 (length label) then Some LongLabel
+    else first_fault labels
+
+-- the text spells these labels, and no others with 1 to 63 bytes each
+pub record SpellsOnly (text : List ℕ) (labels : List (List ℕ)) : Type 0 where
+  pub spelled : Spells text labels
+  pub only : (others : List (List ℕ)) → 0 < length others → All IsLabel others → Spells text others → labels ≡ others
 
 -- a label on the wire: how long it is, then its bytes
 abbrev pub label_wire : List ℕ → List ℕ

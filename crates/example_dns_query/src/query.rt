@@ -5,7 +5,7 @@ ghost use Rattle.std.specs.Option.{option_copied};
 ghost use Rattle.tinyvec_slice.specs.View.{items, spare, name};
 ghost use Rattle.example_dns_query.specs.Appends.{Appends};
 ghost use Rattle.example_dns_query.specs.Message.{two_bytes, header, type_and_class, query};
-ghost use Rattle.example_dns_query.specs.Name.{IsPrinted, IsLabel, IsName, Spells, body_of as body_in, labels_in, labels_of, first_fault, label_wire, name_wire};
+ghost use Rattle.example_dns_query.specs.Name.{IsPrinted, IsLabel, IsName, SpellsOnly, body_of as body_in, labels_in, labels_of, first_fault, label_wire, name_wire};
 ghost use Rattle.example_dns_query.specs.declared.query.QueryError.TheVariants.{BadByte, EmptyLabel, LongLabel, LongName, Full};
 
 use crate::parts::first_part;
@@ -203,7 +203,7 @@ pub fn write_query(
     ensures written { IfOk result (λ len. slice.new ≡ query id (labels_of name.now) record_type ++ drop len slice.old) }
     ensures len { IfOk result (λ len. len ≡ length (query id (labels_of name.now) record_type)) }
     ensures is_name { OnOk result (IsName name.now) }
-    ensures spelling { Spells name.now (labels_of name.now) }
+    ensures spelling { SpellsOnly name.now (labels_of name.now) }
     ensures unchanged { OnErr result (slice.new ≡ slice.old) }
     ensures succeeds { IsName name.now
         → length (query id (labels_of name.now) record_type) ≤ length slice.old → IsOk result }

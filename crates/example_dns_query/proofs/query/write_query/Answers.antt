@@ -4,7 +4,7 @@ use Rattle.example_dns_query.specs.Appends.{Appends}
 use Rattle.example_dns_query.specs.Name.{labels_of, labels_in, name_wire}
 use Rattle.example_dns_query.specs.Message.{query}
 use Rattle.example_dns_query.proofs.AppendsLemmas.{owner_sees_appended}
-use Rattle.example_dns_query.proofs.NameLemmas.{spells}
+use Rattle.example_dns_query.proofs.SpellingLemmas.{spells_only}
 use Rattle.example_dns_query.proofs.MessageLemmas.{length-query}
 use Rattle.example_dns_query.proofs.query.write_query.Goals as goal
 
@@ -27,10 +27,10 @@ returns-clause-written c =
     search rules
 
 pub returns-clause-spelling : goal.returns-clause-spelling
-returns-clause-spelling c = spells c.args.name.now
+returns-clause-spelling c = spells_only c.args.name.now
 
 pub returns-in_err-check_name-clause-spelling : goal.returns-in_err-check_name-clause-spelling
-returns-in_err-check_name-clause-spelling c = spells c.args.name.now
+returns-in_err-check_name-clause-spelling c = spells_only c.args.name.now
 
 pub returns-then-slice-len-clause-spelling : goal.returns-then-slice-len-clause-spelling
-returns-then-slice-len-clause-spelling c = spells c.args.name.now
+returns-then-slice-len-clause-spelling c = spells_only c.args.name.now
