@@ -4,7 +4,7 @@ use Rattle.std.proofs.Math.ListN.{get_or-eq_default}
 use Rattle.std.proofs.lemmas.Bool.Decides.{leb_tells}
 use Rattle.std.proofs.lemmas.List.Elements.{All-head, All-tail, All-weaker}
 use Rattle.example_tree.specs.Tree.{number, Tree, is_sum, NoSums, IsFlat, AreFlat}
-use Rattle.example_tree.specs.Nodes.{Form, leaf_form, sum_form, product_form, form_at, children, is_sum_form, IsOrdered, HasNoSum, IsDone, AreDone, trees_of, tree_of, tree_to}
+use Rattle.example_tree.specs.Nodes.{Form, leaf_form, sum_form, product_form, form_at, children, is_sum_form, IsOrdered, IsDone, AreDone, trees_of, tree_of, tree_to}
 use Rattle.example_tree.proofs.Readings.{tree_is}
 
 are_flat : (tree : ℕ → Tree) (ids : List ℕ) → All (λ id. IsFlat (tree id)) ids → AreFlat (trees_of tree ids)

@@ -1,12 +1,12 @@
 -- One node more leaves the trees as they are.
-use Rattle.std.proofs.Common.{◌≡◌, ◌∙◌, ℕ, zero, suc, ◌+◌, ◌-◌, ◌<◌, List, [], ◌∷◌, ◌++◌, map, take, drop, length, flat_map, inl, inr, All, refl, sym, ap, subst, arith, append-nil, take-append-drop, length-append}
-use Rattle.std.proofs.lemmas.List.{get_or_append_left, get_or-append_right, get_or_default, map-append, length-map}
+use Rattle.std.proofs.Common.{◌≡◌, ◌∙◌, ℕ, zero, suc, ◌-◌, ◌<◌, List, [], ◌∷◌, ◌++◌, length, inl, inr, All, refl, sym, ap, subst, arith, append-nil, length-append}
+use Rattle.std.proofs.lemmas.List.{get_or_append_left, get_or-append_right, map-append, length-map}
 use Rattle.std.proofs.Math.ListN.{get_or-eq_default}
 use Rattle.std.proofs.lemmas.List.Concat.{flat_map-append}
-use Rattle.std.proofs.lemmas.List.Elements.{All-nil, All-head, All-tail, All-weaker, All-append, All-push}
+use Rattle.std.proofs.lemmas.List.Elements.{All-nil, All-head, All-tail, All-weaker, All-push}
 use Rattle.std.proofs.lemmas.Bool.Decides.{leb_tells, eqb_tells}
-use Rattle.example_tree.specs.Tree.{Leaf, number, Tree, leaf, sum, product, leaves, all_leaves}
-use Rattle.example_tree.specs.Nodes.{Form, leaf_form, sum_form, product_form, form, forms, form_at, children, IsOrdered, trees_of, tree_of, tree_to, tree_at}
+use Rattle.example_tree.specs.Tree.{number, leaves, all_leaves}
+use Rattle.example_tree.specs.Nodes.{Form, leaf_form, form, forms, form_at, children, IsOrdered, trees_of, tree_of, tree_to, tree_at}
 use Rattle.example_tree.specs.Forest.{leaves_of, node_leaves}
 use Rattle.example_tree.specs.declared.node.Node.{Node}
 use Rattle.example_tree.proofs.Readings.{tree_same, levels}

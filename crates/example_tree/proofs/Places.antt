@@ -1,5 +1,5 @@
 -- A turn of the loop that goes through the children from the last to the first.
-use Rattle.std.proofs.Common.{◌≡◌, ◌∙◌, ℕ, suc, length-append, ◌<◌, List, ◌∷◌, ◌++◌, take, drop, length, get_or, refl, sym, ap, arith, drop-cons, take-take, length-take-le, get_or-take, get_or-append-add, drop_at}
+use Rattle.std.proofs.Common.{◌≡◌, ◌∙◌, ℕ, suc, length-append, ◌<◌, List, ◌++◌, take, drop, length, get_or, sym, ap, arith, drop-cons, take-take, length-take-le, get_or-take, drop_at}
 use Rattle.std.proofs.lemmas.List.{take-append-le, get_or_append_left, get_or_default, get_or-map}
 use Rattle.example_tree.specs.declared.node.Node.{Node}
 use Rattle.example_tree.specs.Nodes.{Form, form, forms, sum_form, form_at, terms, expanded}

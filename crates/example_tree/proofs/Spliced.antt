@@ -1,5 +1,5 @@
 -- What is to be known of a splice that was finished with no item taken from it, and of the items of a slice.
-use Rattle.std.proofs.Common.{◌≡◌, ◌∙◌, ℕ, ◌+◌, ◌≤◌, List, [], ◌∷◌, ◌++◌, length, Option, Some, None, Result, Ok, Err, IsOk, true, false, Bor, Iter, option_copied, refl, sym, ap, subst, append_assoc, arith}
+use Rattle.std.proofs.Common.{◌≡◌, ◌∙◌, ℕ, ◌+◌, ◌≤◌, List, ◌++◌, length, Option, Some, None, Result, Ok, Err, true, false, Bor, Iter, option_copied, sym, ap, subst, append_assoc, arith}
 use Rattle.std.proofs.lemmas.List.{nil_from_length}
 use Rattle.std.specs.Iterator.{YieldsFirst}
 use Rattle.std.specs.Iterator.Adapters.{copied_source, copied_steps}

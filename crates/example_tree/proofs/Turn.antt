@@ -1,16 +1,16 @@
 -- One node was gone through.
-use Rattle.std.proofs.Common.{◌≡◌, ◌≢◌, ◌∙◌, ℤ, inl, inr, false, true, ℕ, zero, suc, ◌+◌, ◌<◌, List, [], ◌∷◌, ◌++◌, map, take, drop, length, set, get_or, All, Result, Ok, Err, OnOk, OnErr, refl, sym, ap, subst, arith, get_or-take, get_or-drop, take-append-drop}
+use Rattle.std.proofs.Common.{◌≡◌, ◌≢◌, ◌∙◌, ℤ, inl, inr, ℕ, zero, suc, ◌<◌, List, [], ◌∷◌, ◌++◌, take, drop, length, set, get_or, All, Result, Ok, Err, OnOk, OnErr, refl, sym, ap, subst, arith, get_or-take, get_or-drop, take-append-drop}
 use Rattle.std.proofs.lemmas.List.{map-set, get_or-map, set-get_or, take-map, length-map}
 use Rattle.std.proofs.lemmas.Bool.Decides.{eqb_tells}
 use Rattle.std.proofs.lemmas.List.Elements.{All-weaker, All-drop}
 use Rattle.tinyvec.specs.Tiny.{tiny_items}
 use Rattle.tinyvec.specs.declared.tiny_vec.TinyVec.{TinyVec}
-use Rattle.example_tree.specs.Tree.{Leaf, number, leaf_value, Tree, leaves, value}
-use Rattle.example_tree.specs.Nodes.{Form, leaf_form, sum_form, form, forms, form_at, children, expanded, is_sum_form, IsOrdered, IsDone, AreDone, SameLeaves, SameValues, tree_to}
+use Rattle.example_tree.specs.Tree.{number, leaf_value, leaves, value}
+use Rattle.example_tree.specs.Nodes.{Form, leaf_form, sum_form, form, forms, form_at, children, expanded, IsOrdered, IsDone, AreDone, SameLeaves, SameValues, tree_to}
 use Rattle.example_tree.specs.declared.node.Node.{Node}
 use Rattle.example_tree.specs.declared.node.Node.TheVariants.{Number, Name, Sum, Product}
 use Rattle.example_tree.proofs.Readings.{kept}
-use Rattle.example_tree.proofs.Expanding.{expanded_same, after, ordered_after, done_after, reading_after}
+use Rattle.example_tree.proofs.Expanding.{expanded_same, ordered_after, done_after, reading_after}
 use Rattle.example_tree.proofs.Kept.{joined, joined_leaves, joined_law, total, times, total_value, times_value, total_law}
 
 ne_lt : (j id : ℕ) → j ≢ id → j < suc id → j < id

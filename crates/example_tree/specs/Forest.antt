@@ -1,5 +1,5 @@
 -- What a contract sees of a forest.
-use Rattle.std.specs.Prelude.{ℕ, ◌<◌, List, length, All, Vec}
+use Rattle.std.specs.Prelude.{ℕ, ◌<◌, List, length, All}
 use Rattle.std.specs.List.{flat_map}
 use Rattle.example_tree.specs.Tree.{Leaf, leaves}
 use Rattle.example_tree.specs.Nodes.{forms, form, tree_of, tree_at, IsOrdered}

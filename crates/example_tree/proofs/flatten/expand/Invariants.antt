@@ -1,5 +1,5 @@
-use Rattle.std.proofs.Common.{◌≡◌, ◌++◌, take, drop, ◌≤◌}
-use Rattle.tinyvec.specs.Tiny.{tiny_items, tiny_len}
+use Rattle.std.proofs.Common.{◌≡◌, ◌++◌, take, drop}
+use Rattle.tinyvec.specs.Tiny.{tiny_items}
 use Rattle.example_tree.specs.Nodes.{forms, expanded}
 use Rattle.example_tree.proofs.flatten.expand.Given as goal
 

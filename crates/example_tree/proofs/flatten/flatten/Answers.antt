@@ -1,4 +1,4 @@
-use Rattle.std.proofs.Common.{rules, ◌≡◌, ℕ, length, subst, arith}
+use Rattle.std.proofs.Common.{◌≡◌, ℕ, length, subst, arith}
 use Rattle.std.proofs.lemmas.List.{length-map}
 use Rattle.example_tree.specs.Tree.{IsFlat}
 use Rattle.example_tree.specs.Nodes.{form, forms, tree_at, AreDone}

@@ -1,6 +1,6 @@
-use Rattle.std.proofs.Common.{rules, ◌≡◌, ◌∙◌, ◌++◌, suc, take, drop, length, refl, sym, ap, arith}
+use Rattle.std.proofs.Common.{◌≡◌, ◌∙◌, ◌++◌, suc, take, drop, length, ap, arith}
 use Rattle.std.specs.Slice.Iter.{iter_rest}
-use Rattle.tinyvec.specs.Tiny.{tiny_items, tiny_len, tiny_capacity}
+use Rattle.tinyvec.specs.Tiny.{tiny_items}
 use Rattle.example_tree.proofs.Spliced.{copied_rest, copied_shows}
 use Rattle.example_tree.proofs.flatten.replace_child.Goals as goal
 

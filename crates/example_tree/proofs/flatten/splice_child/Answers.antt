@@ -1,6 +1,6 @@
-use Rattle.std.proofs.Common.{rules, ◌≡◌, ◌∙◌, ◌++◌, ◌≤◌, ◌+◌, suc, take, drop, length, refl, ap, arith, add-one, length-take-le, length-drop}
+use Rattle.std.proofs.Common.{rules, ◌≡◌, ◌∙◌, ◌++◌, ◌≤◌, ◌+◌, suc, take, drop, length, ap, arith, add-one, length-take-le, length-drop}
 use Rattle.tinyvec_slots.specs.Fused.{fused_rest}
-use Rattle.tinyvec.specs.Tiny.{tiny_items, tiny_len, tiny_capacity}
+use Rattle.tinyvec.specs.Tiny.{tiny_items, tiny_capacity}
 use Rattle.tinyvec.specs.TinySplice.{splice_view, splice_back, splice_replacement, splice_vec}
 use Rattle.example_tree.proofs.Spliced.{spliced_whole}
 use Rattle.example_tree.proofs.flatten.splice_child.Goals as goal

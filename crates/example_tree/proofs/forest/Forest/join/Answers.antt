@@ -3,7 +3,7 @@ use Rattle.std.proofs.lemmas.List.Concat.{flat_map-append}
 use Rattle.tinyvec.specs.Tiny.{tiny_items}
 use Rattle.example_tree.specs.Tree.{leaves}
 use Rattle.example_tree.specs.Nodes.{tree_at}
-use Rattle.example_tree.specs.Forest.{forest_leaves, leaves_of, node_leaves}
+use Rattle.example_tree.specs.Forest.{leaves_of, node_leaves}
 use Rattle.example_tree.proofs.Turn.{on_ok}
 use Rattle.example_tree.proofs.forest.Forest.join.Goals as goal
 
