@@ -1,5 +1,7 @@
 //! Vectors of no slots.
+use crate::bases::{Binary, LowerHex, Octal, UpperHex};
 use std::cmp::Ordering;
+use std::hash::{DefaultHasher, Hash, Hasher};
 use std::iter;
 use std::test::Fail;
 use tinyvec::{ArrayVec, NoRoom, SliceVec, TinyVec};
@@ -204,5 +206,57 @@ fn a_text_is_cut(rt: HostRuntime) -> Result<(), Fail> {
     t.reserve(0)?;
     assert!(rt; t.is_inline());
     assert!(rt; t == InlineText::new(rt.alloc()));
+    Ok(())
+}
+
+#[test]
+fn an_array_in_other_bases(rt: HostRuntime) -> Result<(), Fail> {
+    let v = Empty::new();
+    assert_shows!(rt; Binary(&v), "[]");
+    assert_shows!(rt; Octal(&v), "[]");
+    assert_shows!(rt; LowerHex(&v), "[]");
+    assert_shows!(rt; UpperHex(&v), "[]");
+    Ok(())
+}
+
+#[test]
+fn a_slice_in_other_bases(rt: HostRuntime) -> Result<(), Fail> {
+    let mut slots: [i32; 0] = [];
+    let v = SliceVec::from_slice_len(&mut slots, 0);
+    assert_shows!(rt; Binary(&v), "[]");
+    assert_shows!(rt; Octal(&v), "[]");
+    assert_shows!(rt; LowerHex(&v), "[]");
+    assert_shows!(rt; UpperHex(&v), "[]");
+    Ok(())
+}
+
+#[test]
+fn a_tiny_vec_in_other_bases(rt: HostRuntime) -> Result<(), Fail> {
+    let v = Tiny::new(rt.alloc());
+    assert_shows!(rt; Binary(&v), "[]");
+    assert_shows!(rt; Octal(&v), "[]");
+    assert_shows!(rt; LowerHex(&v), "[]");
+    assert_shows!(rt; UpperHex(&v), "[]");
+    Ok(())
+}
+
+fn hash_of<T: Hash>(x: &T) -> u64 {
+    let mut state = DefaultHasher::new();
+    x.hash(&mut state);
+    state.finish()
+}
+
+// A list feeds a hasher what a slice of its items feeds it.
+#[test]
+fn hashed_as_a_slice(rt: HostRuntime) -> Result<(), Fail> {
+    let mut slots: [i32; 0] = [];
+    let wanted = hash_of(&slots.as_slice());
+    assert!(rt; hash_of(&Empty::new()) == wanted);
+    assert!(rt; hash_of(&SliceVec::from_slice_len(&mut slots, 0)) == wanted);
+    let mut v = Tiny::new(rt.alloc());
+    assert!(rt; hash_of(&v) == wanted);
+    v.move_to_the_heap()?;
+    assert!(rt; v.is_heap());
+    assert!(rt; hash_of(&v) == wanted);
     Ok(())
 }

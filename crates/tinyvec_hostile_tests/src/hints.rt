@@ -2,6 +2,7 @@
 ghost use Rattle.std.specs.Prelude.{◌+◌, ◌-◌, ◌^◌};
 ghost use Rattle.std.specs.Iterator.{at_most};
 
+use std::test::Fail;
 use tinyvec::{ArrayVec, FromIterRest, NoRoom, SliceVec, SpliceRest, TinyVec};
 use tinyvec_test_items::{Unhinted, assert_is, assert_items};
 use tinyvec_test_looks::lies;
@@ -29,6 +30,33 @@ impl Iterator for Promising {
 
     fn size_hint(&self) -> (usize, Option<usize>) {
         (usize::MAX, None)
+    }
+}
+
+/// Gives the numbers below `end`, and promises three more.
+#[derive(Drop)]
+struct Boasting {
+    next: u8,
+    end: u8,
+}
+
+impl Iterator for Boasting {
+    type Item = i32;
+
+    ghost remaining = { λ s. at_most (s.end - s.next + 3) };
+
+    fn next(&mut self) -> Option<i32> {
+        if self.next >= self.end {
+            return None;
+        }
+        let given = self.next;
+        self.next += 1;
+        Some(i32::from(given))
+    }
+
+    fn size_hint(&self) -> (usize, Option<usize>) {
+        let promised = usize::from(self.end.saturating_sub(self.next)) + 3;
+        (promised, Some(promised))
     }
 }
 
@@ -207,4 +235,52 @@ fn a_tiny_vec_is_spliced(rt: HostRuntime) {
         assert!(rt; finished.is_ok(), "memory was granted");
     }
     assert!(rt; lies(&v, &[1, 5, 6, 8, 9, 3], false));
+}
+
+#[test]
+fn a_splice_of_a_tiny_vec_that_hints_at_nothing_is_stopped(rt: HostRuntime) {
+    let mut v = TinyVec::from_array_len(rt.alloc(), [1, 2, 3, 0], 3);
+    let mut splice = v.splice(1.., Unhinted { next: 5, end: 8 });
+    assert!(rt; splice.next() == Some(2));
+    let mut rest = splice.stop();
+    assert_is!(rt; rest.next(), Some(6));
+    assert_is!(rt; rest.next(), Some(7));
+    assert_is!(rt; rest.next(), None);
+    assert!(rt; lies(&v, &[1, 5], true));
+}
+
+#[test]
+fn a_splice_of_a_tiny_vec_that_promises_three_more_is_stopped(rt: HostRuntime) {
+    let mut v = TinyVec::from_array_len(rt.alloc(), [1, 2, 3, 0], 3);
+    let mut splice = v.splice(..2, Boasting { next: 5, end: 7 });
+    assert!(rt; splice.next() == Some(1));
+    assert!(rt; splice.next() == Some(2));
+    let mut rest = splice.stop();
+    assert_is!(rt; rest.next(), None);
+    assert!(rt; lies(&v, &[5, 6, 3], true));
+}
+
+#[test]
+fn a_splice_of_a_tiny_vec_that_promises_the_most_is_stopped(rt: HostRuntime) {
+    let mut v = TinyVec::from_array_len(rt.alloc(), [1, 2, 3, 0], 3);
+    let mut splice = v.splice(1.., Promising { next: 5, end: 8 });
+    assert!(rt; splice.next() == Some(2));
+    let mut rest = splice.stop();
+    assert_is!(rt; rest.next(), Some(6));
+    assert!(rt; lies(&v, &[1, 5], true));
+}
+
+#[test]
+fn splices_on_the_heap_are_stopped(rt: HostRuntime) -> Result<(), Fail> {
+    let mut v: TinyVec<[i32; 1]> = TinyVec::from_slice(rt.alloc(), &[1, 2, 3])?;
+    let mut rest = v.splice(1.., Unhinted { next: 5, end: 6 }).stop();
+    assert_is!(rt; rest.next(), Some(5));
+    assert!(rt; lies(&v, &[1], false));
+    let mut rest = v.splice(.., Boasting { next: 5, end: 6 }).stop();
+    assert_is!(rt; rest.next(), Some(5));
+    assert!(rt; lies(&v, &[], false));
+    let mut rest = v.splice(.., Promising { next: 5, end: 6 }).stop();
+    assert_is!(rt; rest.next(), Some(5));
+    assert!(rt; lies(&v, &[], false));
+    Ok(())
 }

@@ -2,6 +2,8 @@
 #![tactic(auto)]
 
 #[cfg(test)]
+mod bases;
+#[cfg(test)]
 mod blocks;
 #[cfg(test)]
 mod empty;
@@ -15,6 +17,8 @@ mod hints;
 mod many;
 #[cfg(test)]
 mod many_lent;
+#[cfg(test)]
+mod many_texts;
 #[cfg(test)]
 mod many_tiny;
 #[cfg(test)]

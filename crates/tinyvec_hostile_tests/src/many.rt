@@ -1,22 +1,21 @@
 //! Vectors of 65536 slots, in calls that go through all of them.
 use std::cmp::Ordering;
-use std::hash::{DefaultHasher, Hash, Hasher};
 use std::iter;
 use std::test::Fail;
 use tinyvec::ArrayVec;
 use tinyvec_test_items::assert_is;
 
-type Many = ArrayVec<[u8; 65536]>;
+pub(crate) type Many = ArrayVec<[u8; 65536]>;
 
 // A full vector of sevens.
-fn full() -> Many {
+pub(crate) fn full() -> Many {
     let mut v = Many::new();
     let _rest = v.fill(iter::repeat(7));
     v
 }
 
 // Whether these are as many items, all of them this one.
-fn are(items: &[u8], count: usize, item: u8) -> bool {
+pub(crate) fn are(items: &[u8], count: usize, item: u8) -> bool {
     (items.len() == count) & items.iter().all(|x| *x == item)
 }
 
@@ -160,18 +159,11 @@ fn an_array_is_iterated(rt: HostRuntime) {
     assert!(rt; are(v.as_slice(), 65536, 8));
 }
 
-fn hashed(v: &Many) -> u64 {
-    let mut state = DefaultHasher::new();
-    v.hash(&mut state);
-    state.finish()
-}
-
 #[test]
 fn arrays_are_compared(rt: HostRuntime) {
     let v = full();
     let mut w = full();
     assert!(rt; v == w);
-    assert!(rt; hashed(&v) == hashed(&w));
     assert_is!(rt; w.pop(), Some(7));
     assert_is!(rt; w.try_push(8), None);
     assert!(rt; v != w);
@@ -180,9 +172,26 @@ fn arrays_are_compared(rt: HostRuntime) {
 }
 
 #[test]
-fn an_array_is_shown(rt: HostRuntime) -> Result<(), Fail> {
-    // Two brackets, as many digits, and a comma and a blank between each two.
-    assert!(rt; format!(in rt.alloc(); "{}", full())?.as_str().len() == 2 + 65536 + 2 * 65535);
-    assert!(rt; format!(in rt.alloc(); "{:?}", full())?.as_str().len() == 2 + 65536 + 2 * 65535);
-    Ok(())
+fn an_array_is_swapped(rt: HostRuntime) {
+    let mut slots = [7; 65536];
+    slots[65535] = 8;
+    let mut v = ArrayVec::from_array(slots);
+    if v.len() == 65536 {
+        assert_is!(rt; v.swap_remove(0), 7);
+        assert_is!(rt; v.swap_remove(65534), 7);
+        assert_is!(rt; v.swap_remove(0), 8);
+    }
+    assert!(rt; are(v.as_slice(), 65533, 7));
+    assert!(rt; are(v.grab_spare_slice(), 3, 0));
+}
+
+#[test]
+fn the_length_of_an_array_is_set(rt: HostRuntime) {
+    let mut v = ArrayVec::from_array_len([7; 65536], 0);
+    v.set_len(65536);
+    assert!(rt; are(v.as_slice(), 65536, 7));
+    v.set_len(65535);
+    assert!(rt; are(v.grab_spare_slice(), 1, 7));
+    v.set_len(0);
+    assert!(rt; are(v.grab_spare_slice(), 65536, 7));
 }

@@ -1,13 +1,10 @@
 //! A `SliceVec` over 65536 slots, in calls that go through all of them.
+use crate::many::are;
 use std::cmp::Ordering;
 use std::iter;
+use std::test::Fail;
 use tinyvec::SliceVec;
 use tinyvec_test_items::assert_is;
-
-// Whether these are as many items, all of them this one.
-fn are(items: &[u8], count: usize, item: u8) -> bool {
-    (items.len() == count) & items.iter().all(|x| *x == item)
-}
 
 #[test]
 fn filled(rt: HostRuntime) {
@@ -91,4 +88,85 @@ fn compared_and_iterated(rt: HostRuntime) {
         *x = 9;
     }
     assert!(rt; are(&others, 65536, 9));
+}
+
+#[test]
+fn filtered(rt: HostRuntime) {
+    let mut slots = [7; 65536];
+    let mut v = SliceVec::from_slice_len(&mut slots, 65536);
+    v.retain(|_| true);
+    assert!(rt; are(v.as_slice(), 65536, 7));
+    let mut keeps = false;
+    v.retain(|_| {
+        keeps = !keeps;
+        keeps
+    });
+    assert!(rt; are(v.as_slice(), 32768, 7));
+    assert!(rt; are(v.grab_spare_slice(), 32768, 0));
+}
+
+#[test]
+fn filtered_to_none(rt: HostRuntime) {
+    let mut slots = [7; 65536];
+    let mut v = SliceVec::from_slice_len(&mut slots, 65536);
+    v.retain(|_| false);
+    assert!(rt; v.is_empty());
+    assert!(rt; are(&slots, 65536, 0));
+}
+
+#[test]
+fn drained(rt: HostRuntime) {
+    let mut slots = [7; 65536];
+    let mut v = SliceVec::from_slice_len(&mut slots, 65536);
+    assert_is!(rt; v.drain(..).last(), Some(7));
+    assert!(rt; v.is_empty());
+    assert!(rt; are(&slots, 65536, 0));
+}
+
+#[test]
+fn drained_but_for_the_ends(rt: HostRuntime) {
+    let mut slots = [7; 65536];
+    let mut v = SliceVec::from_slice_len(&mut slots, 65536);
+    let mut sum = 0_u32;
+    let mut add = |x: u8| sum = sum.wrapping_add(u32::from(x));
+    v.drain_each(1..65535, &mut add);
+    assert_is!(rt; sum, 7 * 65534);
+    assert!(rt; are(v.as_slice(), 2, 7));
+    assert!(rt; are(v.grab_spare_slice(), 65534, 0));
+}
+
+#[test]
+fn drained_into_a_vec(rt: HostRuntime) -> Result<(), Fail> {
+    let mut slots = [7; 65536];
+    let mut v = SliceVec::from_slice_len(&mut slots, 65536);
+    let mut out = Vec::with_capacity(rt.alloc(), 65536)?;
+    v.drain_into(.., &mut out);
+    assert!(rt; are(out.as_slice(), 65536, 7));
+    assert!(rt; are(&slots, 65536, 0));
+    Ok(())
+}
+
+#[test]
+fn swapped(rt: HostRuntime) {
+    let mut slots = [7; 65536];
+    slots[65535] = 8;
+    let mut v = SliceVec::from_slice_len(&mut slots, 65536);
+    assert_is!(rt; v.swap_remove(0), 7);
+    assert!(rt; v.len() == 65535);
+    assert_is!(rt; v.swap_remove(65534), 7);
+    assert_is!(rt; v.swap_remove(0), 8);
+    assert!(rt; are(v.as_slice(), 65533, 7));
+    assert!(rt; are(v.grab_spare_slice(), 3, 0));
+}
+
+#[test]
+fn the_length_is_set(rt: HostRuntime) {
+    let mut slots = [7; 65536];
+    let mut v = SliceVec::from_slice_len(&mut slots, 0);
+    v.set_len(65536);
+    assert!(rt; are(v.as_slice(), 65536, 7));
+    v.set_len(65535);
+    assert!(rt; are(v.grab_spare_slice(), 1, 7));
+    v.set_len(0);
+    assert!(rt; are(v.grab_spare_slice(), 65536, 7));
 }

@@ -89,3 +89,31 @@ fn moved_to_the_heap_and_back(rt: HostRuntime) -> Result<(), Fail> {
     assert!(rt; hold(v.as_slice(), &[1, 2]));
     Ok(())
 }
+
+#[test]
+fn cloned_inline(rt: HostRuntime) -> Result<(), Fail> {
+    let v = TinyVec::from_array_len(rt.alloc(), [page(1), page(2), page(9)], 2);
+    let mut copy = v.clone()?;
+    assert!(rt; copy.is_inline());
+    assert!(rt; hold(copy.as_slice(), &[1, 2]));
+    copy.clear();
+    copy.clone_from(&v)?;
+    assert!(rt; copy.is_inline());
+    assert!(rt; hold(copy.as_slice(), &[1, 2]));
+    assert!(rt; copy == v);
+    Ok(())
+}
+
+#[test]
+fn cloned_on_the_heap(rt: HostRuntime) -> Result<(), Fail> {
+    let v: TinyVec<[Page; 1]> = TinyVec::from_slice(rt.alloc(), &[page(1), page(2), page(3)])?;
+    let mut copy = v.clone()?;
+    assert!(rt; copy.is_heap());
+    assert!(rt; hold(copy.as_slice(), &[1, 2, 3]));
+    copy = TinyVec::from_array(rt.alloc(), [page(9)]);
+    copy.clone_from(&v)?;
+    assert!(rt; copy.is_heap());
+    assert!(rt; hold(copy.as_slice(), &[1, 2, 3]));
+    assert!(rt; hold(v.as_slice(), &[1, 2, 3]));
+    Ok(())
+}

@@ -1,4 +1,6 @@
 //! Items that are unequal to themselves, and closures whose answers hang on what they were asked before.
+use std::alloc::{AllocError, Global};
+use std::test::Fail;
 use tinyvec::{ArrayVec, SliceVec, TinyVec};
 use tinyvec_test_items::assert_items;
 use tinyvec_test_looks::{lies, spares};
@@ -104,4 +106,76 @@ fn dedup_by_key_by_pairs_inline(rt: HostRuntime) {
         if asked % 4 == 0 { 1 } else { 0 }
     });
     assert!(rt; lies(&v, &[1, 3, 5], true));
+}
+
+// `[1, 2, 3, 4, 5, 6, 7]`, on the heap.
+fn seven(alloc: Global) -> Result<TinyVec<[u8; 2]>, AllocError> {
+    TinyVec::from_slice(alloc, &[1, 2, 3, 4, 5, 6, 7])
+}
+
+#[test]
+fn retain_every_third_on_the_heap(rt: HostRuntime) -> Result<(), Fail> {
+    let mut asked = 0_u8;
+    let mut v = seven(rt.alloc())?;
+    v.retain(|_| {
+        asked = asked.wrapping_add(1);
+        asked % 3 == 0
+    });
+    assert!(rt; asked == 7);
+    assert!(rt; lies(&v, &[3, 6], false));
+    Ok(())
+}
+
+#[test]
+fn retain_mut_counts_on_the_heap(rt: HostRuntime) -> Result<(), Fail> {
+    let mut count = 0_u8;
+    let mut v = seven(rt.alloc())?;
+    v.retain_mut(|x| {
+        count = count.wrapping_add(1);
+        *x = x.wrapping_add(count);
+        count % 3 != 0
+    });
+    assert!(rt; lies(&v, &[2, 4, 8, 10, 14], false));
+    Ok(())
+}
+
+// Asked about each item after the first, it says at every third that the item repeats the last one kept.
+#[test]
+fn dedup_by_every_third_on_the_heap(rt: HostRuntime) -> Result<(), Fail> {
+    let mut asked = 0_u8;
+    let mut v = seven(rt.alloc())?;
+    v.dedup_by(|_, _| {
+        asked = asked.wrapping_add(1);
+        asked % 3 == 0
+    });
+    assert!(rt; asked == 6);
+    assert!(rt; lies(&v, &[1, 2, 3, 5, 6], false));
+    Ok(())
+}
+
+// Two keys are asked for at each item after the first. Every third of them differs from the others.
+#[test]
+fn dedup_by_key_by_every_third_on_the_heap(rt: HostRuntime) -> Result<(), Fail> {
+    let mut asked = 0_u8;
+    let mut v = seven(rt.alloc())?;
+    v.dedup_by_key(|_| {
+        asked = asked.wrapping_add(1);
+        if asked % 3 == 0 { 1 } else { 0 }
+    });
+    assert!(rt; asked == 12);
+    assert!(rt; lies(&v, &[1, 3, 4, 6, 7], false));
+    Ok(())
+}
+
+#[test]
+fn no_number_repeats_on_the_heap(rt: HostRuntime) -> Result<(), Fail> {
+    let mut v: TinyVec<[f64; 1]> = TinyVec::from_slice(
+        rt.alloc(),
+        &[1.0, 1.0, f64::NAN, f64::NAN],
+    )?;
+    v.dedup();
+    assert!(rt; v.is_heap());
+    assert!(rt; v.len() == 3);
+    assert!(rt; v.iter().filter(|x| x.is_nan()).count() == 2);
+    Ok(())
 }
