@@ -113,3 +113,16 @@ fn room_asked_for(rt: HostRuntime) -> Result<(), Fail> {
     assert!(rt; t.capacity() == room);
     Ok(())
 }
+
+#[test]
+fn room_asked_for_on_the_heap(rt: HostRuntime) -> Result<(), Fail> {
+    let mut t: InlineText<4> = InlineText::from_str(rt.alloc(), "héllo")?;
+    t.reserve(100)?;
+    assert!(rt; lies(&t, "héllo", false));
+    let room = t.capacity();
+    assert!(rt; room >= 106);
+    t.reserve(100)?;
+    assert!(rt; lies(&t, "héllo", false));
+    assert!(rt; t.capacity() == room);
+    Ok(())
+}

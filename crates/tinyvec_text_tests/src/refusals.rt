@@ -79,6 +79,22 @@ fn reserve(rt: HostRuntime) -> Result<(), Fail> {
 }
 
 #[test]
+fn reserve_on_the_heap(rt: HostRuntime) -> Result<(), Fail> {
+    let mut t: InlineText<4> = InlineText::from_str(rt.alloc(), "hello")?;
+    let room = t.capacity();
+    assert!(rt; t.reserve(0).is_ok());
+    if let Err(AllocError) = t.reserve(100) {
+        assert!(rt; lies(&t, "hello", false));
+        assert!(rt; t.capacity() == room);
+        refused(&rt)?;
+        assert!(rt; t.reserve(100).is_ok());
+    }
+    assert!(rt; lies(&t, "hello", false));
+    assert!(rt; t.capacity() >= 105);
+    Ok(())
+}
+
+#[test]
 fn write_str(rt: HostRuntime) -> Result<(), Fail> {
     let mut t: InlineText<4> = InlineText::from_str(rt.alloc(), "hé")?;
     assert!(rt; t.write_str("y").is_ok());
