@@ -105,3 +105,31 @@ impl<W: Write + Drop> Write for Interrupted<W> {
         self.end.flush()
     }
 }
+
+// Takes all bytes. Its first flush is interrupted, and no other. It counts them.
+#[derive(Drop)]
+pub(crate) struct FlushInterrupted {
+    pub(crate) taken: Vec<u8>,
+    pub(crate) flushes: u8,
+}
+
+impl FlushInterrupted {
+    pub(crate) fn new(taken: Vec<u8>) -> Self {
+        FlushInterrupted { taken, flushes: 0 }
+    }
+}
+
+impl Write for FlushInterrupted {
+    fn write(&mut self, buf: &[u8]) -> io::Result<usize> {
+        self.taken.extend_from_slice(buf)?;
+        Ok(buf.len())
+    }
+
+    fn flush(&mut self) -> io::Result<()> {
+        self.flushes = self.flushes.saturating_add(1);
+        if self.flushes == 1 {
+            return Err(io::Error::from(ErrorKind::Interrupted));
+        }
+        Ok(())
+    }
+}

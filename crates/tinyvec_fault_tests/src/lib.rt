@@ -12,6 +12,8 @@ mod ends;
 #[cfg(test)]
 mod faults;
 #[cfg(test)]
+mod flushes;
+#[cfg(test)]
 mod forms;
 #[cfg(test)]
 mod granted;
