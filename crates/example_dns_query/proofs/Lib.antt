@@ -1,4 +1,3 @@
-pub mod AppendsLemmas
 pub mod Faults
 pub mod LineLemmas
 pub mod MessageLemmas

@@ -1,4 +1,3 @@
-pub mod Appends
 pub mod Line
 pub mod Message
 pub mod Name

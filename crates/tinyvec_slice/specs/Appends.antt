@@ -4,8 +4,12 @@ use Rattle.std.specs.Borrow.{MutBor}
 use Rattle.tinyvec_slice.specs.View.{items, spare, name}
 use Rattle.tinyvec_slice.specs.declared.slice_vec.SliceVecOver.{SliceVecOver}
 
+-- a vector over a lent slice
+abbrev pub LentVec : Type 0 → Type 0
+LentVec T = SliceVecOver (MutBor (List T)) T
+
 -- the items stand behind the old list, in spare slots, and all else is as it was
-pub record Appends {T : Type 0} (xs : List T) (old new : SliceVecOver (MutBor (List T)) T) : Type 0 where
+pub record Appends {T : Type 0} (xs : List T) (old new : LentVec T) : Type 0 where
   pub same_reference : name new ≡ name old
   pub items : items new ≡ items old ++ xs
   pub spare : spare new ≡ drop (length xs) (spare old)
