@@ -1,9 +1,11 @@
 //! Vectors of no slots.
 use crate::bases::{Binary, LowerHex, Octal, UpperHex};
+use crate::many_texts::hash_of;
+use std::alloc::AllocGlobal;
 use std::cmp::Ordering;
-use std::hash::{DefaultHasher, Hash, Hasher};
-use std::iter;
+use std::process::Abort;
 use std::test::Fail;
+use std::{fmt, iter};
 use tinyvec::{ArrayVec, NoRoom, SliceVec, TinyVec};
 use tinyvec_test_items::{assert_debugs, assert_is, assert_items, assert_shows};
 use tinyvec_test_looks::lies;
@@ -209,41 +211,27 @@ fn a_text_is_cut(rt: HostRuntime) -> Result<(), Fail> {
     Ok(())
 }
 
-#[test]
-fn an_array_in_other_bases(rt: HostRuntime) -> Result<(), Fail> {
-    let v = Empty::new();
-    assert_shows!(rt; Binary(&v), "[]");
-    assert_shows!(rt; Octal(&v), "[]");
-    assert_shows!(rt; LowerHex(&v), "[]");
-    assert_shows!(rt; UpperHex(&v), "[]");
+// Asserts that an empty list is written in each base.
+fn assert_empty<V: fmt::Binary + fmt::Octal + fmt::LowerHex + fmt::UpperHex>(
+    rt: &(impl Abort + AllocGlobal),
+    v: &V,
+) -> Result<(), Fail> {
+    assert!(rt; format!(in rt.alloc(); "{}", Binary(v))?.as_str() == "[]");
+    assert!(rt; format!(in rt.alloc(); "{}", Octal(v))?.as_str() == "[]");
+    assert!(rt; format!(in rt.alloc(); "{}", LowerHex(v))?.as_str() == "[]");
+    assert!(rt; format!(in rt.alloc(); "{}", UpperHex(v))?.as_str() == "[]");
     Ok(())
 }
 
 #[test]
-fn a_slice_in_other_bases(rt: HostRuntime) -> Result<(), Fail> {
+fn in_other_bases(rt: HostRuntime) -> Result<(), Fail> {
+    assert_empty(&rt, &Empty::new())?;
     let mut slots: [i32; 0] = [];
-    let v = SliceVec::from_slice_len(&mut slots, 0);
-    assert_shows!(rt; Binary(&v), "[]");
-    assert_shows!(rt; Octal(&v), "[]");
-    assert_shows!(rt; LowerHex(&v), "[]");
-    assert_shows!(rt; UpperHex(&v), "[]");
-    Ok(())
-}
-
-#[test]
-fn a_tiny_vec_in_other_bases(rt: HostRuntime) -> Result<(), Fail> {
-    let v = Tiny::new(rt.alloc());
-    assert_shows!(rt; Binary(&v), "[]");
-    assert_shows!(rt; Octal(&v), "[]");
-    assert_shows!(rt; LowerHex(&v), "[]");
-    assert_shows!(rt; UpperHex(&v), "[]");
-    Ok(())
-}
-
-fn hash_of<T: Hash>(x: &T) -> u64 {
-    let mut state = DefaultHasher::new();
-    x.hash(&mut state);
-    state.finish()
+    assert_empty(&rt, &SliceVec::from_slice_len(&mut slots, 0))?;
+    let mut v = Tiny::new(rt.alloc());
+    assert_empty(&rt, &v)?;
+    v.move_to_the_heap()?;
+    assert_empty(&rt, &v)
 }
 
 // A list feeds a hasher what a slice of its items feeds it.

@@ -1,9 +1,10 @@
 //! Texts and hashes of 65536 items, and as many bytes written at once.
 use crate::bases::{Binary, LowerHex, Octal, UpperHex};
 use crate::many::{Many, are};
-use std::alloc::{AllocError, Global};
-use std::fmt::Display;
+use std::alloc::{AllocError, AllocGlobal, Global};
+use std::fmt::{Debug, Display};
 use std::hash::{DefaultHasher, Hash, Hasher};
+use std::process::Abort;
 use std::test::Fail;
 use std::{fmt, io};
 use tinyvec::{ArrayVec, SliceVec, TinyVec};
@@ -12,51 +13,47 @@ use tinyvec_text::InlineText;
 // Two brackets, two digits of each item, and a comma and a blank between each two.
 const LEN: usize = 2 + 2 * 65536 + 2 * 65535;
 
-// Whether `{}` writes a list of 65536 copies of an item of these two digits.
-fn shows(alloc: Global, v: &impl Display, digits: [u8; 2]) -> Result<bool, AllocError> {
-    let text = format!(in alloc; "{v}")?;
-    Ok(is_list(text.as_str(), digits))
-}
-
+// Whether this is a list of 65536 copies of an item of these two digits.
 fn is_list(text: &str, digits: [u8; 2]) -> bool {
     let bytes = text.as_bytes();
     bytes.len() == LEN && bytes[1..].chunks(4).all(|item| item.starts_with(&digits))
 }
 
+// Asserts that a list of as many times 31 is written in each base.
+fn assert_shown<V: Debug + Display + fmt::Octal + fmt::LowerHex + fmt::UpperHex>(
+    rt: &(impl Abort + AllocGlobal),
+    v: &V,
+) -> Result<(), Fail> {
+    assert!(rt; is_list(format!(in rt.alloc(); "{v}")?.as_str(), *b"31"));
+    assert!(rt; is_list(format!(in rt.alloc(); "{v:?}")?.as_str(), *b"31"));
+    assert!(rt; is_list(format!(in rt.alloc(); "{}", Octal(v))?.as_str(), *b"37"));
+    assert!(rt; is_list(format!(in rt.alloc(); "{}", LowerHex(v))?.as_str(), *b"1f"));
+    assert!(rt; is_list(format!(in rt.alloc(); "{}", UpperHex(v))?.as_str(), *b"1F"));
+    Ok(())
+}
+
 #[test]
 fn of_an_array(rt: HostRuntime) -> Result<(), Fail> {
-    let v = ArrayVec::from_array([31_u8; 65536]);
-    assert!(rt; shows(rt.alloc(), &v, *b"31")?);
-    assert!(rt; is_list(format!(in rt.alloc(); "{v:?}")?.as_str(), *b"31"));
-    assert!(rt; shows(rt.alloc(), &Octal(&v), *b"37")?);
-    assert!(rt; shows(rt.alloc(), &LowerHex(&v), *b"1f")?);
-    assert!(rt; shows(rt.alloc(), &UpperHex(&v), *b"1F")?);
+    assert_shown(&rt, &ArrayVec::from_array([31_u8; 65536]))?;
     let threes = ArrayVec::from_array([3_u8; 65536]);
-    assert!(rt; shows(rt.alloc(), &Binary(&threes), *b"11")?);
+    assert!(rt;
+        is_list(
+            format!(in rt.alloc(); "{}", Binary(&threes))?.as_str(),
+            *b"11"
+        )
+    );
     Ok(())
 }
 
 #[test]
 fn of_lent_slots(rt: HostRuntime) -> Result<(), Fail> {
     let mut slots = [31_u8; 65536];
-    let v = SliceVec::from_slice_len(&mut slots, 65536);
-    assert!(rt; shows(rt.alloc(), &v, *b"31")?);
-    assert!(rt; is_list(format!(in rt.alloc(); "{v:?}")?.as_str(), *b"31"));
-    assert!(rt; shows(rt.alloc(), &Octal(&v), *b"37")?);
-    assert!(rt; shows(rt.alloc(), &LowerHex(&v), *b"1f")?);
-    assert!(rt; shows(rt.alloc(), &UpperHex(&v), *b"1F")?);
-    Ok(())
+    assert_shown(&rt, &SliceVec::from_slice_len(&mut slots, 65536))
 }
 
 #[test]
 fn of_a_tiny_vec(rt: HostRuntime) -> Result<(), Fail> {
-    let v = TinyVec::from_array(rt.alloc(), [31_u8; 65536]);
-    assert!(rt; shows(rt.alloc(), &v, *b"31")?);
-    assert!(rt; is_list(format!(in rt.alloc(); "{v:?}")?.as_str(), *b"31"));
-    assert!(rt; shows(rt.alloc(), &Octal(&v), *b"37")?);
-    assert!(rt; shows(rt.alloc(), &LowerHex(&v), *b"1f")?);
-    assert!(rt; shows(rt.alloc(), &UpperHex(&v), *b"1F")?);
-    Ok(())
+    assert_shown(&rt, &TinyVec::from_array(rt.alloc(), [31_u8; 65536]))
 }
 
 // A text of 65536 letters.
@@ -79,7 +76,7 @@ fn of_a_text(rt: HostRuntime) -> Result<(), Fail> {
     Ok(())
 }
 
-fn hash_of<T: Hash>(x: &T) -> u64 {
+pub(crate) fn hash_of<T: Hash>(x: &T) -> u64 {
     let mut state = DefaultHasher::new();
     x.hash(&mut state);
     state.finish()
