@@ -5,11 +5,57 @@ use tinyvec_io::Counted;
 use tinyvec_script::run;
 
 // Of no line is what stands before its last byte a command too.
-const INPUT: &[u8] =
-    b"A setlen 3\nA insert 1 5\nA swap 0\nA remove 1\nA drain 0 1\nA push 7\nA splice 0 1 f\nA truncate 0\nA pop\nS setlen 4\nS drain 1 3\nS remove 0\nT push 1\nT insert 0 2\nT splice 0 1 b\nT reserve 4\nT drain 0 1\nT shrink\nT heap\nT pop\nX add \xf0\x9f\x98\x80\nX cut 1\nX add \xc2\x80\nX cut 4\n";
+const INPUT: &[u8] = b"A setlen 3
+A insert 1 5
+A swap 0
+A remove 1
+A drain 0 1
+A push 7
+A splice 0 1 f
+A truncate 0
+A pop
+S setlen 4
+S drain 1 3
+S remove 0
+T push 1
+T insert 0 2
+T splice 0 1 b
+T reserve 4
+T drain 0 1
+T shrink
+T heap
+T pop
+X add \xf0\x9f\x98\x80
+X cut 1
+X add \xc2\x80
+X cut 4
+";
 
-const OUTPUT: &[u8] =
-    b"ok [0, 0, 0] [0]\nok [0, 5, 0, 0] []\nsome 0 [0, 5, 0] [0]\nsome 5 [0, 0] [0, 0]\nitems [0] [0] [0, 0, 0]\nok [0, 7] [0, 0]\nitems [0] [7] [0, 0, 0]\nok [] [0, 0, 0, 0]\nnone [] [0, 0, 0, 0]\nok [0, 0, 0, 0] []\nitems [0, 0] [0, 0] [0, 0]\nsome 0 [0] [0, 0, 0]\nok [1] inline\nok [2, 1] inline\nitems [2] [1] inline\nok [1] heap\nitems [1] [] heap\nok [] inline\nok [] heap\nnone [] heap\nok [\xf0\x9f\x98\x80] inline\nrange [\xf0\x9f\x98\x80] inline\nok [\xf0\x9f\x98\x80\xc2\x80] heap\nok [\xf0\x9f\x98\x80] heap\n";
+const OUTPUT: &[u8] = b"ok [0, 0, 0] [0]
+ok [0, 5, 0, 0] []
+some 0 [0, 5, 0] [0]
+some 5 [0, 0] [0, 0]
+items [0] [0] [0, 0, 0]
+ok [0, 7] [0, 0]
+items [0] [7] [0, 0, 0]
+ok [] [0, 0, 0, 0]
+none [] [0, 0, 0, 0]
+ok [0, 0, 0, 0] []
+items [0, 0] [0, 0] [0, 0]
+some 0 [0] [0, 0, 0]
+ok [1] inline
+ok [2, 1] inline
+items [2] [1] inline
+ok [1] heap
+items [1] [] heap
+ok [] inline
+ok [] heap
+none [] heap
+ok [\xf0\x9f\x98\x80] inline
+range [\xf0\x9f\x98\x80] inline
+ok [\xf0\x9f\x98\x80\xc2\x80] heap
+ok [\xf0\x9f\x98\x80] heap
+";
 
 #[test]
 fn input_that_ends_after_each_byte(rt: HostRuntime) -> Result<(), Fail> {

@@ -108,8 +108,20 @@ range [] heap
 };
 
 const OF_A_TEXT: Script = Script {
-    input: b"X add h\xc3\xa9y\nX cut 2\nX add !\nX cut 1\nX add a b\nX cut 0\n",
-    output: b"ok [h\xc3\xa9y] inline\nrange [h\xc3\xa9y] inline\nok [h\xc3\xa9y!] heap\nok [h] heap\nok [ha b] heap\nok [] heap\n",
+    input: b"X add h\xc3\xa9y
+X cut 2
+X add !
+X cut 1
+X add a b
+X cut 0
+",
+    output: b"ok [h\xc3\xa9y] inline
+range [h\xc3\xa9y] inline
+ok [h\xc3\xa9y!] heap
+ok [h] heap
+ok [ha b] heap
+ok [] heap
+",
 };
 
 // Asserts that a read that fails after any byte leaves just the complete lines before it answered.

@@ -284,10 +284,38 @@ fn assert_driven_splices(rt: &(impl Abort + AllocGlobal)) -> Result<(), Fail> {
 }
 
 fn assert_script(rt: &(impl Abort + AllocGlobal)) -> Result<(), Fail> {
-    let input =
-        b"A splice 0 0 f 1 2 3\nA drain 0 2\nS setlen 1\nS drain 0 1\nT splice 0 0 b 1 2 3 4 5\nT drain 0 4\nT shrink\nT heap\nT shrink\nT reserve 9\nT shrink\nT splice 1 1 - 6 7 8\nT insert 0 9\nX add hello\nX add , world\n";
-    let output =
-        b"items [] [1, 2, 3] [0]\nitems [1, 2] [3] [0, 0, 0]\nok [0] [0, 0, 0]\nitems [0] [] [0, 0, 0, 0]\nitems [] [1, 2, 3, 4, 5] heap\nitems [1, 2, 3, 4] [5] heap\nok [5] inline\nok [5] heap\nok [5] inline\nok [5] heap\nok [5] inline\nitems [] [5, 6, 7, 8] inline\nok [9, 5, 6, 7, 8] heap\nok [hello] heap\nok [hello, world] heap\n";
+    let input = b"A splice 0 0 f 1 2 3
+A drain 0 2
+S setlen 1
+S drain 0 1
+T splice 0 0 b 1 2 3 4 5
+T drain 0 4
+T shrink
+T heap
+T shrink
+T reserve 9
+T shrink
+T splice 1 1 - 6 7 8
+T insert 0 9
+X add hello
+X add , world
+";
+    let output = b"items [] [1, 2, 3] [0]
+items [1, 2] [3] [0, 0, 0]
+ok [0] [0, 0, 0]
+items [0] [] [0, 0, 0, 0]
+items [] [1, 2, 3, 4, 5] heap
+items [1, 2, 3, 4] [5] heap
+ok [5] inline
+ok [5] heap
+ok [5] inline
+ok [5] heap
+ok [5] inline
+items [] [5, 6, 7, 8] inline
+ok [9, 5, 6, 7, 8] heap
+ok [hello] heap
+ok [hello, world] heap
+";
     assert_written(rt, input.as_slice(), output.as_slice())
 }
 
