@@ -1,5 +1,6 @@
 //! The benchmarks. Each has the loop of the one of the same name in `crates/tinyvec_bench`.
 
+use crate::growing::Growing;
 use crate::number::Number;
 use crate::vector::Vector;
 
@@ -14,12 +15,28 @@ pub fn two_pushes<T: Number, V: Vector<T, N>, const N: usize>(x: u64) -> V {
     vec
 }
 
+/// A new vector with room on the heap, and two pushes.
+#[inline(never)]
+pub fn two_pushes_on_heap<T: Number, V: Growing<T, N>, const N: usize>(x: u64) -> V {
+    let mut vec = V::with_room(N.saturating_add(1));
+    vec.push(T::of(x));
+    vec.push(T::of(x));
+    vec
+}
+
 /// Pushes until the vector is full, and pops until it is empty.
 #[inline(never)]
 pub fn push_and_pop<T: Number, V: Vector<T, N>, const N: usize>(vec: &mut V, x: u64) -> u64 {
     vec.set_len(0);
     push_until_full(vec, x);
     pop_until_empty(vec)
+}
+
+/// Pushes from none until the vector is full.
+#[inline(never)]
+pub fn push_all<T: Number, V: Vector<T, N>, const N: usize>(vec: &mut V, x: u64) -> u64 {
+    vec.set_len(0);
+    push_until_full(vec, x)
 }
 
 /// Cuts the list to its first half, and pushes until the vector is full.
@@ -106,7 +123,7 @@ pub fn swap_remove<T: Number, V: Vector<T, N>, const N: usize>(vec: &mut V, x: u
 #[inline(never)]
 pub fn extend_from_slice<T: Number, V: Vector<T, N>, const N: usize>(vec: &mut V, source: &[T], x: u64) -> u64 {
     vec.set_len(0);
-    if source.len() > N {
+    if V::IS_BOUNDED && source.len() > N {
         return 0;
     }
     vec.extend_from_slice(source);
@@ -166,12 +183,14 @@ pub fn dedup<V: Vector<u64, N>, const N: usize>(vec: &mut V, runs: &[u64], x: u6
     x.wrapping_add(vec.as_slice().len() as u64)
 }
 
-/// Fills three quarters of the vector, and puts `count` numbers in the place of the second quarter.
+/// Makes the list the first three quarters of `source`, and puts `count` numbers in the place of the second quarter.
 #[inline(never)]
 pub fn splice<V: Vector<u64, N>, const N: usize>(vec: &mut V, source: &[u64], count: u64, x: u64) -> u64 {
-    extend_from_slice(vec, source, x);
-    let quarter = vec.as_slice().len() / 4;
-    vec.set_len(3 * quarter);
+    let quarter = source.len() / 4;
+    extend_from_slice(vec, &source[..3 * quarter], x);
+    if vec.as_slice().len() < 2 * quarter {
+        return 0;
+    }
     vec.splice(quarter..2 * quarter, 0..count);
     x.wrapping_add(vec.as_slice().len() as u64)
 }

@@ -3,37 +3,47 @@
 use crate::benchmarks::*;
 use crate::comparing::{compare, equal, hash};
 use crate::form::{borsh_read, borsh_write};
+use crate::growing::Growing;
 use crate::printing::{debug_print, Text};
 use crate::report::Report;
 use crate::slices::*;
 use crate::sources::{higher_at, pairs, scattered, LETTERS};
+use crate::spilling;
 use crate::texts::{text_push, text_push_str};
-use crate::tiny::tiny_splice;
 use crate::vector::Vector;
-use tinyvec::{ArrayVec, SliceVec, TinyVec};
+use tinyvec::{ArrayVec, SliceVec};
 
 /// Every benchmark of a vector of `u64`.
 pub fn of_words<V: Vector<u64, N>, const N: usize>(report: &Report) {
-    let source = scattered::<u64, N>();
-    let mut vec = V::from_array(source);
     report.row("two_pushes", N, |x| last(two_pushes::<u64, V, N>(x).as_slice()));
+    of_made_words(report, V::from_array);
+}
+
+// Those that work on vectors that `make` gives.
+fn of_made_words<V: Vector<u64, N>, const N: usize>(report: &Report, make: fn([u64; N]) -> V) {
+    edits_of_words(report, make);
+    cuts_of_words(report, make);
+    looks_at_words(report, make);
+}
+
+fn edits_of_words<V: Vector<u64, N>, const N: usize>(report: &Report, make: fn([u64; N]) -> V) {
+    let source = scattered::<u64, N>();
+    let mut vec = make(source);
     report.row("push_and_pop", N, |x| push_and_pop(&mut vec, x));
-    vec = V::from_array(source);
+    vec = make(source);
     report.row("insert_front", N, |x| insert_front(&mut vec, x));
     report.row("insert_middle", N, |x| insert_middle(&mut vec, x));
     report.row("remove_front", N, |x| remove_front(&mut vec, x));
     report.row("remove_middle", N, |x| remove_middle(&mut vec, x));
     report.row("swap_remove", N, |x| swap_remove(&mut vec, x));
     report.row("truncate_and_refill", N, |x| truncate_and_refill(&mut vec, x));
-    cuts_of_words::<V, N>(report);
-    looks_at_words::<V, N>(report);
 }
 
-fn cuts_of_words<V: Vector<u64, N>, const N: usize>(report: &Report) {
+fn cuts_of_words<V: Vector<u64, N>, const N: usize>(report: &Report, make: fn([u64; N]) -> V) {
     let source = scattered::<u64, N>();
     let runs = pairs::<N>();
     let count = N as u64;
-    let mut vec = V::from_array(source);
+    let mut vec = make(source);
     report.row("extend_from_slice", N, |x| extend_from_slice(&mut vec, &source, x));
     report.row("extend_from_range", N, |x| extend_from_range(&mut vec, x));
     report.row("drain_taken", N, |x| drain_taken(&mut vec, &source, x));
@@ -47,18 +57,18 @@ fn cuts_of_words<V: Vector<u64, N>, const N: usize>(report: &Report) {
         report.row("splice_fewer", N, |x| splice(&mut vec, &source, count / 8, x));
         report.row("splice_more", N, |x| splice(&mut vec, &source, count / 2, x));
     }
-    vec = V::from_array(source);
-    let odd = V::from_array(runs);
+    vec = make(source);
+    let odd = make(runs);
     report.row("clone", N, |x| last(clone_of(&vec, &odd, x).as_slice()));
     report.row("sum", N, |x| sum(&vec, x));
 }
 
-fn looks_at_words<V: Vector<u64, N>, const N: usize>(report: &Report) {
+fn looks_at_words<V: Vector<u64, N>, const N: usize>(report: &Report, make: fn([u64; N]) -> V) {
     let source = scattered::<u64, N>();
-    let vec = V::from_array(source);
-    let same = V::from_array(source);
-    let last_higher = V::from_array(higher_at(source, N.saturating_sub(1)));
-    let first_higher = V::from_array(higher_at(source, 0));
+    let vec = make(source);
+    let same = make(source);
+    let last_higher = make(higher_at(source, N.saturating_sub(1)));
+    let first_higher = make(higher_at(source, 0));
     let mut text = Text::new();
     report.row("equal", N, |x| equal(&vec, &same, x));
     report.row("compare", N, |x| compare(&vec, &last_higher, x));
@@ -69,16 +79,20 @@ fn looks_at_words<V: Vector<u64, N>, const N: usize>(report: &Report) {
 
 /// The benchmarks of a vector of `u8`, where the size of an item matters.
 pub fn of_bytes<V: Vector<u8, N>, const N: usize>(report: &Report) {
+    of_made_bytes(report, V::from_array);
+}
+
+fn of_made_bytes<V: Vector<u8, N>, const N: usize>(report: &Report, make: fn([u8; N]) -> V) {
     let source = scattered::<u8, N>();
-    let mut vec = V::from_array(source);
+    let mut vec = make(source);
     report.row("bytes_push_and_pop", N, |x| push_and_pop(&mut vec, x));
-    vec = V::from_array(source);
+    vec = make(source);
     report.row("bytes_insert_front", N, |x| insert_front(&mut vec, x));
     report.row("bytes_remove_front", N, |x| remove_front(&mut vec, x));
     report.row("bytes_extend_from_slice", N, |x| extend_from_slice(&mut vec, &source, x));
-    let odd = V::from_array([1; N]);
+    let odd = make([1; N]);
     report.row("bytes_clone", N, |x| last(clone_of(&vec, &odd, x).as_slice()));
-    let same = V::from_array(source);
+    let same = make(source);
     report.row("bytes_equal", N, |x| equal(&vec, &same, x));
     report.row("bytes_sum", N, |x| sum(&vec, x));
 }
@@ -110,37 +124,34 @@ fn looks_at_slices<const N: usize>(report: &Report) {
     report.row("slice_debug_print", N, |x| debug_print(&vec, &mut text, x));
 }
 
-/// The splices of a `TinyVec` of `u64`, inline and on the heap, and comparisons of inline ones.
-pub fn of_tiny<const N: usize>(report: &Report)
-where
-    [u64; N]: tinyvec::Array<Item = u64>,
-{
-    let source = scattered::<u64, N>();
-    let count = N as u64;
-    let mut vec = TinyVec::new();
-    report.row("tiny_splice_as_many", N, |x| tiny_splice(&mut vec, &source, count / 4, x));
-    report.row("tiny_splice_fewer", N, |x| tiny_splice(&mut vec, &source, count / 8, x));
-    report.row("tiny_splice_more", N, |x| tiny_splice(&mut vec, &source, count / 2, x));
-    vec.move_to_the_heap_and_reserve(N);
-    report.row("tiny_heap_splice_as_many", N, |x| tiny_splice(&mut vec, &source, count / 4, x));
-    report.row("tiny_heap_splice_fewer", N, |x| tiny_splice(&mut vec, &source, count / 8, x));
-    report.row("tiny_heap_splice_more", N, |x| tiny_splice(&mut vec, &source, count / 2, x));
-    looks_at_tiny::<N>(report);
+/// The benchmarks of a vector that grows, while it has room in its array.
+pub fn of_inline<W: Growing<u64, N>, B: Growing<u8, N>, const N: usize>(report: &Report) {
+    of_words::<W, N>(report);
+    of_bytes::<B, N>(report);
 }
 
-fn looks_at_tiny<const N: usize>(report: &Report)
-where
-    [u64; N]: tinyvec::Array<Item = u64>,
-{
+/// The benchmarks of a vector that grows, on the heap.
+pub fn of_heap<W: Growing<u64, N>, B: Growing<u8, N>, const N: usize>(report: &Report) {
+    report.row("two_pushes", N, |x| last(two_pushes_on_heap::<u64, W, N>(x).as_slice()));
+    of_made_words(report, W::on_heap);
+    of_made_bytes(report, B::on_heap);
+}
+
+/// The benchmarks of a vector that moves to the heap in each round.
+pub fn of_spilling<V: Growing<u64, N>, const N: usize>(report: &Report) {
     let source = scattered::<u64, N>();
-    let vec = TinyVec::from(source);
-    let same = TinyVec::from(source);
-    let last_higher = TinyVec::from(higher_at(source, N.saturating_sub(1)));
-    let mut text = Text::new();
-    report.row("tiny_equal", N, |x| equal(&vec, &same, x));
-    report.row("tiny_compare", N, |x| compare(&vec, &last_higher, x));
-    report.row("tiny_hash", N, |x| hash(&vec, x));
-    report.row("tiny_debug_print", N, |x| debug_print(&vec, &mut text, x));
+    let count = N as u64;
+    let mut other = V::empty();
+    report.row("push", N, |x| spilling::push::<V, N>(2 * count, x));
+    report.row("extend_from_slice", N, |x| spilling::extend_from_slice::<V, N>(&source, x));
+    report.row("extend_from_range", N, |x| spilling::extend_from_range::<V, N>(2 * count, x));
+    report.row("append", N, |x| spilling::append(&mut other, &source, x));
+    report.row("insert_front", N, |x| spilling::insert::<V, N>(&source, 0, x));
+    report.row("insert_middle", N, |x| spilling::insert::<V, N>(&source, N / 2, x));
+    report.row("resize", N, |x| spilling::resize::<V, N>(&source, 2 * N, x));
+    if V::HAS_SPLICE {
+        report.row("splice_more", N, |x| spilling::splice_more::<V, N>(&source, count + count / 4, x));
+    }
 }
 
 /// Lists of bytes and of `u32` written and read in the Borsh form.

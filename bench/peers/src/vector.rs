@@ -11,6 +11,12 @@ pub trait Vector<T: Number, const N: usize>: Clone + PartialOrd + Hash + Debug {
     const HAS_DEDUP: bool = true;
     const HAS_SPLICE: bool = true;
 
+    /// Whether a splice puts its items in one by one, and moves what stands behind each time.
+    const SPLICES_ONE_BY_ONE: bool = false;
+
+    /// Whether it never holds more than `N` items.
+    const IS_BOUNDED: bool = false;
+
     fn new() -> Self;
     fn from_array(array: [T; N]) -> Self;
     fn as_slice(&self) -> &[T];
@@ -90,6 +96,8 @@ macro_rules! shared_calls {
 impl<T: Number, const N: usize> Vector<T, N> for tinyvec::ArrayVec<[T; N]> {
     // Its `dedup` needs a nightly compiler.
     const HAS_DEDUP: bool = false;
+    const SPLICES_ONE_BY_ONE: bool = true;
+    const IS_BOUNDED: bool = true;
 
     shared_calls!();
 
@@ -116,6 +124,47 @@ impl<T: Number, const N: usize> Vector<T, N> for tinyvec::ArrayVec<[T; N]> {
     #[inline(always)]
     fn set_len(&mut self, len: usize) {
         self.set_len(len)
+    }
+
+    #[inline(always)]
+    fn splice(&mut self, range: Range<usize>, items: impl Iterator<Item = T>) {
+        drop(self.splice(range, items))
+    }
+}
+
+impl<T: Number, const N: usize> Vector<T, N> for tinyvec::TinyVec<[T; N]>
+where
+    [T; N]: tinyvec::Array<Item = T>,
+{
+    // Its `dedup` needs a nightly compiler.
+    const HAS_DEDUP: bool = false;
+    const SPLICES_ONE_BY_ONE: bool = true;
+
+    shared_calls!();
+
+    #[inline(always)]
+    fn new() -> Self {
+        Self::new()
+    }
+
+    #[inline(always)]
+    fn from_array(array: [T; N]) -> Self {
+        Self::from(array)
+    }
+
+    #[inline(always)]
+    fn extend_from_slice(&mut self, source: &[T]) {
+        self.extend_from_slice(source)
+    }
+
+    #[inline(always)]
+    fn retain(&mut self, keeps: impl FnMut(&T) -> bool) {
+        self.retain(keeps)
+    }
+
+    #[inline(always)]
+    fn set_len(&mut self, len: usize) {
+        self.truncate(len)
     }
 
     #[inline(always)]
@@ -164,6 +213,7 @@ impl<T: Number, const N: usize> Vector<T, N> for smallvec::SmallVec<[T; N]> {
 impl<T: Number, const N: usize> Vector<T, N> for arrayvec::ArrayVec<T, N> {
     const HAS_DEDUP: bool = false;
     const HAS_SPLICE: bool = false;
+    const IS_BOUNDED: bool = true;
 
     shared_calls!();
 

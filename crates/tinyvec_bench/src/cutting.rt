@@ -41,7 +41,7 @@ pub fn dedup<const N: usize>(vec: &mut ArrayVec<[u64; N]>, runs: &[u64], x: u64)
     x.wrapping_add(vec.len() as u64)
 }
 
-/// Fills three quarters of the vector, and puts `count` numbers in the place of the second quarter.
+/// Makes the list the first three quarters of `source`, and puts `count` numbers in the place of the second quarter.
 #[inline(never)]
 pub fn splice<const N: usize>(
     vec: &mut ArrayVec<[u64; N]>,
@@ -49,9 +49,11 @@ pub fn splice<const N: usize>(
     count: u64,
     x: u64,
 ) -> u64 {
-    extend_from_slice(vec, source, x);
-    let quarter = vec.len() / 4;
-    vec.set_len(3 * quarter);
+    let quarter = source.len() / 4;
+    extend_from_slice(vec, &source[..3 * quarter], x);
+    if vec.len() < 2 * quarter {
+        return 0;
+    }
     match vec.splice(quarter..2 * quarter, 0..count).finish() {
         Ok(()) => x.wrapping_add(vec.len() as u64),
         Err(_) => 0,

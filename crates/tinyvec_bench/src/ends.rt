@@ -22,6 +22,13 @@ pub fn push_and_pop<T: Number, const N: usize>(vec: &mut ArrayVec<[T; N]>, x: u6
     pop_until_empty(vec)
 }
 
+/// Pushes from none until the vector is full.
+#[inline(never)]
+pub fn push_all<T: Number, const N: usize>(vec: &mut ArrayVec<[T; N]>, x: u64) -> u64 {
+    vec.set_len(0);
+    push_until_full(vec, x)
+}
+
 /// Cuts the list to its first half, and pushes until the vector is full.
 #[inline(never)]
 pub fn truncate_and_refill<T: Number, const N: usize>(vec: &mut ArrayVec<[T; N]>, x: u64) -> u64 {

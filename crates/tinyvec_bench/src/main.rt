@@ -1,5 +1,6 @@
-//! Benchmarks of the vectors. Without arguments each runs for few rounds and prints a checksum. With `time ROUNDS` each
-//! prints its name, capacity, rounds, nanoseconds and checksum.
+//! Benchmarks of the vectors. Without arguments, or with `rows`, each runs for few rounds and prints a checksum. With
+//! `rows ROUNDS` each prints its name, capacity, rounds, nanoseconds and checksum. With `growth` in the place of `rows` the
+//! same calls run at many lengths.
 #![tactic(auto)]
 
 mod comparing;
@@ -9,6 +10,7 @@ mod ends;
 mod filling;
 mod fnv;
 mod form;
+mod growth;
 mod number;
 mod printing;
 mod reading;
@@ -19,8 +21,11 @@ mod sources;
 mod texts;
 mod tiny;
 
+use crate::growth::{of_arrays, of_lists};
 use crate::report::Report;
-use crate::rows::{of_bytes, of_forms, of_slices, of_spilled_texts, of_texts, of_tiny, of_words};
+use crate::rows::{of_bytes, of_forms, of_slices, of_spilled_texts, of_texts, of_words};
+use crate::tiny::place::Place;
+use crate::tiny::rows::{of_spilling, of_tiny};
 use std::alloc::Global;
 use std::rt::Runtime;
 use std::{env, io};
@@ -29,25 +34,36 @@ use tinyvec_text::InlineText;
 /// So often a benchmark runs for its checksum alone.
 const FEW_ROUNDS: u64 = 20;
 
+/// The lengths of a list that grows.
+const LENGTHS: [usize; 10] = [4, 16, 64, 256, 1024, 4096, 16384, 65536, 262144, 1048576];
+
 fn main(rt: HostRuntime) -> io::Result<()> {
     let mut args = env::args(&rt)?;
     let _program = args.next();
+    let command = args.next();
     let report = match args.next() {
         None => Report::of_checksums(&rt, FEW_ROUNDS),
-        Some(command) => Report::of_times(&rt, asked_rounds(command.as_str(), args.next())?),
+        Some(rounds) => Report::of_times(&rt, rounds_of(rounds.as_str())?),
     };
+    if is_growth(command)? {
+        return run_growth(&report, rt.alloc());
+    }
     run(&report, rt.alloc())
 }
 
-// The rounds, where the command is to take the time.
-fn asked_rounds(command: &str, rounds: Option<String>) -> io::Result<u64> {
-    if command != "time" {
+// Whether the rows of `growth` are asked for, or else all others.
+fn is_growth(command: Option<String>) -> io::Result<bool> {
+    let Some(word) = command else {
+        return Ok(false);
+    };
+    if word.as_str() != "rows" && word.as_str() != "growth" {
         return Err(io::Error::from(io::ErrorKind::InvalidInput));
     }
-    let Some(word) = rounds else {
-        return Err(io::Error::from(io::ErrorKind::InvalidInput));
-    };
-    match word.as_str().parse::<u64>() {
+    Ok(word.as_str() == "growth")
+}
+
+fn rounds_of(word: &str) -> io::Result<u64> {
+    match word.parse::<u64>() {
         Ok(rounds) => Ok(rounds),
         Err(_) => Err(io::Error::from(io::ErrorKind::InvalidInput)),
     }
@@ -66,10 +82,9 @@ fn run<R: Runtime>(report: &Report<'_, R>, alloc: Global) -> io::Result<()> {
     of_slices::<R, 16>(report)?;
     of_slices::<R, 64>(report)?;
     of_slices::<R, 1024>(report)?;
-    of_tiny::<R, 4>(report, alloc)?;
-    of_tiny::<R, 16>(report, alloc)?;
-    of_tiny::<R, 64>(report, alloc)?;
-    of_tiny::<R, 1024>(report, alloc)?;
+    run_tiny(&report.with_prefix("tiny_"), alloc, Place::Inline)?;
+    run_tiny(&report.with_prefix("tiny_heap_"), alloc, Place::Heap)?;
+    run_spilling(&report.with_prefix("tiny_spill_"), alloc)?;
     of_forms::<R, 16>(report, alloc)?;
     of_forms::<R, 1024>(report, alloc)?;
     of_texts(report, &mut InlineText::<4>::new(alloc), alloc)?;
@@ -78,4 +93,33 @@ fn run<R: Runtime>(report: &Report<'_, R>, alloc: Global) -> io::Result<()> {
     of_spilled_texts(report, &mut InlineText::<2>::new(alloc), alloc, 4)?;
     of_spilled_texts(report, &mut InlineText::<8>::new(alloc), alloc, 16)?;
     of_spilled_texts(report, &mut InlineText::<32>::new(alloc), alloc, 64)
+}
+
+fn run_tiny<R: Runtime>(report: &Report<'_, R>, alloc: Global, place: Place) -> io::Result<()> {
+    of_tiny::<R, 4>(report, alloc, place)?;
+    of_tiny::<R, 16>(report, alloc, place)?;
+    of_tiny::<R, 64>(report, alloc, place)?;
+    of_tiny::<R, 1024>(report, alloc, place)
+}
+
+fn run_spilling<R: Runtime>(report: &Report<'_, R>, alloc: Global) -> io::Result<()> {
+    of_spilling::<R, 4>(report, alloc)?;
+    of_spilling::<R, 16>(report, alloc)?;
+    of_spilling::<R, 64>(report, alloc)?;
+    of_spilling::<R, 1024>(report, alloc)
+}
+
+fn run_growth<R: Runtime>(report: &Report<'_, R>, alloc: Global) -> io::Result<()> {
+    let arrays = report.with_prefix("array_");
+    of_arrays::<R, 4>(&arrays)?;
+    of_arrays::<R, 16>(&arrays)?;
+    of_arrays::<R, 64>(&arrays)?;
+    of_arrays::<R, 256>(&arrays)?;
+    of_arrays::<R, 1024>(&arrays)?;
+    of_arrays::<R, 4096>(&arrays)?;
+    let lists = report.with_prefix("tiny_");
+    for n in LENGTHS.iter() {
+        of_lists(&lists, alloc, *n)?;
+    }
+    Ok(())
 }

@@ -13,11 +13,9 @@ use crate::report::Report;
 use crate::slices::{slice_drain, slice_insert, slice_push, slice_remove, slice_retain};
 use crate::sources::{LETTERS, higher_at, pairs, scattered};
 use crate::texts::{text_push, text_push_str};
-use crate::tiny::tiny_splice;
 use std::alloc::Global;
 use std::io;
 use std::rt::Runtime;
-use tinyvec::TinyVec;
 use tinyvec_array::ArrayVec;
 use tinyvec_slice::SliceVec;
 use tinyvec_text::InlineText;
@@ -160,64 +158,6 @@ fn looks_at_slices<R: Runtime, const N: usize>(report: &Report<'_, R>) -> io::Re
     report.row("slice_compare", N, |x| compare(&vec, &last_higher, x))?;
     report.row("slice_hash", N, |x| hash(&vec, x))?;
     report.row("slice_debug_print", N, |x| debug_print(&vec, &mut text, x))
-}
-
-/// The splices of a `TinyVec` of `u64`, inline and on the heap, and comparisons of inline ones.
-pub fn of_tiny<R: Runtime, const N: usize>(report: &Report<'_, R>, alloc: Global) -> io::Result<()>
-    requires { N * 8 < 2 ^ 63 }
-{
-    let source = scattered::<u64, N>();
-    let count = N as u64;
-    let mut vec = TinyVec::new(alloc);
-    report.row(
-        "tiny_splice_as_many",
-        N,
-        |x| tiny_splice(&mut vec, &source, count / 4, x),
-    )?;
-    report.row(
-        "tiny_splice_fewer",
-        N,
-        |x| tiny_splice(&mut vec, &source, count / 8, x),
-    )?;
-    report.row(
-        "tiny_splice_more",
-        N,
-        |x| tiny_splice(&mut vec, &source, count / 2, x),
-    )?;
-    vec.move_to_the_heap_and_reserve(N)?;
-    report.row(
-        "tiny_heap_splice_as_many",
-        N,
-        |x| tiny_splice(&mut vec, &source, count / 4, x),
-    )?;
-    report.row(
-        "tiny_heap_splice_fewer",
-        N,
-        |x| tiny_splice(&mut vec, &source, count / 8, x),
-    )?;
-    report.row(
-        "tiny_heap_splice_more",
-        N,
-        |x| tiny_splice(&mut vec, &source, count / 2, x),
-    )?;
-    looks_at_tiny::<R, N>(report, alloc)
-}
-
-fn looks_at_tiny<R: Runtime, const N: usize>(
-    report: &Report<'_, R>,
-    alloc: Global,
-) -> io::Result<()>
-    requires { N * 8 < 2 ^ 63 }
-{
-    let source = scattered::<u64, N>();
-    let vec = TinyVec::from_array(alloc, source);
-    let same = TinyVec::from_array(alloc, source);
-    let last_higher = TinyVec::from_array(alloc, higher_at(source, N.saturating_sub(1)));
-    let mut text = Text::new();
-    report.row("tiny_equal", N, |x| equal(&vec, &same, x))?;
-    report.row("tiny_compare", N, |x| compare(&vec, &last_higher, x))?;
-    report.row("tiny_hash", N, |x| hash(&vec, x))?;
-    report.row("tiny_debug_print", N, |x| debug_print(&vec, &mut text, x))
 }
 
 /// Lists of bytes and of `u32` written and read in the Borsh form.

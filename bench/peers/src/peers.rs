@@ -1,0 +1,121 @@
+//! Which rows a peer has, over which types.
+
+use crate::growth::{of_arrays, of_lists};
+use crate::report::Report;
+use crate::rows::{of_bytes, of_forms, of_heap, of_inline, of_slices, of_spilling, of_texts, of_words};
+
+/// The lengths of a list that grows.
+const LENGTHS: [usize; 10] = [4, 16, 64, 256, 1024, 4096, 16384, 65536, 262144, 1048576];
+
+/// Runs a generic function at every capacity, over the types that a macro names for an item and a capacity.
+macro_rules! at_each_capacity {
+    ($rows:ident, $report:expr, $vector:ident, [$($item:ty),*]) => {{
+        let report = $report;
+        $rows::<$($vector!($item, 4),)* 4>(&report);
+        $rows::<$($vector!($item, 16),)* 16>(&report);
+        $rows::<$($vector!($item, 64),)* 64>(&report);
+        $rows::<$($vector!($item, 1024),)* 1024>(&report);
+    }};
+}
+
+/// The rows of an `ArrayVec`.
+macro_rules! fixed {
+    ($report:expr, $vector:ident) => {{
+        at_each_capacity!(of_words, $report, $vector, [u64]);
+        at_each_capacity!(of_bytes, $report, $vector, [u8]);
+    }};
+}
+
+/// The rows of a `TinyVec`.
+macro_rules! growing {
+    ($report:expr, $vector:ident) => {{
+        at_each_capacity!(of_inline, $report.with_prefix("tiny_"), $vector, [u64, u8]);
+        at_each_capacity!(of_heap, $report.with_prefix("tiny_heap_"), $vector, [u64, u8]);
+        at_each_capacity!(of_spilling, $report.with_prefix("tiny_spill_"), $vector, [u64]);
+    }};
+}
+
+/// The rows of arrays of many lengths.
+macro_rules! arrays {
+    ($report:expr, $vector:ident) => {{
+        let report = $report.with_prefix("array_");
+        of_arrays::<$vector!(u64, 4), 4>(&report);
+        of_arrays::<$vector!(u64, 16), 16>(&report);
+        of_arrays::<$vector!(u64, 64), 64>(&report);
+        of_arrays::<$vector!(u64, 256), 256>(&report);
+        of_arrays::<$vector!(u64, 1024), 1024>(&report);
+        of_arrays::<$vector!(u64, 4096), 4096>(&report);
+    }};
+}
+
+/// The rows of lists of many lengths.
+macro_rules! lists {
+    ($report:expr, $vector:ident) => {{
+        let report = $report.with_prefix("tiny_");
+        for n in LENGTHS {
+            of_lists::<$vector!(u64, 4)>(&report, n);
+        }
+    }};
+}
+
+macro_rules! tinyvec_array {
+    ($item:ty, $capacity:literal) => { tinyvec::ArrayVec<[$item; $capacity]> };
+}
+
+macro_rules! tinyvec_tiny {
+    ($item:ty, $capacity:literal) => { tinyvec::TinyVec<[$item; $capacity]> };
+}
+
+macro_rules! smallvec {
+    ($item:ty, $capacity:literal) => { smallvec::SmallVec<[$item; $capacity]> };
+}
+
+macro_rules! arrayvec {
+    ($item:ty, $capacity:literal) => { arrayvec::ArrayVec<$item, $capacity> };
+}
+
+macro_rules! vec_of {
+    ($item:ty, $capacity:literal) => { Vec<$item> };
+}
+
+/// Runs the peer's rows at a few capacities. Answers whether there is such a peer.
+pub fn rows_of(peer: Option<&str>, report: Report) -> bool {
+    match peer {
+        Some("tinyvec") => {
+            fixed!(report, tinyvec_array);
+            at_each_capacity!(of_slices, report, tinyvec_array, []);
+            growing!(report, tinyvec_tiny);
+            of_forms::<16>(&report);
+            of_forms::<1024>(&report);
+        }
+        Some("smallvec") => {
+            fixed!(report, smallvec);
+            growing!(report, smallvec);
+        }
+        Some("arrayvec") => fixed!(report, arrayvec),
+        Some("vec") => {
+            fixed!(report, vec_of);
+            growing!(report, vec_of);
+            of_texts(&report, 4);
+            of_texts(&report, 16);
+            of_texts(&report, 64);
+        }
+        _ => return false,
+    }
+    true
+}
+
+/// Runs the peer's rows at many lengths. Answers whether there is such a peer.
+pub fn growth_of(peer: Option<&str>, report: Report) -> bool {
+    match peer {
+        Some("tinyvec") => {
+            arrays!(report, tinyvec_array);
+            lists!(report, tinyvec_tiny);
+        }
+        Some("smallvec") => lists!(report, smallvec),
+        Some("arrayvec") => arrays!(report, arrayvec),
+        Some("vec") => lists!(report, vec_of),
+        _ => return false,
+    }
+    true
+}

@@ -1,0 +1,117 @@
+//! New lists that grow from the array to twice as many items as it has slots, and are dropped.
+
+use std::alloc::{AllocError, Global};
+use tinyvec::TinyVec;
+
+/// Pushes `count` numbers to a list over as many slots as `_like`.
+#[inline(never)]
+pub fn push<const N: usize>(alloc: Global, _like: &TinyVec<[u64; N]>, count: u64, x: u64) -> u64 {
+    let mut vec = TinyVec::<[u64; N]>::new(alloc);
+    for k in 0..count {
+        if vec.push(x.wrapping_add(k)).is_err() {
+            return 0;
+        }
+    }
+    look_at(vec.as_slice(), x)
+}
+
+/// Puts a number in at `i`, where the array is full.
+#[inline(never)]
+pub fn insert<const N: usize>(alloc: Global, source: &[u64; N], i: usize, x: u64) -> u64 {
+    let Ok(mut vec) = filled(alloc, source) else {
+        return 0;
+    };
+    if i > vec.len() || vec.insert(i, x).is_err() {
+        return 0;
+    }
+    look_at(vec.as_slice(), x)
+}
+
+/// Adds `source` twice, each time by one copy.
+#[inline(never)]
+pub fn extend_from_slice<const N: usize>(alloc: Global, source: &[u64; N], x: u64) -> u64 {
+    let Ok(mut vec) = filled(alloc, source) else {
+        return 0;
+    };
+    match vec.extend_from_slice(source) {
+        Ok(()) => look_at(vec.as_slice(), x),
+        Err(AllocError) => 0,
+    }
+}
+
+/// Adds `count` numbers from `x` on to a list over as many slots as `_like`.
+#[inline(never)]
+pub fn extend_from_range<const N: usize>(
+    alloc: Global,
+    _like: &TinyVec<[u64; N]>,
+    count: u64,
+    x: u64,
+) -> u64 {
+    let mut vec = TinyVec::<[u64; N]>::new(alloc);
+    let start = x % 65536;
+    match vec.extend(start..start.saturating_add(count)) {
+        Ok(()) => look_at(vec.as_slice(), x),
+        Err(_) => 0,
+    }
+}
+
+/// Moves a list of as many items behind a full one.
+#[inline(never)]
+pub fn append<const N: usize>(
+    alloc: Global,
+    other: &mut TinyVec<[u64; N]>,
+    source: &[u64; N],
+    x: u64,
+) -> u64 {
+    let Ok(mut vec) = filled(alloc, source) else {
+        return 0;
+    };
+    if other.extend_from_slice(source).is_err() || vec.append(other).is_err() {
+        return 0;
+    }
+    look_at(vec.as_slice(), x)
+}
+
+/// Makes a full list as long as `len`.
+#[inline(never)]
+pub fn resize<const N: usize>(alloc: Global, source: &[u64; N], len: usize, x: u64) -> u64 {
+    let Ok(mut vec) = filled(alloc, source) else {
+        return 0;
+    };
+    if vec.resize(len, x).is_err() {
+        return 0;
+    }
+    look_at(vec.as_slice(), x)
+}
+
+/// Puts `count` numbers in the place of the second quarter of a full list.
+#[inline(never)]
+pub fn splice_more<const N: usize>(alloc: Global, source: &[u64; N], count: u64, x: u64) -> u64 {
+    let Ok(mut vec) = filled(alloc, source) else {
+        return 0;
+    };
+    let quarter = vec.len() / 4;
+    match vec.splice(quarter..2 * quarter, 0..count).finish() {
+        Ok(()) => look_at(vec.as_slice(), x),
+        Err(_) => 0,
+    }
+}
+
+// A new list of the items of `source`, in its array.
+fn filled<const N: usize>(
+    alloc: Global,
+    source: &[u64; N],
+) -> Result<TinyVec<[u64; N]>, AllocError> {
+    let mut vec = TinyVec::new(alloc);
+    vec.extend_from_slice(source)?;
+    Ok(vec)
+}
+
+// How many items there are, one of them and `x`, added up.
+fn look_at(items: &[u64], x: u64) -> u64 {
+    let item = match items.get((x % 64) as usize) {
+        Some(y) => *y,
+        None => 0,
+    };
+    x.wrapping_add(item).wrapping_add(items.len() as u64)
+}
