@@ -1,0 +1,64 @@
+"""The instructions a round, counted by callgrind: they are the same on each run, whatever else the machine does.
+
+Callgrind counts from the begin to the end of the function `checksum`, in which a row's rounds are. Each program runs for so
+many rounds and for twice as many, and the difference is that of the further rounds alone: what the first ones cost besides,
+as a page of memory, falls out.
+"""
+import concurrent.futures
+import os
+import subprocess
+import tempfile
+
+# The two patterns name the same function; callgrind takes one option for each.
+COUNTER = [
+    "valgrind", "--tool=callgrind", "--combine-dumps=yes", "--zero-before=*report::checksu*", "--dump-after=*report::checksum*",
+]
+
+# Every call is bound before it starts. The C library copies and fills by moves of registers, however long the run: of a
+# `rep movsb` each byte would count as an instruction.
+ENVIRONMENT = {
+    "LD_BIND_NOW": "1",
+    "GLIBC_TUNABLES": "glibc.cpu.x86_rep_movsb_threshold=4000000000:glibc.cpu.x86_rep_stosb_threshold=4000000000",
+}
+
+
+def count(programs, rounds):
+    """Of each program, by row and capacity. The runs go side by side, since no time is taken."""
+    asked = {(name, it): [*command, "rows", str(it)] for name, command in programs.commands().items() for it in (rounds, 2 * rounds)}
+    with concurrent.futures.ThreadPoolExecutor(os.cpu_count()) as pool:
+        counts = dict(zip(asked, pool.map(counted, asked.values())))
+    return {name: further(counts[name, rounds], counts[name, 2 * rounds]) for name in programs.commands()}
+
+
+def further(once, twice):
+    """The instructions of each round that only the longer run has."""
+    return {
+        key: (count_twice - once[key][1]) / (rounds_twice - once[key][0]) for key, (rounds_twice, count_twice) in twice.items()
+    }
+
+
+def counted(command):
+    """The rounds and instructions of each row."""
+    with tempfile.TemporaryDirectory() as folder:
+        counts = f"{folder}/counts"
+        ran = subprocess.run(
+            [*COUNTER, f"--callgrind-out-file={counts}", *command],
+            check=True, capture_output=True, text=True, env=os.environ | ENVIRONMENT,
+        )
+        with open(counts, encoding="utf-8") as file:
+            totals = totals_of(file)
+    rows = [line.split() for line in ran.stdout.splitlines()]
+    if len(rows) != len(totals):
+        raise ValueError(f"{command}: {len(rows)} rows, but {len(totals)} counts")
+    return {(row[0], int(row[1])): (int(row[2]), total) for row, total in zip(rows, totals)}
+
+
+def totals_of(file):
+    """The counts of the parts that the end of a row made."""
+    totals, is_row = [], False
+    for line in file:
+        if line.startswith("desc: Trigger:"):
+            is_row = "--dump-after" in line
+        elif is_row and line.startswith("totals:"):
+            totals.append(int(line.split()[1]))
+    return totals

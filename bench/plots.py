@@ -1,0 +1,117 @@
+"""Draws how the time grows: small plots side by side, both axes by powers. A picture has its own background, so that it can
+be read on any page, and is dark where the reader's system is.
+"""
+import html
+import math
+import pathlib
+
+import growth
+
+WIDTH, HEIGHT, GAP, LEFT, TOP = 150, 120, 30, 48, 58
+
+# What stands in the legend, in the order of its classes.
+NAMES = {
+    "here": "this library", "tinyvec": "tinyvec", "smallvec": "smallvec", "arrayvec": "arrayvec", "vec": "Vec",
+    "tv": "tv", "plain Rust": "plain Rust",
+}
+CLASSES = {"here": "here", "tv": "here", "tinyvec": "one", "plain Rust": "one", "smallvec": "two", "arrayvec": "two", "vec": "three"}
+
+STYLE = """
+  .page { fill: #ffffff; stroke: #c4cad2 }
+  text { font: 12px sans-serif; fill: #1c2026 }
+  .title { font-weight: bold; text-anchor: middle }
+  .mark { font-size: 10px; fill: #4d5661; text-anchor: middle }
+  .left { text-anchor: end }
+  .frame { fill: none; stroke: #c4cad2 }
+  polyline { fill: none; stroke-width: 1.6 }
+  .here { stroke: #1458c4; stroke-width: 2.6 }
+  .one { stroke: #c2410c }
+  .two { stroke: #15803d; stroke-dasharray: 5 2 }
+  .three { stroke: #7e22ce; stroke-dasharray: 2 2 }
+  @media (prefers-color-scheme: dark) {
+    .page { fill: #1b1f25; stroke: #4a525d }
+    text { fill: #eef1f5 }
+    .mark { fill: #b4bdc9 }
+    .frame { stroke: #4a525d }
+    .here { stroke: #6ea8ff }
+    .one { stroke: #fb923c }
+    .two { stroke: #4ade80 }
+    .three { stroke: #d8b4fe }
+  }
+"""
+
+
+def draw(folder, measured, micros, peaks):
+    for prefix, kind in growth.KINDS.items():
+        panels = [(call, growth.lines_of(measured, prefix + call)) for call in growth.CALLS]
+        write(folder, f"growth_{kind.lower()}", f"{kind}: nanoseconds an item, against the number of items", panels)
+    panels = [("microseconds a line", micros), ("peak of memory, KiB", peaks)]
+    write(folder, "growth_tv", "tv against the number of lines", panels)
+
+
+def write(folder, name, title, panels):
+    width = LEFT + len(panels) * (WIDTH + GAP)
+    width, height = max(width, 420), TOP + HEIGHT + 62
+    drawn = [f'<rect x="0.5" y="0.5" width="{width - 1}" height="{height - 1}" rx="8" class="page"/>', text(16, 24, title)]
+    ranges = [reach(lines) for _, lines in panels]
+    for i, ((words, lines), (xs, ys)) in enumerate(zip(panels, ranges)):
+        drawn += panel(LEFT + i * (WIDTH + GAP), words, lines, xs, ys)
+    drawn += legend(height - 16, list(dict.fromkeys(it for _, lines in panels for it in lines)))
+    shapes = "\n".join(f"  {it}" for it in drawn)
+    head = f'<svg xmlns="http://www.w3.org/2000/svg" width="{width}" height="{height}" viewBox="0 0 {width} {height}" role="img">'
+    svg = f"{head}\n  <title>{html.escape(title)}</title>\n  <style>{STYLE}  </style>\n{shapes}\n</svg>\n"
+    (pathlib.Path(folder) / f"{name}.svg").write_text(svg, encoding="utf-8")
+
+
+def reach(lines):
+    """The least and greatest power of ten of each axis."""
+    counts = [count for values in lines.values() for count in values]
+    heights = [value for values in lines.values() for value in values.values()]
+    return powers(counts), powers(heights)
+
+
+def powers(numbers):
+    # A million in powers of four is a little more than that in powers of ten.
+    least, most = math.floor(math.log10(min(numbers))), math.ceil(math.log10(max(numbers)) - 0.05)
+    return least, max(most, least + 1)
+
+
+def panel(left, words, lines, xs, ys):
+    drawn = [f'<rect x="{left}" y="{TOP}" width="{WIDTH}" height="{HEIGHT}" class="frame"/>']
+    drawn.append(text(left + WIDTH / 2, TOP - 10, words, "title"))
+    for power in range(xs[0], xs[1] + 1, 2 if xs[1] - xs[0] > 4 else 1):
+        drawn.append(text(place(10**power, xs, left, WIDTH), TOP + HEIGHT + 14, amount(power), "mark"))
+    for power in range(ys[0], ys[1] + 1):
+        drawn.append(text(left - 4, place(10**power, ys, TOP + HEIGHT, -HEIGHT) + 3, amount(power), "mark left"))
+    for name, values in lines.items():
+        points = (
+            f"{place(count, xs, left, WIDTH):.1f},{place(value, ys, TOP + HEIGHT, -HEIGHT):.1f}"
+            for count, value in sorted(values.items())
+        )
+        drawn.append(f'<polyline points="{" ".join(points)}" class="{CLASSES[name]}"/>')
+    return drawn
+
+
+def place(number, powers_of_axis, start, length):
+    least, most = powers_of_axis
+    return start + length * (math.log10(number) - least) / (most - least)
+
+
+def amount(power):
+    if power < 0:
+        return f"{10**power:.{-power}f}"
+    unit = ["", "k", "M", "G"][power // 3]
+    return f"{10 ** (power % 3)}{unit}"
+
+
+def legend(y, names):
+    drawn, x = [], 16
+    for name in names:
+        drawn.append(f'<polyline points="{x},{y - 4} {x + 22},{y - 4}" class="{CLASSES[name]}"/>')
+        drawn.append(text(x + 28, y, NAMES[name]))
+        x += 46 + 7 * len(NAMES[name])
+    return drawn
+
+
+def text(x, y, words, kind=""):
+    return f'<text x="{x:g}" y="{y:g}" class="{kind}">{html.escape(words)}</text>'
