@@ -2,6 +2,7 @@
 import filecmp
 import os
 import random
+import shutil
 import statistics
 import subprocess
 import sys
@@ -111,13 +112,14 @@ def timed(command, source, target):
 
 
 def peak_of(command, script):
-    """The most memory of a run in KiB, as it is seen from outside while it goes on."""
-    peak = 0
+    """The most memory of a run in KiB, as it is seen from outside once the program has read the script and waits for more."""
     with open(script, "rb") as source, open(os.devnull, "wb") as nowhere:
-        child = subprocess.Popen(command, stdin=source, stdout=nowhere)
-        while child.poll() is None:
-            with open(f"/proc/{child.pid}/status", encoding="ascii") as status:
-                peak = max([peak] + [int(line.split()[1]) for line in status if line.startswith("VmHWM")])
-            time.sleep(0.005)
+        child = subprocess.Popen(command, stdin=subprocess.PIPE, stdout=nowhere)
+        shutil.copyfileobj(source, child.stdin)
+        child.stdin.flush()
+        time.sleep(0.1)
+        with open(f"/proc/{child.pid}/status", encoding="ascii") as status:
+            peak = next(int(line.split()[1]) for line in status if line.startswith("VmHWM"))
+        child.stdin.close()
+        child.wait()
     return peak
-
