@@ -11,7 +11,8 @@ import tempfile
 
 # The two patterns name the same function; callgrind takes one option for each.
 COUNTER = [
-    "valgrind", "--tool=callgrind", "--combine-dumps=yes", "--zero-before=*report::checksu*", "--dump-after=*report::checksum*",
+    "valgrind", "--tool=callgrind", "--combine-dumps=yes",
+    "--zero-before=*report::checksu*", "--dump-after=*report::checksum*",
 ]
 
 # Every call is bound before it starts. The C library copies and fills by moves of registers, however long the run: of a
@@ -24,7 +25,9 @@ ENVIRONMENT = {
 
 def count(programs, rounds):
     """Of each program, by row and capacity. The runs go side by side, since no time is taken."""
-    asked = {(name, it): [*command, "rows", str(it)] for name, command in programs.commands().items() for it in (rounds, 2 * rounds)}
+    asked = {
+        (name, it): [*command, "rows", str(it)] for name, command in programs.commands().items() for it in (rounds, 2 * rounds)
+    }
     with concurrent.futures.ThreadPoolExecutor(os.cpu_count()) as pool:
         counts = dict(zip(asked, pool.map(counted, asked.values())))
     return {name: further(counts[name, rounds], counts[name, 2 * rounds]) for name in programs.commands()}
@@ -33,7 +36,8 @@ def count(programs, rounds):
 def further(once, twice):
     """The instructions of each round that only the longer run has."""
     return {
-        key: (count_twice - once[key][1]) / (rounds_twice - once[key][0]) for key, (rounds_twice, count_twice) in twice.items()
+        key: (count_twice - once[key][1]) / (rounds_twice - once[key][0])
+        for key, (rounds_twice, count_twice) in twice.items()
     }
 
 

@@ -14,7 +14,9 @@ NAMES = {
     "here": "this library", "tinyvec": "tinyvec", "smallvec": "smallvec", "arrayvec": "arrayvec", "vec": "Vec",
     "tv": "tv", "plain Rust": "plain Rust",
 }
-CLASSES = {"here": "here", "tv": "here", "tinyvec": "one", "plain Rust": "one", "smallvec": "two", "arrayvec": "two", "vec": "three"}
+CLASSES = {
+    "here": "here", "tv": "here", "tinyvec": "one", "plain Rust": "one", "smallvec": "two", "arrayvec": "two", "vec": "three",
+}
 
 STYLE = """
   .page { fill: #ffffff; stroke: #c4cad2 }
@@ -58,8 +60,9 @@ def write(folder, name, title, panels):
         drawn += panel(LEFT + i * (WIDTH + GAP), words, lines, xs, ys)
     drawn += legend(height - 16, list(dict.fromkeys(it for _, lines in panels for it in lines)))
     shapes = "\n".join(f"  {it}" for it in drawn)
-    head = f'<svg xmlns="http://www.w3.org/2000/svg" width="{width}" height="{height}" viewBox="0 0 {width} {height}" role="img">'
-    svg = f"{head}\n  <title>{html.escape(title)}</title>\n  <style>{STYLE}  </style>\n{shapes}\n</svg>\n"
+    size = f'width="{width}" height="{height}" viewBox="0 0 {width} {height}"'
+    svg = f'<svg xmlns="http://www.w3.org/2000/svg" {size} role="img">\n'
+    svg += f"  <title>{html.escape(title)}</title>\n  <style>{STYLE}  </style>\n{shapes}\n</svg>\n"
     (pathlib.Path(folder) / f"{name}.svg").write_text(svg, encoding="utf-8")
 
 

@@ -112,7 +112,7 @@ def timed(command, source, target):
 
 
 def peak_of(command, script):
-    """The most memory of a run in KiB, as it is seen from outside once the program has read the script and waits for more."""
+    """The most memory of a run in KiB, seen from outside once the program has read the script and waits for more."""
     with open(script, "rb") as source, open(os.devnull, "wb") as nowhere:
         child = subprocess.Popen(command, stdin=subprocess.PIPE, stdout=nowhere)
         shutil.copyfileobj(source, child.stdin)
