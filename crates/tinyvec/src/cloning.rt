@@ -1,9 +1,13 @@
-//! Clones, made one by one.
+//! Items put behind those of a `Vec` that has room for them.
+//!
+//! Each loop works on a local variable: the compiler keeps its length and its place in registers, which it can't where the
+//! vector lies behind a reference that the items might overlap.
 ghost use Rattle.std.specs.Prelude.{◌≡◌, ◌+◌, ◌<◌, ◌≤◌, ℕ, All, length, replicate, IsOk, OnOk, OnErr, vec_len, vec_capacity};
 ghost use Rattle.std.specs.List.{AppendsClones};
 ghost use Rattle.tinyvec_slots.specs.Clones.{RefusedAt};
 
 use std::alloc::AllocError;
+use std::mem;
 
 // Appends clones of `from`, where there is room.
 pub(crate) fn push_clones<T: Clone>(heap: &mut Vec<T>, from: &[T]) -> Result<(), AllocError>
@@ -14,16 +18,19 @@ pub(crate) fn push_clones<T: Clone>(heap: &mut Vec<T>, from: &[T]) -> Result<(),
     ensures capacity { vec_capacity heap.new ≡ vec_capacity heap.old }
     ensures succeeds { All T.is_infallible from.now → IsOk result }
 {
-    let len = heap.len();
+    let mut vec = mem::replace(heap, Vec::new(*heap.allocator()));
+    let len = vec.len();
     for i in 0..from.len() {
         match from[i].clone() {
-            Ok(x) => heap.push_reserved(x),
+            Ok(x) => vec.push_reserved(x),
             Err(error) => {
-                heap.truncate(len);
+                vec.truncate(len);
+                *heap = vec;
                 return Err(error);
             }
         }
     }
+    *heap = vec;
     Ok(())
 }
 
@@ -36,15 +43,18 @@ pub(crate) fn push_copies<T: Clone>(heap: &mut Vec<T>, n: usize, x: &T) -> Resul
     ensures capacity { vec_capacity heap.new ≡ vec_capacity heap.old }
     ensures succeeds { T.is_infallible x.now → IsOk result }
 {
-    let len = heap.len();
+    let mut vec = mem::replace(heap, Vec::new(*heap.allocator()));
+    let len = vec.len();
     for _i in 0..n {
         match x.clone() {
-            Ok(y) => heap.push_reserved(y),
+            Ok(y) => vec.push_reserved(y),
             Err(error) => {
-                heap.truncate(len);
+                vec.truncate(len);
+                *heap = vec;
                 return Err(error);
             }
         }
     }
+    *heap = vec;
     Ok(())
 }

@@ -40,10 +40,17 @@ impl<A: Array> TinyVec<A> {
         ensures refused { OnErr result (Unchanged self.old self.new) }
         ensures back { IfErr result (λ refused. refused.0 ≡ x) }
     {
-        if self.len() == self.capacity() && self.grow_one().is_err() {
-            return Err(NoMemory(x));
+        // The place is looked at once, and growing is no part of the code that is usual.
+        match self {
+            TinyVec::Inline(v, _) if v.len() < v.capacity() => v.push(x),
+            TinyVec::Heap(v) if v.len() < v.capacity() => v.push_reserved(x),
+            _ => {
+                if self.grow_one().is_err() {
+                    return Err(NoMemory(x));
+                }
+                self.push_reserved(x);
+            }
         }
-        self.push_reserved(x);
         Ok(())
     }
 

@@ -5,7 +5,7 @@ pub loop-i-preserved : goal.loop-i-preserved
 loop-i-preserved g c =
     let at = c.loop-i in
     let put = c.push_reserved.ensures in (
-      rw put.items (appends_of_next g.T.Clone.is_clone c.args.heap.now.items at.heap.items c.args.from.now at.i c.index-from-i.result c.in-Ok.x
+      rw put.items (appends_of_next g.T.Clone.is_clone c.replace-vec.result.items at.vec.items c.args.from.now at.i c.index-from-i.result c.in-Ok.x
           c.loop-i-test.true c.index-from-i.is c.in-Ok.ensures.cases at.invariant.0),
       rw put.capacity at.invariant.1,
     )
