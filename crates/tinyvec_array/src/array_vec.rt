@@ -22,7 +22,7 @@ mod to_vec;
 mod writing;
 
 use crate::Array;
-use crate::slots::{clear, slots_to_end, take_slot_behind};
+use crate::slots::{clear, narrow, slots_to_end, take_slot_behind};
 use std::convert::AsSlice;
 use std::marker::Model;
 
@@ -64,8 +64,7 @@ impl<A: Array> ArrayVec<A> {
     {
         // They tell the proof how many slots there are, and that their number is a `usize`.
         let _slots = self.array.as_slice();
-        let _capacity = A::CAPACITY;
-        self.len
+        narrow(self.len, A::CAPACITY)
     }
 
     /// How many items fit, which is the number of slots.

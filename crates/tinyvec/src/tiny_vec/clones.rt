@@ -7,6 +7,7 @@ ghost use Rattle.tinyvec.specs.Growth.{RefusedFor};
 ghost use Rattle.tinyvec.specs.Room.{KeepsRoom};
 
 use crate::TinyVec;
+use crate::cloning::push_clones;
 use std::alloc::AllocError;
 use tinyvec_array::Array;
 use tinyvec_slots::clone_over;
@@ -34,9 +35,9 @@ impl<A: Array> TinyVec<A> {
                 Ok(TinyVec::Inline(copy, *alloc))
             }
             TinyVec::Heap(v) => {
-                let mut copy = TinyVec::Heap(Vec::with_capacity(*v.allocator(), v.len())?);
-                copy.extend_reserved(v.as_slice())?;
-                Ok(copy)
+                let mut copy = Vec::with_capacity(*v.allocator(), v.len())?;
+                push_clones(&mut copy, v.as_slice())?;
+                Ok(TinyVec::Heap(copy))
             }
         }
     }

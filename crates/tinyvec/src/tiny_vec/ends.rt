@@ -42,7 +42,7 @@ impl<A: Array> TinyVec<A> {
     {
         // The place is looked at once, and growing is no part of the code that is usual.
         match self {
-            TinyVec::Inline(v, _) if v.len() < v.capacity() => v.push(x),
+            TinyVec::Inline(v, _) if !v.is_full() => v.push(x),
             TinyVec::Heap(v) if v.len() < v.capacity() => v.push_reserved(x),
             _ => {
                 if self.grow_one().is_err() {

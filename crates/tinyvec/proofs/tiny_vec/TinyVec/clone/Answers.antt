@@ -1,5 +1,4 @@
 use Rattle.std.proofs.Common.{◌≡◌, ◌++◌, length, All, sym, ap, subst, ◌∙◌, rules}
-use Rattle.std.proofs.Math.Seq.{drop-nil}
 use Rattle.std.proofs.lemmas.List.Elements.{same_from_all_zip, length_all_zip}
 use Rattle.tinyvec_slots.specs.Slots.{all_slots}
 use Rattle.tinyvec_slots.specs.Clones.{RefusedAt}
@@ -30,18 +29,18 @@ returns-in_ok-copy-in-Inline-clause-spare g c =
     let made = c.in_ok-copy-in-Inline.ensures in
     rw c.in-Inline.is (spare_cloned g.A.Item.Clone.is_clone v w made.len made.slots)
 
-pub returns-in_ok-extend_reserved-in-Heap-clause-len : goal.returns-in_ok-extend_reserved-in-Heap-clause-len
-returns-in_ok-extend_reserved-in-Heap-clause-len g c =
+pub returns-in_ok-push_clones-in-Heap-clause-len : goal.returns-in_ok-push_clones-in-Heap-clause-len
+returns-in_ok-push_clones-in-Heap-clause-len g c =
     let xs = c.as_slice.result.now in
-    let new = tiny_items c.extend_reserved.new.self in
-    let made = appends_alone g.A.Item.Clone.is_clone _ new xs c.in_ok-with_capacity-in-Heap.ensures.items c.in_ok-extend_reserved-in-Heap.ensures.items in
+    let new = c.push_clones.new.heap.items in
+    let made = appends_alone g.A.Item.Clone.is_clone _ new xs c.in_ok-copy-in-Heap.ensures.items c.in_ok-push_clones-in-Heap.ensures.items in
     sym (length_all_zip g.A.Item.Clone.is_clone xs new made) ∙ ap length (c.as_slice.ensures.value ∙ sym (ap (λ v. tiny_items v) c.in-Heap.is))
 
-pub returns-in_ok-extend_reserved-in-Heap-clause-if_clones_equal : goal.returns-in_ok-extend_reserved-in-Heap-clause-if_clones_equal
-returns-in_ok-extend_reserved-in-Heap-clause-if_clones_equal g c = λ rule.
+pub returns-in_ok-push_clones-in-Heap-clause-if_clones_equal : goal.returns-in_ok-push_clones-in-Heap-clause-if_clones_equal
+returns-in_ok-push_clones-in-Heap-clause-if_clones_equal g c = λ rule.
     let xs = c.as_slice.result.now in
-    let new = tiny_items c.extend_reserved.new.self in
-    let made = appends_alone g.A.Item.Clone.is_clone _ new xs c.in_ok-with_capacity-in-Heap.ensures.items c.in_ok-extend_reserved-in-Heap.ensures.items in (
+    let new = c.push_clones.new.heap.items in
+    let made = appends_alone g.A.Item.Clone.is_clone _ new xs c.in_ok-copy-in-Heap.ensures.items c.in_ok-push_clones-in-Heap.ensures.items in (
       same_from_all_zip g.A.Item.Clone.is_clone xs new made rule ∙ c.as_slice.ensures.value ∙ sym (ap (λ v. tiny_items v) c.in-Heap.is),
-      c.in_ok-extend_reserved-in-Heap.ensures.spare ∙ drop-nil (length xs) ∙ sym (ap (λ v. tiny_spare v) c.in-Heap.is),
+      sym (ap (λ v. tiny_spare v) c.in-Heap.is),
     )
