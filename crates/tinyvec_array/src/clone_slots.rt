@@ -35,7 +35,9 @@ where
     ensures len { length (A.slots array.old) ≡ A.CAPACITY }
     ensures succeeds { All A.Item.is_infallible from.now → IsOk result }
 {
-    clone_over(&mut array.as_slice_mut()[start..], from)
+    // The minimum is the length. By it the compiler leaves out blocks of more items than the array has slots.
+    let count = from.len().min(A::CAPACITY);
+    clone_over(&mut array.as_slice_mut()[start..], &from[..count])
 }
 
 // Writes clones of `x` into the slots from `start` up to `end`.

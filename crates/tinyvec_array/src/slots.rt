@@ -64,7 +64,10 @@ pub(crate) fn clear<A: Array>(array: &mut A, start: usize, end: usize)
         × (A.slots array.new ≡ take start (A.slots array.old) ++ ds ++ drop end (A.slots array.old)) }
     ensures len { length (A.slots array.old) ≡ A.CAPACITY }
 {
-    reset(&mut array.as_slice_mut()[start..end]);
+    let slots = array.as_slice_mut();
+    // The minimum is the difference. By it the compiler leaves out what more slots than the array has would need.
+    let count = (end - start).min(slots.len());
+    reset(&mut slots[start..start + count]);
 }
 
 // Moves the slots from `start` up to `end` behind the others below `len`.

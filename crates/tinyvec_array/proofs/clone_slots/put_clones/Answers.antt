@@ -1,4 +1,7 @@
-use Rattle.std.proofs.Common.{◌<◌, ◌-◌, length, ◌∙◌, arith}
+use Rattle.std.proofs.Common.{◌≡◌, ◌<◌, ◌-◌, length, take, subst, ◌∙◌, arith}
+use Rattle.std.specs.Prelude.{OnOk, OnErr, ℕ, slice_range}
+use Rattle.std.proofs.lemmas.List.{take_all}
+use Rattle.tinyvec_slots.specs.Clones.{RefusedAt, ClonesOver}
 use Rattle.std.proofs.lemmas.Result.{on_ok_weaker, on_err_weaker}
 use Rattle.tinyvec_slots.proofs.CloneLemmas.{written_part}
 use Rattle.tinyvec_array.proofs.clone_slots.put_clones.Goals as goal
@@ -8,6 +11,7 @@ returns-clause-ok g c =
     let start = c.args.start in
     let xs = c.args.from.now in
     let slots = c.as_slice_mut.result.now in
+    let whole : take c.min-count.result xs ≡ xs = take_all c.min-count.result xs (omega arith) in
     on_ok_weaker c.clone_over.result (λ made. (
       made.0,
       made.1,
@@ -15,13 +19,14 @@ returns-clause-ok g c =
       g.met.A.Array.slots_of_slots _
           ∙ written_part slots _ made.0 c.clone_over.new.to start (length slots - start) (length xs) c.as_slice_mut.ensures.value made.3 (omega arith) (omega arith),
     ))
-    c.clone_over.ensures.ok
+    (subst (λ l. OnOk c.clone_over.result (ClonesOver g.A.Item.Clone.is_clone l (length l) (slice_range slots start (length slots)) c.clone_over.new.to)) whole c.clone_over.ensures.ok)
 
 pub returns-clause-refused : goal.returns-clause-refused
 returns-clause-refused g c =
     let start = c.args.start in
     let xs = c.args.from.now in
     let slots = c.as_slice_mut.result.now in
+    let whole : take c.min-count.result xs ≡ xs = take_all c.min-count.result xs (omega arith) in
     on_err_weaker c.clone_over.result (λ h.
     let made = h.2 in
     let below : h.0 < length xs = h.1.0 in (
@@ -35,4 +40,4 @@ returns-clause-refused g c =
             ∙ written_part slots _ made.0 c.clone_over.new.to start (length slots - start) h.0 c.as_slice_mut.ensures.value made.3 (omega arith) (omega arith),
       ),
     ))
-    c.clone_over.ensures.refused
+    (subst (λ l. OnErr c.clone_over.result ((j : ℕ) × RefusedAt g.A.Item.Clone.is_infallible l j × ClonesOver g.A.Item.Clone.is_clone (take j l) j (slice_range slots start (length slots)) c.clone_over.new.to)) whole c.clone_over.ensures.refused)
