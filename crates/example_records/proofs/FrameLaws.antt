@@ -1,25 +1,14 @@
 -- Records behind their tags are a code, and what ends a stream is no record, and no other end.
 use Rattle.std.proofs.Common.{◌≡◌, ◌≢◌, ◌∙◌, ap, sym, subst, ℕ, inl, inr, List, [], ◌∷◌, ◌++◌, length, refl, arith, Result, Ok, Err, length-append}
 use Rattle.tinyvec_borsh.specs.Code.{IsCode}
+use Rattle.tinyvec_borsh.proofs.Tagged.{same-tagged, tagged-code}
 use Rattle.example_records.specs.Readings.{IsReadingCut, IsReadingTooLong, ReadingFits, Said, SpellsReading, reading_apart, reading_code}
 use Rattle.example_records.specs.Stream.{HasTooManySamples, IsEnd, SpellsFrame, tag}
 use Rattle.example_records.specs.declared.stream_error.StreamError.{StreamError}
 use Rattle.example_records.specs.declared.stream_error.StreamError.TheVariants.{Cut, Io, Memory, TooManySamples, WrongTag}
 
-same-tail : (n m : ℕ) (x y : List ℕ) → n ∷ x ≡ m ∷ y → (n ≡ m) × (x ≡ y)
-same-tail n m x y e =
-    let head : n ≡ m = cc in
-    let tail : x ≡ y = cc in
-    (head, tail)
-
 pub frame_code : IsCode SpellsFrame
-frame_code = record {
-  one_spelling = λ c a b p q. p.2 ∙ ap (λ l. tag ∷ l) (reading_code.one_spelling c p.0 q.0 p.1 q.1) ∙ sym q.2;
-  some_byte = λ c a p. omega (arith, ap length p.2);
-  one_content = λ c d a rest p q.
-      let t = same-tail tag tag (p.0 ++ rest) q.0 (ap (λ l. l ++ rest) (sym p.2) ∙ q.2) in
-      reading_code.one_content c d p.0 rest p.1 (subst (SpellsReading d) (sym t.1) q.1);
-}
+frame_code = tagged-code tag SpellsReading reading_code
 
 -- a record with nine samples is too long
 long : (input : List ℕ) → HasTooManySamples input → IsReadingTooLong input
@@ -29,11 +18,11 @@ long input s = inr (s.0, s.1, s.2, s.3, s.4, s.5, inl (inl s.6))
 pub no-frame : (end : Result (Unit {0}) StreamError) (c : Said) (frame rest tail : List ℕ) → IsEnd end tail → ReadingFits c → SpellsFrame c frame → tail ≡ frame ++ rest → ⊥
 no-frame (Ok done) c frame rest tail is fits p e = omega (arith, ap length (sym is ∙ e), ap length p.2, length-append frame rest)
 no-frame (Err Cut) c frame rest tail is fits p e =
-    let t = same-tail tag tag is.0 (p.0 ++ rest) (sym is.1 ∙ e ∙ ap (λ l. l ++ rest) p.2) in
+    let t = same-tagged tag tag is.0 (p.0 ++ rest) (sym is.1 ∙ e ∙ ap (λ l. l ++ rest) p.2) in
     reading_apart.spelled_or_cut c p.0 rest p.1 (subst IsReadingCut t.1 is.2)
-no-frame (Err WrongTag) c frame rest tail is fits p e = is.2 ((same-tail is.0 tag is.1 (p.0 ++ rest) (sym is.3 ∙ e ∙ ap (λ l. l ++ rest) p.2)).0)
+no-frame (Err WrongTag) c frame rest tail is fits p e = is.2 ((same-tagged is.0 tag is.1 (p.0 ++ rest) (sym is.3 ∙ e ∙ ap (λ l. l ++ rest) p.2)).0)
 no-frame (Err TooManySamples) c frame rest tail is fits p e =
-    let t = same-tail tag tag is.0 (p.0 ++ rest) (sym is.1 ∙ e ∙ ap (λ l. l ++ rest) p.2) in
+    let t = same-tagged tag tag is.0 (p.0 ++ rest) (sym is.1 ∙ e ∙ ap (λ l. l ++ rest) p.2) in
     reading_apart.fits_or_too_long c p.0 rest fits p.1 (subst IsReadingTooLong t.1 (long is.0 is.2))
 no-frame (Err Io) c frame rest tail is fits p e = is
 no-frame (Err Memory) c frame rest tail is fits p e = is
@@ -42,10 +31,10 @@ some-byte : (n : ℕ) (x tail : List ℕ) → tail ≡ [] → tail ≡ n ∷ x �
 some-byte n x tail none some = omega (arith, ap length (sym none ∙ some))
 
 cut-or-too-many : (tail x y : List ℕ) → tail ≡ tag ∷ x → tail ≡ tag ∷ y → IsReadingCut x → HasTooManySamples y → ⊥
-cut-or-too-many tail x y p q cut many = reading_apart.cut_or_too_long y (subst IsReadingCut (same-tail tag tag x y (sym p ∙ q)).1 cut) (long y many)
+cut-or-too-many tail x y p q cut many = reading_apart.cut_or_too_long y (subst IsReadingCut (same-tagged tag tag x y (sym p ∙ q)).1 cut) (long y many)
 
 other-tag : (n : ℕ) (tail x y : List ℕ) → n ≢ tag → tail ≡ n ∷ x → tail ≡ tag ∷ y → ⊥
-other-tag n tail x y other p q = other ((same-tail n tag x y (sym p ∙ q)).0)
+other-tag n tail x y other p q = other ((same-tagged n tag x y (sym p ∙ q)).0)
 
 -- a stream ends in one way
 pub one-end : (a b : Result (Unit {0}) StreamError) (tail : List ℕ) → IsEnd a tail → IsEnd b tail → a ≡ b

@@ -2,6 +2,4 @@ pub mod CutStreams
 pub mod FrameLaws
 pub mod Frames
 pub mod Lengths
-pub mod Sequence
-pub mod SoFar
 pub mod WholeStreams

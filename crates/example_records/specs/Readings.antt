@@ -9,8 +9,8 @@ use Rattle.tinyvec_borsh.specs.Number.{SpellsNumber}
 use Rattle.tinyvec_borsh.specs.NumberLaws.{number_apart, number_code, number_spelled}
 use Rattle.tinyvec_borsh.specs.Items.{CountsAbove, InItem, IsListCut, IsListTooLong, ListFits, SpellsList}
 use Rattle.tinyvec_borsh.specs.ItemsLaws.{list_apart, list_code, list_spelled}
-use Rattle.example_records.specs.Sequence.{SpellsBoth, BothFit, InEither}
-use Rattle.example_records.specs.SequenceLaws.{both_apart, both_code, both_spelled}
+use Rattle.tinyvec_borsh.specs.Both.{SpellsBoth, BothFit, InEither}
+use Rattle.tinyvec_borsh.specs.BothLaws.{both_apart, both_code, both_spelled}
 use Rattle.example_records.specs.declared.reading.Reading.{Reading}
 
 -- what a reading says: the station, the samples and the note's bytes

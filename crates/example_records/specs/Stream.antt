@@ -1,10 +1,11 @@
 -- A stream: records one behind the other, each behind a tag.
 use Rattle.std.specs.Prelude.{◌≡◌, ◌≢◌, ℕ, ◌^◌, ◌<◌, List, [], ◌∷◌, ◌++◌, Option, None, Some, Ok, Err, Result}
 use Rattle.tinyvec_io.specs.Counted.{Reported}
-use Rattle.tinyvec_borsh.specs.Items.{HasTooMany, SpellsItems}
+use Rattle.tinyvec_borsh.specs.Both.{IsBehind}
+use Rattle.tinyvec_borsh.specs.Items.{BeginsWithItems, HasTooMany, SpellsItems}
 use Rattle.tinyvec_borsh.specs.Number.{SpellsNumber}
 use Rattle.tinyvec_borsh.specs.Reading.{MayBe, Takes}
-use Rattle.example_records.specs.Sequence.{IsBehind}
+use Rattle.tinyvec_borsh.specs.Tagged.{IsTagged, SpellsTagged}
 use Rattle.example_records.specs.Readings.{IsReadingCut, ReadingFits, Said, SpellsReading, StationFits, said}
 use Rattle.example_records.specs.declared.reading.Reading.{Reading}
 use Rattle.example_records.specs.declared.stream_error.StreamError.{StreamError}
@@ -16,15 +17,11 @@ tag = 82
 
 -- the tag, and then the record
 abbrev pub SpellsFrame : Said → List ℕ → Type 0
-SpellsFrame c bytes = (reading : List ℕ) × SpellsReading c reading × (bytes ≡ tag ∷ reading)
+SpellsFrame = SpellsTagged tag SpellsReading
 
 -- the records in order, one behind the other, and nothing else
 abbrev pub SpellsStream : List Said → List ℕ → Type 0
 SpellsStream = SpellsItems SpellsFrame
-
--- The input has a tag, and is so behind it.
-abbrev pub IsTagged : (List ℕ → Type 0) → List ℕ → Type 0
-IsTagged P input = (rest : List ℕ) × (input ≡ tag ∷ rest) × P rest
 
 -- a station, a count above eight, and nine samples
 abbrev pub HasTooManySamples : List ℕ → Type 0
@@ -34,9 +31,9 @@ HasTooManySamples = IsBehind (SpellsNumber 4) StationFits (HasTooMany (SpellsNum
 -- tag; another byte in the place of the tag; a record with more samples than there is room for.
 abbrev pub IsEnd : Result (Unit {0}) StreamError → List ℕ → Type 0
 IsEnd (Ok done) tail = tail ≡ []
-IsEnd (Err Cut) tail = IsTagged IsReadingCut tail
+IsEnd (Err Cut) tail = IsTagged tag IsReadingCut tail
 IsEnd (Err WrongTag) tail = (byte : ℕ) × (rest : List ℕ) × (byte ≢ tag) × (tail ≡ byte ∷ rest)
-IsEnd (Err TooManySamples) tail = IsTagged HasTooManySamples tail
+IsEnd (Err TooManySamples) tail = IsTagged tag HasTooManySamples tail
 IsEnd (Err Io) tail = ⊥
 IsEnd (Err Memory) tail = ⊥
 
@@ -48,11 +45,11 @@ StandsBehind (Err Cut) tail = IsEnd (Err Cut) tail
 StandsBehind (Err WrongTag) tail = IsEnd (Err WrongTag) tail
 StandsBehind (Err TooManySamples) tail = IsEnd (Err TooManySamples) tail
 StandsBehind (Err Io) tail = Unit {0}
-StandsBehind (Err Memory) tail = IsTagged (λ rest. Unit {0}) tail
+StandsBehind (Err Memory) tail = IsTagged tag (λ rest. Unit {0}) tail
 
 -- The input begins with these records, and is so behind them.
 abbrev pub BeginsWith : List Said → (List ℕ → Type 0) → List ℕ → Type 0
-BeginsWith cs P input = (bytes tail : List ℕ) × SpellsStream cs bytes × (input ≡ bytes ++ tail) × P tail
+BeginsWith = BeginsWithItems SpellsFrame
 
 -- A record was taken from the front of the input, or none, and then the input stands as the answer says.
 abbrev pub NextIs : (old new : Option (List ℕ)) → Result (Option Reading) StreamError → Type 0
@@ -78,7 +75,7 @@ Gives cs end before after read (Err Memory) = AreFirst read cs
 -- where a record was cut.
 abbrev pub GivesCut : List Said → (front : List ℕ) → (before after : ℕ) → List Said → Result (Unit {0}) StreamError → Type 0
 GivesCut cs front before after read (Ok done) = AreFirst read cs × SpellsStream read front
-GivesCut cs front before after read (Err Cut) = AreFirst read cs × BeginsWith read (IsTagged IsReadingCut) front
+GivesCut cs front before after read (Err Cut) = AreFirst read cs × BeginsWith read (IsTagged tag IsReadingCut) front
 GivesCut cs front before after read (Err WrongTag) = ⊥
 GivesCut cs front before after read (Err TooManySamples) = ⊥
 GivesCut cs front before after read (Err Io) = AreFirst read cs × Reported before after

@@ -14,7 +14,7 @@ small-bytes [] small = tt
 small-bytes (x ∷ bytes) small = (small 0, small-bytes bytes (λ i. small (suc i)))
 
 -- so many bytes are a number below 256 to that power
-number-below : (bytes : List ℕ) (width : ℕ) → length bytes ≡ width → AllByRecursion (λ byte. byte < 256) bytes → number_of bytes < 256 ^ width
+pub number-below : (bytes : List ℕ) (width : ℕ) → length bytes ≡ width → AllByRecursion (λ byte. byte < 256) bytes → number_of bytes < 256 ^ width
 number-below [] zero long small = omega arith
 number-below [] (suc width) long small = absurd (omega arith)
 number-below (x ∷ bytes) zero long small = absurd (omega arith)

@@ -13,6 +13,10 @@ module _ {C : Type 0} (Spells : C → List ℕ → Type 0) where
   SpellsItems [] bytes = bytes ≡ []
   SpellsItems (c ∷ cs) bytes = (first rest : List ℕ) × Spells c first × SpellsItems cs rest × (bytes ≡ first ++ rest)
 
+  -- The input begins with these items, and is so behind them.
+  abbrev pub BeginsWithItems : List C → (List ℕ → Type 0) → List ℕ → Type 0
+  BeginsWithItems cs P input = (bytes tail : List ℕ) × SpellsItems cs bytes × (input ≡ bytes ++ tail) × P tail
+
   -- the count, and then the items
   abbrev pub SpellsList : List C → List ℕ → Type 0
   SpellsList cs bytes = (count rest : List ℕ) × IsCount (length cs) count × SpellsItems cs rest × (bytes ≡ count ++ rest)

@@ -1,8 +1,12 @@
 pub mod Apart
+pub mod Both
+pub mod BothLaws
 pub mod Code
+pub mod Fronts
 pub mod Items
 pub mod ItemsLaws
 pub mod Number
 pub mod NumberLaws
 pub mod Reading
+pub mod Tagged
 pub mod Writing

@@ -1,19 +1,22 @@
 use Rattle.std.proofs.Common.{◌≡◌, ◌++◌, ◌∷◌, [], arith, rules}
 use Rattle.std.proofs.lemmas.Result.{err_from_is_err_and}
-use Rattle.example_records.proofs.SoFar.{ended, next-some, not-kept, one-more}
+use Rattle.tinyvec_borsh.proofs.ReadItems.{read-next, read-then}
+use Rattle.example_records.specs.Readings.{ReadingFits, said}
+use Rattle.example_records.specs.Stream.{SpellsFrame}
+use Rattle.example_records.proofs.Frames.{next-some, not-kept}
 use Rattle.example_records.proofs.stream.read_records.Goals as goal
 
 pub returns-in_err-reading-clause-stands : goal.returns-in_err-reading-clause-stands
 returns-in_err-reading-clause-stands g c =
     let p = err_from_is_err_and c.from_residual.result c.from_residual.ensures.1 in
-    rw (p.1, p.2) (ended _ _ _ _ _ c.loop-reading.invariant.read c.in_err-reading.ensures.next)
+    rw (p.1, p.2) (read-then said SpellsFrame ReadingFits _ _ _ _ _ c.loop-reading.invariant.read c.in_err-reading.ensures.next)
 
 pub loop-reading-preserved : goal.loop-reading-preserved
 loop-reading-preserved g c =
     let next = next-some _ _ _ c.in-Some.reading c.in-Some.is c.in_ok-reading.ensures.next in
     let pushed : c.push.new.self.items ≡ c.loop-reading.records.items ++ c.in-Some.reading ∷ [] = search rules in
     record {
-      read = one-more _ _ _ c.in-Some.reading _ _ _ c.loop-reading.invariant.read next.0 next.1 pushed;
+      read = read-next said SpellsFrame ReadingFits _ _ _ c.in-Some.reading _ _ _ c.loop-reading.invariant.read next.0 next.1 pushed;
       grows = omega arith;
     }
 
@@ -21,4 +24,4 @@ pub returns-in_default-push-clause-stands : goal.returns-in_default-push-clause-
 returns-in_default-push-clause-stands g c =
     let next = next-some _ _ _ c.in-Some.reading c.in-Some.is c.in_ok-reading.ensures.next in
     let same : c.push.new.self.items ≡ c.loop-reading.records.items = search rules in
-    rw same (ended _ _ _ _ _ c.loop-reading.invariant.read (not-kept c.in-Some.reading _ _ next.0))
+    rw same (read-then said SpellsFrame ReadingFits _ _ _ _ _ c.loop-reading.invariant.read (not-kept c.in-Some.reading _ _ next.0))

@@ -1,11 +1,13 @@
 use Rattle.std.proofs.Common.{◌-◌, ◌^◌, ◌≤◌, length}
-use Rattle.example_records.proofs.SoFar.{ReadSoFar}
+use Rattle.tinyvec_borsh.proofs.ReadItems.{ReadItems}
+use Rattle.example_records.specs.Readings.{ReadingFits, said}
+use Rattle.example_records.specs.Stream.{SpellsFrame}
 use Rattle.example_records.proofs.stream.read_records.Given as goal
 
 -- the records so far were read
 abbrev pub invariant-loop-reading : goal.invariant-loop-reading
 invariant-loop-reading g l = record {
-  read : ReadSoFar l.fn.records.items l.records.items (g.R.Read.remaining l.fn.reader.end) (g.R.Read.remaining l.reader.end);
+  read : ReadItems said SpellsFrame ReadingFits l.fn.records.items l.records.items (g.R.Read.remaining l.fn.reader.end) (g.R.Read.remaining l.reader.end);
   grows : l.fn.reader.faults ≤ l.reader.faults;
 }
 

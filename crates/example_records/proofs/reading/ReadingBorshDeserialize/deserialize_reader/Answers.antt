@@ -5,8 +5,8 @@ use Rattle.tinyvec_slots.specs.Slots.{items}
 use Rattle.tinyvec.specs.Tiny.{tiny_items}
 use Rattle.tinyvec_borsh.specs.Number.{SpellsNumber}
 use Rattle.example_records.specs.Readings.{StationFits, IsStationCut, SamplesFit, SpellsNote, SpellsSamples, AreSamplesCut, AreSamplesTooMany, SamplesAsk, IsNoteCut, IsNoteTooLong, NoteAsks}
-use Rattle.example_records.specs.Sequence.{InEither, SpellsBoth}
-use Rattle.example_records.proofs.Sequence.{fails-first, fails-second, takes-both}
+use Rattle.tinyvec_borsh.specs.Both.{InEither, SpellsBoth}
+use Rattle.tinyvec_borsh.proofs.Both.{fails-first, fails-second, takes-both}
 use Rattle.example_records.proofs.reading.ReadingBorshDeserialize.deserialize_reader.Goals as goal
 
 pub returns-in_err-samples-clause-err : goal.returns-in_err-samples-clause-err

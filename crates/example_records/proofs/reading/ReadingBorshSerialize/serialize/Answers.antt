@@ -5,8 +5,8 @@ use Rattle.tinyvec_slots.specs.Slots.{items}
 use Rattle.tinyvec_borsh.proofs.Outcomes.{on-ok}
 use Rattle.tinyvec_borsh.specs.Number.{SpellsNumber}
 use Rattle.example_records.specs.Readings.{NoteFits, SamplesFit, SpellsNote, SpellsSamples}
-use Rattle.example_records.specs.Sequence.{SpellsBoth}
-use Rattle.example_records.proofs.Sequence.{adds-last}
+use Rattle.tinyvec_borsh.specs.Both.{SpellsBoth}
+use Rattle.tinyvec_borsh.proofs.Both.{adds-last}
 use Rattle.example_records.proofs.reading.ReadingBorshSerialize.serialize.Goals as goal
 
 pub returns-clause-ok : goal.returns-clause-ok

@@ -7,7 +7,7 @@ use Rattle.tinyvec_borsh.specs.declared.borsh_error.BorshError.TheVariants.{Ende
 use Rattle.tinyvec_borsh.specs.Reading.{Fails, MayBe, Takes}
 use Rattle.tinyvec_borsh.specs.Writing.{Adds}
 use Rattle.tinyvec_borsh.proofs.ItemByItem.{maybe-behind, maybe-so}
-use Rattle.example_records.specs.Sequence.{SpellsBoth, InEither}
+use Rattle.tinyvec_borsh.specs.Both.{SpellsBoth, InEither}
 
 -- a fault of a later call is one of the calls together
 pub reported-later : (before between after : ℕ) → before ≤ between → Reported between after → Reported before after

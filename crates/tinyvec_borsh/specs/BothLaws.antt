@@ -3,7 +3,7 @@ use Rattle.std.proofs.Common.{◌≡◌, ◌∙◌, ap, sym, subst, ℕ, inl, in
 use Rattle.tinyvec_borsh.specs.Code.{IsCode}
 use Rattle.tinyvec_borsh.specs.Apart.{AreApart}
 use Rattle.tinyvec_borsh.specs.ItemsLaws.{same-item}
-use Rattle.example_records.specs.Sequence.{SpellsBoth, BothFit, IsBehind, InEither}
+use Rattle.tinyvec_borsh.specs.Both.{SpellsBoth, BothFit, IsBehind, InEither}
 
 regroup : (x y rest input other : List ℕ) → input ≡ x ++ y → input ++ rest ≡ other → x ++ (y ++ rest) ≡ other
 regroup x y rest input other is e = sym (append_assoc x y rest) ∙ ap (λ l. l ++ rest) (sym is) ∙ e

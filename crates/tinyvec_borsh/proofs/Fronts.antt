@@ -1,0 +1,124 @@
+-- Where the fronts of spellings are cut, so are those of what is made of them.
+use Rattle.std.proofs.Common.{◌≡◌, ◌∙◌, ap, sym, subst, ℕ, ◌<◌, ◌⊎◌, inl, inr, List, [], ◌∷◌, ◌++◌, length, refl, arith, append-nil, append_assoc, length-append}
+use Rattle.std.specs.Prelude.{ℤ}
+use Rattle.std.specs.Int.{Width}
+use Rattle.std.specs.List.{AllByRecursion}
+use Rattle.tinyvec_borsh.specs.Both.{BothFit, InEither, SpellsBoth}
+use Rattle.tinyvec_borsh.specs.Fronts.{FrontsAreCut}
+use Rattle.tinyvec_borsh.specs.Items.{IsListCut, ListFits, SpellsItems, SpellsList}
+use Rattle.tinyvec_borsh.specs.Number.{SpellsNumber, SpellsSigned}
+
+-- a list of two parts is cut in its first part, or in its second
+cut-place : (x y a b : List ℕ) → x ++ y ≡ a ++ b → ((r : List ℕ) × (x ≡ a ++ r) × (0 < length r)) ⊎ ((r : List ℕ) × (a ≡ x ++ r) × (y ≡ r ++ b))
+cut-place [] y a b e = inr (a, refl, e)
+cut-place (u ∷ x) y [] b e = inl (u ∷ x, refl, omega arith)
+cut-place (u ∷ x) y (v ∷ a) b e =
+    let head : u ≡ v = cc in
+    let rest : x ++ y ≡ a ++ b = cc in
+    elim (cut-place x y a b rest) [
+      | inl p ↦ inl (p.0, (λ i. head i ∷ p.1 i), p.2)
+      | inr p ↦ inr (p.0, (λ i. sym head i ∷ p.1 i), p.2)
+    ]
+
+pub number-fronts : (width : ℕ) (Fits : ℕ → Type 0) → FrontsAreCut (SpellsNumber width) Fits (λ input. length input < width)
+number-fronts width Fits c front back some fits p = omega (arith, some, p.many, length-append front back)
+
+pub signed-fronts : (w : Width) (width : ℕ) (Fits : ℤ → Type 0) → FrontsAreCut (SpellsSigned w width) Fits (λ input. length input < width)
+signed-fronts w width Fits c front back some fits p = omega (arith, some, p.1.many, length-append front back)
+
+-- the first, or the second behind it
+pub both-fronts : {A B : Type 0} (SpellsA : A → List ℕ → Type 0) (SpellsB : B → List ℕ → Type 0) (FitsA : A → Type 0) (FitsB : B → Type 0) (CutA CutB : List ℕ → Type 0)
+    → FrontsAreCut SpellsA FitsA CutA → FrontsAreCut SpellsB FitsB CutB → FrontsAreCut (SpellsBoth SpellsA SpellsB) (BothFit FitsA FitsB) (InEither SpellsA FitsA CutA CutB)
+both-fronts SpellsA SpellsB FitsA FitsB CutA CutB fronts_a fronts_b c front back some fits p = elim (cut-place p.0 p.1 front back (sym p.4)) [
+  | inl f ↦ inl (fronts_a c.0 front f.0 f.2 fits.0 (subst (SpellsA c.0) f.1 p.2))
+  | inr s ↦ inr (c.0, p.0, s.0, fits.0, p.2, s.1, fronts_b c.1 s.0 back some fits.1 (subst (SpellsB c.1) s.2 p.3))
+]
+
+module _ {C : Type 0} (Spells : C → List ℕ → Type 0) (Fits : C → Type 0) (P : List ℕ → Type 0) where
+  -- The first of the items stand at the front, and it is so behind them.
+  pub record HasFirst (cs : List C) (front : List ℕ) : Type 0 where
+    pub first : List C
+    pub more : List C
+    pub bytes : List ℕ
+    pub tail : List ℕ
+    pub all : cs ≡ first ++ more
+    pub fit : AllByRecursion Fits first
+    pub spelled : SpellsItems Spells first bytes
+    pub whole : front ≡ bytes ++ tail
+    pub left : P tail
+
+  -- They are not all of the items.
+  abbrev HasSome : List C → List ℕ → Type 0
+  HasSome cs front = (t : HasFirst cs front) × (0 < length t.more)
+
+  one-before : (c : C) (cs : List C) (a r front : List ℕ) → Fits c → Spells c a → front ≡ a ++ r → HasSome cs r → HasSome (c ∷ cs) front
+  one-before c cs a r front fits p is s =
+      let t = s.0 in (
+        record {
+          first = c ∷ t.first;
+          more = t.more;
+          bytes = a ++ t.bytes;
+          tail = t.tail;
+          all = ap (λ l. c ∷ l) t.all;
+          fit = (fits, t.fit);
+          spelled = (a, t.bytes, p, t.spelled, refl);
+          whole = is ∙ ap (λ l. a ++ l) t.whole ∙ sym (append_assoc a t.bytes t.tail);
+          left = t.left;
+        },
+        s.1,
+      )
+
+  module _ (fronts : FrontsAreCut Spells Fits P) where
+    -- where some byte of the last item is missing, one is cut
+    cut-items : (cs : List C) (front back : List ℕ) → 0 < length back → AllByRecursion Fits cs → SpellsItems Spells cs (front ++ back) → HasSome cs front
+    cut-items [] front back some fit p = absurd (omega (arith, some, ap length p, length-append front back))
+    cut-items (c ∷ cs) front back some fit p = elim (cut-place p.0 p.1 front back (sym p.4)) [
+      | inl f ↦ (
+        record {
+          first = [];
+          more = c ∷ cs;
+          bytes = [];
+          tail = front;
+          all = refl;
+          fit = tt;
+          spelled = refl;
+          whole = refl;
+          left = fronts c front f.0 f.2 fit.0 (subst (Spells c) f.1 p.2);
+        },
+        omega arith,
+      )
+      | inr s ↦ one-before c cs p.0 s.0 front fit.0 p.2 s.1 (cut-items cs s.0 back some fit.1 (subst (SpellsItems Spells cs) s.2 p.3))
+    ]
+
+    -- a front of the items' spelling, the whole of it too
+    pub items-fronts : P [] → (cs : List C) (front back : List ℕ) → AllByRecursion Fits cs → SpellsItems Spells cs (front ++ back) → HasFirst cs front
+    items-fronts none cs front [] fit p = record {
+      first = cs;
+      more = [];
+      bytes = front;
+      tail = [];
+      all = sym (append-nil cs);
+      fit = fit;
+      spelled = subst (SpellsItems Spells cs) (append-nil front) p;
+      whole = sym (append-nil front);
+      left = none;
+    }
+    items-fronts none cs front (byte ∷ back) fit p = (cut-items cs front (byte ∷ back) (omega arith) fit p).0
+
+    -- the count, or an item
+    pub list-fronts : (room : ℕ) → FrontsAreCut (SpellsList Spells) (ListFits Spells Fits room) (IsListCut Spells Fits P room)
+    list-fronts room cs front back some fits p = elim (cut-place p.0 p.1 front back (sym p.4)) [
+      | inl f ↦ inl (omega (arith, f.2, p.2.many, ap length f.1, length-append front f.0))
+      | inr s ↦
+          let t = cut-items cs s.0 back some fits.items (subst (SpellsItems Spells cs) s.2 p.3) in
+          let fewer : length t.0.first < length cs = omega (arith, t.1, ap length t.0.all, length-append t.0.first t.0.more) in
+          inr (
+            length cs,
+            t.0.first,
+            t.0.tail,
+            record { count = p.0; bytes = t.0.bytes; counted = p.2; spelled = t.0.spelled; fit = t.0.fit; whole = s.1 ∙ ap (λ l. p.0 ++ l) t.0.whole },
+            fewer,
+            omega (arith, fewer, fits.few),
+            t.0.left,
+          )
+    ]
