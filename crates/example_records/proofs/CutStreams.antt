@@ -18,11 +18,10 @@ use Rattle.example_records.proofs.WholeStreams.{gives-all}
 
 reading-fronts : FrontsAreCut SpellsReading ReadingFits IsReadingCut
 reading-fronts =
-    both-fronts (SpellsNumber 4) (SpellsBoth SpellsSamples SpellsNote) StationFits (BothFit SamplesFit NoteFits) IsStationCut (InEither SpellsSamples SamplesFit AreSamplesCut IsNoteCut)
-    (number-fronts 4 StationFits)
-    (both-fronts SpellsSamples SpellsNote SamplesFit NoteFits AreSamplesCut IsNoteCut
-    (list-fronts (SpellsNumber 2) (λ n. n < 2 ^ 16) (λ input. length input < 2) (number-fronts 2 (λ n. n < 2 ^ 16)) 8)
-    (list-fronts (SpellsNumber 1) (λ n. n < 2 ^ 8) (λ input. length input < 1) (number-fronts 1 (λ n. n < 2 ^ 8)) (2 ^ 64 - 1)))
+    let samples = list-fronts (SpellsNumber 2) (λ n. n < 2 ^ 16) (λ input. length input < 2) (number-fronts 2 (λ n. n < 2 ^ 16)) 8 in
+    let note = list-fronts (SpellsNumber 1) (λ n. n < 2 ^ 8) (λ input. length input < 1) (number-fronts 1 (λ n. n < 2 ^ 8)) (2 ^ 64 - 1) in
+    both-fronts (SpellsNumber 4) (SpellsBoth SpellsSamples SpellsNote) StationFits (BothFit SamplesFit NoteFits) IsStationCut (InEither SpellsSamples SamplesFit AreSamplesCut IsNoteCut) (number-fronts 4 StationFits)
+    (both-fronts SpellsSamples SpellsNote SamplesFit NoteFits AreSamplesCut IsNoteCut samples note)
 
 -- no byte, or a record that is cut behind its tag
 abbrev IsFrameFront : List ℕ → Type 0

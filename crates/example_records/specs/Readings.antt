@@ -84,20 +84,31 @@ IsReadingTooLong = InEither (SpellsNumber 4) StationFits (λ _. ⊥) (InEither S
 abbrev pub ReadingAsks : List ℕ → Type 0
 ReadingAsks = InEither (SpellsNumber 4) StationFits (λ _. ⊥) (InEither SpellsSamples SamplesFit SamplesAsk NoteAsks)
 
--- ---- the four laws, from those of the fields
+-- ---- the laws, from those of the fields
+
+samples_code : IsCode SpellsSamples
+samples_code = list_code (SpellsNumber 2) (number_code 2 (lit< tt))
+
+samples_apart : AreApart SpellsSamples SamplesFit AreSamplesCut AreSamplesTooMany
+samples_apart = list_apart (SpellsNumber 2) (number_code 2 (lit< tt)) (λ n. n < 2 ^ 16) (λ input. length input < 2) (λ _. ⊥) (number_apart 2 (λ n. n < 2 ^ 16)) 8
+
+samples_spelled : (c : List ℕ) → SamplesFit c → (bytes : List ℕ) × SpellsSamples c bytes
+samples_spelled = list_spelled (SpellsNumber 2) (λ n. n < 2 ^ 16) (number_spelled 2) 8
+
+note_code : IsCode SpellsNote
+note_code = list_code (SpellsNumber 1) (number_code 1 (lit< tt))
+
+note_apart : AreApart SpellsNote NoteFits IsNoteCut IsNoteTooLong
+note_apart = list_apart (SpellsNumber 1) (number_code 1 (lit< tt)) (λ n. n < 2 ^ 8) (λ input. length input < 1) (λ _. ⊥) (number_apart 1 (λ n. n < 2 ^ 8)) (2 ^ 64 - 1)
+
+note_spelled : (c : List ℕ) → NoteFits c → (bytes : List ℕ) × SpellsNote c bytes
+note_spelled = list_spelled (SpellsNumber 1) (λ n. n < 2 ^ 8) (number_spelled 1) (2 ^ 64 - 1)
 
 pub reading_code : IsCode SpellsReading
-reading_code = both_code (SpellsNumber 4) (SpellsBoth SpellsSamples SpellsNote) (number_code 4 (lit< tt))
-    (both_code SpellsSamples SpellsNote (list_code (SpellsNumber 2) (number_code 2 (lit< tt))) (list_code (SpellsNumber 1) (number_code 1 (lit< tt))))
+reading_code = both_code (number_code 4 (lit< tt)) (both_code samples_code note_code)
 
 pub reading_apart : AreApart SpellsReading ReadingFits IsReadingCut IsReadingTooLong
-reading_apart =
-    let samples = list_apart (SpellsNumber 2) (number_code 2 (lit< tt)) (λ n. n < 2 ^ 16) (λ input. length input < 2) (λ _. ⊥) (number_apart 2 (λ n. n < 2 ^ 16)) 8 in
-    let note = list_apart (SpellsNumber 1) (number_code 1 (lit< tt)) (λ n. n < 2 ^ 8) (λ input. length input < 1) (λ _. ⊥) (number_apart 1 (λ n. n < 2 ^ 8)) (2 ^ 64 - 1) in
-    let behind = both_apart SpellsSamples SpellsNote (list_code (SpellsNumber 2) (number_code 2 (lit< tt))) SamplesFit NoteFits AreSamplesCut AreSamplesTooMany IsNoteCut IsNoteTooLong samples note in
-    both_apart (SpellsNumber 4) (SpellsBoth SpellsSamples SpellsNote) (number_code 4 (lit< tt)) StationFits (BothFit SamplesFit NoteFits) IsStationCut (λ _. ⊥)
-    (InEither SpellsSamples SamplesFit AreSamplesCut IsNoteCut) (InEither SpellsSamples SamplesFit AreSamplesTooMany IsNoteTooLong) (number_apart 4 StationFits) behind
+reading_apart = both_apart (number_code 4 (lit< tt)) (number_apart 4 StationFits) (both_apart samples_code samples_apart note_apart)
 
 pub reading_spelled : (c : Said) → ReadingFits c → (bytes : List ℕ) × SpellsReading c bytes
-reading_spelled = both_spelled (SpellsNumber 4) (SpellsBoth SpellsSamples SpellsNote) StationFits (BothFit SamplesFit NoteFits) (number_spelled 4)
-    (both_spelled SpellsSamples SpellsNote SamplesFit NoteFits (list_spelled (SpellsNumber 2) (λ n. n < 2 ^ 16) (number_spelled 2) 8) (list_spelled (SpellsNumber 1) (λ n. n < 2 ^ 8) (number_spelled 1) (2 ^ 64 - 1)))
+reading_spelled = both_spelled (number_spelled 4) (both_spelled samples_spelled note_spelled)

@@ -9,16 +9,6 @@ regroup : (x y rest input other : List ℕ) → input ≡ x ++ y → input ++ re
 regroup x y rest input other is e = sym (append_assoc x y rest) ∙ ap (λ l. l ++ rest) (sym is) ∙ e
 
 module _ {A B : Type 0} (SpellsA : A → List ℕ → Type 0) (SpellsB : B → List ℕ → Type 0) (code_a : IsCode SpellsA) where
-  pub both_code : IsCode SpellsB → IsCode (SpellsBoth SpellsA SpellsB)
-  both_code code_b = record {
-    one_spelling = λ c a b p q. p.4 ∙ (λ i. code_a.one_spelling c.0 p.0 q.0 p.2 q.2 i ++ code_b.one_spelling c.1 p.1 q.1 p.3 q.3 i) ∙ sym q.4;
-    some_byte = λ c a p. omega (arith, code_a.some_byte c.0 p.0 p.2, ap length p.4, length-append p.0 p.1);
-    one_content = λ c d a rest p q.
-        let t = same-item SpellsA code_a c.0 d.0 p.0 q.0 (p.1 ++ rest) q.1 p.2 q.2 (regroup p.0 p.1 rest a (q.0 ++ q.1) p.4 q.4) in
-        let u : c.1 ≡ d.1 = code_b.one_content c.1 d.1 p.1 rest p.3 (subst (SpellsB d.1) (sym t.2) q.3) in
-        λ i. (t.0 i, u i);
-  }
-
   -- what stands behind the first is the second
   second-stands : (P : List ℕ → Type 0) (FitsA : A → Type 0) (c : A × B) (bytes rest : List ℕ) (p : SpellsBoth SpellsA SpellsB c bytes) → IsBehind SpellsA FitsA P (bytes ++ rest) → P (p.1 ++ rest)
   second-stands P FitsA c bytes rest p s =
@@ -29,17 +19,28 @@ module _ {A B : Type 0} (SpellsA : A → List ℕ → Type 0) (SpellsB : B → L
   first-stands : (P : List ℕ → Type 0) (c : A × B) (bytes rest : List ℕ) (p : SpellsBoth SpellsA SpellsB c bytes) → P (bytes ++ rest) → P (p.0 ++ (p.1 ++ rest))
   first-stands P c bytes rest p is = subst P (sym (regroup p.0 p.1 rest bytes (bytes ++ rest) p.4 refl)) is
 
-  module _ (FitsA : A → Type 0) (FitsB : B → Type 0) (CutA LongA CutB LongB : List ℕ → Type 0) where
+module _ {A B : Type 0} {SpellsA : A → List ℕ → Type 0} {SpellsB : B → List ℕ → Type 0} (code_a : IsCode SpellsA) where
+  pub both_code : IsCode SpellsB → IsCode (SpellsBoth SpellsA SpellsB)
+  both_code code_b = record {
+    one_spelling = λ c a b p q. p.4 ∙ (λ i. code_a.one_spelling c.0 p.0 q.0 p.2 q.2 i ++ code_b.one_spelling c.1 p.1 q.1 p.3 q.3 i) ∙ sym q.4;
+    some_byte = λ c a p. omega (arith, code_a.some_byte c.0 p.0 p.2, ap length p.4, length-append p.0 p.1);
+    one_content = λ c d a rest p q.
+        let t = same-item SpellsA code_a c.0 d.0 p.0 q.0 (p.1 ++ rest) q.1 p.2 q.2 (regroup p.0 p.1 rest a (q.0 ++ q.1) p.4 q.4) in
+        let u : c.1 ≡ d.1 = code_b.one_content c.1 d.1 p.1 rest p.3 (subst (SpellsB d.1) (sym t.2) q.3) in
+        λ i. (t.0 i, u i);
+  }
+
+  module _ {FitsA : A → Type 0} {FitsB : B → Type 0} {CutA LongA CutB LongB : List ℕ → Type 0} where
     pub both_apart : AreApart SpellsA FitsA CutA LongA → AreApart SpellsB FitsB CutB LongB
         → AreApart (SpellsBoth SpellsA SpellsB) (BothFit FitsA FitsB) (InEither SpellsA FitsA CutA CutB) (InEither SpellsA FitsA LongA LongB)
     both_apart apart_a apart_b = record {
       spelled_or_cut = λ c bytes rest p cut. elim cut [
-        | inl f ↦ apart_a.spelled_or_cut c.0 p.0 (p.1 ++ rest) p.2 (first-stands CutA c bytes rest p f)
-        | inr s ↦ apart_b.spelled_or_cut c.1 p.1 rest p.3 (second-stands CutB FitsA c bytes rest p s)
+        | inl f ↦ apart_a.spelled_or_cut c.0 p.0 (p.1 ++ rest) p.2 (first-stands SpellsA SpellsB code_a CutA c bytes rest p f)
+        | inr s ↦ apart_b.spelled_or_cut c.1 p.1 rest p.3 (second-stands SpellsA SpellsB code_a CutB FitsA c bytes rest p s)
       ];
       fits_or_too_long = λ c bytes rest fits p long. elim long [
-        | inl f ↦ apart_a.fits_or_too_long c.0 p.0 (p.1 ++ rest) fits.0 p.2 (first-stands LongA c bytes rest p f)
-        | inr s ↦ apart_b.fits_or_too_long c.1 p.1 rest fits.1 p.3 (second-stands LongB FitsA c bytes rest p s)
+        | inl f ↦ apart_a.fits_or_too_long c.0 p.0 (p.1 ++ rest) fits.0 p.2 (first-stands SpellsA SpellsB code_a LongA c bytes rest p f)
+        | inr s ↦ apart_b.fits_or_too_long c.1 p.1 rest fits.1 p.3 (second-stands SpellsA SpellsB code_a LongB FitsA c bytes rest p s)
       ];
       cut_or_too_long = λ input cut long. elim cut [
         | inl f ↦ elim long [
@@ -55,7 +56,7 @@ module _ {A B : Type 0} (SpellsA : A → List ℕ → Type 0) (SpellsB : B → L
       ];
     }
 
-module _ {A B : Type 0} (SpellsA : A → List ℕ → Type 0) (SpellsB : B → List ℕ → Type 0) (FitsA : A → Type 0) (FitsB : B → Type 0) where
+module _ {A B : Type 0} {SpellsA : A → List ℕ → Type 0} {SpellsB : B → List ℕ → Type 0} {FitsA : A → Type 0} {FitsB : B → Type 0} where
   pub both_spelled : ((c : A) → FitsA c → (bytes : List ℕ) × SpellsA c bytes) → ((c : B) → FitsB c → (bytes : List ℕ) × SpellsB c bytes)
       → (c : A × B) → BothFit FitsA FitsB c → (bytes : List ℕ) × SpellsBoth SpellsA SpellsB c bytes
   both_spelled spelled_a spelled_b c fits =
