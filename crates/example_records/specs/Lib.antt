@@ -1,3 +1,4 @@
+pub mod Commands
 pub mod Errors
 pub mod Readings
 pub mod Stream

@@ -1,5 +1,7 @@
 //! The commands of the program.
-ghost use Rattle.std.specs.Prelude.{◌≡◌, IfOk, IsSome, OnErr};
+ghost use Rattle.std.specs.Prelude.{◌≡◌, ◌≤◌, ◌↔◌, ◌++◌, ℕ, List, Err, IfErr, IfOk, IsOk, IsSome, OnErr, OnOk, codes, length};
+ghost use Rattle.example_records.specs.Commands.{IsAppended, IsCommand, IsCutTo, IsDecimal, rest_of, word_of};
+ghost use Rattle.example_records.specs.declared.command.CommandError.TheVariants.{Hex, Length, Samples, Unknown};
 
 use crate::length::stream_len;
 use crate::reading::Reading;
@@ -40,10 +42,22 @@ pub fn run(
 ) -> Result<Option<Recovered>, CommandError>
     ensures refused { OnErr result (stream.new.items ≡ stream.old.items) }
     ensures read { IfOk result (λ answer. IsSome answer → stream.new.items ≡ stream.old.items) }
+    ensures reads { IfOk result (λ answer. IsSome answer ↔ (word_of line.now ≡ codes "read")) }
+    ensures unknown { (IsCommand (word_of line.now) → ⊥) → result ≡ Err Unknown }
+
+    // What each command does to the stream, and when it is refused.
+    ensures add { OnOk result (word_of line.now ≡ codes "add" → IsAppended stream.old.items stream.new.items) }
+    ensures hex { OnOk result (word_of line.now ≡ codes "hex"
+        → (bytes : List ℕ) × (stream.new.items ≡ stream.old.items ++ bytes)) }
+    ensures cut { OnOk result (word_of line.now ≡ codes "cut"
+        → IsCutTo (rest_of line.now) stream.old.items stream.new.items) }
+    ensures can_cut { (len : ℕ) → word_of line.now ≡ codes "cut" → IsDecimal (rest_of line.now) len
+        → len ≤ length stream.old.items → IsOk result }
+    ensures can_read { word_of line.now ≡ codes "read" → IsOk result }
 {
-    let (word, rest) = line.split_once(' ').unwrap_or((line, ""));
+    let (word, rest) = first_word(line);
     match word {
-        "add" => append_to(alloc, &parse_reading(alloc, rest)?, stream)?,
+        "add" => add(alloc, rest, stream)?,
         "hex" => stream.extend_from_slice(bytes_of_hex(alloc, rest)?.as_slice())?,
         "cut" => cut(rest, stream)?,
         "read" => {
@@ -67,10 +81,28 @@ pub fn shown(alloc: Global, recovered: &Recovered) -> Result<String, AllocError>
     Ok(text)
 }
 
+// Appends a record.
+fn add(alloc: Global, text: &str, stream: &mut Vec<u8>) -> Result<(), CommandError>
+    ensures ok { OnOk result (IsAppended stream.old.items stream.new.items) }
+    ensures refused { OnErr result (stream.new.items ≡ stream.old.items) }
+{
+    let reading = parse_reading(alloc, text)?;
+    append_to(alloc, &reading, stream)?;
+    Ok(())
+}
+
+// The text before the first blank, and the text behind it.
+fn first_word(text: &str) -> (&str, &str)
+    ensures word { result.0.now ≡ word_of text.now }
+    ensures rest { result.1.now ≡ rest_of text.now }
+{
+    text.split_once(' ').unwrap_or((text, ""))
+}
+
 // `STATION SAMPLE,SAMPLE,.. NOTE`, or `STATION - NOTE` for no samples.
 fn parse_reading(alloc: Global, text: &str) -> Result<Reading, CommandError> {
-    let (station, rest) = text.split_once(' ').unwrap_or((text, ""));
-    let (samples, note) = rest.split_once(' ').unwrap_or((rest, ""));
+    let (station, rest) = first_word(text);
+    let (samples, note) = first_word(rest);
     let Ok(station) = station.parse::<u32>() else {
         return Err(CommandError::Station);
     };
@@ -81,7 +113,9 @@ fn parse_reading(alloc: Global, text: &str) -> Result<Reading, CommandError> {
     })
 }
 
-fn parse_samples(text: &str) -> Result<ArrayVec<[u16; 8]>, CommandError> {
+fn parse_samples(text: &str) -> Result<ArrayVec<[u16; 8]>, CommandError>
+    ensures err { IfErr result (λ e. e ≡ Samples) }
+{
     let mut samples = ArrayVec::new();
     if text == "-" {
         return Ok(samples);
@@ -116,7 +150,9 @@ fn bytes_of_hex(alloc: Global, text: &str) -> Result<Vec<u8>, CommandError> {
     }
 }
 
-fn hex_value(digit: u8) -> Result<u8, CommandError> {
+fn hex_value(digit: u8) -> Result<u8, CommandError>
+    ensures err { IfErr result (λ e. e ≡ Hex) }
+{
     match digit {
         b'0'..=b'9' => Ok(digit - b'0'),
         b'a'..=b'f' => Ok(digit - b'a' + 10),
@@ -125,6 +161,9 @@ fn hex_value(digit: u8) -> Result<u8, CommandError> {
 }
 
 fn cut(text: &str, stream: &mut Vec<u8>) -> Result<(), CommandError>
+    ensures ok { OnOk result (IsCutTo text.now stream.old.items stream.new.items) }
+    ensures err { IfErr result (λ e. e ≡ Length) }
+    ensures succeeds { (len : ℕ) → IsDecimal text.now len → len ≤ length stream.old.items → IsOk result }
     ensures refused { OnErr result (stream.new.items ≡ stream.old.items) }
 {
     match text.parse::<usize>() {

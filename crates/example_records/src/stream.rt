@@ -95,7 +95,8 @@ pub fn read_all<R: Read>(alloc: Global, reader: &mut Counted<R>) -> Recovered
 
 /// Appends the records to a new stream, and reads that. What is read is what was written, in order.
 pub fn copied(alloc: Global, readings: &[Reading]) -> Result<Recovered, BorshError>
-    ensures { IfOk result (λ copy. IsCopy (map said readings.now) (map said copy.records.items) copy.end) }
+    ensures ok { IfOk result (λ copy. IsCopy (map said readings.now) (map said copy.records.items) copy.end) }
+    ensures err { IfErr result (λ e. e ≡ BorshError.Io) }
 {
     let mut writer = Counted::new(Vec::new(alloc));
     append_all(readings, &mut writer)?;
