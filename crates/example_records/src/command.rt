@@ -1,5 +1,6 @@
 //! The commands of the program.
-ghost use Rattle.std.specs.Prelude.{◌≡◌, ◌≤◌, ◌↔◌, ◌++◌, ℕ, List, Err, IfErr, IfOk, IsOk, IsSome, OnErr, OnOk, codes, length};
+ghost use Rattle.std.specs.Prelude.{◌≡◌, ◌≤◌, ◌↔◌, ◌++◌, ℕ, List, Err, codes, length};
+ghost use Rattle.std.specs.Prelude.{IfErr, IfOk, IsOk, IsSome, OnErr, OnOk};
 ghost use Rattle.example_records.specs.Commands.{IsAppended, IsCommand, IsCutTo, IsDecimal, rest_of, word_of};
 ghost use Rattle.example_records.specs.declared.command.CommandError.TheVariants.{Hex, Length, Samples, Unknown};
 
