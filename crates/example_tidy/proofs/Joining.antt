@@ -1,5 +1,5 @@
 -- Words that are said one behind another, each behind a space.
-use Rattle.std.proofs.Common.{◌≡◌, ◌≢◌, ◌∙◌, ℕ, ◌+◌, ◌<◌, false, cond, List, [], ◌∷◌, ◌++◌, inl, inr, ap, sym, map, drop, get_or, append_assoc, append-nil, length}
+use Rattle.std.proofs.Common.{◌≡◌, ◌≢◌, ◌∙◌, ℕ, ◌+◌, ◌<◌, ◌≤◌, false, cond, List, [], ◌∷◌, ◌++◌, inl, inr, arith, ap, refl, sym, map, drop, get_or, append_assoc, append-nil, length, length-append}
 use Rattle.std.specs.List.{dedup, flat_map, join_with_byte}
 use Rattle.std.specs.Str.{bytes_eq}
 use Rattle.std.proofs.lemmas.Bool.{cases_Bool}
@@ -62,3 +62,16 @@ spoken line text spaced more last word all rest i d inside is other space grown 
     ap (λ front. front ++ said word left) (grown ∙ ap (λ front. front ++ word) space ∙ append_assoc text (32 ∷ []) word)
     ∙ append_assoc text (32 ∷ word) (said word left)
     ∙ ap (λ back. text ++ back) (sym (ap (said last) (next_word line word rest i d inside is) ∙ said_new last word left other)) ∙ so_far
+
+-- the first word has its place in what is said in all
+pub first_fits : (word : List ℕ) (words : List (List ℕ)) → length word ≤ length (join_with_byte 32 (dedup bytes_eq (word ∷ words)))
+first_fits word words = omega (arith, ap length (said_all word words), length-append word (said word words))
+
+-- and so has another word, with a space
+pub next_fits : (line text last word all : List ℕ) (rest : List Word) (i : ℕ) (d : Word) → i < length rest → word ≡ bytes_of line (get_or rest i d)
+    → word ≢ last → text ++ said last (map (bytes_of line) (drop i rest)) ≡ all → length text + 1 + length word ≤ length all
+next_fits line text last word all rest i d inside is other so_far =
+    let spaced = text ++ 32 ∷ [] in
+    let left = said word (map (bytes_of line) (drop (i + 1) rest)) in
+    let whole : (spaced ++ word) ++ left ≡ all = spoken line text spaced (spaced ++ word) last word all rest i d inside is other refl refl so_far in
+    omega (arith, ap length whole, length-append (spaced ++ word) left, length-append spaced word, length-append text (32 ∷ []))

@@ -1,8 +1,11 @@
 pub mod Feeding
 pub mod Joining
+pub mod Lengths
 pub mod Lines
 pub mod NormalForms
 pub mod Repeats
+pub mod Room
+pub mod ShortLines
 pub mod Splitting
 pub mod Stripped
 pub mod WordLemmas

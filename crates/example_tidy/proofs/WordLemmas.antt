@@ -1,10 +1,10 @@
 -- What a step of the loop over a line does to its words.
-use Rattle.std.proofs.Common.{◌≡◌, ◌∙◌, ℕ, ◌+◌, ◌-◌, ◌<◌, ◌≤◌, true, false, cond, not, List, [], ◌∷◌, ◌++◌, All, ap, sym, map, length, drop, get_or, slice_range, arith, append-nil, append_assoc}
+use Rattle.std.proofs.Common.{◌≡◌, ◌∙◌, ℕ, ◌+◌, ◌-◌, ◌<◌, ◌≤◌, true, false, cond, not, List, [], ◌∷◌, ◌++◌, All, ap, sym, map, length, drop, get_or, slice_range, arith, append-nil, append_assoc, length-append}
 use Rattle.std.specs.List.{slice_split, filter}
 use Rattle.std.specs.Char.{is_ascii_whitespace}
 use Rattle.std.proofs.Math.ListN.{drop_of_length-le}
 use Rattle.std.proofs.lemmas.Bool.{ne_eqb}
-use Rattle.std.proofs.lemmas.List.{map-append, drop_more, get_or-drop, get_or-take}
+use Rattle.std.proofs.lemmas.List.{map-append, length-map, drop_more, get_or-drop, get_or-take}
 use Rattle.std.proofs.lemmas.List.Elements.{All-from_get_or}
 use Rattle.std.proofs.lemmas.List.Folds.{drop_split}
 use Rattle.std.proofs.lemmas.List.Splits.{slice_split_at, slice_split_none}
@@ -88,3 +88,19 @@ pub none_left : (line : List ℕ) (found : List Word) (start : ℕ) → length l
     → map (bytes_of line) found ≡ words line
 none_left line found start past so_far =
     sym (append-nil _) ∙ ap (λ rest. map (bytes_of line) found ++ words rest) (sym (drop_of_length-le line past)) ∙ so_far
+
+-- one word more is in the line than was found
+more_words : (line : List ℕ) (found : List Word) (start : ℕ) (word : List ℕ) (left : List (List ℕ)) → words (drop start line) ≡ word ∷ left
+    → map (bytes_of line) found ++ words (drop start line) ≡ words line → length found < length (words line)
+more_words line found start word left next so_far =
+    let whole : map (bytes_of line) found ++ word ∷ left ≡ words line = ap (λ rest. map (bytes_of line) found ++ rest) (sym next) ∙ so_far in
+    omega (arith, ap length (sym whole), length-append (map (bytes_of line) found) (word ∷ left), length-map found (bytes_of line))
+
+pub more_at : (line : List ℕ) (found : List Word) (start i : ℕ) → start < i → i < length line
+    → NoneIn line start i → is_ascii_whitespace (get_or line i 0) ≡ true
+    → map (bytes_of line) found ++ words (drop start line) ≡ words line → length found < length (words line)
+more_at line found start i order inside none here so_far = more_words line found start _ _ (word_at line start i order inside none here) so_far
+
+pub more_to_end : (line : List ℕ) (found : List Word) (start : ℕ) → start < length line → NoneIn line start (length line)
+    → map (bytes_of line) found ++ words (drop start line) ≡ words line → length found < length (words line)
+more_to_end line found start order none so_far = more_words line found start _ _ (word_to_end line start order none) so_far

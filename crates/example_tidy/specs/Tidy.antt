@@ -30,6 +30,14 @@ normal_words line = dedup bytes_eq (words (map to_ascii_lowercase line))
 unfoldable pub normal_line : List ℕ → List ℕ
 normal_line line = join_with_byte 32 (normal_words line)
 
+-- A line that needs no memory: its bytes fit the array of `LineText`, and its words that of `Words`.
+abbrev pub IsShort : List ℕ → Type 0
+IsShort line = (length line ≤ 80) × (length (words line) ≤ 8)
+
+-- each part of the text between its line feeds is short
+abbrev pub AllShort : List ℕ → Type 0
+AllShort text = All IsShort (slice_split (λ byte. byte == 10) text)
+
 -- lines, each ended by a line feed
 abbrev pub ended : List (List ℕ) → List ℕ
 ended all = flat_map (λ line. line ++ 10 ∷ []) all
@@ -63,6 +71,10 @@ pub record TidiedUpTo (input output line : List ℕ) : Type 0 where
 -- after these bytes, for which this is said, `new` has come of the next line, where `old` had
 abbrev pub Advances : List ℕ → List ℕ → List ℕ → List ℕ → Type 0
 Advances old bytes said new = (input output : List ℕ) → TidiedUpTo input output old → TidiedUpTo (input ++ bytes) (output ++ said) new
+
+-- no more than so many bytes are said for these
+abbrev pub SaysAtMost : List ℕ → List ℕ → ℕ → Type 0
+SaysAtMost line bytes room = (said new : List ℕ) → Advances line bytes said new → length said ≤ room
 
 -- what is said is the normal form of the lines that some of these bytes end
 abbrev pub EndsSome : List ℕ → List ℕ → List ℕ → Type 0

@@ -1,9 +1,9 @@
 //! A text that is read and written as its lines come.
 ghost use Rattle.std.specs.Prelude.{◌≡◌, ◌≢◌, ◌≤◌, ◌^◌, ◌-◌, ◌++◌, List, ℕ, OnOk, IsErrOf, length};
 ghost use Rattle.std.specs.Io.KnownBytes.{Appends, Consumes, IsAtEnd, Keeps};
-ghost use Rattle.tinyvec.specs.Tiny.{tiny_items};
+ghost use Rattle.tinyvec.specs.Tiny.{tiny_items, tiny_capacity};
 ghost use Rattle.tinyvec_io.specs.Counted.{Reported};
-ghost use Rattle.example_tidy.specs.Tidy.{Advances, Ends, EndsSome, IsBegun, Tidied, TidiedFront, TidiedUpTo};
+ghost use Rattle.example_tidy.specs.Tidy.{Advances, AllShort, Ends, EndsSome, IsBegun, IsLine, IsShort, Tidied, TidiedFront, TidiedUpTo};
 
 use crate::line::LineText;
 use crate::text::{end_text, feed};
@@ -13,8 +13,8 @@ use thiserror::Error;
 use tinyvec::TinyVec;
 use tinyvec_io::Counted;
 
-// How many bytes are read at a time.
-const CHUNK: usize = 4096;
+// How many bytes are read at a time. What is said for them, and for a line of 80 bytes that they end, fits `Output`.
+const CHUNK: usize = 4016;
 
 /// Why a text was not read or written to its end.
 #[derive(PartialEq, Debug, Error, Drop)]
@@ -53,11 +53,11 @@ pub fn tidy<R: Read, W: Write>(
         × Appends (W.contents writer.old.end) (W.contents writer.new.end) output
         × TidiedUpTo input output line }
 
-    // The normal forms of the lines before the one that memory was refused for were written.
+    // The normal forms of the lines before the one that memory was refused for were written. That line is not short.
     ensures memory { IsErrOf result TidyError.Memory → (input output : List ℕ)
         × Consumes (R.remaining reader.old.end) (R.remaining reader.new.end) input
         × Appends (W.contents writer.old.end) (W.contents writer.new.end) output
-        × TidiedFront input output }
+        × TidiedFront input output × (AllShort input → ⊥) }
 
     // What was written is a beginning of what was to be written.
     ensures write { IsErrOf result TidyError.Write → (input output : List ℕ)
@@ -100,6 +100,9 @@ fn tidy_chunk<W: Write>(
     ensures memory { IsErrOf result TidyError.Memory → (said : List ℕ)
         × Appends (W.contents writer.old.end) (W.contents writer.new.end) said
         × EndsSome (tiny_items line.old) bytes.now said }
+    ensures long { IsErrOf result TidyError.Memory → IsLine (tiny_items line.old) → 80 ≤ tiny_capacity 80 line.old
+        → length bytes.now ≤ CHUNK → AllShort (tiny_items line.old ++ bytes.now) → ⊥ }
+    ensures line_room { tiny_capacity 80 line.old ≤ tiny_capacity 80 line.new }
     ensures write { IsErrOf result TidyError.Write → (said missing : List ℕ)
         × Appends (W.contents writer.old.end) (W.contents writer.new.end) said
         × EndsSome (tiny_items line.old) bytes.now (said ++ missing) }
@@ -125,6 +128,7 @@ fn finish<W: Write>(alloc: Global, line: &[u8], writer: &mut Counted<W>) -> Resu
         × Ends line.now said) }
     ensures memory { IsErrOf result TidyError.Memory
         → Keeps (W.contents writer.old.end) (W.contents writer.new.end) }
+    ensures long { IsErrOf result TidyError.Memory → IsShort line.now → ⊥ }
     ensures write { IsErrOf result TidyError.Write → (said missing : List ℕ)
         × Appends (W.contents writer.old.end) (W.contents writer.new.end) said
         × Ends line.now (said ++ missing) }

@@ -1,7 +1,8 @@
 //! The normal form of a whole text.
-ghost use Rattle.std.specs.Prelude.{◌≡◌, ◌++◌, ◌∷◌, [], List, ℕ, IfOk, OnOk, OnErr};
-ghost use Rattle.tinyvec.specs.Tiny.{tiny_items};
-ghost use Rattle.example_tidy.specs.Tidy.{Advances, Ends, EndsSome, Tidied, normal_line};
+ghost use Rattle.std.specs.Prelude.{◌≡◌, ◌≢◌, ◌+◌, ◌-◌, ◌<◌, ◌≤◌, ◌++◌, ◌∷◌, [], List, ℕ, map, length, IsOk, IfOk, OnOk, OnErr};
+ghost use Rattle.std.specs.Str.Lines.{lines};
+ghost use Rattle.tinyvec.specs.Tiny.{tiny_items, tiny_len, tiny_capacity};
+ghost use Rattle.example_tidy.specs.Tidy.{Advances, AllShort, Ends, EndsSome, IsLine, IsShort, SaysAtMost, Tidied, ended, normal_line};
 
 use crate::line::{LineText, tidy_line};
 use std::alloc::{AllocError, Global};
@@ -14,6 +15,7 @@ pub type Output = TinyVec<[u8; 4096]>;
 pub fn tidy_text(alloc: Global, text: &[u8]) -> Result<Output, AllocError>
     ensures tidied { IfOk result (λ output. Tidied text.now (tiny_items output)) }
     ensures twice { IfOk result (λ output. Tidied (tiny_items output) (tiny_items output)) }
+    ensures succeeds { AllShort text.now → length (ended (map normal_line (lines text.now))) ≤ 4096 → IsOk result }
 {
     let mut line = TinyVec::new(alloc);
     let mut output = TinyVec::new(alloc);
@@ -33,6 +35,14 @@ pub(crate) fn feed(
         × Advances (tiny_items line.old) bytes.now said (tiny_items line.new)) }
     ensures refused { OnErr result ((said : List ℕ) × (tiny_items output.new ≡ tiny_items output.old ++ said)
         × EndsSome (tiny_items line.old) bytes.now said) }
+    ensures line_room { tiny_capacity 80 line.old ≤ tiny_capacity 80 line.new }
+    ensures room { tiny_capacity 4096 output.old ≤ tiny_capacity 4096 output.new }
+
+    // Where the lines are short no memory is asked for.
+    ensures succeeds { IsLine (tiny_items line.old) → AllShort (tiny_items line.old ++ bytes.now)
+        → 80 ≤ tiny_capacity 80 line.old
+        → SaysAtMost (tiny_items line.old) bytes.now (tiny_capacity 4096 output.old - tiny_len output.old)
+        → IsOk result }
 {
     for byte in bytes {
         feed_byte(alloc, line, output, *byte)?;
@@ -50,6 +60,11 @@ fn feed_byte(
     ensures ok { OnOk result ((said : List ℕ) × (tiny_items output.new ≡ tiny_items output.old ++ said)
         × Advances (tiny_items line.old) (byte ∷ []) said (tiny_items line.new)) }
     ensures refused { OnErr result (tiny_items output.new ≡ tiny_items output.old) }
+    ensures line_room { tiny_capacity 80 line.old ≤ tiny_capacity 80 line.new }
+    ensures room { tiny_capacity 4096 output.old ≤ tiny_capacity 4096 output.new }
+    ensures succeeds { (byte ≢ 10 → tiny_len line.old < tiny_capacity 80 line.old)
+        → (byte ≡ 10 → IsShort (tiny_items line.old)
+        × (tiny_len output.old + length (normal_line (tiny_items line.old)) < tiny_capacity 4096 output.old)) → IsOk result }
 {
     if byte == b'\n' {
         end_line(alloc, line.as_slice(), output)?;
@@ -64,10 +79,15 @@ fn feed_byte(
 fn end_line(alloc: Global, line: &[u8], output: &mut Output) -> Result<(), AllocError>
     ensures ok { OnOk result (tiny_items output.new ≡ tiny_items output.old ++ (normal_line line.now ++ 10 ∷ [])) }
     ensures refused { OnErr result (tiny_items output.new ≡ tiny_items output.old) }
+    ensures room { tiny_capacity 4096 output.old ≤ tiny_capacity 4096 output.new }
+    ensures succeeds { IsShort line.now
+        → tiny_len output.old + length (normal_line line.now) < tiny_capacity 4096 output.old → IsOk result }
 {
-    let mut text = tidy_line(alloc, line)?;
-    text.push(b'\n')?;
-    output.extend_from_slice(text.as_slice())
+    let text = tidy_line(alloc, line)?;
+    output.reserve(text.len() + 1)?;
+    output.extend_from_slice(text.as_slice())?;
+    output.push_reserved(b'\n');
+    Ok(())
 }
 
 // Ends the last line, if it has bytes. Where memory was refused, nothing was appended.
@@ -75,6 +95,8 @@ pub(crate) fn end_text(alloc: Global, line: &[u8], output: &mut Output) -> Resul
     ensures ok { OnOk result ((said : List ℕ) × (tiny_items output.new ≡ tiny_items output.old ++ said)
         × Ends line.now said) }
     ensures refused { OnErr result (tiny_items output.new ≡ tiny_items output.old) }
+    ensures succeeds { IsShort line.now → (0 < length line.now
+        → tiny_len output.old + length (normal_line line.now) < tiny_capacity 4096 output.old) → IsOk result }
 {
     if line.is_empty() {
         return Ok(());

@@ -1,5 +1,5 @@
 //! The words of a line.
-ghost use Rattle.std.specs.Prelude.{◌≡◌, map, All, IfOk};
+ghost use Rattle.std.specs.Prelude.{◌≡◌, ◌≤◌, map, length, All, IfOk, IsOk};
 ghost use Rattle.tinyvec.specs.Tiny.{tiny_items};
 ghost use Rattle.example_tidy.specs.Tidy.{bytes_of, words, IsIn};
 
@@ -30,6 +30,7 @@ pub type Words = TinyVec<[Word; 8]>;
 pub fn find_words(alloc: Global, line: &[u8]) -> Result<Words, AllocError>
     ensures words { IfOk result (λ found. map (bytes_of line.now) (tiny_items found) ≡ words line.now) }
     ensures in_line { IfOk result (λ found. All (IsIn line.now) (tiny_items found)) }
+    ensures succeeds { length (words line.now) ≤ 8 → IsOk result }
 {
     let mut found = TinyVec::new(alloc);
     let mut start = 0;

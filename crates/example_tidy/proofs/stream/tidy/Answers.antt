@@ -1,15 +1,19 @@
-use Rattle.std.proofs.Common.{◌≡◌, ◌≤◌, ◌+◌, ◌++◌, List, ℕ, [], length, take, sym, subst, rules, arith, append-nil, length-append, Err}
+use Rattle.std.proofs.Common.{◌≡◌, ◌≤◌, ◌+◌, ◌++◌, List, ℕ, [], length, take, sym, subst, rules, arith, append-nil, length-append, length-take-le, Err}
 use Rattle.std.proofs.KnownBytes.{Appends-nil, Appends-trans, Appends-kept, Consumes-nil, Consumes-trans}
 use Rattle.std.proofs.lemmas.Result.{on_ok_weaker}
 use Rattle.example_tidy.specs.Tidy.{TidiedUpTo}
 use Rattle.example_tidy.specs.declared.stream.TidyError.TheVariants.{Memory, Write}
 use Rattle.example_tidy.proofs.Feeding.{nothing_yet, front_of, begun_front, begun_whole}
 use Rattle.example_tidy.proofs.Lines.{tidied_again}
+use Rattle.example_tidy.proofs.Room.{capacity_inline}
+use Rattle.example_tidy.proofs.ShortLines.{short_behind, short_end}
 use Rattle.example_tidy.proofs.stream.tidy.Goals as goal
 
 pub loop-piece-init : goal.loop-piece-init
 loop-piece-init g c = record {
   so_far = ([], [], Consumes-nil _, Appends-nil _, subst (TidiedUpTo [] []) (sym c.new-line.ensures.items) nothing_yet, omega arith);
+  line_room = omega (arith, capacity_inline 80 c.new-line.result c.new-line.ensures.place);
+  chunk = search rules;
   read_grows = omega arith;
   write_grows = omega arith;
 }
@@ -37,7 +41,14 @@ returns-then-count-eq0-clause-memory g c =
     let none : c.in-Ok.count ≡ 0 = c.if-count-eq0.true in
     let last = rw none at c.in-Ok.ensures.bytes in
     let all = rw append-nil at (Consumes-trans _ _ _ s.0 [] s.2 last) in
-    λ is. (s.0, s.1, all, Appends-kept _ _ _ s.1 s.3 (c.finish.ensures.memory is), front_of s.0 s.1 _ s.4)
+    λ is. (
+      s.0,
+      s.1,
+      all,
+      Appends-kept _ _ _ s.1 s.3 (c.finish.ensures.memory is),
+      front_of s.0 s.1 _ s.4,
+      λ each. c.finish.ensures.long is (rw c.as_slice.ensures (short_end s.0 s.1 _ s.4 each)),
+    )
 
 pub returns-then-count-eq0-clause-write : goal.returns-then-count-eq0-clause-write
 returns-then-count-eq0-clause-write g c =
@@ -53,9 +64,16 @@ pub returns-in_err-tidy_chunk-clause-memory : goal.returns-in_err-tidy_chunk-cla
 returns-in_err-tidy_chunk-clause-memory g c =
     let s = c.loop-piece.invariant.so_far in
     let bytes : List ℕ = take c.in-Ok.count c.read_some.new.buf in
+    let few : length bytes ≤ 4016 = omega (arith, c.in-Ok.ensures.bound.0, length-take-le c.in-Ok.count c.read_some.new.buf c.in-Ok.ensures.bound.0, c.loop-piece.invariant.chunk) in
     λ is. let was : c.tidy_chunk.result ≡ Err Memory = search rules in
-    let f = c.tidy_chunk.ensures.memory was in
-    (s.0 ++ bytes, s.1 ++ f.0, Consumes-trans _ _ _ s.0 bytes s.2 c.in-Ok.ensures.bytes, Appends-trans _ _ _ s.1 f.0 s.3 f.1, f.2 s.0 s.1 s.4)
+    let f = c.tidy_chunk.ensures.memory was in (
+      s.0 ++ bytes,
+      s.1 ++ f.0,
+      Consumes-trans _ _ _ s.0 bytes s.2 c.in-Ok.ensures.bytes,
+      Appends-trans _ _ _ s.1 f.0 s.3 f.1,
+      f.2 s.0 s.1 s.4,
+      λ each. c.tidy_chunk.ensures.long was s.4.partial c.loop-piece.invariant.line_room few (short_behind s.0 s.1 _ bytes s.4 each),
+    )
 
 pub returns-in_err-tidy_chunk-clause-write : goal.returns-in_err-tidy_chunk-clause-write
 returns-in_err-tidy_chunk-clause-write g c =
@@ -85,6 +103,8 @@ loop-piece-preserved g c =
         f.2 s.0 s.1 s.4,
         longer,
       );
+      line_room = omega (arith, c.loop-piece.invariant.line_room, c.in_ok-tidy_chunk.ensures.line_room);
+      chunk = search rules;
       read_grows = omega (arith, c.in-Ok.ensures.grows);
       write_grows = omega (arith, c.in_ok-tidy_chunk.ensures.grows);
     }

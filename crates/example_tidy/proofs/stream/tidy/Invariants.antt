@@ -1,6 +1,6 @@
 use Rattle.std.proofs.Common.{◌≤◌, List, ℕ, length}
 use Rattle.std.specs.Io.KnownBytes.{Appends, Consumes}
-use Rattle.tinyvec.specs.Tiny.{tiny_items}
+use Rattle.tinyvec.specs.Tiny.{tiny_items, tiny_capacity}
 use Rattle.example_tidy.specs.Tidy.{TidiedUpTo}
 use Rattle.example_tidy.proofs.stream.tidy.Given as goal
 
@@ -12,6 +12,8 @@ invariant-loop-piece g l = record {
       × Appends (g.W.Write.contents l.fn.writer.end) (g.W.Write.contents l.writer.end) output
       × TidiedUpTo input output (tiny_items l.line)
       × (l._piece ≤ length input);
+  line_room : 80 ≤ tiny_capacity 80 l.line;
+  chunk : length l.chunk ≤ 4016;
   read_grows : l.fn.reader.faults ≤ l.reader.faults;
   write_grows : l.fn.writer.faults ≤ l.writer.faults;
 }
