@@ -1,18 +1,19 @@
 -- What a byte of the input does to what was said.
-use Rattle.std.proofs.Common.{◌≡◌, ◌≢◌, ◌∙◌, ℕ, List, [], ◌∷◌, ◌++◌, inl, inr, ap, refl, sym, subst, map, ◌<◌, length, append-nil, append_assoc, Result, Ok, Err, OnOk, OnErr}
-use Rattle.std.proofs.lemmas.Grind.{flat_map-append}
-use Rattle.std.proofs.lemmas.List.{map-append, nil_from_length}
-use Rattle.std.proofs.lemmas.List.Elements.{All-nil, All-push, All-same}
-use Rattle.example_tidy.specs.Tidy.{Tidied, TidiedFront, TidiedUpTo, Advances, Ends, EndsSome, IsBegun, IsLine, ended, normal_line}
-use Rattle.example_tidy.proofs.Lines.{tidied_none, tidied_some}
+use Rattle.std.proofs.Common.{◌≡◌, ◌≢◌, ◌∙◌, ℕ, List, [], ◌∷◌, ◌++◌, inl, inr, ap, refl, sym, subst, map, ◌<◌, length, append-nil, append_assoc, arith, Result, Ok, Err, OnOk, OnErr}
+use Rattle.std.proofs.lemmas.List.{map-append}
+use Rattle.std.proofs.lemmas.List.Elements.{All-nil}
+use Rattle.tinyvec_io.specs.Lines.{IsLine, ended, Splits}
+use Rattle.tinyvec_io.proofs.LineLemmas.{ended_more, Splits-line, Splits-byte, Splits-ended}
+use Rattle.example_tidy.specs.Tidy.{Tidied, TidiedFront, TidiedUpTo, Advances, Ends, EndsSome, IsBegun, normal_line}
+use Rattle.example_tidy.proofs.Lines.{tidied_whole}
 
--- a line that is ended is one line more
-ended_more : (all : List (List ℕ)) (line : List ℕ) → ended (all ++ line ∷ []) ≡ ended all ++ (line ++ 10 ∷ [])
-ended_more all line = flat_map-append (λ each. each ++ 10 ∷ []) all (line ∷ []) ∙ ap (λ last. ended all ++ last) (append-nil (line ++ 10 ∷ []))
+-- where part of a line has come nothing is said
+pub begun : (line : List ℕ) → IsLine line → TidiedUpTo line [] line
+begun line whole = record { all = []; split = Splits-line line whole; says = refl }
 
--- at the beginning nothing has come, and nothing is said
+-- at the beginning nothing has come
 pub nothing_yet : TidiedUpTo [] [] []
-nothing_yet = record { all = []; whole = refl; each = All-nil IsLine; partial = All-nil (λ byte. byte ≢ 10); says = refl }
+nothing_yet = begun [] (All-nil (λ byte. byte ≢ 10))
 
 pub advances_none : (line : List ℕ) → Advances line [] [] line
 advances_none line input output so_far =
@@ -28,9 +29,7 @@ advances_then a b c bytes more said next first second input output so_far =
 pub advances_byte : (line grown : List ℕ) (byte : ℕ) → byte ≢ 10 → grown ≡ line ++ byte ∷ [] → Advances line (byte ∷ []) [] grown
 advances_byte line grown byte inner is input output so_far = record {
   all = so_far.all;
-  whole = ap (λ read. read ++ byte ∷ []) so_far.whole ∙ append_assoc (ended so_far.all) line (byte ∷ []) ∙ ap (λ left. ended so_far.all ++ left) (sym is);
-  each = so_far.each;
-  partial = All-same (λ b. b ≢ 10) grown (line ++ byte ∷ []) is (All-push (λ b. b ≢ 10) line byte so_far.partial inner);
+  split = subst (Splits (input ++ byte ∷ []) so_far.all) (sym is) (Splits-byte input so_far.all line byte inner so_far.split);
   says = append-nil output ∙ so_far.says;
 }
 
@@ -38,11 +37,7 @@ advances_byte line grown byte inner is input output so_far = record {
 pub advances_line : (line said next : List ℕ) → said ≡ normal_line line ++ 10 ∷ [] → next ≡ [] → Advances line (10 ∷ []) said next
 advances_line line said next is none input output so_far = record {
   all = so_far.all ++ line ∷ [];
-  whole =
-      ap (λ read. read ++ 10 ∷ []) so_far.whole ∙ append_assoc (ended so_far.all) line (10 ∷ []) ∙ sym (ended_more so_far.all line)
-      ∙ sym (append-nil _) ∙ ap (λ left. ended (so_far.all ++ line ∷ []) ++ left) (sym none);
-  each = All-push IsLine so_far.all line so_far.each so_far.partial;
-  partial = All-same (λ b. b ≢ 10) next [] none (All-nil (λ b. b ≢ 10));
+  split = subst (Splits (input ++ 10 ∷ []) (so_far.all ++ line ∷ [])) (sym none) (Splits-ended input so_far.all line so_far.split);
   says =
       ap (λ front. front ++ said) so_far.says ∙ ap (λ back. ended (map normal_line so_far.all) ++ back) is
       ∙ sym (ended_more (map normal_line so_far.all) (normal_line line)) ∙ ap ended (sym (map-append normal_line so_far.all (line ∷ [])));
@@ -62,8 +57,8 @@ ends_some old new bytes rest all said joined advances input output so_far =
     record {
       all = now.all;
       rest = new ++ rest;
-      whole = ap (λ more. input ++ more) (sym joined) ∙ sym (append_assoc input bytes rest) ∙ ap (λ read. read ++ rest) now.whole ∙ append_assoc (ended now.all) new rest;
-      each = now.each;
+      whole = ap (λ more. input ++ more) (sym joined) ∙ sym (append_assoc input bytes rest) ∙ ap (λ read. read ++ rest) now.split.whole ∙ append_assoc (ended now.all) new rest;
+      each = now.split.each;
       says = now.says;
     }
 
@@ -73,19 +68,21 @@ ends_text line empty text said none grown ends = subst (Ends line) (sym (grown �
 
 -- the complete lines are the first ones
 pub front_of : (input output line : List ℕ) → TidiedUpTo input output line → TidiedFront input output
-front_of input output line so_far = record { all = so_far.all; rest = line; whole = so_far.whole; each = so_far.each; says = so_far.says }
+front_of input output line so_far = record { all = so_far.all; rest = line; whole = so_far.split.whole; each = so_far.split.each; says = so_far.says }
 
 -- The end of the input: it ended behind a line feed, or has no bytes.
 pub ends_none : (line : List ℕ) → length line ≡ 0 → Ends line []
-ends_none line none input output so_far =
-    subst (Tidied input) (sym (append-nil output))
-    (tidied_none so_far.all input output so_far.each (so_far.whole ∙ ap (λ left. ended so_far.all ++ left) (nil_from_length line none)) so_far.says)
+ends_none [] none input output so_far =
+    tidied_whole so_far.all [] input (output ++ []) so_far.split (ap (λ front. front ++ []) so_far.says)
+ends_none (byte ∷ bytes) none input output so_far = absurd (omega arith)
 
 -- Or it ended within a line.
 pub ends_last : (line : List ℕ) → 0 < length line → Ends line (normal_line line ++ 10 ∷ [])
-ends_last line some input output so_far =
-    tidied_some so_far.all line input (output ++ (normal_line line ++ 10 ∷ [])) so_far.each so_far.partial some so_far.whole
-    (ap (λ front. front ++ (normal_line line ++ 10 ∷ [])) so_far.says)
+ends_last [] some input output so_far = absurd (omega arith)
+ends_last (byte ∷ bytes) some input output so_far =
+    let said = normal_line (byte ∷ bytes) ++ 10 ∷ [] in
+    tidied_whole so_far.all (byte ∷ bytes) input (output ++ said) so_far.split
+    (ap (λ front. front ++ said) so_far.says ∙ ap (λ back. ended (map normal_line so_far.all) ++ back) (sym (append-nil said)))
 
 -- what was fed, whether memory was refused or not
 pub ends_either : {T E : Type 0} (r : Result T E) (old new bytes empty text : List ℕ) → empty ≡ []

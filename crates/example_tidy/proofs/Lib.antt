@@ -5,7 +5,9 @@ pub mod Lines
 pub mod NormalForms
 pub mod Repeats
 pub mod Room
+pub mod Saying
 pub mod ShortLines
 pub mod Splitting
+pub mod Starts
 pub mod Stripped
 pub mod WordLemmas

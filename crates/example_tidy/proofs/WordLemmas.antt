@@ -24,7 +24,7 @@ plain line start end inside none = All-from_get_or (λ byte. is_ascii_whitespace
     rw (get_or-take (end - start) (drop start line) k 0 near, get_or-drop start line k 0) (none (start + k) (omega arith) (omega arith)))
 
 -- a part is a word where it has bytes
-one_part : (part : List ℕ) (rest : List (List ℕ)) → 0 < length part → filter has_bytes (part ∷ rest) ≡ part ∷ filter has_bytes rest
+pub one_part : (part : List ℕ) (rest : List (List ℕ)) → 0 < length part → filter has_bytes (part ∷ rest) ≡ part ∷ filter has_bytes rest
 one_part part rest some =
     ap (λ b. cond (not b) (part ∷ filter has_bytes rest) (filter has_bytes rest)) (ne_eqb (length part) 0 (omega arith))
 

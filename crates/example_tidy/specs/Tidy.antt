@@ -1,9 +1,10 @@
 -- The normal form of a line and of a text.
-use Rattle.std.specs.Prelude.{◌≡◌, ◌≢◌, ◌⊎◌, ℕ, ◌≤◌, ◌==◌, Bool, not, List, [], ◌∷◌, ◌++◌, map, length, slice_range, All}
-use Rattle.std.specs.List.{slice_split, filter, dedup, flat_map, join_with_byte}
+use Rattle.std.specs.Prelude.{◌≡◌, ◌⊎◌, ℕ, ◌≤◌, ◌==◌, Bool, not, List, ◌++◌, map, length, slice_range, All}
+use Rattle.std.specs.List.{slice_split, filter, dedup, join_with_byte}
 use Rattle.std.specs.Char.{is_ascii_whitespace, to_ascii_lowercase}
 use Rattle.std.specs.Str.{bytes_eq}
 use Rattle.std.specs.Str.Lines.{lines}
+use Rattle.tinyvec_io.specs.Lines.{IsLine, ended, Splits}
 use Rattle.example_tidy.specs.declared.words.Word.{Word}
 
 -- the bytes of a word of this line
@@ -38,19 +39,11 @@ IsShort line = (length line ≤ 80) × (length (words line) ≤ 8)
 abbrev pub AllShort : List ℕ → Type 0
 AllShort text = All IsShort (slice_split (λ byte. byte == 10) text)
 
--- lines, each ended by a line feed
-abbrev pub ended : List (List ℕ) → List ℕ
-ended all = flat_map (λ line. line ++ 10 ∷ []) all
-
 -- The output is the normal form of the input: its lines are the normal forms of the input's lines, and each is ended. The
 -- lines are those of Rust's `str::lines`.
 pub record Tidied (input output : List ℕ) : Type 0 where
   pub lines_of : lines output ≡ map normal_line (lines input)
   pub ended_by : output ≡ ended (lines output)
-
--- no line feed stands in it
-abbrev pub IsLine : List ℕ → Type 0
-IsLine line = All (λ byte. byte ≢ 10) line
 
 -- The output is the normal form of the first lines of the input, which may go on.
 pub record TidiedFront (input output : List ℕ) : Type 0 where
@@ -63,9 +56,7 @@ pub record TidiedFront (input output : List ℕ) : Type 0 where
 -- The output is the normal form of the complete lines of the input, and this has come of the next line.
 pub record TidiedUpTo (input output line : List ℕ) : Type 0 where
   pub all : List (List ℕ)
-  pub whole : input ≡ ended all ++ line
-  pub each : All IsLine all
-  pub partial : IsLine line
+  pub split : Splits input all line
   pub says : output ≡ ended (map normal_line all)
 
 -- after these bytes, for which this is said, `new` has come of the next line, where `old` had

@@ -1,9 +1,10 @@
 //! A text that is read and written as its lines come.
-ghost use Rattle.std.specs.Prelude.{◌≡◌, ◌≢◌, ◌≤◌, ◌^◌, ◌-◌, ◌++◌, List, ℕ, OnOk, IsErrOf, length};
+ghost use Rattle.std.specs.Prelude.{◌≡◌, ◌≢◌, ◌≤◌, ◌^◌, ◌-◌, ◌++◌, List, ℕ, Some, OnOk, IsErrOf, length};
 ghost use Rattle.std.specs.Io.KnownBytes.{Appends, Consumes, IsAtEnd, Keeps};
 ghost use Rattle.tinyvec.specs.Tiny.{tiny_items, tiny_capacity};
 ghost use Rattle.tinyvec_io.specs.Counted.{Reported};
-ghost use Rattle.example_tidy.specs.Tidy.{Advances, AllShort, Ends, EndsSome, IsBegun, IsLine, IsShort, Tidied, TidiedFront, TidiedUpTo};
+ghost use Rattle.tinyvec_io.specs.Lines.{IsLine};
+ghost use Rattle.example_tidy.specs.Tidy.{Advances, AllShort, Ends, EndsSome, IsBegun, IsShort, Tidied, TidiedFront, TidiedUpTo};
 
 use crate::line::LineText;
 use crate::text::{end_text, feed};
@@ -53,11 +54,14 @@ pub fn tidy<R: Read, W: Write>(
         × Appends (W.contents writer.old.end) (W.contents writer.new.end) output
         × TidiedUpTo input output line }
 
-    // The normal forms of the lines before the one that memory was refused for were written. That line is not short.
+    // The normal forms of the lines before the one that memory was refused for were written. That line is not short, so
+    // this comes of no text whose lines are.
     ensures memory { IsErrOf result TidyError.Memory → (input output : List ℕ)
         × Consumes (R.remaining reader.old.end) (R.remaining reader.new.end) input
         × Appends (W.contents writer.old.end) (W.contents writer.new.end) output
         × TidiedFront input output × (AllShort input → ⊥) }
+    ensures short { (text : List ℕ) → R.remaining reader.old.end ≡ Some text → AllShort text
+        → IsErrOf result TidyError.Memory → ⊥ }
 
     // What was written is a beginning of what was to be written.
     ensures write { IsErrOf result TidyError.Write → (input output : List ℕ)

@@ -2,7 +2,8 @@
 ghost use Rattle.std.specs.Prelude.{◌≡◌, ◌≢◌, ◌+◌, ◌-◌, ◌<◌, ◌≤◌, ◌++◌, ◌∷◌, [], List, ℕ, map, length, IsOk, IfOk, OnOk, OnErr};
 ghost use Rattle.std.specs.Str.Lines.{lines};
 ghost use Rattle.tinyvec.specs.Tiny.{tiny_items, tiny_len, tiny_capacity};
-ghost use Rattle.example_tidy.specs.Tidy.{Advances, AllShort, Ends, EndsSome, IsLine, IsShort, SaysAtMost, Tidied, ended, normal_line};
+ghost use Rattle.tinyvec_io.specs.Lines.{IsLine, ended};
+ghost use Rattle.example_tidy.specs.Tidy.{Advances, AllShort, Ends, EndsSome, IsShort, SaysAtMost, Tidied, normal_line};
 
 use crate::line::{LineText, tidy_line};
 use std::alloc::{AllocError, Global};

@@ -1,2 +1,3 @@
 mod Filled
+pub mod LineLemmas
 mod Pieces

@@ -7,6 +7,7 @@ use Rattle.example_tidy.proofs.Feeding.{nothing_yet, front_of, begun_front, begu
 use Rattle.example_tidy.proofs.Lines.{tidied_again}
 use Rattle.example_tidy.proofs.Room.{capacity_inline}
 use Rattle.example_tidy.proofs.ShortLines.{short_behind, short_end}
+use Rattle.example_tidy.proofs.Starts.{short_consumed}
 use Rattle.example_tidy.proofs.stream.tidy.Goals as goal
 
 pub loop-piece-init : goal.loop-piece-init
@@ -50,6 +51,11 @@ returns-then-count-eq0-clause-memory g c =
       λ each. c.finish.ensures.long is (rw c.as_slice.ensures (short_end s.0 s.1 _ s.4 each)),
     )
 
+pub returns-then-count-eq0-clause-short : goal.returns-then-count-eq0-clause-short
+returns-then-count-eq0-clause-short g c = λ text known each is.
+    let m = returns-then-count-eq0-clause-memory g c is in
+    m.5 (short_consumed (g.R.Read.remaining c.args.reader.now.end) (g.R.Read.remaining c.read_some.new.self.end) text m.0 known m.2 each)
+
 pub returns-then-count-eq0-clause-write : goal.returns-then-count-eq0-clause-write
 returns-then-count-eq0-clause-write g c =
     let s = c.loop-piece.invariant.so_far in
@@ -72,8 +78,13 @@ returns-in_err-tidy_chunk-clause-memory g c =
       Consumes-trans _ _ _ s.0 bytes s.2 c.in-Ok.ensures.bytes,
       Appends-trans _ _ _ s.1 f.0 s.3 f.1,
       f.2 s.0 s.1 s.4,
-      λ each. c.tidy_chunk.ensures.long was s.4.partial c.loop-piece.invariant.line_room few (short_behind s.0 s.1 _ bytes s.4 each),
+      λ each. c.tidy_chunk.ensures.long was s.4.split.partial c.loop-piece.invariant.line_room few (short_behind s.0 s.1 _ bytes s.4 each),
     )
+
+pub returns-in_err-tidy_chunk-clause-short : goal.returns-in_err-tidy_chunk-clause-short
+returns-in_err-tidy_chunk-clause-short g c = λ text known each is.
+    let m = returns-in_err-tidy_chunk-clause-memory g c is in
+    m.5 (short_consumed (g.R.Read.remaining c.args.reader.now.end) (g.R.Read.remaining c.read_some.new.self.end) text m.0 known m.2 each)
 
 pub returns-in_err-tidy_chunk-clause-write : goal.returns-in_err-tidy_chunk-clause-write
 returns-in_err-tidy_chunk-clause-write g c =

@@ -3,7 +3,8 @@ use Rattle.tinyvec.specs.Tiny.{tiny_items}
 use Rattle.example_tidy.specs.Tidy.{EndsSome}
 use Rattle.example_tidy.proofs.Feeding.{ends_either}
 use Rattle.example_tidy.proofs.Room.{capacity_inline}
-use Rattle.example_tidy.proofs.ShortLines.{short_front, says_few}
+use Rattle.example_tidy.proofs.Saying.{says_few}
+use Rattle.example_tidy.proofs.ShortLines.{short_front}
 use Rattle.example_tidy.proofs.stream.tidy_chunk.Goals as goal
 
 -- the front of what was said that was written

@@ -3,7 +3,8 @@ use Rattle.std.proofs.lemmas.List.{take-append-drop, drop_more}
 use Rattle.tinyvec_slots.proofs.CloneLemmas.{on_err}
 use Rattle.tinyvec.specs.Tiny.{tiny_items}
 use Rattle.example_tidy.proofs.Feeding.{ends_some}
-use Rattle.example_tidy.proofs.ShortLines.{short_fed, short_next, says_next}
+use Rattle.example_tidy.proofs.Saying.{says_next}
+use Rattle.example_tidy.proofs.ShortLines.{short_fed, short_next}
 use Rattle.example_tidy.proofs.text.feed.Goals as goal
 
 pub returns-in_err-feed_byte-clause-refused : goal.returns-in_err-feed_byte-clause-refused

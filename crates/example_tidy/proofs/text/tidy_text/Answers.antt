@@ -5,7 +5,8 @@ use Rattle.example_tidy.specs.Tidy.{Tidied, TidiedUpTo}
 use Rattle.example_tidy.proofs.Feeding.{advanced}
 use Rattle.example_tidy.proofs.Lines.{tidied_again}
 use Rattle.example_tidy.proofs.Room.{capacity_inline}
-use Rattle.example_tidy.proofs.ShortLines.{says_whole, says_last, short_end}
+use Rattle.example_tidy.proofs.Saying.{says_whole, says_last}
+use Rattle.example_tidy.proofs.ShortLines.{short_end}
 use Rattle.example_tidy.proofs.text.tidy_text.Goals as goal
 
 pub returns-clause-tidied : goal.returns-clause-tidied
