@@ -4,7 +4,6 @@ pub mod Lengths
 pub mod Lines
 pub mod NormalForms
 pub mod Repeats
-pub mod Room
 pub mod Saying
 pub mod ShortLines
 pub mod Splitting

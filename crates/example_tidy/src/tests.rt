@@ -74,3 +74,16 @@ fn a_writer_that_is_full(rt: HostRuntime) {
     assert!(rt; tidy(rt.alloc(), &mut reader, &mut writer) == Err(TidyError::Write));
     assert!(rt; writer.faults() == 1);
 }
+
+#[test]
+fn a_line_over_two_pieces(rt: HostRuntime) -> Result<(), Fail> {
+    let input = [b'X'; 5000];
+    let mut reader = Counted::new(input.as_slice());
+    let mut writer = Counted::new(Vec::with_capacity(rt.alloc(), 5001)?);
+    tidy(rt.alloc(), &mut reader, &mut writer)?;
+    let written = writer.into_inner();
+    assert!(rt; written.len() == 5001);
+    assert!(rt; written.as_slice().starts_with(&[b'x'; 5000]));
+    assert!(rt; written.as_slice().ends_with(b"\n"));
+    Ok(())
+}

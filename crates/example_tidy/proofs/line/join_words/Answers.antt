@@ -2,10 +2,9 @@ use Rattle.std.proofs.Common.{◌≡◌, ◌≢◌, ◌≤◌, ◌∙◌, true, 
 use Rattle.std.specs.List.{dedup, join_with_byte}
 use Rattle.std.specs.Str.{bytes_eq}
 use Rattle.std.proofs.lemmas.List.Elements.{All-tail, All-same, All-get_or}
-use Rattle.tinyvec.specs.Tiny.{tiny_items}
+use Rattle.tinyvec.specs.Tiny.{tiny_items, tiny_capacity}
 use Rattle.example_tidy.specs.declared.words.Word.{Word}
 use Rattle.example_tidy.specs.Tidy.{bytes_of, IsIn}
-use Rattle.example_tidy.proofs.Room.{capacity_inline}
 use Rattle.example_tidy.proofs.Joining.{said, said_all, passed, spoken, first_fits, next_fits}
 use Rattle.example_tidy.proofs.line.join_words.Goals as goal
 use Rattle.example_tidy.proofs.line.join_words.Goals.{then-ne+in_ok-push+in_ok-extend_from_slice-2, else-ne}
@@ -61,7 +60,7 @@ returns-in_err-extend_from_slice-clause-succeeds c = λ fits.
     let all = λ (words : List Word). length (join_with_byte 32 (dedup bytes_eq (map (bytes_of line) words))) in
     let bound : length first ≤ 80 = omega (arith, first_fits first (map (bytes_of line) c.in-Some.rest.now), ap all found, fits) in
     let last : c.of-last.result.now ≡ first = c.of-last.ensures in
-    let room = capacity_inline 80 c.new-text.result c.new-text.ensures.place in
+    let room : 80 ≤ tiny_capacity 80 c.new-text.result = search rules in
     let never : false ≡ true = c.in_err-extend_from_slice.ensures.succeeds
     (omega (arith, bound, ap length last, ap length c.new-text.ensures.items, room)) (λ k d below. tt) in
     absurd cc

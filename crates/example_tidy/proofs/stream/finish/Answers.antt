@@ -1,15 +1,15 @@
-use Rattle.std.proofs.Common.{◌≡◌, ◌∙◌, true, false, [], ap, sym, subst, append-nil, length, arith}
+use Rattle.std.proofs.Common.{◌≡◌, ◌∙◌, true, false, [], ap, sym, subst, append-nil, length, arith, rules, ◌≤◌}
 use Rattle.std.proofs.KnownBytes.{Appends-kept}
 use Rattle.example_tidy.specs.Tidy.{Ends}
 use Rattle.example_tidy.proofs.Feeding.{ends_text}
 use Rattle.example_tidy.proofs.Lengths.{length-normal_line}
-use Rattle.example_tidy.proofs.Room.{capacity_inline}
+use Rattle.tinyvec.specs.Tiny.{tiny_capacity}
 use Rattle.example_tidy.proofs.stream.finish.Goals as goal
 
 pub returns-in_default-clause-long : goal.returns-in_default-clause-long
 returns-in_default-clause-long g c = λ _ short.
     let output = c.new-output in
-    let room = capacity_inline 4096 output.result output.ensures.place in
+    let room : 4096 ≤ tiny_capacity 4096 output.result = search rules in
     let never : false ≡ true = c.in_default.ensures.succeeds short
     (λ some. omega (arith, length-normal_line c.args.line.now, short.0, ap length output.ensures.items, room)) in
     absurd cc

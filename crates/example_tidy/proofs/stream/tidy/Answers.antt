@@ -5,7 +5,6 @@ use Rattle.example_tidy.specs.Tidy.{TidiedUpTo}
 use Rattle.example_tidy.specs.declared.stream.TidyError.TheVariants.{Memory, Write}
 use Rattle.example_tidy.proofs.Feeding.{nothing_yet, front_of, begun_front, begun_whole}
 use Rattle.example_tidy.proofs.Lines.{tidied_again}
-use Rattle.example_tidy.proofs.Room.{capacity_inline}
 use Rattle.example_tidy.proofs.ShortLines.{short_behind, short_end}
 use Rattle.example_tidy.proofs.Starts.{short_consumed}
 use Rattle.example_tidy.proofs.stream.tidy.Goals as goal
@@ -13,7 +12,7 @@ use Rattle.example_tidy.proofs.stream.tidy.Goals as goal
 pub loop-piece-init : goal.loop-piece-init
 loop-piece-init g c = record {
   so_far = ([], [], Consumes-nil _, Appends-nil _, subst (TidiedUpTo [] []) (sym c.new-line.ensures.items) nothing_yet, omega arith);
-  line_room = omega (arith, capacity_inline 80 c.new-line.result c.new-line.ensures.place);
+  line_room = search rules;
   chunk = search rules;
   read_grows = omega arith;
   write_grows = omega arith;

@@ -1,8 +1,7 @@
-use Rattle.std.proofs.Common.{◌≡◌, ◌∙◌, true, false, ap, sym, subst, length, arith}
-use Rattle.tinyvec.specs.Tiny.{tiny_items}
+use Rattle.std.proofs.Common.{◌≡◌, ◌∙◌, true, false, ap, sym, subst, length, arith, rules, ◌≤◌}
+use Rattle.tinyvec.specs.Tiny.{tiny_items, tiny_capacity}
 use Rattle.example_tidy.specs.Tidy.{EndsSome}
 use Rattle.example_tidy.proofs.Feeding.{ends_either}
-use Rattle.example_tidy.proofs.Room.{capacity_inline}
 use Rattle.example_tidy.proofs.Saying.{says_few}
 use Rattle.example_tidy.proofs.ShortLines.{short_front}
 use Rattle.example_tidy.proofs.stream.tidy_chunk.Goals as goal
@@ -21,7 +20,7 @@ returns-in_default-fed-clause-long g c = λ _ whole room few each.
     let old = tiny_items c.args.line.now in
     let bytes = c.args.bytes.now in
     let output = c.new-output in
-    let place = capacity_inline 4096 output.result output.ensures.place in
+    let place : 4096 ≤ tiny_capacity 4096 output.result = search rules in
     let never : false ≡ true = c.in_default-fed.ensures.succeeds whole each room
     (λ said new advances. omega (arith, says_few old bytes whole said new advances, short_front old bytes whole each, few, ap length output.ensures.items, place)) in
     absurd cc

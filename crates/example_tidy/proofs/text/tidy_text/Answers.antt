@@ -1,10 +1,9 @@
-use Rattle.std.proofs.Common.{◌≡◌, ◌≢◌, length, true, false, sym, subst, ap, arith}
+use Rattle.std.proofs.Common.{rules, ◌≤◌, ◌≡◌, ◌≢◌, length, true, false, sym, subst, ap, arith}
 use Rattle.std.proofs.lemmas.List.Elements.{All-nil}
-use Rattle.tinyvec.specs.Tiny.{tiny_items}
+use Rattle.tinyvec.specs.Tiny.{tiny_items, tiny_capacity}
 use Rattle.example_tidy.specs.Tidy.{Tidied, TidiedUpTo}
 use Rattle.example_tidy.proofs.Feeding.{advanced}
 use Rattle.example_tidy.proofs.Lines.{tidied_again}
-use Rattle.example_tidy.proofs.Room.{capacity_inline}
 use Rattle.example_tidy.proofs.Saying.{says_whole, says_last}
 use Rattle.example_tidy.proofs.ShortLines.{short_end}
 use Rattle.example_tidy.proofs.text.tidy_text.Goals as goal
@@ -24,11 +23,12 @@ returns-in_err-feed-clause-succeeds c = λ each fits.
     let text = c.args.text.now in
     let line = c.new-line in
     let output = c.new-output in
+    let room : 4096 ≤ tiny_capacity 4096 output.result = search rules in
     let never : false ≡ true = c.in_err-feed.ensures.succeeds
     (rw line.ensures.items (All-nil (λ byte. byte ≢ 10)))
     (rw line.ensures.items each)
-    (omega (arith, capacity_inline 80 line.result line.ensures.place))
-    (λ said new advances. omega (arith, says_whole text _ line.ensures.items said new advances, fits, capacity_inline 4096 output.result output.ensures.place, ap length output.ensures.items)) in
+    (search rules)
+    (λ said new advances. omega (arith, says_whole text _ line.ensures.items said new advances, fits, room, ap length output.ensures.items)) in
     absurd cc
 
 pub returns-in_err-end_text-clause-succeeds : goal.returns-in_err-end_text-clause-succeeds
@@ -38,7 +38,7 @@ returns-in_err-end_text-clause-succeeds c = λ each fits.
     let output = tiny_items c.feed.new.output in
     let fed = c.in_ok-feed.ensures.ok in
     let so_far : TidiedUpTo text output line = advanced _ _ text _ _ fed.0 c.new-line.ensures.items c.new-output.ensures.items fed.1 fed.2 in
-    let room = capacity_inline 4096 c.new-output.result c.new-output.ensures.place in
+    let room : 4096 ≤ tiny_capacity 4096 c.new-output.result = search rules in
     let never : false ≡ true = rw c.as_slice.ensures at c.in_err-end_text.ensures.succeeds
     (short_end text output line so_far each)
     (λ some. omega (arith, says_last text output line so_far some, fits, room, c.in_ok-feed.ensures.room)) in
