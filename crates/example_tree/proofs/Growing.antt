@@ -1,13 +1,12 @@
 -- One node more leaves the trees as they are.
-use Rattle.std.proofs.Common.{◌≡◌, ◌∙◌, ℕ, zero, suc, ◌-◌, ◌<◌, List, [], ◌∷◌, ◌++◌, length, inl, inr, All, refl, sym, ap, subst, arith, append-nil, length-append}
+use Rattle.std.proofs.Common.{◌≡◌, ◌∙◌, ℕ, zero, suc, ◌-◌, ◌<◌, List, [], ◌∷◌, ◌++◌, length, inl, inr, All, refl, sym, ap, subst, arith, length-append}
 use Rattle.std.proofs.lemmas.List.{get_or_append_left, get_or-append_right, map-append, length-map}
 use Rattle.std.proofs.Math.ListN.{get_or-eq_default}
-use Rattle.std.proofs.lemmas.List.Concat.{flat_map-append}
-use Rattle.std.proofs.lemmas.List.Elements.{All-nil, All-head, All-tail, All-weaker, All-push}
+use Rattle.std.proofs.lemmas.List.Elements.{All-nil, All-weaker}
 use Rattle.std.proofs.lemmas.Bool.Decides.{leb_tells, eqb_tells}
-use Rattle.example_tree.specs.Tree.{number, leaves, all_leaves}
-use Rattle.example_tree.specs.Nodes.{Form, leaf_form, form, forms, form_at, children, IsOrdered, trees_of, tree_of, tree_to, tree_at}
-use Rattle.example_tree.specs.Forest.{leaves_of, node_leaves}
+use Rattle.example_tree.specs.Tree.{number}
+use Rattle.example_tree.specs.Nodes.{Form, leaf_form, form, forms, form_at, children, IsOrdered, tree_of, tree_to, tree_at}
+use Rattle.example_tree.specs.Levels.{Adds}
 use Rattle.example_tree.specs.declared.node.Node.{Node}
 use Rattle.example_tree.proofs.Readings.{tree_same, levels}
 
@@ -56,37 +55,23 @@ module _ (nodes : List Node) (node : Node) (ordered : IsOrdered (forms nodes)) (
   forms_grown : forms (nodes ++ node ∷ []) ≡ forms nodes ++ form node ∷ []
   forms_grown = map-append form nodes (node ∷ [])
 
-  pub ordered_more : IsOrdered (forms (nodes ++ node ∷ []))
+  ordered_more : IsOrdered (forms (nodes ++ node ∷ []))
   ordered_more = subst IsOrdered (sym forms_grown) (ordered_grown (forms nodes) (form node) ordered within)
 
   same_tree : (id : ℕ) → id < length nodes → tree_at (nodes ++ node ∷ []) id ≡ tree_at nodes id
   same_tree id inside = ap (λ gs. tree_to gs (suc id) id) forms_grown ∙ same_to (forms nodes) (form node) ordered within (suc id) id (rw (length-map nodes form) inside)
 
-  same_leaves : (ids : List ℕ) → All (λ id. id < length nodes) ids → leaves_of (nodes ++ node ∷ []) ids ≡ leaves_of nodes ids
-  same_leaves [] inside = refl
-  same_leaves (id ∷ ids) inside =
-      ap (λ t. leaves t ++ leaves_of (nodes ++ node ∷ []) ids) (same_tree id (All-head (λ i. i < length nodes) id ids inside))
-      ∙ ap (λ l. leaves (tree_at nodes id) ++ l) (same_leaves ids (All-tail (λ i. i < length nodes) id ids inside))
+  new_node : tree_at (nodes ++ node ∷ []) (length nodes) ≡ tree_of (tree_at nodes) (form node)
+  new_node =
+      ap (λ n. tree_at (nodes ++ node ∷ []) n) (sym (length-map nodes form))
+      ∙ ap (λ gs. tree_to gs (suc (length (forms nodes))) (length (forms nodes))) forms_grown
+      ∙ new_tree (forms nodes) (form node) ordered within
 
-  new_leaves : leaves (tree_at (nodes ++ node ∷ []) (length nodes)) ≡ node_leaves nodes node
-  new_leaves =
-      ap (λ n. leaves (tree_at (nodes ++ node ∷ []) n)) (sym (length-map nodes form))
-      ∙ ap (λ gs. leaves (tree_to gs (suc (length (forms nodes))) (length (forms nodes)))) forms_grown
-      ∙ ap leaves (new_tree (forms nodes) (form node) ordered within)
-
-  pub leaves_more : (ids : List ℕ) → All (λ id. id < length nodes) ids → leaves_of (nodes ++ node ∷ []) (ids ++ length nodes ∷ []) ≡ leaves_of nodes ids ++ node_leaves nodes node
-  leaves_more ids inside =
-      flat_map-append (λ id. leaves (tree_at (nodes ++ node ∷ []) id)) ids (length nodes ∷ [])
-      ∙ ap (λ l. leaves_of (nodes ++ node ∷ []) ids ++ l) (append-nil _ ∙ new_leaves)
-      ∙ ap (λ l. l ++ node_leaves nodes node) (same_leaves ids inside)
-
-  pub ids_more : (ids : List ℕ) → All (λ id. id < length nodes) ids → All (λ id. id < length (nodes ++ node ∷ [])) (ids ++ length nodes ∷ [])
-  ids_more ids inside =
+  pub one_more : Adds nodes (nodes ++ node ∷ []) (length nodes) (tree_of (tree_at nodes) (form node))
+  one_more =
       let long = length-append nodes (node ∷ []) in
-      All-push (λ id. id < length (nodes ++ node ∷ [])) ids (length nodes)
-      (All-weaker (λ id. id < length nodes) (λ id. id < length (nodes ++ node ∷ [])) (λ id less. omega (arith, less, long)) ids inside) (omega (arith, long))
-
--- the leaves of a sum or a product are those of its children
-pub joined_children : (nodes : List Node) (ids : List ℕ) → all_leaves (trees_of (tree_at nodes) ids) ≡ leaves_of nodes ids
-joined_children nodes [] = refl
-joined_children nodes (id ∷ ids) = ap (λ l. leaves (tree_at nodes id) ++ l) (joined_children nodes ids)
+      record {
+        keeps = record { ordered = ordered_more; longer = omega (arith, long); trees = same_tree };
+        inside = omega (arith, long);
+        there = new_node;
+      }

@@ -6,3 +6,5 @@ pub mod Readings
 pub mod Spliced
 pub mod Turn
 pub mod Growing
+pub mod Groups
+pub mod Steps

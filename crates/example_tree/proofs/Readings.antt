@@ -10,7 +10,7 @@ map_same v w [] same = refl
 map_same v w (id ∷ ids) same =
     ap (λ x. x ∷ map v ids) (All-head (λ i. v i ≡ w i) id ids same) ∙ ap (λ xs. w id ∷ xs) (map_same v w ids (All-tail (λ i. v i ≡ w i) id ids same))
 
-trees_same : (v w : ℕ → Tree) (ids : List ℕ) → All (λ id. v id ≡ w id) ids → trees_of v ids ≡ trees_of w ids
+pub trees_same : (v w : ℕ → Tree) (ids : List ℕ) → All (λ id. v id ≡ w id) ids → trees_of v ids ≡ trees_of w ids
 trees_same v w [] same = refl
 trees_same v w (id ∷ ids) same =
     ap (λ x. more x (trees_of v ids)) (All-head (λ i. v i ≡ w i) id ids same) ∙ ap (λ xs. more (w id) xs) (trees_same v w ids (All-tail (λ i. v i ≡ w i) id ids same))

@@ -10,6 +10,7 @@ use Rattle.example_tree.specs.Nodes.{Form, leaf_form, sum_form, form, forms, for
 use Rattle.example_tree.specs.declared.node.Node.{Node}
 use Rattle.example_tree.specs.declared.node.Node.TheVariants.{Number, Name, Sum, Product}
 use Rattle.example_tree.proofs.Readings.{kept}
+use Rattle.std.proofs.lemmas.Result.{on_ok_weaker}
 use Rattle.example_tree.proofs.Expanding.{expanded_same, ordered_after, done_after, reading_after}
 use Rattle.example_tree.proofs.Kept.{joined, joined_leaves, joined_law, total, times, total_value, times_value, total_law}
 
@@ -95,11 +96,6 @@ always : {E : Type 0} (result : Result Unit E) → OnOk result (Unit {0})
 always (Ok u) = tt
 always (Err e) = tt
 
--- what an `Ok` tells, and what follows from it
-pub on_ok : {E : Type 0} {P Q : Type 0} (result : Result Unit E) → (P → Q) → OnOk result P → OnOk result Q
-on_ok (Ok u) follows p = follows p
-on_ok (Err e) follows p = tt
-
 -- the node is a sum, and children of it gave way to theirs
 pub sum_turned : {E : Type 0} (nodes before behind : List Node) (id : ℕ) (node : Node) (kids new : TinyVec (List ℕ) ℕ) (result : Result Unit E)
     → id < length nodes → before ≡ take id nodes → behind ≡ drop id nodes → get_or behind 0 node ≡ Sum kids → IsOrdered (forms nodes) → AreDone (forms nodes) id
@@ -117,7 +113,7 @@ sum_turned nodes before behind id node kids new result inside ahead rest is_sum 
     let is : now ≡ take far.0 ids ++ expanded fs (drop far.0 ids) =
     far.1 ∙ ap (λ l. take far.0 ids ++ l) (same_before nodes before id (drop far.0 ids) ahead (All-drop (λ child. child < id) far.0 ids below)) in
     let back : forms (before ++ set behind 0 (Sum new)) ≡ set fs id (sum_form now) = forms_back nodes before behind id (Sum new) inside ahead rest in record {
-      done = subst (λ gs. OnOk result (AreDone gs (suc id))) (sym back) (on_ok result (done_after fs id ids now far.0 within here is ordered done) far.2);
+      done = subst (λ gs. OnOk result (AreDone gs (suc id))) (sym back) (on_ok_weaker result (done_after fs id ids now far.0 within here is ordered done) far.2);
       leaves = subst (λ gs. (j : ℕ) → leaves (tree_to gs (suc j) j) ≡ leaves (tree_to fs (suc j) j)) (sym back) (leaves_same fs id ids now far.0 within here is ordered);
       values = subst (λ gs. (names : List ℕ → ℤ) (j : ℕ) → value names (tree_to gs (suc j) j) ≡ value names (tree_to fs (suc j) j)) (sym back) (values_same fs id ids now far.0 within here is ordered);
       ordered = subst IsOrdered (sym back) (next fs id ids now far.0 within here is ordered);
@@ -131,7 +127,7 @@ other_turned nodes before behind id node result inside ahead rest other ordered 
     let this : IsDone (forms nodes) (form_at (forms nodes) id) =
     subst (IsDone (forms nodes)) (sym (here_is nodes behind id node inside rest)) (no_sum_done (forms nodes) (get_or behind 0 node) other) in
     subst (λ ns. Turned nodes ns id result) (sym (unmoved nodes before behind id node inside ahead rest)) record {
-      done = on_ok {P = Unit {0}} result (λ u. one_more_done (forms nodes) id done this) (always result);
+      done = on_ok_weaker {P = Unit {0}} result (λ u. one_more_done (forms nodes) id done this) (always result);
       leaves = λ j. refl;
       values = λ names j. refl;
       ordered = ordered;

@@ -1,4 +1,6 @@
 pub mod Tree
 pub mod Nodes
-pub mod Forest
 pub mod Text
+pub mod Outcome
+pub mod Faults
+pub mod Levels

@@ -1,8 +1,9 @@
 //! A line, read as a tree with no sum in a sum.
-ghost use Rattle.std.specs.Prelude.{◌≡◌, ◌≤◌, length, IfOk, IfErr};
-ghost use Rattle.example_tree.specs.Tree.{leaves, IsFlat};
+ghost use Rattle.std.specs.Prelude.{IfOk, IfErr};
+ghost use Rattle.example_tree.specs.Tree.{IsFlat};
 ghost use Rattle.example_tree.specs.Nodes.{tree_at};
-ghost use Rattle.example_tree.specs.Text.{text_leaves, error_place};
+ghost use Rattle.example_tree.specs.Outcome.{outcome};
+ghost use Rattle.example_tree.specs.Faults.{IsSaid, Reads};
 
 use crate::flatten::flatten;
 use crate::parse::{Tree, parse};
@@ -12,8 +13,8 @@ use std::alloc::Global;
 /// Reads a line as a tree, and writes each sum in a sum out in its parent.
 pub fn flattened(alloc: Global, line: &[u8]) -> Result<Tree, ParseError>
     ensures flat { IfOk result (λ tree. IsFlat (tree_at tree.nodes.items tree.root)) }
-    ensures leaves { IfOk result (λ tree. leaves (tree_at tree.nodes.items tree.root) ≡ text_leaves line.now) }
-    ensures place { IfErr result (λ error. error_place error ≤ length line.now) }
+    ensures right { IfOk result (λ tree. Reads (outcome line.now) (tree_at tree.nodes.items tree.root)) }
+    ensures wrong { IfErr result (IsSaid (outcome line.now)) }
 {
     let mut tree = parse(alloc, line)?;
     flatten(&mut tree.nodes)?;

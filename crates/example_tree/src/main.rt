@@ -4,6 +4,7 @@
 mod flatten;
 mod flattened;
 mod forest;
+mod level;
 mod node;
 mod parse;
 mod parse_error;

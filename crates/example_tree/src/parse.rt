@@ -1,13 +1,14 @@
 //! A line of text, read as a tree.
-ghost use Rattle.std.specs.Prelude.{◌≡◌, ◌<◌, ◌≤◌, ◌++◌, ◌∷◌, [], List, ℕ, suc, length, drop, OnOk, IfOk, IfErr, MatchOption};
-ghost use Rattle.example_tree.specs.Tree.{leaves};
-ghost use Rattle.example_tree.specs.Nodes.{tree_at, forms, IsOrdered};
-ghost use Rattle.example_tree.specs.Forest.{forest_leaves, IsForest};
-ghost use Rattle.example_tree.specs.Text.{leaves_with, text_leaves, closed, open_of, nothing, error_place};
+ghost use Rattle.std.specs.Prelude.{◌≡◌, ◌<◌, length, All, OnOk, IfOk, IfErr};
+ghost use Rattle.example_tree.specs.Nodes.{tree_at, tree_of, form, forms, children, IsOrdered};
+ghost use Rattle.example_tree.specs.Outcome.{State, outcome, right, start, next, fault, ended, factored, sign, sign_fault, deeper, higher, times, plus, group_tree, before_fault, behind_fault, close_fault, end_fault};
+ghost use Rattle.example_tree.specs.Faults.{IsSaid, IsAt};
+ghost use Rattle.example_tree.specs.Levels.{IsSound, Stands, Goes, Stops};
 
-use crate::forest::{Forest, Operation};
+use crate::forest::add;
+use crate::level::Level;
 use crate::node::{Node, NodeId};
-use crate::parse_error::{Fault, ParseError, syntax};
+use crate::parse_error::{Fault, ParseError, begins, ends, syntax};
 use crate::reading::Reading;
 use std::alloc::{AllocError, Global};
 use std::mem::replace;
@@ -19,118 +20,105 @@ pub struct Tree {
     pub root: NodeId,
 }
 
-/// Where the terms of a sum begin in a forest, and the factors of its last term.
-#[derive(Clone, Copy)]
-pub struct Frame {
-    pub terms: usize,
-    pub factors: usize,
-}
-
-/// A line that was read in part.
+/// A line that was read in part: what stands before each bracket that is open, and behind the last of them.
 #[derive(Drop)]
 pub struct Parser {
-    pub forest: Forest,
+    pub nodes: Vec<Node>,
+    pub outer: Vec<Level>,
+    pub level: Level,
     pub reading: Reading,
-    pub outer: Vec<Frame>,
-    pub frame: Frame,
     pub after_operand: bool,
 }
 
 /// Reads a line as a tree.
 pub fn parse(alloc: Global, line: &[u8]) -> Result<Tree, ParseError>
     ensures ordered { IfOk result (λ tree. IsOrdered (forms tree.nodes.items)) }
-    ensures leaves { IfOk result (λ tree. leaves (tree_at tree.nodes.items tree.root) ≡ text_leaves line.now) }
-    ensures place { IfErr result (λ error. error_place error ≤ length line.now) }
+    ensures right { IfOk result (λ tree. outcome line.now ≡ right (tree_at tree.nodes.items tree.root)) }
+    ensures wrong { IfErr result (IsSaid (outcome line.now)) }
 {
     let mut parser = Parser::new(alloc);
     for (at, byte) in line.iter().enumerate() {
         parser.step(alloc, *byte, at)?;
     }
-    parser.finish(alloc, line.len())
+    let root = parser.finish(alloc, line.len())?;
+    let Parser { nodes, .. } = parser;
+    Ok(Tree { nodes, root })
 }
 
 impl Parser {
-    /// Nothing was read.
+    // Nothing was read.
     fn new(alloc: Global) -> Parser
-        ensures forest { IsForest result.forest }
-        ensures leaves { (rest : List ℕ) → leaves_with result rest ≡ text_leaves rest }
+        ensures sound { IsSound result }
+        ensures state { Stands result start }
     {
         Parser {
-            forest: Forest::new(alloc),
-            reading: Reading::Nothing,
+            nodes: Vec::new(alloc),
             outer: Vec::new(alloc),
-            frame: Frame {
-                terms: 0,
-                factors: 0,
-            },
+            level: Level::new(alloc),
+            reading: Reading::Nothing,
             after_operand: false,
         }
     }
 
     // Reads one byte.
     fn step(&mut self, alloc: Global, byte: u8, at: usize) -> Result<(), ParseError>
-        requires { IsForest self.old.forest }
-        ensures forest { OnOk result (IsForest self.new.forest) }
-        ensures leaves { OnOk result ((rest : List ℕ) → leaves_with self.new rest ≡ leaves_with self.old (byte ∷ rest)) }
-        ensures place { IfErr result (λ error. error_place error ≤ at) }
+        requires { IsSound self.old }
+        ensures sound { OnOk result (IsSound self.new) }
+        ensures ok { OnOk result (Goes self.old self.new (λ s. fault s byte) (λ s. next s byte)) }
+        ensures err { IfErr result (Stops self.old at (λ s. fault s byte)) }
     {
         if byte.is_ascii_digit() {
-            self.begin(at)?;
             let reading = replace(&mut self.reading, Reading::Nothing);
-            self.reading = reading.digit(byte, at)?;
+            self.reading = reading.digit(self.after_operand, byte, at)?;
+            self.after_operand = true;
             return Ok(());
         }
         if byte.is_ascii_alphabetic() {
-            self.begin(at)?;
             let reading = replace(&mut self.reading, Reading::Nothing);
-            self.reading = reading.letter(alloc, byte, at)?;
+            self.reading = reading.letter(alloc, self.after_operand, byte, at)?;
+            self.after_operand = true;
             return Ok(());
         }
         self.flush()?;
         self.sign(alloc, byte, at)
     }
 
-    // A number or a name goes on here, or begins where none may go on.
-    fn begin(&mut self, at: usize) -> Result<(), ParseError>
-        ensures forest { self.new.forest ≡ self.old.forest }
-        ensures reading { self.new.reading ≡ self.old.reading }
-        ensures place { IfErr result (λ error. error_place error ≤ at) }
-    {
-        if matches!(&self.reading, Reading::Nothing) {
-            if self.after_operand {
-                return Err(syntax(at, Fault::Operator));
-            }
-            self.after_operand = true;
-        }
-        Ok(())
-    }
-
     // Ends a number or a name.
     fn flush(&mut self) -> Result<(), AllocError>
-        requires { IsForest self.old.forest }
-        ensures forest { OnOk result (IsForest self.new.forest) }
-        ensures leaves { OnOk result
-            (forest_leaves self.new.forest ≡ forest_leaves self.old.forest ++ closed (open_of self.old.reading)) }
-        ensures reading { open_of self.new.reading ≡ nothing }
+        requires { IsSound self.old }
+        ensures sound { OnOk result (IsSound self.new) }
+        ensures ok { OnOk result ((s : State) → Stands self.old s → Stands self.new (ended s)) }
     {
         match replace(&mut self.reading, Reading::Nothing) {
             Reading::Nothing => Ok(()),
-            Reading::Number(number) => self.forest.push(Node::Number(number)),
-            Reading::Name(name) => self.forest.push(Node::Name(name)),
+            Reading::Number(number) => self.operand(Node::Number(number)),
+            Reading::Name(name) => self.operand(Node::Name(name)),
         }
+    }
+
+    // A number or a name is a factor.
+    fn operand(&mut self, node: Node) -> Result<(), AllocError>
+        requires sound { IsSound self.old }
+        requires children { All (λ child. child < length self.old.nodes.items) (children (form node)) }
+        ensures sound { OnOk result (IsSound self.new) }
+        ensures ok { OnOk result ((s : State) → Stands self.old s
+            → Stands self.new (factored s (tree_of (tree_at self.old.nodes.items) (form node)))) }
+    {
+        let id = add(&mut self.nodes, node)?;
+        self.level.factor(id)?;
+        Ok(())
     }
 
     // Reads a byte that is no part of a number or of a name.
     fn sign(&mut self, alloc: Global, byte: u8, at: usize) -> Result<(), ParseError>
-        requires { IsForest self.old.forest }
-        ensures forest { OnOk result (IsForest self.new.forest) }
-        ensures leaves { OnOk result (forest_leaves self.new.forest ≡ forest_leaves self.old.forest) }
-        ensures reading { self.new.reading ≡ self.old.reading }
-        ensures place { IfErr result (λ error. error_place error ≤ at) }
+        requires { IsSound self.old }
+        ensures sound { OnOk result (IsSound self.new) }
+        ensures ok { OnOk result (Goes self.old self.new (λ s. sign_fault s byte) (λ s. sign s byte)) }
+        ensures err { IfErr result (Stops self.old at (λ s. sign_fault s byte)) }
     {
         match byte {
             b' ' => Ok(()),
-            b'(' => self.open_bracket(at),
+            b'(' => self.open_bracket(alloc, at),
             b')' => self.close_bracket(alloc, at),
             b'+' => self.plus(alloc, at),
             b'*' => self.times(at),
@@ -139,44 +127,33 @@ impl Parser {
     }
 
     // An opening bracket.
-    fn open_bracket(&mut self, at: usize) -> Result<(), ParseError>
-        requires { IsForest self.old.forest }
-        ensures sound { OnOk result (IsForest self.new.forest) }
-        ensures forest { self.new.forest ≡ self.old.forest }
-        ensures reading { self.new.reading ≡ self.old.reading }
-        ensures place { IfErr result (λ error. error_place error ≤ at) }
+    fn open_bracket(&mut self, alloc: Global, at: usize) -> Result<(), ParseError>
+        requires { IsSound self.old }
+        ensures sound { OnOk result (IsSound self.new) }
+        ensures ok { OnOk result (Goes self.old self.new (λ s. before_fault s.operand) deeper) }
+        ensures err { IfErr result (Stops self.old at (λ s. before_fault s.operand)) }
     {
-        if self.after_operand {
-            return Err(syntax(at, Fault::Operator));
+        begins(self.after_operand, at)?;
+        let outer = replace(&mut self.level, Level::new(alloc));
+        match self.outer.push(outer) {
+            Ok(()) => Ok(()),
+            Err(_refused) => Err(ParseError::Memory),
         }
-        if self.outer.push(self.frame).is_err() {
-            return Err(ParseError::Memory);
-        }
-        let here = self.forest.ids.len();
-        self.frame = Frame {
-            terms: here,
-            factors: here,
-        };
-        Ok(())
     }
 
-    // A closing bracket: what stands in the brackets is one tree.
+    // A closing bracket: what stands in the brackets is one factor.
     fn close_bracket(&mut self, alloc: Global, at: usize) -> Result<(), ParseError>
-        requires { IsForest self.old.forest }
-        ensures forest { OnOk result (IsForest self.new.forest) }
-        ensures leaves { OnOk result (forest_leaves self.new.forest ≡ forest_leaves self.old.forest) }
-        ensures reading { self.new.reading ≡ self.old.reading }
-        ensures place { IfErr result (λ error. error_place error ≤ at) }
+        requires { IsSound self.old }
+        ensures sound { OnOk result (IsSound self.new) }
+        ensures ok { OnOk result (Goes self.old self.new close_fault higher) }
+        ensures err { IfErr result (Stops self.old at close_fault) }
     {
-        if !self.after_operand {
-            return Err(syntax(at, Fault::Operand));
-        }
-        self.forest
-            .join(alloc, self.frame.factors, Operation::Product)?;
-        self.forest.join(alloc, self.frame.terms, Operation::Sum)?;
+        ends(self.after_operand, at)?;
         match self.outer.pop() {
-            Some(frame) => {
-                self.frame = frame;
+            Some(outer) => {
+                let level = replace(&mut self.level, outer);
+                let id = level.end(alloc, &mut self.nodes)?;
+                self.level.factor(id)?;
                 Ok(())
             }
             None => Err(syntax(at, Fault::NotOpen)),
@@ -185,55 +162,44 @@ impl Parser {
 
     // A plus: the factors before it are one term.
     fn plus(&mut self, alloc: Global, at: usize) -> Result<(), ParseError>
-        requires { IsForest self.old.forest }
-        ensures forest { OnOk result (IsForest self.new.forest) }
-        ensures leaves { OnOk result (forest_leaves self.new.forest ≡ forest_leaves self.old.forest) }
-        ensures reading { self.new.reading ≡ self.old.reading }
-        ensures place { IfErr result (λ error. error_place error ≤ at) }
+        requires { IsSound self.old }
+        ensures sound { OnOk result (IsSound self.new) }
+        ensures ok { OnOk result (Goes self.old self.new (λ s. behind_fault s.operand) plus) }
+        ensures err { IfErr result (Stops self.old at (λ s. behind_fault s.operand)) }
     {
-        self.times(at)?;
-        self.forest
-            .join(alloc, self.frame.factors, Operation::Product)?;
-        self.frame.factors = self.forest.ids.len();
+        ends(self.after_operand, at)?;
+        self.after_operand = false;
+        self.level.end_term(alloc, &mut self.nodes)?;
         Ok(())
     }
 
-    // An operator stands behind an operand.
+    // A times.
     fn times(&mut self, at: usize) -> Result<(), ParseError>
-        requires { IsForest self.old.forest }
-        ensures sound { OnOk result (IsForest self.new.forest) }
-        ensures forest { self.new.forest ≡ self.old.forest }
-        ensures reading { self.new.reading ≡ self.old.reading }
-        ensures place { IfErr result (λ error. error_place error ≤ at) }
+        requires { IsSound self.old }
+        ensures sound { OnOk result (IsSound self.new) }
+        ensures ok { OnOk result (Goes self.old self.new (λ s. behind_fault s.operand) times) }
+        ensures err { IfErr result (Stops self.old at (λ s. behind_fault s.operand)) }
     {
-        if !self.after_operand {
-            return Err(syntax(at, Fault::Operand));
-        }
+        ends(self.after_operand, at)?;
         self.after_operand = false;
         Ok(())
     }
 
-    // The line ends here.
-    fn finish(mut self, alloc: Global, end: usize) -> Result<Tree, ParseError>
-        requires { IsForest self.forest }
-        ensures ordered { IfOk result (λ tree. IsOrdered (forms tree.nodes.items)) }
-        ensures leaves { IfOk result (λ tree. leaves (tree_at tree.nodes.items tree.root) ≡ leaves_with self []) }
-        ensures place { IfErr result (λ error. error_place error ≤ end) }
+    // The line ends here: the root of its tree.
+    fn finish(&mut self, alloc: Global, end: usize) -> Result<NodeId, ParseError>
+        requires { IsSound self.old }
+        ensures right { IfOk result (λ root. (s : State) → Stands self.old s → (end_fault s ≡ None)
+            × (tree_at self.new.nodes.items root ≡ group_tree (ended s).inner)) }
+        ensures ordered { OnOk result (IsOrdered (forms self.new.nodes.items)) }
+        ensures err { IfErr result (Stops self.old end end_fault) }
     {
         self.flush()?;
-        if !self.after_operand {
-            return Err(syntax(end, Fault::Operand));
-        }
+        ends(self.after_operand, end)?;
         if !self.outer.is_empty() {
             return Err(syntax(end, Fault::NotClosed));
         }
-        self.forest
-            .join(alloc, self.frame.factors, Operation::Product)?;
-        self.forest.join(alloc, 0, Operation::Sum)?;
-        let Forest { nodes, ids } = self.forest;
-        match ids.first() {
-            Some(root) => Ok(Tree { nodes, root: *root }),
-            None => Err(syntax(end, Fault::Operand)),
-        }
+        let level = replace(&mut self.level, Level::new(alloc));
+        let root = level.end(alloc, &mut self.nodes)?;
+        Ok(root)
     }
 }

@@ -1,7 +1,8 @@
 //! What is wrong with a line, and where.
-ghost use Rattle.std.specs.Prelude.{◌≡◌};
-ghost use Rattle.example_tree.specs.Text.{error_place};
-ghost use Rattle.example_tree.specs.declared.parse_error.ParseError.TheVariants.{Memory};
+ghost use Rattle.std.specs.Prelude.{◌≡◌, OnOk, IfErr};
+ghost use Rattle.example_tree.specs.Outcome.{before_fault, behind_fault};
+ghost use Rattle.example_tree.specs.Faults.{IsAt};
+ghost use Rattle.example_tree.specs.declared.parse_error.ParseError.TheVariants.{Syntax, Memory};
 
 use std::alloc::AllocError;
 use thiserror::Error;
@@ -50,7 +51,29 @@ impl From<AllocError> for ParseError {
 
 /// A line that is wrong at a byte.
 pub fn syntax(at: usize, fault: Fault) -> ParseError
-    ensures { error_place result ≡ at }
+    ensures { result ≡ Syntax at fault }
 {
     ParseError::Syntax { at, fault }
+}
+
+/// An operand begins here, and none may stand before it.
+pub fn begins(after_operand: bool, at: usize) -> Result<(), ParseError>
+    ensures ok { OnOk result (before_fault after_operand ≡ None) }
+    ensures err { IfErr result (λ error. IsAt error at (before_fault after_operand)) }
+{
+    if after_operand {
+        return Err(syntax(at, Fault::Operator));
+    }
+    Ok(())
+}
+
+/// An operand has to stand before this place.
+pub fn ends(after_operand: bool, at: usize) -> Result<(), ParseError>
+    ensures ok { OnOk result (behind_fault after_operand ≡ None) }
+    ensures err { IfErr result (λ error. IsAt error at (behind_fault after_operand)) }
+{
+    if !after_operand {
+        return Err(syntax(at, Fault::Operand));
+    }
+    Ok(())
 }

@@ -1,0 +1,59 @@
+-- What one byte does, and what the end of a text does.
+use Rattle.std.proofs.Common.{◌≡◌, ◌∙◌, ℕ, suc, ◌+◌, ◌<◌, List, [], ◌∷◌, length, drop, get_or, Bool, true, false, if◌then◌else◌, Option, None, Some, refl, sym, ap, drop-cons, add-one}
+use Rattle.std.specs.Char.{is_ascii_digit, is_ascii_alphabetic}
+use Rattle.example_tree.specs.Text.{with_digit, with_letter}
+use Rattle.example_tree.specs.Outcome.{State, with_last, ended, sign, next, digit_fault, letter_fault, sign_fault, fault, Outcome, Group, behind_fault, open_fault, end_fault, unless, wrong, outcome_on}
+use Rattle.example_tree.specs.Faults.{IsAt, IsSaid}
+use Rattle.example_tree.specs.declared.parse_error.Fault.{Fault}
+use Rattle.example_tree.specs.declared.parse_error.Fault.TheVariants.{Operand, NotClosed}
+use Rattle.example_tree.specs.declared.parse_error.ParseError.{ParseError}
+use Rattle.example_tree.specs.declared.parse_error.ParseError.TheVariants.{Syntax, Memory}
+
+module _ (s : State) (byte : ℕ) (no_digit : is_ascii_digit byte ≡ false) (no_letter : is_ascii_alphabetic byte ≡ false) where
+  pub next_sign : next s byte ≡ sign (ended s) byte
+  next_sign =
+      ap (λ d. if d then with_last s (with_digit s.last byte) else (if is_ascii_alphabetic byte then with_last s (with_letter s.last byte) else sign (ended s) byte)) no_digit
+      ∙ ap (λ d. if d then with_last s (with_letter s.last byte) else sign (ended s) byte) no_letter
+
+  pub fault_sign : fault s byte ≡ sign_fault (ended s) byte
+  fault_sign =
+      ap (λ d. if d then digit_fault s.last s.operand byte else (if is_ascii_alphabetic byte then letter_fault s.last s.operand else sign_fault (ended s) byte)) no_digit
+      ∙ ap (λ d. if d then letter_fault s.last s.operand else sign_fault (ended s) byte) no_letter
+
+-- the rest of a text from a byte on
+module _ (s : State) (at : ℕ) (line : List ℕ) (said : Outcome) (inside : at < length line) (is : outcome_on s at (drop at line) ≡ said) where
+  abbrev byte : ℕ
+  byte = get_or line at 0
+
+  abbrev rest : Option Fault → Outcome
+  rest found = unless at found (outcome_on (next s byte) (suc at) (drop (suc at) line))
+
+  there : rest (fault s byte) ≡ said
+  there = ap (outcome_on s at) (sym (drop-cons line at 0 inside)) ∙ is
+
+  pub goes_on : fault s byte ≡ None → outcome_on (next s byte) (at + 1) (drop (at + 1) line) ≡ said
+  goes_on none = ap (λ n. outcome_on (next s byte) n (drop n line)) (add-one at) ∙ ap rest (sym none) ∙ there
+
+  pub stops : (error : ParseError) → IsAt error at (fault s byte) → IsSaid said error
+  stops (Syntax place found) is_at = sym there ∙ ap rest is_at.1 ∙ ap (λ n. wrong n found) (sym is_at.0)
+  stops Memory is_at = tt
+
+pub operand_there : (operand : Bool) → behind_fault operand ≡ None → operand ≡ true
+operand_there true none = refl
+operand_there false none = absurd (cc none)
+
+pub end_is : (s : State) → s.operand ≡ true → end_fault s ≡ open_fault s.outer
+end_is s operand = ap (λ o. if o then open_fault s.outer else Some Operand) operand
+
+pub ends_early : (error : ParseError) (at : ℕ) (s : State) (operand : Bool) → operand ≡ s.operand → IsAt error at (behind_fault operand) → IsAt error at (end_fault s)
+ends_early (Syntax place found) at s true same is_at = absurd (cc is_at.1)
+ends_early (Syntax place found) at s false same is_at = (is_at.0, ap (λ o. if o then open_fault s.outer else Some Operand) (sym same) ∙ is_at.1)
+ends_early Memory at s operand same is_at = tt
+
+pub all_closed : (gs : List Group) → length gs ≡ 0 → open_fault gs ≡ None
+all_closed [] none = refl
+all_closed (g ∷ gs) none = absurd (cc none)
+
+pub some_open : (gs : List Group) (n : ℕ) → length gs ≡ suc n → open_fault gs ≡ Some NotClosed
+some_open [] n some = absurd (cc some)
+some_open (g ∷ gs) n some = refl
