@@ -8,3 +8,4 @@ pub mod Turn
 pub mod Growing
 pub mod Groups
 pub mod Steps
+pub mod Spelled

@@ -1,7 +1,7 @@
 -- What one byte does, and what the end of a text does.
 use Rattle.std.proofs.Common.{◌≡◌, ◌∙◌, ℕ, suc, ◌+◌, ◌<◌, List, [], ◌∷◌, length, drop, get_or, Bool, true, false, if◌then◌else◌, Option, None, Some, refl, sym, ap, drop-cons, add-one}
 use Rattle.std.specs.Char.{is_ascii_digit, is_ascii_alphabetic}
-use Rattle.example_tree.specs.Text.{with_digit, with_letter}
+use Rattle.example_tree.specs.Text.{with_digit, with_letter, sign_of}
 use Rattle.example_tree.specs.Outcome.{State, with_last, ended, sign, next, digit_fault, letter_fault, sign_fault, fault, Outcome, Group, behind_fault, open_fault, end_fault, unless, wrong, outcome_on}
 use Rattle.example_tree.specs.Faults.{IsAt, IsSaid}
 use Rattle.example_tree.specs.declared.parse_error.Fault.{Fault}
@@ -9,16 +9,35 @@ use Rattle.example_tree.specs.declared.parse_error.Fault.TheVariants.{Operand, N
 use Rattle.example_tree.specs.declared.parse_error.ParseError.{ParseError}
 use Rattle.example_tree.specs.declared.parse_error.ParseError.TheVariants.{Syntax, Memory}
 
-module _ (s : State) (byte : ℕ) (no_digit : is_ascii_digit byte ≡ false) (no_letter : is_ascii_alphabetic byte ≡ false) where
-  pub next_sign : next s byte ≡ sign (ended s) byte
-  next_sign =
-      ap (λ d. if d then with_last s (with_digit s.last byte) else (if is_ascii_alphabetic byte then with_last s (with_letter s.last byte) else sign (ended s) byte)) no_digit
-      ∙ ap (λ d. if d then with_last s (with_letter s.last byte) else sign (ended s) byte) no_letter
+module _ (s : State) (byte : ℕ) where
+  abbrev goes_by : Bool → Bool → State
+  goes_by digit letter =
+      if digit then with_last s (with_digit s.last byte)
+      else (if letter then with_last s (with_letter s.last byte) else sign (ended s) (sign_of byte))
 
-  pub fault_sign : fault s byte ≡ sign_fault (ended s) byte
-  fault_sign =
-      ap (λ d. if d then digit_fault s.last s.operand byte else (if is_ascii_alphabetic byte then letter_fault s.last s.operand else sign_fault (ended s) byte)) no_digit
-      ∙ ap (λ d. if d then letter_fault s.last s.operand else sign_fault (ended s) byte) no_letter
+  abbrev fails_by : Bool → Bool → Option Fault
+  fails_by digit letter =
+      if digit then digit_fault s.last s.operand byte
+      else (if letter then letter_fault s.last s.operand else sign_fault (ended s) (sign_of byte))
+
+  pub next_digit : is_ascii_digit byte ≡ true → next s byte ≡ with_last s (with_digit s.last byte)
+  next_digit digit = ap (λ d. goes_by d (is_ascii_alphabetic byte)) digit
+
+  pub fault_digit : is_ascii_digit byte ≡ true → fault s byte ≡ digit_fault s.last s.operand byte
+  fault_digit digit = ap (λ d. fails_by d (is_ascii_alphabetic byte)) digit
+
+  module _ (no_digit : is_ascii_digit byte ≡ false) where
+    pub next_letter : is_ascii_alphabetic byte ≡ true → next s byte ≡ with_last s (with_letter s.last byte)
+    next_letter letter = ap (λ d. goes_by d (is_ascii_alphabetic byte)) no_digit ∙ ap (goes_by false) letter
+
+    pub fault_letter : is_ascii_alphabetic byte ≡ true → fault s byte ≡ letter_fault s.last s.operand
+    fault_letter letter = ap (λ d. fails_by d (is_ascii_alphabetic byte)) no_digit ∙ ap (fails_by false) letter
+
+    pub next_sign : is_ascii_alphabetic byte ≡ false → next s byte ≡ sign (ended s) (sign_of byte)
+    next_sign no_letter = ap (λ d. goes_by d (is_ascii_alphabetic byte)) no_digit ∙ ap (goes_by false) no_letter
+
+    pub fault_sign : is_ascii_alphabetic byte ≡ false → fault s byte ≡ sign_fault (ended s) (sign_of byte)
+    fault_sign no_letter = ap (λ d. fails_by d (is_ascii_alphabetic byte)) no_digit ∙ ap (fails_by false) no_letter
 
 -- the rest of a text from a byte on
 module _ (s : State) (at : ℕ) (line : List ℕ) (said : Outcome) (inside : at < length line) (is : outcome_on s at (drop at line) ≡ said) where

@@ -1,8 +1,8 @@
 -- What a text says: its tree, or where it is wrong, and how. One pass over the bytes tells it.
-use Rattle.std.specs.Prelude.{ℕ, suc, ◌+◌, ◌-◌, ◌*◌, ◌^◌, ◌==◌, nat_lt, List, [], ◌∷◌, Bool, true, false, if◌then◌else◌, Option, None, Some}
+use Rattle.std.specs.Prelude.{ℕ, suc, ◌+◌, ◌-◌, ◌*◌, ◌^◌, nat_lt, List, [], ◌∷◌, Bool, true, false, if◌then◌else◌, Option, None, Some}
 use Rattle.std.specs.Char.{is_ascii_digit, is_ascii_alphabetic}
 use Rattle.example_tree.specs.Tree.{number, name, Tree, leaf, sum, product, Trees, none, more}
-use Rattle.example_tree.specs.Text.{Open, nothing, digits, letters, with_digit, with_letter}
+use Rattle.example_tree.specs.Text.{Open, nothing, digits, letters, with_digit, with_letter, Sign, blank, opening, closing, plus, times, other, sign_of}
 use Rattle.example_tree.specs.declared.parse_error.Fault.{Fault}
 use Rattle.example_tree.specs.declared.parse_error.Fault.TheVariants.{Operand, Operator, NotOpen, NotClosed, Byte, Number}
 
@@ -79,26 +79,25 @@ closed_in (g ∷ gs) s = record { outer = gs; inner = with_factor g (group_tree 
 abbrev pub higher : State → State
 higher s = closed_in s.outer s
 
-abbrev pub times : State → State
-times s = record { outer = s.outer; inner = s.inner; operand = false; last = s.last }
+abbrev pub multiply : State → State
+multiply s = record { outer = s.outer; inner = s.inner; operand = false; last = s.last }
 
-abbrev pub plus : State → State
-plus s = record { outer = s.outer; inner = with_term s.inner; operand = false; last = s.last }
+abbrev pub add : State → State
+add s = record { outer = s.outer; inner = with_term s.inner; operand = false; last = s.last }
 
--- what a byte that is no digit and no letter does: 40 and 41 are brackets, 43 is plus and 42 is times
-abbrev pub sign : State → ℕ → State
-sign s byte =
-    if byte == 40 then deeper s
-    else (if byte == 41 then higher s
-    else (if byte == 43 then plus s
-    else (if byte == 42 then times s
-    else s)))
+abbrev pub sign : State → Sign → State
+sign s blank = s
+sign s opening = deeper s
+sign s closing = higher s
+sign s plus = add s
+sign s times = multiply s
+sign s other = s
 
 abbrev pub next : State → ℕ → State
 next s byte =
     if is_ascii_digit byte then with_last s (with_digit s.last byte)
     else (if is_ascii_alphabetic byte then with_last s (with_letter s.last byte)
-    else sign (ended s) byte)
+    else sign (ended s) (sign_of byte))
 
 -- an operand begins, behind another or not
 abbrev pub before_fault : Bool → Option Fault
@@ -132,21 +131,19 @@ abbrev pub open_fault : List Group → Option Fault
 open_fault [] = None
 open_fault (g ∷ gs) = Some NotClosed
 
--- of a byte that is no digit and no letter: 32 is a blank
-abbrev pub sign_fault : State → ℕ → Option Fault
-sign_fault s byte =
-    if byte == 32 then None
-    else (if byte == 40 then before_fault s.operand
-    else (if byte == 41 then close_fault s
-    else (if byte == 43 then behind_fault s.operand
-    else (if byte == 42 then behind_fault s.operand
-    else Some Byte))))
+abbrev pub sign_fault : State → Sign → Option Fault
+sign_fault s blank = None
+sign_fault s opening = before_fault s.operand
+sign_fault s closing = close_fault s
+sign_fault s plus = behind_fault s.operand
+sign_fault s times = behind_fault s.operand
+sign_fault s other = Some Byte
 
 abbrev pub fault : State → ℕ → Option Fault
 fault s byte =
     if is_ascii_digit byte then digit_fault s.last s.operand byte
     else (if is_ascii_alphabetic byte then letter_fault s.last s.operand
-    else sign_fault (ended s) byte)
+    else sign_fault (ended s) (sign_of byte))
 
 abbrev pub end_fault : State → Option Fault
 end_fault s = if s.operand then open_fault s.outer else Some Operand

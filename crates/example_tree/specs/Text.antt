@@ -1,5 +1,5 @@
 -- A number or a name of a text, as far as it was read.
-use Rattle.std.specs.Prelude.{ℕ, ◌+◌, ◌-◌, ◌*◌, List, [], ◌∷◌, ◌++◌}
+use Rattle.std.specs.Prelude.{ℕ, ◌+◌, ◌-◌, ◌*◌, ◌==◌, if◌then◌else◌, List, [], ◌∷◌, ◌++◌}
 use Rattle.tinyvec.specs.Tiny.{tiny_items}
 use Rattle.example_tree.specs.declared.reading.Reading.{Reading}
 use Rattle.example_tree.specs.declared.reading.Reading.TheVariants.{Nothing, Number, Name}
@@ -26,3 +26,21 @@ abbrev pub open_of : Reading → Open
 open_of Nothing = nothing
 open_of (Number n) = digits n
 open_of (Name bytes) = letters (tiny_items bytes)
+
+-- what a byte means that is no digit and no letter
+pub data Sign : Type 0 where
+  blank : Sign
+  opening : Sign
+  closing : Sign
+  plus : Sign
+  times : Sign
+  other : Sign
+
+abbrev pub sign_of : ℕ → Sign
+sign_of byte =
+    if byte == 32 then blank
+    else (if byte == 40 then opening
+    else (if byte == 41 then closing
+    else (if byte == 43 then plus
+    else (if byte == 42 then times
+    else other))))

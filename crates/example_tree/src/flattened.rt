@@ -2,6 +2,7 @@
 ghost use Rattle.std.specs.Prelude.{IfOk, IfErr};
 ghost use Rattle.example_tree.specs.Tree.{IsFlat};
 ghost use Rattle.example_tree.specs.Nodes.{tree_at};
+ghost use Rattle.example_tree.specs.Grammar.{Says};
 ghost use Rattle.example_tree.specs.Outcome.{outcome};
 ghost use Rattle.example_tree.specs.Faults.{IsSaid, Reads};
 
@@ -14,6 +15,7 @@ use std::alloc::Global;
 pub fn flattened(alloc: Global, line: &[u8]) -> Result<Tree, ParseError>
     ensures flat { IfOk result (λ tree. IsFlat (tree_at tree.nodes.items tree.root)) }
     ensures right { IfOk result (λ tree. Reads (outcome line.now) (tree_at tree.nodes.items tree.root)) }
+    ensures says { IfOk result (λ tree. Says line.now (tree_at tree.nodes.items tree.root)) }
     ensures wrong { IfErr result (IsSaid (outcome line.now)) }
 {
     let mut tree = parse(alloc, line)?;

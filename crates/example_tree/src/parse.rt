@@ -1,7 +1,8 @@
 //! A line of text, read as a tree.
 ghost use Rattle.std.specs.Prelude.{◌≡◌, ◌<◌, length, All, OnOk, IfOk, IfErr};
 ghost use Rattle.example_tree.specs.Nodes.{tree_at, tree_of, form, forms, children, IsOrdered};
-ghost use Rattle.example_tree.specs.Outcome.{State, outcome, right, start, next, fault, ended, factored, sign, sign_fault, deeper, higher, times, plus, group_tree, before_fault, behind_fault, close_fault, end_fault};
+ghost use Rattle.example_tree.specs.Text.{sign_of};
+ghost use Rattle.example_tree.specs.Outcome.{State, outcome, right, start, next, fault, ended, factored, sign, sign_fault, deeper, higher, multiply, add, group_tree, before_fault, behind_fault, close_fault, end_fault};
 ghost use Rattle.example_tree.specs.Faults.{IsSaid, IsAt};
 ghost use Rattle.example_tree.specs.Levels.{IsSound, Stands, Goes, Stops};
 
@@ -113,8 +114,8 @@ impl Parser {
     fn sign(&mut self, alloc: Global, byte: u8, at: usize) -> Result<(), ParseError>
         requires { IsSound self.old }
         ensures sound { OnOk result (IsSound self.new) }
-        ensures ok { OnOk result (Goes self.old self.new (λ s. sign_fault s byte) (λ s. sign s byte)) }
-        ensures err { IfErr result (Stops self.old at (λ s. sign_fault s byte)) }
+        ensures ok { OnOk result (Goes self.old self.new (λ s. sign_fault s (sign_of byte)) (λ s. sign s (sign_of byte))) }
+        ensures err { IfErr result (Stops self.old at (λ s. sign_fault s (sign_of byte))) }
     {
         match byte {
             b' ' => Ok(()),
@@ -164,7 +165,7 @@ impl Parser {
     fn plus(&mut self, alloc: Global, at: usize) -> Result<(), ParseError>
         requires { IsSound self.old }
         ensures sound { OnOk result (IsSound self.new) }
-        ensures ok { OnOk result (Goes self.old self.new (λ s. behind_fault s.operand) plus) }
+        ensures ok { OnOk result (Goes self.old self.new (λ s. behind_fault s.operand) add) }
         ensures err { IfErr result (Stops self.old at (λ s. behind_fault s.operand)) }
     {
         ends(self.after_operand, at)?;
@@ -177,7 +178,7 @@ impl Parser {
     fn times(&mut self, at: usize) -> Result<(), ParseError>
         requires { IsSound self.old }
         ensures sound { OnOk result (IsSound self.new) }
-        ensures ok { OnOk result (Goes self.old self.new (λ s. behind_fault s.operand) times) }
+        ensures ok { OnOk result (Goes self.old self.new (λ s. behind_fault s.operand) multiply) }
         ensures err { IfErr result (Stops self.old at (λ s. behind_fault s.operand)) }
     {
         ends(self.after_operand, at)?;
