@@ -9,3 +9,4 @@ pub mod Growing
 pub mod Groups
 pub mod Steps
 pub mod Spelled
+pub mod FirstWrong

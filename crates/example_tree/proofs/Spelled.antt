@@ -5,8 +5,8 @@ use Rattle.std.proofs.Math.IntN.{one, +ℤ_idr, *ℤ-one}
 use Rattle.example_tree.specs.Tree.{number, name, Tree, leaf, Trees, none, more, leaves, all_leaves, value, sum_value, product_value}
 use Rattle.example_tree.specs.Tree.{sum as sum_node, product as product_node}
 use Rattle.example_tree.specs.Text.{Open, nothing, digits, letters, with_digit, with_letter, Sign, blank, opening, closing, plus, times, other, sign_of}
-use Rattle.example_tree.specs.Grammar.{Word, operand, mark, words_on, words, open_words, sign_words, before_letter, Sum, term, added, Product, factor, multiplied, Part, word, bracket, sum_words, product_words, part_words, sum_leaves, product_leaves, part_leaves, sum_is, product_is, part_is, Says}
-use Rattle.example_tree.specs.Outcome.{Outcome, right, wrong, Group, State, empty, start, and, joined, with_factor, group_tree, with_leaf, ended, with_last, sign, sign_fault, next, fault, digit_fault, letter_fault, end_fault, unless, outcome_on, outcome}
+use Rattle.example_tree.specs.Grammar.{Word, mark, words_on, words, open_words, sign_words, before_letter, Sum, term, added, Product, factor, multiplied, Part, word, bracket, sum_words, product_words, part_words, sum_leaves, product_leaves, part_leaves, sum_is, product_is, part_is, Says}
+use Rattle.example_tree.specs.Outcome.{Outcome, right, Group, State, and, joined, with_factor, group_tree, ended, with_last, sign, sign_fault, next, fault, digit_fault, letter_fault, end_fault, unless, outcome_on, outcome}
 use Rattle.example_tree.specs.declared.parse_error.Fault.{Fault}
 use Rattle.example_tree.proofs.Steps.{next_digit, fault_digit, next_letter, fault_letter, next_sign, fault_sign}
 
@@ -168,7 +168,7 @@ signed (o ∷ outer) b (Some t) closing faultless = record {
   b2 = o;
   part2 = Some (bracket (whole b t));
   is = ap (λ ts. record { outer = map before_group outer; inner = with_factor (before_group o) (joined sum_node ts); operand = true; last = nothing }) (whole_trees b t);
-  spelled = rw (whole_spelled b t) (simp (append_assoc, append-nil));
+  spelled = rw (whole_spelled b t) (simp append_assoc);
 }
 signed outer b None plus faultless = absurd (cc faultless)
 signed outer b (Some t) plus faultless = record {

@@ -1,7 +1,7 @@
 -- What the answer to a text says of it.
-use Rattle.std.specs.Prelude.{◌≡◌, ℕ, ℤ, List, Option, Some, ⊤}
+use Rattle.std.specs.Prelude.{◌≡◌, ℕ, suc, ◌<◌, ◌≤◌, ℤ, List, ◌++◌, take, length, Option, Some, ⊤}
 use Rattle.example_tree.specs.Tree.{Tree, leaves, value}
-use Rattle.example_tree.specs.Outcome.{Outcome, right, wrong}
+use Rattle.example_tree.specs.Outcome.{Outcome, right, wrong, outcome}
 use Rattle.example_tree.specs.declared.parse_error.Fault.{Fault}
 use Rattle.example_tree.specs.declared.parse_error.ParseError.{ParseError}
 use Rattle.example_tree.specs.declared.parse_error.ParseError.TheVariants.{Syntax, Memory}
@@ -20,3 +20,18 @@ IsSaid said Memory = ⊤
 abbrev pub Reads : Outcome → Tree → Type 0
 Reads (right t) u = (leaves u ≡ leaves t) × ((names : List ℕ → ℤ) → value names u ≡ value names t)
 Reads (wrong at fault) u = ⊥
+
+abbrev pub IsRight : List ℕ → Type 0
+IsRight text = (t : Tree) × (outcome text ≡ right t)
+
+-- What stands before this place begins a text that is right. With the byte at this place it begins none; where the text ends
+-- there, it is none.
+pub record FirstWrong (text : List ℕ) (at : ℕ) : Type 0 where
+  pub inside : at ≤ length text
+  pub before : (rest : List ℕ) × IsRight (take at text ++ rest)
+  pub byte : at < length text → (rest : List ℕ) → IsRight (take (suc at) text ++ rest) → ⊥
+  pub end : at ≡ length text → IsRight text → ⊥
+
+abbrev pub IsFirstWrong : List ℕ → ParseError → Type 0
+IsFirstWrong text (Syntax at fault) = FirstWrong text at
+IsFirstWrong text Memory = ⊤
