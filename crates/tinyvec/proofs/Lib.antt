@@ -3,3 +3,4 @@ pub mod DrainLemmas
 pub mod CloneLemmas
 pub mod RefusedLemmas
 pub mod SpliceLemmas
+pub mod FillingLemmas

@@ -1,14 +1,14 @@
 //! Items taken from iterators and closures.
-ghost use Rattle.std.specs.Prelude.{◌≡◌, ◌+◌, ◌-◌, ◌≤◌, ◌↔◌, ◌++◌, ◌∷◌, List, Some, length, MatchResult, IfOk, OnOk, IsOk, OnErr, IfErr};
+ghost use Rattle.std.specs.Prelude.{◌≡◌, ◌+◌, ◌-◌, ◌≤◌, ◌↔◌, ◌++◌, ◌∷◌, List, Some, length, drop, MatchResult, IfOk, OnOk, IsOk, OnErr, IfErr};
 ghost use Rattle.std.specs.Iterator.{IsFinite, Drains, YieldsThen};
-ghost use Rattle.tinyvec_slots.specs.Slots.{AreDefaults};
+ghost use Rattle.tinyvec_slots.specs.Slots.{AreDefaults, items, spare, items_len};
 ghost use Rattle.tinyvec_slots.specs.Filling.{ShowsItems, IntoIterYields};
 ghost use Rattle.tinyvec.specs.Tiny.{tiny_items, tiny_len, tiny_spare, tiny_capacity, IsInline, PlaceRule, TinySlotRule};
 ghost use Rattle.tinyvec.specs.Room.{KeepsRoom};
 
 use crate::TinyVec;
 use std::alloc::Global;
-use tinyvec_array::{Array, FromIterRest, NoMemory, NoRoom};
+use tinyvec_array::{Array, ArrayVec, FromIterRest, NoMemory, NoRoom};
 
 impl<A: Array> TinyVec<A> {
     /// Appends the items, one by one. Where memory is refused for one, that item and what follows it come back. Memory
@@ -48,9 +48,38 @@ impl<A: Array> TinyVec<A> {
             × (tiny_len self.old + length xs ≤ tiny_capacity A.CAPACITY self.old
             → IsOk result × (tiny_items self.new ≡ tiny_items self.old ++ xs)) }
     {
+        let items = iter.into_iter();
+        match self {
+            TinyVec::Inline(v, _) => match fill_array(v, items) {
+                Ok(()) => Ok(()),
+                Err(NoRoom { item, rest }) => match self.push(item) {
+                    Ok(()) => self.extend_each(rest),
+                    Err(NoMemory(item)) => Err(NoRoom { item, rest }),
+                },
+            },
+            TinyVec::Heap(_) => self.extend_each(items),
+        }
+    }
+
+    // Appends the items, one by one, wherever the list lies.
+    fn extend_each<I: Iterator<Item = A::Item>>(
+        &mut self,
+        mut items: I,
+    ) -> Result<(), NoRoom<A::Item, I>>
+        requires { I.can_next items × IsFinite (I.remaining items) }
+        ensures ran { (xs : List A.Item) × MatchResult result (λ _. Drains I.next_gives items xs)
+            (λ refused. YieldsThen I.next_gives items xs (Some refused.item) refused.rest)
+            × (tiny_items self.new ≡ tiny_items self.old ++ xs) }
+        ensures place { PlaceRule A.CAPACITY (tiny_len self.new) self.old self.new }
+        ensures slots { TinySlotRule A.Item.is_default self.old self.new }
+        ensures capacity { tiny_capacity A.CAPACITY self.old ≤ tiny_capacity A.CAPACITY self.new }
+        ensures same_room { KeepsRoom A.CAPACITY (tiny_len self.new) self.old self.new }
+        ensures fits { tiny_len self.new ≤ tiny_capacity A.CAPACITY self.new }
+        ensures full { OnErr result (tiny_len self.new ≡ tiny_capacity A.CAPACITY self.new) }
+        ensures goes_on { IfErr result (λ refused. I.can_next refused.rest) }
+    {
         // It tells the proof that the list fits where no item comes.
         let _len = self.len();
-        let mut items = iter.into_iter();
         while let Some(item) = items.next() {
             match self.push(item) {
                 Ok(()) => {}
@@ -101,4 +130,30 @@ impl<A: Array> TinyVec<A> {
             Err(NoRoom { item, rest }) => Err(FromIterRest { vec, item, rest }),
         }
     }
+}
+
+// Appends items while the array has room. The first that finds none comes back with what follows it, which ends where `iter` does.
+fn fill_array<A: Array, I: Iterator<Item = A::Item>>(
+    vec: &mut ArrayVec<A>,
+    mut iter: I,
+) -> Result<(), NoRoom<A::Item, I>>
+    requires { I.can_next iter × IsFinite (I.remaining iter) }
+    ensures ran { (xs : List A.Item) × MatchResult result (λ _. Drains I.next_gives iter xs)
+        (λ refused. YieldsThen I.next_gives iter xs (Some refused.item) refused.rest)
+        × (items vec.new ≡ items vec.old ++ xs) }
+    ensures spare { spare vec.new ≡ drop (items_len vec.new - items_len vec.old) (spare vec.old) }
+    ensures longer { items_len vec.old ≤ items_len vec.new }
+    ensures fits { items_len vec.new ≤ A.CAPACITY }
+    ensures full { OnErr result (items_len vec.new ≡ A.CAPACITY) }
+    ensures goes_on { IfErr result (λ refused. I.can_next refused.rest × IsFinite (I.remaining refused.rest)) }
+{
+    // It tells the proof that the list fits where no item comes.
+    let _len = vec.len();
+    while let Some(item) = iter.next() {
+        if vec.is_full() {
+            return Err(NoRoom { item, rest: iter });
+        }
+        vec.push(item);
+    }
+    Ok(())
 }

@@ -1,58 +1,92 @@
-use Rattle.std.proofs.Common.{◌≡◌, ◌≤◌, ◌+◌, ◌∷◌, ◌++◌, [], append_assoc, length, length-append, refl, sym, ap, ◌∙◌, arith, rules}
-use Rattle.std.proofs.lemmas.List.{length_push}
+use Rattle.std.proofs.Common.{◌∷◌, ◌++◌, length, length-append, refl, sym, ap, ◌∙◌, arith, rules}
+use Rattle.tinyvec_slots.specs.Slots.{items}
 use Rattle.tinyvec_slots.proofs.FillingLemmas.{drained, refused, drained_all, refused_early}
-use Rattle.tinyvec.specs.Tiny.{tiny_items, tiny_len, tiny_capacity}
-use Rattle.tinyvec.proofs.TinyLemmas.{tiny_slots_then}
+use Rattle.tinyvec.specs.Tiny.{tiny_items, tiny_capacity}
+use Rattle.tinyvec.proofs.FillingLemmas.{told_on, told_listed, told_known, appended_on}
 use Rattle.tinyvec.proofs.tiny_vec.TinyVec.extend.Goals as goal
 
-pub loop-item-preserved : goal.loop-item-preserved
-loop-item-preserved g c =
-    let inv = c.loop-item.invariant in
-    let old = c.loop-item.self in
-    let made = c.in-Ok.ensures in
-    let grown : tiny_len c.push.new.self ≡ tiny_len old + 1 = rw made.items (length_push (tiny_items old) c.in-Some.item) in
-    let all : tiny_items old ++ c.in-Some.item ∷ [] ≡ tiny_items c.args.self.now ++ (c.loop-item.yielded ++ c.in-Some.item ∷ []) =
-    ap (λ l. l ++ c.in-Some.item ∷ []) inv.2 ∙ append_assoc (tiny_items c.args.self.now) c.loop-item.yielded (c.in-Some.item ∷ []) in
-    let more : tiny_len old ≤ tiny_len c.push.new.self = omega arith in (
-      search rules,
-      search rules,
-      rw made.items all,
-      omega (arith, inv.3, c.push.ensures.capacity),
-      search rules,
-      omega (arith, inv.5),
-      tiny_slots_then g.A.Item.Default.is_default c.args.self.now old c.push.new.self (λ i. (made.place.0 i).0) inv.5 more inv.6 c.push.ensures.slots,
-      λ fits.
-          let same = inv.7 (omega (arith, grown, fits)) in
-          c.push.ensures.same_room (omega (arith, grown, fits, same)) ∙ same,
+pub returns-in-Ok-clause-listed : goal.returns-in-Ok-clause-listed
+returns-in-Ok-clause-listed g c = λ rest shows.
+    let it = c.into_iter-items.result in
+    let ran = c.in-Ok.ensures.ran in
+    let was = ap (λ v. tiny_items v) c.in-Inline.is in
+    let all = drained g.I.IntoIter.Iterator.next_gives rest shows it ran.0 ran.1.0 ran.1.1 in
+    (it, ran.0, c.into_iter-items.ensures.into_iter_gives, all, ran.2 ∙ ap (λ l. l ++ ran.0) (sym was))
+
+pub returns-in-Ok-clause-known : goal.returns-in-Ok-clause-known
+returns-in-Ok-clause-known g c = λ xs yields.
+    let it = c.into_iter-items.result in
+    let ran = c.in-Ok.ensures.ran in
+    let was = ap (λ v. tiny_items v) c.in-Inline.is in
+    let all = drained_all g.I.IntoIter.Iterator.next_gives xs it (yields it c.into_iter-items.ensures.into_iter_gives) ran.0 ran.1.0 ran.1.1 in
+    let listed = ran.2 ∙ ap (λ l. l ++ ran.0) (sym was) ∙ ap (λ ys. tiny_items c.args.self.now ++ ys) all in
+    (listed, λ _. (refl, listed))
+
+pub returns-in-Ok-push-clause-ran : goal.returns-in-Ok-push-clause-ran
+returns-in-Ok-push-clause-ran g c =
+    let it = c.into_iter-items.result in
+    let first = c.in-Err.ensures.ran in
+    let more = c.extend_each.ensures.ran in
+    let x = c.in-Err.field-0.item in
+    let was = ap (λ v. tiny_items v) c.in-Inline.is in (
+      it,
+      first.0 ++ x ∷ more.0,
+      c.into_iter-items.ensures.into_iter_gives,
+      told_on g.I.IntoIter.Iterator.next_gives (λ e. e.item) (λ e. e.rest) c.extend_each.result it first.0 x c.in-Err.field-0.rest more.0 first.1 more.1,
+      appended_on (tiny_items c.args.self.now) (items c.fill_array.new.vec) (tiny_items c.push.new.self) (tiny_items c.extend_each.new.self) first.0 more.0 x
+          (first.2 ∙ ap (λ l. l ++ first.0) (sym was)) c.in-Ok-push.ensures.items more.2,
     )
 
-pub returns-in-Err-clause-listed : goal.returns-in-Err-clause-listed
-returns-in-Err-clause-listed g c = λ rest shows.
-    let at = c.loop-item in
-    let refusal = c.in-Err.ensures in
-    let all = refused g.I.IntoIter.Iterator.next_gives rest shows c.into_iter-items.result at.yielded c.in-Some.item c.next.new.self (at.items, at.yielded_by, c.in-Some.ensures.steps) in
-    (c.into_iter-items.result, at.yielded, c.into_iter-items.ensures.into_iter_gives, all ∙ ap (λ y. at.yielded ++ y ∷ rest c.next.new.self) (sym refusal.back), refusal.refused.0 ∙ at.invariant.2)
+pub returns-in-Ok-push-clause-listed : goal.returns-in-Ok-push-clause-listed
+returns-in-Ok-push-clause-listed g c = λ rest shows.
+    let ran = returns-in-Ok-push-clause-ran g c in
+    (ran.0, ran.1, ran.2, told_listed g.I.IntoIter.Iterator.next_gives (λ e. e.item) (λ e. e.rest) c.extend_each.result rest shows ran.0 ran.1 ran.3, ran.4)
 
-pub returns-clause-listed : goal.returns-clause-listed
-returns-clause-listed g c = λ rest shows.
-    let at = c.loop-item in
-    let all = drained g.I.IntoIter.Iterator.next_gives rest shows c.into_iter-items.result at.yielded c.next.new.self (at.items, at.yielded_by, c.in_default.ensures.steps) in
-    (c.into_iter-items.result, at.yielded, c.into_iter-items.ensures.into_iter_gives, all, at.invariant.2)
+pub returns-in-Ok-push-clause-known : goal.returns-in-Ok-push-clause-known
+returns-in-Ok-push-clause-known g c = λ xs yields.
+    let ran = returns-in-Ok-push-clause-ran g c in
+    let slots = g.A.Array.CAPACITY in
+    told_known g.I.IntoIter.Iterator.next_gives (λ e. e.item) (λ e. e.rest) c.extend_each.result xs ran.0 (yields ran.0 ran.2) ran.1
+    (tiny_items c.args.self.now) (tiny_items c.extend_each.new.self) (tiny_capacity slots c.args.self.now) (tiny_capacity slots c.extend_each.new.self)
+    ran.3 ran.4 (search (rules, arith)) c.extend_each.ensures.full
 
-pub returns-in-Err-clause-known : goal.returns-in-Err-clause-known
-returns-in-Err-clause-known g c = λ xs yields.
-    let at = c.loop-item in
+pub returns-in-Err-push-clause-listed : goal.returns-in-Err-push-clause-listed
+returns-in-Err-push-clause-listed g c = λ rest shows.
     let it = c.into_iter-items.result in
-    let new = c.push.new.self in
-    let more = refused_early g.I.IntoIter.Iterator.next_gives xs it (yields it c.into_iter-items.ensures.into_iter_gives) at.yielded c.next.new.self c.in-Some.item (at.items, at.yielded_by, c.in-Some.ensures.steps) in
-    let full : tiny_len new ≡ tiny_capacity g.A.Array.CAPACITY new = search rules in
-    let grown = ap length (c.in-Err.ensures.refused.0 ∙ at.invariant.2) ∙ length-append (tiny_items c.args.self.now) at.yielded in
-    (tt, λ fits. absurd (omega (arith, more, full, grown, fits, at.invariant.3, c.push.ensures.capacity)))
+    let ran = c.in-Err.ensures.ran in
+    let u = c.in-Err.field-0.rest in
+    let was = ap (λ v. tiny_items v) c.in-Inline.is in
+    let all = refused g.I.IntoIter.Iterator.next_gives rest shows it ran.0 c.in-Err.field-0.item u ran.1 in (
+      it,
+      ran.0,
+      c.into_iter-items.ensures.into_iter_gives,
+      all ∙ ap (λ y. ran.0 ++ y ∷ rest u) (sym c.in-Err-push.ensures.back),
+      c.in-Err-push.ensures.refused.0 ∙ ran.2 ∙ ap (λ l. l ++ ran.0) (sym was),
+    )
 
-pub returns-clause-known : goal.returns-clause-known
-returns-clause-known g c = λ xs yields.
-    let at = c.loop-item in
+pub returns-in-Err-push-clause-known : goal.returns-in-Err-push-clause-known
+returns-in-Err-push-clause-known g c = λ xs yields.
     let it = c.into_iter-items.result in
-    let all = drained_all g.I.IntoIter.Iterator.next_gives xs it (yields it c.into_iter-items.ensures.into_iter_gives) at.yielded c.next.new.self (at.items, at.yielded_by, c.in_default.ensures.steps) in
-    let listed = at.invariant.2 ∙ ap (λ ys. tiny_items c.args.self.now ++ ys) all in
-    (listed, λ _. (refl, listed))
+    let ran = c.in-Err.ensures.ran in
+    let fewer = refused_early g.I.IntoIter.Iterator.next_gives xs it (yields it c.into_iter-items.ensures.into_iter_gives) ran.0 c.in-Err.field-0.rest c.in-Err.field-0.item ran.1 in
+    let full = c.in-Err.ensures.full in
+    let grown = ap length ran.2 ∙ length-append (items c.in-Inline.v) ran.0 in
+    let was = ap (λ v. length (tiny_items v)) c.in-Inline.is in
+    let room = ap (λ v. tiny_capacity g.A.Array.CAPACITY v) c.in-Inline.is in
+    (tt, λ fits. absurd (omega (arith, fewer, full, grown, was, room, fits)))
+
+pub returns-in-Heap-clause-listed : goal.returns-in-Heap-clause-listed
+returns-in-Heap-clause-listed g c = λ rest shows.
+    let it = c.into_iter-items.result in
+    let ran = c.extend_each-in-Heap.ensures.ran in
+    (it, ran.0, c.into_iter-items.ensures.into_iter_gives, told_listed g.I.IntoIter.Iterator.next_gives (λ e. e.item) (λ e. e.rest) c.extend_each-in-Heap.result rest shows it ran.0 ran.1, ran.2)
+
+pub returns-in-Heap-clause-known : goal.returns-in-Heap-clause-known
+returns-in-Heap-clause-known g c = λ xs yields.
+    let it = c.into_iter-items.result in
+    let ran = c.extend_each-in-Heap.ensures.ran in
+    let made = c.extend_each-in-Heap.ensures in
+    let slots = g.A.Array.CAPACITY in
+    told_known g.I.IntoIter.Iterator.next_gives (λ e. e.item) (λ e. e.rest) c.extend_each-in-Heap.result xs it (yields it c.into_iter-items.ensures.into_iter_gives) ran.0
+    (tiny_items c.args.self.now) (tiny_items c.extend_each-in-Heap.new.self) (tiny_capacity slots c.args.self.now) (tiny_capacity slots c.extend_each-in-Heap.new.self)
+    ran.1 ran.2 made.capacity made.full

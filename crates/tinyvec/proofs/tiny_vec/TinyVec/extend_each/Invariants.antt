@@ -1,6 +1,6 @@
 use Rattle.std.proofs.Common.{◌≡◌, ◌≤◌, ◌++◌}
 use Rattle.tinyvec.specs.Tiny.{tiny_items, tiny_len, tiny_capacity, PlaceRule, TinySlotRule}
-use Rattle.tinyvec.proofs.tiny_vec.TinyVec.extend.Given as goal
+use Rattle.tinyvec.proofs.tiny_vec.TinyVec.extend_each.Given as goal
 
 abbrev pub invariant-loop-item : goal.invariant-loop-item
 invariant-loop-item g l = (goal.iterator-loop-item g).can_next l.items
