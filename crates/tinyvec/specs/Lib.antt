@@ -19,3 +19,4 @@ pub mod Growth
 pub mod Room
 pub mod Iterating
 pub mod TinySplice
+pub mod Following

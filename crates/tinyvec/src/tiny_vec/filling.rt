@@ -1,13 +1,15 @@
 //! Items taken from iterators and closures.
-ghost use Rattle.std.specs.Prelude.{◌≡◌, ◌+◌, ◌-◌, ◌≤◌, ◌↔◌, ◌++◌, ◌∷◌, List, Some, length, drop, MatchResult, IfOk, OnOk, IsOk, OnErr, IfErr};
+ghost use Rattle.std.specs.Prelude.{◌≡◌, ◌+◌, ◌-◌, ◌≤◌, ◌↔◌, ◌++◌, ◌∷◌, List, Some, length, drop, MatchResult, IfOk, OnOk, IsOk, OnErr, IfErr, vec_len, vec_capacity};
 ghost use Rattle.std.specs.Iterator.{IsFinite, Drains, YieldsThen};
 ghost use Rattle.tinyvec_slots.specs.Slots.{AreDefaults, items, spare, items_len};
 ghost use Rattle.tinyvec_slots.specs.Filling.{ShowsItems, IntoIterYields};
-ghost use Rattle.tinyvec.specs.Tiny.{tiny_items, tiny_len, tiny_spare, tiny_capacity, IsInline, PlaceRule, TinySlotRule};
+ghost use Rattle.tinyvec.specs.Tiny.{tiny_items, tiny_len, tiny_spare, is_inline, tiny_capacity, IsInline, PlaceRule, TinySlotRule};
 ghost use Rattle.tinyvec.specs.Room.{KeepsRoom};
+ghost use Rattle.tinyvec.specs.Following.{Follows};
 
 use crate::TinyVec;
 use std::alloc::Global;
+use std::mem;
 use tinyvec_array::{Array, ArrayVec, FromIterRest, NoMemory, NoRoom};
 
 impl<A: Array> TinyVec<A> {
@@ -48,27 +50,17 @@ impl<A: Array> TinyVec<A> {
             × (tiny_len self.old + length xs ≤ tiny_capacity A.CAPACITY self.old
             → IsOk result × (tiny_items self.new ≡ tiny_items self.old ++ xs)) }
     {
-        let items = iter.into_iter();
-        match self {
-            TinyVec::Inline(v, _) => match fill_array(v, items) {
-                Ok(()) => Ok(()),
-                Err(NoRoom { item, rest }) => match self.push(item) {
-                    Ok(()) => self.extend_each(rest),
-                    Err(NoMemory(item)) => Err(NoRoom { item, rest }),
-                },
-            },
-            TinyVec::Heap(_) => self.extend_each(items),
-        }
+        self.extend_runs(iter.into_iter())
     }
 
-    // Appends the items, one by one, wherever the list lies.
-    fn extend_each<I: Iterator<Item = A::Item>>(
+    // Appends the items, a run of them wherever there is room, and one by each call that grows.
+    fn extend_runs<I: Iterator<Item = A::Item>>(
         &mut self,
-        mut items: I,
+        iter: I,
     ) -> Result<(), NoRoom<A::Item, I>>
-        requires { I.can_next items × IsFinite (I.remaining items) }
-        ensures ran { (xs : List A.Item) × MatchResult result (λ _. Drains I.next_gives items xs)
-            (λ refused. YieldsThen I.next_gives items xs (Some refused.item) refused.rest)
+        requires { I.can_next iter × IsFinite (I.remaining iter) }
+        ensures ran { (xs : List A.Item) × MatchResult result (λ _. Drains I.next_gives iter xs)
+            (λ refused. YieldsThen I.next_gives iter xs (Some refused.item) refused.rest)
             × (tiny_items self.new ≡ tiny_items self.old ++ xs) }
         ensures place { PlaceRule A.CAPACITY (tiny_len self.new) self.old self.new }
         ensures slots { TinySlotRule A.Item.is_default self.old self.new }
@@ -80,13 +72,36 @@ impl<A: Array> TinyVec<A> {
     {
         // It tells the proof that the list fits where no item comes.
         let _len = self.len();
-        while let Some(item) = items.next() {
-            match self.push(item) {
-                Ok(()) => {}
-                Err(NoMemory(item)) => return Err(NoRoom { item, rest: items }),
+        let mut items = iter;
+        loop {
+            match self.fill_room(items) {
+                Ok(()) => return Ok(()),
+                Err(NoRoom { item, rest }) => match self.push(item) {
+                    Ok(()) => items = rest,
+                    Err(NoMemory(item)) => return Err(NoRoom { item, rest }),
+                },
             }
         }
-        Ok(())
+    }
+
+    // Appends items while there is room where the list lies. The first that finds none comes back with what follows it.
+    fn fill_room<I: Iterator<Item = A::Item>>(&mut self, iter: I) -> Result<(), NoRoom<A::Item, I>>
+        requires { I.can_next iter × IsFinite (I.remaining iter) }
+        ensures ran { (xs : List A.Item) × MatchResult result (λ _. Drains I.next_gives iter xs)
+            (λ refused. YieldsThen I.next_gives iter xs (Some refused.item) refused.rest)
+            × (tiny_items self.new ≡ tiny_items self.old ++ xs) }
+        ensures place { is_inline self.new ≡ is_inline self.old }
+        ensures slots { TinySlotRule A.Item.is_default self.old self.new }
+        ensures longer { tiny_len self.old ≤ tiny_len self.new }
+        ensures capacity { tiny_capacity A.CAPACITY self.new ≡ tiny_capacity A.CAPACITY self.old }
+        ensures fits { tiny_len self.new ≤ tiny_capacity A.CAPACITY self.new }
+        ensures full { OnErr result (tiny_len self.new ≡ tiny_capacity A.CAPACITY self.new) }
+        ensures goes_on { IfErr result (λ refused. Follows I.can_next I.remaining iter refused.rest) }
+    {
+        match self {
+            TinyVec::Inline(v, _) => fill_array(v, iter),
+            TinyVec::Heap(v) => fill_heap(v, iter),
+        }
     }
 
     /// A list of the items, inline while they fit the array. Where memory is refused for one, the list of those before
@@ -132,7 +147,7 @@ impl<A: Array> TinyVec<A> {
     }
 }
 
-// Appends items while the array has room. The first that finds none comes back with what follows it, which ends where `iter` does.
+// Appends items while the array has room. The first that finds none comes back with what follows it.
 fn fill_array<A: Array, I: Iterator<Item = A::Item>>(
     vec: &mut ArrayVec<A>,
     mut iter: I,
@@ -145,7 +160,7 @@ fn fill_array<A: Array, I: Iterator<Item = A::Item>>(
     ensures longer { items_len vec.old ≤ items_len vec.new }
     ensures fits { items_len vec.new ≤ A.CAPACITY }
     ensures full { OnErr result (items_len vec.new ≡ A.CAPACITY) }
-    ensures goes_on { IfErr result (λ refused. I.can_next refused.rest × IsFinite (I.remaining refused.rest)) }
+    ensures goes_on { IfErr result (λ refused. Follows I.can_next I.remaining iter refused.rest) }
 {
     // It tells the proof that the list fits where no item comes.
     let _len = vec.len();
@@ -155,5 +170,30 @@ fn fill_array<A: Array, I: Iterator<Item = A::Item>>(
         }
         vec.push(item);
     }
+    Ok(())
+}
+
+// The same on the heap. The vector lies in a local variable meanwhile, as where clones are pushed.
+fn fill_heap<T: Drop, I: Iterator<Item = T>>(
+    heap: &mut Vec<T>,
+    mut iter: I,
+) -> Result<(), NoRoom<T, I>>
+    requires { I.can_next iter × IsFinite (I.remaining iter) }
+    ensures ran { (xs : List T) × MatchResult result (λ _. Drains I.next_gives iter xs)
+        (λ refused. YieldsThen I.next_gives iter xs (Some refused.item) refused.rest)
+        × (heap.new.items ≡ heap.old.items ++ xs) }
+    ensures capacity { vec_capacity heap.new ≡ vec_capacity heap.old }
+    ensures full { OnErr result (vec_len heap.new ≡ vec_capacity heap.new) }
+    ensures goes_on { IfErr result (λ refused. Follows I.can_next I.remaining iter refused.rest) }
+{
+    let mut vec = mem::replace(heap, Vec::new(*heap.allocator()));
+    while let Some(item) = iter.next() {
+        if vec.len() == vec.capacity() {
+            *heap = vec;
+            return Err(NoRoom { item, rest: iter });
+        }
+        vec.push_reserved(item);
+    }
+    *heap = vec;
     Ok(())
 }

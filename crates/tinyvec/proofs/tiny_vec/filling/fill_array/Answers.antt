@@ -13,8 +13,9 @@ loop-item-preserved g c =
     let grown = ap length put.items ∙ length_push (items at.vec) x in (
       search rules,
       search rules,
-      put.items ∙ ap (λ l. l ++ x ∷ []) inv.2 ∙ append_assoc (items c.args.vec.now) at.yielded (x ∷ []),
-      spare_after c.args.vec.now at.vec c.push.new.self x inv.4 put.items inv.3 put.spare,
-      omega (arith, grown, inv.4),
+      search (rules, arith),
+      put.items ∙ ap (λ l. l ++ x ∷ []) inv.3 ∙ append_assoc (items c.args.vec.now) at.yielded (x ∷ []),
+      spare_after c.args.vec.now at.vec c.push.new.self x inv.5 put.items inv.4 put.spare,
+      omega (arith, grown, inv.5),
       put.fits,
     )
