@@ -10,3 +10,4 @@ pub mod Groups
 pub mod Steps
 pub mod Spelled
 pub mod FirstWrong
+pub mod Accepted

@@ -193,7 +193,7 @@ no_fault : (at : ℕ) (found : Option Fault) (rest : Outcome) (t : Tree) → unl
 no_fault at None rest t is = (refl, is)
 no_fault at (Some f) rest t is = absurd (cc is)
 
-by_bool : {Q : Type 0} (b : Bool) → (b ≡ true → Q) → (b ≡ false → Q) → Q
+pub by_bool : {Q : Type 0} (b : Bool) → (b ≡ true → Q) → (b ≡ false → Q) → Q
 by_bool true on_true on_false = on_true refl
 by_bool false on_true on_false = on_false refl
 

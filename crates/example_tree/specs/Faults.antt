@@ -1,8 +1,10 @@
 -- What the answer to a text says of it.
 use Rattle.std.specs.Prelude.{◌≡◌, ℕ, suc, ◌<◌, ◌≤◌, ℤ, List, ◌++◌, take, length, Option, Some, ⊤}
 use Rattle.example_tree.specs.Tree.{Tree, leaves, value}
+use Rattle.example_tree.specs.Grammar.{Sum, words, sum_words}
 use Rattle.example_tree.specs.Outcome.{Outcome, right, wrong, outcome}
 use Rattle.example_tree.specs.declared.parse_error.Fault.{Fault}
+use Rattle.example_tree.specs.declared.parse_error.Fault.TheVariants.{Number}
 use Rattle.example_tree.specs.declared.parse_error.ParseError.{ParseError}
 use Rattle.example_tree.specs.declared.parse_error.ParseError.TheVariants.{Syntax, Memory}
 
@@ -35,3 +37,8 @@ pub record FirstWrong (text : List ℕ) (at : ℕ) : Type 0 where
 abbrev pub IsFirstWrong : List ℕ → ParseError → Type 0
 IsFirstWrong text (Syntax at fault) = FirstWrong text at
 IsFirstWrong text Memory = ⊤
+
+-- where the text spells a sum, a number of it is too large
+abbrev pub IsOnlyLarge : List ℕ → ParseError → Type 0
+IsOnlyLarge text (Syntax at fault) = (sum : Sum) → words text ≡ sum_words sum → fault ≡ Number
+IsOnlyLarge text Memory = ⊤

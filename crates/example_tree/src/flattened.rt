@@ -4,7 +4,7 @@ ghost use Rattle.example_tree.specs.Tree.{IsFlat};
 ghost use Rattle.example_tree.specs.Nodes.{tree_at};
 ghost use Rattle.example_tree.specs.Grammar.{Says};
 ghost use Rattle.example_tree.specs.Outcome.{outcome};
-ghost use Rattle.example_tree.specs.Faults.{IsSaid, IsFirstWrong, Reads};
+ghost use Rattle.example_tree.specs.Faults.{IsSaid, IsFirstWrong, IsOnlyLarge, Reads};
 
 use crate::flatten::flatten;
 use crate::parse::{Tree, parse};
@@ -18,6 +18,7 @@ pub fn flattened(alloc: Global, line: &[u8]) -> Result<Tree, ParseError>
     ensures says { IfOk result (λ tree. Says line.now (tree_at tree.nodes.items tree.root)) }
     ensures wrong { IfErr result (IsSaid (outcome line.now)) }
     ensures place { IfErr result (IsFirstWrong line.now) }
+    ensures large { IfErr result (IsOnlyLarge line.now) }
 {
     let mut tree = parse(alloc, line)?;
     flatten(&mut tree.nodes)?;
