@@ -2,7 +2,8 @@
 use Rattle.std.specs.Prelude.{◌≡◌, ℕ, ℤ, ◌+ℤ◌, ◌*ℤ◌, List, [], ◌∷◌, ◌++◌, if◌then◌else◌}
 use Rattle.std.specs.Char.{is_ascii_digit, is_ascii_alphabetic}
 use Rattle.example_tree.specs.Tree.{Leaf, number, name, leaf_value, Tree, leaves, value}
-use Rattle.example_tree.specs.Text.{Open, nothing, digits, letters, with_digit, with_letter, Sign, blank, opening, closing, plus, times, other, sign_of}
+use Rattle.example_tree.specs.Text.{Open, nothing, digits, letters, with_digit, with_letter}
+use Rattle.example_tree.specs.Text.{Sign, blank, opening, closing, plus, times, other, sign_of}
 
 -- a number, a name or a sign
 pub data Word : Type 0 where

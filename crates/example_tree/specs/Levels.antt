@@ -35,7 +35,10 @@ joined_by Sum ts = joined sum ts
 joined_by Product ts = joined product ts
 
 abbrev pub group_of : List Node → Level → Group
-group_of nodes l = record { terms = trees_of (tree_at nodes) (tiny_items l.terms); factors = trees_of (tree_at nodes) (tiny_items l.factors) }
+group_of nodes l = record {
+  terms = trees_of (tree_at nodes) (tiny_items l.terms);
+  factors = trees_of (tree_at nodes) (tiny_items l.factors);
+}
 
 -- the nodes are there
 pub record IsWithin (nodes : List Node) (l : Level) : Type 0 where

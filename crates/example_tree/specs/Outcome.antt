@@ -2,7 +2,8 @@
 use Rattle.std.specs.Prelude.{ℕ, suc, ◌+◌, ◌-◌, ◌*◌, ◌^◌, nat_lt, List, [], ◌∷◌, Bool, true, false, if◌then◌else◌, Option, None, Some}
 use Rattle.std.specs.Char.{is_ascii_digit, is_ascii_alphabetic}
 use Rattle.example_tree.specs.Tree.{number, name, Tree, leaf, sum, product, Trees, none, more}
-use Rattle.example_tree.specs.Text.{Open, nothing, digits, letters, with_digit, with_letter, Sign, blank, opening, closing, plus, times, other, sign_of}
+use Rattle.example_tree.specs.Text.{Open, nothing, digits, letters, with_digit, with_letter}
+use Rattle.example_tree.specs.Text.{Sign, blank, opening, closing, plus, times, other, sign_of}
 use Rattle.example_tree.specs.declared.parse_error.Fault.{Fault}
 use Rattle.example_tree.specs.declared.parse_error.Fault.TheVariants.{Operand, Operator, NotOpen, NotClosed, Byte, Number}
 

@@ -2,7 +2,9 @@
 ghost use Rattle.std.specs.Prelude.{◌≡◌, ◌<◌, length, All, OnOk, IfOk, IfErr};
 ghost use Rattle.example_tree.specs.Nodes.{tree_at, tree_of, form, forms, children, IsOrdered};
 ghost use Rattle.example_tree.specs.Text.{sign_of};
-ghost use Rattle.example_tree.specs.Outcome.{State, outcome, right, start, next, fault, ended, factored, sign, sign_fault, deeper, higher, multiply, add, group_tree, before_fault, behind_fault, close_fault, end_fault};
+ghost use Rattle.example_tree.specs.Outcome.{State, outcome, right, start, group_tree};
+ghost use Rattle.example_tree.specs.Outcome.{next, ended, factored, sign, deeper, higher, multiply, add};
+ghost use Rattle.example_tree.specs.Outcome.{fault, sign_fault, before_fault, behind_fault, close_fault, end_fault};
 ghost use Rattle.example_tree.specs.Faults.{IsSaid, IsAt};
 ghost use Rattle.example_tree.specs.Levels.{IsSound, Stands, Goes, Stops};
 
