@@ -1,5 +1,5 @@
 -- What a contract sees of a line that was read in part.
-use Rattle.std.specs.Prelude.{◌≡◌, ℕ, ◌<◌, ◌≤◌, List, length, map, reverse, All, Option, None}
+use Rattle.std.specs.Prelude.{◌≡◌, ℕ, ◌<◌, ◌≤◌, List, length, map, reverse, All, Option, None, Result, MatchResult}
 use Rattle.tinyvec.specs.Tiny.{tiny_items}
 use Rattle.example_tree.specs.Tree.{Tree, sum, product, Trees}
 use Rattle.example_tree.specs.Nodes.{Form, sum_form, product_form, forms, trees_of, tree_at, IsOrdered}
@@ -57,10 +57,11 @@ pub record Stands (p : Parser) (s : State) : Type 0 where
   pub operand : p.after_operand ≡ s.operand
   pub last : open_of p.reading ≡ s.last
 
--- there is no such fault, and the parser goes on to the next state
-abbrev pub Goes : Parser → Parser → (State → Option Fault) → (State → State) → Type 0
-Goes old new fault next = (s : State) → Stands old s → (fault s ≡ None) × Stands new (next s)
-
 -- the error is such a fault, at this place
 abbrev pub Stops : Parser → ℕ → (State → Option Fault) → ParseError → Type 0
 Stops old at fault error = (s : State) → Stands old s → IsAt error at (fault s)
+
+-- a byte has no such fault and the parser goes on to the next state, or the error is the fault
+abbrev pub Answers : Result Unit ParseError → Parser → Parser → ℕ → (State → Option Fault) → (State → State) → Type 0
+Answers result old new at fault next =
+    MatchResult result (λ _. IsSound new × ((s : State) → Stands old s → (fault s ≡ None) × Stands new (next s))) (Stops old at fault)

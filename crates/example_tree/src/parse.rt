@@ -5,8 +5,8 @@ ghost use Rattle.example_tree.specs.Text.{sign_of};
 ghost use Rattle.example_tree.specs.Outcome.{State, outcome, right, start, group_tree};
 ghost use Rattle.example_tree.specs.Outcome.{next, ended, factored, sign, deeper, higher, multiply, add};
 ghost use Rattle.example_tree.specs.Outcome.{fault, sign_fault, before_fault, behind_fault, close_fault, end_fault};
-ghost use Rattle.example_tree.specs.Faults.{IsSaid, IsAt};
-ghost use Rattle.example_tree.specs.Levels.{IsSound, Stands, Goes, Stops};
+ghost use Rattle.example_tree.specs.Faults.{IsSaid};
+ghost use Rattle.example_tree.specs.Levels.{IsSound, Stands, Stops, Answers};
 
 use crate::forest::add;
 use crate::level::Level;
@@ -66,9 +66,7 @@ impl Parser {
     // Reads one byte.
     fn step(&mut self, alloc: Global, byte: u8, at: usize) -> Result<(), ParseError>
         requires { IsSound self.old }
-        ensures sound { OnOk result (IsSound self.new) }
-        ensures ok { OnOk result (Goes self.old self.new (λ s. fault s byte) (λ s. next s byte)) }
-        ensures err { IfErr result (Stops self.old at (λ s. fault s byte)) }
+        ensures { Answers result self.old self.new at (λ s. fault s byte) (λ s. next s byte) }
     {
         if byte.is_ascii_digit() {
             let reading = replace(&mut self.reading, Reading::Nothing);
@@ -115,9 +113,7 @@ impl Parser {
     // Reads a byte that is no part of a number or of a name.
     fn sign(&mut self, alloc: Global, byte: u8, at: usize) -> Result<(), ParseError>
         requires { IsSound self.old }
-        ensures sound { OnOk result (IsSound self.new) }
-        ensures ok { OnOk result (Goes self.old self.new (λ s. sign_fault s (sign_of byte)) (λ s. sign s (sign_of byte))) }
-        ensures err { IfErr result (Stops self.old at (λ s. sign_fault s (sign_of byte))) }
+        ensures { Answers result self.old self.new at (λ s. sign_fault s (sign_of byte)) (λ s. sign s (sign_of byte)) }
     {
         match byte {
             b' ' => Ok(()),
@@ -132,9 +128,7 @@ impl Parser {
     // An opening bracket.
     fn open_bracket(&mut self, alloc: Global, at: usize) -> Result<(), ParseError>
         requires { IsSound self.old }
-        ensures sound { OnOk result (IsSound self.new) }
-        ensures ok { OnOk result (Goes self.old self.new (λ s. before_fault s.operand) deeper) }
-        ensures err { IfErr result (Stops self.old at (λ s. before_fault s.operand)) }
+        ensures { Answers result self.old self.new at (λ s. before_fault s.operand) deeper }
     {
         begins(self.after_operand, at)?;
         let outer = replace(&mut self.level, Level::new(alloc));
@@ -147,9 +141,7 @@ impl Parser {
     // A closing bracket: what stands in the brackets is one factor.
     fn close_bracket(&mut self, alloc: Global, at: usize) -> Result<(), ParseError>
         requires { IsSound self.old }
-        ensures sound { OnOk result (IsSound self.new) }
-        ensures ok { OnOk result (Goes self.old self.new close_fault higher) }
-        ensures err { IfErr result (Stops self.old at close_fault) }
+        ensures { Answers result self.old self.new at close_fault higher }
     {
         ends(self.after_operand, at)?;
         match self.outer.pop() {
@@ -166,9 +158,7 @@ impl Parser {
     // A plus: the factors before it are one term.
     fn plus(&mut self, alloc: Global, at: usize) -> Result<(), ParseError>
         requires { IsSound self.old }
-        ensures sound { OnOk result (IsSound self.new) }
-        ensures ok { OnOk result (Goes self.old self.new (λ s. behind_fault s.operand) add) }
-        ensures err { IfErr result (Stops self.old at (λ s. behind_fault s.operand)) }
+        ensures { Answers result self.old self.new at (λ s. behind_fault s.operand) add }
     {
         ends(self.after_operand, at)?;
         self.after_operand = false;
@@ -176,12 +166,10 @@ impl Parser {
         Ok(())
     }
 
-    // A times.
+    // A sign of multiplication: one factor more is to come.
     fn times(&mut self, at: usize) -> Result<(), ParseError>
         requires { IsSound self.old }
-        ensures sound { OnOk result (IsSound self.new) }
-        ensures ok { OnOk result (Goes self.old self.new (λ s. behind_fault s.operand) multiply) }
-        ensures err { IfErr result (Stops self.old at (λ s. behind_fault s.operand)) }
+        ensures { Answers result self.old self.new at (λ s. behind_fault s.operand) multiply }
     {
         ends(self.after_operand, at)?;
         self.after_operand = false;

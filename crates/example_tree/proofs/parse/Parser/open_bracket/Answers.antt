@@ -1,16 +1,19 @@
-use Rattle.std.proofs.Common.{◌++◌, ◌∷◌, [], sym, subst}
+use Rattle.std.proofs.Common.{arith, ◌++◌, ◌∷◌, [], sym, subst}
+use Rattle.std.proofs.lemmas.Grind.{common_steps}
 use Rattle.std.proofs.lemmas.List.Elements.{All-push, All-same}
 use Rattle.example_tree.specs.Levels.{IsWithin}
 use Rattle.example_tree.proofs.Groups.{empty_within}
 use Rattle.example_tree.proofs.parse.Parser.open_bracket.Goals as goal
 
-pub returns-in-Ok-clause-sound : goal.returns-in-Ok-clause-sound
-returns-in-Ok-clause-sound c =
+pub returns-in-Ok : goal.returns-in-Ok
+returns-in-Ok c =
     let nodes = c.args.self.now.nodes.items in
-    let outer = c.args.self.now.outer.items in
-    record {
-      ordered = c.requires.ordered;
-      inner = subst (IsWithin nodes) (sym c.replace-outer.ensures.after) (empty_within nodes c.new.result c.new.ensures.terms c.new.ensures.factors);
-      outer = All-same (IsWithin nodes) c.push.new.self.items (outer ++ c.replace-outer.result ∷ []) c.in-Ok.ensures.items
-          (All-push (IsWithin nodes) outer c.replace-outer.result c.requires.outer (subst (IsWithin nodes) (sym c.replace-outer.ensures.value) c.requires.inner));
-    }
+    let outer = c.args.self.now.outer.items in (
+      record {
+        ordered = c.requires.ordered;
+        inner = subst (IsWithin nodes) (sym c.replace-outer.ensures.after) (empty_within nodes c.new.result c.new.ensures.terms c.new.ensures.factors);
+        outer = All-same (IsWithin nodes) c.push.new.self.items (outer ++ c.replace-outer.result ∷ []) c.in-Ok.ensures.items
+            (All-push (IsWithin nodes) outer c.replace-outer.result c.requires.outer (subst (IsWithin nodes) (sym c.replace-outer.ensures.value) c.requires.inner));
+      },
+      grind (arith, common_steps),
+    )
