@@ -8,8 +8,7 @@ ghost use Rattle.example_tree.specs.Nodes.{forms, tree_at, expanded, IsOrdered, 
 
 use crate::node::{Node, NodeId};
 use std::alloc::AllocError;
-use std::iter::Fuse;
-use tinyvec::{SpliceRest, TinyVec};
+use tinyvec::TinyVec;
 
 /// Writes each sum in a sum out in its parent, in all nodes. Where memory is refused, some sums are not written out.
 pub fn flatten(nodes: &mut [Node]) -> Result<(), AllocError>
@@ -71,7 +70,7 @@ fn replace_child(
     ensures refused { OnErr result (tiny_items children.new ≡ tiny_items children.old) }
 {
     children.reserve(terms.len())?;
-    let _fits = splice_child(children, at, terms.iter().copied());
+    splice_child(children, at, terms.iter().copied());
     Ok(())
 }
 
@@ -80,7 +79,7 @@ fn splice_child<I: Iterator<Item = NodeId>>(
     children: &mut TinyVec<[NodeId; 4]>,
     at: usize,
     terms: I,
-) -> Result<(), SpliceRest<NodeId, Fuse<I>>>
+)
     requires in_bounds { at < tiny_len children.old }
     requires can { I.can_next terms }
     requires finite { IsFinite (I.remaining terms) }
@@ -91,5 +90,5 @@ fn splice_child<I: Iterator<Item = NodeId>>(
 {
     // A vector that was lent is not known to fit until a call says so.
     let _len = children.len();
-    children.splice(at..at + 1, terms).finish()
+    let _fits = children.splice(at..at + 1, terms).finish();
 }

@@ -10,6 +10,6 @@ returns-clause-ok c =
     let terms = c.args.terms.now in
     let all : copied_rest c.copied.result ≡ terms = ap iter_rest c.copied.ensures.source ∙ c.iter.ensures.rest in
     let same = c.reserve.ensures.items in
-    let fact : tiny_items c.splice_child-fits.new.children ≡ take at (tiny_items c.reserve.new.self) ++ (copied_rest c.copied.result ++ drop (suc at) (tiny_items c.reserve.new.self)) =
-    c.splice_child-fits.ensures.list copied_rest copied_shows (let long = ap length all in let room = c.in_ok-reserve.ensures.room in let count = ap length same in let inside = c.requires in omega (arith, long, room, count, inside)) in
+    let fact : tiny_items c.splice_child.new.children ≡ take at (tiny_items c.reserve.new.self) ++ (copied_rest c.copied.result ++ drop (suc at) (tiny_items c.reserve.new.self)) =
+    c.splice_child.ensures.list copied_rest copied_shows (let long = ap length all in let room = c.in_ok-reserve.ensures.room in let count = ap length same in let inside = c.requires in omega (arith, long, room, count, inside)) in
     fact ∙ ap (λ l. take at l ++ (copied_rest c.copied.result ++ drop (suc at) l)) same ∙ ap (λ l. take at (tiny_items c.args.children.now) ++ (l ++ drop (suc at) (tiny_items c.args.children.now))) all
