@@ -45,7 +45,8 @@ impl<A: Array> TinyVec<A> {
         ensures slots { IsInline self.now → tiny_len self.now + length (tiny_spare self.now) ≡ A.CAPACITY }
     {
         match self {
-            TinyVec::Inline(v, _) => v.len(),
+            // The minimum is the length. By it the compiler knows the most that it is, and keeps the two places apart.
+            TinyVec::Inline(v, _) => v.len().min(v.capacity()),
             TinyVec::Heap(v) => v.len(),
         }
     }

@@ -22,7 +22,7 @@ mod to_vec;
 mod writing;
 
 use crate::Array;
-use crate::slots::{clear, narrow, slots_to_end, take_slot_behind};
+use crate::slots::{clear, slots_to_end, take_slot_behind};
 use std::convert::AsSlice;
 use std::marker::Model;
 
@@ -64,7 +64,8 @@ impl<A: Array> ArrayVec<A> {
     {
         // They tell the proof how many slots there are, and that their number is a `usize`.
         let _slots = self.array.as_slice();
-        narrow(self.len, A::CAPACITY)
+        let _capacity = A::CAPACITY;
+        self.len
     }
 
     /// How many items fit, which is the number of slots.
