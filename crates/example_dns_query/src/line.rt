@@ -22,7 +22,7 @@ pub enum LineError {
     #[error("the third word is none of A, NS, CNAME, SOA, PTR, MX, TXT and AAAA")]
     UnknownType,
     #[error(transparent)]
-    Query(#[from] QueryError),
+    Query(QueryError),
 }
 
 /// What a line asks for.
@@ -116,8 +116,18 @@ pub fn answer_line(slice: &mut [u8], line: &[u8]) -> Result<usize, LineError>
     ensures succeeds { (id : ℕ) (name : List ℕ) (record_type : AnyType) → id < 2 ^ 16
         → Asks line.now id name record_type → IsName name
         → length (query id (labels_of name) record_type) ≤ length slice.old → IsOk result }
+
+    // When each error of the line itself comes. Any other is that of the query that it asks for.
+    ensures words { (result ≡ Err Words) ↔ (length (words line.now) ≢ 3) }
+    ensures number { (result ≡ Err Number)
+        ↔ ((length (words line.now) ≡ 3) × (IsId (slice_index_or (words line.now) 0 []) → ⊥)) }
+    ensures unknown_type { (result ≡ Err UnknownType)
+        ↔ ((length (words line.now) ≡ 3) × IsId (slice_index_or (words line.now) 0 [])
+        × ((record_type : AnyType) → slice_index_or (words line.now) 2 [] ≢ word_of record_type)) }
 {
     let question = parse_line(line)?;
-    let len = write_query(slice, question.id, question.name, question.record_type)?;
-    Ok(len)
+    match write_query(slice, question.id, question.name, question.record_type) {
+        Ok(len) => Ok(len),
+        Err(error) => Err(LineError::Query(error)),
+    }
 }
