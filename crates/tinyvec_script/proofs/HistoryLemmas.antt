@@ -1,14 +1,11 @@
 -- A run goes on: by a byte, by the end of a line, by the end of the input.
 use Rattle.std.proofs.Common.{◌≡◌, ◌≢◌, ℕ, ◌<◌, ◌≤◌, List, [], ◌∷◌, ◌++◌, length, Option, None, Some, refl, sym, ap, subst, ◌∙◌, append_assoc, append-nil, length-append, arith}
-use Rattle.std.specs.List.{AllByRecursion}
-use Rattle.std.proofs.lemmas.Grind.{flat_map-append}
 use Rattle.std.proofs.lemmas.Bool.Decides.{nat_tests}
-use Rattle.tinyvec_script.specs.Script.{State, start, IsLine, ended, last_line, Answered, Answers, Script, CompleteLines}
+use Rattle.std.proofs.lemmas.List.Elements.{All-nil}
+use Rattle.tinyvec_io.specs.Lines.{last_line}
+use Rattle.tinyvec_io.proofs.LineLemmas.{Splits-line, Splits-byte, Splits-ended}
+use Rattle.tinyvec_script.specs.Script.{State, start, Answered, Answers, Script, CompleteLines}
 use Rattle.tinyvec_script.specs.History.{kept, push_kept, Progress, Feeds, Ends}
-
-all_more : {X : Type 0} (P : X → Type 0) (xs : List X) (x : X) → AllByRecursion P xs → P x → AllByRecursion P (xs ++ x ∷ [])
-all_more P [] x h p = (p, tt)
-all_more P (y ∷ ys) x h p = (h.0, all_more P ys x h.1 p)
 
 pub kept_more : (rest : List ℕ) (byte : ℕ) → push_kept (kept rest) byte ≡ kept (rest ++ byte ∷ [])
 kept_more rest byte = grind (arith, nat_tests, length-append {A = ℕ})
@@ -20,9 +17,6 @@ kept_is rest bytes h = grind (arith, nat_tests)
 pub too_long_kept : (rest : List ℕ) → None ≡ kept rest → 128 < length rest
 too_long_kept rest h = grind (arith, nat_tests)
 
-ended_more : (lines : List (List ℕ)) (line : List ℕ) → ended (lines ++ line ∷ []) ≡ ended lines ++ (line ++ 10 ∷ [])
-ended_more lines line = flat_map-append _ lines (line ∷ []) ∙ ap (λ l. ended lines ++ l) (append-nil (line ++ 10 ∷ []))
-
 -- one line more is answered
 answers_more : (old mid new : State) (lines : List (List ℕ)) (output line text : List ℕ) → Answers old lines output mid → Answered mid line text new → Answers old (lines ++ line ∷ []) (output ++ (text ++ 10 ∷ [])) new
 answers_more old mid new [] output line text h a =
@@ -33,29 +27,21 @@ answers_more old mid new (first ∷ lines) output line text h a =
 pub progress_byte : (text output rest : List ℕ) (state : State) (byte : ℕ) → Progress text output state rest → byte ≢ 10 → Progress (text ++ byte ∷ []) (output ++ []) state (rest ++ byte ∷ [])
 progress_byte text output rest state byte p other = record {
   lines = p.lines;
-  split = record {
-    whole = ap (λ l. l ++ byte ∷ []) p.split.whole ∙ append_assoc (ended p.lines) rest (byte ∷ []);
-    each = p.split.each;
-    partial = all_more (λ b. b ≢ 10) rest byte p.split.partial other;
-  };
+  split = Splits-byte text p.lines rest byte other p.split;
   answers = subst (λ o. Answers start p.lines o state) (sym (append-nil output)) p.answers;
 }
 
 pub progress_line : (text output rest answer : List ℕ) (state new : State) → Progress text output state rest → Answered state rest answer new → Progress (text ++ 10 ∷ []) (output ++ (answer ++ 10 ∷ [])) new []
 progress_line text output rest answer state new p a = record {
   lines = p.lines ++ rest ∷ [];
-  split = record {
-    whole = ap (λ l. l ++ 10 ∷ []) p.split.whole ∙ append_assoc (ended p.lines) rest (10 ∷ []) ∙ sym (ended_more p.lines rest) ∙ sym (append-nil (ended (p.lines ++ rest ∷ [])));
-    each = all_more IsLine p.lines rest p.split.each p.split.partial;
-    partial = tt;
-  };
+  split = Splits-ended text p.lines rest p.split;
   answers = answers_more start state new p.lines output rest answer p.answers a;
 }
 
 pub Progress-start : Progress [] [] start []
 Progress-start = record {
   lines = [];
-  split = record { whole = refl; each = tt; partial = tt };
+  split = Splits-line [] (All-nil (λ byte. byte ≢ 10));
   answers = (refl, refl);
 }
 

@@ -1,6 +1,7 @@
 -- Words for what is under way between two bytes of the input.
 use Rattle.std.specs.Prelude.{◌≡◌, ℕ, List, [], ◌∷◌, ◌++◌, length, Option, None, Some, nat_lt, if◌then◌else◌}
-use Rattle.tinyvec_script.specs.Script.{State, start, Splits, Answers, Script}
+use Rattle.tinyvec_io.specs.Lines.{Splits}
+use Rattle.tinyvec_script.specs.Script.{State, start, Answers, Script}
 
 -- what is kept of a line that isn't ended: nothing where it is too long for a command
 abbrev pub kept : List ℕ → Option (List ℕ)

@@ -1,6 +1,6 @@
 -- The script as a relation of whole texts: what is read, and what is written.
-use Rattle.std.specs.Prelude.{◌≡◌, ◌≢◌, ℕ, List, [], ◌∷◌, ◌++◌, ℤ, pos, true, codes, replicate}
-use Rattle.std.specs.List.{flat_map, AllByRecursion}
+use Rattle.std.specs.Prelude.{◌≡◌, ℕ, List, [], ◌∷◌, ◌++◌, ℤ, pos, true, codes, replicate}
+use Rattle.tinyvec_io.specs.Lines.{Splits, last_line}
 use Rattle.tinyvec_slots.specs.Slots.{Slots, split_at}
 use Rattle.tinyvec_text.specs.Text.{Text}
 use Rattle.tinyvec_script.specs.declared.call.Call.{Call}
@@ -44,25 +44,6 @@ text_of T state = tiny_text state.t
 -- what is a default of an `i32`
 abbrev pub IsZero : ℤ → Type 0
 IsZero number = number ≡ pos 0
-
--- no line feed stands in the line
-abbrev pub IsLine : List ℕ → Type 0
-IsLine line = AllByRecursion (λ byte. byte ≢ 10) line
-
--- lines, each ended by a line feed
-abbrev pub ended : List (List ℕ) → List ℕ
-ended lines = flat_map (λ line. line ++ 10 ∷ []) lines
-
--- the text is these complete lines, and then what has come of the next
-pub record Splits (text : List ℕ) (lines : List (List ℕ)) (rest : List ℕ) : Type 0 where
-  pub whole : text ≡ ended lines ++ rest
-  pub each : AllByRecursion IsLine lines
-  pub partial : IsLine rest
-
--- the end of the text ends a line, unless it has no bytes
-abbrev pub last_line : List ℕ → List (List ℕ)
-last_line [] = []
-last_line (byte ∷ bytes) = (byte ∷ bytes) ∷ []
 
 -- a call of the vector of that name takes the old vectors to the new, and is answered so
 abbrev pub Steps : Name → State → Call ℤ → Answer ℤ → State → Type 0
