@@ -69,14 +69,14 @@ module _ (last : Open) (byte : ℕ) (bytes : List ℕ) where
       else (if letter then before_letter last ++ words_on (with_letter last byte) bytes
       else open_words last ++ (sign_words (sign_of byte) ++ words_on nothing bytes))
 
-  words_digit : is_ascii_digit byte ≡ true → words_on last (byte ∷ bytes) ≡ words_on (with_digit last byte) bytes
+  pub words_digit : is_ascii_digit byte ≡ true → words_on last (byte ∷ bytes) ≡ words_on (with_digit last byte) bytes
   words_digit digit = ap (λ d. words_by d (is_ascii_alphabetic byte)) digit
 
   module _ (no_digit : is_ascii_digit byte ≡ false) where
-    words_letter : is_ascii_alphabetic byte ≡ true → words_on last (byte ∷ bytes) ≡ before_letter last ++ words_on (with_letter last byte) bytes
+    pub words_letter : is_ascii_alphabetic byte ≡ true → words_on last (byte ∷ bytes) ≡ before_letter last ++ words_on (with_letter last byte) bytes
     words_letter letter = ap (λ d. words_by d (is_ascii_alphabetic byte)) no_digit ∙ ap (words_by false) letter
 
-    words_sign : is_ascii_alphabetic byte ≡ false → words_on last (byte ∷ bytes) ≡ open_words last ++ (sign_words (sign_of byte) ++ words_on nothing bytes)
+    pub words_sign : is_ascii_alphabetic byte ≡ false → words_on last (byte ∷ bytes) ≡ open_words last ++ (sign_words (sign_of byte) ++ words_on nothing bytes)
     words_sign no_letter = ap (λ d. words_by d (is_ascii_alphabetic byte)) no_digit ∙ ap (words_by false) no_letter
 
 abbrev IsOpen : Open → Type 0

@@ -11,3 +11,8 @@ pub mod Steps
 pub mod Spelled
 pub mod FirstWrong
 pub mod Accepted
+pub mod Unbracketed
+pub mod Respelled
+pub mod Flattening
+pub mod Rewriting
+pub mod Printing

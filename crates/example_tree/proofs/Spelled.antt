@@ -5,7 +5,7 @@ use Rattle.std.proofs.Math.IntN.{one, +ℤ_idr, *ℤ-one}
 use Rattle.example_tree.specs.Tree.{number, name, Tree, leaf, Trees, none, more, leaves, all_leaves, value, sum_value, product_value}
 use Rattle.example_tree.specs.Tree.{sum as sum_node, product as product_node}
 use Rattle.example_tree.specs.Text.{Open, nothing, digits, letters, with_digit, with_letter, Sign, blank, opening, closing, plus, times, other, sign_of}
-use Rattle.example_tree.specs.Grammar.{Word, mark, words_on, words, open_words, sign_words, before_letter, Sum, term, added, Product, factor, multiplied, Part, word, bracket, sum_words, product_words, part_words, sum_leaves, product_leaves, part_leaves, sum_is, product_is, part_is, Says}
+use Rattle.example_tree.specs.Grammar.{Word, mark, words_on, words, open_words, sign_words, before_letter, Sum, term, added, Product, factor, multiplied, Part, word, bracket, sum_words, product_words, part_words, sum_leaves, product_leaves, part_leaves, sum_is, product_is, part_is}
 use Rattle.example_tree.specs.Outcome.{Outcome, right, Group, State, and, joined, with_factor, group_tree, ended, with_last, sign, sign_fault, next, fault, digit_fault, letter_fault, end_fault, unless, outcome_on, outcome}
 use Rattle.example_tree.specs.declared.parse_error.Fault.{Fault}
 use Rattle.example_tree.proofs.Steps.{next_digit, fault_digit, next_letter, fault_letter, next_sign, fault_sign}
@@ -189,7 +189,7 @@ signed outer b (Some t) times faultless = record {
 signed outer b part other faultless = absurd (cc faultless)
 
 -- where a text is right, no byte of it is wrong
-no_fault : (at : ℕ) (found : Option Fault) (rest : Outcome) (t : Tree) → unless at found rest ≡ right t → (found ≡ None) × (rest ≡ right t)
+pub no_fault : (at : ℕ) (found : Option Fault) (rest : Outcome) (t : Tree) → unless at found rest ≡ right t → (found ≡ None) × (rest ≡ right t)
 no_fault at None rest t is = (refl, is)
 no_fault at (Some f) rest t is = absurd (cc is)
 
@@ -304,7 +304,7 @@ spells_on (byte ∷ bytes) outer b part last at t fits is =
     ∙ ap (λ ws. ws ++ words_on nothing bytes) after.spelled)
     (spells_on bytes after.outer2 after.b2 after.part2 nothing (suc at) t tt rest)))
 
-right_spells : (text : List ℕ) (t : Tree) → outcome text ≡ right t → (s : Sum) × (words text ≡ sum_words s) × (t ≡ sum_tree s)
+pub right_spells : (text : List ℕ) (t : Tree) → outcome text ≡ right t → (s : Sum) × (words text ≡ sum_words s) × (t ≡ sum_tree s)
 right_spells text t is =
     let s = spells_on text [] record { terms = None; factors = None } None nothing 0 t tt is in
     (s.sum, s.spelled, s.tree)
@@ -320,7 +320,7 @@ joined_leaves node are (more t none) = sym (append-nil (leaves t))
 joined_leaves node are (more t (more u us)) = are (more t (more u us))
 
 mutual
-  terms_leaves : (s : Sum) → all_leaves (sum_terms s) ≡ sum_leaves s
+  pub terms_leaves : (s : Sum) → all_leaves (sum_terms s) ≡ sum_leaves s
   terms_leaves (term p) =
       append-nil (leaves (joined product_node (product_factors p))) ∙ joined_leaves product_node (λ ts. refl) (product_factors p) ∙ each_leaves p
   terms_leaves (added p s) =
@@ -331,7 +331,7 @@ mutual
   each_leaves (factor t) = append-nil (leaves (part_tree t)) ∙ tree_leaves t
   each_leaves (multiplied t p) = ap (λ ls. ls ++ all_leaves (product_factors p)) (tree_leaves t) ∙ ap (λ ls. part_leaves t ++ ls) (each_leaves p)
 
-  tree_leaves : (t : Part) → leaves (part_tree t) ≡ part_leaves t
+  pub tree_leaves : (t : Part) → leaves (part_tree t) ≡ part_leaves t
   tree_leaves (word l) = refl
   tree_leaves (bracket s) = joined_leaves sum_node (λ ts. refl) (sum_terms s) ∙ terms_leaves s
 
@@ -357,16 +357,6 @@ module _ (names : List ℕ → ℤ) where
     each_value (factor t) = times_one (value names (part_tree t)) ∙ tree_value t
     each_value (multiplied t p) = ap (λ n. n *ℤ product_value names (product_factors p)) (tree_value t) ∙ ap (λ n. part_is names t *ℤ n) (each_value p)
 
-    tree_value : (t : Part) → value names (part_tree t) ≡ part_is names t
+    pub tree_value : (t : Part) → value names (part_tree t) ≡ part_is names t
     tree_value (word l) = refl
     tree_value (bracket s) = joined_sum (sum_terms s) ∙ terms_value s
-
-pub says : (text : List ℕ) (t u : Tree) → outcome text ≡ right t → leaves u ≡ leaves t → ((names : List ℕ → ℤ) → value names u ≡ value names t) → Says text u
-says text t u is same_leaves same_values =
-    let s = right_spells text t is in
-    record {
-      sum = s.0;
-      spelled = s.1;
-      leaves_same = same_leaves ∙ ap leaves s.2 ∙ tree_leaves (bracket s.0);
-      values_same = λ names. same_values names ∙ ap (value names) s.2 ∙ tree_value names (bracket s.0);
-    }

@@ -5,14 +5,15 @@ use Rattle.std.proofs.lemmas.Bool.Decides.{eqb_tells}
 use Rattle.std.proofs.lemmas.List.Elements.{All-weaker, All-drop}
 use Rattle.tinyvec.specs.Tiny.{tiny_items}
 use Rattle.tinyvec.specs.declared.tiny_vec.TinyVec.{TinyVec}
-use Rattle.example_tree.specs.Tree.{number, leaf_value, leaves, value}
-use Rattle.example_tree.specs.Nodes.{Form, leaf_form, sum_form, form, forms, form_at, children, expanded, IsOrdered, IsDone, AreDone, SameLeaves, SameValues, tree_to}
+use Rattle.example_tree.specs.Tree.{number, leaf, leaf_value, leaves, value, flat}
+use Rattle.example_tree.specs.Nodes.{Form, leaf_form, sum_form, form, forms, form_at, children, expanded, IsOrdered, IsDone, AreDone, SameFlat, SameLeaves, SameValues, tree_to}
 use Rattle.example_tree.specs.declared.node.Node.{Node}
 use Rattle.example_tree.specs.declared.node.Node.TheVariants.{Number, Name, Sum, Product}
 use Rattle.example_tree.proofs.Readings.{kept}
 use Rattle.std.proofs.lemmas.Result.{on_ok_weaker}
 use Rattle.example_tree.proofs.Expanding.{expanded_same, ordered_after, done_after, reading_after}
 use Rattle.example_tree.proofs.Kept.{joined, joined_leaves, joined_law, total, times, total_value, times_value, total_law}
+use Rattle.example_tree.proofs.Flattening.{sum_of, product_of, flat_law, flat_sum, flat_product}
 
 ne_lt : (j id : ℕ) → j ≢ id → j < suc id → j < id
 ne_lt j id other less = omega (arith, other, less)
@@ -73,6 +74,7 @@ how_far fs ids now (Err e) all some = (some.0, some.1, tt)
 -- what holds once one node was gone through
 pub record Turned {E : Type 0} (nodes new : List Node) (id : ℕ) (result : Result Unit E) : Type 0 where
   pub done : OnOk result (AreDone (forms new) (suc id))
+  pub same : SameFlat nodes new
   pub leaves : SameLeaves nodes new
   pub values : SameValues nodes new
   pub ordered : IsOrdered (forms new)
@@ -81,6 +83,11 @@ module _ (fs : List Form) (id : ℕ) (ids now : List ℕ) (k : ℕ) (inside : id
     (is : now ≡ take k ids ++ expanded fs (drop k ids)) (ordered : IsOrdered fs) where
   next : IsOrdered (set fs id (sum_form now))
   next = ordered_after fs id ids now k inside here is ordered
+
+  flat_same : (j : ℕ) → flat (tree_to (set fs id (sum_form now)) (suc j) j) ≡ flat (tree_to fs (suc j) j)
+  flat_same =
+      kept leaf sum_of product_of flat (λ l. refl) flat_sum flat_product fs (set fs id (sum_form now)) ordered next
+      (reading_after fs id ids now k inside here is ordered leaf sum_of product_of flat_law)
 
   leaves_same : (j : ℕ) → leaves (tree_to (set fs id (sum_form now)) (suc j) j) ≡ leaves (tree_to fs (suc j) j)
   leaves_same =
@@ -114,6 +121,7 @@ sum_turned nodes before behind id node kids new result inside ahead rest is_sum 
     far.1 ∙ ap (λ l. take far.0 ids ++ l) (same_before nodes before id (drop far.0 ids) ahead (All-drop (λ child. child < id) far.0 ids below)) in
     let back : forms (before ++ set behind 0 (Sum new)) ≡ set fs id (sum_form now) = forms_back nodes before behind id (Sum new) inside ahead rest in record {
       done = subst (λ gs. OnOk result (AreDone gs (suc id))) (sym back) (on_ok_weaker result (done_after fs id ids now far.0 within here is ordered done) far.2);
+      same = subst (λ gs. (j : ℕ) → flat (tree_to gs (suc j) j) ≡ flat (tree_to fs (suc j) j)) (sym back) (flat_same fs id ids now far.0 within here is ordered);
       leaves = subst (λ gs. (j : ℕ) → leaves (tree_to gs (suc j) j) ≡ leaves (tree_to fs (suc j) j)) (sym back) (leaves_same fs id ids now far.0 within here is ordered);
       values = subst (λ gs. (names : List ℕ → ℤ) (j : ℕ) → value names (tree_to gs (suc j) j) ≡ value names (tree_to fs (suc j) j)) (sym back) (values_same fs id ids now far.0 within here is ordered);
       ordered = subst IsOrdered (sym back) (next fs id ids now far.0 within here is ordered);
@@ -128,6 +136,7 @@ other_turned nodes before behind id node result inside ahead rest other ordered 
     subst (IsDone (forms nodes)) (sym (here_is nodes behind id node inside rest)) (no_sum_done (forms nodes) (get_or behind 0 node) other) in
     subst (λ ns. Turned nodes ns id result) (sym (unmoved nodes before behind id node inside ahead rest)) record {
       done = on_ok_weaker {P = Unit {0}} result (λ u. one_more_done (forms nodes) id done this) (always result);
+      same = λ j. refl;
       leaves = λ j. refl;
       values = λ names j. refl;
       ordered = ordered;

@@ -1,6 +1,6 @@
 -- What the answer to a text says of it.
-use Rattle.std.specs.Prelude.{◌≡◌, ℕ, suc, ◌<◌, ◌≤◌, ℤ, List, ◌++◌, take, length, Option, Some, ⊤}
-use Rattle.example_tree.specs.Tree.{Tree, leaves, value}
+use Rattle.std.specs.Prelude.{◌≡◌, ℕ, suc, ◌<◌, ◌≤◌, List, ◌++◌, take, length, Option, Some, ⊤}
+use Rattle.example_tree.specs.Tree.{Tree}
 use Rattle.example_tree.specs.Grammar.{Sum, words, sum_words}
 use Rattle.example_tree.specs.Outcome.{Outcome, right, wrong, outcome}
 use Rattle.example_tree.specs.declared.parse_error.Fault.{Fault}
@@ -17,11 +17,6 @@ IsAt Memory at found = ⊤
 abbrev pub IsSaid : Outcome → ParseError → Type 0
 IsSaid said (Syntax at fault) = said ≡ wrong at fault
 IsSaid said Memory = ⊤
-
--- the text says a tree with these leaves, in this order, and with this value, whatever the names stand for
-abbrev pub Reads : Outcome → Tree → Type 0
-Reads (right t) u = (leaves u ≡ leaves t) × ((names : List ℕ → ℤ) → value names u ≡ value names t)
-Reads (wrong at fault) u = ⊥
 
 abbrev pub IsRight : List ℕ → Type 0
 IsRight text = (t : Tree) × (outcome text ≡ right t)

@@ -1,7 +1,7 @@
 -- Texts of sums and products, by their grammar.
-use Rattle.std.specs.Prelude.{◌≡◌, ℕ, ℤ, ◌+ℤ◌, ◌*ℤ◌, List, [], ◌∷◌, ◌++◌, if◌then◌else◌}
+use Rattle.std.specs.Prelude.{ℕ, ℤ, ◌+ℤ◌, ◌*ℤ◌, List, [], ◌∷◌, ◌++◌, if◌then◌else◌}
 use Rattle.std.specs.Char.{is_ascii_digit, is_ascii_alphabetic}
-use Rattle.example_tree.specs.Tree.{Leaf, number, name, leaf_value, Tree, leaves, value}
+use Rattle.example_tree.specs.Tree.{Leaf, number, name, leaf_value}
 use Rattle.example_tree.specs.Text.{Open, nothing, digits, letters, with_digit, with_letter}
 use Rattle.example_tree.specs.Text.{Sign, blank, opening, closing, plus, times, other, sign_of}
 
@@ -99,10 +99,3 @@ abbrev mutual
   pub part_is : (List ℕ → ℤ) → Part → ℤ
   part_is names (word l) = leaf_value names l
   part_is names (bracket s) = sum_is names s
-
--- the text spells a sum, of which the tree has the leaves and the value, whatever the names stand for
-pub record Says (text : List ℕ) (tree : Tree) : Type 0 where
-  pub sum : Sum
-  pub spelled : words text ≡ sum_words sum
-  pub leaves_same : leaves tree ≡ sum_leaves sum
-  pub values_same : (names : List ℕ → ℤ) → value names tree ≡ sum_is names sum

@@ -5,3 +5,5 @@ pub mod Grammar
 pub mod Outcome
 pub mod Faults
 pub mod Levels
+pub mod Printed
+pub mod Rewriting

@@ -2,7 +2,7 @@
 use Rattle.std.specs.Prelude.{◌≡◌, ℕ, zero, suc, ◌<◌, ℤ, List, [], ◌∷◌, All, map, get_or, Bool, true, false, ⊤}
 use Rattle.std.specs.List.{flat_map}
 use Rattle.tinyvec.specs.Tiny.{tiny_items}
-use Rattle.example_tree.specs.Tree.{Leaf, number, name, Tree, leaf, sum, product, Trees, none, more, leaves, value}
+use Rattle.example_tree.specs.Tree.{Leaf, number, name, Tree, leaf, sum, product, Trees, none, more, leaves, value, flat}
 use Rattle.example_tree.specs.declared.node.Node.{Node}
 use Rattle.example_tree.specs.declared.node.Node.TheVariants.{Number, Name, Sum, Product}
 
@@ -82,6 +82,10 @@ IsDone fs (product_form ids) = ⊤
 -- the first n nodes were gone through
 abbrev pub AreDone : List Form → ℕ → Type 0
 AreDone fs n = (id : ℕ) → id < n → IsDone fs (form_at fs id)
+
+-- the trees of all nodes have the flat trees that they had
+abbrev pub SameFlat : List Node → List Node → Type 0
+SameFlat old new = (id : ℕ) → flat (tree_at new id) ≡ flat (tree_at old id)
 
 -- the trees of all nodes have the leaves that they had, in the same order
 abbrev pub SameLeaves : List Node → List Node → Type 0

@@ -67,3 +67,29 @@ abbrev mutual
   pub AreFlat : Trees → Type 0
   AreFlat none = ⊤
   AreFlat (more t ts) = IsFlat t × AreFlat ts
+
+-- one list of trees behind another
+abbrev pub followed : Trees → Trees → Trees
+followed none us = us
+followed (more t ts) us = more t (followed ts us)
+
+-- what stands for a child of a sum: of a sum its own children, and else the child
+abbrev pub terms : Tree → Trees
+terms (leaf l) = more (leaf l) none
+terms (sum ts) = ts
+terms (product ts) = more (product ts) none
+
+-- the tree in which each sum in a sum gave way to its children
+abbrev mutual
+  pub flat : Tree → Tree
+  flat (leaf l) = leaf l
+  flat (sum ts) = sum (flat_terms ts)
+  flat (product ts) = product (flat_factors ts)
+
+  pub flat_terms : Trees → Trees
+  flat_terms none = none
+  flat_terms (more t ts) = followed (terms (flat t)) (flat_terms ts)
+
+  pub flat_factors : Trees → Trees
+  flat_factors none = none
+  flat_factors (more t ts) = more (flat t) (flat_factors ts)

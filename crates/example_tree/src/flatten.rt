@@ -4,7 +4,7 @@ ghost use Rattle.tinyvec.specs.Tiny.{tiny_items, tiny_len, tiny_capacity};
 ghost use Rattle.tinyvec_slots.specs.Filling.{ShowsItems};
 ghost use Rattle.std.specs.Iterator.{IsFinite};
 ghost use Rattle.example_tree.specs.Tree.{IsFlat};
-ghost use Rattle.example_tree.specs.Nodes.{forms, tree_at, expanded, IsOrdered, AreDone, SameLeaves, SameValues};
+ghost use Rattle.example_tree.specs.Nodes.{forms, tree_at, expanded, IsOrdered, AreDone, SameFlat, SameLeaves, SameValues};
 
 use crate::node::{Node, NodeId};
 use std::alloc::AllocError;
@@ -14,6 +14,7 @@ use tinyvec::TinyVec;
 pub fn flatten(nodes: &mut [Node]) -> Result<(), AllocError>
     requires ordered { IsOrdered (forms nodes.old) }
     ensures flat { OnOk result ((id : ℕ) → IsFlat (tree_at nodes.new id)) }
+    ensures same { SameFlat nodes.old nodes.new }
     ensures leaves { SameLeaves nodes.old nodes.new }
     ensures values { SameValues nodes.old nodes.new }
     ensures ordered { IsOrdered (forms nodes.new) }
@@ -31,6 +32,7 @@ fn flatten_node(nodes: &mut [Node], id: NodeId) -> Result<(), AllocError>
     requires done { AreDone (forms nodes.old) id }
     requires in_bounds { id < length nodes.old }
     ensures done { OnOk result (AreDone (forms nodes.new) (suc id)) }
+    ensures same { SameFlat nodes.old nodes.new }
     ensures leaves { SameLeaves nodes.old nodes.new }
     ensures values { SameValues nodes.old nodes.new }
     ensures ordered { IsOrdered (forms nodes.new) }

@@ -2,7 +2,6 @@
 #![tactic(auto)]
 
 mod flatten;
-mod flattened;
 mod forest;
 mod level;
 mod node;
@@ -10,21 +9,17 @@ mod parse;
 mod parse_error;
 mod print;
 mod reading;
+mod rewritten;
 #[cfg(test)]
 mod tests;
 
-use flattened::flattened;
-use print::printed;
+use rewritten::rewritten;
 use std::io;
 
 fn main(rt: HostRuntime) -> io::Result<()> {
     for line in rt.lines(rt.alloc()) {
-        let line = line?;
-        match flattened(rt.alloc(), line.as_bytes()) {
-            Ok(tree) => {
-                let text = printed(rt.alloc(), &tree)?;
-                println!(rt; "{text}")?;
-            }
+        match rewritten(rt.alloc(), line?.as_bytes()) {
+            Ok(text) => println!(rt; "{text}")?,
             Err(error) => println!(rt; "{error}")?,
         }
     }

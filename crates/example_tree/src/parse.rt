@@ -36,6 +36,7 @@ pub struct Parser {
 /// Reads a line as a tree.
 pub fn parse(alloc: Global, line: &[u8]) -> Result<Tree, ParseError>
     ensures ordered { IfOk result (λ tree. IsOrdered (forms tree.nodes.items)) }
+    ensures root { IfOk result (λ tree. tree.root < length tree.nodes.items) }
     ensures right { IfOk result (λ tree. outcome line.now ≡ right (tree_at tree.nodes.items tree.root)) }
     ensures wrong { IfErr result (IsSaid (outcome line.now)) }
 {
@@ -181,6 +182,7 @@ impl Parser {
         requires { IsSound self.old }
         ensures right { IfOk result (λ root. (s : State) → Stands self.old s → (end_fault s ≡ None)
             × (tree_at self.new.nodes.items root ≡ group_tree (ended s).inner)) }
+        ensures root { IfOk result (λ root. root < length self.new.nodes.items) }
         ensures ordered { OnOk result (IsOrdered (forms self.new.nodes.items)) }
         ensures err { IfErr result (Stops self.old end end_fault) }
     {

@@ -1,72 +1,103 @@
 //! A tree, written as text.
+ghost use Rattle.std.specs.Prelude.{◌≡◌, ◌++◌, ◌<◌, ◌≤◌, ℕ, length, All, IfOk, OnOk, string_bytes};
+ghost use Rattle.example_tree.specs.Tree.{Tree};
+ghost use Rattle.example_tree.specs.Nodes.{form, forms, children, tree_of, trees_of, tree_at, IsOrdered};
+ghost use Rattle.example_tree.specs.Printed.{sign_text, part_text, part_texts, separated, tree_text, AreTexts};
+
+use crate::forest::Operation;
 use crate::node::{Node, NodeId};
-use crate::parse::Tree;
 use std::alloc::{AllocError, Global};
 
-/// The text of a tree, with as few brackets as tell it from each other tree.
-pub fn printed(alloc: Global, tree: &Tree) -> Result<String, AllocError> {
+/// The text of a tree of a list of nodes. A sum or a product that is a factor stands in brackets.
+pub fn printed(alloc: Global, nodes: &[Node], root: NodeId) -> Result<String, AllocError>
+    requires ordered { IsOrdered (forms nodes.now) }
+    requires root { root < length nodes.now }
+    ensures { IfOk result (λ text. string_bytes text ≡ tree_text (tree_at nodes.now root)) }
+{
     let mut texts = Vec::new(alloc);
-    for node in &tree.nodes {
-        let text = text_of(alloc, node, &tree.nodes, &texts)?;
+    for node in nodes {
+        let text = node_text(alloc, node, nodes, &texts)?;
         texts.push(text)?;
     }
-    match texts.get(tree.root) {
-        Some(text) => String::from_str(alloc, text.as_str()),
-        None => Ok(String::new(alloc)),
-    }
+    Ok(texts.swap_remove(root))
 }
 
 // The text of one node, where those of the nodes before it are known.
-fn text_of(
+fn node_text(
     alloc: Global,
     node: &Node,
     nodes: &[Node],
     texts: &[String],
-) -> Result<String, AllocError> {
+) -> Result<String, AllocError>
+    requires children { All (λ child. child < length texts.now) (children (form node.now)) }
+    requires nodes { length texts.now ≤ length nodes.now }
+    requires texts { AreTexts nodes.now texts.now }
+    ensures { IfOk result (λ text. string_bytes text ≡ tree_text (tree_of (tree_at nodes.now) (form node.now))) }
+{
     match node {
         Node::Number(number) => format!(in alloc; "{number}"),
-        Node::Name(name) => name_text(alloc, name.as_slice()),
-        Node::Sum(terms) => joined(alloc, terms.as_slice(), " + ", nodes, texts),
-        Node::Product(factors) => joined(alloc, factors.as_slice(), " * ", nodes, texts),
+        Node::Name(name) => String::from_utf8_lossy(alloc, name.as_slice()),
+        Node::Sum(terms) => joined(alloc, Operation::Sum, terms.as_slice(), nodes, texts),
+        Node::Product(factors) => joined(
+            alloc,
+            Operation::Product,
+            factors.as_slice(),
+            nodes,
+            texts,
+        ),
     }
 }
 
-// The text of a name.
-fn name_text(alloc: Global, name: &[u8]) -> Result<String, AllocError> {
-    let mut text = String::new(alloc);
-    for byte in name {
-        text.push(char::from(*byte))?;
-    }
-    Ok(text)
-}
-
-// The texts of the children, with a sign between. A product that is a child of a sum needs no brackets.
+// The texts of the children, with a sign between.
 fn joined(
     alloc: Global,
+    operation: Operation,
     children: &[NodeId],
-    sign: &str,
     nodes: &[Node],
     texts: &[String],
-) -> Result<String, AllocError> {
+) -> Result<String, AllocError>
+    requires children { All (λ child. child < length texts.now) children.now }
+    requires nodes { length texts.now ≤ length nodes.now }
+    requires texts { AreTexts nodes.now texts.now }
+    ensures { IfOk result (λ text. string_bytes text
+        ≡ separated (sign_text operation) (part_texts operation (trees_of (tree_at nodes.now) children.now))) }
+{
     let mut text = String::new(alloc);
     for (place, child) in children.iter().enumerate() {
         if place > 0 {
-            text.push_str(sign)?;
+            text.push_str(sign(operation))?;
         }
-        if let (Some(node), Some(part)) = (nodes.get(*child), texts.get(*child)) {
-            let bare = match node {
-                Node::Sum(_) => false,
-                Node::Product(_) => sign == " + ",
-                _ => true,
-            };
-            if bare {
-                text.push_str(part.as_str())?;
-            } else {
-                text.push('(')?;
-                text.push_str(part.as_str())?;
-                text.push(')')?;
-            }
-        }
+        push_part(&mut text, operation, &nodes[*child], texts[*child].as_str())?;
     }
     Ok(text)
+}
+
+// What stands between two children.
+fn sign(operation: Operation) -> &'static str
+    ensures { result.now ≡ sign_text operation }
+{
+    match operation {
+        Operation::Sum => " + ",
+        Operation::Product => " * ",
+    }
+}
+
+// Puts the text of a child behind another text.
+fn push_part(
+    text: &mut String,
+    operation: Operation,
+    child: &Node,
+    part: &str,
+) -> Result<(), AllocError>
+    ensures { OnOk result ((tree : ℕ → Tree)
+        → string_bytes text.new ≡ string_bytes text.old ++ part_text operation (tree_of tree (form child.now)) part.now) }
+{
+    match (operation, child) {
+        (Operation::Product, Node::Sum(_) | Node::Product(_)) => {
+            text.push('(')?;
+            text.push_str(part)?;
+            text.push(')')
+        }
+        _ => text.push_str(part),
+    }
 }

@@ -1,13 +1,11 @@
 // Lines whose flat trees and errors were worked out by hand.
-use crate::flattened::flattened;
 use crate::parse_error::{Fault, ParseError, syntax};
-use crate::print::printed;
+use crate::rewritten::rewritten;
 use std::alloc::Global;
 use std::test::Fail;
 
 fn shown(alloc: Global, line: &str) -> Result<String, ParseError> {
-    let tree = flattened(alloc, line.as_bytes())?;
-    Ok(printed(alloc, &tree)?)
+    rewritten(alloc, line.as_bytes())
 }
 
 #[test]

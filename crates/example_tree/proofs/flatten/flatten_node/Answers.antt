@@ -24,6 +24,7 @@ returns-in-Sum c =
     let one = length-append before (set behind 0 (Sum c.expand.new.children)) in
     let two = length-set behind 0 (Sum c.expand.new.children) in record {
       done = turned.done;
+      same = turned.same;
       leaves = turned.leaves;
       values = turned.values;
       ordered = turned.ordered;
@@ -39,6 +40,7 @@ returns-in_default c =
     let same = unmoved c.args.nodes.now c.split_at_mut-before.result.0.now c.split_at_mut-before.result.1.now c.args.id c.index-behind-0.result c.requires.in_bounds split.front split.back in
     record {
       done = turned.done;
+      same = turned.same;
       leaves = turned.leaves;
       values = turned.values;
       ordered = turned.ordered;
