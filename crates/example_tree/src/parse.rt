@@ -44,9 +44,7 @@ pub fn parse(alloc: Global, line: &[u8]) -> Result<Tree, ParseError>
     for (at, byte) in line.iter().enumerate() {
         parser.step(alloc, *byte, at)?;
     }
-    let root = parser.finish(alloc, line.len())?;
-    let Parser { nodes, .. } = parser;
-    Ok(Tree { nodes, root })
+    parser.finish(alloc, line.len())
 }
 
 impl Parser {
@@ -145,15 +143,13 @@ impl Parser {
         ensures { Answers result self.old self.new at close_fault higher }
     {
         ends(self.after_operand, at)?;
-        match self.outer.pop() {
-            Some(outer) => {
-                let level = replace(&mut self.level, outer);
-                let id = level.end(alloc, &mut self.nodes)?;
-                self.level.factor(id)?;
-                Ok(())
-            }
-            None => Err(syntax(at, Fault::NotOpen)),
-        }
+        let Some(outer) = self.outer.pop() else {
+            return Err(syntax(at, Fault::NotOpen));
+        };
+        let level = replace(&mut self.level, outer);
+        let id = level.end(alloc, &mut self.nodes)?;
+        self.level.factor(id)?;
+        Ok(())
     }
 
     // A plus: the factors before it are one term.
@@ -177,22 +173,24 @@ impl Parser {
         Ok(())
     }
 
-    // The line ends here: the root of its tree.
-    fn finish(&mut self, alloc: Global, end: usize) -> Result<NodeId, ParseError>
-        requires { IsSound self.old }
-        ensures right { IfOk result (λ root. (s : State) → Stands self.old s → (end_fault s ≡ None)
-            × (tree_at self.new.nodes.items root ≡ group_tree (ended s).inner)) }
-        ensures root { IfOk result (λ root. root < length self.new.nodes.items) }
-        ensures ordered { OnOk result (IsOrdered (forms self.new.nodes.items)) }
-        ensures err { IfErr result (Stops self.old end end_fault) }
+    // The line ends here: its tree.
+    fn finish(mut self, alloc: Global, end: usize) -> Result<Tree, ParseError>
+        requires { IsSound self }
+        ensures right { IfOk result (λ tree. (s : State) → Stands self s → (end_fault s ≡ None)
+            × (tree_at tree.nodes.items tree.root ≡ group_tree (ended s).inner)) }
+        ensures ordered { IfOk result (λ tree. IsOrdered (forms tree.nodes.items)) }
+        ensures root { IfOk result (λ tree. tree.root < length tree.nodes.items) }
+        ensures err { IfErr result (Stops self end end_fault) }
     {
         self.flush()?;
         ends(self.after_operand, end)?;
         if !self.outer.is_empty() {
             return Err(syntax(end, Fault::NotClosed));
         }
-        let level = replace(&mut self.level, Level::new(alloc));
-        let root = level.end(alloc, &mut self.nodes)?;
-        Ok(root)
+        let root = self.level.end(alloc, &mut self.nodes)?;
+        Ok(Tree {
+            nodes: self.nodes,
+            root,
+        })
     }
 }

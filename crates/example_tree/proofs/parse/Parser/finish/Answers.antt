@@ -1,7 +1,6 @@
 use Rattle.std.proofs.Common.{◌≡◌, ◌≢◌, ◌∙◌, ◌-◌, length, tests, rules, arith, refl, sym, ap}
 use Rattle.std.proofs.lemmas.Result.{err_from_is_err_and}
 use Rattle.example_tree.specs.Outcome.{group_tree}
-use Rattle.example_tree.specs.Levels.{group_of}
 use Rattle.example_tree.proofs.Groups.{as_many}
 use Rattle.example_tree.proofs.Steps.{operand_there, end_is, ends_early, all_closed, some_open}
 use Rattle.example_tree.proofs.parse.Parser.finish.Goals as goal
@@ -28,5 +27,5 @@ returns-clause-right c = λ s stands.
     let none : length c.flush.new.self.outer.items ≡ 0 = search (rules, tests) in
     let many = as_many c.flush.new.self.nodes.items c.flush.new.self.outer.items s.outer flushed.outer in (
       end_is s operand ∙ all_closed s.outer (many ∙ none),
-      c.in_ok-root.ensures.there ∙ ap (λ l. group_tree (group_of c.flush.new.self.nodes.items l)) c.replace-level.ensures.value ∙ ap group_tree flushed.inner,
+      c.in_ok-root.ensures.there ∙ ap group_tree flushed.inner,
     )
