@@ -16,3 +16,5 @@ pub mod Respelled
 pub mod Flattening
 pub mod Rewriting
 pub mod Printing
+pub mod Leading
+pub mod Reread

@@ -17,20 +17,18 @@ use Rattle.example_tree.proofs.Spelled.{by_bool, no_fault}
 use Rattle.example_tree.proofs.Steps.{next_digit, fault_digit, next_letter, fault_letter, next_sign}
 use Rattle.std.proofs.lemmas.Bool.Decides.{nat_tests}
 use Rattle.example_tree.proofs.Accepted.{words_digit, words_letter, words_sign}
+use Rattle.example_tree.proofs.Leading.{IsRead, digit_48, first_is_read, digit_is_read, letter_is_read}
 use Rattle.example_tree.proofs.Unbracketed.{sum_text, product_text, factor_text}
 
 -- what a number or a name needs to be read back
 abbrev pub Fits : Open → Type 0
 Fits nothing = Unit {0}
 Fits (digits n) = n < 2 ^ 64
-Fits (letters bytes) = IsAscii bytes × ((rest : List ℕ) → words_on nothing (bytes ++ rest) ≡ words_on (letters bytes) rest)
+Fits (letters bytes) = IsAscii bytes × ((rest : List ℕ) → words_on nothing (bytes ++ rest) ≡ words_on (letters bytes) rest) × IsRead bytes (letters bytes)
 
-abbrev open_leaf : Leaf → Open
+abbrev pub open_leaf : Leaf → Open
 open_leaf (number n) = digits n
 open_leaf (name bytes) = letters bytes
-
-digit_48 : (d : ℕ) → d < 10 → is_ascii_digit (48 + d) ≡ true
-digit_48 d small = grind (arith, nat_tests)
 
 number_read : (n : ℕ) → n < 2 ^ 64 → (rest : List ℕ) → words_on nothing (decimal n ++ rest) ≡ words_on (digits n) rest
 number_read =
@@ -61,7 +59,7 @@ all_fit : (ls ms : List Leaf) → AllFit ls → AllFit ms → AllFit (ls ++ ms)
 all_fit [] ms one two = two
 all_fit (l ∷ ls) ms one two = (one.0, all_fit ls ms one.1 two)
 
-both_fit : (ls ms : List Leaf) → AllFit (ls ++ ms) → AllFit ls × AllFit ms
+pub both_fit : (ls ms : List Leaf) → AllFit (ls ++ ms) → AllFit ls × AllFit ms
 both_fit [] ms all = (tt, all)
 both_fit (l ∷ ls) ms all = let both = both_fit ls ms all.1 in ((all.0, both.0), both.1)
 
@@ -141,12 +139,13 @@ digit_fits (digits n) there byte digit none fits = is_less (n * 10 + (byte - 48)
 digit_fits (letters bytes) there byte digit none fits = (
   IsAscii-push bytes byte fits.0 (grind (arith, nat_tests)),
   λ rest. ap (words_on nothing) (append_assoc bytes (byte ∷ []) rest) ∙ fits.1 (byte ∷ rest) ∙ words_digit (letters bytes) byte rest digit,
+  digit_is_read bytes byte fits.2 digit,
 )
 
 letter_fits : (last : Open) (there : Bool) (byte : ℕ) → is_ascii_digit byte ≡ false → is_ascii_alphabetic byte ≡ true → letter_fault last there ≡ None → Fits last
     → Fits (with_letter last byte) × (before_letter last ≡ [])
 letter_fits nothing there byte no_digit letter none fits = (
-  (IsAscii-push [] byte IsAscii-nil (grind (arith, nat_tests)), λ rest. words_letter nothing byte rest no_digit letter),
+  (IsAscii-push [] byte IsAscii-nil (grind (arith, nat_tests)), λ rest. words_letter nothing byte rest no_digit letter, first_is_read byte no_digit letter),
   refl,
 )
 letter_fits (digits n) there byte no_digit letter none fits = absurd (cc none)
@@ -154,6 +153,7 @@ letter_fits (letters bytes) there byte no_digit letter none fits = (
   (
     IsAscii-push bytes byte fits.0 (grind (arith, nat_tests)),
     λ rest. ap (words_on nothing) (append_assoc bytes (byte ∷ []) rest) ∙ fits.1 (byte ∷ rest) ∙ words_letter (letters bytes) byte rest no_digit letter,
+    letter_is_read bytes byte fits.2 no_digit letter,
   ),
   refl,
 )

@@ -1,7 +1,7 @@
 -- A line that was written anew, with no sum in a sum.
 use Rattle.std.specs.Prelude.{◌≡◌, ℕ, ℤ, List, ⊤}
 use Rattle.example_tree.specs.Tree.{flat}
-use Rattle.example_tree.specs.Outcome.{Outcome, right, wrong}
+use Rattle.example_tree.specs.Outcome.{Outcome, right, wrong, outcome}
 use Rattle.example_tree.specs.Printed.{tree_text}
 use Rattle.example_tree.specs.Grammar.{words, Sum, term, added, Product, factor, multiplied, Part, word, bracket, sum_words, sum_leaves, sum_is}
 
@@ -41,7 +41,7 @@ pub record IsRewriting (line text : List ℕ) : Type 0 where
   pub leaves_same : sum_leaves after ≡ sum_leaves before
   pub values_same : (names : List ℕ → ℤ) → sum_is names after ≡ sum_is names before
 
--- the outcome is a tree, and the text is that of its flat tree
+-- the outcome is a tree, the text is that of its flat tree, and this tree is what the text says
 abbrev pub IsPrinted : Outcome → List ℕ → Type 0
-IsPrinted (right t) text = text ≡ tree_text (flat t)
+IsPrinted (right t) text = (text ≡ tree_text (flat t)) × (outcome text ≡ right (flat t))
 IsPrinted (wrong at fault) text = ⊥
