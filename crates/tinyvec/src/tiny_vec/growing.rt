@@ -13,6 +13,7 @@ use tinyvec_array::Array;
 
 impl<A: Array> TinyVec<A> {
     // Appends clones of the slice's items, where there is room.
+    #[inline(always)]
     pub(crate) fn extend_reserved(&mut self, other: &[A::Item]) -> Result<(), AllocError>
     where
         A::Item: Clone,
@@ -37,6 +38,8 @@ impl<A: Array> TinyVec<A> {
     }
 
     /// Appends clones of the slice's items. Room for all is asked for once, before any is cloned.
+    // Inlined, so that a caller's compiler knows what the calls before leave: the place of the list and its length.
+    #[inline(always)]
     pub fn extend_from_slice(&mut self, other: &[A::Item]) -> Result<(), AllocError>
     where
         A::Item: Clone,

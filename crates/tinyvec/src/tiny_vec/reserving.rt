@@ -40,12 +40,25 @@ impl<A: Array> TinyVec<A> {
 
     /// Makes room for `n` items more. A list that has no such room in its array moves to the heap. Where there is that
     /// room already, nothing is asked for.
+    #[inline(always)]
     pub fn reserve(&mut self, n: usize) -> Result<(), AllocError>
         ensures { Reserves A.Item.is_default A.CAPACITY n self.old self.new result }
     {
         if n <= self.capacity() - self.len() {
             return Ok(());
         }
+        self.grow(n)
+    }
+
+    // Makes room for `n` items more, where there is none.
+    #[cold]
+    #[inline(never)]
+    fn grow(&mut self, n: usize) -> Result<(), AllocError>
+        requires { tiny_capacity A.CAPACITY self.old < tiny_len self.old + n }
+        ensures { Reserves A.Item.is_default A.CAPACITY n self.old self.new result }
+    {
+        // It tells the proof that the list fits.
+        let _len = self.len();
         match self {
             TinyVec::Inline(v, alloc) => {
                 let heap = v.drain_to_vec_and_reserve(*alloc, n)?;
