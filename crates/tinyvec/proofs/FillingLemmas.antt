@@ -1,8 +1,11 @@
 -- Lemmas on items asked of an iterator by loops, one of which goes on where the other ended.
-use Rattle.std.proofs.Common.{◌≡◌, ℕ, ◌+◌, ◌≤◌, List, [], ◌∷◌, ◌++◌, Option, Some, Result, Ok, Err, length, length-append, refl, sym, ap, subst, ◌∙◌, arith}
+use Rattle.std.proofs.Common.{◌≡◌, ℕ, ◌+◌, ◌<◌, ◌≤◌, List, [], ◌∷◌, ◌++◌, Option, Some, Result, Ok, Err, length, drop, slice_set, length-append, length-drop, append_assoc, refl, sym, ap, subst, ◌∙◌, arith, rules}
+use Rattle.std.proofs.lemmas.List.{same_lists, places, drop_at, get_or-set_same}
+use Rattle.std.proofs.lemmas.Bool.{cases_eq}
 use Rattle.std.specs.Prelude.{MatchResult, IsOk, OnOk, OnErr}
 use Rattle.std.specs.Iterator.{Yields, YieldsThen, Drains, AlwaysYields}
 use Rattle.tinyvec_slots.specs.Filling.{ShowsItems}
+use Rattle.tinyvec_slots.specs.Slots.{Slots, items, items_len, spare, all_slots, with_spare}
 use Rattle.tinyvec_slots.proofs.FillingLemmas.{drained, refused, drained_all, refused_early}
 
 module _ {S A : Type 0} (steps : S → Option A → S → Type 0) where
@@ -35,3 +38,22 @@ module _ {S A : Type 0} (steps : S → Option A → S → Type 0) where
         let fewer = refused_early steps all s yields xs (back e) (item e) ran in
         let long = ap length is ∙ length-append old xs in
         (tt, λ fits. absurd (omega (arith, fewer, long, full, le, fits)))
+
+-- The spare slots were written, and xs stands over the first of them. The border was moved behind xs.
+module _ {T : Type 0} (v : Slots T) (xs ws : List T) (len : ℕ) (few : length xs ≤ length (spare v))
+    (is : ws ≡ xs ++ drop (length xs) (spare v)) (more : len ≡ items_len v + length xs) where
+  written : all_slots (with_spare v ws) ≡ (items v ++ xs) ++ drop (length xs) (spare v)
+  written =
+      let long : length ws ≡ length (spare v) = ap length is ∙ length-append xs (drop (length xs) (spare v)) ∙ omega (arith, few, length-drop (length xs) (spare v)) in
+      same_lists _ _ (search (rules, places, long)) (λ k d h. grind (arith, places, long)) ∙ ap (λ l. items v ++ l) is ∙ sym (append_assoc (items v) xs (drop (length xs) (spare v)))
+
+  front : length (items v ++ xs) ≡ len
+  front = length-append (items v) xs ∙ sym more
+
+  pub spare_filled : drop len (all_slots (with_spare v ws)) ≡ drop (length xs) (spare v)
+  spare_filled = ap (drop len) written ∙ drop_at (items v ++ xs) (drop (length xs) (spare v)) len front
+
+-- one more slot, behind those of ys, is written
+pub slots_filled : {T : Type 0} (slots ys : List T) (n : ℕ) (x : T) → length ys ≡ n → n < length slots
+    → slice_set (ys ++ drop n slots) n x ≡ (ys ++ x ∷ []) ++ drop (n + 1) slots
+slots_filled slots ys n x long lt = same_lists _ _ (search (rules, places, long)) (λ k d h. grind (arith, places, long, get_or-set_same, cases_eq k n))

@@ -29,6 +29,8 @@ impl<A: Array> TinyVec<A> {
     /// Takes the items of the range out of the list, and gives them from both ends.
     ///
     /// `known` is false of an `a..=b` that was iterated to its end, and of no other range of std.
+    // Inlined with what ends it, so that the four fields stay in registers.
+    #[inline(always)]
     pub fn drain<R: RangeBounds<usize>>(&mut self, range: R) -> TinyVecDrain<'_, A>
         requires known { R.has_bounds range }
         requires in_list { IsRangeOf (tiny_items self.old) (R.start_bound range) (R.end_bound range) }
@@ -63,6 +65,7 @@ impl<A: Array> TinyVec<A> {
 impl<'a, A: Array> Drop for TinyVecDrain<'a, A> {
     ghost use Rattle.tinyvec.specs.Drain.{DrainLeaves};
 
+    #[inline(always)]
     fn drop(self)
         ensures { DrainLeaves A.Item.is_default self.entry self.exit.0.now }
     {

@@ -97,6 +97,7 @@ impl<A: Array> TinyVec<A> {
     }
 
     // Moves the items from `start` up to `end` behind the others.
+    #[inline(always)]
     pub(crate) fn items_to_end(&mut self, start: usize, end: usize)
         requires start_le_end { start ≤ end }
         requires in_bounds { end ≤ tiny_len self.old }

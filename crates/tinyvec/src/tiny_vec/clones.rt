@@ -14,6 +14,8 @@ use tinyvec_slots::clone_over;
 
 impl<A: Array> TinyVec<A> {
     /// A vector of clones, in the same place, inline in the spare slots too.
+    // Inlined, and with a return of its own for each place: where two places end in one, the whole value is copied once more.
+    #[inline(always)]
     pub fn clone(&self) -> Result<Self, AllocError>
     where
         A::Item: Clone,
@@ -29,17 +31,16 @@ impl<A: Array> TinyVec<A> {
         ensures succeeds { IsInline self.now
             → All A.Item.is_infallible (tiny_items self.now ++ tiny_spare self.now) → IsOk result }
     {
-        match self {
+        let v = match self {
             TinyVec::Inline(v, alloc) => {
                 let copy = v.clone()?;
-                Ok(TinyVec::Inline(copy, *alloc))
+                return Ok(TinyVec::Inline(copy, *alloc));
             }
-            TinyVec::Heap(v) => {
-                let mut copy = Vec::with_capacity(*v.allocator(), v.len())?;
-                push_clones(&mut copy, v.as_slice())?;
-                Ok(TinyVec::Heap(copy))
-            }
-        }
+            TinyVec::Heap(v) => v,
+        };
+        let mut copy = Vec::with_capacity(*v.allocator(), v.len())?;
+        push_clones(&mut copy, v.as_slice())?;
+        Ok(TinyVec::Heap(copy))
     }
 
     // Writes clones of `source` over the items, which are as many.

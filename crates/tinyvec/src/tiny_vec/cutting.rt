@@ -9,6 +9,7 @@ use tinyvec_array::Array;
 
 impl<A: Array> TinyVec<A> {
     /// Keeps the first `n` items, or all where there are no more. In the array each vacated slot is given a default.
+    #[inline(always)]
     pub fn truncate(&mut self, n: usize)
         ensures items { tiny_items self.new ≡ take n (tiny_items self.old) }
         ensures place { is_inline self.new ≡ is_inline self.old }

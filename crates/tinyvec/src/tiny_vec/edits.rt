@@ -44,14 +44,24 @@ impl<A: Array> TinyVec<A> {
         ensures refused { OnErr result (Unchanged self.old self.new) }
         ensures back { IfErr result (λ refused. refused.0 ≡ x) }
     {
-        if self.len() == self.capacity() && self.grow_one().is_err() {
-            return Err(NoMemory(x));
+        match self {
+            TinyVec::Inline(v, _) if !v.is_full() => v.insert(i, x),
+            TinyVec::Heap(v) if v.len() < v.capacity() => {
+                let _room_was_there = v.insert(i, x);
+            }
+            _ => {
+                if self.grow_one().is_err() {
+                    return Err(NoMemory(x));
+                }
+                self.insert_reserved(i, x);
+            }
         }
-        self.insert_reserved(i, x);
         Ok(())
     }
 
     /// Takes the item at `i`, and moves the later ones down.
+    // Inlined, so that the place of the list is looked at once for this call and the next.
+    #[inline(always)]
     pub fn remove(&mut self, i: usize) -> A::Item
         requires { i < tiny_len self.old }
         ensures value { result ≡ slice_index_or (tiny_items self.old) i result }

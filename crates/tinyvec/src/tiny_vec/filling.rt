@@ -15,6 +15,8 @@ use tinyvec_array::{Array, ArrayVec, FromIterRest, NoMemory, NoRoom};
 impl<A: Array> TinyVec<A> {
     /// Appends the items, one by one. Where memory is refused for one, that item and what follows it come back. Memory
     /// is asked for by each push that finds no room.
+    // Inlined, since an answer that may hold an iterator goes through memory otherwise.
+    #[inline(always)]
     pub fn extend<I: IntoIterator<Item = A::Item>>(
         &mut self,
         iter: I,
@@ -54,6 +56,7 @@ impl<A: Array> TinyVec<A> {
     }
 
     // Appends the items, a run of them wherever there is room, and one by each call that grows.
+    #[inline(always)]
     fn extend_runs<I: Iterator<Item = A::Item>>(
         &mut self,
         iter: I,
@@ -85,6 +88,7 @@ impl<A: Array> TinyVec<A> {
     }
 
     // Appends items while there is room where the list lies. The first that finds none comes back with what follows it.
+    #[inline(always)]
     fn fill_room<I: Iterator<Item = A::Item>>(&mut self, iter: I) -> Result<(), NoRoom<A::Item, I>>
         requires { I.can_next iter × IsFinite (I.remaining iter) }
         ensures ran { (xs : List A.Item) × MatchResult result (λ _. Drains I.next_gives iter xs)
@@ -162,15 +166,40 @@ fn fill_array<A: Array, I: Iterator<Item = A::Item>>(
     ensures full { OnErr result (items_len vec.new ≡ A.CAPACITY) }
     ensures goes_on { IfErr result (λ refused. Follows I.can_next I.remaining iter refused.rest) }
 {
-    // It tells the proof that the list fits where no item comes.
-    let _len = vec.len();
+    let len = vec.len();
+    match fill_slots(vec.grab_spare_slice_mut(), iter) {
+        Ok(count) => {
+            vec.set_len(len + count);
+            Ok(())
+        }
+        Err(refused) => {
+            vec.set_len(A::CAPACITY);
+            Err(refused)
+        }
+    }
+}
+
+// Writes items over the slots, and answers how many came. The first that finds no slot comes back with what follows it. The
+// border moves once, behind them all: a loop that moved it at each item would not be vector code.
+fn fill_slots<T: Drop, I: Iterator<Item = T>>(
+    slots: &mut [T],
+    mut iter: I,
+) -> Result<usize, NoRoom<T, I>>
+    requires { I.can_next iter × IsFinite (I.remaining iter) }
+    ensures ran { (xs : List T) × MatchResult result (λ n. Drains I.next_gives iter xs × (n ≡ length xs))
+        (λ refused. YieldsThen I.next_gives iter xs (Some refused.item) refused.rest × (length xs ≡ length slots.old))
+        × (length xs ≤ length slots.old) × (slots.new ≡ xs ++ drop (length xs) slots.old) }
+    ensures goes_on { IfErr result (λ refused. Follows I.can_next I.remaining iter refused.rest) }
+{
+    let mut count = 0;
     while let Some(item) = iter.next() {
-        if vec.is_full() {
+        if count == slots.len() {
             return Err(NoRoom { item, rest: iter });
         }
-        vec.push(item);
+        slots[count] = item;
+        count += 1;
     }
-    Ok(())
+    Ok(count)
 }
 
 // The same on the heap. The vector lies in a local variable meanwhile, as where clones are pushed.

@@ -13,7 +13,6 @@ use tinyvec_array::Array;
 
 impl<A: Array> TinyVec<A> {
     // Appends clones of the slice's items, where there is room.
-    #[inline(always)]
     pub(crate) fn extend_reserved(&mut self, other: &[A::Item]) -> Result<(), AllocError>
     where
         A::Item: Clone,
@@ -66,7 +65,15 @@ impl<A: Array> TinyVec<A> {
             × ClonesBehind A.Item.is_clone (take j other.now) j self.old self.new)
             self.old self.new) }
     {
-        self.reserve(other.len())?;
-        self.extend_reserved(other)
+        match self {
+            TinyVec::Inline(v, _) if other.len() <= v.capacity() - v.len() => v.extend_from_slice(
+                other,
+            ),
+            TinyVec::Heap(v) if other.len() <= v.capacity() - v.len() => push_clones(v, other),
+            _ => {
+                self.grow(other.len())?;
+                self.extend_reserved(other)
+            }
+        }
     }
 }

@@ -53,7 +53,7 @@ impl<A: Array> TinyVec<A> {
     // Makes room for `n` items more, where there is none.
     #[cold]
     #[inline(never)]
-    fn grow(&mut self, n: usize) -> Result<(), AllocError>
+    pub(crate) fn grow(&mut self, n: usize) -> Result<(), AllocError>
         requires { tiny_capacity A.CAPACITY self.old < tiny_len self.old + n }
         ensures { Reserves A.Item.is_default A.CAPACITY n self.old self.new result }
     {

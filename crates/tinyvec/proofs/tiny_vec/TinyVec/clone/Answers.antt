@@ -1,11 +1,10 @@
-use Rattle.std.proofs.Common.{◌≡◌, ◌++◌, length, All, sym, ap, subst, ◌∙◌, rules}
-use Rattle.std.proofs.lemmas.List.Elements.{same_from_all_zip, length_all_zip}
+use Rattle.std.proofs.Common.{◌≡◌, ◌++◌, All, sym, ap, subst, ◌∙◌, rules}
 use Rattle.tinyvec_slots.specs.Slots.{all_slots}
 use Rattle.tinyvec_slots.specs.Clones.{RefusedAt}
 use Rattle.tinyvec_slots.proofs.SlotsLemmas.{slots_are}
 use Rattle.tinyvec_slots.proofs.CloneLemmas.{on_err}
 use Rattle.tinyvec.specs.Tiny.{tiny_items, tiny_spare}
-use Rattle.tinyvec.proofs.CloneLemmas.{appends_alone, spare_cloned}
+use Rattle.tinyvec.proofs.CloneLemmas.{spare_cloned}
 use Rattle.tinyvec.proofs.tiny_vec.TinyVec.clone.Goals as goal
 
 pub returns-in_err-copy-in-Inline-clause-refused : goal.returns-in_err-copy-in-Inline-clause-refused
@@ -22,25 +21,9 @@ returns-in_err-copy-in-Inline-clause-succeeds g c = λ inline all.
     let never = c.in_err-copy-in-Inline.ensures.succeeds (subst (All g.A.Item.Clone.is_infallible) (sym same) all) in
     search rules
 
-pub returns-in_ok-copy-in-Inline-clause-spare : goal.returns-in_ok-copy-in-Inline-clause-spare
-returns-in_ok-copy-in-Inline-clause-spare g c =
+pub returns-in-Inline-clause-spare : goal.returns-in-Inline-clause-spare
+returns-in-Inline-clause-spare g c =
     let v = c.in-Inline.v in
     let w = c.in_ok-copy-in-Inline.copy in
     let made = c.in_ok-copy-in-Inline.ensures in
     rw c.in-Inline.is (spare_cloned g.A.Item.Clone.is_clone v w made.len made.slots)
-
-pub returns-in_ok-push_clones-in-Heap-clause-len : goal.returns-in_ok-push_clones-in-Heap-clause-len
-returns-in_ok-push_clones-in-Heap-clause-len g c =
-    let xs = c.as_slice.result.now in
-    let new = c.push_clones.new.heap.items in
-    let made = appends_alone g.A.Item.Clone.is_clone _ new xs c.in_ok-copy-in-Heap.ensures.items c.in_ok-push_clones-in-Heap.ensures.items in
-    sym (length_all_zip g.A.Item.Clone.is_clone xs new made) ∙ ap length (c.as_slice.ensures.value ∙ sym (ap (λ v. tiny_items v) c.in-Heap.is))
-
-pub returns-in_ok-push_clones-in-Heap-clause-if_clones_equal : goal.returns-in_ok-push_clones-in-Heap-clause-if_clones_equal
-returns-in_ok-push_clones-in-Heap-clause-if_clones_equal g c = λ rule.
-    let xs = c.as_slice.result.now in
-    let new = c.push_clones.new.heap.items in
-    let made = appends_alone g.A.Item.Clone.is_clone _ new xs c.in_ok-copy-in-Heap.ensures.items c.in_ok-push_clones-in-Heap.ensures.items in (
-      same_from_all_zip g.A.Item.Clone.is_clone xs new made rule ∙ c.as_slice.ensures.value ∙ sym (ap (λ v. tiny_items v) c.in-Heap.is),
-      sym (ap (λ v. tiny_spare v) c.in-Heap.is),
-    )

@@ -1,0 +1,16 @@
+use Rattle.std.proofs.Common.{◌≤◌, rules}
+use Rattle.tinyvec_slots.specs.Slots.{items_len}
+use Rattle.tinyvec.proofs.TinyLemmas.{slots_inserted}
+use Rattle.tinyvec.proofs.tiny_vec.TinyVec.insert.Goals as goal
+use Rattle.tinyvec.proofs.tiny_vec.TinyVec.insert.Goals.{in-Inline, in-Heap, in_default+else-is_err}
+
+pub returns-clause-slots : goal.returns-clause-slots
+returns-clause-slots g c = elim c.match-self.branch [
+  | in-Inline w ↦
+      let v = w.in-Inline.v in
+      let put = w.insert.ensures in
+      let in_list : c.args.i ≤ items_len v = rw w.in-Inline.is at c.requires in
+      rw (w.in-Inline.is, w.self-is) (slots_inserted g.A.Item.Default.is_default v w.insert.new.self c.args.i c.args.x in_list put.items put.spare)
+  | in-Heap w ↦ rw w.in-Heap.is tt
+  | in_default+else-is_err w ↦ search rules
+]
