@@ -1,11 +1,15 @@
 //! Items put in and taken out at a place.
-ghost use Rattle.std.specs.Prelude.{◌≡◌, ◌+◌, ◌<◌, ◌≤◌, insert, remove, slice_index_or, IsOk, OnOk, OnErr, IfErr};
+ghost use Rattle.std.specs.Prelude.{◌≡◌, ◌+◌, ◌<◌, ◌≤◌, insert, remove, slice_index_or, IsOk, OnOk, OnErr, IfErr, vec_len, vec_capacity};
 ghost use Rattle.std.specs.List.{swap_remove};
 ghost use Rattle.tinyvec.specs.Tiny.{tiny_items, tiny_len, is_inline, tiny_capacity, PlaceRule, TinySlotRule, Unchanged};
 ghost use Rattle.tinyvec.specs.Room.{KeepsRoom, MovesForTwice};
 
 use crate::TinyVec;
 use tinyvec_array::{Array, NoMemory};
+use tinyvec_slots::remove_shifting;
+
+// So many items are moved sooner one by one than by `Vec::remove`, which goes by parts of memory.
+const FEW: usize = 16;
 
 impl<A: Array> TinyVec<A> {
     // Puts `x` at `i`, where there is room.
@@ -28,6 +32,8 @@ impl<A: Array> TinyVec<A> {
 
     /// Puts `x` at `i` and moves the later items up, or hands it back where memory is refused. A full inline list asks for
     /// room for twice as many items, and moves once that is granted.
+    // Inlined, so that the place of the list is looked at once for this call and the next.
+    #[inline(always)]
     pub fn insert(&mut self, i: usize, x: A::Item) -> Result<(), NoMemory<A::Item>>
         requires { i ≤ tiny_len self.old }
         ensures items { OnOk result (tiny_items self.new ≡ insert (tiny_items self.old) i x) }
@@ -60,7 +66,7 @@ impl<A: Array> TinyVec<A> {
     }
 
     /// Takes the item at `i`, and moves the later ones down.
-    // Inlined, so that the place of the list is looked at once for this call and the next.
+    // Inlined, as `insert`.
     #[inline(always)]
     pub fn remove(&mut self, i: usize) -> A::Item
         requires { i < tiny_len self.old }
@@ -73,7 +79,7 @@ impl<A: Array> TinyVec<A> {
     {
         match self {
             TinyVec::Inline(v, _) => v.remove(i),
-            TinyVec::Heap(v) => v.remove(i),
+            TinyVec::Heap(v) => remove_on_heap(v, i),
         }
     }
 
@@ -92,4 +98,20 @@ impl<A: Array> TinyVec<A> {
             TinyVec::Heap(v) => v.swap_remove(i),
         }
     }
+}
+
+// Takes the item at `i`, and moves the later ones down.
+fn remove_on_heap<T: Default + Drop>(heap: &mut Vec<T>, i: usize) -> T
+    requires { i < vec_len heap.old }
+    ensures value { result ≡ slice_index_or heap.old.items i result }
+    ensures items { heap.new.items ≡ remove heap.old.items i }
+    ensures capacity { vec_capacity heap.new ≡ vec_capacity heap.old }
+{
+    let len = heap.len();
+    if len - i > FEW {
+        return heap.remove(i);
+    }
+    let item = remove_shifting(heap.as_mut_slice(), i, len);
+    heap.truncate(len - 1);
+    item
 }
