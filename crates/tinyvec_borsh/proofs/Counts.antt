@@ -1,7 +1,7 @@
 -- What a count can be.
 use Rattle.std.proofs.Common.{ℕ, ◌-◌, ◌^◌, ◌<◌, inl, inr, List, arith}
 use Rattle.tinyvec_borsh.specs.Items.{HasTooMany, IsCount, IsListTooLong}
-use Rattle.tinyvec_borsh.proofs.NumberBytes.{number-below}
+use Rattle.tinyvec_borsh.specs.NumberLaws.{number-below}
 
 pub count-below : (n : ℕ) (count : List ℕ) → IsCount n count → n < 2 ^ 64
 count-below n count p = omega (arith, p.value, number-below count 8 p.many p.small)

@@ -33,7 +33,7 @@ module _ {C : Type 0} (Spells : C → List ℕ → Type 0) where
   items-more [] c a b p q = (b, [], q, refl, ap (λ l. l ++ b) p ∙ sym (append-nil b))
   items-more (x ∷ cs) c a b p q = (p.0, p.1 ++ b, p.2, items-more cs c p.1 b p.3 q, ap (λ l. l ++ b) p.4 ∙ append_assoc p.0 p.1 b)
 
-  items-join : (cs ds : List C) (a b : List ℕ) → SpellsItems Spells cs a → SpellsItems Spells ds b → SpellsItems Spells (cs ++ ds) (a ++ b)
+  pub items-join : (cs ds : List C) (a b : List ℕ) → SpellsItems Spells cs a → SpellsItems Spells ds b → SpellsItems Spells (cs ++ ds) (a ++ b)
   items-join [] ds a b p q = subst (SpellsItems Spells ds) (ap (λ l. l ++ b) (sym p)) q
   items-join (x ∷ cs) ds a b p q = (p.0, p.1 ++ b, p.2, items-join cs ds p.1 b p.3 q, ap (λ l. l ++ b) p.4 ∙ append_assoc p.0 p.1 b)
 
@@ -64,7 +64,7 @@ module _ {C : Type 0} (Spells : C → List ℕ → Type 0) where
     fit-more [] c p q = (q, tt)
     fit-more (x ∷ cs) c p q = (p.0, fit-more cs c p.1 q)
 
-    fit-join : (cs ds : List C) → AllByRecursion Fits cs → AllByRecursion Fits ds → AllByRecursion Fits (cs ++ ds)
+    pub fit-join : (cs ds : List C) → AllByRecursion Fits cs → AllByRecursion Fits ds → AllByRecursion Fits (cs ++ ds)
     fit-join [] ds p q = q
     fit-join (x ∷ cs) ds p q = (p.0, fit-join cs ds p.1 q)
 

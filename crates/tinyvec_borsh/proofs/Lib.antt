@@ -6,6 +6,7 @@ pub mod Fronts
 pub mod ItemByItem
 pub mod ItemsInFront
 pub mod Lengths
+pub mod NumberBlocks
 pub mod NumberBytes
 pub mod Outcomes
 pub mod Place

@@ -1,32 +1,15 @@
 -- The bytes that the methods of numbers give and take.
-use Rattle.std.proofs.Common.{◌≡◌, ◌∙◌, ap, sym, subst, ℕ, ◌+◌, ◌*◌, ◌/◌, ◌%◌, ◌^◌, ◌<◌, zero, suc, List, [], ◌∷◌, length, get_or, refl, arith}
+use Rattle.std.proofs.Common.{◌≡◌, ◌∙◌, ap, sym, ℕ, ◌+◌, ◌*◌, ◌/◌, ◌%◌, ◌^◌, ◌<◌, suc, List, [], ◌∷◌, length, get_or, refl, arith}
 use Rattle.std.proofs.Math.Nat.{div-div-eq-div-mul}
-use Rattle.std.specs.Prelude.{ℤ, FitsSigned}
+use Rattle.std.specs.Prelude.{ℤ}
 use Rattle.std.specs.List.{AllByRecursion}
-use Rattle.std.specs.Int.{Width, w8, w16, w32, w64, w128, from_le_bytes, to_le_bytes, cast_signed, cast_unsigned}
-use mir.Val.{bits, Fits}
-use Rattle.std.proofs.lemmas.Int.{of_z-to_z}
-use Rattle.std.proofs.Math.Facts.{sfits_to_z}
+use Rattle.std.specs.Int.{w8, w16, w32, w64, w128, from_le_bytes, to_le_bytes, cast_signed}
 use Rattle.tinyvec_borsh.specs.Number.{SpellsNumber, SpellsSigned, number_of}
+use Rattle.tinyvec_borsh.specs.NumberLaws.{number-below, signed-bytes}
 
 pub small-bytes : (bytes : List ℕ) → ((i : ℕ) → get_or bytes i 0 < 256) → AllByRecursion (λ byte. byte < 256) bytes
 small-bytes [] small = tt
 small-bytes (x ∷ bytes) small = (small 0, small-bytes bytes (λ i. small (suc i)))
-
--- so many bytes are a number below 256 to that power
-pub number-below : (bytes : List ℕ) (width : ℕ) → length bytes ≡ width → AllByRecursion (λ byte. byte < 256) bytes → number_of bytes < 256 ^ width
-number-below [] zero long small = omega arith
-number-below [] (suc width) long small = absurd (omega arith)
-number-below (x ∷ bytes) zero long small = absurd (omega arith)
-number-below (x ∷ bytes) (suc width) long small =
-    let rest = number-below bytes width (omega arith) small.1 in
-    omega (arith, rest, small.0)
-
-signed-bytes : (w : Width) (width : ℕ) (bytes : List ℕ) (z : ℤ) → length bytes ≡ width → AllByRecursion (λ byte. byte < 256) bytes → number_of bytes < 2 ^ bits w → Fits w (number_of bytes) → z ≡ cast_signed w (number_of bytes) → SpellsSigned w width z bytes
-signed-bytes w width bytes z long small below fits is = (
-  subst (FitsSigned w) (sym is) (sfits_to_z fits),
-  record { many = long; small = small; value = sym (ap (cast_unsigned w) is ∙ of_z-to_z w (number_of bytes) below) },
-)
 
 value-1 : (bytes : List ℕ) → length bytes ≡ 1 → from_le_bytes w8 bytes ≡ number_of bytes
 value-1 [] long = absurd (omega arith)

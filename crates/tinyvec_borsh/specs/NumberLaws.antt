@@ -1,14 +1,14 @@
 -- The spelling of whole numbers is a code, and no other input is read.
-use Rattle.std.proofs.Common.{◌≡◌, ◌∙◌, ap, sym, ℕ, ◌/◌, ◌%◌, ◌^◌, ◌<◌, zero, suc, List, [], ◌∷◌, ◌++◌, length, refl, arith, append-nil, length-append}
+use Rattle.std.proofs.Common.{◌≡◌, ◌∙◌, ap, sym, subst, ℕ, ◌/◌, ◌%◌, ◌^◌, ◌<◌, zero, suc, List, [], ◌∷◌, ◌++◌, length, refl, arith, append-nil, length-append}
 use Rattle.std.specs.List.{AllByRecursion}
 use Rattle.std.proofs.lemmas.List.{nil_from_length}
 use Rattle.tinyvec_borsh.specs.Code.{IsCode}
 use Rattle.tinyvec_borsh.specs.Apart.{AreApart}
 use Rattle.std.specs.Prelude.{ℤ, FitsSigned}
 use Rattle.std.specs.Int.{Width, w8, w16, w32, w64, w128, cast_signed, cast_unsigned}
-use mir.Val.{Fits}
-use Rattle.std.proofs.Math.Facts.{Fits-of_z}
-use Rattle.std.proofs.lemmas.Int.{to_z-of_z}
+use mir.Val.{bits, Fits}
+use Rattle.std.proofs.Math.Facts.{Fits-of_z, sfits_to_z}
+use Rattle.std.proofs.lemmas.Int.{of_z-to_z, to_z-of_z}
 use Rattle.tinyvec_borsh.specs.Number.{SpellsNumber, SpellsSigned, number_of}
 
 number-injective : (a b : List ℕ) → length a ≡ length b → AllByRecursion (λ byte. byte < 256) a → AllByRecursion (λ byte. byte < 256) b → number_of a ≡ number_of b → a ≡ b
@@ -65,6 +65,32 @@ signed_spelled w width below z fits =
     let t = number_spelled width (cast_unsigned w z) (below (cast_unsigned w z) (Fits-of_z fits)) in
     (t.0, (fits, t.1))
 
+-- so many bytes are a number below 256 to that power
+pub number-below : (bytes : List ℕ) (width : ℕ) → length bytes ≡ width → AllByRecursion (λ byte. byte < 256) bytes → number_of bytes < 256 ^ width
+number-below [] zero long small = omega arith
+number-below [] (suc width) long small = absurd (omega arith)
+number-below (x ∷ bytes) zero long small = absurd (omega arith)
+number-below (x ∷ bytes) (suc width) long small =
+    let rest = number-below bytes width (omega arith) small.1 in
+    omega (arith, rest, small.0)
+
+pub signed-bytes : (w : Width) (width : ℕ) (bytes : List ℕ) (z : ℤ) → length bytes ≡ width → AllByRecursion (λ byte. byte < 256) bytes → number_of bytes < 2 ^ bits w → Fits w (number_of bytes) → z ≡ cast_signed w (number_of bytes) → SpellsSigned w width z bytes
+signed-bytes w width bytes z long small below fits is = (
+  subst (FitsSigned w) (sym is) (sfits_to_z fits),
+  record { many = long; small = small; value = sym (ap (cast_unsigned w) is ∙ of_z-to_z w (number_of bytes) below) },
+)
+
+-- whatever so many bytes are, they spell a number
+pub number_spelled_by : (width : ℕ) (bytes : List ℕ) → length bytes ≡ width → AllByRecursion (λ byte. byte < 256) bytes → (n : ℕ) × SpellsNumber width n bytes × (n < 256 ^ width)
+number_spelled_by width bytes long small = (number_of bytes, record { many = long; small = small; value = refl }, number-below bytes width long small)
+
+pub signed_spelled_by : (w : Width) (width : ℕ) → ((n : ℕ) → n < 256 ^ width → (n < 2 ^ bits w) × Fits w n) → (bytes : List ℕ) → length bytes ≡ width → AllByRecursion (λ byte. byte < 256) bytes
+    → (z : ℤ) × SpellsSigned w width z bytes × FitsSigned w z
+signed_spelled_by w width within bytes long small =
+    let t = within (number_of bytes) (number-below bytes width long small) in
+    let spelled = signed-bytes w width bytes (cast_signed w (number_of bytes)) long small t.0 t.1 refl in
+    (cast_signed w (number_of bytes), spelled, spelled.0)
+
 pub below_8 : (n : ℕ) → Fits w8 n → n < 256 ^ 1
 below_8 n fits = omega (arith, fits)
 
@@ -79,3 +105,18 @@ below_64 n fits = omega (arith, fits)
 
 pub below_128 : (n : ℕ) → Fits w128 n → n < 256 ^ 16
 below_128 n fits = omega (arith, fits)
+
+pub within_8 : (n : ℕ) → n < 256 ^ 1 → (n < 2 ^ bits w8) × Fits w8 n
+within_8 n below = (below, omega (arith, below))
+
+pub within_16 : (n : ℕ) → n < 256 ^ 2 → (n < 2 ^ bits w16) × Fits w16 n
+within_16 n below = (below, omega (arith, below))
+
+pub within_32 : (n : ℕ) → n < 256 ^ 4 → (n < 2 ^ bits w32) × Fits w32 n
+within_32 n below = (below, omega (arith, below))
+
+pub within_64 : (n : ℕ) → n < 256 ^ 8 → (n < 2 ^ bits w64) × Fits w64 n
+within_64 n below = (below, omega (arith, below))
+
+pub within_128 : (n : ℕ) → n < 256 ^ 16 → (n < 2 ^ bits w128) × Fits w128 n
+within_128 n below = (below, omega (arith, below))

@@ -22,7 +22,7 @@ pub trait BorshDeserialize: BorshForm + Sized {
     ghost MayAsk: { List ℕ → Type 0 };
 
     /// Reads the value whose spelling begins the input. What follows stays unread. A whole number is read by one call, and
-    /// the bytes of a list of bytes by blocks; memory is asked for only where a `TinyVec` moves to the heap.
+    /// a list of whole numbers by blocks; memory is asked for only where a `TinyVec` moves to the heap.
     fn deserialize_reader<R: Read>(
         alloc: Global,
         reader: &mut Counted<R>,

@@ -1,4 +1,5 @@
 //! Whole numbers: so many bytes, least first.
 
+mod blocks;
 mod signed;
 mod unsigned;

@@ -55,7 +55,13 @@ fn bytes_are_written_at_once(rt: HostRuntime) {
     assert!(rt; calls_to_write(&7u128) == 1);
     assert!(rt; calls_to_write(&ArrayVec::from_array([7u8; 64])) == 2);
     assert!(rt; calls_to_write(&TinyVec::from_array(rt.alloc(), [7u8; 64])) == 2);
-    assert!(rt; calls_to_write(&ArrayVec::from_array([7u32; 4])) == 5);
+}
+
+#[test]
+fn numbers_are_written_in_blocks(rt: HostRuntime) {
+    assert!(rt; calls_to_write(&ArrayVec::from_array([7u32; 64])) == 2);
+    assert!(rt; calls_to_write(&ArrayVec::from_array([7i16; 65])) == 3);
+    assert!(rt; calls_to_write(&TinyVec::from_array(rt.alloc(), [7i128; 129])) == 4);
 }
 
 #[test]
@@ -69,5 +75,19 @@ fn bytes_are_read_in_blocks(rt: HostRuntime) -> Result<(), Fail> {
     assert!(rt; calls_to_read::<ArrayVec<[u8; 1500]>>(rt.alloc(), bytes.as_slice()) == 2);
     let blocks = calls_to_read::<TinyVec<[u8; 4]>>(rt.alloc(), bytes.as_slice());
     assert!(rt; blocks == 3, "memory was granted");
+    Ok(())
+}
+
+#[test]
+fn numbers_are_read_in_blocks(rt: HostRuntime) -> Result<(), Fail> {
+    let mut bytes = Vec::with_capacity(rt.alloc(), 2000)?;
+    bytes.extend_from_slice(&[65, 0, 0, 0, 0, 0, 0, 0])?;
+    for _ in 0..1500 {
+        bytes.push(7)?;
+    }
+    assert!(rt; calls_to_read::<ArrayVec<[i8; 65]>>(rt.alloc(), bytes.as_slice()) == 2);
+    assert!(rt; calls_to_read::<ArrayVec<[u32; 65]>>(rt.alloc(), bytes.as_slice()) == 3);
+    let blocks = calls_to_read::<TinyVec<[i128; 4]>>(rt.alloc(), bytes.as_slice());
+    assert!(rt; blocks == 6, "memory was granted");
     Ok(())
 }

@@ -4,8 +4,10 @@ ghost use Rattle.std.specs.Int.{w8, w16, w32, w64, w128};
 ghost use Rattle.std.proofs.Common.{lit<};
 ghost use Rattle.tinyvec_borsh.specs.Number.{SpellsSigned};
 ghost use Rattle.tinyvec_borsh.specs.NumberLaws.{below_8, below_16, below_32, below_64, below_128};
-ghost use Rattle.tinyvec_borsh.specs.NumberLaws.{signed_apart, signed_code, signed_spelled};
+ghost use Rattle.tinyvec_borsh.specs.NumberLaws.{signed_apart, signed_code, signed_spelled, signed_spelled_by};
+ghost use Rattle.tinyvec_borsh.specs.NumberLaws.{within_8, within_16, within_32, within_64, within_128};
 
+use super::blocks::{FixedWidth, read_numbers, write_numbers};
 use crate::bytes::{read_bytes, write_bytes};
 use crate::{BorshDeserialize, BorshError, BorshForm, BorshSerialize};
 use std::alloc::Global;
@@ -30,6 +32,13 @@ impl BorshSerialize for i8 {
     fn serialize<W: Write>(&self, writer: &mut Counted<W>) -> Result<(), BorshError> {
         write_bytes(writer, &i8::to_le_bytes(*self))
     }
+
+    fn serialize_items<W: Write>(
+        items: &[Self],
+        writer: &mut Counted<W>,
+    ) -> Result<(), BorshError> {
+        write_numbers::<Self, 1, W>(items, writer)
+    }
 }
 
 impl BorshDeserialize for i8 {
@@ -49,6 +58,29 @@ impl BorshDeserialize for i8 {
         read_bytes(reader, &mut bytes)?;
         Ok(i8::from_le_bytes(bytes))
     }
+
+    fn deserialize_slots<R: Read>(
+        _alloc: Global,
+        slots: &mut [Self],
+        reader: &mut Counted<R>,
+    ) -> Result<(), BorshError> {
+        read_numbers::<Self, 1, R>(slots, reader)
+    }
+}
+
+impl FixedWidth<1> for i8 {
+    fn to_bytes(self) -> [u8; 1] {
+        i8::to_le_bytes(self)
+    }
+
+    fn from_bytes(spelling: [u8; 1]) -> Self
+        ensures spelled { SpellsSigned w8 1 result spelling }
+        ensures fits { FitsSigned w8 result }
+    {
+        i8::from_le_bytes(spelling)
+    }
+
+    ghost spells_one = { signed_spelled_by w8 1 within_8 };
 }
 
 impl BorshForm for i16 {
@@ -69,6 +101,13 @@ impl BorshSerialize for i16 {
     fn serialize<W: Write>(&self, writer: &mut Counted<W>) -> Result<(), BorshError> {
         write_bytes(writer, &i16::to_le_bytes(*self))
     }
+
+    fn serialize_items<W: Write>(
+        items: &[Self],
+        writer: &mut Counted<W>,
+    ) -> Result<(), BorshError> {
+        write_numbers::<Self, 2, W>(items, writer)
+    }
 }
 
 impl BorshDeserialize for i16 {
@@ -88,6 +127,29 @@ impl BorshDeserialize for i16 {
         read_bytes(reader, &mut bytes)?;
         Ok(i16::from_le_bytes(bytes))
     }
+
+    fn deserialize_slots<R: Read>(
+        _alloc: Global,
+        slots: &mut [Self],
+        reader: &mut Counted<R>,
+    ) -> Result<(), BorshError> {
+        read_numbers::<Self, 2, R>(slots, reader)
+    }
+}
+
+impl FixedWidth<2> for i16 {
+    fn to_bytes(self) -> [u8; 2] {
+        i16::to_le_bytes(self)
+    }
+
+    fn from_bytes(spelling: [u8; 2]) -> Self
+        ensures spelled { SpellsSigned w16 2 result spelling }
+        ensures fits { FitsSigned w16 result }
+    {
+        i16::from_le_bytes(spelling)
+    }
+
+    ghost spells_one = { signed_spelled_by w16 2 within_16 };
 }
 
 impl BorshForm for i32 {
@@ -108,6 +170,13 @@ impl BorshSerialize for i32 {
     fn serialize<W: Write>(&self, writer: &mut Counted<W>) -> Result<(), BorshError> {
         write_bytes(writer, &i32::to_le_bytes(*self))
     }
+
+    fn serialize_items<W: Write>(
+        items: &[Self],
+        writer: &mut Counted<W>,
+    ) -> Result<(), BorshError> {
+        write_numbers::<Self, 4, W>(items, writer)
+    }
 }
 
 impl BorshDeserialize for i32 {
@@ -127,6 +196,29 @@ impl BorshDeserialize for i32 {
         read_bytes(reader, &mut bytes)?;
         Ok(i32::from_le_bytes(bytes))
     }
+
+    fn deserialize_slots<R: Read>(
+        _alloc: Global,
+        slots: &mut [Self],
+        reader: &mut Counted<R>,
+    ) -> Result<(), BorshError> {
+        read_numbers::<Self, 4, R>(slots, reader)
+    }
+}
+
+impl FixedWidth<4> for i32 {
+    fn to_bytes(self) -> [u8; 4] {
+        i32::to_le_bytes(self)
+    }
+
+    fn from_bytes(spelling: [u8; 4]) -> Self
+        ensures spelled { SpellsSigned w32 4 result spelling }
+        ensures fits { FitsSigned w32 result }
+    {
+        i32::from_le_bytes(spelling)
+    }
+
+    ghost spells_one = { signed_spelled_by w32 4 within_32 };
 }
 
 impl BorshForm for i64 {
@@ -147,6 +239,13 @@ impl BorshSerialize for i64 {
     fn serialize<W: Write>(&self, writer: &mut Counted<W>) -> Result<(), BorshError> {
         write_bytes(writer, &i64::to_le_bytes(*self))
     }
+
+    fn serialize_items<W: Write>(
+        items: &[Self],
+        writer: &mut Counted<W>,
+    ) -> Result<(), BorshError> {
+        write_numbers::<Self, 8, W>(items, writer)
+    }
 }
 
 impl BorshDeserialize for i64 {
@@ -166,6 +265,29 @@ impl BorshDeserialize for i64 {
         read_bytes(reader, &mut bytes)?;
         Ok(i64::from_le_bytes(bytes))
     }
+
+    fn deserialize_slots<R: Read>(
+        _alloc: Global,
+        slots: &mut [Self],
+        reader: &mut Counted<R>,
+    ) -> Result<(), BorshError> {
+        read_numbers::<Self, 8, R>(slots, reader)
+    }
+}
+
+impl FixedWidth<8> for i64 {
+    fn to_bytes(self) -> [u8; 8] {
+        i64::to_le_bytes(self)
+    }
+
+    fn from_bytes(spelling: [u8; 8]) -> Self
+        ensures spelled { SpellsSigned w64 8 result spelling }
+        ensures fits { FitsSigned w64 result }
+    {
+        i64::from_le_bytes(spelling)
+    }
+
+    ghost spells_one = { signed_spelled_by w64 8 within_64 };
 }
 
 impl BorshForm for i128 {
@@ -186,6 +308,13 @@ impl BorshSerialize for i128 {
     fn serialize<W: Write>(&self, writer: &mut Counted<W>) -> Result<(), BorshError> {
         write_bytes(writer, &i128::to_le_bytes(*self))
     }
+
+    fn serialize_items<W: Write>(
+        items: &[Self],
+        writer: &mut Counted<W>,
+    ) -> Result<(), BorshError> {
+        write_numbers::<Self, 16, W>(items, writer)
+    }
 }
 
 impl BorshDeserialize for i128 {
@@ -205,4 +334,27 @@ impl BorshDeserialize for i128 {
         read_bytes(reader, &mut bytes)?;
         Ok(i128::from_le_bytes(bytes))
     }
+
+    fn deserialize_slots<R: Read>(
+        _alloc: Global,
+        slots: &mut [Self],
+        reader: &mut Counted<R>,
+    ) -> Result<(), BorshError> {
+        read_numbers::<Self, 16, R>(slots, reader)
+    }
+}
+
+impl FixedWidth<16> for i128 {
+    fn to_bytes(self) -> [u8; 16] {
+        i128::to_le_bytes(self)
+    }
+
+    fn from_bytes(spelling: [u8; 16]) -> Self
+        ensures spelled { SpellsSigned w128 16 result spelling }
+        ensures fits { FitsSigned w128 result }
+    {
+        i128::from_le_bytes(spelling)
+    }
+
+    ghost spells_one = { signed_spelled_by w128 16 within_128 };
 }

@@ -2,8 +2,9 @@
 ghost use Rattle.std.specs.Prelude.{◌<◌, ◌^◌, ℕ, length};
 ghost use Rattle.std.proofs.Common.{lit<};
 ghost use Rattle.tinyvec_borsh.specs.Number.{SpellsNumber};
-ghost use Rattle.tinyvec_borsh.specs.NumberLaws.{number_apart, number_code, number_spelled};
+ghost use Rattle.tinyvec_borsh.specs.NumberLaws.{number_apart, number_code, number_spelled, number_spelled_by};
 
+use super::blocks::{FixedWidth, read_numbers, write_numbers};
 use crate::bytes::{read_bytes, write_bytes};
 use crate::{BorshDeserialize, BorshError, BorshForm, BorshSerialize};
 use std::alloc::Global;
@@ -83,6 +84,13 @@ impl BorshSerialize for u16 {
     fn serialize<W: Write>(&self, writer: &mut Counted<W>) -> Result<(), BorshError> {
         write_bytes(writer, &u16::to_le_bytes(*self))
     }
+
+    fn serialize_items<W: Write>(
+        items: &[Self],
+        writer: &mut Counted<W>,
+    ) -> Result<(), BorshError> {
+        write_numbers::<Self, 2, W>(items, writer)
+    }
 }
 
 impl BorshDeserialize for u16 {
@@ -102,6 +110,29 @@ impl BorshDeserialize for u16 {
         read_bytes(reader, &mut bytes)?;
         Ok(u16::from_le_bytes(bytes))
     }
+
+    fn deserialize_slots<R: Read>(
+        _alloc: Global,
+        slots: &mut [Self],
+        reader: &mut Counted<R>,
+    ) -> Result<(), BorshError> {
+        read_numbers::<Self, 2, R>(slots, reader)
+    }
+}
+
+impl FixedWidth<2> for u16 {
+    fn to_bytes(self) -> [u8; 2] {
+        u16::to_le_bytes(self)
+    }
+
+    fn from_bytes(spelling: [u8; 2]) -> Self
+        ensures spelled { SpellsNumber 2 result spelling }
+        ensures fits { result < 2 ^ 16 }
+    {
+        u16::from_le_bytes(spelling)
+    }
+
+    ghost spells_one = { number_spelled_by 2 };
 }
 
 impl BorshForm for u32 {
@@ -122,6 +153,13 @@ impl BorshSerialize for u32 {
     fn serialize<W: Write>(&self, writer: &mut Counted<W>) -> Result<(), BorshError> {
         write_bytes(writer, &u32::to_le_bytes(*self))
     }
+
+    fn serialize_items<W: Write>(
+        items: &[Self],
+        writer: &mut Counted<W>,
+    ) -> Result<(), BorshError> {
+        write_numbers::<Self, 4, W>(items, writer)
+    }
 }
 
 impl BorshDeserialize for u32 {
@@ -141,6 +179,29 @@ impl BorshDeserialize for u32 {
         read_bytes(reader, &mut bytes)?;
         Ok(u32::from_le_bytes(bytes))
     }
+
+    fn deserialize_slots<R: Read>(
+        _alloc: Global,
+        slots: &mut [Self],
+        reader: &mut Counted<R>,
+    ) -> Result<(), BorshError> {
+        read_numbers::<Self, 4, R>(slots, reader)
+    }
+}
+
+impl FixedWidth<4> for u32 {
+    fn to_bytes(self) -> [u8; 4] {
+        u32::to_le_bytes(self)
+    }
+
+    fn from_bytes(spelling: [u8; 4]) -> Self
+        ensures spelled { SpellsNumber 4 result spelling }
+        ensures fits { result < 2 ^ 32 }
+    {
+        u32::from_le_bytes(spelling)
+    }
+
+    ghost spells_one = { number_spelled_by 4 };
 }
 
 impl BorshForm for u64 {
@@ -161,6 +222,13 @@ impl BorshSerialize for u64 {
     fn serialize<W: Write>(&self, writer: &mut Counted<W>) -> Result<(), BorshError> {
         write_bytes(writer, &u64::to_le_bytes(*self))
     }
+
+    fn serialize_items<W: Write>(
+        items: &[Self],
+        writer: &mut Counted<W>,
+    ) -> Result<(), BorshError> {
+        write_numbers::<Self, 8, W>(items, writer)
+    }
 }
 
 impl BorshDeserialize for u64 {
@@ -180,6 +248,29 @@ impl BorshDeserialize for u64 {
         read_bytes(reader, &mut bytes)?;
         Ok(u64::from_le_bytes(bytes))
     }
+
+    fn deserialize_slots<R: Read>(
+        _alloc: Global,
+        slots: &mut [Self],
+        reader: &mut Counted<R>,
+    ) -> Result<(), BorshError> {
+        read_numbers::<Self, 8, R>(slots, reader)
+    }
+}
+
+impl FixedWidth<8> for u64 {
+    fn to_bytes(self) -> [u8; 8] {
+        u64::to_le_bytes(self)
+    }
+
+    fn from_bytes(spelling: [u8; 8]) -> Self
+        ensures spelled { SpellsNumber 8 result spelling }
+        ensures fits { result < 2 ^ 64 }
+    {
+        u64::from_le_bytes(spelling)
+    }
+
+    ghost spells_one = { number_spelled_by 8 };
 }
 
 impl BorshForm for u128 {
@@ -200,6 +291,13 @@ impl BorshSerialize for u128 {
     fn serialize<W: Write>(&self, writer: &mut Counted<W>) -> Result<(), BorshError> {
         write_bytes(writer, &u128::to_le_bytes(*self))
     }
+
+    fn serialize_items<W: Write>(
+        items: &[Self],
+        writer: &mut Counted<W>,
+    ) -> Result<(), BorshError> {
+        write_numbers::<Self, 16, W>(items, writer)
+    }
 }
 
 impl BorshDeserialize for u128 {
@@ -219,4 +317,27 @@ impl BorshDeserialize for u128 {
         read_bytes(reader, &mut bytes)?;
         Ok(u128::from_le_bytes(bytes))
     }
+
+    fn deserialize_slots<R: Read>(
+        _alloc: Global,
+        slots: &mut [Self],
+        reader: &mut Counted<R>,
+    ) -> Result<(), BorshError> {
+        read_numbers::<Self, 16, R>(slots, reader)
+    }
+}
+
+impl FixedWidth<16> for u128 {
+    fn to_bytes(self) -> [u8; 16] {
+        u128::to_le_bytes(self)
+    }
+
+    fn from_bytes(spelling: [u8; 16]) -> Self
+        ensures spelled { SpellsNumber 16 result spelling }
+        ensures fits { result < 2 ^ 128 }
+    {
+        u128::from_le_bytes(spelling)
+    }
+
+    ghost spells_one = { number_spelled_by 16 };
 }

@@ -1,0 +1,15 @@
+use Rattle.std.proofs.Common.{◌≡◌, ◌≤◌, ◌-◌, length, map, take}
+use Rattle.tinyvec_borsh.proofs.Blocks.{TookItems}
+use Rattle.tinyvec_borsh.proofs.numbers.blocks.read_numbers.Given as goal
+
+-- the slots so far were read
+abbrev pub invariant-loop-start : goal.invariant-loop-start
+invariant-loop-start g l = record {
+  read : TookItems g.T.BorshForm.Spells g.T.BorshForm.Fits (map g.T.BorshForm.content_of (take l.start l.slots)) (g.R.Read.remaining l.fn.reader.end) (g.R.Read.remaining l.reader.end);
+  many : length l.slots ≡ length l.fn.slots;
+  within : l.start ≤ length l.slots;
+  grows : l.fn.reader.faults ≤ l.reader.faults;
+}
+
+abbrev pub decreases-loop-start : goal.decreases-loop-start
+decreases-loop-start g l = length l.slots - l.start
