@@ -56,6 +56,11 @@ impl<const N: usize> InlineText<N> {
         ensures width { length (encode_utf8 c) ≤ 4 }
         ensures ascii { c < 128 → encode_utf8 c ≡ c ∷ [] }
     {
+        // Most characters are ASCII, and take a byte.
+        if c.is_ascii() {
+            self.list.push(c as u8)?;
+            return Ok(());
+        }
         let mut buffer = [0; 4];
         self.push_str(c.encode_utf8(&mut buffer))?;
         Ok(())
