@@ -1,5 +1,5 @@
 -- Equality of lists, part by part.
-use Rattle.std.proofs.Common.{◌≡◌, ℕ, Option, Some, None, true≢false, min, suc, zero, ◌+◌, ◌-◌, ◌<◌, ◌≤◌, Bool, true, false, ◌&&◌, List, [], ◌∷◌, ◌++◌, length, length-drop, length-take-le, get_or, take, drop, refl, sym, ◌∙◌, ap, arith, rules, add-one}
+use Rattle.std.proofs.Common.{◌≡◌, ℕ, Option, Some, None, true≢false, min, suc, zero, ◌+◌, ◌-◌, ◌%◌, ◌<◌, ◌≤◌, Bool, true, false, ◌&&◌, List, [], ◌∷◌, ◌++◌, length, length-drop, length-take-le, get_or, take, drop, refl, sym, ◌∙◌, ap, arith, rules, add-one}
 use Rattle.std.specs.Cmp.{IsPartialOrder, Equal-is, first_so, second_so}
 use Rattle.std.specs.Cmp.Lexicographic.{pointwise, slice_cmp, slice_partial_cmp}
 use Rattle.tinyvec_slots.specs.Comparing.{FirstDifference}
@@ -8,6 +8,8 @@ use Rattle.std.specs.declared.cmp.Ordering.{Ordering}
 use Rattle.std.specs.declared.cmp.Ordering.TheVariants.{Less, Equal, Greater}
 use Rattle.std.proofs.lemmas.List.{take_all, take_rest, get_or-take}
 use Rattle.std.proofs.Math.Seq.{take-add}
+use Rattle.std.proofs.Math.Nat.{mod-eq-sub-mod}
+use Rattle.std.proofs.lemmas.Nat.Gcd.{dvd_of_mod-eq-zero, le_of_dvd}
 
 and_assoc : (a b c : Bool) → (a && b) && c ≡ a && (b && c)
 and_assoc true b c = refl
@@ -25,6 +27,16 @@ nat_cmp-greater n = search rules
 
 nat_cmp-suc : (m n : ℕ) → nat_cmp (suc m) (suc n) ≡ nat_cmp m n
 nat_cmp-suc m n = search rules
+
+-- what is left consists of blocks of n, so there is one
+pub block_fits : (n left : ℕ) → left % n ≡ 0 → 0 < left → n ≤ left
+block_fits n left blocks some = le_of_dvd some (dvd_of_mod-eq-zero n blocks)
+
+-- and what is left behind it consists of blocks too
+pub blocks_behind : (n done len : ℕ) → (len - done) % n ≡ 0 → n ≤ len - done → (len - (done + n)) % n ≡ 0
+blocks_behind n done len blocks fits =
+    let e : len - (done + n) ≡ len - done - n = omega arith in
+    rw e (sym (mod-eq-sub-mod fits) ∙ blocks)
 
 module _ {T : Type 0} (E : T → T → Bool) where
   -- the first n items, and the others

@@ -1,5 +1,5 @@
 //! Equality and order of slices, in blocks.
-ghost use Rattle.std.specs.Prelude.{◌≡◌, ◌-◌, ◌<◌, ◌≤◌, false, length, take};
+ghost use Rattle.std.specs.Prelude.{◌≡◌, ◌-◌, ◌%◌, ◌<◌, ◌≤◌, false, length, take};
 ghost use Rattle.std.specs.Cmp.Lexicographic.{pointwise, slice_cmp, slice_partial_cmp};
 ghost use Rattle.std.specs.Hash as fed;
 ghost use Rattle.std.specs.List.{fold};
@@ -19,32 +19,70 @@ pub fn same_items<T: PartialEq>(a: &[T], b: &[T]) -> bool
     if a.len() != b.len() {
         return false;
     }
-    if a.len() < 4 || are_large(a) {
+    if are_large(a) {
         return *a == *b;
     }
-    // Bytes are compared by the block as fast as by the item, and more of them at once.
-    if are_bytes(a) {
-        let many = pass_same::<T, 64>(a, b, 0);
-        return a.len() - many < 64 && same_from(a, b, many);
-    }
-    // Most lists that differ do so in their first items.
-    same_block::<T, 4>(a, b) && same_from(a, b, 4)
+    let front = before_long_blocks(a);
+    same_by_64(&a[..front], &b[..front]) && same_blocks::<T, 256>(&a[front..], &b[front..])
 }
 
-// From `start` on, where all before are equal pair by pair: whether all are.
+// How many items stand before blocks of 256: of bytes so many as fill none, else all. A block of 256 bytes is compared as
+// fast as one of 64 numbers of four bytes.
 #[inline(always)]
-fn same_from<T: PartialEq>(a: &[T], b: &[T], start: usize) -> bool
+fn before_long_blocks<T>(items: &[T]) -> usize
+    ensures within { result ≤ length items.now }
+    ensures blocks { (length items.now - result) % 256 ≡ 0 }
+{
+    if 256 <= items.len() && are_bytes(items) {
+        return items.len() % 256;
+    }
+    items.len()
+}
+
+// The items that fill no block of 64, and then such blocks.
+#[inline(always)]
+fn same_by_64<T: PartialEq>(a: &[T], b: &[T]) -> bool
     requires as_long { length a.now ≡ length b.now }
-    requires from_within { start ≤ length a.now }
-    requires same_before { SameInFront T.eq a.now b.now start }
     ensures { result ≡ pointwise T.eq a.now b.now }
 {
-    let more = pass_same::<T, 16>(a, b, start);
-    if 16 <= a.len() - more {
-        return false;
+    let front = a.len() % 64;
+    same_by_16(&a[..front], &b[..front]) && same_blocks::<T, 64>(&a[front..], &b[front..])
+}
+
+#[inline(always)]
+fn same_by_16<T: PartialEq>(a: &[T], b: &[T]) -> bool
+    requires as_long { length a.now ≡ length b.now }
+    ensures { result ≡ pointwise T.eq a.now b.now }
+{
+    let front = a.len() % 16;
+    same_by_4(&a[..front], &b[..front]) && same_blocks::<T, 16>(&a[front..], &b[front..])
+}
+
+#[inline(always)]
+fn same_by_4<T: PartialEq>(a: &[T], b: &[T]) -> bool
+    requires as_long { length a.now ≡ length b.now }
+    ensures { result ≡ pointwise T.eq a.now b.now }
+{
+    let front = a.len() % 4;
+    a[..front] == b[..front] && same_blocks::<T, 4>(&a[front..], &b[front..])
+}
+
+// The same of slices that consist of blocks of N items.
+#[inline(always)]
+fn same_blocks<T: PartialEq, const N: usize>(a: &[T], b: &[T]) -> bool
+    requires some { 0 < N }
+    requires blocks { length a.now % N ≡ 0 }
+    requires as_long { length a.now ≡ length b.now }
+    ensures { result ≡ pointwise T.eq a.now b.now }
+{
+    let mut next = 0;
+    while next < a.len() {
+        if !same_block::<T, N>(&a[next..], &b[next..]) {
+            return false;
+        }
+        next += N;
     }
-    let done = pass_same::<T, 4>(a, b, more);
-    a.len() - done < 4 && a[done..] == b[done..]
+    true
 }
 
 /// How the first pair that is not equal is ordered, and else the lengths. It is what `a.partial_cmp(b)` answers.
@@ -93,11 +131,8 @@ fn are_large<T>(items: &[T]) -> bool {
 
 // Whether an item takes one byte.
 #[inline(always)]
-fn are_bytes<T>(items: &[T]) -> bool
-    requires some { 0 < length items.now }
-{
-    let first = &items[..1];
-    first.len() * mem::size_of::<T>() == 1
+fn are_bytes<T>(items: &[T]) -> bool {
+    items.len() * mem::size_of::<T>() == items.len()
 }
 
 // Where the first pair stands that is not equal, or how many pairs there are.
@@ -107,15 +142,13 @@ fn first_difference<T: PartialEq>(a: &[T], b: &[T]) -> usize
     ensures { FirstDifference T.eq a.now b.now (length a.now) result }
 {
     // Most lists that differ do so in their first items.
-    let one = a.len().min(1);
-    let first = difference_before(a, b, 0, one);
-    if first < one {
-        return first;
+    if a.is_empty() || a[0] != b[0] {
+        return 0;
     }
     if are_large(a) {
-        return difference_before(a, b, one, a.len());
+        return difference_before(a, b, 1, a.len());
     }
-    let more = pass_same::<T, 16>(a, b, one);
+    let more = pass_same::<T, 16>(a, b, 1);
     let done = pass_same::<T, 4>(a, b, more);
     difference_before(a, b, done, a.len())
 }
