@@ -64,6 +64,7 @@ impl<T: Default + Drop, const N: usize> Array for [T; N] {
         self.as_mut_slice()
     }
 
+    #[inline(always)]
     fn default() -> Self {
         Default::default()
     }

@@ -8,6 +8,9 @@ use crate::{Array, ArrayVec, TryFromSliceError};
 
 impl<A: Array> ArrayVec<A> {
     /// An empty vector, all of whose slots hold defaults.
+    // Inlined before all else, as those below, so that the compiler knows the length from the start. A vector that a function
+    // makes, fills by a few pushes and returns is then made where the caller wants it.
+    #[inline(always)]
     pub fn new() -> Self
         ensures border { result ≡ split_at 0 (all_slots result) }
         ensures items { items result ≡ [] }
@@ -21,6 +24,7 @@ impl<A: Array> ArrayVec<A> {
     }
 
     /// A full vector, whose list is the whole array.
+    #[inline(always)]
     pub fn from_array(array: A) -> Self
         ensures value { result ≡ split_at A.CAPACITY (A.slots array) }
         ensures items { items result ≡ A.slots array }
@@ -34,6 +38,7 @@ impl<A: Array> ArrayVec<A> {
     }
 
     /// A vector whose list is the first `len` slots of the array. The others are its spare slots.
+    #[inline(always)]
     pub fn from_array_len(array: A, len: usize) -> Self
         requires { len ≤ A.CAPACITY }
         ensures { result ≡ split_at len (A.slots array) }
@@ -42,6 +47,7 @@ impl<A: Array> ArrayVec<A> {
     }
 
     /// An empty vector, whose spare slots are the array.
+    #[inline(always)]
     pub fn from_array_empty(array: A) -> Self
         ensures value { result ≡ split_at 0 (A.slots array) }
         ensures items { items result ≡ [] }
