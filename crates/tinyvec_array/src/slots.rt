@@ -5,7 +5,9 @@ ghost use Rattle.tinyvec_slots.specs.Slots.{AreDefaults};
 
 use crate::Array;
 use std::mem;
-use tinyvec_slots::{are_few, insert_shifting, last_to, part_to_end, remove_shifting, reset};
+use tinyvec_slots::{
+    are_short, insert_shifting, last_to, part_to_end, remove_shifting, reset_at_most,
+};
 
 // Writes `x` into the slot at `i`.
 pub(crate) fn put<A: Array>(array: &mut A, i: usize, x: A::Item)
@@ -65,9 +67,8 @@ pub(crate) fn clear<A: Array>(array: &mut A, start: usize, end: usize)
     ensures len { length (A.slots array.old) ≡ A.CAPACITY }
 {
     let slots = array.as_slice_mut();
-    // The minimum is the difference. By it the compiler leaves out what more slots than the array has would need.
-    let count = (end - start).min(slots.len());
-    reset(&mut slots[start..start + count]);
+    let most = slots.len();
+    reset_at_most(&mut slots[start..end], most);
 }
 
 // Moves the slots from `start` up to `end` behind the others below `len`.
@@ -83,10 +84,15 @@ pub(crate) fn slots_to_end<A: Array>(array: &mut A, start: usize, end: usize, le
     part_to_end(array.as_slice_mut(), start, end, len);
 }
 
-// Whether so many slots of an `A` are moved one by one. Where it has no more in all, the compiler knows the answer.
+// Whether the slots from `start` up to `end` are moved one by one. Where an `A` has no more in all, the compiler knows the
+// answer.
 #[inline(always)]
-pub(crate) fn are_few_of<A: Array>(count: usize) -> bool {
-    are_few(A::CAPACITY) || are_few(count)
+pub(crate) fn are_short_of<A: Array>(array: &A, start: usize, end: usize) -> bool
+    requires start_le_end { start ≤ end }
+    requires in_bounds { end ≤ A.CAPACITY }
+{
+    let slots = array.as_slice();
+    are_short(slots) || are_short(&slots[start..end])
 }
 
 // Puts `x` into the slot at `index`, and moves those from there on up, over the one at `len`.

@@ -25,5 +25,5 @@ pub use printing::{
     InBinary, InHex, InOctal, InUpperHex, ItemText, Plain, write_items, write_named,
 };
 pub use range::{part, resolve};
-pub use resetting::reset;
-pub use shifting::{are_few, insert_shifting, remove_shifting};
+pub use resetting::{reset, reset_at_most};
+pub use shifting::{are_few, are_short, insert_shifting, remove_shifting};

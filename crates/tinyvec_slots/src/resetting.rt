@@ -6,12 +6,32 @@ ghost use Rattle.tinyvec_slots.specs.Slots.{AreDefaults};
 pub fn reset<T: Default + Drop>(slots: &mut [T])
     ensures { AreDefaults T.is_default (length slots.old) slots.new }
 {
-    let many = slots.len() / 16 * 16;
-    reset_each(&mut slots[..many]);
-    reset_few(&mut slots[many..]);
+    reset_at_most(slots, usize::MAX);
 }
 
-// The same, slot by slot. For numbers it is a call that fills memory, which takes some time beforehand.
+/// The same of at most `most` slots. Where the compiler knows `most`, it leaves out what more slots would need. Of few slots the
+/// first and the last are written, which may overlap: for numbers these are a few writes in place of a call that fills memory.
+pub fn reset_at_most<T: Default + Drop>(slots: &mut [T], most: usize)
+    requires { length slots.old ≤ most }
+    ensures { AreDefaults T.is_default (length slots.old) slots.new }
+{
+    let count = slots.len();
+    if most > 32 && count > 32 {
+        reset_each(slots);
+    } else if most > 16 && count > 16 {
+        reset_ends::<T, 16>(slots);
+    } else if most > 8 && count > 8 {
+        reset_ends::<T, 8>(slots);
+    } else if most > 4 && count > 4 {
+        reset_ends::<T, 4>(slots);
+    } else if most > 2 && count > 2 {
+        reset_ends::<T, 2>(slots);
+    } else if count > 0 {
+        reset_ends::<T, 1>(slots);
+    }
+}
+
+// The same, slot by slot.
 fn reset_each<T: Default + Drop>(slots: &mut [T])
     ensures { AreDefaults T.is_default (length slots.old) slots.new }
 {
@@ -20,26 +40,13 @@ fn reset_each<T: Default + Drop>(slots: &mut [T])
     }
 }
 
-// The same of fewer than 16 slots, by halves, each of which is a few writes.
-fn reset_few<T: Default + Drop>(slots: &mut [T])
-    requires { length slots.old < 16 }
+// The same, the first N slots and the last N.
+fn reset_ends<T: Default + Drop, const N: usize>(slots: &mut [T])
+    requires enough { N ≤ length slots.old }
+    requires no_gap { length slots.old ≤ 2 * N }
     ensures { AreDefaults T.is_default (length slots.old) slots.new }
 {
-    let eight = reset_first::<T, 8>(slots);
-    let four = eight + reset_first::<T, 4>(&mut slots[eight..]);
-    let two = four + reset_first::<T, 2>(&mut slots[four..]);
-    reset_first::<T, 1>(&mut slots[two..]);
-}
-
-// Writes defaults into the first N slots, where there are so many, and answers how many it wrote.
-fn reset_first<T: Default + Drop, const N: usize>(slots: &mut [T]) -> usize
-    ensures within { result ≤ length slots.old }
-    ensures after { (ds : List T) × AreDefaults T.is_default result ds × (slots.new ≡ ds ++ drop result slots.old) }
-    ensures halves { length slots.old < 2 * N → length slots.old - result < N }
-{
-    if slots.len() < N {
-        return 0;
-    }
+    let back = slots.len() - N;
     reset_each(&mut slots[..N]);
-    N
+    reset_each(&mut slots[back..]);
 }

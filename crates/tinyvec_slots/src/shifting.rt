@@ -9,6 +9,12 @@ pub fn are_few(count: usize) -> bool {
     count <= 64
 }
 
+/// Whether the items are moved sooner one by one than as a whole, by a call that moves memory.
+#[inline(always)]
+pub fn are_short<T>(items: &[T]) -> bool {
+    items.len() * mem::size_of::<T>() <= 128
+}
+
 /// Puts `x` at `index` among the first `len` items, and moves those from there on up, over the item at `len`.
 pub fn insert_shifting<T: Drop>(slots: &mut [T], index: usize, len: usize, x: T)
     requires in_list { index ≤ len }

@@ -3,7 +3,7 @@ ghost use Rattle.std.specs.Prelude.{◌≡◌, ◌+◌, ◌-◌, ◌<◌, ◌≤
 ghost use Rattle.std.specs.List.{swap_remove, SwappedAt};
 ghost use Rattle.tinyvec_slots.specs.Slots.{items, spare, items_len, Frees};
 
-use crate::slots::{are_few_of, insert_slot, last_slot_to, remove_slot};
+use crate::slots::{are_short_of, insert_slot, last_slot_to, remove_slot};
 use crate::{Array, ArrayVec};
 
 impl<A: Array> ArrayVec<A> {
@@ -16,7 +16,7 @@ impl<A: Array> ArrayVec<A> {
         ensures fits { items_len self.new ≤ A.CAPACITY }
     {
         let len = self.len();
-        if are_few_of::<A>(len - i) {
+        if are_short_of(&self.array, i, len) {
             insert_slot(&mut self.array, i, len, x);
             self.len = len + 1;
             return;
@@ -51,7 +51,7 @@ impl<A: Array> ArrayVec<A> {
         ensures fits { items_len self.new < A.CAPACITY }
     {
         let len = self.len();
-        if are_few_of::<A>(len - i) {
+        if are_short_of(&self.array, i, len) {
             let item = remove_slot(&mut self.array, i, len);
             self.len = len - 1;
             return item;

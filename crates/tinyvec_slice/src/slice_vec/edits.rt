@@ -5,7 +5,7 @@ ghost use Rattle.tinyvec_slice.specs.View.{items_of, spare_of, name_of, len_of, 
 
 use crate::slots::{insert_slot, last_slot_to, remove_slot};
 use crate::{Lent, SliceVecOver};
-use tinyvec_slots::are_few;
+use tinyvec_slots::are_short;
 
 impl<B: Lent> SliceVecOver<B> {
     /// Puts `x` at `i`, and moves the later items up.
@@ -17,7 +17,7 @@ impl<B: Lent> SliceVecOver<B> {
         ensures spare { spare_of B.Lent self.new ≡ drop 1 (spare_of B.Lent self.old) }
     {
         let len = self.len();
-        if are_few(len - i) {
+        if are_short(&self.as_slice()[i..]) {
             insert_slot(&mut self.lent, i, len, x);
             self.len = len + 1;
             return;
@@ -53,7 +53,7 @@ where
         ensures spare { FreesOf B.Lent B.Item.is_default 1 self.old self.new }
     {
         let len = self.len();
-        if are_few(len - i) {
+        if are_short(&self.as_slice()[i..]) {
             let item = remove_slot(&mut self.lent, i, len);
             self.len = len - 1;
             return item;

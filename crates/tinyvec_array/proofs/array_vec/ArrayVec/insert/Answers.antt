@@ -2,8 +2,8 @@ use Rattle.std.proofs.Common.{◌≡◌, ◌≤◌, ◌<◌, length, rules}
 use Rattle.tinyvec_slots.proofs.Lists.{drop-inserted}
 use Rattle.tinyvec_array.proofs.array_vec.ArrayVec.insert.Goals as goal
 
-pub returns-then-are_few_of-clause-spare : goal.returns-then-are_few_of-clause-spare
-returns-then-are_few_of-clause-spare g c =
+pub returns-then-are_short_of-clause-spare : goal.returns-then-are_short_of-clause-spare
+returns-then-are_short_of-clause-spare g c =
     let inside = c.self.inside in
     let at : c.len-len.result ≡ inside.len = search rules in
     let slots = g.A.Array.slots inside.array in

@@ -20,8 +20,8 @@ returns-clause-items g c =
     let cut = take_at B M (length (B ++ M) - 1) (omega arith) in
     rw (c.take_last.ensures.rest, c.items_to_end.ensures.items, cut, add-one)
 
-pub returns-then-are_few_of-clause-spare : goal.returns-then-are_few_of-clause-spare
-returns-then-are_few_of-clause-spare g c =
+pub returns-then-are_short_of-clause-spare : goal.returns-then-are_short_of-clause-spare
+returns-then-are_short_of-clause-spare g c =
     let inside = c.self.inside in
     let at : c.len-len.result ≡ inside.len = search rules in
     let slots = g.A.Array.slots inside.array in
@@ -31,16 +31,16 @@ returns-then-are_few_of-clause-spare g c =
     let le : inside.len ≤ length slots = search rules in
     (after.0 ∷ [], (refl, one), rw (after.2, ← c.self.view_is, at) (drop-removed slots c.args.i inside.len after.0 in_list le))
 
-pub returns-then-are_few_of-clause-value : goal.returns-then-are_few_of-clause-value
-returns-then-are_few_of-clause-value g c =
+pub returns-then-are_short_of-clause-value : goal.returns-then-are_short_of-clause-value
+returns-then-are_short_of-clause-value g c =
     let inside = c.self.inside in
     let at : c.len-len.result ≡ inside.len = search rules in
     let x = c.remove_slot-item.result in
     let in_list : c.args.i < inside.len = search rules in
     rw (← c.self.view_is) (c.remove_slot-item.ensures.value ∙ sym (get_or-take inside.len (g.A.Array.slots inside.array) c.args.i x in_list))
 
-pub returns-then-are_few_of-clause-items : goal.returns-then-are_few_of-clause-items
-returns-then-are_few_of-clause-items g c =
+pub returns-then-are_short_of-clause-items : goal.returns-then-are_short_of-clause-items
+returns-then-are_short_of-clause-items g c =
     let inside = c.self.inside in
     let at : c.len-len.result ≡ inside.len = search rules in
     let slots = g.A.Array.slots inside.array in
@@ -51,8 +51,8 @@ returns-then-are_few_of-clause-items g c =
     let less = length-remove (take inside.len slots) i (omega (arith, c.requires, long, at)) in
     rw (after.2, ← c.self.view_is, at) (take_at (remove (take inside.len slots) i) (after.0 ∷ drop inside.len slots) (inside.len - 1) (omega (arith, less, long)))
 
-pub returns-then-are_few_of-clause-fits : goal.returns-then-are_few_of-clause-fits
-returns-then-are_few_of-clause-fits g c =
+pub returns-then-are_short_of-clause-fits : goal.returns-then-are_short_of-clause-fits
+returns-then-are_short_of-clause-fits g c =
     let most = length-take-most (c.len-len.result - 1) (g.A.Array.slots c.remove_slot-item.new.array) in
     omega (arith, most)
 

@@ -18,8 +18,8 @@ returns-clause-items g c =
     let cut = take_at B M (length (B ++ M) - 1) (omega arith) in
     rw (c.take_last.ensures.rest, c.items_to_end.ensures.items, cut, add-one)
 
-pub returns-then-are_few-clause-spare : goal.returns-then-are_few-clause-spare
-returns-then-are_few-clause-spare g c =
+pub returns-then-are_short-clause-spare : goal.returns-then-are_short-clause-spare
+returns-then-are_short-clause-spare g c =
     let v = c.args.self.now in
     let n = c.len-len.result in
     let after = c.remove_slot-item.ensures.after in
