@@ -1,20 +1,24 @@
 -- The texts of some children, written one after another.
-use Rattle.std.proofs.Common.{◌≡◌, ◌∙◌, ℕ, suc, ◌+◌, ◌-◌, ◌<◌, inl, inr, All, String, string_bytes, subst, length-append, List, [], ◌∷◌, ◌++◌, take, length, get_or, refl, sym, ap, arith, append_assoc, length-take-le}
-use Rattle.std.proofs.lemmas.List.{take_more, get_or_append_left, get_or-append_right}
+use Rattle.std.proofs.Common.{◌≡◌, ◌∙◌, ℕ, ◌+◌, ◌-◌, ◌<◌, inl, inr, All, String, string_bytes, subst, length-append, List, [], ◌∷◌, ◌++◌, map, take, length, get_or, refl, sym, ap, arith, append_assoc, append-nil}
+use Rattle.std.proofs.lemmas.List.{map-append, take_more, get_or_append_left, get_or-append_right}
 use Rattle.std.proofs.lemmas.Bool.Decides.{eqb_tells}
+use Rattle.std.specs.List.{flat_map, join_by}
 use Rattle.std.specs.declared.alloc.Global.{Global}
 use Rattle.example_tree.specs.Tree.{Tree}
 use Rattle.example_tree.specs.Nodes.{form, forms, form_at, children, IsOrdered, trees_of, tree_of, tree_at}
-use Rattle.example_tree.specs.Printed.{sign_text, part_text, part_texts, separated, tree_text, AreTexts}
+use Rattle.example_tree.specs.Printed.{part_text, part_texts, separated, tree_text, AreTexts}
 use Rattle.example_tree.specs.declared.node.Node.{Node}
 use Rattle.example_tree.specs.declared.forest.Operation.{Operation}
 use Rattle.example_tree.proofs.Places.{form_is}
 use Rattle.example_tree.proofs.Readings.{tree_is}
 
-separated_more : (sign : List ℕ) (texts : List (List ℕ)) (text : List ℕ) → 0 < length texts → separated sign (texts ++ text ∷ []) ≡ (separated sign texts ++ sign) ++ text
-separated_more sign [] text some = absurd (omega arith)
-separated_more sign (t ∷ []) text some = sym (append_assoc t sign text)
-separated_more sign (t ∷ (u ∷ us)) text some = ap (λ rest. t ++ (sign ++ rest)) (separated_more sign (u ∷ us) text (omega arith)) ∙ simp append_assoc
+-- the parts, with a sign between
+pub joined_is : (sign : List ℕ) (texts : List (String Global)) → join_by string_bytes sign texts ≡ separated sign (map string_bytes texts)
+joined_is sign [] = refl
+joined_is sign (t ∷ []) = append-nil (string_bytes t)
+joined_is sign (t ∷ (u ∷ us)) =
+    ap (λ rest. string_bytes t ++ rest) (append_assoc sign (string_bytes u) (flat_map (λ text. sign ++ string_bytes text) us))
+    ∙ ap (λ rest. string_bytes t ++ (sign ++ rest)) (joined_is sign (u ∷ us))
 
 module _ (operation : Operation) (tree : ℕ → Tree) where
   abbrev part : ℕ → List ℕ
@@ -27,31 +31,12 @@ module _ (operation : Operation) (tree : ℕ → Tree) where
   parts_more [] id = refl
   parts_more (i ∷ ids) id = ap (λ texts. part i ∷ texts) (parts_more ids id)
 
-  length-parts : (ids : List ℕ) → length (parts ids) ≡ length ids
-  length-parts [] = refl
-  length-parts (i ∷ ids) = ap suc (length-parts ids)
-
   -- the child behind the first ones
-  module _ (ids : List ℕ) (place : ℕ) (inside : place < length ids) where
-    abbrev here : List ℕ
-    here = part (get_or ids place 0)
-
-    abbrev written : ℕ → List ℕ
-    written n = separated (sign_text operation) (parts (take n ids))
-
-    parts_are : parts (take (place + 1) ids) ≡ parts (take place ids) ++ here ∷ []
-    parts_are = ap parts (take_more ids place 0 inside) ∙ parts_more (take place ids) (get_or ids place 0)
-
-    pub first_written : place ≡ 0 → (text : List ℕ) → text ≡ written place → text ++ here ≡ written (place + 1)
-    first_written first text so_far =
-        ap (λ t. t ++ here) (so_far ∙ ap written first)
-        ∙ sym (ap (separated (sign_text operation)) (parts_are ∙ ap (λ n. parts (take n ids) ++ here ∷ []) first))
-
-    pub next_written : 0 < place → (text : List ℕ) → text ≡ written place → (text ++ sign_text operation) ++ here ≡ written (place + 1)
-    next_written later text so_far =
-        ap (λ t. (t ++ sign_text operation) ++ here) so_far
-        ∙ sym (ap (separated (sign_text operation)) parts_are ∙ separated_more (sign_text operation) (parts (take place ids)) here
-        (let count = length-parts (take place ids) in let taken = length-take-le place ids (omega arith) in omega (arith, count, taken)))
+  pub one_part_more : (ids : List ℕ) (place : ℕ) → place < length ids → (texts : List (String Global)) (text : String Global) → map string_bytes texts ≡ parts (take place ids)
+      → string_bytes text ≡ part (get_or ids place 0) → map string_bytes (texts ++ text ∷ []) ≡ parts (take (place + 1) ids)
+  one_part_more ids place inside texts text are is =
+      map-append string_bytes texts (text ∷ []) ∙ ap (λ ts. ts ++ string_bytes text ∷ []) are ∙ ap (λ t. parts (take place ids) ++ t ∷ []) is
+      ∙ sym (ap parts (take_more ids place 0 inside) ∙ parts_more (take place ids) (get_or ids place 0))
 
 -- the texts of the nodes before this one are known
 module _ (nodes : List Node) (ordered : IsOrdered (forms nodes)) (id : ℕ) (node : Node) (inside : id < length nodes) (read : node ≡ get_or nodes id node)

@@ -1,5 +1,5 @@
 //! A tree, written as text.
-ghost use Rattle.std.specs.Prelude.{◌≡◌, ◌++◌, ◌<◌, ◌≤◌, ℕ, length, All, IfOk, OnOk, string_bytes};
+ghost use Rattle.std.specs.Prelude.{◌≡◌, ◌<◌, ◌≤◌, ℕ, length, All, IfOk, string_bytes};
 ghost use Rattle.example_tree.specs.Tree.{Tree};
 ghost use Rattle.example_tree.specs.Nodes.{form, forms, children, tree_of, trees_of, tree_at, IsOrdered};
 ghost use Rattle.example_tree.specs.Printed.{sign_text, part_text, part_texts, separated, tree_text, AreTexts};
@@ -37,14 +37,8 @@ fn node_text(
     match node {
         Node::Number(number) => format!(in alloc; "{number}"),
         Node::Name(name) => String::from_utf8_lossy(alloc, name.as_slice()),
-        Node::Sum(terms) => joined(alloc, Operation::Sum, terms.as_slice(), nodes, texts),
-        Node::Product(factors) => joined(
-            alloc,
-            Operation::Product,
-            factors.as_slice(),
-            nodes,
-            texts,
-        ),
+        Node::Sum(parts) => joined(alloc, Operation::Sum, parts.as_slice(), nodes, texts),
+        Node::Product(parts) => joined(alloc, Operation::Product, parts.as_slice(), nodes, texts),
     }
 }
 
@@ -62,14 +56,12 @@ fn joined(
     ensures { IfOk result (λ text. string_bytes text
         ≡ separated (sign_text operation) (part_texts operation (trees_of (tree_at nodes.now) children.now))) }
 {
-    let mut text = String::new(alloc);
-    for (place, child) in children.iter().enumerate() {
-        if place > 0 {
-            text.push_str(sign(operation))?;
-        }
-        push_part(&mut text, operation, &nodes[*child], texts[*child].as_str())?;
+    let mut parts = Vec::new(alloc);
+    for child in children {
+        let part = part_text(alloc, operation, &nodes[*child], texts[*child].as_str())?;
+        parts.push(part)?;
     }
-    Ok(text)
+    parts.join(alloc, sign(operation))
 }
 
 // What stands between two children.
@@ -82,22 +74,17 @@ fn sign(operation: Operation) -> &'static str
     }
 }
 
-// Puts the text of a child behind another text.
-fn push_part(
-    text: &mut String,
+// The text of a child, where its own is known.
+fn part_text(
+    alloc: Global,
     operation: Operation,
     child: &Node,
-    part: &str,
-) -> Result<(), AllocError>
-    ensures { OnOk result ((tree : ℕ → Tree)
-        → string_bytes text.new ≡ string_bytes text.old ++ part_text operation (tree_of tree (form child.now)) part.now) }
+    text: &str,
+) -> Result<String, AllocError>
+    ensures { IfOk result (λ part. (tree : ℕ → Tree) → string_bytes part ≡ part_text operation (tree_of tree (form child.now)) text.now) }
 {
     match (operation, child) {
-        (Operation::Product, Node::Sum(_) | Node::Product(_)) => {
-            text.push('(')?;
-            text.push_str(part)?;
-            text.push(')')
-        }
-        _ => text.push_str(part),
+        (Operation::Product, Node::Sum(_) | Node::Product(_)) => format!(in alloc; "({text})"),
+        _ => String::from_str(alloc, text),
     }
 }
