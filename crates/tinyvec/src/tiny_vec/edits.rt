@@ -101,6 +101,7 @@ impl<A: Array> TinyVec<A> {
 }
 
 // Takes the item at `i`, and moves the later ones down.
+#[inline(always)]
 fn remove_on_heap<T: Default + Drop>(heap: &mut Vec<T>, i: usize) -> T
     requires { i < vec_len heap.old }
     ensures value { result ≡ slice_index_or heap.old.items i result }
