@@ -3,7 +3,7 @@ use std::alloc::{AllocGlobal, Global};
 use std::process::Abort;
 use std::test::Fail;
 use tinyvec_io::Counted;
-use tinyvec_script::{Answer, run};
+use tinyvec_script::run;
 
 // Room for all that a test here reads or writes.
 pub(crate) const ROOM: usize = 1 << 15;
@@ -47,10 +47,13 @@ pub(crate) fn assert_written(
     Ok(())
 }
 
+// Lines of a script, each with its answer.
+pub(crate) type Lines<'a> = &'a [(&'a [u8], &'a [u8])];
+
 // Asserts that each line of a script is answered so, if no memory is refused.
 pub(crate) fn assert_answered(
     rt: &(impl Abort + AllocGlobal),
-    lines: &[(&[u8], &[u8])],
+    lines: Lines<'_>,
 ) -> Result<(), Fail> {
     let mut input = Vec::with_capacity(rt.alloc(), ROOM)?;
     let mut output = Vec::with_capacity(rt.alloc(), ROOM)?;
@@ -61,14 +64,4 @@ pub(crate) fn assert_answered(
         output.extend_from_slice(b"\n")?;
     }
     assert_written(rt, input.as_slice(), output.as_slice())
-}
-
-// Asserts that a run gives these answers, if no memory is refused.
-pub(crate) fn assert_answers(rt: &impl Abort, answers: &[Answer<i32>], wanted: &[Answer<i32>]) {
-    for (answer, one) in answers.iter().zip(wanted) {
-        let refused = matches!(answer, Answer::Memory | Answer::Spliced(_, _)) && answer != one;
-        assert!(rt; !refused, "memory was granted");
-        assert!(rt; answer == one);
-    }
-    assert!(rt; answers.len() == wanted.len());
 }

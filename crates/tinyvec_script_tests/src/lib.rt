@@ -3,22 +3,20 @@
 
 #[cfg(test)]
 mod answered;
-#[cfg(test)]
-mod array;
 pub mod driven;
 #[cfg(test)]
 mod ends;
+#[cfg(test)]
+mod lines;
 #[cfg(test)]
 mod order;
 #[cfg(test)]
 mod refusals;
 #[cfg(test)]
-mod script;
+mod runs;
 #[cfg(test)]
-mod slices;
+mod script;
 #[cfg(test)]
 mod splices;
 #[cfg(test)]
 mod text;
-#[cfg(test)]
-mod tiny;

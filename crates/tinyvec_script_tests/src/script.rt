@@ -1,99 +1,72 @@
 //! The script, over memory and over ends that fail.
-use crate::answered::{ROOM, assert_answered, assert_written, written};
+use crate::answered::{ROOM, assert_written, written};
 use crate::ends::{Breaks, Fills};
 use std::test::Fail;
 use tinyvec_io::Counted;
 use tinyvec_script::{RunError, run};
 
-// Lines from the start of a script, each with its answer.
-const LINES: [(&[u8], &[u8]); 53] = [
-    (b"A pop", b"none [] [0, 0, 0, 0]"),
-    (b"A push 2", b"ok [2] [0, 0, 0]"),
-    (b"A push 1", b"ok [2, 1] [0, 0]"),
-    (b"A push 3", b"ok [2, 1, 3] [0]"),
-    (b"A push 4", b"ok [2, 1, 3, 4] []"),
-    (b"A push 5", b"full [2, 1, 3, 4] []"),
-    (b"A drain 1 2", b"items [1] [2, 3, 4] [0]"),
-    (b"A drain 1 3", b"items [3, 4] [2] [0, 0, 0]"),
-    (b"A drain 1 0", b"range [2] [0, 0, 0]"),
-    (b"A drain 0 2", b"range [2] [0, 0, 0]"),
-    (b"A drain 1 1", b"items [] [2] [0, 0, 0]"),
-    (b"A pop", b"some 2 [] [0, 0, 0, 0]"),
-    (b"A pop", b"none [] [0, 0, 0, 0]"),
-    (b"A  pop", b"bad"),
-    (b"A push -0", b"bad"),
-    (b"A push 01", b"bad"),
-    (b"A push +1", b"bad"),
-    (b"A push 2147483648", b"bad"),
-    (b"A push 2147483647", b"ok [2147483647] [0, 0, 0]"),
+// Scripts, and what each writes.
+const SCRIPTS: [(&[u8], &[u8]); 8] = [
+    // full vectors are emptied at once
     (
-        b"A push -2147483648",
-        b"ok [2147483647, -2147483648] [0, 0]",
+        b"A setlen 4\nA drain 0 4\nA setlen 4\nA splice 0 4 fbfb 1 2 3 4\nS setlen 4\nS drain 0 4\nT push 1\nT push 2\nT push 3\nT push 4\nT drain 0 4\n",
+        b"ok [0, 0, 0, 0] []\nitems [0, 0, 0, 0] [] [0, 0, 0, 0]\nok [0, 0, 0, 0] []\nitems [0, 0, 0, 0] [1, 2, 3, 4] []\nok [0, 0, 0, 0] []\nitems [0, 0, 0, 0] [] [0, 0, 0, 0]\nok [1] inline\nok [1, 2] inline\nok [1, 2, 3] inline\nok [1, 2, 3, 4] inline\nitems [1, 2, 3, 4] [] inline\n",
     ),
-    (b"A", b"bad"),
-    (b"", b"bad"),
-    (b"A pop\r", b"bad"),
-    (b"A pop\xff", b"bad"),
-    (b"\xff", b"bad"),
-    (b"A push", b"bad"),
-    (b" A pop", b"bad"),
-    (b"B pop", b"bad"),
+    // the vectors are three
     (
-        b"A drain 18446744073709551615 18446744073709551615",
-        b"range [2147483647, -2147483648] [0, 0]",
+        b"S setlen 2\nS push 5\nT reserve 5\nT shrink\nA remove 0\nA push 2147483648\nS splice 0 0 -\nT push 1\nA push 2\nS pop\n",
+        b"ok [0, 0] [0, 0]\nok [0, 0, 5] [0]\nok [] heap\nok [] inline\nrange [] [0, 0, 0, 0]\nbad\nbad\nok [1] inline\nok [2] [0, 0, 0]\nsome 5 [0, 0] [0, 0]\n",
     ),
-    (b"A drain 0 18446744073709551616", b"bad"),
-    (b"A drain 0 02", b"bad"),
+    // no allocator grants so much room
     (
-        b"A drain 0 2",
-        b"items [2147483647, -2147483648] [] [0, 0, 0, 0]",
+        b"T push 7\nT reserve 18446744073709551615\nT heap\nT reserve 18446744073709551615\n",
+        b"ok [7] inline\nmemory [7] inline\nok [7] heap\nmemory [7] heap\n",
     ),
-    (b"A push 1", b"ok [1] [0, 0, 0]"),
-    (b"A push 2", b"ok [1, 2] [0, 0]"),
-    (b"A push 3", b"ok [1, 2, 3] [0]"),
-    (b"A insert 4 0", b"range [1, 2, 3] [0]"),
-    (b"A insert 0 9", b"ok [9, 1, 2, 3] []"),
-    (b"A insert 5 0", b"range [9, 1, 2, 3] []"),
-    (b"A insert 4 0", b"full [9, 1, 2, 3] []"),
-    (b"A remove 0", b"some 9 [1, 2, 3] [0]"),
-    (b"A swap 0", b"some 1 [3, 2] [0, 0]"),
-    (b"A truncate 1", b"ok [3] [0, 0, 0]"),
-    (b"A setlen 3", b"ok [3, 0, 0] [0]"),
-    (b"A setlen 5", b"range [3, 0, 0] [0]"),
-    (b"A truncate 9", b"ok [3, 0, 0] [0]"),
-    (b"A swap 3", b"range [3, 0, 0] [0]"),
-    (b"A remove 3", b"range [3, 0, 0] [0]"),
-    (b"A insert 0", b"bad"),
-    (b"A insert 0 2147483648", b"bad"),
-    (b"A insert 00 1", b"bad"),
-    (b"A remove -1", b"bad"),
-    (b"A swap", b"bad"),
-    (b"A truncate 0", b"ok [] [0, 0, 0, 0]"),
+    // the end of input ends a line that has bytes
+    (b"", b""),
+    (b"A push 1", b"ok [1] [0, 0, 0]\n"),
+    (b"A push 1\n", b"ok [1] [0, 0, 0]\n"),
+    (b"\n", b"bad\n"),
+    // each call that asks for memory
+    (
+        b"A splice 0 0 f 1 2 3
+A drain 0 2
+S setlen 1
+S drain 0 1
+T splice 0 0 b 1 2 3 4 5
+T drain 0 4
+T shrink
+T heap
+T shrink
+T reserve 9
+T shrink
+T splice 1 1 - 6 7 8
+T insert 0 9
+X add hello
+X add , world
+",
+        b"items [] [1, 2, 3] [0]
+items [1, 2] [3] [0, 0, 0]
+ok [0] [0, 0, 0]
+items [0] [] [0, 0, 0, 0]
+items [] [1, 2, 3, 4, 5] heap
+items [1, 2, 3, 4] [5] heap
+ok [5] inline
+ok [5] heap
+ok [5] inline
+ok [5] heap
+ok [5] inline
+items [] [5, 6, 7, 8] inline
+ok [9, 5, 6, 7, 8] heap
+ok [hello] heap
+ok [hello, world] heap
+",
+    ),
 ];
 
 #[test]
-fn each_line_is_answered(rt: HostRuntime) -> Result<(), Fail> {
-    assert_answered(&rt, LINES.as_slice())
-}
-
-#[test]
-fn full_vectors_are_emptied_at_once(rt: HostRuntime) -> Result<(), Fail> {
-    let input =
-        b"A setlen 4\nA drain 0 4\nA setlen 4\nA splice 0 4 fbfb 1 2 3 4\nS setlen 4\nS drain 0 4\nT push 1\nT push 2\nT push 3\nT push 4\nT drain 0 4\n";
-    let output =
-        b"ok [0, 0, 0, 0] []\nitems [0, 0, 0, 0] [] [0, 0, 0, 0]\nok [0, 0, 0, 0] []\nitems [0, 0, 0, 0] [1, 2, 3, 4] []\nok [0, 0, 0, 0] []\nitems [0, 0, 0, 0] [] [0, 0, 0, 0]\nok [1] inline\nok [1, 2] inline\nok [1, 2, 3] inline\nok [1, 2, 3, 4] inline\nitems [1, 2, 3, 4] [] inline\n";
-    assert_written(&rt, input.as_slice(), output.as_slice())
-}
-
-#[test]
-fn the_end_of_input_ends_a_line_that_has_bytes(rt: HostRuntime) -> Result<(), Fail> {
-    let cases: [(&[u8], &[u8]); 4] = [
-        (b"", b""),
-        (b"A push 1", b"ok [1] [0, 0, 0]\n"),
-        (b"A push 1\n", b"ok [1] [0, 0, 0]\n"),
-        (b"\n", b"bad\n"),
-    ];
-    for (input, output) in cases {
+fn each_is_answered(rt: HostRuntime) -> Result<(), Fail> {
+    for (input, output) in SCRIPTS {
         assert_written(&rt, input, output)?;
     }
     Ok(())

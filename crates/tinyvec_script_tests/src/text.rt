@@ -1,44 +1,6 @@
 //! The text of a script.
-use crate::answered::{assert_answered, assert_written, written};
+use crate::answered::{assert_written, written};
 use std::test::Fail;
-
-#[test]
-fn a_text_is_joined_and_cut(rt: HostRuntime) -> Result<(), Fail> {
-    let lines: [(&[u8], &[u8]); 4] = [
-        (b"X add h\xc3\xa9y", b"ok [h\xc3\xa9y] inline"),
-        (b"X cut 2", b"range [h\xc3\xa9y] inline"),
-        (b"X add !", b"ok [h\xc3\xa9y!] heap"),
-        (b"X cut 1", b"ok [h] heap"),
-    ];
-    assert_answered(&rt, lines.as_slice())
-}
-
-#[test]
-fn blanks_are_characters(rt: HostRuntime) -> Result<(), Fail> {
-    let lines: [(&[u8], &[u8]); 5] = [
-        (b"X add a b", b"ok [a b] inline"),
-        (b"X add  c", b"ok [a b c] heap"),
-        (b"X cut 9", b"range [a b c] heap"),
-        (b"X cut 0", b"ok [] heap"),
-        (b"X cut 0 0", b"bad"),
-    ];
-    assert_answered(&rt, lines.as_slice())
-}
-
-#[test]
-fn the_vectors_and_the_text_stay_apart(rt: HostRuntime) -> Result<(), Fail> {
-    let lines: [(&[u8], &[u8]); 8] = [
-        (b"X add 1", b"ok [1] inline"),
-        (b"A push 2", b"ok [2] [0, 0, 0]"),
-        (b"S push 3", b"ok [3] [0, 0, 0]"),
-        (b"T push 4", b"ok [4] inline"),
-        (b"X cut 1", b"ok [1] inline"),
-        (b"A pop", b"some 2 [] [0, 0, 0, 0]"),
-        (b"S pop", b"some 3 [] [0, 0, 0, 0]"),
-        (b"T pop", b"some 4 [] inline"),
-    ];
-    assert_answered(&rt, lines.as_slice())
-}
 
 // Lines that are no command of the text, each of which leaves it as it is.
 const BAD: [&[u8]; 20] = [
@@ -116,25 +78,6 @@ fn with_text_around(rt: &impl AllocGlobal, line: &[u8]) -> Result<Vec<u8>, Fail>
     input.extend_from_slice(line)?;
     input.extend_from_slice(b"\nX cut 0\n")?;
     written(rt.alloc(), input.as_slice())
-}
-
-#[test]
-fn texts_at_the_borders_of_utf8(rt: HostRuntime) -> Result<(), Fail> {
-    let lines: [(&[u8], &[u8]); 9] = [
-        (b"X add \x7f", b"ok [\x7f] inline"),
-        (b"X add \xc2\x80", b"ok [\x7f\xc2\x80] inline"),
-        (b"X cut 0", b"ok [] inline"),
-        (b"X add \xf4\x8f\xbf\xbf", b"ok [\xf4\x8f\xbf\xbf] inline"),
-        (b"X cut 3", b"range [\xf4\x8f\xbf\xbf] inline"),
-        (
-            b"X cut 18446744073709551615",
-            b"range [\xf4\x8f\xbf\xbf] inline",
-        ),
-        (b"X cut 4", b"ok [\xf4\x8f\xbf\xbf] inline"),
-        (b"X add \r", b"ok [\xf4\x8f\xbf\xbf\r] heap"),
-        (b"X cut 4", b"ok [\xf4\x8f\xbf\xbf] heap"),
-    ];
-    assert_answered(&rt, lines.as_slice())
 }
 
 // A line that adds so many bytes.
