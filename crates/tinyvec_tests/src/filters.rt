@@ -12,67 +12,73 @@ fn is_even(x: i32) -> bool {
 
 #[test]
 fn retain(rt: HostRuntime) -> Result<(), Fail> {
-    let mut v = TinyVec::from_array_len(rt.alloc(), [1, 2, 3, 4, 9], 4);
-    v.retain(|x| is_even(*x));
-    assert!(rt; lies(&v, &[2, 4], true));
-    assert!(rt; spares(&v, &[0, 0, 9]));
-    let mut heap: TinyVec<[i32; 2]> = TinyVec::from_slice(rt.alloc(), &[1, 2, 3, 4])?;
-    heap.retain(|x| is_even(*x));
-    assert!(rt; lies(&heap, &[2, 4], false));
+    for inline in [true, false] {
+        let mut v = TinyVec::from_array_len(rt.alloc(), [1, 2, 3, 4, 9], 4);
+        if !inline {
+            v.move_to_the_heap()?;
+        }
+        v.retain(|x| is_even(*x));
+        assert!(rt; lies(&v, &[2, 4], inline));
+        assert!(rt; !inline | spares(&v, &[0, 0, 9]));
+    }
     Ok(())
 }
 
 #[test]
 fn retain_mut(rt: HostRuntime) -> Result<(), Fail> {
-    let mut v = TinyVec::from_array(rt.alloc(), [1i32, 1, 2, 3, 3, 4]);
-    let mut heap: TinyVec<[i32; 2]> = TinyVec::from_slice(rt.alloc(), &[1i32, 1, 2, 3, 3, 4])?;
-    v.retain_mut(|x| {
-        let stays = is_even(*x);
-        *x = x.wrapping_mul(2);
-        stays
-    });
-    heap.retain_mut(|x| {
-        let stays = is_even(*x);
-        *x = x.wrapping_mul(2);
-        stays
-    });
-    assert!(rt; lies(&v, &[4, 8], true));
-    assert!(rt; lies(&heap, &[4, 8], false));
+    for inline in [true, false] {
+        let mut v = TinyVec::from_array(rt.alloc(), [1i32, 1, 2, 3, 3, 4]);
+        if !inline {
+            v.move_to_the_heap()?;
+        }
+        v.retain_mut(|x| {
+            let stays = is_even(*x);
+            *x = x.wrapping_mul(2);
+            stays
+        });
+        assert!(rt; lies(&v, &[4, 8], inline));
+    }
     Ok(())
 }
 
 #[test]
 fn dedup(rt: HostRuntime) -> Result<(), Fail> {
-    let mut v = TinyVec::from_array(rt.alloc(), [1, 1, 2, 3, 3, 1]);
-    v.dedup();
-    assert!(rt; lies(&v, &[1, 2, 3, 1], true));
-    assert!(rt; spares(&v, &[0, 0]));
-    let mut heap: TinyVec<[i32; 2]> = TinyVec::from_slice(rt.alloc(), &[1, 1, 2, 3, 3, 1])?;
-    heap.dedup();
-    assert!(rt; lies(&heap, &[1, 2, 3, 1], false));
+    for inline in [true, false] {
+        let mut v = TinyVec::from_array(rt.alloc(), [1, 1, 2, 3, 3, 1]);
+        if !inline {
+            v.move_to_the_heap()?;
+        }
+        v.dedup();
+        assert!(rt; lies(&v, &[1, 2, 3, 1], inline));
+        assert!(rt; !inline | spares(&v, &[0, 0]));
+    }
     Ok(())
 }
 
 #[test]
 fn dedup_by(rt: HostRuntime) -> Result<(), Fail> {
-    let mut v = TinyVec::from_array(rt.alloc(), [1i32, 2, 3, 5]);
-    v.dedup_by(|current, last| *current == last.wrapping_add(1));
-    assert!(rt; lies(&v, &[1, 3, 5], true));
-    assert!(rt; spares(&v, &[0]));
-    let mut heap: TinyVec<[i32; 2]> = TinyVec::from_slice(rt.alloc(), &[1i32, 2, 3, 5])?;
-    heap.dedup_by(|current, last| *current == last.wrapping_add(1));
-    assert!(rt; lies(&heap, &[1, 3, 5], false));
+    for inline in [true, false] {
+        let mut v = TinyVec::from_array(rt.alloc(), [1i32, 2, 3, 5]);
+        if !inline {
+            v.move_to_the_heap()?;
+        }
+        v.dedup_by(|current, last| *current == last.wrapping_add(1));
+        assert!(rt; lies(&v, &[1, 3, 5], inline));
+        assert!(rt; !inline | spares(&v, &[0]));
+    }
     Ok(())
 }
 
 #[test]
 fn dedup_by_key(rt: HostRuntime) -> Result<(), Fail> {
-    let mut v = TinyVec::from_array(rt.alloc(), [1i32, 2, 3, 10, 11]);
-    v.dedup_by_key(|x| *x / 10);
-    assert!(rt; lies(&v, &[1, 10], true));
-    let mut heap: TinyVec<[i32; 2]> = TinyVec::from_slice(rt.alloc(), &[1i32, 2, 3, 10, 11])?;
-    heap.dedup_by_key(|x| *x / 10);
-    assert!(rt; lies(&heap, &[1, 10], false));
+    for inline in [true, false] {
+        let mut v = TinyVec::from_array(rt.alloc(), [1i32, 2, 3, 10, 11]);
+        if !inline {
+            v.move_to_the_heap()?;
+        }
+        v.dedup_by_key(|x| *x / 10);
+        assert!(rt; lies(&v, &[1, 10], inline));
+    }
     Ok(())
 }
 
@@ -133,25 +139,22 @@ fn retain_mut_asks_about_each_item_once(rt: HostRuntime) -> Result<(), Fail> {
 /// No item and one are not asked about. Of more each after the first is asked about once, beside the last one kept.
 #[test]
 fn dedup_by_asks_about_each_item_after_the_first(rt: HostRuntime) -> Result<(), Fail> {
+    let cases = [
+        (true, 1, [(2, 1), (3, 1), (4, 1)]),
+        (false, 4, [(2, 1), (3, 2), (4, 3)]),
+    ];
     for inline in [true, false] {
-        for len in 0..=4usize {
-            let pairs = len.saturating_sub(1);
-            let mut asked: TinyVec<[(i32, i32); 8]> = TinyVec::new(rt.alloc());
-            let mut repeats = numbers(rt.alloc(), len, inline)?;
-            repeats.dedup_by(|current, last| {
-                let _granted = asked.push((*current, *last));
-                true
-            });
-            assert!(rt; lies(&repeats, &NUMBERS[..len.min(1)], inline));
-            assert!(rt; asked.as_slice() == &[(2, 1), (3, 1), (4, 1)][..pairs]);
-            asked.clear();
-            let mut unlike = numbers(rt.alloc(), len, inline)?;
-            unlike.dedup_by(|current, last| {
-                let _granted = asked.push((*current, *last));
-                false
-            });
-            assert!(rt; lies(&unlike, &NUMBERS[..len], inline));
-            assert!(rt; asked.as_slice() == &[(2, 1), (3, 2), (4, 3)][..pairs]);
+        for (repeats, most, pairs) in cases {
+            for len in 0..=4usize {
+                let mut asked: TinyVec<[(i32, i32); 8]> = TinyVec::new(rt.alloc());
+                let mut v = numbers(rt.alloc(), len, inline)?;
+                v.dedup_by(|current, last| {
+                    let _granted = asked.push((*current, *last));
+                    repeats
+                });
+                assert!(rt; lies(&v, &NUMBERS[..len.min(most)], inline));
+                assert!(rt; asked.as_slice() == &pairs[..len.saturating_sub(1)]);
+            }
         }
     }
     Ok(())
@@ -161,25 +164,22 @@ fn dedup_by_asks_about_each_item_after_the_first(rt: HostRuntime) -> Result<(), 
 fn dedup_by_key_asks_for_two_keys_of_each_item_after_the_first(
     rt: HostRuntime,
 ) -> Result<(), Fail> {
+    let cases = [
+        (true, 1, [2, 1, 3, 1, 4, 1]),
+        (false, 4, [2, 1, 3, 2, 4, 3]),
+    ];
     for inline in [true, false] {
-        for len in 0..=4usize {
-            let pairs = len.saturating_sub(1);
-            let mut asked: TinyVec<[i32; 8]> = TinyVec::new(rt.alloc());
-            let mut repeats = numbers(rt.alloc(), len, inline)?;
-            repeats.dedup_by_key(|x| {
-                let _granted = asked.push(*x);
-                0
-            });
-            assert!(rt; lies(&repeats, &NUMBERS[..len.min(1)], inline));
-            assert!(rt; asked.as_slice() == &[2, 1, 3, 1, 4, 1][..2 * pairs]);
-            asked.clear();
-            let mut unlike = numbers(rt.alloc(), len, inline)?;
-            unlike.dedup_by_key(|x| {
-                let _granted = asked.push(*x);
-                *x
-            });
-            assert!(rt; lies(&unlike, &NUMBERS[..len], inline));
-            assert!(rt; asked.as_slice() == &[2, 1, 3, 2, 4, 3][..2 * pairs]);
+        for (repeats, most, keys) in cases {
+            for len in 0..=4usize {
+                let mut asked: TinyVec<[i32; 8]> = TinyVec::new(rt.alloc());
+                let mut v = numbers(rt.alloc(), len, inline)?;
+                v.dedup_by_key(|x| {
+                    let _granted = asked.push(*x);
+                    if repeats { 0 } else { *x }
+                });
+                assert!(rt; lies(&v, &NUMBERS[..len.min(most)], inline));
+                assert!(rt; asked.as_slice() == &keys[..2 * len.saturating_sub(1)]);
+            }
         }
     }
     Ok(())
