@@ -8,6 +8,13 @@ use tinyvec_script::run;
 // Room for all that a test here reads or writes.
 pub(crate) const ROOM: usize = 1 << 15;
 
+// A script, and what it has to write.
+#[derive(Drop)]
+pub(crate) struct Script {
+    pub(crate) input: &'static [u8],
+    pub(crate) output: &'static [u8],
+}
+
 // What a script over memory writes.
 pub(crate) fn written(alloc: Global, input: &[u8]) -> Result<Vec<u8>, Fail> {
     let mut reader = Counted::new(input);
@@ -47,22 +54,6 @@ pub(crate) fn assert_written(
     assert_granted(rt, answers.as_slice(), output);
     assert!(rt; answers.as_slice() == output);
     Ok(())
-}
-
-// Asserts that each line of a script is answered so, if no memory is refused.
-pub(crate) fn assert_answered(
-    rt: &(impl Abort + AllocGlobal),
-    lines: &[(&[u8], &[u8])],
-) -> Result<(), Fail> {
-    let mut input = Vec::with_capacity(rt.alloc(), ROOM)?;
-    let mut output = Vec::with_capacity(rt.alloc(), ROOM)?;
-    for (line, answer) in lines {
-        input.extend_from_slice(line)?;
-        input.extend_from_slice(b"\n")?;
-        output.extend_from_slice(answer)?;
-        output.extend_from_slice(b"\n")?;
-    }
-    assert_written(rt, input.as_slice(), output.as_slice())
 }
 
 // The first so many lines of a text.

@@ -34,27 +34,21 @@ fn assert_bad_at_each_place(rt: &(impl Abort + AllocGlobal), bad: &[u8]) -> Resu
     Ok(())
 }
 
-#[test]
-fn an_empty_line(rt: HostRuntime) -> Result<(), Fail> {
-    assert_bad_at_each_place(&rt, b"\n")
-}
+const BAD: [&[u8]; 5] = [
+    b"\n",
+    // a vector without a command
+    b"A\n",
+    // a command of no vector
+    b"Q pop\n",
+    b"A pop\r\n",
+    // a byte that no text has
+    b"\xff\n",
+];
 
 #[test]
-fn a_vector_without_a_command(rt: HostRuntime) -> Result<(), Fail> {
-    assert_bad_at_each_place(&rt, b"A\n")
-}
-
-#[test]
-fn a_command_of_no_vector(rt: HostRuntime) -> Result<(), Fail> {
-    assert_bad_at_each_place(&rt, b"Q pop\n")
-}
-
-#[test]
-fn a_line_that_ends_by_a_carriage_return(rt: HostRuntime) -> Result<(), Fail> {
-    assert_bad_at_each_place(&rt, b"A pop\r\n")
-}
-
-#[test]
-fn a_byte_that_no_text_has(rt: HostRuntime) -> Result<(), Fail> {
-    assert_bad_at_each_place(&rt, b"\xff\n")
+fn bad_at_each_place(rt: HostRuntime) -> Result<(), Fail> {
+    for bad in BAD {
+        assert_bad_at_each_place(&rt, bad)?;
+    }
+    Ok(())
 }

@@ -1,18 +1,11 @@
 //! Scripts of each command over ends that fail, are interrupted, or move few bytes.
-use crate::answered::{ROOM, assert_granted, first_lines};
+use crate::answered::{ROOM, Script, assert_granted, first_lines};
 use crate::ends::{Breaks, Drips, Fills, Full, Interrupted};
 use std::alloc::AllocGlobal;
 use std::process::Abort;
 use std::test::Fail;
 use tinyvec_io::Counted;
 use tinyvec_script::{RunError, run};
-
-// A script, and what it writes.
-#[derive(Drop)]
-struct Script {
-    input: &'static [u8],
-    output: &'static [u8],
-}
 
 const OF_AN_ARRAY: Script = Script {
     input: b"A push 1
@@ -124,6 +117,8 @@ ok [] heap
 ",
 };
 
+const SCRIPTS: [Script; 4] = [OF_AN_ARRAY, OF_A_SLICE, OF_A_TINY, OF_A_TEXT];
+
 // Asserts that a read that fails after any byte leaves just the complete lines before it answered.
 fn assert_answered_before_a_read_fault(
     rt: &(impl Abort + AllocGlobal),
@@ -200,48 +195,17 @@ fn assert_answered_byte_by_byte(
 }
 
 #[test]
-fn a_read_that_fails_after_each_byte_of_calls_of_an_array(rt: HostRuntime) -> Result<(), Fail> {
-    assert_answered_before_a_read_fault(&rt, &OF_AN_ARRAY)
+fn a_read_that_fails_after_each_byte(rt: HostRuntime) -> Result<(), Fail> {
+    for script in SCRIPTS {
+        assert_answered_before_a_read_fault(&rt, &script)?;
+    }
+    Ok(())
 }
 
 #[test]
-fn a_read_that_fails_after_each_byte_of_calls_of_a_slice(rt: HostRuntime) -> Result<(), Fail> {
-    assert_answered_before_a_read_fault(&rt, &OF_A_SLICE)
-}
-
-#[test]
-fn a_read_that_fails_after_each_byte_of_calls_of_a_tiny(rt: HostRuntime) -> Result<(), Fail> {
-    assert_answered_before_a_read_fault(&rt, &OF_A_TINY)
-}
-
-#[test]
-fn a_read_that_fails_after_each_byte_of_calls_of_a_text(rt: HostRuntime) -> Result<(), Fail> {
-    assert_answered_before_a_read_fault(&rt, &OF_A_TEXT)
-}
-
-#[test]
-fn a_write_that_fails_after_each_byte_of_answers_of_an_array(rt: HostRuntime) -> Result<(), Fail> {
-    assert_written_before_a_write_fault(&rt, &OF_AN_ARRAY, Full::Fails)
-}
-
-#[test]
-fn a_write_that_fails_after_each_byte_of_answers_of_a_slice(rt: HostRuntime) -> Result<(), Fail> {
-    assert_written_before_a_write_fault(&rt, &OF_A_SLICE, Full::Fails)
-}
-
-#[test]
-fn a_write_that_fails_after_each_byte_of_answers_of_a_tiny(rt: HostRuntime) -> Result<(), Fail> {
-    assert_written_before_a_write_fault(&rt, &OF_A_TINY, Full::Fails)
-}
-
-#[test]
-fn a_write_that_fails_after_each_byte_of_answers_of_a_text(rt: HostRuntime) -> Result<(), Fail> {
-    assert_written_before_a_write_fault(&rt, &OF_A_TEXT, Full::Fails)
-}
-
-#[test]
-fn a_writer_that_takes_none_after_each_byte(rt: HostRuntime) -> Result<(), Fail> {
-    for script in [OF_AN_ARRAY, OF_A_SLICE, OF_A_TINY, OF_A_TEXT] {
+fn a_write_that_fails_or_takes_none_after_each_byte(rt: HostRuntime) -> Result<(), Fail> {
+    for script in SCRIPTS {
+        assert_written_before_a_write_fault(&rt, &script, Full::Fails)?;
         assert_written_before_a_write_fault(&rt, &script, Full::TakesNone)?;
     }
     Ok(())
@@ -249,7 +213,7 @@ fn a_writer_that_takes_none_after_each_byte(rt: HostRuntime) -> Result<(), Fail>
 
 #[test]
 fn ends_that_move_a_byte_and_are_interrupted(rt: HostRuntime) -> Result<(), Fail> {
-    for script in [OF_AN_ARRAY, OF_A_SLICE, OF_A_TINY, OF_A_TEXT] {
+    for script in SCRIPTS {
         assert_answered_byte_by_byte(&rt, &script)?;
     }
     Ok(())

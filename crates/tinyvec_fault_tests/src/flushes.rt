@@ -28,12 +28,8 @@ fn assert_told(rt: &(impl Abort + AllocGlobal), input: &[u8]) -> Result<(), Fail
 }
 
 #[test]
-fn of_a_script_that_ends_by_a_line_feed(rt: HostRuntime) -> Result<(), Fail> {
-    assert_told(&rt, b"A push 1\nT push 2\nA pop\n")
-}
-
-#[test]
-fn of_a_script_whose_last_line_has_no_end(rt: HostRuntime) -> Result<(), Fail> {
+fn of_a_script_whose_last_line_has_a_line_feed_or_none(rt: HostRuntime) -> Result<(), Fail> {
+    assert_told(&rt, b"A push 1\nT push 2\nA pop\n")?;
     assert_told(&rt, b"A push 1\nT push 2\nA pop")
 }
 

@@ -6,6 +6,8 @@ mod answered;
 #[cfg(test)]
 mod bad_lines;
 #[cfg(test)]
+mod counted;
+#[cfg(test)]
 mod cut;
 #[cfg(test)]
 mod ends;
@@ -15,8 +17,6 @@ mod faults;
 mod flushes;
 #[cfg(test)]
 mod forms;
-#[cfg(test)]
-mod granted;
 #[cfg(test)]
 mod greatest;
 #[cfg(test)]

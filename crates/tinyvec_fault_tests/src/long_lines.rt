@@ -48,34 +48,49 @@ fn assert_longest(
 
 const BAD: Repeated<'static> = (b"bad", 0, b"", b"");
 
-#[test]
-fn words_of_115_letters(rt: HostRuntime) -> Result<(), Fail> {
-    let line: Repeated<'_> = (b"A splice 0 0 ", 115, b"f", b"");
-    assert_longest(&rt, line, (b"items [] [] [0, 0, 0, 0]", 0, b"", b""), b'b')?;
-    let line: Repeated<'_> = (b"T splice 0 0 ", 115, b"b", b"");
-    assert_longest(&rt, line, (b"items [] [] inline", 0, b"", b""), b'f')
-}
+// Lines of 128 bytes, what each is answered, and the byte with which it is too long.
+const LONGEST: [(Repeated<'static>, Repeated<'static>, u8); 6] = [
+    // ends of a splice, of which the range has none
+    (
+        (b"A splice 0 0 ", 115, b"f", b""),
+        (b"items [] [] [0, 0, 0, 0]", 0, b"", b""),
+        b'b',
+    ),
+    (
+        (b"T splice 0 0 ", 115, b"b", b""),
+        (b"items [] [] inline", 0, b"", b""),
+        b'f',
+    ),
+    // numbers of one digit
+    (
+        (b"A splice 0 0 -", 57, b" 1", b""),
+        (b"items [] rest [1", 52, b", 1", b"] [1, 1, 1, 1] []"),
+        b'1',
+    ),
+    (
+        (b"T splice 0 0 -", 57, b" 1", b""),
+        (b"items [] [1", 56, b", 1", b"] heap"),
+        b'1',
+    ),
+    // numbers of ten digits
+    (
+        (b"T splice 0 0 -", 9, b" -2147483648", b" 12345"),
+        (b"items [] [", 9, b"-2147483648, ", b"12345] heap"),
+        b'6',
+    ),
+    (
+        (b"X add ", 122, b"a", b""),
+        (b"ok [", 122, b"a", b"] heap"),
+        b'a',
+    ),
+];
 
 #[test]
-fn numbers_of_one_digit(rt: HostRuntime) -> Result<(), Fail> {
-    let line: Repeated<'_> = (b"A splice 0 0 -", 57, b" 1", b"");
-    let answer: Repeated<'_> = (b"items [] rest [1", 52, b", 1", b"] [1, 1, 1, 1] []");
-    assert_longest(&rt, line, answer, b'1')?;
-    let line: Repeated<'_> = (b"T splice 0 0 -", 57, b" 1", b"");
-    assert_longest(&rt, line, (b"items [] [1", 56, b", 1", b"] heap"), b'1')
-}
-
-#[test]
-fn numbers_of_ten_digits(rt: HostRuntime) -> Result<(), Fail> {
-    let line: Repeated<'_> = (b"T splice 0 0 -", 9, b" -2147483648", b" 12345");
-    let answer: Repeated<'_> = (b"items [] [", 9, b"-2147483648, ", b"12345] heap");
-    assert_longest(&rt, line, answer, b'6')
-}
-
-#[test]
-fn a_text_of_122_bytes(rt: HostRuntime) -> Result<(), Fail> {
-    let answer: Repeated<'_> = (b"ok [", 122, b"a", b"] heap");
-    assert_longest(&rt, (b"X add ", 122, b"a", b""), answer, b'a')
+fn lines_of_128_bytes_and_of_one_more(rt: HostRuntime) -> Result<(), Fail> {
+    for (longest, answer, more) in LONGEST {
+        assert_longest(&rt, longest, answer, more)?;
+    }
+    Ok(())
 }
 
 // The first 128 bytes of the longer line are no text, since its last character is cut off.

@@ -28,65 +28,44 @@ fn is_kept(v: &ArrayVec<[i32; 4]>) -> bool {
     (v.len() == 3) & (v.as_inner().as_slice() == [1, 2, 3, 9].as_slice())
 }
 
-#[test]
-fn drain_to_vec(rt: HostRuntime) -> Result<(), Fail> {
-    let mut v = three();
-    match v.drain_to_vec(rt.alloc()) {
-        Ok(moved) => assert_items!(rt; moved.as_slice(), [1, 2, 3]),
-        Err(AllocError) => {
-            assert!(rt; is_kept(&v));
-            refused(&rt)?;
-            assert_items!(rt; v.drain_to_vec(rt.alloc())?.as_slice(), [1, 2, 3]);
+#[derive(Clone, Copy)]
+enum Drain {
+    ToVec,
+    TryToVec,
+    ToVecAndReserve,
+    TryToVecAndReserve,
+}
+
+impl Drain {
+    fn call(self, alloc: Global, v: &mut ArrayVec<[i32; 4]>) -> Result<Vec<i32>, AllocError> {
+        match self {
+            Drain::ToVec => v.drain_to_vec(alloc),
+            Drain::TryToVec => v.try_drain_to_vec(alloc),
+            Drain::ToVecAndReserve => v.drain_to_vec_and_reserve(alloc, 10),
+            Drain::TryToVecAndReserve => v.try_drain_to_vec_and_reserve(alloc, 10),
         }
     }
-    assert!(rt; is_emptied(&v));
-    Ok(())
 }
 
 #[test]
-fn try_drain_to_vec(rt: HostRuntime) -> Result<(), Fail> {
-    let mut v = three();
-    match v.try_drain_to_vec(rt.alloc()) {
-        Ok(moved) => assert_items!(rt; moved.as_slice(), [1, 2, 3]),
-        Err(AllocError) => {
-            assert!(rt; is_kept(&v));
-            refused(&rt)?;
-            assert_items!(rt; v.try_drain_to_vec(rt.alloc())?.as_slice(), [1, 2, 3]);
+fn drains(rt: HostRuntime) -> Result<(), Fail> {
+    for drain in [
+        Drain::ToVec,
+        Drain::TryToVec,
+        Drain::ToVecAndReserve,
+        Drain::TryToVecAndReserve,
+    ] {
+        let mut v = three();
+        match drain.call(rt.alloc(), &mut v) {
+            Ok(moved) => assert_items!(rt; moved.as_slice(), [1, 2, 3]),
+            Err(AllocError) => {
+                assert!(rt; is_kept(&v));
+                refused(&rt)?;
+                assert_items!(rt; drain.call(rt.alloc(), &mut v)?.as_slice(), [1, 2, 3]);
+            }
         }
+        assert!(rt; is_emptied(&v));
     }
-    assert!(rt; is_emptied(&v));
-    Ok(())
-}
-
-#[test]
-fn drain_to_vec_and_reserve(rt: HostRuntime) -> Result<(), Fail> {
-    let mut v = three();
-    match v.drain_to_vec_and_reserve(rt.alloc(), 10) {
-        Ok(moved) => assert_items!(rt; moved.as_slice(), [1, 2, 3]),
-        Err(AllocError) => {
-            assert!(rt; is_kept(&v));
-            refused(&rt)?;
-            let moved = v.drain_to_vec_and_reserve(rt.alloc(), 10)?;
-            assert_items!(rt; moved.as_slice(), [1, 2, 3]);
-        }
-    }
-    assert!(rt; is_emptied(&v));
-    Ok(())
-}
-
-#[test]
-fn try_drain_to_vec_and_reserve(rt: HostRuntime) -> Result<(), Fail> {
-    let mut v = three();
-    match v.try_drain_to_vec_and_reserve(rt.alloc(), 10) {
-        Ok(moved) => assert_items!(rt; moved.as_slice(), [1, 2, 3]),
-        Err(AllocError) => {
-            assert!(rt; is_kept(&v));
-            refused(&rt)?;
-            let moved = v.try_drain_to_vec_and_reserve(rt.alloc(), 10)?;
-            assert_items!(rt; moved.as_slice(), [1, 2, 3]);
-        }
-    }
-    assert!(rt; is_emptied(&v));
     Ok(())
 }
 
@@ -163,23 +142,7 @@ fn on_the_heap_only_the_last_push_asks(rt: HostRuntime) -> Result<(), Fail> {
     Ok(())
 }
 
-// What the refused end of a splice hands back is put in its place by another.
-#[test]
-fn splice_inline(rt: HostRuntime) -> Result<(), Fail> {
-    let mut v = TinyVec::from_array_len(rt.alloc(), [1, 2, 3, 0], 3);
-    let mut splice = v.splice(1..2, [7, 8, 9]);
-    assert!(rt; splice.next_back() == Some(2));
-    if let Err(SpliceRest { item, rest: _ }) = splice.finish() {
-        assert!(rt; lies(&v, &[1, 7, 9, 3], true));
-        refused(&rt)?;
-        if v.len() == 4 {
-            assert!(rt; v.splice(2..2, [item]).finish().is_ok());
-        }
-    }
-    assert!(rt; lies(&v, &[1, 7, 8, 9, 3], false));
-    Ok(())
-}
-
+// What the refused end of a splice hands back is put in its place by others.
 #[test]
 fn splice_on_the_heap(rt: HostRuntime) -> Result<(), Fail> {
     let mut v: TinyVec<[i32; 3]> = TinyVec::from_slice(rt.alloc(), &[1, 2, 3, 4])?;
@@ -213,22 +176,6 @@ fn tiny_vec(rt: HostRuntime) -> Result<(), Fail> {
     Ok(())
 }
 
-#[test]
-fn tiny_vec_told_by_its_place(rt: HostRuntime) -> Result<(), Fail> {
-    let count = Cell::new(0);
-    let made: Result<TinyVec<[i32; 1]>, AllocError> =
-        tiny_vec!(rt.alloc(); counted(&count), counted(&count));
-    match made {
-        Ok(v) => assert!(rt; lies(&v, &[1, 2], false)),
-        Err(AllocError) => {
-            refused(&rt)?;
-            let again: TinyVec<[i32; 1]> = tiny_vec!(rt.alloc(); counted(&count), counted(&count))?;
-            assert!(rt; lies(&again, &[1, 2], false));
-        }
-    }
-    Ok(())
-}
-
 // An item that owns memory, and asks for more where it is cloned.
 type Letters = Option<Vec<u8>>;
 
@@ -242,21 +189,6 @@ fn spells(items: &[Letters], word: &[u8]) -> bool {
             Some(text) => text.as_slice() == [*letter].as_slice(),
             None => false,
         })
-}
-
-#[test]
-fn clone_what_owns(rt: HostRuntime) -> Result<(), Fail> {
-    let items = [letters(rt.alloc(), 1)?, letters(rt.alloc(), 2)?];
-    let v = TinyVec::from_array(rt.alloc(), items);
-    match v.clone() {
-        Ok(copy) => assert!(rt; spells(copy.as_slice(), &[1, 2])),
-        Err(AllocError) => {
-            refused(&rt)?;
-            assert!(rt; spells(v.clone()?.as_slice(), &[1, 2]));
-        }
-    }
-    assert!(rt; spells(v.as_slice(), &[1, 2]));
-    Ok(())
 }
 
 #[test]
@@ -285,24 +217,6 @@ fn resize_what_owns(rt: HostRuntime) -> Result<(), Fail> {
     }
     assert!(rt; v.is_heap());
     assert!(rt; spells(v.as_slice(), &[5, 5]));
-    Ok(())
-}
-
-#[test]
-fn clone_from_what_owns(rt: HostRuntime) -> Result<(), Fail> {
-    let items = [letters(rt.alloc(), 1)?, letters(rt.alloc(), 2)?];
-    let source = TinyVec::from_array(rt.alloc(), items);
-    let mut v = TinyVec::from_array_len(rt.alloc(), [letters(rt.alloc(), 7)?, None], 1);
-    if let Err(AllocError) = v.clone_from(&source) {
-        // The first clone is made over the old item, or refused.
-        let kept = spells(v.as_slice(), &[7]);
-        assert!(rt; kept | spells(v.as_slice(), &[1]));
-        refused(&rt)?;
-        assert!(rt; v.clone_from(&source).is_ok());
-    }
-    assert!(rt; v.is_inline());
-    assert!(rt; spells(v.as_slice(), &[1, 2]));
-    assert!(rt; spells(source.as_slice(), &[1, 2]));
     Ok(())
 }
 

@@ -5,7 +5,5 @@
 #![tactic(auto)]
 
 mod counted;
-#[cfg(test)]
-mod tests;
 
 pub use counted::Counted;

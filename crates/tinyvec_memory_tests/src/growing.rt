@@ -1,4 +1,5 @@
 //! Each growing call on a full `[1, 2]`, with memory granted.
+use crate::asking::Asking;
 use std::alloc::{AllocError, Global};
 use std::test::Fail;
 use tinyvec::{NoMemory, TinyVec};
@@ -8,6 +9,39 @@ fn full(alloc: Global) -> TinyVec<[i32; 2]> {
     TinyVec::from_array(alloc, [1, 2])
 }
 
+// Calls of a full list, each with the list that it leaves on the heap.
+const GROWN: [(Asking, &[i32]); 10] = [
+    (Asking::Push(3), &[1, 2, 3]),
+    (Asking::Insert(2, 3), &[1, 2, 3]),
+    (Asking::Insert(1, 3), &[1, 3, 2]),
+    (Asking::ExtendFromSlice(&[3]), &[1, 2, 3]),
+    (Asking::Extend(3, 3), &[1, 2, 3]),
+    (Asking::Extend(3, 4), &[1, 2, 3, 4]),
+    (Asking::Resize(3, 3), &[1, 2, 3]),
+    (Asking::Resize(3, 9), &[1, 2, 9]),
+    (Asking::ResizeWith(3, 3), &[1, 2, 3]),
+    (Asking::ResizeWith(3, 8), &[1, 2, 8]),
+];
+
+#[test]
+fn each_call(rt: HostRuntime) {
+    for (call, items) in GROWN {
+        let mut v = full(rt.alloc());
+        assert!(rt; call.make(&mut v).is_ok(), "memory was granted");
+        assert!(rt; lies(&v, items, false));
+    }
+}
+
+// Calls that leave a full list as it is, where it is.
+#[test]
+fn nothing_more(rt: HostRuntime) {
+    for call in [Asking::ExtendFromSlice(&[]), Asking::Extend(3, 2)] {
+        let mut v = full(rt.alloc());
+        assert!(rt; call.make(&mut v).is_ok());
+        assert!(rt; lies(&v, &[1, 2], true));
+    }
+}
+
 #[test]
 fn append(rt: HostRuntime) -> Result<(), Fail> {
     let mut v = full(rt.alloc());
@@ -15,26 +49,10 @@ fn append(rt: HostRuntime) -> Result<(), Fail> {
     v.append(&mut other)?;
     assert!(rt; lies(&v, &[1, 2, 3], false));
     assert!(rt; lies(&other, &[], true));
-    Ok(())
-}
-
-#[test]
-fn extend_from_slice(rt: HostRuntime) -> Result<(), Fail> {
     let mut v = full(rt.alloc());
-    v.extend_from_slice(&[])?;
-    assert!(rt; lies(&v, &[1, 2], true));
-    v.extend_from_slice(&[3])?;
-    assert!(rt; lies(&v, &[1, 2, 3], false));
+    v.append(&mut full(rt.alloc()))?;
+    assert!(rt; lies(&v, &[1, 2, 1, 2], false));
     Ok(())
-}
-
-#[test]
-fn extend(rt: HostRuntime) {
-    let mut v = full(rt.alloc());
-    assert!(rt; v.extend(3..3).is_ok());
-    assert!(rt; lies(&v, &[1, 2], true));
-    assert!(rt; v.extend(3..=3).is_ok(), "memory was granted");
-    assert!(rt; lies(&v, &[1, 2, 3], false));
 }
 
 #[test]
@@ -56,9 +74,6 @@ fn resize(rt: HostRuntime) {
 
 #[test]
 fn resize_with(rt: HostRuntime) -> Result<(), Fail> {
-    let mut v = full(rt.alloc());
-    v.resize_with(3, || 3)?;
-    assert!(rt; lies(&v, &[1, 2, 3], false));
     let mut few: TinyVec<[i32; 4]> = TinyVec::from_array_len(rt.alloc(), [1, 0, 0, 0], 1);
     let mut last = 10_i32;
     few.resize_with(3, || {
@@ -72,16 +87,6 @@ fn resize_with(rt: HostRuntime) -> Result<(), Fail> {
     assert!(rt; few.resize_with(1 << 60, || 9) == Err(AllocError));
     assert!(rt; lies(&few, &[1, 11], true));
     Ok(())
-}
-
-#[test]
-fn push_and_insert(rt: HostRuntime) {
-    let mut v = full(rt.alloc());
-    assert!(rt; v.push(3).is_ok(), "memory was granted");
-    assert!(rt; lies(&v, &[1, 2, 3], false));
-    let mut v = TinyVec::from_array(rt.alloc(), [1, 2]);
-    assert!(rt; v.insert(2, 3).is_ok(), "memory was granted");
-    assert!(rt; lies(&v, &[1, 2, 3], false));
 }
 
 /// On the heap room grows by steps, so that items that come one by one are seldom moved.

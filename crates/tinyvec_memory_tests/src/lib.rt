@@ -2,6 +2,10 @@
 #![tactic(auto)]
 
 #[cfg(test)]
+mod asking;
+#[cfg(test)]
+mod granted;
+#[cfg(test)]
 mod growing;
 #[cfg(test)]
 mod moving;

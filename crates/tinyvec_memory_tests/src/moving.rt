@@ -1,4 +1,5 @@
 //! Moves between the array and the heap.
+use crate::asking::Asking;
 use std::alloc::AllocError;
 use std::test::Fail;
 use tinyvec::TinyVec;
@@ -57,9 +58,13 @@ fn back_once_it_fits(rt: HostRuntime) -> Result<(), Fail> {
 #[test]
 fn refused(rt: HostRuntime) {
     let mut v = TinyVec::from_array_len(rt.alloc(), [1, 7, 7], 1);
-    for n in [usize::MAX, 1 << 60] {
-        assert!(rt; v.move_to_the_heap_and_reserve(n) == Err(AllocError));
-        assert!(rt; v.try_move_to_the_heap_and_reserve(n) == Err(AllocError));
+    for call in [
+        Asking::MoveToTheHeapAndReserve(usize::MAX),
+        Asking::MoveToTheHeapAndReserve(1 << 60),
+        Asking::TryMoveToTheHeapAndReserve(usize::MAX),
+        Asking::TryMoveToTheHeapAndReserve(1 << 60),
+    ] {
+        assert!(rt; call.make(&mut v).is_err());
         assert!(rt; lies(&v, &[1], true));
         assert!(rt; spares(&v, &[7, 7]));
     }

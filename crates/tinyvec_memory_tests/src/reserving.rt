@@ -1,5 +1,5 @@
 //! Room asked for, granted and refused.
-use std::alloc::AllocError;
+use crate::asking::Asking;
 use std::test::Fail;
 use tinyvec::TinyVec;
 use tinyvec_test_looks::lies;
@@ -39,78 +39,79 @@ fn no_slots(rt: HostRuntime) -> Result<(), Fail> {
     Ok(())
 }
 
+// Calls for room for two items more, which there is, and for four more.
+const CALLS: [(Asking, Asking); 4] = [
+    (Asking::Reserve(2), Asking::Reserve(4)),
+    (Asking::TryReserve(2), Asking::TryReserve(4)),
+    (Asking::ReserveExact(2), Asking::ReserveExact(4)),
+    (Asking::TryReserveExact(2), Asking::TryReserveExact(4)),
+];
+
 #[test]
-fn reserve(rt: HostRuntime) -> Result<(), Fail> {
-    let mut v = TinyVec::from_array_len(rt.alloc(), [1, 2, 0, 0], 2);
-    v.reserve(2)?;
-    assert!(rt; v.capacity() == 4);
-    assert!(rt; lies(&v, &[1, 2], true));
-    v.reserve(4)?;
-    assert!(rt; v.capacity() >= 6);
-    v.extend_from_slice(&[3, 4, 5, 6])?;
-    v.reserve(4)?;
-    assert!(rt; v.capacity() >= 10);
-    assert!(rt; lies(&v, &[1, 2, 3, 4, 5, 6], false));
+fn granted(rt: HostRuntime) -> Result<(), Fail> {
+    for (two, four) in CALLS {
+        let mut v = TinyVec::from_array_len(rt.alloc(), [1, 2, 0, 0], 2);
+        assert!(rt; two.make(&mut v).is_ok());
+        assert!(rt; v.capacity() == 4);
+        assert!(rt; lies(&v, &[1, 2], true));
+        assert!(rt; four.make(&mut v).is_ok(), "memory was granted");
+        assert!(rt; v.capacity() >= 6);
+        v.extend_from_slice(&[3, 4, 5, 6])?;
+        assert!(rt; four.make(&mut v).is_ok(), "memory was granted");
+        assert!(rt; v.capacity() >= 10);
+        assert!(rt; lies(&v, &[1, 2, 3, 4, 5, 6], false));
+    }
     Ok(())
 }
 
-#[test]
-fn try_reserve(rt: HostRuntime) -> Result<(), Fail> {
-    let mut v = TinyVec::from_array_len(rt.alloc(), [1, 2, 0, 0], 2);
-    v.try_reserve(2)?;
-    assert!(rt; v.capacity() == 4);
-    v.try_reserve(4)?;
-    assert!(rt; v.capacity() >= 6);
-    v.extend_from_slice(&[3, 4, 5, 6])?;
-    v.try_reserve(4)?;
-    assert!(rt; v.capacity() >= 10);
-    assert!(rt; lies(&v, &[1, 2, 3, 4, 5, 6], false));
-    Ok(())
-}
+// Calls of a full `[1, 2]`, each with the room that there is then.
+const OF_A_FULL_LIST: [(Asking, usize); 8] = [
+    (Asking::Reserve(5), 7),
+    (Asking::TryReserve(5), 7),
+    (Asking::ReserveExact(5), 7),
+    (Asking::TryReserveExact(5), 7),
+    (Asking::MoveToTheHeap, 2),
+    (Asking::TryMoveToTheHeap, 2),
+    (Asking::MoveToTheHeapAndReserve(3), 5),
+    (Asking::TryMoveToTheHeapAndReserve(3), 5),
+];
 
 #[test]
-fn reserve_exact(rt: HostRuntime) -> Result<(), Fail> {
-    let mut v = TinyVec::from_array_len(rt.alloc(), [1, 2, 0, 0], 2);
-    v.reserve_exact(2)?;
-    assert!(rt; v.capacity() == 4);
-    assert!(rt; lies(&v, &[1, 2], true));
-    v.reserve_exact(4)?;
-    assert!(rt; v.capacity() >= 6);
-    v.extend_from_slice(&[3, 4, 5, 6])?;
-    v.reserve_exact(4)?;
-    assert!(rt; v.capacity() >= 10);
-    assert!(rt; lies(&v, &[1, 2, 3, 4, 5, 6], false));
-    Ok(())
+fn of_a_full_list(rt: HostRuntime) {
+    for (call, room) in OF_A_FULL_LIST {
+        let mut v = TinyVec::from_array(rt.alloc(), [1, 2]);
+        assert!(rt; call.make(&mut v).is_ok(), "memory was granted");
+        assert!(rt; v.capacity() >= room);
+        assert!(rt; lies(&v, &[1, 2], false));
+    }
 }
 
-#[test]
-fn try_reserve_exact(rt: HostRuntime) -> Result<(), Fail> {
-    let mut v = TinyVec::from_array_len(rt.alloc(), [1, 2, 0, 0], 2);
-    v.try_reserve_exact(2)?;
-    assert!(rt; v.capacity() == 4);
-    v.try_reserve_exact(4)?;
-    assert!(rt; v.capacity() >= 6);
-    v.extend_from_slice(&[3, 4, 5, 6])?;
-    v.try_reserve_exact(4)?;
-    assert!(rt; v.capacity() >= 10);
-    assert!(rt; lies(&v, &[1, 2, 3, 4, 5, 6], false));
-    Ok(())
-}
+// More room than memory has, also where it and the length pass the greatest number.
+const TOO_MUCH: [Asking; 12] = [
+    Asking::Reserve(usize::MAX),
+    Asking::TryReserve(usize::MAX),
+    Asking::ReserveExact(usize::MAX),
+    Asking::TryReserveExact(usize::MAX),
+    Asking::Reserve(usize::MAX - 1),
+    Asking::TryReserve(usize::MAX - 1),
+    Asking::ReserveExact(usize::MAX - 1),
+    Asking::TryReserveExact(usize::MAX - 1),
+    Asking::Reserve(1 << 60),
+    Asking::TryReserve(1 << 60),
+    Asking::ReserveExact(1 << 60),
+    Asking::TryReserveExact(1 << 60),
+];
 
 #[test]
 fn refused(rt: HostRuntime) -> Result<(), Fail> {
     let mut v = TinyVec::from_array_len(rt.alloc(), [1, 0, 0, 0], 1);
-    for n in [usize::MAX, usize::MAX - 1, 1 << 60] {
-        assert!(rt; v.reserve(n) == Err(AllocError));
-        assert!(rt; v.try_reserve(n) == Err(AllocError));
-        assert!(rt; v.reserve_exact(n) == Err(AllocError));
-        assert!(rt; v.try_reserve_exact(n) == Err(AllocError));
+    for call in TOO_MUCH {
+        assert!(rt; call.make(&mut v).is_err());
         assert!(rt; lies(&v, &[1], true));
     }
     v.move_to_the_heap()?;
-    for n in [usize::MAX, 1 << 60] {
-        assert!(rt; v.reserve(n) == Err(AllocError));
-        assert!(rt; v.reserve_exact(n) == Err(AllocError));
+    for call in TOO_MUCH {
+        assert!(rt; call.make(&mut v).is_err());
         assert!(rt; lies(&v, &[1], false));
     }
     Ok(())

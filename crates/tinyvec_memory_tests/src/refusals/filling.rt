@@ -1,32 +1,9 @@
-//! Lists that are filled by slices, bytes, iterators and copies.
+//! Lists that are filled by bytes and iterators.
 use super::{in_the_array, on_the_heap, refused};
-use std::alloc::AllocError;
 use std::io::Write;
 use std::test::Fail;
-use tinyvec::{NoMemory, NoRoom, TinyVec};
+use tinyvec::{NoRoom, TinyVec};
 use tinyvec_test_looks::{lies, spares};
-
-#[test]
-fn extend_from_slice(rt: HostRuntime) -> Result<(), Fail> {
-    let mut v = in_the_array(rt.alloc());
-    if let Err(AllocError) = v.extend_from_slice(&[3, 4]) {
-        assert!(rt; lies(&v, &[1, 2], true));
-        assert!(rt; spares(&v, &[9]));
-        refused(&rt)?;
-        assert!(rt; v.extend_from_slice(&[3, 4]).is_ok());
-    }
-    assert!(rt; lies(&v, &[1, 2, 3, 4], false));
-    let mut heap = on_the_heap(rt.alloc())?;
-    let room = heap.capacity();
-    if let Err(AllocError) = heap.extend_from_slice(&[5, 6]) {
-        assert!(rt; lies(&heap, &[1, 2, 3, 4], false));
-        assert!(rt; heap.capacity() == room);
-        refused(&rt)?;
-        assert!(rt; heap.extend_from_slice(&[5, 6]).is_ok());
-    }
-    assert!(rt; lies(&heap, &[1, 2, 3, 4, 5, 6], false));
-    Ok(())
-}
 
 #[test]
 fn write(rt: HostRuntime) -> Result<(), Fail> {
@@ -92,58 +69,5 @@ fn extend_on_the_heap(rt: HostRuntime) -> Result<(), Fail> {
             assert!(rt; lies(&v, &[1, 2, 3, 7, 8], false));
         }
     }
-    Ok(())
-}
-
-#[test]
-fn resize(rt: HostRuntime) -> Result<(), Fail> {
-    let mut v = in_the_array(rt.alloc());
-    if let Err(NoMemory(item)) = v.resize(5, 7) {
-        assert!(rt; item == 7);
-        assert!(rt; lies(&v, &[1, 2], true));
-        assert!(rt; spares(&v, &[9]));
-        refused(&rt)?;
-        assert!(rt; v.resize(5, 7).is_ok());
-    }
-    assert!(rt; lies(&v, &[1, 2, 7, 7, 7], false));
-    let mut heap = on_the_heap(rt.alloc())?;
-    let room = heap.capacity();
-    if let Err(NoMemory(item)) = heap.resize(6, 7) {
-        assert!(rt; item == 7);
-        assert!(rt; lies(&heap, &[1, 2, 3, 4], false));
-        assert!(rt; heap.capacity() == room);
-        refused(&rt)?;
-        assert!(rt; heap.resize(6, 7).is_ok());
-    }
-    assert!(rt; lies(&heap, &[1, 2, 3, 4, 7, 7], false));
-    Ok(())
-}
-
-#[test]
-fn resize_with(rt: HostRuntime) -> Result<(), Fail> {
-    let mut v = in_the_array(rt.alloc());
-    let mut asked = 0_usize;
-    match v.resize_with(5, || {
-        asked = asked.wrapping_add(1);
-        7
-    }) {
-        Ok(()) => assert!(rt; lies(&v, &[1, 2, 7, 7, 7], false)),
-        Err(AllocError) => {
-            assert!(rt; asked == 0);
-            assert!(rt; lies(&v, &[1, 2], true));
-            assert!(rt; spares(&v, &[9]));
-            refused(&rt)?;
-            assert!(rt; v.resize_with(5, || 7).is_ok());
-        }
-    }
-    let mut heap = on_the_heap(rt.alloc())?;
-    let room = heap.capacity();
-    if let Err(AllocError) = heap.resize_with(6, || 7) {
-        assert!(rt; lies(&heap, &[1, 2, 3, 4], false));
-        assert!(rt; heap.capacity() == room);
-        refused(&rt)?;
-        assert!(rt; heap.resize_with(6, || 7).is_ok());
-    }
-    assert!(rt; lies(&heap, &[1, 2, 3, 4, 7, 7], false));
     Ok(())
 }

@@ -94,6 +94,8 @@ fn tiny_vec_told_by_its_place(rt: HostRuntime) -> Result<(), Fail> {
         Err(AllocError) => {
             assert!(rt; count.get() == 0);
             refused(&rt)?;
+            let again: TinyVec<[i32; 1]> = tiny_vec!(rt.alloc(); counted(&count), counted(&count))?;
+            assert!(rt; lies(&again, &[1, 2], false));
         }
     }
     Ok(())

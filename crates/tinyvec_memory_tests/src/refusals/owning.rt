@@ -80,6 +80,7 @@ fn clone_what_owns(rt: HostRuntime) -> Result<(), Fail> {
     let mut v = TinyVec::from_array(rt.alloc(), items);
     match v.clone() {
         Ok(copy) => {
+            assert!(rt; spells(v.as_slice(), &[1, 2]));
             v.clear();
             assert!(rt; copy.is_inline());
             assert!(rt; spells(copy.as_slice(), &[1, 2]));
@@ -87,6 +88,7 @@ fn clone_what_owns(rt: HostRuntime) -> Result<(), Fail> {
         Err(AllocError) => {
             assert!(rt; spells(v.as_slice(), &[1, 2]));
             refused(&rt)?;
+            assert!(rt; spells(v.clone()?.as_slice(), &[1, 2]));
         }
     }
     Ok(())
@@ -135,14 +137,16 @@ fn clone_from_what_owns(rt: HostRuntime) -> Result<(), Fail> {
     let items = [letters(rt.alloc(), 1)?, letters(rt.alloc(), 2)?];
     let source = TinyVec::from_array(rt.alloc(), items);
     let mut v = TinyVec::from_array_len(rt.alloc(), [letters(rt.alloc(), 7)?, None], 1);
-    match v.clone_from(&source) {
-        Ok(()) => assert!(rt; spells(v.as_slice(), &[1, 2])),
-        Err(AllocError) => {
-            assert!(rt; v.len() == 1);
-            assert!(rt; v.is_inline());
-            refused(&rt)?;
-        }
+    if let Err(AllocError) = v.clone_from(&source) {
+        // The first clone is made over the old item, or refused.
+        let kept = spells(v.as_slice(), &[7]);
+        assert!(rt; kept | spells(v.as_slice(), &[1]));
+        assert!(rt; v.is_inline());
+        refused(&rt)?;
+        assert!(rt; v.clone_from(&source).is_ok());
     }
+    assert!(rt; v.is_inline());
+    assert!(rt; spells(v.as_slice(), &[1, 2]));
     assert!(rt; spells(source.as_slice(), &[1, 2]));
     Ok(())
 }
