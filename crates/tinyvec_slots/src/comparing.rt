@@ -131,8 +131,11 @@ fn are_large<T>(items: &[T]) -> bool {
 
 // Whether an item takes one byte.
 #[inline(always)]
-fn are_bytes<T>(items: &[T]) -> bool {
-    items.len() * mem::size_of::<T>() == items.len()
+fn are_bytes<T>(items: &[T]) -> bool
+    requires some { 0 < length items.now }
+{
+    let first = &items[..1];
+    first.len() * mem::size_of::<T>() == 1
 }
 
 // Where the first pair stands that is not equal, or how many pairs there are.
