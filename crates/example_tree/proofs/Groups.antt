@@ -1,15 +1,19 @@
 -- Where nodes are added, what was read stays.
-use Rattle.std.proofs.Common.{◌≡◌, ◌∙◌, ◌≢◌, ℕ, ◌<◌, List, [], ◌∷◌, ◌++◌, length, map, reverse, All, refl, sym, ap, arith}
+use Rattle.std.proofs.Common.{◌≡◌, ◌∙◌, ◌≢◌, ℕ, ◌<◌, List, [], ◌∷◌, ◌++◌, length, map, reverse, All, Some, refl, sym, ap, arith}
 use Rattle.std.proofs.lemmas.List.Elements.{All-head, All-tail, All-weaker, All-push, All-nil, All-cons, All-same}
 use Rattle.std.proofs.lemmas.List.{map-append, reverse-append, length-reverse, length-map}
 use Rattle.tinyvec.specs.Tiny.{tiny_items}
 use Rattle.example_tree.specs.Tree.{Tree, product, Trees, more}
-use Rattle.example_tree.specs.Nodes.{forms, IsOrdered, trees_of, tree_of, tree_at}
-use Rattle.example_tree.specs.Outcome.{Group, and, joined, with_factor, with_term}
-use Rattle.example_tree.specs.Levels.{Keeps, Adds, IsWithin, group_of, form_by, joined_by}
-use Rattle.example_tree.specs.declared.forest.Operation.{Operation}
-use Rattle.example_tree.specs.declared.forest.Operation.TheVariants.{Sum, Product}
+use Rattle.example_tree.specs.Nodes.{form, form_by, forms, IsOrdered, trees_of, tree_of, tree_at}
+use Rattle.example_tree.specs.Outcome.{Group, and, joined, with_factor, with_leaf, with_term}
+use Rattle.example_tree.specs.Levels.{Keeps, Adds, IsWithin, group_of, joined_by}
+use Rattle.example_tree.specs.declared.node.Operation.{Operation}
+use Rattle.example_tree.specs.declared.node.Operation.TheVariants.{Sum, Product}
+use Rattle.example_tree.specs.declared.node.Leaf.{Leaf}
+use Rattle.example_tree.specs.declared.node.Leaf.TheVariants.{Number, Name}
 use Rattle.example_tree.specs.declared.node.Node.{Node}
+use Rattle.example_tree.specs.declared.node.Node.TheVariants.{Leaf as Single}
+use Rattle.example_tree.specs.Text.{open_of}
 use Rattle.example_tree.specs.declared.level.Level.{Level}
 use Rattle.example_tree.proofs.Readings.{trees_same}
 
@@ -101,6 +105,13 @@ module _ (old new : List Node) (id : ℕ) (tree : Tree) (adds : Adds old new id 
       terms = All-same (λ i. i < length new) (tiny_items m.terms) (tiny_items l.terms) terms (inside_still old new adds.keeps (tiny_items l.terms) within.terms);
       factors = inside_more old new id tree adds (tiny_items l.factors) (tiny_items m.factors) within.factors factors;
     }
+
+-- a number or a name that ended is one factor more
+pub leaf_more : (old new : List Node) (id : ℕ) (l : Leaf) → Adds old new id (tree_of (tree_at old) (form (Single l))) → (before after : Level) → IsWithin old before
+    → tiny_items after.terms ≡ tiny_items before.terms → tiny_items after.factors ≡ tiny_items before.factors ++ id ∷ []
+    → group_of new after ≡ with_leaf (group_of old before) (open_of (Some l))
+leaf_more old new id (Number n) adds before after within terms factors = factor_more old new id _ adds before after within terms factors
+leaf_more old new id (Name bytes) adds before after within terms factors = factor_more old new id _ adds before after within terms factors
 
 pub outer_still : (old new : List Node) → Keeps old new → (ls : List Level) (gs : List Group) → All (IsWithin old) ls → reverse (map (group_of old) ls) ≡ gs → reverse (map (group_of new) ls) ≡ gs
 outer_still old new keeps ls gs within is = ap reverse (groups_still old new keeps ls within) ∙ is

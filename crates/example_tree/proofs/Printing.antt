@@ -8,7 +8,7 @@ use Rattle.example_tree.specs.Tree.{Tree}
 use Rattle.example_tree.specs.Nodes.{form, forms, form_at, children, IsOrdered, trees_of, tree_of, tree_at}
 use Rattle.example_tree.specs.Printed.{part_text, part_texts, separated, tree_text, AreTexts}
 use Rattle.example_tree.specs.declared.node.Node.{Node}
-use Rattle.example_tree.specs.declared.forest.Operation.{Operation}
+use Rattle.example_tree.specs.declared.node.Operation.{Operation}
 use Rattle.example_tree.proofs.Places.{form_is}
 use Rattle.example_tree.proofs.Readings.{tree_is}
 

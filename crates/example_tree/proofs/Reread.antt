@@ -7,7 +7,7 @@ use Rattle.example_tree.specs.Text.{nothing, digits, letters}
 use Rattle.example_tree.specs.Grammar.{Sum, term, added, Product, factor, multiplied, Part, word, bracket, sum_leaves, product_leaves, part_leaves}
 use Rattle.example_tree.specs.Outcome.{right, Group, State, and, joined, ended, outcome_on, outcome}
 use Rattle.example_tree.specs.Printed.{leaf_text, sign_text}
-use Rattle.example_tree.specs.declared.forest.Operation.TheVariants.{Sum as a_sum, Product as a_product}
+use Rattle.example_tree.specs.declared.node.Operation.TheVariants.{Sum as a_sum, Product as a_product}
 use Rattle.example_tree.proofs.Spelled.{sum_terms, product_factors, part_tree, sum_tree}
 use Rattle.example_tree.proofs.Unbracketed.{sum_text, product_text, factor_text}
 use Rattle.example_tree.proofs.Leading.{Leads, state, number_is_read}

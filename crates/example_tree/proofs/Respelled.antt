@@ -11,7 +11,7 @@ use Rattle.example_tree.specs.Text.{Open, nothing, digits, letters, with_digit, 
 use Rattle.example_tree.specs.Grammar.{Word, operand, mark, words_on, words, open_words, sign_words, before_letter, Sum, term, added, Product, factor, multiplied, Part, word, bracket, sum_words, product_words, part_words, sum_leaves, product_leaves, part_leaves}
 use Rattle.example_tree.specs.Outcome.{right, Group, State, closed_in, start, ended, with_last, sign, next, fault, digit_fault, letter_fault, outcome_on, outcome}
 use Rattle.example_tree.specs.Printed.{leaf_text, sign_text}
-use Rattle.example_tree.specs.declared.forest.Operation.TheVariants.{Sum as a_sum, Product as a_product}
+use Rattle.example_tree.specs.declared.node.Operation.TheVariants.{Sum as a_sum, Product as a_product}
 use Rattle.example_tree.specs.declared.parse_error.Fault.TheVariants.{Number}
 use Rattle.example_tree.proofs.Spelled.{by_bool, no_fault}
 use Rattle.example_tree.proofs.Steps.{next_digit, fault_digit, next_letter, fault_letter, next_sign}

@@ -1,8 +1,9 @@
 -- What one byte does, and what the end of a text does.
-use Rattle.std.proofs.Common.{◌≡◌, ◌∙◌, ℕ, suc, ◌+◌, ◌<◌, List, [], ◌∷◌, length, drop, get_or, Bool, true, false, if◌then◌else◌, Option, None, Some, refl, sym, ap, drop-cons, add-one}
+use Rattle.std.proofs.Common.{◌≡◌, ◌∙◌, ℕ, suc, ◌+◌, ◌<◌, ◌==◌, List, [], ◌∷◌, length, drop, get_or, Bool, true, false, if◌then◌else◌, Option, None, Some, refl, sym, ap, drop-cons, add-one}
 use Rattle.std.specs.Char.{is_ascii_digit, is_ascii_alphabetic}
+use Rattle.std.proofs.Math.Dec.{eqb-suc-zero}
 use Rattle.example_tree.specs.Text.{with_digit, with_letter, sign_of}
-use Rattle.example_tree.specs.Outcome.{State, with_last, ended, sign, next, digit_fault, letter_fault, sign_fault, fault, Outcome, Group, behind_fault, open_fault, end_fault, unless, wrong, outcome_on}
+use Rattle.example_tree.specs.Outcome.{State, with_last, ended, sign, next, digit_fault, letter_fault, sign_fault, fault, Outcome, Group, demanded, behind_fault, open_fault, end_fault, unless, wrong, outcome_on}
 use Rattle.example_tree.specs.Faults.{IsAt, IsSaid}
 use Rattle.example_tree.specs.declared.parse_error.Fault.{Fault}
 use Rattle.example_tree.specs.declared.parse_error.Fault.TheVariants.{Operand, NotClosed}
@@ -69,10 +70,7 @@ ends_early (Syntax place found) at s true same is_at = absurd (cc is_at.1)
 ends_early (Syntax place found) at s false same is_at = (is_at.0, ap (λ o. if o then open_fault s.outer else Some Operand) (sym same) ∙ is_at.1)
 ends_early Memory at s operand same is_at = tt
 
-pub all_closed : (gs : List Group) → length gs ≡ 0 → open_fault gs ≡ None
-all_closed [] none = refl
-all_closed (g ∷ gs) none = absurd (cc none)
-
-pub some_open : (gs : List Group) (n : ℕ) → length gs ≡ suc n → open_fault gs ≡ Some NotClosed
-some_open [] n some = absurd (cc some)
-some_open (g ∷ gs) n some = refl
+-- a bracket is open, or none is
+pub open_is : (gs : List Group) → open_fault gs ≡ demanded (length gs == 0) NotClosed
+open_is [] = refl
+open_is (g ∷ gs) = ap (λ none. demanded none NotClosed) (sym (eqb-suc-zero (length gs)))

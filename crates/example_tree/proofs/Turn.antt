@@ -1,22 +1,20 @@
 -- One node was gone through.
-use Rattle.std.proofs.Common.{◌≡◌, ◌≢◌, ◌∙◌, ℤ, inl, inr, ℕ, zero, suc, ◌<◌, List, [], ◌∷◌, ◌++◌, take, drop, length, set, get_or, All, Result, Ok, Err, OnOk, OnErr, refl, sym, ap, subst, arith, get_or-take, get_or-drop, take-append-drop}
-use Rattle.std.proofs.lemmas.List.{map-set, get_or-map, set-get_or, take-map, length-map}
-use Rattle.std.proofs.lemmas.Bool.Decides.{eqb_tells}
+use Rattle.std.proofs.Common.{◌≡◌, ◌∙◌, ℤ, ℕ, zero, suc, ◌<◌, List, [], ◌∷◌, ◌++◌, take, drop, length, set, get_or, All, Result, Ok, Err, OnOk, OnErr, refl, sym, ap, subst, arith, get_or-take, get_or-drop}
+use Rattle.std.proofs.lemmas.List.{map-set, get_or-map, take-map, length-map}
 use Rattle.std.proofs.lemmas.List.Elements.{All-weaker, All-drop}
 use Rattle.tinyvec.specs.Tiny.{tiny_items}
 use Rattle.tinyvec.specs.declared.tiny_vec.TinyVec.{TinyVec}
 use Rattle.example_tree.specs.Tree.{number, leaf, leaf_value, leaves, value, flat}
-use Rattle.example_tree.specs.Nodes.{Form, leaf_form, sum_form, form, forms, form_at, children, expanded, IsOrdered, IsDone, AreDone, SameFlat, SameLeaves, SameValues, tree_to}
+use Rattle.example_tree.specs.Nodes.{Form, leaf_form, sum_form, form_by, form, forms, form_at, children, expanded, IsOrdered, AreDone, SameFlat, SameLeaves, SameValues, tree_to}
 use Rattle.example_tree.specs.declared.node.Node.{Node}
-use Rattle.example_tree.specs.declared.node.Node.TheVariants.{Number, Name, Sum, Product}
+use Rattle.example_tree.specs.declared.node.Node.TheVariants.{Joined}
+use Rattle.example_tree.specs.declared.node.Operation.{Operation}
+use Rattle.example_tree.specs.declared.node.Operation.TheVariants.{Sum}
 use Rattle.example_tree.proofs.Readings.{kept}
 use Rattle.std.proofs.lemmas.Result.{on_ok_weaker}
 use Rattle.example_tree.proofs.Expanding.{expanded_same, ordered_after, done_after, reading_after}
 use Rattle.example_tree.proofs.Kept.{joined, joined_leaves, joined_law, total, times, total_value, times_value, total_law}
 use Rattle.example_tree.proofs.Flattening.{sum_of, product_of, flat_law, flat_sum, flat_product}
-
-ne_lt : (j id : ℕ) → j ≢ id → j < suc id → j < id
-ne_lt j id other less = omega (arith, other, less)
 
 -- the two parts of a list, of which the first item behind was written
 put_back : {X : Type 0} (xs : List X) (i : ℕ) (x : X) → i < length xs → take i xs ++ set (drop i xs) 0 x ≡ set xs i x
@@ -44,25 +42,6 @@ same_before nodes before id ids ahead below =
     expanded_same (forms before) (forms nodes) ids
     (All-weaker (λ child. child < id) (λ child. form_at (forms before) child ≡ form_at (forms nodes) child)
     (λ child less. ap (λ l. form_at (forms l) child) ahead ∙ ap (λ l. form_at l child) (sym (take-map form id nodes)) ∙ get_or-take id (forms nodes) child (leaf_form (number 0)) less) ids below)
-
--- a node that is no sum is left as it is
-pub unmoved : (nodes before behind : List Node) (id : ℕ) (node : Node) → id < length nodes → before ≡ take id nodes → behind ≡ drop id nodes
-    → before ++ set behind 0 (get_or behind 0 node) ≡ nodes
-unmoved nodes before behind id node inside ahead rest =
-    ap (λ l. before ++ l) (set-get_or behind 0 node) ∙ ap (λ l. l ++ behind) ahead ∙ ap (λ l. take id nodes ++ l) rest ∙ take-append-drop id nodes
-
-pub no_sum_done : (fs : List Form) (node : Node) → ((x : TinyVec (List ℕ) ℕ) → node ≢ Sum x) → IsDone fs (form node)
-no_sum_done fs (Number n) none = tt
-no_sum_done fs (Name x) none = tt
-no_sum_done fs (Sum x) none = absurd (none x refl)
-no_sum_done fs (Product x) none = tt
-
-pub one_more_done : (fs : List Form) (id : ℕ) → AreDone fs id → IsDone fs (form_at fs id) → AreDone fs (suc id)
-one_more_done fs id done this j less =
-    elim (eqb_tells j id) [
-      | inl same ↦ subst (λ i. IsDone fs (form_at fs i)) (sym same.1) this
-      | inr other ↦ done j (ne_lt j id other.1 less)
-    ]
 
 -- how many of the last children gave way to theirs
 pub how_far : {E : Type 0} (fs : List Form) (ids now : List ℕ) (result : Result Unit E) → OnOk result (now ≡ expanded fs ids)
@@ -99,45 +78,27 @@ module _ (fs : List Form) (id : ℕ) (ids now : List ℕ) (k : ℕ) (inside : id
       kept (leaf_value names) total times (value names) (λ l. refl) (total_value names) (times_value names) fs (set fs id (sum_form now)) ordered next
       (reading_after fs id ids now k inside here is ordered (leaf_value names) total times total_law)
 
-always : {E : Type 0} (result : Result Unit E) → OnOk result (Unit {0})
-always (Ok u) = tt
-always (Err e) = tt
-
 -- the node is a sum, and children of it gave way to theirs
-pub sum_turned : {E : Type 0} (nodes before behind : List Node) (id : ℕ) (node : Node) (kids new : TinyVec (List ℕ) ℕ) (result : Result Unit E)
-    → id < length nodes → before ≡ take id nodes → behind ≡ drop id nodes → get_or behind 0 node ≡ Sum kids → IsOrdered (forms nodes) → AreDone (forms nodes) id
+pub sum_turned : {E : Type 0} (nodes before behind : List Node) (id : ℕ) (node : Node) (operation : Operation) (kids new : TinyVec (List ℕ) ℕ) (result : Result Unit E)
+    → id < length nodes → before ≡ take id nodes → behind ≡ drop id nodes → get_or behind 0 node ≡ Joined operation kids → operation ≡ Sum → IsOrdered (forms nodes) → AreDone (forms nodes) id
     → OnOk result (tiny_items new ≡ expanded (forms before) (tiny_items kids))
     → OnErr result ((k : ℕ) × (tiny_items new ≡ take k (tiny_items kids) ++ expanded (forms before) (drop k (tiny_items kids))))
-    → Turned nodes (before ++ set behind 0 (Sum new)) id result
-sum_turned nodes before behind id node kids new result inside ahead rest is_sum ordered done all some =
+    → Turned nodes (before ++ set behind 0 (Joined operation new)) id result
+sum_turned nodes before behind id node operation kids new result inside ahead rest read is_sum ordered done all some =
     let fs = forms nodes in
     let ids = tiny_items kids in
     let now = tiny_items new in
     let within : id < length fs = rw (length-map nodes form) inside in
-    let here : form_at fs id ≡ sum_form ids = here_is nodes behind id node inside rest ∙ ap form is_sum in
+    let here : form_at fs id ≡ sum_form ids = here_is nodes behind id node inside rest ∙ ap form read ∙ ap (λ o. form_by o ids) is_sum in
     let below : All (λ child. child < id) ids = subst (λ f. All (λ child. child < id) (children f)) here (ordered id) in
     let far = how_far (forms before) ids now result all some in
     let is : now ≡ take far.0 ids ++ expanded fs (drop far.0 ids) =
     far.1 ∙ ap (λ l. take far.0 ids ++ l) (same_before nodes before id (drop far.0 ids) ahead (All-drop (λ child. child < id) far.0 ids below)) in
-    let back : forms (before ++ set behind 0 (Sum new)) ≡ set fs id (sum_form now) = forms_back nodes before behind id (Sum new) inside ahead rest in record {
+    let back : forms (before ++ set behind 0 (Joined operation new)) ≡ set fs id (sum_form now) =
+    forms_back nodes before behind id (Joined operation new) inside ahead rest ∙ ap (λ o. set fs id (form_by o now)) is_sum in record {
       done = subst (λ gs. OnOk result (AreDone gs (suc id))) (sym back) (on_ok_weaker result (done_after fs id ids now far.0 within here is ordered done) far.2);
       same = subst (λ gs. (j : ℕ) → flat (tree_to gs (suc j) j) ≡ flat (tree_to fs (suc j) j)) (sym back) (flat_same fs id ids now far.0 within here is ordered);
       leaves = subst (λ gs. (j : ℕ) → leaves (tree_to gs (suc j) j) ≡ leaves (tree_to fs (suc j) j)) (sym back) (leaves_same fs id ids now far.0 within here is ordered);
       values = subst (λ gs. (names : List ℕ → ℤ) (j : ℕ) → value names (tree_to gs (suc j) j) ≡ value names (tree_to fs (suc j) j)) (sym back) (values_same fs id ids now far.0 within here is ordered);
       ordered = subst IsOrdered (sym back) (next fs id ids now far.0 within here is ordered);
-    }
-
--- the node is no sum
-pub other_turned : {E : Type 0} (nodes before behind : List Node) (id : ℕ) (node : Node) (result : Result Unit E)
-    → id < length nodes → before ≡ take id nodes → behind ≡ drop id nodes → ((x : TinyVec (List ℕ) ℕ) → get_or behind 0 node ≢ Sum x) → IsOrdered (forms nodes) → AreDone (forms nodes) id
-    → Turned nodes (before ++ set behind 0 (get_or behind 0 node)) id result
-other_turned nodes before behind id node result inside ahead rest other ordered done =
-    let this : IsDone (forms nodes) (form_at (forms nodes) id) =
-    subst (IsDone (forms nodes)) (sym (here_is nodes behind id node inside rest)) (no_sum_done (forms nodes) (get_or behind 0 node) other) in
-    subst (λ ns. Turned nodes ns id result) (sym (unmoved nodes before behind id node inside ahead rest)) record {
-      done = on_ok_weaker {P = Unit {0}} result (λ u. one_more_done (forms nodes) id done this) (always result);
-      same = λ j. refl;
-      leaves = λ j. refl;
-      values = λ names j. refl;
-      ordered = ordered;
     }

@@ -6,7 +6,7 @@ use Rattle.example_tree.specs.Grammar.{Sum, term, added, Product, factor, multip
 use Rattle.example_tree.specs.Outcome.{joined}
 use Rattle.example_tree.specs.Printed.{leaf_text, sign_text, bracketed, part_text, separated, tree_text, part_texts}
 use Rattle.example_tree.specs.Rewriting.{IsJoined, IsFlatSum, IsFlatTerm, AreFlatFactors, IsFlatFactor}
-use Rattle.example_tree.specs.declared.forest.Operation.TheVariants.{Sum as a_sum, Product as a_product}
+use Rattle.example_tree.specs.declared.node.Operation.TheVariants.{Sum as a_sum, Product as a_product}
 use Rattle.example_tree.proofs.Spelled.{sum_terms, product_factors, part_tree, sum_tree}
 
 -- one sum behind another

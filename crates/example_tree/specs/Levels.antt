@@ -1,14 +1,15 @@
 -- What a contract sees of a line that was read in part.
-use Rattle.std.specs.Prelude.{◌≡◌, ℕ, ◌<◌, ◌≤◌, List, length, map, reverse, All, Option, None, Result, MatchResult}
+use Rattle.std.specs.Prelude.{◌≡◌, ℕ, ◌<◌, ◌≤◌, List, length, map, reverse, All, Bool, if◌then◌else◌, Option, None, Result, MatchResult}
+use Rattle.std.specs.Char.{is_ascii_digit}
 use Rattle.tinyvec.specs.Tiny.{tiny_items}
 use Rattle.example_tree.specs.Tree.{Tree, sum, product, Trees}
-use Rattle.example_tree.specs.Nodes.{Form, sum_form, product_form, forms, trees_of, tree_at, IsOrdered}
-use Rattle.example_tree.specs.Text.{open_of}
-use Rattle.example_tree.specs.Outcome.{Group, State, joined}
+use Rattle.example_tree.specs.Nodes.{forms, trees_of, tree_at, IsOrdered}
+use Rattle.example_tree.specs.Text.{Open, with_digit, with_letter, open_of}
+use Rattle.example_tree.specs.Outcome.{Group, State, joined, digit_fault, letter_fault}
 use Rattle.example_tree.specs.Faults.{IsAt}
 use Rattle.example_tree.specs.declared.node.Node.{Node}
-use Rattle.example_tree.specs.declared.forest.Operation.{Operation}
-use Rattle.example_tree.specs.declared.forest.Operation.TheVariants.{Sum, Product}
+use Rattle.example_tree.specs.declared.node.Operation.{Operation}
+use Rattle.example_tree.specs.declared.node.Operation.TheVariants.{Sum, Product}
 use Rattle.example_tree.specs.declared.level.Level.{Level}
 use Rattle.example_tree.specs.declared.parse.Parser.{Parser}
 use Rattle.example_tree.specs.declared.parse_error.Fault.{Fault}
@@ -25,10 +26,6 @@ pub record Adds (old new : List Node) (id : ℕ) (tree : Tree) : Type 0 where
   pub keeps : Keeps old new
   pub inside : id < length new
   pub there : tree_at new id ≡ tree
-
-abbrev pub form_by : Operation → List ℕ → Form
-form_by Sum ids = sum_form ids
-form_by Product ids = product_form ids
 
 abbrev pub joined_by : Operation → Trees → Tree
 joined_by Sum ts = joined sum ts
@@ -56,6 +53,13 @@ pub record Stands (p : Parser) (s : State) : Type 0 where
   pub inner : group_of p.nodes.items p.level ≡ s.inner
   pub operand : p.after_operand ≡ s.operand
   pub last : open_of p.reading ≡ s.last
+
+-- a digit or a letter that goes on with a number or a name, or begins one
+abbrev pub with_byte : Open → ℕ → Open
+with_byte last byte = if is_ascii_digit byte then with_digit last byte else with_letter last byte
+
+abbrev pub byte_fault : Open → Bool → ℕ → Option Fault
+byte_fault last operand byte = if is_ascii_digit byte then digit_fault last operand byte else letter_fault last operand
 
 -- the error is such a fault, at this place
 abbrev pub Stops : Parser → ℕ → (State → Option Fault) → ParseError → Type 0

@@ -4,7 +4,10 @@ use Rattle.std.specs.List.{flat_map}
 use Rattle.tinyvec.specs.Tiny.{tiny_items}
 use Rattle.example_tree.specs.Tree.{Leaf, number, name, Tree, leaf, sum, product, Trees, none, more, leaves, value, flat}
 use Rattle.example_tree.specs.declared.node.Node.{Node}
-use Rattle.example_tree.specs.declared.node.Node.TheVariants.{Number, Name, Sum, Product}
+use Rattle.example_tree.specs.declared.node.Node.TheVariants.{Leaf as Single, Joined}
+use Rattle.example_tree.specs.declared.node.Leaf.TheVariants.{Number, Name}
+use Rattle.example_tree.specs.declared.node.Operation.{Operation}
+use Rattle.example_tree.specs.declared.node.Operation.TheVariants.{Sum, Product}
 
 -- what a node is: a leaf, or a sum or a product of the nodes with these ids
 pub data Form : Type 0 where
@@ -12,11 +15,15 @@ pub data Form : Type 0 where
   sum_form : List ℕ → Form
   product_form : List ℕ → Form
 
+-- a sum or a product of the nodes with these ids
+abbrev pub form_by : Operation → List ℕ → Form
+form_by Sum ids = sum_form ids
+form_by Product ids = product_form ids
+
 abbrev pub form : Node → Form
-form (Number n) = leaf_form (number n)
-form (Name x) = leaf_form (name (tiny_items x))
-form (Sum children) = sum_form (tiny_items children)
-form (Product children) = product_form (tiny_items children)
+form (Single (Number n)) = leaf_form (number n)
+form (Single (Name x)) = leaf_form (name (tiny_items x))
+form (Joined operation children) = form_by operation (tiny_items children)
 
 abbrev pub forms : List Node → List Form
 forms nodes = map form nodes

@@ -1,5 +1,5 @@
 -- What a text says: its tree, or where it is wrong, and how. One pass over the bytes tells it.
-use Rattle.std.specs.Prelude.{ℕ, suc, ◌+◌, ◌-◌, ◌*◌, ◌^◌, nat_lt, List, [], ◌∷◌, Bool, true, false, if◌then◌else◌, Option, None, Some}
+use Rattle.std.specs.Prelude.{ℕ, suc, ◌+◌, ◌-◌, ◌*◌, ◌^◌, not, nat_lt, List, [], ◌∷◌, Bool, true, false, if◌then◌else◌, Option, None, Some}
 use Rattle.std.specs.Char.{is_ascii_digit, is_ascii_alphabetic}
 use Rattle.example_tree.specs.Tree.{number, name, Tree, leaf, sum, product, Trees, none, more}
 use Rattle.example_tree.specs.Text.{Open, nothing, digits, letters, with_digit, with_letter}
@@ -64,10 +64,6 @@ ended s = record { outer = s.outer; inner = with_leaf s.inner s.last; operand = 
 abbrev pub with_last : State → Open → State
 with_last s last = record { outer = s.outer; inner = s.inner; operand = true; last = last }
 
--- one factor more
-abbrev pub factored : State → Tree → State
-factored s t = record { outer = s.outer; inner = with_factor s.inner t; operand = s.operand; last = s.last }
-
 -- an opening bracket
 abbrev pub deeper : State → State
 deeper s = record { outer = s.inner ∷ s.outer; inner = empty; operand = s.operand; last = s.last }
@@ -100,13 +96,17 @@ next s byte =
     else (if is_ascii_alphabetic byte then with_last s (with_letter s.last byte)
     else sign (ended s) (sign_of byte))
 
+-- a fault, unless something holds
+abbrev pub demanded : Bool → Fault → Option Fault
+demanded holds f = if holds then None else Some f
+
 -- an operand begins, behind another or not
 abbrev pub before_fault : Bool → Option Fault
-before_fault operand = if operand then Some Operator else None
+before_fault operand = demanded (not operand) Operator
 
 -- an operand has to stand before
 abbrev pub behind_fault : Bool → Option Fault
-behind_fault operand = if operand then None else Some Operand
+behind_fault operand = demanded operand Operand
 
 -- of a digit: a number fits 64 bits
 abbrev pub digit_fault : Open → Bool → ℕ → Option Fault

@@ -6,8 +6,8 @@ use Rattle.example_tree.specs.Tree.{Leaf, number, name, Tree, leaf, sum, product
 use Rattle.std.specs.declared.alloc.Global.{Global}
 use Rattle.example_tree.specs.Nodes.{tree_at}
 use Rattle.example_tree.specs.declared.node.Node.{Node}
-use Rattle.example_tree.specs.declared.forest.Operation.{Operation}
-use Rattle.example_tree.specs.declared.forest.Operation.TheVariants.{Sum, Product}
+use Rattle.example_tree.specs.declared.node.Operation.{Operation}
+use Rattle.example_tree.specs.declared.node.Operation.TheVariants.{Sum, Product}
 
 -- a number in decimal, and a name as it is: the names of a line are in UTF-8
 abbrev pub leaf_text : Leaf → List ℕ

@@ -1,8 +1,8 @@
 -- A number or a name of a text, as far as it was read.
-use Rattle.std.specs.Prelude.{ℕ, ◌+◌, ◌-◌, ◌*◌, ◌==◌, if◌then◌else◌, List, [], ◌∷◌, ◌++◌}
+use Rattle.std.specs.Prelude.{ℕ, ◌+◌, ◌-◌, ◌*◌, ◌==◌, if◌then◌else◌, List, [], ◌∷◌, ◌++◌, Option, None, Some}
 use Rattle.tinyvec.specs.Tiny.{tiny_items}
-use Rattle.example_tree.specs.declared.reading.Reading.{Reading}
-use Rattle.example_tree.specs.declared.reading.Reading.TheVariants.{Nothing, Number, Name}
+use Rattle.example_tree.specs.declared.node.Leaf.{Leaf}
+use Rattle.example_tree.specs.declared.node.Leaf.TheVariants.{Number, Name}
 
 -- nothing, or the number or the name that goes up to some place in a text
 pub data Open : Type 0 where
@@ -22,10 +22,10 @@ with_letter nothing byte = letters (byte ∷ [])
 with_letter (digits n) byte = letters (byte ∷ [])
 with_letter (letters bytes) byte = letters (bytes ++ byte ∷ [])
 
-abbrev pub open_of : Reading → Open
-open_of Nothing = nothing
-open_of (Number n) = digits n
-open_of (Name bytes) = letters (tiny_items bytes)
+abbrev pub open_of : Option Leaf → Open
+open_of None = nothing
+open_of (Some (Number n)) = digits n
+open_of (Some (Name bytes)) = letters (tiny_items bytes)
 
 -- what a byte means that is no digit and no letter
 pub data Sign : Type 0 where

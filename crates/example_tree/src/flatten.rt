@@ -6,7 +6,7 @@ ghost use Rattle.std.specs.Iterator.{IsFinite};
 ghost use Rattle.example_tree.specs.Tree.{IsFlat};
 ghost use Rattle.example_tree.specs.Nodes.{forms, tree_at, expanded, IsOrdered, AreDone, SameFlat, SameLeaves, SameValues};
 
-use crate::node::{Node, NodeId};
+use crate::node::{Node, NodeId, Operation};
 use std::alloc::AllocError;
 use tinyvec::TinyVec;
 
@@ -40,7 +40,7 @@ fn flatten_node(nodes: &mut [Node], id: NodeId) -> Result<(), AllocError>
 {
     let (before, behind) = nodes.split_at_mut(id);
     match &mut behind[0] {
-        Node::Sum(children) => expand(children, before),
+        Node::Joined(Operation::Sum, children) => expand(children, before),
         _ => Ok(()),
     }
 }
@@ -53,7 +53,7 @@ fn expand(children: &mut TinyVec<[NodeId; 4]>, nodes: &[Node]) -> Result<(), All
         ≡ take k (tiny_items children.old) ++ expanded (forms nodes.now) (drop k (tiny_items children.old)))) }
 {
     for at in (0..children.len()).rev() {
-        if let Node::Sum(terms) = &nodes[children[at]] {
+        if let Node::Joined(Operation::Sum, terms) = &nodes[children[at]] {
             replace_child(children, at, terms.as_slice())?;
         }
     }

@@ -1,19 +1,12 @@
 //! Trees in a list of nodes, and one tree made of some.
 ghost use Rattle.std.specs.Prelude.{◌≡◌, ◌<◌, length, All, IfOk};
 ghost use Rattle.example_tree.specs.Nodes.{children, form, forms, tree_of, trees_of, tree_at, IsOrdered};
-ghost use Rattle.example_tree.specs.Levels.{Adds, form_by, joined_by};
+ghost use Rattle.example_tree.specs.Levels.{Adds, joined_by};
 ghost use Rattle.tinyvec.specs.Tiny.{tiny_items};
 
-use crate::node::{Node, NodeId};
+use crate::node::{Node, NodeId, Operation};
 use std::alloc::AllocError;
 use tinyvec::TinyVec;
-
-/// What joins trees.
-#[derive(Clone, Copy)]
-pub enum Operation {
-    Sum,
-    Product,
-}
 
 /// One node more. Each tree of the others stays as it is.
 pub fn add(nodes: &mut Vec<Node>, node: Node) -> Result<NodeId, AllocError>
@@ -40,15 +33,5 @@ pub fn joined(
     if parts.len() == 1 {
         return Ok(parts[0]);
     }
-    add(nodes, node_of(operation, parts))
-}
-
-// The sum or the product of some nodes.
-fn node_of(operation: Operation, parts: TinyVec<[NodeId; 4]>) -> Node
-    ensures { form result ≡ form_by operation (tiny_items parts) }
-{
-    match operation {
-        Operation::Sum => Node::Sum(parts),
-        Operation::Product => Node::Product(parts),
-    }
+    add(nodes, Node::Joined(operation, parts))
 }

@@ -5,8 +5,8 @@ ghost use Rattle.example_tree.specs.Nodes.{forms, IsOrdered};
 ghost use Rattle.example_tree.specs.Outcome.{with_term, group_tree};
 ghost use Rattle.example_tree.specs.Levels.{Adds, IsWithin, Keeps, group_of};
 
-use crate::forest::{Operation, joined};
-use crate::node::{Node, NodeId};
+use crate::forest::joined;
+use crate::node::{Node, NodeId, Operation};
 use std::alloc::{AllocError, Global};
 use std::mem::replace;
 use tinyvec::TinyVec;
@@ -35,8 +35,7 @@ impl Level {
         ensures terms { OnOk result (tiny_items self.new.terms ≡ tiny_items self.old.terms) }
         ensures factors { OnOk result (tiny_items self.new.factors ≡ tiny_items self.old.factors ++ id ∷ []) }
     {
-        self.factors.push(id)?;
-        Ok(())
+        Ok(self.factors.push(id)?)
     }
 
     /// A term ends here: its factors are one tree.
@@ -49,8 +48,7 @@ impl Level {
     {
         let factors = replace(&mut self.factors, TinyVec::new(alloc));
         let term = joined(nodes, Operation::Product, factors)?;
-        self.terms.push(term)?;
-        Ok(())
+        Ok(self.terms.push(term)?)
     }
 
     /// The tree of all that was read.
@@ -60,7 +58,6 @@ impl Level {
         ensures { IfOk result (λ id. Adds nodes.old.items nodes.new.items id (group_tree (group_of nodes.old.items self))) }
     {
         self.end_term(alloc, nodes)?;
-        let Level { terms, .. } = self;
-        joined(nodes, Operation::Sum, terms)
+        joined(nodes, Operation::Sum, self.terms)
     }
 }

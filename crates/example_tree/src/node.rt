@@ -4,11 +4,23 @@ use tinyvec::TinyVec;
 /// The index of a node.
 pub type NodeId = usize;
 
+/// A number or a name.
+#[derive(Drop)]
+pub enum Leaf {
+    Number(u64),
+    Name(TinyVec<[u8; 16]>),
+}
+
+/// What joins trees.
+#[derive(Clone, Copy)]
+pub enum Operation {
+    Sum,
+    Product,
+}
+
 /// A node of a tree. A parent stands behind its children.
 #[derive(Drop)]
 pub enum Node {
-    Number(u64),
-    Name(TinyVec<[u8; 16]>),
-    Sum(TinyVec<[NodeId; 4]>),
-    Product(TinyVec<[NodeId; 4]>),
+    Leaf(Leaf),
+    Joined(Operation, TinyVec<[NodeId; 4]>),
 }

@@ -1,18 +1,18 @@
 //! A line of text, read as a tree.
-ghost use Rattle.std.specs.Prelude.{◌≡◌, ◌<◌, length, All, OnOk, IfOk, IfErr};
-ghost use Rattle.example_tree.specs.Nodes.{tree_at, tree_of, form, forms, children, IsOrdered};
+ghost use Rattle.std.specs.Prelude.{◌≡◌, ◌<◌, length, OnOk, IfOk, IfErr};
+ghost use Rattle.example_tree.specs.Nodes.{tree_at, forms, IsOrdered};
 ghost use Rattle.example_tree.specs.Text.{sign_of};
 ghost use Rattle.example_tree.specs.Outcome.{State, outcome, right, start, group_tree};
-ghost use Rattle.example_tree.specs.Outcome.{next, ended, factored, sign, deeper, higher, multiply, add};
+ghost use Rattle.example_tree.specs.Outcome.{next, ended, with_last, sign, deeper, higher, multiply, add};
 ghost use Rattle.example_tree.specs.Outcome.{fault, sign_fault, before_fault, behind_fault, close_fault, end_fault};
 ghost use Rattle.example_tree.specs.Faults.{IsSaid};
-ghost use Rattle.example_tree.specs.Levels.{IsSound, Stands, Stops, Answers};
+ghost use Rattle.example_tree.specs.Levels.{IsSound, Stands, Stops, Answers, with_byte, byte_fault};
 
 use crate::forest::add;
 use crate::level::Level;
-use crate::node::{Node, NodeId};
-use crate::parse_error::{Fault, ParseError, begins, ends, syntax};
-use crate::reading::Reading;
+use crate::node::{Leaf, Node, NodeId};
+use crate::parse_error::{Fault, ParseError, demand, syntax};
+use crate::reading::{begun, longer};
 use std::alloc::{AllocError, Global};
 use std::mem::replace;
 
@@ -29,7 +29,7 @@ pub struct Parser {
     pub nodes: Vec<Node>,
     pub outer: Vec<Level>,
     pub level: Level,
-    pub reading: Reading,
+    pub reading: Option<Leaf>,
     pub after_operand: bool,
 }
 
@@ -57,7 +57,7 @@ impl Parser {
             nodes: Vec::new(alloc),
             outer: Vec::new(alloc),
             level: Level::new(alloc),
-            reading: Reading::Nothing,
+            reading: None,
             after_operand: false,
         }
     }
@@ -67,45 +67,40 @@ impl Parser {
         requires { IsSound self.old }
         ensures { Answers result self.old self.new at (λ s. fault s byte) (λ s. next s byte) }
     {
-        if byte.is_ascii_digit() {
-            let reading = replace(&mut self.reading, Reading::Nothing);
-            self.reading = reading.digit(self.after_operand, byte, at)?;
-            self.after_operand = true;
-            return Ok(());
-        }
-        if byte.is_ascii_alphabetic() {
-            let reading = replace(&mut self.reading, Reading::Nothing);
-            self.reading = reading.letter(alloc, self.after_operand, byte, at)?;
-            self.after_operand = true;
-            return Ok(());
+        if byte.is_ascii_alphanumeric() {
+            return self.word(alloc, byte, at);
         }
         self.flush()?;
         self.sign(alloc, byte, at)
     }
 
-    // Ends a number or a name.
+    // Reads a digit or a letter.
+    fn word(&mut self, alloc: Global, byte: u8, at: usize) -> Result<(), ParseError>
+        requires { IsSound self.old }
+        ensures { Answers result self.old self.new at (λ s. byte_fault s.last s.operand byte) (λ s. with_last s (with_byte s.last byte)) }
+    {
+        let leaf = match self.reading.take() {
+            Some(leaf) => leaf,
+            None => {
+                demand(!self.after_operand, at, Fault::Operator)?;
+                begun(alloc, byte)
+            }
+        };
+        self.reading = Some(longer(leaf, byte, at)?);
+        self.after_operand = true;
+        Ok(())
+    }
+
+    // A number or a name ends, and is a factor.
     fn flush(&mut self) -> Result<(), AllocError>
         requires { IsSound self.old }
         ensures sound { OnOk result (IsSound self.new) }
         ensures ok { OnOk result ((s : State) → Stands self.old s → Stands self.new (ended s)) }
     {
-        match replace(&mut self.reading, Reading::Nothing) {
-            Reading::Nothing => Ok(()),
-            Reading::Number(number) => self.operand(Node::Number(number)),
-            Reading::Name(name) => self.operand(Node::Name(name)),
+        if let Some(leaf) = self.reading.take() {
+            let id = add(&mut self.nodes, Node::Leaf(leaf))?;
+            self.level.factor(id)?;
         }
-    }
-
-    // A number or a name is a factor.
-    fn operand(&mut self, node: Node) -> Result<(), AllocError>
-        requires sound { IsSound self.old }
-        requires children { All (λ child. child < length self.old.nodes.items) (children (form node)) }
-        ensures sound { OnOk result (IsSound self.new) }
-        ensures ok { OnOk result ((s : State) → Stands self.old s
-            → Stands self.new (factored s (tree_of (tree_at self.old.nodes.items) (form node)))) }
-    {
-        let id = add(&mut self.nodes, node)?;
-        self.level.factor(id)?;
         Ok(())
     }
 
@@ -119,7 +114,7 @@ impl Parser {
             b'(' => self.open_bracket(alloc, at),
             b')' => self.close_bracket(alloc, at),
             b'+' => self.plus(alloc, at),
-            b'*' => self.times(at),
+            b'*' => self.operator(at),
             _ => Err(syntax(at, Fault::Byte)),
         }
     }
@@ -129,12 +124,10 @@ impl Parser {
         requires { IsSound self.old }
         ensures { Answers result self.old self.new at (λ s. before_fault s.operand) deeper }
     {
-        begins(self.after_operand, at)?;
+        demand(!self.after_operand, at, Fault::Operator)?;
         let outer = replace(&mut self.level, Level::new(alloc));
-        match self.outer.push(outer) {
-            Ok(()) => Ok(()),
-            Err(_refused) => Err(ParseError::Memory),
-        }
+        self.outer.push(outer).map_err(|_| ParseError::Memory)?;
+        Ok(())
     }
 
     // A closing bracket: what stands in the brackets is one factor.
@@ -142,14 +135,13 @@ impl Parser {
         requires { IsSound self.old }
         ensures { Answers result self.old self.new at close_fault higher }
     {
-        ends(self.after_operand, at)?;
+        demand(self.after_operand, at, Fault::Operand)?;
         let Some(outer) = self.outer.pop() else {
             return Err(syntax(at, Fault::NotOpen));
         };
         let level = replace(&mut self.level, outer);
         let id = level.end(alloc, &mut self.nodes)?;
-        self.level.factor(id)?;
-        Ok(())
+        Ok(self.level.factor(id)?)
     }
 
     // A plus: the factors before it are one term.
@@ -157,18 +149,16 @@ impl Parser {
         requires { IsSound self.old }
         ensures { Answers result self.old self.new at (λ s. behind_fault s.operand) add }
     {
-        ends(self.after_operand, at)?;
-        self.after_operand = false;
-        self.level.end_term(alloc, &mut self.nodes)?;
-        Ok(())
+        self.operator(at)?;
+        Ok(self.level.end_term(alloc, &mut self.nodes)?)
     }
 
-    // A sign of multiplication: one factor more is to come.
-    fn times(&mut self, at: usize) -> Result<(), ParseError>
+    // A sign between two operands: one more is to come.
+    fn operator(&mut self, at: usize) -> Result<(), ParseError>
         requires { IsSound self.old }
         ensures { Answers result self.old self.new at (λ s. behind_fault s.operand) multiply }
     {
-        ends(self.after_operand, at)?;
+        demand(self.after_operand, at, Fault::Operand)?;
         self.after_operand = false;
         Ok(())
     }
@@ -183,14 +173,10 @@ impl Parser {
         ensures err { IfErr result (Stops self end end_fault) }
     {
         self.flush()?;
-        ends(self.after_operand, end)?;
-        if !self.outer.is_empty() {
-            return Err(syntax(end, Fault::NotClosed));
-        }
+        demand(self.after_operand, end, Fault::Operand)?;
+        demand(self.outer.is_empty(), end, Fault::NotClosed)?;
         let root = self.level.end(alloc, &mut self.nodes)?;
-        Ok(Tree {
-            nodes: self.nodes,
-            root,
-        })
+        let nodes = self.nodes;
+        Ok(Tree { nodes, root })
     }
 }

@@ -1,6 +1,6 @@
 //! What is wrong with a line, and where.
 ghost use Rattle.std.specs.Prelude.{◌≡◌, OnOk, IfErr};
-ghost use Rattle.example_tree.specs.Outcome.{before_fault, behind_fault};
+ghost use Rattle.example_tree.specs.Outcome.{demanded};
 ghost use Rattle.example_tree.specs.Faults.{IsAt};
 ghost use Rattle.example_tree.specs.declared.parse_error.ParseError.TheVariants.{Syntax, Memory};
 
@@ -56,24 +56,13 @@ pub fn syntax(at: usize, fault: Fault) -> ParseError
     ParseError::Syntax { at, fault }
 }
 
-/// An operand begins here, and none may stand before it.
-pub fn begins(after_operand: bool, at: usize) -> Result<(), ParseError>
-    ensures ok { OnOk result (before_fault after_operand ≡ None) }
-    ensures err { IfErr result (λ error. IsAt error at (before_fault after_operand)) }
+/// The line has this fault here, unless something holds.
+pub fn demand(holds: bool, at: usize, fault: Fault) -> Result<(), ParseError>
+    ensures ok { OnOk result (demanded holds fault ≡ None) }
+    ensures err { IfErr result (λ error. IsAt error at (demanded holds fault)) }
 {
-    if after_operand {
-        return Err(syntax(at, Fault::Operator));
+    if holds {
+        return Ok(());
     }
-    Ok(())
-}
-
-/// An operand has to stand before this place.
-pub fn ends(after_operand: bool, at: usize) -> Result<(), ParseError>
-    ensures ok { OnOk result (behind_fault after_operand ≡ None) }
-    ensures err { IfErr result (λ error. IsAt error at (behind_fault after_operand)) }
-{
-    if !after_operand {
-        return Err(syntax(at, Fault::Operand));
-    }
-    Ok(())
+    Err(syntax(at, fault))
 }

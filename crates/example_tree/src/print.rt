@@ -4,8 +4,7 @@ ghost use Rattle.example_tree.specs.Tree.{Tree};
 ghost use Rattle.example_tree.specs.Nodes.{form, forms, children, tree_of, trees_of, tree_at, IsOrdered};
 ghost use Rattle.example_tree.specs.Printed.{sign_text, part_text, part_texts, separated, tree_text, AreTexts};
 
-use crate::forest::Operation;
-use crate::node::{Node, NodeId};
+use crate::node::{Leaf, Node, NodeId, Operation};
 use std::alloc::{AllocError, Global};
 
 /// The text of a tree of a list of nodes. A sum or a product that is a factor stands in brackets.
@@ -35,10 +34,9 @@ fn node_text(
     ensures { IfOk result (λ text. string_bytes text ≡ tree_text (tree_of (tree_at nodes.now) (form node.now))) }
 {
     match node {
-        Node::Number(number) => format!(in alloc; "{number}"),
-        Node::Name(name) => String::from_utf8_lossy(alloc, name.as_slice()),
-        Node::Sum(parts) => joined(alloc, Operation::Sum, parts.as_slice(), nodes, texts),
-        Node::Product(parts) => joined(alloc, Operation::Product, parts.as_slice(), nodes, texts),
+        Node::Leaf(Leaf::Number(number)) => format!(in alloc; "{number}"),
+        Node::Leaf(Leaf::Name(name)) => String::from_utf8_lossy(alloc, name.as_slice()),
+        Node::Joined(operation, parts) => joined(alloc, *operation, parts.as_slice(), nodes, texts),
     }
 }
 
@@ -84,7 +82,7 @@ fn part_text(
     ensures { IfOk result (λ part. (tree : ℕ → Tree) → string_bytes part ≡ part_text operation (tree_of tree (form child.now)) text.now) }
 {
     match (operation, child) {
-        (Operation::Product, Node::Sum(_) | Node::Product(_)) => format!(in alloc; "({text})"),
+        (Operation::Product, Node::Joined(..)) => format!(in alloc; "({text})"),
         _ => String::from_str(alloc, text),
     }
 }

@@ -1,69 +1,42 @@
 //! A number or a name that may go on.
-ghost use Rattle.std.specs.Prelude.{◌≡◌, ◌<◌, ◌+◌, ◌*◌, ◌^◌, ◌↔◌, IsTrue, IsSome, IfSome, IfOk, IfErr};
+ghost use Rattle.std.specs.Prelude.{◌≡◌, ◌<◌, ◌+◌, ◌*◌, ◌^◌, ◌↔◌, if◌then◌else◌, [], true, None, Some, IsSome, IfSome, IfOk, IfErr};
 ghost use Rattle.std.specs.Char.{is_ascii_digit};
-ghost use Rattle.example_tree.specs.Text.{open_of, with_digit, with_letter};
-ghost use Rattle.example_tree.specs.Outcome.{digit_fault, letter_fault};
+ghost use Rattle.example_tree.specs.Text.{digits, letters, open_of};
+ghost use Rattle.example_tree.specs.Levels.{with_byte, byte_fault};
 ghost use Rattle.example_tree.specs.Faults.{IsAt};
 
-use crate::parse_error::{Fault, ParseError, begins, syntax};
+use crate::node::Leaf;
+use crate::parse_error::{Fault, ParseError, demand, syntax};
 use std::alloc::Global;
 use tinyvec::TinyVec;
 
-/// What was read last.
-#[derive(Drop)]
-pub enum Reading {
-    Nothing,
-    Number(u64),
-    Name(TinyVec<[u8; 16]>),
+/// What a digit or a letter begins, before it is read: the number 0, or a name with no bytes.
+pub fn begun(alloc: Global, byte: u8) -> Leaf
+    ensures { open_of (Some result) ≡ (if is_ascii_digit byte then digits 0 else letters []) }
+{
+    if byte.is_ascii_digit() {
+        Leaf::Number(0)
+    } else {
+        Leaf::Name(TinyVec::new(alloc))
+    }
 }
 
-impl Reading {
-    /// Goes on with a digit, or begins with it.
-    pub fn digit(self, after_operand: bool, byte: u8, at: usize) -> Result<Reading, ParseError>
-        requires { IsTrue (is_ascii_digit byte) }
-        ensures ok { IfOk result (λ reading. open_of reading ≡ with_digit (open_of self) byte) }
-        ensures right { IfOk result (λ reading. digit_fault (open_of self) after_operand byte ≡ None) }
-        ensures err { IfErr result (λ error. IsAt error at (digit_fault (open_of self) after_operand byte)) }
-    {
-        let digit = u64::from(byte - b'0');
-        match self {
-            Reading::Nothing => {
-                begins(after_operand, at)?;
-                Ok(Reading::Number(digit))
-            }
-            Reading::Number(number) => match appended(number, digit) {
-                Some(longer) => Ok(Reading::Number(longer)),
-                None => Err(syntax(at, Fault::Number)),
-            },
-            Reading::Name(mut name) => {
-                name.push(byte).map_err(|_refused| ParseError::Memory)?;
-                Ok(Reading::Name(name))
-            }
+/// Goes on with a digit or a letter.
+pub fn longer(leaf: Leaf, byte: u8, at: usize) -> Result<Leaf, ParseError>
+    ensures ok { IfOk result (λ longer. open_of (Some longer) ≡ with_byte (open_of (Some leaf)) byte) }
+    ensures right { IfOk result (λ _. byte_fault (open_of (Some leaf)) true byte ≡ None) }
+    ensures err { IfErr result (λ error. IsAt error at (byte_fault (open_of (Some leaf)) true byte)) }
+{
+    match leaf {
+        Leaf::Number(number) => {
+            demand(byte.is_ascii_digit(), at, Fault::Operator)?;
+            let longer = appended(number, u64::from(byte - b'0'));
+            Ok(Leaf::Number(longer.ok_or(syntax(at, Fault::Number))?))
         }
-    }
-
-    /// Goes on with a letter, or begins with it.
-    pub fn letter(
-        self,
-        alloc: Global,
-        after_operand: bool,
-        byte: u8,
-        at: usize,
-    ) -> Result<Reading, ParseError>
-        ensures ok { IfOk result (λ reading. open_of reading ≡ with_letter (open_of self) byte) }
-        ensures right { IfOk result (λ reading. letter_fault (open_of self) after_operand ≡ None) }
-        ensures err { IfErr result (λ error. IsAt error at (letter_fault (open_of self) after_operand)) }
-    {
-        let mut name = match self {
-            Reading::Nothing => {
-                begins(after_operand, at)?;
-                TinyVec::new(alloc)
-            }
-            Reading::Number(_) => return Err(syntax(at, Fault::Operator)),
-            Reading::Name(name) => name,
-        };
-        name.push(byte).map_err(|_refused| ParseError::Memory)?;
-        Ok(Reading::Name(name))
+        Leaf::Name(mut name) => {
+            name.push(byte).map_err(|_| ParseError::Memory)?;
+            Ok(Leaf::Name(name))
+        }
     }
 }
 

@@ -24,7 +24,7 @@ returns c =
       λ s stands.
           let tree = group_tree (group_of old c.replace-level.result) in
           let outer = innermost old c.args.self.now.outer.items rest c.in-Some.outer s.outer c.in-Some.ensures.items stands.outer in
-          let operand = sym stands.operand ∙ operand_there c.args.self.now.after_operand c.in_ok-ends.ensures.ok in (
+          let operand = sym stands.operand ∙ operand_there c.args.self.now.after_operand c.in_ok-demand.ensures.ok in (
             ap (λ o. if o then bracket_fault s.outer else Some Operand) operand ∙ ap bracket_fault (sym outer),
             subst (λ os. Stands record { nodes = c.end.new.nodes; outer = c.pop.new.self; level = c.factor.new.self; reading = c.args.self.now.reading; after_operand = c.args.self.now.after_operand } (closed_in os s)) outer record {
               outer = ap reverse (groups_still old new adds.keeps rest (all_front (IsWithin old) c.in-Some.outer rest all));

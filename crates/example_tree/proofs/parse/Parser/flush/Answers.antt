@@ -1,26 +1,30 @@
-use Rattle.std.proofs.Common.{◌≡◌, ◌∙◌, ap, subst}
-use Rattle.tinyvec.specs.Tiny.{tiny_items}
-use Rattle.example_tree.specs.Text.{nothing, digits, letters, open_of}
-use Rattle.example_tree.specs.Outcome.{State, with_leaf}
-use Rattle.example_tree.specs.Levels.{Stands}
-use Rattle.std.proofs.lemmas.Result.{on_ok_weaker}
+use Rattle.std.proofs.Common.{◌≡◌, ◌∙◌, Some, ap}
+use Rattle.example_tree.specs.Text.{open_of}
+use Rattle.example_tree.specs.Outcome.{with_leaf}
+use Rattle.example_tree.proofs.Groups.{leaf_more, factor_within, all_within_still, outer_still}
 use Rattle.example_tree.proofs.parse.Parser.flush.Goals as goal
 
-abbrev read : State → State
-read s = record { outer = s.outer; inner = s.inner; operand = s.operand; last = nothing }
+pub returns-in_ok-factor-clause-sound : goal.returns-in_ok-factor-clause-sound
+returns-in_ok-factor-clause-sound c =
+    let old = c.args.self.now.nodes.items in
+    let new = c.add.new.nodes.items in
+    let adds = c.in_ok-id.ensures in
+    record {
+      ordered = adds.keeps.ordered;
+      inner = factor_within old new c.in_ok-id.id _ adds c.args.self.now.level c.factor.new.self c.requires.inner c.in_ok-factor.ensures.terms c.in_ok-factor.ensures.factors;
+      outer = all_within_still old new adds.keeps c.args.self.now.outer.items c.requires.outer;
+    }
 
-pub returns-in-Number-clause-ok : goal.returns-in-Number-clause-ok
-returns-in-Number-clause-ok c =
-    let was : digits c.in-Number.number ≡ open_of c.args.self.now.reading = ap open_of c.in-Number.ensures.value in
-    on_ok_weaker c.operand.result (λ ok s stands.
-    subst (λ o. Stands c.operand.new.self record { outer = s.outer; inner = with_leaf s.inner o; operand = s.operand; last = nothing }) (was ∙ stands.last)
-    (ok (read s) record { outer = stands.outer; inner = stands.inner; operand = stands.operand; last = ap open_of c.in-Number.ensures.after }))
-    c.operand.ensures.ok
-
-pub returns-in-Name-clause-ok : goal.returns-in-Name-clause-ok
-returns-in-Name-clause-ok c =
-    let was : letters (tiny_items c.in-Name.name) ≡ open_of c.args.self.now.reading = ap open_of c.in-Name.ensures.value in
-    on_ok_weaker c.operand-in-Name.result (λ ok s stands.
-    subst (λ o. Stands c.operand-in-Name.new.self record { outer = s.outer; inner = with_leaf s.inner o; operand = s.operand; last = nothing }) (was ∙ stands.last)
-    (ok (read s) record { outer = stands.outer; inner = stands.inner; operand = stands.operand; last = ap open_of c.in-Name.ensures.after }))
-    c.operand-in-Name.ensures.ok
+pub returns-in_ok-factor-clause-ok : goal.returns-in_ok-factor-clause-ok
+returns-in_ok-factor-clause-ok c = λ s stands.
+    let old = c.args.self.now.nodes.items in
+    let new = c.add.new.nodes.items in
+    let adds = c.in_ok-id.ensures in
+    let was : open_of (Some c.in-Some.leaf) ≡ s.last = ap open_of c.in-Some.ensures.value ∙ stands.last in
+    record {
+      outer = outer_still old new adds.keeps c.args.self.now.outer.items s.outer c.requires.outer stands.outer;
+      inner = leaf_more old new c.in_ok-id.id c.in-Some.leaf adds c.args.self.now.level c.factor.new.self c.requires.inner c.in_ok-factor.ensures.terms c.in_ok-factor.ensures.factors
+          ∙ ap (λ g. with_leaf g (open_of (Some c.in-Some.leaf))) stands.inner ∙ ap (with_leaf s.inner) was;
+      operand = stands.operand;
+      last = ap open_of c.in-Some.ensures.after;
+    }

@@ -10,4 +10,4 @@ returns-in-40 c =
 
 pub returns-in-42 : goal.returns-in-42
 returns-in-42 c =
-    subst (λ b. Answers c.times.result c.args.self.now c.times.new.self c.args.at (λ s. sign_fault s (sign_of b)) (λ s. sign s (sign_of b))) (sym c.in-42.is) c.times.ensures
+    subst (λ b. Answers c.operator.result c.args.self.now c.operator.new.self c.args.at (λ s. sign_fault s (sign_of b)) (λ s. sign s (sign_of b))) (sym c.in-42.is) c.operator.ensures
