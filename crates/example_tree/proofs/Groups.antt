@@ -4,7 +4,7 @@ use Rattle.std.proofs.lemmas.List.Elements.{All-head, All-tail, All-weaker, All-
 use Rattle.std.proofs.lemmas.List.{map-append, reverse-append, length-reverse, length-map}
 use Rattle.tinyvec.specs.Tiny.{tiny_items}
 use Rattle.example_tree.specs.Tree.{Tree, product, Trees, more}
-use Rattle.example_tree.specs.Nodes.{form, form_by, forms, IsOrdered, trees_of, tree_of, tree_at}
+use Rattle.example_tree.specs.Nodes.{form, form_by, trees_of, tree_of, tree_at}
 use Rattle.example_tree.specs.Outcome.{Group, and, joined, with_factor, with_leaf, with_term}
 use Rattle.example_tree.specs.Levels.{Keeps, Adds, IsWithin, group_of, joined_by}
 use Rattle.example_tree.specs.declared.node.Operation.{Operation}
@@ -21,9 +21,6 @@ use Rattle.example_tree.proofs.Readings.{trees_same}
 pub and_last : (tree : ℕ → Tree) (ids : List ℕ) (id : ℕ) → trees_of tree (ids ++ id ∷ []) ≡ and (trees_of tree ids) (tree id)
 and_last tree [] id = refl
 and_last tree (i ∷ ids) id = ap (λ ts. more (tree i) ts) (and_last tree ids id)
-
-pub keeps_all : (nodes : List Node) → IsOrdered (forms nodes) → Keeps nodes nodes
-keeps_all nodes ordered = record { ordered = ordered; longer = omega arith; trees = λ id inside. refl }
 
 -- more than one are joined
 pub joined_more : (tree : ℕ → Tree) (operation : Operation) (ids : List ℕ) → length ids ≢ 1 → tree_of tree (form_by operation ids) ≡ joined_by operation (trees_of tree ids)
