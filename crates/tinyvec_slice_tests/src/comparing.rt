@@ -1,119 +1,100 @@
 //! Comparisons and hashes.
 use std::cmp::Ordering;
 use std::hash::{DefaultHasher, Hash, Hasher};
+use std::process::Abort;
 use tinyvec_slice::SliceVec;
-use tinyvec_test_items::assert_is;
+
+// Whether each comparison tells of this order, or of none.
+fn is_ordered<T: PartialOrd + Drop>(
+    v: &SliceVec<'_, T>,
+    w: &SliceVec<'_, T>,
+    order: Option<Ordering>,
+) -> bool {
+    let less = order == Some(Ordering::Less);
+    let equal = order == Some(Ordering::Equal);
+    let greater = order == Some(Ordering::Greater);
+    let strict = ((v < w) == less) & ((v > w) == greater);
+    let weak = ((v <= w) == (less | equal)) & ((v >= w) == (greater | equal));
+    let same = ((v == w) == equal) & ((v != w) != equal);
+    strict & weak & same & (v.partial_cmp(w) == order)
+}
+
+// Asserts how two vectors compare, either way round, and that their hashes are equal where they are.
+fn assert_compare(rt: &impl Abort, v: &SliceVec<'_, i32>, w: &SliceVec<'_, i32>, order: Ordering) {
+    assert!(rt; is_ordered(v, w, Some(order)));
+    assert!(rt; is_ordered(w, v, Some(order.reverse())));
+    assert!(rt; v.cmp(w) == order);
+    assert!(rt; w.cmp(v) == order.reverse());
+    assert!(rt; (hash_of(v) == hash_of(w)) == (order == Ordering::Equal));
+}
+
+// The same of the lists of so many items in these slots.
+fn assert_order<const N: usize, const M: usize>(
+    rt: &impl Abort,
+    (slots, len): ([i32; N], usize),
+    (other_slots, other_len): ([i32; M], usize),
+    order: Ordering,
+) {
+    let mut one = slots;
+    let mut two = other_slots;
+    let v = SliceVec::from_slice_at_most(&mut one, len);
+    let w = SliceVec::from_slice_at_most(&mut two, other_len);
+    assert_compare(rt, &v, &w, order);
+}
 
 #[test]
 fn a_prefix_is_less(rt: HostRuntime) {
-    let mut short = [1, 2, 7];
-    let mut long = [1, 2, 0];
-    let v = SliceVec::from_slice_len(&mut short, 2);
-    let w = SliceVec::from_slice_len(&mut long, 3);
-    assert!(rt; v < w);
-    assert!(rt; v <= w);
-    assert!(rt; w > v);
-    assert!(rt; v != w);
-    assert_is!(rt; v.partial_cmp(&w), Some(Ordering::Less));
-    assert_is!(rt; v.cmp(&w), Ordering::Less);
-    assert_is!(rt; w.cmp(&v), Ordering::Greater);
+    assert_order(&rt, ([1, 2, 7], 2), ([1, 2, 0], 3), Ordering::Less);
 }
 
 #[test]
 fn the_first_difference_decides(rt: HostRuntime) {
-    let mut short = [1, 3];
-    let mut long = [1, 2, 9];
-    let v = SliceVec::from_slice(&mut short);
-    let w = SliceVec::from_slice(&mut long);
-    assert!(rt; v > w);
-    assert!(rt; v >= w);
-    assert!(rt; v != w);
-    assert_is!(rt; v.partial_cmp(&w), Some(Ordering::Greater));
-    assert_is!(rt; v.cmp(&w), Ordering::Greater);
-    assert_is!(rt; w.cmp(&v), Ordering::Less);
+    assert_order(&rt, ([1, 3], 2), ([1, 2, 9], 3), Ordering::Greater);
 }
 
 // Long lists are compared in blocks, so each length has its turn.
 #[test]
 fn the_last_item_decides(rt: HostRuntime) {
     for last in 0..100 {
-        let mut low = [7; 101];
-        let mut same = [7; 101];
         let mut high = [7; 101];
         high[last] = 8;
-        let v = SliceVec::from_slice_at_most(&mut low, last + 1);
-        let w = SliceVec::from_slice_at_most(&mut same, last + 1);
-        let x = SliceVec::from_slice_at_most(&mut high, last + 1);
-        assert!(rt; v == w);
-        assert_is!(rt; v.cmp(&w), Ordering::Equal);
-        assert_is!(rt; v.partial_cmp(&w), Some(Ordering::Equal));
-        assert!(rt; v != x);
-        assert_is!(rt; v.cmp(&x), Ordering::Less);
-        assert_is!(rt; x.cmp(&v), Ordering::Greater);
-        assert_is!(rt; v.partial_cmp(&x), Some(Ordering::Less));
+        let low = ([7; 101], last + 1);
+        assert_order(&rt, low, low, Ordering::Equal);
+        assert_order(&rt, low, (high, last + 1), Ordering::Less);
     }
 }
 
 #[test]
 fn spare_slots_do_not_count(rt: HostRuntime) {
-    let mut few = [4, 5, 6];
-    let mut many = [4, 5, 7, 8, 9];
-    let v = SliceVec::from_slice_len(&mut few, 2);
-    let w = SliceVec::from_slice_len(&mut many, 2);
-    assert!(rt; v == w);
-    assert_is!(rt; v.partial_cmp(&w), Some(Ordering::Equal));
-    assert_is!(rt; v.cmp(&w), Ordering::Equal);
-    assert!(rt; hash_of(&v) == hash_of(&w));
-    assert!(rt; v.as_inner() != w.as_inner());
+    assert_order(&rt, ([4, 5, 6], 2), ([4, 5, 7, 8, 9], 2), Ordering::Equal);
 }
 
 #[test]
 fn other_lists_are_not_equal(rt: HostRuntime) {
-    let mut one = [4, 5, 6];
-    let mut two = [4, 5, 6];
-    let v = SliceVec::from_slice_len(&mut one, 2);
-    let mut w = SliceVec::from_slice_len(&mut two, 3);
-    assert!(rt; v != w);
-    assert!(rt; hash_of(&v) != hash_of(&w));
-    w.truncate(2);
-    assert!(rt; v == w);
-    assert!(rt; hash_of(&v) == hash_of(&w));
-    w[0] = 3;
-    assert!(rt; v != w);
-    assert!(rt; v > w);
+    let list = ([4, 5, 6], 2);
+    assert_order(&rt, list, ([4, 5, 6], 3), Ordering::Less);
+    assert_order(&rt, list, ([4, 5, 0], 2), Ordering::Equal);
+    assert_order(&rt, list, ([3, 5, 0], 2), Ordering::Greater);
 }
 
 #[test]
 fn empty_lists(rt: HostRuntime) {
-    let mut one = [4, 5];
-    let mut two = [0];
-    let none = SliceVec::from_slice_len(&mut one, 0);
-    let least = SliceVec::from_slice_len(&mut two, 1);
-    let over_no_slots: SliceVec<'_, i32> = SliceVec::default();
-    assert!(rt; none == over_no_slots);
-    assert_is!(rt; none.cmp(&over_no_slots), Ordering::Equal);
-    assert!(rt; hash_of(&none) == hash_of(&over_no_slots));
-    assert!(rt; none < least);
-    assert_is!(rt; least.cmp(&none), Ordering::Greater);
+    let mut slots = [4, 5];
+    let none = SliceVec::from_slice_len(&mut slots, 0);
+    assert_compare(&rt, &none, &SliceVec::default(), Ordering::Equal);
+    assert_order(&rt, ([4, 5], 0), ([0], 1), Ordering::Less);
 }
 
 // An item that is equal to none, not even to itself, has no order.
 #[test]
 fn no_order(rt: HostRuntime) {
-    let mut one = [1.0, f64::NAN, 3.0];
-    let mut two = [1.0, f64::NAN, 3.0];
-    {
+    for (first, order) in [(1.0, None), (2.0, Some(Ordering::Less))] {
+        let mut one = [1.0, f64::NAN, 3.0];
+        let mut two = [first, f64::NAN, 3.0];
         let v = SliceVec::from_slice_len(&mut one, 2);
         let w = SliceVec::from_slice_len(&mut two, 2);
-        assert!(rt; v != w);
-        assert_is!(rt; v.partial_cmp(&w), None);
-        assert!(rt; !(v < w));
-        assert!(rt; !(v >= w));
+        assert!(rt; is_ordered(&v, &w, order));
     }
-    two[0] = 2.0;
-    let v = SliceVec::from_slice_len(&mut one, 2);
-    let w = SliceVec::from_slice_len(&mut two, 2);
-    assert_is!(rt; v.partial_cmp(&w), Some(Ordering::Less));
 }
 
 // A vector feeds a hasher what a slice of its items feeds it.

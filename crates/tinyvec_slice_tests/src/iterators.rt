@@ -11,7 +11,7 @@ fn into_iter_lends_the_list_alone(rt: HostRuntime) {
         count = count.saturating_add(1);
     }
     assert!(rt; count == 2);
-    assert_items!(rt; &slots, [11, 12, 3]);
+    assert!(rt; slots == [11, 12, 3]);
 }
 
 // Every length of the list: each slot keeps its place, whether or not the iterator is asked.
@@ -21,7 +21,7 @@ fn into_iter_moves_no_slot(rt: HostRuntime) {
         let mut slots = [1, 2, 3, 4];
         let mut unasked = SliceVec::from_slice_len(&mut slots, len).into_iter();
         assert!(rt; unasked.next().is_some() == (len > 0));
-        assert_items!(rt; &slots, [1, 2, 3, 4]);
+        assert!(rt; slots == [1, 2, 3, 4]);
         let mut at = 10;
         for x in SliceVec::from_slice_len(&mut slots, len) {
             *x = at;
@@ -44,5 +44,5 @@ fn iter_and_iter_mut(rt: HostRuntime) {
     assert_is!(rt; items.next(), Some(&-1));
     assert_is!(rt; items.next_back(), Some(&-2));
     assert_is!(rt; items.next(), None);
-    assert_items!(rt; &slots, [-1, -2, 3]);
+    assert!(rt; slots == [-1, -2, 3]);
 }

@@ -4,71 +4,42 @@ use std::test::Fail;
 use tinyvec_slice::SliceVec;
 use tinyvec_test_items::{assert_debugs, assert_is, assert_shows};
 
-/// Shows a vector in base 2.
-#[derive(Drop)]
-struct Binary<'a, 's>(&'a SliceVec<'s, u8>);
+#[derive(Clone, Copy)]
+enum Base {
+    Binary,
+    Octal,
+    LowerHex,
+    UpperHex,
+}
 
-impl<'a, 's> fmt::Display for Binary<'a, 's> {
+/// Shows a vector in a base.
+#[derive(Drop)]
+struct InBase<'a, 's>(Base, &'a SliceVec<'s, u8>);
+
+impl<'a, 's> fmt::Display for InBase<'a, 's> {
     fn fmt<W: fmt::Write>(&self, f: &mut fmt::Formatter<W>) -> fmt::Result {
-        fmt::Binary::fmt(self.0, f)
+        match self.0 {
+            Base::Binary => fmt::Binary::fmt(self.1, f),
+            Base::Octal => fmt::Octal::fmt(self.1, f),
+            Base::LowerHex => fmt::LowerHex::fmt(self.1, f),
+            Base::UpperHex => fmt::UpperHex::fmt(self.1, f),
+        }
     }
 }
 
-/// Shows a vector in base 8.
-#[derive(Drop)]
-struct Octal<'a, 's>(&'a SliceVec<'s, u8>);
-
-impl<'a, 's> fmt::Display for Octal<'a, 's> {
-    fn fmt<W: fmt::Write>(&self, f: &mut fmt::Formatter<W>) -> fmt::Result {
-        fmt::Octal::fmt(self.0, f)
-    }
-}
-
-/// Shows a vector in base 16.
-#[derive(Drop)]
-struct Hex<'a, 's>(&'a SliceVec<'s, u8>);
-
-impl<'a, 's> fmt::Display for Hex<'a, 's> {
-    fn fmt<W: fmt::Write>(&self, f: &mut fmt::Formatter<W>) -> fmt::Result {
-        fmt::LowerHex::fmt(self.0, f)
-    }
-}
-
-/// Shows a vector in base 16, in upper case.
-#[derive(Drop)]
-struct UpperHex<'a, 's>(&'a SliceVec<'s, u8>);
-
-impl<'a, 's> fmt::Display for UpperHex<'a, 's> {
-    fn fmt<W: fmt::Write>(&self, f: &mut fmt::Formatter<W>) -> fmt::Result {
-        fmt::UpperHex::fmt(self.0, f)
-    }
-}
-
+// The texts of `{}` and of `{:?}`, which are the same of numbers.
 #[test]
-fn shown_after_each_push(rt: HostRuntime) -> Result<(), Fail> {
+fn after_each_push(rt: HostRuntime) -> Result<(), Fail> {
     let mut slots = [1, 2, 3, 4];
     let mut v = SliceVec::from_slice_len(&mut slots, 0);
     assert_shows!(rt; v, "[]");
-    v.push(10);
-    assert_shows!(rt; v, "[10]");
-    v.push(11);
-    assert_shows!(rt; v, "[10, 11]");
-    v.push(12);
-    assert_shows!(rt; v, "[10, 11, 12]");
-    Ok(())
-}
-
-#[test]
-fn debugged_after_each_push(rt: HostRuntime) -> Result<(), Fail> {
-    let mut slots = [1, 2, 3, 4];
-    let mut v = SliceVec::from_slice_len(&mut slots, 0);
     assert_debugs!(rt; v, "[]");
-    v.push(10);
-    assert_debugs!(rt; v, "[10]");
-    v.push(11);
-    assert_debugs!(rt; v, "[10, 11]");
-    v.push(12);
-    assert_debugs!(rt; v, "[10, 11, 12]");
+    for (item, text) in [(10, "[10]"), (11, "[10, 11]"), (12, "[10, 11, 12]")] {
+        assert!(rt; !v.is_full());
+        v.push(item);
+        assert_shows!(rt; v, text);
+        assert_debugs!(rt; v, text);
+    }
     Ok(())
 }
 
@@ -82,39 +53,25 @@ fn each_item_by_its_own_text(rt: HostRuntime) -> Result<(), Fail> {
     Ok(())
 }
 
-#[test]
-fn in_base_2(rt: HostRuntime) -> Result<(), Fail> {
-    let mut slots = [2, 5, 9];
-    let v = SliceVec::from_slice_len(&mut slots, 2);
-    assert_shows!(rt; Binary(&v), "[10, 101]");
-    Ok(())
-}
+// A base, the slots and the length of a list, and its text.
+const IN_BASES: [(Base, [u8; 3], usize, &str); 8] = [
+    (Base::Binary, [2, 5, 9], 2, "[10, 101]"),
+    (Base::Octal, [8, 9, 9], 2, "[10, 11]"),
+    (Base::LowerHex, [10, 255, 9], 2, "[a, ff]"),
+    (Base::UpperHex, [10, 255, 9], 2, "[A, FF]"),
+    (Base::Binary, [10, 255, 9], 0, "[]"),
+    (Base::Octal, [10, 255, 9], 0, "[]"),
+    (Base::LowerHex, [10, 255, 9], 0, "[]"),
+    (Base::UpperHex, [10, 255, 9], 0, "[]"),
+];
 
 #[test]
-fn in_base_8(rt: HostRuntime) -> Result<(), Fail> {
-    let mut slots = [8, 9, 9];
-    let v = SliceVec::from_slice_len(&mut slots, 2);
-    assert_shows!(rt; Octal(&v), "[10, 11]");
-    Ok(())
-}
-
-#[test]
-fn in_base_16(rt: HostRuntime) -> Result<(), Fail> {
-    let mut slots = [10, 255, 9];
-    let v = SliceVec::from_slice_len(&mut slots, 2);
-    assert_shows!(rt; Hex(&v), "[a, ff]");
-    assert_shows!(rt; UpperHex(&v), "[A, FF]");
-    Ok(())
-}
-
-#[test]
-fn an_empty_list_in_each_base(rt: HostRuntime) -> Result<(), Fail> {
-    let mut slots = [10, 255];
-    let v = SliceVec::from_slice_len(&mut slots, 0);
-    assert_shows!(rt; Binary(&v), "[]");
-    assert_shows!(rt; Octal(&v), "[]");
-    assert_shows!(rt; Hex(&v), "[]");
-    assert_shows!(rt; UpperHex(&v), "[]");
+fn in_each_base(rt: HostRuntime) -> Result<(), Fail> {
+    for (base, slots, len, text) in IN_BASES {
+        let mut slots = slots;
+        let v = SliceVec::from_slice_at_most(&mut slots, len);
+        assert_shows!(rt; InBase(base, &v), text);
+    }
     Ok(())
 }
 
