@@ -1,8 +1,9 @@
 //! Each growing call on a full `[1, 2]`, with memory granted.
 use crate::asking::Asking;
-use std::alloc::{AllocError, Global};
+use crate::steps::{Need, Place, Step, assert_steps};
+use std::alloc::Global;
 use std::test::Fail;
-use tinyvec::{NoMemory, TinyVec};
+use tinyvec::TinyVec;
 use tinyvec_test_looks::lies;
 
 fn full(alloc: Global) -> TinyVec<[i32; 2]> {
@@ -42,36 +43,55 @@ fn nothing_more(rt: HostRuntime) {
     }
 }
 
+// Appends, and says whether that was granted.
+fn appends(v: &mut TinyVec<[i32; 2]>, other: &mut TinyVec<[i32; 2]>) -> bool {
+    v.append(other).is_ok()
+}
+
 #[test]
-fn append(rt: HostRuntime) -> Result<(), Fail> {
+fn append(rt: HostRuntime) {
     let mut v = full(rt.alloc());
     let mut other = TinyVec::from_array_len(rt.alloc(), [3, 0], 1);
-    v.append(&mut other)?;
+    assert!(rt; appends(&mut v, &mut other), "memory was granted");
     assert!(rt; lies(&v, &[1, 2, 3], false));
     assert!(rt; lies(&other, &[], true));
     let mut v = full(rt.alloc());
-    v.append(&mut full(rt.alloc()))?;
+    let is_granted = appends(&mut v, &mut full(rt.alloc()));
+    assert!(rt; is_granted, "memory was granted");
     assert!(rt; lies(&v, &[1, 2, 1, 2], false));
-    Ok(())
 }
+
+const RESIZE: [Step; 2] = [
+    (
+        Asking::Resize(3, 3),
+        Need::Memory,
+        &[1, 2, 3],
+        Place::Heap(3),
+    ),
+    (Asking::Resize(1, 9), Need::Nothing, &[1], Place::Heap(1)),
+];
+
+const RESIZE_OF_FEW: [Step; 1] = [(
+    Asking::Resize(3, 6),
+    Need::Nothing,
+    &[1, 6, 6],
+    Place::Inline(&[0]),
+)];
 
 #[test]
 fn resize(rt: HostRuntime) {
-    let mut v = full(rt.alloc());
-    assert!(rt; v.resize(3, 3).is_ok(), "memory was granted");
-    assert!(rt; lies(&v, &[1, 2, 3], false));
-    assert!(rt; v.resize(1, 9).is_ok());
-    assert!(rt; lies(&v, &[1], false));
+    assert_steps(&rt, &mut full(rt.alloc()), &RESIZE);
     let mut many: TinyVec<[i32; 10]> = TinyVec::new(rt.alloc());
-    assert!(rt; many.resize(20, 5).is_ok(), "memory was granted");
+    let is_granted = Asking::Resize(20, 5).make(&mut many).is_ok();
+    assert!(rt; is_granted, "memory was granted");
     assert!(rt; lies(&many, &[5; 20], false));
     let mut few: TinyVec<[i32; 4]> = TinyVec::from_array_len(rt.alloc(), [1, 0, 0, 0], 1);
-    assert!(rt; few.resize(3, 6).is_ok());
-    assert!(rt; lies(&few, &[1, 6, 6], true));
-    assert!(rt; few.resize(1 << 60, 7) == Err(NoMemory(7)));
+    assert_steps(&rt, &mut few, &RESIZE_OF_FEW);
+    assert!(rt; Asking::Resize(1 << 60, 7).make(&mut few) == Err(Some(7)));
     assert!(rt; lies(&few, &[1, 6, 6], true));
 }
 
+// A call for more than there is room for asks its closure nothing.
 #[test]
 fn resize_with(rt: HostRuntime) -> Result<(), Fail> {
     let mut few: TinyVec<[i32; 4]> = TinyVec::from_array_len(rt.alloc(), [1, 0, 0, 0], 1);
@@ -82,9 +102,9 @@ fn resize_with(rt: HostRuntime) -> Result<(), Fail> {
     })?;
     assert!(rt; last == 12);
     assert!(rt; lies(&few, &[1, 11, 12], true));
-    few.resize_with(2, || 9)?;
+    assert!(rt; Asking::ResizeWith(2, 9).make(&mut few) == Ok(()));
     assert!(rt; lies(&few, &[1, 11], true));
-    assert!(rt; few.resize_with(1 << 60, || 9) == Err(AllocError));
+    assert!(rt; Asking::ResizeWith(1 << 60, 9).make(&mut few) == Err(Some(0)));
     assert!(rt; lies(&few, &[1, 11], true));
     Ok(())
 }
@@ -114,8 +134,8 @@ fn room_grows_by_steps(rt: HostRuntime) -> Result<(), Fail> {
 fn append_keeps_the_room_that_is_there(rt: HostRuntime) -> Result<(), Fail> {
     let mut v: TinyVec<[i32; 2]> = TinyVec::with_capacity(rt.alloc(), 9)?;
     let mut other: TinyVec<[i32; 2]> = TinyVec::from_slice(rt.alloc(), &[1, 2, 3])?;
-    v.append(&mut other)?;
-    v.append(&mut other)?;
+    assert!(rt; appends(&mut v, &mut other));
+    assert!(rt; appends(&mut v, &mut other));
     assert!(rt; lies(&v, &[1, 2, 3], false));
     assert!(rt; lies(&other, &[], false));
     assert!(rt; v.capacity() == 9);

@@ -13,3 +13,5 @@ mod moving;
 mod refusals;
 #[cfg(test)]
 mod reserving;
+#[cfg(test)]
+mod steps;

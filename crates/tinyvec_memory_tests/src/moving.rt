@@ -1,57 +1,113 @@
 //! Moves between the array and the heap.
 use crate::asking::Asking;
-use std::alloc::AllocError;
+use crate::steps::{Need, Place, Step, assert_steps};
 use std::test::Fail;
 use tinyvec::TinyVec;
 use tinyvec_test_looks::{lies, spares};
 
-#[test]
-fn there_and_back(rt: HostRuntime) -> Result<(), Fail> {
-    let mut v: TinyVec<[i32; 4]> = TinyVec::new(rt.alloc());
-    v.move_to_the_heap()?;
-    assert!(rt; lies(&v, &[], false));
-    assert!(rt; v.push(1).is_ok(), "memory was granted");
-    v.shrink_to_fit();
-    assert!(rt; lies(&v, &[1], true));
-    assert!(rt; spares(&v, &[0, 0, 0]));
-    v.move_to_the_heap_and_reserve(3)?;
-    assert!(rt; lies(&v, &[1], false));
-    assert!(rt; v.capacity() >= 4);
-    assert!(rt; v.extend(2..=4).is_ok());
-    assert!(rt; lies(&v, &[1, 2, 3, 4], false));
-    Ok(())
-}
+const THERE_AND_BACK: [Step; 5] = [
+    (Asking::MoveToTheHeap, Need::Memory, &[], Place::Heap(0)),
+    (Asking::Push(1), Need::Memory, &[1], Place::Heap(1)),
+    (
+        Asking::ShrinkToFit,
+        Need::Nothing,
+        &[1],
+        Place::Inline(&[0, 0, 0]),
+    ),
+    (
+        Asking::MoveToTheHeapAndReserve(3),
+        Need::Memory,
+        &[1],
+        Place::Heap(4),
+    ),
+    (
+        Asking::Extend(2, 4),
+        Need::Nothing,
+        &[1, 2, 3, 4],
+        Place::Heap(4),
+    ),
+];
 
 #[test]
-fn try_there_and_back(rt: HostRuntime) -> Result<(), Fail> {
+fn there_and_back(rt: HostRuntime) {
     let mut v: TinyVec<[i32; 4]> = TinyVec::new(rt.alloc());
-    v.try_move_to_the_heap()?;
-    v.try_reserve_exact(1)?;
-    assert!(rt; lies(&v, &[], false));
-    assert!(rt; v.push(1).is_ok());
-    v.shrink_to_fit();
-    assert!(rt; lies(&v, &[1], true));
-    v.try_move_to_the_heap_and_reserve(3)?;
-    assert!(rt; v.capacity() >= 4);
-    assert!(rt; v.extend(2..=4).is_ok());
-    assert!(rt; lies(&v, &[1, 2, 3, 4], false));
-    Ok(())
+    assert_steps(&rt, &mut v, &THERE_AND_BACK);
 }
+
+const TRY_THERE_AND_BACK: [Step; 6] = [
+    (Asking::TryMoveToTheHeap, Need::Memory, &[], Place::Heap(0)),
+    (
+        Asking::TryReserveExact(1),
+        Need::Memory,
+        &[],
+        Place::Heap(1),
+    ),
+    (Asking::Push(1), Need::Nothing, &[1], Place::Heap(1)),
+    (
+        Asking::ShrinkToFit,
+        Need::Nothing,
+        &[1],
+        Place::Inline(&[0, 0, 0]),
+    ),
+    (
+        Asking::TryMoveToTheHeapAndReserve(3),
+        Need::Memory,
+        &[1],
+        Place::Heap(4),
+    ),
+    (
+        Asking::Extend(2, 4),
+        Need::Nothing,
+        &[1, 2, 3, 4],
+        Place::Heap(4),
+    ),
+];
+
+#[test]
+fn try_there_and_back(rt: HostRuntime) {
+    let mut v: TinyVec<[i32; 4]> = TinyVec::new(rt.alloc());
+    assert_steps(&rt, &mut v, &TRY_THERE_AND_BACK);
+}
+
+const TOO_MANY: [Step; 2] = [
+    (
+        Asking::Reserve(100),
+        Need::Memory,
+        &[1, 2, 3],
+        Place::Heap(103),
+    ),
+    (
+        Asking::ShrinkToFit,
+        Need::Nothing,
+        &[1, 2, 3],
+        Place::Heap(3),
+    ),
+];
+
+const FITTING: [Step; 2] = [
+    (
+        Asking::ShrinkToFit,
+        Need::Nothing,
+        &[1, 2],
+        Place::Inline(&[]),
+    ),
+    (
+        Asking::ShrinkToFit,
+        Need::Nothing,
+        &[1, 2],
+        Place::Inline(&[]),
+    ),
+];
 
 #[test]
 fn back_once_it_fits(rt: HostRuntime) -> Result<(), Fail> {
     let mut v: TinyVec<[i32; 2]> = TinyVec::from_slice(rt.alloc(), &[1, 2, 3])?;
     assert!(rt; lies(&v, &[1, 2, 3], false));
-    v.reserve(100)?;
-    v.shrink_to_fit();
-    assert!(rt; lies(&v, &[1, 2, 3], false));
+    assert_steps(&rt, &mut v, &TOO_MANY);
     assert!(rt; v.capacity() < 103, "memory was granted");
     assert!(rt; v.pop() == Some(3));
     assert!(rt; lies(&v, &[1, 2], false));
-    v.shrink_to_fit();
-    assert!(rt; lies(&v, &[1, 2], true));
-    v.shrink_to_fit();
-    assert!(rt; lies(&v, &[1, 2], true));
+    assert_steps(&rt, &mut v, &FITTING);
     Ok(())
 }
 
@@ -75,7 +131,8 @@ fn refused_on_the_heap(rt: HostRuntime) -> Result<(), Fail> {
     let mut v = TinyVec::from_array_len(rt.alloc(), [1, 7, 7], 1);
     v.move_to_the_heap()?;
     let capacity = v.capacity();
-    assert!(rt; v.move_to_the_heap_and_reserve(usize::MAX) == Err(AllocError));
+    let call = Asking::MoveToTheHeapAndReserve(usize::MAX);
+    assert!(rt; call.make(&mut v).is_err());
     assert!(rt; lies(&v, &[1], false));
     assert!(rt; v.capacity() == capacity);
     Ok(())

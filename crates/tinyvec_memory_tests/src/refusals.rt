@@ -39,6 +39,44 @@ fn on_the_heap(alloc: Global) -> Result<TinyVec<[i32; 3]>, AllocError>
     TinyVec::from_slice(alloc, &[1, 2, 3, 4])
 }
 
+// The list of one of these, as a value.
+#[derive(Clone, Copy)]
+enum Start {
+    InTheArray,
+    Full,
+    OnTheHeap,
+}
+
+impl Start {
+    fn make(self, alloc: Global) -> Result<TinyVec<[i32; 3]>, AllocError> {
+        match self {
+            Start::InTheArray => Ok(in_the_array(alloc)),
+            Start::Full => Ok(full(alloc)),
+            Start::OnTheHeap => on_the_heap(alloc),
+        }
+    }
+
+    // Whether a list is as it was made, with this room.
+    fn is_kept(self, v: &TinyVec<[i32; 3]>, room: usize) -> bool {
+        let is_list = match self {
+            Start::InTheArray => lies(v, &[1, 2], true) & spares(v, &[9]),
+            Start::Full => lies(v, &[1, 2, 3], true) & spares(v, &[]),
+            Start::OnTheHeap => lies(v, &[1, 2, 3, 4], false),
+        };
+        is_list & (v.capacity() == room)
+    }
+
+    // Whether its items were taken out, and it lies where it was, with this room.
+    fn is_emptied(self, v: &TinyVec<[i32; 3]>, room: usize) -> bool {
+        let is_list = match self {
+            Start::InTheArray => lies(v, &[], true) & spares(v, &[0, 0, 9]),
+            Start::Full => lies(v, &[], true) & spares(v, &[0, 0, 0]),
+            Start::OnTheHeap => lies(v, &[], false),
+        };
+        is_list & (v.capacity() == room)
+    }
+}
+
 // A call, what it hands back where it is refused, and else the list that it leaves and the least room that there is then.
 #[derive(Clone, Copy)]
 struct Row {
@@ -48,37 +86,17 @@ struct Row {
     room: usize,
 }
 
-// Asserts that a call moves a list to the heap, or leaves it as it was, and moves it once it is made again.
-fn assert_moves(
+// Asserts that a call leaves the wanted list on the heap, or leaves the list as it was, and is granted once it is made again.
+fn assert_asks(
     rt: &(impl Abort + Print),
     v: &mut TinyVec<[i32; 3]>,
-    row: &Row,
-    kept: &[i32],
-    spare: &[i32],
-) -> Result<(), Fail> {
-    if let Err(back) = row.call.make(v) {
-        assert!(rt; back == row.back);
-        assert!(rt; lies(v, kept, true));
-        assert!(rt; spares(v, spare));
-        refused(rt)?;
-        assert!(rt; row.call.make(v).is_ok());
-    }
-    assert!(rt; lies(v, row.items, false));
-    assert!(rt; v.capacity() >= row.room);
-    Ok(())
-}
-
-// The same of a call that finds `[1, 2, 3, 4]` on the heap.
-fn assert_grows(
-    rt: &(impl Abort + Print),
-    v: &mut TinyVec<[i32; 3]>,
+    start: Start,
     row: &Row,
 ) -> Result<(), Fail> {
     let before = v.capacity();
     if let Err(back) = row.call.make(v) {
         assert!(rt; back == row.back);
-        assert!(rt; lies(v, &[1, 2, 3, 4], false));
-        assert!(rt; v.capacity() == before);
+        assert!(rt; start.is_kept(v, before));
         refused(rt)?;
         assert!(rt; row.call.make(v).is_ok());
     }

@@ -1,17 +1,25 @@
 //! Room asked for, granted and refused.
 use crate::asking::Asking;
+use crate::steps::{Need, Place, Step, assert_steps};
 use std::test::Fail;
 use tinyvec::TinyVec;
 use tinyvec_test_looks::lies;
+
+const PAST_ONE: [Step; 2] = [
+    (Asking::MoveToTheHeap, Need::Memory, &[], Place::Heap(0)),
+    (
+        Asking::ExtendFromSlice(&[1, 2, 3, 4]),
+        Need::Memory,
+        &[1, 2, 3, 4],
+        Place::Heap(4),
+    ),
+];
 
 #[test]
 fn capacities(rt: HostRuntime) -> Result<(), Fail> {
     let mut one: TinyVec<[i32; 1]> = TinyVec::new(rt.alloc());
     assert!(rt; one.capacity() == 1);
-    one.move_to_the_heap()?;
-    one.extend_from_slice(&[1, 2, 3, 4])?;
-    assert!(rt; one.capacity() >= 4);
-    assert!(rt; lies(&one, &[1, 2, 3, 4], false));
+    assert_steps(&rt, &mut one, &PAST_ONE);
     let five: TinyVec<[i32; 10]> = TinyVec::with_capacity(rt.alloc(), 5)?;
     assert!(rt; lies(&five, &[], true));
     assert!(rt; five.capacity() >= 5);
@@ -21,22 +29,22 @@ fn capacities(rt: HostRuntime) -> Result<(), Fail> {
     Ok(())
 }
 
+const FOR_NO_ITEM: [Step; 1] = [(Asking::Reserve(0), Need::Nothing, &[], Place::Inline(&[]))];
+
+const FOR_ONE_ITEM: [Step; 3] = [
+    (Asking::Reserve(1), Need::Memory, &[], Place::Heap(1)),
+    (Asking::ShrinkToFit, Need::Nothing, &[], Place::Inline(&[])),
+    (Asking::Insert(0, 5), Need::Memory, &[5], Place::Heap(1)),
+];
+
 #[test]
-fn no_slots(rt: HostRuntime) -> Result<(), Fail> {
+fn no_slots(rt: HostRuntime) {
     let mut v: TinyVec<[i32; 0]> = TinyVec::new(rt.alloc());
-    v.reserve(0)?;
-    assert!(rt; lies(&v, &[], true));
+    assert_steps(&rt, &mut v, &FOR_NO_ITEM);
     assert!(rt; v.pop() == None);
     assert!(rt; v.drain(..).next() == None);
     assert!(rt; lies(&v, &[], true));
-    v.reserve(1)?;
-    assert!(rt; lies(&v, &[], false));
-    assert!(rt; v.capacity() >= 1);
-    v.shrink_to_fit();
-    assert!(rt; lies(&v, &[], true));
-    assert!(rt; v.insert(0, 5).is_ok(), "memory was granted");
-    assert!(rt; lies(&v, &[5], false));
-    Ok(())
+    assert_steps(&rt, &mut v, &FOR_ONE_ITEM);
 }
 
 // Calls for room for two items more, which there is, and for four more.
@@ -47,21 +55,27 @@ const CALLS: [(Asking, Asking); 4] = [
     (Asking::TryReserveExact(2), Asking::TryReserveExact(4)),
 ];
 
+const MORE: &[i32] = &[3, 4, 5, 6];
+
+const ALL: &[i32] = &[1, 2, 3, 4, 5, 6];
+
 #[test]
-fn granted(rt: HostRuntime) -> Result<(), Fail> {
+fn granted(rt: HostRuntime) {
     for (two, four) in CALLS {
         let mut v = TinyVec::from_array_len(rt.alloc(), [1, 2, 0, 0], 2);
-        assert!(rt; two.make(&mut v).is_ok());
-        assert!(rt; v.capacity() == 4);
-        assert!(rt; lies(&v, &[1, 2], true));
-        assert!(rt; four.make(&mut v).is_ok(), "memory was granted");
-        assert!(rt; v.capacity() >= 6);
-        v.extend_from_slice(&[3, 4, 5, 6])?;
-        assert!(rt; four.make(&mut v).is_ok(), "memory was granted");
-        assert!(rt; v.capacity() >= 10);
-        assert!(rt; lies(&v, &[1, 2, 3, 4, 5, 6], false));
+        let steps: [Step; 4] = [
+            (two, Need::Nothing, &[1, 2], Place::Inline(&[0, 0])),
+            (four, Need::Memory, &[1, 2], Place::Heap(6)),
+            (
+                Asking::ExtendFromSlice(MORE),
+                Need::Nothing,
+                ALL,
+                Place::Heap(6),
+            ),
+            (four, Need::Memory, ALL, Place::Heap(10)),
+        ];
+        assert_steps(&rt, &mut v, &steps);
     }
-    Ok(())
 }
 
 // Calls of a full `[1, 2]`, each with the room that there is then.

@@ -1,5 +1,5 @@
 //! Calls that put items in or ask for room, as tables; and room that is given back.
-use super::{Row, assert_grows, assert_moves, full, in_the_array, on_the_heap, refused};
+use super::{Row, Start, assert_asks, full, in_the_array, on_the_heap, refused};
 use crate::asking::Asking;
 use std::test::Fail;
 use tinyvec_test_looks::{lies, spares};
@@ -22,7 +22,7 @@ const OF_A_FULL_LIST: [Row; 2] = [
 #[test]
 fn of_a_full_list(rt: HostRuntime) -> Result<(), Fail> {
     for row in OF_A_FULL_LIST {
-        assert_moves(&rt, &mut full(rt.alloc()), &row, &[1, 2, 3], &[])?;
+        assert_asks(&rt, &mut full(rt.alloc()), Start::Full, &row)?;
     }
     Ok(())
 }
@@ -52,7 +52,7 @@ const PAST_THE_ARRAY: [Row; 3] = [
 #[test]
 fn past_the_array(rt: HostRuntime) -> Result<(), Fail> {
     for row in PAST_THE_ARRAY {
-        assert_moves(&rt, &mut in_the_array(rt.alloc()), &row, &[1, 2], &[9])?;
+        assert_asks(&rt, &mut in_the_array(rt.alloc()), Start::InTheArray, &row)?;
     }
     Ok(())
 }
@@ -93,7 +93,7 @@ const ON_THE_HEAP: [Row; 5] = [
 #[test]
 fn on_the_heap_for_items(rt: HostRuntime) -> Result<(), Fail> {
     for row in ON_THE_HEAP {
-        assert_grows(&rt, &mut on_the_heap(rt.alloc())?, &row)?;
+        assert_asks(&rt, &mut on_the_heap(rt.alloc())?, Start::OnTheHeap, &row)?;
     }
     Ok(())
 }
@@ -153,7 +153,7 @@ const FOR_ROOM: [Row; 8] = [
 fn for_room(rt: HostRuntime) -> Result<(), Fail> {
     for row in FOR_ROOM {
         let mut v = in_the_array(rt.alloc());
-        assert_moves(&rt, &mut v, &row, &[1, 2], &[9])?;
+        assert_asks(&rt, &mut v, Start::InTheArray, &row)?;
         assert!(rt; row.call.make(&mut v).is_ok());
         assert!(rt; lies(&v, &[1, 2], false));
     }
@@ -203,7 +203,7 @@ const FOR_MORE_ROOM: [Row; 6] = [
 fn on_the_heap_for_room(rt: HostRuntime) -> Result<(), Fail> {
     for row in FOR_MORE_ROOM {
         let mut v = on_the_heap(rt.alloc())?;
-        assert_grows(&rt, &mut v, &row)?;
+        assert_asks(&rt, &mut v, Start::OnTheHeap, &row)?;
         assert!(rt; row.call.make(&mut v).is_ok());
         assert!(rt; v.capacity() >= 44);
     }

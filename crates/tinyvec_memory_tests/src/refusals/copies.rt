@@ -1,6 +1,7 @@
 //! Lists that are cloned, or become a `Vec` or a boxed slice.
-use super::{in_the_array, on_the_heap, refused};
-use std::alloc::AllocError;
+use super::{Start, in_the_array, on_the_heap, refused};
+use std::alloc::{AllocError, AllocGlobal};
+use std::process::Abort;
 use std::test::Fail;
 use tinyvec::{NoMemory, TinyVec};
 use tinyvec_test_looks::{lies, spares};
@@ -20,34 +21,38 @@ fn clone(rt: HostRuntime) -> Result<(), Fail> {
     Ok(())
 }
 
-#[test]
-fn clone_from(rt: HostRuntime) -> Result<(), Fail> {
-    let mut v = in_the_array(rt.alloc());
-    let source = on_the_heap(rt.alloc())?;
-    if let Err(AllocError) = v.clone_from(&source) {
-        assert!(rt; lies(&v, &[1, 2], true));
-        assert!(rt; spares(&v, &[9]));
-        refused(&rt)?;
-        assert!(rt; v.clone_from(&source).is_ok());
+// Clones one list over another, and says whether that was granted.
+fn clones_from(v: &mut TinyVec<[i32; 3]>, source: &TinyVec<[i32; 3]>) -> bool {
+    v.clone_from(source).is_ok()
+}
+
+// Asserts that a list becomes these items on the heap, or is as it was, and becomes them once it is asked again.
+fn assert_clones_from(
+    rt: &(impl Abort + AllocGlobal + Print),
+    start: Start,
+    items: &[i32],
+) -> Result<(), Fail> {
+    let mut v = start.make(rt.alloc())?;
+    let source = TinyVec::from_slice(rt.alloc(), items)?;
+    let room = v.capacity();
+    if !clones_from(&mut v, &source) {
+        assert!(rt; start.is_kept(&v, room));
+        refused(rt)?;
+        assert!(rt; clones_from(&mut v, &source));
     }
-    assert!(rt; lies(&v, &[1, 2, 3, 4], false));
-    assert!(rt; lies(&source, &[1, 2, 3, 4], false));
+    assert!(rt; lies(&v, items, false));
+    assert!(rt; lies(&source, items, false));
     Ok(())
 }
 
 #[test]
+fn clone_from(rt: HostRuntime) -> Result<(), Fail> {
+    assert_clones_from(&rt, Start::InTheArray, &[1, 2, 3, 4])
+}
+
+#[test]
 fn clone_from_on_the_heap(rt: HostRuntime) -> Result<(), Fail> {
-    let mut v = on_the_heap(rt.alloc())?;
-    let room = v.capacity();
-    let source: TinyVec<[i32; 3]> = TinyVec::from_slice(rt.alloc(), &[5, 6, 7, 8, 9])?;
-    if let Err(AllocError) = v.clone_from(&source) {
-        assert!(rt; lies(&v, &[1, 2, 3, 4], false));
-        assert!(rt; v.capacity() == room);
-        refused(&rt)?;
-        assert!(rt; v.clone_from(&source).is_ok());
-    }
-    assert!(rt; lies(&v, &[5, 6, 7, 8, 9], false));
-    Ok(())
+    assert_clones_from(&rt, Start::OnTheHeap, &[5, 6, 7, 8, 9])
 }
 
 #[test]

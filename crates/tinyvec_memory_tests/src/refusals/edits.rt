@@ -1,9 +1,10 @@
 //! Items that are put in, and lists that are parted and joined.
-use super::{full, in_the_array, on_the_heap, refused};
-use std::alloc::AllocError;
+use super::{Start, on_the_heap, refused};
+use std::alloc::{AllocError, AllocGlobal};
+use std::process::Abort;
 use std::test::Fail;
 use tinyvec::{SpliceRest, TinyVec};
-use tinyvec_test_looks::{lies, spares};
+use tinyvec_test_looks::lies;
 
 #[test]
 fn splice(rt: HostRuntime) -> Result<(), Fail> {
@@ -21,6 +22,11 @@ fn splice(rt: HostRuntime) -> Result<(), Fail> {
         }
     }
     assert!(rt; lies(&v, &[1, 7, 8, 9, 3], false));
+    Ok(())
+}
+
+#[test]
+fn splice_on_the_heap(rt: HostRuntime) -> Result<(), Fail> {
     let mut heap = on_the_heap(rt.alloc())?;
     let room = heap.capacity();
     match heap.splice(2..3, [7, 8, 9]).finish() {
@@ -36,56 +42,51 @@ fn splice(rt: HostRuntime) -> Result<(), Fail> {
     Ok(())
 }
 
+// Appends, and says whether that was granted.
+fn appends(v: &mut TinyVec<[i32; 3]>, other: &mut TinyVec<[i32; 3]>) -> bool {
+    v.append(other).is_ok()
+}
+
+// Asserts that a list is appended to another, or that both are as they were, and that it is appended once it is asked again.
+fn assert_appends(
+    rt: &(impl Abort + AllocGlobal + Print),
+    start: Start,
+    other_start: Start,
+    items: &[i32],
+) -> Result<(), Fail> {
+    let mut v = start.make(rt.alloc())?;
+    let mut other = other_start.make(rt.alloc())?;
+    let (room, other_room) = (v.capacity(), other.capacity());
+    if !appends(&mut v, &mut other) {
+        assert!(rt; start.is_kept(&v, room));
+        assert!(rt; other_start.is_kept(&other, other_room));
+        refused(rt)?;
+        assert!(rt; appends(&mut v, &mut other));
+    }
+    assert!(rt; lies(&v, items, false));
+    assert!(rt; other_start.is_emptied(&other, other_room));
+    Ok(())
+}
+
 #[test]
 fn append_inline(rt: HostRuntime) -> Result<(), Fail> {
-    let mut v = full(rt.alloc());
-    let mut other = in_the_array(rt.alloc());
-    if let Err(AllocError) = v.append(&mut other) {
-        assert!(rt; lies(&v, &[1, 2, 3], true));
-        assert!(rt; lies(&other, &[1, 2], true));
-        assert!(rt; spares(&other, &[9]));
-        refused(&rt)?;
-        assert!(rt; v.append(&mut other).is_ok());
-    }
-    assert!(rt; lies(&v, &[1, 2, 3, 1, 2], false));
-    assert!(rt; lies(&other, &[], true));
-    assert!(rt; spares(&other, &[0, 0, 9]));
-    Ok(())
+    assert_appends(&rt, Start::Full, Start::InTheArray, &[1, 2, 3, 1, 2])
 }
 
 #[test]
 fn append_a_heap_list(rt: HostRuntime) -> Result<(), Fail> {
-    let mut v = in_the_array(rt.alloc());
-    let mut other = on_the_heap(rt.alloc())?;
-    let room = other.capacity();
-    if let Err(AllocError) = v.append(&mut other) {
-        assert!(rt; lies(&v, &[1, 2], true));
-        assert!(rt; spares(&v, &[9]));
-        assert!(rt; lies(&other, &[1, 2, 3, 4], false));
-        refused(&rt)?;
-        assert!(rt; v.append(&mut other).is_ok());
-    }
-    assert!(rt; lies(&v, &[1, 2, 1, 2, 3, 4], false));
-    assert!(rt; lies(&other, &[], false));
-    assert!(rt; other.capacity() == room);
-    Ok(())
+    assert_appends(
+        &rt,
+        Start::InTheArray,
+        Start::OnTheHeap,
+        &[1, 2, 1, 2, 3, 4],
+    )
 }
 
 #[test]
 fn append_on_the_heap(rt: HostRuntime) -> Result<(), Fail> {
-    let mut v = on_the_heap(rt.alloc())?;
-    let mut other = on_the_heap(rt.alloc())?;
-    let room = v.capacity();
-    if let Err(AllocError) = v.append(&mut other) {
-        assert!(rt; lies(&v, &[1, 2, 3, 4], false));
-        assert!(rt; v.capacity() == room);
-        assert!(rt; lies(&other, &[1, 2, 3, 4], false));
-        refused(&rt)?;
-        assert!(rt; v.append(&mut other).is_ok());
-    }
-    assert!(rt; lies(&v, &[1, 2, 3, 4, 1, 2, 3, 4], false));
-    assert!(rt; lies(&other, &[], false));
-    Ok(())
+    let items = [1, 2, 3, 4, 1, 2, 3, 4];
+    assert_appends(&rt, Start::OnTheHeap, Start::OnTheHeap, &items)
 }
 
 #[test]

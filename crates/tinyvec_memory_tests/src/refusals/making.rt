@@ -1,49 +1,48 @@
 //! Lists that are made.
-use super::{on_the_heap, refused};
-use std::alloc::AllocError;
+use super::refused;
+use crate::asking::Making;
+use std::alloc::{AllocError, AllocGlobal, Global};
 use std::cell::Cell;
+use std::process::Abort;
 use std::test::Fail;
 use tinyvec::{FromIterRest, TinyVec, tiny_vec};
 use tinyvec_test_items::counted;
 use tinyvec_test_looks::lies;
 
-#[test]
-fn with_capacity(rt: HostRuntime) -> Result<(), Fail> {
-    assert!(rt; TinyVec::<[i32; 3]>::with_capacity(rt.alloc(), 3).is_ok());
-    match TinyVec::<[i32; 3]>::with_capacity(rt.alloc(), 4) {
-        Ok(v) => assert!(rt; lies(&v, &[], false)),
+// Asserts that one call makes a list without memory, and that the other makes these items on the heap, or is refused, and is
+// granted once it is made again.
+fn assert_made(
+    rt: &(impl Abort + AllocGlobal + Print),
+    inline: Making,
+    heap: Making,
+    items: &[i32],
+) -> Result<(), Fail> {
+    assert!(rt; inline.make(rt.alloc()).is_ok());
+    match heap.make(rt.alloc()) {
+        Ok(v) => assert!(rt; lies(&v, items, false)),
         Err(AllocError) => {
-            refused(&rt)?;
-            assert!(rt; TinyVec::<[i32; 3]>::with_capacity(rt.alloc(), 4).is_ok());
+            refused(rt)?;
+            assert!(rt; heap.make(rt.alloc()).is_ok());
         }
     }
     Ok(())
+}
+
+#[test]
+fn with_capacity(rt: HostRuntime) -> Result<(), Fail> {
+    assert_made(&rt, Making::WithCapacity(3), Making::WithCapacity(4), &[])
 }
 
 #[test]
 fn with_initial_len(rt: HostRuntime) -> Result<(), Fail> {
-    assert!(rt; TinyVec::<[i32; 3]>::with_initial_len(rt.alloc(), 3).is_ok());
-    match TinyVec::<[i32; 3]>::with_initial_len(rt.alloc(), 4) {
-        Ok(v) => assert!(rt; lies(&v, &[0, 0, 0, 0], false)),
-        Err(AllocError) => {
-            refused(&rt)?;
-            assert!(rt; TinyVec::<[i32; 3]>::with_initial_len(rt.alloc(), 4).is_ok());
-        }
-    }
-    Ok(())
+    let three = Making::WithInitialLen(3);
+    assert_made(&rt, three, Making::WithInitialLen(4), &[0, 0, 0, 0])
 }
 
 #[test]
 fn from_slice(rt: HostRuntime) -> Result<(), Fail> {
-    assert!(rt; TinyVec::<[i32; 3]>::from_slice(rt.alloc(), &[1, 2, 3]).is_ok());
-    match on_the_heap(rt.alloc()) {
-        Ok(v) => assert!(rt; lies(&v, &[1, 2, 3, 4], false)),
-        Err(AllocError) => {
-            refused(&rt)?;
-            assert!(rt; on_the_heap(rt.alloc()).is_ok());
-        }
-    }
-    Ok(())
+    let three = Making::FromSlice(&[1, 2, 3]);
+    assert_made(&rt, three, Making::FromSlice(&[1, 2, 3, 4]), &[1, 2, 3, 4])
 }
 
 #[test]
@@ -68,12 +67,20 @@ fn from_iter(rt: HostRuntime) -> Result<(), Fail> {
     Ok(())
 }
 
+fn listed(alloc: Global, count: &Cell<i32>) -> Result<TinyVec<[i32; 3]>, AllocError> {
+    tiny_vec!(alloc; [i32; 3] => counted(count), counted(count), 3, 4)
+}
+
+fn listed_by_its_place(alloc: Global, count: &Cell<i32>) -> Result<TinyVec<[i32; 1]>, AllocError> {
+    tiny_vec!(alloc; counted(count), counted(count))
+}
+
 // No item is evaluated before there is room for all.
 #[test]
 fn tiny_vec(rt: HostRuntime) -> Result<(), Fail> {
     assert!(rt; tiny_vec!(rt.alloc(); [i32; 3] => 1, 2, 3).is_ok());
     let count = Cell::new(0);
-    match tiny_vec!(rt.alloc(); [i32; 3] => counted(&count), counted(&count), 3, 4) {
+    match listed(rt.alloc(), &count) {
         Ok(v) => assert!(rt; lies(&v, &[1, 2, 3, 4], false)),
         Err(AllocError) => {
             assert!(rt; count.get() == 0);
@@ -87,16 +94,12 @@ fn tiny_vec(rt: HostRuntime) -> Result<(), Fail> {
 #[test]
 fn tiny_vec_told_by_its_place(rt: HostRuntime) -> Result<(), Fail> {
     let count = Cell::new(0);
-    let made: Result<TinyVec<[i32; 1]>, AllocError> =
-        tiny_vec!(rt.alloc(); counted(&count), counted(&count));
-    match made {
-        Ok(v) => assert!(rt; lies(&v, &[1, 2], false)),
-        Err(AllocError) => {
-            assert!(rt; count.get() == 0);
-            refused(&rt)?;
-            let again: TinyVec<[i32; 1]> = tiny_vec!(rt.alloc(); counted(&count), counted(&count))?;
-            assert!(rt; lies(&again, &[1, 2], false));
-        }
+    let mut made = listed_by_its_place(rt.alloc(), &count);
+    if made.is_err() {
+        assert!(rt; count.get() == 0);
+        refused(&rt)?;
+        made = listed_by_its_place(rt.alloc(), &count);
     }
+    assert!(rt; lies(&made?, &[1, 2], false));
     Ok(())
 }
