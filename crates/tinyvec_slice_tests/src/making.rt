@@ -1,13 +1,53 @@
 //! Making and asking.
 use crate::looks::looks;
 use std::convert::AsSlice;
+use std::process::Abort;
 use tinyvec_slice::SliceVec;
+
+// The calls that make a vector of the slots `[1, 2, 3]`, as values.
+#[derive(Clone, Copy)]
+enum Making {
+    OfTheFirst(usize),
+    TryOfTheFirst(usize),
+    AtMost(usize),
+    OfASlice,
+    FromASlice,
+    FromAnArray,
+}
+
+impl Making {
+    fn make<'s>(self, rt: &impl Abort, slots: &'s mut [i32; 3]) -> Option<SliceVec<'s, i32>> {
+        match self {
+            Making::OfTheFirst(len) => {
+                assert!(rt; len <= 3);
+                Some(SliceVec::from_slice_len(slots, len))
+            }
+            Making::TryOfTheFirst(len) => SliceVec::try_from_slice_len(slots, len),
+            Making::AtMost(len) => Some(SliceVec::from_slice_at_most(slots, len)),
+            Making::OfASlice => Some(SliceVec::from_slice(slots)),
+            Making::FromASlice => Some(SliceVec::from(slots.as_mut_slice())),
+            Making::FromAnArray => Some(SliceVec::from(slots)),
+        }
+    }
+}
+
+// Asserts which items and spare slots a vector has, and that its owner sees 7 where it is written to the last item.
+fn assert_made(rt: &impl Abort, making: Making, items: &[i32], spare: &[i32], seen: [i32; 3]) {
+    let mut slots = [1, 2, 3];
+    let Some(mut vec) = making.make(rt, &mut slots) else {
+        panic!(rt; "there are as many slots");
+    };
+    assert!(rt; looks(&vec, items, spare));
+    if let Some(last) = vec.len().checked_sub(1) {
+        vec[last] = 7;
+    }
+    assert!(rt; slots == seen);
+}
 
 #[test]
 fn of_the_first_slots(rt: HostRuntime) {
-    let mut slots = [1, 2, 3];
-    assert!(rt; looks(&SliceVec::from_slice_len(&mut slots, 2), &[1, 2], &[3]));
-    assert!(rt; looks(&SliceVec::from_slice_len(&mut slots, 0), &[], &[1, 2, 3]));
+    assert_made(&rt, Making::OfTheFirst(2), &[1, 2], &[3], [1, 7, 3]);
+    assert_made(&rt, Making::OfTheFirst(0), &[], &[1, 2, 3], [1, 2, 3]);
 }
 
 #[test]
@@ -22,24 +62,24 @@ fn shown(rt: HostRuntime) {
 
 #[test]
 fn of_a_whole_slice(rt: HostRuntime) {
-    let mut slots = [1, 2, 3];
-    assert!(rt; looks(&SliceVec::from(slots.as_mut_slice()), &[1, 2, 3], &[]));
-    let mut array = [4, 5];
-    let mut whole = SliceVec::from(&mut array);
-    assert!(rt; looks(&whole, &[4, 5], &[]));
-    whole[0] = 6;
-    assert!(rt; array == [6, 5]);
+    assert_made(&rt, Making::FromASlice, &[1, 2, 3], &[], [1, 2, 7]);
 }
 
 #[test]
-fn of_more_slots_than_there_are(rt: HostRuntime) {
-    let mut slots = [1, 2];
-    assert!(rt; SliceVec::try_from_slice_len(&mut slots, 3).is_none());
-    assert!(rt; slots == [1, 2]);
-    let Some(both) = SliceVec::try_from_slice_len(&mut slots, 2) else {
-        panic!(&rt; "there are two slots");
-    };
-    assert!(rt; looks(&both, &[1, 2], &[]));
+fn of_a_whole_array(rt: HostRuntime) {
+    assert_made(&rt, Making::OfASlice, &[1, 2, 3], &[], [1, 2, 7]);
+    assert_made(&rt, Making::FromAnArray, &[1, 2, 3], &[], [1, 2, 7]);
+}
+
+#[test]
+fn of_at_most_so_many_slots(rt: HostRuntime) {
+    assert_made(&rt, Making::AtMost(2), &[1, 2], &[3], [1, 7, 3]);
+    assert_made(&rt, Making::AtMost(4), &[1, 2, 3], &[], [1, 2, 7]);
+}
+
+#[test]
+fn of_as_many_slots_as_there_are(rt: HostRuntime) {
+    assert_made(&rt, Making::TryOfTheFirst(3), &[1, 2, 3], &[], [1, 2, 7]);
 }
 
 // So many of the slots, and a length that is greater.
@@ -67,28 +107,6 @@ fn a_refused_slice_is_as_it_was(rt: HostRuntime) {
         );
         assert!(rt; slots == [1, 2, 3], "{len} of {count}");
     }
-}
-
-#[test]
-fn of_at_most_so_many_slots(rt: HostRuntime) {
-    let mut slots = [1, 2, 3];
-    assert!(rt; looks(&SliceVec::from_slice_at_most(&mut slots, 2), &[1, 2], &[3]));
-    let mut all = SliceVec::from_slice_at_most(&mut slots, 4);
-    assert!(rt; looks(&all, &[1, 2, 3], &[]));
-    all[2] = 7;
-    assert!(rt; slots == [1, 2, 7]);
-}
-
-#[test]
-fn of_a_whole_array(rt: HostRuntime) {
-    let mut array = [4, 5, 6];
-    let mut vec = SliceVec::from_slice(&mut array);
-    assert!(rt; looks(&vec, &[4, 5, 6], &[]));
-    vec[0] = 7;
-    let mut same = SliceVec::from(&mut array);
-    assert!(rt; looks(&same, &[7, 5, 6], &[]));
-    same[1] = 8;
-    assert!(rt; array == [7, 8, 6]);
 }
 
 #[test]

@@ -1,8 +1,9 @@
 //! Texts.
+use std::alloc::{AllocError, Global};
 use std::fmt;
 use std::test::Fail;
 use tinyvec_slice::SliceVec;
-use tinyvec_test_items::{assert_debugs, assert_is, assert_shows};
+use tinyvec_test_items::{assert_debugs, assert_is, assert_shows, debugs, shows};
 
 #[derive(Clone, Copy)]
 enum Base {
@@ -27,18 +28,20 @@ impl<'a, 's> fmt::Display for InBase<'a, 's> {
     }
 }
 
-// The texts of `{}` and of `{:?}`, which are the same of numbers.
+// Whether `{}` writes so, and `{:?}` too.
+fn is_shown(alloc: Global, v: &SliceVec<'_, i32>, text: &str) -> Result<bool, AllocError> {
+    Ok(shows(alloc, v, text)?.is_some() & debugs(alloc, v, text)?.is_some())
+}
+
 #[test]
 fn after_each_push(rt: HostRuntime) -> Result<(), Fail> {
     let mut slots = [1, 2, 3, 4];
     let mut v = SliceVec::from_slice_len(&mut slots, 0);
-    assert_shows!(rt; v, "[]");
-    assert_debugs!(rt; v, "[]");
+    assert!(rt; is_shown(rt.alloc(), &v, "[]")?);
     for (item, text) in [(10, "[10]"), (11, "[10, 11]"), (12, "[10, 11, 12]")] {
         assert!(rt; !v.is_full());
         v.push(item);
-        assert_shows!(rt; v, text);
-        assert_debugs!(rt; v, text);
+        assert!(rt; is_shown(rt.alloc(), &v, text)?, "{text}");
     }
     Ok(())
 }
