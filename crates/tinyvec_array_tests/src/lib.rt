@@ -10,8 +10,6 @@ mod draining;
 #[cfg(test)]
 mod edits;
 #[cfg(test)]
-mod ends;
-#[cfg(test)]
 mod errors;
 #[cfg(test)]
 mod filling;
@@ -28,6 +26,10 @@ mod owned;
 #[cfg(test)]
 mod printing;
 #[cfg(test)]
+mod range_forms;
+#[cfg(test)]
 mod splices;
+#[cfg(test)]
+mod taking;
 #[cfg(test)]
 mod writing;
