@@ -11,13 +11,6 @@ fn is_even(x: i32) -> bool {
     x % 2 == 0
 }
 
-// Asks for the even items of the array.
-fn even_items<const N: usize>(items: [i32; N]) -> ArrayVec<[i32; N]> {
-    let mut vec = ArrayVec::from_array(items);
-    vec.retain_mut(|x| is_even(*x));
-    vec
-}
-
 #[test]
 fn retain_keeps_the_even_before_defaults_and_old_spare_slots(rt: HostRuntime) {
     let mut vec = ArrayVec::from_array_len([1, 2, 3, 4, 9], 4);
@@ -38,37 +31,32 @@ fn retain_mut_keeps_the_even_and_doubles_them(rt: HostRuntime) {
     assert_items!(rt; &vec.into_inner(), [4, 8, 0, 0, 0, 0]);
 }
 
-#[test]
-fn retain_mut_empty_vec(rt: HostRuntime) {
-    let mut vec: ArrayVec<[i32; 4]> = ArrayVec::new();
-    vec.retain_mut(|x| is_even(*x));
-    assert!(rt; vec.len() == 0);
-}
+// Slots, how many of them are the list, and both after the even items were kept.
+const EVEN: [([i32; 4], usize, usize, [i32; 4]); 4] = [
+    ([0, 0, 0, 0], 0, 0, [0, 0, 0, 0]),
+    ([2, 4, 6, 8], 4, 4, [2, 4, 6, 8]),
+    ([1, 2, 3, 4], 4, 2, [2, 4, 0, 0]),
+    ([1, 3, 5, 7], 4, 0, [0, 0, 0, 0]),
+];
 
 #[test]
-fn retain_mut_all_elements(rt: HostRuntime) {
-    let vec = even_items([2, 4, 6, 8]);
-    assert_items!(rt; vec.as_slice(), [2, 4, 6, 8]);
-    assert_items!(rt; &vec.into_inner(), [2, 4, 6, 8]);
-}
-
-#[test]
-fn retain_mut_some_elements(rt: HostRuntime) {
-    let vec = even_items([1, 2, 3, 4]);
-    assert_items!(rt; vec.as_slice(), [2, 4]);
-    assert_items!(rt; &vec.into_inner(), [2, 4, 0, 0]);
-}
-
-#[test]
-fn retain_mut_no_elements(rt: HostRuntime) {
-    let vec = even_items([1, 3, 5, 7]);
-    assert!(rt; vec.is_empty());
-    assert_items!(rt; &vec.into_inner(), [0, 0, 0, 0]);
+fn retain_mut_none_some_and_all(rt: HostRuntime) {
+    for (at, (slots, len, left, slots_left)) in EVEN.iter().enumerate() {
+        let Ok(mut vec) = ArrayVec::try_from_array_len(*slots, *len) else {
+            panic!(rt; "row {at} has fewer slots");
+        };
+        vec.retain_mut(|x| is_even(*x));
+        assert!(rt;
+            vec.len() == *left && vec.as_inner() == slots_left,
+            "row {at}"
+        );
+    }
 }
 
 #[test]
 fn retain_mut_zero_capacity(rt: HostRuntime) {
-    let vec = even_items([]);
+    let mut vec: ArrayVec<[i32; 0]> = ArrayVec::from_array([]);
+    vec.retain_mut(|x| is_even(*x));
     assert!(rt; vec.is_empty());
     assert!(rt; vec.is_full());
 }
@@ -103,29 +91,31 @@ fn retain_mut_asks_once_in_order(rt: HostRuntime) {
     assert_items!(rt; &vec.into_inner(), [11, 33, 44, 0]);
 }
 
+// Whether `dedup` leaves so many of the items in the first slots, and the slots so.
+fn dedup_leaves<const N: usize>(
+    slots: [i32; N],
+    len: usize,
+    left: usize,
+    wanted: [i32; N],
+) -> bool {
+    let Ok(mut vec) = ArrayVec::try_from_array_len(slots, len) else {
+        return false;
+    };
+    vec.dedup();
+    vec.len() == left && *vec.as_inner() == wanted
+}
+
 #[test]
 fn dedup_removes_repeats(rt: HostRuntime) {
-    let mut vec = ArrayVec::from_array([1, 1, 2, 3, 3, 1]);
-    vec.dedup();
-    assert_items!(rt; vec.as_slice(), [1, 2, 3, 1]);
-    assert_items!(rt; &vec.into_inner(), [1, 2, 3, 1, 0, 0]);
+    assert!(rt; dedup_leaves([1, 1, 2, 3, 3, 1], 6, 4, [1, 2, 3, 1, 0, 0]));
 }
 
 #[test]
 fn dedup_of_no_item_one_and_no_repeat(rt: HostRuntime) {
-    let mut empty: ArrayVec<[u8; 3]> = ArrayVec::new();
-    empty.dedup();
-    assert!(rt; empty.is_empty());
-    let mut no_slots: ArrayVec<[u8; 0]> = ArrayVec::new();
-    no_slots.dedup();
-    assert!(rt; no_slots.is_empty());
-    let mut one = ArrayVec::from_array_len([7, 8], 1);
-    one.dedup();
-    assert_items!(rt; one.as_slice(), [7]);
-    assert_items!(rt; &one.into_inner(), [7, 8]);
-    let mut unlike = ArrayVec::from_array([1, 2, 1]);
-    unlike.dedup();
-    assert_items!(rt; unlike.as_slice(), [1, 2, 1]);
+    assert!(rt; dedup_leaves([0, 0, 0], 0, 0, [0, 0, 0]));
+    assert!(rt; dedup_leaves([], 0, 0, []));
+    assert!(rt; dedup_leaves([7, 8], 1, 1, [7, 8]));
+    assert!(rt; dedup_leaves([1, 2, 1], 3, 3, [1, 2, 1]));
 }
 
 #[test]
@@ -199,17 +189,21 @@ fn names(letters: [u8; 4]) -> ArrayVec<[Name; 4]> {
     ])
 }
 
+fn holds(vec: ArrayVec<[Name; 4]>, letters: [u8; 4]) -> bool {
+    vec.into_inner() == names(letters).into_inner()
+}
+
 #[test]
 fn emptied_slots_hold_the_items_default(rt: HostRuntime) {
     let mut vec = names(*b"abca");
     vec.retain(|name| name.letter != b'a');
-    assert!(rt; vec.into_inner() == names(*b"bc??").into_inner());
+    assert!(rt; holds(vec, *b"bc??"));
     let mut repeats = names(*b"aabb");
     repeats.dedup();
-    assert!(rt; repeats.into_inner() == names(*b"ab??").into_inner());
+    assert!(rt; holds(repeats, *b"ab??"));
     let mut keys = names(*b"abba");
     keys.dedup_by_key(|name| name.letter == b'b');
-    assert!(rt; keys.into_inner() == names(*b"aba?").into_inner());
+    assert!(rt; holds(keys, *b"aba?"));
 }
 
 /// Items without bytes.
@@ -226,90 +220,75 @@ fn filters_items_without_bytes(rt: HostRuntime) {
     assert!(rt; vec.len() == 1);
 }
 
-const NUMBERS: [u8; 4] = [1, 2, 3, 4];
-
-/// Each of no item, of one and of more is asked about once, whether none of them or all stay.
-#[test]
-fn retain_asks_about_each_item_once(rt: HostRuntime) {
-    for stays in [false, true] {
-        for len in 0..=4 {
-            let mut asked: ArrayVec<[u8; 8]> = ArrayVec::new();
-            let mut vec = ArrayVec::from_array_len(NUMBERS, len);
-            vec.retain(|x| {
-                let _full = asked.try_push(*x);
-                stays
-            });
-            assert!(rt; vec.len() == if stays { len } else { 0 });
-            assert_items!(rt; asked.as_slice(), NUMBERS[..len]);
-        }
-    }
+// A filter whose closure answers the same for each item: that it stays, or that it repeats another.
+#[derive(Clone, Copy)]
+enum Filter {
+    Retain(bool),
+    RetainMut(bool),
+    DedupBy(bool),
+    DedupByKey(bool),
 }
 
-#[test]
-fn retain_mut_asks_about_each_item_once(rt: HostRuntime) {
-    for stays in [false, true] {
-        for len in 0..=4 {
-            let mut asked: ArrayVec<[u8; 8]> = ArrayVec::new();
-            let mut vec = ArrayVec::from_array_len(NUMBERS, len);
-            vec.retain_mut(|x| {
-                let _full = asked.try_push(*x);
-                stays
-            });
-            assert!(rt; vec.len() == if stays { len } else { 0 });
-            assert_items!(rt; asked.as_slice(), NUMBERS[..len]);
-        }
-    }
-}
+use Filter::{DedupBy, DedupByKey, Retain, RetainMut};
 
-/// No item and one are not asked about. Of more each after the first is asked about once, beside the last one kept.
-#[test]
-fn dedup_by_asks_about_each_item_after_the_first(rt: HostRuntime) {
-    for len in 0..=4 {
-        let mut currents: ArrayVec<[u8; 8]> = ArrayVec::new();
-        let mut lasts: ArrayVec<[u8; 8]> = ArrayVec::new();
-        let mut repeats = ArrayVec::from_array_len(NUMBERS, len);
-        repeats.dedup_by(|current, last| {
-            let _full = currents.try_push(*current);
-            let _full = lasts.try_push(*last);
-            true
-        });
-        assert!(rt; repeats.len() == len.min(1));
-        assert_items!(rt; currents.as_slice(), [2, 3, 4][..len.saturating_sub(1)]);
-        assert_items!(rt; lasts.as_slice(), [1, 1, 1][..len.saturating_sub(1)]);
-        currents.clear();
-        lasts.clear();
-        let mut unlike = ArrayVec::from_array_len(NUMBERS, len);
-        unlike.dedup_by(|current, last| {
-            let _full = currents.try_push(*current);
-            let _full = lasts.try_push(*last);
-            false
-        });
-        assert!(rt; unlike.len() == len);
-        assert_items!(rt; currents.as_slice(), [2, 3, 4][..len.saturating_sub(1)]);
-        assert_items!(rt; lasts.as_slice(), [1, 2, 3][..len.saturating_sub(1)]);
-    }
-}
-
-#[test]
-fn dedup_by_key_asks_for_two_keys_of_each_item_after_the_first(rt: HostRuntime) {
-    for len in 0..=4 {
+impl Filter {
+    // Filters, and answers which items it asked about.
+    fn asks(self, vec: &mut ArrayVec<[u8; 4]>) -> ArrayVec<[u8; 8]> {
         let mut asked: ArrayVec<[u8; 8]> = ArrayVec::new();
-        let mut repeats = ArrayVec::from_array_len(NUMBERS, len);
-        repeats.dedup_by_key(|x| {
-            let _full = asked.try_push(*x);
-            0u8
-        });
-        assert!(rt; repeats.len() == len.min(1));
-        let pairs = len.saturating_sub(1);
-        assert_items!(rt; asked.as_slice(), [2, 1, 3, 1, 4, 1][..2 * pairs]);
-        asked.clear();
-        let mut unlike = ArrayVec::from_array_len(NUMBERS, len);
-        unlike.dedup_by_key(|x| {
-            let _full = asked.try_push(*x);
-            *x
-        });
-        assert!(rt; unlike.len() == len);
-        assert_items!(rt; asked.as_slice(), [2, 1, 3, 2, 4, 3][..2 * pairs]);
+        match self {
+            Retain(stays) => vec.retain(|x| {
+                let _full = asked.try_push(*x);
+                stays
+            }),
+            RetainMut(stays) => vec.retain_mut(|x| {
+                let _full = asked.try_push(*x);
+                stays
+            }),
+            DedupBy(repeats) => vec.dedup_by(|current, last| {
+                let _full = asked.try_push(*current);
+                let _full = asked.try_push(*last);
+                repeats
+            }),
+            DedupByKey(repeats) => vec.dedup_by_key(|x| {
+                let _full = asked.try_push(*x);
+                if repeats { 0 } else { *x }
+            }),
+        }
+        asked
+    }
+}
+
+// A filter of four items, how many it leaves, the items it asks about, and how many of these are for each item.
+const ASKED: [(Filter, usize, &[u8], usize); 8] = [
+    (Retain(false), 0, &[1, 2, 3, 4], 1),
+    (Retain(true), 4, &[1, 2, 3, 4], 1),
+    (RetainMut(false), 0, &[1, 2, 3, 4], 1),
+    (RetainMut(true), 4, &[1, 2, 3, 4], 1),
+    // Each item after the first, beside the last one kept.
+    (DedupBy(true), 1, &[2, 1, 3, 1, 4, 1], 2),
+    (DedupBy(false), 4, &[2, 1, 3, 2, 4, 3], 2),
+    (DedupByKey(true), 1, &[2, 1, 3, 1, 4, 1], 2),
+    (DedupByKey(false), 4, &[2, 1, 3, 2, 4, 3], 2),
+];
+
+/// Each of no item, of one and of more is asked about once. Where repeats are removed, the first is not.
+#[test]
+fn asks_about_each_item_once(rt: HostRuntime) {
+    for (at, (filter, left, wanted, for_each)) in ASKED.iter().enumerate() {
+        for len in 0..=4 {
+            let mut vec = ArrayVec::from_array_len([1, 2, 3, 4], len);
+            let asked = filter.asks(&mut vec);
+            let items = if *for_each == 1 {
+                len
+            } else {
+                2 * len.saturating_sub(1)
+            };
+            let wanted = wanted.get(..items);
+            assert!(rt;
+                vec.len() == len.min(*left) && Some(asked.as_slice()) == wanted,
+                "row {at}, {len} items"
+            );
+        }
     }
 }
 
@@ -333,32 +312,37 @@ impl<'a> PartialEq for Counted<'a> {
     }
 }
 
+fn lettered(letter: u8, compared: &Cell<u8>) -> Counted<'_> {
+    Counted {
+        letter,
+        compared: Some(compared),
+    }
+}
+
+// How many of the first letters are left when repeats are removed, and how many were compared.
+fn compares(letters: [u8; 3], count: usize) -> (usize, u8) {
+    let compared = Cell::new(0);
+    let [a, b, c] = letters;
+    let slots = [
+        lettered(a, &compared),
+        lettered(b, &compared),
+        lettered(c, &compared),
+    ];
+    let Ok(mut vec) = ArrayVec::try_from_array_len(slots, count) else {
+        return (usize::MAX, 0);
+    };
+    vec.dedup();
+    (vec.len(), compared.get())
+}
+
 #[test]
 fn dedup_compares_each_item_after_the_first(rt: HostRuntime) {
-    for (letters, len) in [(*b"aaa", 1), (*b"abc", 3)] {
-        for count in 0..=3 {
-            let compared = Cell::new(0);
-            let [a, b, c] = letters;
-            let mut vec = ArrayVec::from_array_len(
-                [
-                    Counted {
-                        letter: a,
-                        compared: Some(&compared),
-                    },
-                    Counted {
-                        letter: b,
-                        compared: Some(&compared),
-                    },
-                    Counted {
-                        letter: c,
-                        compared: Some(&compared),
-                    },
-                ],
-                count,
+    for (letters, most, compared) in [(*b"aaa", 1, [0, 0, 1, 2]), (*b"abc", 3, [0, 0, 1, 2])] {
+        for (count, comparisons) in compared.iter().enumerate() {
+            assert!(rt;
+                compares(letters, count) == (count.min(most), *comparisons),
+                "{count} letters"
             );
-            vec.dedup();
-            assert!(rt; vec.len() == count.min(len));
-            assert!(rt; usize::from(compared.get()) == count.saturating_sub(1));
         }
     }
 }
