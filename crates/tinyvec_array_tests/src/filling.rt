@@ -1,5 +1,6 @@
 //! Items taken from iterators and closures, and lists joined.
 use std::iter;
+use std::process::Abort;
 use std::test::Fail;
 use tinyvec_array::{ArrayVec, FromIterRest, NoRoom};
 use tinyvec_test_items::{Unhinted, assert_is, assert_items};
@@ -148,60 +149,129 @@ fn resize_with_asks_once_for_each_missing_item(rt: HostRuntime) {
     }
 }
 
+// The calls that move the items of one list behind another.
+#[derive(Clone, Copy)]
+enum Joining {
+    // Where all find room.
+    Append,
+    // Where not all find room: the list that comes back is this one, and is cut to one item.
+    AppendIfFitsElseCut(&'static [i32]),
+    // Where all find room: an item is pushed into the emptied list.
+    AppendIfFitsAndPush(i32),
+    // Where not all find room.
+    TryAppendRefused,
+    TryAppend,
+}
+
+use Joining::{Append, AppendIfFitsAndPush, AppendIfFitsElseCut, TryAppend, TryAppendRefused};
+
+// Makes the call. Whether it answers so.
+fn joins<const N: usize>(
+    front: &mut ArrayVec<[i32; N]>,
+    back: &mut ArrayVec<[i32; N]>,
+    joining: Joining,
+) -> bool {
+    match joining {
+        Append => {
+            let fits = front.len() <= N && back.len() <= N - front.len();
+            if fits {
+                front.append(back);
+            }
+            fits
+        }
+        AppendIfFitsElseCut(list) => match front.append_if_fits(back) {
+            Ok(_) => false,
+            Err(refused) => {
+                let same = refused.as_slice() == list;
+                refused.truncate(1);
+                same
+            }
+        },
+        AppendIfFitsAndPush(item) => match front.append_if_fits(back) {
+            Ok(emptied) => emptied.try_push(item).is_none(),
+            Err(_) => false,
+        },
+        TryAppendRefused => front.try_append(back).is_some(),
+        TryAppend => front.try_append(back).is_none(),
+    }
+}
+
+// Slots of two lists with how many of them hold items, the call, and the same of the lists after it.
+struct Joined<A> {
+    front: (A, usize),
+    back: (A, usize),
+    joining: Joining,
+    front_after: (A, usize),
+    back_after: (A, usize),
+}
+
+fn each_joined<const N: usize>(rt: &impl Abort, rows: &[Joined<[i32; N]>]) {
+    for (at, row) in rows.iter().enumerate() {
+        let Ok(mut front) = ArrayVec::try_from_array_len(row.front.0, row.front.1) else {
+            panic!(rt; "row {at} has fewer slots");
+        };
+        let Ok(mut back) = ArrayVec::try_from_array_len(row.back.0, row.back.1) else {
+            panic!(rt; "row {at} has fewer slots");
+        };
+        let joined = joins(&mut front, &mut back, row.joining);
+        let lengths = (front.len(), back.len());
+        assert!(rt;
+            joined && lengths == (row.front_after.1, row.back_after.1),
+            "row {at}"
+        );
+        assert!(rt;
+            front.into_inner() == row.front_after.0 && back.into_inner() == row.back_after.0,
+            "row {at}"
+        );
+    }
+}
+
+const APPENDED: [Joined<[i32; 8]>; 1] = [Joined {
+    front: ([1, 2, 3, 0, 0, 0, 0, 0], 3),
+    back: ([4, 5, 6, 0, 0, 0, 0, 8], 3),
+    joining: Append,
+    front_after: ([1, 2, 3, 4, 5, 6, 0, 0], 6),
+    back_after: ([0, 0, 0, 0, 0, 0, 0, 8], 0),
+}];
+
 #[test]
 fn append_moves_the_items(rt: HostRuntime) {
-    let mut front = ArrayVec::from_array_len([1, 2, 3, 0, 0, 0, 0, 0], 3);
-    let mut back = ArrayVec::from_array_len([4, 5, 6, 0, 0, 0, 0, 8], 3);
-    front.append(&mut back);
-    assert_items!(rt; front.as_slice(), [1, 2, 3, 4, 5, 6]);
-    assert!(rt; back.is_empty());
-    assert_items!(rt; back.as_inner(), [0, 0, 0, 0, 0, 0, 0, 8]);
+    each_joined(&rt, &APPENDED);
 }
 
-/// With the slots that hold no item.
-#[test]
-fn append_if_fits_hands_back_the_other(rt: HostRuntime) {
-    let mut front = ArrayVec::from_array_len([1, 2, 3, 4, 5, 6, 20], 6);
-    let mut back = ArrayVec::from_array_len([7, 8, 9, 30, 31, 32, 33], 2);
-    match front.append_if_fits(&mut back) {
-        Ok(_) => panic!(rt; "there was no room"),
-        Err(refused) => {
-            assert_items!(rt; refused.as_slice(), [7, 8]);
-            refused.truncate(1);
-        }
-    }
-    assert_items!(rt; front.as_slice(), [1, 2, 3, 4, 5, 6]);
-    assert_items!(rt; front.as_inner(), [1, 2, 3, 4, 5, 6, 20]);
-    assert_items!(rt; back.as_slice(), [7]);
-    assert_items!(rt; back.as_inner(), [7, 0, 9, 30, 31, 32, 33]);
-}
+// The slots that hold no item come back too.
+const HANDED_BACK: [Joined<[i32; 7]>; 4] = [
+    Joined {
+        front: ([1, 2, 3, 4, 5, 6, 20], 6),
+        back: ([7, 8, 9, 30, 31, 32, 33], 2),
+        joining: AppendIfFitsElseCut(&[7, 8]),
+        front_after: ([1, 2, 3, 4, 5, 6, 20], 6),
+        back_after: ([7, 0, 9, 30, 31, 32, 33], 1),
+    },
+    Joined {
+        front: ([1, 2, 3, 4, 5, 6, 20], 6),
+        back: ([7, 0, 9, 30, 31, 32, 33], 1),
+        joining: AppendIfFitsAndPush(40),
+        front_after: ([1, 2, 3, 4, 5, 6, 7], 7),
+        back_after: ([40, 0, 9, 30, 31, 32, 33], 1),
+    },
+    Joined {
+        front: ([1, 2, 3, 4, 5, 6, 20], 6),
+        back: ([7, 8, 9, 30, 31, 32, 33], 3),
+        joining: TryAppendRefused,
+        front_after: ([1, 2, 3, 4, 5, 6, 20], 6),
+        back_after: ([7, 8, 9, 30, 31, 32, 33], 3),
+    },
+    Joined {
+        front: ([1, 2, 3, 4, 5, 6, 20], 6),
+        back: ([7, 0, 0, 30, 31, 32, 33], 1),
+        joining: TryAppend,
+        front_after: ([1, 2, 3, 4, 5, 6, 7], 7),
+        back_after: ([0, 0, 0, 30, 31, 32, 33], 0),
+    },
+];
 
-/// It gives the emptied list, with the slots that hold no item.
 #[test]
-fn append_if_fits_hands_back_the_emptied(rt: HostRuntime) {
-    let mut front = ArrayVec::from_array_len([1, 2, 3, 4, 5, 6, 20], 6);
-    let mut back = ArrayVec::from_array_len([7, 0, 9, 30, 31, 32, 33], 1);
-    match front.append_if_fits(&mut back) {
-        Ok(emptied) => emptied.push(40),
-        Err(_) => panic!(rt; "there was room"),
-    }
-    assert_items!(rt; front.as_slice(), [1, 2, 3, 4, 5, 6, 7]);
-    assert_items!(rt; back.as_slice(), [40]);
-    assert_items!(rt; back.as_inner(), [40, 0, 9, 30, 31, 32, 33]);
-}
-
-#[test]
-fn try_append_hands_back(rt: HostRuntime) {
-    let mut front = ArrayVec::from_array_len([1, 2, 3, 4, 5, 6, 20], 6);
-    let mut back = ArrayVec::from_array_len([7, 8, 9, 30, 31, 32, 33], 3);
-    assert!(rt; front.try_append(&mut back).is_some());
-    assert_items!(rt; front.as_slice(), [1, 2, 3, 4, 5, 6]);
-    assert_items!(rt; front.as_inner(), [1, 2, 3, 4, 5, 6, 20]);
-    assert_items!(rt; back.as_slice(), [7, 8, 9]);
-    assert_items!(rt; back.as_inner(), [7, 8, 9, 30, 31, 32, 33]);
-    back.truncate(1);
-    assert!(rt; front.try_append(&mut back).is_none());
-    assert_items!(rt; front.as_slice(), [1, 2, 3, 4, 5, 6, 7]);
-    assert!(rt; back.is_empty());
-    assert_items!(rt; back.as_inner(), [0, 0, 0, 30, 31, 32, 33]);
+fn other_list_handed_back(rt: HostRuntime) {
+    each_joined(&rt, &HANDED_BACK);
 }
