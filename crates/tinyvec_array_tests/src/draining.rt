@@ -4,11 +4,8 @@ ghost use Rattle.tinyvec_slots.specs.Cut.{IsRangeOf};
 
 use crate::range_forms::RangeForm;
 use crate::range_forms::RangeForm::{Behind, Between, From, Full, Through, To, ToLast};
-use crate::taking::Step;
-use crate::taking::Step::{Back, Front, Left, NoBack, NoFront, Nth, NthBack};
 use std::mem;
 use std::ops::{Bound, RangeBounds};
-use std::process::Abort;
 use std::test::Fail;
 use tinyvec_array::ArrayVec;
 use tinyvec_test_items::{assert_is, assert_items};
@@ -96,102 +93,65 @@ fn ranges(rt: HostRuntime) {
     }
 }
 
-// Whether a drain of what stands from `start` up to `end` answers so before it is dropped.
-fn answers<const N: usize>(
-    v: &mut ArrayVec<[i32; N]>,
-    start: usize,
-    end: usize,
-    steps: &[Step],
-) -> bool {
-    if start > end || end > v.len() {
-        return false;
-    }
-    let mut drain = v.drain(start..end);
-    let mut answers = true;
-    for step in steps {
-        let answer = match *step {
-            Front(item) => drain.next() == Some(item),
-            Back(item) => drain.next_back() == Some(item),
-            NoFront => drain.next() == None,
-            NoBack => drain.next_back() == None,
-            Nth(count, item) => drain.nth(count) == item,
-            NthBack(count, item) => drain.nth_back(count) == item,
-            Left(count) => drain.len() == count && drain.size_hint() == (count, Some(count)),
-        };
-        answers = answers && answer;
-    }
-    answers
+#[test]
+fn passed_over(rt: HostRuntime) {
+    let mut v = ArrayVec::from_array_len([1, 2, 3, 4], 4);
+    let mut d = v.drain(1..3);
+    assert_is!(rt; d.nth(1), Some(3));
+    drop(d);
+    assert!(rt; v.len() == 2);
+    assert_items!(rt; &v.into_inner(), [1, 4, 0, 0]);
 }
-
-// A list of numbers, the range that is drained, what the drain is asked, and the list that is left before zeros.
-type Row = (
-    &'static [i32],
-    usize,
-    usize,
-    &'static [Step],
-    &'static [i32],
-);
-
-const BOTH_ENDS: [Row; 5] = [
-    (&[1, 2, 3, 4], 1, 3, &[Nth(1, Some(3))], &[1, 4]),
-    (
-        &[0, 1, 2, 3, 4, 5, 6, 7],
-        1,
-        8,
-        &[
-            Left(7),
-            Front(1),
-            Back(7),
-            Nth(1, Some(3)),
-            NthBack(1, Some(5)),
-            Left(1),
-        ],
-        &[0],
-    ),
-    (
-        &[0, 1, 2],
-        1,
-        3,
-        &[
-            Front(1),
-            Back(2),
-            Left(0),
-            NoFront,
-            NoBack,
-            Left(0),
-            NoFront,
-            NoBack,
-            Left(0),
-        ],
-        &[0],
-    ),
-    (&[1, 2, 3], 0, 2, &[Nth(2, None)], &[3]),
-    (&[3], 0, 1, &[NthBack(1, None)], &[]),
-];
 
 #[test]
 fn from_both_ends(rt: HostRuntime) {
-    for (at, (list, start, end, steps, left)) in BOTH_ENDS.iter().enumerate() {
-        let mut v = ArrayVec::<[i32; 8]>::new();
-        let _rest = v.fill(list.iter().copied());
-        let answered = answers(&mut v, *start, *end, steps);
-        assert!(rt;
-            answered && v.as_slice() == *left && v.grab_spare_slice().iter().all(is_zero),
-            "row {at}"
-        );
-    }
+    let mut v = ArrayVec::from_array([0, 1, 2, 3, 4, 5, 6, 7]);
+    let mut d = v.drain(1..);
+    assert!(rt; d.len() == 7);
+    assert_is!(rt; d.size_hint(), (7, Some(7)));
+    assert_is!(rt; d.next(), Some(1));
+    assert_is!(rt; d.next_back(), Some(7));
+    assert_is!(rt; d.nth(1), Some(3));
+    assert_is!(rt; d.nth_back(1), Some(5));
+    assert!(rt; d.len() == 1);
+    assert_is!(rt; d.size_hint(), (1, Some(1)));
+    drop(d);
+    assert_items!(rt; &v.into_inner(), [0, 0, 0, 0, 0, 0, 0, 0]);
 }
 
 #[test]
-fn last_of_none(rt: HostRuntime) {
-    let mut v = ArrayVec::<[i32; 3]>::new();
+fn from_both_ends_to_none(rt: HostRuntime) {
+    let mut v = ArrayVec::from_array([0, 1, 2]);
+    let mut d = v.drain(1..);
+    assert_is!(rt; d.next(), Some(1));
+    assert_is!(rt; d.next_back(), Some(2));
+    assert!(rt; d.len() == 0);
+    for _again in 0..2 {
+        assert_is!(rt; d.next(), None);
+        assert_is!(rt; d.next_back(), None);
+        assert_is!(rt; d.size_hint(), (0, Some(0)));
+    }
+    drop(d);
+    assert_items!(rt; &v.into_inner(), [0, 0, 0]);
+}
+
+#[test]
+fn past_the_end(rt: HostRuntime) {
+    let mut v = ArrayVec::from_array([1, 2, 3]);
+    assert_is!(rt; v.drain(..2).nth(2), None);
+    assert_items!(rt; v.as_slice(), [3]);
+    assert_is!(rt; v.drain(..).nth_back(1), None);
+    assert_items!(rt; v.as_slice(), []);
     assert_is!(rt; v.drain(..).last(), None);
 }
 
 #[test]
 fn no_slots(rt: HostRuntime) {
     let mut v: ArrayVec<[i32; 0]> = ArrayVec::new();
-    assert!(rt; answers(&mut v, 0, 0, &[Left(0), NoFront, NoBack]));
+    let mut d = v.drain(..);
+    assert!(rt; d.len() == 0);
+    assert_is!(rt; d.next(), None);
+    assert_is!(rt; d.next_back(), None);
 }
 
 // No contract says what a drain that is never dropped leaves.

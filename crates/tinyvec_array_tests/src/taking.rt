@@ -1,4 +1,4 @@
-//! What iterators over both ends are asked, as values: the tables of the drain and of the iterator hold these.
+//! What iterators over both ends are asked, as values: the tables of the iterator hold these.
 
 #[derive(Clone, Copy)]
 pub(crate) enum Step {
