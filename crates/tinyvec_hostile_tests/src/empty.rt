@@ -1,4 +1,5 @@
 //! Vectors of no slots.
+use crate::always::{keep, keep_mut, value};
 use crate::bases::{Binary, LowerHex, Octal, UpperHex};
 use crate::many_texts::hash_of;
 use std::alloc::AllocGlobal;
@@ -65,7 +66,7 @@ fn an_array_is_filtered(rt: HostRuntime) {
         true
     });
     v.dedup_by(|_, _| true);
-    v.dedup_by_key(|x| *x);
+    v.dedup_by_key(value);
     assert_is!(rt; asked, 0);
     assert_items!(rt; v.as_slice(), []);
 }
@@ -187,11 +188,11 @@ fn a_tiny_vec_is_joined_and_cut(rt: HostRuntime) -> Result<(), Fail> {
 #[test]
 fn a_tiny_vec_is_filtered(rt: HostRuntime) {
     let mut v = Tiny::new(rt.alloc());
-    v.retain(|_| true);
-    v.retain_mut(|_| true);
+    v.retain(keep);
+    v.retain_mut(keep_mut);
     v.dedup();
     v.dedup_by(|_, _| true);
-    v.dedup_by_key(|x| *x);
+    v.dedup_by_key(value);
     assert!(rt; lies(&v, &[], true));
     assert_is!(rt; v.iter().next(), None);
     assert_is!(rt; v.into_iter().next(), None);

@@ -2,6 +2,8 @@
 #![tactic(auto)]
 
 #[cfg(test)]
+mod always;
+#[cfg(test)]
 mod bases;
 #[cfg(test)]
 mod blocks;

@@ -1,4 +1,5 @@
 //! Vectors of 65536 slots, in calls that go through all of them.
+use crate::always::{differ, drop_each, keep, seven, value};
 use std::cmp::Ordering;
 use std::iter;
 use std::test::Fail;
@@ -94,7 +95,7 @@ fn an_array_is_filled(rt: HostRuntime) {
     assert_is!(rt; v.resize(65536, 7), Ok(()));
     assert!(rt; are(v.as_slice(), 65536, 7));
     v.clear();
-    v.resize_with(65536, || 7);
+    v.resize_with(65536, seven);
     assert!(rt; are(v.as_slice(), 65536, 7));
     v.clear();
     assert!(rt; v.extend(iter::repeat(7)).is_err());
@@ -104,7 +105,7 @@ fn an_array_is_filled(rt: HostRuntime) {
 #[test]
 fn an_array_is_filtered(rt: HostRuntime) {
     let mut v = full();
-    v.retain(|_| true);
+    v.retain(keep);
     v.retain_mut(|x| {
         *x = 8;
         true
@@ -118,10 +119,10 @@ fn an_array_is_filtered(rt: HostRuntime) {
 #[test]
 fn an_array_is_deduped(rt: HostRuntime) {
     let mut v = full();
-    v.dedup_by(|_, _| false);
-    v.dedup_by_key(|x| *x);
+    v.dedup_by(differ);
+    v.dedup_by_key(value);
     assert!(rt; are(v.as_slice(), 1, 7));
-    v.retain(|_| false);
+    v.retain(drop_each);
     assert!(rt; are(v.grab_spare_slice(), 65536, 0));
 }
 

@@ -1,4 +1,5 @@
 //! A `SliceVec` over 65536 slots, in calls that go through all of them.
+use crate::always::{drop_each, keep};
 use crate::many::are;
 use std::cmp::Ordering;
 use std::iter;
@@ -94,7 +95,7 @@ fn compared_and_iterated(rt: HostRuntime) {
 fn filtered(rt: HostRuntime) {
     let mut slots = [7; 65536];
     let mut v = SliceVec::from_slice_len(&mut slots, 65536);
-    v.retain(|_| true);
+    v.retain(keep);
     assert!(rt; are(v.as_slice(), 65536, 7));
     let mut keeps = false;
     v.retain(|_| {
@@ -109,7 +110,7 @@ fn filtered(rt: HostRuntime) {
 fn filtered_to_none(rt: HostRuntime) {
     let mut slots = [7; 65536];
     let mut v = SliceVec::from_slice_len(&mut slots, 65536);
-    v.retain(|_| false);
+    v.retain(drop_each);
     assert!(rt; v.is_empty());
     assert!(rt; are(&slots, 65536, 0));
 }

@@ -1,4 +1,5 @@
 //! A `TinyVec` of 65536 slots and an `InlineText` of 65536 bytes, in calls that go through all of them.
+use crate::always::{differ, keep, keep_mut, seven, value};
 use std::alloc::Global;
 use std::cmp::Ordering;
 use std::iter;
@@ -43,7 +44,7 @@ fn extended(rt: HostRuntime) -> Result<(), Fail> {
     v.extend_from_slice(&[7])?;
     assert!(rt; is(&v, 65537, 7, false));
     v.clear();
-    v.resize_with(65537, || 7)?;
+    v.resize_with(65537, seven)?;
     assert!(rt; is(&v, 65537, 7, false));
     Ok(())
 }
@@ -82,14 +83,14 @@ fn joined_and_cut(rt: HostRuntime) -> Result<(), Fail> {
 #[test]
 fn filtered(rt: HostRuntime) {
     let mut v = full(rt.alloc());
-    v.retain(|_| true);
-    v.retain_mut(|_| true);
-    v.dedup_by(|_, _| false);
+    v.retain(keep);
+    v.retain_mut(keep_mut);
+    v.dedup_by(differ);
     assert!(rt; is(&v, 65536, 7, true));
     v.dedup();
     assert!(rt; is(&v, 1, 7, true));
     let mut keys = full(rt.alloc());
-    keys.dedup_by_key(|x| *x);
+    keys.dedup_by_key(value);
     assert!(rt; is(&keys, 1, 7, true));
 }
 
