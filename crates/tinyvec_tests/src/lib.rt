@@ -20,6 +20,8 @@ mod macros;
 #[cfg(test)]
 mod making;
 #[cfg(test)]
+mod placed;
+#[cfg(test)]
 mod printing;
 #[cfg(test)]
 mod splices;

@@ -1,9 +1,12 @@
-//! Tests of the splice.
-ghost use Rattle.std.specs.Prelude.{◌≡◌, ◌≤◌, IfOk};
+//! Tests of the splice. A row of a table says which range is replaced by what, what is taken from which end, and the list
+//! after it.
+ghost use Rattle.std.specs.Prelude.{◌≤◌};
 ghost use Rattle.tinyvec_slots.specs.Cut.{range_start, range_end};
 ghost use Rattle.tinyvec.specs.Tiny.{tiny_len};
 
-use std::alloc::{AllocError, AllocGlobal, Global};
+use self::Step::{Back, Front, Left, Touches};
+use crate::placed::{Span, one_two_three};
+use std::alloc::AllocGlobal;
 use std::iter;
 use std::ops::{Bound, RangeBounds};
 use std::process::Abort;
@@ -12,255 +15,304 @@ use tinyvec::{SpliceRest, TinyVec};
 use tinyvec_test_items::Unhinted;
 use tinyvec_test_looks::{lies, spares};
 
-// `[1, 2, 3]`, inline in ten slots or on the heap.
-fn one_two_three(alloc: Global, inline: bool) -> Result<TinyVec<[i32; 10]>, AllocError>
-    ensures { IfOk result (λ v. tiny_len v ≡ 3) }
+// What a splice gives from an end, or what it tells of itself.
+#[derive(Clone, Copy)]
+enum Step {
+    Front(Option<i32>),
+    Back(Option<i32>),
+    // By its length and both bounds of its hint.
+    Left(usize),
+    Touches(u128),
+}
+
+// A range, the numbers from the first up to the last in its place, the steps before the end, and the list after it.
+type Row = (Span, (i32, i32), &'static [Step], &'static [i32]);
+
+// Whether the splice of a row goes as it says, and leaves the list there. It may ask for memory or not.
+fn splices<const N: usize>(
+    rt: &impl Abort,
+    v: &mut TinyVec<[i32; N]>,
+    row: &Row,
+    asks: bool,
+    inline: bool,
+) -> bool {
+    let len = v.len();
+    let is_right = match row.0 {
+        Span::All => drive(rt, v, .., row, asks),
+        Span::UpTo(end) if end <= len => drive(rt, v, ..end, row, asks),
+        Span::UpThrough(last) if last < len => drive(rt, v, ..=last, row, asks),
+        Span::From(start) if start <= len => drive(rt, v, start.., row, asks),
+        Span::Between(start, end) if start <= end && end <= len => {
+            drive(rt, v, start..end, row, asks)
+        }
+        Span::Through(start, last) if start <= last && last < len => {
+            drive(rt, v, start..=last, row, asks)
+        }
+        Span::Behind(front, last) if front <= last && last < len => {
+            let behind = (Bound::Excluded(front), Bound::Included(last));
+            drive(rt, v, behind, row, asks)
+        }
+        _ => panic!(rt; "there is no such range"),
+    };
+    is_right & lies(v, row.3, inline)
+}
+
+fn drive<const N: usize, R: RangeBounds<usize>>(
+    rt: &impl Abort,
+    v: &mut TinyVec<[i32; N]>,
+    range: R,
+    row: &Row,
+    asks: bool,
+) -> bool
+    requires known { R.has_bounds range }
+    requires start_le_end { range_start (R.start_bound range) ≤ range_end (R.end_bound range) (tiny_len v.old) }
+    requires in_list { range_end (R.end_bound range) (tiny_len v.old) ≤ tiny_len v.old }
 {
-    let mut v = TinyVec::from_array_len(alloc, [1, 2, 3, 0, 0, 0, 0, 0, 0, 0], 3);
-    if !inline {
-        v.move_to_the_heap()?;
+    let mut is_right = true;
+    let mut splice = v.splice(range, row.1.0..row.1.1);
+    for wanted in row.2 {
+        is_right &= match *wanted {
+            Front(item) => splice.next() == item,
+            Back(item) => splice.next_back() == item,
+            Left(count) => (splice.len() == count) & (splice.size_hint() == (count, Some(count))),
+            Touches(count) => splice.touches() == count,
+        };
     }
-    Ok(v)
+    let finished = splice.finish().is_ok();
+    assert!(rt; finished | !asks, "memory was granted");
+    is_right & finished
 }
 
-// Splices the range of these by one item or none, and asks for the removed items from the front.
-fn one_from_the_front<R: RangeBounds<usize>>(
+// Splices `[1, 2, 3]` by each row, in both places.
+fn assert_in_both_places(
     rt: &(impl Abort + AllocGlobal),
-    inline: bool,
-    range: R,
-    replacement: Option<i32>,
-    given: [Option<i32>; 3],
-    list: &[i32],
-) -> Result<(), Fail>
-    requires known { R.has_bounds range }
-    requires start_le_end { range_start (R.start_bound range) ≤ range_end (R.end_bound range) 3 }
-    requires in_list { range_end (R.end_bound range) 3 ≤ 3 }
-{
-    let mut v = one_two_three(rt.alloc(), inline)?;
-    let mut splice = v.splice(range, replacement);
-    assert!(rt; splice.next() == given[0]);
-    assert!(rt; splice.next() == given[1]);
-    assert!(rt; splice.next() == given[2]);
-    assert!(rt; splice.next() == None);
-    assert!(rt; splice.finish().is_ok(), "memory was granted");
-    assert!(rt; lies(&v, list, inline));
+    rows: &[Row],
+    asks: bool,
+) -> Result<(), Fail> {
+    for inline in [true, false] {
+        for (at, row) in rows.iter().enumerate() {
+            let mut v = one_two_three(rt.alloc(), inline)?;
+            assert!(rt;
+                splices(rt, &mut v, row, asks, inline),
+                "row {at}, inline: {inline}"
+            );
+        }
+    }
     Ok(())
 }
 
-// The same by the items 4, 5 and 6.
-fn three_from_the_front<R: RangeBounds<usize>>(
-    rt: &(impl Abort + AllocGlobal),
-    inline: bool,
-    range: R,
-    given: [Option<i32>; 3],
-    list: &[i32],
-) -> Result<(), Fail>
-    requires known { R.has_bounds range }
-    requires start_le_end { range_start (R.start_bound range) ≤ range_end (R.end_bound range) 3 }
-    requires in_list { range_end (R.end_bound range) 3 ≤ 3 }
-{
-    let mut v = one_two_three(rt.alloc(), inline)?;
-    let mut splice = v.splice(range, 4..=6);
-    assert!(rt; splice.next() == given[0]);
-    assert!(rt; splice.next() == given[1]);
-    assert!(rt; splice.next() == given[2]);
-    assert!(rt; splice.next() == None);
-    assert!(rt; splice.finish().is_ok(), "memory was granted");
-    assert!(rt; lies(&v, list, inline));
-    Ok(())
-}
+const NONE: [Step; 4] = [Front(None); 4];
 
-// The same from the back, so `given` comes last first.
-fn three_from_the_back<R: RangeBounds<usize>>(
-    rt: &(impl Abort + AllocGlobal),
-    inline: bool,
-    range: R,
-    given: [Option<i32>; 3],
-    list: &[i32],
-) -> Result<(), Fail>
-    requires known { R.has_bounds range }
-    requires start_le_end { range_start (R.start_bound range) ≤ range_end (R.end_bound range) 3 }
-    requires in_list { range_end (R.end_bound range) 3 ≤ 3 }
-{
-    let mut v = one_two_three(rt.alloc(), inline)?;
-    let mut splice = v.splice(range, 4..=6);
-    assert!(rt; splice.next_back() == given[0]);
-    assert!(rt; splice.next_back() == given[1]);
-    assert!(rt; splice.next_back() == given[2]);
-    assert!(rt; splice.next_back() == None);
-    assert!(rt; splice.finish().is_ok(), "memory was granted");
-    assert!(rt; lies(&v, list, inline));
-    Ok(())
-}
+const ALL: [Step; 4] = [Front(Some(1)), Front(Some(2)), Front(Some(3)), Front(None)];
+
+const FIRST_TWO: [Step; 4] = [Front(Some(1)), Front(Some(2)), Front(None), Front(None)];
+
+const LAST_TWO: [Step; 4] = [Front(Some(2)), Front(Some(3)), Front(None), Front(None)];
+
+const SECOND: [Step; 4] = [Front(Some(2)), Front(None), Front(None), Front(None)];
+
+const NO_REPLACEMENT: [Row; 15] = [
+    (Span::All, (4, 4), &ALL, &[]),
+    (Span::UpTo(2), (4, 4), &FIRST_TWO, &[3]),
+    (Span::UpTo(3), (4, 4), &ALL, &[]),
+    (Span::UpThrough(1), (4, 4), &FIRST_TWO, &[3]),
+    (Span::UpThrough(2), (4, 4), &ALL, &[]),
+    (Span::From(0), (4, 4), &ALL, &[]),
+    (Span::From(1), (4, 4), &LAST_TWO, &[1]),
+    (Span::Between(0, 2), (4, 4), &FIRST_TWO, &[3]),
+    (Span::Between(0, 3), (4, 4), &ALL, &[]),
+    (Span::Between(1, 2), (4, 4), &SECOND, &[1, 3]),
+    (Span::Between(1, 3), (4, 4), &LAST_TWO, &[1]),
+    (Span::Through(0, 1), (4, 4), &FIRST_TWO, &[3]),
+    (Span::Through(0, 2), (4, 4), &ALL, &[]),
+    (Span::Through(1, 1), (4, 4), &SECOND, &[1, 3]),
+    (Span::Through(1, 2), (4, 4), &LAST_TWO, &[1]),
+];
 
 #[test]
 fn no_replacement(rt: HostRuntime) -> Result<(), Fail> {
-    let all = [Some(1), Some(2), Some(3)];
-    let first_two = [Some(1), Some(2), None];
-    let last_two = [Some(2), Some(3), None];
-    let second = [Some(2), None, None];
-    for inline in [true, false] {
-        one_from_the_front(&rt, inline, .., None, all, &[])?;
-        one_from_the_front(&rt, inline, ..2, None, first_two, &[3])?;
-        one_from_the_front(&rt, inline, ..3, None, all, &[])?;
-        one_from_the_front(&rt, inline, ..=1, None, first_two, &[3])?;
-        one_from_the_front(&rt, inline, ..=2, None, all, &[])?;
-        one_from_the_front(&rt, inline, 0.., None, all, &[])?;
-        one_from_the_front(&rt, inline, 1.., None, last_two, &[1])?;
-        one_from_the_front(&rt, inline, 0..2, None, first_two, &[3])?;
-        one_from_the_front(&rt, inline, 0..3, None, all, &[])?;
-        one_from_the_front(&rt, inline, 1..2, None, second, &[1, 3])?;
-        one_from_the_front(&rt, inline, 1..3, None, last_two, &[1])?;
-        one_from_the_front(&rt, inline, 0..=1, None, first_two, &[3])?;
-        one_from_the_front(&rt, inline, 0..=2, None, all, &[])?;
-        one_from_the_front(&rt, inline, 1..=1, None, second, &[1, 3])?;
-        one_from_the_front(&rt, inline, 1..=2, None, last_two, &[1])?;
-    }
-    Ok(())
+    assert_in_both_places(&rt, &NO_REPLACEMENT, true)
 }
+
+const ONE_ITEM: [Row; 4] = [
+    (Span::All, (4, 5), &ALL, &[4]),
+    (Span::UpTo(2), (4, 5), &FIRST_TWO, &[4, 3]),
+    (Span::From(1), (4, 5), &LAST_TWO, &[1, 4]),
+    (Span::Through(1, 1), (4, 5), &SECOND, &[1, 4, 3]),
+];
 
 #[test]
 fn one_item(rt: HostRuntime) -> Result<(), Fail> {
-    let all = [Some(1), Some(2), Some(3)];
-    for inline in [true, false] {
-        one_from_the_front(&rt, inline, .., Some(4), all, &[4])?;
-        one_from_the_front(&rt, inline, ..2, Some(4), [Some(1), Some(2), None], &[4, 3])?;
-        one_from_the_front(&rt, inline, 1.., Some(4), [Some(2), Some(3), None], &[1, 4])?;
-        one_from_the_front(
-            &rt,
-            inline,
-            1..=1,
-            Some(4),
-            [Some(2), None, None],
-            &[1, 4, 3],
-        )?;
-    }
-    Ok(())
+    assert_in_both_places(&rt, &ONE_ITEM, true)
 }
+
+const THREE_FROM_THE_FRONT: [Row; 15] = [
+    (Span::All, (4, 7), &ALL, &[4, 5, 6]),
+    (Span::UpTo(2), (4, 7), &FIRST_TWO, &[4, 5, 6, 3]),
+    (Span::UpTo(3), (4, 7), &ALL, &[4, 5, 6]),
+    (Span::UpThrough(1), (4, 7), &FIRST_TWO, &[4, 5, 6, 3]),
+    (Span::UpThrough(2), (4, 7), &ALL, &[4, 5, 6]),
+    (Span::From(0), (4, 7), &ALL, &[4, 5, 6]),
+    (Span::From(1), (4, 7), &LAST_TWO, &[1, 4, 5, 6]),
+    (Span::Between(0, 2), (4, 7), &FIRST_TWO, &[4, 5, 6, 3]),
+    (Span::Between(0, 3), (4, 7), &ALL, &[4, 5, 6]),
+    (Span::Between(1, 2), (4, 7), &SECOND, &[1, 4, 5, 6, 3]),
+    (Span::Between(1, 3), (4, 7), &LAST_TWO, &[1, 4, 5, 6]),
+    (Span::Through(0, 1), (4, 7), &FIRST_TWO, &[4, 5, 6, 3]),
+    (Span::Through(0, 2), (4, 7), &ALL, &[4, 5, 6]),
+    (Span::Through(1, 1), (4, 7), &SECOND, &[1, 4, 5, 6, 3]),
+    (Span::Through(1, 2), (4, 7), &LAST_TWO, &[1, 4, 5, 6]),
+];
 
 #[test]
 fn three_items_from_the_front(rt: HostRuntime) -> Result<(), Fail> {
-    let all = [Some(1), Some(2), Some(3)];
-    let first_two = [Some(1), Some(2), None];
-    let last_two = [Some(2), Some(3), None];
-    let second = [Some(2), None, None];
-    for inline in [true, false] {
-        three_from_the_front(&rt, inline, .., all, &[4, 5, 6])?;
-        three_from_the_front(&rt, inline, ..2, first_two, &[4, 5, 6, 3])?;
-        three_from_the_front(&rt, inline, ..3, all, &[4, 5, 6])?;
-        three_from_the_front(&rt, inline, ..=1, first_two, &[4, 5, 6, 3])?;
-        three_from_the_front(&rt, inline, ..=2, all, &[4, 5, 6])?;
-        three_from_the_front(&rt, inline, 0.., all, &[4, 5, 6])?;
-        three_from_the_front(&rt, inline, 1.., last_two, &[1, 4, 5, 6])?;
-        three_from_the_front(&rt, inline, 0..2, first_two, &[4, 5, 6, 3])?;
-        three_from_the_front(&rt, inline, 0..3, all, &[4, 5, 6])?;
-        three_from_the_front(&rt, inline, 1..2, second, &[1, 4, 5, 6, 3])?;
-        three_from_the_front(&rt, inline, 1..3, last_two, &[1, 4, 5, 6])?;
-        three_from_the_front(&rt, inline, 0..=1, first_two, &[4, 5, 6, 3])?;
-        three_from_the_front(&rt, inline, 0..=2, all, &[4, 5, 6])?;
-        three_from_the_front(&rt, inline, 1..=1, second, &[1, 4, 5, 6, 3])?;
-        three_from_the_front(&rt, inline, 1..=2, last_two, &[1, 4, 5, 6])?;
-    }
-    Ok(())
+    assert_in_both_places(&rt, &THREE_FROM_THE_FRONT, true)
 }
+
+const NONE_BACK: [Step; 4] = [Back(None); 4];
+
+const ALL_BACK: [Step; 4] = [Back(Some(3)), Back(Some(2)), Back(Some(1)), Back(None)];
+
+const FIRST_TWO_BACK: [Step; 4] = [Back(Some(2)), Back(Some(1)), Back(None), Back(None)];
+
+const LAST_TWO_BACK: [Step; 4] = [Back(Some(3)), Back(Some(2)), Back(None), Back(None)];
+
+const SECOND_BACK: [Step; 4] = [Back(Some(2)), Back(None), Back(None), Back(None)];
+
+const THREE_FROM_THE_BACK: [Row; 6] = [
+    (Span::All, (4, 7), &ALL_BACK, &[4, 5, 6]),
+    (Span::UpTo(2), (4, 7), &FIRST_TWO_BACK, &[4, 5, 6, 3]),
+    (Span::From(1), (4, 7), &LAST_TWO_BACK, &[1, 4, 5, 6]),
+    (Span::Through(0, 1), (4, 7), &FIRST_TWO_BACK, &[4, 5, 6, 3]),
+    (Span::Through(1, 1), (4, 7), &SECOND_BACK, &[1, 4, 5, 6, 3]),
+    (Span::Behind(0, 2), (4, 7), &LAST_TWO_BACK, &[1, 4, 5, 6]),
+];
 
 #[test]
 fn three_items_from_the_back(rt: HostRuntime) -> Result<(), Fail> {
-    let all = [Some(3), Some(2), Some(1)];
-    let first_two = [Some(2), Some(1), None];
-    let last_two = [Some(3), Some(2), None];
-    let second = [Some(2), None, None];
-    for inline in [true, false] {
-        three_from_the_back(&rt, inline, .., all, &[4, 5, 6])?;
-        three_from_the_back(&rt, inline, ..2, first_two, &[4, 5, 6, 3])?;
-        three_from_the_back(&rt, inline, 1.., last_two, &[1, 4, 5, 6])?;
-        three_from_the_back(&rt, inline, 0..=1, first_two, &[4, 5, 6, 3])?;
-        three_from_the_back(&rt, inline, 1..=1, second, &[1, 4, 5, 6, 3])?;
-        let behind = (Bound::Excluded(0), Bound::Included(2));
-        three_from_the_back(&rt, inline, behind, last_two, &[1, 4, 5, 6])?;
-    }
-    Ok(())
+    assert_in_both_places(&rt, &THREE_FROM_THE_BACK, true)
 }
+
+const EMPTY_RANGES: [Row; 4] = [
+    (Span::Between(0, 0), (4, 4), &NONE, &[1, 2, 3]),
+    (Span::Between(2, 2), (4, 5), &NONE, &[1, 2, 4, 3]),
+    (Span::UpTo(0), (4, 7), &NONE, &[4, 5, 6, 1, 2, 3]),
+    (Span::Between(3, 3), (4, 7), &NONE_BACK, &[1, 2, 3, 4, 5, 6]),
+];
 
 #[test]
 fn empty_ranges(rt: HostRuntime) -> Result<(), Fail> {
-    let none = [None, None, None];
-    for inline in [true, false] {
-        one_from_the_front(&rt, inline, 0..0, None, none, &[1, 2, 3])?;
-        one_from_the_front(&rt, inline, 2..2, Some(4), none, &[1, 2, 4, 3])?;
-        three_from_the_front(&rt, inline, ..0, none, &[4, 5, 6, 1, 2, 3])?;
-        three_from_the_back(&rt, inline, 3..3, none, &[1, 2, 3, 4, 5, 6])?;
-    }
-    Ok(())
+    assert_in_both_places(&rt, &EMPTY_RANGES, true)
+}
+
+const FROM_BOTH_ENDS: [Step; 9] = [
+    Left(3),
+    Back(Some(3)),
+    Left(2),
+    Front(Some(1)),
+    Back(Some(2)),
+    Left(0),
+    Front(None),
+    Back(None),
+    Left(0),
+];
+
+#[test]
+fn how_many_are_left(rt: HostRuntime) -> Result<(), Fail> {
+    assert_in_both_places(&rt, &[(Span::All, (7, 9), &FROM_BOTH_ENDS, &[7, 8])], false)
 }
 
 #[test]
 fn inline_to_the_heap(rt: HostRuntime) {
     let mut v = TinyVec::from_array_len(rt.alloc(), [1, 2, 3, 0], 3);
-    let mut splice = v.splice(1..2, [7, 8, 9]);
-    assert!(rt; splice.next_back() == Some(2));
-    assert!(rt; splice.finish().is_ok(), "memory was granted");
-    assert!(rt; lies(&v, &[1, 7, 8, 9, 3], false));
+    let row: Row = (
+        Span::Between(1, 2),
+        (7, 10),
+        &[Back(Some(2))],
+        &[1, 7, 8, 9, 3],
+    );
+    assert!(rt; splices(&rt, &mut v, &row, true, false));
 }
+
+const SHORTER: Row = (
+    Span::Between(1, 4),
+    (7, 8),
+    &[Back(Some(4)), Front(Some(2))],
+    &[1, 7, 5],
+);
 
 #[test]
 fn shorter_on_the_heap(rt: HostRuntime) -> Result<(), Fail> {
     let mut v: TinyVec<[i32; 4]> = TinyVec::from_slice(rt.alloc(), &[1, 2, 3, 4, 5])?;
     let room = v.capacity();
-    let mut splice = v.splice(1..4, [7]);
-    assert!(rt; splice.next_back() == Some(4));
-    assert!(rt; splice.next() == Some(2));
-    assert!(rt; splice.finish().is_ok());
-    assert!(rt; lies(&v, &[1, 7, 5], false));
+    assert!(rt; splices(&rt, &mut v, &SHORTER, false, false));
     assert!(rt; v.capacity() == room);
     Ok(())
 }
 
+// One after the other, with the spare slots after each.
+const WITHIN_THE_ARRAY: [(Row, &[i32]); 3] = [
+    ((Span::Between(1, 2), (6, 8), &[], &[1, 6, 7, 3]), &[9]),
+    ((Span::UpTo(3), (2, 3), &[], &[2, 3]), &[0, 0, 9]),
+    ((Span::Between(1, 1), (5, 8), &[], &[2, 5, 6, 7, 3]), &[]),
+];
+
 #[test]
 fn within_the_array(rt: HostRuntime) {
     let mut v = TinyVec::from_array_len(rt.alloc(), [1, 2, 3, 8, 9], 3);
-    assert!(rt; v.splice(1..2, [6, 7]).finish().is_ok());
-    assert!(rt; lies(&v, &[1, 6, 7, 3], true));
-    assert!(rt; spares(&v, &[9]));
-    assert!(rt; v.splice(..3, [2]).finish().is_ok());
-    assert!(rt; lies(&v, &[2, 3], true));
-    assert!(rt; spares(&v, &[0, 0, 9]));
-    assert!(rt; v.splice(1..1, [5, 6, 7]).finish().is_ok());
-    assert!(rt; lies(&v, &[2, 5, 6, 7, 3], true));
+    for (row, spare) in WITHIN_THE_ARRAY {
+        assert!(rt;
+            splices(&rt, &mut v, &row, false, true) & spares(&v, spare),
+            "{spare:?}"
+        );
+    }
 }
+
+const SIX_TOUCHES: Row = (
+    Span::All,
+    (7, 11),
+    &[
+        Front(Some(1)),
+        Back(Some(3)),
+        Front(Some(2)),
+        Front(None),
+        Back(None),
+        Touches(6),
+    ],
+    &[7, 8, 9, 10],
+);
 
 #[test]
 fn a_step_moves_nothing(rt: HostRuntime) {
     let mut v = TinyVec::from_array(rt.alloc(), [1, 2, 3]);
-    let mut splice = v.splice(.., [7, 8, 9, 10]);
-    assert!(rt; splice.next() == Some(1));
-    assert!(rt; splice.next_back() == Some(3));
-    assert!(rt; splice.next() == Some(2));
-    assert!(rt; splice.next() == None);
-    assert!(rt; splice.next_back() == None);
-    assert!(rt; splice.touches() == 6);
-    assert!(rt; splice.finish().is_ok(), "memory was granted");
-    assert!(rt; lies(&v, &[7, 8, 9, 10], false));
+    assert!(rt; splices(&rt, &mut v, &SIX_TOUCHES, true, false));
 }
 
 #[test]
 fn as_many_in_a_full_array(rt: HostRuntime) {
     let mut v = TinyVec::from_array(rt.alloc(), [1, 2, 3]);
-    assert!(rt; v.splice(1.., [8, 9]).finish().is_ok());
-    assert!(rt; lies(&v, &[1, 8, 9], true));
+    let row: Row = (Span::From(1), (8, 10), &[], &[1, 8, 9]);
+    assert!(rt; splices(&rt, &mut v, &row, false, true));
+}
+
+#[test]
+fn no_slots(rt: HostRuntime) {
+    let mut v: TinyVec<[i32; 0]> = TinyVec::new(rt.alloc());
+    let none: Row = (Span::All, (7, 7), &[Left(0), Front(None)], &[]);
+    assert!(rt; splices(&rt, &mut v, &none, false, true));
+    let two: Row = (Span::All, (7, 9), &[], &[7, 8]);
+    assert!(rt; splices(&rt, &mut v, &two, true, false));
 }
 
 #[test]
 fn touches_of_a_longer_replacement(rt: HostRuntime) {
     let mut v = TinyVec::from_array_len(rt.alloc(), [1, 2, 3, 4, 5, 0, 0, 0], 5);
     let mut splice = v.splice(1..3, [7, 8, 9, 10]);
-    assert!(rt; splice.touches() == 0);
-    assert!(rt; splice.next_back() == Some(3));
-    assert!(rt; splice.touches() == 2);
+    let before = splice.touches();
+    let last = splice.next_back();
+    assert!(rt; (before, last, splice.touches()) == (0, Some(3), 2));
     let (finished, touches) = splice.finish_counted();
-    assert!(rt; finished.is_ok());
-    assert!(rt; touches <= 13);
-    assert!(rt; 5 <= touches);
+    assert!(rt; finished.is_ok() & (5 <= touches) & (touches <= 13));
     assert!(rt; lies(&v, &[1, 7, 8, 9, 10, 4, 5], true));
 }
 
@@ -269,69 +321,47 @@ fn touches_of_a_move(rt: HostRuntime) {
     let mut v = TinyVec::from_array(rt.alloc(), [1, 2, 3]);
     let (finished, touches) = v.splice(3.., [4]).finish_counted();
     assert!(rt; finished.is_ok(), "memory was granted");
-    assert!(rt; touches <= 8);
-    assert!(rt; lies(&v, &[1, 2, 3, 4], false));
-}
-
-#[test]
-fn how_many_are_left(rt: HostRuntime) -> Result<(), Fail> {
-    for inline in [true, false] {
-        let mut v = one_two_three(rt.alloc(), inline)?;
-        let mut splice = v.splice(.., [7, 8]);
-        assert!(rt; splice.len() == 3);
-        assert!(rt; splice.size_hint() == (3, Some(3)));
-        assert!(rt; splice.next_back() == Some(3));
-        assert!(rt; splice.len() == 2);
-        assert!(rt; splice.next() == Some(1));
-        assert!(rt; splice.next_back() == Some(2));
-        assert!(rt; splice.len() == 0);
-        assert!(rt; splice.next() == None);
-        assert!(rt; splice.next_back() == None);
-        assert!(rt; splice.size_hint() == (0, Some(0)));
-        assert!(rt; splice.finish().is_ok());
-        assert!(rt; lies(&v, &[7, 8], inline));
-    }
-    Ok(())
+    assert!(rt; (touches <= 8) & lies(&v, &[1, 2, 3, 4], false));
 }
 
 #[test]
 fn hints_are_not_read(rt: HostRuntime) {
     let mut v = TinyVec::from_array_len(rt.alloc(), [1, 2, 3, 0], 3);
-    assert!(rt;
-        v.splice(1..2, Unhinted { next: 0, end: 2 })
-            .finish()
-            .is_ok()
-    );
-    assert!(rt; lies(&v, &[1, 0, 1, 3], true));
-    assert!(rt;
-        v.splice(..1, Unhinted { next: 4, end: 6 }).finish().is_ok(),
-        "memory was granted"
-    );
+    let finished = v.splice(1..2, Unhinted { next: 0, end: 2 }).finish();
+    assert!(rt; finished.is_ok() & lies(&v, &[1, 0, 1, 3], true));
+    let finished = v.splice(..1, Unhinted { next: 4, end: 6 }).finish();
+    assert!(rt; finished.is_ok(), "memory was granted");
     assert!(rt; lies(&v, &[4, 5, 0, 1, 3], false));
 }
 
 #[test]
-fn no_slots(rt: HostRuntime) {
-    let mut v: TinyVec<[i32; 0]> = TinyVec::new(rt.alloc());
-    let mut splice = v.splice(.., None);
-    assert!(rt; splice.len() == 0);
-    assert!(rt; splice.next() == None);
-    assert!(rt; splice.finish().is_ok());
-    assert!(rt; lies(&v, &[], true));
-    assert!(rt; v.splice(.., [7, 8]).finish().is_ok(), "memory was granted");
-    assert!(rt; lies(&v, &[7, 8], false));
+fn ranges_and_options_as_replacements(rt: HostRuntime) -> Result<(), Fail> {
+    for inline in [true, false] {
+        let mut v = one_two_three(rt.alloc(), inline)?;
+        let mut splice = v.splice(.., 4..=6);
+        let ends = (splice.next(), splice.next_back());
+        let finished = splice.finish().is_ok();
+        assert!(rt; finished & (ends == (Some(1), Some(3))) & lies(&v, &[4, 5, 6], inline));
+        let mut splice = v.splice(.., Some(7));
+        let first = splice.next();
+        let finished = splice.finish().is_ok();
+        assert!(rt; finished & (first == Some(4)) & lies(&v, &[7], inline));
+        let mut splice = v.splice(.., None);
+        let last = splice.next();
+        let finished = splice.finish().is_ok();
+        assert!(rt; finished & (last == Some(7)) & lies(&v, &[], inline));
+    }
+    Ok(())
 }
 
 #[test]
 fn a_vec_of_replacements(rt: HostRuntime) -> Result<(), Fail> {
-    let mut replacement = Vec::new(rt.alloc());
-    replacement.push(8)?;
-    replacement.push(9)?;
+    let replacement = [8, 9].to_vec(rt.alloc())?;
     let mut v = one_two_three(rt.alloc(), true)?;
     let mut splice = v.splice(2.., replacement);
-    assert!(rt; splice.next_back() == Some(3));
-    assert!(rt; splice.finish().is_ok());
-    assert!(rt; lies(&v, &[1, 2, 8, 9], true));
+    let last = splice.next_back();
+    let finished = splice.finish().is_ok();
+    assert!(rt; finished & (last == Some(3)) & lies(&v, &[1, 2, 8, 9], true));
     Ok(())
 }
 

@@ -1,0 +1,45 @@
+//! Lists in either place, and ranges of them as values, so that the rows of a table may name them.
+ghost use Rattle.std.specs.Prelude.{◌≡◌, IfOk};
+ghost use Rattle.tinyvec.specs.Tiny.{tiny_len};
+
+use std::alloc::{AllocError, Global};
+use tinyvec::{Array, TinyVec};
+
+// Leaves a list in its array, or moves it to the heap.
+pub(crate) fn placed<A: Array>(v: TinyVec<A>, inline: bool) -> Result<TinyVec<A>, AllocError> {
+    let mut v = v;
+    if !inline {
+        v.move_to_the_heap()?;
+    }
+    Ok(v)
+}
+
+// `[1, 2, 3]`, inline in ten slots or on the heap.
+pub(crate) fn one_two_three(alloc: Global, inline: bool) -> Result<TinyVec<[i32; 10]>, AllocError>
+    ensures { IfOk result (λ v. tiny_len v ≡ 3) }
+{
+    let mut v = TinyVec::from_array_len(alloc, [1, 2, 3, 0, 0, 0, 0, 0, 0, 0], 3);
+    if !inline {
+        v.move_to_the_heap()?;
+    }
+    Ok(v)
+}
+
+// A range in each of the forms that a call takes.
+#[derive(Clone, Copy)]
+pub(crate) enum Span {
+    // `..`
+    All,
+    // `..end`
+    UpTo(usize),
+    // `..=last`
+    UpThrough(usize),
+    // `start..`
+    From(usize),
+    // `start..end`
+    Between(usize, usize),
+    // `start..=last`
+    Through(usize, usize),
+    // Bounds: behind the first place, and up to the last.
+    Behind(usize, usize),
+}
