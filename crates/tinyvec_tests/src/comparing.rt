@@ -1,5 +1,6 @@
 //! Comparisons and hashes, in both places.
-use std::alloc::{AllocError, Global};
+use crate::placed::placed;
+use std::alloc::AllocGlobal;
 use std::cmp::Ordering;
 use std::hash::{DefaultHasher, Hash, Hasher};
 use std::process::Abort;
@@ -8,15 +9,6 @@ use tinyvec::TinyVec;
 
 // Where two lists lie: whether the first is inline, and whether the second is.
 const PLACES: [(bool, bool); 4] = [(true, true), (true, false), (false, true), (false, false)];
-
-// These items, inline in four slots or on the heap.
-fn listed(alloc: Global, items: &[i32], inline: bool) -> Result<TinyVec<[i32; 4]>, AllocError> {
-    let mut v = TinyVec::from_slice(alloc, items)?;
-    if !inline {
-        v.move_to_the_heap()?;
-    }
-    Ok(v)
-}
 
 // Whether all comparisons tell that they stand in this order, either way round.
 fn stand_so<const N: usize>(v: &TinyVec<[i32; N]>, w: &TinyVec<[i32; N]>, order: Ordering) -> bool {
@@ -37,30 +29,58 @@ fn hash_of<T: Hash>(x: &T) -> u64 {
     state.finish()
 }
 
-#[test]
-fn a_prefix_is_less(rt: HostRuntime) -> Result<(), Fail> {
+// Asserts how pairs of lists stand, wherever they lie. Equal ones have one hash.
+fn assert_stand(
+    rt: &(impl Abort + AllocGlobal),
+    rows: &[(&[i32], &[i32], Ordering)],
+) -> Result<(), Fail> {
     for (first, second) in PLACES {
-        let short = listed(rt.alloc(), &[1, 2], first)?;
-        let long = listed(rt.alloc(), &[1, 2, 0], second)?;
-        assert!(rt; stand_so(&short, &long, Ordering::Less));
-        let none = listed(rt.alloc(), &[], first)?;
-        assert!(rt; stand_so(&none, &long, Ordering::Less));
-        let low = listed(rt.alloc(), &[i32::MIN], second)?;
-        assert!(rt; stand_so(&low, &none, Ordering::Greater));
+        for (at, (left, right, order)) in rows.iter().enumerate() {
+            let v = placed(TinyVec::<[i32; 4]>::from_slice(rt.alloc(), *left)?, first)?;
+            let w = placed(TinyVec::<[i32; 4]>::from_slice(rt.alloc(), *right)?, second)?;
+            let hashed = (hash_of(&v) == hash_of(&w)) | (*order != Ordering::Equal);
+            let there = (v.is_inline() == first) & (w.is_inline() == second);
+            assert!(rt;
+                stand_so(&v, &w, *order) & hashed & there,
+                "row {at}, {first}, {second}"
+            );
+        }
     }
     Ok(())
 }
 
 #[test]
+fn a_prefix_is_less(rt: HostRuntime) -> Result<(), Fail> {
+    assert_stand(
+        &rt,
+        &[
+            (&[1, 2], &[1, 2, 0], Ordering::Less),
+            (&[], &[1, 2, 0], Ordering::Less),
+            (&[i32::MIN], &[], Ordering::Greater),
+        ],
+    )
+}
+
+#[test]
 fn the_first_difference_decides(rt: HostRuntime) -> Result<(), Fail> {
-    for (first, second) in PLACES {
-        let short = listed(rt.alloc(), &[1, 3], first)?;
-        let long = listed(rt.alloc(), &[1, 2, 9], second)?;
-        assert!(rt; stand_so(&short, &long, Ordering::Greater));
-        let negative = listed(rt.alloc(), &[-1, 9, 9, 9], second)?;
-        assert!(rt; stand_so(&short, &negative, Ordering::Greater));
-    }
-    Ok(())
+    assert_stand(
+        &rt,
+        &[
+            (&[1, 3], &[1, 2, 9], Ordering::Greater),
+            (&[1, 3], &[-1, 9, 9, 9], Ordering::Greater),
+        ],
+    )
+}
+
+#[test]
+fn places_do_not_count(rt: HostRuntime) -> Result<(), Fail> {
+    assert_stand(
+        &rt,
+        &[
+            (&[1, 2], &[1, 2], Ordering::Equal),
+            (&[], &[], Ordering::Equal),
+        ],
+    )
 }
 
 #[test]
@@ -72,12 +92,14 @@ fn lists_of_any_length(rt: HostRuntime) -> Result<(), Fail> {
         let mut v: TinyVec<[i32; 70]> = TinyVec::new(rt.alloc());
         v.resize(len, 7)?;
         let mut w = v.clone()?;
-        assert!(rt; stand_so(&v, &w, Ordering::Equal), "{len} items");
-        assert!(rt; hash_of(&v) == hash_of(&w), "{len} items");
-        assert!(rt; w.pop() == Some(7));
-        assert!(rt; stand_so(&v, &w, Ordering::Greater), "{len} items");
+        let equal = stand_so(&v, &w, Ordering::Equal) & (hash_of(&v) == hash_of(&w));
+        let popped = w.pop();
+        let greater = stand_so(&v, &w, Ordering::Greater) & (popped == Some(7));
         w.push(8)?;
-        assert!(rt; stand_so(&v, &w, Ordering::Less), "{len} items");
+        assert!(rt;
+            equal & greater & stand_so(&v, &w, Ordering::Less),
+            "{len} items"
+        );
     }
     Ok(())
 }
@@ -88,12 +110,14 @@ fn a_difference_at_each_place(rt: HostRuntime) -> Result<(), Fail> {
     v.resize(150, 7)?;
     let mut w = v.clone()?;
     for i in 0..150 {
-        set(&mut w, i, 8);
-        assert!(rt; stand_so(&v, &w, Ordering::Less), "at {i}");
-        set(&mut w, i, 6);
-        assert!(rt; stand_so(&v, &w, Ordering::Greater), "at {i}");
-        set(&mut w, i, 7);
-        assert!(rt; stand_so(&v, &w, Ordering::Equal), "at {i}");
+        for (item, order) in [
+            (8, Ordering::Less),
+            (6, Ordering::Greater),
+            (7, Ordering::Equal),
+        ] {
+            set(&mut w, i, item);
+            assert!(rt; stand_so(&v, &w, order), "{item} at {i}");
+        }
     }
     Ok(())
 }
@@ -105,28 +129,10 @@ fn set<const N: usize>(v: &mut TinyVec<[i32; N]>, i: usize, x: i32) {
 }
 
 #[test]
-fn places_do_not_count(rt: HostRuntime) -> Result<(), Fail> {
-    for (first, second) in PLACES {
-        let v = listed(rt.alloc(), &[1, 2], first)?;
-        let w = listed(rt.alloc(), &[1, 2], second)?;
-        assert!(rt; v.is_inline() == first);
-        assert!(rt; w.is_inline() == second);
-        assert!(rt; stand_so(&v, &w, Ordering::Equal));
-        assert!(rt; hash_of(&v) == hash_of(&w));
-        let none = listed(rt.alloc(), &[], first)?;
-        let other = listed(rt.alloc(), &[], second)?;
-        assert!(rt; stand_so(&none, &other, Ordering::Equal));
-        assert!(rt; hash_of(&none) == hash_of(&other));
-    }
-    Ok(())
-}
-
-#[test]
 fn spare_slots_do_not_count(rt: HostRuntime) {
     let v = TinyVec::from_array_len(rt.alloc(), [1, 2, 7, 8], 2);
     let w = TinyVec::from_array_len(rt.alloc(), [1, 2, 9, 0], 2);
-    assert!(rt; stand_so(&v, &w, Ordering::Equal));
-    assert!(rt; hash_of(&v) == hash_of(&w));
+    assert!(rt; stand_so(&v, &w, Ordering::Equal) & (hash_of(&v) == hash_of(&w)));
     let longer = TinyVec::from_array_len(rt.alloc(), [1, 2, 7, 8], 3);
     assert!(rt; stand_so(&v, &longer, Ordering::Less));
 }
@@ -137,12 +143,14 @@ fn fed_as_a_slice_is(rt: HostRuntime) -> Result<(), Fail> {
     let mut wanted = DefaultHasher::new();
     [1, 2].as_slice().hash(&mut wanted);
     for inline in [true, false] {
-        let v = listed(rt.alloc(), &[1, 2], inline)?;
-        assert!(rt; hash_of(&v) == wanted.finish());
-        let other = listed(rt.alloc(), &[2, 1], inline)?;
-        assert!(rt; hash_of(&other) != wanted.finish());
-        let longer = listed(rt.alloc(), &[1, 2, 0], inline)?;
-        assert!(rt; hash_of(&longer) != wanted.finish());
+        for (items, is_fed_so) in [
+            ([1, 2].as_slice(), true),
+            ([2, 1].as_slice(), false),
+            ([1, 2, 0].as_slice(), false),
+        ] {
+            let v = placed(TinyVec::<[i32; 4]>::from_slice(rt.alloc(), items)?, inline)?;
+            assert!(rt; (hash_of(&v) == wanted.finish()) == is_fed_so, "{items:?}");
+        }
     }
     Ok(())
 }
@@ -152,12 +160,10 @@ fn fed_as_a_slice_is(rt: HostRuntime) -> Result<(), Fail> {
 fn no_order(rt: HostRuntime) -> Result<(), Fail> {
     let inline = TinyVec::from_array(rt.alloc(), [1.0, f64::NAN]);
     let mut heap: TinyVec<[f64; 2]> = TinyVec::from_slice(rt.alloc(), &[1.0, f64::NAN, 3.0])?;
-    assert!(rt; inline.partial_cmp(&heap) == None);
-    assert!(rt; heap.pop() == Some(3.0));
-    assert!(rt; inline != heap);
-    assert!(rt; inline.partial_cmp(&heap) == None);
-    assert!(rt; !(inline < heap));
-    assert!(rt; !(inline >= heap));
+    let longer = inline.partial_cmp(&heap);
+    let popped = heap.pop();
+    assert!(rt; (longer, popped, inline.partial_cmp(&heap)) == (None, Some(3.0), None));
+    assert!(rt; (inline != heap) & !(inline < heap) & !(inline >= heap));
     let lower = TinyVec::from_array(rt.alloc(), [0.5, f64::NAN]);
     assert!(rt; lower.partial_cmp(&heap) == Some(Ordering::Less));
     Ok(())

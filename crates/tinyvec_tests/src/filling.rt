@@ -8,9 +8,8 @@ use tinyvec_test_looks::{lies, spares};
 #[test]
 fn listed(rt: HostRuntime) {
     let mut v = TinyVec::from_array_len(rt.alloc(), [1, 0, 0, 7], 1);
-    assert!(rt; v.extend([5, 6]).is_ok());
-    assert!(rt; lies(&v, &[1, 5, 6], true));
-    assert!(rt; spares(&v, &[7]));
+    let extended = v.extend([5, 6]).is_ok();
+    assert!(rt; extended & lies(&v, &[1, 5, 6], true) & spares(&v, &[7]));
     assert!(rt; v.extend([7, 8, 9]).is_ok(), "memory was granted");
     assert!(rt; lies(&v, &[1, 5, 6, 7, 8, 9], false));
     assert!(rt; v.extend(10..12).is_ok(), "memory was granted");
@@ -20,9 +19,8 @@ fn listed(rt: HostRuntime) {
 #[test]
 fn a_vec(rt: HostRuntime) -> Result<(), Fail> {
     let mut v = TinyVec::from_array_len(rt.alloc(), [1, 0, 0, 9], 1);
-    assert!(rt; v.extend([2, 3].to_vec(rt.alloc())?).is_ok());
-    assert!(rt; lies(&v, &[1, 2, 3], true));
-    assert!(rt; spares(&v, &[9]));
+    let extended = v.extend([2, 3].to_vec(rt.alloc())?).is_ok();
+    assert!(rt; extended & lies(&v, &[1, 2, 3], true) & spares(&v, &[9]));
     assert!(rt;
         v.extend([4, 5].to_vec(rt.alloc())?).is_ok(),
         "memory was granted"
@@ -34,8 +32,8 @@ fn a_vec(rt: HostRuntime) -> Result<(), Fail> {
 #[test]
 fn copies_of_a_slice(rt: HostRuntime) {
     let mut v = TinyVec::from_array_len(rt.alloc(), [1, 0, 0], 1);
-    assert!(rt; v.extend([2, 3].iter().copied()).is_ok());
-    assert!(rt; lies(&v, &[1, 2, 3], true));
+    let extended = v.extend([2, 3].iter().copied()).is_ok();
+    assert!(rt; extended & lies(&v, &[1, 2, 3], true));
     assert!(rt; v.extend([4].iter().copied()).is_ok(), "memory was granted");
     assert!(rt; lies(&v, &[1, 2, 3, 4], false));
 }
@@ -43,8 +41,8 @@ fn copies_of_a_slice(rt: HostRuntime) {
 #[test]
 fn without_a_hint(rt: HostRuntime) {
     let mut v = TinyVec::from_array_len(rt.alloc(), [1, 0, 0, 0], 1);
-    assert!(rt; v.extend(Unhinted { next: 2, end: 3 }).is_ok());
-    assert!(rt; lies(&v, &[1, 2], true));
+    let extended = v.extend(Unhinted { next: 2, end: 3 }).is_ok();
+    assert!(rt; extended & lies(&v, &[1, 2], true));
     let mut v = TinyVec::from_array_len(rt.alloc(), [1, 0, 0, 0], 1);
     assert!(rt;
         v.extend(Unhinted { next: 2, end: 6 }).is_ok(),
@@ -68,9 +66,11 @@ fn resize_with_asks_once_for_each_missing_item(rt: HostRuntime) -> Result<(), Fa
                     asked = asked.wrapping_add(1);
                     7
                 })?;
-                assert!(rt; v.len() == n);
-                assert!(rt; v.is_inline() == (inline && n <= 4));
-                assert!(rt; asked == n.saturating_sub(len));
+                let there = (v.len() == n) & (v.is_inline() == (inline & (n <= 4)));
+                assert!(rt;
+                    there & (asked == n.saturating_sub(len)),
+                    "from {len} to {n}"
+                );
             }
         }
     }

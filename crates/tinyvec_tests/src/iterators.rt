@@ -14,8 +14,7 @@ fn negated(rt: HostRuntime) -> Result<(), Fail> {
     for x in &mut inline {
         *x = x.wrapping_neg();
     }
-    assert!(rt; lies(&inline, &[-10, -11, -12, -13], true));
-    assert!(rt; spares(&inline, &[7]));
+    assert!(rt; lies(&inline, &[-10, -11, -12, -13], true) & spares(&inline, &[7]));
     let mut heap = listed(rt.alloc(), &[10, 11, 12, 13, 14])?;
     for x in heap.iter_mut().rev() {
         *x = x.wrapping_neg();
@@ -25,8 +24,7 @@ fn negated(rt: HostRuntime) -> Result<(), Fail> {
     for x in &heap {
         sum = sum.wrapping_add(*x);
     }
-    assert!(rt; sum == -60);
-    assert!(rt; heap.iter().zip(&inline).all(|(a, b)| a == b));
+    assert!(rt; (sum == -60) & heap.iter().zip(&inline).all(|(a, b)| a == b));
     Ok(())
 }
 
@@ -38,16 +36,13 @@ fn both_ends(rt: HostRuntime) -> Result<(), Fail> {
         v.truncate(4);
         assert!(rt; v.is_inline() == more.is_empty());
         let mut items = v.into_iter();
-        assert!(rt; items.len() == 4);
-        assert!(rt; items.next() == Some(1));
-        assert!(rt; items.next_back() == Some(4));
-        assert!(rt; items.as_slice() == [2, 3].as_slice());
-        assert!(rt; items.size_hint() == (2, Some(2)));
-        assert!(rt; items.next() == Some(2));
-        assert!(rt; items.next_back() == Some(3));
-        assert!(rt; items.next() == None);
-        assert!(rt; items.next_back() == None);
-        assert!(rt; items.len() == 0);
+        let four = items.len() == 4;
+        let ends = (items.next(), items.next_back());
+        let two = (items.as_slice() == [2, 3].as_slice()) & (items.size_hint() == (2, Some(2)));
+        assert!(rt; four & (ends == (Some(1), Some(4))) & two);
+        let amid = (items.next(), items.next_back());
+        let none = (items.next(), items.next_back(), items.len());
+        assert!(rt; (amid == (Some(2), Some(3))) & (none == (None, None, 0)));
     }
     Ok(())
 }
@@ -58,22 +53,26 @@ fn skips_from_the_back(rt: HostRuntime) {
         panic!(rt; "memory was granted");
     };
     let mut items = vec.into_iter();
-    assert!(rt; items.nth_back(0) == Some(31));
-    assert!(rt; items.nth_back(2) == Some(28));
-    assert!(rt; items.nth_back(0) == Some(27));
-    assert!(rt; items.nth_back(99) == None);
-    assert!(rt; items.nth_back(99) == None);
+    for (count, item) in [
+        (0, Some(31)),
+        (2, Some(28)),
+        (0, Some(27)),
+        (99, None),
+        (99, None),
+    ] {
+        assert!(rt; items.nth_back(count) == item, "{count}");
+    }
 }
 
 #[test]
 fn last_and_count(rt: HostRuntime) -> Result<(), Fail> {
     let mut items = listed(rt.alloc(), &[1, 2, 3, 4])?.into_iter();
-    assert!(rt; items.nth(3) == Some(4));
-    assert!(rt; items.next() == None);
-    assert!(rt; items.last() == None);
-    assert!(rt; listed(rt.alloc(), &[1, 2, 3])?.into_iter().next() == Some(1));
-    assert!(rt; listed(rt.alloc(), &[1, 2, 3])?.into_iter().last() == Some(3));
-    assert!(rt; listed(rt.alloc(), &[1, 2, 3, 4, 5])?.into_iter().count() == 5);
+    let last = (items.nth(3), items.next());
+    assert!(rt; (last == (Some(4), None)) & (items.last() == None));
+    let first = listed(rt.alloc(), &[1, 2, 3])?.into_iter().next();
+    let last = listed(rt.alloc(), &[1, 2, 3])?.into_iter().last();
+    let count = listed(rt.alloc(), &[1, 2, 3, 4, 5])?.into_iter().count();
+    assert!(rt; (first, last, count) == (Some(1), Some(3), 5));
     let gathered: Vec<i32> = listed(rt.alloc(), &[1, 2, 3])?
         .into_iter()
         .rev()

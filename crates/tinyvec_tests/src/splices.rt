@@ -335,21 +335,27 @@ fn hints_are_not_read(rt: HostRuntime) {
 }
 
 #[test]
-fn ranges_and_options_as_replacements(rt: HostRuntime) -> Result<(), Fail> {
+fn a_range_of_replacements(rt: HostRuntime) -> Result<(), Fail> {
     for inline in [true, false] {
         let mut v = one_two_three(rt.alloc(), inline)?;
         let mut splice = v.splice(.., 4..=6);
         let ends = (splice.next(), splice.next_back());
         let finished = splice.finish().is_ok();
         assert!(rt; finished & (ends == (Some(1), Some(3))) & lies(&v, &[4, 5, 6], inline));
-        let mut splice = v.splice(.., Some(7));
-        let first = splice.next();
-        let finished = splice.finish().is_ok();
-        assert!(rt; finished & (first == Some(4)) & lies(&v, &[7], inline));
-        let mut splice = v.splice(.., None);
-        let last = splice.next();
-        let finished = splice.finish().is_ok();
-        assert!(rt; finished & (last == Some(7)) & lies(&v, &[], inline));
+    }
+    Ok(())
+}
+
+#[test]
+fn one_replacement_or_none(rt: HostRuntime) -> Result<(), Fail> {
+    for inline in [true, false] {
+        for (replacement, items) in [(Some(4), [4].as_slice()), (None, [].as_slice())] {
+            let mut v = one_two_three(rt.alloc(), inline)?;
+            let mut splice = v.splice(.., replacement);
+            let first = splice.next();
+            let finished = splice.finish().is_ok();
+            assert!(rt; finished & (first == Some(1)) & lies(&v, items, inline));
+        }
     }
     Ok(())
 }
@@ -372,18 +378,13 @@ fn refused_by_the_count<const N: usize>(rt: &(impl Abort + AllocGlobal)) {
         return;
     }
     let mut splice = v.splice(1..3, [(), (), (), ()]);
-    assert!(rt; splice.next() == Some(()));
-    assert!(rt; splice.next_back() == Some(()));
-    match splice.finish() {
-        Ok(()) => assert!(rt; false),
-        Err(SpliceRest { item, mut rest }) => {
-            assert!(rt; item == ());
-            assert!(rt; rest.next() == Some(()));
-            assert!(rt; rest.next() == None);
-        }
-    }
-    assert!(rt; v.len() == N);
-    assert!(rt; v.is_inline());
+    let taken = (splice.next(), splice.next_back());
+    let handed_back = match splice.finish() {
+        Ok(()) => None,
+        Err(SpliceRest { item, mut rest }) => Some((item, rest.next(), rest.next())),
+    };
+    assert!(rt; (taken, handed_back) == ((Some(()), Some(())), Some(((), Some(()), None))));
+    assert!(rt; (v.len() == N) & v.is_inline());
 }
 
 // There is no number of items above this one, so room for one more is granted by no allocator.
@@ -392,28 +393,27 @@ fn refused_by_the_greatest_count(rt: HostRuntime) {
     refused_by_the_count::<{ usize::MAX }>(&rt);
 }
 
-// Splices the last two of `[1, 2, 3]` by an endless replacement, takes one, and stops.
-fn stopped(rt: &(impl Abort + AllocGlobal), inline: bool) -> Result<(), Fail> {
-    let mut v = one_two_three(rt.alloc(), inline)?;
-    let mut splice = v.splice(1.., iter::repeat(7));
-    assert!(rt; splice.next() == Some(2));
-    let mut rest = splice.stop();
-    assert!(rt; rest.next() == Some(7));
-    assert!(rt; lies(&v, &[1, 7], inline));
+#[test]
+fn stopped_amid_an_endless_replacement(rt: HostRuntime) -> Result<(), Fail> {
+    for inline in [true, false] {
+        let mut v = one_two_three(rt.alloc(), inline)?;
+        let mut splice = v.splice(1.., iter::repeat(7));
+        let taken = splice.next();
+        let mut rest = splice.stop();
+        let given = (taken, rest.next());
+        assert!(rt; (given == (Some(2), Some(7))) & lies(&v, &[1, 7], inline));
+    }
     Ok(())
 }
 
 #[test]
-fn stopped_amid_an_endless_replacement(rt: HostRuntime) -> Result<(), Fail> {
-    stopped(&rt, true)?;
-    stopped(&rt, false)?;
+fn stopped_amid_three_replacements(rt: HostRuntime) -> Result<(), Fail> {
     let mut v = one_two_three(rt.alloc(), true)?;
     let mut splice = v.splice(.., [7, 8, 9]);
-    assert!(rt; splice.next() == Some(1));
-    assert!(rt; splice.next_back() == Some(3));
+    let taken = (splice.next(), splice.next_back());
     let mut rest = splice.stop();
-    assert!(rt; rest.next() == Some(8));
-    assert!(rt; rest.next() == None);
+    let given = (taken, rest.next(), rest.next());
+    assert!(rt; given == ((Some(1), Some(3)), Some(8), None));
     assert!(rt; lies(&v, &[7, 9], true));
     Ok(())
 }

@@ -8,42 +8,33 @@ use tinyvec_test_looks::{lies, spares};
 #[test]
 fn inline_then_on_the_heap(rt: HostRuntime) -> Result<(), Fail> {
     let mut v: TinyVec<[u8; 3]> = TinyVec::new(rt.alloc());
-    assert!(rt; v.write(b"foo")? == 3);
-    assert!(rt; lies(&v, b"foo", true));
-    assert!(rt; v.write(b"bar")? == 3);
-    assert!(rt; lies(&v, b"foobar", false));
-    assert!(rt; v.write(b"!")? == 1);
-    assert!(rt; lies(&v, b"foobar!", false));
+    assert!(rt; (v.write(b"foo")? == 3) & lies(&v, b"foo", true));
+    assert!(rt; (v.write(b"bar")? == 3) & lies(&v, b"foobar", false));
+    assert!(rt; (v.write(b"!")? == 1) & lies(&v, b"foobar!", false));
     Ok(())
 }
 
 #[test]
 fn behind_what_is_there(rt: HostRuntime) -> Result<(), Fail> {
     let mut v = TinyVec::from_array_len(rt.alloc(), [1, 9, 8, 7], 1);
-    assert!(rt; v.write(&[2, 3])? == 2);
-    assert!(rt; lies(&v, &[1, 2, 3], true));
-    assert!(rt; spares(&v, &[7]));
+    assert!(rt; (v.write(&[2, 3])? == 2) & lies(&v, &[1, 2, 3], true) & spares(&v, &[7]));
     Ok(())
 }
 
 #[test]
 fn no_bytes(rt: HostRuntime) -> Result<(), Fail> {
     let mut full = TinyVec::from_array(rt.alloc(), [1, 2]);
-    assert!(rt; full.write(&[])? == 0);
-    assert!(rt; lies(&full, &[1, 2], true));
+    assert!(rt; (full.write(&[])? == 0) & lies(&full, &[1, 2], true));
     let mut none: TinyVec<[u8; 0]> = TinyVec::new(rt.alloc());
-    assert!(rt; none.write(&[])? == 0);
-    assert!(rt; lies(&none, &[], true));
-    assert!(rt; none.write(&[5])? == 1);
-    assert!(rt; lies(&none, &[5], false));
+    assert!(rt; (none.write(&[])? == 0) & lies(&none, &[], true));
+    assert!(rt; (none.write(&[5])? == 1) & lies(&none, &[5], false));
     Ok(())
 }
 
 #[test]
 fn more_than_the_array_has_at_once(rt: HostRuntime) -> Result<(), Fail> {
     let mut v: TinyVec<[u8; 3]> = TinyVec::new(rt.alloc());
-    assert!(rt; v.write(&[7; 100])? == 100);
-    assert!(rt; lies(&v, &[7; 100], false));
+    assert!(rt; (v.write(&[7; 100])? == 100) & lies(&v, &[7; 100], false));
     Ok(())
 }
 
@@ -52,8 +43,7 @@ fn all_and_flushed(rt: HostRuntime) -> Result<(), Fail> {
     let mut v: TinyVec<[u8; 10]> = TinyVec::new(rt.alloc());
     v.write_all(b"abc")?;
     v.flush()?;
-    assert!(rt; lies(&v, b"abc", true));
-    assert!(rt; spares(&v, &[0; 7]));
+    assert!(rt; lies(&v, b"abc", true) & spares(&v, &[0; 7]));
     v.write_all(b"defghijk")?;
     v.flush()?;
     assert!(rt; lies(&v, b"abcdefghijk", false));
