@@ -1,18 +1,17 @@
 """The instructions a round, counted by callgrind: they are the same on each run, whatever else the machine does.
 
-Callgrind counts from the begin to the end of the function `checksum`, in which a row's rounds are. Each program runs for so
-many rounds and for twice as many, and the difference is that of the further rounds alone: what the first ones cost besides,
-as a page of memory, falls out.
+Callgrind counts from the function `begin_rounds`, which is called before a row's rounds, to the function `end_rounds`, which
+is called behind them. Each program runs for so many rounds and for twice as many, and the difference is that of the further
+rounds alone: what the first ones cost besides, as a page of memory, falls out.
 """
 import concurrent.futures
 import os
 import subprocess
 import tempfile
 
-# The two patterns name the same function; callgrind takes one option for each.
 COUNTER = [
     "valgrind", "--tool=callgrind", "--combine-dumps=yes",
-    "--zero-before=*report::checksu*", "--dump-after=*report::checksum*",
+    "--zero-before=*::begin_rounds*", "--dump-before=*::end_rounds*",
 ]
 
 # Every call is bound before it starts. The C library copies and fills by moves of registers, however long the run: of a
@@ -62,7 +61,7 @@ def totals_of(file):
     totals, is_row = [], False
     for line in file:
         if line.startswith("desc: Trigger:"):
-            is_row = "--dump-after" in line
+            is_row = "--dump-before" in line
         elif is_row and line.startswith("totals:"):
             totals.append(int(line.split()[1]))
     return totals

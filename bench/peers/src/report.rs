@@ -16,21 +16,45 @@ impl Report {
         Report { prefix, ..self }
     }
 
-    /// Runs `round` and prints the row's line. Where the time is taken, long lists have fewer rounds.
-    pub fn row(&self, name: &str, capacity: usize, round: impl FnMut(u64) -> u64) {
-        let prefix = self.prefix;
+    /// Runs `round` and prints the row's line. The loop stands where the row does, as that of this library's rows.
+    #[inline(always)]
+    pub fn row(&self, name: &str, capacity: usize, mut round: impl FnMut(u64) -> u64) {
+        let begun = self.begin_rounds(capacity);
+        let mut sum: u64 = 0;
+        for x in 0..begun.rounds {
+            sum = sum.rotate_left(5) ^ round(x);
+        }
+        self.end_rounds(name, capacity, begun, sum);
+    }
+
+    /// Begins a row. Where the time is taken, long lists have fewer rounds. It is not inlined, and neither is `end_rounds`, so
+    /// that the instructions between the two can be counted.
+    #[inline(never)]
+    fn begin_rounds(&self, capacity: usize) -> Begun {
         if !self.is_timed {
-            let rounds = self.rounds;
-            let sum = checksum(rounds, round);
+            return Begun { rounds: self.rounds, start: None };
+        }
+        Begun { rounds: rounds_at(self.rounds, capacity), start: Some(Instant::now()) }
+    }
+
+    /// Ends the row, and prints its line.
+    #[inline(never)]
+    fn end_rounds(&self, name: &str, capacity: usize, begun: Begun, sum: u64) {
+        let prefix = self.prefix;
+        let Begun { rounds, start } = begun;
+        let Some(start) = start else {
             println!("{prefix}{name} {capacity} {sum}");
             return;
-        }
-        let rounds = rounds_at(self.rounds, capacity);
-        let start = Instant::now();
-        let sum = checksum(rounds, round);
+        };
         let nanos = start.elapsed().as_nanos();
         println!("{prefix}{name} {capacity} {rounds} {nanos} {sum}");
     }
+}
+
+/// A row that has begun.
+struct Begun {
+    rounds: u64,
+    start: Option<Instant>,
 }
 
 // So that a run takes about as long for long lists as for short ones.
@@ -40,15 +64,4 @@ fn rounds_at(rounds: u64, capacity: usize) -> u64 {
         return rounds;
     }
     (rounds / share).saturating_add(1)
-}
-
-/// Runs `round` so often, and mixes what it answers. It is not inlined, so that the instructions of each row can be counted
-/// apart.
-#[inline(never)]
-fn checksum(rounds: u64, mut round: impl FnMut(u64) -> u64) -> u64 {
-    let mut sum: u64 = 0;
-    for x in 0..rounds {
-        sum = sum.rotate_left(5) ^ round(x);
-    }
-    sum
 }

@@ -1,7 +1,7 @@
 //! Parts of a list taken out, replaced, and filtered.
 
 use crate::filling::extend_from_slice;
-use crate::number::Number;
+use crate::reading::is_odd;
 use tinyvec_array::ArrayVec;
 
 /// Fills the vector, and takes the middle half out.
@@ -29,7 +29,7 @@ pub fn drain_dropped<const N: usize>(vec: &mut ArrayVec<[u64; N]>, source: &[u64
 #[inline(never)]
 pub fn retain_half<const N: usize>(vec: &mut ArrayVec<[u64; N]>, source: &[u64], x: u64) -> u64 {
     extend_from_slice(vec, source, x);
-    vec.retain(|y| *y % 2 == 1);
+    vec.retain(is_odd);
     x.wrapping_add(vec.len() as u64)
 }
 

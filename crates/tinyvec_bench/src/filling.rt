@@ -1,6 +1,12 @@
 //! Vectors filled from elsewhere.
+
 use crate::number::Number;
 use tinyvec_array::ArrayVec;
+
+/// A full vector over the array.
+pub fn full<T: Number, const N: usize>(array: [T; N]) -> ArrayVec<[T; N]> {
+    ArrayVec::from_array(array)
+}
 
 /// Makes the list the items of `source`, by one copy.
 #[inline(never)]

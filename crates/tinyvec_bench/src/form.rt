@@ -18,19 +18,13 @@ pub fn borsh_write<T: Number + BorshSerialize, const N: usize>(
     form: &mut Vec<u8>,
     x: u64,
 ) -> u64 {
-    if let Some(first) = vec.as_mut_slice().first_mut() {
-        *first = T::of(x);
-    }
+    put_first(vec.as_mut_slice(), x);
     form.clear();
     match vec.serialize(&mut Counted::new(&mut *form)) {
         Ok(()) => {}
         Err(_) => return 0,
     }
-    let byte = match form.get(COUNT) {
-        Some(b) => *b as u64,
-        None => 0,
-    };
-    byte.wrapping_add(form.len() as u64)
+    byte_behind_count(form).wrapping_add(form.len() as u64)
 }
 
 /// Reads the list from bytes, of which the one behind the count is made from `x`, and answers its first and last item and
@@ -50,6 +44,21 @@ pub fn borsh_read<T: Number + BorshDeserialize, const N: usize>(
         Err(_) => return 0,
     }
     ends(vec.as_slice())
+}
+
+#[inline(always)]
+fn put_first<T: Number>(items: &mut [T], x: u64) {
+    if let Some(first) = items.first_mut() {
+        *first = T::of(x);
+    }
+}
+
+#[inline(always)]
+fn byte_behind_count(form: &[u8]) -> u64 {
+    match form.get(COUNT) {
+        Some(b) => *b as u64,
+        None => 0,
+    }
 }
 
 fn ends<T: Number>(list: &[T]) -> u64 {

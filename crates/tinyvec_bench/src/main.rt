@@ -41,14 +41,16 @@ fn main(rt: HostRuntime) -> io::Result<()> {
     let mut args = env::args(&rt)?;
     let _program = args.next();
     let command = args.next();
-    let report = match args.next() {
+    let mut report = match args.next() {
         None => Report::of_checksums(&rt, FEW_ROUNDS),
         Some(rounds) => Report::of_times(&rt, rounds_of(rounds.as_str())?),
     };
     if is_growth(command)? {
-        return run_growth(&report, rt.alloc());
+        run_growth(&mut report, rt.alloc())?;
+    } else {
+        run(&mut report, rt.alloc())?;
     }
-    run(&report, rt.alloc())
+    report.finish()
 }
 
 // Whether the rows of `growth` are asked for, or else all others.
@@ -69,57 +71,62 @@ fn rounds_of(word: &str) -> io::Result<u64> {
     }
 }
 
-fn run<R: Runtime>(report: &Report<'_, R>, alloc: Global) -> io::Result<()> {
-    of_words::<R, 4>(report)?;
-    of_words::<R, 16>(report)?;
-    of_words::<R, 64>(report)?;
-    of_words::<R, 1024>(report)?;
-    of_bytes::<R, 4>(report)?;
-    of_bytes::<R, 16>(report)?;
-    of_bytes::<R, 64>(report)?;
-    of_bytes::<R, 1024>(report)?;
-    of_slices::<R, 4>(report)?;
-    of_slices::<R, 16>(report)?;
-    of_slices::<R, 64>(report)?;
-    of_slices::<R, 1024>(report)?;
-    run_tiny(&report.with_prefix("tiny_"), alloc, Place::Inline)?;
-    run_tiny(&report.with_prefix("tiny_heap_"), alloc, Place::Heap)?;
-    run_spilling(&report.with_prefix("tiny_spill_"), alloc)?;
-    of_forms::<R, 16>(report, alloc)?;
-    of_forms::<R, 1024>(report, alloc)?;
-    of_texts(report, &mut InlineText::<4>::new(alloc), alloc)?;
-    of_texts(report, &mut InlineText::<16>::new(alloc), alloc)?;
-    of_texts(report, &mut InlineText::<64>::new(alloc), alloc)?;
-    of_spilled_texts(report, &mut InlineText::<2>::new(alloc), alloc, 4)?;
-    of_spilled_texts(report, &mut InlineText::<8>::new(alloc), alloc, 16)?;
-    of_spilled_texts(report, &mut InlineText::<32>::new(alloc), alloc, 64)
+fn run<R: Runtime>(report: &mut Report<'_, R>, alloc: Global) -> io::Result<()> {
+    of_words::<R, 4>(report);
+    of_words::<R, 16>(report);
+    of_words::<R, 64>(report);
+    of_words::<R, 1024>(report);
+    of_bytes::<R, 4>(report);
+    of_bytes::<R, 16>(report);
+    of_bytes::<R, 64>(report);
+    of_bytes::<R, 1024>(report);
+    of_slices::<R, 4>(report);
+    of_slices::<R, 16>(report);
+    of_slices::<R, 64>(report);
+    of_slices::<R, 1024>(report);
+    report.set_prefix("tiny_");
+    run_tiny(report, alloc, Place::Inline)?;
+    report.set_prefix("tiny_heap_");
+    run_tiny(report, alloc, Place::Heap)?;
+    report.set_prefix("tiny_spill_");
+    run_spilling(report, alloc);
+    report.set_prefix("");
+    of_forms::<R, 16>(report, alloc);
+    of_forms::<R, 1024>(report, alloc);
+    of_texts(report, InlineText::<4>::new(alloc), alloc);
+    of_texts(report, InlineText::<16>::new(alloc), alloc);
+    of_texts(report, InlineText::<64>::new(alloc), alloc);
+    of_spilled_texts(report, InlineText::<2>::new(alloc), alloc, 4);
+    of_spilled_texts(report, InlineText::<8>::new(alloc), alloc, 16);
+    of_spilled_texts(report, InlineText::<32>::new(alloc), alloc, 64);
+    Ok(())
 }
 
-fn run_tiny<R: Runtime>(report: &Report<'_, R>, alloc: Global, place: Place) -> io::Result<()> {
+fn run_tiny<R: Runtime>(report: &mut Report<'_, R>, alloc: Global, place: Place) -> io::Result<()> {
     of_tiny::<R, 4>(report, alloc, place)?;
     of_tiny::<R, 16>(report, alloc, place)?;
     of_tiny::<R, 64>(report, alloc, place)?;
     of_tiny::<R, 1024>(report, alloc, place)
 }
 
-fn run_spilling<R: Runtime>(report: &Report<'_, R>, alloc: Global) -> io::Result<()> {
-    of_spilling::<R, 4>(report, alloc)?;
-    of_spilling::<R, 16>(report, alloc)?;
-    of_spilling::<R, 64>(report, alloc)?;
-    of_spilling::<R, 1024>(report, alloc)
+fn run_spilling<R: Runtime>(report: &mut Report<'_, R>, alloc: Global) {
+    of_spilling::<R, 4>(report, alloc);
+    of_spilling::<R, 16>(report, alloc);
+    of_spilling::<R, 64>(report, alloc);
+    of_spilling::<R, 1024>(report, alloc);
 }
 
-fn run_growth<R: Runtime>(report: &Report<'_, R>, alloc: Global) -> io::Result<()> {
-    let arrays = report.with_prefix("array_");
-    of_arrays::<R, 4>(&arrays)?;
-    of_arrays::<R, 16>(&arrays)?;
-    of_arrays::<R, 64>(&arrays)?;
-    of_arrays::<R, 256>(&arrays)?;
-    of_arrays::<R, 1024>(&arrays)?;
-    of_arrays::<R, 4096>(&arrays)?;
-    let lists = report.with_prefix("tiny_");
+fn run_growth<R: Runtime>(report: &mut Report<'_, R>, alloc: Global) -> io::Result<()> {
+    report.set_prefix("array_");
+    of_arrays::<R, 4>(report);
+    of_arrays::<R, 16>(report);
+    of_arrays::<R, 64>(report);
+    of_arrays::<R, 256>(report);
+    of_arrays::<R, 1024>(report);
+    of_arrays::<R, 4096>(report);
+    report.set_prefix("tiny_");
     for n in LENGTHS.iter() {
-        of_lists(&lists, alloc, *n)?;
+        of_lists(report, alloc, *n)?;
     }
     Ok(())
 }

@@ -1,16 +1,32 @@
-//! The lines that a run prints.
+//! The rounds of a row, and the line that it prints.
 
 use std::io;
 use std::rt::Runtime;
 use std::time::Instant;
 
-/// How a row is run, and where its line goes.
+/// Has a value computed so often as the row has rounds, each time with the number of the round, and prints the row's line.
+/// The loop stands where the row does, and needs no closure, whose calls would be proved for each row.
+macro_rules! row {
+    ($report:expr; $name:expr, $capacity:expr, |$x:ident| $answer:expr) => {{
+        let begun = $report.begin_rounds($capacity);
+        let mut sum: u64 = 0;
+        for $x in 0..begun.rounds {
+            sum = $crate::report::mixed(sum, $answer);
+        }
+        $report.end_rounds($name, $capacity, begun, sum);
+    }};
+}
+
+pub(crate) use row;
+
+/// How a row is run, and where its line goes. Where a line cannot be printed, none follows.
 #[derive(Drop)]
 pub struct Report<'r, R: Runtime> {
     rt: &'r R,
     prefix: &'r str,
     rounds: u64,
     is_timed: bool,
+    printed: io::Result<()>,
 }
 
 impl<'r, R: Runtime> Report<'r, R> {
@@ -21,6 +37,7 @@ impl<'r, R: Runtime> Report<'r, R> {
             prefix: "",
             rounds,
             is_timed: false,
+            printed: Ok(()),
         }
     }
 
@@ -31,35 +48,72 @@ impl<'r, R: Runtime> Report<'r, R> {
             prefix: "",
             rounds,
             is_timed: true,
+            printed: Ok(()),
         }
     }
 
-    /// Prints the same of rows whose names begin with `prefix`.
-    pub fn with_prefix(&self, prefix: &'r str) -> Self {
-        Report {
-            rt: self.rt,
-            prefix,
-            rounds: self.rounds,
-            is_timed: self.is_timed,
-        }
+    /// Has the names of the rows that follow begin with `prefix`.
+    pub fn set_prefix(&mut self, prefix: &'r str) {
+        self.prefix = prefix;
     }
 
-    /// Runs `round` and prints the row's line. Where the time is taken, long lists have fewer rounds.
-    pub fn row<F: FnMut(u64) -> u64>(&self, name: &str, capacity: usize, round: F) -> io::Result<()>
-        requires { F.IsAlwaysCallable round }
-    {
-        let prefix = self.prefix;
+    /// Whether every line was printed.
+    pub fn finish(self) -> io::Result<()> {
+        let Report { printed, .. } = self;
+        printed
+    }
+
+    /// Begins a row. Where the time is taken, long lists have fewer rounds. It is not inlined, and neither is `end_rounds`,
+    /// so that the instructions between the two can be counted.
+    #[inline(never)]
+    pub fn begin_rounds(&mut self, capacity: usize) -> Begun {
         if !self.is_timed {
-            let rounds = self.rounds;
-            let sum = checksum(rounds, round);
-            return println!(self.rt; "{prefix}{name} {capacity} {sum}");
+            return Begun {
+                rounds: self.rounds,
+                start: None,
+            };
         }
         let rounds = rounds_at(self.rounds, capacity);
-        let start = Instant::now(self.rt)?;
-        let sum = checksum(rounds, round);
+        match Instant::now(self.rt) {
+            Ok(start) => Begun {
+                rounds,
+                start: Some(start),
+            },
+            Err(error) => {
+                self.printed = Err(error);
+                Begun {
+                    rounds: 0,
+                    start: None,
+                }
+            }
+        }
+    }
+
+    /// Ends the row, and prints its line.
+    #[inline(never)]
+    pub fn end_rounds(&mut self, name: &str, capacity: usize, begun: Begun, sum: u64) {
+        if self.printed.is_ok() {
+            self.printed = self.print(name, capacity, begun, sum);
+        }
+    }
+
+    fn print(&self, name: &str, capacity: usize, begun: Begun, sum: u64) -> io::Result<()> {
+        let prefix = self.prefix;
+        let Begun { rounds, start } = begun;
+        let Some(start) = start else {
+            return println!(self.rt; "{prefix}{name} {capacity} {sum}");
+        };
         let nanos = start.elapsed(self.rt)?.as_nanos();
         println!(self.rt; "{prefix}{name} {capacity} {rounds} {nanos} {sum}")
     }
+}
+
+/// A row that has begun.
+#[derive(Clone, Copy)]
+pub struct Begun {
+    /// So often it is run.
+    pub rounds: u64,
+    start: Option<Instant>,
 }
 
 // So that a run takes about as long for long lists as for short ones.
@@ -71,15 +125,8 @@ fn rounds_at(rounds: u64, capacity: usize) -> u64 {
     (rounds / share).saturating_add(1)
 }
 
-/// Runs `round` so often, and mixes what it answers. It is not inlined, so that the instructions of each row can be counted
-/// apart.
-#[inline(never)]
-fn checksum<F: FnMut(u64) -> u64>(rounds: u64, mut round: F) -> u64
-    requires { F.IsAlwaysCallable round }
-{
-    let mut sum: u64 = 0;
-    for x in 0..rounds {
-        sum = sum.rotate_left(5) ^ round(x);
-    }
-    sum
+/// The answers of the rounds so far, and one more.
+#[inline(always)]
+pub fn mixed(sum: u64, answer: u64) -> u64 {
+    sum.rotate_left(5) ^ answer
 }

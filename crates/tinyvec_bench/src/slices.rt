@@ -1,6 +1,13 @@
 //! Vectors in a lent slice.
 
+use crate::reading::is_odd;
 use tinyvec_slice::SliceVec;
+
+/// A full vector over the slots.
+pub fn full_slice(slots: &mut [u64]) -> SliceVec<'_, u64> {
+    let len = slots.len();
+    SliceVec::from_slice_len(slots, len)
+}
 
 /// Pushes until the slice is full.
 #[inline(never)]
@@ -68,6 +75,6 @@ pub fn slice_retain(slots: &mut [u64], source: &[u64], x: u64) -> u64 {
     slots.copy_from_slice(source);
     let len = slots.len();
     let mut vec = SliceVec::from_slice_len(slots, len);
-    vec.retain(|y| *y % 2 == 1);
+    vec.retain(is_odd);
     x.wrapping_add(vec.len() as u64)
 }

@@ -9,22 +9,25 @@ pub const LETTERS: &str = "abcdefghijklmnopqrstuvwxyzABCDEFGHIJKLMNOPQRSTUVWXYZ0
 pub fn scattered<T: Number, const N: usize>() -> [T; N] {
     let mut numbers = [T::of(0); N];
     let mut state: u64 = 1;
-    for slot in numbers.iter_mut() {
-        state = state
-            .wrapping_mul(6364136223846793005)
-            .wrapping_add(1442695040888963407);
-        *slot = T::of(state / 4294967296);
+    for i in 0..N {
+        state = state_behind(state);
+        numbers[i] = T::of(state / 4294967296);
     }
     numbers
+}
+
+// A step of Knuth's linear congruential generator.
+fn state_behind(state: u64) -> u64 {
+    state
+        .wrapping_mul(6364136223846793005)
+        .wrapping_add(1442695040888963407)
 }
 
 /// Numbers that stand twice each.
 pub fn pairs<const N: usize>() -> [u64; N] {
     let mut numbers = [0; N];
-    let mut next: u64 = 0;
-    for slot in numbers.iter_mut() {
-        *slot = next / 2;
-        next = next.wrapping_add(1);
+    for i in 0..N {
+        numbers[i] = (i / 2) as u64;
     }
     numbers
 }
@@ -32,10 +35,8 @@ pub fn pairs<const N: usize>() -> [u64; N] {
 /// The numbers from 0 on.
 pub fn counting<const N: usize>() -> [u64; N] {
     let mut numbers = [0; N];
-    let mut next: u64 = 0;
-    for slot in numbers.iter_mut() {
-        *slot = next;
-        next = next.wrapping_add(1);
+    for i in 0..N {
+        numbers[i] = i as u64;
     }
     numbers
 }

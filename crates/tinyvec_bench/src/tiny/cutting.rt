@@ -1,5 +1,6 @@
 //! Parts of a list taken out, replaced, and filtered.
 
+use crate::reading::is_odd;
 use crate::tiny::filling::extend_from_slice;
 use tinyvec::TinyVec;
 
@@ -28,7 +29,7 @@ pub fn drain_dropped<const N: usize>(vec: &mut TinyVec<[u64; N]>, source: &[u64]
 #[inline(never)]
 pub fn retain_half<const N: usize>(vec: &mut TinyVec<[u64; N]>, source: &[u64], x: u64) -> u64 {
     extend_from_slice(vec, source, x);
-    vec.retain(|y| *y % 2 == 1);
+    vec.retain(is_odd);
     x.wrapping_add(vec.len() as u64)
 }
 

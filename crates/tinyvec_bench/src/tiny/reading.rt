@@ -1,6 +1,7 @@
 //! Lists read.
 
 use crate::number::Number;
+use crate::reading::last;
 use tinyvec::TinyVec;
 
 /// The sum of the items and `x`.
@@ -11,4 +12,10 @@ pub fn sum<T: Number, const N: usize>(vec: &TinyVec<[T; N]>, x: u64) -> u64 {
         sum = sum.wrapping_add((*y).value());
     }
     sum
+}
+
+/// The last item of a vector, or 0 where there is none.
+#[inline(always)]
+pub fn last_of<T: Number, const N: usize>(vec: &TinyVec<[T; N]>) -> u64 {
+    last(vec.as_slice())
 }
