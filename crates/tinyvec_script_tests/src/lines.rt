@@ -171,18 +171,19 @@ const ALL_FOUR: [(&[u8], &[u8]); 8] = [
     (b"T pop", b"some 4 [] inline"),
 ];
 
+const SCRIPTS: [Lines<'static>; 7] = [
+    &OF_AN_ARRAY,
+    &OF_A_SLICE,
+    &OF_A_TINY,
+    &OF_A_TEXT,
+    &BLANKS_OF_A_TEXT,
+    &BORDERS_OF_UTF8,
+    &ALL_FOUR,
+];
+
 #[test]
 fn each_is_answered(rt: HostRuntime) -> Result<(), Fail> {
-    let scripts: [Lines<'_>; 7] = [
-        &OF_AN_ARRAY,
-        &OF_A_SLICE,
-        &OF_A_TINY,
-        &OF_A_TEXT,
-        &BLANKS_OF_A_TEXT,
-        &BORDERS_OF_UTF8,
-        &ALL_FOUR,
-    ];
-    for lines in scripts {
+    for lines in SCRIPTS {
         assert_answered(&rt, lines)?;
     }
     Ok(())

@@ -23,54 +23,55 @@ fn asked<R: Read + Drop, W: Write + Drop>(
     Ok((events.into_inner(), result))
 }
 
-// The answer to `A pop`, of an empty vector, has 21 bytes.
+// Input in pieces, and what is asked. The answer to `A pop`, of an empty vector, has 21 bytes.
+const IN_PIECES: [(&[&[u8]], &[Event]); 5] = [
+    (&[], &[Event::Read(0), Event::Flush]),
+    (
+        &[b"A pop\n"],
+        &[
+            Event::Read(6),
+            Event::Write(21),
+            Event::Read(0),
+            Event::Flush,
+        ],
+    ),
+    (
+        &[b"A pop"],
+        &[
+            Event::Read(5),
+            Event::Read(0),
+            Event::Write(21),
+            Event::Flush,
+        ],
+    ),
+    (
+        &[b"A po", b"p\n"],
+        &[
+            Event::Read(4),
+            Event::Read(2),
+            Event::Write(21),
+            Event::Read(0),
+            Event::Flush,
+        ],
+    ),
+    (
+        &[b"A pop\nA pop\nA ", b"pop\n", b"A pop"],
+        &[
+            Event::Read(14),
+            Event::Write(42),
+            Event::Read(4),
+            Event::Write(21),
+            Event::Read(5),
+            Event::Read(0),
+            Event::Write(21),
+            Event::Flush,
+        ],
+    ),
+];
+
 #[test]
 fn answers_are_written_before_more_is_read(rt: HostRuntime) -> Result<(), Fail> {
-    let cases: [(&[&[u8]], &[Event]); 5] = [
-        (&[], &[Event::Read(0), Event::Flush]),
-        (
-            &[b"A pop\n"],
-            &[
-                Event::Read(6),
-                Event::Write(21),
-                Event::Read(0),
-                Event::Flush,
-            ],
-        ),
-        (
-            &[b"A pop"],
-            &[
-                Event::Read(5),
-                Event::Read(0),
-                Event::Write(21),
-                Event::Flush,
-            ],
-        ),
-        (
-            &[b"A po", b"p\n"],
-            &[
-                Event::Read(4),
-                Event::Read(2),
-                Event::Write(21),
-                Event::Read(0),
-                Event::Flush,
-            ],
-        ),
-        (
-            &[b"A pop\nA pop\nA ", b"pop\n", b"A pop"],
-            &[
-                Event::Read(14),
-                Event::Write(42),
-                Event::Read(4),
-                Event::Write(21),
-                Event::Read(5),
-                Event::Read(0),
-                Event::Write(21),
-                Event::Flush,
-            ],
-        ),
-    ];
-    for (index, (pieces, wanted)) in cases.iter().enumerate() {
+    for (index, (pieces, wanted)) in IN_PIECES.iter().enumerate() {
         let writer = Vec::with_capacity(rt.alloc(), ROOM)?;
         let (events, result) = asked(rt.alloc(), Pieces::new(*pieces), writer)?;
         assert!(rt; events.as_slice() == *wanted, "case {index}");
@@ -110,84 +111,85 @@ type Broken<'a> = (
     RunError,
 );
 
+const BROKEN: [Broken<'static>; 8] = [
+    (
+        &[b"A pop\n"],
+        Some(0),
+        None,
+        &[Event::Fault],
+        RunError::Read,
+    ),
+    (
+        &[b"A pop\n", b"A pop\n"],
+        Some(1),
+        None,
+        &[Event::Read(6), Event::Write(21), Event::Fault],
+        RunError::Read,
+    ),
+    (
+        &[b"A pop\nA p", b"op\n"],
+        Some(1),
+        None,
+        &[Event::Read(9), Event::Write(21), Event::Fault],
+        RunError::Read,
+    ),
+    (
+        &[b"A pop\n", b"A pop\n"],
+        None,
+        Some(0),
+        &[Event::Read(6), Event::Fault],
+        RunError::Write,
+    ),
+    (
+        &[b"A pop\n", b"A pop"],
+        None,
+        Some(1),
+        &[
+            Event::Read(6),
+            Event::Write(21),
+            Event::Read(5),
+            Event::Read(0),
+            Event::Fault,
+        ],
+        RunError::Write,
+    ),
+    // Here a flush fails.
+    (
+        &[],
+        None,
+        Some(0),
+        &[Event::Read(0), Event::Fault],
+        RunError::Write,
+    ),
+    (
+        &[b"A pop\n"],
+        None,
+        Some(1),
+        &[
+            Event::Read(6),
+            Event::Write(21),
+            Event::Read(0),
+            Event::Fault,
+        ],
+        RunError::Write,
+    ),
+    (
+        &[b"A pop"],
+        None,
+        Some(1),
+        &[
+            Event::Read(5),
+            Event::Read(0),
+            Event::Write(21),
+            Event::Fault,
+        ],
+        RunError::Write,
+    ),
+];
+
 #[test]
 fn nothing_is_asked_after_a_fault(rt: HostRuntime) -> Result<(), Fail> {
-    let cases: [Broken<'_>; 8] = [
-        (
-            &[b"A pop\n"],
-            Some(0),
-            None,
-            &[Event::Fault],
-            RunError::Read,
-        ),
-        (
-            &[b"A pop\n", b"A pop\n"],
-            Some(1),
-            None,
-            &[Event::Read(6), Event::Write(21), Event::Fault],
-            RunError::Read,
-        ),
-        (
-            &[b"A pop\nA p", b"op\n"],
-            Some(1),
-            None,
-            &[Event::Read(9), Event::Write(21), Event::Fault],
-            RunError::Read,
-        ),
-        (
-            &[b"A pop\n", b"A pop\n"],
-            None,
-            Some(0),
-            &[Event::Read(6), Event::Fault],
-            RunError::Write,
-        ),
-        (
-            &[b"A pop\n", b"A pop"],
-            None,
-            Some(1),
-            &[
-                Event::Read(6),
-                Event::Write(21),
-                Event::Read(5),
-                Event::Read(0),
-                Event::Fault,
-            ],
-            RunError::Write,
-        ),
-        // Here a flush fails.
-        (
-            &[],
-            None,
-            Some(0),
-            &[Event::Read(0), Event::Fault],
-            RunError::Write,
-        ),
-        (
-            &[b"A pop\n"],
-            None,
-            Some(1),
-            &[
-                Event::Read(6),
-                Event::Write(21),
-                Event::Read(0),
-                Event::Fault,
-            ],
-            RunError::Write,
-        ),
-        (
-            &[b"A pop"],
-            None,
-            Some(1),
-            &[
-                Event::Read(5),
-                Event::Read(0),
-                Event::Write(21),
-                Event::Fault,
-            ],
-            RunError::Write,
-        ),
-    ];
-    for (index, (pieces, reads, writes, wanted, error)) in cases.into_iter().enumerate() {
+    for (index, (pieces, reads, writes, wanted, error)) in BROKEN.into_iter().enumerate() {
         let reader = FailsOnce::new(Pieces::new(pieces), reads, ErrorKind::Other);
         let writer = FailsOnce::new(
             Vec::with_capacity(rt.alloc(), ROOM)?,
@@ -201,44 +203,45 @@ fn nothing_is_asked_after_a_fault(rt: HostRuntime) -> Result<(), Fail> {
     Ok(())
 }
 
+const INTERRUPTED: [(Option<usize>, Option<usize>, &[Event]); 3] = [
+    (
+        Some(0),
+        None,
+        &[
+            Event::Fault,
+            Event::Read(6),
+            Event::Write(21),
+            Event::Read(0),
+            Event::Flush,
+        ],
+    ),
+    (
+        Some(1),
+        None,
+        &[
+            Event::Read(6),
+            Event::Write(21),
+            Event::Fault,
+            Event::Read(0),
+            Event::Flush,
+        ],
+    ),
+    (
+        None,
+        Some(0),
+        &[
+            Event::Read(6),
+            Event::Fault,
+            Event::Write(21),
+            Event::Read(0),
+            Event::Flush,
+        ],
+    ),
+];
+
 #[test]
 fn a_script_goes_on_after_an_interruption(rt: HostRuntime) -> Result<(), Fail> {
-    let cases: [(Option<usize>, Option<usize>, &[Event]); 3] = [
-        (
-            Some(0),
-            None,
-            &[
-                Event::Fault,
-                Event::Read(6),
-                Event::Write(21),
-                Event::Read(0),
-                Event::Flush,
-            ],
-        ),
-        (
-            Some(1),
-            None,
-            &[
-                Event::Read(6),
-                Event::Write(21),
-                Event::Fault,
-                Event::Read(0),
-                Event::Flush,
-            ],
-        ),
-        (
-            None,
-            Some(0),
-            &[
-                Event::Read(6),
-                Event::Fault,
-                Event::Write(21),
-                Event::Read(0),
-                Event::Flush,
-            ],
-        ),
-    ];
-    for (index, (reads, writes, wanted)) in cases.into_iter().enumerate() {
+    for (index, (reads, writes, wanted)) in INTERRUPTED.into_iter().enumerate() {
         let input: &[u8] = b"A pop\n";
         let output = Vec::with_capacity(rt.alloc(), ROOM)?;
         let reader = FailsOnce::new(input, reads, ErrorKind::Interrupted);

@@ -76,16 +76,17 @@ const OF_AN_EMPTY_LIST: [(&[u8], &[u8]); 1] = [(
     b"items [] [1, 2, 3, 4, 5] heap",
 )];
 
+const SCRIPTS: [Lines<'static>; 5] = [
+    &OF_AN_ARRAY,
+    &FROM_BOTH_ENDS,
+    &TO_THE_HEAP,
+    &INLINE,
+    &OF_AN_EMPTY_LIST,
+];
+
 #[test]
 fn each_line_is_answered(rt: HostRuntime) -> Result<(), Fail> {
-    let scripts: [Lines<'_>; 5] = [
-        &OF_AN_ARRAY,
-        &FROM_BOTH_ENDS,
-        &TO_THE_HEAP,
-        &INLINE,
-        &OF_AN_EMPTY_LIST,
-    ];
-    for lines in scripts {
+    for lines in SCRIPTS {
         assert_answered(&rt, lines)?;
     }
     Ok(())
