@@ -1,6 +1,28 @@
-use Rattle.std.proofs.Common.{arith, ◌∙◌, ap, length, length-append}
-use Rattle.tinyvec_array.specs.Drain.{drain_items}
+use Rattle.std.proofs.Common.{◌++◌, ◌∷◌, [], arith, rules, refl, sym, ◌∙◌, ap, length, length-append, append_assoc, append-nil}
+use Rattle.tinyvec_slots.specs.Slots.{items}
+use Rattle.tinyvec_slots.specs.Cut.{range_start, range_end}
+use Rattle.tinyvec_slots.proofs.Lists.{length-remove_range}
+use Rattle.tinyvec_array.specs.Drain.{DrainKeeps, DrainLeaves, drain_items}
+use Rattle.tinyvec_array.proofs.DrainLemmas.{DrainKeeps-refl, DrainKeeps-then}
 use Rattle.tinyvec_array.proofs.array_vec.ArrayVec.drain_into.Goals as goal
+
+pub drain-x-items-requires-clause-known : goal.drain-x-items-requires-clause-known
+drain-x-items-requires-clause-known g c = c.requires.known
+
+pub drain-x-items-requires-clause-in_list : goal.drain-x-items-requires-clause-in_list
+drain-x-items-requires-clause-in_list g c = c.requires.in_list
+
+pub loop-x-init : goal.loop-x-init
+loop-x-init g c = record {
+  can = rw c.into_iter-x-iterator.ensures.into_iter_gives c.drain-x-items.ensures.ready;
+  ends = tt;
+  keeps = DrainKeeps-refl c.into_iter-x-iterator.result;
+  moved = refl;
+  room = refl;
+}
+
+pub next-requires : goal.next-requires
+next-requires g c = c.loop-x.invariant.can
 
 pub push_reserved-requires : goal.push_reserved-requires
 push_reserved-requires g c =
@@ -15,3 +37,59 @@ push_reserved-requires g c =
     let kept = inv.room in
     let room = c.requires.room in
     omega arith
+
+pub loop-x-smaller : goal.loop-x-smaller
+loop-x-smaller g c = (c.in-Some.ensures.goes.on tt).2
+
+pub loop-x-preserved : goal.loop-x-preserved
+loop-x-preserved g c =
+    let inv = c.loop-x.invariant in
+    let step = c.in-Some.ensures.steps in
+    let out = c.loop-x.out.items in
+    let left = drain_items c.next.new.self in record {
+      can = step.1.4 inv.can;
+      ends = tt;
+      keeps = DrainKeeps-then c.into_iter-x-iterator.result c.loop-x.x-iterator c.next.new.self inv.keeps step.1;
+      moved = ap (λ l. l ++ left) c.push_reserved.ensures.items ∙ append_assoc out (c.in-Some.x ∷ []) left ∙ ap (λ l. out ++ l) (sym step.0) ∙ inv.moved;
+      room = c.push_reserved.ensures.capacity ∙ inv.room;
+    }
+
+-- what the drain left, once it ended
+module _ (g : _) (c : goal.After-self-1 g) where
+  keeps : DrainKeeps c.drain-x-items.result c.next.new.self
+  keeps = rw (c.in-None.ensures.steps.1, ← c.into_iter-x-iterator.ensures.into_iter_gives) c.loop-x.invariant.keeps
+
+  left : DrainLeaves g.A.Item.Default.is_default c.next.new.self c.drop-x-iterator.new.self.0
+  left = c.drop-x-iterator.ensures (rw c.in-None.ensures.steps.1 c.loop-x.invariant.can)
+
+pub returns-clause-items : goal.returns-clause-items
+returns-clause-items g c =
+    let same = (keeps g c).0 in
+    let listed = (left g c).0 ∙ (keeps g c).1 ∙ c.drain-x-items.ensures.kept in
+    search rules
+
+pub returns-clause-spare : goal.returns-clause-spare
+returns-clause-spare g c =
+    let drain = c.drain-x-items.ensures in
+    let ds = (left g c).1 in
+    let same = (keeps g c).0 in
+    let behind = ds.2 ∙ ap (λ l. ds.0 ++ l) ((keeps g c).3 ∙ drain.spare) in
+    (ds.0, (ds.1.0 ∙ (keeps g c).2 ∙ drain.count ∙ ap length drain.rest, ds.1.1), search rules)
+
+pub returns-clause-fits : goal.returns-clause-fits
+returns-clause-fits g c =
+    let xs = items c.args.self.now in
+    let i = range_start (g.R.RangeBounds.start_bound c.args.range) in
+    let j = range_end (g.R.RangeBounds.end_bound c.args.range) (length xs) in
+    let fewer = ap length (returns-clause-items g c) ∙ length-remove_range xs i j c.requires.in_list.0 c.requires.in_list.1 in
+    let most = c.drain-x-items.ensures.fits in
+    rw fewer (omega (arith, most))
+
+pub returns-clause-moved : goal.returns-clause-moved
+returns-clause-moved g c =
+    let out = c.loop-x.out.items in
+    let begun = ap drain_items c.into_iter-x-iterator.ensures.into_iter_gives ∙ c.drain-x-items.ensures.rest in
+    sym (append-nil out) ∙ ap (λ l. out ++ l) (sym c.in-None.ensures.steps.0) ∙ c.loop-x.invariant.moved ∙ ap (λ l. c.args.out.now.items ++ l) begun
+
+pub returns-clause-capacity : goal.returns-clause-capacity
+returns-clause-capacity g c = c.loop-x.invariant.room

@@ -1,8 +1,8 @@
-use Rattle.std.proofs.Common.{◌≡◌, ◌+◌, ◌-◌, ◌++◌, ◌≤◌, take, drop, length, Ok, ap, ◌∙◌, arith, length-append}
+use Rattle.std.proofs.Common.{◌≡◌, ◌+◌, ◌-◌, ◌^◌, ◌++◌, ◌≤◌, ◌<◌, take, drop, length, Ok, ap, ◌∙◌, le_trans, arith, length-append}
 use Rattle.std.proofs.lemmas.List.{length-take-le, length-drop}
 use Rattle.std.specs.Iterator.Adapters.{fuse_steps}
 use Rattle.tinyvec_slots.specs.Fused.{fused_rest}
-use Rattle.tinyvec_slots.specs.Gap.{gap_front, gap_back}
+use Rattle.tinyvec_slots.specs.Gap.{gap_front, gap_back, gap_touches}
 use Rattle.tinyvec_slots.specs.Slots.{items, spare, items_len, with_items}
 use Rattle.tinyvec_slots.specs.Splices.{Finishes, finish_placed, finish_bound}
 use Rattle.tinyvec_slots.proofs.Fused.{fused_first}
@@ -21,6 +21,20 @@ module _ (g : _) (c : After-fill g) where
   mid_is : items (with_items c.args.self.vec.now c.fill.new.slots) ≡ c.fill.new.slots
   mid_is = items-with_items c.args.self.vec.now c.fill.new.slots same
 
+  long : items_len (with_items c.args.self.vec.now c.fill.new.slots) ≡ items_len c.args.self.vec.now
+  long = ap length mid_is ∙ same
+
+  -- the gap ends in the list, and its touches can be counted on
+  front_within : gap_front c.fill.new.self ≤ items_len (with_items c.args.self.vec.now c.fill.new.slots)
+  front_within = rw long (le_trans c.fill.ensures.in_order.1 c.requires.0.3)
+
+  few : gap_touches c.fill.new.self < 2 ^ 80
+  few =
+      let fill = c.fill.ensures in
+      let ready = c.requires.0 in
+      let slots = ap length c.as_mut_slice.ensures.value in
+      omega (arith, fill.touches, fill.in_order.1, ready.3, ready.5, slots, c.as_mut_slice.type_inv.0)
+
   front_is : take (gap_front c.fill.new.self) c.fill.new.slots ≡ take (gap_front c.args.self.gap) (items c.args.self.vec.now) ++ c.fill.ensures.placed.0
   front_is = c.fill.ensures.placed.1 ∙ ap (λ l. take (gap_front c.args.self.gap) l ++ c.fill.ensures.placed.0) c.as_mut_slice.ensures.value
 
@@ -36,6 +50,38 @@ module _ (g : _) (c : After-fill g) where
       let some = filled_within g.I.Iterator.next_gives gap c.args.self.replacement c.fill.new.replacement (items_len c.args.self.vec.now) fill.placed.0
       c.fill.result ready fill.placed.3 (omega (arith, fill.placed.2, fill.in_order)) in
       omega (arith, some, length-slice_range (items c.args.self.vec.now) gap.next gap.end ready.1 (omega (arith, ready.2, ready.3)))
+
+pub fill-requires-clause-lies : goal.fill-requires-clause-lies
+fill-requires-clause-lies g c =
+    let ready = c.requires.0 in
+    (le_trans ready.0 (le_trans ready.1 ready.2), rw c.as_mut_slice.ensures.value ready.3, omega (arith, ready.5))
+
+pub fill-requires-clause-can : goal.fill-requires-clause-can
+fill-requires-clause-can g c = c.requires.1
+
+pub close-requires-clause-in_order : goal.close-requires-clause-in_order
+close-requires-clause-in_order g c = rw c.fill.ensures.back c.fill.ensures.in_order.1
+
+pub close-requires-clause-in_bounds : goal.close-requires-clause-in_bounds
+close-requires-clause-in_bounds g c = rw (c.fill.ensures.back, long g (goal.at.close-requires-clause-in_bounds g c).After-fill) c.requires.0.3
+
+pub close-requires-clause-few : goal.close-requires-clause-few
+close-requires-clause-few g c = few g (goal.at.close-requires-clause-few g c).After-fill
+
+pub append_in-finished-requires-clause-in_bounds : goal.append_in-finished-requires-clause-in_bounds
+append_in-finished-requires-clause-in_bounds g c = front_within g (goal.at.append_in-finished-requires-clause-in_bounds g c).After-fill
+
+pub append_in-finished-requires-clause-few : goal.append_in-finished-requires-clause-few
+append_in-finished-requires-clause-few g c = few g (goal.at.append_in-finished-requires-clause-few g c).After-fill
+
+pub append_in-finished-requires-clause-can : goal.append_in-finished-requires-clause-can
+append_in-finished-requires-clause-can g c = (rw c.if-not-fill.false at c.fill.ensures.filled).1
+
+pub returns-then-not-fill-clause-goes_on : goal.returns-then-not-fill-clause-goes_on
+returns-then-not-fill-clause-goes_on g c = tt
+
+pub returns-clause-goes_on : goal.returns-clause-goes_on
+returns-clause-goes_on g c = c.append_in-finished.ensures.goes_on
 
 pub returns-then-not-fill-clause-finished : goal.returns-then-not-fill-clause-finished
 returns-then-not-fill-clause-finished g c =
@@ -81,8 +127,7 @@ returns-then-not-fill-clause-slots g c =
     let closed = c.close.ensures in
     let frees = closed.slots in
     let len = closed.len in
-    let long = ap length (mid_is g filled) ∙ same g filled in
-    slots_freed g.A.Item.Default.is_default old c.close.new.vec _ (omega (arith, len, long))
+    slots_freed g.A.Item.Default.is_default old c.close.new.vec _ (omega (arith, len, long g filled))
     (frees.0, frees.1, frees.2 ∙ ap (λ l. frees.0 ++ l) (spare-with_items old c.fill.new.slots (same g filled)))
 
 pub returns-clause-slots : goal.returns-clause-slots
@@ -91,10 +136,9 @@ returns-clause-slots g c =
     let old = c.args.self.vec.now in
     let new = c.append_in-finished.new.vec in
     let more = c.append_in-finished.ensures in
-    let long : items_len (with_items old c.fill.new.slots) ≡ items_len old = ap length (mid_is g filled) ∙ same g filled in
-    slots_used g.A.Item.Default.is_default old new (items_len new - items_len old) (omega (arith, more.longer, long))
+    slots_used g.A.Item.Default.is_default old new (items_len new - items_len old) (omega (arith, more.longer, long g filled))
     (more.spare ∙ ap (λ l. drop (items_len new - items_len (with_items old c.fill.new.slots)) l) (spare-with_items old c.fill.new.slots (same g filled))
-    ∙ ap (λ n. drop (items_len new - n) (spare old)) long)
+    ∙ ap (λ n. drop (items_len new - n) (spare old)) (long g filled))
 
 -- how many touches there were, by how many items were placed
 module _ (g : _) (c : goal.After-drop-replacement g) where
@@ -108,10 +152,9 @@ module _ (g : _) (c : goal.After-drop-replacement g) where
       let fill = c.fill.ensures in
       let closed = c.close.ensures in
       let ahead = length-take-le gap.front old (omega (arith, ready.0, ready.1, ready.2, ready.3)) in
-      let behind = length-drop gap.back old in
-      let long = ap length (mid_is g filled) ∙ same g filled in (
-        omega (arith, closed.len, ahead, behind, long, ready.3, fill.back, fill.in_order, fill.placed.2, fill.touches, closed.touches, c.touches.ensures),
-        omega (arith, within g filled, closed.len, ahead, behind, long, ready.3, fill.back, fill.in_order, fill.placed.2, fill.touches, closed.touches, c.touches.ensures),
+      let behind = length-drop gap.back old in (
+        omega (arith, closed.len, ahead, behind, long g filled, ready.3, fill.back, fill.in_order, fill.placed.2, fill.touches, closed.touches, c.touches.ensures),
+        omega (arith, within g filled, closed.len, ahead, behind, long g filled, ready.3, fill.back, fill.in_order, fill.placed.2, fill.touches, closed.touches, c.touches.ensures),
       )
 
 pub returns-then-not-fill-clause-at_least : goal.returns-then-not-fill-clause-at_least
@@ -134,10 +177,9 @@ module _ (g : _) (c : goal.After-touches-2 g) where
       let both = length-append fill.placed.0 more.ran.0 in
       let ahead = length-take-le gap.front old (omega (arith, ready.0, ready.1, ready.2, ready.3)) in
       let behind = length-drop gap.back old in
-      let long = ap length (mid_is g filled) ∙ same g filled in
       let full = (rw c.if-not-fill.false at fill.filled).0 in (
-        omega (arith, sum, both, ahead, behind, long, full, ready.3, fill.in_order, fill.placed.2, fill.touches, more.at_least, c.touches-2.ensures),
-        omega (arith, within g filled, sum, both, ahead, behind, long, full, ready.3, fill.in_order, fill.placed.2, fill.touches, more.at_most, c.touches-2.ensures),
+        omega (arith, sum, both, ahead, behind, long g filled, full, ready.3, fill.in_order, fill.placed.2, fill.touches, more.at_least, c.touches-2.ensures),
+        omega (arith, within g filled, sum, both, ahead, behind, long g filled, full, ready.3, fill.in_order, fill.placed.2, fill.touches, more.at_most, c.touches-2.ensures),
       )
 
 pub returns-clause-at_least : goal.returns-clause-at_least
