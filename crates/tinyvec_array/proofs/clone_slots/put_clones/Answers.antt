@@ -1,10 +1,27 @@
-use Rattle.std.proofs.Common.{◌≡◌, ◌<◌, ◌-◌, length, take, subst, ◌∙◌, arith}
+use Rattle.std.proofs.Common.{◌≡◌, ◌<◌, ◌-◌, length, length-take, length-take-le, take, subst, sym, ap, ◌∙◌, arith}
 use Rattle.std.specs.Prelude.{OnOk, OnErr, ℕ, slice_range}
 use Rattle.std.proofs.lemmas.List.{take_all}
 use Rattle.tinyvec_slots.specs.Clones.{RefusedAt, ClonesOver}
 use Rattle.std.proofs.lemmas.Result.{on_ok_weaker, on_err_weaker}
-use Rattle.tinyvec_slots.proofs.CloneLemmas.{written_part}
+use Rattle.tinyvec_slots.proofs.CloneLemmas.{written_part, length-part}
 use Rattle.tinyvec_array.proofs.clone_slots.put_clones.Goals as goal
+
+pub slice_bounds-clone_over-count : goal.slice_bounds-clone_over-count
+slice_bounds-clone_over-count g c = rw c.as_slice_mut.ensures.len c.requires.in_bounds
+
+pub slice_bounds-clone_over-end-2 : goal.slice_bounds-clone_over-end-2
+slice_bounds-clone_over-end-2 g c =
+    let count = c.min-count.ensures in
+    sym (length-take-le c.min-count.result c.args.from.now (omega (arith, count)))
+
+pub clone_over-requires : goal.clone_over-requires
+clone_over-requires g c =
+    let slots = c.as_slice_mut.result.now in
+    let start = c.args.start in
+    let long = c.as_slice_mut.ensures.len in
+    let first = length-take c.min-count.result c.args.from.now in
+    let part = length-part slots start (length slots - start) (omega (arith, long, c.requires.in_bounds)) in
+    record { fits = rw part (omega (arith, first, long, c.requires.fits)) }
 
 pub returns-clause-ok : goal.returns-clause-ok
 returns-clause-ok g c =
@@ -41,3 +58,11 @@ returns-clause-refused g c =
       ),
     ))
     (subst (λ l. OnErr c.clone_over.result ((j : ℕ) × RefusedAt g.A.Item.Clone.is_infallible l j × ClonesOver g.A.Item.Clone.is_clone (take j l) j (slice_range slots start (length slots)) c.clone_over.new.to)) whole c.clone_over.ensures.refused)
+
+pub returns-clause-len : goal.returns-clause-len
+returns-clause-len g c = sym (ap length c.as_slice_mut.ensures.value) ∙ c.as_slice_mut.ensures.len
+
+pub returns-clause-succeeds : goal.returns-clause-succeeds
+returns-clause-succeeds g c = λ all.
+    let whole = take_all c.min-count.result c.args.from.now (omega (arith, c.min-count.ensures, c.CAPACITY.ensures, c.requires.fits)) in
+    c.clone_over.ensures.succeeds (rw whole all)

@@ -1,4 +1,4 @@
-use Rattle.std.proofs.Common.{◌≡◌, refl, rules, ◌<◌, ◌≤◌, ◌+◌, ◌-◌, ◌++◌, ◌∷◌, [], arith, length, slice_range, add-one, take_at, length-append, take, drop, remove, sym, ap, ◌∙◌, length-take-le}
+use Rattle.std.proofs.Common.{◌≡◌, refl, ◌<◌, ◌≤◌, ◌+◌, ◌-◌, ◌++◌, ◌∷◌, [], arith, length, slice_range, add-one, take_at, length-append, take, drop, remove, sym, ap, ◌∙◌, length-take-le}
 use Rattle.std.proofs.lemmas.List.{get_or-take}
 use Rattle.std.proofs.lemmas.List.Edits.{length-remove}
 use Rattle.std.proofs.lemmas.List.Elements.{All-cons, All-nil}
@@ -7,6 +7,40 @@ use Rattle.tinyvec_slots.proofs.Lists.{drop-removed, length-remove_range, length
 use Rattle.tinyvec_slots.proofs.BorderLemmas.{length-take-most}
 use Rattle.tinyvec_slots.specs.Slots.{items}
 use Rattle.tinyvec_array.proofs.array_vec.ArrayVec.remove.Goals as goal
+
+pub are_short_of-requires-clause-start_le_end : goal.are_short_of-requires-clause-start_le_end
+are_short_of-requires-clause-start_le_end g c = let value = c.len-len.ensures.value in omega (arith, value, c.requires)
+
+pub are_short_of-requires-clause-in_bounds : goal.are_short_of-requires-clause-in_bounds
+are_short_of-requires-clause-in_bounds g c = c.len-len.ensures.fits
+
+pub remove_slot-item-requires-clause-in_list : goal.remove_slot-item-requires-clause-in_list
+remove_slot-item-requires-clause-in_list g c = rw c.len-len.ensures.value c.requires
+
+pub remove_slot-item-requires-clause-in_bounds : goal.remove_slot-item-requires-clause-in_bounds
+remove_slot-item-requires-clause-in_bounds g c = c.len-len.ensures.fits
+
+pub invariant_of-self : goal.invariant_of-self
+invariant_of-self g c = let fits = c.len-len.ensures.fits in (omega (arith, fits), g.met.A.Array.of_slots_slots c.remove_slot-item.new.array)
+
+-- where the later items were moved one by one
+module _ (g : _) (c : goal.After-self-1 g) where
+  at : c.len-len.result ≡ c.self.inside.len
+  at = c.len-len.ensures.field ∙ ap (λ v. v.len) (sym c.self.view_is)
+
+  in_list : c.args.i < c.self.inside.len
+  in_list = rw (← at, c.len-len.ensures.value) c.requires
+
+  enough : c.self.inside.len ≤ length (g.A.Array.slots c.self.inside.array)
+  enough = rw c.remove_slot-item.ensures.len c.self.invariant.0
+
+pub returns-clause-spare : goal.returns-clause-spare
+returns-clause-spare g c =
+    let frees = c.take_last.ensures.spare in
+    (frees.0, frees.1, frees.2 ∙ ap (λ l. frees.0 ++ l) c.items_to_end.ensures.spare)
+
+pub returns-clause-fits : goal.returns-clause-fits
+returns-clause-fits g c = c.take_last.ensures.fits
 
 pub returns-clause-items : goal.returns-clause-items
 returns-clause-items g c =
@@ -23,33 +57,26 @@ returns-clause-items g c =
 pub returns-then-are_short_of-clause-spare : goal.returns-then-are_short_of-clause-spare
 returns-then-are_short_of-clause-spare g c =
     let inside = c.self.inside in
-    let at : c.len-len.result ≡ inside.len = search rules in
     let slots = g.A.Array.slots inside.array in
     let after = c.remove_slot-item.ensures.after in
     let one = All-cons g.A.Item.Default.is_default after.0 [] after.1 (All-nil _) in
-    let in_list : c.args.i < inside.len = search rules in
-    let le : inside.len ≤ length slots = search rules in
-    (after.0 ∷ [], (refl, one), rw (after.2, ← c.self.view_is, at) (drop-removed slots c.args.i inside.len after.0 in_list le))
+    (after.0 ∷ [], (refl, one), rw (after.2, ← c.self.view_is, at g c) (drop-removed slots c.args.i inside.len after.0 (in_list g c) (enough g c)))
 
 pub returns-then-are_short_of-clause-value : goal.returns-then-are_short_of-clause-value
 returns-then-are_short_of-clause-value g c =
     let inside = c.self.inside in
-    let at : c.len-len.result ≡ inside.len = search rules in
     let x = c.remove_slot-item.result in
-    let in_list : c.args.i < inside.len = search rules in
-    rw (← c.self.view_is) (c.remove_slot-item.ensures.value ∙ sym (get_or-take inside.len (g.A.Array.slots inside.array) c.args.i x in_list))
+    rw (← c.self.view_is) (c.remove_slot-item.ensures.value ∙ sym (get_or-take inside.len (g.A.Array.slots inside.array) c.args.i x (in_list g c)))
 
 pub returns-then-are_short_of-clause-items : goal.returns-then-are_short_of-clause-items
 returns-then-are_short_of-clause-items g c =
     let inside = c.self.inside in
-    let at : c.len-len.result ≡ inside.len = search rules in
     let slots = g.A.Array.slots inside.array in
     let i = c.args.i in
     let after = c.remove_slot-item.ensures.after in
-    let le : inside.len ≤ length slots = search rules in
-    let long = length-take-le inside.len slots le in
-    let less = length-remove (take inside.len slots) i (omega (arith, c.requires, long, at)) in
-    rw (after.2, ← c.self.view_is, at) (take_at (remove (take inside.len slots) i) (after.0 ∷ drop inside.len slots) (inside.len - 1) (omega (arith, less, long)))
+    let long = length-take-le inside.len slots (enough g c) in
+    let less = length-remove (take inside.len slots) i (omega (arith, c.requires, long, at g c)) in
+    rw (after.2, ← c.self.view_is, at g c) (take_at (remove (take inside.len slots) i) (after.0 ∷ drop inside.len slots) (inside.len - 1) (omega (arith, less, long)))
 
 pub returns-then-are_short_of-clause-fits : goal.returns-then-are_short_of-clause-fits
 returns-then-are_short_of-clause-fits g c =
