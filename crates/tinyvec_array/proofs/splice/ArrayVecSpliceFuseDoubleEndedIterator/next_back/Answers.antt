@@ -1,5 +1,5 @@
-use Rattle.std.proofs.Common.{◌≡◌, ◌-◌, length, take, drop, refl, ap, ◌∙◌, arith}
-use Rattle.std.proofs.lemmas.Bool.Decides.{nat_tests}
+use Rattle.std.proofs.Common.{◌≡◌, length, take, drop, refl, sym, ap, ◌∙◌, arith}
+use Rattle.std.proofs.lemmas.Bool.{eqb-true, eqb-false}
 use Rattle.tinyvec_slots.specs.Gap.{gap_len}
 use Rattle.tinyvec_slots.specs.Slots.{items, items_len, with_items}
 use Rattle.tinyvec_slots.proofs.SlotsLemmas.{items-with_items, spare-with_items}
@@ -8,7 +8,7 @@ use Rattle.tinyvec_array.proofs.splice.ArrayVecSpliceFuseDoubleEndedIterator.nex
 pub returns-then-is_empty-clause-steps : goal.returns-then-is_empty-clause-steps
 returns-then-is_empty-clause-steps g c =
     let s = c.args.self.now in
-    let none : gap_len s.gap ≡ 0 = grind (arith, nat_tests, c.is_empty.ensures, c.if-is_empty.true) in
+    let none = eqb-true (gap_len s.gap) 0 (sym c.is_empty.ensures ∙ c.if-is_empty.true) in
     (ap (λ n. take n (drop s.gap.next (items s.vec.now))) none, refl)
 
 pub returns-then-is_empty-clause-goes : goal.returns-then-is_empty-clause-goes
@@ -18,7 +18,9 @@ pub returns-then-is_empty-clause-ready : goal.returns-then-is_empty-clause-ready
 returns-then-is_empty-clause-ready g c = c.requires.0
 
 pub take_last-requires-clause-left : goal.take_last-requires-clause-left
-take_last-requires-clause-left g c = grind (arith, nat_tests, c.is_empty.ensures, c.if-is_empty.false)
+take_last-requires-clause-left g c =
+    let some = eqb-false (gap_len c.args.self.now.gap) 0 (sym c.is_empty.ensures ∙ c.if-is_empty.false) in
+    omega (arith, some)
 
 pub take_last-requires-clause-ready : goal.take_last-requires-clause-ready
 take_last-requires-clause-ready g c = rw c.as_mut_slice-slots.ensures.value c.requires.0
