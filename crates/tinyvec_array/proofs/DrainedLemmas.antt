@@ -1,10 +1,10 @@
--- What a drain left in its vector.
-use Rattle.std.proofs.Common.{◌≡◌, ℕ, ◌-◌, ◌++◌, length, replicate, ap, ◌∙◌, arith}
+-- What a drain left in its vector, and what stands in one whose list was moved out.
+use Rattle.std.proofs.Common.{◌≡◌, ℕ, ◌-◌, List, ◌++◌, length, replicate, ap, ◌∙◌, arith}
 use Rattle.std.specs.declared.ops.Bound.{Bound}
-use Rattle.tinyvec_slots.specs.Slots.{Slots, Frees, SlotRule, items_len, all_slots, items, spare}
+use Rattle.tinyvec_slots.specs.Slots.{Slots, AreDefaults, Frees, SlotRule, items_len, all_slots, items, spare, split_at, with_items}
 use Rattle.tinyvec_slots.specs.Cut.{IsRangeOf, range_start, range_end, before, removed, after}
 use Rattle.tinyvec_slots.proofs.Lists.{length-remove_range, length-slice_range}
-use Rattle.tinyvec_slots.proofs.SlotsLemmas.{slots_are, slots_freed, defaults_are}
+use Rattle.tinyvec_slots.proofs.SlotsLemmas.{slots_are, items-with_items, spare-with_items, slots_freed, defaults_are}
 use Rattle.tinyvec_array.specs.Drain.{DrainLeaves, DrainKeeps, drain_items, drain_kept, drain_count, drain_spare}
 use Rattle.tinyvec_array.specs.declared.drain.ArrayVecDrain.{ArrayVecDrain}
 
@@ -30,6 +30,16 @@ module _ {A T : Type 0} (D : T → Type 0) (first last : ArrayVecDrain A T) (old
       let j = range_end end (items_len old) in
       let fewer : items_len new ≡ items_len old - (j - i) = ap length drained_items ∙ length-remove_range (items old) i j in_list.0 in_list.1 in
       slots_freed D old new (j - i) (omega (arith, in_list.0, in_list.1)) drained_frees
+
+-- the list was moved out, and `left` in its slots
+pub moved_out : {T : Type 0} (D : T → Type 0) (old new : Slots T) (left : List T) → AreDefaults D (items_len old) left
+    → new ≡ split_at 0 (all_slots (with_items old left)) → Frees D (items_len old) old new
+moved_out D old new left defaults is = (
+  left,
+  defaults,
+  ap spare is ∙ slots_are (with_items old left)
+      ∙ ap (λ l. l ++ spare (with_items old left)) (items-with_items old left defaults.0) ∙ ap (λ l. left ++ l) (spare-with_items old left defaults.0),
+)
 
 -- where the item's `Default` answers one value only
 module _ {T : Type 0} (D : T → Type 0) (c : T) (only : (x : T) → D x → x ≡ c) where

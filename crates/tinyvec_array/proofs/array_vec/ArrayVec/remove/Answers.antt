@@ -1,5 +1,5 @@
-use Rattle.std.proofs.Common.{◌≡◌, refl, ◌<◌, ◌≤◌, ◌+◌, ◌-◌, ◌++◌, ◌∷◌, [], arith, length, slice_range, add-one, take_at, length-append, take, drop, remove, sym, ap, ◌∙◌, length-take-le}
-use Rattle.std.proofs.lemmas.List.{get_or-take}
+use Rattle.std.proofs.Common.{◌≡◌, refl, ◌<◌, ◌≤◌, ◌+◌, ◌-◌, ◌++◌, ◌∷◌, [], arith, length, get_or, slice_range, add-one, take_at, length-append, take, drop, remove, sym, ap, ◌∙◌, length-take-le}
+use Rattle.std.proofs.lemmas.List.{get_or-take, get_or-drop, get_or-append-add}
 use Rattle.std.proofs.lemmas.List.Edits.{length-remove}
 use Rattle.std.proofs.lemmas.List.Elements.{All-cons, All-nil}
 use Rattle.std.specs.List.{remove_range}
@@ -33,6 +33,22 @@ module _ (g : _) (c : goal.After-self-1 g) where
 
   enough : c.self.inside.len ≤ length (g.A.Array.slots c.self.inside.array)
   enough = rw c.remove_slot-item.ensures.len c.self.invariant.0
+
+pub returns-clause-value : goal.returns-clause-value
+returns-clause-value g c =
+    let xs = items c.args.self.now in
+    let i = c.args.i in
+    let x = c.take_last.result in
+    let B = remove_range xs i (i + 1) in
+    let M = slice_range xs i (i + 1) in
+    let one : i + 1 - i ≡ 1 = omega arith in
+    let here : i + 0 ≡ i = omega arith in
+    let all = length-append B M in
+    let last = length-slice_range xs i (i + 1) (omega arith) (omega (arith, c.requires)) in
+    let at_end : length (B ++ M) - 1 ≡ length B + 0 = omega (arith, all, last) in
+    c.take_last.ensures.value ∙ ap (λ l. get_or l (length l - 1) x) c.items_to_end.ensures.items
+    ∙ ap (λ n. get_or (B ++ M) n x) at_end ∙ get_or-append-add B M 0 x ∙ ap (λ n. get_or (take n (drop i xs)) 0 x) one
+    ∙ get_or-take 1 (drop i xs) 0 x (omega arith) ∙ get_or-drop i xs 0 x ∙ ap (λ n. get_or xs n x) here
 
 pub returns-clause-spare : goal.returns-clause-spare
 returns-clause-spare g c =
