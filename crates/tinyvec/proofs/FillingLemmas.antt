@@ -1,5 +1,5 @@
 -- Lemmas on items asked of an iterator by loops, one of which goes on where the other ended.
-use Rattle.std.proofs.Common.{◌≡◌, ℕ, ◌+◌, ◌<◌, ◌≤◌, List, [], ◌∷◌, ◌++◌, Option, Some, Result, Ok, Err, length, drop, slice_set, length-append, length-drop, append_assoc, refl, sym, ap, subst, ◌∙◌, arith, rules}
+use Rattle.std.proofs.Common.{◌≡◌, ℕ, ◌+◌, ◌<◌, ◌≤◌, List, [], ◌∷◌, ◌++◌, Option, Some, Result, Ok, Err, length, take, drop, slice_set, take_at, length-append, length-drop, append_assoc, refl, sym, ap, subst, ◌∙◌, arith, rules}
 use Rattle.std.proofs.lemmas.List.{same_lists, places, drop_at, get_or-set_same}
 use Rattle.std.proofs.lemmas.Bool.{cases_eq}
 use Rattle.std.specs.Prelude.{MatchResult, IsOk, OnOk, OnErr}
@@ -49,6 +49,9 @@ module _ {T : Type 0} (v : Slots T) (xs ws : List T) (len : ℕ) (few : length x
 
   front : length (items v ++ xs) ≡ len
   front = length-append (items v) xs ∙ sym more
+
+  pub items_filled : take len (all_slots (with_spare v ws)) ≡ items v ++ xs
+  items_filled = ap (take len) written ∙ take_at (items v ++ xs) (drop (length xs) (spare v)) len front
 
   pub spare_filled : drop len (all_slots (with_spare v ws)) ≡ drop (length xs) (spare v)
   spare_filled = ap (drop len) written ∙ drop_at (items v ++ xs) (drop (length xs) (spare v)) len front
