@@ -1,6 +1,6 @@
 -- Lemmas on the list, the spare slots and the place.
 use Rattle.std.proofs.Common.{◌≡◌, ℕ, ◌+◌, ◌-◌, ◌<◌, ◌≤◌, replicate, List, [], ◌∷◌, length, take, drop, ◌++◌, refl, sym, ap, subst, ◌∙◌, take_at, length-set, length-drop, slice_set, insert, remove, All, arith, rules}
-use Rattle.std.specs.Prelude.{OnOk, OnErr, Result, Ok, Err}
+use Rattle.std.specs.Prelude.{OnOk, OnErr, IsErr, Result, Ok, Err}
 use Rattle.std.proofs.lemmas.List.{drop-drop, nil_from_length, length_push}
 use Rattle.std.proofs.lemmas.List.Edits.{length-insert, length-remove}
 use Rattle.std.proofs.lemmas.List.Elements.{All-drop}
@@ -157,3 +157,8 @@ on_ok_two (Err e) p q f = tt
 pub on_err_two : {T E P Q R : Type 0} (r : Result T E) → OnErr r P → OnErr r Q → (P → Q → R) → OnErr r R
 on_err_two (Ok x) p q f = tt
 on_err_two (Err e) p q f = f p q
+
+-- an error says nothing of success
+pub never_ok : {T E : Type 0} (P : Type 0) (r : Result T E) → IsErr r → OnOk r P
+never_ok P (Ok x) err = search rules
+never_ok P (Err e) err = tt

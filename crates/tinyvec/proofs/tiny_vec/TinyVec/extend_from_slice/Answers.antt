@@ -1,28 +1,76 @@
-use Rattle.std.proofs.Common.{inr, ◌≡◌, sym, ◌+◌, ◌≤◌, ◌++◌, length, drop, refl, ap, ◌∙◌, arith, rules}
+use Rattle.std.proofs.Common.{inl, inr, ◌≡◌, sym, ◌+◌, ◌≤◌, ◌++◌, length, drop, refl, ap, ◌∙◌, le_refl, arith}
+use Rattle.std.proofs.lemmas.Bool.{false≢true}
 use Rattle.std.proofs.lemmas.List.Elements.{same_from_all_zip}
 use Rattle.std.proofs.lemmas.Result.{on_ok_weaker, on_err_weaker}
 use Rattle.tinyvec_slots.specs.Slots.{items_len}
 use Rattle.tinyvec_slots.proofs.SlotsLemmas.{slots_used}
-use Rattle.tinyvec.specs.Tiny.{tiny_items}
-use Rattle.tinyvec.proofs.TinyLemmas.{on_ok_two}
+use Rattle.tinyvec_slots.proofs.CloneLemmas.{on_err}
+use Rattle.tinyvec.specs.Tiny.{tiny_items, tiny_len, tiny_capacity, is_inline, PlaceRule}
+use Rattle.tinyvec.specs.declared.tiny_vec.TinyVec.TheVariants.{Inline, Heap}
+use Rattle.tinyvec.proofs.TinyLemmas.{tiny_slots_grown, on_ok_two, never_ok}
 use Rattle.tinyvec.proofs.CloneLemmas.{appends_len}
-use Rattle.tinyvec.proofs.RefusedLemmas.{place_then, spare_kept}
+use Rattle.tinyvec.proofs.RefusedLemmas.{place_kept, place_then, spare_kept}
+use Rattle.tinyvec.proofs.tiny_vec.TinyVec.extend_from_slice.Goals.{In_default, in_default-via-in-Inline+else-other-capacity, in_default-via-in-Heap+else-other-capacity-2}
 use Rattle.tinyvec.proofs.tiny_vec.TinyVec.extend_from_slice.Goals as goal
 
+pub extend_from_slice-requires : goal.extend_from_slice-requires
+extend_from_slice-requires g c = record { room = omega (arith, c.if-other-capacity.true, c.capacity.ensures.value, c.len.ensures.value) }
+
+-- an array with room
+module _ (g : _) (c : goal.After-extend_from_slice g) where
+  inline_place : PlaceRule g.A.Array.CAPACITY (tiny_len c.args.self.now + length c.args.other.now) c.args.self.now (Inline c.extend_from_slice.new.self c.in-Inline.field-1)
+  inline_place =
+      let room : items_len c.in-Inline.v + length c.args.other.now ≤ g.A.Array.CAPACITY =
+      omega (arith, c.if-other-capacity.true, c.capacity.ensures.value, c.capacity.ensures.fits, c.len.ensures.value) in
+      place_kept g.A.Array.CAPACITY _ c.args.self.now (Inline c.extend_from_slice.new.self c.in-Inline.field-1) (sym (ap is_inline c.in-Inline.is)) (rw c.in-Inline.is room)
+
+pub returns-in-Inline-clause-items : goal.returns-in-Inline-clause-items
+returns-in-Inline-clause-items g c = rw c.in-Inline.is c.extend_from_slice.ensures.items
+
+pub returns-in-Inline-clause-len : goal.returns-in-Inline-clause-len
+returns-in-Inline-clause-len g c = rw c.in-Inline.is c.extend_from_slice.ensures.len
+
+pub returns-in-Inline-clause-if_clones_equal : goal.returns-in-Inline-clause-if_clones_equal
+returns-in-Inline-clause-if_clones_equal g c = rw c.in-Inline.is c.extend_from_slice.ensures.if_clones_equal
+
 pub returns-in-Inline-clause-place : goal.returns-in-Inline-clause-place
-returns-in-Inline-clause-place g c =
-    let v = c.in-Inline.v in
-    let made = c.extend_from_slice.ensures in
-    on_ok_weaker c.extend_from_slice.result (λ long.
-    let le : items_len v + length c.args.other.now ≤ g.A.Array.CAPACITY = omega (arith, long, made.fits) in
-    rw c.in-Inline.is (search (rules, le)))
-    made.len
+returns-in-Inline-clause-place g c = on_ok_weaker c.extend_from_slice.result (λ _. inline_place g c) c.extend_from_slice.ensures.len
 
 pub returns-in-Inline-clause-slots : goal.returns-in-Inline-clause-slots
 returns-in-Inline-clause-slots g c =
     let made = c.extend_from_slice.ensures in
     on_ok_two c.extend_from_slice.result made.len made.spare (λ long behind.
     rw c.in-Inline.is (slots_used g.A.Item.Default.is_default c.in-Inline.v c.extend_from_slice.new.self (length c.args.other.now) long behind))
+
+pub returns-in-Inline-clause-capacity : goal.returns-in-Inline-clause-capacity
+returns-in-Inline-clause-capacity g c = rw c.in-Inline.is (le_refl g.A.Array.CAPACITY)
+
+pub returns-in-Inline-clause-same_room : goal.returns-in-Inline-clause-same_room
+returns-in-Inline-clause-same_room g c = rw c.in-Inline.is (λ _. refl)
+
+pub returns-in-Inline-clause-fits : goal.returns-in-Inline-clause-fits
+returns-in-Inline-clause-fits g c = c.extend_from_slice.ensures.fits
+
+pub returns-in-Inline-clause-succeeds : goal.returns-in-Inline-clause-succeeds
+returns-in-Inline-clause-succeeds g c = λ _. c.extend_from_slice.ensures.succeeds
+
+pub returns-in-Inline-clause-kept : goal.returns-in-Inline-clause-kept
+returns-in-Inline-clause-kept g c = rw c.in-Inline.is c.extend_from_slice.ensures.kept
+
+pub returns-in-Inline-clause-refused : goal.returns-in-Inline-clause-refused
+returns-in-Inline-clause-refused g c =
+    on_err_weaker c.extend_from_slice.result (λ h. inr (inline_place g c, (h.0, h.1, λ _. rw c.in-Inline.is h.2))) c.extend_from_slice.ensures.refused
+
+pub push_clones-requires : goal.push_clones-requires
+push_clones-requires g c = record { room = omega arith }
+
+-- a heap with room
+module _ (g : _) (c : goal.After-push_clones g) where
+  heap_place : PlaceRule g.A.Array.CAPACITY (tiny_len c.args.self.now + length c.args.other.now) c.args.self.now (Heap c.push_clones.new.heap)
+  heap_place = rw c.in-Heap.is ((λ i. absurd (false≢true i)), λ i. i.0)
+
+pub returns-in-Heap-clause-items : goal.returns-in-Heap-clause-items
+returns-in-Heap-clause-items g c = rw c.in-Heap.is c.push_clones.ensures.items
 
 pub returns-in-Heap-clause-len : goal.returns-in-Heap-clause-len
 returns-in-Heap-clause-len g c =
@@ -36,40 +84,93 @@ returns-in-Heap-clause-if_clones_equal g c =
     rw c.in-Heap.is (h.1 ∙ ap (λ l. c.in-Heap.v.items ++ l) (same_from_all_zip g.A.Item.Clone.is_clone c.args.other.now h.0 h.2 rule)))
     c.push_clones.ensures.items
 
-pub returns-in_ok-grow-in_default-clause-len : goal.returns-in_ok-grow-in_default-clause-len
-returns-in_ok-grow-in_default-clause-len g c =
-    let same : c.in_default.self ≡ c.args.self.now = search rules in
+pub returns-in-Heap-clause-place : goal.returns-in-Heap-clause-place
+returns-in-Heap-clause-place g c = on_ok_weaker c.push_clones.result (λ _. heap_place g c) c.push_clones.ensures.items
+
+pub returns-in-Heap-clause-slots : goal.returns-in-Heap-clause-slots
+returns-in-Heap-clause-slots g c = on_ok_weaker c.push_clones.result (λ _. rw c.in-Heap.is tt) c.push_clones.ensures.items
+
+pub returns-in-Heap-clause-capacity : goal.returns-in-Heap-clause-capacity
+returns-in-Heap-clause-capacity g c = rw c.in-Heap.is (omega (arith, c.push_clones.ensures.capacity))
+
+pub returns-in-Heap-clause-same_room : goal.returns-in-Heap-clause-same_room
+returns-in-Heap-clause-same_room g c = rw c.in-Heap.is (λ _. c.push_clones.ensures.capacity)
+
+pub returns-in-Heap-clause-fits : goal.returns-in-Heap-clause-fits
+returns-in-Heap-clause-fits g c =
+    let ok = c.push_clones.new.heap.ok in
+    omega (arith, ok.0, ok.1)
+
+pub returns-in-Heap-clause-succeeds : goal.returns-in-Heap-clause-succeeds
+returns-in-Heap-clause-succeeds g c = λ _. c.push_clones.ensures.succeeds
+
+pub returns-in-Heap-clause-kept : goal.returns-in-Heap-clause-kept
+returns-in-Heap-clause-kept g c = rw c.in-Heap.is c.push_clones.ensures.kept
+
+pub returns-in-Heap-clause-refused : goal.returns-in-Heap-clause-refused
+returns-in-Heap-clause-refused g c =
+    on_err_weaker c.push_clones.result (λ h. inr (heap_place g c, (h.0, h.1, λ i. absurd (false≢true i)))) c.push_clones.ensures.refused
+
+-- a list that had no room is as it was before it grows
+same : (g : _) (c : In_default g) → c.in_default.self ≡ c.args.self.now
+same g c = elim c.in_default.branch as (λ _. c.in_default.self ≡ c.args.self.now) [
+  | in_default-via-in-Inline+else-other-capacity w ↦ w.self-is ∙ sym w.in-Inline.is
+  | in_default-via-in-Heap+else-other-capacity-2 w ↦ w.self-is ∙ sym w.in-Heap.is
+]
+
+pub returns-in_err-grow-in_default : goal.returns-in_err-grow-in_default
+returns-in_err-grow-in_default g c =
+    let answer = c.from_residual.result in
+    let err = c.from_residual.ensures.0 in
+    let grown = rw (same g (goal.at.returns-in_err-grow-in_default g c).In_default) at c.in_err-grow-in_default.ensures in record {
+      items = never_ok _ answer err;
+      len = never_ok _ answer err;
+      if_clones_equal = never_ok _ answer err;
+      place = never_ok _ answer err;
+      slots = never_ok _ answer err;
+      capacity = grown.capacity;
+      same_room = λ _. grown.refused.3 g.A.Array.CAPACITY;
+      fits = grown.fits;
+      succeeds = λ fits _. absurd (false≢true (grown.succeeds fits));
+      kept = on_err answer grown.refused.0;
+      refused = on_err answer (inl (grown.full, grown.refused));
+    }
+
+pub extend_reserved-requires : goal.extend_reserved-requires
+extend_reserved-requires g c = record { room = omega (arith, ap length c.grow.ensures.items, c.in_ok-grow-in_default.ensures.room) }
+
+-- what grew has room
+pub returns-in_ok-grow-in_default : goal.returns-in_ok-grow-in_default
+returns-in_ok-grow-in_default g c =
+    let C = g.A.Item.Clone.is_clone in
+    let old = c.args.self.now in
     let mid = c.grow.new.self in
     let new = c.extend_reserved.new.self in
     let ys = c.args.other.now in
-    rw (sym same) (on_ok_weaker c.extend_reserved.result (λ h.
-    appends_len g.A.Item.Clone.is_clone (tiny_items mid) (tiny_items new) ys h ∙ ap (λ l. length l + length ys) c.grow.ensures.items)
-    c.extend_reserved.ensures.items)
-
-pub returns-in_ok-grow-in_default-clause-if_clones_equal : goal.returns-in_ok-grow-in_default-clause-if_clones_equal
-returns-in_ok-grow-in_default-clause-if_clones_equal g c =
-    let same : c.in_default.self ≡ c.args.self.now = search rules in
-    let olds = tiny_items c.in_default.self in
-    let ys = c.args.other.now in
-    rw (sym same) (on_ok_weaker c.extend_reserved.result (λ h rule.
-    h.1 ∙ ap (λ l. l ++ h.0) c.grow.ensures.items ∙ ap (λ l. olds ++ l) (same_from_all_zip g.A.Item.Clone.is_clone ys h.0 h.2 rule))
-    c.extend_reserved.ensures.items)
-
-pub returns-in_ok-grow-in_default-clause-refused : goal.returns-in_ok-grow-in_default-clause-refused
-returns-in_ok-grow-in_default-clause-refused g c =
-    let same : c.in_default.self ≡ c.args.self.now = search rules in
-    let old = c.in_default.self in
-    let mid = c.grow.new.self in
-    let new = c.extend_reserved.new.self in
+    let answer = c.extend_reserved.result in
     let made = c.extend_reserved.ensures in
-    rw (sym same) (on_err_weaker c.extend_reserved.result (λ h. inr (
-      place_then _ _ old mid new _ refl made.place c.in_ok-grow-in_default.ensures.place,
-      (
-        h.0,
-        h.1,
-        λ i.
-            let clones = h.2 i in
-            (clones.0, clones.1, clones.2, clones.3 ∙ ap (λ l. clones.0 ++ drop h.0 l) (spare_kept old mid new c.grow.ensures.stays made.place i)),
-      ),
-    ))
-    made.refused)
+    let grown = rw (same g (goal.at.returns-in_ok-grow-in_default g c).In_default) at c.in_ok-grow-in_default.ensures in
+    let place = place_then _ _ old mid new _ refl made.place grown.place in record {
+      items = rw (← grown.items) made.items;
+      len = on_ok_weaker answer (λ h. appends_len C (tiny_items mid) (tiny_items new) ys h ∙ ap (λ l. length l + length ys) grown.items) made.items;
+      if_clones_equal =
+          on_ok_weaker answer (λ h rule. h.1 ∙ ap (λ l. l ++ h.0) grown.items ∙ ap (λ l. tiny_items old ++ l) (same_from_all_zip C ys h.0 h.2 rule)) made.items;
+      place = on_ok_weaker answer (λ _. place) made.items;
+      slots = on_ok_two answer made.items made.spare (λ h spare.
+          tiny_slots_grown g.A.Item.Default.is_default old mid new (length ys) grown.stays made.place (appends_len C (tiny_items mid) (tiny_items new) ys h) spare);
+      capacity = rw made.capacity grown.capacity;
+      same_room = rw made.capacity (λ fits. ap (tiny_capacity g.A.Array.CAPACITY) (grown.kept fits));
+      fits = made.fits;
+      succeeds = λ _. made.succeeds;
+      kept = rw (← grown.items) made.kept;
+      refused = on_err_weaker answer (λ h. inr (
+        place,
+        (
+          h.0,
+          h.1,
+          λ i.
+              let clones = h.2 i in
+              (clones.0, clones.1, clones.2, clones.3 ∙ ap (λ l. clones.0 ++ drop h.0 l) (spare_kept old mid new grown.stays made.place i)),
+        ),
+      )) made.refused;
+    }

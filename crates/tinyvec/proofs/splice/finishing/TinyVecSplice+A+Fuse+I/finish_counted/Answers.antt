@@ -1,9 +1,10 @@
-use Rattle.std.proofs.Common.{◌≡◌, ◌+◌, ◌++◌, ◌≤◌, take, drop, length, Ok, ap, ◌∙◌, arith, length-append}
+use Rattle.std.proofs.Common.{◌≡◌, ◌+◌, ◌++◌, ◌≤◌, ◌<◌, ◌^◌, take, drop, length, Ok, refl, ap, ◌∙◌, arith, length-append}
 use Rattle.std.proofs.lemmas.List.{length-take-le, length-drop}
 use Rattle.std.specs.Iterator.Adapters.{fuse_steps}
 use Rattle.tinyvec_slots.specs.Fused.{fused_rest}
-use Rattle.tinyvec_slots.specs.Gap.{gap_front, gap_back}
+use Rattle.tinyvec_slots.specs.Gap.{gap_front, gap_back, gap_touches}
 use Rattle.tinyvec_slots.specs.Splices.{Finishes, finish_placed, finish_bound}
+use Rattle.tinyvec_slots.proofs.CloneLemmas.{on_err}
 use Rattle.tinyvec_slots.proofs.Fused.{fused_first}
 use Rattle.tinyvec_slots.proofs.Lists.{length-slice_range}
 use Rattle.tinyvec_slots.proofs.SpliceLemmas.{finishes_with, finished_len, finishes_closed, finishes_appended, filled_within}
@@ -11,6 +12,7 @@ use Rattle.tinyvec.specs.Tiny.{tiny_items, tiny_len, tiny_capacity, is_inline, S
 use Rattle.tinyvec.specs.Lends.{tiny_with_items}
 use Rattle.tinyvec.specs.TinySplice.{splice_view, splice_left, splice_touches, items_moved}
 use Rattle.tinyvec.proofs.TinyLemmas.{tiny_items-with, tiny_framed-with, tiny_slots_framed}
+use Rattle.tinyvec.proofs.RefusedLemmas.{place_kept}
 use Rattle.tinyvec.proofs.splice.finishing.TinyVecSplice+A+Fuse+I.finish_counted.Goals.{After-fill}
 use Rattle.tinyvec.proofs.splice.finishing.TinyVecSplice+A+Fuse+I.finish_counted.Goals as goal
 
@@ -41,6 +43,28 @@ module _ (g : _) (c : After-fill g) where
       c.fill.result ready fill.placed.3 (omega (arith, fill.placed.2, fill.in_order)) in
       omega (arith, some, length-slice_range (tiny_items c.args.self.vec.now) gap.next gap.end ready.1 (omega (arith, ready.2, ready.3)))
 
+  few : gap_touches c.fill.new.self < 2 ^ 70
+  few =
+      let fill = c.fill.ensures in
+      let ready = c.requires.can.0 in
+      omega (arith, fill.touches, fill.in_order, ready.3, ready.5, c.as_mut_slice.type_inv.0, ap length c.as_mut_slice.ensures.value)
+
+pub fill-requires : goal.fill-requires
+fill-requires g c =
+    let ready = c.requires.can.0 in record {
+      lies = (omega (arith, ready.0, ready.1, ready.2), omega (arith, ready.3, ap length c.as_mut_slice.ensures.value), omega (arith, ready.5));
+      can = c.requires.can.1;
+    }
+
+pub close-requires : goal.close-requires
+close-requires g c =
+    let filled = (goal.at.close-requires g c).After-fill in
+    let fill = c.fill.ensures in record {
+      in_order = omega (arith, fill.in_order, fill.back);
+      in_bounds = omega (arith, fill.back, c.requires.can.0.3, ap length (mid_is g filled), same g filled);
+      few = omega (arith, few g filled);
+    }
+
 -- the replacement ended in the gap
 module _ (g : _) (c : goal.After-drop-replacement g) where
   abbrev filled : After-fill g
@@ -70,6 +94,9 @@ module _ (g : _) (c : goal.After-drop-replacement g) where
         omega (arith, within g filled, closed.len, ahead, behind, long, ready.3, fill.back, fill.in_order, fill.placed.2, fill.touches, closed.touches, c.touches.ensures),
       )
 
+  closed_room : tiny_capacity g.A.Array.CAPACITY c.close.new.vec ≡ tiny_capacity g.A.Array.CAPACITY c.args.self.vec.now
+  closed_room = c.close.ensures.capacity ∙ (framed g filled).3 g.A.Array.CAPACITY
+
 pub returns-then-not-fill-clause-finished : goal.returns-then-not-fill-clause-finished
 returns-then-not-fill-clause-finished = closed
 
@@ -85,6 +112,30 @@ returns-then-not-fill-clause-slots g c =
 
 pub returns-then-not-fill-clause-at_least : goal.returns-then-not-fill-clause-at_least
 returns-then-not-fill-clause-at_least g c = (closed_bounds g c).0
+
+pub returns-then-not-fill-clause-at_most : goal.returns-then-not-fill-clause-at_most
+returns-then-not-fill-clause-at_most g c = omega (arith, (closed_bounds g c).1)
+
+pub returns-then-not-fill-clause-place : goal.returns-then-not-fill-clause-place
+returns-then-not-fill-clause-place g c =
+    let filled = (goal.at.returns-then-not-fill-clause-place g c).After-fill in
+    place_kept g.A.Array.CAPACITY (tiny_len c.close.new.vec) c.args.self.vec.now c.close.new.vec (c.close.ensures.place ∙ (framed g filled).2)
+    (omega (arith, c.close.ensures.fits, closed_room g c))
+
+pub returns-then-not-fill-clause-capacity : goal.returns-then-not-fill-clause-capacity
+returns-then-not-fill-clause-capacity g c = omega (arith, closed_room g c)
+
+pub returns-then-not-fill-clause-same_room : goal.returns-then-not-fill-clause-same_room
+returns-then-not-fill-clause-same_room g c = λ _. closed_room g c
+
+pub returns-then-not-fill-clause-no_shorter : goal.returns-then-not-fill-clause-no_shorter
+returns-then-not-fill-clause-no_shorter g c = tt
+
+pub returns-then-not-fill-clause-goes_on : goal.returns-then-not-fill-clause-goes_on
+returns-then-not-fill-clause-goes_on g c = tt
+
+pub returns-then-not-fill-clause-succeeds : goal.returns-then-not-fill-clause-succeeds
+returns-then-not-fill-clause-succeeds g c = λ _ _ _. refl
 
 -- more was appended
 module _ (g : _) (c : goal.After-touches-2 g) where
@@ -148,3 +199,36 @@ returns-clause-succeeds g c = λ rest shows within.
     let room = c.append_in-finished.ensures.capacity in
     let same = (framed g (goal.at.returns-clause-succeeds g c).After-fill).3 g.A.Array.CAPACITY in
     listed.fits.1 (omega (arith, within, room, same))
+
+pub returns-clause-place : goal.returns-clause-place
+returns-clause-place g c =
+    let frame = framed g (goal.at.returns-clause-place g c).After-fill in
+    rw (← frame.2) c.append_in-finished.ensures.place
+
+pub returns-clause-capacity : goal.returns-clause-capacity
+returns-clause-capacity g c =
+    let frame = framed g (goal.at.returns-clause-capacity g c).After-fill in
+    omega (arith, c.append_in-finished.ensures.capacity, frame.3 g.A.Array.CAPACITY)
+
+pub returns-clause-same_room : goal.returns-clause-same_room
+returns-clause-same_room g c = λ within.
+    let same_room = (framed g (goal.at.returns-clause-same_room g c).After-fill).3 g.A.Array.CAPACITY in
+    c.append_in-finished.ensures.same_room (omega (arith, within, same_room)) ∙ same_room
+
+pub returns-clause-no_shorter : goal.returns-clause-no_shorter
+returns-clause-no_shorter g c =
+    let frame = framed g (goal.at.returns-clause-no_shorter g c).After-fill in
+    on_err c.append_in-finished.result (omega (arith, c.append_in-finished.ensures.longer, frame.0))
+
+pub returns-clause-goes_on : goal.returns-clause-goes_on
+returns-clause-goes_on g c = c.append_in-finished.ensures.goes_on
+
+pub append_in-finished-requires : goal.append_in-finished-requires
+append_in-finished-requires g c =
+    let filled = (goal.at.append_in-finished-requires g c).After-fill in
+    let fill = c.fill.ensures in record {
+      in_bounds = omega (arith, fill.in_order, c.requires.can.0.3, ap length (mid_is g filled), same g filled);
+      few = few g filled;
+      can = (rw c.if-not-fill.false at fill.filled).1;
+      finite = fill.finite c.requires.finite;
+    }
