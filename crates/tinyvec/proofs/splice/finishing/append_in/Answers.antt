@@ -1,4 +1,5 @@
-use Rattle.std.proofs.Common.{◌≡◌, ◌++◌, take, drop, slice_range, length, ap, ◌∙◌}
+use Rattle.std.proofs.Common.{◌≡◌, ◌++◌, take, drop, slice_range, length, sym, ap, ◌∙◌, arith, length-append}
+use Rattle.std.proofs.lemmas.Result.{on_err_weaker}
 use Rattle.tinyvec_slots.proofs.TurnLemmas.{brought_in}
 use Rattle.tinyvec.specs.Tiny.{tiny_items, tiny_len, SameFrame}
 use Rattle.tinyvec.specs.Lends.{tiny_with_items}
@@ -36,3 +37,62 @@ pub returns-clause-slots : goal.returns-clause-slots
 returns-clause-slots g c =
     let after = (goal.at.returns-clause-slots g c).After-bring_in in
     tiny_slots_then_framed g.A.Item.Default.is_default c.args.vec.now c.append-appended.new.vec _ c.append-appended.ensures.slots (framed g after)
+
+pub append-appended-requires : goal.append-appended-requires
+append-appended-requires g c = record { can = c.requires.can; finite = c.requires.finite }
+
+pub bring_in-requires : goal.bring_in-requires
+bring_in-requires g c =
+    let ran = c.append-appended.ensures.ran in
+    let end = c.len-end.ensures.value in record {
+      in_order = omega (arith, end, c.requires.in_bounds);
+      in_bounds = omega (arith, end, ap length c.as_mut_slice.ensures.value, ap length ran.2, length-append (tiny_items c.args.vec.now) ran.0);
+      few = omega (arith, c.requires.few);
+    }
+
+pub returns-clause-full : goal.returns-clause-full
+returns-clause-full g c =
+    let frame = framed g (goal.at.returns-clause-full g c).After-bring_in in
+    on_err_weaker c.append-appended.result (λ full. frame.0 ∙ full ∙ sym (frame.3 g.A.Array.CAPACITY)) c.append-appended.ensures.full
+
+pub returns-clause-longer : goal.returns-clause-longer
+returns-clause-longer g c =
+    let frame = framed g (goal.at.returns-clause-longer g c).After-bring_in in
+    let ran = c.append-appended.ensures.ran in
+    omega (arith, frame.0, ap length ran.2, length-append (tiny_items c.args.vec.now) ran.0)
+
+pub returns-clause-place : goal.returns-clause-place
+returns-clause-place g c =
+    let frame = framed g (goal.at.returns-clause-place g c).After-bring_in in
+    rw (frame.2, frame.0) c.append-appended.ensures.place
+
+pub returns-clause-capacity : goal.returns-clause-capacity
+returns-clause-capacity g c =
+    let frame = framed g (goal.at.returns-clause-capacity g c).After-bring_in in
+    omega (arith, c.append-appended.ensures.capacity, frame.3 g.A.Array.CAPACITY)
+
+pub returns-clause-same_room : goal.returns-clause-same_room
+returns-clause-same_room g c = λ within.
+    let frame = framed g (goal.at.returns-clause-same_room g c).After-bring_in in
+    frame.3 g.A.Array.CAPACITY ∙ c.append-appended.ensures.same_room (omega (arith, within, frame.0))
+
+pub returns-clause-fits : goal.returns-clause-fits
+returns-clause-fits g c =
+    let frame = framed g (goal.at.returns-clause-fits g c).After-bring_in in
+    omega (arith, c.append-appended.ensures.fits, frame.0, frame.3 g.A.Array.CAPACITY)
+
+pub returns-clause-goes_on : goal.returns-clause-goes_on
+returns-clause-goes_on g c = c.append-appended.ensures.goes_on
+
+pub returns-clause-at_least : goal.returns-clause-at_least
+returns-clause-at_least g c =
+    let after = (goal.at.returns-clause-at_least g c).After-bring_in in
+    let brought = c.bring_in.ensures in
+    omega (arith, c.count_move.ensures, brought.at_least, brought.slots, same g after, (framed g after).0, c.len-end.ensures.value)
+
+pub returns-clause-at_most : goal.returns-clause-at_most
+returns-clause-at_most g c =
+    let after = (goal.at.returns-clause-at_most g c).After-bring_in in
+    let brought = c.bring_in.ensures in
+    let counted = rw (c.is_inline-was_inline.ensures, c.is_inline.ensures) at c.count_move.ensures in
+    omega (arith, counted, brought.at_most, brought.slots, same g after, (framed g after).0, c.len-end.ensures.value)

@@ -1,18 +1,36 @@
-use Rattle.std.proofs.Common.{rules, All, ◌≡◌, ◌-◌, ◌<◌, ◌≤◌, inr, min, length, take, drop, sym, ap, subst, ◌∙◌, arith, length-take, length-drop, take_all}
+use Rattle.std.proofs.Common.{All, inl, ◌≡◌, ◌-◌, ◌<◌, ◌≤◌, inr, min, length, take, drop, sym, ap, subst, ◌∙◌, arith, length-take, length-drop, take_all}
+use Rattle.std.proofs.lemmas.Bool.{false≢true}
 use Rattle.std.proofs.lemmas.List.{take-take}
 use Rattle.std.proofs.lemmas.List.Elements.{same_from_all_zip, length_all_zip, All-take, All-drop}
 use Rattle.std.proofs.lemmas.Result.{on_ok_weaker, on_err_weaker}
 use Rattle.std.specs.List.{AllZip}
 use Rattle.tinyvec_slots.specs.Clones.{RefusedAt}
 use Rattle.tinyvec_slots.proofs.CloneLemmas.{on_err}
-use Rattle.tinyvec.specs.Tiny.{tiny_items}
-use Rattle.tinyvec.proofs.TinyLemmas.{tiny_slots_grown, tiny_slots_then_framed, on_ok_two, on_err_two}
+use Rattle.tinyvec.specs.Tiny.{tiny_items, tiny_capacity}
+use Rattle.tinyvec.proofs.TinyLemmas.{tiny_slots_grown, tiny_slots_then_framed, on_ok_two, on_err_two, never_ok}
 use Rattle.tinyvec.proofs.CloneLemmas.{appends_len, appends_rest}
 use Rattle.tinyvec.proofs.RefusedLemmas.{refused_in_front, refused_behind, partly_over, partly_behind, cut_freed, none_freed, spare_kept, place_kept, place_then}
 use Rattle.tinyvec.proofs.tiny_vec.TinyVec.clone_from.Goals as goal
 
+pub overwrite-requires : goal.overwrite-requires
+overwrite-requires g c =
+    let cut = ap length c.truncate.ensures.items ∙ length-take c.len-count.result (tiny_items c.args.self.now) in
+    record { same_len = omega (arith, ap length c.as_slice.ensures, cut, c.len-count.ensures.value, c.len-len.ensures.value, c.if-count-len.true) }
+
 pub returns-then-count-len-clause-items : goal.returns-then-count-len-clause-items
 returns-then-count-len-clause-items g c = rw c.as_slice.ensures at c.overwrite.ensures.ok
+
+pub returns-then-count-len-clause-len : goal.returns-then-count-len-clause-len
+returns-then-count-len-clause-len g c =
+    let xs = tiny_items c.args.source.now in
+    let new = tiny_items c.overwrite.new.self in
+    on_ok_weaker c.overwrite.result (λ clones. sym (length_all_zip g.A.Item.Clone.is_clone xs new clones)) (returns-then-count-len-clause-items g c)
+
+pub returns-then-count-len-clause-if_clones_equal : goal.returns-then-count-len-clause-if_clones_equal
+returns-then-count-len-clause-if_clones_equal g c =
+    let xs = tiny_items c.args.source.now in
+    let new = tiny_items c.overwrite.new.self in
+    on_ok_weaker c.overwrite.result (λ clones rule. same_from_all_zip g.A.Item.Clone.is_clone xs new clones rule) (returns-then-count-len-clause-items g c)
 
 pub returns-then-count-len-clause-place : goal.returns-then-count-len-clause-place
 returns-then-count-len-clause-place g c =
@@ -27,6 +45,20 @@ returns-then-count-len-clause-slots g c =
     on_ok_weaker c.overwrite.result
     (λ _. tiny_slots_then_framed g.A.Item.Default.is_default c.args.self.now c.truncate.new.self c.overwrite.new.self c.truncate.ensures.slots c.overwrite.ensures.frame)
     c.overwrite.ensures.ok
+
+pub returns-then-count-len-clause-capacity : goal.returns-then-count-len-clause-capacity
+returns-then-count-len-clause-capacity g c = omega (arith, c.overwrite.ensures.frame.3 g.A.Array.CAPACITY, c.truncate.ensures.capacity)
+
+pub returns-then-count-len-clause-same_room : goal.returns-then-count-len-clause-same_room
+returns-then-count-len-clause-same_room g c = λ _. c.overwrite.ensures.frame.3 g.A.Array.CAPACITY ∙ c.truncate.ensures.capacity
+
+pub returns-then-count-len-clause-fits : goal.returns-then-count-len-clause-fits
+returns-then-count-len-clause-fits g c =
+    let frame = c.overwrite.ensures.frame in
+    omega (arith, frame.0, frame.3 g.A.Array.CAPACITY, c.truncate.ensures.fits)
+
+pub returns-then-count-len-clause-succeeds : goal.returns-then-count-len-clause-succeeds
+returns-then-count-len-clause-succeeds g c = λ fits all. c.overwrite.ensures.succeeds (rw c.as_slice.ensures all)
 
 pub returns-then-count-len-clause-refused : goal.returns-then-count-len-clause-refused
 returns-then-count-len-clause-refused g c =
@@ -51,6 +83,61 @@ returns-then-count-len-clause-refused g c =
           (cut_freed g.A.Item.Default.is_default c.args.self.now left new m c.overwrite.ensures.frame c.truncate.ensures.place c.truncate.ensures.slots cut within),
     ))
     c.overwrite.ensures.refused
+
+pub returns-in_err-reserve : goal.returns-in_err-reserve
+returns-in_err-reserve g c =
+    let answer = c.from_residual.result in
+    let err = c.from_residual.ensures.0 in
+    let grown = c.in_err-reserve.ensures in
+    let is_len = c.len-len.ensures.value in
+    let is_count = c.len-count.ensures.value in
+    let more = c.if-count-len.false in record {
+      items = never_ok _ answer err;
+      len = never_ok _ answer err;
+      if_clones_equal = never_ok _ answer err;
+      place = never_ok _ answer err;
+      slots = never_ok _ answer err;
+      capacity = grown.capacity;
+      same_room = λ _. grown.refused.3 g.A.Array.CAPACITY;
+      fits = grown.fits;
+      succeeds = λ fits _. absurd (false≢true (grown.succeeds (omega (arith, fits))));
+      refused = on_err answer (inl (omega (arith, grown.full), grown.refused));
+    }
+
+pub overwrite-requires-2 : goal.overwrite-requires-2
+overwrite-requires-2 g c =
+    let front = length-take c.len-len.result c.as_slice-2.result.now in
+    record {
+      same_len = omega (arith, front, ap length c.as_slice-2.ensures, ap length c.reserve.ensures.items, c.len-count.ensures.value, c.len-len.ensures.value, c.if-count-len.false);
+    }
+
+pub returns-in_err-overwrite-clause-items : goal.returns-in_err-overwrite-clause-items
+returns-in_err-overwrite-clause-items g c = never_ok _ c.from_residual-in_err-overwrite.result c.from_residual-in_err-overwrite.ensures.0
+
+pub returns-in_err-overwrite-clause-len : goal.returns-in_err-overwrite-clause-len
+returns-in_err-overwrite-clause-len g c = never_ok _ c.from_residual-in_err-overwrite.result c.from_residual-in_err-overwrite.ensures.0
+
+pub returns-in_err-overwrite-clause-if_clones_equal : goal.returns-in_err-overwrite-clause-if_clones_equal
+returns-in_err-overwrite-clause-if_clones_equal g c = never_ok _ c.from_residual-in_err-overwrite.result c.from_residual-in_err-overwrite.ensures.0
+
+pub returns-in_err-overwrite-clause-place : goal.returns-in_err-overwrite-clause-place
+returns-in_err-overwrite-clause-place g c = never_ok _ c.from_residual-in_err-overwrite.result c.from_residual-in_err-overwrite.ensures.0
+
+pub returns-in_err-overwrite-clause-slots : goal.returns-in_err-overwrite-clause-slots
+returns-in_err-overwrite-clause-slots g c = never_ok _ c.from_residual-in_err-overwrite.result c.from_residual-in_err-overwrite.ensures.0
+
+pub returns-in_err-overwrite-clause-capacity : goal.returns-in_err-overwrite-clause-capacity
+returns-in_err-overwrite-clause-capacity g c = omega (arith, c.reserve.ensures.capacity, c.overwrite-2.ensures.frame.3 g.A.Array.CAPACITY)
+
+pub returns-in_err-overwrite-clause-same_room : goal.returns-in_err-overwrite-clause-same_room
+returns-in_err-overwrite-clause-same_room g c = λ fits.
+    let kept = c.reserve.ensures.kept (omega (arith, fits, c.len-len.ensures.value, c.len-count.ensures.value, c.if-count-len.false)) in
+    c.overwrite-2.ensures.frame.3 g.A.Array.CAPACITY ∙ ap (tiny_capacity g.A.Array.CAPACITY) kept
+
+pub returns-in_err-overwrite-clause-fits : goal.returns-in_err-overwrite-clause-fits
+returns-in_err-overwrite-clause-fits g c =
+    let frame = c.overwrite-2.ensures.frame in
+    omega (arith, c.reserve.ensures.fits, frame.0, frame.3 g.A.Array.CAPACITY)
 
 pub returns-in_err-overwrite-clause-refused : goal.returns-in_err-overwrite-clause-refused
 returns-in_err-overwrite-clause-refused g c =
@@ -78,6 +165,28 @@ returns-in_err-overwrite-clause-refused g c =
           (frame.1 ∙ spare_kept c.args.self.now mid new c.reserve.ensures.stays frame.2 i)),
     ))
 
+pub extend_reserved-requires : goal.extend_reserved-requires
+extend_reserved-requires g c =
+    let frame = c.overwrite-2.ensures.frame in
+    let xs = c.as_slice-3.result.now in
+    let n = c.len-len.result in
+    let rest = length-take (length xs - n) (drop n xs) in
+    record {
+      room = omega (
+        arith,
+        rest,
+        length-drop n xs,
+        ap length c.as_slice-3.ensures,
+        frame.0,
+        frame.3 g.A.Array.CAPACITY,
+        c.in_ok-reserve.ensures.room,
+        ap length c.reserve.ensures.items,
+        c.len-len.ensures.value,
+        c.len-count.ensures.value,
+        c.if-count-len.false,
+      );
+    }
+
 pub returns-clause-items : goal.returns-clause-items
 returns-clause-items g c =
     on_ok_weaker c.extend_reserved.result
@@ -96,6 +205,25 @@ returns-clause-if_clones_equal g c =
     let xs = tiny_items c.args.source.now in
     let new = tiny_items c.extend_reserved.new.self in
     on_ok_weaker c.extend_reserved.result (λ clones rule. same_from_all_zip g.A.Item.Clone.is_clone xs new clones rule) (returns-clause-items g c)
+
+pub returns-clause-place : goal.returns-clause-place
+returns-clause-place g c =
+    let made = c.extend_reserved.ensures in
+    on_ok_weaker c.extend_reserved.result
+    (λ _. place_then _ _ c.args.self.now c.reserve.new.self c.extend_reserved.new.self _ (omega (arith, c.len-len.ensures.value, c.len-count.ensures.value, c.if-count-len.false))
+    (made.place ∙ c.overwrite-2.ensures.frame.2) c.in_ok-reserve.ensures.place)
+    made.items
+
+pub returns-clause-capacity : goal.returns-clause-capacity
+returns-clause-capacity g c = omega (arith, c.reserve.ensures.capacity, c.overwrite-2.ensures.frame.3 g.A.Array.CAPACITY, c.extend_reserved.ensures.capacity)
+
+pub returns-clause-same_room : goal.returns-clause-same_room
+returns-clause-same_room g c = λ fits.
+    let kept = c.reserve.ensures.kept (omega (arith, fits, c.len-len.ensures.value, c.len-count.ensures.value, c.if-count-len.false)) in
+    c.extend_reserved.ensures.capacity ∙ c.overwrite-2.ensures.frame.3 g.A.Array.CAPACITY ∙ ap (tiny_capacity g.A.Array.CAPACITY) kept
+
+pub returns-clause-fits : goal.returns-clause-fits
+returns-clause-fits g c = c.extend_reserved.ensures.fits
 
 pub returns-clause-slots : goal.returns-clause-slots
 returns-clause-slots g c =
@@ -140,8 +268,7 @@ returns-in_err-overwrite-clause-succeeds g c = λ fits all.
     let xs = tiny_items c.args.source.now in
     let n = c.len-len.result in
     let first : All P (take n c.as_slice-2.result.now) = rw c.as_slice-2.ensures (All-take P n xs all) in
-    let never = c.in_err-overwrite.ensures.succeeds first in
-    search rules
+    absurd (false≢true (c.in_err-overwrite.ensures.succeeds first))
 
 pub returns-clause-succeeds : goal.returns-clause-succeeds
 returns-clause-succeeds g c = λ fits all.
