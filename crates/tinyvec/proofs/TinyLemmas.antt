@@ -1,6 +1,6 @@
 -- Lemmas on the list, the spare slots and the place.
 use Rattle.std.proofs.Common.{◌≡◌, ℕ, ◌+◌, ◌-◌, ◌<◌, ◌≤◌, replicate, List, [], ◌∷◌, length, take, drop, ◌++◌, refl, sym, ap, subst, ◌∙◌, take_at, length-set, length-drop, slice_set, insert, remove, All, arith, rules}
-use Rattle.std.specs.Prelude.{OnOk, OnErr, IsErr, Result, Ok, Err}
+use Rattle.std.specs.Prelude.{OnOk, OnErr, IsErr, IfOk, Result, Ok, Err}
 use Rattle.std.proofs.lemmas.List.{drop-drop, nil_from_length, length_push}
 use Rattle.std.proofs.lemmas.List.Edits.{length-insert, length-remove}
 use Rattle.std.proofs.lemmas.List.Elements.{All-drop}
@@ -162,3 +162,8 @@ on_err_two (Err e) p q f = f p q
 pub never_ok : {T E : Type 0} (P : Type 0) (r : Result T E) → IsErr r → OnOk r P
 never_ok P (Ok x) err = search rules
 never_ok P (Err e) err = tt
+
+-- nor of a value
+pub never_if_ok : {T E : Type 0} (P : T → Type 0) (r : Result T E) → IsErr r → IfOk r P
+never_if_ok P (Ok x) err = search rules
+never_if_ok P (Err e) err = tt
