@@ -1,0 +1,118 @@
+use Rattle.std.proofs.Common.{◌≡◌, ℕ, ◌+◌, ◌<◌, ◌≤◌, ◌*◌, max, [], ◌∷◌, ◌++◌, true, false, Vec, Global, Result, Ok, Err, drop, refl, sym, ap, ◌∙◌, le_refl, arith, vec_capacity}
+use Rattle.std.specs.Prelude.{OnOk}
+use Rattle.std.specs.Result.{is_err}
+use Rattle.std.proofs.lemmas.Bool.{false≢true, eqb-true, eqb-false}
+use Rattle.tinyvec_slots.specs.Slots.{Slots, items, items_len, spare}
+use Rattle.tinyvec.specs.Tiny.{tiny_items, tiny_len, tiny_capacity, is_inline, IsInline, PlaceRule, TinySlotRule}
+use Rattle.tinyvec.specs.Room.{KeepsRoom, MovesForTwice}
+use Rattle.tinyvec.specs.declared.tiny_vec.TinyVec.{TinyVec}
+use Rattle.tinyvec.specs.declared.tiny_vec.TinyVec.TheVariants.{Inline, Heap}
+use Rattle.tinyvec.proofs.TinyLemmas.{slots_pushed}
+use Rattle.tinyvec.proofs.RefusedLemmas.{place_kept}
+use Rattle.tinyvec.proofs.tiny_vec.TinyVec.push.Goals.{in-Inline, in-Heap, in_default+else-is_err, in_default-via-in-Inline+else-not-is_full, in_default-via-in-Heap+else-len-capacity}
+use Rattle.tinyvec.proofs.tiny_vec.TinyVec.push.Goals as goal
+
+-- what a call ensures of `Ok`, where it was so answered
+when_ok : {T E P : Type 0} (r : Result T E) → false ≡ is_err r → OnOk r P → P
+when_ok (Ok x) ok p = p
+when_ok (Err e) ok p = absurd (false≢true ok)
+
+-- what a call that appended x did
+record Pushed {A T : Type 0} (D : T → Type 0) (slots : ℕ) (x : T) (old new : TinyVec A T) : Type 0 where
+  items_are : tiny_items new ≡ tiny_items old ++ x ∷ []
+  place : PlaceRule slots (tiny_len old + 1) old new
+  slot_rule : TinySlotRule D old new
+  asked : MovesForTwice slots old new
+  capacity : tiny_capacity slots old ≤ tiny_capacity slots new
+  same_room : KeepsRoom slots (tiny_len old + 1) old new
+  fits : tiny_len new ≤ tiny_capacity slots new
+
+module _ {A T : Type 0} (D : T → Type 0) (slots : ℕ) (x : T) where
+  in_array : (v w : Slots T) (a : Global) → items_len v < slots → items w ≡ items v ++ x ∷ [] → spare w ≡ drop 1 (spare v) → items_len w ≤ slots
+      → Pushed {A = A} D slots x (Inline v a) (Inline w a)
+  in_array v w a room is behind fits = record {
+    items_are = is;
+    place = place_kept {A = A} slots (items_len v + 1) (Inline v a) (Inline w a) refl (omega (arith, room));
+    slot_rule = slots_pushed D v w x is behind;
+    asked = λ _ full. absurd (omega (arith, full, room));
+    capacity = le_refl slots;
+    same_room = λ _. refl;
+    fits = fits;
+  }
+
+  on_heap : (v w : Vec T Global) → w.items ≡ v.items ++ x ∷ [] → vec_capacity w ≡ vec_capacity v → Pushed {A = A} D slots x (Heap v) (Heap w)
+  on_heap v w is same = record {
+    items_are = is;
+    place = ((λ i. absurd (false≢true i)), λ h. absurd (false≢true h.0));
+    slot_rule = tt;
+    asked = λ i _. absurd (false≢true i);
+    capacity = omega (arith, same);
+    same_room = λ _. same;
+    fits = omega (arith, w.ok.0, w.ok.1);
+  }
+
+  -- a full list moved to the heap
+  moved : (old new : TinyVec A T) → tiny_len old ≡ tiny_capacity slots old → is_inline new ≡ false
+      → PlaceRule slots (tiny_len old + 1) old new × TinySlotRule D old new
+  moved (Inline v a) (Inline w b) full out = absurd (false≢true (sym out))
+  moved (Inline v a) (Heap w) full out = (((λ i. absurd (false≢true i)), λ h. absurd (omega (arith, full, h.1))), tt)
+  moved (Heap v) (Inline w b) full out = absurd (false≢true (sym out))
+  moved (Heap v) (Heap w) full out = (((λ i. absurd (false≢true i)), λ h. absurd (false≢true h.0)), tt)
+
+  -- it grew first
+  grown : (old mid new : TinyVec A T) → tiny_len old ≡ tiny_capacity slots old → tiny_items mid ≡ tiny_items old → is_inline mid ≡ false
+      → (IsInline old → max (2 * tiny_len old) (tiny_len old + 1) ≤ tiny_capacity slots mid) → tiny_capacity slots old ≤ tiny_capacity slots mid
+      → tiny_items new ≡ tiny_items mid ++ x ∷ [] → is_inline new ≡ is_inline mid → tiny_capacity slots new ≡ tiny_capacity slots mid
+      → tiny_len new ≤ tiny_capacity slots new → Pushed D slots x old new
+  grown old mid new full kept out asked more is place same fits =
+      let rules = moved old new full (place ∙ out) in record {
+        items_are = is ∙ ap (λ l. l ++ x ∷ []) kept;
+        place = rules.0;
+        slot_rule = rules.1;
+        asked = λ inline _. rw same (asked inline);
+        capacity = rw same more;
+        same_room = λ room. absurd (omega (arith, full, room));
+        fits = fits;
+      }
+
+pushed : (g : _) (c : goal.Joined-self g) → Pushed g.A.Item.Default.is_default g.A.Array.CAPACITY c.args.x c.args.self.now c.match-self.self
+pushed g c = elim c.match-self.branch as (λ _. Pushed g.A.Item.Default.is_default g.A.Array.CAPACITY c.args.x c.args.self.now c.match-self.self) [
+  | in-Inline w ↦
+      let v = w.in-Inline.v in
+      let some = eqb-false (items_len v) g.A.Array.CAPACITY (sym w.if-not-is_full.ensures.value) in
+      let put = w.push.ensures in
+      rw (w.self-is, w.in-Inline.is) (in_array g.A.Item.Default.is_default g.A.Array.CAPACITY c.args.x v w.push.new.self w.in-Inline.field-1
+      (omega (arith, some, w.is_full.ensures.fits)) put.items put.spare put.fits)
+  | in-Heap w ↦ rw (w.self-is, w.in-Heap.is) (on_heap g.A.Item.Default.is_default g.A.Array.CAPACITY c.args.x w.in-Heap.v w.push_reserved.new.self w.push_reserved.ensures.items w.push_reserved.ensures.capacity)
+  | in_default+else-is_err w ↦
+      let old = c.args.self.now in
+      let was : (w.in_default.self ≡ old) × (tiny_len old ≡ tiny_capacity g.A.Array.CAPACITY old) =
+      elim w.in_default.branch as (λ _. (w.in_default.self ≡ old) × (tiny_len old ≡ tiny_capacity g.A.Array.CAPACITY old)) [
+        | in_default-via-in-Inline+else-not-is_full f ↦
+            (f.self-is ∙ sym f.in-Inline.is, rw f.in-Inline.is (eqb-true (items_len f.in-Inline.v) g.A.Array.CAPACITY (sym f.if-not-is_full.ensures.value)))
+        | in_default-via-in-Heap+else-len-capacity f ↦
+            let ok = f.in-Heap.v.ok in
+            (f.self-is ∙ sym f.in-Heap.is, rw f.in-Heap.is (omega (arith, ok.0, ok.1, f.len.ensures, f.capacity.ensures, f.if-len-capacity.false)))
+      ] in
+      let room = rw was.0 at w.grow_one.ensures in
+      let ok = w.if-is_err.ensures.value in
+      let put = w.push_reserved-in_default.ensures in
+      rw w.self-is (grown g.A.Item.Default.is_default g.A.Array.CAPACITY c.args.x old w.grow_one.new.self w.push_reserved-in_default.new.self was.1
+      room.items (when_ok w.grow_one.result ok room.place) (when_ok w.grow_one.result ok room.asked) room.capacity put.items put.place put.capacity put.fits)
+]
+
+pub returns : goal.returns
+returns g c =
+    let made = pushed g c in record {
+      items = made.items_are;
+      place = made.place;
+      slots = made.slot_rule;
+      asked = made.asked;
+      capacity = made.capacity;
+      same_room = made.same_room;
+      fits = made.fits;
+      succeeds = λ _. refl;
+      full = tt;
+      refused = tt;
+      back = tt;
+    }
