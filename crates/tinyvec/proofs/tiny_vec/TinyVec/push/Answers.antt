@@ -1,4 +1,4 @@
-use Rattle.std.proofs.Common.{◌≡◌, ℕ, ◌+◌, ◌<◌, ◌≤◌, ◌*◌, max, [], ◌∷◌, ◌++◌, true, false, Vec, Global, Result, Ok, Err, drop, refl, sym, ap, ◌∙◌, le_refl, arith, vec_capacity}
+use Rattle.std.proofs.Common.{◌≡◌, ℕ, ◌+◌, ◌<◌, ◌≤◌, ◌*◌, max, [], ◌∷◌, ◌++◌, false, Vec, Global, Result, Ok, Err, drop, refl, sym, ap, ◌∙◌, le_refl, arith, vec_capacity}
 use Rattle.std.specs.Prelude.{OnOk}
 use Rattle.std.specs.Result.{is_err}
 use Rattle.std.proofs.lemmas.Bool.{false≢true, eqb-true, eqb-false}
