@@ -1,8 +1,16 @@
 use Rattle.std.proofs.Common.{◌≡◌, ◌+◌, ◌-◌, ◌≤◌, ◌++◌, length, drop, ap, ◌∙◌, arith, length-drop}
 use Rattle.tinyvec_slots.specs.Slots.{items, items_len, spare}
 use Rattle.tinyvec.proofs.FillingLemmas.{items_filled, spare_filled}
-use Rattle.tinyvec.proofs.tiny_vec.filling.fill_array.Goals.{After-set_len-in-Err}
+use Rattle.tinyvec.proofs.tiny_vec.filling.fill_array.Goals.{In-Ok, After-set_len-in-Err}
 use Rattle.tinyvec.proofs.tiny_vec.filling.fill_array.Goals as goal
+
+-- the items that came fit
+room : (g : _) (c : In-Ok g) → c.len-len.result + c.in-Ok.count ≤ g.A.Array.CAPACITY
+room g c =
+    let v = c.args.vec.now in
+    let made = c.in-Ok.ensures.ran in
+    let len = c.len-len.ensures in
+    omega (arith, made.1.1, made.2, ap length c.grab_spare_slice_mut.ensures.value, length-drop v.len v.slots, len.field, len.fits, len.slots)
 
 -- items stand in all the slots
 all_filled : (g : _) (c : After-set_len-in-Err g) → c.CAPACITY.result ≡ items_len c.args.vec.now + length c.in-Err.ensures.ran.0
@@ -11,6 +19,18 @@ all_filled g c =
     let made = c.in-Err.ensures.ran in
     let len = c.len-len.ensures in
     omega (arith, made.1.1, ap length c.grab_spare_slice_mut.ensures.value, length-drop v.len v.slots, len.value, len.field, len.fits, len.slots, c.CAPACITY.ensures)
+
+pub fill_slots-requires : goal.fill_slots-requires
+fill_slots-requires g c = c.requires
+
+pub overflow_add-len : goal.overflow_add-len
+overflow_add-len g c = omega (arith, room g (goal.at.overflow_add-len g c).In-Ok, c.len-len.ensures.small)
+
+pub set_len-requires : goal.set_len-requires
+set_len-requires g c = room g (goal.at.set_len-requires g c).In-Ok
+
+pub set_len-requires-in-Err : goal.set_len-requires-in-Err
+set_len-requires-in-Err g c = omega (arith, c.CAPACITY.ensures)
 
 pub returns-in-Ok-clause-ran : goal.returns-in-Ok-clause-ran
 returns-in-Ok-clause-ran g c =
@@ -44,11 +64,7 @@ pub returns-in-Ok-clause-longer : goal.returns-in-Ok-clause-longer
 returns-in-Ok-clause-longer g c = omega (arith, c.len-len.ensures.value, c.set_len.ensures.fits)
 
 pub returns-in-Ok-clause-fits : goal.returns-in-Ok-clause-fits
-returns-in-Ok-clause-fits g c =
-    let v = c.args.vec.now in
-    let made = c.in-Ok.ensures.ran in
-    let len = c.len-len.ensures in
-    omega (arith, made.1.1, made.2, ap length c.grab_spare_slice_mut.ensures.value, length-drop v.len v.slots, len.field, len.fits, len.slots, c.set_len.ensures.fits)
+returns-in-Ok-clause-fits g c = omega (arith, room g (goal.at.returns-in-Ok-clause-fits g c).In-Ok, c.set_len.ensures.fits)
 
 pub returns-in-Ok-clause-full : goal.returns-in-Ok-clause-full
 returns-in-Ok-clause-full g c = tt
