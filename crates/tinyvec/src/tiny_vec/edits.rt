@@ -6,9 +6,10 @@ ghost use Rattle.tinyvec.specs.Room.{KeepsRoom, MovesForTwice};
 
 use crate::TinyVec;
 use tinyvec_array::{Array, NoMemory};
-use tinyvec_slots::remove_shifting;
+use tinyvec_slots::{move_to_end, remove_shifting};
 
-// So many items are moved sooner one by one than by `Vec::remove`, which goes by parts of memory.
+// So many items are moved sooner one by one than as a whole, by a rotation. `Vec::remove` goes by parts of memory, and takes
+// longer than either.
 const FEW: usize = 16;
 
 impl<A: Array> TinyVec<A> {
@@ -110,7 +111,8 @@ fn remove_on_heap<T: Default + Drop>(heap: &mut Vec<T>, i: usize) -> T
 {
     let len = heap.len();
     if len - i > FEW {
-        return heap.remove(i);
+        move_to_end(heap.as_mut_slice(), i, i + 1);
+        return heap.pop().unwrap();
     }
     let item = remove_shifting(heap.as_mut_slice(), i, len);
     heap.truncate(len - 1);
