@@ -33,6 +33,10 @@ PAUSE = 10
 
 COUNT = re.compile(r"^so far: (\d+) of (\d+) functions checked")
 
+# What a built library has that no proof above can cite: its code, the proofs of single functions, and sums over all of it.
+UNCITED = re.compile(r"toolchain/|lang/antt/made\.json$|lang/antt/proofs/.*/(?:Answers|Invariants|Proof)\.antt$")
+SUMS = re.compile(rb"^(?:checked|sum) .*$", re.M)
+
 
 class Crate:
     def __init__(self, name, row, uses):
@@ -70,6 +74,10 @@ class Crate:
     def sum(self):
         """Differs where anything differs that the library or program is made from."""
         return sum_of(kit(), self.row, self.sources, [it.sum for it in self.uses])
+
+    def statements(self):
+        """Differs where anything differs that a proof above can cite, but neither by a body nor by the proof of one."""
+        return text_of(self.out / "statements")
 
     def has_tests(self):
         return any(path.endswith(".rt") and b"#[test]" in text for path, text in self.sources.items())
@@ -120,6 +128,16 @@ def sum_of(*parts):
 
 def text_of(file):
     return file.read_text(encoding="utf-8") if file.is_file() else ""
+
+
+def statements_of(library):
+    digest = hashlib.sha256()
+    for path in sorted(it for it in library.rglob("*") if it.is_file()):
+        name = str(path.relative_to(library))
+        if not UNCITED.match(name):
+            text = SUMS.sub(b"", path.read_bytes()) if name == "format" else path.read_bytes()
+            digest.update(sum_of(name, text).encode())
+    return digest.hexdigest()
 
 
 def require_rt():
@@ -197,6 +215,9 @@ class Copy:
             if (self.crate.out / name).is_dir():
                 (self.crate.out / name).rename(self.top / "old")
             (self.out / name).replace(self.crate.out / name)
+        if not self.crate.is_program:
+            stated = statements_of(self.crate.out / f"rlib/{self.crate.name}.rlib")
+            (self.crate.out / "statements").write_text(stated, encoding="utf-8")
         (self.top / "built").write_text(self.crate.record(), encoding="utf-8")
         (self.top / "built").replace(built)
 
