@@ -10,8 +10,6 @@ mod parse_error;
 mod print;
 mod reading;
 mod rewritten;
-#[cfg(test)]
-mod tests;
 
 use rewritten::rewritten;
 use std::io;
