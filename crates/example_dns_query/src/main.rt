@@ -5,8 +5,6 @@ pub mod line;
 pub mod parts;
 pub mod query;
 pub mod record_type;
-#[cfg(test)]
-mod tests;
 
 use line::answer_line;
 use std::io::{self, BufRead, BufReader};

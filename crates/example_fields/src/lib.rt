@@ -5,9 +5,6 @@ ghost use Rattle.std.specs.Prelude.{◌≡◌, ◌≢◌, ◌<◌, ◌↔◌, �
 ghost use Rattle.tinyvec_array.specs.Slots.{items};
 ghost use Rattle.example_fields.specs.Fields.{bytes_of, parts, IsIn};
 
-#[cfg(test)]
-mod tests;
-
 use tinyvec_array::ArrayVec;
 
 /// A field of a line: the bytes from `start` up to `end`.

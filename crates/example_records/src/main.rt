@@ -6,8 +6,6 @@ mod length;
 mod reading;
 mod stream;
 mod stream_error;
-#[cfg(test)]
-mod tests;
 
 use std::io;
 

@@ -3,8 +3,6 @@
 
 mod line;
 mod stream;
-#[cfg(test)]
-mod tests;
 mod text;
 mod words;
 

@@ -12,6 +12,8 @@ mod edits;
 #[cfg(test)]
 mod ends;
 #[cfg(test)]
+mod fields;
+#[cfg(test)]
 mod filters;
 #[cfg(test)]
 mod known_items;
