@@ -2,6 +2,8 @@
 ghost use Rattle.std.specs.Prelude.{◌≡◌, ◌-◌, ◌*◌, ◌<◌, ◌≤◌, ◌++◌, List, length, drop};
 ghost use Rattle.tinyvec_slots.specs.Slots.{AreDefaults};
 
+use std::mem;
+
 /// Writes a default into each slot.
 pub fn reset<T: Default + Drop>(slots: &mut [T])
     ensures { AreDefaults T.is_default (length slots.old) slots.new }
@@ -17,7 +19,7 @@ pub fn reset_at_most<T: Default + Drop>(slots: &mut [T], most: usize)
 {
     let count = slots.len();
     if most > 32 && count > 32 {
-        reset_each(slots);
+        reset_many(slots);
     } else if most > 16 && count > 16 {
         reset_ends::<T, 16>(slots);
     } else if most > 8 && count > 8 {
@@ -28,6 +30,18 @@ pub fn reset_at_most<T: Default + Drop>(slots: &mut [T], most: usize)
         reset_ends::<T, 2>(slots);
     } else if count > 0 {
         reset_ends::<T, 1>(slots);
+    }
+}
+
+// The same of more than 32. Of few bytes too a call that fills memory takes longer than the writes.
+fn reset_many<T: Default + Drop>(slots: &mut [T])
+    requires { 32 < length slots.old }
+    ensures { AreDefaults T.is_default (length slots.old) slots.new }
+{
+    if slots.len() <= 64 && slots.len() * mem::size_of::<T>() <= 128 {
+        reset_ends::<T, 32>(slots);
+    } else {
+        reset_each(slots);
     }
 }
 

@@ -31,7 +31,17 @@ impl<A: Array> TinyVec<A> {
         ensures capacity { tiny_capacity A.CAPACITY self.new ≡ tiny_capacity A.CAPACITY self.old }
         ensures fits { tiny_len self.new ≤ tiny_capacity A.CAPACITY self.new }
     {
-        self.truncate(0);
+        match self {
+            TinyVec::Inline(v, _) => {
+                v.clear();
+                // Behind these writes LLVM cannot tell any more where the list lies and how long it is, so it is told again.
+                match self {
+                    TinyVec::Inline(v, _) => v.set_len(0),
+                    TinyVec::Heap(_) => unreachable!(),
+                }
+            }
+            TinyVec::Heap(v) => v.truncate(0),
+        }
     }
 
     /// Cuts the list at `at`, and gives what stood from there on, in the same place. An inline list takes no memory.
