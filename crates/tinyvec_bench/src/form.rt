@@ -2,6 +2,7 @@
 
 use crate::number::Number;
 use crate::reading::last;
+use crate::report::Bench;
 use std::alloc::Global;
 use tinyvec_array::ArrayVec;
 use tinyvec_borsh::{BorshDeserialize, BorshSerialize};
@@ -10,10 +11,36 @@ use tinyvec_io::Counted;
 // So many bytes are the count in front of the items.
 const COUNT: usize = 8;
 
-/// Writes the list, whose first item is made from `x`, and answers the first byte behind the count, and how many bytes
-/// there are.
+/// What is done with the list.
+#[derive(Clone, Copy)]
+pub enum Form {
+    Write,
+    Read,
+}
+
+/// The list, and its bytes.
+#[derive(Drop)]
+pub struct FormBench<'a, T: Number, const N: usize> {
+    pub alloc: Global,
+    pub vec: ArrayVec<[T; N]>,
+    pub form: &'a mut Vec<u8>,
+}
+
+impl<T: Number + BorshSerialize + BorshDeserialize, const N: usize> Bench<Form>
+    for FormBench<'_, T, N> {
+    #[inline(always)]
+    fn round(&mut self, benchmark: Form, x: u64) -> u64 {
+        match benchmark {
+            Form::Write => borsh_write(&mut self.vec, self.form, x),
+            Form::Read => borsh_read(self.alloc, &mut self.vec, self.form, x),
+        }
+    }
+}
+
+// Writes the list, whose first item is made from `x`, and answers the first byte behind the count, and how many bytes
+// there are.
 #[inline(never)]
-pub fn borsh_write<T: Number + BorshSerialize, const N: usize>(
+fn borsh_write<T: Number + BorshSerialize, const N: usize>(
     vec: &mut ArrayVec<[T; N]>,
     form: &mut Vec<u8>,
     x: u64,
@@ -27,10 +54,10 @@ pub fn borsh_write<T: Number + BorshSerialize, const N: usize>(
     byte_behind_count(form).wrapping_add(form.len() as u64)
 }
 
-/// Reads the list from bytes, of which the one behind the count is made from `x`, and answers its first and last item and
-/// its length, added up.
+// Reads the list from bytes, of which the one behind the count is made from `x`, and answers its first and last item and
+// its length, added up.
 #[inline(never)]
-pub fn borsh_read<T: Number + BorshDeserialize, const N: usize>(
+fn borsh_read<T: Number + BorshDeserialize, const N: usize>(
     alloc: Global,
     vec: &mut ArrayVec<[T; N]>,
     form: &mut Vec<u8>,

@@ -1,10 +1,11 @@
 //! The same calls at many lengths, which tell how the time grows with them.
 ghost use Rattle.std.specs.Prelude.{◌*◌, ◌^◌, ◌<◌};
 
+use crate::arrays::ArrayBench;
 use crate::cutting;
 use crate::ends::push_all;
 use crate::filling::{extend_from_range, full};
-use crate::report::{Report, row};
+use crate::report::{Bench, Report};
 use crate::sources::counting;
 use crate::tiny::{cutting as tiny_cutting, spilling};
 use std::alloc::Global;
@@ -12,33 +13,83 @@ use std::io;
 use std::rt::Runtime;
 use tinyvec::TinyVec;
 
+/// What is done with a list of each length.
+#[derive(Clone, Copy)]
+enum Growth {
+    Push,
+    Extend,
+    /// So many numbers are put in.
+    Splice(u64),
+    Drain,
+    Retain,
+}
+
+impl<const N: usize> Bench<Growth> for ArrayBench<'_, u64, N> {
+    #[inline(always)]
+    fn round(&mut self, benchmark: Growth, x: u64) -> u64 {
+        let source = self.source;
+        match benchmark {
+            Growth::Push => push_all(&mut self.vec, x),
+            Growth::Extend => extend_from_range(&mut self.vec, x),
+            Growth::Splice(count) => cutting::splice(&mut self.vec, source, count, x),
+            Growth::Drain => cutting::drain_dropped(&mut self.vec, source, x),
+            Growth::Retain => cutting::retain_half(&mut self.vec, source, x),
+        }
+    }
+}
+
+// A list over four slots, and what it is filled with.
+#[derive(Drop)]
+struct ListBench<'a> {
+    alloc: Global,
+    vec: TinyVec<[u64; 4]>,
+    source: &'a [u64],
+}
+
+impl Bench<Growth> for ListBench<'_> {
+    #[inline(always)]
+    fn round(&mut self, benchmark: Growth, x: u64) -> u64 {
+        let count = self.source.len() as u64;
+        match benchmark {
+            Growth::Push => spilling::push(self.alloc, &self.vec, count, x),
+            Growth::Extend => spilling::extend_from_range(self.alloc, &self.vec, count, x),
+            Growth::Splice(count) => tiny_cutting::splice(&mut self.vec, self.source, count, x),
+            Growth::Drain => tiny_cutting::drain_dropped(&mut self.vec, self.source, x),
+            Growth::Retain => tiny_cutting::retain_half(&mut self.vec, self.source, x),
+        }
+    }
+}
+
+fn grown<R: Runtime, S: Bench<Growth>>(report: &mut Report<'_, R>, n: usize, list: &mut S) {
+    report.run("push", n, Growth::Push, list);
+    report.run("extend", n, Growth::Extend, list);
+    report.run("splice", n, Growth::Splice(n as u64 / 2), list);
+    report.run("drain", n, Growth::Drain, list);
+    report.run("retain", n, Growth::Retain, list);
+}
+
 /// A `TinyVec` over four slots of so many numbers.
 pub fn of_lists<R: Runtime>(report: &mut Report<'_, R>, alloc: Global, n: usize) -> io::Result<()> {
     let count = n as u64;
-    let mut source = TinyVec::<[u64; 4]>::new(alloc);
-    if source.extend(0..count).is_err() {
+    let mut items = TinyVec::<[u64; 4]>::new(alloc);
+    if items.extend(0..count).is_err() {
         return Err(io::Error::from(io::ErrorKind::OutOfMemory));
     }
-    let items = source.as_slice();
-    let mut vec = TinyVec::<[u64; 4]>::new(alloc);
-    row!(report; "push", n, |x| spilling::push(alloc, &vec, count, x));
-    row!(report; "extend", n, |x| spilling::extend_from_range(alloc, &vec, count, x));
-    row!(report; "splice", n, |x| tiny_cutting::splice(&mut vec, items, count / 2, x));
-    row!(report; "drain", n, |x| tiny_cutting::drain_dropped(&mut vec, items, x));
-    row!(report; "retain", n, |x| tiny_cutting::retain_half(&mut vec, items, x));
+    let vec = TinyVec::<[u64; 4]>::new(alloc);
+    let source = items.as_slice();
+    grown(report, n, &mut ListBench { alloc, vec, source });
     Ok(())
 }
 
 /// An `ArrayVec` of as many numbers as it has slots.
 pub fn of_arrays<R: Runtime, const N: usize>(report: &mut Report<'_, R>)
-    requires { N * 8 < 2 ^ 63 }
+    requires { N * 64 < 2 ^ 63 }
 {
     let source = counting::<N>();
-    let count = N as u64;
-    let mut vec = full(source);
-    row!(report; "push", N, |x| push_all(&mut vec, x));
-    row!(report; "extend", N, |x| extend_from_range(&mut vec, x));
-    row!(report; "splice", N, |x| cutting::splice(&mut vec, &source, count / 2, x));
-    row!(report; "drain", N, |x| cutting::drain_dropped(&mut vec, &source, x));
-    row!(report; "retain", N, |x| cutting::retain_half(&mut vec, &source, x));
+    let mut list = ArrayBench {
+        vec: full(source),
+        odd: full(source),
+        source: &source,
+    };
+    grown(report, N, &mut list);
 }

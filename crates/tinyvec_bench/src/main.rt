@@ -3,6 +3,7 @@
 //! same calls run at many lengths.
 #![tactic(auto)]
 
+mod arrays;
 mod comparing;
 mod cutting;
 mod edits;
@@ -11,6 +12,8 @@ mod filling;
 mod fnv;
 mod form;
 mod growth;
+mod lists;
+mod looks;
 mod number;
 mod printing;
 mod reading;
@@ -23,7 +26,7 @@ mod tiny;
 
 use crate::growth::{of_arrays, of_lists};
 use crate::report::Report;
-use crate::rows::{of_bytes, of_forms, of_slices, of_spilled_texts, of_texts, of_words};
+use crate::rows::{of_bytes, of_forms, of_slices, of_texts, of_words};
 use crate::tiny::place::Place;
 use crate::tiny::rows::{of_spilling, of_tiny};
 use std::alloc::Global;
@@ -93,12 +96,12 @@ fn run<R: Runtime>(report: &mut Report<'_, R>, alloc: Global) -> io::Result<()> 
     report.set_prefix("");
     of_forms::<R, 16>(report, alloc);
     of_forms::<R, 1024>(report, alloc);
-    of_texts(report, InlineText::<4>::new(alloc), alloc);
-    of_texts(report, InlineText::<16>::new(alloc), alloc);
-    of_texts(report, InlineText::<64>::new(alloc), alloc);
-    of_spilled_texts(report, InlineText::<2>::new(alloc), alloc, 4);
-    of_spilled_texts(report, InlineText::<8>::new(alloc), alloc, 16);
-    of_spilled_texts(report, InlineText::<32>::new(alloc), alloc, 64);
+    of_texts(report, InlineText::<4>::new(alloc), alloc, 4);
+    of_texts(report, InlineText::<16>::new(alloc), alloc, 16);
+    of_texts(report, InlineText::<64>::new(alloc), alloc, 64);
+    of_texts(report, InlineText::<2>::new(alloc), alloc, 4);
+    of_texts(report, InlineText::<8>::new(alloc), alloc, 16);
+    of_texts(report, InlineText::<32>::new(alloc), alloc, 64);
     Ok(())
 }
 

@@ -4,20 +4,12 @@ use std::io;
 use std::rt::Runtime;
 use std::time::Instant;
 
-/// Has a value computed so often as the row has rounds, each time with the number of the round, and prints the row's line.
-/// The loop stands where the row does, and needs no closure, whose calls would be proved for each row.
-macro_rules! row {
-    ($report:expr; $name:expr, $capacity:expr, |$x:ident| $answer:expr) => {{
-        let begun = $report.begin_rounds($capacity);
-        let mut sum: u64 = 0;
-        for $x in 0..begun.rounds {
-            sum = $crate::report::mixed(sum, $answer);
-        }
-        $report.end_rounds($name, $capacity, begun, sum);
-    }};
+/// What the rows of one kind work on. A row names its benchmark by a constant and both functions are inlined, so each round
+/// calls the benchmark's function. One loop serves all rows: a loop or a closure for each would be proved for each.
+pub trait Bench<B: Copy> {
+    /// Runs the benchmark once, with the number of the round.
+    fn round(&mut self, benchmark: B, x: u64) -> u64;
 }
-
-pub(crate) use row;
 
 /// How a row is run, and where its line goes. Where a line cannot be printed, none follows.
 #[derive(Drop)]
@@ -63,10 +55,27 @@ impl<'r, R: Runtime> Report<'r, R> {
         printed
     }
 
+    /// Has a benchmark run so often as the row has rounds, each time with the number of the round, and prints the row's line.
+    #[inline(always)]
+    pub fn run<B: Copy, S: Bench<B>>(
+        &mut self,
+        name: &str,
+        capacity: usize,
+        benchmark: B,
+        bench: &mut S,
+    ) {
+        let begun = self.begin_rounds(capacity);
+        let mut sum: u64 = 0;
+        for x in 0..begun.rounds {
+            sum = mixed(sum, bench.round(benchmark, x));
+        }
+        self.end_rounds(name, capacity, begun, sum);
+    }
+
     /// Begins a row. Where the time is taken, long lists have fewer rounds. It is not inlined, and neither is `end_rounds`,
     /// so that the instructions between the two can be counted.
     #[inline(never)]
-    pub fn begin_rounds(&mut self, capacity: usize) -> Begun {
+    fn begin_rounds(&mut self, capacity: usize) -> Begun {
         if !self.is_timed {
             return Begun {
                 rounds: self.rounds,
@@ -91,7 +100,7 @@ impl<'r, R: Runtime> Report<'r, R> {
 
     /// Ends the row, and prints its line.
     #[inline(never)]
-    pub fn end_rounds(&mut self, name: &str, capacity: usize, begun: Begun, sum: u64) {
+    fn end_rounds(&mut self, name: &str, capacity: usize, begun: Begun, sum: u64) {
         if self.printed.is_ok() {
             self.printed = self.print(name, capacity, begun, sum);
         }
@@ -108,11 +117,10 @@ impl<'r, R: Runtime> Report<'r, R> {
     }
 }
 
-/// A row that has begun.
+// A row that has begun, and how often it is run.
 #[derive(Clone, Copy)]
-pub struct Begun {
-    /// So often it is run.
-    pub rounds: u64,
+struct Begun {
+    rounds: u64,
     start: Option<Instant>,
 }
 
@@ -125,8 +133,8 @@ fn rounds_at(rounds: u64, capacity: usize) -> u64 {
     (rounds / share).saturating_add(1)
 }
 
-/// The answers of the rounds so far, and one more.
+// The answers of the rounds so far, and one more.
 #[inline(always)]
-pub fn mixed(sum: u64, answer: u64) -> u64 {
+fn mixed(sum: u64, answer: u64) -> u64 {
     sum.rotate_left(5) ^ answer
 }

@@ -1,7 +1,38 @@
 //! Vectors in a lent slice.
 
 use crate::reading::is_odd;
+use crate::report::Bench;
 use tinyvec_slice::SliceVec;
+
+/// What is done with the slice.
+#[derive(Clone, Copy)]
+pub enum SliceEdit {
+    Push,
+    Insert,
+    Remove,
+    Drain,
+    Retain,
+}
+
+/// The slots, and what they are filled with.
+#[derive(Drop)]
+pub struct SliceBench<'a> {
+    pub slots: &'a mut [u64],
+    pub source: &'a [u64],
+}
+
+impl Bench<SliceEdit> for SliceBench<'_> {
+    #[inline(always)]
+    fn round(&mut self, benchmark: SliceEdit, x: u64) -> u64 {
+        match benchmark {
+            SliceEdit::Push => slice_push(self.slots, x),
+            SliceEdit::Insert => slice_insert(self.slots, x),
+            SliceEdit::Remove => slice_remove(self.slots, x),
+            SliceEdit::Drain => slice_drain(self.slots, self.source, x),
+            SliceEdit::Retain => slice_retain(self.slots, self.source, x),
+        }
+    }
+}
 
 /// A full vector over the slots.
 pub fn full_slice(slots: &mut [u64]) -> SliceVec<'_, u64> {
@@ -9,9 +40,9 @@ pub fn full_slice(slots: &mut [u64]) -> SliceVec<'_, u64> {
     SliceVec::from_slice_len(slots, len)
 }
 
-/// Pushes until the slice is full.
+// Pushes until the slice is full.
 #[inline(never)]
-pub fn slice_push(slots: &mut [u64], x: u64) -> u64 {
+fn slice_push(slots: &mut [u64], x: u64) -> u64 {
     let mut vec = SliceVec::from_slice_len(slots, 0);
     let mut next = x;
     while !vec.is_full() {
@@ -21,9 +52,9 @@ pub fn slice_push(slots: &mut [u64], x: u64) -> u64 {
     vec.len() as u64
 }
 
-/// Pops an item, and inserts one in front.
+// Pops an item, and inserts one in front.
 #[inline(never)]
-pub fn slice_insert(slots: &mut [u64], x: u64) -> u64 {
+fn slice_insert(slots: &mut [u64], x: u64) -> u64 {
     let len = slots.len();
     let mut vec = SliceVec::from_slice_len(slots, len);
     let Some(last) = vec.pop() else {
@@ -35,9 +66,9 @@ pub fn slice_insert(slots: &mut [u64], x: u64) -> u64 {
     last
 }
 
-/// Removes the first item, and pushes one.
+// Removes the first item, and pushes one.
 #[inline(never)]
-pub fn slice_remove(slots: &mut [u64], x: u64) -> u64 {
+fn slice_remove(slots: &mut [u64], x: u64) -> u64 {
     let len = slots.len();
     let mut vec = SliceVec::from_slice_len(slots, len);
     if vec.is_empty() {
@@ -50,9 +81,9 @@ pub fn slice_remove(slots: &mut [u64], x: u64) -> u64 {
     first
 }
 
-/// Takes the middle half out, where the slots hold `source`.
+// Takes the middle half out, where the slots hold `source`.
 #[inline(never)]
-pub fn slice_drain(slots: &mut [u64], source: &[u64], x: u64) -> u64 {
+fn slice_drain(slots: &mut [u64], source: &[u64], x: u64) -> u64 {
     if slots.len() != source.len() {
         return 0;
     }
@@ -66,9 +97,9 @@ pub fn slice_drain(slots: &mut [u64], source: &[u64], x: u64) -> u64 {
     sum
 }
 
-/// Keeps the odd items, where the slots hold `source`.
+// Keeps the odd items, where the slots hold `source`.
 #[inline(never)]
-pub fn slice_retain(slots: &mut [u64], source: &[u64], x: u64) -> u64 {
+fn slice_retain(slots: &mut [u64], source: &[u64], x: u64) -> u64 {
     if slots.len() != source.len() {
         return 0;
     }

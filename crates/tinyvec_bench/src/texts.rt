@@ -1,11 +1,37 @@
 //! Short texts, which stay in their array or move to the heap.
 
+use crate::report::Bench;
 use std::alloc::Global;
 use tinyvec_text::InlineText;
 
-/// Makes a new text, to which `text` is added.
+/// How a text is added.
+#[derive(Clone, Copy)]
+pub enum TextPush {
+    Str,
+    Characters,
+}
+
+/// The text that is made, and the one that is added to it.
+#[derive(Drop)]
+pub struct TextBench<'a, const N: usize> {
+    pub alloc: Global,
+    pub made: InlineText<N>,
+    pub text: &'a str,
+}
+
+impl<const N: usize> Bench<TextPush> for TextBench<'_, N> {
+    #[inline(always)]
+    fn round(&mut self, benchmark: TextPush, x: u64) -> u64 {
+        match benchmark {
+            TextPush::Str => text_push_str(self.alloc, &mut self.made, self.text, x),
+            TextPush::Characters => text_push(self.alloc, &mut self.made, self.text, x),
+        }
+    }
+}
+
+// Makes a new text, to which `text` is added.
 #[inline(never)]
-pub fn text_push_str<const N: usize>(
+fn text_push_str<const N: usize>(
     alloc: Global,
     made: &mut InlineText<N>,
     text: &str,
@@ -18,14 +44,9 @@ pub fn text_push_str<const N: usize>(
     }
 }
 
-/// Makes a new text, to which the characters of `text` are added, one by one.
+// Makes a new text, to which the characters of `text` are added, one by one.
 #[inline(never)]
-pub fn text_push<const N: usize>(
-    alloc: Global,
-    made: &mut InlineText<N>,
-    text: &str,
-    x: u64,
-) -> u64 {
+fn text_push<const N: usize>(alloc: Global, made: &mut InlineText<N>, text: &str, x: u64) -> u64 {
     *made = InlineText::new(alloc);
     for character in text.chars() {
         match made.push(character) {

@@ -4,6 +4,7 @@ pub mod cutting;
 pub mod edits;
 pub mod ends;
 pub mod filling;
+pub mod lists;
 pub mod place;
 pub mod reading;
 pub mod rows;

@@ -1,7 +1,49 @@
 //! New lists that grow from the array to twice as many items as it has slots, and are dropped.
 
+use crate::report::Bench;
 use std::alloc::{AllocError, Global};
 use tinyvec::TinyVec;
+
+/// How a list grows.
+#[derive(Clone, Copy)]
+pub enum Spill {
+    Push,
+    ExtendFromSlice,
+    ExtendFromRange,
+    Append,
+    InsertFront,
+    InsertMiddle,
+    Resize,
+    SpliceMore,
+}
+
+/// What the lists are filled with, and one that is appended.
+#[derive(Drop)]
+pub struct SpillBench<'a, const N: usize> {
+    pub alloc: Global,
+    pub other: TinyVec<[u64; N]>,
+    pub source: &'a [u64; N],
+}
+
+impl<const N: usize> Bench<Spill> for SpillBench<'_, N> {
+    #[inline(always)]
+    fn round(&mut self, benchmark: Spill, x: u64) -> u64 {
+        let count = N as u64;
+        let twice = count.saturating_add(count);
+        match benchmark {
+            Spill::Push => push(self.alloc, &self.other, twice, x),
+            Spill::ExtendFromSlice => extend_from_slice(self.alloc, self.source, x),
+            Spill::ExtendFromRange => extend_from_range(self.alloc, &self.other, twice, x),
+            Spill::Append => append(self.alloc, &mut self.other, self.source, x),
+            Spill::InsertFront => insert(self.alloc, self.source, 0, x),
+            Spill::InsertMiddle => insert(self.alloc, self.source, N / 2, x),
+            Spill::Resize => resize(self.alloc, self.source, N.saturating_add(N), x),
+            Spill::SpliceMore => {
+                splice_more(self.alloc, self.source, count.saturating_add(count / 4), x)
+            }
+        }
+    }
+}
 
 /// Pushes `count` numbers to a list over as many slots as `_like`.
 #[inline(never)]
@@ -15,9 +57,9 @@ pub fn push<const N: usize>(alloc: Global, _like: &TinyVec<[u64; N]>, count: u64
     look_at(vec.as_slice(), x)
 }
 
-/// Puts a number in at `i`, where the array is full.
+// Puts a number in at `i`, where the array is full.
 #[inline(never)]
-pub fn insert<const N: usize>(alloc: Global, source: &[u64; N], i: usize, x: u64) -> u64 {
+fn insert<const N: usize>(alloc: Global, source: &[u64; N], i: usize, x: u64) -> u64 {
     let Ok(mut vec) = filled(alloc, source) else {
         return 0;
     };
@@ -27,9 +69,9 @@ pub fn insert<const N: usize>(alloc: Global, source: &[u64; N], i: usize, x: u64
     look_at(vec.as_slice(), x)
 }
 
-/// Adds `source` twice, each time by one copy.
+// Adds `source` twice, each time by one copy.
 #[inline(never)]
-pub fn extend_from_slice<const N: usize>(alloc: Global, source: &[u64; N], x: u64) -> u64 {
+fn extend_from_slice<const N: usize>(alloc: Global, source: &[u64; N], x: u64) -> u64 {
     let Ok(mut vec) = filled(alloc, source) else {
         return 0;
     };
@@ -55,9 +97,9 @@ pub fn extend_from_range<const N: usize>(
     }
 }
 
-/// Moves a list of as many items behind a full one.
+// Moves a list of as many items behind a full one.
 #[inline(never)]
-pub fn append<const N: usize>(
+fn append<const N: usize>(
     alloc: Global,
     other: &mut TinyVec<[u64; N]>,
     source: &[u64; N],
@@ -72,9 +114,9 @@ pub fn append<const N: usize>(
     look_at(vec.as_slice(), x)
 }
 
-/// Makes a full list as long as `len`.
+// Makes a full list as long as `len`.
 #[inline(never)]
-pub fn resize<const N: usize>(alloc: Global, source: &[u64; N], len: usize, x: u64) -> u64 {
+fn resize<const N: usize>(alloc: Global, source: &[u64; N], len: usize, x: u64) -> u64 {
     let Ok(mut vec) = filled(alloc, source) else {
         return 0;
     };
@@ -84,9 +126,9 @@ pub fn resize<const N: usize>(alloc: Global, source: &[u64; N], len: usize, x: u
     look_at(vec.as_slice(), x)
 }
 
-/// Puts `count` numbers in the place of the second quarter of a full list.
+// Puts `count` numbers in the place of the second quarter of a full list.
 #[inline(never)]
-pub fn splice_more<const N: usize>(alloc: Global, source: &[u64; N], count: u64, x: u64) -> u64 {
+fn splice_more<const N: usize>(alloc: Global, source: &[u64; N], count: u64, x: u64) -> u64 {
     let Ok(mut vec) = filled(alloc, source) else {
         return 0;
     };
