@@ -68,13 +68,12 @@ pub fn of_bytes<R: Runtime, const N: usize>(report: &mut Report<'_, R>)
 
 /// The benchmarks of a vector in a lent slice of `u64`.
 pub fn of_slices<R: Runtime, const N: usize>(report: &mut Report<'_, R>)
-    requires { N * 8 < 2 ^ 63 }
+    requires { N * 64 < 2 ^ 63 }
 {
     let source = scattered::<u64, N>();
     let runs = pairs::<N>();
-    let mut slots = source;
     let mut slice = SliceBench {
-        slots: &mut slots,
+        slots: source,
         source: &source,
     };
     report.run("slice_push", N, SliceEdit::Push, &mut slice);

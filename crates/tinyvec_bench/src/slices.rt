@@ -16,20 +16,21 @@ pub enum SliceEdit {
 
 /// The slots, and what they are filled with.
 #[derive(Drop)]
-pub struct SliceBench<'a> {
-    pub slots: &'a mut [u64],
-    pub source: &'a [u64],
+pub struct SliceBench<'a, const N: usize> {
+    pub slots: [u64; N],
+    pub source: &'a [u64; N],
 }
 
-impl Bench<SliceEdit> for SliceBench<'_> {
+impl<const N: usize> Bench<SliceEdit> for SliceBench<'_, N> {
     #[inline(always)]
     fn round(&mut self, benchmark: SliceEdit, x: u64) -> u64 {
+        let source = self.source;
         match benchmark {
-            SliceEdit::Push => slice_push(self.slots, x),
-            SliceEdit::Insert => slice_insert(self.slots, x),
-            SliceEdit::Remove => slice_remove(self.slots, x),
-            SliceEdit::Drain => slice_drain(self.slots, self.source, x),
-            SliceEdit::Retain => slice_retain(self.slots, self.source, x),
+            SliceEdit::Push => slice_push(&mut self.slots, x),
+            SliceEdit::Insert => slice_insert(&mut self.slots, x),
+            SliceEdit::Remove => slice_remove(&mut self.slots, x),
+            SliceEdit::Drain => slice_drain(&mut self.slots, source, x),
+            SliceEdit::Retain => slice_retain(&mut self.slots, source, x),
         }
     }
 }
