@@ -50,17 +50,21 @@ fn places_do_not_count(rt: HostRuntime) -> Result<(), Fail> {
     Ok(())
 }
 
+// Two texts, and how the first stands to the second.
+const ORDERED: [(&str, &str, Ordering); 3] = [
+    ("", "a", Ordering::Less),
+    ("ab", "a", Ordering::Greater),
+    ("zz", "é", Ordering::Less),
+];
+
 #[test]
 fn in_the_order_of_their_bytes(rt: HostRuntime) -> Result<(), Fail> {
     for (first, second) in PLACES {
-        let none = text(rt.alloc(), "", first)?;
-        let low = text(rt.alloc(), "a", second)?;
-        assert!(rt; stand_so(&none, &low, Ordering::Less));
-        let longer = text(rt.alloc(), "ab", first)?;
-        assert!(rt; stand_so(&longer, &low, Ordering::Greater));
-        let wide = text(rt.alloc(), "é", second)?;
-        let ascii = text(rt.alloc(), "zz", first)?;
-        assert!(rt; stand_so(&ascii, &wide, Ordering::Less));
+        for (s, other, order) in ORDERED {
+            let t = text(rt.alloc(), s, first)?;
+            let u = text(rt.alloc(), other, second)?;
+            assert!(rt; stand_so(&t, &u, order), "{s} and {other}");
+        }
     }
     Ok(())
 }
