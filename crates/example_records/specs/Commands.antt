@@ -13,9 +13,13 @@ word_of text = before_first (λ byte. eqb byte 32) text
 abbrev pub rest_of : List ℕ → List ℕ
 rest_of text = after_first (λ byte. eqb byte 32) text
 
+-- the command reads, the stream or a copy of it
+abbrev pub IsReading : List ℕ → Type 0
+IsReading word = (word ≡ codes "read") ⊎ (word ≡ codes "copy")
+
 -- there is such a command
 abbrev pub IsCommand : List ℕ → Type 0
-IsCommand word = (word ≡ codes "add") ⊎ ((word ≡ codes "hex") ⊎ ((word ≡ codes "cut") ⊎ (word ≡ codes "read")))
+IsCommand word = (word ≡ codes "add") ⊎ ((word ≡ codes "hex") ⊎ ((word ≡ codes "cut") ⊎ IsReading word))
 
 -- the text spells the number in decimal: perhaps a plus, and then digits
 pub record IsDecimal (text : List ℕ) (number : ℕ) : Type 0 where

@@ -1,12 +1,12 @@
 //! The commands of the program.
 ghost use Rattle.std.specs.Prelude.{◌≡◌, ◌≤◌, ◌↔◌, ◌++◌, ℕ, List, Err, codes, length};
 ghost use Rattle.std.specs.Prelude.{IfErr, IfOk, IsOk, IsSome, OnErr, OnOk};
-ghost use Rattle.example_records.specs.Commands.{IsAppended, IsCommand, IsCutTo, IsDecimal, rest_of, word_of};
+ghost use Rattle.example_records.specs.Commands.{IsAppended, IsCommand, IsCutTo, IsDecimal, IsReading, rest_of, word_of};
 ghost use Rattle.example_records.specs.declared.command.CommandError.TheVariants.{Hex, Length, Samples, Unknown};
 
 use crate::length::stream_len;
 use crate::reading::Reading;
-use crate::stream::{Recovered, append_to, read_all};
+use crate::stream::{Recovered, append_to, copied, read_all};
 use std::alloc::{AllocError, Global};
 use thiserror::Error;
 use tinyvec::{ArrayVec, TinyVec};
@@ -16,7 +16,7 @@ use tinyvec_io::Counted;
 #[derive(Debug, Clone, Copy, PartialEq, Eq, Error)]
 pub enum CommandError {
     /// There is no such command.
-    #[error("no command: add, hex, cut and read are")]
+    #[error("no command: add, hex, cut, read and copy are")]
     Unknown,
     /// The station is no number that fits a `u32`.
     #[error("no station")]
@@ -35,7 +35,7 @@ pub enum CommandError {
     Memory(#[from(alloc)] AllocError),
 }
 
-/// Carries out the command on a line. Answers what was read where the command is to read.
+/// Carries out the command on a line. Answers what was read where the command is to read the stream or a copy of it.
 pub fn run(
     alloc: Global,
     line: &str,
@@ -43,7 +43,7 @@ pub fn run(
 ) -> Result<Option<Recovered>, CommandError>
     ensures refused { OnErr result (stream.new.items ≡ stream.old.items) }
     ensures read { IfOk result (λ answer. IsSome answer → stream.new.items ≡ stream.old.items) }
-    ensures reads { IfOk result (λ answer. IsSome answer ↔ (word_of line.now ≡ codes "read")) }
+    ensures reads { IfOk result (λ answer. IsSome answer ↔ IsReading (word_of line.now)) }
     ensures unknown { (IsCommand (word_of line.now) → ⊥) → result ≡ Err Unknown }
 
     // What each command does to the stream, and when it is refused.
@@ -65,6 +65,7 @@ pub fn run(
             let mut reader = Counted::new(stream.as_slice());
             return Ok(Some(read_all(alloc, &mut reader)));
         }
+        "copy" => return Ok(Some(copy(alloc, stream.as_slice())?)),
         _ => return Err(CommandError::Unknown),
     }
     Ok(None)
@@ -173,6 +174,16 @@ fn cut(text: &str, stream: &mut Vec<u8>) -> Result<(), CommandError>
             Ok(())
         }
         _ => Err(CommandError::Length),
+    }
+}
+
+// What is read of a new stream to which the records at the front of this one were appended.
+fn copy(alloc: Global, stream: &[u8]) -> Result<Recovered, CommandError> {
+    let recovered = read_all(alloc, &mut Counted::new(stream));
+    match copied(alloc, recovered.records.as_slice()) {
+        Ok(copy) => Ok(copy),
+        // The new stream is in memory, so only a refusal of memory is a fault.
+        Err(_) => Err(CommandError::Memory(AllocError)),
     }
 }
 
