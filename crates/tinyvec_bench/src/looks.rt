@@ -16,6 +16,7 @@ pub enum Look {
     DebugPrint,
 }
 
+/// A vector, the one that it is compared to, and where it is printed.
 #[derive(Drop)]
 pub struct LookBench<'v, 't, V> {
     pub vec: &'v V,

@@ -55,7 +55,7 @@ impl<'r, R: Runtime> Report<'r, R> {
         printed
     }
 
-    /// Has a benchmark run so often as the row has rounds, each time with the number of the round, and prints the row's line.
+    /// Runs a benchmark as often as the row has rounds, with the number of each, and prints the row's line.
     #[inline(always)]
     pub fn run<B: Copy, S: Bench<B>>(
         &mut self,
