@@ -1,12 +1,15 @@
 //! Items, iterators and assertions that tests of several vectors need.
 #![tactic(auto)]
 
+pub mod arrays;
 mod asserting;
 mod cloned;
 mod counting;
+mod steps;
 mod unhinted;
 
 pub use asserting::{debugs, same_items, same_value, shows};
 pub use cloned::{Item, Limited};
 pub use counting::counted;
+pub use steps::{first, is_left, yields, yields_back};
 pub use unhinted::Unhinted;

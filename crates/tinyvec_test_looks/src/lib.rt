@@ -24,3 +24,61 @@ where
         TinyVec::Heap(_) => false,
     }
 }
+
+/// Whether an item is pushed, and leaves this.
+pub fn pushes<A: Array>(v: &mut TinyVec<A>, item: A::Item, items: &[A::Item], inline: bool) -> bool
+where
+    A::Item: PartialEq,
+{
+    v.push(item).is_ok() & lies(v, items, inline)
+}
+
+/// Whether the last item, or none, is taken out and leaves this.
+pub fn pops<A: Array>(
+    v: &mut TinyVec<A>,
+    item: Option<A::Item>,
+    items: &[A::Item],
+    inline: bool,
+) -> bool
+where
+    A::Item: PartialEq,
+{
+    (v.pop() == item) & lies(v, items, inline)
+}
+
+/// Whether an item is put in at an index of the list, and leaves this.
+pub fn inserts<A: Array>(
+    v: &mut TinyVec<A>,
+    index: usize,
+    item: A::Item,
+    items: &[A::Item],
+    inline: bool,
+) -> bool
+where
+    A::Item: PartialEq,
+{
+    index <= v.len() && v.insert(index, item).is_ok() & lies(v, items, inline)
+}
+
+/// Whether the item at an index of the list is this one, and its removal leaves this.
+pub fn removes<A: Array>(
+    v: &mut TinyVec<A>,
+    index: usize,
+    item: A::Item,
+    items: &[A::Item],
+    inline: bool,
+) -> bool
+where
+    A::Item: PartialEq,
+{
+    index < v.len() && (v.remove(index) == item) & lies(v, items, inline)
+}
+
+/// Whether a cut to this length leaves this.
+pub fn truncates<A: Array>(v: &mut TinyVec<A>, len: usize, items: &[A::Item], inline: bool) -> bool
+where
+    A::Item: PartialEq,
+{
+    v.truncate(len);
+    lies(v, items, inline)
+}
