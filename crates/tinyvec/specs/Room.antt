@@ -1,5 +1,5 @@
 -- Calls for room, and moves to the heap. A call and its `try_` form have one word.
-use Rattle.std.specs.Prelude.{◌≡◌, ℕ, ◌+◌, ◌*◌, ◌<◌, ◌≤◌, max, false, Result, IsOk, OnOk, OnErr}
+use Rattle.std.specs.Prelude.{◌≡◌, ℕ, ◌+◌, ◌*◌, ◌<◌, ◌≤◌, if◌then◌else◌, max, false, Result, IsOk, OnOk, OnErr}
 use Rattle.tinyvec.specs.Tiny.{tiny_items, tiny_len, is_inline, tiny_capacity, IsInline, PlaceRule, TinySlotRule, Unchanged}
 use Rattle.tinyvec.specs.declared.tiny_vec.TinyVec.{TinyVec}
 
@@ -8,14 +8,22 @@ module _ {A T : Type 0} where
   abbrev pub KeepsRoom : ℕ → ℕ → TinyVec A T → TinyVec A T → Type 0
   KeepsRoom slots need old new = need ≤ tiny_capacity slots old → tiny_capacity slots new ≡ tiny_capacity slots old
 
-  -- a full inline list moved to where there is room for twice as many items, and for one at least
-  abbrev pub MovesForTwice : ℕ → TinyVec A T → TinyVec A T → Type 0
-  MovesForTwice slots old new = IsInline old → tiny_len old ≡ slots
-      → max (2 * tiny_len old) (tiny_len old + 1) ≤ tiny_capacity slots new
+  -- a full list, wherever it lies, got twice the room that it had, and room for one item at least
+  abbrev pub Doubles : ℕ → TinyVec A T → TinyVec A T → Type 0
+  Doubles slots old new = tiny_len old ≡ tiny_capacity slots old
+      → tiny_capacity slots new ≡ max (2 * tiny_capacity slots old) (tiny_len old + 1)
+
+  -- where there was less room than `need`, a list that moves got room for just so many, and one on the heap got `room`
+  abbrev pub GrowsTo : ℕ → ℕ → ℕ → TinyVec A T → TinyVec A T → Type 0
+  GrowsTo slots need room old new = tiny_capacity slots old < need → tiny_capacity slots new ≡ (if is_inline old then need else room)
+
+  -- the same, and one on the heap got twice the room that it had, or `need` where that is more
+  abbrev pub GrowsFor : ℕ → ℕ → TinyVec A T → TinyVec A T → Type 0
+  GrowsFor slots need old new = GrowsTo slots need (max (2 * tiny_capacity slots old) need) old new
 
 module _ {A T X E : Type 0} where
-  -- a call for room for n more items took `old` to `new`, and was answered so
-  pub record Reserves (D : T → Type 0) (slots n : ℕ) (old new : TinyVec A T) (result : Result X E) : Type 0 where
+  -- a call for room for n more items took `old` to `new`, and was answered so; a list on the heap that grows gets `heap` as its room
+  pub record Reserves (D : T → Type 0) (slots n heap : ℕ) (old new : TinyVec A T) (result : Result X E) : Type 0 where
     pub items : tiny_items new ≡ tiny_items old
     pub place : OnOk result (PlaceRule slots (tiny_len old + n) old new)
     pub slot_rule : TinySlotRule D old new
@@ -23,8 +31,7 @@ module _ {A T X E : Type 0} where
     pub room : OnOk result (tiny_len old + n ≤ tiny_capacity slots new)
     pub capacity : tiny_capacity slots old ≤ tiny_capacity slots new
     pub fits : tiny_len new ≤ tiny_capacity slots new
-    -- a list that moves has room for no further items there
-    pub moved : IsInline old → is_inline new ≡ false → tiny_capacity slots new ≡ tiny_len old + n
+    pub grown : OnOk result (GrowsTo slots (tiny_len old + n) heap old new)
     -- where there is room no memory is asked for, and nothing changes; neither does it by a refusal
     pub kept : tiny_len old + n ≤ tiny_capacity slots old → new ≡ old
     pub succeeds : tiny_len old + n ≤ tiny_capacity slots old → IsOk result

@@ -1,6 +1,7 @@
 -- What is seen of a `TinyVec`, from what its calls tell.
 use Rattle.std.proofs.Common.{◌≡◌, ℕ, ◌<◌, ◌≤◌, List, [], length, Vec, Global, refl, rules, arith}
 use Rattle.tinyvec.specs.Tiny.{tiny_items, tiny_len, tiny_spare, tiny_capacity, is_inline, IsInline, PlaceRule, TinySlotRule, Unchanged}
+use Rattle.tinyvec.specs.Room.{KeepsRoom}
 use Rattle.tinyvec.specs.declared.tiny_vec.TinyVec.{TinyVec}
 use Rattle.tinyvec.specs.declared.tiny_vec.TinyVec.TheVariants.{Inline, Heap}
 use Rattle.tinyvec_script.specs.Driving.{TinySplices}
@@ -44,11 +45,11 @@ module _ {A T : Type 0} where
 
   -- the three rules, as they are seen
   pub ruled : (D : T → Type 0) (slots need : ℕ) (old new : TinyVec A T) → PlaceRule slots need old new → TinySlotRule D old new
-      → tiny_capacity slots old ≤ tiny_capacity slots new → Ruled D slots need (tiny_of old) (tiny_of new)
-  ruled D slots need (Inline v a) (Inline w b) place slot keeps = record { place_rule = place; slot_rule = λ i j. slot; keeps_room = keeps }
-  ruled D slots need (Inline v a) (Heap w) place slot keeps = record { place_rule = place; slot_rule = λ i j. search rules; keeps_room = keeps }
-  ruled D slots need (Heap v) (Inline w b) place slot keeps = record { place_rule = place; slot_rule = λ i j. search rules; keeps_room = keeps }
-  ruled D slots need (Heap v) (Heap w) place slot keeps = record { place_rule = place; slot_rule = λ i j. search rules; keeps_room = keeps }
+      → tiny_capacity slots old ≤ tiny_capacity slots new → KeepsRoom slots need old new → Ruled D slots need (tiny_of old) (tiny_of new)
+  ruled D slots need (Inline v a) (Inline w b) place slot keeps same = record { place_rule = place; slot_rule = λ i j. slot; keeps_room = keeps; same_room = same }
+  ruled D slots need (Inline v a) (Heap w) place slot keeps same = record { place_rule = place; slot_rule = λ i j. search rules; keeps_room = keeps; same_room = same }
+  ruled D slots need (Heap v) (Inline w b) place slot keeps same = record { place_rule = place; slot_rule = λ i j. search rules; keeps_room = keeps; same_room = same }
+  ruled D slots need (Heap v) (Heap w) place slot keeps same = record { place_rule = place; slot_rule = λ i j. search rules; keeps_room = keeps; same_room = same }
 
   -- an answer is a step where the list fits
   pub tiny_steps : (D : T → Type 0) (slots : ℕ) (old new : TinyVec A T) (call : Call T) (answer : Answer T)
@@ -61,8 +62,7 @@ module _ {A T : Type 0} where
       → TinySplices D slots old start end word replacement yields rest new → Spliced D slots (tiny_of old) start end word replacement yields rest (tiny_of new)
   tiny_spliced D slots start end word replacement yields rest old new h = record {
     list = rw (place_of-room slots new) h.list;
-    rules = ruled D slots (tiny_len new) old new h.place h.slot_rule h.capacity;
-    same_room = rw (place_of-room slots old, place_of-room slots new) h.same_room;
+    rules = ruled D slots (tiny_len new) old new h.place h.slot_rule h.capacity h.same_room;
   }
 
   -- and answered
@@ -76,6 +76,6 @@ module _ {A T : Type 0} where
       let seen = tiny_spliced D slots start end word.items replacement.items yields.items rest.items old new h in
       driven_answered (λ a. TinyAnswers D slots (tiny_of old) (Splice start end word replacement) a (tiny_of new)) yields rest answer all some
       (λ none. let fits = splice_fits capacity (tiny_items old) (tiny_items new) start end word.items replacement.items yields.items rest.items in_order in_list h.list none in
-      ((in_order, in_list), (rw (place_of-room slots new) fits.0, record { list = rw (place_of-room slots new) fits.1; rules = seen.rules; same_room = seen.same_room })))
+      ((in_order, in_list), (rw (place_of-room slots new) fits.0, record { list = rw (place_of-room slots new) fits.1; rules = seen.rules })))
       (λ more. let over = splice_overflows capacity (tiny_items old) (tiny_items new) start end word.items replacement.items yields.items rest.items in_order in_list h.list more in
       ((in_order, in_list), (rw (place_of-room slots new) over, h.no_shorter over, seen)))

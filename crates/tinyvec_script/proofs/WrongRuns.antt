@@ -1,12 +1,12 @@
 -- Runs that no `TinyVec` makes, and none of the script's text.
-use Rattle.std.proofs.Common.{◌≡◌, ℕ, ◌+◌, ◌≤◌, List, [], ◌∷◌, length, length-append, ap, ◌∙◌, arith}
+use Rattle.std.proofs.Common.{◌≡◌, ℕ, ◌+◌, ◌<◌, ◌≤◌, List, [], ◌∷◌, length, length-append, ap, ◌∙◌, arith}
 use Rattle.tinyvec_text.specs.Text.{Text, text_len}
 use Rattle.tinyvec_script.specs.Step.{Run}
-use Rattle.tinyvec_script.specs.Place.{Tiny, count}
+use Rattle.tinyvec_script.specs.Place.{Tiny, count, room}
 use Rattle.tinyvec_script.specs.TinyCalls.{TinyStep}
 use Rattle.tinyvec_script.specs.TextCalls.{add, cut, TextStep}
 use Rattle.tinyvec_script.specs.declared.call.Call.{Call}
-use Rattle.tinyvec_script.specs.declared.call.Call.TheVariants.{Push, Pop}
+use Rattle.tinyvec_script.specs.declared.call.Call.TheVariants.{Push, Pop, Reserve}
 use Rattle.tinyvec_script.specs.declared.call.Answer.{Answer}
 use Rattle.tinyvec_script.specs.declared.call.Answer.TheVariants as answers
 
@@ -23,6 +23,27 @@ module _ {T : Type 0} (D : T → Type 0) (slots : ℕ) where
       let refused = run.2.2.1 in
       let longer : count first ≡ count second + 1 = ap length popped.answered.0 ∙ length-append second.items (y ∷ []) in
       omega (arith, begun.fits, popped.answered.1.keeps_room, refused.answered.0)
+
+  -- A full list of two items or more gets twice its room by a push, wherever it lies, so a push that follows is not refused.
+  pub memory_after_a_growth : (x y : T) (calls : List (Call T)) (more : List (Answer T)) (old new : Tiny T)
+      → count old ≡ room slots old.place → 1 < count old
+      → Run (TinyStep D slots) old (Push x ∷ Push y ∷ calls) (answers.Done ∷ answers.Memory ∷ more) new → ⊥
+  memory_after_a_growth x y calls more old new full some run =
+      let begun = run.1.answered in
+      let refused = run.2.1.answered in
+      let longer : count run.0 ≡ count old + 1 = ap length begun.0 ∙ length-append old.items (x ∷ []) in
+      omega (arith, longer, begun.2 full, refused.0, full, some)
+
+  -- What `Reserve` made room for is not refused, and a push with room keeps it.
+  pub memory_after_a_reserve : (n : ℕ) (x y : T) (calls : List (Call T)) (more : List (Answer T)) (old new : Tiny T) → 2 ≤ n
+      → Run (TinyStep D slots) old (Reserve n ∷ Push x ∷ Push y ∷ calls) (answers.Done ∷ answers.Done ∷ answers.Memory ∷ more) new → ⊥
+  memory_after_a_reserve n x y calls more old new some run =
+      let reserved = run.1.answered in
+      let begun = run.2.1.answered in
+      let refused = run.2.2.1.answered in
+      let same : count run.0 ≡ count old = ap length reserved.0 in
+      let longer : count run.2.0 ≡ count run.0 + 1 = ap length begun.0 ∙ length-append run.0.items (x ∷ []) in
+      omega (arith, same, longer, reserved.1, begun.1.same_room, refused.0, some)
 
 -- Where a text was appended there is room for all of it, and a cut keeps that room: what is no longer than what was cut off is
 -- not refused afterwards.

@@ -1,5 +1,5 @@
 -- What a run sees of a `TinyVec`: its list, the spare slots behind it, and where it lies.
-use Rattle.std.specs.Prelude.{◌≡◌, ℕ, ◌-◌, ◌≤◌, List, ◌++◌, length, drop, Bool, true, false, IsTrue, ◌↔◌, vec_capacity}
+use Rattle.std.specs.Prelude.{◌≡◌, ℕ, ◌+◌, ◌-◌, ◌*◌, ◌<◌, ◌≤◌, max, List, ◌++◌, length, drop, Bool, true, false, IsTrue, if◌then◌else◌, ◌↔◌, vec_capacity}
 use Rattle.tinyvec_slots.specs.Slots.{AreDefaults}
 use Rattle.tinyvec.specs.Tiny.{tiny_items, tiny_spare}
 use Rattle.tinyvec.specs.declared.tiny_vec.TinyVec.{TinyVec}
@@ -49,5 +49,17 @@ module _ {T : Type 0} (D : T → Type 0) (slots : ℕ) where
     -- slots that the list gave up hold defaults, and it used up those that it grew into
     pub slot_rule : Inline old → Inline new → (ds : List T) × AreDefaults D (count old - count new) ds
         × (new.spare ≡ ds ++ drop (count new - count old) old.spare)
-    -- there is no less room
+    -- there is no less room, and where there was enough there is just as much
     pub keeps_room : room slots old.place ≤ room slots new.place
+    pub same_room : need ≤ room slots old.place → room slots new.place ≡ room slots old.place
+
+module _ {T : Type 0} (slots : ℕ) where
+  -- A list that was full got twice the room that it had, and room for one item at least.
+  abbrev pub Doubled : Tiny T → Tiny T → Type 0
+  Doubled old new = count old ≡ room slots old.place → room slots new.place ≡ max (2 * room slots old.place) (count old + 1)
+
+  -- Where there was less room than `need`, a list that moves got room for just so many, and one on the heap twice the room
+  -- that it had, or `need` where that is more.
+  abbrev pub Grown : ℕ → Tiny T → Tiny T → Type 0
+  Grown need old new = room slots old.place < need
+      → room slots new.place ≡ (if lies_inline old.place then need else max (2 * room slots old.place) need)

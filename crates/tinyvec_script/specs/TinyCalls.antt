@@ -4,7 +4,7 @@ use Rattle.std.specs.List.{swap_remove}
 use Rattle.std.specs.declared.ops.Bound.TheVariants.{Included, Excluded}
 use Rattle.tinyvec_slots.specs.Slots.{AreDefaults}
 use Rattle.tinyvec_slots.specs.Cut.{IsRangeOf, before, removed, after}
-use Rattle.tinyvec_script.specs.Place.{Tiny, count, Inline, lies_inline, room, Ruled}
+use Rattle.tinyvec_script.specs.Place.{Tiny, count, Inline, lies_inline, room, Ruled, Doubled, Grown}
 use Rattle.tinyvec_script.specs.Driving.{ListSplices}
 use Rattle.tinyvec_script.specs.declared.call.End.{End}
 use Rattle.tinyvec_script.specs.declared.call.Call.{Call}
@@ -19,10 +19,11 @@ module _ {T : Type 0} (D : T → Type 0) (slots : ℕ) where
     pub items_are : new.items ≡ before old.items (Included start) ++ after old.items (Excluded end)
     pub rules : Ruled D slots 0 old new
 
-  -- A move to the heap left the list there. A list that lay there stays as it is.
+  -- A move to the heap left the list there, with room for no more. A list that lay there stays as it is.
   pub record Moved (old new : Tiny T) : Type 0 where
     pub items_are : new.items ≡ old.items
     pub place_is : lies_inline new.place ≡ false
+    pub room_is : Inline old → room slots new.place ≡ count old
     pub kept : lies_inline old.place ≡ false → new ≡ old
 
   -- A move back left the list in the array where it fits, with defaults behind it. An inline list stays as it is.
@@ -31,13 +32,12 @@ module _ {T : Type 0} (D : T → Type 0) (slots : ℕ) where
     pub place_is : Inline new ↔ (count old ≤ slots)
     pub kept : Inline old → new ≡ old
     pub spare_are : lies_inline old.place ≡ false → Inline new → AreDefaults D (slots - count old) new.spare
+    pub no_more_room : lies_inline new.place ≡ false → room slots new.place ≤ room slots old.place
 
-  -- The items from start up to end were replaced, as far as there is room where the list lies then. Where the old room
-  -- holds the list, the room is the same.
+  -- The items from start up to end were replaced, as far as there is room where the list lies then.
   pub record Spliced (old : Tiny T) (start end : ℕ) (word : List End) (replacement yields rest : List T) (new : Tiny T) : Type 0 where
     pub list : ListSplices (room slots new.place) old.items start end word replacement yields rest new.items
     pub rules : Ruled D slots (count new) old new
-    pub same_room : count new ≤ room slots old.place → room slots new.place ≡ room slots old.place
 
   -- How a splice of a range that is in the list is answered: by what was taken, and by what found no room if there is such.
   -- Then the list is full, and no shorter.
@@ -56,11 +56,12 @@ module _ {T : Type 0} (D : T → Type 0) (slots : ℕ) where
   -- takes, or a splice, or for those that a splice may give back.
   abbrev pub TinyAnswers : Tiny T → Call T → Answer T → Tiny T → Type 0
   TinyAnswers old (Push x) answers.Done new = (new.items ≡ old.items ++ x ∷ []) × Ruled D slots (count old + 1) old new
+      × Doubled slots old new
   TinyAnswers old (Push x) answers.Memory new = (count old ≡ room slots old.place) × (new ≡ old)
   TinyAnswers old Pop (answers.Some x) new = (old.items ≡ new.items ++ x ∷ []) × Ruled D slots 0 old new
   TinyAnswers old Pop answers.None new = (old.items ≡ []) × (new ≡ old)
   TinyAnswers old (Insert i x) answers.Done new = (i ≤ count old) × (new.items ≡ insert old.items i x)
-      × Ruled D slots (count old + 1) old new
+      × Ruled D slots (count old + 1) old new × Doubled slots old new
   TinyAnswers old (Insert i x) answers.Range new = (count old < i) × (new ≡ old)
   TinyAnswers old (Insert i x) answers.Memory new = (i ≤ count old) × (count old ≡ room slots old.place) × (new ≡ old)
   TinyAnswers old (Remove i) (answers.Some x) new = (slice_get old.items i ≡ Some x)
@@ -81,7 +82,7 @@ module _ {T : Type 0} (D : T → Type 0) (slots : ℕ) where
   TinyAnswers old (Splice start end word replacement) answer new = IsRangeOf old.items (Included start) (Excluded end)
       × TinySpliceAnswers old start end word.items replacement.items answer new
   TinyAnswers old (Reserve n) answers.Done new = (new.items ≡ old.items) × (count old + n ≤ room slots new.place)
-      × Ruled D slots (count old + n) old new
+      × Ruled D slots (count old + n) old new × Grown slots (count old + n) old new
   TinyAnswers old (Reserve n) answers.Memory new = (room slots old.place < count old + n) × (new ≡ old)
   TinyAnswers old Heap answers.Done new = Moved old new
   TinyAnswers old Heap answers.Memory new = Inline old × (new ≡ old)

@@ -45,7 +45,7 @@ impl<A: Array> TinyVec<A> {
     }
 
     /// Cuts the list at `at`, and gives what stood from there on, in the same place. An inline list takes no memory.
-    /// One on the heap asks for room for what stood from there on.
+    /// One on the heap asks for room for what stood from there on, if anything did.
     pub fn split_off(&mut self, at: usize) -> Result<Self, AllocError>
         requires { at ≤ tiny_len self.old }
         ensures items { OnOk result (tiny_items self.new ≡ take at (tiny_items self.old)) }
@@ -59,6 +59,7 @@ impl<A: Array> TinyVec<A> {
             → AreDefaults A.Item.is_default (A.CAPACITY - (tiny_len self.old - at)) (tiny_spare v)) }
         ensures tail_fits { IfOk result (λ v. tiny_len v ≤ tiny_capacity A.CAPACITY v) }
         ensures succeeds { IsInline self.old → IsOk result }
+        ensures succeeds_at_the_end { at ≡ tiny_len self.old → IsOk result }
         ensures refused { OnErr result (self.new ≡ self.old) }
     {
         match self {

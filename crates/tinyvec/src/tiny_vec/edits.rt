@@ -2,7 +2,7 @@
 ghost use Rattle.std.specs.Prelude.{◌≡◌, ◌+◌, ◌<◌, ◌≤◌, insert, remove, slice_index_or, IsOk, OnOk, OnErr, IfErr, vec_len, vec_capacity};
 ghost use Rattle.std.specs.List.{swap_remove};
 ghost use Rattle.tinyvec.specs.Tiny.{tiny_items, tiny_len, is_inline, tiny_capacity, PlaceRule, TinySlotRule, Unchanged};
-ghost use Rattle.tinyvec.specs.Room.{KeepsRoom, MovesForTwice};
+ghost use Rattle.tinyvec.specs.Room.{Doubles, KeepsRoom};
 
 use crate::TinyVec;
 use tinyvec_array::{Array, NoMemory};
@@ -31,8 +31,8 @@ impl<A: Array> TinyVec<A> {
         }
     }
 
-    /// Puts `x` at `i` and moves the later items up, or hands it back where memory is refused. A full inline list asks for
-    /// room for twice as many items, and moves once that is granted.
+    /// Puts `x` at `i` and moves the later items up, or hands it back where memory is refused. A full list asks for room
+    /// for twice as many items; one in the array moves once that is granted.
     // Inlined, so that the place of the list is looked at once for this call and the next.
     #[inline(always)]
     pub fn insert(&mut self, i: usize, x: A::Item) -> Result<(), NoMemory<A::Item>>
@@ -40,7 +40,7 @@ impl<A: Array> TinyVec<A> {
         ensures items { OnOk result (tiny_items self.new ≡ insert (tiny_items self.old) i x) }
         ensures place { OnOk result (PlaceRule A.CAPACITY (tiny_len self.old + 1) self.old self.new) }
         ensures slots { TinySlotRule A.Item.is_default self.old self.new }
-        ensures asked { OnOk result (MovesForTwice A.CAPACITY self.old self.new) }
+        ensures doubles { OnOk result (Doubles A.CAPACITY self.old self.new) }
         ensures capacity { tiny_capacity A.CAPACITY self.old ≤ tiny_capacity A.CAPACITY self.new }
         ensures same_room { KeepsRoom A.CAPACITY (tiny_len self.old + 1) self.old self.new }
         ensures fits { tiny_len self.new ≤ tiny_capacity A.CAPACITY self.new }

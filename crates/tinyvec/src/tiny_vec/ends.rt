@@ -1,7 +1,7 @@
 //! The last item, pushed and popped.
 ghost use Rattle.std.specs.Prelude.{◌≡◌, ◌+◌, ◌-◌, ◌<◌, ◌≤◌, ◌↔◌, [], ◌∷◌, ◌++◌, take, drop, slice_get, IsSome, IfSome, IsOk, OnOk, OnErr, IfErr};
 ghost use Rattle.tinyvec.specs.Tiny.{tiny_items, tiny_len, tiny_spare, is_inline, tiny_capacity, PlaceRule, TinySlotRule, Unchanged};
-ghost use Rattle.tinyvec.specs.Room.{KeepsRoom, MovesForTwice};
+ghost use Rattle.tinyvec.specs.Room.{Doubles, KeepsRoom};
 
 use crate::TinyVec;
 use tinyvec_array::{Array, NoMemory};
@@ -23,13 +23,13 @@ impl<A: Array> TinyVec<A> {
         }
     }
 
-    /// Appends `x`, or hands it back where memory is refused. A full inline list asks for room for twice as many items,
-    /// and moves once that is granted.
+    /// Appends `x`, or hands it back where memory is refused. A full list asks for room for twice as many items; one in
+    /// the array moves once that is granted.
     pub fn push(&mut self, x: A::Item) -> Result<(), NoMemory<A::Item>>
         ensures items { OnOk result (tiny_items self.new ≡ tiny_items self.old ++ x ∷ []) }
         ensures place { OnOk result (PlaceRule A.CAPACITY (tiny_len self.old + 1) self.old self.new) }
         ensures slots { TinySlotRule A.Item.is_default self.old self.new }
-        ensures asked { OnOk result (MovesForTwice A.CAPACITY self.old self.new) }
+        ensures doubles { OnOk result (Doubles A.CAPACITY self.old self.new) }
         ensures capacity { tiny_capacity A.CAPACITY self.old ≤ tiny_capacity A.CAPACITY self.new }
         ensures same_room { KeepsRoom A.CAPACITY (tiny_len self.old + 1) self.old self.new }
         ensures fits { tiny_len self.new ≤ tiny_capacity A.CAPACITY self.new }

@@ -88,11 +88,12 @@ impl<A: Array> TinyVec<A> {
         }
     }
 
-    /// The list as a `Vec`. Where memory is refused for it, the vector comes back. A list on the heap takes none, and one in
-    /// the array no more than it needs.
+    /// The list as a `Vec`. Where memory is refused for it, the vector comes back. A list on the heap takes none and keeps
+    /// its room, and one in the array takes no more than it needs.
     pub fn into_vec(self) -> Result<Vec<A::Item>, NoMemory<Self>>
         ensures items { IfOk result (λ v. v.items ≡ tiny_items self) }
         ensures room { IfOk result (λ v. IsInline self → vec_capacity v ≡ tiny_len self) }
+        ensures same_room { IfOk result (λ v. is_inline self ≡ false → vec_capacity v ≡ tiny_capacity A.CAPACITY self) }
         ensures succeeds { is_inline self ≡ false → IsOk result }
         ensures back { IfErr result (λ refused. refused.0 ≡ self) }
     {

@@ -5,7 +5,7 @@ ghost use Rattle.tinyvec_slots.specs.Clones.{ClonesAreEqual};
 ghost use Rattle.tinyvec_slots.specs.Filling.{AppendsResultsTo};
 ghost use Rattle.tinyvec.specs.Tiny.{tiny_items, tiny_len, tiny_spare, is_inline, tiny_capacity, PlaceRule, TinySlotRule, Unchanged};
 ghost use Rattle.tinyvec.specs.Growth.{RefusedFor, ClonesBehind};
-ghost use Rattle.tinyvec.specs.Room.{KeepsRoom};
+ghost use Rattle.tinyvec.specs.Room.{GrowsFor, KeepsRoom};
 
 use crate::TinyVec;
 use crate::cloning::push_copies;
@@ -27,6 +27,7 @@ impl<A: Array> TinyVec<A> {
         ensures slots { OnOk result (TinySlotRule A.Item.is_default self.old self.new) }
         ensures capacity { tiny_capacity A.CAPACITY self.old ≤ tiny_capacity A.CAPACITY self.new }
         ensures same_room { KeepsRoom A.CAPACITY n self.old self.new }
+        ensures grown { OnOk result (GrowsFor A.CAPACITY n self.old self.new) }
         ensures fits { tiny_len self.new ≤ tiny_capacity A.CAPACITY self.new }
 
         // Where there is room no memory is asked for but by clones.
@@ -98,6 +99,7 @@ impl<A: Array> TinyVec<A> {
         ensures slots { TinySlotRule A.Item.is_default self.old self.new }
         ensures capacity { tiny_capacity A.CAPACITY self.old ≤ tiny_capacity A.CAPACITY self.new }
         ensures same_room { KeepsRoom A.CAPACITY n self.old self.new }
+        ensures grown { OnOk result (GrowsFor A.CAPACITY n self.old self.new) }
         ensures fits { tiny_len self.new ≤ tiny_capacity A.CAPACITY self.new }
 
         // Where there is room no memory is asked for, and a refusal changes nothing.
@@ -118,6 +120,7 @@ impl<A: Array> TinyVec<A> {
         ensures slots { TinySlotRule A.Item.is_default self.old self.new }
         ensures capacity { tiny_capacity A.CAPACITY self.old ≤ tiny_capacity A.CAPACITY self.new }
         ensures same_room { KeepsRoom A.CAPACITY n self.old self.new }
+        ensures grown { OnOk result (GrowsFor A.CAPACITY n self.old self.new) }
         ensures fits { tiny_len self.new ≤ tiny_capacity A.CAPACITY self.new }
         ensures succeeds { n ≤ tiny_capacity A.CAPACITY self.old → IsOk result }
         ensures full { OnErr result (tiny_capacity A.CAPACITY self.old < n) }

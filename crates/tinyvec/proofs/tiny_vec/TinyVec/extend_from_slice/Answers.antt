@@ -130,6 +130,7 @@ returns-in_err-grow-in_default g c =
       slots = never_ok _ answer err;
       capacity = grown.capacity;
       same_room = λ _. grown.refused.3 g.A.Array.CAPACITY;
+      grown = never_ok _ answer err;
       fits = grown.fits;
       succeeds = λ fits _. absurd (false≢true (grown.succeeds fits));
       kept = on_err answer grown.refused.0;
@@ -160,6 +161,7 @@ returns-in_ok-grow-in_default g c =
           tiny_slots_grown g.A.Item.Default.is_default old mid new (length ys) grown.stays made.place (appends_len C (tiny_items mid) (tiny_items new) ys h) spare);
       capacity = rw made.capacity grown.capacity;
       same_room = rw made.capacity (λ fits. ap (tiny_capacity g.A.Array.CAPACITY) (grown.kept fits));
+      grown = on_ok_weaker answer (λ _. rw made.capacity grown.grown) made.items;
       fits = made.fits;
       succeeds = λ _. made.succeeds;
       kept = rw (← grown.items) made.kept;

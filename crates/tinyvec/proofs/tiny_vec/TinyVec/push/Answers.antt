@@ -1,10 +1,10 @@
-use Rattle.std.proofs.Common.{◌≡◌, ℕ, ◌+◌, ◌<◌, ◌≤◌, ◌*◌, max, [], ◌∷◌, ◌++◌, false, Vec, Global, Result, Ok, Err, drop, refl, sym, ap, ◌∙◌, le_refl, arith, vec_capacity}
+use Rattle.std.proofs.Common.{◌≡◌, ℕ, ◌+◌, ◌<◌, ◌≤◌, [], ◌∷◌, ◌++◌, false, Vec, Global, Result, Ok, Err, drop, refl, sym, ap, ◌∙◌, le_refl, arith, vec_capacity}
 use Rattle.std.specs.Prelude.{OnOk}
 use Rattle.std.specs.Result.{is_err}
 use Rattle.std.proofs.lemmas.Bool.{false≢true, eqb-true, eqb-false}
 use Rattle.tinyvec_slots.specs.Slots.{Slots, items, items_len, spare}
-use Rattle.tinyvec.specs.Tiny.{tiny_items, tiny_len, tiny_capacity, is_inline, IsInline, PlaceRule, TinySlotRule}
-use Rattle.tinyvec.specs.Room.{KeepsRoom, MovesForTwice}
+use Rattle.tinyvec.specs.Tiny.{tiny_items, tiny_len, tiny_capacity, is_inline, PlaceRule, TinySlotRule}
+use Rattle.tinyvec.specs.Room.{Doubles, KeepsRoom}
 use Rattle.tinyvec.specs.declared.tiny_vec.TinyVec.{TinyVec}
 use Rattle.tinyvec.specs.declared.tiny_vec.TinyVec.TheVariants.{Inline, Heap}
 use Rattle.tinyvec.proofs.TinyLemmas.{slots_pushed}
@@ -22,7 +22,7 @@ record Pushed {A T : Type 0} (D : T → Type 0) (slots : ℕ) (x : T) (old new :
   items_are : tiny_items new ≡ tiny_items old ++ x ∷ []
   place : PlaceRule slots (tiny_len old + 1) old new
   slot_rule : TinySlotRule D old new
-  asked : MovesForTwice slots old new
+  doubles : Doubles slots old new
   capacity : tiny_capacity slots old ≤ tiny_capacity slots new
   same_room : KeepsRoom slots (tiny_len old + 1) old new
   fits : tiny_len new ≤ tiny_capacity slots new
@@ -34,18 +34,18 @@ module _ {A T : Type 0} (D : T → Type 0) (slots : ℕ) (x : T) where
     items_are = is;
     place = place_kept {A = A} slots (items_len v + 1) (Inline v a) (Inline w a) refl (omega (arith, room));
     slot_rule = slots_pushed D v w x is behind;
-    asked = λ _ full. absurd (omega (arith, full, room));
+    doubles = λ full. absurd (omega (arith, full, room));
     capacity = le_refl slots;
     same_room = λ _. refl;
     fits = fits;
   }
 
-  on_heap : (v w : Vec T Global) → w.items ≡ v.items ++ x ∷ [] → vec_capacity w ≡ vec_capacity v → Pushed {A = A} D slots x (Heap v) (Heap w)
-  on_heap v w is same = record {
+  on_heap : (v w : Vec T Global) → v.len < vec_capacity v → w.items ≡ v.items ++ x ∷ [] → vec_capacity w ≡ vec_capacity v → Pushed {A = A} D slots x (Heap v) (Heap w)
+  on_heap v w room is same = record {
     items_are = is;
     place = ((λ i. absurd (false≢true i)), λ h. absurd (false≢true h.0));
     slot_rule = tt;
-    asked = λ i _. absurd (false≢true i);
+    doubles = λ full. absurd (omega (arith, full, room, v.ok.0));
     capacity = omega (arith, same);
     same_room = λ _. same;
     fits = omega (arith, w.ok.0, w.ok.1);
@@ -61,15 +61,15 @@ module _ {A T : Type 0} (D : T → Type 0) (slots : ℕ) (x : T) where
 
   -- it grew first
   grown : (old mid new : TinyVec A T) → tiny_len old ≡ tiny_capacity slots old → tiny_items mid ≡ tiny_items old → is_inline mid ≡ false
-      → (IsInline old → max (2 * tiny_len old) (tiny_len old + 1) ≤ tiny_capacity slots mid) → tiny_capacity slots old ≤ tiny_capacity slots mid
+      → Doubles slots old mid → tiny_capacity slots old ≤ tiny_capacity slots mid
       → tiny_items new ≡ tiny_items mid ++ x ∷ [] → is_inline new ≡ is_inline mid → tiny_capacity slots new ≡ tiny_capacity slots mid
       → tiny_len new ≤ tiny_capacity slots new → Pushed D slots x old new
-  grown old mid new full kept out asked more is place same fits =
+  grown old mid new full kept out doubles more is place same fits =
       let rules = moved old new full (place ∙ out) in record {
         items_are = is ∙ ap (λ l. l ++ x ∷ []) kept;
         place = rules.0;
         slot_rule = rules.1;
-        asked = λ inline _. rw same (asked inline);
+        doubles = λ full. rw same (doubles full);
         capacity = rw same more;
         same_room = λ room. absurd (omega (arith, full, room));
         fits = fits;
@@ -83,7 +83,7 @@ pushed g c = elim c.match-self.branch as (λ _. Pushed g.A.Item.Default.is_defau
       let put = w.push.ensures in
       rw (w.self-is, w.in-Inline.is) (in_array g.A.Item.Default.is_default g.A.Array.CAPACITY c.args.x v w.push.new.self w.in-Inline.field-1
       (omega (arith, some, w.is_full.ensures.fits)) put.items put.spare put.fits)
-  | in-Heap w ↦ rw (w.self-is, w.in-Heap.is) (on_heap g.A.Item.Default.is_default g.A.Array.CAPACITY c.args.x w.in-Heap.v w.push_reserved.new.self w.push_reserved.ensures.items w.push_reserved.ensures.capacity)
+  | in-Heap w ↦ rw (w.self-is, w.in-Heap.is) (on_heap g.A.Item.Default.is_default g.A.Array.CAPACITY c.args.x w.in-Heap.v w.push_reserved.new.self (omega (arith, w.len.ensures, w.capacity.ensures, w.if-len-capacity.true)) w.push_reserved.ensures.items w.push_reserved.ensures.capacity)
   | in_default+else-is_err w ↦
       let old = c.args.self.now in
       let was : (w.in_default.self ≡ old) × (tiny_len old ≡ tiny_capacity g.A.Array.CAPACITY old) =
@@ -98,7 +98,7 @@ pushed g c = elim c.match-self.branch as (λ _. Pushed g.A.Item.Default.is_defau
       let ok = w.if-is_err.ensures.value in
       let put = w.push_reserved-in_default.ensures in
       rw w.self-is (grown g.A.Item.Default.is_default g.A.Array.CAPACITY c.args.x old w.grow_one.new.self w.push_reserved-in_default.new.self was.1
-      room.items (when_ok w.grow_one.result ok room.place) (when_ok w.grow_one.result ok room.asked) room.capacity put.items put.place put.capacity put.fits)
+      room.items (when_ok w.grow_one.result ok room.place) (when_ok w.grow_one.result ok room.room) room.capacity put.items put.place put.capacity put.fits)
 ]
 
 pub returns : goal.returns
@@ -107,7 +107,7 @@ returns g c =
       items = made.items_are;
       place = made.place;
       slots = made.slot_rule;
-      asked = made.asked;
+      doubles = made.doubles;
       capacity = made.capacity;
       same_room = made.same_room;
       fits = made.fits;
