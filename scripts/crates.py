@@ -276,7 +276,7 @@ class Run:
 
     def rt(self, crate, folder, words, log):
         """Runs rt, with what it says in a file of the crate's out/. Returns its status."""
-        self.states[crate] = "reads libraries"
+        self.states[crate] = "reads and checks"
         pipes = {"stdin": subprocess.DEVNULL, "stdout": subprocess.PIPE, "stderr": subprocess.STDOUT}
         ran = self.start(["rt", *words], folder, encoding="utf-8", errors="replace", **pipes)
         with ran, open(crate.out / log, "w", encoding="utf-8") as written:
