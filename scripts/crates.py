@@ -28,10 +28,12 @@ PARTS = ("src", "specs", "proofs")
 # As `nproc` counts them.
 CORES = len(os.sched_getaffinity(0))
 
-# Seconds between two lines of progress.
-PAUSE = 10
-
+# What rt says of how far it is. Its first count may take a minute.
 COUNT = re.compile(r"^so far: (\d+) of (\d+) functions checked")
+WAITING = re.compile(r"^rt: .*\bwaiting for ")
+
+# Goes to the start of a terminal's line, and removes what stands there.
+CLEAR = "\r\033[K"
 
 # What a built library has that no proof above can cite: its code, the proofs of single functions, and sums over all of it.
 UNCITED = re.compile(r"toolchain/|lang/antt/made\.json$|lang/antt/proofs/.*/(?:Answers|Invariants|Proof)\.antt$")
@@ -78,6 +80,10 @@ class Crate:
     def statements(self):
         """Differs where anything differs that a proof above can cite, but neither by a body nor by the proof of one."""
         return text_of(self.out / "statements")
+
+    def took_last(self):
+        """How many seconds it took to prove and build the crate when that was last done here, or None."""
+        return int(text_of(self.out / "took") or 0) or None
 
     def has_tests(self):
         return any(path.endswith(".rt") and b"#[test]" in text for path, text in self.sources.items())
@@ -239,31 +245,38 @@ class Copy:
 
 
 class Run:
-    """Runs rt for some crates side by side, and says on standard error how far it is."""
+    """Runs rt for some crates side by side, and says on standard error how far it is.
 
-    def __init__(self, crates, is_told=True):
+    On a terminal that is one line, which is written over. Elsewhere it is, where it is asked for, a line where a crate begins
+    and one where it ends.
+    """
+
+    def __init__(self, crates, is_told=True, expected=None):
         self.read_at = time.time()
         for crate in crates:
             # One state of all sources is proved, and not of each crate when its turn comes.
             _ = crate.files
         self.places = {crate: f"{crate.name} ({at} of {len(crates)})" for at, crate in enumerate(crates, 1)}
-        self.is_told, self.is_terminal = is_told, sys.stderr.isatty()
-        self.begun = time.monotonic()
-        self.counts, self.started, self.is_stopped = {}, [], False
+        self.is_told, self.is_terminal, self.expected = is_told, sys.stderr.isatty(), expected
+        self.begun, self.begun_at, self.states = time.monotonic(), {}, {}
+        self.started, self.is_stopped = [], False
         self.guard = threading.RLock()
 
     def build(self, crate, jobs):
         """Proves and builds a crate over those below it. Returns whether it is proved."""
+        began = time.monotonic()
         with Copy(crate) as copy:
             # The program is run too, on no input: its status tells nothing, but rt's mark does.
             self.rt(crate, copy.folder, ["run" if crate.is_program else "lib", "--jobs", str(jobs)], "build.log")
             is_proved = all((copy.out / it).exists() for it in [*crate.made, crate.mark])
             if is_proved:
                 copy.publish()
+                (crate.out / "took").write_text(f"{max(1, round(time.monotonic() - began))}\n", encoding="utf-8")
         return is_proved
 
     def rt(self, crate, folder, words, log):
         """Runs rt, with what it says in a file of the crate's out/. Returns its status."""
+        self.states[crate] = "reads and checks"
         pipes = {"stdin": subprocess.DEVNULL, "stdout": subprocess.PIPE, "stderr": subprocess.STDOUT}
         ran = self.start(["rt", *words], folder, encoding="utf-8", errors="replace", **pipes)
         with ran, open(crate.out / log, "w", encoding="utf-8") as written:
@@ -271,7 +284,9 @@ class Run:
                 written.write(line)
                 counted = COUNT.match(line)
                 if counted:
-                    self.counts[crate] = f"{counted[1]} of {counted[2]} functions"
+                    self.states[crate] = f"{counted[1]} of {counted[2]} functions"
+                elif WAITING.match(line):
+                    self.states[crate] = "waits for another run of rt"
         if self.is_stopped:
             raise Stopped
         return ran.returncode
@@ -304,43 +319,53 @@ class Run:
                     for step in ready:
                         waiting.remove(step)
                         running[pool.submit(step.do, jobs_of(step, beside))] = step
-                    over, _ = concurrent.futures.wait(running, self.pause(), concurrent.futures.FIRST_COMPLETED)
-                    if not over:
-                        self.tell()
+                    pause = 1 if self.is_terminal else None
+                    over, _ = concurrent.futures.wait(running, pause, concurrent.futures.FIRST_COMPLETED)
                     for it in over:
                         ended.add(running.pop(it))
                         it.result()
+                    self.tell()
             except BaseException:
                 self.stop()
                 raise
-
-    def pause(self):
-        return 1 if self.is_terminal else PAUSE
+            finally:
+                self.clear_line()
 
     def begins(self, crate):
-        self.counts[crate] = "at work"
-        self.say(f"{self.places[crate]}: begun")
+        with self.guard:
+            self.begun_at[crate], self.states[crate] = time.monotonic(), "begins"
+        if self.is_told and not self.is_terminal:
+            took = crate.took_last()
+            self.print(f"{self.places[crate]}: begun{f', {duration(took)} last time' if took else ''}", sys.stderr)
 
     def ends(self, crate, how):
-        self.counts.pop(crate, None)
-        self.say(f"{self.places[crate]}: {how}")
+        with self.guard:
+            taken = duration(time.monotonic() - self.begun_at.pop(crate))
+        if self.is_told and not self.is_terminal:
+            self.print(f"{self.places[crate]}: {how} in {taken}, {self.so_far()}", sys.stderr)
 
     def tell(self):
-        """Says how far each crate is: in one line that is written over on a terminal, else in a line each."""
-        lines = [f"{self.places[crate]}: {count}" for crate, count in list(self.counts.items())]
-        if self.is_terminal and self.is_told:
-            width = shutil.get_terminal_size().columns - 1
-            print("\r\033[K" + f"{', '.join(lines)}, {self.so_far()}"[:width], end="", file=sys.stderr, flush=True)
-        else:
-            for line in lines:
-                self.say(line)
+        """Writes the line of a terminal over: how far the whole is, and each crate that is at work."""
+        if not self.is_terminal:
+            return
+        with self.guard:
+            at_work = [
+                f"{self.places[it]} {self.states[it]}, {clock(began, it.took_last())}" for it, began in self.begun_at.items()
+            ]
+            line = f"{clock(self.begun, self.expected)}: {'; '.join(at_work)}"
+            width = os.get_terminal_size(sys.stderr.fileno()).columns or 80
+            print(CLEAR + line[: width - 1], end="", file=sys.stderr, flush=True)
 
-    def say(self, line):
-        if self.is_told:
-            say(f"{self.clear_line()}{line}, {self.so_far()}")
+    def print(self, line, to):
+        """Writes a line of its own, which stands in the place of the one that is written over."""
+        with self.guard:
+            self.clear_line()
+            print(line, file=to, flush=True)
 
     def clear_line(self):
-        return "\r\033[K" if self.is_terminal else ""
+        if self.is_terminal:
+            with self.guard:
+                print(CLEAR, end="", file=sys.stderr, flush=True)
 
     def so_far(self):
         return f"{duration(time.monotonic() - self.begun)} so far"
@@ -365,6 +390,12 @@ def jobs_of(step, beside):
 def duration(seconds):
     minutes, seconds = divmod(round(seconds), 60)
     return f"{minutes} min {seconds} s" if minutes else f"{seconds} s"
+
+
+def clock(began, expected):
+    """The time since then, and how much is expected if that is known, as short as a terminal's line wants it."""
+    short = lambda seconds: f"{seconds // 60}:{seconds % 60:02}"
+    return short(round(time.monotonic() - began)) + (f" of some {short(expected)}" if expected else "")
 
 
 class Stopped(Exception):
