@@ -25,6 +25,10 @@ module _ {X : Type 0} (k : ℕ) (xs : List X) (n : ℕ) (is : n ≡ length (take
   pub within : n ≤ length xs
   within = search (rules, places, is)
 
+  -- and there are more slots than the list has items
+  pub beyond : 0 < length (drop k xs) → n < length xs
+  beyond room = search (rules, places, is)
+
   -- behind an item that was put at the border lie the spare slots but for the first
   pub drop-pushed : (x : X) → drop (n + 1) (set xs n x) ≡ drop 1 (drop k xs)
   drop-pushed x = drop-put xs n x ∙ ap (drop 1) spare_from
@@ -37,8 +41,7 @@ module _ {X : Type 0} (k : ℕ) (xs : List X) (n : ℕ) (is : n ≡ length (take
   pub drop-put_in : (i : ℕ) (x : X) → i ≤ n → 0 < length (drop k xs)
       → drop (n + 1) (insert (take n xs) i x ++ drop (n + 1) xs) ≡ drop 1 (drop k xs)
   drop-put_in i x le room =
-      let lt : n < length xs = search (rules, places, is) in
-      drop-inserted xs i n x le lt ∙ ap (drop 1) spare_from
+      drop-inserted xs i n x le (beyond room) ∙ ap (drop 1) spare_from
 
   -- what the list that lost an item leaves stands before the spare slots
   pub drop-taken : (i : ℕ) (d : X) → i < n → drop (n - 1) (remove (take n xs) i ++ d ∷ drop n xs) ≡ d ∷ drop k xs

@@ -1,3 +1,5 @@
+use Rattle.std.proofs.Common.{◌-◌, length, drop}
+use Rattle.std.proofs.lemmas.List.Elements.{All-take, All-drop}
 use Rattle.std.proofs.lemmas.Result.{on_ok_weaker, on_err_weaker}
 use Rattle.tinyvec_slots.proofs.ClonesOverLemmas.{clones_whole, clones_in_part}
 use Rattle.tinyvec_slots.proofs.cloning.clone_over.Goals as goal
@@ -15,3 +17,9 @@ returns-clause-refused g c =
     on_err_weaker c.clone_each.result
     (clones_in_part g.T.Clone.is_clone c.args.from.now c.args.to.now first.new.to c.clone_each.new.to first.result c.requires.fits first.ensures.len first.ensures.within first.ensures.cloned g.T.Clone.is_infallible)
     c.clone_each.ensures.refused
+
+pub returns-clause-succeeds : goal.returns-clause-succeeds
+returns-clause-succeeds g c =
+    let done = c.clone_blocks-done.result in
+    let xs = c.args.from.now in
+    λ all. c.clone_each.ensures.succeeds (All-take g.T.Clone.is_infallible (length xs - done) (drop done xs) (All-drop g.T.Clone.is_infallible done xs all))

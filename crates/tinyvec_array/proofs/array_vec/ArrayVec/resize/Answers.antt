@@ -1,4 +1,4 @@
-use Rattle.std.proofs.Common.{◌≡◌, ◌+◌, ◌-◌, ◌≤◌, length, length-take-le, replicate, take, take_all, sym, ap, ◌∙◌, le_trans, arith, rules}
+use Rattle.std.proofs.Common.{◌≡◌, ◌+◌, ◌-◌, ◌≤◌, length, length-take-le, replicate, take, take_all, sym, ap, ◌∙◌, le_trans, refl, arith, rules}
 use Rattle.tinyvec_slots.specs.Slots.{split_at}
 use Rattle.tinyvec_slots.proofs.SlotsLemmas.{slots_used}
 use Rattle.tinyvec_slots.proofs.CloneLemmas.{behind_writes}
@@ -25,12 +25,12 @@ returns-in-Ok g c =
       len = written.1 ∙ ap (λ k. k + (n - len)) long ∙ sum;
       if_clones_equal = rw (was, all, long) (written.2);
       spare = rw was (slots_used g.A.Item.Default.is_default (split_at len slots) (split_at n new) (n - len) written.1 written.3);
-      back = search rules;
-      kept = search rules;
-      refused = search rules;
+      back = tt;
+      kept = tt;
+      refused = tt;
       fits = le_trans (length-take-most n new) c.requires.in_bounds;
-      cuts = search rules;
-      succeeds = search rules;
+      cuts = λ _. refl;
+      succeeds = λ _. refl;
     }
 
 pub returns-in-Err-clause-kept : goal.returns-in-Err-clause-kept

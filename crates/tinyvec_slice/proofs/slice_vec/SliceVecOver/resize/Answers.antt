@@ -1,4 +1,5 @@
 use Rattle.std.proofs.Common.{◌-◌, ◌++◌, ◌≡◌, length, take, take_all, drop, replicate, sym, ap, ◌∙◌, arith, rules}
+use Rattle.std.proofs.lemmas.Grind.{common_steps}
 use Rattle.tinyvec_slots.specs.Clones.{ClonesBefore}
 use Rattle.tinyvec_slice.specs.View.{items_of, spare_of}
 use Rattle.tinyvec_slice.proofs.ResizingLemmas.{appends_equal, before_equal}
@@ -22,3 +23,6 @@ returns-in-Ok-grow_by_clones-clause-if_clones_equal g c = λ rule.
     let fewer = c.if-n-len.false in
     let all : take n L ≡ L = take_all n L (omega (arith, long, fewer)) in
     appends_equal g.B.Item.Clone.is_clone rule L _ more c.in-Ok-grow_by_clones.ensures.items ∙ ap (λ l. l ++ more) (sym all)
+
+pub returns-in-Ok-grow_by_clones-clause-items : goal.returns-in-Ok-grow_by_clones-clause-items
+returns-in-Ok-grow_by_clones-clause-items g c = grind (arith, common_steps)

@@ -1,4 +1,5 @@
-use Rattle.std.proofs.Common.{rules, refl, ◌<◌, ◌∷◌, []}
+use Rattle.std.proofs.Common.{rules, refl, ◌<◌, ◌∷◌, [], arith}
+use Rattle.std.proofs.lemmas.Grind.{common_steps}
 use Rattle.std.proofs.lemmas.List.Elements.{All-cons, All-nil}
 use Rattle.tinyvec_slice.proofs.ViewLemmas.{drop-popped}
 use Rattle.tinyvec_slice.proofs.slice_vec.SliceVecOver.take_last.Goals as goal
@@ -11,3 +12,12 @@ returns-clause-spare g c =
     let one = All-cons g.B.Item.Default.is_default after.0 [] after.1 (All-nil _) in
     let pos : 0 < n = search rules in
     (after.0 ∷ [], (refl, one), rw (after.2) (drop-popped v.len (g.B.Lent.slots v.lent) n c.len-last.ensures.value after.0 pos))
+
+pub returns-clause-items : goal.returns-clause-items
+returns-clause-items g c = grind (arith, common_steps)
+
+pub returns-clause-rest : goal.returns-clause-rest
+returns-clause-rest g c = grind (arith, common_steps)
+
+pub returns-clause-value : goal.returns-clause-value
+returns-clause-value g c = grind (arith, common_steps)

@@ -1,4 +1,5 @@
 use Rattle.std.proofs.Common.{◌≡◌, ◌+◌, ◌∙◌, sym, arith}
+use Rattle.std.proofs.lemmas.Grind.{common_steps}
 use Rattle.tinyvec_slots.proofs.TurnLemmas.{turned, turned_step, turned_after, borders_after}
 use Rattle.tinyvec_slots.proofs.touches.Touches.rotate.Goals as goal
 
@@ -47,3 +48,6 @@ loop-first-preserved g c =
       first_ran_out = borders.4;
       turns = after ∙ in_pairs ∙ inv.turns;
     }
+
+pub returns-clause-after : goal.returns-clause-after
+returns-clause-after g c = grind (arith, common_steps)
