@@ -1,4 +1,4 @@
-"""A copy of a crate beside the libraries that it uses, checked with edits over work that earlier checks kept."""
+"""A copy of a crate, checked with edits over the libraries that it uses and work that earlier checks kept."""
 import os
 import pathlib
 import re
@@ -11,8 +11,9 @@ import crates
 
 KEPT = "out/incremental"
 VERDICT = re.compile(r"^fn (\S+): (.*)$", re.M)
-PROVED = re.compile(r"^logic=proved\b", re.M)
-JUDGED = re.compile(r"^logic=(not-)?proved\b", re.M)
+# The last line of a check of a whole crate, and of some functions.
+PROVED = re.compile(r"^(?:logic=proved\b|only=(\d+) proved=\1$)", re.M)
+JUDGED = re.compile(r"^(?:logic=(?:not-)?proved\b|only=\d+ proved=\d+$)", re.M)
 
 
 class Said:
@@ -38,45 +39,71 @@ class Said:
         return (found or lines[-1:] or ["nothing"])[0][:200]
 
 
+class Libraries:
+    """The libraries that checks stand on, held still while other commands may build them anew."""
+
+    def __init__(self, room):
+        self.folder = room / "libraries"
+        self.folder.mkdir()
+
+    def add(self, crate):
+        """Takes a library as its files are now, and builds it first where it is not. Returns what is wrong."""
+        built, held = library(crate), self.folder / f"{crate.name}.rlib"
+        if held.is_dir():
+            return None
+        said = None if is_from_gate(crate) else Said(run(["rt", "lib"], crate.folder))
+        if not built.is_dir():
+            return said
+        link(built, held)
+        return None
+
+    def words(self, crate):
+        """Gives a check the libraries below the crate."""
+        given = [f"--extern={it.name}={self.folder / it.name}.rlib" for it in crate.uses]
+        return [*given, "-L", f"dependency={self.folder}"]
+
+
 class Desk:
     """Where a crate's edits are tried, each check in a copy of its own over the work that was kept."""
 
-    def __init__(self, crate, room):
-        self.crate = crate
-        self.room = room / crate.name
-        self.kept = self.room / "kept"
+    def __init__(self, crate, libraries, room):
+        self.crate, self.libraries = crate, libraries
+        self.room, self.kept = room / crate.name, None
         self.room.mkdir()
         if (crate.folder / KEPT).is_dir():
+            self.kept = self.room / "kept"
             link(crate.folder / KEPT, self.kept)
 
-    def check(self, texts, jobs, keeps=False):
-        """Checks the crate with these texts in place of its own. Other checks begin with what this one kept where they are to."""
+    def check(self, texts, paths, jobs, keeps=False):
+        """Checks the functions of these paths, or the whole crate where there are none, with these texts in place of its own.
+        Other checks begin with what this one kept where they are to."""
         with tempfile.TemporaryDirectory(prefix="check-", dir=self.room) as top:
             copy = self.lay(pathlib.Path(top))
             for path, text in texts.items():
                 (copy / path).write_text(text, encoding="utf-8")
-            said = Said(run(["rt", "check", "--jobs", str(jobs)], copy))
-            if keeps:
-                shutil.rmtree(self.kept, ignore_errors=True)
-                (copy / KEPT).rename(self.kept)
+            words = ["rt", "check", f"--jobs={jobs}", *(f"--only={it}" for it in paths), *self.libraries.words(self.crate)]
+            said = Said(run(words, copy))
+            if keeps and said.is_judged:
+                # A check beside this one may still read what was kept before.
+                kept = pathlib.Path(tempfile.mkdtemp(prefix="kept-", dir=self.room))
+                self.kept = (copy / KEPT).replace(kept)
         return said
 
     def lay(self, top):
-        """Makes a repository of the crate and those below it."""
-        for one in self.crate.below:
-            link(one.folder, top / "crates" / one.name, without=("incremental",))
+        """Makes a repository of the crate alone, which lists only libraries of the toolchain, so that no check builds another."""
         copy = top / "crates" / self.crate.name
         crates.write_files(copy, self.crate.sources)
-        if self.kept.is_dir():
+        if self.kept:
             link(self.kept, copy / KEPT)
-        rows = [one.row for one in (*self.crate.below, self.crate)]
-        (top / "crates.txt").write_text("\n".join(rows) + "\n", encoding="utf-8")
+        name, _, used = self.crate.row.partition(":")
+        others = [it for it in used.split() if it not in [one.name for one in self.crate.uses]]
+        (top / "crates.txt").write_text(f"{name}: {' '.join(others)}\n", encoding="utf-8")
         return copy
 
 
-def link(source, target, without=()):
+def link(source, target):
     """Copies a folder by links to its files, which a check replaces and never writes to."""
-    shutil.copytree(source, target, copy_function=link_file, ignore=lambda _, names: set(names) & set(without))
+    shutil.copytree(source, target, copy_function=link_file)
 
 
 def link_file(source, target):
@@ -86,10 +113,17 @@ def link_file(source, target):
         shutil.copyfile(source, target)
 
 
-def build(crate):
-    """Builds a library over the work that was kept, where it is not built as its files are now. Returns what is wrong."""
-    said = Said(run(["rt", "lib"], crate.folder))
-    return None if said.is_proved or not said.is_judged else said
+def library(crate):
+    return crate.out / f"rlib/{crate.name}.rlib"
+
+
+def is_from_gate(crate):
+    """Whether the gate built the library, and no source has changed since. What `rt lib` builds has a stamp, and it knows
+    whether that is as its files are now. The gate leaves none, so `rt lib` would prove all again."""
+    if not library(crate).is_dir() or (crate.out / "rlib/stamp").exists():
+        return False
+    sources = [one.folder / path for one in (*crate.below, crate) for path in one.sources]
+    return max(it.stat().st_mtime for it in sources) < library(crate).stat().st_mtime
 
 
 class Stopped(Exception):

@@ -2,6 +2,9 @@
 import dataclasses
 import pathlib
 
+# The folder, below a crate's other edits, of those that the gate tries.
+NAMED = "named"
+
 
 class BadEdit(Exception):
     """An edit that cannot be applied, with the reason."""
@@ -25,6 +28,11 @@ class Edit:
     def __str__(self):
         return f"{self.crate}/{self.name}"
 
+    @property
+    def is_named(self):
+        """Whether it is one of the wrong bodies that a reader would think of first, which the gate tries."""
+        return self.name.startswith(f"{NAMED}/")
+
     def files(self):
         return {change.file for change in self.changes}
 
@@ -33,15 +41,16 @@ def read_all(folder, crates):
     """The edits of the crates, in the order of their names, and what is wrong with those that cannot be read."""
     edits, broken = [], []
     for crate in crates:
-        for path in sorted((folder / crate).glob("*")):
+        for path in sorted(it for it in (folder / crate).rglob("*") if it.is_file()):
+            name = path.relative_to(folder / crate)
             try:
-                edits.append(read(crate, path))
+                edits.append(read(crate, str(name.with_suffix("")), path))
             except BadEdit as why:
-                broken.append((f"{crate}/{path.name}", str(why)))
+                broken.append((f"{crate}/{name}", str(why)))
     return edits, broken
 
 
-def read(crate, path):
+def read(crate, name, path):
     """An edit is lines `file: PATH`, and then pairs of `old: TEXT` and `new: TEXT`."""
     if path.suffix != ".edit":
         raise BadEdit("its name does not end in .edit")
@@ -60,7 +69,7 @@ def read(crate, path):
             raise BadEdit(f"this line is none of file, old and new in their order: {line}")
     if not changes or old is not None:
         raise BadEdit("it has no pair of old and new, or half of one")
-    return Edit(crate, path.stem, tuple(changes))
+    return Edit(crate, name, tuple(changes))
 
 
 def apply(edit, texts):

@@ -36,6 +36,16 @@ class Function:
     def is_at(self, file, offset):
         return file == self.file and self.start <= offset < self.end
 
+    def path(self):
+        """How a check is asked for this function: the end of its name there, which no other has."""
+        if not self.type:
+            return "::".join([*modules_of(self.file), self.name])
+        if self.trait not in ("", "Drop"):
+            return "::".join([*modules_of(self.file), flat(self.type) + flat(self.trait), self.name])
+        if has_plain_parameters(self.type):
+            return f"{plain_name(self.type)}::{self.name}"
+        return "::".join([*modules_of(self.file), "+".join(words_of(self.type)), self.name])
+
     def is_named(self, path):
         """Whether a check means this function by the path, as in `a_crate::a_module::ATypeATrait::a_name`."""
         _, *modules, name = path.split("::")
@@ -120,6 +130,16 @@ def plain_name(text):
     """The name of a type alone."""
     found = re.search(r"\b([A-Z]\w+)", text)
     return found[1] if found else flat(text)
+
+
+def words_of(text):
+    """The words by which a check tells the types of one name apart, as in `SliceVecOver+mut+slice+T`."""
+    return re.findall(r"\w+", re.sub(r"'\w+", "", text).replace("[", "slice "))
+
+
+def has_plain_parameters(text):
+    """Whether a type is taken for all its parameters, and not for some types in the place of these."""
+    return all(len(it) == 1 for it in words_of(text)[1:])
 
 
 def flat(text):
