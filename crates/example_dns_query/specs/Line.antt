@@ -1,9 +1,11 @@
 -- A line that asks for a query.
-use Rattle.std.specs.Prelude.{◌≡◌, ◌<◌, ◌^◌, ℕ, List, [], ◌∷◌, ◌++◌, length, drop, codes}
+use Rattle.std.specs.Prelude.{◌≡◌, ◌<◌, ◌^◌, ℕ, List, All, Some, [], ◌∷◌, ◌++◌, length, drop, codes}
 use Rattle.std.specs.Str.Parse.{IsNumeral, digits_value, without_leading_plus}
 use Rattle.example_dns_query.specs.Message.{query}
-use Rattle.example_dns_query.specs.Name.{IsName, labels_of}
+use Rattle.example_dns_query.specs.Name.{IsPrinted, IsLabel, IsName, first_fault, labels_of, name_wire}
 use Rattle.example_dns_query.specs.Parts.{parts}
+use Rattle.example_dns_query.specs.declared.query.QueryError.{QueryError}
+use Rattle.example_dns_query.specs.declared.query.QueryError.TheVariants.{BadByte, EmptyLabel, LongLabel, LongName, Full}
 use Rattle.example_dns_query.specs.declared.record_type.RecordType.{RecordType}
 use Rattle.example_dns_query.specs.declared.record_type.RecordType.TheVariants.{A, Ns, Cname, Soa, Ptr, Mx, Txt, Aaaa}
 
@@ -46,3 +48,19 @@ pub record Answers (line old new : List ℕ) (len : ℕ) : Type 0 where
   pub is_name : IsName name
   pub long : len ≡ length (query id (labels_of name) record_type)
   pub written : new ≡ query id (labels_of name) record_type ++ drop len old
+
+-- what is wrong with a query for such a name, where the slice has room for so many bytes
+abbrev pub HasFault : ℕ → List ℕ → RecordType → ℕ → QueryError → Type 0
+HasFault id name record_type room BadByte = All IsPrinted name → ⊥
+HasFault id name record_type room EmptyLabel = All IsPrinted name × (first_fault (labels_of name) ≡ Some EmptyLabel)
+HasFault id name record_type room LongLabel = All IsPrinted name × (first_fault (labels_of name) ≡ Some LongLabel)
+HasFault id name record_type room LongName = All IsPrinted name × All IsLabel (labels_of name) × (255 < length (name_wire (labels_of name)))
+HasFault id name record_type room Full = IsName name × (room < length (query id (labels_of name) record_type))
+
+-- the line asks for a query with this fault
+pub record AsksFaulty (line : List ℕ) (room : ℕ) (fault : QueryError) : Type 0 where
+  pub id : ℕ
+  pub name : List ℕ
+  pub record_type : RecordType
+  pub asks : Asks line id name record_type
+  pub faulty : HasFault id name record_type room fault

@@ -1,10 +1,11 @@
 //! A line that asks for a query.
 ghost use Rattle.std.specs.Prelude.{◌≡◌, ◌≢◌, ◌<◌, ◌≤◌, ◌^◌, ◌↔◌, ◌++◌, ◌∷◌, [], ℕ, List, length, drop, slice_index_or, IfSome, IfNone, IfOk, IsOk, OnErr, Err};
-ghost use Rattle.example_dns_query.specs.Line.{words, word_of, IsDecimal, IsId, Asks, Answers};
+ghost use Rattle.example_dns_query.specs.Line.{words, word_of, IsDecimal, IsId, Asks, AsksFaulty, Answers};
 ghost use Rattle.example_dns_query.specs.Message.{query};
 ghost use Rattle.example_dns_query.specs.Name.{IsName, labels_of};
 ghost use Rattle.example_dns_query.specs.declared.record_type.RecordType.{RecordType as AnyType};
-ghost use Rattle.example_dns_query.specs.declared.line.LineError.TheVariants.{Words, Number, UnknownType};
+ghost use Rattle.example_dns_query.specs.declared.query.QueryError.{QueryError as AnyError};
+ghost use Rattle.example_dns_query.specs.declared.line.LineError.TheVariants.{Words, Number, UnknownType, Query};
 
 use crate::parts::first_part;
 use crate::query::{QueryError, write_query};
@@ -86,6 +87,7 @@ pub fn parse_line(line: &[u8]) -> Result<Question<'_>, LineError>
         → id < 2 ^ 16 → Asks line.now id name record_type → ⊥) }
 
     // When each error comes.
+    ensures of_the_line { (fault : AnyError) → result ≢ Err (Query fault) }
     ensures words { (result ≡ Err Words) ↔ (length (words line.now) ≢ 3) }
     ensures number { (result ≡ Err Number)
         ↔ ((length (words line.now) ≡ 3) × (IsId (slice_index_or (words line.now) 0 []) → ⊥)) }
@@ -117,7 +119,8 @@ pub fn answer_line(slice: &mut [u8], line: &[u8]) -> Result<usize, LineError>
         → Asks line.now id name record_type → IsName name
         → length (query id (labels_of name) record_type) ≤ length slice.old → IsOk result }
 
-    // When each error of the line itself comes. Any other is that of the query that it asks for.
+    // When each error comes: of the query that the line asks for, and of the line itself.
+    ensures query { (fault : AnyError) → result ≡ Err (Query fault) → AsksFaulty line.now (length slice.old) fault }
     ensures words { (result ≡ Err Words) ↔ (length (words line.now) ≢ 3) }
     ensures number { (result ≡ Err Number)
         ↔ ((length (words line.now) ≡ 3) × (IsId (slice_index_or (words line.now) 0 []) → ⊥)) }
