@@ -1,5 +1,5 @@
 //! The end of a splice.
-ghost use Rattle.std.specs.Prelude.{◌≡◌, ◌+◌, ◌-◌, ◌<◌, ◌≤◌, ◌^◌, ◌++◌, List, Some, take, drop, OnErr, IfErr, MatchResult};
+ghost use Rattle.std.specs.Prelude.{◌≡◌, ◌+◌, ◌-◌, ◌*◌, ◌<◌, ◌≤◌, ◌^◌, ◌++◌, List, Some, length, take, drop, OnErr, IfErr, MatchResult};
 ghost use Rattle.std.specs.Iterator.{Drains, YieldsThen};
 ghost use Rattle.std.specs.Iterator.Adapters.{fuse_steps};
 ghost use Rattle.tinyvec_slots.specs.Filling.{ShowsItems};
@@ -47,6 +47,14 @@ impl<'a, A: Array, I: Iterator<Item = A::Item>> ArrayVecSplice<'a, A, Fuse<I>> {
     #[inline(always)]
     pub fn finish_counted(self) -> (Result<(), SpliceRest<A::Item, Fuse<I>>>, u128)
         requires { SpliceCanNext I.can_next self }
+        // Of a list that is no longer the number is known: where the gap was filled, two touches for each item placed, and
+        // where it was closed, one more for each slot behind those.
+        ensures filled { items_len self.exit.0.now ≡ items_len (splice_slots self.entry)
+            → result.1 ≡ splice_touches self.entry
+            + 2 * finish_placed (splice_view self.entry) (items self.exit.0.now) }
+        ensures closed { items_len self.exit.0.now < items_len (splice_slots self.entry)
+            → result.1 ≡ splice_touches self.entry + finish_placed (splice_view self.entry) (items self.exit.0.now)
+            + (items_len (splice_slots self.entry) - length (splice_front self.entry)) }
         ensures at_least { splice_touches self.entry + finish_placed (splice_view self.entry) (items self.exit.0.now)
             ≤ result.1 }
         ensures at_most { result.1 ≤ splice_touches self.entry
@@ -128,6 +136,7 @@ fn append_in<A: Array, I: Iterator<Item = A::Item>>(
     ensures fits { items_len vec.new ≤ A.CAPACITY }
     ensures spare { spare vec.new ≡ drop (items_len vec.new - items_len vec.old) (spare vec.old) }
     ensures goes_on { IfErr result (λ refused. I.can_next refused.rest) }
+    ensures none { items_len vec.new ≡ items_len vec.old → gap_touches gap.new ≡ gap_touches gap.old }
     ensures at_least { gap_touches gap.old + (items_len vec.new - items_len vec.old) ≤ gap_touches gap.new }
     ensures at_most { gap_touches gap.new ≤ gap_touches gap.old + (items_len vec.new - items_len vec.old)
         + (items_len vec.new - gap_front gap.old) }

@@ -63,6 +63,7 @@ impl Gap {
         ensures brought { slots.new ≡ take (gap_front self.old) slots.old ++ drop end slots.old
             ++ slice_range slots.old (gap_front self.old) end }
         ensures slots { length slots.new ≡ length slots.old }
+        ensures none { end ≡ length slots.old → gap_touches self.new ≡ gap_touches self.old }
         ensures at_least { gap_touches self.old + (length slots.old - end) ≤ gap_touches self.new }
         ensures at_most { gap_touches self.new
             ≤ gap_touches self.old + (length slots.old - end) + (length slots.old - gap_front self.old) }

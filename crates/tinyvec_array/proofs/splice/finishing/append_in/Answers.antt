@@ -38,6 +38,9 @@ module _ (g : _) (c : After-bring_in g) where
   appended : length c.as_mut_slice.result.now - c.len-end.result ≡ items_len new - length olds
   appended = ap (λ n. n - c.len-end.result) (shown ∙ sym len_is) ∙ ap (λ n. items_len new - n) c.len-end.ensures.value
 
+  none : items_len new ≡ length olds → gap_touches c.bring_in.new.self ≡ gap_touches c.args.gap.now
+  none same = c.bring_in.ensures.none (c.len-end.ensures.value ∙ sym same ∙ len_is ∙ sym shown)
+
   at_least : gap_touches c.args.gap.now + (items_len new - length olds) ≤ gap_touches c.bring_in.new.self
   at_least = rw (← appended) c.bring_in.ensures.at_least
 
@@ -91,6 +94,9 @@ returns-in-Ok-clause-spare g c = spare_is g (goal.at.returns-in-Ok-clause-spare 
 pub returns-in-Ok-clause-goes_on : goal.returns-in-Ok-clause-goes_on
 returns-in-Ok-clause-goes_on g c = tt
 
+pub returns-in-Ok-clause-none : goal.returns-in-Ok-clause-none
+returns-in-Ok-clause-none g c = none g (goal.at.returns-in-Ok-clause-none g c).After-bring_in
+
 pub returns-in-Ok-clause-at_least : goal.returns-in-Ok-clause-at_least
 returns-in-Ok-clause-at_least g c = at_least g (goal.at.returns-in-Ok-clause-at_least g c).After-bring_in
 
@@ -116,6 +122,9 @@ returns-in-Err-clause-spare g c = spare_is g (goal.at.returns-in-Err-clause-spar
 
 pub returns-in-Err-clause-goes_on : goal.returns-in-Err-clause-goes_on
 returns-in-Err-clause-goes_on g c = c.in-Err.ensures.goes_on
+
+pub returns-in-Err-clause-none : goal.returns-in-Err-clause-none
+returns-in-Err-clause-none g c = none g (goal.at.returns-in-Err-clause-none g c).After-bring_in
 
 pub returns-in-Err-clause-at_least : goal.returns-in-Err-clause-at_least
 returns-in-Err-clause-at_least g c = at_least g (goal.at.returns-in-Err-clause-at_least g c).After-bring_in

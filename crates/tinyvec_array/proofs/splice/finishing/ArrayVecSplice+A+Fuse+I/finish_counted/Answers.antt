@@ -1,4 +1,4 @@
-use Rattle.std.proofs.Common.{◌≡◌, ◌+◌, ◌-◌, ◌^◌, ◌++◌, ◌≤◌, ◌<◌, take, drop, length, Ok, ap, ◌∙◌, le_trans, arith, length-append}
+use Rattle.std.proofs.Common.{◌≡◌, ℕ, ◌+◌, ◌-◌, ◌*◌, ◌^◌, ◌++◌, ◌≤◌, ◌<◌, take, drop, length, Ok, ap, sym, ◌∙◌, le_trans, arith, length-append}
 use Rattle.std.proofs.lemmas.List.{length-take-le, length-drop}
 use Rattle.std.specs.Iterator.Adapters.{fuse_steps}
 use Rattle.tinyvec_slots.specs.Fused.{fused_rest}
@@ -9,7 +9,7 @@ use Rattle.tinyvec_slots.proofs.Fused.{fused_first}
 use Rattle.tinyvec_slots.proofs.Lists.{length-slice_range}
 use Rattle.tinyvec_slots.proofs.SlotsLemmas.{items-with_items, spare-with_items, slots_used, slots_freed}
 use Rattle.tinyvec_slots.proofs.SpliceLemmas.{finishes_with, finished_len, finishes_closed, finishes_appended, filled_within}
-use Rattle.tinyvec_array.specs.Splice.{splice_view, splice_left, splice_touches}
+use Rattle.tinyvec_array.specs.Splice.{splice_view, splice_front, splice_left, splice_touches}
 use Rattle.tinyvec_array.proofs.splice.finishing.ArrayVecSplice+A+Fuse+I.finish_counted.Goals.{After-fill}
 use Rattle.tinyvec_array.proofs.splice.finishing.ArrayVecSplice+A+Fuse+I.finish_counted.Goals as goal
 
@@ -141,10 +141,16 @@ returns-clause-slots g c =
     ∙ ap (λ n. drop (items_len new - n) (spare old)) (long g filled))
 
 -- how many touches there were, by how many items were placed
+record Counted (T slots front placed bound len count : ℕ) : Type 0 where
+  filled : len ≡ slots → count ≡ T + 2 * placed
+  closed : len < slots → count ≡ T + placed + (slots - front)
+  at_least : T + placed ≤ count
+  at_most : count ≤ T + bound
+
 module _ (g : _) (c : goal.After-drop-replacement g) where
-  bounds : (splice_touches c.args.self + finish_placed (splice_view c.args.self) (items c.close.new.vec) ≤ c.touches.result)
-      × (c.touches.result ≤ splice_touches c.args.self + finish_bound (splice_view c.args.self) (items_len c.args.self.vec.now) (items c.close.new.vec))
-  bounds =
+  counted : Counted (splice_touches c.args.self) (items_len c.args.self.vec.now) (length (splice_front c.args.self)) (finish_placed (splice_view c.args.self) (items c.close.new.vec))
+      (finish_bound (splice_view c.args.self) (items_len c.args.self.vec.now) (items c.close.new.vec)) (items_len c.close.new.vec) c.touches.result
+  counted =
       let filled = (goal.at.returns-then-not-fill-clause-finished g c).After-fill in
       let gap = c.args.self.gap in
       let old = items c.args.self.vec.now in
@@ -152,21 +158,30 @@ module _ (g : _) (c : goal.After-drop-replacement g) where
       let fill = c.fill.ensures in
       let closed = c.close.ensures in
       let ahead = length-take-le gap.front old (omega (arith, ready.0, ready.1, ready.2, ready.3)) in
-      let behind = length-drop gap.back old in (
-        omega (arith, closed.len, ahead, behind, long g filled, ready.3, fill.back, fill.in_order, fill.placed.2, fill.touches, closed.touches, c.touches.ensures),
-        omega (arith, within g filled, closed.len, ahead, behind, long g filled, ready.3, fill.back, fill.in_order, fill.placed.2, fill.touches, closed.touches, c.touches.ensures),
-      )
+      let behind = length-drop gap.back old in
+      let open_gap : gap_front c.fill.new.self < gap_back gap = rw c.if-not-fill.true at fill.filled in record {
+        filled = λ same. absurd (omega (arith, same, closed.len, long g filled, fill.back, open_gap));
+        closed = λ _. omega (arith, closed.len, ahead, behind, long g filled, ready.3, fill.back, fill.in_order, fill.touches, closed.touches, c.touches.ensures);
+        at_least = omega (arith, closed.len, ahead, behind, long g filled, ready.3, fill.back, fill.in_order, fill.placed.2, fill.touches, closed.touches, c.touches.ensures);
+        at_most = omega (arith, within g filled, closed.len, ahead, behind, long g filled, ready.3, fill.back, fill.in_order, fill.placed.2, fill.touches, closed.touches, c.touches.ensures);
+      }
+
+pub returns-then-not-fill-clause-filled : goal.returns-then-not-fill-clause-filled
+returns-then-not-fill-clause-filled g c = (counted g c).filled
+
+pub returns-then-not-fill-clause-closed : goal.returns-then-not-fill-clause-closed
+returns-then-not-fill-clause-closed g c = (counted g c).closed
 
 pub returns-then-not-fill-clause-at_least : goal.returns-then-not-fill-clause-at_least
-returns-then-not-fill-clause-at_least g c = (bounds g c).0
+returns-then-not-fill-clause-at_least g c = (counted g c).at_least
 
 pub returns-then-not-fill-clause-at_most : goal.returns-then-not-fill-clause-at_most
-returns-then-not-fill-clause-at_most g c = (bounds g c).1
+returns-then-not-fill-clause-at_most g c = (counted g c).at_most
 
 module _ (g : _) (c : goal.After-touches-2 g) where
-  bounds_longer : (splice_touches c.args.self + finish_placed (splice_view c.args.self) (items c.append_in-finished.new.vec) ≤ c.touches-2.result)
-      × (c.touches-2.result ≤ splice_touches c.args.self + finish_bound (splice_view c.args.self) (items_len c.args.self.vec.now) (items c.append_in-finished.new.vec))
-  bounds_longer =
+  counted_longer : Counted (splice_touches c.args.self) (items_len c.args.self.vec.now) (length (splice_front c.args.self)) (finish_placed (splice_view c.args.self) (items c.append_in-finished.new.vec))
+      (finish_bound (splice_view c.args.self) (items_len c.args.self.vec.now) (items c.append_in-finished.new.vec)) (items_len c.append_in-finished.new.vec) c.touches-2.result
+  counted_longer =
       let filled = (goal.at.returns-clause-finished g c).After-fill in
       let gap = c.args.self.gap in
       let old = items c.args.self.vec.now in
@@ -177,13 +192,22 @@ module _ (g : _) (c : goal.After-touches-2 g) where
       let both = length-append fill.placed.0 more.ran.0 in
       let ahead = length-take-le gap.front old (omega (arith, ready.0, ready.1, ready.2, ready.3)) in
       let behind = length-drop gap.back old in
-      let full = (rw c.if-not-fill.false at fill.filled).0 in (
-        omega (arith, sum, both, ahead, behind, long g filled, full, ready.3, fill.in_order, fill.placed.2, fill.touches, more.at_least, c.touches-2.ensures),
-        omega (arith, within g filled, sum, both, ahead, behind, long g filled, full, ready.3, fill.in_order, fill.placed.2, fill.touches, more.at_most, c.touches-2.ensures),
-      )
+      let full = (rw c.if-not-fill.false at fill.filled).0 in record {
+        filled = λ same. let none = more.none (same ∙ sym (long g filled)) in
+            omega (arith, none, same, ahead, behind, full, ready.3, fill.in_order, fill.touches, c.touches-2.ensures);
+        closed = λ shorter. absurd (omega (arith, shorter, long g filled, more.longer));
+        at_least = omega (arith, sum, both, ahead, behind, long g filled, full, ready.3, fill.in_order, fill.placed.2, fill.touches, more.at_least, c.touches-2.ensures);
+        at_most = omega (arith, within g filled, sum, both, ahead, behind, long g filled, full, ready.3, fill.in_order, fill.placed.2, fill.touches, more.at_most, c.touches-2.ensures);
+      }
+
+pub returns-clause-filled : goal.returns-clause-filled
+returns-clause-filled g c = (counted_longer g c).filled
+
+pub returns-clause-closed : goal.returns-clause-closed
+returns-clause-closed g c = (counted_longer g c).closed
 
 pub returns-clause-at_least : goal.returns-clause-at_least
-returns-clause-at_least g c = (bounds_longer g c).0
+returns-clause-at_least g c = (counted_longer g c).at_least
 
 pub returns-clause-at_most : goal.returns-clause-at_most
-returns-clause-at_most g c = (bounds_longer g c).1
+returns-clause-at_most g c = (counted_longer g c).at_most
