@@ -122,17 +122,11 @@ fn extend_from_slice_refused(rt: HostRuntime) -> Result<(), Fail> {
     let mut v = three(rt.alloc());
     let items = [Item(1), Item(2), Item(3)];
     let mut wrong = 0;
-    wrong = granted(
-        wrong,
-        1,
-        refuses_to_extend(&mut v, &[Item(99)], &items, true),
-    );
+    let is_right = refuses_to_extend(&mut v, &[Item(99)], &items, true);
+    wrong = granted(wrong, 1, is_right);
     // The room was granted before the clone was refused.
-    wrong = granted(
-        wrong,
-        2,
-        refuses_to_extend(&mut v, &[Item(5), Item(99)], &items, false),
-    );
+    let is_right = refuses_to_extend(&mut v, &[Item(5), Item(99)], &items, false);
+    wrong = granted(wrong, 2, is_right);
     all_right(wrong)
 }
 
@@ -178,11 +172,8 @@ fn clone_from_shorter_refused(rt: HostRuntime) -> Result<(), Fail> {
     let mut v = three(rt.alloc());
     let source = TinyVec::from_array_len(rt.alloc(), [Item(7), Item(99), Item(6), Item(6)], 2);
     let mut wrong = 0;
-    wrong = granted(
-        wrong,
-        1,
-        refuses_to_clone_from(&mut v, &source, &[Item(7), Item(2)], true),
-    );
+    let is_right = refuses_to_clone_from(&mut v, &source, &[Item(7), Item(2)], true);
+    wrong = granted(wrong, 1, is_right);
     wrong = first(wrong, 2, spares(&v, &[Item(0), Item(4)]));
     all_right(wrong)
 }
@@ -195,17 +186,11 @@ fn clone_from_longer_refused(rt: HostRuntime) -> Result<(), Fail> {
     let items = [Item(1), Item(2), Item(3)];
     let mut wrong = 0;
     // Among the first: the room was granted.
-    wrong = granted(
-        wrong,
-        1,
-        refuses_to_clone_from(&mut three, &source, &items, false),
-    );
+    let is_right = refuses_to_clone_from(&mut three, &source, &items, false);
+    wrong = granted(wrong, 1, is_right);
     // Behind them.
-    wrong = granted(
-        wrong,
-        2,
-        refuses_to_clone_from(&mut one, &source, &[Item(1)], false),
-    );
+    let is_right = refuses_to_clone_from(&mut one, &source, &[Item(1)], false);
+    wrong = granted(wrong, 2, is_right);
     all_right(wrong)
 }
 

@@ -50,23 +50,28 @@ fn listed(alloc: Global, items: &[i32], inline: bool) -> Result<TinyVec<[i32; 4]
 }
 
 // Whether the lists of a row stand so, wherever they lie. Equal ones have one hash.
-fn stand(alloc: Global, row: &Row, first: bool, second: bool) -> Result<bool, AllocError> {
-    let v = listed(alloc, row.0, first)?;
-    let w = listed(alloc, row.1, second)?;
+fn stand(alloc: Global, row: &Row, first: bool, second: bool) -> Option<bool> {
+    let v = listed(alloc, row.0, first).ok()?;
+    let w = listed(alloc, row.1, second).ok()?;
     let hashed = (hash_of(&v) == hash_of(&w)) | (row.2 != Ordering::Equal);
     let there = (v.is_inline() == first) & (w.is_inline() == second);
-    Ok(stand_so(&v, &w, row.2) & hashed & there)
+    Some(stand_so(&v, &w, row.2) & hashed & there)
 }
 
+// A row has a step for each place: the tens count the rows.
 #[test]
 fn in_all_places(rt: HostRuntime) -> Result<(), Fail> {
-    for (first, second) in PLACES {
-        for (at, row) in ROWS.iter().enumerate() {
-            let is_so = stand(rt.alloc(), row, first, second)?;
-            assert!(rt; is_so, "row {at}, {first}, {second}");
+    let mut wrong = 0;
+    let mut tens = 10_u32;
+    for row in &ROWS {
+        let mut step = tens;
+        for (first, second) in PLACES {
+            wrong = granted(wrong, step, stand(rt.alloc(), row, first, second));
+            step = step.wrapping_add(1);
         }
+        tens = tens.wrapping_add(10);
     }
-    Ok(())
+    all_right(wrong)
 }
 
 type Long = TinyVec<[i32; 70]>;
@@ -78,25 +83,29 @@ fn sevens(alloc: Global, len: usize) -> Result<Long, AllocError> {
 }
 
 // Whether so many sevens equal as many, are more than one less, and less than these and 8.
-fn sevens_stand(alloc: Global, len: usize) -> Result<bool, AllocError> {
-    let v = sevens(alloc, len)?;
-    let mut w = v.clone()?;
+fn sevens_stand(alloc: Global, len: usize) -> Option<bool> {
+    let v = sevens(alloc, len).ok()?;
+    let mut w = v.clone().ok()?;
     let equal = stand_so(&v, &w, Ordering::Equal) & (hash_of(&v) == hash_of(&w));
     let popped = w.pop() == Some(7);
     let greater = stand_so(&v, &w, Ordering::Greater);
-    w.push(8)?;
-    Ok(equal & popped & greater & stand_so(&v, &w, Ordering::Less))
+    let pushed = w.push(8).is_ok();
+    Some(equal & popped & greater & pushed & stand_so(&v, &w, Ordering::Less))
 }
+
+// Up to 70 items are inline. Long lists are compared in blocks of several sizes, and the rest item by item.
+const LENGTHS: [u8; 19] = [
+    1, 3, 4, 5, 7, 8, 19, 20, 23, 36, 67, 68, 70, 71, 84, 88, 91, 132, 150,
+];
 
 #[test]
 fn lists_of_any_length(rt: HostRuntime) -> Result<(), Fail> {
-    // Up to 70 items are inline. Long lists are compared in blocks of several sizes, and the rest item by item.
-    for len in [
-        1, 3, 4, 5, 7, 8, 19, 20, 23, 36, 67, 68, 70, 71, 84, 88, 91, 132, 150,
-    ] {
-        assert!(rt; sevens_stand(rt.alloc(), len)?, "{len} items");
+    let mut wrong = 0;
+    for len in LENGTHS {
+        let is_right = sevens_stand(rt.alloc(), usize::from(len));
+        wrong = granted(wrong, u32::from(len), is_right);
     }
-    Ok(())
+    all_right(wrong)
 }
 
 // Whether two lists stand so once this item is put at a place of the second.

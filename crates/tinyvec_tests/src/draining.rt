@@ -4,14 +4,13 @@ ghost use Rattle.tinyvec_slots.specs.Cut.{range_start, range_end};
 ghost use Rattle.tinyvec.specs.Tiny.{tiny_len};
 
 use crate::placed::{Span, one_two_three, placed};
-use std::alloc::{AllocError, AllocGlobal, Global};
+use std::alloc::{AllocError, Global};
 use std::mem;
 use std::ops::{Bound, RangeBounds};
-use std::process::Abort;
 use std::test::Fail;
-use tinyvec::{ArrayVec, TinyVec, TinyVecDrain};
+use tinyvec::{ArrayVec, TinyVec};
 use tinyvec_test_items::{first, is_left, yields, yields_back};
-use tinyvec_test_looks::{all_right, lies, lies_before, spares};
+use tinyvec_test_looks::{all_right, granted, lies, lies_before, spares};
 
 // A range of `[1, 2, 3]`, what it gives, and the list that it leaves.
 type Row = (Span, &'static [i32], &'static [i32]);
@@ -52,7 +51,7 @@ fn gives<R: RangeBounds<usize>>(v: &mut TinyVec<[i32; 10]>, range: R, given: &[i
 }
 
 // The same of a range as a value, where there is one.
-fn drains(rt: &impl Abort, v: &mut TinyVec<[i32; 10]>, range: Span, given: &[i32]) -> bool {
+fn drains(v: &mut TinyVec<[i32; 10]>, range: Span, given: &[i32]) -> bool {
     let len = v.len();
     match range {
         Span::All => gives(v, .., given),
@@ -66,26 +65,36 @@ fn drains(rt: &impl Abort, v: &mut TinyVec<[i32; 10]>, range: Span, given: &[i32
         Span::Behind(front, last) if front <= last && last < len => {
             gives(v, (Bound::Excluded(front), Bound::Included(last)), given)
         }
-        _ => panic!(rt; "there is no such range"),
+        // There is no such range.
+        _ => false,
     }
 }
 
 // Whether the drain of a row goes as it says, and leaves the list where it was, with its room.
-fn goes_so(rt: &(impl Abort + AllocGlobal), row: &Row, inline: bool) -> Result<bool, AllocError> {
-    let mut v = one_two_three(rt.alloc(), inline)?;
-    let room = v.capacity();
-    let is_right = drains(rt, &mut v, row.0, row.1);
-    Ok(is_right & lies(&v, row.2, inline) & (v.capacity() == room))
+fn goes_so(alloc: Global, row: &Row, inline: bool) -> Option<bool> {
+    match one_two_three(alloc, inline) {
+        Ok(v) => {
+            let mut v = v;
+            let room = v.capacity();
+            let is_right = drains(&mut v, row.0, row.1);
+            Some(is_right & lies(&v, row.2, inline) & (v.capacity() == room))
+        }
+        Err(AllocError) => None,
+    }
 }
 
+// A row has a step in the array, and that plus a hundred on the heap.
 #[test]
 fn ranges(rt: HostRuntime) -> Result<(), Fail> {
-    for inline in [true, false] {
-        for (at, row) in RANGES.iter().enumerate() {
-            assert!(rt; goes_so(&rt, row, inline)?, "row {at}, inline: {inline}");
-        }
+    let mut wrong = 0;
+    let mut step = 1_u32;
+    for row in &RANGES {
+        let on_the_heap = step.wrapping_add(100);
+        wrong = granted(wrong, step, goes_so(rt.alloc(), row, true));
+        wrong = granted(wrong, on_the_heap, goes_so(rt.alloc(), row, false));
+        step = step.wrapping_add(1);
     }
-    Ok(())
+    all_right(wrong)
 }
 
 #[test]
@@ -109,48 +118,40 @@ fn never_asked(rt: HostRuntime) -> Result<(), Fail> {
     all_right(wrong)
 }
 
-// The first step that goes wrong with a drain of 1 to 7, or 0.
-fn driven(d: TinyVecDrain<[i32; 4]>) -> u32 {
-    let mut d = d;
+#[test]
+fn from_both_ends(rt: HostRuntime) -> Result<(), Fail> {
+    let mut v: TinyVec<[i32; 4]> = TinyVec::from_slice(rt.alloc(), &[0, 1, 2, 3, 4, 5, 6, 7])?;
+    let mut d = v.drain(1..);
     let mut wrong = 0;
     wrong = first(wrong, 1, is_left(&d, 7));
     wrong = first(wrong, 2, yields(&mut d, Some(1)));
     wrong = first(wrong, 3, yields_back(&mut d, Some(7)));
     wrong = first(wrong, 4, d.nth(1) == Some(3));
     wrong = first(wrong, 5, d.nth_back(1) == Some(5));
-    first(wrong, 6, d.len() == 1)
-}
-
-#[test]
-fn from_both_ends(rt: HostRuntime) -> Result<(), Fail> {
-    let mut v: TinyVec<[i32; 4]> = TinyVec::from_slice(rt.alloc(), &[0, 1, 2, 3, 4, 5, 6, 7])?;
-    let mut wrong = driven(v.drain(1..));
+    wrong = first(wrong, 6, d.len() == 1);
+    drop(d);
     wrong = first(wrong, 7, lies(&v, &[0], false));
     all_right(wrong)
-}
-
-// The first step that goes wrong with a drain of 1 and 2, or 0.
-fn driven_to_none(d: TinyVecDrain<[i32; 2]>) -> u32 {
-    let mut d = d;
-    let mut wrong = 0;
-    wrong = first(wrong, 1, yields(&mut d, Some(1)));
-    wrong = first(wrong, 2, yields_back(&mut d, Some(2)));
-    wrong = first(wrong, 3, yields(&mut d, None));
-    wrong = first(wrong, 4, yields_back(&mut d, None));
-    first(wrong, 5, is_left(&d, 0))
 }
 
 #[test]
 fn from_both_ends_to_none(rt: HostRuntime) -> Result<(), Fail> {
     let mut v: TinyVec<[i32; 2]> = TinyVec::from_slice(rt.alloc(), &[0, 1, 2])?;
-    let mut wrong = driven_to_none(v.drain(1..));
+    let mut d = v.drain(1..);
+    let mut wrong = 0;
+    wrong = first(wrong, 1, yields(&mut d, Some(1)));
+    wrong = first(wrong, 2, yields_back(&mut d, Some(2)));
+    wrong = first(wrong, 3, yields(&mut d, None));
+    wrong = first(wrong, 4, yields_back(&mut d, None));
+    wrong = first(wrong, 5, is_left(&d, 0));
+    drop(d);
     wrong = first(wrong, 6, lies(&v, &[0], false));
     all_right(wrong)
 }
 
 // The first step that goes wrong where 1 to 4 are moved behind 7, or 0.
 fn moved_behind(v: &mut TinyVec<[i32; 5]>, out: &mut Vec<i32>, inline: bool) -> u32 {
-    if v.len() != 4 {
+    if v.len() != 4 || out.len() != 1 || out.capacity() != 5 {
         return 1;
     }
     let mut wrong = 0;

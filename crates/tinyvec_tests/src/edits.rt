@@ -31,24 +31,45 @@ type Row = (Edit, Option<i32>, &'static [i32], Place);
 
 // Makes a call at a place that there is. Answers the item that it took out, or nothing at all where it was refused.
 fn make<const N: usize>(v: &mut TinyVec<[i32; N]>, edit: Edit) -> Option<Option<i32>> {
-    let len = v.len();
-    let granted = match edit {
-        Push(item) => v.push(item).is_ok(),
-        Insert(index, item) if index <= len => v.insert(index, item).is_ok(),
-        Pop => return Some(v.pop()),
-        Remove(index) if index < len => return Some(Some(v.remove(index))),
-        SwapRemove(index) if index < len => return Some(Some(v.swap_remove(index))),
+    match edit {
+        Push(item) => put_in(v.push(item).is_ok()),
+        Insert(index, item) => put_in(insert(v, index, item)),
+        Pop => Some(v.pop()),
+        Remove(index) => remove(v, index),
+        SwapRemove(index) => swap_remove(v, index),
         Truncate(count) => {
             v.truncate(count);
-            true
+            Some(None)
         }
         Clear => {
             v.clear();
-            true
+            Some(None)
         }
-        _ => false,
-    };
-    if granted { Some(None) } else { None }
+    }
+}
+
+fn put_in(is_granted: bool) -> Option<Option<i32>> {
+    if is_granted { Some(None) } else { None }
+}
+
+fn insert<const N: usize>(v: &mut TinyVec<[i32; N]>, index: usize, item: i32) -> bool {
+    index <= v.len() && v.insert(index, item).is_ok()
+}
+
+fn remove<const N: usize>(v: &mut TinyVec<[i32; N]>, index: usize) -> Option<Option<i32>> {
+    if index < v.len() {
+        Some(Some(v.remove(index)))
+    } else {
+        None
+    }
+}
+
+fn swap_remove<const N: usize>(v: &mut TinyVec<[i32; N]>, index: usize) -> Option<Option<i32>> {
+    if index < v.len() {
+        Some(Some(v.swap_remove(index)))
+    } else {
+        None
+    }
 }
 
 fn is_there<const N: usize>(v: &TinyVec<[i32; N]>, items: &[i32], place: Place) -> bool {
@@ -147,28 +168,32 @@ const TRUNCATED_ON_THE_HEAP: [Row; 2] = [
     (Clear, None, &[], Heap(0)),
 ];
 
-// `[1, 2, 3]`, on the heap.
-fn three_on_the_heap<const N: usize>(alloc: Global) -> Result<TinyVec<[i32; N]>, AllocError> {
-    placed(TinyVec::from_slice(alloc, &[1, 2, 3])?, false)
+// The same of a list that was made on the heap.
+fn edits_made<const N: usize>(
+    wrong: u32,
+    step: u32,
+    made: Result<TinyVec<[i32; N]>, AllocError>,
+    rows: &[Row],
+) -> u32 {
+    match made {
+        Ok(v) => edits(wrong, step, v, rows),
+        Err(AllocError) => granted(wrong, step, None),
+    }
 }
+
+const REMOVED_ON_THE_HEAP: Row = (Remove(0), Some(1), &[2, 3], Heap(2));
+
+const SWAP_REMOVED_ON_THE_HEAP: Row = (SwapRemove(0), Some(1), &[3, 2], Heap(2));
 
 #[test]
 fn shortened_on_the_heap(rt: HostRuntime) -> Result<(), Fail> {
-    let removed: Row = (Remove(0), Some(1), &[2, 3], Heap(2));
-    let mut wrong = edits(0, 1, three_on_the_heap::<2>(rt.alloc())?, &[removed]);
-    let swap_removed: Row = (SwapRemove(0), Some(1), &[3, 2], Heap(2));
-    wrong = edits(
-        wrong,
-        11,
-        three_on_the_heap::<1>(rt.alloc())?,
-        &[swap_removed],
-    );
-    wrong = edits(
-        wrong,
-        21,
-        three_on_the_heap::<2>(rt.alloc())?,
-        &TRUNCATED_ON_THE_HEAP,
-    );
+    let mut wrong = 0;
+    let three = TinyVec::<[i32; 2]>::from_slice(rt.alloc(), &[1, 2, 3]);
+    wrong = edits_made(wrong, 1, three, &[REMOVED_ON_THE_HEAP]);
+    let three = TinyVec::<[i32; 1]>::from_slice(rt.alloc(), &[1, 2, 3]);
+    wrong = edits_made(wrong, 11, three, &[SWAP_REMOVED_ON_THE_HEAP]);
+    let three = TinyVec::<[i32; 2]>::from_slice(rt.alloc(), &[1, 2, 3]);
+    wrong = edits_made(wrong, 21, three, &TRUNCATED_ON_THE_HEAP);
     all_right(wrong)
 }
 
@@ -206,11 +231,8 @@ fn joined_and_cut(rt: HostRuntime) -> Result<(), Fail> {
     wrong = granted(wrong, 1, appends(&mut v, &mut heap, &[1, 2, 3, 4], true));
     wrong = granted(wrong, 2, goes_so(&mut v, &nine));
     wrong = granted(wrong, 3, cuts(&mut v, 4, &[1, 9, 2, 3], &[4]));
-    wrong = granted(
-        wrong,
-        4,
-        appends(&mut v, &mut more, &[1, 9, 2, 3, 5, 6], false),
-    );
+    let is_right = appends(&mut v, &mut more, &[1, 9, 2, 3, 5, 6], false);
+    wrong = granted(wrong, 4, is_right);
     wrong = first(wrong, 5, spares(&more, &[0, 0, 7, 7]));
     wrong = granted(wrong, 6, appends(&mut v, &mut last, &all, false));
     all_right(wrong)

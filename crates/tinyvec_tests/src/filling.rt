@@ -12,11 +12,8 @@ fn listed(rt: HostRuntime) -> Result<(), Fail> {
     let mut wrong = 0;
     wrong = granted(wrong, 1, extends(&mut v, [5, 6], &[1, 5, 6], true));
     wrong = first(wrong, 2, spares(&v, &[7]));
-    wrong = granted(
-        wrong,
-        3,
-        extends(&mut v, [7, 8, 9], &[1, 5, 6, 7, 8, 9], false),
-    );
+    let is_right = extends(&mut v, [7, 8, 9], &[1, 5, 6, 7, 8, 9], false);
+    wrong = granted(wrong, 3, is_right);
     wrong = granted(wrong, 4, extends(&mut v, 10..12, &all, false));
     all_right(wrong)
 }
@@ -39,17 +36,11 @@ fn extends_by_a_vec(
 fn a_vec(rt: HostRuntime) -> Result<(), Fail> {
     let mut v = TinyVec::from_array_len(rt.alloc(), [1, 0, 0, 9], 1);
     let mut wrong = 0;
-    wrong = granted(
-        wrong,
-        1,
-        extends_by_a_vec(rt.alloc(), &mut v, &[2, 3], &[1, 2, 3], true),
-    );
+    let is_right = extends_by_a_vec(rt.alloc(), &mut v, &[2, 3], &[1, 2, 3], true);
+    wrong = granted(wrong, 1, is_right);
     wrong = first(wrong, 2, spares(&v, &[9]));
-    wrong = granted(
-        wrong,
-        3,
-        extends_by_a_vec(rt.alloc(), &mut v, &[4, 5], &[1, 2, 3, 4, 5], false),
-    );
+    let is_right = extends_by_a_vec(rt.alloc(), &mut v, &[4, 5], &[1, 2, 3, 4, 5], false);
+    wrong = granted(wrong, 3, is_right);
     all_right(wrong)
 }
 
@@ -57,16 +48,10 @@ fn a_vec(rt: HostRuntime) -> Result<(), Fail> {
 fn copies_of_a_slice(rt: HostRuntime) -> Result<(), Fail> {
     let mut v = TinyVec::from_array_len(rt.alloc(), [1, 0, 0], 1);
     let mut wrong = 0;
-    wrong = granted(
-        wrong,
-        1,
-        extends(&mut v, [2, 3].iter().copied(), &[1, 2, 3], true),
-    );
-    wrong = granted(
-        wrong,
-        2,
-        extends(&mut v, [4].iter().copied(), &[1, 2, 3, 4], false),
-    );
+    let is_right = extends(&mut v, [2, 3].iter().copied(), &[1, 2, 3], true);
+    wrong = granted(wrong, 1, is_right);
+    let is_right = extends(&mut v, [4].iter().copied(), &[1, 2, 3, 4], false);
+    wrong = granted(wrong, 2, is_right);
     all_right(wrong)
 }
 
@@ -75,21 +60,10 @@ fn without_a_hint(rt: HostRuntime) -> Result<(), Fail> {
     let mut short = TinyVec::from_array_len(rt.alloc(), [1, 0, 0, 0], 1);
     let mut long = TinyVec::from_array_len(rt.alloc(), [1, 0, 0, 0], 1);
     let mut wrong = 0;
-    wrong = granted(
-        wrong,
-        1,
-        extends(&mut short, Unhinted { next: 2, end: 3 }, &[1, 2], true),
-    );
-    wrong = granted(
-        wrong,
-        2,
-        extends(
-            &mut long,
-            Unhinted { next: 2, end: 6 },
-            &[1, 2, 3, 4, 5],
-            false,
-        ),
-    );
+    let one = Unhinted { next: 2, end: 3 };
+    wrong = granted(wrong, 1, extends(&mut short, one, &[1, 2], true));
+    let four = Unhinted { next: 2, end: 6 };
+    wrong = granted(wrong, 2, extends(&mut long, four, &[1, 2, 3, 4, 5], false));
     all_right(wrong)
 }
 

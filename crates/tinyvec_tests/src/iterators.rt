@@ -3,7 +3,7 @@ use std::alloc::{AllocError, Global};
 use std::test::Fail;
 use tinyvec::{TinyVec, TinyVecIterator};
 use tinyvec_test_items::{first, is_left, yields, yields_back};
-use tinyvec_test_looks::{all_right, lies, lies_before};
+use tinyvec_test_looks::{all_right, granted, lies, lies_before};
 
 fn listed(alloc: Global, items: &[i32]) -> Result<TinyVec<[i32; 4]>, AllocError> {
     TinyVec::from_slice(alloc, items)
@@ -115,22 +115,41 @@ fn none_behind_the_fourth(items: TinyVecIterator<[i32; 4]>) -> bool {
     (items.nth(3) == Some(4)) & (items.next() == None) & (items.last() == None)
 }
 
-fn turned(alloc: Global, v: TinyVec<[i32; 4]>) -> Result<Vec<i32>, AllocError> {
-    v.into_iter().rev().collect(alloc)
+// These are inline, and ask for no memory.
+fn next_of(alloc: Global, items: &[i32]) -> Result<Option<i32>, AllocError> {
+    Ok(listed(alloc, items)?.into_iter().next())
+}
+
+fn last_of(alloc: Global, items: &[i32]) -> Result<Option<i32>, AllocError> {
+    Ok(listed(alloc, items)?.into_iter().last())
+}
+
+fn counts(alloc: Global, items: &[i32], count: usize) -> Option<bool> {
+    match listed(alloc, items) {
+        Ok(v) => Some(v.into_iter().count() == count),
+        Err(AllocError) => None,
+    }
+}
+
+fn turned(alloc: Global, items: &[i32]) -> Result<Vec<i32>, AllocError> {
+    listed(alloc, items)?.into_iter().rev().collect(alloc)
+}
+
+fn turns(alloc: Global, items: &[i32], wanted: &[i32]) -> Option<bool> {
+    match turned(alloc, items) {
+        Ok(vec) => Some(vec.as_slice() == wanted),
+        Err(AllocError) => None,
+    }
 }
 
 #[test]
 fn last_and_count(rt: HostRuntime) -> Result<(), Fail> {
+    let four = TinyVec::from_array(rt.alloc(), [1, 2, 3, 4]);
     let mut wrong = 0;
-    let four = listed(rt.alloc(), &[1, 2, 3, 4])?;
     wrong = first(wrong, 1, none_behind_the_fourth(four.into_iter()));
-    let next = listed(rt.alloc(), &[1, 2, 3])?.into_iter().next();
-    wrong = first(wrong, 2, next == Some(1));
-    let last = listed(rt.alloc(), &[1, 2, 3])?.into_iter().last();
-    wrong = first(wrong, 3, last == Some(3));
-    let count = listed(rt.alloc(), &[1, 2, 3, 4, 5])?.into_iter().count();
-    wrong = first(wrong, 4, count == 5);
-    let gathered = turned(rt.alloc(), listed(rt.alloc(), &[1, 2, 3])?)?;
-    wrong = first(wrong, 5, gathered.as_slice() == [3, 2, 1].as_slice());
+    wrong = first(wrong, 2, next_of(rt.alloc(), &[1, 2, 3]) == Ok(Some(1)));
+    wrong = first(wrong, 3, last_of(rt.alloc(), &[1, 2, 3]) == Ok(Some(3)));
+    wrong = granted(wrong, 4, counts(rt.alloc(), &[1, 2, 3, 4, 5], 5));
+    wrong = granted(wrong, 5, turns(rt.alloc(), &[1, 2, 3], &[3, 2, 1]));
     all_right(wrong)
 }

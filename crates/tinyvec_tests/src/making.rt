@@ -24,16 +24,10 @@ fn has_room(made: Result<Four, AllocError>, room: usize, inline: bool) -> Option
 fn empty(rt: HostRuntime) -> Result<(), Fail> {
     let mut wrong = 0;
     wrong = first(wrong, 1, is_new(Four::new(rt.alloc()), &[0, 0, 0, 0]));
-    wrong = granted(
-        wrong,
-        2,
-        has_room(Four::with_capacity(rt.alloc(), 4), 4, true),
-    );
-    wrong = granted(
-        wrong,
-        3,
-        has_room(Four::with_capacity(rt.alloc(), 5), 5, false),
-    );
+    let is_right = has_room(Four::with_capacity(rt.alloc(), 4), 4, true);
+    wrong = granted(wrong, 2, is_right);
+    let is_right = has_room(Four::with_capacity(rt.alloc(), 5), 5, false);
+    wrong = granted(wrong, 3, is_right);
     wrong = first(wrong, 4, is_new(TinyVec::<[i32; 0]>::new(rt.alloc()), &[]));
     all_right(wrong)
 }
@@ -45,26 +39,14 @@ fn is_refused(made: Result<Four, AllocError>) -> bool {
 #[test]
 fn room_that_no_allocator_grants(rt: HostRuntime) -> Result<(), Fail> {
     let mut wrong = 0;
-    wrong = first(
-        wrong,
-        1,
-        is_refused(Four::with_capacity(rt.alloc(), 1 << 60)),
-    );
-    wrong = first(
-        wrong,
-        2,
-        is_refused(Four::with_capacity(rt.alloc(), usize::MAX)),
-    );
-    wrong = first(
-        wrong,
-        3,
-        is_refused(Four::with_initial_len(rt.alloc(), 1 << 60)),
-    );
-    wrong = first(
-        wrong,
-        4,
-        is_refused(Four::with_initial_len(rt.alloc(), usize::MAX)),
-    );
+    let is_right = is_refused(Four::with_capacity(rt.alloc(), 1 << 60));
+    wrong = first(wrong, 1, is_right);
+    let is_right = is_refused(Four::with_capacity(rt.alloc(), usize::MAX));
+    wrong = first(wrong, 2, is_right);
+    let is_right = is_refused(Four::with_initial_len(rt.alloc(), 1 << 60));
+    wrong = first(wrong, 3, is_right);
+    let is_right = is_refused(Four::with_initial_len(rt.alloc(), usize::MAX));
+    wrong = first(wrong, 4, is_right);
     all_right(wrong)
 }
 

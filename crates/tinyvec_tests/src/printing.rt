@@ -3,7 +3,7 @@ use crate::placed::placed;
 use std::alloc::{AllocError, Global};
 use std::fmt;
 use std::test::Fail;
-use tinyvec::{TinyVec, TinyVecDrain, TinyVecIterator};
+use tinyvec::{TinyVec, TinyVecIterator};
 use tinyvec_test_items::{debugs, first, shows, yields, yields_back};
 use tinyvec_test_looks::{all_right, granted, lies, pushes};
 
@@ -32,8 +32,11 @@ impl<'a> fmt::Display for InBase<'a> {
     }
 }
 
+// The items, their base, and the text.
+type Row = (&'static [i16], Base, &'static str);
+
 // A negative number is written as its bits are, but in base 10.
-const IN_EACH_BASE: [(&[i16], Base, &str); 11] = [
+const IN_EACH_BASE: [Row; 11] = [
     (&[2, 5], Base::Two, "[10, 101]"),
     (&[], Base::Two, "[]"),
     (&[8, 9], Base::Eight, "[10, 11]"),
@@ -47,27 +50,28 @@ const IN_EACH_BASE: [(&[i16], Base, &str); 11] = [
     (&[-1, -2], Base::Eight, "[177777, 177776]"),
 ];
 
-// Whether a list is written so.
-fn is_shown(
-    alloc: Global,
-    items: &[i16],
-    base: Base,
-    text: &str,
-    inline: bool,
-) -> Result<bool, AllocError> {
-    let v = placed(TinyVec::from_slice(alloc, items)?, inline)?;
-    Ok(shows(alloc, &InBase(&v, base), text)?.is_some())
+// Whether a list of these items is written so.
+fn is_shown(alloc: Global, row: &Row, inline: bool) -> Option<bool> {
+    let listed = TinyVec::from_slice(alloc, row.0).ok()?;
+    let v = placed(listed, inline).ok()?;
+    match shows(alloc, &InBase(&v, row.1), row.2) {
+        Ok(shown) => Some(shown.is_some()),
+        Err(AllocError) => None,
+    }
 }
 
+// A row has a step in the array, and that plus a hundred on the heap.
 #[test]
 fn in_each_base(rt: HostRuntime) -> Result<(), Fail> {
-    for inline in [true, false] {
-        for (at, (items, base, text)) in IN_EACH_BASE.iter().enumerate() {
-            let is_shown = is_shown(rt.alloc(), *items, *base, *text, inline)?;
-            assert!(rt; is_shown, "row {at}, inline: {inline}");
-        }
+    let mut wrong = 0;
+    let mut step = 1_u32;
+    for row in &IN_EACH_BASE {
+        let on_the_heap = step.wrapping_add(100);
+        wrong = granted(wrong, step, is_shown(rt.alloc(), row, true));
+        wrong = granted(wrong, on_the_heap, is_shown(rt.alloc(), row, false));
+        step = step.wrapping_add(1);
     }
-    Ok(())
+    all_right(wrong)
 }
 
 // Whether `{}` writes a value so, and `{:?}` so.
@@ -123,11 +127,8 @@ fn driven(alloc: Global, items: TinyVecIterator<[i32; 4]>) -> u32 {
     let mut items = items;
     let mut wrong = 0;
     wrong = first(wrong, 1, yields(&mut items, Some(1)));
-    wrong = granted(
-        wrong,
-        2,
-        is_debugged(alloc, &items, "TinyVecIterator([2, 3])"),
-    );
+    let is_right = is_debugged(alloc, &items, "TinyVecIterator([2, 3])");
+    wrong = granted(wrong, 2, is_right);
     wrong = first(wrong, 3, yields_back(&mut items, Some(3)));
     wrong = granted(wrong, 4, is_debugged(alloc, &items, "TinyVecIterator([2])"));
     wrong = first(wrong, 5, yields(&mut items, Some(2)));
@@ -146,15 +147,15 @@ fn what_is_left_of_an_iterator_on_the_heap(rt: HostRuntime) -> Result<(), Fail> 
     all_right(driven(rt.alloc(), placed(v, false)?.into_iter()))
 }
 
-// What goes wrong with a drain of 2 to 5.
-fn drained(alloc: Global, items: TinyVecDrain<[i32; 7]>) -> u32 {
-    let mut items = items;
+// What goes wrong with a drain of the second to the fifth of six items.
+fn drained(alloc: Global, v: &mut TinyVec<[i32; 7]>) -> u32 {
+    if v.len() != 6 {
+        return 8;
+    }
+    let mut items = v.drain(1..5);
     let mut wrong = 0;
-    wrong = granted(
-        wrong,
-        1,
-        is_debugged(alloc, &items, "TinyVecDrain([2, 3, 4, 5])"),
-    );
+    let is_right = is_debugged(alloc, &items, "TinyVecDrain([2, 3, 4, 5])");
+    wrong = granted(wrong, 1, is_right);
     wrong = first(wrong, 2, yields(&mut items, Some(2)));
     wrong = first(wrong, 3, yields_back(&mut items, Some(5)));
     wrong = granted(wrong, 4, is_debugged(alloc, &items, "TinyVecDrain([3, 4])"));
@@ -166,14 +167,14 @@ fn drained(alloc: Global, items: TinyVecDrain<[i32; 7]>) -> u32 {
 #[test]
 fn what_is_left_of_a_drain(rt: HostRuntime) -> Result<(), Fail> {
     let mut v = TinyVec::from_array_len(rt.alloc(), [1, 2, 3, 4, 5, 6, 9], 6);
-    all_right(drained(rt.alloc(), v.drain(1..5)))
+    all_right(drained(rt.alloc(), &mut v))
 }
 
 #[test]
 fn what_is_left_of_a_drain_on_the_heap(rt: HostRuntime) -> Result<(), Fail> {
     let mut v = TinyVec::from_array_len(rt.alloc(), [1, 2, 3, 4, 5, 6, 9], 6);
     v.move_to_the_heap()?;
-    all_right(drained(rt.alloc(), v.drain(1..5)))
+    all_right(drained(rt.alloc(), &mut v))
 }
 
 // What goes wrong with a splice of the second to the fourth of five items.
@@ -184,11 +185,8 @@ fn spliced(alloc: Global, v: &mut TinyVec<[i32; 6]>, inline: bool) -> u32 {
     let mut splice = v.splice(1..4, [7, 8]);
     let mut wrong = 0;
     wrong = first(wrong, 2, splice.next() == Some(2));
-    wrong = granted(
-        wrong,
-        3,
-        is_debugged(alloc, &splice, "TinyVecSplice([3, 4])"),
-    );
+    let is_right = is_debugged(alloc, &splice, "TinyVecSplice([3, 4])");
+    wrong = granted(wrong, 3, is_right);
     wrong = first(wrong, 4, splice.next_back() == Some(4));
     wrong = granted(wrong, 5, is_debugged(alloc, &splice, "TinyVecSplice([3])"));
     wrong = first(wrong, 6, splice.next_back() == Some(3));

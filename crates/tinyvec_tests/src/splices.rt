@@ -378,16 +378,10 @@ fn hints_are_not_read(rt: HostRuntime) -> Result<(), Fail> {
     let two = Unhinted { next: 0, end: 2 };
     let four_and_five = Unhinted { next: 4, end: 6 };
     let mut wrong = 0;
-    wrong = granted(
-        wrong,
-        1,
-        replaces_unhinted(&mut v, 2, two, &[1, 0, 1, 3], true),
-    );
-    wrong = granted(
-        wrong,
-        2,
-        replaces_unhinted(&mut v, 1, four_and_five, &[4, 5, 0, 1, 3], false),
-    );
+    let is_right = replaces_unhinted(&mut v, 2, two, &[1, 0, 1, 3], true);
+    wrong = granted(wrong, 1, is_right);
+    let is_right = replaces_unhinted(&mut v, 1, four_and_five, &[4, 5, 0, 1, 3], false);
+    wrong = granted(wrong, 2, is_right);
     all_right(wrong)
 }
 

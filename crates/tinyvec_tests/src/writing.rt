@@ -60,11 +60,8 @@ fn all_and_flushed(rt: HostRuntime) -> Result<(), Fail> {
     let mut wrong = 0;
     wrong = granted(wrong, 1, writes_all(&mut v, b"abc", b"abc", true));
     wrong = first(wrong, 2, spares(&v, &[0; 7]));
-    wrong = granted(
-        wrong,
-        3,
-        writes_all(&mut v, b"defghijk", b"abcdefghijk", false),
-    );
+    let is_right = writes_all(&mut v, b"defghijk", b"abcdefghijk", false);
+    wrong = granted(wrong, 3, is_right);
     all_right(wrong)
 }
 
