@@ -1,10 +1,10 @@
 //! Calls that may answer want of memory, where all memory is granted: none gives up. The calls that grow a list and those for
 //! room stand in the modules of these, and those of an `ArrayVec` and of a `SliceVec` in the tests of their crates.
 use crate::asking::Making;
-use std::io::Write;
 use std::test::Fail;
 use tinyvec::TinyVec;
-use tinyvec_test_looks::lies;
+use tinyvec_test_items::first;
+use tinyvec_test_looks::{all_right, granted, lies, makes, writes};
 
 // Calls that make a list, and its items on the heap.
 const MADE: [(Making, &[i32]); 7] = [
@@ -18,38 +18,52 @@ const MADE: [(Making, &[i32]); 7] = [
 ];
 
 #[test]
-fn makers_of_a_tiny(rt: HostRuntime) {
-    for (at, (making, items)) in MADE.iter().enumerate() {
-        let Ok(made) = making.make(rt.alloc()) else {
-            panic!(rt; "memory was granted");
-        };
-        assert!(rt; lies(&made, items, false), "row {at}");
+fn makers_of_a_tiny(rt: HostRuntime) -> Result<(), Fail> {
+    let mut wrong = 0;
+    let mut step = 1_u32;
+    for (making, items) in MADE {
+        wrong = granted(wrong, step, makes(making.make(rt.alloc()), items, false));
+        step = step.wrapping_add(1);
     }
+    all_right(wrong)
 }
 
 #[test]
 fn split_and_written(rt: HostRuntime) -> Result<(), Fail> {
     let mut v = TinyVec::from_array(rt.alloc(), [1, 2]);
     v.move_to_the_heap()?;
-    let end = v.split_off(1)?;
-    assert!(rt; lies(&v, &[1], false));
-    assert!(rt; lies(&end, &[2], false));
     let mut bytes = TinyVec::<[u8; 2]>::new(rt.alloc());
-    assert!(rt; bytes.write(b"abc")? == 3);
-    assert!(rt; bytes.as_slice() == b"abc".as_slice());
-    Ok(())
+    let mut wrong = 0;
+    wrong = granted(wrong, 1, makes(v.split_off(1), &[2], false));
+    wrong = first(wrong, 2, lies(&v, &[1], false));
+    wrong = granted(wrong, 3, writes(&mut bytes, b"abc", b"abc", false));
+    all_right(wrong)
+}
+
+// Whether the first of two items is replaced by 5 to 7, and the same where touches are counted.
+fn is_spliced(v: &mut TinyVec<[i32; 2]>, counts: bool) -> Option<bool> {
+    if v.len() != 2 {
+        return Some(false);
+    }
+    let splice = v.splice(0..1, 5..=7);
+    let finished = if counts {
+        splice.finish_counted().0.is_ok()
+    } else {
+        splice.finish().is_ok()
+    };
+    if finished {
+        Some(lies(v, &[5, 6, 7, 2], false))
+    } else {
+        None
+    }
 }
 
 #[test]
-fn spliced(rt: HostRuntime) {
+fn spliced(rt: HostRuntime) -> Result<(), Fail> {
     let mut v = TinyVec::from_array(rt.alloc(), [1, 2]);
-    assert!(rt;
-        v.splice(0..1, 5..=7).finish().is_ok(),
-        "memory was granted"
-    );
-    assert!(rt; lies(&v, &[5, 6, 7, 2], false));
-    let mut v = TinyVec::from_array(rt.alloc(), [1, 2]);
-    let (finished, _touches) = v.splice(0..1, 5..=7).finish_counted();
-    assert!(rt; finished.is_ok(), "memory was granted");
-    assert!(rt; lies(&v, &[5, 6, 7, 2], false));
+    let mut counted = TinyVec::from_array(rt.alloc(), [1, 2]);
+    let mut wrong = 0;
+    wrong = granted(wrong, 1, is_spliced(&mut v, false));
+    wrong = granted(wrong, 2, is_spliced(&mut counted, true));
+    all_right(wrong)
 }

@@ -1,12 +1,15 @@
 //! Each growing call on a full `[1, 2]`, with memory granted.
 use crate::asking::Asking;
-use crate::steps::{Need, Place, Step, assert_steps};
-use std::alloc::Global;
+use crate::steps::{Need, Place, Step, go_so, goes_so, is_refused};
+use std::alloc::{AllocError, Global};
 use std::test::Fail;
 use tinyvec::TinyVec;
-use tinyvec_test_looks::lies;
+use tinyvec_test_items::first;
+use tinyvec_test_looks::{all_right, granted, lies};
 
-fn full(alloc: Global) -> TinyVec<[i32; 2]> {
+type Two = TinyVec<[i32; 2]>;
+
+fn full(alloc: Global) -> Two {
     TinyVec::from_array(alloc, [1, 2])
 }
 
@@ -24,41 +27,62 @@ const GROWN: [(Asking, &[i32]); 10] = [
     (Asking::ResizeWith(3, 8), &[1, 2, 8]),
 ];
 
+// Whether a call of a full list goes as it says.
+fn grows_so(alloc: Global, step: &Step) -> Option<bool> {
+    goes_so(&mut full(alloc), step)
+}
+
 #[test]
-fn each_call(rt: HostRuntime) {
+fn each_call(rt: HostRuntime) -> Result<(), Fail> {
+    let mut wrong = 0;
+    let mut number = 1_u32;
     for (call, items) in GROWN {
-        let mut v = full(rt.alloc());
-        assert!(rt; call.make(&mut v).is_ok(), "memory was granted");
-        assert!(rt; lies(&v, items, false));
+        let step = (call, Need::Memory, items, Place::Heap(items.len()));
+        wrong = granted(wrong, number, grows_so(rt.alloc(), &step));
+        number = number.wrapping_add(1);
     }
+    all_right(wrong)
 }
 
 // Calls that leave a full list as it is, where it is.
+const NOTHING_MORE: [Step; 2] = [
+    (
+        Asking::ExtendFromSlice(&[]),
+        Need::Nothing,
+        &[1, 2],
+        Place::Inline(&[]),
+    ),
+    (
+        Asking::Extend(3, 2),
+        Need::Nothing,
+        &[1, 2],
+        Place::Inline(&[]),
+    ),
+];
+
 #[test]
-fn nothing_more(rt: HostRuntime) {
-    for call in [Asking::ExtendFromSlice(&[]), Asking::Extend(3, 2)] {
-        let mut v = full(rt.alloc());
-        assert!(rt; call.make(&mut v).is_ok());
-        assert!(rt; lies(&v, &[1, 2], true));
+fn nothing_more(rt: HostRuntime) -> Result<(), Fail> {
+    all_right(go_so(0, 1, &mut full(rt.alloc()), &NOTHING_MORE))
+}
+
+// Whether a list is put behind a full one.
+fn appends(alloc: Global, other: &mut Two, items: &[i32]) -> Option<bool> {
+    let mut v = full(alloc);
+    match v.append(other) {
+        Ok(()) => Some(lies(&v, items, false)),
+        Err(AllocError) => None,
     }
 }
 
-// Appends, and says whether that was granted.
-fn appends(v: &mut TinyVec<[i32; 2]>, other: &mut TinyVec<[i32; 2]>) -> bool {
-    v.append(other).is_ok()
-}
-
 #[test]
-fn append(rt: HostRuntime) {
-    let mut v = full(rt.alloc());
-    let mut other = TinyVec::from_array_len(rt.alloc(), [3, 0], 1);
-    assert!(rt; appends(&mut v, &mut other), "memory was granted");
-    assert!(rt; lies(&v, &[1, 2, 3], false));
-    assert!(rt; lies(&other, &[], true));
-    let mut v = full(rt.alloc());
-    let is_granted = appends(&mut v, &mut full(rt.alloc()));
-    assert!(rt; is_granted, "memory was granted");
-    assert!(rt; lies(&v, &[1, 2, 1, 2], false));
+fn append(rt: HostRuntime) -> Result<(), Fail> {
+    let mut three = TinyVec::from_array_len(rt.alloc(), [3, 0], 1);
+    let mut other = full(rt.alloc());
+    let mut wrong = 0;
+    wrong = granted(wrong, 1, appends(rt.alloc(), &mut three, &[1, 2, 3]));
+    wrong = first(wrong, 2, lies(&three, &[], true));
+    wrong = granted(wrong, 3, appends(rt.alloc(), &mut other, &[1, 2, 1, 2]));
+    all_right(wrong)
 }
 
 const RESIZE: [Step; 2] = [
@@ -71,6 +95,13 @@ const RESIZE: [Step; 2] = [
     (Asking::Resize(1, 9), Need::Nothing, &[1], Place::Heap(1)),
 ];
 
+const RESIZE_OF_MANY: [Step; 1] = [(
+    Asking::Resize(20, 5),
+    Need::Memory,
+    &[5; 20],
+    Place::Heap(20),
+)];
+
 const RESIZE_OF_FEW: [Step; 1] = [(
     Asking::Resize(3, 6),
     Need::Nothing,
@@ -79,65 +110,103 @@ const RESIZE_OF_FEW: [Step; 1] = [(
 )];
 
 #[test]
-fn resize(rt: HostRuntime) {
-    assert_steps(&rt, &mut full(rt.alloc()), &RESIZE);
+fn resize(rt: HostRuntime) -> Result<(), Fail> {
+    let mut full = full(rt.alloc());
     let mut many: TinyVec<[i32; 10]> = TinyVec::new(rt.alloc());
-    let is_granted = Asking::Resize(20, 5).make(&mut many).is_ok();
-    assert!(rt; is_granted, "memory was granted");
-    assert!(rt; lies(&many, &[5; 20], false));
     let mut few: TinyVec<[i32; 4]> = TinyVec::from_array_len(rt.alloc(), [1, 0, 0, 0], 1);
-    assert_steps(&rt, &mut few, &RESIZE_OF_FEW);
-    assert!(rt; Asking::Resize(1 << 60, 7).make(&mut few) == Err(Some(7)));
-    assert!(rt; lies(&few, &[1, 6, 6], true));
+    let too_long = Asking::Resize(1 << 60, 7);
+    let place = Place::Inline(&[0]);
+    let mut wrong = 0;
+    wrong = go_so(wrong, 1, &mut full, &RESIZE);
+    wrong = go_so(wrong, 11, &mut many, &RESIZE_OF_MANY);
+    wrong = go_so(wrong, 21, &mut few, &RESIZE_OF_FEW);
+    let is_refused = is_refused(&mut few, too_long, Some(7), &[1, 6, 6], place);
+    wrong = first(wrong, 22, is_refused);
+    all_right(wrong)
 }
+
+// Whether a closure that counts up from 11 is asked for two items.
+fn resizes_with_a_count(v: &mut TinyVec<[i32; 4]>) -> bool {
+    let mut last = 10_i32;
+    let resized = v.resize_with(3, || {
+        last = last.wrapping_add(1);
+        last
+    });
+    resized.is_ok() & (last == 12) & lies(v, &[1, 11, 12], true)
+}
+
+const RESIZE_WITH: [Step; 1] = [(
+    Asking::ResizeWith(2, 9),
+    Need::Nothing,
+    &[1, 11],
+    Place::Inline(&[0, 0]),
+)];
 
 // A call for more than there is room for asks its closure nothing.
 #[test]
 fn resize_with(rt: HostRuntime) -> Result<(), Fail> {
     let mut few: TinyVec<[i32; 4]> = TinyVec::from_array_len(rt.alloc(), [1, 0, 0, 0], 1);
-    let mut last = 10_i32;
-    few.resize_with(3, || {
-        last = last.wrapping_add(1);
-        last
-    })?;
-    assert!(rt; last == 12);
-    assert!(rt; lies(&few, &[1, 11, 12], true));
-    assert!(rt; Asking::ResizeWith(2, 9).make(&mut few) == Ok(()));
-    assert!(rt; lies(&few, &[1, 11], true));
-    assert!(rt; Asking::ResizeWith(1 << 60, 9).make(&mut few) == Err(Some(0)));
-    assert!(rt; lies(&few, &[1, 11], true));
-    Ok(())
+    let too_long = Asking::ResizeWith(1 << 60, 9);
+    let place = Place::Inline(&[0, 0]);
+    let mut wrong = 0;
+    wrong = first(wrong, 1, resizes_with_a_count(&mut few));
+    wrong = go_so(wrong, 2, &mut few, &RESIZE_WITH);
+    let is_refused = is_refused(&mut few, too_long, Some(0), &[1, 11], place);
+    wrong = first(wrong, 3, is_refused);
+    all_right(wrong)
+}
+
+// How often the room changes while 500 items are pushed, or copied.
+fn moves(v: &mut TinyVec<[u16; 4]>, pushes: bool) -> Option<u32> {
+    let mut moves = 0_u32;
+    for x in 0..500u16 {
+        let before = v.capacity();
+        let is_granted = if pushes {
+            v.push(x).is_ok()
+        } else {
+            v.extend_from_slice(&[x]).is_ok()
+        };
+        if !is_granted {
+            return None;
+        }
+        if v.capacity() != before {
+            moves = moves.wrapping_add(1);
+        }
+    }
+    Some(moves)
+}
+
+// Whether they are few, from the heap on.
+fn moves_seldom(alloc: Global, pushes: bool) -> Option<bool> {
+    let mut v: TinyVec<[u16; 4]> = TinyVec::new(alloc);
+    if v.move_to_the_heap().is_err() {
+        return None;
+    }
+    match moves(&mut v, pushes) {
+        Some(moves) => Some(moves < 15),
+        None => None,
+    }
 }
 
 /// On the heap room grows by steps, so that items that come one by one are seldom moved.
 #[test]
 fn room_grows_by_steps(rt: HostRuntime) -> Result<(), Fail> {
-    let mut pushed: TinyVec<[u16; 4]> = TinyVec::new(rt.alloc());
-    let mut copied: TinyVec<[u16; 4]> = TinyVec::new(rt.alloc());
-    pushed.move_to_the_heap()?;
-    copied.move_to_the_heap()?;
-    let mut steps = 0_usize;
-    for x in 0..500u16 {
-        let before = (pushed.capacity(), copied.capacity());
-        assert!(rt; pushed.push(x).is_ok(), "memory was granted");
-        copied.extend_from_slice(&[x])?;
-        if (pushed.capacity(), copied.capacity()) != before {
-            steps = steps.wrapping_add(1);
-        }
-    }
-    assert!(rt; steps < 30);
-    Ok(())
+    let mut wrong = 0;
+    wrong = granted(wrong, 1, moves_seldom(rt.alloc(), true));
+    wrong = granted(wrong, 2, moves_seldom(rt.alloc(), false));
+    all_right(wrong)
 }
 
 /// Two lists on the heap are joined where the first has room.
 #[test]
 fn append_keeps_the_room_that_is_there(rt: HostRuntime) -> Result<(), Fail> {
-    let mut v: TinyVec<[i32; 2]> = TinyVec::with_capacity(rt.alloc(), 9)?;
-    let mut other: TinyVec<[i32; 2]> = TinyVec::from_slice(rt.alloc(), &[1, 2, 3])?;
-    assert!(rt; appends(&mut v, &mut other));
-    assert!(rt; appends(&mut v, &mut other));
-    assert!(rt; lies(&v, &[1, 2, 3], false));
-    assert!(rt; lies(&other, &[], false));
-    assert!(rt; v.capacity() == 9);
-    Ok(())
+    let mut v = Two::with_capacity(rt.alloc(), 9)?;
+    let mut other = Two::from_slice(rt.alloc(), &[1, 2, 3])?;
+    let mut wrong = 0;
+    wrong = first(wrong, 1, v.append(&mut other).is_ok());
+    wrong = first(wrong, 2, v.append(&mut other).is_ok());
+    wrong = first(wrong, 3, lies(&v, &[1, 2, 3], false));
+    wrong = first(wrong, 4, lies(&other, &[], false));
+    wrong = first(wrong, 5, v.capacity() == 9);
+    all_right(wrong)
 }

@@ -1,9 +1,10 @@
 //! Moves between the array and the heap.
 use crate::asking::Asking;
-use crate::steps::{Need, Place, Step, assert_steps};
+use crate::steps::{Need, Place, Step, are_refused, go_so};
 use std::test::Fail;
-use tinyvec::TinyVec;
-use tinyvec_test_looks::{lies, spares};
+use tinyvec::{Array, TinyVec};
+use tinyvec_test_items::first;
+use tinyvec_test_looks::{all_right, granted, lies};
 
 const THERE_AND_BACK: [Step; 5] = [
     (Asking::MoveToTheHeap, Need::Memory, &[], Place::Heap(0)),
@@ -29,9 +30,9 @@ const THERE_AND_BACK: [Step; 5] = [
 ];
 
 #[test]
-fn there_and_back(rt: HostRuntime) {
+fn there_and_back(rt: HostRuntime) -> Result<(), Fail> {
     let mut v: TinyVec<[i32; 4]> = TinyVec::new(rt.alloc());
-    assert_steps(&rt, &mut v, &THERE_AND_BACK);
+    all_right(go_so(0, 1, &mut v, &THERE_AND_BACK))
 }
 
 const TRY_THERE_AND_BACK: [Step; 6] = [
@@ -64,9 +65,9 @@ const TRY_THERE_AND_BACK: [Step; 6] = [
 ];
 
 #[test]
-fn try_there_and_back(rt: HostRuntime) {
+fn try_there_and_back(rt: HostRuntime) -> Result<(), Fail> {
     let mut v: TinyVec<[i32; 4]> = TinyVec::new(rt.alloc());
-    assert_steps(&rt, &mut v, &TRY_THERE_AND_BACK);
+    all_right(go_so(0, 1, &mut v, &TRY_THERE_AND_BACK))
 }
 
 const TOO_MANY: [Step; 2] = [
@@ -99,61 +100,74 @@ const FITTING: [Step; 2] = [
     ),
 ];
 
-#[test]
-fn back_once_it_fits(rt: HostRuntime) -> Result<(), Fail> {
-    let mut v: TinyVec<[i32; 2]> = TinyVec::from_slice(rt.alloc(), &[1, 2, 3])?;
-    assert!(rt; lies(&v, &[1, 2, 3], false));
-    assert_steps(&rt, &mut v, &TOO_MANY);
-    assert!(rt; v.capacity() < 103, "memory was granted");
-    assert!(rt; v.pop() == Some(3));
-    assert!(rt; lies(&v, &[1, 2], false));
-    assert_steps(&rt, &mut v, &FITTING);
-    Ok(())
+// No answer tells a refusal, which leaves the room.
+fn has_shrunk(v: &TinyVec<[i32; 2]>) -> Option<bool> {
+    if v.capacity() < 103 { Some(true) } else { None }
 }
 
 #[test]
-fn refused(rt: HostRuntime) {
+fn back_once_it_fits(rt: HostRuntime) -> Result<(), Fail> {
+    let mut v: TinyVec<[i32; 2]> = TinyVec::from_slice(rt.alloc(), &[1, 2, 3])?;
+    let mut wrong = 0;
+    wrong = first(wrong, 1, lies(&v, &[1, 2, 3], false));
+    wrong = go_so(wrong, 2, &mut v, &TOO_MANY);
+    wrong = granted(wrong, 4, has_shrunk(&v));
+    wrong = first(wrong, 5, v.pop() == Some(3));
+    wrong = first(wrong, 6, lies(&v, &[1, 2], false));
+    wrong = go_so(wrong, 7, &mut v, &FITTING);
+    all_right(wrong)
+}
+
+const REFUSED: [Asking; 4] = [
+    Asking::MoveToTheHeapAndReserve(usize::MAX),
+    Asking::MoveToTheHeapAndReserve(1 << 60),
+    Asking::TryMoveToTheHeapAndReserve(usize::MAX),
+    Asking::TryMoveToTheHeapAndReserve(1 << 60),
+];
+
+#[test]
+fn refused(rt: HostRuntime) -> Result<(), Fail> {
     let mut v = TinyVec::from_array_len(rt.alloc(), [1, 7, 7], 1);
-    for call in [
-        Asking::MoveToTheHeapAndReserve(usize::MAX),
-        Asking::MoveToTheHeapAndReserve(1 << 60),
-        Asking::TryMoveToTheHeapAndReserve(usize::MAX),
-        Asking::TryMoveToTheHeapAndReserve(1 << 60),
-    ] {
-        assert!(rt; call.make(&mut v).is_err());
-        assert!(rt; lies(&v, &[1], true));
-        assert!(rt; spares(&v, &[7, 7]));
-    }
+    let place = Place::Inline(&[7, 7]);
+    all_right(are_refused(0, 1, &mut v, &REFUSED, &[1], place))
 }
 
 #[test]
 fn refused_on_the_heap(rt: HostRuntime) -> Result<(), Fail> {
     let mut v = TinyVec::from_array_len(rt.alloc(), [1, 7, 7], 1);
     v.move_to_the_heap()?;
-    let capacity = v.capacity();
-    let call = Asking::MoveToTheHeapAndReserve(usize::MAX);
-    assert!(rt; call.make(&mut v).is_err());
-    assert!(rt; lies(&v, &[1], false));
-    assert!(rt; v.capacity() == capacity);
-    Ok(())
+    let room = v.capacity();
+    let mut wrong = 0;
+    wrong = are_refused(wrong, 1, &mut v, &REFUSED, &[1], Place::Heap(room));
+    wrong = first(wrong, 5, v.capacity() == room);
+    all_right(wrong)
+}
+
+fn gives_a_vec<A: Array<Item = i32>>(v: TinyVec<A>, items: &[i32]) -> Option<bool> {
+    match v.into_vec() {
+        Ok(vec) => Some(vec.as_slice() == items),
+        Err(_) => None,
+    }
+}
+
+fn gives_a_boxed_slice<A: Array<Item = i32>>(v: TinyVec<A>, items: &[i32]) -> Option<bool> {
+    match v.into_boxed_slice() {
+        Ok(boxed) => Some(boxed.as_slice() == items),
+        Err(_) => None,
+    }
 }
 
 #[test]
 fn given_up(rt: HostRuntime) -> Result<(), Fail> {
-    let inline = TinyVec::from_array(rt.alloc(), [1, 2]);
-    let Ok(vec) = inline.into_vec() else {
-        panic!(rt; "memory was granted");
-    };
-    assert!(rt; vec.as_slice() == [1, 2].as_slice());
     let heap: TinyVec<[i32; 2]> = TinyVec::from_slice(rt.alloc(), &[1, 2, 3])?;
-    let Ok(vec) = heap.into_vec() else {
-        panic!(rt; "it takes no memory");
-    };
-    assert!(rt; vec.as_slice() == [1, 2, 3].as_slice());
-    let inline = TinyVec::from_array(rt.alloc(), [1, 2]).into_boxed_slice()?;
-    assert!(rt; inline.as_slice() == [1, 2].as_slice());
+    let mut wrong = 0;
+    // It takes no memory.
+    wrong = first(wrong, 1, gives_a_vec(heap, &[1, 2, 3]) == Some(true));
+    let inline = TinyVec::from_array(rt.alloc(), [1, 2]);
+    wrong = granted(wrong, 2, gives_a_vec(inline, &[1, 2]));
+    let inline = TinyVec::from_array(rt.alloc(), [1, 2]);
+    wrong = granted(wrong, 3, gives_a_boxed_slice(inline, &[1, 2]));
     let heap: TinyVec<[i32; 1]> = TinyVec::from_slice(rt.alloc(), &[1, 2])?;
-    let boxed = heap.into_boxed_slice()?;
-    assert!(rt; boxed.as_slice() == [1, 2].as_slice());
-    Ok(())
+    wrong = granted(wrong, 4, gives_a_boxed_slice(heap, &[1, 2]));
+    all_right(wrong)
 }

@@ -11,15 +11,24 @@ mod owning;
 
 use crate::asking::Asking;
 use std::alloc::{AllocError, Global};
-use std::process::Abort;
 use std::test::Fail;
 use tinyvec::TinyVec;
-use tinyvec_test_looks::{lies, spares};
+use tinyvec_test_items::first;
+use tinyvec_test_looks::{all_right, lies, lies_before};
 
-// Says that a refusal was met. The script asks this of each test here.
-fn refused(rt: &impl Print) -> Result<(), Fail> {
-    println!(rt; "refused")?;
-    Ok(())
+// What a test met: whether a call was refused, and the first step that went wrong, or 0.
+#[derive(Clone, Copy)]
+struct Met {
+    is_refused: bool,
+    wrong: u32,
+}
+
+// Ends a test. The script asks each test here to say that it met a refusal.
+fn told(rt: &impl Print, met: Met) -> Result<(), Fail> {
+    if met.is_refused {
+        println!(rt; "refused")?;
+    }
+    all_right(met.wrong)
 }
 
 // `[1, 2]`, before one spare slot.
@@ -59,8 +68,8 @@ impl Start {
     // Whether a list is as it was made, with this room.
     fn is_kept(self, v: &TinyVec<[i32; 3]>, room: usize) -> bool {
         let is_list = match self {
-            Start::InTheArray => lies(v, &[1, 2], true) & spares(v, &[9]),
-            Start::Full => lies(v, &[1, 2, 3], true) & spares(v, &[]),
+            Start::InTheArray => lies_before(v, &[1, 2], &[9]),
+            Start::Full => lies_before(v, &[1, 2, 3], &[]),
             Start::OnTheHeap => lies(v, &[1, 2, 3, 4], false),
         };
         is_list & (v.capacity() == room)
@@ -69,8 +78,8 @@ impl Start {
     // Whether its items were taken out, and it lies where it was, with this room.
     fn is_emptied(self, v: &TinyVec<[i32; 3]>, room: usize) -> bool {
         let is_list = match self {
-            Start::InTheArray => lies(v, &[], true) & spares(v, &[0, 0, 9]),
-            Start::Full => lies(v, &[], true) & spares(v, &[0, 0, 0]),
+            Start::InTheArray => lies_before(v, &[], &[0, 0, 9]),
+            Start::Full => lies_before(v, &[], &[0, 0, 0]),
             Start::OnTheHeap => lies(v, &[], false),
         };
         is_list & (v.capacity() == room)
@@ -86,21 +95,45 @@ struct Row {
     room: usize,
 }
 
-// Asserts that a call leaves the wanted list on the heap, or leaves the list as it was, and is granted once it is made again.
-fn assert_asks(
-    rt: &(impl Abort + Print),
-    v: &mut TinyVec<[i32; 3]>,
-    start: Start,
-    row: &Row,
-) -> Result<(), Fail> {
+// What a call met. It leaves the wanted list on the heap, or leaves the list as it was, and is granted once it is made again.
+fn asks(v: &mut TinyVec<[i32; 3]>, start: Start, row: &Row) -> Met {
     let before = v.capacity();
+    let mut met = Met {
+        is_refused: false,
+        wrong: 0,
+    };
     if let Err(back) = row.call.make(v) {
-        assert!(rt; back == row.back);
-        assert!(rt; start.is_kept(v, before));
-        refused(rt)?;
-        assert!(rt; row.call.make(v).is_ok());
+        met.is_refused = true;
+        met.wrong = first(met.wrong, 1, (back == row.back) & start.is_kept(v, before));
+        met.wrong = first(met.wrong, 2, row.call.make(v).is_ok());
     }
-    assert!(rt; lies(v, row.items, false));
-    assert!(rt; v.capacity() >= row.room);
-    Ok(())
+    met.wrong = first(
+        met.wrong,
+        3,
+        lies(v, row.items, false) & (v.capacity() >= row.room),
+    );
+    met
+}
+
+// What the calls of a table met, each of a new list: the tens of a step count the rows. Calls for room are made `again`, and
+// change nothing then.
+fn ask(alloc: Global, start: Start, rows: &[Row], again: bool) -> Result<Met, AllocError> {
+    let mut all = Met {
+        is_refused: false,
+        wrong: 0,
+    };
+    let mut tens = 10_u32;
+    for row in rows {
+        let mut v = start.make(alloc)?;
+        let met = asks(&mut v, start, row);
+        all.is_refused |= met.is_refused;
+        all.wrong = first(all.wrong, tens.wrapping_add(met.wrong), met.wrong == 0);
+        if again {
+            let is_granted = row.call.make(&mut v).is_ok();
+            let is_kept = lies(&v, row.items, false) & (v.capacity() >= row.room);
+            all.wrong = first(all.wrong, tens.wrapping_add(4), is_granted & is_kept);
+        }
+        tens = tens.wrapping_add(10);
+    }
+    Ok(all)
 }

@@ -1,6 +1,12 @@
-//! How a `TinyVec` looks to a test.
+//! How a `TinyVec` looks to a test, and steps of a test. `None` says that a step was refused memory.
 #![tactic(auto)]
+ghost use Rattle.std.specs.Iterator.{IsFinite};
 
+mod steps;
+
+pub use steps::{all_right, granted};
+use std::alloc::AllocError;
+use std::io::Write;
 use tinyvec::{Array, TinyVec};
 
 /// Whether these are the items, and lie there.
@@ -25,60 +31,91 @@ where
     }
 }
 
+/// Whether these are the items, inline before these spare slots.
+pub fn lies_before<A: Array>(v: &TinyVec<A>, items: &[A::Item], spare: &[A::Item]) -> bool
+where
+    A::Item: PartialEq,
+{
+    lies(v, items, true) & spares(v, spare)
+}
+
+/// Whether a list is made of these items, and lies there.
+pub fn makes<A: Array>(
+    made: Result<TinyVec<A>, AllocError>,
+    items: &[A::Item],
+    inline: bool,
+) -> Option<bool>
+where
+    A::Item: PartialEq,
+{
+    match made {
+        Ok(v) => Some(lies(&v, items, inline)),
+        Err(AllocError) => refused(inline),
+    }
+}
+
+/// Whether a list is made of these items, inline before these spare slots.
+pub fn makes_before<A: Array>(
+    made: Result<TinyVec<A>, AllocError>,
+    items: &[A::Item],
+    spare: &[A::Item],
+) -> Option<bool>
+where
+    A::Item: PartialEq,
+{
+    match made {
+        Ok(v) => Some(lies_before(&v, items, spare)),
+        Err(AllocError) => refused(true),
+    }
+}
+
+// What stays or becomes inline asks for no memory.
+fn refused(inline: bool) -> Option<bool> {
+    if inline { Some(false) } else { None }
+}
+
 /// Whether an item is pushed, and leaves this.
-pub fn pushes<A: Array>(v: &mut TinyVec<A>, item: A::Item, items: &[A::Item], inline: bool) -> bool
-where
-    A::Item: PartialEq,
-{
-    v.push(item).is_ok() & lies(v, items, inline)
-}
-
-/// Whether the last item, or none, is taken out and leaves this.
-pub fn pops<A: Array>(
+pub fn pushes<A: Array>(
     v: &mut TinyVec<A>,
-    item: Option<A::Item>,
-    items: &[A::Item],
-    inline: bool,
-) -> bool
-where
-    A::Item: PartialEq,
-{
-    (v.pop() == item) & lies(v, items, inline)
-}
-
-/// Whether an item is put in at an index of the list, and leaves this.
-pub fn inserts<A: Array>(
-    v: &mut TinyVec<A>,
-    index: usize,
     item: A::Item,
     items: &[A::Item],
     inline: bool,
-) -> bool
+) -> Option<bool>
 where
     A::Item: PartialEq,
 {
-    index <= v.len() && v.insert(index, item).is_ok() & lies(v, items, inline)
+    match v.push(item) {
+        Ok(()) => Some(lies(v, items, inline)),
+        Err(_) => refused(inline),
+    }
 }
 
-/// Whether the item at an index of the list is this one, and its removal leaves this.
-pub fn removes<A: Array>(
+/// Whether what an iterator gives is put behind the list, and leaves this.
+pub fn extends<A: Array, I: IntoIterator<Item = A::Item>>(
     v: &mut TinyVec<A>,
-    index: usize,
-    item: A::Item,
+    iter: I,
     items: &[A::Item],
     inline: bool,
-) -> bool
+) -> Option<bool>
 where
     A::Item: PartialEq,
+    requires { (it : I.IntoIter) → I.into_iter_gives iter it → I.IntoIter.can_next it × IsFinite (I.IntoIter.remaining it) }
 {
-    index < v.len() && (v.remove(index) == item) & lies(v, items, inline)
+    match v.extend(iter) {
+        Ok(()) => Some(lies(v, items, inline)),
+        Err(_) => refused(inline),
+    }
 }
 
-/// Whether a cut to this length leaves this.
-pub fn truncates<A: Array>(v: &mut TinyVec<A>, len: usize, items: &[A::Item], inline: bool) -> bool
-where
-    A::Item: PartialEq,
-{
-    v.truncate(len);
-    lies(v, items, inline)
+/// Whether all bytes are written behind the list, and leave this.
+pub fn writes<A: Array<Item = u8>>(
+    v: &mut TinyVec<A>,
+    bytes: &[u8],
+    items: &[u8],
+    inline: bool,
+) -> Option<bool> {
+    match v.write(bytes) {
+        Ok(count) => Some((count == bytes.len()) & lies(v, items, inline)),
+        Err(_) => refused(inline),
+    }
 }

@@ -1,131 +1,197 @@
 //! Clones, granted and refused.
-use std::alloc::{AllocError, AllocGlobal, Global};
+use std::alloc::{AllocError, Global};
 use std::cell::Cell;
-use std::process::Abort;
 use std::test::Fail;
 use tinyvec::{NoMemory, TinyVec};
-use tinyvec_test_items::{Item, Limited};
-use tinyvec_test_looks::{lies, spares};
+use tinyvec_test_items::{Item, Limited, first};
+use tinyvec_test_looks::{all_right, granted, lies, makes_before, spares};
 
 #[test]
 fn cloned(rt: HostRuntime) -> Result<(), Fail> {
     let v = TinyVec::from_array_len(rt.alloc(), [1, 2, 9], 2);
-    let copy = v.clone()?;
-    assert!(rt; lies(&copy, &[1, 2], true) & spares(&copy, &[9]) & lies(&v, &[1, 2], true));
-    Ok(())
+    let mut wrong = 0;
+    wrong = granted(wrong, 1, makes_before(v.clone(), &[1, 2], &[9]));
+    wrong = first(wrong, 2, lies(&v, &[1, 2], true));
+    all_right(wrong)
+}
+
+// Whether a list becomes that of another, which has these items.
+fn clones_from<const N: usize>(
+    v: &mut TinyVec<[i32; N]>,
+    source: TinyVec<[i32; N]>,
+    items: &[i32],
+    inline: bool,
+) -> Option<bool> {
+    match v.clone_from(&source) {
+        Ok(()) => Some(lies(v, items, inline)),
+        Err(AllocError) => None,
+    }
 }
 
 #[test]
 fn clone_from_longer(rt: HostRuntime) -> Result<(), Fail> {
-    let mut v = TinyVec::from_array_len(rt.alloc(), [1, 0], 1);
     let source = TinyVec::from_slice(rt.alloc(), &[7, 8, 9])?;
-    v.clone_from(&source)?;
-    assert!(rt; lies(&v, &[7, 8, 9], false));
-    Ok(())
+    let mut v = TinyVec::from_array_len(rt.alloc(), [1, 0], 1);
+    all_right(granted(0, 1, clones_from(&mut v, source, &[7, 8, 9], false)))
 }
 
 #[test]
 fn clone_from_shorter_on_the_heap(rt: HostRuntime) -> Result<(), Fail> {
     let mut v: TinyVec<[i32; 2]> = TinyVec::from_slice(rt.alloc(), &[7, 8, 9])?;
-    v.clone_from(&TinyVec::from_array_len(rt.alloc(), [5, 0], 1))?;
-    assert!(rt; lies(&v, &[5], false));
-    Ok(())
+    let source = TinyVec::from_array_len(rt.alloc(), [5, 0], 1);
+    all_right(granted(0, 1, clones_from(&mut v, source, &[5], false)))
+}
+
+// `[4, 5]`, on the heap.
+fn two_on_the_heap(alloc: Global) -> Result<TinyVec<[i32; 4]>, AllocError> {
+    let mut v = TinyVec::from_slice(alloc, &[4, 5, 6, 7, 8])?;
+    v.truncate(2);
+    Ok(v)
 }
 
 #[test]
 fn clone_from_inline(rt: HostRuntime) -> Result<(), Fail> {
+    let heap = two_on_the_heap(rt.alloc())?;
     let mut v = TinyVec::from_array_len(rt.alloc(), [1, 2, 3, 8], 3);
-    v.clone_from(&TinyVec::from_array_len(rt.alloc(), [9, 7, 7, 7], 1))?;
-    assert!(rt; lies(&v, &[9], true) & spares(&v, &[0, 0, 8]));
-    let heap: TinyVec<[i32; 4]> = TinyVec::from_slice(rt.alloc(), &[4, 5, 6, 7, 8])?;
-    let mut short = heap.clone()?;
-    short.truncate(2);
-    v.clone_from(&short)?;
-    assert!(rt; lies(&v, &[4, 5], true) & spares(&v, &[0, 8]));
-    Ok(())
+    let one = TinyVec::from_array_len(rt.alloc(), [9, 7, 7, 7], 1);
+    let mut wrong = 0;
+    wrong = granted(wrong, 1, clones_from(&mut v, one, &[9], true));
+    wrong = first(wrong, 2, spares(&v, &[0, 0, 8]));
+    wrong = granted(wrong, 3, clones_from(&mut v, heap, &[4, 5], true));
+    wrong = first(wrong, 4, spares(&v, &[0, 8]));
+    all_right(wrong)
 }
 
+type Items = TinyVec<[Item; 4]>;
+
 // `[1, 2, 3]` before one spare slot, which has 4.
-fn three(alloc: Global) -> TinyVec<[Item; 4]> {
+fn three(alloc: Global) -> Items {
     TinyVec::from_array_len(alloc, [Item(1), Item(2), Item(3), Item(4)], 3)
 }
 
 // One item, before slots with 0.
-fn one(alloc: Global, item: u8) -> TinyVec<[Item; 4]> {
+fn one(alloc: Global, item: u8) -> Items {
     TinyVec::from_array_len(alloc, [Item(item), Item(0), Item(0), Item(0)], 1)
 }
 
-// Asserts that these are the items, and that room for more was granted.
-fn assert_moved(rt: &impl Abort, v: &TinyVec<[Item; 4]>, items: &[Item]) {
-    assert!(rt; v.as_slice() == items);
-    assert!(rt; v.is_heap(), "memory was granted");
+// Whether a clone was refused, and left this. Room is asked for before the first clone, and may be refused instead.
+fn leaves(v: &Items, is_refused: bool, items: &[Item], inline: bool) -> Option<bool> {
+    if is_refused && v.is_inline() && !inline {
+        return None;
+    }
+    Some(is_refused & lies(v, items, inline))
+}
+
+fn refuses_to_extend(v: &mut Items, more: &[Item], items: &[Item], inline: bool) -> Option<bool> {
+    let is_refused = v.extend_from_slice(more) == Err(AllocError);
+    leaves(v, is_refused, items, inline)
+}
+
+fn refuses_to_resize(v: &mut Items, len: usize, items: &[Item], inline: bool) -> Option<bool> {
+    let is_refused = v.resize(len, Item(99)) == Err(NoMemory(Item(99)));
+    leaves(v, is_refused, items, inline)
+}
+
+fn refuses_to_clone_from(
+    v: &mut Items,
+    source: &Items,
+    items: &[Item],
+    inline: bool,
+) -> Option<bool> {
+    let is_refused = v.clone_from(source) == Err(AllocError);
+    leaves(v, is_refused, items, inline)
+}
+
+fn is_refused<const N: usize>(made: Result<TinyVec<[Item; N]>, AllocError>) -> bool {
+    made.err() == Some(AllocError)
 }
 
 #[test]
-fn clone_refused(rt: HostRuntime) {
+fn clone_refused(rt: HostRuntime) -> Result<(), Fail> {
     let v = TinyVec::from_array_len(rt.alloc(), [Item(1), Item(99)], 1);
+    let mut wrong = 0;
     // The spare slots are cloned too.
-    assert!(rt; v.clone().err() == Some(AllocError));
-    let refused = TinyVec::<[Item; 4]>::from_slice(rt.alloc(), &[Item(1), Item(99)]);
-    assert!(rt; refused.err() == Some(AllocError));
+    wrong = first(wrong, 1, is_refused(v.clone()));
+    let made = Items::from_slice(rt.alloc(), &[Item(1), Item(99)]);
+    wrong = first(wrong, 2, is_refused(made));
+    all_right(wrong)
 }
 
 #[test]
-fn extend_from_slice_refused(rt: HostRuntime) {
+fn extend_from_slice_refused(rt: HostRuntime) -> Result<(), Fail> {
     let mut v = three(rt.alloc());
-    let refused = v.extend_from_slice(&[Item(99)]) == Err(AllocError);
-    assert!(rt; refused & lies(&v, &[Item(1), Item(2), Item(3)], true));
+    let items = [Item(1), Item(2), Item(3)];
+    let mut wrong = 0;
+    let is_right = refuses_to_extend(&mut v, &[Item(99)], &items, true);
+    wrong = granted(wrong, 1, is_right);
     // The room was granted before the clone was refused.
-    assert!(rt; v.extend_from_slice(&[Item(5), Item(99)]) == Err(AllocError));
-    assert_moved(&rt, &v, &[Item(1), Item(2), Item(3)]);
+    let is_right = refuses_to_extend(&mut v, &[Item(5), Item(99)], &items, false);
+    wrong = granted(wrong, 2, is_right);
+    all_right(wrong)
 }
 
 #[test]
-fn clones_made_before_a_refused_one(rt: HostRuntime) {
+fn clones_made_before_a_refused_one(rt: HostRuntime) -> Result<(), Fail> {
     let mut v = one(rt.alloc(), 1);
-    let refused = v.extend_from_slice(&[Item(2), Item(3), Item(99)]) == Err(AllocError);
-    assert!(rt; refused & spares(&v, &[Item(2), Item(3), Item(0)]));
+    let more = [Item(2), Item(3), Item(99)];
+    let mut wrong = 0;
+    wrong = granted(wrong, 1, refuses_to_extend(&mut v, &more, &[Item(1)], true));
+    wrong = first(wrong, 2, spares(&v, &[Item(2), Item(3), Item(0)]));
+    all_right(wrong)
+}
+
+fn shortens(v: &mut Items, len: usize, items: &[Item]) -> bool {
+    v.resize(len, Item(99)).is_ok() & lies(v, items, false)
 }
 
 #[test]
-fn resize_refused(rt: HostRuntime) {
+fn resize_refused(rt: HostRuntime) -> Result<(), Fail> {
     let mut v = three(rt.alloc());
-    let refused = v.resize(4, Item(99)) == Err(NoMemory(Item(99)));
-    assert!(rt; refused & v.is_inline());
-    assert!(rt; v.resize(6, Item(99)) == Err(NoMemory(Item(99))));
-    assert_moved(&rt, &v, &[Item(1), Item(2), Item(3)]);
-    let shortened = v.resize(2, Item(99)).is_ok();
-    assert!(rt; shortened & lies(&v, &[Item(1), Item(2)], false));
+    let items = [Item(1), Item(2), Item(3)];
+    let mut wrong = 0;
+    wrong = granted(wrong, 1, refuses_to_resize(&mut v, 4, &items, true));
+    wrong = granted(wrong, 2, refuses_to_resize(&mut v, 6, &items, false));
+    wrong = first(wrong, 3, shortens(&mut v, 2, &[Item(1), Item(2)]));
+    all_right(wrong)
 }
 
 // `[1, 99, 3, 5, 6]`, whose second clone is refused.
-fn longer(rt: &(impl Abort + AllocGlobal)) -> TinyVec<[Item; 4]> {
-    let mut source = three(rt.alloc());
-    assert!(rt; source.push(Item(5)).is_ok());
-    assert!(rt; source.push(Item(6)).is_ok(), "memory was granted");
+fn longer(alloc: Global) -> Result<Items, AllocError> {
+    let mut source = three(alloc);
+    source.push(Item(5))?;
+    source.push(Item(6))?;
     if let Some(second) = source.as_mut_slice().get_mut(1) {
         *second = Item(99);
     }
-    source
+    Ok(source)
+}
+
+// Among the first, of a shorter source.
+#[test]
+fn clone_from_shorter_refused(rt: HostRuntime) -> Result<(), Fail> {
+    let mut v = three(rt.alloc());
+    let source = TinyVec::from_array_len(rt.alloc(), [Item(7), Item(99), Item(6), Item(6)], 2);
+    let mut wrong = 0;
+    let is_right = refuses_to_clone_from(&mut v, &source, &[Item(7), Item(2)], true);
+    wrong = granted(wrong, 1, is_right);
+    wrong = first(wrong, 2, spares(&v, &[Item(0), Item(4)]));
+    all_right(wrong)
 }
 
 #[test]
-fn clone_from_refused(rt: HostRuntime) {
-    // Among the first, of a shorter source.
-    let mut v = three(rt.alloc());
-    let source = TinyVec::from_array_len(rt.alloc(), [Item(7), Item(99), Item(6), Item(6)], 2);
-    let refused = v.clone_from(&source) == Err(AllocError);
-    assert!(rt; refused & lies(&v, &[Item(7), Item(2)], true) & spares(&v, &[Item(0), Item(4)]));
-    // Among the first, of a longer one: the room was granted.
-    let mut v = three(rt.alloc());
-    let source = longer(&rt);
-    assert!(rt; v.clone_from(&source) == Err(AllocError));
-    assert_moved(&rt, &v, &[Item(1), Item(2), Item(3)]);
+fn clone_from_longer_refused(rt: HostRuntime) -> Result<(), Fail> {
+    let source = longer(rt.alloc())?;
+    let mut three = three(rt.alloc());
+    let mut one = one(rt.alloc(), 8);
+    let items = [Item(1), Item(2), Item(3)];
+    let mut wrong = 0;
+    // Among the first: the room was granted.
+    let is_right = refuses_to_clone_from(&mut three, &source, &items, false);
+    wrong = granted(wrong, 1, is_right);
     // Behind them.
-    let mut v = one(rt.alloc(), 8);
-    assert!(rt; v.clone_from(&source) == Err(AllocError));
-    assert!(rt; v.is_heap(), "memory was granted");
-    assert!(rt; v.as_slice() == [Item(1)].as_slice());
+    let is_right = refuses_to_clone_from(&mut one, &source, &[Item(1)], false);
+    wrong = granted(wrong, 2, is_right);
+    all_right(wrong)
 }
 
 // Fills 21 slots with items that are cloned as often as the count says.
@@ -138,35 +204,48 @@ fn fill<'a>(source: &mut TinyVec<[Limited<'a>; 21]>, left: &'a Cell<u8>) {
     }
 }
 
+// How many of a hundred clones are left after each of six: a clone of 21 items, copies of them behind none, a clone over these,
+// a clone of two over these, seven items more, and a list of these nine.
+fn left_of_a_hundred(alloc: Global, inline: bool) -> Result<[u8; 6], AllocError> {
+    let left = Cell::new(0);
+    let mut source: TinyVec<[Limited; 21]> = TinyVec::new(alloc);
+    fill(&mut source, &left);
+    if !inline {
+        source.move_to_the_heap()?;
+    }
+    left.set(100);
+    let mut v = source.clone()?;
+    let after_clone = left.get();
+    v.clear();
+    v.extend_from_slice(source.as_slice())?;
+    let after_extend = left.get();
+    v.clone_from(&source)?;
+    let after_clone_from = left.get();
+    source.truncate(2);
+    v.clone_from(&source)?;
+    let after_shorter = left.get();
+    let item = Limited {
+        name: 7,
+        left: Some(&left),
+    };
+    v.resize(9, item)?;
+    let after_resize = left.get();
+    let _copied: TinyVec<[Limited; 1]> = TinyVec::from_slice(alloc, v.as_slice())?;
+    Ok([
+        after_clone,
+        after_extend,
+        after_clone_from,
+        after_shorter,
+        after_resize,
+        left.get(),
+    ])
+}
+
 /// Where nothing is refused, each item is cloned once, in both places.
 #[test]
 fn each_item_is_cloned_once(rt: HostRuntime) -> Result<(), Fail> {
-    for inline in [true, false] {
-        let left = Cell::new(0);
-        let mut source: TinyVec<[Limited; 21]> = TinyVec::new(rt.alloc());
-        fill(&mut source, &left);
-        if !inline {
-            source.move_to_the_heap()?;
-        }
-        left.set(100);
-        let mut v = source.clone()?;
-        let after_clone = left.get();
-        v.clear();
-        v.extend_from_slice(source.as_slice())?;
-        let after_extend = left.get();
-        v.clone_from(&source)?;
-        assert!(rt; (after_clone, after_extend, left.get()) == (79, 58, 37));
-        source.truncate(2);
-        v.clone_from(&source)?;
-        let after_shorter = left.get();
-        let item = Limited {
-            name: 7,
-            left: Some(&left),
-        };
-        let resized = v.resize(9, item).is_ok();
-        assert!(rt; resized & ((after_shorter, left.get()) == (35, 28)));
-        let copied: TinyVec<[Limited; 1]> = TinyVec::from_slice(rt.alloc(), v.as_slice())?;
-        assert!(rt; (copied.len() == 9) & (left.get() == 19));
-    }
-    Ok(())
+    let wanted = [79, 58, 37, 35, 28, 19];
+    let inline = left_of_a_hundred(rt.alloc(), true)? == wanted;
+    let heap = left_of_a_hundred(rt.alloc(), false)? == wanted;
+    all_right(first(first(0, 1, inline), 2, heap))
 }

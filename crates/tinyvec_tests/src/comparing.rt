@@ -1,11 +1,12 @@
 //! Comparisons and hashes, in both places.
 use crate::placed::placed;
-use std::alloc::AllocGlobal;
+use std::alloc::{AllocError, Global};
 use std::cmp::Ordering;
 use std::hash::{DefaultHasher, Hash, Hasher};
-use std::process::Abort;
 use std::test::Fail;
 use tinyvec::TinyVec;
+use tinyvec_test_items::first;
+use tinyvec_test_looks::{all_right, granted};
 
 // Where two lists lie: whether the first is inline, and whether the second is.
 const PLACES: [(bool, bool); 4] = [(true, true), (true, false), (false, true), (false, false)];
@@ -29,142 +30,167 @@ fn hash_of<T: Hash>(x: &T) -> u64 {
     state.finish()
 }
 
-// Asserts how pairs of lists stand, wherever they lie. Equal ones have one hash.
-fn assert_stand(
-    rt: &(impl Abort + AllocGlobal),
-    rows: &[(&[i32], &[i32], Ordering)],
-) -> Result<(), Fail> {
-    for (first, second) in PLACES {
-        for (at, (left, right, order)) in rows.iter().enumerate() {
-            let v = placed(TinyVec::<[i32; 4]>::from_slice(rt.alloc(), *left)?, first)?;
-            let w = placed(TinyVec::<[i32; 4]>::from_slice(rt.alloc(), *right)?, second)?;
-            let hashed = (hash_of(&v) == hash_of(&w)) | (*order != Ordering::Equal);
-            let there = (v.is_inline() == first) & (w.is_inline() == second);
-            assert!(rt;
-                stand_so(&v, &w, *order) & hashed & there,
-                "row {at}, {first}, {second}"
-            );
+// Two lists, and how they stand.
+type Row = (&'static [i32], &'static [i32], Ordering);
+
+const ROWS: [Row; 7] = [
+    // A prefix is less.
+    (&[1, 2], &[1, 2, 0], Ordering::Less),
+    (&[], &[1, 2, 0], Ordering::Less),
+    (&[i32::MIN], &[], Ordering::Greater),
+    // The first difference decides.
+    (&[1, 3], &[1, 2, 9], Ordering::Greater),
+    (&[1, 3], &[-1, 9, 9, 9], Ordering::Greater),
+    (&[1, 2], &[1, 2], Ordering::Equal),
+    (&[], &[], Ordering::Equal),
+];
+
+fn listed(alloc: Global, items: &[i32], inline: bool) -> Result<TinyVec<[i32; 4]>, AllocError> {
+    placed(TinyVec::from_slice(alloc, items)?, inline)
+}
+
+// Whether the lists of a row stand so, wherever they lie. Equal ones have one hash.
+fn stand(alloc: Global, row: &Row, first: bool, second: bool) -> Option<bool> {
+    let v = listed(alloc, row.0, first).ok()?;
+    let w = listed(alloc, row.1, second).ok()?;
+    let hashed = (hash_of(&v) == hash_of(&w)) | (row.2 != Ordering::Equal);
+    let there = (v.is_inline() == first) & (w.is_inline() == second);
+    Some(stand_so(&v, &w, row.2) & hashed & there)
+}
+
+// A row has a step for each place: the tens count the rows.
+#[test]
+fn in_all_places(rt: HostRuntime) -> Result<(), Fail> {
+    let mut wrong = 0;
+    let mut tens = 10_u32;
+    for row in &ROWS {
+        let mut step = tens;
+        for (first, second) in PLACES {
+            wrong = granted(wrong, step, stand(rt.alloc(), row, first, second));
+            step = step.wrapping_add(1);
         }
+        tens = tens.wrapping_add(10);
     }
-    Ok(())
+    all_right(wrong)
 }
 
-#[test]
-fn a_prefix_is_less(rt: HostRuntime) -> Result<(), Fail> {
-    assert_stand(
-        &rt,
-        &[
-            (&[1, 2], &[1, 2, 0], Ordering::Less),
-            (&[], &[1, 2, 0], Ordering::Less),
-            (&[i32::MIN], &[], Ordering::Greater),
-        ],
-    )
+type Long = TinyVec<[i32; 70]>;
+
+fn sevens(alloc: Global, len: usize) -> Result<Long, AllocError> {
+    let mut v = Long::new(alloc);
+    v.resize(len, 7)?;
+    Ok(v)
 }
 
-#[test]
-fn the_first_difference_decides(rt: HostRuntime) -> Result<(), Fail> {
-    assert_stand(
-        &rt,
-        &[
-            (&[1, 3], &[1, 2, 9], Ordering::Greater),
-            (&[1, 3], &[-1, 9, 9, 9], Ordering::Greater),
-        ],
-    )
+// Whether so many sevens equal as many, are more than one less, and less than these and 8.
+fn sevens_stand(alloc: Global, len: usize) -> Option<bool> {
+    let v = sevens(alloc, len).ok()?;
+    let mut w = v.clone().ok()?;
+    let equal = stand_so(&v, &w, Ordering::Equal) & (hash_of(&v) == hash_of(&w));
+    let popped = w.pop() == Some(7);
+    let greater = stand_so(&v, &w, Ordering::Greater);
+    let pushed = w.push(8).is_ok();
+    Some(equal & popped & greater & pushed & stand_so(&v, &w, Ordering::Less))
 }
 
-#[test]
-fn places_do_not_count(rt: HostRuntime) -> Result<(), Fail> {
-    assert_stand(
-        &rt,
-        &[
-            (&[1, 2], &[1, 2], Ordering::Equal),
-            (&[], &[], Ordering::Equal),
-        ],
-    )
-}
+// Up to 70 items are inline. Long lists are compared in blocks of several sizes, and the rest item by item.
+const LENGTHS: [u8; 19] = [
+    1, 3, 4, 5, 7, 8, 19, 20, 23, 36, 67, 68, 70, 71, 84, 88, 91, 132, 150,
+];
 
 #[test]
 fn lists_of_any_length(rt: HostRuntime) -> Result<(), Fail> {
-    // Up to 70 items are inline. Long lists are compared in blocks of several sizes, and the rest item by item.
-    for len in [
-        1, 3, 4, 5, 7, 8, 19, 20, 23, 36, 67, 68, 70, 71, 84, 88, 91, 132, 150,
-    ] {
-        let mut v: TinyVec<[i32; 70]> = TinyVec::new(rt.alloc());
-        v.resize(len, 7)?;
-        let mut w = v.clone()?;
-        let equal = stand_so(&v, &w, Ordering::Equal) & (hash_of(&v) == hash_of(&w));
-        let popped = w.pop();
-        let greater = stand_so(&v, &w, Ordering::Greater) & (popped == Some(7));
-        w.push(8)?;
-        assert!(rt;
-            equal & greater & stand_so(&v, &w, Ordering::Less),
-            "{len} items"
-        );
+    let mut wrong = 0;
+    for len in LENGTHS {
+        let is_right = sevens_stand(rt.alloc(), usize::from(len));
+        wrong = granted(wrong, u32::from(len), is_right);
     }
-    Ok(())
+    all_right(wrong)
+}
+
+// Whether two lists stand so once this item is put at a place of the second.
+fn stands_with(v: &Long, w: &mut Long, i: usize, item: i32, order: Ordering) -> bool {
+    if let Some(place) = w.as_mut_slice().get_mut(i) {
+        *place = item;
+    }
+    stand_so(v, w, order)
 }
 
 #[test]
 fn a_difference_at_each_place(rt: HostRuntime) -> Result<(), Fail> {
-    let mut v: TinyVec<[i32; 70]> = TinyVec::new(rt.alloc());
-    v.resize(150, 7)?;
+    let v = sevens(rt.alloc(), 150)?;
     let mut w = v.clone()?;
-    for i in 0..150 {
-        for (item, order) in [
-            (8, Ordering::Less),
-            (6, Ordering::Greater),
-            (7, Ordering::Equal),
-        ] {
-            set(&mut w, i, item);
-            assert!(rt; stand_so(&v, &w, order), "{item} at {i}");
-        }
+    let mut wrong = 0;
+    for i in 0..150u8 {
+        let at = usize::from(i);
+        let step = u32::from(i) + 1;
+        wrong = first(wrong, step, stands_with(&v, &mut w, at, 8, Ordering::Less));
+        wrong = first(
+            wrong,
+            step,
+            stands_with(&v, &mut w, at, 6, Ordering::Greater),
+        );
+        wrong = first(wrong, step, stands_with(&v, &mut w, at, 7, Ordering::Equal));
     }
-    Ok(())
-}
-
-fn set<const N: usize>(v: &mut TinyVec<[i32; N]>, i: usize, x: i32) {
-    if let Some(item) = v.as_mut_slice().get_mut(i) {
-        *item = x;
-    }
+    all_right(wrong)
 }
 
 #[test]
-fn spare_slots_do_not_count(rt: HostRuntime) {
+fn spare_slots_do_not_count(rt: HostRuntime) -> Result<(), Fail> {
     let v = TinyVec::from_array_len(rt.alloc(), [1, 2, 7, 8], 2);
     let w = TinyVec::from_array_len(rt.alloc(), [1, 2, 9, 0], 2);
-    assert!(rt; stand_so(&v, &w, Ordering::Equal) & (hash_of(&v) == hash_of(&w)));
     let longer = TinyVec::from_array_len(rt.alloc(), [1, 2, 7, 8], 3);
-    assert!(rt; stand_so(&v, &longer, Ordering::Less));
+    let mut wrong = 0;
+    wrong = first(wrong, 1, stand_so(&v, &w, Ordering::Equal));
+    wrong = first(wrong, 2, hash_of(&v) == hash_of(&w));
+    wrong = first(wrong, 3, stand_so(&v, &longer, Ordering::Less));
+    all_right(wrong)
+}
+
+// Whether a list feeds a hasher what a slice of 1 and 2 feeds it.
+fn is_fed_as_one_two(alloc: Global, items: &[i32], inline: bool) -> Option<bool> {
+    let mut wanted = DefaultHasher::new();
+    [1, 2].as_slice().hash(&mut wanted);
+    match listed(alloc, items, inline) {
+        Ok(v) => Some(hash_of(&v) == wanted.finish()),
+        Err(AllocError) => None,
+    }
+}
+
+// Whether only the list that is that slice does.
+fn only_one_two_is_fed_so(alloc: Global, inline: bool) -> Option<bool> {
+    let same = is_fed_as_one_two(alloc, &[1, 2], inline)?;
+    let turned = is_fed_as_one_two(alloc, &[2, 1], inline)?;
+    let longer = is_fed_as_one_two(alloc, &[1, 2, 0], inline)?;
+    Some(same & !turned & !longer)
 }
 
 // A vector feeds a hasher what a slice of its items feeds it.
 #[test]
 fn fed_as_a_slice_is(rt: HostRuntime) -> Result<(), Fail> {
-    let mut wanted = DefaultHasher::new();
-    [1, 2].as_slice().hash(&mut wanted);
-    for inline in [true, false] {
-        for (items, is_fed_so) in [
-            ([1, 2].as_slice(), true),
-            ([2, 1].as_slice(), false),
-            ([1, 2, 0].as_slice(), false),
-        ] {
-            let v = placed(TinyVec::<[i32; 4]>::from_slice(rt.alloc(), items)?, inline)?;
-            assert!(rt; (hash_of(&v) == wanted.finish()) == is_fed_so, "{items:?}");
-        }
-    }
-    Ok(())
+    let mut wrong = 0;
+    wrong = granted(wrong, 1, only_one_two_is_fed_so(rt.alloc(), true));
+    wrong = granted(wrong, 2, only_one_two_is_fed_so(rt.alloc(), false));
+    all_right(wrong)
+}
+
+type Floats = TinyVec<[f64; 2]>;
+
+fn no_operator_orders(v: &Floats, w: &Floats) -> bool {
+    (*v != *w) & !(*v < *w) & !(*v >= *w)
 }
 
 // An item that is equal to none, not even to itself, has no order.
 #[test]
 fn no_order(rt: HostRuntime) -> Result<(), Fail> {
+    let mut heap = Floats::from_slice(rt.alloc(), &[1.0, f64::NAN, 3.0])?;
     let inline = TinyVec::from_array(rt.alloc(), [1.0, f64::NAN]);
-    let mut heap: TinyVec<[f64; 2]> = TinyVec::from_slice(rt.alloc(), &[1.0, f64::NAN, 3.0])?;
-    let longer = inline.partial_cmp(&heap);
-    let popped = heap.pop();
-    assert!(rt; (longer, popped, inline.partial_cmp(&heap)) == (None, Some(3.0), None));
-    assert!(rt; (inline != heap) & !(inline < heap) & !(inline >= heap));
     let lower = TinyVec::from_array(rt.alloc(), [0.5, f64::NAN]);
-    assert!(rt; lower.partial_cmp(&heap) == Some(Ordering::Less));
-    Ok(())
+    let mut wrong = 0;
+    wrong = first(wrong, 1, inline.partial_cmp(&heap) == None);
+    wrong = first(wrong, 2, heap.pop() == Some(3.0));
+    wrong = first(wrong, 3, inline.partial_cmp(&heap) == None);
+    wrong = first(wrong, 4, no_operator_orders(&inline, &heap));
+    wrong = first(wrong, 5, lower.partial_cmp(&heap) == Some(Ordering::Less));
+    all_right(wrong)
 }

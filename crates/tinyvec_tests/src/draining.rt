@@ -3,19 +3,19 @@ ghost use Rattle.std.specs.Prelude.{◌≤◌};
 ghost use Rattle.tinyvec_slots.specs.Cut.{range_start, range_end};
 ghost use Rattle.tinyvec.specs.Tiny.{tiny_len};
 
-use crate::placed::{Span, one_two_three};
-use std::alloc::AllocGlobal;
+use crate::placed::{Span, one_two_three, placed};
+use std::alloc::{AllocError, Global};
 use std::mem;
 use std::ops::{Bound, RangeBounds};
-use std::process::Abort;
 use std::test::Fail;
 use tinyvec::{ArrayVec, TinyVec};
-use tinyvec_test_looks::{lies, spares};
+use tinyvec_test_items::{first, is_left, yields, yields_back};
+use tinyvec_test_looks::{all_right, granted, lies, lies_before, spares};
 
 // A range of `[1, 2, 3]`, what it gives, and the list that it leaves.
 type Row = (Span, &'static [i32], &'static [i32]);
 
-const RANGES_WITH_AN_OPEN_END: [Row; 8] = [
+const RANGES: [Row; 18] = [
     (Span::All, &[1, 2, 3], &[]),
     (Span::UpTo(2), &[1, 2], &[3]),
     (Span::UpTo(3), &[1, 2, 3], &[]),
@@ -24,9 +24,6 @@ const RANGES_WITH_AN_OPEN_END: [Row; 8] = [
     (Span::From(0), &[1, 2, 3], &[]),
     (Span::From(1), &[2, 3], &[1]),
     (Span::From(3), &[], &[1, 2, 3]),
-];
-
-const RANGES_WITH_BOTH_ENDS: [Row; 10] = [
     (Span::Between(0, 2), &[1, 2], &[3]),
     (Span::Between(0, 3), &[1, 2, 3], &[]),
     (Span::Between(1, 2), &[2], &[1, 3]),
@@ -54,7 +51,7 @@ fn gives<R: RangeBounds<usize>>(v: &mut TinyVec<[i32; 10]>, range: R, given: &[i
 }
 
 // The same of a range as a value, where there is one.
-fn drains(rt: &impl Abort, v: &mut TinyVec<[i32; 10]>, range: Span, given: &[i32]) -> bool {
+fn drains(v: &mut TinyVec<[i32; 10]>, range: Span, given: &[i32]) -> bool {
     let len = v.len();
     match range {
         Span::All => gives(v, .., given),
@@ -68,117 +65,146 @@ fn drains(rt: &impl Abort, v: &mut TinyVec<[i32; 10]>, range: Span, given: &[i32
         Span::Behind(front, last) if front <= last && last < len => {
             gives(v, (Bound::Excluded(front), Bound::Included(last)), given)
         }
-        _ => panic!(rt; "there is no such range"),
+        // There is no such range.
+        _ => false,
     }
 }
 
-fn assert_drains(rt: &(impl Abort + AllocGlobal), rows: &[Row]) -> Result<(), Fail> {
-    for inline in [true, false] {
-        for (at, (range, given, left)) in rows.iter().enumerate() {
-            let mut v = one_two_three(rt.alloc(), inline)?;
+// Whether the drain of a row goes as it says, and leaves the list where it was, with its room.
+fn goes_so(alloc: Global, row: &Row, inline: bool) -> Option<bool> {
+    match one_two_three(alloc, inline) {
+        Ok(v) => {
+            let mut v = v;
             let room = v.capacity();
-            let is_right = drains(rt, &mut v, *range, *given);
-            assert!(rt;
-                is_right & lies(&v, *left, inline),
-                "row {at}, inline: {inline}"
-            );
-            assert!(rt; v.capacity() == room, "row {at}, inline: {inline}");
+            let is_right = drains(&mut v, row.0, row.1);
+            Some(is_right & lies(&v, row.2, inline) & (v.capacity() == room))
         }
+        Err(AllocError) => None,
     }
-    Ok(())
+}
+
+// A row has a step in the array, and that plus a hundred on the heap.
+#[test]
+fn ranges(rt: HostRuntime) -> Result<(), Fail> {
+    let mut wrong = 0;
+    let mut step = 1_u32;
+    for row in &RANGES {
+        let on_the_heap = step.wrapping_add(100);
+        wrong = granted(wrong, step, goes_so(rt.alloc(), row, true));
+        wrong = granted(wrong, on_the_heap, goes_so(rt.alloc(), row, false));
+        step = step.wrapping_add(1);
+    }
+    all_right(wrong)
 }
 
 #[test]
-fn ranges_with_an_open_end(rt: HostRuntime) -> Result<(), Fail> {
-    assert_drains(&rt, &RANGES_WITH_AN_OPEN_END)
-}
-
-#[test]
-fn ranges_with_both_ends(rt: HostRuntime) -> Result<(), Fail> {
-    assert_drains(&rt, &RANGES_WITH_BOTH_ENDS)
-}
-
-#[test]
-fn passed_over(rt: HostRuntime) {
+fn passed_over(rt: HostRuntime) -> Result<(), Fail> {
     let mut v = TinyVec::from_array(rt.alloc(), [1, 2, 3, 4]);
-    let mut d = v.drain(1..3);
-    let third = d.nth(1);
-    drop(d);
-    assert!(rt; (third == Some(3)) & lies(&v, &[1, 4], true) & spares(&v, &[0, 0]));
+    let mut wrong = 0;
+    wrong = first(wrong, 1, v.drain(1..3).nth(1) == Some(3));
+    wrong = first(wrong, 2, lies_before(&v, &[1, 4], &[0, 0]));
+    all_right(wrong)
 }
 
 #[test]
 fn never_asked(rt: HostRuntime) -> Result<(), Fail> {
+    let mut heap: TinyVec<[i32; 2]> = TinyVec::from_slice(rt.alloc(), &[1, 2, 3, 4])?;
     let mut v = TinyVec::from_array_len(rt.alloc(), [1, 2, 3, 4, 9], 4);
     drop(v.drain(..2));
-    assert!(rt; lies(&v, &[3, 4], true) & spares(&v, &[0, 0, 9]));
-    let mut heap: TinyVec<[i32; 2]> = TinyVec::from_slice(rt.alloc(), &[1, 2, 3, 4])?;
     drop(heap.drain(..));
-    assert!(rt; lies(&heap, &[], false));
-    Ok(())
+    let mut wrong = 0;
+    wrong = first(wrong, 1, lies_before(&v, &[3, 4], &[0, 0, 9]));
+    wrong = first(wrong, 2, lies(&heap, &[], false));
+    all_right(wrong)
 }
 
 #[test]
 fn from_both_ends(rt: HostRuntime) -> Result<(), Fail> {
     let mut v: TinyVec<[i32; 4]> = TinyVec::from_slice(rt.alloc(), &[0, 1, 2, 3, 4, 5, 6, 7])?;
     let mut d = v.drain(1..);
-    let seven = (d.len() == 7) & (d.size_hint() == (7, Some(7)));
-    let ends = (d.next(), d.next_back());
-    let second = (d.nth(1), d.nth_back(1));
-    let one = d.len() == 1;
+    let mut wrong = 0;
+    wrong = first(wrong, 1, is_left(&d, 7));
+    wrong = first(wrong, 2, yields(&mut d, Some(1)));
+    wrong = first(wrong, 3, yields_back(&mut d, Some(7)));
+    wrong = first(wrong, 4, d.nth(1) == Some(3));
+    wrong = first(wrong, 5, d.nth_back(1) == Some(5));
+    wrong = first(wrong, 6, d.len() == 1);
     drop(d);
-    assert!(rt; seven & (ends == (Some(1), Some(7))) & (second == (Some(3), Some(5))) & one);
-    assert!(rt; lies(&v, &[0], false));
-    Ok(())
+    wrong = first(wrong, 7, lies(&v, &[0], false));
+    all_right(wrong)
 }
 
 #[test]
 fn from_both_ends_to_none(rt: HostRuntime) -> Result<(), Fail> {
     let mut v: TinyVec<[i32; 2]> = TinyVec::from_slice(rt.alloc(), &[0, 1, 2])?;
     let mut d = v.drain(1..);
-    let ends = (d.next(), d.next_back());
-    let none = (d.next(), d.next_back(), d.size_hint());
+    let mut wrong = 0;
+    wrong = first(wrong, 1, yields(&mut d, Some(1)));
+    wrong = first(wrong, 2, yields_back(&mut d, Some(2)));
+    wrong = first(wrong, 3, yields(&mut d, None));
+    wrong = first(wrong, 4, yields_back(&mut d, None));
+    wrong = first(wrong, 5, is_left(&d, 0));
     drop(d);
-    assert!(rt; (ends == (Some(1), Some(2))) & (none == (None, None, (0, Some(0)))));
-    assert!(rt; lies(&v, &[0], false));
-    Ok(())
+    wrong = first(wrong, 6, lies(&v, &[0], false));
+    all_right(wrong)
+}
+
+// The first step that goes wrong where 1 to 4 are moved behind 7, or 0.
+fn moved_behind(v: &mut TinyVec<[i32; 5]>, out: &mut Vec<i32>, inline: bool) -> u32 {
+    if v.len() != 4 || out.len() != 1 || out.capacity() != 5 {
+        return 1;
+    }
+    let mut wrong = 0;
+    v.drain_into(1..3, out);
+    wrong = first(wrong, 2, out.as_slice() == [7, 2, 3].as_slice());
+    wrong = first(wrong, 3, lies(v, &[1, 4], inline));
+    v.drain_into(1..1, out);
+    wrong = first(wrong, 4, lies(v, &[1, 4], inline));
+    v.drain_into(.., out);
+    wrong = first(wrong, 5, out.as_slice() == [7, 2, 3, 1, 4].as_slice());
+    wrong = first(wrong, 6, lies(v, &[], inline));
+    wrong = first(wrong, 7, spares(v, &[0, 0, 0, 0, 9]) == inline);
+    first(wrong, 8, out.capacity() == 5)
+}
+
+// 7, with room for four items more.
+fn seven(alloc: Global) -> Result<Vec<i32>, AllocError> {
+    let mut out = Vec::with_capacity(alloc, 5)?;
+    out.push(7)?;
+    Ok(out)
 }
 
 #[test]
 fn moved_behind_others(rt: HostRuntime) -> Result<(), Fail> {
-    for inline in [true, false] {
-        let mut v = TinyVec::from_array_len(rt.alloc(), [1, 2, 3, 4, 9], 4);
-        if !inline {
-            v.move_to_the_heap()?;
-        }
-        if v.len() != 4 {
-            panic!(rt; "there are four items");
-        }
-        let mut out = Vec::with_capacity(rt.alloc(), 5)?;
-        out.push(7)?;
-        v.drain_into(1..3, &mut out);
-        assert!(rt; (out.as_slice() == [7, 2, 3].as_slice()) & lies(&v, &[1, 4], inline));
-        v.drain_into(1..1, &mut out);
-        assert!(rt; lies(&v, &[1, 4], inline));
-        v.drain_into(.., &mut out);
-        assert!(rt; (out.as_slice() == [7, 2, 3, 1, 4].as_slice()) & lies(&v, &[], inline));
-        assert!(rt; (spares(&v, &[0, 0, 0, 0, 9]) == inline) & (out.capacity() == 5));
-    }
-    Ok(())
+    let mut out = seven(rt.alloc())?;
+    let mut v = TinyVec::from_array_len(rt.alloc(), [1, 2, 3, 4, 9], 4);
+    all_right(moved_behind(&mut v, &mut out, true))
 }
 
 #[test]
-fn last_and_count(rt: HostRuntime) {
+fn moved_behind_others_from_the_heap(rt: HostRuntime) -> Result<(), Fail> {
+    let mut out = seven(rt.alloc())?;
+    let v = TinyVec::from_array_len(rt.alloc(), [1, 2, 3, 4, 9], 4);
+    all_right(moved_behind(&mut placed(v, false)?, &mut out, false))
+}
+
+#[test]
+fn last_and_count(rt: HostRuntime) -> Result<(), Fail> {
     let mut v = TinyVec::from_array(rt.alloc(), [1, 2, 3, 4]);
-    let last = v.drain(1..3).last();
-    assert!(rt; (last == Some(3)) & lies(&v, &[1, 4], true));
-    let count = v.drain(..).count();
-    assert!(rt; (count == 2) & lies(&v, &[], true));
+    let mut wrong = 0;
+    wrong = first(wrong, 1, v.drain(1..3).last() == Some(3));
+    wrong = first(wrong, 2, lies(&v, &[1, 4], true));
+    wrong = first(wrong, 3, v.drain(..).count() == 2);
+    wrong = first(wrong, 4, lies(&v, &[], true));
+    all_right(wrong)
 }
 
 #[test]
-fn forgotten(rt: HostRuntime) {
+fn forgotten(rt: HostRuntime) -> Result<(), Fail> {
     let mut v = TinyVec::from_array(rt.alloc(), [1, 2, 3, 4]);
     mem::forget(v.drain(1..3));
-    assert!(rt; v.is_inline() & (v.capacity() == 4) & (v.as_slice().first() == Some(&1)));
+    let mut wrong = 0;
+    wrong = first(wrong, 1, v.is_inline() & (v.capacity() == 4));
+    wrong = first(wrong, 2, v.as_slice().first() == Some(&1));
+    all_right(wrong)
 }

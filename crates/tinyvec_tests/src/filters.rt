@@ -1,10 +1,9 @@
 //! `retain` and `dedup` in their forms, in both places.
 use crate::placed::placed;
-use std::alloc::{AllocError, AllocGlobal, Global};
-use std::process::Abort;
+use std::alloc::{AllocError, Global};
 use std::test::Fail;
 use tinyvec::TinyVec;
-use tinyvec_test_looks::{lies, spares};
+use tinyvec_test_looks::{all_right, granted, lies, spares};
 
 fn is_even(x: &i32) -> bool {
     *x % 2 == 0
@@ -45,55 +44,110 @@ impl Filter {
     }
 }
 
-// Asserts what a filter leaves of the first `len` items of an array, and of the slots behind them where it is inline.
-fn assert_leaves<const N: usize>(
-    rt: &(impl Abort + AllocGlobal),
+// Whether a filter leaves this of the first `len` items of an array, and of the slots behind them where it is inline.
+fn leaves<const N: usize>(
+    listed: Result<TinyVec<[i32; N]>, [i32; N]>,
+    filter: Filter,
+    left: &[i32],
+    spare: &[i32],
+    inline: bool,
+) -> Option<bool> {
+    let Ok(listed) = listed else {
+        return Some(false);
+    };
+    let Ok(mut v) = placed(listed, inline) else {
+        return None;
+    };
+    filter.apply(&mut v);
+    Some(lies(&v, left, inline) & (!inline | spares(&v, spare)))
+}
+
+// The same by one step in the array, and by the next on the heap.
+fn leaves_in_both<const N: usize>(
+    alloc: Global,
+    wrong: u32,
+    step: u32,
     filter: Filter,
     array: [i32; N],
     len: usize,
     left: &[i32],
     spare: &[i32],
-) -> Result<(), Fail> {
-    for inline in [true, false] {
-        let Ok(listed) = TinyVec::try_from_array_len(rt.alloc(), array, len) else {
-            panic!(rt; "there are as many slots");
-        };
-        let mut v = placed(listed, inline)?;
-        filter.apply(&mut v);
-        assert!(rt;
-            lies(&v, left, inline) & (!inline | spares(&v, spare)),
-            "inline: {inline}"
-        );
-    }
-    Ok(())
+) -> u32 {
+    let inline = TinyVec::try_from_array_len(alloc, array, len);
+    let wrong = granted(wrong, step, leaves(inline, filter, left, spare, true));
+    let heap = TinyVec::try_from_array_len(alloc, array, len);
+    granted(
+        wrong,
+        step.wrapping_add(1),
+        leaves(heap, filter, left, spare, false),
+    )
 }
 
 #[test]
 fn retain(rt: HostRuntime) -> Result<(), Fail> {
-    assert_leaves(&rt, Filter::Retain, [1, 2, 3, 4, 9], 4, &[2, 4], &[0, 0, 9])
-}
-
-#[test]
-fn retain_mut(rt: HostRuntime) -> Result<(), Fail> {
+    let mut wrong = 0;
+    let array = [1, 2, 3, 4, 9];
+    wrong = leaves_in_both(
+        rt.alloc(),
+        wrong,
+        1,
+        Filter::Retain,
+        array,
+        4,
+        &[2, 4],
+        &[0, 0, 9],
+    );
     let array = [1, 1, 2, 3, 3, 4];
-    assert_leaves(&rt, Filter::RetainMut, array, 6, &[4, 8], &[0, 0, 0, 0])
+    wrong = leaves_in_both(
+        rt.alloc(),
+        wrong,
+        3,
+        Filter::RetainMut,
+        array,
+        6,
+        &[4, 8],
+        &[0, 0, 0, 0],
+    );
+    all_right(wrong)
 }
 
 #[test]
 fn dedup(rt: HostRuntime) -> Result<(), Fail> {
+    let mut wrong = 0;
     let array = [1, 1, 2, 3, 3, 1];
-    assert_leaves(&rt, Filter::Dedup, array, 6, &[1, 2, 3, 1], &[0, 0])
-}
-
-#[test]
-fn dedup_by(rt: HostRuntime) -> Result<(), Fail> {
-    assert_leaves(&rt, Filter::DedupBy, [1, 2, 3, 5], 4, &[1, 3, 5], &[0])
-}
-
-#[test]
-fn dedup_by_key(rt: HostRuntime) -> Result<(), Fail> {
+    wrong = leaves_in_both(
+        rt.alloc(),
+        wrong,
+        1,
+        Filter::Dedup,
+        array,
+        6,
+        &[1, 2, 3, 1],
+        &[0, 0],
+    );
+    let array = [1, 2, 3, 5];
+    wrong = leaves_in_both(
+        rt.alloc(),
+        wrong,
+        3,
+        Filter::DedupBy,
+        array,
+        4,
+        &[1, 3, 5],
+        &[0],
+    );
     let array = [1, 2, 3, 10, 11];
-    assert_leaves(&rt, Filter::DedupByKey, array, 5, &[1, 10], &[0, 0, 0])
+    wrong = leaves_in_both(
+        rt.alloc(),
+        wrong,
+        5,
+        Filter::DedupByKey,
+        array,
+        5,
+        &[1, 10],
+        &[0, 0, 0],
+    );
+    all_right(wrong)
 }
 
 const NUMBERS: [i32; 4] = [1, 2, 3, 4];
@@ -105,11 +159,7 @@ fn numbers(alloc: Global, len: usize, inline: bool) -> Result<TinyVec<[i32; 4]>,
     placed(v, inline)
 }
 
-// What a closure was asked about.
-fn nothing(alloc: Global) -> TinyVec<[i32; 8]> {
-    TinyVec::new(alloc)
-}
-
+// Notes what a closure was asked about.
 fn note(asked: &mut TinyVec<[i32; 8]>, item: i32) {
     let _granted = asked.push(item);
 }
@@ -129,101 +179,122 @@ fn is_so(
     }
 }
 
+// Whether `retain` of the first numbers asks its closure about each once.
+fn retain_asks(alloc: Global, len: usize, inline: bool, stays: bool) -> Option<bool> {
+    let mut asked: TinyVec<[i32; 8]> = TinyVec::new(alloc);
+    let Ok(mut v) = numbers(alloc, len, inline) else {
+        return None;
+    };
+    v.retain(|x| {
+        note(&mut asked, *x);
+        stays
+    });
+    let left = if stays { len } else { 0 };
+    Some(is_so(&v, left, inline, &asked, &NUMBERS, len))
+}
+
+fn retain_mut_asks(alloc: Global, len: usize, inline: bool, stays: bool) -> Option<bool> {
+    let mut asked: TinyVec<[i32; 8]> = TinyVec::new(alloc);
+    let Ok(mut v) = numbers(alloc, len, inline) else {
+        return None;
+    };
+    v.retain_mut(|x| {
+        note(&mut asked, *x);
+        stays
+    });
+    let left = if stays { len } else { 0 };
+    Some(is_so(&v, left, inline, &asked, &NUMBERS, len))
+}
+
+// A step is named by the place, the answer and the count, as digits.
+fn step_of(len: u8, inline: bool, answer: bool) -> u32 {
+    let place = if inline { 100 } else { 200 };
+    let answered = if answer { 10 } else { 20 };
+    place + answered + u32::from(len)
+}
+
 /// Each of no item, of one and of more is asked about once, whether none of them or all stay.
 #[test]
 fn retain_asks_about_each_item_once(rt: HostRuntime) -> Result<(), Fail> {
+    let mut wrong = 0;
     for inline in [true, false] {
         for stays in [false, true] {
-            for len in 0..=4 {
-                let mut asked = nothing(rt.alloc());
-                let mut v = numbers(rt.alloc(), len, inline)?;
-                v.retain(|x| {
-                    note(&mut asked, *x);
-                    stays
-                });
-                let left = if stays { len } else { 0 };
-                assert!(rt;
-                    is_so(&v, left, inline, &asked, &NUMBERS, len),
-                    "{len} items"
+            for len in 0..=4u8 {
+                let step = step_of(len, inline, stays);
+                let count = usize::from(len);
+                wrong = granted(wrong, step, retain_asks(rt.alloc(), count, inline, stays));
+                wrong = granted(
+                    wrong,
+                    step,
+                    retain_mut_asks(rt.alloc(), count, inline, stays),
                 );
             }
         }
     }
-    Ok(())
+    all_right(wrong)
 }
 
-#[test]
-fn retain_mut_asks_about_each_item_once(rt: HostRuntime) -> Result<(), Fail> {
-    for inline in [true, false] {
-        for stays in [false, true] {
-            for len in 0..=4 {
-                let mut asked = nothing(rt.alloc());
-                let mut v = numbers(rt.alloc(), len, inline)?;
-                v.retain_mut(|x| {
-                    note(&mut asked, *x);
-                    stays
-                });
-                let left = if stays { len } else { 0 };
-                assert!(rt;
-                    is_so(&v, left, inline, &asked, &NUMBERS, len),
-                    "{len} items"
-                );
-            }
-        }
+// Where items repeat the last one kept, and where none does: how many are left at most, and each pair that is asked about.
+fn pairs(repeats: bool) -> (usize, [i32; 6]) {
+    if repeats {
+        (1, [2, 1, 3, 1, 4, 1])
+    } else {
+        (4, [2, 1, 3, 2, 4, 3])
     }
-    Ok(())
 }
 
-// Whether items repeat the last one kept, how many are left at most, and each pair that is asked about.
-const PAIRS: [(bool, usize, [i32; 6]); 2] = [
-    (true, 1, [2, 1, 3, 1, 4, 1]),
-    (false, 4, [2, 1, 3, 2, 4, 3]),
-];
-
-/// No item and one are not asked about. Of more each after the first is asked about once, beside the last one kept.
-#[test]
-fn dedup_by_asks_about_each_item_after_the_first(rt: HostRuntime) -> Result<(), Fail> {
-    for inline in [true, false] {
-        for (repeats, most, pairs) in PAIRS {
-            for len in 0..=4usize {
-                let mut asked = nothing(rt.alloc());
-                let mut v = numbers(rt.alloc(), len, inline)?;
-                v.dedup_by(|current, last| {
-                    note(&mut asked, *current);
-                    note(&mut asked, *last);
-                    repeats
-                });
-                let times = len.saturating_sub(1).saturating_mul(2);
-                assert!(rt;
-                    is_so(&v, len.min(most), inline, &asked, &pairs, times),
-                    "{len} items"
-                );
-            }
-        }
-    }
-    Ok(())
+// Whether `dedup_by` of the first numbers asks its closure about each after the first, beside the last one kept.
+fn dedup_by_asks(alloc: Global, len: usize, inline: bool, repeats: bool) -> Option<bool> {
+    let (most, pairs) = pairs(repeats);
+    let mut asked: TinyVec<[i32; 8]> = TinyVec::new(alloc);
+    let Ok(mut v) = numbers(alloc, len, inline) else {
+        return None;
+    };
+    v.dedup_by(|current, last| {
+        note(&mut asked, *current);
+        note(&mut asked, *last);
+        repeats
+    });
+    let times = len.saturating_sub(1).saturating_mul(2);
+    Some(is_so(&v, len.min(most), inline, &asked, &pairs, times))
 }
 
+fn dedup_by_key_asks(alloc: Global, len: usize, inline: bool, repeats: bool) -> Option<bool> {
+    let (most, keys) = pairs(repeats);
+    let mut asked: TinyVec<[i32; 8]> = TinyVec::new(alloc);
+    let Ok(mut v) = numbers(alloc, len, inline) else {
+        return None;
+    };
+    v.dedup_by_key(|x| {
+        note(&mut asked, *x);
+        if repeats { 0 } else { *x }
+    });
+    let times = len.saturating_sub(1).saturating_mul(2);
+    Some(is_so(&v, len.min(most), inline, &asked, &keys, times))
+}
+
+/// No item and one are not asked about. Of more each after the first is asked about once, beside the last one kept, or for
+/// two keys.
 #[test]
-fn dedup_by_key_asks_for_two_keys_of_each_item_after_the_first(
-    rt: HostRuntime,
-) -> Result<(), Fail> {
+fn dedup_asks_about_each_item_after_the_first(rt: HostRuntime) -> Result<(), Fail> {
+    let mut wrong = 0;
     for inline in [true, false] {
-        for (repeats, most, keys) in PAIRS {
-            for len in 0..=4usize {
-                let mut asked = nothing(rt.alloc());
-                let mut v = numbers(rt.alloc(), len, inline)?;
-                v.dedup_by_key(|x| {
-                    note(&mut asked, *x);
-                    if repeats { 0 } else { *x }
-                });
-                let times = len.saturating_sub(1).saturating_mul(2);
-                assert!(rt;
-                    is_so(&v, len.min(most), inline, &asked, &keys, times),
-                    "{len} items"
+        for repeats in [true, false] {
+            for len in 0..=4u8 {
+                let step = step_of(len, inline, repeats);
+                let count = usize::from(len);
+                wrong = granted(
+                    wrong,
+                    step,
+                    dedup_by_asks(rt.alloc(), count, inline, repeats),
+                );
+                wrong = granted(
+                    wrong,
+                    step,
+                    dedup_by_key_asks(rt.alloc(), count, inline, repeats),
                 );
             }
         }
     }
-    Ok(())
+    all_right(wrong)
 }

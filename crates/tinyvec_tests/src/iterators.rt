@@ -1,82 +1,155 @@
 //! Iteration, in both places.
 use std::alloc::{AllocError, Global};
 use std::test::Fail;
-use tinyvec::TinyVec;
-use tinyvec_test_looks::{lies, spares};
+use tinyvec::{TinyVec, TinyVecIterator};
+use tinyvec_test_items::{first, is_left, yields, yields_back};
+use tinyvec_test_looks::{all_right, granted, lies, lies_before};
 
 fn listed(alloc: Global, items: &[i32]) -> Result<TinyVec<[i32; 4]>, AllocError> {
     TinyVec::from_slice(alloc, items)
 }
 
-#[test]
-fn negated(rt: HostRuntime) -> Result<(), Fail> {
-    let mut inline = TinyVec::from_array_len(rt.alloc(), [10i32, 11, 12, 13, 7], 4);
-    for x in &mut inline {
+fn negate<const N: usize>(v: &mut TinyVec<[i32; N]>) {
+    for x in v {
         *x = x.wrapping_neg();
     }
-    assert!(rt; lies(&inline, &[-10, -11, -12, -13], true) & spares(&inline, &[7]));
-    let mut heap = listed(rt.alloc(), &[10, 11, 12, 13, 14])?;
-    for x in heap.iter_mut().rev() {
+}
+
+fn negate_from_the_back<const N: usize>(v: &mut TinyVec<[i32; N]>) {
+    for x in v.iter_mut().rev() {
         *x = x.wrapping_neg();
     }
-    assert!(rt; lies(&heap, &[-10, -11, -12, -13, -14], false));
+}
+
+fn sum<const N: usize>(v: &TinyVec<[i32; N]>) -> i32 {
     let mut sum = 0_i32;
-    for x in &heap {
+    for x in v {
         sum = sum.wrapping_add(*x);
     }
-    assert!(rt; (sum == -60) & heap.iter().zip(&inline).all(|(a, b)| a == b));
-    Ok(())
+    sum
+}
+
+// Whether the items of two lists are equal, as far as the shorter goes.
+fn go_along<const N: usize, const M: usize>(v: &TinyVec<[i32; N]>, w: &TinyVec<[i32; M]>) -> bool {
+    v.iter().zip(w).all(|(a, b)| a == b)
+}
+
+#[test]
+fn negated(rt: HostRuntime) -> Result<(), Fail> {
+    let mut heap = listed(rt.alloc(), &[10, 11, 12, 13, 14])?;
+    let mut inline = TinyVec::from_array_len(rt.alloc(), [10i32, 11, 12, 13, 7], 4);
+    negate(&mut inline);
+    negate_from_the_back(&mut heap);
+    let mut wrong = 0;
+    wrong = first(wrong, 1, lies_before(&inline, &[-10, -11, -12, -13], &[7]));
+    wrong = first(wrong, 2, lies(&heap, &[-10, -11, -12, -13, -14], false));
+    wrong = first(wrong, 3, sum(&heap) == -60);
+    wrong = first(wrong, 4, go_along(&heap, &inline));
+    all_right(wrong)
+}
+
+// The first step that goes wrong with an iterator of 1 to 4, or 0.
+fn driven(items: TinyVecIterator<[i32; 4]>) -> u32 {
+    let mut items = items;
+    let mut wrong = 0;
+    wrong = first(wrong, 1, is_left(&items, 4));
+    wrong = first(wrong, 2, yields(&mut items, Some(1)));
+    wrong = first(wrong, 3, yields_back(&mut items, Some(4)));
+    wrong = first(wrong, 4, items.as_slice() == [2, 3].as_slice());
+    wrong = first(wrong, 5, is_left(&items, 2));
+    wrong = first(wrong, 6, yields(&mut items, Some(2)));
+    wrong = first(wrong, 7, yields_back(&mut items, Some(3)));
+    wrong = first(wrong, 8, yields(&mut items, None));
+    wrong = first(wrong, 9, yields_back(&mut items, None));
+    first(wrong, 10, is_left(&items, 0))
+}
+
+// 1 to 4, on the heap.
+fn four_on_the_heap(alloc: Global) -> Result<TinyVec<[i32; 4]>, AllocError> {
+    let mut v = listed(alloc, &[1, 2, 3, 4, 5, 6])?;
+    v.truncate(4);
+    Ok(v)
 }
 
 #[test]
 fn both_ends(rt: HostRuntime) -> Result<(), Fail> {
-    for more in [[].as_slice(), [5, 6].as_slice()] {
-        let mut v = listed(rt.alloc(), &[1, 2, 3, 4])?;
-        v.extend_from_slice(more)?;
-        v.truncate(4);
-        assert!(rt; v.is_inline() == more.is_empty());
-        let mut items = v.into_iter();
-        let four = items.len() == 4;
-        let ends = (items.next(), items.next_back());
-        let two = (items.as_slice() == [2, 3].as_slice()) & (items.size_hint() == (2, Some(2)));
-        assert!(rt; four & (ends == (Some(1), Some(4))) & two);
-        let amid = (items.next(), items.next_back());
-        let none = (items.next(), items.next_back(), items.len());
-        assert!(rt; (amid == (Some(2), Some(3))) & (none == (None, None, 0)));
-    }
-    Ok(())
+    let inline = TinyVec::from_array(rt.alloc(), [1, 2, 3, 4]);
+    let is_inline = inline.is_inline();
+    all_right(first(driven(inline.into_iter()), 11, is_inline))
 }
 
 #[test]
-fn skips_from_the_back(rt: HostRuntime) {
-    let Ok(vec) = TinyVec::<[i32; 4]>::from_iter(rt.alloc(), 0..32) else {
-        panic!(rt; "memory was granted");
-    };
-    let mut items = vec.into_iter();
-    for (count, item) in [
-        (0, Some(31)),
-        (2, Some(28)),
-        (0, Some(27)),
-        (99, None),
-        (99, None),
-    ] {
-        assert!(rt; items.nth_back(count) == item, "{count}");
+fn both_ends_on_the_heap(rt: HostRuntime) -> Result<(), Fail> {
+    let heap = four_on_the_heap(rt.alloc())?;
+    let is_heap = heap.is_heap();
+    all_right(first(driven(heap.into_iter()), 11, is_heap))
+}
+
+// Whether an iterator yields this from its back, over as many items.
+fn skips_back(items: &mut TinyVecIterator<[i32; 4]>, count: usize, item: Option<i32>) -> bool {
+    items.nth_back(count) == item
+}
+
+fn counted_up(alloc: Global, end: i32) -> Result<TinyVec<[i32; 4]>, AllocError> {
+    match TinyVec::from_iter(alloc, 0..end) {
+        Ok(v) => Ok(v),
+        Err(_) => Err(AllocError),
+    }
+}
+
+#[test]
+fn skips_from_the_back(rt: HostRuntime) -> Result<(), Fail> {
+    let mut items = counted_up(rt.alloc(), 32)?.into_iter();
+    let mut wrong = 0;
+    wrong = first(wrong, 1, skips_back(&mut items, 0, Some(31)));
+    wrong = first(wrong, 2, skips_back(&mut items, 2, Some(28)));
+    wrong = first(wrong, 3, skips_back(&mut items, 0, Some(27)));
+    wrong = first(wrong, 4, skips_back(&mut items, 99, None));
+    wrong = first(wrong, 5, skips_back(&mut items, 99, None));
+    all_right(wrong)
+}
+
+// The fourth and what follows it, and the last of none.
+fn none_behind_the_fourth(items: TinyVecIterator<[i32; 4]>) -> bool {
+    let mut items = items;
+    (items.nth(3) == Some(4)) & (items.next() == None) & (items.last() == None)
+}
+
+// These are inline, and ask for no memory.
+fn next_of(alloc: Global, items: &[i32]) -> Result<Option<i32>, AllocError> {
+    Ok(listed(alloc, items)?.into_iter().next())
+}
+
+fn last_of(alloc: Global, items: &[i32]) -> Result<Option<i32>, AllocError> {
+    Ok(listed(alloc, items)?.into_iter().last())
+}
+
+fn counts(alloc: Global, items: &[i32], count: usize) -> Option<bool> {
+    match listed(alloc, items) {
+        Ok(v) => Some(v.into_iter().count() == count),
+        Err(AllocError) => None,
+    }
+}
+
+fn turned(alloc: Global, items: &[i32]) -> Result<Vec<i32>, AllocError> {
+    listed(alloc, items)?.into_iter().rev().collect(alloc)
+}
+
+fn turns(alloc: Global, items: &[i32], wanted: &[i32]) -> Option<bool> {
+    match turned(alloc, items) {
+        Ok(vec) => Some(vec.as_slice() == wanted),
+        Err(AllocError) => None,
     }
 }
 
 #[test]
 fn last_and_count(rt: HostRuntime) -> Result<(), Fail> {
-    let mut items = listed(rt.alloc(), &[1, 2, 3, 4])?.into_iter();
-    let last = (items.nth(3), items.next());
-    assert!(rt; (last == (Some(4), None)) & (items.last() == None));
-    let first = listed(rt.alloc(), &[1, 2, 3])?.into_iter().next();
-    let last = listed(rt.alloc(), &[1, 2, 3])?.into_iter().last();
-    let count = listed(rt.alloc(), &[1, 2, 3, 4, 5])?.into_iter().count();
-    assert!(rt; (first, last, count) == (Some(1), Some(3), 5));
-    let gathered: Vec<i32> = listed(rt.alloc(), &[1, 2, 3])?
-        .into_iter()
-        .rev()
-        .collect(rt.alloc())?;
-    assert!(rt; gathered.as_slice() == [3, 2, 1].as_slice());
-    Ok(())
+    let four = TinyVec::from_array(rt.alloc(), [1, 2, 3, 4]);
+    let mut wrong = 0;
+    wrong = first(wrong, 1, none_behind_the_fourth(four.into_iter()));
+    wrong = first(wrong, 2, next_of(rt.alloc(), &[1, 2, 3]) == Ok(Some(1)));
+    wrong = first(wrong, 3, last_of(rt.alloc(), &[1, 2, 3]) == Ok(Some(3)));
+    wrong = granted(wrong, 4, counts(rt.alloc(), &[1, 2, 3, 4, 5], 5));
+    wrong = granted(wrong, 5, turns(rt.alloc(), &[1, 2, 3], &[3, 2, 1]));
+    all_right(wrong)
 }

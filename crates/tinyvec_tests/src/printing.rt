@@ -1,10 +1,11 @@
 //! Texts of vectors, and of what iterators and splices have left.
 use crate::placed::placed;
+use std::alloc::{AllocError, Global};
 use std::fmt;
 use std::test::Fail;
-use tinyvec::TinyVec;
-use tinyvec_test_items::{debugs, shows};
-use tinyvec_test_looks::lies;
+use tinyvec::{TinyVec, TinyVecIterator};
+use tinyvec_test_items::{debugs, first, shows, yields, yields_back};
+use tinyvec_test_looks::{all_right, granted, lies, pushes};
 
 // In which base a vector is shown, and in which letters.
 #[derive(Clone, Copy)]
@@ -31,8 +32,11 @@ impl<'a> fmt::Display for InBase<'a> {
     }
 }
 
+// The items, their base, and the text.
+type Row = (&'static [i16], Base, &'static str);
+
 // A negative number is written as its bits are, but in base 10.
-const IN_EACH_BASE: [(&[i16], Base, &str); 11] = [
+const IN_EACH_BASE: [Row; 11] = [
     (&[2, 5], Base::Two, "[10, 101]"),
     (&[], Base::Two, "[]"),
     (&[8, 9], Base::Eight, "[10, 11]"),
@@ -46,106 +50,159 @@ const IN_EACH_BASE: [(&[i16], Base, &str); 11] = [
     (&[-1, -2], Base::Eight, "[177777, 177776]"),
 ];
 
+// Whether a list of these items is written so.
+fn is_shown(alloc: Global, row: &Row, inline: bool) -> Option<bool> {
+    let listed = TinyVec::from_slice(alloc, row.0).ok()?;
+    let v = placed(listed, inline).ok()?;
+    match shows(alloc, &InBase(&v, row.1), row.2) {
+        Ok(shown) => Some(shown.is_some()),
+        Err(AllocError) => None,
+    }
+}
+
+// A row has a step in the array, and that plus a hundred on the heap.
 #[test]
 fn in_each_base(rt: HostRuntime) -> Result<(), Fail> {
-    for inline in [true, false] {
-        for (at, (items, base, text)) in IN_EACH_BASE.iter().enumerate() {
-            let v = placed(TinyVec::from_slice(rt.alloc(), *items)?, inline)?;
-            let shown = shows(rt.alloc(), &InBase(&v, *base), *text)?;
-            assert!(rt; shown.is_some(), "row {at}, inline: {inline}");
-        }
+    let mut wrong = 0;
+    let mut step = 1_u32;
+    for row in &IN_EACH_BASE {
+        let on_the_heap = step.wrapping_add(100);
+        wrong = granted(wrong, step, is_shown(rt.alloc(), row, true));
+        wrong = granted(wrong, on_the_heap, is_shown(rt.alloc(), row, false));
+        step = step.wrapping_add(1);
     }
-    Ok(())
+    all_right(wrong)
+}
+
+// Whether `{}` writes a value so, and `{:?}` so.
+fn writes<T: fmt::Display + fmt::Debug>(
+    alloc: Global,
+    value: &T,
+    shown: &str,
+    debugged: &str,
+) -> Option<bool> {
+    match (shows(alloc, value, shown), debugs(alloc, value, debugged)) {
+        (Ok(shown), Ok(debugged)) => Some(shown.is_some() & debugged.is_some()),
+        _ => None,
+    }
 }
 
 #[test]
 fn after_each_push(rt: HostRuntime) -> Result<(), Fail> {
     let mut v: TinyVec<[i32; 2]> = TinyVec::new(rt.alloc());
-    let empty = shows(rt.alloc(), &v, "[]")?.is_some();
-    assert!(rt; empty & debugs(rt.alloc(), &v, "[]")?.is_some());
-    for (item, text, inline) in [
-        (10, "[10]", true),
-        (11, "[10, 11]", true),
-        (12, "[10, 11, 12]", false),
-    ] {
-        v.push(item)?;
-        let shown = shows(rt.alloc(), &v, text)?.is_some();
-        let debugged = debugs(rt.alloc(), &v, text)?.is_some();
-        assert!(rt; shown & debugged & (v.is_inline() == inline), "{text}");
-    }
-    Ok(())
+    let mut wrong = 0;
+    wrong = granted(wrong, 1, writes(rt.alloc(), &v, "[]", "[]"));
+    wrong = granted(wrong, 2, pushes(&mut v, 10, &[10], true));
+    wrong = granted(wrong, 3, writes(rt.alloc(), &v, "[10]", "[10]"));
+    wrong = granted(wrong, 4, pushes(&mut v, 11, &[10, 11], true));
+    wrong = granted(wrong, 5, writes(rt.alloc(), &v, "[10, 11]", "[10, 11]"));
+    wrong = granted(wrong, 6, pushes(&mut v, 12, &[10, 11, 12], false));
+    let text = "[10, 11, 12]";
+    wrong = granted(wrong, 7, writes(rt.alloc(), &v, text, text));
+    all_right(wrong)
 }
 
 // `{}` writes a text as it is, and `{:?}` in quotes.
 #[test]
 fn each_item_by_its_own_text(rt: HostRuntime) -> Result<(), Fail> {
-    for inline in [true, false] {
-        let v = placed(
-            TinyVec::from_array_len(rt.alloc(), ["a", "b", "c"], 2),
-            inline,
-        )?;
-        let shown = shows(rt.alloc(), &v, "[a, b]")?.is_some();
-        let debugged = debugs(rt.alloc(), &v, "[\"a\", \"b\"]")?.is_some();
-        assert!(rt; shown & debugged, "inline: {inline}");
+    let heap = TinyVec::from_array_len(rt.alloc(), ["a", "b", "c"], 2);
+    let heap = placed(heap, false)?;
+    let inline = TinyVec::from_array_len(rt.alloc(), ["a", "b", "c"], 2);
+    let quoted = "[\"a\", \"b\"]";
+    let mut wrong = 0;
+    wrong = granted(wrong, 1, writes(rt.alloc(), &inline, "[a, b]", quoted));
+    wrong = granted(wrong, 2, writes(rt.alloc(), &heap, "[a, b]", quoted));
+    all_right(wrong)
+}
+
+fn is_debugged<T: fmt::Debug>(alloc: Global, value: &T, text: &str) -> Option<bool> {
+    match debugs(alloc, value, text) {
+        Ok(debugged) => Some(debugged.is_some()),
+        Err(AllocError) => None,
     }
-    Ok(())
+}
+
+// What goes wrong with an iterator of 1 to 3.
+fn driven(alloc: Global, items: TinyVecIterator<[i32; 4]>) -> u32 {
+    let mut items = items;
+    let mut wrong = 0;
+    wrong = first(wrong, 1, yields(&mut items, Some(1)));
+    let is_right = is_debugged(alloc, &items, "TinyVecIterator([2, 3])");
+    wrong = granted(wrong, 2, is_right);
+    wrong = first(wrong, 3, yields_back(&mut items, Some(3)));
+    wrong = granted(wrong, 4, is_debugged(alloc, &items, "TinyVecIterator([2])"));
+    wrong = first(wrong, 5, yields(&mut items, Some(2)));
+    granted(wrong, 6, is_debugged(alloc, &items, "TinyVecIterator([])"))
 }
 
 #[test]
 fn what_is_left_of_an_iterator(rt: HostRuntime) -> Result<(), Fail> {
-    for inline in [true, false] {
-        let v = placed(TinyVec::from_array_len(rt.alloc(), [1, 2, 3, 9], 3), inline)?;
-        let mut items = v.into_iter();
-        let first = items.next();
-        let two_left = debugs(rt.alloc(), &items, "TinyVecIterator([2, 3])")?;
-        let last = items.next_back();
-        let one_left = debugs(rt.alloc(), &items, "TinyVecIterator([2])")?;
-        let second = items.next();
-        let none_left = debugs(rt.alloc(), &items, "TinyVecIterator([])")?;
-        assert!(rt; (first, last, second) == (Some(1), Some(3), Some(2)));
-        assert!(rt; (two_left, one_left, none_left) == (Some(()), Some(()), Some(())));
+    let inline = TinyVec::from_array_len(rt.alloc(), [1, 2, 3, 9], 3);
+    all_right(driven(rt.alloc(), inline.into_iter()))
+}
+
+#[test]
+fn what_is_left_of_an_iterator_on_the_heap(rt: HostRuntime) -> Result<(), Fail> {
+    let v = TinyVec::from_array_len(rt.alloc(), [1, 2, 3, 9], 3);
+    all_right(driven(rt.alloc(), placed(v, false)?.into_iter()))
+}
+
+// What goes wrong with a drain of the second to the fifth of six items.
+fn drained(alloc: Global, v: &mut TinyVec<[i32; 7]>) -> u32 {
+    if v.len() != 6 {
+        return 8;
     }
-    Ok(())
+    let mut items = v.drain(1..5);
+    let mut wrong = 0;
+    let is_right = is_debugged(alloc, &items, "TinyVecDrain([2, 3, 4, 5])");
+    wrong = granted(wrong, 1, is_right);
+    wrong = first(wrong, 2, yields(&mut items, Some(2)));
+    wrong = first(wrong, 3, yields_back(&mut items, Some(5)));
+    wrong = granted(wrong, 4, is_debugged(alloc, &items, "TinyVecDrain([3, 4])"));
+    wrong = first(wrong, 5, yields(&mut items, Some(3)));
+    wrong = first(wrong, 6, yields(&mut items, Some(4)));
+    granted(wrong, 7, is_debugged(alloc, &items, "TinyVecDrain([])"))
 }
 
 #[test]
 fn what_is_left_of_a_drain(rt: HostRuntime) -> Result<(), Fail> {
-    for inline in [true, false] {
-        let mut v = TinyVec::from_array_len(rt.alloc(), [1, 2, 3, 4, 5, 6, 9], 6);
-        if !inline {
-            v.move_to_the_heap()?;
-        }
-        let mut items = v.drain(1..5);
-        let all_left = debugs(rt.alloc(), &items, "TinyVecDrain([2, 3, 4, 5])")?;
-        let ends = (items.next(), items.next_back());
-        let two_left = debugs(rt.alloc(), &items, "TinyVecDrain([3, 4])")?;
-        let amid = (items.next(), items.next());
-        let none_left = debugs(rt.alloc(), &items, "TinyVecDrain([])")?;
-        assert!(rt; (ends, amid) == ((Some(2), Some(5)), (Some(3), Some(4))));
-        assert!(rt; (all_left, two_left, none_left) == (Some(()), Some(()), Some(())));
+    let mut v = TinyVec::from_array_len(rt.alloc(), [1, 2, 3, 4, 5, 6, 9], 6);
+    all_right(drained(rt.alloc(), &mut v))
+}
+
+#[test]
+fn what_is_left_of_a_drain_on_the_heap(rt: HostRuntime) -> Result<(), Fail> {
+    let mut v = TinyVec::from_array_len(rt.alloc(), [1, 2, 3, 4, 5, 6, 9], 6);
+    v.move_to_the_heap()?;
+    all_right(drained(rt.alloc(), &mut v))
+}
+
+// What goes wrong with a splice of the second to the fourth of five items.
+fn spliced(alloc: Global, v: &mut TinyVec<[i32; 6]>, inline: bool) -> u32 {
+    if v.len() != 5 {
+        return 1;
     }
-    Ok(())
+    let mut splice = v.splice(1..4, [7, 8]);
+    let mut wrong = 0;
+    wrong = first(wrong, 2, splice.next() == Some(2));
+    let is_right = is_debugged(alloc, &splice, "TinyVecSplice([3, 4])");
+    wrong = granted(wrong, 3, is_right);
+    wrong = first(wrong, 4, splice.next_back() == Some(4));
+    wrong = granted(wrong, 5, is_debugged(alloc, &splice, "TinyVecSplice([3])"));
+    wrong = first(wrong, 6, splice.next_back() == Some(3));
+    wrong = granted(wrong, 7, is_debugged(alloc, &splice, "TinyVecSplice([])"));
+    wrong = first(wrong, 8, splice.finish().is_ok());
+    first(wrong, 9, lies(v, &[1, 7, 8, 5], inline))
 }
 
 #[test]
 fn what_is_left_of_a_splice(rt: HostRuntime) -> Result<(), Fail> {
-    for inline in [true, false] {
-        let mut v = TinyVec::from_array_len(rt.alloc(), [1, 2, 3, 4, 5, 9], 5);
-        if !inline {
-            v.move_to_the_heap()?;
-        }
-        let mut splice = v.splice(1..4, [7, 8]);
-        let first = splice.next();
-        // A splice is not dropped, so none of these ends the test before it is finished.
-        let two_left = debugs(rt.alloc(), &splice, "TinyVecSplice([3, 4])");
-        let last = splice.next_back();
-        let one_left = debugs(rt.alloc(), &splice, "TinyVecSplice([3])");
-        let second = splice.next_back();
-        let none_left = debugs(rt.alloc(), &splice, "TinyVecSplice([])");
-        let finished = splice.finish().is_ok();
-        assert!(rt; finished & ((first, last, second) == (Some(2), Some(4), Some(3))));
-        assert!(rt; (two_left?, one_left?, none_left?) == (Some(()), Some(()), Some(())));
-        assert!(rt; lies(&v, &[1, 7, 8, 5], inline));
-    }
-    Ok(())
+    let mut v = TinyVec::from_array_len(rt.alloc(), [1, 2, 3, 4, 5, 9], 5);
+    all_right(spliced(rt.alloc(), &mut v, true))
+}
+
+#[test]
+fn what_is_left_of_a_splice_on_the_heap(rt: HostRuntime) -> Result<(), Fail> {
+    let v = TinyVec::from_array_len(rt.alloc(), [1, 2, 3, 4, 5, 9], 5);
+    all_right(spliced(rt.alloc(), &mut placed(v, false)?, false))
 }

@@ -6,14 +6,13 @@ ghost use Rattle.tinyvec.specs.Tiny.{tiny_len};
 
 use self::Step::{Back, Front, Left, Touches};
 use crate::placed::{Span, one_two_three};
-use std::alloc::AllocGlobal;
+use std::alloc::{AllocError, Global};
 use std::iter;
 use std::ops::{Bound, RangeBounds};
-use std::process::Abort;
 use std::test::Fail;
 use tinyvec::{SpliceRest, TinyVec};
-use tinyvec_test_items::Unhinted;
-use tinyvec_test_looks::{lies, spares};
+use tinyvec_test_items::{Unhinted, first};
+use tinyvec_test_looks::{all_right, granted, lies, spares};
 
 // What a splice gives from an end, or what it tells of itself.
 #[derive(Clone, Copy)]
@@ -30,40 +29,40 @@ type Row = (Span, (i32, i32), &'static [Step], &'static [i32]);
 
 // Whether the splice of a row goes as it says, and leaves the list there. It may ask for memory or not.
 fn splices<const N: usize>(
-    rt: &impl Abort,
     v: &mut TinyVec<[i32; N]>,
     row: &Row,
     asks: bool,
     inline: bool,
-) -> bool {
+) -> Option<bool> {
     let len = v.len();
     let is_right = match row.0 {
-        Span::All => drive(rt, v, .., row, asks),
-        Span::UpTo(end) if end <= len => drive(rt, v, ..end, row, asks),
-        Span::UpThrough(last) if last < len => drive(rt, v, ..=last, row, asks),
-        Span::From(start) if start <= len => drive(rt, v, start.., row, asks),
-        Span::Between(start, end) if start <= end && end <= len => {
-            drive(rt, v, start..end, row, asks)
-        }
+        Span::All => drive(v, .., row, asks),
+        Span::UpTo(end) if end <= len => drive(v, ..end, row, asks),
+        Span::UpThrough(last) if last < len => drive(v, ..=last, row, asks),
+        Span::From(start) if start <= len => drive(v, start.., row, asks),
+        Span::Between(start, end) if start <= end && end <= len => drive(v, start..end, row, asks),
         Span::Through(start, last) if start <= last && last < len => {
-            drive(rt, v, start..=last, row, asks)
+            drive(v, start..=last, row, asks)
         }
         Span::Behind(front, last) if front <= last && last < len => {
             let behind = (Bound::Excluded(front), Bound::Included(last));
-            drive(rt, v, behind, row, asks)
+            drive(v, behind, row, asks)
         }
-        _ => panic!(rt; "there is no such range"),
+        // There is no such range.
+        _ => Some(false),
     };
-    is_right & lies(v, row.3, inline)
+    match is_right {
+        Some(is_right) => Some(is_right & lies(v, row.3, inline)),
+        None => None,
+    }
 }
 
 fn drive<const N: usize, R: RangeBounds<usize>>(
-    rt: &impl Abort,
     v: &mut TinyVec<[i32; N]>,
     range: R,
     row: &Row,
     asks: bool,
-) -> bool
+) -> Option<bool>
     requires known { R.has_bounds range }
     requires start_le_end { range_start (R.start_bound range) ≤ range_end (R.end_bound range) (tiny_len v.old) }
     requires in_list { range_end (R.end_bound range) (tiny_len v.old) ≤ tiny_len v.old }
@@ -78,27 +77,35 @@ fn drive<const N: usize, R: RangeBounds<usize>>(
             Touches(count) => splice.touches() == count,
         };
     }
-    let finished = splice.finish().is_ok();
-    assert!(rt; finished | !asks, "memory was granted");
-    is_right & finished
+    match splice.finish() {
+        Ok(()) => Some(is_right),
+        Err(_) if asks => None,
+        Err(_) => Some(false),
+    }
 }
 
-// Splices `[1, 2, 3]` by each row, in both places.
-fn assert_in_both_places(
-    rt: &(impl Abort + AllocGlobal),
-    rows: &[Row],
-    asks: bool,
-) -> Result<(), Fail> {
-    for inline in [true, false] {
-        for (at, row) in rows.iter().enumerate() {
-            let mut v = one_two_three(rt.alloc(), inline)?;
-            assert!(rt;
-                splices(rt, &mut v, row, asks, inline),
-                "row {at}, inline: {inline}"
-            );
+// The same of `[1, 2, 3]`, in the array or on the heap.
+fn splices_three(alloc: Global, row: &Row, asks: bool, inline: bool) -> Option<bool> {
+    match one_two_three(alloc, inline) {
+        Ok(v) => {
+            let mut v = v;
+            splices(&mut v, row, asks, inline)
         }
+        Err(AllocError) => None,
     }
-    Ok(())
+}
+
+// The first row that goes wrong, or 0: rows have steps from 1 up in the array, and from 101 up on the heap.
+fn in_both_places(alloc: Global, rows: &[Row], asks: bool) -> u32 {
+    let mut wrong = 0;
+    let mut step = 1_u32;
+    for row in rows {
+        wrong = granted(wrong, step, splices_three(alloc, row, asks, true));
+        let on_the_heap = step.wrapping_add(100);
+        wrong = granted(wrong, on_the_heap, splices_three(alloc, row, asks, false));
+        step = step.wrapping_add(1);
+    }
+    wrong
 }
 
 const NONE: [Step; 4] = [Front(None); 4];
@@ -131,7 +138,7 @@ const NO_REPLACEMENT: [Row; 15] = [
 
 #[test]
 fn no_replacement(rt: HostRuntime) -> Result<(), Fail> {
-    assert_in_both_places(&rt, &NO_REPLACEMENT, true)
+    all_right(in_both_places(rt.alloc(), &NO_REPLACEMENT, true))
 }
 
 const ONE_ITEM: [Row; 4] = [
@@ -143,7 +150,7 @@ const ONE_ITEM: [Row; 4] = [
 
 #[test]
 fn one_item(rt: HostRuntime) -> Result<(), Fail> {
-    assert_in_both_places(&rt, &ONE_ITEM, true)
+    all_right(in_both_places(rt.alloc(), &ONE_ITEM, true))
 }
 
 const THREE_FROM_THE_FRONT: [Row; 15] = [
@@ -166,7 +173,7 @@ const THREE_FROM_THE_FRONT: [Row; 15] = [
 
 #[test]
 fn three_items_from_the_front(rt: HostRuntime) -> Result<(), Fail> {
-    assert_in_both_places(&rt, &THREE_FROM_THE_FRONT, true)
+    all_right(in_both_places(rt.alloc(), &THREE_FROM_THE_FRONT, true))
 }
 
 const NONE_BACK: [Step; 4] = [Back(None); 4];
@@ -190,7 +197,7 @@ const THREE_FROM_THE_BACK: [Row; 6] = [
 
 #[test]
 fn three_items_from_the_back(rt: HostRuntime) -> Result<(), Fail> {
-    assert_in_both_places(&rt, &THREE_FROM_THE_BACK, true)
+    all_right(in_both_places(rt.alloc(), &THREE_FROM_THE_BACK, true))
 }
 
 const EMPTY_RANGES: [Row; 4] = [
@@ -202,7 +209,7 @@ const EMPTY_RANGES: [Row; 4] = [
 
 #[test]
 fn empty_ranges(rt: HostRuntime) -> Result<(), Fail> {
-    assert_in_both_places(&rt, &EMPTY_RANGES, true)
+    all_right(in_both_places(rt.alloc(), &EMPTY_RANGES, true))
 }
 
 const FROM_BOTH_ENDS: [Step; 9] = [
@@ -217,21 +224,24 @@ const FROM_BOTH_ENDS: [Step; 9] = [
     Left(0),
 ];
 
-#[test]
-fn how_many_are_left(rt: HostRuntime) -> Result<(), Fail> {
-    assert_in_both_places(&rt, &[(Span::All, (7, 9), &FROM_BOTH_ENDS, &[7, 8])], false)
-}
+const HOW_MANY_ARE_LEFT: [Row; 1] = [(Span::All, (7, 9), &FROM_BOTH_ENDS, &[7, 8])];
 
 #[test]
-fn inline_to_the_heap(rt: HostRuntime) {
+fn how_many_are_left(rt: HostRuntime) -> Result<(), Fail> {
+    all_right(in_both_places(rt.alloc(), &HOW_MANY_ARE_LEFT, false))
+}
+
+const TO_THE_HEAP: Row = (
+    Span::Between(1, 2),
+    (7, 10),
+    &[Back(Some(2))],
+    &[1, 7, 8, 9, 3],
+);
+
+#[test]
+fn inline_to_the_heap(rt: HostRuntime) -> Result<(), Fail> {
     let mut v = TinyVec::from_array_len(rt.alloc(), [1, 2, 3, 0], 3);
-    let row: Row = (
-        Span::Between(1, 2),
-        (7, 10),
-        &[Back(Some(2))],
-        &[1, 7, 8, 9, 3],
-    );
-    assert!(rt; splices(&rt, &mut v, &row, true, false));
+    all_right(granted(0, 1, splices(&mut v, &TO_THE_HEAP, true, false)))
 }
 
 const SHORTER: Row = (
@@ -245,27 +255,29 @@ const SHORTER: Row = (
 fn shorter_on_the_heap(rt: HostRuntime) -> Result<(), Fail> {
     let mut v: TinyVec<[i32; 4]> = TinyVec::from_slice(rt.alloc(), &[1, 2, 3, 4, 5])?;
     let room = v.capacity();
-    assert!(rt; splices(&rt, &mut v, &SHORTER, false, false));
-    assert!(rt; v.capacity() == room);
-    Ok(())
+    let mut wrong = 0;
+    wrong = granted(wrong, 1, splices(&mut v, &SHORTER, false, false));
+    wrong = first(wrong, 2, v.capacity() == room);
+    all_right(wrong)
 }
 
-// One after the other, with the spare slots after each.
-const WITHIN_THE_ARRAY: [(Row, &[i32]); 3] = [
-    ((Span::Between(1, 2), (6, 8), &[], &[1, 6, 7, 3]), &[9]),
-    ((Span::UpTo(3), (2, 3), &[], &[2, 3]), &[0, 0, 9]),
-    ((Span::Between(1, 1), (5, 8), &[], &[2, 5, 6, 7, 3]), &[]),
-];
+const TWO_FOR_ONE: Row = (Span::Between(1, 2), (6, 8), &[], &[1, 6, 7, 3]);
+
+const ONE_FOR_THREE: Row = (Span::UpTo(3), (2, 3), &[], &[2, 3]);
+
+const THREE_FOR_NONE: Row = (Span::Between(1, 1), (5, 8), &[], &[2, 5, 6, 7, 3]);
 
 #[test]
-fn within_the_array(rt: HostRuntime) {
+fn within_the_array(rt: HostRuntime) -> Result<(), Fail> {
     let mut v = TinyVec::from_array_len(rt.alloc(), [1, 2, 3, 8, 9], 3);
-    for (row, spare) in WITHIN_THE_ARRAY {
-        assert!(rt;
-            splices(&rt, &mut v, &row, false, true) & spares(&v, spare),
-            "{spare:?}"
-        );
-    }
+    let mut wrong = 0;
+    wrong = granted(wrong, 1, splices(&mut v, &TWO_FOR_ONE, false, true));
+    wrong = first(wrong, 2, spares(&v, &[9]));
+    wrong = granted(wrong, 3, splices(&mut v, &ONE_FOR_THREE, false, true));
+    wrong = first(wrong, 4, spares(&v, &[0, 0, 9]));
+    wrong = granted(wrong, 5, splices(&mut v, &THREE_FOR_NONE, false, true));
+    wrong = first(wrong, 6, spares(&v, &[]));
+    all_right(wrong)
 }
 
 const SIX_TOUCHES: Row = (
@@ -283,81 +295,139 @@ const SIX_TOUCHES: Row = (
 );
 
 #[test]
-fn a_step_moves_nothing(rt: HostRuntime) {
+fn a_step_moves_nothing(rt: HostRuntime) -> Result<(), Fail> {
     let mut v = TinyVec::from_array(rt.alloc(), [1, 2, 3]);
-    assert!(rt; splices(&rt, &mut v, &SIX_TOUCHES, true, false));
+    all_right(granted(0, 1, splices(&mut v, &SIX_TOUCHES, true, false)))
 }
 
-#[test]
-fn as_many_in_a_full_array(rt: HostRuntime) {
-    let mut v = TinyVec::from_array(rt.alloc(), [1, 2, 3]);
-    let row: Row = (Span::From(1), (8, 10), &[], &[1, 8, 9]);
-    assert!(rt; splices(&rt, &mut v, &row, false, true));
-}
+const AS_MANY: Row = (Span::From(1), (8, 10), &[], &[1, 8, 9]);
 
 #[test]
-fn no_slots(rt: HostRuntime) {
+fn as_many_in_a_full_array(rt: HostRuntime) -> Result<(), Fail> {
+    let mut v = TinyVec::from_array(rt.alloc(), [1, 2, 3]);
+    all_right(granted(0, 1, splices(&mut v, &AS_MANY, false, true)))
+}
+
+const NONE_FOR_NONE: Row = (Span::All, (7, 7), &[Left(0), Front(None)], &[]);
+
+const TWO_FOR_NONE: Row = (Span::All, (7, 9), &[], &[7, 8]);
+
+#[test]
+fn no_slots(rt: HostRuntime) -> Result<(), Fail> {
     let mut v: TinyVec<[i32; 0]> = TinyVec::new(rt.alloc());
-    let none: Row = (Span::All, (7, 7), &[Left(0), Front(None)], &[]);
-    assert!(rt; splices(&rt, &mut v, &none, false, true));
-    let two: Row = (Span::All, (7, 9), &[], &[7, 8]);
-    assert!(rt; splices(&rt, &mut v, &two, true, false));
+    let mut wrong = 0;
+    wrong = granted(wrong, 1, splices(&mut v, &NONE_FOR_NONE, false, true));
+    wrong = granted(wrong, 2, splices(&mut v, &TWO_FOR_NONE, true, false));
+    all_right(wrong)
 }
 
 #[test]
-fn touches_of_a_longer_replacement(rt: HostRuntime) {
+fn touches_of_a_longer_replacement(rt: HostRuntime) -> Result<(), Fail> {
     let mut v = TinyVec::from_array_len(rt.alloc(), [1, 2, 3, 4, 5, 0, 0, 0], 5);
     let mut splice = v.splice(1..3, [7, 8, 9, 10]);
-    let before = splice.touches();
-    let last = splice.next_back();
-    assert!(rt; (before, last, splice.touches()) == (0, Some(3), 2));
+    let mut wrong = 0;
+    wrong = first(wrong, 1, splice.touches() == 0);
+    wrong = first(wrong, 2, splice.next_back() == Some(3));
+    wrong = first(wrong, 3, splice.touches() == 2);
     let (finished, touches) = splice.finish_counted();
-    assert!(rt; finished.is_ok() & (5 <= touches) & (touches <= 13));
-    assert!(rt; lies(&v, &[1, 7, 8, 9, 10, 4, 5], true));
+    wrong = first(wrong, 4, finished.is_ok());
+    wrong = first(wrong, 5, (5 <= touches) & (touches <= 13));
+    wrong = first(wrong, 6, lies(&v, &[1, 7, 8, 9, 10, 4, 5], true));
+    all_right(wrong)
 }
 
-#[test]
-fn touches_of_a_move(rt: HostRuntime) {
-    let mut v = TinyVec::from_array(rt.alloc(), [1, 2, 3]);
+// Whether one item more moves a full list to the heap by few touches.
+fn moves_by_few_touches(v: &mut TinyVec<[i32; 3]>) -> Option<bool> {
+    if v.len() != 3 {
+        return Some(false);
+    }
     let (finished, touches) = v.splice(3.., [4]).finish_counted();
-    assert!(rt; finished.is_ok(), "memory was granted");
-    assert!(rt; (touches <= 8) & lies(&v, &[1, 2, 3, 4], false));
+    if finished.is_err() {
+        return None;
+    }
+    Some((touches <= 8) & lies(v, &[1, 2, 3, 4], false))
 }
 
 #[test]
-fn hints_are_not_read(rt: HostRuntime) {
+fn touches_of_a_move(rt: HostRuntime) -> Result<(), Fail> {
+    let mut v = TinyVec::from_array(rt.alloc(), [1, 2, 3]);
+    all_right(granted(0, 1, moves_by_few_touches(&mut v)))
+}
+
+// Whether the item before an end is replaced by those of an iterator that hints at nothing.
+fn replaces_unhinted(
+    v: &mut TinyVec<[i32; 4]>,
+    end: usize,
+    replacement: Unhinted,
+    items: &[i32],
+    inline: bool,
+) -> Option<bool> {
+    if end == 0 || end > v.len() {
+        return Some(false);
+    }
+    match v.splice(end - 1..end, replacement).finish() {
+        Ok(()) => Some(lies(v, items, inline)),
+        Err(_) if inline => Some(false),
+        Err(_) => None,
+    }
+}
+
+#[test]
+fn hints_are_not_read(rt: HostRuntime) -> Result<(), Fail> {
     let mut v = TinyVec::from_array_len(rt.alloc(), [1, 2, 3, 0], 3);
-    let finished = v.splice(1..2, Unhinted { next: 0, end: 2 }).finish();
-    assert!(rt; finished.is_ok() & lies(&v, &[1, 0, 1, 3], true));
-    let finished = v.splice(..1, Unhinted { next: 4, end: 6 }).finish();
-    assert!(rt; finished.is_ok(), "memory was granted");
-    assert!(rt; lies(&v, &[4, 5, 0, 1, 3], false));
+    let two = Unhinted { next: 0, end: 2 };
+    let four_and_five = Unhinted { next: 4, end: 6 };
+    let mut wrong = 0;
+    let is_right = replaces_unhinted(&mut v, 2, two, &[1, 0, 1, 3], true);
+    wrong = granted(wrong, 1, is_right);
+    let is_right = replaces_unhinted(&mut v, 1, four_and_five, &[4, 5, 0, 1, 3], false);
+    wrong = granted(wrong, 2, is_right);
+    all_right(wrong)
+}
+
+// The first step that goes wrong where 1 to 3 are replaced by 4 to 6, or 0.
+fn replaced_by_a_range(v: &mut TinyVec<[i32; 10]>, inline: bool) -> u32 {
+    let mut splice = v.splice(.., 4..=6);
+    let mut wrong = 0;
+    wrong = first(wrong, 1, splice.next() == Some(1));
+    wrong = first(wrong, 2, splice.next_back() == Some(3));
+    wrong = first(wrong, 3, splice.finish().is_ok());
+    first(wrong, 4, lies(v, &[4, 5, 6], inline))
 }
 
 #[test]
 fn a_range_of_replacements(rt: HostRuntime) -> Result<(), Fail> {
-    for inline in [true, false] {
-        let mut v = one_two_three(rt.alloc(), inline)?;
-        let mut splice = v.splice(.., 4..=6);
-        let ends = (splice.next(), splice.next_back());
-        let finished = splice.finish().is_ok();
-        assert!(rt; finished & (ends == (Some(1), Some(3))) & lies(&v, &[4, 5, 6], inline));
-    }
-    Ok(())
+    let mut heap = one_two_three(rt.alloc(), false)?;
+    let mut inline = one_two_three(rt.alloc(), true)?;
+    let mut wrong = replaced_by_a_range(&mut inline, true);
+    wrong = first(wrong, 5, replaced_by_a_range(&mut heap, false) == 0);
+    all_right(wrong)
+}
+
+// Whether 1 to 3 are replaced by one item or none.
+fn is_replaced(
+    alloc: Global,
+    replacement: Option<i32>,
+    items: &[i32],
+    inline: bool,
+) -> Option<bool> {
+    let Ok(mut v) = one_two_three(alloc, inline) else {
+        return None;
+    };
+    let mut splice = v.splice(.., replacement);
+    let first = splice.next();
+    let finished = splice.finish().is_ok();
+    Some(finished & (first == Some(1)) & lies(&v, items, inline))
 }
 
 #[test]
 fn one_replacement_or_none(rt: HostRuntime) -> Result<(), Fail> {
-    for inline in [true, false] {
-        for (replacement, items) in [(Some(4), [4].as_slice()), (None, [].as_slice())] {
-            let mut v = one_two_three(rt.alloc(), inline)?;
-            let mut splice = v.splice(.., replacement);
-            let first = splice.next();
-            let finished = splice.finish().is_ok();
-            assert!(rt; finished & (first == Some(1)) & lies(&v, items, inline));
-        }
-    }
-    Ok(())
+    let mut wrong = 0;
+    wrong = granted(wrong, 1, is_replaced(rt.alloc(), Some(4), &[4], true));
+    wrong = granted(wrong, 2, is_replaced(rt.alloc(), None, &[], true));
+    wrong = granted(wrong, 3, is_replaced(rt.alloc(), Some(4), &[4], false));
+    wrong = granted(wrong, 4, is_replaced(rt.alloc(), None, &[], false));
+    all_right(wrong)
 }
 
 #[test]
@@ -365,55 +435,67 @@ fn a_vec_of_replacements(rt: HostRuntime) -> Result<(), Fail> {
     let replacement = [8, 9].to_vec(rt.alloc())?;
     let mut v = one_two_three(rt.alloc(), true)?;
     let mut splice = v.splice(2.., replacement);
-    let last = splice.next_back();
-    let finished = splice.finish().is_ok();
-    assert!(rt; finished & (last == Some(3)) & lies(&v, &[1, 2, 8, 9], true));
-    Ok(())
+    let mut wrong = 0;
+    wrong = first(wrong, 1, splice.next_back() == Some(3));
+    wrong = first(wrong, 2, splice.finish().is_ok());
+    wrong = first(wrong, 3, lies(&v, &[1, 2, 8, 9], true));
+    all_right(wrong)
 }
 
-// Splices four items in place of two in a full list of N, and meets a refusal.
-fn refused_by_the_count<const N: usize>(rt: &(impl Abort + AllocGlobal)) {
-    let mut v = TinyVec::from_array(rt.alloc(), [(); N]);
+// The first step that goes wrong where a splice of four items in place of two is refused by a full list of N, or 0.
+fn refused_by_the_count<const N: usize>(alloc: Global) -> u32 {
+    let mut v = TinyVec::from_array(alloc, [(); N]);
     if v.len() < 3 {
-        return;
+        return 1;
     }
     let mut splice = v.splice(1..3, [(), (), (), ()]);
-    let taken = (splice.next(), splice.next_back());
+    let mut wrong = 0;
+    wrong = first(wrong, 2, splice.next() == Some(()));
+    wrong = first(wrong, 3, splice.next_back() == Some(()));
     let handed_back = match splice.finish() {
         Ok(()) => None,
         Err(SpliceRest { item, mut rest }) => Some((item, rest.next(), rest.next())),
     };
-    assert!(rt; (taken, handed_back) == ((Some(()), Some(())), Some(((), Some(()), None))));
-    assert!(rt; (v.len() == N) & v.is_inline());
+    wrong = first(wrong, 4, handed_back == Some(((), Some(()), None)));
+    first(wrong, 5, (v.len() == N) & v.is_inline())
 }
 
 // There is no number of items above this one, so room for one more is granted by no allocator.
 #[test]
-fn refused_by_the_greatest_count(rt: HostRuntime) {
-    refused_by_the_count::<{ usize::MAX }>(&rt);
+fn refused_by_the_greatest_count(rt: HostRuntime) -> Result<(), Fail> {
+    all_right(refused_by_the_count::<{ usize::MAX }>(rt.alloc()))
+}
+
+// Whether a splice of all but the first item by an endless replacement is stopped after one, and leaves this.
+fn stops(alloc: Global, inline: bool) -> Option<bool> {
+    let Ok(mut v) = one_two_three(alloc, inline) else {
+        return None;
+    };
+    let mut splice = v.splice(1.., iter::repeat(7));
+    let taken = splice.next();
+    let mut rest = splice.stop();
+    let given = (taken, rest.next());
+    Some((given == (Some(2), Some(7))) & lies(&v, &[1, 7], inline))
 }
 
 #[test]
 fn stopped_amid_an_endless_replacement(rt: HostRuntime) -> Result<(), Fail> {
-    for inline in [true, false] {
-        let mut v = one_two_three(rt.alloc(), inline)?;
-        let mut splice = v.splice(1.., iter::repeat(7));
-        let taken = splice.next();
-        let mut rest = splice.stop();
-        let given = (taken, rest.next());
-        assert!(rt; (given == (Some(2), Some(7))) & lies(&v, &[1, 7], inline));
-    }
-    Ok(())
+    let mut wrong = 0;
+    wrong = granted(wrong, 1, stops(rt.alloc(), true));
+    wrong = granted(wrong, 2, stops(rt.alloc(), false));
+    all_right(wrong)
 }
 
 #[test]
 fn stopped_amid_three_replacements(rt: HostRuntime) -> Result<(), Fail> {
     let mut v = one_two_three(rt.alloc(), true)?;
     let mut splice = v.splice(.., [7, 8, 9]);
-    let taken = (splice.next(), splice.next_back());
+    let mut wrong = 0;
+    wrong = first(wrong, 1, splice.next() == Some(1));
+    wrong = first(wrong, 2, splice.next_back() == Some(3));
     let mut rest = splice.stop();
-    let given = (taken, rest.next(), rest.next());
-    assert!(rt; given == ((Some(1), Some(3)), Some(8), None));
-    assert!(rt; lies(&v, &[7, 9], true));
-    Ok(())
+    wrong = first(wrong, 3, rest.next() == Some(8));
+    wrong = first(wrong, 4, rest.next() == None);
+    wrong = first(wrong, 5, lies(&v, &[7, 9], true));
+    all_right(wrong)
 }

@@ -1,8 +1,10 @@
 //! Calls that put items in or ask for room, as tables; and room that is given back.
-use super::{Row, Start, assert_asks, full, in_the_array, on_the_heap, refused};
+use super::{Met, Row, Start, ask, on_the_heap, told};
 use crate::asking::Asking;
+use std::alloc::{AllocError, Global};
 use std::test::Fail;
-use tinyvec_test_looks::{lies, spares};
+use tinyvec_test_items::first;
+use tinyvec_test_looks::{lies, lies_before};
 
 const OF_A_FULL_LIST: [Row; 2] = [
     Row {
@@ -21,10 +23,7 @@ const OF_A_FULL_LIST: [Row; 2] = [
 
 #[test]
 fn of_a_full_list(rt: HostRuntime) -> Result<(), Fail> {
-    for row in OF_A_FULL_LIST {
-        assert_asks(&rt, &mut full(rt.alloc()), Start::Full, &row)?;
-    }
-    Ok(())
+    told(&rt, ask(rt.alloc(), Start::Full, &OF_A_FULL_LIST, false)?)
 }
 
 // A refused `resize_with` had not asked its closure.
@@ -51,10 +50,10 @@ const PAST_THE_ARRAY: [Row; 3] = [
 
 #[test]
 fn past_the_array(rt: HostRuntime) -> Result<(), Fail> {
-    for row in PAST_THE_ARRAY {
-        assert_asks(&rt, &mut in_the_array(rt.alloc()), Start::InTheArray, &row)?;
-    }
-    Ok(())
+    told(
+        &rt,
+        ask(rt.alloc(), Start::InTheArray, &PAST_THE_ARRAY, false)?,
+    )
 }
 
 const ON_THE_HEAP: [Row; 5] = [
@@ -92,10 +91,7 @@ const ON_THE_HEAP: [Row; 5] = [
 
 #[test]
 fn on_the_heap_for_items(rt: HostRuntime) -> Result<(), Fail> {
-    for row in ON_THE_HEAP {
-        assert_asks(&rt, &mut on_the_heap(rt.alloc())?, Start::OnTheHeap, &row)?;
-    }
-    Ok(())
+    told(&rt, ask(rt.alloc(), Start::OnTheHeap, &ON_THE_HEAP, false)?)
 }
 
 const FOR_ROOM: [Row; 8] = [
@@ -151,13 +147,7 @@ const FOR_ROOM: [Row; 8] = [
 
 #[test]
 fn for_room(rt: HostRuntime) -> Result<(), Fail> {
-    for row in FOR_ROOM {
-        let mut v = in_the_array(rt.alloc());
-        assert_asks(&rt, &mut v, Start::InTheArray, &row)?;
-        assert!(rt; row.call.make(&mut v).is_ok());
-        assert!(rt; lies(&v, &[1, 2], false));
-    }
-    Ok(())
+    told(&rt, ask(rt.alloc(), Start::InTheArray, &FOR_ROOM, true)?)
 }
 
 const FOR_MORE_ROOM: [Row; 6] = [
@@ -201,30 +191,31 @@ const FOR_MORE_ROOM: [Row; 6] = [
 
 #[test]
 fn on_the_heap_for_room(rt: HostRuntime) -> Result<(), Fail> {
-    for row in FOR_MORE_ROOM {
-        let mut v = on_the_heap(rt.alloc())?;
-        assert_asks(&rt, &mut v, Start::OnTheHeap, &row)?;
-        assert!(rt; row.call.make(&mut v).is_ok());
-        assert!(rt; v.capacity() >= 44);
-    }
-    Ok(())
+    told(
+        &rt,
+        ask(rt.alloc(), Start::OnTheHeap, &FOR_MORE_ROOM, true)?,
+    )
+}
+
+fn shrink(alloc: Global) -> Result<Met, AllocError> {
+    let mut v = on_the_heap(alloc)?;
+    v.reserve(40)?;
+    let before = v.capacity();
+    v.shrink_to_fit();
+    let mut wrong = first(0, 1, lies(&v, &[1, 2, 3, 4], false));
+    let after = v.capacity();
+    wrong = first(wrong, 2, after <= before);
+    v.truncate(2);
+    v.shrink_to_fit();
+    wrong = first(wrong, 3, lies_before(&v, &[1, 2], &[0]));
+    // No answer tells a refusal.
+    Ok(Met {
+        is_refused: after == before,
+        wrong,
+    })
 }
 
 #[test]
 fn shrink_to_fit(rt: HostRuntime) -> Result<(), Fail> {
-    let mut v = on_the_heap(rt.alloc())?;
-    v.reserve(40)?;
-    let before = v.capacity();
-    v.shrink_to_fit();
-    assert!(rt; lies(&v, &[1, 2, 3, 4], false));
-    assert!(rt; v.capacity() <= before);
-    // No answer tells a refusal.
-    if v.capacity() == before {
-        refused(&rt)?;
-    }
-    v.truncate(2);
-    v.shrink_to_fit();
-    assert!(rt; lies(&v, &[1, 2], true));
-    assert!(rt; spares(&v, &[0]));
-    Ok(())
+    told(&rt, shrink(rt.alloc())?)
 }

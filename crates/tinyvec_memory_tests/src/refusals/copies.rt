@@ -1,94 +1,131 @@
 //! Lists that are cloned, or become a `Vec` or a boxed slice.
-use super::{Start, in_the_array, on_the_heap, refused};
-use std::alloc::{AllocError, AllocGlobal};
-use std::process::Abort;
+use super::{Met, Start, in_the_array, on_the_heap, told};
+use std::alloc::{AllocError, Global};
 use std::test::Fail;
 use tinyvec::{NoMemory, TinyVec};
-use tinyvec_test_looks::{lies, spares};
+use tinyvec_test_items::first;
+use tinyvec_test_looks::{lies, lies_before};
+
+type Three = TinyVec<[i32; 3]>;
+
+// Whether a clone of 1 to 4 was refused, and whether it is right otherwise.
+fn clones(v: &Three) -> Met {
+    match v.clone() {
+        Ok(copy) => Met {
+            is_refused: false,
+            wrong: first(0, 1, lies(&copy, &[1, 2, 3, 4], false)),
+        },
+        Err(AllocError) => Met {
+            is_refused: true,
+            wrong: first(0, 2, v.clone().is_ok()),
+        },
+    }
+}
 
 #[test]
 fn clone(rt: HostRuntime) -> Result<(), Fail> {
-    assert!(rt; in_the_array(rt.alloc()).clone().is_ok());
     let v = on_the_heap(rt.alloc())?;
-    match v.clone() {
-        Ok(copy) => assert!(rt; lies(&copy, &[1, 2, 3, 4], false)),
-        Err(AllocError) => {
-            refused(&rt)?;
-            assert!(rt; v.clone().is_ok());
-        }
-    }
-    assert!(rt; lies(&v, &[1, 2, 3, 4], false));
-    Ok(())
+    let mut met = clones(&v);
+    met.wrong = first(met.wrong, 3, lies(&v, &[1, 2, 3, 4], false));
+    met.wrong = first(met.wrong, 4, in_the_array(rt.alloc()).clone().is_ok());
+    told(&rt, met)
 }
 
 // Clones one list over another, and says whether that was granted.
-fn clones_from(v: &mut TinyVec<[i32; 3]>, source: &TinyVec<[i32; 3]>) -> bool {
+fn clones_from(v: &mut Three, source: &Three) -> bool {
     v.clone_from(source).is_ok()
 }
 
-// Asserts that a list becomes these items on the heap, or is as it was, and becomes them once it is asked again.
-fn assert_clones_from(
-    rt: &(impl Abort + AllocGlobal + Print),
-    start: Start,
-    items: &[i32],
-) -> Result<(), Fail> {
-    let mut v = start.make(rt.alloc())?;
-    let source = TinyVec::from_slice(rt.alloc(), items)?;
+// A list becomes these items on the heap, or is as it was, and becomes them once it is asked again.
+fn becomes(alloc: Global, start: Start, items: &[i32]) -> Result<Met, AllocError> {
+    let mut v = start.make(alloc)?;
+    let source = Three::from_slice(alloc, items)?;
     let room = v.capacity();
-    if !clones_from(&mut v, &source) {
-        assert!(rt; start.is_kept(&v, room));
-        refused(rt)?;
-        assert!(rt; clones_from(&mut v, &source));
+    let is_refused = !clones_from(&mut v, &source);
+    let mut wrong = 0;
+    if is_refused {
+        wrong = first(wrong, 1, start.is_kept(&v, room));
+        wrong = first(wrong, 2, clones_from(&mut v, &source));
     }
-    assert!(rt; lies(&v, items, false));
-    assert!(rt; lies(&source, items, false));
-    Ok(())
+    wrong = first(wrong, 3, lies(&v, items, false));
+    wrong = first(wrong, 4, lies(&source, items, false));
+    Ok(Met { is_refused, wrong })
 }
 
 #[test]
 fn clone_from(rt: HostRuntime) -> Result<(), Fail> {
-    assert_clones_from(&rt, Start::InTheArray, &[1, 2, 3, 4])
+    told(&rt, becomes(rt.alloc(), Start::InTheArray, &[1, 2, 3, 4])?)
 }
 
 #[test]
 fn clone_from_on_the_heap(rt: HostRuntime) -> Result<(), Fail> {
-    assert_clones_from(&rt, Start::OnTheHeap, &[5, 6, 7, 8, 9])
+    told(
+        &rt,
+        becomes(rt.alloc(), Start::OnTheHeap, &[5, 6, 7, 8, 9])?,
+    )
+}
+
+// Whether a list becomes a `Vec` of these items, or comes back before this spare slot, and becomes it once it is asked again.
+fn becomes_a_vec(v: Three, items: &[i32], spare: &[i32]) -> Met {
+    match v.into_vec() {
+        Ok(vec) => Met {
+            is_refused: false,
+            wrong: first(0, 1, vec.as_slice() == items),
+        },
+        Err(NoMemory(v)) => {
+            let wrong = first(0, 2, lies_before(&v, items, spare));
+            Met {
+                is_refused: true,
+                wrong: first(wrong, 3, v.into_vec().is_ok()),
+            }
+        }
+    }
+}
+
+// `[1, 2, 3, 4]`, with room for forty items more.
+fn with_much_room(alloc: Global) -> Result<Three, AllocError> {
+    let mut heap = on_the_heap(alloc)?;
+    heap.reserve(40)?;
+    Ok(heap)
+}
+
+// What is on the heap takes no memory.
+fn is_a_vec(v: Three, items: &[i32]) -> bool {
+    match v.into_vec() {
+        Ok(vec) => vec.as_slice() == items,
+        Err(_) => false,
+    }
 }
 
 #[test]
 fn into_vec(rt: HostRuntime) -> Result<(), Fail> {
-    match in_the_array(rt.alloc()).into_vec() {
-        Ok(vec) => assert!(rt; vec.as_slice() == [1, 2].as_slice()),
-        Err(NoMemory(v)) => {
-            assert!(rt; lies(&v, &[1, 2], true));
-            assert!(rt; spares(&v, &[9]));
-            refused(&rt)?;
-            assert!(rt; v.into_vec().is_ok());
-        }
+    let heap = with_much_room(rt.alloc())?;
+    let mut met = becomes_a_vec(in_the_array(rt.alloc()), &[1, 2], &[9]);
+    met.wrong = first(met.wrong, 4, is_a_vec(heap, &[1, 2, 3, 4]));
+    told(&rt, met)
+}
+
+// Whether a list becomes a boxed slice of these items, or nothing where that is refused.
+fn boxes(v: Three, items: &[i32]) -> Option<bool> {
+    match v.into_boxed_slice() {
+        Ok(boxed) => Some(boxed.as_slice() == items),
+        Err(AllocError) => None,
     }
-    let mut heap = on_the_heap(rt.alloc())?;
-    heap.reserve(40)?;
-    match heap.into_vec() {
-        Ok(vec) => assert!(rt; vec.as_slice() == [1, 2, 3, 4].as_slice()),
-        Err(_) => panic!(rt; "it takes no memory"),
-    }
-    Ok(())
 }
 
 #[test]
 fn into_boxed_slice(rt: HostRuntime) -> Result<(), Fail> {
-    match in_the_array(rt.alloc()).into_boxed_slice() {
-        Ok(boxed) => assert!(rt; boxed.as_slice() == [1, 2].as_slice()),
-        Err(AllocError) => {
-            refused(&rt)?;
-            assert!(rt; in_the_array(rt.alloc()).into_boxed_slice().is_ok());
-        }
+    let heap = with_much_room(rt.alloc())?;
+    let boxed = boxes(in_the_array(rt.alloc()), &[1, 2]);
+    let mut met = Met {
+        is_refused: boxed == None,
+        wrong: first(0, 1, boxed != Some(false)),
+    };
+    if met.is_refused {
+        let again = boxes(in_the_array(rt.alloc()), &[1, 2]);
+        met.wrong = first(met.wrong, 2, again == Some(true));
     }
-    let mut heap = on_the_heap(rt.alloc())?;
-    heap.reserve(40)?;
-    match heap.into_boxed_slice() {
-        Ok(boxed) => assert!(rt; boxed.as_slice() == [1, 2, 3, 4].as_slice()),
-        Err(_) => panic!(rt; "it is refused none"),
-    }
-    Ok(())
+    // It is refused none.
+    met.wrong = first(met.wrong, 3, boxes(heap, &[1, 2, 3, 4]) == Some(true));
+    told(&rt, met)
 }

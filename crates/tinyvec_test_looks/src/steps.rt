@@ -1,0 +1,32 @@
+//! Steps that may ask for memory, and the end of a test by steps.
+use std::test::Fail;
+
+// Stands for a step whose request for memory was refused.
+const REFUSED: u32 = u32::MAX;
+
+#[derive(Debug, Drop)]
+enum Wrong {
+    // `tests/refuse` reads this name: a test may end so where a request is refused.
+    Memory,
+    Step(u32),
+}
+
+/// The first step that went wrong, or 0. `None` says that a step was refused memory.
+pub fn granted(wrong: u32, step: u32, is_right: Option<bool>) -> u32 {
+    match is_right {
+        _ if wrong != 0 => wrong,
+        None => REFUSED,
+        Some(true) => 0,
+        Some(false) => step,
+    }
+}
+
+/// Ends a test by the first step that went wrong, if there is one. An assertion of it would take as long to prove as the
+/// steps of a short test.
+pub fn all_right(wrong: u32) -> Result<(), Fail> {
+    match wrong {
+        0 => Ok(()),
+        REFUSED => Err(Fail::from(Wrong::Memory)),
+        _ => Err(Fail::from(Wrong::Step(wrong))),
+    }
+}
