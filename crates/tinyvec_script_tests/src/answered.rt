@@ -1,67 +1,75 @@
-//! What scripts and runs answer, held against what is wanted.
-use std::alloc::{AllocGlobal, Global};
-use std::process::Abort;
-use std::test::Fail;
+//! What scripts answer, held against what is wanted.
+use std::alloc::{AllocError, Global};
 use tinyvec_io::Counted;
 use tinyvec_script::run;
 
 // Room for all that a test here reads or writes.
 pub(crate) const ROOM: usize = 1 << 15;
 
-// What a script over memory writes.
-pub(crate) fn written(alloc: Global, input: &[u8]) -> Result<Vec<u8>, Fail> {
-    let mut reader = Counted::new(input);
-    let mut writer = Counted::new(Vec::with_capacity(alloc, ROOM)?);
-    run(alloc, &mut reader, &mut writer)?;
-    Ok(writer.into_inner())
+// A script, and what it has to write.
+pub(crate) struct Script {
+    pub(crate) input: &'static [u8],
+    pub(crate) output: &'static [u8],
 }
 
-// Whether the answer names items that found no room.
-fn gives_rest(answer: &[u8]) -> bool {
-    answer.windows(6).any(|part| part == b" rest ".as_slice())
-}
-
-// Whether the first line that differs from what is wanted tells of refused memory: it may leave a splice without room.
+// Whether the answers, which may be cut, first differ from what is wanted where they tell of refused memory: by the answer
+// `memory`, or by a `rest` that a splice without room left.
 fn tells_refused_memory(answers: &[u8], wanted: &[u8]) -> bool {
-    let is_end = |byte: &u8| *byte == b'\n';
-    for (answer, line) in answers.split(is_end).zip(wanted.split(is_end)) {
-        if answer != line {
-            return answer.starts_with(b"memory ") || (gives_rest(answer) && !gives_rest(line));
+    let mut starts_line = true;
+    for (answer, byte) in answers.iter().zip(wanted) {
+        if answer != byte {
+            return *answer == if starts_line { b'm' } else { b'r' };
         }
+        starts_line = *answer == b'\n';
     }
     false
 }
 
-// Asserts that a script writes this, if no memory is refused.
-pub(crate) fn assert_written(
-    rt: &(impl Abort + AllocGlobal),
-    input: &[u8],
-    output: &[u8],
-) -> Result<(), Fail> {
-    let answers = written(rt.alloc(), input)?;
-    assert!(rt;
-        !tells_refused_memory(answers.as_slice(), output),
-        "memory was granted"
-    );
-    assert!(rt; answers.as_slice() == output);
-    Ok(())
+// Whether the answers are what is wanted, and the script has ended so. It fails where they tell of refused memory.
+pub(crate) fn are_wanted(
+    answers: &[u8],
+    wanted: &[u8],
+    has_ended_so: bool,
+) -> Result<bool, AllocError> {
+    if tells_refused_memory(answers, wanted) {
+        return Err(AllocError);
+    }
+    Ok((answers == wanted) & has_ended_so)
 }
 
-// Lines of a script, each with its answer.
-pub(crate) type Lines<'a> = &'a [(&'a [u8], &'a [u8])];
+// Whether a script writes this.
+pub(crate) fn writes(alloc: Global, input: &[u8], output: &[u8]) -> Result<bool, AllocError> {
+    let mut reader = Counted::new(input);
+    let mut writer = Counted::new(Vec::with_capacity(alloc, ROOM)?);
+    let result = run(alloc, &mut reader, &mut writer);
+    are_wanted(writer.into_inner().as_slice(), output, result == Ok(()))
+}
 
-// Asserts that each line of a script is answered so, if no memory is refused.
-pub(crate) fn assert_answered(
-    rt: &(impl Abort + AllocGlobal),
-    lines: Lines<'_>,
-) -> Result<(), Fail> {
-    let mut input = Vec::with_capacity(rt.alloc(), ROOM)?;
-    let mut output = Vec::with_capacity(rt.alloc(), ROOM)?;
-    for (line, answer) in lines {
-        input.extend_from_slice(line)?;
-        input.extend_from_slice(b"\n")?;
-        output.extend_from_slice(answer)?;
-        output.extend_from_slice(b"\n")?;
+// The first so many lines of a text.
+pub(crate) fn first_lines(text: &[u8], lines: usize) -> &[u8] {
+    let mut left = lines;
+    for (index, byte) in text.iter().enumerate() {
+        if left == 0 {
+            return &text[..index];
+        }
+        if *byte == b'\n' {
+            left -= 1;
+        }
     }
-    assert_written(rt, input.as_slice(), output.as_slice())
+    text
+}
+
+// How many lines a text has that are ended.
+pub(crate) fn count_lines(text: &[u8]) -> usize {
+    text.iter().filter(|byte| **byte == b'\n').count()
+}
+
+// A thousand lines of 6 bytes each.
+pub(crate) fn pops(alloc: Global) -> Result<Vec<u8>, AllocError> {
+    b"A pop\n".as_slice().repeat(alloc, 1000)
+}
+
+// The answers to them, of 21 bytes each.
+pub(crate) fn answers_to_pops(alloc: Global) -> Result<Vec<u8>, AllocError> {
+    b"none [] [0, 0, 0, 0]\n".as_slice().repeat(alloc, 1000)
 }

@@ -1,74 +1,47 @@
-//! Readers and writers that fail, or record what is asked of them.
+//! Readers and writers that fail, are interrupted, move few bytes, or record what is asked of them.
 use std::cell::RefCell;
 use std::io;
 use std::io::{ErrorKind, Read, Write};
 
-/// Gives its bytes a few at a time, interrupted before each read, and then fails.
+// Gives its bytes, at most so many a read, and then fails.
 #[derive(Drop)]
-pub struct Breaks<'a> {
-    bytes: &'a [u8],
-    interrupted: bool,
-}
-
-impl<'a> Breaks<'a> {
-    pub fn new(bytes: &'a [u8]) -> Self {
-        Breaks {
-            bytes,
-            interrupted: false,
-        }
-    }
+pub(crate) struct Breaks<'a> {
+    pub(crate) bytes: &'a [u8],
+    pub(crate) most: usize,
 }
 
 impl Read for Breaks<'_> {
     fn read(&mut self, buf: &mut [u8]) -> io::Result<usize> {
-        self.interrupted = !self.interrupted;
-        if self.interrupted {
-            return Err(io::Error::from(ErrorKind::Interrupted));
-        }
         if self.bytes.is_empty() {
-            return Err(io::Error::other("broken"));
+            return Err(io::Error::from(ErrorKind::BrokenPipe));
         }
-        let few = buf.len().min(3);
+        let few = buf.len().min(self.most);
         self.bytes.read(&mut buf[..few])
     }
 }
 
-/// Takes so many bytes, and then no more. It remembers them.
+// Gives its bytes, one a read, to their end.
 #[derive(Drop)]
-pub struct Fills {
-    pub taken: Vec<u8>,
-    room: usize,
+pub(crate) struct Drips<'a> {
+    pub(crate) bytes: &'a [u8],
 }
 
-impl Fills {
-    /// `taken` is where the bytes go.
-    pub fn new(taken: Vec<u8>, room: usize) -> Self {
-        Fills { taken, room }
+impl Read for Drips<'_> {
+    fn read(&mut self, buf: &mut [u8]) -> io::Result<usize> {
+        let few = buf.len().min(1);
+        self.bytes.read(&mut buf[..few])
     }
 }
 
-impl Write for Fills {
-    fn write(&mut self, buf: &[u8]) -> io::Result<usize> {
-        let count = buf.len().min(self.room);
-        self.taken.extend_from_slice(&buf[..count])?;
-        self.room -= count;
-        Ok(count)
-    }
-
-    fn flush(&mut self) -> io::Result<()> {
-        Ok(())
-    }
-}
-
-/// Gives its pieces, one a read.
+// Gives its pieces, one a read.
 #[derive(Drop)]
-pub struct Pieces<'a> {
+pub(crate) struct Pieces<'a> {
     pieces: &'a [&'a [u8]],
     given: usize,
 }
 
 impl<'a> Pieces<'a> {
-    pub fn new(pieces: &'a [&'a [u8]]) -> Self {
+    pub(crate) fn new(pieces: &'a [&'a [u8]]) -> Self {
         Pieces { pieces, given: 0 }
     }
 }
@@ -84,18 +57,123 @@ impl Read for Pieces<'_> {
     }
 }
 
-/// Passes so many calls on to the end that it holds, answers the next one with an error of that kind, and passes on those
-/// after it.
+// What a writer does once it has no room.
+#[derive(Clone, Copy, Drop)]
+pub(crate) enum Full {
+    Fails,
+    TakesNone,
+}
+
+// Takes as many bytes as there is room for, at most so many a write. It remembers them.
 #[derive(Drop)]
-pub struct FailsOnce<E: Drop> {
+pub(crate) struct Fills {
+    pub(crate) taken: Vec<u8>,
+    pub(crate) room: usize,
+    pub(crate) most: usize,
+    pub(crate) full: Full,
+}
+
+impl Write for Fills {
+    fn write(&mut self, buf: &[u8]) -> io::Result<usize> {
+        let count = buf.len().min(self.room).min(self.most);
+        if count == 0 && matches!(self.full, Full::Fails) {
+            return Err(io::Error::from(ErrorKind::BrokenPipe));
+        }
+        self.taken.extend_from_slice(&buf[..count])?;
+        self.room -= count;
+        Ok(count)
+    }
+
+    fn flush(&mut self) -> io::Result<()> {
+        Ok(())
+    }
+}
+
+// Passes reads and writes on to the end that it holds. Before each of them it is interrupted so many times.
+#[derive(Drop)]
+pub(crate) struct Interrupted<E: Drop> {
+    pub(crate) end: E,
+    times: u64,
+    left: u64,
+}
+
+impl<E: Drop> Interrupted<E> {
+    pub(crate) fn new(end: E, times: u64) -> Self {
+        Interrupted {
+            end,
+            times,
+            left: times,
+        }
+    }
+
+    fn interrupt(&mut self) -> io::Result<()> {
+        if self.left == 0 {
+            self.left = self.times;
+            return Ok(());
+        }
+        self.left -= 1;
+        Err(io::Error::from(ErrorKind::Interrupted))
+    }
+}
+
+impl<R: Read + Drop> Read for Interrupted<R> {
+    fn read(&mut self, buf: &mut [u8]) -> io::Result<usize> {
+        self.interrupt()?;
+        self.end.read(buf)
+    }
+}
+
+impl<W: Write + Drop> Write for Interrupted<W> {
+    fn write(&mut self, buf: &[u8]) -> io::Result<usize> {
+        self.interrupt()?;
+        self.end.write(buf)
+    }
+
+    fn flush(&mut self) -> io::Result<()> {
+        self.end.flush()
+    }
+}
+
+// Takes all bytes. Its first flush is interrupted, and no other. It counts them.
+#[derive(Drop)]
+pub(crate) struct FlushInterrupted {
+    pub(crate) taken: Vec<u8>,
+    pub(crate) flushes: u8,
+}
+
+impl FlushInterrupted {
+    pub(crate) fn new(taken: Vec<u8>) -> Self {
+        FlushInterrupted { taken, flushes: 0 }
+    }
+}
+
+impl Write for FlushInterrupted {
+    fn write(&mut self, buf: &[u8]) -> io::Result<usize> {
+        self.taken.extend_from_slice(buf)?;
+        Ok(buf.len())
+    }
+
+    fn flush(&mut self) -> io::Result<()> {
+        self.flushes = self.flushes.saturating_add(1);
+        if self.flushes == 1 {
+            return Err(io::Error::from(ErrorKind::Interrupted));
+        }
+        Ok(())
+    }
+}
+
+// Passes so many calls on to the end that it holds, answers the next one with an error of that kind, and passes on those
+// after it.
+#[derive(Drop)]
+pub(crate) struct FailsOnce<E: Drop> {
     end: E,
     before: Option<usize>,
     kind: ErrorKind,
 }
 
 impl<E: Drop> FailsOnce<E> {
-    /// With `None` it never fails.
-    pub fn new(end: E, before: Option<usize>, kind: ErrorKind) -> Self {
+    // With `None` it never fails.
+    pub(crate) fn new(end: E, before: Option<usize>, kind: ErrorKind) -> Self {
         FailsOnce { end, before, kind }
     }
 
@@ -133,25 +211,25 @@ impl<W: Write + Drop> Write for FailsOnce<W> {
     }
 }
 
-/// What an end was asked, and how many bytes that moved.
+// What an end was asked, and how many bytes that moved.
 #[derive(Clone, Copy, PartialEq, Debug, Drop)]
-pub enum Event {
+pub(crate) enum Event {
     Read(usize),
     Write(usize),
     Flush,
-    /// The call failed.
+    // The call failed.
     Fault,
 }
 
-/// Records what the end that it holds is asked, in a list that several ends may share.
+// Records what the end that it holds is asked, in a list that several ends may share.
 #[derive(Drop)]
-pub struct Recorded<'a, E: Drop> {
+pub(crate) struct Recorded<'a, E: Drop> {
     end: E,
     events: &'a RefCell<Vec<Event>>,
 }
 
 impl<'a, E: Drop> Recorded<'a, E> {
-    pub fn new(end: E, events: &'a RefCell<Vec<Event>>) -> Self {
+    pub(crate) fn new(end: E, events: &'a RefCell<Vec<Event>>) -> Self {
         Recorded { end, events }
     }
 

@@ -1,13 +1,22 @@
-//! The tests of runs and of the script.
+//! The tests of runs, of the script and of the Borsh form: what is answered, and what is left where ends fail, input is cut or
+//! memory is refused.
 #![tactic(auto)]
 
 #[cfg(test)]
 mod answered;
+#[cfg(test)]
+mod counted;
+#[cfg(test)]
+mod cut;
 pub mod driven;
 #[cfg(test)]
 mod ends;
 #[cfg(test)]
-mod lines;
+mod faults;
+#[cfg(test)]
+mod flushes;
+#[cfg(test)]
+mod forms;
 #[cfg(test)]
 mod order;
 #[cfg(test)]
@@ -19,4 +28,4 @@ mod script;
 #[cfg(test)]
 mod splices;
 #[cfg(test)]
-mod text;
+mod steps;

@@ -1,9 +1,11 @@
 //! Runs, each a table of calls with their answers.
-use std::alloc::{AllocError, AllocGlobal, Global};
-use std::process::Abort;
+use crate::steps::first_granted;
+use std::alloc::{AllocError, Global};
 use std::test::Fail;
 use tinyvec::{Array, ArrayVec, SliceVec, TinyVec};
 use tinyvec_script::{Answer, Call, End, run_array, run_slice, run_tiny};
+use tinyvec_test_items::arrays::holds;
+use tinyvec_test_looks::lies;
 
 // A call whose lists are lent, so that a table of them is a constant.
 #[derive(Clone, Copy)]
@@ -82,30 +84,36 @@ fn is_told(answer: &Answer<i32>, told: Told) -> bool {
     }
 }
 
-// Asserts that a run gave these answers, if no memory is refused.
-fn assert_told(rt: &impl Abort, answers: &[Answer<i32>], rows: &[Row]) {
-    assert!(rt; answers.len() == rows.len());
-    for (answer, (_, told)) in answers.iter().zip(rows) {
-        let is_refusal = matches!(answer, Answer::Memory | Answer::Spliced(_, _));
-        let is_told = is_told(answer, *told);
-        assert!(rt; is_told | !is_refusal, "memory was granted");
-        assert!(rt; is_told);
+// Whether an answer is as it is told. It fails where it tells of refused memory in its place.
+fn is_granted(answer: &Answer<i32>, told: Told) -> Result<bool, AllocError> {
+    let is_told = is_told(answer, told);
+    if !is_told && matches!(answer, Answer::Memory | Answer::Spliced(_, _)) {
+        return Err(AllocError);
     }
+    Ok(is_told)
+}
+
+// Whether a run gave these answers, and left what is wanted.
+fn are_told(answers: &[Answer<i32>], rows: &[Row], is_left: bool) -> Result<bool, AllocError> {
+    let mut wrong = Ok(None);
+    for (index, (answer, (_, told))) in answers.iter().zip(rows).enumerate() {
+        wrong = first_granted(wrong, index, is_granted(answer, *told));
+    }
+    Ok((wrong? == None) & (answers.len() == rows.len()) & is_left)
 }
 
 // A run over slots, of which so many are items at first, and the items and the spare slots that it leaves.
-#[derive(Clone, Copy)]
-struct Run {
-    slots: &'static [i32],
+struct Run<S> {
+    slots: S,
     len: usize,
     rows: &'static [Row],
     items: &'static [i32],
     spare: &'static [i32],
 }
 
-const IN_AN_ARRAY: [Run; 5] = [
+const IN_AN_ARRAY: [Run<[i32; 4]>; 5] = [
     Run {
-        slots: &[0, 0, 0, 0],
+        slots: [0, 0, 0, 0],
         len: 0,
         rows: &[
             (Asked::Push(1), Told::Done),
@@ -135,7 +143,7 @@ const IN_AN_ARRAY: [Run; 5] = [
     },
     // two items are taken, and two others come in the place of one
     Run {
-        slots: &[1, 2, 3, 4],
+        slots: [1, 2, 3, 4],
         len: 4,
         rows: &[
             (Asked::Drain(1, 3), Told::Items(&[2, 3])),
@@ -149,7 +157,7 @@ const IN_AN_ARRAY: [Run; 5] = [
     },
     // a replacement whose middle finds no room
     Run {
-        slots: &[1, 2, 3, 4],
+        slots: [1, 2, 3, 4],
         len: 4,
         rows: &[
             (
@@ -164,7 +172,7 @@ const IN_AN_ARRAY: [Run; 5] = [
     },
     // it cannot move
     Run {
-        slots: &[1, 2, 0, 0],
+        slots: [1, 2, 0, 0],
         len: 2,
         rows: &[
             (Asked::Reserve(1), Told::Unfit),
@@ -176,7 +184,7 @@ const IN_AN_ARRAY: [Run; 5] = [
     },
     // indices that no list has
     Run {
-        slots: &[1, 2, 8, 9],
+        slots: [1, 2, 8, 9],
         len: 2,
         rows: &[
             (Asked::Insert(usize::MAX, 3), Told::Range),
@@ -193,21 +201,29 @@ const IN_AN_ARRAY: [Run; 5] = [
     },
 ];
 
+// Whether a run in an array is answered so, and leaves this.
+fn is_right_in_an_array(alloc: Global, run: &Run<[i32; 4]>) -> Result<bool, AllocError> {
+    let calls = calls_of(alloc, run.rows)?;
+    let mut v = ArrayVec::from_array_len(run.slots, run.len.min(4));
+    match run_array(alloc, &mut v, calls) {
+        Ok(answers) => are_told(
+            answers.as_slice(),
+            run.rows,
+            holds(&v, run.items, run.spare),
+        ),
+        Err(_) => Err(AllocError),
+    }
+}
+
 #[test]
 fn of_an_array(rt: HostRuntime) -> Result<(), Fail> {
-    for run in IN_AN_ARRAY {
-        let calls = calls_of(rt.alloc(), run.rows)?;
-        let mut v = ArrayVec::<[i32; 4]>::try_from_slice(run.slots)?;
-        v.set_len(run.len.min(4));
-        let answers = run_array(rt.alloc(), &mut v, calls)?;
-        assert_told(&rt, answers.as_slice(), run.rows);
-        assert!(rt; v.as_slice() == run.items);
-        assert!(rt; v.grab_spare_slice() == run.spare);
+    for (index, run) in IN_AN_ARRAY.iter().enumerate() {
+        assert!(rt; is_right_in_an_array(rt.alloc(), run)?, "run {index}");
     }
     Ok(())
 }
 
-const OVER_A_SLICE: [Run; 4] = [
+const OVER_A_SLICE: [Run<&'static [i32]>; 4] = [
     Run {
         slots: &[0, 0, 0],
         len: 0,
@@ -271,35 +287,42 @@ const OVER_A_SLICE: [Run; 4] = [
     },
 ];
 
+// Whether a run over a slice is answered so, and leaves this.
+fn is_right_over_a_slice(alloc: Global, run: &Run<&'static [i32]>) -> Result<bool, AllocError> {
+    let calls = calls_of(alloc, run.rows)?;
+    let mut slots = run.slots.to_vec(alloc)?;
+    let mut v = SliceVec::from_slice_at_most(slots.as_mut_slice(), run.len);
+    match run_slice(alloc, &mut v, calls) {
+        Ok(answers) => {
+            let is_left = (v.as_slice() == run.items) & (v.grab_spare_slice() == run.spare);
+            are_told(answers.as_slice(), run.rows, is_left)
+        }
+        Err(_) => Err(AllocError),
+    }
+}
+
 #[test]
 fn over_a_slice(rt: HostRuntime) -> Result<(), Fail> {
-    for run in OVER_A_SLICE {
-        let calls = calls_of(rt.alloc(), run.rows)?;
-        let mut slots = run.slots.to_vec(rt.alloc())?;
-        let mut v = SliceVec::from_slice_at_most(slots.as_mut_slice(), run.len);
-        let answers = run_slice(rt.alloc(), &mut v, calls)?;
-        assert_told(&rt, answers.as_slice(), run.rows);
-        assert!(rt; v.as_slice() == run.items);
-        assert!(rt; v.grab_spare_slice() == run.spare);
+    for (index, run) in OVER_A_SLICE.iter().enumerate() {
+        assert!(rt; is_right_over_a_slice(rt.alloc(), run)?, "run {index}");
     }
     Ok(())
 }
 
-// Asserts what a run of a list answers and leaves, and whether that lies inline.
-fn assert_run<A: Array<Item = i32>>(
-    rt: &(impl Abort + AllocGlobal),
+// Whether a run of a list is answered so, and leaves this, inline or on the heap.
+fn is_right<A: Array<Item = i32>>(
+    alloc: Global,
     list: &[i32],
     rows: &[Row],
     items: &[i32],
     inline: bool,
-) -> Result<(), Fail> {
-    let calls = calls_of(rt.alloc(), rows)?;
-    let mut v = TinyVec::<A>::from_slice(rt.alloc(), list)?;
-    let answers = run_tiny(rt.alloc(), &mut v, calls)?;
-    assert_told(rt, answers.as_slice(), rows);
-    assert!(rt; v.as_slice() == items);
-    assert!(rt; v.is_inline() == inline);
-    Ok(())
+) -> Result<bool, AllocError> {
+    let calls = calls_of(alloc, rows)?;
+    let mut v = TinyVec::<A>::from_slice(alloc, list)?;
+    match run_tiny(alloc, &mut v, calls) {
+        Ok(answers) => are_told(answers.as_slice(), rows, lies(&v, items, inline)),
+        Err(_) => Err(AllocError),
+    }
 }
 
 const EACH_CALL: [Row; 18] = [
@@ -339,12 +362,6 @@ const THERE_AND_BACK: [Row; 10] = [
     (Asked::Heap, Told::Done),
 ];
 
-#[test]
-fn of_a_tiny_of_two_slots(rt: HostRuntime) -> Result<(), Fail> {
-    assert_run::<[i32; 2]>(&rt, &[], &EACH_CALL, &[], false)?;
-    assert_run::<[i32; 2]>(&rt, &[1, 2], &THERE_AND_BACK, &[2], false)
-}
-
 const SPLICES: [Row; 3] = [
     (
         Asked::Splice(0, 0, &[End::Back], &[1, 2, 3, 4, 5]),
@@ -367,30 +384,53 @@ const GREATEST: [Row; 8] = [
 ];
 
 #[test]
-fn of_a_tiny_of_four_slots(rt: HostRuntime) -> Result<(), Fail> {
-    assert_run::<[i32; 4]>(&rt, &[], &SPLICES, &[1, 2, 3], false)?;
-    assert_run::<[i32; 4]>(&rt, &[1, 2], &GREATEST, &[1, 2], true)
-}
-
-// Asserts that all calls are done, if no memory is refused.
-fn assert_done(
-    rt: &(impl Abort + AllocGlobal),
-    v: &mut TinyVec<[i32; 2]>,
-    calls: Vec<Call<i32>>,
-) -> Result<(), Fail> {
-    let count = calls.len();
-    let answers = run_tiny(rt.alloc(), v, calls)?;
-    assert!(rt; answers.len() == count);
-    for answer in answers {
-        assert!(rt; is_told(&answer, Told::Done), "memory was granted");
-    }
+fn of_a_tiny_of_two_slots_and_of_four(rt: HostRuntime) -> Result<(), Fail> {
+    let heap = rt.alloc();
+    let there_and_back = is_right::<[i32; 2]>(heap, &[1, 2], &THERE_AND_BACK, &[2], false);
+    let mut wrong = Ok(None);
+    wrong = first_granted(
+        wrong,
+        1,
+        is_right::<[i32; 2]>(heap, &[], &EACH_CALL, &[], false),
+    );
+    wrong = first_granted(wrong, 2, there_and_back);
+    wrong = first_granted(
+        wrong,
+        3,
+        is_right::<[i32; 4]>(heap, &[], &SPLICES, &[1, 2, 3], false),
+    );
+    wrong = first_granted(
+        wrong,
+        4,
+        is_right::<[i32; 4]>(heap, &[1, 2], &GREATEST, &[1, 2], true),
+    );
+    let wrong = wrong?;
+    assert!(rt; wrong == None, "step {wrong:?}");
     Ok(())
 }
 
-#[test]
-fn of_a_tiny_that_grows_and_shrinks_on_the_heap(rt: HostRuntime) -> Result<(), Fail> {
-    let mut v = TinyVec::new(rt.alloc());
-    let mut calls = Vec::with_capacity(rt.alloc(), 41)?;
+// Whether all calls are done.
+fn are_done(
+    alloc: Global,
+    v: &mut TinyVec<[i32; 2]>,
+    calls: Vec<Call<i32>>,
+) -> Result<bool, AllocError> {
+    let count = calls.len();
+    match run_tiny(alloc, v, calls) {
+        Ok(answers) => {
+            let mut wrong = Ok(None);
+            for (index, answer) in answers.iter().enumerate() {
+                wrong = first_granted(wrong, index, is_granted(answer, Told::Done));
+            }
+            Ok((wrong? == None) & (answers.len() == count))
+        }
+        Err(_) => Err(AllocError),
+    }
+}
+
+// Twenty items behind one another, twenty before one another, and room for a thousand more.
+fn growing_calls(alloc: Global) -> Result<Vec<Call<i32>>, AllocError> {
+    let mut calls = Vec::with_capacity(alloc, 41)?;
     for number in 0..20 {
         calls.push(Call::Push(number))?;
     }
@@ -398,11 +438,22 @@ fn of_a_tiny_that_grows_and_shrinks_on_the_heap(rt: HostRuntime) -> Result<(), F
         calls.push(Call::Insert(0, number))?;
     }
     calls.push(Call::Reserve(1000))?;
-    assert_done(&rt, &mut v, calls)?;
-    assert!(rt; v.capacity() >= 1040);
-    let shrink = Vec::from_array(rt.alloc(), [Call::Shrink])?;
-    assert_done(&rt, &mut v, shrink)?;
-    assert!(rt; v.len() == 40);
+    Ok(calls)
+}
+
+#[test]
+fn of_a_tiny_that_grows_and_shrinks_on_the_heap(rt: HostRuntime) -> Result<(), Fail> {
+    let heap = rt.alloc();
+    let grow = growing_calls(heap)?;
+    let shrink = Vec::from_array(heap, [Call::Shrink])?;
+    let mut v = TinyVec::new(heap);
+    let mut wrong = Ok(None);
+    wrong = first_granted(wrong, 1, are_done(heap, &mut v, grow));
+    wrong = first_granted(wrong, 2, Ok(v.capacity() >= 1040));
+    wrong = first_granted(wrong, 3, are_done(heap, &mut v, shrink));
+    wrong = first_granted(wrong, 4, Ok(v.len() == 40));
+    let wrong = wrong?;
+    assert!(rt; wrong == None, "step {wrong:?}");
     assert!(rt; v.capacity() < 1040, "memory was granted");
     Ok(())
 }

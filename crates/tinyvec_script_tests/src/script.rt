@@ -1,35 +1,31 @@
-//! The script, over memory and over ends that fail.
-use crate::answered::{ROOM, assert_written, written};
-use crate::ends::{Breaks, Fills};
+//! The script over memory. What else a line is answered, the files `stdin` and `stdout` of the program say.
+use crate::answered::{ROOM, Script, writes};
+use std::alloc::{AllocError, Global};
 use std::test::Fail;
-use tinyvec_io::Counted;
-use tinyvec_script::{RunError, run};
+use tinyvec_script::RunError;
+use tinyvec_test_items::assert_shows;
 
-// Scripts, and what each writes.
-const SCRIPTS: [(&[u8], &[u8]); 8] = [
-    // full vectors are emptied at once
-    (
-        b"A setlen 4\nA drain 0 4\nA setlen 4\nA splice 0 4 fbfb 1 2 3 4\nS setlen 4\nS drain 0 4\nT push 1\nT push 2\nT push 3\nT push 4\nT drain 0 4\n",
-        b"ok [0, 0, 0, 0] []\nitems [0, 0, 0, 0] [] [0, 0, 0, 0]\nok [0, 0, 0, 0] []\nitems [0, 0, 0, 0] [1, 2, 3, 4] []\nok [0, 0, 0, 0] []\nitems [0, 0, 0, 0] [] [0, 0, 0, 0]\nok [1] inline\nok [1, 2] inline\nok [1, 2, 3] inline\nok [1, 2, 3, 4] inline\nitems [1, 2, 3, 4] [] inline\n",
-    ),
-    // the vectors are three
-    (
-        b"S setlen 2\nS push 5\nT reserve 5\nT shrink\nA remove 0\nA push 2147483648\nS splice 0 0 -\nT push 1\nA push 2\nS pop\n",
-        b"ok [0, 0] [0, 0]\nok [0, 0, 5] [0]\nok [] heap\nok [] inline\nrange [] [0, 0, 0, 0]\nbad\nbad\nok [1] inline\nok [2] [0, 0, 0]\nsome 5 [0, 0] [0, 0]\n",
-    ),
-    // no allocator grants so much room
-    (
-        b"T push 7\nT reserve 18446744073709551615\nT heap\nT reserve 18446744073709551615\n",
-        b"ok [7] inline\nmemory [7] inline\nok [7] heap\nmemory [7] heap\n",
-    ),
+const SCRIPTS: [Script; 10] = [
     // the end of input ends a line that has bytes
-    (b"", b""),
-    (b"A push 1", b"ok [1] [0, 0, 0]\n"),
-    (b"A push 1\n", b"ok [1] [0, 0, 0]\n"),
-    (b"\n", b"bad\n"),
+    Script {
+        input: b"",
+        output: b"",
+    },
+    Script {
+        input: b"A push 1",
+        output: b"ok [1] [0, 0, 0]\n",
+    },
+    Script {
+        input: b"A push 1\n",
+        output: b"ok [1] [0, 0, 0]\n",
+    },
+    Script {
+        input: b"\n",
+        output: b"bad\n",
+    },
     // each call that asks for memory
-    (
-        b"A splice 0 0 f 1 2 3
+    Script {
+        input: b"A splice 0 0 f 1 2 3
 A drain 0 2
 S setlen 1
 S drain 0 1
@@ -45,7 +41,7 @@ T insert 0 9
 X add hello
 X add , world
 ",
-        b"items [] [1, 2, 3] [0]
+        output: b"items [] [1, 2, 3] [0]
 items [1, 2] [3] [0, 0, 0]
 ok [0] [0, 0, 0]
 items [0] [] [0, 0, 0, 0]
@@ -61,101 +57,103 @@ ok [9, 5, 6, 7, 8] heap
 ok [hello] heap
 ok [hello, world] heap
 ",
-    ),
+    },
+    // texts that move to the heap, from which a text never comes back
+    Script {
+        input: b"X add h\xc3\xa9y
+X cut 2
+X add !
+X cut 1
+",
+        output: b"ok [h\xc3\xa9y] inline
+range [h\xc3\xa9y] inline
+ok [h\xc3\xa9y!] heap
+ok [h] heap
+",
+    },
+    Script {
+        input: b"X add a b
+X add  c
+X cut 9
+X cut 0
+X cut 0 0
+",
+        output: b"ok [a b] inline
+ok [a b c] heap
+range [a b c] heap
+ok [] heap
+bad
+",
+    },
+    Script {
+        input: b"X add \x7f
+X add \xc2\x80
+X cut 0
+X add \xf4\x8f\xbf\xbf
+X cut 3
+X cut 18446744073709551615
+X cut 4
+X add \r
+X cut 4
+",
+        output: b"ok [\x7f] inline
+ok [\x7f\xc2\x80] inline
+ok [] inline
+ok [\xf4\x8f\xbf\xbf] inline
+range [\xf4\x8f\xbf\xbf] inline
+range [\xf4\x8f\xbf\xbf] inline
+ok [\xf4\x8f\xbf\xbf] inline
+ok [\xf4\x8f\xbf\xbf\r] heap
+ok [\xf4\x8f\xbf\xbf] heap
+",
+    },
+    // lines of 128 bytes, and of one more
+    Script {
+        input: b"X add aaaaaaaaaaaaaaaaaaaaaaaaaaaaaaaaaaaaaaaaaaaaaaaaaaaaaaaaaaaaaaaaaaaaaaaaaaaaaaaaaaaaaaaaaaaaaaaaaaaaaaaaaaaaaaaaaaaaaaaaaa",
+        output: b"ok [aaaaaaaaaaaaaaaaaaaaaaaaaaaaaaaaaaaaaaaaaaaaaaaaaaaaaaaaaaaaaaaaaaaaaaaaaaaaaaaaaaaaaaaaaaaaaaaaaaaaaaaaaaaaaaaaaaaaaaaaaa] heap\n",
+    },
+    Script {
+        input: b"X add aaaaaaaaaaaaaaaaaaaaaaaaaaaaaaaaaaaaaaaaaaaaaaaaaaaaaaaaaaaaaaaaaaaaaaaaaaaaaaaaaaaaaaaaaaaaaaaaaaaaaaaaaaaaaaaaaaaaaaaaaaa\nX add a",
+        output: b"bad\nok [a] inline\n",
+    },
 ];
 
 #[test]
 fn each_is_answered(rt: HostRuntime) -> Result<(), Fail> {
-    for (input, output) in SCRIPTS {
-        assert_written(&rt, input, output)?;
+    for (index, script) in SCRIPTS.iter().enumerate() {
+        let is_right = writes(rt.alloc(), script.input, script.output)?;
+        assert!(rt; is_right, "script {index}");
     }
     Ok(())
+}
+
+// Whether a line with so many digits in all is read whole, and is bad once.
+fn is_bad_once(alloc: Global, len: usize) -> Result<bool, AllocError> {
+    let mut input = Vec::with_capacity(alloc, ROOM)?;
+    input.extend_from_slice(b"A push ")?;
+    for _digit in 7..len {
+        input.push(b'1')?;
+    }
+    input.extend_from_slice(b"\nA push 7\n")?;
+    writes(alloc, input.as_slice(), b"bad\nok [7] [0, 0, 0]\n")
 }
 
 #[test]
 fn a_long_line_is_read_whole_and_bad_once(rt: HostRuntime) -> Result<(), Fail> {
-    let mut input = Vec::with_capacity(rt.alloc(), ROOM)?;
     for len in [127, 128, 129, 130, 5000, 20000] {
-        input.clear();
-        input.extend_from_slice(b"A push ")?;
-        for _digit in 7..len {
-            input.push(b'1')?;
-        }
-        input.extend_from_slice(b"\nA push 7\n")?;
-        let answers = written(rt.alloc(), input.as_slice())?;
-        assert!(rt;
-            answers.as_slice() == b"bad\nok [7] [0, 0, 0]\n".as_slice(),
-            "at {len}"
-        );
-    }
-    Ok(())
-}
-
-// It asks for no memory, so that only an end fails.
-const SCRIPT: &[u8] = b"A push 1\nA push 2\nA remove 0\nA pop\nA pop\n";
-
-const OUTPUT: &[u8] =
-    b"ok [1] [0, 0, 0]\nok [1, 2] [0, 0]\nsome 1 [2] [0, 0, 0]\nsome 2 [] [0, 0, 0, 0]\nnone [] [0, 0, 0, 0]\n";
-
-// The first so many lines of a text.
-fn first_lines(text: &[u8], lines: usize) -> &[u8] {
-    let mut left = lines;
-    for (index, byte) in text.iter().enumerate() {
-        if left == 0 {
-            return &text[..index];
-        }
-        if *byte == b'\n' {
-            left -= 1;
-        }
-    }
-    text
-}
-
-#[test]
-fn a_read_that_fails_after_each_byte(rt: HostRuntime) -> Result<(), Fail> {
-    let mut output = Vec::with_capacity(rt.alloc(), ROOM)?;
-    for count in 0..=SCRIPT.len() {
-        let input = &SCRIPT[..count];
-        let mut reader = Counted::new(Breaks::new(input));
-        let mut writer = Counted::new(output);
-        let result = run(rt.alloc(), &mut reader, &mut writer);
-        assert!(rt; result == Err(RunError::Read), "after {count}");
-        let lines = input.iter().filter(|byte| **byte == b'\n').count();
-        output = writer.into_inner();
-        assert!(rt;
-            output.as_slice() == first_lines(OUTPUT, lines),
-            "after {count}"
-        );
-        output.clear();
-    }
-    Ok(())
-}
-
-#[test]
-fn a_write_that_fails_after_each_byte(rt: HostRuntime) -> Result<(), Fail> {
-    let mut output = Vec::with_capacity(rt.alloc(), ROOM)?;
-    for room in 0..OUTPUT.len() {
-        let mut reader = Counted::new(SCRIPT);
-        let mut writer = Counted::new(Fills::new(output, room));
-        let result = run(rt.alloc(), &mut reader, &mut writer);
-        assert!(rt; result == Err(RunError::Write), "after {room}");
-        assert!(rt; writer.faults() == 1, "after {room}");
-        output = writer.into_inner().taken;
-        assert!(rt; output.as_slice() == &OUTPUT[..room], "after {room}");
-        output.clear();
+        assert!(rt; is_bad_once(rt.alloc(), len)?, "at {len}");
     }
     Ok(())
 }
 
 #[test]
 fn the_texts_of_the_errors(rt: HostRuntime) -> Result<(), Fail> {
-    let texts = [
+    for (error, text) in [
         (RunError::Read, "cannot read input"),
         (RunError::Write, "cannot write output"),
         (RunError::TooLong, "input too long"),
-    ];
-    for (error, text) in texts {
-        assert!(rt; format!(in rt.alloc(); "{error}")?.as_str() == text);
+    ] {
+        assert_shows!(rt; error, text);
     }
     Ok(())
 }

@@ -3,11 +3,12 @@ ghost use Rattle.std.specs.Prelude.{IfOk};
 ghost use Rattle.std.specs.Io.{StartsWith};
 
 use crate::counted::Answer::{Fails, Moves};
-use std::alloc::{AllocError, AllocGlobal, Global};
+use crate::ends::Interrupted as InterruptedEnd;
+use crate::steps::first_granted;
+use std::alloc::{AllocError, Global};
 use std::io;
 use std::io::ErrorKind::{BrokenPipe, Interrupted, Other, WriteZero};
 use std::io::{ErrorKind, Read, Write};
-use std::process::Abort;
 use std::test::Fail;
 use tinyvec_io::Counted;
 
@@ -110,48 +111,45 @@ impl Reading {
     }
 }
 
-// Asserts of each call what it answers, the faults counted until then and what the buffer holds then, and what the end was
-// asked in all of them.
-fn assert_reads(
-    rt: &(impl Abort + AllocGlobal),
-    input: &[u8],
-    script: &[Answer],
-    reads: &[(Reading, Result<usize, ErrorKind>, u64, &[u8; 4])],
-    calls: &[Call],
-) -> Result<(), Fail> {
-    let mut reader = Counted::new(FakeEnd::new(rt.alloc(), input, script)?);
-    let mut buf = [b'.'; 4];
-    for (reading, answer, faults, filled) in reads {
-        assert!(rt; reading.read(&mut reader, &mut buf) == *answer);
-        assert!(rt; reader.faults() == *faults);
-        assert!(rt; buf == **filled);
-    }
-    assert!(rt; reader.into_inner().calls.as_slice() == calls);
-    Ok(())
+// What each call answers, the faults counted until then and what the buffer holds then, and what the end is asked in all of
+// them.
+struct Reads {
+    input: &'static [u8],
+    script: &'static [Answer],
+    reads: &'static [(Reading, Result<usize, ErrorKind>, u64, &'static [u8; 4])],
+    calls: &'static [Call],
 }
 
-#[test]
-fn a_read_is_passed_on_and_counts_where_it_fails(rt: HostRuntime) -> Result<(), Fail> {
-    assert_reads(
-        &rt,
-        b"tiny",
-        &[Moves(3), Fails(Interrupted), Fails(BrokenPipe), Moves(0)],
-        &[
+impl Reads {
+    fn are_right(&self, alloc: Global) -> Result<bool, AllocError> {
+        let mut reader = Counted::new(FakeEnd::new(alloc, self.input, self.script)?);
+        let mut buf = [b'.'; 4];
+        let mut are_right = true;
+        for (reading, answer, faults, filled) in self.reads {
+            are_right &= reading.read(&mut reader, &mut buf) == *answer;
+            are_right &= (reader.faults() == *faults) & (buf == **filled);
+        }
+        Ok(are_right & (reader.into_inner().calls.as_slice() == self.calls))
+    }
+}
+
+const READS: [Reads; 3] = [
+    // a read is passed on, and counts where it fails
+    Reads {
+        input: b"tiny",
+        script: &[Moves(3), Fails(Interrupted), Fails(BrokenPipe), Moves(0)],
+        reads: &[
             (Reading::Once, Ok(3), 0, b"tin."),
             (Reading::Once, Err(Interrupted), 1, b"tin."),
             (Reading::Once, Err(BrokenPipe), 2, b"tin."),
             (Reading::Once, Ok(0), 2, b"tin."),
         ],
-        &[Call::Read(4); 4],
-    )
-}
-
-#[test]
-fn read_some_tries_again_after_interruptions_alone(rt: HostRuntime) -> Result<(), Fail> {
-    assert_reads(
-        &rt,
-        b"tiny",
-        &[
+        calls: &[Call::Read(4); 4],
+    },
+    // `read_some` tries again after interruptions alone
+    Reads {
+        input: b"tiny",
+        script: &[
             Fails(Interrupted),
             Fails(Interrupted),
             Moves(3),
@@ -159,21 +157,17 @@ fn read_some_tries_again_after_interruptions_alone(rt: HostRuntime) -> Result<()
             Fails(BrokenPipe),
             Moves(0),
         ],
-        &[
+        reads: &[
             (Reading::Some, Ok(3), 2, b"tin."),
             (Reading::Some, Err(BrokenPipe), 4, b"tin."),
             (Reading::Some, Ok(0), 4, b"tin."),
         ],
-        &[Call::Read(4); 6],
-    )
-}
-
-#[test]
-fn fill_reads_until_the_buffer_is_full_or_the_input_has_ended(rt: HostRuntime) -> Result<(), Fail> {
-    assert_reads(
-        &rt,
-        b"tinyvec",
-        &[
+        calls: &[Call::Read(4); 6],
+    },
+    // `fill` reads until the buffer is full or the input has ended
+    Reads {
+        input: b"tinyvec",
+        script: &[
             Moves(1),
             Fails(Interrupted),
             Moves(3),
@@ -181,12 +175,12 @@ fn fill_reads_until_the_buffer_is_full_or_the_input_has_ended(rt: HostRuntime) -
             Moves(0),
             Fails(BrokenPipe),
         ],
-        &[
+        reads: &[
             (Reading::Full, Ok(4), 1, b"tiny"),
             (Reading::Full, Ok(2), 1, b"veny"),
             (Reading::Full, Err(BrokenPipe), 2, b"veny"),
         ],
-        &[
+        calls: &[
             Call::Read(4),
             Call::Read(3),
             Call::Read(3),
@@ -194,7 +188,15 @@ fn fill_reads_until_the_buffer_is_full_or_the_input_has_ended(rt: HostRuntime) -
             Call::Read(2),
             Call::Read(4),
         ],
-    )
+    },
+];
+
+#[test]
+fn reads_are_passed_on_and_count_where_they_fail(rt: HostRuntime) -> Result<(), Fail> {
+    for (index, reads) in READS.iter().enumerate() {
+        assert!(rt; reads.are_right(rt.alloc())?, "reads {index}");
+    }
+    Ok(())
 }
 
 #[derive(Clone, Copy)]
@@ -214,158 +216,122 @@ impl Writing {
     }
 }
 
-// Asserts of each call what it answers and the faults counted until then, and what the end was asked and took in all of them.
-fn assert_writes(
-    rt: &(impl Abort + AllocGlobal),
-    script: &[Answer],
-    writes: &[(Writing, &[u8], Result<usize, ErrorKind>, u64)],
-    calls: &[Call],
-    output: &[u8],
-) -> Result<(), Fail> {
-    let mut writer = Counted::new(FakeEnd::new(rt.alloc(), b"", script)?);
-    for (writing, bytes, answer, faults) in writes {
-        assert!(rt; writing.write(&mut writer, bytes) == *answer);
-        assert!(rt; writer.faults() == *faults);
-    }
-    let end = writer.into_inner();
-    assert!(rt; end.calls.as_slice() == calls);
-    assert!(rt; end.output.as_slice() == output);
-    Ok(())
+// What each call answers and the faults counted until then, and what the end is asked and takes in all of them.
+struct Writes {
+    script: &'static [Answer],
+    writes: &'static [(Writing, &'static [u8], Result<usize, ErrorKind>, u64)],
+    calls: &'static [Call],
+    output: &'static [u8],
 }
 
-#[test]
-fn a_write_is_passed_on_and_counts_where_it_fails_or_takes_nothing(
-    rt: HostRuntime,
-) -> Result<(), Fail> {
-    assert_writes(
-        &rt,
-        &[Moves(3), Fails(Interrupted), Moves(0), Fails(BrokenPipe)],
-        &[
+impl Writes {
+    fn are_right(&self, alloc: Global) -> Result<bool, AllocError> {
+        let mut writer = Counted::new(FakeEnd::new(alloc, b"", self.script)?);
+        let mut are_right = true;
+        for (writing, bytes, answer, faults) in self.writes {
+            are_right &= writing.write(&mut writer, bytes) == *answer;
+            are_right &= writer.faults() == *faults;
+        }
+        let end = writer.into_inner();
+        let is_asked = end.calls.as_slice() == self.calls;
+        Ok(are_right & is_asked & (end.output.as_slice() == self.output))
+    }
+}
+
+const WRITES: [Writes; 6] = [
+    // a write is passed on, and counts where it fails or takes nothing
+    Writes {
+        script: &[Moves(3), Fails(Interrupted), Moves(0), Fails(BrokenPipe)],
+        writes: &[
             (Writing::Once, b"tiny", Ok(3), 0),
             (Writing::Once, b"tiny", Err(Interrupted), 1),
             (Writing::Once, b"tiny", Ok(0), 2),
             (Writing::Once, b"tiny", Err(BrokenPipe), 3),
         ],
-        &[Call::Write(4); 4],
-        b"tin",
-    )
-}
-
-#[test]
-fn a_write_of_no_bytes_is_passed_on_and_is_no_fault(rt: HostRuntime) -> Result<(), Fail> {
-    let writes: [(Writing, &[u8], Result<usize, ErrorKind>, u64); 1] = [(
-        Writing::Once,
-        b"",
-        Ok(0),
-        0,
-    )];
-    assert_writes(&rt, &[Moves(0)], &writes, &[Call::Write(0)], b"")
-}
-
-#[test]
-fn a_flush_is_passed_on_and_counts_where_it_fails(rt: HostRuntime) -> Result<(), Fail> {
-    assert_writes(
-        &rt,
-        &[Moves(0), Fails(Interrupted), Fails(BrokenPipe)],
-        &[
+        calls: &[Call::Write(4); 4],
+        output: b"tin",
+    },
+    // a write of no bytes is passed on, and is no fault
+    Writes {
+        script: &[Moves(0)],
+        writes: &[(Writing::Once, b"", Ok(0), 0)],
+        calls: &[Call::Write(0)],
+        output: b"",
+    },
+    // a flush is passed on, and counts where it fails
+    Writes {
+        script: &[Moves(0), Fails(Interrupted), Fails(BrokenPipe)],
+        writes: &[
             (Writing::Flush, b"", Ok(0), 0),
             (Writing::Flush, b"", Err(Interrupted), 1),
             (Writing::Flush, b"", Err(BrokenPipe), 2),
         ],
-        &[Call::Flush; 3],
-        b"",
-    )
-}
-
-#[test]
-fn write_all_writes_in_pieces_and_tries_again(rt: HostRuntime) -> Result<(), Fail> {
-    assert_writes(
-        &rt,
-        &[Moves(1), Fails(Interrupted), Moves(2), Moves(1)],
-        &[
+        calls: &[Call::Flush; 3],
+        output: b"",
+    },
+    // `write_all` writes in pieces, and tries again
+    Writes {
+        script: &[Moves(1), Fails(Interrupted), Moves(2), Moves(1)],
+        writes: &[
             (Writing::All, b"tiny", Ok(0), 1),
             (Writing::All, b"", Ok(0), 1),
         ],
-        &[
+        calls: &[
             Call::Write(4),
             Call::Write(3),
             Call::Write(3),
             Call::Write(1),
         ],
-        b"tiny",
-    )
-}
+        output: b"tiny",
+    },
+    // `write_all` fails at a write that takes nothing or fails
+    Writes {
+        script: &[Moves(3), Moves(0)],
+        writes: &[(Writing::All, b"tiny", Err(WriteZero), 1)],
+        calls: &[Call::Write(4), Call::Write(1)],
+        output: b"tin",
+    },
+    Writes {
+        script: &[Moves(3), Fails(BrokenPipe)],
+        writes: &[(Writing::All, b"tiny", Err(BrokenPipe), 1)],
+        calls: &[Call::Write(4), Call::Write(1)],
+        output: b"tin",
+    },
+];
 
 #[test]
-fn write_all_fails_at_a_write_that_fails_or_takes_nothing(rt: HostRuntime) -> Result<(), Fail> {
-    for (answer, kind) in [(Moves(0), WriteZero), (Fails(BrokenPipe), BrokenPipe)] {
-        assert_writes(
-            &rt,
-            &[Moves(3), answer],
-            &[(Writing::All, b"tiny", Err(kind), 1)],
-            &[Call::Write(4), Call::Write(1)],
-            b"tin",
-        )?;
+fn writes_are_passed_on_and_count_where_they_fail(rt: HostRuntime) -> Result<(), Fail> {
+    for (index, writes) in WRITES.iter().enumerate() {
+        assert!(rt; writes.are_right(rt.alloc())?, "writes {index}");
     }
     Ok(())
 }
 
-// An end that is interrupted so often, and then is one over memory.
-#[derive(Drop)]
-struct Interrupts<E: Drop> {
-    end: E,
-    left: u64,
-}
-
-impl<E: Drop> Interrupts<E> {
-    fn try_once(&mut self) -> io::Result<()> {
-        if self.left == 0 {
-            return Ok(());
-        }
-        self.left -= 1;
-        Err(io::Error::from(Interrupted))
-    }
-}
-
-impl<R: Read + Drop> Read for Interrupts<R> {
-    fn read(&mut self, buf: &mut [u8]) -> io::Result<usize> {
-        self.try_once()?;
-        self.end.read(buf)
-    }
-}
-
-impl<W: Write + Drop> Write for Interrupts<W> {
-    fn write(&mut self, buf: &[u8]) -> io::Result<usize> {
-        self.try_once()?;
-        self.end.write(buf)
-    }
-
-    fn flush(&mut self) -> io::Result<()> {
-        self.end.flush()
-    }
-}
-
+// How often an end is interrupted.
 const MANY: u64 = 100_000;
 
-#[test]
-fn many_interruptions_are_no_end_of_input(rt: HostRuntime) {
-    let mut reader = Counted::new(Interrupts {
-        end: b"tiny".as_slice(),
-        left: MANY,
-    });
+fn reads_after_many(bytes: [u8; 4]) -> bool {
+    let mut reader = Counted::new(InterruptedEnd::new(bytes.as_slice(), MANY));
     let mut buf = [b'.'; 4];
-    assert!(rt; Reading::Some.read(&mut reader, &mut buf) == Ok(4));
-    assert!(rt; reader.faults() == MANY);
-    assert!(rt; buf == *b"tiny");
+    let is_read = Reading::Some.read(&mut reader, &mut buf) == Ok(4);
+    is_read & (reader.faults() == MANY) & (buf == bytes)
+}
+
+fn writes_after_many(alloc: Global, bytes: &[u8]) -> Result<bool, AllocError> {
+    let end = Vec::with_capacity(alloc, 8)?;
+    let mut writer = Counted::new(InterruptedEnd::new(end, MANY));
+    let is_written = Writing::All.write(&mut writer, bytes) == Ok(0);
+    let is_right = is_written & (writer.faults() == MANY);
+    Ok(is_right & (writer.into_inner().end.as_slice() == bytes))
 }
 
 #[test]
-fn many_interruptions_end_no_output(rt: HostRuntime) -> Result<(), Fail> {
-    let end = Vec::with_capacity(rt.alloc(), 8)?;
-    let mut writer = Counted::new(Interrupts { end, left: MANY });
-    assert!(rt; Writing::All.write(&mut writer, b"tiny") == Ok(0));
-    assert!(rt; writer.faults() == MANY);
-    assert!(rt; writer.into_inner().end.as_slice() == b"tiny".as_slice());
+fn many_interruptions_end_neither_input_nor_output(rt: HostRuntime) -> Result<(), Fail> {
+    let mut wrong = Ok(None);
+    wrong = first_granted(wrong, 1, Ok(reads_after_many(*b"tiny")));
+    wrong = first_granted(wrong, 2, writes_after_many(rt.alloc(), b"tiny"));
+    let wrong = wrong?;
+    assert!(rt; wrong == None, "step {wrong:?}");
     Ok(())
 }
 
@@ -381,9 +347,13 @@ fn copied_front(alloc: Global, text: &[u8]) -> io::Result<Vec<u8>>
     Ok(writer.into_inner())
 }
 
+fn copies_front(alloc: Global, text: &[u8], front: &[u8]) -> io::Result<bool> {
+    Ok(copied_front(alloc, text)?.as_slice() == front)
+}
+
 #[test]
 fn bytes_pass_from_a_slice_to_a_vector(rt: HostRuntime) -> Result<(), Fail> {
-    assert!(rt; copied_front(rt.alloc(), b"tinyvec")?.as_slice() == b"tiny".as_slice());
-    assert!(rt; copied_front(rt.alloc(), b"")?.is_empty());
+    assert!(rt; copies_front(rt.alloc(), b"tinyvec", b"tiny")?);
+    assert!(rt; copies_front(rt.alloc(), b"", b"")?);
     Ok(())
 }

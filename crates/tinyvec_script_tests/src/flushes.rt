@@ -1,0 +1,77 @@
+//! A writer whose flush is interrupted. That is a fault as any other: nothing here asks again.
+use crate::answered::{ROOM, are_wanted};
+use crate::ends::{FlushInterrupted, Interrupted};
+use crate::steps::first_granted;
+use std::alloc::{AllocError, Global};
+use std::io::Write;
+use std::test::Fail;
+use tinyvec::{ArrayVec, TinyVec};
+use tinyvec_borsh::BorshSerialize;
+use tinyvec_io::Counted;
+use tinyvec_script::{RunError, run};
+
+// Whether a script, each write of which is interrupted so many times, is answered whole, and then tells of the flush, asked for
+// once. Its caller may ask again.
+fn tells(
+    alloc: Global,
+    input: &[u8],
+    output: &[u8],
+    times: u64,
+    faults: u64,
+) -> Result<bool, AllocError> {
+    let mut reader = Counted::new(input);
+    let end = FlushInterrupted::new(Vec::with_capacity(alloc, ROOM)?);
+    let mut writer = Counted::new(Interrupted::new(end, times));
+    let result = run(alloc, &mut reader, &mut writer);
+    let is_told = (result == Err(RunError::Write)) & (writer.faults() == faults);
+    let is_flushed = writer.flush().is_ok() & (writer.faults() == faults);
+    let end = writer.into_inner().end;
+    let has_ended_so = is_told & is_flushed & (end.flushes == 2);
+    are_wanted(end.taken.as_slice(), output, has_ended_so)
+}
+
+const INPUT: &[u8] = b"A push 1\nT push 2\nA pop\n";
+
+const OUTPUT: &[u8] = b"ok [1] [0, 0, 0]\nok [2] inline\nsome 1 [] [0, 0, 0, 0]\n";
+
+#[test]
+fn of_a_script(rt: HostRuntime) -> Result<(), Fail> {
+    let without_last = b"A push 1\nT push 2\nA pop".as_slice();
+    let none = b"".as_slice();
+    let mut wrong = Ok(None);
+    wrong = first_granted(wrong, 1, tells(rt.alloc(), INPUT, OUTPUT, 0, 1));
+    wrong = first_granted(wrong, 2, tells(rt.alloc(), without_last, OUTPUT, 0, 1));
+    wrong = first_granted(wrong, 3, tells(rt.alloc(), none, none, 0, 1));
+    // The one write is interrupted too, and made again. The flush is not.
+    wrong = first_granted(wrong, 4, tells(rt.alloc(), INPUT, OUTPUT, 1, 2));
+    let wrong = wrong?;
+    assert!(rt; wrong == None, "step {wrong:?}");
+    Ok(())
+}
+
+// Whether a value is written, and no flush is asked for.
+fn is_unflushed<T: BorshSerialize>(
+    alloc: Global,
+    value: &T,
+    bytes: &[u8],
+) -> Result<bool, AllocError> {
+    let end = FlushInterrupted::new(Vec::with_capacity(alloc, ROOM)?);
+    let mut writer = Counted::new(end);
+    let is_written = (value.serialize(&mut writer) == Ok(())) & (writer.faults() == 0);
+    let end = writer.into_inner();
+    Ok(is_written & (end.taken.as_slice() == bytes) & (end.flushes == 0))
+}
+
+#[test]
+fn the_borsh_form_asks_for_none(rt: HostRuntime) -> Result<(), Fail> {
+    let on_the_heap = TinyVec::<[u8; 1]>::from_slice(rt.alloc(), &[1, 2])?;
+    let inline = ArrayVec::from_array_len([1u8, 2, 9, 9], 2);
+    let list = [2, 0, 0, 0, 0, 0, 0, 0, 1, 2].as_slice();
+    let mut wrong = Ok(None);
+    wrong = first_granted(wrong, 1, is_unflushed(rt.alloc(), &-2i16, &[254, 255]));
+    wrong = first_granted(wrong, 2, is_unflushed(rt.alloc(), &inline, list));
+    wrong = first_granted(wrong, 3, is_unflushed(rt.alloc(), &on_the_heap, list));
+    let wrong = wrong?;
+    assert!(rt; wrong == None, "step {wrong:?}");
+    Ok(())
+}
