@@ -1,9 +1,9 @@
 //! Each growing call on a full `[1, 2]`, with memory granted.
 use crate::asking::Asking;
-use crate::steps::{Need, Place, Step, go_so, goes_so, is_refused};
+use crate::steps::{Need, Place, Step, go_so, is_refused};
 use std::alloc::{AllocError, Global};
 use std::test::Fail;
-use tinyvec::TinyVec;
+use tinyvec::{Array, TinyVec};
 use tinyvec_test_items::first;
 use tinyvec_test_looks::{all_right, granted, lies};
 
@@ -13,34 +13,75 @@ fn full(alloc: Global) -> Two {
     TinyVec::from_array(alloc, [1, 2])
 }
 
-// Calls of a full list, each with the list that it leaves on the heap.
-const GROWN: [(Asking, &[i32]); 10] = [
-    (Asking::Push(3), &[1, 2, 3]),
-    (Asking::Insert(2, 3), &[1, 2, 3]),
-    (Asking::Insert(1, 3), &[1, 3, 2]),
-    (Asking::ExtendFromSlice(&[3]), &[1, 2, 3]),
-    (Asking::Extend(3, 3), &[1, 2, 3]),
-    (Asking::Extend(3, 4), &[1, 2, 3, 4]),
-    (Asking::Resize(3, 3), &[1, 2, 3]),
-    (Asking::Resize(3, 9), &[1, 2, 9]),
-    (Asking::ResizeWith(3, 3), &[1, 2, 3]),
-    (Asking::ResizeWith(3, 8), &[1, 2, 8]),
+// Calls of a full list, each with the list that it leaves on the heap and the room there: where one item finds no room, that
+// for twice as many, and where the need is known, that for just so many.
+const GROWN: [(Asking, &[i32], usize); 12] = [
+    (Asking::Push(3), &[1, 2, 3], 4),
+    (Asking::Insert(2, 3), &[1, 2, 3], 4),
+    (Asking::Insert(1, 3), &[1, 3, 2], 4),
+    (Asking::ExtendFromSlice(&[3]), &[1, 2, 3], 3),
+    (Asking::Extend(3, 3), &[1, 2, 3], 4),
+    (Asking::Extend(3, 4), &[1, 2, 3, 4], 4),
+    (Asking::Resize(3, 3), &[1, 2, 3], 3),
+    (Asking::Resize(3, 9), &[1, 2, 9], 3),
+    (Asking::ResizeWith(3, 3), &[1, 2, 3], 3),
+    (Asking::ResizeWith(3, 8), &[1, 2, 8], 3),
+    (Asking::Reserve(1), &[1, 2], 3),
+    (Asking::Reserve(7), &[1, 2], 9),
 ];
 
-// Whether a call of a full list goes as it says.
-fn grows_so(alloc: Global, step: &Step) -> Option<bool> {
-    goes_so(&mut full(alloc), step)
+// Calls of a full list of three on the heap. Where the need is known, there is room for twice as many then, or for the need
+// where that is more.
+const GROWN_ON_THE_HEAP: [(Asking, &[i32], usize); 8] = [
+    (Asking::Push(4), &[1, 2, 3, 4], 6),
+    (Asking::Insert(0, 4), &[4, 1, 2, 3], 6),
+    (Asking::ExtendFromSlice(&[4]), &[1, 2, 3, 4], 6),
+    (Asking::Resize(5, 9), &[1, 2, 3, 9, 9], 6),
+    (Asking::ResizeWith(4, 9), &[1, 2, 3, 9], 6),
+    (Asking::Reserve(2), &[1, 2, 3], 6),
+    (Asking::Reserve(4), &[1, 2, 3], 7),
+    (Asking::ReserveExact(1), &[1, 2, 3], 4),
+];
+
+// Whether a call is granted, and leaves this on the heap, with so much room.
+fn grows_to<A: Array<Item = i32>>(
+    mut v: TinyVec<A>,
+    call: Asking,
+    items: &[i32],
+    room: usize,
+) -> Option<bool> {
+    if call.make(&mut v).is_err() {
+        return None;
+    }
+    Some(lies(&v, items, false) & (v.capacity() == room))
 }
 
 #[test]
 fn each_call(rt: HostRuntime) -> Result<(), Fail> {
     let mut wrong = 0;
     let mut number = 1_u32;
-    for (call, items) in GROWN {
-        let step = (call, Need::Memory, items, Place::Heap(items.len()));
-        wrong = granted(wrong, number, grows_so(rt.alloc(), &step));
+    for (call, items, room) in GROWN {
+        let full = full(rt.alloc());
+        wrong = granted(wrong, number, grows_to(full, call, items, room));
         number = number.wrapping_add(1);
     }
+    for (call, items, room) in GROWN_ON_THE_HEAP {
+        let heap = Two::from_slice(rt.alloc(), &[1, 2, 3])?;
+        wrong = granted(wrong, number, grows_to(heap, call, items, room));
+        number = number.wrapping_add(1);
+    }
+    all_right(wrong)
+}
+
+/// A push into a full list of four gives room for eight, and one into a list of no slots for one.
+#[test]
+fn push(rt: HostRuntime) -> Result<(), Fail> {
+    let four = TinyVec::from_array(rt.alloc(), [1, 2, 3, 4]);
+    let none: TinyVec<[i32; 0]> = TinyVec::new(rt.alloc());
+    let call = Asking::Push(5);
+    let mut wrong = 0;
+    wrong = granted(wrong, 1, grows_to(four, call, &[1, 2, 3, 4, 5], 8));
+    wrong = granted(wrong, 2, grows_to(none, call, &[5], 1));
     all_right(wrong)
 }
 
@@ -176,24 +217,24 @@ fn moves(v: &mut TinyVec<[u16; 4]>, pushes: bool) -> Option<u32> {
     Some(moves)
 }
 
-// Whether they are few, from the heap on.
-fn moves_seldom(alloc: Global, pushes: bool) -> Option<bool> {
+// Whether the room, which is none at first, is 1, 2, 4 and so on up to 512.
+fn moves_by_doubling(alloc: Global, pushes: bool) -> Option<bool> {
     let mut v: TinyVec<[u16; 4]> = TinyVec::new(alloc);
     if v.move_to_the_heap().is_err() {
         return None;
     }
     match moves(&mut v, pushes) {
-        Some(moves) => Some(moves < 15),
+        Some(moves) => Some(moves == 10),
         None => None,
     }
 }
 
-/// On the heap room grows by steps, so that items that come one by one are seldom moved.
+/// On the heap room doubles, so that items that come one by one are seldom moved.
 #[test]
 fn room_grows_by_steps(rt: HostRuntime) -> Result<(), Fail> {
     let mut wrong = 0;
-    wrong = granted(wrong, 1, moves_seldom(rt.alloc(), true));
-    wrong = granted(wrong, 2, moves_seldom(rt.alloc(), false));
+    wrong = granted(wrong, 1, moves_by_doubling(rt.alloc(), true));
+    wrong = granted(wrong, 2, moves_by_doubling(rt.alloc(), false));
     all_right(wrong)
 }
 
