@@ -1,5 +1,5 @@
 -- Lemmas on the end of a splice.
-use Rattle.std.proofs.Common.{◌≡◌, ◌+◌, ◌-◌, ◌≤◌, ℕ, Bool, true, false, List, [], ◌∷◌, ◌++◌, length, take, drop, Option, Some, None, Result, Ok, Err, MatchResult, OnErr, refl, sym, ap, ◌∙◌, append_assoc, arith, length-append}
+use Rattle.std.proofs.Common.{◌≡◌, ◌+◌, ◌-◌, ◌*◌, ◌<◌, ◌≤◌, ℕ, Bool, true, false, List, [], ◌∷◌, ◌++◌, length, take, drop, Option, Some, None, Result, Ok, Err, MatchResult, OnErr, refl, sym, ap, ◌∙◌, append_assoc, arith, length-append}
 use Rattle.std.proofs.lemmas.Result.{MatchResult-weaker}
 use Rattle.std.specs.Bool.{MatchBool}
 use Rattle.std.specs.declared.iter.Fuse.{Fuse}
@@ -96,3 +96,10 @@ filled_within {S} {T} gives g s t len placed filled ready run within = by_end (f
     by_end : (done : Bool) → fuse_done s ≡ done → length placed ≤ gap_len g
     by_end true ended = let none = ap length (none_of filled run ended) in omega arith
     by_end false more = let no_gap = ready.4 more in omega (arith, no_gap.0, no_gap.1, within)
+
+-- how many touches the end of a splice took, `before` when it began, where so many slots held the list
+pub record Counted (before slots front placed bound len count : ℕ) : Type 0 where
+  pub filled : len ≡ slots → count ≡ before + 2 * placed
+  pub closed : len < slots → count ≡ before + placed + (slots - front)
+  pub at_least : before + placed ≤ count
+  pub at_most : count ≤ before + bound

@@ -1,5 +1,5 @@
 //! The end of a splice.
-ghost use Rattle.std.specs.Prelude.{◌≡◌, ◌+◌, ◌-◌, ◌<◌, ◌≤◌, ◌^◌, ◌++◌, List, Some, length, take, drop, IsOk, OnErr, IfErr, MatchResult};
+ghost use Rattle.std.specs.Prelude.{◌≡◌, ◌+◌, ◌-◌, ◌*◌, ◌<◌, ◌≤◌, ◌^◌, ◌++◌, List, Some, length, take, drop, IsOk, OnErr, IfErr, MatchResult};
 ghost use Rattle.std.specs.Iterator.{Drains, YieldsThen, IsFinite};
 ghost use Rattle.std.specs.Iterator.Adapters.{fuse_steps};
 ghost use Rattle.tinyvec_slots.specs.Filling.{ShowsItems};
@@ -62,6 +62,16 @@ impl<'a, A: Array, I: Iterator<Item = A::Item>> TinyVecSplice<'a, A, Fuse<I>> {
     pub fn finish_counted(self) -> (Result<(), SpliceRest<A::Item, Fuse<I>>>, u128)
         requires can { SpliceCanNext I.can_next self }
         requires finite { FusedFinite I.remaining (splice_replacement self) }
+
+        // Of a list that is no longer the number is known: where the gap was filled, two touches for each item placed, and
+        // where it was closed, one more for each slot behind those.
+        ensures filled { tiny_len self.exit.0.now ≡ tiny_len (splice_vec self.entry)
+            → result.1 ≡ splice_touches self.entry
+            + 2 * finish_placed (splice_view self.entry) (tiny_items self.exit.0.now) }
+        ensures closed { tiny_len self.exit.0.now < tiny_len (splice_vec self.entry)
+            → result.1 ≡ splice_touches self.entry
+            + finish_placed (splice_view self.entry) (tiny_items self.exit.0.now)
+            + (tiny_len (splice_vec self.entry) - length (splice_front self.entry)) }
         ensures at_least { splice_touches self.entry + finish_placed (splice_view self.entry) (tiny_items self.exit.0.now)
             ≤ result.1 }
         ensures at_most { result.1 ≤ splice_touches self.entry
@@ -161,6 +171,7 @@ fn append_in<A: Array, I: Iterator<Item = A::Item>>(
     ensures same_room { KeepsRoom A.CAPACITY (tiny_len vec.new) vec.old vec.new }
     ensures fits { tiny_len vec.new ≤ tiny_capacity A.CAPACITY vec.new }
     ensures goes_on { IfErr result (λ refused. I.can_next refused.rest) }
+    ensures none { tiny_len vec.new ≡ tiny_len vec.old → gap_touches gap.new ≡ gap_touches gap.old }
     ensures at_least { gap_touches gap.old + (tiny_len vec.new - tiny_len vec.old) ≤ gap_touches gap.new }
     ensures at_most { gap_touches gap.new ≤ gap_touches gap.old + (tiny_len vec.new - tiny_len vec.old)
         + (tiny_len vec.new - gap_front gap.old) + items_moved A.CAPACITY (is_inline vec.old) (is_inline vec.new) }

@@ -1,7 +1,11 @@
-use Rattle.std.proofs.Common.{◌≡◌, ◌++◌, take, drop, slice_range, length, sym, ap, ◌∙◌, arith, length-append}
+use Rattle.std.proofs.Common.{◌≡◌, ℕ, ◌≤◌, ◌++◌, take, drop, slice_range, length, refl, sym, ap, ◌∙◌, arith, length-append}
+use Rattle.std.proofs.lemmas.Bool.{false≢true}
 use Rattle.std.proofs.lemmas.Result.{on_err_weaker}
 use Rattle.tinyvec_slots.proofs.TurnLemmas.{brought_in}
-use Rattle.tinyvec.specs.Tiny.{tiny_items, tiny_len, SameFrame}
+use Rattle.tinyvec.specs.Tiny.{tiny_items, tiny_len, tiny_capacity, is_inline, PlaceRule, SameFrame}
+use Rattle.tinyvec.specs.TinySplice.{items_moved}
+use Rattle.tinyvec.specs.declared.tiny_vec.TinyVec.{TinyVec}
+use Rattle.tinyvec.specs.declared.tiny_vec.TinyVec.TheVariants.{Inline, Heap}
 use Rattle.tinyvec.specs.Lends.{tiny_with_items}
 use Rattle.tinyvec.proofs.TinyLemmas.{tiny_items-with, tiny_framed-with, tiny_slots_then_framed}
 use Rattle.tinyvec.proofs.splice.finishing.append_in.Goals.{After-bring_in}
@@ -83,6 +87,24 @@ returns-clause-fits g c =
 
 pub returns-clause-goes_on : goal.returns-clause-goes_on
 returns-clause-goes_on g c = c.append-appended.ensures.goes_on
+
+-- a list that is no longer did not move
+unmoved : {A T : Type 0} (slots : ℕ) (old new : TinyVec A T) → PlaceRule slots (tiny_len new) old new → tiny_len new ≤ tiny_capacity slots old
+    → items_moved slots (is_inline old) (is_inline new) ≡ 0
+unmoved slots (Inline v a) (Inline w b) place room = refl
+unmoved slots (Inline v a) (Heap w) place room = absurd (false≢true (place.1 (refl, room)))
+unmoved slots (Heap v) (Inline w b) place room = refl
+unmoved slots (Heap v) (Heap w) place room = refl
+
+pub returns-clause-none : goal.returns-clause-none
+returns-clause-none g c = λ as_long.
+    let frame = framed g (goal.at.returns-clause-none g c).After-bring_in in
+    let mid = c.append-appended.new.vec in
+    let same_len : tiny_len mid ≡ tiny_len c.args.vec.now = sym frame.0 ∙ as_long in
+    let counted = rw (c.is_inline-was_inline.ensures, c.is_inline.ensures) at c.count_move.ensures in
+    let stays = ap (items_moved g.A.Array.CAPACITY (is_inline c.args.vec.now)) frame.2 ∙ unmoved g.A.Array.CAPACITY c.args.vec.now mid c.append-appended.ensures.place (omega (arith, same_len, c.len-end.ensures.fits, c.len-end.ensures.value)) in
+    let untouched = c.bring_in.ensures.none (c.len-end.ensures.value ∙ sym same_len ∙ sym (ap length c.as_mut_slice.ensures.value)) in
+    omega (arith, counted, stays, untouched)
 
 pub returns-clause-at_least : goal.returns-clause-at_least
 returns-clause-at_least g c =

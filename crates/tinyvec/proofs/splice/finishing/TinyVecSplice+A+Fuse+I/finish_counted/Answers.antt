@@ -1,4 +1,4 @@
-use Rattle.std.proofs.Common.{◌≡◌, ◌+◌, ◌++◌, ◌≤◌, ◌<◌, ◌^◌, take, drop, length, Ok, refl, ap, ◌∙◌, arith, length-append}
+use Rattle.std.proofs.Common.{◌≡◌, ◌+◌, ◌++◌, ◌≤◌, ◌<◌, ◌^◌, take, drop, length, Ok, refl, sym, ap, ◌∙◌, arith, length-append}
 use Rattle.std.proofs.lemmas.List.{length-take-le, length-drop}
 use Rattle.std.specs.Iterator.Adapters.{fuse_steps}
 use Rattle.tinyvec_slots.specs.Fused.{fused_rest}
@@ -7,10 +7,10 @@ use Rattle.tinyvec_slots.specs.Splices.{Finishes, finish_placed, finish_bound}
 use Rattle.tinyvec_slots.proofs.CloneLemmas.{on_err}
 use Rattle.tinyvec_slots.proofs.Fused.{fused_first}
 use Rattle.tinyvec_slots.proofs.Lists.{length-slice_range}
-use Rattle.tinyvec_slots.proofs.SpliceLemmas.{finishes_with, finished_len, finishes_closed, finishes_appended, filled_within}
+use Rattle.tinyvec_slots.proofs.SpliceLemmas.{finishes_with, finished_len, finishes_closed, finishes_appended, filled_within, Counted}
 use Rattle.tinyvec.specs.Tiny.{tiny_items, tiny_len, tiny_capacity, is_inline, SameFrame}
 use Rattle.tinyvec.specs.Lends.{tiny_with_items}
-use Rattle.tinyvec.specs.TinySplice.{splice_view, splice_left, splice_touches, items_moved}
+use Rattle.tinyvec.specs.TinySplice.{splice_view, splice_front, splice_left, splice_touches, items_moved}
 use Rattle.tinyvec.proofs.TinyLemmas.{tiny_items-with, tiny_framed-with, tiny_slots_framed}
 use Rattle.tinyvec.proofs.RefusedLemmas.{place_kept}
 use Rattle.tinyvec.proofs.splice.finishing.TinyVecSplice+A+Fuse+I.finish_counted.Goals.{After-fill}
@@ -79,9 +79,9 @@ module _ (g : _) (c : goal.After-drop-replacement g) where
       (gap_back c.args.self.gap) c.fill.new.slots (front_is g filled) (back_is g filled) tt (tiny_items c.close.new.vec)
       (rw c.if-not-fill.true at c.fill.ensures.placed.3) is c.close.ensures.fits
 
-  closed_bounds : (splice_touches c.args.self + finish_placed (splice_view c.args.self) (tiny_items c.close.new.vec) ≤ c.touches.result)
-      × (c.touches.result ≤ splice_touches c.args.self + finish_bound (splice_view c.args.self) (tiny_len c.args.self.vec.now) (tiny_items c.close.new.vec))
-  closed_bounds =
+  counted : Counted (splice_touches c.args.self) (tiny_len c.args.self.vec.now) (length (splice_front c.args.self)) (finish_placed (splice_view c.args.self) (tiny_items c.close.new.vec))
+      (finish_bound (splice_view c.args.self) (tiny_len c.args.self.vec.now) (tiny_items c.close.new.vec)) (tiny_len c.close.new.vec) c.touches.result
+  counted =
       let gap = c.args.self.gap in
       let old = tiny_items c.args.self.vec.now in
       let ready = c.requires.can.0 in
@@ -89,10 +89,13 @@ module _ (g : _) (c : goal.After-drop-replacement g) where
       let closed = c.close.ensures in
       let ahead = length-take-le gap.front old (omega (arith, ready.0, ready.1, ready.2, ready.3)) in
       let behind = length-drop gap.back old in
-      let long = ap length (mid_is g filled) ∙ same g filled in (
-        omega (arith, closed.len, ahead, behind, long, ready.3, fill.back, fill.in_order, fill.placed.2, fill.touches, closed.touches, c.touches.ensures),
-        omega (arith, within g filled, closed.len, ahead, behind, long, ready.3, fill.back, fill.in_order, fill.placed.2, fill.touches, closed.touches, c.touches.ensures),
-      )
+      let long = ap length (mid_is g filled) ∙ same g filled in
+      let open_gap : gap_front c.fill.new.self < gap_back gap = rw c.if-not-fill.true at fill.filled in record {
+        filled = λ as_long. absurd (omega (arith, as_long, closed.len, long, fill.back, open_gap));
+        closed = λ _. omega (arith, closed.len, ahead, behind, long, ready.3, fill.back, fill.in_order, fill.touches, closed.touches, c.touches.ensures);
+        at_least = omega (arith, closed.len, ahead, behind, long, ready.3, fill.back, fill.in_order, fill.placed.2, fill.touches, closed.touches, c.touches.ensures);
+        at_most = omega (arith, within g filled, closed.len, ahead, behind, long, ready.3, fill.back, fill.in_order, fill.placed.2, fill.touches, closed.touches, c.touches.ensures);
+      }
 
   closed_room : tiny_capacity g.A.Array.CAPACITY c.close.new.vec ≡ tiny_capacity g.A.Array.CAPACITY c.args.self.vec.now
   closed_room = c.close.ensures.capacity ∙ (framed g filled).3 g.A.Array.CAPACITY
@@ -110,11 +113,17 @@ returns-then-not-fill-clause-slots g c =
     let filled = (goal.at.returns-then-not-fill-clause-slots g c).After-fill in
     tiny_slots_framed g.A.Item.Default.is_default c.args.self.vec.now _ c.close.new.vec (framed g filled) c.close.ensures.slots
 
+pub returns-then-not-fill-clause-filled : goal.returns-then-not-fill-clause-filled
+returns-then-not-fill-clause-filled g c = (counted g c).filled
+
+pub returns-then-not-fill-clause-closed : goal.returns-then-not-fill-clause-closed
+returns-then-not-fill-clause-closed g c = (counted g c).closed
+
 pub returns-then-not-fill-clause-at_least : goal.returns-then-not-fill-clause-at_least
-returns-then-not-fill-clause-at_least g c = (closed_bounds g c).0
+returns-then-not-fill-clause-at_least g c = (counted g c).at_least
 
 pub returns-then-not-fill-clause-at_most : goal.returns-then-not-fill-clause-at_most
-returns-then-not-fill-clause-at_most g c = omega (arith, (closed_bounds g c).1)
+returns-then-not-fill-clause-at_most g c = omega (arith, (counted g c).at_most)
 
 pub returns-then-not-fill-clause-place : goal.returns-then-not-fill-clause-place
 returns-then-not-fill-clause-place g c =
@@ -153,10 +162,10 @@ module _ (g : _) (c : goal.After-touches-2 g) where
       (gap_back c.args.self.gap) c.fill.new.slots (front_is g filled-2) (back_is g filled-2) c.fill.new.replacement more.ran.0 c.append_in-finished.result
       (tiny_items c.append_in-finished.new.vec) (rw c.if-not-fill.false at fill.filled).0 (rw c.if-not-fill.false at fill.placed.3) more.ran.1 is more.full more.fits
 
-  appended_bounds : (splice_touches c.args.self + finish_placed (splice_view c.args.self) (tiny_items c.append_in-finished.new.vec) ≤ c.touches-2.result)
-      × (c.touches-2.result ≤ splice_touches c.args.self + finish_bound (splice_view c.args.self) (tiny_len c.args.self.vec.now) (tiny_items c.append_in-finished.new.vec)
-      + items_moved g.A.Array.CAPACITY (is_inline c.args.self.vec.now) (is_inline c.append_in-finished.new.vec))
-  appended_bounds =
+  counted_longer : Counted (splice_touches c.args.self) (tiny_len c.args.self.vec.now) (length (splice_front c.args.self)) (finish_placed (splice_view c.args.self) (tiny_items c.append_in-finished.new.vec))
+      (finish_bound (splice_view c.args.self) (tiny_len c.args.self.vec.now) (tiny_items c.append_in-finished.new.vec)
+      + items_moved g.A.Array.CAPACITY (is_inline c.args.self.vec.now) (is_inline c.append_in-finished.new.vec)) (tiny_len c.append_in-finished.new.vec) c.touches-2.result
+  counted_longer =
       let gap = c.args.self.gap in
       let old = tiny_items c.args.self.vec.now in
       let ready = c.requires.can.0 in
@@ -168,10 +177,13 @@ module _ (g : _) (c : goal.After-touches-2 g) where
       let behind = length-drop gap.back old in
       let long = ap length (mid_is g filled-2) ∙ same g filled-2 in
       let place = ap (λ b. items_moved g.A.Array.CAPACITY b (is_inline c.append_in-finished.new.vec)) (framed g filled-2).2 in
-      let full = (rw c.if-not-fill.false at fill.filled).0 in (
-        omega (arith, sum, both, ahead, behind, long, full, ready.3, fill.in_order, fill.placed.2, fill.touches, more.at_least, c.touches-2.ensures),
-        omega (arith, within g filled-2, place, sum, both, ahead, behind, long, full, ready.3, fill.in_order, fill.placed.2, fill.touches, more.at_most, c.touches-2.ensures),
-      )
+      let full = (rw c.if-not-fill.false at fill.filled).0 in record {
+        filled = λ as_long. let none = more.none (as_long ∙ sym long) in
+            omega (arith, none, as_long, ahead, behind, full, ready.3, fill.in_order, fill.touches, c.touches-2.ensures);
+        closed = λ shorter. absurd (omega (arith, shorter, long, more.longer));
+        at_least = omega (arith, sum, both, ahead, behind, long, full, ready.3, fill.in_order, fill.placed.2, fill.touches, more.at_least, c.touches-2.ensures);
+        at_most = omega (arith, within g filled-2, place, sum, both, ahead, behind, long, full, ready.3, fill.in_order, fill.placed.2, fill.touches, more.at_most, c.touches-2.ensures);
+      }
 
 pub returns-clause-finished : goal.returns-clause-finished
 returns-clause-finished = appended
@@ -187,11 +199,17 @@ returns-clause-slots g c =
     let filled = (goal.at.returns-clause-slots g c).After-fill in
     tiny_slots_framed g.A.Item.Default.is_default c.args.self.vec.now _ c.append_in-finished.new.vec (framed g filled) c.append_in-finished.ensures.slots
 
+pub returns-clause-filled : goal.returns-clause-filled
+returns-clause-filled g c = (counted_longer g c).filled
+
+pub returns-clause-closed : goal.returns-clause-closed
+returns-clause-closed g c = (counted_longer g c).closed
+
 pub returns-clause-at_least : goal.returns-clause-at_least
-returns-clause-at_least g c = (appended_bounds g c).0
+returns-clause-at_least g c = (counted_longer g c).at_least
 
 pub returns-clause-at_most : goal.returns-clause-at_most
-returns-clause-at_most g c = (appended_bounds g c).1
+returns-clause-at_most g c = omega (arith, (counted_longer g c).at_most)
 
 pub returns-clause-succeeds : goal.returns-clause-succeeds
 returns-clause-succeeds g c = λ rest shows within.

@@ -1,4 +1,4 @@
-use Rattle.std.proofs.Common.{◌≡◌, ℕ, ◌+◌, ◌-◌, ◌*◌, ◌^◌, ◌++◌, ◌≤◌, ◌<◌, take, drop, length, Ok, ap, sym, ◌∙◌, le_trans, arith, length-append}
+use Rattle.std.proofs.Common.{◌≡◌, ◌+◌, ◌-◌, ◌^◌, ◌++◌, ◌≤◌, ◌<◌, take, drop, length, Ok, ap, sym, ◌∙◌, le_trans, arith, length-append}
 use Rattle.std.proofs.lemmas.List.{length-take-le, length-drop}
 use Rattle.std.specs.Iterator.Adapters.{fuse_steps}
 use Rattle.tinyvec_slots.specs.Fused.{fused_rest}
@@ -8,7 +8,7 @@ use Rattle.tinyvec_slots.specs.Splices.{Finishes, finish_placed, finish_bound}
 use Rattle.tinyvec_slots.proofs.Fused.{fused_first}
 use Rattle.tinyvec_slots.proofs.Lists.{length-slice_range}
 use Rattle.tinyvec_slots.proofs.SlotsLemmas.{items-with_items, spare-with_items, slots_used, slots_freed}
-use Rattle.tinyvec_slots.proofs.SpliceLemmas.{finishes_with, finished_len, finishes_closed, finishes_appended, filled_within}
+use Rattle.tinyvec_slots.proofs.SpliceLemmas.{finishes_with, finished_len, finishes_closed, finishes_appended, filled_within, Counted}
 use Rattle.tinyvec_array.specs.Splice.{splice_view, splice_front, splice_left, splice_touches}
 use Rattle.tinyvec_array.proofs.splice.finishing.ArrayVecSplice+A+Fuse+I.finish_counted.Goals.{After-fill}
 use Rattle.tinyvec_array.proofs.splice.finishing.ArrayVecSplice+A+Fuse+I.finish_counted.Goals as goal
@@ -141,12 +141,6 @@ returns-clause-slots g c =
     ∙ ap (λ n. drop (items_len new - n) (spare old)) (long g filled))
 
 -- how many touches there were, by how many items were placed
-record Counted (T slots front placed bound len count : ℕ) : Type 0 where
-  filled : len ≡ slots → count ≡ T + 2 * placed
-  closed : len < slots → count ≡ T + placed + (slots - front)
-  at_least : T + placed ≤ count
-  at_most : count ≤ T + bound
-
 module _ (g : _) (c : goal.After-drop-replacement g) where
   counted : Counted (splice_touches c.args.self) (items_len c.args.self.vec.now) (length (splice_front c.args.self)) (finish_placed (splice_view c.args.self) (items c.close.new.vec))
       (finish_bound (splice_view c.args.self) (items_len c.args.self.vec.now) (items c.close.new.vec)) (items_len c.close.new.vec) c.touches.result
