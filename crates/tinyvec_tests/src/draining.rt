@@ -9,7 +9,7 @@ use std::mem;
 use std::ops::{Bound, RangeBounds};
 use std::test::Fail;
 use tinyvec::{ArrayVec, TinyVec};
-use tinyvec_test_items::{first, is_left, yields, yields_back};
+use tinyvec_test_items::{first, is_left};
 use tinyvec_test_looks::{all_right, granted, lies, lies_before, spares};
 
 // A range of `[1, 2, 3]`, what it gives, and the list that it leaves.
@@ -124,8 +124,8 @@ fn from_both_ends(rt: HostRuntime) -> Result<(), Fail> {
     let mut d = v.drain(1..);
     let mut wrong = 0;
     wrong = first(wrong, 1, is_left(&d, 7));
-    wrong = first(wrong, 2, yields(&mut d, Some(1)));
-    wrong = first(wrong, 3, yields_back(&mut d, Some(7)));
+    wrong = first(wrong, 2, d.next() == Some(1));
+    wrong = first(wrong, 3, d.next_back() == Some(7));
     wrong = first(wrong, 4, d.nth(1) == Some(3));
     wrong = first(wrong, 5, d.nth_back(1) == Some(5));
     wrong = first(wrong, 6, d.len() == 1);
@@ -139,10 +139,10 @@ fn from_both_ends_to_none(rt: HostRuntime) -> Result<(), Fail> {
     let mut v: TinyVec<[i32; 2]> = TinyVec::from_slice(rt.alloc(), &[0, 1, 2])?;
     let mut d = v.drain(1..);
     let mut wrong = 0;
-    wrong = first(wrong, 1, yields(&mut d, Some(1)));
-    wrong = first(wrong, 2, yields_back(&mut d, Some(2)));
-    wrong = first(wrong, 3, yields(&mut d, None));
-    wrong = first(wrong, 4, yields_back(&mut d, None));
+    wrong = first(wrong, 1, d.next() == Some(1));
+    wrong = first(wrong, 2, d.next_back() == Some(2));
+    wrong = first(wrong, 3, d.next() == None);
+    wrong = first(wrong, 4, d.next_back() == None);
     wrong = first(wrong, 5, is_left(&d, 0));
     drop(d);
     wrong = first(wrong, 6, lies(&v, &[0], false));

@@ -156,11 +156,11 @@ fn drained(alloc: Global, v: &mut TinyVec<[i32; 7]>) -> u32 {
     let mut wrong = 0;
     let is_right = is_debugged(alloc, &items, "TinyVecDrain([2, 3, 4, 5])");
     wrong = granted(wrong, 1, is_right);
-    wrong = first(wrong, 2, yields(&mut items, Some(2)));
-    wrong = first(wrong, 3, yields_back(&mut items, Some(5)));
+    wrong = first(wrong, 2, items.next() == Some(2));
+    wrong = first(wrong, 3, items.next_back() == Some(5));
     wrong = granted(wrong, 4, is_debugged(alloc, &items, "TinyVecDrain([3, 4])"));
-    wrong = first(wrong, 5, yields(&mut items, Some(3)));
-    wrong = first(wrong, 6, yields(&mut items, Some(4)));
+    wrong = first(wrong, 5, items.next() == Some(3));
+    wrong = first(wrong, 6, items.next() == Some(4));
     granted(wrong, 7, is_debugged(alloc, &items, "TinyVecDrain([])"))
 }
 
