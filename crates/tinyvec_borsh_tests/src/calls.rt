@@ -1,11 +1,13 @@
 //! How often the reader and the writer are asked.
-use std::alloc::Global;
+use crate::ends::sevens;
+use std::alloc::{AllocError, Global};
 use std::io;
 use std::io::{Read, Write};
 use std::test::Fail;
 use tinyvec::{ArrayVec, TinyVec};
-use tinyvec_borsh::{BorshDeserialize, BorshSerialize};
+use tinyvec_borsh::{BorshDeserialize, BorshError, BorshSerialize};
 use tinyvec_io::Counted;
+use tinyvec_test_items::{ended, first, first_granted};
 
 // Gives what is asked for, and counts the calls.
 #[derive(Drop)]
@@ -38,56 +40,94 @@ impl Write for CountingWriter {
     }
 }
 
-fn calls_to_write<T: BorshSerialize>(value: &T) -> u32 {
+// Whether a value is written by so many calls.
+fn is_written_by<T: BorshSerialize>(calls: u32, value: &T) -> bool {
     let mut writer = Counted::new(CountingWriter { calls: 0 });
     let _written = value.serialize(&mut writer);
-    writer.into_inner().calls
+    writer.into_inner().calls == calls
 }
 
-fn calls_to_read<T: BorshDeserialize + Drop>(alloc: Global, input: &[u8]) -> u32 {
+// Whether a value is read by so many calls.
+fn is_read_by<T: BorshDeserialize + Drop>(
+    calls: u32,
+    alloc: Global,
+    input: &[u8],
+) -> Result<bool, AllocError> {
     let mut reader = Counted::new(CountingReader { input, calls: 0 });
-    let _value = T::deserialize_reader(alloc, &mut reader);
-    reader.into_inner().calls
+    let value = T::deserialize_reader(alloc, &mut reader);
+    let is_right = reader.into_inner().calls == calls;
+    match value {
+        Err(BorshError::Memory) => Err(AllocError),
+        _ => Ok(is_right),
+    }
 }
 
 #[test]
-fn bytes_are_written_at_once(rt: HostRuntime) {
-    assert!(rt; calls_to_write(&7u128) == 1);
-    assert!(rt; calls_to_write(&ArrayVec::from_array([7u8; 64])) == 2);
-    assert!(rt; calls_to_write(&TinyVec::from_array(rt.alloc(), [7u8; 64])) == 2);
+fn bytes_are_written_at_once(rt: HostRuntime) -> Result<(), Fail> {
+    let list = TinyVec::from_array(rt.alloc(), [7u8; 64]);
+    let mut wrong = 0;
+    wrong = first(wrong, 1, is_written_by(1, &7u128));
+    wrong = first(wrong, 2, is_written_by(2, &ArrayVec::from_array([7u8; 64])));
+    wrong = first(wrong, 3, is_written_by(2, &list));
+    ended(wrong)
 }
 
 #[test]
-fn numbers_are_written_in_blocks(rt: HostRuntime) {
-    assert!(rt; calls_to_write(&ArrayVec::from_array([7u32; 64])) == 2);
-    assert!(rt; calls_to_write(&ArrayVec::from_array([7i16; 65])) == 3);
-    assert!(rt; calls_to_write(&TinyVec::from_array(rt.alloc(), [7i128; 129])) == 4);
+fn numbers_are_written_in_blocks(rt: HostRuntime) -> Result<(), Fail> {
+    let list = TinyVec::from_array(rt.alloc(), [7i128; 129]);
+    let mut wrong = 0;
+    wrong = first(
+        wrong,
+        1,
+        is_written_by(2, &ArrayVec::from_array([7u32; 64])),
+    );
+    wrong = first(
+        wrong,
+        2,
+        is_written_by(3, &ArrayVec::from_array([7i16; 65])),
+    );
+    wrong = first(wrong, 3, is_written_by(4, &list));
+    ended(wrong)
 }
 
 #[test]
 fn bytes_are_read_in_blocks(rt: HostRuntime) -> Result<(), Fail> {
-    let mut bytes = Vec::with_capacity(rt.alloc(), 2000)?;
-    bytes.extend_from_slice(&[220, 5, 0, 0, 0, 0, 0, 0])?;
-    for _ in 0..1500 {
-        bytes.push(7)?;
-    }
-    assert!(rt; calls_to_read::<u128>(rt.alloc(), bytes.as_slice()) == 1);
-    assert!(rt; calls_to_read::<ArrayVec<[u8; 1500]>>(rt.alloc(), bytes.as_slice()) == 2);
-    let blocks = calls_to_read::<TinyVec<[u8; 4]>>(rt.alloc(), bytes.as_slice());
-    assert!(rt; blocks == 3, "memory was granted");
-    Ok(())
+    let bytes = sevens(rt.alloc(), [220, 5, 0, 0, 0, 0, 0, 0], 1500)?;
+    let input = bytes.as_slice();
+    let mut wrong = 0;
+    wrong = first_granted(wrong, 1, is_read_by::<u128>(1, rt.alloc(), input));
+    wrong = first_granted(
+        wrong,
+        2,
+        is_read_by::<ArrayVec<[u8; 1500]>>(2, rt.alloc(), input),
+    );
+    wrong = first_granted(
+        wrong,
+        3,
+        is_read_by::<TinyVec<[u8; 4]>>(3, rt.alloc(), input),
+    );
+    ended(wrong)
 }
 
 #[test]
 fn numbers_are_read_in_blocks(rt: HostRuntime) -> Result<(), Fail> {
-    let mut bytes = Vec::with_capacity(rt.alloc(), 2000)?;
-    bytes.extend_from_slice(&[65, 0, 0, 0, 0, 0, 0, 0])?;
-    for _ in 0..1500 {
-        bytes.push(7)?;
-    }
-    assert!(rt; calls_to_read::<ArrayVec<[i8; 65]>>(rt.alloc(), bytes.as_slice()) == 2);
-    assert!(rt; calls_to_read::<ArrayVec<[u32; 65]>>(rt.alloc(), bytes.as_slice()) == 3);
-    let blocks = calls_to_read::<TinyVec<[i128; 4]>>(rt.alloc(), bytes.as_slice());
-    assert!(rt; blocks == 6, "memory was granted");
-    Ok(())
+    let bytes = sevens(rt.alloc(), [65, 0, 0, 0, 0, 0, 0, 0], 1500)?;
+    let input = bytes.as_slice();
+    let mut wrong = 0;
+    wrong = first_granted(
+        wrong,
+        1,
+        is_read_by::<ArrayVec<[i8; 65]>>(2, rt.alloc(), input),
+    );
+    wrong = first_granted(
+        wrong,
+        2,
+        is_read_by::<ArrayVec<[u32; 65]>>(3, rt.alloc(), input),
+    );
+    wrong = first_granted(
+        wrong,
+        3,
+        is_read_by::<TinyVec<[i128; 4]>>(6, rt.alloc(), input),
+    );
+    ended(wrong)
 }

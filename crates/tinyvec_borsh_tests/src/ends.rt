@@ -3,6 +3,7 @@ use std::alloc::{AllocError, Global};
 use std::io;
 use std::io::ErrorKind::{BrokenPipe, Interrupted};
 use std::io::{Read, Write};
+use tinyvec::{Array, ArrayVec, TinyVec};
 use tinyvec_borsh::{BorshDeserialize, BorshError, BorshSerialize};
 use tinyvec_io::Counted;
 
@@ -77,11 +78,12 @@ pub(crate) fn refuses<T: BorshDeserialize + Drop>(
     bytes: &[u8],
     why: BorshError,
     left: usize,
-) -> bool {
+) -> Result<bool, AllocError> {
     let (value, unread) = read::<T>(alloc, bytes);
     match value {
-        Ok(_) => false,
-        Err(error) => (error == why) & (unread == left),
+        Ok(_) => Ok(false),
+        Err(BorshError::Memory) => Err(AllocError),
+        Err(error) => Ok((error == why) & (unread == left)),
     }
 }
 
@@ -96,4 +98,58 @@ pub(crate) fn reads<T: BorshDeserialize + PartialEq + Drop>(
         Ok(number) => (number == value) & (unread == 0),
         Err(_) => false,
     }
+}
+
+// Whether the bytes begin with a list of these in an array, and so many are left.
+pub(crate) fn reads_array<A: Array>(
+    alloc: Global,
+    bytes: &[u8],
+    items: &[A::Item],
+    left: usize,
+) -> bool
+where
+    A::Item: BorshDeserialize + PartialEq,
+{
+    let (list, unread) = read::<ArrayVec<A>>(alloc, bytes);
+    match list {
+        Ok(v) => {
+            let is_full = v.is_full() == (items.len() == v.capacity());
+            let count = (v.is_empty() == items.is_empty()) & is_full;
+            count & (v.as_slice() == items) & (unread == left)
+        }
+        Err(_) => false,
+    }
+}
+
+// Whether the bytes begin with a list of these, which lies there, and so many are left.
+pub(crate) fn reads_tiny<A: Array>(
+    alloc: Global,
+    bytes: &[u8],
+    items: &[A::Item],
+    inline: bool,
+    left: usize,
+) -> Result<bool, AllocError>
+where
+    A::Item: BorshDeserialize + PartialEq,
+{
+    let (list, unread) = read::<TinyVec<A>>(alloc, bytes);
+    match list {
+        Ok(v) => {
+            let place = (v.is_inline() == inline) & (v.is_heap() != inline);
+            let count = v.is_empty() == items.is_empty();
+            Ok(place & count & (v.as_slice() == items) & (unread == left))
+        }
+        Err(BorshError::Memory) => Err(AllocError),
+        Err(_) => Ok(false),
+    }
+}
+
+// These bytes of a count, and so many bytes that are 7.
+pub(crate) fn sevens(alloc: Global, count: [u8; 8], len: u32) -> Result<Vec<u8>, AllocError> {
+    let mut bytes = Vec::with_capacity(alloc, 70000)?;
+    bytes.extend_from_slice(&count)?;
+    for _ in 0..len {
+        bytes.push(7)?;
+    }
+    Ok(bytes)
 }

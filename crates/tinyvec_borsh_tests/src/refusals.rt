@@ -1,35 +1,31 @@
 //! Each call that may ask for memory, granted or refused. `tests/refuse` has each allocation refused in turn.
-use crate::ends::read;
-use std::process::Abort;
+use crate::ends::reads_tiny;
+use std::alloc::AllocError;
 use std::test::Fail;
-use tinyvec::TinyVec;
-use tinyvec_borsh::BorshError;
+use tinyvec_test_items::{ended, first};
 
-// Says that a refusal was met. The script asks this of each test here.
-fn refused(rt: &impl Print) -> Result<(), Fail> {
-    println!(rt; "refused")?;
-    Ok(())
+// Whether a list that moves to the heap is read, at once or after a refusal, of which this says that it was met, since the
+// script asks this of each test here.
+fn is_read<R: AllocGlobal + Print>(rt: &R, bytes: &[u8], items: &[u8]) -> bool {
+    match reads_tiny::<[u8; 2]>(rt.alloc(), bytes, items, false, 0) {
+        Ok(is_right) => is_right,
+        Err(AllocError) => {
+            let is_told = println!(rt; "refused").is_ok();
+            is_told & (reads_tiny::<[u8; 2]>(rt.alloc(), bytes, items, false, 0) == Ok(true))
+        }
+    }
 }
 
 #[test]
 fn deserialize_reader(rt: HostRuntime) -> Result<(), Fail> {
     let bytes = [3, 0, 0, 0, 0, 0, 0, 0, 1, 2, 3];
-    let (fits, left) = read::<TinyVec<[u8; 3]>>(rt.alloc(), &bytes);
-    assert!(rt; fits.is_ok());
-    assert!(rt; left == 0);
-    let (moved, left) = read::<TinyVec<[u8; 2]>>(rt.alloc(), &bytes);
-    match moved {
-        Ok(v) => {
-            assert!(rt; v.is_heap());
-            assert!(rt; v.as_slice() == [1, 2, 3].as_slice());
-            assert!(rt; left == 0);
-        }
-        Err(error) => {
-            assert!(rt; error == BorshError::Memory);
-            refused(&rt)?;
-            let (again, _) = read::<TinyVec<[u8; 2]>>(rt.alloc(), &bytes);
-            assert!(rt; again.is_ok());
-        }
-    }
-    Ok(())
+    let items = [1, 2, 3];
+    let mut wrong = 0;
+    wrong = first(
+        wrong,
+        1,
+        reads_tiny::<[u8; 3]>(rt.alloc(), &bytes, &items, true, 0) == Ok(true),
+    );
+    wrong = first(wrong, 2, is_read(&rt, &bytes, &items));
+    ended(wrong)
 }

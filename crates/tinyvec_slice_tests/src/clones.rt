@@ -1,164 +1,137 @@
 //! Clones, granted and refused.
-use crate::looks::looks;
 use std::alloc::{AllocError, Global};
 use std::cell::Cell;
-use std::process::Abort;
 use std::test::Fail;
 use tinyvec_slice::SliceVec;
-use tinyvec_test_items::{Item, Limited};
+use tinyvec_slots::NoMemory;
+use tinyvec_test_items::lent::holds;
+use tinyvec_test_items::{Item, Limited, ended, first, first_granted};
 
-#[derive(Clone, Copy)]
-enum Cloning {
-    Extend(&'static [Item]),
-    Resize(usize, u8),
+// Whether clones of these items are appended or, where one is refused, none of them, and this is left.
+fn extends<T: Clone + PartialEq + Drop>(
+    v: &mut SliceVec<'_, T>,
+    more: &[T],
+    is_granted: bool,
+    items: &[T],
+    spare: &[T],
+) -> bool {
+    if more.len() > v.capacity() - v.len() {
+        return false;
+    }
+    (v.extend_from_slice(more).is_ok() == is_granted) & holds(v, items, spare)
 }
 
-impl Cloning {
-    // Makes the call. Where it is refused, this answers the number of the item that was handed back.
-    fn make(self, rt: &impl Abort, vec: &mut SliceVec<'_, Item>) -> Result<(), Option<u8>> {
-        match self {
-            Cloning::Extend(items) => {
-                assert!(rt; items.len() <= vec.capacity() - vec.len());
-                vec.extend_from_slice(items).map_err(|_| None)
-            }
-            Cloning::Resize(len, number) => {
-                assert!(rt; len <= vec.capacity());
-                vec.resize(len, Item(number))
-                    .map_err(|refused| Some(refused.0.0))
-            }
-        }
+// Whether the list is cut or filled up to so many items by clones of this one, which comes back where one is refused, and
+// this is left.
+fn resizes(
+    v: &mut SliceVec<'_, Item>,
+    len: usize,
+    number: u8,
+    back: Option<u8>,
+    items: &[Item],
+    spare: &[Item],
+) -> bool {
+    if len > v.capacity() {
+        return false;
     }
+    (handed_back(v.resize(len, Item(number))) == back) & holds(v, items, spare)
 }
 
-// A call, what it answers, and the items and the spare slots that it leaves.
-type Step = (
-    Cloning,
-    Result<(), Option<u8>>,
-    &'static [Item],
-    &'static [Item],
-);
-
-// Asserts what each call answers and leaves, and what the owner of the slots sees at the end.
-fn assert_steps(rt: &impl Abort, slots: [Item; 4], len: usize, steps: &[Step], seen: [Item; 4]) {
-    let mut slots = slots;
-    let mut vec = SliceVec::from_slice_at_most(&mut slots, len);
-    for (at, (call, answer, items, spare)) in steps.iter().enumerate() {
-        assert!(rt;
-            call.make(rt, &mut vec) == *answer,
-            "the answer of step {at}"
-        );
-        assert!(rt; looks(&vec, items, spare), "the vector after step {at}");
+fn handed_back(answer: Result<(), NoMemory<Item>>) -> Option<u8> {
+    match answer {
+        Ok(()) => None,
+        Err(NoMemory(Item(number))) => Some(number),
     }
-    assert!(rt; slots == seen, "the slots at the end");
 }
 
 #[test]
 fn extend_from_slice(rt: HostRuntime) -> Result<(), Fail> {
     let mut slots = [1, 5, 5, 5];
-    let mut vec = SliceVec::from_slice_len(&mut slots, 1);
-    vec.extend_from_slice(&[2, 3])?;
-    assert!(rt; looks(&vec, &[1, 2, 3], &[5]));
-    assert!(rt; slots == [1, 2, 3, 5]);
-    Ok(())
+    let mut v = SliceVec::from_slice_len(&mut slots, 1);
+    let mut wrong = 0;
+    wrong = first(wrong, 1, extends(&mut v, &[2, 3], true, &[1, 2, 3], &[5]));
+    wrong = first(wrong, 2, slots == [1, 2, 3, 5]);
+    ended(wrong)
 }
-
-const EXTEND_REFUSED: [Step; 2] = [
-    (
-        Cloning::Extend(&[Item(2), Item(3), Item(99)]),
-        Err(None),
-        &[Item(1)],
-        &[Item(2), Item(3), Item(7)],
-    ),
-    (
-        Cloning::Extend(&[Item(4)]),
-        Ok(()),
-        &[Item(1), Item(4)],
-        &[Item(3), Item(7)],
-    ),
-];
 
 #[test]
-fn extend_from_slice_refused(rt: HostRuntime) {
-    let slots = [Item(1), Item(5), Item(6), Item(7)];
-    let seen = [Item(1), Item(4), Item(3), Item(7)];
-    assert_steps(&rt, slots, 1, &EXTEND_REFUSED, seen);
+fn extend_from_slice_refused(rt: HostRuntime) -> Result<(), Fail> {
+    let mut slots = [Item(1), Item(5), Item(6), Item(7)];
+    let refused = [Item(2), Item(3), Item(99)];
+    let filled = [Item(2), Item(3), Item(7)];
+    let mut v = SliceVec::from_slice_len(&mut slots, 1);
+    let mut wrong = 0;
+    wrong = first(
+        wrong,
+        1,
+        extends(&mut v, &refused, false, &[Item(1)], &filled),
+    );
+    wrong = first(
+        wrong,
+        2,
+        extends(
+            &mut v,
+            &[Item(4)],
+            true,
+            &[Item(1), Item(4)],
+            &[Item(3), Item(7)],
+        ),
+    );
+    wrong = first(wrong, 3, slots == [Item(1), Item(4), Item(3), Item(7)]);
+    ended(wrong)
 }
-
-const RESIZE: [Step; 2] = [
-    (
-        Cloning::Resize(1, 6),
-        Ok(()),
-        &[Item(1)],
-        &[Item(6), Item(6), Item(8)],
-    ),
-    (
-        Cloning::Resize(3, 4),
-        Ok(()),
-        &[Item(1), Item(4), Item(4)],
-        &[Item(8)],
-    ),
-];
 
 #[test]
-fn resize(rt: HostRuntime) {
-    let slots = [Item(1), Item(2), Item(3), Item(8)];
-    let seen = [Item(1), Item(4), Item(4), Item(8)];
-    assert_steps(&rt, slots, 3, &RESIZE, seen);
+fn resize(rt: HostRuntime) -> Result<(), Fail> {
+    let mut slots = [Item(1), Item(2), Item(3), Item(8)];
+    let emptied = [Item(6), Item(6), Item(8)];
+    let filled = [Item(1), Item(4), Item(4)];
+    let mut v = SliceVec::from_slice_len(&mut slots, 3);
+    let mut wrong = 0;
+    wrong = first(wrong, 1, resizes(&mut v, 1, 6, None, &[Item(1)], &emptied));
+    wrong = first(wrong, 2, resizes(&mut v, 3, 4, None, &filled, &[Item(8)]));
+    wrong = first(wrong, 3, slots == [Item(1), Item(4), Item(4), Item(8)]);
+    ended(wrong)
 }
-
-const RESIZE_REFUSED: [Step; 3] = [
-    (
-        Cloning::Resize(3, 99),
-        Ok(()),
-        &[Item(1), Item(4), Item(4)],
-        &[Item(8)],
-    ),
-    (
-        Cloning::Resize(4, 99),
-        Err(Some(99)),
-        &[Item(1), Item(4), Item(4)],
-        &[Item(8)],
-    ),
-    (
-        Cloning::Resize(0, 99),
-        Err(Some(99)),
-        &[Item(1), Item(4), Item(4)],
-        &[Item(8)],
-    ),
-];
 
 #[test]
-fn resize_refused(rt: HostRuntime) {
-    let slots = [Item(1), Item(4), Item(4), Item(8)];
-    let seen = [Item(1), Item(4), Item(4), Item(8)];
-    assert_steps(&rt, slots, 3, &RESIZE_REFUSED, seen);
+fn resize_refused(rt: HostRuntime) -> Result<(), Fail> {
+    let mut slots = [Item(1), Item(4), Item(4), Item(8)];
+    let items = [Item(1), Item(4), Item(4)];
+    let spare = [Item(8)];
+    let mut v = SliceVec::from_slice_len(&mut slots, 3);
+    let mut wrong = 0;
+    wrong = first(wrong, 1, resizes(&mut v, 3, 99, None, &items, &spare));
+    wrong = first(wrong, 2, resizes(&mut v, 4, 99, Some(99), &items, &spare));
+    wrong = first(wrong, 3, resizes(&mut v, 0, 99, Some(99), &items, &spare));
+    wrong = first(wrong, 4, slots == [Item(1), Item(4), Item(4), Item(8)]);
+    ended(wrong)
 }
 
-// Asserts how many items are left where the second clone is refused, and which slots.
-fn assert_second_refused(rt: &impl Abort, from: usize, to: usize, len: usize, wanted: [u8; 4]) {
+// Whether the filling comes back where the second clone is refused, and so many items are left, and these slots.
+fn is_cut_short(from: usize, to: usize, len: usize, wanted: [u8; 4]) -> bool {
     let left = Cell::new(1);
     let filling = Limited {
         name: 7,
         left: Some(&left),
     };
     let mut slots = [named(1), named(2), named(3), named(4)];
-    let mut vec = SliceVec::from_slice_at_most(&mut slots, from);
-    assert!(rt; to <= vec.capacity());
-    let refused = vec.resize(to, filling);
-    assert!(rt; refused.err().map(|refused| refused.0.name) == Some(7));
-    assert!(rt; vec.len() == len);
-    assert!(rt; slots.iter().map(|slot| slot.name).eq(wanted));
+    let mut v = SliceVec::from_slice_at_most(&mut slots, from);
+    if to > v.capacity() {
+        return false;
+    }
+    let back = v.resize(to, filling).err();
+    let is_right = (back.map(|refused| refused.0.name) == Some(7)) & (v.len() == len);
+    is_right & slots.iter().map(|slot| slot.name).eq(wanted)
 }
 
+// A list that was to be cut is shorter by the slot that was filled.
 #[test]
-fn growing_refused(rt: HostRuntime) {
-    assert_second_refused(&rt, 1, 4, 1, [1, 7, 3, 4]);
-}
-
-// The list is shorter by the slot that was filled.
-#[test]
-fn cutting_refused(rt: HostRuntime) {
-    assert_second_refused(&rt, 4, 1, 3, [1, 2, 3, 7]);
+fn the_second_clone_refused(rt: HostRuntime) -> Result<(), Fail> {
+    let mut wrong = 0;
+    wrong = first(wrong, 1, is_cut_short(1, 4, 1, [1, 7, 3, 4]));
+    wrong = first(wrong, 2, is_cut_short(4, 1, 3, [1, 2, 3, 7]));
+    ended(wrong)
 }
 
 type Owned = Option<Vec<i32>>;
@@ -167,49 +140,73 @@ fn owned(alloc: Global, items: &[i32]) -> Result<Owned, AllocError> {
     Ok(Some(items.to_vec(alloc)?))
 }
 
-fn resize_to(vec: &mut SliceVec<'_, Owned>, len: usize, item: &Owned) -> Result<(), AllocError> {
-    if len <= vec.capacity() {
-        vec.resize(len, item.clone()?)?;
+// Whether clones of items that own memory are appended.
+fn extends_owned(v: &mut SliceVec<'_, Owned>, alloc: Global) -> Result<bool, AllocError> {
+    let source = [owned(alloc, &[1])?, owned(alloc, &[2, 3])?];
+    if v.capacity() - v.len() < 2 {
+        return Ok(false);
     }
-    Ok(())
+    let is_granted = v.extend_from_slice(&source);
+    is_granted.and(Ok(v.as_slice() == source.as_slice()))
 }
 
-fn extend_by(vec: &mut SliceVec<'_, Owned>, items: &[Owned; 2]) -> Result<(), AllocError> {
-    if vec.capacity() - vec.len() >= 2 {
-        vec.extend_from_slice(items)?;
+// Whether the list is cut or filled up to so many items by clones of one that owns memory.
+fn resizes_owned(
+    v: &mut SliceVec<'_, Owned>,
+    alloc: Global,
+    len: usize,
+    items: &[i32],
+) -> Result<bool, AllocError> {
+    let item = owned(alloc, items)?;
+    if len > v.capacity() {
+        return Ok(false);
     }
-    Ok(())
+    v.resize(len, item)?;
+    Ok(v.len() == len)
+}
+
+fn pops_owned(v: &mut SliceVec<'_, Owned>, items: &[i32]) -> bool {
+    match v.pop() {
+        Some(last) => owns(&last, items),
+        None => false,
+    }
+}
+
+fn owns(item: &Owned, items: &[i32]) -> bool {
+    match item {
+        Some(owned) => owned.as_slice() == items,
+        None => false,
+    }
 }
 
 // A clone has memory of its own.
 #[test]
 fn what_owns(rt: HostRuntime) -> Result<(), Fail> {
-    let source = [owned(rt.alloc(), &[1])?, owned(rt.alloc(), &[2, 3])?];
-    let five = owned(rt.alloc(), &[5])?;
-    let six = owned(rt.alloc(), &[6])?;
     let mut slots = [None, None, None, None];
-    let mut vec = SliceVec::from_slice_len(&mut slots, 0);
-    extend_by(&mut vec, &source)?;
-    assert!(rt; vec.as_slice() == source.as_slice());
-    resize_to(&mut vec, 3, &five)?;
-    assert!(rt; vec.pop() == Some(five));
-    resize_to(&mut vec, 1, &six)?;
-    assert!(rt; slots[1] == six);
-    Ok(())
+    let mut v = SliceVec::from_slice_len(&mut slots, 0);
+    let mut wrong = 0;
+    wrong = first_granted(wrong, 1, extends_owned(&mut v, rt.alloc()));
+    wrong = first_granted(wrong, 2, resizes_owned(&mut v, rt.alloc(), 3, &[5]));
+    wrong = first(wrong, 3, pops_owned(&mut v, &[5]));
+    wrong = first_granted(wrong, 4, resizes_owned(&mut v, rt.alloc(), 1, &[6]));
+    wrong = first(wrong, 5, owns(&slots[1], &[6]));
+    ended(wrong)
 }
 
-fn fill_up(vec: &mut SliceVec<'_, Item>, item: Item) -> Result<(), AllocError> {
-    vec.resize(vec.capacity(), item)?;
+fn fill_up(v: &mut SliceVec<'_, Item>, item: Item) -> Result<(), AllocError> {
+    v.resize(v.capacity(), item)?;
     Ok(())
 }
 
 #[test]
-fn as_a_refusal_of_memory(rt: HostRuntime) {
+fn as_a_refusal_of_memory(rt: HostRuntime) -> Result<(), Fail> {
     let mut slots = [Item(1), Item(2)];
-    let mut vec = SliceVec::from_slice_len(&mut slots, 1);
-    assert!(rt; fill_up(&mut vec, Item(99)) == Err(AllocError));
-    assert!(rt; fill_up(&mut vec, Item(7)) == Ok(()));
-    assert!(rt; slots == [Item(1), Item(7)]);
+    let mut v = SliceVec::from_slice_len(&mut slots, 1);
+    let mut wrong = 0;
+    wrong = first(wrong, 1, fill_up(&mut v, Item(99)) == Err(AllocError));
+    wrong = first(wrong, 2, fill_up(&mut v, Item(7)) == Ok(()));
+    wrong = first(wrong, 3, slots == [Item(1), Item(7)]);
+    ended(wrong)
 }
 
 fn named<'a>(name: u8) -> Limited<'a> {

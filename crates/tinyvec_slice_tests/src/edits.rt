@@ -1,95 +1,109 @@
 //! Items put in and taken out.
-use crate::looks::looks;
-use crate::steps::{Call, Step, assert_steps};
+use std::test::Fail;
 use tinyvec_slice::SliceVec;
-
-const PUSH_AND_POP: [Step; 6] = [
-    (Call::Pop, None, &[], &[7, 7, 7]),
-    (Call::Push(1), None, &[1], &[7, 7]),
-    (Call::Push(2), None, &[1, 2], &[7]),
-    (Call::Push(3), None, &[1, 2, 3], &[]),
-    (Call::Pop, Some(3), &[1, 2], &[0]),
-    (Call::Pop, Some(2), &[1], &[0, 0]),
-];
+use tinyvec_test_items::lent::{
+    clears, holds, inserts, pops, pushes, removes, sets_len, swap_removes, truncates, writes,
+};
+use tinyvec_test_items::{ended, first};
 
 #[test]
-fn push_and_pop(rt: HostRuntime) {
-    assert_steps(&rt, [7, 7, 7], 0, &PUSH_AND_POP, [1, 0, 0]);
-}
-
-const INSERT_AND_REMOVE: [Step; 4] = [
-    (Call::Insert(1, 8), None, &[1, 8, 2, 3], &[]),
-    (Call::Remove(0), Some(1), &[8, 2, 3], &[0]),
-    (Call::Remove(2), Some(3), &[8, 2], &[0, 0]),
-    (Call::Insert(2, 5), None, &[8, 2, 5], &[0]),
-];
-
-#[test]
-fn insert_and_remove(rt: HostRuntime) {
-    assert_steps(&rt, [1, 2, 3, 9], 3, &INSERT_AND_REMOVE, [8, 2, 5, 0]);
-}
-
-const SWAP_REMOVE: [Step; 4] = [
-    (Call::SwapRemove(3), Some(4), &[1, 2, 3], &[0, 9]),
-    (Call::SwapRemove(0), Some(1), &[3, 2], &[0, 0, 9]),
-    (Call::SwapRemove(0), Some(3), &[2], &[0, 0, 0, 9]),
-    (Call::SwapRemove(0), Some(2), &[], &[0, 0, 0, 0, 9]),
-];
-
-#[test]
-fn swap_remove(rt: HostRuntime) {
-    assert_steps(&rt, [1, 2, 3, 4, 9], 4, &SWAP_REMOVE, [0, 0, 0, 0, 9]);
-}
-
-const TRUNCATE_AND_CLEAR: [Step; 3] = [
-    (Call::Truncate(7), None, &[1, 2, 3, 4], &[9]),
-    (Call::Truncate(2), None, &[1, 2], &[0, 0, 9]),
-    (Call::Clear, None, &[], &[0, 0, 0, 0, 9]),
-];
-
-#[test]
-fn truncate_and_clear(rt: HostRuntime) {
-    assert_steps(
-        &rt,
-        [1, 2, 3, 4, 9],
-        4,
-        &TRUNCATE_AND_CLEAR,
-        [0, 0, 0, 0, 9],
-    );
-}
-
-const SET_LEN: [Step; 3] = [
-    (Call::SetLen(1), None, &[1], &[2, 3]),
-    (Call::Push(9), None, &[1, 9], &[3]),
-    (Call::SetLen(3), None, &[1, 9, 3], &[]),
-];
-
-#[test]
-fn set_len_writes_nothing(rt: HostRuntime) {
-    assert_steps(&rt, [1, 2, 3], 3, &SET_LEN, [1, 9, 3]);
-}
-
-const WRITES: [Step; 4] = [
-    (Call::Write(1, 8), None, &[1, 8], &[3]),
-    (Call::WriteItem(0, 7), None, &[7, 8], &[3]),
-    (Call::WriteSpare(0, 9), None, &[7, 8], &[9]),
-    (Call::WriteSlot(2, 5), None, &[7, 8], &[5]),
-];
-
-#[test]
-fn writes_by_index(rt: HostRuntime) {
-    assert_steps(&rt, [1, 2, 3], 2, &WRITES, [7, 8, 5]);
+fn push_and_pop(rt: HostRuntime) -> Result<(), Fail> {
+    let mut slots = [7, 7, 7];
+    let mut v = SliceVec::from_slice_len(&mut slots, 0);
+    let mut wrong = 0;
+    wrong = first(wrong, 1, pops(&mut v, None, &[], &[7, 7, 7]));
+    wrong = first(wrong, 2, pushes(&mut v, 1, &[1], &[7, 7]));
+    wrong = first(wrong, 3, pushes(&mut v, 2, &[1, 2], &[7]));
+    wrong = first(wrong, 4, pushes(&mut v, 3, &[1, 2, 3], &[]));
+    wrong = first(wrong, 5, pops(&mut v, Some(3), &[1, 2], &[0]));
+    wrong = first(wrong, 6, pops(&mut v, Some(2), &[1], &[0, 0]));
+    wrong = first(wrong, 7, slots == [1, 0, 0]);
+    ended(wrong)
 }
 
 #[test]
-fn items_without_bytes(rt: HostRuntime) {
+fn insert_and_remove(rt: HostRuntime) -> Result<(), Fail> {
+    let mut slots = [1, 2, 3, 9];
+    let mut v = SliceVec::from_slice_len(&mut slots, 3);
+    let mut wrong = 0;
+    wrong = first(wrong, 1, inserts(&mut v, 1, 8, &[1, 8, 2, 3], &[]));
+    wrong = first(wrong, 2, removes(&mut v, 0, 1, &[8, 2, 3], &[0]));
+    wrong = first(wrong, 3, removes(&mut v, 2, 3, &[8, 2], &[0, 0]));
+    wrong = first(wrong, 4, inserts(&mut v, 2, 5, &[8, 2, 5], &[0]));
+    wrong = first(wrong, 5, slots == [8, 2, 5, 0]);
+    ended(wrong)
+}
+
+#[test]
+fn swap_remove(rt: HostRuntime) -> Result<(), Fail> {
+    let mut slots = [1, 2, 3, 4, 9];
+    let mut v = SliceVec::from_slice_len(&mut slots, 4);
+    let mut wrong = 0;
+    wrong = first(wrong, 1, swap_removes(&mut v, 3, 4, &[1, 2, 3], &[0, 9]));
+    wrong = first(wrong, 2, swap_removes(&mut v, 0, 1, &[3, 2], &[0, 0, 9]));
+    wrong = first(wrong, 3, swap_removes(&mut v, 0, 3, &[2], &[0, 0, 0, 9]));
+    wrong = first(wrong, 4, swap_removes(&mut v, 0, 2, &[], &[0, 0, 0, 0, 9]));
+    wrong = first(wrong, 5, slots == [0, 0, 0, 0, 9]);
+    ended(wrong)
+}
+
+#[test]
+fn truncate_and_clear(rt: HostRuntime) -> Result<(), Fail> {
+    let mut slots = [1, 2, 3, 4, 9];
+    let mut v = SliceVec::from_slice_len(&mut slots, 4);
+    let mut wrong = 0;
+    wrong = first(wrong, 1, truncates(&mut v, 7, &[1, 2, 3, 4], &[9]));
+    wrong = first(wrong, 2, truncates(&mut v, 2, &[1, 2], &[0, 0, 9]));
+    wrong = first(wrong, 3, clears(&mut v, &[0, 0, 0, 0, 9]));
+    wrong = first(wrong, 4, slots == [0, 0, 0, 0, 9]);
+    ended(wrong)
+}
+
+#[test]
+fn set_len_writes_nothing(rt: HostRuntime) -> Result<(), Fail> {
+    let mut slots = [1, 2, 3];
+    let mut v = SliceVec::from_slice_len(&mut slots, 3);
+    let mut wrong = 0;
+    wrong = first(wrong, 1, sets_len(&mut v, 1, &[1], &[2, 3]));
+    wrong = first(wrong, 2, pushes(&mut v, 9, &[1, 9], &[3]));
+    wrong = first(wrong, 3, sets_len(&mut v, 3, &[1, 9, 3], &[]));
+    wrong = first(wrong, 4, slots == [1, 9, 3]);
+    ended(wrong)
+}
+
+// Whether there is a slot at an index, which is written then.
+fn puts(slots: &mut [i32], index: usize, item: i32) -> bool {
+    if index >= slots.len() {
+        return false;
+    }
+    slots[index] = item;
+    true
+}
+
+#[test]
+fn writes_by_index(rt: HostRuntime) -> Result<(), Fail> {
+    let mut slots = [1, 2, 3];
+    let mut v = SliceVec::from_slice_len(&mut slots, 2);
+    let mut wrong = 0;
+    wrong = first(wrong, 1, writes(&mut v, 1, 8, &[1, 8], &[3]));
+    wrong = first(wrong, 2, puts(v.as_mut_slice(), 0, 7));
+    wrong = first(wrong, 3, holds(&v, &[7, 8], &[3]));
+    wrong = first(wrong, 4, puts(v.grab_spare_slice_mut(), 0, 9));
+    wrong = first(wrong, 5, holds(&v, &[7, 8], &[9]));
+    wrong = first(wrong, 6, puts(v.as_mut_inner(), 2, 5));
+    wrong = first(wrong, 7, holds(&v, &[7, 8], &[5]));
+    wrong = first(wrong, 8, slots == [7, 8, 5]);
+    ended(wrong)
+}
+
+#[test]
+fn items_without_bytes(rt: HostRuntime) -> Result<(), Fail> {
     let mut slots = [(), (), ()];
-    let mut vec = SliceVec::from_slice_len(&mut slots, 1);
-    vec.push(());
-    assert!(rt; looks(&vec, &[(); 2], &[()]));
-    vec.insert(0, ());
-    assert!(rt; looks(&vec, &[(); 3], &[]));
-    assert!(rt; vec.pop() == Some(()));
-    vec.clear();
-    assert!(rt; looks(&vec, &[], &[(); 3]));
+    let mut v = SliceVec::from_slice_len(&mut slots, 1);
+    let mut wrong = 0;
+    wrong = first(wrong, 1, pushes(&mut v, (), &[(); 2], &[()]));
+    wrong = first(wrong, 2, inserts(&mut v, 0, (), &[(); 3], &[]));
+    wrong = first(wrong, 3, pops(&mut v, Some(()), &[(); 2], &[()]));
+    wrong = first(wrong, 4, clears(&mut v, &[(); 3]));
+    ended(wrong)
 }

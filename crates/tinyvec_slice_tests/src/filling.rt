@@ -1,39 +1,12 @@
 //! Items taken from iterators and closures, and items kept.
 ghost use Rattle.std.specs.Prelude.{IfErr};
 
-use crate::looks::looks;
-use crate::steps::{Call, Kept, Step, assert_steps};
 use std::iter;
-use std::process::Abort;
 use std::test::Fail;
 use tinyvec_slice::SliceVec;
 use tinyvec_slots::NoRoom;
-
-#[derive(Clone, Copy)]
-enum Source {
-    // `fill` from a number on, and up to another.
-    FillFrom(i32),
-    Fill(i32, i32),
-    // `extend` up to a number, and to the end of it.
-    Extend(i32, i32),
-    ExtendThrough(i32, i32),
-    ExtendRepeated(i32),
-    ExtendCopies(&'static [i32]),
-}
-
-impl Source {
-    // Makes the call, and gives the first of the items that it took no room for, up to three.
-    fn make(self, vec: &mut SliceVec<'_, i32>) -> [Option<i32>; 3] {
-        match self {
-            Source::FillFrom(first) => first_three(vec.fill(first..)),
-            Source::Fill(first, end) => first_three(vec.fill(first..end)),
-            Source::Extend(first, end) => handed_back(vec.extend(first..end)),
-            Source::ExtendThrough(first, last) => handed_back(vec.extend(first..=last)),
-            Source::ExtendRepeated(item) => handed_back(vec.extend(iter::repeat(item))),
-            Source::ExtendCopies(items) => handed_back(vec.extend(items.iter().copied())),
-        }
-    }
-}
+use tinyvec_test_items::lent::holds;
+use tinyvec_test_items::{ended, first};
 
 fn first_three<I: Iterator<Item = i32> + Drop>(rest: I) -> [Option<i32>; 3]
     requires { I.can_next rest }
@@ -59,152 +32,213 @@ fn handed_back<I: Iterator<Item = i32> + Drop>(
     }
 }
 
-// A call, what it hands back, and the items and the spare slots that it leaves.
-type Filled = (Source, [Option<i32>; 3], &'static [i32], &'static [i32]);
-
-// Asserts what each call hands back and leaves, and what the owner of the slots sees at the end.
-fn assert_filled<const N: usize>(
-    rt: &impl Abort,
-    slots: [i32; N],
-    len: usize,
-    calls: &[Filled],
-    seen: [i32; N],
-) {
-    let mut slots = slots;
-    let mut vec = SliceVec::from_slice_at_most(&mut slots, len);
-    for (at, (source, left, items, spare)) in calls.iter().enumerate() {
-        assert!(rt; source.make(&mut vec) == *left, "what call {at} hands back");
-        assert!(rt; looks(&vec, items, spare), "the vector after call {at}");
-    }
-    assert!(rt; slots == seen, "the slots at the end");
+// Whether these are the first of the items that find no room, up to three, and this is left.
+fn extends<I: IntoIterator<Item = i32>>(
+    v: &mut SliceVec<'_, i32>,
+    more: I,
+    back: [Option<i32>; 3],
+    items: &[i32],
+    spare: &[i32],
+) -> bool
+where
+    I::IntoIter: Drop,
+    requires { (it : I.IntoIter) → I.into_iter_gives more it → I.IntoIter.can_next it }
+{
+    (handed_back(v.extend(more)) == back) & holds(v, items, spare)
 }
 
-const UNTIL_FULL: [Filled; 1] = [(
-    Source::FillFrom(0),
-    [Some(2), Some(3), Some(4)],
-    &[7, 0, 1],
-    &[],
-)];
-
 #[test]
-fn fill_stops_when_full(rt: HostRuntime) {
-    assert_filled(&rt, [7, 7, 7], 1, &UNTIL_FULL, [7, 0, 1]);
+fn fill_stops_when_full(rt: HostRuntime) -> Result<(), Fail> {
+    let mut slots = [7, 7, 7];
+    let mut v = SliceVec::from_slice_len(&mut slots, 1);
+    let mut wrong = 0;
+    wrong = first(
+        wrong,
+        1,
+        first_three(v.fill(0..)) == [Some(2), Some(3), Some(4)],
+    );
+    wrong = first(wrong, 2, holds(&v, &[7, 0, 1], &[]));
+    wrong = first(wrong, 3, slots == [7, 0, 1]);
+    ended(wrong)
 }
 
-const UNTIL_THE_END: [Filled; 1] = [(Source::Fill(5, 7), [None; 3], &[1, 5, 6], &[9])];
-
 #[test]
-fn fill_stops_at_the_end(rt: HostRuntime) {
-    assert_filled(&rt, [1, 9, 9, 9], 1, &UNTIL_THE_END, [1, 5, 6, 9]);
+fn fill_stops_at_the_end(rt: HostRuntime) -> Result<(), Fail> {
+    let mut slots = [1, 9, 9, 9];
+    let mut v = SliceVec::from_slice_len(&mut slots, 1);
+    let mut wrong = 0;
+    wrong = first(wrong, 1, first_three(v.fill(5..7)) == [None; 3]);
+    wrong = first(wrong, 2, holds(&v, &[1, 5, 6], &[9]));
+    wrong = first(wrong, 3, slots == [1, 5, 6, 9]);
+    ended(wrong)
 }
 
-const NO_ROOM: [Filled; 1] = [(
-    Source::ExtendThrough(1, 4),
-    [Some(3), Some(4), None],
-    &[1, 2],
-    &[],
-)];
-
 #[test]
-fn extend_answers_what_found_no_room(rt: HostRuntime) {
-    assert_filled(&rt, [0, 0], 0, &NO_ROOM, [1, 2]);
+fn extend_answers_what_found_no_room(rt: HostRuntime) -> Result<(), Fail> {
+    let mut slots = [0, 0];
+    let mut v = SliceVec::from_slice_len(&mut slots, 0);
+    let back = [Some(3), Some(4), None];
+    let mut wrong = 0;
+    wrong = first(wrong, 1, extends(&mut v, 1..=4, back, &[1, 2], &[]));
+    wrong = first(wrong, 2, slots == [1, 2]);
+    ended(wrong)
 }
 
-const ENDLESS: [Filled; 1] = [(Source::ExtendRepeated(6), [Some(6); 3], &[1, 6], &[])];
-
 #[test]
-fn extend_by_endless_items(rt: HostRuntime) {
-    assert_filled(&rt, [1, 9], 1, &ENDLESS, [1, 6]);
+fn extend_by_endless_items(rt: HostRuntime) -> Result<(), Fail> {
+    let mut slots = [1, 9];
+    let mut v = SliceVec::from_slice_len(&mut slots, 1);
+    let endless = iter::repeat(6);
+    let mut wrong = 0;
+    wrong = first(
+        wrong,
+        1,
+        extends(&mut v, endless, [Some(6); 3], &[1, 6], &[]),
+    );
+    wrong = first(wrong, 2, slots == [1, 6]);
+    ended(wrong)
 }
 
-const WHAT_FITS: [Filled; 3] = [
-    (Source::Extend(2, 3), [None; 3], &[1, 2], &[9]),
-    (Source::Extend(3, 4), [None; 3], &[1, 2, 3], &[]),
-    (Source::Extend(4, 4), [None; 3], &[1, 2, 3], &[]),
-];
-
 #[test]
-fn extend_by_what_fits(rt: HostRuntime) {
-    assert_filled(&rt, [1, 9, 9], 1, &WHAT_FITS, [1, 2, 3]);
+fn extend_by_what_fits(rt: HostRuntime) -> Result<(), Fail> {
+    let mut slots = [1, 9, 9];
+    let mut v = SliceVec::from_slice_len(&mut slots, 1);
+    let mut wrong = 0;
+    wrong = first(wrong, 1, extends(&mut v, 2..3, [None; 3], &[1, 2], &[9]));
+    wrong = first(wrong, 2, extends(&mut v, 3..4, [None; 3], &[1, 2, 3], &[]));
+    wrong = first(wrong, 3, extends(&mut v, 4..4, [None; 3], &[1, 2, 3], &[]));
+    wrong = first(wrong, 4, slots == [1, 2, 3]);
+    ended(wrong)
 }
 
 #[test]
 fn extend_by_a_vec(rt: HostRuntime) -> Result<(), Fail> {
+    let more = [2, 3].to_vec(rt.alloc())?;
     let mut slots = [1, 0, 0, 9];
-    let mut vec = SliceVec::from_slice_len(&mut slots, 1);
-    assert!(rt; vec.extend([2, 3].to_vec(rt.alloc())?).is_ok());
-    assert!(rt; looks(&vec, &[1, 2, 3], &[9]));
-    assert!(rt; slots == [1, 2, 3, 9]);
-    Ok(())
+    let mut v = SliceVec::from_slice_len(&mut slots, 1);
+    let mut wrong = 0;
+    wrong = first(wrong, 1, extends(&mut v, more, [None; 3], &[1, 2, 3], &[9]));
+    wrong = first(wrong, 2, slots == [1, 2, 3, 9]);
+    ended(wrong)
 }
 
-const COPIES: [Filled; 2] = [
-    (Source::ExtendCopies(&[2, 3]), [None; 3], &[1, 2, 3], &[]),
-    (
-        Source::ExtendCopies(&[4]),
-        [Some(4), None, None],
-        &[1, 2, 3],
-        &[],
-    ),
-];
-
 #[test]
-fn extend_by_copies_of_a_slice(rt: HostRuntime) {
-    assert_filled(&rt, [1, 0, 0], 1, &COPIES, [1, 2, 3]);
+fn extend_by_copies_of_a_slice(rt: HostRuntime) -> Result<(), Fail> {
+    let mut slots = [1, 0, 0];
+    let mut v = SliceVec::from_slice_len(&mut slots, 1);
+    let (two, one) = ([2, 3].iter().copied(), [4].iter().copied());
+    let back = [Some(4), None, None];
+    let mut wrong = 0;
+    wrong = first(wrong, 1, extends(&mut v, two, [None; 3], &[1, 2, 3], &[]));
+    wrong = first(wrong, 2, extends(&mut v, one, back, &[1, 2, 3], &[]));
+    wrong = first(wrong, 3, slots == [1, 2, 3]);
+    ended(wrong)
 }
 
-const RESIZE_DOWN: [Step; 1] = [(Call::ResizeWith(1, 9), Some(11), &[1], &[11, 10, 7, 7])];
-
-#[test]
-fn resize_with_fills_the_last_slot_first(rt: HostRuntime) {
-    assert_steps(&rt, [1, 2, 3, 7, 7], 3, &RESIZE_DOWN, [1, 11, 10, 7, 7]);
-}
-
-const RESIZE_UP: [Step; 2] = [
-    (Call::ResizeWith(4, 10), Some(12), &[1, 2, 11, 12], &[9]),
-    (Call::ResizeWith(4, 5), Some(5), &[1, 2, 11, 12], &[9]),
-];
-
-#[test]
-fn resize_with_answers_in_order(rt: HostRuntime) {
-    assert_steps(&rt, [1, 2, 3, 9, 9], 2, &RESIZE_UP, [1, 2, 11, 12, 9]);
-}
-
-const RETAIN_EVEN: [Step; 1] = [(Call::Retain(Kept::Even), Some(1234), &[2, 4], &[0, 0, 9])];
-
-#[test]
-fn retain_the_even(rt: HostRuntime) {
-    assert_steps(&rt, [1, 2, 3, 4, 9], 4, &RETAIN_EVEN, [2, 4, 0, 0, 9]);
-}
-
-const NUMBERS: [i32; 4] = [1, 2, 3, 4];
-
-// So many numbers, and what `retain` is asked about.
-const ASKED: [(usize, i32); 5] = [(0, 0), (1, 1), (2, 12), (3, 123), (4, 1234)];
-
-// Each of no item, of one and of more is asked about once, whether all of them or none stay.
-#[test]
-fn retain_asks_about_each_item_once(rt: HostRuntime) {
-    for (len, asked) in ASKED {
-        let mut slots = NUMBERS;
-        let mut vec = SliceVec::from_slice_at_most(&mut slots, len);
-        assert!(rt; Call::Retain(Kept::All).make(&rt, &mut vec) == Some(asked));
-        assert!(rt; vec.len() == len);
-        assert!(rt; Call::Retain(Kept::None).make(&rt, &mut vec) == Some(asked));
-        assert!(rt; vec.is_empty());
+// Cuts the list or fills it up to so many items by the numbers that follow one, and answers the last, or none where there is
+// no room.
+fn resize_with(v: &mut SliceVec<'_, i32>, len: usize, before: i32) -> Option<i32> {
+    if len > v.capacity() {
+        return None;
     }
+    let mut last = before;
+    v.resize_with(len, || {
+        last = last.wrapping_add(1);
+        last
+    });
+    Some(last)
 }
 
-// It asks for the items that are missing, or for what fills the emptied slots, and never where the list is as long.
+#[test]
+fn resize_with_fills_the_last_slot_first(rt: HostRuntime) -> Result<(), Fail> {
+    let mut slots = [1, 2, 3, 7, 7];
+    let mut v = SliceVec::from_slice_len(&mut slots, 3);
+    let mut wrong = 0;
+    wrong = first(wrong, 1, resize_with(&mut v, 1, 9) == Some(11));
+    wrong = first(wrong, 2, holds(&v, &[1], &[11, 10, 7, 7]));
+    wrong = first(wrong, 3, slots == [1, 11, 10, 7, 7]);
+    ended(wrong)
+}
+
+#[test]
+fn resize_with_answers_in_order(rt: HostRuntime) -> Result<(), Fail> {
+    let mut slots = [1, 2, 3, 9, 9];
+    let mut v = SliceVec::from_slice_len(&mut slots, 2);
+    let mut wrong = 0;
+    wrong = first(wrong, 1, resize_with(&mut v, 4, 10) == Some(12));
+    wrong = first(wrong, 2, holds(&v, &[1, 2, 11, 12], &[9]));
+    wrong = first(wrong, 3, resize_with(&mut v, 4, 5) == Some(5));
+    wrong = first(wrong, 4, holds(&v, &[1, 2, 11, 12], &[9]));
+    wrong = first(wrong, 5, slots == [1, 2, 11, 12, 9]);
+    ended(wrong)
+}
+
+// Whether it asks for the items that are missing, or for what fills the emptied slots, and never where the list is as long.
+fn asks_for_each(len: u8, to: u8) -> bool {
+    let mut slots = [1, 2, 3, 4];
+    let mut v = SliceVec::from_slice_at_most(&mut slots, usize::from(len));
+    let last = resize_with(&mut v, usize::from(to), 0);
+    (last == Some(i32::from(to.abs_diff(len)))) & (v.len() == usize::from(to))
+}
+
 #[test]
 fn resize_with_asks_once_for_each_slot(rt: HostRuntime) {
-    for len in 0..=4u8 {
-        for to in 0..=4u8 {
-            let mut slots = NUMBERS;
-            let mut vec = SliceVec::from_slice_at_most(&mut slots, usize::from(len));
-            let asked = Call::ResizeWith(usize::from(to), 0).make(&rt, &mut vec);
-            assert!(rt; asked == Some(i32::from(to.abs_diff(len))));
-            assert!(rt; vec.len() == usize::from(to));
+    for len in 0..=4 {
+        for to in 0..=4 {
+            assert!(rt; asks_for_each(len, to), "{len} to {to}");
         }
     }
+}
+
+#[derive(Clone, Copy)]
+enum Kept {
+    All,
+    None,
+    Even,
+}
+
+// Answers the items that were asked about, as the digits of a number.
+fn retain(v: &mut SliceVec<'_, i32>, kept: Kept) -> i32 {
+    let mut asked = 0_i32;
+    v.retain(|item| {
+        asked = asked.wrapping_mul(10).wrapping_add(*item);
+        match kept {
+            Kept::All => true,
+            Kept::None => false,
+            Kept::Even => *item % 2 == 0,
+        }
+    });
+    asked
+}
+
+#[test]
+fn retain_the_even(rt: HostRuntime) -> Result<(), Fail> {
+    let mut slots = [1, 2, 3, 4, 9];
+    let mut v = SliceVec::from_slice_len(&mut slots, 4);
+    let mut wrong = 0;
+    wrong = first(wrong, 1, retain(&mut v, Kept::Even) == 1234);
+    wrong = first(wrong, 2, holds(&v, &[2, 4], &[0, 0, 9]));
+    wrong = first(wrong, 3, slots == [2, 4, 0, 0, 9]);
+    ended(wrong)
+}
+
+// Whether it asks about each of so many items once, whether all of them or none stay.
+fn asks_about(len: usize, asked: i32) -> bool {
+    let mut slots = [1, 2, 3, 4];
+    let mut v = SliceVec::from_slice_at_most(&mut slots, len);
+    let all = (retain(&mut v, Kept::All) == asked) & (v.len() == len);
+    let none = (retain(&mut v, Kept::None) == asked) & v.is_empty();
+    all & none
+}
+
+// Each of no item, of one and of more.
+#[test]
+fn retain_asks_about_each_item_once(rt: HostRuntime) -> Result<(), Fail> {
+    let mut wrong = 0;
+    wrong = first(wrong, 1, asks_about(0, 0));
+    wrong = first(wrong, 2, asks_about(1, 1));
+    wrong = first(wrong, 3, asks_about(2, 12));
+    wrong = first(wrong, 4, asks_about(3, 123));
+    wrong = first(wrong, 5, asks_about(4, 1234));
+    ended(wrong)
 }

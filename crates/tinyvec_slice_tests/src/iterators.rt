@@ -1,6 +1,7 @@
 //! Iteration over the items.
+use std::test::Fail;
 use tinyvec_slice::SliceVec;
-use tinyvec_test_items::{assert_is, assert_items};
+use tinyvec_test_items::{ended, first, yields, yields_back};
 
 #[test]
 fn into_iter_lends_the_list_alone(rt: HostRuntime) {
@@ -34,15 +35,17 @@ fn into_iter_moves_no_slot(rt: HostRuntime) {
 }
 
 #[test]
-fn iter_and_iter_mut(rt: HostRuntime) {
+fn iter_and_iter_mut(rt: HostRuntime) -> Result<(), Fail> {
     let mut slots = [1_i32, 2, 3];
     let mut vec = SliceVec::from_slice_len(&mut slots, 2);
     for x in vec.iter_mut() {
         *x = x.wrapping_neg();
     }
     let mut items = vec.iter();
-    assert_is!(rt; items.next(), Some(&-1));
-    assert_is!(rt; items.next_back(), Some(&-2));
-    assert_is!(rt; items.next(), None);
-    assert!(rt; slots == [-1, -2, 3]);
+    let mut wrong = 0;
+    wrong = first(wrong, 1, yields(&mut items, Some(&-1)));
+    wrong = first(wrong, 2, yields_back(&mut items, Some(&-2)));
+    wrong = first(wrong, 3, yields(&mut items, None));
+    wrong = first(wrong, 4, slots == [-1, -2, 3]);
+    ended(wrong)
 }

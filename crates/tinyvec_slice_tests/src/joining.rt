@@ -1,43 +1,76 @@
 //! Lists joined and parted.
-use crate::looks::looks;
-use std::process::Abort;
+use std::test::Fail;
 use tinyvec_slice::SliceVec;
+use tinyvec_test_items::lent::holds;
+use tinyvec_test_items::{ended, first};
+
+// Whether the items of a list find room behind another, and both hold this.
+fn appends<'s>(
+    v: &mut SliceVec<'s, i32>,
+    other: &mut SliceVec<'s, i32>,
+    (items, spare): (&[i32], &[i32]),
+    (rest, emptied): (&[i32], &[i32]),
+) -> bool {
+    if other.len() > v.capacity() - v.len() {
+        return false;
+    }
+    v.append(other);
+    holds(v, items, spare) & holds(other, rest, emptied)
+}
 
 #[test]
-fn append_moves_the_items(rt: HostRuntime) {
+fn append_moves_the_items(rt: HostRuntime) -> Result<(), Fail> {
     let mut one = [1, 2, 3, 8, 8, 8];
     let mut two = [4, 5, 9];
-    let mut front = SliceVec::from_slice_len(&mut one, 3);
-    let mut back = SliceVec::from_slice_len(&mut two, 2);
-    front.append(&mut back);
-    assert!(rt; looks(&front, &[1, 2, 3, 4, 5], &[8]));
-    assert!(rt; looks(&back, &[], &[0, 0, 9]));
-    front.append(&mut back);
-    assert!(rt; one == [1, 2, 3, 4, 5, 8]);
-    assert!(rt; two == [0, 0, 9]);
+    let mut v = SliceVec::from_slice_len(&mut one, 3);
+    let mut other = SliceVec::from_slice_len(&mut two, 2);
+    let mut wrong = 0;
+    let all: (&[i32], &[i32]) = (&[1, 2, 3, 4, 5], &[8]);
+    let none: (&[i32], &[i32]) = (&[], &[0, 0, 9]);
+    wrong = first(wrong, 1, appends(&mut v, &mut other, all, none));
+    wrong = first(wrong, 2, appends(&mut v, &mut other, all, none));
+    wrong = first(wrong, 3, one == [1, 2, 3, 4, 5, 8]);
+    wrong = first(wrong, 4, two == [0, 0, 9]);
+    ended(wrong)
 }
 
 type Parts = (&'static [i32], &'static [i32], &'static [i32]);
 
-// Asserts the items of the first part, and the items and spare slots of the second. Then 7 is written to the first item of
-// the first part and 8 to that of the second, 6 is pushed to the second, and the owner sees each where it belongs.
-fn assert_parts<const N: usize>(
-    rt: &impl Abort,
+// Whether the first part has these items, and the second these items and spare slots. Then 7 is written to the first item of
+// the first part and 8 to that of the second, 6 is pushed to the second, and the owner has to see each where it belongs.
+fn parts<const N: usize>(
     slots: [i32; N],
     (len, at): (usize, usize),
     (items, behind, spare): Parts,
     seen: [i32; N],
-) {
+) -> bool {
     let mut slots = slots;
-    let mut first = SliceVec::from_slice_at_most(&mut slots, len);
-    assert!(rt; at <= first.len());
-    let mut second = first.split_off(at);
-    assert!(rt; looks(&first, items, &[]));
-    assert!(rt; looks(&second, behind, spare));
-    write_first(&mut first, 7);
+    let are_right = parts_in(
+        &mut SliceVec::from_slice_at_most(&mut slots, len),
+        at,
+        items,
+        behind,
+        spare,
+    );
+    are_right & (slots == seen)
+}
+
+fn parts_in(
+    v: &mut SliceVec<'_, i32>,
+    at: usize,
+    items: &[i32],
+    behind: &[i32],
+    spare: &[i32],
+) -> bool {
+    if at > v.len() {
+        return false;
+    }
+    let mut second = v.split_off(at);
+    let are_right = holds(v, items, &[]) & holds(&second, behind, spare);
+    write_first(v, 7);
     write_first(&mut second, 8);
     push_if_room(&mut second, 6);
-    assert!(rt; slots == seen);
+    are_right
 }
 
 fn write_first(v: &mut SliceVec<'_, i32>, item: i32) {
@@ -52,37 +85,27 @@ fn push_if_room(v: &mut SliceVec<'_, i32>, item: i32) {
     }
 }
 
+// The first part is full. Of two parts of one length, the part that comes back lies behind.
 #[test]
-fn split_off_keeps_the_first_full(rt: HostRuntime) {
-    assert_parts(
-        &rt,
-        [1, 2, 3, 9],
-        (3, 1),
-        (&[1], &[2, 3], &[9]),
-        [7, 8, 3, 6],
+fn split_off(rt: HostRuntime) -> Result<(), Fail> {
+    let mut wrong = 0;
+    wrong = first(
+        wrong,
+        1,
+        parts([1, 2, 3, 9], (3, 1), (&[1], &[2, 3], &[9]), [7, 8, 3, 6]),
     );
-}
-
-#[test]
-fn split_off_everything(rt: HostRuntime) {
-    assert_parts(&rt, [1, 2], (2, 0), (&[], &[1, 2], &[]), [8, 2]);
-}
-
-#[test]
-fn split_off_nothing(rt: HostRuntime) {
-    assert_parts(&rt, [1, 2, 9], (2, 2), (&[1, 2], &[], &[9]), [7, 2, 6]);
-}
-
-// Two parts of one length: the part that comes back lies behind.
-#[test]
-fn split_off_in_halves(rt: HostRuntime) {
-    assert_parts(
-        &rt,
-        [1, 2, 3, 4],
-        (4, 2),
-        (&[1, 2], &[3, 4], &[]),
-        [7, 2, 8, 4],
+    wrong = first(wrong, 2, parts([1, 2], (2, 0), (&[], &[1, 2], &[]), [8, 2]));
+    wrong = first(
+        wrong,
+        3,
+        parts([1, 2, 9], (2, 2), (&[1, 2], &[], &[9]), [7, 2, 6]),
     );
+    wrong = first(
+        wrong,
+        4,
+        parts([1, 2, 3, 4], (4, 2), (&[1, 2], &[3, 4], &[]), [7, 2, 8, 4]),
+    );
+    ended(wrong)
 }
 
 const NUMBERS: [i32; 5] = [1, 2, 3, 4, 5];
@@ -95,9 +118,9 @@ fn split_off_writes_no_slot(rt: HostRuntime) {
             let mut slots = NUMBERS;
             let mut first = SliceVec::from_slice_len(&mut slots, len);
             let second = first.split_off(at);
-            assert!(rt; looks(&first, &NUMBERS[..at], &[]));
-            assert!(rt; looks(&second, &NUMBERS[at..len], &NUMBERS[len..]));
-            assert!(rt; slots == NUMBERS);
+            let is_first = holds(&first, &NUMBERS[..at], &[]);
+            let is_second = holds(&second, &NUMBERS[at..len], &NUMBERS[len..]);
+            assert!(rt; is_first & is_second & (slots == NUMBERS), "{len} at {at}");
         }
     }
 }

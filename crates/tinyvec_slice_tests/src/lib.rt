@@ -16,12 +16,8 @@ mod iterators;
 #[cfg(test)]
 mod joining;
 #[cfg(test)]
-mod looks;
-#[cfg(test)]
 mod making;
 #[cfg(test)]
 mod printing;
-#[cfg(test)]
-mod steps;
 #[cfg(test)]
 mod writing;

@@ -1,85 +1,91 @@
 //! Making and asking.
-use crate::looks::looks;
 use std::convert::AsSlice;
-use std::process::Abort;
+use std::test::Fail;
 use tinyvec_slice::SliceVec;
+use tinyvec_test_items::lent::{clears, holds, pops, sets_len, truncates};
+use tinyvec_test_items::{ended, first};
 
-// The calls that make a vector of the slots `[1, 2, 3]`, as values.
-#[derive(Clone, Copy)]
-enum Making {
-    OfTheFirst(usize),
-    TryOfTheFirst(usize),
-    AtMost(usize),
-    OfASlice,
-    FromASlice,
-    FromAnArray,
+// Whether these are the items and the spare slots. Then 7 is written to the last item, and the owner has to see it there.
+fn is_made(mut v: SliceVec<'_, i32>, items: &[i32], spare: &[i32]) -> bool {
+    let is_right = holds(&v, items, spare);
+    if let Some(last) = v.len().checked_sub(1) {
+        v[last] = 7;
+    }
+    is_right
 }
 
-impl Making {
-    fn make<'s>(self, rt: &impl Abort, slots: &'s mut [i32; 3]) -> Option<SliceVec<'s, i32>> {
-        match self {
-            Making::OfTheFirst(len) => {
-                assert!(rt; len <= 3);
-                Some(SliceVec::from_slice_len(slots, len))
-            }
-            Making::TryOfTheFirst(len) => SliceVec::try_from_slice_len(slots, len),
-            Making::AtMost(len) => Some(SliceVec::from_slice_at_most(slots, len)),
-            Making::OfASlice => Some(SliceVec::from_slice(slots)),
-            Making::FromASlice => Some(SliceVec::from(slots.as_mut_slice())),
-            Making::FromAnArray => Some(SliceVec::from(slots)),
-        }
+#[test]
+fn of_the_first_slots(rt: HostRuntime) -> Result<(), Fail> {
+    let mut slots = [1, 2, 3];
+    let mut wrong = 0;
+    let none = SliceVec::from_slice_len(&mut slots, 0);
+    wrong = first(wrong, 1, is_made(none, &[], &[1, 2, 3]));
+    wrong = first(wrong, 2, slots == [1, 2, 3]);
+    let two = SliceVec::from_slice_len(&mut slots, 2);
+    wrong = first(wrong, 3, is_made(two, &[1, 2], &[3]));
+    wrong = first(wrong, 4, slots == [1, 7, 3]);
+    ended(wrong)
+}
+
+#[test]
+fn shown(rt: HostRuntime) -> Result<(), Fail> {
+    let mut slots = [1, 2, 3];
+    let v = SliceVec::from_slice_len(&mut slots, 2);
+    let mut wrong = 0;
+    wrong = first(wrong, 1, holds(&v, &[1, 2], &[3]));
+    wrong = first(wrong, 2, AsSlice::as_slice(&v) == [1, 2].as_slice());
+    wrong = first(wrong, 3, v.as_inner() == [1, 2, 3].as_slice());
+    wrong = first(wrong, 4, v[1] == 2);
+    ended(wrong)
+}
+
+#[test]
+fn of_a_whole_slice_or_array(rt: HostRuntime) -> Result<(), Fail> {
+    let mut slots = [1, 2, 3];
+    let mut wrong = 0;
+    let all = SliceVec::from(slots.as_mut_slice());
+    wrong = first(wrong, 1, is_made(all, &[1, 2, 3], &[]));
+    wrong = first(wrong, 2, slots == [1, 2, 7]);
+    slots = [1, 2, 3];
+    let all = SliceVec::from_slice(&mut slots);
+    wrong = first(wrong, 3, is_made(all, &[1, 2, 3], &[]));
+    wrong = first(wrong, 4, slots == [1, 2, 7]);
+    slots = [1, 2, 3];
+    let all = SliceVec::from(&mut slots);
+    wrong = first(wrong, 5, is_made(all, &[1, 2, 3], &[]));
+    wrong = first(wrong, 6, slots == [1, 2, 7]);
+    ended(wrong)
+}
+
+#[test]
+fn of_at_most_so_many_slots(rt: HostRuntime) -> Result<(), Fail> {
+    let mut slots = [1, 2, 3];
+    let mut wrong = 0;
+    let two = SliceVec::from_slice_at_most(&mut slots, 2);
+    wrong = first(wrong, 1, is_made(two, &[1, 2], &[3]));
+    wrong = first(wrong, 2, slots == [1, 7, 3]);
+    slots = [1, 2, 3];
+    let all = SliceVec::from_slice_at_most(&mut slots, 4);
+    wrong = first(wrong, 3, is_made(all, &[1, 2, 3], &[]));
+    wrong = first(wrong, 4, slots == [1, 2, 7]);
+    ended(wrong)
+}
+
+// Whether there are as many slots, and the vector is full.
+fn is_made_full(slots: &mut [i32], len: usize, items: &[i32]) -> bool {
+    match SliceVec::try_from_slice_len(slots, len) {
+        Some(v) => is_made(v, items, &[]),
+        None => false,
     }
 }
 
-// Asserts which items and spare slots a vector has, and that its owner sees 7 where it is written to the last item.
-fn assert_made(rt: &impl Abort, making: Making, items: &[i32], spare: &[i32], seen: [i32; 3]) {
+#[test]
+fn of_as_many_slots_as_there_are(rt: HostRuntime) -> Result<(), Fail> {
     let mut slots = [1, 2, 3];
-    let Some(mut vec) = making.make(rt, &mut slots) else {
-        panic!(rt; "there are as many slots");
-    };
-    assert!(rt; looks(&vec, items, spare));
-    if let Some(last) = vec.len().checked_sub(1) {
-        vec[last] = 7;
-    }
-    assert!(rt; slots == seen);
-}
-
-#[test]
-fn of_the_first_slots(rt: HostRuntime) {
-    assert_made(&rt, Making::OfTheFirst(2), &[1, 2], &[3], [1, 7, 3]);
-    assert_made(&rt, Making::OfTheFirst(0), &[], &[1, 2, 3], [1, 2, 3]);
-}
-
-#[test]
-fn shown(rt: HostRuntime) {
-    let mut slots = [1, 2, 3];
-    let vec = SliceVec::from_slice_len(&mut slots, 2);
-    assert!(rt; looks(&vec, &[1, 2], &[3]));
-    assert!(rt; AsSlice::as_slice(&vec) == [1, 2].as_slice());
-    assert!(rt; vec.as_inner() == [1, 2, 3].as_slice());
-    assert!(rt; vec[1] == 2);
-}
-
-#[test]
-fn of_a_whole_slice(rt: HostRuntime) {
-    assert_made(&rt, Making::FromASlice, &[1, 2, 3], &[], [1, 2, 7]);
-}
-
-#[test]
-fn of_a_whole_array(rt: HostRuntime) {
-    assert_made(&rt, Making::OfASlice, &[1, 2, 3], &[], [1, 2, 7]);
-    assert_made(&rt, Making::FromAnArray, &[1, 2, 3], &[], [1, 2, 7]);
-}
-
-#[test]
-fn of_at_most_so_many_slots(rt: HostRuntime) {
-    assert_made(&rt, Making::AtMost(2), &[1, 2], &[3], [1, 7, 3]);
-    assert_made(&rt, Making::AtMost(4), &[1, 2, 3], &[], [1, 2, 7]);
-}
-
-#[test]
-fn of_as_many_slots_as_there_are(rt: HostRuntime) {
-    assert_made(&rt, Making::TryOfTheFirst(3), &[1, 2, 3], &[], [1, 2, 7]);
+    let mut wrong = 0;
+    wrong = first(wrong, 1, is_made_full(&mut slots, 3, &[1, 2, 3]));
+    wrong = first(wrong, 2, slots == [1, 2, 7]);
+    ended(wrong)
 }
 
 // So many of the slots, and a length that is greater.
@@ -95,38 +101,41 @@ const REFUSED: [(usize, usize); 9] = [
     (3, usize::MAX),
 ];
 
-// However many are missing, a slice that is refused keeps each of its items in its place.
+// Whether a slice with fewer slots is refused, and keeps each of its items in its place.
+fn is_refused(count: usize, len: usize) -> bool {
+    let mut slots = [1, 2, 3];
+    let slice = &mut slots[..count.min(3)];
+    SliceVec::try_from_slice_len(slice, len).is_none() & (slots == [1, 2, 3])
+}
+
 #[test]
 fn a_refused_slice_is_as_it_was(rt: HostRuntime) {
     for (count, len) in REFUSED {
-        let mut slots = [1, 2, 3];
-        let slice = &mut slots[..count.min(3)];
-        assert!(rt;
-            SliceVec::try_from_slice_len(slice, len).is_none(),
-            "{len} of {count}"
-        );
-        assert!(rt; slots == [1, 2, 3], "{len} of {count}");
+        assert!(rt; is_refused(count, len), "{len} of {count}");
     }
 }
 
 #[test]
-fn over_no_slots(rt: HostRuntime) {
-    let mut vec: SliceVec<'_, i32> = SliceVec::default();
-    assert!(rt; looks(&vec, &[], &[]));
-    assert!(rt; vec.pop() == None);
-    vec.truncate(0);
-    vec.clear();
-    vec.set_len(0);
-    assert!(rt; looks(&vec, &[], &[]));
+fn over_no_slots(rt: HostRuntime) -> Result<(), Fail> {
+    let mut v: SliceVec<'_, i32> = SliceVec::default();
+    let mut wrong = 0;
+    wrong = first(wrong, 1, holds(&v, &[], &[]));
+    wrong = first(wrong, 2, pops(&mut v, None, &[], &[]));
+    wrong = first(wrong, 3, truncates(&mut v, 0, &[], &[]));
+    wrong = first(wrong, 4, clears(&mut v, &[]));
+    wrong = first(wrong, 5, sets_len(&mut v, 0, &[], &[]));
+    ended(wrong)
 }
 
 #[test]
-fn over_no_slots_filled_and_parted(rt: HostRuntime) {
-    let mut vec: SliceVec<'_, i32> = SliceVec::default();
-    assert!(rt; vec.extend_from_slice(&[]).is_ok());
-    assert!(rt; vec.resize(0, 7).is_ok());
-    vec.retain(|_| true);
-    assert!(rt; vec.drain(..).next() == None);
-    assert!(rt; vec.split_off(0).is_full());
-    assert!(rt; vec.extend(1..2).is_err());
+fn over_no_slots_filled_and_parted(rt: HostRuntime) -> Result<(), Fail> {
+    let mut v: SliceVec<'_, i32> = SliceVec::default();
+    let mut wrong = 0;
+    wrong = first(wrong, 1, v.extend_from_slice(&[]).is_ok());
+    wrong = first(wrong, 2, v.resize(0, 7).is_ok());
+    v.retain(|_| true);
+    wrong = first(wrong, 3, v.drain(..).next() == None);
+    wrong = first(wrong, 4, v.split_off(0).is_full());
+    wrong = first(wrong, 5, v.extend(1..2).is_err());
+    ended(wrong)
 }

@@ -3,7 +3,7 @@ use std::alloc::{AllocError, Global};
 use std::fmt;
 use std::test::Fail;
 use tinyvec_slice::SliceVec;
-use tinyvec_test_items::{assert_debugs, assert_is, assert_shows, debugs, shows};
+use tinyvec_test_items::{ended, first, first_granted, is_debugged, is_shown};
 
 #[derive(Clone, Copy)]
 enum Base {
@@ -28,22 +28,38 @@ impl<'a, 's> fmt::Display for InBase<'a, 's> {
     }
 }
 
-// Whether `{}` writes so, and `{:?}` too.
-fn is_shown(alloc: Global, v: &SliceVec<'_, i32>, text: &str) -> Result<bool, AllocError> {
-    Ok(shows(alloc, v, text)?.is_some() & debugs(alloc, v, text)?.is_some())
+// Whether `{}` and `{:?}` write a list of numbers so.
+fn reads(alloc: Global, v: &SliceVec<'_, i32>, text: &str) -> Result<bool, AllocError> {
+    match is_shown(alloc, v, text) {
+        Ok(is_right) => is_debugged(alloc, v, text).map(|is_same| is_right & is_same),
+        Err(error) => Err(error),
+    }
+}
+
+// The same behind one more item.
+fn pushes(
+    alloc: Global,
+    v: &mut SliceVec<'_, i32>,
+    item: i32,
+    text: &str,
+) -> Result<bool, AllocError> {
+    if v.is_full() {
+        return Ok(false);
+    }
+    v.push(item);
+    reads(alloc, v, text)
 }
 
 #[test]
 fn after_each_push(rt: HostRuntime) -> Result<(), Fail> {
     let mut slots = [1, 2, 3, 4];
     let mut v = SliceVec::from_slice_len(&mut slots, 0);
-    assert!(rt; is_shown(rt.alloc(), &v, "[]")?);
-    for (item, text) in [(10, "[10]"), (11, "[10, 11]"), (12, "[10, 11, 12]")] {
-        assert!(rt; !v.is_full());
-        v.push(item);
-        assert!(rt; is_shown(rt.alloc(), &v, text)?, "{text}");
-    }
-    Ok(())
+    let mut wrong = 0;
+    wrong = first_granted(wrong, 1, reads(rt.alloc(), &v, "[]"));
+    wrong = first_granted(wrong, 2, pushes(rt.alloc(), &mut v, 10, "[10]"));
+    wrong = first_granted(wrong, 3, pushes(rt.alloc(), &mut v, 11, "[10, 11]"));
+    wrong = first_granted(wrong, 4, pushes(rt.alloc(), &mut v, 12, "[10, 11, 12]"));
+    ended(wrong)
 }
 
 // `{}` writes a letter as it is, and `{:?}` in quotes.
@@ -51,43 +67,90 @@ fn after_each_push(rt: HostRuntime) -> Result<(), Fail> {
 fn each_item_by_its_own_text(rt: HostRuntime) -> Result<(), Fail> {
     let mut slots = ['a', 'b', 'c'];
     let v = SliceVec::from_slice_len(&mut slots, 2);
-    assert_shows!(rt; v, "[a, b]");
-    assert_debugs!(rt; v, "['a', 'b']");
-    Ok(())
+    let mut wrong = 0;
+    wrong = first_granted(wrong, 1, is_shown(rt.alloc(), &v, "[a, b]"));
+    wrong = first_granted(wrong, 2, is_debugged(rt.alloc(), &v, "['a', 'b']"));
+    ended(wrong)
 }
 
-// A base, the slots and the length of a list, and its text.
-const IN_BASES: [(Base, [u8; 3], usize, &str); 8] = [
-    (Base::Binary, [2, 5, 9], 2, "[10, 101]"),
-    (Base::Octal, [8, 9, 9], 2, "[10, 11]"),
-    (Base::LowerHex, [10, 255, 9], 2, "[a, ff]"),
-    (Base::UpperHex, [10, 255, 9], 2, "[A, FF]"),
-    (Base::Binary, [10, 255, 9], 0, "[]"),
-    (Base::Octal, [10, 255, 9], 0, "[]"),
-    (Base::LowerHex, [10, 255, 9], 0, "[]"),
-    (Base::UpperHex, [10, 255, 9], 0, "[]"),
-];
+// Whether the list of so many of these numbers is written so in a base.
+fn is_based(
+    alloc: Global,
+    base: Base,
+    (numbers, len): ([u8; 3], usize),
+    text: &str,
+) -> Result<bool, AllocError> {
+    let mut slots = numbers;
+    let v = SliceVec::from_slice_at_most(&mut slots, len);
+    is_shown(alloc, &InBase(base, &v), text)
+}
 
 #[test]
 fn in_each_base(rt: HostRuntime) -> Result<(), Fail> {
-    for (base, slots, len, text) in IN_BASES {
-        let mut slots = slots;
-        let v = SliceVec::from_slice_at_most(&mut slots, len);
-        assert_shows!(rt; InBase(base, &v), text);
+    let alloc = rt.alloc();
+    let numbers = [10, 255, 9];
+    let mut wrong = 0;
+    wrong = first_granted(
+        wrong,
+        1,
+        is_based(alloc, Base::Binary, ([2, 5, 9], 2), "[10, 101]"),
+    );
+    wrong = first_granted(
+        wrong,
+        2,
+        is_based(alloc, Base::Octal, ([8, 9, 9], 2), "[10, 11]"),
+    );
+    wrong = first_granted(
+        wrong,
+        3,
+        is_based(alloc, Base::LowerHex, (numbers, 2), "[a, ff]"),
+    );
+    wrong = first_granted(
+        wrong,
+        4,
+        is_based(alloc, Base::UpperHex, (numbers, 2), "[A, FF]"),
+    );
+    wrong = first_granted(wrong, 5, is_based(alloc, Base::Binary, (numbers, 0), "[]"));
+    wrong = first_granted(wrong, 6, is_based(alloc, Base::Octal, (numbers, 0), "[]"));
+    wrong = first_granted(
+        wrong,
+        7,
+        is_based(alloc, Base::LowerHex, (numbers, 0), "[]"),
+    );
+    wrong = first_granted(
+        wrong,
+        8,
+        is_based(alloc, Base::UpperHex, (numbers, 0), "[]"),
+    );
+    ended(wrong)
+}
+
+// The first step that went wrong as the items 2, 3 and 4 are taken, or 0.
+fn taken(alloc: Global, v: &mut SliceVec<'_, i32>) -> u32 {
+    if v.len() < 4 {
+        return 1;
     }
-    Ok(())
+    let mut wrong = 0;
+    let mut items = v.drain(1..4);
+    wrong = first_granted(
+        wrong,
+        1,
+        is_debugged(alloc, &items, "SliceVecDrain([2, 3, 4])"),
+    );
+    wrong = first(wrong, 2, items.next() == Some(2));
+    wrong = first_granted(
+        wrong,
+        3,
+        is_debugged(alloc, &items, "SliceVecDrain([3, 4])"),
+    );
+    wrong = first(wrong, 4, items.next() == Some(3));
+    wrong = first(wrong, 5, items.next() == Some(4));
+    first_granted(wrong, 6, is_debugged(alloc, &items, "SliceVecDrain([])"))
 }
 
 #[test]
 fn what_is_left_of_a_drain(rt: HostRuntime) -> Result<(), Fail> {
     let mut slots = [1, 2, 3, 4, 5, 9];
     let mut v = SliceVec::from_slice_len(&mut slots, 5);
-    let mut items = v.drain(1..4);
-    assert_debugs!(rt; items, "SliceVecDrain([2, 3, 4])");
-    assert_is!(rt; items.next(), Some(2));
-    assert_debugs!(rt; items, "SliceVecDrain([3, 4])");
-    assert_is!(rt; items.next(), Some(3));
-    assert_is!(rt; items.next(), Some(4));
-    assert_debugs!(rt; items, "SliceVecDrain([])");
-    Ok(())
+    ended(taken(rt.alloc(), &mut v))
 }

@@ -2,12 +2,20 @@
 use std::alloc::{AllocError, Global};
 use std::cmp::Ordering;
 use std::hash::{DefaultHasher, Hash, Hasher};
-use std::process::Abort;
 use std::test::Fail;
+use tinyvec_test_items::{ended, first_granted};
 use tinyvec_text::InlineText;
 
 // Where two texts lie: whether the first is inline, and whether the second is.
 const PLACES: [(bool, bool); 4] = [(true, true), (true, false), (false, true), (false, false)];
+
+// A step, two texts, and how the first stands to the second.
+const ORDERED: [(u32, &str, &str, Ordering); 4] = [
+    (1, "hé", "hé", Ordering::Equal),
+    (2, "", "a", Ordering::Less),
+    (3, "ab", "a", Ordering::Greater),
+    (4, "zz", "é", Ordering::Less),
+];
 
 // This text, inline or on the heap.
 fn text(alloc: Global, s: &str, inline: bool) -> Result<InlineText<4>, AllocError> {
@@ -37,44 +45,44 @@ fn hash_of<T: Hash>(x: &T) -> u64 {
     state.finish()
 }
 
-#[test]
-fn places_do_not_count(rt: HostRuntime) -> Result<(), Fail> {
-    for (first, second) in PLACES {
-        let t = text(rt.alloc(), "hé", first)?;
-        let u = text(rt.alloc(), "hé", second)?;
-        assert!(rt; t.is_inline() == first);
-        assert!(rt; u.is_inline() == second);
-        assert!(rt; stand_so(&t, &u, Ordering::Equal));
-        assert!(rt; hash_of(&t) == hash_of(&u));
-    }
-    Ok(())
+// Whether two texts stand in this order where they lie, and have one hash where they are equal.
+fn compare(
+    alloc: Global,
+    (s, other): (&str, &str),
+    (first, second): (bool, bool),
+    order: Ordering,
+) -> Result<bool, AllocError> {
+    let t = text(alloc, s, first)?;
+    let u = text(alloc, other, second)?;
+    let places = (t.is_inline() == first) & (u.is_inline() == second);
+    let hashes = (order != Ordering::Equal) | (hash_of(&t) == hash_of(&u));
+    Ok(places & hashes & stand_so(&t, &u, order))
 }
 
-// Two texts, and how the first stands to the second.
-const ORDERED: [(&str, &str, Ordering); 3] = [
-    ("", "a", Ordering::Less),
-    ("ab", "a", Ordering::Greater),
-    ("zz", "é", Ordering::Less),
-];
-
 #[test]
-fn in_the_order_of_their_bytes(rt: HostRuntime) -> Result<(), Fail> {
-    for (first, second) in PLACES {
-        for (s, other, order) in ORDERED {
-            let t = text(rt.alloc(), s, first)?;
-            let u = text(rt.alloc(), other, second)?;
-            assert!(rt; stand_so(&t, &u, order), "{s} and {other}");
+fn in_the_order_of_their_bytes_in_each_place(rt: HostRuntime) -> Result<(), Fail> {
+    let mut wrong = 0;
+    for (step, s, other, order) in ORDERED {
+        for places in PLACES {
+            let is_right = compare(rt.alloc(), (s, other), places, order);
+            wrong = first_granted(wrong, step, is_right);
         }
     }
-    Ok(())
+    ended(wrong)
 }
 
-// A text feeds a hasher what a `str` feeds it.
+// Whether a text feeds a hasher what a `str` feeds it.
+fn hashes_as_a_str(alloc: Global, s: &str) -> Result<bool, AllocError> {
+    let t = text(alloc, s, true)?;
+    Ok(hash_of(&t) == hash_of(&s))
+}
+
 #[test]
 fn hashed_as_a_str(rt: HostRuntime) -> Result<(), Fail> {
-    for s in ["", "a", "hé", "\u{1F600}"] {
-        let t = text(rt.alloc(), s, true)?;
-        assert!(rt; hash_of(&t) == hash_of(&s), "{s}");
-    }
-    Ok(())
+    let mut wrong = 0;
+    wrong = first_granted(wrong, 1, hashes_as_a_str(rt.alloc(), ""));
+    wrong = first_granted(wrong, 2, hashes_as_a_str(rt.alloc(), "a"));
+    wrong = first_granted(wrong, 3, hashes_as_a_str(rt.alloc(), "hé"));
+    wrong = first_granted(wrong, 4, hashes_as_a_str(rt.alloc(), "\u{1F600}"));
+    ended(wrong)
 }

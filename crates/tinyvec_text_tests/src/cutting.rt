@@ -1,89 +1,85 @@
 //! Where a text may be cut, and cutting it there.
-use crate::looks::{is_cut_at, lies};
-use std::process::Abort;
+use crate::steps::{begins, clears, cuts, is_cut_at, joins, pops};
 use std::test::Fail;
+use tinyvec_test_items::{ended, first, first_granted};
 use tinyvec_text::InlineText;
 
 #[test]
 fn boundaries_of_two_byte_characters(rt: HostRuntime) -> Result<(), Fail> {
-    let short: InlineText<4> = InlineText::from_str(rt.alloc(), "héy")?;
-    assert!(rt; is_cut_at(&short, [true, true, false, true, true, false]));
-    let long: InlineText<4> = InlineText::from_str(rt.alloc(), "héyé")?;
-    assert!(rt; is_cut_at(&long, [true, true, false, true, true, false]));
-    assert!(rt; long.is_char_boundary(6));
-    assert!(rt; !long.is_char_boundary(7));
-    assert!(rt; !long.is_char_boundary(usize::MAX));
-    Ok(())
+    let mut t: InlineText<4> = InlineText::new(rt.alloc());
+    let cut_at = [true, true, false, true, true, false];
+    let mut wrong = 0;
+    wrong = first_granted(wrong, 1, begins(&mut t, rt.alloc(), "héy", true));
+    wrong = first(wrong, 2, is_cut_at(&t, cut_at));
+    wrong = first_granted(wrong, 3, begins(&mut t, rt.alloc(), "héyé", false));
+    wrong = first(wrong, 4, is_cut_at(&t, cut_at));
+    wrong = first(wrong, 5, t.is_char_boundary(6));
+    wrong = first(wrong, 6, !t.is_char_boundary(7));
+    wrong = first(wrong, 7, !t.is_char_boundary(usize::MAX));
+    ended(wrong)
 }
 
 #[test]
 fn cut_in_its_place(rt: HostRuntime) -> Result<(), Fail> {
-    let mut short: InlineText<4> = InlineText::from_str(rt.alloc(), "héy")?;
-    assert!(rt; short.is_char_boundary(3));
-    short.truncate(3);
-    assert!(rt; lies(&short, "hé", true));
-    let mut long: InlineText<4> = InlineText::from_str(rt.alloc(), "héy!")?;
-    assert!(rt; !long.is_char_boundary(2));
-    assert!(rt; long.is_char_boundary(1));
-    long.truncate(1);
-    assert!(rt; lies(&long, "h", false));
-    Ok(())
+    let mut t: InlineText<4> = InlineText::new(rt.alloc());
+    let mut wrong = 0;
+    wrong = first_granted(wrong, 1, begins(&mut t, rt.alloc(), "héy", true));
+    wrong = first(wrong, 2, cuts(&mut t, 3, "hé", true));
+    wrong = first_granted(wrong, 3, begins(&mut t, rt.alloc(), "héy!", false));
+    wrong = first(wrong, 4, !t.is_char_boundary(2));
+    wrong = first(wrong, 5, cuts(&mut t, 1, "h", false));
+    ended(wrong)
 }
 
 #[test]
 fn cut_at_its_ends(rt: HostRuntime) -> Result<(), Fail> {
-    let mut t: InlineText<4> = InlineText::from_str(rt.alloc(), "a b c")?;
-    assert!(rt; !t.is_char_boundary(9));
-    assert!(rt; t.is_char_boundary(5));
-    t.truncate(5);
-    assert!(rt; lies(&t, "a b c", false));
-    assert!(rt; t.is_char_boundary(0));
-    t.truncate(0);
-    assert!(rt; lies(&t, "", false));
-    assert!(rt; t.is_char_boundary(0));
-    t.truncate(0);
-    assert!(rt; lies(&t, "", false));
-    Ok(())
+    let mut t: InlineText<4> = InlineText::new(rt.alloc());
+    let mut wrong = 0;
+    wrong = first_granted(wrong, 1, begins(&mut t, rt.alloc(), "a b c", false));
+    wrong = first(wrong, 2, !t.is_char_boundary(9));
+    wrong = first(wrong, 3, cuts(&mut t, 5, "a b c", false));
+    wrong = first(wrong, 4, cuts(&mut t, 0, "", false));
+    wrong = first(wrong, 5, cuts(&mut t, 0, "", false));
+    ended(wrong)
 }
 
 #[test]
 fn emptied_in_its_place(rt: HostRuntime) -> Result<(), Fail> {
-    let mut short: InlineText<4> = InlineText::from_str(rt.alloc(), "hé")?;
-    short.clear();
-    assert!(rt; lies(&short, "", true));
-    let mut long: InlineText<4> = InlineText::from_str(rt.alloc(), "hello")?;
-    let room = long.capacity();
-    long.clear();
-    assert!(rt; lies(&long, "", false));
-    assert!(rt; long.capacity() == room);
-    Ok(())
+    let mut t: InlineText<4> = InlineText::new(rt.alloc());
+    let mut wrong = 0;
+    wrong = first_granted(wrong, 1, begins(&mut t, rt.alloc(), "hé", true));
+    wrong = first(wrong, 2, clears(&mut t, true));
+    wrong = first_granted(wrong, 3, begins(&mut t, rt.alloc(), "hello", false));
+    wrong = first(wrong, 4, clears(&mut t, false));
+    ended(wrong)
 }
 
 #[test]
 fn the_last_characters_taken_off(rt: HostRuntime) -> Result<(), Fail> {
-    let mut t: InlineText<4> = InlineText::from_str(rt.alloc(), "aé\u{20AC}\u{1F600}")?;
-    assert!(rt; t.pop() == Some('\u{1F600}'));
-    assert!(rt; lies(&t, "aé\u{20AC}", false));
-    assert!(rt; t.pop() == Some('\u{20AC}'));
-    assert!(rt; lies(&t, "aé", false));
-    assert!(rt; t.pop() == Some('é'));
-    assert!(rt; lies(&t, "a", false));
-    assert!(rt; t.pop() == Some('a'));
-    assert!(rt; lies(&t, "", false));
-    assert!(rt; t.pop() == None);
-    assert!(rt; lies(&t, "", false));
-    Ok(())
+    let mut t: InlineText<4> = InlineText::new(rt.alloc());
+    let text = "aé\u{20AC}\u{1F600}";
+    let mut wrong = 0;
+    wrong = first_granted(wrong, 1, begins(&mut t, rt.alloc(), text, false));
+    wrong = first(
+        wrong,
+        2,
+        pops(&mut t, Some('\u{1F600}'), "aé\u{20AC}", false),
+    );
+    wrong = first(wrong, 3, pops(&mut t, Some('\u{20AC}'), "aé", false));
+    wrong = first(wrong, 4, pops(&mut t, Some('é'), "a", false));
+    wrong = first(wrong, 5, pops(&mut t, Some('a'), "", false));
+    wrong = first(wrong, 6, pops(&mut t, None, "", false));
+    ended(wrong)
 }
 
 #[test]
 fn the_last_characters_taken_off_in_the_array(rt: HostRuntime) -> Result<(), Fail> {
-    let mut t: InlineText<4> = InlineText::from_str(rt.alloc(), "é\0")?;
-    assert!(rt; t.pop() == Some('\0'));
-    assert!(rt; lies(&t, "é", true));
-    assert!(rt; t.pop() == Some('é'));
-    assert!(rt; lies(&t, "", true));
-    assert!(rt; t.pop() == None);
-    t.push_str("back")?;
-    assert!(rt; lies(&t, "back", true));
-    Ok(())
+    let mut t: InlineText<4> = InlineText::new(rt.alloc());
+    let mut wrong = 0;
+    wrong = first_granted(wrong, 1, begins(&mut t, rt.alloc(), "é\0", true));
+    wrong = first(wrong, 2, pops(&mut t, Some('\0'), "é", true));
+    wrong = first(wrong, 3, pops(&mut t, Some('é'), "", true));
+    wrong = first(wrong, 4, pops(&mut t, None, "", true));
+    wrong = first_granted(wrong, 5, joins(&mut t, "back", "back", true));
+    ended(wrong)
 }

@@ -1,128 +1,140 @@
 //! Texts joined, and room asked for.
-use crate::looks::{is_cut_at, lies};
-use std::process::Abort;
+use crate::steps::{begins, is_cut_at, joins, pushes, reserves};
 use std::test::Fail;
+use tinyvec_test_items::{ended, first, first_granted};
 use tinyvec_text::InlineText;
 
 #[test]
 fn joined_in_the_array_and_on_the_heap(rt: HostRuntime) -> Result<(), Fail> {
     let mut t: InlineText<4> = InlineText::new(rt.alloc());
-    t.push_str("héy")?;
-    assert!(rt; lies(&t, "héy", true));
-    assert!(rt; t.as_bytes() == [0x68, 0xC3, 0xA9, 0x79].as_slice());
-    t.push_str("!")?;
-    assert!(rt; lies(&t, "héy!", false));
-    t.push_str("?")?;
-    assert!(rt; lies(&t, "héy!?", false));
-    Ok(())
+    let mut wrong = 0;
+    wrong = first_granted(wrong, 1, joins(&mut t, "héy", "héy", true));
+    wrong = first(
+        wrong,
+        2,
+        t.as_bytes() == [0x68, 0xC3, 0xA9, 0x79].as_slice(),
+    );
+    wrong = first_granted(wrong, 3, joins(&mut t, "!", "héy!", false));
+    wrong = first_granted(wrong, 4, joins(&mut t, "?", "héy!?", false));
+    ended(wrong)
 }
 
 #[test]
 fn blanks_are_characters(rt: HostRuntime) -> Result<(), Fail> {
     let mut t: InlineText<4> = InlineText::new(rt.alloc());
-    t.push_str("a b")?;
-    assert!(rt; lies(&t, "a b", true));
-    t.push_str(" c")?;
-    assert!(rt; lies(&t, "a b c", false));
-    Ok(())
+    let mut wrong = 0;
+    wrong = first_granted(wrong, 1, joins(&mut t, "a b", "a b", true));
+    wrong = first_granted(wrong, 2, joins(&mut t, " c", "a b c", false));
+    ended(wrong)
 }
 
 #[test]
 fn nothing_is_joined(rt: HostRuntime) -> Result<(), Fail> {
-    let mut full: InlineText<2> = InlineText::from_str(rt.alloc(), "ab")?;
-    full.push_str("")?;
-    assert!(rt; lies(&full, "ab", true));
+    let mut full: InlineText<2> = InlineText::new(rt.alloc());
     let mut none: InlineText<0> = InlineText::new(rt.alloc());
-    none.push_str("")?;
-    assert!(rt; lies(&none, "", true));
-    Ok(())
+    let mut wrong = 0;
+    wrong = first_granted(wrong, 1, begins(&mut full, rt.alloc(), "ab", true));
+    wrong = first_granted(wrong, 2, joins(&mut full, "", "ab", true));
+    wrong = first_granted(wrong, 3, joins(&mut none, "", "", true));
+    ended(wrong)
 }
 
 #[test]
 fn too_much_at_once(rt: HostRuntime) -> Result<(), Fail> {
     let mut t: InlineText<4> = InlineText::new(rt.alloc());
-    t.push_str("hello")?;
-    assert!(rt; lies(&t, "hello", false));
     let mut none: InlineText<0> = InlineText::new(rt.alloc());
-    none.push('a')?;
-    assert!(rt; lies(&none, "a", false));
-    Ok(())
+    let mut wrong = 0;
+    wrong = first_granted(wrong, 1, joins(&mut t, "hello", "hello", false));
+    wrong = first_granted(wrong, 2, pushes(&mut none, 'a', "a", false));
+    ended(wrong)
 }
 
 #[test]
 fn a_character_of_four_bytes(rt: HostRuntime) -> Result<(), Fail> {
     let mut t: InlineText<4> = InlineText::new(rt.alloc());
-    t.push('\u{1F600}')?;
-    assert!(rt; lies(&t, "\u{1F600}", true));
-    assert!(rt; t.len() == 4);
-    assert!(rt; t.as_bytes() == [0xF0, 0x9F, 0x98, 0x80].as_slice());
-    assert!(rt; is_cut_at(&t, [true, false, false, false, true, false]));
-    t.push('a')?;
-    assert!(rt; lies(&t, "\u{1F600}a", false));
-    assert!(rt; is_cut_at(&t, [true, false, false, false, true, true]));
-    Ok(())
+    let bytes = [0xF0, 0x9F, 0x98, 0x80];
+    let mut wrong = 0;
+    wrong = first_granted(wrong, 1, pushes(&mut t, '\u{1F600}', "\u{1F600}", true));
+    wrong = first(wrong, 2, t.len() == 4);
+    wrong = first(wrong, 3, t.as_bytes() == bytes.as_slice());
+    wrong = first(
+        wrong,
+        4,
+        is_cut_at(&t, [true, false, false, false, true, false]),
+    );
+    wrong = first_granted(wrong, 5, pushes(&mut t, 'a', "\u{1F600}a", false));
+    wrong = first(
+        wrong,
+        6,
+        is_cut_at(&t, [true, false, false, false, true, true]),
+    );
+    ended(wrong)
+}
+
+// Whether two characters, in an empty text, have these bytes in the array.
+fn spells(t: &mut InlineText<20>, chars: [char; 2], bytes: &[u8]) -> bool {
+    t.clear();
+    let are_joined = t.push(chars[0]).is_ok() & t.push(chars[1]).is_ok();
+    are_joined & (t.as_bytes() == bytes) & t.is_inline()
 }
 
 // The least and the greatest character of each width, in their UTF-8 bytes.
 #[test]
 fn characters_of_each_width(rt: HostRuntime) -> Result<(), Fail> {
     let mut t: InlineText<20> = InlineText::new(rt.alloc());
-    t.push('\0')?;
-    t.push('\u{7F}')?;
-    assert!(rt; t.as_bytes() == [0x00, 0x7F].as_slice());
-    t.clear();
-    t.push('\u{80}')?;
-    t.push('\u{7FF}')?;
-    assert!(rt; t.as_bytes() == [0xC2, 0x80, 0xDF, 0xBF].as_slice());
-    t.clear();
-    t.push('\u{800}')?;
-    t.push('\u{FFFF}')?;
-    assert!(rt; t.as_bytes() == [0xE0, 0xA0, 0x80, 0xEF, 0xBF, 0xBF].as_slice());
-    t.clear();
-    t.push('\u{10000}')?;
-    t.push('\u{10FFFF}')?;
-    assert!(rt; t.as_bytes() == [0xF0, 0x90, 0x80, 0x80, 0xF4, 0x8F, 0xBF, 0xBF].as_slice());
-    assert!(rt; t.is_inline());
-    Ok(())
+    let of_three = [0xE0, 0xA0, 0x80, 0xEF, 0xBF, 0xBF];
+    let of_four = [0xF0, 0x90, 0x80, 0x80, 0xF4, 0x8F, 0xBF, 0xBF];
+    let mut wrong = 0;
+    wrong = first(wrong, 1, spells(&mut t, ['\0', '\u{7F}'], &[0x00, 0x7F]));
+    wrong = first(
+        wrong,
+        2,
+        spells(&mut t, ['\u{80}', '\u{7FF}'], &[0xC2, 0x80, 0xDF, 0xBF]),
+    );
+    wrong = first(wrong, 3, spells(&mut t, ['\u{800}', '\u{FFFF}'], &of_three));
+    wrong = first(
+        wrong,
+        4,
+        spells(&mut t, ['\u{10000}', '\u{10FFFF}'], &of_four),
+    );
+    ended(wrong)
 }
 
 #[test]
 fn many_characters(rt: HostRuntime) -> Result<(), Fail> {
     let mut t: InlineText<8> = InlineText::new(rt.alloc());
+    let mut wrong = 0;
     for _turn in 0..100 {
-        t.push('é')?;
+        wrong = first_granted(wrong, 1, t.push('é').and(Ok(true)));
     }
-    assert!(rt; t.len() == 200);
-    assert!(rt; !t.is_inline());
-    assert!(rt; t.as_str().chars().all(|c| c == 'é'));
-    Ok(())
+    wrong = first(wrong, 2, t.len() == 200);
+    wrong = first(wrong, 3, !t.is_inline());
+    wrong = first(wrong, 4, t.as_str().chars().all(|c| c == 'é'));
+    ended(wrong)
 }
 
 #[test]
 fn room_asked_for(rt: HostRuntime) -> Result<(), Fail> {
-    let mut t: InlineText<4> = InlineText::from_str(rt.alloc(), "ab")?;
-    t.reserve(2)?;
-    assert!(rt; lies(&t, "ab", true));
-    assert!(rt; t.capacity() == 4);
-    t.reserve(3)?;
-    assert!(rt; lies(&t, "ab", false));
+    let mut t: InlineText<4> = InlineText::new(rt.alloc());
+    let mut wrong = 0;
+    wrong = first_granted(wrong, 1, begins(&mut t, rt.alloc(), "ab", true));
+    wrong = first_granted(wrong, 2, reserves(&mut t, 2, "ab", true));
+    wrong = first(wrong, 3, t.capacity() == 4);
+    wrong = first_granted(wrong, 4, reserves(&mut t, 3, "ab", false));
     let room = t.capacity();
-    assert!(rt; room >= 5);
-    t.push_str("cde")?;
-    assert!(rt; lies(&t, "abcde", false));
-    assert!(rt; t.capacity() == room);
-    Ok(())
+    wrong = first_granted(wrong, 5, joins(&mut t, "cde", "abcde", false));
+    wrong = first(wrong, 6, t.capacity() == room);
+    ended(wrong)
 }
 
 #[test]
 fn room_asked_for_on_the_heap(rt: HostRuntime) -> Result<(), Fail> {
-    let mut t: InlineText<4> = InlineText::from_str(rt.alloc(), "héllo")?;
-    t.reserve(100)?;
-    assert!(rt; lies(&t, "héllo", false));
+    let mut t: InlineText<4> = InlineText::new(rt.alloc());
+    let mut wrong = 0;
+    wrong = first_granted(wrong, 1, begins(&mut t, rt.alloc(), "héllo", false));
+    wrong = first_granted(wrong, 2, reserves(&mut t, 100, "héllo", false));
     let room = t.capacity();
-    assert!(rt; room >= 106);
-    t.reserve(100)?;
-    assert!(rt; lies(&t, "héllo", false));
-    assert!(rt; t.capacity() == room);
-    Ok(())
+    wrong = first_granted(wrong, 3, reserves(&mut t, 100, "héllo", false));
+    wrong = first(wrong, 4, t.capacity() == room);
+    ended(wrong)
 }

@@ -8,12 +8,12 @@ mod cutting;
 #[cfg(test)]
 mod growing;
 #[cfg(test)]
-mod looks;
-#[cfg(test)]
 mod making;
 #[cfg(test)]
 mod printing;
 #[cfg(test)]
 mod refusals;
+#[cfg(test)]
+mod steps;
 #[cfg(test)]
 mod writing;

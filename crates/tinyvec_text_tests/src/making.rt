@@ -1,73 +1,79 @@
 //! Making a text, and giving its bytes away.
-use crate::looks::{is_cut_at, lies};
+use crate::steps::{begins, is_cut_at, lies};
 use std::convert::{AsSlice, AsStr};
-use std::process::Abort;
 use std::test::Fail;
+use tinyvec_test_items::{ended, first, first_granted};
 use tinyvec_text::InlineText;
 
 #[test]
 fn empty(rt: HostRuntime) -> Result<(), Fail> {
     let t: InlineText<4> = InlineText::new(rt.alloc());
-    assert!(rt; lies(&t, "", true));
-    assert!(rt; t.capacity() == 4);
-    assert!(rt; is_cut_at(&t, [true, false, false, false, false, false]));
-    assert!(rt; !t.is_char_boundary(usize::MAX));
-    Ok(())
+    let mut wrong = 0;
+    wrong = first(wrong, 1, lies(&t, "", true));
+    wrong = first(wrong, 2, t.capacity() == 4);
+    wrong = first(
+        wrong,
+        3,
+        is_cut_at(&t, [true, false, false, false, false, false]),
+    );
+    wrong = first(wrong, 4, !t.is_char_boundary(usize::MAX));
+    ended(wrong)
 }
 
 #[test]
 fn empty_from_a_text(rt: HostRuntime) -> Result<(), Fail> {
-    let t: InlineText<4> = InlineText::from_str(rt.alloc(), "")?;
-    assert!(rt; lies(&t, "", true));
-    let none: InlineText<0> = InlineText::from_str(rt.alloc(), "")?;
-    assert!(rt; lies(&none, "", true));
-    assert!(rt; none.capacity() == 0);
-    Ok(())
+    let mut t: InlineText<4> = InlineText::new(rt.alloc());
+    let mut none: InlineText<0> = InlineText::new(rt.alloc());
+    let mut wrong = 0;
+    wrong = first_granted(wrong, 1, begins(&mut t, rt.alloc(), "", true));
+    wrong = first_granted(wrong, 2, begins(&mut none, rt.alloc(), "", true));
+    wrong = first(wrong, 3, none.capacity() == 0);
+    ended(wrong)
 }
 
+// Bytes count and not characters: `héll` has four characters, and five bytes.
 #[test]
-fn from_a_text_that_fits(rt: HostRuntime) -> Result<(), Fail> {
-    let t: InlineText<4> = InlineText::from_str(rt.alloc(), "hell")?;
-    assert!(rt; lies(&t, "hell", true));
-    assert!(rt; t.capacity() == 4);
-    Ok(())
+fn from_a_text(rt: HostRuntime) -> Result<(), Fail> {
+    let mut t: InlineText<4> = InlineText::new(rt.alloc());
+    let mut wrong = 0;
+    wrong = first_granted(wrong, 1, begins(&mut t, rt.alloc(), "hell", true));
+    wrong = first(wrong, 2, t.capacity() == 4);
+    wrong = first_granted(wrong, 3, begins(&mut t, rt.alloc(), "hello", false));
+    wrong = first(wrong, 4, t.capacity() >= 5);
+    wrong = first_granted(wrong, 5, begins(&mut t, rt.alloc(), "héll", false));
+    wrong = first(wrong, 6, t.len() == 5);
+    ended(wrong)
 }
 
-#[test]
-fn from_a_longer_text(rt: HostRuntime) -> Result<(), Fail> {
-    let t: InlineText<4> = InlineText::from_str(rt.alloc(), "hello")?;
-    assert!(rt; lies(&t, "hello", false));
-    assert!(rt; t.capacity() >= 5);
-    Ok(())
-}
-
-// Four characters, and five bytes.
-#[test]
-fn bytes_count_and_not_characters(rt: HostRuntime) -> Result<(), Fail> {
-    let t: InlineText<4> = InlineText::from_str(rt.alloc(), "héll")?;
-    assert!(rt; lies(&t, "héll", false));
-    assert!(rt; t.len() == 5);
-    Ok(())
+// Whether the text has these bytes, which stay in their place.
+fn gives<const N: usize>(t: InlineText<N>, bytes: &[u8], inline: bool) -> bool {
+    let given = t.into_bytes();
+    (given.is_inline() == inline) & (given.is_heap() != inline) & (given.as_slice() == bytes)
 }
 
 #[test]
 fn its_bytes_given_away(rt: HostRuntime) -> Result<(), Fail> {
-    let short: InlineText<4> = InlineText::from_str(rt.alloc(), "hé")?;
-    let bytes = short.into_bytes();
-    assert!(rt; bytes.is_inline());
-    assert!(rt; bytes.as_slice() == [0x68, 0xC3, 0xA9].as_slice());
-    let long: InlineText<4> = InlineText::from_str(rt.alloc(), "hello")?;
-    let moved = long.into_bytes();
-    assert!(rt; moved.is_heap());
-    assert!(rt; moved.as_slice() == b"hello".as_slice());
-    Ok(())
+    let mut short: InlineText<4> = InlineText::new(rt.alloc());
+    let mut long: InlineText<4> = InlineText::new(rt.alloc());
+    let mut wrong = 0;
+    wrong = first_granted(wrong, 1, begins(&mut short, rt.alloc(), "hé", true));
+    wrong = first(wrong, 2, gives(short, &[0x68, 0xC3, 0xA9], true));
+    wrong = first_granted(wrong, 3, begins(&mut long, rt.alloc(), "hello", false));
+    wrong = first(wrong, 4, gives(long, b"hello", false));
+    ended(wrong)
 }
 
 // Calls that take any text, or any slice, take this one.
 #[test]
 fn lent(rt: HostRuntime) -> Result<(), Fail> {
-    let t: InlineText<4> = InlineText::from_str(rt.alloc(), "hé")?;
-    assert!(rt; AsStr::as_str(&t) == "hé");
-    assert!(rt; AsSlice::as_slice(&t) == [0x68, 0xC3, 0xA9].as_slice());
-    Ok(())
+    let mut t: InlineText<4> = InlineText::new(rt.alloc());
+    let mut wrong = 0;
+    wrong = first_granted(wrong, 1, begins(&mut t, rt.alloc(), "hé", true));
+    wrong = first(wrong, 2, AsStr::as_str(&t) == "hé");
+    wrong = first(
+        wrong,
+        3,
+        AsSlice::as_slice(&t) == [0x68, 0xC3, 0xA9].as_slice(),
+    );
+    ended(wrong)
 }

@@ -1,108 +1,133 @@
 //! Each call that may ask for memory, granted or refused. `tests/refuse` has each allocation refused in turn.
-use crate::looks::lies;
-use std::alloc::AllocError;
+use crate::steps::{begins, joins, lies, pushes, reserves, writes};
 use std::fmt::Write;
-use std::process::Abort;
 use std::test::Fail;
+use tinyvec_test_items::{ended, first, first_granted};
 use tinyvec_text::InlineText;
 
-// Says that a refusal was met. The script asks this of each test here.
-fn refused(rt: &impl Print) -> Result<(), Fail> {
-    println!(rt; "refused")?;
-    Ok(())
+#[derive(Clone, Copy)]
+enum Call {
+    Begin(&'static str),
+    Push(char),
+    Join(&'static str),
+    Reserve(usize),
+    Write(&'static str),
+}
+
+impl Call {
+    fn is_granted(self, rt: &impl AllocGlobal, t: &mut InlineText<4>) -> bool {
+        match self {
+            Call::Begin(text) => begins(t, rt.alloc(), text, false).is_ok(),
+            Call::Push(more) => t.push(more).is_ok(),
+            Call::Join(more) => t.push_str(more).is_ok(),
+            Call::Reserve(more) => t.reserve(more).is_ok(),
+            Call::Write(more) => t.write_str(more).is_ok(),
+        }
+    }
+}
+
+// Makes a call, and again where it is refused, and says so, since the script asks this of each test here. Whether a refusal
+// leaves the text as it was, and the call makes the other text, on the heap.
+fn grants<R: AllocGlobal + Print>(
+    rt: &R,
+    t: &mut InlineText<4>,
+    call: Call,
+    (before, after): (&str, &str),
+) -> bool {
+    let (inline, room) = (t.is_inline(), t.capacity());
+    if call.is_granted(rt, t) {
+        return lies(t, after, false);
+    }
+    let is_kept = lies(t, before, inline) & (t.capacity() == room);
+    let is_told = println!(rt; "refused").is_ok();
+    is_kept & is_told & call.is_granted(rt, t) & lies(t, after, false)
 }
 
 #[test]
 fn from_str(rt: HostRuntime) -> Result<(), Fail> {
-    assert!(rt; InlineText::<4>::from_str(rt.alloc(), "hell").is_ok());
-    match InlineText::<4>::from_str(rt.alloc(), "hello") {
-        Ok(t) => assert!(rt; lies(&t, "hello", false)),
-        Err(AllocError) => {
-            refused(&rt)?;
-            assert!(rt; InlineText::<4>::from_str(rt.alloc(), "hello").is_ok());
-        }
-    }
-    Ok(())
+    let mut t: InlineText<4> = InlineText::new(rt.alloc());
+    let texts = ("hell", "hello");
+    let mut wrong = 0;
+    wrong = first(
+        wrong,
+        1,
+        begins(&mut t, rt.alloc(), "hell", true) == Ok(true),
+    );
+    wrong = first(wrong, 2, grants(&rt, &mut t, Call::Begin("hello"), texts));
+    ended(wrong)
 }
 
 #[test]
 fn push(rt: HostRuntime) -> Result<(), Fail> {
     let mut t: InlineText<4> = InlineText::new(rt.alloc());
-    assert!(rt; t.push('\u{1F600}').is_ok());
-    if let Err(AllocError) = t.push('a') {
-        assert!(rt; lies(&t, "\u{1F600}", true));
-        refused(&rt)?;
-        assert!(rt; t.push('a').is_ok());
-    }
-    assert!(rt; lies(&t, "\u{1F600}a", false));
-    Ok(())
+    let texts = ("\u{1F600}", "\u{1F600}a");
+    let mut wrong = 0;
+    wrong = first(
+        wrong,
+        1,
+        pushes(&mut t, '\u{1F600}', "\u{1F600}", true) == Ok(true),
+    );
+    wrong = first(wrong, 2, grants(&rt, &mut t, Call::Push('a'), texts));
+    ended(wrong)
 }
 
 #[test]
 fn push_str(rt: HostRuntime) -> Result<(), Fail> {
     let mut t: InlineText<4> = InlineText::new(rt.alloc());
-    assert!(rt; t.push_str("héy").is_ok());
-    if let Err(AllocError) = t.push_str("!") {
-        assert!(rt; lies(&t, "héy", true));
-        refused(&rt)?;
-        assert!(rt; t.push_str("!").is_ok());
-    }
-    assert!(rt; lies(&t, "héy!", false));
-    Ok(())
+    let mut wrong = 0;
+    wrong = first(wrong, 1, joins(&mut t, "héy", "héy", true) == Ok(true));
+    wrong = first(
+        wrong,
+        2,
+        grants(&rt, &mut t, Call::Join("!"), ("héy", "héy!")),
+    );
+    ended(wrong)
 }
 
 #[test]
 fn push_str_on_the_heap(rt: HostRuntime) -> Result<(), Fail> {
-    let mut t: InlineText<4> = InlineText::from_str(rt.alloc(), "hello")?;
-    let room = t.capacity();
-    if let Err(AllocError) = t.push_str(", world, and all that is in it") {
-        assert!(rt; lies(&t, "hello", false));
-        assert!(rt; t.capacity() == room);
-        refused(&rt)?;
-        assert!(rt; t.push_str(", world, and all that is in it").is_ok());
-    }
-    assert!(rt; lies(&t, "hello, world, and all that is in it", false));
-    Ok(())
+    let mut t: InlineText<4> = InlineText::new(rt.alloc());
+    let call = Call::Join(", world, and all that is in it");
+    let texts = ("hello", "hello, world, and all that is in it");
+    let mut wrong = 0;
+    wrong = first_granted(wrong, 1, begins(&mut t, rt.alloc(), "hello", false));
+    wrong = first(wrong, 2, grants(&rt, &mut t, call, texts));
+    ended(wrong)
 }
 
 #[test]
 fn reserve(rt: HostRuntime) -> Result<(), Fail> {
-    let mut t: InlineText<4> = InlineText::from_str(rt.alloc(), "hé")?;
-    assert!(rt; t.reserve(1).is_ok());
-    if let Err(AllocError) = t.reserve(2) {
-        assert!(rt; lies(&t, "hé", true));
-        refused(&rt)?;
-        assert!(rt; t.reserve(2).is_ok());
-    }
-    assert!(rt; lies(&t, "hé", false));
-    Ok(())
+    let mut t: InlineText<4> = InlineText::new(rt.alloc());
+    let mut wrong = 0;
+    wrong = first_granted(wrong, 1, begins(&mut t, rt.alloc(), "hé", true));
+    wrong = first(wrong, 2, reserves(&mut t, 1, "hé", true) == Ok(true));
+    wrong = first(
+        wrong,
+        3,
+        grants(&rt, &mut t, Call::Reserve(2), ("hé", "hé")),
+    );
+    ended(wrong)
 }
 
 #[test]
 fn reserve_on_the_heap(rt: HostRuntime) -> Result<(), Fail> {
-    let mut t: InlineText<4> = InlineText::from_str(rt.alloc(), "hello")?;
-    let room = t.capacity();
-    assert!(rt; t.reserve(0).is_ok());
-    if let Err(AllocError) = t.reserve(100) {
-        assert!(rt; lies(&t, "hello", false));
-        assert!(rt; t.capacity() == room);
-        refused(&rt)?;
-        assert!(rt; t.reserve(100).is_ok());
-    }
-    assert!(rt; lies(&t, "hello", false));
-    assert!(rt; t.capacity() >= 105);
-    Ok(())
+    let mut t: InlineText<4> = InlineText::new(rt.alloc());
+    let texts = ("hello", "hello");
+    let mut wrong = 0;
+    wrong = first_granted(wrong, 1, begins(&mut t, rt.alloc(), "hello", false));
+    wrong = first(wrong, 2, reserves(&mut t, 0, "hello", false) == Ok(true));
+    wrong = first(wrong, 3, grants(&rt, &mut t, Call::Reserve(100), texts));
+    wrong = first(wrong, 4, t.capacity() >= 105);
+    ended(wrong)
 }
 
 #[test]
 fn write_str(rt: HostRuntime) -> Result<(), Fail> {
-    let mut t: InlineText<4> = InlineText::from_str(rt.alloc(), "hé")?;
-    assert!(rt; t.write_str("y").is_ok());
-    if t.write_str("!").is_err() {
-        assert!(rt; lies(&t, "héy", true));
-        refused(&rt)?;
-        assert!(rt; t.write_str("!").is_ok());
-    }
-    assert!(rt; lies(&t, "héy!", false));
-    Ok(())
+    let mut t: InlineText<4> = InlineText::new(rt.alloc());
+    let call = Call::Write("!");
+    let mut wrong = 0;
+    wrong = first_granted(wrong, 1, begins(&mut t, rt.alloc(), "hé", true));
+    wrong = first(wrong, 2, writes(&mut t, "y", "héy", true) == Ok(true));
+    wrong = first(wrong, 3, grants(&rt, &mut t, call, ("héy", "héy!")));
+    ended(wrong)
 }

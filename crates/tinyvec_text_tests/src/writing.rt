@@ -1,18 +1,17 @@
 //! Text written behind a text.
-use crate::looks::lies;
+use crate::steps::{makes, writes};
 use std::fmt::Write;
-use std::process::Abort;
 use std::test::Fail;
+use tinyvec_test_items::{ended, first, first_granted};
 use tinyvec_text::InlineText;
 
 #[test]
 fn written(rt: HostRuntime) -> Result<(), Fail> {
     let mut t: InlineText<4> = InlineText::new(rt.alloc());
-    assert!(rt; t.write_str("hé").is_ok());
-    assert!(rt; lies(&t, "hé", true));
-    assert!(rt; t.write_str("y!").is_ok(), "memory was granted");
-    assert!(rt; lies(&t, "héy!", false));
-    Ok(())
+    let mut wrong = 0;
+    wrong = first(wrong, 1, writes(&mut t, "hé", "hé", true) == Ok(true));
+    wrong = first_granted(wrong, 2, writes(&mut t, "y!", "héy!", false));
+    ended(wrong)
 }
 
 #[test]
@@ -20,9 +19,10 @@ fn formatted(rt: HostRuntime) -> Result<(), Fail> {
     let mut t: InlineText<6> = InlineText::new(rt.alloc());
     let x = 12_u32;
     let y = -5_i32;
-    assert!(rt; write!(t, "{x}, {y}").is_ok(), "memory was granted");
-    assert!(rt; lies(&t, "12, -5", true));
-    assert!(rt; write!(t, "; {y:?}").is_ok(), "memory was granted");
-    assert!(rt; lies(&t, "12, -5; -5", false));
-    Ok(())
+    let mut wrong = 0;
+    let two = write!(t, "{x}, {y}");
+    wrong = first_granted(wrong, 1, makes(two, &t, "12, -5", true));
+    let three = write!(t, "; {y:?}");
+    wrong = first_granted(wrong, 2, makes(three, &t, "12, -5; -5", false));
+    ended(wrong)
 }
