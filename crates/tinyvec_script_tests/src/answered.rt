@@ -15,12 +15,17 @@ pub(crate) struct Script {
 // Whether the answers, which may be cut, first differ from what is wanted where they tell of refused memory: by the answer
 // `memory`, or by a `rest` that a splice without room left.
 fn tells_refused_memory(answers: &[u8], wanted: &[u8]) -> bool {
+    let mut rest = wanted;
     let mut starts_line = true;
-    for (answer, byte) in answers.iter().zip(wanted) {
+    for answer in answers {
+        let Some((byte, more)) = rest.split_first() else {
+            return false;
+        };
         if answer != byte {
             return *answer == if starts_line { b'm' } else { b'r' };
         }
         starts_line = *answer == b'\n';
+        rest = more;
     }
     false
 }
@@ -61,7 +66,11 @@ pub(crate) fn first_lines(text: &[u8], lines: usize) -> &[u8] {
 
 // How many lines a text has that are ended.
 pub(crate) fn count_lines(text: &[u8]) -> usize {
-    text.iter().filter(|byte| **byte == b'\n').count()
+    let mut lines: usize = 0;
+    for byte in text {
+        lines = lines.saturating_add(usize::from(*byte == b'\n'));
+    }
+    lines
 }
 
 // A thousand lines of 6 bytes each.

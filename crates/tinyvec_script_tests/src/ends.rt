@@ -3,32 +3,20 @@ use std::cell::RefCell;
 use std::io;
 use std::io::{ErrorKind, Read, Write};
 
-// Gives its bytes, at most so many a read, and then fails.
+// Gives its bytes, at most so many a read, and then fails or ends.
 #[derive(Drop)]
-pub(crate) struct Breaks<'a> {
+pub(crate) struct Gives<'a> {
     pub(crate) bytes: &'a [u8],
     pub(crate) most: usize,
+    pub(crate) breaks: bool,
 }
 
-impl Read for Breaks<'_> {
+impl Read for Gives<'_> {
     fn read(&mut self, buf: &mut [u8]) -> io::Result<usize> {
-        if self.bytes.is_empty() {
+        if self.breaks && self.bytes.is_empty() {
             return Err(io::Error::from(ErrorKind::BrokenPipe));
         }
         let few = buf.len().min(self.most);
-        self.bytes.read(&mut buf[..few])
-    }
-}
-
-// Gives its bytes, one a read, to their end.
-#[derive(Drop)]
-pub(crate) struct Drips<'a> {
-    pub(crate) bytes: &'a [u8],
-}
-
-impl Read for Drips<'_> {
-    fn read(&mut self, buf: &mut [u8]) -> io::Result<usize> {
-        let few = buf.len().min(1);
         self.bytes.read(&mut buf[..few])
     }
 }
@@ -162,57 +150,8 @@ impl Write for FlushInterrupted {
     }
 }
 
-// Passes so many calls on to the end that it holds, answers the next one with an error of that kind, and passes on those
-// after it.
-#[derive(Drop)]
-pub(crate) struct FailsOnce<E: Drop> {
-    end: E,
-    before: Option<usize>,
-    kind: ErrorKind,
-}
-
-impl<E: Drop> FailsOnce<E> {
-    // With `None` it never fails.
-    pub(crate) fn new(end: E, before: Option<usize>, kind: ErrorKind) -> Self {
-        FailsOnce { end, before, kind }
-    }
-
-    fn try_once(&mut self) -> io::Result<()> {
-        match self.before {
-            None => Ok(()),
-            Some(0) => {
-                self.before = None;
-                Err(io::Error::from(self.kind))
-            }
-            Some(more) => {
-                self.before = Some(more - 1);
-                Ok(())
-            }
-        }
-    }
-}
-
-impl<R: Read + Drop> Read for FailsOnce<R> {
-    fn read(&mut self, buf: &mut [u8]) -> io::Result<usize> {
-        self.try_once()?;
-        self.end.read(buf)
-    }
-}
-
-impl<W: Write + Drop> Write for FailsOnce<W> {
-    fn write(&mut self, buf: &[u8]) -> io::Result<usize> {
-        self.try_once()?;
-        self.end.write(buf)
-    }
-
-    fn flush(&mut self) -> io::Result<()> {
-        self.try_once()?;
-        self.end.flush()
-    }
-}
-
 // What an end was asked, and how many bytes that moved.
-#[derive(Clone, Copy, PartialEq, Debug, Drop)]
+#[derive(Clone, Copy, PartialEq, Drop)]
 pub(crate) enum Event {
     Read(usize),
     Write(usize),
@@ -221,54 +160,72 @@ pub(crate) enum Event {
     Fault,
 }
 
-// Records what the end that it holds is asked, in a list that several ends may share.
+// Records what the end that it holds is asked, in a list that several ends may share. It passes so many calls on, answers the
+// next one with an error of that kind, and passes on those after it.
 #[derive(Drop)]
 pub(crate) struct Recorded<'a, E: Drop> {
     end: E,
     events: &'a RefCell<Vec<Event>>,
+    before: Option<usize>,
+    kind: ErrorKind,
 }
 
 impl<'a, E: Drop> Recorded<'a, E> {
-    pub(crate) fn new(end: E, events: &'a RefCell<Vec<Event>>) -> Self {
-        Recorded { end, events }
+    // With `None` it never fails.
+    pub(crate) fn new(
+        end: E,
+        events: &'a RefCell<Vec<Event>>,
+        before: Option<usize>,
+        kind: ErrorKind,
+    ) -> Self {
+        Recorded {
+            end,
+            events,
+            before,
+            kind,
+        }
     }
 
     fn record(&self, event: Event) -> io::Result<()> {
-        let Ok(mut events) = self.events.try_borrow_mut() else {
-            return Err(io::Error::other("borrowed"));
+        match self.events.try_borrow_mut() {
+            Ok(mut events) => Ok(events.push(event)?),
+            Err(_) => Err(io::Error::other("borrowed")),
+        }
+    }
+
+    fn try_once(&mut self) -> io::Result<()> {
+        let Some(before) = self.before else {
+            return Ok(());
         };
-        events.push(event)?;
-        Ok(())
+        self.before = before.checked_sub(1);
+        if before > 0 {
+            return Ok(());
+        }
+        self.record(Event::Fault)?;
+        Err(io::Error::from(self.kind))
     }
 }
 
 impl<R: Read + Drop> Read for Recorded<'_, R> {
     fn read(&mut self, buf: &mut [u8]) -> io::Result<usize> {
-        let result = self.end.read(buf);
-        match &result {
-            Ok(count) => self.record(Event::Read(*count))?,
-            Err(_) => self.record(Event::Fault)?,
-        }
-        result
+        self.try_once()?;
+        let count = self.end.read(buf)?;
+        self.record(Event::Read(count))?;
+        Ok(count)
     }
 }
 
 impl<W: Write + Drop> Write for Recorded<'_, W> {
     fn write(&mut self, buf: &[u8]) -> io::Result<usize> {
-        let result = self.end.write(buf);
-        match &result {
-            Ok(count) => self.record(Event::Write(*count))?,
-            Err(_) => self.record(Event::Fault)?,
-        }
-        result
+        self.try_once()?;
+        let count = self.end.write(buf)?;
+        self.record(Event::Write(count))?;
+        Ok(count)
     }
 
     fn flush(&mut self) -> io::Result<()> {
-        let result = self.end.flush();
-        match &result {
-            Ok(()) => self.record(Event::Flush)?,
-            Err(_) => self.record(Event::Fault)?,
-        }
-        result
+        self.try_once()?;
+        self.end.flush()?;
+        self.record(Event::Flush)
     }
 }

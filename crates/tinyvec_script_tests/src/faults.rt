@@ -1,6 +1,6 @@
 //! Scripts of each command over ends that fail, are interrupted, or move few bytes.
 use crate::answered::{ROOM, Script, answers_to_pops, are_wanted, count_lines, first_lines, pops};
-use crate::ends::{Breaks, Drips, Fills, Full, Interrupted};
+use crate::ends::{Fills, Full, Gives, Interrupted};
 use crate::steps::first_granted;
 use std::alloc::{AllocError, Global};
 use std::ops::RangeInclusive;
@@ -156,7 +156,12 @@ fn wrong_read(
     let mut wrong = Ok(None);
     for count in counts {
         let bytes = &input[..count.min(input.len())];
-        let mut reader = Counted::new(Interrupted::new(Breaks { bytes, most }, times));
+        let gives = Gives {
+            bytes,
+            most,
+            breaks: true,
+        };
+        let mut reader = Counted::new(Interrupted::new(gives, times));
         let mut writer = Counted::new(answers);
         let result = run(alloc, &mut reader, &mut writer);
         answers = writer.into_inner();
@@ -200,8 +205,10 @@ fn wrong_write(
 
 // Whether a script is read and answered whole by ends that move a byte a call, and are interrupted before each.
 fn is_answered_byte_by_byte(alloc: Global, script: &Script) -> Result<bool, AllocError> {
-    let input = Drips {
+    let input = Gives {
         bytes: script.input,
+        most: 1,
+        breaks: false,
     };
     let output = Fills {
         taken: Vec::with_capacity(alloc, ROOM)?,

@@ -1,6 +1,6 @@
 //! The Borsh form over ends that fail, are interrupted, or move few bytes, and over input that is cut.
 use crate::answered::ROOM;
-use crate::ends::{Breaks, Drips, Fills, Full, Interrupted};
+use crate::ends::{Fills, Full, Gives, Interrupted};
 use crate::steps::first_granted;
 use std::alloc::{AllocError, Global};
 use std::io::Read;
@@ -48,14 +48,20 @@ fn wrong_read<T: BorshDeserialize + PartialEq + Drop>(
         let first = &bytes[..count];
         let mut cut = Counted::new(first);
         wrong = first_granted(wrong, count, fails::<T, _>(alloc, &mut cut, Ended));
-        let mut broken = Counted::new(Breaks {
+        let mut broken = Counted::new(Gives {
             bytes: first,
             most: 1,
+            breaks: true,
         });
         wrong = first_granted(wrong, count, fails::<T, _>(alloc, &mut broken, Io));
         wrong = first_granted(wrong, count, Ok(broken.faults() == 1));
     }
-    let mut reader = Counted::new(Interrupted::new(Drips { bytes }, 1));
+    let gives = Gives {
+        bytes,
+        most: 1,
+        breaks: false,
+    };
+    let mut reader = Counted::new(Interrupted::new(gives, 1));
     wrong = first_granted(wrong, bytes.len(), reads(alloc, &mut reader, value));
     first_granted(
         wrong,

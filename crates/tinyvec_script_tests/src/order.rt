@@ -1,6 +1,6 @@
 //! In which order a script reads, writes and flushes.
 use crate::answered::{ROOM, pops};
-use crate::ends::{Event, FailsOnce, Pieces, Recorded};
+use crate::ends::{Event, Pieces, Recorded};
 use std::alloc::{AllocError, Global};
 use std::cell::RefCell;
 use std::io::{ErrorKind, Read, Write};
@@ -8,58 +8,63 @@ use std::test::Fail;
 use tinyvec_io::Counted;
 use tinyvec_script::{RunError, run};
 
+// How many calls the reader and the writer take before one fails, and how.
+#[derive(Clone, Copy)]
+struct Failing {
+    reads: Option<usize>,
+    writes: Option<usize>,
+    kind: ErrorKind,
+}
+
 // Whether a script asks its ends for this, in order, and ends so.
 fn asks<R: Read + Drop, W: Write + Drop>(
     alloc: Global,
     reader: R,
     writer: W,
+    failing: Failing,
     events: &[Event],
     end: &Result<(), RunError>,
 ) -> Result<bool, AllocError> {
     let asked = RefCell::new(Vec::with_capacity(alloc, 16)?);
+    let Failing {
+        reads,
+        writes,
+        kind,
+    } = failing;
     let result = {
-        let mut reader = Counted::new(Recorded::new(reader, &asked));
-        let mut writer = Counted::new(Recorded::new(writer, &asked));
+        let mut reader = Counted::new(Recorded::new(reader, &asked, reads, kind));
+        let mut writer = Counted::new(Recorded::new(writer, &asked, writes, kind));
         run(alloc, &mut reader, &mut writer)
     };
     Ok((asked.into_inner().as_slice() == events) & (result == *end))
 }
 
-// Input in pieces, how many calls the reader and the writer take before one fails and how, what is asked, and the end.
+// Input in pieces, how its ends fail, what is asked, and the end.
 struct Case {
     pieces: &'static [&'static [u8]],
-    reads: Option<usize>,
-    writes: Option<usize>,
-    kind: ErrorKind,
+    failing: Failing,
     events: &'static [Event],
     end: Result<(), RunError>,
 }
 
-impl Case {
-    fn is_asked(&self, alloc: Global) -> Result<bool, AllocError> {
-        let output = Vec::with_capacity(alloc, ROOM)?;
-        let reader = FailsOnce::new(Pieces::new(self.pieces), self.reads, self.kind);
-        let writer = FailsOnce::new(output, self.writes, self.kind);
-        asks(alloc, reader, writer, self.events, &self.end)
-    }
-}
+const NEVER: Failing = Failing {
+    reads: None,
+    writes: None,
+    kind: ErrorKind::Other,
+};
 
 // The answer to `A pop`, of an empty vector, has 21 bytes.
 const CASES: [Case; 16] = [
     // answers are written before more is read
     Case {
         pieces: &[],
-        reads: None,
-        writes: None,
-        kind: ErrorKind::Other,
+        failing: NEVER,
         events: &[Event::Read(0), Event::Flush],
         end: Ok(()),
     },
     Case {
         pieces: &[b"A pop\n"],
-        reads: None,
-        writes: None,
-        kind: ErrorKind::Other,
+        failing: NEVER,
         events: &[
             Event::Read(6),
             Event::Write(21),
@@ -70,9 +75,7 @@ const CASES: [Case; 16] = [
     },
     Case {
         pieces: &[b"A pop"],
-        reads: None,
-        writes: None,
-        kind: ErrorKind::Other,
+        failing: NEVER,
         events: &[
             Event::Read(5),
             Event::Read(0),
@@ -83,9 +86,7 @@ const CASES: [Case; 16] = [
     },
     Case {
         pieces: &[b"A po", b"p\n"],
-        reads: None,
-        writes: None,
-        kind: ErrorKind::Other,
+        failing: NEVER,
         events: &[
             Event::Read(4),
             Event::Read(2),
@@ -97,9 +98,7 @@ const CASES: [Case; 16] = [
     },
     Case {
         pieces: &[b"A pop\nA pop\nA ", b"pop\n", b"A pop"],
-        reads: None,
-        writes: None,
-        kind: ErrorKind::Other,
+        failing: NEVER,
         events: &[
             Event::Read(14),
             Event::Write(42),
@@ -115,41 +114,51 @@ const CASES: [Case; 16] = [
     // nothing is asked after a fault
     Case {
         pieces: &[b"A pop\n"],
-        reads: Some(0),
-        writes: None,
-        kind: ErrorKind::Other,
+        failing: Failing {
+            reads: Some(0),
+            writes: None,
+            kind: ErrorKind::Other,
+        },
         events: &[Event::Fault],
         end: Err(RunError::Read),
     },
     Case {
         pieces: &[b"A pop\n", b"A pop\n"],
-        reads: Some(1),
-        writes: None,
-        kind: ErrorKind::Other,
+        failing: Failing {
+            reads: Some(1),
+            writes: None,
+            kind: ErrorKind::Other,
+        },
         events: &[Event::Read(6), Event::Write(21), Event::Fault],
         end: Err(RunError::Read),
     },
     Case {
         pieces: &[b"A pop\nA p", b"op\n"],
-        reads: Some(1),
-        writes: None,
-        kind: ErrorKind::Other,
+        failing: Failing {
+            reads: Some(1),
+            writes: None,
+            kind: ErrorKind::Other,
+        },
         events: &[Event::Read(9), Event::Write(21), Event::Fault],
         end: Err(RunError::Read),
     },
     Case {
         pieces: &[b"A pop\n", b"A pop\n"],
-        reads: None,
-        writes: Some(0),
-        kind: ErrorKind::Other,
+        failing: Failing {
+            reads: None,
+            writes: Some(0),
+            kind: ErrorKind::Other,
+        },
         events: &[Event::Read(6), Event::Fault],
         end: Err(RunError::Write),
     },
     Case {
         pieces: &[b"A pop\n", b"A pop"],
-        reads: None,
-        writes: Some(1),
-        kind: ErrorKind::Other,
+        failing: Failing {
+            reads: None,
+            writes: Some(1),
+            kind: ErrorKind::Other,
+        },
         events: &[
             Event::Read(6),
             Event::Write(21),
@@ -162,17 +171,21 @@ const CASES: [Case; 16] = [
     // here a flush fails
     Case {
         pieces: &[],
-        reads: None,
-        writes: Some(0),
-        kind: ErrorKind::Other,
+        failing: Failing {
+            reads: None,
+            writes: Some(0),
+            kind: ErrorKind::Other,
+        },
         events: &[Event::Read(0), Event::Fault],
         end: Err(RunError::Write),
     },
     Case {
         pieces: &[b"A pop\n"],
-        reads: None,
-        writes: Some(1),
-        kind: ErrorKind::Other,
+        failing: Failing {
+            reads: None,
+            writes: Some(1),
+            kind: ErrorKind::Other,
+        },
         events: &[
             Event::Read(6),
             Event::Write(21),
@@ -183,9 +196,11 @@ const CASES: [Case; 16] = [
     },
     Case {
         pieces: &[b"A pop"],
-        reads: None,
-        writes: Some(1),
-        kind: ErrorKind::Other,
+        failing: Failing {
+            reads: None,
+            writes: Some(1),
+            kind: ErrorKind::Other,
+        },
         events: &[
             Event::Read(5),
             Event::Read(0),
@@ -197,9 +212,11 @@ const CASES: [Case; 16] = [
     // the script goes on after an interruption
     Case {
         pieces: &[b"A pop\n"],
-        reads: Some(0),
-        writes: None,
-        kind: ErrorKind::Interrupted,
+        failing: Failing {
+            reads: Some(0),
+            writes: None,
+            kind: ErrorKind::Interrupted,
+        },
         events: &[
             Event::Fault,
             Event::Read(6),
@@ -211,9 +228,11 @@ const CASES: [Case; 16] = [
     },
     Case {
         pieces: &[b"A pop\n"],
-        reads: Some(1),
-        writes: None,
-        kind: ErrorKind::Interrupted,
+        failing: Failing {
+            reads: Some(1),
+            writes: None,
+            kind: ErrorKind::Interrupted,
+        },
         events: &[
             Event::Read(6),
             Event::Write(21),
@@ -225,9 +244,11 @@ const CASES: [Case; 16] = [
     },
     Case {
         pieces: &[b"A pop\n"],
-        reads: None,
-        writes: Some(0),
-        kind: ErrorKind::Interrupted,
+        failing: Failing {
+            reads: None,
+            writes: Some(0),
+            kind: ErrorKind::Interrupted,
+        },
         events: &[
             Event::Read(6),
             Event::Fault,
@@ -244,7 +265,17 @@ fn answers_are_written_before_more_is_read_and_nothing_is_asked_after_a_fault(
     rt: HostRuntime,
 ) -> Result<(), Fail> {
     for (index, case) in CASES.iter().enumerate() {
-        assert!(rt; case.is_asked(rt.alloc())?, "case {index}");
+        let pieces = Pieces::new(case.pieces);
+        let output = Vec::with_capacity(rt.alloc(), ROOM)?;
+        let is_right = asks(
+            rt.alloc(),
+            pieces,
+            output,
+            case.failing,
+            case.events,
+            &case.end,
+        )?;
+        assert!(rt; is_right, "case {index}");
     }
     Ok(())
 }
@@ -262,7 +293,14 @@ fn a_long_input_is_answered_in_chunks(rt: HostRuntime) -> Result<(), Fail> {
         Event::Read(0),
         Event::Flush,
     ];
-    let is_right = asks(rt.alloc(), input.as_slice(), output, &events, &Ok(()))?;
+    let is_right = asks(
+        rt.alloc(),
+        input.as_slice(),
+        output,
+        NEVER,
+        &events,
+        &Ok(()),
+    )?;
     assert!(rt; is_right);
     Ok(())
 }

@@ -287,6 +287,11 @@ const OVER_A_SLICE: [Run<&'static [i32]>; 4] = [
     },
 ];
 
+// Whether these are the items over the slots, and these the spare slots after them.
+fn holds_over(v: &SliceVec<'_, i32>, items: &[i32], spare: &[i32]) -> bool {
+    (v.as_slice() == items) & (v.grab_spare_slice() == spare)
+}
+
 // Whether a run over a slice is answered so, and leaves this.
 fn is_right_over_a_slice(alloc: Global, run: &Run<&'static [i32]>) -> Result<bool, AllocError> {
     let calls = calls_of(alloc, run.rows)?;
@@ -294,7 +299,7 @@ fn is_right_over_a_slice(alloc: Global, run: &Run<&'static [i32]>) -> Result<boo
     let mut v = SliceVec::from_slice_at_most(slots.as_mut_slice(), run.len);
     match run_slice(alloc, &mut v, calls) {
         Ok(answers) => {
-            let is_left = (v.as_slice() == run.items) & (v.grab_spare_slice() == run.spare);
+            let is_left = holds_over(&v, run.items, run.spare);
             are_told(answers.as_slice(), run.rows, is_left)
         }
         Err(_) => Err(AllocError),
