@@ -1,4 +1,5 @@
 use Rattle.std.proofs.Common.{◌<◌, ◌≤◌, ◌++◌, length, ap, ◌∙◌, arith, rules, length-append}
+use Rattle.std.proofs.lemmas.Grind.{common_steps}
 use Rattle.std.specs.declared.ops.Bound.TheVariants.{Included, Excluded}
 use Rattle.tinyvec_slots.specs.Slots.{items, spare, items_len, all_slots}
 use Rattle.tinyvec_slots.specs.Cut.{removed}
@@ -53,3 +54,15 @@ returns-in-Drain-clause-step g c =
       drains g.B.Item.Default.is_default (length (all_slots old)) old (seen_of g.B.Lent c.drain_into.new.self) i j
           c.drain_into.new.out.items in_order in_list taken left.items left.spare,
     )
+
+pub returns-then-is_full-clause-step : goal.returns-then-is_full-clause-step
+returns-then-is_full-clause-step g c = grind (arith, common_steps)
+
+pub returns-then-is_full-2-clause-step : goal.returns-then-is_full-2-clause-step
+returns-then-is_full-2-clause-step g c = grind (arith, common_steps)
+
+pub returns-in-Truncate-clause-step : goal.returns-in-Truncate-clause-step
+returns-in-Truncate-clause-step g c = grind (arith, common_steps)
+
+pub drain_into-requires-clause-room : goal.drain_into-requires-clause-room
+drain_into-requires-clause-room g c = grind (arith, common_steps)

@@ -1,6 +1,8 @@
-use Rattle.std.proofs.Common.{◌≤◌, sym, arith}
-use Rattle.tinyvec.specs.Tiny.{tiny_len}
-use Rattle.tinyvec_script.proofs.PlaceLemmas.{splices}
+use Rattle.std.proofs.Common.{◌≤◌, refl, sym, arith}
+use Rattle.std.proofs.lemmas.Grind.{common_steps}
+use Rattle.std.proofs.lemmas.Option.{slice_get_read}
+use Rattle.tinyvec.specs.Tiny.{tiny_items, tiny_len}
+use Rattle.tinyvec_script.proofs.PlaceLemmas.{place_kept, ruled, splices}
 use Rattle.tinyvec_script.proofs.tiny_step.answer_tiny.Goals as goal
 
 pub returns-in-Ok-drive_tiny_splice-clause-answered : goal.returns-in-Ok-drive_tiny_splice-clause-answered
@@ -12,3 +14,36 @@ returns-in-Ok-drive_tiny_splice-clause-answered g c =
     rw c.in-Splice.is (splices g.A.Item.Default.is_default g.A.Array.CAPACITY c.in-Splice.start c.in-Splice.end c.in-Splice.word c.in-Splice.replacement
     driven.yields driven.rest c.answer_driven.result c.args.vec.now c.drive_tiny_splice.new.vec in_order in_list made.items made.spliced
     (rw (sym c.as_slice.ensures.value) c.in-Ok-drive_tiny_splice.ensures.splices))
+
+pub returns-in-Pop-clause-answered : goal.returns-in-Pop-clause-answered
+returns-in-Pop-clause-answered g c = grind (arith, common_steps)
+
+pub returns-in-Remove-clause-answered : goal.returns-in-Remove-clause-answered
+returns-in-Remove-clause-answered g c =
+    let slots = g.A.Array.CAPACITY in
+    let old = c.args.vec.now in
+    let new = c.remove.new.self in
+    let made = c.remove.ensures in
+    rw c.in-Remove.is (
+      slice_get_read (tiny_items old) _ c.in-Remove.i _ refl (omega arith) made.value,
+      made.items,
+      ruled g.A.Item.Default.is_default slots 0 old new (place_kept slots old new made.place) made.slots (omega (arith, made.capacity)) (λ _. made.capacity),
+    )
+
+pub returns-in-SwapRemove-clause-answered : goal.returns-in-SwapRemove-clause-answered
+returns-in-SwapRemove-clause-answered g c =
+    let slots = g.A.Array.CAPACITY in
+    let old = c.args.vec.now in
+    let new = c.swap_remove.new.self in
+    let made = c.swap_remove.ensures in
+    rw c.in-SwapRemove.is (
+      slice_get_read (tiny_items old) _ c.in-SwapRemove.i _ refl (omega arith) made.value,
+      made.items,
+      ruled g.A.Item.Default.is_default slots 0 old new (place_kept slots old new made.place) made.slots (omega (arith, made.capacity)) (λ _. made.capacity),
+    )
+
+pub drain_into-requires-clause-room : goal.drain_into-requires-clause-room
+drain_into-requires-clause-room g c = grind (arith, common_steps)
+
+pub returns-in-Drain-clause-fits : goal.returns-in-Drain-clause-fits
+returns-in-Drain-clause-fits g c = grind (arith, common_steps)
