@@ -1,12 +1,13 @@
 //! How a `TinyVec` looks to a test, and steps of a test. `None` says that a step was refused memory.
 #![tactic(auto)]
+
 ghost use Rattle.std.specs.Iterator.{IsFinite};
 
 mod steps;
 
-pub use steps::{all_right, granted};
 use std::alloc::AllocError;
 use std::io::Write;
+pub use steps::{all_right, granted};
 use tinyvec::{Array, TinyVec};
 
 /// Whether these are the items, and lie there.
