@@ -3,7 +3,7 @@ use crate::ends::{reads, spells};
 use std::alloc::{AllocError, Global};
 use std::test::Fail;
 use tinyvec::{ArrayVec, TinyVec};
-use tinyvec_test_items::{ended, first_granted};
+use tinyvec_test_items::{all_right, granted_ok};
 
 // Whether a number is written as these bytes, and read from them.
 fn is_spelled<T>(alloc: Global, value: T, bytes: &[u8]) -> Result<bool, AllocError>
@@ -19,22 +19,22 @@ fn numbers_of_at_most_four_bytes(rt: HostRuntime) -> Result<(), Fail> {
     let alloc = rt.alloc();
     let mut wrong = 0;
     // form: u8 7 = 07
-    wrong = first_granted(wrong, 1, is_spelled(alloc, 7u8, &[7]));
+    wrong = granted_ok(wrong, 1, is_spelled(alloc, 7u8, &[7]));
     // form: u8 255 = ff
-    wrong = first_granted(wrong, 2, is_spelled(alloc, 255u8, &[255]));
+    wrong = granted_ok(wrong, 2, is_spelled(alloc, 255u8, &[255]));
     // form: i8 -1 = ff
-    wrong = first_granted(wrong, 3, is_spelled(alloc, -1i8, &[255]));
+    wrong = granted_ok(wrong, 3, is_spelled(alloc, -1i8, &[255]));
     // form: i8 -128 = 80
-    wrong = first_granted(wrong, 4, is_spelled(alloc, -128i8, &[128]));
+    wrong = granted_ok(wrong, 4, is_spelled(alloc, -128i8, &[128]));
     // form: u16 258 = 0201
-    wrong = first_granted(wrong, 5, is_spelled(alloc, 258u16, &[2, 1]));
+    wrong = granted_ok(wrong, 5, is_spelled(alloc, 258u16, &[2, 1]));
     // form: i16 -2 = feff
-    wrong = first_granted(wrong, 6, is_spelled(alloc, -2i16, &[254, 255]));
+    wrong = granted_ok(wrong, 6, is_spelled(alloc, -2i16, &[254, 255]));
     // form: u32 16909060 = 04030201
-    wrong = first_granted(wrong, 7, is_spelled(alloc, 16909060u32, &[4, 3, 2, 1]));
+    wrong = granted_ok(wrong, 7, is_spelled(alloc, 16909060u32, &[4, 3, 2, 1]));
     // form: i32 -2147483648 = 00000080
-    wrong = first_granted(wrong, 8, is_spelled(alloc, i32::MIN, &[0, 0, 0, 128]));
-    ended(wrong)
+    wrong = granted_ok(wrong, 8, is_spelled(alloc, i32::MIN, &[0, 0, 0, 128]));
+    all_right(wrong)
 }
 
 #[test]
@@ -43,18 +43,18 @@ fn numbers_of_eight_and_sixteen_bytes(rt: HostRuntime) -> Result<(), Fail> {
     let mut wrong = 0;
     // form: u64 72623859790382856 = 0807060504030201
     let one_to_eight = is_spelled(alloc, 72623859790382856u64, &[8, 7, 6, 5, 4, 3, 2, 1]);
-    wrong = first_granted(wrong, 1, one_to_eight);
+    wrong = granted_ok(wrong, 1, one_to_eight);
     // form: i64 -256 = 00ffffffffffffff
     let negative = is_spelled(alloc, -256i64, &[0, 255, 255, 255, 255, 255, 255, 255]);
-    wrong = first_granted(wrong, 2, negative);
+    wrong = granted_ok(wrong, 2, negative);
     // form: u128 340282366920938463463374607431768211455 = ffffffffffffffffffffffffffffffff
-    wrong = first_granted(wrong, 3, is_spelled(alloc, u128::MAX, &[255; 16]));
+    wrong = granted_ok(wrong, 3, is_spelled(alloc, u128::MAX, &[255; 16]));
     // form: i128 -5 = fbffffffffffffffffffffffffffffff
     let minus_five = [
         251, 255, 255, 255, 255, 255, 255, 255, 255, 255, 255, 255, 255, 255, 255, 255,
     ];
-    wrong = first_granted(wrong, 4, is_spelled(alloc, -5i128, &minus_five));
-    ended(wrong)
+    wrong = granted_ok(wrong, 4, is_spelled(alloc, -5i128, &minus_five));
+    all_right(wrong)
 }
 
 #[test]
@@ -63,7 +63,7 @@ fn an_array_vec_without_its_spare_slots(rt: HostRuntime) -> Result<(), Fail> {
     let mut wrong = 0;
     // form: list(u8) 1,2 = 02000000000000000102
     let some = ArrayVec::from_array_len([1u8, 2, 9, 9], 2);
-    wrong = first_granted(
+    wrong = granted_ok(
         wrong,
         1,
         spells(alloc, &some, &[2, 0, 0, 0, 0, 0, 0, 0, 1, 2]),
@@ -71,11 +71,11 @@ fn an_array_vec_without_its_spare_slots(rt: HostRuntime) -> Result<(), Fail> {
     // form: list(u8) 1,2,9,9 = 040000000000000001020909
     let full = ArrayVec::from_array([1u8, 2, 9, 9]);
     let is_full = spells(alloc, &full, &[4, 0, 0, 0, 0, 0, 0, 0, 1, 2, 9, 9]);
-    wrong = first_granted(wrong, 2, is_full);
+    wrong = granted_ok(wrong, 2, is_full);
     // form: list(u8) = 0000000000000000
     let none = ArrayVec::<[u8; 4]>::new();
-    wrong = first_granted(wrong, 3, spells(alloc, &none, &[0; 8]));
-    ended(wrong)
+    wrong = granted_ok(wrong, 3, spells(alloc, &none, &[0; 8]));
+    all_right(wrong)
 }
 
 #[test]
@@ -85,11 +85,11 @@ fn a_tiny_vec_without_its_place(rt: HostRuntime) -> Result<(), Fail> {
     let mut v = TinyVec::from_array(rt.alloc(), [-2i32]);
     let none = TinyVec::<[i32; 1]>::new(rt.alloc());
     let mut wrong = 0;
-    wrong = first_granted(wrong, 1, spells(rt.alloc(), &v, &bytes));
-    wrong = first_granted(wrong, 2, v.move_to_the_heap().and(Ok(true)));
-    wrong = first_granted(wrong, 3, spells(rt.alloc(), &v, &bytes));
-    wrong = first_granted(wrong, 4, spells(rt.alloc(), &none, &[0; 8]));
-    ended(wrong)
+    wrong = granted_ok(wrong, 1, spells(rt.alloc(), &v, &bytes));
+    wrong = granted_ok(wrong, 2, v.move_to_the_heap().and(Ok(true)));
+    wrong = granted_ok(wrong, 3, spells(rt.alloc(), &v, &bytes));
+    wrong = granted_ok(wrong, 4, spells(rt.alloc(), &none, &[0; 8]));
+    all_right(wrong)
 }
 
 #[test]
@@ -101,6 +101,6 @@ fn a_list_of_lists(rt: HostRuntime) -> Result<(), Fail> {
     let bytes = [
         2, 0, 0, 0, 0, 0, 0, 0, 1, 0, 0, 0, 0, 0, 0, 0, 1, 0, 0, 0, 0, 0, 0, 0, 0,
     ];
-    let wrong = first_granted(0, 1, spells(rt.alloc(), &lists, &bytes));
-    ended(wrong)
+    let wrong = granted_ok(0, 1, spells(rt.alloc(), &lists, &bytes));
+    all_right(wrong)
 }

@@ -7,7 +7,7 @@ use std::test::Fail;
 use tinyvec::{ArrayVec, TinyVec};
 use tinyvec_borsh::{BorshDeserialize, BorshError, BorshSerialize};
 use tinyvec_io::Counted;
-use tinyvec_test_items::{ended, first, first_granted};
+use tinyvec_test_items::{all_right, first, granted_ok};
 
 // Gives what is asked for, and counts the calls.
 #[derive(Drop)]
@@ -69,7 +69,7 @@ fn bytes_are_written_at_once(rt: HostRuntime) -> Result<(), Fail> {
     wrong = first(wrong, 1, is_written_by(1, &7u128));
     wrong = first(wrong, 2, is_written_by(2, &ArrayVec::from_array([7u8; 64])));
     wrong = first(wrong, 3, is_written_by(2, &list));
-    ended(wrong)
+    all_right(wrong)
 }
 
 #[test]
@@ -87,7 +87,7 @@ fn numbers_are_written_in_blocks(rt: HostRuntime) -> Result<(), Fail> {
         is_written_by(3, &ArrayVec::from_array([7i16; 65])),
     );
     wrong = first(wrong, 3, is_written_by(4, &list));
-    ended(wrong)
+    all_right(wrong)
 }
 
 #[test]
@@ -95,18 +95,18 @@ fn bytes_are_read_in_blocks(rt: HostRuntime) -> Result<(), Fail> {
     let bytes = sevens(rt.alloc(), [220, 5, 0, 0, 0, 0, 0, 0], 1500)?;
     let input = bytes.as_slice();
     let mut wrong = 0;
-    wrong = first_granted(wrong, 1, is_read_by::<u128>(1, rt.alloc(), input));
-    wrong = first_granted(
+    wrong = granted_ok(wrong, 1, is_read_by::<u128>(1, rt.alloc(), input));
+    wrong = granted_ok(
         wrong,
         2,
         is_read_by::<ArrayVec<[u8; 1500]>>(2, rt.alloc(), input),
     );
-    wrong = first_granted(
+    wrong = granted_ok(
         wrong,
         3,
         is_read_by::<TinyVec<[u8; 4]>>(3, rt.alloc(), input),
     );
-    ended(wrong)
+    all_right(wrong)
 }
 
 #[test]
@@ -114,20 +114,20 @@ fn numbers_are_read_in_blocks(rt: HostRuntime) -> Result<(), Fail> {
     let bytes = sevens(rt.alloc(), [65, 0, 0, 0, 0, 0, 0, 0], 1500)?;
     let input = bytes.as_slice();
     let mut wrong = 0;
-    wrong = first_granted(
+    wrong = granted_ok(
         wrong,
         1,
         is_read_by::<ArrayVec<[i8; 65]>>(2, rt.alloc(), input),
     );
-    wrong = first_granted(
+    wrong = granted_ok(
         wrong,
         2,
         is_read_by::<ArrayVec<[u32; 65]>>(3, rt.alloc(), input),
     );
-    wrong = first_granted(
+    wrong = granted_ok(
         wrong,
         3,
         is_read_by::<TinyVec<[i128; 4]>>(6, rt.alloc(), input),
     );
-    ended(wrong)
+    all_right(wrong)
 }

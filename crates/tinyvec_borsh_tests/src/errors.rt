@@ -3,7 +3,7 @@ use std::fmt::Write;
 use std::test::Fail;
 use tinyvec::ArrayVec;
 use tinyvec_borsh::BorshError;
-use tinyvec_test_items::{ended, first};
+use tinyvec_test_items::{all_right, first};
 
 fn text_is(error: BorshError, text: &str) -> bool {
     let mut v = ArrayVec::<[u8; 64]>::new();
@@ -28,5 +28,5 @@ fn texts(rt: HostRuntime) -> Result<(), Fail> {
     );
     wrong = first(wrong, 3, text_is(BorshError::Io, "reader or writer fault"));
     wrong = first(wrong, 4, text_is(BorshError::Memory, "out of memory"));
-    ended(wrong)
+    all_right(wrong)
 }

@@ -5,7 +5,7 @@ use std::test::Fail;
 use tinyvec::{ArrayVec, TinyVec};
 use tinyvec_borsh::{BorshDeserialize, BorshError, BorshSerialize};
 use tinyvec_io::Counted;
-use tinyvec_test_items::{ended, first, first_granted};
+use tinyvec_test_items::{all_right, first, granted_ok};
 
 const BYTES: [u8; 10] = [2, 0, 0, 0, 0, 0, 0, 0, 1, 2];
 
@@ -32,18 +32,18 @@ fn a_reader_that_fails_after_each_byte(rt: HostRuntime) -> Result<(), Fail> {
     let mut wrong = 0;
     for k in 0..10u8 {
         let (left, step) = (usize::from(k), u32::from(k) + 1);
-        wrong = first_granted(
+        wrong = granted_ok(
             wrong,
             step,
             is_at_fault::<ArrayVec<[u8; 4]>>(rt.alloc(), left),
         );
-        wrong = first_granted(
+        wrong = granted_ok(
             wrong,
             step,
             is_at_fault::<TinyVec<[u8; 1]>>(rt.alloc(), left),
         );
     }
-    ended(wrong)
+    all_right(wrong)
 }
 
 #[test]
@@ -57,7 +57,7 @@ fn a_reader_that_is_interrupted_before_each_byte(rt: HostRuntime) -> Result<(), 
         array.is_ok_and(|v| v.as_slice() == [1, 2].as_slice()),
     );
     wrong = first(wrong, 2, reader.faults() == 10);
-    ended(wrong)
+    all_right(wrong)
 }
 
 // Whether a writer of which so many bytes are left answers this, with so many faults, and so many bytes are left then.
@@ -76,5 +76,5 @@ fn a_writer_that_fails_after_each_byte(rt: HostRuntime) -> Result<(), Fail> {
         wrong = first(wrong, u32::from(k) + 1, is_right);
     }
     wrong = first(wrong, 11, writes(10, Ok(()), 0));
-    ended(wrong)
+    all_right(wrong)
 }

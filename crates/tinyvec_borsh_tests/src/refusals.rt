@@ -2,7 +2,7 @@
 use crate::ends::reads_tiny;
 use std::alloc::AllocError;
 use std::test::Fail;
-use tinyvec_test_items::{ended, first};
+use tinyvec_test_items::{all_right, first};
 
 // Whether a list that moves to the heap is read, at once or after a refusal, of which this says that it was met, since the
 // script asks this of each test here.
@@ -27,5 +27,5 @@ fn deserialize_reader(rt: HostRuntime) -> Result<(), Fail> {
         reads_tiny::<[u8; 3]>(rt.alloc(), &bytes, &items, true, 0) == Ok(true),
     );
     wrong = first(wrong, 2, is_read(&rt, &bytes, &items));
-    ended(wrong)
+    all_right(wrong)
 }

@@ -2,7 +2,7 @@
 use crate::ends::{read, reads_array, reads_tiny};
 use std::test::Fail;
 use tinyvec::ArrayVec;
-use tinyvec_test_items::{ended, first, first_granted};
+use tinyvec_test_items::{all_right, first, granted_ok};
 
 #[test]
 fn a_list_that_fits_the_array(rt: HostRuntime) -> Result<(), Fail> {
@@ -18,7 +18,7 @@ fn a_list_that_fits_the_array(rt: HostRuntime) -> Result<(), Fail> {
         2,
         reads_array::<[u8; 2]>(rt.alloc(), &bytes, &[1, 2], 1),
     );
-    ended(wrong)
+    all_right(wrong)
 }
 
 #[test]
@@ -29,12 +29,12 @@ fn an_empty_list(rt: HostRuntime) -> Result<(), Fail> {
         1,
         reads_array::<[u8; 0]>(rt.alloc(), &[0; 8], &[], 0),
     );
-    wrong = first_granted(
+    wrong = granted_ok(
         wrong,
         2,
         reads_tiny::<[u8; 0]>(rt.alloc(), &[0; 9], &[], true, 1),
     );
-    ended(wrong)
+    all_right(wrong)
 }
 
 #[test]
@@ -42,17 +42,17 @@ fn a_tiny_vec_in_each_place(rt: HostRuntime) -> Result<(), Fail> {
     let bytes = [3, 0, 0, 0, 0, 0, 0, 0, 1, 2, 3, 9];
     let items = [1, 2, 3];
     let mut wrong = 0;
-    wrong = first_granted(
+    wrong = granted_ok(
         wrong,
         1,
         reads_tiny::<[u8; 2]>(rt.alloc(), &bytes, &items, false, 1),
     );
-    wrong = first_granted(
+    wrong = granted_ok(
         wrong,
         2,
         reads_tiny::<[u8; 3]>(rt.alloc(), &bytes, &items, true, 1),
     );
-    ended(wrong)
+    all_right(wrong)
 }
 
 type Lists = ArrayVec<[ArrayVec<[u8; 2]>; 2]>;
@@ -74,5 +74,5 @@ fn a_list_of_lists(rt: HostRuntime) -> Result<(), Fail> {
     let mut wrong = 0;
     wrong = first(wrong, 1, lists.is_ok_and(|lists| are_two(&lists, &[1])));
     wrong = first(wrong, 2, left == 0);
-    ended(wrong)
+    all_right(wrong)
 }

@@ -3,8 +3,8 @@
 use crate::asking::Making;
 use std::test::Fail;
 use tinyvec::TinyVec;
-use tinyvec_test_items::first;
-use tinyvec_test_looks::{all_right, granted, lies, makes, writes};
+use tinyvec_test_items::{all_right, first, granted};
+use tinyvec_test_looks::{lies, makes, writes};
 
 // Calls that make a list, and its items on the heap.
 const MADE: [(Making, &[i32]); 7] = [

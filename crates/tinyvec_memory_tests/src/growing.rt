@@ -4,8 +4,8 @@ use crate::steps::{Need, Place, Step, go_so, is_refused};
 use std::alloc::{AllocError, Global};
 use std::test::Fail;
 use tinyvec::{Array, TinyVec};
-use tinyvec_test_items::first;
-use tinyvec_test_looks::{all_right, granted, lies};
+use tinyvec_test_items::{all_right, first, granted};
+use tinyvec_test_looks::lies;
 
 type Two = TinyVec<[i32; 2]>;
 

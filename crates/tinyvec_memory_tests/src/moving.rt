@@ -3,8 +3,8 @@ use crate::asking::Asking;
 use crate::steps::{Need, Place, Step, are_refused, go_so};
 use std::test::Fail;
 use tinyvec::{Array, TinyVec};
-use tinyvec_test_items::first;
-use tinyvec_test_looks::{all_right, granted, lies};
+use tinyvec_test_items::{all_right, first, granted};
+use tinyvec_test_looks::lies;
 
 const THERE_AND_BACK: [Step; 5] = [
     (Asking::MoveToTheHeap, Need::Memory, &[], Place::Heap(0)),

@@ -13,8 +13,8 @@ use crate::asking::Asking;
 use std::alloc::{AllocError, Global};
 use std::test::Fail;
 use tinyvec::TinyVec;
-use tinyvec_test_items::first;
-use tinyvec_test_looks::{all_right, lies, lies_before};
+use tinyvec_test_items::{all_right, first};
+use tinyvec_test_looks::{lies, lies_before};
 
 // What a test met: whether a call was refused, and the first step that went wrong, or 0.
 #[derive(Clone, Copy)]

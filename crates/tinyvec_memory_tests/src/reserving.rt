@@ -4,8 +4,8 @@ use crate::steps::{Need, Place, Step, are_refused, go_so, goes_so};
 use std::alloc::{AllocError, Global};
 use std::test::Fail;
 use tinyvec::TinyVec;
-use tinyvec_test_items::first;
-use tinyvec_test_looks::{all_right, granted, lies};
+use tinyvec_test_items::{all_right, first, granted};
+use tinyvec_test_looks::lies;
 
 const PAST_ONE: [Step; 2] = [
     (Asking::MoveToTheHeap, Need::Memory, &[], Place::Heap(0)),

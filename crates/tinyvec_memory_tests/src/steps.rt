@@ -1,8 +1,8 @@
 //! Calls that are granted, one after the other, as tables: one function looks at what each leaves.
 use crate::asking::Asking;
 use tinyvec::{Array, TinyVec};
-use tinyvec_test_items::first;
-use tinyvec_test_looks::{granted, lies, lies_before};
+use tinyvec_test_items::{first, granted};
+use tinyvec_test_looks::{lies, lies_before};
 
 // What a call asks for.
 #[derive(Clone, Copy, PartialEq)]

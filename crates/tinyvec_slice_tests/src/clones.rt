@@ -5,7 +5,7 @@ use std::test::Fail;
 use tinyvec_slice::SliceVec;
 use tinyvec_slots::NoMemory;
 use tinyvec_test_items::lent::holds;
-use tinyvec_test_items::{Item, Limited, ended, first, first_granted};
+use tinyvec_test_items::{Item, Limited, all_right, first, granted_ok};
 
 // Whether clones of these items are appended or, where one is refused, none of them, and this is left.
 fn extends<T: Clone + PartialEq + Drop>(
@@ -51,7 +51,7 @@ fn extend_from_slice(rt: HostRuntime) -> Result<(), Fail> {
     let mut wrong = 0;
     wrong = first(wrong, 1, extends(&mut v, &[2, 3], true, &[1, 2, 3], &[5]));
     wrong = first(wrong, 2, slots == [1, 2, 3, 5]);
-    ended(wrong)
+    all_right(wrong)
 }
 
 #[test]
@@ -78,7 +78,7 @@ fn extend_from_slice_refused(rt: HostRuntime) -> Result<(), Fail> {
         ),
     );
     wrong = first(wrong, 3, slots == [Item(1), Item(4), Item(3), Item(7)]);
-    ended(wrong)
+    all_right(wrong)
 }
 
 #[test]
@@ -91,7 +91,7 @@ fn resize(rt: HostRuntime) -> Result<(), Fail> {
     wrong = first(wrong, 1, resizes(&mut v, 1, 6, None, &[Item(1)], &emptied));
     wrong = first(wrong, 2, resizes(&mut v, 3, 4, None, &filled, &[Item(8)]));
     wrong = first(wrong, 3, slots == [Item(1), Item(4), Item(4), Item(8)]);
-    ended(wrong)
+    all_right(wrong)
 }
 
 #[test]
@@ -105,7 +105,7 @@ fn resize_refused(rt: HostRuntime) -> Result<(), Fail> {
     wrong = first(wrong, 2, resizes(&mut v, 4, 99, Some(99), &items, &spare));
     wrong = first(wrong, 3, resizes(&mut v, 0, 99, Some(99), &items, &spare));
     wrong = first(wrong, 4, slots == [Item(1), Item(4), Item(4), Item(8)]);
-    ended(wrong)
+    all_right(wrong)
 }
 
 // Whether the filling comes back where the second clone is refused, and so many items are left, and these slots.
@@ -131,7 +131,7 @@ fn the_second_clone_refused(rt: HostRuntime) -> Result<(), Fail> {
     let mut wrong = 0;
     wrong = first(wrong, 1, is_cut_short(1, 4, 1, [1, 7, 3, 4]));
     wrong = first(wrong, 2, is_cut_short(4, 1, 3, [1, 2, 3, 7]));
-    ended(wrong)
+    all_right(wrong)
 }
 
 type Owned = Option<Vec<i32>>;
@@ -185,12 +185,12 @@ fn what_owns(rt: HostRuntime) -> Result<(), Fail> {
     let mut slots = [None, None, None, None];
     let mut v = SliceVec::from_slice_len(&mut slots, 0);
     let mut wrong = 0;
-    wrong = first_granted(wrong, 1, extends_owned(&mut v, rt.alloc()));
-    wrong = first_granted(wrong, 2, resizes_owned(&mut v, rt.alloc(), 3, &[5]));
+    wrong = granted_ok(wrong, 1, extends_owned(&mut v, rt.alloc()));
+    wrong = granted_ok(wrong, 2, resizes_owned(&mut v, rt.alloc(), 3, &[5]));
     wrong = first(wrong, 3, pops_owned(&mut v, &[5]));
-    wrong = first_granted(wrong, 4, resizes_owned(&mut v, rt.alloc(), 1, &[6]));
+    wrong = granted_ok(wrong, 4, resizes_owned(&mut v, rt.alloc(), 1, &[6]));
     wrong = first(wrong, 5, owns(&slots[1], &[6]));
-    ended(wrong)
+    all_right(wrong)
 }
 
 fn fill_up(v: &mut SliceVec<'_, Item>, item: Item) -> Result<(), AllocError> {
@@ -206,7 +206,7 @@ fn as_a_refusal_of_memory(rt: HostRuntime) -> Result<(), Fail> {
     wrong = first(wrong, 1, fill_up(&mut v, Item(99)) == Err(AllocError));
     wrong = first(wrong, 2, fill_up(&mut v, Item(7)) == Ok(()));
     wrong = first(wrong, 3, slots == [Item(1), Item(7)]);
-    ended(wrong)
+    all_right(wrong)
 }
 
 fn named<'a>(name: u8) -> Limited<'a> {

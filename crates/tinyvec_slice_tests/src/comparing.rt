@@ -3,7 +3,7 @@ use std::cmp::Ordering;
 use std::hash::{DefaultHasher, Hash, Hasher};
 use std::test::Fail;
 use tinyvec_slice::SliceVec;
-use tinyvec_test_items::{ended, first};
+use tinyvec_test_items::{all_right, first};
 
 // Whether each comparison tells of this order, or of none.
 fn is_ordered<T: PartialOrd + Drop>(
@@ -56,7 +56,7 @@ fn in_the_order_of_the_items(rt: HostRuntime) -> Result<(), Fail> {
         2,
         are_in_order(greater, ([1, 2, 9], 3), Ordering::Greater),
     );
-    ended(wrong)
+    all_right(wrong)
 }
 
 // Long lists are compared in blocks, so each length has its turn.
@@ -92,7 +92,7 @@ fn spare_slots_do_not_count(rt: HostRuntime) -> Result<(), Fail> {
         4,
         are_in_order(list, ([3, 5, 0], 2), Ordering::Greater),
     );
-    ended(wrong)
+    all_right(wrong)
 }
 
 // Whether an empty list is equal to that of a vector over no slots.
@@ -110,7 +110,7 @@ fn empty_lists(rt: HostRuntime) -> Result<(), Fail> {
         2,
         are_in_order(([4, 5], 0), ([0], 1), Ordering::Less),
     );
-    ended(wrong)
+    all_right(wrong)
 }
 
 // Whether the lists of two items in these slots stand in this order, or in none.
@@ -128,7 +128,7 @@ fn no_order(rt: HostRuntime) -> Result<(), Fail> {
     let mut wrong = 0;
     wrong = first(wrong, 1, stand(&mut slots, &mut [1.0, f64::NAN, 3.0], None));
     wrong = first(wrong, 2, stand(&mut slots, &mut [2.0, f64::NAN, 3.0], less));
-    ended(wrong)
+    all_right(wrong)
 }
 
 // A vector feeds a hasher what a slice of its items feeds it.

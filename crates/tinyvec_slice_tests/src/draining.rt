@@ -6,7 +6,7 @@ use std::ops::RangeBounds;
 use std::test::Fail;
 use tinyvec_slice::SliceVec;
 use tinyvec_test_items::lent::holds;
-use tinyvec_test_items::{ended, first};
+use tinyvec_test_items::{all_right, first};
 
 // Whether this is the first item of a drain, and where it is then left, this is the list.
 fn begins_with<R: RangeBounds<usize>>(
@@ -31,7 +31,7 @@ fn left_early(rt: HostRuntime) -> Result<(), Fail> {
     let mut wrong = 0;
     wrong = first(wrong, 1, begins_with(v, 1..3, Some(2), &[1, 4], &[0, 0, 9]));
     wrong = first(wrong, 2, slots == [1, 4, 0, 0, 9]);
-    ended(wrong)
+    all_right(wrong)
 }
 
 #[test]
@@ -59,7 +59,7 @@ fn run_to_its_end(rt: HostRuntime) -> Result<(), Fail> {
     let mut wrong = 0;
     wrong = first(wrong, 1, yields_two(&mut v, 3, 4));
     wrong = first(wrong, 2, holds(&v, &[1, 2], &[0, 0]));
-    ended(wrong)
+    all_right(wrong)
 }
 
 // Whether this is the item behind so many others.
@@ -77,7 +77,7 @@ fn passed_over(rt: HostRuntime) -> Result<(), Fail> {
     let mut wrong = 0;
     wrong = first(wrong, 1, is_behind(v.drain(..=2), 1, Some(2)));
     wrong = first(wrong, 2, slots == [4, 0, 0, 0]);
-    ended(wrong)
+    all_right(wrong)
 }
 
 // Whether a closure is given the items of a range, as the digits of this number, and this is left.
@@ -112,7 +112,7 @@ fn handed_to_a_closure(rt: HostRuntime) -> Result<(), Fail> {
     let v = SliceVec::from_slice_len(&mut slots, 2);
     wrong = first(wrong, 2, hands(v, 2.., 0, &[1, 4], &[0, 0, 9]));
     wrong = first(wrong, 3, slots == [1, 4, 0, 0, 9]);
-    ended(wrong)
+    all_right(wrong)
 }
 
 #[test]
@@ -126,5 +126,5 @@ fn moved_behind_others(rt: HostRuntime) -> Result<(), Fail> {
     let mut wrong = 0;
     wrong = first(wrong, 1, out.as_slice() == [1, 3, 4].as_slice());
     wrong = first(wrong, 2, slots == [2, 0, 0, 0, 9]);
-    ended(wrong)
+    all_right(wrong)
 }

@@ -4,7 +4,7 @@ use tinyvec_slice::SliceVec;
 use tinyvec_test_items::lent::{
     clears, holds, inserts, pops, pushes, removes, sets_len, swap_removes, truncates, writes,
 };
-use tinyvec_test_items::{ended, first};
+use tinyvec_test_items::{all_right, first};
 
 #[test]
 fn push_and_pop(rt: HostRuntime) -> Result<(), Fail> {
@@ -18,7 +18,7 @@ fn push_and_pop(rt: HostRuntime) -> Result<(), Fail> {
     wrong = first(wrong, 5, pops(&mut v, Some(3), &[1, 2], &[0]));
     wrong = first(wrong, 6, pops(&mut v, Some(2), &[1], &[0, 0]));
     wrong = first(wrong, 7, slots == [1, 0, 0]);
-    ended(wrong)
+    all_right(wrong)
 }
 
 #[test]
@@ -31,7 +31,7 @@ fn insert_and_remove(rt: HostRuntime) -> Result<(), Fail> {
     wrong = first(wrong, 3, removes(&mut v, 2, 3, &[8, 2], &[0, 0]));
     wrong = first(wrong, 4, inserts(&mut v, 2, 5, &[8, 2, 5], &[0]));
     wrong = first(wrong, 5, slots == [8, 2, 5, 0]);
-    ended(wrong)
+    all_right(wrong)
 }
 
 #[test]
@@ -44,7 +44,7 @@ fn swap_remove(rt: HostRuntime) -> Result<(), Fail> {
     wrong = first(wrong, 3, swap_removes(&mut v, 0, 3, &[2], &[0, 0, 0, 9]));
     wrong = first(wrong, 4, swap_removes(&mut v, 0, 2, &[], &[0, 0, 0, 0, 9]));
     wrong = first(wrong, 5, slots == [0, 0, 0, 0, 9]);
-    ended(wrong)
+    all_right(wrong)
 }
 
 #[test]
@@ -56,7 +56,7 @@ fn truncate_and_clear(rt: HostRuntime) -> Result<(), Fail> {
     wrong = first(wrong, 2, truncates(&mut v, 2, &[1, 2], &[0, 0, 9]));
     wrong = first(wrong, 3, clears(&mut v, &[0, 0, 0, 0, 9]));
     wrong = first(wrong, 4, slots == [0, 0, 0, 0, 9]);
-    ended(wrong)
+    all_right(wrong)
 }
 
 #[test]
@@ -68,7 +68,7 @@ fn set_len_writes_nothing(rt: HostRuntime) -> Result<(), Fail> {
     wrong = first(wrong, 2, pushes(&mut v, 9, &[1, 9], &[3]));
     wrong = first(wrong, 3, sets_len(&mut v, 3, &[1, 9, 3], &[]));
     wrong = first(wrong, 4, slots == [1, 9, 3]);
-    ended(wrong)
+    all_right(wrong)
 }
 
 // Whether there is a slot at an index, which is written then.
@@ -93,7 +93,7 @@ fn writes_by_index(rt: HostRuntime) -> Result<(), Fail> {
     wrong = first(wrong, 6, puts(v.as_mut_inner(), 2, 5));
     wrong = first(wrong, 7, holds(&v, &[7, 8], &[5]));
     wrong = first(wrong, 8, slots == [7, 8, 5]);
-    ended(wrong)
+    all_right(wrong)
 }
 
 #[test]
@@ -105,5 +105,5 @@ fn items_without_bytes(rt: HostRuntime) -> Result<(), Fail> {
     wrong = first(wrong, 2, inserts(&mut v, 0, (), &[(); 3], &[]));
     wrong = first(wrong, 3, pops(&mut v, Some(()), &[(); 2], &[()]));
     wrong = first(wrong, 4, clears(&mut v, &[(); 3]));
-    ended(wrong)
+    all_right(wrong)
 }

@@ -6,7 +6,7 @@ use std::test::Fail;
 use tinyvec_slice::SliceVec;
 use tinyvec_slots::NoRoom;
 use tinyvec_test_items::lent::holds;
-use tinyvec_test_items::{ended, first};
+use tinyvec_test_items::{all_right, first};
 
 fn first_three<I: Iterator<Item = i32> + Drop>(rest: I) -> [Option<i32>; 3]
     requires { I.can_next rest }
@@ -59,7 +59,7 @@ fn fill_stops_when_full(rt: HostRuntime) -> Result<(), Fail> {
     );
     wrong = first(wrong, 2, holds(&v, &[7, 0, 1], &[]));
     wrong = first(wrong, 3, slots == [7, 0, 1]);
-    ended(wrong)
+    all_right(wrong)
 }
 
 #[test]
@@ -70,7 +70,7 @@ fn fill_stops_at_the_end(rt: HostRuntime) -> Result<(), Fail> {
     wrong = first(wrong, 1, first_three(v.fill(5..7)) == [None; 3]);
     wrong = first(wrong, 2, holds(&v, &[1, 5, 6], &[9]));
     wrong = first(wrong, 3, slots == [1, 5, 6, 9]);
-    ended(wrong)
+    all_right(wrong)
 }
 
 #[test]
@@ -81,7 +81,7 @@ fn extend_answers_what_found_no_room(rt: HostRuntime) -> Result<(), Fail> {
     let mut wrong = 0;
     wrong = first(wrong, 1, extends(&mut v, 1..=4, back, &[1, 2], &[]));
     wrong = first(wrong, 2, slots == [1, 2]);
-    ended(wrong)
+    all_right(wrong)
 }
 
 #[test]
@@ -96,7 +96,7 @@ fn extend_by_endless_items(rt: HostRuntime) -> Result<(), Fail> {
         extends(&mut v, endless, [Some(6); 3], &[1, 6], &[]),
     );
     wrong = first(wrong, 2, slots == [1, 6]);
-    ended(wrong)
+    all_right(wrong)
 }
 
 #[test]
@@ -108,7 +108,7 @@ fn extend_by_what_fits(rt: HostRuntime) -> Result<(), Fail> {
     wrong = first(wrong, 2, extends(&mut v, 3..4, [None; 3], &[1, 2, 3], &[]));
     wrong = first(wrong, 3, extends(&mut v, 4..4, [None; 3], &[1, 2, 3], &[]));
     wrong = first(wrong, 4, slots == [1, 2, 3]);
-    ended(wrong)
+    all_right(wrong)
 }
 
 #[test]
@@ -119,7 +119,7 @@ fn extend_by_a_vec(rt: HostRuntime) -> Result<(), Fail> {
     let mut wrong = 0;
     wrong = first(wrong, 1, extends(&mut v, more, [None; 3], &[1, 2, 3], &[9]));
     wrong = first(wrong, 2, slots == [1, 2, 3, 9]);
-    ended(wrong)
+    all_right(wrong)
 }
 
 #[test]
@@ -132,7 +132,7 @@ fn extend_by_copies_of_a_slice(rt: HostRuntime) -> Result<(), Fail> {
     wrong = first(wrong, 1, extends(&mut v, two, [None; 3], &[1, 2, 3], &[]));
     wrong = first(wrong, 2, extends(&mut v, one, back, &[1, 2, 3], &[]));
     wrong = first(wrong, 3, slots == [1, 2, 3]);
-    ended(wrong)
+    all_right(wrong)
 }
 
 // Cuts the list or fills it up to so many items by the numbers that follow one, and answers the last, or none where there is
@@ -157,7 +157,7 @@ fn resize_with_fills_the_last_slot_first(rt: HostRuntime) -> Result<(), Fail> {
     wrong = first(wrong, 1, resize_with(&mut v, 1, 9) == Some(11));
     wrong = first(wrong, 2, holds(&v, &[1], &[11, 10, 7, 7]));
     wrong = first(wrong, 3, slots == [1, 11, 10, 7, 7]);
-    ended(wrong)
+    all_right(wrong)
 }
 
 #[test]
@@ -170,7 +170,7 @@ fn resize_with_answers_in_order(rt: HostRuntime) -> Result<(), Fail> {
     wrong = first(wrong, 3, resize_with(&mut v, 4, 5) == Some(5));
     wrong = first(wrong, 4, holds(&v, &[1, 2, 11, 12], &[9]));
     wrong = first(wrong, 5, slots == [1, 2, 11, 12, 9]);
-    ended(wrong)
+    all_right(wrong)
 }
 
 // Whether it asks for the items that are missing, or for what fills the emptied slots, and never where the list is as long.
@@ -219,7 +219,7 @@ fn retain_the_even(rt: HostRuntime) -> Result<(), Fail> {
     wrong = first(wrong, 1, retain(&mut v, Kept::Even) == 1234);
     wrong = first(wrong, 2, holds(&v, &[2, 4], &[0, 0, 9]));
     wrong = first(wrong, 3, slots == [2, 4, 0, 0, 9]);
-    ended(wrong)
+    all_right(wrong)
 }
 
 // Whether it asks about each of so many items once, whether all of them or none stay.
@@ -240,5 +240,5 @@ fn retain_asks_about_each_item_once(rt: HostRuntime) -> Result<(), Fail> {
     wrong = first(wrong, 3, asks_about(2, 12));
     wrong = first(wrong, 4, asks_about(3, 123));
     wrong = first(wrong, 5, asks_about(4, 1234));
-    ended(wrong)
+    all_right(wrong)
 }

@@ -1,7 +1,7 @@
 //! Iteration over the items.
 use std::test::Fail;
 use tinyvec_slice::SliceVec;
-use tinyvec_test_items::{ended, first, yields, yields_back};
+use tinyvec_test_items::{all_right, first, yields, yields_back};
 
 #[test]
 fn into_iter_lends_the_list_alone(rt: HostRuntime) {
@@ -47,5 +47,5 @@ fn iter_and_iter_mut(rt: HostRuntime) -> Result<(), Fail> {
     wrong = first(wrong, 2, yields_back(&mut items, Some(&-2)));
     wrong = first(wrong, 3, yields(&mut items, None));
     wrong = first(wrong, 4, slots == [-1, -2, 3]);
-    ended(wrong)
+    all_right(wrong)
 }

@@ -2,7 +2,7 @@
 use std::test::Fail;
 use tinyvec_slice::SliceVec;
 use tinyvec_test_items::lent::holds;
-use tinyvec_test_items::{ended, first};
+use tinyvec_test_items::{all_right, first};
 
 // Whether the items of a list find room behind another, and both hold this.
 fn appends<'s>(
@@ -31,7 +31,7 @@ fn append_moves_the_items(rt: HostRuntime) -> Result<(), Fail> {
     wrong = first(wrong, 2, appends(&mut v, &mut other, all, none));
     wrong = first(wrong, 3, one == [1, 2, 3, 4, 5, 8]);
     wrong = first(wrong, 4, two == [0, 0, 9]);
-    ended(wrong)
+    all_right(wrong)
 }
 
 type Parts = (&'static [i32], &'static [i32], &'static [i32]);
@@ -105,7 +105,7 @@ fn split_off(rt: HostRuntime) -> Result<(), Fail> {
         4,
         parts([1, 2, 3, 4], (4, 2), (&[1, 2], &[3, 4], &[]), [7, 2, 8, 4]),
     );
-    ended(wrong)
+    all_right(wrong)
 }
 
 const NUMBERS: [i32; 5] = [1, 2, 3, 4, 5];

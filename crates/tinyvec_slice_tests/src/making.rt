@@ -3,7 +3,7 @@ use std::convert::AsSlice;
 use std::test::Fail;
 use tinyvec_slice::SliceVec;
 use tinyvec_test_items::lent::{clears, holds, pops, sets_len, truncates};
-use tinyvec_test_items::{ended, first};
+use tinyvec_test_items::{all_right, first};
 
 // Whether these are the items and the spare slots. Then 7 is written to the last item, and the owner has to see it there.
 fn is_made(mut v: SliceVec<'_, i32>, items: &[i32], spare: &[i32]) -> bool {
@@ -24,7 +24,7 @@ fn of_the_first_slots(rt: HostRuntime) -> Result<(), Fail> {
     let two = SliceVec::from_slice_len(&mut slots, 2);
     wrong = first(wrong, 3, is_made(two, &[1, 2], &[3]));
     wrong = first(wrong, 4, slots == [1, 7, 3]);
-    ended(wrong)
+    all_right(wrong)
 }
 
 #[test]
@@ -36,7 +36,7 @@ fn shown(rt: HostRuntime) -> Result<(), Fail> {
     wrong = first(wrong, 2, AsSlice::as_slice(&v) == [1, 2].as_slice());
     wrong = first(wrong, 3, v.as_inner() == [1, 2, 3].as_slice());
     wrong = first(wrong, 4, v[1] == 2);
-    ended(wrong)
+    all_right(wrong)
 }
 
 #[test]
@@ -54,7 +54,7 @@ fn of_a_whole_slice_or_array(rt: HostRuntime) -> Result<(), Fail> {
     let all = SliceVec::from(&mut slots);
     wrong = first(wrong, 5, is_made(all, &[1, 2, 3], &[]));
     wrong = first(wrong, 6, slots == [1, 2, 7]);
-    ended(wrong)
+    all_right(wrong)
 }
 
 #[test]
@@ -68,7 +68,7 @@ fn of_at_most_so_many_slots(rt: HostRuntime) -> Result<(), Fail> {
     let all = SliceVec::from_slice_at_most(&mut slots, 4);
     wrong = first(wrong, 3, is_made(all, &[1, 2, 3], &[]));
     wrong = first(wrong, 4, slots == [1, 2, 7]);
-    ended(wrong)
+    all_right(wrong)
 }
 
 // Whether there are as many slots, and the vector is full.
@@ -85,7 +85,7 @@ fn of_as_many_slots_as_there_are(rt: HostRuntime) -> Result<(), Fail> {
     let mut wrong = 0;
     wrong = first(wrong, 1, is_made_full(&mut slots, 3, &[1, 2, 3]));
     wrong = first(wrong, 2, slots == [1, 2, 7]);
-    ended(wrong)
+    all_right(wrong)
 }
 
 // So many of the slots, and a length that is greater.
@@ -124,7 +124,7 @@ fn over_no_slots(rt: HostRuntime) -> Result<(), Fail> {
     wrong = first(wrong, 3, truncates(&mut v, 0, &[], &[]));
     wrong = first(wrong, 4, clears(&mut v, &[]));
     wrong = first(wrong, 5, sets_len(&mut v, 0, &[], &[]));
-    ended(wrong)
+    all_right(wrong)
 }
 
 #[test]
@@ -137,5 +137,5 @@ fn over_no_slots_filled_and_parted(rt: HostRuntime) -> Result<(), Fail> {
     wrong = first(wrong, 3, v.drain(..).next() == None);
     wrong = first(wrong, 4, v.split_off(0).is_full());
     wrong = first(wrong, 5, v.extend(1..2).is_err());
-    ended(wrong)
+    all_right(wrong)
 }

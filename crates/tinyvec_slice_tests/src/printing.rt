@@ -3,7 +3,7 @@ use std::alloc::{AllocError, Global};
 use std::fmt;
 use std::test::Fail;
 use tinyvec_slice::SliceVec;
-use tinyvec_test_items::{ended, first, first_granted, is_debugged, is_shown};
+use tinyvec_test_items::{all_right, first, granted_ok, is_debugged, is_shown};
 
 #[derive(Clone, Copy)]
 enum Base {
@@ -30,8 +30,8 @@ impl<'a, 's> fmt::Display for InBase<'a, 's> {
 
 // Whether `{}` and `{:?}` write a list of numbers so.
 fn reads(alloc: Global, v: &SliceVec<'_, i32>, text: &str) -> Result<bool, AllocError> {
-    match is_shown(alloc, v, text) {
-        Ok(is_right) => is_debugged(alloc, v, text).map(|is_same| is_right & is_same),
+    match is_shown(v, text) {
+        Ok(is_right) => is_debugged(v, text).map(|is_same| is_right & is_same),
         Err(error) => Err(error),
     }
 }
@@ -55,11 +55,11 @@ fn after_each_push(rt: HostRuntime) -> Result<(), Fail> {
     let mut slots = [1, 2, 3, 4];
     let mut v = SliceVec::from_slice_len(&mut slots, 0);
     let mut wrong = 0;
-    wrong = first_granted(wrong, 1, reads(rt.alloc(), &v, "[]"));
-    wrong = first_granted(wrong, 2, pushes(rt.alloc(), &mut v, 10, "[10]"));
-    wrong = first_granted(wrong, 3, pushes(rt.alloc(), &mut v, 11, "[10, 11]"));
-    wrong = first_granted(wrong, 4, pushes(rt.alloc(), &mut v, 12, "[10, 11, 12]"));
-    ended(wrong)
+    wrong = granted_ok(wrong, 1, reads(rt.alloc(), &v, "[]"));
+    wrong = granted_ok(wrong, 2, pushes(rt.alloc(), &mut v, 10, "[10]"));
+    wrong = granted_ok(wrong, 3, pushes(rt.alloc(), &mut v, 11, "[10, 11]"));
+    wrong = granted_ok(wrong, 4, pushes(rt.alloc(), &mut v, 12, "[10, 11, 12]"));
+    all_right(wrong)
 }
 
 // `{}` writes a letter as it is, and `{:?}` in quotes.
@@ -68,9 +68,9 @@ fn each_item_by_its_own_text(rt: HostRuntime) -> Result<(), Fail> {
     let mut slots = ['a', 'b', 'c'];
     let v = SliceVec::from_slice_len(&mut slots, 2);
     let mut wrong = 0;
-    wrong = first_granted(wrong, 1, is_shown(rt.alloc(), &v, "[a, b]"));
-    wrong = first_granted(wrong, 2, is_debugged(rt.alloc(), &v, "['a', 'b']"));
-    ended(wrong)
+    wrong = first(wrong, 1, is_shown(&v, "[a, b]"));
+    wrong = first(wrong, 2, is_debugged(&v, "['a', 'b']"));
+    all_right(wrong)
 }
 
 // Whether the list of so many of these numbers is written so in a base.
@@ -82,7 +82,7 @@ fn is_based(
 ) -> Result<bool, AllocError> {
     let mut slots = numbers;
     let v = SliceVec::from_slice_at_most(&mut slots, len);
-    is_shown(alloc, &InBase(base, &v), text)
+    is_shown(&InBase(base, &v), text)
 }
 
 #[test]
@@ -90,39 +90,39 @@ fn in_each_base(rt: HostRuntime) -> Result<(), Fail> {
     let alloc = rt.alloc();
     let numbers = [10, 255, 9];
     let mut wrong = 0;
-    wrong = first_granted(
+    wrong = granted_ok(
         wrong,
         1,
         is_based(alloc, Base::Binary, ([2, 5, 9], 2), "[10, 101]"),
     );
-    wrong = first_granted(
+    wrong = granted_ok(
         wrong,
         2,
         is_based(alloc, Base::Octal, ([8, 9, 9], 2), "[10, 11]"),
     );
-    wrong = first_granted(
+    wrong = granted_ok(
         wrong,
         3,
         is_based(alloc, Base::LowerHex, (numbers, 2), "[a, ff]"),
     );
-    wrong = first_granted(
+    wrong = granted_ok(
         wrong,
         4,
         is_based(alloc, Base::UpperHex, (numbers, 2), "[A, FF]"),
     );
-    wrong = first_granted(wrong, 5, is_based(alloc, Base::Binary, (numbers, 0), "[]"));
-    wrong = first_granted(wrong, 6, is_based(alloc, Base::Octal, (numbers, 0), "[]"));
-    wrong = first_granted(
+    wrong = granted_ok(wrong, 5, is_based(alloc, Base::Binary, (numbers, 0), "[]"));
+    wrong = granted_ok(wrong, 6, is_based(alloc, Base::Octal, (numbers, 0), "[]"));
+    wrong = granted_ok(
         wrong,
         7,
         is_based(alloc, Base::LowerHex, (numbers, 0), "[]"),
     );
-    wrong = first_granted(
+    wrong = granted_ok(
         wrong,
         8,
         is_based(alloc, Base::UpperHex, (numbers, 0), "[]"),
     );
-    ended(wrong)
+    all_right(wrong)
 }
 
 // The first step that went wrong as the items 2, 3 and 4 are taken, or 0.
@@ -132,25 +132,25 @@ fn taken(alloc: Global, v: &mut SliceVec<'_, i32>) -> u32 {
     }
     let mut wrong = 0;
     let mut items = v.drain(1..4);
-    wrong = first_granted(
+    wrong = first(
         wrong,
         1,
-        is_debugged(alloc, &items, "SliceVecDrain([2, 3, 4])"),
+        is_debugged(&items, "SliceVecDrain([2, 3, 4])"),
     );
     wrong = first(wrong, 2, items.next() == Some(2));
-    wrong = first_granted(
+    wrong = first(
         wrong,
         3,
-        is_debugged(alloc, &items, "SliceVecDrain([3, 4])"),
+        is_debugged(&items, "SliceVecDrain([3, 4])"),
     );
     wrong = first(wrong, 4, items.next() == Some(3));
     wrong = first(wrong, 5, items.next() == Some(4));
-    first_granted(wrong, 6, is_debugged(alloc, &items, "SliceVecDrain([])"))
+    first(wrong, 6, is_debugged(&items, "SliceVecDrain([])"))
 }
 
 #[test]
 fn what_is_left_of_a_drain(rt: HostRuntime) -> Result<(), Fail> {
     let mut slots = [1, 2, 3, 4, 5, 9];
     let mut v = SliceVec::from_slice_len(&mut slots, 5);
-    ended(taken(rt.alloc(), &mut v))
+    all_right(taken(rt.alloc(), &mut v))
 }

@@ -4,7 +4,7 @@ use std::fmt::Write;
 use std::test::Fail;
 use tinyvec_slice::SliceVec;
 use tinyvec_test_items::lent::holds;
-use tinyvec_test_items::{ended, first};
+use tinyvec_test_items::{all_right, first};
 
 // Whether a text is written or refused, and this is left.
 fn writes(
@@ -33,7 +33,7 @@ fn a_text_that_does_not_fit(rt: HostRuntime) -> Result<(), Fail> {
         writes(&mut v, "de", Err(fmt::Error), &[9, 97, 98, 99], &[9]),
     );
     wrong = first(wrong, 3, slots == [9, 97, 98, 99, 9]);
-    ended(wrong)
+    all_right(wrong)
 }
 
 #[test]
@@ -47,7 +47,7 @@ fn an_exact_fit(rt: HostRuntime) -> Result<(), Fail> {
         writes(&mut v, "abc", Ok(()), &[9, 97, 98, 99], &[]),
     );
     wrong = first(wrong, 2, slots == [9, 97, 98, 99]);
-    ended(wrong)
+    all_right(wrong)
 }
 
 #[test]
@@ -65,7 +65,7 @@ fn an_empty_text(rt: HostRuntime) -> Result<(), Fail> {
         5,
         writes(&mut over_no_slots, "a", Err(fmt::Error), &[], &[]),
     );
-    ended(wrong)
+    all_right(wrong)
 }
 
 // `é` takes the bytes 195 and 169, and both are written or none.
@@ -81,7 +81,7 @@ fn a_letter_of_two_bytes(rt: HostRuntime) -> Result<(), Fail> {
         writes(&mut v, "é", Err(fmt::Error), &[195, 169], &[0]),
     );
     wrong = first(wrong, 3, slots == [195, 169, 0]);
-    ended(wrong)
+    all_right(wrong)
 }
 
 fn write_numbers(v: &mut SliceVec<'_, u8>, x: u32, y: u32) -> fmt::Result {
@@ -97,7 +97,7 @@ fn numbers(rt: HostRuntime) -> Result<(), Fail> {
     wrong = first(wrong, 1, write_numbers(&mut v, 12, 5) == Ok(()));
     wrong = first(wrong, 2, holds(&v, b"\x0112, 5", &[7, 8]));
     wrong = first(wrong, 3, slots == [1, 49, 50, 44, 32, 53, 7, 8]);
-    ended(wrong)
+    all_right(wrong)
 }
 
 // Each piece is written as a whole or not at all, and what was written before one that is refused stays.
@@ -109,5 +109,5 @@ fn numbers_that_do_not_fit(rt: HostRuntime) -> Result<(), Fail> {
     wrong = first(wrong, 1, write_numbers(&mut v, 12, 345) == Err(fmt::Error));
     wrong = first(wrong, 2, holds(&v, b"12, ", &[9]));
     wrong = first(wrong, 3, slots == [49, 50, 44, 32, 9]);
-    ended(wrong)
+    all_right(wrong)
 }

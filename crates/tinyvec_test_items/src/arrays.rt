@@ -1,5 +1,7 @@
 //! Steps of an `ArrayVec`.
-use tinyvec_array::{Array, ArrayVec};
+use crate::steps::answers;
+use std::alloc::AllocError;
+use tinyvec_array::{Array, ArrayVec, FromIterRest, NoMemory};
 
 /// Whether these are the items, and these the spare slots after them.
 pub fn holds<A: Array>(v: &ArrayVec<A>, items: &[A::Item], spare: &[A::Item]) -> bool
@@ -11,7 +13,22 @@ where
     count & room & (v.as_slice() == items) & (v.grab_spare_slice() == spare)
 }
 
-/// Whether an item finds room, and leaves this.
+/// Whether a vector was made, and holds this.
+pub fn is_made<A: Array, E: Drop>(
+    made: Result<ArrayVec<A>, E>,
+    items: &[A::Item],
+    spare: &[A::Item],
+) -> bool
+where
+    A::Item: PartialEq,
+{
+    match made {
+        Ok(v) => holds(&v, items, spare),
+        Err(_) => false,
+    }
+}
+
+/// Whether `try_push` finds room for an item, and leaves this.
 pub fn pushes<A: Array>(
     v: &mut ArrayVec<A>,
     item: A::Item,
@@ -37,7 +54,7 @@ where
     (v.pop() == item) & holds(v, items, spare)
 }
 
-/// Whether an item finds room at an index of the list, and leaves this.
+/// Whether `try_insert` finds room for an item at an index of the list, and leaves this.
 pub fn inserts<A: Array>(
     v: &mut ArrayVec<A>,
     index: usize,
@@ -77,4 +94,111 @@ where
 {
     v.truncate(len);
     holds(v, items, spare)
+}
+
+/// Whether the item at an index of the list is this one, and the last in its place leaves this.
+pub fn swap_removes<A: Array>(
+    v: &mut ArrayVec<A>,
+    index: usize,
+    item: A::Item,
+    items: &[A::Item],
+    spare: &[A::Item],
+) -> bool
+where
+    A::Item: PartialEq,
+{
+    index < v.len() && (v.swap_remove(index) == item) & holds(v, items, spare)
+}
+
+/// Whether `clone_from` answers this, and leaves this.
+pub fn clones_over<A: Array>(
+    v: &mut ArrayVec<A>,
+    source: &ArrayVec<A>,
+    answer: Result<(), AllocError>,
+    items: &[A::Item],
+    spare: &[A::Item],
+) -> bool
+where
+    A::Item: Clone + PartialEq,
+{
+    (v.clone_from(source) == answer) & holds(v, items, spare)
+}
+
+/// Whether there is room for clones of these, and `extend_from_slice` answers this and leaves this.
+pub fn extends_by_clones<A: Array>(
+    v: &mut ArrayVec<A>,
+    source: &[A::Item],
+    answer: Result<(), AllocError>,
+    items: &[A::Item],
+    spare: &[A::Item],
+) -> bool
+where
+    A::Item: Clone + PartialEq,
+{
+    source.len() <= v.capacity().saturating_sub(v.len())
+        && (v.extend_from_slice(source) == answer) & holds(v, items, spare)
+}
+
+/// Whether there are so many slots, and `resize` answers this and leaves this.
+pub fn resizes<A: Array>(
+    v: &mut ArrayVec<A>,
+    len: usize,
+    item: A::Item,
+    answer: Result<(), NoMemory<A::Item>>,
+    items: &[A::Item],
+    spare: &[A::Item],
+) -> bool
+where
+    A::Item: Clone + PartialEq,
+{
+    len <= v.capacity() && (v.resize(len, item) == answer) & holds(v, items, spare)
+}
+
+/// Whether `fill` leaves this, and an iterator that answers so next.
+pub fn fills<A: Array, I: Iterator<Item = A::Item> + Drop>(
+    v: &mut ArrayVec<A>,
+    iter: I,
+    next: Option<A::Item>,
+    items: &[A::Item],
+    spare: &[A::Item],
+) -> bool
+where
+    A::Item: PartialEq,
+    requires { (s : I) → I.can_next s }
+{
+    let mut rest = v.fill(iter);
+    (rest.next() == next) & holds(v, items, spare)
+}
+
+/// Whether all items of an iterator find room, and leave this.
+pub fn extends<A: Array, I: Iterator<Item = A::Item> + Drop>(
+    v: &mut ArrayVec<A>,
+    iter: I,
+    items: &[A::Item],
+    spare: &[A::Item],
+) -> bool
+where
+    A::Item: PartialEq,
+    requires { (s : I) → I.can_next s }
+{
+    v.extend(iter).is_ok() & holds(v, items, spare)
+}
+
+/// Whether a full vector of these came back, the item that found no room, and what answers so next.
+pub fn is_refused<A: Array, I: Iterator<Item = A::Item> + Drop>(
+    made: Result<ArrayVec<A>, FromIterRest<ArrayVec<A>, A::Item, I>>,
+    items: &[A::Item],
+    item: A::Item,
+    next: &[Option<A::Item>],
+) -> bool
+where
+    A::Item: PartialEq,
+    requires { (s : I) → I.can_next s }
+{
+    match made {
+        Ok(_) => false,
+        Err(refused) => {
+            holds(&refused.vec, items, &[]) & (refused.item == item) & answers(refused.rest, next)
+        }
+    }
 }

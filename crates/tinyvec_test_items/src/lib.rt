@@ -13,6 +13,9 @@ mod unhinted;
 pub use asserting::{debugs, same_items, same_value, shows};
 pub use cloned::{Item, Limited};
 pub use counting::counted;
-pub use granted::{ended, first_granted, is_debugged, is_shown};
-pub use steps::{first, is_left, yields, yields_back};
+pub use granted::{all_right, granted, granted_ok};
+pub use steps::{
+    answers, fails, first, is_debugged, is_left, is_shown, refuses, splice_refuses, yields,
+    yields_back,
+};
 pub use unhinted::Unhinted;

@@ -1,6 +1,8 @@
 //! Tests by steps: a step is one call that says whether all went as wanted, and a test ends with one assertion, which names
 //! the first step that went wrong. Its proof takes a quarter of that of an assertion after each call.
+use std::fmt::{Debug, Display, InlineText, Write};
 use std::iter::ExactSizeIterator;
+use tinyvec_slots::{NoRoom, SpliceRest};
 
 /// The first step that went wrong, or 0.
 pub fn first(wrong: u32, step: u32, is_right: bool) -> u32 {
@@ -28,4 +30,71 @@ where
 /// Whether an iterator says that it yields so many items more.
 pub fn is_left<I: ExactSizeIterator>(iter: &I, len: usize) -> bool {
     (iter.len() == len) & (iter.size_hint() == (len, Some(len)))
+}
+
+/// Whether an iterator answers so, call after call.
+pub fn answers<I: Iterator + Drop>(mut iter: I, next: &[Option<I::Item>]) -> bool
+where
+    I::Item: PartialEq + Drop,
+    requires { (s : I) → I.can_next s }
+{
+    let mut same = true;
+    for wanted in next {
+        same = same & gives(&mut iter, wanted);
+    }
+    same
+}
+
+// A call of its own, since a loop that calls `next` would have to end by it.
+fn gives<I: Iterator>(iter: &mut I, wanted: &Option<I::Item>) -> bool
+where
+    I::Item: PartialEq + Drop,
+    requires { I.can_next iter.now }
+{
+    iter.next() == *wanted
+}
+
+/// Whether an item found no room and came back, with what answers so next.
+pub fn refuses<T: PartialEq + Drop, I: Iterator<Item = T> + Drop>(
+    extended: Result<(), NoRoom<T, I>>,
+    item: T,
+    next: &[Option<T>],
+) -> bool
+    requires { (s : I) → I.can_next s }
+{
+    match extended {
+        Ok(()) => false,
+        Err(refused) => (refused.item == item) & answers(refused.rest, next),
+    }
+}
+
+/// The same of what a splice put in place of its range.
+pub fn splice_refuses<T: PartialEq + Drop, I: Iterator<Item = T> + Drop>(
+    finished: Result<(), SpliceRest<T, I>>,
+    item: T,
+    next: &[Option<T>],
+) -> bool
+    requires { (s : I) → I.can_next s }
+{
+    match finished {
+        Ok(()) => false,
+        Err(refused) => (refused.item == item) & answers(refused.rest, next),
+    }
+}
+
+/// Whether a call failed by this error.
+pub fn fails<T: Drop, E: PartialEq + Drop>(answer: Result<T, E>, error: E) -> bool {
+    answer.err() == Some(error)
+}
+
+/// Whether `{}` writes a value so, in up to 128 bytes.
+pub fn is_shown<T: Display>(value: &T, text: &str) -> bool {
+    let mut written = InlineText::<128>::new();
+    write!(written, "{value}").is_ok() & (written.as_str() == text)
+}
+
+/// The same of `{:?}`.
+pub fn is_debugged<T: Debug>(value: &T, text: &str) -> bool {
+    let mut written = InlineText::<128>::new();
+    write!(written, "{value:?}").is_ok() & (written.as_str() == text)
 }

@@ -1,4 +1,4 @@
-//! How a `TinyVec` looks to a test, and steps of a test. `None` says that a step was refused memory.
+//! How a `TinyVec` looks to a test, and its steps. `None` says that a step was refused memory.
 #![tactic(auto)]
 
 ghost use Rattle.std.specs.Iterator.{IsFinite};

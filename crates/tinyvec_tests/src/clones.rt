@@ -3,8 +3,8 @@ use std::alloc::{AllocError, Global};
 use std::cell::Cell;
 use std::test::Fail;
 use tinyvec::{NoMemory, TinyVec};
-use tinyvec_test_items::{Item, Limited, first};
-use tinyvec_test_looks::{all_right, granted, lies, makes_before, spares};
+use tinyvec_test_items::{Item, Limited, all_right, first, granted};
+use tinyvec_test_looks::{lies, makes_before, spares};
 
 #[test]
 fn cloned(rt: HostRuntime) -> Result<(), Fail> {

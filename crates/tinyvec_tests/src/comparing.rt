@@ -5,8 +5,7 @@ use std::cmp::Ordering;
 use std::hash::{DefaultHasher, Hash, Hasher};
 use std::test::Fail;
 use tinyvec::TinyVec;
-use tinyvec_test_items::first;
-use tinyvec_test_looks::{all_right, granted};
+use tinyvec_test_items::{all_right, first, granted};
 
 // Where two lists lie: whether the first is inline, and whether the second is.
 const PLACES: [(bool, bool); 4] = [(true, true), (true, false), (false, true), (false, false)];

@@ -9,8 +9,8 @@ use std::mem;
 use std::ops::{Bound, RangeBounds};
 use std::test::Fail;
 use tinyvec::{ArrayVec, TinyVec};
-use tinyvec_test_items::{first, is_left};
-use tinyvec_test_looks::{all_right, granted, lies, lies_before, spares};
+use tinyvec_test_items::{all_right, first, granted, is_left};
+use tinyvec_test_looks::{lies, lies_before, spares};
 
 // A range of `[1, 2, 3]`, what it gives, and the list that it leaves.
 type Row = (Span, &'static [i32], &'static [i32]);

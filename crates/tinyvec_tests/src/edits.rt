@@ -5,8 +5,8 @@ use crate::placed::placed;
 use std::alloc::{AllocError, Global};
 use std::test::Fail;
 use tinyvec::TinyVec;
-use tinyvec_test_items::first;
-use tinyvec_test_looks::{all_right, granted, lies, lies_before, makes_before, spares};
+use tinyvec_test_items::{all_right, first, granted};
+use tinyvec_test_looks::{lies, lies_before, makes_before, spares};
 
 #[derive(Clone, Copy)]
 enum Edit {

@@ -2,8 +2,8 @@
 use std::alloc::Global;
 use std::test::Fail;
 use tinyvec::TinyVec;
-use tinyvec_test_items::{Unhinted, first};
-use tinyvec_test_looks::{all_right, extends, granted, spares};
+use tinyvec_test_items::{Unhinted, all_right, first, granted};
+use tinyvec_test_looks::{extends, spares};
 
 #[test]
 fn listed(rt: HostRuntime) -> Result<(), Fail> {

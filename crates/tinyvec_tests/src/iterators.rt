@@ -2,8 +2,8 @@
 use std::alloc::{AllocError, Global};
 use std::test::Fail;
 use tinyvec::{TinyVec, TinyVecIterator};
-use tinyvec_test_items::{first, is_left, yields, yields_back};
-use tinyvec_test_looks::{all_right, granted, lies, lies_before};
+use tinyvec_test_items::{all_right, first, granted, is_left, yields, yields_back};
+use tinyvec_test_looks::{lies, lies_before};
 
 fn listed(alloc: Global, items: &[i32]) -> Result<TinyVec<[i32; 4]>, AllocError> {
     TinyVec::from_slice(alloc, items)

@@ -3,8 +3,8 @@ use std::alloc::{AllocError, Global};
 use std::cell::Cell;
 use std::test::Fail;
 use tinyvec::{Array, TinyVec, tiny_vec};
-use tinyvec_test_items::{Item, counted, first};
-use tinyvec_test_looks::{all_right, granted, makes, makes_before};
+use tinyvec_test_items::{Item, all_right, counted, first, granted};
+use tinyvec_test_looks::{makes, makes_before};
 
 #[test]
 fn items_of_a_named_array(rt: HostRuntime) -> Result<(), Fail> {

@@ -2,8 +2,8 @@
 use std::alloc::{AllocError, Global};
 use std::test::Fail;
 use tinyvec::{Array, ArrayVec, TinyVec};
-use tinyvec_test_items::first;
-use tinyvec_test_looks::{all_right, granted, lies, lies_before, makes, makes_before};
+use tinyvec_test_items::{all_right, first, granted};
+use tinyvec_test_looks::{lies, lies_before, makes, makes_before};
 
 type Four = TinyVec<[i32; 4]>;
 

@@ -4,8 +4,8 @@ use std::alloc::{AllocError, Global};
 use std::fmt;
 use std::test::Fail;
 use tinyvec::{TinyVec, TinyVecIterator};
-use tinyvec_test_items::{debugs, first, shows, yields, yields_back};
-use tinyvec_test_looks::{all_right, granted, lies, pushes};
+use tinyvec_test_items::{all_right, debugs, first, granted, shows, yields, yields_back};
+use tinyvec_test_looks::{lies, pushes};
 
 // In which base a vector is shown, and in which letters.
 #[derive(Clone, Copy)]

@@ -11,8 +11,8 @@ use std::iter;
 use std::ops::{Bound, RangeBounds};
 use std::test::Fail;
 use tinyvec::{SpliceRest, TinyVec};
-use tinyvec_test_items::{Unhinted, first};
-use tinyvec_test_looks::{all_right, granted, lies, spares};
+use tinyvec_test_items::{Unhinted, all_right, first, granted};
+use tinyvec_test_looks::{lies, spares};
 
 // What a splice gives from an end, or what it tells of itself.
 #[derive(Clone, Copy)]

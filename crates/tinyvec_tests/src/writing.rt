@@ -2,8 +2,8 @@
 use std::io::Write;
 use std::test::Fail;
 use tinyvec::{Array, TinyVec};
-use tinyvec_test_items::first;
-use tinyvec_test_looks::{all_right, granted, lies, spares, writes};
+use tinyvec_test_items::{all_right, first, granted};
+use tinyvec_test_looks::{lies, spares, writes};
 
 #[test]
 fn inline_then_on_the_heap(rt: HostRuntime) -> Result<(), Fail> {

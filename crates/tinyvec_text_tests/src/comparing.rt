@@ -3,7 +3,7 @@ use std::alloc::{AllocError, Global};
 use std::cmp::Ordering;
 use std::hash::{DefaultHasher, Hash, Hasher};
 use std::test::Fail;
-use tinyvec_test_items::{ended, first_granted};
+use tinyvec_test_items::{all_right, granted_ok};
 use tinyvec_text::InlineText;
 
 // Where two texts lie: whether the first is inline, and whether the second is.
@@ -65,10 +65,10 @@ fn in_the_order_of_their_bytes_in_each_place(rt: HostRuntime) -> Result<(), Fail
     for (step, s, other, order) in ORDERED {
         for places in PLACES {
             let is_right = compare(rt.alloc(), (s, other), places, order);
-            wrong = first_granted(wrong, step, is_right);
+            wrong = granted_ok(wrong, step, is_right);
         }
     }
-    ended(wrong)
+    all_right(wrong)
 }
 
 // Whether a text feeds a hasher what a `str` feeds it.
@@ -80,9 +80,9 @@ fn hashes_as_a_str(alloc: Global, s: &str) -> Result<bool, AllocError> {
 #[test]
 fn hashed_as_a_str(rt: HostRuntime) -> Result<(), Fail> {
     let mut wrong = 0;
-    wrong = first_granted(wrong, 1, hashes_as_a_str(rt.alloc(), ""));
-    wrong = first_granted(wrong, 2, hashes_as_a_str(rt.alloc(), "a"));
-    wrong = first_granted(wrong, 3, hashes_as_a_str(rt.alloc(), "hé"));
-    wrong = first_granted(wrong, 4, hashes_as_a_str(rt.alloc(), "\u{1F600}"));
-    ended(wrong)
+    wrong = granted_ok(wrong, 1, hashes_as_a_str(rt.alloc(), ""));
+    wrong = granted_ok(wrong, 2, hashes_as_a_str(rt.alloc(), "a"));
+    wrong = granted_ok(wrong, 3, hashes_as_a_str(rt.alloc(), "hé"));
+    wrong = granted_ok(wrong, 4, hashes_as_a_str(rt.alloc(), "\u{1F600}"));
+    all_right(wrong)
 }

@@ -1,31 +1,31 @@
 //! Texts joined, and room asked for.
 use crate::steps::{begins, is_cut_at, joins, pushes, reserves};
 use std::test::Fail;
-use tinyvec_test_items::{ended, first, first_granted};
+use tinyvec_test_items::{all_right, first, granted_ok};
 use tinyvec_text::InlineText;
 
 #[test]
 fn joined_in_the_array_and_on_the_heap(rt: HostRuntime) -> Result<(), Fail> {
     let mut t: InlineText<4> = InlineText::new(rt.alloc());
     let mut wrong = 0;
-    wrong = first_granted(wrong, 1, joins(&mut t, "héy", "héy", true));
+    wrong = granted_ok(wrong, 1, joins(&mut t, "héy", "héy", true));
     wrong = first(
         wrong,
         2,
         t.as_bytes() == [0x68, 0xC3, 0xA9, 0x79].as_slice(),
     );
-    wrong = first_granted(wrong, 3, joins(&mut t, "!", "héy!", false));
-    wrong = first_granted(wrong, 4, joins(&mut t, "?", "héy!?", false));
-    ended(wrong)
+    wrong = granted_ok(wrong, 3, joins(&mut t, "!", "héy!", false));
+    wrong = granted_ok(wrong, 4, joins(&mut t, "?", "héy!?", false));
+    all_right(wrong)
 }
 
 #[test]
 fn blanks_are_characters(rt: HostRuntime) -> Result<(), Fail> {
     let mut t: InlineText<4> = InlineText::new(rt.alloc());
     let mut wrong = 0;
-    wrong = first_granted(wrong, 1, joins(&mut t, "a b", "a b", true));
-    wrong = first_granted(wrong, 2, joins(&mut t, " c", "a b c", false));
-    ended(wrong)
+    wrong = granted_ok(wrong, 1, joins(&mut t, "a b", "a b", true));
+    wrong = granted_ok(wrong, 2, joins(&mut t, " c", "a b c", false));
+    all_right(wrong)
 }
 
 #[test]
@@ -33,10 +33,10 @@ fn nothing_is_joined(rt: HostRuntime) -> Result<(), Fail> {
     let mut full: InlineText<2> = InlineText::new(rt.alloc());
     let mut none: InlineText<0> = InlineText::new(rt.alloc());
     let mut wrong = 0;
-    wrong = first_granted(wrong, 1, begins(&mut full, rt.alloc(), "ab", true));
-    wrong = first_granted(wrong, 2, joins(&mut full, "", "ab", true));
-    wrong = first_granted(wrong, 3, joins(&mut none, "", "", true));
-    ended(wrong)
+    wrong = granted_ok(wrong, 1, begins(&mut full, rt.alloc(), "ab", true));
+    wrong = granted_ok(wrong, 2, joins(&mut full, "", "ab", true));
+    wrong = granted_ok(wrong, 3, joins(&mut none, "", "", true));
+    all_right(wrong)
 }
 
 #[test]
@@ -44,9 +44,9 @@ fn too_much_at_once(rt: HostRuntime) -> Result<(), Fail> {
     let mut t: InlineText<4> = InlineText::new(rt.alloc());
     let mut none: InlineText<0> = InlineText::new(rt.alloc());
     let mut wrong = 0;
-    wrong = first_granted(wrong, 1, joins(&mut t, "hello", "hello", false));
-    wrong = first_granted(wrong, 2, pushes(&mut none, 'a', "a", false));
-    ended(wrong)
+    wrong = granted_ok(wrong, 1, joins(&mut t, "hello", "hello", false));
+    wrong = granted_ok(wrong, 2, pushes(&mut none, 'a', "a", false));
+    all_right(wrong)
 }
 
 #[test]
@@ -54,7 +54,7 @@ fn a_character_of_four_bytes(rt: HostRuntime) -> Result<(), Fail> {
     let mut t: InlineText<4> = InlineText::new(rt.alloc());
     let bytes = [0xF0, 0x9F, 0x98, 0x80];
     let mut wrong = 0;
-    wrong = first_granted(wrong, 1, pushes(&mut t, '\u{1F600}', "\u{1F600}", true));
+    wrong = granted_ok(wrong, 1, pushes(&mut t, '\u{1F600}', "\u{1F600}", true));
     wrong = first(wrong, 2, t.len() == 4);
     wrong = first(wrong, 3, t.as_bytes() == bytes.as_slice());
     wrong = first(
@@ -62,13 +62,13 @@ fn a_character_of_four_bytes(rt: HostRuntime) -> Result<(), Fail> {
         4,
         is_cut_at(&t, [true, false, false, false, true, false]),
     );
-    wrong = first_granted(wrong, 5, pushes(&mut t, 'a', "\u{1F600}a", false));
+    wrong = granted_ok(wrong, 5, pushes(&mut t, 'a', "\u{1F600}a", false));
     wrong = first(
         wrong,
         6,
         is_cut_at(&t, [true, false, false, false, true, true]),
     );
-    ended(wrong)
+    all_right(wrong)
 }
 
 // Whether two characters, in an empty text, have these bytes in the array.
@@ -97,7 +97,7 @@ fn characters_of_each_width(rt: HostRuntime) -> Result<(), Fail> {
         4,
         spells(&mut t, ['\u{10000}', '\u{10FFFF}'], &of_four),
     );
-    ended(wrong)
+    all_right(wrong)
 }
 
 #[test]
@@ -105,36 +105,36 @@ fn many_characters(rt: HostRuntime) -> Result<(), Fail> {
     let mut t: InlineText<8> = InlineText::new(rt.alloc());
     let mut wrong = 0;
     for _turn in 0..100 {
-        wrong = first_granted(wrong, 1, t.push('é').and(Ok(true)));
+        wrong = granted_ok(wrong, 1, t.push('é').and(Ok(true)));
     }
     wrong = first(wrong, 2, t.len() == 200);
     wrong = first(wrong, 3, !t.is_inline());
     wrong = first(wrong, 4, t.as_str().chars().all(|c| c == 'é'));
-    ended(wrong)
+    all_right(wrong)
 }
 
 #[test]
 fn room_asked_for(rt: HostRuntime) -> Result<(), Fail> {
     let mut t: InlineText<4> = InlineText::new(rt.alloc());
     let mut wrong = 0;
-    wrong = first_granted(wrong, 1, begins(&mut t, rt.alloc(), "ab", true));
-    wrong = first_granted(wrong, 2, reserves(&mut t, 2, "ab", true));
+    wrong = granted_ok(wrong, 1, begins(&mut t, rt.alloc(), "ab", true));
+    wrong = granted_ok(wrong, 2, reserves(&mut t, 2, "ab", true));
     wrong = first(wrong, 3, t.capacity() == 4);
-    wrong = first_granted(wrong, 4, reserves(&mut t, 3, "ab", false));
+    wrong = granted_ok(wrong, 4, reserves(&mut t, 3, "ab", false));
     let room = t.capacity();
-    wrong = first_granted(wrong, 5, joins(&mut t, "cde", "abcde", false));
+    wrong = granted_ok(wrong, 5, joins(&mut t, "cde", "abcde", false));
     wrong = first(wrong, 6, t.capacity() == room);
-    ended(wrong)
+    all_right(wrong)
 }
 
 #[test]
 fn room_asked_for_on_the_heap(rt: HostRuntime) -> Result<(), Fail> {
     let mut t: InlineText<4> = InlineText::new(rt.alloc());
     let mut wrong = 0;
-    wrong = first_granted(wrong, 1, begins(&mut t, rt.alloc(), "héllo", false));
-    wrong = first_granted(wrong, 2, reserves(&mut t, 100, "héllo", false));
+    wrong = granted_ok(wrong, 1, begins(&mut t, rt.alloc(), "héllo", false));
+    wrong = granted_ok(wrong, 2, reserves(&mut t, 100, "héllo", false));
     let room = t.capacity();
-    wrong = first_granted(wrong, 3, reserves(&mut t, 100, "héllo", false));
+    wrong = granted_ok(wrong, 3, reserves(&mut t, 100, "héllo", false));
     wrong = first(wrong, 4, t.capacity() == room);
-    ended(wrong)
+    all_right(wrong)
 }

@@ -2,7 +2,7 @@
 use crate::steps::{begins, is_cut_at, lies};
 use std::convert::{AsSlice, AsStr};
 use std::test::Fail;
-use tinyvec_test_items::{ended, first, first_granted};
+use tinyvec_test_items::{all_right, first, granted_ok};
 use tinyvec_text::InlineText;
 
 #[test]
@@ -17,7 +17,7 @@ fn empty(rt: HostRuntime) -> Result<(), Fail> {
         is_cut_at(&t, [true, false, false, false, false, false]),
     );
     wrong = first(wrong, 4, !t.is_char_boundary(usize::MAX));
-    ended(wrong)
+    all_right(wrong)
 }
 
 #[test]
@@ -25,10 +25,10 @@ fn empty_from_a_text(rt: HostRuntime) -> Result<(), Fail> {
     let mut t: InlineText<4> = InlineText::new(rt.alloc());
     let mut none: InlineText<0> = InlineText::new(rt.alloc());
     let mut wrong = 0;
-    wrong = first_granted(wrong, 1, begins(&mut t, rt.alloc(), "", true));
-    wrong = first_granted(wrong, 2, begins(&mut none, rt.alloc(), "", true));
+    wrong = granted_ok(wrong, 1, begins(&mut t, rt.alloc(), "", true));
+    wrong = granted_ok(wrong, 2, begins(&mut none, rt.alloc(), "", true));
     wrong = first(wrong, 3, none.capacity() == 0);
-    ended(wrong)
+    all_right(wrong)
 }
 
 // Bytes count and not characters: `héll` has four characters, and five bytes.
@@ -36,13 +36,13 @@ fn empty_from_a_text(rt: HostRuntime) -> Result<(), Fail> {
 fn from_a_text(rt: HostRuntime) -> Result<(), Fail> {
     let mut t: InlineText<4> = InlineText::new(rt.alloc());
     let mut wrong = 0;
-    wrong = first_granted(wrong, 1, begins(&mut t, rt.alloc(), "hell", true));
+    wrong = granted_ok(wrong, 1, begins(&mut t, rt.alloc(), "hell", true));
     wrong = first(wrong, 2, t.capacity() == 4);
-    wrong = first_granted(wrong, 3, begins(&mut t, rt.alloc(), "hello", false));
+    wrong = granted_ok(wrong, 3, begins(&mut t, rt.alloc(), "hello", false));
     wrong = first(wrong, 4, t.capacity() >= 5);
-    wrong = first_granted(wrong, 5, begins(&mut t, rt.alloc(), "héll", false));
+    wrong = granted_ok(wrong, 5, begins(&mut t, rt.alloc(), "héll", false));
     wrong = first(wrong, 6, t.len() == 5);
-    ended(wrong)
+    all_right(wrong)
 }
 
 // Whether the text has these bytes, which stay in their place.
@@ -56,11 +56,11 @@ fn its_bytes_given_away(rt: HostRuntime) -> Result<(), Fail> {
     let mut short: InlineText<4> = InlineText::new(rt.alloc());
     let mut long: InlineText<4> = InlineText::new(rt.alloc());
     let mut wrong = 0;
-    wrong = first_granted(wrong, 1, begins(&mut short, rt.alloc(), "hé", true));
+    wrong = granted_ok(wrong, 1, begins(&mut short, rt.alloc(), "hé", true));
     wrong = first(wrong, 2, gives(short, &[0x68, 0xC3, 0xA9], true));
-    wrong = first_granted(wrong, 3, begins(&mut long, rt.alloc(), "hello", false));
+    wrong = granted_ok(wrong, 3, begins(&mut long, rt.alloc(), "hello", false));
     wrong = first(wrong, 4, gives(long, b"hello", false));
-    ended(wrong)
+    all_right(wrong)
 }
 
 // Calls that take any text, or any slice, take this one.
@@ -68,12 +68,12 @@ fn its_bytes_given_away(rt: HostRuntime) -> Result<(), Fail> {
 fn lent(rt: HostRuntime) -> Result<(), Fail> {
     let mut t: InlineText<4> = InlineText::new(rt.alloc());
     let mut wrong = 0;
-    wrong = first_granted(wrong, 1, begins(&mut t, rt.alloc(), "hé", true));
+    wrong = granted_ok(wrong, 1, begins(&mut t, rt.alloc(), "hé", true));
     wrong = first(wrong, 2, AsStr::as_str(&t) == "hé");
     wrong = first(
         wrong,
         3,
         AsSlice::as_slice(&t) == [0x68, 0xC3, 0xA9].as_slice(),
     );
-    ended(wrong)
+    all_right(wrong)
 }

@@ -2,7 +2,7 @@
 use crate::steps::{begins, joins, lies, pushes, reserves, writes};
 use std::fmt::Write;
 use std::test::Fail;
-use tinyvec_test_items::{ended, first, first_granted};
+use tinyvec_test_items::{all_right, first, granted_ok};
 use tinyvec_text::InlineText;
 
 #[derive(Clone, Copy)]
@@ -54,7 +54,7 @@ fn from_str(rt: HostRuntime) -> Result<(), Fail> {
         begins(&mut t, rt.alloc(), "hell", true) == Ok(true),
     );
     wrong = first(wrong, 2, grants(&rt, &mut t, Call::Begin("hello"), texts));
-    ended(wrong)
+    all_right(wrong)
 }
 
 #[test]
@@ -68,7 +68,7 @@ fn push(rt: HostRuntime) -> Result<(), Fail> {
         pushes(&mut t, '\u{1F600}', "\u{1F600}", true) == Ok(true),
     );
     wrong = first(wrong, 2, grants(&rt, &mut t, Call::Push('a'), texts));
-    ended(wrong)
+    all_right(wrong)
 }
 
 #[test]
@@ -81,7 +81,7 @@ fn push_str(rt: HostRuntime) -> Result<(), Fail> {
         2,
         grants(&rt, &mut t, Call::Join("!"), ("héy", "héy!")),
     );
-    ended(wrong)
+    all_right(wrong)
 }
 
 #[test]
@@ -90,23 +90,23 @@ fn push_str_on_the_heap(rt: HostRuntime) -> Result<(), Fail> {
     let call = Call::Join(", world, and all that is in it");
     let texts = ("hello", "hello, world, and all that is in it");
     let mut wrong = 0;
-    wrong = first_granted(wrong, 1, begins(&mut t, rt.alloc(), "hello", false));
+    wrong = granted_ok(wrong, 1, begins(&mut t, rt.alloc(), "hello", false));
     wrong = first(wrong, 2, grants(&rt, &mut t, call, texts));
-    ended(wrong)
+    all_right(wrong)
 }
 
 #[test]
 fn reserve(rt: HostRuntime) -> Result<(), Fail> {
     let mut t: InlineText<4> = InlineText::new(rt.alloc());
     let mut wrong = 0;
-    wrong = first_granted(wrong, 1, begins(&mut t, rt.alloc(), "hé", true));
+    wrong = granted_ok(wrong, 1, begins(&mut t, rt.alloc(), "hé", true));
     wrong = first(wrong, 2, reserves(&mut t, 1, "hé", true) == Ok(true));
     wrong = first(
         wrong,
         3,
         grants(&rt, &mut t, Call::Reserve(2), ("hé", "hé")),
     );
-    ended(wrong)
+    all_right(wrong)
 }
 
 #[test]
@@ -114,11 +114,11 @@ fn reserve_on_the_heap(rt: HostRuntime) -> Result<(), Fail> {
     let mut t: InlineText<4> = InlineText::new(rt.alloc());
     let texts = ("hello", "hello");
     let mut wrong = 0;
-    wrong = first_granted(wrong, 1, begins(&mut t, rt.alloc(), "hello", false));
+    wrong = granted_ok(wrong, 1, begins(&mut t, rt.alloc(), "hello", false));
     wrong = first(wrong, 2, reserves(&mut t, 0, "hello", false) == Ok(true));
     wrong = first(wrong, 3, grants(&rt, &mut t, Call::Reserve(100), texts));
     wrong = first(wrong, 4, t.capacity() >= 105);
-    ended(wrong)
+    all_right(wrong)
 }
 
 #[test]
@@ -126,8 +126,8 @@ fn write_str(rt: HostRuntime) -> Result<(), Fail> {
     let mut t: InlineText<4> = InlineText::new(rt.alloc());
     let call = Call::Write("!");
     let mut wrong = 0;
-    wrong = first_granted(wrong, 1, begins(&mut t, rt.alloc(), "hé", true));
+    wrong = granted_ok(wrong, 1, begins(&mut t, rt.alloc(), "hé", true));
     wrong = first(wrong, 2, writes(&mut t, "y", "héy", true) == Ok(true));
     wrong = first(wrong, 3, grants(&rt, &mut t, call, ("héy", "héy!")));
-    ended(wrong)
+    all_right(wrong)
 }

@@ -2,7 +2,7 @@
 use crate::steps::{makes, writes};
 use std::fmt::Write;
 use std::test::Fail;
-use tinyvec_test_items::{ended, first, first_granted};
+use tinyvec_test_items::{all_right, first, granted_ok};
 use tinyvec_text::InlineText;
 
 #[test]
@@ -10,8 +10,8 @@ fn written(rt: HostRuntime) -> Result<(), Fail> {
     let mut t: InlineText<4> = InlineText::new(rt.alloc());
     let mut wrong = 0;
     wrong = first(wrong, 1, writes(&mut t, "hé", "hé", true) == Ok(true));
-    wrong = first_granted(wrong, 2, writes(&mut t, "y!", "héy!", false));
-    ended(wrong)
+    wrong = granted_ok(wrong, 2, writes(&mut t, "y!", "héy!", false));
+    all_right(wrong)
 }
 
 #[test]
@@ -21,8 +21,8 @@ fn formatted(rt: HostRuntime) -> Result<(), Fail> {
     let y = -5_i32;
     let mut wrong = 0;
     let two = write!(t, "{x}, {y}");
-    wrong = first_granted(wrong, 1, makes(two, &t, "12, -5", true));
+    wrong = granted_ok(wrong, 1, makes(two, &t, "12, -5", true));
     let three = write!(t, "; {y:?}");
-    wrong = first_granted(wrong, 2, makes(three, &t, "12, -5; -5", false));
-    ended(wrong)
+    wrong = granted_ok(wrong, 2, makes(three, &t, "12, -5; -5", false));
+    all_right(wrong)
 }
