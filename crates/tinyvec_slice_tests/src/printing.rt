@@ -1,9 +1,8 @@
 //! Texts.
-use std::alloc::{AllocError, Global};
 use std::fmt;
 use std::test::Fail;
 use tinyvec_slice::SliceVec;
-use tinyvec_test_items::{all_right, first, granted_ok, is_debugged, is_shown};
+use tinyvec_test_items::{all_right, first, is_debugged, is_shown};
 
 #[derive(Clone, Copy)]
 enum Base {
@@ -29,25 +28,17 @@ impl<'a, 's> fmt::Display for InBase<'a, 's> {
 }
 
 // Whether `{}` and `{:?}` write a list of numbers so.
-fn reads(alloc: Global, v: &SliceVec<'_, i32>, text: &str) -> Result<bool, AllocError> {
-    match is_shown(v, text) {
-        Ok(is_right) => is_debugged(v, text).map(|is_same| is_right & is_same),
-        Err(error) => Err(error),
-    }
+fn reads(v: &SliceVec<'_, i32>, text: &str) -> bool {
+    is_shown(v, text) & is_debugged(v, text)
 }
 
 // The same behind one more item.
-fn pushes(
-    alloc: Global,
-    v: &mut SliceVec<'_, i32>,
-    item: i32,
-    text: &str,
-) -> Result<bool, AllocError> {
+fn pushes(v: &mut SliceVec<'_, i32>, item: i32, text: &str) -> bool {
     if v.is_full() {
-        return Ok(false);
+        return false;
     }
     v.push(item);
-    reads(alloc, v, text)
+    reads(v, text)
 }
 
 #[test]
@@ -55,10 +46,10 @@ fn after_each_push(rt: HostRuntime) -> Result<(), Fail> {
     let mut slots = [1, 2, 3, 4];
     let mut v = SliceVec::from_slice_len(&mut slots, 0);
     let mut wrong = 0;
-    wrong = granted_ok(wrong, 1, reads(rt.alloc(), &v, "[]"));
-    wrong = granted_ok(wrong, 2, pushes(rt.alloc(), &mut v, 10, "[10]"));
-    wrong = granted_ok(wrong, 3, pushes(rt.alloc(), &mut v, 11, "[10, 11]"));
-    wrong = granted_ok(wrong, 4, pushes(rt.alloc(), &mut v, 12, "[10, 11, 12]"));
+    wrong = first(wrong, 1, reads(&v, "[]"));
+    wrong = first(wrong, 2, pushes(&mut v, 10, "[10]"));
+    wrong = first(wrong, 3, pushes(&mut v, 11, "[10, 11]"));
+    wrong = first(wrong, 4, pushes(&mut v, 12, "[10, 11, 12]"));
     all_right(wrong)
 }
 
@@ -74,12 +65,7 @@ fn each_item_by_its_own_text(rt: HostRuntime) -> Result<(), Fail> {
 }
 
 // Whether the list of so many of these numbers is written so in a base.
-fn is_based(
-    alloc: Global,
-    base: Base,
-    (numbers, len): ([u8; 3], usize),
-    text: &str,
-) -> Result<bool, AllocError> {
+fn is_based(base: Base, (numbers, len): ([u8; 3], usize), text: &str) -> bool {
     let mut slots = numbers;
     let v = SliceVec::from_slice_at_most(&mut slots, len);
     is_shown(&InBase(base, &v), text)
@@ -87,62 +73,33 @@ fn is_based(
 
 #[test]
 fn in_each_base(rt: HostRuntime) -> Result<(), Fail> {
-    let alloc = rt.alloc();
     let numbers = [10, 255, 9];
     let mut wrong = 0;
-    wrong = granted_ok(
+    wrong = first(
         wrong,
         1,
-        is_based(alloc, Base::Binary, ([2, 5, 9], 2), "[10, 101]"),
+        is_based(Base::Binary, ([2, 5, 9], 2), "[10, 101]"),
     );
-    wrong = granted_ok(
-        wrong,
-        2,
-        is_based(alloc, Base::Octal, ([8, 9, 9], 2), "[10, 11]"),
-    );
-    wrong = granted_ok(
-        wrong,
-        3,
-        is_based(alloc, Base::LowerHex, (numbers, 2), "[a, ff]"),
-    );
-    wrong = granted_ok(
-        wrong,
-        4,
-        is_based(alloc, Base::UpperHex, (numbers, 2), "[A, FF]"),
-    );
-    wrong = granted_ok(wrong, 5, is_based(alloc, Base::Binary, (numbers, 0), "[]"));
-    wrong = granted_ok(wrong, 6, is_based(alloc, Base::Octal, (numbers, 0), "[]"));
-    wrong = granted_ok(
-        wrong,
-        7,
-        is_based(alloc, Base::LowerHex, (numbers, 0), "[]"),
-    );
-    wrong = granted_ok(
-        wrong,
-        8,
-        is_based(alloc, Base::UpperHex, (numbers, 0), "[]"),
-    );
+    wrong = first(wrong, 2, is_based(Base::Octal, ([8, 9, 9], 2), "[10, 11]"));
+    wrong = first(wrong, 3, is_based(Base::LowerHex, (numbers, 2), "[a, ff]"));
+    wrong = first(wrong, 4, is_based(Base::UpperHex, (numbers, 2), "[A, FF]"));
+    wrong = first(wrong, 5, is_based(Base::Binary, (numbers, 0), "[]"));
+    wrong = first(wrong, 6, is_based(Base::Octal, (numbers, 0), "[]"));
+    wrong = first(wrong, 7, is_based(Base::LowerHex, (numbers, 0), "[]"));
+    wrong = first(wrong, 8, is_based(Base::UpperHex, (numbers, 0), "[]"));
     all_right(wrong)
 }
 
 // The first step that went wrong as the items 2, 3 and 4 are taken, or 0.
-fn taken(alloc: Global, v: &mut SliceVec<'_, i32>) -> u32 {
+fn taken(v: &mut SliceVec<'_, i32>) -> u32 {
     if v.len() < 4 {
         return 1;
     }
     let mut wrong = 0;
     let mut items = v.drain(1..4);
-    wrong = first(
-        wrong,
-        1,
-        is_debugged(&items, "SliceVecDrain([2, 3, 4])"),
-    );
+    wrong = first(wrong, 1, is_debugged(&items, "SliceVecDrain([2, 3, 4])"));
     wrong = first(wrong, 2, items.next() == Some(2));
-    wrong = first(
-        wrong,
-        3,
-        is_debugged(&items, "SliceVecDrain([3, 4])"),
-    );
+    wrong = first(wrong, 3, is_debugged(&items, "SliceVecDrain([3, 4])"));
     wrong = first(wrong, 4, items.next() == Some(3));
     wrong = first(wrong, 5, items.next() == Some(4));
     first(wrong, 6, is_debugged(&items, "SliceVecDrain([])"))
@@ -152,5 +109,5 @@ fn taken(alloc: Global, v: &mut SliceVec<'_, i32>) -> u32 {
 fn what_is_left_of_a_drain(rt: HostRuntime) -> Result<(), Fail> {
     let mut slots = [1, 2, 3, 4, 5, 9];
     let mut v = SliceVec::from_slice_len(&mut slots, 5);
-    all_right(taken(rt.alloc(), &mut v))
+    all_right(taken(&mut v))
 }

@@ -3,11 +3,8 @@
 
 ghost use Rattle.std.specs.Iterator.{IsFinite};
 
-mod steps;
-
 use std::alloc::AllocError;
 use std::io::Write;
-pub use steps::{all_right, granted};
 use tinyvec::{Array, TinyVec};
 
 /// Whether these are the items, and lie there.

@@ -3,8 +3,8 @@ use crate::placed::placed;
 use std::alloc::{AllocError, Global};
 use std::test::Fail;
 use tinyvec::TinyVec;
-use tinyvec_test_looks::{lies, spares};
 use tinyvec_test_items::{all_right, granted};
+use tinyvec_test_looks::{lies, spares};
 
 fn is_even(x: &i32) -> bool {
     *x % 2 == 0
