@@ -32,3 +32,15 @@ loop-x-preserved g c =
       moved = rw c.push_reserved.ensures.items (moved ∙ inv.moved);
       room = rw c.push_reserved.ensures.capacity inv.room;
     }
+
+pub returns-clause-items : goal.returns-clause-items
+returns-clause-items g c = search rules
+
+pub returns-clause-slots : goal.returns-clause-slots
+returns-clause-slots g c = search rules
+
+pub returns-clause-moved : goal.returns-clause-moved
+returns-clause-moved g c = search rules
+
+pub returns-clause-capacity : goal.returns-clause-capacity
+returns-clause-capacity g c = search rules
