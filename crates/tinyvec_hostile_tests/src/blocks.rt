@@ -1,7 +1,7 @@
 //! Clones refused at a chosen place of a list that is cloned in blocks of 512, 16 and 4.
 use std::alloc::AllocError;
 use tinyvec::{ArrayVec, SliceVec, TryFromSliceError};
-use tinyvec_test_items::{Item, assert_is};
+use tinyvec_test_items::{Item, first};
 
 // Of the list below, the first, last and middle item of a block of 512, and of those of 16 and of 4 behind it, and the last
 // two, which are in none.
@@ -42,65 +42,112 @@ fn are_clones_up_to(slots: &[Item], items: &[Item], place: usize, left: &[Item])
             .all(|(slot, item)| *slot == *item)
 }
 
+// The first step that went wrong, or 0, as in each function below.
+fn appends_up_to(place: usize) -> u32 {
+    let defaults: ArrayVec<[Item; 550]> = ArrayVec::new();
+    let source = refused_at(place);
+    let mut v = ArrayVec::<[Item; 550]>::new();
+    let mut wrong = 0;
+    wrong = first(
+        wrong,
+        1,
+        v.extend_from_slice(source.as_slice()) == Err(AllocError),
+    );
+    wrong = first(wrong, 2, v.is_empty());
+    let left = defaults.grab_spare_slice();
+    wrong = first(
+        wrong,
+        3,
+        are_clones_up_to(v.grab_spare_slice(), source.as_slice(), place, left),
+    );
+    if v.is_empty() {
+        wrong = first(wrong, 4, v.extend_from_slice(numbered().as_slice()).is_ok());
+    }
+    first(wrong, 5, v == numbered())
+}
+
 #[test]
 fn appended(rt: HostRuntime) {
-    let defaults: ArrayVec<[Item; 550]> = ArrayVec::new();
     for place in PLACES {
-        let source = refused_at(place);
-        let mut v = ArrayVec::<[Item; 550]>::new();
-        assert_is!(rt; v.extend_from_slice(source.as_slice()), Err(AllocError));
-        assert!(rt; v.is_empty());
-        let slots = v.grab_spare_slice();
-        assert!(rt; are_clones_up_to(slots, source.as_slice(), place, defaults.grab_spare_slice()));
-        assert_is!(rt; v.extend_from_slice(numbered().as_slice()), Ok(()));
-        assert!(rt; v == numbered());
+        let wrong = appends_up_to(place);
+        assert!(rt; wrong == 0, "step {wrong} at {place}");
     }
 }
 
 // The list keeps its length, since the other is as long.
+fn clones_over_up_to(place: usize) -> u32 {
+    let source = refused_at(place);
+    let mut v = ArrayVec::<[Item; 550]>::new();
+    v.resize_with(550, || Item(95));
+    let mut left = ArrayVec::<[Item; 550]>::new();
+    left.resize_with(550, || Item(95));
+    let mut wrong = 0;
+    wrong = first(wrong, 1, v.clone_from(&source) == Err(AllocError));
+    wrong = first(wrong, 2, v.len() == 550);
+    wrong = first(
+        wrong,
+        3,
+        are_clones_up_to(v.as_slice(), source.as_slice(), place, left.as_slice()),
+    );
+    wrong = first(wrong, 4, v.clone_from(&ArrayVec::new()).is_ok());
+    first(wrong, 5, v.is_empty())
+}
+
 #[test]
 fn cloned_over_a_list(rt: HostRuntime) {
     for place in PLACES {
-        let source = refused_at(place);
-        let mut v = ArrayVec::<[Item; 550]>::new();
-        v.resize_with(550, || Item(95));
-        assert_is!(rt; v.clone_from(&source), Err(AllocError));
-        assert!(rt; v.len() == 550);
-        assert!(rt;
-            v.as_slice()
-                .iter()
-                .zip(source.as_slice())
-                .take(place)
-                .all(|(x, y)| *x == *y)
-        );
-        assert!(rt; v.as_slice().iter().skip(place).all(|x| *x == Item(95)));
-        assert_is!(rt; v.clone_from(&ArrayVec::new()), Ok(()));
-        assert!(rt; v.is_empty());
+        let wrong = clones_over_up_to(place);
+        assert!(rt; wrong == 0, "step {wrong} at {place}");
     }
+}
+
+fn refuses_to_make(place: usize) -> u32 {
+    let source = refused_at(place);
+    let made = ArrayVec::<[Item; 550]>::try_from_slice(source.as_slice());
+    let mut wrong = 0;
+    wrong = first(wrong, 1, made.err() == Some(TryFromSliceError::Memory));
+    first(wrong, 2, source.clone().is_err())
 }
 
 #[test]
 fn made(rt: HostRuntime) {
     for place in PLACES {
-        let source = refused_at(place);
-        let made = ArrayVec::<[Item; 550]>::try_from_slice(source.as_slice());
-        assert_is!(rt; made.err(), Some(TryFromSliceError::Memory));
-        assert!(rt; source.clone().is_err());
+        let wrong = refuses_to_make(place);
+        assert!(rt; wrong == 0, "step {wrong} at {place}");
     }
     assert!(rt; numbered().clone().is_ok());
+}
+
+fn appends_to_a_slice_up_to(place: usize) -> u32 {
+    let source = refused_at(place);
+    let mut room = numbered();
+    let mut v = SliceVec::from_slice_len(room.as_mut_slice(), 0);
+    let mut wrong = 0;
+    if v.grab_spare_slice().len() == 550 {
+        wrong = first(
+            wrong,
+            1,
+            v.extend_from_slice(source.as_slice()) == Err(AllocError),
+        );
+    }
+    wrong = first(wrong, 2, v.is_empty());
+    let left = numbered();
+    first(
+        wrong,
+        3,
+        are_clones_up_to(
+            v.grab_spare_slice(),
+            source.as_slice(),
+            place,
+            left.as_slice(),
+        ),
+    )
 }
 
 #[test]
 fn appended_to_a_slice(rt: HostRuntime) {
     for place in PLACES {
-        let source = refused_at(place);
-        let mut room = numbered();
-        let mut v = SliceVec::from_slice_len(room.as_mut_slice(), 0);
-        if v.grab_spare_slice().len() == 550 {
-            assert_is!(rt; v.extend_from_slice(source.as_slice()), Err(AllocError));
-        }
-        assert!(rt; v.is_empty());
-        let slots = v.grab_spare_slice();
-        assert!(rt; are_clones_up_to(slots, source.as_slice(), place, numbered().as_slice()));
+        let wrong = appends_to_a_slice_up_to(place);
+        assert!(rt; wrong == 0, "step {wrong} at {place}");
     }
 }

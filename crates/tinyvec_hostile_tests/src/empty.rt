@@ -2,13 +2,14 @@
 use crate::always::{keep, keep_mut, value};
 use crate::bases::{Binary, LowerHex, Octal, UpperHex};
 use crate::many_texts::hash_of;
-use std::alloc::AllocGlobal;
+use crate::steps::{Wrong, answers, asks, debugs, granted, makes, refuses, writes};
+use std::alloc::{AllocError, Global};
 use std::cmp::Ordering;
-use std::process::Abort;
 use std::test::Fail;
 use std::{fmt, iter};
-use tinyvec::{ArrayVec, NoRoom, SliceVec, TinyVec};
-use tinyvec_test_items::{assert_debugs, assert_is, assert_items, assert_shows};
+use tinyvec::{ArrayVec, SliceVec, TinyVec};
+use tinyvec_test_items::arrays::holds;
+use tinyvec_test_items::first;
 use tinyvec_test_looks::lies;
 use tinyvec_text::InlineText;
 
@@ -17,44 +18,50 @@ type Empty = ArrayVec<[i32; 0]>;
 #[test]
 fn an_array_is_made(rt: HostRuntime) {
     let v: Empty = ArrayVec::from_array_len([], 0);
-    assert!(rt; v.is_full());
-    assert!(rt; Empty::try_from_array_len([], 0).is_ok());
-    assert!(rt; Empty::try_from_array_len([], 1).is_err());
-    assert!(rt; Empty::try_from_slice(&[]).is_ok());
-    assert!(rt; Empty::try_from_slice(&[1]).is_err());
-    assert!(rt; v.clone().is_ok());
+    let mut wrong = 0;
+    wrong = first(wrong, 1, v.is_full());
+    wrong = first(wrong, 2, Empty::try_from_array_len([], 0).is_ok());
+    wrong = first(wrong, 3, Empty::try_from_array_len([], 1).is_err());
+    wrong = first(wrong, 4, Empty::try_from_slice(&[]).is_ok());
+    wrong = first(wrong, 5, Empty::try_from_slice(&[1]).is_err());
+    wrong = first(wrong, 6, v.clone().is_ok());
+    assert!(rt; wrong == 0, "step {wrong}");
 }
 
 #[test]
 fn an_array_is_filled(rt: HostRuntime) {
     let mut v = Empty::new();
-    let mut rest = v.fill(7..);
-    assert_is!(rt; rest.next(), Some(7));
-    match v.extend(iter::repeat(5)) {
-        Ok(()) => panic!(rt; "there was no room"),
-        Err(NoRoom { item, rest: _ }) => assert_is!(rt; item, 5),
-    }
-    assert!(rt; v.extend(None).is_ok());
-    assert_is!(rt; v.resize(0, 7), Ok(()));
+    let mut wrong = 0;
+    wrong = first(wrong, 1, answers(v.fill(7..), [Some(7), Some(8), Some(9)]));
+    wrong = first(
+        wrong,
+        2,
+        refuses(v.extend(iter::repeat(5)), 5, [Some(5); 3]),
+    );
+    wrong = first(wrong, 3, v.extend(None).is_ok());
+    wrong = first(wrong, 4, v.resize(0, 7).is_ok());
     v.resize_with(0, || 7);
-    assert_is!(rt; v.try_insert(0, 7), Some(7));
-    assert_items!(rt; v.as_slice(), []);
+    wrong = first(wrong, 5, v.try_insert(0, 7) == Some(7));
+    wrong = first(wrong, 6, holds(&v, &[], &[]));
+    assert!(rt; wrong == 0, "step {wrong}");
 }
 
 #[test]
 fn an_array_is_joined_and_cut(rt: HostRuntime) {
     let mut v = Empty::new();
     let mut other = Empty::new();
+    let mut wrong = 0;
     v.append(&mut other);
-    assert!(rt; v.append_if_fits(&mut other).is_ok());
-    assert!(rt; v.try_append(&mut other).is_none());
-    assert_is!(rt; v.clone_from(&other), Ok(()));
+    wrong = first(wrong, 1, v.append_if_fits(&mut other).is_ok());
+    wrong = first(wrong, 2, v.try_append(&mut other).is_none());
+    wrong = first(wrong, 3, v.clone_from(&other).is_ok());
     v.truncate(0);
     v.truncate(7);
     v.clear();
     v.set_len(0);
-    assert!(rt; v.split_off(0).is_empty());
-    assert_items!(rt; v.as_mut_slice(), []);
+    wrong = first(wrong, 4, v.split_off(0).is_empty());
+    wrong = first(wrong, 5, v.as_mut_slice().is_empty());
+    assert!(rt; wrong == 0, "step {wrong}");
 }
 
 #[test]
@@ -65,51 +72,63 @@ fn an_array_is_filtered(rt: HostRuntime) {
         asked = asked.wrapping_add(1);
         true
     });
+    let mut wrong = 0;
     v.dedup_by(|_, _| true);
     v.dedup_by_key(value);
-    assert_is!(rt; asked, 0);
-    assert_items!(rt; v.as_slice(), []);
+    wrong = first(wrong, 1, asked == 0);
+    wrong = first(wrong, 2, holds(&v, &[], &[]));
+    assert!(rt; wrong == 0, "step {wrong}");
+}
+
+// Whether a `Vec` without items was made.
+fn drains_none(drained: Result<Vec<i32>, AllocError>) -> Result<bool, AllocError> {
+    Ok(drained?.is_empty())
 }
 
 #[test]
-fn an_array_is_drained(rt: HostRuntime) -> Result<(), Fail> {
+fn an_array_is_drained(rt: HostRuntime) {
     let mut v = Empty::new();
     let mut out = Vec::new(rt.alloc());
+    let mut wrong = 0;
     v.drain_into(.., &mut out);
-    assert!(rt; out.is_empty());
-    assert!(rt; v.drain_to_vec(rt.alloc())?.is_empty());
-    assert!(rt; v.try_drain_to_vec(rt.alloc())?.is_empty());
-    let splice = v.splice(.., [7]);
-    let mut rest = splice.stop();
-    assert_is!(rt; rest.next(), Some(7));
-    assert_is!(rt; v.iter().next(), None);
-    assert!(rt; v.iter_mut().next().is_none());
+    wrong = first(wrong, 1, out.is_empty());
+    wrong = asks(wrong, 2, drains_none(v.drain_to_vec(rt.alloc())));
+    wrong = asks(wrong, 3, drains_none(v.try_drain_to_vec(rt.alloc())));
+    wrong = first(wrong, 4, v.splice(.., [7]).stop().next() == Some(7));
+    wrong = first(wrong, 5, v.iter().next().is_none());
+    wrong = first(wrong, 6, v.iter_mut().next().is_none());
     let mut items = v.into_iter();
-    assert_is!(rt; items.next(), None);
-    assert_is!(rt; items.nth(0), None);
-    assert_is!(rt; items.next_back(), None);
-    Ok(())
+    wrong = first(wrong, 7, items.next().is_none());
+    wrong = first(wrong, 8, items.nth(0).is_none());
+    wrong = first(wrong, 9, items.next_back().is_none());
+    assert!(rt; wrong == 0, "{}", Wrong(wrong));
 }
 
 #[test]
-fn arrays_are_compared_and_shown(rt: HostRuntime) -> Result<(), Fail> {
+fn arrays_are_compared_and_shown(rt: HostRuntime) {
     let v = Empty::new();
-    assert!(rt; v == Empty::default());
-    assert_is!(rt; v.cmp(&Empty::new()), Ordering::Equal);
-    assert_is!(rt; v.partial_cmp(&Empty::new()), Some(Ordering::Equal));
-    assert_shows!(rt; v, "[]");
-    assert_debugs!(rt; v, "[]");
-    Ok(())
+    let mut wrong = 0;
+    wrong = first(wrong, 1, v == Empty::default());
+    wrong = first(wrong, 2, v.cmp(&Empty::new()) == Ordering::Equal);
+    wrong = first(
+        wrong,
+        3,
+        v.partial_cmp(&Empty::new()) == Some(Ordering::Equal),
+    );
+    wrong = asks(wrong, 4, writes(rt.alloc(), &v, "[]"));
+    wrong = asks(wrong, 5, debugs(rt.alloc(), &v, "[]"));
+    assert!(rt; wrong == 0, "{}", Wrong(wrong));
 }
 
 #[test]
 fn a_slice_is_filled(rt: HostRuntime) {
     let mut v: SliceVec<'_, i32> = SliceVec::default();
-    let mut rest = v.fill(7..);
-    assert_is!(rt; rest.next(), Some(7));
+    let mut wrong = 0;
+    wrong = first(wrong, 1, answers(v.fill(7..), [Some(7), Some(8), Some(9)]));
     v.resize_with(0, || 7);
-    assert!(rt; v.is_empty());
-    assert!(rt; v.is_full());
+    wrong = first(wrong, 2, v.is_empty());
+    wrong = first(wrong, 3, v.is_full());
+    assert!(rt; wrong == 0, "step {wrong}");
 }
 
 #[test]
@@ -117,135 +136,163 @@ fn a_slice_is_drained(rt: HostRuntime) {
     let mut v: SliceVec<'_, i32> = SliceVec::default();
     let mut given = 0_u8;
     let mut count = |_: i32| given = given.wrapping_add(1);
+    let mut wrong = 0;
     v.drain_each(.., &mut count);
-    assert_is!(rt; given, 0);
+    wrong = first(wrong, 1, given == 0);
     let mut out = Vec::new(rt.alloc());
     v.drain_into(.., &mut out);
-    assert!(rt; out.is_empty());
-    assert_is!(rt; v.iter().next(), None);
-    assert!(rt; v.iter_mut().next().is_none());
+    wrong = first(wrong, 2, out.is_empty());
+    wrong = first(wrong, 3, v.iter().next().is_none());
+    wrong = first(wrong, 4, v.iter_mut().next().is_none());
+    assert!(rt; wrong == 0, "step {wrong}");
 }
 
 #[test]
-fn slices_are_joined_and_shown(rt: HostRuntime) -> Result<(), Fail> {
+fn slices_are_joined_and_shown(rt: HostRuntime) {
     let mut v: SliceVec<'_, i32> = SliceVec::default();
     let mut other: SliceVec<'_, i32> = SliceVec::default();
     v.append(&mut other);
-    assert_shows!(rt; v, "[]");
-    assert_debugs!(rt; other, "[]");
-    Ok(())
+    let mut wrong = 0;
+    wrong = asks(wrong, 1, writes(rt.alloc(), &v, "[]"));
+    wrong = asks(wrong, 2, debugs(rt.alloc(), &other, "[]"));
+    assert!(rt; wrong == 0, "{}", Wrong(wrong));
 }
 
 type Tiny = TinyVec<[i32; 0]>;
 
 #[test]
 fn a_tiny_vec_is_made(rt: HostRuntime) -> Result<(), Fail> {
-    let none = Tiny::with_initial_len(rt.alloc(), 0)?;
-    assert!(rt; lies(&none, &[], true));
-    let none = Tiny::from_slice(rt.alloc(), &[])?;
-    assert!(rt; lies(&none, &[], true));
-    let two = Tiny::with_initial_len(rt.alloc(), 2)?;
-    assert!(rt; lies(&two, &[0, 0], false));
     let two = Tiny::from_slice(rt.alloc(), &[1, 2])?;
-    assert!(rt; lies(&two, &[1, 2], false));
     let copy = two.clone()?;
-    assert!(rt; lies(&copy, &[1, 2], false));
-    assert!(rt; copy == two);
-    assert_is!(rt; copy.cmp(&none), Ordering::Greater);
+    let none = Tiny::new(rt.alloc());
+    let mut wrong = 0;
+    wrong = asks(
+        wrong,
+        1,
+        makes(Tiny::with_initial_len(rt.alloc(), 0), &[], true),
+    );
+    wrong = asks(
+        wrong,
+        2,
+        makes(Tiny::from_slice(rt.alloc(), &[]), &[], true),
+    );
+    wrong = asks(
+        wrong,
+        3,
+        makes(Tiny::with_initial_len(rt.alloc(), 2), &[0, 0], false),
+    );
+    wrong = first(wrong, 4, lies(&two, &[1, 2], false));
+    wrong = first(wrong, 5, lies(&copy, &[1, 2], false));
+    wrong = first(wrong, 6, copy == two);
+    wrong = first(wrong, 7, copy.cmp(&none) == Ordering::Greater);
+    assert!(rt; wrong == 0, "{}", Wrong(wrong));
     Ok(())
 }
 
 #[test]
-fn a_tiny_vec_is_extended(rt: HostRuntime) -> Result<(), Fail> {
+fn a_tiny_vec_is_extended(rt: HostRuntime) {
     let mut v = Tiny::new(rt.alloc());
-    assert!(rt; v.extend(None).is_ok());
-    v.extend_from_slice(&[])?;
-    assert!(rt; v.resize(0, 7).is_ok());
-    v.resize_with(0, || 7)?;
-    assert!(rt; lies(&v, &[], true));
-    v.extend_from_slice(&[1, 2])?;
-    assert!(rt; v.extend(3..=3).is_ok(), "memory was granted");
-    assert!(rt; lies(&v, &[1, 2, 3], false));
-    Ok(())
+    let mut wrong = 0;
+    wrong = first(wrong, 1, v.extend(None).is_ok());
+    wrong = asks(wrong, 2, granted(v.extend_from_slice(&[])));
+    wrong = first(wrong, 3, v.resize(0, 7).is_ok());
+    wrong = asks(wrong, 4, granted(v.resize_with(0, || 7)));
+    wrong = first(wrong, 5, lies(&v, &[], true));
+    wrong = asks(wrong, 6, granted(v.extend_from_slice(&[1, 2])));
+    wrong = asks(wrong, 7, granted(v.extend(3..=3)));
+    wrong = first(wrong, 8, lies(&v, &[1, 2, 3], false));
+    assert!(rt; wrong == 0, "{}", Wrong(wrong));
 }
 
 #[test]
-fn a_tiny_vec_is_joined_and_cut(rt: HostRuntime) -> Result<(), Fail> {
+fn a_tiny_vec_is_joined_and_cut(rt: HostRuntime) {
     let mut v = Tiny::new(rt.alloc());
     let mut other = Tiny::new(rt.alloc());
-    v.append(&mut other)?;
-    assert!(rt; lies(&v, &[], true));
-    let tail = v.split_off(0)?;
-    assert!(rt; lies(&tail, &[], true));
-    v.clone_from(&other)?;
+    let mut wrong = 0;
+    wrong = asks(wrong, 1, granted(v.append(&mut other)));
+    wrong = first(wrong, 2, lies(&v, &[], true));
+    wrong = asks(wrong, 3, makes(v.split_off(0), &[], true));
+    wrong = asks(wrong, 4, granted(v.clone_from(&other)));
     v.truncate(0);
     v.clear();
     v.shrink_to_fit();
-    assert!(rt; lies(&v, &[], true));
-    Ok(())
+    wrong = first(wrong, 5, lies(&v, &[], true));
+    assert!(rt; wrong == 0, "{}", Wrong(wrong));
 }
 
 #[test]
 fn a_tiny_vec_is_filtered(rt: HostRuntime) {
     let mut v = Tiny::new(rt.alloc());
+    let mut wrong = 0;
     v.retain(keep);
     v.retain_mut(keep_mut);
     v.dedup();
     v.dedup_by(|_, _| true);
     v.dedup_by_key(value);
-    assert!(rt; lies(&v, &[], true));
-    assert_is!(rt; v.iter().next(), None);
-    assert_is!(rt; v.into_iter().next(), None);
+    wrong = first(wrong, 1, lies(&v, &[], true));
+    wrong = first(wrong, 2, v.iter().next().is_none());
+    wrong = first(wrong, 3, v.into_iter().next().is_none());
+    assert!(rt; wrong == 0, "step {wrong}");
 }
 
 #[test]
-fn a_text_is_cut(rt: HostRuntime) -> Result<(), Fail> {
+fn a_text_is_cut(rt: HostRuntime) {
     let mut t: InlineText<0> = InlineText::new(rt.alloc());
-    assert_is!(rt; t.pop(), None);
+    let mut wrong = 0;
+    wrong = first(wrong, 1, t.pop().is_none());
     t.clear();
-    assert!(rt; t.is_char_boundary(0));
+    wrong = first(wrong, 2, t.is_char_boundary(0));
     t.truncate(0);
-    assert!(rt; !t.is_char_boundary(1));
-    t.reserve(0)?;
-    assert!(rt; t.is_inline());
-    assert!(rt; t == InlineText::new(rt.alloc()));
-    Ok(())
+    wrong = first(wrong, 3, !t.is_char_boundary(1));
+    wrong = asks(wrong, 4, granted(t.reserve(0)));
+    wrong = first(wrong, 5, t.is_inline());
+    wrong = first(wrong, 6, t == InlineText::new(rt.alloc()));
+    assert!(rt; wrong == 0, "{}", Wrong(wrong));
 }
 
-// Asserts that an empty list is written in each base.
-fn assert_empty<V: fmt::Binary + fmt::Octal + fmt::LowerHex + fmt::UpperHex>(
-    rt: &(impl Abort + AllocGlobal),
+// The first step that went wrong, or 0, where these are that an empty list is written in each base.
+fn writes_in_each_base<V: fmt::Binary + fmt::Octal + fmt::LowerHex + fmt::UpperHex>(
+    mut wrong: u32,
+    steps: [u32; 4],
+    alloc: Global,
     v: &V,
-) -> Result<(), Fail> {
-    assert!(rt; format!(in rt.alloc(); "{}", Binary(v))?.as_str() == "[]");
-    assert!(rt; format!(in rt.alloc(); "{}", Octal(v))?.as_str() == "[]");
-    assert!(rt; format!(in rt.alloc(); "{}", LowerHex(v))?.as_str() == "[]");
-    assert!(rt; format!(in rt.alloc(); "{}", UpperHex(v))?.as_str() == "[]");
-    Ok(())
+) -> u32 {
+    wrong = asks(wrong, steps[0], writes(alloc, &Binary(v), "[]"));
+    wrong = asks(wrong, steps[1], writes(alloc, &Octal(v), "[]"));
+    wrong = asks(wrong, steps[2], writes(alloc, &LowerHex(v), "[]"));
+    asks(wrong, steps[3], writes(alloc, &UpperHex(v), "[]"))
 }
 
 #[test]
-fn in_other_bases(rt: HostRuntime) -> Result<(), Fail> {
-    assert_empty(&rt, &Empty::new())?;
+fn in_other_bases(rt: HostRuntime) {
     let mut slots: [i32; 0] = [];
-    assert_empty(&rt, &SliceVec::from_slice_len(&mut slots, 0))?;
+    let lent = SliceVec::from_slice_len(&mut slots, 0);
     let mut v = Tiny::new(rt.alloc());
-    assert_empty(&rt, &v)?;
-    v.move_to_the_heap()?;
-    assert_empty(&rt, &v)
+    let mut wrong = 0;
+    wrong = writes_in_each_base(wrong, [1, 2, 3, 4], rt.alloc(), &Empty::new());
+    wrong = writes_in_each_base(wrong, [5, 6, 7, 8], rt.alloc(), &lent);
+    wrong = writes_in_each_base(wrong, [9, 10, 11, 12], rt.alloc(), &v);
+    wrong = asks(wrong, 13, granted(v.move_to_the_heap()));
+    wrong = writes_in_each_base(wrong, [14, 15, 16, 17], rt.alloc(), &v);
+    assert!(rt; wrong == 0, "{}", Wrong(wrong));
 }
 
 // A list feeds a hasher what a slice of its items feeds it.
 #[test]
-fn hashed_as_a_slice(rt: HostRuntime) -> Result<(), Fail> {
+fn hashed_as_a_slice(rt: HostRuntime) {
     let mut slots: [i32; 0] = [];
     let wanted = hash_of(&slots.as_slice());
-    assert!(rt; hash_of(&Empty::new()) == wanted);
-    assert!(rt; hash_of(&SliceVec::from_slice_len(&mut slots, 0)) == wanted);
+    let mut wrong = 0;
+    wrong = first(wrong, 1, hash_of(&Empty::new()) == wanted);
+    wrong = first(
+        wrong,
+        2,
+        hash_of(&SliceVec::from_slice_len(&mut slots, 0)) == wanted,
+    );
     let mut v = Tiny::new(rt.alloc());
-    assert!(rt; hash_of(&v) == wanted);
-    v.move_to_the_heap()?;
-    assert!(rt; v.is_heap());
-    assert!(rt; hash_of(&v) == wanted);
-    Ok(())
+    wrong = first(wrong, 3, hash_of(&v) == wanted);
+    wrong = asks(wrong, 4, granted(v.move_to_the_heap()));
+    wrong = first(wrong, 5, v.is_heap());
+    wrong = first(wrong, 6, hash_of(&v) == wanted);
+    assert!(rt; wrong == 0, "{}", Wrong(wrong));
 }

@@ -1,7 +1,9 @@
 //! Endless iterators of items that own memory. No item is asked for that finds no room, and none is lost.
-use std::alloc::Global;
+use crate::steps::{Wrong, are_same, asks, refuses};
+use std::alloc::{AllocError, Global};
 use tinyvec::{ArrayVec, FromIterRest, NoRoom, SliceVec, SpliceRest};
-use tinyvec_test_items::{assert_is, assert_items};
+use tinyvec_test_items::arrays::holds;
+use tinyvec_test_items::first;
 
 // An item that owns memory. Where memory is refused it is `None`.
 type Owned = Option<Box<u8>>;
@@ -23,144 +25,139 @@ impl Iterator for Endless {
     }
 }
 
-// Whether the items own these numbers.
-fn own(items: &[Owned], numbers: &[u8]) -> bool {
-    items.len() == numbers.len()
-        && items.iter().zip(numbers).all(|(item, number)| match item {
-            Some(boxed) => **boxed == *number,
-            None => false,
-        })
+// It gives items that own 7, 8 and so on.
+fn from_seven(alloc: Global) -> Endless {
+    Endless { alloc, next: 7 }
+}
+
+// Whether the items own these numbers, where all were granted memory.
+fn own(items: &[Owned], numbers: &[u8]) -> Result<bool, AllocError> {
+    if !items.iter().all(|item| item.is_some()) {
+        return Err(AllocError);
+    }
+    Ok(
+        items.len() == numbers.len()
+            && items.iter().zip(numbers).all(|(item, number)| match item {
+                Some(boxed) => **boxed == *number,
+                None => false,
+            }),
+    )
+}
+
+// Whether the item that owns 9 found no room, and the next is 10.
+fn refuses_the_third(called: Result<(), NoRoom<Owned, Endless>>) -> Result<bool, AllocError> {
+    match called {
+        Ok(()) => Ok(false),
+        Err(NoRoom { item, rest }) => Ok(own(&[item], &[9])? & (rest.next == 10)),
+    }
 }
 
 #[test]
 fn fill(rt: HostRuntime) {
     let mut v = ArrayVec::<[Owned; 3]>::new();
-    let rest = v.fill(Endless {
-        alloc: rt.alloc(),
-        next: 7,
-    });
-    assert!(rt; own(v.as_slice(), &[7, 8, 9]), "memory was granted");
-    assert!(rt; rest.next == 10);
+    let mut wrong = 0;
+    wrong = first(wrong, 1, v.fill(from_seven(rt.alloc())).next == 10);
+    wrong = asks(wrong, 2, own(v.as_slice(), &[7, 8, 9]));
+    assert!(rt; wrong == 0, "{}", Wrong(wrong));
 }
 
 #[test]
 fn extend(rt: HostRuntime) {
     let mut v = ArrayVec::<[Owned; 2]>::new();
-    match v.extend(Endless {
-        alloc: rt.alloc(),
-        next: 7,
-    }) {
-        Ok(()) => panic!(rt; "there was no room"),
-        Err(NoRoom { item, rest }) => {
-            assert!(rt; own(&[item], &[9]), "memory was granted");
-            assert!(rt; rest.next == 10);
-        }
-    }
-    assert!(rt; own(v.as_slice(), &[7, 8]), "memory was granted");
+    let mut wrong = 0;
+    wrong = asks(
+        wrong,
+        1,
+        refuses_the_third(v.extend(from_seven(rt.alloc()))),
+    );
+    wrong = asks(wrong, 2, own(v.as_slice(), &[7, 8]));
+    assert!(rt; wrong == 0, "{}", Wrong(wrong));
 }
 
 #[test]
 fn from_iter(rt: HostRuntime) {
-    match ArrayVec::<[Owned; 2]>::from_iter(Endless {
-        alloc: rt.alloc(),
-        next: 7,
-    }) {
+    let mut wrong = 0;
+    match ArrayVec::<[Owned; 2]>::from_iter(from_seven(rt.alloc())) {
         Ok(_) => panic!(rt; "there was no room"),
         Err(FromIterRest { vec, item, rest }) => {
-            assert!(rt; own(vec.as_slice(), &[7, 8]), "memory was granted");
-            assert!(rt; own(&[item], &[9]), "memory was granted");
-            assert!(rt; rest.next == 10);
+            wrong = asks(wrong, 1, own(vec.as_slice(), &[7, 8]));
+            wrong = asks(wrong, 2, own(&[item], &[9]));
+            wrong = first(wrong, 3, rest.next == 10);
         }
     }
+    assert!(rt; wrong == 0, "{}", Wrong(wrong));
 }
 
 #[test]
 fn splice(rt: HostRuntime) {
     let mut v = ArrayVec::<[Owned; 3]>::from_array_len([None, None, None], 2);
-    let replacement = Endless {
-        alloc: rt.alloc(),
-        next: 7,
-    };
-    match v.splice(1..2, replacement).finish() {
+    let mut wrong = 0;
+    match v.splice(1..2, from_seven(rt.alloc())).finish() {
         Ok(()) => panic!(rt; "there was no room"),
         Err(SpliceRest { item, mut rest }) => {
-            assert!(rt; own(&[item], &[9]), "memory was granted");
-            assert!(rt; own(&[rest.next().flatten()], &[10]), "memory was granted");
+            wrong = asks(wrong, 1, own(&[item], &[9]));
+            wrong = asks(wrong, 2, own(&[rest.next().flatten()], &[10]));
         }
     }
-    assert!(rt; v.is_full());
-    assert!(rt; own(&v.as_slice()[1..], &[7, 8]), "memory was granted");
+    wrong = first(wrong, 3, v.is_full());
+    wrong = asks(wrong, 4, own(&v.as_slice()[1..], &[7, 8]));
+    assert!(rt; wrong == 0, "{}", Wrong(wrong));
 }
 
 #[test]
 fn stopped_splice(rt: HostRuntime) {
     let mut v = ArrayVec::<[Owned; 2]>::from_array([None, None]);
-    let mut splice = v.splice(
-        1..,
-        Endless {
-            alloc: rt.alloc(),
-            next: 7,
-        },
-    );
-    assert!(rt; splice.next() == Some(None));
+    let mut splice = v.splice(1.., from_seven(rt.alloc()));
+    let mut wrong = 0;
+    wrong = first(wrong, 1, splice.next() == Some(None));
     let mut rest = splice.stop();
-    assert!(rt; own(&[rest.next().flatten()], &[8]), "memory was granted");
-    assert!(rt; v.pop().is_some());
-    assert!(rt; v.len() == 1);
+    wrong = asks(wrong, 2, own(&[rest.next().flatten()], &[8]));
+    wrong = first(wrong, 3, v.pop().is_some());
+    wrong = first(wrong, 4, v.len() == 1);
+    assert!(rt; wrong == 0, "{}", Wrong(wrong));
 }
 
 #[test]
 fn fill_a_slice(rt: HostRuntime) {
     let mut slots: [Owned; 2] = [None, None];
     let mut v = SliceVec::from_slice_len(&mut slots, 0);
-    let rest = v.fill(Endless {
-        alloc: rt.alloc(),
-        next: 7,
-    });
-    assert!(rt; rest.next == 9);
-    assert!(rt; own(&slots, &[7, 8]), "memory was granted");
+    let mut wrong = 0;
+    wrong = first(wrong, 1, v.fill(from_seven(rt.alloc())).next == 9);
+    wrong = asks(wrong, 2, own(&slots, &[7, 8]));
+    assert!(rt; wrong == 0, "{}", Wrong(wrong));
 }
 
 #[test]
 fn extend_a_slice(rt: HostRuntime) {
     let mut slots: [Owned; 2] = [None, None];
     let mut v = SliceVec::from_slice_len(&mut slots, 0);
-    match v.extend(Endless {
-        alloc: rt.alloc(),
-        next: 7,
-    }) {
-        Ok(()) => panic!(rt; "there was no room"),
-        Err(NoRoom { item, rest }) => {
-            assert!(rt; own(&[item], &[9]), "memory was granted");
-            assert!(rt; rest.next == 10);
-        }
-    }
-    assert!(rt; own(&slots, &[7, 8]), "memory was granted");
+    let mut wrong = 0;
+    wrong = asks(
+        wrong,
+        1,
+        refuses_the_third(v.extend(from_seven(rt.alloc()))),
+    );
+    wrong = asks(wrong, 2, own(&slots, &[7, 8]));
+    assert!(rt; wrong == 0, "{}", Wrong(wrong));
 }
 
 #[test]
 fn extend_by_numbers(rt: HostRuntime) {
     let mut v = ArrayVec::from_array_len([1, 0, 0], 1);
-    match v.extend(5..) {
-        Ok(()) => panic!(rt; "there was no room"),
-        Err(NoRoom { item, mut rest }) => {
-            assert_is!(rt; item, 7);
-            assert_is!(rt; rest.next(), Some(8));
-        }
-    }
-    assert_items!(rt; v.as_slice(), [1, 5, 6]);
-}
-
-#[test]
-fn extend_a_slice_by_numbers(rt: HostRuntime) {
     let mut slots = [1, 0, 0];
-    let mut v = SliceVec::from_slice_len(&mut slots, 1);
-    match v.extend(5..) {
-        Ok(()) => panic!(rt; "there was no room"),
-        Err(NoRoom { item, mut rest }) => {
-            assert_is!(rt; item, 7);
-            assert_is!(rt; rest.next(), Some(8));
-        }
-    }
-    assert_items!(rt; &slots, [1, 5, 6]);
+    let mut lent = SliceVec::from_slice_len(&mut slots, 1);
+    let mut wrong = 0;
+    wrong = first(
+        wrong,
+        1,
+        refuses(v.extend(5..), 7, [Some(8), Some(9), Some(10)]),
+    );
+    wrong = first(wrong, 2, holds(&v, &[1, 5, 6], &[]));
+    wrong = first(
+        wrong,
+        3,
+        refuses(lent.extend(5..), 7, [Some(8), Some(9), Some(10)]),
+    );
+    wrong = first(wrong, 4, are_same(&slots, &[1, 5, 6]));
+    assert!(rt; wrong == 0, "step {wrong}");
 }

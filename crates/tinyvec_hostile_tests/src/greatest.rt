@@ -1,103 +1,120 @@
 //! The greatest number, as an index, a count, a length and a bound.
+ghost use Rattle.std.specs.Iterator.{IsFinite};
+
+use crate::steps::are_same;
 use std::alloc::AllocError;
+use std::iter::ExactSizeIterator;
 use std::test::Fail;
 use tinyvec::{ArrayVec, SliceVec, TinyVec};
-use tinyvec_test_items::{assert_is, assert_items};
-use tinyvec_test_looks::lies;
+use tinyvec_test_items::{arrays, first, is_left};
+use tinyvec_test_looks::{lies, truncates};
 use tinyvec_text::InlineText;
 
-#[test]
-fn a_drain_skipped_past_its_end(rt: HostRuntime) {
-    let mut v = ArrayVec::from_array_len([1, 2, 3, 0], 3);
-    let mut d = v.drain(..);
-    assert_is!(rt; d.nth(usize::MAX), None);
-    assert_is!(rt; d.size_hint(), (0, Some(0)));
-    drop(d);
-    assert!(rt; v.is_empty());
-    assert_items!(rt; &v.into_inner(), [0, 0, 0, 0]);
+// Whether an iterator ends where it skips so many items, and none is left.
+fn skips_all<I: ExactSizeIterator>(mut iter: I) -> bool
+where
+    I::Item: Drop,
+    requires { I.can_next iter }
+{
+    iter.nth(usize::MAX).is_none() & is_left(&iter, 0)
+}
+
+// The same from its back.
+fn skips_all_back<I: DoubleEndedIterator + ExactSizeIterator>(mut iter: I) -> bool
+where
+    I::Item: Drop,
+    requires can { I.can_next_back iter }
+    requires finite { IsFinite (I.remaining iter) }
+{
+    iter.nth_back(usize::MAX).is_none() & is_left(&iter, 0)
 }
 
 #[test]
-fn a_drain_skipped_past_its_start(rt: HostRuntime) {
-    let mut v = ArrayVec::from_array([1, 2, 3, 4]);
-    let mut d = v.drain(1..3);
-    assert_is!(rt; d.nth_back(usize::MAX), None);
-    assert_is!(rt; d.size_hint(), (0, Some(0)));
-    drop(d);
-    assert!(rt; v.len() == 2);
-    assert_items!(rt; &v.into_inner(), [1, 4, 0, 0]);
-}
-
-#[test]
-fn a_drain_of_a_slice_skipped(rt: HostRuntime) {
+fn drains_skipped_past_their_ends(rt: HostRuntime) {
+    let mut whole = ArrayVec::from_array_len([1, 2, 3, 0], 3);
+    let mut part = ArrayVec::from_array([1, 2, 3, 4]);
     let mut slots = [1, 2, 3, 4];
-    let mut v = SliceVec::from_slice_len(&mut slots, 4);
-    let mut d = v.drain(..);
-    assert_is!(rt; d.nth(usize::MAX), None);
-    drop(d);
-    assert!(rt; v.is_empty());
-    assert_items!(rt; &slots, [0, 0, 0, 0]);
+    let mut lent = SliceVec::from_slice_len(&mut slots, 4);
+    let mut wrong = 0;
+    wrong = first(wrong, 1, skips_all(whole.drain(..)));
+    wrong = first(wrong, 2, arrays::holds(&whole, &[], &[0, 0, 0, 0]));
+    wrong = first(wrong, 3, skips_all_back(part.drain(1..3)));
+    wrong = first(wrong, 4, arrays::holds(&part, &[1, 4], &[0, 0]));
+    wrong = first(wrong, 5, lent.drain(..).nth(usize::MAX).is_none());
+    wrong = first(wrong, 6, lent.is_empty());
+    wrong = first(wrong, 7, are_same(&slots, &[0, 0, 0, 0]));
+    assert!(rt; wrong == 0, "step {wrong}");
 }
 
 #[test]
-fn a_drain_of_a_tiny_vec_skipped(rt: HostRuntime) -> Result<(), Fail> {
-    let mut inline = TinyVec::from_array(rt.alloc(), [1, 2, 3, 4]);
-    let mut d = inline.drain(1..3);
-    assert!(rt; d.nth(usize::MAX) == None);
-    assert!(rt; d.len() == 0);
-    drop(d);
-    assert!(rt; lies(&inline, &[1, 4], true));
+fn drains_of_a_tiny_vec_skipped(rt: HostRuntime) -> Result<(), Fail> {
     let mut heap: TinyVec<[i32; 1]> = TinyVec::from_slice(rt.alloc(), &[1, 2, 3, 4])?;
-    let mut d = heap.drain(1..3);
-    assert!(rt; d.nth_back(usize::MAX) == None);
-    assert!(rt; d.len() == 0);
-    drop(d);
-    assert!(rt; lies(&heap, &[1, 4], false));
+    let mut inline = TinyVec::from_array(rt.alloc(), [1, 2, 3, 4]);
+    let mut wrong = 0;
+    wrong = first(wrong, 1, skips_all(inline.drain(1..3)));
+    wrong = first(wrong, 2, lies(&inline, &[1, 4], true));
+    wrong = first(wrong, 3, skips_all_back(heap.drain(1..3)));
+    wrong = first(wrong, 4, lies(&heap, &[1, 4], false));
+    assert!(rt; wrong == 0, "step {wrong}");
     Ok(())
 }
 
 #[test]
 fn iterators_skipped_past_their_ends(rt: HostRuntime) {
     let mut items = ArrayVec::from_array([1, 2, 3]).into_iter();
-    assert_is!(rt; items.nth_back(usize::MAX), None);
-    assert_is!(rt; items.next(), None);
     let mut front = TinyVec::from_array(rt.alloc(), [1, 2, 3]).into_iter();
-    assert_is!(rt; front.nth(usize::MAX), None);
-    assert_is!(rt; front.next_back(), None);
     let mut back = TinyVec::from_array(rt.alloc(), [1, 2, 3]).into_iter();
-    assert_is!(rt; back.nth_back(usize::MAX), None);
-    assert_is!(rt; back.next(), None);
+    let mut wrong = 0;
+    wrong = first(wrong, 1, items.nth_back(usize::MAX).is_none());
+    wrong = first(wrong, 2, items.next().is_none());
+    wrong = first(wrong, 3, front.nth(usize::MAX).is_none());
+    wrong = first(wrong, 4, front.next_back().is_none());
+    wrong = first(wrong, 5, back.nth_back(usize::MAX).is_none());
+    wrong = first(wrong, 6, back.next().is_none());
+    assert!(rt; wrong == 0, "step {wrong}");
 }
 
 #[test]
 fn cut_far_behind_the_list(rt: HostRuntime) -> Result<(), Fail> {
+    let mut heap: TinyVec<[i32; 1]> = TinyVec::from_slice(rt.alloc(), &[1, 2, 3])?;
+    let mut inline = TinyVec::from_array(rt.alloc(), [1, 2, 3]);
     let mut v = ArrayVec::from_array_len([1, 2, 3, 9], 3);
-    v.truncate(usize::MAX);
-    assert_items!(rt; v.as_slice(), [1, 2, 3]);
-    assert_items!(rt; v.grab_spare_slice(), [9]);
     let mut slots = [1, 2, 3, 9];
     let mut lent = SliceVec::from_slice_len(&mut slots, 3);
     lent.truncate(usize::MAX);
-    assert_items!(rt; lent.as_slice(), [1, 2, 3]);
-    let mut inline = TinyVec::from_array(rt.alloc(), [1, 2, 3]);
-    inline.truncate(usize::MAX);
-    assert!(rt; lies(&inline, &[1, 2, 3], true));
-    let mut heap: TinyVec<[i32; 1]> = TinyVec::from_slice(rt.alloc(), &[1, 2, 3])?;
-    heap.truncate(usize::MAX);
-    assert!(rt; lies(&heap, &[1, 2, 3], false));
+    let mut wrong = 0;
+    wrong = first(
+        wrong,
+        1,
+        arrays::truncates(&mut v, usize::MAX, &[1, 2, 3], &[9]),
+    );
+    wrong = first(wrong, 2, are_same(lent.as_slice(), &[1, 2, 3]));
+    wrong = first(
+        wrong,
+        3,
+        truncates(&mut inline, usize::MAX, &[1, 2, 3], true),
+    );
+    wrong = first(
+        wrong,
+        4,
+        truncates(&mut heap, usize::MAX, &[1, 2, 3], false),
+    );
+    assert!(rt; wrong == 0, "step {wrong}");
     Ok(())
 }
 
 #[test]
 fn more_items_than_memory_holds(rt: HostRuntime) -> Result<(), Fail> {
-    let mut inline = TinyVec::from_array(rt.alloc(), [1, 2, 3]);
-    assert!(rt; inline.resize(usize::MAX, 7).is_err());
-    assert!(rt; inline.resize_with(usize::MAX, || 7).is_err());
-    assert!(rt; lies(&inline, &[1, 2, 3], true));
     let mut heap: TinyVec<[i32; 1]> = TinyVec::from_slice(rt.alloc(), &[1, 2, 3])?;
-    assert!(rt; heap.resize(usize::MAX, 7).is_err());
-    assert!(rt; heap.resize_with(usize::MAX, || 7).is_err());
-    assert!(rt; lies(&heap, &[1, 2, 3], false));
+    let mut inline = TinyVec::from_array(rt.alloc(), [1, 2, 3]);
+    let mut wrong = 0;
+    wrong = first(wrong, 1, inline.resize(usize::MAX, 7).is_err());
+    wrong = first(wrong, 2, inline.resize_with(usize::MAX, || 7).is_err());
+    wrong = first(wrong, 3, lies(&inline, &[1, 2, 3], true));
+    wrong = first(wrong, 4, heap.resize(usize::MAX, 7).is_err());
+    wrong = first(wrong, 5, heap.resize_with(usize::MAX, || 7).is_err());
+    wrong = first(wrong, 6, lies(&heap, &[1, 2, 3], false));
+    assert!(rt; wrong == 0, "step {wrong}");
     Ok(())
 }
 
@@ -106,33 +123,47 @@ fn more_items_than_memory_holds(rt: HostRuntime) -> Result<(), Fail> {
 fn more_room_than_a_number_counts(rt: HostRuntime) -> Result<(), Fail> {
     let mut heap: TinyVec<[i32; 1]> = TinyVec::from_slice(rt.alloc(), &[1, 2, 3])?;
     let room = heap.capacity();
-    assert!(rt; heap.try_reserve(usize::MAX) == Err(AllocError));
-    assert!(rt; heap.try_reserve_exact(usize::MAX) == Err(AllocError));
-    assert!(rt; heap.try_move_to_the_heap_and_reserve(usize::MAX) == Err(AllocError));
-    assert!(rt; heap.capacity() == room);
-    assert!(rt; lies(&heap, &[1, 2, 3], false));
+    let mut wrong = 0;
+    wrong = first(wrong, 1, heap.try_reserve(usize::MAX) == Err(AllocError));
+    wrong = first(
+        wrong,
+        2,
+        heap.try_reserve_exact(usize::MAX) == Err(AllocError),
+    );
+    wrong = first(
+        wrong,
+        3,
+        heap.try_move_to_the_heap_and_reserve(usize::MAX) == Err(AllocError),
+    );
+    wrong = first(wrong, 4, heap.capacity() == room);
+    wrong = first(wrong, 5, lies(&heap, &[1, 2, 3], false));
+    assert!(rt; wrong == 0, "step {wrong}");
     Ok(())
 }
 
 #[test]
 fn longer_than_the_slots(rt: HostRuntime) {
-    let back = ArrayVec::try_from_array_len([1, 2], usize::MAX).err();
-    assert!(rt; back == Some([1, 2]));
-    let back = TinyVec::try_from_array_len(rt.alloc(), [1, 2], usize::MAX).err();
-    assert!(rt; back == Some([1, 2]));
     let mut slots = [1, 2];
-    let v = SliceVec::from_slice_at_most(&mut slots, usize::MAX);
-    assert_items!(rt; v.as_slice(), [1, 2]);
+    let lent = SliceVec::from_slice_at_most(&mut slots, usize::MAX);
+    let array = ArrayVec::try_from_array_len([1, 2], usize::MAX);
+    let tiny = TinyVec::try_from_array_len(rt.alloc(), [1, 2], usize::MAX);
+    let mut wrong = 0;
+    wrong = first(wrong, 1, array.err() == Some([1, 2]));
+    wrong = first(wrong, 2, tiny.err() == Some([1, 2]));
+    wrong = first(wrong, 3, are_same(lent.as_slice(), &[1, 2]));
+    assert!(rt; wrong == 0, "step {wrong}");
 }
 
 #[test]
 fn room_for_a_text(rt: HostRuntime) -> Result<(), Fail> {
     let mut inline: InlineText<4> = InlineText::from_str(rt.alloc(), "ab")?;
-    assert!(rt; inline.reserve(usize::MAX).is_err());
-    assert!(rt; inline.is_inline());
-    assert!(rt; inline.as_str() == "ab");
     let mut heap: InlineText<1> = InlineText::from_str(rt.alloc(), "ab")?;
-    assert!(rt; heap.reserve(usize::MAX).is_err());
-    assert!(rt; heap.as_str() == "ab");
+    let mut wrong = 0;
+    wrong = first(wrong, 1, inline.reserve(usize::MAX).is_err());
+    wrong = first(wrong, 2, inline.is_inline());
+    wrong = first(wrong, 3, inline.as_str() == "ab");
+    wrong = first(wrong, 4, heap.reserve(usize::MAX).is_err());
+    wrong = first(wrong, 5, heap.as_str() == "ab");
+    assert!(rt; wrong == 0, "step {wrong}");
     Ok(())
 }

@@ -2,9 +2,11 @@
 ghost use Rattle.std.specs.Prelude.{◌+◌, ◌-◌, ◌^◌};
 ghost use Rattle.std.specs.Iterator.{at_most};
 
+use crate::steps::{Wrong, answers, are_same, asks, granted, makes, refuses};
 use std::test::Fail;
-use tinyvec::{ArrayVec, FromIterRest, NoRoom, SliceVec, SpliceRest, TinyVec};
-use tinyvec_test_items::{Unhinted, assert_is, assert_items};
+use tinyvec::{ArrayVec, FromIterRest, SliceVec, SpliceRest, TinyVec};
+use tinyvec_test_items::arrays::holds;
+use tinyvec_test_items::{Unhinted, first};
 use tinyvec_test_looks::lies;
 
 /// Gives the numbers below `end`, and promises as many items as a number counts.
@@ -60,227 +62,294 @@ impl Iterator for Boasting {
     }
 }
 
+// Whether these items were room enough for.
+fn makes_array<E: Drop>(made: Result<ArrayVec<[i32; 4]>, E>, items: &[i32], spare: &[i32]) -> bool {
+    match made {
+        Ok(v) => holds(&v, items, spare),
+        Err(_) => false,
+    }
+}
+
 #[test]
 fn an_array_is_filled(rt: HostRuntime) {
     let mut v = ArrayVec::from_array_len([1, 0, 0, 9], 1);
-    let mut rest = v.fill(Unhinted { next: 5, end: 7 });
-    assert_is!(rt; rest.next(), None);
-    assert_items!(rt; v.as_slice(), [1, 5, 6]);
-    let mut rest = v.fill(Unhinted { next: 2, end: 4 });
-    assert_is!(rt; rest.next(), Some(3));
-    assert_items!(rt; v.as_slice(), [1, 5, 6, 2]);
+    let mut wrong = 0;
+    wrong = first(
+        wrong,
+        1,
+        answers(v.fill(Unhinted { next: 5, end: 7 }), [None; 3]),
+    );
+    wrong = first(wrong, 2, holds(&v, &[1, 5, 6], &[9]));
+    wrong = first(
+        wrong,
+        3,
+        answers(v.fill(Unhinted { next: 2, end: 4 }), [Some(3), None, None]),
+    );
+    wrong = first(wrong, 4, holds(&v, &[1, 5, 6, 2], &[]));
+    assert!(rt; wrong == 0, "step {wrong}");
 }
 
 #[test]
 fn an_array_is_filled_by_less_than_was_promised(rt: HostRuntime) {
     let mut v = ArrayVec::from_array_len([1, 0, 0, 9], 1);
-    let mut rest = v.fill(Promising { next: 5, end: 7 });
-    assert_is!(rt; rest.next(), None);
-    assert_items!(rt; v.as_slice(), [1, 5, 6]);
-    let mut rest = v.fill(Promising { next: 2, end: 4 });
-    assert_is!(rt; rest.next(), Some(3));
-    assert_items!(rt; v.as_slice(), [1, 5, 6, 2]);
+    let mut wrong = 0;
+    wrong = first(
+        wrong,
+        1,
+        answers(v.fill(Promising { next: 5, end: 7 }), [None; 3]),
+    );
+    wrong = first(wrong, 2, holds(&v, &[1, 5, 6], &[9]));
+    wrong = first(
+        wrong,
+        3,
+        answers(v.fill(Promising { next: 2, end: 4 }), [Some(3), None, None]),
+    );
+    wrong = first(wrong, 4, holds(&v, &[1, 5, 6, 2], &[]));
+    assert!(rt; wrong == 0, "step {wrong}");
 }
 
 #[test]
 fn an_array_is_extended_by_less_than_was_promised(rt: HostRuntime) {
     let mut v = ArrayVec::from_array_len([1, 0, 0, 9], 1);
-    assert!(rt; v.extend(Promising { next: 5, end: 7 }).is_ok());
-    assert_items!(rt; v.as_slice(), [1, 5, 6]);
-    assert_items!(rt; v.grab_spare_slice(), [9]);
-    match v.extend(Promising { next: 2, end: 5 }) {
-        Ok(()) => panic!(rt; "there was no room"),
-        Err(NoRoom { item, mut rest }) => {
-            assert_is!(rt; item, 3);
-            assert_is!(rt; rest.next(), Some(4));
-            assert_is!(rt; rest.next(), None);
-        }
-    }
-    assert_items!(rt; v.as_slice(), [1, 5, 6, 2]);
+    let mut wrong = 0;
+    wrong = first(wrong, 1, v.extend(Promising { next: 5, end: 7 }).is_ok());
+    wrong = first(wrong, 2, holds(&v, &[1, 5, 6], &[9]));
+    wrong = first(
+        wrong,
+        3,
+        refuses(
+            v.extend(Promising { next: 2, end: 5 }),
+            3,
+            [Some(4), None, None],
+        ),
+    );
+    wrong = first(wrong, 4, holds(&v, &[1, 5, 6, 2], &[]));
+    assert!(rt; wrong == 0, "step {wrong}");
 }
 
 #[test]
 fn an_array_is_made(rt: HostRuntime) {
-    match ArrayVec::<[i32; 4]>::from_iter(Unhinted { next: 5, end: 7 }) {
-        Ok(v) => assert_items!(rt; v.as_slice(), [5, 6]),
-        Err(_) => panic!(rt; "there was room"),
-    }
-    match ArrayVec::<[i32; 4]>::from_iter(Promising { next: 5, end: 7 }) {
-        Ok(v) => assert_items!(rt; v.as_slice(), [5, 6]),
-        Err(_) => panic!(rt; "there was room"),
-    }
+    let mut wrong = 0;
+    let unhinted = ArrayVec::from_iter(Unhinted { next: 5, end: 7 });
+    wrong = first(wrong, 1, makes_array(unhinted, &[5, 6], &[0, 0]));
+    let promising = ArrayVec::from_iter(Promising { next: 5, end: 7 });
+    wrong = first(wrong, 2, makes_array(promising, &[5, 6], &[0, 0]));
+    assert!(rt; wrong == 0, "step {wrong}");
 }
 
 #[test]
 fn an_array_that_is_too_small_is_made(rt: HostRuntime) {
+    let mut wrong = 0;
     match ArrayVec::<[i32; 1]>::from_iter(Promising { next: 5, end: 8 }) {
-        Ok(_) => panic!(rt; "there was no room"),
-        Err(
-            FromIterRest {
-                vec,
-                item,
-                mut rest,
-            },
-        ) => {
-            assert_items!(rt; vec.as_slice(), [5]);
-            assert_is!(rt; item, 6);
-            assert_is!(rt; rest.next(), Some(7));
+        Ok(_) => wrong = 1,
+        Err(FromIterRest { vec, item, rest }) => {
+            wrong = first(wrong, 2, holds(&vec, &[5], &[]));
+            wrong = first(wrong, 3, item == 6);
+            wrong = first(wrong, 4, answers(rest, [Some(7), None, None]));
         }
     }
+    assert!(rt; wrong == 0, "step {wrong}");
 }
 
 #[test]
 fn an_array_is_spliced(rt: HostRuntime) {
     let mut v = ArrayVec::from_array_len([1, 2, 3, 0, 0], 3);
-    assert!(rt;
+    let mut wrong = 0;
+    wrong = first(
+        wrong,
+        1,
         v.splice(1..2, Unhinted { next: 5, end: 7 })
             .finish()
-            .is_ok()
+            .is_ok(),
     );
-    assert_items!(rt; v.as_slice(), [1, 5, 6, 3]);
-    assert!(rt;
-        v.splice(..2, Promising { next: 7, end: 10 })
-            .finish()
-            .is_ok()
-    );
-    assert_items!(rt; v.as_slice(), [7, 8, 9, 6, 3]);
+    wrong = first(wrong, 2, holds(&v, &[1, 5, 6, 3], &[0]));
+    if v.len() == 4 {
+        wrong = first(
+            wrong,
+            3,
+            v.splice(..2, Promising { next: 7, end: 10 })
+                .finish()
+                .is_ok(),
+        );
+    }
+    wrong = first(wrong, 4, holds(&v, &[7, 8, 9, 6, 3], &[]));
+    assert!(rt; wrong == 0, "step {wrong}");
 }
 
 #[test]
 fn an_array_that_is_too_small_is_spliced(rt: HostRuntime) {
     let mut v = ArrayVec::from_array([1, 2]);
+    let mut wrong = 0;
     match v.splice(1.., Promising { next: 5, end: 8 }).finish() {
-        Ok(()) => panic!(rt; "there was no room"),
-        Err(SpliceRest { item, mut rest }) => {
-            assert_is!(rt; item, 6);
-            assert_is!(rt; rest.next(), Some(7));
-            assert_is!(rt; rest.next(), None);
+        Ok(()) => wrong = 1,
+        Err(SpliceRest { item, rest }) => {
+            wrong = first(wrong, 2, item == 6);
+            wrong = first(wrong, 3, answers(rest, [Some(7), None, None]));
         }
     }
-    assert_items!(rt; v.as_slice(), [1, 5]);
+    wrong = first(wrong, 4, holds(&v, &[1, 5], &[]));
+    assert!(rt; wrong == 0, "step {wrong}");
 }
 
 #[test]
 fn a_splice_is_stopped(rt: HostRuntime) {
     let mut v = ArrayVec::from_array([1, 2, 3]);
     let mut splice = v.splice(1.., Promising { next: 5, end: 8 });
-    assert_is!(rt; splice.next(), Some(2));
-    let mut rest = splice.stop();
-    assert_is!(rt; rest.next(), Some(6));
-    assert_items!(rt; v.as_slice(), [1, 5]);
+    let mut wrong = 0;
+    wrong = first(wrong, 1, splice.next() == Some(2));
+    wrong = first(wrong, 2, answers(splice.stop(), [Some(6), Some(7), None]));
+    wrong = first(wrong, 3, holds(&v, &[1, 5], &[0]));
+    assert!(rt; wrong == 0, "step {wrong}");
 }
 
 #[test]
 fn a_slice_is_filled(rt: HostRuntime) {
     let mut slots = [1, 0, 0, 9];
     let mut v = SliceVec::from_slice_len(&mut slots, 1);
-    let mut rest = v.fill(Unhinted { next: 5, end: 6 });
-    assert_is!(rt; rest.next(), None);
-    let mut rest = v.fill(Promising { next: 6, end: 9 });
-    assert_is!(rt; rest.next(), Some(8));
-    assert_items!(rt; &slots, [1, 5, 6, 7]);
+    let mut wrong = 0;
+    wrong = first(
+        wrong,
+        1,
+        answers(v.fill(Unhinted { next: 5, end: 6 }), [None; 3]),
+    );
+    wrong = first(
+        wrong,
+        2,
+        answers(v.fill(Promising { next: 6, end: 9 }), [Some(8), None, None]),
+    );
+    wrong = first(wrong, 3, are_same(&slots, &[1, 5, 6, 7]));
+    assert!(rt; wrong == 0, "step {wrong}");
 }
 
 #[test]
 fn a_slice_is_extended(rt: HostRuntime) {
     let mut slots = [1, 0, 0, 9];
     let mut v = SliceVec::from_slice_len(&mut slots, 1);
-    assert!(rt; v.extend(Unhinted { next: 5, end: 6 }).is_ok());
-    match v.extend(Promising { next: 6, end: 10 }) {
-        Ok(()) => panic!(rt; "there was no room"),
-        Err(NoRoom { item, mut rest }) => {
-            assert_is!(rt; item, 8);
-            assert_is!(rt; rest.next(), Some(9));
-        }
-    }
-    assert_items!(rt; &slots, [1, 5, 6, 7]);
+    let mut wrong = 0;
+    wrong = first(wrong, 1, v.extend(Unhinted { next: 5, end: 6 }).is_ok());
+    wrong = first(
+        wrong,
+        2,
+        refuses(
+            v.extend(Promising { next: 6, end: 10 }),
+            8,
+            [Some(9), None, None],
+        ),
+    );
+    wrong = first(wrong, 3, are_same(&slots, &[1, 5, 6, 7]));
+    assert!(rt; wrong == 0, "step {wrong}");
 }
 
 // Room for what was promised is granted by no allocator, and it is not asked for.
 #[test]
 fn a_tiny_vec_is_extended(rt: HostRuntime) {
     let mut v = TinyVec::from_array_len(rt.alloc(), [1, 0, 0], 1);
-    assert!(rt; v.extend(Promising { next: 5, end: 7 }).is_ok());
-    assert!(rt; lies(&v, &[1, 5, 6], true));
-    assert!(rt;
-        v.extend(Promising { next: 7, end: 9 }).is_ok(),
-        "memory was granted"
-    );
-    assert!(rt; lies(&v, &[1, 5, 6, 7, 8], false));
+    let mut wrong = 0;
+    wrong = first(wrong, 1, v.extend(Promising { next: 5, end: 7 }).is_ok());
+    wrong = first(wrong, 2, lies(&v, &[1, 5, 6], true));
+    wrong = asks(wrong, 3, granted(v.extend(Promising { next: 7, end: 9 })));
+    wrong = first(wrong, 4, lies(&v, &[1, 5, 6, 7, 8], false));
+    assert!(rt; wrong == 0, "{}", Wrong(wrong));
 }
 
 #[test]
 fn a_tiny_vec_is_made(rt: HostRuntime) {
-    match TinyVec::<[i32; 3]>::from_iter(rt.alloc(), Unhinted { next: 5, end: 8 }) {
-        Ok(v) => assert!(rt; lies(&v, &[5, 6, 7], true)),
-        Err(_) => panic!(rt; "there was room"),
-    }
-    match TinyVec::<[i32; 3]>::from_iter(rt.alloc(), Promising { next: 5, end: 9 }) {
-        Ok(v) => assert!(rt; lies(&v, &[5, 6, 7, 8], false)),
-        Err(_) => panic!(rt; "memory was granted"),
-    }
+    let mut wrong = 0;
+    let inline = TinyVec::<[i32; 3]>::from_iter(rt.alloc(), Unhinted { next: 5, end: 8 });
+    wrong = first(wrong, 1, makes(inline, &[5, 6, 7], true) == Ok(true));
+    let heap = TinyVec::<[i32; 3]>::from_iter(rt.alloc(), Promising { next: 5, end: 9 });
+    wrong = asks(wrong, 2, makes(heap, &[5, 6, 7, 8], false));
+    assert!(rt; wrong == 0, "{}", Wrong(wrong));
 }
 
 #[test]
 fn a_tiny_vec_is_spliced(rt: HostRuntime) {
     let mut v = TinyVec::from_array_len(rt.alloc(), [1, 2, 3, 0], 3);
-    assert!(rt;
+    let mut wrong = 0;
+    wrong = first(
+        wrong,
+        1,
         v.splice(1..2, Promising { next: 5, end: 7 })
             .finish()
-            .is_ok()
+            .is_ok(),
     );
-    assert!(rt; lies(&v, &[1, 5, 6, 3], true));
+    wrong = first(wrong, 2, lies(&v, &[1, 5, 6, 3], true));
     if v.len() == 4 {
-        let finished = v.splice(3..3, Promising { next: 8, end: 10 }).finish();
-        assert!(rt; finished.is_ok(), "memory was granted");
+        wrong = asks(
+            wrong,
+            3,
+            granted(v.splice(3..3, Promising { next: 8, end: 10 }).finish()),
+        );
     }
-    assert!(rt; lies(&v, &[1, 5, 6, 8, 9, 3], false));
+    wrong = first(wrong, 4, lies(&v, &[1, 5, 6, 8, 9, 3], false));
+    assert!(rt; wrong == 0, "{}", Wrong(wrong));
 }
 
 #[test]
 fn a_splice_of_a_tiny_vec_that_hints_at_nothing_is_stopped(rt: HostRuntime) {
     let mut v = TinyVec::from_array_len(rt.alloc(), [1, 2, 3, 0], 3);
     let mut splice = v.splice(1.., Unhinted { next: 5, end: 8 });
-    assert!(rt; splice.next() == Some(2));
-    let mut rest = splice.stop();
-    assert_is!(rt; rest.next(), Some(6));
-    assert_is!(rt; rest.next(), Some(7));
-    assert_is!(rt; rest.next(), None);
-    assert!(rt; lies(&v, &[1, 5], true));
+    let mut wrong = 0;
+    wrong = first(wrong, 1, splice.next() == Some(2));
+    wrong = first(wrong, 2, answers(splice.stop(), [Some(6), Some(7), None]));
+    wrong = first(wrong, 3, lies(&v, &[1, 5], true));
+    assert!(rt; wrong == 0, "step {wrong}");
 }
 
 #[test]
 fn a_splice_of_a_tiny_vec_that_promises_three_more_is_stopped(rt: HostRuntime) {
     let mut v = TinyVec::from_array_len(rt.alloc(), [1, 2, 3, 0], 3);
     let mut splice = v.splice(..2, Boasting { next: 5, end: 7 });
-    assert!(rt; splice.next() == Some(1));
-    assert!(rt; splice.next() == Some(2));
-    let mut rest = splice.stop();
-    assert_is!(rt; rest.next(), None);
-    assert!(rt; lies(&v, &[5, 6, 3], true));
+    let mut wrong = 0;
+    wrong = first(wrong, 1, splice.next() == Some(1));
+    wrong = first(wrong, 2, splice.next() == Some(2));
+    wrong = first(wrong, 3, answers(splice.stop(), [None; 3]));
+    wrong = first(wrong, 4, lies(&v, &[5, 6, 3], true));
+    assert!(rt; wrong == 0, "step {wrong}");
 }
 
 #[test]
 fn a_splice_of_a_tiny_vec_that_promises_the_most_is_stopped(rt: HostRuntime) {
     let mut v = TinyVec::from_array_len(rt.alloc(), [1, 2, 3, 0], 3);
     let mut splice = v.splice(1.., Promising { next: 5, end: 8 });
-    assert!(rt; splice.next() == Some(2));
-    let mut rest = splice.stop();
-    assert_is!(rt; rest.next(), Some(6));
-    assert!(rt; lies(&v, &[1, 5], true));
+    let mut wrong = 0;
+    wrong = first(wrong, 1, splice.next() == Some(2));
+    wrong = first(wrong, 2, answers(splice.stop(), [Some(6), Some(7), None]));
+    wrong = first(wrong, 3, lies(&v, &[1, 5], true));
+    assert!(rt; wrong == 0, "step {wrong}");
 }
 
 #[test]
 fn splices_on_the_heap_are_stopped(rt: HostRuntime) -> Result<(), Fail> {
     let mut v: TinyVec<[i32; 1]> = TinyVec::from_slice(rt.alloc(), &[1, 2, 3])?;
-    let mut rest = v.splice(1.., Unhinted { next: 5, end: 6 }).stop();
-    assert_is!(rt; rest.next(), Some(5));
-    assert!(rt; lies(&v, &[1], false));
-    let mut rest = v.splice(.., Boasting { next: 5, end: 6 }).stop();
-    assert_is!(rt; rest.next(), Some(5));
-    assert!(rt; lies(&v, &[], false));
-    let mut rest = v.splice(.., Promising { next: 5, end: 6 }).stop();
-    assert_is!(rt; rest.next(), Some(5));
-    assert!(rt; lies(&v, &[], false));
+    let mut wrong = 0;
+    wrong = first(
+        wrong,
+        1,
+        answers(
+            v.splice(1.., Unhinted { next: 5, end: 6 }).stop(),
+            [Some(5), None, None],
+        ),
+    );
+    wrong = first(wrong, 2, lies(&v, &[1], false));
+    wrong = first(
+        wrong,
+        3,
+        answers(
+            v.splice(.., Boasting { next: 5, end: 6 }).stop(),
+            [Some(5), None, None],
+        ),
+    );
+    wrong = first(wrong, 4, lies(&v, &[], false));
+    wrong = first(
+        wrong,
+        5,
+        answers(
+            v.splice(.., Promising { next: 5, end: 6 }).stop(),
+            [Some(5), None, None],
+        ),
+    );
+    wrong = first(wrong, 6, lies(&v, &[], false));
+    assert!(rt; wrong == 0, "step {wrong}");
     Ok(())
 }

@@ -30,4 +30,6 @@ mod refusals;
 #[cfg(test)]
 mod stateful;
 #[cfg(test)]
+mod steps;
+#[cfg(test)]
 mod units;

@@ -5,72 +5,81 @@ use std::cmp::Ordering;
 use std::iter;
 use std::test::Fail;
 use tinyvec::SliceVec;
-use tinyvec_test_items::assert_is;
+use tinyvec_test_items::first;
 
 #[test]
 fn filled(rt: HostRuntime) {
     let mut slots = [0; 65536];
     let mut v = SliceVec::from_slice_len(&mut slots, 0);
-    assert!(rt; v.extend(iter::repeat(7)).is_err());
-    assert!(rt; are(v.as_slice(), 65536, 7));
+    let mut wrong = 0;
+    wrong = first(wrong, 1, v.extend(iter::repeat(7)).is_err());
+    wrong = first(wrong, 2, are(v.as_slice(), 65536, 7));
     v.clear();
-    assert!(rt; are(v.grab_spare_slice(), 65536, 0));
+    wrong = first(wrong, 3, are(v.grab_spare_slice(), 65536, 0));
     let _rest = v.fill(iter::repeat(7));
-    assert!(rt; are(&slots, 65536, 7));
+    wrong = first(wrong, 4, are(&slots, 65536, 7));
+    assert!(rt; wrong == 0, "step {wrong}");
 }
 
 #[test]
 fn grown_and_cut(rt: HostRuntime) {
     let mut slots = [7; 65536];
     let mut v = SliceVec::from_slice_len(&mut slots, 65536);
+    let mut wrong = 0;
     v.truncate(0);
     if v.grab_spare_slice().len() == 65536 {
-        assert!(rt; v.extend_from_slice(&[8; 65536]).is_ok());
+        wrong = first(wrong, 1, v.extend_from_slice(&[8; 65536]).is_ok());
     }
-    assert!(rt; are(v.as_slice(), 65536, 8));
-    assert_is!(rt; v.pop(), Some(8));
-    assert!(rt; v.len() == 65535);
-    assert!(rt; are(v.grab_spare_slice(), 1, 0));
+    wrong = first(wrong, 2, are(v.as_slice(), 65536, 8));
+    wrong = first(wrong, 3, v.pop() == Some(8));
+    wrong = first(wrong, 4, v.len() == 65535);
+    wrong = first(wrong, 5, are(v.grab_spare_slice(), 1, 0));
+    assert!(rt; wrong == 0, "step {wrong}");
 }
 
 #[test]
 fn resized(rt: HostRuntime) {
     let mut slots = [7; 65536];
     let mut v = SliceVec::from_slice_len(&mut slots, 65536);
-    assert_is!(rt; v.resize(0, 8), Ok(()));
-    assert!(rt; are(&slots, 65536, 8));
+    let mut wrong = 0;
+    wrong = first(wrong, 1, v.resize(0, 8).is_ok());
+    wrong = first(wrong, 2, are(&slots, 65536, 8));
     let mut grown = SliceVec::from_slice_len(&mut slots, 0);
-    assert_is!(rt; grown.resize(65536, 9), Ok(()));
-    assert!(rt; are(&slots, 65536, 9));
+    wrong = first(wrong, 3, grown.resize(65536, 9).is_ok());
+    wrong = first(wrong, 4, are(&slots, 65536, 9));
     let mut again = SliceVec::from_slice_len(&mut slots, 0);
     again.resize_with(65536, || 5);
-    assert!(rt; are(&slots, 65536, 5));
+    wrong = first(wrong, 5, are(&slots, 65536, 5));
+    assert!(rt; wrong == 0, "step {wrong}");
 }
 
 #[test]
 fn shifted(rt: HostRuntime) {
     let mut slots = [7; 65536];
     let mut v = SliceVec::from_slice_len(&mut slots, 65535);
+    let mut wrong = 0;
     v.insert(0, 1);
-    assert!(rt; v.is_full());
-    assert_is!(rt; v.remove(0), 1);
-    assert!(rt; are(v.as_slice(), 65535, 7));
-    assert!(rt; are(v.grab_spare_slice(), 1, 0));
+    wrong = first(wrong, 1, v.is_full());
+    wrong = first(wrong, 2, v.remove(0) == 1);
+    wrong = first(wrong, 3, are(v.as_slice(), 65535, 7));
+    wrong = first(wrong, 4, are(v.grab_spare_slice(), 1, 0));
+    assert!(rt; wrong == 0, "step {wrong}");
 }
 
 #[test]
 fn parted_and_joined(rt: HostRuntime) {
     let mut slots = [7; 65536];
     let mut v = SliceVec::from_slice_len(&mut slots, 65536);
-    let tail = v.split_off(1);
-    assert!(rt; are(tail.as_slice(), 65535, 7));
+    let mut wrong = 0;
+    wrong = first(wrong, 1, are(v.split_off(1).as_slice(), 65535, 7));
     let mut room = [0; 65536];
     let mut other = SliceVec::from_slice_len(&mut room, 0);
     let mut whole_slots = [8; 65536];
     let mut whole = SliceVec::from_slice(whole_slots.as_mut_slice());
     other.append(&mut whole);
-    assert!(rt; are(&room, 65536, 8));
-    assert!(rt; are(&whole_slots, 65536, 0));
+    wrong = first(wrong, 2, are(&room, 65536, 8));
+    wrong = first(wrong, 3, are(&whole_slots, 65536, 0));
+    assert!(rt; wrong == 0, "step {wrong}");
 }
 
 #[test]
@@ -79,49 +88,57 @@ fn compared_and_iterated(rt: HostRuntime) {
     let mut others = [7; 65536];
     let v = SliceVec::from_slice(slots.as_mut_slice());
     let mut w = SliceVec::from_slice(others.as_mut_slice());
-    assert!(rt; v == w);
-    assert!(rt; v.iter().count() == 65536);
-    assert_is!(rt; w.pop(), Some(7));
+    let mut wrong = 0;
+    wrong = first(wrong, 1, v == w);
+    wrong = first(wrong, 2, v.iter().count() == 65536);
+    wrong = first(wrong, 3, w.pop() == Some(7));
     let _rest = w.fill(Some(8));
-    assert!(rt; v != w);
-    assert_is!(rt; v.cmp(&w), Ordering::Less);
+    wrong = first(wrong, 4, v != w);
+    wrong = first(wrong, 5, v.cmp(&w) == Ordering::Less);
     for x in w.iter_mut() {
         *x = 9;
     }
-    assert!(rt; are(&others, 65536, 9));
+    wrong = first(wrong, 6, are(&others, 65536, 9));
+    assert!(rt; wrong == 0, "step {wrong}");
 }
 
 #[test]
 fn filtered(rt: HostRuntime) {
     let mut slots = [7; 65536];
     let mut v = SliceVec::from_slice_len(&mut slots, 65536);
+    let mut wrong = 0;
     v.retain(keep);
-    assert!(rt; are(v.as_slice(), 65536, 7));
+    wrong = first(wrong, 1, are(v.as_slice(), 65536, 7));
     let mut keeps = false;
     v.retain(|_| {
         keeps = !keeps;
         keeps
     });
-    assert!(rt; are(v.as_slice(), 32768, 7));
-    assert!(rt; are(v.grab_spare_slice(), 32768, 0));
+    wrong = first(wrong, 2, are(v.as_slice(), 32768, 7));
+    wrong = first(wrong, 3, are(v.grab_spare_slice(), 32768, 0));
+    assert!(rt; wrong == 0, "step {wrong}");
 }
 
 #[test]
 fn filtered_to_none(rt: HostRuntime) {
     let mut slots = [7; 65536];
     let mut v = SliceVec::from_slice_len(&mut slots, 65536);
+    let mut wrong = 0;
     v.retain(drop_each);
-    assert!(rt; v.is_empty());
-    assert!(rt; are(&slots, 65536, 0));
+    wrong = first(wrong, 1, v.is_empty());
+    wrong = first(wrong, 2, are(&slots, 65536, 0));
+    assert!(rt; wrong == 0, "step {wrong}");
 }
 
 #[test]
 fn drained(rt: HostRuntime) {
     let mut slots = [7; 65536];
     let mut v = SliceVec::from_slice_len(&mut slots, 65536);
-    assert_is!(rt; v.drain(..).last(), Some(7));
-    assert!(rt; v.is_empty());
-    assert!(rt; are(&slots, 65536, 0));
+    let mut wrong = 0;
+    wrong = first(wrong, 1, v.drain(..).last() == Some(7));
+    wrong = first(wrong, 2, v.is_empty());
+    wrong = first(wrong, 3, are(&slots, 65536, 0));
+    assert!(rt; wrong == 0, "step {wrong}");
 }
 
 #[test]
@@ -130,10 +147,12 @@ fn drained_but_for_the_ends(rt: HostRuntime) {
     let mut v = SliceVec::from_slice_len(&mut slots, 65536);
     let mut sum = 0_u32;
     let mut add = |x: u8| sum = sum.wrapping_add(u32::from(x));
+    let mut wrong = 0;
     v.drain_each(1..65535, &mut add);
-    assert_is!(rt; sum, 7 * 65534);
-    assert!(rt; are(v.as_slice(), 2, 7));
-    assert!(rt; are(v.grab_spare_slice(), 65534, 0));
+    wrong = first(wrong, 1, sum == 7 * 65534);
+    wrong = first(wrong, 2, are(v.as_slice(), 2, 7));
+    wrong = first(wrong, 3, are(v.grab_spare_slice(), 65534, 0));
+    assert!(rt; wrong == 0, "step {wrong}");
 }
 
 #[test]
@@ -141,9 +160,11 @@ fn drained_into_a_vec(rt: HostRuntime) -> Result<(), Fail> {
     let mut slots = [7; 65536];
     let mut v = SliceVec::from_slice_len(&mut slots, 65536);
     let mut out = Vec::with_capacity(rt.alloc(), 65536)?;
+    let mut wrong = 0;
     v.drain_into(.., &mut out);
-    assert!(rt; are(out.as_slice(), 65536, 7));
-    assert!(rt; are(&slots, 65536, 0));
+    wrong = first(wrong, 1, are(out.as_slice(), 65536, 7));
+    wrong = first(wrong, 2, are(&slots, 65536, 0));
+    assert!(rt; wrong == 0, "step {wrong}");
     Ok(())
 }
 
@@ -152,22 +173,26 @@ fn swapped(rt: HostRuntime) {
     let mut slots = [7; 65536];
     slots[65535] = 8;
     let mut v = SliceVec::from_slice_len(&mut slots, 65536);
-    assert_is!(rt; v.swap_remove(0), 7);
-    assert!(rt; v.len() == 65535);
-    assert_is!(rt; v.swap_remove(65534), 7);
-    assert_is!(rt; v.swap_remove(0), 8);
-    assert!(rt; are(v.as_slice(), 65533, 7));
-    assert!(rt; are(v.grab_spare_slice(), 3, 0));
+    let mut wrong = 0;
+    wrong = first(wrong, 1, v.swap_remove(0) == 7);
+    wrong = first(wrong, 2, v.len() == 65535);
+    wrong = first(wrong, 3, v.swap_remove(65534) == 7);
+    wrong = first(wrong, 4, v.swap_remove(0) == 8);
+    wrong = first(wrong, 5, are(v.as_slice(), 65533, 7));
+    wrong = first(wrong, 6, are(v.grab_spare_slice(), 3, 0));
+    assert!(rt; wrong == 0, "step {wrong}");
 }
 
 #[test]
 fn the_length_is_set(rt: HostRuntime) {
     let mut slots = [7; 65536];
     let mut v = SliceVec::from_slice_len(&mut slots, 0);
+    let mut wrong = 0;
     v.set_len(65536);
-    assert!(rt; are(v.as_slice(), 65536, 7));
+    wrong = first(wrong, 1, are(v.as_slice(), 65536, 7));
     v.set_len(65535);
-    assert!(rt; are(v.grab_spare_slice(), 1, 7));
+    wrong = first(wrong, 2, are(v.grab_spare_slice(), 1, 7));
     v.set_len(0);
-    assert!(rt; are(v.grab_spare_slice(), 65536, 7));
+    wrong = first(wrong, 3, are(v.grab_spare_slice(), 65536, 7));
+    assert!(rt; wrong == 0, "step {wrong}");
 }

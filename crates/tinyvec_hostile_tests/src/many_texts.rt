@@ -1,13 +1,14 @@
 //! Texts and hashes of 65536 items, and as many bytes written at once.
 use crate::bases::{Binary, LowerHex, Octal, UpperHex};
 use crate::many::{Many, are};
-use std::alloc::{AllocError, AllocGlobal, Global};
+use crate::steps::{Wrong, asks, granted};
+use std::alloc::{AllocError, Global};
 use std::fmt::{Debug, Display};
 use std::hash::{DefaultHasher, Hash, Hasher};
-use std::process::Abort;
 use std::test::Fail;
 use std::{fmt, io};
 use tinyvec::{ArrayVec, SliceVec, TinyVec};
+use tinyvec_test_items::first;
 use tinyvec_text::InlineText;
 
 // Two brackets, two digits of each item, and a comma and a blank between each two.
@@ -19,45 +20,53 @@ fn is_list(text: &str, digits: [u8; 2]) -> bool {
     bytes.len() == LEN && bytes[1..].chunks(4).all(|item| item.starts_with(&digits))
 }
 
-// Asserts that a list of as many times 31 is written in each base.
-fn assert_shown<V: Debug + Display + fmt::Octal + fmt::LowerHex + fmt::UpperHex>(
-    rt: &(impl Abort + AllocGlobal),
+// Whether `{}` writes such a list.
+fn writes<V: Display>(alloc: Global, v: &V, digits: [u8; 2]) -> Result<bool, AllocError> {
+    Ok(is_list(format!(in alloc; "{v}")?.as_str(), digits))
+}
+
+// The same of `{:?}`.
+fn debugs<V: Debug>(alloc: Global, v: &V, digits: [u8; 2]) -> Result<bool, AllocError> {
+    Ok(is_list(format!(in alloc; "{v:?}")?.as_str(), digits))
+}
+
+// The first step that went wrong where a list of as many times 31 is written in each base, or 0.
+fn first_other_base<V: Debug + Display + fmt::Octal + fmt::LowerHex + fmt::UpperHex>(
+    alloc: Global,
     v: &V,
-) -> Result<(), Fail> {
-    assert!(rt; is_list(format!(in rt.alloc(); "{v}")?.as_str(), *b"31"));
-    assert!(rt; is_list(format!(in rt.alloc(); "{v:?}")?.as_str(), *b"31"));
-    assert!(rt; is_list(format!(in rt.alloc(); "{}", Octal(v))?.as_str(), *b"37"));
-    assert!(rt; is_list(format!(in rt.alloc(); "{}", LowerHex(v))?.as_str(), *b"1f"));
-    assert!(rt; is_list(format!(in rt.alloc(); "{}", UpperHex(v))?.as_str(), *b"1F"));
-    Ok(())
+) -> u32 {
+    let mut wrong = 0;
+    wrong = asks(wrong, 1, writes(alloc, v, *b"31"));
+    wrong = asks(wrong, 2, debugs(alloc, v, *b"31"));
+    wrong = asks(wrong, 3, writes(alloc, &Octal(v), *b"37"));
+    wrong = asks(wrong, 4, writes(alloc, &LowerHex(v), *b"1f"));
+    asks(wrong, 5, writes(alloc, &UpperHex(v), *b"1F"))
 }
 
 #[test]
-fn of_an_array(rt: HostRuntime) -> Result<(), Fail> {
-    assert_shown(&rt, &ArrayVec::from_array([31_u8; 65536]))?;
+fn of_an_array(rt: HostRuntime) {
+    let mut wrong = first_other_base(rt.alloc(), &ArrayVec::from_array([31_u8; 65536]));
     let threes = ArrayVec::from_array([3_u8; 65536]);
-    assert!(rt;
-        is_list(
-            format!(in rt.alloc(); "{}", Binary(&threes))?.as_str(),
-            *b"11"
-        )
-    );
-    Ok(())
+    wrong = asks(wrong, 6, writes(rt.alloc(), &Binary(&threes), *b"11"));
+    assert!(rt; wrong == 0, "{}", Wrong(wrong));
 }
 
 #[test]
-fn of_lent_slots(rt: HostRuntime) -> Result<(), Fail> {
+fn of_lent_slots(rt: HostRuntime) {
     let mut slots = [31_u8; 65536];
-    assert_shown(&rt, &SliceVec::from_slice_len(&mut slots, 65536))
+    let wrong = first_other_base(rt.alloc(), &SliceVec::from_slice_len(&mut slots, 65536));
+    assert!(rt; wrong == 0, "{}", Wrong(wrong));
 }
 
 #[test]
-fn of_a_tiny_vec(rt: HostRuntime) -> Result<(), Fail> {
-    assert_shown(&rt, &TinyVec::from_array(rt.alloc(), [31_u8; 65536]))
+fn of_a_tiny_vec(rt: HostRuntime) {
+    let v = TinyVec::from_array(rt.alloc(), [31_u8; 65536]);
+    let wrong = first_other_base(rt.alloc(), &v);
+    assert!(rt; wrong == 0, "{}", Wrong(wrong));
 }
 
-// A text of 65536 letters.
-fn letters(alloc: Global) -> Result<InlineText<65536>, AllocError> {
+/// A text of 65536 letters.
+pub(crate) fn letters(alloc: Global) -> Result<InlineText<65536>, AllocError> {
     let mut t = InlineText::new(alloc);
     for _ in 0..65536 {
         t.push('a')?;
@@ -65,14 +74,20 @@ fn letters(alloc: Global) -> Result<InlineText<65536>, AllocError> {
     Ok(t)
 }
 
+// Whether `{}` writes the letters, and `{:?}` two quotes more.
+fn writes_letters(alloc: Global, t: &InlineText<65536>) -> Result<bool, AllocError> {
+    let shown = format!(in alloc; "{t}")?;
+    let quoted = format!(in alloc; "{t:?}")?;
+    Ok(are(shown.as_str().as_bytes(), 65536, b'a') & (quoted.as_str().len() == 65538))
+}
+
 #[test]
 fn of_a_text(rt: HostRuntime) -> Result<(), Fail> {
     let t = letters(rt.alloc())?;
-    assert!(rt; t.is_inline());
-    let shown = format!(in rt.alloc(); "{t}")?;
-    assert!(rt; are(shown.as_str().as_bytes(), 65536, b'a'));
-    let quoted = format!(in rt.alloc(); "{t:?}")?;
-    assert!(rt; quoted.as_str().len() == 65538);
+    let mut wrong = 0;
+    wrong = first(wrong, 1, t.is_inline());
+    wrong = asks(wrong, 2, writes_letters(rt.alloc(), &t));
+    assert!(rt; wrong == 0, "{}", Wrong(wrong));
     Ok(())
 }
 
@@ -86,30 +101,47 @@ pub(crate) fn hash_of<T: Hash>(x: &T) -> u64 {
 #[test]
 fn hashed(rt: HostRuntime) -> Result<(), Fail> {
     let mut slots = [7; 65536];
-    let wanted = hash_of(&slots.as_slice());
-    assert!(rt; hash_of(&ArrayVec::from_array(slots)) == wanted);
-    assert!(rt; hash_of(&TinyVec::from_array(rt.alloc(), slots)) == wanted);
-    let moved: TinyVec<[u8; 1]> = TinyVec::from_slice(rt.alloc(), &slots)?;
-    assert!(rt; hash_of(&moved) == wanted);
-    assert!(rt; hash_of(&SliceVec::from_slice_len(&mut slots, 65536)) == wanted);
     let t = letters(rt.alloc())?;
-    assert!(rt; hash_of(&t) == hash_of(&t.as_str()));
+    let moved: TinyVec<[u8; 1]> = TinyVec::from_slice(rt.alloc(), &slots)?;
+    let wanted = hash_of(&slots.as_slice());
+    let mut wrong = 0;
+    wrong = first(wrong, 1, hash_of(&ArrayVec::from_array(slots)) == wanted);
+    wrong = first(
+        wrong,
+        2,
+        hash_of(&TinyVec::from_array(rt.alloc(), slots)) == wanted,
+    );
+    wrong = first(wrong, 3, hash_of(&moved) == wanted);
+    wrong = first(
+        wrong,
+        4,
+        hash_of(&SliceVec::from_slice_len(&mut slots, 65536)) == wanted,
+    );
+    wrong = first(wrong, 5, hash_of(&t) == hash_of(&t.as_str()));
+    assert!(rt; wrong == 0, "step {wrong}");
     Ok(())
+}
+
+// Whether a text finds room.
+fn takes<W: fmt::Write>(v: &mut W, text: &str) -> bool {
+    v.write_str(text).is_ok()
 }
 
 #[test]
 fn written_at_once(rt: HostRuntime) -> Result<(), Fail> {
     let text = letters(rt.alloc())?;
     let mut v = Many::new();
-    assert!(rt; fmt::Write::write_str(&mut v, text.as_str()).is_ok());
-    assert!(rt; are(v.as_slice(), 65536, b'a'));
-    assert!(rt; fmt::Write::write_str(&mut v, "b").is_err());
-    assert!(rt; are(v.as_slice(), 65536, b'a'));
     let mut slots = [7; 65536];
     let mut lent = SliceVec::from_slice_len(&mut slots, 0);
-    assert!(rt; fmt::Write::write_str(&mut lent, text.as_str()).is_ok());
-    assert!(rt; fmt::Write::write_str(&mut lent, "b").is_err());
-    assert!(rt; are(&slots, 65536, b'a'));
+    let mut wrong = 0;
+    wrong = first(wrong, 1, takes(&mut v, text.as_str()));
+    wrong = first(wrong, 2, are(v.as_slice(), 65536, b'a'));
+    wrong = first(wrong, 3, !takes(&mut v, "b"));
+    wrong = first(wrong, 4, are(v.as_slice(), 65536, b'a'));
+    wrong = first(wrong, 5, takes(&mut lent, text.as_str()));
+    wrong = first(wrong, 6, !takes(&mut lent, "b"));
+    wrong = first(wrong, 7, are(&slots, 65536, b'a'));
+    assert!(rt; wrong == 0, "step {wrong}");
     Ok(())
 }
 
@@ -117,24 +149,32 @@ fn written_at_once(rt: HostRuntime) -> Result<(), Fail> {
 fn written_to_a_text(rt: HostRuntime) -> Result<(), Fail> {
     let text = letters(rt.alloc())?;
     let mut t: InlineText<65536> = InlineText::new(rt.alloc());
-    assert!(rt; fmt::Write::write_str(&mut t, text.as_str()).is_ok());
-    assert!(rt; t.is_inline());
-    assert!(rt; t == text);
-    let written = fmt::Write::write_str(&mut t, text.as_str());
-    assert!(rt; written.is_ok(), "memory was granted");
-    assert!(rt; !t.is_inline());
-    assert!(rt; are(t.as_bytes(), 131072, b'a'));
+    let mut wrong = 0;
+    wrong = first(wrong, 1, takes(&mut t, text.as_str()));
+    wrong = first(wrong, 2, t.is_inline());
+    wrong = first(wrong, 3, t == text);
+    wrong = asks(
+        wrong,
+        4,
+        granted(fmt::Write::write_str(&mut t, text.as_str())),
+    );
+    wrong = first(wrong, 5, !t.is_inline());
+    wrong = first(wrong, 6, are(t.as_bytes(), 131072, b'a'));
+    assert!(rt; wrong == 0, "{}", Wrong(wrong));
     Ok(())
 }
 
 #[test]
 fn written_to_a_tiny_vec(rt: HostRuntime) -> Result<(), Fail> {
     let mut v: TinyVec<[u8; 65536]> = TinyVec::new(rt.alloc());
-    assert!(rt; io::Write::write(&mut v, &[7; 65536])? == 65536);
-    assert!(rt; v.is_inline());
-    assert!(rt; are(v.as_slice(), 65536, 7));
-    io::Write::write_all(&mut v, &[7; 65536])?;
-    assert!(rt; v.is_heap());
-    assert!(rt; are(v.as_slice(), 131072, 7));
+    let written = io::Write::write(&mut v, &[7; 65536])?;
+    let mut wrong = 0;
+    wrong = first(wrong, 1, written == 65536);
+    wrong = first(wrong, 2, v.is_inline());
+    wrong = first(wrong, 3, are(v.as_slice(), 65536, 7));
+    wrong = asks(wrong, 4, granted(io::Write::write_all(&mut v, &[7; 65536])));
+    wrong = first(wrong, 5, v.is_heap());
+    wrong = first(wrong, 6, are(v.as_slice(), 131072, 7));
+    assert!(rt; wrong == 0, "{}", Wrong(wrong));
     Ok(())
 }
