@@ -120,3 +120,12 @@ pub fn writes<A: Array<Item = u8>>(
         Err(_) => refused(inline),
     }
 }
+
+/// Whether a cut to this length leaves this.
+pub fn truncates<A: Array>(v: &mut TinyVec<A>, len: usize, items: &[A::Item], inline: bool) -> bool
+where
+    A::Item: PartialEq,
+{
+    v.truncate(len);
+    lies(v, items, inline)
+}
