@@ -1,5 +1,5 @@
 //! The callers that write texts and bytes.
-use std::alloc::{AllocError, Global};
+use std::alloc::Global;
 use std::test::Fail;
 use std::{fmt, io};
 use tinyvec::{ArrayVec, TinyVec};

@@ -2,7 +2,7 @@
 use self::Edit::{Clear, Insert, Pop, Push, Remove, SwapRemove, Truncate};
 use self::Place::{Array, Heap};
 use crate::placed::placed;
-use std::alloc::{AllocError, Global};
+use std::alloc::AllocError;
 use std::test::Fail;
 use tinyvec::TinyVec;
 use tinyvec_test_items::{all_right, first, granted};
