@@ -12,11 +12,14 @@ use crate::number::{parse_index, parse_number};
 use crate::splice_text::{Numbers, letters, parse_splice};
 use std::alloc::Global;
 
-// The name of a vector.
+/// The name of a vector in a script. No call takes one: the words of a script's theorem speak of it.
 #[derive(Clone, Copy, PartialEq, Debug, Drop)]
-pub(crate) enum Name {
+pub enum Name {
+    /// A vector in an array.
     A,
+    /// A vector in a lent slice.
     S,
+    /// A vector in an array or on the heap.
     T,
 }
 
