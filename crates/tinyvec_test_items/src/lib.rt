@@ -5,15 +5,15 @@ pub mod arrays;
 mod asserting;
 mod cloned;
 mod counting;
-mod granted;
 pub mod lent;
+mod memory;
 mod steps;
 mod unhinted;
 
 pub use asserting::{debugs, same_items, same_value, shows};
 pub use cloned::{Item, Limited};
 pub use counting::counted;
-pub use granted::{all_right, granted, granted_ok};
+pub use memory::{all_right, granted, granted_ok};
 pub use steps::{
     answers, fails, first, is_debugged, is_left, is_shown, refuses, splice_refuses, yields,
     yields_back,
