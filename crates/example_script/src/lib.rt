@@ -1,0 +1,2 @@
+//! What three scripts write, from the theorem of `run` alone.
+#![tactic(auto)]
