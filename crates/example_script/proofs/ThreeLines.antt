@@ -6,14 +6,9 @@ use Rattle.std.proofs.lemmas.Fmt.{decimal_digit}
 use Rattle.tinyvec_io.specs.Lines.{ended}
 use Rattle.tinyvec_script.specs.Script.{start, Script}
 use Rattle.tinyvec_script.specs.Text.{state_text, list_text}
+use Rattle.example_script.specs.Scripts.{three, three_answers}
 use Rattle.example_script.proofs.Cut.{IsWhole, answers_of}
 use Rattle.example_script.proofs.Calls.{push_items, push_spare, push_text, pop_text}
-
-abbrev pub three : List (List ℕ)
-three = codes "A push 1" ∷ codes "A push 2" ∷ codes "A pop" ∷ []
-
-abbrev pub three_answers : List (List ℕ)
-three_answers = codes "ok [1] [0, 0, 0]" ∷ codes "ok [1, 2] [0, 0]" ∷ codes "some 2 [1] [0, 0, 0]" ∷ []
 
 whole : AllByRecursion IsWhole three
 whole = search (rules, arith)

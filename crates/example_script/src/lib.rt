@@ -1,2 +1,21 @@
-//! What three scripts write, from the theorem of `run` alone.
+//! What scripts write, from the theorem of `run` alone.
 #![tactic(auto)]
+ghost use Rattle.std.specs.Prelude.{◌≡◌, IfOk};
+ghost use Rattle.tinyvec_io.specs.Lines.{ended};
+ghost use Rattle.tinyvec_script.specs.Script.{Script};
+ghost use Rattle.example_script.specs.Scripts.{three, three_answers};
+
+use std::alloc::Global;
+use tinyvec_io::Counted;
+use tinyvec_script::{RunError, run};
+
+/// Answers a script that lies in memory.
+pub fn answers(alloc: Global, input: &[u8]) -> Result<Vec<u8>, RunError>
+    ensures script { IfOk result (λ written. Script input.now written.items) }
+    ensures three_lines { IfOk result (λ written. input.now ≡ ended three → written.items ≡ ended three_answers) }
+{
+    let mut reader = Counted::new(input);
+    let mut writer = Counted::new(Vec::new(alloc));
+    run(alloc, &mut reader, &mut writer)?;
+    Ok(writer.into_inner())
+}

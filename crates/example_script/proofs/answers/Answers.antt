@@ -1,0 +1,9 @@
+use Rattle.std.proofs.Common.{rules}
+use Rattle.tinyvec_script.specs.Script.{Script}
+use Rattle.example_script.proofs.ThreeLines.{three_lines}
+use Rattle.example_script.proofs.answers.Goals as goal
+
+pub returns-clause-three_lines : goal.returns-clause-three_lines
+returns-clause-three_lines c =
+    let script : Script c.args.input.now c.into_inner.result.items = search rules in
+    λ e. three_lines c.into_inner.result.items (rw e at script)

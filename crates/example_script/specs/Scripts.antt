@@ -1,0 +1,9 @@
+-- Scripts, and what they write.
+use Rattle.std.specs.Prelude.{ℕ, List, [], ◌∷◌, codes}
+
+-- the three lines of the README
+abbrev pub three : List (List ℕ)
+three = codes "A push 1" ∷ codes "A push 2" ∷ codes "A pop" ∷ []
+
+abbrev pub three_answers : List (List ℕ)
+three_answers = codes "ok [1] [0, 0, 0]" ∷ codes "ok [1, 2] [0, 0]" ∷ codes "some 2 [1] [0, 0, 0]" ∷ []
