@@ -21,7 +21,7 @@ use Rattle.tinyvec_script.specs.declared.command.Name.TheVariants.{A, S, T}
 use Rattle.tinyvec_script.proofs.Numbers.{mag_small}
 
 -- two texts that differ in a byte are not one
-differ : {P : Type 0} (i : ℕ) (xs ys : List ℕ) → xs ≡ ys → nat_eq (get_or xs i 0) (get_or ys i 0) ≡ false → P
+pub differ : {P : Type 0} (i : ℕ) (xs ys : List ℕ) → xs ≡ ys → nat_eq (get_or xs i 0) (get_or ys i 0) ≡ false → P
 differ i xs ys e other =
     let same : get_or xs i 0 ≡ get_or ys i 0 = ap (λ l. get_or l i 0) e in
     absurd (grind (arith, same, other))

@@ -1,3 +1,4 @@
 pub mod Cut
 pub mod Calls
 pub mod ThreeLines
+pub mod BadAndText

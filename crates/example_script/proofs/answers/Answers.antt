@@ -1,5 +1,6 @@
 use Rattle.std.proofs.Common.{rules}
 use Rattle.tinyvec_script.specs.Script.{Script}
+use Rattle.example_script.proofs.BadAndText.{bad_then_text}
 use Rattle.example_script.proofs.ThreeLines.{three_lines}
 use Rattle.example_script.proofs.answers.Goals as goal
 
@@ -7,3 +8,8 @@ pub returns-clause-three_lines : goal.returns-clause-three_lines
 returns-clause-three_lines c =
     let script : Script c.args.input.now c.into_inner.result.items = search rules in
     λ e. three_lines c.into_inner.result.items (rw e at script)
+
+pub returns-clause-bad_and_text : goal.returns-clause-bad_and_text
+returns-clause-bad_and_text c =
+    let script : Script c.args.input.now c.into_inner.result.items = search rules in
+    λ e. bad_then_text c.into_inner.result.items (rw e at script)
