@@ -1,5 +1,5 @@
 -- A line that is no command, and one that appends to the text.
-use Rattle.std.proofs.Common.{◌≡◌, ℕ, ◌+◌, ◌<◌, List, [], ◌∷◌, ◌++◌, length, drop, true, ℤ, codes, IsUtf8, refl, sym, ap, subst, ◌∙◌, arith, rules}
+use Rattle.std.proofs.Common.{◌≡◌, ℕ, List, ◌∷◌, ◌++◌, drop, true, ℤ, codes, IsUtf8, refl, sym, ap, subst, ◌∙◌, arith, rules}
 use Rattle.std.specs.List.{AllByRecursion}
 use Rattle.std.proofs.lemmas.Str.{IsUtf8-from_ascii}
 use Rattle.tinyvec_text.specs.Text.{Text}
@@ -7,7 +7,7 @@ use Rattle.tinyvec_io.specs.Lines.{ended}
 use Rattle.tinyvec_script.specs.Command.{name_text}
 use Rattle.tinyvec_script.specs.Script.{State, start, Answered, Script}
 use Rattle.tinyvec_script.specs.Text.{answer_text, text_state_text}
-use Rattle.tinyvec_script.specs.TextCalls.{TextCall, add, cut, IsTextCommand, TextStep, Added}
+use Rattle.tinyvec_script.specs.TextCalls.{TextCall, add, cut, IsTextCommand, TextStep}
 use Rattle.tinyvec_script.specs.declared.call.Answer.{Answer}
 use Rattle.tinyvec_script.specs.declared.call.Answer.TheVariants as answers
 use Rattle.tinyvec_script.specs.declared.command.Name.{Name}

@@ -26,7 +26,7 @@ differ i xs ys e other =
     let same : get_or xs i 0 ≡ get_or ys i 0 = ap (λ l. get_or l i 0) e in
     absurd (grind (arith, same, other))
 
-spelled : (line : List ℕ) (name : Name) (call : Call ℤ) → IsCommand line name call → line ≡ name_text name ++ spelling call
+pub spelled : (line : List ℕ) (name : Name) (call : Call ℤ) → IsCommand line name call → line ≡ name_text name ++ spelling call
 spelled line name call is = is.named ∙ ap (λ text. name_text name ++ text) is.called.spelled
 
 abbrev pub SpellsOnly : List ℕ → Name → Call ℤ → Type 0

@@ -2,3 +2,4 @@ pub mod Cut
 pub mod Calls
 pub mod ThreeLines
 pub mod BadAndText
+pub mod Spliced
