@@ -1,0 +1,5 @@
+pub mod Cut
+pub mod Calls
+pub mod ThreeLines
+pub mod BadAndText
+pub mod Spliced
