@@ -1,55 +1,66 @@
 //! Clones, granted and refused.
 
+use TryFromSliceError::{Memory, TooLong};
 use std::alloc::AllocError;
 use std::cell::Cell;
 use std::fmt::InlineText;
-use std::test::Fail;
 use tinyvec_array::{ArrayVec, NoMemory, TryFromSliceError};
-use tinyvec_test_items::{Item, Limited, assert_is, assert_items};
+use tinyvec_test_items::arrays::{clones_over, extends_by_clones, holds, is_made, pushes, resizes};
+use tinyvec_test_items::{Item, Limited, fails, first};
 
-#[test]
-fn array_vec_try_from_slice(rt: HostRuntime) -> Result<(), Fail> {
-    let none = ArrayVec::<[i32; 2]>::try_from_slice(&[])?;
-    assert_items!(rt; none.as_slice(), []);
-    assert_items!(rt; none.grab_spare_slice(), [0, 0]);
-    let two = ArrayVec::<[i32; 2]>::try_from_slice(&[1, 2])?;
-    assert_items!(rt; two.as_slice(), [1, 2]);
-    Ok(())
+// Whether a copy of the error is the same, and shows this text.
+fn copies_and_shows(error: TryFromSliceError) -> bool {
+    let copy = error;
+    let text = InlineText::<64>::of(copy);
+    (text.as_str() == "could not convert slice to ArrayVec") & (copy == error)
 }
 
 #[test]
-fn array_vec_try_from_a_longer_slice(rt: HostRuntime) {
-    let four = ArrayVec::<[i32; 2]>::try_from_slice(&[1, 2, 3, 4]);
-    assert_is!(rt; four.err(), Some(TryFromSliceError::TooLong));
-}
-
-#[test]
-fn try_from_slice_refused(rt: HostRuntime) {
-    let refused = ArrayVec::<[Item; 2]>::try_from_slice(&[Item(1), Item(99)]);
-    assert_is!(rt; refused.err(), Some(TryFromSliceError::Memory));
-    let long = ArrayVec::<[Item; 2]>::try_from_slice(&[Item(99), Item(1), Item(1)]);
-    assert_is!(rt; long.err(), Some(TryFromSliceError::TooLong));
-}
-
-#[test]
-fn texts(rt: HostRuntime) {
-    for error in [TryFromSliceError::TooLong, TryFromSliceError::Memory] {
-        let copy = error;
-        let text = InlineText::<64>::of(copy);
-        assert_is!(rt; text.as_str(), "could not convert slice to ArrayVec");
-        assert!(rt; copy == error);
-    }
+fn try_from_slice(rt: HostRuntime) {
+    let bad = [Item(1), Item(99)];
+    let long = [Item(99), Item(1), Item(1)];
+    let mut wrong = 0;
+    wrong = first(
+        wrong,
+        1,
+        is_made(ArrayVec::<[i32; 2]>::try_from_slice(&[]), &[], &[0, 0]),
+    );
+    wrong = first(
+        wrong,
+        2,
+        is_made(ArrayVec::<[i32; 2]>::try_from_slice(&[1, 2]), &[1, 2], &[]),
+    );
+    wrong = first(
+        wrong,
+        3,
+        fails(ArrayVec::<[i32; 2]>::try_from_slice(&[1, 2, 3, 4]), TooLong),
+    );
+    wrong = first(
+        wrong,
+        4,
+        fails(ArrayVec::<[Item; 2]>::try_from_slice(&bad), Memory),
+    );
+    wrong = first(
+        wrong,
+        5,
+        fails(ArrayVec::<[Item; 2]>::try_from_slice(&long), TooLong),
+    );
+    wrong = first(wrong, 6, copies_and_shows(TooLong));
+    wrong = first(wrong, 7, copies_and_shows(Memory));
+    assert!(rt; wrong == 0, "step {wrong}");
 }
 
 #[test]
 fn try_from_array_len(rt: HostRuntime) {
-    let two = ArrayVec::try_from_array_len([1, 2, 3, 4], 2).expect(&rt, "two of four");
-    assert_items!(rt; two.as_slice(), [1, 2]);
-    assert_items!(rt; two.grab_spare_slice(), [3, 4]);
-    let back = ArrayVec::try_from_array_len([1, 2, 3, 4], 5).err();
-    assert!(rt; back == Some([1, 2, 3, 4]));
+    let made = ArrayVec::try_from_array_len([1, 2, 3, 4], 2);
+    let refused = ArrayVec::try_from_array_len([1, 2, 3, 4], 5);
+    let mut wrong = 0;
+    wrong = first(wrong, 1, is_made(made, &[1, 2], &[3, 4]));
+    wrong = first(wrong, 2, fails(refused, [1, 2, 3, 4]));
+    assert!(rt; wrong == 0, "step {wrong}");
 }
 
+// A call that takes a result of so many slots by value takes LLVM minutes.
 #[test]
 fn many_slots(rt: HostRuntime) {
     let Ok(full) = ArrayVec::<[u8; 65536]>::try_from_array_len([7; 65536], 65536) else {
@@ -58,118 +69,178 @@ fn many_slots(rt: HostRuntime) {
     assert!(rt; full.len() == 65536);
 }
 
+fn is_seven(slot: &u8) -> bool {
+    *slot == 7
+}
+
 #[test]
 fn one_more_than_many_slots(rt: HostRuntime) {
     let Err(back) = ArrayVec::<[u8; 65536]>::try_from_array_len([7; 65536], 65537) else {
         panic!(&rt; "there are fewer slots");
     };
-    for x in back.as_slice() {
-        assert!(rt; *x == 7);
-    }
+    assert!(rt; back.as_slice().iter().all(is_seven));
 }
 
 #[test]
-fn clone_from_shorter(rt: HostRuntime) -> Result<(), Fail> {
-    let mut vec = ArrayVec::from_array_len([1, 2, 3, 8], 3);
-    vec.clone_from(&ArrayVec::from_array_len([9, 7, 7, 7], 1))?;
-    assert_items!(rt; vec.as_slice(), [9]);
-    assert_items!(rt; vec.grab_spare_slice(), [0, 0, 8]);
-    vec.clone_from(&ArrayVec::new())?;
-    assert_items!(rt; vec.as_slice(), []);
-    assert_items!(rt; vec.grab_spare_slice(), [0, 0, 0, 8]);
-    Ok(())
-}
-
-#[test]
-fn clone_from_longer(rt: HostRuntime) -> Result<(), Fail> {
-    let mut vec = ArrayVec::from_array_len([1, 5, 5, 5], 1);
-    vec.clone_from(&ArrayVec::from_array_len([7, 8, 6, 6], 2))?;
-    assert_items!(rt; vec.as_slice(), [7, 8]);
-    assert_items!(rt; vec.grab_spare_slice(), [5, 5]);
-    Ok(())
-}
-
-#[test]
-fn clone_from_refused_early(rt: HostRuntime) {
-    let mut vec = ArrayVec::from_array_len([Item(1), Item(2), Item(3), Item(8)], 3);
-    let refused = vec.clone_from(&ArrayVec::from_array_len(
-        [Item(7), Item(99), Item(6), Item(6)],
+fn clone_from(rt: HostRuntime) {
+    let one = ArrayVec::from_array_len([9, 7, 7, 7], 1);
+    let two = ArrayVec::from_array_len([7, 8, 6, 6], 2);
+    let mut longer = ArrayVec::from_array_len([1, 2, 3, 8], 3);
+    let mut shorter = ArrayVec::from_array_len([1, 5, 5, 5], 1);
+    let mut wrong = 0;
+    wrong = first(
+        wrong,
+        1,
+        clones_over(&mut longer, &one, Ok(()), &[9], &[0, 0, 8]),
+    );
+    wrong = first(
+        wrong,
         2,
-    ));
-    assert!(rt; refused == Err(AllocError));
-    assert_items!(rt; vec.as_slice(), [Item(7), Item(2)]);
-    assert_items!(rt; vec.grab_spare_slice(), [Item(0), Item(8)]);
-}
-
-#[test]
-fn clone_from_refused_late(rt: HostRuntime) {
-    let mut vec = ArrayVec::from_array_len([Item(1), Item(5), Item(5), Item(5)], 1);
-    let refused = vec.clone_from(&ArrayVec::from_array_len(
-        [Item(7), Item(8), Item(99), Item(6)],
+        clones_over(&mut longer, &ArrayVec::new(), Ok(()), &[], &[0, 0, 0, 8]),
+    );
+    wrong = first(
+        wrong,
         3,
-    ));
-    assert!(rt; refused == Err(AllocError));
-    assert_items!(rt; vec.as_slice(), [Item(7)]);
-    assert_items!(rt; vec.grab_spare_slice(), [Item(8), Item(5), Item(5)]);
+        clones_over(&mut shorter, &two, Ok(()), &[7, 8], &[5, 5]),
+    );
+    assert!(rt; wrong == 0, "step {wrong}");
+}
+
+// Four items, of which so many are the list.
+fn items(values: [u8; 4], len: usize) -> ArrayVec<[Item; 4]> {
+    let [a, b, c, d] = values;
+    ArrayVec::from_array_len([Item(a), Item(b), Item(c), Item(d)], len.min(4))
+}
+
+// Whether a clone of the other list over the first is refused, and the first is left so.
+fn clone_from_refused_leaves(
+    mut v: ArrayVec<[Item; 4]>,
+    source: ArrayVec<[Item; 4]>,
+    list: &[Item],
+    spare: &[Item],
+) -> bool {
+    clones_over(&mut v, &source, Err(AllocError), list, spare)
 }
 
 #[test]
-fn clone(rt: HostRuntime) -> Result<(), Fail> {
+fn clone_from_refused(rt: HostRuntime) {
+    let mut wrong = 0;
+    wrong = first(
+        wrong,
+        1,
+        clone_from_refused_leaves(
+            items([1, 2, 3, 8], 3),
+            items([7, 99, 6, 6], 2),
+            &[Item(7), Item(2)],
+            &[Item(0), Item(8)],
+        ),
+    );
+    wrong = first(
+        wrong,
+        2,
+        clone_from_refused_leaves(
+            items([1, 5, 5, 5], 1),
+            items([7, 8, 99, 6], 3),
+            &[Item(7)],
+            &[Item(8), Item(5), Item(5)],
+        ),
+    );
+    assert!(rt; wrong == 0, "step {wrong}");
+}
+
+#[test]
+fn clone(rt: HostRuntime) {
     let vec = ArrayVec::from_array_len([1, 2, 3, 4], 2);
-    let cloned = vec.clone()?;
-    assert_items!(rt; cloned.as_slice(), [1, 2]);
-    assert_items!(rt; cloned.grab_spare_slice(), [3, 4]);
     let mut copied = vec;
-    copied.push(9);
-    assert_items!(rt; copied.as_inner(), [1, 2, 9, 4]);
-    assert_items!(rt; vec.as_inner(), [1, 2, 3, 4]);
-    Ok(())
-}
-
-// The spare slots are cloned too.
-#[test]
-fn clone_refused(rt: HostRuntime) {
-    let vec = ArrayVec::from_array_len([Item(1), Item(2), Item(99)], 2);
-    assert!(rt; vec.clone().is_err());
+    let with_bad_spare_slot = ArrayVec::from_array_len([Item(1), Item(2), Item(99)], 2);
+    let mut wrong = 0;
+    wrong = first(wrong, 1, is_made(vec.clone(), &[1, 2], &[3, 4]));
+    wrong = first(wrong, 2, pushes(&mut copied, 9, &[1, 2, 9], &[4]));
+    wrong = first(wrong, 3, holds(&vec, &[1, 2], &[3, 4]));
+    // The spare slots are cloned too.
+    wrong = first(wrong, 4, fails(with_bad_spare_slot.clone(), AllocError));
+    assert!(rt; wrong == 0, "step {wrong}");
 }
 
 #[test]
-fn extend_from_slice(rt: HostRuntime) -> Result<(), Fail> {
-    let mut vec = ArrayVec::from_array_len([1, 5, 5, 5], 1);
-    vec.extend_from_slice(&[2, 3])?;
-    assert_items!(rt; vec.as_slice(), [1, 2, 3]);
-    assert_items!(rt; vec.grab_spare_slice(), [5]);
+fn extend_from_slice(rt: HostRuntime) {
+    let mut v = ArrayVec::from_array_len([1, 5, 5, 5], 1);
     let mut none = ArrayVec::<[i32; 0]>::new();
-    none.extend_from_slice(&[])?;
-    assert!(rt; none.len() == 0);
-    Ok(())
-}
-
-#[test]
-fn extend_from_slice_refused(rt: HostRuntime) -> Result<(), Fail> {
-    let mut vec = ArrayVec::<[Item; 4]>::new();
-    vec.push(Item(1));
-    assert!(rt; vec.extend_from_slice(&[Item(2), Item(3), Item(99)]) == Err(AllocError));
-    assert!(rt; vec.as_slice() == [Item(1)].as_slice());
-    assert_items!(rt; vec.grab_spare_slice(), [Item(2), Item(3), Item(0)]);
-    vec.extend_from_slice(&[Item(4)])?;
-    assert_items!(rt; vec.as_slice(), [Item(1), Item(4)]);
-    assert_items!(rt; vec.grab_spare_slice(), [Item(3), Item(0)]);
-    Ok(())
+    let mut w = items([1, 0, 0, 0], 1);
+    let refused = [Item(2), Item(3), Item(99)];
+    let left = [Item(2), Item(3), Item(0)];
+    let after = [Item(1), Item(4)];
+    let mut wrong = 0;
+    wrong = first(
+        wrong,
+        1,
+        extends_by_clones(&mut v, &[2, 3], Ok(()), &[1, 2, 3], &[5]),
+    );
+    wrong = first(
+        wrong,
+        2,
+        extends_by_clones(&mut none, &[], Ok(()), &[], &[]),
+    );
+    wrong = first(
+        wrong,
+        3,
+        extends_by_clones(&mut w, &refused, Err(AllocError), &[Item(1)], &left),
+    );
+    wrong = first(
+        wrong,
+        4,
+        extends_by_clones(&mut w, &[Item(4)], Ok(()), &after, &[Item(3), Item(0)]),
+    );
+    assert!(rt; wrong == 0, "step {wrong}");
 }
 
 #[test]
 fn resize(rt: HostRuntime) {
-    let mut vec = ArrayVec::from_array_len([Item(1), Item(2), Item(3), Item(8)], 3);
-    assert_is!(rt; vec.resize(1, Item(99)), Ok(()));
-    assert_items!(rt; vec.as_slice(), [Item(1)]);
-    assert_items!(rt; vec.grab_spare_slice(), [Item(0), Item(0), Item(8)]);
-    assert_is!(rt; vec.resize(3, Item(4)), Ok(()));
-    assert_items!(rt; vec.as_slice(), [Item(1), Item(4), Item(4)]);
-    assert_items!(rt; vec.grab_spare_slice(), [Item(8)]);
-    assert_is!(rt; vec.resize(4, Item(99)), Err(NoMemory(Item(99))));
-    assert_items!(rt; vec.as_slice(), [Item(1), Item(4), Item(4)]);
-    assert_items!(rt; vec.grab_spare_slice(), [Item(8)]);
+    let mut v = items([1, 2, 3, 8], 3);
+    let cut = [Item(0), Item(0), Item(8)];
+    let filled = [Item(1), Item(4), Item(4)];
+    let refused = Err(NoMemory(Item(99)));
+    let mut wrong = 0;
+    wrong = first(
+        wrong,
+        1,
+        resizes(&mut v, 1, Item(99), Ok(()), &[Item(1)], &cut),
+    );
+    wrong = first(
+        wrong,
+        2,
+        resizes(&mut v, 3, Item(4), Ok(()), &filled, &[Item(8)]),
+    );
+    wrong = first(
+        wrong,
+        3,
+        resizes(&mut v, 4, Item(99), refused, &filled, &[Item(8)]),
+    );
+    assert!(rt; wrong == 0, "step {wrong}");
+}
+
+fn limited(name: u8, left: &Cell<u8>) -> Limited<'_> {
+    Limited {
+        name,
+        left: Some(left),
+    }
+}
+
+// Whether a clone was refused, and the item of this name came back.
+fn hands_back(resized: Result<(), NoMemory<Limited<'_>>>, name: u8) -> bool {
+    match resized {
+        Ok(()) => false,
+        Err(refused) => refused.0.name == name,
+    }
+}
+
+// Whether no item is in the list, and the slots have these names.
+fn spares(v: &ArrayVec<[Limited<'_>; 3]>, names: &[u8]) -> bool {
+    let mut same = v.len() == 0 && names.len() == 3;
+    for (name, slot) in names.iter().zip(v.grab_spare_slice()) {
+        same = same & (*name == slot.name);
+    }
+    same
 }
 
 // The second clone is refused.
@@ -177,50 +248,46 @@ fn resize(rt: HostRuntime) {
 fn resize_refused(rt: HostRuntime) {
     let left = Cell::new(1);
     let mut vec = ArrayVec::<[Limited; 3]>::new();
-    let refused = vec.resize(
-        3,
-        Limited {
-            name: 7,
-            left: Some(&left),
-        },
-    );
-    assert_is!(rt; refused.err().map(|refused| refused.0.name), Some(7));
-    assert!(rt; vec.len() == 0);
-    let mut names = [9; 3];
-    for (name, slot) in names.iter_mut().zip(vec.grab_spare_slice()) {
-        *name = slot.name;
+    let mut wrong = 0;
+    wrong = first(wrong, 1, hands_back(vec.resize(3, limited(7, &left)), 7));
+    wrong = first(wrong, 2, spares(&vec, &[7, 0, 0]));
+    assert!(rt; wrong == 0, "step {wrong}");
+}
+
+// A full list whose items share the cell.
+fn full(left: &Cell<u8>) -> ArrayVec<[Limited<'_>; 21]> {
+    let mut vec = ArrayVec::new();
+    for name in 0..21 {
+        let _full = vec.try_push(limited(name, left));
     }
-    assert_items!(rt; &names, [7, 0, 0]);
+    vec
+}
+
+// Whether a call was granted, and leaves the cell so many clones.
+fn leaves(is_granted: bool, left: &Cell<u8>, count: u8) -> bool {
+    is_granted & (left.get() == count)
 }
 
 /// Where nothing is refused, each item is cloned once: in blocks, and what is left of them.
 #[test]
 fn each_item_is_cloned_once(rt: HostRuntime) {
     let left = Cell::new(0);
-    let mut source = ArrayVec::<[Limited; 21]>::new();
-    for name in 0..21 {
-        let _full = source.try_push(Limited {
-            name,
-            left: Some(&left),
-        });
-    }
-    left.set(100);
-    assert!(rt; source.clone().is_ok());
-    assert_is!(rt; left.get(), 79);
-    assert!(rt; ArrayVec::<[Limited; 30]>::try_from_slice(source.as_slice()).is_ok());
-    assert_is!(rt; left.get(), 58);
+    let mut source = full(&left);
     let mut vec = ArrayVec::<[Limited; 21]>::new();
-    assert_is!(rt; vec.extend_from_slice(source.as_slice()), Ok(()));
-    assert_is!(rt; left.get(), 37);
-    assert_is!(rt; vec.clone_from(&source), Ok(()));
-    assert_is!(rt; left.get(), 16);
+    left.set(100);
+    let mut wrong = 0;
+    wrong = first(wrong, 1, leaves(source.clone().is_ok(), &left, 79));
+    let longer = ArrayVec::<[Limited; 30]>::try_from_slice(source.as_slice());
+    wrong = first(wrong, 2, leaves(longer.is_ok(), &left, 58));
+    let extended = vec.extend_from_slice(source.as_slice());
+    wrong = first(wrong, 3, leaves(extended.is_ok(), &left, 37));
+    wrong = first(wrong, 4, leaves(vec.clone_from(&source).is_ok(), &left, 16));
     source.truncate(2);
-    assert_is!(rt; vec.clone_from(&source), Ok(()));
-    assert_is!(rt; left.get(), 14);
-    let item = Limited {
-        name: 7,
-        left: Some(&left),
-    };
-    assert!(rt; vec.resize(9, item).is_ok());
-    assert_is!(rt; left.get(), 7);
+    wrong = first(wrong, 5, leaves(vec.clone_from(&source).is_ok(), &left, 14));
+    wrong = first(
+        wrong,
+        6,
+        leaves(vec.resize(9, limited(7, &left)).is_ok(), &left, 7),
+    );
+    assert!(rt; wrong == 0, "step {wrong}");
 }

@@ -1,9 +1,9 @@
 //! Comparisons and hashes.
 use std::cmp::Ordering;
+use std::cmp::Ordering::{Equal, Greater, Less};
 use std::hash::{DefaultHasher, Hash, Hasher};
-use std::process::Abort;
 use tinyvec_array::{Array, ArrayVec};
-use tinyvec_test_items::assert_is;
+use tinyvec_test_items::first;
 
 // Lists that end before, at and behind the blocks in which items are compared.
 const LENGTHS: [usize; 13] = [0, 3, 4, 5, 16, 17, 63, 64, 65, 68, 69, 84, 200];
@@ -13,13 +13,9 @@ fn is_less<A: Array>(v: &ArrayVec<A>, w: &ArrayVec<A>) -> bool
 where
     A::Item: Ord,
 {
-    *v != *w
-        && *v < *w
-        && *w > *v
-        && v.partial_cmp(w) == Some(Ordering::Less)
-        && w.partial_cmp(v) == Some(Ordering::Greater)
-        && v.cmp(w) == Ordering::Less
-        && w.cmp(v) == Ordering::Greater
+    let operators = (*v != *w) & (*v < *w) & (*w > *v);
+    let partial = (v.partial_cmp(w) == Some(Less)) & (w.partial_cmp(v) == Some(Greater));
+    operators & partial & (v.cmp(w) == Less) & (w.cmp(v) == Greater)
 }
 
 // Neither is less, whatever tells it.
@@ -27,11 +23,8 @@ fn is_same<A: Array>(v: &ArrayVec<A>, w: &ArrayVec<A>) -> bool
 where
     A::Item: Ord,
 {
-    *v == *w
-        && *v <= *w
-        && *v >= *w
-        && v.partial_cmp(w) == Some(Ordering::Equal)
-        && v.cmp(w) == Ordering::Equal
+    let operators = (*v == *w) & (*v <= *w) & (*v >= *w);
+    operators & (v.partial_cmp(w) == Some(Equal)) & (v.cmp(w) == Equal)
 }
 
 fn hashed<T: Hash>(x: &T) -> u64 {
@@ -40,91 +33,97 @@ fn hashed<T: Hash>(x: &T) -> u64 {
     state.finish()
 }
 
-// Lists of `1 << 40` are the same, and each item decides where it is more. The spare slots behind them differ.
+// Step 1 is that the lists are the same, and each further step that one more item of `w` decides where it is `high`.
+fn first_undecided<A: Array + Copy>(v: &ArrayVec<A>, w: &ArrayVec<A>, high: A::Item) -> u32
+where
+    A::Item: Ord + Copy,
+{
+    let mut step = 1_u32;
+    let mut wrong = first(0, step, is_same(v, w));
+    for i in 0..v.len() {
+        let mut greater = *w;
+        if let Some(item) = greater.as_mut_slice().get_mut(i) {
+            *item = high;
+        }
+        step = step.wrapping_add(1);
+        wrong = first(wrong, step, is_less(v, &greater));
+    }
+    wrong
+}
+
+// So many items `1 << 40`, before others in the spare slots.
+fn lows(len: usize, spare: u64) -> ArrayVec<[u64; 200]> {
+    let mut v = ArrayVec::from_array_empty([spare; 200]);
+    for _ in 0..len {
+        let _full = v.try_push(1 << 40);
+    }
+    v
+}
+
 #[test]
 fn each_item_decides(rt: HostRuntime) {
     for len in LENGTHS {
-        let len = len.min(200);
-        let lows = ArrayVec::from_array_len([1u64 << 40; 200], len);
-        let mut slots = [2 << 40; 200];
-        for i in 0..len {
-            slots[i] = 1 << 40;
-        }
-        assert!(rt;
-            is_same(&lows, &ArrayVec::from_array_len(slots, len)),
-            "{len} items"
-        );
-        for i in 0..len {
-            slots[i] = 2 << 40;
-            assert!(rt;
-                is_less(&lows, &ArrayVec::from_array_len(slots, len)),
-                "item {i} of {len}"
-            );
-            slots[i] = 1 << 40;
-        }
+        let wrong = first_undecided(&lows(len, 1 << 40), &lows(len, 2 << 40), 2 << 40);
+        assert!(rt; wrong == 0, "step {wrong} of {len} items");
     }
 }
 
 #[test]
 fn bytes(rt: HostRuntime) {
-    let mut slots = [7u8; 100];
-    let v = ArrayVec::from_array(slots);
-    assert!(rt; is_same(&v, &ArrayVec::from_array(slots)));
-    for i in 0..100 {
-        slots[i] = 8;
-        assert!(rt; is_less(&v, &ArrayVec::from_array(slots)), "item {i}");
-        slots[i] = 7;
-    }
+    let v = ArrayVec::from_array([7u8; 100]);
+    let wrong = first_undecided(&v, &v, 8);
+    assert!(rt; wrong == 0, "step {wrong}");
 }
 
 #[test]
 fn long_numbers(rt: HostRuntime) {
-    let mut slots = [5u128; 100];
-    let v = ArrayVec::from_array(slots);
-    assert!(rt; is_same(&v, &ArrayVec::from_array(slots)));
-    for i in 0..100 {
-        slots[i] = 5 + (1 << 100);
-        assert!(rt; is_less(&v, &ArrayVec::from_array(slots)), "item {i}");
-        slots[i] = 5;
-    }
+    let v = ArrayVec::from_array([5u128; 100]);
+    let wrong = first_undecided(&v, &v, 5 + (1 << 100));
+    assert!(rt; wrong == 0, "step {wrong}");
 }
 
-#[derive(PartialEq, Eq, PartialOrd, Ord, Default, Clone, Copy)]
-struct Large {
-    first: u64,
-    second: u64,
-    third: u64,
-}
-
+// Items of 24 bytes.
 #[test]
 fn large_items(rt: HostRuntime) {
-    let low = Large {
-        first: 1,
-        second: 2,
-        third: 3,
-    };
-    let mut slots = [low; 20];
-    let v = ArrayVec::from_array(slots);
-    assert!(rt; is_same(&v, &ArrayVec::from_array(slots)));
-    for i in 0..20 {
-        slots[i] = Large { third: 4, ..low };
-        assert!(rt; is_less(&v, &ArrayVec::from_array(slots)), "item {i}");
-        slots[i] = low;
-    }
+    let v = ArrayVec::from_array([(1u64, 2u64, 3u64); 20]);
+    let wrong = first_undecided(&v, &v, (1, 2, 4));
+    assert!(rt; wrong == 0, "step {wrong}");
 }
 
 #[test]
 fn in_order(rt: HostRuntime) {
     let one_two = ArrayVec::from_array_len([1, 2, 0], 2);
     let one_three = ArrayVec::from_array_len([1, 3, 0], 2);
-    assert!(rt; is_less(&one_two, &ArrayVec::from_array([1, 2, 0])));
-    assert!(rt; is_less(&ArrayVec::from_array([1, 2, 9]), &one_three));
-    assert!(rt; is_less(&one_two, &one_three));
-    assert!(rt; is_less(&ArrayVec::new(), &one_two));
-    assert!(rt; is_less(&ArrayVec::from_array_len([1, 2, 0], 1), &one_two));
+    let mut wrong = 0;
+    wrong = first(
+        wrong,
+        1,
+        is_less(&one_two, &ArrayVec::from_array([1, 2, 0])),
+    );
+    wrong = first(
+        wrong,
+        2,
+        is_less(&ArrayVec::from_array([1, 2, 9]), &one_three),
+    );
+    wrong = first(wrong, 3, is_less(&one_two, &one_three));
+    wrong = first(wrong, 4, is_less(&ArrayVec::new(), &one_two));
+    wrong = first(
+        wrong,
+        5,
+        is_less(&ArrayVec::from_array_len([1, 2, 0], 1), &one_two),
+    );
+    assert!(rt; wrong == 0, "step {wrong}");
 }
 
-// The first lists are beginnings of the second, which go on with what stands in the spare slots of the first.
+// Whether a list of sevens is less than a longer one, whose items stand in the spare slots of the first.
+fn begins(len: usize, longer: usize) -> bool {
+    if len >= longer || longer > 200 {
+        return false;
+    }
+    let v = ArrayVec::from_array_len([7u8; 200], len);
+    is_less(&v, &ArrayVec::from_array_len([7u8; 200], longer))
+}
+
 #[test]
 fn beginnings_are_less(rt: HostRuntime) {
     for (len, longer) in [
@@ -137,10 +136,7 @@ fn beginnings_are_less(rt: HostRuntime) {
         (68, 84),
         (4, 200),
     ] {
-        assert!(rt; len < longer && longer <= 200);
-        let v = ArrayVec::from_array_len([7u8; 200], len);
-        let w = ArrayVec::from_array_len([7u8; 200], longer);
-        assert!(rt; is_less(&v, &w), "{len} and {longer} items");
+        assert!(rt; begins(len, longer), "{len} and {longer} items");
     }
 }
 
@@ -148,24 +144,35 @@ fn beginnings_are_less(rt: HostRuntime) {
 fn spare_slots_never_count(rt: HostRuntime) {
     let v = ArrayVec::from_array_len([1, 2, 0, 0], 2);
     let w = ArrayVec::from_array_len([1, 2, 9, -9], 2);
-    assert!(rt; is_same(&v, &w));
-    assert!(rt; hashed(&v) == hashed(&w));
-    assert!(rt; hashed(&v) == hashed(&[1, 2].as_slice()));
-    assert!(rt; hashed(&v) != hashed(&ArrayVec::from_array([1, 2, 0, 0])));
+    let longer = ArrayVec::from_array([1, 2, 0, 0]);
+    let mut wrong = 0;
+    wrong = first(wrong, 1, is_same(&v, &w));
+    wrong = first(wrong, 2, hashed(&v) == hashed(&w));
+    wrong = first(wrong, 3, hashed(&v) == hashed(&[1, 2].as_slice()));
+    wrong = first(wrong, 4, hashed(&v) != hashed(&longer));
+    assert!(rt; wrong == 0, "step {wrong}");
+}
+
+// Whether the lists differ by both operators, and compare so.
+fn differ<A: Array>(v: &ArrayVec<A>, w: &ArrayVec<A>, order: Option<Ordering>) -> bool
+where
+    A::Item: PartialOrd,
+{
+    (*v != *w) & !(*v == *w) & (v.partial_cmp(w) == order)
 }
 
 #[test]
 fn not_a_number(rt: HostRuntime) {
     let v = ArrayVec::from_array([1.0, f64::NAN]);
     let w = ArrayVec::from_array([2.0, f64::NAN]);
-    assert!(rt; v != v);
-    assert_is!(rt; v.partial_cmp(&v), None);
-    assert!(rt; v != w);
-    assert_is!(rt; v.partial_cmp(&w), Some(Ordering::Less));
-    assert_is!(rt; w.partial_cmp(&v), Some(Ordering::Greater));
-    let first = ArrayVec::from_array_len([1.0, f64::NAN], 1);
-    assert_is!(rt; first.partial_cmp(&v), Some(Ordering::Less));
-    assert!(rt; first == ArrayVec::from_array_len([1.0, 7.0], 1));
+    let one = ArrayVec::from_array_len([1.0, f64::NAN], 1);
+    let mut wrong = 0;
+    wrong = first(wrong, 1, differ(&v, &v, None));
+    wrong = first(wrong, 2, differ(&v, &w, Some(Less)));
+    wrong = first(wrong, 3, differ(&w, &v, Some(Greater)));
+    wrong = first(wrong, 4, differ(&one, &v, Some(Less)));
+    wrong = first(wrong, 5, one == ArrayVec::from_array_len([1.0, 7.0], 1));
+    assert!(rt; wrong == 0, "step {wrong}");
 }
 
 #[test]
@@ -173,12 +180,20 @@ fn not_a_number_in_a_long_list(rt: HostRuntime) {
     let mut slots = [0.5; 70];
     slots[66] = f64::NAN;
     let v = ArrayVec::from_array(slots);
-    assert!(rt; v != v);
-    assert_is!(rt; v.partial_cmp(&v), None);
+    let mut wrong = first(0, 1, differ(&v, &v, None));
     slots[69] = 0.75;
-    assert_is!(rt; v.partial_cmp(&ArrayVec::from_array(slots)), None);
+    wrong = first(wrong, 2, differ(&v, &ArrayVec::from_array(slots), None));
     slots[65] = 0.25;
-    assert_is!(rt; v.partial_cmp(&ArrayVec::from_array(slots)), Some(Ordering::Greater));
+    wrong = first(
+        wrong,
+        3,
+        differ(&v, &ArrayVec::from_array(slots), Some(Greater)),
+    );
     slots[3] = 0.75;
-    assert_is!(rt; v.partial_cmp(&ArrayVec::from_array(slots)), Some(Ordering::Less));
+    wrong = first(
+        wrong,
+        4,
+        differ(&v, &ArrayVec::from_array(slots), Some(Less)),
+    );
+    assert!(rt; wrong == 0, "step {wrong}");
 }

@@ -2,54 +2,58 @@
 ghost use Rattle.tinyvec_slots.specs.Slots.{items};
 ghost use Rattle.tinyvec_slots.specs.Cut.{IsRangeOf};
 
+use crate::asking::Ask::{Back, Front, Left};
+use crate::asking::drains;
 use crate::range_forms::RangeForm;
 use crate::range_forms::RangeForm::{Behind, Between, From, Full, Through, To, ToLast};
 use std::mem;
 use std::ops::{Bound, RangeBounds};
 use std::test::Fail;
 use tinyvec_array::ArrayVec;
-use tinyvec_test_items::{assert_is, assert_items};
+use tinyvec_test_items::arrays::holds;
+use tinyvec_test_items::{first, is_left};
 
-// What a drain of the range leaves, if it gives these from the front and no more.
-fn left_in<const N: usize, R: RangeBounds<usize>>(
+// Whether a drain of the range gives these from the front and no more, and leaves this list before zeros.
+fn gives_in<const N: usize, R: RangeBounds<usize>>(
     mut v: ArrayVec<[i32; N]>,
     range: R,
     given: &[i32],
-) -> Option<ArrayVec<[i32; N]>>
+    list: &[i32],
+) -> bool
     requires known { R.has_bounds range }
     requires in_list { IsRangeOf (items v) (R.start_bound range) (R.end_bound range) }
 {
     let mut count = 0_usize;
     let mut same = true;
     for item in v.drain(range) {
-        same = same && given.get(count) == Some(&item);
+        same = same & (given.get(count) == Some(&item));
         count = count.wrapping_add(1);
     }
-    if same && count == given.len() {
-        Some(v)
-    } else {
-        None
-    }
+    same & (count == given.len())
+        & (v.as_slice() == list)
+        & v.grab_spare_slice().iter().all(is_zero)
 }
 
 // The same, whatever the form of the range.
-fn left<const N: usize>(
-    v: ArrayVec<[i32; N]>,
-    range: RangeForm,
-    given: &[i32],
-) -> Option<ArrayVec<[i32; N]>> {
+fn gives(range: RangeForm, given: &[i32], list: &[i32]) -> bool {
+    let v = ArrayVec::from_array_len([1, 2, 3, 0, 0, 0, 0, 0, 0, 0], 3);
     let len = v.len();
     match range {
-        Full => left_in(v, .., given),
-        To(end) if end <= len => left_in(v, ..end, given),
-        ToLast(last) if last < len => left_in(v, ..=last, given),
-        From(start) if start <= len => left_in(v, start.., given),
-        Between(start, end) if start <= end && end <= len => left_in(v, start..end, given),
-        Through(start, last) if start <= last && last < len => left_in(v, start..=last, given),
-        Behind(before, last) if before <= last && last < len => {
-            left_in(v, (Bound::Excluded(before), Bound::Included(last)), given)
+        Full => gives_in(v, .., given, list),
+        To(end) if end <= len => gives_in(v, ..end, given, list),
+        ToLast(last) if last < len => gives_in(v, ..=last, given, list),
+        From(start) if start <= len => gives_in(v, start.., given, list),
+        Between(start, end) if start <= end && end <= len => gives_in(v, start..end, given, list),
+        Through(start, last) if start <= last && last < len => {
+            gives_in(v, start..=last, given, list)
         }
-        _ => None,
+        Behind(before, last) if before <= last && last < len => gives_in(
+            v,
+            (Bound::Excluded(before), Bound::Included(last)),
+            given,
+            list,
+        ),
+        _ => false,
     }
 }
 
@@ -82,76 +86,65 @@ const RANGES: [(RangeForm, &[i32], &[i32]); 18] = [
 #[test]
 fn ranges(rt: HostRuntime) {
     for (at, (range, given, list)) in RANGES.iter().enumerate() {
-        let v = ArrayVec::from_array_len([1, 2, 3, 0, 0, 0, 0, 0, 0, 0], 3);
-        let Some(mut left) = left(v, *range, given) else {
-            panic!(rt; "what is drained in row {at}");
-        };
-        assert!(rt;
-            left.as_slice() == *list && left.grab_spare_slice().iter().all(is_zero),
-            "row {at}"
-        );
+        assert!(rt; gives(*range, given, list), "row {at}");
     }
-}
-
-#[test]
-fn passed_over(rt: HostRuntime) {
-    let mut v = ArrayVec::from_array_len([1, 2, 3, 4], 4);
-    let mut d = v.drain(1..3);
-    assert_is!(rt; d.nth(1), Some(3));
-    drop(d);
-    assert!(rt; v.len() == 2);
-    assert_items!(rt; &v.into_inner(), [1, 4, 0, 0]);
 }
 
 #[test]
 fn from_both_ends(rt: HostRuntime) {
     let mut v = ArrayVec::from_array([0, 1, 2, 3, 4, 5, 6, 7]);
+    let mut wrong = 0;
     let mut d = v.drain(1..);
-    assert!(rt; d.len() == 7);
-    assert_is!(rt; d.size_hint(), (7, Some(7)));
-    assert_is!(rt; d.next(), Some(1));
-    assert_is!(rt; d.next_back(), Some(7));
-    assert_is!(rt; d.nth(1), Some(3));
-    assert_is!(rt; d.nth_back(1), Some(5));
-    assert!(rt; d.len() == 1);
-    assert_is!(rt; d.size_hint(), (1, Some(1)));
+    wrong = first(wrong, 1, is_left(&d, 7));
+    wrong = first(wrong, 2, d.next() == Some(1));
+    wrong = first(wrong, 3, d.next_back() == Some(7));
+    wrong = first(wrong, 4, d.nth(1) == Some(3));
+    wrong = first(wrong, 5, d.nth_back(1) == Some(5));
+    wrong = first(wrong, 6, is_left(&d, 1));
     drop(d);
-    assert_items!(rt; &v.into_inner(), [0, 0, 0, 0, 0, 0, 0, 0]);
+    wrong = first(wrong, 7, holds(&v, &[0], &[0, 0, 0, 0, 0, 0, 0]));
+    assert!(rt; wrong == 0, "step {wrong}");
 }
 
 #[test]
 fn from_both_ends_to_none(rt: HostRuntime) {
     let mut v = ArrayVec::from_array([0, 1, 2]);
-    let mut d = v.drain(1..);
-    assert_is!(rt; d.next(), Some(1));
-    assert_is!(rt; d.next_back(), Some(2));
-    assert!(rt; d.len() == 0);
-    for _again in 0..2 {
-        assert_is!(rt; d.next(), None);
-        assert_is!(rt; d.next_back(), None);
-        assert_is!(rt; d.size_hint(), (0, Some(0)));
-    }
-    drop(d);
-    assert_items!(rt; &v.into_inner(), [0, 0, 0]);
+    let mut no_slots: ArrayVec<[i32; 0]> = ArrayVec::new();
+    let asks = [
+        Front(Some(1)),
+        Back(Some(2)),
+        Left(0),
+        Front(None),
+        Back(None),
+        Left(0),
+        Front(None),
+        Back(None),
+        Left(0),
+    ];
+    let mut wrong = 0;
+    wrong = first(wrong, 1, drains(&mut v.drain(1..), &asks));
+    wrong = first(wrong, 2, holds(&v, &[0], &[0, 0]));
+    wrong = first(
+        wrong,
+        3,
+        drains(&mut no_slots.drain(..), &[Left(0), Front(None), Back(None)]),
+    );
+    assert!(rt; wrong == 0, "step {wrong}");
 }
 
 #[test]
-fn past_the_end(rt: HostRuntime) {
-    let mut v = ArrayVec::from_array([1, 2, 3]);
-    assert_is!(rt; v.drain(..2).nth(2), None);
-    assert_items!(rt; v.as_slice(), [3]);
-    assert_is!(rt; v.drain(..).nth_back(1), None);
-    assert_items!(rt; v.as_slice(), []);
-    assert_is!(rt; v.drain(..).last(), None);
-}
-
-#[test]
-fn no_slots(rt: HostRuntime) {
-    let mut v: ArrayVec<[i32; 0]> = ArrayVec::new();
-    let mut d = v.drain(..);
-    assert!(rt; d.len() == 0);
-    assert_is!(rt; d.next(), None);
-    assert_is!(rt; d.next_back(), None);
+fn passed_over(rt: HostRuntime) {
+    let mut v = ArrayVec::from_array_len([1, 2, 3, 4], 4);
+    let mut w = ArrayVec::from_array([1, 2, 3]);
+    let mut wrong = 0;
+    wrong = first(wrong, 1, v.drain(1..3).nth(1) == Some(3));
+    wrong = first(wrong, 2, holds(&v, &[1, 4], &[0, 0]));
+    wrong = first(wrong, 3, w.drain(..2).nth(2) == None);
+    wrong = first(wrong, 4, holds(&w, &[3], &[0, 0]));
+    wrong = first(wrong, 5, w.drain(..).nth_back(1) == None);
+    wrong = first(wrong, 6, holds(&w, &[], &[0, 0, 0]));
+    wrong = first(wrong, 7, w.drain(..).last() == None);
+    assert!(rt; wrong == 0, "step {wrong}");
 }
 
 // No contract says what a drain that is never dropped leaves.
@@ -159,7 +152,7 @@ fn no_slots(rt: HostRuntime) {
 fn forgotten(rt: HostRuntime) {
     let mut v = ArrayVec::from_array([1, 2, 3, 4]);
     mem::forget(v.drain(1..3));
-    assert_items!(rt; v.as_slice(), [1, 4]);
+    assert!(rt; v.as_slice() == [1, 4].as_slice());
 }
 
 #[test]
@@ -167,15 +160,17 @@ fn moved_behind_others(rt: HostRuntime) -> Result<(), Fail> {
     let mut v = ArrayVec::from_array_len([1, 2, 3, 4, 9], 4);
     let mut out = Vec::with_capacity(rt.alloc(), 5)?;
     out.push(7)?;
+    let mut wrong = 0;
     v.drain_into(1..3, &mut out);
-    assert_items!(rt; out.as_slice(), [7, 2, 3]);
-    assert_items!(rt; v.as_inner(), [1, 4, 0, 0, 9]);
+    wrong = first(wrong, 1, out.as_slice() == [7, 2, 3].as_slice());
+    wrong = first(wrong, 2, holds(&v, &[1, 4], &[0, 0, 9]));
     v.drain_into(1..1, &mut out);
-    assert_items!(rt; out.as_slice(), [7, 2, 3]);
-    assert_items!(rt; v.as_slice(), [1, 4]);
+    wrong = first(wrong, 3, out.as_slice() == [7, 2, 3].as_slice());
+    wrong = first(wrong, 4, holds(&v, &[1, 4], &[0, 0, 9]));
     v.drain_into(.., &mut out);
-    assert_items!(rt; out.as_slice(), [7, 2, 3, 1, 4]);
-    assert_items!(rt; &v.into_inner(), [0, 0, 0, 0, 9]);
-    assert!(rt; out.capacity() == 5);
+    wrong = first(wrong, 5, out.as_slice() == [7, 2, 3, 1, 4].as_slice());
+    wrong = first(wrong, 6, holds(&v, &[], &[0, 0, 0, 0, 9]));
+    wrong = first(wrong, 7, out.capacity() == 5);
+    assert!(rt; wrong == 0, "step {wrong}");
     Ok(())
 }

@@ -1,144 +1,144 @@
 //! Items put in, taken out and written at a place, and the border moved.
-use std::process::Abort;
 use tinyvec_array::{Array, ArrayVec, NoMemory};
-use tinyvec_test_items::{assert_is, assert_items};
+use tinyvec_test_items::arrays::{holds, inserts, pops, pushes, removes, swap_removes, truncates};
+use tinyvec_test_items::first;
 
-#[derive(Clone, Copy)]
-enum Call {
-    Push(i32),
-    // The calls that hand back an item where there is no room.
-    TryPush(i32),
-    TryInsert(usize, i32),
-    Pop,
-    Remove(usize),
-    SwapRemove(usize),
-    Insert(usize, i32),
-    SetLen(usize),
-    Truncate(usize),
-}
-
-use Call::{Insert, Pop, Push, Remove, SetLen, SwapRemove, Truncate, TryInsert, TryPush};
-
-// Makes the call where it may be made, and answers what it gives. Where it may not be made, this answers -1.
-fn make<A: Array<Item = i32>>(v: &mut ArrayVec<A>, call: Call) -> Option<i32> {
-    match call {
-        Push(item) if !v.is_full() => v.push(item),
-        TryPush(item) => return v.try_push(item),
-        TryInsert(index, item) if index <= v.len() => return v.try_insert(index, item),
-        Pop => return v.pop(),
-        Remove(index) if index < v.len() => return Some(v.remove(index)),
-        SwapRemove(index) if index < v.len() => return Some(v.swap_remove(index)),
-        Insert(index, item) if index <= v.len() && !v.is_full() => v.insert(index, item),
-        SetLen(len) if len <= v.capacity() => v.set_len(len),
-        Truncate(len) => v.truncate(len),
-        _ => return Some(-1),
+// Whether there is room for `push` to put an item in, and that leaves this.
+fn push_leaves<A: Array<Item = i32>>(
+    v: &mut ArrayVec<A>,
+    item: i32,
+    items: &[i32],
+    spare: &[i32],
+) -> bool {
+    if v.is_full() {
+        return false;
     }
-    None
+    v.push(item);
+    holds(v, items, spare)
 }
 
-// A call and its answer, and the list and the spare slots after it.
-type Row = (Call, Option<i32>, &'static [i32], &'static [i32]);
-
-fn each_row<const N: usize>(rt: &impl Abort, mut v: ArrayVec<[i32; N]>, rows: &[Row]) {
-    for (at, (call, answer, list, spare)) in rows.iter().enumerate() {
-        let answered = make(&mut v, *call) == *answer;
-        assert!(rt;
-            answered && v.as_slice() == *list && v.grab_spare_slice() == *spare,
-            "row {at}"
-        );
+// The same of `insert`.
+fn insert_leaves<A: Array<Item = i32>>(
+    v: &mut ArrayVec<A>,
+    index: usize,
+    item: i32,
+    items: &[i32],
+    spare: &[i32],
+) -> bool {
+    if index > v.len() || v.is_full() {
+        return false;
     }
+    v.insert(index, item);
+    holds(v, items, spare)
 }
 
-const FOUR_SLOTS: [Row; 13] = [
-    (Pop, None, &[], &[0, 0, 0, 0]),
-    (Push(10), None, &[10], &[0, 0, 0]),
-    (Pop, Some(10), &[], &[0, 0, 0, 0]),
-    (Pop, None, &[], &[0, 0, 0, 0]),
-    (Push(10), None, &[10], &[0, 0, 0]),
-    (Push(11), None, &[10, 11], &[0, 0]),
-    (Push(12), None, &[10, 11, 12], &[0]),
-    (Push(13), None, &[10, 11, 12, 13], &[]),
-    (Pop, Some(13), &[10, 11, 12], &[0]),
-    (Pop, Some(12), &[10, 11], &[0, 0]),
-    (Pop, Some(11), &[10], &[0, 0, 0]),
-    (Pop, Some(10), &[], &[0, 0, 0, 0]),
-    (Pop, None, &[], &[0, 0, 0, 0]),
-];
+// Whether there are so many slots, and they are the list then.
+fn sets_len<A: Array<Item = i32>>(
+    v: &mut ArrayVec<A>,
+    len: usize,
+    items: &[i32],
+    spare: &[i32],
+) -> bool {
+    if len > v.capacity() {
+        return false;
+    }
+    v.set_len(len);
+    holds(v, items, spare)
+}
+
+// Whether `try_push` hands back the item, and leaves the full list so.
+fn hands_back<A: Array<Item = i32>>(v: &mut ArrayVec<A>, item: i32, items: &[i32]) -> bool {
+    (v.try_push(item) == Some(item)) & holds(v, items, &[])
+}
+
+// The same of `try_insert`.
+fn insert_hands_back<A: Array<Item = i32>>(
+    v: &mut ArrayVec<A>,
+    index: usize,
+    item: i32,
+    items: &[i32],
+) -> bool {
+    index <= v.len() && (v.try_insert(index, item) == Some(item)) & holds(v, items, &[])
+}
 
 #[test]
 fn four_slots(rt: HostRuntime) {
-    each_row::<4>(&rt, ArrayVec::new(), &FOUR_SLOTS);
+    let mut v = ArrayVec::<[i32; 4]>::new();
+    let mut wrong = 0;
+    wrong = first(wrong, 1, pops(&mut v, None, &[], &[0, 0, 0, 0]));
+    wrong = first(wrong, 2, push_leaves(&mut v, 10, &[10], &[0, 0, 0]));
+    wrong = first(wrong, 3, pops(&mut v, Some(10), &[], &[0, 0, 0, 0]));
+    wrong = first(wrong, 4, pops(&mut v, None, &[], &[0, 0, 0, 0]));
+    wrong = first(wrong, 5, push_leaves(&mut v, 10, &[10], &[0, 0, 0]));
+    wrong = first(wrong, 6, push_leaves(&mut v, 11, &[10, 11], &[0, 0]));
+    wrong = first(wrong, 7, push_leaves(&mut v, 12, &[10, 11, 12], &[0]));
+    wrong = first(wrong, 8, push_leaves(&mut v, 13, &[10, 11, 12, 13], &[]));
+    wrong = first(wrong, 9, pops(&mut v, Some(13), &[10, 11, 12], &[0]));
+    wrong = first(wrong, 10, pops(&mut v, Some(12), &[10, 11], &[0, 0]));
+    wrong = first(wrong, 11, pops(&mut v, Some(11), &[10], &[0, 0, 0]));
+    wrong = first(wrong, 12, pops(&mut v, Some(10), &[], &[0, 0, 0, 0]));
+    wrong = first(wrong, 13, pops(&mut v, None, &[], &[0, 0, 0, 0]));
+    assert!(rt; wrong == 0, "step {wrong}");
 }
-
-const POPPED: [Row; 1] = [(Pop, Some(26), &[87, 48, 33, 9], &[0])];
-
-#[test]
-fn popped_slot_is_emptied(rt: HostRuntime) {
-    each_row(&rt, ArrayVec::from_array([87, 48, 33, 9, 26]), &POPPED);
-}
-
-const NO_SLOTS: [Row; 2] = [(TryPush(7), Some(7), &[], &[]), (Pop, None, &[], &[])];
-
-const ONE_SLOT: [Row; 2] = [
-    (TryPush(7), None, &[7], &[]),
-    (TryPush(8), Some(8), &[7], &[]),
-];
 
 #[test]
 fn no_room_hands_back(rt: HostRuntime) {
-    each_row::<0>(&rt, ArrayVec::new(), &NO_SLOTS);
-    each_row::<1>(&rt, ArrayVec::new(), &ONE_SLOT);
-    assert!(rt; NoMemory(7).0 == 7);
+    let mut none = ArrayVec::<[i32; 0]>::new();
+    let mut one = ArrayVec::<[i32; 1]>::new();
+    let mut wrong = 0;
+    wrong = first(wrong, 1, hands_back(&mut none, 7, &[]));
+    wrong = first(wrong, 2, pops(&mut none, None, &[], &[]));
+    wrong = first(wrong, 3, pushes(&mut one, 7, &[7], &[]));
+    wrong = first(wrong, 4, hands_back(&mut one, 8, &[7]));
+    wrong = first(wrong, 5, NoMemory(7).0 == 7);
+    assert!(rt; wrong == 0, "step {wrong}");
 }
-
-const REMOVED: [Row; 1] = [(Remove(1), Some(2), &[1, 3], &[0, 0])];
-
-const SWAPPED: [Row; 4] = [
-    (SwapRemove(3), Some(4), &[1, 2, 3], &[0, 0]),
-    (SwapRemove(0), Some(1), &[3, 2], &[0, 0, 0]),
-    (SwapRemove(0), Some(3), &[2], &[0, 0, 0, 0]),
-    (SwapRemove(0), Some(2), &[], &[0, 0, 0, 0, 0]),
-];
 
 #[test]
-fn removing(rt: HostRuntime) {
-    each_row(&rt, ArrayVec::from_array_len([1, 2, 3, 0], 3), &REMOVED);
-    each_row(&rt, ArrayVec::from_array_len([1, 2, 3, 4, 0], 4), &SWAPPED);
+fn taking_out(rt: HostRuntime) {
+    let mut full = ArrayVec::from_array([87, 48, 33, 9, 26]);
+    let mut three = ArrayVec::from_array_len([1, 2, 3, 0], 3);
+    let mut four = ArrayVec::from_array_len([1, 2, 3, 4, 0], 4);
+    let mut wrong = 0;
+    wrong = first(wrong, 1, pops(&mut full, Some(26), &[87, 48, 33, 9], &[0]));
+    wrong = first(wrong, 2, removes(&mut three, 1, 2, &[1, 3], &[0, 0]));
+    wrong = first(wrong, 3, swap_removes(&mut four, 3, 4, &[1, 2, 3], &[0, 0]));
+    wrong = first(wrong, 4, swap_removes(&mut four, 0, 1, &[3, 2], &[0, 0, 0]));
+    wrong = first(wrong, 5, swap_removes(&mut four, 0, 3, &[2], &[0, 0, 0, 0]));
+    wrong = first(
+        wrong,
+        6,
+        swap_removes(&mut four, 0, 2, &[], &[0, 0, 0, 0, 0]),
+    );
+    assert!(rt; wrong == 0, "step {wrong}");
 }
-
-const INSERTED: [Row; 2] = [
-    (Insert(0, 9), None, &[9, 1, 2, 3], &[]),
-    (TryInsert(2, 7), Some(7), &[9, 1, 2, 3], &[]),
-];
-
-const TRIED: [Row; 2] = [
-    (TryInsert(2, 7), None, &[1, 2, 7], &[8]),
-    (TryInsert(1, 6), None, &[1, 6, 2, 7], &[]),
-];
 
 #[test]
 fn inserting(rt: HostRuntime) {
-    each_row(&rt, ArrayVec::from_array_len([1, 2, 3, 8], 3), &INSERTED);
-    each_row(&rt, ArrayVec::from_array_len([1, 2, 8, 8], 2), &TRIED);
+    let mut three = ArrayVec::from_array_len([1, 2, 3, 8], 3);
+    let mut two = ArrayVec::from_array_len([1, 2, 8, 8], 2);
+    let mut wrong = 0;
+    wrong = first(
+        wrong,
+        1,
+        insert_leaves(&mut three, 0, 9, &[9, 1, 2, 3], &[]),
+    );
+    wrong = first(wrong, 2, insert_hands_back(&mut three, 2, 7, &[9, 1, 2, 3]));
+    wrong = first(wrong, 3, inserts(&mut two, 2, 7, &[1, 2, 7], &[8]));
+    wrong = first(wrong, 4, inserts(&mut two, 1, 6, &[1, 6, 2, 7], &[]));
+    assert!(rt; wrong == 0, "step {wrong}");
 }
-
-const MOVED: [Row; 4] = [
-    (SetLen(2), None, &[1, 2], &[3, 0]),
-    (Push(9), None, &[1, 2, 9], &[0]),
-    (Truncate(7), None, &[1, 2, 9], &[0]),
-    (Truncate(1), None, &[1], &[0, 0, 0]),
-];
 
 #[test]
 fn the_border_moves(rt: HostRuntime) {
-    each_row(&rt, ArrayVec::from_array_len([1, 2, 3, 0], 3), &MOVED);
-}
-
-#[test]
-fn cutting_off(rt: HostRuntime) {
-    let mut v = ArrayVec::from_array_len([1, 2, 3, 9], 3);
-    let tail = v.split_off(1);
-    assert!(rt; v.len() == 1 && tail.len() == 2);
-    assert_items!(rt; &v.into_inner(), [1, 0, 0, 9]);
-    assert_items!(rt; &tail.into_inner(), [2, 3, 0, 0]);
+    let mut v = ArrayVec::from_array_len([1, 2, 3, 0], 3);
+    let mut w = ArrayVec::from_array_len([1, 2, 3, 9], 3);
+    let mut wrong = 0;
+    wrong = first(wrong, 1, sets_len(&mut v, 2, &[1, 2], &[3, 0]));
+    wrong = first(wrong, 2, push_leaves(&mut v, 9, &[1, 2, 9], &[0]));
+    wrong = first(wrong, 3, truncates(&mut v, 7, &[1, 2, 9], &[0]));
+    wrong = first(wrong, 4, truncates(&mut v, 1, &[1], &[0, 0, 0]));
+    wrong = first(wrong, 5, holds(&w.split_off(1), &[2, 3], &[0, 0]));
+    wrong = first(wrong, 6, holds(&w, &[1], &[0, 0, 9]));
+    assert!(rt; wrong == 0, "step {wrong}");
 }

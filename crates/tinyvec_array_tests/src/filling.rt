@@ -1,277 +1,258 @@
 //! Items taken from iterators and closures, and lists joined.
 use std::iter;
-use std::process::Abort;
 use std::test::Fail;
-use tinyvec_array::{ArrayVec, FromIterRest, NoRoom};
-use tinyvec_test_items::{Unhinted, assert_is, assert_items};
+use tinyvec_array::{Array, ArrayVec};
+use tinyvec_test_items::arrays::{extends, fills, holds, is_made, is_refused, truncates};
+use tinyvec_test_items::{Unhinted, first, refuses};
 
 #[test]
-fn fill_stops_when_full(rt: HostRuntime) {
-    let mut vec = ArrayVec::<[i32; 4]>::new();
-    let mut rest = vec.fill(0..);
-    assert_items!(rt; vec.as_slice(), [0, 1, 2, 3]);
-    assert_is!(rt; rest.next(), Some(4));
-    let mut none = vec.fill(7..9);
-    assert_is!(rt; none.next(), Some(7));
-}
-
-#[test]
-fn fill_stops_at_the_end(rt: HostRuntime) {
-    let mut vec = ArrayVec::from_array_len([1, 9, 9, 9], 1);
-    let mut rest = vec.fill(5..7);
-    assert_items!(rt; vec.as_slice(), [1, 5, 6]);
-    assert_items!(rt; vec.grab_spare_slice(), [9]);
-    assert_is!(rt; rest.next(), None);
+fn fill(rt: HostRuntime) {
+    let mut v = ArrayVec::<[i32; 4]>::new();
+    let mut w = ArrayVec::from_array_len([1, 9, 9, 9], 1);
+    let mut wrong = 0;
+    wrong = first(wrong, 1, fills(&mut v, 0.., Some(4), &[0, 1, 2, 3], &[]));
+    wrong = first(wrong, 2, fills(&mut v, 7..9, Some(7), &[0, 1, 2, 3], &[]));
+    wrong = first(wrong, 3, fills(&mut w, 5..7, None, &[1, 5, 6], &[9]));
+    assert!(rt; wrong == 0, "step {wrong}");
 }
 
 #[test]
 fn extend_answers_what_found_no_room(rt: HostRuntime) {
-    let mut vec = ArrayVec::from_array_len([1, 2, 0, 0], 2);
-    match vec.extend(3..=6) {
-        Ok(()) => panic!(rt; "there was no room"),
-        Err(NoRoom { item, mut rest }) => {
-            assert!(rt; item == 5);
-            assert_is!(rt; rest.next(), Some(6));
-            assert_is!(rt; rest.next(), None);
-        }
-    }
-    assert_items!(rt; vec.as_slice(), [1, 2, 3, 4]);
+    let mut v = ArrayVec::from_array_len([1, 2, 0, 0], 2);
+    let mut w = ArrayVec::from_array_len([1, 0, 0], 1);
+    let mut wrong = 0;
+    wrong = first(wrong, 1, refuses(v.extend(3..=6), 5, &[Some(6), None]));
+    wrong = first(wrong, 2, holds(&v, &[1, 2, 3, 4], &[]));
+    wrong = first(
+        wrong,
+        3,
+        extends(&mut w, [2, 3].iter().copied(), &[1, 2, 3], &[]),
+    );
+    wrong = first(wrong, 4, refuses(w.extend([4].iter().copied()), 4, &[None]));
+    wrong = first(wrong, 5, holds(&w, &[1, 2, 3], &[]));
+    assert!(rt; wrong == 0, "step {wrong}");
 }
 
 #[test]
 fn extend_without_a_hint(rt: HostRuntime) {
-    let mut vec = ArrayVec::from_array_len([1, 0, 0, 0, 0, 7], 1);
-    assert!(rt; vec.extend(Unhinted { next: 5, end: 9 }).is_ok());
-    assert_items!(rt; vec.as_slice(), [1, 5, 6, 7, 8]);
-    assert_items!(rt; vec.grab_spare_slice(), [7]);
+    let mut v = ArrayVec::from_array_len([1, 0, 0, 0, 0, 7], 1);
     let mut exact = ArrayVec::<[i32; 4]>::new();
-    assert!(rt; exact.extend(Unhinted { next: 5, end: 9 }).is_ok());
-    assert!(rt; exact.is_full());
+    let mut wrong = 0;
+    wrong = first(
+        wrong,
+        1,
+        extends(&mut v, Unhinted { next: 5, end: 9 }, &[1, 5, 6, 7, 8], &[7]),
+    );
+    wrong = first(
+        wrong,
+        2,
+        extends(&mut exact, Unhinted { next: 5, end: 9 }, &[5, 6, 7, 8], &[]),
+    );
+    assert!(rt; wrong == 0, "step {wrong}");
 }
 
 #[test]
 fn extend_by_a_vec(rt: HostRuntime) -> Result<(), Fail> {
-    let mut vec = ArrayVec::from_array_len([1, 0, 0, 9], 1);
-    assert!(rt; vec.extend([2, 3].to_vec(rt.alloc())?).is_ok());
-    assert_items!(rt; vec.as_slice(), [1, 2, 3]);
-    assert_items!(rt; vec.grab_spare_slice(), [9]);
+    let items = [2, 3].to_vec(rt.alloc())?;
+    let mut v = ArrayVec::from_array_len([1, 0, 0, 9], 1);
+    let mut wrong = 0;
+    wrong = first(wrong, 1, v.extend(items).is_ok());
+    wrong = first(wrong, 2, holds(&v, &[1, 2, 3], &[9]));
+    assert!(rt; wrong == 0, "step {wrong}");
     Ok(())
 }
 
 #[test]
-fn extend_by_copies_of_a_slice(rt: HostRuntime) {
-    let mut vec = ArrayVec::from_array_len([1, 0, 0], 1);
-    assert!(rt; vec.extend([2, 3].iter().copied()).is_ok());
-    assert_items!(rt; vec.as_slice(), [1, 2, 3]);
-    match vec.extend([4].iter().copied()) {
-        Ok(()) => panic!(rt; "there was no room"),
-        Err(NoRoom { item, mut rest }) => {
-            assert!(rt; item == 4);
-            assert_is!(rt; rest.next(), None);
-        }
-    }
-    assert_items!(rt; vec.as_slice(), [1, 2, 3]);
-}
-
-#[test]
-fn from_iter_of_endless_items(rt: HostRuntime) {
-    match ArrayVec::<[i32; 2]>::from_iter(0..) {
-        Ok(_) => panic!(rt; "there was no room"),
-        Err(
-            FromIterRest {
-                vec,
-                item,
-                mut rest,
-            },
-        ) => {
-            assert_items!(rt; vec.as_slice(), [0, 1]);
-            assert!(rt; item == 2);
-            assert_is!(rt; rest.next(), Some(3));
-        }
-    }
-}
-
-#[test]
-fn from_iter_of_all(rt: HostRuntime) {
-    match ArrayVec::<[i32; 4]>::from_iter(10..14) {
-        Ok(vec) => assert_items!(rt; vec.as_slice(), [10, 11, 12, 13]),
-        Err(_) => panic!(rt; "there was room"),
-    }
-    match ArrayVec::<[i32; 4]>::from_iter(10..12) {
-        Ok(vec) => {
-            assert_items!(rt; vec.as_slice(), [10, 11]);
-            assert_items!(rt; vec.grab_spare_slice(), [0, 0]);
-        }
-        Err(_) => panic!(rt; "there was room"),
-    }
-    assert!(rt; ArrayVec::<[i32; 0]>::from_iter(iter::repeat(1)).is_err());
+fn from_iter(rt: HostRuntime) {
+    let mut wrong = 0;
+    wrong = first(
+        wrong,
+        1,
+        is_made(
+            ArrayVec::<[i32; 4]>::from_iter(10..14),
+            &[10, 11, 12, 13],
+            &[],
+        ),
+    );
+    wrong = first(
+        wrong,
+        2,
+        is_made(ArrayVec::<[i32; 4]>::from_iter(10..12), &[10, 11], &[0, 0]),
+    );
+    wrong = first(
+        wrong,
+        3,
+        is_refused(ArrayVec::<[i32; 2]>::from_iter(0..), &[0, 1], 2, &[Some(3)]),
+    );
+    wrong = first(
+        wrong,
+        4,
+        ArrayVec::<[i32; 0]>::from_iter(iter::repeat(1)).is_err(),
+    );
+    assert!(rt; wrong == 0, "step {wrong}");
 }
 
 #[test]
 fn many_slots(rt: HostRuntime) {
-    let mut vec = ArrayVec::<[u8; 65536]>::new();
-    let _rest = vec.fill(iter::repeat(1));
-    assert!(rt; vec.len() == 65536);
-    assert!(rt; vec.grab_spare_slice().is_empty());
-    assert_is!(rt; vec.try_push(2), Some(2));
+    let mut v = ArrayVec::<[u8; 65536]>::new();
+    let _rest = v.fill(iter::repeat(1));
+    let mut wrong = 0;
+    wrong = first(wrong, 1, v.len() == 65536);
+    wrong = first(wrong, 2, v.grab_spare_slice().is_empty());
+    wrong = first(wrong, 3, v.try_push(2) == Some(2));
+    assert!(rt; wrong == 0, "step {wrong}");
 }
 
-#[test]
-fn resize_with_answers_in_order(rt: HostRuntime) {
-    let mut vec = ArrayVec::from_array_len([1, 2, 3, 9, 9], 2);
-    let mut last = 10_i32;
-    vec.resize_with(4, || {
+// Resizes by numbers that go on from `last`, and answers the last of them: the closure is asked once for each.
+fn resized<A: Array<Item = i32>>(v: &mut ArrayVec<A>, len: usize, mut last: i32) -> i32 {
+    v.resize_with(len.min(v.capacity()), || {
         last = last.wrapping_add(1);
         last
     });
-    assert!(rt; last == 12);
-    assert_items!(rt; vec.as_slice(), [1, 2, 11, 12]);
-    vec.resize_with(1, || 7);
-    assert_items!(rt; vec.as_inner(), [1, 0, 0, 0, 9]);
-    vec.clear();
-    assert_items!(rt; vec.as_inner(), [0, 0, 0, 0, 9]);
+    last
 }
+
+#[test]
+fn resize_with(rt: HostRuntime) {
+    let mut v = ArrayVec::from_array_len([1, 2, 3, 9, 9], 2);
+    let mut wrong = 0;
+    wrong = first(wrong, 1, resized(&mut v, 4, 10) == 12);
+    wrong = first(wrong, 2, holds(&v, &[1, 2, 11, 12], &[9]));
+    wrong = first(wrong, 3, resized(&mut v, 1, 6) == 6);
+    wrong = first(wrong, 4, holds(&v, &[1], &[0, 0, 0, 9]));
+    v.clear();
+    wrong = first(wrong, 5, holds(&v, &[], &[0, 0, 0, 0, 9]));
+    assert!(rt; wrong == 0, "step {wrong}");
+}
+
+// Whether a list of so many items is made so long, and the missing ones are asked for.
+fn asks_for_missing(len: usize, wanted: usize, missing: i32) -> bool {
+    let mut v = ArrayVec::from_array_len([1, 2, 3, 4], len.min(4));
+    (resized(&mut v, wanted, 0) == missing) & (v.len() == wanted)
+}
+
+// How many items are missing of a length of 0 to 4, by how many are there.
+const MISSING: [[i32; 5]; 5] = [
+    [0, 1, 2, 3, 4],
+    [0, 0, 1, 2, 3],
+    [0, 0, 0, 1, 2],
+    [0, 0, 0, 0, 1],
+    [0, 0, 0, 0, 0],
+];
 
 /// It asks for the items that are missing, and never where none is.
 #[test]
 fn resize_with_asks_once_for_each_missing_item(rt: HostRuntime) {
-    for len in 0..=4 {
-        for n in 0..=4 {
-            let mut asked = 0_usize;
-            let mut vec = ArrayVec::from_array_len([1, 2, 3, 4], len);
-            vec.resize_with(n, || {
-                asked = asked.wrapping_add(1);
-                7
-            });
-            assert!(rt; vec.len() == n);
-            assert!(rt; asked == n.saturating_sub(len));
+    for (len, row) in MISSING.iter().enumerate() {
+        for (wanted, missing) in row.iter().enumerate() {
+            assert!(rt;
+                asks_for_missing(len, wanted, *missing),
+                "{len} items to {wanted}"
+            );
         }
     }
 }
 
-// The calls that move the items of one list behind another.
-#[derive(Clone, Copy)]
-enum Joining {
-    // Where all find room.
-    Append,
-    // Where not all find room: the list that comes back is this one, and is cut to one item.
-    AppendIfFitsElseCut(&'static [i32]),
-    // Where all find room: an item is pushed into the emptied list.
-    AppendIfFitsAndPush(i32),
-    // Where not all find room.
-    TryAppendRefused,
-    TryAppend,
-}
+// The items of a list, and the spare slots after them.
+type Slots<'a> = (&'a [i32], &'a [i32]);
 
-use Joining::{Append, AppendIfFitsAndPush, AppendIfFitsElseCut, TryAppend, TryAppendRefused};
-
-// Makes the call. Whether it answers so.
-fn joins<const N: usize>(
-    front: &mut ArrayVec<[i32; N]>,
-    back: &mut ArrayVec<[i32; N]>,
-    joining: Joining,
+// Whether both lists have these.
+fn hold<A: Array<Item = i32>>(
+    front: &ArrayVec<A>,
+    front_slots: Slots<'_>,
+    back: &ArrayVec<A>,
+    back_slots: Slots<'_>,
 ) -> bool {
-    match joining {
-        Append => {
-            let fits = front.len() <= N && back.len() <= N - front.len();
-            if fits {
-                front.append(back);
-            }
-            fits
-        }
-        AppendIfFitsElseCut(list) => match front.append_if_fits(back) {
-            Ok(_) => false,
-            Err(refused) => {
-                let same = refused.as_slice() == list;
-                refused.truncate(1);
-                same
-            }
-        },
-        AppendIfFitsAndPush(item) => match front.append_if_fits(back) {
-            Ok(emptied) => emptied.try_push(item).is_none(),
-            Err(_) => false,
-        },
-        TryAppendRefused => front.try_append(back).is_some(),
-        TryAppend => front.try_append(back).is_none(),
+    holds(front, front_slots.0, front_slots.1) & holds(back, back_slots.0, back_slots.1)
+}
+
+// Whether all items find room behind the others.
+fn appends<A: Array<Item = i32>>(front: &mut ArrayVec<A>, back: &mut ArrayVec<A>) -> bool {
+    if back.len() > front.capacity().saturating_sub(front.len()) {
+        return false;
+    }
+    front.append(back);
+    true
+}
+
+// Whether the list of these items came back, which is cut to one item then.
+fn is_back_and_cut<A: Array<Item = i32>>(
+    appended: Result<&mut ArrayVec<A>, &mut ArrayVec<A>>,
+    items: &[i32],
+    one: &[i32],
+    spare: &[i32],
+) -> bool {
+    match appended {
+        Ok(_) => false,
+        Err(refused) => (refused.as_slice() == items) & truncates(refused, 1, one, spare),
     }
 }
 
-// Slots of two lists with how many of them hold items, the call, and the same of the lists after it.
-struct Joined<A> {
-    front: (A, usize),
-    back: (A, usize),
-    joining: Joining,
-    front_after: (A, usize),
-    back_after: (A, usize),
-}
-
-fn each_joined<const N: usize>(rt: &impl Abort, rows: &[Joined<[i32; N]>]) {
-    for (at, row) in rows.iter().enumerate() {
-        let Ok(mut front) = ArrayVec::try_from_array_len(row.front.0, row.front.1) else {
-            panic!(rt; "row {at} has fewer slots");
-        };
-        let Ok(mut back) = ArrayVec::try_from_array_len(row.back.0, row.back.1) else {
-            panic!(rt; "row {at} has fewer slots");
-        };
-        let joined = joins(&mut front, &mut back, row.joining);
-        let lengths = (front.len(), back.len());
-        assert!(rt;
-            joined && lengths == (row.front_after.1, row.back_after.1),
-            "row {at}"
-        );
-        assert!(rt;
-            front.into_inner() == row.front_after.0 && back.into_inner() == row.back_after.0,
-            "row {at}"
-        );
+// Whether all found room, and the emptied list takes an item.
+fn is_emptied_and_takes<A: Array<Item = i32>>(
+    appended: Result<&mut ArrayVec<A>, &mut ArrayVec<A>>,
+    item: i32,
+) -> bool {
+    match appended {
+        Ok(emptied) => emptied.try_push(item).is_none(),
+        Err(_) => false,
     }
 }
-
-const APPENDED: [Joined<[i32; 8]>; 1] = [Joined {
-    front: ([1, 2, 3, 0, 0, 0, 0, 0], 3),
-    back: ([4, 5, 6, 0, 0, 0, 0, 8], 3),
-    joining: Append,
-    front_after: ([1, 2, 3, 4, 5, 6, 0, 0], 6),
-    back_after: ([0, 0, 0, 0, 0, 0, 0, 8], 0),
-}];
 
 #[test]
-fn append_moves_the_items(rt: HostRuntime) {
-    each_joined(&rt, &APPENDED);
+fn append(rt: HostRuntime) {
+    let mut v = ArrayVec::from_array_len([1, 2, 3, 0, 0, 0, 0, 0], 3);
+    let mut w = ArrayVec::from_array_len([4, 5, 6, 0, 0, 0, 0, 8], 3);
+    let joined: Slots<'_> = (&[1, 2, 3, 4, 5, 6], &[0, 0]);
+    let mut wrong = 0;
+    wrong = first(wrong, 1, appends(&mut v, &mut w));
+    wrong = first(
+        wrong,
+        2,
+        hold(&v, joined, &w, (&[], &[0, 0, 0, 0, 0, 0, 0, 8])),
+    );
+    assert!(rt; wrong == 0, "step {wrong}");
 }
 
 // The slots that hold no item come back too.
-const HANDED_BACK: [Joined<[i32; 7]>; 4] = [
-    Joined {
-        front: ([1, 2, 3, 4, 5, 6, 20], 6),
-        back: ([7, 8, 9, 30, 31, 32, 33], 2),
-        joining: AppendIfFitsElseCut(&[7, 8]),
-        front_after: ([1, 2, 3, 4, 5, 6, 20], 6),
-        back_after: ([7, 0, 9, 30, 31, 32, 33], 1),
-    },
-    Joined {
-        front: ([1, 2, 3, 4, 5, 6, 20], 6),
-        back: ([7, 0, 9, 30, 31, 32, 33], 1),
-        joining: AppendIfFitsAndPush(40),
-        front_after: ([1, 2, 3, 4, 5, 6, 7], 7),
-        back_after: ([40, 0, 9, 30, 31, 32, 33], 1),
-    },
-    Joined {
-        front: ([1, 2, 3, 4, 5, 6, 20], 6),
-        back: ([7, 8, 9, 30, 31, 32, 33], 3),
-        joining: TryAppendRefused,
-        front_after: ([1, 2, 3, 4, 5, 6, 20], 6),
-        back_after: ([7, 8, 9, 30, 31, 32, 33], 3),
-    },
-    Joined {
-        front: ([1, 2, 3, 4, 5, 6, 20], 6),
-        back: ([7, 0, 0, 30, 31, 32, 33], 1),
-        joining: TryAppend,
-        front_after: ([1, 2, 3, 4, 5, 6, 7], 7),
-        back_after: ([0, 0, 0, 30, 31, 32, 33], 0),
-    },
-];
+#[test]
+fn append_if_fits(rt: HostRuntime) {
+    let mut v = ArrayVec::from_array_len([1, 2, 3, 4, 5, 6, 20], 6);
+    let mut w = ArrayVec::from_array_len([7, 8, 9, 30, 31, 32, 33], 2);
+    let six: Slots<'_> = (&[1, 2, 3, 4, 5, 6], &[20]);
+    let spare = &[0, 9, 30, 31, 32, 33];
+    let seven: Slots<'_> = (&[1, 2, 3, 4, 5, 6, 7], &[]);
+    let mut wrong = 0;
+    wrong = first(
+        wrong,
+        1,
+        is_back_and_cut(v.append_if_fits(&mut w), &[7, 8], &[7], spare),
+    );
+    wrong = first(wrong, 2, hold(&v, six, &w, (&[7], spare)));
+    wrong = first(wrong, 3, is_emptied_and_takes(v.append_if_fits(&mut w), 40));
+    wrong = first(wrong, 4, hold(&v, seven, &w, (&[40], spare)));
+    assert!(rt; wrong == 0, "step {wrong}");
+}
 
 #[test]
-fn other_list_handed_back(rt: HostRuntime) {
-    each_joined(&rt, &HANDED_BACK);
+fn try_append(rt: HostRuntime) {
+    let mut v = ArrayVec::from_array_len([1, 2, 3, 4, 5, 6, 20], 6);
+    let mut three = ArrayVec::from_array_len([7, 8, 9, 30, 31, 32, 33], 3);
+    let mut one = ArrayVec::from_array_len([7, 0, 0, 30, 31, 32, 33], 1);
+    let six: Slots<'_> = (&[1, 2, 3, 4, 5, 6], &[20]);
+    let seven: Slots<'_> = (&[1, 2, 3, 4, 5, 6, 7], &[]);
+    let mut wrong = 0;
+    wrong = first(wrong, 1, v.try_append(&mut three).is_some());
+    wrong = first(
+        wrong,
+        2,
+        hold(&v, six, &three, (&[7, 8, 9], &[30, 31, 32, 33])),
+    );
+    wrong = first(wrong, 3, v.try_append(&mut one).is_none());
+    wrong = first(
+        wrong,
+        4,
+        hold(&v, seven, &one, (&[], &[0, 0, 0, 30, 31, 32, 33])),
+    );
+    assert!(rt; wrong == 0, "step {wrong}");
 }

@@ -4,76 +4,73 @@ ghost use Rattle.std.proofs.Common.{rules};
 ghost use Rattle.std.specs.Cmp.Rules.{comparing};
 
 use std::cell::Cell;
-use tinyvec_array::ArrayVec;
-use tinyvec_test_items::assert_items;
+use tinyvec_array::{Array, ArrayVec};
+use tinyvec_test_items::arrays::holds;
+use tinyvec_test_items::first;
 
-fn is_even(x: i32) -> bool {
+fn is_even(x: &i32) -> bool {
     x % 2 == 0
+}
+
+fn is_even_at(x: &mut i32) -> bool {
+    is_even(x)
+}
+
+// Whether it was even, before it is doubled.
+fn was_even_and_is_doubled(x: &mut i32) -> bool {
+    let stays = is_even(x);
+    *x = x.wrapping_mul(2);
+    stays
+}
+
+fn retain_leaves<A: Array<Item = i32>>(mut v: ArrayVec<A>, items: &[i32], spare: &[i32]) -> bool {
+    v.retain(is_even);
+    holds(&v, items, spare)
+}
+
+fn retain_mut_leaves<A: Array<Item = i32>>(
+    mut v: ArrayVec<A>,
+    items: &[i32],
+    spare: &[i32],
+) -> bool {
+    v.retain_mut(is_even_at);
+    holds(&v, items, spare)
 }
 
 #[test]
 fn retain_keeps_the_even_before_defaults_and_old_spare_slots(rt: HostRuntime) {
-    let mut vec = ArrayVec::from_array_len([1, 2, 3, 4, 9], 4);
-    vec.retain(|x| is_even(*x));
-    assert_items!(rt; vec.as_slice(), [2, 4]);
-    assert_items!(rt; &vec.into_inner(), [2, 4, 0, 0, 9]);
+    let four = ArrayVec::from_array_len([1, 2, 3, 4, 9], 4);
+    let mut doubled = ArrayVec::from_array([1, 1, 2, 3, 3, 4]);
+    doubled.retain_mut(was_even_and_is_doubled);
+    let mut wrong = 0;
+    wrong = first(wrong, 1, retain_leaves(four, &[2, 4], &[0, 0, 9]));
+    wrong = first(wrong, 2, holds(&doubled, &[4, 8], &[0, 0, 0, 0]));
+    assert!(rt; wrong == 0, "step {wrong}");
 }
-
-#[test]
-fn retain_mut_keeps_the_even_and_doubles_them(rt: HostRuntime) {
-    let mut vec = ArrayVec::from_array([1, 1, 2, 3, 3, 4]);
-    vec.retain_mut(|x| {
-        let stays = is_even(*x);
-        *x = x.wrapping_mul(2);
-        stays
-    });
-    assert_items!(rt; vec.as_slice(), [4, 8]);
-    assert_items!(rt; &vec.into_inner(), [4, 8, 0, 0, 0, 0]);
-}
-
-// Slots, how many of them are the list, and both after the even items were kept.
-const EVEN: [([i32; 4], usize, usize, [i32; 4]); 4] = [
-    ([0, 0, 0, 0], 0, 0, [0, 0, 0, 0]),
-    ([2, 4, 6, 8], 4, 4, [2, 4, 6, 8]),
-    ([1, 2, 3, 4], 4, 2, [2, 4, 0, 0]),
-    ([1, 3, 5, 7], 4, 0, [0, 0, 0, 0]),
-];
 
 #[test]
 fn retain_mut_none_some_and_all(rt: HostRuntime) {
-    for (at, (slots, len, left, slots_left)) in EVEN.iter().enumerate() {
-        let Ok(mut vec) = ArrayVec::try_from_array_len(*slots, *len) else {
-            panic!(rt; "row {at} has fewer slots");
-        };
-        vec.retain_mut(|x| is_even(*x));
-        assert!(rt;
-            vec.len() == *left && vec.as_inner() == slots_left,
-            "row {at}"
-        );
-    }
-}
-
-#[test]
-fn retain_mut_zero_capacity(rt: HostRuntime) {
-    let mut vec: ArrayVec<[i32; 0]> = ArrayVec::from_array([]);
-    vec.retain_mut(|x| is_even(*x));
-    assert!(rt; vec.is_empty());
-    assert!(rt; vec.is_full());
-}
-
-/// Each item is asked about once, in order, whatever the answers.
-#[test]
-fn retain_asks_once_in_order(rt: HostRuntime) {
-    let mut asked: ArrayVec<[u8; 8]> = ArrayVec::new();
-    let mut keeps = false;
-    let mut vec = ArrayVec::from_array([3u8, 1, 3, 2, 2]);
-    vec.retain(|x| {
-        let _full = asked.try_push(*x);
-        keeps = !keeps;
-        keeps
-    });
-    assert_items!(rt; vec.as_slice(), [3, 3, 2]);
-    assert_items!(rt; asked.as_slice(), [3, 1, 3, 2, 2]);
+    let none = ArrayVec::from_array_empty([0, 0, 0, 0]);
+    let no_slots = ArrayVec::from_array([]);
+    let mut wrong = 0;
+    wrong = first(wrong, 1, retain_mut_leaves(none, &[], &[0, 0, 0, 0]));
+    wrong = first(
+        wrong,
+        2,
+        retain_mut_leaves(ArrayVec::from_array([2, 4, 6, 8]), &[2, 4, 6, 8], &[]),
+    );
+    wrong = first(
+        wrong,
+        3,
+        retain_mut_leaves(ArrayVec::from_array([1, 2, 3, 4]), &[2, 4], &[0, 0]),
+    );
+    wrong = first(
+        wrong,
+        4,
+        retain_mut_leaves(ArrayVec::from_array([1, 3, 5, 7]), &[], &[0, 0, 0, 0]),
+    );
+    wrong = first(wrong, 5, retain_mut_leaves(no_slots, &[], &[]));
+    assert!(rt; wrong == 0, "step {wrong}");
 }
 
 /// The answers are the closure's own count, and the items are left as it wrote them.
@@ -86,45 +83,57 @@ fn retain_mut_asks_once_in_order(rt: HostRuntime) {
         *x = x.wrapping_add(count);
         count != 2
     });
-    assert_items!(rt; vec.as_slice(), [11, 33, 44]);
-    assert!(rt; count == 4);
-    assert_items!(rt; &vec.into_inner(), [11, 33, 44, 0]);
+    let mut wrong = 0;
+    wrong = first(wrong, 1, holds(&vec, &[11, 33, 44], &[0]));
+    wrong = first(wrong, 2, count == 4);
+    assert!(rt; wrong == 0, "step {wrong}");
 }
 
-// Whether `dedup` leaves so many of the items in the first slots, and the slots so.
-fn dedup_leaves<const N: usize>(
-    slots: [i32; N],
-    len: usize,
-    left: usize,
-    wanted: [i32; N],
-) -> bool {
-    let Ok(mut vec) = ArrayVec::try_from_array_len(slots, len) else {
-        return false;
-    };
-    vec.dedup();
-    vec.len() == left && *vec.as_inner() == wanted
+fn dedup_leaves<A: Array<Item = i32>>(mut v: ArrayVec<A>, items: &[i32], spare: &[i32]) -> bool {
+    v.dedup();
+    holds(&v, items, spare)
 }
 
 #[test]
 fn dedup_removes_repeats(rt: HostRuntime) {
-    assert!(rt; dedup_leaves([1, 1, 2, 3, 3, 1], 6, 4, [1, 2, 3, 1, 0, 0]));
+    let repeats = ArrayVec::from_array([1, 1, 2, 3, 3, 1]);
+    let none = ArrayVec::from_array_empty([0, 0, 0]);
+    let no_slots = ArrayVec::from_array([]);
+    let mut wrong = 0;
+    wrong = first(wrong, 1, dedup_leaves(repeats, &[1, 2, 3, 1], &[0, 0]));
+    wrong = first(wrong, 2, dedup_leaves(none, &[], &[0, 0, 0]));
+    wrong = first(wrong, 3, dedup_leaves(no_slots, &[], &[]));
+    wrong = first(
+        wrong,
+        4,
+        dedup_leaves(ArrayVec::from_array_len([7, 8], 1), &[7], &[8]),
+    );
+    wrong = first(
+        wrong,
+        5,
+        dedup_leaves(ArrayVec::from_array([1, 2, 1]), &[1, 2, 1], &[]),
+    );
+    assert!(rt; wrong == 0, "step {wrong}");
+}
+
+fn is_one_more(current: &mut i32, last: &mut i32) -> bool {
+    *current == last.wrapping_add(1)
+}
+
+fn tenth_part(x: &mut i32) -> i32 {
+    *x / 10
 }
 
 #[test]
-fn dedup_of_no_item_one_and_no_repeat(rt: HostRuntime) {
-    assert!(rt; dedup_leaves([0, 0, 0], 0, 0, [0, 0, 0]));
-    assert!(rt; dedup_leaves([], 0, 0, []));
-    assert!(rt; dedup_leaves([7, 8], 1, 1, [7, 8]));
-    assert!(rt; dedup_leaves([1, 2, 1], 3, 3, [1, 2, 1]));
-}
-
-#[test]
-fn dedup_by_asks_for_the_current_item_and_the_last_kept(rt: HostRuntime) {
-    let mut vec = ArrayVec::from_array([1i32, 2, 3, 5]);
-    vec.dedup_by(|current, last| *current == last.wrapping_add(1));
-    assert!(rt; vec.len() == 3);
-    assert_items!(rt; vec.as_slice(), [1, 3, 5]);
-    assert_items!(rt; &vec.into_inner(), [1, 3, 5, 0]);
+fn dedup_by_the_last_item_kept_and_by_key(rt: HostRuntime) {
+    let mut more = ArrayVec::from_array([1, 2, 3, 5]);
+    more.dedup_by(is_one_more);
+    let mut parts = ArrayVec::from_array([1, 2, 3, 10, 11]);
+    parts.dedup_by_key(tenth_part);
+    let mut wrong = 0;
+    wrong = first(wrong, 1, holds(&more, &[1, 3, 5], &[0]));
+    wrong = first(wrong, 2, holds(&parts, &[1, 10], &[0, 0, 0]));
+    assert!(rt; wrong == 0, "step {wrong}");
 }
 
 /// A repeat is added to the last item kept, and the others are counted.
@@ -141,34 +150,14 @@ fn dedup_by_leaves_the_items_as_it_wrote_them(rt: HostRuntime) {
         *current = current.wrapping_add(2);
         false
     });
-    assert_items!(rt; vec.as_slice(), [11, 24, 32, 11]);
-    assert!(rt; asked == 6);
-    assert_items!(rt; &vec.into_inner(), [11, 24, 32, 11, 0, 0, 0]);
-}
-
-#[test]
-fn dedup_by_key_with_the_tenth_part(rt: HostRuntime) {
-    let mut vec = ArrayVec::from_array([1, 2, 3, 10, 11]);
-    vec.dedup_by_key(|x| *x / 10);
-    assert_items!(rt; vec.as_slice(), [1, 10]);
-    assert_items!(rt; &vec.into_inner(), [1, 10, 0, 0, 0]);
-}
-
-/// Of the two keys, that of the current item is asked for first.
-#[test]
-fn dedup_by_key_asks_for_the_current_items_key_first(rt: HostRuntime) {
-    let mut asked: ArrayVec<[u8; 8]> = ArrayVec::new();
-    let mut vec = ArrayVec::from_array([10u8, 12, 25, 27]);
-    vec.dedup_by_key(|x| {
-        let _full = asked.try_push(*x);
-        *x / 10
-    });
-    assert_items!(rt; vec.as_slice(), [10, 25]);
-    assert_items!(rt; asked.as_slice(), [12, 10, 25, 10, 27, 25]);
+    let mut wrong = 0;
+    wrong = first(wrong, 1, holds(&vec, &[11, 24, 32, 11], &[0, 0, 0]));
+    wrong = first(wrong, 2, asked == 6);
+    assert!(rt; wrong == 0, "step {wrong}");
 }
 
 /// An item that can't be copied, and whose default is not made of zeros.
-#[derive(PartialEq, Debug, Drop)]
+#[derive(PartialEq, Drop)]
 struct Name {
     letter: u8,
 }
@@ -189,21 +178,31 @@ fn names(letters: [u8; 4]) -> ArrayVec<[Name; 4]> {
     ])
 }
 
-fn holds(vec: ArrayVec<[Name; 4]>, letters: [u8; 4]) -> bool {
+fn are(vec: ArrayVec<[Name; 4]>, letters: [u8; 4]) -> bool {
     vec.into_inner() == names(letters).into_inner()
+}
+
+fn is_no_a(name: &Name) -> bool {
+    name.letter != b'a'
+}
+
+fn is_b(name: &mut Name) -> bool {
+    name.letter == b'b'
 }
 
 #[test]
 fn emptied_slots_hold_the_items_default(rt: HostRuntime) {
     let mut vec = names(*b"abca");
-    vec.retain(|name| name.letter != b'a');
-    assert!(rt; holds(vec, *b"bc??"));
+    vec.retain(is_no_a);
     let mut repeats = names(*b"aabb");
     repeats.dedup();
-    assert!(rt; holds(repeats, *b"ab??"));
     let mut keys = names(*b"abba");
-    keys.dedup_by_key(|name| name.letter == b'b');
-    assert!(rt; holds(keys, *b"aba?"));
+    keys.dedup_by_key(is_b);
+    let mut wrong = 0;
+    wrong = first(wrong, 1, are(vec, *b"bc??"));
+    wrong = first(wrong, 2, are(repeats, *b"ab??"));
+    wrong = first(wrong, 3, are(keys, *b"aba?"));
+    assert!(rt; wrong == 0, "step {wrong}");
 }
 
 /// Items without bytes.
@@ -215,28 +214,33 @@ fn filters_items_without_bytes(rt: HostRuntime) {
         count = count.wrapping_add(1);
         count != 3
     });
-    assert!(rt; vec.len() == 3);
+    let mut wrong = first(0, 1, vec.len() == 3);
     vec.dedup();
-    assert!(rt; vec.len() == 1);
+    wrong = first(wrong, 2, vec.len() == 1);
+    assert!(rt; wrong == 0, "step {wrong}");
 }
 
-// A filter whose closure answers the same for each item: that it stays, or that it repeats another.
+// A filter, and what its closure answers.
 #[derive(Clone, Copy)]
 enum Filter {
-    Retain(bool),
+    // Which items stay.
+    Retain(&'static [bool]),
+    // The same for each item: that it stays, or that it repeats another.
     RetainMut(bool),
     DedupBy(bool),
-    DedupByKey(bool),
+    // By what the key of an item is divided.
+    DedupByKey(u8),
 }
 
 use Filter::{DedupBy, DedupByKey, Retain, RetainMut};
 
 impl Filter {
     // Filters, and answers which items it asked about.
-    fn asks(self, vec: &mut ArrayVec<[u8; 4]>) -> ArrayVec<[u8; 8]> {
+    fn asks<A: Array<Item = u8>>(self, vec: &mut ArrayVec<A>) -> ArrayVec<[u8; 8]> {
         let mut asked: ArrayVec<[u8; 8]> = ArrayVec::new();
         match self {
-            Retain(stays) => vec.retain(|x| {
+            Retain(stay) => vec.retain(|x| {
+                let stays = stay.get(asked.len()) == Some(&true);
                 let _full = asked.try_push(*x);
                 stays
             }),
@@ -249,26 +253,44 @@ impl Filter {
                 let _full = asked.try_push(*last);
                 repeats
             }),
-            DedupByKey(repeats) => vec.dedup_by_key(|x| {
+            DedupByKey(divisor) => vec.dedup_by_key(|x| {
                 let _full = asked.try_push(*x);
-                if repeats { 0 } else { *x }
+                x.checked_div(divisor)
             }),
         }
         asked
+    }
+
+    // Whether it leaves these, and asks about those.
+    fn leaves<A: Array<Item = u8>>(self, mut vec: ArrayVec<A>, left: &[u8], wanted: &[u8]) -> bool {
+        let asked = self.asks(&mut vec);
+        (vec.as_slice() == left) & (asked.as_slice() == wanted)
+    }
+
+    // The same of the first items of four: how many are left, and `for_each` of those for each that is asked about.
+    fn counts(self, len: usize, left: usize, wanted: &[u8], for_each: usize) -> bool {
+        let mut vec = ArrayVec::from_array_len([1, 2, 3, 4], len.min(4));
+        let asked = self.asks(&mut vec);
+        let count = if for_each == 1 {
+            len
+        } else {
+            2_usize.wrapping_mul(len.saturating_sub(1))
+        };
+        (vec.len() == len.min(left)) & (Some(asked.as_slice()) == wanted.get(..count))
     }
 }
 
 // A filter of four items, how many it leaves, the items it asks about, and how many of these are for each item.
 const ASKED: [(Filter, usize, &[u8], usize); 8] = [
-    (Retain(false), 0, &[1, 2, 3, 4], 1),
-    (Retain(true), 4, &[1, 2, 3, 4], 1),
+    (Retain(&[false; 4]), 0, &[1, 2, 3, 4], 1),
+    (Retain(&[true; 4]), 4, &[1, 2, 3, 4], 1),
     (RetainMut(false), 0, &[1, 2, 3, 4], 1),
     (RetainMut(true), 4, &[1, 2, 3, 4], 1),
     // Each item after the first, beside the last one kept.
     (DedupBy(true), 1, &[2, 1, 3, 1, 4, 1], 2),
     (DedupBy(false), 4, &[2, 1, 3, 2, 4, 3], 2),
-    (DedupByKey(true), 1, &[2, 1, 3, 1, 4, 1], 2),
-    (DedupByKey(false), 4, &[2, 1, 3, 2, 4, 3], 2),
+    (DedupByKey(255), 1, &[2, 1, 3, 1, 4, 1], 2),
+    (DedupByKey(1), 4, &[2, 1, 3, 2, 4, 3], 2),
 ];
 
 /// Each of no item, of one and of more is asked about once. Where repeats are removed, the first is not.
@@ -276,20 +298,31 @@ const ASKED: [(Filter, usize, &[u8], usize); 8] = [
 fn asks_about_each_item_once(rt: HostRuntime) {
     for (at, (filter, left, wanted, for_each)) in ASKED.iter().enumerate() {
         for len in 0..=4 {
-            let mut vec = ArrayVec::from_array_len([1, 2, 3, 4], len);
-            let asked = filter.asks(&mut vec);
-            let items = if *for_each == 1 {
-                len
-            } else {
-                2 * len.saturating_sub(1)
-            };
-            let wanted = wanted.get(..items);
             assert!(rt;
-                vec.len() == len.min(*left) && Some(asked.as_slice()) == wanted,
+                filter.counts(len, *left, wanted, *for_each),
                 "row {at}, {len} items"
             );
         }
     }
+}
+
+/// Whatever the answers. Of two keys, that of the current item is asked for first.
+#[test]
+fn asks_in_order(rt: HostRuntime) {
+    let five = ArrayVec::from_array([3, 1, 3, 2, 2]);
+    let four = ArrayVec::from_array([10, 12, 25, 27]);
+    let mut wrong = 0;
+    wrong = first(
+        wrong,
+        1,
+        Retain(&[true, false, true, false, true]).leaves(five, &[3, 3, 2], &[3, 1, 3, 2, 2]),
+    );
+    wrong = first(
+        wrong,
+        2,
+        DedupByKey(10).leaves(four, &[10, 25], &[12, 10, 25, 10, 27, 25]),
+    );
+    assert!(rt; wrong == 0, "step {wrong}");
 }
 
 /// A letter that counts how often it was compared.
@@ -319,8 +352,8 @@ fn lettered(letter: u8, compared: &Cell<u8>) -> Counted<'_> {
     }
 }
 
-// How many of the first letters are left when repeats are removed, and how many were compared.
-fn compares(letters: [u8; 3], count: usize) -> (usize, u8) {
+// Whether so many of the first letters are left when repeats are removed, and so many comparisons were made.
+fn compares(letters: [u8; 3], count: usize, left: usize, comparisons: u8) -> bool {
     let compared = Cell::new(0);
     let [a, b, c] = letters;
     let slots = [
@@ -328,21 +361,21 @@ fn compares(letters: [u8; 3], count: usize) -> (usize, u8) {
         lettered(b, &compared),
         lettered(c, &compared),
     ];
-    let Ok(mut vec) = ArrayVec::try_from_array_len(slots, count) else {
-        return (usize::MAX, 0);
-    };
+    let mut vec = ArrayVec::from_array_len(slots, count.min(3));
     vec.dedup();
-    (vec.len(), compared.get())
+    (vec.len() == left) & (compared.get() == comparisons)
 }
 
 #[test]
 fn dedup_compares_each_item_after_the_first(rt: HostRuntime) {
-    for (letters, most, compared) in [(*b"aaa", 1, [0, 0, 1, 2]), (*b"abc", 3, [0, 0, 1, 2])] {
-        for (count, comparisons) in compared.iter().enumerate() {
-            assert!(rt;
-                compares(letters, count) == (count.min(most), *comparisons),
-                "{count} letters"
-            );
-        }
-    }
+    let mut wrong = 0;
+    wrong = first(wrong, 1, compares(*b"aaa", 0, 0, 0));
+    wrong = first(wrong, 2, compares(*b"aaa", 1, 1, 0));
+    wrong = first(wrong, 3, compares(*b"aaa", 2, 1, 1));
+    wrong = first(wrong, 4, compares(*b"aaa", 3, 1, 2));
+    wrong = first(wrong, 5, compares(*b"abc", 0, 0, 0));
+    wrong = first(wrong, 6, compares(*b"abc", 1, 1, 0));
+    wrong = first(wrong, 7, compares(*b"abc", 2, 2, 1));
+    wrong = first(wrong, 8, compares(*b"abc", 3, 3, 2));
+    assert!(rt; wrong == 0, "step {wrong}");
 }

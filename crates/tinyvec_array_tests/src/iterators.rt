@@ -1,10 +1,9 @@
 //! Iteration, and the list moved into a `Vec`.
-use crate::taking::Step;
-use crate::taking::Step::{Back, Front, Left, NoBack, NoFront, Nth, NthBack};
 use std::alloc::{AllocError, Global};
 use std::test::Fail;
 use tinyvec_array::{Array, ArrayVec, ArrayVecIterator};
-use tinyvec_test_items::{assert_is, assert_items};
+use tinyvec_test_items::arrays::holds;
+use tinyvec_test_items::{answers, first, is_left, yields, yields_back};
 
 // A vector of the first numbers over zeros.
 fn counted(last: i32) -> ArrayVec<[i32; 10]> {
@@ -13,200 +12,152 @@ fn counted(last: i32) -> ArrayVec<[i32; 10]> {
     vec
 }
 
-#[test]
-fn iteration(rt: HostRuntime) {
-    let vec = ArrayVec::from_array([10i32, 11, 12, 13]);
-    let mut negated = vec;
-    for x in &mut negated {
+fn negate<A: Array<Item = i32>>(v: &mut ArrayVec<A>) {
+    for x in v {
         *x = x.wrapping_neg();
     }
-    assert_items!(rt; negated.as_slice(), [-10, -11, -12, -13]);
-    assert!(rt;
-        vec.iter()
-            .zip(&negated)
-            .all(|(&a, &b)| a == b.wrapping_neg())
-    );
+}
+
+// Whether each item of both, by turns, is the other's negative.
+fn are_negatives<A: Array<Item = i32>>(v: &ArrayVec<A>, w: &ArrayVec<A>) -> bool {
+    let mut are = v.len() == w.len();
+    for (x, y) in v.iter().zip(w) {
+        are = are & (*x == y.wrapping_neg());
+    }
+    are
+}
+
+// Adds 10 to each item, and doubles each from the back.
+fn add_and_double<A: Array<Item = i32>>(v: &mut ArrayVec<A>) {
+    for x in v.iter_mut() {
+        *x = x.wrapping_add(10);
+    }
+    for x in v.iter_mut().rev() {
+        *x = x.wrapping_mul(2);
+    }
 }
 
 #[test]
-fn writes_leave_the_spare_slots(rt: HostRuntime) {
-    let mut vec = ArrayVec::from_array_len([1i32, 2, 3, 8, 9], 3);
-    for x in vec.iter_mut() {
-        *x = x.wrapping_add(10);
-    }
-    for x in vec.iter_mut().rev() {
-        *x = x.wrapping_mul(2);
-    }
-    assert!(rt; vec.len() == 3);
-    assert_items!(rt; vec.as_inner(), [22, 24, 26, 8, 9]);
+fn iteration(rt: HostRuntime) {
+    let vec = ArrayVec::from_array([10, 11, 12, 13]);
+    let mut negated = vec;
+    negate(&mut negated);
+    let mut doubled = ArrayVec::from_array_len([1, 2, 3, 8, 9], 3);
+    add_and_double(&mut doubled);
+    let mut wrong = 0;
+    wrong = first(wrong, 1, holds(&negated, &[-10, -11, -12, -13], &[]));
+    wrong = first(wrong, 2, are_negatives(&vec, &negated));
+    wrong = first(wrong, 3, holds(&doubled, &[22, 24, 26], &[8, 9]));
+    assert!(rt; wrong == 0, "step {wrong}");
 }
 
-fn answers<A: Array<Item = i32>>(items: &mut ArrayVecIterator<A>, steps: &[Step]) -> bool {
-    let mut answers = true;
-    for step in steps {
-        let answer = match *step {
-            Front(item) => items.next() == Some(item),
-            Back(item) => items.next_back() == Some(item),
-            NoFront => items.next() == None,
-            NoBack => items.next_back() == None,
-            Nth(count, item) => items.nth(count) == item,
-            NthBack(count, item) => items.nth_back(count) == item,
-            Left(count) => items.len() == count && items.size_hint() == (count, Some(count)),
-        };
-        answers = answers && answer;
-    }
-    answers
+#[test]
+fn from_the_front(rt: HostRuntime) {
+    let items = ArrayVec::from_array([10, 11, 12, 13]).into_iter();
+    let given = [Some(10), Some(11), Some(12), Some(13), None];
+    assert!(rt; answers(items, &given));
 }
-
-// An array, and what an iterator of its items is asked.
-const TAKEN: [([i32; 4], &[Step]); 3] = [
-    (
-        [10, 11, 12, 13],
-        &[Front(10), Front(11), Front(12), Front(13), NoFront],
-    ),
-    (
-        [1, 2, 3, 4],
-        &[
-            Left(4),
-            Front(1),
-            Back(4),
-            Left(2),
-            Front(2),
-            Back(3),
-            NoFront,
-            NoBack,
-            Left(0),
-        ],
-    ),
-    ([1, 2, 3, 4], &[Nth(usize::MAX, None), NoFront, NoBack]),
-];
 
 #[test]
 fn both_ends(rt: HostRuntime) {
-    for (at, (array, steps)) in TAKEN.iter().enumerate() {
-        let mut items = ArrayVec::from_array(*array).into_iter();
-        assert!(rt; answers(&mut items, steps), "row {at}");
-    }
+    let mut items = ArrayVec::from_array([1, 2, 3, 4]).into_iter();
+    let mut wrong = 0;
+    wrong = first(wrong, 1, is_left(&items, 4));
+    wrong = first(wrong, 2, yields(&mut items, Some(1)));
+    wrong = first(wrong, 3, yields_back(&mut items, Some(4)));
+    wrong = first(wrong, 4, items.as_slice() == [2, 3].as_slice());
+    wrong = first(wrong, 5, is_left(&items, 2));
+    wrong = first(wrong, 6, yields(&mut items, Some(2)));
+    wrong = first(wrong, 7, yields_back(&mut items, Some(3)));
+    wrong = first(wrong, 8, yields(&mut items, None));
+    wrong = first(wrong, 9, yields_back(&mut items, None));
+    wrong = first(wrong, 10, is_left(&items, 0));
+    wrong = first(wrong, 11, items.last() == None);
+    assert!(rt; wrong == 0, "step {wrong}");
 }
 
 #[test]
-fn left_as_a_slice(rt: HostRuntime) {
-    let mut items = counted(4).into_iter();
-    assert_is!(rt; items.next(), Some(1));
-    assert_is!(rt; items.next_back(), Some(4));
-    assert_items!(rt; items.as_slice(), [2, 3]);
-}
-
-#[test]
-fn skips_from_the_back(rt: HostRuntime) {
+fn skips(rt: HostRuntime) {
+    let mut items = ArrayVec::from_array([1, 2, 3, 4]).into_iter();
     let mut vec = ArrayVec::<[i32; 32]>::new();
     let _rest = vec.fill(0..32);
-    let steps = [
-        NthBack(0, Some(31)),
-        NthBack(2, Some(28)),
-        NthBack(0, Some(27)),
-        NthBack(99, None),
-        NthBack(99, None),
-    ];
-    assert!(rt; answers(&mut vec.into_iter(), &steps));
+    let mut many = vec.into_iter();
+    let mut wrong = 0;
+    wrong = first(wrong, 1, items.nth(usize::MAX) == None);
+    wrong = first(wrong, 2, yields(&mut items, None));
+    wrong = first(wrong, 3, yields_back(&mut items, None));
+    wrong = first(wrong, 4, many.nth_back(0) == Some(31));
+    wrong = first(wrong, 5, many.nth_back(2) == Some(28));
+    wrong = first(wrong, 6, many.nth_back(0) == Some(27));
+    wrong = first(wrong, 7, many.nth_back(99) == None);
+    wrong = first(wrong, 8, many.nth_back(99) == None);
+    assert!(rt; wrong == 0, "step {wrong}");
 }
 
 #[test]
 fn last_and_count(rt: HostRuntime) {
-    assert_is!(rt; counted(3).into_iter().next(), Some(1));
-    assert_is!(rt; counted(3).into_iter().last(), Some(3));
-    assert_is!(rt; counted(3).into_iter().count(), 3);
-}
-
-#[test]
-fn last_of_none_left(rt: HostRuntime) {
-    let mut items = counted(4).into_iter();
-    let steps = [Front(1), Front(2), Front(3), Front(4), NoFront];
-    assert!(rt; answers(&mut items, &steps));
-    assert_is!(rt; items.last(), None);
+    let none: ArrayVecIterator<[u8; 0]> = ArrayVec::new().into_iter();
+    let mut wrong = 0;
+    wrong = first(wrong, 1, counted(3).into_iter().next() == Some(1));
+    wrong = first(wrong, 2, counted(3).into_iter().last() == Some(3));
+    wrong = first(wrong, 3, counted(3).into_iter().count() == 3);
+    wrong = first(wrong, 4, counted(0).into_iter().last() == None);
+    wrong = first(wrong, 5, none.as_slice().is_empty());
+    assert!(rt; wrong == 0, "step {wrong}");
 }
 
 #[test]
 fn through_bounds(rt: HostRuntime) -> Result<(), Fail> {
     let mut gathered: Vec<i32> = counted(3).into_iter().rev().collect(rt.alloc())?;
     gathered.extend(ArrayVec::from_array([4, 5]))?;
-    assert_items!(rt; gathered.as_slice(), [3, 2, 1, 4, 5]);
+    assert!(rt; gathered.as_slice() == [3, 2, 1, 4, 5].as_slice());
     Ok(())
 }
 
-#[test]
-fn no_slots(rt: HostRuntime) {
-    let none: ArrayVecIterator<[u8; 0]> = ArrayVec::new().into_iter();
-    assert!(rt; none.as_slice().is_empty());
+// Whether a `Vec` of three items and room for so many came out, and leaves these slots.
+fn drains(list: Vec<i32>, room: usize, v: &ArrayVec<[i32; 7]>, slots: &[i32]) -> bool {
+    let given = (list.as_slice() == [1, 2, 3].as_slice()) & (list.capacity() >= room);
+    given & holds(v, &[], slots)
 }
 
-// The calls that move a list into a `Vec`, some of them with room for more items.
-#[derive(Clone, Copy)]
-enum ToVec {
-    Drain,
-    TryDrain,
-    DrainAndReserve(usize),
-    TryDrainAndReserve(usize),
+fn is_nothing(list: Vec<i32>) -> bool {
+    list.is_empty()
 }
-
-use ToVec::{Drain, DrainAndReserve, TryDrain, TryDrainAndReserve};
-
-fn moved<A: Array>(
-    alloc: Global,
-    v: &mut ArrayVec<A>,
-    call: ToVec,
-) -> Result<Vec<A::Item>, AllocError> {
-    match call {
-        Drain => v.drain_to_vec(alloc),
-        TryDrain => v.try_drain_to_vec(alloc),
-        DrainAndReserve(count) => v.drain_to_vec_and_reserve(alloc, count),
-        TryDrainAndReserve(count) => v.try_drain_to_vec_and_reserve(alloc, count),
-    }
-}
-
-// Slots of which the first three hold the list, the call, the least room that the `Vec` has then, and the slots after.
-const MOVED: [([i32; 7], ToVec, usize, [i32; 7]); 3] = [
-    (
-        [1, 2, 3, 0, 0, 0, 0],
-        DrainAndReserve(10),
-        13,
-        [0, 0, 0, 0, 0, 0, 0],
-    ),
-    ([1, 2, 3, 9, 9, 9, 9], Drain, 3, [0, 0, 0, 9, 9, 9, 9]),
-    (
-        [1, 2, 3, 9, 9, 9, 9],
-        TryDrainAndReserve(10),
-        13,
-        [0, 0, 0, 9, 9, 9, 9],
-    ),
-];
 
 #[test]
 fn drains_to_vec(rt: HostRuntime) -> Result<(), Fail> {
-    for (at, (slots, call, room, left)) in MOVED.iter().enumerate() {
-        let mut vec = ArrayVec::from_array_len(*slots, 3);
-        let list = moved(rt.alloc(), &mut vec, *call)?;
-        assert!(rt;
-            list.as_slice() == [1, 2, 3].as_slice() && list.capacity() >= *room,
-            "row {at}"
-        );
-        assert!(rt; vec.is_empty() && vec.as_inner() == left, "row {at}");
-        assert!(rt;
-            moved(rt.alloc(), &mut vec, TryDrain)?.is_empty(),
-            "row {at}"
-        );
-    }
+    let alloc = rt.alloc();
+    let mut v = ArrayVec::from_array_len([1, 2, 3, 0, 0, 0, 0], 3);
+    let mut w = ArrayVec::from_array_len([1, 2, 3, 9, 9, 9, 9], 3);
+    let mut x = w;
+    let from_v = v.drain_to_vec_and_reserve(alloc, 10)?;
+    let from_w = w.drain_to_vec(alloc)?;
+    let from_x = x.try_drain_to_vec_and_reserve(alloc, 10)?;
+    let mut wrong = 0;
+    wrong = first(wrong, 1, drains(from_v, 13, &v, &[0, 0, 0, 0, 0, 0, 0]));
+    wrong = first(wrong, 2, drains(from_w, 3, &w, &[0, 0, 0, 9, 9, 9, 9]));
+    wrong = first(wrong, 3, drains(from_x, 13, &x, &[0, 0, 0, 9, 9, 9, 9]));
+    wrong = first(wrong, 4, is_nothing(v.try_drain_to_vec(alloc)?));
+    wrong = first(wrong, 5, is_nothing(w.try_drain_to_vec(alloc)?));
+    wrong = first(wrong, 6, is_nothing(x.try_drain_to_vec(alloc)?));
+    assert!(rt; wrong == 0, "step {wrong}");
     Ok(())
+}
+
+// Whether room for as many more items as there are numbers is refused, by both calls, and all items stay.
+fn refuses_all_room<A: Array>(alloc: Global, v: &mut ArrayVec<A>, len: usize) -> bool {
+    let first_error = v.drain_to_vec_and_reserve(alloc, usize::MAX).err();
+    let second_error = v.try_drain_to_vec_and_reserve(alloc, usize::MAX).err();
+    (first_error == Some(AllocError)) & (second_error == Some(AllocError)) & (v.len() == len)
 }
 
 #[test]
 fn room_past_the_greatest_number(rt: HostRuntime) {
-    let mut vec = ArrayVec::from_array_len([1i32, 7, 7, 7], 1);
+    let mut vec = ArrayVec::from_array_len([1, 7, 7, 7], 1);
     let mut units = ArrayVec::from_array([(), ()]);
-    for call in [DrainAndReserve(usize::MAX), TryDrainAndReserve(usize::MAX)] {
-        assert_is!(rt; moved(rt.alloc(), &mut vec, call).err(), Some(AllocError));
-        assert!(rt; vec.len() == 1 && *vec.as_inner() == [1, 7, 7, 7]);
-        assert!(rt; moved(rt.alloc(), &mut units, call).is_err());
-        assert!(rt; units.len() == 2);
-    }
+    let mut wrong = 0;
+    wrong = first(wrong, 1, refuses_all_room(rt.alloc(), &mut vec, 1));
+    wrong = first(wrong, 2, holds(&vec, &[1], &[7, 7, 7]));
+    wrong = first(wrong, 3, refuses_all_room(rt.alloc(), &mut units, 2));
+    assert!(rt; wrong == 0, "step {wrong}");
 }

@@ -2,6 +2,8 @@
 #![tactic(auto)]
 
 #[cfg(test)]
+mod asking;
+#[cfg(test)]
 mod clones;
 #[cfg(test)]
 mod comparing;
@@ -29,7 +31,5 @@ mod printing;
 mod range_forms;
 #[cfg(test)]
 mod splices;
-#[cfg(test)]
-mod taking;
 #[cfg(test)]
 mod writing;

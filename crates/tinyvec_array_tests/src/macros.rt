@@ -1,42 +1,49 @@
 //! `array_vec!` in its forms.
 use tinyvec_array::{ArrayVec, array_vec};
-use tinyvec_test_items::assert_items;
+use tinyvec_test_items::arrays::holds;
+use tinyvec_test_items::first;
 
 #[test]
 fn of_a_named_array(rt: HostRuntime) {
-    let v = array_vec!([i32; 4] => 1, 2);
-    assert_items!(rt; v.as_slice(), [1, 2]);
-    assert_items!(rt; &v.into_inner(), [1, 2, 0, 0]);
-    let trailing = array_vec!([i32; 4] => 1, 2,);
-    assert_items!(rt; trailing.as_slice(), [1, 2]);
-    let none_listed = array_vec!([i32; 4] =>);
-    assert!(rt; none_listed.is_empty());
-    let none = array_vec!([i32; 4]);
-    assert!(rt; none.is_empty());
-    assert_items!(rt; &none.into_inner(), [0, 0, 0, 0]);
-    let full = array_vec!([i32; 2] => 1, 2);
-    assert!(rt; full.is_full());
+    let mut wrong = 0;
+    wrong = first(
+        wrong,
+        1,
+        holds(&array_vec!([i32; 4] => 1, 2), &[1, 2], &[0, 0]),
+    );
+    wrong = first(
+        wrong,
+        2,
+        holds(&array_vec!([i32; 4] => 1, 2,), &[1, 2], &[0, 0]),
+    );
+    wrong = first(
+        wrong,
+        3,
+        holds(&array_vec!([i32; 4] =>), &[], &[0, 0, 0, 0]),
+    );
+    wrong = first(wrong, 4, holds(&array_vec!([i32; 4]), &[], &[0, 0, 0, 0]));
+    wrong = first(wrong, 5, holds(&array_vec!([i32; 2] => 1, 2), &[1, 2], &[]));
+    assert!(rt; wrong == 0, "step {wrong}");
 }
 
 #[test]
 fn of_the_place_of_the_call(rt: HostRuntime) {
     let v: ArrayVec<[i32; 4]> = array_vec!(1, 2);
-    assert_items!(rt; v.as_slice(), [1, 2]);
-    assert_items!(rt; &v.into_inner(), [1, 2, 0, 0]);
     let trailing: ArrayVec<[u8; 3]> = array_vec!(1, 2,);
-    assert_items!(rt; trailing.as_slice(), [1, 2]);
     let none: ArrayVec<[i32; 4]> = array_vec!();
-    assert!(rt; none.is_empty());
-    assert!(rt; none.capacity() == 4);
+    let mut wrong = 0;
+    wrong = first(wrong, 1, holds(&v, &[1, 2], &[0, 0]));
+    wrong = first(wrong, 2, holds(&trailing, &[1, 2], &[0]));
+    wrong = first(wrong, 3, holds(&none, &[], &[0, 0, 0, 0]));
+    assert!(rt; wrong == 0, "step {wrong}");
 }
 
 #[test]
 fn of_one_value(rt: HostRuntime) {
-    let v = array_vec!(5; 3);
-    assert!(rt; v.is_full());
-    assert_items!(rt; &v.into_inner(), [5, 5, 5]);
-    let none = array_vec!(5u8; 0);
-    assert!(rt; none.capacity() == 0);
+    let mut wrong = 0;
+    wrong = first(wrong, 1, holds(&array_vec!(5; 3), &[5, 5, 5], &[]));
+    wrong = first(wrong, 2, holds(&array_vec!(5u8; 0), &[], &[]));
+    assert!(rt; wrong == 0, "step {wrong}");
 }
 
 #[test]
@@ -45,8 +52,10 @@ fn as_if_pushed(rt: HostRuntime) {
     pushed.push(1);
     pushed.push(2);
     pushed.push(3);
-    assert!(rt; pushed == array_vec!(1, 2, 3));
-    assert!(rt; pushed == array_vec!([i32; 8] => 1, 2, 3));
+    let mut wrong = 0;
+    wrong = first(wrong, 1, pushed == array_vec!(1, 2, 3));
+    wrong = first(wrong, 2, pushed == array_vec!([i32; 8] => 1, 2, 3));
+    assert!(rt; wrong == 0, "step {wrong}");
 }
 
 fn count(calls: &mut u8) -> u8 {
@@ -58,10 +67,12 @@ fn count(calls: &mut u8) -> u8 {
 fn items_are_made_once_and_in_order(rt: HostRuntime) {
     let mut calls = 0;
     let v = array_vec!([u8; 4] => count(&mut calls), count(&mut calls), count(&mut calls));
-    assert_items!(rt; v.as_slice(), [1, 2, 3]);
     let w: ArrayVec<[u8; 2]> = array_vec!(count(&mut calls), count(&mut calls));
-    assert_items!(rt; w.as_slice(), [4, 5]);
     let same = array_vec!(count(&mut calls); 2);
-    assert_items!(rt; same.as_slice(), [6, 6]);
-    assert!(rt; calls == 6);
+    let mut wrong = 0;
+    wrong = first(wrong, 1, holds(&v, &[1, 2, 3], &[0]));
+    wrong = first(wrong, 2, holds(&w, &[4, 5], &[]));
+    wrong = first(wrong, 3, holds(&same, &[6, 6], &[]));
+    wrong = first(wrong, 4, calls == 6);
+    assert!(rt; wrong == 0, "step {wrong}");
 }

@@ -1,10 +1,17 @@
 //! Tests of what makes a vector, and of what tells its shape.
 use tinyvec_array::{Array, ArrayVec};
-use tinyvec_test_items::{assert_is, assert_items};
+use tinyvec_test_items::first;
 
-// The length, the capacity, and whether it is empty and full.
-fn shape<A: Array>(v: &ArrayVec<A>) -> (usize, usize, bool, bool) {
-    (v.len(), v.capacity(), v.is_empty(), v.is_full())
+// Whether the list has so many items and the array so many slots, and it is empty or full.
+fn is_shaped<A: Array>(
+    v: &ArrayVec<A>,
+    len: usize,
+    capacity: usize,
+    is_empty: bool,
+    is_full: bool,
+) -> bool {
+    let counts = (v.len() == len) & (v.capacity() == capacity);
+    counts & (v.is_empty() == is_empty) & (v.is_full() == is_full)
 }
 
 #[test]
@@ -14,65 +21,82 @@ fn shapes(rt: HostRuntime) {
     let into: ArrayVec<[i32; 3]> = [1, 2, 3].into();
     let no_slots: ArrayVec<[i32; 0]> = ArrayVec::new();
     let one_slot: ArrayVec<[i32; 1]> = ArrayVec::new();
-    for (name, got, want) in [
-        ("new", shape(&new), (0, 3, true, false)),
-        ("default", shape(&default), (0, 3, true, false)),
-        (
-            "from_array",
-            shape(&ArrayVec::from_array([1, 2, 3])),
-            (3, 3, false, true),
-        ),
-        (
-            "from",
-            shape(&ArrayVec::from([1, 2, 3])),
-            (3, 3, false, true),
-        ),
-        ("into", shape(&into), (3, 3, false, true)),
-        (
-            "from_array_len",
-            shape(&ArrayVec::from_array_len([1, 2, 3], 2)),
-            (2, 3, false, false),
-        ),
-        (
-            "from_array_empty",
-            shape(&ArrayVec::from_array_empty([1, 2, 3])),
-            (0, 3, true, false),
-        ),
-        ("no slots", shape(&no_slots), (0, 0, true, true)),
-        ("one slot", shape(&one_slot), (0, 1, true, false)),
-        (
-            "one item",
-            shape(&ArrayVec::from_array([1])),
-            (1, 1, false, true),
-        ),
-    ] {
-        assert!(rt; got == want, "{name}");
-    }
+    let part = ArrayVec::from_array_len([1, 2, 3], 2);
+    let empty = ArrayVec::from_array_empty([1, 2, 3]);
+    let mut wrong = 0;
+    wrong = first(wrong, 1, is_shaped(&new, 0, 3, true, false));
+    wrong = first(wrong, 2, is_shaped(&default, 0, 3, true, false));
+    wrong = first(
+        wrong,
+        3,
+        is_shaped(&ArrayVec::from_array([1, 2, 3]), 3, 3, false, true),
+    );
+    wrong = first(
+        wrong,
+        4,
+        is_shaped(&ArrayVec::from([1, 2, 3]), 3, 3, false, true),
+    );
+    wrong = first(wrong, 5, is_shaped(&into, 3, 3, false, true));
+    wrong = first(wrong, 6, is_shaped(&part, 2, 3, false, false));
+    wrong = first(wrong, 7, is_shaped(&empty, 0, 3, true, false));
+    wrong = first(wrong, 8, is_shaped(&no_slots, 0, 0, true, true));
+    wrong = first(wrong, 9, is_shaped(&one_slot, 0, 1, true, false));
+    wrong = first(
+        wrong,
+        10,
+        is_shaped(&ArrayVec::from_array([1]), 1, 1, false, true),
+    );
+    assert!(rt; wrong == 0, "step {wrong}");
+}
+
+// Whether these are the items, these the spare slots, and these both as they lie in the array.
+fn lies<const N: usize>(
+    v: ArrayVec<[i32; N]>,
+    items: &[i32],
+    spare: &[i32],
+    slots: &[i32],
+) -> bool {
+    let parts = (v.as_slice() == items) & (v.grab_spare_slice() == spare);
+    parts & (v.as_inner().as_slice() == slots) & (v.into_inner().as_slice() == slots)
 }
 
 #[test]
 fn slots(rt: HostRuntime) {
-    let new: ArrayVec<[i32; 3]> = ArrayVec::new();
-    assert_items!(rt; new.as_inner(), [0, 0, 0]);
-    let empty = ArrayVec::from_array_empty([1, 2, 3]);
-    assert_items!(rt; empty.as_slice(), []);
-    assert_items!(rt; empty.as_inner(), [1, 2, 3]);
     let part = ArrayVec::from_array_len([1, 2, 3], 2);
-    assert_items!(rt; part.as_slice(), [1, 2]);
-    assert_items!(rt; part.grab_spare_slice(), [3]);
-    assert_items!(rt; part.as_inner(), [1, 2, 3]);
-    assert_items!(rt; &part.into_inner(), [1, 2, 3]);
-    let full = ArrayVec::from([1, 2, 3]);
-    assert_items!(rt; full.as_slice(), [1, 2, 3]);
+    let empty = ArrayVec::from_array_empty([1, 2, 3]);
+    let mut wrong = 0;
+    wrong = first(
+        wrong,
+        1,
+        lies(ArrayVec::<[i32; 3]>::new(), &[], &[0, 0, 0], &[0, 0, 0]),
+    );
+    wrong = first(wrong, 2, lies(empty, &[], &[1, 2, 3], &[1, 2, 3]));
+    wrong = first(wrong, 3, lies(part, &[1, 2], &[3], &[1, 2, 3]));
+    wrong = first(
+        wrong,
+        4,
+        lies(ArrayVec::from([1, 2, 3]), &[1, 2, 3], &[], &[1, 2, 3]),
+    );
+    assert!(rt; wrong == 0, "step {wrong}");
+}
+
+fn is_seven(slot: &u8) -> bool {
+    *slot == 7
+}
+
+fn is_zero(slot: &u8) -> bool {
+    *slot == 0
 }
 
 #[test]
 fn many_slots(rt: HostRuntime) {
     let mut v = ArrayVec::from_array_len([7u8; 65536], 65536);
-    assert!(rt; shape(&v) == (65536, 65536, false, true));
-    assert!(rt; v.as_slice().iter().all(|x| *x == 7));
-    assert_is!(rt; v.try_push(8), Some(8));
-    assert_is!(rt; v.drain(1..).last(), Some(7));
-    assert_items!(rt; v.as_slice(), [7]);
-    assert!(rt; v.as_inner()[1..].iter().all(|x| *x == 0));
+    let mut wrong = 0;
+    wrong = first(wrong, 1, is_shaped(&v, 65536, 65536, false, true));
+    wrong = first(wrong, 2, v.as_slice().iter().all(is_seven));
+    wrong = first(wrong, 3, v.try_push(8) == Some(8));
+    wrong = first(wrong, 4, v.drain(1..).last() == Some(7));
+    wrong = first(wrong, 5, v.as_slice() == [7].as_slice());
+    wrong = first(wrong, 6, v.as_inner()[1..].iter().all(is_zero));
+    assert!(rt; wrong == 0, "step {wrong}");
 }

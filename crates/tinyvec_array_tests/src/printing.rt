@@ -4,10 +4,10 @@ ghost use Rattle.tinyvec_slots.specs.Slots.{items};
 ghost use Rattle.tinyvec_slots.specs.Texts.{list_in_radix};
 
 use std::fmt;
-use std::fmt::HasDigits;
-use std::test::Fail;
-use tinyvec_array::{Array, ArrayVec};
-use tinyvec_test_items::{assert_debugs, assert_is, assert_items, assert_shows};
+use std::fmt::{HasDigits, InlineText, Write};
+use tinyvec_array::{Array, ArrayVec, ArrayVecSplice};
+use tinyvec_test_items::arrays::holds;
+use tinyvec_test_items::{first, is_debugged, is_shown, yields, yields_back};
 
 // `{:x}`, `{:X}`, `{:o}` and `{:b}` write numbers alone, so a list needs a type that calls its trait.
 #[derive(Drop)]
@@ -66,111 +66,130 @@ where
     }
 }
 
+// Whether `{}` and `{:?}` write it so.
+fn reads<T: fmt::Display + fmt::Debug>(value: &T, text: &str) -> bool {
+    is_shown(value, text) & is_debugged(value, text)
+}
+
+// The same, once an item is pushed.
+fn pushed_reads(v: &mut ArrayVec<[i32; 4]>, item: i32, text: &str) -> bool {
+    v.try_push(item).is_none() & reads(v, text)
+}
+
 #[test]
-fn lists(rt: HostRuntime) -> Result<(), Fail> {
+fn lists(rt: HostRuntime) {
     let mut v = ArrayVec::from_array_empty([99, 99, 99, 99]);
-    assert_is!(rt; format!(in rt.alloc(); "{v} {v:?}")?.as_str(), "[] []");
-    v.push(10);
-    assert_is!(rt; format!(in rt.alloc(); "{v} {v:?}")?.as_str(), "[10] [10]");
-    v.push(11);
-    assert_is!(rt; format!(in rt.alloc(); "{v} {v:?}")?.as_str(), "[10, 11] [10, 11]");
-    v.push(12);
-    assert_is!(rt; format!(in rt.alloc(); "{v} {v:?}")?.as_str(), "[10, 11, 12] [10, 11, 12]");
-    Ok(())
+    let mut lists: ArrayVec<[ArrayVec<[u8; 2]>; 3]> = ArrayVec::new();
+    lists.push(ArrayVec::from_array_len([1, 9], 1));
+    lists.push(ArrayVec::from_array([2, 3]));
+    let texts = ArrayVec::from_array_len(["a", "b, c", "d"], 2);
+    let mut wrong = 0;
+    wrong = first(wrong, 1, reads(&v, "[]"));
+    wrong = first(wrong, 2, pushed_reads(&mut v, 10, "[10]"));
+    wrong = first(wrong, 3, pushed_reads(&mut v, 11, "[10, 11]"));
+    wrong = first(wrong, 4, pushed_reads(&mut v, 12, "[10, 11, 12]"));
+    wrong = first(wrong, 5, reads(&lists, "[[1], [2, 3]]"));
+    wrong = first(wrong, 6, is_shown(&texts, "[a, b, c]"));
+    wrong = first(wrong, 7, is_debugged(&texts, "[\"a\", \"b, c\"]"));
+    assert!(rt; wrong == 0, "step {wrong}");
 }
 
 #[test]
-fn texts_of_items(rt: HostRuntime) -> Result<(), Fail> {
-    let v = ArrayVec::from_array_len(["a", "b, c", "d"], 2);
-    assert_shows!(rt; v, "[a, b, c]");
-    assert_debugs!(rt; v, "[\"a\", \"b, c\"]");
-    Ok(())
-}
-
-#[test]
-fn numbers_in_other_bases(rt: HostRuntime) -> Result<(), Fail> {
-    let v = ArrayVec::from_array_len([10u8, 255, 7], 2);
-    assert_shows!(rt; UpperHex(&v), "[A, FF]");
-    assert_shows!(rt; LowerHex(&v), "[a, ff]");
-    let v = ArrayVec::from_array([8u32, 9]);
-    assert_shows!(rt; Octal(&v), "[10, 11]");
-    let v = ArrayVec::from_array([2u64, 5]);
-    assert_shows!(rt; Binary(&v), "[10, 101]");
-    Ok(())
+fn numbers_in_other_bases(rt: HostRuntime) {
+    let bytes = ArrayVec::from_array_len([10u8, 255, 7], 2);
+    let mut wrong = 0;
+    wrong = first(wrong, 1, is_shown(&UpperHex(&bytes), "[A, FF]"));
+    wrong = first(wrong, 2, is_shown(&LowerHex(&bytes), "[a, ff]"));
+    wrong = first(
+        wrong,
+        3,
+        is_shown(&Octal(&ArrayVec::from_array([8u32, 9])), "[10, 11]"),
+    );
+    wrong = first(
+        wrong,
+        4,
+        is_shown(&Binary(&ArrayVec::from_array([2u64, 5])), "[10, 101]"),
+    );
+    assert!(rt; wrong == 0, "step {wrong}");
 }
 
 // A negative number is written as the bits that stand for it.
 #[test]
-fn negative_numbers_in_other_bases(rt: HostRuntime) -> Result<(), Fail> {
+fn negative_numbers_in_other_bases(rt: HostRuntime) {
     let v = ArrayVec::from_array([-1i8, 1]);
-    assert_shows!(rt; v, "[-1, 1]");
-    assert_shows!(rt; UpperHex(&v), "[FF, 1]");
-    assert_shows!(rt; LowerHex(&v), "[ff, 1]");
-    assert_shows!(rt; Octal(&v), "[377, 1]");
-    assert_shows!(rt; Binary(&v), "[11111111, 1]");
-    Ok(())
+    let mut wrong = 0;
+    wrong = first(wrong, 1, is_shown(&v, "[-1, 1]"));
+    wrong = first(wrong, 2, is_shown(&UpperHex(&v), "[FF, 1]"));
+    wrong = first(wrong, 3, is_shown(&LowerHex(&v), "[ff, 1]"));
+    wrong = first(wrong, 4, is_shown(&Octal(&v), "[377, 1]"));
+    wrong = first(wrong, 5, is_shown(&Binary(&v), "[11111111, 1]"));
+    assert!(rt; wrong == 0, "step {wrong}");
 }
 
 #[test]
-fn empty_lists_in_other_bases(rt: HostRuntime) -> Result<(), Fail> {
+fn empty_lists_in_other_bases(rt: HostRuntime) {
     let v = ArrayVec::from_array_empty([1u16, 2]);
-    assert_shows!(rt; UpperHex(&v), "[]");
-    assert_shows!(rt; LowerHex(&v), "[]");
-    assert_shows!(rt; Octal(&v), "[]");
-    assert_shows!(rt; Binary(&v), "[]");
-    Ok(())
+    let mut wrong = 0;
+    wrong = first(wrong, 1, is_shown(&UpperHex(&v), "[]"));
+    wrong = first(wrong, 2, is_shown(&LowerHex(&v), "[]"));
+    wrong = first(wrong, 3, is_shown(&Octal(&v), "[]"));
+    wrong = first(wrong, 4, is_shown(&Binary(&v), "[]"));
+    assert!(rt; wrong == 0, "step {wrong}");
 }
 
 #[test]
-fn lists_of_lists(rt: HostRuntime) -> Result<(), Fail> {
-    let mut v: ArrayVec<[ArrayVec<[u8; 2]>; 3]> = ArrayVec::new();
-    v.push(ArrayVec::from_array_len([1, 9], 1));
-    v.push(ArrayVec::from_array([2, 3]));
-    assert_is!(rt; format!(in rt.alloc(); "{v} {v:?}")?.as_str(), "[[1], [2, 3]] [[1], [2, 3]]");
-    Ok(())
-}
-
-#[test]
-fn iterators(rt: HostRuntime) -> Result<(), Fail> {
+fn iterators(rt: HostRuntime) {
     let mut items = ArrayVec::from_array([1, 2, 3]).into_iter();
-    assert_is!(rt; items.next(), Some(1));
-    assert_debugs!(rt; items, "ArrayVecIterator([2, 3])");
-    assert_is!(rt; items.next_back(), Some(3));
-    assert_debugs!(rt; items, "ArrayVecIterator([2])");
-    assert_is!(rt; items.next(), Some(2));
-    assert_debugs!(rt; items, "ArrayVecIterator([])");
-    Ok(())
+    let mut wrong = 0;
+    wrong = first(wrong, 1, yields(&mut items, Some(1)));
+    wrong = first(wrong, 2, is_debugged(&items, "ArrayVecIterator([2, 3])"));
+    wrong = first(wrong, 3, yields_back(&mut items, Some(3)));
+    wrong = first(wrong, 4, is_debugged(&items, "ArrayVecIterator([2])"));
+    wrong = first(wrong, 5, yields(&mut items, Some(2)));
+    wrong = first(wrong, 6, is_debugged(&items, "ArrayVecIterator([])"));
+    assert!(rt; wrong == 0, "step {wrong}");
 }
 
 #[test]
-fn drains(rt: HostRuntime) -> Result<(), Fail> {
+fn drains(rt: HostRuntime) {
     let mut v = ArrayVec::from_array_len([1, 2, 3, 4, 5, 6, 99], 6);
     let mut drain = v.drain(1..5);
-    assert_debugs!(rt; drain, "ArrayVecDrain([2, 3, 4, 5])");
-    assert_is!(rt; drain.next(), Some(2));
-    assert_is!(rt; drain.next_back(), Some(5));
-    assert_debugs!(rt; drain, "ArrayVecDrain([3, 4])");
-    assert_is!(rt; drain.next(), Some(3));
-    assert_is!(rt; drain.next(), Some(4));
-    assert_debugs!(rt; drain, "ArrayVecDrain([])");
-    Ok(())
+    let mut wrong = 0;
+    wrong = first(wrong, 1, is_debugged(&drain, "ArrayVecDrain([2, 3, 4, 5])"));
+    wrong = first(wrong, 2, drain.next() == Some(2));
+    wrong = first(wrong, 3, drain.next_back() == Some(5));
+    wrong = first(wrong, 4, is_debugged(&drain, "ArrayVecDrain([3, 4])"));
+    wrong = first(wrong, 5, drain.next() == Some(3));
+    wrong = first(wrong, 6, drain.next() == Some(4));
+    wrong = first(wrong, 7, is_debugged(&drain, "ArrayVecDrain([])"));
+    assert!(rt; wrong == 0, "step {wrong}");
 }
 
-// No splice may be let go, so the texts are looked at when it has ended.
+// No splice may be let go, so it is no value of a type parameter: `is_debugged` takes none.
+fn splice_debugs<A: Array<Item = i32>, I: Drop>(
+    splice: &ArrayVecSplice<'_, A, I>,
+    text: &str,
+) -> bool {
+    let mut written = InlineText::<64>::new();
+    write!(written, "{splice:?}").is_ok() & (written.as_str() == text)
+}
+
 #[test]
-fn splices(rt: HostRuntime) -> Result<(), Fail> {
+fn splices(rt: HostRuntime) {
     let mut v = ArrayVec::from_array_len([1, 2, 3, 4, 5, 99], 5);
     let mut splice = v.splice(1..4, [7]);
-    let whole = format!(in rt.alloc(); "{splice:?}");
-    assert_is!(rt; splice.next(), Some(2));
-    let after_one = format!(in rt.alloc(); "{splice:?}");
-    assert_is!(rt; splice.next_back(), Some(4));
-    assert_is!(rt; splice.next(), Some(3));
-    let used_up = format!(in rt.alloc(); "{splice:?}");
-    assert!(rt; splice.finish().is_ok());
-    assert_is!(rt; whole?.as_str(), "ArrayVecSplice([2, 3, 4])");
-    assert_is!(rt; after_one?.as_str(), "ArrayVecSplice([3, 4])");
-    assert_is!(rt; used_up?.as_str(), "ArrayVecSplice([])");
-    assert_items!(rt; v.as_slice(), [1, 7, 5]);
-    Ok(())
+    let mut wrong = 0;
+    wrong = first(
+        wrong,
+        1,
+        splice_debugs(&splice, "ArrayVecSplice([2, 3, 4])"),
+    );
+    wrong = first(wrong, 2, splice.next() == Some(2));
+    wrong = first(wrong, 3, splice_debugs(&splice, "ArrayVecSplice([3, 4])"));
+    wrong = first(wrong, 4, splice.next_back() == Some(4));
+    wrong = first(wrong, 5, splice.next() == Some(3));
+    wrong = first(wrong, 6, splice_debugs(&splice, "ArrayVecSplice([])"));
+    wrong = first(wrong, 7, splice.finish().is_ok());
+    wrong = first(wrong, 8, holds(&v, &[1, 7, 5], &[0, 0, 99]));
+    assert!(rt; wrong == 0, "step {wrong}");
 }

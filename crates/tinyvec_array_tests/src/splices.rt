@@ -3,12 +3,16 @@ ghost use Rattle.std.specs.Prelude.{◌≡◌, ◌≤◌};
 ghost use Rattle.tinyvec_slots.specs.Slots.{items_len};
 ghost use Rattle.tinyvec_slots.specs.Cut.{range_start, range_end};
 
+use crate::asking::Ask::{Back, Front, Left};
+use crate::asking::{Ask, asked, splices};
+use crate::range_forms::RangeForm;
+use crate::range_forms::RangeForm::{Behind, Between, From, Full, Through, To, ToLast};
 use std::iter;
 use std::ops::{Bound, RangeBounds};
-use std::process::Abort;
 use std::test::Fail;
-use tinyvec_array::{ArrayVec, SpliceRest};
-use tinyvec_test_items::{assert_is, assert_items};
+use tinyvec_array::{Array, ArrayVec, SpliceRest};
+use tinyvec_test_items::arrays::holds;
+use tinyvec_test_items::{answers, first, splice_refuses, yields, yields_back};
 
 fn one_two_three() -> ArrayVec<[i32; 10]>
     ensures { items_len result ≡ 3 }
@@ -16,302 +20,295 @@ fn one_two_three() -> ArrayVec<[i32; 10]>
     ArrayVec::from_array_len([1, 2, 3, 0, 0, 0, 0, 0, 0, 0], 3)
 }
 
-// Splices the range of `[1, 2, 3]` in ten slots by one item or none, and asks for the removed items from the front.
-fn one_from_the_front<R: RangeBounds<usize>>(
-    rt: &impl Abort,
+fn is_zero(slot: &i32) -> bool {
+    *slot == 0
+}
+
+// Whether these are the items, and defaults stand behind them.
+fn lists<A: Array<Item = i32>>(v: &ArrayVec<A>, items: &[i32]) -> bool {
+    (v.as_slice() == items) & v.grab_spare_slice().iter().all(is_zero)
+}
+
+// By what a range is replaced.
+#[derive(Clone, Copy)]
+enum Replacement {
+    // By an item or none.
+    ByOption(Option<i32>),
+    // By the items 4, 5 and 6.
+    ByThree,
+}
+
+use Replacement::{ByOption, ByThree};
+
+// Whether a splice of the range of `[1, 2, 3]` in ten slots answers so, and leaves this list before zeros.
+fn gives_in<R: RangeBounds<usize>>(
     range: R,
-    replacement: Option<i32>,
-    given: [Option<i32>; 3],
+    replacement: Replacement,
+    asks: &[Ask],
     list: &[i32],
-)
+) -> bool
     requires known { R.has_bounds range }
     requires start_le_end { range_start (R.start_bound range) ≤ range_end (R.end_bound range) 3 }
     requires in_list { range_end (R.end_bound range) 3 ≤ 3 }
 {
     let mut v = one_two_three();
-    let mut splice = v.splice(range, replacement);
-    assert!(rt; splice.next() == given[0]);
-    assert!(rt; splice.next() == given[1]);
-    assert!(rt; splice.next() == given[2]);
-    assert_is!(rt; splice.next(), None);
-    assert!(rt; splice.finish().is_ok());
-    assert!(rt; v.as_slice() == list);
-    assert!(rt; v.as_inner()[v.len()..].iter().all(|slot| *slot == 0));
+    let answers = match replacement {
+        ByOption(item) => splices(v.splice(range, item), asks),
+        ByThree => splices(v.splice(range, 4..=6), asks),
+    };
+    answers & lists(&v, list)
 }
 
-// The same by the items 4, 5 and 6.
-fn three_from_the_front<R: RangeBounds<usize>>(
-    rt: &impl Abort,
-    range: R,
-    given: [Option<i32>; 3],
-    list: &[i32],
-)
-    requires known { R.has_bounds range }
-    requires start_le_end { range_start (R.start_bound range) ≤ range_end (R.end_bound range) 3 }
-    requires in_list { range_end (R.end_bound range) 3 ≤ 3 }
-{
-    let mut v = one_two_three();
-    let mut splice = v.splice(range, 4..=6);
-    assert!(rt; splice.next() == given[0]);
-    assert!(rt; splice.next() == given[1]);
-    assert!(rt; splice.next() == given[2]);
-    assert_is!(rt; splice.next(), None);
-    assert!(rt; splice.finish().is_ok());
-    assert!(rt; v.as_slice() == list);
+// The same, whatever the form of the range.
+fn gives(range: RangeForm, replacement: Replacement, asks: &[Ask], list: &[i32]) -> bool {
+    match range {
+        Full => gives_in(.., replacement, asks, list),
+        To(end) if end <= 3 => gives_in(..end, replacement, asks, list),
+        ToLast(last) if last < 3 => gives_in(..=last, replacement, asks, list),
+        From(start) if start <= 3 => gives_in(start.., replacement, asks, list),
+        Between(start, end) if start <= end && end <= 3 => {
+            gives_in(start..end, replacement, asks, list)
+        }
+        Through(start, last) if start <= last && last < 3 => {
+            gives_in(start..=last, replacement, asks, list)
+        }
+        Behind(before, last) if before <= last && last < 3 => gives_in(
+            (Bound::Excluded(before), Bound::Included(last)),
+            replacement,
+            asks,
+            list,
+        ),
+        _ => false,
+    }
 }
 
-// The same from the back, so `given` comes last first.
-fn three_from_the_back<R: RangeBounds<usize>>(
-    rt: &impl Abort,
-    range: R,
-    given: [Option<i32>; 3],
-    list: &[i32],
-)
-    requires known { R.has_bounds range }
-    requires start_le_end { range_start (R.start_bound range) ≤ range_end (R.end_bound range) 3 }
-    requires in_list { range_end (R.end_bound range) 3 ≤ 3 }
-{
-    let mut v = one_two_three();
-    let mut splice = v.splice(range, 4..=6);
-    assert!(rt; splice.next_back() == given[0]);
-    assert!(rt; splice.next_back() == given[1]);
-    assert!(rt; splice.next_back() == given[2]);
-    assert_is!(rt; splice.next_back(), None);
-    assert!(rt; splice.finish().is_ok());
-    assert!(rt; v.as_slice() == list);
-}
+const ALL: &[Ask] = &[Front(Some(1)), Front(Some(2)), Front(Some(3)), Front(None)];
 
-// The same, with no item asked for.
-fn three_at_the_end<R: RangeBounds<usize>>(rt: &impl Abort, range: R, list: &[i32])
-    requires known { R.has_bounds range }
-    requires start_le_end { range_start (R.start_bound range) ≤ range_end (R.end_bound range) 3 }
-    requires in_list { range_end (R.end_bound range) 3 ≤ 3 }
-{
-    let mut v = one_two_three();
-    assert!(rt; v.splice(range, 4..=6).finish().is_ok());
-    assert!(rt; v.as_slice() == list);
+const FIRST_TWO: &[Ask] = &[Front(Some(1)), Front(Some(2)), Front(None), Front(None)];
+
+const LAST_TWO: &[Ask] = &[Front(Some(2)), Front(Some(3)), Front(None), Front(None)];
+
+const SECOND: &[Ask] = &[Front(Some(2)), Front(None), Front(None), Front(None)];
+
+const NONE: &[Ask] = &[Front(None), Front(None), Front(None), Front(None)];
+
+const ALL_BACK: &[Ask] = &[Back(Some(3)), Back(Some(2)), Back(Some(1)), Back(None)];
+
+const FIRST_TWO_BACK: &[Ask] = &[Back(Some(2)), Back(Some(1)), Back(None), Back(None)];
+
+const LAST_TWO_BACK: &[Ask] = &[Back(Some(3)), Back(Some(2)), Back(None), Back(None)];
+
+const SECOND_BACK: &[Ask] = &[Back(Some(2)), Back(None), Back(None), Back(None)];
+
+const NONE_BACK: &[Ask] = &[Back(None), Back(None), Back(None), Back(None)];
+
+const NOT_ASKED: &[Ask] = &[];
+
+// Ranges of `[1, 2, 3]`, by what they are replaced, what is given, and the list after it.
+const RANGES: [(RangeForm, Replacement, &[Ask], &[i32]); 50] = [
+    (Full, ByOption(None), ALL, &[]),
+    (To(2), ByOption(None), FIRST_TWO, &[3]),
+    (To(3), ByOption(None), ALL, &[]),
+    (ToLast(1), ByOption(None), FIRST_TWO, &[3]),
+    (ToLast(2), ByOption(None), ALL, &[]),
+    (From(0), ByOption(None), ALL, &[]),
+    (From(1), ByOption(None), LAST_TWO, &[1]),
+    (Between(0, 2), ByOption(None), FIRST_TWO, &[3]),
+    (Between(0, 3), ByOption(None), ALL, &[]),
+    (Between(1, 2), ByOption(None), SECOND, &[1, 3]),
+    (Between(1, 3), ByOption(None), LAST_TWO, &[1]),
+    (Through(0, 1), ByOption(None), FIRST_TWO, &[3]),
+    (Through(0, 2), ByOption(None), ALL, &[]),
+    (Through(1, 1), ByOption(None), SECOND, &[1, 3]),
+    (Through(1, 2), ByOption(None), LAST_TWO, &[1]),
+    (Full, ByOption(Some(4)), ALL, &[4]),
+    (To(2), ByOption(Some(4)), FIRST_TWO, &[4, 3]),
+    (From(1), ByOption(Some(4)), LAST_TWO, &[1, 4]),
+    (Through(1, 1), ByOption(Some(4)), SECOND, &[1, 4, 3]),
+    (Full, ByThree, ALL, &[4, 5, 6]),
+    (To(2), ByThree, FIRST_TWO, &[4, 5, 6, 3]),
+    (To(3), ByThree, ALL, &[4, 5, 6]),
+    (ToLast(1), ByThree, FIRST_TWO, &[4, 5, 6, 3]),
+    (ToLast(2), ByThree, ALL, &[4, 5, 6]),
+    (From(0), ByThree, ALL, &[4, 5, 6]),
+    (From(1), ByThree, LAST_TWO, &[1, 4, 5, 6]),
+    (Between(0, 2), ByThree, FIRST_TWO, &[4, 5, 6, 3]),
+    (Between(0, 3), ByThree, ALL, &[4, 5, 6]),
+    (Between(1, 2), ByThree, SECOND, &[1, 4, 5, 6, 3]),
+    (Between(1, 3), ByThree, LAST_TWO, &[1, 4, 5, 6]),
+    (Through(0, 1), ByThree, FIRST_TWO, &[4, 5, 6, 3]),
+    (Through(0, 2), ByThree, ALL, &[4, 5, 6]),
+    (Through(1, 1), ByThree, SECOND, &[1, 4, 5, 6, 3]),
+    (Through(1, 2), ByThree, LAST_TWO, &[1, 4, 5, 6]),
+    (Full, ByThree, ALL_BACK, &[4, 5, 6]),
+    (To(2), ByThree, FIRST_TWO_BACK, &[4, 5, 6, 3]),
+    (From(1), ByThree, LAST_TWO_BACK, &[1, 4, 5, 6]),
+    (Through(0, 1), ByThree, FIRST_TWO_BACK, &[4, 5, 6, 3]),
+    (Through(1, 1), ByThree, SECOND_BACK, &[1, 4, 5, 6, 3]),
+    (Behind(0, 2), ByThree, LAST_TWO_BACK, &[1, 4, 5, 6]),
+    (Full, ByThree, NOT_ASKED, &[4, 5, 6]),
+    (To(2), ByThree, NOT_ASKED, &[4, 5, 6, 3]),
+    (Between(1, 2), ByThree, NOT_ASKED, &[1, 4, 5, 6, 3]),
+    (Through(1, 2), ByThree, NOT_ASKED, &[1, 4, 5, 6]),
+    (Between(0, 0), ByOption(None), NONE, &[1, 2, 3]),
+    (From(3), ByOption(None), NONE, &[1, 2, 3]),
+    (Between(2, 2), ByOption(Some(4)), NONE, &[1, 2, 4, 3]),
+    (To(0), ByThree, NONE, &[4, 5, 6, 1, 2, 3]),
+    (Between(3, 3), ByThree, NONE_BACK, &[1, 2, 3, 4, 5, 6]),
+    (Between(1, 1), ByThree, NOT_ASKED, &[1, 4, 5, 6, 2, 3]),
+];
+
+#[test]
+fn ranges(rt: HostRuntime) {
+    for (at, (range, replacement, asks, list)) in RANGES.iter().enumerate() {
+        assert!(rt; gives(*range, *replacement, asks, list), "row {at}");
+    }
 }
 
 #[test]
-fn no_replacement(rt: HostRuntime) {
-    let all = [Some(1), Some(2), Some(3)];
-    let first_two = [Some(1), Some(2), None];
-    let last_two = [Some(2), Some(3), None];
-    let second = [Some(2), None, None];
-    one_from_the_front(&rt, .., None, all, &[]);
-    one_from_the_front(&rt, ..2, None, first_two, &[3]);
-    one_from_the_front(&rt, ..3, None, all, &[]);
-    one_from_the_front(&rt, ..=1, None, first_two, &[3]);
-    one_from_the_front(&rt, ..=2, None, all, &[]);
-    one_from_the_front(&rt, 0.., None, all, &[]);
-    one_from_the_front(&rt, 1.., None, last_two, &[1]);
-    one_from_the_front(&rt, 0..2, None, first_two, &[3]);
-    one_from_the_front(&rt, 0..3, None, all, &[]);
-    one_from_the_front(&rt, 1..2, None, second, &[1, 3]);
-    one_from_the_front(&rt, 1..3, None, last_two, &[1]);
-    one_from_the_front(&rt, 0..=1, None, first_two, &[3]);
-    one_from_the_front(&rt, 0..=2, None, all, &[]);
-    one_from_the_front(&rt, 1..=1, None, second, &[1, 3]);
-    one_from_the_front(&rt, 1..=2, None, last_two, &[1]);
-}
-
-#[test]
-fn one_item(rt: HostRuntime) {
-    let all = [Some(1), Some(2), Some(3)];
-    one_from_the_front(&rt, .., Some(4), all, &[4]);
-    one_from_the_front(&rt, ..2, Some(4), [Some(1), Some(2), None], &[4, 3]);
-    one_from_the_front(&rt, 1.., Some(4), [Some(2), Some(3), None], &[1, 4]);
-    one_from_the_front(&rt, 1..=1, Some(4), [Some(2), None, None], &[1, 4, 3]);
-}
-
-#[test]
-fn three_items_from_the_front(rt: HostRuntime) {
-    let all = [Some(1), Some(2), Some(3)];
-    let first_two = [Some(1), Some(2), None];
-    let last_two = [Some(2), Some(3), None];
-    let second = [Some(2), None, None];
-    three_from_the_front(&rt, .., all, &[4, 5, 6]);
-    three_from_the_front(&rt, ..2, first_two, &[4, 5, 6, 3]);
-    three_from_the_front(&rt, ..3, all, &[4, 5, 6]);
-    three_from_the_front(&rt, ..=1, first_two, &[4, 5, 6, 3]);
-    three_from_the_front(&rt, ..=2, all, &[4, 5, 6]);
-    three_from_the_front(&rt, 0.., all, &[4, 5, 6]);
-    three_from_the_front(&rt, 1.., last_two, &[1, 4, 5, 6]);
-    three_from_the_front(&rt, 0..2, first_two, &[4, 5, 6, 3]);
-    three_from_the_front(&rt, 0..3, all, &[4, 5, 6]);
-    three_from_the_front(&rt, 1..2, second, &[1, 4, 5, 6, 3]);
-    three_from_the_front(&rt, 1..3, last_two, &[1, 4, 5, 6]);
-    three_from_the_front(&rt, 0..=1, first_two, &[4, 5, 6, 3]);
-    three_from_the_front(&rt, 0..=2, all, &[4, 5, 6]);
-    three_from_the_front(&rt, 1..=1, second, &[1, 4, 5, 6, 3]);
-    three_from_the_front(&rt, 1..=2, last_two, &[1, 4, 5, 6]);
-}
-
-#[test]
-fn three_items_from_the_back(rt: HostRuntime) {
-    let all = [Some(3), Some(2), Some(1)];
-    let first_two = [Some(2), Some(1), None];
-    let last_two = [Some(3), Some(2), None];
-    let second = [Some(2), None, None];
-    three_from_the_back(&rt, .., all, &[4, 5, 6]);
-    three_from_the_back(&rt, ..2, first_two, &[4, 5, 6, 3]);
-    three_from_the_back(&rt, 1.., last_two, &[1, 4, 5, 6]);
-    three_from_the_back(&rt, 0..=1, first_two, &[4, 5, 6, 3]);
-    three_from_the_back(&rt, 1..=1, second, &[1, 4, 5, 6, 3]);
-    three_from_the_back(
-        &rt,
-        (Bound::Excluded(0), Bound::Included(2)),
-        last_two,
-        &[1, 4, 5, 6],
+fn from_both_ends(rt: HostRuntime) {
+    let mut v = ArrayVec::from_array_len([1, 2, 3, 4, 0, 0, 0, 0, 0, 0], 4);
+    let mut w = v;
+    let mut wrong = 0;
+    wrong = first(
+        wrong,
+        1,
+        splices(v.splice(1..3, [7, 8, 9]), &[Back(Some(3)), Front(Some(2))]),
     );
+    wrong = first(wrong, 2, lists(&v, &[1, 7, 8, 9, 4]));
+    let mut splice = w.splice(1..4, [7]);
+    wrong = first(
+        wrong,
+        3,
+        asked(&mut splice, &[Back(Some(4)), Front(Some(2))]),
+    );
+    wrong = first(wrong, 4, touched(splice.finish_counted(), 0, 8));
+    wrong = first(wrong, 5, lists(&w, &[1, 7]));
+    assert!(rt; wrong == 0, "step {wrong}");
 }
 
-#[test]
-fn three_items_at_the_end(rt: HostRuntime) {
-    three_at_the_end(&rt, .., &[4, 5, 6]);
-    three_at_the_end(&rt, ..2, &[4, 5, 6, 3]);
-    three_at_the_end(&rt, 1..2, &[1, 4, 5, 6, 3]);
-    three_at_the_end(&rt, 1..=2, &[1, 4, 5, 6]);
-}
-
-#[test]
-fn empty_ranges(rt: HostRuntime) {
-    let none = [None, None, None];
-    one_from_the_front(&rt, 0..0, None, none, &[1, 2, 3]);
-    one_from_the_front(&rt, 3.., None, none, &[1, 2, 3]);
-    one_from_the_front(&rt, 2..2, Some(4), none, &[1, 2, 4, 3]);
-    three_from_the_front(&rt, ..0, none, &[4, 5, 6, 1, 2, 3]);
-    three_from_the_back(&rt, 3..3, none, &[1, 2, 3, 4, 5, 6]);
-    three_at_the_end(&rt, 1..1, &[1, 4, 5, 6, 2, 3]);
-}
-
-#[test]
-fn as_long_from_both_ends(rt: HostRuntime) {
-    let mut v = ArrayVec::from_array_len([1, 2, 3, 4, 0, 0, 0, 0, 0, 0], 4);
-    let mut splice = v.splice(1..3, [7, 8, 9]);
-    assert_is!(rt; splice.next_back(), Some(3));
-    assert_is!(rt; splice.next(), Some(2));
-    assert!(rt; splice.finish().is_ok());
-    assert_items!(rt; v.as_slice(), [1, 7, 8, 9, 4]);
-}
-
-#[test]
-fn shorter_from_both_ends(rt: HostRuntime) {
-    let mut v = ArrayVec::from_array_len([1, 2, 3, 4, 0, 0, 0, 0, 0, 0], 4);
-    let mut splice = v.splice(1..4, [7]);
-    assert_is!(rt; splice.next_back(), Some(4));
-    assert_is!(rt; splice.next(), Some(2));
-    let (finished, touches) = splice.finish_counted();
-    assert!(rt; finished.is_ok());
-    assert!(rt; touches <= 8);
-    assert_items!(rt; v.as_slice(), [1, 7]);
-    assert_items!(rt; v.grab_spare_slice(), [0, 0, 0, 0, 0, 0, 0, 0]);
+// Whether a splice ended so, with all in place, by at least and at most so many touches.
+fn touched<I>(finished: (Result<(), SpliceRest<i32, I>>, u128), least: u128, most: u128) -> bool
+where
+    I: Drop,
+{
+    finished.0.is_ok() & (least <= finished.1) & (finished.1 <= most)
 }
 
 #[test]
 fn asked_beyond_the_range(rt: HostRuntime) {
     let mut v = one_two_three();
-    let mut splice = v.splice(0..2, [7, 8, 9]);
-    assert_is!(rt; splice.next(), Some(1));
-    assert_is!(rt; splice.next(), Some(2));
-    assert_is!(rt; splice.next(), None);
-    assert!(rt; splice.finish().is_ok());
-    assert_items!(rt; v.as_slice(), [7, 8, 9, 3]);
+    let mut w = one_two_three();
+    let asks = [Front(Some(1)), Front(Some(2)), Front(None)];
+    let last = [Front(Some(2)), Front(Some(3)), Front(None)];
+    let mut wrong = 0;
+    wrong = first(wrong, 1, splices(v.splice(0..2, [7, 8, 9]), &asks));
+    wrong = first(wrong, 2, lists(&v, &[7, 8, 9, 3]));
+    wrong = first(wrong, 3, splices(w.splice(1.., [4, 5, 6]), &last));
+    wrong = first(wrong, 4, lists(&w, &[1, 4, 5, 6]));
+    assert!(rt; wrong == 0, "step {wrong}");
+}
+
+// Whether an item found no room, and neither end gives a further one.
+fn refuses_the_last<I: DoubleEndedIterator<Item = i32> + Drop>(
+    finished: Result<(), SpliceRest<i32, I>>,
+    item: i32,
+) -> bool
+    requires front { (s : I) → I.can_next s }
+    requires back { (s : I) → I.can_next_back s }
+{
+    match finished {
+        Ok(()) => false,
+        Err(refused) => {
+            let mut rest = refused.rest;
+            (refused.item == item) & yields(&mut rest, None) & yields_back(&mut rest, None)
+        }
+    }
 }
 
 #[test]
 fn refused_after_the_front(rt: HostRuntime) {
     let mut v = ArrayVec::from_array_len([1, 2, 3, 0], 3);
+    let mut wrong = 0;
     let mut splice = v.splice(1..2, [7, 8, 9, 10]);
-    assert_is!(rt; splice.next(), Some(2));
-    match splice.finish() {
-        Ok(()) => panic!(rt; "there was no room"),
-        Err(SpliceRest { item, mut rest }) => {
-            assert!(rt; item == 9);
-            assert_is!(rt; rest.next(), Some(10));
-            assert_is!(rt; rest.next(), None);
-            assert_is!(rt; rest.next(), None);
-        }
-    }
-    assert!(rt; v.is_full());
-    assert_items!(rt; v.as_slice(), [1, 7, 8, 3]);
+    wrong = first(wrong, 1, splice.next() == Some(2));
+    wrong = first(
+        wrong,
+        2,
+        splice_refuses(splice.finish(), 9, &[Some(10), None, None]),
+    );
+    wrong = first(wrong, 3, holds(&v, &[1, 7, 8, 3], &[]));
+    assert!(rt; wrong == 0, "step {wrong}");
 }
 
 #[test]
 fn refused_after_the_back(rt: HostRuntime) {
     let mut v = ArrayVec::from_array_len([1, 2, 3, 0], 3);
+    let mut wrong = 0;
     let mut splice = v.splice(1..2, [7, 8, 9]);
-    assert_is!(rt; splice.next_back(), Some(2));
-    match splice.finish() {
-        Ok(()) => panic!(rt; "there was no room"),
-        Err(SpliceRest { item, mut rest }) => {
-            assert!(rt; item == 8);
-            assert_is!(rt; rest.next(), None);
-            assert_is!(rt; rest.next_back(), None);
-        }
-    }
-    assert_items!(rt; v.as_slice(), [1, 7, 9, 3]);
+    wrong = first(wrong, 1, splice.next_back() == Some(2));
+    wrong = first(wrong, 2, refuses_the_last(splice.finish(), 8));
+    wrong = first(wrong, 3, holds(&v, &[1, 7, 9, 3], &[]));
+    assert!(rt; wrong == 0, "step {wrong}");
 }
 
 #[test]
-fn refused_in_an_empty_range(rt: HostRuntime) {
+fn refused_at_once(rt: HostRuntime) {
     let mut v = ArrayVec::from_array_len([1, 2, 3, 0], 3);
-    let splice = v.splice(1..1, [7, 8]);
-    match splice.finish() {
-        Ok(()) => panic!(rt; "there was no room"),
-        Err(SpliceRest { item, mut rest }) => {
-            assert!(rt; item == 8);
-            assert_is!(rt; rest.next(), None);
-        }
-    }
-    assert_items!(rt; v.as_slice(), [1, 7, 2, 3]);
-}
-
-#[test]
-fn endless_replacement(rt: HostRuntime) {
-    let mut v = ArrayVec::from_array_len([1, 2, 0, 0], 2);
-    match v.splice(1..2, 5..).finish() {
-        Ok(()) => panic!(rt; "there was no room"),
-        Err(SpliceRest { item, mut rest }) => {
-            assert!(rt; item == 8);
-            assert_is!(rt; rest.next(), Some(9));
-        }
-    }
-    assert_items!(rt; v.as_slice(), [1, 5, 6, 7]);
+    let mut w = ArrayVec::from_array_len([1, 2, 0, 0], 2);
+    let mut wrong = 0;
+    wrong = first(
+        wrong,
+        1,
+        splice_refuses(v.splice(1..1, [7, 8]).finish(), 8, &[None]),
+    );
+    wrong = first(wrong, 2, holds(&v, &[1, 7, 2, 3], &[]));
+    wrong = first(
+        wrong,
+        3,
+        splice_refuses(w.splice(1..2, 5..).finish(), 8, &[Some(9)]),
+    );
+    wrong = first(wrong, 4, holds(&w, &[1, 5, 6, 7], &[]));
+    assert!(rt; wrong == 0, "step {wrong}");
 }
 
 #[test]
 fn stopped(rt: HostRuntime) {
     let mut v = one_two_three();
-    let mut splice = v.splice(1.., iter::repeat(7));
-    assert_is!(rt; splice.next(), Some(2));
-    let mut rest = splice.stop();
-    assert_is!(rt; rest.next(), Some(7));
-    assert_items!(rt; v.as_slice(), [1, 7]);
     let mut w = one_two_three();
+    let mut wrong = 0;
+    let mut splice = v.splice(1.., iter::repeat(7));
+    wrong = first(wrong, 1, splice.next() == Some(2));
+    wrong = first(wrong, 2, answers(splice.stop(), &[Some(7)]));
+    wrong = first(wrong, 3, lists(&v, &[1, 7]));
     let mut splice = w.splice(.., [7, 8, 9]);
-    assert_is!(rt; splice.next(), Some(1));
-    assert_is!(rt; splice.next_back(), Some(3));
-    let mut rest = splice.stop();
-    assert_is!(rt; rest.next(), Some(8));
-    assert_is!(rt; rest.next(), None);
-    assert_items!(rt; w.as_slice(), [7, 9]);
-    assert_items!(rt; &w.into_inner(), [7, 9, 0, 0, 0, 0, 0, 0, 0, 0]);
+    wrong = first(wrong, 4, splice.next() == Some(1));
+    wrong = first(wrong, 5, splice.next_back() == Some(3));
+    wrong = first(wrong, 6, answers(splice.stop(), &[Some(8), None]));
+    wrong = first(wrong, 7, lists(&w, &[7, 9]));
+    assert!(rt; wrong == 0, "step {wrong}");
 }
 
 #[test]
-fn touches_of_a_longer_replacement(rt: HostRuntime) {
+fn touches(rt: HostRuntime) {
     let mut v = ArrayVec::from_array_len([1, 2, 3, 4, 5, 0, 0, 0], 5);
+    let mut w = one_two_three();
+    let mut wrong = 0;
     let mut splice = v.splice(1..3, [7, 8, 9, 10]);
-    assert_is!(rt; splice.touches(), 0);
-    assert_is!(rt; splice.next_back(), Some(3));
-    assert_is!(rt; splice.touches(), 2);
-    let (finished, touches) = splice.finish_counted();
-    assert!(rt; finished.is_ok());
-    assert!(rt; touches <= 13);
-    assert!(rt; 5 <= touches);
-    assert_items!(rt; v.as_slice(), [1, 7, 8, 9, 10, 4, 5]);
-    assert_items!(rt; v.grab_spare_slice(), [0]);
+    wrong = first(wrong, 1, splice.touches() == 0);
+    wrong = first(wrong, 2, splice.next_back() == Some(3));
+    wrong = first(wrong, 3, splice.touches() == 2);
+    wrong = first(wrong, 4, touched(splice.finish_counted(), 5, 13));
+    wrong = first(wrong, 5, holds(&v, &[1, 7, 8, 9, 10, 4, 5], &[0]));
+    // Nothing replaces the items.
+    let mut splice = w.splice(.., None);
+    wrong = first(wrong, 6, splice.next_back() == Some(3));
+    wrong = first(wrong, 7, splice.touches() == 1);
+    wrong = first(wrong, 8, splice.next() == Some(1));
+    wrong = first(wrong, 9, splice.touches() == 2);
+    wrong = first(wrong, 10, splice.finish().is_ok());
+    wrong = first(wrong, 11, lists(&w, &[]));
+    assert!(rt; wrong == 0, "step {wrong}");
 }
 
 #[test]
@@ -319,108 +316,96 @@ fn touches_of_a_thousand_slots(rt: HostRuntime) {
     let mut v: ArrayVec<[i32; 1000]> = ArrayVec::new();
     let _rest = v.fill(0..);
     assert!(rt; v.len() == 1000);
-    let (finished, touches) = v.splice(0..500, None).finish_counted();
-    assert!(rt; finished.is_ok());
-    assert!(rt; touches <= 1500);
-    assert!(rt; v.len() == 500);
-    assert!(rt; v.iter().copied().eq(500..1000));
-    assert!(rt; v.grab_spare_slice().len() == 500);
-    assert!(rt; v.grab_spare_slice().iter().all(|slot| *slot == 0));
-}
-
-#[test]
-fn touches_of_items_that_nothing_replaces(rt: HostRuntime) {
-    let mut v = one_two_three();
-    let mut splice = v.splice(.., None);
-    assert_is!(rt; splice.next_back(), Some(3));
-    assert_is!(rt; splice.touches(), 1);
-    assert_is!(rt; splice.next(), Some(1));
-    assert_is!(rt; splice.touches(), 2);
-    assert!(rt; splice.finish().is_ok());
-    assert!(rt; v.is_empty());
+    let mut wrong = 0;
+    wrong = first(
+        wrong,
+        1,
+        touched(v.splice(0..500, None).finish_counted(), 0, 1500),
+    );
+    wrong = first(wrong, 2, v.len() == 500);
+    wrong = first(wrong, 3, v.iter().copied().eq(500..1000));
+    wrong = first(wrong, 4, v.grab_spare_slice().len() == 500);
+    wrong = first(wrong, 5, v.grab_spare_slice().iter().all(is_zero));
+    assert!(rt; wrong == 0, "step {wrong}");
 }
 
 #[test]
 fn how_many_are_left(rt: HostRuntime) {
     let mut v = ArrayVec::from_array([1, 2, 3, 4, 5, 6]);
-    let mut splice = v.splice(1..4, [7, 8, 9]);
-    assert!(rt; splice.len() == 3);
-    assert_is!(rt; splice.size_hint(), (3, Some(3)));
-    assert_is!(rt; splice.next_back(), Some(4));
-    assert!(rt; splice.len() == 2);
-    assert_is!(rt; splice.size_hint(), (2, Some(2)));
-    assert_is!(rt; splice.next(), Some(2));
-    assert_is!(rt; splice.next_back(), Some(3));
-    assert!(rt; splice.len() == 0);
-    assert_is!(rt; splice.next(), None);
-    assert_is!(rt; splice.next_back(), None);
-    assert_is!(rt; splice.size_hint(), (0, Some(0)));
-    assert_is!(rt; splice.next_back(), None);
-    assert_is!(rt; splice.next(), None);
-    assert!(rt; splice.finish().is_ok());
-    assert_items!(rt; &v.into_inner(), [1, 7, 8, 9, 5, 6]);
+    let asks = [
+        Left(3),
+        Back(Some(4)),
+        Left(2),
+        Front(Some(2)),
+        Back(Some(3)),
+        Left(0),
+        Front(None),
+        Back(None),
+        Left(0),
+        Back(None),
+        Front(None),
+    ];
+    let mut wrong = 0;
+    wrong = first(wrong, 1, splices(v.splice(1..4, [7, 8, 9]), &asks));
+    wrong = first(wrong, 2, holds(&v, &[1, 7, 8, 9, 5, 6], &[]));
+    assert!(rt; wrong == 0, "step {wrong}");
 }
 
-#[test]
-fn taken_until_none(rt: HostRuntime) {
-    let mut v = one_two_three();
-    let mut splice = v.splice(1.., [4, 5, 6]);
-    assert_is!(rt; splice.next(), Some(2));
-    assert_is!(rt; splice.next(), Some(3));
-    assert_is!(rt; splice.next(), None);
-    assert!(rt; splice.finish().is_ok());
-    assert_items!(rt; v.as_slice(), [1, 4, 5, 6]);
+// Whether there are three items, and the first three make room for one.
+fn replaces_three(v: &mut ArrayVec<[i32; 5]>, item: i32) -> bool {
+    v.len() >= 3 && v.splice(..3, [item]).finish().is_ok()
 }
 
 #[test]
 fn spare_slots(rt: HostRuntime) {
     let mut v = ArrayVec::from_array_len([1, 2, 3, 8, 9], 3);
-    assert!(rt; v.splice(1..2, [6, 7]).finish().is_ok());
-    assert!(rt; v.as_slice() == [1, 6, 7, 3].as_slice());
-    assert!(rt; v.grab_spare_slice() == [9].as_slice());
-    assert!(rt; v.splice(..2, [5, 4]).finish().is_ok());
-    assert!(rt; v.grab_spare_slice() == [9].as_slice());
-    assert!(rt; v.splice(..3, [2]).finish().is_ok());
-    assert_items!(rt; &v.into_inner(), [2, 3, 0, 0, 9]);
+    let mut wrong = 0;
+    wrong = first(wrong, 1, v.splice(1..2, [6, 7]).finish().is_ok());
+    wrong = first(wrong, 2, holds(&v, &[1, 6, 7, 3], &[9]));
+    wrong = first(wrong, 3, v.splice(..2, [5, 4]).finish().is_ok());
+    wrong = first(wrong, 4, holds(&v, &[5, 4, 7, 3], &[9]));
+    wrong = first(wrong, 5, replaces_three(&mut v, 2));
+    wrong = first(wrong, 6, holds(&v, &[2, 3], &[0, 0, 9]));
+    assert!(rt; wrong == 0, "step {wrong}");
 }
 
 #[test]
 fn no_slots(rt: HostRuntime) {
     let mut v: ArrayVec<[i32; 0]> = ArrayVec::new();
+    let mut wrong = 0;
     let mut splice = v.splice(.., None);
-    assert!(rt; splice.len() == 0);
-    assert_is!(rt; splice.next(), None);
-    let (finished, touches) = splice.finish_counted();
-    assert!(rt; finished.is_ok());
-    assert!(rt; touches == 0);
-    match v.splice(.., [7, 8]).finish() {
-        Ok(()) => panic!(rt; "there was no room"),
-        Err(SpliceRest { item, mut rest }) => {
-            assert!(rt; item == 7);
-            assert_is!(rt; rest.next(), Some(8));
-        }
-    }
-    assert!(rt; v.is_empty());
+    wrong = first(wrong, 1, splice.len() == 0);
+    wrong = first(wrong, 2, splice.next() == None);
+    wrong = first(wrong, 3, touched(splice.finish_counted(), 0, 0));
+    wrong = first(
+        wrong,
+        4,
+        splice_refuses(v.splice(.., [7, 8]).finish(), 7, &[Some(8)]),
+    );
+    wrong = first(wrong, 5, v.is_empty());
+    assert!(rt; wrong == 0, "step {wrong}");
 }
 
 #[test]
 fn no_item_at_all(rt: HostRuntime) {
     let mut v: ArrayVec<[i32; 4]> = ArrayVec::new();
-    assert!(rt; v.splice(.., iter::empty()).finish().is_ok());
-    assert!(rt; v.is_empty());
-    assert!(rt; v.splice(.., [3, 4]).finish().is_ok());
-    assert_items!(rt; v.as_slice(), [3, 4]);
+    let mut wrong = 0;
+    wrong = first(wrong, 1, v.splice(.., iter::empty()).finish().is_ok());
+    wrong = first(wrong, 2, v.is_empty());
+    wrong = first(wrong, 3, v.splice(.., [3, 4]).finish().is_ok());
+    wrong = first(wrong, 4, holds(&v, &[3, 4], &[0, 0]));
+    assert!(rt; wrong == 0, "step {wrong}");
 }
 
 #[test]
 fn a_vec_of_replacements(rt: HostRuntime) -> Result<(), Fail> {
-    let mut replacement = Vec::new(rt.alloc());
-    replacement.push(8)?;
-    replacement.push(9)?;
+    let replacement = [8, 9].to_vec(rt.alloc())?;
     let mut v = one_two_three();
+    let mut wrong = 0;
     let mut splice = v.splice(2.., replacement);
-    assert_is!(rt; splice.next_back(), Some(3));
-    assert!(rt; splice.finish().is_ok());
-    assert_items!(rt; v.as_slice(), [1, 2, 8, 9]);
+    wrong = first(wrong, 1, splice.next_back() == Some(3));
+    wrong = first(wrong, 2, splice.finish().is_ok());
+    wrong = first(wrong, 3, lists(&v, &[1, 2, 8, 9]));
+    assert!(rt; wrong == 0, "step {wrong}");
     Ok(())
 }

@@ -1,63 +1,92 @@
 //! Text written into vectors of bytes.
 use std::fmt;
 use std::fmt::Write;
-use tinyvec_array::ArrayVec;
-use tinyvec_test_items::{assert_is, assert_items};
+use tinyvec_array::{Array, ArrayVec};
+use tinyvec_test_items::arrays::holds;
+use tinyvec_test_items::first;
+
+// Whether a text is written behind the list, and leaves this.
+fn writes<A: Array<Item = u8>>(
+    v: &mut ArrayVec<A>,
+    text: &str,
+    items: &[u8],
+    spare: &[u8],
+) -> bool {
+    (v.write_str(text) == Ok(())) & holds(v, items, spare)
+}
+
+// Whether a text finds no room, and leaves this.
+fn refuses<A: Array<Item = u8>>(
+    v: &mut ArrayVec<A>,
+    text: &str,
+    items: &[u8],
+    spare: &[u8],
+) -> bool {
+    (v.write_str(text) == Err(fmt::Error)) & holds(v, items, spare)
+}
 
 #[test]
 fn behind_the_list(rt: HostRuntime) {
     let mut v = ArrayVec::from_array_len([9u8; 5], 1);
-    assert_is!(rt; v.write_str("abc"), Ok(()));
-    assert_items!(rt; v.as_slice(), [9, 97, 98, 99]);
-    assert_items!(rt; v.grab_spare_slice(), [9]);
-    assert_is!(rt; v.write_str("de"), Err(fmt::Error));
-    assert_items!(rt; v.as_slice(), [9, 97, 98, 99]);
-    assert_items!(rt; &v.into_inner(), [9, 97, 98, 99, 9]);
+    let mut wrong = 0;
+    wrong = first(wrong, 1, writes(&mut v, "abc", &[9, 97, 98, 99], &[9]));
+    wrong = first(wrong, 2, refuses(&mut v, "de", &[9, 97, 98, 99], &[9]));
+    assert!(rt; wrong == 0, "step {wrong}");
 }
 
 #[test]
 fn until_full(rt: HostRuntime) {
     let mut v = ArrayVec::<[u8; 4]>::new();
-    assert_is!(rt; v.write_str("abc"), Ok(()));
-    assert_is!(rt; v.write_str("de"), Err(fmt::Error));
-    assert_items!(rt; v.as_slice(), *b"abc");
-    assert_is!(rt; v.write_str("d"), Ok(()));
-    assert_items!(rt; v.as_slice(), *b"abcd");
-    assert_is!(rt; v.write_str(""), Ok(()));
-    assert_is!(rt; v.write_str("e"), Err(fmt::Error));
-    assert_items!(rt; v.as_slice(), *b"abcd");
+    let mut wrong = 0;
+    wrong = first(wrong, 1, writes(&mut v, "abc", b"abc", &[0]));
+    wrong = first(wrong, 2, refuses(&mut v, "de", b"abc", &[0]));
+    wrong = first(wrong, 3, writes(&mut v, "d", b"abcd", &[]));
+    wrong = first(wrong, 4, writes(&mut v, "", b"abcd", &[]));
+    wrong = first(wrong, 5, refuses(&mut v, "e", b"abcd", &[]));
+    assert!(rt; wrong == 0, "step {wrong}");
 }
 
 #[test]
 fn all_at_once(rt: HostRuntime) {
     let mut v = ArrayVec::<[u8; 10]>::new();
-    assert_is!(rt; v.write_str("abc"), Ok(()));
-    assert_items!(rt; v.as_slice(), *b"abc");
     let mut exact = ArrayVec::<[u8; 3]>::new();
-    assert_is!(rt; exact.write_str("abc"), Ok(()));
-    assert_items!(rt; exact.as_slice(), *b"abc");
     let mut no_slots = ArrayVec::<[u8; 0]>::new();
-    assert_is!(rt; no_slots.write_str(""), Ok(()));
-    assert_is!(rt; no_slots.write_str("a"), Err(fmt::Error));
+    let mut wrong = 0;
+    wrong = first(
+        wrong,
+        1,
+        writes(&mut v, "abc", b"abc", &[0, 0, 0, 0, 0, 0, 0]),
+    );
+    wrong = first(wrong, 2, writes(&mut exact, "abc", b"abc", &[]));
+    wrong = first(wrong, 3, writes(&mut no_slots, "", &[], &[]));
+    wrong = first(wrong, 4, refuses(&mut no_slots, "a", &[], &[]));
+    assert!(rt; wrong == 0, "step {wrong}");
 }
 
 #[test]
 fn letters_of_several_bytes(rt: HostRuntime) {
     let mut v = ArrayVec::<[u8; 4]>::new();
-    assert_is!(rt; v.write_char('é'), Ok(()));
-    assert_items!(rt; v.as_slice(), [0xC3, 0xA9]);
-    assert_is!(rt; v.write_str("€"), Err(fmt::Error));
-    assert_items!(rt; v.as_slice(), [0xC3, 0xA9]);
+    let mut wrong = 0;
+    wrong = first(wrong, 1, v.write_char('é') == Ok(()));
+    wrong = first(wrong, 2, holds(&v, &[0xC3, 0xA9], &[0, 0]));
+    wrong = first(wrong, 3, refuses(&mut v, "€", &[0xC3, 0xA9], &[0, 0]));
+    assert!(rt; wrong == 0, "step {wrong}");
 }
 
 #[test]
 fn formatted(rt: HostRuntime) {
     let mut v = ArrayVec::<[u8; 10]>::new();
-    assert_is!(rt; v.write_str("> "), Ok(()));
     let x = 10;
     let y = 200;
-    assert_is!(rt; write!(v, "{x}, {y}"), Ok(()));
-    assert_items!(rt; v.as_slice(), *b"> 10, 200");
-    assert_is!(rt; write!(v, "{y}"), Err(fmt::Error));
-    assert_items!(rt; v.as_slice(), *b"> 10, 200");
+    let mut wrong = 0;
+    wrong = first(
+        wrong,
+        1,
+        writes(&mut v, "> ", b"> ", &[0, 0, 0, 0, 0, 0, 0, 0]),
+    );
+    wrong = first(wrong, 2, write!(v, "{x}, {y}") == Ok(()));
+    wrong = first(wrong, 3, holds(&v, b"> 10, 200", &[0]));
+    wrong = first(wrong, 4, write!(v, "{y}") == Err(fmt::Error));
+    wrong = first(wrong, 5, holds(&v, b"> 10, 200", &[0]));
+    assert!(rt; wrong == 0, "step {wrong}");
 }
