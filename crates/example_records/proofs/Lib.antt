@@ -1,3 +1,4 @@
+pub mod CommandLaws
 pub mod CutStreams
 pub mod FrameLaws
 pub mod Frames
