@@ -3,9 +3,9 @@ use Rattle.std.proofs.Common.{◌≡◌, ◌≢◌, ◌∙◌, ap, ap₂, sym, s
 use Rattle.std.specs.List.{AllByRecursion, after_first, position_or_len}
 use Rattle.std.specs.Str.Parse.{IsNumeral, digits_value, without_leading_plus}
 use Rattle.std.proofs.lemmas.Bool.{ltb-true}
-use Rattle.hex.specs.Hex.{decode_of}
 use Rattle.example_records.specs.Commands.{AreNumbers, AreSamples, Command, Does, IsDecimal, IsRead, IsReadOfCopy, IsRecord, Says, behind_comma, part_of, rest_of, word_of}
 use Rattle.example_records.specs.Commands.Command.{Add, Hex, Cut, Read, Copy}
+use Rattle.example_records.specs.Hex.{bytes_of}
 use Rattle.example_records.specs.Readings.{ReadingFits, Said, SamplesFit, said}
 use Rattle.example_records.specs.Stream.{BeginsWith, Gives, IsEnd, SpellsFrame, SpellsStream, StandsBehind}
 use Rattle.example_records.specs.declared.stream.Recovered.{Recovered}
@@ -115,8 +115,8 @@ no_room text numbers left other before full samples (inr are) fit = let b = befo
 
 -- ---- what the commands did
 
-same_ok : {A E : Type 0} (r : Result A E) (a b : A) → r ≡ Ok a → r ≡ Ok b → a ≡ b
-same_ok r a b p q = cc
+same_some : {A : Type 0} (o : Option A) (a b : A) → o ≡ Some a → o ≡ Some b → a ≡ b
+same_some o a b p q = cc
 
 pub added : (text old new : List ℕ) (c : Said) (frame : List ℕ) → IsRecord text c → ReadingFits c → SpellsFrame c frame → new ≡ old ++ frame
     → (command : Command) → Says (codes "add") text command → Does command old new (Ok None)
@@ -126,10 +126,10 @@ added text old new c frame is fits spelled e (Cut len) says = let w : 97 ≡ 99 
 added text old new c frame is fits spelled e Read says = let w : 97 ≡ 114 = ap (λ word. slice_index word 0) says.0 in absurd (omega (arith, w))
 added text old new c frame is fits spelled e Copy says = let w : 97 ≡ 99 = ap (λ word. slice_index word 0) says.0 in absurd (omega (arith, w))
 
-pub hex_added : (text old new bytes : List ℕ) → decode_of text ≡ Ok bytes → new ≡ old ++ bytes
+pub hex_added : (text old new bytes : List ℕ) → bytes_of text ≡ Some bytes → new ≡ old ++ bytes
     → (command : Command) → Says (codes "hex") text command → Does command old new (Ok None)
 hex_added text old new bytes is e (Add d) says = let w : 104 ≡ 97 = ap (λ word. slice_index word 0) says.0 in absurd (omega (arith, w))
-hex_added text old new bytes is e (Hex others) says = inl (refl, e ∙ ap (λ more. old ++ more) (same_ok (decode_of text) bytes others is says.1))
+hex_added text old new bytes is e (Hex others) says = inl (refl, e ∙ ap (λ more. old ++ more) (same_some (bytes_of text) bytes others is says.1))
 hex_added text old new bytes is e (Cut len) says = let w : 104 ≡ 99 = ap (λ word. slice_index word 0) says.0 in absurd (omega (arith, w))
 hex_added text old new bytes is e Read says = let w : 104 ≡ 114 = ap (λ word. slice_index word 0) says.0 in absurd (omega (arith, w))
 hex_added text old new bytes is e Copy says = let w : 104 ≡ 99 = ap (λ word. slice_index word 0) says.0 in absurd (omega (arith, w))

@@ -2,5 +2,6 @@ pub mod CommandLaws
 pub mod CutStreams
 pub mod FrameLaws
 pub mod Frames
+pub mod HexLaws
 pub mod Lengths
 pub mod WholeStreams

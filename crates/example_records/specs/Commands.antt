@@ -3,7 +3,7 @@ use Rattle.std.specs.Prelude.{◌≡◌, ◌≢◌, ℕ, ◌<◌, ◌≤◌, ◌
 use Rattle.std.specs.List.{AllByRecursion, after_first, before_first, position_or_len}
 use Rattle.std.specs.Str.{IsUtf8}
 use Rattle.std.specs.Str.Parse.{IsNumeral, digits_value, without_leading_plus}
-use Rattle.hex.specs.Hex.{decode_of}
+use Rattle.example_records.specs.Hex.{bytes_of}
 use Rattle.example_records.specs.Readings.{ReadingFits, Said, said}
 use Rattle.example_records.specs.Stream.{BeginsWith, Gives, IsCopy, IsEnd, SpellsFrame, SpellsStream, StandsBehind}
 use Rattle.example_records.specs.declared.command.CommandError.{CommandError}
@@ -74,7 +74,7 @@ command_word Copy = codes "copy"
 -- What stands behind the word: a record that a reading can have, pairs of digits in hex, a length, or nothing.
 abbrev pub IsAbout : Command → List ℕ → Type 0
 IsAbout (Add c) rest = IsRecord rest c × ReadingFits c
-IsAbout (Hex bytes) rest = decode_of rest ≡ Ok bytes
+IsAbout (Hex bytes) rest = bytes_of rest ≡ Some bytes
 IsAbout (Cut len) rest = IsDecimal rest len
 IsAbout Read rest = rest ≡ []
 IsAbout Copy rest = rest ≡ []

@@ -7,11 +7,11 @@ ghost use Rattle.example_records.specs.Commands.{behind_comma, part_of, rest_of,
 ghost use Rattle.example_records.specs.Readings.{ReadingFits, Said, SamplesFit, said};
 ghost use Rattle.example_records.specs.declared.command.CommandError.TheVariants.{Memory, Samples, Text, Unknown};
 
+use crate::hex::bytes_of_hex;
 use crate::length::stream_len;
 use crate::reading::Reading;
 use crate::stream::{Recovered, append_to, copied, read_all};
 use crate::stream_error::StreamError;
-use hex::FromHexError;
 use std::alloc::{AllocError, Global};
 use std::str;
 use thiserror::Error;
@@ -179,14 +179,9 @@ fn append_hex(
 ) -> Result<Option<Recovered>, CommandError>
     ensures { Answers (Says (codes "hex") text.now) stream.old.items stream.new.items result }
 {
-    match hex::decode(alloc, text.as_bytes()) {
-        Ok(bytes) => {
-            stream.extend_from_slice(bytes.as_slice())?;
-            Ok(None)
-        }
-        Err(FromHexError::OutOfMemory) => Err(CommandError::Memory),
-        Err(_) => Err(CommandError::Hex),
-    }
+    let bytes = bytes_of_hex(alloc, text.as_bytes())?;
+    stream.extend_from_slice(bytes.as_slice())?;
+    Ok(None)
 }
 
 // Keeps the first bytes.

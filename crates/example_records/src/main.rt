@@ -3,6 +3,7 @@
 
 mod command;
 mod failure;
+mod hex;
 mod length;
 mod reading;
 mod stream;
