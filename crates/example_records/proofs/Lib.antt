@@ -1,5 +1,7 @@
+pub mod CommandLaws
 pub mod CutStreams
 pub mod FrameLaws
 pub mod Frames
+pub mod HexLaws
 pub mod Lengths
 pub mod WholeStreams

@@ -1,4 +1,5 @@
 pub mod Commands
 pub mod Errors
+pub mod Hex
 pub mod Readings
 pub mod Stream

@@ -1,13 +1,19 @@
 //! The commands of the program.
-ghost use Rattle.std.specs.Prelude.{◌≡◌, ◌≤◌, ◌↔◌, ◌++◌, ℕ, List, Err, codes, length};
-ghost use Rattle.std.specs.Prelude.{IfErr, IfOk, IsOk, IsSome, OnErr, OnOk};
-ghost use Rattle.example_records.specs.Commands.{IsAppended, IsCommand, IsCutTo, IsDecimal, IsReading, rest_of, word_of};
-ghost use Rattle.example_records.specs.declared.command.CommandError.TheVariants.{Hex, Length, Samples, Unknown};
+ghost use Rattle.std.specs.Prelude.{◌≡◌, ℕ, List, Err, codes, IfErr, IfOk, OnErr, IsTrue, IsUtf8};
+ghost use Rattle.std.specs.Option.{option_copied};
+ghost use Rattle.tinyvec_slots.specs.Slots.{items};
+ghost use Rattle.example_records.specs.Commands.{Answers, AreSamples, Commands, IsCommand, IsMemoryOr, IsRecord, IsTold, Says};
+ghost use Rattle.example_records.specs.Commands.{behind_comma, part_of, rest_of, word_of};
+ghost use Rattle.example_records.specs.Readings.{ReadingFits, Said, SamplesFit, said};
+ghost use Rattle.example_records.specs.declared.command.CommandError.TheVariants.{Memory, Samples, Text, Unknown};
 
+use crate::hex::bytes_of_hex;
 use crate::length::stream_len;
 use crate::reading::Reading;
 use crate::stream::{Recovered, append_to, copied, read_all};
+use crate::stream_error::StreamError;
 use std::alloc::{AllocError, Global};
+use std::str;
 use thiserror::Error;
 use tinyvec::{ArrayVec, TinyVec};
 use tinyvec_io::Counted;
@@ -15,6 +21,9 @@ use tinyvec_io::Counted;
 /// Why a command was not carried out. The stream is as it was.
 #[derive(Debug, Clone, Copy, PartialEq, Eq, Error)]
 pub enum CommandError {
+    /// The line is no UTF-8.
+    #[error("no text in UTF-8")]
+    Text,
     /// There is no such command.
     #[error("no command: add, hex, cut, read and copy are")]
     Unknown,
@@ -30,45 +39,38 @@ pub enum CommandError {
     /// The length is no number, or is above that of the stream.
     #[error("no length within the stream")]
     Length,
+    /// Words stand behind a command that has none.
+    #[error("no words stand behind read and copy")]
+    Words,
     /// Memory was refused.
     #[error("out of memory")]
-    Memory(#[from(alloc)] AllocError),
+    Memory,
+}
+
+impl From<AllocError> for CommandError {
+    ghost from_gives = { λ _ given. given ≡ Memory };
+
+    fn from(_error: AllocError) -> CommandError {
+        CommandError::Memory
+    }
 }
 
 /// Carries out the command on a line. Answers what was read where the command is to read the stream or a copy of it.
 pub fn run(
     alloc: Global,
-    line: &str,
+    line: &[u8],
     stream: &mut Vec<u8>,
 ) -> Result<Option<Recovered>, CommandError>
-    ensures refused { OnErr result (stream.new.items ≡ stream.old.items) }
-    ensures read { IfOk result (λ answer. IsSome answer → stream.new.items ≡ stream.old.items) }
-    ensures reads { IfOk result (λ answer. IsSome answer ↔ IsReading (word_of line.now)) }
-    ensures unknown { (IsCommand (word_of line.now) → ⊥) → result ≡ Err Unknown }
+    ensures answers { Answers (Commands line.now) stream.old.items stream.new.items result }
 
-    // What each command does to the stream, and when it is refused.
-    ensures add { OnOk result (word_of line.now ≡ codes "add" → IsAppended stream.old.items stream.new.items) }
-    ensures hex { OnOk result (word_of line.now ≡ codes "hex"
-        → (bytes : List ℕ) × (stream.new.items ≡ stream.old.items ++ bytes)) }
-    ensures cut { OnOk result (word_of line.now ≡ codes "cut"
-        → IsCutTo (rest_of line.now) stream.old.items stream.new.items) }
-    ensures can_cut { (len : ℕ) → word_of line.now ≡ codes "cut" → IsDecimal (rest_of line.now) len
-        → len ≤ length stream.old.items → IsOk result }
-    ensures can_read { word_of line.now ≡ codes "read" → IsOk result }
+    // What is no text, and what has no command's word, is refused as that.
+    ensures text { (IsUtf8 line.now → ⊥) → result ≡ Err Text }
+    ensures unknown { IsUtf8 line.now → (IsCommand (word_of line.now) → ⊥) → result ≡ Err Unknown }
 {
-    let (word, rest) = first_word(line);
-    match word {
-        "add" => add(alloc, rest, stream)?,
-        "hex" => stream.extend_from_slice(bytes_of_hex(alloc, rest)?.as_slice())?,
-        "cut" => cut(rest, stream)?,
-        "read" => {
-            let mut reader = Counted::new(stream.as_slice());
-            return Ok(Some(read_all(alloc, &mut reader)));
-        }
-        "copy" => return Ok(Some(copy(alloc, stream.as_slice())?)),
-        _ => return Err(CommandError::Unknown),
+    match str::from_utf8(line) {
+        Ok(text) => obey(alloc, text, stream),
+        Err(_) => Err(CommandError::Text),
     }
-    Ok(None)
 }
 
 /// The records, a line each, and then where they end, and why no more were read.
@@ -83,14 +85,29 @@ pub fn shown(alloc: Global, recovered: &Recovered) -> Result<String, AllocError>
     Ok(text)
 }
 
+// Carries out the command of a text.
+fn obey(alloc: Global, text: &str, stream: &mut Vec<u8>) -> Result<Option<Recovered>, CommandError>
+    ensures answers { Answers (Says (word_of text.now) (rest_of text.now)) stream.old.items stream.new.items result }
+    ensures unknown { (IsCommand (word_of text.now) → ⊥) → result ≡ Err Unknown }
+{
+    let (word, rest) = first_word(text);
+    match word {
+        "add" => add(alloc, rest, stream),
+        "hex" => append_hex(alloc, rest, stream),
+        "cut" => cut(rest, stream),
+        "read" => read(alloc, rest, stream.as_slice()),
+        "copy" => copy(alloc, rest, stream.as_slice()),
+        _ => Err(CommandError::Unknown),
+    }
+}
+
 // Appends a record.
-fn add(alloc: Global, text: &str, stream: &mut Vec<u8>) -> Result<(), CommandError>
-    ensures ok { OnOk result (IsAppended stream.old.items stream.new.items) }
-    ensures refused { OnErr result (stream.new.items ≡ stream.old.items) }
+fn add(alloc: Global, text: &str, stream: &mut Vec<u8>) -> Result<Option<Recovered>, CommandError>
+    ensures { Answers (Says (codes "add") text.now) stream.old.items stream.new.items result }
 {
     let reading = parse_reading(alloc, text)?;
     append_to(alloc, &reading, stream)?;
-    Ok(())
+    Ok(None)
 }
 
 // The text before the first blank, and the text behind it.
@@ -101,89 +118,118 @@ fn first_word(text: &str) -> (&str, &str)
     text.split_once(' ').unwrap_or((text, ""))
 }
 
+// The text before the first comma, and the text behind it, if there is one.
+fn first_part(text: &str) -> (&str, Option<&str>)
+    ensures part { result.0.now ≡ part_of text.now }
+    ensures behind { option_copied result.1 ≡ behind_comma text.now }
+{
+    match text.split_once(',') {
+        Some((part, behind)) => (part, Some(behind)),
+        None => (text, None),
+    }
+}
+
 // `STATION SAMPLE,SAMPLE,.. NOTE`, or `STATION - NOTE` for no samples.
-fn parse_reading(alloc: Global, text: &str) -> Result<Reading, CommandError> {
+fn parse_reading(alloc: Global, text: &str) -> Result<Reading, CommandError>
+    ensures ok { IfOk result (λ reading. IsRecord text.now (said reading)) }
+    ensures err { IfErr result (IsMemoryOr ((c : Said) → IsRecord text.now c → ReadingFits c → ⊥)) }
+{
     let (station, rest) = first_word(text);
     let (samples, note) = first_word(rest);
     let Ok(station) = station.parse::<u32>() else {
         return Err(CommandError::Station);
     };
+    let samples = parse_samples(samples)?;
+    let note = TinyVec::from_slice(alloc, note.as_bytes())?;
     Ok(Reading {
         station,
-        samples: parse_samples(samples)?,
-        note: TinyVec::from_slice(alloc, note.as_bytes())?,
+        samples,
+        note,
     })
 }
 
 fn parse_samples(text: &str) -> Result<ArrayVec<[u16; 8]>, CommandError>
+    ensures ok { IfOk result (λ samples. AreSamples text.now (items samples)) }
+    ensures refused { OnErr result ((samples : List ℕ) → AreSamples text.now samples → SamplesFit samples → ⊥) }
     ensures err { IfErr result (λ e. e ≡ Samples) }
 {
     let mut samples = ArrayVec::new();
     if text == "-" {
         return Ok(samples);
     }
-    for part in text.split(',') {
+    let mut rest = Some(text);
+    while let Some(text) = rest {
+        let (part, behind) = first_part(text);
         let Ok(sample) = part.parse::<u16>() else {
             return Err(CommandError::Samples);
         };
         if samples.try_push(sample).is_some() {
             return Err(CommandError::Samples);
         }
+        rest = behind;
     }
     Ok(samples)
 }
 
-fn bytes_of_hex(alloc: Global, text: &str) -> Result<Vec<u8>, CommandError> {
-    let mut bytes = Vec::new(alloc);
-    let mut high = None;
-    for digit in text.bytes() {
-        let value = hex_value(digit)?;
-        match high {
-            None => high = Some(value),
-            Some(before) => {
-                bytes.push(before << 4 | value)?;
-                high = None;
-            }
-        }
-    }
-    match high {
-        None => Ok(bytes),
-        Some(_) => Err(CommandError::Hex),
-    }
-}
-
-fn hex_value(digit: u8) -> Result<u8, CommandError>
-    ensures err { IfErr result (λ e. e ≡ Hex) }
+// Appends bytes.
+fn append_hex(
+    alloc: Global,
+    text: &str,
+    stream: &mut Vec<u8>,
+) -> Result<Option<Recovered>, CommandError>
+    ensures { Answers (Says (codes "hex") text.now) stream.old.items stream.new.items result }
 {
-    match digit {
-        b'0'..=b'9' => Ok(digit - b'0'),
-        b'a'..=b'f' => Ok(digit - b'a' + 10),
-        _ => Err(CommandError::Hex),
-    }
+    let bytes = bytes_of_hex(alloc, text.as_bytes())?;
+    stream.extend_from_slice(bytes.as_slice())?;
+    Ok(None)
 }
 
-fn cut(text: &str, stream: &mut Vec<u8>) -> Result<(), CommandError>
-    ensures ok { OnOk result (IsCutTo text.now stream.old.items stream.new.items) }
-    ensures err { IfErr result (λ e. e ≡ Length) }
-    ensures succeeds { (len : ℕ) → IsDecimal text.now len → len ≤ length stream.old.items → IsOk result }
-    ensures refused { OnErr result (stream.new.items ≡ stream.old.items) }
+// Keeps the first bytes.
+fn cut(text: &str, stream: &mut Vec<u8>) -> Result<Option<Recovered>, CommandError>
+    ensures { Answers (Says (codes "cut") text.now) stream.old.items stream.new.items result }
 {
     match text.parse::<usize>() {
         Ok(len) if len <= stream.len() => {
             stream.truncate(len);
-            Ok(())
+            Ok(None)
         }
         _ => Err(CommandError::Length),
     }
 }
 
-// What is read of a new stream to which the records at the front of this one were appended.
-fn copy(alloc: Global, stream: &[u8]) -> Result<Recovered, CommandError> {
+// Reads the stream, where no words stand behind the command.
+fn read(alloc: Global, rest: &str, stream: &[u8]) -> Result<Option<Recovered>, CommandError>
+    ensures { Answers (Says (codes "read") rest.now) stream.now stream.now result }
+{
+    if rest.is_empty() {
+        Ok(Some(read_all(alloc, &mut Counted::new(stream))))
+    } else {
+        Err(CommandError::Words)
+    }
+}
+
+// Whether the input ended the reading.
+fn is_told(end: Result<(), StreamError>) -> bool
+    ensures { IsTrue result → IsTold end }
+{
+    !matches!(end, Err(StreamError::Io | StreamError::Memory))
+}
+
+// Reads a new stream to which the records of this one were appended, where no words stand behind the command.
+fn copy(alloc: Global, rest: &str, stream: &[u8]) -> Result<Option<Recovered>, CommandError>
+    ensures { Answers (Says (codes "copy") rest.now) stream.now stream.now result }
+{
+    if !rest.is_empty() {
+        return Err(CommandError::Words);
+    }
     let recovered = read_all(alloc, &mut Counted::new(stream));
+    // Both streams are in memory, so only a refusal of memory is a fault.
+    if !is_told(recovered.end) {
+        return Err(CommandError::Memory);
+    }
     match copied(alloc, recovered.records.as_slice()) {
-        Ok(copy) => Ok(copy),
-        // The new stream is in memory, so only a refusal of memory is a fault.
-        Err(_) => Err(CommandError::Memory(AllocError)),
+        Ok(copy) => Ok(Some(copy)),
+        Err(_) => Err(CommandError::Memory),
     }
 }
 

@@ -1,0 +1,27 @@
+use Rattle.std.proofs.Common.{◌≡◌, refl, rules, length, map}
+use Rattle.example_records.specs.Commands.{IsRead, IsReadOfCopy, IsTold}
+use Rattle.example_records.specs.Commands.Command.{Copy}
+use Rattle.example_records.specs.Readings.{said}
+use Rattle.example_records.specs.Stream.{IsCopy}
+use Rattle.example_records.proofs.CommandLaws.{copied_as, empty, is_read}
+use Rattle.example_records.proofs.command.copy.Goals as goal
+
+pub returns-in-Ok : goal.returns-in-Ok
+returns-in-Ok c =
+    let none : length c.args.rest.now ≡ 0 = search rules in
+    let given : c.new.result.end.now ≡ c.args.stream.now = search rules in
+    let first : IsRead c.args.stream.now (map said c.read_all-recovered.result.records.items) c.read_all-recovered.result.end = is_read c.args.stream.now _ _ _ _ _ given c.new.ensures.faults c.read_all-recovered.ensures.stands c.read_all-recovered.ensures.fit c.read_all-recovered.ensures.all in
+    let told : IsTold c.read_all-recovered.result.end = search rules in
+    let copied : IsCopy (map said c.read_all-recovered.result.records.items) (map said c.in-Ok.copy.records.items) c.in-Ok.copy.end = search rules in
+    let read : IsReadOfCopy c.args.stream.now (map said c.in-Ok.copy.records.items) c.in-Ok.copy.end = record {
+      records = map said c.read_all-recovered.result.records.items;
+      records_end = c.read_all-recovered.result.end;
+      first = first;
+      told = told;
+      copied = copied;
+    } in
+    record {
+      carried_out = copied_as c.args.rest.now c.args.stream.now c.in-Ok.copy read;
+      is_command = (Copy, (refl, empty c.args.rest.now none));
+      refused = tt;
+    }

@@ -1,0 +1,14 @@
+use Rattle.std.proofs.Common.{option_copied}
+use Rattle.tinyvec_slots.specs.Slots.{items}
+use Rattle.example_records.proofs.CommandLaws.{AreBefore, AreWith, text_left}
+use Rattle.example_records.proofs.command.parse_samples.Given as goal
+
+-- the samples so far are the first numbers, and those of what is left follow
+abbrev pub invariant-loop-rest : goal.invariant-loop-rest
+invariant-loop-rest l = record {
+  before : AreBefore l.fn.text (items l.samples) (option_copied l.rest);
+  with : AreWith l.fn.text (items l.samples) (option_copied l.rest);
+}
+
+abbrev pub decreases-loop-rest : goal.decreases-loop-rest
+decreases-loop-rest l = text_left (option_copied l.rest)

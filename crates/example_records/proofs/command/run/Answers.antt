@@ -1,0 +1,15 @@
+use Rattle.std.proofs.Common.{◌≡◌, IsUtf8, rules, subst, sym}
+use Rattle.tinyvec_borsh.proofs.Outcomes.{on-ok}
+use Rattle.example_records.specs.Commands.{Says, rest_of, word_of}
+use Rattle.example_records.proofs.command.run.Goals as goal
+
+pub returns-in-Ok-clause-answers : goal.returns-in-Ok-clause-answers
+returns-in-Ok-clause-answers c =
+    let same : c.in-Ok.text.now ≡ c.args.line.now = search rules in
+    let text : IsUtf8 c.args.line.now = search rules in
+    let answers = c.obey.ensures.answers in
+    record {
+      carried_out = λ command asks. answers.carried_out command (subst (λ text. Says (word_of text) (rest_of text) command) (sym same) asks.1);
+      is_command = on-ok c.obey.result (λ said. (said.0, (text, subst (λ text. Says (word_of text) (rest_of text) (said.0)) same said.1))) answers.is_command;
+      refused = answers.refused;
+    }
