@@ -5,7 +5,7 @@ ghost use Rattle.tinyvec_slots.specs.Slots.{items};
 ghost use Rattle.example_records.specs.Commands.{Answers, AreSamples, Commands, IsCommand, IsMemoryOr, IsRecord, IsTold, Says};
 ghost use Rattle.example_records.specs.Commands.{behind_comma, part_of, rest_of, word_of};
 ghost use Rattle.example_records.specs.Readings.{ReadingFits, Said, SamplesFit, said};
-ghost use Rattle.example_records.specs.declared.command.CommandError.TheVariants.{Memory, Samples, Text, Unknown};
+ghost use Rattle.example_records.specs.declared.command.CommandError.TheVariants.{Length, Memory, Samples, Text, Unknown};
 
 use crate::hex::bytes_of_hex;
 use crate::length::stream_len;
@@ -186,7 +186,8 @@ fn append_hex(
 
 // Keeps the first bytes.
 fn cut(text: &str, stream: &mut Vec<u8>) -> Result<Option<Recovered>, CommandError>
-    ensures { Answers (Says (codes "cut") text.now) stream.old.items stream.new.items result }
+    ensures answers { Answers (Says (codes "cut") text.now) stream.old.items stream.new.items result }
+    ensures err { IfErr result (λ e. e ≡ Length) }
 {
     match text.parse::<usize>() {
         Ok(len) if len <= stream.len() => {
