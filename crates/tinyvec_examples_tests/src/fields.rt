@@ -1,23 +1,15 @@
 //! The tutorial's functions. The fields of each line were written down by hand.
-use example_fields::{Field, key_and_value, split};
-use tinyvec_array::ArrayVec;
-
-// Whether there are fields from and up to these places.
-fn are_at(fields: &Option<ArrayVec<[Field; 8]>>, places: &[(usize, usize)]) -> bool {
-    let Some(fields) = fields else {
-        return false;
-    };
-    let mut are_at = fields.len() == places.len();
-    for (field, place) in fields.iter().zip(places) {
-        are_at &= (field.start == place.0) & (field.end == place.1);
-    }
-    are_at
-}
+use example_fields::{key_and_value, split};
+use std::test::Fail;
 
 #[test]
-fn three_fields(rt: HostRuntime) {
-    let fields = split(b"a,bc,", b',');
-    assert!(rt; are_at(&fields, &[(0, 1), (2, 4), (5, 5)]));
+fn three_fields(rt: HostRuntime) -> Result<(), Fail> {
+    let fields = split(b"a,bc,", b',').expect(&rt, "there are three fields");
+    assert!(rt; fields.len() == 3);
+    assert!(rt; (fields[0].start, fields[0].end) == (0, 1));
+    assert!(rt; (fields[1].start, fields[1].end) == (2, 4));
+    assert!(rt; (fields[2].start, fields[2].end) == (5, 5));
+    Ok(())
 }
 
 #[test]

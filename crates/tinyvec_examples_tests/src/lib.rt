@@ -30,8 +30,6 @@ mod slices;
 #[cfg(test)]
 mod splices;
 #[cfg(test)]
-mod steps;
-#[cfg(test)]
 mod tiny_vec;
 #[cfg(test)]
 mod writing;

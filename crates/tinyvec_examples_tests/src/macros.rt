@@ -1,39 +1,35 @@
 //! The callers of the macros.
-use crate::steps::are;
 use std::test::Fail;
 use tinyvec_examples::macros::*;
-use tinyvec_test_items::first;
-use tinyvec_test_looks::lies;
 
 #[test]
 fn arrays(rt: HostRuntime) {
-    let full = repeated();
-    let mut wrong = 0;
-    wrong = first(wrong, 1, are(listed().as_slice(), &[1, 2]));
-    wrong = first(wrong, 2, none_listed().is_empty());
-    wrong = first(wrong, 3, array_named().is_empty());
-    wrong = first(wrong, 4, are(evaluated(7).as_slice(), &[8, 7, 7]));
-    wrong = first(wrong, 5, full.is_full());
-    wrong = first(wrong, 6, full.into_inner() == [5, 5, 5]);
-    wrong = first(wrong, 7, empty().is_empty());
-    assert!(rt; wrong == 0, "step {wrong}");
+    assert!(rt; listed().as_slice() == [1, 2].as_slice());
+    assert!(rt; none_listed().is_empty());
+    assert!(rt; array_named().is_empty());
+    assert!(rt; evaluated(7).as_slice() == [8, 7, 7].as_slice());
+    assert!(rt; repeated().into_inner() == [5, 5, 5]);
+    assert!(rt; repeated().is_full());
+    assert!(rt; empty().is_empty());
 }
 
 #[test]
 fn tiny_vectors(rt: HostRuntime) -> Result<(), Fail> {
     let heap = rt.alloc();
-    let mut wrong = 0;
-    wrong = first(wrong, 1, lies(&fits(heap)?, &[1, 2], true));
-    wrong = first(wrong, 2, lies(&too_long(heap)?, &[1, 2, 3], false));
-    wrong = first(wrong, 3, none_listed_inline(heap)?.is_empty());
-    wrong = first(wrong, 4, array_named_inline(heap)?.is_empty());
-    wrong = first(
-        wrong,
-        5,
-        lies(&evaluated_on_the_heap(heap, 7)?, &[8, 7, 7], false),
-    );
-    wrong = first(wrong, 6, lies(&repeated_inline(heap)?, &[7, 7, 7, 7], true));
-    wrong = first(wrong, 7, empty_inline(heap)?.is_empty());
-    assert!(rt; wrong == 0, "step {wrong}");
+    let inline = fits(heap)?;
+    assert!(rt; inline.is_inline());
+    assert!(rt; inline.as_slice() == [1, 2].as_slice());
+    let longer = too_long(heap)?;
+    assert!(rt; !longer.is_inline());
+    assert!(rt; longer.as_slice() == [1, 2, 3].as_slice());
+    assert!(rt; none_listed_inline(heap)?.is_empty());
+    assert!(rt; array_named_inline(heap)?.is_empty());
+    let moved = evaluated_on_the_heap(heap, 7)?;
+    assert!(rt; !moved.is_inline());
+    assert!(rt; moved.as_slice() == [8, 7, 7].as_slice());
+    let full = repeated_inline(heap)?;
+    assert!(rt; full.is_inline());
+    assert!(rt; full.as_slice() == [7, 7, 7, 7].as_slice());
+    assert!(rt; empty_inline(heap)?.is_empty());
     Ok(())
 }

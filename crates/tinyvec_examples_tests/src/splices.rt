@@ -2,134 +2,76 @@
 ghost use Rattle.tinyvec.specs.Fused.{FusedFinite};
 ghost use Rattle.tinyvec.specs.TinySplice.{splice_replacement, SpliceCanStep, SpliceCanNext};
 
-use crate::steps::{are, is};
-use std::alloc::{AllocError, Global};
 use std::iter::Fuse;
-use std::ops::Range;
 use std::test::Fail;
 use tinyvec::{Array, TinyVec, TinyVecSplice};
 use tinyvec_array::{ArrayVec, SpliceRest};
 use tinyvec_examples::splicing::*;
 use tinyvec_examples::tiny_splicing;
-use tinyvec_test_items::first;
-use tinyvec_test_looks::lies;
 
 #[test]
 fn callers(rt: HostRuntime) {
-    let mut wrong = 0;
-    wrong = first(
-        wrong,
-        1,
-        is(longer(), (Some(3), Some(2), [1, 7, 8, 9, 4, 6])),
-    );
-    wrong = first(
-        wrong,
-        2,
-        is(shorter(), (Some(4), Some(2), [1, 7, 0, 0, 5, 6])),
-    );
-    wrong = first(wrong, 3, is(refused(), (9, Some(10), [1, 7, 8, 3])));
-    wrong = first(
-        wrong,
-        4,
-        is(refused_before_the_back(), (8, None, [1, 7, 9, 3])),
-    );
-    assert!(rt; wrong == 0, "step {wrong}");
-}
-
-type Four = ArrayVec<[i32; 4]>;
-
-fn replaces(v: &mut Four, start: usize, end: usize, by: Range<i32>, items: &[i32]) -> bool {
-    if start > end || end > v.len() {
-        return false;
-    }
-    replace(v, start, end, by).is_ok() & are(v.as_slice(), items)
-}
-
-// Whether these numbers find no room, and this is left.
-fn refuses(
-    v: &mut Four,
-    start: usize,
-    end: usize,
-    by: Range<i32>,
-    rest: (i32, Option<i32>),
-    items: &[i32],
-) -> bool {
-    if start > end || end > v.len() {
-        return false;
-    }
-    match replace(v, start, end, by) {
-        Ok(()) => false,
-        Err(refused) => gives(refused, rest) & are(v.as_slice(), items),
-    }
-}
-
-fn gives(refused: SpliceRest<i32, Fuse<Range<i32>>>, rest: (i32, Option<i32>)) -> bool {
-    let SpliceRest {
-        item,
-        rest: mut more,
-    } = refused;
-    (item, more.next()) == rest
-}
-
-// Whether the ends of the range are these, and no more slots are touched than nine, and no fewer than four.
-fn touches(v: &mut Four, by: Range<i32>, ends: (Option<i32>, Option<i32>), items: &[i32]) -> bool {
-    if v.len() < 3 {
-        return false;
-    }
-    let (first, last, touches) = touches_of_replace(v, 0, 3, by);
-    ((first, last) == ends) & (4..=9).contains(&touches) & are(v.as_slice(), items)
+    assert!(rt; longer() == (Some(3), Some(2), [1, 7, 8, 9, 4, 6]));
+    assert!(rt; shorter() == (Some(4), Some(2), [1, 7, 0, 0, 5, 6]));
+    assert!(rt; refused() == (9, Some(10), [1, 7, 8, 3]));
+    assert!(rt; refused_before_the_back() == (8, None, [1, 7, 9, 3]));
 }
 
 #[test]
 fn generic_callers(rt: HostRuntime) -> Result<(), Fail> {
-    let replacement = Vec::from_array(rt.alloc(), [4])?;
     let mut v = ArrayVec::from_array_len([1, 2, 3, 0], 3);
-    let ends = (Some(1), Some(6));
-    let mut wrong = 0;
-    wrong = first(wrong, 1, replaces(&mut v, 1, 3, 5..8, &[1, 5, 6, 7]));
-    wrong = first(
-        wrong,
-        2,
-        refuses(&mut v, 1, 2, 8..11, (9, Some(10)), &[1, 8, 6, 7]),
-    );
-    wrong = first(wrong, 3, touches(&mut v, 2..4, ends, &[2, 3, 7]));
+    assert!(rt; replace(&mut v, 1, 3, 5..8).is_ok());
+    assert!(rt; v.as_slice() == [1, 5, 6, 7].as_slice());
+    match replace(&mut v, 1, 2, 8..11) {
+        Ok(()) => panic!(rt; "there was no room"),
+        Err(SpliceRest { item, mut rest }) => {
+            assert!(rt; item == 9);
+            assert!(rt; rest.next() == Some(10));
+        }
+    }
+    assert!(rt; v.as_slice() == [1, 8, 6, 7].as_slice());
+
+    let (first, last, touches) = touches_of_replace(&mut v, 0, 3, 2..4);
+    assert!(rt; (first, last) == (Some(1), Some(6)));
+    assert!(rt; touches <= 9);
+    assert!(rt; 4 <= touches);
+    assert!(rt; v.as_slice() == [2, 3, 7].as_slice());
+
+    let mut replacement = Vec::new(rt.alloc());
+    replacement.push(4)?;
     replace_all(&mut v, replacement);
-    wrong = first(wrong, 4, is(v.into_inner(), [4, 0, 0, 0]));
-    assert!(rt; wrong == 0, "step {wrong}");
+    assert!(rt; v.into_inner() == [4, 0, 0, 0]);
     Ok(())
-}
-
-// Whether a replacement that fits the array leaves this.
-fn replaces_inline(alloc: Global, given: Option<i32>, items: &[i32]) -> bool {
-    let (first, all_fit, v) = tiny_splicing::replaced_inline(alloc);
-    (first == given) & all_fit & lies(&v, items, true)
-}
-
-// Whether a range is replaced in the array, and another by numbers for which it has no room. It fails where memory was refused.
-fn replaces_onto_the_heap(alloc: Global) -> Result<bool, AllocError> {
-    let mut v = TinyVec::from_array_len(alloc, [1, 2, 3, 0], 3);
-    let fits = tiny_splicing::replace(&mut v, 1, 2, 7..9).is_ok();
-    let is_inline = fits & lies(&v, &[1, 7, 8, 3], true);
-    if v.len() < 3 {
-        return Ok(false);
-    }
-    match tiny_splicing::replace(&mut v, 0, 3, 4..8) {
-        Ok(()) => Ok(is_inline & lies(&v, &[4, 5, 6, 7, 3], false)),
-        Err(_) => Err(AllocError),
-    }
 }
 
 #[test]
 fn callers_of_a_tiny_vec(rt: HostRuntime) -> Result<(), Fail> {
-    let mut wrong = 0;
-    wrong = first(
-        wrong,
-        1,
-        replaces_inline(rt.alloc(), Some(2), &[1, 7, 8, 3]),
+    let (first, all_fit, v) = tiny_splicing::replaced_inline(rt.alloc());
+    assert!(rt; first == Some(2));
+    assert!(rt; all_fit);
+    assert!(rt; v.as_slice() == [1, 7, 8, 3].as_slice());
+    assert!(rt; v.is_inline());
+
+    let mut v = TinyVec::from_array_len(rt.alloc(), [1, 2, 3, 0], 3);
+    assert!(rt; tiny_splicing::replace(&mut v, 1, 2, 7..9).is_ok());
+    assert!(rt; v.as_slice() == [1, 7, 8, 3].as_slice());
+    assert!(rt; v.is_inline());
+    assert!(rt;
+        tiny_splicing::replace(&mut v, 0, 3, 4..8).is_ok(),
+        "memory was granted"
     );
-    wrong = first(wrong, 2, replaces_onto_the_heap(rt.alloc())?);
-    assert!(rt; wrong == 0, "step {wrong}");
+    assert!(rt; v.as_slice() == [4, 5, 6, 7, 3].as_slice());
+    assert!(rt; !v.is_inline());
     Ok(())
+}
+
+#[test]
+fn one_item_from_each_end_of_a_tiny_vec(rt: HostRuntime) {
+    let mut v = TinyVec::from_array(rt.alloc(), [1, 2, 3, 4]);
+    let mut splice = v.splice(.., 7..9);
+    assert!(rt; tiny_splicing::one_from_each_end(&mut splice) == (Some(1), Some(4)));
+    assert!(rt; splice.finish().is_ok());
+    assert!(rt; v.as_slice() == [7, 8].as_slice());
 }
 
 // `next` needs no replacement that ends.
@@ -144,30 +86,11 @@ fn first_given<A: Array, I: Iterator<Item = A::Item>>(
     splice.next()
 }
 
-// Whether each of two splices of `[1, 2, 3, 4]` gives so, and leaves this.
-fn gives_from_each_end(alloc: Global, ends: (Option<i32>, Option<i32>), items: &[i32]) -> bool {
-    let mut v = TinyVec::from_array(alloc, [1, 2, 3, 4]);
-    let mut splice = v.splice(.., 7..9);
-    let is_given = tiny_splicing::one_from_each_end(&mut splice) == ends;
-    is_given & splice.finish().is_ok() & are(v.as_slice(), items)
-}
-
-fn gives_first(alloc: Global, item: Option<i32>, items: &[i32]) -> bool {
-    let mut v = TinyVec::from_array(alloc, [1, 2, 3, 4]);
-    let mut splice = v.splice(1..3, [7, 8]);
-    let is_given = first_given(&mut splice) == item;
-    is_given & splice.finish().is_ok() & are(v.as_slice(), items)
-}
-
 #[test]
-fn items_given_by_a_tiny_vec(rt: HostRuntime) {
-    let heap = rt.alloc();
-    let mut wrong = 0;
-    wrong = first(
-        wrong,
-        1,
-        gives_from_each_end(heap, (Some(1), Some(4)), &[7, 8]),
-    );
-    wrong = first(wrong, 2, gives_first(heap, Some(2), &[1, 7, 8, 4]));
-    assert!(rt; wrong == 0, "step {wrong}");
+fn first_item_of_a_tiny_vec(rt: HostRuntime) {
+    let mut v = TinyVec::from_array(rt.alloc(), [1, 2, 3, 4]);
+    let mut splice = v.splice(1..3, [7, 8]);
+    assert!(rt; first_given(&mut splice) == Some(2));
+    assert!(rt; splice.finish().is_ok());
+    assert!(rt; v.as_slice() == [1, 7, 8, 4].as_slice());
 }
