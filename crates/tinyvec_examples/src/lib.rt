@@ -1,6 +1,7 @@
 //! What a caller of the vectors can prove.
 #![tactic(auto)]
 
+pub mod calls;
 pub mod clones;
 pub mod comparing;
 pub mod draining;
@@ -10,6 +11,7 @@ pub mod known_items;
 pub mod lending;
 pub mod macros;
 pub mod making;
+pub mod ported;
 pub mod printing;
 pub mod readme;
 pub mod slices;

@@ -1,0 +1,5 @@
+//! Callers of the calls that no other example makes, a few lines each.
+pub mod array;
+pub mod lent;
+pub mod text;
+pub mod tiny;

@@ -1,0 +1,258 @@
+//! Callers of an `ArrayVec`.
+ghost use Rattle.std.specs.Prelude.{◌≡◌, ◌≢◌, ◌+◌, ◌<◌, ◌≤◌, ◌∷◌, [], ◌++◌, ◌↔◌, ◌==◌, length, take, pos, IsTrue, IsOk, IsErr, IsSome, OnOk, OnErr, IfOk, IfErr, IfNone};
+ghost use Rattle.tinyvec_array.specs.Slots.{items, spare, items_len};
+
+use std::alloc::{AllocError, Global};
+use tinyvec_array::{Array, ArrayVec, TryFromSliceError};
+
+/// An array whose slots are all spare.
+pub fn over_slots() -> ArrayVec<[i32; 3]>
+    ensures items { items result ≡ [] }
+    ensures spare { spare result ≡ pos 7 ∷ pos 8 ∷ pos 9 ∷ [] }
+{
+    ArrayVec::from_array_empty([7, 8, 9])
+}
+
+/// An array of two slots has no list of three.
+pub fn too_long() -> bool
+    ensures { IsTrue result }
+{
+    ArrayVec::try_from_array_len([7, 8], 3).is_err()
+}
+
+/// Numbers of a slice, which fails exactly where they do not fit.
+pub fn of_slice(numbers: &[u32]) -> Result<ArrayVec<[u32; 4]>, TryFromSliceError>
+    ensures items { IfOk result (λ v. items v ≡ numbers.now) }
+    ensures fits { IsOk result ↔ (length numbers.now ≤ 4) }
+{
+    ArrayVec::try_from_slice(numbers)
+}
+
+/// The numbers from 0 up to `end`, or those that fit.
+pub fn counted(end: u8) -> ArrayVec<[u8; 4]>
+    ensures { items_len result ≤ 4 }
+{
+    match ArrayVec::from_iter(0..end) {
+        Ok(v) => v,
+        Err(refused) => refused.vec,
+    }
+}
+
+/// The number of items that still fit.
+pub fn room<A: Array>(v: &ArrayVec<A>) -> usize
+    ensures { items_len v.now + result ≡ A.CAPACITY }
+{
+    v.capacity() - v.len()
+}
+
+/// As many spare slots are lent.
+pub fn spare_slots<A: Array>(v: &ArrayVec<A>) -> usize
+    ensures { items_len v.now + result ≡ A.CAPACITY }
+{
+    let _len = v.len();
+    v.grab_spare_slice().len()
+}
+
+/// The first slot, which may be spare.
+pub fn first_slot<const N: usize>(v: &ArrayVec<[u8; N]>) -> Option<u8>
+    ensures { IsSome result ↔ (0 < N) }
+{
+    v.as_inner().first().copied()
+}
+
+/// Whether there is a last item, which is dropped.
+pub fn drop_last<A: Array>(v: &mut ArrayVec<A>) -> bool
+    ensures last { IsTrue result ↔ (items v.old ≢ []) }
+{
+    if v.is_empty() {
+        return false;
+    }
+    let _last = v.pop();
+    true
+}
+
+/// The last item takes the place of the first.
+pub fn first_swapped() -> (i32, ArrayVec<[i32; 4]>)
+    ensures first { result.0 ≡ pos 1 }
+    ensures items { items result.1 ≡ pos 4 ∷ pos 2 ∷ pos 3 ∷ [] }
+{
+    let mut v = ArrayVec::from_array([1, 2, 3, 4]);
+    let first = v.swap_remove(0);
+    (first, v)
+}
+
+/// A full vector returns the item.
+pub fn put_first<A: Array>(v: &mut ArrayVec<A>, x: A::Item) -> Option<A::Item>
+    ensures put { IfNone result (items v.new ≡ x ∷ items v.old) }
+    ensures full { IsSome result ↔ (items_len v.old ≡ A.CAPACITY) }
+{
+    v.try_insert(0, x)
+}
+
+/// Both lists in the first vector where they fit there, else each as it was.
+pub fn joined<A: Array>(v: &mut ArrayVec<A>, other: &mut ArrayVec<A>) -> bool
+    ensures joined { IsTrue result → items v.new ≡ items v.old ++ items other.old }
+    ensures fits { IsTrue result ↔ (items_len v.old + items_len other.old ≤ A.CAPACITY) }
+{
+    v.append_if_fits(other).is_ok()
+}
+
+/// The same, without a word of the other vector.
+pub fn try_joined<A: Array>(v: &mut ArrayVec<A>, other: &mut ArrayVec<A>) -> bool
+    ensures { IsTrue result → items v.new ≡ items v.old ++ items other.old }
+{
+    v.try_append(other).is_none()
+}
+
+/// The first `n` items.
+pub fn cut_to<A: Array>(v: &mut ArrayVec<A>, n: usize)
+    ensures { items v.new ≡ take n (items v.old) }
+{
+    v.truncate(n);
+}
+
+/// No items.
+pub fn emptied<A: Array>(v: &mut ArrayVec<A>)
+    ensures { items v.new ≡ [] }
+{
+    v.clear();
+}
+
+/// The list of another vector, in the slots of this one.
+pub fn copied(v: &mut ArrayVec<[u8; 8]>, source: &ArrayVec<[u8; 8]>)
+    ensures { items v.new ≡ items source.now }
+{
+    if v.clone_from(source).is_err() {
+        unreachable!();
+    }
+}
+
+/// Each run of equal numbers as one.
+pub fn without_repeats() -> ArrayVec<[i32; 5]>
+    ensures { items result ≡ pos 1 ∷ pos 2 ∷ pos 1 ∷ [] }
+{
+    let mut v = ArrayVec::from_array([1, 1, 2, 2, 1]);
+    v.dedup();
+    v
+}
+
+/// Neighbours whose last digits are the same count as equal.
+pub fn last_digits_once(v: &mut ArrayVec<[u8; 8]>)
+    ensures { items_len v.new ≤ items_len v.old }
+{
+    v.dedup_by(|x, kept| *x % 10 == *kept % 10);
+}
+
+/// The same, by a key.
+pub fn last_digits_once_by_key(v: &mut ArrayVec<[u8; 8]>)
+    ensures { items_len v.new ≤ items_len v.old }
+{
+    v.dedup_by_key(|x| *x % 10);
+}
+
+/// Odd numbers are dropped, and the others halved.
+pub fn halved(v: &mut ArrayVec<[u8; 8]>)
+    ensures { items_len v.new ≤ items_len v.old }
+{
+    v.retain_mut(|x| {
+        let is_even = *x % 2 == 0;
+        *x /= 2;
+        is_even
+    });
+}
+
+/// Every item is set to 0. The length is known, and the spare slots.
+pub fn zeroed(v: &mut ArrayVec<[u8; 8]>)
+    ensures len { items_len v.new ≡ items_len v.old }
+    ensures spare { spare v.new ≡ spare v.old }
+{
+    for x in v.iter_mut() {
+        *x = 0;
+    }
+}
+
+/// A list of four, the new items 9.
+pub fn filled_up(v: &mut ArrayVec<[u8; 4]>)
+    ensures { items_len v.new ≡ 4 }
+{
+    if v.resize(4, 9).is_err() {
+        unreachable!();
+    }
+}
+
+/// The same, the new items made by a closure.
+pub fn filled_up_with(v: &mut ArrayVec<[u8; 4]>)
+    ensures { items_len v.new ≡ 4 }
+{
+    v.resize_with(4, || 9);
+}
+
+/// The list in a `Vec` of its own. The vector is empty then.
+pub fn in_vec<A: Array>(v: &mut ArrayVec<A>, alloc: Global) -> Result<Vec<A::Item>, AllocError>
+    ensures moved { IfOk result (λ out. out.items ≡ items v.old) }
+    ensures refused { OnErr result (v.new ≡ v.old) }
+{
+    v.drain_to_vec(alloc)
+}
+
+/// The same, by the other name.
+pub fn try_in_vec<A: Array>(v: &mut ArrayVec<A>, alloc: Global) -> Result<Vec<A::Item>, AllocError>
+    ensures moved { IfOk result (λ out. out.items ≡ items v.old) }
+    ensures refused { OnErr result (v.new ≡ v.old) }
+{
+    v.try_drain_to_vec(alloc)
+}
+
+/// The list in a `Vec`, and one item behind it, for which there is room.
+pub fn in_vec_with<A: Array>(
+    v: &mut ArrayVec<A>,
+    alloc: Global,
+    x: A::Item,
+) -> Result<Vec<A::Item>, AllocError>
+    ensures { IfOk result (λ out. out.items ≡ items v.old ++ x ∷ []) }
+{
+    let mut out = v.drain_to_vec_and_reserve(alloc, 1)?;
+    out.push_reserved(x);
+    Ok(out)
+}
+
+/// The same, by the other name.
+pub fn try_in_vec_with<A: Array>(
+    v: &mut ArrayVec<A>,
+    alloc: Global,
+    x: A::Item,
+) -> Result<Vec<A::Item>, AllocError>
+    ensures { IfOk result (λ out. out.items ≡ items v.old ++ x ∷ []) }
+{
+    let mut out = v.try_drain_to_vec_and_reserve(alloc, 1)?;
+    out.push_reserved(x);
+    Ok(out)
+}
+
+/// All items, moved behind those of a `Vec` that has room.
+pub fn moved_into<A: Array>(v: &mut ArrayVec<A>, alloc: Global) -> Result<Vec<A::Item>, AllocError>
+    ensures moved { IfOk result (λ out. out.items ≡ items v.old) }
+    ensures left { OnOk result (items v.new ≡ []) }
+{
+    let mut out = Vec::with_capacity(alloc, v.len())?;
+    v.drain_into(.., &mut out);
+    Ok(out)
+}
+
+/// A splice that is stopped at once has taken its range out.
+pub fn taken_out<A: Array>(v: &mut ArrayVec<A>, n: usize)
+    requires { n ≤ items_len v.old }
+    ensures { items v.new ≡ take n (items v.old) }
+{
+    let _rest = v.splice(n.., None).stop();
+}
+
+/// A splice that has only begun has touched nothing.
+pub fn untouched<A: Array>(v: &mut ArrayVec<A>) -> u128
+    ensures { result ≡ 0 }
+{
+    let splice = v.splice(.., None);
+    let touches = splice.touches();
+    let _rest = splice.stop();
+    touches
+}

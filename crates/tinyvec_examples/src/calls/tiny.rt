@@ -1,0 +1,307 @@
+//! Callers of a `TinyVec`.
+ghost use Rattle.std.specs.Prelude.{◌≡◌, ◌≢◌, ◌+◌, ◌-◌, ◌<◌, ◌≤◌, ◌∷◌, [], ◌++◌, ◌↔◌, length, take, drop, insert, remove, pos, false, IsTrue, IsOk, IsErr, OnOk, OnErr, IfOk, IfErr, vec_capacity};
+ghost use Rattle.std.specs.Box.{boxed_slice_items};
+ghost use Rattle.tinyvec_array.specs.Slots.{items};
+ghost use Rattle.tinyvec.specs.Tiny.{tiny_items, tiny_len, tiny_capacity, is_inline, IsInline, Unchanged};
+
+use std::alloc::{AllocError, Global};
+use std::boxed::BoxedSlice;
+use tinyvec::{Array, ArrayVec, TinyVec};
+
+/// The whole array is the list.
+pub fn of_array(alloc: Global) -> TinyVec<[i32; 3]>
+    ensures items { tiny_items result ≡ pos 1 ∷ pos 2 ∷ pos 3 ∷ [] }
+    ensures place { IsInline result }
+{
+    TinyVec::from_array(alloc, [1, 2, 3])
+}
+
+/// The list of an `ArrayVec`, which may grow now.
+pub fn of_array_vec<A: Array>(alloc: Global, v: ArrayVec<A>) -> TinyVec<A>
+    ensures items { tiny_items result ≡ items v }
+    ensures place { IsInline result }
+{
+    TinyVec::from_array_vec(alloc, v)
+}
+
+/// An array of two slots has no list of three.
+pub fn too_long(alloc: Global) -> bool
+    ensures { IsTrue result }
+{
+    TinyVec::try_from_array_len(alloc, [7, 8], 3).is_err()
+}
+
+/// Numbers of a slice, inline exactly where there are at most four.
+pub fn of_slice(alloc: Global, numbers: &[u32]) -> Result<TinyVec<[u32; 4]>, AllocError>
+    ensures items { IfOk result (λ v. tiny_items v ≡ numbers.now) }
+    ensures place { IfOk result (λ v. IsInline v ↔ (length numbers.now ≤ 4)) }
+    ensures succeeds { length numbers.now ≤ 4 → IsOk result }
+{
+    TinyVec::from_slice(alloc, numbers)
+}
+
+/// The numbers from 0 up to `end`, or those before the one that memory was refused for.
+pub fn counted(alloc: Global, end: u8) -> TinyVec<[u8; 4]> {
+    match TinyVec::from_iter(alloc, 0..end) {
+        Ok(v) => v,
+        Err(refused) => refused.vec,
+    }
+}
+
+/// Room for `n` items, on the heap where the array has less.
+pub fn with_room(alloc: Global, n: usize) -> Result<TinyVec<[u8; 4]>, AllocError>
+    ensures room { IfOk result (λ v. n ≤ tiny_capacity 4 v) }
+    ensures place { IfOk result (λ v. IsInline v ↔ (n ≤ 4)) }
+{
+    TinyVec::with_capacity(alloc, n)
+}
+
+/// `n` zeros.
+pub fn zeros(alloc: Global, n: usize) -> Result<TinyVec<[u8; 4]>, AllocError>
+    ensures { IfOk result (λ v. tiny_len v ≡ n) }
+{
+    TinyVec::with_initial_len(alloc, n)
+}
+
+/// Whether one more item fits where the list is.
+pub fn has_room<A: Array>(v: &TinyVec<A>) -> bool
+    ensures { IsTrue result ↔ (tiny_len v.now < tiny_capacity A.CAPACITY v.now) }
+{
+    v.len() < v.capacity()
+}
+
+/// A list is in one place or the other.
+pub fn is_somewhere<A: Array>(v: &TinyVec<A>) -> bool
+    ensures { IsTrue result }
+{
+    v.is_inline() || v.is_heap()
+}
+
+/// Appends an item where there is room, which takes no memory.
+pub fn push_if_room<A: Array>(v: &mut TinyVec<A>, x: A::Item)
+    ensures room { tiny_len v.old < tiny_capacity A.CAPACITY v.old → tiny_items v.new ≡ tiny_items v.old ++ x ∷ [] }
+    ensures place { is_inline v.new ≡ is_inline v.old }
+{
+    if v.len() < v.capacity() {
+        v.push_reserved(x);
+    }
+}
+
+/// Whether there is a last item, which is dropped.
+pub fn drop_last<A: Array>(v: &mut TinyVec<A>) -> bool
+    ensures last { IsTrue result ↔ (tiny_items v.old ≢ []) }
+    ensures place { is_inline v.new ≡ is_inline v.old }
+{
+    if v.is_empty() {
+        return false;
+    }
+    let _last = v.pop();
+    true
+}
+
+/// An item moved to the front.
+pub fn moved_to_front<A: Array>(v: &mut TinyVec<A>, i: usize) -> Result<(), AllocError>
+    requires { i < tiny_len v.old }
+    ensures { OnOk result ((x : A.Item) × (tiny_items v.new ≡ x ∷ remove (tiny_items v.old) i)) }
+{
+    let x = v.remove(i);
+    Ok(v.insert(0, x)?)
+}
+
+/// The last item takes the place of the first.
+pub fn first_swapped(alloc: Global) -> (i32, TinyVec<[i32; 4]>)
+    ensures first { result.0 ≡ pos 1 }
+    ensures items { tiny_items result.1 ≡ pos 4 ∷ pos 2 ∷ pos 3 ∷ [] }
+{
+    let mut v = TinyVec::from_array(alloc, [1, 2, 3, 4]);
+    let first = v.swap_remove(0);
+    (first, v)
+}
+
+/// Bytes behind the list, which takes no memory where there is room for them.
+pub fn with_bytes(v: &mut TinyVec<[u8; 16]>, bytes: &[u8]) -> Result<(), AllocError>
+    ensures items { OnOk result (tiny_items v.new ≡ tiny_items v.old ++ bytes.now) }
+    ensures succeeds { tiny_len v.old + length bytes.now ≤ tiny_capacity 16 v.old → IsOk result }
+{
+    v.extend_from_slice(bytes)
+}
+
+/// The first `n` items.
+pub fn cut_to<A: Array>(v: &mut TinyVec<A>, n: usize)
+    ensures { tiny_items v.new ≡ take n (tiny_items v.old) }
+{
+    v.truncate(n);
+}
+
+/// No items, in the same place.
+pub fn emptied<A: Array>(v: &mut TinyVec<A>)
+    ensures items { tiny_items v.new ≡ [] }
+    ensures place { is_inline v.new ≡ is_inline v.old }
+{
+    v.clear();
+}
+
+/// A list of `n` items, the new ones made by a closure.
+pub fn filled_up(v: &mut TinyVec<[u8; 4]>, n: usize) -> Result<(), AllocError>
+    ensures len { OnOk result (tiny_len v.new ≡ n) }
+    ensures refused { OnErr result (Unchanged v.old v.new) }
+{
+    v.resize_with(n, || 9)
+}
+
+/// The list of another vector.
+pub fn copied(v: &mut TinyVec<[u8; 8]>, source: &TinyVec<[u8; 8]>) -> Result<(), AllocError>
+    ensures { OnOk result (tiny_items v.new ≡ tiny_items source.now) }
+{
+    v.clone_from(source)
+}
+
+/// Each run of equal numbers as one.
+pub fn without_repeats(alloc: Global) -> TinyVec<[i32; 5]>
+    ensures { tiny_items result ≡ pos 1 ∷ pos 2 ∷ pos 1 ∷ [] }
+{
+    let mut v = TinyVec::from_array(alloc, [1, 1, 2, 2, 1]);
+    v.dedup();
+    v
+}
+
+/// Neighbours whose last digits are the same count as equal.
+pub fn last_digits_once(v: &mut TinyVec<[u8; 8]>)
+    ensures { tiny_len v.new ≤ tiny_len v.old }
+{
+    v.dedup_by(|x, kept| *x % 10 == *kept % 10);
+}
+
+/// The same, by a key.
+pub fn last_digits_once_by_key(v: &mut TinyVec<[u8; 8]>)
+    ensures { tiny_len v.new ≤ tiny_len v.old }
+{
+    v.dedup_by_key(|x| *x % 10);
+}
+
+/// Odd numbers are dropped, and the others halved.
+pub fn halved(v: &mut TinyVec<[u8; 8]>)
+    ensures { tiny_len v.new ≤ tiny_len v.old }
+{
+    v.retain_mut(|x| {
+        let is_even = *x % 2 == 0;
+        *x /= 2;
+        is_even
+    });
+}
+
+/// Every item is set to 0. The length is known, and the place.
+pub fn zeroed(v: &mut TinyVec<[u8; 8]>)
+    ensures len { tiny_len v.new ≡ tiny_len v.old }
+    ensures place { is_inline v.new ≡ is_inline v.old }
+{
+    for x in v.iter_mut() {
+        *x = 0;
+    }
+}
+
+/// The first item is set to 0.
+pub fn first_zeroed(v: &mut TinyVec<[u8; 8]>)
+    ensures len { tiny_len v.new ≡ tiny_len v.old }
+{
+    if let Some(first) = v.as_mut_slice().first_mut() {
+        *first = 0;
+    }
+}
+
+/// All items, moved behind those of a `Vec` that has room.
+pub fn moved_into<A: Array>(v: &mut TinyVec<A>, alloc: Global) -> Result<Vec<A::Item>, AllocError>
+    ensures moved { IfOk result (λ out. out.items ≡ tiny_items v.old) }
+    ensures left { OnOk result (tiny_items v.new ≡ []) }
+{
+    let mut out = Vec::with_capacity(alloc, v.len())?;
+    v.drain_into(.., &mut out);
+    Ok(out)
+}
+
+/// Room for `n` items more, and for no more than that where the list moves.
+pub fn with_exact_room<A: Array>(v: &mut TinyVec<A>, n: usize) -> Result<(), AllocError>
+    ensures { OnOk result (tiny_len v.old + n ≤ tiny_capacity A.CAPACITY v.new) }
+{
+    v.reserve_exact(n)
+}
+
+/// The same, by the other name.
+pub fn try_with_exact_room<A: Array>(v: &mut TinyVec<A>, n: usize) -> Result<(), AllocError>
+    ensures { OnOk result (tiny_len v.old + n ≤ tiny_capacity A.CAPACITY v.new) }
+{
+    v.try_reserve_exact(n)
+}
+
+/// Room for `n` items more, or perhaps for more than that.
+pub fn with_some_room<A: Array>(v: &mut TinyVec<A>, n: usize) -> Result<(), AllocError>
+    ensures room { OnOk result (tiny_len v.old + n ≤ tiny_capacity A.CAPACITY v.new) }
+    ensures refused { OnErr result (Unchanged v.old v.new) }
+{
+    v.try_reserve(n)
+}
+
+/// The list on the heap.
+pub fn on_heap<A: Array>(v: &mut TinyVec<A>) -> Result<(), AllocError>
+    ensures items { tiny_items v.new ≡ tiny_items v.old }
+    ensures place { OnOk result (is_inline v.new ≡ false) }
+{
+    v.try_move_to_the_heap()
+}
+
+/// The list on the heap, with room for `n` items more.
+pub fn on_heap_with_room<A: Array>(v: &mut TinyVec<A>, n: usize) -> Result<(), AllocError>
+    ensures items { tiny_items v.new ≡ tiny_items v.old }
+    ensures room { OnOk result (tiny_len v.old + n ≤ tiny_capacity A.CAPACITY v.new) }
+{
+    v.move_to_the_heap_and_reserve(n)
+}
+
+/// The same, by the other name.
+pub fn try_on_heap_with_room<A: Array>(v: &mut TinyVec<A>, n: usize) -> Result<(), AllocError>
+    ensures items { tiny_items v.new ≡ tiny_items v.old }
+    ensures room { OnOk result (tiny_len v.old + n ≤ tiny_capacity A.CAPACITY v.new) }
+{
+    v.try_move_to_the_heap_and_reserve(n)
+}
+
+/// The list as a `Vec`. Where memory is refused for it, the vector is dropped.
+pub fn as_vec<A: Array>(v: TinyVec<A>) -> Result<Vec<A::Item>, AllocError>
+    ensures { IfOk result (λ out. out.items ≡ tiny_items v) }
+{
+    Ok(v.into_vec()?)
+}
+
+/// The list as a slice of its own.
+pub fn boxed<A: Array>(v: TinyVec<A>) -> Result<BoxedSlice<A::Item>, AllocError>
+    ensures { IfOk result (λ out. boxed_slice_items out ≡ tiny_items v) }
+{
+    v.into_boxed_slice()
+}
+
+/// A splice that is stopped at once has taken its range out.
+pub fn taken_out<A: Array>(v: &mut TinyVec<A>, n: usize)
+    requires { n ≤ tiny_len v.old }
+    ensures items { tiny_items v.new ≡ take n (tiny_items v.old) }
+    ensures place { is_inline v.new ≡ is_inline v.old }
+{
+    let _rest = v.splice(n.., None).stop();
+}
+
+/// A splice that has only begun has touched nothing.
+pub fn untouched<A: Array>(v: &mut TinyVec<A>) -> u128
+    ensures { result ≡ 0 }
+{
+    let splice = v.splice(.., None);
+    let touches = splice.touches();
+    let _rest = splice.stop();
+    touches
+}
+
+/// How many slots it touches to take `n` items out in front: one for each item that follows.
+pub fn touches_of_cut(v: &mut TinyVec<[u8; 8]>, n: usize) -> u128
+    requires { n ≤ tiny_len v.old }
+{
+    let (_, touches) = v.splice(..n, None).finish_counted();
+    touches
+}
