@@ -1,6 +1,7 @@
 //! The examples of the documents, each as it stands there.
 
 pub mod array;
+pub mod below;
 pub mod filters;
 pub mod inline_text;
 pub mod loops;

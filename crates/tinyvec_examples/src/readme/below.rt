@@ -1,0 +1,22 @@
+//! Numbers below a limit, in a list that rarely needs the heap.
+ghost use Rattle.std.specs.Prelude.{◌≡◌, ◌≤◌, nat_lt, length, IfOk, IsOk};
+ghost use Rattle.std.specs.List.{filter};
+ghost use Rattle.tinyvec.specs.Tiny.{tiny_items, IsInline};
+
+use std::alloc::{AllocError, Global};
+use tinyvec::TinyVec;
+
+/// The numbers below `limit`, in order. Of up to eight numbers it allocates nothing, so it cannot fail.
+pub fn below(alloc: Global, numbers: &[u32], limit: u32) -> Result<TinyVec<[u32; 8]>, AllocError>
+    ensures items { IfOk result (λ v. tiny_items v ≡ filter (λ x. nat_lt x limit) numbers.now) }
+    ensures inline { length numbers.now ≤ 8 → IfOk result IsInline }
+    ensures succeeds { length numbers.now ≤ 8 → IsOk result }
+{
+    let mut v = TinyVec::new(alloc);
+    for number in numbers {
+        if *number < limit {
+            v.push(*number)?;
+        }
+    }
+    Ok(v)
+}
