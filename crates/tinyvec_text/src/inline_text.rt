@@ -4,6 +4,7 @@ ghost use Rattle.std.specs.Str.{all_scalars};
 ghost use Rattle.tinyvec.specs.Tiny.{tiny_items, is_inline, tiny_capacity};
 ghost use Rattle.tinyvec_text.specs.Text.{text_chars, text_len};
 
+mod clones;
 mod comparing;
 mod cutting;
 mod growing;

@@ -1,5 +1,5 @@
 //! Making a text, and giving its bytes away.
-use crate::steps::{begins, is_cut_at, lies};
+use crate::steps::{begins, clones, is_cut_at, lies};
 use std::convert::{AsSlice, AsStr};
 use std::test::Fail;
 use tinyvec_test_items::{all_right, first, granted_ok};
@@ -75,5 +75,20 @@ fn lent(rt: HostRuntime) -> Result<(), Fail> {
         3,
         AsSlice::as_slice(&t) == [0x68, 0xC3, 0xA9].as_slice(),
     );
+    all_right(wrong)
+}
+
+// A text on the heap is copied to the heap, also where it would fit the array.
+#[test]
+fn cloned(rt: HostRuntime) -> Result<(), Fail> {
+    let mut t: InlineText<4> = InlineText::new(rt.alloc());
+    let mut wrong = 0;
+    wrong = granted_ok(wrong, 1, clones(&t, "", true));
+    wrong = granted_ok(wrong, 2, begins(&mut t, rt.alloc(), "hé", true));
+    wrong = granted_ok(wrong, 3, clones(&t, "hé", true));
+    wrong = granted_ok(wrong, 4, begins(&mut t, rt.alloc(), "hello", false));
+    wrong = granted_ok(wrong, 5, clones(&t, "hello", false));
+    t.truncate(1);
+    wrong = granted_ok(wrong, 6, clones(&t, "h", false));
     all_right(wrong)
 }

@@ -118,3 +118,15 @@ pub(crate) fn writes(
     let written = t.write_str(more);
     makes(written, t, text, inline)
 }
+
+// Whether a copy is the same text and lies there, and the text stays as it was.
+pub(crate) fn clones<const N: usize>(
+    t: &InlineText<N>,
+    text: &str,
+    inline: bool,
+) -> Result<bool, AllocError> {
+    match t.clone() {
+        Ok(copy) => Ok(lies(&copy, text, inline) & lies(t, text, inline)),
+        Err(error) => Err(error),
+    }
+}

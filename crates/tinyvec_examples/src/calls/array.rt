@@ -1,5 +1,5 @@
 //! Callers of an `ArrayVec`.
-ghost use Rattle.std.specs.Prelude.{◌≡◌, ◌≢◌, ◌+◌, ◌<◌, ◌≤◌, ◌∷◌, [], ◌++◌, ◌↔◌, ◌==◌, length, take, pos, IsTrue, IsOk, IsErr, IsSome, OnOk, OnErr, IfOk, IfErr, IfNone};
+ghost use Rattle.std.specs.Prelude.{◌≡◌, ◌≢◌, ◌+◌, ◌<◌, ◌≤◌, ◌∷◌, [], ◌++◌, ◌↔◌, ◌==◌, length, take, pos, IsTrue, IsOk, IsSome, OnOk, OnErr, IfOk, IfNone};
 ghost use Rattle.tinyvec_array.specs.Slots.{items, spare, items_len};
 
 use std::alloc::{AllocError, Global};

@@ -1,5 +1,5 @@
 //! Callers of a `SliceVec`.
-ghost use Rattle.std.specs.Prelude.{◌≡◌, ◌+◌, ◌<◌, ◌≤◌, ◌∷◌, [], ◌++◌, ◌↔◌, length, take, drop, IsTrue, IsSome};
+ghost use Rattle.std.specs.Prelude.{◌≡◌, ◌+◌, ◌<◌, ◌≤◌, ◌↔◌, length, IsTrue, IsSome};
 ghost use Rattle.tinyvec_slice.specs.View.{items, spare, slots};
 
 use tinyvec_slice::SliceVec;

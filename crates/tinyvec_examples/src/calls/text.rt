@@ -1,5 +1,5 @@
 //! Callers of an `InlineText`.
-ghost use Rattle.std.specs.Prelude.{◌≡◌, ◌≢◌, ◌+◌, ◌<◌, ◌≤◌, ◌∷◌, [], ◌++◌, ◌↔◌, length, chars, IsTrue, OnOk, OnErr, IfOk};
+ghost use Rattle.std.specs.Prelude.{◌≡◌, ◌<◌, [], length, IsTrue, IfOk, IsOk};
 ghost use Rattle.tinyvec.specs.Tiny.{tiny_items};
 ghost use Rattle.tinyvec_text.specs.Text.{text_chars};
 
@@ -78,4 +78,12 @@ pub fn with_room(text: &mut InlineText<8>) -> Result<(), AllocError>
     ensures { text.new.bytes ≡ text.old.bytes }
 {
     text.reserve(20)
+}
+
+/// The same text once more, in the value where this one is.
+pub fn twice(text: &InlineText<8>) -> Result<InlineText<8>, AllocError>
+    ensures text { IfOk result (λ t. text_chars t ≡ text_chars text.now) }
+    ensures succeeds { IsTrue text.now.inline → IsOk result }
+{
+    text.clone()
 }
