@@ -13,8 +13,6 @@ table of each. With none of the four words in the middle, all four are measured.
 import os
 import sys
 
-# Nothing is written beside the sources.
-sys.dont_write_bytecode = True
 import growth
 import instructions
 import plots

@@ -88,12 +88,10 @@ class Crate:
     def has_tests(self):
         return any(path.endswith(".rt") and b"#[test]" in text for path, text in self.sources.items())
 
-    def has_new_tests(self):
-        """Whether the tests are there, built after each source of theirs was written."""
-        if not self.tests.exists():
-            return False
+    def is_newer(self, made):
+        """Whether this is there, made after each source of the crate, and of those below it, was written."""
         sources = [crate.folder / path for crate in [*self.below, self] for path in crate.sources]
-        return max(it.stat().st_mtime for it in sources) <= self.tests.stat().st_mtime
+        return made.exists() and max(it.stat().st_mtime for it in sources) <= made.stat().st_mtime
 
     def record(self):
         """What out/built holds where the crate was built from these very sources, and nobody built it anew since."""

@@ -120,10 +120,7 @@ def library(crate):
 def is_from_gate(crate):
     """Whether the gate built the library, and no source has changed since. What `rt lib` builds has a stamp, and it knows
     whether that is as its files are now. The gate leaves none, so `rt lib` would prove all again."""
-    if not library(crate).is_dir() or (crate.out / "rlib/stamp").exists():
-        return False
-    sources = [one.folder / path for one in (*crate.below, crate) for path in one.sources]
-    return max(it.stat().st_mtime for it in sources) < library(crate).stat().st_mtime
+    return not (crate.out / "rlib/stamp").exists() and crate.is_newer(library(crate))
 
 
 class Stopped(Exception):

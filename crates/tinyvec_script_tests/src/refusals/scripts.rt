@@ -256,3 +256,31 @@ ok [h!] inline
 fn add(rt: HostRuntime) -> Result<(), Fail> {
     tell(&rt, ADD.outcome(rt.alloc())?)
 }
+
+const ADD_ON_THE_HEAP: Script = Script {
+    input: b"X add hello
+X add , world, and all that is in it
+X cut 4
+",
+    granted: b"ok [hello] heap
+ok [hello, world, and all that is in it] heap
+ok [hell] heap
+",
+    with_a_refusal: &[
+        // without the move
+        b"memory [] inline
+ok [, world, and all that is in it] heap
+ok [, wo] heap
+",
+        // without the growth
+        b"ok [hello] heap
+memory [hello] heap
+ok [hell] heap
+",
+    ],
+};
+
+#[test]
+fn add_on_the_heap(rt: HostRuntime) -> Result<(), Fail> {
+    tell(&rt, ADD_ON_THE_HEAP.outcome(rt.alloc())?)
+}
