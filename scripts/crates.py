@@ -147,8 +147,8 @@ def statements_of(library):
 def require_rt():
     if not shutil.which("rt"):
         sys.exit(
-            "The command `rt`, which proves and builds the crates, is not on the path: take the version that README.md names "
-            "under `Toolchain`, and add the folder of its `rt` to PATH."
+            "The command `rt`, which proves and builds the crates, is not on the path: take the version that README.md names, "
+            "and add the folder of its `rt` to PATH."
         )
 
 

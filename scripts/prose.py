@@ -1,4 +1,4 @@
-#!/usr/bin/env python3
+#!/usr/bin/env -S python3 -B
 """Counts the words of the documents, and names sentences that are hard to read.
 
 usage: scripts/prose.py [DOCUMENT..]

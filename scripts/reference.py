@@ -1,4 +1,4 @@
-#!/usr/bin/env python3
+#!/usr/bin/env -S python3 -B
 """Writes the reference, docs/reference/*.md: each public call of a type, with its contract, a caller and what differs from Rust.
 
 usage: scripts/reference.py
@@ -10,9 +10,6 @@ What precedes the line MARK of a page is written by hand, and stays.
 import pathlib
 import re
 import sys
-
-# Nothing is written beside the sources.
-sys.dont_write_bytecode = True
 
 TOP = pathlib.Path(__file__).resolve().parent.parent
 MARK = "<!-- scripts/reference.py writes what follows -->"
