@@ -1,11 +1,13 @@
 -- What is spelled is read.
-use Rattle.std.proofs.Common.{◌≡◌, ◌∙◌, ap, sym, subst, ℕ, List, ◌++◌, Option, None, Some, Result, Ok, Err, IfOk, IfErr, [], append-nil}
+use Rattle.std.proofs.Common.{◌≡◌, ◌∙◌, ap, sym, subst, ℕ, ◌⊎◌, inl, inr, List, [], ◌∷◌, ◌++◌, map, refl, Option, None, Some, Result, Ok, Err, IfOk, IfErr, append-nil}
+use Rattle.std.proofs.lemmas.Simd.{map-map}
 use Rattle.tinyvec_borsh.specs.declared.borsh_error.BorshError.{BorshError}
 use Rattle.tinyvec_borsh.specs.declared.borsh_error.BorshError.TheVariants.{Ended, InvalidLength, Io, Memory}
 use Rattle.tinyvec_borsh.specs.Apart.{AreApart}
-use Rattle.tinyvec_borsh.specs.Code.{IsCode}
+use Rattle.tinyvec_borsh.specs.Code.{IsCode, TellsApart}
 use Rattle.tinyvec_borsh.specs.ItemsLaws.{same-item}
 use Rattle.tinyvec_borsh.specs.Reading.{Takes, Fails, MayBe, ReadsBack}
+use Rattle.tinyvec_borsh.proofs.Outcomes.{if-ok}
 
 module _ {T C : Type 0} (content : T → C) (Spells : C → List ℕ → Type 0) (code : IsCode Spells) where
   pub takes-it : (c d : C) (bytes rest : List ℕ) (new : Option (List ℕ)) → Spells c bytes → Takes (Spells d) (Some (bytes ++ rest)) new → (d ≡ c) × (new ≡ Some rest)
@@ -21,6 +23,36 @@ module _ {T C : Type 0} (content : T → C) (Spells : C → List ℕ → Type 0)
   reads-back Fits IsCut IsTooLong MayAsk apart old new before after (Err Io) ok err c bytes rest f p is = err
   reads-back Fits IsCut IsTooLong MayAsk apart old new before after (Err Memory) ok err c bytes rest f p is = subst (λ o. MayBe o MayAsk) is err
 
-  pub reads-written : (old new : Option (List ℕ)) (r : Result T BorshError) (c : C) (bytes : List ℕ) → Spells c bytes → old ≡ Some bytes → IfOk r (λ v. Takes (Spells (content v)) old new) → IfOk r (λ v. content v ≡ c)
-  reads-written old new (Ok v) c bytes p is t = (takes-it c (content v) bytes [] new p (subst (λ o. Takes (Spells (content v)) o new) (is ∙ ap Some (sym (append-nil bytes))) t)).0
-  reads-written old new (Err e) c bytes p is t = tt
+  outcome : (MayAsk : List ℕ → Type 0) (c : C) (input rest : List ℕ) (new : Option (List ℕ)) (before after : ℕ) (r : Result T BorshError) → ReadsBack content MayAsk c input rest new before after r
+      → IfOk r (λ v. content v ≡ c) × IfErr r (λ e. (e ≡ Io) ⊎ (e ≡ Memory))
+  outcome MayAsk c input rest new before after (Ok v) back = (back.0, tt)
+  outcome MayAsk c input rest new before after (Err Ended) back = absurd back
+  outcome MayAsk c input rest new before after (Err InvalidLength) back = absurd back
+  outcome MayAsk c input rest new before after (Err Io) back = (tt, inl refl)
+  outcome MayAsk c input rest new before after (Err Memory) back = (tt, inr refl)
+
+  -- what was written is read again, faults and want of memory aside
+  pub reads-written : (Fits : C → Type 0) (IsCut IsTooLong MayAsk : List ℕ → Type 0) → AreApart Spells Fits IsCut IsTooLong → (old new : Option (List ℕ)) (before after : ℕ) (r : Result T BorshError)
+      → IfOk r (λ v. Takes (Spells (content v)) old new) → IfErr r (Fails IsCut IsTooLong MayAsk old before after)
+      → (c : C) (bytes : List ℕ) → Fits c → Spells c bytes → old ≡ Some bytes → IfOk r (λ v. content v ≡ c) × IfErr r (λ e. (e ≡ Io) ⊎ (e ≡ Memory))
+  reads-written Fits IsCut IsTooLong MayAsk apart old new before after r ok err c bytes f p is =
+      outcome MayAsk c (bytes ++ []) [] new before after r (reads-back Fits IsCut IsTooLong MayAsk apart old new before after r ok err c bytes [] f p (is ∙ ap Some (sym (append-nil bytes))))
+
+-- Of items that differ only where their contents do, the lists are equal where their contents are.
+pub same-list : {T C : Type 0} (content : T → C) → TellsApart content → (xs ys : List T) → map content xs ≡ map content ys → xs ≡ ys
+same-list content apart [] [] e = refl
+same-list content apart [] (y ∷ ys) e = cc
+same-list content apart (x ∷ xs) [] e = cc
+same-list content apart (x ∷ xs) (y ∷ ys) e =
+    let first : content x ≡ content y = cc in
+    let more : map content xs ≡ map content ys = cc in
+    λ i. apart x y first i ∷ same-list content apart xs ys more i
+
+module _ {V E T C : Type 0} (content : T → C) (apart : TellsApart content) (r : Result V E) where
+  -- so a list that was read again is the one that was written
+  pub same-items : (items : V → List T) (v : V) → IfOk r (λ w. map content (items w) ≡ map content (items v)) → IfOk r (λ w. items w ≡ items v)
+  same-items items v = if-ok r (λ w. same-list content apart (items w) (items v))
+
+  -- and so of a list of lists
+  pub same-lists : {W : Type 0} (items : W → List T) (lists : V → List W) (v : V) → IfOk r (λ w. map (λ l. map content (items l)) (lists w) ≡ map (λ l. map content (items l)) (lists v)) → IfOk r (λ w. map items (lists w) ≡ map items (lists v))
+  same-lists items lists v = if-ok r (λ w e. same-list (map content) (same-list content apart) (map items (lists w)) (map items (lists v)) (map-map (map content) items (lists w) ∙ e ∙ sym (map-map (map content) items (lists v))))

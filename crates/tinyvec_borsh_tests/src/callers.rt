@@ -1,9 +1,13 @@
 //! What callers can prove of every type that can be written and read.
-ghost use Rattle.std.specs.Prelude.{◌≡◌, ◌++◌, ℕ, List, IfOk};
+ghost use Rattle.std.specs.Prelude.{◌≡◌, ◌⊎◌, ◌++◌, ℕ, List, map, IfErr, IfOk};
+ghost use Rattle.tinyvec_slots.specs.Slots.{items};
+ghost use Rattle.tinyvec.specs.Tiny.{tiny_items};
+ghost use Rattle.tinyvec_borsh.specs.Code.{TellsApart};
 ghost use Rattle.tinyvec_borsh.specs.Reading.{ReadsBack};
 
 use std::alloc::Global;
 use std::io::Read;
+use tinyvec::{Array, ArrayVec, TinyVec};
 use tinyvec_borsh::{BorshDeserialize, BorshError, BorshSerialize};
 use tinyvec_io::Counted;
 
@@ -21,13 +25,72 @@ pub fn read_back<T: BorshDeserialize, R: Read>(
     T::deserialize_reader(alloc, reader)
 }
 
-/// What was written is read again, with the same content.
+/// What was written is read again, with the same content, faults and want of memory aside.
 pub fn copied<T: BorshSerialize + BorshDeserialize>(alloc: Global, v: &T) -> Result<T, BorshError>
-    ensures { IfOk result (λ w. T.content_of w ≡ T.content_of v.now) }
+    ensures same { IfOk result (λ w. T.content_of w ≡ T.content_of v.now) }
+    ensures err { IfErr result (λ e. (e ≡ BorshError.Io) ⊎ (e ≡ BorshError.Memory)) }
 {
     let mut writer = Counted::new(Vec::new(alloc));
     v.serialize(&mut writer)?;
     let bytes = writer.into_inner();
     let mut reader = Counted::new(bytes.as_slice());
     T::deserialize_reader(alloc, &mut reader)
+}
+
+/// A list that was written is read again as an equal list, of all items that differ only where their contents do.
+pub fn copied_array<A: Array>(alloc: Global, v: &ArrayVec<A>) -> Result<ArrayVec<A>, BorshError>
+where
+    A::Item: BorshSerialize + BorshDeserialize,
+    requires { TellsApart A.Item.content_of }
+    ensures same { IfOk result (λ w. items w ≡ items v.now) }
+    ensures err { IfErr result (λ e. (e ≡ BorshError.Io) ⊎ (e ≡ BorshError.Memory)) }
+{
+    copied(alloc, v)
+}
+
+/// The same of a list that may lie on the heap.
+pub fn copied_tiny<A: Array>(alloc: Global, v: &TinyVec<A>) -> Result<TinyVec<A>, BorshError>
+where
+    A::Item: BorshSerialize + BorshDeserialize,
+    requires { TellsApart A.Item.content_of }
+    ensures same { IfOk result (λ w. tiny_items w ≡ tiny_items v.now) }
+    ensures err { IfErr result (λ e. (e ≡ BorshError.Io) ⊎ (e ≡ BorshError.Memory)) }
+{
+    copied(alloc, v)
+}
+
+/// The same of a list of lists.
+pub fn copied_lists<A: Array, const N: usize>(
+    alloc: Global,
+    v: &TinyVec<[ArrayVec<A>; N]>,
+) -> Result<TinyVec<[ArrayVec<A>; N]>, BorshError>
+where
+    A::Item: BorshSerialize + BorshDeserialize,
+    requires { TellsApart A.Item.content_of }
+    ensures same { IfOk result (λ w. map items (tiny_items w) ≡ map items (tiny_items v.now)) }
+    ensures err { IfErr result (λ e. (e ≡ BorshError.Io) ⊎ (e ≡ BorshError.Memory)) }
+{
+    copied(alloc, v)
+}
+
+/// Of whole numbers that holds, since they are their own contents.
+pub fn copied_numbers(
+    alloc: Global,
+    unsigned: &TinyVec<[u16; 4]>,
+    signed: &ArrayVec<[i64; 4]>,
+) -> Result<(TinyVec<[u16; 4]>, ArrayVec<[i64; 4]>), BorshError>
+    ensures unsigned { IfOk result (λ w. tiny_items w.0 ≡ tiny_items unsigned.now) }
+    ensures signed { IfOk result (λ w. items w.1 ≡ items signed.now) }
+{
+    Ok((copied_tiny(alloc, unsigned)?, copied_array(alloc, signed)?))
+}
+
+/// And of lists of them.
+pub fn copied_lists_of_numbers(
+    alloc: Global,
+    v: &TinyVec<[ArrayVec<[u8; 4]>; 2]>,
+) -> Result<TinyVec<[ArrayVec<[u8; 4]>; 2]>, BorshError>
+    ensures { IfOk result (λ w. map items (tiny_items w) ≡ map items (tiny_items v.now)) }
+{
+    copied_lists(alloc, v)
 }

@@ -92,14 +92,14 @@ fn numbers_are_written_in_blocks(rt: HostRuntime) -> Result<(), Fail> {
 
 #[test]
 fn bytes_are_read_in_blocks(rt: HostRuntime) -> Result<(), Fail> {
-    let bytes = sevens(rt.alloc(), [220, 5, 0, 0, 0, 0, 0, 0], 1500)?;
+    let bytes = sevens(rt.alloc(), [136, 19, 0, 0, 0, 0, 0, 0], 5000)?;
     let input = bytes.as_slice();
     let mut wrong = 0;
     wrong = granted_ok(wrong, 1, is_read_by::<u128>(1, rt.alloc(), input));
     wrong = granted_ok(
         wrong,
         2,
-        is_read_by::<ArrayVec<[u8; 1500]>>(2, rt.alloc(), input),
+        is_read_by::<ArrayVec<[u8; 5000]>>(2, rt.alloc(), input),
     );
     wrong = granted_ok(
         wrong,

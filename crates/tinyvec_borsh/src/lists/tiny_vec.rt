@@ -11,11 +11,20 @@ use super::read_items;
 use crate::{BorshDeserialize, BorshError, BorshForm, BorshSerialize};
 use std::alloc::Global;
 use std::io::{Read, Write};
+use std::mem;
 use tinyvec::{Array, TinyVec};
 use tinyvec_io::Counted;
 
-/// For so many items room is asked for before the first is read.
-const ROOM_AHEAD: u64 = 1024;
+/// The most bytes that defaults take before the items are read into them, each with the tag of an `Option`.
+const BYTES_AHEAD: usize = 8192;
+
+// For how many items room is made before the first of them is read. The size of a type parameter is known only of a value:
+// `None` is one that makes no default.
+fn items_ahead<T: Drop>() -> usize
+    ensures { 0 < result }
+{
+    BYTES_AHEAD / mem::size_of_val(&None::<T>).clamp(1, BYTES_AHEAD)
+}
 
 impl<A: Array> BorshForm for TinyVec<A>
 where
@@ -75,7 +84,8 @@ where
         ensures place { IfOk result (λ v. IsInline v ↔ (tiny_len v ≤ A.CAPACITY)) }
     {
         let count = u64::deserialize_reader(alloc, reader)?;
-        let Ok(mut v) = TinyVec::with_capacity(alloc, count.min(ROOM_AHEAD) as usize) else {
+        let ahead = count.min(items_ahead::<A::Item>() as u64) as usize;
+        let Ok(mut v) = TinyVec::with_capacity(alloc, ahead) else {
             return Err(BorshError::Memory);
         };
         while (v.len() as u64) < count {
@@ -85,7 +95,7 @@ where
     }
 }
 
-// Reads the next items of so many in all, up to 1024 of them, into room that is made first.
+// Reads a block of the items, which are `count` in all, into defaults.
 fn read_more<A: Array, R: Read>(
     alloc: Global,
     v: &mut TinyVec<A>,
@@ -108,7 +118,7 @@ where
     ensures grows { reader.old.faults ≤ reader.new.faults }
 {
     let start = v.len();
-    let end = start + (count - start as u64).min(ROOM_AHEAD) as usize;
+    let end = start + (count - start as u64).min(items_ahead::<A::Item>() as u64) as usize;
     let Ok(()) = v.resize_with(end, || A::Item::default()) else {
         return Err(BorshError::Memory);
     };

@@ -1,8 +1,8 @@
-use Rattle.std.proofs.Common.{inl, inr, ap, subst, IsOk, arith, ◌+◌, ◌≤◌, length, length-append}
-use Rattle.tinyvec.specs.Tiny.{tiny_items, tiny_len}
+use Rattle.std.proofs.Common.{inl, inr, arith}
+use Rattle.tinyvec.specs.Tiny.{tiny_items}
 use Rattle.std.proofs.lemmas.List.{length-map}
 use Rattle.std.proofs.lemmas.Result.{err_from_is_err_and}
-use Rattle.tinyvec_borsh.proofs.Place.{place-longer, refused-above, wanting-above}
+use Rattle.tinyvec_borsh.proofs.Place.{placed-longer, refused-above, wanting-above}
 use Rattle.tinyvec_borsh.proofs.ItemByItem.{counts-above, fails-wanting, maybe-so, read-appended, read-first}
 use Rattle.tinyvec_borsh.proofs.lists.tiny_vec.TinyVecBorshDeserialize.deserialize_reader.Goals as goal
 
@@ -11,17 +11,15 @@ returns-in_default-clause-err g c =
     maybe-so _ _ _ (λ input above. inl above)
     (counts-above g.A.Item.BorshForm.Spells g.A.Item.BorshForm.Fits g.A.Array.CAPACITY _ _ _ _
     (read-first g.A.Item.BorshForm.Spells g.A.Item.BorshForm.Fits _ _ _ c.in_ok-count.ensures.ok)
-    (refused-above g.A.Array.CAPACITY c.in_ok-count.count c.with_capacity.result c.in_default.field-0 c.in_default.is (subst (λ m. m ≤ g.A.Array.CAPACITY → IsOk c.with_capacity.result) c.min.ensures c.with_capacity.ensures.succeeds)))
+    (refused-above g.A.Array.CAPACITY c.in_ok-count.count _ c.with_capacity.result c.in_default.field-0 c.in_default.is (omega (arith, c.min-ahead.ensures)) c.with_capacity.ensures.succeeds))
 
 pub loop-alloc-preserved : goal.loop-alloc-preserved
 loop-alloc-preserved g c =
     let t = c.in_ok-read_more.ensures.ok in
-    let long = length-append (tiny_items c.loop-alloc.v) t.0 in
-    let longer : tiny_len c.loop-alloc.v + 1 ≤ tiny_len c.read_more.new.v = omega (arith, ap length t.1, long, t.2) in
     record {
       read = read-appended g.A.Item.BorshForm.Spells g.A.Item.BorshForm.Fits g.A.Item.BorshForm.content_of _ _ t.0 _ _ _ _ t.1 c.loop-alloc.invariant.read t.5 t.4;
       few = t.3;
-      place = place-longer g.A.Array.CAPACITY _ c.loop-alloc.v c.read_more.new.v (omega (arith, longer)) c.in_ok-read_more.ensures.place c.loop-alloc.invariant.place;
+      place = placed-longer g.A.Array.CAPACITY _ c.loop-alloc.v c.read_more.new.v t.3 c.in_ok-read_more.ensures.place c.loop-alloc.invariant.place;
       grows = omega arith;
     }
 
@@ -32,5 +30,5 @@ returns-in_err-read_more-clause-err g c =
     rw (p.1, p.2) (fails-wanting g.A.Item.BorshForm.Spells g.A.Item.BorshForm.Fits g.A.Item.BorshDeserialize.IsCut g.A.Item.BorshDeserialize.IsTooLong g.A.Item.BorshDeserialize.MayAsk _ _
     _ c.in_ok-count.count _ _ _ _ _ _ _ _ c.loop-alloc.invariant.read (omega (arith, long, c.loop-alloc.invariant.few)) (omega (arith, long, c.loop-alloc.invariant.few, c.in_ok-count.ensures.fits)) c.loop-alloc.invariant.grows
     (λ wanting. maybe-so _ _ _ (λ input above. inl above) (counts-above g.A.Item.BorshForm.Spells g.A.Item.BorshForm.Fits g.A.Array.CAPACITY _ _ _ _ c.loop-alloc.invariant.read
-    (wanting-above g.A.Array.CAPACITY c.in_ok-count.count c.loop-alloc.v wanting c.loop-alloc.invariant.few c.loop-alloc.invariant.place)))
+    (wanting-above g.A.Array.CAPACITY c.in_ok-count.count c.loop-alloc.v wanting c.loop-alloc.invariant.place)))
     (λ input asks. inr asks) c.in_err-read_more.ensures.err)

@@ -1,6 +1,7 @@
-use Rattle.std.proofs.Common.{◌-◌, ◌≤◌, ◌↔◌, map, min}
-use Rattle.tinyvec.specs.Tiny.{tiny_items, tiny_len, IsInline}
+use Rattle.std.proofs.Common.{◌-◌, ◌≤◌, map}
+use Rattle.tinyvec.specs.Tiny.{tiny_items, tiny_len}
 use Rattle.tinyvec_borsh.proofs.ItemByItem.{WasRead}
+use Rattle.tinyvec_borsh.proofs.Place.{IsPlaced}
 use Rattle.tinyvec_borsh.proofs.lists.tiny_vec.TinyVecBorshDeserialize.deserialize_reader.Given as goal
 
 -- the items so far were read, and are the list
@@ -8,7 +9,7 @@ abbrev pub invariant-loop-alloc : goal.invariant-loop-alloc
 invariant-loop-alloc g l = record {
   read : WasRead g.A.Item.BorshForm.Spells g.A.Item.BorshForm.Fits l.count (map g.A.Item.BorshForm.content_of (tiny_items l.v)) (g.R.Read.remaining l.fn.reader.end) (g.R.Read.remaining l.reader.end);
   few : tiny_len l.v ≤ l.count;
-  place : IsInline l.v ↔ ((min l.count 1024 ≤ g.A.Array.CAPACITY) × (tiny_len l.v ≤ g.A.Array.CAPACITY));
+  place : IsPlaced g.A.Array.CAPACITY l.count l.v;
   grows : l.fn.reader.faults ≤ l.reader.faults;
 }
 
