@@ -1,5 +1,5 @@
 -- The commands of the program: which lines are commands, and what each does to the stream and answers.
-use Rattle.std.specs.Prelude.{◌≡◌, ◌≢◌, ℕ, ◌<◌, ◌≤◌, ◌⊎◌, nat_lt, if◌then◌else◌, List, [], ◌∷◌, ◌++◌, length, map, take, codes, eqb, Option, None, Some, Ok, Err, Result, OnOk, OnErr}
+use Rattle.std.specs.Prelude.{◌≡◌, ◌≢◌, ℕ, ◌<◌, ◌≤◌, ◌^◌, ◌⊎◌, nat_lt, if◌then◌else◌, List, [], ◌∷◌, ◌++◌, length, map, take, codes, eqb, Option, None, Some, Ok, Err, Result, OnOk, OnErr}
 use Rattle.std.specs.List.{AllByRecursion, after_first, before_first, position_or_len}
 use Rattle.std.specs.Str.{IsUtf8}
 use Rattle.std.specs.Str.Parse.{IsNumeral, digits_value, without_leading_plus}
@@ -7,7 +7,7 @@ use Rattle.example_records.specs.Hex.{bytes_of}
 use Rattle.example_records.specs.Readings.{ReadingFits, Said, said}
 use Rattle.example_records.specs.Stream.{BeginsWith, Gives, IsCopy, IsEnd, SpellsFrame, SpellsStream, StandsBehind}
 use Rattle.example_records.specs.declared.command.CommandError.{CommandError}
-use Rattle.example_records.specs.declared.command.CommandError.TheVariants.{Length, Memory}
+use Rattle.example_records.specs.declared.command.CommandError.TheVariants.{Hex as NoHex, Length, Memory, Samples, Station, Text, Unknown, Words}
 use Rattle.example_records.specs.declared.stream.Recovered.{Recovered}
 use Rattle.example_records.specs.declared.stream_error.StreamError.{StreamError}
 use Rattle.example_records.specs.declared.stream_error.StreamError.TheVariants.{Io, Memory as NoMemory}
@@ -90,6 +90,21 @@ Commands line command = IsUtf8 line × Says (word_of line) (rest_of line) comman
 -- there is a command of this word
 abbrev pub IsCommand : List ℕ → Type 0
 IsCommand word = (command : Command) × (word ≡ command_word command)
+
+-- the record begins with the number of a station
+abbrev pub HasStation : List ℕ → Type 0
+HasStation rest = (number : ℕ) × IsDecimal (word_of rest) number × (number < 2 ^ 32)
+
+-- The reason of a refusal, by the first word and what stands behind it.
+abbrev pub Tells : (word rest : List ℕ) → CommandError → Type 0
+Tells word rest Text = ⊥
+Tells word rest Unknown = IsCommand word → ⊥
+Tells word rest Station = (word ≡ codes "add") × (HasStation rest → ⊥)
+Tells word rest Samples = (word ≡ codes "add") × HasStation rest
+Tells word rest NoHex = word ≡ codes "hex"
+Tells word rest Length = word ≡ codes "cut"
+Tells word rest Words = (word ≡ codes "read") ⊎ (word ≡ codes "copy")
+Tells word rest Memory = (word ≡ codes "add") ⊎ ((word ≡ codes "hex") ⊎ (word ≡ codes "copy"))
 
 -- ---- what they do
 

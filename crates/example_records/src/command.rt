@@ -2,10 +2,10 @@
 ghost use Rattle.std.specs.Prelude.{◌≡◌, ℕ, List, Err, codes, IfErr, IfOk, OnErr, IsTrue, IsUtf8};
 ghost use Rattle.std.specs.Option.{option_copied};
 ghost use Rattle.tinyvec_slots.specs.Slots.{items};
-ghost use Rattle.example_records.specs.Commands.{Answers, AreSamples, Commands, IsCommand, IsMemoryOr, IsRecord, IsTold, Says};
+ghost use Rattle.example_records.specs.Commands.{Answers, AreSamples, Commands, IsCommand, IsMemoryOr, IsRecord, IsTold, Says, Tells};
 ghost use Rattle.example_records.specs.Commands.{behind_comma, part_of, rest_of, word_of};
 ghost use Rattle.example_records.specs.Readings.{ReadingFits, Said, SamplesFit, said};
-ghost use Rattle.example_records.specs.declared.command.CommandError.TheVariants.{Length, Memory, Samples, Text, Unknown};
+ghost use Rattle.example_records.specs.declared.command.CommandError.TheVariants.{Memory, Samples, Text, Unknown};
 
 use crate::hex::bytes_of_hex;
 use crate::length::stream_len;
@@ -66,6 +66,7 @@ pub fn run(
     // What is no text, and what has no command's word, is refused as that.
     ensures text { (IsUtf8 line.now → ⊥) → result ≡ Err Text }
     ensures unknown { IsUtf8 line.now → (IsCommand (word_of line.now) → ⊥) → result ≡ Err Unknown }
+    ensures tells { IsUtf8 line.now → IfErr result (Tells (word_of line.now) (rest_of line.now)) }
 {
     match str::from_utf8(line) {
         Ok(text) => obey(alloc, text, stream),
@@ -89,6 +90,7 @@ pub fn shown(alloc: Global, recovered: &Recovered) -> Result<String, AllocError>
 fn obey(alloc: Global, text: &str, stream: &mut Vec<u8>) -> Result<Option<Recovered>, CommandError>
     ensures answers { Answers (Says (word_of text.now) (rest_of text.now)) stream.old.items stream.new.items result }
     ensures unknown { (IsCommand (word_of text.now) → ⊥) → result ≡ Err Unknown }
+    ensures tells { IfErr result (Tells (word_of text.now) (rest_of text.now)) }
 {
     let (word, rest) = first_word(text);
     match word {
@@ -103,7 +105,8 @@ fn obey(alloc: Global, text: &str, stream: &mut Vec<u8>) -> Result<Option<Recove
 
 // Appends a record.
 fn add(alloc: Global, text: &str, stream: &mut Vec<u8>) -> Result<Option<Recovered>, CommandError>
-    ensures { Answers (Says (codes "add") text.now) stream.old.items stream.new.items result }
+    ensures answers { Answers (Says (codes "add") text.now) stream.old.items stream.new.items result }
+    ensures tells { IfErr result (Tells (codes "add") text.now) }
 {
     let reading = parse_reading(alloc, text)?;
     append_to(alloc, &reading, stream)?;
@@ -133,6 +136,7 @@ fn first_part(text: &str) -> (&str, Option<&str>)
 fn parse_reading(alloc: Global, text: &str) -> Result<Reading, CommandError>
     ensures ok { IfOk result (λ reading. IsRecord text.now (said reading)) }
     ensures err { IfErr result (IsMemoryOr ((c : Said) → IsRecord text.now c → ReadingFits c → ⊥)) }
+    ensures tells { IfErr result (Tells (codes "add") text.now) }
 {
     let (station, rest) = first_word(text);
     let (samples, note) = first_word(rest);
@@ -177,7 +181,8 @@ fn append_hex(
     text: &str,
     stream: &mut Vec<u8>,
 ) -> Result<Option<Recovered>, CommandError>
-    ensures { Answers (Says (codes "hex") text.now) stream.old.items stream.new.items result }
+    ensures answers { Answers (Says (codes "hex") text.now) stream.old.items stream.new.items result }
+    ensures tells { IfErr result (Tells (codes "hex") text.now) }
 {
     let bytes = bytes_of_hex(alloc, text.as_bytes())?;
     stream.extend_from_slice(bytes.as_slice())?;
@@ -187,7 +192,7 @@ fn append_hex(
 // Keeps the first bytes.
 fn cut(text: &str, stream: &mut Vec<u8>) -> Result<Option<Recovered>, CommandError>
     ensures answers { Answers (Says (codes "cut") text.now) stream.old.items stream.new.items result }
-    ensures err { IfErr result (λ e. e ≡ Length) }
+    ensures tells { IfErr result (Tells (codes "cut") text.now) }
 {
     match text.parse::<usize>() {
         Ok(len) if len <= stream.len() => {
@@ -200,7 +205,8 @@ fn cut(text: &str, stream: &mut Vec<u8>) -> Result<Option<Recovered>, CommandErr
 
 // Reads the stream, where no words stand behind the command.
 fn read(alloc: Global, rest: &str, stream: &[u8]) -> Result<Option<Recovered>, CommandError>
-    ensures { Answers (Says (codes "read") rest.now) stream.now stream.now result }
+    ensures answers { Answers (Says (codes "read") rest.now) stream.now stream.now result }
+    ensures tells { IfErr result (Tells (codes "read") rest.now) }
 {
     if rest.is_empty() {
         Ok(Some(read_all(alloc, &mut Counted::new(stream))))
@@ -218,7 +224,8 @@ fn is_told(end: Result<(), StreamError>) -> bool
 
 // Reads a new stream to which the records of this one were appended, where no words stand behind the command.
 fn copy(alloc: Global, rest: &str, stream: &[u8]) -> Result<Option<Recovered>, CommandError>
-    ensures { Answers (Says (codes "copy") rest.now) stream.now stream.now result }
+    ensures answers { Answers (Says (codes "copy") rest.now) stream.now stream.now result }
+    ensures tells { IfErr result (Tells (codes "copy") rest.now) }
 {
     if !rest.is_empty() {
         return Err(CommandError::Words);

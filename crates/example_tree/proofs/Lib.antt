@@ -1,8 +1,10 @@
 pub mod Expanding
 pub mod Flat
+pub mod Gathering
 pub mod Kept
 pub mod Places
 pub mod Readings
+pub mod Sizes
 pub mod Spliced
 pub mod Turn
 pub mod Growing

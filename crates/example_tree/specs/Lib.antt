@@ -6,4 +6,5 @@ pub mod Outcome
 pub mod Faults
 pub mod Levels
 pub mod Printed
+pub mod Pieces
 pub mod Rewriting

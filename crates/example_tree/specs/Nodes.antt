@@ -1,10 +1,11 @@
 -- How nodes in a list stand for trees.
-use Rattle.std.specs.Prelude.{◌≡◌, ℕ, zero, suc, ◌<◌, ℤ, List, [], ◌∷◌, All, map, get_or, Bool, true, false, ⊤}
+use Rattle.std.specs.Prelude.{◌≡◌, ℕ, zero, suc, ◌<◌, ℤ, List, [], ◌∷◌, All, length, map, get_or, Bool, true, false, ⊤}
 use Rattle.std.specs.List.{flat_map}
 use Rattle.tinyvec.specs.Tiny.{tiny_items}
 use Rattle.example_tree.specs.Tree.{Leaf, number, name, Tree, leaf, sum, product, Trees, none, more, leaves, value, flat}
 use Rattle.example_tree.specs.declared.node.Node.{Node}
 use Rattle.example_tree.specs.declared.node.Node.TheVariants.{Leaf as Single, Joined}
+use Rattle.example_tree.specs.declared.node.Leaf.{Leaf as Word}
 use Rattle.example_tree.specs.declared.node.Leaf.TheVariants.{Number, Name}
 use Rattle.example_tree.specs.declared.node.Operation.{Operation}
 use Rattle.example_tree.specs.declared.node.Operation.TheVariants.{Sum, Product}
@@ -20,9 +21,12 @@ abbrev pub form_by : Operation → List ℕ → Form
 form_by Sum ids = sum_form ids
 form_by Product ids = product_form ids
 
+abbrev pub leaf_of : Word → Leaf
+leaf_of (Number n) = number n
+leaf_of (Name x) = name (tiny_items x)
+
 abbrev pub form : Node → Form
-form (Single (Number n)) = leaf_form (number n)
-form (Single (Name x)) = leaf_form (name (tiny_items x))
+form (Single l) = leaf_form (leaf_of l)
 form (Joined operation children) = form_by operation (tiny_items children)
 
 abbrev pub forms : List Node → List Form
@@ -61,15 +65,20 @@ tree_to fs (suc levels) id = tree_of (tree_to fs levels) (form_at fs id)
 abbrev pub tree_at : List Node → ℕ → Tree
 tree_at nodes id = tree_to (forms nodes) (suc id) id
 
--- what stands for a child of a sum: of a sum its own children, and else the child
-abbrev pub terms : Form → ℕ → List ℕ
-terms (leaf_form l) child = child ∷ []
-terms (sum_form ids) child = ids
-terms (product_form ids) child = child ∷ []
+-- what stands for a node in a sum: of a sum all that stands for its children, and else the node
+abbrev pub terms_by : (ℕ → List ℕ) → Form → ℕ → List ℕ
+terms_by terms (leaf_form l) id = id ∷ []
+terms_by terms (sum_form ids) id = flat_map terms ids
+terms_by terms (product_form ids) id = id ∷ []
 
--- the children of a sum, where each that is a sum gave way to its own children
-abbrev pub expanded : List Form → List ℕ → List ℕ
-expanded fs ids = flat_map (λ child. terms (form_at fs child) child) ids
+-- the same, down to so many levels
+abbrev pub terms_to : List Form → ℕ → ℕ → List ℕ
+terms_to fs zero id = id ∷ []
+terms_to fs (suc levels) id = terms_by (terms_to fs levels) (form_at fs id) id
+
+-- the terms that a node stands for in a sum, none of which is a sum
+abbrev pub terms_at : List Form → ℕ → List ℕ
+terms_at fs id = terms_to fs (suc id) id
 
 abbrev pub is_sum_form : Form → Bool
 is_sum_form (leaf_form l) = false
@@ -80,15 +89,23 @@ is_sum_form (product_form ids) = false
 abbrev pub HasNoSum : List Form → List ℕ → Type 0
 HasNoSum fs ids = All (λ child. is_sum_form (form_at fs child) ≡ false) ids
 
--- what is said of a node that was gone through: it is no sum with a sum as a child
+-- a node that is no sum with a sum as a child
 abbrev pub IsDone : List Form → Form → Type 0
 IsDone fs (leaf_form l) = ⊤
 IsDone fs (sum_form ids) = HasNoSum fs ids
 IsDone fs (product_form ids) = ⊤
 
--- the first n nodes were gone through
-abbrev pub AreDone : List Form → ℕ → Type 0
-AreDone fs n = (id : ℕ) → id < n → IsDone fs (form_at fs id)
+abbrev pub IsDoneAt : List Form → ℕ → Type 0
+IsDoneAt fs id = IsDone fs (form_at fs id)
+
+-- the children of a product
+abbrev pub factors : Form → List ℕ
+factors (leaf_form l) = []
+factors (sum_form ids) = []
+factors (product_form ids) = ids
+
+abbrev pub factors_at : List Form → ℕ → List ℕ
+factors_at fs id = factors (form_at fs id)
 
 -- the trees of all nodes have the flat trees that they had
 abbrev pub SameFlat : List Node → List Node → Type 0
@@ -101,3 +118,13 @@ SameLeaves old new = (id : ℕ) → leaves (tree_at new id) ≡ leaves (tree_at 
 -- the trees of all nodes have the values that they had, whatever the names stand for
 abbrev pub SameValues : List Node → List Node → Type 0
 SameValues old new = (names : List ℕ → ℤ) (id : ℕ) → value names (tree_at new id) ≡ value names (tree_at old id)
+
+-- some sums of the nodes were written out
+pub record Flattens (old new : List Node) : Type 0 where
+  pub same : SameFlat old new
+  pub leaves : SameLeaves old new
+  pub values : SameValues old new
+  pub ordered : IsOrdered (forms new)
+  pub len : length new ≡ length old
+  pub factors : (id : ℕ) → factors_at (forms new) id ≡ factors_at (forms old) id
+  pub done : (id : ℕ) → IsDoneAt (forms old) id → IsDoneAt (forms new) id

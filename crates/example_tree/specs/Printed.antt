@@ -1,11 +1,8 @@
 -- The text of a tree.
-use Rattle.std.specs.Prelude.{◌≡◌, ℕ, ◌<◌, List, [], ◌∷◌, ◌++◌, length, slice_index_or, String, string_bytes}
+use Rattle.std.specs.Prelude.{ℕ, List, [], ◌∷◌, ◌++◌}
 use Rattle.std.specs.Fmt.{decimal}
 use Rattle.std.specs.Str.Lossy.{utf8_lossy}
 use Rattle.example_tree.specs.Tree.{Leaf, number, name, Tree, leaf, sum, product, Trees, none, more}
-use Rattle.std.specs.declared.alloc.Global.{Global}
-use Rattle.example_tree.specs.Nodes.{tree_at}
-use Rattle.example_tree.specs.declared.node.Node.{Node}
 use Rattle.example_tree.specs.declared.node.Operation.{Operation}
 use Rattle.example_tree.specs.declared.node.Operation.TheVariants.{Sum, Product}
 
@@ -44,7 +41,3 @@ abbrev mutual
   pub part_texts : Operation → Trees → List (List ℕ)
   part_texts operation none = []
   part_texts operation (more t ts) = part_text operation t (tree_text t) ∷ part_texts operation ts
-
--- the texts of the first nodes are known
-abbrev pub AreTexts : List Node → List (String Global) → Type 0
-AreTexts nodes texts = (id : ℕ) (text : String Global) → id < length texts → string_bytes (slice_index_or texts id text) ≡ tree_text (tree_at nodes id)

@@ -1,11 +1,20 @@
 //! A tree, written as text.
-ghost use Rattle.std.specs.Prelude.{◌≡◌, ◌<◌, ◌≤◌, ℕ, length, All, IfOk, string_bytes};
-ghost use Rattle.example_tree.specs.Tree.{Tree};
-ghost use Rattle.example_tree.specs.Nodes.{form, forms, children, tree_of, trees_of, tree_at, IsOrdered};
-ghost use Rattle.example_tree.specs.Printed.{sign_text, part_text, part_texts, separated, tree_text, AreTexts};
+ghost use Rattle.std.specs.Prelude.{◌≡◌, ◌+◌, ◌<◌, length, All, IfOk, OnOk, string_bytes};
+ghost use Rattle.example_tree.specs.Nodes.{form, forms, leaf_of, trees_of, tree_at, IsOrdered};
+ghost use Rattle.example_tree.specs.Pieces.{is_bracketed, size, sizes, IsPieceOf, Puts, Writes};
+ghost use Rattle.example_tree.specs.Printed.{leaf_text, sign_text, part_text, part_texts, separated, tree_text};
 
 use crate::node::{Leaf, Node, NodeId, Operation};
 use std::alloc::{AllocError, Global};
+
+/// A part of a text that is still to be written.
+#[derive(Clone, Copy)]
+pub enum Piece {
+    Tree(NodeId),
+    Sign(Operation),
+    OpeningBracket,
+    ClosingBracket,
+}
 
 /// The text of a tree of a list of nodes. A sum or a product that is a factor stands in brackets.
 pub fn printed(alloc: Global, nodes: &[Node], root: NodeId) -> Result<String, AllocError>
@@ -13,53 +22,52 @@ pub fn printed(alloc: Global, nodes: &[Node], root: NodeId) -> Result<String, Al
     requires root { root < length nodes.now }
     ensures { IfOk result (λ text. string_bytes text ≡ tree_text (tree_at nodes.now root)) }
 {
-    let mut texts = Vec::new(alloc);
-    for node in nodes {
-        let text = node_text(alloc, node, nodes, &texts)?;
-        texts.push(text)?;
+    let mut text = String::new(alloc);
+    // The last piece is written first.
+    let mut pieces = Vec::new(alloc);
+    pieces.push(Piece::Tree(root))?;
+    while let Some(piece) = pieces.pop() {
+        write_piece(alloc, piece, nodes, &mut text, &mut pieces)?;
     }
-    Ok(texts.swap_remove(root))
+    Ok(text)
 }
 
-// The text of one node, where those of the nodes before it are known.
-fn node_text(
+// Writes a piece, or puts the pieces that a sum or a product is made of in its place.
+fn write_piece(
     alloc: Global,
-    node: &Node,
+    piece: Piece,
     nodes: &[Node],
-    texts: &[String],
-) -> Result<String, AllocError>
-    requires children { All (λ child. child < length texts.now) (children (form node.now)) }
-    requires nodes { length texts.now ≤ length nodes.now }
-    requires texts { AreTexts nodes.now texts.now }
-    ensures { IfOk result (λ text. string_bytes text ≡ tree_text (tree_of (tree_at nodes.now) (form node.now))) }
+    text: &mut String,
+    pieces: &mut Vec<Piece>,
+) -> Result<(), AllocError>
+    requires ordered { IsOrdered (forms nodes.now) }
+    requires piece { IsPieceOf nodes.now piece }
+    ensures { OnOk result (Writes nodes.now piece (string_bytes text.old) pieces.old.items (string_bytes text.new) pieces.new.items) }
 {
-    match node {
-        Node::Leaf(Leaf::Number(number)) => format!(in alloc; "{number}"),
-        Node::Leaf(Leaf::Name(name)) => String::from_utf8_lossy(alloc, name.as_slice()),
-        Node::Joined(operation, parts) => joined(alloc, *operation, parts.as_slice(), nodes, texts),
+    match piece {
+        Piece::Tree(id) => match &nodes[id] {
+            Node::Leaf(leaf) => {
+                let leaf = leaf_text(alloc, leaf)?;
+                text.push_str(leaf.as_str())
+            }
+            Node::Joined(operation, children) => {
+                push_children(pieces, *operation, children.as_slice(), nodes)
+            }
+        },
+        Piece::Sign(operation) => text.push_str(sign(operation)),
+        Piece::OpeningBracket => text.push_str("("),
+        Piece::ClosingBracket => text.push_str(")"),
     }
 }
 
-// The texts of the children, with a sign between.
-fn joined(
-    alloc: Global,
-    operation: Operation,
-    children: &[NodeId],
-    nodes: &[Node],
-    texts: &[String],
-) -> Result<String, AllocError>
-    requires children { All (λ child. child < length texts.now) children.now }
-    requires nodes { length texts.now ≤ length nodes.now }
-    requires texts { AreTexts nodes.now texts.now }
-    ensures { IfOk result (λ text. string_bytes text
-        ≡ separated (sign_text operation) (part_texts operation (trees_of (tree_at nodes.now) children.now))) }
+// The text of a number or a name.
+fn leaf_text(alloc: Global, leaf: &Leaf) -> Result<String, AllocError>
+    ensures { IfOk result (λ text. string_bytes text ≡ leaf_text (leaf_of leaf.now)) }
 {
-    let mut parts = Vec::new(alloc);
-    for child in children {
-        let part = part_text(alloc, operation, &nodes[*child], texts[*child].as_str())?;
-        parts.push(part)?;
+    match leaf {
+        Leaf::Number(number) => format!(in alloc; "{number}"),
+        Leaf::Name(name) => String::from_utf8_lossy(alloc, name.as_slice()),
     }
-    parts.join(alloc, sign(operation))
 }
 
 // What stands between two children.
@@ -72,17 +80,53 @@ fn sign(operation: Operation) -> &'static str
     }
 }
 
-// The text of a child, where its own is known.
-fn part_text(
-    alloc: Global,
+// The children of a sum or a product, with a sign between.
+fn push_children(
+    pieces: &mut Vec<Piece>,
     operation: Operation,
-    child: &Node,
-    text: &str,
-) -> Result<String, AllocError>
-    ensures { IfOk result (λ part. (tree : ℕ → Tree) → string_bytes part ≡ part_text operation (tree_of tree (form child.now)) text.now) }
+    children: &[NodeId],
+    nodes: &[Node],
+) -> Result<(), AllocError>
+    requires ordered { IsOrdered (forms nodes.now) }
+    requires children { All (λ child. child < length nodes.now) children.now }
+    ensures { OnOk result (Puts nodes.now pieces.old.items pieces.new.items
+        (separated (sign_text operation) (part_texts operation (trees_of (tree_at nodes.now) children.now)))
+        (sizes (trees_of (tree_at nodes.now) children.now))) }
 {
-    match (operation, child) {
-        (Operation::Product, Node::Joined(..)) => format!(in alloc; "({text})"),
-        _ => String::from_str(alloc, text),
+    let [first, rest @ ..] = children else {
+        return Ok(());
+    };
+    for at in (0..rest.len()).rev() {
+        push_child(pieces, operation, rest[at], nodes)?;
+        pieces.push(Piece::Sign(operation))?;
     }
+    push_child(pieces, operation, *first, nodes)
+}
+
+// One child.
+fn push_child(
+    pieces: &mut Vec<Piece>,
+    operation: Operation,
+    child: NodeId,
+    nodes: &[Node],
+) -> Result<(), AllocError>
+    requires ordered { IsOrdered (forms nodes.now) }
+    requires child { child < length nodes.now }
+    ensures { OnOk result (Puts nodes.now pieces.old.items pieces.new.items
+        (part_text operation (tree_at nodes.now child) (tree_text (tree_at nodes.now child)))
+        (size (tree_at nodes.now child) + 2)) }
+{
+    if is_bracketed(operation, &nodes[child]) {
+        pieces.push(Piece::ClosingBracket)?;
+        pieces.push(Piece::Tree(child))?;
+        return Ok(pieces.push(Piece::OpeningBracket)?);
+    }
+    Ok(pieces.push(Piece::Tree(child))?)
+}
+
+// Whether a child stands in brackets.
+fn is_bracketed(operation: Operation, child: &Node) -> bool
+    ensures { result ≡ is_bracketed operation (form child.now) }
+{
+    matches!((operation, child), (Operation::Product, Node::Joined(..)))
 }

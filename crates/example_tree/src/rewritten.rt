@@ -19,6 +19,6 @@ pub fn rewritten(alloc: Global, line: &[u8]) -> Result<String, ParseError>
     ensures large { IfErr result (IsOnlyLarge line.now) }
 {
     let mut tree = parse(alloc, line)?;
-    flatten(&mut tree.nodes)?;
+    flatten(alloc, &mut tree.nodes, tree.root)?;
     Ok(printed(alloc, &tree.nodes, tree.root)?)
 }

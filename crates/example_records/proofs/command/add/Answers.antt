@@ -5,8 +5,8 @@ use Rattle.example_records.specs.Readings.{said}
 use Rattle.example_records.proofs.CommandLaws.{added}
 use Rattle.example_records.proofs.command.add.Goals as goal
 
-pub returns : goal.returns
-returns c =
+pub returns-clause-answers : goal.returns-clause-answers
+returns-clause-answers c =
     let wrote = c.in_ok-append_to.ensures.ok in
     let is : IsRecord c.args.text.now (said c.in_ok-reading.reading) = search rules in
     record {

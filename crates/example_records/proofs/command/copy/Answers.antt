@@ -6,8 +6,8 @@ use Rattle.example_records.specs.Stream.{IsCopy}
 use Rattle.example_records.proofs.CommandLaws.{copied_as, empty, is_read}
 use Rattle.example_records.proofs.command.copy.Goals as goal
 
-pub returns-in-Ok : goal.returns-in-Ok
-returns-in-Ok c =
+pub returns-in-Ok-clause-answers : goal.returns-in-Ok-clause-answers
+returns-in-Ok-clause-answers c =
     let none : length c.args.rest.now ≡ 0 = search rules in
     let given : c.new.result.end.now ≡ c.args.stream.now = search rules in
     let first : IsRead c.args.stream.now (map said c.read_all-recovered.result.records.items) c.read_all-recovered.result.end = is_read c.args.stream.now _ _ _ _ _ given c.new.ensures.faults c.read_all-recovered.ensures.stands c.read_all-recovered.ensures.fit c.read_all-recovered.ensures.all in

@@ -1,13 +1,9 @@
-use Rattle.std.proofs.Common.{◌≡◌, length}
-use Rattle.example_tree.specs.Nodes.{forms, IsOrdered, AreDone, SameFlat, SameLeaves, SameValues}
+use Rattle.std.proofs.Common.{ℕ, All, ◌<◌}
+use Rattle.example_tree.specs.Nodes.{forms, factors_at, IsDoneAt, Flattens}
 use Rattle.example_tree.proofs.flatten.flatten.Given as goal
 
 abbrev pub invariant-loop-id : goal.invariant-loop-id
 invariant-loop-id l = record {
-  done : AreDone (forms l.nodes) l.id;
-  same : SameFlat l.initial.nodes l.nodes;
-  leaves : SameLeaves l.initial.nodes l.nodes;
-  values : SameValues l.initial.nodes l.nodes;
-  ordered : IsOrdered (forms l.nodes);
-  len : length l.nodes ≡ length l.initial.nodes;
+  flattens : Flattens l.initial.nodes l.nodes;
+  done : (j : ℕ) → j < l.id → All (IsDoneAt (forms l.nodes)) (factors_at (forms l.nodes) j);
 }

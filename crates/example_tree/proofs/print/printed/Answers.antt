@@ -1,24 +1,20 @@
-use Rattle.std.proofs.Common.{◌∙◌, ◌∷◌, [], length, length-append, sym, ap, subst, arith}
-use Rattle.example_tree.specs.Printed.{AreTexts}
-use Rattle.example_tree.proofs.Printing.{children_known, one_text_more}
+use Rattle.std.proofs.Common.{◌∙◌, string_bytes}
+use Rattle.example_tree.proofs.Printing.{text_stays, pieces_less, left_inside}
 use Rattle.example_tree.proofs.print.printed.Goals as goal
 
-pub node_text-requires-clause-children : goal.node_text-requires-clause-children
-node_text-requires-clause-children c =
-    children_known c.args.nodes.now c.requires.ordered c.loop-node.node-index c.node-item.result c.loop-node-test.true c.node-item.is
-    c.deref.result.now (ap length c.deref.ensures.value ∙ c.loop-node.invariant.count)
-
-pub loop-node-preserved : goal.loop-node-preserved
-loop-node-preserved c =
-    let nodes = c.args.nodes.now in
-    let texts = c.loop-node.texts.items in
-    let count = c.loop-node.invariant.count in
-    let long = length-append texts (c.in_ok-text.text ∷ []) in
-    let items = c.in_ok-push.ensures.items in
-    let longer = ap length items in
+pub loop-piece-preserved : goal.loop-piece-preserved
+loop-piece-preserved c =
+    let old = string_bytes c.loop-piece.text in
+    let new = string_bytes c.write_piece.new.text in
+    let pieces = c.loop-piece.pieces.items in
+    let rest = c.pop.new.self.items in
+    let left = c.write_piece.new.pieces.items in
     record {
-      count = omega (arith, count, long, longer);
-      texts = subst (AreTexts nodes) (sym items)
-          (one_text_more nodes c.requires.ordered c.loop-node.node-index c.node-item.result c.loop-node-test.true c.node-item.is texts count
-          c.in_ok-text.text c.in_ok-text.ensures c.loop-node.invariant.texts);
+      text = text_stays c.args.nodes.now c.in-Some.piece old new pieces rest left c.in-Some.ensures.items c.in_ok-write_piece.ensures ∙ c.loop-piece.invariant.text;
+      inside = left_inside c.args.nodes.now c.in-Some.piece old new pieces rest left c.in-Some.ensures.items c.in_ok-write_piece.ensures c.loop-piece.invariant.inside;
     }
+
+pub loop-piece-smaller : goal.loop-piece-smaller
+loop-piece-smaller c =
+    pieces_less c.args.nodes.now c.in-Some.piece (string_bytes c.loop-piece.text) (string_bytes c.write_piece.new.text) c.loop-piece.pieces.items c.pop.new.self.items
+    c.write_piece.new.pieces.items c.in-Some.ensures.items c.in_ok-write_piece.ensures

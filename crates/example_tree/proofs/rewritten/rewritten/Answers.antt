@@ -23,7 +23,7 @@ returns-clause-rewriting c =
     let root = c.in_ok-tree.tree.root in
     let old = c.deref_mut.ensures.value in
     let new = written_back _ _ _ _ c.deref.ensures.value (c.in_ok-flatten.ensures.len ∙ c.deref_mut.ensures.len) in
-    rewritten c.args.line.now _ _ (tree_at c.flatten.new.nodes root) c.in_ok-tree.ensures.right (c.in_ok-flatten.ensures.flat root)
+    rewritten c.args.line.now _ _ (tree_at c.flatten.new.nodes root) c.in_ok-tree.ensures.right c.in_ok-flatten.ensures.flat
     (c.in_ok-flatten.ensures.same root ∙ ap (λ nodes. flat (tree_at nodes root)) old)
     (c.in_ok-flatten.ensures.leaves root ∙ ap (λ nodes. leaves (tree_at nodes root)) old)
     (c.in_ok-printed.ensures ∙ ap (λ nodes. tree_text (tree_at nodes root)) new)
@@ -34,7 +34,7 @@ returns-clause-right c =
     let root = c.in_ok-tree.tree.root in
     let old = c.deref_mut.ensures.value in
     let new = written_back _ _ _ _ c.deref.ensures.value (c.in_ok-flatten.ensures.len ∙ c.deref_mut.ensures.len) in
-    printed_flat c.args.line.now _ _ (tree_at c.flatten.new.nodes root) c.in_ok-tree.ensures.right (c.in_ok-flatten.ensures.flat root)
+    printed_flat c.args.line.now _ _ (tree_at c.flatten.new.nodes root) c.in_ok-tree.ensures.right c.in_ok-flatten.ensures.flat
     (c.in_ok-flatten.ensures.same root ∙ ap (λ nodes. flat (tree_at nodes root)) old)
     (c.in_ok-flatten.ensures.leaves root ∙ ap (λ nodes. leaves (tree_at nodes root)) old)
     (c.in_ok-printed.ensures ∙ ap (λ nodes. tree_text (tree_at nodes root)) new)
