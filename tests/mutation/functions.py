@@ -143,13 +143,14 @@ def has_plain_parameters(text):
 
 
 def flat(text):
-    """The letters by which a check names a type or trait: no paths, lifetimes or parameters, words for `&`, `mut`, brackets."""
+    """The letters by which a check names a type or trait: no paths, lifetimes or parameters, words for `&`, `mut`, brackets. A
+    type that is a parameter alone is `Any`."""
     text = re.sub(r"'\w+|\b\w+::", "", text)
     text = text.replace("&", " Ref ").replace(" mut ", " Mut ")
     text = re.sub(r"\[[^\[\];]*;[^\]]*\]", " Array ", text)
     text = re.sub(r"\[[^\[\]]*\]", " Slice ", text)
     words = [it for it in re.findall(r"\w+", text) if not re.fullmatch(r"[A-Z]|_", it)]
-    return "".join(it[0].upper() + it[1:] for it in words)
+    return "".join(it[0].upper() + it[1:] for it in words) or "Any"
 
 
 def reached(functions):

@@ -1,13 +1,11 @@
 pub mod Blocks
 pub mod Both
-pub mod ByteBlocks
 pub mod Counts
 pub mod Fronts
 pub mod ItemByItem
 pub mod ItemsInFront
 pub mod Lengths
 pub mod NumberBlocks
-pub mod NumberBytes
 pub mod Outcomes
 pub mod Place
 pub mod ReadBack

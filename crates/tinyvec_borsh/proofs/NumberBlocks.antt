@@ -1,17 +1,16 @@
--- Numbers of a fixed width that are written and read in blocks.
-use Rattle.std.proofs.Common.{◌≡◌, ◌∙◌, ap, sym, subst, ℕ, ◌+◌, ◌-◌, ◌*◌, ◌/◌, ◌<◌, ◌≤◌, zero, suc, inl, inr, List, [], ◌∷◌, ◌++◌, length, refl, arith, append-nil, append_assoc, length-append, Option, map, take, drop, get_or, slice_set, take-append-drop, length-take-le, length-drop, take-add, drop-drop}
-use Rattle.std.specs.Simd.{first_chunks}
-use Rattle.std.proofs.Math.Nat.{mul-div_cancel}
+-- Numbers that are written and read in blocks.
+use Rattle.std.proofs.Common.{◌≡◌, ◌∙◌, ap, sym, subst, ℕ, ◌+◌, ◌-◌, ◌*◌, ◌/◌, ◌<◌, ◌≤◌, zero, suc, inl, inr, List, [], ◌∷◌, ◌++◌, length, refl, arith, append_assoc, length-append, Option, take, drop, get_or, slice_set, take-append-drop, length-take-le, length-drop, take-add}
+use Rattle.std.proofs.Math.Nat.{div-mul-le_self, mul-le-mul_right}
 use Rattle.std.proofs.lemmas.Bool.{cases_lt}
-use Rattle.std.proofs.lemmas.Grind.{flat_map-append}
-use Rattle.std.proofs.lemmas.List.{map-append, take_more, take_more_set}
-use Rattle.std.specs.List.{AllByRecursion, flat_map}
+use Rattle.std.proofs.lemmas.List.{take_more, take_more_set}
+use Rattle.std.specs.List.{AllByRecursion}
+use Rattle.std.specs.Io.KnownBytes.{Appends}
 use Rattle.std.proofs.KnownBytes.{Appends-trans, Consumes-trans}
 use Rattle.tinyvec_borsh.specs.declared.borsh_error.BorshError.{BorshError}
 use Rattle.tinyvec_borsh.specs.declared.borsh_error.BorshError.TheVariants.{Ended, InvalidLength, Io, Memory}
 use Rattle.tinyvec_borsh.specs.Items.{SpellsItems, AfterItems}
+use Rattle.tinyvec_borsh.specs.Number.{SpellsNumber}
 use Rattle.tinyvec_borsh.specs.Reading.{Fails, IsFewBytes, MayBe, Takes}
-use Rattle.tinyvec_borsh.specs.Writing.{Adds}
 use Rattle.tinyvec_borsh.proofs.Blocks.{TookItems}
 use Rattle.tinyvec_borsh.proofs.ItemByItem.{WroteItems, fit-join, fit-more, items-join, items-more, maybe-behind, maybe-so}
 
@@ -19,17 +18,26 @@ use Rattle.tinyvec_borsh.proofs.ItemByItem.{WroteItems, fit-join, fit-more, item
 one-more : (i width : ℕ) → (i + 1) * width ≡ i * width + width
 one-more i width = omega arith
 
--- the bytes of a number among those of as many numbers as there are
-pub chunk-at : (width count i : ℕ) (bytes d : List ℕ) → i < count → get_or (first_chunks width count bytes) i d ≡ take width (drop (i * width) bytes)
-chunk-at width zero i bytes d within = absurd (omega arith)
-chunk-at width (suc count) zero bytes d within = let none : 0 * width ≡ 0 = omega arith in ap (λ n. take width (drop n bytes)) (sym none)
-chunk-at width (suc count) (suc i) bytes d within =
-    let behind : width + i * width ≡ suc i * width = omega arith in
-    chunk-at width count i (drop width bytes) d (omega arith) ∙ ap (take width) (drop-drop (i * width) width bytes ∙ ap (λ n. drop n bytes) behind)
+-- room for some numbers is room for each
+pub next_within : (i n width : ℕ) → i < n → i * width + width ≤ n * width
+next_within i n width within =
+    let more : (i + 1) * width ≤ n * width = mul-le-mul_right width (omega arith) in
+    omega (arith, more, one-more i width)
 
--- so many bytes are as many chunks as there are numbers
-pub chunks-of : (width n : ℕ) (bytes : List ℕ) → 0 < width → length bytes ≡ n * width → length bytes / width ≡ n
-chunks-of width n bytes some long = ap (λ m. m / width) long ∙ mul-div_cancel n some
+-- a block fits the room
+pub block_within : (count width : ℕ) → count ≤ 256 / width → count * width ≤ 256
+block_within count width few =
+    let most : count * width ≤ 256 / width * width = mul-le-mul_right width few in
+    omega (arith, most, div-mul-le_self 256 width)
+
+pub small_bytes : (bytes : List ℕ) → ((i : ℕ) → get_or bytes i 0 < 256) → AllByRecursion (λ byte. byte < 256) bytes
+small_bytes [] small = tt
+small_bytes (x ∷ bytes) small = (small 0, small_bytes bytes (λ i. small (suc i)))
+
+-- each byte spells itself
+pub spells-bytes : (xs : List ℕ) → AllByRecursion (λ byte. byte < 256) xs → SpellsItems (SpellsNumber 1) xs xs
+spells-bytes [] small = refl
+spells-bytes (x ∷ xs) small = (x ∷ [], xs, record { many = refl; small = (small.0, tt); value = omega arith }, spells-bytes xs small.1, refl)
 
 -- the first items, and the block behind them
 pub until-end : {T : Type 0} (start count : ℕ) (xs : List T) → take (start + count) xs ≡ take start xs ++ take (start + count - start) (drop start xs)
@@ -52,31 +60,49 @@ small-drop (suc n) (x ∷ bytes) small = small-drop n bytes small.1
 
 module _ {C : Type 0} (Spells : C → List ℕ → Type 0) (Fits : C → Type 0) where
   -- the numbers of the first slots are spelled, and that of the next one
-  pub spells-next : {T : Type 0} (content : T → C) (width : ℕ) (bytes : List ℕ) (xs : List T) (i : ℕ) (x : T) → i < length xs → SpellsItems Spells (map content (take i xs)) (take (i * width) bytes)
-      → Spells (content x) (take width (drop (i * width) bytes)) → SpellsItems Spells (map content (take (i + 1) (slice_set xs i x))) (take ((i + 1) * width) bytes)
-  spells-next content width bytes xs i x within before is =
-      let more = items-more Spells (map content (take i xs)) (content x) _ _ before is in
-      let slots = ap (map content) (take_more_set xs i x within) ∙ map-append content (take i xs) (x ∷ []) in
+  pub spells-next : (width count : ℕ) (bytes : List ℕ) (xs : List C) (i : ℕ) (x : C) → i < length xs → count ≡ width → SpellsItems Spells (take i xs) (take (i * width) bytes)
+      → Spells x (take count (drop (i * width) bytes)) → SpellsItems Spells (take (i + 1) (slice_set xs i x)) (take ((i + 1) * width) bytes)
+  spells-next width count bytes xs i x within same before is =
+      let more = items-more Spells (take i xs) x _ _ before (subst (λ n. Spells x (take n (drop (i * width) bytes))) same is) in
       let front = ap (λ n. take n bytes) (one-more i width) ∙ take-add (i * width) width bytes in
-      subst (λ cs. SpellsItems Spells cs (take ((i + 1) * width) bytes)) (sym slots) (subst (SpellsItems Spells _) (sym front) more)
+      subst (λ cs. SpellsItems Spells cs (take ((i + 1) * width) bytes)) (sym (take_more_set xs i x within)) (subst (SpellsItems Spells _) (sym front) more)
 
-  pub fit-slot : {T : Type 0} (content : T → C) (xs : List T) (i : ℕ) (x : T) → i < length xs → AllByRecursion Fits (map content (take i xs)) → Fits (content x) → AllByRecursion Fits (map content (take (i + 1) (slice_set xs i x)))
-  fit-slot content xs i x within before fits =
-      subst (AllByRecursion Fits) (sym (ap (map content) (take_more_set xs i x within) ∙ map-append content (take i xs) (x ∷ []))) (fit-more Spells Fits _ (content x) before fits)
+  pub fit-slot : (xs : List C) (i : ℕ) (x : C) → i < length xs → AllByRecursion Fits (take i xs) → Fits x → AllByRecursion Fits (take (i + 1) (slice_set xs i x))
+  fit-slot xs i x within before fits = subst (AllByRecursion Fits) (sym (take_more_set xs i x within)) (fit-more Spells Fits (take i xs) x before fits)
+
+  next-item : (xs : List C) (i : ℕ) (x : C) → i < length xs → x ≡ get_or xs i x → take (i + 1) xs ≡ take i xs ++ x ∷ []
+  next-item xs i x within is = take_more xs i x within ∙ ap (λ y. take i xs ++ y ∷ []) (sym is)
+
+  -- the bytes of the first numbers were put into the room, and those of the next one
+  pub spells-put : (width : ℕ) (xs : List C) (i : ℕ) (x : C) (room new bytes : List ℕ) → i < length xs → x ≡ get_or xs i x → take (i * width + width) new ≡ take (i * width) room ++ bytes
+      → SpellsItems Spells (take i xs) (take (i * width) room) → Spells x bytes → SpellsItems Spells (take (i + 1) xs) (take ((i + 1) * width) new)
+  spells-put width xs i x room new bytes within is put before next =
+      let front = ap (λ n. take n new) (one-more i width) ∙ put in
+      subst (λ cs. SpellsItems Spells cs (take ((i + 1) * width) new)) (sym (next-item xs i x within is)) (subst (SpellsItems Spells _) (sym front) (items-more Spells (take i xs) x _ bytes before next))
+
+  pub fit-put : (xs : List C) (i : ℕ) (x : C) → i < length xs → x ≡ get_or xs i x → AllByRecursion Fits (take i xs) → Fits x → AllByRecursion Fits (take (i + 1) xs)
+  fit-put xs i x within is before fits = subst (AllByRecursion Fits) (sym (next-item xs i x within is)) (fit-more Spells Fits (take i xs) x before fits)
 
   -- a block was read behind the items so far
-  took-join : (cs ds : List C) (old mid new : Option (List ℕ)) → TookItems Spells Fits cs old mid → Takes (SpellsItems Spells ds) mid new → AllByRecursion Fits ds → TookItems Spells Fits (cs ++ ds) old new
-  took-join cs ds old mid new w t f = record {
+  pub took-block : (xs ys zs : List C) (old mid new : Option (List ℕ)) → zs ≡ xs ++ ys → TookItems Spells Fits xs old mid → Takes (SpellsItems Spells ys) mid new → AllByRecursion Fits ys → TookItems Spells Fits zs old new
+  took-block xs ys zs old mid new joined w t f = subst (λ cs. TookItems Spells Fits cs old new) (sym joined) (record {
     bytes = w.bytes ++ t.0;
-    spelled = items-join Spells cs ds w.bytes t.0 w.spelled t.1;
-    fit = fit-join Spells Fits cs ds w.fit f;
+    spelled = items-join Spells xs ys w.bytes t.0 w.spelled t.1;
+    fit = fit-join Spells Fits xs ys w.fit f;
     taken = Consumes-trans old mid new w.bytes t.0 w.taken t.2;
-  }
+  })
 
-  pub took-block : {T : Type 0} (content : T → C) (xs ys zs : List T) (old mid new : Option (List ℕ)) → zs ≡ xs ++ ys → TookItems Spells Fits (map content xs) old mid → Takes (SpellsItems Spells (map content ys)) mid new
-      → AllByRecursion Fits (map content ys) → TookItems Spells Fits (map content zs) old new
-  took-block content xs ys zs old mid new joined w t f =
-      subst (λ cs. TookItems Spells Fits cs old new) (sym (ap (map content) joined ∙ map-append content xs ys)) (took-join (map content xs) (map content ys) old mid new w t f)
+  -- a block was put into the room and written behind the items so far
+  pub wrote-block : (width n : ℕ) (xs ys zs : List C) (bytes room : List ℕ) (old mid new : Option (List ℕ)) → zs ≡ xs ++ ys → bytes ≡ take (n * width) room → n ≡ length ys → WroteItems Spells xs old mid
+      → SpellsItems Spells ys (take (length ys * width) room) → Appends mid new bytes → WroteItems Spells zs old new
+  wrote-block width n xs ys zs bytes room old mid new joined is many w spelled added = subst (λ cs. WroteItems Spells cs old new) (sym joined) (record {
+    bytes = w.bytes ++ bytes;
+    spelled = items-join Spells xs ys w.bytes bytes w.spelled (subst (SpellsItems Spells ys) (sym (is ∙ ap (λ m. take (m * width) room) many)) spelled);
+    appended = Appends-trans old mid new w.bytes bytes w.appended added;
+  })
+
+  pub fit-block : (xs ys zs : List C) → zs ≡ xs ++ ys → AllByRecursion Fits xs → AllByRecursion Fits ys → AllByRecursion Fits zs
+  fit-block xs ys zs joined p q = subst (AllByRecursion Fits) (sym joined) (fit-join Spells Fits xs ys p q)
 
   behind-block : (P : List ℕ → Type 0) (k n : ℕ) (cs : List C) (old mid : Option (List ℕ)) → TookItems Spells Fits cs old mid → length cs + k ≤ n → MayBe mid (AfterItems Spells Fits P k) → MayBe old (AfterItems Spells Fits P n)
   behind-block P k n cs old mid w fewer may = maybe-behind old mid w.bytes (AfterItems Spells Fits P k) _ w.taken (λ input tail is so. (
@@ -99,7 +125,7 @@ module _ {C : Type 0} (Spells : C → List ℕ → Type 0) (Fits : C → Type 0)
   fails-behind-block IsCut IsTooLong MayAsk k n cs old mid before between after Io w fewer grows f = elim f [ inl less ↦ inl (omega (arith, less, grows)) | inr full ↦ inr full ]
   fails-behind-block IsCut IsTooLong MayAsk k n cs old mid before between after Memory w fewer grows f = behind-block MayAsk k n cs old mid w fewer f
 
-  module _ (width : ℕ) (spells_one : (bytes : List ℕ) → length bytes ≡ width → AllByRecursion (λ byte. byte < 256) bytes → (c : C) × Spells c bytes × Fits c) where
+  module _ (width : ℕ) (of_bytes : List ℕ → C) (read : (bytes : List ℕ) → length bytes ≡ width → AllByRecursion (λ byte. byte < 256) bytes → Spells (of_bytes bytes) bytes × Fits (of_bytes bytes)) where
     -- of fewer bytes than so many numbers have, the last number that begins is cut
     few-numbers : (n : ℕ) (input : List ℕ) → IsFewBytes (n * width) input → AfterItems Spells Fits (λ rest. length rest < width) n input
     few-numbers zero input few = absurd (omega (arith, few.1))
@@ -107,13 +133,13 @@ module _ {C : Type 0} (Spells : C → List ℕ → Type 0) (Fits : C → Type 0)
       | inl cut ↦ ([], [], input, refl, tt, refl, omega arith, cut)
       | inr enough ↦
           let long = length-take-le width input enough in
-          let one = spells_one (take width input) long (small-take width input few.0) in
+          let one = read (take width input) long (small-take width input few.0) in
           let rest = few-numbers n (drop width input) (small-drop width input few.0, omega (arith, length-drop width input, few.1, enough)) in (
-            one.0 ∷ rest.0,
+            of_bytes (take width input) ∷ rest.0,
             take width input ++ rest.1,
             rest.2,
-            (take width input, rest.1, one.1, rest.3, refl),
-            (one.2, rest.4),
+            (take width input, rest.1, one.0, rest.3, refl),
+            (one.1, rest.4),
             behind-front width input rest.1 rest.2 rest.5,
             omega (arith, rest.6),
             rest.7,
@@ -127,30 +153,3 @@ module _ {C : Type 0} (Spells : C → List ℕ → Type 0) (Fits : C → Type 0)
     fails-numbers n many is old before after InvalidLength few f = maybe-so old _ _ (λ input no. absurd no) f
     fails-numbers n many is old before after Io few f = f
     fails-numbers n many is old before after Memory few f = maybe-so old _ _ (λ input no. absurd no) f
-
-module _ {C : Type 0} (Spells : C → List ℕ → Type 0) (Fits : C → Type 0) where
-  -- the bytes of the first numbers were made, and those of the next one
-  pub spells-made : {T : Type 0} (content : T → C) (xs : List T) (i : ℕ) (x : T) (made : List (List ℕ)) (bytes : List ℕ) → i < length xs → i < length made → x ≡ get_or xs i x
-      → SpellsItems Spells (map content (take i xs)) (flat_map (λ b. b) (take i made)) → Spells (content x) bytes
-      → SpellsItems Spells (map content (take (i + 1) xs)) (flat_map (λ b. b) (take (i + 1) (slice_set made i bytes)))
-  spells-made content xs i x made bytes within room is before next =
-      let more = items-more Spells (map content (take i xs)) (content x) _ bytes before next in
-      let items = ap (map content) (take_more xs i x within ∙ ap (λ y. take i xs ++ y ∷ []) (sym is)) ∙ map-append content (take i xs) (x ∷ []) in
-      let whole = ap (flat_map (λ b. b)) (take_more_set made i bytes room) ∙ flat_map-append (λ b. b) (take i made) (bytes ∷ []) ∙ ap (λ l. flat_map (λ b. b) (take i made) ++ l) (append-nil bytes) in
-      subst (λ cs. SpellsItems Spells cs (flat_map (λ b. b) (take (i + 1) (slice_set made i bytes)))) (sym items) (subst (SpellsItems Spells _) (sym whole) more)
-
-  -- the first items are all, and their bytes are what is written
-  pub every-item : {T : Type 0} (content : T → C) (xs front : List T) (whole bytes : List ℕ) → front ≡ xs → whole ≡ bytes → SpellsItems Spells (map content front) bytes → SpellsItems Spells (map content xs) whole
-  every-item content xs front whole bytes all is spelled = subst (λ cs. SpellsItems Spells cs whole) (ap (map content) all) (subst (SpellsItems Spells _) (sym is) spelled)
-
-  -- a block was written behind the items so far
-  pub wrote-block : {T : Type 0} (content : T → C) (xs ys zs : List T) (old mid new : Option (List ℕ)) → zs ≡ xs ++ ys → WroteItems Spells (map content xs) old mid → Adds (SpellsItems Spells (map content ys)) mid new → WroteItems Spells (map content zs) old new
-  wrote-block content xs ys zs old mid new joined w t =
-      subst (λ cs. WroteItems Spells cs old new) (sym (ap (map content) joined ∙ map-append content xs ys)) (record {
-        bytes = w.bytes ++ t.0;
-        spelled = items-join Spells (map content xs) (map content ys) w.bytes t.0 w.spelled t.1;
-        appended = Appends-trans old mid new w.bytes t.0 w.appended t.2;
-      })
-
-  pub fit-block : {T : Type 0} (content : T → C) (xs ys zs : List T) → zs ≡ xs ++ ys → AllByRecursion Fits (map content xs) → AllByRecursion Fits (map content ys) → AllByRecursion Fits (map content zs)
-  fit-block content xs ys zs joined p q = subst (AllByRecursion Fits) (sym (ap (map content) joined ∙ map-append content xs ys)) (fit-join Spells Fits (map content xs) (map content ys) p q)

@@ -1,15 +1,17 @@
 -- The spelling of whole numbers is a code, and no other input is read.
-use Rattle.std.proofs.Common.{◌≡◌, ◌∙◌, ap, sym, subst, ℕ, ◌/◌, ◌%◌, ◌^◌, ◌<◌, zero, suc, List, [], ◌∷◌, ◌++◌, length, refl, arith, append-nil, length-append}
+use Rattle.std.proofs.Common.{◌≡◌, ◌∙◌, ap, sym, subst, ℕ, ◌+◌, ◌*◌, ◌/◌, ◌%◌, ◌-◌, ◌^◌, ◌<◌, ◌≤◌, zero, suc, List, [], ◌∷◌, ◌++◌, length, take, get_or, refl, arith, append-nil, length-append}
 use Rattle.std.specs.List.{AllByRecursion}
-use Rattle.std.proofs.lemmas.List.{nil_from_length}
+use Rattle.std.proofs.Math.Nat.{div-div-eq-div-mul, mul_assoc}
+use Rattle.std.proofs.lemmas.Grind.{pow_more}
+use Rattle.std.proofs.lemmas.List.{nil_from_length, take_all}
 use Rattle.tinyvec_borsh.specs.Code.{IsCode}
 use Rattle.tinyvec_borsh.specs.Apart.{AreApart}
 use Rattle.std.specs.Prelude.{ℤ, FitsSigned}
-use Rattle.std.specs.Int.{Width, w8, w16, w32, w64, w128, cast_signed, cast_unsigned}
+use Rattle.std.specs.Int.{Width, w8, w16, w32, w64, w128, byte_at, byte_len, bytes_low_first, byte_worth, cast_signed, cast_unsigned, from_le_bytes, sum_through, to_le_bytes}
 use mir.Val.{bits, Fits}
 use Rattle.std.proofs.Math.Facts.{Fits-of_z, sfits_to_z}
 use Rattle.std.proofs.lemmas.Int.{of_z-to_z, to_z-of_z}
-use Rattle.tinyvec_borsh.specs.Number.{SpellsNumber, SpellsSigned, number_of}
+use Rattle.tinyvec_borsh.specs.Number.{NumberForm, SpellsNumber, SpellsSigned, number_of}
 
 number-injective : (a b : List ℕ) → length a ≡ length b → AllByRecursion (λ byte. byte < 256) a → AllByRecursion (λ byte. byte < 256) b → number_of a ≡ number_of b → a ≡ b
 number-injective [] [] same small_a small_b value = refl
@@ -29,13 +31,16 @@ number_code width some = record {
       sym p.value ∙ ap number_of (sym (append-nil a) ∙ ap (λ l. a ++ l) (sym none)) ∙ q.value;
 }
 
--- a whole number is cut where there are fewer bytes, and is never too long
-pub number_apart : (width : ℕ) (Fits : ℕ → Type 0) → AreApart (SpellsNumber width) Fits (λ input. length input < width) (λ _. ⊥)
-number_apart width Fits = record {
-  spelled_or_cut = λ c bytes rest p cut. omega (arith, p.many, length-append bytes rest);
+-- Where each spelling has so many bytes, an input with fewer is cut, and none is too long.
+pub apart_by_length : {C : Type 0} (width : ℕ) (Spells : C → List ℕ → Type 0) (Fits : C → Type 0) → ((c : C) (bytes : List ℕ) → Spells c bytes → length bytes ≡ width) → AreApart Spells Fits (λ input. length input < width) (λ _. ⊥)
+apart_by_length width Spells Fits many = record {
+  spelled_or_cut = λ c bytes rest p cut. omega (arith, many c bytes p, length-append bytes rest);
   fits_or_too_long = λ c bytes rest fits p long. long;
   cut_or_too_long = λ input cut long. long;
 }
+
+pub number_apart : (width : ℕ) (Fits : ℕ → Type 0) → AreApart (SpellsNumber width) Fits (λ input. length input < width) (λ _. ⊥)
+number_apart width Fits = apart_by_length width (SpellsNumber width) Fits (λ c bytes p. p.many)
 
 same-signed : (w : Width) (y z : ℤ) → FitsSigned w y → FitsSigned w z → cast_unsigned w y ≡ cast_unsigned w z → y ≡ z
 same-signed w y z p q same = sym (to_z-of_z w y p) ∙ ap (cast_signed w) same ∙ to_z-of_z w z q
@@ -47,23 +52,11 @@ signed_code w width some = record {
   one_content = λ c d a rest p q. same-signed w c d p.0 q.0 ((number_code width some).one_content (cast_unsigned w c) (cast_unsigned w d) a rest p.1 q.1);
 }
 
-pub signed_apart : (w : Width) (width : ℕ) → AreApart (SpellsSigned w width) (FitsSigned w) (λ input. length input < width) (λ _. ⊥)
-signed_apart w width = record {
-  spelled_or_cut = λ c bytes rest p cut. (number_apart width (λ n. n < 0)).spelled_or_cut (cast_unsigned w c) bytes rest p.1 cut;
-  fits_or_too_long = λ c bytes rest fits p long. long;
-  cut_or_too_long = λ input cut long. long;
-}
-
 pub number_spelled : (width n : ℕ) → n < 256 ^ width → (bytes : List ℕ) × SpellsNumber width n bytes
 number_spelled zero n below = ([], record { many = refl; small = tt; value = omega (arith, below) })
 number_spelled (suc width) n below =
     let rest = number_spelled width (n / 256) (omega (arith, below)) in
     (n % 256 ∷ rest.0, record { many = omega (arith, rest.1.many); small = (omega arith, rest.1.small); value = omega (arith, rest.1.value) })
-
-pub signed_spelled : (w : Width) (width : ℕ) → ((n : ℕ) → Fits w n → n < 256 ^ width) → (z : ℤ) → FitsSigned w z → (bytes : List ℕ) × SpellsSigned w width z bytes
-signed_spelled w width below z fits =
-    let t = number_spelled width (cast_unsigned w z) (below (cast_unsigned w z) (Fits-of_z fits)) in
-    (t.0, (fits, t.1))
 
 -- so many bytes are a number below 256 to that power
 pub number-below : (bytes : List ℕ) (width : ℕ) → length bytes ≡ width → AllByRecursion (λ byte. byte < 256) bytes → number_of bytes < 256 ^ width
@@ -74,49 +67,99 @@ number-below (x ∷ bytes) (suc width) long small =
     let rest = number-below bytes width (omega arith) small.1 in
     omega (arith, rest, small.0)
 
-pub signed-bytes : (w : Width) (width : ℕ) (bytes : List ℕ) (z : ℤ) → length bytes ≡ width → AllByRecursion (λ byte. byte < 256) bytes → number_of bytes < 2 ^ bits w → Fits w (number_of bytes) → z ≡ cast_signed w (number_of bytes) → SpellsSigned w width z bytes
-signed-bytes w width bytes z long small below fits is = (
-  subst (FitsSigned w) (sym is) (sfits_to_z fits),
-  record { many = long; small = small; value = sym (ap (cast_unsigned w) is ∙ of_z-to_z w (number_of bytes) below) },
-)
+power : (k : ℕ) → 256 ^ suc k ≡ 256 ^ k * 256
+power k = let same : suc k ≡ k + 1 = omega arith in ap (λ j. 256 ^ j) same ∙ pow_more 256 k
 
--- whatever so many bytes are, they spell a number
-pub number_spelled_by : (width : ℕ) (bytes : List ℕ) → length bytes ≡ width → AllByRecursion (λ byte. byte < 256) bytes → (n : ℕ) × SpellsNumber width n bytes × (n < 256 ^ width)
-number_spelled_by width bytes long small = (number_of bytes, record { many = long; small = small; value = refl }, number-below bytes width long small)
+-- bytes, least first, up to the one at k, are what the methods of numbers make of them
+number-more : (bytes : List ℕ) (k : ℕ) → k < length bytes → number_of (take (suc k) bytes) ≡ number_of (take k bytes) + get_or bytes k 0 * 256 ^ k
+number-more [] k within = absurd (omega arith)
+number-more (x ∷ bytes) zero within = omega arith
+number-more (x ∷ bytes) (suc k) within =
+    let rest = number-more bytes k (omega arith) in
+    let worth : get_or bytes k 0 * 256 ^ suc k ≡ get_or bytes k 0 * 256 ^ k * 256 = ap (λ p. get_or bytes k 0 * p) (power k) ∙ sym (mul_assoc (get_or bytes k 0) (256 ^ k) 256) in
+    omega (arith, rest, worth)
 
-pub signed_spelled_by : (w : Width) (width : ℕ) → ((n : ℕ) → n < 256 ^ width → (n < 2 ^ bits w) × Fits w n) → (bytes : List ℕ) → length bytes ≡ width → AllByRecursion (λ byte. byte < 256) bytes
-    → (z : ℤ) × SpellsSigned w width z bytes × FitsSigned w z
-signed_spelled_by w width within bytes long small =
-    let t = within (number_of bytes) (number-below bytes width long small) in
-    let spelled = signed-bytes w width bytes (cast_signed w (number_of bytes)) long small t.0 t.1 refl in
-    (cast_signed w (number_of bytes), spelled, spelled.0)
+value-through : (bytes : List ℕ) (k : ℕ) → k < length bytes → sum_through (λ i. byte_worth i (get_or bytes i 0)) k ≡ number_of (take (suc k) bytes)
+value-through [] k within = absurd (omega arith)
+value-through (x ∷ bytes) zero within = omega arith
+value-through (x ∷ bytes) (suc k) within = ap (λ n. n + get_or bytes k 0 * 256 ^ suc k) (value-through (x ∷ bytes) k (omega arith)) ∙ sym (number-more (x ∷ bytes) (suc k) within)
 
-pub below_8 : (n : ℕ) → Fits w8 n → n < 256 ^ 1
-below_8 n fits = omega (arith, fits)
+-- and the bytes that they make of a number
+byte-of : (i n : ℕ) → byte_at i n ≡ n / 256 ^ i % 256
+byte-of zero n = omega arith
+byte-of (suc i) n = refl
 
-pub below_16 : (n : ℕ) → Fits w16 n → n < 256 ^ 2
-below_16 n fits = omega (arith, fits)
+next-byte : (i n : ℕ) → n / 256 ^ suc i ≡ n / 256 ^ i / 256
+next-byte i n = ap (λ p. n / p) (power i) ∙ sym (div-div-eq-div-mul n (256 ^ i) 256)
 
-pub below_32 : (n : ℕ) → Fits w32 n → n < 256 ^ 4
-below_32 n fits = omega (arith, fits)
+low-first : (i k n : ℕ) → n / 256 ^ i < 256 ^ k → SpellsNumber k (n / 256 ^ i) (bytes_low_first i k n)
+low-first i zero n below = record { many = refl; small = tt; value = omega (arith, below) }
+low-first i (suc k) n below =
+    let next = next-byte i n in
+    let more = power k in
+    let rest = low-first (suc i) k n (omega (arith, next, more, below)) in
+    let byte = byte-of i n in
+    record { many = ap suc rest.many; small = (omega (arith, byte), rest.small); value = omega (arith, byte, next, rest.value) }
 
-pub below_64 : (n : ℕ) → Fits w64 n → n < 256 ^ 8
-below_64 n fits = omega (arith, fits)
+pub bytes-of : (w : Width) → (256 ^ byte_len w ≡ 2 ^ bits w) × (0 < byte_len w) × (byte_len w ≤ 16)
+bytes-of w8 = (refl, omega arith, omega arith)
+bytes-of w16 = (refl, omega arith, omega arith)
+bytes-of w32 = (refl, omega arith, omega arith)
+bytes-of w64 = (refl, omega arith, omega arith)
+bytes-of w128 = (refl, omega arith, omega arith)
 
-pub below_128 : (n : ℕ) → Fits w128 n → n < 256 ^ 16
-below_128 n fits = omega (arith, fits)
+pub spells-le : (w : Width) (n : ℕ) → n < 2 ^ bits w → SpellsNumber (byte_len w) n (to_le_bytes w n)
+spells-le w n fits =
+    let one : n / 256 ^ 0 ≡ n = omega arith in
+    subst (λ m. SpellsNumber (byte_len w) m (to_le_bytes w n)) one (low-first 0 (byte_len w) n (omega (arith, one, fits, (bytes-of w).0)))
 
-pub within_8 : (n : ℕ) → n < 256 ^ 1 → (n < 2 ^ bits w8) × Fits w8 n
-within_8 n below = (below, omega (arith, below))
+pub value-le : (w : Width) (bytes : List ℕ) → length bytes ≡ byte_len w → from_le_bytes w bytes ≡ number_of bytes
+value-le w bytes long =
+    let some = (bytes-of w).1 in
+    value-through bytes (byte_len w - 1) (omega (arith, long, some)) ∙ ap number_of (take_all (suc (byte_len w - 1)) bytes (omega (arith, long, some)))
 
-pub within_16 : (n : ℕ) → n < 256 ^ 2 → (n < 2 ^ bits w16) × Fits w16 n
-within_16 n below = (below, omega (arith, below))
+pub below-bits : (w : Width) (bytes : List ℕ) → length bytes ≡ byte_len w → AllByRecursion (λ byte. byte < 256) bytes → number_of bytes < 2 ^ bits w
+below-bits w bytes long small = subst (λ m. number_of bytes < m) (bytes-of w).0 (number-below bytes (byte_len w) long small)
 
-pub within_32 : (n : ℕ) → n < 256 ^ 4 → (n < 2 ^ bits w32) × Fits w32 n
-within_32 n below = (below, omega (arith, below))
+abbrev pub unsigned : (w : Width) → NumberForm ℕ
+unsigned w = record {
+  width = w;
+  to_bits = λ n. n;
+  of_bits = λ n. n;
+  Spells = SpellsNumber (byte_len w);
+  Fits = λ n. n < 2 ^ bits w;
+  code = number_code (byte_len w) (bytes-of w).1;
+  many = λ n bytes p. p.many;
+  written = spells-le w;
+  read = λ bytes long small. (
+    record { many = long; small = small; value = sym (value-le w bytes long) },
+    subst (λ n. n < 2 ^ bits w) (sym (value-le w bytes long)) (below-bits w bytes long small),
+  );
+}
 
-pub within_64 : (n : ℕ) → n < 256 ^ 8 → (n < 2 ^ bits w64) × Fits w64 n
-within_64 n below = (below, omega (arith, below))
+pub signed-bytes : (w : Width) (bytes : List ℕ) → length bytes ≡ byte_len w → AllByRecursion (λ byte. byte < 256) bytes → SpellsSigned w (byte_len w) (cast_signed w (from_le_bytes w bytes)) bytes
+signed-bytes w bytes long small =
+    let below = below-bits w bytes long small in
+    subst (λ n. SpellsSigned w (byte_len w) (cast_signed w n) bytes) (sym (value-le w bytes long)) (
+      sfits_to_z (record { fits = below }),
+      record { many = long; small = small; value = sym (of_z-to_z w (number_of bytes) below) },
+    )
 
-pub within_128 : (n : ℕ) → n < 256 ^ 16 → (n < 2 ^ bits w128) × Fits w128 n
-within_128 n below = (below, omega (arith, below))
+abbrev pub signed : (w : Width) → NumberForm ℤ
+signed w = record {
+  width = w;
+  to_bits = cast_unsigned w;
+  of_bits = cast_signed w;
+  Spells = SpellsSigned w (byte_len w);
+  Fits = FitsSigned w;
+  code = signed_code w (byte_len w) (bytes-of w).1;
+  many = λ z bytes p. p.1.many;
+  written = λ z fits. (fits, spells-le w (cast_unsigned w z) (Fits-of_z fits).fits);
+  read = λ bytes long small. (signed-bytes w bytes long small, (signed-bytes w bytes long small).0);
+}
+
+pub signed_apart : (w : Width) → AreApart (SpellsSigned w (byte_len w)) (FitsSigned w) (λ input. length input < byte_len w) (λ _. ⊥)
+signed_apart w = apart_by_length (byte_len w) (SpellsSigned w (byte_len w)) (FitsSigned w) (signed w).many
+
+pub signed_spelled : (w : Width) (z : ℤ) → FitsSigned w z → (bytes : List ℕ) × SpellsSigned w (byte_len w) z bytes
+signed_spelled w z fits = (to_le_bytes w (cast_unsigned w z), (signed w).written z fits)

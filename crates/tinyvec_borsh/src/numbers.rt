@@ -1,5 +1,92 @@
 //! Whole numbers: so many bytes, least first.
+ghost use Rattle.std.specs.Prelude.{◌<◌, length};
+ghost use Rattle.std.specs.Int.{byte_len};
+ghost use Rattle.tinyvec_borsh.specs.NumberLaws.{apart_by_length};
 
-mod blocks;
-mod signed;
-mod unsigned;
+mod byte;
+mod number;
+mod widths;
+
+use crate::bytes::{read_bytes, write_bytes};
+use crate::{BorshDeserialize, BorshError, BorshForm, BorshSerialize};
+use number::{Number, ROOM, decode, encode, from_slice};
+use std::alloc::Global;
+use std::io::{Read, Write};
+use tinyvec_array::Array;
+use tinyvec_io::Counted;
+
+impl<T: Number> BorshForm for T {
+    ghost Content = { T };
+
+    ghost content_of = { λ n. n };
+
+    ghost Spells = { T.form.Spells };
+
+    ghost Fits = { T.form.Fits };
+
+    ghost code = { T.form.code };
+
+    ghost spelled = { λ n fits. (_, T.form.written n fits) };
+}
+
+impl<T: Number> BorshSerialize for T {
+    fn serialize<W: Write>(&self, writer: &mut Counted<W>) -> Result<(), BorshError> {
+        write_bytes(writer, self.to_bytes().as_slice())
+    }
+
+    #[tactic(auto, using(crate::proofs::NumberBlocks::block_within))]
+    fn serialize_items<W: Write>(
+        items: &[Self],
+        writer: &mut Counted<W>,
+    ) -> Result<(), BorshError> {
+        let width = T::Bytes::CAPACITY;
+        let mut room = [0; ROOM];
+        let mut start = 0;
+        while start < items.len() {
+            let count = (items.len() - start).min(ROOM / width);
+            encode(&items[start..start + count], &mut room);
+            write_bytes(writer, &room[..count * width])?;
+            start += count;
+        }
+        Ok(())
+    }
+}
+
+impl<T: Number> BorshDeserialize for T {
+    ghost IsCut = { λ input. length input < byte_len T.form.width };
+
+    ghost IsTooLong = { λ _. ⊥ };
+
+    ghost MayAsk = { λ _. ⊥ };
+
+    ghost apart = { apart_by_length (byte_len T.form.width) T.form.Spells T.form.Fits T.form.many };
+
+    fn deserialize_reader<R: Read>(
+        _alloc: Global,
+        reader: &mut Counted<R>,
+    ) -> Result<Self, BorshError> {
+        let mut room = [0; 16];
+        let bytes = &mut room[..T::Bytes::CAPACITY];
+        read_bytes(reader, bytes)?;
+        Ok(from_slice(bytes))
+    }
+
+    #[tactic(auto, using(crate::proofs::NumberBlocks::block_within))]
+    fn deserialize_slots<R: Read>(
+        _alloc: Global,
+        slots: &mut [Self],
+        reader: &mut Counted<R>,
+    ) -> Result<(), BorshError> {
+        let width = T::Bytes::CAPACITY;
+        let mut room = [0; ROOM];
+        let mut start = 0;
+        while start < slots.len() {
+            let count = (slots.len() - start).min(ROOM / width);
+            let bytes = &mut room[..count * width];
+            read_bytes(reader, bytes)?;
+            decode(&mut slots[start..start + count], bytes);
+            start += count;
+        }
+        Ok(())
+    }
+}

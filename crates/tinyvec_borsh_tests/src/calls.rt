@@ -74,7 +74,7 @@ fn bytes_are_written_at_once(rt: HostRuntime) -> Result<(), Fail> {
 
 #[test]
 fn numbers_are_written_in_blocks(rt: HostRuntime) -> Result<(), Fail> {
-    let list = TinyVec::from_array(rt.alloc(), [7i128; 129]);
+    let list = TinyVec::from_array(rt.alloc(), [7i128; 33]);
     let mut wrong = 0;
     wrong = first(
         wrong,
@@ -84,7 +84,7 @@ fn numbers_are_written_in_blocks(rt: HostRuntime) -> Result<(), Fail> {
     wrong = first(
         wrong,
         2,
-        is_written_by(3, &ArrayVec::from_array([7i16; 65])),
+        is_written_by(3, &ArrayVec::from_array([7i16; 129])),
     );
     wrong = first(wrong, 3, is_written_by(4, &list));
     all_right(wrong)

@@ -1,0 +1,8 @@
+use Rattle.std.proofs.Common.{◌∙◌, subst, sym}
+use Rattle.tinyvec_borsh.proofs.Outcomes.{on-ok}
+use Rattle.tinyvec_borsh.proofs.numbers.AnyBorshSerialize.serialize.Goals as goal
+
+pub returns-clause-ok : goal.returns-clause-ok
+returns-clause-ok g c =
+    let spelled = subst (g.T.Number.form.Spells c.args.self.now) (sym (c.as_slice.ensures.value ∙ c.to_bytes.ensures.bytes)) (g.T.Number.form.written c.args.self.now c.to_bytes.ensures.fits) in
+    on-ok c.write_bytes.result (λ h. (c.as_slice.result.now, spelled, h)) c.write_bytes.ensures.ok

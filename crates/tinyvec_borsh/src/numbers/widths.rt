@@ -1,0 +1,150 @@
+//! The types of whole numbers, but for `u8`.
+ghost use Rattle.std.specs.Prelude.{refl};
+ghost use Rattle.std.specs.Int.{w8, w16, w32, w64, w128};
+ghost use Rattle.tinyvec_borsh.specs.NumberLaws.{signed, unsigned};
+
+use super::number::Number;
+
+impl Number for u16 {
+    type Bytes = [u8; 2];
+
+    ghost form = { unsigned w16 };
+
+    fn to_bytes(self) -> [u8; 2] {
+        u16::to_le_bytes(self)
+    }
+
+    fn from_bytes(bytes: [u8; 2]) -> u16 {
+        u16::from_le_bytes(bytes)
+    }
+
+    ghost sized = { refl };
+}
+
+impl Number for u32 {
+    type Bytes = [u8; 4];
+
+    ghost form = { unsigned w32 };
+
+    fn to_bytes(self) -> [u8; 4] {
+        u32::to_le_bytes(self)
+    }
+
+    fn from_bytes(bytes: [u8; 4]) -> u32 {
+        u32::from_le_bytes(bytes)
+    }
+
+    ghost sized = { refl };
+}
+
+impl Number for u64 {
+    type Bytes = [u8; 8];
+
+    ghost form = { unsigned w64 };
+
+    fn to_bytes(self) -> [u8; 8] {
+        u64::to_le_bytes(self)
+    }
+
+    fn from_bytes(bytes: [u8; 8]) -> u64 {
+        u64::from_le_bytes(bytes)
+    }
+
+    ghost sized = { refl };
+}
+
+impl Number for u128 {
+    type Bytes = [u8; 16];
+
+    ghost form = { unsigned w128 };
+
+    fn to_bytes(self) -> [u8; 16] {
+        u128::to_le_bytes(self)
+    }
+
+    fn from_bytes(bytes: [u8; 16]) -> u128 {
+        u128::from_le_bytes(bytes)
+    }
+
+    ghost sized = { refl };
+}
+
+impl Number for i8 {
+    type Bytes = [u8; 1];
+
+    ghost form = { signed w8 };
+
+    fn to_bytes(self) -> [u8; 1] {
+        i8::to_le_bytes(self)
+    }
+
+    fn from_bytes(bytes: [u8; 1]) -> i8 {
+        i8::from_le_bytes(bytes)
+    }
+
+    ghost sized = { refl };
+}
+
+impl Number for i16 {
+    type Bytes = [u8; 2];
+
+    ghost form = { signed w16 };
+
+    fn to_bytes(self) -> [u8; 2] {
+        i16::to_le_bytes(self)
+    }
+
+    fn from_bytes(bytes: [u8; 2]) -> i16 {
+        i16::from_le_bytes(bytes)
+    }
+
+    ghost sized = { refl };
+}
+
+impl Number for i32 {
+    type Bytes = [u8; 4];
+
+    ghost form = { signed w32 };
+
+    fn to_bytes(self) -> [u8; 4] {
+        i32::to_le_bytes(self)
+    }
+
+    fn from_bytes(bytes: [u8; 4]) -> i32 {
+        i32::from_le_bytes(bytes)
+    }
+
+    ghost sized = { refl };
+}
+
+impl Number for i64 {
+    type Bytes = [u8; 8];
+
+    ghost form = { signed w64 };
+
+    fn to_bytes(self) -> [u8; 8] {
+        i64::to_le_bytes(self)
+    }
+
+    fn from_bytes(bytes: [u8; 8]) -> i64 {
+        i64::from_le_bytes(bytes)
+    }
+
+    ghost sized = { refl };
+}
+
+impl Number for i128 {
+    type Bytes = [u8; 16];
+
+    ghost form = { signed w128 };
+
+    fn to_bytes(self) -> [u8; 16] {
+        i128::to_le_bytes(self)
+    }
+
+    fn from_bytes(bytes: [u8; 16]) -> i128 {
+        i128::from_le_bytes(bytes)
+    }
+
+    ghost sized = { refl };
+}
