@@ -21,6 +21,10 @@ module _ {A T : Type 0} where
   abbrev pub GrowsFor : ℕ → ℕ → TinyVec A T → TinyVec A T → Type 0
   GrowsFor slots need old new = GrowsTo slots need (max (2 * tiny_capacity slots old) need) old new
 
+  -- a capacity that grew item by item is less than twice the length
+  abbrev pub GrowsInSteps : ℕ → TinyVec A T → TinyVec A T → Type 0
+  GrowsInSteps slots old new = tiny_capacity slots old < tiny_capacity slots new → tiny_capacity slots new < 2 * tiny_len new
+
 module _ {A T X E : Type 0} where
   -- a call for room for n more items took `old` to `new`, and was answered so; a list on the heap that grows gets `heap` as its room
   pub record Reserves (D : T → Type 0) (slots n heap : ℕ) (old new : TinyVec A T) (result : Result X E) : Type 0 where

@@ -4,7 +4,7 @@ ghost use Rattle.tinyvec_slots.specs.Clones.{RefusedAt, ClonesOverFrom};
 
 use crate::Lent;
 use std::alloc::AllocError;
-use tinyvec_slots::{clone_over, clone_through};
+use tinyvec_slots::{clone_each, clone_through};
 
 // Writes clones of `from` into the slots from `start` on.
 pub(crate) fn put_clones<B: Lent>(
@@ -23,7 +23,7 @@ where
         × ClonesOverFrom B.Item.is_clone start (take j from.now) j (B.slots lent.old) (B.slots lent.new)) }
     ensures succeeds { All B.Item.is_infallible from.now → IsOk result }
 {
-    clone_over(&mut lent.all_mut()[start..], from)
+    clone_each(&mut lent.all_mut()[start..], from)
 }
 
 // Writes clones of `x` into the slots from `start` up to `end`.

@@ -1,12 +1,17 @@
 -- Clones written over slots, block by block.
-use Rattle.std.proofs.Common.{◌≡◌, ℕ, zero, suc, ◌+◌, ◌-◌, ◌<◌, ◌≤◌, List, [], ◌∷◌, ◌++◌, length, take, drop, set, get_or, replicate, refl, sym, ap, subst, ◌∙◌, le_refl, arith, append-nil, length-append, length-drop, take_at, drop_at, take_all, drop-drop, get_or-drop}
+use Rattle.std.proofs.Common.{◌≡◌, ℕ, zero, suc, ◌+◌, ◌-◌, ◌<◌, ◌≤◌, List, [], ◌∷◌, ◌++◌, All, length, take, drop, set, get_or, replicate, refl, sym, ap, subst, ◌∙◌, le_refl, arith, append-nil, length-append, length-drop, take_at, drop_at, take_all, drop-drop, get_or-drop}
 use Rattle.std.proofs.lemmas.List.{take_more, replicate_more, drop_all}
-use Rattle.std.proofs.lemmas.List.Elements.{AllZip-push, same_from_all_zip}
+use Rattle.std.proofs.lemmas.List.Elements.{All-get_or, AllZip-push, same_from_all_zip}
 use Rattle.std.proofs.Math.Seq.{take-add}
 use Rattle.std.specs.List.{AllZip, HoldsAt}
 use Rattle.tinyvec_slots.specs.Clones.{RefusedAt, ClonesOver, ClonesOverFrom}
 use Rattle.tinyvec_slots.proofs.CloneLemmas.{set_next, written_part, length-part}
 use borrow.Rule.Slice.PartMut.{post_of}
+
+-- where each clone is granted, none is refused
+pub all_granted : {X : Type 0} (I : X → Type 0) (xs : List X) (j : ℕ) → All I xs → RefusedAt I xs j → ⊥
+all_granted I [] j all h = omega (arith, h.0)
+all_granted I (x ∷ xs) j all h = h.1 x (All-get_or I (x ∷ xs) j x h.0 all)
 
 module _ {X : Type 0} (C : X → X → Type 0) where
   pub AllZip-join : (xs ys vs ws : List X) → AllZip C xs ys → AllZip C vs ws → AllZip C (xs ++ vs) (ys ++ ws)

@@ -1,6 +1,6 @@
 -- The turns of the loops that keep some items of a slice.
-use Rattle.std.proofs.Common.{cond, ◌⊎◌, inl, inr, ◌≡◌, ℕ, zero, suc, ◌+◌, ◌-◌, ◌<◌, ◌≤◌, Bool, true, false, List, [], ◌∷◌, ◌++◌, length, get_or, set, take, drop, swap, refl, sym, ap, subst, ◌∙◌, arith, length-set, drop-set-lt}
-use Rattle.std.proofs.lemmas.List.{get_or-set_same, set-get_or, take-set-le, take-set, take-take, take_more_set, get_or-take, set_comm}
+use Rattle.std.proofs.Common.{cond, ◌⊎◌, inl, inr, ◌≡◌, ℕ, zero, suc, ◌+◌, ◌-◌, ◌<◌, ◌≤◌, Bool, true, false, List, [], ◌∷◌, ◌++◌, length, get_or, set, take, drop, swap, refl, sym, ap, ◌∙◌, arith, length-set, drop-set-lt}
+use Rattle.std.proofs.lemmas.List.{drop_more, get_or-set_same, set-get_or, take-set-le, take-set, take-take, take_more_set, get_or-take, set_comm}
 use Rattle.std.proofs.lemmas.List.Edits.{swap_is}
 use Rattle.std.proofs.lemmas.Bool.{cases_lt}
 use Rattle.tinyvec_slots.proofs.LastStateLemmas.{RetainMutInvariant, sift_on, DedupInvariant, merge_on}
@@ -28,30 +28,38 @@ module _ {X : Type 0} (ys : List X) (k i : ℕ) (x : X) (le : k ≤ i) (lt : i <
       ap (drop (i + 1)) (sym (swap_is ys k i x (omega arith) lt)) ∙ drop-set-lt (i + 1) (set ys k (get_or ys i x)) i (get_or ys k x) (omega arith)
       ∙ drop-set-lt (i + 1) ys k (get_or ys i x) (omega arith)
 
+  item_at : take 1 (drop i ys) ≡ x ∷ []
+  item_at = ap (take 1) (drop_more ys i x lt) ∙ ap (λ y. y ∷ []) (sym is)
+
 module _ {S X : Type 0} (R : S → X → Bool → S → X → Type 0) (last : S) where
   -- the invariant reads the first k items and those from i on
   retain_moved : (s₀ : S) (xs : List X) (s : S) (ys zs : List X) (k i : ℕ) → drop i zs ≡ drop i ys → take k zs ≡ take k ys
       → RetainMutInvariant R last s₀ xs s ys k i → RetainMutInvariant R last s₀ xs s zs k i
   retain_moved s₀ xs s ys zs k i tail front h = (tail ∙ h.0, λ rest g. rw front (h.1 rest g))
 
-  -- a turn of `retain_mut` at i, with k items kept so far, where the question left y
-  module _ (s₀ : S) (xs : List X) (s t : S) (ys : List X) (k i : ℕ) (x y : X) (le : k ≤ i) (lt : i < length ys)
-      (is : x ≡ get_or ys i x) (h : RetainMutInvariant R last s₀ xs s ys k i) where
-    pub keeps_item : R s x true t y → RetainMutInvariant R last s₀ xs t (swap (set ys i y) k i) (k + 1) (i + 1)
-    keeps_item asked =
-        let zs = set ys i y in
-        let long = length-set ys i y in
-        let here = sym (get_or-set_same ys i y y lt) in
-        retain_moved s₀ xs t (set zs k y) (swap zs k i) (k + 1) (i + 1)
-        (swapped_behind zs k i y le (omega arith) here ∙ sym (drop-set-lt (i + 1) zs k y (omega arith)))
-        (swapped_front zs k i y le (omega arith) here ∙ sym (take_more_set zs k y (omega arith)))
+  -- a turn of `retain_mut` at i, with k items kept so far, where the question left y, and the list was then moved to zs
+  module _ (s₀ : S) (xs : List X) (s t : S) (ys zs : List X) (k i : ℕ) (x y : X) (le : k ≤ i) (lt : i < length ys)
+      (is : x ≡ get_or ys i x) (h : RetainMutInvariant R last s₀ xs s ys k i)
+      (behind : drop (i + 1) zs ≡ drop (i + 1) (set ys i y)) (before : take k zs ≡ take k (set ys i y)) where
+    here : y ≡ get_or (set ys i y) i y
+    here = sym (get_or-set_same ys i y y lt)
+
+    within : i < length (set ys i y)
+    within = omega (arith, length-set ys i y)
+
+    same_behind : drop (i + 1) zs ≡ drop (i + 1) (set (set ys i y) k y)
+    same_behind = behind ∙ sym (drop-set-lt (i + 1) (set ys i y) k y (omega arith))
+
+    pub keeps_item : take (k + 1) zs ≡ take k (set ys i y) ++ take 1 (drop i (set ys i y)) → R s x true t y → RetainMutInvariant R last s₀ xs t zs (k + 1) (i + 1)
+    keeps_item moved asked =
+        retain_moved s₀ xs t (set (set ys i y) k y) zs (k + 1) (i + 1) same_behind
+        (moved ∙ ap (λ l. take k (set ys i y) ++ l) (item_at (set ys i y) k i y le within here) ∙ sym (take_more_set (set ys i y) k y (omega (arith, within))))
         (sift_on R last s₀ xs s t ys k i x y le lt is h true asked)
 
-    pub drops_item : R s x false t y → RetainMutInvariant R last s₀ xs t (set ys i y) k (i + 1)
+    pub drops_item : R s x false t y → RetainMutInvariant R last s₀ xs t zs k (i + 1)
     drops_item asked =
-        let zs = set ys i y in
-        retain_moved s₀ xs t (set zs k y) zs k (i + 1) (sym (drop-set-lt (i + 1) zs k y (omega arith)))
-        (sym (take-set zs k y)) (sift_on R last s₀ xs s t ys k i x y le lt is h false asked)
+        retain_moved s₀ xs t (set (set ys i y) k y) zs k (i + 1) same_behind (before ∙ sym (take-set (set ys i y) k y))
+        (sift_on R last s₀ xs s t ys k i x y le lt is h false asked)
 
 module _ {S X : Type 0} (R : S → X → Bool → S → Type 0) where
   -- a question that leaves the item as it was
@@ -75,20 +83,20 @@ module _ {S X : Type 0} (R : S → X → Bool → S → Type 0) where
       )
 
   -- a turn of `retain` at i
-  module _ (last s₀ : S) (xs : List X) (s t : S) (ys : List X) (k i : ℕ) (x : X) (le : k ≤ i) (lt : i < length ys)
-      (is : x ≡ get_or ys i x) (h : RetainMutInvariant OnlyAsks last s₀ xs s ys k i) where
-    unchanged : set ys i x ≡ ys
-    unchanged = ap (set ys i) is ∙ set-get_or ys i x
+  module _ (last s₀ : S) (xs : List X) (s t : S) (ys zs : List X) (k i : ℕ) (x : X) (le : k ≤ i) (lt : i < length ys)
+      (is : x ≡ get_or ys i x) (h : RetainMutInvariant OnlyAsks last s₀ xs s ys k i)
+      (behind : drop (i + 1) zs ≡ drop (i + 1) ys) (before : take k zs ≡ take k ys) where
+    unchanged : ys ≡ set ys i x
+    unchanged = sym (ap (set ys i) is ∙ set-get_or ys i x)
 
-    pub keeps_shown : R s x true t → RetainMutInvariant OnlyAsks last s₀ xs t (swap ys k i) (k + 1) (i + 1)
-    keeps_shown asked =
-        subst (λ zs. RetainMutInvariant OnlyAsks last s₀ xs t (swap zs k i) (k + 1) (i + 1)) unchanged
-        (keeps_item OnlyAsks last s₀ xs s t ys k i x x le lt is h (asked, refl))
+    pub keeps_shown : take (k + 1) zs ≡ take k ys ++ take 1 (drop i ys) → R s x true t → RetainMutInvariant OnlyAsks last s₀ xs t zs (k + 1) (i + 1)
+    keeps_shown moved asked =
+        keeps_item OnlyAsks last s₀ xs s t ys zs k i x x le lt is h (behind ∙ ap (drop (i + 1)) unchanged) (before ∙ ap (take k) unchanged)
+        (moved ∙ ap (λ l. take k l ++ take 1 (drop i l)) unchanged) (asked, refl)
 
-    pub drops_shown : R s x false t → RetainMutInvariant OnlyAsks last s₀ xs t ys k (i + 1)
+    pub drops_shown : R s x false t → RetainMutInvariant OnlyAsks last s₀ xs t zs k (i + 1)
     drops_shown asked =
-        subst (λ zs. RetainMutInvariant OnlyAsks last s₀ xs t zs k (i + 1)) unchanged
-        (drops_item OnlyAsks last s₀ xs s t ys k i x x le lt is h (asked, refl))
+        drops_item OnlyAsks last s₀ xs s t ys zs k i x x le lt is h (behind ∙ ap (drop (i + 1)) unchanged) (before ∙ ap (take k) unchanged) (asked, refl)
 
 module _ {S X : Type 0} (R : S → X → X → Bool → S → X → X → Type 0) (last : S) where
   -- the invariant reads the first k items and those from i on

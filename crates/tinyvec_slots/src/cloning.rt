@@ -1,13 +1,12 @@
-//! Clones written into slots.
-ghost use Rattle.std.specs.Prelude.{◌≡◌, ◌<◌, ◌≤◌, ℕ, All, length, take, replicate, IsOk, OnOk, OnErr};
-ghost use Rattle.std.specs.Bool.{MatchBool};
+//! Clones written into slots. No item is cloned twice: a clone that is refused ends the call, and those before it stay.
+ghost use Rattle.std.specs.Prelude.{◌≡◌, ◌<◌, ◌≤◌, ℕ, All, length, take, replicate, IfOk, IsOk, OnOk, OnErr};
 ghost use Rattle.tinyvec_slots.specs.Clones.{RefusedAt, ClonesOver};
 
 use std::alloc::AllocError;
 use std::mem;
 
 /// Writes clones of `from` over the first slots of `to`.
-pub fn clone_over<T: Clone>(to: &mut [T], from: &[T]) -> Result<(), AllocError>
+pub fn clone_over<T: Clone + Default>(to: &mut [T], from: &[T]) -> Result<(), AllocError>
     requires fits { length from.now ≤ length to.old }
     ensures ok { OnOk result (ClonesOver T.is_clone from.now (length from.now) to.old to.new) }
     ensures refused { OnErr result ((j : ℕ) × RefusedAt T.is_infallible from.now j
@@ -15,7 +14,24 @@ pub fn clone_over<T: Clone>(to: &mut [T], from: &[T]) -> Result<(), AllocError>
     ensures len { length to.new ≡ length to.old }
     ensures succeeds { All T.is_infallible from.now → IsOk result }
 {
-    let done = clone_blocks(to, from);
+    // A block is made on the stack, which large items would fill.
+    if from.len() * mem::size_of::<T>() / 16 > from.len() {
+        return clone_each(to, from);
+    }
+    let done = clone_blocks::<T, 512>(to, from)?;
+    clone_rest(&mut to[done..], &from[done..])
+}
+
+// The same in blocks of 16, and then item by item.
+fn clone_rest<T: Clone + Default>(to: &mut [T], from: &[T]) -> Result<(), AllocError>
+    requires fits { length from.now ≤ length to.old }
+    ensures ok { OnOk result (ClonesOver T.is_clone from.now (length from.now) to.old to.new) }
+    ensures refused { OnErr result ((j : ℕ) × RefusedAt T.is_infallible from.now j
+        × ClonesOver T.is_clone (take j from.now) j to.old to.new) }
+    ensures len { length to.new ≡ length to.old }
+    ensures succeeds { All T.is_infallible from.now → IsOk result }
+{
+    let done = clone_blocks::<T, 16>(to, from)?;
     clone_each(&mut to[done..], &from[done..])
 }
 
@@ -29,65 +45,77 @@ pub fn clone_each<T: Clone>(to: &mut [T], from: &[T]) -> Result<(), AllocError>
     ensures len { length to.new ≡ length to.old }
     ensures succeeds { All T.is_infallible from.now → IsOk result }
 {
-    for i in 0..from.len() {
-        to[i] = from[i].clone()?;
+    let made = clone_until_refused(to, from);
+    if made < from.len() {
+        return Err(AllocError);
     }
     Ok(())
 }
 
-// Clones small items in blocks, and answers how many it cloned. The items of a block are all read before one is written, so
-// that the compiler moves blocks of numbers as a whole.
-fn clone_blocks<T: Clone>(to: &mut [T], from: &[T]) -> usize
+// Clones item by item, and counts the clones. It ends where one is refused.
+fn clone_until_refused<T: Clone>(to: &mut [T], from: &[T]) -> usize
     requires fits { length from.now ≤ length to.old }
     ensures within { result ≤ length from.now }
     ensures cloned { ClonesOver T.is_clone (take result from.now) result to.old to.new }
+    ensures refused { result < length from.now → RefusedAt T.is_infallible from.now result }
     ensures len { length to.new ≡ length to.old }
 {
-    // A block is made on the stack, which large items would fill.
-    if from.len() * mem::size_of::<T>() / 16 > from.len() {
-        return 0;
+    for i in 0..from.len() {
+        match from[i].clone() {
+            Ok(x) => to[i] = x,
+            Err(_) => return i,
+        }
     }
-    let many = clone_blocks_of::<T, 512>(to, from);
-    let more = many + clone_blocks_of::<T, 16>(&mut to[many..], &from[many..]);
-    more + clone_blocks_of::<T, 4>(&mut to[more..], &from[more..])
+    from.len()
 }
 
-// The same in blocks of N. It stops where fewer than N are left, and at a block one of whose clones is refused.
-fn clone_blocks_of<T: Clone, const N: usize>(to: &mut [T], from: &[T]) -> usize
+// Clones in blocks of N, and counts the clones. It ends where fewer than N items are left.
+fn clone_blocks<T: Clone + Default, const N: usize>(
+    to: &mut [T],
+    from: &[T],
+) -> Result<usize, AllocError>
     requires some { 0 < N }
     requires fits { length from.now ≤ length to.old }
-    ensures within { result ≤ length from.now }
-    ensures cloned { ClonesOver T.is_clone (take result from.now) result to.old to.new }
+    ensures within { IfOk result (λ n. n ≤ length from.now) }
+    ensures cloned { IfOk result (λ n. ClonesOver T.is_clone (take n from.now) n to.old to.new) }
+    ensures refused { OnErr result ((j : ℕ) × RefusedAt T.is_infallible from.now j
+        × ClonesOver T.is_clone (take j from.now) j to.old to.new) }
     ensures len { length to.new ≡ length to.old }
 {
     let mut done = 0;
-    while N <= from.len() - done && clone_block::<T, N>(&mut to[done..], &from[done..]) {
+    while N <= from.len() - done {
+        clone_block::<T, N>(&mut to[done..], &from[done..])?;
         done += N;
     }
-    done
+    Ok(done)
 }
 
-// Clones the first N items, and answers whether no clone was refused. It is called only where there are so many, since it
-// clears its room on the stack.
-fn clone_block<T: Clone, const N: usize>(to: &mut [T], from: &[T]) -> bool
+// Clones the first N items. All are read before one is written, so that the compiler moves a block of numbers as a whole. It
+// is called only where there are so many, since it clears its room on the stack.
+fn clone_block<T: Clone + Default, const N: usize>(
+    to: &mut [T],
+    from: &[T],
+) -> Result<(), AllocError>
     requires enough { N ≤ length from.now }
     requires fits { length from.now ≤ length to.old }
-    ensures cloned { MatchBool result (ClonesOver T.is_clone (take N from.now) N to.old to.new) (to.new ≡ to.old) }
+    ensures cloned { OnOk result (ClonesOver T.is_clone (take N from.now) N to.old to.new) }
+    ensures refused { OnErr result ((j : ℕ) × RefusedAt T.is_infallible from.now j
+        × ClonesOver T.is_clone (take j from.now) j to.old to.new) }
     ensures len { length to.new ≡ length to.old }
 {
     // It tells the proof that so many items fit in memory.
     let _bytes = from.len() * mem::size_of::<T>();
-    let Some(block) = from.first_chunk::<N>() else {
-        return false;
-    };
-    let Ok(clones) = block.clone() else {
-        return false;
-    };
-    if let Some(place) = to.first_chunk_mut::<N>() {
-        *place = clones;
-        return true;
+    let mut block: [T; N] = Default::default();
+    let made = clone_until_refused(&mut block, &from[..N]);
+    if made < N {
+        to[..made].swap_with_slice(&mut block[..made]);
+        return Err(AllocError);
     }
-    false
+    let Some(place) = to.first_chunk_mut::<N>() else {
+        unreachable!();
+    };
+    *place = block;
+    Ok(())
 }
 
 /// Writes a clone of `x` into each slot.

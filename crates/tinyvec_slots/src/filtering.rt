@@ -1,11 +1,13 @@
 //! Keeping some items of a slice: those kept move to its front, in order.
-ghost use Rattle.std.specs.Prelude.{◌≡◌, ◌<◌, ◌≤◌, length, take};
+ghost use Rattle.std.specs.Prelude.{◌≡◌, ◌+◌, ◌<◌, ◌≤◌, ◌++◌, true, length, take, drop};
 ghost use Rattle.std.specs.Fn.{CalledAt, CalledAtMut, CalledAtPairMut, ComparesKeys};
 ghost use Rattle.std.specs.List.Retain.{IsFiltered, RetainsInTurn, IsDeduped};
 ghost use Rattle.tinyvec_slots.specs.Filters.{AsksPair, RetainsTo, IsFilteredTo, IsDedupedTo};
 
+use std::mem;
+
 /// Moves the items at which `f` answers `true` to the front, and counts them.
-pub fn retain_in_front<T, F: FnMut(&T) -> bool>(items: &mut [T], f: &mut F) -> usize
+pub fn retain_in_front<T: Default + Drop, F: FnMut(&T) -> bool>(items: &mut [T], f: &mut F) -> usize
     requires { F.IsAlwaysCallable f.old }
     ensures filtered { IsFiltered (CalledAt F.FnMut) f.old items.old (take result items.new) }
     ensures asked { IsFilteredTo (CalledAt F.FnMut) f.old items.old (take result items.new) f.new }
@@ -14,8 +16,9 @@ pub fn retain_in_front<T, F: FnMut(&T) -> bool>(items: &mut [T], f: &mut F) -> u
 {
     let mut kept = 0;
     for i in 0..items.len() {
-        if f(&items[i]) {
-            items.swap(kept, i);
+        let stays = f(&items[i]);
+        move_down(items, kept, i, stays);
+        if stays {
             kept += 1;
         }
     }
@@ -23,7 +26,10 @@ pub fn retain_in_front<T, F: FnMut(&T) -> bool>(items: &mut [T], f: &mut F) -> u
 }
 
 /// The same where `f` may write to the item that it is asked about.
-pub fn retain_mut_in_front<T, F: FnMut(&mut T) -> bool>(items: &mut [T], f: &mut F) -> usize
+pub fn retain_mut_in_front<T: Default + Drop, F: FnMut(&mut T) -> bool>(
+    items: &mut [T],
+    f: &mut F,
+) -> usize
     requires { F.IsAlwaysCallable f.old }
     ensures filtered { RetainsInTurn (CalledAtMut F.FnMut) f.old items.old (take result items.new) }
     ensures asked { RetainsTo (CalledAtMut F.FnMut) f.old items.old (take result items.new) f.new }
@@ -32,12 +38,42 @@ pub fn retain_mut_in_front<T, F: FnMut(&mut T) -> bool>(items: &mut [T], f: &mut
 {
     let mut kept = 0;
     for i in 0..items.len() {
-        if f(&mut items[i]) {
-            items.swap(kept, i);
+        let stays = f(&mut items[i]);
+        move_down(items, kept, i, stays);
+        if stays {
             kept += 1;
         }
     }
     kept
+}
+
+// Whether an item takes up to 16 bytes.
+#[inline(always)]
+fn are_small<T>(items: &[T]) -> bool
+    requires some { 0 < length items.now }
+{
+    let first = &items[..1];
+    first.len() * mem::size_of::<T>() <= 16
+}
+
+// Moves the item at `i` to `kept` if it stays. An item of up to 16 bytes moves in any case, since that takes no branch.
+#[inline(always)]
+fn move_down<T: Default + Drop>(items: &mut [T], kept: usize, i: usize, stays: bool)
+    requires order { kept ≤ i }
+    requires in_bounds { i < length items.old }
+    ensures behind { drop (i + 1) items.new ≡ drop (i + 1) items.old }
+    ensures before { take kept items.new ≡ take kept items.old }
+    ensures moved { stays ≡ true → take (kept + 1) items.new ≡ take kept items.old ++ take 1 (drop i items.old) }
+    ensures len { length items.new ≡ length items.old }
+{
+    if are_small(items) {
+        let item = mem::take(&mut items[i]);
+        items[kept] = item;
+        return;
+    }
+    if stays {
+        items.swap(kept, i);
+    }
 }
 
 /// Moves the items that `dedup_by` keeps to the front, and counts them.

@@ -7,7 +7,7 @@ ghost use Rattle.tinyvec_slots.specs.Fused.{FusedCan, FusedFinite, fused_rest};
 ghost use Rattle.tinyvec_slots.specs.Gap.{gap_front, gap_back, gap_touches};
 ghost use Rattle.tinyvec_slots.specs.Splices.{finish_placed, finish_bound, Finishes, FinishesWith};
 ghost use Rattle.tinyvec.specs.Tiny.{tiny_items, tiny_len, is_inline, tiny_capacity, PlaceRule, TinySlotRule};
-ghost use Rattle.tinyvec.specs.Room.{KeepsRoom};
+ghost use Rattle.tinyvec.specs.Room.{GrowsInSteps, KeepsRoom};
 ghost use Rattle.tinyvec.specs.TinySplice.{items_moved};
 
 use crate::{TinyVec, TinyVecSplice};
@@ -40,6 +40,7 @@ impl<'a, A: Array, I: Iterator<Item = A::Item>> TinyVecSplice<'a, A, Fuse<I>> {
         ensures slots { TinySlotRule A.Item.is_default (splice_vec self.entry) self.exit.0.now }
         ensures capacity { tiny_capacity A.CAPACITY (splice_vec self.entry) ≤ tiny_capacity A.CAPACITY self.exit.0.now }
         ensures same_room { KeepsRoom A.CAPACITY (tiny_len self.exit.0.now) (splice_vec self.entry) self.exit.0.now }
+        ensures grown { GrowsInSteps A.CAPACITY (splice_vec self.entry) self.exit.0.now }
         ensures no_shorter { OnErr result (tiny_len (splice_vec self.entry) ≤ tiny_len self.exit.0.now) }
 
         // After an item the replacement may be asked again.
@@ -83,6 +84,7 @@ impl<'a, A: Array, I: Iterator<Item = A::Item>> TinyVecSplice<'a, A, Fuse<I>> {
         ensures slots { TinySlotRule A.Item.is_default (splice_vec self.entry) self.exit.0.now }
         ensures capacity { tiny_capacity A.CAPACITY (splice_vec self.entry) ≤ tiny_capacity A.CAPACITY self.exit.0.now }
         ensures same_room { KeepsRoom A.CAPACITY (tiny_len self.exit.0.now) (splice_vec self.entry) self.exit.0.now }
+        ensures grown { GrowsInSteps A.CAPACITY (splice_vec self.entry) self.exit.0.now }
         ensures no_shorter { OnErr result.0 (tiny_len (splice_vec self.entry) ≤ tiny_len self.exit.0.now) }
         ensures goes_on { IfErr result.0 (λ refused. FusedCan I.can_next refused.rest) }
         ensures listed { (rest : I → List A.Item) → ShowsItems I.next_gives rest
@@ -169,6 +171,7 @@ fn append_in<A: Array, I: Iterator<Item = A::Item>>(
     ensures slots { TinySlotRule A.Item.is_default vec.old vec.new }
     ensures capacity { tiny_capacity A.CAPACITY vec.old ≤ tiny_capacity A.CAPACITY vec.new }
     ensures same_room { KeepsRoom A.CAPACITY (tiny_len vec.new) vec.old vec.new }
+    ensures grown { GrowsInSteps A.CAPACITY vec.old vec.new }
     ensures fits { tiny_len vec.new ≤ tiny_capacity A.CAPACITY vec.new }
     ensures goes_on { IfErr result (λ refused. I.can_next refused.rest) }
     ensures none { tiny_len vec.new ≡ tiny_len vec.old → gap_touches gap.new ≡ gap_touches gap.old }
@@ -199,6 +202,7 @@ fn append<A: Array, I: Iterator<Item = A::Item>>(
     ensures slots { TinySlotRule A.Item.is_default vec.old vec.new }
     ensures capacity { tiny_capacity A.CAPACITY vec.old ≤ tiny_capacity A.CAPACITY vec.new }
     ensures same_room { KeepsRoom A.CAPACITY (tiny_len vec.new) vec.old vec.new }
+    ensures grown { GrowsInSteps A.CAPACITY vec.old vec.new }
     ensures fits { tiny_len vec.new ≤ tiny_capacity A.CAPACITY vec.new }
     ensures goes_on { IfErr result (λ refused. I.can_next refused.rest) }
 {

@@ -4,7 +4,7 @@ ghost use Rattle.std.specs.List.{AllZip};
 ghost use Rattle.tinyvec_slots.specs.Clones.{RefusedAt, ClonesAreEqual, ClonesOver, ClonesInPart};
 ghost use Rattle.tinyvec.specs.Tiny.{tiny_items, tiny_len, tiny_spare, is_inline, tiny_capacity, IsInline, PlaceRule, TinySlotRule, SameFrame};
 ghost use Rattle.tinyvec.specs.Growth.{RefusedFor};
-ghost use Rattle.tinyvec.specs.Room.{KeepsRoom};
+ghost use Rattle.tinyvec.specs.Room.{GrowsFor, KeepsRoom};
 
 use crate::TinyVec;
 use crate::cloning::push_clones;
@@ -69,6 +69,7 @@ impl<A: Array> TinyVec<A> {
         ensures slots { OnOk result (TinySlotRule A.Item.is_default self.old self.new) }
         ensures capacity { tiny_capacity A.CAPACITY self.old ≤ tiny_capacity A.CAPACITY self.new }
         ensures same_room { KeepsRoom A.CAPACITY (tiny_len source.now) self.old self.new }
+        ensures grown { OnOk result (GrowsFor A.CAPACITY (tiny_len source.now) self.old self.new) }
         ensures fits { tiny_len self.new ≤ tiny_capacity A.CAPACITY self.new }
 
         // Where there is room no memory is asked for but by clones.

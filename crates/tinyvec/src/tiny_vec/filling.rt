@@ -1,10 +1,10 @@
 //! Items taken from iterators and closures.
-ghost use Rattle.std.specs.Prelude.{◌≡◌, ◌+◌, ◌-◌, ◌≤◌, ◌↔◌, ◌++◌, ◌∷◌, List, Some, length, drop, MatchResult, IfOk, OnOk, IsOk, OnErr, IfErr, vec_len, vec_capacity};
+ghost use Rattle.std.specs.Prelude.{◌≡◌, ◌+◌, ◌-◌, ◌*◌, ◌<◌, ◌≤◌, ◌↔◌, ◌++◌, ◌∷◌, List, Some, length, drop, MatchResult, IfOk, OnOk, IsOk, OnErr, IfErr, vec_len, vec_capacity};
 ghost use Rattle.std.specs.Iterator.{IsFinite, Drains, YieldsThen};
 ghost use Rattle.tinyvec_slots.specs.Slots.{AreDefaults, items, spare, items_len};
 ghost use Rattle.tinyvec_slots.specs.Filling.{ShowsItems, IntoIterYields};
 ghost use Rattle.tinyvec.specs.Tiny.{tiny_items, tiny_len, tiny_spare, is_inline, tiny_capacity, IsInline, PlaceRule, TinySlotRule};
-ghost use Rattle.tinyvec.specs.Room.{KeepsRoom};
+ghost use Rattle.tinyvec.specs.Room.{GrowsInSteps, KeepsRoom};
 ghost use Rattle.tinyvec.specs.Following.{Follows};
 
 use crate::TinyVec;
@@ -31,6 +31,7 @@ impl<A: Array> TinyVec<A> {
         ensures slots { TinySlotRule A.Item.is_default self.old self.new }
         ensures capacity { tiny_capacity A.CAPACITY self.old ≤ tiny_capacity A.CAPACITY self.new }
         ensures same_room { KeepsRoom A.CAPACITY (tiny_len self.new) self.old self.new }
+        ensures grown { GrowsInSteps A.CAPACITY self.old self.new }
         ensures fits { tiny_len self.new ≤ tiny_capacity A.CAPACITY self.new }
 
         // It refuses none while there is room.
@@ -69,6 +70,7 @@ impl<A: Array> TinyVec<A> {
         ensures slots { TinySlotRule A.Item.is_default self.old self.new }
         ensures capacity { tiny_capacity A.CAPACITY self.old ≤ tiny_capacity A.CAPACITY self.new }
         ensures same_room { KeepsRoom A.CAPACITY (tiny_len self.new) self.old self.new }
+        ensures grown { GrowsInSteps A.CAPACITY self.old self.new }
         ensures fits { tiny_len self.new ≤ tiny_capacity A.CAPACITY self.new }
         ensures full { OnErr result (tiny_len self.new ≡ tiny_capacity A.CAPACITY self.new) }
         ensures goes_on { IfErr result (λ refused. I.can_next refused.rest) }
@@ -123,6 +125,8 @@ impl<A: Array> TinyVec<A> {
         ensures place { IfOk result (λ v. IsInline v ↔ (tiny_len v ≤ A.CAPACITY)) }
         ensures spare { IfOk result (λ v. IsInline v
             → AreDefaults A.Item.is_default (A.CAPACITY - tiny_len v) (tiny_spare v)) }
+        ensures grown { IfOk result (λ v. A.CAPACITY < tiny_capacity A.CAPACITY v
+            → tiny_capacity A.CAPACITY v < 2 * tiny_len v) }
         ensures fits { IfOk result (λ v. tiny_len v ≤ tiny_capacity A.CAPACITY v) }
 
         // It refuses none while there is room.

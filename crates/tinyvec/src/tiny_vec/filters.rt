@@ -12,7 +12,7 @@ use tinyvec_slots::{dedup_in_front, dedup_keys_in_front, retain_in_front, retain
 
 impl<A: Array> TinyVec<A> {
     /// Asks `f` about each item in turn, and keeps those at which it answers `true`. An item that is kept is moved by
-    /// one swap at most.
+    /// one swap at most; items of up to 16 bytes are all moved, without a branch.
     pub fn retain<F: FnMut(&A::Item) -> bool>(&mut self, mut f: F)
         requires { F.IsAlwaysCallable f }
         ensures filtered { IsFiltered (CalledAt F.FnMut) f (tiny_items self.old) (tiny_items self.new) }
@@ -26,7 +26,7 @@ impl<A: Array> TinyVec<A> {
     }
 
     /// Asks `f` about each item in turn, and keeps those at which it answers `true`, as it left them. An item that is
-    /// kept is moved by one swap at most.
+    /// kept is moved by one swap at most; items of up to 16 bytes are all moved, without a branch.
     pub fn retain_mut<F: FnMut(&mut A::Item) -> bool>(&mut self, mut f: F)
         requires { F.IsAlwaysCallable f }
         ensures filtered { RetainsInTurn (CalledAtMut F.FnMut) f (tiny_items self.old) (tiny_items self.new) }

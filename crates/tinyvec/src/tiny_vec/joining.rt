@@ -1,7 +1,8 @@
 //! Lists joined.
 ghost use Rattle.std.specs.Prelude.{◌≡◌, ◌+◌, ◌<◌, ◌≤◌, ◌++◌, [], drop, length, IsOk, OnOk, OnErr};
 ghost use Rattle.tinyvec_slots.specs.Slots.{AreDefaults};
-ghost use Rattle.tinyvec.specs.Tiny.{tiny_items, tiny_len, tiny_spare, is_inline, tiny_capacity, PlaceRule, TinySlotRule, Unchanged};
+ghost use Rattle.tinyvec.specs.Tiny.{tiny_items, tiny_len, tiny_spare, is_inline, tiny_capacity, IsInline, PlaceRule, TinySlotRule, Unchanged};
+ghost use Rattle.tinyvec.specs.Room.{GrowsFor};
 
 use crate::TinyVec;
 use std::alloc::AllocError;
@@ -32,6 +33,8 @@ impl<A: Array> TinyVec<A> {
         ensures place { is_inline self.new ≡ is_inline self.old }
         ensures capacity { tiny_capacity A.CAPACITY self.old ≤ tiny_capacity A.CAPACITY self.new }
         ensures fits { tiny_len self.new ≤ tiny_capacity A.CAPACITY self.new }
+        ensures same_room { IsInline other.old
+            → tiny_capacity A.CAPACITY self.new ≡ tiny_capacity A.CAPACITY self.old }
         ensures other_items { tiny_items other.new ≡ [] }
         ensures other_place { is_inline other.new ≡ is_inline other.old }
         ensures other_slots { TinySlotRule A.Item.is_default other.old other.new }
@@ -55,6 +58,10 @@ impl<A: Array> TinyVec<A> {
         ensures slots { TinySlotRule A.Item.is_default self.old self.new }
         ensures capacity { tiny_capacity A.CAPACITY self.old ≤ tiny_capacity A.CAPACITY self.new }
         ensures fits { tiny_len self.new ≤ tiny_capacity A.CAPACITY self.new }
+
+        // `Vec::append` may leave more room, by its contract.
+        ensures grown { IsInline other.old
+            → OnOk result (GrowsFor A.CAPACITY (tiny_len self.old + tiny_len other.old) self.old self.new) }
         ensures other_items { OnOk result (tiny_items other.new ≡ []) }
         ensures other_place { is_inline other.new ≡ is_inline other.old }
         ensures other_slots { TinySlotRule A.Item.is_default other.old other.new }

@@ -4,7 +4,7 @@ ghost use Rattle.std.specs.Borrow.{sem};
 ghost use Rattle.tinyvec.specs.Tiny.{tiny_items, tiny_len};
 
 use crate::TinyVec;
-use std::ops::{Index, IndexMut};
+use std::ops::{DerefSlice, DerefSliceMut, Index, IndexMut};
 use tinyvec_array::Array;
 
 impl<A: Array> TinyVec<A> {
@@ -46,5 +46,26 @@ impl<A: Array> IndexMut<usize> for TinyVec<A> {
             TinyVec::Inline(v, _) => &mut v[i],
             TinyVec::Heap(v) => &mut v[i],
         }
+    }
+}
+
+impl<A: Array> DerefSlice for TinyVec<A> {
+    type Elem = A::Item;
+
+    ghost deref_gives = { λ v xs. xs ≡ tiny_items v };
+
+    fn deref(&self) -> &[A::Item] {
+        self.as_slice()
+    }
+}
+
+impl<A: Array> DerefSliceMut for TinyVec<A> {
+    ghost use Rattle.tinyvec.specs.Lends.{lends_items};
+
+    fn deref_mut(&mut self) -> &mut [A::Item]
+        ensures* writes_back { sem 𝓛 (lends_items A.row A.Item.row A.Array A.Item.Default self.entry result) }
+        ensures value { result.now ≡ tiny_items self.old }
+    {
+        self.as_mut_slice()
     }
 }

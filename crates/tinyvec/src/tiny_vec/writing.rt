@@ -3,6 +3,7 @@ ghost use Rattle.std.specs.Prelude.{◌≡◌, ◌+◌, ◌≤◌, length, Some,
 ghost use Rattle.std.specs.Io.{WritesAtMost};
 ghost use Rattle.std.specs.Io.KnownBytes.{Keeps, WriteAppends};
 ghost use Rattle.tinyvec.specs.Tiny.{tiny_items, tiny_len, tiny_capacity, PlaceRule, TinySlotRule, Unchanged};
+ghost use Rattle.tinyvec.specs.Room.{GrowsFor, KeepsRoom};
 
 use crate::TinyVec;
 use std::io;
@@ -19,6 +20,8 @@ impl<A: Array<Item = u8>> io::Write for TinyVec<A> {
         ensures place { OnOk result (PlaceRule A.CAPACITY (tiny_len self.old + length buf.now) self.old self.new) }
         ensures slots { OnOk result (TinySlotRule ⟦<u8 as Default>⟧.is_default self.old self.new) }
         ensures succeeds { tiny_len self.old + length buf.now ≤ tiny_capacity A.CAPACITY self.old → IsOk result }
+        ensures same_room { KeepsRoom A.CAPACITY (tiny_len self.old + length buf.now) self.old self.new }
+        ensures grown { OnOk result (GrowsFor A.CAPACITY (tiny_len self.old + length buf.now) self.old self.new) }
         ensures refused { OnErr result (Unchanged self.old self.new) }
         ensures fits { tiny_len self.new ≤ tiny_capacity A.CAPACITY self.new }
     {

@@ -5,7 +5,7 @@ ghost use Rattle.tinyvec_slots.specs.Slots.{items, spare, items_len, all_slots};
 
 use crate::parts::{part_of, slot_of};
 use crate::{Array, ArrayVec};
-use std::ops::{Index, IndexMut};
+use std::ops::{DerefSlice, DerefSliceMut, Index, IndexMut};
 
 impl<A: Array> ArrayVec<A> {
     ghost use Rattle.tinyvec_array.specs.Lends.{lends_items, lends_inner, lends_spare};
@@ -60,5 +60,26 @@ impl<A: Array> IndexMut<usize> for ArrayVec<A> {
     {
         let _len = self.len();
         slot_of(&mut self.array, i)
+    }
+}
+
+impl<A: Array> DerefSlice for ArrayVec<A> {
+    type Elem = A::Item;
+
+    ghost deref_gives = { λ v xs. xs ≡ items v };
+
+    fn deref(&self) -> &[A::Item] {
+        self.as_slice()
+    }
+}
+
+impl<A: Array> DerefSliceMut for ArrayVec<A> {
+    ghost use Rattle.tinyvec_array.specs.Lends.{lends_items};
+
+    fn deref_mut(&mut self) -> &mut [A::Item]
+        ensures* writes_back { sem 𝓛 (lends_items A.row A.Item.row A.Array A.Item.Default self.entry result) }
+        ensures value { result.now ≡ items self.old }
+    {
+        self.as_mut_slice()
     }
 }

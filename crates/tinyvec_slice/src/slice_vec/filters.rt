@@ -13,7 +13,8 @@ where
     B::Item: Default,
 {
     /// Asks `f` about each item in turn, and keeps those at which it answers `true`. The vacated slots stand before the
-    /// old spare slots. An item that is kept is moved by one swap at most.
+    /// old spare slots. An item that is kept is moved by one swap at most; items of up to 16 bytes are all moved, without a
+    /// branch.
     pub fn retain<F: FnMut(&B::Item) -> bool>(&mut self, mut f: F)
         requires { F.IsAlwaysCallable f }
         ensures same_reference { name_of B.Lent self.new ≡ name_of B.Lent self.old }
@@ -38,9 +39,7 @@ where
         let kept = self.retain_first(f);
         self.truncate(kept);
     }
-}
 
-impl<B: Lent> SliceVecOver<B> {
     // Moves the items at which `f` answers `true` to the front of the list, and counts them.
     fn retain_first<F: FnMut(&B::Item) -> bool>(&mut self, f: &mut F) -> usize
         requires { F.IsAlwaysCallable f.old }

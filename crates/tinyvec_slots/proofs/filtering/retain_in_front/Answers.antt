@@ -4,29 +4,32 @@ use Rattle.std.proofs.lemmas.Fn.{called_at}
 use Rattle.std.proofs.lemmas.List.{get_or_default}
 use Rattle.tinyvec_slots.proofs.LastStateLemmas.{retain_mut_end, IsFilteredTo-filtered}
 use Rattle.tinyvec_slots.proofs.FiltersLemmas.{OnlyAsks, keeps_shown, drops_shown, filtered_to}
-use Rattle.tinyvec_slots.proofs.filtering.retain_in_front.Goals.{then-f, else-f}
+use Rattle.tinyvec_slots.proofs.filtering.retain_in_front.Goals.{then-stays, else-stays}
 use Rattle.tinyvec_slots.proofs.filtering.retain_in_front.Goals as goal
 
 pub loop-i-preserved : goal.loop-i-preserved
 loop-i-preserved g c =
     let at = c.loop-i in
     let R = CalledAt g.F.FnMut in
-    let called = called_at g.F.FnMut c.f.ensures refl in
+    let called = called_at g.F.FnMut c.f-stays.ensures refl in
+    let moved = c.move_down in
     let within : at.i < length at.items = omega arith in
-    elim c.if-f.branch [
-      | then-f w ↦ record {
+    elim c.if-stays.branch [
+      | then-stays w ↦ record {
         order = omega arith;
         callable = search of_calls;
-        so_far = rw (w.items-is, w.kept-is, w.swap.ensures.after)
-            (λ last. keeps_shown R last c.args.f.now c.args.items.now at.f _ at.items at.kept at.i _ at.invariant.order within
-            (get_or_default at.items at.i _ _ within) (at.invariant.so_far last) (rw w.if-f.true at called));
+        so_far = rw w.kept-is
+            (λ last. keeps_shown R last c.args.f.now c.args.items.now at.f _ at.items moved.new.items at.kept at.i _ at.invariant.order within
+            (get_or_default at.items at.i _ _ within) (at.invariant.so_far last) moved.ensures.behind moved.ensures.before
+            (moved.ensures.moved w.if-stays.true) (rw w.if-stays.true at called));
       }
-      | else-f w ↦ record {
+      | else-stays w ↦ record {
         order = omega arith;
         callable = search of_calls;
-        so_far = rw (w.items-is, w.kept-is)
-            (λ last. drops_shown R last c.args.f.now c.args.items.now at.f _ at.items at.kept at.i _ at.invariant.order within
-            (get_or_default at.items at.i _ _ within) (at.invariant.so_far last) (rw w.if-f.false at called));
+        so_far = rw w.kept-is
+            (λ last. drops_shown R last c.args.f.now c.args.items.now at.f _ at.items moved.new.items at.kept at.i _ at.invariant.order within
+            (get_or_default at.items at.i _ _ within) (at.invariant.so_far last) moved.ensures.behind moved.ensures.before
+            (rw w.if-stays.false at called));
       }
     ]
 

@@ -80,6 +80,12 @@ returns-clause-same_room g c = λ within.
     let frame = framed g (goal.at.returns-clause-same_room g c).After-bring_in in
     frame.3 g.A.Array.CAPACITY ∙ c.append-appended.ensures.same_room (omega (arith, within, frame.0))
 
+pub returns-clause-grown : goal.returns-clause-grown
+returns-clause-grown g c = λ more.
+    let frame = framed g (goal.at.returns-clause-grown g c).After-bring_in in
+    let room = frame.3 g.A.Array.CAPACITY in
+    omega (arith, room, frame.0, c.append-appended.ensures.grown (omega (arith, room, more)))
+
 pub returns-clause-fits : goal.returns-clause-fits
 returns-clause-fits g c =
     let frame = framed g (goal.at.returns-clause-fits g c).After-bring_in in

@@ -1,4 +1,4 @@
-use Rattle.std.proofs.Common.{All, inl, ◌≡◌, ◌-◌, ◌<◌, ◌≤◌, inr, min, length, take, drop, sym, ap, subst, ◌∙◌, arith, length-take, length-drop, take_all}
+use Rattle.std.proofs.Common.{All, inl, ◌≡◌, ◌+◌, ◌-◌, ◌<◌, ◌≤◌, inr, min, length, take, drop, sym, ap, subst, ◌∙◌, arith, length-take, length-drop, take_all}
 use Rattle.std.proofs.lemmas.Bool.{false≢true}
 use Rattle.std.proofs.lemmas.List.{take-take}
 use Rattle.std.proofs.lemmas.List.Elements.{same_from_all_zip, length_all_zip, All-take, All-drop}
@@ -6,7 +6,8 @@ use Rattle.std.proofs.lemmas.Result.{on_ok_weaker, on_err_weaker}
 use Rattle.std.specs.List.{AllZip}
 use Rattle.tinyvec_slots.specs.Clones.{RefusedAt}
 use Rattle.tinyvec_slots.proofs.CloneLemmas.{on_err}
-use Rattle.tinyvec.specs.Tiny.{tiny_items, tiny_capacity}
+use Rattle.tinyvec.specs.Tiny.{tiny_items, tiny_len, tiny_capacity}
+use Rattle.tinyvec.specs.Room.{GrowsFor}
 use Rattle.tinyvec.proofs.TinyLemmas.{tiny_slots_grown, tiny_slots_then_framed, on_ok_two, on_err_two, never_ok}
 use Rattle.tinyvec.proofs.CloneLemmas.{appends_len, appends_rest}
 use Rattle.tinyvec.proofs.RefusedLemmas.{refused_in_front, refused_behind, partly_over, partly_behind, cut_freed, none_freed, spare_kept, place_kept, place_then}
@@ -51,6 +52,12 @@ returns-then-count-len-clause-capacity g c = omega (arith, c.overwrite.ensures.f
 
 pub returns-then-count-len-clause-same_room : goal.returns-then-count-len-clause-same_room
 returns-then-count-len-clause-same_room g c = λ _. c.overwrite.ensures.frame.3 g.A.Array.CAPACITY ∙ c.truncate.ensures.capacity
+
+pub returns-then-count-len-clause-grown : goal.returns-then-count-len-clause-grown
+returns-then-count-len-clause-grown g c =
+    let fits : tiny_len c.args.source.now ≤ tiny_capacity g.A.Array.CAPACITY c.args.self.now =
+    omega (arith, c.len-count.ensures.value, c.if-count-len.true, c.len-len.ensures.value, c.len-len.ensures.fits) in
+    on_ok_weaker c.overwrite.result (λ _ less. absurd (omega (arith, fits, less))) c.overwrite.ensures.ok
 
 pub returns-then-count-len-clause-fits : goal.returns-then-count-len-clause-fits
 returns-then-count-len-clause-fits g c =
@@ -99,6 +106,7 @@ returns-in_err-reserve g c =
       slots = never_ok _ answer err;
       capacity = grown.capacity;
       same_room = λ _. grown.refused.3 g.A.Array.CAPACITY;
+      grown = never_ok _ answer err;
       fits = grown.fits;
       succeeds = λ fits _. absurd (false≢true (grown.succeeds (omega (arith, fits))));
       refused = on_err answer (inl (omega (arith, grown.full), grown.refused));
@@ -125,6 +133,9 @@ returns-in_err-overwrite-clause-place g c = never_ok _ c.from_residual-in_err-ov
 
 pub returns-in_err-overwrite-clause-slots : goal.returns-in_err-overwrite-clause-slots
 returns-in_err-overwrite-clause-slots g c = never_ok _ c.from_residual-in_err-overwrite.result c.from_residual-in_err-overwrite.ensures.0
+
+pub returns-in_err-overwrite-clause-grown : goal.returns-in_err-overwrite-clause-grown
+returns-in_err-overwrite-clause-grown g c = never_ok _ c.from_residual-in_err-overwrite.result c.from_residual-in_err-overwrite.ensures.0
 
 pub returns-in_err-overwrite-clause-capacity : goal.returns-in_err-overwrite-clause-capacity
 returns-in_err-overwrite-clause-capacity g c = omega (arith, c.reserve.ensures.capacity, c.overwrite-2.ensures.frame.3 g.A.Array.CAPACITY)
@@ -221,6 +232,17 @@ pub returns-clause-same_room : goal.returns-clause-same_room
 returns-clause-same_room g c = λ fits.
     let kept = c.reserve.ensures.kept (omega (arith, fits, c.len-len.ensures.value, c.len-count.ensures.value, c.if-count-len.false)) in
     c.extend_reserved.ensures.capacity ∙ c.overwrite-2.ensures.frame.3 g.A.Array.CAPACITY ∙ ap (tiny_capacity g.A.Array.CAPACITY) kept
+
+pub returns-clause-grown : goal.returns-clause-grown
+returns-clause-grown g c =
+    let slots = g.A.Array.CAPACITY in
+    let old = c.args.self.now in
+    let new = c.extend_reserved.new.self in
+    let made = c.extend_reserved.ensures in
+    let same : tiny_capacity slots new ≡ tiny_capacity slots c.reserve.new.self = made.capacity ∙ c.overwrite-2.ensures.frame.3 slots in
+    let need : tiny_len old + (c.len-count.result - c.len-len.result) ≡ tiny_len c.args.source.now =
+    omega (arith, c.len-count.ensures.value, c.len-len.ensures.value, c.if-count-len.false) in
+    on_ok_weaker c.extend_reserved.result (λ _. subst (λ n. GrowsFor slots n old new) need (λ less. same ∙ c.in_ok-reserve.ensures.grown less)) made.items
 
 pub returns-clause-fits : goal.returns-clause-fits
 returns-clause-fits g c = c.extend_reserved.ensures.fits

@@ -22,6 +22,11 @@ returns-in-Ok-clause-slots g c =
     let run = c.fill_room.ensures in
     tiny_slots_then g.A.Item.Default.is_default c.args.self.now at.self c.fill_room.new.self (λ i. search rules) at.invariant.5 run.longer at.invariant.6 run.slots
 
+pub returns-in-Ok-clause-grown : goal.returns-in-Ok-clause-grown
+returns-in-Ok-clause-grown g c = λ more.
+    let run = c.fill_room.ensures in
+    omega (arith, run.capacity, run.longer, c.loop-item.invariant.9 (omega (arith, run.capacity, more)))
+
 pub loop-item-preserved : goal.loop-item-preserved
 loop-item-preserved g c =
     let at = c.loop-item in
@@ -61,6 +66,7 @@ loop-item-preserved g c =
           let same = inv.7 (omega (arith, run.longer, grown, fits)) in
           c.push.ensures.same_room (omega (arith, grown, fits, same, run.capacity)) ∙ run.capacity ∙ same,
       c.push.ensures.fits,
+      λ _. omega (arith, made.doubles c.in-Err.ensures.full, c.in-Err.ensures.full, grown),
     )
 
 pub returns-in-Err-push-clause-ran : goal.returns-in-Err-push-clause-ran
@@ -77,6 +83,13 @@ returns-in-Err-push-clause-ran g c =
       subst (λ y. YieldsThen steps c.args.iter (placed.0 ++ ran.0) (Some y) rest) (sym refusal.back) all,
       refusal.refused.0 ∙ ran.2 ∙ ap (λ l. l ++ ran.0) placed.2 ∙ append_assoc olds placed.0 ran.0,
     )
+
+pub returns-in-Err-push-clause-grown : goal.returns-in-Err-push-clause-grown
+returns-in-Err-push-clause-grown g c = λ more.
+    let run = c.fill_room.ensures in
+    let refused = c.in-Err-push.ensures.refused in
+    let same = refused.3 g.A.Array.CAPACITY in
+    omega (arith, run.capacity, run.longer, same, ap length refused.0, c.loop-item.invariant.9 (omega (arith, run.capacity, same, more)))
 
 pub returns-in-Err-push-clause-slots : goal.returns-in-Err-push-clause-slots
 returns-in-Err-push-clause-slots g c =

@@ -1,6 +1,7 @@
 use Rattle.std.proofs.Common.{◌≡◌, ◌≤◌, ◌++◌, List}
 use Rattle.std.specs.Iterator.{Yields, IsFinite, size}
 use Rattle.tinyvec.specs.Tiny.{tiny_items, tiny_len, tiny_capacity, PlaceRule, TinySlotRule}
+use Rattle.tinyvec.specs.Room.{GrowsInSteps}
 use Rattle.tinyvec.proofs.tiny_vec.TinyVec.extend_runs.Given as goal
 
 abbrev pub invariant-loop-item : goal.invariant-loop-item
@@ -15,6 +16,7 @@ invariant-loop-item g l = g.I.Iterator.can_next l.items
     × (tiny_len l.self ≤ tiny_capacity g.A.Array.CAPACITY l.initial.self
     → tiny_capacity g.A.Array.CAPACITY l.self ≡ tiny_capacity g.A.Array.CAPACITY l.initial.self)
     × (tiny_len l.self ≤ tiny_capacity g.A.Array.CAPACITY l.self)
+    × GrowsInSteps g.A.Array.CAPACITY l.initial.self l.self
 
 abbrev pub decreases-loop-item : goal.decreases-loop-item
 decreases-loop-item g l = size (g.I.Iterator.remaining l.items)

@@ -137,6 +137,9 @@ returns-then-not-fill-clause-capacity g c = omega (arith, closed_room g c)
 pub returns-then-not-fill-clause-same_room : goal.returns-then-not-fill-clause-same_room
 returns-then-not-fill-clause-same_room g c = λ _. closed_room g c
 
+pub returns-then-not-fill-clause-grown : goal.returns-then-not-fill-clause-grown
+returns-then-not-fill-clause-grown g c = λ more. absurd (omega (arith, closed_room g c, more))
+
 pub returns-then-not-fill-clause-no_shorter : goal.returns-then-not-fill-clause-no_shorter
 returns-then-not-fill-clause-no_shorter g c = tt
 
@@ -232,6 +235,11 @@ pub returns-clause-same_room : goal.returns-clause-same_room
 returns-clause-same_room g c = λ within.
     let same_room = (framed g (goal.at.returns-clause-same_room g c).After-fill).3 g.A.Array.CAPACITY in
     c.append_in-finished.ensures.same_room (omega (arith, within, same_room)) ∙ same_room
+
+pub returns-clause-grown : goal.returns-clause-grown
+returns-clause-grown g c = λ more.
+    let room = (framed g (goal.at.returns-clause-grown g c).After-fill).3 g.A.Array.CAPACITY in
+    c.append_in-finished.ensures.grown (omega (arith, room, more))
 
 pub returns-clause-no_shorter : goal.returns-clause-no_shorter
 returns-clause-no_shorter g c =
