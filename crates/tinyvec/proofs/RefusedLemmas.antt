@@ -7,7 +7,8 @@ use Rattle.tinyvec_slots.specs.Slots.{AreDefaults, items, items_len, spare}
 use Rattle.std.specs.List.{AllZip}
 use Rattle.tinyvec_slots.specs.Clones.{RefusedAt, ClonesOver, ClonesInPart}
 use Rattle.tinyvec_slots.proofs.CloneLemmas.{drop_within}
-use Rattle.tinyvec.specs.Tiny.{tiny_items, tiny_len, tiny_spare, is_inline, tiny_capacity, IsInline, PlaceRule, TinySlotRule, SameFrame}
+use Rattle.tinyvec.specs.Tiny.{tiny_items, tiny_len, tiny_spare, is_inline, IsInline, PlaceRule, TinySlotRule, SameFrame}
+pub use Rattle.tinyvec.specs.FrameLaws.{place_kept}
 use Rattle.tinyvec.specs.declared.tiny_vec.TinyVec.{TinyVec}
 use Rattle.tinyvec.specs.declared.tiny_vec.TinyVec.TheVariants.{Inline, Heap}
 
@@ -104,13 +105,6 @@ pub spare_kept : {A T : Type 0} (old mid new : TinyVec A T) → (IsInline mid �
 spare_kept old mid new stays place i = ap tiny_spare (stays (subst IsTrue place i))
 
 module _ {A T : Type 0} (slots need : ℕ) where
-  -- a list that stayed in its place, where there was room
-  pub place_kept : (old new : TinyVec A T) → is_inline new ≡ is_inline old → need ≤ tiny_capacity slots old → PlaceRule slots need old new
-  place_kept (Inline v a) (Inline w b) same le = search (rules, le)
-  place_kept (Inline v a) (Heap w) same le = search rules
-  place_kept (Heap v) (Inline w b) same le = search rules
-  place_kept (Heap v) (Heap w) same le = search rules
-
   -- a list that stayed where its room was granted
   pub place_then : (old mid new : TinyVec A T) (n : ℕ) → n ≡ need → is_inline new ≡ is_inline mid → PlaceRule slots n old mid → PlaceRule slots need old new
   place_then old mid new n same stays place = rw (← same, stays) place

@@ -1,15 +1,12 @@
 -- A `TinyVec`'s splice along a word of ends.
-use Rattle.std.proofs.Common.{◌≡◌, List, Option, refl, sym, subst, ◌∙◌}
+use Rattle.std.proofs.Common.{List, Option, refl, ◌∙◌}
 use Rattle.std.specs.declared.iter.Fuse.{Fuse}
 use Rattle.tinyvec_slots.specs.Ends.{End, TakesFromEnds, Asks}
 use Rattle.tinyvec_slots.specs.Fused.{HasTwoEnds}
-use Rattle.tinyvec_slots.specs.Gap.{gap_view}
-use Rattle.tinyvec_slots.specs.Splices.{GivesFromFront, GivesFromBack}
 use Rattle.tinyvec_slots.specs.Splicing.{SplicedByWord}
-use Rattle.tinyvec_slots.specs.declared.gap.Gap.{Gap}
 use Rattle.tinyvec_slots.proofs.SplicingLemmas as all
 use Rattle.tinyvec.specs.TinySplice.{splice_view, splice_left, splice_vec, SpliceKeeps, SpliceSteps, SpliceStepsBack}
-use Rattle.tinyvec.proofs.TinyLemmas.{SameFrame-refl, SameFrame-then}
+use Rattle.tinyvec.specs.FrameLaws.{SameFrame-refl, SameFrame-then}
 use Rattle.tinyvec.specs.declared.splice.TinyVecSplice.{TinyVecSplice}
 
 module _ {A I T : Type 0} where
@@ -30,15 +27,3 @@ module _ {A I T : Type 0} where
       → (s : TinyVecSplice A (Fuse I) T) (word : List End) (answers : List (Option T)) (t : TinyVecSplice A (Fuse I) T)
       → Asks (SpliceSteps gives) (SpliceStepsBack gives_back) s word answers t → TakesFromEnds (splice_left s) word answers (splice_left t)
   Asks-takes_removed = all.Asks-takes_removed splice_view SpliceKeeps
-
--- a call that gave an item from the slots that showed the list, and left slots that the list now shows
-module _ {I T : Type 0} (gives : Fuse I → Option T → Fuse I → Type 0) (g h : Gap) (r s : Fuse I) (xs shown ws new : List T) (x : T) (is : shown ≡ xs) (left : new ≡ ws) where
-  pub gave_front : GivesFromFront gives (gap_view g r shown) x (gap_view h s ws) → GivesFromFront gives (gap_view g r xs) x (gap_view h s new)
-  gave_front gave =
-      subst (λ l. GivesFromFront gives (gap_view g r l) x (gap_view h s new)) is
-      (subst (λ l. GivesFromFront gives (gap_view g r shown) x (gap_view h s l)) (sym left) gave)
-
-  pub gave_back : GivesFromBack gives (gap_view g r shown) x (gap_view h s ws) → GivesFromBack gives (gap_view g r xs) x (gap_view h s new)
-  gave_back gave =
-      subst (λ l. GivesFromBack gives (gap_view g r l) x (gap_view h s new)) is
-      (subst (λ l. GivesFromBack gives (gap_view g r shown) x (gap_view h s l)) (sym left) gave)

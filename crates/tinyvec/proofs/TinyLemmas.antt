@@ -1,27 +1,18 @@
 -- Lemmas on the list, the spare slots and the place.
-use Rattle.std.proofs.Common.{◌≡◌, ℕ, ◌+◌, ◌-◌, ◌<◌, ◌≤◌, replicate, List, [], ◌∷◌, length, take, drop, ◌++◌, refl, sym, ap, subst, ◌∙◌, take_at, length-set, length-drop, slice_set, insert, remove, All, arith, rules}
+use Rattle.std.proofs.Common.{◌≡◌, ℕ, ◌+◌, ◌-◌, ◌<◌, ◌≤◌, replicate, List, [], ◌∷◌, length, take, drop, ◌++◌, refl, sym, ap, subst, ◌∙◌, length-set, length-drop, slice_set, insert, remove, All, arith, rules}
 use Rattle.std.specs.Prelude.{OnOk, OnErr, IsErr, IfOk, Result, Ok, Err}
 use Rattle.std.proofs.lemmas.List.{drop-drop, nil_from_length, length_push}
 use Rattle.std.proofs.lemmas.List.Edits.{length-insert, length-remove}
 use Rattle.std.proofs.lemmas.List.Elements.{All-drop}
 use Rattle.tinyvec_slots.specs.Slots.{Slots, AreDefaults, Frees, SlotRule, items, items_len, spare}
-use Rattle.tinyvec_slots.proofs.SlotsLemmas.{slots_used, slots_freed, defaults_are, items-with_items, spare-with_items, items-with_slot, spare-with_slot}
+use Rattle.tinyvec_slots.proofs.SlotsLemmas.{slots_used, slots_freed, defaults_are, items-with_slot, spare-with_slot}
 use Rattle.tinyvec.specs.Tiny.{tiny_items, tiny_len, tiny_spare, is_inline, IsInline, TinySlotRule, SameFrame, ShrinksInPlace}
 use Rattle.tinyvec.specs.Lends.{tiny_with_items, tiny_with_item}
+pub use Rattle.tinyvec.specs.FrameLaws.{SameFrame-refl, SameFrame-then, tiny_items-with, tiny_framed-with, tiny_slots_framed, tiny_slots_then_framed}
 use Rattle.tinyvec.specs.declared.tiny_vec.TinyVec.{TinyVec}
 use Rattle.tinyvec.specs.declared.tiny_vec.TinyVec.TheVariants.{Inline, Heap}
 
 module _ {A T : Type 0} where
-  -- a write through the slice of the items, which keeps its length, leaves what the slice shows
-  pub tiny_items-with : (v : TinyVec A T) (ws : List T) → length ws ≡ tiny_len v → tiny_items (tiny_with_items v ws) ≡ ws
-  tiny_items-with (Inline v alloc) ws e = items-with_items v ws e
-  tiny_items-with (Heap v) ws e = take_at ws (drop (length ws) v.items) v.len (e ∙ sym v.ok.0)
-
-  -- and leaves spare slots, place and room
-  pub tiny_framed-with : (v : TinyVec A T) (ws : List T) → length ws ≡ tiny_len v → SameFrame v (tiny_with_items v ws)
-  tiny_framed-with (Inline v alloc) ws e = (ap length (items-with_items v ws e) ∙ e, spare-with_items v ws e, refl, λ n. refl)
-  tiny_framed-with (Heap v) ws e = (ap length (tiny_items-with (Heap v) ws e) ∙ e, refl, refl, λ n. refl)
-
   -- a write of one item writes that item
   pub tiny_items-with_item : (v : TinyVec A T) (i : ℕ) (x : T) → i < tiny_len v → tiny_items (tiny_with_item v i x) ≡ slice_set (tiny_items v) i x
   tiny_items-with_item (Inline v alloc) i x h = items-with_slot v i x h
@@ -31,12 +22,6 @@ module _ {A T : Type 0} where
   pub tiny_framed-with_item : (v : TinyVec A T) (i : ℕ) (x : T) → i < tiny_len v → SameFrame v (tiny_with_item v i x)
   tiny_framed-with_item (Inline v alloc) i x h = (ap length (items-with_slot v i x h) ∙ length-set (items v) i x, spare-with_slot v i x h, refl, λ n. refl)
   tiny_framed-with_item (Heap v) i x h = (length-set v.items i x, refl, refl, λ n. refl)
-
-  pub SameFrame-refl : (v : TinyVec A T) → SameFrame v v
-  SameFrame-refl v = (refl, refl, refl, λ n. refl)
-
-  pub SameFrame-then : (u v w : TinyVec A T) → SameFrame u v → SameFrame v w → SameFrame u w
-  SameFrame-then u v w h k = (k.0 ∙ h.0, k.1 ∙ h.1, k.2 ∙ h.2, λ n. k.3 n ∙ h.3 n)
 
 -- the slot rule of a call that pushed, inserted or removed one item
 module _ {T : Type 0} (D : T → Type 0) (old new : Slots T) where
@@ -81,20 +66,6 @@ module _ {A T : Type 0} (D : T → Type 0) where
   tiny_slots_grown (Heap v) (Heap m) new k stays place len behind = tt
   tiny_slots_grown (Inline v a) (Heap m) (Inline n b) k stays place len behind = search rules
 
-  -- the slot rule reads no more of the old vector than its frame
-  pub tiny_slots_framed : (old mid new : TinyVec A T) → SameFrame old mid → TinySlotRule D mid new → TinySlotRule D old new
-  tiny_slots_framed (Inline v a) (Inline m b) (Inline n d) frame h = rw (sym frame.0, sym frame.1) h
-  tiny_slots_framed (Inline v a) (Heap m) (Inline n d) frame h = search rules
-  tiny_slots_framed (Inline v a) mid (Heap n) frame h = tt
-  tiny_slots_framed (Heap v) mid new frame h = tt
-
-  -- and no more of the new one
-  pub tiny_slots_then_framed : (old mid new : TinyVec A T) → TinySlotRule D old mid → SameFrame mid new → TinySlotRule D old new
-  tiny_slots_then_framed (Inline v a) (Inline m b) (Inline n d) h frame = rw (frame.0, frame.1) h
-  tiny_slots_then_framed (Inline v a) (Heap m) (Inline n d) h frame = search rules
-  tiny_slots_then_framed (Inline v a) mid (Heap n) h frame = tt
-  tiny_slots_then_framed (Heap v) mid new h frame = tt
-
   -- a list whose items were written, which is then cut to the first n
   pub kept_in_front : (slots : ℕ) (v new : TinyVec A T) (ws seen : List T) (n : ℕ) → seen ≡ tiny_items v → length ws ≡ length seen
       → tiny_items new ≡ take n (tiny_items (tiny_with_items v ws)) → ShrinksInPlace D slots (tiny_with_items v ws) new
@@ -106,7 +77,7 @@ module _ {A T : Type 0} (D : T → Type 0) where
         record {
           bound = omega (arith, frame.0, h.bound);
           place = h.place ∙ frame.2;
-          slot_rule = tiny_slots_framed v (tiny_with_items v ws) new frame h.slot_rule;
+          slot_rule = tiny_slots_framed D v (tiny_with_items v ws) new frame h.slot_rule;
           capacity = h.capacity ∙ frame.3 slots;
           fits = h.fits;
         },

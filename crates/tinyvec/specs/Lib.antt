@@ -19,4 +19,6 @@ pub mod Growth
 pub mod Room
 pub mod Iterating
 pub mod TinySplice
+pub mod FrameLaws
+pub mod SpliceLaws
 pub mod Following

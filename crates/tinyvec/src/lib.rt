@@ -1,6 +1,7 @@
 //! A vector that lives in an array while its list fits, and then moves to the heap.
 #![tactic(auto)]
 
+mod can_splice;
 mod cloning;
 mod drain;
 mod iterator;

@@ -15,7 +15,7 @@ use std::fmt;
 use std::iter::{Fuse, FusedIterator};
 use std::ops::RangeBounds;
 use tinyvec_array::Array;
-use tinyvec_slots::{Gap, resolve, write_named};
+use tinyvec_slots::{Gap, resolve, step_back_in, step_in, write_named};
 
 /// Gives the items of a range, in whose place those of `replacement` are put. For an item that is taken from an end, the
 /// replacement is asked for one from the same end, which stands there then. It must be spent by `finish`,
@@ -96,11 +96,7 @@ impl<'a, A: Array, I: Iterator<Item = A::Item>> Iterator for TinyVecSplice<'a, A
         ensures finite { FusedFinite I.remaining (splice_replacement self.old)
             → FusedFinite I.remaining (splice_replacement self.new) }
     {
-        if self.gap.is_empty() {
-            return None;
-        }
-        let slots = self.vec.as_mut_slice();
-        Some(self.gap.take_first(slots, &mut self.replacement))
+        step_in(self.vec, &mut self.gap, &mut self.replacement)
     }
 
     /// Both bounds are the number of removed items that are left.
@@ -131,11 +127,7 @@ impl<'a, A: Array, I: DoubleEndedIterator<Item = A::Item>> DoubleEndedIterator
         ensures finite { FusedFinite I.remaining (splice_replacement self.old)
             → FusedFinite I.remaining (splice_replacement self.new) }
     {
-        if self.gap.is_empty() {
-            return None;
-        }
-        let slots = self.vec.as_mut_slice();
-        Some(self.gap.take_last(slots, &mut self.replacement))
+        step_back_in(self.vec, &mut self.gap, &mut self.replacement)
     }
 }
 

@@ -16,3 +16,4 @@ pub mod Iterator
 pub mod Iterating
 pub mod ToVec
 pub mod Splice
+pub mod SpliceLaws

@@ -3,6 +3,7 @@
 
 mod array;
 mod array_vec;
+mod can_splice;
 mod clone_slots;
 mod drain;
 mod iterator;

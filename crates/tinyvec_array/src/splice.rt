@@ -1,5 +1,5 @@
 //! The iterator that moves a range of items out of a vector and puts others in its place.
-ghost use Rattle.std.specs.Prelude.{◌≡◌, ◌+◌, ◌-◌, length, drop, false, codes, Some, IfSome};
+ghost use Rattle.std.specs.Prelude.{◌≡◌, length, false, codes, Some, IfSome};
 ghost use Rattle.std.specs.Fmt.{debug_list, debug_variant};
 ghost use Rattle.std.specs.Iterator.{UpTo, MakesProgress, at_most};
 ghost use Rattle.std.specs.Iterator.Adapters.{fuse_done, fuse_source, fuse_steps};
@@ -13,7 +13,7 @@ use crate::{Array, ArrayVec};
 use std::fmt;
 use std::iter::{Fuse, FusedIterator};
 use std::ops::RangeBounds;
-use tinyvec_slots::{Gap, resolve, write_named};
+use tinyvec_slots::{Gap, resolve, step_back_in, step_in, write_named};
 
 /// Gives the items of a range, in whose place those of `replacement` are put. For an item that is taken from an end, the
 /// replacement is asked for one from the same end, which stands there then. It must be spent by `finish`,
@@ -92,11 +92,7 @@ impl<'a, A: Array, I: Iterator<Item = A::Item>> Iterator for ArrayVecSplice<'a, 
         ensures goes { MakesProgress (SpliceCanNext I.can_next) (λ s. at_most (splice_len s)) self.old result self.new }
         ensures ready { SpliceCanStep self.new }
     {
-        if self.gap.is_empty() {
-            return None;
-        }
-        let slots = self.vec.as_mut_slice();
-        Some(self.gap.take_first(slots, &mut self.replacement))
+        step_in(self.vec, &mut self.gap, &mut self.replacement)
     }
 
     /// Both bounds are the number of removed items that are left.
@@ -125,11 +121,7 @@ impl<'a, A: Array, I: DoubleEndedIterator<Item = A::Item>> DoubleEndedIterator
             (λ s. at_most (splice_len s)) self.old result self.new }
         ensures ready { SpliceCanStep self.new }
     {
-        if self.gap.is_empty() {
-            return None;
-        }
-        let slots = self.vec.as_mut_slice();
-        Some(self.gap.take_last(slots, &mut self.replacement))
+        step_back_in(self.vec, &mut self.gap, &mut self.replacement)
     }
 }
 

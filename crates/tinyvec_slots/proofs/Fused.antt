@@ -1,9 +1,9 @@
 -- What a step of a fused iterator says of its end.
-use Rattle.std.proofs.Common.{◌≡◌, Bool, true, false, cond, Option, Some, None, List, [], ◌∷◌, ◌++◌, MatchOption, refl, sym, ap, ◌∙◌, true≢false}
+use Rattle.std.proofs.Common.{◌≡◌, Bool, true, false, cond, Option, Some, None, List, [], ◌∷◌, ◌++◌, MatchOption, refl, sym, ap, ◌∙◌}
 use Rattle.std.specs.Bool.{MatchBool}
 use Rattle.std.specs.declared.iter.Fuse.{Fuse}
 use Rattle.std.specs.Iterator.Adapters.{fuse_done, fuse_source, fuse_steps}
-use Rattle.std.specs.Iterator.{Yields, YieldsLast}
+use Rattle.std.specs.Iterator.{YieldsLast}
 use Rattle.tinyvec_slots.specs.Filling.{ShowsItems}
 use Rattle.tinyvec_slots.specs.Fused.{fused_rest, HasTwoEnds}
 
@@ -51,9 +51,3 @@ fused_ends gives gives_back rest ends = record {
   first = fused_first gives rest ends.first;
   last = fused_last gives_back rest ends.last;
 }
-
-module _ {S A : Type 0} (gives : S → Option A → S → Type 0) (s : Fuse S) (ended : fuse_done s ≡ true) where
-  -- a fused iterator that has ended gives nothing
-  pub ended_gives_none : (xs : List A) (t : Fuse S) → Yields (fuse_steps gives) s xs t → xs ≡ []
-  ended_gives_none [] t run = refl
-  ended_gives_none (x ∷ xs) t run = absurd (true≢false (sym ended ∙ not_ended gives s run.0 x run.1))

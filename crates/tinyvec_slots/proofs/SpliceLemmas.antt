@@ -1,17 +1,11 @@
 -- Lemmas on the end of a splice.
-use Rattle.std.proofs.Common.{◌≡◌, ◌+◌, ◌-◌, ◌*◌, ◌<◌, ◌≤◌, ℕ, Bool, true, false, List, [], ◌∷◌, ◌++◌, length, take, drop, Option, Some, None, Result, Ok, Err, MatchResult, OnErr, refl, sym, ap, ◌∙◌, append_assoc, arith, length-append}
+use Rattle.std.proofs.Common.{◌≡◌, ◌+◌, ◌≤◌, ℕ, true, false, List, ◌∷◌, ◌++◌, length, take, drop, Option, Some, None, Result, Ok, Err, MatchResult, OnErr, refl, sym, ap, ◌∙◌, append_assoc, arith, length-append}
 use Rattle.std.proofs.lemmas.Result.{MatchResult-weaker}
-use Rattle.std.specs.Bool.{MatchBool}
-use Rattle.std.specs.declared.iter.Fuse.{Fuse}
 use Rattle.std.specs.Iterator.{Drains, Yields, YieldsThen}
-use Rattle.std.specs.Iterator.Adapters.{fuse_done, fuse_steps}
 use Rattle.tinyvec_slots.specs.Filling.{ShowsItems}
-use Rattle.tinyvec_slots.specs.Gap.{gap_front, gap_back, gap_len, GapCanStep}
-use Rattle.tinyvec_slots.specs.declared.gap.Gap.{Gap}
-use Rattle.tinyvec_slots.specs.Splices.{SpliceView, finish_placed, Finishes, FinishesWith}
+use Rattle.tinyvec_slots.specs.Splices.{SpliceView, Finishes, FinishesWith}
 use Rattle.tinyvec_slots.specs.declared.no_room.SpliceRest.{SpliceRest}
 use Rattle.tinyvec_slots.proofs.FillingLemmas.{drained, refused}
-use Rattle.tinyvec_slots.proofs.Fused.{ended_gives_none}
 use Rattle.tinyvec_slots.proofs.Runs.{YieldsThen-join}
 
 module _ {I T : Type 0} (gives : I → Option T → I → Type 0) (capacity : ℕ) (s : SpliceView I T) (list : List T) where
@@ -21,9 +15,6 @@ module _ {I T : Type 0} (gives : I → Option T → I → Type 0) (capacity : �
   finished_len result h =
       ap length h.list_is ∙ length-append (s.front ++ h.placed) s.back
       ∙ ap (λ n. n + length s.back) (length-append s.front h.placed)
-
-  pub finish_placed-is : (result : Result Unit (SpliceRest T I)) (h : Finishes gives capacity s result list) → finish_placed s list ≡ length h.placed
-  finish_placed-is result h = let long = finished_len result h in omega arith
 
   -- of a replacement of which it is known what it still gives
   pub finishes_with : (rest : I → List T) → ShowsItems gives rest → (result : Result Unit (SpliceRest T I))
@@ -82,24 +73,3 @@ module _ {I T : Type 0} (gives : I → Option T → I → Type 0) (capacity : �
     full = full;
     fits = fits;
   }
-
--- what fills a gap is no more than the removed items that are left
-pub filled_within : {S T : Type 0} (gives : S → Option T → S → Type 0) (g : Gap) (s t : Fuse S) (len : ℕ) (placed : List T) (filled : Bool)
-    → GapCanStep g (fuse_done s) len → MatchBool filled (Yields (fuse_steps gives) s placed t) (Drains (fuse_steps gives) s placed)
-    → length placed ≤ gap_back g - gap_front g → length placed ≤ gap_len g
-filled_within {S} {T} gives g s t len placed filled ready run within = by_end (fuse_done s) refl
-  where
-    none_of : (b : Bool) → MatchBool b (Yields (fuse_steps gives) s placed t) (Drains (fuse_steps gives) s placed) → fuse_done s ≡ true → placed ≡ []
-    none_of true run ended = ended_gives_none gives s ended placed t run
-    none_of false run ended = ended_gives_none gives s ended placed run.1.0 run.1.1
-
-    by_end : (done : Bool) → fuse_done s ≡ done → length placed ≤ gap_len g
-    by_end true ended = let none = ap length (none_of filled run ended) in omega arith
-    by_end false more = let no_gap = ready.4 more in omega (arith, no_gap.0, no_gap.1, within)
-
--- how many touches the end of a splice took, `before` when it began, where so many slots held the list
-pub record Counted (before slots front placed bound len count : ℕ) : Type 0 where
-  pub filled : len ≡ slots → count ≡ before + 2 * placed
-  pub closed : len < slots → count ≡ before + placed + (slots - front)
-  pub at_least : before + placed ≤ count
-  pub at_most : count ≤ before + bound

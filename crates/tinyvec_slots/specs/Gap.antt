@@ -1,5 +1,5 @@
 -- What a contract sees of a `Gap`, with the replacement of its splice and the slots that it lies in.
-use Rattle.std.specs.Prelude.{◌≡◌, ℕ, ◌+◌, ◌*◌, ◌-◌, ◌≤◌, ◌^◌, false, Bool, List, take, drop, slice_range}
+use Rattle.std.specs.Prelude.{◌≡◌, ℕ, ◌+◌, ◌*◌, ◌-◌, ◌≤◌, ◌^◌, false, Bool, List, [], take, drop, slice_range, Option, MatchOption}
 use Rattle.tinyvec_slots.specs.Splices.{SpliceView}
 use Rattle.tinyvec_slots.specs.Touches.{touch_count}
 use Rattle.tinyvec_slots.specs.declared.gap.Gap.{Gap}
@@ -46,3 +46,10 @@ GapLies g len = (g.front ≤ g.back) × (g.back ≤ len) × (gap_touches g ≤ 2
 abbrev pub GapCanStep : Gap → Bool → ℕ → Type 0
 GapCanStep g ended len = (g.front ≤ g.next) × (g.next ≤ g.end) × (g.end ≤ g.back) × (g.back ≤ len)
     × (ended ≡ false → (g.front ≡ g.next) × (g.end ≡ g.back)) × (gap_touches g + 2 * gap_len g ≤ 2 ^ 66)
+
+-- A call at one end of a gap took a vector, its gap and its replacement to others, where `items` is the list of the vector,
+-- `Kept` what a write of it leaves, and `Gives` how an item is given.
+abbrev pub GapSteps : {V I T : Type 0} → (V → List T) → (V → V → Type 0) → (SpliceView I T → T → SpliceView I T → Type 0)
+    → V → Gap → I → Option T → V → Gap → I → Type 0
+GapSteps items Kept Gives v g r item w h s = MatchOption item ((gap_left g (items v) ≡ []) × (w ≡ v) × (h ≡ g) × (s ≡ r))
+    (λ x. Gives (gap_view g r (items v)) x (gap_view h s (items w)) × Kept v w)

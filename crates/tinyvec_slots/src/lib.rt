@@ -1,6 +1,7 @@
 //! What the vectors of this workspace share: the range rule, what they do to a slice of slots, and what refusals hand back.
 #![tactic(auto)]
 
+mod can_splice;
 mod cloning;
 mod comparing;
 mod filtering;
@@ -12,8 +13,10 @@ mod printing;
 mod range;
 mod resetting;
 mod shifting;
+mod splicing;
 mod touches;
 
+pub use can_splice::CanSplice;
 pub use cloning::{clone_each, clone_over, clone_through};
 pub use comparing::{hash_items, order, partial_order, same_items};
 pub use filtering::{dedup_in_front, dedup_keys_in_front, retain_in_front, retain_mut_in_front};
@@ -27,3 +30,4 @@ pub use printing::{
 pub use range::{part, resolve};
 pub use resetting::{reset, reset_at_most};
 pub use shifting::{are_few, are_short, insert_shifting, remove_shifting};
+pub use splicing::{close_in, finish_in, step_back_in, step_in};

@@ -1,19 +1,17 @@
 //! The end of a splice.
-ghost use Rattle.std.specs.Prelude.{◌≡◌, ◌+◌, ◌-◌, ◌*◌, ◌<◌, ◌≤◌, ◌^◌, ◌++◌, List, Some, length, take, drop, IsOk, OnErr, IfErr, MatchResult};
-ghost use Rattle.std.specs.Iterator.{Drains, YieldsThen, IsFinite};
+ghost use Rattle.std.specs.Prelude.{◌≡◌, ◌+◌, ◌-◌, ◌*◌, ◌<◌, ◌≤◌, ◌++◌, List, length, IsOk, OnErr, IfErr};
 ghost use Rattle.std.specs.Iterator.Adapters.{fuse_steps};
 ghost use Rattle.tinyvec_slots.specs.Filling.{ShowsItems};
 ghost use Rattle.tinyvec_slots.specs.Fused.{FusedCan, FusedFinite, fused_rest};
-ghost use Rattle.tinyvec_slots.specs.Gap.{gap_front, gap_back, gap_touches};
 ghost use Rattle.tinyvec_slots.specs.Splices.{finish_placed, finish_bound, Finishes, FinishesWith};
 ghost use Rattle.tinyvec.specs.Tiny.{tiny_items, tiny_len, is_inline, tiny_capacity, PlaceRule, TinySlotRule};
 ghost use Rattle.tinyvec.specs.Room.{GrowsInSteps, KeepsRoom};
 ghost use Rattle.tinyvec.specs.TinySplice.{items_moved};
 
-use crate::{TinyVec, TinyVecSplice};
+use crate::TinyVecSplice;
 use std::iter::Fuse;
-use tinyvec_array::{Array, NoRoom, SpliceRest};
-use tinyvec_slots::Gap;
+use tinyvec_array::{Array, SpliceRest};
+use tinyvec_slots::{close_in, finish_in};
 
 impl<'a, A: Array, I: Iterator<Item = A::Item>> TinyVecSplice<'a, A, Fuse<I>> {
     ghost use Rattle.tinyvec.specs.TinySplice.{splice_view, splice_front, splice_back, splice_replacement, splice_vec, splice_touches, SpliceCanStep, SpliceCanNext};
@@ -96,16 +94,11 @@ impl<'a, A: Array, I: Iterator<Item = A::Item>> TinyVecSplice<'a, A, Fuse<I>> {
     {
         let TinyVecSplice {
             vec,
-            mut gap,
-            mut replacement,
+            gap,
+            replacement,
             unspent: _,
         } = self;
-        if !gap.fill(vec.as_mut_slice(), &mut replacement) {
-            close(vec, &mut gap);
-            return (Ok(()), gap.touches());
-        }
-        let finished = append_in(vec, &mut gap, replacement);
-        (finished, gap.touches())
+        finish_in(vec, gap, replacement)
     }
 
     /// Ends the splice as it stands: drops the removed items that are left, asks the replacement for nothing more, and hands
@@ -125,99 +118,7 @@ impl<'a, A: Array, I: Iterator<Item = A::Item>> TinyVecSplice<'a, A, Fuse<I>> {
             replacement,
             unspent: _,
         } = self;
-        close(vec, &mut unfilled);
+        close_in(vec, &mut unfilled);
         replacement
-    }
-}
-
-// Removes what is left of the gap.
-#[inline(always)]
-fn close<A: Array>(vec: &mut TinyVec<A>, gap: &mut Gap)
-    requires in_order { gap_front gap.old ≤ gap_back gap.old }
-    requires in_bounds { gap_back gap.old ≤ tiny_len vec.old }
-    requires few { gap_touches gap.old < 2 ^ 80 }
-    ensures items { tiny_items vec.new
-        ≡ take (gap_front gap.old) (tiny_items vec.old) ++ drop (gap_back gap.old) (tiny_items vec.old) }
-    ensures len { tiny_len vec.old ≡ tiny_len vec.new + (gap_back gap.old - gap_front gap.old) }
-    ensures place { is_inline vec.new ≡ is_inline vec.old }
-    ensures slots { TinySlotRule A.Item.is_default vec.old vec.new }
-    ensures capacity { tiny_capacity A.CAPACITY vec.new ≡ tiny_capacity A.CAPACITY vec.old }
-    ensures fits { tiny_len vec.new ≤ tiny_capacity A.CAPACITY vec.new }
-    ensures touches { gap_touches gap.new ≡ gap_touches gap.old + (tiny_len vec.old - gap_front gap.old) }
-{
-    let keep = gap.close(vec.as_mut_slice());
-    vec.truncate(keep);
-}
-
-// Appends what `replacement` gives, and brings it to where the gap was. Where memory is refused for an item, that item and
-// what follows it come back.
-#[inline(always)]
-fn append_in<A: Array, I: Iterator<Item = A::Item>>(
-    vec: &mut TinyVec<A>,
-    gap: &mut Gap,
-    replacement: I,
-) -> Result<(), SpliceRest<A::Item, I>>
-    requires in_bounds { gap_front gap.old ≤ tiny_len vec.old }
-    requires few { gap_touches gap.old < 2 ^ 70 }
-    requires can { I.can_next replacement }
-    requires finite { IsFinite (I.remaining replacement) }
-    ensures ran { (placed : List A.Item) × MatchResult result (λ _. Drains I.next_gives replacement placed)
-        (λ refused. YieldsThen I.next_gives replacement placed (Some refused.item) refused.rest)
-        × (tiny_items vec.new ≡ take (gap_front gap.old) (tiny_items vec.old) ++ placed
-        ++ drop (gap_front gap.old) (tiny_items vec.old)) }
-    ensures full { OnErr result (tiny_len vec.new ≡ tiny_capacity A.CAPACITY vec.new) }
-    ensures longer { tiny_len vec.old ≤ tiny_len vec.new }
-    ensures place { PlaceRule A.CAPACITY (tiny_len vec.new) vec.old vec.new }
-    ensures slots { TinySlotRule A.Item.is_default vec.old vec.new }
-    ensures capacity { tiny_capacity A.CAPACITY vec.old ≤ tiny_capacity A.CAPACITY vec.new }
-    ensures same_room { KeepsRoom A.CAPACITY (tiny_len vec.new) vec.old vec.new }
-    ensures grown { GrowsInSteps A.CAPACITY vec.old vec.new }
-    ensures fits { tiny_len vec.new ≤ tiny_capacity A.CAPACITY vec.new }
-    ensures goes_on { IfErr result (λ refused. I.can_next refused.rest) }
-    ensures none { tiny_len vec.new ≡ tiny_len vec.old → gap_touches gap.new ≡ gap_touches gap.old }
-    ensures at_least { gap_touches gap.old + (tiny_len vec.new - tiny_len vec.old) ≤ gap_touches gap.new }
-    ensures at_most { gap_touches gap.new ≤ gap_touches gap.old + (tiny_len vec.new - tiny_len vec.old)
-        + (tiny_len vec.new - gap_front gap.old) + items_moved A.CAPACITY (is_inline vec.old) (is_inline vec.new) }
-{
-    let end = vec.len();
-    let was_inline = vec.is_inline();
-    let appended = append(vec, replacement);
-    gap.bring_in(vec.as_mut_slice(), end);
-    count_move::<A>(gap, was_inline, vec.is_inline());
-    appended
-}
-
-// Appends what `replacement` gives.
-fn append<A: Array, I: Iterator<Item = A::Item>>(
-    vec: &mut TinyVec<A>,
-    replacement: I,
-) -> Result<(), SpliceRest<A::Item, I>>
-    requires can { I.can_next replacement }
-    requires finite { IsFinite (I.remaining replacement) }
-    ensures ran { (placed : List A.Item) × MatchResult result (λ _. Drains I.next_gives replacement placed)
-        (λ refused. YieldsThen I.next_gives replacement placed (Some refused.item) refused.rest)
-        × (tiny_items vec.new ≡ tiny_items vec.old ++ placed) }
-    ensures full { OnErr result (tiny_len vec.new ≡ tiny_capacity A.CAPACITY vec.new) }
-    ensures place { PlaceRule A.CAPACITY (tiny_len vec.new) vec.old vec.new }
-    ensures slots { TinySlotRule A.Item.is_default vec.old vec.new }
-    ensures capacity { tiny_capacity A.CAPACITY vec.old ≤ tiny_capacity A.CAPACITY vec.new }
-    ensures same_room { KeepsRoom A.CAPACITY (tiny_len vec.new) vec.old vec.new }
-    ensures grown { GrowsInSteps A.CAPACITY vec.old vec.new }
-    ensures fits { tiny_len vec.new ≤ tiny_capacity A.CAPACITY vec.new }
-    ensures goes_on { IfErr result (λ refused. I.can_next refused.rest) }
-{
-    match vec.extend(replacement) {
-        Ok(()) => Ok(()),
-        Err(NoRoom { item, rest }) => Err(SpliceRest { item, rest }),
-    }
-}
-
-// Counts the items of an array that moved to the heap.
-fn count_move<A: Array>(gap: &mut Gap, was_inline: bool, is_inline: bool)
-    requires { gap_touches gap.old < 2 ^ 100 }
-    ensures { gap_touches gap.new ≡ gap_touches gap.old + items_moved A.CAPACITY was_inline is_inline }
-{
-    if was_inline && !is_inline {
-        gap.count_moved(A::CAPACITY);
     }
 }

@@ -1,16 +1,14 @@
 //! The end of a splice.
-ghost use Rattle.std.specs.Prelude.{◌≡◌, ◌+◌, ◌-◌, ◌*◌, ◌<◌, ◌≤◌, ◌^◌, ◌++◌, List, Some, length, take, drop, OnErr, IfErr, MatchResult};
-ghost use Rattle.std.specs.Iterator.{Drains, YieldsThen};
+ghost use Rattle.std.specs.Prelude.{◌≡◌, ◌+◌, ◌-◌, ◌*◌, ◌<◌, ◌≤◌, ◌++◌, List, length, IfErr};
 ghost use Rattle.std.specs.Iterator.Adapters.{fuse_steps};
 ghost use Rattle.tinyvec_slots.specs.Filling.{ShowsItems};
 ghost use Rattle.tinyvec_slots.specs.Fused.{FusedCan, fused_rest};
-ghost use Rattle.tinyvec_slots.specs.Gap.{gap_front, gap_back, gap_touches};
-ghost use Rattle.tinyvec_slots.specs.Slots.{items, spare, items_len, Frees, SlotRule};
+ghost use Rattle.tinyvec_slots.specs.Slots.{items, items_len, SlotRule};
 ghost use Rattle.tinyvec_slots.specs.Splices.{finish_placed, finish_bound, Finishes, FinishesWith};
 
-use crate::{Array, ArrayVec, ArrayVecSplice, NoRoom, SpliceRest};
+use crate::{Array, ArrayVecSplice, SpliceRest};
 use std::iter::Fuse;
-use tinyvec_slots::Gap;
+use tinyvec_slots::{close_in, finish_in};
 
 impl<'a, A: Array, I: Iterator<Item = A::Item>> ArrayVecSplice<'a, A, Fuse<I>> {
     ghost use Rattle.tinyvec_array.specs.Splice.{splice_view, splice_front, splice_back, splice_replacement, splice_slots, splice_touches, SpliceCanStep, SpliceCanNext};
@@ -68,16 +66,11 @@ impl<'a, A: Array, I: Iterator<Item = A::Item>> ArrayVecSplice<'a, A, Fuse<I>> {
     {
         let ArrayVecSplice {
             vec,
-            mut gap,
-            mut replacement,
+            gap,
+            replacement,
             unspent: _,
         } = self;
-        if !gap.fill(vec.as_mut_slice(), &mut replacement) {
-            close(vec, &mut gap);
-            return (Ok(()), gap.touches());
-        }
-        let finished = append_in(vec, &mut gap, replacement);
-        (finished, gap.touches())
+        finish_in(vec, gap, replacement)
     }
 
     /// Ends the splice as it stands: drops the removed items that are left, asks the replacement for nothing more, and hands
@@ -95,57 +88,7 @@ impl<'a, A: Array, I: Iterator<Item = A::Item>> ArrayVecSplice<'a, A, Fuse<I>> {
             replacement,
             unspent: _,
         } = self;
-        close(vec, &mut unfilled);
+        close_in(vec, &mut unfilled);
         replacement
-    }
-}
-
-// Removes what is left of the gap.
-#[inline(always)]
-fn close<A: Array>(vec: &mut ArrayVec<A>, gap: &mut Gap)
-    requires in_order { gap_front gap.old ≤ gap_back gap.old }
-    requires in_bounds { gap_back gap.old ≤ items_len vec.old }
-    requires few { gap_touches gap.old < 2 ^ 80 }
-    ensures items { items vec.new ≡ take (gap_front gap.old) (items vec.old) ++ drop (gap_back gap.old) (items vec.old) }
-    ensures len { items_len vec.old ≡ items_len vec.new + (gap_back gap.old - gap_front gap.old) }
-    ensures slots { Frees A.Item.is_default (gap_back gap.old - gap_front gap.old) vec.old vec.new }
-    ensures fits { items_len vec.new ≤ A.CAPACITY }
-    ensures touches { gap_touches gap.new ≡ gap_touches gap.old + (items_len vec.old - gap_front gap.old) }
-{
-    let keep = gap.close(vec.as_mut_slice());
-    vec.truncate(keep);
-}
-
-// Appends what `replacement` gives, and brings it to where the gap was. Where an item finds no room, the vector is full,
-// and that item and what follows it come back.
-#[inline(always)]
-fn append_in<A: Array, I: Iterator<Item = A::Item>>(
-    vec: &mut ArrayVec<A>,
-    gap: &mut Gap,
-    replacement: I,
-) -> Result<(), SpliceRest<A::Item, I>>
-    requires in_bounds { gap_front gap.old ≤ items_len vec.old }
-    requires few { gap_touches gap.old < 2 ^ 80 }
-    requires can { I.can_next replacement }
-    ensures ran { (placed : List A.Item) × MatchResult result (λ _. Drains I.next_gives replacement placed)
-        (λ refused. YieldsThen I.next_gives replacement placed (Some refused.item) refused.rest)
-        × (items vec.new ≡ take (gap_front gap.old) (items vec.old) ++ placed
-        ++ drop (gap_front gap.old) (items vec.old)) }
-    ensures full { OnErr result (items_len vec.new ≡ A.CAPACITY) }
-    ensures longer { items_len vec.old ≤ items_len vec.new }
-    ensures fits { items_len vec.new ≤ A.CAPACITY }
-    ensures spare { spare vec.new ≡ drop (items_len vec.new - items_len vec.old) (spare vec.old) }
-    ensures goes_on { IfErr result (λ refused. I.can_next refused.rest) }
-    ensures none { items_len vec.new ≡ items_len vec.old → gap_touches gap.new ≡ gap_touches gap.old }
-    ensures at_least { gap_touches gap.old + (items_len vec.new - items_len vec.old) ≤ gap_touches gap.new }
-    ensures at_most { gap_touches gap.new ≤ gap_touches gap.old + (items_len vec.new - items_len vec.old)
-        + (items_len vec.new - gap_front gap.old) }
-{
-    let end = vec.len();
-    let appended = vec.extend(replacement);
-    gap.bring_in(vec.as_mut_slice(), end);
-    match appended {
-        Ok(()) => Ok(()),
-        Err(NoRoom { item, rest }) => Err(SpliceRest { item, rest }),
     }
 }

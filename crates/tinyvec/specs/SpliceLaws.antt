@@ -1,0 +1,66 @@
+-- The laws of a splice of a `TinyVec`: what its calls leave of spare slots, place and room.
+use Rattle.std.proofs.Common.{◌≡◌, ℕ, ◌≤◌, List, length, refl, sym, ap, ◌∙◌, arith}
+use Rattle.tinyvec.specs.Tiny.{tiny_items, tiny_len, is_inline, tiny_capacity, PlaceRule, TinySlotRule, SameFrame}
+use Rattle.tinyvec.specs.Lends.{tiny_with_items}
+use Rattle.tinyvec.specs.Room.{GrowsInSteps, KeepsRoom}
+use Rattle.tinyvec.specs.TinySplice.{items_moved}
+use Rattle.tinyvec.specs.FrameLaws.{tiny_items-with, tiny_framed-with, tiny_slots_framed, tiny_slots_then_framed, place_kept}
+use Rattle.tinyvec.specs.declared.tiny_vec.TinyVec.{TinyVec}
+use Rattle.tinyvec.specs.declared.tiny_vec.TinyVec.TheVariants.{Inline, Heap}
+
+module _ {A T : Type 0} (D : T → Type 0) (slots : ℕ) where
+  -- a splice that was stopped: the list stays in its place, with its room
+  pub record Stops (old new : TinyVec A T) : Type 0 where
+    pub place : is_inline new ≡ is_inline old
+    pub slot_rule : TinySlotRule D old new
+    pub capacity : tiny_capacity slots new ≡ tiny_capacity slots old
+
+  -- a splice that was finished: the list moves only where it has to
+  pub record Grows (old new : TinyVec A T) : Type 0 where
+    pub place : PlaceRule slots (tiny_len new) old new
+    pub slot_rule : TinySlotRule D old new
+    pub capacity : tiny_capacity slots old ≤ tiny_capacity slots new
+    pub same_room : KeepsRoom slots (tiny_len new) old new
+    pub in_steps : GrowsInSteps slots old new
+
+module _ {A T : Type 0} where
+  pub tiny_written : (v : TinyVec A T) (ws : List T) → length ws ≡ tiny_len v
+      → (tiny_items (tiny_with_items v ws) ≡ ws) × SameFrame v (tiny_with_items v ws)
+  tiny_written v ws e = (tiny_items-with v ws e, tiny_framed-with v ws e)
+
+  pub frame_moved : (slots : ℕ) (u v w x : TinyVec A T) → SameFrame u v → SameFrame w x
+      → items_moved slots (is_inline v) (is_inline w) ≡ items_moved slots (is_inline u) (is_inline x)
+  frame_moved slots u v w x k j = ap (λ b. items_moved slots b (is_inline w)) k.2 ∙ ap (items_moved slots (is_inline u)) (sym j.2)
+
+  module _ (D : T → Type 0) (slots : ℕ) where
+    pub frame_stops : (u v w : TinyVec A T) → SameFrame u v → Stops D slots v w → Stops D slots u w
+    frame_stops u v w k h = record {
+      place = h.place ∙ k.2;
+      slot_rule = tiny_slots_framed D u v w k h.slot_rule;
+      capacity = h.capacity ∙ k.3 slots;
+    }
+
+    pub frame_grows : (u v w x : TinyVec A T) → SameFrame u v → Grows D slots v w → SameFrame w x → Grows D slots u x
+    frame_grows u v w x k h j = record {
+      place = rw (j.2, j.0, sym k.2) h.place;
+      slot_rule = tiny_slots_then_framed D u w x (tiny_slots_framed D u v w k h.slot_rule) j;
+      capacity = let c = h.capacity in let a = k.3 slots in let b = j.3 slots in omega arith;
+      same_room = λ fits. j.3 slots ∙ h.same_room (let a = k.3 slots in let b = j.0 in omega arith) ∙ k.3 slots;
+      in_steps = λ more. let a = k.3 slots in let b = j.3 slots in let c = j.0 in let less = h.in_steps (omega (arith, a, b, more)) in omega (arith, b, c, less);
+    }
+
+    pub stops_grows : (v w : TinyVec A T) → Stops D slots v w → tiny_len w ≤ tiny_capacity slots w → Grows D slots v w
+    stops_grows v w h fits = record {
+      place = place_kept slots (tiny_len w) v w h.place (let c = h.capacity in omega arith);
+      slot_rule = h.slot_rule;
+      capacity = let c = h.capacity in omega arith;
+      same_room = λ _. h.capacity;
+      in_steps = λ more. absurd (let c = h.capacity in omega (arith, c, more));
+    }
+
+    -- a list that fits where it was did not move
+    pub stays : (v w : TinyVec A T) → Grows D slots v w → tiny_len w ≤ tiny_capacity slots v
+        → items_moved slots (is_inline v) (is_inline w) ≡ 0
+    stays (Inline v a) (Inline w b) h fits = refl
+    stays (Inline v a) (Heap w) h fits = absurd (let no = h.place.1 (refl, fits) in cc)
+    stays (Heap v) new h fits = refl
