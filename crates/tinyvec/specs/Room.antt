@@ -49,6 +49,8 @@ module _ {A T X E : Type 0} where
     -- a list on the heap stays as it is, and a refusal changes nothing
     pub kept : is_inline old ≡ false → new ≡ old
     pub succeeds : is_inline old ≡ false → IsOk result
+    -- an empty list takes no memory
+    pub succeeds_empty : tiny_len old ≡ 0 → IsOk result
     -- one that moves has room for itself there, and for no more
     pub moved : IsInline old → OnOk result (tiny_capacity slots new ≡ tiny_len old)
     pub fits : tiny_len new ≤ tiny_capacity slots new
@@ -66,5 +68,6 @@ module _ {A T X E : Type 0} where
     pub keeps_room : is_inline old ≡ false → tiny_capacity slots old ≤ tiny_capacity slots new
     pub kept : is_inline old ≡ false → tiny_len old + n ≤ tiny_capacity slots old → new ≡ old
     pub succeeds : is_inline old ≡ false → tiny_len old + n ≤ tiny_capacity slots old → IsOk result
+    pub succeeds_empty : tiny_len old + n ≡ 0 → IsOk result
     pub full : is_inline old ≡ false → OnErr result (tiny_capacity slots old < tiny_len old + n)
     pub refused : OnErr result (Unchanged old new)

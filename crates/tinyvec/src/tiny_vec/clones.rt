@@ -30,6 +30,7 @@ impl<A: Array> TinyVec<A> {
             → (j : ℕ) × RefusedAt A.Item.is_infallible (tiny_items self.now ++ tiny_spare self.now) j) }
         ensures succeeds { IsInline self.now
             → All A.Item.is_infallible (tiny_items self.now ++ tiny_spare self.now) → IsOk result }
+        ensures succeeds_empty { is_inline self.now ≡ false → tiny_len self.now ≡ 0 → IsOk result }
     {
         let v = match self {
             TinyVec::Inline(v, alloc) => {

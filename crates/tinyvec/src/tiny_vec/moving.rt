@@ -95,6 +95,7 @@ impl<A: Array> TinyVec<A> {
         ensures room { IfOk result (λ v. IsInline self → vec_capacity v ≡ tiny_len self) }
         ensures same_room { IfOk result (λ v. is_inline self ≡ false → vec_capacity v ≡ tiny_capacity A.CAPACITY self) }
         ensures succeeds { is_inline self ≡ false → IsOk result }
+        ensures succeeds_empty { tiny_len self ≡ 0 → IsOk result }
         ensures back { IfErr result (λ refused. refused.0 ≡ self) }
     {
         match self {
@@ -110,6 +111,7 @@ impl<A: Array> TinyVec<A> {
     pub fn into_boxed_slice(self) -> Result<BoxedSlice<A::Item>, AllocError>
         ensures items { IfOk result (λ b. boxed_slice_items b ≡ tiny_items self) }
         ensures succeeds { is_inline self ≡ false → IsOk result }
+        ensures succeeds_empty { tiny_len self ≡ 0 → IsOk result }
     {
         match self.into_vec() {
             Ok(heap) => Ok(heap.into_boxed_slice()),

@@ -5,7 +5,7 @@ use Rattle.tinyvec_slots.specs.Slots.{all_slots, items, spare}
 use Rattle.tinyvec_slots.specs.Clones.{RefusedAt}
 use Rattle.tinyvec_slots.proofs.SlotsLemmas.{slots_are}
 use Rattle.tinyvec_slots.proofs.CloneLemmas.{on_err}
-use Rattle.tinyvec.specs.Tiny.{tiny_items, tiny_spare, is_inline}
+use Rattle.tinyvec.specs.Tiny.{tiny_items, tiny_len, tiny_spare, is_inline}
 use Rattle.tinyvec.proofs.TinyLemmas.{never_if_ok}
 use Rattle.tinyvec.proofs.CloneLemmas.{appends_alone, spare_cloned}
 use Rattle.tinyvec.proofs.tiny_vec.TinyVec.clone.Goals as goal
@@ -84,6 +84,7 @@ returns-in_err-copy g c =
       room = never_if_ok _ answer err;
       refused = on_err answer (λ inline. absurd (false≢true (outside ∙ inline)));
       succeeds = λ inline _. absurd (false≢true (outside ∙ inline));
+      succeeds_empty = λ _ empty. absurd (false≢true (c.in_err-copy.ensures.succeeds (omega (arith, c.len.ensures, c.in-Heap.v.ok.0, ap tiny_len c.in-Heap.is, empty))));
     }
 
 pub returns-in_err-push_clones : goal.returns-in_err-push_clones
@@ -99,6 +100,7 @@ returns-in_err-push_clones g c =
       room = never_if_ok _ answer err;
       refused = on_err answer (λ inline. absurd (false≢true (outside ∙ inline)));
       succeeds = λ inline _. absurd (false≢true (outside ∙ inline));
+      succeeds_empty = λ _ empty. absurd (omega (arith, c.in_err-push_clones.ensures.refused.1.0, c.as_slice.ensures.len, c.in-Heap.v.ok.0, ap tiny_len c.in-Heap.is, empty));
     }
 
 pub push_clones-requires : goal.push_clones-requires
