@@ -41,7 +41,7 @@ class Input:
     def __init__(self):
         self.read = None
 
-    def take(self):
+    def take(self, name):
         """Reads standard input to its end, and returns why it was not, where it was not."""
         self.read, self.start = tempfile.TemporaryFile(), place_of_input()
         while self.read.tell() <= MOST:
@@ -52,7 +52,7 @@ class Input:
             except OSError as error:
                 if self.read.tell() == 0:
                     # So does the program end.
-                    sys.exit(f"standard input: {error.strerror}")
+                    sys.exit(failure(name, "read input", error.errno))
                 return f"standard input: {error.strerror}"
             if not block:
                 return None
@@ -85,7 +85,7 @@ def answer(crate, arguments, given, notice):
     """Ends this process with the answer of `rt try`, or says why there is none."""
     if os.isatty(0):
         return tell(crate, "standard input is a terminal: a file or a pipe would be answered before any proof")
-    reason = given.take()
+    reason = given.take(crate.name)
     if not reason:
         tell(crate, notice)
         reason = try_on(crate, arguments, given.read)
@@ -109,7 +109,8 @@ def try_on(crate, arguments, read):
             ran.terminate()
             raise
     if ENDED.search(said):
-        sys.exit(ran.returncode if is_written(answers) else 1)
+        write(crate.name, answers)
+        sys.exit(ran.returncode)
     if ran.returncode in WRONG:
         sys.stderr.write(said.decode(errors="replace"))
         sys.exit(f"{crate.name}: the sources are refused, so nothing is answered; the lines above are rt's")
@@ -117,10 +118,17 @@ def try_on(crate, arguments, read):
     return reasons[-1].decode(errors="replace") if reasons else f"`rt try` ended with status {ran.returncode}"
 
 
-def is_written(answers):
+def write(name, answers):
+    """Writes the answers, or ends this process as the program ends where it cannot write them."""
     try:
         while answers:
             answers = answers[os.write(1, answers) :]
-    except OSError:
-        return False
-    return True
+    except BrokenPipeError:
+        sys.exit(1)
+    except OSError as error:
+        sys.exit(failure(name, "write output", error.errno))
+
+
+def failure(name, what, number):
+    """The line that a program writes to standard error where the system answers it by that error."""
+    return f"{name}: cannot {what}: {os.strerror(number)} (os error {number})"

@@ -1,6 +1,7 @@
 //! A script, read and answered.
 ghost use Rattle.std.specs.Prelude.{◌≡◌, ◌≤◌, ◌^◌, ◌-◌, ◌++◌, ◌∷◌, List, ℕ, ℤ, [], OnOk, OnErr, IsErrOf, length};
 ghost use Rattle.std.specs.Io.KnownBytes.{Appends, Consumes, IsAtEnd, append_known};
+ghost use Rattle.std.specs.declared.io.Error.{Error};
 ghost use Rattle.tinyvec_io.specs.Counted.{Reported};
 ghost use Rattle.tinyvec_script.specs.State.{state_of};
 ghost use Rattle.tinyvec_script.specs.Command.{IsCommand};
@@ -27,16 +28,16 @@ use tinyvec_text::InlineText;
 const CHUNK: usize = 4096;
 
 /// Why a script ended before its input.
-#[derive(PartialEq, Debug, Error, Drop)]
+#[derive(Debug, Error, Drop)]
 pub enum RunError {
-    /// The reader reported a fault.
-    #[error("cannot read input")]
-    Read,
-    /// The writer reported a fault.
-    #[error("cannot write output")]
-    Write,
+    /// The reader failed.
+    #[error("cannot read input: {0}")]
+    Read(io::Error),
+    /// The writer failed.
+    #[error("cannot write output: {0}")]
+    Write(io::Error),
     /// `u64::MAX` bytes were read, and the input goes on.
-    #[error("input too long")]
+    #[error("cannot read input: input too long")]
     TooLong,
 }
 
@@ -55,12 +56,14 @@ pub fn run<R: Read, W: Write>(
         × Script input output) }
 
     // The complete lines before the fault were answered.
-    ensures read { IsErrOf result RunError.Read → (input output : List ℕ)
+    ensures read { (error : Error) → IsErrOf result (RunError.Read error) → (input output : List ℕ)
         × Consumes (R.remaining reader.old.end) (R.remaining reader.new.end) input
         × Appends (W.contents writer.old.end) (W.contents writer.new.end) output
         × CompleteLines input output }
-    ensures read_fault { IsErrOf result RunError.Read → Reported reader.old.faults reader.new.faults }
-    ensures write_fault { IsErrOf result RunError.Write → Reported writer.old.faults writer.new.faults }
+    ensures read_fault { (error : Error) → IsErrOf result (RunError.Read error)
+        → Reported reader.old.faults reader.new.faults }
+    ensures write_fault { (error : Error) → IsErrOf result (RunError.Write error)
+        → Reported writer.old.faults writer.new.faults }
 
     // So long an input is not read on.
     ensures too_long { IsErrOf result RunError.TooLong → (input output : List ℕ)
@@ -79,18 +82,20 @@ pub fn run<R: Read, W: Write>(
     let mut line = Line::new();
     let mut chunk = [0; CHUNK];
     for _piece in 0..u64::MAX {
-        let Ok(count) = reader.read_some(&mut chunk) else {
-            return Err(RunError::Read);
+        let count = match reader.read_some(&mut chunk) {
+            Ok(count) => count,
+            Err(error) => return Err(RunError::Read(error)),
         };
         if count == 0 {
-            let Ok(()) = finish(alloc, &mut vectors, &line, writer) else {
-                return Err(RunError::Write);
-            };
-            return Ok(());
+            match finish(alloc, &mut vectors, &line, writer) {
+                Ok(()) => return Ok(()),
+                Err(error) => return Err(RunError::Write(error)),
+            }
         }
-        let Ok(()) = answer_chunk(alloc, &mut vectors, &mut line, writer, &chunk[..count]) else {
-            return Err(RunError::Write);
-        };
+        match answer_chunk(alloc, &mut vectors, &mut line, writer, &chunk[..count]) {
+            Ok(()) => {}
+            Err(error) => return Err(RunError::Write(error)),
+        }
     }
     Err(RunError::TooLong)
 }

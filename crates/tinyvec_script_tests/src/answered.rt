@@ -1,7 +1,8 @@
 //! What scripts answer, held against what is wanted.
 use std::alloc::{AllocError, Global};
+use std::io::ErrorKind;
 use tinyvec_io::Counted;
-use tinyvec_script::run;
+use tinyvec_script::{RunError, run};
 
 // Room for all that a test here reads or writes.
 pub(crate) const ROOM: usize = 1 << 15;
@@ -10,6 +11,26 @@ pub(crate) const ROOM: usize = 1 << 15;
 pub(crate) struct Script {
     pub(crate) input: &'static [u8],
     pub(crate) output: &'static [u8],
+}
+
+// How a script ended.
+#[derive(Clone, Copy, PartialEq, Drop)]
+pub(crate) enum Ended {
+    Whole,
+    Read(ErrorKind),
+    Write(ErrorKind),
+    TooLong,
+}
+
+impl Ended {
+    pub(crate) fn of(ran: Result<(), RunError>) -> Self {
+        match ran {
+            Ok(()) => Ended::Whole,
+            Err(RunError::Read(error)) => Ended::Read(error.kind()),
+            Err(RunError::Write(error)) => Ended::Write(error.kind()),
+            Err(RunError::TooLong) => Ended::TooLong,
+        }
+    }
 }
 
 // Whether the answers, which may be cut, first differ from what is wanted where they tell of refused memory: by the answer
@@ -47,7 +68,7 @@ pub(crate) fn writes(alloc: Global, input: &[u8], output: &[u8]) -> Result<bool,
     let mut reader = Counted::new(input);
     let mut writer = Counted::new(Vec::with_capacity(alloc, ROOM)?);
     let result = run(alloc, &mut reader, &mut writer);
-    are_wanted(writer.into_inner().as_slice(), output, result == Ok(()))
+    are_wanted(writer.into_inner().as_slice(), output, result.is_ok())
 }
 
 // The first so many lines of a text.

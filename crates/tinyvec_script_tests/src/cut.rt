@@ -91,7 +91,7 @@ fn wrong_cut(
         let mut writer = Counted::new(answers);
         let result = run(alloc, &mut reader, &mut writer);
         answers = writer.into_inner();
-        let is_right = are_wanted(answers.as_slice(), wanted.as_slice(), result == Ok(()));
+        let is_right = are_wanted(answers.as_slice(), wanted.as_slice(), result.is_ok());
         wrong = first_granted(wrong, count, is_right);
         answers.clear();
     }

@@ -52,6 +52,16 @@ pub(crate) enum Full {
     TakesNone,
 }
 
+impl Full {
+    // Of the error by which a caller learns of it.
+    pub(crate) fn kind(self) -> ErrorKind {
+        match self {
+            Full::Fails => ErrorKind::BrokenPipe,
+            Full::TakesNone => ErrorKind::WriteZero,
+        }
+    }
+}
+
 // Takes as many bytes as there is room for, at most so many a write. It remembers them.
 #[derive(Drop)]
 pub(crate) struct Fills {

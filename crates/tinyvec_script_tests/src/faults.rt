@@ -1,12 +1,13 @@
 //! Scripts of each command over ends that fail, are interrupted, or move few bytes.
-use crate::answered::{ROOM, Script, answers_to_pops, are_wanted, count_lines, first_lines, pops};
+use crate::answered::{Ended, ROOM, Script, answers_to_pops, are_wanted, count_lines, first_lines, pops};
 use crate::ends::{Fills, Full, Gives, Interrupted};
 use crate::steps::first_granted;
 use std::alloc::{AllocError, Global};
+use std::io::ErrorKind;
 use std::ops::RangeInclusive;
 use std::test::Fail;
 use tinyvec_io::Counted;
-use tinyvec_script::{RunError, run};
+use tinyvec_script::run;
 
 const OF_AN_ARRAY: Script = Script {
     input: b"A push 1
@@ -163,10 +164,10 @@ fn wrong_read(
         };
         let mut reader = Counted::new(Interrupted::new(gives, times));
         let mut writer = Counted::new(answers);
-        let result = run(alloc, &mut reader, &mut writer);
+        let ended = Ended::of(run(alloc, &mut reader, &mut writer));
         answers = writer.into_inner();
         let wanted = first_lines(output, count_lines(bytes));
-        let has_ended_so = (result == Err(RunError::Read)) & ((reader.faults() == 1) | (times > 0));
+        let has_ended_so = (ended == Ended::Read(ErrorKind::BrokenPipe)) & ((reader.faults() == 1) | (times > 0));
         let is_right = are_wanted(answers.as_slice(), wanted, has_ended_so);
         wrong = first_granted(wrong, count, is_right);
         answers.clear();
@@ -192,8 +193,8 @@ fn wrong_write(
             most: ROOM,
             full,
         });
-        let result = run(alloc, &mut reader, &mut writer);
-        let has_ended_so = (result == Err(RunError::Write)) & (writer.faults() == 1);
+        let ended = Ended::of(run(alloc, &mut reader, &mut writer));
+        let has_ended_so = (ended == Ended::Write(full.kind())) & (writer.faults() == 1);
         taken = writer.into_inner().taken;
         let wanted = &output[..room.min(output.len())];
         let is_right = are_wanted(taken.as_slice(), wanted, has_ended_so);
@@ -218,9 +219,9 @@ fn is_answered_byte_by_byte(alloc: Global, script: &Script) -> Result<bool, Allo
     };
     let mut reader = Counted::new(Interrupted::new(input, 1));
     let mut writer = Counted::new(Interrupted::new(output, 1));
-    let result = run(alloc, &mut reader, &mut writer);
+    let ended = Ended::of(run(alloc, &mut reader, &mut writer));
     let taken = writer.into_inner().end.taken;
-    are_wanted(taken.as_slice(), script.output, result == Ok(()))
+    are_wanted(taken.as_slice(), script.output, ended == Ended::Whole)
 }
 
 #[test]

@@ -1,14 +1,14 @@
 //! A writer whose flush is interrupted. That is a fault as any other: nothing here asks again.
-use crate::answered::{ROOM, are_wanted};
+use crate::answered::{Ended, ROOM, are_wanted};
 use crate::ends::{FlushInterrupted, Interrupted};
 use crate::steps::first_granted;
 use std::alloc::{AllocError, Global};
-use std::io::Write;
+use std::io::{ErrorKind, Write};
 use std::test::Fail;
 use tinyvec::{ArrayVec, TinyVec};
 use tinyvec_borsh::BorshSerialize;
 use tinyvec_io::Counted;
-use tinyvec_script::{RunError, run};
+use tinyvec_script::run;
 
 // Whether a script, each write of which is interrupted so many times, is answered whole, and then tells of the flush, asked for
 // once. Its caller may ask again.
@@ -22,8 +22,8 @@ fn tells(
     let mut reader = Counted::new(input);
     let end = FlushInterrupted::new(Vec::with_capacity(alloc, ROOM)?);
     let mut writer = Counted::new(Interrupted::new(end, times));
-    let result = run(alloc, &mut reader, &mut writer);
-    let is_told = (result == Err(RunError::Write)) & (writer.faults() == faults);
+    let ended = Ended::of(run(alloc, &mut reader, &mut writer));
+    let is_told = (ended == Ended::Write(ErrorKind::Interrupted)) & (writer.faults() == faults);
     let is_flushed = writer.flush().is_ok() & (writer.faults() == faults);
     let end = writer.into_inner().end;
     let has_ended_so = is_told & is_flushed & (end.flushes == 2);

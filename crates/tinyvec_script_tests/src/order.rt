@@ -1,12 +1,12 @@
 //! In which order a script reads, writes and flushes.
-use crate::answered::{ROOM, pops};
+use crate::answered::{Ended, ROOM, pops};
 use crate::ends::{Event, Pieces, Recorded};
 use std::alloc::{AllocError, Global};
 use std::cell::RefCell;
 use std::io::{ErrorKind, Read, Write};
 use std::test::Fail;
 use tinyvec_io::Counted;
-use tinyvec_script::{RunError, run};
+use tinyvec_script::run;
 
 // How many calls the reader and the writer take before one fails, and how.
 #[derive(Clone, Copy)]
@@ -23,7 +23,7 @@ fn asks<R: Read + Drop, W: Write + Drop>(
     writer: W,
     failing: Failing,
     events: &[Event],
-    end: &Result<(), RunError>,
+    end: Ended,
 ) -> Result<bool, AllocError> {
     let asked = RefCell::new(Vec::with_capacity(alloc, 16)?);
     let Failing {
@@ -36,7 +36,7 @@ fn asks<R: Read + Drop, W: Write + Drop>(
         let mut writer = Counted::new(Recorded::new(writer, &asked, writes, kind));
         run(alloc, &mut reader, &mut writer)
     };
-    Ok((asked.into_inner().as_slice() == events) & (result == *end))
+    Ok((asked.into_inner().as_slice() == events) & (Ended::of(result) == end))
 }
 
 // Input in pieces, how its ends fail, what is asked, and the end.
@@ -44,7 +44,7 @@ struct Case {
     pieces: &'static [&'static [u8]],
     failing: Failing,
     events: &'static [Event],
-    end: Result<(), RunError>,
+    end: Ended,
 }
 
 const NEVER: Failing = Failing {
@@ -60,7 +60,7 @@ const CASES: [Case; 16] = [
         pieces: &[],
         failing: NEVER,
         events: &[Event::Read(0), Event::Flush],
-        end: Ok(()),
+        end: Ended::Whole,
     },
     Case {
         pieces: &[b"A pop\n"],
@@ -71,7 +71,7 @@ const CASES: [Case; 16] = [
             Event::Read(0),
             Event::Flush,
         ],
-        end: Ok(()),
+        end: Ended::Whole,
     },
     Case {
         pieces: &[b"A pop"],
@@ -82,7 +82,7 @@ const CASES: [Case; 16] = [
             Event::Write(21),
             Event::Flush,
         ],
-        end: Ok(()),
+        end: Ended::Whole,
     },
     Case {
         pieces: &[b"A po", b"p\n"],
@@ -94,7 +94,7 @@ const CASES: [Case; 16] = [
             Event::Read(0),
             Event::Flush,
         ],
-        end: Ok(()),
+        end: Ended::Whole,
     },
     Case {
         pieces: &[b"A pop\nA pop\nA ", b"pop\n", b"A pop"],
@@ -109,7 +109,7 @@ const CASES: [Case; 16] = [
             Event::Write(21),
             Event::Flush,
         ],
-        end: Ok(()),
+        end: Ended::Whole,
     },
     // nothing is asked after a fault
     Case {
@@ -120,7 +120,7 @@ const CASES: [Case; 16] = [
             kind: ErrorKind::Other,
         },
         events: &[Event::Fault],
-        end: Err(RunError::Read),
+        end: Ended::Read(ErrorKind::Other),
     },
     Case {
         pieces: &[b"A pop\n", b"A pop\n"],
@@ -130,7 +130,7 @@ const CASES: [Case; 16] = [
             kind: ErrorKind::Other,
         },
         events: &[Event::Read(6), Event::Write(21), Event::Fault],
-        end: Err(RunError::Read),
+        end: Ended::Read(ErrorKind::Other),
     },
     Case {
         pieces: &[b"A pop\nA p", b"op\n"],
@@ -140,7 +140,7 @@ const CASES: [Case; 16] = [
             kind: ErrorKind::Other,
         },
         events: &[Event::Read(9), Event::Write(21), Event::Fault],
-        end: Err(RunError::Read),
+        end: Ended::Read(ErrorKind::Other),
     },
     Case {
         pieces: &[b"A pop\n", b"A pop\n"],
@@ -150,7 +150,7 @@ const CASES: [Case; 16] = [
             kind: ErrorKind::Other,
         },
         events: &[Event::Read(6), Event::Fault],
-        end: Err(RunError::Write),
+        end: Ended::Write(ErrorKind::Other),
     },
     Case {
         pieces: &[b"A pop\n", b"A pop"],
@@ -166,7 +166,7 @@ const CASES: [Case; 16] = [
             Event::Read(0),
             Event::Fault,
         ],
-        end: Err(RunError::Write),
+        end: Ended::Write(ErrorKind::Other),
     },
     // here a flush fails
     Case {
@@ -177,7 +177,7 @@ const CASES: [Case; 16] = [
             kind: ErrorKind::Other,
         },
         events: &[Event::Read(0), Event::Fault],
-        end: Err(RunError::Write),
+        end: Ended::Write(ErrorKind::Other),
     },
     Case {
         pieces: &[b"A pop\n"],
@@ -192,7 +192,7 @@ const CASES: [Case; 16] = [
             Event::Read(0),
             Event::Fault,
         ],
-        end: Err(RunError::Write),
+        end: Ended::Write(ErrorKind::Other),
     },
     Case {
         pieces: &[b"A pop"],
@@ -207,7 +207,7 @@ const CASES: [Case; 16] = [
             Event::Write(21),
             Event::Fault,
         ],
-        end: Err(RunError::Write),
+        end: Ended::Write(ErrorKind::Other),
     },
     // the script goes on after an interruption
     Case {
@@ -224,7 +224,7 @@ const CASES: [Case; 16] = [
             Event::Read(0),
             Event::Flush,
         ],
-        end: Ok(()),
+        end: Ended::Whole,
     },
     Case {
         pieces: &[b"A pop\n"],
@@ -240,7 +240,7 @@ const CASES: [Case; 16] = [
             Event::Read(0),
             Event::Flush,
         ],
-        end: Ok(()),
+        end: Ended::Whole,
     },
     Case {
         pieces: &[b"A pop\n"],
@@ -256,7 +256,7 @@ const CASES: [Case; 16] = [
             Event::Read(0),
             Event::Flush,
         ],
-        end: Ok(()),
+        end: Ended::Whole,
     },
 ];
 
@@ -273,7 +273,7 @@ fn answers_are_written_before_more_is_read_and_nothing_is_asked_after_a_fault(
             output,
             case.failing,
             case.events,
-            &case.end,
+            case.end,
         )?;
         assert!(rt; is_right, "case {index}");
     }
@@ -299,7 +299,7 @@ fn a_long_input_is_answered_in_chunks(rt: HostRuntime) -> Result<(), Fail> {
         output,
         NEVER,
         &events,
-        &Ok(()),
+        Ended::Whole,
     )?;
     assert!(rt; is_right);
     Ok(())

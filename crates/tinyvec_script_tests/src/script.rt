@@ -1,6 +1,7 @@
 //! The script over memory. What else a line is answered, the files `stdin` and `stdout` of the program say.
 use crate::answered::{ROOM, Script, writes};
 use std::alloc::{AllocError, Global};
+use std::io::{self, ErrorKind};
 use std::test::Fail;
 use tinyvec_script::RunError;
 use tinyvec_test_items::assert_shows;
@@ -148,10 +149,14 @@ fn a_long_line_is_read_whole_and_bad_once(rt: HostRuntime) -> Result<(), Fail> {
 
 #[test]
 fn the_texts_of_the_errors(rt: HostRuntime) -> Result<(), Fail> {
+    let [read, written] = [ErrorKind::IsADirectory, ErrorKind::StorageFull].map(io::Error::from);
     for (error, text) in [
-        (RunError::Read, "cannot read input"),
-        (RunError::Write, "cannot write output"),
-        (RunError::TooLong, "input too long"),
+        (RunError::Read(read), "cannot read input: is a directory"),
+        (
+            RunError::Write(written),
+            "cannot write output: no storage space",
+        ),
+        (RunError::TooLong, "cannot read input: input too long"),
     ] {
         assert_shows!(rt; error, text);
     }

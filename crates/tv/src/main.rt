@@ -1,15 +1,28 @@
 //! Answers the script on standard input, a line each, on standard output.
 #![tactic(auto)]
 
+use std::io::ErrorKind;
 use std::process::ExitCode;
 use tinyvec_io::Counted;
-use tinyvec_script::run;
+use tinyvec_script::{RunError, run};
 
 fn main(rt: HostRuntime) -> ExitCode {
     let mut reader = Counted::new(rt.stdin());
     let mut writer = Counted::new(rt.stdout());
-    match run(rt.alloc(), &mut reader, &mut writer) {
-        Ok(()) => ExitCode::SUCCESS,
-        Err(_) => ExitCode::FAILURE,
+    let Err(error) = run(rt.alloc(), &mut reader, &mut writer) else {
+        return ExitCode::SUCCESS;
+    };
+    if !is_closed_pipe(&error) {
+        // Where standard error fails too, there is nowhere left to say so.
+        let _ = eprintln!(rt; "tv: {error}");
+    }
+    ExitCode::FAILURE
+}
+
+// Nobody reads the output any more.
+fn is_closed_pipe(error: &RunError) -> bool {
+    match error {
+        RunError::Write(error) => error.kind() == ErrorKind::BrokenPipe,
+        _ => false,
     }
 }

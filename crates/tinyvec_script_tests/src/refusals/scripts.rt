@@ -17,7 +17,7 @@ impl Script {
     fn outcome(&self, alloc: Global) -> Result<Outcome, AllocError> {
         let mut reader = Counted::new(self.input);
         let mut writer = Counted::new(Vec::with_capacity(alloc, ROOM)?);
-        let is_run = run(alloc, &mut reader, &mut writer) == Ok(());
+        let is_run = run(alloc, &mut reader, &mut writer).is_ok();
         let answers = writer.into_inner();
         let answers = answers.as_slice();
         let is_refused = self.with_a_refusal.iter().any(|other| answers == *other);

@@ -30,13 +30,13 @@ loop-piece-init g c =
       write_grows = omega arith;
     }
 
-pub returns-in_default-clause-read : goal.returns-in_default-clause-read
-returns-in_default-clause-read g c =
+pub returns-in-Err-clause-read : goal.returns-in-Err-clause-read
+returns-in-Err-clause-read g c =
     let s = c.loop-piece.invariant.so_far in
-    λ _. (s.0, s.1, Consumes-kept _ _ _ s.0 s.2 c.in_default.ensures.err, s.3, complete_lines s.0 s.1 (held c.loop-piece.vectors) c.loop-piece.line s.4)
+    λ _ _. (s.0, s.1, Consumes-kept _ _ _ s.0 s.2 c.in-Err.ensures.err, s.3, complete_lines s.0 s.1 (held c.loop-piece.vectors) c.loop-piece.line s.4)
 
-pub returns-then-count-eq0-clause-ok : goal.returns-then-count-eq0-clause-ok
-returns-then-count-eq0-clause-ok g c =
+pub returns-in-Ok-finish-clause-ok : goal.returns-in-Ok-finish-clause-ok
+returns-in-Ok-finish-clause-ok g c =
     let s = c.loop-piece.invariant.so_far in
     let f = c.in-Ok-finish.ensures.ok in
     let none : c.in-Ok.count ≡ 0 = c.if-count-eq0.true in
