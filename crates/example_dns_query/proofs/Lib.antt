@@ -1,4 +1,6 @@
+pub mod Answering
 pub mod Faults
+pub mod LineFaults
 pub mod LineLemmas
 pub mod MessageLemmas
 pub mod NameLemmas

@@ -1,3 +1,4 @@
+pub mod Answer
 pub mod Line
 pub mod Message
 pub mod Name

@@ -1,9 +1,11 @@
 -- A line that asks for a query.
-use Rattle.std.specs.Prelude.{◌≡◌, ◌<◌, ◌^◌, ℕ, List, All, Some, [], ◌∷◌, ◌++◌, length, drop, codes}
+use Rattle.std.specs.Prelude.{◌≡◌, ◌≢◌, ◌<◌, ◌^◌, ℕ, List, All, Some, [], ◌∷◌, ◌++◌, length, drop, slice_index_or, codes}
 use Rattle.std.specs.Str.Parse.{IsNumeral, digits_value, without_leading_plus}
 use Rattle.example_dns_query.specs.Message.{query}
 use Rattle.example_dns_query.specs.Name.{IsPrinted, IsLabel, IsName, first_fault, labels_of, name_wire}
 use Rattle.example_dns_query.specs.Parts.{parts}
+use Rattle.example_dns_query.specs.declared.line.LineError.{LineError}
+use Rattle.example_dns_query.specs.declared.line.LineError.TheVariants.{Words, Number, UnknownType, Query}
 use Rattle.example_dns_query.specs.declared.query.QueryError.{QueryError}
 use Rattle.example_dns_query.specs.declared.query.QueryError.TheVariants.{BadByte, EmptyLabel, LongLabel, LongName, Full}
 use Rattle.example_dns_query.specs.declared.record_type.RecordType.{RecordType}
@@ -39,15 +41,21 @@ pub record Asks (line : List ℕ) (id : ℕ) (name : List ℕ) (record_type : Re
   pub three : words line ≡ number ∷ name ∷ word_of record_type ∷ []
   pub decimal : IsDecimal number id
 
--- the slice begins with the query that the line asks for, which is so long, and is otherwise as it was
-pub record Answers (line old new : List ℕ) (len : ℕ) : Type 0 where
+-- the message of the query that the line asks for
+pub record AsksFor (line message : List ℕ) : Type 0 where
   pub id : ℕ
   pub name : List ℕ
   pub record_type : RecordType
   pub asks : Asks line id name record_type
   pub is_name : IsName name
-  pub long : len ≡ length (query id (labels_of name) record_type)
-  pub written : new ≡ query id (labels_of name) record_type ++ drop len old
+  pub whole : message ≡ query id (labels_of name) record_type
+
+-- the slice begins with the query that the line asks for, which is so long, and is otherwise as it was
+pub record Answers (line old new : List ℕ) (len : ℕ) : Type 0 where
+  pub message : List ℕ
+  pub asked : AsksFor line message
+  pub long : len ≡ length message
+  pub written : new ≡ message ++ drop len old
 
 -- what is wrong with a query for such a name, where the slice has room for so many bytes
 abbrev pub HasFault : ℕ → List ℕ → RecordType → ℕ → QueryError → Type 0
@@ -62,5 +70,15 @@ pub record AsksFaulty (line : List ℕ) (room : ℕ) (fault : QueryError) : Type
   pub id : ℕ
   pub name : List ℕ
   pub record_type : RecordType
+  pub small : id < 2 ^ 16
   pub asks : Asks line id name record_type
   pub faulty : HasFault id name record_type room fault
+
+-- what is wrong with a line, where the slice has room for so many bytes
+abbrev pub HasLineFault : List ℕ → ℕ → LineError → Type 0
+HasLineFault line room Words = length (words line) ≢ 3
+HasLineFault line room Number = (length (words line) ≡ 3) × (IsId (slice_index_or (words line) 0 []) → ⊥)
+HasLineFault line room UnknownType =
+    (length (words line) ≡ 3) × IsId (slice_index_or (words line) 0 [])
+    × ((record_type : RecordType) → slice_index_or (words line) 2 [] ≢ word_of record_type)
+HasLineFault line room (Query fault) = AsksFaulty line room fault

@@ -10,20 +10,39 @@ ghost use Rattle.example_dns_query.specs.declared.line.LineError.TheVariants.{Wo
 use crate::parts::first_part;
 use crate::query::{QueryError, write_query};
 use crate::record_type::RecordType;
-use std::str;
-use thiserror::Error;
+use std::{fmt, str};
 
-/// Why a line is not answered.
-#[derive(Clone, Copy, PartialEq, Debug, Error)]
+/// Why there is no query for a line.
+#[derive(Clone, Copy, PartialEq, Debug)]
 pub enum LineError {
-    #[error("a line is a number, a name and a type, with one blank between two")]
+    /// The line does not have three words.
     Words,
-    #[error("the first word is no number from 0 to 65535")]
+    /// The first word is no number from 0 to 65535.
     Number,
-    #[error("the third word is none of A, NS, CNAME, SOA, PTR, MX, TXT and AAAA")]
+    /// The third word is no type of record.
     UnknownType,
-    #[error(transparent)]
+    /// The name, or the message for it, has a fault.
     Query(QueryError),
+}
+
+impl fmt::Display for LineError {
+    ghost use Rattle.std.specs.Prelude.{Some};
+    ghost use Rattle.example_dns_query.specs.Answer.{line_error_text};
+
+    ghost output = { λ error. Some (line_error_text error) };
+
+    fn fmt<W: fmt::Write>(&self, f: &mut fmt::Formatter<W>) -> fmt::Result {
+        match self {
+            LineError::Words => {
+                f.write_str("a line is a number, a name and a type, with one blank between two")
+            }
+            LineError::Number => f.write_str("the first word is no number from 0 to 65535"),
+            LineError::UnknownType => f.write_str(
+                "the third word is none of A, NS, CNAME, SOA, PTR, MX, TXT and AAAA",
+            ),
+            LineError::Query(error) => error.fmt(f),
+        }
+    }
 }
 
 /// What a line asks for.
@@ -120,7 +139,8 @@ pub fn answer_line(slice: &mut [u8], line: &[u8]) -> Result<usize, LineError>
         → length (query id (labels_of name) record_type) ≤ length slice.old → IsOk result }
 
     // When each error comes: of the query that the line asks for, and of the line itself.
-    ensures query { (fault : AnyError) → result ≡ Err (Query fault) → AsksFaulty line.now (length slice.old) fault }
+    ensures query { (fault : AnyError)
+        → (result ≡ Err (Query fault)) ↔ AsksFaulty line.now (length slice.old) fault }
     ensures words { (result ≡ Err Words) ↔ (length (words line.now) ≢ 3) }
     ensures number { (result ≡ Err Number)
         ↔ ((length (words line.now) ≡ 3) × (IsId (slice_index_or (words line.now) 0 []) → ⊥)) }

@@ -1,27 +1,33 @@
 //! Writes the DNS query that each line of standard input asks for, in hexadecimal.
 #![tactic(auto)]
 
+mod answer;
+mod answers;
+mod failure;
 pub mod line;
 pub mod parts;
 pub mod query;
 pub mod record_type;
 
-use line::answer_line;
-use std::io::{self, BufRead, BufReader};
+use answers::answer_lines;
+use failure::Failure;
+use std::io::{BufReader, BufWriter};
+use std::process::ExitCode;
 
-fn main(rt: HostRuntime) -> io::Result<()> {
-    let reader = BufReader::new(rt.alloc(), rt.reader())?;
-    for line in reader.split(rt.alloc(), b'\n') {
-        let mut slice = [0; 512];
-        match answer_line(&mut slice, line?.as_slice()) {
-            Ok(len) => {
-                for byte in slice.iter().take(len) {
-                    print!(rt; "{byte:02x}")?;
-                }
-                println!(rt; "")?;
-            }
-            Err(error) => println!(rt; "error: {error}")?,
-        }
+fn main(rt: HostRuntime) -> ExitCode {
+    let Err(failure) = answer_input(&rt) else {
+        return ExitCode::SUCCESS;
+    };
+    if !failure.is_closed_pipe() {
+        // Where standard error fails too, there is nowhere left to say so.
+        let _ = eprintln!(rt; "example_dns_query: {failure}");
     }
-    Ok(())
+    ExitCode::FAILURE
+}
+
+// Answers standard input on standard output.
+fn answer_input(rt: &HostRuntime) -> Result<(), Failure> {
+    let mut reader = BufReader::new(rt.alloc(), rt.stdin()).map_err(Failure::Input)?;
+    let mut writer = BufWriter::new(rt.alloc(), rt.stdout()).map_err(Failure::Output)?;
+    answer_lines(rt.alloc(), &mut reader, &mut writer)
 }

@@ -10,7 +10,7 @@ ghost use Rattle.example_dns_query.specs.declared.query.QueryError.TheVariants.{
 
 use crate::parts::first_part;
 use crate::record_type::{RecordType, code};
-use thiserror::Error;
+use std::fmt;
 use tinyvec_slice::SliceVec;
 
 // Recursion is desired. There is one question, and no record in the three other sections.
@@ -23,18 +23,37 @@ const HEADER_LEN: usize = 12;
 const TYPE_AND_CLASS_LEN: usize = 4;
 
 /// Why there is no query.
-#[derive(Clone, Copy, PartialEq, Debug, Error)]
+#[derive(Clone, Copy, PartialEq, Debug)]
 pub enum QueryError {
-    #[error("the name has a byte that is no printed ASCII character")]
+    /// The name has a byte that is no printed ASCII character.
     BadByte,
-    #[error("the name has a label with no byte")]
+    /// The name has a label with no byte.
     EmptyLabel,
-    #[error("the name has a label with more than 63 bytes")]
+    /// The name has a label with more than 63 bytes.
     LongLabel,
-    #[error("the name has more than 255 bytes on the wire")]
+    /// The name has more than 255 bytes on the wire.
     LongName,
-    #[error("the message does not fit the slice")]
+    /// The message does not fit the slice.
     Full,
+}
+
+impl fmt::Display for QueryError {
+    ghost use Rattle.std.specs.Prelude.{Some};
+    ghost use Rattle.example_dns_query.specs.Answer.{query_error_text};
+
+    ghost output = { λ error. Some (query_error_text error) };
+
+    fn fmt<W: fmt::Write>(&self, f: &mut fmt::Formatter<W>) -> fmt::Result {
+        match self {
+            QueryError::BadByte => {
+                f.write_str("the name has a byte that is no printed ASCII character")
+            }
+            QueryError::EmptyLabel => f.write_str("the name has a label with no byte"),
+            QueryError::LongLabel => f.write_str("the name has a label with more than 63 bytes"),
+            QueryError::LongName => f.write_str("the name has more than 255 bytes on the wire"),
+            QueryError::Full => f.write_str("the message does not fit the slice"),
+        }
+    }
 }
 
 // Appends the bytes.

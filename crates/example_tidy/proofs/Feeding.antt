@@ -4,7 +4,7 @@ use Rattle.std.proofs.lemmas.List.{map-append}
 use Rattle.std.proofs.lemmas.List.Elements.{All-nil}
 use Rattle.tinyvec_io.specs.Lines.{IsLine, ended, Splits}
 use Rattle.tinyvec_io.proofs.LineLemmas.{ended_more, Splits-line, Splits-byte, Splits-ended}
-use Rattle.example_tidy.specs.Tidy.{Tidied, TidiedFront, TidiedUpTo, Advances, Ends, EndsSome, IsBegun, normal_line}
+use Rattle.example_tidy.specs.Tidy.{Tidied, TidiedFront, TidiedUpTo, Advances, Ends, EndsSome, IsBegun, Refuses, normal_line}
 use Rattle.example_tidy.proofs.Lines.{tidied_whole}
 
 -- where part of a line has come nothing is said
@@ -66,10 +66,6 @@ ends_some old new bytes rest all said joined advances input output so_far =
 pub ends_text : (line empty text said : List ℕ) → empty ≡ [] → text ≡ empty ++ said → Ends line said → Ends line text
 ends_text line empty text said none grown ends = subst (Ends line) (sym (grown ∙ ap (λ front. front ++ said) none)) ends
 
--- the complete lines are the first ones
-pub front_of : (input output line : List ℕ) → TidiedUpTo input output line → TidiedFront input output
-front_of input output line so_far = record { all = so_far.all; rest = line; whole = so_far.split.whole; each = so_far.split.each; says = so_far.says }
-
 -- The end of the input: it ended behind a line feed, or has no bytes.
 pub ends_none : (line : List ℕ) → length line ≡ 0 → Ends line []
 ends_none [] none input output so_far =
@@ -85,14 +81,16 @@ ends_last (byte ∷ bytes) some input output so_far =
     (ap (λ front. front ++ said) so_far.says ∙ ap (λ back. ended (map normal_line so_far.all) ++ back) (sym (append-nil said)))
 
 -- what was fed, whether memory was refused or not
-pub ends_either : {T E : Type 0} (r : Result T E) (old new bytes empty text : List ℕ) → empty ≡ []
+pub ends_either : {T E : Type 0} (r : Result T E) (old new bytes empty text : List ℕ) (line_room room : ℕ) → empty ≡ []
     → OnOk r ((said : List ℕ) × (text ≡ empty ++ said) × Advances old bytes said new)
-    → OnErr r ((said : List ℕ) × (text ≡ empty ++ said) × EndsSome old bytes said)
+    → OnErr r ((said : List ℕ) × (text ≡ empty ++ said) × Refuses old bytes said new line_room room)
     → EndsSome old bytes text
-ends_either (Ok done) old new bytes empty text none fed refused =
+ends_either (Ok done) old new bytes empty text line_room room none fed refused =
     subst (EndsSome old bytes) (sym (fed.1 ∙ ap (λ front. front ++ fed.0) none)) (ends_some old new bytes [] bytes fed.0 (append-nil bytes) fed.2)
-ends_either (Err error) old new bytes empty text none fed refused =
-    subst (EndsSome old bytes) (sym (refused.1 ∙ ap (λ front. front ++ refused.0) none)) refused.2
+ends_either (Err error) old new bytes empty text line_room room none fed refused =
+    let at : Refuses old bytes refused.0 new line_room room = refused.2 in
+    subst (EndsSome old bytes) (sym (refused.1 ∙ ap (λ front. front ++ refused.0) none))
+    (ends_some old new at.front (at.byte ∷ at.rest) bytes refused.0 (sym at.whole) at.advances)
 
 -- a front of what ends some lines was written
 pub begun_front : (input output said missing : List ℕ) → TidiedFront input (output ++ (said ++ missing)) → IsBegun input (output ++ said)

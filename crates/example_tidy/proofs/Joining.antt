@@ -1,12 +1,9 @@
 -- Words that are said one behind another, each behind a space.
-use Rattle.std.proofs.Common.{◌≡◌, ◌≢◌, ◌∙◌, ℕ, ◌+◌, ◌<◌, ◌≤◌, false, cond, List, [], ◌∷◌, ◌++◌, inl, inr, arith, ap, refl, sym, map, drop, get_or, append_assoc, append-nil, length, length-append}
+use Rattle.std.proofs.Common.{◌≡◌, ◌≢◌, ◌∙◌, ℕ, ◌+◌, ◌≤◌, false, cond, List, [], ◌∷◌, ◌++◌, inl, inr, arith, ap, sym, append_assoc, append-nil, length, length-append}
 use Rattle.std.specs.List.{dedup, flat_map, join_with_byte}
 use Rattle.std.specs.Str.{bytes_eq}
 use Rattle.std.proofs.lemmas.Bool.{cases_Bool}
-use Rattle.std.proofs.lemmas.List.{drop_more}
 use Rattle.std.proofs.lemmas.Slice.Eq.{bytes_eq-Decides}
-use Rattle.example_tidy.specs.declared.words.Word.{Word}
-use Rattle.example_tidy.specs.Tidy.{bytes_of}
 use Rattle.example_tidy.proofs.Repeats.{kept_after, dedup_from_kept}
 
 -- what is said of these words behind a word
@@ -37,41 +34,44 @@ said_new last word words other =
     ap (λ b. flat_map (λ next. 32 ∷ next) (cond b (kept_after bytes_eq last words) (word ∷ kept_after bytes_eq word words)))
     (differs word last other)
 
-next_word : (line word : List ℕ) (rest : List Word) (i : ℕ) (d : Word) → i < length rest → word ≡ bytes_of line (get_or rest i d)
-    → map (bytes_of line) (drop i rest) ≡ word ∷ map (bytes_of line) (drop (i + 1) rest)
-next_word line word rest i d inside is =
-    ap (map (bytes_of line)) (drop_more rest i d inside)
-    ∙ ap (λ first. first ∷ map (bytes_of line) (drop (i + 1) rest)) (sym is)
-
 -- a word that repeats the one before it is passed over
-pub passed : (line text last word all : List ℕ) (rest : List Word) (i : ℕ) (d : Word) → i < length rest → word ≡ bytes_of line (get_or rest i d)
-    → word ≡ last
-    → text ++ said last (map (bytes_of line) (drop i rest)) ≡ all
-    → text ++ said last (map (bytes_of line) (drop (i + 1) rest)) ≡ all
-passed line text last word all rest i d inside is same so_far =
-    let left = map (bytes_of line) (drop (i + 1) rest) in
-    ap (λ back. text ++ back) (sym (ap (said last) (next_word line word rest i d inside is) ∙ said_same last word left same)) ∙ so_far
+pub passed : (front last word all : List ℕ) (left more : List (List ℕ)) → left ≡ word ∷ more → word ≡ last
+    → front ++ said last left ≡ all → front ++ said last more ≡ all
+passed front last word all left more next same so_far =
+    ap (λ back. front ++ back) (sym (ap (said last) next ∙ said_same last word more same)) ∙ so_far
 
 -- another word is said
-pub spoken : (line text spaced more last word all : List ℕ) (rest : List Word) (i : ℕ) (d : Word) → i < length rest → word ≡ bytes_of line (get_or rest i d)
-    → word ≢ last → spaced ≡ text ++ 32 ∷ [] → more ≡ spaced ++ word
-    → text ++ said last (map (bytes_of line) (drop i rest)) ≡ all
-    → more ++ said word (map (bytes_of line) (drop (i + 1) rest)) ≡ all
-spoken line text spaced more last word all rest i d inside is other space grown so_far =
-    let left = map (bytes_of line) (drop (i + 1) rest) in
-    ap (λ front. front ++ said word left) (grown ∙ ap (λ front. front ++ word) space ∙ append_assoc text (32 ∷ []) word)
-    ∙ append_assoc text (32 ∷ word) (said word left)
-    ∙ ap (λ back. text ++ back) (sym (ap (said last) (next_word line word rest i d inside is) ∙ said_new last word left other)) ∙ so_far
+pub spoken : (front last word all : List ℕ) (left more : List (List ℕ)) → left ≡ word ∷ more → word ≢ last
+    → front ++ said last left ≡ all → (front ++ 32 ∷ word) ++ said word more ≡ all
+spoken front last word all left more next other so_far =
+    append_assoc front (32 ∷ word) (said word more)
+    ∙ ap (λ back. front ++ back) (sym (ap (said last) next ∙ said_new last word more other)) ∙ so_far
+
+-- a space and a word behind a front
+pub spaced : (old front word text more grown : List ℕ) → text ≡ old ++ front → more ≡ text ++ 32 ∷ [] → grown ≡ more ++ word
+    → grown ≡ old ++ (front ++ 32 ∷ word)
+spaced old front word text more grown is space long =
+    long ∙ ap (λ b. b ++ word) (space ∙ ap (λ b. b ++ 32 ∷ []) is ∙ append_assoc old front (32 ∷ []))
+    ∙ append_assoc old (front ++ 32 ∷ []) word ∙ ap (λ b. old ++ b) (append_assoc front (32 ∷ []) word)
+
+-- where no word is left, all was said
+pub said_end : (old front last text grown all : List ℕ) (left : List (List ℕ)) → left ≡ [] → front ++ said last left ≡ all
+    → text ≡ old ++ front → grown ≡ text ++ 10 ∷ [] → grown ≡ old ++ (all ++ 10 ∷ [])
+said_end old front last text grown all left none so_far is ends =
+    let whole : front ≡ all = sym (append-nil front) ∙ ap (λ back. front ++ back) (sym (ap (said last) none)) ∙ so_far in
+    ends ∙ ap (λ b. b ++ 10 ∷ []) (is ∙ ap (λ b. old ++ b) whole) ∙ append_assoc old all (10 ∷ [])
 
 -- the first word has its place in what is said in all
 pub first_fits : (word : List ℕ) (words : List (List ℕ)) → length word ≤ length (join_with_byte 32 (dedup bytes_eq (word ∷ words)))
 first_fits word words = omega (arith, ap length (said_all word words), length-append word (said word words))
 
 -- and so has another word, with a space
-pub next_fits : (line text last word all : List ℕ) (rest : List Word) (i : ℕ) (d : Word) → i < length rest → word ≡ bytes_of line (get_or rest i d)
-    → word ≢ last → text ++ said last (map (bytes_of line) (drop i rest)) ≡ all → length text + 1 + length word ≤ length all
-next_fits line text last word all rest i d inside is other so_far =
-    let spaced = text ++ 32 ∷ [] in
-    let left = said word (map (bytes_of line) (drop (i + 1) rest)) in
-    let whole : (spaced ++ word) ++ left ≡ all = spoken line text spaced (spaced ++ word) last word all rest i d inside is other refl refl so_far in
-    omega (arith, ap length whole, length-append (spaced ++ word) left, length-append spaced word, length-append text (32 ∷ []))
+pub next_fits : (front last word all : List ℕ) (left more : List (List ℕ)) → left ≡ word ∷ more → word ≢ last
+    → front ++ said last left ≡ all → length front + 1 + length word ≤ length all
+next_fits front last word all left more next other so_far =
+    let whole = spoken front last word all left more next other so_far in
+    omega (arith, ap length whole, length-append (front ++ 32 ∷ word) (said word more), length-append front (32 ∷ word))
+
+-- what was said so far is a part of it
+pub said_fits : (front last all : List ℕ) (left : List (List ℕ)) → front ++ said last left ≡ all → length front ≤ length all
+said_fits front last all left so_far = omega (arith, ap length so_far, length-append front (said last left))

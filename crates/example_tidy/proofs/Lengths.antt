@@ -1,11 +1,10 @@
 -- A normal form is no longer than its line, and lower case has as many words.
-use Rattle.std.proofs.Common.{◌≡◌, ◌∙◌, ℕ, ◌+◌, ◌-◌, ◌<◌, ◌≤◌, ◌==◌, not, Bool, true, false, cond, List, [], ◌∷◌, ap, refl, map, length, arith}
+use Rattle.std.proofs.Common.{◌≡◌, ℕ, ◌+◌, ◌-◌, ◌<◌, ◌≤◌, Bool, true, false, cond, List, [], ◌∷◌, refl, map, length, arith}
 use Rattle.std.specs.List.{slice_split, onto_first, filter, dedup, dedup_from, join_with_byte}
 use Rattle.std.specs.Char.{is_ascii_whitespace, to_ascii_lowercase}
 use Rattle.std.specs.Str.{bytes_eq}
 use Rattle.std.proofs.lemmas.List.{length-append, length-map}
 use Rattle.std.proofs.lemmas.List.Splits.{length-slice_split}
-use Rattle.std.proofs.lemmas.Bool.Decides.{nat_tests}
 use Rattle.example_tidy.specs.Tidy.{has_bytes, words, normal_words, normal_line}
 
 -- the bytes of the pieces, and one more for each
@@ -61,41 +60,3 @@ length-normal_line line =
     let low = map to_ascii_lowercase line in
     let parts = slice_split is_ascii_whitespace low in
     omega (arith, length-join 32 (normal_words line), size-dedup bytes_eq (words low), size-filter has_bytes parts, size-slice_split is_ascii_whitespace low, length-map line to_ascii_lowercase)
-
-onto_first-map : (f : ℕ → ℕ) (x : ℕ) (parts : List (List ℕ)) → onto_first (f x) (map (map f) parts) ≡ map (map f) (onto_first x parts)
-onto_first-map f x [] = refl
-onto_first-map f x (part ∷ parts) = refl
-
-slice_split-map : (p : ℕ → Bool) (f : ℕ → ℕ) → ((x : ℕ) → p (f x) ≡ p x) → (xs : List ℕ) → slice_split p (map f xs) ≡ map (map f) (slice_split p xs)
-slice_split-map p f same [] = refl
-slice_split-map p f same (x ∷ xs) =
-    ap (λ b. cond b ([] ∷ slice_split p (map f xs)) (onto_first (f x) (slice_split p (map f xs)))) (same x)
-    ∙ by_test (p x) (slice_split-map p f same xs)
-  where
-    by_test : (b : Bool) → slice_split p (map f xs) ≡ map (map f) (slice_split p xs)
-        → cond b ([] ∷ slice_split p (map f xs)) (onto_first (f x) (slice_split p (map f xs)))
-        ≡ map (map f) (cond b ([] ∷ slice_split p xs) (onto_first x (slice_split p xs)))
-    by_test true rest = ap (λ parts. [] ∷ parts) rest
-    by_test false rest = ap (onto_first (f x)) rest ∙ onto_first-map f x (slice_split p xs)
-
-length-filter-map : (f : ℕ → ℕ) (parts : List (List ℕ)) → length (filter has_bytes (map (map f) parts)) ≡ length (filter has_bytes parts)
-length-filter-map f [] = refl
-length-filter-map f (part ∷ parts) =
-    let low = filter has_bytes (map (map f) parts) in
-    ap (λ n. length (cond (not (n == 0)) (map f part ∷ low) low)) (length-map part f)
-    ∙ by_test (has_bytes part) (length-filter-map f parts)
-  where
-    by_test : (b : Bool) → length (filter has_bytes (map (map f) parts)) ≡ length (filter has_bytes parts)
-        → length (cond b (map f part ∷ filter has_bytes (map (map f) parts)) (filter has_bytes (map (map f) parts)))
-        ≡ length (cond b (part ∷ filter has_bytes parts) (filter has_bytes parts))
-    by_test true rest = omega (arith, rest)
-    by_test false rest = rest
-
-blank_low : (byte : ℕ) → is_ascii_whitespace (to_ascii_lowercase byte) ≡ is_ascii_whitespace byte
-blank_low byte = grind (arith, nat_tests)
-
--- lower case has as many words
-pub length-words_low : (line : List ℕ) → length (words (map to_ascii_lowercase line)) ≡ length (words line)
-length-words_low line =
-    ap (λ parts. length (filter has_bytes parts)) (slice_split-map is_ascii_whitespace to_ascii_lowercase blank_low line)
-    ∙ length-filter-map to_ascii_lowercase (slice_split is_ascii_whitespace line)

@@ -3,6 +3,7 @@ pub mod Joining
 pub mod Lengths
 pub mod Lines
 pub mod NormalForms
+pub mod Refusals
 pub mod Repeats
 pub mod Saying
 pub mod ShortLines

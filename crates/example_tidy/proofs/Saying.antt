@@ -1,8 +1,7 @@
 -- How much is said for bytes of a text.
-use Rattle.std.proofs.Common.{◌≡◌, ◌∙◌, ℕ, ◌+◌, ◌<◌, ◌≤◌, ◌==◌, Bool, true, false, List, [], ◌∷◌, ◌++◌, ap, refl, sym, subst, map, length, take, drop, get_or, arith, length-append, take-append-drop}
+use Rattle.std.proofs.Common.{◌≡◌, ℕ, ◌+◌, ◌<◌, ◌≤◌, ◌==◌, Bool, true, false, List, [], ◌∷◌, ◌++◌, ap, refl, sym, subst, map, length, arith, length-append}
 use Rattle.std.specs.Str.Lines.{lines}
 use Rattle.std.proofs.lemmas.Bool.{eqb-true, eqb-false}
-use Rattle.std.proofs.lemmas.List.{drop_more}
 use Rattle.tinyvec_io.specs.Lines.{IsLine, ended}
 use Rattle.example_tidy.specs.Tidy.{Advances, SaysAtMost, TidiedUpTo, normal_line}
 use Rattle.example_tidy.proofs.Feeding.{begun, nothing_yet, advances_none, advances_then, advances_byte, advances_line, ends_none, ends_last}
@@ -26,17 +25,14 @@ says line (byte ∷ bytes) = by_test (byte == 10) refl (says [] bytes) (says (li
         (said, new, advances_then line (line ++ byte ∷ []) new (byte ∷ []) bytes [] said (advances_byte line (line ++ byte ∷ []) byte (eqb-false byte 10 is) refl) longer)
 
 -- a line that is ended next has its place in what is said
-pub says_next : (old line bytes said : List ℕ) (i room : ℕ) → i < length bytes → get_or bytes i 0 ≡ 10 → Advances old (take i bytes) said line
+pub says_next : (old line bytes said front rest : List ℕ) (room : ℕ) → bytes ≡ front ++ 10 ∷ rest → Advances old front said line
     → SaysAtMost old bytes room → length said + length (normal_line line) < room
-says_next old line bytes said i room inside feed so_far most =
-    let rest = drop (i + 1) bytes in
+says_next old line bytes said front rest room whole so_far most =
     let text = normal_line line ++ 10 ∷ [] in
     let (more, new, left) = says [] rest in
     let ends : Advances line (10 ∷ rest) (text ++ more) new = advances_then line [] new (10 ∷ []) rest text more (advances_line line text [] refl refl) left in
-    let whole : take i bytes ++ 10 ∷ rest ≡ bytes =
-    ap (λ byte. take i bytes ++ byte ∷ rest) (sym feed) ∙ ap (λ back. take i bytes ++ back) (sym (drop_more bytes i 0 inside)) ∙ take-append-drop i bytes in
     let bound = most (said ++ (text ++ more)) new
-    (subst (λ all. Advances old all (said ++ (text ++ more)) new) whole (advances_then old line new (take i bytes) (10 ∷ rest) said (text ++ more) so_far ends)) in
+    (subst (λ all. Advances old all (said ++ (text ++ more)) new) (sym whole) (advances_then old line new front (10 ∷ rest) said (text ++ more) so_far ends)) in
     omega (arith, bound, length-append said (text ++ more), length-append text more, length-append (normal_line line) (10 ∷ []))
 
 length-ended : (all : List (List ℕ)) → length (ended (map normal_line all)) ≤ length (ended all)

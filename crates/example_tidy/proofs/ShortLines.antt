@@ -35,7 +35,7 @@ length-first p (x ∷ xs) ys plain =
 pub short_front : (line rest : List ℕ) → IsLine line → AllShort (line ++ rest) → length line ≤ 80
 short_front line rest whole each =
     let cut = λ (byte : ℕ). byte == 10 in
-    omega (arith, length-first cut line rest (uncut line whole), (each 0 [] (omega (arith, length-slice_split cut (line ++ rest)))).0)
+    omega (arith, length-first cut line rest (uncut line whole), each 0 [] (omega (arith, length-slice_split cut (line ++ rest))))
 
 -- a byte has room behind what has come of its line, or ends a short one
 pub short_next : (line rest : List ℕ) (byte : ℕ) → IsLine line → AllShort (line ++ byte ∷ rest) → (byte ≢ 10 → length line < 80) × (byte ≡ 10 → IsShort line)
@@ -48,7 +48,8 @@ short_next line rest byte whole each = (
   λ feed. (short_at line rest whole (subst (λ b. AllShort (line ++ b ∷ rest)) feed each)).0,
 )
 
-short_left : (all : List (List ℕ)) (rest : List ℕ) → All IsLine all → AllShort (ended all ++ rest) → AllShort rest
+-- what comes behind complete lines
+pub short_left : (all : List (List ℕ)) (rest : List ℕ) → All IsLine all → AllShort (ended all ++ rest) → AllShort rest
 short_left [] rest whole each = each
 short_left (line ∷ all) rest whole each =
     let text = append_assoc (line ++ 10 ∷ []) (ended all) rest ∙ append_assoc line (10 ∷ []) (ended all ++ rest) in

@@ -1,12 +1,10 @@
 -- A beginning of a text whose lines are short has short lines, of which the last may have come in part.
-use Rattle.std.proofs.Common.{◌≡◌, ◌∙◌, ℕ, ◌<◌, ◌≤◌, ◌==◌, Bool, true, false, List, [], ◌∷◌, ◌++◌, All, ap, refl, sym, subst, length, arith, length-append, Option, None, Some}
-use Rattle.std.specs.List.{slice_split, onto_first, filter}
-use Rattle.std.specs.Char.{is_ascii_whitespace}
+use Rattle.std.proofs.Common.{◌≡◌, ◌∙◌, ℕ, ◌<◌, ◌==◌, Bool, true, false, List, [], ◌∷◌, ◌++◌, All, ap, refl, sym, subst, length, arith, length-append, Option, None, Some}
+use Rattle.std.specs.List.{slice_split, onto_first}
 use Rattle.std.specs.Io.KnownBytes.{Consumes}
-use Rattle.std.proofs.lemmas.List.Elements.{All-nil, All-cons, All-head, All-tail, All-push, filter-append}
+use Rattle.std.proofs.lemmas.List.Elements.{All-nil, All-cons, All-head, All-tail, All-push}
 use Rattle.std.proofs.lemmas.List.Splits.{slice_split-cons_yes, slice_split-cons_no, length-slice_split}
-use Rattle.example_tidy.specs.Tidy.{AllShort, IsShort, has_bytes, words}
-use Rattle.example_tidy.proofs.WordLemmas.{one_part}
+use Rattle.example_tidy.specs.Tidy.{AllShort, IsShort}
 
 -- a beginning is cut as the whole list is, but for its last part, which is a beginning
 record Starts (p : ℕ → Bool) (xs ys : List ℕ) : Type 0 where
@@ -55,27 +53,6 @@ starts p (x ∷ xs) ys = by_test (p x) refl (starts p xs ys)
     }
     by_test false is s = onto s.parts s.last s.more s.rest is s.front s.whole
 
-one_word : (last more : List ℕ) (rest : List (List ℕ)) → length (filter has_bytes (last ∷ [])) ≤ length (filter has_bytes ((last ++ more) ∷ rest))
-one_word [] more rest = omega arith
-one_word (byte ∷ bytes) more rest =
-    let line = byte ∷ bytes in
-    omega (arith, ap length (one_part line [] (omega arith)), ap length (one_part (line ++ more) rest (omega (arith, length-append line more))))
-
-fewer_words : (xs ys : List ℕ) → length (words xs) ≤ length (words (xs ++ ys))
-fewer_words xs ys =
-    let s = starts is_ascii_whitespace xs ys in
-    let front = ap (filter has_bytes) s.front ∙ filter-append has_bytes s.parts (s.last ∷ []) in
-    let whole = ap (filter has_bytes) s.whole ∙ filter-append has_bytes s.parts ((s.last ++ s.more) ∷ s.rest) in
-    let before = filter has_bytes s.parts in
-    omega (
-      arith,
-      ap length front,
-      ap length whole,
-      one_word s.last s.more s.rest,
-      length-append before (filter has_bytes (s.last ∷ [])),
-      length-append before (filter has_bytes ((s.last ++ s.more) ∷ s.rest)),
-    )
-
 all_parts : {X : Type 0} (P : X → Type 0) (xs ys : List X) → All P (xs ++ ys) → All P xs × All P ys
 all_parts P [] ys all = (All-nil P, all)
 all_parts P (x ∷ xs) ys all =
@@ -87,7 +64,7 @@ short_start xs ys each =
     let s = starts (λ byte. byte == 10) xs ys in
     let parts = all_parts IsShort s.parts ((s.last ++ s.more) ∷ s.rest) (subst (All IsShort) s.whole each) in
     let last = All-head IsShort (s.last ++ s.more) s.rest parts.1 in
-    let short : IsShort s.last = (omega (arith, last.0, length-append s.last s.more), omega (arith, last.1, fewer_words s.last s.more)) in
+    let short : IsShort s.last = omega (arith, last, length-append s.last s.more) in
     subst (All IsShort) (sym s.front) (All-push IsShort s.parts s.last parts.0 short)
 
 -- what was read of a known text is a beginning of it

@@ -1,19 +1,10 @@
 -- The normal form of a line and of a text.
-use Rattle.std.specs.Prelude.{◌≡◌, ◌⊎◌, ℕ, ◌≤◌, ◌==◌, Bool, not, List, ◌++◌, map, length, slice_range, All}
+use Rattle.std.specs.Prelude.{◌≡◌, ◌≢◌, ◌⊎◌, ℕ, ◌+◌, ◌<◌, ◌≤◌, ◌==◌, Bool, not, List, ◌∷◌, ◌++◌, map, length, All}
 use Rattle.std.specs.List.{slice_split, filter, dedup, join_with_byte}
 use Rattle.std.specs.Char.{is_ascii_whitespace, to_ascii_lowercase}
 use Rattle.std.specs.Str.{bytes_eq}
 use Rattle.std.specs.Str.Lines.{lines}
 use Rattle.tinyvec_io.specs.Lines.{IsLine, ended, Splits}
-use Rattle.example_tidy.specs.declared.words.Word.{Word}
-
--- the bytes of a word of this line
-abbrev pub bytes_of : List ℕ → Word → List ℕ
-bytes_of line word = slice_range line word.start word.end
-
--- the word lies in this line
-abbrev pub IsIn : List ℕ → Word → Type 0
-IsIn line word = (word.start ≤ word.end) × (word.end ≤ length line)
 
 -- some byte stands in it
 abbrev pub has_bytes : List ℕ → Bool
@@ -31,9 +22,9 @@ normal_words line = dedup bytes_eq (words (map to_ascii_lowercase line))
 unfoldable pub normal_line : List ℕ → List ℕ
 normal_line line = join_with_byte 32 (normal_words line)
 
--- A line that needs no memory: its bytes fit the array of `LineText`, and its words that of `Words`.
+-- A line that needs no memory: its bytes fit the array of `LineText`.
 abbrev pub IsShort : List ℕ → Type 0
-IsShort line = (length line ≤ 80) × (length (words line) ≤ 8)
+IsShort line = length line ≤ 80
 
 -- each part of the text between its line feeds is short
 abbrev pub AllShort : List ℕ → Type 0
@@ -53,6 +44,17 @@ pub record TidiedFront (input output : List ℕ) : Type 0 where
   pub each : All IsLine all
   pub says : output ≡ ended (map normal_line all)
 
+-- The output is the normal form of exactly the lines of the input before one with more than 80 bytes.
+pub record TidiedBeforeLong (input output : List ℕ) : Type 0 where
+  pub all : List (List ℕ)
+  pub long : List ℕ
+  pub rest : List ℕ
+  pub whole : input ≡ ended all ++ (long ++ rest)
+  pub each : All IsLine all
+  pub in_line : IsLine long
+  pub is_long : 80 < length long
+  pub says : output ≡ ended (map normal_line all)
+
 -- The output is the normal form of the complete lines of the input, and this has come of the next line.
 pub record TidiedUpTo (input output line : List ℕ) : Type 0 where
   pub all : List (List ℕ)
@@ -67,9 +69,23 @@ Advances old bytes said new = (input output : List ℕ) → TidiedUpTo input out
 abbrev pub SaysAtMost : List ℕ → List ℕ → ℕ → Type 0
 SaysAtMost line bytes room = (said new : List ℕ) → Advances line bytes said new → length said ≤ room
 
+-- Memory is refused at a byte: what was said before it, and the line that it belongs to, of which `line` has come. With room
+-- for so many bytes of the line and of what is said, that line is not short, or has no place in what is said.
+pub record Refuses (old bytes said line : List ℕ) (line_room room : ℕ) : Type 0 where
+  pub front : List ℕ
+  pub byte : ℕ
+  pub rest : List ℕ
+  pub whole : bytes ≡ front ++ byte ∷ rest
+  pub advances : Advances old front said line
+  pub full : (byte ≢ 10 → length line < line_room) → (byte ≡ 10 → IsShort line × (length said + length (normal_line line) < room)) → ⊥
+
 -- what is said is the normal form of the lines that some of these bytes end
 abbrev pub EndsSome : List ℕ → List ℕ → List ℕ → Type 0
 EndsSome old bytes said = (input output : List ℕ) → TidiedUpTo input output old → TidiedFront (input ++ bytes) (output ++ said)
+
+-- what is said is the normal form of the lines before one that needs memory
+abbrev pub EndsBeforeLong : List ℕ → List ℕ → List ℕ → Type 0
+EndsBeforeLong old bytes said = (input output : List ℕ) → TidiedUpTo input output old → TidiedBeforeLong (input ++ bytes) (output ++ said)
 
 -- what is said at the end of the input makes the output its normal form
 abbrev pub Ends : List ℕ → List ℕ → Type 0

@@ -1,27 +1,44 @@
 //! The normal form of a line.
-ghost use Rattle.std.specs.Prelude.{◌≡◌, ◌≤◌, map, length, All, IfOk, IsOk};
+ghost use Rattle.std.specs.Prelude.{◌≡◌, ◌+◌, ◌<◌, ◌≤◌, ◌++◌, ◌∷◌, [], List, ℕ, map, length, IfOk, IsOk, OnOk, OnErr};
 ghost use Rattle.std.specs.Char.{to_ascii_lowercase};
 ghost use Rattle.std.specs.List.{dedup, join_with_byte};
 ghost use Rattle.std.specs.Str.{bytes_eq};
-ghost use Rattle.tinyvec.specs.Tiny.{tiny_items};
-ghost use Rattle.example_tidy.specs.Tidy.{bytes_of, normal_line, IsIn, IsShort};
+ghost use Rattle.tinyvec.specs.Tiny.{tiny_items, tiny_len, tiny_capacity};
+ghost use Rattle.example_tidy.specs.Tidy.{IsShort, normal_line, words};
 
-use crate::words::{Word, find_words};
+use crate::words::next_word;
 use std::alloc::{AllocError, Global};
 use tinyvec::TinyVec;
 
 /// The bytes of a line. Up to 80 of them lie in the value, and a longer line lies on the heap.
 pub type LineText = TinyVec<[u8; 80]>;
 
-/// The normal form of a line. The one error is that memory was refused.
+/// Lines that are to be written. Up to 4096 bytes of them lie in the value.
+pub type Output = TinyVec<[u8; 4096]>;
+
+/// Appends the normal form of a line and a line feed. Where memory was refused, nothing was appended.
 #[tactic(auto, unfolding(crate::specs::Tidy::normal_line))]
-pub fn tidy_line(alloc: Global, line: &[u8]) -> Result<LineText, AllocError>
-    ensures normal { IfOk result (λ text. tiny_items text ≡ normal_line line.now) }
-    ensures succeeds { IsShort line.now → IsOk result }
+pub fn end_line(alloc: Global, line: &[u8], output: &mut Output) -> Result<(), AllocError>
+    ensures ok { OnOk result (tiny_items output.new ≡ tiny_items output.old ++ (normal_line line.now ++ 10 ∷ [])) }
+    ensures refused { OnErr result (tiny_items output.new ≡ tiny_items output.old) }
+    ensures room { tiny_capacity 4096 output.old ≤ tiny_capacity 4096 output.new }
+    ensures succeeds { IsShort line.now
+        → tiny_len output.old + length (normal_line line.now) < tiny_capacity 4096 output.old → IsOk result }
 {
+    // An empty line needs no vector.
+    if line.is_empty() {
+        output.push(b'\n')?;
+        return Ok(());
+    }
     let low = lower(alloc, line)?;
-    let found = find_words(alloc, low.as_slice())?;
-    join_words(alloc, low.as_slice(), found.as_slice())
+    let len = output.len();
+    match push_words(low.as_slice(), output) {
+        Ok(()) => Ok(()),
+        Err(refused) => {
+            output.truncate(len);
+            Err(refused)
+        }
+    }
 }
 
 // The line in lower case.
@@ -36,26 +53,30 @@ fn lower(alloc: Global, line: &[u8]) -> Result<LineText, AllocError>
     Ok(low)
 }
 
-// The words with one space between each two, without those that repeat the one before.
-fn join_words(alloc: Global, line: &[u8], found: &[Word]) -> Result<LineText, AllocError>
-    requires { All (IsIn line.now) found.now }
-    ensures joined { IfOk result (λ text. tiny_items text
-        ≡ join_with_byte 32 (dedup bytes_eq (map (bytes_of line.now) found.now))) }
-    ensures succeeds { length (join_with_byte 32 (dedup bytes_eq (map (bytes_of line.now) found.now))) ≤ 80 → IsOk result }
+// Appends the words with one space between each two, without those that repeat the one before, and a line feed.
+fn push_words(line: &[u8], output: &mut Output) -> Result<(), AllocError>
+    ensures ok { OnOk result (tiny_items output.new
+        ≡ tiny_items output.old ++ (join_with_byte 32 (dedup bytes_eq (words line.now)) ++ 10 ∷ [])) }
+    ensures refused { OnErr result ((front : List ℕ) × (tiny_items output.new ≡ tiny_items output.old ++ front)) }
+    ensures room { tiny_capacity 4096 output.old ≤ tiny_capacity 4096 output.new }
+    ensures succeeds { tiny_len output.old + length (join_with_byte 32 (dedup bytes_eq (words line.now)))
+        < tiny_capacity 4096 output.old → IsOk result }
 {
-    let mut text = TinyVec::new(alloc);
-    let Some((first, rest)) = found.split_first() else {
-        return Ok(text);
+    let Some((first, rest)) = next_word(line) else {
+        output.push(b'\n')?;
+        return Ok(());
     };
-    let mut last = first.of(line);
-    text.extend_from_slice(last)?;
-    for word in rest {
-        let bytes = word.of(line);
-        if bytes != last {
-            text.push(b' ')?;
-            text.extend_from_slice(bytes)?;
-            last = bytes;
+    output.extend_from_slice(first)?;
+    let mut last = first;
+    let mut left = rest;
+    while let Some((word, more)) = next_word(left) {
+        if word != last {
+            output.push(b' ')?;
+            output.extend_from_slice(word)?;
+            last = word;
         }
+        left = more;
     }
-    Ok(text)
+    output.push(b'\n')?;
+    Ok(())
 }

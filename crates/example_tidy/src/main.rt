@@ -13,8 +13,12 @@ use tinyvec_io::Counted;
 fn main(rt: HostRuntime) -> ExitCode {
     let mut reader = Counted::new(rt.stdin());
     let mut writer = Counted::new(rt.stdout());
-    match tidy(rt.alloc(), &mut reader, &mut writer) {
-        Ok(()) => ExitCode::SUCCESS,
-        Err(_) => ExitCode::FAILURE,
+    let Err(error) = tidy(rt.alloc(), &mut reader, &mut writer) else {
+        return ExitCode::SUCCESS;
+    };
+    if !error.is_closed_pipe() {
+        // Where standard error fails too, there is nowhere left to say so.
+        let _ = eprintln!(rt; "example_tidy: {error}");
     }
+    ExitCode::FAILURE
 }

@@ -4,12 +4,13 @@ ghost use Rattle.std.specs.Io.KnownBytes.{Appends, Consumes, IsAtEnd, Keeps};
 ghost use Rattle.tinyvec.specs.Tiny.{tiny_items, tiny_capacity};
 ghost use Rattle.tinyvec_io.specs.Counted.{Reported};
 ghost use Rattle.tinyvec_io.specs.Lines.{IsLine};
-ghost use Rattle.example_tidy.specs.Tidy.{Advances, AllShort, Ends, EndsSome, IsBegun, IsShort, Tidied, TidiedFront, TidiedUpTo};
+ghost use Rattle.std.specs.declared.io.Error.{Error as IoError};
+ghost use Rattle.example_tidy.specs.Tidy.{Advances, AllShort, Ends, EndsBeforeLong, EndsSome, IsBegun, IsShort, Tidied, TidiedBeforeLong, TidiedUpTo};
 
 use crate::line::LineText;
 use crate::text::{end_text, feed};
 use std::alloc::Global;
-use std::io::{Read, Write};
+use std::io::{self, ErrorKind, Read, Write};
 use thiserror::Error;
 use tinyvec::TinyVec;
 use tinyvec_io::Counted;
@@ -18,20 +19,30 @@ use tinyvec_io::Counted;
 const CHUNK: usize = 4016;
 
 /// Why a text was not read or written to its end.
-#[derive(PartialEq, Debug, Error, Drop)]
+#[derive(Debug, Error, Drop)]
 pub enum TidyError {
     /// The reader reported a fault.
-    #[error("cannot read input")]
-    Read,
+    #[error("cannot read input: {0}")]
+    Read(io::Error),
     /// The writer reported a fault.
-    #[error("cannot write output")]
-    Write,
+    #[error("cannot write output: {0}")]
+    Write(io::Error),
     /// Memory was refused, for a line that does not fit its place in the program.
     #[error("out of memory")]
     Memory,
     /// `u64::MAX` pieces were read, and the input goes on.
-    #[error("input too long")]
+    #[error("cannot read input: too long")]
     TooLong,
+}
+
+impl TidyError {
+    /// Nobody reads the output any more.
+    pub fn is_closed_pipe(&self) -> bool {
+        match self {
+            TidyError::Write(error) => error.kind() == ErrorKind::BrokenPipe,
+            _ => false,
+        }
+    }
 }
 
 /// Reads a text to its end, and writes its normal form. The complete lines of what has come are written before more is
@@ -49,22 +60,22 @@ pub fn tidy<R: Read, W: Write>(
         × Tidied input output × Tidied output output) }
 
     // What came before the fault was read, and the normal forms of its complete lines were written.
-    ensures read { IsErrOf result TidyError.Read → (input output line : List ℕ)
+    ensures read { (error : IoError) → IsErrOf result (TidyError.Read error) → (input output line : List ℕ)
         × Consumes (R.remaining reader.old.end) (R.remaining reader.new.end) input
         × Appends (W.contents writer.old.end) (W.contents writer.new.end) output
         × TidiedUpTo input output line }
 
-    // The normal forms of the lines before the one that memory was refused for were written. That line is not short, so
-    // this comes of no text whose lines are.
+    // The normal forms of exactly the lines before the one that memory was refused for were written. That line is not
+    // short, so this comes of no text whose lines are.
     ensures memory { IsErrOf result TidyError.Memory → (input output : List ℕ)
         × Consumes (R.remaining reader.old.end) (R.remaining reader.new.end) input
         × Appends (W.contents writer.old.end) (W.contents writer.new.end) output
-        × TidiedFront input output × (AllShort input → ⊥) }
+        × TidiedBeforeLong input output }
     ensures short { (text : List ℕ) → R.remaining reader.old.end ≡ Some text → AllShort text
         → IsErrOf result TidyError.Memory → ⊥ }
 
     // What was written is a beginning of what was to be written.
-    ensures write { IsErrOf result TidyError.Write → (input output : List ℕ)
+    ensures write { (error : IoError) → IsErrOf result (TidyError.Write error) → (input output : List ℕ)
         × Consumes (R.remaining reader.old.end) (R.remaining reader.new.end) input
         × Appends (W.contents writer.old.end) (W.contents writer.new.end) output
         × IsBegun input output }
@@ -75,14 +86,15 @@ pub fn tidy<R: Read, W: Write>(
         × (2 ^ 64 - 1 ≤ length input)
         × Appends (W.contents writer.old.end) (W.contents writer.new.end) output
         × TidiedUpTo input output line }
-    ensures read_fault { IsErrOf result TidyError.Read → Reported reader.old.faults reader.new.faults }
-    ensures write_fault { IsErrOf result TidyError.Write → Reported writer.old.faults writer.new.faults }
+    ensures read_fault { (error : IoError) → IsErrOf result (TidyError.Read error) → Reported reader.old.faults reader.new.faults }
+    ensures write_fault { (error : IoError) → IsErrOf result (TidyError.Write error) → Reported writer.old.faults writer.new.faults }
 {
     let mut line = TinyVec::new(alloc);
     let mut chunk = [0; CHUNK];
     for _piece in 0..u64::MAX {
-        let Ok(count) = reader.read_some(&mut chunk) else {
-            return Err(TidyError::Read);
+        let count = match reader.read_some(&mut chunk) {
+            Ok(count) => count,
+            Err(error) => return Err(TidyError::Read(error)),
         };
         if count == 0 {
             return finish(alloc, line.as_slice(), writer);
@@ -101,25 +113,28 @@ fn tidy_chunk<W: Write>(
 ) -> Result<(), TidyError>
     ensures ok { OnOk result ((said : List ℕ) × Appends (W.contents writer.old.end) (W.contents writer.new.end) said
         × Advances (tiny_items line.old) bytes.now said (tiny_items line.new)) }
-    ensures memory { IsErrOf result TidyError.Memory → (said : List ℕ)
-        × Appends (W.contents writer.old.end) (W.contents writer.new.end) said
-        × EndsSome (tiny_items line.old) bytes.now said }
-    ensures long { IsErrOf result TidyError.Memory → IsLine (tiny_items line.old) → 80 ≤ tiny_capacity 80 line.old
-        → length bytes.now ≤ CHUNK → AllShort (tiny_items line.old ++ bytes.now) → ⊥ }
+    ensures memory { IsErrOf result TidyError.Memory → 80 ≤ tiny_capacity 80 line.old → length bytes.now ≤ CHUNK
+        → (said : List ℕ) × Appends (W.contents writer.old.end) (W.contents writer.new.end) said
+        × EndsBeforeLong (tiny_items line.old) bytes.now said }
     ensures line_room { tiny_capacity 80 line.old ≤ tiny_capacity 80 line.new }
-    ensures write { IsErrOf result TidyError.Write → (said missing : List ℕ)
+    ensures write { (error : IoError) → IsErrOf result (TidyError.Write error) → (said missing : List ℕ)
         × Appends (W.contents writer.old.end) (W.contents writer.new.end) said
         × EndsSome (tiny_items line.old) bytes.now (said ++ missing) }
-    ensures no_read { IsErrOf result TidyError.Read → ⊥ }
+    ensures no_read { (error : IoError) → IsErrOf result (TidyError.Read error) → ⊥ }
     ensures not_long { IsErrOf result TidyError.TooLong → ⊥ }
     ensures grows { writer.old.faults ≤ writer.new.faults }
-    ensures write_fault { IsErrOf result TidyError.Write → Reported writer.old.faults writer.new.faults }
+    ensures write_fault { (error : IoError) → IsErrOf result (TidyError.Write error) → Reported writer.old.faults writer.new.faults }
 {
     let mut output = TinyVec::new(alloc);
-    let fed = feed(alloc, line, &mut output, bytes);
-    let Ok(()) = writer.write_all(output.as_slice()) else {
-        return Err(TidyError::Write);
+    // No more is said than has come, so that a short line after a long one needs no memory.
+    let Ok(()) = output.reserve(line.len() + bytes.len()) else {
+        return Err(TidyError::Memory);
     };
+    let fed = feed(alloc, line, &mut output, bytes);
+    match writer.write_all(output.as_slice()) {
+        Ok(()) => {}
+        Err(error) => return Err(TidyError::Write(error)),
+    }
     let Ok(()) = fed else {
         return Err(TidyError::Memory);
     };
@@ -133,23 +148,24 @@ fn finish<W: Write>(alloc: Global, line: &[u8], writer: &mut Counted<W>) -> Resu
     ensures memory { IsErrOf result TidyError.Memory
         → Keeps (W.contents writer.old.end) (W.contents writer.new.end) }
     ensures long { IsErrOf result TidyError.Memory → IsShort line.now → ⊥ }
-    ensures write { IsErrOf result TidyError.Write → (said missing : List ℕ)
+    ensures write { (error : IoError) → IsErrOf result (TidyError.Write error) → (said missing : List ℕ)
         × Appends (W.contents writer.old.end) (W.contents writer.new.end) said
         × Ends line.now (said ++ missing) }
-    ensures no_read { IsErrOf result TidyError.Read → ⊥ }
+    ensures no_read { (error : IoError) → IsErrOf result (TidyError.Read error) → ⊥ }
     ensures not_long { IsErrOf result TidyError.TooLong → ⊥ }
     ensures grows { writer.old.faults ≤ writer.new.faults }
-    ensures write_fault { IsErrOf result TidyError.Write → Reported writer.old.faults writer.new.faults }
+    ensures write_fault { (error : IoError) → IsErrOf result (TidyError.Write error) → Reported writer.old.faults writer.new.faults }
 {
     let mut output = TinyVec::new(alloc);
     let Ok(()) = end_text(alloc, line, &mut output) else {
         return Err(TidyError::Memory);
     };
-    let Ok(()) = writer.write_all(output.as_slice()) else {
-        return Err(TidyError::Write);
-    };
-    let Ok(()) = writer.flush() else {
-        return Err(TidyError::Write);
-    };
-    Ok(())
+    match writer.write_all(output.as_slice()) {
+        Ok(()) => {}
+        Err(error) => return Err(TidyError::Write(error)),
+    }
+    match writer.flush() {
+        Ok(()) => Ok(()),
+        Err(error) => Err(TidyError::Write(error)),
+    }
 }

@@ -2,15 +2,12 @@
 ghost use Rattle.std.specs.Prelude.{◌≡◌, ◌≢◌, ◌+◌, ◌-◌, ◌<◌, ◌≤◌, ◌++◌, ◌∷◌, [], List, ℕ, map, length, IsOk, IfOk, OnOk, OnErr};
 ghost use Rattle.std.specs.Str.Lines.{lines};
 ghost use Rattle.tinyvec.specs.Tiny.{tiny_items, tiny_len, tiny_capacity};
-ghost use Rattle.tinyvec_io.specs.Lines.{IsLine, ended};
-ghost use Rattle.example_tidy.specs.Tidy.{Advances, AllShort, Ends, EndsSome, IsShort, SaysAtMost, Tidied, normal_line};
+ghost use Rattle.tinyvec_io.specs.Lines.{ended};
+ghost use Rattle.example_tidy.specs.Tidy.{Advances, AllShort, Ends, IsShort, Refuses, Tidied, normal_line};
 
-use crate::line::{LineText, tidy_line};
+use crate::line::{LineText, Output, end_line};
 use std::alloc::{AllocError, Global};
 use tinyvec::TinyVec;
-
-/// Lines that are to be written. Up to 4096 bytes of them lie in the value.
-pub type Output = TinyVec<[u8; 4096]>;
 
 /// The normal form of a text. The one error is that memory was refused.
 pub fn tidy_text(alloc: Global, text: &[u8]) -> Result<Output, AllocError>
@@ -25,7 +22,8 @@ pub fn tidy_text(alloc: Global, text: &[u8]) -> Result<Output, AllocError>
     Ok(output)
 }
 
-// Takes bytes of the text, and appends the normal forms of the lines that they end.
+// Takes bytes of the text, and appends the normal forms of the lines that they end: of all of them, or of those before
+// the one that memory was refused for.
 pub(crate) fn feed(
     alloc: Global,
     line: &mut LineText,
@@ -35,15 +33,10 @@ pub(crate) fn feed(
     ensures ok { OnOk result ((said : List ℕ) × (tiny_items output.new ≡ tiny_items output.old ++ said)
         × Advances (tiny_items line.old) bytes.now said (tiny_items line.new)) }
     ensures refused { OnErr result ((said : List ℕ) × (tiny_items output.new ≡ tiny_items output.old ++ said)
-        × EndsSome (tiny_items line.old) bytes.now said) }
+        × Refuses (tiny_items line.old) bytes.now said (tiny_items line.new) (tiny_capacity 80 line.old)
+        (tiny_capacity 4096 output.old - tiny_len output.old)) }
     ensures line_room { tiny_capacity 80 line.old ≤ tiny_capacity 80 line.new }
     ensures room { tiny_capacity 4096 output.old ≤ tiny_capacity 4096 output.new }
-
-    // Where the lines are short no memory is asked for.
-    ensures succeeds { IsLine (tiny_items line.old) → AllShort (tiny_items line.old ++ bytes.now)
-        → 80 ≤ tiny_capacity 80 line.old
-        → SaysAtMost (tiny_items line.old) bytes.now (tiny_capacity 4096 output.old - tiny_len output.old)
-        → IsOk result }
 {
     for byte in bytes {
         feed_byte(alloc, line, output, *byte)?;
@@ -51,7 +44,7 @@ pub(crate) fn feed(
     Ok(())
 }
 
-// Takes a byte of the text. Where memory was refused, nothing was appended.
+// Takes a byte of the text. Where memory was refused, nothing has changed.
 fn feed_byte(
     alloc: Global,
     line: &mut LineText,
@@ -61,6 +54,7 @@ fn feed_byte(
     ensures ok { OnOk result ((said : List ℕ) × (tiny_items output.new ≡ tiny_items output.old ++ said)
         × Advances (tiny_items line.old) (byte ∷ []) said (tiny_items line.new)) }
     ensures refused { OnErr result (tiny_items output.new ≡ tiny_items output.old) }
+    ensures line_kept { OnErr result (tiny_items line.new ≡ tiny_items line.old) }
     ensures line_room { tiny_capacity 80 line.old ≤ tiny_capacity 80 line.new }
     ensures room { tiny_capacity 4096 output.old ≤ tiny_capacity 4096 output.new }
     ensures succeeds { (byte ≢ 10 → tiny_len line.old < tiny_capacity 80 line.old)
@@ -73,21 +67,6 @@ fn feed_byte(
     } else {
         line.push(byte)?;
     }
-    Ok(())
-}
-
-// Appends the normal form of a line and a line feed. Where memory was refused, nothing was appended.
-fn end_line(alloc: Global, line: &[u8], output: &mut Output) -> Result<(), AllocError>
-    ensures ok { OnOk result (tiny_items output.new ≡ tiny_items output.old ++ (normal_line line.now ++ 10 ∷ [])) }
-    ensures refused { OnErr result (tiny_items output.new ≡ tiny_items output.old) }
-    ensures room { tiny_capacity 4096 output.old ≤ tiny_capacity 4096 output.new }
-    ensures succeeds { IsShort line.now
-        → tiny_len output.old + length (normal_line line.now) < tiny_capacity 4096 output.old → IsOk result }
-{
-    let text = tidy_line(alloc, line)?;
-    output.reserve(text.len() + 1)?;
-    output.extend_from_slice(text.as_slice())?;
-    output.push_reserved(b'\n');
     Ok(())
 }
 

@@ -11,32 +11,32 @@ returns-in_default-clause-long g c = λ _ short.
     let output = c.new-output in
     let room : 4096 ≤ tiny_capacity 4096 output.result = search rules in
     let never : false ≡ true = c.in_default.ensures.succeeds short
-    (λ some. omega (arith, length-normal_line c.args.line.now, short.0, ap length output.ensures.items, room)) in
+    (λ some. omega (arith, length-normal_line c.args.line.now, short, ap length output.ensures.items, room)) in
     absurd cc
 
-pub returns-in_default-write_all-clause-write : goal.returns-in_default-write_all-clause-write
-returns-in_default-write_all-clause-write g c =
+pub returns-in-Err-clause-write : goal.returns-in-Err-clause-write
+returns-in-Err-clause-write g c =
     let line = c.args.line.now in
     let said = c.in-Ok.ensures.ok in
     let whole = ends_text line _ _ said.0 c.new-output.ensures.items said.1 said.2 in
-    let front = c.in_default-write_all.ensures.err in
-    λ _. (front.0, front.1, front.3, subst (Ends line) (sym c.as_slice.ensures ∙ front.2) whole)
+    let front = c.in-Err.ensures.err in
+    λ error is. (front.0, front.1, front.3, subst (Ends line) (sym c.as_slice.ensures ∙ front.2) whole)
 
-pub returns-in_default-flush-clause-write : goal.returns-in_default-flush-clause-write
-returns-in_default-flush-clause-write g c =
+pub returns-clause-write : goal.returns-clause-write
+returns-clause-write g c =
     let line = c.args.line.now in
     let text = c.as_slice.result.now in
     let said = c.in-Ok.ensures.ok in
     let whole = ends_text line _ _ said.0 c.new-output.ensures.items said.1 said.2 in
-    λ _. (
+    λ error is. (
       text,
       [],
-      Appends-kept _ _ _ text c.in-Ok-write_all.ensures.bytes c.in_default-flush.ensures.bytes,
+      Appends-kept _ _ _ text c.in-Ok-write_all.ensures.bytes c.in-Err-flush.ensures.bytes,
       subst (Ends line) (sym c.as_slice.ensures ∙ sym (append-nil text)) whole,
     )
 
-pub returns-clause-ok : goal.returns-clause-ok
-returns-clause-ok g c =
+pub returns-in-Ok-flush-clause-ok : goal.returns-in-Ok-flush-clause-ok
+returns-in-Ok-flush-clause-ok g c =
     let line = c.args.line.now in
     let text = c.as_slice.result.now in
     let said = c.in-Ok.ensures.ok in

@@ -3,9 +3,9 @@ use Rattle.std.proofs.KnownBytes.{Appends-nil, Appends-trans, Appends-kept, Cons
 use Rattle.std.proofs.lemmas.Result.{on_ok_weaker}
 use Rattle.example_tidy.specs.Tidy.{TidiedUpTo}
 use Rattle.example_tidy.specs.declared.stream.TidyError.TheVariants.{Memory, Write}
-use Rattle.example_tidy.proofs.Feeding.{nothing_yet, front_of, begun_front, begun_whole}
+use Rattle.example_tidy.proofs.Feeding.{nothing_yet, begun_front, begun_whole}
 use Rattle.example_tidy.proofs.Lines.{tidied_again}
-use Rattle.example_tidy.proofs.ShortLines.{short_behind, short_end}
+use Rattle.example_tidy.proofs.Refusals.{before_last, long_not_short}
 use Rattle.example_tidy.proofs.Starts.{short_consumed}
 use Rattle.example_tidy.proofs.stream.tidy.Goals as goal
 
@@ -46,14 +46,13 @@ returns-then-count-eq0-clause-memory g c =
       s.1,
       all,
       Appends-kept _ _ _ s.1 s.3 (c.finish.ensures.memory is),
-      front_of s.0 s.1 _ s.4,
-      λ each. c.finish.ensures.long is (rw c.as_slice.ensures (short_end s.0 s.1 _ s.4 each)),
+      before_last s.0 s.1 c.as_slice.result.now (subst (TidiedUpTo s.0 s.1) (sym c.as_slice.ensures) s.4) (c.finish.ensures.long is),
     )
 
 pub returns-then-count-eq0-clause-short : goal.returns-then-count-eq0-clause-short
 returns-then-count-eq0-clause-short g c = λ text known each is.
     let m = returns-then-count-eq0-clause-memory g c is in
-    m.5 (short_consumed (g.R.Read.remaining c.args.reader.now.end) (g.R.Read.remaining c.read_some.new.self.end) text m.0 known m.2 each)
+    long_not_short m.0 m.1 m.4 (short_consumed (g.R.Read.remaining c.args.reader.now.end) (g.R.Read.remaining c.read_some.new.self.end) text m.0 known m.2 each)
 
 pub returns-then-count-eq0-clause-write : goal.returns-then-count-eq0-clause-write
 returns-then-count-eq0-clause-write g c =
@@ -62,7 +61,7 @@ returns-then-count-eq0-clause-write g c =
     let last = rw none at c.in-Ok.ensures.bytes in
     let all = rw append-nil at (Consumes-trans _ _ _ s.0 [] s.2 last) in
     let so_far = subst (TidiedUpTo s.0 s.1) (sym c.as_slice.ensures) s.4 in
-    λ is. let f = c.finish.ensures.write is in
+    λ error is. let f = c.finish.ensures.write error is in
     (s.0, s.1 ++ f.0, all, Appends-trans _ _ _ s.1 f.0 s.3 f.2, begun_whole s.0 s.1 f.0 f.1 (f.3 s.0 s.1 so_far))
 
 pub returns-in_err-tidy_chunk-clause-memory : goal.returns-in_err-tidy_chunk-clause-memory
@@ -71,26 +70,25 @@ returns-in_err-tidy_chunk-clause-memory g c =
     let bytes : List ℕ = take c.in-Ok.count c.read_some.new.buf in
     let few : length bytes ≤ 4016 = omega (arith, c.in-Ok.ensures.bound.0, length-take-le c.in-Ok.count c.read_some.new.buf c.in-Ok.ensures.bound.0, c.loop-piece.invariant.chunk) in
     λ is. let was : c.tidy_chunk.result ≡ Err Memory = search rules in
-    let f = c.tidy_chunk.ensures.memory was in (
+    let f = c.tidy_chunk.ensures.memory was c.loop-piece.invariant.line_room few in (
       s.0 ++ bytes,
       s.1 ++ f.0,
       Consumes-trans _ _ _ s.0 bytes s.2 c.in-Ok.ensures.bytes,
       Appends-trans _ _ _ s.1 f.0 s.3 f.1,
       f.2 s.0 s.1 s.4,
-      λ each. c.tidy_chunk.ensures.long was s.4.split.partial c.loop-piece.invariant.line_room few (short_behind s.0 s.1 _ bytes s.4 each),
     )
 
 pub returns-in_err-tidy_chunk-clause-short : goal.returns-in_err-tidy_chunk-clause-short
 returns-in_err-tidy_chunk-clause-short g c = λ text known each is.
     let m = returns-in_err-tidy_chunk-clause-memory g c is in
-    m.5 (short_consumed (g.R.Read.remaining c.args.reader.now.end) (g.R.Read.remaining c.read_some.new.self.end) text m.0 known m.2 each)
+    long_not_short m.0 m.1 m.4 (short_consumed (g.R.Read.remaining c.args.reader.now.end) (g.R.Read.remaining c.read_some.new.self.end) text m.0 known m.2 each)
 
 pub returns-in_err-tidy_chunk-clause-write : goal.returns-in_err-tidy_chunk-clause-write
 returns-in_err-tidy_chunk-clause-write g c =
     let s = c.loop-piece.invariant.so_far in
     let bytes : List ℕ = take c.in-Ok.count c.read_some.new.buf in
-    λ is. let was : c.tidy_chunk.result ≡ Err Write = search rules in
-    let f = c.tidy_chunk.ensures.write was in (
+    λ error is. let was : c.tidy_chunk.result ≡ Err (Write error) = search rules in
+    let f = c.tidy_chunk.ensures.write error was in (
       s.0 ++ bytes,
       s.1 ++ f.0,
       Consumes-trans _ _ _ s.0 bytes s.2 c.in-Ok.ensures.bytes,

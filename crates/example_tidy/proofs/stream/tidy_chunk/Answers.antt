@@ -1,26 +1,39 @@
-use Rattle.std.proofs.Common.{◌≡◌, ◌∙◌, true, false, ap, sym, subst, length, arith, rules, ◌≤◌}
-use Rattle.tinyvec.specs.Tiny.{tiny_items, tiny_capacity}
-use Rattle.example_tidy.specs.Tidy.{EndsSome}
+use Rattle.std.proofs.Common.{◌≡◌, ◌∙◌, [], ◌++◌, ap, sym, subst, length, arith, rules, ◌+◌, ◌-◌, ◌<◌, ◌≤◌}
+use Rattle.std.proofs.KnownBytes.{Appends-nil}
+use Rattle.tinyvec.specs.Tiny.{tiny_items, tiny_len, tiny_capacity}
+use Rattle.example_tidy.specs.Tidy.{EndsBeforeLong, EndsSome}
 use Rattle.example_tidy.proofs.Feeding.{ends_either}
-use Rattle.example_tidy.proofs.Saying.{says_few}
-use Rattle.example_tidy.proofs.ShortLines.{short_front}
+use Rattle.example_tidy.proofs.Refusals.{before_long, before_old}
 use Rattle.example_tidy.proofs.stream.tidy_chunk.Goals as goal
 
--- the front of what was said that was written
-pub returns-in_default-clause-write : goal.returns-in_default-clause-write
-returns-in_default-clause-write g c =
+-- room is refused for a line that is long by what came of it before
+pub returns-in_default-clause-memory : goal.returns-in_default-clause-memory
+returns-in_default-clause-memory g c = λ _ place few.
     let old = tiny_items c.args.line.now in
-    let bytes = c.args.bytes.now in
-    let front = c.in_default.ensures.err in
-    let said = ends_either c.feed-fed.result old _ bytes _ _ c.new-output.ensures.items c.feed-fed.ensures.ok c.feed-fed.ensures.refused in
-    λ _. (front.0, front.1, front.3, subst (EndsSome old bytes) (sym c.as_slice.ensures ∙ front.2) said)
-
-pub returns-in_default-fed-clause-long : goal.returns-in_default-fed-clause-long
-returns-in_default-fed-clause-long g c = λ _ whole room few each.
-    let old = tiny_items c.args.line.now in
-    let bytes = c.args.bytes.now in
     let output = c.new-output in
-    let place : 4096 ≤ tiny_capacity 4096 output.result = search rules in
-    let never : false ≡ true = c.in_default-fed.ensures.succeeds whole each room
-    (λ said new advances. omega (arith, says_few old bytes whole said new advances, short_front old bytes whole each, few, ap length output.ensures.items, place)) in
-    absurd cc
+    let room : 4096 ≤ tiny_capacity 4096 output.result = search rules in
+    let long : 80 < length old = omega (arith, c.in_default.ensures.full, few, room, ap length output.ensures.items) in
+    ([], Appends-nil _, before_old old c.args.bytes.now long)
+
+-- the front of what was said that was written
+pub returns-in-Err-clause-write : goal.returns-in-Err-clause-write
+returns-in-Err-clause-write g c =
+    let old = tiny_items c.args.line.now in
+    let bytes = c.args.bytes.now in
+    let front = c.in-Err.ensures.err in
+    let empty = c.in-Ok.ensures.items ∙ c.new-output.ensures.items in
+    let said = ends_either c.feed-fed.result old _ bytes _ _ _ _ empty c.feed-fed.ensures.ok c.feed-fed.ensures.refused in
+    λ error is. (front.0, front.1, front.3, subst (EndsSome old bytes) (sym c.as_slice.ensures ∙ front.2) said)
+
+-- what was said before the line that memory was refused for
+pub returns-in_default-fed-clause-memory : goal.returns-in_default-fed-clause-memory
+returns-in_default-fed-clause-memory g c = λ _ place few.
+    let old = tiny_items c.args.line.now in
+    let bytes = c.args.bytes.now in
+    let output = c.reserve.new.self in
+    let empty = c.in-Ok.ensures.items ∙ c.new-output.ensures.items in
+    let refused = c.in_default-fed.ensures.refused in
+    let fits : length old + length bytes ≤ tiny_capacity 4096 output - tiny_len output = omega (arith, c.in-Ok.ensures.room, ap length empty, ap length c.new-output.ensures.items) in
+    let said = before_long old bytes refused.0 _ _ _ place fits refused.2 in
+    let text : c.as_slice.result.now ≡ refused.0 = c.as_slice.ensures ∙ refused.1 ∙ ap (λ front. front ++ refused.0) empty in
+    (c.as_slice.result.now, c.in-Ok-write_all.ensures.bytes, subst (EndsBeforeLong old bytes) (sym text) said)

@@ -4,6 +4,7 @@ use Rattle.tinyvec.specs.Tiny.{tiny_items, tiny_capacity}
 use Rattle.example_tidy.specs.Tidy.{Tidied, TidiedUpTo}
 use Rattle.example_tidy.proofs.Feeding.{advanced}
 use Rattle.example_tidy.proofs.Lines.{tidied_again}
+use Rattle.example_tidy.proofs.Refusals.{refused_never}
 use Rattle.example_tidy.proofs.Saying.{says_whole, says_last}
 use Rattle.example_tidy.proofs.ShortLines.{short_end}
 use Rattle.example_tidy.proofs.text.tidy_text.Goals as goal
@@ -23,13 +24,15 @@ returns-in_err-feed-clause-succeeds c = λ each fits.
     let text = c.args.text.now in
     let line = c.new-line in
     let output = c.new-output in
+    let place : 80 ≤ tiny_capacity 80 line.result = search rules in
     let room : 4096 ≤ tiny_capacity 4096 output.result = search rules in
-    let never : false ≡ true = c.in_err-feed.ensures.succeeds
+    let refused = c.in_err-feed.ensures.refused in
+    absurd (refused_never (tiny_items line.result) text refused.0 _ _ _
     (rw line.ensures.items (All-nil (λ byte. byte ≢ 10)))
     (rw line.ensures.items each)
-    (search rules)
-    (λ said new advances. omega (arith, says_whole text _ line.ensures.items said new advances, fits, room, ap length output.ensures.items)) in
-    absurd cc
+    place
+    (λ said new advances. omega (arith, says_whole text _ line.ensures.items said new advances, fits, room, ap length output.ensures.items))
+    refused.2)
 
 pub returns-in_err-end_text-clause-succeeds : goal.returns-in_err-end_text-clause-succeeds
 returns-in_err-end_text-clause-succeeds c = λ each fits.

@@ -1,0 +1,27 @@
+//! `Failure`.
+use std::io::{self, ErrorKind};
+use thiserror::Error;
+
+/// Why the program ends before its input does.
+#[derive(Debug, Drop, Error)]
+pub enum Failure {
+    /// A line was not read.
+    #[error("cannot read input: {0}")]
+    Input(io::Error),
+    /// `u64::MAX` lines were read, and the input goes on.
+    #[error("cannot read input: too long")]
+    TooLong,
+    /// An answer was not written.
+    #[error("cannot write output: {0}")]
+    Output(io::Error),
+}
+
+impl Failure {
+    /// Nobody reads the output any more.
+    pub fn is_closed_pipe(&self) -> bool {
+        match self {
+            Failure::Output(error) => error.kind() == ErrorKind::BrokenPipe,
+            _ => false,
+        }
+    }
+}
