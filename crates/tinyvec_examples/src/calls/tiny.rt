@@ -200,6 +200,11 @@ pub fn zeroed(v: &mut TinyVec<[u8; 8]>)
     }
 }
 
+/// How many items are 0.
+pub fn count_of_zeros(v: &TinyVec<[u8; 8]>) -> usize {
+    v.iter().filter(|x| **x == 0).count()
+}
+
 /// The first item is set to 0.
 pub fn first_zeroed(v: &mut TinyVec<[u8; 8]>)
     ensures len { tiny_len v.new ≡ tiny_len v.old }
