@@ -3,13 +3,12 @@ ghost use Rattle.std.specs.Prelude.{◌<◌, length};
 ghost use Rattle.std.specs.Int.{byte_len};
 ghost use Rattle.tinyvec_borsh.specs.NumberLaws.{apart_by_length};
 
-mod byte;
 mod number;
 mod widths;
 
 use crate::bytes::{read_bytes, write_bytes};
 use crate::{BorshDeserialize, BorshError, BorshForm, BorshSerialize};
-use number::{Number, ROOM, decode, encode, from_slice};
+use number::{Number, from_slice};
 use std::alloc::Global;
 use std::io::{Read, Write};
 use tinyvec_array::Array;
@@ -34,21 +33,11 @@ impl<T: Number> BorshSerialize for T {
         write_bytes(writer, self.to_bytes().as_slice())
     }
 
-    #[tactic(auto, using(crate::proofs::NumberBlocks::block_within))]
     fn serialize_items<W: Write>(
         items: &[Self],
         writer: &mut Counted<W>,
     ) -> Result<(), BorshError> {
-        let width = T::Bytes::CAPACITY;
-        let mut room = [0; ROOM];
-        let mut start = 0;
-        while start < items.len() {
-            let count = (items.len() - start).min(ROOM / width);
-            encode(&items[start..start + count], &mut room);
-            write_bytes(writer, &room[..count * width])?;
-            start += count;
-        }
-        Ok(())
+        T::write_all(items, writer)
     }
 }
 
@@ -71,22 +60,11 @@ impl<T: Number> BorshDeserialize for T {
         Ok(from_slice(bytes))
     }
 
-    #[tactic(auto, using(crate::proofs::NumberBlocks::block_within))]
     fn deserialize_slots<R: Read>(
         _alloc: Global,
         slots: &mut [Self],
         reader: &mut Counted<R>,
     ) -> Result<(), BorshError> {
-        let width = T::Bytes::CAPACITY;
-        let mut room = [0; ROOM];
-        let mut start = 0;
-        while start < slots.len() {
-            let count = (slots.len() - start).min(ROOM / width);
-            let bytes = &mut room[..count * width];
-            read_bytes(reader, bytes)?;
-            decode(&mut slots[start..start + count], bytes);
-            start += count;
-        }
-        Ok(())
+        T::read_all(slots, reader)
     }
 }

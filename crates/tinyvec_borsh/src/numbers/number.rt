@@ -1,17 +1,24 @@
 //! Numbers as bytes, one and a block of them.
-ghost use Rattle.std.specs.Prelude.{◌≡◌, ◌*◌, ◌≤◌, length, take};
+ghost use Rattle.std.specs.Prelude.{◌≡◌, ◌*◌, ◌<◌, ◌≤◌, length, take, IfErr, OnOk};
 ghost use Rattle.std.specs.Int.{byte_len, from_le_bytes, to_le_bytes};
 ghost use Rattle.std.specs.List.{AllByRecursion};
-ghost use Rattle.tinyvec_borsh.specs.Items.{SpellsItems};
+ghost use Rattle.tinyvec_io.specs.Counted.{Reported};
+ghost use Rattle.tinyvec_borsh.specs.Items.{AfterItems, SpellsItems};
 ghost use Rattle.tinyvec_borsh.specs.Number.{NumberForm};
+ghost use Rattle.tinyvec_borsh.specs.Reading.{Fails, Takes};
+ghost use Rattle.tinyvec_borsh.specs.Writing.{Adds};
 
+use crate::BorshError;
+use crate::bytes::{read_bytes, write_bytes};
+use std::io::{Read, Write};
 use tinyvec_array::Array;
+use tinyvec_io::Counted;
 
 /// So many bytes are read or written at once.
-pub(super) const ROOM: usize = 256;
+const ROOM: usize = 256;
 
 /// A whole number, whose spelling is its bytes, least first.
-pub(crate) trait Number: Copy {
+pub(crate) trait FixedWidth: Copy {
     /// An array of them.
     type Bytes: Array<Item = u8>;
 
@@ -27,8 +34,54 @@ pub(crate) trait Number: Copy {
     ghost sized: { Self.Bytes.CAPACITY ≡ byte_len form.width };
 }
 
+/// How a list of such numbers is written and read: in blocks, where its type does not say otherwise.
+pub(crate) trait Number: FixedWidth {
+    fn write_all<W: Write>(items: &[Self], writer: &mut Counted<W>) -> Result<(), BorshError>
+        ensures ok { OnOk result (Adds (SpellsItems Self.form.Spells items.now)
+            (W.contents writer.old.end) (W.contents writer.new.end)) }
+        ensures fits { OnOk result (AllByRecursion Self.form.Fits items.now) }
+        ensures err { IfErr result (λ e. (e ≡ BorshError.Io) × Reported writer.old.faults writer.new.faults) }
+        ensures grows { writer.old.faults ≤ writer.new.faults }
+    {
+        let width = Self::Bytes::CAPACITY;
+        let mut room = [0; ROOM];
+        let mut start = 0;
+        while start < items.len() {
+            let count = (items.len() - start).min(ROOM / width);
+            encode(&items[start..start + count], &mut room);
+            write_bytes(writer, &room[..count * width])?;
+            start += count;
+        }
+        Ok(())
+    }
+
+    fn read_all<R: Read>(slots: &mut [Self], reader: &mut Counted<R>) -> Result<(), BorshError>
+        ensures ok { OnOk result (Takes (SpellsItems Self.form.Spells slots.new)
+            (R.remaining reader.old.end) (R.remaining reader.new.end)) }
+        ensures fits { OnOk result (AllByRecursion Self.form.Fits slots.new) }
+        ensures err { IfErr result (Fails
+            (AfterItems Self.form.Spells Self.form.Fits (λ input. length input < byte_len Self.form.width) (length slots.old))
+            (AfterItems Self.form.Spells Self.form.Fits (λ _. ⊥) (length slots.old))
+            (AfterItems Self.form.Spells Self.form.Fits (λ _. ⊥) (length slots.old))
+            (R.remaining reader.old.end) reader.old.faults reader.new.faults) }
+        ensures grows { reader.old.faults ≤ reader.new.faults }
+    {
+        let width = Self::Bytes::CAPACITY;
+        let mut room = [0; ROOM];
+        let mut start = 0;
+        while start < slots.len() {
+            let count = (slots.len() - start).min(ROOM / width);
+            let bytes = &mut room[..count * width];
+            read_bytes(reader, bytes)?;
+            decode(&mut slots[start..start + count], bytes);
+            start += count;
+        }
+        Ok(())
+    }
+}
+
 // The number that the bytes spell.
-pub(super) fn from_slice<T: Number>(spelling: &[u8]) -> T
+pub(super) fn from_slice<T: FixedWidth>(spelling: &[u8]) -> T
     requires { length spelling.now ≡ T.Bytes.CAPACITY }
     ensures spelled { T.form.Spells result spelling.now }
     ensures fits { T.form.Fits result }
@@ -40,7 +93,7 @@ pub(super) fn from_slice<T: Number>(spelling: &[u8]) -> T
 
 // Writes into each slot the number that its bytes spell.
 #[tactic(auto, using(crate::proofs::NumberBlocks::next_within))]
-pub(super) fn decode<T: Number>(slots: &mut [T], bytes: &[u8])
+fn decode<T: FixedWidth>(slots: &mut [T], bytes: &[u8])
     requires { length bytes.now ≡ length slots.old * T.Bytes.CAPACITY }
     ensures spelled { SpellsItems T.form.Spells slots.new bytes.now }
     ensures fits { AllByRecursion T.form.Fits slots.new }
@@ -55,7 +108,7 @@ pub(super) fn decode<T: Number>(slots: &mut [T], bytes: &[u8])
 
 // Puts the bytes of the numbers at the front of the room.
 #[tactic(auto, using(crate::proofs::NumberBlocks::next_within))]
-pub(super) fn encode<T: Number>(items: &[T], room: &mut [u8; ROOM])
+fn encode<T: FixedWidth>(items: &[T], room: &mut [u8; ROOM])
     requires { length items.now * T.Bytes.CAPACITY ≤ 256 }
     ensures spelled { SpellsItems T.form.Spells items.now (take (length items.now * T.Bytes.CAPACITY) room.new) }
     ensures fits { AllByRecursion T.form.Fits items.now }

@@ -1,11 +1,60 @@
-//! The types of whole numbers, but for `u8`.
+//! The types of whole numbers.
 ghost use Rattle.std.specs.Prelude.{refl};
 ghost use Rattle.std.specs.Int.{w8, w16, w32, w64, w128};
 ghost use Rattle.tinyvec_borsh.specs.NumberLaws.{signed, unsigned};
 
-use super::number::Number;
+use super::number::{FixedWidth, Number};
+use crate::BorshError;
+use crate::bytes::{read_bytes, write_bytes};
+use std::io::{Read, Write};
+use tinyvec_io::Counted;
 
-impl Number for u16 {
+// A list of bytes is written and read as it is.
+impl Number for u8 {
+    fn write_all<W: Write>(items: &[Self], writer: &mut Counted<W>) -> Result<(), BorshError> {
+        write_bytes(writer, items)
+    }
+
+    fn read_all<R: Read>(slots: &mut [Self], reader: &mut Counted<R>) -> Result<(), BorshError> {
+        read_bytes(reader, slots)
+    }
+}
+
+impl Number for u16 {}
+
+impl Number for u32 {}
+
+impl Number for u64 {}
+
+impl Number for u128 {}
+
+impl Number for i8 {}
+
+impl Number for i16 {}
+
+impl Number for i32 {}
+
+impl Number for i64 {}
+
+impl Number for i128 {}
+
+impl FixedWidth for u8 {
+    type Bytes = [u8; 1];
+
+    ghost form = { unsigned w8 };
+
+    fn to_bytes(self) -> [u8; 1] {
+        u8::to_le_bytes(self)
+    }
+
+    fn from_bytes(bytes: [u8; 1]) -> u8 {
+        u8::from_le_bytes(bytes)
+    }
+
+    ghost sized = { refl };
+}
+
+impl FixedWidth for u16 {
     type Bytes = [u8; 2];
 
     ghost form = { unsigned w16 };
@@ -21,7 +70,7 @@ impl Number for u16 {
     ghost sized = { refl };
 }
 
-impl Number for u32 {
+impl FixedWidth for u32 {
     type Bytes = [u8; 4];
 
     ghost form = { unsigned w32 };
@@ -37,7 +86,7 @@ impl Number for u32 {
     ghost sized = { refl };
 }
 
-impl Number for u64 {
+impl FixedWidth for u64 {
     type Bytes = [u8; 8];
 
     ghost form = { unsigned w64 };
@@ -53,7 +102,7 @@ impl Number for u64 {
     ghost sized = { refl };
 }
 
-impl Number for u128 {
+impl FixedWidth for u128 {
     type Bytes = [u8; 16];
 
     ghost form = { unsigned w128 };
@@ -69,7 +118,7 @@ impl Number for u128 {
     ghost sized = { refl };
 }
 
-impl Number for i8 {
+impl FixedWidth for i8 {
     type Bytes = [u8; 1];
 
     ghost form = { signed w8 };
@@ -85,7 +134,7 @@ impl Number for i8 {
     ghost sized = { refl };
 }
 
-impl Number for i16 {
+impl FixedWidth for i16 {
     type Bytes = [u8; 2];
 
     ghost form = { signed w16 };
@@ -101,7 +150,7 @@ impl Number for i16 {
     ghost sized = { refl };
 }
 
-impl Number for i32 {
+impl FixedWidth for i32 {
     type Bytes = [u8; 4];
 
     ghost form = { signed w32 };
@@ -117,7 +166,7 @@ impl Number for i32 {
     ghost sized = { refl };
 }
 
-impl Number for i64 {
+impl FixedWidth for i64 {
     type Bytes = [u8; 8];
 
     ghost form = { signed w64 };
@@ -133,7 +182,7 @@ impl Number for i64 {
     ghost sized = { refl };
 }
 
-impl Number for i128 {
+impl FixedWidth for i128 {
     type Bytes = [u8; 16];
 
     ghost form = { signed w128 };

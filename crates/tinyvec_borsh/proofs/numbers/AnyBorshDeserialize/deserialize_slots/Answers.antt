@@ -1,44 +1,12 @@
-use Rattle.std.proofs.Common.{◌≡◌, ◌∙◌, ◌+◌, ◌*◌, ◌++◌, ap, arith, drop, length, length-append, length-drop, length-take-le, rules, subst, sym}
-use Rattle.std.specs.Int.{byte_len}
+use Rattle.std.proofs.Common.{OnOk, subst, sym}
 use Rattle.std.specs.List.{AllByRecursion}
-use Rattle.std.proofs.lemmas.List.{map-id, take_all}
-use Rattle.std.proofs.lemmas.Result.{err_from_is_err_and}
+use Rattle.std.proofs.lemmas.List.{map-id}
 use Rattle.tinyvec_borsh.specs.Items.{SpellsItems}
-use Rattle.tinyvec_borsh.proofs.Blocks.{take-block}
-use Rattle.tinyvec_borsh.proofs.NumberBlocks.{block_within, fails-behind-block, fails-numbers, took-block}
+use Rattle.tinyvec_borsh.specs.Reading.{Takes}
 use Rattle.tinyvec_borsh.proofs.numbers.AnyBorshDeserialize.deserialize_slots.Goals as goal
 
-pub returns-in_err-read_bytes-clause-err : goal.returns-in_err-read_bytes-clause-err
-returns-in_err-read_bytes-clause-err g c =
-    let p = err_from_is_err_and c.from_residual.result c.from_residual.ensures.1 in
-    let count = c.min-count.result in
-    let fits = block_within count c.CAPACITY-width.result (omega arith) in
-    let many = length-take-le (count * c.CAPACITY-width.result) c.loop-start.room (omega (arith, fits)) ∙ ap (λ width. count * width) (c.CAPACITY-width.ensures ∙ g.met.T.Number.sized) in
-    let before = length-take-le c.loop-start.start c.loop-start.slots (omega arith) in
-    rw (p.1, p.2) (fails-behind-block g.T.Number.form.Spells g.T.Number.form.Fits _ _ _ count (length c.args.slots.now) _ _ _ _ _ _ _ c.loop-start.invariant.read (omega (arith, before)) c.loop-start.invariant.grows
-    (fails-numbers g.T.Number.form.Spells g.T.Number.form.Fits (byte_len g.T.Number.form.width) _ g.T.Number.form.read count _ many _ _ _ _ c.in_err-read_bytes.ensures.ended c.in_err-read_bytes.ensures.err))
-
-pub loop-start-preserved : goal.loop-start-preserved
-loop-start-preserved g c =
-    let end = c.loop-start.start + c.min-count.result in
-    let n = c.min-count.result * c.CAPACITY-width.result in
-    let fits = block_within c.min-count.result c.CAPACITY-width.result (omega arith) in
-    let long = length-take-le n c.loop-start.room (omega (arith, fits)) in
-    let room : length (c.read_bytes.new.buf ++ drop n c.loop-start.room) ≡ 256 = omega (arith, long, fits, c.read_bytes.auto.buf, length-append c.read_bytes.new.buf (drop n c.loop-start.room), length-drop n c.loop-start.room) in
-    let joined = take-block c.loop-start.start end c.loop-start.slots c.decode.new.slots (omega arith) (omega arith) (search rules) in
-    record {
-      read = took-block g.T.Number.form.Spells g.T.Number.form.Fits _ _ _ _ _ _ joined c.loop-start.invariant.read (c.read_bytes.new.buf, c.decode.ensures.spelled, c.in_ok-read_bytes.ensures.ok) c.decode.ensures.fits;
-      room = room;
-      many = search rules;
-      within = search rules;
-      grows = omega arith;
-    }
-
 pub returns-clause-ok : goal.returns-clause-ok
-returns-clause-ok g c =
-    let read = c.loop-start.invariant.read in
-    let all = take_all c.loop-start.start c.loop-start.slots (omega arith) ∙ sym (map-id c.loop-start.slots) in
-    (read.bytes, subst (λ xs. SpellsItems g.T.Number.form.Spells xs read.bytes) all read.spelled, read.taken)
+returns-clause-ok g c = subst (λ xs. OnOk c.read_all.result (Takes (SpellsItems g.T.FixedWidth.form.Spells xs) (g.R.Read.remaining c.args.reader.now.end) (g.R.Read.remaining c.read_all.new.reader.end))) (sym (map-id c.read_all.new.slots)) c.read_all.ensures.ok
 
 pub returns-clause-fits : goal.returns-clause-fits
-returns-clause-fits g c = subst (AllByRecursion g.T.Number.form.Fits) (take_all c.loop-start.start c.loop-start.slots (omega arith) ∙ sym (map-id c.loop-start.slots)) c.loop-start.invariant.read.fit
+returns-clause-fits g c = subst (λ xs. OnOk c.read_all.result (AllByRecursion g.T.FixedWidth.form.Fits xs)) (sym (map-id c.read_all.new.slots)) c.read_all.ensures.fits

@@ -4,5 +4,5 @@ use Rattle.tinyvec_borsh.proofs.numbers.AnyBorshSerialize.serialize.Goals as goa
 
 pub returns-clause-ok : goal.returns-clause-ok
 returns-clause-ok g c =
-    let spelled = subst (g.T.Number.form.Spells c.args.self.now) (sym (c.as_slice.ensures.value ∙ c.to_bytes.ensures.bytes)) (g.T.Number.form.written c.args.self.now c.to_bytes.ensures.fits) in
+    let spelled = subst (g.T.FixedWidth.form.Spells c.args.self.now) (sym (c.as_slice.ensures.value ∙ c.to_bytes.ensures.bytes)) (g.T.FixedWidth.form.written c.args.self.now c.to_bytes.ensures.fits) in
     on-ok c.write_bytes.result (λ h. (c.as_slice.result.now, spelled, h)) c.write_bytes.ensures.ok

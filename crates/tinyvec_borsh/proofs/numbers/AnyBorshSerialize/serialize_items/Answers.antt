@@ -1,30 +1,12 @@
-use Rattle.std.proofs.Common.{◌∙◌, ◌+◌, ◌-◌, ◌*◌, ap, arith, drop, length-drop, length-take-le, rules, subst, sym, take}
-use Rattle.std.proofs.lemmas.List.{map-id, take_all}
+use Rattle.std.proofs.Common.{OnOk, subst, sym}
 use Rattle.std.specs.List.{AllByRecursion}
+use Rattle.std.proofs.lemmas.List.{map-id}
 use Rattle.tinyvec_borsh.specs.Items.{SpellsItems}
-use Rattle.tinyvec_borsh.proofs.NumberBlocks.{fit-block, until-end, wrote-block}
+use Rattle.tinyvec_borsh.specs.Writing.{Adds}
 use Rattle.tinyvec_borsh.proofs.numbers.AnyBorshSerialize.serialize_items.Goals as goal
 
-pub loop-start-preserved : goal.loop-start-preserved
-loop-start-preserved g c =
-    let start = c.loop-start.start in
-    let count = c.min-count.result in
-    let joined = until-end start count c.args.items.now in
-    let some = length-drop start c.args.items.now in
-    let many = length-take-le (start + count - start) (drop start c.args.items.now) (omega (arith, some)) in
-    record {
-      wrote = wrote-block g.T.Number.form.Spells g.T.Number.form.Fits g.T.Bytes.Array.CAPACITY count _ _ _ _ c.encode.new.room _ _ _ joined (ap (λ m. take (count * m) c.encode.new.room) c.CAPACITY-width.ensures) (omega (arith, many)) c.loop-start.invariant.wrote c.encode.ensures.spelled c.in_ok-write_bytes.ensures.ok;
-      fit = fit-block g.T.Number.form.Spells g.T.Number.form.Fits _ _ _ joined c.loop-start.invariant.fit c.encode.ensures.fits;
-      room = search rules;
-      within = omega arith;
-      grows = omega arith;
-    }
-
 pub returns-clause-ok : goal.returns-clause-ok
-returns-clause-ok g c =
-    let wrote = c.loop-start.invariant.wrote in
-    let all = take_all c.loop-start.start c.args.items.now (omega arith) ∙ sym (map-id c.args.items.now) in
-    (wrote.bytes, subst (λ xs. SpellsItems g.T.Number.form.Spells xs wrote.bytes) all wrote.spelled, wrote.appended)
+returns-clause-ok g c = subst (λ xs. OnOk c.write_all.result (Adds (SpellsItems g.T.FixedWidth.form.Spells xs) (g.W.Write.contents c.args.writer.now.end) (g.W.Write.contents c.write_all.new.writer.end))) (sym (map-id c.args.items.now)) c.write_all.ensures.ok
 
 pub returns-clause-fits : goal.returns-clause-fits
-returns-clause-fits g c = subst (AllByRecursion g.T.Number.form.Fits) (take_all c.loop-start.start c.args.items.now (omega arith) ∙ sym (map-id c.args.items.now)) c.loop-start.invariant.fit
+returns-clause-fits g c = subst (λ xs. OnOk c.write_all.result (AllByRecursion g.T.FixedWidth.form.Fits xs)) (sym (map-id c.args.items.now)) c.write_all.ensures.fits

@@ -1,0 +1,30 @@
+use Rattle.std.proofs.Common.{◌+◌, ◌-◌, ◌*◌, ap, arith, drop, length-drop, length-take-le, rules, subst, take}
+use Rattle.std.proofs.lemmas.List.{take_all}
+use Rattle.std.specs.List.{AllByRecursion}
+use Rattle.tinyvec_borsh.specs.Items.{SpellsItems}
+use Rattle.tinyvec_borsh.proofs.NumberBlocks.{fit-block, until-end, wrote-block}
+use Rattle.tinyvec_borsh.proofs.numbers.number.Number.write_all.Goals as goal
+
+pub loop-start-preserved : goal.loop-start-preserved
+loop-start-preserved g c =
+    let start = c.loop-start.start in
+    let count = c.min-count.result in
+    let joined = until-end start count c.args.items.now in
+    let some = length-drop start c.args.items.now in
+    let many = length-take-le (start + count - start) (drop start c.args.items.now) (omega (arith, some)) in
+    record {
+      wrote = wrote-block g.Self.FixedWidth.form.Spells g.Self.FixedWidth.form.Fits g.Self.Bytes.Array.CAPACITY count _ _ _ _ c.encode.new.room _ _ _ joined (ap (λ m. take (count * m) c.encode.new.room) c.CAPACITY-width.ensures) (omega (arith, many)) c.loop-start.invariant.wrote c.encode.ensures.spelled c.in_ok-write_bytes.ensures.ok;
+      fit = fit-block g.Self.FixedWidth.form.Spells g.Self.FixedWidth.form.Fits _ _ _ joined c.loop-start.invariant.fit c.encode.ensures.fits;
+      room = search rules;
+      within = omega arith;
+      grows = omega arith;
+    }
+
+pub returns-clause-ok : goal.returns-clause-ok
+returns-clause-ok g c =
+    let wrote = c.loop-start.invariant.wrote in
+    let all = take_all c.loop-start.start c.args.items.now (omega arith) in
+    (wrote.bytes, subst (λ xs. SpellsItems g.Self.FixedWidth.form.Spells xs wrote.bytes) all wrote.spelled, wrote.appended)
+
+pub returns-clause-fits : goal.returns-clause-fits
+returns-clause-fits g c = subst (AllByRecursion g.Self.FixedWidth.form.Fits) (take_all c.loop-start.start c.args.items.now (omega arith)) c.loop-start.invariant.fit
