@@ -15,9 +15,9 @@ COUNTER = [
     "--zero-before=*::begin_rounds*", "--dump-before=*::end_rounds*",
 ]
 
-# All of it: the C library's copies take 7 or 14 instructions more or fewer, as the stack lies, and that hangs on the length of
-# the environment and of the program's name. Every call is bound before it starts. The C library copies and fills by moves of
-# registers, however long the run: of a `rep movsb` each byte would count as an instruction.
+# The whole of it: some copies of the C library take 7 or 14 instructions more or fewer by the alignment of the stack, and that
+# depends on the length of the environment and of the program's name. Every call is bound before it starts. The C library copies
+# and fills by moves of registers, however long the run: of a `rep movsb` each byte would count as an instruction.
 ENVIRONMENT = {
     "LD_BIND_NOW": "1",
     "GLIBC_TUNABLES": "glibc.cpu.x86_rep_movsb_threshold=4000000000:glibc.cpu.x86_rep_stosb_threshold=4000000000",

@@ -1,8 +1,8 @@
 """Programs that are made of the sources of crates/tinyvec_bench by putting other words in: its rows over the toolchain's own
 vectors, and the program as it is for another processor.
 
-`rt ci` takes no crate but those of crates.txt, so these are made when they are measured, in out/ of tinyvec_bench, and proved
-as it is.
+`rt ci` takes no crate but those of crates.txt, so these are made where they are measured, in out/ of tinyvec_bench. They are
+proved as it is.
 """
 import functools
 import re
@@ -65,7 +65,7 @@ NOT_STD = (
 
 # Texts are printed into an `ArrayVec` of this library on each side.
 UNCHANGED = "src/printing.rt"
-# Where the lines stand that name the modules, and the rows.
+# The files that name the modules, and the rows.
 LISTS = ("src/main.rt", "src/tiny.rt", "src/all.rt")
 
 
@@ -99,7 +99,7 @@ class Made(crates.Crate):
 
 
 def module_of(path):
-    """Of src/tiny/ends.rt, and of what stands below proofs/tiny/ends, it is tiny/ends."""
+    """Of src/tiny/ends.rt, and of each file below proofs/tiny/ends, it is tiny/ends."""
     names = path.removesuffix(".rt").split("/")[1:]
     return "/".join(names[: 2 if names[0] == "tiny" else 1])
 
