@@ -1,11 +1,12 @@
 """The instructions a round, counted by callgrind: they are the same on each run, whatever else the machine does.
 
 Callgrind counts from the function `begin_rounds`, which is called before a row's rounds, to the function `end_rounds`, which
-is called behind them. Each program runs for so many rounds and for twice as many, and the difference is that of the further
+is called after them. Each program runs for so many rounds and for twice as many, and the difference is that of the further
 rounds alone: what the first ones cost besides, as a page of memory, falls out.
 """
 import concurrent.futures
 import os
+import shutil
 import subprocess
 import tempfile
 
@@ -14,8 +15,9 @@ COUNTER = [
     "--zero-before=*::begin_rounds*", "--dump-before=*::end_rounds*",
 ]
 
-# Every call is bound before it starts. The C library copies and fills by moves of registers, however long the run: of a
-# `rep movsb` each byte would count as an instruction.
+# The whole of it: some copies of the C library take 7 or 14 instructions more or fewer by the alignment of the stack, and that
+# depends on the length of the environment and of the program's name. Every call is bound before it starts. The C library copies
+# and fills by moves of registers, however long the run: of a `rep movsb` each byte would count as an instruction.
 ENVIRONMENT = {
     "LD_BIND_NOW": "1",
     "GLIBC_TUNABLES": "glibc.cpu.x86_rep_movsb_threshold=4000000000:glibc.cpu.x86_rep_stosb_threshold=4000000000",
@@ -24,12 +26,10 @@ ENVIRONMENT = {
 
 def count(programs, rounds):
     """Of each program, by row and capacity. The runs go side by side, since no time is taken."""
-    asked = {
-        (name, it): [*command, "rows", str(it)] for name, command in programs.commands().items() for it in (rounds, 2 * rounds)
-    }
+    asked = {(name, it): [*command, "rows", str(it)] for name, command in programs.items() for it in (rounds, 2 * rounds)}
     with concurrent.futures.ThreadPoolExecutor(os.cpu_count()) as pool:
         counts = dict(zip(asked, pool.map(counted, asked.values())))
-    return {name: further(counts[name, rounds], counts[name, 2 * rounds]) for name in programs.commands()}
+    return {name: further(counts[name, rounds], counts[name, 2 * rounds]) for name in programs}
 
 
 def further(once, twice):
@@ -42,11 +42,12 @@ def further(once, twice):
 
 def counted(command):
     """The rounds and instructions of each row."""
+    program, *words = command
     with tempfile.TemporaryDirectory() as folder:
         counts = f"{folder}/counts"
         ran = subprocess.run(
-            [*COUNTER, f"--callgrind-out-file={counts}", *command],
-            check=True, capture_output=True, text=True, env=os.environ | ENVIRONMENT,
+            [shutil.which(COUNTER[0]), *COUNTER[1:], f"--callgrind-out-file={counts}", f"./{program.name}", *words],
+            check=True, capture_output=True, text=True, cwd=program.parent, env=ENVIRONMENT,
         )
         with open(counts, encoding="utf-8") as file:
             totals = totals_of(file)

@@ -1,21 +1,31 @@
-"""The programs that are compared: that of this library, and the one of the peers in its four parts."""
+"""The programs that are compared, each by how it is called before its rows are named, and what they run on."""
 import os
+import pathlib
 import platform
 import subprocess
 import sys
 
-PEERS = ["tinyvec", "smallvec", "arrayvec", "vec"]
+import kit
+
+TOP = pathlib.Path(__file__).resolve().parent.parent
+TV = TOP / "crates/tv/out/tv"
+CRATES = ["tinyvec", "smallvec", "arrayvec"]
 
 
-class Programs:
-    def __init__(self, top):
-        self.ours = f"{top}/crates/tinyvec_bench/out/tinyvec_bench"
-        self.peers = f"{top}/bench/peers/target/release/peers"
-        self.tv = f"{top}/crates/tv/out/tv"
+def beside_toolchain():
+    """The toolchain's vectors in an array, and its `Vec` and `String`."""
+    made = kit.programs()
+    return {name: [made[it].program] for name, it in (("here", "cleared"), ("inline", "inline"), ("std", "std"))}
 
-    def commands(self):
-        """How each is called, before its rows are named."""
-        return {"here": [self.ours]} | {peer: [self.peers, peer] for peer in PEERS}
+
+def beside_rust(cpu=""):
+    """Rust's crates, and std. Each compiler builds for its default processor where none is named."""
+    here = kit.programs()[cpu].program if cpu else kit.base().out / kit.NAME
+    return {"here": [here]} | {it: [peers(cpu), it] for it in [*CRATES, "vec"]}
+
+
+def peers(cpu=""):
+    return TOP / "bench/peers/target" / cpu / "release/peers"
 
 
 def lines(command):
@@ -29,7 +39,7 @@ def output(command):
 def check_sums(programs, kind):
     """Stops where two programs disagree on a row that both have."""
     sums = {}
-    for name, command in programs.commands().items():
+    for name, command in programs.items():
         for row, capacity, total in lines([*command, kind]):
             first = sums.setdefault((row, capacity), (total, name))
             if first[0] != total:
@@ -40,10 +50,10 @@ def check_sums(programs, kind):
 def describe(core):
     """Says what this runs on."""
     load = os.getloadavg()[0]
-    print(f"machine   {processor()}, {os.cpu_count()} cores, {platform.system()} {platform.release()}, load {load:.1f}")
-    print(f"here      {output(['rt', 'version'])}")
-    print(f"peers     {output(['rustc', '--version'])}; {', '.join(debian_versions())}")
-    print(f"pinned    to core {core}\n")
+    print(f"    machine   {processor()}, {os.cpu_count()} cores, {platform.system()} {platform.release()}, load {load:.1f}")
+    print(f"    here      {output(['rt', 'version'])}")
+    print(f"    peers     {output(['rustc', '--version'])}; {', '.join(debian_versions())}")
+    print(f"    pinned    to core {core}\n")
 
 
 def processor():
@@ -53,6 +63,6 @@ def processor():
 
 
 def debian_versions():
-    names = [f"librust-{crate}-dev" for crate in PEERS[:3]]
+    names = [f"librust-{crate}-dev" for crate in CRATES]
     listed = output(["dpkg-query", "-W", "-f", "${Package} ${Version}\n", *names])
     return [line.removeprefix("librust-").replace("-dev ", " ") for line in listed.splitlines()]

@@ -9,35 +9,38 @@ import sys
 import tempfile
 import time
 
+import programs
+
+COMMANDS = {"tv": [programs.TV], "plain Rust": [programs.peers(), "script"]}
+
 # The script is made of copies of a part of so many lines, or is its beginning.
 PART = 1000000
 
 
-def measure(programs, lines, runs):
+def measure(lines, runs):
     """The speed on a script of so many lines, both ways."""
-    commands = commands_of(programs)
     with tempfile.TemporaryDirectory() as folder:
         script = f"{folder}/script"
         write_script(script, lines)
-        if not same_answers(list(commands.values()), script, folder):
+        if not same_answers(list(COMMANDS.values()), script, folder):
             sys.exit("the answers of tv and of the plain Rust program differ")
-        print(f"script of {lines} lines{'':<9}{'lines/s':>12}{'peak KiB':>12}")
+        print(f"    script of {lines} lines{'':<9}{'lines/s':>12}{'peak KiB':>12}")
         for way, run in (("to a file", run_to_file), ("through a pipe", run_through_pipe)):
-            times = times_of(commands, run, script, f"{folder}/answers", runs)
-            for name, command in commands.items():
-                print(f"{name + ', ' + way:<30}{lines / times[name]:>12.0f}{peak_of(command, script):>12}")
-            print(f"{'time here over theirs':<30}{times['tv'] / times['plain Rust']:>12.2f}")
+            times = times_of(run, script, f"{folder}/answers", runs)
+            for name, command in COMMANDS.items():
+                print(f"    {name + ', ' + way:<30}{lines / times[name]:>12.0f}{peak_of(command, script):>12}")
+            print(f"    {'time here over theirs':<30}{times['tv'] / times['plain Rust']:>12.2f}")
     print(flush=True)
 
 
-def grow(programs, lengths):
+def grow(lengths):
     """Of each program by the number of lines: the microseconds a line, and the peak of memory in KiB."""
-    micros, peaks = ({name: {} for name in commands_of(programs)} for _ in range(2))
+    micros, peaks = ({name: {} for name in COMMANDS} for _ in range(2))
     with tempfile.TemporaryDirectory() as folder:
         script = f"{folder}/script"
         for lines in lengths:
             write_script(script, lines)
-            for name, command in commands_of(programs).items():
+            for name, command in COMMANDS.items():
                 seconds = min(run_to_file(command, script, f"{folder}/answers") for _ in range(1 if lines > PART else 3))
                 micros[name][lines] = 1000000 * seconds / lines
                 peaks[name][lines] = peak_of(command, script)
@@ -48,7 +51,7 @@ def commands_of(programs):
     return {"tv": [programs.tv], "plain Rust": [programs.peers, "script"]}
 
 
-def times_of(commands, run, script, answers, runs):
+def times_of(run, script, answers, runs):
     """The median seconds of each program."""
     times = {name: [] for name in commands}
     for turn in range(runs):

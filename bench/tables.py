@@ -1,52 +1,86 @@
-"""Tables of what is measured here, and of its ratio to each peer's, in Markdown."""
+"""Tables in Markdown of what is measured: here, and how much of each peer's that is."""
 import math
+import re
 
-from programs import PEERS
+# A row belongs to the group with the longest prefix that its name has.
+GROUPS = {
+    "`ArrayVec`": "",
+    "`TinyVec` in its array": "tiny_",
+    "`TinyVec` on the heap": "tiny_heap_",
+    "`TinyVec` on its way to the heap": "tiny_spill_",
+    "`SliceVec`": "slice_",
+    "`InlineText`": "text_",
+    "Borsh form": "borsh_",
+}
 
-# A row belongs to the first group whose prefix its name has.
-GROUPS = [
-    ("TinyVec on its way to the heap", "tiny_spill_"),
-    ("TinyVec on the heap", "tiny_heap_"),
-    ("TinyVec in its array", "tiny_"),
-    ("SliceVec", "slice_"),
-    ("InlineText", "text_"),
-    ("Borsh form", "borsh_"),
-    ("ArrayVec", ""),
-]
+# Peers that have another name than their program's, in all groups or in one.
+NAMES = {
+    "inline": "smallvec", ("inline", "`ArrayVec`"): "arrayvec", ("inline", "`InlineText`"): "ArrayString",
+    "std": "Vec", ("std", "`InlineText`"): "String", "vec": "Vec", ("vec", "`InlineText`"): "String",
+}
 
+CAPACITIES = [4, 16, 64, 1024]
 
-def print_groups(measured, unit):
-    """A table for each group, the most used first."""
-    for group, _ in reversed(GROUPS):
-        keys = [key for key in measured["here"] if group_of(key[0]) == group]
-        print_group(group, keys, measured, unit)
+# A cell above it has a cause that a reader may want to know.
+LIMIT = 1.2
 
 
 def group_of(row):
-    return next(group for group, prefix in GROUPS if row.startswith(prefix))
+    return max((it for it, prefix in GROUPS.items() if row.startswith(prefix)), key=lambda it: len(GROUPS[it]))
+
+
+def name_of(peer, group):
+    return NAMES.get((peer, group), NAMES.get(peer, peer))
+
+
+def peers_of(measured, keys):
+    return [it for it in measured if it != "here" and any(key in measured[it] for key in keys)]
+
+
+def print_groups(measured, unit):
+    for group in GROUPS:
+        keys = [key for key in measured["here"] if group_of(key[0]) == group]
+        if peers_of(measured, keys):
+            print_group(group, keys, measured, unit)
 
 
 def print_group(group, keys, measured, unit):
-    peers = [peer for peer in PEERS if any(key in measured[peer] for key in keys)]
-    rows = list(dict.fromkeys(row for row, _ in keys))
+    peers = peers_of(measured, keys)
     capacities = sorted({capacity for _, capacity in keys})
-    print(f"{group}: {unit} here, and that over {', '.join(peers)}\n")
-    print(f"| Row | {' | '.join(map(str, capacities))} |\n|---|{'---|' * len(capacities)}")
-    for row in rows:
-        print(f"| {row} | {' | '.join(cell(measured, peers, (row, it)) for it in capacities)} |")
-    means = [" ".join(mean(measured, peer, [key for key in keys if key[1] == it]) for peer in peers) for it in capacities]
-    print(f"| **geometric mean** | {' | '.join(means)} |\n", flush=True)
+    print(f"**{group}**: {unit} a round, and that over {', '.join(name_of(it, group) for it in peers)}\n")
+    print_head("Row", capacities)
+    for row in dict.fromkeys(row for row, _ in keys):
+        print_line(row, (cell(measured, peers, (row, it)) for it in capacities))
+    print(flush=True)
+
+
+def print_means(measured):
+    """A line for each vector and peer: the geometric mean at each capacity, and the cells above the limit."""
+    print_head("Instructions of", [*CAPACITIES, f"cells above {LIMIT}"])
+    for group in GROUPS:
+        keys = [key for key in measured["here"] if group_of(key[0]) == group]
+        for peer in peers_of(measured, keys):
+            ratios = {key: ratio(measured, peer, key) for key in keys if key in measured[peer]}
+            means = [mean([it for key, it in ratios.items() if key[1] == capacity]) for capacity in CAPACITIES]
+            above = sum(it > LIMIT for it in ratios.values())
+            print_line(f"{group} over `{name_of(peer, group)}`", [*map(text_of, means), f"{above} of {len(ratios)}"])
+    print(flush=True)
+
+
+def print_head(first, columns):
+    print_line(first, columns)
+    print(f"|---|{'---|' * len(columns)}")
+
+
+def print_line(first, cells):
+    print(f"| {first} | {' | '.join(map(str, cells))} |")
 
 
 def cell(measured, peers, key):
     here = measured["here"].get(key)
     if here is None:
         return ""
-    return f"{shown(here)}: " + " ".join(ratio_text(ratio(measured, peer, key)) for peer in peers)
-
-
-def shown(number):
-    return f"{number:.1f}" if number < 1000 else f"{number:.0f}"
+    return f"{here:.{1 if here < 1000 else 0}f}: " + " ".join(text_of(ratio(measured, it, key)) for it in peers)
 
 
 def ratio(measured, peer, key):
@@ -54,22 +88,30 @@ def ratio(measured, peer, key):
     return measured["here"][key] / theirs if theirs else None
 
 
-def ratio_text(value):
-    return "–" if value is None else f"{value:.2f}"
+def text_of(ratio):
+    return "–" if ratio is None else f"{ratio:.2f}"
 
 
-def mean(measured, peer, keys):
-    ratios = [it for it in (ratio(measured, peer, key) for key in keys) if it is not None]
-    return ratio_text(math.exp(sum(map(math.log, ratios)) / len(ratios)) if ratios else None)
+def mean(ratios):
+    return math.exp(sum(map(math.log, ratios)) / len(ratios)) if ratios else None
 
 
 def print_disagreements(times, instructions):
     """Where one measure has this library well behind a peer, and the other before it."""
-    print("Rows of which the time is above 1.2 of a peer's and the instructions below 1.0, or the other way round\n")
-    print("| Row | Capacity | Peer | Time | Instructions |\n|---|---|---|---|---|")
+    print(f"Rows of which the time is above {LIMIT} of a peer's and the instructions below 1.0, or the other way round\n")
+    print_head("Row", ["Capacity", "Peer", "Time", "Instructions"])
     for key in times["here"]:
-        for peer in PEERS:
+        for peer in peers_of(times, [key]):
             time, count = ratio(times, peer, key), ratio(instructions, peer, key)
-            if time and count and max(time, count) > 1.2 and min(time, count) < 1.0:
-                print(f"| {key[0]} | {key[1]} | {peer} | {time:.2f} | {count:.2f} |")
+            if max(time, count) > LIMIT and min(time, count) < 1.0:
+                print_line(key[0], [key[1], name_of(peer, group_of(key[0])), text_of(time), text_of(count)])
     print(flush=True)
+
+
+def put(document, name, table):
+    """Writes the table in place of the one after the comment of this name."""
+    text = document.read_text(encoding="utf-8")
+    text, count = re.subn(rf"(<!-- {re.escape(name)} -->\n)(?:\|.*\n)*", lambda it: it[1] + table.strip() + "\n", text)
+    if count != 1:
+        raise ValueError(f"{document} has {count} comments <!-- {name} -->")
+    document.write_text(text, encoding="utf-8")

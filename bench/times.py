@@ -6,12 +6,11 @@ from programs import lines
 
 def measure(programs, kind, runs, rounds):
     """Of each program, by row and capacity."""
-    commands = programs.commands()
-    taken = {name: {} for name in commands}
-    names = list(commands)
+    taken = {name: {} for name in programs}
+    names = list(programs)
     for run in range(runs):
         turn = run % len(names)
         for name in names[turn:] + names[:turn]:
-            for row, capacity, count, nanos, _ in lines([*commands[name], kind, str(rounds)]):
+            for row, capacity, count, nanos, _ in lines([*programs[name], kind, str(rounds)]):
                 taken[name].setdefault((row, int(capacity)), []).append(int(nanos) / int(count))
     return {name: {key: statistics.median(times) for key, times in rows.items()} for name, rows in taken.items()}

@@ -1,6 +1,6 @@
 //! What the rows of an `ArrayVec` work on.
 
-use crate::cutting::{dedup, drain_dropped, drain_taken, retain_half, splice};
+use crate::cutting::{drain_dropped, drain_taken, retain_half};
 use crate::edits::{insert_front, insert_middle, remove_front, remove_middle, swap_remove};
 use crate::ends::{push_and_pop, truncate_and_refill, two_pushes};
 use crate::filling::{clone_of, extend_from_range, extend_from_slice};
@@ -57,10 +57,6 @@ impl<const N: usize> Bench<Cut> for ArrayBench<'_, u64, N> {
             Cut::DrainTaken => drain_taken(&mut self.vec, source, x),
             Cut::DrainDropped => drain_dropped(&mut self.vec, source, x),
             Cut::RetainHalf => retain_half(&mut self.vec, source, x),
-            Cut::Dedup => dedup(&mut self.vec, source, x),
-            Cut::SpliceAsMany => splice(&mut self.vec, source, N as u64 / 4, x),
-            Cut::SpliceFewer => splice(&mut self.vec, source, N as u64 / 8, x),
-            Cut::SpliceMore => splice(&mut self.vec, source, N as u64 / 2, x),
         }
     }
 }

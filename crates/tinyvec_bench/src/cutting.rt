@@ -1,7 +1,7 @@
 //! Parts of a list taken out, replaced, and filtered.
 
 use crate::filling::extend_from_slice;
-use crate::reading::is_odd;
+use crate::number::is_odd;
 use tinyvec_array::ArrayVec;
 
 /// Fills the vector, and takes the middle half out.
@@ -31,31 +31,4 @@ pub fn retain_half<const N: usize>(vec: &mut ArrayVec<[u64; N]>, source: &[u64],
     extend_from_slice(vec, source, x);
     vec.retain(is_odd);
     x.wrapping_add(vec.len() as u64)
-}
-
-/// Fills the vector with runs, and keeps one of each.
-#[inline(never)]
-pub fn dedup<const N: usize>(vec: &mut ArrayVec<[u64; N]>, runs: &[u64], x: u64) -> u64 {
-    extend_from_slice(vec, runs, x);
-    vec.dedup();
-    x.wrapping_add(vec.len() as u64)
-}
-
-/// Makes the list the first three quarters of `source`, and puts `count` numbers in the place of the second quarter.
-#[inline(never)]
-pub fn splice<const N: usize>(
-    vec: &mut ArrayVec<[u64; N]>,
-    source: &[u64],
-    count: u64,
-    x: u64,
-) -> u64 {
-    let quarter = source.len() / 4;
-    extend_from_slice(vec, &source[..3 * quarter], x);
-    if vec.len() < 2 * quarter {
-        return 0;
-    }
-    match vec.splice(quarter..2 * quarter, 0..count).finish() {
-        Ok(()) => x.wrapping_add(vec.len() as u64),
-        Err(_) => 0,
-    }
 }

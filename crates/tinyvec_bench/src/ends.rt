@@ -1,5 +1,6 @@
 //! Items pushed and popped.
 
+use crate::emptying::empty;
 use crate::number::Number;
 use tinyvec_array::ArrayVec;
 
@@ -17,7 +18,7 @@ pub fn two_pushes<T: Number, const N: usize>(_like: &ArrayVec<[T; N]>, x: u64) -
 /// Pushes until the vector is full, and pops until it is empty.
 #[inline(never)]
 pub fn push_and_pop<T: Number, const N: usize>(vec: &mut ArrayVec<[T; N]>, x: u64) -> u64 {
-    vec.set_len(0);
+    empty(vec);
     push_until_full(vec, x);
     pop_until_empty(vec)
 }
@@ -25,7 +26,7 @@ pub fn push_and_pop<T: Number, const N: usize>(vec: &mut ArrayVec<[T; N]>, x: u6
 /// Pushes from none until the vector is full.
 #[inline(never)]
 pub fn push_all<T: Number, const N: usize>(vec: &mut ArrayVec<[T; N]>, x: u64) -> u64 {
-    vec.set_len(0);
+    empty(vec);
     push_until_full(vec, x)
 }
 

@@ -1,5 +1,6 @@
 //! Vectors filled from elsewhere.
 
+use crate::emptying::empty;
 use crate::number::Number;
 use tinyvec_array::ArrayVec;
 
@@ -15,7 +16,7 @@ pub fn extend_from_slice<T: Number, const N: usize>(
     source: &[T],
     x: u64,
 ) -> u64 {
-    vec.set_len(0);
+    empty(vec);
     if source.len() > vec.capacity() {
         return 0;
     }
@@ -28,7 +29,7 @@ pub fn extend_from_slice<T: Number, const N: usize>(
 /// Makes the list as many numbers from `x` on as fit.
 #[inline(never)]
 pub fn extend_from_range<const N: usize>(vec: &mut ArrayVec<[u64; N]>, x: u64) -> u64 {
-    vec.set_len(0);
+    empty(vec);
     let start = x % 65536;
     match vec.extend(start..start.saturating_add(N as u64)) {
         Ok(()) => vec.len() as u64,

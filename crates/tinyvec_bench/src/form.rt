@@ -1,9 +1,12 @@
 //! Lists written and read in the Borsh form.
+ghost use Rattle.std.specs.Prelude.{◌*◌, ◌^◌, ◌<◌};
 
-use crate::number::Number;
-use crate::reading::last;
-use crate::report::Bench;
+use crate::filling::full;
+use crate::number::{Number, last};
+use crate::report::{Bench, Report};
+use crate::sources::scattered;
 use std::alloc::Global;
+use std::rt::Runtime;
 use tinyvec_array::ArrayVec;
 use tinyvec_borsh::{BorshDeserialize, BorshSerialize};
 use tinyvec_io::Counted;
@@ -35,6 +38,29 @@ impl<T: Number + BorshSerialize + BorshDeserialize, const N: usize> Bench<Form>
             Form::Read => borsh_read(self.alloc, &mut self.vec, self.form, x),
         }
     }
+}
+
+/// Lists of bytes and of `u32` written and read in the Borsh form.
+pub fn of_forms<R: Runtime, const N: usize>(report: &mut Report<'_, R>, alloc: Global)
+    requires { N * 64 < 2 ^ 63 }
+{
+    let mut form = Vec::new(alloc);
+    let vec = full(scattered::<u8, N>());
+    let mut bytes = FormBench {
+        alloc,
+        vec,
+        form: &mut form,
+    };
+    report.run("borsh_write_bytes", N, Form::Write, &mut bytes);
+    report.run("borsh_read_bytes", N, Form::Read, &mut bytes);
+    let vec = full(scattered::<u32, N>());
+    let mut numbers = FormBench {
+        alloc,
+        vec,
+        form: &mut form,
+    };
+    report.run("borsh_write_u32", N, Form::Write, &mut numbers);
+    report.run("borsh_read_u32", N, Form::Read, &mut numbers);
 }
 
 // Writes the list, whose first item is made from `x`, and answers the first byte behind the count, and how many bytes

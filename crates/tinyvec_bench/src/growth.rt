@@ -2,12 +2,12 @@
 ghost use Rattle.std.specs.Prelude.{◌*◌, ◌^◌, ◌<◌};
 
 use crate::arrays::ArrayBench;
-use crate::cutting;
 use crate::ends::push_all;
 use crate::filling::{extend_from_range, full};
 use crate::report::{Bench, Report};
 use crate::sources::counting;
-use crate::tiny::{cutting as tiny_cutting, spilling};
+use crate::tiny::{cutting as tiny_cutting, spilling, splicing as tiny_splicing};
+use crate::{cutting, splicing};
 use std::alloc::Global;
 use std::io;
 use std::rt::Runtime;
@@ -31,7 +31,7 @@ impl<const N: usize> Bench<Growth> for ArrayBench<'_, u64, N> {
         match benchmark {
             Growth::Push => push_all(&mut self.vec, x),
             Growth::Extend => extend_from_range(&mut self.vec, x),
-            Growth::Splice(count) => cutting::splice(&mut self.vec, source, count, x),
+            Growth::Splice(count) => splicing::splice(&mut self.vec, source, count, x),
             Growth::Drain => cutting::drain_dropped(&mut self.vec, source, x),
             Growth::Retain => cutting::retain_half(&mut self.vec, source, x),
         }
@@ -53,7 +53,7 @@ impl Bench<Growth> for ListBench<'_> {
         match benchmark {
             Growth::Push => spilling::push(self.alloc, &self.vec, count, x),
             Growth::Extend => spilling::extend_from_range(self.alloc, &self.vec, count, x),
-            Growth::Splice(count) => tiny_cutting::splice(&mut self.vec, self.source, count, x),
+            Growth::Splice(count) => tiny_splicing::splice(&mut self.vec, self.source, count, x),
             Growth::Drain => tiny_cutting::drain_dropped(&mut self.vec, self.source, x),
             Growth::Retain => tiny_cutting::retain_half(&mut self.vec, self.source, x),
         }

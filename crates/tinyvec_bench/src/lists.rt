@@ -26,10 +26,18 @@ pub enum Cut {
     DrainTaken,
     DrainDropped,
     RetainHalf,
-    Dedup,
-    SpliceAsMany,
-    SpliceFewer,
-    SpliceMore,
+}
+
+/// One item of each run kept.
+#[derive(Clone, Copy)]
+pub struct Dedup;
+
+/// How many items a splice puts in the place of a quarter.
+#[derive(Clone, Copy)]
+pub enum Splice {
+    AsMany,
+    Fewer,
+    More,
 }
 
 pub fn edits<R: Runtime, S: Bench<Edit>>(report: &mut Report<'_, R>, n: usize, list: &mut S) {
@@ -50,15 +58,10 @@ pub fn cuts<R: Runtime, S: Bench<Cut>>(report: &mut Report<'_, R>, n: usize, lis
     report.run("drain_dropped", n, Cut::DrainDropped, list);
 }
 
-pub fn filters<R: Runtime, S: Bench<Cut>>(report: &mut Report<'_, R>, n: usize, list: &mut S) {
-    report.run("retain_half", n, Cut::RetainHalf, list);
-    report.run("dedup", n, Cut::Dedup, list);
-}
-
-pub fn splices<R: Runtime, S: Bench<Cut>>(report: &mut Report<'_, R>, n: usize, list: &mut S) {
-    report.run("splice_as_many", n, Cut::SpliceAsMany, list);
-    report.run("splice_fewer", n, Cut::SpliceFewer, list);
-    report.run("splice_more", n, Cut::SpliceMore, list);
+pub fn splices<R: Runtime, S: Bench<Splice>>(report: &mut Report<'_, R>, n: usize, list: &mut S) {
+    report.run("splice_as_many", n, Splice::AsMany, list);
+    report.run("splice_fewer", n, Splice::Fewer, list);
+    report.run("splice_more", n, Splice::More, list);
 }
 
 pub fn copies<R: Runtime, S: Bench<Edit>>(report: &mut Report<'_, R>, n: usize, list: &mut S) {

@@ -1,4 +1,4 @@
-//! What the benchmarks' vectors hold.
+//! What the benchmarks' vectors hold, and what is asked of it.
 
 /// A number that is made from a `u64` and adds up to one.
 pub trait Number: Copy + Clone + Default + Drop + PartialEq {
@@ -35,4 +35,18 @@ impl Number for u32 {
     fn value(self) -> u64 {
         self as u64
     }
+}
+
+/// The last item, or 0 where there is none.
+pub fn last<T: Number>(items: &[T]) -> u64 {
+    match items.last() {
+        Some(x) => (*x).value(),
+        None => 0,
+    }
+}
+
+/// Which items a row keeps where it keeps half.
+#[inline(always)]
+pub fn is_odd(item: &u64) -> bool {
+    *item % 2 == 1
 }

@@ -1,7 +1,11 @@
 //! Vectors in a lent slice.
+ghost use Rattle.std.specs.Prelude.{◌*◌, ◌^◌, ◌<◌};
 
-use crate::reading::is_odd;
-use crate::report::Bench;
+use crate::looks::slice_looks;
+use crate::number::is_odd;
+use crate::report::{Bench, Report};
+use crate::sources::{higher_at, pairs, scattered};
+use std::rt::Runtime;
 use tinyvec_slice::SliceVec;
 
 /// What is done with the slice.
@@ -35,8 +39,37 @@ impl<const N: usize> Bench<SliceEdit> for SliceBench<'_, N> {
     }
 }
 
-/// A full vector over the slots.
-pub fn full_slice(slots: &mut [u64]) -> SliceVec<'_, u64> {
+/// The benchmarks of a vector in a lent slice of `u64`.
+pub fn of_slices<R: Runtime, const N: usize>(report: &mut Report<'_, R>)
+    requires { N * 64 < 2 ^ 63 }
+{
+    let source = scattered::<u64, N>();
+    let runs = pairs::<N>();
+    let mut slice = SliceBench {
+        slots: source,
+        source: &source,
+    };
+    report.run("slice_push", N, SliceEdit::Push, &mut slice);
+    report.run("slice_insert", N, SliceEdit::Insert, &mut slice);
+    report.run("slice_remove", N, SliceEdit::Remove, &mut slice);
+    report.run("slice_drain", N, SliceEdit::Drain, &mut slice);
+    slice.source = &runs;
+    report.run("slice_retain", N, SliceEdit::Retain, &mut slice);
+    looks_at_slices(report, source);
+}
+
+fn looks_at_slices<R: Runtime, const N: usize>(report: &mut Report<'_, R>, source: [u64; N]) {
+    let mut slots = source;
+    let mut same_slots = source;
+    let mut higher_slots = higher_at(source, N.saturating_sub(1));
+    let vec = full_slice(&mut slots);
+    let same = full_slice(&mut same_slots);
+    let last_higher = full_slice(&mut higher_slots);
+    slice_looks(report, N, &vec, &same, &last_higher);
+}
+
+// A full vector over the slots.
+fn full_slice(slots: &mut [u64]) -> SliceVec<'_, u64> {
     let len = slots.len();
     SliceVec::from_slice_len(slots, len)
 }

@@ -1,7 +1,10 @@
 //! Short texts, which stay in their array or move to the heap.
+ghost use Rattle.std.specs.Prelude.{◌*◌, ◌^◌, ◌<◌};
 
-use crate::report::Bench;
+use crate::report::{Bench, Report};
+use crate::sources::LETTERS;
 use std::alloc::Global;
+use std::rt::Runtime;
 use tinyvec_text::InlineText;
 
 /// How a text is added.
@@ -23,10 +26,32 @@ impl<const N: usize> Bench<TextPush> for TextBench<'_, N> {
     #[inline(always)]
     fn round(&mut self, benchmark: TextPush, x: u64) -> u64 {
         match benchmark {
-            TextPush::Str => text_push_str(self.alloc, &mut self.made, self.text, x),
-            TextPush::Characters => text_push(self.alloc, &mut self.made, self.text, x),
+            TextPush::Str => text_push_str::<N>(self.alloc, &mut self.made, self.text, x),
+            TextPush::Characters => text_push::<N>(self.alloc, &mut self.made, self.text, x),
         }
     }
+}
+
+/// The first bytes of a text. Where the array has fewer slots, they move to the heap.
+pub fn of_texts<R: Runtime, const N: usize>(
+    report: &mut Report<'_, R>,
+    made: InlineText<N>,
+    alloc: Global,
+    count: usize,
+)
+    requires { N * 64 < 2 ^ 63 }
+{
+    let Some(text) = LETTERS.get(..count) else {
+        return;
+    };
+    let (str_name, characters_name) = if count <= N {
+        ("text_push_str", "text_push")
+    } else {
+        ("text_push_str_spilled", "text_push_spilled")
+    };
+    let mut bench = TextBench::<N> { alloc, made, text };
+    report.run(str_name, count, TextPush::Str, &mut bench);
+    report.run(characters_name, count, TextPush::Characters, &mut bench);
 }
 
 // Makes a new text, to which `text` is added.

@@ -2,6 +2,7 @@
 
 pub mod cutting;
 pub mod edits;
+pub mod emptying;
 pub mod ends;
 pub mod filling;
 pub mod lists;
@@ -9,3 +10,4 @@ pub mod place;
 pub mod reading;
 pub mod rows;
 pub mod spilling;
+pub mod splicing;

@@ -1,13 +1,13 @@
 //! Parts of a list taken out, replaced, and filtered.
 
-use crate::reading::is_odd;
+use crate::number::is_odd;
 use crate::tiny::filling::extend_from_slice;
 use tinyvec::TinyVec;
 
 /// Fills the vector, and takes the middle half out.
 #[inline(never)]
 pub fn drain_taken<const N: usize>(vec: &mut TinyVec<[u64; N]>, source: &[u64], x: u64) -> u64 {
-    extend_from_slice(vec, source, x);
+    extend_from_slice::<u64, N>(vec, source, x);
     let len = vec.len();
     let mut sum = x;
     for y in vec.drain(len / 4..len - len / 4) {
@@ -19,7 +19,7 @@ pub fn drain_taken<const N: usize>(vec: &mut TinyVec<[u64; N]>, source: &[u64], 
 /// Fills the vector, and drops the middle half.
 #[inline(never)]
 pub fn drain_dropped<const N: usize>(vec: &mut TinyVec<[u64; N]>, source: &[u64], x: u64) -> u64 {
-    extend_from_slice(vec, source, x);
+    extend_from_slice::<u64, N>(vec, source, x);
     let len = vec.len();
     drop(vec.drain(len / 4..len - len / 4));
     x.wrapping_add(vec.len() as u64)
@@ -28,7 +28,7 @@ pub fn drain_dropped<const N: usize>(vec: &mut TinyVec<[u64; N]>, source: &[u64]
 /// Fills the vector, and keeps the odd items.
 #[inline(never)]
 pub fn retain_half<const N: usize>(vec: &mut TinyVec<[u64; N]>, source: &[u64], x: u64) -> u64 {
-    extend_from_slice(vec, source, x);
+    extend_from_slice::<u64, N>(vec, source, x);
     vec.retain(is_odd);
     x.wrapping_add(vec.len() as u64)
 }
@@ -36,26 +36,7 @@ pub fn retain_half<const N: usize>(vec: &mut TinyVec<[u64; N]>, source: &[u64], 
 /// Fills the vector with runs, and keeps one of each.
 #[inline(never)]
 pub fn dedup<const N: usize>(vec: &mut TinyVec<[u64; N]>, runs: &[u64], x: u64) -> u64 {
-    extend_from_slice(vec, runs, x);
+    extend_from_slice::<u64, N>(vec, runs, x);
     vec.dedup();
     x.wrapping_add(vec.len() as u64)
-}
-
-/// Makes the list the first three quarters of `source`, and puts `count` numbers in the place of the second quarter.
-#[inline(never)]
-pub fn splice<const N: usize>(
-    vec: &mut TinyVec<[u64; N]>,
-    source: &[u64],
-    count: u64,
-    x: u64,
-) -> u64 {
-    let quarter = source.len() / 4;
-    extend_from_slice(vec, &source[..3 * quarter], x);
-    if vec.len() < 2 * quarter {
-        return 0;
-    }
-    match vec.splice(quarter..2 * quarter, 0..count).finish() {
-        Ok(()) => x.wrapping_add(vec.len() as u64),
-        Err(_) => 0,
-    }
 }

@@ -1,6 +1,7 @@
 //! Items pushed and popped.
 
 use crate::number::Number;
+use crate::tiny::emptying::empty;
 use std::alloc::Global;
 use tinyvec::TinyVec;
 
@@ -35,16 +36,16 @@ pub fn two_pushes_on_heap<T: Number, const N: usize>(
 /// Pushes as many items as the array has slots, and pops until the vector is empty, as it is before.
 #[inline(never)]
 pub fn push_and_pop<T: Number, const N: usize>(vec: &mut TinyVec<[T; N]>, x: u64) -> u64 {
-    vec.clear();
-    push_until_full(vec, x);
-    pop_until_empty(vec)
+    empty::<T, N>(vec);
+    push_until_full::<T, N>(vec, x);
+    pop_until_empty::<T, N>(vec)
 }
 
 /// Cuts the list to half the array's slots, and pushes until it is as long as the array.
 #[inline(never)]
 pub fn truncate_and_refill<T: Number, const N: usize>(vec: &mut TinyVec<[T; N]>, x: u64) -> u64 {
     vec.truncate(N / 2);
-    push_until_full(vec, x)
+    push_until_full::<T, N>(vec, x)
 }
 
 // Answers the number that would have come next.

@@ -1,6 +1,7 @@
 //! Vectors filled from elsewhere.
 
 use crate::number::Number;
+use crate::tiny::emptying::empty;
 use std::alloc::Global;
 use tinyvec::TinyVec;
 
@@ -11,7 +12,7 @@ pub fn extend_from_slice<T: Number, const N: usize>(
     source: &[T],
     x: u64,
 ) -> u64 {
-    vec.clear();
+    empty::<T, N>(vec);
     match vec.extend_from_slice(source) {
         Ok(()) => x.wrapping_add(vec.len() as u64),
         Err(_) => 0,
@@ -21,7 +22,7 @@ pub fn extend_from_slice<T: Number, const N: usize>(
 /// Makes the list as many numbers from `x` on as the array has slots.
 #[inline(never)]
 pub fn extend_from_range<const N: usize>(vec: &mut TinyVec<[u64; N]>, x: u64) -> u64 {
-    vec.clear();
+    empty::<u64, N>(vec);
     let start = x % 65536;
     match vec.extend(start..start.saturating_add(N as u64)) {
         Ok(()) => vec.len() as u64,

@@ -1,9 +1,9 @@
 //! What the rows of a `TinyVec` work on.
 
-use crate::lists::{Cut, Edit};
+use crate::lists::{Cut, Dedup, Edit};
 use crate::number::Number;
 use crate::report::Bench;
-use crate::tiny::cutting::{dedup, drain_dropped, drain_taken, retain_half, splice};
+use crate::tiny::cutting::{dedup, drain_dropped, drain_taken, retain_half};
 use crate::tiny::edits::{insert_front, insert_middle, remove_front, remove_middle, swap_remove};
 use crate::tiny::ends::{push_and_pop, truncate_and_refill, two_pushes, two_pushes_on_heap};
 use crate::tiny::filling::{clone_of, extend_from_range, extend_from_slice};
@@ -43,8 +43,8 @@ impl<T: Number, const N: usize> Bench<Place> for TinyBench<'_, T, N> {
     #[inline(always)]
     fn round(&mut self, benchmark: Place, x: u64) -> u64 {
         match benchmark {
-            Place::Inline => last_of(&two_pushes(self.alloc, &self.vec, x)),
-            Place::Heap => last_of(&two_pushes_on_heap(self.alloc, &self.vec, x)),
+            Place::Inline => last_of::<T, N>(&two_pushes::<T, N>(self.alloc, &self.vec, x)),
+            Place::Heap => last_of::<T, N>(&two_pushes_on_heap::<T, N>(self.alloc, &self.vec, x)),
         }
     }
 }
@@ -54,16 +54,16 @@ impl<T: Number, const N: usize> Bench<Edit> for TinyBench<'_, T, N> {
     fn round(&mut self, benchmark: Edit, x: u64) -> u64 {
         let source = self.source;
         match benchmark {
-            Edit::PushAndPop => push_and_pop(&mut self.vec, x),
-            Edit::InsertFront => insert_front(&mut self.vec, x),
-            Edit::InsertMiddle => insert_middle(&mut self.vec, x),
-            Edit::RemoveFront => remove_front(&mut self.vec, x),
-            Edit::RemoveMiddle => remove_middle(&mut self.vec, x),
-            Edit::SwapRemove => swap_remove(&mut self.vec, x),
-            Edit::TruncateAndRefill => truncate_and_refill(&mut self.vec, x),
-            Edit::ExtendFromSlice => extend_from_slice(&mut self.vec, source, x),
-            Edit::Clone => last_of(&clone_of(self.alloc, &self.vec, &self.odd, x)),
-            Edit::Sum => sum(&self.vec, x),
+            Edit::PushAndPop => push_and_pop::<T, N>(&mut self.vec, x),
+            Edit::InsertFront => insert_front::<T, N>(&mut self.vec, x),
+            Edit::InsertMiddle => insert_middle::<T, N>(&mut self.vec, x),
+            Edit::RemoveFront => remove_front::<T, N>(&mut self.vec, x),
+            Edit::RemoveMiddle => remove_middle::<T, N>(&mut self.vec, x),
+            Edit::SwapRemove => swap_remove::<T, N>(&mut self.vec, x),
+            Edit::TruncateAndRefill => truncate_and_refill::<T, N>(&mut self.vec, x),
+            Edit::ExtendFromSlice => extend_from_slice::<T, N>(&mut self.vec, source, x),
+            Edit::Clone => last_of::<T, N>(&clone_of::<T, N>(self.alloc, &self.vec, &self.odd, x)),
+            Edit::Sum => sum::<T, N>(&self.vec, x),
         }
     }
 }
@@ -73,14 +73,18 @@ impl<const N: usize> Bench<Cut> for TinyBench<'_, u64, N> {
     fn round(&mut self, benchmark: Cut, x: u64) -> u64 {
         let source = self.source;
         match benchmark {
-            Cut::ExtendFromRange => extend_from_range(&mut self.vec, x),
-            Cut::DrainTaken => drain_taken(&mut self.vec, source, x),
-            Cut::DrainDropped => drain_dropped(&mut self.vec, source, x),
-            Cut::RetainHalf => retain_half(&mut self.vec, source, x),
-            Cut::Dedup => dedup(&mut self.vec, source, x),
-            Cut::SpliceAsMany => splice(&mut self.vec, source, N as u64 / 4, x),
-            Cut::SpliceFewer => splice(&mut self.vec, source, N as u64 / 8, x),
-            Cut::SpliceMore => splice(&mut self.vec, source, N as u64 / 2, x),
+            Cut::ExtendFromRange => extend_from_range::<N>(&mut self.vec, x),
+            Cut::DrainTaken => drain_taken::<N>(&mut self.vec, source, x),
+            Cut::DrainDropped => drain_dropped::<N>(&mut self.vec, source, x),
+            Cut::RetainHalf => retain_half::<N>(&mut self.vec, source, x),
         }
+    }
+}
+
+impl<const N: usize> Bench<Dedup> for TinyBench<'_, u64, N> {
+    #[inline(always)]
+    fn round(&mut self, _benchmark: Dedup, x: u64) -> u64 {
+        let source = self.source;
+        dedup::<N>(&mut self.vec, source, x)
     }
 }

@@ -1,7 +1,6 @@
 //! Lists read.
 
-use crate::number::Number;
-use crate::reading::last;
+use crate::number::{Number, last};
 use tinyvec::TinyVec;
 
 /// The sum of the items and `x`.

@@ -1,7 +1,7 @@
 //! The rows of a `TinyVec`, at one capacity. A function that makes an array asks that one of so many items has a size.
 ghost use Rattle.std.specs.Prelude.{◌*◌, ◌^◌, ◌<◌};
 
-use crate::lists::{bytes, copies, cuts, edits, filters, splices};
+use crate::lists::{Cut, Dedup, bytes, copies, cuts, edits};
 use crate::looks::{LookBench, looks};
 use crate::printing::Text;
 use crate::report::{Bench, Report};
@@ -26,7 +26,7 @@ pub fn of_tiny<R: Runtime, const N: usize>(
     bytes_of_tiny::<R, N>(report, alloc, place)
 }
 
-fn words_of_tiny<R: Runtime, const N: usize>(
+pub fn words_of_tiny<R: Runtime, const N: usize>(
     report: &mut Report<'_, R>,
     alloc: Global,
     place: Place,
@@ -43,9 +43,9 @@ fn words_of_tiny<R: Runtime, const N: usize>(
     edits(report, N, &mut list);
     cuts(report, N, &mut list);
     list.source = &runs;
-    filters(report, N, &mut list);
+    report.run("retain_half", N, Cut::RetainHalf, &mut list);
+    report.run("dedup", N, Dedup, &mut list);
     list.source = &source;
-    splices(report, N, &mut list);
     copies(report, N, &mut list);
     looks_at_tiny(report, alloc, place, &list.vec, source)
 }
@@ -64,7 +64,7 @@ fn looks_at_tiny<R: Runtime, const N: usize>(
     Ok(())
 }
 
-fn bytes_of_tiny<R: Runtime, const N: usize>(
+pub fn bytes_of_tiny<R: Runtime, const N: usize>(
     report: &mut Report<'_, R>,
     alloc: Global,
     place: Place,
@@ -106,5 +106,4 @@ fn spills<R: Runtime, S: Bench<Spill>>(report: &mut Report<'_, R>, n: usize, lis
     report.run("insert_front", n, Spill::InsertFront, list);
     report.run("insert_middle", n, Spill::InsertMiddle, list);
     report.run("resize", n, Spill::Resize, list);
-    report.run("splice_more", n, Spill::SpliceMore, list);
 }

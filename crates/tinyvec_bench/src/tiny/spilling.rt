@@ -14,7 +14,6 @@ pub enum Spill {
     InsertFront,
     InsertMiddle,
     Resize,
-    SpliceMore,
 }
 
 /// What the lists are filled with, and one that is appended.
@@ -31,16 +30,13 @@ impl<const N: usize> Bench<Spill> for SpillBench<'_, N> {
         let count = N as u64;
         let twice = count.saturating_add(count);
         match benchmark {
-            Spill::Push => push(self.alloc, &self.other, twice, x),
+            Spill::Push => push::<N>(self.alloc, &self.other, twice, x),
             Spill::ExtendFromSlice => extend_from_slice(self.alloc, self.source, x),
-            Spill::ExtendFromRange => extend_from_range(self.alloc, &self.other, twice, x),
+            Spill::ExtendFromRange => extend_from_range::<N>(self.alloc, &self.other, twice, x),
             Spill::Append => append(self.alloc, &mut self.other, self.source, x),
             Spill::InsertFront => insert(self.alloc, self.source, 0, x),
             Spill::InsertMiddle => insert(self.alloc, self.source, N / 2, x),
             Spill::Resize => resize(self.alloc, self.source, N.saturating_add(N), x),
-            Spill::SpliceMore => {
-                splice_more(self.alloc, self.source, count.saturating_add(count / 4), x)
-            }
         }
     }
 }
@@ -126,21 +122,8 @@ fn resize<const N: usize>(alloc: Global, source: &[u64; N], len: usize, x: u64) 
     look_at(vec.as_slice(), x)
 }
 
-// Puts `count` numbers in the place of the second quarter of a full list.
-#[inline(never)]
-fn splice_more<const N: usize>(alloc: Global, source: &[u64; N], count: u64, x: u64) -> u64 {
-    let Ok(mut vec) = filled(alloc, source) else {
-        return 0;
-    };
-    let quarter = vec.len() / 4;
-    match vec.splice(quarter..2 * quarter, 0..count).finish() {
-        Ok(()) => look_at(vec.as_slice(), x),
-        Err(_) => 0,
-    }
-}
-
-// A new list of the items of `source`, in its array.
-fn filled<const N: usize>(
+/// A new list of the items of `source`, in its array.
+pub fn filled<const N: usize>(
     alloc: Global,
     source: &[u64; N],
 ) -> Result<TinyVec<[u64; N]>, AllocError> {
@@ -149,8 +132,8 @@ fn filled<const N: usize>(
     Ok(vec)
 }
 
-// How many items there are, one of them and `x`, added up.
-fn look_at(items: &[u64], x: u64) -> u64 {
+/// How many items there are, one of them and `x`, added up.
+pub fn look_at(items: &[u64], x: u64) -> u64 {
     let item = match items.get((x % 64) as usize) {
         Some(y) => *y,
         None => 0,

@@ -1,0 +1,10 @@
+//! Vectors that a row fills anew. The border moves, and no slot is written, so that the row measures its own call.
+
+use crate::number::Number;
+use tinyvec_array::ArrayVec;
+
+/// An `ArrayVec` of no items.
+#[inline(always)]
+pub fn empty<T: Number, const N: usize>(vec: &mut ArrayVec<[T; N]>) {
+    vec.set_len(0);
+}
