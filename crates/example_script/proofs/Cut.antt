@@ -1,27 +1,14 @@
 -- The lines of a text that is given line by line.
-use Rattle.std.proofs.Common.{◌≡◌, ◌≢◌, ℕ, List, [], ◌∷◌, ◌++◌, length, refl, sym, ap, subst, ◌∙◌, arith, append_assoc, append-nil, length-append}
+use Rattle.std.proofs.Common.{◌≡◌, ℕ, List, [], ◌∷◌, ◌++◌, length, refl, sym, ap, subst, ◌∙◌, arith, append_assoc, append-nil, length-append}
 use Rattle.std.specs.List.{AllByRecursion}
 use Rattle.std.proofs.lemmas.List.Elements.{recursion_from_All, All-head, All-tail}
 use Rattle.tinyvec_io.specs.Lines.{IsLine, ended, last_line, Splits}
 use Rattle.tinyvec_script.specs.Script.{State, start, Answers, Script}
+use Rattle.tinyvec_script.proofs.Words.{Lacks, no_mark_in, cut_once}
 
 -- no line feed stands in it
 abbrev pub IsWhole : List ℕ → Type 0
-IsWhole = AllByRecursion (λ byte. byte ≢ 10)
-
-no_feed : (xs ys : List ℕ) → IsWhole (xs ++ 10 ∷ ys) → ⊥
-no_feed [] ys h = h.0 refl
-no_feed (x ∷ xs) ys h = no_feed xs ys h.1
-
-cut_once : (a b c d : List ℕ) → IsWhole a → IsWhole c → a ++ 10 ∷ b ≡ c ++ 10 ∷ d → (a ≡ c) × (b ≡ d)
-cut_once [] b [] d p q e = (refl, cc)
-cut_once [] b (y ∷ c) d p q e = absurd (q.0 (cc))
-cut_once (x ∷ a) b [] d p q e = absurd (p.0 (cc))
-cut_once (x ∷ a) b (y ∷ c) d p q e =
-    let head : x ≡ y = cc in
-    let tail : a ++ 10 ∷ b ≡ c ++ 10 ∷ d = cc in
-    let rest = cut_once a b c d p.1 q.1 tail in
-    (cc, rest.1)
+IsWhole = Lacks 10
 
 -- where the first of the lines ends
 ended_first : (line : List ℕ) (lines : List (List ℕ)) (rest : List ℕ) → ended (line ∷ lines) ++ rest ≡ line ++ 10 ∷ (ended lines ++ rest)
@@ -34,10 +21,10 @@ ended_splits [] (first ∷ more) rest whole s =
     let long = ap length (s.whole ∙ ended_first first more rest) ∙ length-append first (10 ∷ (ended more ++ rest)) in
     absurd (omega (arith, long))
 ended_splits (line ∷ lines) [] rest whole s =
-    absurd (no_feed line (ended lines ++ []) (recursion_from_All _ _ (rw (sym s.whole ∙ sym (append-nil (ended (line ∷ lines))) ∙ ended_first line lines []) at s.partial)))
+    absurd (no_mark_in 10 line (ended lines ++ []) (recursion_from_All _ _ (rw (sym s.whole ∙ sym (append-nil (ended (line ∷ lines))) ∙ ended_first line lines []) at s.partial)))
 ended_splits (line ∷ lines) (first ∷ more) rest whole s =
     let e = sym (ended_first line lines []) ∙ append-nil (ended (line ∷ lines)) ∙ s.whole ∙ ended_first first more rest in
-    let parts = cut_once line (ended lines ++ []) first (ended more ++ rest) whole.0 (recursion_from_All _ _ (All-head IsLine first more s.each)) e in
+    let parts = cut_once 10 line (ended lines ++ []) first (ended more ++ rest) whole.0 (recursion_from_All _ _ (All-head IsLine first more s.each)) e in
     let left = ended_splits lines more rest whole.1
     (record { whole = sym (append-nil (ended lines)) ∙ parts.1; each = All-tail IsLine first more s.each; partial = s.partial }) in
     (let head = parts.0 in let tail = left.0 in cc, left.1)

@@ -1,34 +1,36 @@
--- A text cut at its first blank.
+-- A text cut at its first blank, and at the first byte of any value.
 use Rattle.std.proofs.Common.{◌≡◌, ◌≢◌, ℕ, List, [], ◌∷◌, ◌++◌, refl, sym, ◌∙◌}
 use Rattle.std.specs.List.{All, AllByRecursion}
 use Rattle.tinyvec_script.specs.Words.{StartsBlank}
 use Rattle.std.proofs.lemmas.List.Elements.{recursion_from_All}
 
-abbrev pub IsWord : List ℕ → Type 0
-IsWord = AllByRecursion (λ byte. byte ≢ 32)
+module _ (mark : ℕ) where
+  -- the mark stands nowhere in it
+  abbrev pub Lacks : List ℕ → Type 0
+  Lacks = AllByRecursion (λ byte. byte ≢ mark)
 
-no_blank_in : (xs ys : List ℕ) → IsWord (xs ++ 32 ∷ ys) → ⊥
-no_blank_in [] ys h = h.0 refl
-no_blank_in (x ∷ xs) ys h = no_blank_in xs ys h.1
+  pub no_mark_in : (xs ys : List ℕ) → Lacks (xs ++ mark ∷ ys) → ⊥
+  no_mark_in [] ys h = h.0 refl
+  no_mark_in (x ∷ xs) ys h = no_mark_in xs ys h.1
+
+  pub cut_once : (a b c d : List ℕ) → Lacks a → Lacks c → a ++ mark ∷ b ≡ c ++ mark ∷ d → (a ≡ c) × (b ≡ d)
+  cut_once [] b [] d p q e = (refl, cc)
+  cut_once [] b (y ∷ c) d p q e = absurd (q.0 (cc))
+  cut_once (x ∷ a) b [] d p q e = absurd (p.0 (cc))
+  cut_once (x ∷ a) b (y ∷ c) d p q e =
+      let head : x ≡ y = cc in
+      let tail : a ++ mark ∷ b ≡ c ++ mark ∷ d = cc in
+      let rest = cut_once a b c d p.1 q.1 tail in
+      (cc, rest.1)
 
 pub has_blank : (text xs ys : List ℕ) → All (λ byte. byte ≢ 32) text → text ≡ xs ++ 32 ∷ ys → ⊥
-has_blank text xs ys h e = no_blank_in xs ys (recursion_from_All _ _ (rw e at h))
-
-cut_once : (a b c d : List ℕ) → IsWord a → IsWord c → a ++ 32 ∷ b ≡ c ++ 32 ∷ d → (a ≡ c) × (b ≡ d)
-cut_once [] b [] d p q e = (refl, cc)
-cut_once [] b (y ∷ c) d p q e = absurd (q.0 (cc))
-cut_once (x ∷ a) b [] d p q e = absurd (p.0 (cc))
-cut_once (x ∷ a) b (y ∷ c) d p q e =
-    let head : x ≡ y = cc in
-    let tail : a ++ 32 ∷ b ≡ c ++ 32 ∷ d = cc in
-    let rest = cut_once a b c d p.1 q.1 tail in
-    (cc, rest.1)
+has_blank text xs ys h e = no_mark_in 32 xs ys (recursion_from_All _ _ (rw e at h))
 
 -- a text is cut at its first blank in one way
 pub one_cut : (text a b c d : List ℕ) → text ≡ a ++ 32 ∷ b → All (λ byte. byte ≢ 32) a → text ≡ c ++ 32 ∷ d → All (λ byte. byte ≢ 32) c → (a ≡ c) × (b ≡ d)
-one_cut text a b c d e p f q = cut_once a b c d (recursion_from_All _ _ p) (recursion_from_All _ _ q) (sym e ∙ f)
+one_cut text a b c d e p f q = cut_once 32 a b c d (recursion_from_All _ _ p) (recursion_from_All _ _ q) (sym e ∙ f)
 
-split_once : (a b c d : List ℕ) → IsWord a → IsWord c → StartsBlank b → StartsBlank d → a ++ b ≡ c ++ d → (a ≡ c) × (b ≡ d)
+split_once : (a b c d : List ℕ) → Lacks 32 a → Lacks 32 c → StartsBlank b → StartsBlank d → a ++ b ≡ c ++ d → (a ≡ c) × (b ≡ d)
 split_once [] b [] d p q s t e = (refl, e)
 split_once [] [] (y ∷ c) d p q s t e = absurd (let no : [] ≡ y ∷ (c ++ d) = e in cc)
 split_once [] (z ∷ b) (y ∷ c) d p q s t e = absurd (q.0 (let same : z ≡ y = cc in sym same ∙ s))
