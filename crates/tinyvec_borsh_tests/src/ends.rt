@@ -51,6 +51,28 @@ impl Write for FailingWriter {
     }
 }
 
+// Takes a byte at a time. Before each byte it is interrupted.
+#[derive(Drop)]
+pub(crate) struct InterruptedWriter {
+    pub(crate) taken: usize,
+    pub(crate) is_interrupted: bool,
+}
+
+impl Write for InterruptedWriter {
+    fn write(&mut self, buf: &[u8]) -> io::Result<usize> {
+        self.is_interrupted = !self.is_interrupted;
+        if self.is_interrupted {
+            return Err(io::Error::from(Interrupted));
+        }
+        self.taken = self.taken.wrapping_add(1);
+        Ok(buf.len().min(1))
+    }
+
+    fn flush(&mut self) -> io::Result<()> {
+        Ok(())
+    }
+}
+
 // Whether just these bytes are written for the value.
 pub(crate) fn spells<T: BorshSerialize>(
     alloc: Global,

@@ -1,5 +1,5 @@
 //! Readers and writers that fail.
-use crate::ends::{FailingReader, FailingWriter};
+use crate::ends::{FailingReader, FailingWriter, InterruptedWriter};
 use std::alloc::{AllocError, Global};
 use std::test::Fail;
 use tinyvec::{ArrayVec, TinyVec};
@@ -76,5 +76,20 @@ fn a_writer_that_fails_after_each_byte(rt: HostRuntime) -> Result<(), Fail> {
         wrong = first(wrong, u32::from(k) + 1, is_right);
     }
     wrong = first(wrong, 11, writes(10, Ok(()), 0));
+    all_right(wrong)
+}
+
+#[test]
+fn a_writer_that_is_interrupted_before_each_byte(rt: HostRuntime) -> Result<(), Fail> {
+    let v = ArrayVec::from_array_len([1u8, 2, 9, 9], 2);
+    let mut writer = Counted::new(InterruptedWriter {
+        taken: 0,
+        is_interrupted: false,
+    });
+    let written = v.serialize(&mut writer);
+    let mut wrong = 0;
+    wrong = first(wrong, 1, written == Ok(()));
+    wrong = first(wrong, 2, writer.faults() == 10);
+    wrong = first(wrong, 3, writer.into_inner().taken == 10);
     all_right(wrong)
 }
