@@ -1,5 +1,6 @@
 //! A text that is read and written as its lines come.
-ghost use Rattle.std.specs.Prelude.{◌≡◌, ◌≢◌, ◌≤◌, ◌^◌, ◌-◌, ◌++◌, List, ℕ, Some, OnOk, IsErrOf, length};
+ghost use Rattle.std.specs.Prelude.{◌≡◌, ◌≤◌, ◌↔◌, ◌^◌, ◌-◌, ◌++◌, IsTrue, List, ℕ, Some, OnOk, IsErrOf, length};
+ghost use Rattle.std.specs.IoError.{error_kind};
 ghost use Rattle.std.specs.Io.KnownBytes.{Appends, Consumes, IsAtEnd, Keeps};
 ghost use Rattle.tinyvec.specs.Tiny.{tiny_items, tiny_capacity};
 ghost use Rattle.tinyvec_io.specs.Counted.{Reported};
@@ -37,7 +38,10 @@ pub enum TidyError {
 
 impl TidyError {
     /// Nobody reads the output any more.
-    pub fn is_closed_pipe(&self) -> bool {
+    pub fn is_closed_pipe(&self) -> bool
+        ensures { IsTrue result
+            ↔ ((error : IoError) × (self.now ≡ TidyError.Write error) × (error_kind error ≡ ErrorKind.BrokenPipe)) }
+    {
         match self {
             TidyError::Write(error) => error.kind() == ErrorKind::BrokenPipe,
             _ => false,
