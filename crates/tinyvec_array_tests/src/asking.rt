@@ -3,7 +3,7 @@ ghost use Rattle.tinyvec_array.specs.Drain.{DrainCanStep};
 ghost use Rattle.tinyvec_array.specs.Splice.{SpliceCanStep};
 
 use std::iter::Fuse;
-use tinyvec_array::{Array, ArrayVecDrain, ArrayVecSplice};
+use tinyvec_array::{Array, ArrayVecDrain, ArrayVecSplice, SpliceRest};
 use tinyvec_test_items::is_left;
 
 // A question, and the answer.
@@ -56,8 +56,8 @@ fn splice_answers<A: Array<Item = i32>, I: DoubleEndedIterator<Item = i32>>(
     }
 }
 
-/// Whether a splice answers so, and may go on.
-pub(crate) fn asked<A: Array<Item = i32>, I: DoubleEndedIterator<Item = i32>>(
+// Whether a splice answers so, and may go on.
+fn asked<A: Array<Item = i32>, I: DoubleEndedIterator<Item = i32>>(
     splice: &mut ArrayVecSplice<'_, A, Fuse<I>>,
     asks: &[Ask],
 ) -> bool
@@ -73,14 +73,23 @@ pub(crate) fn asked<A: Array<Item = i32>, I: DoubleEndedIterator<Item = i32>>(
     answers
 }
 
-/// Whether a splice answers so, and all of its replacement finds room then.
+/// Whether a splice ended so, with all in place, by so many touches.
+pub(crate) fn touched<I>(finished: (Result<(), SpliceRest<i32, I>>, u128), touches: u128) -> bool
+where
+    I: Drop,
+{
+    finished.0.is_ok() & (finished.1 == touches)
+}
+
+/// Whether a splice answers so, and all of its replacement finds room then, by so many touches in all.
 pub(crate) fn splices<A: Array<Item = i32>, I: DoubleEndedIterator<Item = i32>>(
     mut splice: ArrayVecSplice<'_, A, Fuse<I>>,
     asks: &[Ask],
+    touches: u128,
 ) -> bool
     requires can_step { SpliceCanStep splice }
     requires front { (s : I) → I.can_next s }
     requires back { (s : I) → I.can_next_back s }
 {
-    asked(&mut splice, asks) & splice.finish().is_ok()
+    asked(&mut splice, asks) & touched(splice.finish_counted(), touches)
 }

@@ -2,11 +2,11 @@
 
 use TryFromSliceError::{Memory, TooLong};
 use std::alloc::AllocError;
-use std::cell::Cell;
 use std::fmt::InlineText;
+use std::test::Fail;
 use tinyvec_array::{ArrayVec, NoMemory, TryFromSliceError};
 use tinyvec_test_items::arrays::{clones_over, extends_by_clones, holds, is_made, pushes, resizes};
-use tinyvec_test_items::{Item, Limited, fails, first};
+use tinyvec_test_items::{Clones, Counted, Item, all_right, fails, first};
 
 // Whether a copy of the error is the same, and shows this text.
 fn copies_and_shows(error: TryFromSliceError) -> bool {
@@ -16,7 +16,7 @@ fn copies_and_shows(error: TryFromSliceError) -> bool {
 }
 
 #[test]
-fn try_from_slice(rt: HostRuntime) {
+fn try_from_slice(rt: HostRuntime) -> Result<(), Fail> {
     let bad = [Item(1), Item(99)];
     let long = [Item(99), Item(1), Item(1)];
     let mut wrong = 0;
@@ -47,17 +47,17 @@ fn try_from_slice(rt: HostRuntime) {
     );
     wrong = first(wrong, 6, copies_and_shows(TooLong));
     wrong = first(wrong, 7, copies_and_shows(Memory));
-    assert!(rt; wrong == 0, "step {wrong}");
+    all_right(wrong)
 }
 
 #[test]
-fn try_from_array_len(rt: HostRuntime) {
+fn try_from_array_len(rt: HostRuntime) -> Result<(), Fail> {
     let made = ArrayVec::try_from_array_len([1, 2, 3, 4], 2);
     let refused = ArrayVec::try_from_array_len([1, 2, 3, 4], 5);
     let mut wrong = 0;
     wrong = first(wrong, 1, is_made(made, &[1, 2], &[3, 4]));
     wrong = first(wrong, 2, fails(refused, [1, 2, 3, 4]));
-    assert!(rt; wrong == 0, "step {wrong}");
+    all_right(wrong)
 }
 
 // A call that takes a result of so many slots by value takes LLVM minutes.
@@ -82,7 +82,7 @@ fn one_more_than_many_slots(rt: HostRuntime) {
 }
 
 #[test]
-fn clone_from(rt: HostRuntime) {
+fn clone_from(rt: HostRuntime) -> Result<(), Fail> {
     let one = ArrayVec::from_array_len([9, 7, 7, 7], 1);
     let two = ArrayVec::from_array_len([7, 8, 6, 6], 2);
     let mut longer = ArrayVec::from_array_len([1, 2, 3, 8], 3);
@@ -103,7 +103,27 @@ fn clone_from(rt: HostRuntime) {
         3,
         clones_over(&mut shorter, &two, Ok(()), &[7, 8], &[5, 5]),
     );
-    assert!(rt; wrong == 0, "step {wrong}");
+    wrong = first(
+        wrong,
+        4,
+        clone_from_refused_leaves(
+            items([1, 2, 3, 8], 3),
+            items([7, 99, 6, 6], 2),
+            &[Item(7), Item(2)],
+            &[Item(0), Item(8)],
+        ),
+    );
+    wrong = first(
+        wrong,
+        5,
+        clone_from_refused_leaves(
+            items([1, 5, 5, 5], 1),
+            items([7, 8, 99, 6], 3),
+            &[Item(7)],
+            &[Item(8), Item(5), Item(5)],
+        ),
+    );
+    all_right(wrong)
 }
 
 // Four items, of which so many are the list.
@@ -123,33 +143,7 @@ fn clone_from_refused_leaves(
 }
 
 #[test]
-fn clone_from_refused(rt: HostRuntime) {
-    let mut wrong = 0;
-    wrong = first(
-        wrong,
-        1,
-        clone_from_refused_leaves(
-            items([1, 2, 3, 8], 3),
-            items([7, 99, 6, 6], 2),
-            &[Item(7), Item(2)],
-            &[Item(0), Item(8)],
-        ),
-    );
-    wrong = first(
-        wrong,
-        2,
-        clone_from_refused_leaves(
-            items([1, 5, 5, 5], 1),
-            items([7, 8, 99, 6], 3),
-            &[Item(7)],
-            &[Item(8), Item(5), Item(5)],
-        ),
-    );
-    assert!(rt; wrong == 0, "step {wrong}");
-}
-
-#[test]
-fn clone(rt: HostRuntime) {
+fn clone(rt: HostRuntime) -> Result<(), Fail> {
     let vec = ArrayVec::from_array_len([1, 2, 3, 4], 2);
     let mut copied = vec;
     let with_bad_spare_slot = ArrayVec::from_array_len([Item(1), Item(2), Item(99)], 2);
@@ -159,11 +153,11 @@ fn clone(rt: HostRuntime) {
     wrong = first(wrong, 3, holds(&vec, &[1, 2], &[3, 4]));
     // The spare slots are cloned too.
     wrong = first(wrong, 4, fails(with_bad_spare_slot.clone(), AllocError));
-    assert!(rt; wrong == 0, "step {wrong}");
+    all_right(wrong)
 }
 
 #[test]
-fn extend_from_slice(rt: HostRuntime) {
+fn extend_from_slice(rt: HostRuntime) -> Result<(), Fail> {
     let mut v = ArrayVec::from_array_len([1, 5, 5, 5], 1);
     let mut none = ArrayVec::<[i32; 0]>::new();
     let mut w = items([1, 0, 0, 0], 1);
@@ -191,11 +185,11 @@ fn extend_from_slice(rt: HostRuntime) {
         4,
         extends_by_clones(&mut w, &[Item(4)], Ok(()), &after, &[Item(3), Item(0)]),
     );
-    assert!(rt; wrong == 0, "step {wrong}");
+    all_right(wrong)
 }
 
 #[test]
-fn resize(rt: HostRuntime) {
+fn resize(rt: HostRuntime) -> Result<(), Fail> {
     let mut v = items([1, 2, 3, 8], 3);
     let cut = [Item(0), Item(0), Item(8)];
     let filled = [Item(1), Item(4), Item(4)];
@@ -216,18 +210,23 @@ fn resize(rt: HostRuntime) {
         3,
         resizes(&mut v, 4, Item(99), refused, &filled, &[Item(8)]),
     );
-    assert!(rt; wrong == 0, "step {wrong}");
+    // The second clone is refused.
+    let clones = Clones::refusing(2);
+    let mut vec = ArrayVec::<[Counted; 3]>::new();
+    wrong = first(wrong, 4, hands_back(vec.resize(3, counted(7, &clones)), 7));
+    wrong = first(wrong, 5, spares(&vec, &[7, 0, 0]));
+    all_right(wrong)
 }
 
-fn limited(name: u8, left: &Cell<u8>) -> Limited<'_> {
-    Limited {
+fn counted(name: usize, clones: &Clones) -> Counted<'_> {
+    Counted {
         name,
-        left: Some(left),
+        clones: Some(clones),
     }
 }
 
 // Whether a clone was refused, and the item of this name came back.
-fn hands_back(resized: Result<(), NoMemory<Limited<'_>>>, name: u8) -> bool {
+fn hands_back(resized: Result<(), NoMemory<Counted<'_>>>, name: usize) -> bool {
     match resized {
         Ok(()) => false,
         Err(refused) => refused.0.name == name,
@@ -235,7 +234,7 @@ fn hands_back(resized: Result<(), NoMemory<Limited<'_>>>, name: u8) -> bool {
 }
 
 // Whether no item is in the list, and the slots have these names.
-fn spares(v: &ArrayVec<[Limited<'_>; 3]>, names: &[u8]) -> bool {
+fn spares(v: &ArrayVec<[Counted<'_>; 3]>, names: &[usize]) -> bool {
     let mut same = v.len() == 0 && names.len() == 3;
     for (name, slot) in names.iter().zip(v.grab_spare_slice()) {
         same = same & (*name == slot.name);
@@ -243,51 +242,39 @@ fn spares(v: &ArrayVec<[Limited<'_>; 3]>, names: &[u8]) -> bool {
     same
 }
 
-// The second clone is refused.
-#[test]
-fn resize_refused(rt: HostRuntime) {
-    let left = Cell::new(1);
-    let mut vec = ArrayVec::<[Limited; 3]>::new();
-    let mut wrong = 0;
-    wrong = first(wrong, 1, hands_back(vec.resize(3, limited(7, &left)), 7));
-    wrong = first(wrong, 2, spares(&vec, &[7, 0, 0]));
-    assert!(rt; wrong == 0, "step {wrong}");
-}
-
-// A full list whose items share the cell.
-fn full(left: &Cell<u8>) -> ArrayVec<[Limited<'_>; 21]> {
+// A full list whose clones are counted together.
+fn full(clones: &Clones) -> ArrayVec<[Counted<'_>; 21]> {
     let mut vec = ArrayVec::new();
     for name in 0..21 {
-        let _full = vec.try_push(limited(name, left));
+        let _full = vec.try_push(counted(name, clones));
     }
     vec
 }
 
-// Whether a call was granted, and leaves the cell so many clones.
-fn leaves(is_granted: bool, left: &Cell<u8>, count: u8) -> bool {
-    is_granted & (left.get() == count)
+// Whether a call was granted, and so many clones were asked for up to then.
+fn asks(is_granted: bool, clones: &Clones, count: usize) -> bool {
+    is_granted & (clones.asked() == count)
 }
 
-/// Where nothing is refused, each item is cloned once: in blocks, and what is left of them.
+/// Where nothing is refused, each item is cloned once.
 #[test]
-fn each_item_is_cloned_once(rt: HostRuntime) {
-    let left = Cell::new(0);
-    let mut source = full(&left);
-    let mut vec = ArrayVec::<[Limited; 21]>::new();
-    left.set(100);
+fn each_item_is_cloned_once(rt: HostRuntime) -> Result<(), Fail> {
+    let clones = Clones::refusing(0);
+    let mut source = full(&clones);
+    let mut vec = ArrayVec::<[Counted; 21]>::new();
     let mut wrong = 0;
-    wrong = first(wrong, 1, leaves(source.clone().is_ok(), &left, 79));
-    let longer = ArrayVec::<[Limited; 30]>::try_from_slice(source.as_slice());
-    wrong = first(wrong, 2, leaves(longer.is_ok(), &left, 58));
+    wrong = first(wrong, 1, asks(source.clone().is_ok(), &clones, 21));
+    let longer = ArrayVec::<[Counted; 30]>::try_from_slice(source.as_slice());
+    wrong = first(wrong, 2, asks(longer.is_ok(), &clones, 42));
     let extended = vec.extend_from_slice(source.as_slice());
-    wrong = first(wrong, 3, leaves(extended.is_ok(), &left, 37));
-    wrong = first(wrong, 4, leaves(vec.clone_from(&source).is_ok(), &left, 16));
+    wrong = first(wrong, 3, asks(extended.is_ok(), &clones, 63));
+    wrong = first(wrong, 4, asks(vec.clone_from(&source).is_ok(), &clones, 84));
     source.truncate(2);
-    wrong = first(wrong, 5, leaves(vec.clone_from(&source).is_ok(), &left, 14));
+    wrong = first(wrong, 5, asks(vec.clone_from(&source).is_ok(), &clones, 86));
     wrong = first(
         wrong,
         6,
-        leaves(vec.resize(9, limited(7, &left)).is_ok(), &left, 7),
+        asks(vec.resize(9, counted(7, &clones)).is_ok(), &clones, 93),
     );
-    assert!(rt; wrong == 0, "step {wrong}");
+    all_right(wrong)
 }

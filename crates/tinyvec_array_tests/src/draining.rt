@@ -1,6 +1,7 @@
 //! Tests of the drain.
 ghost use Rattle.tinyvec_slots.specs.Slots.{items};
 ghost use Rattle.tinyvec_slots.specs.Cut.{IsRangeOf};
+ghost use Rattle.tinyvec_array.specs.Drain.{DrainCanStep};
 
 use crate::asking::Ask::{Back, Front, Left};
 use crate::asking::drains;
@@ -9,9 +10,9 @@ use crate::range_forms::RangeForm::{Behind, Between, From, Full, Through, To, To
 use std::mem;
 use std::ops::{Bound, RangeBounds};
 use std::test::Fail;
-use tinyvec_array::ArrayVec;
+use tinyvec_array::{Array, ArrayVec, ArrayVecDrain};
 use tinyvec_test_items::arrays::holds;
-use tinyvec_test_items::{first, is_left};
+use tinyvec_test_items::{all_right, first, is_left};
 
 // Whether a drain of the range gives these from the front and no more, and leaves this list before zeros.
 fn gives_in<const N: usize, R: RangeBounds<usize>>(
@@ -91,7 +92,7 @@ fn ranges(rt: HostRuntime) {
 }
 
 #[test]
-fn from_both_ends(rt: HostRuntime) {
+fn from_both_ends(rt: HostRuntime) -> Result<(), Fail> {
     let mut v = ArrayVec::from_array([0, 1, 2, 3, 4, 5, 6, 7]);
     let mut wrong = 0;
     let mut d = v.drain(1..);
@@ -103,11 +104,11 @@ fn from_both_ends(rt: HostRuntime) {
     wrong = first(wrong, 6, is_left(&d, 1));
     drop(d);
     wrong = first(wrong, 7, holds(&v, &[0], &[0, 0, 0, 0, 0, 0, 0]));
-    assert!(rt; wrong == 0, "step {wrong}");
+    all_right(wrong)
 }
 
 #[test]
-fn from_both_ends_to_none(rt: HostRuntime) {
+fn from_both_ends_to_none(rt: HostRuntime) -> Result<(), Fail> {
     let mut v = ArrayVec::from_array([0, 1, 2]);
     let mut no_slots: ArrayVec<[i32; 0]> = ArrayVec::new();
     let asks = [
@@ -129,13 +130,22 @@ fn from_both_ends_to_none(rt: HostRuntime) {
         3,
         drains(&mut no_slots.drain(..), &[Left(0), Front(None), Back(None)]),
     );
-    assert!(rt; wrong == 0, "step {wrong}");
+    all_right(wrong)
+}
+
+// Whether a drain that skips so many items has none left, and yields nothing more at either end.
+fn skips_all<A: Array<Item = i32>>(mut d: ArrayVecDrain<'_, A>, count: usize) -> bool
+    requires { DrainCanStep d }
+{
+    let skips = d.nth(count).is_none() & is_left(&d, 0);
+    skips & d.next().is_none() & d.next_back().is_none()
 }
 
 #[test]
-fn passed_over(rt: HostRuntime) {
+fn passed_over(rt: HostRuntime) -> Result<(), Fail> {
     let mut v = ArrayVec::from_array_len([1, 2, 3, 4], 4);
     let mut w = ArrayVec::from_array([1, 2, 3]);
+    let mut all = ArrayVec::from_array_len([1, 2, 3, 0], 3);
     let mut wrong = 0;
     wrong = first(wrong, 1, v.drain(1..3).nth(1) == Some(3));
     wrong = first(wrong, 2, holds(&v, &[1, 4], &[0, 0]));
@@ -144,7 +154,9 @@ fn passed_over(rt: HostRuntime) {
     wrong = first(wrong, 5, w.drain(..).nth_back(1) == None);
     wrong = first(wrong, 6, holds(&w, &[], &[0, 0, 0]));
     wrong = first(wrong, 7, w.drain(..).last() == None);
-    assert!(rt; wrong == 0, "step {wrong}");
+    wrong = first(wrong, 8, skips_all(all.drain(..), usize::MAX));
+    wrong = first(wrong, 9, holds(&all, &[], &[0, 0, 0, 0]));
+    all_right(wrong)
 }
 
 // No contract says what a drain that is never dropped leaves.
@@ -171,6 +183,5 @@ fn moved_behind_others(rt: HostRuntime) -> Result<(), Fail> {
     wrong = first(wrong, 5, out.as_slice() == [7, 2, 3, 1, 4].as_slice());
     wrong = first(wrong, 6, holds(&v, &[], &[0, 0, 0, 0, 9]));
     wrong = first(wrong, 7, out.capacity() == 5);
-    assert!(rt; wrong == 0, "step {wrong}");
-    Ok(())
+    all_right(wrong)
 }

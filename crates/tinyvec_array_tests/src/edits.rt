@@ -1,7 +1,8 @@
 //! Items put in, taken out and written at a place, and the border moved.
+use std::test::Fail;
 use tinyvec_array::{Array, ArrayVec, NoMemory};
 use tinyvec_test_items::arrays::{holds, inserts, pops, pushes, removes, swap_removes, truncates};
-use tinyvec_test_items::first;
+use tinyvec_test_items::{all_right, first};
 
 // Whether there is room for `push` to put an item in, and that leaves this.
 fn push_leaves<A: Array<Item = i32>>(
@@ -62,7 +63,7 @@ fn insert_hands_back<A: Array<Item = i32>>(
 }
 
 #[test]
-fn four_slots(rt: HostRuntime) {
+fn four_slots(rt: HostRuntime) -> Result<(), Fail> {
     let mut v = ArrayVec::<[i32; 4]>::new();
     let mut wrong = 0;
     wrong = first(wrong, 1, pops(&mut v, None, &[], &[0, 0, 0, 0]));
@@ -78,11 +79,11 @@ fn four_slots(rt: HostRuntime) {
     wrong = first(wrong, 11, pops(&mut v, Some(11), &[10], &[0, 0, 0]));
     wrong = first(wrong, 12, pops(&mut v, Some(10), &[], &[0, 0, 0, 0]));
     wrong = first(wrong, 13, pops(&mut v, None, &[], &[0, 0, 0, 0]));
-    assert!(rt; wrong == 0, "step {wrong}");
+    all_right(wrong)
 }
 
 #[test]
-fn no_room_hands_back(rt: HostRuntime) {
+fn no_room_and_room(rt: HostRuntime) -> Result<(), Fail> {
     let mut none = ArrayVec::<[i32; 0]>::new();
     let mut one = ArrayVec::<[i32; 1]>::new();
     let mut wrong = 0;
@@ -91,11 +92,21 @@ fn no_room_hands_back(rt: HostRuntime) {
     wrong = first(wrong, 3, pushes(&mut one, 7, &[7], &[]));
     wrong = first(wrong, 4, hands_back(&mut one, 8, &[7]));
     wrong = first(wrong, 5, NoMemory(7).0 == 7);
-    assert!(rt; wrong == 0, "step {wrong}");
+    let mut three = ArrayVec::from_array_len([1, 2, 3, 8], 3);
+    let mut two = ArrayVec::from_array_len([1, 2, 8, 8], 2);
+    wrong = first(
+        wrong,
+        6,
+        insert_leaves(&mut three, 0, 9, &[9, 1, 2, 3], &[]),
+    );
+    wrong = first(wrong, 7, insert_hands_back(&mut three, 2, 7, &[9, 1, 2, 3]));
+    wrong = first(wrong, 8, inserts(&mut two, 2, 7, &[1, 2, 7], &[8]));
+    wrong = first(wrong, 9, inserts(&mut two, 1, 6, &[1, 6, 2, 7], &[]));
+    all_right(wrong)
 }
 
 #[test]
-fn taking_out(rt: HostRuntime) {
+fn taking_out(rt: HostRuntime) -> Result<(), Fail> {
     let mut full = ArrayVec::from_array([87, 48, 33, 9, 26]);
     let mut three = ArrayVec::from_array_len([1, 2, 3, 0], 3);
     let mut four = ArrayVec::from_array_len([1, 2, 3, 4, 0], 4);
@@ -110,27 +121,11 @@ fn taking_out(rt: HostRuntime) {
         6,
         swap_removes(&mut four, 0, 2, &[], &[0, 0, 0, 0, 0]),
     );
-    assert!(rt; wrong == 0, "step {wrong}");
+    all_right(wrong)
 }
 
 #[test]
-fn inserting(rt: HostRuntime) {
-    let mut three = ArrayVec::from_array_len([1, 2, 3, 8], 3);
-    let mut two = ArrayVec::from_array_len([1, 2, 8, 8], 2);
-    let mut wrong = 0;
-    wrong = first(
-        wrong,
-        1,
-        insert_leaves(&mut three, 0, 9, &[9, 1, 2, 3], &[]),
-    );
-    wrong = first(wrong, 2, insert_hands_back(&mut three, 2, 7, &[9, 1, 2, 3]));
-    wrong = first(wrong, 3, inserts(&mut two, 2, 7, &[1, 2, 7], &[8]));
-    wrong = first(wrong, 4, inserts(&mut two, 1, 6, &[1, 6, 2, 7], &[]));
-    assert!(rt; wrong == 0, "step {wrong}");
-}
-
-#[test]
-fn the_border_moves(rt: HostRuntime) {
+fn the_border_moves(rt: HostRuntime) -> Result<(), Fail> {
     let mut v = ArrayVec::from_array_len([1, 2, 3, 0], 3);
     let mut w = ArrayVec::from_array_len([1, 2, 3, 9], 3);
     let mut wrong = 0;
@@ -140,5 +135,5 @@ fn the_border_moves(rt: HostRuntime) {
     wrong = first(wrong, 4, truncates(&mut v, 1, &[1], &[0, 0, 0]));
     wrong = first(wrong, 5, holds(&w.split_off(1), &[2, 3], &[0, 0]));
     wrong = first(wrong, 6, holds(&w, &[1], &[0, 0, 9]));
-    assert!(rt; wrong == 0, "step {wrong}");
+    all_right(wrong)
 }

@@ -2,7 +2,7 @@
 use std::alloc::AllocError;
 use std::test::Fail;
 use tinyvec_array::{ArrayVec, FromIterRest, NoMemory, NoRoom, SpliceRest};
-use tinyvec_test_items::{Item, assert_debugs, first};
+use tinyvec_test_items::{Item, all_right, assert_debugs, first};
 
 #[test]
 fn as_text(rt: HostRuntime) -> Result<(), Fail> {
@@ -32,7 +32,7 @@ fn with_list(number: i32, rest: i32) -> FromIterRest<[i32; 1], i32, i32> {
 }
 
 #[test]
-fn compared(rt: HostRuntime) {
+fn compared(rt: HostRuntime) -> Result<(), Fail> {
     let room = NoRoom { item: 7, rest: 8 };
     let splice = SpliceRest { item: 7, rest: 8 };
     let list = with_list(6, 8);
@@ -62,7 +62,7 @@ fn compared(rt: HostRuntime) {
     wrong = first(wrong, 7, compares(&list, &with_list(6, 8), true));
     wrong = first(wrong, 8, compares(&list, &with_list(5, 8), false));
     wrong = first(wrong, 9, compares(&list, &with_list(6, 9), false));
-    assert!(rt; wrong == 0, "step {wrong}");
+    all_right(wrong)
 }
 
 fn fill_up(vec: &mut ArrayVec<[Item; 2]>, item: Item) -> Result<(), AllocError> {
@@ -71,12 +71,12 @@ fn fill_up(vec: &mut ArrayVec<[Item; 2]>, item: Item) -> Result<(), AllocError> 
 }
 
 #[test]
-fn as_a_refusal_of_memory(rt: HostRuntime) {
+fn as_a_refusal_of_memory(rt: HostRuntime) -> Result<(), Fail> {
     let mut vec = ArrayVec::<[Item; 2]>::new();
     let mut wrong = 0;
     wrong = first(wrong, 1, fill_up(&mut vec, Item(99)) == Err(AllocError));
     wrong = first(wrong, 2, vec.is_empty());
     wrong = first(wrong, 3, fill_up(&mut vec, Item(7)) == Ok(()));
     wrong = first(wrong, 4, vec.is_full());
-    assert!(rt; wrong == 0, "step {wrong}");
+    all_right(wrong)
 }

@@ -3,21 +3,26 @@ use std::iter;
 use std::test::Fail;
 use tinyvec_array::{Array, ArrayVec};
 use tinyvec_test_items::arrays::{extends, fills, holds, is_made, is_refused, truncates};
-use tinyvec_test_items::{Unhinted, first, refuses};
+use tinyvec_test_items::{Unhinted, all_right, first, refuses};
 
 #[test]
-fn fill(rt: HostRuntime) {
+fn fill(rt: HostRuntime) -> Result<(), Fail> {
     let mut v = ArrayVec::<[i32; 4]>::new();
     let mut w = ArrayVec::from_array_len([1, 9, 9, 9], 1);
     let mut wrong = 0;
     wrong = first(wrong, 1, fills(&mut v, 0.., Some(4), &[0, 1, 2, 3], &[]));
     wrong = first(wrong, 2, fills(&mut v, 7..9, Some(7), &[0, 1, 2, 3], &[]));
     wrong = first(wrong, 3, fills(&mut w, 5..7, None, &[1, 5, 6], &[9]));
-    assert!(rt; wrong == 0, "step {wrong}");
+    let mut v = ArrayVec::<[u8; 65536]>::new();
+    let _rest = v.fill(iter::repeat(1));
+    wrong = first(wrong, 4, v.len() == 65536);
+    wrong = first(wrong, 5, v.grab_spare_slice().is_empty());
+    wrong = first(wrong, 6, v.try_push(2) == Some(2));
+    all_right(wrong)
 }
 
 #[test]
-fn extend_answers_what_found_no_room(rt: HostRuntime) {
+fn extend(rt: HostRuntime) -> Result<(), Fail> {
     let mut v = ArrayVec::from_array_len([1, 2, 0, 0], 2);
     let mut w = ArrayVec::from_array_len([1, 0, 0], 1);
     let mut wrong = 0;
@@ -30,25 +35,19 @@ fn extend_answers_what_found_no_room(rt: HostRuntime) {
     );
     wrong = first(wrong, 4, refuses(w.extend([4].iter().copied()), 4, &[None]));
     wrong = first(wrong, 5, holds(&w, &[1, 2, 3], &[]));
-    assert!(rt; wrong == 0, "step {wrong}");
-}
-
-#[test]
-fn extend_without_a_hint(rt: HostRuntime) {
     let mut v = ArrayVec::from_array_len([1, 0, 0, 0, 0, 7], 1);
     let mut exact = ArrayVec::<[i32; 4]>::new();
-    let mut wrong = 0;
     wrong = first(
         wrong,
-        1,
+        6,
         extends(&mut v, Unhinted { next: 5, end: 9 }, &[1, 5, 6, 7, 8], &[7]),
     );
     wrong = first(
         wrong,
-        2,
+        7,
         extends(&mut exact, Unhinted { next: 5, end: 9 }, &[5, 6, 7, 8], &[]),
     );
-    assert!(rt; wrong == 0, "step {wrong}");
+    all_right(wrong)
 }
 
 #[test]
@@ -58,12 +57,11 @@ fn extend_by_a_vec(rt: HostRuntime) -> Result<(), Fail> {
     let mut wrong = 0;
     wrong = first(wrong, 1, v.extend(items).is_ok());
     wrong = first(wrong, 2, holds(&v, &[1, 2, 3], &[9]));
-    assert!(rt; wrong == 0, "step {wrong}");
-    Ok(())
+    all_right(wrong)
 }
 
 #[test]
-fn from_iter(rt: HostRuntime) {
+fn from_iter(rt: HostRuntime) -> Result<(), Fail> {
     let mut wrong = 0;
     wrong = first(
         wrong,
@@ -89,18 +87,7 @@ fn from_iter(rt: HostRuntime) {
         4,
         ArrayVec::<[i32; 0]>::from_iter(iter::repeat(1)).is_err(),
     );
-    assert!(rt; wrong == 0, "step {wrong}");
-}
-
-#[test]
-fn many_slots(rt: HostRuntime) {
-    let mut v = ArrayVec::<[u8; 65536]>::new();
-    let _rest = v.fill(iter::repeat(1));
-    let mut wrong = 0;
-    wrong = first(wrong, 1, v.len() == 65536);
-    wrong = first(wrong, 2, v.grab_spare_slice().is_empty());
-    wrong = first(wrong, 3, v.try_push(2) == Some(2));
-    assert!(rt; wrong == 0, "step {wrong}");
+    all_right(wrong)
 }
 
 // Resizes by numbers that go on from `last`, and answers the last of them: the closure is asked once for each.
@@ -113,7 +100,7 @@ fn resized<A: Array<Item = i32>>(v: &mut ArrayVec<A>, len: usize, mut last: i32)
 }
 
 #[test]
-fn resize_with(rt: HostRuntime) {
+fn resize_with(rt: HostRuntime) -> Result<(), Fail> {
     let mut v = ArrayVec::from_array_len([1, 2, 3, 9, 9], 2);
     let mut wrong = 0;
     wrong = first(wrong, 1, resized(&mut v, 4, 10) == 12);
@@ -122,7 +109,7 @@ fn resize_with(rt: HostRuntime) {
     wrong = first(wrong, 4, holds(&v, &[1], &[0, 0, 0, 9]));
     v.clear();
     wrong = first(wrong, 5, holds(&v, &[], &[0, 0, 0, 0, 9]));
-    assert!(rt; wrong == 0, "step {wrong}");
+    all_right(wrong)
 }
 
 // Whether a list of so many items is made so long, and the missing ones are asked for.
@@ -200,7 +187,7 @@ fn is_emptied_and_takes<A: Array<Item = i32>>(
 }
 
 #[test]
-fn append(rt: HostRuntime) {
+fn append(rt: HostRuntime) -> Result<(), Fail> {
     let mut v = ArrayVec::from_array_len([1, 2, 3, 0, 0, 0, 0, 0], 3);
     let mut w = ArrayVec::from_array_len([4, 5, 6, 0, 0, 0, 0, 8], 3);
     let joined: Slots<'_> = (&[1, 2, 3, 4, 5, 6], &[0, 0]);
@@ -211,48 +198,36 @@ fn append(rt: HostRuntime) {
         2,
         hold(&v, joined, &w, (&[], &[0, 0, 0, 0, 0, 0, 0, 8])),
     );
-    assert!(rt; wrong == 0, "step {wrong}");
-}
-
-// The slots that hold no item come back too.
-#[test]
-fn append_if_fits(rt: HostRuntime) {
+    // The slots that hold no item come back too.
     let mut v = ArrayVec::from_array_len([1, 2, 3, 4, 5, 6, 20], 6);
     let mut w = ArrayVec::from_array_len([7, 8, 9, 30, 31, 32, 33], 2);
     let six: Slots<'_> = (&[1, 2, 3, 4, 5, 6], &[20]);
     let spare = &[0, 9, 30, 31, 32, 33];
     let seven: Slots<'_> = (&[1, 2, 3, 4, 5, 6, 7], &[]);
-    let mut wrong = 0;
     wrong = first(
         wrong,
-        1,
+        3,
         is_back_and_cut(v.append_if_fits(&mut w), &[7, 8], &[7], spare),
     );
-    wrong = first(wrong, 2, hold(&v, six, &w, (&[7], spare)));
-    wrong = first(wrong, 3, is_emptied_and_takes(v.append_if_fits(&mut w), 40));
-    wrong = first(wrong, 4, hold(&v, seven, &w, (&[40], spare)));
-    assert!(rt; wrong == 0, "step {wrong}");
-}
-
-#[test]
-fn try_append(rt: HostRuntime) {
+    wrong = first(wrong, 4, hold(&v, six, &w, (&[7], spare)));
+    wrong = first(wrong, 5, is_emptied_and_takes(v.append_if_fits(&mut w), 40));
+    wrong = first(wrong, 6, hold(&v, seven, &w, (&[40], spare)));
     let mut v = ArrayVec::from_array_len([1, 2, 3, 4, 5, 6, 20], 6);
     let mut three = ArrayVec::from_array_len([7, 8, 9, 30, 31, 32, 33], 3);
     let mut one = ArrayVec::from_array_len([7, 0, 0, 30, 31, 32, 33], 1);
     let six: Slots<'_> = (&[1, 2, 3, 4, 5, 6], &[20]);
     let seven: Slots<'_> = (&[1, 2, 3, 4, 5, 6, 7], &[]);
-    let mut wrong = 0;
-    wrong = first(wrong, 1, v.try_append(&mut three).is_some());
+    wrong = first(wrong, 7, v.try_append(&mut three).is_some());
     wrong = first(
         wrong,
-        2,
+        8,
         hold(&v, six, &three, (&[7, 8, 9], &[30, 31, 32, 33])),
     );
-    wrong = first(wrong, 3, v.try_append(&mut one).is_none());
+    wrong = first(wrong, 9, v.try_append(&mut one).is_none());
     wrong = first(
         wrong,
-        4,
+        10,
         hold(&v, seven, &one, (&[], &[0, 0, 0, 30, 31, 32, 33])),
     );
-    assert!(rt; wrong == 0, "step {wrong}");
+    all_right(wrong)
 }

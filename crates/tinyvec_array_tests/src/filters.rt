@@ -4,9 +4,10 @@ ghost use Rattle.std.proofs.Common.{rules};
 ghost use Rattle.std.specs.Cmp.Rules.{comparing};
 
 use std::cell::Cell;
+use std::test::Fail;
 use tinyvec_array::{Array, ArrayVec};
 use tinyvec_test_items::arrays::holds;
-use tinyvec_test_items::first;
+use tinyvec_test_items::{all_right, first};
 
 fn is_even(x: &i32) -> bool {
     x % 2 == 0
@@ -38,44 +39,33 @@ fn retain_mut_leaves<A: Array<Item = i32>>(
 }
 
 #[test]
-fn retain_keeps_the_even_before_defaults_and_old_spare_slots(rt: HostRuntime) {
+fn retain(rt: HostRuntime) -> Result<(), Fail> {
     let four = ArrayVec::from_array_len([1, 2, 3, 4, 9], 4);
     let mut doubled = ArrayVec::from_array([1, 1, 2, 3, 3, 4]);
     doubled.retain_mut(was_even_and_is_doubled);
     let mut wrong = 0;
     wrong = first(wrong, 1, retain_leaves(four, &[2, 4], &[0, 0, 9]));
     wrong = first(wrong, 2, holds(&doubled, &[4, 8], &[0, 0, 0, 0]));
-    assert!(rt; wrong == 0, "step {wrong}");
-}
-
-#[test]
-fn retain_mut_none_some_and_all(rt: HostRuntime) {
     let none = ArrayVec::from_array_empty([0, 0, 0, 0]);
     let no_slots = ArrayVec::from_array([]);
-    let mut wrong = 0;
-    wrong = first(wrong, 1, retain_mut_leaves(none, &[], &[0, 0, 0, 0]));
+    wrong = first(wrong, 3, retain_mut_leaves(none, &[], &[0, 0, 0, 0]));
     wrong = first(
         wrong,
-        2,
+        4,
         retain_mut_leaves(ArrayVec::from_array([2, 4, 6, 8]), &[2, 4, 6, 8], &[]),
     );
     wrong = first(
         wrong,
-        3,
+        5,
         retain_mut_leaves(ArrayVec::from_array([1, 2, 3, 4]), &[2, 4], &[0, 0]),
     );
     wrong = first(
         wrong,
-        4,
+        6,
         retain_mut_leaves(ArrayVec::from_array([1, 3, 5, 7]), &[], &[0, 0, 0, 0]),
     );
-    wrong = first(wrong, 5, retain_mut_leaves(no_slots, &[], &[]));
-    assert!(rt; wrong == 0, "step {wrong}");
-}
-
-/// The answers are the closure's own count, and the items are left as it wrote them.
-#[test]
-fn retain_mut_asks_once_in_order(rt: HostRuntime) {
+    wrong = first(wrong, 7, retain_mut_leaves(no_slots, &[], &[]));
+    // The answers are the closure's own count, and the items are left as it wrote them.
     let mut count = 0u8;
     let mut vec = ArrayVec::from_array([10u8, 20, 30, 40]);
     vec.retain_mut(|x| {
@@ -83,10 +73,9 @@ fn retain_mut_asks_once_in_order(rt: HostRuntime) {
         *x = x.wrapping_add(count);
         count != 2
     });
-    let mut wrong = 0;
-    wrong = first(wrong, 1, holds(&vec, &[11, 33, 44], &[0]));
-    wrong = first(wrong, 2, count == 4);
-    assert!(rt; wrong == 0, "step {wrong}");
+    wrong = first(wrong, 8, holds(&vec, &[11, 33, 44], &[0]));
+    wrong = first(wrong, 9, count == 4);
+    all_right(wrong)
 }
 
 fn dedup_leaves<A: Array<Item = i32>>(mut v: ArrayVec<A>, items: &[i32], spare: &[i32]) -> bool {
@@ -95,7 +84,7 @@ fn dedup_leaves<A: Array<Item = i32>>(mut v: ArrayVec<A>, items: &[i32], spare: 
 }
 
 #[test]
-fn dedup_removes_repeats(rt: HostRuntime) {
+fn dedup(rt: HostRuntime) -> Result<(), Fail> {
     let repeats = ArrayVec::from_array([1, 1, 2, 3, 3, 1]);
     let none = ArrayVec::from_array_empty([0, 0, 0]);
     let no_slots = ArrayVec::from_array([]);
@@ -113,32 +102,13 @@ fn dedup_removes_repeats(rt: HostRuntime) {
         5,
         dedup_leaves(ArrayVec::from_array([1, 2, 1]), &[1, 2, 1], &[]),
     );
-    assert!(rt; wrong == 0, "step {wrong}");
-}
-
-fn is_one_more(current: &mut i32, last: &mut i32) -> bool {
-    *current == last.wrapping_add(1)
-}
-
-fn tenth_part(x: &mut i32) -> i32 {
-    *x / 10
-}
-
-#[test]
-fn dedup_by_the_last_item_kept_and_by_key(rt: HostRuntime) {
     let mut more = ArrayVec::from_array([1, 2, 3, 5]);
     more.dedup_by(is_one_more);
     let mut parts = ArrayVec::from_array([1, 2, 3, 10, 11]);
     parts.dedup_by_key(tenth_part);
-    let mut wrong = 0;
-    wrong = first(wrong, 1, holds(&more, &[1, 3, 5], &[0]));
-    wrong = first(wrong, 2, holds(&parts, &[1, 10], &[0, 0, 0]));
-    assert!(rt; wrong == 0, "step {wrong}");
-}
-
-/// A repeat is added to the last item kept, and the others are counted.
-#[test]
-fn dedup_by_leaves_the_items_as_it_wrote_them(rt: HostRuntime) {
+    wrong = first(wrong, 6, holds(&more, &[1, 3, 5], &[0]));
+    wrong = first(wrong, 7, holds(&parts, &[1, 10], &[0, 0, 0]));
+    // A repeat is added to the last item kept, and the others are counted.
     let mut asked = 0u8;
     let mut vec = ArrayVec::from_array([10u8, 11, 20, 21, 22, 30, 9]);
     vec.dedup_by(|current, last| {
@@ -150,10 +120,17 @@ fn dedup_by_leaves_the_items_as_it_wrote_them(rt: HostRuntime) {
         *current = current.wrapping_add(2);
         false
     });
-    let mut wrong = 0;
-    wrong = first(wrong, 1, holds(&vec, &[11, 24, 32, 11], &[0, 0, 0]));
-    wrong = first(wrong, 2, asked == 6);
-    assert!(rt; wrong == 0, "step {wrong}");
+    wrong = first(wrong, 8, holds(&vec, &[11, 24, 32, 11], &[0, 0, 0]));
+    wrong = first(wrong, 9, asked == 6);
+    all_right(wrong)
+}
+
+fn is_one_more(current: &mut i32, last: &mut i32) -> bool {
+    *current == last.wrapping_add(1)
+}
+
+fn tenth_part(x: &mut i32) -> i32 {
+    *x / 10
 }
 
 /// An item that can't be copied, and whose default is not made of zeros.
@@ -191,7 +168,7 @@ fn is_b(name: &mut Name) -> bool {
 }
 
 #[test]
-fn emptied_slots_hold_the_items_default(rt: HostRuntime) {
+fn items_with_a_default_of_their_own_and_without_bytes(rt: HostRuntime) -> Result<(), Fail> {
     let mut vec = names(*b"abca");
     vec.retain(is_no_a);
     let mut repeats = names(*b"aabb");
@@ -202,22 +179,17 @@ fn emptied_slots_hold_the_items_default(rt: HostRuntime) {
     wrong = first(wrong, 1, are(vec, *b"bc??"));
     wrong = first(wrong, 2, are(repeats, *b"ab??"));
     wrong = first(wrong, 3, are(keys, *b"aba?"));
-    assert!(rt; wrong == 0, "step {wrong}");
-}
-
-/// Items without bytes.
-#[test]
-fn filters_items_without_bytes(rt: HostRuntime) {
+    // Items without bytes.
     let mut count = 0u8;
     let mut vec = ArrayVec::from_array([(), (), (), ()]);
     vec.retain(|_| {
         count = count.wrapping_add(1);
         count != 3
     });
-    let mut wrong = first(0, 1, vec.len() == 3);
+    wrong = first(wrong, 4, (vec.len() == 3) & (count == 4));
     vec.dedup();
-    wrong = first(wrong, 2, vec.len() == 1);
-    assert!(rt; wrong == 0, "step {wrong}");
+    wrong = first(wrong, 5, vec.len() == 1);
+    all_right(wrong)
 }
 
 // A filter, and what its closure answers.
@@ -308,7 +280,7 @@ fn asks_about_each_item_once(rt: HostRuntime) {
 
 /// Whatever the answers. Of two keys, that of the current item is asked for first.
 #[test]
-fn asks_in_order(rt: HostRuntime) {
+fn asks_in_order(rt: HostRuntime) -> Result<(), Fail> {
     let five = ArrayVec::from_array([3, 1, 3, 2, 2]);
     let four = ArrayVec::from_array([10, 12, 25, 27]);
     let mut wrong = 0;
@@ -322,10 +294,10 @@ fn asks_in_order(rt: HostRuntime) {
         2,
         DedupByKey(10).leaves(four, &[10, 25], &[12, 10, 25, 10, 27, 25]),
     );
-    assert!(rt; wrong == 0, "step {wrong}");
+    all_right(wrong)
 }
 
-/// A letter that counts how often it was compared.
+/// A letter that counts how often it was compared, on either side.
 #[derive(Default, Drop)]
 struct Counted<'a> {
     letter: u8,
@@ -338,7 +310,7 @@ impl<'a> PartialEq for Counted<'a> {
     ghost laws = { Prim.search (comparing, rules) };
 
     fn eq(&self, other: &Counted<'a>) -> bool {
-        if let Some(compared) = self.compared {
+        if let Some(compared) = self.compared.or(other.compared) {
             compared.set(compared.get().wrapping_add(1));
         }
         self.letter == other.letter
@@ -367,7 +339,7 @@ fn compares(letters: [u8; 3], count: usize, left: usize, comparisons: u8) -> boo
 }
 
 #[test]
-fn dedup_compares_each_item_after_the_first(rt: HostRuntime) {
+fn dedup_compares_each_item_after_the_first(rt: HostRuntime) -> Result<(), Fail> {
     let mut wrong = 0;
     wrong = first(wrong, 1, compares(*b"aaa", 0, 0, 0));
     wrong = first(wrong, 2, compares(*b"aaa", 1, 1, 0));
@@ -377,5 +349,5 @@ fn dedup_compares_each_item_after_the_first(rt: HostRuntime) {
     wrong = first(wrong, 6, compares(*b"abc", 1, 1, 0));
     wrong = first(wrong, 7, compares(*b"abc", 2, 2, 1));
     wrong = first(wrong, 8, compares(*b"abc", 3, 3, 2));
-    assert!(rt; wrong == 0, "step {wrong}");
+    all_right(wrong)
 }

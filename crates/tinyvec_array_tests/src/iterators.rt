@@ -3,7 +3,7 @@ use std::alloc::{AllocError, Global};
 use std::test::Fail;
 use tinyvec_array::{Array, ArrayVec, ArrayVecIterator};
 use tinyvec_test_items::arrays::holds;
-use tinyvec_test_items::{answers, first, is_left, yields, yields_back};
+use tinyvec_test_items::{all_right, answers, first, is_left, yields, yields_back};
 
 // A vector of the first numbers over zeros.
 fn counted(last: i32) -> ArrayVec<[i32; 10]> {
@@ -38,7 +38,7 @@ fn add_and_double<A: Array<Item = i32>>(v: &mut ArrayVec<A>) {
 }
 
 #[test]
-fn iteration(rt: HostRuntime) {
+fn iteration(rt: HostRuntime) -> Result<(), Fail> {
     let vec = ArrayVec::from_array([10, 11, 12, 13]);
     let mut negated = vec;
     negate(&mut negated);
@@ -48,7 +48,7 @@ fn iteration(rt: HostRuntime) {
     wrong = first(wrong, 1, holds(&negated, &[-10, -11, -12, -13], &[]));
     wrong = first(wrong, 2, are_negatives(&vec, &negated));
     wrong = first(wrong, 3, holds(&doubled, &[22, 24, 26], &[8, 9]));
-    assert!(rt; wrong == 0, "step {wrong}");
+    all_right(wrong)
 }
 
 #[test]
@@ -59,7 +59,7 @@ fn from_the_front(rt: HostRuntime) {
 }
 
 #[test]
-fn both_ends(rt: HostRuntime) {
+fn both_ends(rt: HostRuntime) -> Result<(), Fail> {
     let mut items = ArrayVec::from_array([1, 2, 3, 4]).into_iter();
     let mut wrong = 0;
     wrong = first(wrong, 1, is_left(&items, 4));
@@ -73,29 +73,23 @@ fn both_ends(rt: HostRuntime) {
     wrong = first(wrong, 9, yields_back(&mut items, None));
     wrong = first(wrong, 10, is_left(&items, 0));
     wrong = first(wrong, 11, items.last() == None);
-    assert!(rt; wrong == 0, "step {wrong}");
-}
-
-#[test]
-fn skips(rt: HostRuntime) {
     let mut items = ArrayVec::from_array([1, 2, 3, 4]).into_iter();
     let mut vec = ArrayVec::<[i32; 32]>::new();
     let _rest = vec.fill(0..32);
     let mut many = vec.into_iter();
-    let mut wrong = 0;
-    wrong = first(wrong, 1, items.nth(usize::MAX) == None);
-    wrong = first(wrong, 2, yields(&mut items, None));
-    wrong = first(wrong, 3, yields_back(&mut items, None));
-    wrong = first(wrong, 4, many.nth_back(0) == Some(31));
-    wrong = first(wrong, 5, many.nth_back(2) == Some(28));
-    wrong = first(wrong, 6, many.nth_back(0) == Some(27));
-    wrong = first(wrong, 7, many.nth_back(99) == None);
-    wrong = first(wrong, 8, many.nth_back(99) == None);
-    assert!(rt; wrong == 0, "step {wrong}");
+    wrong = first(wrong, 12, items.nth(usize::MAX) == None);
+    wrong = first(wrong, 13, yields(&mut items, None));
+    wrong = first(wrong, 14, yields_back(&mut items, None));
+    wrong = first(wrong, 15, many.nth_back(0) == Some(31));
+    wrong = first(wrong, 16, many.nth_back(2) == Some(28));
+    wrong = first(wrong, 17, many.nth_back(0) == Some(27));
+    wrong = first(wrong, 18, many.nth_back(99) == None);
+    wrong = first(wrong, 19, many.nth_back(99) == None);
+    all_right(wrong)
 }
 
 #[test]
-fn last_and_count(rt: HostRuntime) {
+fn last_and_count(rt: HostRuntime) -> Result<(), Fail> {
     let none: ArrayVecIterator<[u8; 0]> = ArrayVec::new().into_iter();
     let mut wrong = 0;
     wrong = first(wrong, 1, counted(3).into_iter().next() == Some(1));
@@ -103,7 +97,7 @@ fn last_and_count(rt: HostRuntime) {
     wrong = first(wrong, 3, counted(3).into_iter().count() == 3);
     wrong = first(wrong, 4, counted(0).into_iter().last() == None);
     wrong = first(wrong, 5, none.as_slice().is_empty());
-    assert!(rt; wrong == 0, "step {wrong}");
+    all_right(wrong)
 }
 
 #[test]
@@ -140,8 +134,7 @@ fn drains_to_vec(rt: HostRuntime) -> Result<(), Fail> {
     wrong = first(wrong, 4, is_nothing(v.try_drain_to_vec(alloc)?));
     wrong = first(wrong, 5, is_nothing(w.try_drain_to_vec(alloc)?));
     wrong = first(wrong, 6, is_nothing(x.try_drain_to_vec(alloc)?));
-    assert!(rt; wrong == 0, "step {wrong}");
-    Ok(())
+    all_right(wrong)
 }
 
 // Whether room for as many more items as there are numbers is refused, by both calls, and all items stay.
@@ -152,12 +145,12 @@ fn refuses_all_room<A: Array>(alloc: Global, v: &mut ArrayVec<A>, len: usize) ->
 }
 
 #[test]
-fn room_past_the_greatest_number(rt: HostRuntime) {
+fn room_past_the_greatest_number(rt: HostRuntime) -> Result<(), Fail> {
     let mut vec = ArrayVec::from_array_len([1, 7, 7, 7], 1);
     let mut units = ArrayVec::from_array([(), ()]);
     let mut wrong = 0;
     wrong = first(wrong, 1, refuses_all_room(rt.alloc(), &mut vec, 1));
     wrong = first(wrong, 2, holds(&vec, &[1], &[7, 7, 7]));
     wrong = first(wrong, 3, refuses_all_room(rt.alloc(), &mut units, 2));
-    assert!(rt; wrong == 0, "step {wrong}");
+    all_right(wrong)
 }

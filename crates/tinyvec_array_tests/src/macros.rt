@@ -1,10 +1,11 @@
 //! `array_vec!` in its forms.
+use std::test::Fail;
 use tinyvec_array::{ArrayVec, array_vec};
 use tinyvec_test_items::arrays::holds;
-use tinyvec_test_items::first;
+use tinyvec_test_items::{all_right, first};
 
 #[test]
-fn of_a_named_array(rt: HostRuntime) {
+fn in_each_form(rt: HostRuntime) -> Result<(), Fail> {
     let mut wrong = 0;
     wrong = first(
         wrong,
@@ -23,31 +24,19 @@ fn of_a_named_array(rt: HostRuntime) {
     );
     wrong = first(wrong, 4, holds(&array_vec!([i32; 4]), &[], &[0, 0, 0, 0]));
     wrong = first(wrong, 5, holds(&array_vec!([i32; 2] => 1, 2), &[1, 2], &[]));
-    assert!(rt; wrong == 0, "step {wrong}");
-}
-
-#[test]
-fn of_the_place_of_the_call(rt: HostRuntime) {
     let v: ArrayVec<[i32; 4]> = array_vec!(1, 2);
     let trailing: ArrayVec<[u8; 3]> = array_vec!(1, 2,);
     let none: ArrayVec<[i32; 4]> = array_vec!();
-    let mut wrong = 0;
-    wrong = first(wrong, 1, holds(&v, &[1, 2], &[0, 0]));
-    wrong = first(wrong, 2, holds(&trailing, &[1, 2], &[0]));
-    wrong = first(wrong, 3, holds(&none, &[], &[0, 0, 0, 0]));
-    assert!(rt; wrong == 0, "step {wrong}");
+    wrong = first(wrong, 6, holds(&v, &[1, 2], &[0, 0]));
+    wrong = first(wrong, 7, holds(&trailing, &[1, 2], &[0]));
+    wrong = first(wrong, 8, holds(&none, &[], &[0, 0, 0, 0]));
+    wrong = first(wrong, 9, holds(&array_vec!(5; 3), &[5, 5, 5], &[]));
+    wrong = first(wrong, 10, holds(&array_vec!(5u8; 0), &[], &[]));
+    all_right(wrong)
 }
 
 #[test]
-fn of_one_value(rt: HostRuntime) {
-    let mut wrong = 0;
-    wrong = first(wrong, 1, holds(&array_vec!(5; 3), &[5, 5, 5], &[]));
-    wrong = first(wrong, 2, holds(&array_vec!(5u8; 0), &[], &[]));
-    assert!(rt; wrong == 0, "step {wrong}");
-}
-
-#[test]
-fn as_if_pushed(rt: HostRuntime) {
+fn items_are_made_once_and_in_order(rt: HostRuntime) -> Result<(), Fail> {
     let mut pushed = ArrayVec::<[i32; 8]>::new();
     pushed.push(1);
     pushed.push(2);
@@ -55,24 +44,18 @@ fn as_if_pushed(rt: HostRuntime) {
     let mut wrong = 0;
     wrong = first(wrong, 1, pushed == array_vec!(1, 2, 3));
     wrong = first(wrong, 2, pushed == array_vec!([i32; 8] => 1, 2, 3));
-    assert!(rt; wrong == 0, "step {wrong}");
+    let mut calls = 0;
+    let v = array_vec!([u8; 4] => count(&mut calls), count(&mut calls), count(&mut calls));
+    let w: ArrayVec<[u8; 2]> = array_vec!(count(&mut calls), count(&mut calls));
+    let same = array_vec!(count(&mut calls); 2);
+    wrong = first(wrong, 3, holds(&v, &[1, 2, 3], &[0]));
+    wrong = first(wrong, 4, holds(&w, &[4, 5], &[]));
+    wrong = first(wrong, 5, holds(&same, &[6, 6], &[]));
+    wrong = first(wrong, 6, calls == 6);
+    all_right(wrong)
 }
 
 fn count(calls: &mut u8) -> u8 {
     *calls = calls.wrapping_add(1);
     *calls
-}
-
-#[test]
-fn items_are_made_once_and_in_order(rt: HostRuntime) {
-    let mut calls = 0;
-    let v = array_vec!([u8; 4] => count(&mut calls), count(&mut calls), count(&mut calls));
-    let w: ArrayVec<[u8; 2]> = array_vec!(count(&mut calls), count(&mut calls));
-    let same = array_vec!(count(&mut calls); 2);
-    let mut wrong = 0;
-    wrong = first(wrong, 1, holds(&v, &[1, 2, 3], &[0]));
-    wrong = first(wrong, 2, holds(&w, &[4, 5], &[]));
-    wrong = first(wrong, 3, holds(&same, &[6, 6], &[]));
-    wrong = first(wrong, 4, calls == 6);
-    assert!(rt; wrong == 0, "step {wrong}");
 }

@@ -1,6 +1,7 @@
 //! Tests of what makes a vector, and of what tells its shape.
+use std::test::Fail;
 use tinyvec_array::{Array, ArrayVec};
-use tinyvec_test_items::first;
+use tinyvec_test_items::{all_right, first};
 
 // Whether the list has so many items and the array so many slots, and it is empty or full.
 fn is_shaped<A: Array>(
@@ -15,7 +16,7 @@ fn is_shaped<A: Array>(
 }
 
 #[test]
-fn shapes(rt: HostRuntime) {
+fn shapes(rt: HostRuntime) -> Result<(), Fail> {
     let new: ArrayVec<[i32; 3]> = ArrayVec::new();
     let default: ArrayVec<[i32; 3]> = ArrayVec::default();
     let into: ArrayVec<[i32; 3]> = [1, 2, 3].into();
@@ -46,7 +47,7 @@ fn shapes(rt: HostRuntime) {
         10,
         is_shaped(&ArrayVec::from_array([1]), 1, 1, false, true),
     );
-    assert!(rt; wrong == 0, "step {wrong}");
+    all_right(wrong)
 }
 
 // Whether these are the items, these the spare slots, and these both as they lie in the array.
@@ -61,7 +62,7 @@ fn lies<const N: usize>(
 }
 
 #[test]
-fn slots(rt: HostRuntime) {
+fn slots(rt: HostRuntime) -> Result<(), Fail> {
     let part = ArrayVec::from_array_len([1, 2, 3], 2);
     let empty = ArrayVec::from_array_empty([1, 2, 3]);
     let mut wrong = 0;
@@ -77,7 +78,14 @@ fn slots(rt: HostRuntime) {
         4,
         lies(ArrayVec::from([1, 2, 3]), &[1, 2, 3], &[], &[1, 2, 3]),
     );
-    assert!(rt; wrong == 0, "step {wrong}");
+    let mut v = ArrayVec::from_array_len([7u8; 65536], 65536);
+    wrong = first(wrong, 5, is_shaped(&v, 65536, 65536, false, true));
+    wrong = first(wrong, 6, v.as_slice().iter().all(is_seven));
+    wrong = first(wrong, 7, v.try_push(8) == Some(8));
+    wrong = first(wrong, 8, v.drain(1..).last() == Some(7));
+    wrong = first(wrong, 9, v.as_slice() == [7].as_slice());
+    wrong = first(wrong, 10, v.as_inner()[1..].iter().all(is_zero));
+    all_right(wrong)
 }
 
 fn is_seven(slot: &u8) -> bool {
@@ -86,17 +94,4 @@ fn is_seven(slot: &u8) -> bool {
 
 fn is_zero(slot: &u8) -> bool {
     *slot == 0
-}
-
-#[test]
-fn many_slots(rt: HostRuntime) {
-    let mut v = ArrayVec::from_array_len([7u8; 65536], 65536);
-    let mut wrong = 0;
-    wrong = first(wrong, 1, is_shaped(&v, 65536, 65536, false, true));
-    wrong = first(wrong, 2, v.as_slice().iter().all(is_seven));
-    wrong = first(wrong, 3, v.try_push(8) == Some(8));
-    wrong = first(wrong, 4, v.drain(1..).last() == Some(7));
-    wrong = first(wrong, 5, v.as_slice() == [7].as_slice());
-    wrong = first(wrong, 6, v.as_inner()[1..].iter().all(is_zero));
-    assert!(rt; wrong == 0, "step {wrong}");
 }

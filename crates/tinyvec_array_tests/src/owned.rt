@@ -2,7 +2,7 @@
 use std::alloc::{AllocError, Global};
 use std::test::Fail;
 use tinyvec_array::ArrayVec;
-use tinyvec_test_items::first;
+use tinyvec_test_items::{all_right, first};
 
 type Letters = Option<Vec<u8>>;
 
@@ -78,8 +78,7 @@ fn drained(rt: HostRuntime) -> Result<(), Fail> {
     wrong = first(wrong, 2, is_named(Some(one), 3));
     wrong = first(wrong, 3, two.letters.is_none());
     wrong = first(wrong, 4, three.letters.is_none());
-    assert!(rt; wrong == 0, "step {wrong}");
-    Ok(())
+    all_right(wrong)
 }
 
 // Whether the first slot and the last have these letters, and that between them none.
@@ -113,8 +112,7 @@ fn cloned_from_a_slice(rt: HostRuntime) -> Result<(), Fail> {
     wrong = first(wrong, 1, v.len() == 3);
     wrong = first(wrong, 2, reads(&v.pop().flatten(), &[2, 3]));
     wrong = first(wrong, 3, v.as_slice() == items);
-    assert!(rt; wrong == 0, "step {wrong}");
-    Ok(())
+    all_right(wrong)
 }
 
 #[test]

@@ -5,9 +5,10 @@ ghost use Rattle.tinyvec_slots.specs.Texts.{list_in_radix};
 
 use std::fmt;
 use std::fmt::{HasDigits, InlineText, Write};
+use std::test::Fail;
 use tinyvec_array::{Array, ArrayVec, ArrayVecSplice};
 use tinyvec_test_items::arrays::holds;
-use tinyvec_test_items::{first, is_debugged, is_shown, yields, yields_back};
+use tinyvec_test_items::{all_right, first, is_debugged, is_shown, yields, yields_back};
 
 // `{:x}`, `{:X}`, `{:o}` and `{:b}` write numbers alone, so a list needs a type that calls its trait.
 #[derive(Drop)]
@@ -77,7 +78,7 @@ fn pushed_reads(v: &mut ArrayVec<[i32; 4]>, item: i32, text: &str) -> bool {
 }
 
 #[test]
-fn lists(rt: HostRuntime) {
+fn lists(rt: HostRuntime) -> Result<(), Fail> {
     let mut v = ArrayVec::from_array_empty([99, 99, 99, 99]);
     let mut lists: ArrayVec<[ArrayVec<[u8; 2]>; 3]> = ArrayVec::new();
     lists.push(ArrayVec::from_array_len([1, 9], 1));
@@ -91,11 +92,11 @@ fn lists(rt: HostRuntime) {
     wrong = first(wrong, 5, reads(&lists, "[[1], [2, 3]]"));
     wrong = first(wrong, 6, is_shown(&texts, "[a, b, c]"));
     wrong = first(wrong, 7, is_debugged(&texts, "[\"a\", \"b, c\"]"));
-    assert!(rt; wrong == 0, "step {wrong}");
+    all_right(wrong)
 }
 
 #[test]
-fn numbers_in_other_bases(rt: HostRuntime) {
+fn numbers_in_other_bases(rt: HostRuntime) -> Result<(), Fail> {
     let bytes = ArrayVec::from_array_len([10u8, 255, 7], 2);
     let mut wrong = 0;
     wrong = first(wrong, 1, is_shown(&UpperHex(&bytes), "[A, FF]"));
@@ -110,35 +111,23 @@ fn numbers_in_other_bases(rt: HostRuntime) {
         4,
         is_shown(&Binary(&ArrayVec::from_array([2u64, 5])), "[10, 101]"),
     );
-    assert!(rt; wrong == 0, "step {wrong}");
-}
-
-// A negative number is written as the bits that stand for it.
-#[test]
-fn negative_numbers_in_other_bases(rt: HostRuntime) {
+    // A negative number is written as the bits that stand for it.
     let v = ArrayVec::from_array([-1i8, 1]);
-    let mut wrong = 0;
-    wrong = first(wrong, 1, is_shown(&v, "[-1, 1]"));
-    wrong = first(wrong, 2, is_shown(&UpperHex(&v), "[FF, 1]"));
-    wrong = first(wrong, 3, is_shown(&LowerHex(&v), "[ff, 1]"));
-    wrong = first(wrong, 4, is_shown(&Octal(&v), "[377, 1]"));
-    wrong = first(wrong, 5, is_shown(&Binary(&v), "[11111111, 1]"));
-    assert!(rt; wrong == 0, "step {wrong}");
-}
-
-#[test]
-fn empty_lists_in_other_bases(rt: HostRuntime) {
+    wrong = first(wrong, 5, is_shown(&v, "[-1, 1]"));
+    wrong = first(wrong, 6, is_shown(&UpperHex(&v), "[FF, 1]"));
+    wrong = first(wrong, 7, is_shown(&LowerHex(&v), "[ff, 1]"));
+    wrong = first(wrong, 8, is_shown(&Octal(&v), "[377, 1]"));
+    wrong = first(wrong, 9, is_shown(&Binary(&v), "[11111111, 1]"));
     let v = ArrayVec::from_array_empty([1u16, 2]);
-    let mut wrong = 0;
-    wrong = first(wrong, 1, is_shown(&UpperHex(&v), "[]"));
-    wrong = first(wrong, 2, is_shown(&LowerHex(&v), "[]"));
-    wrong = first(wrong, 3, is_shown(&Octal(&v), "[]"));
-    wrong = first(wrong, 4, is_shown(&Binary(&v), "[]"));
-    assert!(rt; wrong == 0, "step {wrong}");
+    wrong = first(wrong, 10, is_shown(&UpperHex(&v), "[]"));
+    wrong = first(wrong, 11, is_shown(&LowerHex(&v), "[]"));
+    wrong = first(wrong, 12, is_shown(&Octal(&v), "[]"));
+    wrong = first(wrong, 13, is_shown(&Binary(&v), "[]"));
+    all_right(wrong)
 }
 
 #[test]
-fn iterators(rt: HostRuntime) {
+fn iterators(rt: HostRuntime) -> Result<(), Fail> {
     let mut items = ArrayVec::from_array([1, 2, 3]).into_iter();
     let mut wrong = 0;
     wrong = first(wrong, 1, yields(&mut items, Some(1)));
@@ -147,11 +136,11 @@ fn iterators(rt: HostRuntime) {
     wrong = first(wrong, 4, is_debugged(&items, "ArrayVecIterator([2])"));
     wrong = first(wrong, 5, yields(&mut items, Some(2)));
     wrong = first(wrong, 6, is_debugged(&items, "ArrayVecIterator([])"));
-    assert!(rt; wrong == 0, "step {wrong}");
+    all_right(wrong)
 }
 
 #[test]
-fn drains(rt: HostRuntime) {
+fn drains(rt: HostRuntime) -> Result<(), Fail> {
     let mut v = ArrayVec::from_array_len([1, 2, 3, 4, 5, 6, 99], 6);
     let mut drain = v.drain(1..5);
     let mut wrong = 0;
@@ -162,7 +151,7 @@ fn drains(rt: HostRuntime) {
     wrong = first(wrong, 5, drain.next() == Some(3));
     wrong = first(wrong, 6, drain.next() == Some(4));
     wrong = first(wrong, 7, is_debugged(&drain, "ArrayVecDrain([])"));
-    assert!(rt; wrong == 0, "step {wrong}");
+    all_right(wrong)
 }
 
 // No splice may be let go, so it is no value of a type parameter: `is_debugged` takes none.
@@ -175,7 +164,7 @@ fn splice_debugs<A: Array<Item = i32>, I: Drop>(
 }
 
 #[test]
-fn splices(rt: HostRuntime) {
+fn splices(rt: HostRuntime) -> Result<(), Fail> {
     let mut v = ArrayVec::from_array_len([1, 2, 3, 4, 5, 99], 5);
     let mut splice = v.splice(1..4, [7]);
     let mut wrong = 0;
@@ -191,5 +180,5 @@ fn splices(rt: HostRuntime) {
     wrong = first(wrong, 6, splice_debugs(&splice, "ArrayVecSplice([])"));
     wrong = first(wrong, 7, splice.finish().is_ok());
     wrong = first(wrong, 8, holds(&v, &[1, 7, 5], &[0, 0, 99]));
-    assert!(rt; wrong == 0, "step {wrong}");
+    all_right(wrong)
 }

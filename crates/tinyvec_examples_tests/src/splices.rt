@@ -33,8 +33,8 @@ fn generic_callers(rt: HostRuntime) -> Result<(), Fail> {
 
     let (first, last, touches) = touches_of_replace(&mut v, 0, 3, 2..4);
     assert!(rt; (first, last) == (Some(1), Some(6)));
-    assert!(rt; touches <= 9);
-    assert!(rt; 4 <= touches);
+    // Two items are taken and replaced, the third is left out, and the fourth moves down over it.
+    assert!(rt; touches == 7);
     assert!(rt; v.as_slice() == [2, 3, 7].as_slice());
 
     let mut replacement = Vec::new(rt.alloc());

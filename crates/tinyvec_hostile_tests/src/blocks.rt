@@ -66,14 +66,6 @@ fn appends_up_to(place: usize) -> u32 {
     first(wrong, 5, v == numbered())
 }
 
-#[test]
-fn appended(rt: HostRuntime) {
-    for place in PLACES {
-        let wrong = appends_up_to(place);
-        assert!(rt; wrong == 0, "step {wrong} at {place}");
-    }
-}
-
 // The list keeps its length, since the other is as long.
 fn clones_over_up_to(place: usize) -> u32 {
     let source = refused_at(place);
@@ -93,29 +85,12 @@ fn clones_over_up_to(place: usize) -> u32 {
     first(wrong, 5, v.is_empty())
 }
 
-#[test]
-fn cloned_over_a_list(rt: HostRuntime) {
-    for place in PLACES {
-        let wrong = clones_over_up_to(place);
-        assert!(rt; wrong == 0, "step {wrong} at {place}");
-    }
-}
-
 fn refuses_to_make(place: usize) -> u32 {
     let source = refused_at(place);
     let made = ArrayVec::<[Item; 550]>::try_from_slice(source.as_slice());
     let mut wrong = 0;
     wrong = first(wrong, 1, made.err() == Some(TryFromSliceError::Memory));
     first(wrong, 2, source.clone().is_err())
-}
-
-#[test]
-fn made(rt: HostRuntime) {
-    for place in PLACES {
-        let wrong = refuses_to_make(place);
-        assert!(rt; wrong == 0, "step {wrong} at {place}");
-    }
-    assert!(rt; numbered().clone().is_ok());
 }
 
 fn appends_to_a_slice_up_to(place: usize) -> u32 {
@@ -145,9 +120,15 @@ fn appends_to_a_slice_up_to(place: usize) -> u32 {
 }
 
 #[test]
-fn appended_to_a_slice(rt: HostRuntime) {
+fn refused(rt: HostRuntime) {
     for place in PLACES {
-        let wrong = appends_to_a_slice_up_to(place);
-        assert!(rt; wrong == 0, "step {wrong} at {place}");
+        let steps = (
+            appends_up_to(place),
+            clones_over_up_to(place),
+            refuses_to_make(place),
+            appends_to_a_slice_up_to(place),
+        );
+        assert!(rt; steps == (0, 0, 0, 0), "steps {steps:?} at {place}");
     }
+    assert!(rt; numbered().clone().is_ok());
 }

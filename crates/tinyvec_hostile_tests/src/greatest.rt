@@ -6,7 +6,7 @@ use std::alloc::AllocError;
 use std::iter::ExactSizeIterator;
 use std::test::Fail;
 use tinyvec::{ArrayVec, SliceVec, TinyVec};
-use tinyvec_test_items::{arrays, first, is_left};
+use tinyvec_test_items::{all_right, arrays, first, is_left};
 use tinyvec_test_looks::{lies, truncates};
 use tinyvec_text::InlineText;
 
@@ -30,20 +30,17 @@ where
 }
 
 #[test]
-fn drains_skipped_past_their_ends(rt: HostRuntime) {
-    let mut whole = ArrayVec::from_array_len([1, 2, 3, 0], 3);
+fn drains_skipped_past_their_ends(rt: HostRuntime) -> Result<(), Fail> {
     let mut part = ArrayVec::from_array([1, 2, 3, 4]);
     let mut slots = [1, 2, 3, 4];
     let mut lent = SliceVec::from_slice_len(&mut slots, 4);
     let mut wrong = 0;
-    wrong = first(wrong, 1, skips_all(whole.drain(..)));
-    wrong = first(wrong, 2, arrays::holds(&whole, &[], &[0, 0, 0, 0]));
-    wrong = first(wrong, 3, skips_all_back(part.drain(1..3)));
-    wrong = first(wrong, 4, arrays::holds(&part, &[1, 4], &[0, 0]));
-    wrong = first(wrong, 5, lent.drain(..).nth(usize::MAX).is_none());
-    wrong = first(wrong, 6, lent.is_empty());
-    wrong = first(wrong, 7, are_same(&slots, &[0, 0, 0, 0]));
-    assert!(rt; wrong == 0, "step {wrong}");
+    wrong = first(wrong, 1, skips_all_back(part.drain(1..3)));
+    wrong = first(wrong, 2, arrays::holds(&part, &[1, 4], &[0, 0]));
+    wrong = first(wrong, 3, lent.drain(..).nth(usize::MAX).is_none());
+    wrong = first(wrong, 4, lent.is_empty());
+    wrong = first(wrong, 5, are_same(&slots, &[0, 0, 0, 0]));
+    all_right(wrong)
 }
 
 #[test]
@@ -55,12 +52,11 @@ fn drains_of_a_tiny_vec_skipped(rt: HostRuntime) -> Result<(), Fail> {
     wrong = first(wrong, 2, lies(&inline, &[1, 4], true));
     wrong = first(wrong, 3, skips_all_back(heap.drain(1..3)));
     wrong = first(wrong, 4, lies(&heap, &[1, 4], false));
-    assert!(rt; wrong == 0, "step {wrong}");
-    Ok(())
+    all_right(wrong)
 }
 
 #[test]
-fn iterators_skipped_past_their_ends(rt: HostRuntime) {
+fn iterators_skipped_past_their_ends(rt: HostRuntime) -> Result<(), Fail> {
     let mut items = ArrayVec::from_array([1, 2, 3]).into_iter();
     let mut front = TinyVec::from_array(rt.alloc(), [1, 2, 3]).into_iter();
     let mut back = TinyVec::from_array(rt.alloc(), [1, 2, 3]).into_iter();
@@ -71,7 +67,7 @@ fn iterators_skipped_past_their_ends(rt: HostRuntime) {
     wrong = first(wrong, 4, front.next_back().is_none());
     wrong = first(wrong, 5, back.nth_back(usize::MAX).is_none());
     wrong = first(wrong, 6, back.next().is_none());
-    assert!(rt; wrong == 0, "step {wrong}");
+    all_right(wrong)
 }
 
 #[test]
@@ -99,8 +95,7 @@ fn cut_far_behind_the_list(rt: HostRuntime) -> Result<(), Fail> {
         4,
         truncates(&mut heap, usize::MAX, &[1, 2, 3], false),
     );
-    assert!(rt; wrong == 0, "step {wrong}");
-    Ok(())
+    all_right(wrong)
 }
 
 #[test]
@@ -114,8 +109,7 @@ fn more_items_than_memory_holds(rt: HostRuntime) -> Result<(), Fail> {
     wrong = first(wrong, 4, heap.resize(usize::MAX, 7).is_err());
     wrong = first(wrong, 5, heap.resize_with(usize::MAX, || 7).is_err());
     wrong = first(wrong, 6, lies(&heap, &[1, 2, 3], false));
-    assert!(rt; wrong == 0, "step {wrong}");
-    Ok(())
+    all_right(wrong)
 }
 
 // The length and the room would pass the greatest number.
@@ -137,12 +131,11 @@ fn more_room_than_a_number_counts(rt: HostRuntime) -> Result<(), Fail> {
     );
     wrong = first(wrong, 4, heap.capacity() == room);
     wrong = first(wrong, 5, lies(&heap, &[1, 2, 3], false));
-    assert!(rt; wrong == 0, "step {wrong}");
-    Ok(())
+    all_right(wrong)
 }
 
 #[test]
-fn longer_than_the_slots(rt: HostRuntime) {
+fn longer_than_the_slots(rt: HostRuntime) -> Result<(), Fail> {
     let mut slots = [1, 2];
     let lent = SliceVec::from_slice_at_most(&mut slots, usize::MAX);
     let array = ArrayVec::try_from_array_len([1, 2], usize::MAX);
@@ -151,7 +144,7 @@ fn longer_than_the_slots(rt: HostRuntime) {
     wrong = first(wrong, 1, array.err() == Some([1, 2]));
     wrong = first(wrong, 2, tiny.err() == Some([1, 2]));
     wrong = first(wrong, 3, are_same(lent.as_slice(), &[1, 2]));
-    assert!(rt; wrong == 0, "step {wrong}");
+    all_right(wrong)
 }
 
 #[test]
@@ -164,6 +157,5 @@ fn room_for_a_text(rt: HostRuntime) -> Result<(), Fail> {
     wrong = first(wrong, 3, inline.as_str() == "ab");
     wrong = first(wrong, 4, heap.reserve(usize::MAX).is_err());
     wrong = first(wrong, 5, heap.as_str() == "ab");
-    assert!(rt; wrong == 0, "step {wrong}");
-    Ok(())
+    all_right(wrong)
 }

@@ -8,6 +8,10 @@ mod bases;
 #[cfg(test)]
 mod blocks;
 #[cfg(test)]
+mod clones;
+#[cfg(test)]
+mod compared;
+#[cfg(test)]
 mod empty;
 #[cfg(test)]
 mod endless;

@@ -5,10 +5,10 @@ use std::cmp::Ordering;
 use std::iter;
 use std::test::Fail;
 use tinyvec::SliceVec;
-use tinyvec_test_items::first;
+use tinyvec_test_items::{all_right, first};
 
 #[test]
-fn filled(rt: HostRuntime) {
+fn filled(rt: HostRuntime) -> Result<(), Fail> {
     let mut slots = [0; 65536];
     let mut v = SliceVec::from_slice_len(&mut slots, 0);
     let mut wrong = 0;
@@ -18,11 +18,11 @@ fn filled(rt: HostRuntime) {
     wrong = first(wrong, 3, are(v.grab_spare_slice(), 65536, 0));
     let _rest = v.fill(iter::repeat(7));
     wrong = first(wrong, 4, are(&slots, 65536, 7));
-    assert!(rt; wrong == 0, "step {wrong}");
+    all_right(wrong)
 }
 
 #[test]
-fn grown_and_cut(rt: HostRuntime) {
+fn grown_and_cut(rt: HostRuntime) -> Result<(), Fail> {
     let mut slots = [7; 65536];
     let mut v = SliceVec::from_slice_len(&mut slots, 65536);
     let mut wrong = 0;
@@ -34,11 +34,11 @@ fn grown_and_cut(rt: HostRuntime) {
     wrong = first(wrong, 3, v.pop() == Some(8));
     wrong = first(wrong, 4, v.len() == 65535);
     wrong = first(wrong, 5, are(v.grab_spare_slice(), 1, 0));
-    assert!(rt; wrong == 0, "step {wrong}");
+    all_right(wrong)
 }
 
 #[test]
-fn resized(rt: HostRuntime) {
+fn resized_and_its_length_set(rt: HostRuntime) -> Result<(), Fail> {
     let mut slots = [7; 65536];
     let mut v = SliceVec::from_slice_len(&mut slots, 65536);
     let mut wrong = 0;
@@ -50,11 +50,19 @@ fn resized(rt: HostRuntime) {
     let mut again = SliceVec::from_slice_len(&mut slots, 0);
     again.resize_with(65536, || 5);
     wrong = first(wrong, 5, are(&slots, 65536, 5));
-    assert!(rt; wrong == 0, "step {wrong}");
+    let mut slots = [7; 65536];
+    let mut v = SliceVec::from_slice_len(&mut slots, 0);
+    v.set_len(65536);
+    wrong = first(wrong, 6, are(v.as_slice(), 65536, 7));
+    v.set_len(65535);
+    wrong = first(wrong, 7, are(v.grab_spare_slice(), 1, 7));
+    v.set_len(0);
+    wrong = first(wrong, 8, are(v.grab_spare_slice(), 65536, 7));
+    all_right(wrong)
 }
 
 #[test]
-fn shifted(rt: HostRuntime) {
+fn shifted_and_swapped(rt: HostRuntime) -> Result<(), Fail> {
     let mut slots = [7; 65536];
     let mut v = SliceVec::from_slice_len(&mut slots, 65535);
     let mut wrong = 0;
@@ -63,11 +71,20 @@ fn shifted(rt: HostRuntime) {
     wrong = first(wrong, 2, v.remove(0) == 1);
     wrong = first(wrong, 3, are(v.as_slice(), 65535, 7));
     wrong = first(wrong, 4, are(v.grab_spare_slice(), 1, 0));
-    assert!(rt; wrong == 0, "step {wrong}");
+    let mut slots = [7; 65536];
+    slots[65535] = 8;
+    let mut v = SliceVec::from_slice_len(&mut slots, 65536);
+    wrong = first(wrong, 5, v.swap_remove(0) == 7);
+    wrong = first(wrong, 6, v.len() == 65535);
+    wrong = first(wrong, 7, v.swap_remove(65534) == 7);
+    wrong = first(wrong, 8, v.swap_remove(0) == 8);
+    wrong = first(wrong, 9, are(v.as_slice(), 65533, 7));
+    wrong = first(wrong, 10, are(v.grab_spare_slice(), 3, 0));
+    all_right(wrong)
 }
 
 #[test]
-fn parted_and_joined(rt: HostRuntime) {
+fn parted_and_joined(rt: HostRuntime) -> Result<(), Fail> {
     let mut slots = [7; 65536];
     let mut v = SliceVec::from_slice_len(&mut slots, 65536);
     let mut wrong = 0;
@@ -79,11 +96,11 @@ fn parted_and_joined(rt: HostRuntime) {
     other.append(&mut whole);
     wrong = first(wrong, 2, are(&room, 65536, 8));
     wrong = first(wrong, 3, are(&whole_slots, 65536, 0));
-    assert!(rt; wrong == 0, "step {wrong}");
+    all_right(wrong)
 }
 
 #[test]
-fn compared_and_iterated(rt: HostRuntime) {
+fn compared_and_iterated(rt: HostRuntime) -> Result<(), Fail> {
     let mut slots = [7; 65536];
     let mut others = [7; 65536];
     let v = SliceVec::from_slice(slots.as_mut_slice());
@@ -99,11 +116,11 @@ fn compared_and_iterated(rt: HostRuntime) {
         *x = 9;
     }
     wrong = first(wrong, 6, are(&others, 65536, 9));
-    assert!(rt; wrong == 0, "step {wrong}");
+    all_right(wrong)
 }
 
 #[test]
-fn filtered(rt: HostRuntime) {
+fn filtered(rt: HostRuntime) -> Result<(), Fail> {
     let mut slots = [7; 65536];
     let mut v = SliceVec::from_slice_len(&mut slots, 65536);
     let mut wrong = 0;
@@ -116,43 +133,32 @@ fn filtered(rt: HostRuntime) {
     });
     wrong = first(wrong, 2, are(v.as_slice(), 32768, 7));
     wrong = first(wrong, 3, are(v.grab_spare_slice(), 32768, 0));
-    assert!(rt; wrong == 0, "step {wrong}");
-}
-
-#[test]
-fn filtered_to_none(rt: HostRuntime) {
     let mut slots = [7; 65536];
     let mut v = SliceVec::from_slice_len(&mut slots, 65536);
-    let mut wrong = 0;
     v.retain(drop_each);
-    wrong = first(wrong, 1, v.is_empty());
-    wrong = first(wrong, 2, are(&slots, 65536, 0));
-    assert!(rt; wrong == 0, "step {wrong}");
+    wrong = first(wrong, 4, v.is_empty());
+    wrong = first(wrong, 5, are(&slots, 65536, 0));
+    all_right(wrong)
 }
 
 #[test]
-fn drained(rt: HostRuntime) {
+fn drained(rt: HostRuntime) -> Result<(), Fail> {
     let mut slots = [7; 65536];
     let mut v = SliceVec::from_slice_len(&mut slots, 65536);
     let mut wrong = 0;
     wrong = first(wrong, 1, v.drain(..).last() == Some(7));
     wrong = first(wrong, 2, v.is_empty());
     wrong = first(wrong, 3, are(&slots, 65536, 0));
-    assert!(rt; wrong == 0, "step {wrong}");
-}
-
-#[test]
-fn drained_but_for_the_ends(rt: HostRuntime) {
     let mut slots = [7; 65536];
     let mut v = SliceVec::from_slice_len(&mut slots, 65536);
+    // Each item adds one more than it is, so that a 0 is seen too.
     let mut sum = 0_u32;
-    let mut add = |x: u8| sum = sum.wrapping_add(u32::from(x));
-    let mut wrong = 0;
+    let mut add = |x: u8| sum = sum.wrapping_add(1 + u32::from(x));
     v.drain_each(1..65535, &mut add);
-    wrong = first(wrong, 1, sum == 7 * 65534);
-    wrong = first(wrong, 2, are(v.as_slice(), 2, 7));
-    wrong = first(wrong, 3, are(v.grab_spare_slice(), 65534, 0));
-    assert!(rt; wrong == 0, "step {wrong}");
+    wrong = first(wrong, 4, sum == 8 * 65534);
+    wrong = first(wrong, 5, are(v.as_slice(), 2, 7));
+    wrong = first(wrong, 6, are(v.grab_spare_slice(), 65534, 0));
+    all_right(wrong)
 }
 
 #[test]
@@ -164,35 +170,5 @@ fn drained_into_a_vec(rt: HostRuntime) -> Result<(), Fail> {
     v.drain_into(.., &mut out);
     wrong = first(wrong, 1, are(out.as_slice(), 65536, 7));
     wrong = first(wrong, 2, are(&slots, 65536, 0));
-    assert!(rt; wrong == 0, "step {wrong}");
-    Ok(())
-}
-
-#[test]
-fn swapped(rt: HostRuntime) {
-    let mut slots = [7; 65536];
-    slots[65535] = 8;
-    let mut v = SliceVec::from_slice_len(&mut slots, 65536);
-    let mut wrong = 0;
-    wrong = first(wrong, 1, v.swap_remove(0) == 7);
-    wrong = first(wrong, 2, v.len() == 65535);
-    wrong = first(wrong, 3, v.swap_remove(65534) == 7);
-    wrong = first(wrong, 4, v.swap_remove(0) == 8);
-    wrong = first(wrong, 5, are(v.as_slice(), 65533, 7));
-    wrong = first(wrong, 6, are(v.grab_spare_slice(), 3, 0));
-    assert!(rt; wrong == 0, "step {wrong}");
-}
-
-#[test]
-fn the_length_is_set(rt: HostRuntime) {
-    let mut slots = [7; 65536];
-    let mut v = SliceVec::from_slice_len(&mut slots, 0);
-    let mut wrong = 0;
-    v.set_len(65536);
-    wrong = first(wrong, 1, are(v.as_slice(), 65536, 7));
-    v.set_len(65535);
-    wrong = first(wrong, 2, are(v.grab_spare_slice(), 1, 7));
-    v.set_len(0);
-    wrong = first(wrong, 3, are(v.grab_spare_slice(), 65536, 7));
-    assert!(rt; wrong == 0, "step {wrong}");
+    all_right(wrong)
 }

@@ -1,14 +1,14 @@
 //! Texts and hashes of 65536 items, and as many bytes written at once.
 use crate::bases::{Binary, LowerHex, Octal, UpperHex};
 use crate::many::{Many, are};
-use crate::steps::{Wrong, asks, granted};
+use crate::steps::granted;
 use std::alloc::{AllocError, Global};
 use std::fmt::{Debug, Display};
 use std::hash::{DefaultHasher, Hash, Hasher};
 use std::test::Fail;
 use std::{fmt, io};
 use tinyvec::{ArrayVec, SliceVec, TinyVec};
-use tinyvec_test_items::first;
+use tinyvec_test_items::{all_right, first, granted_ok};
 use tinyvec_text::InlineText;
 
 // Two brackets, two digits of each item, and a comma and a blank between each two.
@@ -36,33 +36,33 @@ fn first_other_base<V: Debug + Display + fmt::Octal + fmt::LowerHex + fmt::Upper
     v: &V,
 ) -> u32 {
     let mut wrong = 0;
-    wrong = asks(wrong, 1, writes(alloc, v, *b"31"));
-    wrong = asks(wrong, 2, debugs(alloc, v, *b"31"));
-    wrong = asks(wrong, 3, writes(alloc, &Octal(v), *b"37"));
-    wrong = asks(wrong, 4, writes(alloc, &LowerHex(v), *b"1f"));
-    asks(wrong, 5, writes(alloc, &UpperHex(v), *b"1F"))
+    wrong = granted_ok(wrong, 1, writes(alloc, v, *b"31"));
+    wrong = granted_ok(wrong, 2, debugs(alloc, v, *b"31"));
+    wrong = granted_ok(wrong, 3, writes(alloc, &Octal(v), *b"37"));
+    wrong = granted_ok(wrong, 4, writes(alloc, &LowerHex(v), *b"1f"));
+    granted_ok(wrong, 5, writes(alloc, &UpperHex(v), *b"1F"))
 }
 
 #[test]
-fn of_an_array(rt: HostRuntime) {
+fn of_an_array(rt: HostRuntime) -> Result<(), Fail> {
     let mut wrong = first_other_base(rt.alloc(), &ArrayVec::from_array([31_u8; 65536]));
     let threes = ArrayVec::from_array([3_u8; 65536]);
-    wrong = asks(wrong, 6, writes(rt.alloc(), &Binary(&threes), *b"11"));
-    assert!(rt; wrong == 0, "{}", Wrong(wrong));
+    wrong = granted_ok(wrong, 6, writes(rt.alloc(), &Binary(&threes), *b"11"));
+    all_right(wrong)
 }
 
 #[test]
-fn of_lent_slots(rt: HostRuntime) {
+fn of_lent_slots(rt: HostRuntime) -> Result<(), Fail> {
     let mut slots = [31_u8; 65536];
     let wrong = first_other_base(rt.alloc(), &SliceVec::from_slice_len(&mut slots, 65536));
-    assert!(rt; wrong == 0, "{}", Wrong(wrong));
+    all_right(wrong)
 }
 
 #[test]
-fn of_a_tiny_vec(rt: HostRuntime) {
+fn of_a_tiny_vec(rt: HostRuntime) -> Result<(), Fail> {
     let v = TinyVec::from_array(rt.alloc(), [31_u8; 65536]);
     let wrong = first_other_base(rt.alloc(), &v);
-    assert!(rt; wrong == 0, "{}", Wrong(wrong));
+    all_right(wrong)
 }
 
 /// A text of 65536 letters.
@@ -86,9 +86,8 @@ fn of_a_text(rt: HostRuntime) -> Result<(), Fail> {
     let t = letters(rt.alloc())?;
     let mut wrong = 0;
     wrong = first(wrong, 1, t.is_inline());
-    wrong = asks(wrong, 2, writes_letters(rt.alloc(), &t));
-    assert!(rt; wrong == 0, "{}", Wrong(wrong));
-    Ok(())
+    wrong = granted_ok(wrong, 2, writes_letters(rt.alloc(), &t));
+    all_right(wrong)
 }
 
 pub(crate) fn hash_of<T: Hash>(x: &T) -> u64 {
@@ -118,8 +117,7 @@ fn hashed(rt: HostRuntime) -> Result<(), Fail> {
         hash_of(&SliceVec::from_slice_len(&mut slots, 65536)) == wanted,
     );
     wrong = first(wrong, 5, hash_of(&t) == hash_of(&t.as_str()));
-    assert!(rt; wrong == 0, "step {wrong}");
-    Ok(())
+    all_right(wrong)
 }
 
 // Whether a text finds room.
@@ -141,8 +139,7 @@ fn written_at_once(rt: HostRuntime) -> Result<(), Fail> {
     wrong = first(wrong, 5, takes(&mut lent, text.as_str()));
     wrong = first(wrong, 6, !takes(&mut lent, "b"));
     wrong = first(wrong, 7, are(&slots, 65536, b'a'));
-    assert!(rt; wrong == 0, "step {wrong}");
-    Ok(())
+    all_right(wrong)
 }
 
 #[test]
@@ -153,15 +150,14 @@ fn written_to_a_text(rt: HostRuntime) -> Result<(), Fail> {
     wrong = first(wrong, 1, takes(&mut t, text.as_str()));
     wrong = first(wrong, 2, t.is_inline());
     wrong = first(wrong, 3, t == text);
-    wrong = asks(
+    wrong = granted_ok(
         wrong,
         4,
         granted(fmt::Write::write_str(&mut t, text.as_str())),
     );
     wrong = first(wrong, 5, !t.is_inline());
     wrong = first(wrong, 6, are(t.as_bytes(), 131072, b'a'));
-    assert!(rt; wrong == 0, "{}", Wrong(wrong));
-    Ok(())
+    all_right(wrong)
 }
 
 #[test]
@@ -172,9 +168,8 @@ fn written_to_a_tiny_vec(rt: HostRuntime) -> Result<(), Fail> {
     wrong = first(wrong, 1, written == 65536);
     wrong = first(wrong, 2, v.is_inline());
     wrong = first(wrong, 3, are(v.as_slice(), 65536, 7));
-    wrong = asks(wrong, 4, granted(io::Write::write_all(&mut v, &[7; 65536])));
+    wrong = granted_ok(wrong, 4, granted(io::Write::write_all(&mut v, &[7; 65536])));
     wrong = first(wrong, 5, v.is_heap());
     wrong = first(wrong, 6, are(v.as_slice(), 131072, 7));
-    assert!(rt; wrong == 0, "{}", Wrong(wrong));
-    Ok(())
+    all_right(wrong)
 }

@@ -1,14 +1,14 @@
 //! A `TinyVec` of 65536 slots and an `InlineText` of 65536 bytes, in calls that go through all of them.
 use crate::always::{differ, keep, keep_mut, seven, value};
 use crate::many_texts::letters;
-use crate::steps::{Wrong, asks, granted};
+use crate::steps::granted;
 use std::alloc::{AllocError, Global};
 use std::boxed::BoxedSlice;
 use std::cmp::Ordering;
 use std::iter;
 use std::test::Fail;
 use tinyvec::TinyVec;
-use tinyvec_test_items::first;
+use tinyvec_test_items::{all_right, first, granted_ok};
 
 type Many = TinyVec<[u8; 65536]>;
 
@@ -52,56 +52,56 @@ fn is_boxed<E: Drop>(given_up: Result<BoxedSlice<u8>, E>) -> Result<bool, AllocE
 }
 
 #[test]
-fn made(rt: HostRuntime) {
+fn made(rt: HostRuntime) -> Result<(), Fail> {
     let alloc = rt.alloc();
     let mut wrong = 0;
-    wrong = asks(
+    wrong = granted_ok(
         wrong,
         1,
         makes(Many::with_initial_len(alloc, 65536), 65536, 0, true),
     );
-    wrong = asks(
+    wrong = granted_ok(
         wrong,
         2,
         makes(Many::with_initial_len(alloc, 65537), 65537, 0, false),
     );
-    wrong = asks(
+    wrong = granted_ok(
         wrong,
         3,
         makes(Many::from_slice(alloc, &[7; 65536]), 65536, 7, true),
     );
-    wrong = asks(
+    wrong = granted_ok(
         wrong,
         4,
         makes(Many::from_slice(alloc, &[7; 65537]), 65537, 7, false),
     );
     let taken = Many::from_iter(alloc, iter::repeat_n(7, 65537));
-    wrong = asks(wrong, 5, makes(taken, 65537, 7, false));
-    assert!(rt; wrong == 0, "{}", Wrong(wrong));
+    wrong = granted_ok(wrong, 5, makes(taken, 65537, 7, false));
+    all_right(wrong)
 }
 
 #[test]
-fn extended(rt: HostRuntime) {
+fn extended(rt: HostRuntime) -> Result<(), Fail> {
     let mut v = Many::new(rt.alloc());
     let mut wrong = 0;
     wrong = first(wrong, 1, v.extend(iter::repeat_n(7, 65536)).is_ok());
     wrong = first(wrong, 2, is(&v, 65536, 7, true));
     v.clear();
-    wrong = asks(wrong, 3, granted(v.extend_from_slice(&[7; 65536])));
+    wrong = granted_ok(wrong, 3, granted(v.extend_from_slice(&[7; 65536])));
     wrong = first(wrong, 4, is(&v, 65536, 7, true));
-    wrong = asks(wrong, 5, granted(v.extend_from_slice(&[7])));
+    wrong = granted_ok(wrong, 5, granted(v.extend_from_slice(&[7])));
     wrong = first(wrong, 6, is(&v, 65537, 7, false));
     v.clear();
-    wrong = asks(wrong, 7, granted(v.resize_with(65537, seven)));
+    wrong = granted_ok(wrong, 7, granted(v.resize_with(65537, seven)));
     wrong = first(wrong, 8, is(&v, 65537, 7, false));
-    assert!(rt; wrong == 0, "{}", Wrong(wrong));
+    all_right(wrong)
 }
 
 #[test]
-fn shifted(rt: HostRuntime) {
+fn shifted(rt: HostRuntime) -> Result<(), Fail> {
     let mut v = full(rt.alloc());
     let mut wrong = 0;
-    wrong = asks(wrong, 1, granted(v.insert(0, 1)));
+    wrong = granted_ok(wrong, 1, granted(v.insert(0, 1)));
     wrong = first(wrong, 2, v.len() == 65537);
     if v.len() > 0 {
         wrong = first(wrong, 3, v.remove(0) == 1);
@@ -109,29 +109,29 @@ fn shifted(rt: HostRuntime) {
     wrong = first(wrong, 4, is(&v, 65536, 7, false));
     v.shrink_to_fit();
     wrong = first(wrong, 5, is(&v, 65536, 7, true));
-    assert!(rt; wrong == 0, "{}", Wrong(wrong));
+    all_right(wrong)
 }
 
 #[test]
-fn joined_and_cut(rt: HostRuntime) {
+fn joined_and_cut(rt: HostRuntime) -> Result<(), Fail> {
     let mut v = full(rt.alloc());
     let mut other = full(rt.alloc());
     let mut wrong = 0;
-    wrong = asks(wrong, 1, granted(v.append(&mut other)));
+    wrong = granted_ok(wrong, 1, granted(v.append(&mut other)));
     wrong = first(wrong, 2, is(&v, 131072, 7, false));
     wrong = first(wrong, 3, other.is_empty());
     if v.len() > 65536 {
-        wrong = asks(wrong, 4, makes(v.split_off(65536), 65536, 7, false));
+        wrong = granted_ok(wrong, 4, makes(v.split_off(65536), 65536, 7, false));
     }
     wrong = first(wrong, 5, is(&v, 65536, 7, false));
     v.truncate(1);
     v.shrink_to_fit();
     wrong = first(wrong, 6, is(&v, 1, 7, true));
-    assert!(rt; wrong == 0, "{}", Wrong(wrong));
+    all_right(wrong)
 }
 
 #[test]
-fn filtered(rt: HostRuntime) {
+fn filtered(rt: HostRuntime) -> Result<(), Fail> {
     let mut v = full(rt.alloc());
     let mut wrong = 0;
     v.retain(keep);
@@ -143,11 +143,11 @@ fn filtered(rt: HostRuntime) {
     let mut keys = full(rt.alloc());
     keys.dedup_by_key(value);
     wrong = first(wrong, 3, is(&keys, 1, 7, true));
-    assert!(rt; wrong == 0, "step {wrong}");
+    all_right(wrong)
 }
 
 #[test]
-fn drained_and_spliced(rt: HostRuntime) {
+fn drained_and_spliced(rt: HostRuntime) -> Result<(), Fail> {
     let mut v = full(rt.alloc());
     let mut wrong = 0;
     wrong = first(wrong, 1, v.drain(..).last() == Some(7));
@@ -158,13 +158,13 @@ fn drained_and_spliced(rt: HostRuntime) {
         v.splice(.., iter::repeat_n(8, 65536)).finish().is_ok(),
     );
     wrong = first(wrong, 4, is(&v, 65536, 8, true));
-    wrong = asks(
+    wrong = granted_ok(
         wrong,
         5,
         granted(v.splice(.., iter::repeat_n(9, 65537)).finish()),
     );
     wrong = first(wrong, 6, is(&v, 65537, 9, false));
-    assert!(rt; wrong == 0, "{}", Wrong(wrong));
+    all_right(wrong)
 }
 
 #[test]
@@ -174,23 +174,22 @@ fn cloned_and_compared(rt: HostRuntime) -> Result<(), Fail> {
     let mut wrong = 0;
     wrong = first(wrong, 1, v == w);
     w.clear();
-    wrong = asks(wrong, 2, granted(w.clone_from(&v)));
+    wrong = granted_ok(wrong, 2, granted(w.clone_from(&v)));
     wrong = first(wrong, 3, is(&w, 65536, 7, true));
     wrong = first(wrong, 4, v.cmp(&w) == Ordering::Equal);
     w.truncate(65535);
     wrong = first(wrong, 5, v != w);
     wrong = first(wrong, 6, v.cmp(&w) == Ordering::Greater);
-    assert!(rt; wrong == 0, "{}", Wrong(wrong));
-    Ok(())
+    all_right(wrong)
 }
 
 #[test]
-fn given_up(rt: HostRuntime) {
+fn given_up(rt: HostRuntime) -> Result<(), Fail> {
     let mut wrong = 0;
     wrong = first(wrong, 1, full(rt.alloc()).into_iter().count() == 65536);
-    wrong = asks(wrong, 2, is_as_long(full(rt.alloc()).into_vec()));
-    wrong = asks(wrong, 3, is_boxed(full(rt.alloc()).into_boxed_slice()));
-    assert!(rt; wrong == 0, "{}", Wrong(wrong));
+    wrong = granted_ok(wrong, 2, is_as_long(full(rt.alloc()).into_vec()));
+    wrong = granted_ok(wrong, 3, is_boxed(full(rt.alloc()).into_boxed_slice()));
+    all_right(wrong)
 }
 
 #[test]
@@ -199,11 +198,10 @@ fn a_text(rt: HostRuntime) -> Result<(), Fail> {
     let mut wrong = 0;
     wrong = first(wrong, 1, t.is_inline());
     wrong = first(wrong, 2, t.len() == 65536);
-    wrong = asks(wrong, 3, granted(t.push_str("b")));
+    wrong = granted_ok(wrong, 3, granted(t.push_str("b")));
     wrong = first(wrong, 4, !t.is_inline());
     wrong = first(wrong, 5, t.len() == 65537);
     wrong = first(wrong, 6, t.pop() == Some('b'));
     wrong = first(wrong, 7, t.as_bytes().iter().all(|byte| *byte == b'a'));
-    assert!(rt; wrong == 0, "{}", Wrong(wrong));
-    Ok(())
+    all_right(wrong)
 }

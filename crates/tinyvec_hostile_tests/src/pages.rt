@@ -2,10 +2,10 @@
 ghost use Rattle.std.specs.Prelude.{◌≡◌};
 ghost use Rattle.tinyvec_slots.specs.Slots.{items_len};
 
-use crate::steps::{Wrong, asks, granted};
+use crate::steps::granted;
 use std::test::Fail;
 use tinyvec::{Array, ArrayVec, SliceVec, TinyVec};
-use tinyvec_test_items::first;
+use tinyvec_test_items::{all_right, first, granted_ok};
 
 // 8192 bytes.
 type Page = [u64; 1024];
@@ -35,7 +35,7 @@ fn lie<A: Array<Item = Page>>(v: &TinyVec<A>, numbers: &[u64], inline: bool) -> 
 }
 
 #[test]
-fn put_in_and_taken_out(rt: HostRuntime) {
+fn put_in_and_taken_out(rt: HostRuntime) -> Result<(), Fail> {
     let mut v = three();
     let mut wrong = 0;
     wrong = first(wrong, 1, v.try_insert(1, page(4)).is_none());
@@ -48,11 +48,11 @@ fn put_in_and_taken_out(rt: HostRuntime) {
     }
     wrong = first(wrong, 7, hold(v.as_slice(), &[3, 2]));
     wrong = first(wrong, 8, hold(v.grab_spare_slice(), &[0, 0]));
-    assert!(rt; wrong == 0, "step {wrong}");
+    all_right(wrong)
 }
 
 #[test]
-fn drained_and_spliced(rt: HostRuntime) {
+fn drained_and_spliced(rt: HostRuntime) -> Result<(), Fail> {
     let mut v = three();
     let mut splice = v.splice(1..2, [page(5), page(6)]);
     let mut wrong = 0;
@@ -64,7 +64,7 @@ fn drained_and_spliced(rt: HostRuntime) {
     }
     wrong = first(wrong, 5, hold(v.as_slice(), &[1]));
     wrong = first(wrong, 6, hold(v.grab_spare_slice(), &[0, 0, 0]));
-    assert!(rt; wrong == 0, "step {wrong}");
+    all_right(wrong)
 }
 
 #[test]
@@ -77,31 +77,30 @@ fn cloned_and_filtered(rt: HostRuntime) -> Result<(), Fail> {
     wrong = first(wrong, 2, hold(copy.as_slice(), &[1, 3]));
     wrong = first(wrong, 3, copy.clone_from(&v).is_ok());
     wrong = first(wrong, 4, hold(copy.as_slice(), &[1, 2, 3]));
-    assert!(rt; wrong == 0, "step {wrong}");
-    Ok(())
+    all_right(wrong)
 }
 
 #[test]
-fn lent(rt: HostRuntime) {
+fn lent(rt: HostRuntime) -> Result<(), Fail> {
     let mut slots = [page(1), page(2), page(9)];
     let mut v = SliceVec::from_slice_len(&mut slots, 2);
     v.insert(0, page(4));
     let mut wrong = 0;
     wrong = first(wrong, 1, hold(&[v.remove(1)], &[1]));
     wrong = first(wrong, 2, hold(&slots, &[4, 2, 0]));
-    assert!(rt; wrong == 0, "step {wrong}");
+    all_right(wrong)
 }
 
 #[test]
-fn moved_to_the_heap_and_back(rt: HostRuntime) {
+fn moved_to_the_heap_and_back(rt: HostRuntime) -> Result<(), Fail> {
     let mut v = TinyVec::from_array(rt.alloc(), [page(1), page(2)]);
     let mut wrong = 0;
-    wrong = asks(wrong, 1, granted(v.push(page(3))));
+    wrong = granted_ok(wrong, 1, granted(v.push(page(3))));
     wrong = first(wrong, 2, lie(&v, &[1, 2, 3], false));
     wrong = first(wrong, 3, v.pop() == Some(page(3)));
     v.shrink_to_fit();
     wrong = first(wrong, 4, lie(&v, &[1, 2], true));
-    assert!(rt; wrong == 0, "{}", Wrong(wrong));
+    all_right(wrong)
 }
 
 #[test]
@@ -114,8 +113,7 @@ fn cloned_inline(rt: HostRuntime) -> Result<(), Fail> {
     wrong = first(wrong, 2, copy.clone_from(&v).is_ok());
     wrong = first(wrong, 3, lie(&copy, &[1, 2], true));
     wrong = first(wrong, 4, copy == v);
-    assert!(rt; wrong == 0, "step {wrong}");
-    Ok(())
+    all_right(wrong)
 }
 
 #[test]
@@ -125,9 +123,8 @@ fn cloned_on_the_heap(rt: HostRuntime) -> Result<(), Fail> {
     let mut other = TinyVec::from_array(rt.alloc(), [page(9)]);
     let mut wrong = 0;
     wrong = first(wrong, 1, lie(&copy, &[1, 2, 3], false));
-    wrong = asks(wrong, 2, granted(other.clone_from(&v)));
+    wrong = granted_ok(wrong, 2, granted(other.clone_from(&v)));
     wrong = first(wrong, 3, lie(&other, &[1, 2, 3], false));
     wrong = first(wrong, 4, lie(&v, &[1, 2, 3], false));
-    assert!(rt; wrong == 0, "{}", Wrong(wrong));
-    Ok(())
+    all_right(wrong)
 }

@@ -1,20 +1,20 @@
 //! Memory refused in turn: what the refused call leaves, and that the call succeeds when it is made again. `tests/refuse`
 //! has each allocation refused in turn.
-use crate::steps::{Wrong, are_same, asks, granted, makes};
+use crate::steps::{are_same, granted, makes};
 use std::alloc::{AllocError, Global};
 use std::cell::Cell;
 use std::slice;
 use std::test::Fail;
 use tinyvec::{ArrayVec, NoMemory, SliceVec, SpliceRest, TinyVec, TryFromSliceError, tiny_vec};
-use tinyvec_test_items::{counted, first};
+use tinyvec_test_items::{all_right, counted, first, granted_ok};
 use tinyvec_test_looks::lies;
 
-// Says that a refusal was met, where one was. The script asks this of each test here.
-fn tells(rt: &impl Print, is_refused: bool) -> Result<(), Fail> {
+// Ends a test. It says that a refusal was met, where one was: the script asks this of each test here.
+fn tells(rt: &impl Print, is_refused: bool, wrong: u32) -> Result<(), Fail> {
     if is_refused {
         println!(rt; "refused")?;
     }
-    Ok(())
+    all_right(wrong)
 }
 
 // Whether these items were drained, where memory was granted.
@@ -65,9 +65,9 @@ fn drains_again(alloc: Global, drain: Drain) -> (bool, u32) {
     let is_refused = drained.is_err();
     if is_refused {
         wrong = first(wrong, 1, is_kept(&v));
-        wrong = asks(wrong, 2, drains_to(drain.call(alloc, &mut v), &[1, 2, 3]));
+        wrong = granted_ok(wrong, 2, drains_to(drain.call(alloc, &mut v), &[1, 2, 3]));
     } else {
-        wrong = asks(wrong, 3, drains_to(drained, &[1, 2, 3]));
+        wrong = granted_ok(wrong, 3, drains_to(drained, &[1, 2, 3]));
     }
     (is_refused, first(wrong, 4, is_emptied(&v)))
 }
@@ -81,8 +81,7 @@ fn drains(rt: HostRuntime) -> Result<(), Fail> {
         Drain::TryToVecAndReserve,
     ] {
         let (is_refused, wrong) = drains_again(rt.alloc(), drain);
-        assert!(rt; wrong == 0, "{}", Wrong(wrong));
-        tells(&rt, is_refused)?;
+        tells(&rt, is_refused, wrong)?;
     }
     Ok(())
 }
@@ -95,7 +94,7 @@ fn reserves_for_none_again(alloc: Global) -> (bool, u32) {
     }
     let mut wrong = 0;
     wrong = first(wrong, 1, v.is_empty());
-    wrong = asks(
+    wrong = granted_ok(
         wrong,
         2,
         drains_to(v.drain_to_vec_and_reserve(alloc, 10), &[]),
@@ -106,8 +105,7 @@ fn reserves_for_none_again(alloc: Global) -> (bool, u32) {
 #[test]
 fn room_for_an_empty_list(rt: HostRuntime) -> Result<(), Fail> {
     let (is_refused, wrong) = reserves_for_none_again(rt.alloc());
-    assert!(rt; wrong == 0, "{}", Wrong(wrong));
-    tells(&rt, is_refused)
+    tells(&rt, is_refused, wrong)
 }
 
 fn pushes_onto_the_heap_again(mut wrong: u32, v: &mut TinyVec<[i32; 4]>) -> (bool, u32) {
@@ -136,8 +134,7 @@ fn inline_only_the_last_push_asks(rt: HostRuntime) -> Result<(), Fail> {
     wrong = first(wrong, 5, v.push(7).is_ok());
     let (is_refused, so_far) = pushes_onto_the_heap_again(wrong, &mut v);
     wrong = first(so_far, 11, lies(&v, &[1, 3, 6, 7, 8], false));
-    assert!(rt; wrong == 0, "{}", Wrong(wrong));
-    tells(&rt, is_refused)
+    tells(&rt, is_refused, wrong)
 }
 
 fn reserves_again(v: &mut TinyVec<[i32; 4]>) -> (bool, u32) {
@@ -160,8 +157,7 @@ fn a_full_list_goes_on(rt: HostRuntime) -> Result<(), Fail> {
     wrong = first(wrong, 6, v.is_heap());
     wrong = first(wrong, 7, v.push(7).is_ok());
     wrong = first(wrong, 8, v.len() == 5);
-    assert!(rt; wrong == 0, "{}", Wrong(wrong));
-    tells(&rt, is_refused)
+    tells(&rt, is_refused, wrong)
 }
 
 fn pushes_on_the_heap_again(mut wrong: u32, v: &mut TinyVec<[i32; 4]>) -> (bool, u32) {
@@ -181,7 +177,7 @@ fn pushes_on_the_heap_again(mut wrong: u32, v: &mut TinyVec<[i32; 4]>) -> (bool,
 fn on_the_heap_only_the_last_push_asks(rt: HostRuntime) -> Result<(), Fail> {
     let mut v: TinyVec<[i32; 4]> = TinyVec::from_slice(rt.alloc(), &[1, 2, 3, 4, 5])?;
     let mut wrong = 0;
-    wrong = asks(wrong, 1, granted(v.reserve_exact(2)));
+    wrong = granted_ok(wrong, 1, granted(v.reserve_exact(2)));
     wrong = first(wrong, 2, v.push(6).is_ok());
     wrong = first(wrong, 3, v.push(7).is_ok());
     wrong = first(wrong, 4, v.pop() == Some(7));
@@ -189,8 +185,7 @@ fn on_the_heap_only_the_last_push_asks(rt: HostRuntime) -> Result<(), Fail> {
     wrong = first(wrong, 6, v.capacity() == 7);
     let (is_refused, so_far) = pushes_on_the_heap_again(wrong, &mut v);
     wrong = first(so_far, 11, lies(&v, &[1, 2, 3, 4, 5, 6, 8, 9], false));
-    assert!(rt; wrong == 0, "{}", Wrong(wrong));
-    tells(&rt, is_refused)
+    tells(&rt, is_refused, wrong)
 }
 
 // What the refused end of a splice hands back is put in its place by others.
@@ -218,8 +213,7 @@ fn splice_on_the_heap(rt: HostRuntime) -> Result<(), Fail> {
     let mut v: TinyVec<[i32; 3]> = TinyVec::from_slice(rt.alloc(), &[1, 2, 3, 4])?;
     let (is_refused, mut wrong) = splices_again(&mut v);
     wrong = first(wrong, 5, lies(&v, &[1, 2, 7, 8, 9, 4], false));
-    assert!(rt; wrong == 0, "{}", Wrong(wrong));
-    tells(&rt, is_refused)
+    tells(&rt, is_refused, wrong)
 }
 
 // No item is evaluated before there is room for all, so each is evaluated once.
@@ -227,17 +221,16 @@ fn evaluates_again(alloc: Global) -> (bool, u32) {
     let count = Cell::new(0);
     let made = tiny_vec!(alloc; [i32; 1] => counted(&count), counted(&count));
     if made.is_ok() {
-        return (false, asks(0, 1, makes(made, &[1, 2], false)));
+        return (false, granted_ok(0, 1, makes(made, &[1, 2], false)));
     }
     let again = tiny_vec!(alloc; [i32; 1] => counted(&count), counted(&count));
-    (true, asks(0, 2, makes(again, &[1, 2], false)))
+    (true, granted_ok(0, 2, makes(again, &[1, 2], false)))
 }
 
 #[test]
 fn tiny_vec(rt: HostRuntime) -> Result<(), Fail> {
     let (is_refused, wrong) = evaluates_again(rt.alloc());
-    assert!(rt; wrong == 0, "{}", Wrong(wrong));
-    tells(&rt, is_refused)
+    tells(&rt, is_refused, wrong)
 }
 
 // An item that owns memory, and asks for more where it is cloned. Where memory is refused it is `None`.
@@ -282,19 +275,18 @@ fn append_what_owns(rt: HostRuntime) -> Result<(), Fail> {
     let mut v = TinyVec::from_array(rt.alloc(), [letters(rt.alloc(), 1)]);
     let mut other = TinyVec::from_array(rt.alloc(), [letters(rt.alloc(), 2)]);
     let mut wrong = 0;
-    wrong = asks(wrong, 1, are_granted(v.as_slice()));
-    wrong = asks(wrong, 2, are_granted(other.as_slice()));
+    wrong = granted_ok(wrong, 1, are_granted(v.as_slice()));
+    wrong = granted_ok(wrong, 2, are_granted(other.as_slice()));
     let (is_refused, so_far) = appends_again(wrong, &mut v, &mut other);
     wrong = first(so_far, 6, v.is_heap());
     wrong = first(wrong, 7, spells(v.as_slice(), &[1, 2]));
     wrong = first(wrong, 8, other.is_empty());
-    assert!(rt; wrong == 0, "{}", Wrong(wrong));
-    tells(&rt, is_refused)
+    tells(&rt, is_refused, wrong)
 }
 
 fn resizes_again(v: &mut TinyVec<[Letters; 1]>, item: Letters) -> (bool, u32) {
     let mut wrong = 0;
-    wrong = asks(wrong, 1, are_granted(slice::from_ref(&item)));
+    wrong = granted_ok(wrong, 1, are_granted(slice::from_ref(&item)));
     match v.resize(2, item) {
         Ok(()) => (false, wrong),
         Err(NoMemory(item)) => {
@@ -310,8 +302,7 @@ fn resize_what_owns(rt: HostRuntime) -> Result<(), Fail> {
     let (is_refused, mut wrong) = resizes_again(&mut v, letters(rt.alloc(), 5));
     wrong = first(wrong, 4, v.is_heap());
     wrong = first(wrong, 5, spells(v.as_slice(), &[5, 5]));
-    assert!(rt; wrong == 0, "{}", Wrong(wrong));
-    tells(&rt, is_refused)
+    tells(&rt, is_refused, wrong)
 }
 
 fn makes_clones_again(mut wrong: u32, source: &[Letters; 2]) -> (bool, u32) {
@@ -335,11 +326,10 @@ fn makes_clones_again(mut wrong: u32, source: &[Letters; 2]) -> (bool, u32) {
 fn array_vec_try_from_slice(rt: HostRuntime) -> Result<(), Fail> {
     let source = [letters(rt.alloc(), 1), letters(rt.alloc(), 2)];
     let mut wrong = 0;
-    wrong = asks(wrong, 1, are_granted(&source));
+    wrong = granted_ok(wrong, 1, are_granted(&source));
     let (is_refused, so_far) = makes_clones_again(wrong, &source);
     wrong = first(so_far, 5, spells(&source, &[1, 2]));
-    assert!(rt; wrong == 0, "{}", Wrong(wrong));
-    tells(&rt, is_refused)
+    tells(&rt, is_refused, wrong)
 }
 
 fn clones_again(wrong: u32, v: &ArrayVec<[Letters; 2]>) -> (bool, u32) {
@@ -353,11 +343,10 @@ fn clones_again(wrong: u32, v: &ArrayVec<[Letters; 2]>) -> (bool, u32) {
 fn array_vec_clone(rt: HostRuntime) -> Result<(), Fail> {
     let v = ArrayVec::from_array([letters(rt.alloc(), 1), letters(rt.alloc(), 2)]);
     let mut wrong = 0;
-    wrong = asks(wrong, 1, are_granted(v.as_slice()));
+    wrong = granted_ok(wrong, 1, are_granted(v.as_slice()));
     let (is_refused, so_far) = clones_again(wrong, &v);
     wrong = first(so_far, 4, spells(v.as_slice(), &[1, 2]));
-    assert!(rt; wrong == 0, "{}", Wrong(wrong));
-    tells(&rt, is_refused)
+    tells(&rt, is_refused, wrong)
 }
 
 fn clones_over_again(
@@ -377,12 +366,11 @@ fn array_vec_clone_from(rt: HostRuntime) -> Result<(), Fail> {
     let source = ArrayVec::from_array([letters(rt.alloc(), 1), letters(rt.alloc(), 2)]);
     let mut v = ArrayVec::from_array_len([letters(rt.alloc(), 7), None], 1);
     let mut wrong = 0;
-    wrong = asks(wrong, 1, are_granted(source.as_slice()));
-    wrong = asks(wrong, 2, are_granted(v.as_slice()));
+    wrong = granted_ok(wrong, 1, are_granted(source.as_slice()));
+    wrong = granted_ok(wrong, 2, are_granted(v.as_slice()));
     let (is_refused, so_far) = clones_over_again(wrong, &mut v, &source);
     wrong = first(so_far, 5, spells(v.as_slice(), &[1, 2]));
-    assert!(rt; wrong == 0, "{}", Wrong(wrong));
-    tells(&rt, is_refused)
+    tells(&rt, is_refused, wrong)
 }
 
 // Where the list is cut, the vacated slots become clones, the last one first.
@@ -404,10 +392,9 @@ fn slice_vec_resize_when_cutting(rt: HostRuntime) -> Result<(), Fail> {
     let mut slots = [letters(alloc, 1), letters(alloc, 2), letters(alloc, 3)];
     let item = letters(alloc, 5);
     let mut wrong = 0;
-    wrong = asks(wrong, 1, are_granted(&slots));
-    wrong = asks(wrong, 2, are_granted(slice::from_ref(&item)));
+    wrong = granted_ok(wrong, 1, are_granted(&slots));
+    wrong = granted_ok(wrong, 2, are_granted(slice::from_ref(&item)));
     let (is_refused, so_far) = cuts_again(wrong, &mut slots, item);
     wrong = first(so_far, 6, spells(&slots, &[1, 5, 5]));
-    assert!(rt; wrong == 0, "{}", Wrong(wrong));
-    tells(&rt, is_refused)
+    tells(&rt, is_refused, wrong)
 }

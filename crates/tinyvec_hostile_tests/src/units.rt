@@ -1,13 +1,14 @@
 //! Items without bytes, also as many as a number counts.
-use crate::steps::{Wrong, asks, granted};
+use crate::steps::granted;
 use std::ops::Bound;
+use std::test::Fail;
 use tinyvec::{ArrayVec, NoMemory, TinyVec};
-use tinyvec_test_items::{arrays, first};
+use tinyvec_test_items::{all_right, arrays, first, granted_ok};
 
 type All = [(); usize::MAX];
 
 #[test]
-fn the_greatest_count_in_an_array(rt: HostRuntime) {
+fn the_greatest_count_in_an_array(rt: HostRuntime) -> Result<(), Fail> {
     let mut v: ArrayVec<All> = ArrayVec::from_array([(); usize::MAX]);
     let mut other: ArrayVec<All> = ArrayVec::from_array_len([(); usize::MAX], 1);
     let mut wrong = 0;
@@ -18,12 +19,12 @@ fn the_greatest_count_in_an_array(rt: HostRuntime) {
     wrong = first(wrong, 5, v.pop().is_some());
     wrong = first(wrong, 6, v.try_append(&mut other).is_none());
     wrong = first(wrong, 7, v.is_full());
-    assert!(rt; wrong == 0, "step {wrong}");
+    all_right(wrong)
 }
 
 // There is no greater count, so no allocator grants room for one more.
 #[test]
-fn the_greatest_count_refuses_one_more(rt: HostRuntime) {
+fn the_greatest_count_refuses_one_more(rt: HostRuntime) -> Result<(), Fail> {
     let mut v = TinyVec::from_array(rt.alloc(), [(); usize::MAX]);
     let mut other = TinyVec::from_array(rt.alloc(), [(); usize::MAX]);
     let mut wrong = 0;
@@ -36,11 +37,11 @@ fn the_greatest_count_refuses_one_more(rt: HostRuntime) {
     wrong = first(wrong, 7, v.is_inline());
     wrong = first(wrong, 8, v.len() == usize::MAX);
     wrong = first(wrong, 9, other.len() == usize::MAX);
-    assert!(rt; wrong == 0, "step {wrong}");
+    all_right(wrong)
 }
 
 #[test]
-fn an_array_of_four(rt: HostRuntime) {
+fn an_array_of_four(rt: HostRuntime) -> Result<(), Fail> {
     let mut v = ArrayVec::from_array_len([(); 4], 3);
     let mut wrong = 0;
     wrong = first(wrong, 1, v.clone().is_ok());
@@ -54,16 +55,16 @@ fn an_array_of_four(rt: HostRuntime) {
     }
     wrong = first(wrong, 6, arrays::holds(&v, &[(), (), (), ()], &[]));
     wrong = first(wrong, 7, other.is_empty());
-    assert!(rt; wrong == 0, "step {wrong}");
+    all_right(wrong)
 }
 
 #[test]
-fn a_tiny_vec_of_two(rt: HostRuntime) {
+fn a_tiny_vec_of_two(rt: HostRuntime) -> Result<(), Fail> {
     let mut v = TinyVec::from_array(rt.alloc(), [(); 2]);
     let mut wrong = 0;
-    wrong = asks(wrong, 1, granted(v.push(())));
+    wrong = granted_ok(wrong, 1, granted(v.push(())));
     wrong = first(wrong, 2, v.is_heap());
-    wrong = asks(wrong, 3, granted(v.extend_from_slice(&[(), ()])));
+    wrong = granted_ok(wrong, 3, granted(v.extend_from_slice(&[(), ()])));
     wrong = first(wrong, 4, v.len() == 5);
     if v.len() >= 4 {
         wrong = first(wrong, 5, v.drain(1..4).last().is_some());
@@ -71,12 +72,12 @@ fn a_tiny_vec_of_two(rt: HostRuntime) {
     wrong = first(wrong, 6, v.len() == 2);
     v.shrink_to_fit();
     wrong = first(wrong, 7, v.is_inline());
-    assert!(rt; wrong == 0, "{}", Wrong(wrong));
+    all_right(wrong)
 }
 
 // The bounds stand behind the last item.
 #[test]
-fn the_greatest_bounds(rt: HostRuntime) {
+fn the_greatest_bounds(rt: HostRuntime) -> Result<(), Fail> {
     let mut v = ArrayVec::from_array([(); usize::MAX]);
     let mut wrong = 0;
     if v.len() == usize::MAX {
@@ -91,5 +92,5 @@ fn the_greatest_bounds(rt: HostRuntime) {
         wrong = first(wrong, 2, v.drain(behind).next().is_none());
     }
     wrong = first(wrong, 3, v.len() == usize::MAX);
-    assert!(rt; wrong == 0, "step {wrong}");
+    all_right(wrong)
 }

@@ -1,11 +1,10 @@
 //! Clones, granted and refused.
 use std::alloc::{AllocError, Global};
-use std::cell::Cell;
 use std::test::Fail;
 use tinyvec_slice::SliceVec;
 use tinyvec_slots::NoMemory;
 use tinyvec_test_items::lent::holds;
-use tinyvec_test_items::{Item, Limited, all_right, first, granted_ok};
+use tinyvec_test_items::{Clones, Counted, Item, all_right, first, granted_ok};
 
 // Whether clones of these items are appended or, where one is refused, none of them, and this is left.
 fn extends<T: Clone + PartialEq + Drop>(
@@ -109,11 +108,11 @@ fn resize_refused(rt: HostRuntime) -> Result<(), Fail> {
 }
 
 // Whether the filling comes back where the second clone is refused, and so many items are left, and these slots.
-fn is_cut_short(from: usize, to: usize, len: usize, wanted: [u8; 4]) -> bool {
-    let left = Cell::new(1);
-    let filling = Limited {
+fn is_cut_short(from: usize, to: usize, len: usize, wanted: [usize; 4]) -> bool {
+    let clones = Clones::refusing(2);
+    let filling = Counted {
         name: 7,
-        left: Some(&left),
+        clones: Some(&clones),
     };
     let mut slots = [named(1), named(2), named(3), named(4)];
     let mut v = SliceVec::from_slice_at_most(&mut slots, from);
@@ -209,6 +208,6 @@ fn as_a_refusal_of_memory(rt: HostRuntime) -> Result<(), Fail> {
     all_right(wrong)
 }
 
-fn named<'a>(name: u8) -> Limited<'a> {
-    Limited { name, left: None }
+fn named<'a>(name: usize) -> Counted<'a> {
+    Counted { name, clones: None }
 }

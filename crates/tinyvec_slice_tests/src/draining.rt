@@ -80,7 +80,7 @@ fn passed_over(rt: HostRuntime) -> Result<(), Fail> {
     all_right(wrong)
 }
 
-// Whether a closure is given the items of a range, as the digits of this number, and this is left.
+// Whether a closure is given the items of a range, as the digits of this number after a 1, and this is left.
 fn hands<R: RangeBounds<usize>>(
     mut v: SliceVec<'_, i32>,
     range: R,
@@ -92,7 +92,7 @@ where
     requires known { R.has_bounds range }
     requires in_list { IsRangeOf (items v) (R.start_bound range) (R.end_bound range) }
 {
-    let mut given = 0_i32;
+    let mut given = 1_i32;
     v.drain_each(
         range,
         &mut |item| {
@@ -108,9 +108,9 @@ fn handed_to_a_closure(rt: HostRuntime) -> Result<(), Fail> {
     let mut slots = [1, 2, 3, 4, 9];
     let v = SliceVec::from_slice_len(&mut slots, 4);
     let mut wrong = 0;
-    wrong = first(wrong, 1, hands(v, 1..3, 23, &[1, 4], &[0, 0, 9]));
+    wrong = first(wrong, 1, hands(v, 1..3, 123, &[1, 4], &[0, 0, 9]));
     let v = SliceVec::from_slice_len(&mut slots, 2);
-    wrong = first(wrong, 2, hands(v, 2.., 0, &[1, 4], &[0, 0, 9]));
+    wrong = first(wrong, 2, hands(v, 2.., 1, &[1, 4], &[0, 0, 9]));
     wrong = first(wrong, 3, slots == [1, 4, 0, 0, 9]);
     all_right(wrong)
 }

@@ -197,9 +197,9 @@ enum Kept {
     Even,
 }
 
-// Answers the items that were asked about, as the digits of a number.
+// Answers the items that were asked about, as the digits of a number after a 1, so that a 0 is seen too.
 fn retain(v: &mut SliceVec<'_, i32>, kept: Kept) -> i32 {
-    let mut asked = 0_i32;
+    let mut asked = 1_i32;
     v.retain(|item| {
         asked = asked.wrapping_mul(10).wrapping_add(*item);
         match kept {
@@ -216,7 +216,7 @@ fn retain_the_even(rt: HostRuntime) -> Result<(), Fail> {
     let mut slots = [1, 2, 3, 4, 9];
     let mut v = SliceVec::from_slice_len(&mut slots, 4);
     let mut wrong = 0;
-    wrong = first(wrong, 1, retain(&mut v, Kept::Even) == 1234);
+    wrong = first(wrong, 1, retain(&mut v, Kept::Even) == 11234);
     wrong = first(wrong, 2, holds(&v, &[2, 4], &[0, 0, 9]));
     wrong = first(wrong, 3, slots == [2, 4, 0, 0, 9]);
     all_right(wrong)
@@ -235,10 +235,10 @@ fn asks_about(len: usize, asked: i32) -> bool {
 #[test]
 fn retain_asks_about_each_item_once(rt: HostRuntime) -> Result<(), Fail> {
     let mut wrong = 0;
-    wrong = first(wrong, 1, asks_about(0, 0));
-    wrong = first(wrong, 2, asks_about(1, 1));
-    wrong = first(wrong, 3, asks_about(2, 12));
-    wrong = first(wrong, 4, asks_about(3, 123));
-    wrong = first(wrong, 5, asks_about(4, 1234));
+    wrong = first(wrong, 1, asks_about(0, 1));
+    wrong = first(wrong, 2, asks_about(1, 11));
+    wrong = first(wrong, 3, asks_about(2, 112));
+    wrong = first(wrong, 4, asks_about(3, 1123));
+    wrong = first(wrong, 5, asks_about(4, 11234));
     all_right(wrong)
 }

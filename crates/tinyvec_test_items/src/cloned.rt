@@ -1,4 +1,4 @@
-//! Items whose clones are refused.
+//! Items whose clones are refused, or counted.
 ghost use Rattle.std.specs.Prelude.{◌≡◌};
 
 use std::alloc::AllocError;
@@ -19,27 +19,50 @@ impl Clone for Item {
     }
 }
 
-/// It can be cloned as often as the cell says, and a default cannot.
-#[derive(Default, Drop)]
-pub struct Limited<'a> {
-    pub name: u8,
-    pub left: Option<&'a Cell<u8>>,
+/// Counts the clones of all items that refer to it, and refuses one of them.
+#[derive(Drop)]
+pub struct Clones {
+    asked: Cell<usize>,
+    refused: usize,
 }
 
-impl<'a> Clone for Limited<'a> {
+impl Clones {
+    /// The clone of this number is refused, counted from 1. 0 refuses none.
+    pub fn refusing(number: usize) -> Clones {
+        Clones {
+            asked: Cell::new(0),
+            refused: number,
+        }
+    }
+
+    /// How many clones were asked for, the refused one included.
+    pub fn asked(&self) -> usize {
+        self.asked.get()
+    }
+}
+
+/// An item whose clones are counted. That of a default is refused.
+#[derive(Default, Drop)]
+pub struct Counted<'a> {
+    pub name: usize,
+    pub clones: Option<&'a Clones>,
+}
+
+impl<'a> Clone for Counted<'a> {
     ghost is_clone = { λ x y. y ≡ x };
 
-    fn clone(&self) -> Result<Limited<'a>, AllocError> {
-        let Some(left) = self.left else {
+    fn clone(&self) -> Result<Counted<'a>, AllocError> {
+        let Some(clones) = self.clones else {
             return Err(AllocError);
         };
-        let Some(less) = left.get().checked_sub(1) else {
+        let number = clones.asked.get().wrapping_add(1);
+        clones.asked.set(number);
+        if number == clones.refused {
             return Err(AllocError);
-        };
-        left.set(less);
-        Ok(Limited {
+        }
+        Ok(Counted {
             name: self.name,
-            left: self.left,
+            clones: self.clones,
         })
     }
 }

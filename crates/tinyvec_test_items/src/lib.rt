@@ -11,7 +11,7 @@ mod steps;
 mod unhinted;
 
 pub use asserting::{debugs, same_items, same_value, shows};
-pub use cloned::{Item, Limited};
+pub use cloned::{Clones, Counted, Item};
 pub use counting::counted;
 pub use memory::{all_right, granted, granted_ok};
 pub use steps::{

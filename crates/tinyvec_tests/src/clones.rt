@@ -1,9 +1,8 @@
 //! Clones, granted and refused.
 use std::alloc::{AllocError, Global};
-use std::cell::Cell;
 use std::test::Fail;
 use tinyvec::{NoMemory, TinyVec};
-use tinyvec_test_items::{Item, Limited, all_right, first, granted};
+use tinyvec_test_items::{Clones, Counted, Item, all_right, first, granted};
 use tinyvec_test_looks::{lies, makes_before, spares};
 
 #[test]
@@ -194,58 +193,57 @@ fn clone_from_longer_refused(rt: HostRuntime) -> Result<(), Fail> {
     all_right(wrong)
 }
 
-// Fills 21 slots with items that are cloned as often as the count says.
-fn fill<'a>(source: &mut TinyVec<[Limited<'a>; 21]>, left: &'a Cell<u8>) {
+// Fills 21 slots with items whose clones are counted together.
+fn fill<'a>(source: &mut TinyVec<[Counted<'a>; 21]>, clones: &'a Clones) {
     for name in 0..21 {
-        let _granted = source.push(Limited {
+        let _granted = source.push(Counted {
             name,
-            left: Some(left),
+            clones: Some(clones),
         });
     }
 }
 
-// How many of a hundred clones are left after each of six: a clone of 21 items, copies of them behind none, a clone over these,
+// How many clones were asked for after each of six calls: a clone of 21 items, copies of them behind none, a clone over these,
 // a clone of two over these, seven items more, and a list of these nine.
-fn left_of_a_hundred(alloc: Global, inline: bool) -> Result<[u8; 6], AllocError> {
-    let left = Cell::new(0);
-    let mut source: TinyVec<[Limited; 21]> = TinyVec::new(alloc);
-    fill(&mut source, &left);
+fn asked_for(alloc: Global, inline: bool) -> Result<[usize; 6], AllocError> {
+    let clones = Clones::refusing(0);
+    let mut source: TinyVec<[Counted; 21]> = TinyVec::new(alloc);
+    fill(&mut source, &clones);
     if !inline {
         source.move_to_the_heap()?;
     }
-    left.set(100);
     let mut v = source.clone()?;
-    let after_clone = left.get();
+    let after_clone = clones.asked();
     v.clear();
     v.extend_from_slice(source.as_slice())?;
-    let after_extend = left.get();
+    let after_extend = clones.asked();
     v.clone_from(&source)?;
-    let after_clone_from = left.get();
+    let after_clone_from = clones.asked();
     source.truncate(2);
     v.clone_from(&source)?;
-    let after_shorter = left.get();
-    let item = Limited {
+    let after_shorter = clones.asked();
+    let item = Counted {
         name: 7,
-        left: Some(&left),
+        clones: Some(&clones),
     };
     v.resize(9, item)?;
-    let after_resize = left.get();
-    let _copied: TinyVec<[Limited; 1]> = TinyVec::from_slice(alloc, v.as_slice())?;
+    let after_resize = clones.asked();
+    let _copied: TinyVec<[Counted; 1]> = TinyVec::from_slice(alloc, v.as_slice())?;
     Ok([
         after_clone,
         after_extend,
         after_clone_from,
         after_shorter,
         after_resize,
-        left.get(),
+        clones.asked(),
     ])
 }
 
 /// Where nothing is refused, each item is cloned once, in both places.
 #[test]
 fn each_item_is_cloned_once(rt: HostRuntime) -> Result<(), Fail> {
-    let wanted = [79, 58, 37, 35, 28, 19];
-    let inline = left_of_a_hundred(rt.alloc(), true)? == wanted;
-    let heap = left_of_a_hundred(rt.alloc(), false)? == wanted;
+    let wanted = [21, 42, 63, 65, 72, 81];
+    let inline = asked_for(rt.alloc(), true)? == wanted;
+    let heap = asked_for(rt.alloc(), false)? == wanted;
     all_right(first(first(0, 1, inline), 2, heap))
 }

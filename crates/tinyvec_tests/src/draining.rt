@@ -2,13 +2,14 @@
 ghost use Rattle.std.specs.Prelude.{◌≤◌};
 ghost use Rattle.tinyvec_slots.specs.Cut.{range_start, range_end};
 ghost use Rattle.tinyvec.specs.Tiny.{tiny_len};
+ghost use Rattle.tinyvec.specs.Drain.{DrainCanStep};
 
 use crate::placed::{Span, one_two_three, placed};
 use std::alloc::{AllocError, Global};
 use std::mem;
 use std::ops::{Bound, RangeBounds};
 use std::test::Fail;
-use tinyvec::{ArrayVec, TinyVec};
+use tinyvec::{Array, ArrayVec, TinyVec, TinyVecDrain};
 use tinyvec_test_items::{all_right, first, granted, is_left};
 use tinyvec_test_looks::{lies, lies_before, spares};
 
@@ -97,12 +98,26 @@ fn ranges(rt: HostRuntime) -> Result<(), Fail> {
     all_right(wrong)
 }
 
+// Whether a drain that skips so many items has none left, and yields nothing more at either end.
+fn skips_all<A: Array<Item = i32>>(mut d: TinyVecDrain<'_, A>, count: usize) -> bool
+    requires { DrainCanStep d }
+{
+    let skips = d.nth(count).is_none() & is_left(&d, 0);
+    skips & d.next().is_none() & d.next_back().is_none()
+}
+
 #[test]
 fn passed_over(rt: HostRuntime) -> Result<(), Fail> {
     let mut v = TinyVec::from_array(rt.alloc(), [1, 2, 3, 4]);
+    let mut all = TinyVec::from_array_len(rt.alloc(), [1, 2, 3, 0], 3);
+    let mut heap: TinyVec<[i32; 1]> = TinyVec::from_slice(rt.alloc(), &[1, 2, 3])?;
     let mut wrong = 0;
     wrong = first(wrong, 1, v.drain(1..3).nth(1) == Some(3));
     wrong = first(wrong, 2, lies_before(&v, &[1, 4], &[0, 0]));
+    wrong = first(wrong, 3, skips_all(all.drain(..), usize::MAX));
+    wrong = first(wrong, 4, lies_before(&all, &[], &[0, 0, 0, 0]));
+    wrong = first(wrong, 5, skips_all(heap.drain(1..), usize::MAX));
+    wrong = first(wrong, 6, lies(&heap, &[1], false));
     all_right(wrong)
 }
 

@@ -24,8 +24,15 @@ enum Step {
     Touches(u128),
 }
 
-// A range, the numbers from the first up to the last in its place, the steps before the end, and the list after it.
-type Row = (Span, (i32, i32), &'static [Step], &'static [i32]);
+// A range, the numbers from the first up to the last in its place, the steps before the end, the touches of all slots, and
+// the list after it. Touches are counted so:
+// - an item that is given is one, and one more where an item of the replacement takes its slot;
+// - an item that `finish` places in the gap is two, since what the slot held is read out;
+// - a gap that is closed is one for each slot from there on: the items after it are swapped down, and then slots are emptied;
+// - an item that is appended is one. To exchange `a` items after the gap with `b` appended ones takes `a + b` swaps, less
+//   the greatest number that divides both;
+// - an array that moves to the heap is one for each of its items.
+type Row = (Span, (i32, i32), &'static [Step], u128, &'static [i32]);
 
 // Whether the splice of a row goes as it says, and leaves the list there. It may ask for memory or not.
 fn splices<const N: usize>(
@@ -52,7 +59,7 @@ fn splices<const N: usize>(
         _ => Some(false),
     };
     match is_right {
-        Some(is_right) => Some(is_right & lies(v, row.3, inline)),
+        Some(is_right) => Some(is_right & lies(v, row.4, inline)),
         None => None,
     }
 }
@@ -77,10 +84,10 @@ fn drive<const N: usize, R: RangeBounds<usize>>(
             Touches(count) => splice.touches() == count,
         };
     }
-    match splice.finish() {
-        Ok(()) => Some(is_right),
-        Err(_) if asks => None,
-        Err(_) => Some(false),
+    match splice.finish_counted() {
+        (Ok(()), touches) => Some(is_right & (touches == row.3)),
+        (Err(_), _) if asks => None,
+        (Err(_), _) => Some(false),
     }
 }
 
@@ -119,21 +126,21 @@ const LAST_TWO: [Step; 4] = [Front(Some(2)), Front(Some(3)), Front(None), Front(
 const SECOND: [Step; 4] = [Front(Some(2)), Front(None), Front(None), Front(None)];
 
 const NO_REPLACEMENT: [Row; 15] = [
-    (Span::All, (4, 4), &ALL, &[]),
-    (Span::UpTo(2), (4, 4), &FIRST_TWO, &[3]),
-    (Span::UpTo(3), (4, 4), &ALL, &[]),
-    (Span::UpThrough(1), (4, 4), &FIRST_TWO, &[3]),
-    (Span::UpThrough(2), (4, 4), &ALL, &[]),
-    (Span::From(0), (4, 4), &ALL, &[]),
-    (Span::From(1), (4, 4), &LAST_TWO, &[1]),
-    (Span::Between(0, 2), (4, 4), &FIRST_TWO, &[3]),
-    (Span::Between(0, 3), (4, 4), &ALL, &[]),
-    (Span::Between(1, 2), (4, 4), &SECOND, &[1, 3]),
-    (Span::Between(1, 3), (4, 4), &LAST_TWO, &[1]),
-    (Span::Through(0, 1), (4, 4), &FIRST_TWO, &[3]),
-    (Span::Through(0, 2), (4, 4), &ALL, &[]),
-    (Span::Through(1, 1), (4, 4), &SECOND, &[1, 3]),
-    (Span::Through(1, 2), (4, 4), &LAST_TWO, &[1]),
+    (Span::All, (4, 4), &ALL, 6, &[]),
+    (Span::UpTo(2), (4, 4), &FIRST_TWO, 5, &[3]),
+    (Span::UpTo(3), (4, 4), &ALL, 6, &[]),
+    (Span::UpThrough(1), (4, 4), &FIRST_TWO, 5, &[3]),
+    (Span::UpThrough(2), (4, 4), &ALL, 6, &[]),
+    (Span::From(0), (4, 4), &ALL, 6, &[]),
+    (Span::From(1), (4, 4), &LAST_TWO, 4, &[1]),
+    (Span::Between(0, 2), (4, 4), &FIRST_TWO, 5, &[3]),
+    (Span::Between(0, 3), (4, 4), &ALL, 6, &[]),
+    (Span::Between(1, 2), (4, 4), &SECOND, 3, &[1, 3]),
+    (Span::Between(1, 3), (4, 4), &LAST_TWO, 4, &[1]),
+    (Span::Through(0, 1), (4, 4), &FIRST_TWO, 5, &[3]),
+    (Span::Through(0, 2), (4, 4), &ALL, 6, &[]),
+    (Span::Through(1, 1), (4, 4), &SECOND, 3, &[1, 3]),
+    (Span::Through(1, 2), (4, 4), &LAST_TWO, 4, &[1]),
 ];
 
 #[test]
@@ -142,10 +149,10 @@ fn no_replacement(rt: HostRuntime) -> Result<(), Fail> {
 }
 
 const ONE_ITEM: [Row; 4] = [
-    (Span::All, (4, 5), &ALL, &[4]),
-    (Span::UpTo(2), (4, 5), &FIRST_TWO, &[4, 3]),
-    (Span::From(1), (4, 5), &LAST_TWO, &[1, 4]),
-    (Span::Through(1, 1), (4, 5), &SECOND, &[1, 4, 3]),
+    (Span::All, (4, 5), &ALL, 6, &[4]),
+    (Span::UpTo(2), (4, 5), &FIRST_TWO, 5, &[4, 3]),
+    (Span::From(1), (4, 5), &LAST_TWO, 4, &[1, 4]),
+    (Span::Through(1, 1), (4, 5), &SECOND, 2, &[1, 4, 3]),
 ];
 
 #[test]
@@ -154,21 +161,21 @@ fn one_item(rt: HostRuntime) -> Result<(), Fail> {
 }
 
 const THREE_FROM_THE_FRONT: [Row; 15] = [
-    (Span::All, (4, 7), &ALL, &[4, 5, 6]),
-    (Span::UpTo(2), (4, 7), &FIRST_TWO, &[4, 5, 6, 3]),
-    (Span::UpTo(3), (4, 7), &ALL, &[4, 5, 6]),
-    (Span::UpThrough(1), (4, 7), &FIRST_TWO, &[4, 5, 6, 3]),
-    (Span::UpThrough(2), (4, 7), &ALL, &[4, 5, 6]),
-    (Span::From(0), (4, 7), &ALL, &[4, 5, 6]),
-    (Span::From(1), (4, 7), &LAST_TWO, &[1, 4, 5, 6]),
-    (Span::Between(0, 2), (4, 7), &FIRST_TWO, &[4, 5, 6, 3]),
-    (Span::Between(0, 3), (4, 7), &ALL, &[4, 5, 6]),
-    (Span::Between(1, 2), (4, 7), &SECOND, &[1, 4, 5, 6, 3]),
-    (Span::Between(1, 3), (4, 7), &LAST_TWO, &[1, 4, 5, 6]),
-    (Span::Through(0, 1), (4, 7), &FIRST_TWO, &[4, 5, 6, 3]),
-    (Span::Through(0, 2), (4, 7), &ALL, &[4, 5, 6]),
-    (Span::Through(1, 1), (4, 7), &SECOND, &[1, 4, 5, 6, 3]),
-    (Span::Through(1, 2), (4, 7), &LAST_TWO, &[1, 4, 5, 6]),
+    (Span::All, (4, 7), &ALL, 6, &[4, 5, 6]),
+    (Span::UpTo(2), (4, 7), &FIRST_TWO, 6, &[4, 5, 6, 3]),
+    (Span::UpTo(3), (4, 7), &ALL, 6, &[4, 5, 6]),
+    (Span::UpThrough(1), (4, 7), &FIRST_TWO, 6, &[4, 5, 6, 3]),
+    (Span::UpThrough(2), (4, 7), &ALL, 6, &[4, 5, 6]),
+    (Span::From(0), (4, 7), &ALL, 6, &[4, 5, 6]),
+    (Span::From(1), (4, 7), &LAST_TWO, 5, &[1, 4, 5, 6]),
+    (Span::Between(0, 2), (4, 7), &FIRST_TWO, 6, &[4, 5, 6, 3]),
+    (Span::Between(0, 3), (4, 7), &ALL, 6, &[4, 5, 6]),
+    (Span::Between(1, 2), (4, 7), &SECOND, 6, &[1, 4, 5, 6, 3]),
+    (Span::Between(1, 3), (4, 7), &LAST_TWO, 5, &[1, 4, 5, 6]),
+    (Span::Through(0, 1), (4, 7), &FIRST_TWO, 6, &[4, 5, 6, 3]),
+    (Span::Through(0, 2), (4, 7), &ALL, 6, &[4, 5, 6]),
+    (Span::Through(1, 1), (4, 7), &SECOND, 6, &[1, 4, 5, 6, 3]),
+    (Span::Through(1, 2), (4, 7), &LAST_TWO, 5, &[1, 4, 5, 6]),
 ];
 
 #[test]
@@ -187,12 +194,24 @@ const LAST_TWO_BACK: [Step; 4] = [Back(Some(3)), Back(Some(2)), Back(None), Back
 const SECOND_BACK: [Step; 4] = [Back(Some(2)), Back(None), Back(None), Back(None)];
 
 const THREE_FROM_THE_BACK: [Row; 6] = [
-    (Span::All, (4, 7), &ALL_BACK, &[4, 5, 6]),
-    (Span::UpTo(2), (4, 7), &FIRST_TWO_BACK, &[4, 5, 6, 3]),
-    (Span::From(1), (4, 7), &LAST_TWO_BACK, &[1, 4, 5, 6]),
-    (Span::Through(0, 1), (4, 7), &FIRST_TWO_BACK, &[4, 5, 6, 3]),
-    (Span::Through(1, 1), (4, 7), &SECOND_BACK, &[1, 4, 5, 6, 3]),
-    (Span::Behind(0, 2), (4, 7), &LAST_TWO_BACK, &[1, 4, 5, 6]),
+    (Span::All, (4, 7), &ALL_BACK, 6, &[4, 5, 6]),
+    (Span::UpTo(2), (4, 7), &FIRST_TWO_BACK, 8, &[4, 5, 6, 3]),
+    (Span::From(1), (4, 7), &LAST_TWO_BACK, 7, &[1, 4, 5, 6]),
+    (
+        Span::Through(0, 1),
+        (4, 7),
+        &FIRST_TWO_BACK,
+        8,
+        &[4, 5, 6, 3],
+    ),
+    (
+        Span::Through(1, 1),
+        (4, 7),
+        &SECOND_BACK,
+        6,
+        &[1, 4, 5, 6, 3],
+    ),
+    (Span::Behind(0, 2), (4, 7), &LAST_TWO_BACK, 7, &[1, 4, 5, 6]),
 ];
 
 #[test]
@@ -201,15 +220,36 @@ fn three_items_from_the_back(rt: HostRuntime) -> Result<(), Fail> {
 }
 
 const EMPTY_RANGES: [Row; 4] = [
-    (Span::Between(0, 0), (4, 4), &NONE, &[1, 2, 3]),
-    (Span::Between(2, 2), (4, 5), &NONE, &[1, 2, 4, 3]),
-    (Span::UpTo(0), (4, 7), &NONE, &[4, 5, 6, 1, 2, 3]),
-    (Span::Between(3, 3), (4, 7), &NONE_BACK, &[1, 2, 3, 4, 5, 6]),
+    (Span::Between(0, 0), (4, 4), &NONE, 0, &[1, 2, 3]),
+    (Span::Between(2, 2), (4, 5), &NONE, 2, &[1, 2, 4, 3]),
+    (Span::UpTo(0), (4, 7), &NONE, 6, &[4, 5, 6, 1, 2, 3]),
+    (
+        Span::Between(3, 3),
+        (4, 7),
+        &NONE_BACK,
+        3,
+        &[1, 2, 3, 4, 5, 6],
+    ),
 ];
 
 #[test]
 fn empty_ranges(rt: HostRuntime) -> Result<(), Fail> {
     all_right(in_both_places(rt.alloc(), &EMPTY_RANGES, true))
+}
+
+const PLACED_BY_FINISH: [Row; 7] = [
+    (Span::All, (4, 4), &[], 3, &[]),
+    (Span::UpTo(2), (4, 4), &[], 3, &[3]),
+    (Span::All, (4, 5), &[], 4, &[4]),
+    (Span::Through(1, 1), (4, 7), &[], 6, &[1, 4, 5, 6, 3]),
+    (Span::Between(1, 1), (4, 7), &[], 7, &[1, 4, 5, 6, 2, 3]),
+    (Span::UpTo(2), (4, 5), &FIRST_TWO_BACK, 6, &[4, 3]),
+    (Span::All, (4, 6), &[Front(Some(1))], 5, &[4, 5]),
+];
+
+#[test]
+fn placed_by_finish(rt: HostRuntime) -> Result<(), Fail> {
+    all_right(in_both_places(rt.alloc(), &PLACED_BY_FINISH, true))
 }
 
 const FROM_BOTH_ENDS: [Step; 9] = [
@@ -224,7 +264,7 @@ const FROM_BOTH_ENDS: [Step; 9] = [
     Left(0),
 ];
 
-const HOW_MANY_ARE_LEFT: [Row; 1] = [(Span::All, (7, 9), &FROM_BOTH_ENDS, &[7, 8])];
+const HOW_MANY_ARE_LEFT: [Row; 1] = [(Span::All, (7, 9), &FROM_BOTH_ENDS, 7, &[7, 8])];
 
 #[test]
 fn how_many_are_left(rt: HostRuntime) -> Result<(), Fail> {
@@ -235,6 +275,7 @@ const TO_THE_HEAP: Row = (
     Span::Between(1, 2),
     (7, 10),
     &[Back(Some(2))],
+    10,
     &[1, 7, 8, 9, 3],
 );
 
@@ -248,6 +289,7 @@ const SHORTER: Row = (
     Span::Between(1, 4),
     (7, 8),
     &[Back(Some(4)), Front(Some(2))],
+    7,
     &[1, 7, 5],
 );
 
@@ -261,11 +303,11 @@ fn shorter_on_the_heap(rt: HostRuntime) -> Result<(), Fail> {
     all_right(wrong)
 }
 
-const TWO_FOR_ONE: Row = (Span::Between(1, 2), (6, 8), &[], &[1, 6, 7, 3]);
+const TWO_FOR_ONE: Row = (Span::Between(1, 2), (6, 8), &[], 4, &[1, 6, 7, 3]);
 
-const ONE_FOR_THREE: Row = (Span::UpTo(3), (2, 3), &[], &[2, 3]);
+const ONE_FOR_THREE: Row = (Span::UpTo(3), (2, 3), &[], 5, &[2, 3]);
 
-const THREE_FOR_NONE: Row = (Span::Between(1, 1), (5, 8), &[], &[2, 5, 6, 7, 3]);
+const THREE_FOR_NONE: Row = (Span::Between(1, 1), (5, 8), &[], 6, &[2, 5, 6, 7, 3]);
 
 #[test]
 fn within_the_array(rt: HostRuntime) -> Result<(), Fail> {
@@ -291,6 +333,7 @@ const SIX_TOUCHES: Row = (
         Back(None),
         Touches(6),
     ],
+    11,
     &[7, 8, 9, 10],
 );
 
@@ -300,7 +343,7 @@ fn a_step_moves_nothing(rt: HostRuntime) -> Result<(), Fail> {
     all_right(granted(0, 1, splices(&mut v, &SIX_TOUCHES, true, false)))
 }
 
-const AS_MANY: Row = (Span::From(1), (8, 10), &[], &[1, 8, 9]);
+const AS_MANY: Row = (Span::From(1), (8, 10), &[], 4, &[1, 8, 9]);
 
 #[test]
 fn as_many_in_a_full_array(rt: HostRuntime) -> Result<(), Fail> {
@@ -308,9 +351,9 @@ fn as_many_in_a_full_array(rt: HostRuntime) -> Result<(), Fail> {
     all_right(granted(0, 1, splices(&mut v, &AS_MANY, false, true)))
 }
 
-const NONE_FOR_NONE: Row = (Span::All, (7, 7), &[Left(0), Front(None)], &[]);
+const NONE_FOR_NONE: Row = (Span::All, (7, 7), &[Left(0), Front(None)], 0, &[]);
 
-const TWO_FOR_NONE: Row = (Span::All, (7, 9), &[], &[7, 8]);
+const TWO_FOR_NONE: Row = (Span::All, (7, 9), &[], 2, &[7, 8]);
 
 #[test]
 fn no_slots(rt: HostRuntime) -> Result<(), Fail> {
@@ -321,37 +364,24 @@ fn no_slots(rt: HostRuntime) -> Result<(), Fail> {
     all_right(wrong)
 }
 
+const FOUR_FOR_TWO: Row = (
+    Span::Between(1, 3),
+    (7, 11),
+    &[Touches(0), Back(Some(3)), Touches(2)],
+    10,
+    &[1, 7, 8, 9, 10, 4, 5],
+);
+
+const ONE_BEHIND: Row = (Span::From(3), (4, 5), &[], 4, &[1, 2, 3, 4]);
+
 #[test]
-fn touches_of_a_longer_replacement(rt: HostRuntime) -> Result<(), Fail> {
+fn touches(rt: HostRuntime) -> Result<(), Fail> {
     let mut v = TinyVec::from_array_len(rt.alloc(), [1, 2, 3, 4, 5, 0, 0, 0], 5);
-    let mut splice = v.splice(1..3, [7, 8, 9, 10]);
+    let mut full = TinyVec::from_array(rt.alloc(), [1, 2, 3]);
     let mut wrong = 0;
-    wrong = first(wrong, 1, splice.touches() == 0);
-    wrong = first(wrong, 2, splice.next_back() == Some(3));
-    wrong = first(wrong, 3, splice.touches() == 2);
-    let (finished, touches) = splice.finish_counted();
-    wrong = first(wrong, 4, finished.is_ok());
-    wrong = first(wrong, 5, (5 <= touches) & (touches <= 13));
-    wrong = first(wrong, 6, lies(&v, &[1, 7, 8, 9, 10, 4, 5], true));
+    wrong = granted(wrong, 1, splices(&mut v, &FOUR_FOR_TWO, false, true));
+    wrong = granted(wrong, 2, splices(&mut full, &ONE_BEHIND, true, false));
     all_right(wrong)
-}
-
-// Whether one item more moves a full list to the heap by few touches.
-fn moves_by_few_touches(v: &mut TinyVec<[i32; 3]>) -> Option<bool> {
-    if v.len() != 3 {
-        return Some(false);
-    }
-    let (finished, touches) = v.splice(3.., [4]).finish_counted();
-    if finished.is_err() {
-        return None;
-    }
-    Some((touches <= 8) & lies(v, &[1, 2, 3, 4], false))
-}
-
-#[test]
-fn touches_of_a_move(rt: HostRuntime) -> Result<(), Fail> {
-    let mut v = TinyVec::from_array(rt.alloc(), [1, 2, 3]);
-    all_right(granted(0, 1, moves_by_few_touches(&mut v)))
 }
 
 // Whether the item before an end is replaced by those of an iterator that hints at nothing.
