@@ -2,9 +2,6 @@
 import dataclasses
 import pathlib
 
-# The folder, below a crate's other edits, of those that the gate tries.
-NAMED = "named"
-
 
 class BadEdit(Exception):
     """An edit that cannot be applied, with the reason."""
@@ -24,52 +21,66 @@ class Edit:
     crate: str
     name: str
     changes: tuple[Change, ...]
+    # Whether it is one of the wrong bodies that a reader would think of first, which the gate tries.
+    is_named: bool
+    # The file that has it, below tests/mutations.
+    place: str
 
     def __str__(self):
         return f"{self.crate}/{self.name}"
-
-    @property
-    def is_named(self):
-        """Whether it is one of the wrong bodies that a reader would think of first, which the gate tries."""
-        return self.name.startswith(f"{NAMED}/")
 
     def files(self):
         return {change.file for change in self.changes}
 
 
 def read_all(folder, crates):
-    """The edits of the crates, in the order of their names, and what is wrong with those that cannot be read."""
+    """The edits of the crates, file by file, and what is wrong with those that cannot be read."""
     edits, broken = [], []
     for crate in crates:
         for path in sorted(it for it in (folder / crate).rglob("*") if it.is_file()):
             name = path.relative_to(folder / crate)
             try:
-                edits.append(read(crate, str(name.with_suffix("")), path))
+                edits += read(crate, f"src/{name.with_suffix('.rt')}", path)
             except BadEdit as why:
                 broken.append((f"{crate}/{name}", str(why)))
     return edits, broken
 
 
-def read(crate, name, path):
-    """An edit is lines `file: PATH`, and then pairs of `old: TEXT` and `new: TEXT`."""
-    if path.suffix != ".edit":
-        raise BadEdit("its name does not end in .edit")
-    file, old, changes = None, None, []
-    for line in path.read_text(encoding="utf-8").splitlines():
-        word, _, text = line.partition(":")
-        text = text.removeprefix(" ")
-        if word == "file":
-            file = text.strip()
-        elif word == "old":
-            old = text
-        elif word == "new" and file and old:
-            changes.append(Change(file, old, text))
-            old = None
-        elif line.strip():
-            raise BadEdit(f"this line is none of file, old and new in their order: {line}")
-    if not changes or old is not None:
-        raise BadEdit("it has no pair of old and new, or half of one")
-    return Edit(crate, name, tuple(changes))
+def read(crate, file, path):
+    """The edits of a file. Each is a line `edit: NAME` or `named: NAME`, and then pairs of `old: TEXT` and `new: TEXT`.
+
+    A line `file: PATH` says that the pairs after it are of another file.
+    """
+    if path.suffix != ".edits":
+        raise BadEdit("its name does not end in .edits")
+    found = []
+    for block in path.read_text(encoding="utf-8").split("\n\n"):
+        changed, old, changes = file, None, []
+        first, *lines = block.strip("\n").split("\n")
+        kind, _, name = first.partition(": ")
+        if kind not in ("edit", "named"):
+            raise BadEdit(f"an edit begins with `edit: NAME` or `named: NAME`, and not so: {first}")
+        for line in lines:
+            word, _, text = line.partition(":")
+            text = text.removeprefix(" ")
+            if word == "file":
+                changed = text
+            elif word == "old":
+                old = text
+            elif word == "new" and old is not None:
+                changes.append(Change(changed, old, text))
+                old = None
+            else:
+                raise BadEdit(f"this line of {name} is none of file, old and new in their order: {line}")
+        if not changes or old is not None:
+            raise BadEdit(f"{name} has no pair of old and new, or half of one")
+        found.append(Edit(crate, name, tuple(changes), kind == "named", f"{crate}/{path_in(file)}"))
+    return found
+
+
+def path_in(file):
+    """Where the edits of a source file are, below their crate's folder."""
+    return pathlib.PurePosixPath(file).relative_to("src").with_suffix(".edits")
 
 
 def apply(edit, texts):
