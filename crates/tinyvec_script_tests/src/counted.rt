@@ -4,13 +4,13 @@ ghost use Rattle.std.specs.Io.{StartsWith};
 
 use crate::counted::Answer::{Fails, Moves};
 use crate::ends::Interrupted as InterruptedEnd;
-use crate::steps::first_granted;
 use std::alloc::{AllocError, Global};
 use std::io;
 use std::io::ErrorKind::{BrokenPipe, Interrupted, Other, WriteZero};
 use std::io::{ErrorKind, Read, Write};
 use std::test::Fail;
 use tinyvec_io::Counted;
+use tinyvec_test_items::{all_right, first, granted_ok};
 
 #[derive(Clone, Copy)]
 enum Answer {
@@ -327,12 +327,10 @@ fn writes_after_many(alloc: Global, bytes: &[u8]) -> Result<bool, AllocError> {
 
 #[test]
 fn many_interruptions_end_neither_input_nor_output(rt: HostRuntime) -> Result<(), Fail> {
-    let mut wrong = Ok(None);
-    wrong = first_granted(wrong, 1, Ok(reads_after_many(*b"tiny")));
-    wrong = first_granted(wrong, 2, writes_after_many(rt.alloc(), b"tiny"));
-    let wrong = wrong?;
-    assert!(rt; wrong == None, "step {wrong:?}");
-    Ok(())
+    let mut wrong = 0;
+    wrong = first(wrong, 1, reads_after_many(*b"tiny"));
+    wrong = granted_ok(wrong, 2, writes_after_many(rt.alloc(), b"tiny"));
+    all_right(wrong)
 }
 
 // Over a slice and a vector the clauses name the bytes.

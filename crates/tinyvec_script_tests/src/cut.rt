@@ -1,6 +1,5 @@
 //! Scripts whose input is cut at every byte.
 use crate::answered::{ROOM, answers_to_pops, are_wanted, count_lines, first_lines, pops};
-use crate::steps::first_granted;
 use std::alloc::{AllocError, Global};
 use std::ops::Range;
 use std::test::Fail;
@@ -75,7 +74,6 @@ fn wrong_cut(
 ) -> Result<Option<usize>, AllocError> {
     let mut answers = Vec::with_capacity(alloc, ROOM)?;
     let mut wanted = Vec::with_capacity(alloc, ROOM)?;
-    let mut wrong = Ok(None);
     for count in counts {
         // The line of this byte counts where only its line feed is missing.
         let lines = count_lines(&input[..input.len().min(count.saturating_add(1))]);
@@ -91,11 +89,12 @@ fn wrong_cut(
         let mut writer = Counted::new(answers);
         let result = run(alloc, &mut reader, &mut writer);
         answers = writer.into_inner();
-        let is_right = are_wanted(answers.as_slice(), wanted.as_slice(), result.is_ok());
-        wrong = first_granted(wrong, count, is_right);
+        if !are_wanted(answers.as_slice(), wanted.as_slice(), result.is_ok())? {
+            return Ok(Some(count));
+        }
         answers.clear();
     }
-    wrong
+    Ok(None)
 }
 
 #[test]

@@ -1,7 +1,8 @@
 //! Scripts of each command over ends that fail, are interrupted, or move few bytes.
-use crate::answered::{Ended, ROOM, Script, answers_to_pops, are_wanted, count_lines, first_lines, pops};
+use crate::answered::{
+    Ended, ROOM, Script, answers_to_pops, are_wanted, count_lines, first_lines, pops,
+};
 use crate::ends::{Fills, Full, Gives, Interrupted};
-use crate::steps::first_granted;
 use std::alloc::{AllocError, Global};
 use std::io::ErrorKind;
 use std::ops::RangeInclusive;
@@ -154,7 +155,6 @@ fn wrong_read(
     times: u64,
 ) -> Result<Option<usize>, AllocError> {
     let mut answers = Vec::with_capacity(alloc, ROOM)?;
-    let mut wrong = Ok(None);
     for count in counts {
         let bytes = &input[..count.min(input.len())];
         let gives = Gives {
@@ -167,12 +167,14 @@ fn wrong_read(
         let ended = Ended::of(run(alloc, &mut reader, &mut writer));
         answers = writer.into_inner();
         let wanted = first_lines(output, count_lines(bytes));
-        let has_ended_so = (ended == Ended::Read(ErrorKind::BrokenPipe)) & ((reader.faults() == 1) | (times > 0));
-        let is_right = are_wanted(answers.as_slice(), wanted, has_ended_so);
-        wrong = first_granted(wrong, count, is_right);
+        let has_ended_so = (ended == Ended::Read(ErrorKind::BrokenPipe))
+            & ((reader.faults() == 1) | (times > 0));
+        if !are_wanted(answers.as_slice(), wanted, has_ended_so)? {
+            return Ok(Some(count));
+        }
         answers.clear();
     }
-    wrong
+    Ok(None)
 }
 
 // With room for how few bytes a writer has not taken just these, or the script does not tell of it.
@@ -184,7 +186,6 @@ fn wrong_write(
     full: Full,
 ) -> Result<Option<usize>, AllocError> {
     let mut taken = Vec::with_capacity(alloc, ROOM)?;
-    let mut wrong = Ok(None);
     for room in rooms {
         let mut reader = Counted::new(input);
         let mut writer = Counted::new(Fills {
@@ -197,11 +198,12 @@ fn wrong_write(
         let has_ended_so = (ended == Ended::Write(full.kind())) & (writer.faults() == 1);
         taken = writer.into_inner().taken;
         let wanted = &output[..room.min(output.len())];
-        let is_right = are_wanted(taken.as_slice(), wanted, has_ended_so);
-        wrong = first_granted(wrong, room, is_right);
+        if !are_wanted(taken.as_slice(), wanted, has_ended_so)? {
+            return Ok(Some(room));
+        }
         taken.clear();
     }
-    wrong
+    Ok(None)
 }
 
 // Whether a script is read and answered whole by ends that move a byte a call, and are interrupted before each.

@@ -1,7 +1,6 @@
 //! A writer whose flush is interrupted. That is a fault as any other: nothing here asks again.
 use crate::answered::{Ended, ROOM, are_wanted};
 use crate::ends::{FlushInterrupted, Interrupted};
-use crate::steps::first_granted;
 use std::alloc::{AllocError, Global};
 use std::io::{ErrorKind, Write};
 use std::test::Fail;
@@ -9,6 +8,7 @@ use tinyvec::{ArrayVec, TinyVec};
 use tinyvec_borsh::BorshSerialize;
 use tinyvec_io::Counted;
 use tinyvec_script::run;
+use tinyvec_test_items::{all_right, granted_ok};
 
 // Whether a script, each write of which is interrupted so many times, is answered whole, and then tells of the flush, asked for
 // once. Its caller may ask again.
@@ -38,15 +38,13 @@ const OUTPUT: &[u8] = b"ok [1] [0, 0, 0]\nok [2] inline\nsome 1 [] [0, 0, 0, 0]\
 fn of_a_script(rt: HostRuntime) -> Result<(), Fail> {
     let without_last = b"A push 1\nT push 2\nA pop".as_slice();
     let none = b"".as_slice();
-    let mut wrong = Ok(None);
-    wrong = first_granted(wrong, 1, tells(rt.alloc(), INPUT, OUTPUT, 0, 1));
-    wrong = first_granted(wrong, 2, tells(rt.alloc(), without_last, OUTPUT, 0, 1));
-    wrong = first_granted(wrong, 3, tells(rt.alloc(), none, none, 0, 1));
+    let mut wrong = 0;
+    wrong = granted_ok(wrong, 1, tells(rt.alloc(), INPUT, OUTPUT, 0, 1));
+    wrong = granted_ok(wrong, 2, tells(rt.alloc(), without_last, OUTPUT, 0, 1));
+    wrong = granted_ok(wrong, 3, tells(rt.alloc(), none, none, 0, 1));
     // The one write is interrupted too, and made again. The flush is not.
-    wrong = first_granted(wrong, 4, tells(rt.alloc(), INPUT, OUTPUT, 1, 2));
-    let wrong = wrong?;
-    assert!(rt; wrong == None, "step {wrong:?}");
-    Ok(())
+    wrong = granted_ok(wrong, 4, tells(rt.alloc(), INPUT, OUTPUT, 1, 2));
+    all_right(wrong)
 }
 
 // Whether a value is written, and no flush is asked for.
@@ -67,11 +65,9 @@ fn the_borsh_form_asks_for_none(rt: HostRuntime) -> Result<(), Fail> {
     let on_the_heap = TinyVec::<[u8; 1]>::from_slice(rt.alloc(), &[1, 2])?;
     let inline = ArrayVec::from_array_len([1u8, 2, 9, 9], 2);
     let list = [2, 0, 0, 0, 0, 0, 0, 0, 1, 2].as_slice();
-    let mut wrong = Ok(None);
-    wrong = first_granted(wrong, 1, is_unflushed(rt.alloc(), &-2i16, &[254, 255]));
-    wrong = first_granted(wrong, 2, is_unflushed(rt.alloc(), &inline, list));
-    wrong = first_granted(wrong, 3, is_unflushed(rt.alloc(), &on_the_heap, list));
-    let wrong = wrong?;
-    assert!(rt; wrong == None, "step {wrong:?}");
-    Ok(())
+    let mut wrong = 0;
+    wrong = granted_ok(wrong, 1, is_unflushed(rt.alloc(), &-2i16, &[254, 255]));
+    wrong = granted_ok(wrong, 2, is_unflushed(rt.alloc(), &inline, list));
+    wrong = granted_ok(wrong, 3, is_unflushed(rt.alloc(), &on_the_heap, list));
+    all_right(wrong)
 }

@@ -1,7 +1,6 @@
 //! The Borsh form over ends that fail, are interrupted, or move few bytes, and over input that is cut.
 use crate::answered::ROOM;
 use crate::ends::{Fills, Full, Gives, Interrupted};
-use crate::steps::first_granted;
 use std::alloc::{AllocError, Global};
 use std::io::Read;
 use std::test::Fail;
@@ -9,6 +8,7 @@ use tinyvec::{ArrayVec, TinyVec};
 use tinyvec_borsh::BorshError::{Ended, Io, Memory};
 use tinyvec_borsh::{BorshDeserialize, BorshError, BorshSerialize};
 use tinyvec_io::Counted;
+use tinyvec_test_items::{all_right, first, granted_ok};
 
 // Whether no value is read, for this reason.
 fn fails<T: BorshDeserialize + Drop, R: Read>(
@@ -36,25 +36,26 @@ fn reads<T: BorshDeserialize + PartialEq + Drop, R: Read>(
     }
 }
 
-// After how few bytes their end, or a reader that fails, is told otherwise. At their end a reader that is interrupted before
-// each byte gives the value.
-fn wrong_read<T: BorshDeserialize + PartialEq + Drop>(
+// Whether after each byte but the last their end is told, and a reader that fails. At their end a reader that is interrupted
+// before each byte gives the value.
+fn is_read<T: BorshDeserialize + PartialEq + Drop>(
     alloc: Global,
     value: &T,
     bytes: &[u8],
-) -> Result<Option<usize>, AllocError> {
-    let mut wrong = Ok(None);
+) -> Result<bool, AllocError> {
     for count in 0..bytes.len() {
-        let first = &bytes[..count];
-        let mut cut = Counted::new(first);
-        wrong = first_granted(wrong, count, fails::<T, _>(alloc, &mut cut, Ended));
+        let front = &bytes[..count];
+        let mut cut = Counted::new(front);
         let mut broken = Counted::new(Gives {
-            bytes: first,
+            bytes: front,
             most: 1,
             breaks: true,
         });
-        wrong = first_granted(wrong, count, fails::<T, _>(alloc, &mut broken, Io));
-        wrong = first_granted(wrong, count, Ok(broken.faults() == 1));
+        let is_told = fails::<T, _>(alloc, &mut cut, Ended)?
+            & fails::<T, _>(alloc, &mut broken, Io)?;
+        if !(is_told & (broken.faults() == 1)) {
+            return Ok(false);
+        }
     }
     let gives = Gives {
         bytes,
@@ -62,23 +63,17 @@ fn wrong_read<T: BorshDeserialize + PartialEq + Drop>(
         breaks: false,
     };
     let mut reader = Counted::new(Interrupted::new(gives, 1));
-    wrong = first_granted(wrong, bytes.len(), reads(alloc, &mut reader, value));
-    first_granted(
-        wrong,
-        bytes.len(),
-        Ok(reader.faults() == bytes.len() as u64),
-    )
+    Ok(reads(alloc, &mut reader, value)? & (reader.faults() == bytes.len() as u64))
 }
 
-// For how few bytes a writer without more room is not told of. With room for all, one that takes a byte a call, and is
+// Whether a writer without room for all the bytes is told of. With room for all, one that takes a byte a call, and is
 // interrupted before each, is given just these bytes.
-fn wrong_write<T: BorshSerialize>(
+fn is_written<T: BorshSerialize>(
     alloc: Global,
     value: &T,
     bytes: &[u8],
-) -> Result<Option<usize>, AllocError> {
+) -> Result<bool, AllocError> {
     let mut taken = Vec::with_capacity(alloc, ROOM)?;
-    let mut wrong = Ok(None);
     for room in 0..bytes.len() {
         for full in [Full::Fails, Full::TakesNone] {
             let mut writer = Counted::new(Fills {
@@ -88,7 +83,9 @@ fn wrong_write<T: BorshSerialize>(
                 full,
             });
             let is_told = (value.serialize(&mut writer) == Err(Io)) & (writer.faults() == 1);
-            wrong = first_granted(wrong, room, Ok(is_told));
+            if !is_told {
+                return Ok(false);
+            }
             taken = writer.into_inner().taken;
             taken.clear();
         }
@@ -103,8 +100,7 @@ fn wrong_write<T: BorshSerialize>(
     let is_written = value.serialize(&mut writer) == Ok(());
     let is_counted = writer.faults() == bytes.len() as u64;
     let taken = writer.into_inner().end.taken;
-    let is_right = is_written & is_counted & (taken.as_slice() == bytes);
-    first_granted(wrong, bytes.len(), Ok(is_right))
+    Ok(is_written & is_counted & (taken.as_slice() == bytes))
 }
 
 // Whether a value is read of all of these bytes alone, and written as these.
@@ -113,8 +109,7 @@ fn is_whole<T: BorshSerialize + BorshDeserialize + PartialEq + Drop>(
     value: &T,
     bytes: &[u8],
 ) -> Result<bool, AllocError> {
-    let wrong = wrong_read(alloc, value, bytes)?;
-    Ok((wrong == None) & (wrong_write(alloc, value, bytes)? == None))
+    Ok(is_read(alloc, value, bytes)? & is_written(alloc, value, bytes)?)
 }
 
 #[test]
@@ -126,20 +121,18 @@ fn numbers(rt: HostRuntime) -> Result<(), Fail> {
         251, 255, 255, 255, 255, 255, 255, 255, 255, 255, 255, 255, 255, 255, 255, 255,
     ]
     .as_slice();
-    let mut wrong = Ok(None);
-    wrong = first_granted(wrong, 1, is_whole(heap, &7u8, &[7]));
-    wrong = first_granted(wrong, 2, is_whole(heap, &-128i8, &[128]));
-    wrong = first_granted(wrong, 3, is_whole(heap, &258u16, &[2, 1]));
-    wrong = first_granted(wrong, 4, is_whole(heap, &-2i16, &[254, 255]));
-    wrong = first_granted(wrong, 5, is_whole(heap, &16909060u32, &[4, 3, 2, 1]));
-    wrong = first_granted(wrong, 6, is_whole(heap, &i32::MIN, &[0, 0, 0, 128]));
-    wrong = first_granted(wrong, 7, is_whole(heap, &72623859790382856u64, eight));
-    wrong = first_granted(wrong, 8, is_whole(heap, &-256i64, below_zero));
-    wrong = first_granted(wrong, 9, is_whole(heap, &u128::MAX, &[255; 16]));
-    wrong = first_granted(wrong, 10, is_whole(heap, &-5i128, minus_five));
-    let wrong = wrong?;
-    assert!(rt; wrong == None, "step {wrong:?}");
-    Ok(())
+    let mut wrong = 0;
+    wrong = granted_ok(wrong, 1, is_whole(heap, &7u8, &[7]));
+    wrong = granted_ok(wrong, 2, is_whole(heap, &-128i8, &[128]));
+    wrong = granted_ok(wrong, 3, is_whole(heap, &258u16, &[2, 1]));
+    wrong = granted_ok(wrong, 4, is_whole(heap, &-2i16, &[254, 255]));
+    wrong = granted_ok(wrong, 5, is_whole(heap, &16909060u32, &[4, 3, 2, 1]));
+    wrong = granted_ok(wrong, 6, is_whole(heap, &i32::MIN, &[0, 0, 0, 128]));
+    wrong = granted_ok(wrong, 7, is_whole(heap, &72623859790382856u64, eight));
+    wrong = granted_ok(wrong, 8, is_whole(heap, &-256i64, below_zero));
+    wrong = granted_ok(wrong, 9, is_whole(heap, &u128::MAX, &[255; 16]));
+    wrong = granted_ok(wrong, 10, is_whole(heap, &-5i128, minus_five));
+    all_right(wrong)
 }
 
 // `[[1], []]`
@@ -168,16 +161,14 @@ fn lists(rt: HostRuntime) -> Result<(), Fail> {
     let array = ArrayVec::from_array_len([1u8, 2, 9, 9], 2);
     let inline = TinyVec::from_array(heap, [1u32, 258]);
     let array_of_lists = ArrayVec::from_array([one(), ArrayVec::new()]);
-    let mut wrong = Ok(None);
-    wrong = first_granted(wrong, 1, is_whole(heap, &array, bytes));
-    wrong = first_granted(wrong, 2, is_whole(heap, &inline, numbers));
-    wrong = first_granted(wrong, 3, is_whole(heap, &on_the_heap, bytes));
-    wrong = first_granted(wrong, 4, is_whole(heap, &array_of_lists, &LISTS));
-    wrong = first_granted(wrong, 5, Ok(of_lists.is_heap()));
-    wrong = first_granted(wrong, 6, is_whole(heap, &of_lists, &LISTS));
-    let wrong = wrong?;
-    assert!(rt; wrong == None, "step {wrong:?}");
-    Ok(())
+    let mut wrong = 0;
+    wrong = granted_ok(wrong, 1, is_whole(heap, &array, bytes));
+    wrong = granted_ok(wrong, 2, is_whole(heap, &inline, numbers));
+    wrong = granted_ok(wrong, 3, is_whole(heap, &on_the_heap, bytes));
+    wrong = granted_ok(wrong, 4, is_whole(heap, &array_of_lists, &LISTS));
+    wrong = first(wrong, 5, of_lists.is_heap());
+    wrong = granted_ok(wrong, 6, is_whole(heap, &of_lists, &LISTS));
+    all_right(wrong)
 }
 
 // Whether a list on the heap is read to the last of its bytes.
@@ -200,13 +191,10 @@ fn a_tiny_vec_read_to_its_last_byte(rt: HostRuntime) -> Result<(), Fail> {
 #[test]
 fn the_greatest_count(rt: HostRuntime) -> Result<(), Fail> {
     let bytes = [255, 255, 255, 255, 255, 255, 255, 255, 1, 2, 3, 4, 5];
-    let mut wrong = Ok(None);
     for len in 8..=bytes.len() {
         let mut reader = Counted::new(&bytes[..len]);
-        let is_right = fails::<TinyVec<[u8; 4]>, _>(rt.alloc(), &mut reader, Ended);
-        wrong = first_granted(wrong, len, is_right);
+        let is_told = fails::<TinyVec<[u8; 4]>, _>(rt.alloc(), &mut reader, Ended)?;
+        assert!(rt; is_told, "of {len}");
     }
-    let wrong = wrong?;
-    assert!(rt; wrong == None, "of {wrong:?}");
     Ok(())
 }

@@ -27,5 +27,3 @@ mod runs;
 mod script;
 #[cfg(test)]
 mod splices;
-#[cfg(test)]
-mod steps;

@@ -1,10 +1,10 @@
 //! Runs, each a table of calls with their answers.
-use crate::steps::first_granted;
 use std::alloc::{AllocError, Global};
 use std::test::Fail;
 use tinyvec::{Array, ArrayVec, SliceVec, TinyVec};
 use tinyvec_script::{Answer, Call, End, run_array, run_slice, run_tiny};
 use tinyvec_test_items::arrays::holds;
+use tinyvec_test_items::{all_right, first, granted_ok};
 use tinyvec_test_looks::lies;
 
 // A call whose lists are lent, so that a table of them is a constant.
@@ -95,11 +95,12 @@ fn is_granted(answer: &Answer<i32>, told: Told) -> Result<bool, AllocError> {
 
 // Whether a run gave these answers, and left what is wanted.
 fn are_told(answers: &[Answer<i32>], rows: &[Row], is_left: bool) -> Result<bool, AllocError> {
-    let mut wrong = Ok(None);
-    for (index, (answer, (_, told))) in answers.iter().zip(rows).enumerate() {
-        wrong = first_granted(wrong, index, is_granted(answer, *told));
+    for (answer, (_, told)) in answers.iter().zip(rows) {
+        if !is_granted(answer, *told)? {
+            return Ok(false);
+        }
     }
-    Ok((wrong? == None) & (answers.len() == rows.len()) & is_left)
+    Ok((answers.len() == rows.len()) & is_left)
 }
 
 // A run over slots, of which so many are items at first, and the items and the spare slots that it leaves.
@@ -392,26 +393,24 @@ const GREATEST: [Row; 8] = [
 fn of_a_tiny_of_two_slots_and_of_four(rt: HostRuntime) -> Result<(), Fail> {
     let heap = rt.alloc();
     let there_and_back = is_right::<[i32; 2]>(heap, &[1, 2], &THERE_AND_BACK, &[2], false);
-    let mut wrong = Ok(None);
-    wrong = first_granted(
+    let mut wrong = 0;
+    wrong = granted_ok(
         wrong,
         1,
         is_right::<[i32; 2]>(heap, &[], &EACH_CALL, &[], false),
     );
-    wrong = first_granted(wrong, 2, there_and_back);
-    wrong = first_granted(
+    wrong = granted_ok(wrong, 2, there_and_back);
+    wrong = granted_ok(
         wrong,
         3,
         is_right::<[i32; 4]>(heap, &[], &SPLICES, &[1, 2, 3], false),
     );
-    wrong = first_granted(
+    wrong = granted_ok(
         wrong,
         4,
         is_right::<[i32; 4]>(heap, &[1, 2], &GREATEST, &[1, 2], true),
     );
-    let wrong = wrong?;
-    assert!(rt; wrong == None, "step {wrong:?}");
-    Ok(())
+    all_right(wrong)
 }
 
 // Whether all calls are done.
@@ -423,11 +422,12 @@ fn are_done(
     let count = calls.len();
     match run_tiny(alloc, v, calls) {
         Ok(answers) => {
-            let mut wrong = Ok(None);
-            for (index, answer) in answers.iter().enumerate() {
-                wrong = first_granted(wrong, index, is_granted(answer, Told::Done));
+            for answer in &answers {
+                if !is_granted(answer, Told::Done)? {
+                    return Ok(false);
+                }
             }
-            Ok((wrong? == None) & (answers.len() == count))
+            Ok(answers.len() == count)
         }
         Err(_) => Err(AllocError),
     }
@@ -452,13 +452,12 @@ fn of_a_tiny_that_grows_and_shrinks_on_the_heap(rt: HostRuntime) -> Result<(), F
     let grow = growing_calls(heap)?;
     let shrink = Vec::from_array(heap, [Call::Shrink])?;
     let mut v = TinyVec::new(heap);
-    let mut wrong = Ok(None);
-    wrong = first_granted(wrong, 1, are_done(heap, &mut v, grow));
-    wrong = first_granted(wrong, 2, Ok(v.capacity() >= 1040));
-    wrong = first_granted(wrong, 3, are_done(heap, &mut v, shrink));
-    wrong = first_granted(wrong, 4, Ok(v.len() == 40));
-    let wrong = wrong?;
-    assert!(rt; wrong == None, "step {wrong:?}");
+    let mut wrong = 0;
+    wrong = granted_ok(wrong, 1, are_done(heap, &mut v, grow));
+    wrong = first(wrong, 2, v.capacity() >= 1040);
+    wrong = granted_ok(wrong, 3, are_done(heap, &mut v, shrink));
+    wrong = first(wrong, 4, v.len() == 40);
+    all_right(wrong)?;
     assert!(rt; v.capacity() < 1040, "memory was granted");
     Ok(())
 }

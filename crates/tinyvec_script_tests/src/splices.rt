@@ -1,10 +1,10 @@
 //! Splices, driven.
-use crate::steps::first_granted;
 use std::alloc::{AllocError, Global};
 use std::test::Fail;
 use tinyvec::{Array, ArrayVec, TinyVec};
 use tinyvec_script::{Driven, End, drive_array_splice, drive_tiny_splice};
 use tinyvec_test_items::arrays::holds;
+use tinyvec_test_items::{all_right, granted_ok};
 use tinyvec_test_looks::lies;
 
 // What a driven splice does: the range, the ends that are taken, the replacement, what was given, what found no room, and the
@@ -100,17 +100,15 @@ fn of_an_array(rt: HostRuntime) -> Result<(), Fail> {
     let mut four = ArrayVec::from_array_len([1, 2, 3, 0], 3);
     let mut five = ArrayVec::from_array_len([1, 2, 3, 0, 0], 3);
     let mut six = ArrayVec::from_array_len([1, 2, 3, 4, 0, 0], 4);
-    let mut wrong = Ok(None);
-    wrong = first_granted(wrong, 1, FROM_THE_BACK.is_driven(heap, &mut four, &[]));
-    wrong = first_granted(wrong, 2, FROM_BOTH_ENDS.is_driven(heap, &mut five, &[0]));
-    wrong = first_granted(
+    let mut wrong = 0;
+    wrong = granted_ok(wrong, 1, FROM_THE_BACK.is_driven(heap, &mut four, &[]));
+    wrong = granted_ok(wrong, 2, FROM_BOTH_ENDS.is_driven(heap, &mut five, &[0]));
+    wrong = granted_ok(
         wrong,
         3,
         BY_A_LONG_WORD.is_driven(heap, &mut six, &[0, 0, 0]),
     );
-    let wrong = wrong?;
-    assert!(rt; wrong == None, "step {wrong:?}");
-    Ok(())
+    all_right(wrong)
 }
 
 const OF_FOUR_SLOTS: Splice = Splice {
@@ -138,16 +136,14 @@ fn that_moves_to_the_heap(rt: HostRuntime) -> Result<(), Fail> {
     let heap = rt.alloc();
     let mut four = TinyVec::from_array(heap, [1, 2, 3, 4]);
     let mut two = TinyVec::from_array(heap, [1, 2]);
-    let mut wrong = Ok(None);
-    wrong = first_granted(
+    let mut wrong = 0;
+    wrong = granted_ok(
         wrong,
         1,
         OF_FOUR_SLOTS.is_driven_to_the_heap(heap, &mut four),
     );
-    wrong = first_granted(wrong, 2, OF_TWO_SLOTS.is_driven_to_the_heap(heap, &mut two));
-    let wrong = wrong?;
-    assert!(rt; wrong == None, "step {wrong:?}");
-    Ok(())
+    wrong = granted_ok(wrong, 2, OF_TWO_SLOTS.is_driven_to_the_heap(heap, &mut two));
+    all_right(wrong)
 }
 
 const ON_THE_HEAP: Splice = Splice {
