@@ -28,3 +28,9 @@ returns-clause-ok g c =
     let note = map-id (tiny_items c.in_ok-note.note) in
     takes-both (SpellsNumber 4) (SpellsBoth SpellsSamples SpellsNote) _ _ _ _ _ c.in_ok-station.ensures.ok
     (takes-both SpellsSamples SpellsNote _ _ _ _ _ (rw samples at c.in_ok-samples.ensures.ok) (rw note at c.in_ok-note.ensures.ok))
+
+pub returns-clause-fits : goal.returns-clause-fits
+returns-clause-fits g c =
+    let samples = map-id (items c.in_ok-samples.samples) in
+    let note = map-id (tiny_items c.in_ok-note.note) in
+    (c.in_ok-station.ensures.fits, (subst SamplesFit samples c.in_ok-samples.ensures.fits, rw note at c.in_ok-note.ensures.fits))
