@@ -3,8 +3,8 @@
 
 usage: scripts/prose.py [DOCUMENT..]
 
-A sentence is named where it has more than 35 words, or one of the words of ODD. Code, tables and the pages of docs/reference,
-which a script writes, are left out of that; the count of words has all but those pages.
+A sentence is named where it has more than 35 words, or one of the words of ODD. Code, tables and the pages of docs/reference and
+bench/results, which scripts write, are left out of that; the count of words has all but those pages.
 """
 import pathlib
 import re
@@ -20,7 +20,7 @@ ODD = re.compile(r"\b(of so many|so many as|is told|gives? up|(?:it|they) lies?|
 
 def main():
     listed = subprocess.run(["git", "ls-files", "*.md"], cwd=TOP, stdout=subprocess.PIPE, encoding="utf-8", check=True).stdout
-    documents = sys.argv[1:] or [it for it in listed.splitlines() if not it.startswith("docs/reference/")]
+    documents = sys.argv[1:] or [it for it in listed.splitlines() if not it.startswith(("docs/reference/", "bench/results/"))]
     words = 0
     for name in documents:
         text = (TOP / name).read_text(encoding="utf-8")
