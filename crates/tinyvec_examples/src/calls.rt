@@ -1,5 +1,6 @@
 //! Callers of the calls that no other example makes, a few lines each.
 pub mod array;
+pub mod derefs;
 pub mod lent;
 pub mod text;
 pub mod tiny;

@@ -6,6 +6,8 @@ mod clones;
 #[cfg(test)]
 mod comparing;
 #[cfg(test)]
+mod derefs;
+#[cfg(test)]
 mod draining;
 #[cfg(test)]
 mod edits;
