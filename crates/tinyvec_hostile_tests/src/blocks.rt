@@ -1,10 +1,10 @@
-//! Clones refused at a chosen place of a list that is cloned in blocks of 512, 16 and 4.
+//! Clones refused at a chosen place of a list that is cloned in blocks of 512 and 16.
 use std::alloc::AllocError;
 use tinyvec::{ArrayVec, SliceVec, TryFromSliceError};
 use tinyvec_test_items::{Item, first};
 
-// Of the list below, the first, last and middle item of a block of 512, and of those of 16 and of 4 behind it, and the last
-// two, which are in none.
+// Of the list below, the first, last and middle item of a block of 512, items of those of 16 after it, and some that are in
+// none.
 const PLACES: [usize; 13] = [0, 1, 255, 511, 512, 520, 527, 528, 543, 544, 546, 548, 549];
 
 // `1` up to `90`, again and again.

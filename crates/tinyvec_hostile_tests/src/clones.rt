@@ -1,4 +1,4 @@
-//! Clones that are counted and refused, of items that are cloned in blocks of 512, 16 and 4, and of those that are left. A
+//! Clones that are counted and refused, of items that are cloned in blocks of 512 and 16, and of those that are left. A
 //! call asks for the clones that it needs, one after another, and for none after the one that is refused.
 ghost use Rattle.std.specs.Prelude.{◌≡◌};
 
