@@ -1,5 +1,5 @@
 //! Making a text, and giving its bytes away.
-use crate::steps::{begins, clones, is_cut_at, lies};
+use crate::steps::{begins, clones, cuts, is_cut_at, lies};
 use std::convert::{AsSlice, AsStr};
 use std::test::Fail;
 use tinyvec_test_items::{all_right, first, granted_ok};
@@ -88,7 +88,7 @@ fn cloned(rt: HostRuntime) -> Result<(), Fail> {
     wrong = granted_ok(wrong, 3, clones(&t, "hé", true));
     wrong = granted_ok(wrong, 4, begins(&mut t, rt.alloc(), "hello", false));
     wrong = granted_ok(wrong, 5, clones(&t, "hello", false));
-    t.truncate(1);
-    wrong = granted_ok(wrong, 6, clones(&t, "h", false));
+    wrong = first(wrong, 6, cuts(&mut t, 1, "h", false));
+    wrong = granted_ok(wrong, 7, clones(&t, "h", false));
     all_right(wrong)
 }
