@@ -2,39 +2,91 @@
 """Counts the words of the documents, and names sentences that are hard to read.
 
 usage: scripts/prose.py [DOCUMENT..]
+       scripts/prose.py --comments [CRATE..]
 
-A sentence is named where it has more than 35 words, or one of the words of ODD. Code, tables and the pages of docs/reference and
-bench/results, which scripts write, are left out of that; the count of words has all but those pages.
+All documents together have at most MOST words, code and tables among them; the pages of docs/reference and bench/results,
+which scripts write, are left out. A sentence is named where it has more than LONGEST words, or one of the words of ODD. Code
+is left out of that, and so are tables. `--comments` names such sentences of the comments in crates/*/src and crates/*/specs.
 """
 import pathlib
 import re
-import subprocess
 import sys
 
 TOP = pathlib.Path(__file__).resolve().parent.parent
-MOST = 35
+MOST = 25000
+LONGEST = 35
+WHERE = ("*.md", "docs/*.md", "crates/*/*.md")
 
 # What a Rust reader has to translate.
-ODD = re.compile(r"\b(of so many|so many as|is told|gives? up|(?:it|they) lies?|lies in|stands? (?:behind|in|there)|hands? back|asks? for memory)\b")
+ODD = re.compile(
+    r"\b(of so many|so many as|(?:is|are) told|giv(?:es?|ing) up|gave up|lies?|lay|stands?(?! for\b)|stood(?! for\b)|behind"
+    r"|hand(?:s|ed)? back|ask(?:s|ed)? for (?:memory|room)|(?:inner|counted|standard) ends?|the end that it holds|it is so)\b"
+)
+MARK = {".rt": r" *//[/!]? ?", ".antt": r" *-- ?"}
 
 
 def main():
-    listed = subprocess.run(["git", "ls-files", "*.md"], cwd=TOP, stdout=subprocess.PIPE, encoding="utf-8", check=True).stdout
-    documents = sys.argv[1:] or [it for it in listed.splitlines() if not it.startswith(("docs/reference/", "bench/results/"))]
-    words = 0
-    for name in documents:
-        text = (TOP / name).read_text(encoding="utf-8")
-        hard = [it for it in sentences(text) if len(it.split()) > MOST or ODD.search(it)]
-        words += len(text.split())
-        print(f"{name}: {len(text.split())} words, {len(hard)} hard sentences")
-        if sys.argv[1:]:
-            print("".join(f"    {it}\n" for it in hard), end="")
-    print(f"prose: {len(documents)} documents, {words} words")
+    arguments = sys.argv[1:]
+    if arguments[:1] == ["--comments"]:
+        count = 0
+        for file in sorted([*TOP.glob("crates/*/src/**/*.rt"), *TOP.glob("crates/*/specs/*.antt")]):
+            if len(arguments) == 1 or file.relative_to(TOP).parts[1] in arguments:
+                found = hard(comments(file.read_text(encoding="utf-8"), MARK[file.suffix]))
+                count += len(found)
+                show(f"{file.relative_to(TOP)}: {len(found)} hard sentences", found) if found else None
+        print(f"prose: {count} hard sentences in comments")
+        return
+    for name in arguments or documents():
+        text = read(name)
+        found = hard(text)
+        show(f"{name}: {len(text.split())} words, {len(found)} hard sentences", found if arguments else [])
+    words = total()
+    print(f"prose: {len(documents())} documents, {words} words of {MOST}")
+    sys.exit(words > MOST)
+
+
+def show(line, sentences):
+    print(line)
+    print("".join(f"    {it}\n" for it in sentences), end="")
+
+
+def documents():
+    return [str(it.relative_to(TOP)) for pattern in WHERE for it in sorted(TOP.glob(pattern))]
+
+
+def read(name):
+    return (TOP / name).read_text(encoding="utf-8")
+
+
+def total():
+    return sum(len(read(it).split()) for it in documents())
+
+
+def named():
+    """The hard sentences of the documents."""
+    yield from (f"{name}: hard to read: {it}" for name in documents() for it in hard(read(name)))
+
+
+def faults():
+    """What tests/docs refuses: more words than a maintainer reads in two hours."""
+    if (words := total()) > MOST:
+        yield f"the documents have {words} words, and {MOST} at most: scripts/prose.py counts them"
+
+
+def hard(text):
+    return [it for it in sentences(text) if len(it.split()) > LONGEST or ODD.search(it)]
+
+
+def comments(text, mark):
+    """The comments of a source, each as a paragraph."""
+    return re.sub(rf"^{mark}", "", re.sub(rf"^(?!{mark}).*$", "", text, flags=re.M), flags=re.M)
 
 
 def sentences(text):
     text = re.sub(r"^( *)```.*?^\1```$", "", text, flags=re.M | re.S)
-    lines = [it for it in text.splitlines() if not it.startswith(("|", "#"))]
+    # What is quoted is no prose.
+    kept = (it for it in text.splitlines() if not it.startswith(("|", "#")))
+    lines = [re.sub(r'"[^"]*"', '".."', re.sub(r"`[^`]*`", "`..`", it)) for it in kept]
     for paragraph in re.split(r"\n\s*\n|\n(?=[-\d])", "\n".join(lines)):
         yield from (it.strip() for it in re.split(r"(?<=[.:;!?])\s+", " ".join(paragraph.split())))
 

@@ -14,6 +14,23 @@ class Change:
     file: str
     old: str
     new: str
+    # Where it is given, the text is the first after this one, which is once in the file.
+    after: str = ""
+
+    def at(self, text):
+        start = text.find(self.after)
+        if text.count(self.after) != 1 and self.after:
+            raise BadEdit(f"`in: {self.after}` is in {self.file} {text.count(self.after)} times, and not once")
+        if not self.after and text.count(self.old) != 1:
+            raise BadEdit(f"its old text is in {self.file} {text.count(self.old)} times, and not once")
+        found = text.find(self.old, start)
+        if found < 0:
+            raise BadEdit(f"its old text is not in {self.file} after {self.after}")
+        return found
+
+    def made(self, text):
+        at = self.at(text)
+        return text[:at] + self.new + text[at + len(self.old) :]
 
 
 @dataclasses.dataclass(frozen=True)
@@ -49,13 +66,14 @@ def read_all(folder, crates):
 def read(crate, file, path):
     """The edits of a file. Each is a line `edit: NAME` or `named: NAME`, and then pairs of `old: TEXT` and `new: TEXT`.
 
-    A line `file: PATH` says that the pairs after it are of another file.
+    A line `file: PATH` says that the pairs after it are of another file. A line `in: TEXT`, which the file has once, says
+    that the old text of the next pair is the first after it.
     """
     if path.suffix != ".edits":
         raise BadEdit("its name does not end in .edits")
     found = []
     for block in path.read_text(encoding="utf-8").split("\n\n"):
-        changed, old, changes = file, None, []
+        changed, after, old, changes = file, "", None, []
         first, *lines = block.strip("\n").split("\n")
         kind, _, name = first.partition(": ")
         if kind not in ("edit", "named"):
@@ -65,13 +83,15 @@ def read(crate, file, path):
             text = text.removeprefix(" ")
             if word == "file":
                 changed = text
+            elif word == "in":
+                after = text
             elif word == "old":
                 old = text
             elif word == "new" and old is not None:
-                changes.append(Change(changed, old, text))
-                old = None
+                changes.append(Change(changed, old, text, after))
+                after, old = "", None
             else:
-                raise BadEdit(f"this line of {name} is none of file, old and new in their order: {line}")
+                raise BadEdit(f"this line of {name} is none of file, in, old and new in their order: {line}")
         if not changes or old is not None:
             raise BadEdit(f"{name} has no pair of old and new, or half of one")
         found.append(Edit(crate, name, tuple(changes), kind == "named", f"{crate}/{path_in(file)}"))
@@ -88,9 +108,7 @@ def apply(edit, texts):
     changed = {}
     for change in edit.changes:
         text = changed.get(change.file) or texts(change.file)
-        if text.count(change.old) != 1:
-            raise BadEdit(f"its old text stands in {change.file} {text.count(change.old)} times, and not once")
-        changed[change.file] = text.replace(change.old, change.new)
+        changed[change.file] = change.made(text)
     return changed
 
 
@@ -99,8 +117,8 @@ def places(edit, texts):
     found, changed = [], {}
     for change in edit.changes:
         text = changed.get(change.file) or texts(change.file)
-        found.append((change.file, text.find(change.old)))
-        changed[change.file] = text.replace(change.old, change.new)
+        found.append((change.file, change.at(text)))
+        changed[change.file] = change.made(text)
     return found
 
 

@@ -133,7 +133,7 @@ def plain_name(text):
 
 
 def words_of(text):
-    """The words by which a check tells the types of one name apart, as in `SliceVecOver+mut+slice+T`."""
+    """The words by which a check tells the types of one name apart, as in `GenericSliceVec+mut+slice+T`."""
     return re.findall(r"\w+", re.sub(r"'\w+", "", text).replace("[", "slice "))
 
 

@@ -27,7 +27,7 @@ labels_in body = parts_left 46 body
 abbrev pub labels_of : List ℕ → List (List ℕ)
 labels_of text = labels_in (body_of text)
 
--- the text is the labels with a dot between two, and perhaps a dot behind them. No label has a dot
+-- the text is the labels with a dot between two, and perhaps a dot after them. No label has a dot
 pub record Spells (text : List ℕ) (labels : List (List ℕ)) : Type 0 where
   pub joined : (text ≡ join_with_byte 46 labels) ⊎ (text ≡ join_with_byte 46 labels ++ 46 ∷ [])
   pub undotted : All (All (λ byte. byte ≢ 46)) labels

@@ -2,7 +2,7 @@
 use Rattle.std.specs.Prelude.{ℕ, ◌==◌, List, [], Option, None, Some}
 use Rattle.std.specs.List.{slice_split}
 
--- what stands between the separators, before the first one and behind the last one
+-- what is between the separators, before the first one and after the last one
 abbrev pub parts : ℕ → List ℕ → List (List ℕ)
 parts separator text = slice_split (λ byte. byte == separator) text
 

@@ -1,10 +1,12 @@
 //! The answer to a line.
-ghost use Rattle.std.specs.Prelude.{◌≡◌, ◌<◌, List, ℕ, OnOk};
+ghost use Rattle.std.specs.Prelude.{◌≡◌, ◌<◌, ◌≤◌, ◌++◌, ◌∷◌, [], List, ℕ, OnOk, OnErr, codes};
 ghost use Rattle.std.specs.Io.KnownBytes.{Appends};
+ghost use Rattle.tinyvec_io.specs.Counted.{Reported};
 ghost use Rattle.example_dns_query.specs.Answer.{IsAnswer, digit_of, hex_of};
 
 use crate::line::answer_line;
 use std::io::{self, Write};
+use tinyvec_io::Counted;
 
 // The hexadecimal digit of a number below 16.
 fn hex_digit(number: u8) -> u8
@@ -19,8 +21,10 @@ fn hex_digit(number: u8) -> u8
 }
 
 // Writes two digits for each byte.
-fn write_hex<W: Write>(writer: &mut W, bytes: &[u8]) -> io::Result<()>
-    ensures { OnOk result (Appends (W.contents writer.old) (W.contents writer.new) (hex_of bytes.now)) }
+fn write_hex<W: Write>(writer: &mut Counted<W>, bytes: &[u8]) -> io::Result<()>
+    ensures ok { OnOk result (Appends (W.contents writer.old.end) (W.contents writer.new.end) (hex_of bytes.now)) }
+    ensures grows { writer.old.faults ≤ writer.new.faults }
+    ensures fault { OnErr result (Reported writer.old.faults writer.new.faults) }
 {
     for byte in bytes {
         let digits = [hex_digit(*byte / 16), hex_digit(*byte % 16)];
@@ -29,10 +33,24 @@ fn write_hex<W: Write>(writer: &mut W, bytes: &[u8]) -> io::Result<()>
     Ok(())
 }
 
+// Writes what is wrong with a line, and a line feed.
+fn write_error<W: Write>(writer: &mut Counted<W>, text: &str) -> io::Result<()>
+    ensures ok { OnOk result (Appends (W.contents writer.old.end) (W.contents writer.new.end)
+        (codes "error: " ++ (text.now ++ 10 ∷ []))) }
+    ensures grows { writer.old.faults ≤ writer.new.faults }
+    ensures fault { OnErr result (Reported writer.old.faults writer.new.faults) }
+{
+    writer.write_all(b"error: ")?;
+    writer.write_all(text.as_bytes())?;
+    writer.write_all(b"\n")
+}
+
 /// Writes the answer to a line, and a line feed: the message in hexadecimal, or why there is none.
-pub fn write_answer<W: Write>(writer: &mut W, line: &[u8]) -> io::Result<()>
-    ensures { OnOk result ((text : List ℕ) × Appends (W.contents writer.old) (W.contents writer.new) text
+pub fn write_answer<W: Write>(writer: &mut Counted<W>, line: &[u8]) -> io::Result<()>
+    ensures ok { OnOk result ((text : List ℕ) × Appends (W.contents writer.old.end) (W.contents writer.new.end) text
         × IsAnswer line.now text) }
+    ensures grows { writer.old.faults ≤ writer.new.faults }
+    ensures fault { OnErr result (Reported writer.old.faults writer.new.faults) }
 {
     let mut slice = [0; 512];
     match answer_line(&mut slice, line) {
@@ -40,6 +58,6 @@ pub fn write_answer<W: Write>(writer: &mut W, line: &[u8]) -> io::Result<()>
             write_hex(writer, &slice[..len])?;
             writer.write_all(b"\n")
         }
-        Err(error) => writeln!(writer, "error: {error}"),
+        Err(error) => write_error(writer, error.text()),
     }
 }

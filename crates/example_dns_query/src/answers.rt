@@ -1,8 +1,9 @@
 //! A text that is answered line by line.
-ghost use Rattle.std.specs.Prelude.{◌≡◌, ◌≤◌, ◌-◌, ◌^◌, List, ℕ, length, Some, OnOk, Err, map};
+ghost use Rattle.std.specs.Prelude.{◌≡◌, ◌≤◌, ◌-◌, ◌^◌, List, ℕ, length, Some, OnOk, OnErr, Err, map};
 ghost use Rattle.std.specs.Io.Buffered.{reader_remaining};
 ghost use Rattle.std.specs.Io.KnownBytes.{Appends};
 ghost use Rattle.std.specs.Str.Lines.{strip_carriage_return};
+ghost use Rattle.tinyvec_io.specs.Counted.{Reported};
 ghost use Rattle.tinyvec_io.specs.Lines.{last_line};
 ghost use Rattle.example_dns_query.specs.Answer.{AnswersComplete, AnswersEach, IsAnswered};
 ghost use Rattle.std.specs.declared.io.Error.{Error as IoError};
@@ -11,6 +12,7 @@ use crate::answer::write_answer;
 use crate::failure::Failure;
 use std::alloc::Global;
 use std::io::{self, BufRead, BufReader, Read, Write};
+use tinyvec_io::Counted;
 
 // The line, without a carriage return at its end.
 fn strip_return(line: &[u8]) -> &[u8]
@@ -26,17 +28,20 @@ fn strip_return(line: &[u8]) -> &[u8]
 pub fn answer_lines<R: Read, W: Write>(
     alloc: Global,
     reader: &mut BufReader<R>,
-    writer: &mut W,
+    writer: &mut Counted<W>,
 ) -> Result<(), Failure>
     // All was read, and each line was answered.
-    ensures ok { OnOk result ((output : List ℕ) × Appends (W.contents writer.old) (W.contents writer.new) output
+    ensures ok { OnOk result ((output : List ℕ) × Appends (W.contents writer.old.end) (W.contents writer.new.end) output
         × ((input : List ℕ) → reader_remaining R.remaining reader.old ≡ Some input → IsAnswered input output)) }
 
     // Each line that came whole before the fault was answered.
     ensures input { (error : IoError) → result ≡ Err (Failure.Input error)
-        → (output : List ℕ) × Appends (W.contents writer.old) (W.contents writer.new) output
+        → (output : List ℕ) × Appends (W.contents writer.old.end) (W.contents writer.new.end) output
         × ((input : List ℕ) → reader_remaining R.remaining reader.old ≡ Some input
         → AnswersComplete input (reader_remaining R.remaining reader.new) output) }
+
+    // The writer reported a fault.
+    ensures output { (error : IoError) → result ≡ Err (Failure.Output error) → Reported writer.old.faults writer.new.faults }
 
     // So long an input is not read on.
     ensures too_long { result ≡ Err Failure.TooLong → (input : List ℕ)
@@ -70,9 +75,11 @@ pub fn answer_lines<R: Read, W: Write>(
 }
 
 // Answers the last line, if it has bytes.
-fn finish<W: Write>(line: &[u8], writer: &mut W) -> io::Result<()>
-    ensures { OnOk result ((output : List ℕ) × Appends (W.contents writer.old) (W.contents writer.new) output
+fn finish<W: Write>(line: &[u8], writer: &mut Counted<W>) -> io::Result<()>
+    ensures ok { OnOk result ((output : List ℕ) × Appends (W.contents writer.old.end) (W.contents writer.new.end) output
         × AnswersEach (map strip_carriage_return (last_line line.now)) output) }
+    ensures grows { writer.old.faults ≤ writer.new.faults }
+    ensures fault { OnErr result (Reported writer.old.faults writer.new.faults) }
 {
     if line.is_empty() {
         return writer.flush();

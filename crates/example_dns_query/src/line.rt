@@ -25,6 +25,24 @@ pub enum LineError {
     Query(QueryError),
 }
 
+impl LineError {
+    ghost use Rattle.example_dns_query.specs.Answer.{line_error_text};
+
+    /// What the error says.
+    pub fn text(&self) -> &'static str
+        ensures { result.now ≡ line_error_text self.now }
+    {
+        match self {
+            LineError::Words => "a line is a number, a name and a type, with one blank between two",
+            LineError::Number => "the first word is no number from 0 to 65535",
+            LineError::UnknownType => {
+                "the third word is none of A, NS, CNAME, SOA, PTR, MX, TXT and AAAA"
+            }
+            LineError::Query(error) => error.text(),
+        }
+    }
+}
+
 impl fmt::Display for LineError {
     ghost use Rattle.std.specs.Prelude.{Some};
     ghost use Rattle.example_dns_query.specs.Answer.{line_error_text};
@@ -32,16 +50,7 @@ impl fmt::Display for LineError {
     ghost output = { λ error. Some (line_error_text error) };
 
     fn fmt<W: fmt::Write>(&self, f: &mut fmt::Formatter<W>) -> fmt::Result {
-        match self {
-            LineError::Words => {
-                f.write_str("a line is a number, a name and a type, with one blank between two")
-            }
-            LineError::Number => f.write_str("the first word is no number from 0 to 65535"),
-            LineError::UnknownType => f.write_str(
-                "the third word is none of A, NS, CNAME, SOA, PTR, MX, TXT and AAAA",
-            ),
-            LineError::Query(error) => error.fmt(f),
-        }
+        f.write_str(self.text())
     }
 }
 

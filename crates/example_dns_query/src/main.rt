@@ -13,6 +13,7 @@ use answers::answer_lines;
 use failure::Failure;
 use std::io::{BufReader, BufWriter};
 use std::process::ExitCode;
+use tinyvec_io::Counted;
 
 fn main(rt: HostRuntime) -> ExitCode {
     let Err(failure) = answer_input(&rt) else {
@@ -28,6 +29,6 @@ fn main(rt: HostRuntime) -> ExitCode {
 // Answers standard input on standard output.
 fn answer_input(rt: &HostRuntime) -> Result<(), Failure> {
     let mut reader = BufReader::new(rt.alloc(), rt.stdin()).map_err(Failure::Input)?;
-    let mut writer = BufWriter::new(rt.alloc(), rt.stdout()).map_err(Failure::Output)?;
-    answer_lines(rt.alloc(), &mut reader, &mut writer)
+    let writer = BufWriter::new(rt.alloc(), rt.stdout()).map_err(Failure::Output)?;
+    answer_lines(rt.alloc(), &mut reader, &mut Counted::new(writer))
 }

@@ -2,7 +2,7 @@
 ghost use Rattle.std.specs.Prelude.{◌≡◌, ◌≢◌, ◌+◌, ◌<◌, ◌≤◌, ◌↔◌, ◌++◌, ◌∷◌, [], ℕ, List, map, length, drop, ◌==◌, All, Any, IsTrue, OnOk, IfOk, IsOk, OnErr, Some, None, Err, slice_get};
 ghost use Rattle.std.specs.List.{flat_map, slice_split};
 ghost use Rattle.std.specs.Option.{option_copied};
-ghost use Rattle.tinyvec_slice.specs.View.{items, spare, name};
+ghost use Rattle.tinyvec_slice.specs.SliceVec.{items, spare, name};
 ghost use Rattle.tinyvec_slice.specs.Appends.{Appends};
 ghost use Rattle.example_dns_query.specs.Message.{two_bytes, header, type_and_class, query};
 ghost use Rattle.example_dns_query.specs.Name.{IsPrinted, IsLabel, IsName, SpellsOnly, body_of as body_in, labels_in, labels_of, first_fault, label_wire, name_wire};
@@ -37,6 +37,23 @@ pub enum QueryError {
     Full,
 }
 
+impl QueryError {
+    ghost use Rattle.example_dns_query.specs.Answer.{query_error_text};
+
+    /// What the error says.
+    pub fn text(&self) -> &'static str
+        ensures { result.now ≡ query_error_text self.now }
+    {
+        match self {
+            QueryError::BadByte => "the name has a byte that is no printed ASCII character",
+            QueryError::EmptyLabel => "the name has a label with no byte",
+            QueryError::LongLabel => "the name has a label with more than 63 bytes",
+            QueryError::LongName => "the name has more than 255 bytes on the wire",
+            QueryError::Full => "the message does not fit the slice",
+        }
+    }
+}
+
 impl fmt::Display for QueryError {
     ghost use Rattle.std.specs.Prelude.{Some};
     ghost use Rattle.example_dns_query.specs.Answer.{query_error_text};
@@ -44,15 +61,7 @@ impl fmt::Display for QueryError {
     ghost output = { λ error. Some (query_error_text error) };
 
     fn fmt<W: fmt::Write>(&self, f: &mut fmt::Formatter<W>) -> fmt::Result {
-        match self {
-            QueryError::BadByte => {
-                f.write_str("the name has a byte that is no printed ASCII character")
-            }
-            QueryError::EmptyLabel => f.write_str("the name has a label with no byte"),
-            QueryError::LongLabel => f.write_str("the name has a label with more than 63 bytes"),
-            QueryError::LongName => f.write_str("the name has more than 255 bytes on the wire"),
-            QueryError::Full => f.write_str("the message does not fit the slice"),
-        }
+        f.write_str(self.text())
     }
 }
 

@@ -7,10 +7,10 @@ use Rattle.example_fields.specs.declared.Field.{Field}
 abbrev pub bytes_of : List ℕ → Field → List ℕ
 bytes_of line field = slice_range line field.start field.end
 
--- the field lies in this line
+-- the field is in this line
 abbrev pub IsIn : List ℕ → Field → Type 0
 IsIn line field = (field.start ≤ field.end) × (field.end ≤ length line)
 
--- what stands between the separators of a line, before the first one and behind the last one
+-- what is between the separators of a line, before the first one and after the last one
 abbrev pub parts : ℕ → List ℕ → List (List ℕ)
 parts separator line = slice_split (λ byte. byte == separator) line

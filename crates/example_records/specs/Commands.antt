@@ -18,7 +18,7 @@ use Rattle.example_records.specs.declared.stream_error.StreamError.TheVariants.{
 abbrev pub word_of : List ℕ → List ℕ
 word_of text = before_first (λ byte. eqb byte 32) text
 
--- the text behind the first blank, or none
+-- the text after the first blank, or none
 abbrev pub rest_of : List ℕ → List ℕ
 rest_of text = after_first (λ byte. eqb byte 32) text
 
@@ -26,7 +26,7 @@ rest_of text = after_first (λ byte. eqb byte 32) text
 abbrev pub part_of : List ℕ → List ℕ
 part_of text = before_first (λ byte. eqb byte 44) text
 
--- the text behind the first comma, where there is one
+-- the text after the first comma, where there is one
 abbrev pub behind_comma : List ℕ → Option (List ℕ)
 behind_comma text =
     if nat_lt (position_or_len (λ byte. eqb byte 44) text) (length text) then Some (after_first (λ byte. eqb byte 44) text) else None
@@ -55,7 +55,7 @@ pub record IsRecord (text : List ℕ) (c : Said) : Type 0 where
 
 -- ---- the commands
 
--- to append a record, to append bytes, to keep so many of the first bytes, to read the stream, to read a copy of it
+-- to append a record, to append bytes, to keep this many of the first bytes, to read the stream, to read a copy of it
 pub data Command : Type 0 where
   Add : Said → Command
   Hex : List ℕ → Command
@@ -71,7 +71,7 @@ command_word (Cut len) = codes "cut"
 command_word Read = codes "read"
 command_word Copy = codes "copy"
 
--- What stands behind the word: a record that a reading can have, pairs of digits in hex, a length, or nothing.
+-- What is after the word: a record that a reading can have, pairs of digits in hex, a length, or nothing.
 abbrev pub IsAbout : Command → List ℕ → Type 0
 IsAbout (Add c) rest = IsRecord rest c × ReadingFits c
 IsAbout (Hex bytes) rest = bytes_of rest ≡ Some bytes
@@ -79,7 +79,7 @@ IsAbout (Cut len) rest = IsDecimal rest len
 IsAbout Read rest = rest ≡ []
 IsAbout Copy rest = rest ≡ []
 
--- the first word and what stands behind it are this command
+-- the first word and what is after it are this command
 abbrev pub Says : (word rest : List ℕ) → Command → Type 0
 Says word rest command = (word ≡ command_word command) × IsAbout command rest
 
@@ -95,7 +95,7 @@ IsCommand word = (command : Command) × (word ≡ command_word command)
 abbrev pub HasStation : List ℕ → Type 0
 HasStation rest = (number : ℕ) × IsDecimal (word_of rest) number × (number < 2 ^ 32)
 
--- The reason of a refusal, by the first word and what stands behind it.
+-- The reason of a refusal, by the first word and what is after it.
 abbrev pub Tells : (word rest : List ℕ) → CommandError → Type 0
 Tells word rest Text = ⊥
 Tells word rest Unknown = IsCommand word → ⊥
@@ -116,8 +116,8 @@ Answer = Result (Option Recovered) CommandError
 abbrev pub IsOutOfMemory : (old new : List ℕ) → Answer → Type 0
 IsOutOfMemory old new answer = (answer ≡ Err Memory) × (new ≡ old)
 
--- The records that stand at the front of the stream were read, in order, and behind them stands what the end says.
--- Where such records stand there, just these were read, and their end was told, as `Gives` has it of a reader with so many faults.
+-- The records that are at the front of the stream were read, in order, and after them is what the end says.
+-- Where such records are there, just these were read, and their end was told, as `Gives` has it of a reader with these faults.
 pub record IsRead (stream : List ℕ) (read : List Said) (end : Result (Unit {0}) StreamError) : Type 0 where
   pub stands : BeginsWith read (StandsBehind end) stream
   pub fit : AllByRecursion ReadingFits read

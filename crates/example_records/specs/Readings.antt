@@ -1,8 +1,8 @@
--- A reading: the number of a station, up to eight samples, and a note, one behind the other in the Borsh form.
+-- A reading: the number of a station, up to eight samples, and a note, one after the other in the Borsh form.
 use Rattle.std.specs.Prelude.{ℕ, ◌-◌, ◌^◌, ◌<◌, ◌⊎◌, List, length}
 use Rattle.std.proofs.Common.{lit<}
 use Rattle.tinyvec_slots.specs.Slots.{items}
-use Rattle.tinyvec.specs.Tiny.{tiny_items}
+use Rattle.tinyvec.specs.TinyVec.{tiny_items}
 use Rattle.tinyvec_borsh.specs.Code.{IsCode}
 use Rattle.tinyvec_borsh.specs.Apart.{AreApart}
 use Rattle.tinyvec_borsh.specs.Number.{SpellsNumber}

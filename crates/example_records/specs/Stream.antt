@@ -1,4 +1,4 @@
--- A stream: records one behind the other, each behind a tag.
+-- A stream: records one after the other, each after a tag.
 use Rattle.std.specs.Prelude.{◌≡◌, ◌≢◌, ℕ, ◌^◌, ◌<◌, List, [], ◌∷◌, ◌++◌, Option, None, Some, Ok, Err, Result}
 use Rattle.tinyvec_io.specs.Counted.{Reported}
 use Rattle.tinyvec_borsh.specs.Both.{IsBehind}
@@ -19,7 +19,7 @@ tag = 82
 abbrev pub SpellsFrame : Said → List ℕ → Type 0
 SpellsFrame = SpellsTagged tag SpellsReading
 
--- the records in order, one behind the other, and nothing else
+-- the records in order, one after the other, and nothing else
 abbrev pub SpellsStream : List Said → List ℕ → Type 0
 SpellsStream = SpellsItems SpellsFrame
 
@@ -27,7 +27,7 @@ SpellsStream = SpellsItems SpellsFrame
 abbrev pub HasTooManySamples : List ℕ → Type 0
 HasTooManySamples = IsBehind (SpellsNumber 4) StationFits (HasTooMany (SpellsNumber 2) (λ n. n < 2 ^ 16) 8)
 
--- What stands behind the last record, where it is the input that ended the reading: no byte; a record that is cut behind its
+-- What is after the last record, where it is the input that ended the reading: no byte; a record that is cut after its
 -- tag; another byte in the place of the tag; a record with more samples than there is room for.
 abbrev pub IsEnd : Result (Unit {0}) StreamError → List ℕ → Type 0
 IsEnd (Ok done) tail = tail ≡ []
@@ -37,7 +37,7 @@ IsEnd (Err TooManySamples) tail = IsTagged tag HasTooManySamples tail
 IsEnd (Err Io) tail = ⊥
 IsEnd (Err Memory) tail = ⊥
 
--- What stands behind the last record that was read. Of a fault of the reader nothing is known, and where memory was refused
+-- What is after the last record that was read. Of a fault of the reader nothing is known, and where memory was refused
 -- there is a further tag.
 abbrev pub StandsBehind : Result (Unit {0}) StreamError → List ℕ → Type 0
 StandsBehind (Ok done) tail = IsEnd (Ok done) tail
@@ -47,11 +47,11 @@ StandsBehind (Err TooManySamples) tail = IsEnd (Err TooManySamples) tail
 StandsBehind (Err Io) tail = Unit {0}
 StandsBehind (Err Memory) tail = IsTagged tag (λ rest. Unit {0}) tail
 
--- The input begins with these records, and is so behind them.
+-- The input begins with these records, and is so after them.
 abbrev pub BeginsWith : List Said → (List ℕ → Type 0) → List ℕ → Type 0
 BeginsWith = BeginsWithItems SpellsFrame
 
--- A record was taken from the front of the input, or none, and then the input stands as the answer says.
+-- A record was taken from the front of the input, or none, and then the input is as the answer says.
 abbrev pub NextIs : (old new : Option (List ℕ)) → Result (Option Reading) StreamError → Type 0
 NextIs old new (Ok (Some reading)) = Takes (SpellsFrame (said reading)) old new × ReadingFits (said reading)
 NextIs old new (Ok None) = MayBe old (StandsBehind (Ok tt))
@@ -71,7 +71,7 @@ Gives cs end before after read (Err TooManySamples) = (read ≡ cs) × (end ≡ 
 Gives cs end before after read (Err Io) = AreFirst read cs × Reported before after
 Gives cs end before after read (Err Memory) = AreFirst read cs
 
--- The records before the cut were read. The end is told as a clean one only where no byte stands behind them, and `Cut` only
+-- The records before the cut were read. The end is told as a clean one only where no byte is after them, and `Cut` only
 -- where a record was cut.
 abbrev pub GivesCut : List Said → (front : List ℕ) → (before after : ℕ) → List Said → Result (Unit {0}) StreamError → Type 0
 GivesCut cs front before after read (Ok done) = AreFirst read cs × SpellsStream read front

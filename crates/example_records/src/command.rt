@@ -39,7 +39,7 @@ pub enum CommandError {
     /// The length is no number, or is above that of the stream.
     #[error("no length within the stream")]
     Length,
-    /// Words stand behind a command that has none.
+    /// A command without words is followed by some.
     #[error("no words stand behind read and copy")]
     Words,
     /// Memory was refused.
@@ -113,7 +113,7 @@ fn add(alloc: Global, text: &str, stream: &mut Vec<u8>) -> Result<Option<Recover
     Ok(None)
 }
 
-// The text before the first blank, and the text behind it.
+// The text before the first blank, and the text after it.
 fn first_word(text: &str) -> (&str, &str)
     ensures word { result.0.now ≡ word_of text.now }
     ensures rest { result.1.now ≡ rest_of text.now }
@@ -121,7 +121,7 @@ fn first_word(text: &str) -> (&str, &str)
     text.split_once(' ').unwrap_or((text, ""))
 }
 
-// The text before the first comma, and the text behind it, if there is one.
+// The text before the first comma, and the text after it, if there is one.
 fn first_part(text: &str) -> (&str, Option<&str>)
     ensures part { result.0.now ≡ part_of text.now }
     ensures behind { option_copied result.1 ≡ behind_comma text.now }
@@ -203,7 +203,7 @@ fn cut(text: &str, stream: &mut Vec<u8>) -> Result<Option<Recovered>, CommandErr
     }
 }
 
-// Reads the stream, where no words stand behind the command.
+// Reads the stream, where no words follow the command.
 fn read(alloc: Global, rest: &str, stream: &[u8]) -> Result<Option<Recovered>, CommandError>
     ensures answers { Answers (Says (codes "read") rest.now) stream.now stream.now result }
     ensures tells { IfErr result (Tells (codes "read") rest.now) }
@@ -222,7 +222,7 @@ fn is_told(end: Result<(), StreamError>) -> bool
     !matches!(end, Err(StreamError::Io | StreamError::Memory))
 }
 
-// Reads a new stream to which the records of this one were appended, where no words stand behind the command.
+// Reads a new stream to which the records of this one were appended, where no words follow the command.
 fn copy(alloc: Global, rest: &str, stream: &[u8]) -> Result<Option<Recovered>, CommandError>
     ensures answers { Answers (Says (codes "copy") rest.now) stream.now stream.now result }
     ensures tells { IfErr result (Tells (codes "copy") rest.now) }

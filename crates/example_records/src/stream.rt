@@ -1,4 +1,4 @@
-//! A stream of records: a tag before each, and no byte behind the last.
+//! A stream of records: a tag before each, and no byte after the last.
 ghost use Rattle.std.specs.Prelude.{◌≡◌, ◌≤◌, ◌++◌, ℕ, List, Result, Some, IfErr, IfOk, OnErr, OnOk, IsErrOf, map};
 ghost use Rattle.std.specs.List.{AllByRecursion};
 ghost use Rattle.tinyvec_io.specs.Counted.{Reported};
@@ -64,19 +64,19 @@ pub fn append_to(alloc: Global, reading: &Reading, stream: &mut Vec<u8>) -> Resu
 pub struct Recovered {
     /// The records, in order.
     pub records: Vec<Reading>,
-    /// `Ok` where no byte stands behind them, else what stands there, or why no more was read.
+    /// `Ok` where no byte follows them, else what follows, or why no more was read.
     pub end: Result<(), StreamError>,
 }
 
 /// Reads the records of a stream up to its end, or up to what is no record.
 pub fn read_all<R: Read>(alloc: Global, reader: &mut Counted<R>) -> Recovered
-    // What was read stands at the front of the input, in order, and behind it stands what the end says.
+    // What was read is at the front of the input, in order, followed by what the end says.
     ensures stands { MayBe (R.remaining reader.old.end)
         (BeginsWith (map said result.records.items) (StandsBehind result.end)) }
     ensures fit { AllByRecursion ReadingFits (map said result.records.items) }
     ensures fault { IsErrOf result.end StreamError.Io → Reported reader.old.faults reader.new.faults }
 
-    // Records that stand at the front of the input are read, each of them, and how they end is told.
+    // The records at the front of the input are all read, and the end is described.
     ensures all { (cs : List Said) (bytes tail : List ℕ) (end : Result (Unit {0}) StreamError)
         → AllByRecursion ReadingFits cs → SpellsStream cs bytes → IsEnd end tail
         → R.remaining reader.old.end ≡ Some (bytes ++ tail)
@@ -105,7 +105,7 @@ pub fn copied(alloc: Global, readings: &[Reading]) -> Result<Recovered, BorshErr
     Ok(read_all(alloc, &mut reader))
 }
 
-// Reads records behind those that are there.
+// Reads records after those that are there.
 fn read_records<R: Read>(
     alloc: Global,
     records: &mut Vec<Reading>,

@@ -11,7 +11,7 @@ pub enum StreamError {
     /// The stream ends within a record.
     #[error("the stream is cut within a record")]
     Cut,
-    /// A byte other than the tag stands where a record has to begin.
+    /// A byte other than the tag is where a record begins.
     #[error("no record begins here")]
     WrongTag,
     /// A record has more samples than there is room for.

@@ -2,7 +2,7 @@
 use Rattle.std.proofs.Common.{◌≡◌, ℕ, List, ◌∷◌, ◌++◌, drop, true, ℤ, codes, IsUtf8, refl, sym, ap, subst, ◌∙◌, arith, rules}
 use Rattle.std.specs.List.{AllByRecursion}
 use Rattle.std.proofs.lemmas.Str.{IsUtf8-from_ascii}
-use Rattle.tinyvec_text.specs.Text.{Text}
+use Rattle.tinyvec_text.specs.InlineText.{Text}
 use Rattle.tinyvec_io.specs.Lines.{ended}
 use Rattle.tinyvec_script.specs.Command.{name_text}
 use Rattle.tinyvec_script.specs.Script.{State, start, Answered, Script}

@@ -7,7 +7,7 @@ use Rattle.std.proofs.lemmas.Fmt.{signed_decimal_injective}
 use Rattle.tinyvec_slots.specs.Slots.{Slots, items, spare, items_len, SlotRule}
 use Rattle.tinyvec_slots.proofs.SlotsLemmas.{defaults_are}
 use Rattle.tinyvec_script.specs.Command.{IsCommand, spelling, name_text}
-use Rattle.tinyvec_script.specs.Parsed.{AsksMemory}
+use Rattle.tinyvec_script.specs.Spelled.{AsksMemory}
 use Rattle.tinyvec_script.specs.Script.{State, Steps, Answered, IsZero, text_of}
 use Rattle.tinyvec_script.specs.Step.{ArrayStep}
 use Rattle.tinyvec_script.specs.Text.{answer_text, state_text, vector_text}

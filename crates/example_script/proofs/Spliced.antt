@@ -9,7 +9,7 @@ use denote.RawPtr.{Ptr}
 use Rattle.tinyvec_slots.specs.Slots.{Slots, items, spare, items_len, split_at}
 use Rattle.tinyvec_io.specs.Lines.{ended}
 use Rattle.tinyvec_script.specs.Command.{IsCommand, splice_text, word_text, numbers_text}
-use Rattle.tinyvec_script.specs.Parsed.{AsksMemory}
+use Rattle.tinyvec_script.specs.Spelled.{AsksMemory}
 use Rattle.tinyvec_script.specs.Script.{State, start, Answered, Script, IsZero, Steps, text_of}
 use Rattle.tinyvec_script.specs.Step.{ArrayStep}
 use Rattle.tinyvec_script.specs.Text.{answer_text, list_text, state_text, vector_text}

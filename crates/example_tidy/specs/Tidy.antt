@@ -6,11 +6,11 @@ use Rattle.std.specs.Str.{bytes_eq}
 use Rattle.std.specs.Str.Lines.{lines}
 use Rattle.tinyvec_io.specs.Lines.{IsLine, ended, Splits}
 
--- some byte stands in it
+-- some byte is in it
 abbrev pub has_bytes : List ℕ → Bool
 has_bytes bytes = not (length bytes == 0)
 
--- what stands between the blanks of a line: spaces, tabs and the other white space of ASCII
+-- what is between the blanks of a line: spaces, tabs and the other white space of ASCII
 abbrev pub words : List ℕ → List (List ℕ)
 words line = filter has_bytes (slice_split is_ascii_whitespace line)
 
@@ -65,12 +65,12 @@ pub record TidiedUpTo (input output line : List ℕ) : Type 0 where
 abbrev pub Advances : List ℕ → List ℕ → List ℕ → List ℕ → Type 0
 Advances old bytes said new = (input output : List ℕ) → TidiedUpTo input output old → TidiedUpTo (input ++ bytes) (output ++ said) new
 
--- no more than so many bytes are said for these
+-- no more than this many bytes are said for these
 abbrev pub SaysAtMost : List ℕ → List ℕ → ℕ → Type 0
 SaysAtMost line bytes room = (said new : List ℕ) → Advances line bytes said new → length said ≤ room
 
 -- Memory is refused at a byte: what was said before it, and the line that it belongs to, of which `line` has come. With room
--- for so many bytes of the line and of what is said, that line is not short, or has no place in what is said.
+-- for this many bytes of the line and of what is said, that line is not short, or has no place in what is said.
 pub record Refuses (old bytes said line : List ℕ) (line_room room : ℕ) : Type 0 where
   pub front : List ℕ
   pub byte : ℕ

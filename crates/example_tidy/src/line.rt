@@ -3,17 +3,17 @@ ghost use Rattle.std.specs.Prelude.{◌≡◌, ◌+◌, ◌<◌, ◌≤◌, ◌+
 ghost use Rattle.std.specs.Char.{to_ascii_lowercase};
 ghost use Rattle.std.specs.List.{dedup, join_with_byte};
 ghost use Rattle.std.specs.Str.{bytes_eq};
-ghost use Rattle.tinyvec.specs.Tiny.{tiny_items, tiny_len, tiny_capacity};
+ghost use Rattle.tinyvec.specs.TinyVec.{tiny_items, tiny_len, tiny_capacity};
 ghost use Rattle.example_tidy.specs.Tidy.{IsShort, normal_line, words};
 
 use crate::words::next_word;
 use std::alloc::{AllocError, Global};
 use tinyvec::TinyVec;
 
-/// The bytes of a line. Up to 80 of them lie in the value, and a longer line lies on the heap.
+/// The bytes of a line. Up to 80 of them are in the value, and a longer line is on the heap.
 pub type LineText = TinyVec<[u8; 80]>;
 
-/// Lines that are to be written. Up to 4096 bytes of them lie in the value.
+/// Lines that are to be written. Up to 4096 bytes of them are in the value.
 pub type Output = TinyVec<[u8; 4096]>;
 
 /// Appends the normal form of a line and a line feed. Where memory was refused, nothing was appended.

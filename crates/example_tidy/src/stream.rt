@@ -2,7 +2,7 @@
 ghost use Rattle.std.specs.Prelude.{◌≡◌, ◌≤◌, ◌↔◌, ◌^◌, ◌-◌, ◌++◌, IsTrue, List, ℕ, Some, OnOk, IsErrOf, length};
 ghost use Rattle.std.specs.IoError.{error_kind};
 ghost use Rattle.std.specs.Io.KnownBytes.{Appends, Consumes, IsAtEnd, Keeps};
-ghost use Rattle.tinyvec.specs.Tiny.{tiny_items, tiny_capacity};
+ghost use Rattle.tinyvec.specs.TinyVec.{tiny_items, tiny_capacity};
 ghost use Rattle.tinyvec_io.specs.Counted.{Reported};
 ghost use Rattle.tinyvec_io.specs.Lines.{IsLine};
 ghost use Rattle.std.specs.declared.io.Error.{Error as IoError};

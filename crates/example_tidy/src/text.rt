@@ -1,7 +1,7 @@
 //! The normal form of a whole text.
 ghost use Rattle.std.specs.Prelude.{◌≡◌, ◌≢◌, ◌+◌, ◌-◌, ◌<◌, ◌≤◌, ◌++◌, ◌∷◌, [], List, ℕ, map, length, IsOk, IfOk, OnOk, OnErr};
 ghost use Rattle.std.specs.Str.Lines.{lines};
-ghost use Rattle.tinyvec.specs.Tiny.{tiny_items, tiny_len, tiny_capacity};
+ghost use Rattle.tinyvec.specs.TinyVec.{tiny_items, tiny_len, tiny_capacity};
 ghost use Rattle.tinyvec_io.specs.Lines.{ended};
 ghost use Rattle.example_tidy.specs.Tidy.{Advances, AllShort, Ends, IsShort, Refuses, Tidied, normal_line};
 

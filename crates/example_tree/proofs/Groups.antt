@@ -2,7 +2,7 @@
 use Rattle.std.proofs.Common.{◌≡◌, ◌∙◌, ◌≢◌, ℕ, ◌<◌, List, [], ◌∷◌, ◌++◌, length, map, reverse, All, Some, refl, sym, ap, arith}
 use Rattle.std.proofs.lemmas.List.Elements.{All-head, All-tail, All-weaker, All-push, All-nil, All-cons, All-same}
 use Rattle.std.proofs.lemmas.List.{map-append, reverse-append, length-reverse, length-map}
-use Rattle.tinyvec.specs.Tiny.{tiny_items}
+use Rattle.tinyvec.specs.TinyVec.{tiny_items}
 use Rattle.example_tree.specs.Tree.{Tree, product, Trees, more}
 use Rattle.example_tree.specs.Nodes.{form, form_by, trees_of, tree_of, tree_at}
 use Rattle.example_tree.specs.Outcome.{Group, and, joined, with_factor, with_leaf, with_term}

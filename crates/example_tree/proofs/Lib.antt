@@ -5,7 +5,6 @@ pub mod Kept
 pub mod Places
 pub mod Readings
 pub mod Sizes
-pub mod Spliced
 pub mod Turn
 pub mod Growing
 pub mod Groups

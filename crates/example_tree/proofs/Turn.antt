@@ -3,7 +3,7 @@ use Rattle.std.proofs.Common.{◌≡◌, ◌∙◌, ℤ, ℕ, suc, ◌+◌, ◌<
 use Rattle.std.proofs.lemmas.Bool.Decides.{eqb_tells}
 use Rattle.std.proofs.lemmas.List.Elements.{All-append, All-cons, All-nil, All-same, All-weaker}
 use Rattle.std.proofs.lemmas.List.{map-set, length-map, take_more}
-use Rattle.tinyvec.specs.Tiny.{tiny_items}
+use Rattle.tinyvec.specs.TinyVec.{tiny_items}
 use Rattle.tinyvec.specs.declared.tiny_vec.TinyVec.{TinyVec}
 use Rattle.example_tree.specs.Tree.{leaf, leaf_value, leaves, value, flat}
 use Rattle.example_tree.specs.Nodes.{Form, leaf_form, sum_form, product_form, form_at, form, forms, children, terms_at, factors, factors_at, IsOrdered, IsDoneAt, Flattens, tree_to}

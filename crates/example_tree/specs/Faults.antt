@@ -21,7 +21,7 @@ IsSaid said Memory = ⊤
 abbrev pub IsRight : List ℕ → Type 0
 IsRight text = (t : Tree) × (outcome text ≡ right t)
 
--- What stands before this place begins a text that is right. With the byte at this place it begins none; where the text ends
+-- What is before this place begins a text that is right. With the byte at this place it begins none; where the text ends
 -- there, it is none.
 pub record FirstWrong (text : List ℕ) (at : ℕ) : Type 0 where
   pub inside : at ≤ length text

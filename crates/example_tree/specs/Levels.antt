@@ -1,7 +1,7 @@
 -- What a contract sees of a line that was read in part.
 use Rattle.std.specs.Prelude.{◌≡◌, ℕ, ◌<◌, ◌≤◌, List, length, map, reverse, All, Bool, if◌then◌else◌, Option, None, Result, MatchResult}
 use Rattle.std.specs.Char.{is_ascii_digit}
-use Rattle.tinyvec.specs.Tiny.{tiny_items}
+use Rattle.tinyvec.specs.TinyVec.{tiny_items}
 use Rattle.example_tree.specs.Tree.{Tree, sum, product, Trees}
 use Rattle.example_tree.specs.Nodes.{forms, trees_of, tree_at, IsOrdered}
 use Rattle.example_tree.specs.Text.{Open, with_digit, with_letter, open_of}
@@ -15,7 +15,7 @@ use Rattle.example_tree.specs.declared.parse.Parser.{Parser}
 use Rattle.example_tree.specs.declared.parse_error.Fault.{Fault}
 use Rattle.example_tree.specs.declared.parse_error.ParseError.{ParseError}
 
--- nodes stand behind their children, and those that were there before have their trees
+-- nodes are after their children, and those that were there before have their trees
 pub record Keeps (old new : List Node) : Type 0 where
   pub ordered : IsOrdered (forms new)
   pub longer : length old ≤ length new

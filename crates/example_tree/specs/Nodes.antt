@@ -1,7 +1,7 @@
 -- How nodes in a list stand for trees.
 use Rattle.std.specs.Prelude.{◌≡◌, ℕ, zero, suc, ◌<◌, ℤ, List, [], ◌∷◌, All, length, map, get_or, Bool, true, false, ⊤}
 use Rattle.std.specs.List.{flat_map}
-use Rattle.tinyvec.specs.Tiny.{tiny_items}
+use Rattle.tinyvec.specs.TinyVec.{tiny_items}
 use Rattle.example_tree.specs.Tree.{Leaf, number, name, Tree, leaf, sum, product, Trees, none, more, leaves, value, flat}
 use Rattle.example_tree.specs.declared.node.Node.{Node}
 use Rattle.example_tree.specs.declared.node.Node.TheVariants.{Leaf as Single, Joined}
@@ -41,7 +41,7 @@ children (leaf_form l) = []
 children (sum_form ids) = ids
 children (product_form ids) = ids
 
--- each node stands behind its children
+-- each node is after its children
 abbrev pub IsOrdered : List Form → Type 0
 IsOrdered fs = (id : ℕ) → All (λ child. child < id) (children (form_at fs id))
 
@@ -56,7 +56,7 @@ tree_of tree (leaf_form l) = leaf l
 tree_of tree (sum_form ids) = sum (trees_of tree ids)
 tree_of tree (product_form ids) = product (trees_of tree ids)
 
--- the tree of a node, down to so many levels
+-- the tree of a node, down to this many levels
 abbrev pub tree_to : List Form → ℕ → ℕ → Tree
 tree_to fs zero id = leaf (number 0)
 tree_to fs (suc levels) id = tree_of (tree_to fs levels) (form_at fs id)
@@ -71,7 +71,7 @@ terms_by terms (leaf_form l) id = id ∷ []
 terms_by terms (sum_form ids) id = flat_map terms ids
 terms_by terms (product_form ids) id = id ∷ []
 
--- the same, down to so many levels
+-- the same, down to this many levels
 abbrev pub terms_to : List Form → ℕ → ℕ → List ℕ
 terms_to fs zero id = id ∷ []
 terms_to fs (suc levels) id = terms_by (terms_to fs levels) (form_at fs id) id

@@ -11,12 +11,12 @@ pub data Outcome : Type 0 where
   right : Tree → Outcome
   wrong : ℕ → Fault → Outcome
 
--- what stands in a pair of brackets: the terms that ended, and the factors behind them
+-- what is in a pair of brackets: the terms that ended, and the factors after them
 pub record Group : Type 0 where
   pub terms : Trees
   pub factors : Trees
 
--- what was read: of each bracket that is open what stands before it, the innermost first; what stands behind the last of
+-- what was read: of each bracket that is open what is before it, the innermost first; what is after the last of
 -- them; whether an operand ends or may end here; and the number or the name that may go on
 pub record State : Type 0 where
   pub outer : List Group
@@ -30,7 +30,7 @@ empty = record { terms = none; factors = none }
 abbrev pub start : State
 start = record { outer = []; inner = empty; operand = false; last = nothing }
 
--- one tree more, behind the others
+-- one tree more, after the others
 abbrev pub and : Trees → Tree → Trees
 and none t = more t none
 and (more u us) t = more u (and us t)
@@ -100,11 +100,11 @@ next s byte =
 abbrev pub demanded : Bool → Fault → Option Fault
 demanded holds f = if holds then None else Some f
 
--- an operand begins, behind another or not
+-- an operand begins, after another or not
 abbrev pub before_fault : Bool → Option Fault
 before_fault operand = demanded (not operand) Operator
 
--- an operand has to stand before
+-- an operand has to be before
 abbrev pub behind_fault : Bool → Option Fault
 behind_fault operand = demanded operand Operand
 

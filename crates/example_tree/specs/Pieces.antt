@@ -26,7 +26,7 @@ abbrev pub pieces_text : (ℕ → Tree) → List Piece → List ℕ
 pieces_text tree [] = []
 pieces_text tree (p ∷ ps) = pieces_text tree ps ++ piece_text tree p
 
--- A tree counts for more than its children do. Two brackets and a sign may stand by each of these.
+-- A tree counts for more than its children do. Two brackets and a sign may be by each of these.
 abbrev mutual
   pub size : Tree → ℕ
   size (leaf l) = 1

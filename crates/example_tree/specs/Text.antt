@@ -1,6 +1,6 @@
 -- A number or a name of a text, as far as it was read.
 use Rattle.std.specs.Prelude.{ℕ, ◌+◌, ◌-◌, ◌*◌, ◌==◌, if◌then◌else◌, List, [], ◌∷◌, ◌++◌, Option, None, Some}
-use Rattle.tinyvec.specs.Tiny.{tiny_items}
+use Rattle.tinyvec.specs.TinyVec.{tiny_items}
 use Rattle.example_tree.specs.declared.node.Leaf.{Leaf}
 use Rattle.example_tree.specs.declared.node.Leaf.TheVariants.{Number, Name}
 
@@ -16,7 +16,7 @@ with_digit nothing byte = digits (byte - 48)
 with_digit (digits n) byte = digits (n * 10 + (byte - 48))
 with_digit (letters bytes) byte = letters (bytes ++ byte ∷ [])
 
--- one letter more, which goes on with a name or begins one. No tree has a number with a letter behind it.
+-- one letter more, which goes on with a name or begins one. No tree has a number with a letter after it.
 abbrev pub with_letter : Open → ℕ → Open
 with_letter nothing byte = letters (byte ∷ [])
 with_letter (digits n) byte = letters (byte ∷ [])

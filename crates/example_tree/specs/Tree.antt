@@ -68,7 +68,7 @@ abbrev mutual
   AreFlat none = ⊤
   AreFlat (more t ts) = IsFlat t × AreFlat ts
 
--- one list of trees behind another
+-- one list of trees after another
 abbrev pub followed : Trees → Trees → Trees
 followed none us = us
 followed (more t ts) us = more t (followed ts us)

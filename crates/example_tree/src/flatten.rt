@@ -1,8 +1,6 @@
 //! Sums in sums, written out.
-ghost use Rattle.std.specs.Prelude.{◌≡◌, ◌+◌, ◌-◌, ◌<◌, ◌≤◌, ◌++◌, List, ℕ, suc, All, IfOk, IfSome, IsNone, OnOk, OnErr, false, length, take, drop};
-ghost use Rattle.tinyvec.specs.Tiny.{tiny_items, tiny_len, tiny_capacity};
-ghost use Rattle.tinyvec_slots.specs.Filling.{ShowsItems};
-ghost use Rattle.std.specs.Iterator.{IsFinite};
+ghost use Rattle.std.specs.Prelude.{◌≡◌, ◌<◌, ◌++◌, ℕ, suc, All, IfOk, IfSome, IsNone, OnOk, OnErr, false, length, take, drop};
+ghost use Rattle.tinyvec.specs.TinyVec.{tiny_items, tiny_len};
 ghost use Rattle.example_tree.specs.Tree.{IsFlat, is_sum};
 ghost use Rattle.example_tree.specs.Nodes.{factors_at, form_at, forms, is_sum_form, sum_form, terms_at, tree_at};
 ghost use Rattle.example_tree.specs.Nodes.{Flattens, IsDoneAt, IsOrdered, SameFlat, SameLeaves, SameValues};
@@ -90,7 +88,7 @@ fn sum_terms(alloc: Global, nodes: &[Node], id: NodeId) -> Result<TinyVec<[NodeI
     requires in_bounds { id < length nodes.now }
     ensures { IfOk result (λ terms. tiny_items terms ≡ terms_at (forms nodes.now) id) }
 {
-    // From the last term to the first: a splice at the end moves no other term.
+    // From the last term to the first: a replacement at the end moves no other term.
     let mut ahead = TinyVec::new(alloc);
     let mut terms = TinyVec::new(alloc);
     ahead.push(id)?;
@@ -118,26 +116,7 @@ fn replace_child(
         (tiny_items children.new ≡ take at (tiny_items children.old) ++ (terms.now ++ drop (suc at) (tiny_items children.old))) }
     ensures refused { OnErr result (tiny_items children.new ≡ tiny_items children.old) }
 {
-    children.reserve(terms.len())?;
-    splice_child(children, at, terms.iter().copied());
-    Ok(())
-}
-
-// Puts what an iterator gives in the place of one child.
-fn splice_child<I: Iterator<Item = NodeId>>(
-    children: &mut TinyVec<[NodeId; 4]>,
-    at: usize,
-    terms: I,
-)
-    requires in_bounds { at < tiny_len children.old }
-    requires can { I.can_next terms }
-    requires finite { IsFinite (I.remaining terms) }
-    ensures list { (rest : I → List ℕ) → ShowsItems I.next_gives rest
-        → at + length (rest terms) + (tiny_len children.old - suc at) ≤ tiny_capacity 4 children.old
-        → tiny_items children.new
-        ≡ take at (tiny_items children.old) ++ (rest terms ++ drop (suc at) (tiny_items children.old)) }
-{
     // A vector that was lent is not known to fit until a call says so.
     let _len = children.len();
-    let _fits = children.splice(at..at + 1, terms).finish();
+    children.replace_range(at..at + 1, terms)
 }

@@ -2,7 +2,7 @@
 ghost use Rattle.std.specs.Prelude.{◌≡◌, ◌<◌, length, All, IfOk};
 ghost use Rattle.example_tree.specs.Nodes.{children, form, forms, tree_of, trees_of, tree_at, IsOrdered};
 ghost use Rattle.example_tree.specs.Levels.{Adds, joined_by};
-ghost use Rattle.tinyvec.specs.Tiny.{tiny_items};
+ghost use Rattle.tinyvec.specs.TinyVec.{tiny_items};
 
 use crate::node::{Node, NodeId, Operation};
 use std::alloc::AllocError;

@@ -1,6 +1,6 @@
-//! What stands in a pair of brackets, as far as it was read.
+//! The contents of a pair of brackets, as far as read.
 ghost use Rattle.std.specs.Prelude.{◌≡◌, ◌++◌, ◌∷◌, [], OnOk, IfOk};
-ghost use Rattle.tinyvec.specs.Tiny.{tiny_items};
+ghost use Rattle.tinyvec.specs.TinyVec.{tiny_items};
 ghost use Rattle.example_tree.specs.Nodes.{forms, IsOrdered};
 ghost use Rattle.example_tree.specs.Outcome.{with_term, group_tree};
 ghost use Rattle.example_tree.specs.Levels.{Adds, IsWithin, Keeps, group_of};

@@ -18,7 +18,7 @@ pub enum Operation {
     Product,
 }
 
-/// A node of a tree. A parent stands behind its children.
+/// A node of a tree. A parent follows its children.
 #[derive(Drop)]
 pub enum Node {
     Leaf(Leaf),

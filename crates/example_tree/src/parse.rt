@@ -23,7 +23,7 @@ pub struct Tree {
     pub root: NodeId,
 }
 
-/// A line that was read in part: what stands before each bracket that is open, and behind the last of them.
+/// A line that was read in part: what precedes each open bracket, and follows the last.
 #[derive(Drop)]
 pub struct Parser {
     pub nodes: Vec<Node>,
@@ -130,7 +130,7 @@ impl Parser {
         Ok(())
     }
 
-    // A closing bracket: what stands in the brackets is one factor.
+    // A closing bracket: the contents of the brackets are one factor.
     fn close_bracket(&mut self, alloc: Global, at: usize) -> Result<(), ParseError>
         requires { IsSound self.old }
         ensures { Answers result self.old self.new at close_fault higher }

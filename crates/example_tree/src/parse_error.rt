@@ -10,10 +10,10 @@ use thiserror::Error;
 /// What a line lacks, or has too much of.
 #[derive(Debug, Clone, Copy, PartialEq, Eq, Error)]
 pub enum Fault {
-    /// A number, a name or an opening bracket should stand here.
+    /// A number, a name or an opening bracket is expected here.
     #[error("a number, a name or a bracket is missing")]
     Operand,
-    /// An operator or the end should stand here.
+    /// An operator or the end is expected here.
     #[error("an operator is missing")]
     Operator,
     /// A bracket closes here, and none is open.
@@ -33,7 +33,7 @@ pub enum Fault {
 /// Why a line is no tree.
 #[derive(Debug, Clone, Copy, PartialEq, Eq, Error)]
 pub enum ParseError {
-    /// The line is wrong at this byte, counted from 0. The place behind the last byte is the end of the line.
+    /// The line is wrong at this byte, counted from 0. The position after the last byte is the end of the line.
     #[error("byte {at}: {fault}")]
     Syntax { at: usize, fault: Fault },
     /// Memory was refused.

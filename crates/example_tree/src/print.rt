@@ -16,7 +16,7 @@ pub enum Piece {
     ClosingBracket,
 }
 
-/// The text of a tree of a list of nodes. A sum or a product that is a factor stands in brackets.
+/// The text of a tree of a list of nodes. A sum or a product that is a factor is in brackets.
 pub fn printed(alloc: Global, nodes: &[Node], root: NodeId) -> Result<String, AllocError>
     requires ordered { IsOrdered (forms nodes.now) }
     requires root { root < length nodes.now }
@@ -70,7 +70,7 @@ fn leaf_text(alloc: Global, leaf: &Leaf) -> Result<String, AllocError>
     }
 }
 
-// What stands between two children.
+// The text between two children.
 fn sign(operation: Operation) -> &'static str
     ensures { result.now ≡ sign_text operation }
 {
@@ -124,7 +124,7 @@ fn push_child(
     Ok(pieces.push(Piece::Tree(child))?)
 }
 
-// Whether a child stands in brackets.
+// Whether a child is in brackets.
 fn is_bracketed(operation: Operation, child: &Node) -> bool
     ensures { result ≡ is_bracketed operation (form child.now) }
 {

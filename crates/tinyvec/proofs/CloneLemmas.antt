@@ -1,7 +1,8 @@
 -- Lemmas on lists of clones. C is the `is_clone` of an item's `Clone`.
-use Rattle.std.proofs.Common.{◌≡◌, ℕ, ◌+◌, ◌-◌, ◌<◌, List, [], ◌∷◌, ◌++◌, length, take, drop, get_or, replicate, refl, sym, ap, subst, ◌∙◌, append_assoc, arith, length-append, length-drop, drop_at, take_all, take-append-drop}
+use Rattle.std.proofs.Common.{◌≡◌, ℕ, Result, Ok, Err, ◌+◌, ◌-◌, ◌<◌, List, [], ◌∷◌, ◌++◌, length, take, drop, get_or, replicate, refl, sym, ap, subst, ◌∙◌, append_assoc, arith, length-append, length-drop, drop_at, take_all, take-append-drop}
 use Rattle.std.proofs.lemmas.List.{take_more, replicate_more}
 use Rattle.std.proofs.lemmas.List.Elements.{AllZip-push, length_all_zip}
+use Rattle.std.specs.Prelude.{OnOk, OnErr, if◌then◌else◌, is_ok}
 use Rattle.std.specs.List.{AllZip, AppendsClones}
 use Rattle.tinyvec_slots.specs.Slots.{Slots, items, items_len, spare, all_slots}
 use Rattle.tinyvec_slots.proofs.SlotsLemmas.{slots_are}
@@ -53,3 +54,8 @@ module _ {T : Type 0} (C : T → T → Type 0) where
       let behind : drop k (all_slots v) ≡ spare v = ap (drop k) (slots_are v) ∙ drop_at (items v) (spare v) k refl in
       let behind_clones : drop k (all_slots w) ≡ spare w = ap (drop k) (slots_are w) ∙ drop_at (items w) (spare w) k long in
       subst (λ l. AllZip C l (spare w)) behind (subst (AllZip C (drop k (all_slots v))) behind_clones (AllZip-drop C k (all_slots v) (all_slots w) h))
+
+-- what a value is after each outcome of a call, said at once
+pub chosen : {T E A : Type 0} (r : Result T E) {x : A} (y z : A) → OnOk r (x ≡ y) → OnErr r (x ≡ z) → x ≡ (if is_ok r then y else z)
+chosen (Ok t) y z ok err = ok
+chosen (Err e) y z ok err = err

@@ -3,7 +3,7 @@ use Rattle.std.proofs.Common.{◌≡◌, ℕ, Option, refl, ◌∙◌}
 use Rattle.std.specs.Iterator.{SkipsThenYields}
 use Rattle.std.specs.Iterator.Runs.{YieldsInOrder, YieldsInReverse}
 use Rattle.tinyvec_slots.proofs.DrainsLemmas.{runs_in_order, runs_in_reverse, step_keeps, step_back_keeps, nth_keeps, nth_back_keeps, takes_any_word}
-use Rattle.tinyvec.specs.Tiny.{tiny_items, is_inline, tiny_capacity, TinySlotRule, SameFrame}
+use Rattle.tinyvec.specs.TinyVec.{tiny_items, is_inline, tiny_capacity, TinySlotRule, SameFrame}
 use Rattle.tinyvec.specs.Drain.{drain_items, drain_vec, drain_kept, DrainSteps, DrainStepsBack, DrainKeeps, DrainLeaves, DrainsFromEnds}
 use Rattle.tinyvec.specs.declared.tiny_vec.TinyVec.{TinyVec}
 use Rattle.tinyvec.specs.declared.drain.TinyVecDrain.{TinyVecDrain}

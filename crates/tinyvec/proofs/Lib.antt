@@ -4,3 +4,5 @@ pub mod CloneLemmas
 pub mod RefusedLemmas
 pub mod SpliceLemmas
 pub mod FillingLemmas
+pub mod FrameLemmas
+pub mod ReplacingLemmas

@@ -7,7 +7,7 @@ use Rattle.tinyvec_slots.specs.Slots.{AreDefaults, items, items_len, spare}
 use Rattle.std.specs.List.{AllZip}
 use Rattle.tinyvec_slots.specs.Clones.{RefusedAt, ClonesOver, ClonesInPart}
 use Rattle.tinyvec_slots.proofs.CloneLemmas.{drop_within}
-use Rattle.tinyvec.specs.Tiny.{tiny_items, tiny_len, tiny_spare, is_inline, IsInline, PlaceRule, TinySlotRule, SameFrame}
+use Rattle.tinyvec.specs.TinyVec.{tiny_items, tiny_len, tiny_spare, is_inline, IsInline, PlaceRule, TinySlotRule, SameFrame}
 pub use Rattle.tinyvec.specs.FrameLaws.{place_kept}
 use Rattle.tinyvec.specs.declared.tiny_vec.TinyVec.{TinyVec}
 use Rattle.tinyvec.specs.declared.tiny_vec.TinyVec.TheVariants.{Inline, Heap}

@@ -3,9 +3,9 @@ use Rattle.std.proofs.Common.{List, Option, refl, ◌∙◌}
 use Rattle.std.specs.declared.iter.Fuse.{Fuse}
 use Rattle.tinyvec_slots.specs.Ends.{End, TakesFromEnds, Asks}
 use Rattle.tinyvec_slots.specs.Fused.{HasTwoEnds}
-use Rattle.tinyvec_slots.specs.Splicing.{SplicedByWord}
+use Rattle.tinyvec_slots.specs.SplicedByWord.{SplicedByWord}
 use Rattle.tinyvec_slots.proofs.SplicingLemmas as all
-use Rattle.tinyvec.specs.TinySplice.{splice_view, splice_left, splice_vec, SpliceKeeps, SpliceSteps, SpliceStepsBack}
+use Rattle.tinyvec.specs.TinyVecSplice.{splice_view, splice_left, splice_vec, SpliceKeeps, SpliceSteps, SpliceStepsBack}
 use Rattle.tinyvec.specs.FrameLaws.{SameFrame-refl, SameFrame-then}
 use Rattle.tinyvec.specs.declared.splice.TinyVecSplice.{TinyVecSplice}
 

@@ -4,13 +4,18 @@ use Rattle.std.specs.Prelude.{OnOk, OnErr, IsErr, IfOk, Result, Ok, Err}
 use Rattle.std.proofs.lemmas.List.{drop-drop, nil_from_length, length_push}
 use Rattle.std.proofs.lemmas.List.Edits.{length-insert, length-remove}
 use Rattle.std.proofs.lemmas.List.Elements.{All-drop}
-use Rattle.tinyvec_slots.specs.Slots.{Slots, AreDefaults, Frees, SlotRule, items, items_len, spare}
+use Rattle.tinyvec_slots.specs.Slots.{Slots, AreDefaults, Vacates, SlotRule, items, items_len, spare}
 use Rattle.tinyvec_slots.proofs.SlotsLemmas.{slots_used, slots_freed, defaults_are, items-with_slot, spare-with_slot}
-use Rattle.tinyvec.specs.Tiny.{tiny_items, tiny_len, tiny_spare, is_inline, IsInline, TinySlotRule, SameFrame, ShrinksInPlace}
-use Rattle.tinyvec.specs.Lends.{tiny_with_items, tiny_with_item}
+use Rattle.tinyvec.specs.TinyVec.{tiny_items, tiny_len, tiny_spare, is_inline, tiny_capacity, IsInline, TinySlotRule, SameFrame}
+use Rattle.tinyvec.specs.Lends.{tiny_with_item}
 pub use Rattle.tinyvec.specs.FrameLaws.{SameFrame-refl, SameFrame-then, tiny_items-with, tiny_framed-with, tiny_slots_framed, tiny_slots_then_framed}
 use Rattle.tinyvec.specs.declared.tiny_vec.TinyVec.{TinyVec}
 use Rattle.tinyvec.specs.declared.tiny_vec.TinyVec.TheVariants.{Inline, Heap}
+
+-- how many items fit a list that is inline
+pub capacity_inline : {A T : Type 0} (slots : ℕ) (v : TinyVec A T) → IsInline v → tiny_capacity slots v ≡ slots
+capacity_inline slots (Inline v alloc) is = refl
+capacity_inline slots (Heap v) is = absurd (let no = is in cc)
 
 module _ {A T : Type 0} where
   -- a write of one item writes that item
@@ -31,7 +36,7 @@ module _ {T : Type 0} (D : T → Type 0) (old new : Slots T) where
   pub slots_inserted : (i : ℕ) (x : T) → i ≤ items_len old → items new ≡ insert (items old) i x → spare new ≡ drop 1 (spare old) → SlotRule D old new
   slots_inserted i x in_list is = slots_used D old new 1 (ap length is ∙ length-insert (items old) i x in_list)
 
-  pub slots_removed : (i : ℕ) → i < items_len old → items new ≡ remove (items old) i → Frees D 1 old new → SlotRule D old new
+  pub slots_removed : (i : ℕ) → i < items_len old → items new ≡ remove (items old) i → Vacates D 1 old new → SlotRule D old new
   slots_removed i in_list is = slots_freed D old new 1 (sym (ap (λ l. length l + 1) is ∙ length-remove (items old) i in_list))
 
 module _ {A T : Type 0} (D : T → Type 0) where
@@ -65,23 +70,6 @@ module _ {A T : Type 0} (D : T → Type 0) where
   tiny_slots_grown (Inline v a) (Heap m) (Heap n) k stays place len behind = tt
   tiny_slots_grown (Heap v) (Heap m) new k stays place len behind = tt
   tiny_slots_grown (Inline v a) (Heap m) (Inline n b) k stays place len behind = search rules
-
-  -- a list whose items were written, which is then cut to the first n
-  pub kept_in_front : (slots : ℕ) (v new : TinyVec A T) (ws seen : List T) (n : ℕ) → seen ≡ tiny_items v → length ws ≡ length seen
-      → tiny_items new ≡ take n (tiny_items (tiny_with_items v ws)) → ShrinksInPlace D slots (tiny_with_items v ws) new
-      → (tiny_items new ≡ take n ws) × ShrinksInPlace D slots v new
-  kept_in_front slots v new ws seen n shows len cut h =
-      let long : length ws ≡ tiny_len v = len ∙ ap length shows in
-      let frame = tiny_framed-with v ws long in (
-        cut ∙ ap (take n) (tiny_items-with v ws long),
-        record {
-          bound = omega (arith, frame.0, h.bound);
-          place = h.place ∙ frame.2;
-          slot_rule = tiny_slots_framed D v (tiny_with_items v ws) new frame h.slot_rule;
-          capacity = h.capacity ∙ frame.3 slots;
-          fits = h.fits;
-        },
-      )
 
   module _ (c : T) (only : (x : T) → D x → x ≡ c) where
     -- the slot rule where the item's `Default` answers one value only

@@ -1,7 +1,7 @@
 -- What has the same frame: the same vector, and one whose items were written. The slot rule reads no more of a vector.
 use Rattle.std.proofs.Common.{◌≡◌, ◌≤◌, ℕ, List, length, drop, refl, sym, ap, ◌∙◌, take_at}
 use Rattle.tinyvec_slots.proofs.SlotsLemmas.{items-with_items, spare-with_items}
-use Rattle.tinyvec.specs.Tiny.{tiny_items, tiny_len, is_inline, tiny_capacity, PlaceRule, TinySlotRule, SameFrame}
+use Rattle.tinyvec.specs.TinyVec.{tiny_items, tiny_len, is_inline, tiny_capacity, PlaceRule, TinySlotRule, SameFrame}
 use Rattle.tinyvec.specs.Lends.{tiny_with_items}
 use Rattle.tinyvec.specs.declared.tiny_vec.TinyVec.{TinyVec}
 use Rattle.tinyvec.specs.declared.tiny_vec.TinyVec.TheVariants.{Inline, Heap}

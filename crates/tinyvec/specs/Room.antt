@@ -1,6 +1,6 @@
--- Calls for room, and moves to the heap. A call and its `try_` form have one word.
+-- Growth, reserving room, and moves to the heap. A call and its `try_` form have one word.
 use Rattle.std.specs.Prelude.{◌≡◌, ℕ, ◌+◌, ◌*◌, ◌<◌, ◌≤◌, if◌then◌else◌, max, false, Result, IsOk, OnOk, OnErr}
-use Rattle.tinyvec.specs.Tiny.{tiny_items, tiny_len, is_inline, tiny_capacity, IsInline, PlaceRule, TinySlotRule, Unchanged}
+use Rattle.tinyvec.specs.TinyVec.{tiny_items, tiny_len, is_inline, tiny_capacity, IsInline, PlaceRule, TinySlotRule, Unchanged}
 use Rattle.tinyvec.specs.declared.tiny_vec.TinyVec.{TinyVec}
 
 module _ {A T : Type 0} where
@@ -8,16 +8,16 @@ module _ {A T : Type 0} where
   abbrev pub KeepsRoom : ℕ → ℕ → TinyVec A T → TinyVec A T → Type 0
   KeepsRoom slots need old new = need ≤ tiny_capacity slots old → tiny_capacity slots new ≡ tiny_capacity slots old
 
-  -- a full list, wherever it lies, got twice the room that it had, and room for one item at least
-  abbrev pub Doubles : ℕ → TinyVec A T → TinyVec A T → Type 0
-  Doubles slots old new = tiny_len old ≡ tiny_capacity slots old
-      → tiny_capacity slots new ≡ max (2 * tiny_capacity slots old) (tiny_len old + 1)
+  -- where there was less room than `need`, the capacity doubled, or became `need` where that is more
+  abbrev pub Doubles : ℕ → ℕ → TinyVec A T → TinyVec A T → Type 0
+  Doubles slots need old new = tiny_capacity slots old < need
+      → tiny_capacity slots new ≡ max (2 * tiny_capacity slots old) need
 
-  -- where there was less room than `need`, a list that moves got room for just so many, and one on the heap got `room`
+  -- where there was less room than `need`, a list that moves got a capacity of `need`, and one on the heap of `room`
   abbrev pub GrowsTo : ℕ → ℕ → ℕ → TinyVec A T → TinyVec A T → Type 0
   GrowsTo slots need room old new = tiny_capacity slots old < need → tiny_capacity slots new ≡ (if is_inline old then need else room)
 
-  -- the same, and one on the heap got twice the room that it had, or `need` where that is more
+  -- the same, where one on the heap doubled its capacity, or got `need` where that is more
   abbrev pub GrowsFor : ℕ → ℕ → TinyVec A T → TinyVec A T → Type 0
   GrowsFor slots need old new = GrowsTo slots need (max (2 * tiny_capacity slots old) need) old new
 
@@ -25,8 +25,26 @@ module _ {A T : Type 0} where
   abbrev pub GrowsInSteps : ℕ → TinyVec A T → TinyVec A T → Type 0
   GrowsInSteps slots old new = tiny_capacity slots old < tiny_capacity slots new → tiny_capacity slots new < 2 * tiny_len new
 
+  -- a call that pushes item by item took `old` to `new`: the list moves only where it outgrows the array
+  pub record Grows (D : T → Type 0) (slots : ℕ) (old new : TinyVec A T) : Type 0 where
+    pub place : PlaceRule slots (tiny_len new) old new
+    pub slot_rule : TinySlotRule D old new
+    pub capacity : tiny_capacity slots old ≤ tiny_capacity slots new
+    pub same_room : KeepsRoom slots (tiny_len new) old new
+    pub grown : GrowsInSteps slots old new
+    pub fits : tiny_len new ≤ tiny_capacity slots new
+
 module _ {A T X E : Type 0} where
-  -- a call for room for n more items took `old` to `new`, and was answered so; a list on the heap that grows gets `heap` as its room
+  -- A call that needs room for `need` items took `old` to `new`, with this result. Where there was that room the capacity is
+  -- unchanged, else it grew by the rule `G`: `Doubles` or `GrowsFor`.
+  pub record RoomGrows (G : ℕ → ℕ → TinyVec A T → TinyVec A T → Type 0) (slots need : ℕ) (old new : TinyVec A T)
+      (result : Result X E) : Type 0 where
+    pub capacity : tiny_capacity slots old ≤ tiny_capacity slots new
+    pub same_room : KeepsRoom slots need old new
+    pub grown : OnOk result (G slots need old new)
+    pub fits : tiny_len new ≤ tiny_capacity slots new
+
+  -- reserving room for n more items took `old` to `new`, with this result; a list on the heap that grows gets a capacity of `heap`
   pub record Reserves (D : T → Type 0) (slots n heap : ℕ) (old new : TinyVec A T) (result : Result X E) : Type 0 where
     pub items : tiny_items new ≡ tiny_items old
     pub place : OnOk result (PlaceRule slots (tiny_len old + n) old new)
@@ -36,22 +54,22 @@ module _ {A T X E : Type 0} where
     pub capacity : tiny_capacity slots old ≤ tiny_capacity slots new
     pub fits : tiny_len new ≤ tiny_capacity slots new
     pub grown : OnOk result (GrowsTo slots (tiny_len old + n) heap old new)
-    -- where there is room no memory is asked for, and nothing changes; neither does it by a refusal
+    -- where there is room it allocates nothing, and nothing changes; nor does it on failure
     pub kept : tiny_len old + n ≤ tiny_capacity slots old → new ≡ old
     pub succeeds : tiny_len old + n ≤ tiny_capacity slots old → IsOk result
     pub full : OnErr result (tiny_capacity slots old < tiny_len old + n)
     pub refused : OnErr result (Unchanged old new)
 
-  -- a move to the heap took `old` to `new`, and was answered so
+  -- a move to the heap took `old` to `new`, with this result
   pub record MovesToHeap (slots : ℕ) (old new : TinyVec A T) (result : Result X E) : Type 0 where
     pub items : tiny_items new ≡ tiny_items old
     pub place : OnOk result (is_inline new ≡ false)
-    -- a list on the heap stays as it is, and a refusal changes nothing
+    -- a list on the heap stays as it is, and a failure changes nothing
     pub kept : is_inline old ≡ false → new ≡ old
     pub succeeds : is_inline old ≡ false → IsOk result
-    -- an empty list takes no memory
+    -- an empty list allocates nothing
     pub succeeds_empty : tiny_len old ≡ 0 → IsOk result
-    -- one that moves has room for itself there, and for no more
+    -- one that moves gets a capacity of its length
     pub moved : IsInline old → OnOk result (tiny_capacity slots new ≡ tiny_len old)
     pub fits : tiny_len new ≤ tiny_capacity slots new
     pub refused : OnErr result (Unchanged old new)
@@ -62,8 +80,8 @@ module _ {A T X E : Type 0} where
     pub place : OnOk result (is_inline new ≡ false)
     pub room : OnOk result (tiny_len old + n ≤ tiny_capacity slots new)
     pub fits : tiny_len new ≤ tiny_capacity slots new
-    -- a list that moves has room for no further items. On the heap no room is lost, and where there is room no memory is
-    -- asked for and nothing changes. Neither does it by a refusal.
+    -- A list that moves has room for no further items. On the heap no room is lost, and where there is room it allocates
+    -- nothing and nothing changes. Nor does it on failure.
     pub moved : IsInline old → OnOk result (tiny_capacity slots new ≡ tiny_len old + n)
     pub keeps_room : is_inline old ≡ false → tiny_capacity slots old ≤ tiny_capacity slots new
     pub kept : is_inline old ≡ false → tiny_len old + n ≤ tiny_capacity slots old → new ≡ old

@@ -1,27 +1,12 @@
 -- The laws of a splice of a `TinyVec`: what its calls leave of spare slots, place and room.
 use Rattle.std.proofs.Common.{◌≡◌, ℕ, ◌≤◌, List, length, refl, sym, ap, ◌∙◌, arith}
-use Rattle.tinyvec.specs.Tiny.{tiny_items, tiny_len, is_inline, tiny_capacity, PlaceRule, TinySlotRule, SameFrame}
+use Rattle.tinyvec.specs.TinyVec.{tiny_items, tiny_len, is_inline, tiny_capacity, StaysInPlace, SameFrame}
 use Rattle.tinyvec.specs.Lends.{tiny_with_items}
-use Rattle.tinyvec.specs.Room.{GrowsInSteps, KeepsRoom}
-use Rattle.tinyvec.specs.TinySplice.{items_moved}
+use Rattle.tinyvec.specs.Room.{Grows}
+use Rattle.tinyvec.specs.TinyVecSplice.{items_moved}
 use Rattle.tinyvec.specs.FrameLaws.{tiny_items-with, tiny_framed-with, tiny_slots_framed, tiny_slots_then_framed, place_kept}
 use Rattle.tinyvec.specs.declared.tiny_vec.TinyVec.{TinyVec}
 use Rattle.tinyvec.specs.declared.tiny_vec.TinyVec.TheVariants.{Inline, Heap}
-
-module _ {A T : Type 0} (D : T → Type 0) (slots : ℕ) where
-  -- a splice that was stopped: the list stays in its place, with its room
-  pub record Stops (old new : TinyVec A T) : Type 0 where
-    pub place : is_inline new ≡ is_inline old
-    pub slot_rule : TinySlotRule D old new
-    pub capacity : tiny_capacity slots new ≡ tiny_capacity slots old
-
-  -- a splice that was finished: the list moves only where it has to
-  pub record Grows (old new : TinyVec A T) : Type 0 where
-    pub place : PlaceRule slots (tiny_len new) old new
-    pub slot_rule : TinySlotRule D old new
-    pub capacity : tiny_capacity slots old ≤ tiny_capacity slots new
-    pub same_room : KeepsRoom slots (tiny_len new) old new
-    pub in_steps : GrowsInSteps slots old new
 
 module _ {A T : Type 0} where
   pub tiny_written : (v : TinyVec A T) (ws : List T) → length ws ≡ tiny_len v
@@ -33,11 +18,12 @@ module _ {A T : Type 0} where
   frame_moved slots u v w x k j = ap (λ b. items_moved slots b (is_inline w)) k.2 ∙ ap (items_moved slots (is_inline u)) (sym j.2)
 
   module _ (D : T → Type 0) (slots : ℕ) where
-    pub frame_stops : (u v w : TinyVec A T) → SameFrame u v → Stops D slots v w → Stops D slots u w
-    frame_stops u v w k h = record {
+    pub frame_stays : (u v w : TinyVec A T) → SameFrame u v → StaysInPlace D slots v w → StaysInPlace D slots u w
+    frame_stays u v w k h = record {
       place = h.place ∙ k.2;
       slot_rule = tiny_slots_framed D u v w k h.slot_rule;
       capacity = h.capacity ∙ k.3 slots;
+      fits = h.fits;
     }
 
     pub frame_grows : (u v w x : TinyVec A T) → SameFrame u v → Grows D slots v w → SameFrame w x → Grows D slots u x
@@ -46,16 +32,18 @@ module _ {A T : Type 0} where
       slot_rule = tiny_slots_then_framed D u w x (tiny_slots_framed D u v w k h.slot_rule) j;
       capacity = let c = h.capacity in let a = k.3 slots in let b = j.3 slots in omega arith;
       same_room = λ fits. j.3 slots ∙ h.same_room (let a = k.3 slots in let b = j.0 in omega arith) ∙ k.3 slots;
-      in_steps = λ more. let a = k.3 slots in let b = j.3 slots in let c = j.0 in let less = h.in_steps (omega (arith, a, b, more)) in omega (arith, b, c, less);
+      grown = λ more. let a = k.3 slots in let b = j.3 slots in let c = j.0 in let less = h.grown (omega (arith, a, b, more)) in omega (arith, b, c, less);
+      fits = let fits = h.fits in let b = j.3 slots in let c = j.0 in omega (arith, b, c, fits);
     }
 
-    pub stops_grows : (v w : TinyVec A T) → Stops D slots v w → tiny_len w ≤ tiny_capacity slots w → Grows D slots v w
-    stops_grows v w h fits = record {
+    pub stays_grows : (v w : TinyVec A T) → StaysInPlace D slots v w → tiny_len w ≤ tiny_capacity slots w → Grows D slots v w
+    stays_grows v w h fits = record {
       place = place_kept slots (tiny_len w) v w h.place (let c = h.capacity in omega arith);
       slot_rule = h.slot_rule;
       capacity = let c = h.capacity in omega arith;
       same_room = λ _. h.capacity;
-      in_steps = λ more. absurd (let c = h.capacity in omega (arith, c, more));
+      grown = λ more. absurd (let c = h.capacity in omega (arith, c, more));
+      fits = fits;
     }
 
     -- a list that fits where it was did not move

@@ -1,7 +1,7 @@
-//! Items put behind those of a `Vec` that has room for them.
+//! Clones appended to a `Vec` that has room for them.
 //!
-//! Each loop works on a local variable: the compiler keeps its length and its place in registers, which it can't where the
-//! vector lies behind a reference that the items might overlap.
+//! Each loop works on a local variable, whose length and pointer LLVM keeps in registers. Through a reference it cannot,
+//! since the items might overlap the vector.
 ghost use Rattle.std.specs.Prelude.{◌≡◌, ◌+◌, ◌<◌, ◌≤◌, ℕ, All, length, replicate, IsOk, OnOk, OnErr, vec_len, vec_capacity};
 ghost use Rattle.std.specs.List.{AppendsClones};
 ghost use Rattle.tinyvec_slots.specs.Clones.{RefusedAt};
@@ -35,7 +35,7 @@ pub(crate) fn push_clones<T: Clone>(heap: &mut Vec<T>, from: &[T]) -> Result<(),
 }
 
 // Appends `n` clones of `x`, where there is room.
-pub(crate) fn push_copies<T: Clone>(heap: &mut Vec<T>, n: usize, x: &T) -> Result<(), AllocError>
+pub(crate) fn push_clones_of<T: Clone>(heap: &mut Vec<T>, n: usize, x: &T) -> Result<(), AllocError>
     requires room { vec_len heap.old + n ≤ vec_capacity heap.old }
     ensures items { OnOk result (AppendsClones T.is_clone heap.old.items heap.new.items (replicate n x.now)) }
     ensures kept { OnErr result (heap.new.items ≡ heap.old.items) }

@@ -1,20 +1,20 @@
-//! The iterator that moves a range of items out of a vector.
-ghost use Rattle.std.specs.Prelude.{◌≡◌, ◌++◌, length, codes, Some, IfSome};
+//! What moves a range of items out of a vector.
+ghost use Rattle.std.specs.Prelude.{◌≡◌, ◌++◌, length, codes, Some, IfSome, ◌≤◌, ◌+◌, vec_len, vec_capacity};
 ghost use Rattle.std.specs.Fmt.{debug_list, debug_variant};
 ghost use Rattle.std.specs.Iterator.{at_most, UpTo};
 ghost use Rattle.std.specs.Iterator.SizeHint.{IsWithinCount};
 ghost use Rattle.std.specs.Iterator.Runs.{YieldsInOrder, YieldsInReverse};
 ghost use Rattle.tinyvec_slots.specs.Cut.{IsRangeOf, before, removed, after};
-ghost use Rattle.tinyvec.specs.Tiny.{tiny_items, SameFrame};
+ghost use Rattle.tinyvec.specs.TinyVec.{tiny_items, SameFrame, is_inline, tiny_capacity, TinySlotRule};
 
 use crate::TinyVec;
 use std::fmt;
 use std::iter::FusedIterator;
 use std::ops::RangeBounds;
 use tinyvec_array::Array;
-use tinyvec_slots::{part, resolve, write_named};
+use tinyvec_slots::{resolve_range, subslice, write_named};
 
-/// Gives the items of a range. When it ends, the vector has the others, in its place.
+/// Yields the items of a range. When it is dropped the vector keeps the others, in its place.
 pub struct TinyVecDrain<'a, A: Array> {
     // The first `keep` items stay, and those from `front` up to `back` remain.
     vec: &'a mut TinyVec<A>,
@@ -24,18 +24,18 @@ pub struct TinyVecDrain<'a, A: Array> {
 }
 
 impl<A: Array> TinyVec<A> {
-    ghost use Rattle.tinyvec.specs.Drain.{drain_items, drain_len, drain_lender, drain_kept, drain_vec, DrainCanStep, DrainSteps, DrainStepsBack, DrainsFromEnds};
+    ghost use Rattle.tinyvec.specs.Drain.{drain_items, drain_len, drain_owner, drain_kept, drain_vec, DrainCanStep, DrainSteps, DrainStepsBack, DrainsFromEnds};
 
-    /// Takes the items of the range out of the list, and gives them from both ends.
+    /// Removes the items of the range, and yields them from both ends.
     ///
-    /// `known` is false of an `a..=b` that was iterated to its end, and of no other range of std.
-    // Inlined with what ends it, so that the four fields stay in registers.
+    /// `known` fails only for an exhausted `RangeInclusive`.
+    // Inlined with its destructor, so that the four fields stay in registers.
     #[inline(always)]
     pub fn drain<R: RangeBounds<usize>>(&mut self, range: R) -> TinyVecDrain<'_, A>
-        requires known { R.has_bounds range }
+        requires not_exhausted { R.has_bounds range }
         requires in_list { IsRangeOf (tiny_items self.old) (R.start_bound range) (R.end_bound range) }
 
-        // The iterator gives the items of the range.
+        // It yields the items of the range.
         ensures rest { drain_items result ≡ removed (tiny_items self.old) (R.start_bound range) (R.end_bound range) }
         ensures len { drain_len result ≡ length (drain_items result) }
         ensures ready { DrainCanStep result }
@@ -43,21 +43,43 @@ impl<A: Array> TinyVec<A> {
         ensures runs_back { YieldsInReverse (DrainStepsBack {A = A} {T = A.Item}) drain_items }
         ensures both_ends { DrainsFromEnds result }
 
-        // Once it ends, the list is what stood before and after, in its place.
-        ensures same_reference { drain_lender result ≡ self.entry.ghost_name }
+        // Once it is dropped, the list is what preceded the range and what followed it, in its place.
+        ensures same_reference { drain_owner result ≡ self.entry.ghost_name }
         ensures kept { drain_kept result
             ≡ before (tiny_items self.old) (R.start_bound range) ++ after (tiny_items self.old) (R.end_bound range) }
         ensures frame { SameFrame self.old (drain_vec result) }
     {
         let len = self.len();
-        let part = resolve(range, len);
+        let part = resolve_range(range, len);
         let keep = len - (part.end - part.start);
-        self.items_to_end(part.start, part.end);
+        self.move_to_end(part.start, part.end);
         TinyVecDrain {
             vec: self,
             keep,
             front: keep,
             back: len,
+        }
+    }
+
+    /// Moves the items of the range to the end of `out`, which has room for them.
+    ///
+    /// `known` fails only for an exhausted `RangeInclusive`.
+    pub fn drain_into<R: RangeBounds<usize>>(&mut self, range: R, out: &mut Vec<A::Item>)
+        requires not_exhausted { R.has_bounds range }
+        requires in_list { IsRangeOf (tiny_items self.old) (R.start_bound range) (R.end_bound range) }
+        requires room { vec_len out.old
+            + length (removed (tiny_items self.old) (R.start_bound range) (R.end_bound range)) ≤ vec_capacity out.old }
+        ensures items { tiny_items self.new
+            ≡ before (tiny_items self.old) (R.start_bound range) ++ after (tiny_items self.old) (R.end_bound range) }
+        ensures place { is_inline self.new ≡ is_inline self.old }
+        ensures slots { TinySlotRule A.Item.is_default self.old self.new }
+        ensures capacity { tiny_capacity A.CAPACITY self.new ≡ tiny_capacity A.CAPACITY self.old }
+        ensures moved { out.new.items
+            ≡ out.old.items ++ removed (tiny_items self.old) (R.start_bound range) (R.end_bound range) }
+        ensures out_capacity { vec_capacity out.new ≡ vec_capacity out.old }
+    {
+        for x in self.drain(range) {
+            out.push_reserved(x);
         }
     }
 }
@@ -146,7 +168,7 @@ where
         write_named(
             f,
             "TinyVecDrain",
-            part(self.vec.as_slice(), self.front, self.back),
+            subslice(self.vec.as_slice(), self.front, self.back),
         )
     }
 }

@@ -1,35 +1,39 @@
-//! The iterator that moves a range of items out of a vector and puts others in its place.
-ghost use Rattle.std.specs.Prelude.{◌≡◌, length, false, codes, Some, IfSome};
+//! The splice: what replaces a range of items by those of an iterator.
+ghost use Rattle.std.specs.Prelude.{◌≡◌, length, false, codes, Some, IfSome, ◌+◌, ◌-◌, ◌*◌, ◌<◌, ◌≤◌, ◌++◌, List, IsOk, OnErr, IfErr, MatchResult, OnOk, true};
 ghost use Rattle.std.specs.Fmt.{debug_list, debug_variant};
-ghost use Rattle.std.specs.Iterator.{UpTo, MakesProgress, at_most};
+ghost use Rattle.std.specs.Iterator.{UpTo, MakesProgress, at_most, IsFinite, Drains, YieldsThen};
 ghost use Rattle.std.specs.Iterator.Adapters.{fuse_done, fuse_source, fuse_steps};
 ghost use Rattle.std.specs.Iterator.SizeHint.{IsWithinCount};
-ghost use Rattle.tinyvec_slots.specs.Fused.{FusedFinite};
+ghost use Rattle.tinyvec_slots.specs.Fused.{FusedFinite, FusedCan, fused_rest};
 ghost use Rattle.tinyvec_slots.specs.Cut.{IsRangeOf, before, removed, after};
-ghost use Rattle.tinyvec.specs.Tiny.{tiny_items};
-
-mod finishing;
+ghost use Rattle.tinyvec.specs.TinyVec.{tiny_items, tiny_len, is_inline, tiny_capacity, StaysInPlace, PlaceRule, TinySlotRule, Unchanged};
+ghost use Rattle.tinyvec_slots.specs.Filling.{ShowsItems, IntoIterYields};
+ghost use Rattle.tinyvec_slots.specs.Replacing.{FusedYields, PutsBetween};
+ghost use Rattle.tinyvec_slots.specs.AnySplice.{finish_placed, finish_bound, Finishes, FinishesWith};
+ghost use Rattle.tinyvec.specs.Room.{Grows, GrowsFor, GrowsInSteps, KeepsRoom};
+ghost use Rattle.tinyvec.specs.TinyVecSplice.{items_moved};
 
 use crate::TinyVec;
+use std::alloc::AllocError;
 use std::fmt;
 use std::iter::{Fuse, FusedIterator};
 use std::ops::RangeBounds;
-use tinyvec_array::Array;
-use tinyvec_slots::{Gap, resolve, step_back_in, step_in, write_named};
+use tinyvec_array::{Array, NoRoom, SpliceRest};
+use tinyvec_slots::{
+    CanCut, CanSplice, Gap, close_in, finish_in, resolve_range, step_back_in, step_in, write_named,
+};
 
-/// Gives the items of a range, in whose place those of `replacement` are put. For an item that is taken from an end, the
-/// replacement is asked for one from the same end, which stands there then. It must be spent by `finish`,
-/// `finish_counted` or `stop`.
+/// Yields the items of a range, and puts those of `replacement` in their place. Each item taken from one end is replaced by
+/// one item of `replacement` from that end. A splice must be finished by `finish`, `finish_counted` or `stop`.
 pub struct TinyVecSplice<'a, A: Array, I: Drop> {
     vec: &'a mut TinyVec<A>,
     gap: Gap,
     replacement: I,
-    // Always true: it keeps a splice from being let go.
+    // Always true, so the destructor's precondition cannot be proved: a splice must be finished, not dropped.
     unspent: bool,
 }
 
 impl<'a, A: Array, I: Drop> Drop for TinyVecSplice<'a, A, I> {
-    // No caller can show this, so a splice is spent by `finish`.
     fn drop(self)
         requires { self.unspent ≡ false }
     {
@@ -43,18 +47,17 @@ impl<'a, A: Array, I: Drop> Drop for TinyVecSplice<'a, A, I> {
 }
 
 impl<A: Array> TinyVec<A> {
-    ghost use Rattle.tinyvec.specs.TinySplice.{splice_front, splice_left, splice_len, splice_back, splice_replacement, splice_touches, splice_vec, splice_lender, SpliceCanStep};
+    ghost use Rattle.tinyvec.specs.TinyVecSplice.{splice_front, splice_left, splice_len, splice_back, splice_replacement, splice_touches, splice_vec, splice_lender, SpliceCanStep};
 
-    /// Takes the items of the range out of the list, gives them from both ends, and puts those of `replacement` in their
-    /// place.
+    /// Removes the items of the range, yields them from both ends, and puts those of `replacement` in their place.
     ///
-    /// `known` is false of an `a..=b` that was iterated to its end, and of no other range of std.
+    /// `known` fails only for an exhausted `RangeInclusive`.
     pub fn splice<R: RangeBounds<usize>, I: IntoIterator<Item = A::Item>>(
         &mut self,
         range: R,
         replacement: I,
     ) -> TinyVecSplice<'_, A, Fuse<I::IntoIter>>
-        requires known { R.has_bounds range }
+        requires not_exhausted { R.has_bounds range }
         requires in_list { IsRangeOf (tiny_items self.old) (R.start_bound range) (R.end_bound range) }
         ensures front { splice_front result ≡ before (tiny_items self.old) (R.start_bound range) }
         ensures left { splice_left result ≡ removed (tiny_items self.old) (R.start_bound range) (R.end_bound range) }
@@ -67,7 +70,7 @@ impl<A: Array> TinyVec<A> {
         ensures same_reference { splice_lender result ≡ self.entry.ghost_name }
         ensures ready { SpliceCanStep result }
     {
-        let part = resolve(range, self.len());
+        let part = resolve_range(range, self.len());
         TinyVecSplice {
             vec: self,
             gap: Gap::new(part.start, part.end),
@@ -75,10 +78,88 @@ impl<A: Array> TinyVec<A> {
             unspent: true,
         }
     }
+
+    /// Puts the items of `replacement` in the place of the range, whose items it drops: `splice` and `finish` in one. Where
+    /// memory is refused for an item, it is returned with those that follow it. Items that find no place in the range are
+    /// pushed one by one, whatever the replacement hints at.
+    ///
+    /// `has_bounds` is false of an `a..=b` that was iterated to its end, and of no other range of std.
+    pub fn splice_all<R: RangeBounds<usize>, I: IntoIterator<Item = A::Item>>(
+        &mut self,
+        range: R,
+        replacement: I,
+    ) -> Result<(), SpliceRest<A::Item, Fuse<I::IntoIter>>>
+        requires not_exhausted { R.has_bounds range }
+        requires in_list { IsRangeOf (tiny_items self.old) (R.start_bound range) (R.end_bound range) }
+        requires can { (it : I.IntoIter) → I.into_iter_gives replacement it
+            → I.IntoIter.can_next it × IsFinite (I.IntoIter.remaining it) }
+        ensures ran { (it : Fuse I.IntoIter) × (xs : List A.Item) × I.into_iter_gives replacement (fuse_source it)
+            × (fuse_done it ≡ false)
+            × MatchResult result (λ _. Drains (fuse_steps I.IntoIter.next_gives) it xs)
+            (λ refused. YieldsThen (fuse_steps I.IntoIter.next_gives) it xs (Some refused.item) refused.rest)
+            × (tiny_items self.new ≡ before (tiny_items self.old) (R.start_bound range) ++ xs
+            ++ after (tiny_items self.old) (R.end_bound range)) }
+
+        // It refuses none while there is room.
+        ensures full { OnErr result (tiny_len self.new ≡ tiny_capacity A.CAPACITY self.new) }
+        ensures place { PlaceRule A.CAPACITY (tiny_len self.new) self.old self.new }
+        ensures slots { TinySlotRule A.Item.is_default self.old self.new }
+        ensures capacity { tiny_capacity A.CAPACITY self.old ≤ tiny_capacity A.CAPACITY self.new }
+        ensures same_room { KeepsRoom A.CAPACITY (tiny_len self.new) self.old self.new }
+        ensures grown { GrowsInSteps A.CAPACITY self.old self.new }
+        ensures fits { tiny_len self.new ≤ tiny_capacity A.CAPACITY self.new }
+        ensures no_shorter { OnErr result (tiny_len self.old ≤ tiny_len self.new) }
+
+        // After an item it may be called again.
+        ensures goes_on { IfErr result (λ refused. FusedCan I.IntoIter.can_next refused.rest) }
+
+        // The same of items that are known, as those of a `Vec`, a range or a slice. Where there is room for them it
+        // allocates nothing.
+        ensures known { (xs : List A.Item) → IntoIterYields I.into_iter_gives I.IntoIter.next_gives replacement xs
+            → PutsBetween (tiny_capacity A.CAPACITY self.old) (before (tiny_items self.old) (R.start_bound range)) xs
+            (after (tiny_items self.old) (R.end_bound range)) result (tiny_items self.new) }
+    {
+        let splice = self.splice(range, replacement);
+        splice.finish()
+    }
+
+    /// Puts copies of the slice's items in the place of the range, whose items it drops. Allocates at most once, before
+    /// anything changes, and fails if the allocator refuses.
+    pub fn replace_range<R: RangeBounds<usize>>(
+        &mut self,
+        range: R,
+        replacement: &[A::Item],
+    ) -> Result<(), AllocError>
+    where
+        A::Item: Copy,
+        requires not_exhausted { R.has_bounds range }
+        requires in_list { IsRangeOf (tiny_items self.old) (R.start_bound range) (R.end_bound range) }
+        ensures items { OnOk result (tiny_items self.new
+            ≡ before (tiny_items self.old) (R.start_bound range) ++ replacement.now
+            ++ after (tiny_items self.old) (R.end_bound range)) }
+        ensures place { OnOk result (PlaceRule A.CAPACITY (tiny_len self.new) self.old self.new) }
+        ensures slots { OnOk result (TinySlotRule A.Item.is_default self.old self.new) }
+        ensures capacity { tiny_capacity A.CAPACITY self.old ≤ tiny_capacity A.CAPACITY self.new }
+        ensures grown { OnOk result (GrowsFor A.CAPACITY (tiny_len self.new) self.old self.new) }
+        ensures same_room { OnOk result (KeepsRoom A.CAPACITY (tiny_len self.new) self.old self.new) }
+        ensures fits { tiny_len self.new ≤ tiny_capacity A.CAPACITY self.new }
+
+        // Where there is room it allocates nothing.
+        ensures succeeds { length (before (tiny_items self.old) (R.start_bound range)) + length replacement.now
+            + length (after (tiny_items self.old) (R.end_bound range)) ≤ tiny_capacity A.CAPACITY self.old
+            → IsOk result }
+        ensures refused { OnErr result (Unchanged self.old self.new) }
+    {
+        let part = resolve_range(range, self.len());
+        let more = replacement.len().saturating_sub(part.end - part.start);
+        self.reserve(more)?;
+        let _all_fit = self.splice_all(part, replacement.iter().copied());
+        Ok(())
+    }
 }
 
 impl<'a, A: Array, I: Iterator<Item = A::Item>> Iterator for TinyVecSplice<'a, A, Fuse<I>> {
-    ghost use Rattle.tinyvec.specs.TinySplice.{splice_len, splice_replacement, SpliceCanStep, SpliceCanNext, SpliceSteps};
+    ghost use Rattle.tinyvec.specs.TinyVecSplice.{splice_len, splice_replacement, SpliceCanStep, SpliceCanNext, SpliceSteps};
 
     type Item = A::Item;
 
@@ -112,7 +193,7 @@ impl<'a, A: Array, I: Iterator<Item = A::Item>> Iterator for TinyVecSplice<'a, A
 
 impl<'a, A: Array, I: DoubleEndedIterator<Item = A::Item>> DoubleEndedIterator
     for TinyVecSplice<'a, A, Fuse<I>> {
-    ghost use Rattle.tinyvec.specs.TinySplice.{splice_len, splice_replacement, SpliceCanStep, SpliceCanNext, SpliceStepsBack};
+    ghost use Rattle.tinyvec.specs.TinyVecSplice.{splice_len, splice_replacement, SpliceCanStep, SpliceCanNext, SpliceStepsBack};
 
     ghost can_next_back = { SpliceCanNext I.can_next_back };
 
@@ -144,11 +225,200 @@ impl<'a, A: Array, I: Drop> fmt::Debug for TinyVecSplice<'a, A, I>
 where
     A::Item: fmt::Debug,
 {
-    ghost use Rattle.tinyvec.specs.TinySplice.{splice_left};
+    ghost use Rattle.tinyvec.specs.TinyVecSplice.{splice_left};
 
     ghost debug_output = { λ s. debug_variant (codes "TinyVecSplice") (debug_list A.Item.debug_output (splice_left s)) };
 
     fn fmt<W: fmt::Write>(&self, f: &mut fmt::Formatter<W>) -> fmt::Result {
         write_named(f, "TinyVecSplice", self.gap.left(self.vec.as_slice()))
     }
+}
+
+impl<'a, A: Array, I: Iterator<Item = A::Item>> TinyVecSplice<'a, A, Fuse<I>> {
+    ghost use Rattle.tinyvec.specs.TinyVecSplice.{splice_view, splice_front, splice_back, splice_replacement, splice_vec, splice_touches, SpliceCanStep, SpliceCanNext};
+
+    /// The number of touches since `splice`. A touch takes the item of one slot, which may leave a default there, places
+    /// one item, swaps two slots or moves one item to the heap.
+    pub fn touches(&self) -> u128
+        ensures { result ≡ splice_touches self.now }
+    {
+        self.gap.touches()
+    }
+
+    /// Drops the removed items that are left, and pushes the rest of the replacement, item by item, between what was
+    /// placed from both ends. A list that outgrows its array moves to the heap. If the allocator refuses, returns the item
+    /// that found no room and the rest of the replacement.
+    pub fn finish(self) -> Result<(), SpliceRest<A::Item, Fuse<I>>>
+        requires can { SpliceCanNext I.can_next self }
+        requires finite { FusedFinite I.remaining (splice_replacement self) }
+        ensures finished { Finishes (fuse_steps I.next_gives) (tiny_capacity A.CAPACITY self.exit.0.now)
+            (splice_view self.entry) result (tiny_items self.exit.0.now) }
+
+        ensures grows { Grows A.Item.is_default A.CAPACITY (splice_vec self.entry) self.exit.0.now }
+        ensures no_shorter { OnErr result (tiny_len (splice_vec self.entry) ≤ tiny_len self.exit.0.now) }
+
+        // The returned replacement can be iterated further.
+        ensures goes_on { IfErr result (λ refused. FusedCan I.can_next refused.rest) }
+
+        // The same of a replacement that shows its items, and of one whose items are known, as those of a `Vec`, a range or a
+        // slice. Where there is room for them it allocates nothing.
+        ensures listed { (rest : I → List A.Item) → ShowsItems I.next_gives rest
+            → FinishesWith (fused_rest rest) (tiny_capacity A.CAPACITY self.exit.0.now)
+            (splice_view self.entry) result (tiny_items self.exit.0.now) }
+        ensures succeeds { (rest : I → List A.Item) → ShowsItems I.next_gives rest
+            → length (splice_front self.entry) + length (fused_rest rest (splice_replacement self.entry))
+            + length (splice_back self.entry) ≤ tiny_capacity A.CAPACITY (splice_vec self.entry) → IsOk result }
+        ensures known { (xs : List A.Item) → FusedYields I.next_gives (splice_replacement self.entry) xs
+            → PutsBetween (tiny_capacity A.CAPACITY (splice_vec self.entry))
+            (splice_front self.entry) xs (splice_back self.entry) result (tiny_items self.exit.0.now) }
+    {
+        let (finished, _touches) = self.finish_counted();
+        finished
+    }
+
+    /// `finish`, and the number of touches since `splice`.
+    #[inline(always)]
+    pub fn finish_counted(self) -> (Result<(), SpliceRest<A::Item, Fuse<I>>>, u128)
+        requires can { SpliceCanNext I.can_next self }
+        requires finite { FusedFinite I.remaining (splice_replacement self) }
+
+        // Where the list got no longer the number is exact: two touches for each item placed in a filled gap, and in a
+        // closed one a further touch for each slot after those.
+        ensures filled { tiny_len self.exit.0.now ≡ tiny_len (splice_vec self.entry)
+            → result.1 ≡ splice_touches self.entry
+            + 2 * finish_placed (splice_view self.entry) (tiny_items self.exit.0.now) }
+        ensures closed { tiny_len self.exit.0.now < tiny_len (splice_vec self.entry)
+            → result.1 ≡ splice_touches self.entry
+            + finish_placed (splice_view self.entry) (tiny_items self.exit.0.now)
+            + (tiny_len (splice_vec self.entry) - length (splice_front self.entry)) }
+        ensures at_least { splice_touches self.entry + finish_placed (splice_view self.entry) (tiny_items self.exit.0.now)
+            ≤ result.1 }
+        ensures at_most { result.1 ≤ splice_touches self.entry
+            + finish_bound (splice_view self.entry) (tiny_len (splice_vec self.entry)) (tiny_items self.exit.0.now)
+            + items_moved A.CAPACITY (is_inline (splice_vec self.entry)) (is_inline self.exit.0.now) }
+        ensures finished { Finishes (fuse_steps I.next_gives) (tiny_capacity A.CAPACITY self.exit.0.now)
+            (splice_view self.entry) result.0 (tiny_items self.exit.0.now) }
+        ensures grows { Grows A.Item.is_default A.CAPACITY (splice_vec self.entry) self.exit.0.now }
+        ensures no_shorter { OnErr result.0 (tiny_len (splice_vec self.entry) ≤ tiny_len self.exit.0.now) }
+        ensures goes_on { IfErr result.0 (λ refused. FusedCan I.can_next refused.rest) }
+        ensures listed { (rest : I → List A.Item) → ShowsItems I.next_gives rest
+            → FinishesWith (fused_rest rest) (tiny_capacity A.CAPACITY self.exit.0.now)
+            (splice_view self.entry) result.0 (tiny_items self.exit.0.now) }
+        ensures succeeds { (rest : I → List A.Item) → ShowsItems I.next_gives rest
+            → length (splice_front self.entry) + length (fused_rest rest (splice_replacement self.entry))
+            + length (splice_back self.entry) ≤ tiny_capacity A.CAPACITY (splice_vec self.entry) → IsOk result.0 }
+    {
+        let TinyVecSplice {
+            vec,
+            gap,
+            replacement,
+            unspent: _,
+        } = self;
+        finish_in(vec, gap, replacement)
+    }
+
+    /// Drops the removed items that are left, and returns the rest of the replacement, which may be infinite.
+    pub fn stop(self) -> Fuse<I>
+        requires { SpliceCanStep self }
+        ensures rest { result ≡ splice_replacement self.entry }
+        ensures items { tiny_items self.exit.0.now ≡ splice_front self.entry ++ splice_back self.entry }
+        ensures frame { StaysInPlace A.Item.is_default A.CAPACITY (splice_vec self.entry) self.exit.0.now }
+    {
+        let TinyVecSplice {
+            vec,
+            gap: mut unfilled,
+            replacement,
+            unspent: _,
+        } = self;
+        close_in(vec, &mut unfilled);
+        replacement
+    }
+}
+
+impl<A: Array> CanSplice for TinyVec<A> {
+    ghost use Rattle.tinyvec.specs.TinyVec.{is_inline};
+    ghost use Rattle.tinyvec.specs.FrameLaws.{SameFrame-refl};
+    ghost use Rattle.tinyvec.specs.SpliceLaws.{frame_grows, frame_moved, stays_grows, stays};
+    ghost use Rattle.tinyvec.specs.Room.{Grows};
+
+    ghost moved = { λ v w. items_moved A.CAPACITY (is_inline v) (is_inline w) };
+
+    ghost must_end = { true };
+
+    ghost Grown = { Grows A.Item.is_default A.CAPACITY };
+
+    #[inline]
+    fn len(&self) -> usize {
+        self.len()
+    }
+
+    fn extend_counted<I: Iterator<Item = A::Item>>(
+        &mut self,
+        iter: I,
+    ) -> (Result<(), SpliceRest<A::Item, I>>, usize) {
+        let was_inline = self.is_inline();
+        let appended = match self.extend(iter) {
+            Ok(()) => Ok(()),
+            Err(NoRoom { item, rest }) => Err(SpliceRest { item, rest }),
+        };
+        (appended, count_move::<A>(was_inline, self.is_inline()))
+    }
+
+    ghost kept_same = { SameFrame-refl };
+
+    ghost kept_room = { λ v w k. k.3 A.CAPACITY };
+
+    ghost kept_grown = { frame_grows A.Item.is_default A.CAPACITY };
+
+    ghost kept_moved = { frame_moved A.CAPACITY };
+
+    ghost cut_grown = { stays_grows A.Item.is_default A.CAPACITY };
+
+    ghost grown_room = { λ v w h. h.capacity };
+
+    ghost grown_in_place = { stays A.Item.is_default A.CAPACITY };
+}
+
+// The number of items that moved to the heap.
+#[inline]
+fn count_move<A: Array>(was_inline: bool, is_inline: bool) -> usize
+    ensures { result ≡ items_moved A.CAPACITY was_inline is_inline }
+{
+    if was_inline && !is_inline {
+        A::CAPACITY
+    } else {
+        0
+    }
+}
+
+impl<A: Array> CanCut for TinyVec<A> {
+    ghost use Rattle.tinyvec.specs.TinyVec.{tiny_items, tiny_capacity, SameFrame, StaysInPlace};
+    ghost use Rattle.tinyvec.specs.Lends.{tiny_with_items};
+    ghost use Rattle.tinyvec.specs.SpliceLaws.{tiny_written, frame_stays};
+
+    type Item = A::Item;
+
+    ghost items = { tiny_items };
+
+    ghost with_items = { tiny_with_items };
+
+    ghost room = { tiny_capacity A.CAPACITY };
+
+    ghost Kept = { SameFrame };
+
+    ghost Cut = { StaysInPlace A.Item.is_default A.CAPACITY };
+
+    #[inline]
+    fn as_mut_slice(&mut self) -> &mut [A::Item] {
+        self.as_mut_slice()
+    }
+
+    #[inline]
+    fn truncate(&mut self, n: usize) {
+        self.truncate(n);
+    }
+
+    ghost written = { tiny_written };
+
+    ghost kept_cut = { frame_stays A.Item.is_default A.CAPACITY };
 }

@@ -1,37 +1,32 @@
 //! `TinyVec`.
-ghost use Rattle.std.specs.Prelude.{◌≡◌, ◌+◌, ◌<◌, ◌≤◌, ◌==◌, not, ◌++◌, length, slice_index_or, slice_set, slice_range};
-ghost use Rattle.std.specs.List.{remove_range};
-ghost use Rattle.tinyvec.specs.Tiny.{tiny_items, tiny_len, tiny_spare, is_inline, tiny_capacity, IsInline, SameFrame};
+ghost use Rattle.std.specs.Prelude.{◌≡◌, ◌+◌, ◌<◌, ◌≤◌, ◌==◌, not, ◌++◌, length, slice_index_or, slice_set, slice_range, ◌-◌, ◌↔◌, ℕ, All, max, [], take, drop, IsOk, IsErr, IfOk, IfErr, OnErr, vec_capacity, ◌^◌, List};
+ghost use Rattle.std.specs.List.{remove_range, AllZip};
+ghost use Rattle.tinyvec.specs.TinyVec.{tiny_items, tiny_len, tiny_spare, is_inline, tiny_capacity, IsInline, SameFrame, tiny_allocator};
+ghost use Rattle.tinyvec_slots.specs.Slots.{AreDefaults, items, spare};
+ghost use Rattle.tinyvec_slots.specs.Clones.{RefusedAt, ClonesAreEqual};
+ghost use Rattle.std.specs.Borrow.{sem};
+ghost use Rattle.std.specs.Slice.Iter.{iter_rest, iter_mut_rest, iter_mut_steps, iter_mut_steps_back};
+ghost use Rattle.std.specs.Iterator.Adapters.{IterYieldsInOrder, IterYieldsInReverse};
+ghost use Rattle.std.specs.Iterator.Runs.{EveryRun, ItemsMapTo, ItemsMapToReversed};
+ghost use Rattle.tinyvec.specs.Lends.{tiny_with_items};
 
+mod capacity;
 mod clones;
-mod comparing;
-mod cutting;
-mod draining;
 mod edits;
-mod ends;
-mod filling;
+mod extending;
 mod filters;
-mod growing;
-mod iterating;
-mod joining;
-mod lending;
-mod making;
-mod moving;
-mod printing;
-mod reserving;
-mod resizing;
-mod writing;
+mod traits;
 
-use std::alloc::Global;
+use std::alloc::{AllocError, Global};
 use std::convert::AsSlice;
-use std::mem;
+use std::{mem, slice};
 use tinyvec_array::{Array, ArrayVec};
 use tinyvec_slots::move_to_end;
 
-/// A list in an array, or on the heap once it needed more room than the array has.
+/// A list that is inline, in an array, and moves to the heap once it needs more room than the array has.
 #[derive(Drop)]
 pub enum TinyVec<A: Array> {
-    /// In an array. The allocator is asked once the list has to move.
+    /// In an array. The allocator is for the move to the heap.
     Inline(ArrayVec<A>, Global),
     /// On the heap.
     Heap(Vec<A::Item>),
@@ -45,7 +40,7 @@ impl<A: Array> TinyVec<A> {
         ensures slots { IsInline self.now → tiny_len self.now + length (tiny_spare self.now) ≡ A.CAPACITY }
     {
         match self {
-            // The minimum is the length. By it the compiler knows the most that it is, and keeps the two places apart.
+            // Equal to the length. The minimum shows LLVM an upper bound, which keeps the two variants apart.
             TinyVec::Inline(v, _) => v.len().min(v.capacity()),
             TinyVec::Heap(v) => v.len(),
         }
@@ -55,10 +50,14 @@ impl<A: Array> TinyVec<A> {
     pub fn is_empty(&self) -> bool
         ensures { result ≡ (tiny_len self.now == 0) }
     {
-        self.len() == 0
+        // The place is looked at alone, and no length of the other.
+        match self {
+            TinyVec::Inline(v, _) => v.is_empty(),
+            TinyVec::Heap(v) => v.is_empty(),
+        }
     }
 
-    /// How many items fit where the list lies.
+    /// The number of items that fit without a further allocation.
     pub fn capacity(&self) -> usize
         ensures value { result ≡ tiny_capacity A.CAPACITY self.now }
         ensures fits { tiny_len self.now ≤ result }
@@ -69,7 +68,7 @@ impl<A: Array> TinyVec<A> {
         }
     }
 
-    /// Whether the list lies in the array.
+    /// Whether the list is in the array.
     pub fn is_inline(&self) -> bool
         ensures { result ≡ is_inline self.now }
     {
@@ -79,7 +78,7 @@ impl<A: Array> TinyVec<A> {
         }
     }
 
-    /// Whether the list lies on the heap.
+    /// Whether the list is on the heap.
     pub fn is_heap(&self) -> bool
         ensures { result ≡ not (is_inline self.now) }
     {
@@ -96,9 +95,9 @@ impl<A: Array> TinyVec<A> {
         }
     }
 
-    // Moves the items from `start` up to `end` behind the others.
+    // Moves the items from `start` up to `end` to the end of the list.
     #[inline(always)]
-    pub(crate) fn items_to_end(&mut self, start: usize, end: usize)
+    pub(crate) fn move_to_end(&mut self, start: usize, end: usize)
         requires start_le_end { start ≤ end }
         requires in_bounds { end ≤ tiny_len self.old }
         ensures items { tiny_items self.new
@@ -118,6 +117,170 @@ impl<A: Array> TinyVec<A> {
     {
         mem::take(&mut self.as_mut_slice()[i])
     }
+
+    /// An empty list, inline.
+    pub fn new(alloc: Global) -> Self
+        ensures items { tiny_items result ≡ [] }
+        ensures spare { AreDefaults A.Item.is_default A.CAPACITY (tiny_spare result) }
+        ensures place { IsInline result }
+    {
+        TinyVec::Inline(ArrayVec::new(), alloc)
+    }
+
+    /// An empty list with room for `n` items, inline where the array has it. Otherwise allocates it.
+    pub fn with_capacity(alloc: Global, n: usize) -> Result<Self, AllocError>
+        ensures items { IfOk result (λ v. tiny_items v ≡ []) }
+        ensures spare { IfOk result (λ v. IsInline v → AreDefaults A.Item.is_default A.CAPACITY (tiny_spare v)) }
+        ensures place { IfOk result (λ v. IsInline v ↔ (n ≤ A.CAPACITY)) }
+        ensures room { IfOk result (λ v. n ≤ tiny_capacity A.CAPACITY v) }
+        ensures exact { IfOk result (λ v. tiny_capacity A.CAPACITY v ≡ max n A.CAPACITY) }
+        ensures succeeds { n ≤ A.CAPACITY → IsOk result }
+    {
+        if n <= A::CAPACITY {
+            return Ok(Self::new(alloc));
+        }
+        let heap = Vec::with_capacity(alloc, n)?;
+        Ok(TinyVec::Heap(heap))
+    }
+
+    /// A list of `n` defaults, inline where they fit the array. Otherwise room for all is allocated once.
+    pub fn with_initial_len(alloc: Global, n: usize) -> Result<Self, AllocError>
+        ensures items { IfOk result (λ v. AreDefaults A.Item.is_default n (tiny_items v)) }
+        ensures room { IfOk result (λ v. tiny_capacity A.CAPACITY v ≡ max n A.CAPACITY) }
+        ensures spare { IfOk result (λ v. IsInline v → AreDefaults A.Item.is_default (A.CAPACITY - n) (tiny_spare v)) }
+        ensures place { IfOk result (λ v. IsInline v ↔ (n ≤ A.CAPACITY)) }
+        ensures succeeds { n ≤ A.CAPACITY → IsOk result }
+    {
+        if n <= A::CAPACITY {
+            return Ok(Self::from_array_len(alloc, A::default(), n));
+        }
+        let mut heap = Vec::with_capacity(alloc, n)?;
+        push_defaults(&mut heap, n);
+        Ok(TinyVec::Heap(heap))
+    }
+
+    /// A list of the whole array, inline.
+    pub fn from_array(alloc: Global, array: A) -> Self
+        ensures items { tiny_items result ≡ A.slots array }
+        ensures spare { tiny_spare result ≡ [] }
+        ensures place { IsInline result }
+    {
+        TinyVec::Inline(ArrayVec::from_array(array), alloc)
+    }
+
+    /// The list of an `ArrayVec`, inline, with its spare slots.
+    pub fn from_array_vec(alloc: Global, vec: ArrayVec<A>) -> Self
+        ensures items { tiny_items result ≡ items vec }
+        ensures spare { tiny_spare result ≡ spare vec }
+        ensures place { IsInline result }
+    {
+        TinyVec::Inline(vec, alloc)
+    }
+
+    /// A list of the first `len` slots of the array, inline. The others are its spare slots.
+    pub fn from_array_len(alloc: Global, array: A, len: usize) -> Self
+        requires { len ≤ A.CAPACITY }
+        ensures items { tiny_items result ≡ take len (A.slots array) }
+        ensures spare { tiny_spare result ≡ drop len (A.slots array) }
+        ensures place { IsInline result }
+    {
+        TinyVec::Inline(ArrayVec::from_array_len(array, len), alloc)
+    }
+
+    /// A list of the first `len` slots of the array, inline. An array with fewer slots is returned.
+    // Inlined, since LLVM takes minutes over a function that returns one of two large values.
+    #[inline(always)]
+    pub fn try_from_array_len(alloc: Global, array: A, len: usize) -> Result<Self, A>
+        ensures refused { IsErr result ↔ (A.CAPACITY < len) }
+        ensures items { IfOk result (λ v. tiny_items v ≡ take len (A.slots array)) }
+        ensures spare { IfOk result (λ v. tiny_spare v ≡ drop len (A.slots array)) }
+        ensures place { IfOk result IsInline }
+        ensures value_returned { IfErr result (λ a. a ≡ array) }
+    {
+        if len > A::CAPACITY {
+            return Err(array);
+        }
+        Ok(Self::from_array_len(alloc, array, len))
+    }
+
+    /// A list of clones of the slice's items, inline where they fit the array. Otherwise room for all is allocated once,
+    /// before any is cloned.
+    pub fn from_slice(alloc: Global, slice: &[A::Item]) -> Result<Self, AllocError>
+    where
+        A::Item: Clone,
+        ensures items { IfOk result (λ v. AllZip A.Item.is_clone slice.now (tiny_items v)) }
+        ensures len { IfOk result (λ v. tiny_len v ≡ length slice.now) }
+        ensures if_clones_equal { IfOk result (λ v. ClonesAreEqual A.Item.is_clone → tiny_items v ≡ slice.now) }
+        ensures spare { IfOk result (λ v. IsInline v
+            → AreDefaults A.Item.is_default (A.CAPACITY - length slice.now) (tiny_spare v)) }
+        ensures place { IfOk result (λ v. IsInline v ↔ (length slice.now ≤ A.CAPACITY)) }
+        ensures room { IfOk result (λ v. tiny_capacity A.CAPACITY v ≡ max (length slice.now) A.CAPACITY) }
+        ensures refused { OnErr result (length slice.now ≤ A.CAPACITY
+            → (j : ℕ) × RefusedAt A.Item.is_infallible slice.now j) }
+        ensures succeeds { length slice.now ≤ A.CAPACITY → All A.Item.is_infallible slice.now → IsOk result }
+    {
+        let mut vec = Self::with_capacity(alloc, slice.len())?;
+        vec.extend_reserved(slice)?;
+        Ok(vec)
+    }
+
+    ghost use Rattle.tinyvec.specs.Lends.{lends_items};
+
+    /// The items, for writing.
+    pub fn as_mut_slice(&mut self) -> &mut [A::Item]
+        ensures* writes_back { sem 𝓛 (lends_items A.row A.Item.row A.Array A.Item.Default self.entry result) }
+        ensures value { result.now ≡ tiny_items self.old }
+    {
+        match self {
+            TinyVec::Inline(v, _) => v.as_mut_slice(),
+            TinyVec::Heap(v) => v.as_mut_slice(),
+        }
+    }
+
+    ghost use Rattle.tinyvec.specs.IterMut.{lends_iter};
+
+    /// Iterates over the items, in order or from the back.
+    pub fn iter(&self) -> slice::Iter<'_, A::Item>
+        ensures rest { iter_rest result ≡ tiny_items self.now }
+        ensures len { length (iter_rest result) ≡ tiny_len self.now }
+        ensures bound { length (iter_rest result) < 2 ^ 64 }
+        ensures runs { IterYieldsInOrder A.Item }
+        ensures runs_back { IterYieldsInReverse A.Item }
+    {
+        self.as_slice().iter()
+    }
+
+    /// Iterates over the items for writing, in order or from the back. After a loop over it a proof knows the length, the
+    /// spare slots and the place, and after one over `as_mut_slice().iter_mut()` the items too.
+    pub fn iter_mut(&mut self) -> slice::IterMut<'_, A::Item>
+        ensures* writes_back { sem 𝓛 (lends_iter A.row A.Item.row A.Array A.Item.Default self.entry result) }
+        ensures rest { iter_mut_rest result ≡ tiny_items self.old }
+        ensures len { length (iter_mut_rest result) ≡ tiny_len self.old }
+        ensures bound { length (iter_mut_rest result) < 2 ^ 64 }
+
+        // No write changes the length.
+        ensures keeps_len { (ws : List A.Item) → tiny_len (tiny_with_items self.old ws) ≡ tiny_len self.old }
+
+        // It lends the items in order, or from the back.
+        ensures runs { EveryRun (iter_mut_steps {A = A.Item}) (λ p. ItemsMapTo p (λ x. x.now) (iter_mut_rest p.from)) }
+        ensures runs_back { EveryRun (iter_mut_steps_back {A = A.Item})
+            (λ p. ItemsMapToReversed p (λ x. x.now) (iter_mut_rest p.from)) }
+    {
+        match self {
+            TinyVec::Inline(v, _) => v.iter_mut(),
+            TinyVec::Heap(v) => v.as_mut_slice().iter_mut(),
+        }
+    }
+
+    /// The allocator, which a list that moves to the heap allocates from.
+    pub fn allocator(&self) -> &Global
+        ensures { result.now ≡ tiny_allocator self.now }
+    {
+        match self {
+            TinyVec::Inline(_, alloc) => alloc,
+            TinyVec::Heap(v) => v.allocator(),
+        }
+    }
 }
 
 impl<A: Array> AsSlice<A::Item> for TinyVec<A> {
@@ -125,5 +288,17 @@ impl<A: Array> AsSlice<A::Item> for TinyVec<A> {
 
     fn as_slice(&self) -> &[A::Item] {
         self.as_slice()
+    }
+}
+
+// Appends `n` defaults to an empty `Vec` that has room.
+fn push_defaults<T: Default>(heap: &mut Vec<T>, n: usize)
+    requires empty { heap.old.items ≡ [] }
+    requires room { n ≤ vec_capacity heap.old }
+    ensures items { AreDefaults T.is_default n heap.new.items }
+    ensures capacity { vec_capacity heap.new ≡ vec_capacity heap.old }
+{
+    for _i in 0..n {
+        heap.push_reserved(T::default());
     }
 }

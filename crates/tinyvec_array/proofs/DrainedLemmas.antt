@@ -1,7 +1,7 @@
 -- What a drain left in its vector, and what stands in one whose list was moved out.
 use Rattle.std.proofs.Common.{◌≡◌, ℕ, ◌-◌, List, ◌++◌, length, replicate, ap, ◌∙◌, arith}
 use Rattle.std.specs.declared.ops.Bound.{Bound}
-use Rattle.tinyvec_slots.specs.Slots.{Slots, AreDefaults, Frees, SlotRule, items_len, all_slots, items, spare, split_at, with_items}
+use Rattle.tinyvec_slots.specs.Slots.{Slots, AreDefaults, Vacates, SlotRule, items_len, all_slots, items, spare, split_at, with_items}
 use Rattle.tinyvec_slots.specs.Cut.{IsRangeOf, range_start, range_end, before, removed, after}
 use Rattle.tinyvec_slots.proofs.Lists.{length-remove_range, length-slice_range}
 use Rattle.tinyvec_slots.proofs.SlotsLemmas.{slots_are, items-with_items, spare-with_items, slots_freed, defaults_are}
@@ -17,7 +17,7 @@ module _ {A T : Type 0} (D : T → Type 0) (first last : ArrayVecDrain A T) (old
   pub drained_items : items new ≡ before (items old) start ++ after (items old) end
   drained_items = left.0 ∙ keeps.1 ∙ kept
 
-  pub drained_frees : Frees D (range_end end (items_len old) - range_start start) old new
+  pub drained_frees : Vacates D (range_end end (items_len old) - range_start start) old new
   drained_frees =
       let i = range_start start in
       let j = range_end end (items_len old) in
@@ -33,7 +33,7 @@ module _ {A T : Type 0} (D : T → Type 0) (first last : ArrayVecDrain A T) (old
 
 -- the list was moved out, and `left` in its slots
 pub moved_out : {T : Type 0} (D : T → Type 0) (old new : Slots T) (left : List T) → AreDefaults D (items_len old) left
-    → new ≡ split_at 0 (all_slots (with_items old left)) → Frees D (items_len old) old new
+    → new ≡ split_at 0 (all_slots (with_items old left)) → Vacates D (items_len old) old new
 moved_out D old new left defaults is = (
   left,
   defaults,

@@ -1,6 +1,6 @@
 pub mod DrainLemmas
 pub mod DrainedLemmas
-pub mod IteratorLemmas
-pub mod IteratingLemmas
+pub mod IntoIterLemmas
+pub mod IterMutLemmas
 pub mod SpliceLemmas
 mod ArrayWalks

@@ -3,7 +3,7 @@ use Rattle.std.proofs.Common.{List, Option, refl, ◌∙◌}
 use Rattle.std.specs.declared.iter.Fuse.{Fuse}
 use Rattle.tinyvec_slots.specs.Ends.{End, TakesFromEnds, Asks}
 use Rattle.tinyvec_slots.specs.Fused.{HasTwoEnds}
-use Rattle.tinyvec_slots.specs.Splicing.{SplicedByWord}
+use Rattle.tinyvec_slots.specs.SplicedByWord.{SplicedByWord}
 use Rattle.tinyvec_slots.proofs.SplicingLemmas as all
 use Rattle.tinyvec_array.specs.Splice.{splice_view, splice_left, SpliceKeeps, SpliceSteps, SpliceStepsBack}
 use Rattle.tinyvec_array.specs.declared.splice.ArrayVecSplice.{ArrayVecSplice}

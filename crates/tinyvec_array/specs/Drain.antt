@@ -2,7 +2,7 @@
 use Rattle.std.specs.Prelude.{◌≡◌, ℕ, ◌-◌, ◌≤◌, List, ◌++◌, length, drop, slice_range, Option}
 use Rattle.std.specs.Borrow.{GName}
 use Rattle.tinyvec_slots.specs.Slots.{Slots, AreDefaults, items, spare}
-use Rattle.tinyvec_slots.specs.Drains.{Steps, StepsBack, TakesAnyWord}
+use Rattle.tinyvec_slots.specs.AnyDrain.{Steps, StepsBack, TakesAnyWord}
 use Rattle.tinyvec_array.specs.declared.drain.ArrayVecDrain.{ArrayVecDrain}
 
 module _ {A T : Type 0} where
@@ -25,8 +25,8 @@ module _ {A T : Type 0} where
   drain_spare d = drop d.count (spare d.vec.now)
 
   -- the ghost name of the reference to the vector
-  abbrev pub drain_lender : ArrayVecDrain A T → GName
-  drain_lender d = d.vec.ghost_name
+  abbrev pub drain_owner : ArrayVecDrain A T → GName
+  drain_owner d = d.vec.ghost_name
 
   -- the remaining items lie among the vacated slots
   abbrev pub DrainCanStep : ArrayVecDrain A T → Type 0
@@ -39,7 +39,7 @@ module _ {A T : Type 0} where
 
   -- old and new borrow the same vector, and leave it the same
   abbrev pub DrainKeeps : ArrayVecDrain A T → ArrayVecDrain A T → Type 0
-  DrainKeeps old new = (drain_lender new ≡ drain_lender old) × (drain_kept new ≡ drain_kept old)
+  DrainKeeps old new = (drain_owner new ≡ drain_owner old) × (drain_kept new ≡ drain_kept old)
       × (drain_count new ≡ drain_count old) × (drain_spare new ≡ drain_spare old)
       × (DrainCanStep old → DrainCanStep new)
 

@@ -6,7 +6,7 @@ use Rattle.std.specs.Iterator.Adapters.{fuse_done}
 use Rattle.tinyvec_slots.specs.Fused.{FusedCan}
 use Rattle.tinyvec_slots.specs.Gap.{gap_len, gap_view, GapCanStep}
 use Rattle.tinyvec_slots.specs.Slots.{Slots, items, spare, items_len}
-use Rattle.tinyvec_slots.specs.Splices.{SpliceView, Splices, SplicesBack}
+use Rattle.tinyvec_slots.specs.AnySplice.{SpliceView, Splices, SplicesBack}
 use Rattle.tinyvec_array.specs.declared.splice.ArrayVecSplice.{ArrayVecSplice}
 
 module _ {A I T : Type 0} where

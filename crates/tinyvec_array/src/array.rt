@@ -4,7 +4,7 @@ ghost use Rattle.std.specs.Borrow.{Lends, sem, Array as SliceOf};
 
 /// A type that is a fixed number of slots and nothing else, as `[T; N]` is.
 pub trait Array: Drop {
-    /// What a slot holds. A vacated slot is given a default of it.
+    /// What a slot holds. Emptied slots hold defaults.
     type Item: Default + Drop;
 
     /// The number of slots.

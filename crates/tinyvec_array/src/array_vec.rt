@@ -1,33 +1,28 @@
 //! `ArrayVec`.
-ghost use Rattle.std.specs.Prelude.{◌≡◌, ◌<◌, ◌≤◌, ◌^◌, ◌==◌, length, List, slice_index_or, slice_set, slice_range, ◌++◌, ◌-◌, drop};
-ghost use Rattle.std.specs.List.{remove_range};
-ghost use Rattle.tinyvec_slots.specs.Slots.{items, spare, items_len, all_slots, split_at, AreDefaults};
+ghost use Rattle.std.specs.Prelude.{◌≡◌, ◌+◌, ◌<◌, ◌≤◌, ◌^◌, ◌==◌, length, List, slice_index_or, slice_set, slice_range, ◌++◌, ◌-◌, drop, ◌↔◌, [], ℕ, All, IfOk, IfErr, IsErr, IsOk};
+ghost use Rattle.std.specs.List.{remove_range, AllZip};
+ghost use Rattle.tinyvec_slots.specs.Slots.{items, spare, items_len, all_slots, split_at, AreDefaults, with_items};
+ghost use Rattle.tinyvec_slots.specs.Clones.{RefusedAt, ClonesAreEqual};
+ghost use Rattle.std.specs.Borrow.{sem};
+ghost use Rattle.std.specs.Slice.Iter.{iter_rest, iter_mut_rest, iter_mut_steps, iter_mut_steps_back};
+ghost use Rattle.std.specs.Iterator.Adapters.{IterYieldsInOrder, IterYieldsInReverse};
+ghost use Rattle.std.specs.Iterator.Runs.{EveryRun, ItemsMapTo, ItemsMapToReversed};
 
 mod clones;
-mod comparing;
-mod cutting;
-mod draining;
 mod edits;
-mod ends;
-mod filling;
+mod extending;
 mod filters;
-mod growing;
-mod iterating;
-mod joining;
-mod lending;
-mod making;
-mod printing;
-mod resizing;
-mod to_vec;
-mod writing;
+mod traits;
 
-use crate::Array;
-use crate::slots::{clear, slots_to_end, take_slot_behind};
+use crate::parts::part_of;
+use crate::slots::{fill_default_in, take_slot_behind};
+use crate::{Array, TryFromSliceError};
 use std::convert::AsSlice;
 use std::marker::Model;
+use std::slice;
+use tinyvec_slots::move_to_end_below;
 
-/// A list in an array. The slots behind the list are its spare slots: they hold values too, and the vacated ones hold
-/// defaults.
+/// A list in an array. The slots after the list are its spare slots: they hold values too, and vacated ones hold defaults.
 #[derive(Drop)]
 pub struct ArrayVec<A: Array> {
     len: usize,
@@ -62,7 +57,7 @@ impl<A: Array> ArrayVec<A> {
         ensures field { result ≡ self.now.len }
         ensures small { A.CAPACITY < 2 ^ 64 }
     {
-        // They tell the proof how many slots there are, and that their number is a `usize`.
+        // Tell the proof how many slots there are, and that their number is a `usize`.
         let _slots = self.array.as_slice();
         let _capacity = A::CAPACITY;
         self.len
@@ -73,9 +68,17 @@ impl<A: Array> ArrayVec<A> {
         ensures value { result ≡ A.CAPACITY }
         ensures fits { items_len self.now ≤ A.CAPACITY }
     {
-        // It tells the proof that the list fits.
+        // Tells the proof that the list fits.
         let _len = self.len();
         A::CAPACITY
+    }
+
+    /// How many more items fit.
+    pub fn remaining_capacity(&self) -> usize
+        ensures value { result ≡ A.CAPACITY - items_len self.now }
+        ensures sum { items_len self.now + result ≡ A.CAPACITY }
+    {
+        self.capacity() - self.len()
     }
 
     /// Whether the list has no items.
@@ -98,7 +101,7 @@ impl<A: Array> ArrayVec<A> {
         ensures { result.now ≡ items self.now }
     {
         let slots = self.array.as_slice();
-        // The minimum is the length. By it the compiler knows how often a loop over the items turns at the most.
+        // The minimum is the length. It bounds the trip count of a loop over the items.
         &slots[..self.len.min(slots.len())]
     }
 
@@ -131,13 +134,13 @@ impl<A: Array> ArrayVec<A> {
         ensures value { self.new ≡ split_at len (all_slots self.old) }
         ensures fits { items_len self.new ≡ len }
     {
-        // It tells the proof how many slots there are.
+        // Tells the proof how many slots there are.
         let _slots = self.array.as_slice();
         self.len = len;
     }
 
-    // Moves the items from `start` up to `end` behind the others.
-    pub(crate) fn items_to_end(&mut self, start: usize, end: usize)
+    // Moves the items from `start` up to `end` after the others.
+    pub(crate) fn move_to_end(&mut self, start: usize, end: usize)
         requires start_le_end { start ≤ end }
         requires in_bounds { end ≤ items_len self.old }
         ensures items { items self.new
@@ -145,10 +148,10 @@ impl<A: Array> ArrayVec<A> {
         ensures spare { spare self.new ≡ spare self.old }
     {
         let len = self.len();
-        slots_to_end(&mut self.array, start, end, len);
+        move_to_end_below(self.array.as_slice_mut(), start, end, len);
     }
 
-    // Takes what the spare slot at `i` holds, and leaves a default.
+    // Takes the value of the spare slot at `i`, and leaves a default.
     pub(crate) fn take_spare(&mut self, i: usize) -> A::Item
         requires { i < length (spare self.old) }
         ensures value { result ≡ slice_index_or (spare self.old) i result }
@@ -160,15 +163,163 @@ impl<A: Array> ArrayVec<A> {
     }
 
     // Writes defaults into the first `n` spare slots, or none where there are fewer.
-    pub(crate) fn reset_spare(&mut self, n: usize)
+    pub(crate) fn fill_spare_default(&mut self, n: usize)
         ensures items { items self.new ≡ items self.old }
         ensures spare { n ≤ length (spare self.old) → (ds : List A.Item) × AreDefaults A.Item.is_default n ds
             × (spare self.new ≡ ds ++ drop n (spare self.old)) }
     {
         let len = self.len();
         if n <= A::CAPACITY - len {
-            clear(&mut self.array, len, len + n);
+            fill_default_in(&mut self.array, len, len + n);
         }
+    }
+
+    /// An empty vector, all of whose slots hold defaults.
+    // Inlined, as those below, so that LLVM knows the length. A vector that a function makes, fills by a few pushes and
+    // returns is then built in the caller's place.
+    #[inline(always)]
+    pub fn new() -> Self
+        ensures border { result ≡ split_at 0 (all_slots result) }
+        ensures items { items result ≡ [] }
+        ensures spare { AreDefaults A.Item.is_default A.CAPACITY (spare result) }
+        ensures fits { items_len result ≤ A.CAPACITY }
+    {
+        ArrayVec {
+            len: 0,
+            array: A::default(),
+        }
+    }
+
+    /// A full vector, whose list is the whole array.
+    #[inline(always)]
+    pub fn from_array(array: A) -> Self
+        ensures value { result ≡ split_at A.CAPACITY (A.slots array) }
+        ensures items { items result ≡ A.slots array }
+        ensures spare { spare result ≡ [] }
+    {
+        let _slots = array.as_slice();
+        ArrayVec {
+            len: A::CAPACITY,
+            array,
+        }
+    }
+
+    /// A vector whose list is the first `len` slots of the array. The others are its spare slots.
+    #[inline(always)]
+    pub fn from_array_len(array: A, len: usize) -> Self
+        requires { len ≤ A.CAPACITY }
+        ensures { result ≡ split_at len (A.slots array) }
+    {
+        ArrayVec { len, array }
+    }
+
+    /// An empty vector, whose spare slots are the array.
+    #[inline(always)]
+    pub fn from_array_empty(array: A) -> Self
+        ensures value { result ≡ split_at 0 (A.slots array) }
+        ensures items { items result ≡ [] }
+        ensures spare { spare result ≡ A.slots array }
+    {
+        ArrayVec { len: 0, array }
+    }
+
+    /// A vector whose list is the first `len` slots of the array. Returns an array that has fewer slots.
+    // Inlined, since LLVM takes minutes over a function that returns one of two large values.
+    #[inline(always)]
+    pub fn try_from_array_len(array: A, len: usize) -> Result<Self, A>
+        ensures refused { IsErr result ↔ (A.CAPACITY < len) }
+        ensures value { IfOk result (λ v. v ≡ split_at len (A.slots array)) }
+        ensures value_returned { IfErr result (λ a. a ≡ array) }
+    {
+        if len > A::CAPACITY {
+            return Err(array);
+        }
+        Ok(Self::from_array_len(array, len))
+    }
+
+    /// A vector of clones of the slice's items. Only clones allocate.
+    pub fn try_from_slice(slice: &[A::Item]) -> Result<Self, TryFromSliceError>
+    where
+        A::Item: Clone,
+        ensures items { IfOk result (λ v. AllZip A.Item.is_clone slice.now (items v)) }
+        ensures len { IfOk result (λ v. items_len v ≡ length slice.now) }
+        ensures if_clones_equal { IfOk result (λ v. ClonesAreEqual A.Item.is_clone → items v ≡ slice.now) }
+        ensures spare { IfOk result (λ v. AreDefaults A.Item.is_default (A.CAPACITY - length slice.now) (spare v)) }
+        ensures too_long { (result ≡ Err TryFromSliceError.TooLong) ↔ (A.CAPACITY < length slice.now) }
+        ensures memory { result ≡ Err TryFromSliceError.Memory → (j : ℕ) × RefusedAt A.Item.is_infallible slice.now j }
+        ensures succeeds { length slice.now ≤ A.CAPACITY → All A.Item.is_infallible slice.now → IsOk result }
+    {
+        if slice.len() > A::CAPACITY {
+            return Err(TryFromSliceError::TooLong);
+        }
+        let mut vec = Self::new();
+        match vec.extend_from_slice(slice) {
+            Ok(()) => Ok(vec),
+            Err(_) => Err(TryFromSliceError::Memory),
+        }
+    }
+
+    ghost use Rattle.tinyvec_array.specs.Lends.{lends_items, lends_inner, lends_spare};
+
+    /// The items, for writing.
+    pub fn as_mut_slice(&mut self) -> &mut [A::Item]
+        ensures* writes_back { sem 𝓛 (lends_items A.row A.Item.row A.Array A.Item.Default self.entry result) }
+        ensures value { result.now ≡ items self.old }
+    {
+        let len = self.len();
+        part_of(&mut self.array, 0, len)
+    }
+
+    /// The spare slots, for writing.
+    pub fn grab_spare_slice_mut(&mut self) -> &mut [A::Item]
+        ensures* writes_back { sem 𝓛 (lends_spare A.row A.Item.row A.Array A.Item.Default self.entry result) }
+        ensures value { result.now ≡ spare self.old }
+    {
+        let len = self.len();
+        part_of(&mut self.array, len, A::CAPACITY)
+    }
+
+    /// The array, spare slots too, for writing.
+    pub fn as_mut_inner(&mut self) -> &mut A
+        ensures* writes_back { sem 𝓛 (lends_inner A.row A.Item.row A.Array A.Item.Default self.entry result) }
+        ensures slots { A.slots result.now ≡ all_slots self.old }
+        ensures array { result.now ≡ A.of_slots (all_slots self.old) }
+    {
+        &mut self.array
+    }
+
+    ghost use Rattle.tinyvec_array.specs.IterMut.{lends_iter};
+
+    /// The items, in order or from the back.
+    pub fn iter(&self) -> slice::Iter<'_, A::Item>
+        ensures rest { iter_rest result ≡ items self.now }
+        ensures len { length (iter_rest result) ≡ items_len self.now }
+        ensures bound { length (iter_rest result) < 2 ^ 64 }
+        ensures runs { IterYieldsInOrder A.Item }
+        ensures runs_back { IterYieldsInReverse A.Item }
+    {
+        self.as_slice().iter()
+    }
+
+    /// The items for writing, in order or from the back. After a loop over this, a proof knows the length of the list
+    /// and the spare slots. After one over `as_mut_slice().iter_mut()`, it knows the items too.
+    pub fn iter_mut(&mut self) -> slice::IterMut<'_, A::Item>
+        ensures* writes_back { sem 𝓛 (lends_iter A.row A.Item.row A.Array A.Item.Default self.entry result) }
+        ensures rest { iter_mut_rest result ≡ items self.old }
+        ensures len { length (iter_mut_rest result) ≡ items_len self.old }
+        ensures bound { length (iter_mut_rest result) < 2 ^ 64 }
+
+        // Whatever is written, the list is as long as it was.
+        ensures keeps_len { (ws : List A.Item) → items_len (with_items self.old ws) ≡ items_len self.old }
+
+        // It lends the items in order, or from the back.
+        ensures runs { EveryRun (iter_mut_steps {A = A.Item}) (λ p. ItemsMapTo p (λ x. x.now) (iter_mut_rest p.from)) }
+        ensures runs_back { EveryRun (iter_mut_steps_back {A = A.Item})
+            (λ p. ItemsMapToReversed p (λ x. x.now) (iter_mut_rest p.from)) }
+    {
+        // For the proof: the list is within the slots.
+        let _len = self.len();
+        self.as_mut_slice().iter_mut()
     }
 }
 
@@ -179,5 +330,21 @@ impl<A: Array> AsSlice<A::Item> for ArrayVec<A> {
 
     fn as_slice(&self) -> &[A::Item] {
         self.as_slice()
+    }
+}
+
+impl<A: Array> Default for ArrayVec<A> {
+    ghost is_default = { λ v. (v ≡ split_at 0 (all_slots v)) × AreDefaults A.Item.is_default A.CAPACITY (all_slots v) };
+
+    fn default() -> Self {
+        Self::new()
+    }
+}
+
+impl<A: Array> From<A> for ArrayVec<A> {
+    ghost from_gives = { λ array v. (v ≡ split_at A.CAPACITY (A.slots array)) × (items v ≡ A.slots array) × (spare v ≡ []) };
+
+    fn from(array: A) -> Self {
+        Self::from_array(array)
     }
 }

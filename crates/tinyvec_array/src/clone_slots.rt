@@ -1,11 +1,11 @@
-//! Clones written into an array's slots.
+//! Writing clones into an array's slots.
 ghost use Rattle.std.specs.Prelude.{◌≡◌, ◌-◌, ◌<◌, ◌≤◌, ℕ, All, length, take, replicate, IsOk, OnOk, OnErr};
 ghost use Rattle.std.specs.List.{AllZip};
 ghost use Rattle.tinyvec_slots.specs.Clones.{RefusedAt, ClonesOverFrom};
 
 use crate::Array;
 use std::alloc::AllocError;
-use tinyvec_slots::{clone_each, clone_over, clone_through};
+use tinyvec_slots::{clone_each, clone_over, fill_clones};
 
 // Writes clones of all slots of `from`.
 pub(crate) fn clone_slots<A: Array>(to: &mut A, from: &A) -> Result<(), AllocError>
@@ -19,7 +19,7 @@ where
 }
 
 // Writes clones of `from` into the slots from `start` on.
-pub(crate) fn put_clones<A: Array>(
+pub(crate) fn write_clones<A: Array>(
     array: &mut A,
     start: usize,
     from: &[A::Item],
@@ -35,13 +35,13 @@ where
     ensures len { length (A.slots array.old) ≡ A.CAPACITY }
     ensures succeeds { All A.Item.is_infallible from.now → IsOk result }
 {
-    // The minimum is the length. By it the compiler leaves out blocks of more items than the array has slots.
+    // The minimum is the length. It lets the compiler drop the blocks of more items than the array has slots.
     let count = from.len().min(A::CAPACITY);
     clone_over(&mut array.as_slice_mut()[start..], &from[..count])
 }
 
 // Writes clones of `x` into the slots from `start` up to `end`.
-pub(crate) fn put_copies<A: Array>(
+pub(crate) fn write_clones_of<A: Array>(
     array: &mut A,
     start: usize,
     end: usize,
@@ -58,5 +58,5 @@ where
     ensures len { length (A.slots array.old) ≡ A.CAPACITY }
     ensures succeeds { A.Item.is_infallible x.now → IsOk result }
 {
-    clone_through(&mut array.as_slice_mut()[start..end], x)
+    fill_clones(array.as_slice_mut(), start, end, x)
 }

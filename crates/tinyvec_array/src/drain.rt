@@ -1,22 +1,24 @@
-//! The iterator that moves a range of items out of a vector.
-ghost use Rattle.std.specs.Prelude.{◌≡◌, ◌≤◌, ◌++◌, length, codes, Some, IfSome};
+//! What moves a range of items out of a vector.
+ghost use Rattle.std.specs.Prelude.{◌≡◌, ◌≤◌, ◌++◌, length, codes, Some, IfSome, ◌+◌, vec_len, vec_capacity};
 ghost use Rattle.std.specs.Fmt.{debug_list, debug_variant};
 ghost use Rattle.std.specs.Iterator.{at_most, UpTo};
 ghost use Rattle.std.specs.Iterator.SizeHint.{IsWithinCount};
 ghost use Rattle.std.specs.Iterator.Runs.{YieldsInOrder, YieldsInReverse};
-ghost use Rattle.tinyvec_slots.specs.Slots.{items, spare, items_len};
+ghost use Rattle.tinyvec_slots.specs.Slots.{items, spare, items_len, Vacates, AreDefaults};
 ghost use Rattle.tinyvec_slots.specs.Cut.{IsRangeOf, before, removed, after};
+ghost use Rattle.tinyvec_array.specs.ToVec.{DrainsToVec};
 
-use crate::slots::narrow;
+use crate::slots::via_u32;
 use crate::{Array, ArrayVec};
-use std::fmt;
+use std::alloc::{AllocError, Global};
 use std::iter::FusedIterator;
 use std::ops::RangeBounds;
-use tinyvec_slots::{part, resolve, write_named};
+use std::{fmt, mem};
+use tinyvec_slots::{resolve_range, subslice, write_named};
 
-/// Gives the items of a range, which the vector has lost already. When it ends, their slots hold defaults.
+/// Yields the items of a range, which the list no longer has. When it is dropped, their slots hold defaults.
 pub struct ArrayVecDrain<'a, A: Array> {
-    // The first `count` spare slots are the vacated ones. Those from `front` up to `back` still hold items.
+    // The first `count` spare slots are the emptied ones. Those in `front..back` still hold items.
     vec: &'a mut ArrayVec<A>,
     count: usize,
     front: usize,
@@ -24,17 +26,16 @@ pub struct ArrayVecDrain<'a, A: Array> {
 }
 
 impl<A: Array> ArrayVec<A> {
-    ghost use Rattle.tinyvec_array.specs.Drain.{drain_items, drain_len, drain_lender, drain_kept, drain_count, drain_spare, DrainCanStep, DrainSteps, DrainStepsBack, DrainsFromEnds};
+    ghost use Rattle.tinyvec_array.specs.Drain.{drain_items, drain_len, drain_owner, drain_kept, drain_count, drain_spare, DrainCanStep, DrainSteps, DrainStepsBack, DrainsFromEnds};
 
-    /// Takes the items of the range out of the list, and gives them from both ends. The items behind the range are
-    /// moved down at the call.
+    /// Removes the range, and yields its items from both ends. The items after the range move down at the call.
     ///
-    /// `known` is false of an `a..=b` that was iterated to its end, and of no other range of std.
+    /// `not_exhausted` fails only for a `RangeInclusive` that was iterated to its end.
     pub fn drain<R: RangeBounds<usize>>(&mut self, range: R) -> ArrayVecDrain<'_, A>
-        requires known { R.has_bounds range }
+        requires not_exhausted { R.has_bounds range }
         requires in_list { IsRangeOf (items self.old) (R.start_bound range) (R.end_bound range) }
 
-        // The iterator gives the items of the range.
+        // The iterator yields the items of the range.
         ensures rest { drain_items result ≡ removed (items self.old) (R.start_bound range) (R.end_bound range) }
         ensures len { drain_len result ≡ length (drain_items result) }
         ensures ready { DrainCanStep result }
@@ -42,19 +43,19 @@ impl<A: Array> ArrayVec<A> {
         ensures runs_back { YieldsInReverse (DrainStepsBack {A = A} {T = A.Item}) drain_items }
         ensures both_ends { DrainsFromEnds result }
 
-        // The list is what stood before and after, and the spare slots will be the vacated ones and the old.
+        // The list is what precedes and follows the range; the spare slots will be the emptied ones, then the old.
         ensures fits { items_len self.old ≤ A.CAPACITY }
-        ensures same_reference { drain_lender result ≡ self.entry.ghost_name }
+        ensures same_reference { drain_owner result ≡ self.entry.ghost_name }
         ensures kept { drain_kept result
             ≡ before (items self.old) (R.start_bound range) ++ after (items self.old) (R.end_bound range) }
         ensures count { drain_count result ≡ length (drain_items result) }
         ensures spare { drain_spare result ≡ spare self.old }
     {
         let len = self.len();
-        let part = resolve(range, len);
-        // Of so many turns the compiler knows that their indexes stay in 32 bits.
-        let count = narrow(part.end - part.start, A::CAPACITY);
-        self.items_to_end(part.start, part.end);
+        let part = resolve_range(range, len);
+        // Bounds the trip count, so loop indices fit `u32`.
+        let count = via_u32(part.end - part.start, A::CAPACITY);
+        self.move_to_end(part.start, part.end);
         self.set_len(len - count);
         ArrayVecDrain {
             vec: self,
@@ -62,6 +63,71 @@ impl<A: Array> ArrayVec<A> {
             front: 0,
             back: count,
         }
+    }
+
+    /// Moves the items of the range to the end of `out`, which has room for them.
+    ///
+    /// `not_exhausted` fails only for a `RangeInclusive` that was iterated to its end.
+    pub fn drain_into<R: RangeBounds<usize>>(&mut self, range: R, out: &mut Vec<A::Item>)
+        requires not_exhausted { R.has_bounds range }
+        requires in_list { IsRangeOf (items self.old) (R.start_bound range) (R.end_bound range) }
+        requires room { vec_len out.old + length (removed (items self.old) (R.start_bound range) (R.end_bound range))
+            ≤ vec_capacity out.old }
+        ensures items { items self.new
+            ≡ before (items self.old) (R.start_bound range) ++ after (items self.old) (R.end_bound range) }
+        ensures spare { Vacates A.Item.is_default (length (removed (items self.old) (R.start_bound range) (R.end_bound range)))
+            self.old self.new }
+        ensures fits { items_len self.new ≤ A.CAPACITY }
+        ensures moved { out.new.items
+            ≡ out.old.items ++ removed (items self.old) (R.start_bound range) (R.end_bound range) }
+        ensures capacity { vec_capacity out.new ≡ vec_capacity out.old }
+    {
+        for x in self.drain(range) {
+            out.push_reserved(x);
+        }
+    }
+
+    /// Moves the list into a `Vec` that has room for it, and for no more.
+    pub fn drain_to_vec(&mut self, alloc: Global) -> Result<Vec<A::Item>, AllocError>
+        ensures { DrainsToVec A.Item.is_default A.CAPACITY 0 self.old self.new result }
+    {
+        self.drain_to_vec_and_reserve(alloc, 0)
+    }
+
+    /// The same as `drain_to_vec`.
+    pub fn try_drain_to_vec(&mut self, alloc: Global) -> Result<Vec<A::Item>, AllocError>
+        ensures { DrainsToVec A.Item.is_default A.CAPACITY 0 self.old self.new result }
+    {
+        self.drain_to_vec(alloc)
+    }
+
+    /// Moves the list into a `Vec` that has room for it and for `n` more items, and for no more.
+    pub fn drain_to_vec_and_reserve(
+        &mut self,
+        alloc: Global,
+        n: usize,
+    ) -> Result<Vec<A::Item>, AllocError>
+        ensures { DrainsToVec A.Item.is_default A.CAPACITY n self.old self.new result }
+    {
+        let len = self.len();
+        if n > usize::MAX - len {
+            return Err(AllocError);
+        }
+        let mut vec = Vec::with_capacity(alloc, len + n)?;
+        take_all(self.as_mut_slice(), &mut vec);
+        self.set_len(0);
+        Ok(vec)
+    }
+
+    /// The same as `drain_to_vec_and_reserve`.
+    pub fn try_drain_to_vec_and_reserve(
+        &mut self,
+        alloc: Global,
+        n: usize,
+    ) -> Result<Vec<A::Item>, AllocError>
+        ensures { DrainsToVec A.Item.is_default A.CAPACITY n self.old self.new result }
+    {
+        self.drain_to_vec_and_reserve(alloc, n)
     }
 }
 
@@ -77,7 +143,7 @@ impl<'a, A: Array> Drop for ArrayVecDrain<'a, A> {
             front: _,
             back: _,
         } = self;
-        vec.reset_spare(count);
+        vec.fill_spare_default(count);
     }
 }
 
@@ -146,6 +212,18 @@ where
 
     fn fmt<W: fmt::Write>(&self, f: &mut fmt::Formatter<W>) -> fmt::Result {
         let vacated = self.vec.grab_spare_slice();
-        write_named(f, "ArrayVecDrain", part(vacated, self.front, self.back))
+        write_named(f, "ArrayVecDrain", subslice(vacated, self.front, self.back))
+    }
+}
+
+// Moves the items of the slots to the end of `vec`, and leaves defaults.
+fn take_all<T: Default + Drop>(slots: &mut [T], vec: &mut Vec<T>)
+    requires { vec_len vec.old + length slots.old ≤ vec_capacity vec.old }
+    ensures items { vec.new.items ≡ vec.old.items ++ slots.old }
+    ensures capacity { vec_capacity vec.new ≡ vec_capacity vec.old }
+    ensures emptied { AreDefaults T.is_default (length slots.old) slots.new }
+{
+    for slot in slots.iter_mut() {
+        vec.push_reserved(mem::take(slot));
     }
 }

@@ -3,10 +3,10 @@
 
 mod array;
 mod array_vec;
-mod can_splice;
+mod capacity_error;
 mod clone_slots;
 mod drain;
-mod iterator;
+mod into_iter;
 mod macros;
 mod parts;
 mod slots;
@@ -15,8 +15,9 @@ mod try_from_slice_error;
 
 pub use array::Array;
 pub use array_vec::ArrayVec;
+pub use capacity_error::CapacityError;
 pub use drain::ArrayVecDrain;
-pub use iterator::ArrayVecIterator;
+pub use into_iter::ArrayVecIterator;
 pub use splice::ArrayVecSplice;
 pub use tinyvec_slots::{FromIterRest, NoMemory, NoRoom, SpliceRest};
 pub use try_from_slice_error::TryFromSliceError;

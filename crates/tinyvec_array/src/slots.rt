@@ -1,26 +1,12 @@
-//! Reads and writes of an array's slots.
-ghost use Rattle.std.specs.Prelude.{◌≡◌, ◌+◌, ◌-◌, ◌<◌, ◌≤◌, List, [], ◌∷◌, ◌++◌, length, take, drop, slice_index_or, slice_set, slice_range, insert, remove};
-ghost use Rattle.std.specs.List.{remove_range};
+//! Reading and writing an array's slots.
+ghost use Rattle.std.specs.Prelude.{◌≡◌, ◌+◌, ◌-◌, ◌<◌, ◌≤◌, List, [], ◌∷◌, ◌++◌, length, take, drop, slice_index_or, slice_set, insert, remove};
 ghost use Rattle.tinyvec_slots.specs.Slots.{AreDefaults};
 
 use crate::Array;
 use std::mem;
-use tinyvec_slots::{
-    are_short, insert_shifting, last_to, part_to_end, remove_shifting, reset_at_most,
-};
+use tinyvec_slots::{are_short, fill_default_at_most, insert_shifting, last_to, remove_shifting};
 
-// Writes `x` into the slot at `i`.
-pub(crate) fn put<A: Array>(array: &mut A, i: usize, x: A::Item)
-    requires { i < A.CAPACITY }
-    ensures after { A.slots array.new ≡ slice_set (A.slots array.old) i x }
-    ensures len { length (A.slots array.old) ≡ A.CAPACITY }
-{
-    let slots = array.as_slice_mut();
-    let at = narrow(i, slots.len());
-    slots[at] = x;
-}
-
-// Takes what the slot at `i` holds, and leaves a default.
+// Takes the value of the slot at `i`, and leaves a default.
 pub(crate) fn take_slot<A: Array>(array: &mut A, i: usize) -> A::Item
     requires { i < A.CAPACITY }
     ensures value { result ≡ slice_index_or (A.slots array.old) i result }
@@ -28,11 +14,11 @@ pub(crate) fn take_slot<A: Array>(array: &mut A, i: usize) -> A::Item
     ensures len { length (A.slots array.old) ≡ A.CAPACITY }
 {
     let slots = array.as_slice_mut();
-    let at = narrow(i, slots.len());
+    let at = via_u32(i, slots.len());
     mem::take(&mut slots[at])
 }
 
-// Takes what the slot at `i` behind the first `len` holds, and leaves a default.
+// Takes what slot `i` after the first `len` holds, and leaves a default.
 pub(crate) fn take_slot_behind<A: Array>(array: &mut A, len: usize, i: usize) -> A::Item
     requires { i < A.CAPACITY - len }
     ensures value { result ≡ slice_index_or (A.slots array.old) (len + i) result }
@@ -41,14 +27,14 @@ pub(crate) fn take_slot_behind<A: Array>(array: &mut A, len: usize, i: usize) ->
     ensures len { length (A.slots array.old) ≡ A.CAPACITY }
 {
     let slots = array.as_slice_mut();
-    let at = narrow(len, slots.len()) + narrow(i, slots.len());
+    let at = via_u32(len, slots.len()) + via_u32(i, slots.len());
     mem::take(&mut slots[at])
 }
 
-// It is `i`. Of an index in 32 bits the compiler knows that it can't lead round all addresses to the length, which lies in
-// front of the slots. So it keeps the length in a register over a loop of pushes, and makes such a loop vector code.
+// Returns `i`. Going through `u32` shows LLVM that the address cannot wrap onto the length field, which precedes the slots. So
+// the length stays in a register, and a loop of pushes is vectorized.
 #[inline(always)]
-pub(crate) fn narrow(i: usize, most: usize) -> usize
+pub(crate) fn via_u32(i: usize, most: usize) -> usize
     requires { i ≤ most }
     ensures { result ≡ i }
 {
@@ -59,7 +45,7 @@ pub(crate) fn narrow(i: usize, most: usize) -> usize
 }
 
 // Writes a default into each slot from `start` up to `end`.
-pub(crate) fn clear<A: Array>(array: &mut A, start: usize, end: usize)
+pub(crate) fn fill_default_in<A: Array>(array: &mut A, start: usize, end: usize)
     requires start_le_end { start ≤ end }
     requires in_bounds { end ≤ A.CAPACITY }
     ensures after { (ds : List A.Item) × AreDefaults A.Item.is_default (end - start) ds
@@ -68,24 +54,10 @@ pub(crate) fn clear<A: Array>(array: &mut A, start: usize, end: usize)
 {
     let slots = array.as_slice_mut();
     let most = slots.len();
-    reset_at_most(&mut slots[start..end], most);
+    fill_default_at_most(&mut slots[start..end], most);
 }
 
-// Moves the slots from `start` up to `end` behind the others below `len`.
-pub(crate) fn slots_to_end<A: Array>(array: &mut A, start: usize, end: usize, len: usize)
-    requires start_le_end { start ≤ end }
-    requires in_list { end ≤ len }
-    requires in_bounds { len ≤ A.CAPACITY }
-    ensures after { A.slots array.new
-        ≡ remove_range (take len (A.slots array.old)) start end
-        ++ slice_range (take len (A.slots array.old)) start end ++ drop len (A.slots array.old) }
-    ensures len { length (A.slots array.old) ≡ A.CAPACITY }
-{
-    part_to_end(array.as_slice_mut(), start, end, len);
-}
-
-// Whether the slots from `start` up to `end` are moved one by one. Where an `A` has no more in all, the compiler knows the
-// answer.
+// Whether the slots from `start` up to `end` are moved one by one. For an `A` of few slots the result is a constant.
 #[inline(always)]
 pub(crate) fn are_short_of<A: Array>(array: &A, start: usize, end: usize) -> bool
     requires start_le_end { start ≤ end }
@@ -95,7 +67,7 @@ pub(crate) fn are_short_of<A: Array>(array: &A, start: usize, end: usize) -> boo
     are_short(slots) || are_short(&slots[start..end])
 }
 
-// Puts `x` into the slot at `index`, and moves those from there on up, over the one at `len`.
+// Puts `x` into the slot at `index`, and moves the slots from there on up by one, over the one at `len`.
 pub(crate) fn insert_slot<A: Array>(array: &mut A, index: usize, len: usize, x: A::Item)
     requires in_list { index ≤ len }
     requires room { len < A.CAPACITY }
@@ -106,7 +78,7 @@ pub(crate) fn insert_slot<A: Array>(array: &mut A, index: usize, len: usize, x: 
     insert_shifting(array.as_slice_mut(), index, len, x);
 }
 
-// Takes what the slot at `index` holds, moves those behind it below `len` down, and leaves a default in the last.
+// Takes what the slot at `index` holds, moves the later slots below `len` down by one, and leaves a default in the last.
 pub(crate) fn remove_slot<A: Array>(array: &mut A, index: usize, len: usize) -> A::Item
     requires in_list { index < len }
     requires in_bounds { len ≤ A.CAPACITY }
@@ -118,7 +90,7 @@ pub(crate) fn remove_slot<A: Array>(array: &mut A, index: usize, len: usize) -> 
     remove_shifting(array.as_slice_mut(), index, len)
 }
 
-// Moves the last slot below `len` to `index`, and those from there on up.
+// Moves the last slot below `len` to `index`, and the slots from there on up by one.
 pub(crate) fn last_slot_to<A: Array>(array: &mut A, index: usize, len: usize)
     requires in_list { index < len }
     requires in_bounds { len ≤ A.CAPACITY }

@@ -1,33 +1,37 @@
-//! The iterator that moves a range of items out of a vector and puts others in its place.
-ghost use Rattle.std.specs.Prelude.{◌≡◌, length, false, codes, Some, IfSome};
+//! The splice: what replaces a range of items by those of an iterator.
+ghost use Rattle.std.specs.Prelude.{◌≡◌, length, false, codes, Some, IfSome, ◌+◌, ◌-◌, ◌*◌, ◌<◌, ◌≤◌, ◌++◌, List, IfErr, ◌↔◌, MatchResult, IsOk, OnOk, OnErr, refl};
 ghost use Rattle.std.specs.Fmt.{debug_list, debug_variant};
-ghost use Rattle.std.specs.Iterator.{UpTo, MakesProgress, at_most};
+ghost use Rattle.std.specs.Iterator.{UpTo, MakesProgress, at_most, Drains, YieldsThen};
 ghost use Rattle.std.specs.Iterator.Adapters.{fuse_done, fuse_source, fuse_steps};
 ghost use Rattle.std.specs.Iterator.SizeHint.{IsWithinCount};
-ghost use Rattle.tinyvec_slots.specs.Slots.{items};
+ghost use Rattle.tinyvec_slots.specs.Slots.{items, items_len, SlotRule};
 ghost use Rattle.tinyvec_slots.specs.Cut.{IsRangeOf, before, removed, after};
+ghost use Rattle.tinyvec_slots.specs.Filling.{ShowsItems, IntoIterYields};
+ghost use Rattle.tinyvec_slots.specs.Fused.{FusedCan, fused_rest};
+ghost use Rattle.tinyvec_slots.specs.Replacing.{FusedYields, PutsBetween};
+ghost use Rattle.tinyvec_slots.specs.AnySplice.{finish_placed, finish_bound, Finishes, FinishesWith};
+ghost use Rattle.std.proofs.Common.{le_refl};
 
-mod finishing;
-
-use crate::{Array, ArrayVec};
+use crate::{Array, ArrayVec, CapacityError, NoRoom, SpliceRest};
 use std::fmt;
 use std::iter::{Fuse, FusedIterator};
 use std::ops::RangeBounds;
-use tinyvec_slots::{Gap, resolve, step_back_in, step_in, write_named};
+use tinyvec_slots::{
+    CanCut, CanSplice, Gap, close_in, finish_in, resolve_range, step_back_in, step_in, write_named,
+};
 
-/// Gives the items of a range, in whose place those of `replacement` are put. For an item that is taken from an end, the
-/// replacement is asked for one from the same end, which stands there then. It must be spent by `finish`,
-/// `finish_counted` or `stop`.
+/// Yields the items of a range. Each item taken from one end is replaced by one item of `replacement` from that end.
+/// Must be consumed by `finish`, `finish_counted` or `stop`.
 pub struct ArrayVecSplice<'a, A: Array, I: Drop> {
     vec: &'a mut ArrayVec<A>,
     gap: Gap,
     replacement: I,
-    // Always true: it keeps a splice from being let go.
+    // Always true, so the destructor's precondition cannot be proved: a splice must be finished, not dropped.
     unspent: bool,
 }
 
 impl<'a, A: Array, I: Drop> Drop for ArrayVecSplice<'a, A, I> {
-    // No caller can show this, so a splice is spent by `finish`.
+    // Unprovable, so no caller drops a splice.
     fn drop(self)
         requires { self.unspent ≡ false }
     {
@@ -43,16 +47,15 @@ impl<'a, A: Array, I: Drop> Drop for ArrayVecSplice<'a, A, I> {
 impl<A: Array> ArrayVec<A> {
     ghost use Rattle.tinyvec_array.specs.Splice.{splice_front, splice_left, splice_len, splice_back, splice_replacement, splice_touches, splice_slots, splice_lender, SpliceCanStep};
 
-    /// Takes the items of the range out of the list, gives them from both ends, and puts those of `replacement` in their
-    /// place.
+    /// Replaces the items of the range by those of `replacement`, and yields the removed ones from both ends.
     ///
-    /// `known` is false of an `a..=b` that was iterated to its end, and of no other range of std.
+    /// `not_exhausted` fails only for a `RangeInclusive` that was iterated to its end.
     pub fn splice<R: RangeBounds<usize>, I: IntoIterator<Item = A::Item>>(
         &mut self,
         range: R,
         replacement: I,
     ) -> ArrayVecSplice<'_, A, Fuse<I::IntoIter>>
-        requires known { R.has_bounds range }
+        requires not_exhausted { R.has_bounds range }
         requires in_list { IsRangeOf (items self.old) (R.start_bound range) (R.end_bound range) }
         ensures front { splice_front result ≡ before (items self.old) (R.start_bound range) }
         ensures left { splice_left result ≡ removed (items self.old) (R.start_bound range) (R.end_bound range) }
@@ -65,13 +68,76 @@ impl<A: Array> ArrayVec<A> {
         ensures same_reference { splice_lender result ≡ self.entry.ghost_name }
         ensures ready { SpliceCanStep result }
     {
-        let part = resolve(range, self.len());
+        let part = resolve_range(range, self.len());
         ArrayVecSplice {
             vec: self,
             gap: Gap::new(part.start, part.end),
             replacement: replacement.into_iter().fuse(),
             unspent: true,
         }
+    }
+
+    /// Puts the items of `replacement` in the place of the range, whose items it drops: `splice` and `finish` in one. Where
+    /// an item has no room, the vector is full, and that item is returned with those that follow it.
+    ///
+    /// `has_bounds` is false of an `a..=b` that was iterated to its end, and of no other range of std.
+    pub fn splice_all<R: RangeBounds<usize>, I: IntoIterator<Item = A::Item>>(
+        &mut self,
+        range: R,
+        replacement: I,
+    ) -> Result<(), SpliceRest<A::Item, Fuse<I::IntoIter>>>
+        requires not_exhausted { R.has_bounds range }
+        requires in_list { IsRangeOf (items self.old) (R.start_bound range) (R.end_bound range) }
+        requires can { (it : I.IntoIter) → I.into_iter_gives replacement it → I.IntoIter.can_next it }
+        ensures ran { (it : Fuse I.IntoIter) × (xs : List A.Item) × I.into_iter_gives replacement (fuse_source it)
+            × (fuse_done it ≡ false)
+            × MatchResult result (λ _. Drains (fuse_steps I.IntoIter.next_gives) it xs)
+            (λ refused. YieldsThen (fuse_steps I.IntoIter.next_gives) it xs (Some refused.item) refused.rest)
+            × (items self.new
+            ≡ before (items self.old) (R.start_bound range) ++ xs ++ after (items self.old) (R.end_bound range)) }
+        ensures full { OnErr result (items_len self.new ≡ A.CAPACITY) }
+        ensures slots { SlotRule A.Item.is_default self.old self.new }
+        ensures fits { items_len self.new ≤ A.CAPACITY }
+
+        // After an item it may be called again.
+        ensures goes_on { IfErr result (λ refused. FusedCan I.IntoIter.can_next refused.rest) }
+
+        // The same of items that are known, as those of a `Vec`, a range or a slice.
+        ensures known { (xs : List A.Item) → IntoIterYields I.into_iter_gives I.IntoIter.next_gives replacement xs
+            → PutsBetween A.CAPACITY (before (items self.old) (R.start_bound range)) xs
+            (after (items self.old) (R.end_bound range)) result (items self.new) }
+    {
+        let splice = self.splice(range, replacement);
+        splice.finish()
+    }
+
+    /// Puts copies of the slice's items in the place of the range, whose items it drops. Fails where they don't fit, and
+    /// changes nothing then.
+    pub fn replace_range<R: RangeBounds<usize>>(
+        &mut self,
+        range: R,
+        replacement: &[A::Item],
+    ) -> Result<(), CapacityError>
+    where
+        A::Item: Copy,
+        requires not_exhausted { R.has_bounds range }
+        requires in_list { IsRangeOf (items self.old) (R.start_bound range) (R.end_bound range) }
+        ensures variant { IsOk result ↔ (length (before (items self.old) (R.start_bound range)) + length replacement.now
+            + length (after (items self.old) (R.end_bound range)) ≤ A.CAPACITY) }
+        ensures items { OnOk result (items self.new
+            ≡ before (items self.old) (R.start_bound range) ++ replacement.now
+            ++ after (items self.old) (R.end_bound range)) }
+        ensures slots { SlotRule A.Item.is_default self.old self.new }
+        ensures refused { OnErr result (self.new ≡ self.old) }
+        ensures fits { items_len self.new ≤ A.CAPACITY }
+    {
+        let part = resolve_range(range, self.len());
+        let kept = self.len() - (part.end - part.start);
+        if replacement.len() > self.capacity() - kept {
+            return Err(CapacityError);
+        }
+        let _all_fit = self.splice_all(part, replacement.iter().copied());
+        Ok(())
     }
 }
 
@@ -145,4 +211,163 @@ where
     fn fmt<W: fmt::Write>(&self, f: &mut fmt::Formatter<W>) -> fmt::Result {
         write_named(f, "ArrayVecSplice", self.gap.left(self.vec.as_slice()))
     }
+}
+
+impl<'a, A: Array, I: Iterator<Item = A::Item>> ArrayVecSplice<'a, A, Fuse<I>> {
+    ghost use Rattle.tinyvec_array.specs.Splice.{splice_view, splice_front, splice_back, splice_replacement, splice_slots, splice_touches, SpliceCanStep, SpliceCanNext};
+
+    /// The number of touches since `splice`: a touch is one slot read out, with the default that it may leave, one item
+    /// placed in a slot, or two slots swapped.
+    pub fn touches(&self) -> u128
+        ensures { result ≡ splice_touches self.now }
+    {
+        self.gap.touches()
+    }
+
+    /// Drops the removed items that are left, and fills the gap with what the replacement still yields. On overflow,
+    /// returns the first item that did not fit and the rest of the replacement, which may be infinite.
+    pub fn finish(self) -> Result<(), SpliceRest<A::Item, Fuse<I>>>
+        requires { SpliceCanNext I.can_next self }
+        ensures finished { Finishes (fuse_steps I.next_gives) A.CAPACITY
+            (splice_view self.entry) result (items self.exit.0.now) }
+        ensures slots { SlotRule A.Item.is_default (splice_slots self.entry) self.exit.0.now }
+
+        // After an item, `next` of the replacement may be called again.
+        ensures goes_on { IfErr result (λ refused. FusedCan I.can_next refused.rest) }
+
+        // The same of a replacement that shows its items, and of one whose items are known, as those of a `Vec`, a range or a
+        // slice.
+        ensures listed { (rest : I → List A.Item) → ShowsItems I.next_gives rest
+            → FinishesWith (fused_rest rest) A.CAPACITY (splice_view self.entry) result (items self.exit.0.now) }
+        ensures known { (xs : List A.Item) → FusedYields I.next_gives (splice_replacement self.entry) xs
+            → PutsBetween A.CAPACITY (splice_front self.entry) xs (splice_back self.entry) result
+            (items self.exit.0.now) }
+    {
+        let (finished, _touches) = self.finish_counted();
+        finished
+    }
+
+    /// The same, and returns the number of touches since `splice`.
+    #[inline(always)]
+    pub fn finish_counted(self) -> (Result<(), SpliceRest<A::Item, Fuse<I>>>, u128)
+        requires { SpliceCanNext I.can_next self }
+        // Exact for a list that did not grow: two touches for each item placed in a filled gap, and one more for each
+        // slot after a closed one.
+        ensures filled { items_len self.exit.0.now ≡ items_len (splice_slots self.entry)
+            → result.1 ≡ splice_touches self.entry
+            + 2 * finish_placed (splice_view self.entry) (items self.exit.0.now) }
+        ensures closed { items_len self.exit.0.now < items_len (splice_slots self.entry)
+            → result.1 ≡ splice_touches self.entry + finish_placed (splice_view self.entry) (items self.exit.0.now)
+            + (items_len (splice_slots self.entry) - length (splice_front self.entry)) }
+        ensures at_least { splice_touches self.entry + finish_placed (splice_view self.entry) (items self.exit.0.now)
+            ≤ result.1 }
+        ensures at_most { result.1 ≤ splice_touches self.entry
+            + finish_bound (splice_view self.entry) (items_len (splice_slots self.entry)) (items self.exit.0.now) }
+        ensures finished { Finishes (fuse_steps I.next_gives) A.CAPACITY
+            (splice_view self.entry) result.0 (items self.exit.0.now) }
+        ensures slots { SlotRule A.Item.is_default (splice_slots self.entry) self.exit.0.now }
+        ensures goes_on { IfErr result.0 (λ refused. FusedCan I.can_next refused.rest) }
+        ensures listed { (rest : I → List A.Item) → ShowsItems I.next_gives rest
+            → FinishesWith (fused_rest rest) A.CAPACITY (splice_view self.entry) result.0 (items self.exit.0.now) }
+    {
+        let ArrayVecSplice {
+            vec,
+            gap,
+            replacement,
+            unspent: _,
+        } = self;
+        finish_in(vec, gap, replacement)
+    }
+
+    /// Drops the removed items that are left, and returns the replacement without calling `next`.
+    pub fn stop(self) -> Fuse<I>
+        requires { SpliceCanStep self }
+        ensures rest { result ≡ splice_replacement self.entry }
+        ensures items { items self.exit.0.now ≡ splice_front self.entry ++ splice_back self.entry }
+        ensures slots { SlotRule A.Item.is_default (splice_slots self.entry) self.exit.0.now }
+        ensures fits { items_len self.exit.0.now ≤ A.CAPACITY }
+    {
+        let ArrayVecSplice {
+            vec,
+            gap: mut unfilled,
+            replacement,
+            unspent: _,
+        } = self;
+        close_in(vec, &mut unfilled);
+        replacement
+    }
+}
+
+impl<A: Array> CanSplice for ArrayVec<A> {
+    ghost use Rattle.tinyvec_slots.specs.Slots.{SlotRule};
+    ghost use Rattle.tinyvec_slots.proofs.SlotsLemmas.{shortened};
+    ghost use Rattle.tinyvec_array.specs.SpliceLaws.{same_spare-refl, slots_kept_around};
+
+    ghost moved = { λ _ _. 0 };
+
+    ghost must_end = { false };
+
+    ghost Grown = { SlotRule A.Item.is_default };
+
+    #[inline]
+    fn len(&self) -> usize {
+        self.len()
+    }
+
+    #[inline]
+    fn extend_counted<I: Iterator<Item = A::Item>>(
+        &mut self,
+        iter: I,
+    ) -> (Result<(), SpliceRest<A::Item, I>>, usize) {
+        match self.extend(iter) {
+            Ok(()) => (Ok(()), 0),
+            Err(NoRoom { item, rest }) => (Err(SpliceRest { item, rest }), 0),
+        }
+    }
+
+    ghost kept_same = { same_spare-refl };
+
+    ghost kept_room = { λ v w k. refl };
+
+    ghost kept_grown = { slots_kept_around A.Item.is_default };
+
+    ghost kept_moved = { λ u v w x h k. refl };
+
+    ghost cut_grown = { λ v w h fits. shortened A.Item.is_default v w h };
+
+    ghost grown_room = { λ v w h. le_refl A.CAPACITY };
+
+    ghost grown_in_place = { λ v w h fits. refl };
+}
+
+impl<A: Array> CanCut for ArrayVec<A> {
+    ghost use Rattle.tinyvec_slots.specs.Slots.{items as list, with_items as list_written, SameSpare, Shortens};
+    ghost use Rattle.tinyvec_slots.proofs.SlotsLemmas.{written_shortened};
+    ghost use Rattle.tinyvec_array.specs.SpliceLaws.{slots_written};
+
+    type Item = A::Item;
+
+    ghost items = { list };
+
+    ghost with_items = { list_written };
+
+    ghost room = { λ _. A.CAPACITY };
+
+    ghost Kept = { SameSpare };
+
+    ghost Cut = { Shortens A.Item.is_default };
+
+    #[inline]
+    fn as_mut_slice(&mut self) -> &mut [A::Item] {
+        self.as_mut_slice()
+    }
+
+    #[inline]
+    fn truncate(&mut self, n: usize) {
+        self.truncate(n);
+    }
+
+    ghost written = { slots_written };
+
+    ghost kept_cut = { written_shortened A.Item.is_default };
 }

@@ -73,7 +73,7 @@ fn asked<A: Array<Item = i32>, I: DoubleEndedIterator<Item = i32>>(
     answers
 }
 
-/// Whether a splice ended so, with all in place, by so many touches.
+/// Whether a splice ended so, with all in place, by this many touches.
 pub(crate) fn touched<I>(finished: (Result<(), SpliceRest<i32, I>>, u128), touches: u128) -> bool
 where
     I: Drop,
@@ -81,7 +81,7 @@ where
     finished.0.is_ok() & (finished.1 == touches)
 }
 
-/// Whether a splice answers so, and all of its replacement finds room then, by so many touches in all.
+/// Whether a splice answers so, and all of its replacement finds room then, by this many touches in all.
 pub(crate) fn splices<A: Array<Item = i32>, I: DoubleEndedIterator<Item = i32>>(
     mut splice: ArrayVecSplice<'_, A, Fuse<I>>,
     asks: &[Ask],

@@ -60,7 +60,7 @@ fn try_from_array_len(rt: HostRuntime) -> Result<(), Fail> {
     all_right(wrong)
 }
 
-// A call that takes a result of so many slots by value takes LLVM minutes.
+// A call that takes a result of this many slots by value takes LLVM minutes.
 #[test]
 fn many_slots(rt: HostRuntime) {
     let Ok(full) = ArrayVec::<[u8; 65536]>::try_from_array_len([7; 65536], 65536) else {
@@ -126,7 +126,7 @@ fn clone_from(rt: HostRuntime) -> Result<(), Fail> {
     all_right(wrong)
 }
 
-// Four items, of which so many are the list.
+// Four items, of which this many are the list.
 fn items(values: [u8; 4], len: usize) -> ArrayVec<[Item; 4]> {
     let [a, b, c, d] = values;
     ArrayVec::from_array_len([Item(a), Item(b), Item(c), Item(d)], len.min(4))
@@ -251,7 +251,7 @@ fn full(clones: &Clones) -> ArrayVec<[Counted<'_>; 21]> {
     vec
 }
 
-// Whether a call was granted, and so many clones were asked for up to then.
+// Whether a call was granted, and this many clones were asked for up to then.
 fn asks(is_granted: bool, clones: &Clones, count: usize) -> bool {
     is_granted & (clones.asked() == count)
 }

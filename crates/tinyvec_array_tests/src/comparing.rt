@@ -6,7 +6,7 @@ use std::test::Fail;
 use tinyvec_array::{Array, ArrayVec};
 use tinyvec_test_items::{all_right, first};
 
-// Lists that end before, at and behind the blocks in which items are compared.
+// Lists that end before, at and after the blocks in which items are compared.
 const LENGTHS: [usize; 13] = [0, 3, 4, 5, 16, 17, 63, 64, 65, 68, 69, 84, 200];
 
 // The first is less, whatever tells it and whichever way round.
@@ -116,7 +116,7 @@ fn in_order(rt: HostRuntime) -> Result<(), Fail> {
     all_right(wrong)
 }
 
-// Whether a list of sevens is less than a longer one, whose items stand in the spare slots of the first.
+// Whether a list of sevens is less than a longer one, whose items are in the spare slots of the first.
 fn begins(len: usize, longer: usize) -> bool {
     if len >= longer || longer > 200 {
         return false;

@@ -21,7 +21,7 @@ fn gives_in<const N: usize, R: RangeBounds<usize>>(
     given: &[i32],
     list: &[i32],
 ) -> bool
-    requires known { R.has_bounds range }
+    requires not_exhausted { R.has_bounds range }
     requires in_list { IsRangeOf (items v) (R.start_bound range) (R.end_bound range) }
 {
     let mut count = 0_usize;
@@ -133,7 +133,7 @@ fn from_both_ends_to_none(rt: HostRuntime) -> Result<(), Fail> {
     all_right(wrong)
 }
 
-// Whether a drain that skips so many items has none left, and yields nothing more at either end.
+// Whether a drain that skips this many items has none left, and yields nothing more at either end.
 fn skips_all<A: Array<Item = i32>>(mut d: ArrayVecDrain<'_, A>, count: usize) -> bool
     requires { DrainCanStep d }
 {

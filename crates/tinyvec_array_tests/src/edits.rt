@@ -33,7 +33,7 @@ fn insert_leaves<A: Array<Item = i32>>(
     holds(v, items, spare)
 }
 
-// Whether there are so many slots, and they are the list then.
+// Whether there are this many slots, and they are the list then.
 fn sets_len<A: Array<Item = i32>>(
     v: &mut ArrayVec<A>,
     len: usize,
@@ -47,7 +47,7 @@ fn sets_len<A: Array<Item = i32>>(
     holds(v, items, spare)
 }
 
-// Whether `try_push` hands back the item, and leaves the full list so.
+// Whether `try_push` returns the item, and leaves the full list so.
 fn hands_back<A: Array<Item = i32>>(v: &mut ArrayVec<A>, item: i32, items: &[i32]) -> bool {
     (v.try_push(item) == Some(item)) & holds(v, items, &[])
 }

@@ -1,4 +1,4 @@
-//! What refused calls hand back: as text, compared, and as another error.
+//! What refused calls return: as text, compared, and as another error.
 use std::alloc::AllocError;
 use std::test::Fail;
 use tinyvec_array::{ArrayVec, FromIterRest, NoMemory, NoRoom, SpliceRest};

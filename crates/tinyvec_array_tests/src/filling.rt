@@ -112,7 +112,7 @@ fn resize_with(rt: HostRuntime) -> Result<(), Fail> {
     all_right(wrong)
 }
 
-// Whether a list of so many items is made so long, and the missing ones are asked for.
+// Whether a list of this many items is made so long, and the missing ones are asked for.
 fn asks_for_missing(len: usize, wanted: usize, missing: i32) -> bool {
     let mut v = ArrayVec::from_array_len([1, 2, 3, 4], len.min(4));
     (resized(&mut v, wanted, 0) == missing) & (v.len() == wanted)
@@ -153,7 +153,7 @@ fn hold<A: Array<Item = i32>>(
     holds(front, front_slots.0, front_slots.1) & holds(back, back_slots.0, back_slots.1)
 }
 
-// Whether all items find room behind the others.
+// Whether all items find room after the others.
 fn appends<A: Array<Item = i32>>(front: &mut ArrayVec<A>, back: &mut ArrayVec<A>) -> bool {
     if back.len() > front.capacity().saturating_sub(front.len()) {
         return false;

@@ -324,7 +324,7 @@ fn lettered(letter: u8, compared: &Cell<u8>) -> Counted<'_> {
     }
 }
 
-// Whether so many of the first letters are left when repeats are removed, and so many comparisons were made.
+// Whether this many of the first letters are left when repeats are removed, and this many comparisons were made.
 fn compares(letters: [u8; 3], count: usize, left: usize, comparisons: u8) -> bool {
     let compared = Cell::new(0);
     let [a, b, c] = letters;

@@ -108,7 +108,7 @@ fn through_bounds(rt: HostRuntime) -> Result<(), Fail> {
     Ok(())
 }
 
-// Whether a `Vec` of three items and room for so many came out, and leaves these slots.
+// Whether a `Vec` of three items and room for this many came out, and leaves these slots.
 fn drains(list: Vec<i32>, room: usize, v: &ArrayVec<[i32; 7]>, slots: &[i32]) -> bool {
     let given = (list.as_slice() == [1, 2, 3].as_slice()) & (list.capacity() >= room);
     given & holds(v, &[], slots)

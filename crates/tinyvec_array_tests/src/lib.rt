@@ -4,6 +4,8 @@
 #[cfg(test)]
 mod asking;
 #[cfg(test)]
+mod checked;
+#[cfg(test)]
 mod clones;
 #[cfg(test)]
 mod comparing;
@@ -29,6 +31,8 @@ mod owned;
 mod printing;
 #[cfg(test)]
 mod range_forms;
+#[cfg(test)]
+mod replacing;
 #[cfg(test)]
 mod splices;
 #[cfg(test)]

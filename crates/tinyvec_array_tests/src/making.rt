@@ -3,7 +3,7 @@ use std::test::Fail;
 use tinyvec_array::{Array, ArrayVec};
 use tinyvec_test_items::{all_right, first};
 
-// Whether the list has so many items and the array so many slots, and it is empty or full.
+// Whether the list has this many items and the array this many slots, and it is empty or full.
 fn is_shaped<A: Array>(
     v: &ArrayVec<A>,
     len: usize,
@@ -50,7 +50,7 @@ fn shapes(rt: HostRuntime) -> Result<(), Fail> {
     all_right(wrong)
 }
 
-// Whether these are the items, these the spare slots, and these both as they lie in the array.
+// Whether these are the items, these the spare slots, and these both as they are in the array.
 fn lies<const N: usize>(
     v: ArrayVec<[i32; N]>,
     items: &[i32],

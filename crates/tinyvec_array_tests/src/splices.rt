@@ -24,7 +24,7 @@ fn is_zero(slot: &i32) -> bool {
     *slot == 0
 }
 
-// Whether these are the items, and defaults stand behind them.
+// Whether these are the items, and defaults follow them.
 fn lists<A: Array<Item = i32>>(v: &ArrayVec<A>, items: &[i32]) -> bool {
     (v.as_slice() == items) & v.grab_spare_slice().iter().all(is_zero)
 }
@@ -40,7 +40,7 @@ enum Replacement {
 
 use Replacement::{ByOption, ByThree};
 
-// Whether a splice of the range of `[1, 2, 3]` in ten slots answers so, and by so many touches leaves this list before zeros.
+// Whether a splice over `[1, 2, 3]` in ten slots answers so, and by this many touches leaves this list before zeros.
 fn gives_in<R: RangeBounds<usize>>(
     range: R,
     replacement: Replacement,
@@ -48,7 +48,7 @@ fn gives_in<R: RangeBounds<usize>>(
     touches: u128,
     list: &[i32],
 ) -> bool
-    requires known { R.has_bounds range }
+    requires not_exhausted { R.has_bounds range }
     requires start_le_end { range_start (R.start_bound range) ≤ range_end (R.end_bound range) 3 }
     requires in_list { range_end (R.end_bound range) 3 ≤ 3 }
 {

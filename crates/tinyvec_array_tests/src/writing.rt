@@ -6,7 +6,7 @@ use tinyvec_array::{Array, ArrayVec};
 use tinyvec_test_items::arrays::holds;
 use tinyvec_test_items::{all_right, first};
 
-// Whether a text is written behind the list, and leaves this.
+// Whether a text is written after the list, and leaves this.
 fn writes<A: Array<Item = u8>>(
     v: &mut ArrayVec<A>,
     text: &str,

@@ -63,7 +63,7 @@ pub fn of_forms<R: Runtime, const N: usize>(report: &mut Report<'_, R>, alloc: G
     report.run("borsh_read_u32", N, Form::Read, &mut numbers);
 }
 
-// Writes the list, whose first item is made from `x`, and answers the first byte behind the count, and how many bytes
+// Writes the list, whose first item is made from `x`, and answers the first byte after the count, and how many bytes
 // there are.
 #[inline(never)]
 fn borsh_write<T: Number + BorshSerialize, const N: usize>(
@@ -80,7 +80,7 @@ fn borsh_write<T: Number + BorshSerialize, const N: usize>(
     byte_behind_count(form).wrapping_add(form.len() as u64)
 }
 
-// Reads the list from bytes, of which the one behind the count is made from `x`, and answers its first and last item and
+// Reads the list from bytes, of which the one after the count is made from `x`, and answers its first and last item and
 // its length, added up.
 #[inline(never)]
 fn borsh_read<T: Number + BorshDeserialize, const N: usize>(

@@ -68,7 +68,7 @@ fn grown<R: Runtime, S: Bench<Growth>>(report: &mut Report<'_, R>, n: usize, lis
     report.run("retain", n, Growth::Retain, list);
 }
 
-/// A `TinyVec` over four slots of so many numbers.
+/// A `TinyVec` over four slots of this many numbers.
 pub fn of_lists<R: Runtime>(report: &mut Report<'_, R>, alloc: Global, n: usize) -> io::Result<()> {
     let count = n as u64;
     let mut items = TinyVec::<[u64; 4]>::new(alloc);

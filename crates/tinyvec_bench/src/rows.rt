@@ -1,4 +1,4 @@
-//! The rows of an `ArrayVec`, at one capacity. A function that makes an array asks that one of so many items has a size.
+//! The rows of an `ArrayVec`, at one capacity. A function that makes an array asks that one of this many items has a size.
 ghost use Rattle.std.specs.Prelude.{◌*◌, ◌^◌, ◌<◌};
 
 use crate::arrays::{ArrayBench, TwoPushes};

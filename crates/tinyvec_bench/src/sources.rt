@@ -23,7 +23,7 @@ fn state_behind(state: u64) -> u64 {
         .wrapping_add(1442695040888963407)
 }
 
-/// Numbers that stand twice each.
+/// Numbers, each twice.
 pub fn pairs<const N: usize>() -> [u64; N] {
     let mut numbers = [0; N];
     for i in 0..N {

@@ -1,7 +1,7 @@
 -- Where a vector lies that is read item after item.
 use Rattle.std.proofs.Common.{◌≡◌, sym, subst, IsTrue, ◌<◌, ◌≤◌, ◌↔◌, inl, inr, ℕ, arith, false, refl, Result, Err, IsOk, is_ok, ap}
 use Rattle.std.proofs.lemmas.Bool.{both_ways, cases_lt}
-use Rattle.tinyvec.specs.Tiny.{tiny_len, tiny_capacity, is_inline, IsInline, PlaceRule}
+use Rattle.tinyvec.specs.TinyVec.{tiny_len, tiny_capacity, is_inline, IsInline, PlaceRule}
 use Rattle.tinyvec.specs.declared.tiny_vec.TinyVec.{TinyVec}
 use Rattle.tinyvec.specs.declared.tiny_vec.TinyVec.TheVariants.{Inline, Heap}
 

@@ -12,17 +12,17 @@ use tinyvec_io::Counted;
 
 /// What can be read.
 pub trait BorshDeserialize: BorshForm + Sized {
-    // The input ends before the last byte that is to be read.
+    // The input is too short.
     ghost IsCut: { List ℕ → Type 0 };
 
     // The input has a list with more items than there is room for.
     ghost IsTooLong: { List ℕ → Type 0 };
 
-    // Memory may be asked for to read this input.
+    // Reading this input may allocate.
     ghost MayAsk: { List ℕ → Type 0 };
 
-    /// Reads the value whose spelling begins the input. What follows stays unread. A whole number is read by one call, and
-    /// a list of whole numbers by blocks; memory is asked for only where a `TinyVec` moves to the heap.
+    /// Reads the value at the start of the input, and leaves the rest unread. A whole number is read by one call, and a
+    /// list of whole numbers in blocks. Allocates only where a `TinyVec` moves to the heap.
     fn deserialize_reader<R: Read>(
         alloc: Global,
         reader: &mut Counted<R>,
@@ -34,7 +34,7 @@ pub trait BorshDeserialize: BorshForm + Sized {
             (R.remaining reader.old.end) reader.old.faults reader.new.faults) }
         ensures grows { reader.old.faults ≤ reader.new.faults };
 
-    /// Reads a value into each slot. Their spellings stand one behind the other.
+    /// Reads a value into each slot, one after the other.
     fn deserialize_slots<R: Read>(
         alloc: Global,
         slots: &mut [Self],

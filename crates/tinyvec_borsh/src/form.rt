@@ -1,4 +1,4 @@
-//! What stands for a value in the form.
+//! The bytes of a value in the Borsh form.
 ghost use Rattle.std.specs.Prelude.{ℕ, List};
 ghost use Rattle.tinyvec_borsh.specs.Code.{IsCode};
 

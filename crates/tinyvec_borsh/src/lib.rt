@@ -1,7 +1,7 @@
 //! Numbers and vectors written and read in the Borsh form.
 //!
-//! A whole number is its bytes, least first. A list is a count of eight bytes, and then its items. What is written is
-//! read again, whatever stands behind it, and no input can do harm: it is read, or the answer says why not.
+//! A whole number is its bytes, least significant first. A list is a count of eight bytes, then its items. What is
+//! written is read again, whatever follows it, and any input is read or refused with a reason.
 #![tactic(auto)]
 
 mod borsh_error;

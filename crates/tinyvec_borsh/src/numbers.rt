@@ -1,4 +1,4 @@
-//! Whole numbers: so many bytes, least first.
+//! Whole numbers: their bytes, least significant first.
 ghost use Rattle.std.specs.Prelude.{◌<◌, length};
 ghost use Rattle.std.specs.Int.{byte_len};
 ghost use Rattle.tinyvec_borsh.specs.NumberLaws.{apart_by_length};

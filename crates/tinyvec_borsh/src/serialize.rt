@@ -19,7 +19,7 @@ pub trait BorshSerialize: BorshForm {
         ensures err { IfErr result (λ e. (e ≡ BorshError.Io) × Reported writer.old.faults writer.new.faults) }
         ensures grows { writer.old.faults ≤ writer.new.faults };
 
-    /// Writes the spellings of the items' contents, one behind the other.
+    /// Writes the items one after the other.
     fn serialize_items<W: Write>(items: &[Self], writer: &mut Counted<W>) -> Result<(), BorshError>
     where
         Self: Sized,

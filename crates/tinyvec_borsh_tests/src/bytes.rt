@@ -1,5 +1,5 @@
 //! Bytes worked out by hand from the form. `tests/borsh` checks the lines `// NAME: TYPE VALUE = BYTES`.
-use crate::ends::{reads, spells};
+use crate::helpers::{reads, spells};
 use std::alloc::{AllocError, Global};
 use std::test::Fail;
 use tinyvec::{ArrayVec, TinyVec};

@@ -1,7 +1,7 @@
 //! What callers can prove of every type that can be written and read.
 ghost use Rattle.std.specs.Prelude.{◌≡◌, ◌⊎◌, ◌++◌, ℕ, List, map, IfErr, IfOk};
 ghost use Rattle.tinyvec_slots.specs.Slots.{items};
-ghost use Rattle.tinyvec.specs.Tiny.{tiny_items};
+ghost use Rattle.tinyvec.specs.TinyVec.{tiny_items};
 ghost use Rattle.tinyvec_borsh.specs.Code.{TellsApart};
 ghost use Rattle.tinyvec_borsh.specs.Reading.{ReadsBack};
 
@@ -48,7 +48,7 @@ where
     copied(alloc, v)
 }
 
-/// The same of a list that may lie on the heap.
+/// The same of a list that may be on the heap.
 pub fn copied_tiny<A: Array>(alloc: Global, v: &TinyVec<A>) -> Result<TinyVec<A>, BorshError>
 where
     A::Item: BorshSerialize + BorshDeserialize,

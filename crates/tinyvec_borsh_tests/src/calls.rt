@@ -1,5 +1,5 @@
 //! How often the reader and the writer are asked.
-use crate::ends::sevens;
+use crate::helpers::sevens;
 use std::alloc::{AllocError, Global};
 use std::io;
 use std::io::{Read, Write};
@@ -40,14 +40,14 @@ impl Write for CountingWriter {
     }
 }
 
-// Whether a value is written by so many calls.
+// Whether a value is written by this many calls.
 fn is_written_by<T: BorshSerialize>(calls: u32, value: &T) -> bool {
     let mut writer = Counted::new(CountingWriter { calls: 0 });
     let _written = value.serialize(&mut writer);
     writer.into_inner().calls == calls
 }
 
-// Whether a value is read by so many calls.
+// Whether a value is read by this many calls.
 fn is_read_by<T: BorshDeserialize + Drop>(
     calls: u32,
     alloc: Global,

@@ -17,7 +17,7 @@ where
     }
 }
 
-// The same of a list that lies in the array then.
+// The same of a list that is then in the array.
 fn is_copied_inline(alloc: Global, v: &TinyVec<[i32; 4]>) -> Result<bool, AllocError> {
     match copied(alloc, v) {
         Ok(again) => Ok((again == *v) & again.is_inline()),

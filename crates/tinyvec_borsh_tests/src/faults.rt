@@ -1,23 +1,25 @@
 //! Readers and writers that fail.
-use crate::ends::{FailingReader, FailingWriter, InterruptedWriter};
 use std::alloc::{AllocError, Global};
 use std::test::Fail;
 use tinyvec::{ArrayVec, TinyVec};
 use tinyvec_borsh::{BorshDeserialize, BorshError, BorshSerialize};
 use tinyvec_io::Counted;
+use tinyvec_test_items::streams::{Full, Interrupted, ShortReader, ShortWriter};
 use tinyvec_test_items::{all_right, first, granted_ok};
 
 const BYTES: [u8; 10] = [2, 0, 0, 0, 0, 0, 0, 0, 1, 2];
 
-fn failing(left: usize) -> Counted<FailingReader<'static>> {
-    Counted::new(FailingReader {
-        input: &BYTES,
-        left,
-        is_interrupted: false,
-    })
+// Reads a byte a call, `count` in all, and then fails. It is interrupted before each call.
+fn failing(count: usize) -> Counted<Interrupted<ShortReader<'static>>> {
+    let reader = ShortReader {
+        bytes: &BYTES[..count.min(BYTES.len())],
+        most: 1,
+        breaks: true,
+    };
+    Counted::new(Interrupted::new(reader, 1))
 }
 
-// Whether a reader that fails after so many bytes is said to be at fault.
+// Whether a reader that fails after this many bytes is said to be at fault.
 fn is_at_fault<T: BorshDeserialize + Drop>(alloc: Global, left: usize) -> Result<bool, AllocError> {
     match T::deserialize_reader(alloc, &mut failing(left)) {
         Err(BorshError::Io) => Ok(true),
@@ -60,36 +62,55 @@ fn a_reader_that_is_interrupted_before_each_byte(rt: HostRuntime) -> Result<(), 
     all_right(wrong)
 }
 
-// Whether a writer of which so many bytes are left answers this, with so many faults, and so many bytes are left then.
-fn writes(left: usize, answer: Result<(), BorshError>, faults: u64) -> bool {
+// A writer with room for `room` bytes, which takes at most `most` a call and is interrupted `times` times before each.
+fn short(
+    alloc: Global,
+    room: usize,
+    most: usize,
+    times: u64,
+) -> Result<Counted<Interrupted<ShortWriter>>, AllocError> {
+    let writer = ShortWriter {
+        taken: Vec::with_capacity(alloc, 16)?,
+        room,
+        most,
+        full: Full::Fails,
+    };
+    Ok(Counted::new(Interrupted::new(writer, times)))
+}
+
+// Whether a list is written so, with `faults` faults, and its first `room` bytes are taken.
+fn writes(
+    mut writer: Counted<Interrupted<ShortWriter>>,
+    room: usize,
+    answer: Result<(), BorshError>,
+    faults: u64,
+) -> bool {
     let v = ArrayVec::from_array_len([1u8, 2, 9, 9], 2);
-    let mut writer = Counted::new(FailingWriter { left });
     let written = v.serialize(&mut writer);
-    (written == answer) & (writer.faults() == faults) & (writer.into_inner().left == 0)
+    let is_counted = (written == answer) & (writer.faults() == faults);
+    is_counted & (writer.into_inner().inner.taken.as_slice() == &BYTES[..room.min(BYTES.len())])
+}
+
+// Whether a writer that fails after `room` bytes is at fault.
+fn fails_after(alloc: Global, room: usize) -> Result<bool, AllocError> {
+    Ok(writes(short(alloc, room, 16, 0)?, room, Err(BorshError::Io), 1))
 }
 
 #[test]
 fn a_writer_that_fails_after_each_byte(rt: HostRuntime) -> Result<(), Fail> {
     let mut wrong = 0;
     for k in 0..10u8 {
-        let is_right = writes(usize::from(k), Err(BorshError::Io), 1);
-        wrong = first(wrong, u32::from(k) + 1, is_right);
+        let is_right = fails_after(rt.alloc(), usize::from(k));
+        wrong = granted_ok(wrong, u32::from(k) + 1, is_right);
     }
-    wrong = first(wrong, 11, writes(10, Ok(()), 0));
+    let whole = short(rt.alloc(), 10, 16, 0)?;
+    wrong = first(wrong, 11, writes(whole, 10, Ok(()), 0));
     all_right(wrong)
 }
 
 #[test]
 fn a_writer_that_is_interrupted_before_each_byte(rt: HostRuntime) -> Result<(), Fail> {
-    let v = ArrayVec::from_array_len([1u8, 2, 9, 9], 2);
-    let mut writer = Counted::new(InterruptedWriter {
-        taken: 0,
-        is_interrupted: false,
-    });
-    let written = v.serialize(&mut writer);
-    let mut wrong = 0;
-    wrong = first(wrong, 1, written == Ok(()));
-    wrong = first(wrong, 2, writer.faults() == 10);
-    wrong = first(wrong, 3, writer.into_inner().taken == 10);
-    all_right(wrong)
+    let writer = short(rt.alloc(), 16, 1, 1)?;
+    assert!(rt; writes(writer, 10, Ok(()), 10));
+    Ok(())
 }

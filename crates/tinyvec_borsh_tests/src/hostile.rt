@@ -1,5 +1,5 @@
-//! Counts that lie, and input that is cut.
-use crate::ends::{read, refuses, sevens};
+//! Wrong counts, and input that is cut.
+use crate::helpers::{read, refuses, sevens};
 use std::test::Fail;
 use tinyvec::{ArrayVec, TinyVec};
 use tinyvec_borsh::BorshError::{Ended, InvalidLength};

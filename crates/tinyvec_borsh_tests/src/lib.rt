@@ -9,11 +9,11 @@ mod calls;
 #[cfg(test)]
 mod carried;
 #[cfg(test)]
-mod ends;
-#[cfg(test)]
 mod errors;
 #[cfg(test)]
 mod faults;
+#[cfg(test)]
+mod helpers;
 #[cfg(test)]
 mod hostile;
 #[cfg(test)]

@@ -1,5 +1,5 @@
-//! Each call that may ask for memory, granted or refused. `tests/refuse` has each allocation refused in turn.
-use crate::ends::reads_tiny;
+//! Each call that may allocate, granted or refused. `tests/refuse` has each allocation refused in turn.
+use crate::helpers::reads_tiny;
 use std::alloc::AllocError;
 use std::test::Fail;
 use tinyvec_test_items::{all_right, first};

@@ -1,5 +1,5 @@
 //! Lists that are read, and what stays unread.
-use crate::ends::{read, reads_array, reads_tiny};
+use crate::helpers::{read, reads_array, reads_tiny};
 use std::test::Fail;
 use tinyvec::ArrayVec;
 use tinyvec_test_items::{all_right, first, granted_ok};

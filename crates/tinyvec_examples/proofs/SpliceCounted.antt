@@ -4,10 +4,10 @@ use Rattle.std.proofs.lemmas.List.{length_push}
 use Rattle.std.specs.Option.{option_to_list}
 use Rattle.std.specs.declared.iter.Fuse.{Fuse}
 use Rattle.tinyvec_slots.specs.Ends.{End, front, back, Asks, given_items}
-use Rattle.tinyvec_slots.specs.Splices.{SpliceView, Splices, SplicesBack, finish_placed, finish_bound}
+use Rattle.tinyvec_slots.specs.AnySplice.{SpliceView, Splices, SplicesBack, finish_placed, finish_bound}
 use Rattle.tinyvec_array.specs.Splice.{splice_view, SpliceKeeps, SpliceSteps, SpliceStepsBack}
 use Rattle.tinyvec_array.specs.declared.splice.ArrayVecSplice.{ArrayVecSplice}
-use Rattle.tinyvec.specs.TinySplice as tiny
+use Rattle.tinyvec.specs.TinyVecSplice as tiny
 use Rattle.tinyvec.specs.declared.splice.TinyVecSplice.{TinyVecSplice}
 use Rattle.tinyvec.proofs.TinyLemmas.{SameFrame-refl, SameFrame-then}
 

@@ -1,36 +1,17 @@
 -- What a splice made of a list, once it was driven by a word of ends and finished.
 use Rattle.std.proofs.Common.{◌≡◌, ℕ, ◌+◌, ◌-◌, ◌≤◌, List, [], ◌∷◌, ◌++◌, length, take, drop, slice_range, Option, Some, None, Result, Ok, Err, IsOk, OnOk, IfErr, OnErr, ◌↔◌, false, true, ℤ, pos, replicate, refl, sym, ap, ◌∙◌, arith, length-append, length-take}
-use Rattle.std.proofs.lemmas.List.{nil_from_length, length_push, same_from_push, length-drop}
-use Rattle.std.specs.Iterator.{YieldsFirst, YieldsLast}
-use Rattle.std.specs.declared.array.IntoIter.{IntoIter as Items}
+use Rattle.std.proofs.lemmas.List.{length_push, same_from_push, length-drop}
+use Rattle.std.specs.Iterator.{YieldsFirst}
 use Rattle.std.specs.declared.iter.Fuse.{Fuse}
-use Rattle.std.specs.Array.Iter.{array_into_iter_items, array_steps, array_steps_back}
 use Rattle.tinyvec_slots.specs.Slots.{Slots, items, spare, items_len, all_slots, SlotRule}
 use Rattle.tinyvec_slots.specs.Ends.{End}
 use Rattle.tinyvec_slots.proofs.SlotsLemmas.{zeros_are, slots_are}
-use Rattle.tinyvec_slots.specs.Fused.{HasTwoEnds}
-use Rattle.tinyvec_slots.specs.Splices.{SpliceView, Splices, SplicesBack, FinishesWith}
-use Rattle.tinyvec_slots.specs.Splicing.{placed_back, IsSpliceRefused, SplicedByWord}
+use Rattle.tinyvec_slots.specs.AnySplice.{SpliceView, Splices, SplicesBack, FinishesWith}
+use Rattle.tinyvec_slots.specs.SplicedByWord.{placed_back, IsSpliceRefused, SplicedByWord}
 use Rattle.tinyvec_slots.specs.declared.no_room.SpliceRest.{SpliceRest}
 use Rattle.tinyvec_slots.proofs.SplicingLemmas.{spliced_len, spliced_all, spliced_refused}
 use Rattle.tinyvec_array.specs.Splice.{splice_slots, SpliceKeeps}
 use Rattle.tinyvec_array.specs.declared.splice.ArrayVecSplice.{ArrayVecSplice}
-use Rattle.tinyvec.specs.Tiny.{tiny_capacity, IsInline}
-use Rattle.tinyvec.specs.declared.tiny_vec.TinyVec.{TinyVec}
-use Rattle.tinyvec.specs.declared.tiny_vec.TinyVec.TheVariants.{Inline, Heap}
-
--- an array's items have two ends
-module _ {X : Type 0} {n : ℕ} where
-  first_of_array : (s : Items X n) (r : Option X) (t : Items X n) → array_steps s r t → YieldsFirst array_into_iter_items s r t
-  first_of_array s None t h = let none = nil_from_length _ h.0 in (none, ap array_into_iter_items h.1 ∙ none)
-  first_of_array s (Some x) t h = h
-
-  last_of_array : (s : Items X n) (r : Option X) (t : Items X n) → array_steps_back s r t → YieldsLast array_into_iter_items s r t
-  last_of_array s None t h = let none = nil_from_length _ h.0 in (none, ap array_into_iter_items h.1 ∙ none)
-  last_of_array s (Some x) t h = h
-
-  pub array_ends : HasTwoEnds {S = Items X n} array_steps array_steps_back array_into_iter_items
-  array_ends = record { first = first_of_array; last = last_of_array }
 
 -- the list, where the replacement was known
 module _ {S I T : Type 0} {view : S → SpliceView I T} {keeps : S → S → Type 0} (rest : I → List T) (capacity : ℕ) (s t : S) (word : List End) (list : List T)
@@ -120,8 +101,3 @@ module _ {S T : Type 0} (rest : S → List T) (s t : S) where
   pub next_is_none : (r : Option T) → YieldsFirst rest s r t → rest s ≡ [] → r ≡ None
   next_is_none None h is = refl
   next_is_none (Some y) h is = absurd (let no : y ∷ rest t ≡ [] = sym h ∙ is in cc)
-
--- how many items fit a list that lies in its array
-pub capacity_inline : {A T : Type 0} (slots : ℕ) (v : TinyVec A T) → IsInline v → tiny_capacity slots v ≡ slots
-capacity_inline slots (Inline v alloc) is = refl
-capacity_inline slots (Heap v) is = absurd (let no : false ≡ true = is in cc)

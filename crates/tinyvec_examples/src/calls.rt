@@ -2,5 +2,6 @@
 pub mod array;
 pub mod derefs;
 pub mod lent;
+pub mod replacing;
 pub mod text;
 pub mod tiny;

@@ -2,7 +2,7 @@
 ghost use Rattle.std.specs.Prelude.{◌≡◌, ◌+◌, ◌-◌, ◌≤◌, length, IfOk, OnOk};
 ghost use Rattle.std.specs.List.{AppendsClones};
 ghost use Rattle.tinyvec.specs.Slots.{items, items_len};
-ghost use Rattle.tinyvec.specs.Tiny.{tiny_items, tiny_len};
+ghost use Rattle.tinyvec.specs.TinyVec.{tiny_items, tiny_len};
 
 use std::alloc::AllocError;
 use tinyvec::{Array, ArrayVec, TinyVec};
@@ -50,7 +50,7 @@ pub fn same_numbers(v: &TinyVec<[u32; 8]>) -> Result<TinyVec<[u32; 8]>, AllocErr
     v.clone()
 }
 
-/// `?` drops the item that a refused call hands back.
+/// `?` drops the item that a refused call returns.
 pub fn filled_up(v: &mut TinyVec<[u32; 8]>, n: usize) -> Result<(), AllocError>
     ensures { OnOk result (tiny_len v.new ≡ n) }
 {

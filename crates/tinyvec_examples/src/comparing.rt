@@ -1,7 +1,7 @@
-//! Vectors compared and hashed: the list counts, and neither the spare slots nor where it lies.
+//! Vectors compared and hashed: the list counts, and neither the spare slots nor where it is.
 ghost use Rattle.std.specs.Prelude.{◌≡◌, true, Some, IsTrue, IfOk};
 ghost use Rattle.tinyvec.specs.Slots.{items};
-ghost use Rattle.tinyvec.specs.Tiny.{tiny_items};
+ghost use Rattle.tinyvec.specs.TinyVec.{tiny_items};
 
 use std::alloc::{AllocError, Global};
 use std::cmp::Ordering;
@@ -15,7 +15,7 @@ pub fn spare_slots_do_not_count() -> bool
     ArrayVec::from_array_len([1, 2, 0, 0], 2) == ArrayVec::from_array_len([1, 2, 9, 9], 2)
 }
 
-/// `[1, 2]` is less than `[1, 2, 0]`, whatever stands in the spare slot.
+/// `[1, 2]` is less than `[1, 2, 0]`, whatever the spare slot holds.
 pub fn shorter_is_less() -> bool
     ensures { IsTrue result }
 {
@@ -58,7 +58,7 @@ pub fn shorter_is_less_on_the_heap(alloc: Global) -> Result<Option<Ordering>, Al
     Ok(moved.partial_cmp(&TinyVec::from_array_len(alloc, [1, 2, 0, 0], 3)))
 }
 
-/// Vectors of one list are equal, of any items, wherever each of them lies.
+/// Vectors of one list are equal, of any items, wherever each of them is.
 pub fn equal_lists_anywhere<A: Array>(v: &TinyVec<A>, w: &TinyVec<A>) -> bool
 where
     A::Item: Eq,
@@ -85,7 +85,7 @@ where
     *v == *w
 }
 
-/// The same of vectors of which each may lie inline or on the heap.
+/// The same of vectors of which each may be inline or on the heap.
 pub fn equal_hash_alike_anywhere<A: Array, H: Hasher>(
     v: &TinyVec<A>,
     w: &TinyVec<A>,

@@ -114,7 +114,7 @@ pub fn inclusive() -> Option<i32>
     d.next_back()
 }
 
-/// A range that starts behind an index.
+/// A range that starts after an index.
 pub fn from_behind() -> Option<i32>
     ensures { result ≡ Some (pos 3) }
 {
@@ -131,9 +131,9 @@ pub fn drain_all<A: Array>(v: &mut ArrayVec<A>)
     drop(v.drain(..));
 }
 
-/// Any range of any vector: what stood before and after it is left.
+/// Any range of any vector: what preceded and followed it is left.
 pub fn cut<A: Array, R: RangeBounds<usize>>(v: &mut ArrayVec<A>, range: R)
-    requires known { R.has_bounds range }
+    requires not_exhausted { R.has_bounds range }
     requires in_list { IsRangeOf (items v.old) (R.start_bound range) (R.end_bound range) }
     ensures items { items v.new
         ≡ before (items v.old) (R.start_bound range) ++ after (items v.old) (R.end_bound range) }
@@ -148,7 +148,7 @@ pub fn nth_of<A: Array, R: RangeBounds<usize>>(
     range: R,
     n: usize,
 ) -> Option<A::Item>
-    requires known { R.has_bounds range }
+    requires not_exhausted { R.has_bounds range }
     requires in_list { IsRangeOf (items v.old) (R.start_bound range) (R.end_bound range) }
     ensures item { result ≡ slice_get (removed (items v.old) (R.start_bound range) (R.end_bound range)) n }
     ensures left { items v.new ≡ before (items v.old) (R.start_bound range) ++ after (items v.old) (R.end_bound range) }

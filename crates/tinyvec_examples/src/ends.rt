@@ -18,7 +18,7 @@ pub fn try_push_then_pop<A: Array>(
     (refused, v.pop())
 }
 
-/// A full vector hands the item back, and is as it was.
+/// A full vector returns the item, and is as it was.
 pub fn push_on_full<A: Array>(v: &mut ArrayVec<A>, x: A::Item) -> Option<A::Item>
     requires { items_len v.old ≡ A.CAPACITY }
     ensures back { result ≡ Some x }
@@ -66,7 +66,7 @@ pub fn popped_in_array() -> [i32; 5]
     v.into_inner()
 }
 
-/// A push writes the slot behind the list, and no other.
+/// A push writes the slot after the list, and no other.
 pub fn pushed_in_array() -> [i32; 4]
     ensures { result ≡ pos 1 ∷ pos 2 ∷ pos 9 ∷ pos 4 ∷ [] }
 {

@@ -2,8 +2,8 @@
 ghost use Rattle.std.specs.Prelude.{◌≡◌, ◌+◌, ◌-◌, ◌≤◌, ◌++◌, length, vec_len, IsOk};
 ghost use Rattle.std.specs.List.{range_with_len};
 ghost use Rattle.tinyvec.specs.Slots.{items, items_len};
-ghost use Rattle.tinyvec.specs.Tiny.{tiny_items, tiny_len, tiny_capacity};
-ghost use Rattle.tinyvec.specs.View.{items as slice_items, spare as slice_spare, name};
+ghost use Rattle.tinyvec.specs.TinyVec.{tiny_items, tiny_len, tiny_capacity};
+ghost use Rattle.tinyvec.specs.SliceVec.{items as slice_items, spare as slice_spare, name};
 
 use std::alloc::Global;
 use std::iter::Copied;
@@ -57,7 +57,7 @@ pub fn into_slots(
     v.extend(more)
 }
 
-/// The items of a `Vec`, where there is room for them, inline or on the heap: no memory is asked for.
+/// The items of a `Vec`, where there is room for them, inline or on the heap: nothing is allocated.
 pub fn into_room<A: Array>(
     v: &mut TinyVec<A>,
     more: Vec<A::Item>,

@@ -1,7 +1,7 @@
 //! Vectors made by `array_vec!` and `tiny_vec!`, in each form.
 ghost use Rattle.std.specs.Prelude.{◌≡◌, ◌<◌, ◌+◌, ◌∷◌, [], pos, IfOk};
 ghost use Rattle.tinyvec.specs.Slots.{items, spare};
-ghost use Rattle.tinyvec.specs.Tiny.{tiny_items, tiny_spare, IsInline};
+ghost use Rattle.tinyvec.specs.TinyVec.{tiny_items, tiny_spare, IsInline};
 
 use std::alloc::{AllocError, Global};
 use tinyvec::{ArrayVec, TinyVec, array_vec, tiny_vec};
@@ -50,7 +50,7 @@ pub fn empty() -> ArrayVec<[i32; 4]>
     array_vec!()
 }
 
-/// A list that fits the array lies in it.
+/// A list that fits the array is in it.
 pub fn fits(alloc: Global) -> Result<TinyVec<[i32; 4]>, AllocError>
     ensures items { IfOk result (λ v. tiny_items v ≡ pos 1 ∷ pos 2 ∷ []) }
     ensures place { IfOk result (λ v. IsInline v) }
@@ -58,7 +58,7 @@ pub fn fits(alloc: Global) -> Result<TinyVec<[i32; 4]>, AllocError>
     tiny_vec!(alloc; [i32; 4] => 1, 2)
 }
 
-/// A longer one lies on the heap.
+/// A longer one is on the heap.
 pub fn too_long(alloc: Global) -> Result<TinyVec<[i32; 2]>, AllocError>
     ensures items { IfOk result (λ v. tiny_items v ≡ pos 1 ∷ pos 2 ∷ pos 3 ∷ []) }
     ensures place { IfOk result (λ v. ¬ (IsInline v)) }

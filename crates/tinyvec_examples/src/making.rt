@@ -26,7 +26,7 @@ pub fn full_list<A: Array>(array: A) -> ArrayVec<A>
     ensures items { items result ≡ A.slots array }
     ensures spare { spare result ≡ [] }
 {
-    // It tells the proof how many slots there are.
+    // For the proof: the number of slots.
     let _slots = array.as_slice();
     converted(array)
 }

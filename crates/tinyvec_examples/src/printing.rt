@@ -4,7 +4,7 @@ ghost use Rattle.std.specs.Fmt.{decimal};
 ghost use Rattle.std.specs.List.{join_by};
 ghost use Rattle.tinyvec.specs.Slots.{items};
 ghost use Rattle.tinyvec.specs.Texts.{list_in_radix};
-ghost use Rattle.tinyvec.specs.Tiny.{tiny_items};
+ghost use Rattle.tinyvec.specs.TinyVec.{tiny_items};
 
 use std::alloc::{AllocError, Global};
 use std::fmt;
@@ -46,7 +46,7 @@ where
     format!(in alloc; "{}", *v)
 }
 
-/// A list of numbers, wherever it lies.
+/// A list of numbers, wherever it is.
 pub fn displayed_numbers<A: Array<Item = u32>>(
     alloc: Global,
     v: &TinyVec<A>,

@@ -1,4 +1,4 @@
-//! The examples of the documents, each as it stands there.
+//! The examples of the documents, each as it is there.
 
 pub mod array;
 pub mod below;

@@ -5,7 +5,7 @@ ghost use Rattle.tinyvec_array.specs.Slots.{items, items_len, SlotRule};
 ghost use Rattle.tinyvec_array.specs.Ends.{front, back, given_items, Asks, TakesFromEnds};
 ghost use Rattle.tinyvec_array.specs.Fused.{fused_rest, HasTwoEnds};
 ghost use Rattle.tinyvec_array.specs.Splice.{splice_view, splice_left, SpliceKeeps, SpliceCanStep, SpliceSteps, SpliceStepsBack};
-ghost use Rattle.tinyvec_array.specs.Splicing.{IsSpliceRefused, SplicedByWord};
+ghost use Rattle.tinyvec_array.specs.SplicedByWord.{IsSpliceRefused, SplicedByWord};
 
 use std::iter::Fuse;
 use tinyvec_array::{Array, ArrayVec, ArrayVecSplice, SpliceRest};

@@ -4,9 +4,9 @@ ghost use Rattle.std.specs.Iterator.{IsFinite};
 ghost use Rattle.std.specs.Iterator.Adapters.{fuse_steps};
 ghost use Rattle.tinyvec.specs.Ends.{front, back, Asks};
 ghost use Rattle.tinyvec.specs.Fused.{fused_rest, FusedFinite, HasTwoEnds};
-ghost use Rattle.tinyvec.specs.Splicing.{IsSpliceRefused, SplicedByWord};
-ghost use Rattle.tinyvec.specs.Tiny.{tiny_items, tiny_len, tiny_capacity, IsInline, PlaceRule, TinySlotRule};
-ghost use Rattle.tinyvec.specs.TinySplice.{splice_view, splice_replacement, SpliceKeeps, SpliceCanStep, SpliceSteps, SpliceStepsBack};
+ghost use Rattle.tinyvec.specs.SplicedByWord.{IsSpliceRefused, SplicedByWord};
+ghost use Rattle.tinyvec.specs.TinyVec.{tiny_items, tiny_len, tiny_capacity, IsInline, PlaceRule, TinySlotRule};
+ghost use Rattle.tinyvec.specs.TinyVecSplice.{splice_view, splice_replacement, SpliceKeeps, SpliceCanStep, SpliceSteps, SpliceStepsBack};
 
 use crate::tiny_vec::three;
 use std::alloc::Global;

@@ -1,7 +1,7 @@
-//! Callers of a `TinyVec`: one list, and where it lies.
+//! Callers of a `TinyVec`: one list, and where it is.
 ghost use Rattle.std.specs.Prelude.{◌≡◌, ◌+◌, ◌-◌, ◌<◌, ◌≤◌, ◌++◌, ◌∷◌, [], pos, slice_get, slice_set, false, IsTrue, OnOk, OnErr};
 ghost use Rattle.tinyvec.specs.Cut.{IsRangeOf, before, removed, after};
-ghost use Rattle.tinyvec.specs.Tiny.{tiny_items, tiny_len, tiny_spare, is_inline, tiny_capacity, IsInline, TinySlotRule, Unchanged};
+ghost use Rattle.tinyvec.specs.TinyVec.{tiny_items, tiny_len, tiny_spare, is_inline, tiny_capacity, IsInline, TinySlotRule, Unchanged};
 
 use crate::making::count;
 use std::alloc::{AllocError, Global};
@@ -53,7 +53,7 @@ pub fn there_and_back<A: Array>(v: &mut TinyVec<A>) -> Result<(), AllocError>
     ensures items { tiny_items v.new ≡ tiny_items v.old }
     ensures place { IsInline v.old → IsInline v.new }
 {
-    // It tells the proof that the list fits the array where it lies there.
+    // It tells the proof that the list fits the array where it is there.
     let _len = v.len();
     v.move_to_the_heap()?;
     v.shrink_to_fit();
@@ -70,9 +70,9 @@ pub fn set<A: Array>(v: &mut TinyVec<A>, i: usize, x: A::Item)
     v[i] = x;
 }
 
-/// Any range of any vector: what stood before and after it is left, in its place.
+/// Any range of any vector: what preceded and followed it is left, in its place.
 pub fn cut<A: Array, R: RangeBounds<usize>>(v: &mut TinyVec<A>, range: R)
-    requires known { R.has_bounds range }
+    requires not_exhausted { R.has_bounds range }
     requires in_list { IsRangeOf (tiny_items v.old) (R.start_bound range) (R.end_bound range) }
     ensures items { tiny_items v.new
         ≡ before (tiny_items v.old) (R.start_bound range) ++ after (tiny_items v.old) (R.end_bound range) }
@@ -89,7 +89,7 @@ pub fn nth_of<A: Array, R: RangeBounds<usize>>(
     range: R,
     n: usize,
 ) -> Option<A::Item>
-    requires known { R.has_bounds range }
+    requires not_exhausted { R.has_bounds range }
     requires in_list { IsRangeOf (tiny_items v.old) (R.start_bound range) (R.end_bound range) }
     ensures item { result ≡ slice_get (removed (tiny_items v.old) (R.start_bound range) (R.end_bound range)) n }
     ensures left { tiny_items v.new
@@ -109,7 +109,7 @@ pub fn last_of<A: Array>(v: &mut TinyVec<A>) -> Option<A::Item>
     v.drain(..).last()
 }
 
-/// The middle of four, drained: two zeros stand behind what is left.
+/// The middle of four, drained: two zeros follow what is left.
 pub fn middle_drained(alloc: Global) -> TinyVec<[i32; 4]>
     ensures items { tiny_items result ≡ pos 1 ∷ pos 4 ∷ [] }
     ensures place { IsInline result }

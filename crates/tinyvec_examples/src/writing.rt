@@ -2,7 +2,7 @@
 ghost use Rattle.std.specs.Prelude.{◌≡◌, ◌+◌, ◌≤◌, ◌++◌, ◌↔◌, length, drop, codes, false, IsTrue, OnOk};
 ghost use Rattle.std.specs.Fmt.{decimal};
 ghost use Rattle.tinyvec.specs.Slots.{items, spare, items_len};
-ghost use Rattle.tinyvec.specs.Tiny.{tiny_items};
+ghost use Rattle.tinyvec.specs.TinyVec.{tiny_items};
 
 use std::fmt::Write as _;
 use std::io::Write as _;
@@ -45,7 +45,7 @@ pub fn pair_written_anywhere<A: Array<Item = u8>>(
     write!(v, "{x}, {y}")
 }
 
-/// Bytes are appended, wherever the list lies.
+/// Bytes are appended, wherever the list is.
 pub fn bytes_written<A: Array<Item = u8>>(v: &mut TinyVec<A>, bytes: &[u8]) -> io::Result<()>
     ensures { OnOk result (tiny_items v.new ≡ tiny_items v.old ++ bytes.now) }
 {

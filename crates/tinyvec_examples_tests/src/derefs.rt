@@ -6,7 +6,7 @@ use tinyvec_examples::calls::derefs::{
 };
 use tinyvec_examples::readme::below::below;
 
-// The slot behind the list holds 9, which no call sees.
+// The slot after the list holds 9, which no call sees.
 #[test]
 fn slice_methods_of_an_array_vec(rt: HostRuntime) {
     let mut v = ArrayVec::from_array_len([3, 1, 2, 9], 3);

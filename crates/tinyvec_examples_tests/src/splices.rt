@@ -1,6 +1,6 @@
 //! The callers that splice.
 ghost use Rattle.tinyvec.specs.Fused.{FusedFinite};
-ghost use Rattle.tinyvec.specs.TinySplice.{splice_replacement, SpliceCanStep, SpliceCanNext};
+ghost use Rattle.tinyvec.specs.TinyVecSplice.{splice_replacement, SpliceCanStep, SpliceCanNext};
 
 use std::iter::Fuse;
 use std::test::Fail;

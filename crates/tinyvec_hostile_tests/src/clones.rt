@@ -51,7 +51,7 @@ type Slots<'a, 'n> = [Small<'a, 'n>; 599];
 
 type List<'a, 'n> = ArrayVec<Slots<'a, 'n>>;
 
-// A list of so many items, before spare slots. All slots have names, from the one at this place on.
+// A list of this many items, before spare slots. All slots have names, from the one at this place on.
 fn named<'a, 'n>(names: &'a Names<'n>, first: usize, len: usize) -> List<'a, 'n> {
     let mut v = ArrayVec::new();
     for at in 0..599_usize {
@@ -75,13 +75,13 @@ enum Vector {
 enum Call {
     // Of the vector, with all its slots, or on the heap with its list.
     Clone,
-    // Of so many items, in place of the list.
+    // Of this many items, in place of the list.
     CloneFrom,
-    // Of so many items, behind the list.
+    // Of this many items, after the list.
     Extend,
     // To this length.
     Resize,
-    // Of so many items, in a new vector.
+    // Of this many items, in a new vector.
     FromSlice,
 }
 
@@ -193,7 +193,7 @@ impl Wanted {
         are
     }
 
-    // Whether the call asked for so many clones, was granted them or not, and left this.
+    // Whether the call asked for this many clones, was granted them or not, and left this.
     fn is_left(
         &self,
         clones: &Clones,
@@ -206,7 +206,7 @@ impl Wanted {
         answer & list & self.are_named(spare, self.len)
     }
 
-    // Whether it asked for so many, and made no vector.
+    // Whether it asked for this many, and made no vector.
     fn is_refused(&self, clones: &Clones) -> bool {
         (clones.asked() == self.asked) & !self.is_granted
     }
@@ -438,7 +438,7 @@ fn of_a_tiny_vec_inline(rt: HostRuntime) -> Result<(), Fail> {
     all_right(first_wrong(rt.alloc(), Vector::Inline, CALLS, LENGTHS, REFUSED))
 }
 
-// Few, since each asks for memory.
+// Few, since each allocates.
 #[test]
 fn of_a_tiny_vec_on_the_heap(rt: HostRuntime) -> Result<(), Fail> {
     let lengths = &[(0, 4), (3, 5), (5, 3), (21, 21), (550, 540)];

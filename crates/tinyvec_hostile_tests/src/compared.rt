@@ -37,7 +37,7 @@ fn listed(len: usize, count: &Cell<usize>) -> List<'_> {
     v
 }
 
-// Whether arrays of these lengths, and slices of as many items, are equal where the lengths are, by so many questions.
+// Whether arrays of these lengths, and slices of as many items, are equal where the lengths are, by this many questions.
 fn arrays_and_slices_ask(len: usize, other_len: usize, questions: usize) -> bool {
     let (of_arrays, of_slices) = (Cell::new(0), Cell::new(0));
     let are_equal = listed(len, &of_arrays) == listed(other_len, &of_arrays);

@@ -9,7 +9,7 @@ use tinyvec_test_items::{all_right, first, granted_ok, refuses};
 // An item that owns memory. Where memory is refused it is `None`.
 type Owned = Option<Box<u8>>;
 
-/// Gives items that own the numbers from the next one on, and starts anew behind the greatest.
+/// Gives items that own the numbers from the next one on, and starts anew after the greatest.
 #[derive(Drop)]
 struct Endless {
     alloc: Global,

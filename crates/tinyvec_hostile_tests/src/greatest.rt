@@ -10,7 +10,7 @@ use tinyvec_test_items::{all_right, arrays, first, is_left};
 use tinyvec_test_looks::{lies, truncates};
 use tinyvec_text::InlineText;
 
-// Whether an iterator ends where it skips so many items, and none is left.
+// Whether an iterator ends where it skips this many items, and none is left.
 fn skips_all<I: ExactSizeIterator>(mut iter: I) -> bool
 where
     I::Item: Drop,

@@ -1,4 +1,4 @@
-//! The tests of hostile use: memory refused, hints that lie, endless iterators, greatest numbers, no slots and many.
+//! The tests of hostile use: memory refused, wrong hints, endless iterators, greatest numbers, no slots and many.
 #![tactic(auto)]
 
 #[cfg(test)]

@@ -29,7 +29,7 @@ fn three() -> ArrayVec<[Page; 4]>
     ArrayVec::from_array_len([page(1), page(2), page(3), page(9)], 3)
 }
 
-// Whether the list lies there, and each page is full of its number.
+// Whether the list is there, and each page is full of its number.
 fn lie<A: Array<Item = Page>>(v: &TinyVec<A>, numbers: &[u64], inline: bool) -> bool {
     (v.is_inline() == inline) & (v.is_heap() != inline) & hold(v.as_slice(), numbers)
 }

@@ -188,7 +188,7 @@ fn on_the_heap_only_the_last_push_asks(rt: HostRuntime) -> Result<(), Fail> {
     tells(&rt, is_refused, wrong)
 }
 
-// What the refused end of a splice hands back is put in its place by others.
+// What the refused end of a splice returns is put in its place by others.
 fn splices_again(v: &mut TinyVec<[i32; 3]>) -> (bool, u32) {
     if v.len() != 4 {
         return (false, 1);

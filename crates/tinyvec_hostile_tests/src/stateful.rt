@@ -144,7 +144,7 @@ type Two = TinyVec<[u8; 2]>;
 
 const ONE_TO_SEVEN: &[u8] = &[1, 2, 3, 4, 5, 6, 7];
 
-// `dedup_by` is told of every third item that it repeats the last one kept, and every third key differs from the others.
+// `dedup_by` is told that every third item repeats the last one kept, and every third key differs.
 #[test]
 fn filtered_on_the_heap(rt: HostRuntime) -> Result<(), Fail> {
     let alloc = rt.alloc();

@@ -75,7 +75,7 @@ fn a_tiny_vec_of_two(rt: HostRuntime) -> Result<(), Fail> {
     all_right(wrong)
 }
 
-// The bounds stand behind the last item.
+// The bounds are after the last item.
 #[test]
 fn the_greatest_bounds(rt: HostRuntime) -> Result<(), Fail> {
     let mut v = ArrayVec::from_array([(); usize::MAX]);

@@ -1,4 +1,4 @@
--- What a clause sees of an end whose faults are counted, and when a call reported one.
+-- What a contract sees of a `Counted`, and how the results of its calls change the number of faults.
 use Rattle.std.specs.Prelude.{◌≡◌, ℕ, ◌+◌, ◌-◌, ◌^◌, ◌<◌, ◌⊎◌, min, zero, suc, List, [], ◌∷◌, ◌++◌, Option, Ok, Err, Result}
 use Rattle.std.specs.Io.KnownBytes.{Appends}
 
@@ -11,22 +11,22 @@ pub record CountedEnd (E : Type 0) : Type 0 where
 abbrev pub one_more_fault : ℕ → ℕ
 one_more_fault faults = min (faults + 1) (2 ^ 64 - 1)
 
--- the faults after a read or a flush that answered so
+-- the faults after a read or a flush with this result
 abbrev pub faults_after : {T E : Type 0} → ℕ → Result T E → ℕ
 faults_after faults (Ok answer) = faults
 faults_after faults (Err error) = one_more_fault faults
 
--- the faults after a write of these bytes that answered so
+-- the faults after a write of these bytes with this result
 abbrev pub faults_after_write : {E : Type 0} → ℕ → Result ℕ E → List ℕ → ℕ
 faults_after_write faults (Ok zero) (byte ∷ bytes) = one_more_fault faults
 faults_after_write faults (Ok zero) [] = faults
 faults_after_write faults (Ok (suc count)) bytes = faults
 faults_after_write faults (Err error) bytes = one_more_fault faults
 
--- the number rose during the call, or stands at `u64::MAX`, where a fault no longer shows
+-- the number rose during the call, or is `u64::MAX`, where it cannot rise
 abbrev pub Reported : ℕ → ℕ → Type 0
 Reported old new = (old < new) ⊎ (new ≡ 2 ^ 64 - 1)
 
--- known bytes grow by a front of these bytes
+-- the known bytes grow by a prefix of these bytes
 abbrev pub AppendsFront : Option (List ℕ) → Option (List ℕ) → List ℕ → Type 0
 AppendsFront old new bytes = (front rest : List ℕ) × (bytes ≡ front ++ rest) × Appends old new front

@@ -7,11 +7,11 @@ mod writing;
 
 use std::marker::Model;
 
-/// The reader or writer that it holds, and the number of its faults.
+/// A reader or writer, and the number of its faults.
 ///
-/// A fault is a `read`, `write` or `flush` that answered `Err`, also where it was interrupted, and
-/// a `write` that took nothing of bytes given. The end of input is none. Each of these calls is
-/// passed on as it is, with its answer, and no bytes are kept back.
+/// A fault is a `read`, `write` or `flush` that returned `Err`, also `Interrupted`, and a `write` of a non-empty buffer that
+/// returned `Ok(0)`. The end of input is no fault. Each of these calls is passed on as it is, and its result is returned;
+/// no bytes are buffered.
 #[derive(Debug, Drop)]
 pub struct Counted<E> {
     end: E,
@@ -25,7 +25,7 @@ impl<E> Model for Counted<E> {
 }
 
 impl<E> Counted<E> {
-    /// Takes over the reader or writer, with no fault so far.
+    /// Wraps a reader or writer, with no fault so far.
     pub fn new(end: E) -> Self
         ensures end { result.end ≡ end }
         ensures faults { result.faults ≡ 0 }
@@ -40,7 +40,7 @@ impl<E> Counted<E> {
         self.faults
     }
 
-    /// Gives back the reader or writer, and forgets the number.
+    /// Returns the reader or writer, and drops the number.
     pub fn into_inner(self) -> E
         ensures { result ≡ self.end }
     {

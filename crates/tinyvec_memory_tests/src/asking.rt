@@ -1,4 +1,4 @@
-//! Calls that may ask for memory, as values: one function makes them all, so that it is proved once, and a table of them is a
+//! Calls that may allocate, as values: one function makes them all, so that it is proved once, and a table of them is a
 //! constant.
 use std::alloc::{AllocError, Global};
 use tinyvec::{Array, NoMemory, TinyVec, tiny_vec};
@@ -20,12 +20,12 @@ pub(crate) enum Asking {
     TryMoveToTheHeap,
     MoveToTheHeapAndReserve(usize),
     TryMoveToTheHeapAndReserve(usize),
-    // It may ask for memory too, and answers no refusal.
+    // It may allocate too, and reports no refusal.
     ShrinkToFit,
 }
 
 impl Asking {
-    // Makes the call. Where it is refused, this answers what was handed back, or how often it had asked a closure.
+    // Makes the call. Where it is refused, this answers what was returned, or how often it had asked a closure.
     pub(crate) fn make<A: Array<Item = i32>>(self, v: &mut TinyVec<A>) -> Result<(), Option<i32>> {
         let answer = match self {
             Asking::Push(item) => return handed_back(v.push(item)),

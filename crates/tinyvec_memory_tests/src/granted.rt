@@ -1,5 +1,5 @@
-//! Calls that may answer want of memory, where all memory is granted: none gives up. The calls that grow a list and those for
-//! room stand in the modules of these, and those of an `ArrayVec` and of a `SliceVec` in the tests of their crates.
+//! Calls that may answer want of memory, where all memory is granted: none fails. The calls that grow a list and those for
+//! room are in the modules of these, and those of an `ArrayVec` and of a `SliceVec` in the tests of their crates.
 use crate::asking::Making;
 use std::test::Fail;
 use tinyvec::TinyVec;

@@ -14,7 +14,7 @@ fn full(alloc: Global) -> Two {
 }
 
 // Calls of a full list, each with the list that it leaves on the heap and the room there: where one item finds no room, that
-// for twice as many, and where the need is known, that for just so many.
+// for twice as many, and where the need is known, that for just this many.
 const GROWN: [(Asking, &[i32], usize); 12] = [
     (Asking::Push(3), &[1, 2, 3], 4),
     (Asking::Insert(2, 3), &[1, 2, 3], 4),
@@ -106,7 +106,7 @@ fn nothing_more(rt: HostRuntime) -> Result<(), Fail> {
     all_right(go_so(0, 1, &mut full(rt.alloc()), &NOTHING_MORE))
 }
 
-// Whether a list is put behind a full one.
+// Whether a list is put after a full one.
 fn appends(alloc: Global, other: &mut Two, items: &[i32]) -> Option<bool> {
     let mut v = full(alloc);
     match v.append(other) {

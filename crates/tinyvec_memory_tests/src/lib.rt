@@ -10,6 +10,8 @@ mod growing;
 #[cfg(test)]
 mod moving;
 #[cfg(test)]
+mod no_memory;
+#[cfg(test)]
 mod refusals;
 #[cfg(test)]
 mod reserving;

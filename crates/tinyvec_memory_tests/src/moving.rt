@@ -161,7 +161,7 @@ fn gives_a_boxed_slice<A: Array<Item = i32>>(v: TinyVec<A>, items: &[i32]) -> Op
 fn given_up(rt: HostRuntime) -> Result<(), Fail> {
     let heap: TinyVec<[i32; 2]> = TinyVec::from_slice(rt.alloc(), &[1, 2, 3])?;
     let mut wrong = 0;
-    // It takes no memory.
+    // It allocates nothing.
     wrong = first(wrong, 1, gives_a_vec(heap, &[1, 2, 3]) == Some(true));
     let inline = TinyVec::from_array(rt.alloc(), [1, 2]);
     wrong = granted(wrong, 2, gives_a_vec(inline, &[1, 2]));

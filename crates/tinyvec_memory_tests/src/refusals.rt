@@ -1,6 +1,6 @@
-//! Each call that may ask for memory, granted or refused. `tests/refuse` has each allocation refused in turn.
+//! Each call that may allocate, granted or refused. `tests/refuse` has each allocation refused in turn.
 ghost use Rattle.std.specs.Prelude.{◌≡◌, IfOk};
-ghost use Rattle.tinyvec.specs.Tiny.{tiny_len};
+ghost use Rattle.tinyvec.specs.TinyVec.{tiny_len};
 
 mod calls;
 mod copies;
@@ -75,7 +75,7 @@ impl Start {
         is_list & (v.capacity() == room)
     }
 
-    // Whether its items were taken out, and it lies where it was, with this room.
+    // Whether its items were taken out, and it is where it was, with this room.
     fn is_emptied(self, v: &TinyVec<[i32; 3]>, room: usize) -> bool {
         let is_list = match self {
             Start::InTheArray => lies_before(v, &[], &[0, 0, 9]),
@@ -86,7 +86,7 @@ impl Start {
     }
 }
 
-// A call, what it hands back where it is refused, and else the list that it leaves and the least room that there is then.
+// A call, what it returns where it is refused, and else the list that it leaves and the least room that there is then.
 #[derive(Clone, Copy)]
 struct Row {
     call: Asking,

@@ -11,12 +11,12 @@ pub(crate) enum Need {
     Nothing,
 }
 
-// Where a list lies.
+// Where a list is.
 #[derive(Clone, Copy)]
 pub(crate) enum Place {
     // Before these spare slots.
     Inline(&'static [i32]),
-    // With room for so many items at least.
+    // With room for this many items at least.
     Heap(usize),
 }
 

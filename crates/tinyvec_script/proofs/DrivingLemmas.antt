@@ -10,13 +10,13 @@ use Rattle.tinyvec_slots.specs.Slots.{Slots, spare, items_len, SlotRule}
 use Rattle.tinyvec_slots.specs.Cut.{before, removed, after}
 use Rattle.tinyvec_slots.specs.Ends.{Asks, GivenByWord, TakesFromEnds, given_items}
 use Rattle.tinyvec_slots.specs.Fused.{HasTwoEnds}
-use Rattle.tinyvec_slots.specs.Splices.{SpliceView, FinishesWith}
-use Rattle.tinyvec_slots.specs.Splicing.{IsSpliceRefused, SplicedByWord}
+use Rattle.tinyvec_slots.specs.AnySplice.{SpliceView, FinishesWith}
+use Rattle.tinyvec_slots.specs.SplicedByWord.{IsSpliceRefused, SplicedByWord}
 use Rattle.tinyvec_slots.specs.declared.no_room.SpliceRest.{SpliceRest}
 use Rattle.tinyvec_slots.proofs.EndsLemmas.{Asks-front, Asks-back, items_given, given_is_taken}
 use Rattle.tinyvec_slots.proofs.Lists.{length-slice_range}
 use Rattle.tinyvec_slots.proofs.SplicingLemmas.{spliced_len, spliced_all, spliced_refused}
-use Rattle.tinyvec.specs.Tiny.{tiny_capacity, PlaceRule, SameFrame}
+use Rattle.tinyvec.specs.TinyVec.{tiny_capacity, PlaceRule, SameFrame}
 use Rattle.tinyvec.specs.Room.{KeepsRoom}
 use Rattle.tinyvec.specs.declared.tiny_vec.TinyVec.{TinyVec}
 use Rattle.tinyvec_script.specs.Driving.{letter, word_of, TakesAt, refused_items, ListSplices, SpliceComputes, unplaced_from, unplaced_to}

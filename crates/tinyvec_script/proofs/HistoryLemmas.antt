@@ -1,5 +1,5 @@
 -- A run goes on: by a byte, by the end of a line, by the end of the input.
-use Rattle.std.proofs.Common.{◌≡◌, ◌≢◌, ℕ, ◌<◌, ◌≤◌, List, [], ◌∷◌, ◌++◌, length, Option, None, Some, refl, sym, ap, subst, ◌∙◌, append_assoc, append-nil, length-append, arith}
+use Rattle.std.proofs.Common.{◌≡◌, ◌≢◌, ℕ, ◌+◌, ◌<◌, ◌≤◌, List, [], ◌∷◌, ◌++◌, length, take, Option, None, Some, refl, sym, ap, subst, ◌∙◌, append_assoc, append-nil, length-append, arith}
 use Rattle.std.proofs.lemmas.Bool.Decides.{nat_tests}
 use Rattle.std.proofs.lemmas.List.Elements.{All-nil}
 use Rattle.tinyvec_io.specs.Lines.{last_line}
@@ -104,3 +104,8 @@ pub whole_script : (input output written : List ℕ) (state : State) (line : Opt
 whole_script input output written state line f ends =
     let now = f [] [] [] Progress-start refl in
     ends input output now.0 now.1 now.2
+
+-- a chunk that is not empty makes the input longer
+pub chunk_longer : (input buf : List ℕ) (pieces count : ℕ) → pieces ≤ length input → count ≡ length (take count buf) → count ≢ 0
+    → pieces + 1 ≤ length (input ++ take count buf)
+chunk_longer input buf pieces count long whole some = omega (arith, length-append input (take count buf), long, whole, some)

@@ -1,6 +1,6 @@
 -- What is seen of a `TinyVec`, from what its calls tell.
 use Rattle.std.proofs.Common.{◌≡◌, ℕ, ◌<◌, ◌≤◌, List, [], length, Vec, Global, refl, rules, arith}
-use Rattle.tinyvec.specs.Tiny.{tiny_items, tiny_len, tiny_spare, tiny_capacity, is_inline, IsInline, PlaceRule, TinySlotRule, Unchanged}
+use Rattle.tinyvec.specs.TinyVec.{tiny_items, tiny_len, tiny_spare, tiny_capacity, is_inline, IsInline, PlaceRule, TinySlotRule, Unchanged}
 use Rattle.tinyvec.specs.Room.{KeepsRoom}
 use Rattle.tinyvec.specs.declared.tiny_vec.TinyVec.{TinyVec}
 use Rattle.tinyvec.specs.declared.tiny_vec.TinyVec.TheVariants.{Inline, Heap}

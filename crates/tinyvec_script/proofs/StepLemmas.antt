@@ -5,7 +5,7 @@ use Rattle.std.specs.declared.ops.Bound.TheVariants.{Included, Excluded}
 use Rattle.std.proofs.lemmas.List.{length_push}
 use Rattle.std.proofs.lemmas.List.Edits.{length-insert, length-remove}
 use Rattle.std.proofs.lemmas.Option.{slice_get_read}
-use Rattle.tinyvec_slots.specs.Slots.{Slots, items, spare, items_len, Frees}
+use Rattle.tinyvec_slots.specs.Slots.{Slots, items, spare, items_len, Vacates}
 use Rattle.tinyvec_slots.specs.Cut.{before, removed, after}
 use Rattle.tinyvec_slots.proofs.Lists.{length-remove_range, length-slice_range}
 use Rattle.tinyvec_slots.proofs.SlotsLemmas.{slots_used, slots_freed}
@@ -28,13 +28,13 @@ module _ {T : Type 0} (D : T → Type 0) (capacity : ℕ) (old new : Slots T) wh
       (in_list, room, is, slots_used D old new 1 (ap length is ∙ length-insert (items old) i x in_list) behind)
 
   pub removes : (i : ℕ) (x : T) → i < items_len old → x ≡ slice_index_or (items old) i x → items new ≡ remove (items old) i
-      → Frees D 1 old new → ArrayStep D capacity old (Remove i) (answers.Some x) new
+      → Vacates D 1 old new → ArrayStep D capacity old (Remove i) (answers.Some x) new
   removes i x in_list value is frees =
       let fewer : items_len old ≡ items_len new + 1 = sym (ap (λ n. n + 1) (ap length is) ∙ length-remove (items old) i in_list) in
       (slice_get_read (items old) _ i _ refl in_list value, is, slots_freed D old new 1 fewer frees)
 
   pub swap_removes : (i : ℕ) (x : T) → i < items_len old → x ≡ slice_index_or (items old) i x
-      → items new ≡ swap_remove (items old) i x → Frees D 1 old new → ArrayStep D capacity old (SwapRemove i) (answers.Some x) new
+      → items new ≡ swap_remove (items old) i x → Vacates D 1 old new → ArrayStep D capacity old (SwapRemove i) (answers.Some x) new
   swap_removes i x in_list value is frees =
       let last = get_or (items old) (items_len old - 1) x in
       let cut = length-take (items_len old - 1) (set (items old) i last) in
@@ -46,7 +46,7 @@ module _ {T : Type 0} (D : T → Type 0) (capacity : ℕ) (old new : Slots T) wh
   pub drains : (start end : ℕ) (given : List T) → start ≤ end → end ≤ items_len old
       → given ≡ removed (items old) (Included start) (Excluded end)
       → items new ≡ before (items old) (Included start) ++ after (items old) (Excluded end)
-      → Frees D (length (removed (items old) (Included start) (Excluded end))) old new → ArrayDrains D old start end given new
+      → Vacates D (length (removed (items old) (Included start) (Excluded end))) old new → ArrayDrains D old start end given new
   drains start end given in_order in_list taken is frees =
       let cut = length-slice_range (items old) start end in_order in_list in
       let left = ap length is ∙ length-remove_range (items old) start end in_order in_list in

@@ -23,7 +23,7 @@ pub gathered_then : (a b c : Option (List ℕ)) (text more : List ℕ) (f g h : 
 gathered_then a b c text more f g h p q = (Appends-trans a b c text more p.0 q.0, omega (arith, p.1, q.1), tt)
 
 -- a fault that was reported since then was reported since before
-reported_since : (f g h : ℕ) → f ≤ g → Reported g h → Reported f h
+pub reported_since : (f g h : ℕ) → f ≤ g → Reported g h → Reported f h
 reported_since f g h le (inl more) = inl (omega arith)
 reported_since f g h le (inr most) = inr most
 

@@ -1,6 +1,6 @@
 -- Runs that no `TinyVec` makes, and none of the script's text.
 use Rattle.std.proofs.Common.{◌≡◌, ℕ, ◌+◌, ◌<◌, ◌≤◌, List, [], ◌∷◌, length, length-append, ap, ◌∙◌, arith}
-use Rattle.tinyvec_text.specs.Text.{Text, text_len}
+use Rattle.tinyvec_text.specs.InlineText.{Text, text_len}
 use Rattle.tinyvec_script.specs.Step.{Run}
 use Rattle.tinyvec_script.specs.Place.{Tiny, count, room}
 use Rattle.tinyvec_script.specs.TinyCalls.{TinyStep}

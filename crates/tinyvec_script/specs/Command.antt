@@ -19,14 +19,14 @@ abbrev pub word_text : List End → List ℕ
 word_text [] = codes "-"
 word_text (letter ∷ word) = letter_code letter ∷ map letter_code word
 
--- numbers, each behind a blank
+-- numbers, each after a blank
 abbrev pub numbers_text : List ℤ → List ℕ
 numbers_text numbers = flat_map (λ number. 32 ∷ signed_decimal number) numbers
 
 abbrev pub splice_text : ℕ → ℕ → List End → List ℤ → List ℕ
 splice_text start end word numbers = decimal start ++ 32 ∷ (decimal end ++ 32 ∷ (word_text word ++ numbers_text numbers))
 
--- how a call is spelled behind the name of its vector
+-- how a call is spelled after the name of its vector
 abbrev pub spelling : Call ℤ → List ℕ
 spelling (Push number) = codes "push " ++ signed_decimal number
 spelling Pop = codes "pop"
@@ -61,7 +61,7 @@ pub record IsCall (text : List ℕ) (call : Call ℤ) : Type 0 where
   pub spelled : text ≡ spelling call
   pub fits : Fits call
 
--- the text spells a splice by these, for which memory is asked
+-- the text spells a splice by these letters and numbers, which have to be allocated
 pub record IsSplice (text : List ℕ) (start end : ℕ) (word : List End) (numbers : List ℤ) : Type 0 where
   pub spelled : text ≡ codes "splice " ++ splice_text start end word numbers
   pub fits : (start < 2 ^ 64) × (end < 2 ^ 64) × All (FitsSigned w32) numbers

@@ -5,9 +5,9 @@ use Rattle.tinyvec_slots.specs.Slots.{Slots, items, SlotRule}
 use Rattle.tinyvec_slots.specs.Cut.{before, removed, after}
 use Rattle.tinyvec_slots.specs.Ends.{front, back, Asks, GivenByWord, taken}
 use Rattle.tinyvec_slots.specs.Ends as ends
-use Rattle.tinyvec_slots.specs.Splicing.{IsSpliceRefused, placed_back}
+use Rattle.tinyvec_slots.specs.SplicedByWord.{IsSpliceRefused, placed_back}
 use Rattle.tinyvec_slots.specs.declared.no_room.SpliceRest.{SpliceRest}
-use Rattle.tinyvec.specs.Tiny.{tiny_items, tiny_len, tiny_capacity, PlaceRule, TinySlotRule}
+use Rattle.tinyvec.specs.TinyVec.{tiny_items, tiny_len, tiny_capacity, PlaceRule, TinySlotRule}
 use Rattle.tinyvec.specs.Room.{KeepsRoom}
 use Rattle.tinyvec.specs.declared.tiny_vec.TinyVec.{TinyVec}
 use Rattle.tinyvec_script.specs.declared.call.End.{End}

@@ -6,7 +6,7 @@ pub mod History
 pub mod Writes
 pub mod Driving
 pub mod Words
-pub mod Parsed
+pub mod Spelled
 pub mod State
 pub mod Place
 pub mod TinyCalls

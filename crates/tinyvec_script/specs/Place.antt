@@ -1,11 +1,11 @@
--- What a run sees of a `TinyVec`: its list, the spare slots behind it, and where it lies.
+-- What a run sees of a `TinyVec`: its list, the spare slots after it, and its place.
 use Rattle.std.specs.Prelude.{◌≡◌, ℕ, ◌+◌, ◌-◌, ◌*◌, ◌<◌, ◌≤◌, max, List, ◌++◌, length, drop, Bool, true, false, IsTrue, if◌then◌else◌, ◌↔◌, vec_capacity}
 use Rattle.tinyvec_slots.specs.Slots.{AreDefaults}
-use Rattle.tinyvec.specs.Tiny.{tiny_items, tiny_spare}
+use Rattle.tinyvec.specs.TinyVec.{tiny_items, tiny_spare}
 use Rattle.tinyvec.specs.declared.tiny_vec.TinyVec.{TinyVec}
 use Rattle.tinyvec.specs.declared.tiny_vec.TinyVec.TheVariants as tiny
 
--- where a list lies: in the array, or on the heap with room for so many items
+-- the place of a list: in the array, or on the heap with this capacity
 pub data Place : Type 0 where
   in_array : Place
   on_heap : ℕ → Place
@@ -14,12 +14,12 @@ abbrev pub lies_inline : Place → Bool
 lies_inline in_array = true
 lies_inline (on_heap n) = false
 
--- how many items fit there, if an array has so many slots
+-- how many items fit there, where the array has `slots` slots
 abbrev pub room : ℕ → Place → ℕ
 room slots in_array = slots
 room slots (on_heap n) = n
 
--- a list, the spare slots behind it, and where it lies
+-- a list, the spare slots after it, and its place
 pub record Tiny (T : Type 0) : Type 0 where
   pub items : List T
   pub spare : List T
@@ -42,7 +42,7 @@ module _ {T : Type 0} where
   Inline v = IsTrue (lies_inline v.place)
 
 module _ {T : Type 0} (D : T → Type 0) (slots : ℕ) where
-  -- What a call leaves that was done, needs room for so many items, and moves nothing by its name.
+  -- What a call leaves that succeeded, needs room for `need` items, and is not itself a move.
   pub record Ruled (need : ℕ) (old new : Tiny T) : Type 0 where
     -- the list is inline exactly where it was inline and the need is within the slots
     pub place_rule : Inline new ↔ (Inline old × (need ≤ slots))
@@ -58,7 +58,7 @@ module _ {T : Type 0} (slots : ℕ) where
   abbrev pub Doubled : Tiny T → Tiny T → Type 0
   Doubled old new = count old ≡ room slots old.place → room slots new.place ≡ max (2 * room slots old.place) (count old + 1)
 
-  -- Where there was less room than `need`, a list that moves got room for just so many, and one on the heap twice the room
+  -- Where there was less room than `need`, a list that moves got room for just that, and one on the heap twice the room
   -- that it had, or `need` where that is more.
   abbrev pub Grown : ℕ → Tiny T → Tiny T → Type 0
   Grown need old new = room slots old.place < need

@@ -2,7 +2,7 @@
 use Rattle.std.specs.Prelude.{◌≡◌, ℕ, List, [], ◌∷◌, ◌++◌, ℤ, pos, true, codes, replicate}
 use Rattle.tinyvec_io.specs.Lines.{Splits, last_line}
 use Rattle.tinyvec_slots.specs.Slots.{Slots, split_at}
-use Rattle.tinyvec_text.specs.Text.{Text}
+use Rattle.tinyvec_text.specs.InlineText.{Text}
 use Rattle.tinyvec_script.specs.declared.call.Call.{Call}
 use Rattle.tinyvec_script.specs.declared.call.Answer.{Answer}
 use Rattle.tinyvec_script.specs.declared.command.Name.{Name}
@@ -12,7 +12,7 @@ use Rattle.tinyvec_script.specs.Place.{Tiny, in_array}
 use Rattle.tinyvec_script.specs.TinyCalls.{TinyStep}
 use Rattle.tinyvec_script.specs.TextCalls.{TextCall, IsTextCommand, TextStep}
 use Rattle.tinyvec_script.specs.Command.{IsCommand}
-use Rattle.tinyvec_script.specs.Parsed.{AsksMemory}
+use Rattle.tinyvec_script.specs.Spelled.{AsksMemory}
 use Rattle.tinyvec_script.specs.Text.{answer_text, vector_text, tiny_text, inline_text_text}
 
 -- the vectors of a script: `A` in an array, `S` in a lent slice, `T` in an array or on the heap, and `X`, a text there
@@ -45,7 +45,7 @@ text_of T state = tiny_text state.t
 abbrev pub IsZero : ℤ → Type 0
 IsZero number = number ≡ pos 0
 
--- a call of the vector of that name takes the old vectors to the new, and is answered so
+-- a call of the vector of that name takes the old vectors to the new, with this answer
 abbrev pub Steps : Name → State → Call ℤ → Answer ℤ → State → Type 0
 Steps A old call answer new = ArrayStep IsZero 4 old.a call answer new.a × (new.s ≡ old.s) × (new.t ≡ old.t) × (new.x ≡ old.x)
 Steps S old call answer new = SliceStep IsZero old.s call answer new.s × (new.a ≡ old.a) × (new.t ≡ old.t) × (new.x ≡ old.x)

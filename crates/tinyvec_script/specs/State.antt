@@ -1,7 +1,7 @@
 -- What a script sees of its vectors.
 use Rattle.std.specs.Prelude.{List, ℤ}
 use Rattle.std.specs.Borrow.{MutBor}
-use Rattle.tinyvec_slice.specs.View.{seen_of, seen}
+use Rattle.tinyvec_slice.specs.SliceVec.{seen_of, seen}
 use Rattle.tinyvec_slice.specs.declared.lent.Lent as Lent
 use Rattle.tinyvec_script.specs.Place.{tiny_of}
 use Rattle.tinyvec_script.specs.Script.{State}

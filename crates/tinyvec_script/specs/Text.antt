@@ -3,7 +3,7 @@ use Rattle.std.specs.Prelude.{ℕ, List, ◌++◌, ℤ, codes, Bool, true, false
 use Rattle.std.specs.Fmt.{signed_decimal}
 use Rattle.std.specs.List.{join_by}
 use Rattle.tinyvec_slots.specs.Slots.{Slots, items, spare}
-use Rattle.tinyvec_text.specs.Text.{Text}
+use Rattle.tinyvec_text.specs.InlineText.{Text}
 use Rattle.tinyvec_script.specs.Place.{Tiny, lies_inline}
 use Rattle.tinyvec_script.specs.declared.call.Answer.{Answer}
 use Rattle.tinyvec_script.specs.declared.call.Answer.TheVariants as answers
@@ -24,7 +24,7 @@ answer_text answers.Range = codes "range"
 answer_text answers.Memory = codes "memory"
 answer_text answers.Unfit = codes "unfit"
 
--- a list and the spare slots behind it
+-- a list and the spare slots after it
 unfoldable pub state_text : List ℤ → List ℤ → List ℕ
 state_text items spare = list_text items ++ codes " " ++ list_text spare
 
@@ -32,19 +32,19 @@ state_text items spare = list_text items ++ codes " " ++ list_text spare
 abbrev pub vector_text : Slots ℤ → List ℕ
 vector_text v = state_text (items v) (spare v)
 
--- where a list lies
+-- the place of a list
 abbrev pub place_text : Bool → List ℕ
 place_text true = codes "inline"
 place_text false = codes "heap"
 
--- a list and where it lies
+-- a list and its place
 unfoldable pub place_state_text : List ℤ → Bool → List ℕ
 place_state_text items inline = list_text items ++ codes " " ++ place_text inline
 
 abbrev pub tiny_text : Tiny ℤ → List ℕ
 tiny_text v = place_state_text v.items (lies_inline v.place)
 
--- the bytes of a text in brackets, and where it lies
+-- the bytes of a text in brackets, and its place
 unfoldable pub text_state_text : List ℕ → Bool → List ℕ
 text_state_text bytes inline = codes "[" ++ bytes ++ codes "] " ++ place_text inline
 

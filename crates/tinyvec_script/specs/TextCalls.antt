@@ -1,13 +1,13 @@
 -- The text of a script: how its calls are spelled, what they may be answered, and what they then leave.
 use Rattle.std.specs.Prelude.{◌≡◌, ℕ, ℤ, ◌+◌, ◌<◌, ◌≤◌, ◌^◌, List, ◌++◌, length, take, codes, chars, IsUtf8}
 use Rattle.std.specs.Fmt.{decimal}
-use Rattle.tinyvec_text.specs.Text.{Text, text_chars, text_len, TextPlaceRule, IsBoundary}
+use Rattle.tinyvec_text.specs.InlineText.{Text, text_chars, text_len, TextPlaceRule, IsBoundary}
 use Rattle.tinyvec_script.specs.declared.call.Answer.{Answer}
 use Rattle.tinyvec_script.specs.declared.call.Answer.TheVariants as answers
 use Rattle.tinyvec_script.specs.declared.text_command.TextCall.{TextCall as Said}
 use Rattle.tinyvec_script.specs.declared.text_command.TextCall.TheVariants as said
 
--- a call of a text: to append these bytes, or to keep its first bytes, so many
+-- a call of a text: to append these bytes, or to keep this many of its bytes
 pub data TextCall : Type 0 where
   add : List ℕ → TextCall
   cut : ℕ → TextCall
@@ -17,7 +17,7 @@ abbrev pub call_of : Said → TextCall
 call_of (said.Add text) = add text.now
 call_of (said.Cut index) = cut index
 
--- how a call is spelled behind the name of the text
+-- how a call is spelled after the name of the text
 abbrev pub text_spelling : TextCall → List ℕ
 text_spelling (add text) = codes "add " ++ text
 text_spelling (cut index) = codes "cut " ++ decimal index
@@ -43,7 +43,7 @@ pub record Added (slots : ℕ) (old : Text) (text : List ℕ) (new : Text) : Typ
   pub fits : text_len new ≤ new.room
   pub same_room : text_len old + length text ≤ old.room → new.room ≡ old.room
 
--- the first characters were kept, those whose bytes are so many, where they lie
+-- the first characters were kept, whose bytes are `index`, in their place
 pub record CutAt (old : Text) (index : ℕ) (new : Text) : Type 0 where
   pub boundary : IsBoundary (text_chars old) index
   pub chars_are : (rest : List ℕ) × (text_chars old ≡ text_chars new ++ rest)
@@ -52,8 +52,8 @@ pub record CutAt (old : Text) (index : ℕ) (new : Text) : Type 0 where
   pub place : new.inline ≡ old.inline
   pub room : new.room ≡ old.room
 
--- From the old text the call may be answered so, and leave the new one. Want of memory is a case of its own: `Memory` only
--- where the joined text has no room where the old one lies. It changes nothing, and neither does `Range`.
+-- From the old text the call may have this answer, and leave the new one. A refused allocation is a case of its own: `Memory`
+-- only where the joined text does not fit the room of the old one. It changes nothing, and neither does `Range`.
 abbrev pub TextStep : ℕ → Text → TextCall → Answer ℤ → Text → Type 0
 TextStep slots old (add text) answers.Done new = Added slots old text new
 TextStep slots old (add text) answers.Memory new = (old.room < text_len old + length text) × (new ≡ old)

@@ -26,7 +26,7 @@ module _ {T : Type 0} (D : T → Type 0) (slots : ℕ) where
     pub room_is : Inline old → room slots new.place ≡ count old
     pub kept : lies_inline old.place ≡ false → new ≡ old
 
-  -- A move back left the list in the array where it fits, with defaults behind it. An inline list stays as it is.
+  -- A move back left the list in the array where it fits, with defaults after it. An inline list stays as it is.
   pub record Shrunk (old new : Tiny T) : Type 0 where
     pub items_are : new.items ≡ old.items
     pub place_is : Inline new ↔ (count old ≤ slots)
@@ -34,7 +34,7 @@ module _ {T : Type 0} (D : T → Type 0) (slots : ℕ) where
     pub spare_are : lies_inline old.place ≡ false → Inline new → AreDefaults D (slots - count old) new.spare
     pub no_more_room : lies_inline new.place ≡ false → room slots new.place ≤ room slots old.place
 
-  -- The items from start up to end were replaced, as far as there is room where the list lies then.
+  -- The items from start up to end were replaced, as far as there is room in the place of the new list.
   pub record Spliced (old : Tiny T) (start end : ℕ) (word : List End) (replacement yields rest : List T) (new : Tiny T) : Type 0 where
     pub list : ListSplices (room slots new.place) old.items start end word replacement yields rest new.items
     pub rules : Ruled D slots (count new) old new
@@ -51,9 +51,9 @@ module _ {T : Type 0} (D : T → Type 0) (slots : ℕ) where
       × Spliced old start end word replacement given.items rest.items new
   TinySpliceAnswers old start end word replacement answer new = ⊥
 
-  -- From the old value the call may be answered so, and leave the new value, if that fits. Want of memory is a case of its
-  -- own: `Memory` only where there is no such room, for the move of an inline list to the heap, or for the items that a drain
-  -- takes, or a splice, or for those that a splice may give back.
+  -- From the old value the call may have this answer, and leave the new value, if that fits. A refused allocation is a case
+  -- of its own: `Memory` only where there is no room for the items, for the move of an inline list to the heap, for the items
+  -- that a drain or a splice takes, or for those that a splice may return.
   abbrev pub TinyAnswers : Tiny T → Call T → Answer T → Tiny T → Type 0
   TinyAnswers old (Push x) answers.Done new = (new.items ≡ old.items ++ x ∷ []) × Ruled D slots (count old + 1) old new
       × Doubled slots old new
@@ -92,8 +92,8 @@ module _ {T : Type 0} (D : T → Type 0) (slots : ℕ) where
   -- no other answer is given
   TinyAnswers old call answer new = ⊥
 
-  -- A step: the call may be answered so, and the list that it leaves fits where it lies. Without that a list could be longer
-  -- than its room, and a push after a pop be refused.
+  -- A step: the call may have this answer, and the list that it leaves fits its place. Otherwise a list could be longer than
+  -- its room, and a push after a pop be refused.
   pub record TinyStep (old : Tiny T) (call : Call T) (answer : Answer T) (new : Tiny T) : Type 0 where
     pub answered : TinyAnswers old call answer new
     pub fits : count new ≤ room slots new.place

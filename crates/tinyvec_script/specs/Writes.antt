@@ -1,4 +1,4 @@
--- What a call does that writes to a counted end, some of it gathered first.
+-- What a call does that writes to a `Counted`, some of it gathered first.
 use Rattle.std.specs.Prelude.{ℕ, ◌≤◌, List, Option, Result, OnOk, OnErr}
 use Rattle.std.specs.Io.KnownBytes.{Appends, append_known}
 use Rattle.tinyvec_io.specs.Counted.{CountedEnd, Reported}
@@ -8,7 +8,7 @@ abbrev pub Writes : {W T E : Type 0} → (W → Option (List ℕ)) → CountedEn
 Writes contents old new result text = OnOk result (Appends (contents old.end) (contents new.end) text)
     × (old.faults ≤ new.faults) × OnErr result (Reported old.faults new.faults)
 
--- the same of what was written and what is gathered behind it
+-- the same of what was written and what is gathered after it
 abbrev pub Gathers : {W T E : Type 0} → (W → Option (List ℕ)) → CountedEnd W → List ℕ → CountedEnd W → List ℕ
     → Result T E → List ℕ → Type 0
 Gathers contents old gathered new gathered' result text =

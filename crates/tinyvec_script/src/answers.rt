@@ -1,5 +1,5 @@
-//! Answer lines, written in pieces and without memory.
-ghost use Rattle.std.specs.Prelude.{◌++◌, ◌∷◌, [], codes};
+//! The text of answers and of vectors, written in pieces. It allocates nothing.
+ghost use Rattle.std.specs.Prelude.{◌++◌, codes};
 ghost use Rattle.std.specs.List.{flat_map};
 ghost use Rattle.std.specs.Fmt.{signed_decimal};
 ghost use Rattle.tinyvec_script.specs.Writes.{Gathers};
@@ -12,58 +12,7 @@ use std::io;
 use std::io::Write;
 use tinyvec_io::Counted;
 
-// Writes an answer line: the answer, and the list and the spare slots of the vector as it is then.
-pub(crate) fn write_line<W: Write>(
-    gathered: &mut Gathered,
-    writer: &mut Counted<W>,
-    answer: &Answer<i32>,
-    items: &[i32],
-    spare: &[i32],
-) -> io::Result<()>
-    ensures { Gathers W.contents writer.old gathered.old writer.new gathered.new result
-        (answer_text answer.now ++ codes " " ++ state_text items.now spare.now ++ 10 ∷ []) }
-{
-    write_answer(gathered, writer, answer)?;
-    gathered.put(writer, b" ")?;
-    write_state(gathered, writer, items, spare)?;
-    gathered.put(writer, b"\n")
-}
-
-// The same for a vector that has a place: the answer, the list, and where it lies.
-pub(crate) fn write_tiny_line<W: Write>(
-    gathered: &mut Gathered,
-    writer: &mut Counted<W>,
-    answer: &Answer<i32>,
-    items: &[i32],
-    inline: bool,
-) -> io::Result<()>
-    ensures { Gathers W.contents writer.old gathered.old writer.new gathered.new result
-        (answer_text answer.now ++ codes " " ++ place_state_text items.now inline ++ 10 ∷ []) }
-{
-    write_answer(gathered, writer, answer)?;
-    gathered.put(writer, b" ")?;
-    write_place_state(gathered, writer, items, inline)?;
-    gathered.put(writer, b"\n")
-}
-
-// And for a text: the answer, the bytes of the text, and where it lies.
-pub(crate) fn write_text_line<W: Write>(
-    gathered: &mut Gathered,
-    writer: &mut Counted<W>,
-    answer: &Answer<i32>,
-    bytes: &[u8],
-    inline: bool,
-) -> io::Result<()>
-    ensures { Gathers W.contents writer.old gathered.old writer.new gathered.new result
-        (answer_text answer.now ++ codes " " ++ text_state_text bytes.now inline ++ 10 ∷ []) }
-{
-    write_answer(gathered, writer, answer)?;
-    gathered.put(writer, b" ")?;
-    write_text_state(gathered, writer, bytes, inline)?;
-    gathered.put(writer, b"\n")
-}
-
-fn write_answer<W: Write>(
+pub(crate) fn write_answer<W: Write>(
     gathered: &mut Gathered,
     writer: &mut Counted<W>,
     answer: &Answer<i32>,
@@ -96,7 +45,7 @@ fn write_answer<W: Write>(
 
 // Writes the list, a blank and the spare slots.
 #[tactic(auto, unfolding(crate::specs::Text::state_text))]
-fn write_state<W: Write>(
+pub(crate) fn write_state<W: Write>(
     gathered: &mut Gathered,
     writer: &mut Counted<W>,
     items: &[i32],
@@ -111,7 +60,7 @@ fn write_state<W: Write>(
 
 // Writes the list, a blank and the place.
 #[tactic(auto, unfolding(crate::specs::Text::place_state_text))]
-fn write_place_state<W: Write>(
+pub(crate) fn write_place_state<W: Write>(
     gathered: &mut Gathered,
     writer: &mut Counted<W>,
     items: &[i32],
@@ -126,7 +75,7 @@ fn write_place_state<W: Write>(
 
 // Writes the bytes in brackets, a blank and the place.
 #[tactic(auto, unfolding(crate::specs::Text::text_state_text))]
-fn write_text_state<W: Write>(
+pub(crate) fn write_text_state<W: Write>(
     gathered: &mut Gathered,
     writer: &mut Counted<W>,
     bytes: &[u8],
@@ -170,7 +119,7 @@ fn write_list<W: Write>(
     gathered.put(writer, b"]")
 }
 
-// Writes numbers, each behind a comma and a blank.
+// Writes numbers, each after a comma and a blank.
 fn write_more<W: Write>(
     gathered: &mut Gathered,
     writer: &mut Counted<W>,

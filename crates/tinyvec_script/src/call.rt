@@ -20,24 +20,24 @@ pub enum Call<T> {
     Remove(usize),
     /// Takes the item at the index, and moves the last one into its place.
     SwapRemove(usize),
-    /// Keeps the first items, so many.
+    /// Keeps the first items, this many, and drops the others.
     Truncate(usize),
     /// Takes the items from the first index up to the second.
     Drain(usize, usize),
-    /// Puts the items in the place of those from the first index up to the second, from which it first takes one at each
-    /// of the ends.
+    /// Replaces the items from the first index up to the second by these. Before that it takes an item from each end that
+    /// the word names.
     Splice(usize, usize, Vec<End>, Vec<T>),
     /// Moves the border between the items and the spare slots.
     SetLen(usize),
-    /// Makes room for so many items more.
+    /// Reserves room for this many more items.
     Reserve(usize),
     /// Moves the items to the heap.
     Heap,
-    /// Moves the items into the array, where they fit.
+    /// Moves the items into the array if they fit.
     Shrink,
 }
 
-/// What answers a call of a vector of `T`.
+/// The answer to a call of a vector of `T`.
 #[derive(PartialEq, Debug, Drop)]
 pub enum Answer<T> {
     /// It was done.
@@ -52,7 +52,7 @@ pub enum Answer<T> {
     Spliced(Vec<T>, Vec<T>),
     /// There was no room, and nothing has changed.
     Full,
-    /// No such place is in the list, and nothing has changed.
+    /// The index or range is not in the list, and nothing has changed.
     Range,
     /// Memory was refused, and nothing has changed.
     Memory,

@@ -1,18 +1,19 @@
-//! The call that a line spells.
+//! The command that a line spells.
 ghost use Rattle.std.specs.Prelude.{◌≡◌, ◌≢◌, ◌<◌, ◌≤◌, ◌^◌, ◌++◌, ◌∷◌, ℕ, ℤ, length, codes, IfSome, IfNone, All, FitsSigned};
 ghost use Rattle.std.specs.Int.{w32};
 ghost use Rattle.std.specs.Fmt.{decimal, signed_decimal};
 ghost use Rattle.tinyvec_script.specs.Command.{IsCall, IsNoSplice, Has, HasSplice};
-ghost use Rattle.tinyvec_script.specs.Parsed.{IsParsed, IsParsedFor};
+ghost use Rattle.tinyvec_script.specs.Spelled.{Spells, SpellsFor};
 ghost use Rattle.tinyvec_script.specs.declared.command.Name.TheVariants.{A, S, T};
 ghost use Rattle.tinyvec_script.specs.declared.call.Call.{Call};
 
 use crate::Call;
 use crate::number::{parse_index, parse_number};
 use crate::splice_text::{Numbers, letters, parse_splice};
+use crate::text_command::{TextCall, parse_text_line};
 use std::alloc::Global;
 
-/// The name of a vector in a script. No call takes one: the words of a script's theorem speak of it.
+/// The name of a vector in a script. No call takes one: it is a word of the script's theorem.
 #[derive(Clone, Copy, PartialEq, Debug, Drop)]
 pub enum Name {
     /// A vector in an array.
@@ -25,82 +26,87 @@ pub enum Name {
 
 // What a line spells.
 #[derive(Drop)]
-pub(crate) enum Parsed {
+pub(crate) enum Command<'a> {
     /// A call of the vector.
-    Call(Name, Call<i32>),
+    Vector(Name, Call<i32>),
+    /// A call of the text.
+    Text(TextCall<'a>),
     /// No call.
     Bad,
     /// A splice of the vector, for whose letters or numbers memory was refused.
     Memory(Name),
 }
 
-// What the line spells. Memory is asked for once it is known that it spells a splice.
-pub(crate) fn parse_line(alloc: Global, line: &[u8]) -> Parsed
-    ensures { IsParsed line.now result }
+// Allocates only for a line that spells a splice.
+pub(crate) fn parse_line(alloc: Global, line: &[u8]) -> Command<'_>
+    ensures { Spells line.now result }
 {
     if line.len() > 128 {
-        return Parsed::Bad;
+        return Command::Bad;
     }
     if let Some(text) = line.strip_prefix(b"A ") {
         return parse_array_call(alloc, text);
     }
     if let Some(text) = line.strip_prefix(b"S ") {
         return match parse_slots_call(text) {
-            Some(call) => Parsed::Call(Name::S, call),
-            None => Parsed::Bad,
+            Some(call) => Command::Vector(Name::S, call),
+            None => Command::Bad,
         };
     }
     if let Some(text) = line.strip_prefix(b"T ") {
         return parse_movable_call(alloc, text);
     }
-    Parsed::Bad
+    match parse_text_line(line) {
+        Some(call) => Command::Text(call),
+        None => Command::Bad,
+    }
 }
 
-fn parse_array_call(alloc: Global, text: &[u8]) -> Parsed
+fn parse_array_call(alloc: Global, text: &[u8]) -> Command<'_>
     requires { length text.now ≤ 126 }
-    ensures { IsParsedFor A text.now result }
+    ensures { SpellsFor A text.now result }
 {
     if let Some(rest) = text.strip_prefix(b"splice ") {
         return parse_splice_call(alloc, Name::A, rest);
     }
     match parse_slots_call(text) {
-        Some(call) => Parsed::Call(Name::A, call),
-        None => Parsed::Bad,
+        Some(call) => Command::Vector(Name::A, call),
+        None => Command::Bad,
     }
 }
 
-fn parse_movable_call(alloc: Global, text: &[u8]) -> Parsed
+fn parse_movable_call(alloc: Global, text: &[u8]) -> Command<'_>
     requires { length text.now ≤ 126 }
-    ensures { IsParsedFor T text.now result }
+    ensures { SpellsFor T text.now result }
 {
     if let Some(rest) = text.strip_prefix(b"splice ") {
         return parse_splice_call(alloc, Name::T, rest);
     }
     match parse_tiny_call(text) {
-        Some(call) => Parsed::Call(Name::T, call),
-        None => Parsed::Bad,
+        Some(call) => Command::Vector(Name::T, call),
+        None => Command::Bad,
     }
 }
 
-fn parse_splice_call(alloc: Global, name: Name, rest: &[u8]) -> Parsed
+fn parse_splice_call(alloc: Global, name: Name, rest: &[u8]) -> Command<'_>
     requires short { length rest.now ≤ 119 }
     requires has { HasSplice name }
-    ensures { IsParsedFor name (codes "splice " ++ rest.now) result }
+    ensures { SpellsFor name (codes "splice " ++ rest.now) result }
 {
     let mut numbers = Numbers::new();
     let Some((start, end, word)) = parse_splice(rest, &mut numbers) else {
-        return Parsed::Bad;
+        return Command::Bad;
     };
     let Ok(word) = letters(alloc, word) else {
-        return Parsed::Memory(name);
+        return Command::Memory(name);
     };
     let Ok(numbers) = numbers.drain_to_vec(alloc) else {
-        return Parsed::Memory(name);
+        return Command::Memory(name);
     };
-    Parsed::Call(name, Call::Splice(start, end, word, numbers))
+    Command::Vector(name, Call::Splice(start, end, word, numbers))
 }
 
-// The call of `A` or `S`, but for a splice, that the text spells behind the vector's name.
+// The call of `A` or `S` that the text after the vector's name spells, unless it is a splice.
 fn parse_slots_call(text: &[u8]) -> Option<Call<i32>>
     ensures some { IfSome result (IsCall text.now) }
     ensures has { IfSome result (Has S) }
@@ -112,7 +118,7 @@ fn parse_slots_call(text: &[u8]) -> Option<Call<i32>>
     parse_call(text)
 }
 
-// The call of `T`, but for a splice, that the text spells behind the vector's name.
+// The call of `T` that the text after the vector's name spells, unless it is a splice.
 fn parse_tiny_call(text: &[u8]) -> Option<Call<i32>>
     ensures some { IfSome result (IsCall text.now) }
     ensures has { IfSome result (Has T) }
@@ -130,7 +136,7 @@ fn parse_tiny_call(text: &[u8]) -> Option<Call<i32>>
     parse_call(text)
 }
 
-// The call that the text spells behind the name of any vector.
+// The call that the text spells after the name of any vector.
 fn parse_call(text: &[u8]) -> Option<Call<i32>>
     ensures some { IfSome result (IsCall text.now) }
     ensures has { IfSome result (λ call. Has S call × Has T call) }
@@ -177,7 +183,7 @@ fn parse_index_and_number(text: &[u8]) -> Option<(usize, i32)>
     Some((parse_index(index)?, parse_number(number)?))
 }
 
-// What stands before the first blank, and behind it.
+// The text before the first blank, and the text after it.
 pub(crate) fn split_word(text: &[u8]) -> Option<(&[u8], &[u8])>
     ensures some { IfSome result (λ parts. text.now ≡ parts.0.now ++ 32 ∷ parts.1.now) }
     ensures word { IfSome result (λ parts. All (λ byte. byte ≢ 32) parts.0.now) }

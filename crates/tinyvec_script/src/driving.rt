@@ -1,4 +1,4 @@
-//! A splice that is driven by a word of ends.
+//! A splice whose items are taken from the ends that a word names.
 ghost use Rattle.std.specs.Prelude.{◌≡◌, ◌+◌, ◌<◌, ◌≤◌, ◌∷◌, ◌++◌, [], List, Option, length, IfOk, OnErr, vec_len, vec_capacity};
 ghost use Rattle.std.specs.Vec.Iter.{into_iter_items};
 ghost use Rattle.tinyvec_slots.specs.Ends.{Asks, given_items};
@@ -17,14 +17,14 @@ use std::vec::IntoIter;
 pub use tiny::drive_tiny_splice;
 use tinyvec::SpliceRest;
 
-/// What a splice gave, and what of its replacement found no room.
+/// The items that a splice yielded, and the items of its replacement that found no room.
 #[derive(PartialEq, Debug, Drop)]
 pub struct Driven<T> {
     pub yields: Vec<T>,
     pub rest: Vec<T>,
 }
 
-// What answers a splice that was driven so: what was taken, and what found no room if there is such.
+// The answer to a splice: the items taken, and those that found no room if there are any.
 pub(crate) fn answer_driven<T: Drop>(driven: Driven<T>) -> Answer<T>
     ensures items { driven.rest.items ≡ [] → result ≡ answers.Items driven.yields }
     ensures spliced { 0 < length driven.rest.items → result ≡ answers.Spliced driven.yields driven.rest }
@@ -36,7 +36,7 @@ pub(crate) fn answer_driven<T: Drop>(driven: Driven<T>) -> Answer<T>
     Answer::Spliced(yields, rest)
 }
 
-// Empty lists with room for so many items.
+// Empty lists with this room.
 fn with_room<T: Drop>(alloc: Global, yields: usize, rest: usize) -> Result<Driven<T>, AllocError>
     ensures empty { IfOk result (λ driven. (driven.yields.items ≡ []) × (driven.rest.items ≡ [])) }
     ensures room { IfOk result (λ driven. (yields ≤ vec_capacity driven.yields) × (rest ≤ vec_capacity driven.rest)) }
@@ -47,7 +47,7 @@ fn with_room<T: Drop>(alloc: Global, yields: usize, rest: usize) -> Result<Drive
     Ok(Driven { yields, rest })
 }
 
-// What gives items from both of its ends. A splice may not be let go, as an iterator in a generic call may.
+// An iterator with two ends that need not be `Drop`: a splice is spent by `finish`, and every std iterator has a `Drop`.
 trait TwoEnds {
     type Item;
 
@@ -63,7 +63,7 @@ trait TwoEnds {
         ensures { TakesAt gives gives_back end self.old result self.new };
 }
 
-// Takes an item from each end that the word names, and appends it.
+// Takes an item from each end that the word names, and appends it to `yields`.
 fn take_word<S: TwoEnds>(splice: &mut S, word: &[End], yields: &mut Vec<S::Item>)
     requires can { WhateverIsAsked S.gives S.gives_back splice.old (λ answers t. S.can t) }
     requires room { WhateverIsAsked S.gives S.gives_back splice.old
@@ -80,7 +80,7 @@ fn take_word<S: TwoEnds>(splice: &mut S, word: &[End], yields: &mut Vec<S::Item>
     }
 }
 
-// Appends what found no room, if something did.
+// Appends the items that found no room, if there are any.
 fn keep_refused<T: Drop>(
     list: &mut Vec<T>,
     finished: Result<(), SpliceRest<T, Fuse<IntoIter<T, Global>>>>,
@@ -94,7 +94,7 @@ fn keep_refused<T: Drop>(
     }
 }
 
-// Appends the refused item, and what gives the others.
+// Appends the refused item and those that follow it.
 fn keep<T: Drop>(list: &mut Vec<T>, refused: SpliceRest<T, Fuse<IntoIter<T, Global>>>)
     requires { vec_len list.old + length (fused_rest into_iter_items refused.rest) < vec_capacity list.old }
     ensures { list.new.items ≡ list.old.items ++ refused.item ∷ fused_rest into_iter_items refused.rest }

@@ -7,7 +7,7 @@ use std::io::Write;
 use std::marker::Model;
 use tinyvec_io::Counted;
 
-// How many bytes are gathered. The answers to 4 KiB of lines are mostly fewer.
+// Mostly enough for the answers to 4 KiB of lines.
 const ROOM: usize = 16384;
 
 // Bytes that are gathered before they are written.
@@ -35,7 +35,7 @@ impl Gathered {
         }
     }
 
-    // Appends the text, and writes what was gathered before where there is no room.
+    // Appends the text. Without room for it, writes what was gathered before.
     pub(crate) fn put<W: Write>(&mut self, writer: &mut Counted<W>, text: &[u8]) -> io::Result<()>
         ensures { Gathers W.contents writer.old self.old writer.new self.new result text.now }
     {

@@ -2,7 +2,6 @@
 #![tactic(auto)]
 
 mod answers;
-mod array_step;
 mod call;
 mod command;
 mod decimal;
@@ -12,7 +11,7 @@ mod line;
 mod number;
 mod runs;
 mod script;
-mod slice_step;
+mod slots_step;
 mod splice_text;
 mod text_command;
 mod text_step;

@@ -1,4 +1,4 @@
-//! What has come of a line.
+//! The part of a line that was read so far.
 ghost use Rattle.std.specs.Prelude.{◌≡◌, ◌↔◌, List, ℕ, [], None, Some, MatchOption, IsTrue, if◌then◌else◌, Option};
 ghost use Rattle.tinyvec_slots.specs.Slots.{items};
 ghost use Rattle.tinyvec_script.specs.History.{push_kept};

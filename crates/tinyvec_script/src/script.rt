@@ -1,20 +1,16 @@
 //! A script, read and answered.
-ghost use Rattle.std.specs.Prelude.{◌≡◌, ◌≤◌, ◌^◌, ◌-◌, ◌++◌, ◌∷◌, List, ℕ, ℤ, [], OnOk, OnErr, IsErrOf, length};
+ghost use Rattle.std.specs.Prelude.{◌≡◌, ◌≤◌, ◌^◌, ◌-◌, ◌++◌, ◌∷◌, List, ℕ, [], OnOk, OnErr, IsErrOf, length};
 ghost use Rattle.std.specs.Io.KnownBytes.{Appends, Consumes, IsAtEnd, append_known};
 ghost use Rattle.std.specs.declared.io.Error.{Error};
 ghost use Rattle.tinyvec_io.specs.Counted.{Reported};
 ghost use Rattle.tinyvec_script.specs.State.{state_of};
-ghost use Rattle.tinyvec_script.specs.Command.{IsCommand};
 ghost use Rattle.tinyvec_script.specs.Script.{Answered, Script, CompleteLines};
-ghost use Rattle.tinyvec_script.specs.declared.call.Call.{Call};
-ghost use Rattle.tinyvec_script.specs.declared.command.Name.{Name};
 ghost use Rattle.tinyvec_script.specs.History.{kept, Feeds, Ends};
 
 use crate::Answer;
-use crate::command::{Parsed, parse_line};
+use crate::command::{Command, parse_line};
 use crate::gathered::Gathered;
 use crate::line::Line;
-use crate::text_command::parse_text_line;
 use crate::vectors::Vectors;
 use std::alloc::Global;
 use std::io;
@@ -41,8 +37,8 @@ pub enum RunError {
     TooLong,
 }
 
-/// Reads lines, and writes an answer line to each. The answers to all lines that have come are written before more is
-/// read, and the writer is flushed once, at the end of the input. Memory is asked for by the calls alone.
+/// Reads lines, and writes an answer line to each. The answers to all lines read so far are written before more is read, and
+/// the writer is flushed once, at the end of the input. Only the calls of the vectors and of the text allocate.
 pub fn run<R: Read, W: Write>(
     alloc: Global,
     reader: &mut Counted<R>,
@@ -65,7 +61,7 @@ pub fn run<R: Read, W: Write>(
     ensures write_fault { (error : Error) → IsErrOf result (RunError.Write error)
         → Reported writer.old.faults writer.new.faults }
 
-    // So long an input is not read on.
+    // An input of this length is not read to its end.
     ensures too_long { IsErrOf result RunError.TooLong → (input output : List ℕ)
         × Consumes (R.remaining reader.old.end) (R.remaining reader.new.end) input
         × (2 ^ 64 - 1 ≤ length input)
@@ -100,7 +96,7 @@ pub fn run<R: Read, W: Write>(
     Err(RunError::TooLong)
 }
 
-// Takes bytes of the input, and writes the answers to the lines that they end.
+// Answers the lines that these bytes of the input end, and writes what it gathered.
 fn answer_chunk<W: Write, B: Lent<Item = i32>>(
     alloc: Global,
     vectors: &mut Vectors<B>,
@@ -119,7 +115,7 @@ fn answer_chunk<W: Write, B: Lent<Item = i32>>(
     gathered.send(writer)
 }
 
-// Ends the last line, if it has bytes, and sends on what was written.
+// Answers the last line, if it has bytes, and flushes.
 fn finish<W: Write, B: Lent<Item = i32>>(
     alloc: Global,
     vectors: &mut Vectors<B>,
@@ -141,7 +137,7 @@ fn finish<W: Write, B: Lent<Item = i32>>(
     writer.flush()
 }
 
-// Takes bytes of the input.
+// Answers the lines that these bytes of the input end.
 fn feed<W: Write, B: Lent<Item = i32>>(
     alloc: Global,
     vectors: &mut Vectors<B>,
@@ -163,7 +159,7 @@ fn feed<W: Write, B: Lent<Item = i32>>(
     Ok(())
 }
 
-// Takes a byte of the input.
+// Answers a line at a line feed, and keeps any other byte.
 fn feed_byte<W: Write, B: Lent<Item = i32>>(
     alloc: Global,
     vectors: &mut Vectors<B>,
@@ -188,7 +184,7 @@ fn feed_byte<W: Write, B: Lent<Item = i32>>(
     Ok(())
 }
 
-// Answers a line that is ended.
+// Answers a complete line.
 fn answer_line<W: Write, B: Lent<Item = i32>>(
     alloc: Global,
     vectors: &mut Vectors<B>,
@@ -208,33 +204,15 @@ fn answer_line<W: Write, B: Lent<Item = i32>>(
         return gathered.put(writer, b"bad\n");
     };
     match parse_line(alloc, text) {
-        Parsed::Bad => answer_text_line(vectors, text, gathered, writer),
-        Parsed::Memory(name) => vectors.write_line(gathered, writer, &Answer::Memory, name),
-        Parsed::Call(name, call) => {
+        Command::Vector(name, call) => {
             let answered = vectors.answer(alloc, name, call);
             vectors.write_line(gathered, writer, &answered, name)
         }
+        Command::Text(call) => {
+            let answered = vectors.answer_text(call);
+            vectors.write_text_line(gathered, writer, &answered)
+        }
+        Command::Bad => gathered.put(writer, b"bad\n"),
+        Command::Memory(name) => vectors.write_line(gathered, writer, &Answer::Memory, name),
     }
-}
-
-// Answers a line that spells no call of a vector: it may spell one of the text.
-fn answer_text_line<W: Write, B: Lent<Item = i32>>(
-    vectors: &mut Vectors<B>,
-    line: &[u8],
-    gathered: &mut Gathered,
-    writer: &mut Counted<W>,
-) -> io::Result<()>
-    requires { (name : Name) (call : Call ℤ) → IsCommand line.now name call → ⊥ }
-    ensures ok { OnOk result ((text : List ℕ)
-        × Appends (append_known (W.contents writer.old.end) gathered.old)
-        (append_known (W.contents writer.new.end) gathered.new) (text ++ 10 ∷ [])
-        × Answered (state_of B.Lent vectors.old) line.now text (state_of B.Lent vectors.new)) }
-    ensures grows { writer.old.faults ≤ writer.new.faults }
-    ensures fault { OnErr result (Reported writer.old.faults writer.new.faults) }
-{
-    let Some(call) = parse_text_line(line) else {
-        return gathered.put(writer, b"bad\n");
-    };
-    let answered = vectors.answer_text(call);
-    vectors.write_text_line(gathered, writer, &answered)
 }

@@ -15,7 +15,7 @@ use tinyvec::ArrayVec;
 // The numbers of a line.
 pub(crate) type Numbers = ArrayVec<[i32; 64]>;
 
-// The range and the letters that the text spells, if it spells a splice. Its numbers are put into `numbers`.
+// The range and the letters of the splice that the text spells, if it spells one. Appends its numbers to `numbers`.
 pub(crate) fn parse_splice<'a>(
     text: &'a [u8],
     numbers: &mut Numbers,
@@ -42,7 +42,7 @@ pub(crate) fn parse_splice<'a>(
     Some((start, end, word))
 }
 
-// What stands before the first blank, and what begins with it.
+// The text before the first blank, and the text from it on.
 fn until_blank(text: &[u8]) -> (&[u8], &[u8])
     ensures whole { text.now ≡ result.0.now ++ result.1.now }
     ensures word { All (λ byte. byte ≢ 32) result.0.now }
@@ -75,7 +75,7 @@ fn is_word(text: &[u8]) -> bool
     true
 }
 
-// Appends the numbers that the text spells, each behind a blank. Where it spells none, some may be appended too.
+// Appends the numbers that the text spells, each after a blank. If it spells none, some may be appended all the same.
 fn parse_numbers(text: &[u8], numbers: &mut Numbers) -> bool
     requires { 2 * items_len numbers.old + length text.now ≤ 128 }
     ensures yes { IsTrue result → (ns : List ℤ) × (text.now ≡ numbers_text ns) × All (FitsSigned w32) ns

@@ -1,5 +1,5 @@
 //! The call of the text that a line spells.
-ghost use Rattle.std.specs.Prelude.{◌≡◌, ◌<◌, length, IfSome, IfNone, IsUtf8};
+ghost use Rattle.std.specs.Prelude.{◌≡◌, ◌<◌, ◌≤◌, length, IfSome, IfNone, IsUtf8};
 ghost use Rattle.tinyvec_script.specs.TextCalls.{IsTextCommand, call_of};
 ghost use Rattle.tinyvec_script.specs.TextCalls as calls;
 
@@ -11,18 +11,16 @@ use std::str;
 pub(crate) enum TextCall<'a> {
     /// Appends these characters.
     Add(&'a str),
-    /// Keeps the first characters, those whose bytes are so many.
+    /// Keeps the first characters, whose bytes are this many.
     Cut(usize),
 }
 
 // The call of the text that the line spells.
 pub(crate) fn parse_text_line(line: &[u8]) -> Option<TextCall<'_>>
+    requires { length line.now ≤ 128 }
     ensures some { IfSome result (λ call. IsTextCommand line.now (call_of call)) }
     ensures none { IfNone result ((call : calls.TextCall) → IsTextCommand line.now call → ⊥) }
 {
-    if line.len() > 128 {
-        return None;
-    }
     let Some(text) = line.strip_prefix(b"X ") else {
         return None;
     };
@@ -41,7 +39,7 @@ pub(crate) fn parse_text_line(line: &[u8]) -> Option<TextCall<'_>>
     }
 }
 
-// The characters, one at least, of which these are the bytes.
+// The characters of these bytes, one at least.
 fn parse_characters(bytes: &[u8]) -> Option<&str>
     ensures same { IfSome result (λ text. text.now ≡ bytes.now) }
     ensures some { IfSome result (λ text. (0 < length text.now) × IsUtf8 text.now) }

@@ -1,6 +1,6 @@
 //! One call of a `TinyVec`, answered.
 ghost use Rattle.std.specs.Prelude.{◌≤◌};
-ghost use Rattle.tinyvec.specs.Tiny.{tiny_len, tiny_capacity};
+ghost use Rattle.tinyvec.specs.TinyVec.{tiny_len, tiny_capacity};
 ghost use Rattle.tinyvec_script.specs.Place.{tiny_of};
 ghost use Rattle.tinyvec_script.specs.TinyCalls.{TinyAnswers};
 

@@ -5,11 +5,10 @@ ghost use Rattle.tinyvec_script.specs.Text.{answer_text, inline_text_text};
 ghost use Rattle.tinyvec_script.specs.TextCalls.{call_of};
 ghost use Rattle.tinyvec_script.specs.Writes.{Gathers};
 
-use crate::answers::{write_line, write_text_line, write_tiny_line};
-use crate::array_step::answer_array;
+use crate::answers::{write_answer, write_place_state, write_state, write_text_state};
 use crate::command::Name;
 use crate::gathered::Gathered;
-use crate::slice_step::answer_slice;
+use crate::slots_step::{answer_array, answer_slice};
 use crate::text_command::TextCall;
 use crate::text_step::answer_text;
 use crate::tiny_step::answer_tiny;
@@ -17,7 +16,7 @@ use crate::{Answer, Call};
 use std::alloc::Global;
 use std::io;
 use std::io::Write;
-use tinyvec::{ArrayVec, Lent, SliceVecOver, TinyVec};
+use tinyvec::{ArrayVec, GenericSliceVec, Lent, TinyVec};
 use tinyvec_io::Counted;
 use tinyvec_text::InlineText;
 
@@ -25,7 +24,7 @@ use tinyvec_text::InlineText;
 #[derive(Drop)]
 pub(crate) struct Vectors<B: Lent<Item = i32>> {
     pub a: ArrayVec<[i32; 4]>,
-    pub s: SliceVecOver<B>,
+    pub s: GenericSliceVec<B>,
     pub t: TinyVec<[i32; 4]>,
     pub x: InlineText<4>,
 }
@@ -51,7 +50,7 @@ impl<B: Lent<Item = i32>> Vectors<B> {
         answer_text(&mut self.x, call)
     }
 
-    // Writes an answer line: the answer, and the text as it is then.
+    // Writes an answer line: the answer and the text.
     pub(crate) fn write_text_line<W: Write>(
         &self,
         gathered: &mut Gathered,
@@ -61,16 +60,13 @@ impl<B: Lent<Item = i32>> Vectors<B> {
         ensures { Gathers W.contents writer.old gathered.old writer.new gathered.new result
             (answer_text answer.now ++ codes " " ++ inline_text_text self.now.x ++ 10 ∷ []) }
     {
-        write_text_line(
-            gathered,
-            writer,
-            answer,
-            self.x.as_bytes(),
-            self.x.is_inline(),
-        )
+        write_answer(gathered, writer, answer)?;
+        gathered.put(writer, b" ")?;
+        write_text_state(gathered, writer, self.x.as_bytes(), self.x.is_inline())?;
+        gathered.put(writer, b"\n")
     }
 
-    // Writes an answer line: the answer, and the vector of that name as it is then.
+    // Writes an answer line: the answer and the vector of that name.
     pub(crate) fn write_line<W: Write>(
         &self,
         gathered: &mut Gathered,
@@ -81,34 +77,35 @@ impl<B: Lent<Item = i32>> Vectors<B> {
         ensures { Gathers W.contents writer.old gathered.old writer.new gathered.new result
             (answer_text answer.now ++ codes " " ++ text_of name (state_of B.Lent self.now) ++ 10 ∷ []) }
     {
+        write_answer(gathered, writer, answer)?;
+        gathered.put(writer, b" ")?;
+        self.write_vector(gathered, writer, name)?;
+        gathered.put(writer, b"\n")
+    }
+
+    fn write_vector<W: Write>(
+        &self,
+        gathered: &mut Gathered,
+        writer: &mut Counted<W>,
+        name: Name,
+    ) -> io::Result<()>
+        ensures { Gathers W.contents writer.old gathered.old writer.new gathered.new result
+            (text_of name (state_of B.Lent self.now)) }
+    {
         match name {
-            Name::A => {
-                write_line(
-                    gathered,
-                    writer,
-                    answer,
-                    self.a.as_slice(),
-                    self.a.grab_spare_slice(),
-                )
-            }
-            Name::S => {
-                write_line(
-                    gathered,
-                    writer,
-                    answer,
-                    self.s.as_slice(),
-                    self.s.grab_spare_slice(),
-                )
-            }
-            Name::T => {
-                write_tiny_line(
-                    gathered,
-                    writer,
-                    answer,
-                    self.t.as_slice(),
-                    self.t.is_inline(),
-                )
-            }
+            Name::A => write_state(
+                gathered,
+                writer,
+                self.a.as_slice(),
+                self.a.grab_spare_slice(),
+            ),
+            Name::S => write_state(
+                gathered,
+                writer,
+                self.s.as_slice(),
+                self.s.grab_spare_slice(),
+            ),
+            Name::T => write_place_state(gathered, writer, self.t.as_slice(), self.t.is_inline()),
         }
     }
 }

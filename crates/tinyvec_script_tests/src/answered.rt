@@ -71,7 +71,7 @@ pub(crate) fn writes(alloc: Global, input: &[u8], output: &[u8]) -> Result<bool,
     are_wanted(writer.into_inner().as_slice(), output, result.is_ok())
 }
 
-// The first so many lines of a text.
+// The first lines of a text.
 pub(crate) fn first_lines(text: &[u8], lines: usize) -> &[u8] {
     let mut left = lines;
     for (index, byte) in text.iter().enumerate() {

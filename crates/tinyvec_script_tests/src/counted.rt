@@ -1,15 +1,16 @@
-//! A counted end, where no clause speaks: that the end is asked, that its answers are passed on, and which count as faults.
+//! `Counted`, where no clause speaks: that calls reach the inner reader or writer, that their results are returned, and which
+//! count as faults.
 ghost use Rattle.std.specs.Prelude.{IfOk};
 ghost use Rattle.std.specs.Io.{StartsWith};
 
 use crate::counted::Answer::{Fails, Moves};
-use crate::ends::Interrupted as InterruptedEnd;
 use std::alloc::{AllocError, Global};
 use std::io;
 use std::io::ErrorKind::{BrokenPipe, Interrupted, Other, WriteZero};
 use std::io::{ErrorKind, Read, Write};
 use std::test::Fail;
 use tinyvec_io::Counted;
+use tinyvec_test_items::streams::Interrupted as InterruptedStream;
 use tinyvec_test_items::{all_right, first, granted_ok};
 
 #[derive(Clone, Copy)]
@@ -25,19 +26,19 @@ enum Call {
     Flush,
 }
 
-// An end that records its calls, and answers from a script.
+// A reader and writer that records its calls, and returns what a script says.
 #[derive(Drop)]
-struct FakeEnd<'a> {
+struct FakeStream<'a> {
     script: &'a [Answer],
     input: &'a [u8],
     output: Vec<u8>,
     calls: Vec<Call>,
 }
 
-impl<'a> FakeEnd<'a> {
-    // It has room for what it records, so that only this asks for memory.
+impl<'a> FakeStream<'a> {
+    // Its lists have room for what it records, so only this allocates.
     fn new(alloc: Global, input: &'a [u8], script: &'a [Answer]) -> Result<Self, AllocError> {
-        Ok(FakeEnd {
+        Ok(FakeStream {
             script,
             input,
             output: Vec::with_capacity(alloc, 8)?,
@@ -45,7 +46,7 @@ impl<'a> FakeEnd<'a> {
         })
     }
 
-    // How many bytes the script has this call move. Past its end every call fails.
+    // The number of bytes that this call moves. After the end of the script every call fails.
     fn answer(&mut self, call: Call) -> io::Result<usize> {
         self.calls.push(call)?;
         let Some((answer, script)) = self.script.split_first() else {
@@ -59,14 +60,14 @@ impl<'a> FakeEnd<'a> {
     }
 }
 
-impl Read for FakeEnd<'_> {
+impl Read for FakeStream<'_> {
     fn read(&mut self, buf: &mut [u8]) -> io::Result<usize> {
         let count = self.answer(Call::Read(buf.len()))?.min(buf.len());
         self.input.read(&mut buf[..count])
     }
 }
 
-impl Write for FakeEnd<'_> {
+impl Write for FakeStream<'_> {
     fn write(&mut self, buf: &[u8]) -> io::Result<usize> {
         let count = self.answer(Call::Write(buf.len()))?.min(buf.len());
         self.output.write(&buf[..count])
@@ -78,7 +79,7 @@ impl Write for FakeEnd<'_> {
     }
 }
 
-// An answer that can be compared.
+// A result that can be compared.
 fn kind_of(answer: io::Result<usize>) -> Result<usize, ErrorKind> {
     match answer {
         Ok(count) => Ok(count),
@@ -111,8 +112,7 @@ impl Reading {
     }
 }
 
-// What each call answers, the faults counted until then and what the buffer holds then, and what the end is asked in all of
-// them.
+// The result of each call, the faults and the buffer after it, and the calls of the inner reader in all of them.
 struct Reads {
     input: &'static [u8],
     script: &'static [Answer],
@@ -122,7 +122,7 @@ struct Reads {
 
 impl Reads {
     fn are_right(&self, alloc: Global) -> Result<bool, AllocError> {
-        let mut reader = Counted::new(FakeEnd::new(alloc, self.input, self.script)?);
+        let mut reader = Counted::new(FakeStream::new(alloc, self.input, self.script)?);
         let mut buf = [b'.'; 4];
         let mut are_right = true;
         for (reading, answer, faults, filled) in self.reads {
@@ -216,7 +216,7 @@ impl Writing {
     }
 }
 
-// What each call answers and the faults counted until then, and what the end is asked and takes in all of them.
+// The result of each call and the faults after it, and the calls of the inner writer and what it took in all of them.
 struct Writes {
     script: &'static [Answer],
     writes: &'static [(Writing, &'static [u8], Result<usize, ErrorKind>, u64)],
@@ -226,7 +226,7 @@ struct Writes {
 
 impl Writes {
     fn are_right(&self, alloc: Global) -> Result<bool, AllocError> {
-        let mut writer = Counted::new(FakeEnd::new(alloc, b"", self.script)?);
+        let mut writer = Counted::new(FakeStream::new(alloc, b"", self.script)?);
         let mut are_right = true;
         for (writing, bytes, answer, faults) in self.writes {
             are_right &= writing.write(&mut writer, bytes) == *answer;
@@ -307,11 +307,11 @@ fn writes_are_passed_on_and_count_where_they_fail(rt: HostRuntime) -> Result<(),
     Ok(())
 }
 
-// How often an end is interrupted.
+// A number of interruptions.
 const MANY: u64 = 100_000;
 
 fn reads_after_many(bytes: [u8; 4]) -> bool {
-    let mut reader = Counted::new(InterruptedEnd::new(bytes.as_slice(), MANY));
+    let mut reader = Counted::new(InterruptedStream::new(bytes.as_slice(), MANY));
     let mut buf = [b'.'; 4];
     let is_read = Reading::Some.read(&mut reader, &mut buf) == Ok(4);
     is_read & (reader.faults() == MANY) & (buf == bytes)
@@ -319,10 +319,10 @@ fn reads_after_many(bytes: [u8; 4]) -> bool {
 
 fn writes_after_many(alloc: Global, bytes: &[u8]) -> Result<bool, AllocError> {
     let end = Vec::with_capacity(alloc, 8)?;
-    let mut writer = Counted::new(InterruptedEnd::new(end, MANY));
+    let mut writer = Counted::new(InterruptedStream::new(end, MANY));
     let is_written = Writing::All.write(&mut writer, bytes) == Ok(0);
     let is_right = is_written & (writer.faults() == MANY);
-    Ok(is_right & (writer.into_inner().end.as_slice() == bytes))
+    Ok(is_right & (writer.into_inner().inner.as_slice() == bytes))
 }
 
 #[test]

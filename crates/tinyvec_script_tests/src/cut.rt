@@ -6,7 +6,7 @@ use std::test::Fail;
 use tinyvec_io::Counted;
 use tinyvec_script::run;
 
-// Of no line is what stands before its last byte a command too.
+// Of no line is what is before its last byte a command too.
 const INPUT: &[u8] = b"A setlen 3
 A insert 1 5
 A swap 0
@@ -59,7 +59,7 @@ ok [\xf0\x9f\x98\x80\xc2\x80] heap
 ok [\xf0\x9f\x98\x80] heap
 ";
 
-// Whether the first so many bytes of a text end in a line, and lack more of it than the line feed.
+// Whether the first `n` bytes of a text end in a line, and lack more of it than the line feed.
 fn is_cut(text: &[u8], count: usize) -> bool {
     let (before, behind) = text.split_at(count.min(text.len()));
     !before.is_empty() && !before.ends_with(b"\n") && !behind.starts_with(b"\n")

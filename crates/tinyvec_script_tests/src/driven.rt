@@ -1,4 +1,4 @@
-//! Callers of a driven splice that know what it does to their numbers.
+//! Callers of a driven splice whose contracts name its numbers.
 ghost use Rattle.std.specs.Prelude.{◌≡◌, [], ◌∷◌, pos, IfOk};
 ghost use Rattle.tinyvec.specs.Slots.{items};
 
@@ -29,7 +29,7 @@ pub fn one_for_two(alloc: Global) -> Result<Spliced, AllocError>
     }
 }
 
-/// The same with four numbers, of which those that came in at the ends find room.
+/// The same with four numbers, of which the first and the last find room.
 pub fn four_for_two(alloc: Global) -> Result<Spliced, AllocError>
     ensures yields { IfOk result (λ s. s.driven.yields.items ≡ pos 2 ∷ pos 3 ∷ []) }
     ensures rest { IfOk result (λ s. s.driven.rest.items ≡ pos 7 ∷ pos 8 ∷ []) }

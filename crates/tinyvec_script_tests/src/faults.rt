@@ -1,14 +1,14 @@
-//! Scripts of each command over ends that fail, are interrupted, or move few bytes.
+//! Scripts of each command over readers and writers that fail, are interrupted, or move few bytes.
 use crate::answered::{
     Ended, ROOM, Script, answers_to_pops, are_wanted, count_lines, first_lines, pops,
 };
-use crate::ends::{Fills, Full, Gives, Interrupted};
 use std::alloc::{AllocError, Global};
 use std::io::ErrorKind;
 use std::ops::RangeInclusive;
 use std::test::Fail;
 use tinyvec_io::Counted;
 use tinyvec_script::run;
+use tinyvec_test_items::streams::{Full, Interrupted, ShortReader, ShortWriter};
 
 const OF_AN_ARRAY: Script = Script {
     input: b"A push 1
@@ -120,7 +120,7 @@ ok [] heap
 ",
 };
 
-// It asks for no memory, so that only an end fails.
+// It allocates nothing, so only a reader or writer fails.
 const WITHOUT_MEMORY: Script = Script {
     input: b"A push 1
 A push 2
@@ -144,8 +144,8 @@ const SCRIPTS: [Script; 5] = [
     WITHOUT_MEMORY,
 ];
 
-// After how few bytes a read that fails leaves anything but the complete lines before it answered. Each read gives so many
-// bytes at most, and is interrupted so many times before.
+// The least number of bytes after which a failing read leaves anything but the complete lines answered. Each read moves at
+// most `most` bytes, and is interrupted `times` times before.
 fn wrong_read(
     alloc: Global,
     input: &[u8],
@@ -157,7 +157,7 @@ fn wrong_read(
     let mut answers = Vec::with_capacity(alloc, ROOM)?;
     for count in counts {
         let bytes = &input[..count.min(input.len())];
-        let gives = Gives {
+        let gives = ShortReader {
             bytes,
             most,
             breaks: true,
@@ -177,7 +177,7 @@ fn wrong_read(
     Ok(None)
 }
 
-// With room for how few bytes a writer has not taken just these, or the script does not tell of it.
+// The least room with which a writer has not taken just these bytes, or the script does not fail by it.
 fn wrong_write(
     alloc: Global,
     input: &[u8],
@@ -188,7 +188,7 @@ fn wrong_write(
     let mut taken = Vec::with_capacity(alloc, ROOM)?;
     for room in rooms {
         let mut reader = Counted::new(input);
-        let mut writer = Counted::new(Fills {
+        let mut writer = Counted::new(ShortWriter {
             taken,
             room,
             most: ROOM,
@@ -206,14 +206,14 @@ fn wrong_write(
     Ok(None)
 }
 
-// Whether a script is read and answered whole by ends that move a byte a call, and are interrupted before each.
+// Whether a script is answered whole if each read and write moves a byte, and is interrupted before.
 fn is_answered_byte_by_byte(alloc: Global, script: &Script) -> Result<bool, AllocError> {
-    let input = Gives {
+    let input = ShortReader {
         bytes: script.input,
         most: 1,
         breaks: false,
     };
-    let output = Fills {
+    let output = ShortWriter {
         taken: Vec::with_capacity(alloc, ROOM)?,
         room: ROOM,
         most: 1,
@@ -222,7 +222,7 @@ fn is_answered_byte_by_byte(alloc: Global, script: &Script) -> Result<bool, Allo
     let mut reader = Counted::new(Interrupted::new(input, 1));
     let mut writer = Counted::new(Interrupted::new(output, 1));
     let ended = Ended::of(run(alloc, &mut reader, &mut writer));
-    let taken = writer.into_inner().end.taken;
+    let taken = writer.into_inner().inner.taken;
     are_wanted(taken.as_slice(), script.output, ended == Ended::Whole)
 }
 

@@ -1,6 +1,5 @@
-//! A writer whose flush is interrupted. That is a fault as any other: nothing here asks again.
+//! A writer whose flush is interrupted. That is a fault like any other: it is not retried.
 use crate::answered::{Ended, ROOM, are_wanted};
-use crate::ends::{FlushInterrupted, Interrupted};
 use std::alloc::{AllocError, Global};
 use std::io::{ErrorKind, Write};
 use std::test::Fail;
@@ -8,10 +7,11 @@ use tinyvec::{ArrayVec, TinyVec};
 use tinyvec_borsh::BorshSerialize;
 use tinyvec_io::Counted;
 use tinyvec_script::run;
+use tinyvec_test_items::streams::{FlushInterrupted, Interrupted};
 use tinyvec_test_items::{all_right, granted_ok};
 
-// Whether a script, each write of which is interrupted so many times, is answered whole, and then tells of the flush, asked for
-// once. Its caller may ask again.
+// Whether a script is answered whole though each write is interrupted `times` times, and then fails by its one flush. Its
+// caller may flush again.
 fn tells(
     alloc: Global,
     input: &[u8],
@@ -25,7 +25,7 @@ fn tells(
     let ended = Ended::of(run(alloc, &mut reader, &mut writer));
     let is_told = (ended == Ended::Write(ErrorKind::Interrupted)) & (writer.faults() == faults);
     let is_flushed = writer.flush().is_ok() & (writer.faults() == faults);
-    let end = writer.into_inner().end;
+    let end = writer.into_inner().inner;
     let has_ended_so = is_told & is_flushed & (end.flushes == 2);
     are_wanted(end.taken.as_slice(), output, has_ended_so)
 }
@@ -47,7 +47,7 @@ fn of_a_script(rt: HostRuntime) -> Result<(), Fail> {
     all_right(wrong)
 }
 
-// Whether a value is written, and no flush is asked for.
+// Whether a value is written without a flush.
 fn is_unflushed<T: BorshSerialize>(
     alloc: Global,
     value: &T,

@@ -1,6 +1,5 @@
-//! The Borsh form over ends that fail, are interrupted, or move few bytes, and over input that is cut.
+//! The Borsh form over readers and writers that fail, are interrupted, or move few bytes, and over input that is cut.
 use crate::answered::ROOM;
-use crate::ends::{Fills, Full, Gives, Interrupted};
 use std::alloc::{AllocError, Global};
 use std::io::Read;
 use std::test::Fail;
@@ -8,6 +7,7 @@ use tinyvec::{ArrayVec, TinyVec};
 use tinyvec_borsh::BorshError::{Ended, Io, Memory};
 use tinyvec_borsh::{BorshDeserialize, BorshError, BorshSerialize};
 use tinyvec_io::Counted;
+use tinyvec_test_items::streams::{Full, Interrupted, ShortReader, ShortWriter};
 use tinyvec_test_items::{all_right, first, granted_ok};
 
 // Whether no value is read, for this reason.
@@ -36,8 +36,8 @@ fn reads<T: BorshDeserialize + PartialEq + Drop, R: Read>(
     }
 }
 
-// Whether after each byte but the last their end is told, and a reader that fails. At their end a reader that is interrupted
-// before each byte gives the value.
+// Whether reading fails after each byte but the last, both where the input ends there and where the reader fails. Of all the
+// bytes a reader that is interrupted before each still gives the value.
 fn is_read<T: BorshDeserialize + PartialEq + Drop>(
     alloc: Global,
     value: &T,
@@ -46,7 +46,7 @@ fn is_read<T: BorshDeserialize + PartialEq + Drop>(
     for count in 0..bytes.len() {
         let front = &bytes[..count];
         let mut cut = Counted::new(front);
-        let mut broken = Counted::new(Gives {
+        let mut broken = Counted::new(ShortReader {
             bytes: front,
             most: 1,
             breaks: true,
@@ -57,7 +57,7 @@ fn is_read<T: BorshDeserialize + PartialEq + Drop>(
             return Ok(false);
         }
     }
-    let gives = Gives {
+    let gives = ShortReader {
         bytes,
         most: 1,
         breaks: false,
@@ -66,8 +66,8 @@ fn is_read<T: BorshDeserialize + PartialEq + Drop>(
     Ok(reads(alloc, &mut reader, value)? & (reader.faults() == bytes.len() as u64))
 }
 
-// Whether a writer without room for all the bytes is told of. With room for all, one that takes a byte a call, and is
-// interrupted before each, is given just these bytes.
+// Whether writing fails with room for fewer bytes. A writer with room for all, which takes a byte a call and is interrupted
+// before each, takes just these bytes.
 fn is_written<T: BorshSerialize>(
     alloc: Global,
     value: &T,
@@ -76,7 +76,7 @@ fn is_written<T: BorshSerialize>(
     let mut taken = Vec::with_capacity(alloc, ROOM)?;
     for room in 0..bytes.len() {
         for full in [Full::Fails, Full::TakesNone] {
-            let mut writer = Counted::new(Fills {
+            let mut writer = Counted::new(ShortWriter {
                 taken,
                 room,
                 most: ROOM,
@@ -90,7 +90,7 @@ fn is_written<T: BorshSerialize>(
             taken.clear();
         }
     }
-    let end = Fills {
+    let end = ShortWriter {
         taken,
         room: ROOM,
         most: 1,
@@ -99,7 +99,7 @@ fn is_written<T: BorshSerialize>(
     let mut writer = Counted::new(Interrupted::new(end, 1));
     let is_written = value.serialize(&mut writer) == Ok(());
     let is_counted = writer.faults() == bytes.len() as u64;
-    let taken = writer.into_inner().end.taken;
+    let taken = writer.into_inner().inner.taken;
     Ok(is_written & is_counted & (taken.as_slice() == bytes))
 }
 

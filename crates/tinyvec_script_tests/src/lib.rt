@@ -1,5 +1,5 @@
-//! The tests of runs, of the script and of the Borsh form: what is answered, and what is left where ends fail, input is cut or
-//! memory is refused.
+//! The tests of runs, of the script and of the Borsh form: what is answered, and what is left where readers and writers
+//! fail, input is cut or memory is refused.
 #![tactic(auto)]
 
 #[cfg(test)]
@@ -9,8 +9,6 @@ mod counted;
 #[cfg(test)]
 mod cut;
 pub mod driven;
-#[cfg(test)]
-mod ends;
 #[cfg(test)]
 mod faults;
 #[cfg(test)]

@@ -1,14 +1,14 @@
 //! In which order a script reads, writes and flushes.
 use crate::answered::{Ended, ROOM, pops};
-use crate::ends::{Event, Pieces, Recorded};
 use std::alloc::{AllocError, Global};
 use std::cell::RefCell;
 use std::io::{ErrorKind, Read, Write};
 use std::test::Fail;
 use tinyvec_io::Counted;
 use tinyvec_script::run;
+use tinyvec_test_items::streams::{Event, Pieces, Recorded};
 
-// How many calls the reader and the writer take before one fails, and how.
+// The number of calls of the reader and the writer before one fails, and by which error.
 #[derive(Clone, Copy)]
 struct Failing {
     reads: Option<usize>,
@@ -16,7 +16,7 @@ struct Failing {
     kind: ErrorKind,
 }
 
-// Whether a script asks its ends for this, in order, and ends so.
+// Whether a script makes these calls of its reader and writer, in order, and ends so.
 fn asks<R: Read + Drop, W: Write + Drop>(
     alloc: Global,
     reader: R,
@@ -39,7 +39,7 @@ fn asks<R: Read + Drop, W: Write + Drop>(
     Ok((asked.into_inner().as_slice() == events) & (Ended::of(result) == end))
 }
 
-// Input in pieces, how its ends fail, what is asked, and the end.
+// Input in pieces, how the reader and the writer fail, the calls made of them, and how the script ends.
 struct Case {
     pieces: &'static [&'static [u8]],
     failing: Failing,

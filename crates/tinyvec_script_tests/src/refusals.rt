@@ -1,4 +1,4 @@
-//! Runs, driven splices, scripts and lists that may ask for memory, granted or refused. `tests/refuse` has each allocation
+//! Runs, driven splices, scripts and lists that allocate, with memory granted or refused. `tests/refuse` has each allocation
 //! refused in turn.
 mod lists;
 mod runs;
@@ -7,7 +7,7 @@ mod scripts;
 use std::process::Abort;
 use std::test::Fail;
 
-// What came of calls that ask for memory.
+// The outcome of calls that allocate.
 #[derive(Clone, Copy, PartialEq)]
 enum Outcome {
     Granted,

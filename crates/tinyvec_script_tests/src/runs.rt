@@ -103,7 +103,7 @@ fn are_told(answers: &[Answer<i32>], rows: &[Row], is_left: bool) -> Result<bool
     Ok((answers.len() == rows.len()) & is_left)
 }
 
-// A run over slots, of which so many are items at first, and the items and the spare slots that it leaves.
+// A run over slots with `len` items at first, and the items and the spare slots that it leaves.
 struct Run<S> {
     slots: S,
     len: usize,
@@ -433,7 +433,7 @@ fn are_done(
     }
 }
 
-// Twenty items behind one another, twenty before one another, and room for a thousand more.
+// Twenty items pushed, twenty put in front, and room for a thousand more.
 fn growing_calls(alloc: Global) -> Result<Vec<Call<i32>>, AllocError> {
     let mut calls = Vec::with_capacity(alloc, 41)?;
     for number in 0..20 {

@@ -24,7 +24,7 @@ const SCRIPTS: [Script; 10] = [
         input: b"\n",
         output: b"bad\n",
     },
-    // each call that asks for memory
+    // each call that allocates
     Script {
         input: b"A splice 0 0 f 1 2 3
 A drain 0 2
@@ -128,7 +128,7 @@ fn each_is_answered(rt: HostRuntime) -> Result<(), Fail> {
     Ok(())
 }
 
-// Whether a line with so many digits in all is read whole, and is bad once.
+// Whether a line with this many digits in all is read whole, and is bad once.
 fn is_bad_once(alloc: Global, len: usize) -> Result<bool, AllocError> {
     let mut input = Vec::with_capacity(alloc, ROOM)?;
     input.extend_from_slice(b"A push ")?;

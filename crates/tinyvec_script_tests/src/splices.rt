@@ -7,8 +7,8 @@ use tinyvec_test_items::arrays::holds;
 use tinyvec_test_items::{all_right, granted_ok};
 use tinyvec_test_looks::lies;
 
-// What a driven splice does: the range, the ends that are taken, the replacement, what was given, what found no room, and the
-// list that is left.
+// A driven splice: the range, the word of ends, the replacement, the items yielded, those that found no room, and the list
+// that is left.
 struct Splice {
     start: usize,
     end: usize,

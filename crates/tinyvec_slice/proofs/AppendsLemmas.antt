@@ -3,7 +3,7 @@ use Rattle.std.proofs.Common.{◌≡◌, ◌∙◌, ◌-◌, ◌∷◌, List, []
 use Rattle.std.proofs.lemmas.List.{drop-drop, length-drop}
 use Rattle.std.specs.List.{flat_map}
 use Rattle.tinyvec_slice.specs.Appends.{LentVec, Appends}
-use Rattle.tinyvec_slice.specs.View.{items, spare, slots}
+use Rattle.tinyvec_slice.specs.SliceVec.{items, spare, slots}
 use Rattle.tinyvec_slice.proofs.ViewLemmas.{owner_sees}
 
 module _ {T : Type 0} where

@@ -2,33 +2,33 @@
 use Rattle.std.proofs.Common.{ℕ, Option, ◌++◌, ◌≡◌, refl, ap, ◌∙◌}
 use Rattle.std.specs.Iterator.{SkipsThenYields}
 use Rattle.std.specs.Iterator.Runs.{YieldsInOrder}
-use Rattle.tinyvec_slots.specs.Slots.{Frees}
+use Rattle.tinyvec_slots.specs.Slots.{Vacates}
 use Rattle.tinyvec_slots.proofs.DrainsLemmas.{runs_in_order, step_keeps, nth_keeps}
-use Rattle.tinyvec_slice.specs.View.{seen_of, spare_of}
+use Rattle.tinyvec_slice.specs.SliceVec.{seen_of, spare_of}
 use Rattle.tinyvec_slice.specs.Drain.{drain_items, drain_count, drain_spare, DrainSteps, DrainKeeps, DrainLeaves}
 use Rattle.tinyvec_slice.specs.declared.lent.Lent as Lent
-use Rattle.tinyvec_slice.specs.declared.slice_vec.SliceVecOver.{SliceVecOver}
-use Rattle.tinyvec_slice.specs.declared.drain.SliceVecDrainOver.{SliceVecDrainOver}
+use Rattle.tinyvec_slice.specs.declared.slice_vec.GenericSliceVec.{GenericSliceVec}
+use Rattle.tinyvec_slice.specs.declared.drain.GenericSliceVecDrain.{GenericSliceVecDrain}
 
 module _ {B T : Type 0} (g : Lent.Ghosts B T) where
   pub drain_runs : YieldsInOrder (DrainSteps g) (drain_items g)
   drain_runs = runs_in_order (drain_items g) (DrainKeeps g)
 
-  pub DrainKeeps-refl : (d : SliceVecDrainOver B T) → DrainKeeps g d d
+  pub DrainKeeps-refl : (d : GenericSliceVecDrain B T) → DrainKeeps g d d
   DrainKeeps-refl d = (refl, refl, refl, refl, refl, λ h. h)
 
-  pub DrainKeeps-then : (d e f : SliceVecDrainOver B T) → DrainKeeps g d e → DrainKeeps g e f → DrainKeeps g d f
+  pub DrainKeeps-then : (d e f : GenericSliceVecDrain B T) → DrainKeeps g d e → DrainKeeps g e f → DrainKeeps g d f
   DrainKeeps-then d e f h k = (k.0 ∙ h.0, k.1 ∙ h.1, k.2 ∙ h.2, k.3 ∙ h.3, k.4 ∙ h.4, λ t. k.5 (h.5 t))
 
-  pub DrainSteps-keeps : (d : SliceVecDrainOver B T) (r : Option T) (e : SliceVecDrainOver B T) → DrainSteps g d r e → DrainKeeps g d e
+  pub DrainSteps-keeps : (d : GenericSliceVecDrain B T) (r : Option T) (e : GenericSliceVecDrain B T) → DrainSteps g d r e → DrainKeeps g d e
   DrainSteps-keeps = step_keeps (drain_items g) (DrainKeeps g) DrainKeeps-refl DrainKeeps-then
 
-  pub nth-keeps : (d : SliceVecDrainOver B T) (n : ℕ) (r : Option T) (e : SliceVecDrainOver B T) → SkipsThenYields (DrainSteps g) d n r e → DrainKeeps g d e
+  pub nth-keeps : (d : GenericSliceVecDrain B T) (n : ℕ) (r : Option T) (e : GenericSliceVecDrain B T) → SkipsThenYields (DrainSteps g) d n r e → DrainKeeps g d e
   nth-keeps = nth_keeps (drain_items g) (DrainKeeps g) DrainKeeps-refl DrainKeeps-then
 
   -- what a drain that ended as `last` left as spare slots, in the words of the vector that it began at
-  pub drain_frees : (D : T → Type 0) (n : ℕ) (old v : SliceVecOver B T) (first last : SliceVecDrainOver B T)
-      → DrainKeeps g first last → drain_count first ≡ n → drain_spare g first ≡ spare_of g old → DrainLeaves g D last v → Frees D n (seen_of g old) (seen_of g v)
+  pub drain_frees : (D : T → Type 0) (n : ℕ) (old v : GenericSliceVec B T) (first last : GenericSliceVecDrain B T)
+      → DrainKeeps g first last → drain_count first ≡ n → drain_spare g first ≡ spare_of g old → DrainLeaves g D last v → Vacates D n (seen_of g old) (seen_of g v)
   drain_frees D n old v first last kept count rest left =
       let ds = left.2.0 in
       (ds, (left.2.1.0 ∙ kept.3 ∙ count, left.2.1.1), left.2.2 ∙ ap (λ xs. ds ++ xs) (kept.4 ∙ rest))

@@ -5,10 +5,10 @@ use Rattle.std.proofs.lemmas.List.{same_lists, places, drop-set-add}
 use Rattle.std.specs.Borrow.{MutBor}
 use Rattle.tinyvec_slots.proofs.Lists.{drop-put, drop-vacated, drop-inserted, drop-removed}
 use Rattle.tinyvec_slice.specs.Parts.{with_front}
-use Rattle.tinyvec_slice.specs.View.{items_of, spare_of, slots_of, items, spare, slots}
+use Rattle.tinyvec_slice.specs.SliceVec.{items_of, spare_of, slots_of, items, spare, slots}
 use Rattle.tinyvec_slice.specs.Lends.{at_slots}
 use Rattle.tinyvec_slice.specs.declared.lent.Lent as Lent
-use Rattle.tinyvec_slice.specs.declared.slice_vec.SliceVecOver.{SliceVecOver}
+use Rattle.tinyvec_slice.specs.declared.slice_vec.GenericSliceVec.{GenericSliceVec}
 
 -- A vector's `len` may be more than there are slots. Then its list is all of them, and n below is how long the list is.
 module _ {X : Type 0} (k : ℕ) (xs : List X) (n : ℕ) (is : n ≡ length (take k xs)) where
@@ -47,13 +47,6 @@ module _ {X : Type 0} (k : ℕ) (xs : List X) (n : ℕ) (is : n ≡ length (take
   pub drop-taken : (i : ℕ) (d : X) → i < n → drop (n - 1) (remove (take n xs) i ++ d ∷ drop n xs) ≡ d ∷ drop k xs
   drop-taken i d lt = drop-removed xs i n d lt within ∙ ap (λ l. d ∷ l) spare_from
 
-  -- the list after it was written as a slice, which keeps its length
-  pub list-written : (ws : List X) → length ws ≡ n → take k (ws ++ drop n xs) ≡ ws
-  list-written ws long = same_lists _ _ (search (rules, places, is, long)) (λ i d h. grind (arith, places, is, long))
-
-  pub spare-written : (ws : List X) → length ws ≡ n → drop k (ws ++ drop n xs) ≡ drop k xs
-  spare-written ws long = same_lists _ _ (search (rules, places, is, long)) (λ i d h. grind (arith, places, is, long))
-
   -- a spare slot was written
   pub spare-set : (i : ℕ) (x : X) → i < length (drop k xs) → drop k (set xs (n + i) x) ≡ set (drop k xs) i x
   spare-set i x lt =
@@ -61,28 +54,14 @@ module _ {X : Type 0} (k : ℕ) (xs : List X) (n : ℕ) (is : n ≡ length (take
       ap (λ m. drop k (set xs (m + i) x)) same ∙ drop-set-add k xs i x
 
 -- the items were written as a slice
-module _ {B T : Type 0} (g : Lent.Ghosts B T) (v : SliceVecOver B T) (ws : List T) where
+module _ {B T : Type 0} (g : Lent.Ghosts B T) (v : GenericSliceVec B T) (ws : List T) where
   pub slots_of-written : slots_of g (at_slots g v (with_front (g.slots v.lent) (length (items_of g v)) ws)) ≡ ws ++ spare_of g v
   slots_of-written =
       g.slots_written v.lent (with_front (g.slots v.lent) (length (items_of g v)) ws)
       ∙ ap (λ l. ws ++ l) (spare_from v.len (g.slots v.lent) (length (items_of g v)) refl)
 
--- the same where the slice keeps its length
-module _ {B T : Type 0} (g : Lent.Ghosts B T) (v : SliceVecOver B T) (ws : List T) (long : length ws ≡ length (items_of g v)) where
-  abbrev written : SliceVecOver B T
-  written = at_slots g v (with_front (g.slots v.lent) (length (items_of g v)) ws)
-
-  slots-written : g.slots written.lent ≡ with_front (g.slots v.lent) (length (items_of g v)) ws
-  slots-written = g.slots_written v.lent (with_front (g.slots v.lent) (length (items_of g v)) ws)
-
-  pub items_of-written : items_of g written ≡ ws
-  items_of-written = ap (take v.len) slots-written ∙ list-written v.len (g.slots v.lent) (length (items_of g v)) refl ws long
-
-  pub spare_of-written : spare_of g written ≡ spare_of g v
-  spare_of-written = ap (drop v.len) slots-written ∙ spare-written v.len (g.slots v.lent) (length (items_of g v)) refl ws long
-
 -- the slots are the list and the spare slots
-module _ {B T : Type 0} (g : Lent.Ghosts B T) (v : SliceVecOver B T) where
+module _ {B T : Type 0} (g : Lent.Ghosts B T) (v : GenericSliceVec B T) where
   pub slots-parts : slots_of g v ≡ items_of g v ++ spare_of g v
   slots-parts = sym (take-append-drop v.len (g.slots v.lent))
 
@@ -90,11 +69,11 @@ module _ {B T : Type 0} (g : Lent.Ghosts B T) (v : SliceVecOver B T) where
   parts_of = ap length slots-parts ∙ length-append (items_of g v) (spare_of g v)
 
 -- one item was written
-module _ {B T : Type 0} (g : Lent.Ghosts B T) (v : SliceVecOver B T) (i : ℕ) (x : T) (lt : i < length (items_of g v)) where
+module _ {B T : Type 0} (g : Lent.Ghosts B T) (v : GenericSliceVec B T) (i : ℕ) (x : T) (lt : i < length (items_of g v)) where
   pub items_of-set : items_of g (at_slots g v (set (g.slots v.lent) i x)) ≡ set (items_of g v) i x
   items_of-set = ap (take v.len) (g.slots_written v.lent (set (g.slots v.lent) i x)) ∙ take-set-lt v.len (g.slots v.lent) i x (search (rules, lt, places))
 
 -- what the owner of a slice sees of a vector over it
-pub owner_sees : {T : Type 0} (v : SliceVecOver (MutBor (List T)) T) (xs ys : List T) → items v ≡ xs → spare v ≡ ys → slots v ≡ xs ++ ys
+pub owner_sees : {T : Type 0} (v : GenericSliceVec (MutBor (List T)) T) (xs ys : List T) → items v ≡ xs → spare v ≡ ys → slots v ≡ xs ++ ys
 owner_sees v xs ys listed behind =
     sym (take-append-drop v.len v.lent.now) ∙ ap (λ l. l ++ spare v) listed ∙ ap (λ l. xs ++ l) behind

@@ -2,56 +2,56 @@
 use Rattle.std.specs.Prelude.{◌≡◌, ℕ, ◌-◌, ◌≤◌, List, ◌++◌, length, drop, slice_range, Option}
 use Rattle.std.specs.Borrow.{GName}
 use Rattle.tinyvec_slots.specs.Slots.{AreDefaults}
-use Rattle.tinyvec_slots.specs.Drains.{Steps}
-use Rattle.tinyvec_slice.specs.View.{items_of, spare_of, name_of}
+use Rattle.tinyvec_slots.specs.AnyDrain.{Steps}
+use Rattle.tinyvec_slice.specs.SliceVec.{items_of, spare_of, name_of}
 use Rattle.tinyvec_slice.specs.declared.lent.Lent as Lent
-use Rattle.tinyvec_slice.specs.declared.slice_vec.SliceVecOver.{SliceVecOver}
-use Rattle.tinyvec_slice.specs.declared.drain.SliceVecDrainOver.{SliceVecDrainOver}
+use Rattle.tinyvec_slice.specs.declared.slice_vec.GenericSliceVec.{GenericSliceVec}
+use Rattle.tinyvec_slice.specs.declared.drain.GenericSliceVecDrain.{GenericSliceVecDrain}
 
 module _ {B T : Type 0} where
   -- how many items remain
-  abbrev pub drain_left : SliceVecDrainOver B T → ℕ
+  abbrev pub drain_left : GenericSliceVecDrain B T → ℕ
   drain_left d = d.count - d.front
 
   -- how many slots are vacated
-  abbrev pub drain_count : SliceVecDrainOver B T → ℕ
+  abbrev pub drain_count : GenericSliceVecDrain B T → ℕ
   drain_count d = d.count
 
   -- the ghost name of the reference to the vector
-  abbrev pub drain_lender : SliceVecDrainOver B T → GName
-  drain_lender d = d.vec.ghost_name
+  abbrev pub drain_owner : GenericSliceVecDrain B T → GName
+  drain_owner d = d.vec.ghost_name
 
 module _ {B T : Type 0} (g : Lent.Ghosts B T) where
   -- the remaining items
-  abbrev pub drain_items : SliceVecDrainOver B T → List T
+  abbrev pub drain_items : GenericSliceVecDrain B T → List T
   drain_items d = slice_range (spare_of g d.vec.now) d.front d.count
 
   -- the list of the vector, and the spare slots behind the vacated ones
-  abbrev pub drain_kept : SliceVecDrainOver B T → List T
+  abbrev pub drain_kept : GenericSliceVecDrain B T → List T
   drain_kept d = items_of g d.vec.now
 
-  abbrev pub drain_spare : SliceVecDrainOver B T → List T
+  abbrev pub drain_spare : GenericSliceVecDrain B T → List T
   drain_spare d = drop d.count (spare_of g d.vec.now)
 
   -- the ghost name of the vector's own reference, which is to the slots
-  abbrev pub drain_name : SliceVecDrainOver B T → GName
+  abbrev pub drain_name : GenericSliceVecDrain B T → GName
   drain_name d = name_of g d.vec.now
 
   -- the remaining items lie in the vacated slots
-  abbrev pub DrainCanStep : SliceVecDrainOver B T → Type 0
+  abbrev pub DrainCanStep : GenericSliceVecDrain B T → Type 0
   DrainCanStep d = (d.front ≤ d.count) × (d.count ≤ length (spare_of g d.vec.now))
 
   -- what the vector is once d ended: the list as it was kept, and the vacated slots as defaults before the other spare ones
-  abbrev pub DrainLeaves : (T → Type 0) → SliceVecDrainOver B T → SliceVecOver B T → Type 0
+  abbrev pub DrainLeaves : (T → Type 0) → GenericSliceVecDrain B T → GenericSliceVec B T → Type 0
   DrainLeaves D d v = (name_of g v ≡ drain_name d) × (items_of g v ≡ drain_kept d)
       × ((ds : List T) × AreDefaults D (drain_count d) ds × (spare_of g v ≡ ds ++ drain_spare d))
 
   -- old and new borrow the same vector, and leave it the same
-  abbrev pub DrainKeeps : SliceVecDrainOver B T → SliceVecDrainOver B T → Type 0
-  DrainKeeps old new = (drain_lender new ≡ drain_lender old) × (drain_name new ≡ drain_name old)
+  abbrev pub DrainKeeps : GenericSliceVecDrain B T → GenericSliceVecDrain B T → Type 0
+  DrainKeeps old new = (drain_owner new ≡ drain_owner old) × (drain_name new ≡ drain_name old)
       × (drain_kept new ≡ drain_kept old) × (drain_count new ≡ drain_count old) × (drain_spare new ≡ drain_spare old)
       × (DrainCanStep old → DrainCanStep new)
 
   -- `next` took old to new, and answered with the first item
-  abbrev pub DrainSteps : SliceVecDrainOver B T → Option T → SliceVecDrainOver B T → Type 0
+  abbrev pub DrainSteps : GenericSliceVecDrain B T → Option T → GenericSliceVecDrain B T → Type 0
   DrainSteps = Steps drain_items DrainKeeps

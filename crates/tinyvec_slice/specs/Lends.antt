@@ -2,16 +2,16 @@
 use Rattle.std.specs.Prelude.{ℕ, List, length, slice_set}
 use Rattle.std.specs.Borrow.{Lends, Fml, MutBor, RattleType, Array}
 use Rattle.tinyvec_slice.specs.Parts.{with_front, with_back}
-use Rattle.tinyvec_slice.specs.View.{items_of}
+use Rattle.tinyvec_slice.specs.SliceVec.{items_of}
 use Rattle.tinyvec_slice.specs.declared.lent.Lent as Lent
-use Rattle.tinyvec_slice.specs.declared.slice_vec.SliceVecOver.{SliceVecOver}
-use Rattle.tinyvec_slice.specs.contracts.slice_vec.SliceVecOver.{the_row}
+use Rattle.tinyvec_slice.specs.declared.slice_vec.GenericSliceVec.{GenericSliceVec}
+use Rattle.tinyvec_slice.specs.contracts.slice_vec.GenericSliceVec.{the_row}
 
 -- v where its slots hold xs
-abbrev pub at_slots : {B T : Type 0} → Lent.Ghosts B T → SliceVecOver B T → List T → SliceVecOver B T
+abbrev pub at_slots : {B T : Type 0} → Lent.Ghosts B T → GenericSliceVec B T → List T → GenericSliceVec B T
 at_slots g v xs = record v { lent = g.with_slots v.lent xs }
 
-module _ (B I : RattleType) (g : Lent.Ghosts B.Denot I.Denot) (v : MutBor (SliceVecOver B.Denot I.Denot)) where
+module _ (B I : RattleType) (g : Lent.Ghosts B.Denot I.Denot) (v : MutBor (GenericSliceVec B.Denot I.Denot)) where
   -- once the borrow r ends, the items are those that r shows last
   abbrev pub lends_items : MutBor (List I.Denot) → Fml
   lends_items r = Lends (the_row B I) (Array I 0) v r (λ ws. at_slots g v.now (with_front (g.slots v.now.lent) (length (items_of g v.now)) ws))

@@ -6,9 +6,10 @@ pub use Rattle.tinyvec_slots.specs.Filters
 pub use Rattle.tinyvec_slots.specs.Clones
 pub use Rattle.tinyvec_slots.specs.Texts
 pub mod Parts
-pub mod View
+pub mod SliceVec
 pub mod Lends
-pub mod Iterating
+pub mod IterMut
 pub mod Drain
 pub mod Making
 pub mod Appends
+pub mod CutLaws

@@ -1,13 +1,13 @@
-//! Clones written into lent slots.
+//! Writing clones into lent slots.
 ghost use Rattle.std.specs.Prelude.{◌≡◌, ◌-◌, ◌<◌, ◌≤◌, ℕ, All, length, take, replicate, IsOk, OnOk, OnErr};
 ghost use Rattle.tinyvec_slots.specs.Clones.{RefusedAt, ClonesOverFrom};
 
 use crate::Lent;
 use std::alloc::AllocError;
-use tinyvec_slots::{clone_each, clone_through};
+use tinyvec_slots::{clone_each, fill_clones};
 
 // Writes clones of `from` into the slots from `start` on.
-pub(crate) fn put_clones<B: Lent>(
+pub(crate) fn write_clones<B: Lent>(
     lent: &mut B,
     start: usize,
     from: &[B::Item],
@@ -27,7 +27,7 @@ where
 }
 
 // Writes clones of `x` into the slots from `start` up to `end`.
-pub(crate) fn put_copies<B: Lent>(
+pub(crate) fn write_clones_of<B: Lent>(
     lent: &mut B,
     start: usize,
     end: usize,
@@ -44,5 +44,5 @@ where
         × ClonesOverFrom B.Item.is_clone start (replicate j x.now) j (B.slots lent.old) (B.slots lent.new)) }
     ensures succeeds { B.Item.is_infallible x.now → IsOk result }
 {
-    clone_through(&mut lent.all_mut()[start..end], x)
+    fill_clones(lent.all_mut(), start, end, x)
 }

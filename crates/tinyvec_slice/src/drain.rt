@@ -1,55 +1,57 @@
-//! The iterator that moves a range of items out of a vector.
-ghost use Rattle.std.specs.Prelude.{◌≡◌, ◌++◌, length, codes, None, IfSome};
+//! What moves a range of items out of a vector.
+ghost use Rattle.std.specs.Prelude.{◌≡◌, ◌++◌, length, codes, None, IfSome, ◌≤◌, ◌+◌, vec_len, vec_capacity};
 ghost use Rattle.std.specs.Fmt.{debug_list, debug_variant};
 ghost use Rattle.std.specs.Iterator.{at_most, UpTo};
 ghost use Rattle.std.specs.Iterator.SizeHint.{IsWithinCount};
 ghost use Rattle.std.specs.Iterator.Runs.{YieldsInOrder};
 ghost use Rattle.tinyvec_slots.specs.Cut.{IsRangeOf, before, removed, after};
+ghost use Rattle.std.specs.List.{FoldsTo};
+ghost use Rattle.tinyvec_slice.specs.SliceVec.{items_of, name_of, VacatesOf};
 
-use crate::{Lent, SliceVecOver};
+use crate::{GenericSliceVec, Lent};
 use std::fmt;
 use std::iter::FusedIterator;
 use std::ops::RangeBounds;
-use tinyvec_slots::{part, resolve, write_named};
+use tinyvec_slots::{resolve_range, subslice, write_named};
 
-/// Gives the items of a range, which the vector has lost already. When it ends, their slots hold defaults.
-pub struct SliceVecDrainOver<'a, B: Lent>
+/// Yields the items of a range, which the list no longer has. When it is dropped, their slots hold defaults.
+pub struct GenericSliceVecDrain<'a, B: Lent>
 where
     B::Item: Default,
 {
     // The first `count` spare slots are the vacated ones. Those from `front` on still hold items.
-    vec: &'a mut SliceVecOver<B>,
+    vec: &'a mut GenericSliceVec<B>,
     count: usize,
     front: usize,
 }
 
 /// The drain of a vector in a lent slice.
-pub type SliceVecDrain<'p, 's, T> = SliceVecDrainOver<'p, &'s mut [T]>;
+pub type SliceVecDrain<'p, 's, T> = GenericSliceVecDrain<'p, &'s mut [T]>;
 
-impl<B: Lent> SliceVecOver<B>
+impl<B: Lent> GenericSliceVec<B>
 where
     B::Item: Default,
 {
-    ghost use Rattle.tinyvec_slice.specs.View.{items_of, spare_of, name_of};
-    ghost use Rattle.tinyvec_slice.specs.Drain.{drain_items, drain_lender, drain_name, drain_kept, drain_count, drain_spare, DrainCanStep, DrainSteps};
+    ghost use Rattle.tinyvec_slice.specs.SliceVec.{items_of, spare_of, name_of};
+    ghost use Rattle.tinyvec_slice.specs.Drain.{drain_items, drain_owner, drain_name, drain_kept, drain_count, drain_spare, DrainCanStep, DrainSteps};
 
-    /// Takes the items of the range out of the list, and gives them in order. A caller that is generic over what is
-    /// lent knows what the vector holds afterwards. One that names `SliceVec` learns nothing of that: `drain_each` and
-    /// `drain_into` tell it. The items behind the range are moved down at the call.
+    /// Removes the range, and yields its items in order. The items after the range move down at the call. A caller that
+    /// is generic over `Lent` knows what the vector holds afterwards; one that names `SliceVec` does not, and takes
+    /// `drain_each` or `drain_into`.
     ///
-    /// `known` is false of an `a..=b` that was iterated to its end, and of no other range of std.
-    pub fn drain<R: RangeBounds<usize>>(&mut self, range: R) -> SliceVecDrainOver<'_, B>
-        requires known { R.has_bounds range }
+    /// `not_exhausted` fails only for a `RangeInclusive` that was iterated to its end.
+    pub fn drain<R: RangeBounds<usize>>(&mut self, range: R) -> GenericSliceVecDrain<'_, B>
+        requires not_exhausted { R.has_bounds range }
         requires in_list { IsRangeOf (items_of B.Lent self.old) (R.start_bound range) (R.end_bound range) }
 
-        // The iterator gives the items of the range.
+        // The iterator yields the items of the range.
         ensures rest { drain_items B.Lent result
             ≡ removed (items_of B.Lent self.old) (R.start_bound range) (R.end_bound range) }
         ensures ready { DrainCanStep B.Lent result }
         ensures runs { YieldsInOrder (DrainSteps B.Lent) (drain_items B.Lent) }
 
-        // The list is what stood before and after, and the spare slots will be the vacated ones and the old.
-        ensures same_reference { drain_lender result ≡ self.entry.ghost_name }
+        // The list is what precedes and follows the range; the spare slots will be the emptied ones, then the old.
+        ensures same_reference { drain_owner result ≡ self.entry.ghost_name }
         ensures same_slots { drain_name B.Lent result ≡ name_of B.Lent self.old }
         ensures kept { drain_kept B.Lent result ≡ before (items_of B.Lent self.old) (R.start_bound range)
             ++ after (items_of B.Lent self.old) (R.end_bound range) }
@@ -57,11 +59,11 @@ where
         ensures spare { drain_spare B.Lent result ≡ spare_of B.Lent self.old }
     {
         let len = self.len();
-        let part = resolve(range, len);
+        let part = resolve_range(range, len);
         let count = part.end - part.start;
-        self.items_to_end(part.start, part.end);
+        self.move_to_end(part.start, part.end);
         self.set_len(len - count);
-        SliceVecDrainOver {
+        GenericSliceVecDrain {
             vec: self,
             count,
             front: 0,
@@ -69,7 +71,7 @@ where
     }
 }
 
-impl<'a, B: Lent> Drop for SliceVecDrainOver<'a, B>
+impl<'a, B: Lent> Drop for GenericSliceVecDrain<'a, B>
 where
     B::Item: Default,
 {
@@ -78,16 +80,16 @@ where
     fn drop(self)
         ensures { DrainCanStep B.Lent self.entry → DrainLeaves B.Lent B.Item.is_default self.entry self.exit.0.now }
     {
-        let SliceVecDrainOver {
+        let GenericSliceVecDrain {
             vec,
             count,
             front: _,
         } = self;
-        vec.reset_spare(count);
+        vec.fill_spare_default(count);
     }
 }
 
-impl<'a, B: Lent> Iterator for SliceVecDrainOver<'a, B>
+impl<'a, B: Lent> Iterator for GenericSliceVecDrain<'a, B>
 where
     B::Item: Default,
 {
@@ -120,12 +122,12 @@ where
     }
 }
 
-impl<'a, B: Lent> FusedIterator for SliceVecDrainOver<'a, B>
+impl<'a, B: Lent> FusedIterator for GenericSliceVecDrain<'a, B>
 where
     B::Item: Default,
 {}
 
-impl<'a, B: Lent> fmt::Debug for SliceVecDrainOver<'a, B>
+impl<'a, B: Lent> fmt::Debug for GenericSliceVecDrain<'a, B>
 where
     B::Item: Default + fmt::Debug,
 {
@@ -136,6 +138,62 @@ where
 
     fn fmt<W: fmt::Write>(&self, f: &mut fmt::Formatter<W>) -> fmt::Result {
         let vacated = self.vec.grab_spare_slice();
-        write_named(f, "SliceVecDrain", part(vacated, self.front, self.count))
+        write_named(
+            f,
+            "SliceVecDrain",
+            subslice(vacated, self.front, self.count),
+        )
+    }
+}
+
+impl<B: Lent> GenericSliceVec<B>
+where
+    B::Item: Default,
+{
+    /// Takes the items of the range out of the list, and calls `f` with each, in order. A caller that names `SliceVec`
+    /// knows what is left.
+    ///
+    /// `not_exhausted` fails only for a `RangeInclusive` that was iterated to its end.
+    pub fn drain_each<R: RangeBounds<usize>, F: FnMut(B::Item)>(&mut self, range: R, f: &mut F)
+        requires not_exhausted { R.has_bounds range }
+        requires in_list { IsRangeOf (items_of B.Lent self.old) (R.start_bound range) (R.end_bound range) }
+        requires callable { F.IsAlwaysCallable f.old }
+        ensures same_reference { name_of B.Lent self.new ≡ name_of B.Lent self.old }
+        ensures items { items_of B.Lent self.new ≡ before (items_of B.Lent self.old) (R.start_bound range)
+            ++ after (items_of B.Lent self.old) (R.end_bound range) }
+        ensures spare { VacatesOf B.Lent B.Item.is_default
+            (length (removed (items_of B.Lent self.old) (R.start_bound range) (R.end_bound range))) self.old self.new }
+
+        // One call an item, and no more.
+        ensures given { FoldsTo (λ p x q. F.step p x tt q) f.old
+            (removed (items_of B.Lent self.old) (R.start_bound range) (R.end_bound range)) f.new }
+        ensures still_callable { F.IsAlwaysCallable f.new }
+    {
+        for x in self.drain(range) {
+            f(x);
+        }
+    }
+
+    /// Moves the items of the range to the end of `out`, which has room for them. A caller that names `SliceVec` knows
+    /// what is left.
+    ///
+    /// `not_exhausted` fails only for a `RangeInclusive` that was iterated to its end.
+    pub fn drain_into<R: RangeBounds<usize>>(&mut self, range: R, out: &mut Vec<B::Item>)
+        requires not_exhausted { R.has_bounds range }
+        requires in_list { IsRangeOf (items_of B.Lent self.old) (R.start_bound range) (R.end_bound range) }
+        requires room { vec_len out.old
+            + length (removed (items_of B.Lent self.old) (R.start_bound range) (R.end_bound range)) ≤ vec_capacity out.old }
+        ensures same_reference { name_of B.Lent self.new ≡ name_of B.Lent self.old }
+        ensures items { items_of B.Lent self.new ≡ before (items_of B.Lent self.old) (R.start_bound range)
+            ++ after (items_of B.Lent self.old) (R.end_bound range) }
+        ensures spare { VacatesOf B.Lent B.Item.is_default
+            (length (removed (items_of B.Lent self.old) (R.start_bound range) (R.end_bound range))) self.old self.new }
+        ensures moved { out.new.items ≡ out.old.items
+            ++ removed (items_of B.Lent self.old) (R.start_bound range) (R.end_bound range) }
+        ensures capacity { vec_capacity out.new ≡ vec_capacity out.old }
+    {
+        for x in self.drain(range) {
+            out.push_reserved(x);
+        }
     }
 }

@@ -4,8 +4,7 @@ ghost use Rattle.std.specs.Borrow.{Lends, sem, GName, Array as SliceOf};
 
 use crate::sealed::IsSlice;
 
-/// Slots that are lent for writing. `&mut [T]` alone is so. A function that is generic over what is lent knows what a
-/// drain left, and so does who calls it with a slice.
+/// Sealed: only `&mut [T]` implements it. Be generic over `Lent` if your proof must know what a drain leaves.
 pub trait Lent: Drop + IsSlice {
     /// What a slot holds.
     type Item: Drop;

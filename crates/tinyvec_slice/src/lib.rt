@@ -1,6 +1,7 @@
 //! A vector that lives in a slice which is lent for writing.
 #![tactic(auto)]
 
+mod can_cut;
 mod clone_slots;
 mod drain;
 mod lent;
@@ -9,6 +10,6 @@ mod sealed;
 mod slice_vec;
 mod slots;
 
-pub use drain::{SliceVecDrain, SliceVecDrainOver};
+pub use drain::{GenericSliceVecDrain, SliceVecDrain};
 pub use lent::Lent;
-pub use slice_vec::{SliceVec, SliceVecOver};
+pub use slice_vec::{GenericSliceVec, SliceVec};

@@ -1,42 +1,41 @@
 //! `SliceVec`.
-ghost use Rattle.std.specs.Prelude.{◌≡◌, ◌<◌, ◌≤◌, ◌==◌, ◌+◌, ◌^◌, length, drop, slice_range, slice_index_or, slice_set, List, ◌++◌};
+ghost use Rattle.std.specs.Prelude.{◌≡◌, ◌<◌, ◌≤◌, ◌==◌, ◌+◌, ◌^◌, length, drop, slice_range, slice_index_or, slice_set, List, ◌++◌, ◌↔◌, [], take, min, IsSome, IfSome};
 ghost use Rattle.std.specs.List.{remove_range};
 ghost use Rattle.tinyvec_slots.specs.Slots.{AreDefaults, split_at};
+ghost use Rattle.std.specs.Borrow.{sem};
+ghost use Rattle.tinyvec_slice.specs.Making.{lends_array};
+ghost use Rattle.tinyvec_slice.specs.SliceVec.{seen, items, spare, name, items_of, spare_of, slots_of, len_of};
+ghost use Rattle.tinyvec_slice.specs.Lends.{lends_items, lends_inner, lends_spare};
+ghost use Rattle.std.specs.Slice.Iter.{iter_rest, iter_mut_rest, iter_mut_steps, iter_mut_steps_back};
+ghost use Rattle.std.specs.Iterator.Adapters.{IterYieldsInOrder, IterYieldsInReverse};
+ghost use Rattle.std.specs.Iterator.Runs.{EveryRun, ItemsMapTo, ItemsMapToReversed};
 
-mod comparing;
-mod cutting;
-mod draining;
 mod edits;
-mod ends;
-mod filling;
+mod extending;
 mod filters;
-mod growing;
-mod iterating;
-mod joining;
-mod lending;
-mod making;
-mod printing;
-mod resizing;
-mod writing;
+mod traits;
 
 use crate::Lent;
-use crate::slots::{clear, slots_to_end, take_slot};
+use crate::parts::part_of;
+use crate::slots::{fill_default_in, take_slot};
 use std::convert::AsSlice;
+use std::slice;
+use tinyvec_slots::move_to_end_below;
 
-/// A list in lent slots. The slots behind the list are its spare slots: they hold values too, and the vacated
-/// ones hold defaults. When it ends, the owner of the slots sees the list followed by the spare slots.
+/// A list in lent slots. The slots after the list are its spare slots: they hold values too, and vacated ones hold defaults.
+/// When it is dropped, the owner of the slots sees the list followed by the spare slots.
 #[derive(Drop)]
-pub struct SliceVecOver<B: Lent> {
-    // Where this is more than there are slots, all of them hold the list.
+pub struct GenericSliceVec<B: Lent> {
+    // If this is more than the number of slots, all of them hold the list.
     len: usize,
     lent: B,
 }
 
 /// A list in a slice that is lent for writing.
-pub type SliceVec<'s, T> = SliceVecOver<&'s mut [T]>;
+pub type SliceVec<'s, T> = GenericSliceVec<&'s mut [T]>;
 
-impl<B: Lent> SliceVecOver<B> {
-    ghost use Rattle.tinyvec_slice.specs.View.{items_of, spare_of, slots_of, name_of, seen_of, len_of};
+impl<B: Lent> GenericSliceVec<B> {
+    ghost use Rattle.tinyvec_slice.specs.SliceVec.{items_of, spare_of, slots_of, name_of, seen_of, len_of};
 
     /// The number of items.
     pub fn len(&self) -> usize
@@ -53,6 +52,14 @@ impl<B: Lent> SliceVecOver<B> {
         ensures parts { result ≡ len_of B.Lent self.now + length (spare_of B.Lent self.now) }
     {
         self.as_inner().len()
+    }
+
+    /// How many more items fit.
+    pub fn remaining_capacity(&self) -> usize
+        ensures value { result ≡ length (spare_of B.Lent self.now) }
+        ensures sum { len_of B.Lent self.now + result ≡ length (slots_of B.Lent self.now) }
+    {
+        self.capacity() - self.len()
     }
 
     /// Whether the list has no items.
@@ -102,8 +109,8 @@ impl<B: Lent> SliceVecOver<B> {
         self.len = len;
     }
 
-    // Moves the items from `start` up to `end` behind the others.
-    pub(crate) fn items_to_end(&mut self, start: usize, end: usize)
+    // Moves the items from `start` up to `end` after the others.
+    pub(crate) fn move_to_end(&mut self, start: usize, end: usize)
         requires start_le_end { start ≤ end }
         requires in_bounds { end ≤ len_of B.Lent self.old }
         ensures same_reference { name_of B.Lent self.new ≡ name_of B.Lent self.old }
@@ -112,17 +119,72 @@ impl<B: Lent> SliceVecOver<B> {
         ensures spare { spare_of B.Lent self.new ≡ spare_of B.Lent self.old }
     {
         let len = self.len();
-        slots_to_end(&mut self.lent, start, end, len);
+        move_to_end_below(self.lent.all_mut(), start, end, len);
+    }
+
+    /// The items, for writing.
+    pub fn as_mut_slice(&mut self) -> &mut [B::Item]
+        ensures* writes_back { sem 𝓛 (lends_items B.row B.Item.row B.Lent self.entry result) }
+        ensures value { result.now ≡ items_of B.Lent self.old }
+    {
+        let len = self.len();
+        part_of(&mut self.lent, 0, len)
+    }
+
+    /// The spare slots, for writing.
+    pub fn grab_spare_slice_mut(&mut self) -> &mut [B::Item]
+        ensures* writes_back { sem 𝓛 (lends_spare B.row B.Item.row B.Lent self.entry result) }
+        ensures value { result.now ≡ spare_of B.Lent self.old }
+    {
+        let len = self.len();
+        let all = self.capacity();
+        part_of(&mut self.lent, len, all)
+    }
+
+    /// All slots, for writing.
+    pub fn as_mut_inner(&mut self) -> &mut [B::Item]
+        ensures* writes_back { sem 𝓛 (lends_inner B.row B.Item.row B.Lent self.entry result) }
+        ensures value { result.now ≡ slots_of B.Lent self.old }
+    {
+        self.lent.all_mut()
+    }
+
+    ghost use Rattle.tinyvec_slice.specs.IterMut.{lends_iter};
+
+    /// The items, in order or from the back.
+    pub fn iter(&self) -> slice::Iter<'_, B::Item>
+        ensures rest { iter_rest result ≡ items_of B.Lent self.now }
+        ensures len { length (iter_rest result) ≡ len_of B.Lent self.now }
+        ensures bound { length (iter_rest result) < 2 ^ 64 }
+        ensures runs { IterYieldsInOrder B.Item }
+        ensures runs_back { IterYieldsInReverse B.Item }
+    {
+        self.as_slice().iter()
+    }
+
+    /// The items for writing, in order or from the back.
+    pub fn iter_mut(&mut self) -> slice::IterMut<'_, B::Item>
+        ensures* writes_back { sem 𝓛 (lends_iter B.row B.Item.row B.Lent self.entry result) }
+        ensures rest { iter_mut_rest result ≡ items_of B.Lent self.old }
+        ensures len { length (iter_mut_rest result) ≡ len_of B.Lent self.old }
+        ensures bound { length (iter_mut_rest result) < 2 ^ 64 }
+
+        // It lends the items in order, or from the back.
+        ensures runs { EveryRun (iter_mut_steps {A = B.Item}) (λ p. ItemsMapTo p (λ x. x.now) (iter_mut_rest p.from)) }
+        ensures runs_back { EveryRun (iter_mut_steps_back {A = B.Item})
+            (λ p. ItemsMapToReversed p (λ x. x.now) (iter_mut_rest p.from)) }
+    {
+        self.as_mut_slice().iter_mut()
     }
 }
 
-impl<B: Lent> SliceVecOver<B>
+impl<B: Lent> GenericSliceVec<B>
 where
     B::Item: Default,
 {
-    ghost use Rattle.tinyvec_slice.specs.View.{items_of, spare_of, slots_of, name_of, len_of};
+    ghost use Rattle.tinyvec_slice.specs.SliceVec.{items_of, spare_of, slots_of, name_of, len_of};
 
-    // Takes what the spare slot at `i` holds, and leaves a default.
+    // Takes the value of the spare slot at `i`, and leaves a default.
     pub(crate) fn take_spare(&mut self, i: usize) -> B::Item
         requires { i < length (spare_of B.Lent self.old) }
         ensures same_reference { name_of B.Lent self.new ≡ name_of B.Lent self.old }
@@ -136,7 +198,7 @@ where
     }
 
     // Writes defaults into the first `n` spare slots, or none where there are fewer.
-    pub(crate) fn reset_spare(&mut self, n: usize)
+    pub(crate) fn fill_spare_default(&mut self, n: usize)
         ensures same_reference { name_of B.Lent self.new ≡ name_of B.Lent self.old }
         ensures items { items_of B.Lent self.new ≡ items_of B.Lent self.old }
         ensures spare { n ≤ length (spare_of B.Lent self.old) → (ds : List B.Item) × AreDefaults B.Item.is_default n ds
@@ -145,17 +207,98 @@ where
     {
         let len = self.len();
         if n <= self.capacity() - len {
-            clear(&mut self.lent, len, len + n);
+            fill_default_in(&mut self.lent, len, len + n);
         }
     }
 }
 
-impl<B: Lent> AsSlice<B::Item> for SliceVecOver<B> {
-    ghost use Rattle.tinyvec_slice.specs.View.{items_of, len_of};
+impl<B: Lent> AsSlice<B::Item> for GenericSliceVec<B> {
+    ghost use Rattle.tinyvec_slice.specs.SliceVec.{items_of, len_of};
 
     ghost items = { items_of B.Lent };
 
     fn as_slice(&self) -> &[B::Item] {
         self.as_slice()
+    }
+}
+
+impl<'s, T: Drop> GenericSliceVec<&'s mut [T]> {
+    /// A vector whose list is the first `len` slots of the slice. The others are its spare slots.
+    pub fn from_slice_len(slice: &'s mut [T], len: usize) -> Self
+        requires { len ≤ length slice.old }
+        ensures same_reference { name result ≡ slice.entry.ghost_name }
+        ensures value { seen result ≡ split_at len slice.old }
+        ensures items { items result ≡ take len slice.old }
+        ensures spare { spare result ≡ drop len slice.old }
+    {
+        GenericSliceVec { len, lent: slice }
+    }
+
+    /// A full vector, whose list is the whole slice. An array can be passed as `&mut array`.
+    pub fn from_slice(slice: &'s mut [T]) -> Self
+        ensures same_reference { name result ≡ slice.entry.ghost_name }
+        ensures value { seen result ≡ split_at (length slice.old) slice.old }
+        ensures items { items result ≡ slice.old }
+    {
+        let len = slice.len();
+        Self::from_slice_len(slice, len)
+    }
+
+    /// A vector whose list is the first `len` slots of the slice, or all slots where there are fewer.
+    pub fn from_slice_at_most(slice: &'s mut [T], len: usize) -> Self
+        ensures same_reference { name result ≡ slice.entry.ghost_name }
+        ensures value { seen result ≡ split_at (min len (length slice.old)) slice.old }
+        ensures items { items result ≡ take len slice.old }
+        ensures spare { spare result ≡ drop len slice.old }
+    {
+        let all = slice.len();
+        Self::from_slice_len(slice, len.min(all))
+    }
+
+    /// A vector whose list is the first `len` slots of the slice. `None` if the slice is too short; it is then
+    /// unchanged. Limitation: the owner's proof learns neither; use `from_slice_at_most`.
+    pub fn try_from_slice_len(slice: &'s mut [T], len: usize) -> Option<Self>
+        ensures fits { IsSome result ↔ (len ≤ length slice.old) }
+        ensures same_reference { IfSome result (λ v. name v ≡ slice.entry.ghost_name) }
+        ensures value { IfSome result (λ v. seen v ≡ split_at len slice.old) }
+    {
+        if len > slice.len() {
+            return None;
+        }
+        Some(Self::from_slice_len(slice, len))
+    }
+}
+
+impl<'s, T: Drop> Default for GenericSliceVec<&'s mut [T]> {
+    ghost is_default = { λ v. seen v ≡ split_at 0 [] };
+
+    /// A vector over no slots.
+    fn default() -> Self {
+        GenericSliceVec {
+            len: 0,
+            lent: &mut [],
+        }
+    }
+}
+
+impl<'s, T: Drop> From<&'s mut [T]> for GenericSliceVec<&'s mut [T]> {
+    ghost from_gives = { λ slice v. (name v ≡ slice.ghost_name) × (seen v ≡ split_at (length slice.now) slice.now) };
+
+    /// A full vector, whose list is the whole slice.
+    fn from(slice: &'s mut [T]) -> Self {
+        Self::from_slice(slice)
+    }
+}
+
+impl<'s, T: Drop, const N: usize> From<&'s mut [T; N]> for GenericSliceVec<&'s mut [T]> {
+    ghost from_gives = { λ array v. seen v ≡ split_at (length array.now) array.now };
+
+    /// A full vector, whose list is the whole array. Limitation: the owner's proof does not learn what the vector did;
+    /// use `from_slice` or `from_slice_len`.
+    fn from(array: &'s mut [T; N]) -> Self
+        ensures* writes_back { sem 𝓛 (lends_array T.row N array.entry result) }
+        ensures value { seen result ≡ split_at (length array.old) array.old }
+    {
+        Self::from_slice(array.as_mut_slice())
     }
 }

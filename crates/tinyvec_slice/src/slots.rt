@@ -1,22 +1,12 @@
-//! Reads and writes of lent slots.
-ghost use Rattle.std.specs.Prelude.{◌≡◌, ◌+◌, ◌-◌, ◌<◌, ◌≤◌, List, [], ◌∷◌, ◌++◌, length, take, drop, slice_index_or, slice_set, slice_range, insert, remove};
-ghost use Rattle.std.specs.List.{remove_range};
+//! Reading and writing lent slots.
+ghost use Rattle.std.specs.Prelude.{◌≡◌, ◌+◌, ◌-◌, ◌<◌, ◌≤◌, List, [], ◌∷◌, ◌++◌, length, take, drop, slice_index_or, slice_set, insert, remove};
 ghost use Rattle.tinyvec_slots.specs.Slots.{AreDefaults};
 
 use crate::Lent;
 use std::mem;
-use tinyvec_slots::{insert_shifting, last_to, part_to_end, remove_shifting, reset};
+use tinyvec_slots::{fill_default, insert_shifting, last_to, remove_shifting};
 
-// Writes `x` into the slot at `i`.
-pub(crate) fn put<B: Lent>(lent: &mut B, i: usize, x: B::Item)
-    requires { i < length (B.slots lent.old) }
-    ensures same_reference { B.name lent.new ≡ B.name lent.old }
-    ensures after { B.slots lent.new ≡ slice_set (B.slots lent.old) i x }
-{
-    lent.all_mut()[i] = x;
-}
-
-// Takes what the slot at `i` holds, and leaves a default.
+// Takes the value of the slot at `i`, and leaves a default.
 pub(crate) fn take_slot<B: Lent>(lent: &mut B, i: usize) -> B::Item
 where
     B::Item: Default,
@@ -29,7 +19,7 @@ where
 }
 
 // Writes a default into each slot from `start` up to `end`.
-pub(crate) fn clear<B: Lent>(lent: &mut B, start: usize, end: usize)
+pub(crate) fn fill_default_in<B: Lent>(lent: &mut B, start: usize, end: usize)
 where
     B::Item: Default,
     requires start_le_end { start ≤ end }
@@ -38,22 +28,10 @@ where
     ensures after { (ds : List B.Item) × AreDefaults B.Item.is_default (end - start) ds
         × (B.slots lent.new ≡ take start (B.slots lent.old) ++ ds ++ drop end (B.slots lent.old)) }
 {
-    reset(&mut lent.all_mut()[start..end]);
+    fill_default(&mut lent.all_mut()[start..end]);
 }
 
-// Moves the slots from `start` up to `end` behind the others below `len`.
-pub(crate) fn slots_to_end<B: Lent>(lent: &mut B, start: usize, end: usize, len: usize)
-    requires start_le_end { start ≤ end }
-    requires in_list { end ≤ len }
-    requires in_bounds { len ≤ length (B.slots lent.old) }
-    ensures same_reference { B.name lent.new ≡ B.name lent.old }
-    ensures after { B.slots lent.new ≡ remove_range (take len (B.slots lent.old)) start end
-        ++ slice_range (take len (B.slots lent.old)) start end ++ drop len (B.slots lent.old) }
-{
-    part_to_end(lent.all_mut(), start, end, len);
-}
-
-// Puts `x` into the slot at `index`, and moves those from there on up, over the one at `len`.
+// Puts `x` into the slot at `index`, and moves the slots from there on up by one, over the one at `len`.
 pub(crate) fn insert_slot<B: Lent>(lent: &mut B, index: usize, len: usize, x: B::Item)
     requires in_list { index ≤ len }
     requires room { len < length (B.slots lent.old) }
@@ -64,7 +42,7 @@ pub(crate) fn insert_slot<B: Lent>(lent: &mut B, index: usize, len: usize, x: B:
     insert_shifting(lent.all_mut(), index, len, x);
 }
 
-// Takes what the slot at `index` holds, moves those behind it below `len` down, and leaves a default in the last.
+// Takes what the slot at `index` holds, moves the later slots below `len` down by one, and leaves a default in the last.
 pub(crate) fn remove_slot<B: Lent>(lent: &mut B, index: usize, len: usize) -> B::Item
 where
     B::Item: Default,
@@ -78,7 +56,7 @@ where
     remove_shifting(lent.all_mut(), index, len)
 }
 
-// Moves the last slot below `len` to `index`, and those from there on up.
+// Moves the last slot below `len` to `index`, and the slots from there on up by one.
 pub(crate) fn last_slot_to<B: Lent>(lent: &mut B, index: usize, len: usize)
     requires in_list { index < len }
     requires in_bounds { len ≤ length (B.slots lent.old) }

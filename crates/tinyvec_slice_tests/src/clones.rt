@@ -20,7 +20,7 @@ fn extends<T: Clone + PartialEq + Drop>(
     (v.extend_from_slice(more).is_ok() == is_granted) & holds(v, items, spare)
 }
 
-// Whether the list is cut or filled up to so many items by clones of this one, which comes back where one is refused, and
+// Whether the list is cut or filled up to this many items by clones of this one, which comes back where one is refused, and
 // this is left.
 fn resizes(
     v: &mut SliceVec<'_, Item>,
@@ -107,7 +107,7 @@ fn resize_refused(rt: HostRuntime) -> Result<(), Fail> {
     all_right(wrong)
 }
 
-// Whether the filling comes back where the second clone is refused, and so many items are left, and these slots.
+// Whether the filling comes back where the second clone is refused, and this many items are left, and these slots.
 fn is_cut_short(from: usize, to: usize, len: usize, wanted: [usize; 4]) -> bool {
     let clones = Clones::refusing(2);
     let filling = Counted {
@@ -149,7 +149,7 @@ fn extends_owned(v: &mut SliceVec<'_, Owned>, alloc: Global) -> Result<bool, All
     is_granted.and(Ok(v.as_slice() == source.as_slice()))
 }
 
-// Whether the list is cut or filled up to so many items by clones of one that owns memory.
+// Whether the list is cut or filled up to this many items by clones of one that owns memory.
 fn resizes_owned(
     v: &mut SliceVec<'_, Owned>,
     alloc: Global,

@@ -27,7 +27,7 @@ fn compare(v: &SliceVec<'_, i32>, w: &SliceVec<'_, i32>, order: Ordering) -> boo
     partial & total & ((hash_of(v) == hash_of(w)) == (order == Ordering::Equal))
 }
 
-// The same of the lists of so many items in these slots.
+// The same of the lists of this many items in these slots.
 fn are_in_order<const N: usize, const M: usize>(
     (slots, len): ([i32; N], usize),
     (other_slots, other_len): ([i32; M], usize),
@@ -113,7 +113,7 @@ fn empty_lists(rt: HostRuntime) -> Result<(), Fail> {
     all_right(wrong)
 }
 
-// Whether the lists of two items in these slots stand in this order, or in none.
+// Whether the lists of two items in these slots are in this order, or in none.
 fn stand(one: &mut [f64], two: &mut [f64], order: Option<Ordering>) -> bool {
     let v = SliceVec::from_slice_at_most(one, 2);
     let w = SliceVec::from_slice_at_most(two, 2);

@@ -1,6 +1,6 @@
 //! Drains.
 ghost use Rattle.tinyvec_slots.specs.Cut.{IsRangeOf};
-ghost use Rattle.tinyvec_slice.specs.View.{items};
+ghost use Rattle.tinyvec_slice.specs.SliceVec.{items};
 
 use std::ops::RangeBounds;
 use std::test::Fail;
@@ -17,7 +17,7 @@ fn begins_with<R: RangeBounds<usize>>(
     spare: &[i32],
 ) -> bool
 where
-    requires known { R.has_bounds range }
+    requires not_exhausted { R.has_bounds range }
     requires in_list { IsRangeOf (items v) (R.start_bound range) (R.end_bound range) }
 {
     let is_first = v.drain(range).next() == item;
@@ -62,7 +62,7 @@ fn run_to_its_end(rt: HostRuntime) -> Result<(), Fail> {
     all_right(wrong)
 }
 
-// Whether this is the item behind so many others.
+// Whether this is the item after this many others.
 fn is_behind<I: Iterator<Item = i32> + Drop>(mut items: I, count: usize, item: Option<i32>) -> bool
 where
     requires { I.can_next items }
@@ -89,7 +89,7 @@ fn hands<R: RangeBounds<usize>>(
     spare: &[i32],
 ) -> bool
 where
-    requires known { R.has_bounds range }
+    requires not_exhausted { R.has_bounds range }
     requires in_list { IsRangeOf (items v) (R.start_bound range) (R.end_bound range) }
 {
     let mut given = 1_i32;

@@ -107,3 +107,15 @@ fn items_without_bytes(rt: HostRuntime) -> Result<(), Fail> {
     wrong = first(wrong, 4, clears(&mut v, &[(); 3]));
     all_right(wrong)
 }
+
+#[test]
+fn as_a_slice(rt: HostRuntime) -> Result<(), Fail> {
+    let mut slots = [3, 1, 2, 9];
+    let mut v = SliceVec::from_slice_len(&mut slots, 3);
+    v.sort_unstable();
+    let mut wrong = 0;
+    wrong = first(wrong, 1, holds(&v, &[1, 2, 3], &[9]));
+    wrong = first(wrong, 2, v.first().copied() == Some(1));
+    wrong = first(wrong, 3, slots == [1, 2, 3, 9]);
+    all_right(wrong)
+}

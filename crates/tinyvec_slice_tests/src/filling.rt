@@ -135,7 +135,7 @@ fn extend_by_copies_of_a_slice(rt: HostRuntime) -> Result<(), Fail> {
     all_right(wrong)
 }
 
-// Cuts the list or fills it up to so many items by the numbers that follow one, and answers the last, or none where there is
+// Cuts the list or fills it up to `n` items by the numbers that follow one, and answers the last, or none where there is
 // no room.
 fn resize_with(v: &mut SliceVec<'_, i32>, len: usize, before: i32) -> Option<i32> {
     if len > v.capacity() {
@@ -222,7 +222,7 @@ fn retain_the_even(rt: HostRuntime) -> Result<(), Fail> {
     all_right(wrong)
 }
 
-// Whether it asks about each of so many items once, whether all of them or none stay.
+// Whether it asks about each of this many items once, whether all of them or none stay.
 fn asks_about(len: usize, asked: i32) -> bool {
     let mut slots = [1, 2, 3, 4];
     let mut v = SliceVec::from_slice_at_most(&mut slots, len);

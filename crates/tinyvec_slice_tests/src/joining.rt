@@ -4,7 +4,7 @@ use tinyvec_slice::SliceVec;
 use tinyvec_test_items::lent::holds;
 use tinyvec_test_items::{all_right, first};
 
-// Whether the items of a list find room behind another, and both hold this.
+// Whether the items of a list find room after another, and both hold this.
 fn appends<'s>(
     v: &mut SliceVec<'s, i32>,
     other: &mut SliceVec<'s, i32>,
@@ -85,7 +85,7 @@ fn push_if_room(v: &mut SliceVec<'_, i32>, item: i32) {
     }
 }
 
-// The first part is full. Of two parts of one length, the part that comes back lies behind.
+// The first part is full. Of two parts of one length, the part that comes back is after.
 #[test]
 fn split_off(rt: HostRuntime) -> Result<(), Fail> {
     let mut wrong = 0;

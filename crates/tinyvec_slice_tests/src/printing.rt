@@ -32,7 +32,7 @@ fn reads(v: &SliceVec<'_, i32>, text: &str) -> bool {
     is_shown(v, text) & is_debugged(v, text)
 }
 
-// The same behind one more item.
+// The same after one more item.
 fn pushes(v: &mut SliceVec<'_, i32>, item: i32, text: &str) -> bool {
     if v.is_full() {
         return false;
@@ -64,7 +64,7 @@ fn each_item_by_its_own_text(rt: HostRuntime) -> Result<(), Fail> {
     all_right(wrong)
 }
 
-// Whether the list of so many of these numbers is written so in a base.
+// Whether the list of this many of these numbers is written so in a base.
 fn is_based(base: Base, (numbers, len): ([u8; 3], usize), text: &str) -> bool {
     let mut slots = numbers;
     let v = SliceVec::from_slice_at_most(&mut slots, len);

@@ -88,7 +88,7 @@ fn write_numbers(v: &mut SliceVec<'_, u8>, x: u32, y: u32) -> fmt::Result {
     write!(v, "{x}, {y}")
 }
 
-// What the owner of the slots sees: the list, the text behind it, and what stood in the spare slots.
+// What the owner of the slots sees: the list, the text after it, and what the spare slots held.
 #[test]
 fn numbers(rt: HostRuntime) -> Result<(), Fail> {
     let mut slots = [1_u8, 9, 9, 9, 9, 9, 7, 8];

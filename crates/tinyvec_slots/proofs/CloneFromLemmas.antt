@@ -4,7 +4,7 @@ use Rattle.std.proofs.lemmas.Bool.{cases_lt}
 use Rattle.std.proofs.lemmas.List.{drop-drop, take-take, take-append-le, take_min, append-nil, nil_from_length}
 use Rattle.std.proofs.lemmas.Slice.{drop-append-drop}
 use Rattle.std.proofs.Math.Nat.{min_comm}
-use Rattle.tinyvec_slots.specs.Slots.{Slots, AreDefaults, Frees, SlotRule, items_len, all_slots, items, spare}
+use Rattle.tinyvec_slots.specs.Slots.{Slots, AreDefaults, Vacates, SlotRule, items_len, all_slots, items, spare}
 use Rattle.std.proofs.lemmas.List.Elements.{length_all_zip}
 use Rattle.std.specs.Bool.{⊤}
 use Rattle.std.specs.List.{AllZip}
@@ -19,11 +19,11 @@ empty_range xs i j e =
 
 -- `cut` is `left`, which `truncate` left of `old` at n items, the length of `source`.
 module _ {T : Type 0} (D I : T → Type 0) (C : T → T → Type 0) (old left cut : Slots T) (source : List T) (n : ℕ) (same : cut ≡ left) (long : n ≡ length source)
-    (fits : cut.len ≤ length (all_slots cut)) (left_items : items left ≡ take n (items old)) (left_frees : Frees D (items_len old - n) old left) where
+    (fits : cut.len ≤ length (all_slots cut)) (left_items : items left ≡ take n (items old)) (left_frees : Vacates D (items_len old - n) old left) where
   listed : items cut ≡ take (length source) (items old)
   listed = ap (λ v. items v) same ∙ left_items ∙ ap (λ k. take k (items old)) long
 
-  abbrev freed : Frees D (items_len old - length source) old cut
+  abbrev freed : Vacates D (items_len old - length source) old cut
   freed = (left_frees.0, (left_frees.1.0 ∙ ap (λ k. items_len old - k) long, left_frees.1.1), ap (λ v. spare v) same ∙ left_frees.2)
 
   abbrev lesser : ℕ

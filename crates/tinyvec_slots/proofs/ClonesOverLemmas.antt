@@ -1,8 +1,10 @@
 -- Clones written over slots, block by block.
 use Rattle.std.proofs.Common.{◌≡◌, ℕ, zero, suc, ◌+◌, ◌-◌, ◌<◌, ◌≤◌, List, [], ◌∷◌, ◌++◌, All, length, take, drop, set, get_or, replicate, refl, sym, ap, subst, ◌∙◌, le_refl, arith, append-nil, length-append, length-drop, take_at, drop_at, take_all, drop-drop, get_or-drop}
 use Rattle.std.proofs.lemmas.List.{take_more, replicate_more, drop_all}
-use Rattle.std.proofs.lemmas.List.Elements.{All-get_or, AllZip-push, same_from_all_zip}
+use Rattle.std.proofs.lemmas.List.Elements.{All-get_or, All-take, All-drop, AllZip-push, same_from_all_zip}
+use Rattle.std.proofs.lemmas.Result.{on_ok_weaker, on_err_weaker}
 use Rattle.std.proofs.Math.Seq.{take-add}
+use Rattle.std.specs.Prelude.{Result, IsOk, OnOk, OnErr}
 use Rattle.std.specs.List.{AllZip, HoldsAt}
 use Rattle.tinyvec_slots.specs.Clones.{RefusedAt, ClonesOver, ClonesOverFrom}
 use Rattle.tinyvec_slots.proofs.CloneLemmas.{set_next, written_part, length-part}
@@ -140,3 +142,13 @@ module _ {X : Type 0} (C : X → X → Type 0) where
           (omega (arith, below, rest_len), refused),
           (clones_further j (omega (arith, below)) found.2).1,
         )
+
+    -- the call that wrote them was answered so
+    pub clones_joined : {R E : Type 0} (I : X → Type 0) (r : Result R E) → OnOk r (ClonesOver C rest (length rest) lent part)
+        → OnErr r ((j : ℕ) × RefusedAt I rest j × ClonesOver C (take j rest) j lent part) → (All I rest → IsOk r)
+        → OnOk r (ClonesOver C from (length from) old written)
+        × (OnErr r ((j : ℕ) × RefusedAt I from j × ClonesOver C (take j from) j old written) × (All I from → IsOk r))
+    clones_joined I r ok refused succeeds = (
+      on_ok_weaker r clones_whole ok,
+      (on_err_weaker r (clones_in_part I) refused, λ all. succeeds (All-take I (length from - a) (drop a from) (All-drop I a from all))),
+    )

@@ -2,7 +2,7 @@
 use Rattle.std.proofs.Common.{◌≡◌, ℕ, Option, Some, None, true≢false, min, suc, zero, ◌+◌, ◌-◌, ◌%◌, ◌<◌, ◌≤◌, Bool, true, false, ◌&&◌, List, [], ◌∷◌, ◌++◌, length, length-drop, length-take-le, get_or, take, drop, refl, sym, ◌∙◌, ap, arith, rules, add-one}
 use Rattle.std.specs.Cmp.{IsPartialOrder, Equal-is, first_so, second_so}
 use Rattle.std.specs.Cmp.Lexicographic.{pointwise, slice_cmp, slice_partial_cmp}
-use Rattle.tinyvec_slots.specs.Comparing.{FirstDifference}
+use Rattle.tinyvec_slots.specs.Comparing.{FirstDifference, DiffersAt}
 use Rattle.std.specs.Ordering.{eq_by_cmp, is_eq, nat_cmp, ordering_then, partial_ordering_then}
 use Rattle.std.specs.declared.cmp.Ordering.{Ordering}
 use Rattle.std.specs.declared.cmp.Ordering.TheVariants.{Less, Equal, Greater}
@@ -108,17 +108,29 @@ module _ {T : Type 0} (E : T → T → Bool) where
       let l : length (drop i xs) ≡ length (drop i ys) = rw (length-drop i xs, length-drop i ys, long) refl in
       rw (pointwise_split i xs ys within w, same) (pointwise_front n (drop i xs) (drop i ys) m l f)
 
-  -- the first m pairs were looked at, and the first that is not equal is x and y
-  pub unlike_at : (n m : ℕ) (xs ys : List T) (x y : T) → FirstDifference E (take m xs) (take m ys) (length (take m xs)) n
-      → n < m → m ≤ length xs → x ≡ get_or xs n x → y ≡ get_or ys n y → E x y ≡ false
-  unlike_at n m xs ys x y at l h ex ey =
-      at.2 (rw (length-take-le m xs h) l) x y (ex ∙ sym (get_or-take m xs n x l)) (ey ∙ sym (get_or-take m ys n y l))
+  -- the first m pairs were looked at, which are all
+  pub differs_at : (n m : ℕ) (xs ys : List T) → m ≡ min (length xs) (length ys)
+      → FirstDifference E (take m xs) (take m ys) (length (take m xs)) n → DiffersAt E xs ys n
+  differs_at n m xs ys e first =
+      let h : m ≤ length xs = omega (arith, e) in
+      let at : FirstDifference E (take m xs) (take m ys) m n = rw (length-take-le m xs h) at first in
+      rw (← e) at
+
+  pub first_of : (n m : ℕ) (xs ys : List T) → m ≡ min (length xs) (length ys) → DiffersAt E xs ys n
+      → FirstDifference E (take m xs) (take m ys) m n
+  first_of n m xs ys e first = rw e first
+
+  -- the first pair that is not equal is x and y
+  pub unlike_at : (n m : ℕ) (xs ys : List T) (x y : T) → FirstDifference E (take m xs) (take m ys) m n
+      → n < m → x ≡ get_or xs n x → y ≡ get_or ys n y → E x y ≡ false
+  unlike_at n m xs ys x y first l ex ey =
+      first.2 l x y (ex ∙ sym (get_or-take m xs n x l)) (ey ∙ sym (get_or-take m ys n y l))
 
   -- all of them are equal
-  pub alike_all : (n m : ℕ) (xs ys : List T) → FirstDifference E (take m xs) (take m ys) (length (take m xs)) n
+  pub alike_all : (n m : ℕ) (xs ys : List T) → FirstDifference E (take m xs) (take m ys) m n
       → m ≤ n → m ≤ length xs → m ≤ length ys → pointwise E (take m xs) (take m ys) ≡ true
-  alike_all n m xs ys at l h k =
-      rw (take_all n (take m xs) (omega (arith, l, length-take-le m xs h)), take_all n (take m ys) (omega (arith, l, length-take-le m ys k))) at at.1
+  alike_all n m xs ys first l h k =
+      rw (take_all n (take m xs) (omega (arith, l, length-take-le m xs h)), take_all n (take m ys) (omega (arith, l, length-take-le m ys k))) at first.1
 
   -- the first n of the first m pairs are equal
   abbrev pub SameOf : ℕ → ℕ → List T → List T → Type 0

@@ -4,7 +4,7 @@ use Rattle.std.specs.Iterator.{YieldsFirst, YieldsLast, SkipsThenYields, Yields}
 use Rattle.std.specs.Iterator.Runs.{YieldsInOrder, YieldsInReverse}
 use Rattle.std.proofs.iter.runs.Sources.{from_front, from_back, as_is, as_is_back}
 use Rattle.tinyvec_slots.specs.Ends.{End, front, back, Asks}
-use Rattle.tinyvec_slots.specs.Drains.{Steps, StepsBack, TakesAnyWord}
+use Rattle.tinyvec_slots.specs.AnyDrain.{Steps, StepsBack, TakesAnyWord}
 use Rattle.tinyvec_slots.proofs.EndsLemmas.{Asks-takes}
 
 module _ {S T : Type 0} (rest : S → List T) (keeps : S → S → Type 0) where

@@ -5,7 +5,7 @@ use Rattle.std.proofs.lemmas.List.{drop-drop, drop_at, drop_all, take_all, get_o
 use Rattle.std.proofs.iter.Yields.{gives_left, gives_Drains}
 use Rattle.std.specs.Iterator.{Yields, YieldsThen, AlwaysYields}
 use Rattle.tinyvec_slots.specs.Filling.{YieldsUpTo, ShowsItems}
-use Rattle.tinyvec_slots.specs.Slots.{Slots, Frees, SlotRule, items, spare, items_len}
+use Rattle.tinyvec_slots.specs.Slots.{Slots, Vacates, SlotRule, items, spare, items_len}
 use Rattle.tinyvec_slots.proofs.SlotsLemmas.{slots_used, slots_freed}
 
 -- one more item used up one more spare slot
@@ -55,7 +55,7 @@ none_of (d ∷ ds) e xs = search (rules, arith)
 
 -- a list that is cut to n items, and then filled up to as many
 pub slots_resized : {T : Type 0} (D : T → Type 0) (old mid new : Slots T) (n : ℕ) → items mid ≡ take n (items old)
-    → Frees D (items_len old - n) old mid → items_len mid ≤ items_len new → items_len new ≡ n
+    → Vacates D (items_len old - n) old mid → items_len mid ≤ items_len new → items_len new ≡ n
     → spare new ≡ drop (items_len new - items_len mid) (spare mid) → SlotRule D old new
 slots_resized D old mid new n cut frees le long used =
     let short = ap length cut ∙ length-take n (items old) in

@@ -17,3 +17,5 @@ pub mod TurnLemmas
 pub mod SpliceLemmas
 pub mod SplicingLemmas
 pub mod TextLemmas
+pub mod ReplacingLemmas
+pub mod KnownItems

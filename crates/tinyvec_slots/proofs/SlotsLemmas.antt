@@ -3,7 +3,7 @@ use Rattle.std.proofs.Common.{◌≡◌, ℕ, ◌+◌, ◌-◌, List, [], ◌++�
 use Rattle.std.proofs.Math.Seq.{take-set-lt}
 use Rattle.std.proofs.lemmas.List.Elements.{All-nil, All-append}
 use Rattle.std.proofs.lemmas.List.{same_lists, places, get_or-replicate, length-replicate}
-use Rattle.tinyvec_slots.specs.Slots.{Slots, AreDefaults, Frees, SlotRule, items_len, all_slots, items, spare, with_items, with_slot}
+use Rattle.tinyvec_slots.specs.Slots.{Slots, AreDefaults, Vacates, SlotRule, Shortens, SameSpare, items_len, all_slots, items, spare, with_items, with_slot}
 
 -- the slots are the list and what stands behind it
 pub slots_are : {T : Type 0} (v : Slots T) → all_slots v ≡ items v ++ spare v
@@ -33,15 +33,22 @@ module _ {T : Type 0} (D : T → Type 0) (old new : Slots T) where
       let more : items_len new - items_len old ≡ k = omega arith in
       ([], (sym none, All-nil D), behind ∙ ap (λ n. drop n (spare old)) (sym more))
 
-  pub slots_freed : (k : ℕ) → items_len old ≡ items_len new + k → Frees D k old new → SlotRule D old new
+  pub slots_freed : (k : ℕ) → items_len old ≡ items_len new + k → Vacates D k old new → SlotRule D old new
   slots_freed k len h =
       let fewer : items_len old - items_len new ≡ k = omega arith in
       let none : items_len new - items_len old ≡ 0 = omega arith in
       (h.0, (h.1.0 ∙ sym fewer, h.1.1), h.2 ∙ ap (λ n. h.0 ++ drop n (spare old)) (sym none))
 
+  pub shortened : Shortens D old new → SlotRule D old new
+  shortened h = slots_freed (items_len old - items_len new) (omega (arith, h.0)) h.1
+
+-- a list that was written and then cut
+pub written_shortened : {T : Type 0} (D : T → Type 0) (u v w : Slots T) → SameSpare u v → Shortens D v w → Shortens D u w
+written_shortened D u v w k h = rw (sym k.0, sym k.1) h
+
 -- what two calls vacated, one after the other
-pub Frees-more : {T : Type 0} (D : T → Type 0) (old mid new : Slots T) (j k : ℕ) → Frees D j old mid → Frees D k mid new → Frees D (j + k) old new
-Frees-more D old mid new j k first then =
+pub Vacates-more : {T : Type 0} (D : T → Type 0) (old mid new : Slots T) (j k : ℕ) → Vacates D j old mid → Vacates D k mid new → Vacates D (j + k) old new
+Vacates-more D old mid new j k first then =
     let sum : length (then.0 ++ first.0) ≡ j + k = length-append then.0 first.0 ∙ omega (arith, first.1.0, then.1.0) in
     (then.0 ++ first.0, (sum, All-append D then.0 first.0 then.1.1 first.1.1), then.2 ∙ ap (λ xs. then.0 ++ xs) first.2 ∙ sym (append_assoc then.0 first.0 (spare old)))
 
@@ -52,7 +59,7 @@ module _ {T : Type 0} (D : T → Type 0) (c : T) (only : (x : T) → D x → x �
       same_lists xs (replicate n c) (h.0 ∙ sym (length-replicate n c))
       (λ k d lt. only _ (h.1 k d lt) ∙ sym (get_or-replicate n k c d (rw (← h.0) lt)))
 
-  pub freed : (n : ℕ) (old new : Slots T) → Frees D n old new → spare new ≡ replicate n c ++ spare old
+  pub freed : (n : ℕ) (old new : Slots T) → Vacates D n old new → spare new ≡ replicate n c ++ spare old
   freed n old new h = h.2 ∙ ap (λ ds. ds ++ spare old) (defaults_are n h.0 h.1)
 
 -- the vacated slots of numbers hold zeros

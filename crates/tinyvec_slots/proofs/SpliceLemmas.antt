@@ -3,7 +3,7 @@ use Rattle.std.proofs.Common.{◌≡◌, ◌+◌, ◌≤◌, ℕ, true, false, L
 use Rattle.std.proofs.lemmas.Result.{MatchResult-weaker}
 use Rattle.std.specs.Iterator.{Drains, Yields, YieldsThen}
 use Rattle.tinyvec_slots.specs.Filling.{ShowsItems}
-use Rattle.tinyvec_slots.specs.Splices.{SpliceView, Finishes, FinishesWith}
+use Rattle.tinyvec_slots.specs.AnySplice.{SpliceView, Finishes, FinishesWith}
 use Rattle.tinyvec_slots.specs.declared.no_room.SpliceRest.{SpliceRest}
 use Rattle.tinyvec_slots.proofs.FillingLemmas.{drained, refused}
 use Rattle.tinyvec_slots.proofs.Runs.{YieldsThen-join}

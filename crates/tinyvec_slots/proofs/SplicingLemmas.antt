@@ -6,8 +6,8 @@ use Rattle.std.specs.Iterator.{YieldsFirst, YieldsLast}
 use Rattle.tinyvec_slots.specs.Ends.{End, front, back, fronts, backs, TakesFromEnds, Asks}
 use Rattle.tinyvec_slots.proofs.EndsLemmas.{Asks-takes}
 use Rattle.tinyvec_slots.specs.Fused.{HasTwoEnds}
-use Rattle.tinyvec_slots.specs.Splices.{SpliceView, Splices, SplicesBack}
-use Rattle.tinyvec_slots.specs.Splicing.{placed_front, placed_back, IsSpliceRefused, SplicedByWord}
+use Rattle.tinyvec_slots.specs.AnySplice.{SpliceView, Splices, SplicesBack}
+use Rattle.tinyvec_slots.specs.SplicedByWord.{placed_front, placed_back, IsSpliceRefused, SplicedByWord}
 
 -- how many items a word places, with one letter more in front of it
 none_in_front : (word : List End) (n m : ℕ) → min n m ≡ 0 → placed_front word n m ≡ 0

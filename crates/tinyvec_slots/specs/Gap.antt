@@ -1,6 +1,6 @@
 -- What a contract sees of a `Gap`, with the replacement of its splice and the slots that it lies in.
 use Rattle.std.specs.Prelude.{◌≡◌, ℕ, ◌+◌, ◌*◌, ◌-◌, ◌≤◌, ◌^◌, false, Bool, List, [], take, drop, slice_range, Option, MatchOption}
-use Rattle.tinyvec_slots.specs.Splices.{SpliceView}
+use Rattle.tinyvec_slots.specs.AnySplice.{SpliceView}
 use Rattle.tinyvec_slots.specs.Touches.{touch_count}
 use Rattle.tinyvec_slots.specs.declared.gap.Gap.{Gap}
 

@@ -1,7 +1,7 @@
 pub mod Slots
 pub mod Cut
 pub mod Ends
-pub mod Drains
+pub mod AnyDrain
 pub mod Filters
 pub mod Clones
 pub mod Filling
@@ -10,5 +10,6 @@ pub mod Texts
 pub mod Touches
 pub mod Fused
 pub mod Gap
-pub mod Splices
-pub mod Splicing
+pub mod AnySplice
+pub mod SplicedByWord
+pub mod Replacing

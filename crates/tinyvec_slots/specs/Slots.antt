@@ -1,5 +1,5 @@
 -- The list and the spare slots, what is a default, and what a change of the list does to the spare slots.
-use Rattle.std.specs.Prelude.{◌≡◌, ℕ, ◌-◌, List, ◌++◌, length, take, drop, slice_set, All, refl}
+use Rattle.std.specs.Prelude.{◌≡◌, ℕ, ◌-◌, ◌≤◌, List, ◌++◌, length, take, drop, slice_set, All, refl}
 use Rattle.std.specs.List.{refill}
 use Rattle.std.specs.Coded.{Coded, code_by, coded×, coded_list, coded_ℕ}
 
@@ -38,14 +38,22 @@ module _ {T : Type 0} where
   split_at n xs = record { slots = xs; len = n }
 
   -- the n vacated slots stand, as defaults, before the old spare slots
-  abbrev pub Frees : (T → Type 0) → ℕ → Slots T → Slots T → Type 0
-  Frees D n old new = (ds : List T) × AreDefaults D n ds × (spare new ≡ ds ++ spare old)
+  abbrev pub Vacates : (T → Type 0) → ℕ → Slots T → Slots T → Type 0
+  Vacates D n old new = (ds : List T) × AreDefaults D n ds × (spare new ≡ ds ++ spare old)
 
   -- The slot rule. Where the list got shorter, as many defaults stand before the old spare slots. Where it got longer,
   -- it used up as many of them. Where it is as long, they are the same.
   abbrev pub SlotRule : (T → Type 0) → Slots T → Slots T → Type 0
   SlotRule D old new = (ds : List T) × AreDefaults D (items_len old - items_len new) ds
       × (spare new ≡ ds ++ drop (items_len new - items_len old) (spare old))
+
+  -- The list got no longer, and as many defaults as it lost items stand before the old spare slots.
+  abbrev pub Shortens : (T → Type 0) → Slots T → Slots T → Type 0
+  Shortens D old new = (items_len new ≤ items_len old) × Vacates D (items_len old - items_len new) old new
+
+  -- the list is as long, and the spare slots are the same
+  abbrev pub SameSpare : Slots T → Slots T → Type 0
+  SameSpare old new = (spare new ≡ spare old) × (items_len new ≡ items_len old)
 
   -- v with its slot i set to x
   abbrev pub with_slot : Slots T → ℕ → T → Slots T

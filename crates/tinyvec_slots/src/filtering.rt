@@ -1,13 +1,69 @@
-//! Keeping some items of a slice: those kept move to its front, in order.
+//! Keeping some items of a list: those kept move to its front, in order.
 ghost use Rattle.std.specs.Prelude.{◌≡◌, ◌+◌, ◌<◌, ◌≤◌, ◌++◌, true, length, take, drop};
 ghost use Rattle.std.specs.Fn.{CalledAt, CalledAtMut, CalledAtPairMut, ComparesKeys};
 ghost use Rattle.std.specs.List.Retain.{IsFiltered, RetainsInTurn, IsDeduped};
 ghost use Rattle.tinyvec_slots.specs.Filters.{AsksPair, RetainsTo, IsFilteredTo, IsDedupedTo};
 
+use crate::CanCut;
 use std::mem;
 
-/// Moves the items at which `f` answers `true` to the front, and counts them.
-pub fn retain_in_front<T: Default + Drop, F: FnMut(&T) -> bool>(items: &mut [T], f: &mut F) -> usize
+/// Calls `f` on each item in turn, and keeps those for which it returns `true`.
+pub fn retain<V: CanCut, F: FnMut(&V::Item) -> bool>(vec: &mut V, f: &mut F)
+    requires { F.IsAlwaysCallable f.old }
+    ensures filtered { IsFiltered (CalledAt F.FnMut) f.old (V.items vec.old) (V.items vec.new) }
+    ensures asked { IsFilteredTo (CalledAt F.FnMut) f.old (V.items vec.old) (V.items vec.new) f.new }
+    ensures bound { length (V.items vec.new) ≤ length (V.items vec.old) }
+    ensures fits { length (V.items vec.new) ≤ V.room vec.new }
+    ensures cut { V.Cut vec.old vec.new }
+{
+    let kept = retain_in_front(vec.as_mut_slice(), f);
+    vec.truncate(kept);
+}
+
+/// Like `retain`, where `f` may write to the items.
+pub fn retain_mut<V: CanCut, F: FnMut(&mut V::Item) -> bool>(vec: &mut V, f: &mut F)
+    requires { F.IsAlwaysCallable f.old }
+    ensures filtered { RetainsInTurn (CalledAtMut F.FnMut) f.old (V.items vec.old) (V.items vec.new) }
+    ensures asked { RetainsTo (CalledAtMut F.FnMut) f.old (V.items vec.old) (V.items vec.new) f.new }
+    ensures bound { length (V.items vec.new) ≤ length (V.items vec.old) }
+    ensures fits { length (V.items vec.new) ≤ V.room vec.new }
+    ensures cut { V.Cut vec.old vec.new }
+{
+    let kept = retain_mut_in_front(vec.as_mut_slice(), f);
+    vec.truncate(kept);
+}
+
+/// Calls `same` on each item after the first and the last one kept, and removes the item for which it returns `true`.
+pub fn dedup_by<V: CanCut, F: FnMut(&mut V::Item, &mut V::Item) -> bool>(vec: &mut V, same: &mut F)
+    requires { F.IsAlwaysCallable same.old }
+    ensures filtered { IsDeduped (CalledAtPairMut F.FnMut) same.old (V.items vec.old) (V.items vec.new) }
+    ensures asked { IsDedupedTo (CalledAtPairMut F.FnMut) same.old (V.items vec.old) (V.items vec.new) same.new }
+    ensures bound { length (V.items vec.new) ≤ length (V.items vec.old) }
+    ensures fits { length (V.items vec.new) ≤ V.room vec.new }
+    ensures cut { V.Cut vec.old vec.new }
+{
+    let kept = dedup_in_front(vec.as_mut_slice(), same);
+    vec.truncate(kept);
+}
+
+/// Removes each item whose key equals that of the last one kept. The item's own key is computed first.
+pub fn dedup_by_key<V: CanCut, K: PartialEq + Drop, F: FnMut(&mut V::Item) -> K>(
+    vec: &mut V,
+    key: &mut F,
+)
+    requires { F.IsAlwaysCallable key.old }
+    ensures filtered { IsDeduped (ComparesKeys F.FnMut K.eq) key.old (V.items vec.old) (V.items vec.new) }
+    ensures asked { IsDedupedTo (ComparesKeys F.FnMut K.eq) key.old (V.items vec.old) (V.items vec.new) key.new }
+    ensures bound { length (V.items vec.new) ≤ length (V.items vec.old) }
+    ensures fits { length (V.items vec.new) ≤ V.room vec.new }
+    ensures cut { V.Cut vec.old vec.new }
+{
+    let kept = dedup_keys_in_front(vec.as_mut_slice(), key);
+    vec.truncate(kept);
+}
+
+// Moves the items for which `f` returns `true` to the front, and counts them.
+fn retain_in_front<T: Default + Drop, F: FnMut(&T) -> bool>(items: &mut [T], f: &mut F) -> usize
     requires { F.IsAlwaysCallable f.old }
     ensures filtered { IsFiltered (CalledAt F.FnMut) f.old items.old (take result items.new) }
     ensures asked { IsFilteredTo (CalledAt F.FnMut) f.old items.old (take result items.new) f.new }
@@ -25,8 +81,8 @@ pub fn retain_in_front<T: Default + Drop, F: FnMut(&T) -> bool>(items: &mut [T],
     kept
 }
 
-/// The same where `f` may write to the item that it is asked about.
-pub fn retain_mut_in_front<T: Default + Drop, F: FnMut(&mut T) -> bool>(
+// Like `retain_in_front`, where `f` may write to the items.
+fn retain_mut_in_front<T: Default + Drop, F: FnMut(&mut T) -> bool>(
     items: &mut [T],
     f: &mut F,
 ) -> usize
@@ -76,8 +132,8 @@ fn move_down<T: Default + Drop>(items: &mut [T], kept: usize, i: usize, stays: b
     }
 }
 
-/// Moves the items that `dedup_by` keeps to the front, and counts them.
-pub fn dedup_in_front<T, F: FnMut(&mut T, &mut T) -> bool>(items: &mut [T], same: &mut F) -> usize
+// Moves the items that `dedup_by` keeps to the front, and counts them.
+fn dedup_in_front<T, F: FnMut(&mut T, &mut T) -> bool>(items: &mut [T], same: &mut F) -> usize
     requires { F.IsAlwaysCallable same.old }
     ensures filtered { IsDeduped (CalledAtPairMut F.FnMut) same.old items.old (take result items.new) }
     ensures asked { IsDedupedTo (CalledAtPairMut F.FnMut) same.old items.old (take result items.new) same.new }
@@ -98,8 +154,8 @@ pub fn dedup_in_front<T, F: FnMut(&mut T, &mut T) -> bool>(items: &mut [T], same
     kept
 }
 
-/// Moves the items that `dedup_by_key` keeps to the front, and counts them.
-pub fn dedup_keys_in_front<T, F: FnMut(&mut T) -> K, K: PartialEq + Drop>(
+// Moves the items that `dedup_by_key` keeps to the front, and counts them.
+fn dedup_keys_in_front<T, F: FnMut(&mut T) -> K, K: PartialEq + Drop>(
     items: &mut [T],
     key: &mut F,
 ) -> usize
@@ -123,7 +179,7 @@ pub fn dedup_keys_in_front<T, F: FnMut(&mut T) -> K, K: PartialEq + Drop>(
     kept
 }
 
-// Asks `same` about the item at `current` and the one at `last` before it.
+// Calls `same` on the item at `current` and the one at `last` before it.
 fn ask_pair<T, F: FnMut(&mut T, &mut T) -> bool>(
     items: &mut [T],
     same: &mut F,

@@ -3,19 +3,19 @@ ghost use Rattle.std.specs.Prelude.{◌≡◌, ◌+◌, ◌<◌, ◌==◌, lengt
 ghost use Rattle.std.specs.Iterator.Adapters.{fuse_done, fuse_steps};
 ghost use Rattle.tinyvec_slots.specs.Fused.{FusedCan, FusedFinite};
 ghost use Rattle.tinyvec_slots.specs.Gap.{gap_len, gap_left, gap_touches, gap_view, GapOpens, GapCanStep};
-ghost use Rattle.tinyvec_slots.specs.Splices.{GivesFromFront, GivesFromBack};
+ghost use Rattle.tinyvec_slots.specs.AnySplice.{GivesFromFront, GivesFromBack};
 
 mod closing;
 
-use crate::part;
+use crate::subslice;
 use crate::touches::Touches;
 use std::iter::Fuse;
 
-/// Where a splice stands in the slots of a list, and how often it touched them: a touch is one slot read out with the
-/// default that it may leave, one item placed in a slot, or two slots swapped.
+/// The part of a list that a splice has not finished yet, and how often it touched slots. A touch is one slot read out with
+/// the default that it may leave, one item placed in a slot, or two slots swapped.
 #[derive(Debug, Drop)]
 pub struct Gap {
-    // What stays or was placed from the front ends at `front`, and what was placed from the back or stays begins at `back`.
+    // Items before `front` and from `back` on are placed, or stay.
     front: usize,
     // The removed items that are left.
     next: usize,
@@ -25,7 +25,7 @@ pub struct Gap {
 }
 
 impl Gap {
-    /// The items from `start` up to `end` are left.
+    /// All items from `start` up to `end` are left.
     pub fn new(start: usize, end: usize) -> Self
         ensures { GapOpens start end result }
     {
@@ -45,18 +45,18 @@ impl Gap {
         self.end.saturating_sub(self.next)
     }
 
-    /// Whether no removed item is left.
-    pub fn is_empty(&self) -> bool
+    // Whether no removed item is left.
+    pub(crate) fn is_empty(&self) -> bool
         ensures { result ≡ (gap_len self.now == 0) }
     {
         self.len() == 0
     }
 
-    /// The removed items that are left, of the items that the slots hold.
+    /// The removed items that are left, where `slots` are all items.
     pub fn left<'s, T>(&self, slots: &'s [T]) -> &'s [T]
         ensures { result.now ≡ gap_left self.now slots.now }
     {
-        part(slots, self.next, self.end)
+        subslice(slots, self.next, self.end)
     }
 
     /// How many slots were touched.
@@ -66,8 +66,8 @@ impl Gap {
         self.touches.count()
     }
 
-    /// Takes the first removed item that is left. What `replacement` gives next stands there then.
-    pub fn take_first<I: Iterator>(
+    // Takes the first removed item that is left. The next item of `replacement` takes its place.
+    pub(crate) fn take_first<I: Iterator>(
         &mut self,
         slots: &mut [I::Item],
         replacement: &mut Fuse<I>,
@@ -96,8 +96,8 @@ impl Gap {
         }
     }
 
-    /// Takes the last removed item that is left. What `replacement` gives from its back stands there then.
-    pub fn take_last<I: DoubleEndedIterator>(
+    // Takes the last removed item that is left. The last item of `replacement` takes its place.
+    pub(crate) fn take_last<I: DoubleEndedIterator>(
         &mut self,
         slots: &mut [I::Item],
         replacement: &mut Fuse<I>,

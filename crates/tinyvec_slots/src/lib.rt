@@ -1,33 +1,31 @@
-//! What the vectors of this workspace share: the range rule, what they do to a slice of slots, and what refusals hand back.
+//! What the vectors of this workspace share: the range rule, operations on a slice of slots, and the error types.
 #![tactic(auto)]
 
+mod can_cut;
 mod can_splice;
-mod cloning;
-mod comparing;
 mod filtering;
 mod gap;
-mod moving;
 mod no_memory;
 mod no_room;
 mod printing;
 mod range;
-mod resetting;
-mod shifting;
 mod splicing;
 mod touches;
+mod tuned;
 
+pub use can_cut::CanCut;
 pub use can_splice::CanSplice;
-pub use cloning::{clone_each, clone_over, clone_through};
-pub use comparing::{hash_items, order, partial_order, same_items};
-pub use filtering::{dedup_in_front, dedup_keys_in_front, retain_in_front, retain_mut_in_front};
+pub use filtering::{dedup_by, dedup_by_key, retain, retain_mut};
 pub use gap::Gap;
-pub use moving::{last_to, move_to_end, part_to_end};
 pub use no_memory::NoMemory;
 pub use no_room::{FromIterRest, NoRoom, SpliceRest};
 pub use printing::{
     InBinary, InHex, InOctal, InUpperHex, ItemText, Plain, write_items, write_named,
 };
-pub use range::{part, resolve};
-pub use resetting::{reset, reset_at_most};
-pub use shifting::{are_few, are_short, insert_shifting, remove_shifting};
+pub use range::{resolve_range, subslice};
 pub use splicing::{close_in, finish_in, step_back_in, step_in};
+pub use tuned::cloning::{clone_each, clone_over, fill_clones};
+pub use tuned::comparing::{cmp_slices, eq_slices, hash_items, partial_cmp_slices};
+pub use tuned::moving::{last_to, move_to_end, move_to_end_below};
+pub use tuned::resetting::{fill_default, fill_default_at_most};
+pub use tuned::shifting::{are_few, are_short, insert_shifting, remove_shifting};

@@ -1,12 +1,12 @@
-//! What a refused call for memory hands back.
+//! What is returned where the allocator refuses.
 
 use std::alloc::AllocError;
 
-/// Memory was refused, and this is what was given. Nothing else has changed.
+/// The allocator refused. The argument is returned, and nothing else has changed.
 #[derive(PartialEq, Eq, Debug, Drop)]
 pub struct NoMemory<T>(pub T);
 
-/// What was given is dropped.
+/// Drops the argument.
 impl<T: Drop> From<NoMemory<T>> for AllocError {
     fn from(_refused: NoMemory<T>) -> Self {
         AllocError

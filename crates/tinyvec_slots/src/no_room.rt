@@ -1,13 +1,13 @@
-//! What is handed back where an item found no room.
+//! What is returned where an item does not fit.
 
-/// `item` found no room, and `rest` gives what follows it.
+/// `item` did not fit, and `rest` yields the items after it.
 #[derive(PartialEq, Eq, Debug, Drop)]
 pub struct NoRoom<T, I> {
     pub item: T,
     pub rest: I,
 }
 
-/// `vec` holds what came before `item`, which found no room, and `rest` gives what follows it.
+/// `vec` holds the items before `item`, which did not fit, and `rest` yields those after it.
 #[derive(PartialEq, Eq, Debug, Drop)]
 pub struct FromIterRest<V, T, I> {
     pub vec: V,
@@ -15,7 +15,7 @@ pub struct FromIterRest<V, T, I> {
     pub rest: I,
 }
 
-/// What `finish` of a splice found no room for: the first such item, and what gives the others.
+/// What `finish` of a splice could not place: the first such item, and the iterator of the others.
 #[derive(PartialEq, Eq, Debug, Drop)]
 pub struct SpliceRest<T, I> {
     pub item: T,

@@ -8,7 +8,7 @@ use std::fmt::HasDigits;
 
 /// A way to write an item of a list.
 pub trait ItemText<T> {
-    // The bytes that it writes, or `None` if they are not known.
+    // The bytes that it writes, or `None` if no clause says them.
     ghost text: { Self → T → Option (List ℕ) };
 
     /// Writes the item.
@@ -110,7 +110,7 @@ pub fn write_items<T, S: ItemText<T>, W: fmt::Write>(
     f.write_str("]")
 }
 
-// Writes an item, behind a comma where it is not the first.
+// Writes an item, after a comma unless it is the first.
 fn write_item<T, S: ItemText<T>, W: fmt::Write>(
     f: &mut fmt::Formatter<W>,
     is_later: bool,

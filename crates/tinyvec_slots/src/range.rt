@@ -4,8 +4,8 @@ ghost use Rattle.tinyvec_slots.specs.Cut.{range_start, range_end};
 
 use std::ops::{Bound, Range, RangeBounds};
 
-/// Where the range starts and ends in a list of `len` items. A bound past `usize::MAX` is `usize::MAX`.
-pub fn resolve<R: RangeBounds<usize>>(range: R, len: usize) -> Range<usize>
+/// The start and end of the range in a list of `len` items. A bound past `usize::MAX` is `usize::MAX`.
+pub fn resolve_range<R: RangeBounds<usize>>(range: R, len: usize) -> Range<usize>
     requires { R.has_bounds range }
     ensures start { result.start ≡ range_start (R.start_bound range) }
     ensures end { result.end ≡ range_end (R.end_bound range) len }
@@ -24,7 +24,7 @@ pub fn resolve<R: RangeBounds<usize>>(range: R, len: usize) -> Range<usize>
 }
 
 /// The items from `start` up to `end`, as far as there are any.
-pub fn part<T>(items: &[T], start: usize, end: usize) -> &[T]
+pub fn subslice<T>(items: &[T], start: usize, end: usize) -> &[T]
     ensures { result.now ≡ slice_range items.now start end }
 {
     let behind = &items[start.min(items.len())..];

@@ -6,7 +6,7 @@ ghost use Rattle.std.specs.Iterator.Adapters.{fuse_done, fuse_steps};
 ghost use Rattle.tinyvec_slots.specs.Filling.{ShowsItems};
 ghost use Rattle.tinyvec_slots.specs.Fused.{FusedCan, FusedFinite, fused_rest};
 ghost use Rattle.tinyvec_slots.specs.Gap.{gap_len, gap_front, gap_back, gap_touches, gap_view, GapCanStep, GapSteps};
-ghost use Rattle.tinyvec_slots.specs.Splices.{GivesFromFront, GivesFromBack, finish_placed, finish_bound, Finishes, FinishesWith};
+ghost use Rattle.tinyvec_slots.specs.AnySplice.{GivesFromFront, GivesFromBack, finish_placed, finish_bound, Finishes, FinishesWith};
 
 use crate::{CanSplice, Gap, SpliceRest};
 use std::iter::Fuse;
@@ -145,7 +145,7 @@ fn append_in<V: CanSplice, I: Iterator<Item = V::Item>>(
 {
     let end = vec.len();
     let (appended, moved) = vec.extend_counted(replacement);
-    gap.bring_in(vec.as_mut_slice(), end);
+    gap.rotate_in(vec.as_mut_slice(), end);
     gap.count_moved(moved);
     appended
 }

@@ -71,7 +71,7 @@ impl Touches {
         slots.swap(i, j);
     }
 
-    // Moves what stands from `back` on down to `at`. What stood between goes behind it.
+    // Moves the slots from `back` on down to `at`, and those between to the end.
     pub(crate) fn close<T>(&mut self, slots: &mut [T], at: usize, back: usize)
         requires in_order { at ≤ back }
         requires in_bounds { back ≤ length slots.old }
@@ -81,7 +81,7 @@ impl Touches {
         ensures count { touch_count self.new ≡ touch_count self.old + (length slots.old - back) }
     {
         let gap = back - at;
-        // A count of its own stays in a register while slots are written.
+        // A local count stays in a register while slots are written.
         let mut touches = Touches { count: self.count };
         for from in back..slots.len() {
             touches.swap(slots, from - gap, from);
@@ -89,7 +89,7 @@ impl Touches {
         self.count = touches.count;
     }
 
-    // Moves what stands from `middle` on before what stands from `start` on.
+    // Moves the slots from `middle` on before those from `start` on.
     pub(crate) fn rotate<T>(&mut self, slots: &mut [T], start: usize, middle: usize)
         requires in_order { start ≤ middle }
         requires in_bounds { middle ≤ length slots.old }
@@ -102,7 +102,7 @@ impl Touches {
         let mut first = start;
         let mut middle = middle;
         let mut next = middle;
-        // A count of its own stays in a register while slots are written.
+        // A local count stays in a register while slots are written.
         let mut touches = Touches { count: self.count };
         while first < middle && next < slots.len() {
             let pairs = (middle - first).min(slots.len() - next);
@@ -116,9 +116,8 @@ impl Touches {
     }
 }
 
-// Where the parts that are still to be turned begin. Three parts stand one behind another: what is to come last, from
-// `first` up to `middle`, what is to come before it, up to `next`, and what is to come first of all, up to `len`. A part
-// that ran out gives way to the one that follows it.
+// The next step of turning `[A|B|C]` into `[C|B|A]`, split at `middle` and `next`. A part that is used up is replaced
+// by the one after it.
 fn after_swap(first: usize, middle: usize, next: usize, len: usize) -> (usize, usize)
     ensures last_ran_out { first ≡ middle → (result.0 ≡ next) × (result.1 ≡ next) }
     ensures first_ran_out { first ≢ middle → next ≡ len → (result.0 ≡ middle) × (result.1 ≡ middle) }

@@ -139,7 +139,7 @@ where
         && (v.extend_from_slice(source) == answer) & holds(v, items, spare)
 }
 
-/// Whether there are so many slots, and `resize` answers this and leaves this.
+/// Whether there are this many slots, and `resize` answers this and leaves this.
 pub fn resizes<A: Array>(
     v: &mut ArrayVec<A>,
     len: usize,

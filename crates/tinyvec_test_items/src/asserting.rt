@@ -1,6 +1,6 @@
 //! Assertions that tests make most often. The comparison is a call, and so is the stop where it fails, so that the test has
 //! no branch: each would be one more case of each later step of its proof. A test may stop, and a library may not, so the
-//! stop stands in the macro, where it names the line of the test.
+//! stop is in the macro, where it names the line of the test.
 
 use std::alloc::{AllocError, Global};
 use std::fmt::{Debug, Display};
@@ -9,7 +9,7 @@ use std::fmt::{Debug, Display};
 #[macro_export]
 macro_rules! assert_items {
     ($rt:expr; $items:expr, $wanted:expr) => {
-        $crate::same_items($items, &$wanted).expect(&$rt, "the items are others")
+        $crate::eq_slices($items, &$wanted).expect(&$rt, "the items are others")
     };
 }
 
@@ -38,7 +38,7 @@ macro_rules! assert_debugs {
 }
 
 /// Whether these are the wanted items, as `Some`: `assert_items!` says why.
-pub fn same_items<T: PartialEq>(items: &[T], wanted: &[T]) -> Option<()> {
+pub fn eq_slices<T: PartialEq>(items: &[T], wanted: &[T]) -> Option<()> {
     if items == wanted { Some(()) } else { None }
 }
 

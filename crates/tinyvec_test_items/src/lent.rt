@@ -4,7 +4,7 @@ use tinyvec_slice::SliceVec;
 /// Whether these are the items, and these the spare slots after them, by each call that tells of them.
 pub fn holds<T: PartialEq + Drop>(v: &SliceVec<'_, T>, items: &[T], spare: &[T]) -> bool {
     let count = (v.len() == items.len()) & (v.is_empty() == items.is_empty());
-    let room = (v.capacity() - v.len() == spare.len()) & (v.is_full() == spare.is_empty());
+    let room = (v.remaining_capacity() == spare.len()) & (v.is_full() == spare.is_empty());
     let parts = (v.as_slice() == items) & (v.grab_spare_slice() == spare);
     let slots = v.as_inner();
     count & room & parts & slots.starts_with(items) & slots.ends_with(spare)
@@ -88,7 +88,7 @@ pub fn clears<T: PartialEq + Default + Drop>(v: &mut SliceVec<'_, T>, spare: &[T
     holds(v, &[], spare)
 }
 
-/// Whether there are so many slots, and the border after them leaves this.
+/// Whether there are this many slots, and the border after them leaves this.
 pub fn sets_len<T: PartialEq + Drop>(
     v: &mut SliceVec<'_, T>,
     len: usize,

@@ -1,4 +1,4 @@
-//! Items, iterators and assertions that tests of several vectors need.
+//! Items, iterators, readers, writers and assertions that several crates of tests need.
 #![tactic(auto)]
 
 pub mod arrays;
@@ -8,9 +8,10 @@ mod counting;
 pub mod lent;
 mod memory;
 mod steps;
+pub mod streams;
 mod unhinted;
 
-pub use asserting::{debugs, same_items, same_value, shows};
+pub use asserting::{debugs, eq_slices, same_value, shows};
 pub use cloned::{Clones, Counted, Item};
 pub use counting::counted;
 pub use memory::{all_right, granted, granted_ok};

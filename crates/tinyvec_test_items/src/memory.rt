@@ -1,4 +1,4 @@
-//! Steps that may ask for memory, and the end of a test by steps.
+//! Steps that may allocate, and the end of a test by steps.
 use std::alloc::AllocError;
 use std::test::Fail;
 

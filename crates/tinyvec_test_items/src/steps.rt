@@ -27,7 +27,7 @@ where
     iter.next_back() == item
 }
 
-/// Whether an iterator says that it yields so many items more.
+/// Whether an iterator says that it yields this many items more.
 pub fn is_left<I: ExactSizeIterator>(iter: &I, len: usize) -> bool {
     (iter.len() == len) & (iter.size_hint() == (len, Some(len)))
 }

@@ -7,7 +7,7 @@ use std::alloc::AllocError;
 use std::io::Write;
 use tinyvec::{Array, TinyVec};
 
-/// Whether these are the items, and lie there.
+/// Whether these are the items, and are there.
 pub fn lies<A: Array>(v: &TinyVec<A>, items: &[A::Item], inline: bool) -> bool
 where
     A::Item: PartialEq,
@@ -37,7 +37,7 @@ where
     lies(v, items, true) & spares(v, spare)
 }
 
-/// Whether a list is made of these items, and lies there.
+/// Whether a list is made of these items, and is there.
 pub fn makes<A: Array>(
     made: Result<TinyVec<A>, AllocError>,
     items: &[A::Item],
@@ -88,7 +88,7 @@ where
     }
 }
 
-/// Whether what an iterator gives is put behind the list, and leaves this.
+/// Whether what an iterator gives is put after the list, and leaves this.
 pub fn extends<A: Array, I: IntoIterator<Item = A::Item>>(
     v: &mut TinyVec<A>,
     iter: I,
@@ -105,7 +105,7 @@ where
     }
 }
 
-/// Whether all bytes are written behind the list, and leave this.
+/// Whether all bytes are written after the list, and leave this.
 pub fn writes<A: Array<Item = u8>>(
     v: &mut TinyVec<A>,
     bytes: &[u8],

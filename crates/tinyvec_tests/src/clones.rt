@@ -203,7 +203,7 @@ fn fill<'a>(source: &mut TinyVec<[Counted<'a>; 21]>, clones: &'a Clones) {
     }
 }
 
-// How many clones were asked for after each of six calls: a clone of 21 items, copies of them behind none, a clone over these,
+// How many clones were asked for after each of six calls: a clone of 21 items, copies of them after none, a clone over these,
 // a clone of two over these, seven items more, and a list of these nine.
 fn asked_for(alloc: Global, inline: bool) -> Result<[usize; 6], AllocError> {
     let clones = Clones::refusing(0);

@@ -7,10 +7,10 @@ use std::test::Fail;
 use tinyvec::TinyVec;
 use tinyvec_test_items::{all_right, first, granted};
 
-// Where two lists lie: whether the first is inline, and whether the second is.
+// Where two lists are: whether the first is inline, and whether the second is.
 const PLACES: [(bool, bool); 4] = [(true, true), (true, false), (false, true), (false, false)];
 
-// Whether all comparisons tell that they stand in this order, either way round.
+// Whether all comparisons tell that they are in this order, either way round.
 fn stand_so<const N: usize>(v: &TinyVec<[i32; N]>, w: &TinyVec<[i32; N]>, order: Ordering) -> bool {
     let is_equal = order == Ordering::Equal;
     let is_less = order == Ordering::Less;
@@ -29,7 +29,7 @@ fn hash_of<T: Hash>(x: &T) -> u64 {
     state.finish()
 }
 
-// Two lists, and how they stand.
+// Two lists, and how they compare.
 type Row = (&'static [i32], &'static [i32], Ordering);
 
 const ROWS: [Row; 7] = [
@@ -48,7 +48,7 @@ fn listed(alloc: Global, items: &[i32], inline: bool) -> Result<TinyVec<[i32; 4]
     placed(TinyVec::from_slice(alloc, items)?, inline)
 }
 
-// Whether the lists of a row stand so, wherever they lie. Equal ones have one hash.
+// Whether the lists of a row compare so, wherever they are. Equal ones have one hash.
 fn stand(alloc: Global, row: &Row, first: bool, second: bool) -> Option<bool> {
     let v = listed(alloc, row.0, first).ok()?;
     let w = listed(alloc, row.1, second).ok()?;
@@ -81,7 +81,7 @@ fn sevens(alloc: Global, len: usize) -> Result<Long, AllocError> {
     Ok(v)
 }
 
-// Whether so many sevens equal as many, are more than one less, and less than these and 8.
+// Whether this many sevens equal as many, are more than one less, and less than these and 8.
 fn sevens_stand(alloc: Global, len: usize) -> Option<bool> {
     let v = sevens(alloc, len).ok()?;
     let mut w = v.clone().ok()?;
@@ -107,7 +107,7 @@ fn lists_of_any_length(rt: HostRuntime) -> Result<(), Fail> {
     all_right(wrong)
 }
 
-// Whether two lists stand so once this item is put at a place of the second.
+// Whether two lists compare so once this item is put at a place of the second.
 fn stands_with(v: &Long, w: &mut Long, i: usize, item: i32, order: Ordering) -> bool {
     if let Some(place) = w.as_mut_slice().get_mut(i) {
         *place = item;

@@ -1,7 +1,7 @@
 //! Tests of the drain.
 ghost use Rattle.std.specs.Prelude.{◌≤◌};
 ghost use Rattle.tinyvec_slots.specs.Cut.{range_start, range_end};
-ghost use Rattle.tinyvec.specs.Tiny.{tiny_len};
+ghost use Rattle.tinyvec.specs.TinyVec.{tiny_len};
 ghost use Rattle.tinyvec.specs.Drain.{DrainCanStep};
 
 use crate::placed::{Span, one_two_three, placed};
@@ -39,7 +39,7 @@ const RANGES: [Row; 18] = [
 
 // Whether the drain of this range gives these items.
 fn gives<R: RangeBounds<usize>>(v: &mut TinyVec<[i32; 10]>, range: R, given: &[i32]) -> bool
-    requires known { R.has_bounds range }
+    requires not_exhausted { R.has_bounds range }
     requires start_le_end { range_start (R.start_bound range) ≤ range_end (R.end_bound range) (tiny_len v.old) }
     requires in_list { range_end (R.end_bound range) (tiny_len v.old) ≤ tiny_len v.old }
 {
@@ -98,7 +98,7 @@ fn ranges(rt: HostRuntime) -> Result<(), Fail> {
     all_right(wrong)
 }
 
-// Whether a drain that skips so many items has none left, and yields nothing more at either end.
+// Whether a drain that skips this many items has none left, and yields nothing more at either end.
 fn skips_all<A: Array<Item = i32>>(mut d: TinyVecDrain<'_, A>, count: usize) -> bool
     requires { DrainCanStep d }
 {
@@ -164,7 +164,7 @@ fn from_both_ends_to_none(rt: HostRuntime) -> Result<(), Fail> {
     all_right(wrong)
 }
 
-// The first step that goes wrong where 1 to 4 are moved behind 7, or 0.
+// The first step that goes wrong where 1 to 4 are moved after 7, or 0.
 fn moved_behind(v: &mut TinyVec<[i32; 5]>, out: &mut Vec<i32>, inline: bool) -> u32 {
     if v.len() != 4 || out.len() != 1 || out.capacity() != 5 {
         return 1;

@@ -19,14 +19,14 @@ enum Edit {
     Clear,
 }
 
-// Where a list lies: before these spare slots, or on the heap with that much room or more.
+// Where a list is: before these spare slots, or on the heap with that much room or more.
 #[derive(Clone, Copy)]
 enum Place {
     Array(&'static [i32]),
     Heap(usize),
 }
 
-// A call, the item that it takes out, the list after it, and where that lies.
+// A call, the item that it takes out, the list after it, and where that is.
 type Row = (Edit, Option<i32>, &'static [i32], Place);
 
 // Makes a call at a place that there is. Answers the item that it took out, or nothing at all where it was refused.
@@ -199,7 +199,7 @@ fn shortened_on_the_heap(rt: HostRuntime) -> Result<(), Fail> {
 
 type Four = TinyVec<[i32; 4]>;
 
-// Whether another list is put behind this one, and is emptied where it was.
+// Whether another list is put after this one, and is emptied where it was.
 fn appends(v: &mut Four, other: &mut Four, items: &[i32], inline: bool) -> Option<bool> {
     let other_is_inline = other.is_inline();
     match v.append(other) {

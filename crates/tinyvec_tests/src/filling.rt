@@ -18,7 +18,7 @@ fn listed(rt: HostRuntime) -> Result<(), Fail> {
     all_right(wrong)
 }
 
-// Whether a `Vec` of these is put behind the list, and leaves this.
+// Whether a `Vec` of these is put after the list, and leaves this.
 fn extends_by_a_vec(
     alloc: Global,
     v: &mut TinyVec<[i32; 4]>,

@@ -45,7 +45,7 @@ impl Filter {
     }
 }
 
-// Whether a filter leaves this of the first `len` items of an array, and of the slots behind them where it is inline.
+// Whether a filter leaves this of the first `len` items of an array, and of the slots after them where it is inline.
 fn leaves<const N: usize>(
     listed: Result<TinyVec<[i32; N]>, [i32; N]>,
     filter: Filter,

@@ -22,7 +22,11 @@ mod making;
 #[cfg(test)]
 mod placed;
 #[cfg(test)]
+mod popping;
+#[cfg(test)]
 mod printing;
+#[cfg(test)]
+mod replacing;
 #[cfg(test)]
 mod splices;
 #[cfg(test)]

@@ -131,7 +131,7 @@ fn is_seven(x: &u8) -> bool {
 
 type Many = TinyVec<[u8; 65536]>;
 
-// Whether these are so many sevens, and lie there.
+// Whether these are this many sevens, and are there.
 fn are_sevens(v: &Many, len: usize, inline: bool) -> bool {
     (v.is_inline() == inline) & (v.len() == len) & v.iter().all(is_seven)
 }
@@ -156,7 +156,7 @@ fn many_slots(rt: HostRuntime) -> Result<(), Fail> {
     all_right(wrong)
 }
 
-// Whether the heap takes so many sevens.
+// Whether the heap takes this many sevens.
 fn fills_the_heap(v: &mut Many) -> Option<bool> {
     if v.move_to_the_heap().is_err() || v.resize(65536, 7).is_err() {
         return None;

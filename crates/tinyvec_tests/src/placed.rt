@@ -1,6 +1,6 @@
 //! Lists in either place, and ranges of them as values, so that the rows of a table may name them.
 ghost use Rattle.std.specs.Prelude.{◌≡◌, IfOk};
-ghost use Rattle.tinyvec.specs.Tiny.{tiny_len};
+ghost use Rattle.tinyvec.specs.TinyVec.{tiny_len};
 
 use std::alloc::{AllocError, Global};
 use tinyvec::{Array, TinyVec};
@@ -40,6 +40,6 @@ pub(crate) enum Span {
     Between(usize, usize),
     // `start..=last`
     Through(usize, usize),
-    // Bounds: behind the first place, and up to the last.
+    // Bounds: after the first place, and up to the last.
     Behind(usize, usize),
 }

@@ -2,7 +2,7 @@
 //! after it.
 ghost use Rattle.std.specs.Prelude.{◌≤◌};
 ghost use Rattle.tinyvec_slots.specs.Cut.{range_start, range_end};
-ghost use Rattle.tinyvec.specs.Tiny.{tiny_len};
+ghost use Rattle.tinyvec.specs.TinyVec.{tiny_len};
 
 use self::Step::{Back, Front, Left, Touches};
 use crate::placed::{Span, one_two_three};
@@ -34,7 +34,7 @@ enum Step {
 // - an array that moves to the heap is one for each of its items.
 type Row = (Span, (i32, i32), &'static [Step], u128, &'static [i32]);
 
-// Whether the splice of a row goes as it says, and leaves the list there. It may ask for memory or not.
+// Whether the splice of a row goes as it says, and leaves the list there. It may allocate or not.
 fn splices<const N: usize>(
     v: &mut TinyVec<[i32; N]>,
     row: &Row,
@@ -70,7 +70,7 @@ fn drive<const N: usize, R: RangeBounds<usize>>(
     row: &Row,
     asks: bool,
 ) -> Option<bool>
-    requires known { R.has_bounds range }
+    requires not_exhausted { R.has_bounds range }
     requires start_le_end { range_start (R.start_bound range) ≤ range_end (R.end_bound range) (tiny_len v.old) }
     requires in_list { range_end (R.end_bound range) (tiny_len v.old) ≤ tiny_len v.old }
 {

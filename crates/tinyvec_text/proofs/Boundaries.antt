@@ -5,7 +5,7 @@ use Rattle.std.specs.String.Boundary.{IsSplitPoint}
 use Rattle.std.proofs.CharBoundary.{IsUtf8-take-drop}
 use Rattle.std.proofs.lemmas.Str.{chars-append, encodes-chars, encodes-append, scalars-chars, IsCharBoundary-at_seam, chars_past_char, chars-nil}
 use Rattle.std.proofs.lemmas.Bool.{and_parts}
-use Rattle.tinyvec_text.specs.Text.{IsBoundary}
+use Rattle.tinyvec_text.specs.InlineText.{IsBoundary}
 
 -- the characters on each side of a cut
 pub chars_cut : (bs : List ℕ) → IsUtf8 bs → (i : ℕ) → IsSplitPoint bs i → chars bs ≡ chars (take i bs) ++ chars (drop i bs)

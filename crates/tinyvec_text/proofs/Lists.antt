@@ -2,10 +2,10 @@
 use Rattle.std.proofs.Common.{◌≡◌, ℕ, List, inl, inr}
 use Rattle.std.specs.Bool.{⊤}
 use Rattle.tinyvec_slots.specs.Clones.{RefusedAt}
-use Rattle.tinyvec.specs.Tiny.{Unchanged}
+use Rattle.tinyvec.specs.TinyVec.{Unchanged}
 use Rattle.tinyvec.specs.Growth.{RefusedFor}
 use Rattle.tinyvec.specs.declared.tiny_vec.TinyVec.{TinyVec}
-use Rattle.tinyvec_text.specs.Text.{text_of}
+use Rattle.tinyvec_text.specs.InlineText.{text_of}
 
 module _ {A : Type 0} where
   pub text_unchanged : (slots : ℕ) (old new : TinyVec A ℕ) → Unchanged old new → text_of slots new ≡ text_of slots old

@@ -1,1 +1,1 @@
-pub mod Text
+pub mod InlineText

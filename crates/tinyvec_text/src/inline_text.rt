@@ -1,17 +1,13 @@
 //! `InlineText`.
-ghost use Rattle.std.specs.Prelude.{◌≡◌, ◌≤◌, ◌==◌, ◌↔◌, [], length, max, true, IsTrue, IsOk, IfOk, OnErr, chars, encode_utf8_all};
+ghost use Rattle.std.specs.Prelude.{◌≡◌, ◌≤◌, ◌==◌, [], length, true, IsTrue, encode_utf8_all};
 ghost use Rattle.std.specs.Str.{all_scalars};
-ghost use Rattle.tinyvec.specs.Tiny.{tiny_items, is_inline, tiny_capacity};
-ghost use Rattle.tinyvec_text.specs.Text.{text_chars, text_len};
+ghost use Rattle.tinyvec.specs.TinyVec.{tiny_items, is_inline, tiny_capacity};
+ghost use Rattle.tinyvec_text.specs.InlineText.{text_chars, text_len};
 
-mod clones;
-mod comparing;
-mod cutting;
-mod growing;
-mod printing;
-mod writing;
+mod edits;
+mod traits;
 
-use std::alloc::{AllocError, Global};
+use std::alloc::Global;
 use std::convert::{AsSlice, AsStr};
 use std::marker::Model;
 use std::str;
@@ -25,8 +21,8 @@ pub struct InlineText<const N: usize> {
 
 impl<const N: usize> Model for InlineText<N> {
     ghost use Rattle.std.specs.Prelude.{IsUtf8};
-    ghost use Rattle.tinyvec.specs.Tiny.{tiny_items};
-    ghost use Rattle.tinyvec_text.specs.Text.{Text, text_of};
+    ghost use Rattle.tinyvec.specs.TinyVec.{tiny_items};
+    ghost use Rattle.tinyvec_text.specs.InlineText.{Text, text_of};
 
     ghost Value = { Text };
 
@@ -63,14 +59,14 @@ impl<const N: usize> InlineText<N> {
         self.list.is_empty()
     }
 
-    /// Whether the text lies in the array.
+    /// Whether the text is in the array.
     pub fn is_inline(&self) -> bool
         ensures { result ≡ self.now.inline }
     {
         self.list.is_inline()
     }
 
-    /// How many bytes fit where the text lies.
+    /// How many bytes fit in the text's place.
     pub fn capacity(&self) -> usize
         ensures value { result ≡ self.now.room }
         ensures fits { text_len self.now ≤ result }
@@ -99,7 +95,7 @@ impl<const N: usize> InlineText<N> {
         self.list.as_slice()
     }
 
-    /// The bytes of the text, in their place. It asks for no memory.
+    /// The bytes of the text, in their place. Does not allocate.
     pub fn into_bytes(self) -> TinyVec<[u8; N]>
         ensures bytes { tiny_items result ≡ self.entry.bytes }
         ensures place { is_inline result ≡ self.entry.inline }

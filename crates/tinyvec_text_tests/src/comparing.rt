@@ -6,10 +6,10 @@ use std::test::Fail;
 use tinyvec_test_items::{all_right, granted_ok};
 use tinyvec_text::InlineText;
 
-// Where two texts lie: whether the first is inline, and whether the second is.
+// Where two texts are: whether the first is inline, and whether the second is.
 const PLACES: [(bool, bool); 4] = [(true, true), (true, false), (false, true), (false, false)];
 
-// A step, two texts, and how the first stands to the second.
+// A step, two texts, and how the first compares with the second.
 const ORDERED: [(u32, &str, &str, Ordering); 4] = [
     (1, "hé", "hé", Ordering::Equal),
     (2, "", "a", Ordering::Less),
@@ -26,7 +26,7 @@ fn text(alloc: Global, s: &str, inline: bool) -> Result<InlineText<4>, AllocErro
     Ok(t)
 }
 
-// Whether all comparisons tell that they stand in this order, either way round.
+// Whether all comparisons tell that they are in this order, either way round.
 fn stand_so<const N: usize>(t: &InlineText<N>, u: &InlineText<N>, order: Ordering) -> bool {
     let is_equal = order == Ordering::Equal;
     let is_less = order == Ordering::Less;
@@ -45,7 +45,7 @@ fn hash_of<T: Hash>(x: &T) -> u64 {
     state.finish()
 }
 
-// Whether two texts stand in this order where they lie, and have one hash where they are equal.
+// Whether two texts are in this order where they are, and have one hash where they are equal.
 fn compare(
     alloc: Global,
     (s, other): (&str, &str),

@@ -1,4 +1,4 @@
-//! Texts joined, and room asked for.
+//! Appending text, and capacity.
 use crate::steps::{begins, is_cut_at, joins, pushes, reserves};
 use std::test::Fail;
 use tinyvec_test_items::{all_right, first, granted_ok};
@@ -136,5 +136,29 @@ fn room_asked_for_on_the_heap(rt: HostRuntime) -> Result<(), Fail> {
     let room = t.capacity();
     wrong = granted_ok(wrong, 3, reserves(&mut t, 100, "héllo", false));
     wrong = first(wrong, 4, t.capacity() == room);
+    all_right(wrong)
+}
+
+// How many bytes fit, once this is joined.
+fn room_after<const N: usize>(t: &mut InlineText<N>, s: &str) -> Option<usize> {
+    match t.push_str(s) {
+        Ok(()) => Some(t.capacity()),
+        Err(_) => None,
+    }
+}
+
+// The need where a text moves, and then twice the room, or the need where that is more.
+#[test]
+fn room_made(rt: HostRuntime) -> Result<(), Fail> {
+    let mut t: InlineText<4> = InlineText::new(rt.alloc());
+    let mut wrong = 0;
+    wrong = first(wrong, 1, room_after(&mut t, "abc") == Some(4));
+    wrong = first(wrong, 2, room_after(&mut t, "defg") == Some(7));
+    wrong = first(wrong, 3, room_after(&mut t, "h") == Some(14));
+    wrong = first(
+        wrong,
+        4,
+        room_after(&mut t, "0123456789012345678901") == Some(30),
+    );
     all_right(wrong)
 }

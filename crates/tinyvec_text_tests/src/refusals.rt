@@ -1,4 +1,4 @@
-//! Each call that may ask for memory, granted or refused. `tests/refuse` has each allocation refused in turn.
+//! Each call that may allocate, granted or refused. `tests/refuse` has each allocation refused in turn.
 use crate::steps::{begins, joins, lies, pushes, reserves, writes};
 use std::fmt::Write;
 use std::test::Fail;

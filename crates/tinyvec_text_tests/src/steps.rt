@@ -4,7 +4,7 @@ use std::fmt;
 use std::fmt::Write;
 use tinyvec_text::InlineText;
 
-// Whether this is the text, and lies there.
+// Whether this is the text, and is there.
 pub(crate) fn lies<const N: usize>(t: &InlineText<N>, text: &str, inline: bool) -> bool {
     // No branch, which would be one more case of each later step of the proof.
     let place = t.is_inline() == inline;
@@ -19,7 +19,7 @@ pub(crate) fn is_cut_at<const N: usize>(t: &InlineText<N>, places: [bool; 6]) ->
     front & middle & (t.is_char_boundary(4) == places[4]) & (t.is_char_boundary(5) == places[5])
 }
 
-// Whether this text, made anew, lies there.
+// Whether this text, made anew, is there.
 pub(crate) fn begins<const N: usize>(
     t: &mut InlineText<N>,
     alloc: Global,
@@ -84,7 +84,7 @@ pub(crate) fn clears<const N: usize>(t: &mut InlineText<N>, inline: bool) -> boo
     lies(t, "", inline) & (t.capacity() == room)
 }
 
-// Whether there is room for so many bytes more, and the text lies there.
+// Whether there is room for this many bytes more, and the text is there.
 pub(crate) fn reserves<const N: usize>(
     t: &mut InlineText<N>,
     more: usize,
@@ -108,7 +108,7 @@ pub(crate) fn makes<const N: usize>(
     }
 }
 
-// Whether a text is written behind this one, and makes this.
+// Whether a text is written after this one, and makes this.
 pub(crate) fn writes(
     t: &mut InlineText<4>,
     more: &str,
@@ -119,7 +119,7 @@ pub(crate) fn writes(
     makes(written, t, text, inline)
 }
 
-// Whether a copy is the same text and lies there, and the text stays as it was.
+// Whether a copy is the same text and is there, and the text stays as it was.
 pub(crate) fn clones<const N: usize>(
     t: &InlineText<N>,
     text: &str,

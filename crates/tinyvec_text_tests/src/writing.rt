@@ -1,4 +1,4 @@
-//! Text written behind a text.
+//! Text written to the end of a text.
 use crate::steps::{makes, writes};
 use std::fmt::Write;
 use std::test::Fail;

@@ -1,10 +1,10 @@
-//! Clones of lists.
+//! Clones.
 ghost use Rattle.std.specs.Prelude.{◌≡◌, ◌≤◌, ◌++◌, ℕ, All, min, false, length, take, IfOk, OnOk, OnErr, IsOk};
 ghost use Rattle.std.specs.List.{AllZip};
 ghost use Rattle.tinyvec_slots.specs.Clones.{RefusedAt, ClonesAreEqual, ClonesOver, ClonesInPart};
-ghost use Rattle.tinyvec.specs.Tiny.{tiny_items, tiny_len, tiny_spare, is_inline, tiny_capacity, IsInline, PlaceRule, TinySlotRule, SameFrame};
+ghost use Rattle.tinyvec.specs.TinyVec.{tiny_items, tiny_len, tiny_spare, is_inline, tiny_capacity, IsInline, PlaceRule, TinySlotRule, SameFrame};
 ghost use Rattle.tinyvec.specs.Growth.{RefusedFor};
-ghost use Rattle.tinyvec.specs.Room.{GrowsFor, KeepsRoom};
+ghost use Rattle.tinyvec.specs.Room.{GrowsFor, RoomGrows};
 
 use crate::TinyVec;
 use crate::cloning::push_clones;
@@ -13,8 +13,8 @@ use tinyvec_array::Array;
 use tinyvec_slots::clone_over;
 
 impl<A: Array> TinyVec<A> {
-    /// A vector of clones, in the same place, inline in the spare slots too.
-    // Inlined, and with a return of its own for each place: where two places end in one, the whole value is copied once more.
+    /// Clones the list into the same place, and inline the spare slots too.
+    // Inlined, and with one return for each variant: a shared return copies the whole value once more.
     #[inline(always)]
     pub fn clone(&self) -> Result<Self, AllocError>
     where
@@ -44,7 +44,7 @@ impl<A: Array> TinyVec<A> {
         Ok(TinyVec::Heap(copy))
     }
 
-    // Writes clones of `source` over the items, which are as many.
+    // Writes clones of `source`, which is as long as the list, over the items.
     fn overwrite(&mut self, source: &[A::Item]) -> Result<(), AllocError>
     where
         A::Item: Clone,
@@ -58,7 +58,7 @@ impl<A: Array> TinyVec<A> {
         clone_over(self.as_mut_slice(), source)
     }
 
-    /// Makes the list clones of the other's items. Where memory for a longer one is refused, nothing changes.
+    /// Replaces the list by clones of `source`'s items. If the allocator refuses the room of a longer list, nothing changes.
     pub fn clone_from(&mut self, source: &Self) -> Result<(), AllocError>
     where
         A::Item: Clone,
@@ -68,12 +68,9 @@ impl<A: Array> TinyVec<A> {
             → tiny_items self.new ≡ tiny_items source.now) }
         ensures place { OnOk result (PlaceRule A.CAPACITY (tiny_len source.now) self.old self.new) }
         ensures slots { OnOk result (TinySlotRule A.Item.is_default self.old self.new) }
-        ensures capacity { tiny_capacity A.CAPACITY self.old ≤ tiny_capacity A.CAPACITY self.new }
-        ensures same_room { KeepsRoom A.CAPACITY (tiny_len source.now) self.old self.new }
-        ensures grown { OnOk result (GrowsFor A.CAPACITY (tiny_len source.now) self.old self.new) }
-        ensures fits { tiny_len self.new ≤ tiny_capacity A.CAPACITY self.new }
+        ensures room { RoomGrows GrowsFor A.CAPACITY (tiny_len source.now) self.old self.new result }
 
-        // Where there is room no memory is asked for but by clones.
+        // Where there is room only clones allocate.
         ensures succeeds { tiny_len source.now ≤ tiny_capacity A.CAPACITY self.old
             → All A.Item.is_infallible (tiny_items source.now) → IsOk result }
         ensures refused { OnErr result (RefusedFor A.CAPACITY (tiny_len source.now)
@@ -92,5 +89,19 @@ impl<A: Array> TinyVec<A> {
         self.reserve(count - len)?;
         self.overwrite(&source.as_slice()[..len])?;
         self.extend_reserved(&source.as_slice()[len..])
+    }
+}
+
+impl<A: Array> Clone for TinyVec<A>
+where
+    A::Item: Clone,
+{
+    ghost is_clone = { λ v w. AllZip A.Item.is_clone (tiny_items v) (tiny_items w) };
+
+    ghost is_infallible = { λ v. IsInline v × All A.Item.is_infallible (tiny_items v ++ tiny_spare v) };
+
+    /// A vector of clones, in the same place.
+    fn clone(&self) -> Result<Self, AllocError> {
+        self.clone()
     }
 }

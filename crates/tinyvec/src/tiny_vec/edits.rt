@@ -1,27 +1,79 @@
-//! Items put in and taken out at a place.
-ghost use Rattle.std.specs.Prelude.{◌≡◌, ◌+◌, ◌<◌, ◌≤◌, insert, remove, slice_index_or, IsOk, OnOk, OnErr, IfErr, vec_len, vec_capacity};
+//! Items that are pushed, popped, inserted, removed and cut off.
+ghost use Rattle.std.specs.Prelude.{◌≡◌, ◌+◌, ◌-◌, ◌<◌, ◌↔◌, [], ◌∷◌, ◌++◌, take, drop, slice_get, IsSome, IfSome, IsOk, OnOk, OnErr, IfErr, ◌≤◌, if◌then◌else◌, is_ok, insert, remove, slice_index_or, vec_len, vec_capacity, IfOk, OnSome, IfNone};
+ghost use Rattle.tinyvec.specs.TinyVec.{tiny_items, tiny_len, tiny_spare, tiny_capacity, PlaceRule, TinySlotRule, StaysInPlace, Unchanged, is_inline, IsInline};
+ghost use Rattle.tinyvec.specs.Room.{Doubles, RoomGrows};
 ghost use Rattle.std.specs.List.{swap_remove};
-ghost use Rattle.tinyvec.specs.Tiny.{tiny_items, tiny_len, is_inline, tiny_capacity, PlaceRule, TinySlotRule, Unchanged};
-ghost use Rattle.tinyvec.specs.Room.{Doubles, KeepsRoom};
+ghost use Rattle.tinyvec_slots.specs.Slots.{AreDefaults};
 
 use crate::TinyVec;
+use std::alloc::AllocError;
 use tinyvec_array::{Array, NoMemory};
 use tinyvec_slots::{move_to_end, remove_shifting};
 
-// So many items are moved sooner one by one than as a whole, by a rotation. `Vec::remove` goes by parts of memory, and takes
-// longer than either.
-const FEW: usize = 16;
-
 impl<A: Array> TinyVec<A> {
-    // Puts `x` at `i`, where there is room.
+    /// Appends `x` to a list that has room. It allocates nothing, so it cannot fail.
+    pub fn push_reserved(&mut self, x: A::Item)
+        requires { tiny_len self.old < tiny_capacity A.CAPACITY self.old }
+        ensures items { tiny_items self.new ≡ tiny_items self.old ++ x ∷ [] }
+        ensures spare { tiny_spare self.new ≡ drop 1 (tiny_spare self.old) }
+        ensures frame { StaysInPlace A.Item.is_default A.CAPACITY self.old self.new }
+    {
+        match self {
+            TinyVec::Inline(v, _) => v.push(x),
+            TinyVec::Heap(v) => v.push_reserved(x),
+        }
+    }
+
+    /// Appends `x`. A full list first doubles its capacity, which moves an inline one to the heap. If the allocator refuses,
+    /// nothing changes and `x` is returned.
+    pub fn push(&mut self, x: A::Item) -> Result<(), NoMemory<A::Item>>
+        ensures items { tiny_items self.new
+            ≡ (if is_ok result then tiny_items self.old ++ x ∷ [] else tiny_items self.old) }
+        ensures len { tiny_len self.new ≡ (if is_ok result then tiny_len self.old + 1 else tiny_len self.old) }
+        ensures place { OnOk result (PlaceRule A.CAPACITY (tiny_len self.old + 1) self.old self.new) }
+        ensures slots { TinySlotRule A.Item.is_default self.old self.new }
+        ensures room { RoomGrows Doubles A.CAPACITY (tiny_len self.old + 1) self.old self.new result }
+
+        // Where there is room it allocates nothing.
+        ensures succeeds { tiny_len self.old < tiny_capacity A.CAPACITY self.old → IsOk result }
+        ensures full { OnErr result (tiny_len self.old ≡ tiny_capacity A.CAPACITY self.old) }
+        ensures refused { OnErr result (Unchanged self.old self.new) }
+        ensures value_returned { IfErr result (λ refused. refused.0 ≡ x) }
+    {
+        // One test of the variant; growing is kept out of the usual path.
+        match self {
+            TinyVec::Inline(v, _) if !v.is_full() => v.push(x),
+            TinyVec::Heap(v) if v.len() < v.capacity() => v.push_reserved(x),
+            _ => {
+                if self.grow_one().is_err() {
+                    return Err(NoMemory(x));
+                }
+                self.push_reserved(x);
+            }
+        }
+        Ok(())
+    }
+
+    /// Removes and returns the last item. Inline its slot gets a default.
+    pub fn pop(&mut self) -> Option<A::Item>
+        ensures variant { IsSome result ↔ (0 < tiny_len self.old) }
+        ensures some { IfSome result (λ x. tiny_items self.old ≡ tiny_items self.new ++ x ∷ []) }
+        ensures items { tiny_items self.new ≡ take (tiny_len self.old - 1) (tiny_items self.old) }
+        ensures value { result ≡ slice_get (tiny_items self.old) (tiny_len self.old - 1) }
+        ensures frame { StaysInPlace A.Item.is_default A.CAPACITY self.old self.new }
+    {
+        match self {
+            TinyVec::Inline(v, _) => v.pop(),
+            TinyVec::Heap(v) => v.pop(),
+        }
+    }
+
+    // `insert` into a list that has room.
     fn insert_reserved(&mut self, i: usize, x: A::Item)
         requires in_list { i ≤ tiny_len self.old }
         requires room { tiny_len self.old < tiny_capacity A.CAPACITY self.old }
         ensures items { tiny_items self.new ≡ insert (tiny_items self.old) i x }
-        ensures place { is_inline self.new ≡ is_inline self.old }
-        ensures slots { TinySlotRule A.Item.is_default self.old self.new }
-        ensures capacity { tiny_capacity A.CAPACITY self.new ≡ tiny_capacity A.CAPACITY self.old }
-        ensures fits { tiny_len self.new ≤ tiny_capacity A.CAPACITY self.new }
+        ensures frame { StaysInPlace A.Item.is_default A.CAPACITY self.old self.new }
     {
         match self {
             TinyVec::Inline(v, _) => v.insert(i, x),
@@ -31,25 +83,24 @@ impl<A: Array> TinyVec<A> {
         }
     }
 
-    /// Puts `x` at `i` and moves the later items up, or hands it back where memory is refused. A full list asks for room
-    /// for twice as many items; one in the array moves once that is granted.
-    // Inlined, so that the place of the list is looked at once for this call and the next.
+    /// Puts `x` at `i` and moves the later items up. A full list first doubles its capacity, which moves an inline one to
+    /// the heap. If the allocator refuses, nothing changes and `x` is returned.
+    // Inlined, so that the variant is tested once for this call and the next.
     #[inline(always)]
     pub fn insert(&mut self, i: usize, x: A::Item) -> Result<(), NoMemory<A::Item>>
         requires { i ≤ tiny_len self.old }
-        ensures items { OnOk result (tiny_items self.new ≡ insert (tiny_items self.old) i x) }
+        ensures items { tiny_items self.new
+            ≡ (if is_ok result then insert (tiny_items self.old) i x else tiny_items self.old) }
+        ensures len { tiny_len self.new ≡ (if is_ok result then tiny_len self.old + 1 else tiny_len self.old) }
         ensures place { OnOk result (PlaceRule A.CAPACITY (tiny_len self.old + 1) self.old self.new) }
         ensures slots { TinySlotRule A.Item.is_default self.old self.new }
-        ensures doubles { OnOk result (Doubles A.CAPACITY self.old self.new) }
-        ensures capacity { tiny_capacity A.CAPACITY self.old ≤ tiny_capacity A.CAPACITY self.new }
-        ensures same_room { KeepsRoom A.CAPACITY (tiny_len self.old + 1) self.old self.new }
-        ensures fits { tiny_len self.new ≤ tiny_capacity A.CAPACITY self.new }
+        ensures room { RoomGrows Doubles A.CAPACITY (tiny_len self.old + 1) self.old self.new result }
 
-        // Where there is room no memory is asked for, and a refusal changes nothing.
+        // Where there is room it allocates nothing.
         ensures succeeds { tiny_len self.old < tiny_capacity A.CAPACITY self.old → IsOk result }
         ensures full { OnErr result (tiny_len self.old ≡ tiny_capacity A.CAPACITY self.old) }
         ensures refused { OnErr result (Unchanged self.old self.new) }
-        ensures back { IfErr result (λ refused. refused.0 ≡ x) }
+        ensures value_returned { IfErr result (λ refused. refused.0 ≡ x) }
     {
         match self {
             TinyVec::Inline(v, _) if !v.is_full() => v.insert(i, x),
@@ -66,17 +117,14 @@ impl<A: Array> TinyVec<A> {
         Ok(())
     }
 
-    /// Takes the item at `i`, and moves the later ones down.
-    // Inlined, as `insert`.
+    /// Removes and returns the item at `i`, and moves the later ones down.
+    // Inlined like `insert`.
     #[inline(always)]
     pub fn remove(&mut self, i: usize) -> A::Item
         requires { i < tiny_len self.old }
         ensures value { result ≡ slice_index_or (tiny_items self.old) i result }
         ensures items { tiny_items self.new ≡ remove (tiny_items self.old) i }
-        ensures place { is_inline self.new ≡ is_inline self.old }
-        ensures slots { TinySlotRule A.Item.is_default self.old self.new }
-        ensures capacity { tiny_capacity A.CAPACITY self.new ≡ tiny_capacity A.CAPACITY self.old }
-        ensures fits { tiny_len self.new ≤ tiny_capacity A.CAPACITY self.new }
+        ensures frame { StaysInPlace A.Item.is_default A.CAPACITY self.old self.new }
     {
         match self {
             TinyVec::Inline(v, _) => v.remove(i),
@@ -84,24 +132,94 @@ impl<A: Array> TinyVec<A> {
         }
     }
 
-    /// Takes the item at `i`, and moves the last one into its place.
+    /// Removes and returns the item at `i`, and moves the last one into its place.
     pub fn swap_remove(&mut self, i: usize) -> A::Item
         requires { i < tiny_len self.old }
         ensures value { result ≡ slice_index_or (tiny_items self.old) i result }
         ensures items { tiny_items self.new ≡ swap_remove (tiny_items self.old) i result }
-        ensures place { is_inline self.new ≡ is_inline self.old }
-        ensures slots { TinySlotRule A.Item.is_default self.old self.new }
-        ensures capacity { tiny_capacity A.CAPACITY self.new ≡ tiny_capacity A.CAPACITY self.old }
-        ensures fits { tiny_len self.new ≤ tiny_capacity A.CAPACITY self.new }
+        ensures frame { StaysInPlace A.Item.is_default A.CAPACITY self.old self.new }
     {
         match self {
             TinyVec::Inline(v, _) => v.swap_remove(i),
             TinyVec::Heap(v) => v.swap_remove(i),
         }
     }
+
+    /// Keeps the first `n` items, or all where there are no more. Inline each vacated slot gets a default.
+    #[inline(always)]
+    pub fn truncate(&mut self, n: usize)
+        ensures items { tiny_items self.new ≡ take n (tiny_items self.old) }
+        ensures frame { StaysInPlace A.Item.is_default A.CAPACITY self.old self.new }
+    {
+        match self {
+            TinyVec::Inline(v, _) => v.truncate(n),
+            TinyVec::Heap(v) => v.truncate(n),
+        }
+    }
+
+    /// Empties the list. Inline each vacated slot gets a default.
+    pub fn clear(&mut self)
+        ensures items { tiny_items self.new ≡ [] }
+        ensures frame { StaysInPlace A.Item.is_default A.CAPACITY self.old self.new }
+    {
+        match self {
+            TinyVec::Inline(v, _) => {
+                v.clear();
+                // After these writes LLVM has lost variant and length; setting the length restores both.
+                match self {
+                    TinyVec::Inline(v, _) => v.set_len(0),
+                    TinyVec::Heap(_) => unreachable!(),
+                }
+            }
+            TinyVec::Heap(v) => v.truncate(0),
+        }
+    }
+
+    /// Splits the list at `at`, and returns the items from there on, in the same place. An inline list allocates nothing;
+    /// one on the heap allocates room for those items.
+    pub fn split_off(&mut self, at: usize) -> Result<Self, AllocError>
+        requires { at ≤ tiny_len self.old }
+        ensures items { OnOk result (tiny_items self.new ≡ take at (tiny_items self.old)) }
+        ensures tail { IfOk result (λ v. tiny_items v ≡ drop at (tiny_items self.old)) }
+        ensures frame { StaysInPlace A.Item.is_default A.CAPACITY self.old self.new }
+        ensures tail_place { IfOk result (λ v. is_inline v ≡ is_inline self.old) }
+        ensures tail_spare { IfOk result (λ v. IsInline v
+            → AreDefaults A.Item.is_default (A.CAPACITY - (tiny_len self.old - at)) (tiny_spare v)) }
+        ensures tail_fits { IfOk result (λ v. tiny_len v ≤ tiny_capacity A.CAPACITY v) }
+        ensures succeeds { IsInline self.old → IsOk result }
+        ensures succeeds_at_the_end { at ≡ tiny_len self.old → IsOk result }
+        ensures refused { OnErr result (self.new ≡ self.old) }
+    {
+        match self {
+            TinyVec::Inline(v, alloc) => Ok(TinyVec::Inline(v.split_off(at), *alloc)),
+            TinyVec::Heap(v) => {
+                let back = v.split_off(at)?;
+                Ok(TinyVec::Heap(back))
+            }
+        }
+    }
+
+    /// Takes the item at `i` and moves the later ones down, or returns `None` where the list has no such item.
+    pub fn pop_at(&mut self, i: usize) -> Option<A::Item>
+        ensures variant { IsSome result ↔ (i < tiny_len self.old) }
+        ensures value { result ≡ slice_get (tiny_items self.old) i }
+        ensures items { OnSome result (tiny_items self.new ≡ remove (tiny_items self.old) i) }
+        ensures none { IfNone result (Unchanged self.old self.new) }
+        ensures place { is_inline self.new ≡ is_inline self.old }
+        ensures slots { TinySlotRule A.Item.is_default self.old self.new }
+        ensures capacity { tiny_capacity A.CAPACITY self.new ≡ tiny_capacity A.CAPACITY self.old }
+    {
+        if i >= self.len() {
+            return None;
+        }
+        Some(self.remove(i))
+    }
 }
 
-// Takes the item at `i`, and moves the later ones down.
+// Up to this many items, shifting one by one beats a rotation, and `Vec::remove`.
+const FEW: usize = 16;
+
+// `remove` of a list on the heap.
 #[inline(always)]
 fn remove_on_heap<T: Default + Drop>(heap: &mut Vec<T>, i: usize) -> T
     requires { i < vec_len heap.old }

@@ -4,7 +4,7 @@ ghost use Rattle.tinyvec_slots.specs.Slots.{items, spare, items_len, all_slots, 
 ghost use Rattle.std.specs.List.{AllZip};
 ghost use Rattle.tinyvec_slots.specs.Clones.{RefusedAt, ClonesAreEqual, ClonesInPart};
 
-use crate::clone_slots::{clone_slots, put_clones};
+use crate::clone_slots::{clone_slots, write_clones};
 use crate::{Array, ArrayVec};
 use std::alloc::AllocError;
 
@@ -56,7 +56,7 @@ impl<A: Array> ArrayVec<A> {
     {
         let len = source.len();
         self.truncate(len);
-        put_clones(&mut self.array, 0, source.as_slice())?;
+        write_clones(&mut self.array, 0, source.as_slice())?;
         self.len = len;
         Ok(())
     }

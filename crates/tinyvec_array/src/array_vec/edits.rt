@@ -1,12 +1,77 @@
-//! Items put in and taken out at a place.
-ghost use Rattle.std.specs.Prelude.{◌≡◌, ◌+◌, ◌-◌, ◌<◌, ◌≤◌, ◌↔◌, drop, slice_index_or, remove, insert, IsSome, IfSome, IfNone};
-ghost use Rattle.std.specs.List.{swap_remove, SwappedAt};
-ghost use Rattle.tinyvec_slots.specs.Slots.{items, spare, items_len, Frees};
+//! Items that are pushed, popped, inserted, removed and cut off.
+ghost use Rattle.std.specs.Prelude.{◌≡◌, ◌-◌, ◌<◌, ◌≤◌, ◌↔◌, [], ◌∷◌, ◌++◌, take, drop, slice_get, slice_index_or, IsSome, OnSome, IfNone, IfSome, ◌+◌, remove, insert, ℕ, All, length, if◌then◌else◌, is_ok, IsOk, OnOk, OnErr, Err};
+ghost use Rattle.tinyvec_slots.specs.Slots.{items, spare, items_len, Vacates, AreDefaults};
+ghost use Rattle.std.specs.List.{swap_remove, SwappedAt, AppendsClones};
+ghost use Rattle.tinyvec_slots.specs.Clones.{RefusedAt, ClonesAreEqual, ClonesOver};
 
-use crate::slots::{are_short_of, insert_slot, last_slot_to, remove_slot};
-use crate::{Array, ArrayVec};
+use crate::slots::{
+    are_short_of, fill_default_in, insert_slot, last_slot_to, remove_slot, take_slot, via_u32,
+};
+use crate::{Array, ArrayVec, TryFromSliceError};
 
 impl<A: Array> ArrayVec<A> {
+    /// Appends `x`.
+    pub fn push(&mut self, x: A::Item)
+        requires { items_len self.old < A.CAPACITY }
+        ensures items { items self.new ≡ items self.old ++ x ∷ [] }
+        ensures spare { spare self.new ≡ drop 1 (spare self.old) }
+        ensures fits { items_len self.new ≤ A.CAPACITY }
+    {
+        let len = self.len();
+        let slots = self.array.as_slice_mut();
+        let at = via_u32(len, slots.len());
+        slots[at] = x;
+        self.len = len + 1;
+    }
+
+    /// Appends `x`, or returns it if the vector is full.
+    pub fn try_push(&mut self, x: A::Item) -> Option<A::Item>
+        ensures variant { IsSome result ↔ (items_len self.old ≡ A.CAPACITY) }
+        ensures refused { IfSome result (λ y. (y ≡ x) × (self.new ≡ self.old)) }
+        ensures items { IfNone result (items self.new ≡ items self.old ++ x ∷ []) }
+        ensures spare { IfNone result (spare self.new ≡ drop 1 (spare self.old)) }
+        ensures fits { items_len self.new ≤ A.CAPACITY }
+    {
+        if self.is_full() {
+            return Some(x);
+        }
+        self.push(x);
+        None
+    }
+
+    /// Takes the last item, and leaves a default in its slot.
+    pub fn pop(&mut self) -> Option<A::Item>
+        ensures variant { IsSome result ↔ (0 < items_len self.old) }
+        ensures some { IfSome result (λ x. items self.old ≡ items self.new ++ x ∷ []) }
+        ensures value { result ≡ slice_get (items self.old) (items_len self.old - 1) }
+        ensures items { items self.new ≡ take (items_len self.old - 1) (items self.old) }
+        ensures spare { OnSome result (Vacates A.Item.is_default 1 self.old self.new) }
+        ensures empty { IfNone result (self.new ≡ self.old) }
+        ensures fits { items_len self.new ≤ A.CAPACITY }
+        ensures room { OnSome result (items_len self.new < A.CAPACITY) }
+    {
+        if self.is_empty() {
+            return None;
+        }
+        Some(self.take_last())
+    }
+
+    // Takes the last item.
+    pub(crate) fn take_last(&mut self) -> A::Item
+        requires { 0 < items_len self.old }
+        ensures items { items self.old ≡ items self.new ++ result ∷ [] }
+        ensures rest { items self.new ≡ take (items_len self.old - 1) (items self.old) }
+        ensures value { result ≡ slice_index_or (items self.old) (items_len self.old - 1) result }
+        ensures spare { Vacates A.Item.is_default 1 self.old self.new }
+        ensures fits { items_len self.new < A.CAPACITY }
+    {
+        let last = self.len() - 1;
+        let item = take_slot(&mut self.array, last);
+        // Written last, so that LLVM knows the length in a loop of pops.
+        self.len = last;
+        item
+    }
+
     /// Puts `x` at `i`, and moves the later items up.
     pub fn insert(&mut self, i: usize, x: A::Item)
         requires in_list { i ≤ items_len self.old }
@@ -26,10 +91,10 @@ impl<A: Array> ArrayVec<A> {
         last_slot_to(&mut self.array, i, len);
     }
 
-    /// Puts `x` at `i` and moves the later items up, or hands it back where the vector is full.
+    /// Inserts `x` at `i`, or returns it if the vector is full.
     pub fn try_insert(&mut self, i: usize, x: A::Item) -> Option<A::Item>
         requires { i ≤ items_len self.old }
-        ensures full { IsSome result ↔ (items_len self.old ≡ A.CAPACITY) }
+        ensures variant { IsSome result ↔ (items_len self.old ≡ A.CAPACITY) }
         ensures refused { IfSome result (λ y. (y ≡ x) × (self.new ≡ self.old)) }
         ensures items { IfNone result (items self.new ≡ insert (items self.old) i x) }
         ensures spare { IfNone result (spare self.new ≡ drop 1 (spare self.old)) }
@@ -47,7 +112,7 @@ impl<A: Array> ArrayVec<A> {
         requires { i < items_len self.old }
         ensures value { result ≡ slice_index_or (items self.old) i result }
         ensures items { items self.new ≡ remove (items self.old) i }
-        ensures spare { Frees A.Item.is_default 1 self.old self.new }
+        ensures spare { Vacates A.Item.is_default 1 self.old self.new }
         ensures fits { items_len self.new < A.CAPACITY }
     {
         let len = self.len();
@@ -56,7 +121,7 @@ impl<A: Array> ArrayVec<A> {
             self.len = len - 1;
             return item;
         }
-        self.items_to_end(i, i + 1);
+        self.move_to_end(i, i + 1);
         self.take_last()
     }
 
@@ -65,7 +130,7 @@ impl<A: Array> ArrayVec<A> {
         requires { i < items_len self.old }
         ensures value { result ≡ slice_index_or (items self.old) i result }
         ensures items { items self.new ≡ swap_remove (items self.old) i result }
-        ensures spare { Frees A.Item.is_default 1 self.old self.new }
+        ensures spare { Vacates A.Item.is_default 1 self.old self.new }
         ensures fits { items_len self.new < A.CAPACITY }
     {
         let last = self.len() - 1;
@@ -82,5 +147,91 @@ impl<A: Array> ArrayVec<A> {
         ensures spare { spare self.new ≡ spare self.old }
     {
         self.as_mut_slice().swap(i, j);
+    }
+
+    /// Keeps the first `n` items, or all where there are no more. Each vacated slot is given a default.
+    pub fn truncate(&mut self, n: usize)
+        ensures items { items self.new ≡ take n (items self.old) }
+        ensures spare { Vacates A.Item.is_default (items_len self.old - n) self.old self.new }
+        ensures fits { items_len self.new ≤ A.CAPACITY }
+    {
+        let len = self.len();
+        if n < len {
+            fill_default_in(&mut self.array, n, len);
+            self.len = n;
+        }
+    }
+
+    /// Empties the list. Each vacated slot is given a default.
+    pub fn clear(&mut self)
+        ensures items { items self.new ≡ [] }
+        ensures spare { Vacates A.Item.is_default (items_len self.old) self.old self.new }
+        ensures fits { items_len self.new ≤ A.CAPACITY }
+    {
+        self.truncate(0);
+    }
+
+    /// Cuts the list at `at`, and gives what stood from there on. These items are moved one by one.
+    pub fn split_off(&mut self, at: usize) -> Self
+        requires { at ≤ items_len self.old }
+        ensures items { items self.new ≡ take at (items self.old) }
+        ensures spare { Vacates A.Item.is_default (items_len self.old - at) self.old self.new }
+        ensures tail { items result ≡ drop at (items self.old) }
+        ensures tail_spare { AreDefaults A.Item.is_default (A.CAPACITY - (items_len self.old - at)) (spare result) }
+        ensures fits { items_len self.old ≤ A.CAPACITY }
+    {
+        let mut back = ArrayVec::new();
+        for x in self.drain(at..) {
+            back.push(x);
+        }
+        back
+    }
+
+    /// Takes the item at `i` and moves the later ones down, or returns `None` where the list has no such item.
+    pub fn pop_at(&mut self, i: usize) -> Option<A::Item>
+        ensures variant { IsSome result ↔ (i < items_len self.old) }
+        ensures value { result ≡ slice_get (items self.old) i }
+        ensures items { OnSome result (items self.new ≡ remove (items self.old) i) }
+        ensures spare { OnSome result (Vacates A.Item.is_default 1 self.old self.new) }
+        ensures none { IfNone result (self.new ≡ self.old) }
+        ensures fits { items_len self.new ≤ A.CAPACITY }
+    {
+        if i >= self.len() {
+            return None;
+        }
+        Some(self.remove(i))
+    }
+
+    /// Appends clones of the slice's items, or fails where they do not all fit and changes nothing. Only clones of items
+    /// may allocate.
+    pub fn try_extend_from_slice(&mut self, other: &[A::Item]) -> Result<(), TryFromSliceError>
+    where
+        A::Item: Clone,
+        ensures too_long { (result ≡ Err TryFromSliceError.TooLong)
+            ↔ (A.CAPACITY < items_len self.old + length other.now) }
+        ensures unchanged { result ≡ Err TryFromSliceError.TooLong → self.new ≡ self.old }
+        ensures items { OnOk result (AppendsClones A.Item.is_clone (items self.old) (items self.new) other.now) }
+        ensures len { items_len self.new
+            ≡ (if is_ok result then items_len self.old + length other.now else items_len self.old) }
+        ensures if_clones_equal { ClonesAreEqual A.Item.is_clone → items self.new
+            ≡ (if is_ok result then items self.old ++ other.now else items self.old) }
+        ensures spare { OnOk result (spare self.new ≡ drop (length other.now) (spare self.old)) }
+        ensures kept { OnErr result (items self.new ≡ items self.old) }
+        ensures fits { items_len self.new ≤ A.CAPACITY }
+
+        // The first `j` spare slots hold the clones made.
+        ensures memory { result ≡ Err TryFromSliceError.Memory → (j : ℕ)
+            × RefusedAt A.Item.is_infallible other.now j
+            × ClonesOver A.Item.is_clone (take j other.now) j (spare self.old) (spare self.new) }
+        ensures succeeds { items_len self.old + length other.now ≤ A.CAPACITY
+            → All A.Item.is_infallible other.now → IsOk result }
+    {
+        if other.len() > self.remaining_capacity() {
+            return Err(TryFromSliceError::TooLong);
+        }
+        match self.extend_from_slice(other) {
+            Ok(()) => Ok(()),
+            Err(_) => Err(TryFromSliceError::Memory),
+        }
     }
 }

@@ -3,122 +3,68 @@ ghost use Rattle.std.specs.Prelude.{◌≡◌, ◌-◌, ◌≤◌};
 ghost use Rattle.std.specs.Fn.{CalledAt, CalledAtMut, CalledAtPairMut, ComparesKeys};
 ghost use Rattle.std.specs.List.{dedup as dedup_list};
 ghost use Rattle.std.specs.List.Retain.{IsFiltered, RetainsInTurn, IsDeduped};
-ghost use Rattle.tinyvec_slots.specs.Filters.{RetainsTo, IsFilteredTo, IsDedupedTo};
-ghost use Rattle.tinyvec_slots.specs.Slots.{items, items_len, Frees};
+ghost use Rattle.tinyvec_slots.specs.Slots.{items, items_len, Vacates};
 
 use crate::{Array, ArrayVec};
-use tinyvec_slots::{dedup_in_front, dedup_keys_in_front, retain_in_front, retain_mut_in_front};
 
 impl<A: Array> ArrayVec<A> {
-    /// Asks `f` about each item in turn, and keeps those at which it answers `true`. An item that is kept is moved by
-    /// one swap at most; items of up to 16 bytes are all moved, without a branch.
+    /// Calls `f` on each item in turn, and keeps those for which it returns `true`. A kept item is moved by at most one
+    /// swap; items of up to 16 bytes are all moved, with no branch.
     pub fn retain<F: FnMut(&A::Item) -> bool>(&mut self, mut f: F)
         requires { F.IsAlwaysCallable f }
         ensures filtered { IsFiltered (CalledAt F.FnMut) f (items self.old) (items self.new) }
         ensures bound { items_len self.new ≤ items_len self.old }
         ensures fits { items_len self.new ≤ A.CAPACITY }
-        ensures spare { Frees A.Item.is_default (items_len self.old - items_len self.new) self.old self.new }
+        ensures spare { Vacates A.Item.is_default (items_len self.old - items_len self.new) self.old self.new }
     {
-        self.retain_asked(&mut f);
+        tinyvec_slots::retain(self, &mut f);
     }
 
-    /// Asks `f` about each item in turn, and keeps those at which it answers `true`, as it left them. An item that is
-    /// kept is moved by one swap at most; items of up to 16 bytes are all moved, without a branch.
+    /// Calls `f` on each item in turn, and keeps those for which it returns `true`, as it left them. A kept item is
+    /// moved by at most one swap; items of up to 16 bytes are all moved, with no branch.
     pub fn retain_mut<F: FnMut(&mut A::Item) -> bool>(&mut self, mut f: F)
         requires { F.IsAlwaysCallable f }
         ensures filtered { RetainsInTurn (CalledAtMut F.FnMut) f (items self.old) (items self.new) }
         ensures bound { items_len self.new ≤ items_len self.old }
         ensures fits { items_len self.new ≤ A.CAPACITY }
-        ensures spare { Frees A.Item.is_default (items_len self.old - items_len self.new) self.old self.new }
+        ensures spare { Vacates A.Item.is_default (items_len self.old - items_len self.new) self.old self.new }
     {
-        self.retain_mut_asked(&mut f);
+        tinyvec_slots::retain_mut(self, &mut f);
     }
 
-    /// Removes each item that equals the last one kept. An item that is kept is moved by one swap at most.
+    /// Removes each item that equals the last one kept. A kept item is moved by at most one swap.
     pub fn dedup(&mut self)
     where
         A::Item: PartialEq,
         ensures items { items self.new ≡ dedup_list A.Item.eq (items self.old) }
         ensures bound { items_len self.new ≤ items_len self.old }
         ensures fits { items_len self.new ≤ A.CAPACITY }
-        ensures spare { Frees A.Item.is_default (items_len self.old - items_len self.new) self.old self.new }
+        ensures spare { Vacates A.Item.is_default (items_len self.old - items_len self.new) self.old self.new }
     {
         self.dedup_by(|current, last| *current == *last);
     }
 
-    /// Asks `same` about each item after the first and the last one kept, in this order, and removes the item at
-    /// `true`. An item that is kept is moved by one swap at most.
+    /// Calls `same` on each item after the first and the last one kept, in this order, and removes the item if it
+    /// returns `true`. A kept item is moved by at most one swap.
     pub fn dedup_by<F: FnMut(&mut A::Item, &mut A::Item) -> bool>(&mut self, mut same: F)
         requires { F.IsAlwaysCallable same }
         ensures filtered { IsDeduped (CalledAtPairMut F.FnMut) same (items self.old) (items self.new) }
         ensures bound { items_len self.new ≤ items_len self.old }
         ensures fits { items_len self.new ≤ A.CAPACITY }
-        ensures spare { Frees A.Item.is_default (items_len self.old - items_len self.new) self.old self.new }
+        ensures spare { Vacates A.Item.is_default (items_len self.old - items_len self.new) self.old self.new }
     {
-        self.dedup_asked(&mut same);
+        tinyvec_slots::dedup_by(self, &mut same);
     }
 
-    /// Removes each item whose key equals that of the last one kept. The item's own key is asked for first. An item
-    /// that is kept is moved by one swap at most.
+    /// Removes each item whose key equals that of the last one kept. The item's own key is computed first. A kept item
+    /// is moved by at most one swap.
     pub fn dedup_by_key<K: PartialEq + Drop, F: FnMut(&mut A::Item) -> K>(&mut self, mut key: F)
         requires { F.IsAlwaysCallable key }
         ensures filtered { IsDeduped (ComparesKeys F.FnMut K.eq) key (items self.old) (items self.new) }
         ensures bound { items_len self.new ≤ items_len self.old }
         ensures fits { items_len self.new ≤ A.CAPACITY }
-        ensures spare { Frees A.Item.is_default (items_len self.old - items_len self.new) self.old self.new }
+        ensures spare { Vacates A.Item.is_default (items_len self.old - items_len self.new) self.old self.new }
     {
-        self.dedup_keys_asked(&mut key);
-    }
-
-    // `retain`, and the state in which the last question leaves `f`.
-    fn retain_asked<F: FnMut(&A::Item) -> bool>(&mut self, f: &mut F)
-        requires { F.IsAlwaysCallable f.old }
-        ensures filtered { IsFiltered (CalledAt F.FnMut) f.old (items self.old) (items self.new) }
-        ensures asked { IsFilteredTo (CalledAt F.FnMut) f.old (items self.old) (items self.new) f.new }
-        ensures bound { items_len self.new ≤ items_len self.old }
-        ensures fits { items_len self.new ≤ A.CAPACITY }
-        ensures spare { Frees A.Item.is_default (items_len self.old - items_len self.new) self.old self.new }
-    {
-        let kept = retain_in_front(self.as_mut_slice(), f);
-        self.truncate(kept);
-    }
-
-    // `retain_mut`, and the state in which the last question leaves `f`.
-    fn retain_mut_asked<F: FnMut(&mut A::Item) -> bool>(&mut self, f: &mut F)
-        requires { F.IsAlwaysCallable f.old }
-        ensures filtered { RetainsInTurn (CalledAtMut F.FnMut) f.old (items self.old) (items self.new) }
-        ensures asked { RetainsTo (CalledAtMut F.FnMut) f.old (items self.old) (items self.new) f.new }
-        ensures bound { items_len self.new ≤ items_len self.old }
-        ensures fits { items_len self.new ≤ A.CAPACITY }
-        ensures spare { Frees A.Item.is_default (items_len self.old - items_len self.new) self.old self.new }
-    {
-        let kept = retain_mut_in_front(self.as_mut_slice(), f);
-        self.truncate(kept);
-    }
-
-    // `dedup_by`, and the state in which the last question leaves `same`.
-    fn dedup_asked<F: FnMut(&mut A::Item, &mut A::Item) -> bool>(&mut self, same: &mut F)
-        requires { F.IsAlwaysCallable same.old }
-        ensures filtered { IsDeduped (CalledAtPairMut F.FnMut) same.old (items self.old) (items self.new) }
-        ensures asked { IsDedupedTo (CalledAtPairMut F.FnMut) same.old (items self.old) (items self.new) same.new }
-        ensures bound { items_len self.new ≤ items_len self.old }
-        ensures fits { items_len self.new ≤ A.CAPACITY }
-        ensures spare { Frees A.Item.is_default (items_len self.old - items_len self.new) self.old self.new }
-    {
-        let kept = dedup_in_front(self.as_mut_slice(), same);
-        self.truncate(kept);
-    }
-
-    // `dedup_by_key`, and the state in which the last question leaves `key`.
-    fn dedup_keys_asked<K: PartialEq + Drop, F: FnMut(&mut A::Item) -> K>(&mut self, key: &mut F)
-        requires { F.IsAlwaysCallable key.old }
-        ensures filtered { IsDeduped (ComparesKeys F.FnMut K.eq) key.old (items self.old) (items self.new) }
-        ensures asked { IsDedupedTo (ComparesKeys F.FnMut K.eq) key.old (items self.old) (items self.new) key.new }
-        ensures bound { items_len self.new ≤ items_len self.old }
-        ensures fits { items_len self.new ≤ A.CAPACITY }
-        ensures spare { Frees A.Item.is_default (items_len self.old - items_len self.new) self.old self.new }
-    {
-        let kept = dedup_keys_in_front(self.as_mut_slice(), key);
-        self.truncate(kept);
+        tinyvec_slots::dedup_by_key(self, &mut key);
     }
 }

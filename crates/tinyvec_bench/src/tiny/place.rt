@@ -1,4 +1,4 @@
-//! Where a list lies.
+//! Where a list is.
 
 use crate::number::Number;
 use std::alloc::{AllocError, Global};

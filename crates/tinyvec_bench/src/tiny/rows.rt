@@ -1,4 +1,4 @@
-//! The rows of a `TinyVec`, at one capacity. A function that makes an array asks that one of so many items has a size.
+//! The rows of a `TinyVec`, at one capacity. A function that makes an array asks that one of this many items has a size.
 ghost use Rattle.std.specs.Prelude.{◌*◌, ◌^◌, ◌<◌};
 
 use crate::lists::{Cut, Dedup, bytes, copies, cuts, edits};

@@ -93,7 +93,7 @@ pub fn extend_from_range<const N: usize>(
     }
 }
 
-// Moves a list of as many items behind a full one.
+// Moves a list of as many items after a full one.
 #[inline(never)]
 fn append<const N: usize>(
     alloc: Global,

@@ -1,7 +1,7 @@
 //! A `TinyVec` of what can be written and read.
 ghost use Rattle.std.specs.Prelude.{◌≡◌, ◌<◌, ◌≤◌, ◌^◌, ◌-◌, ◌++◌, ◌⊎◌, ◌↔◌, ℕ, List, length, map, IfOk, IfErr, OnOk};
 ghost use Rattle.std.specs.List.{AllByRecursion};
-ghost use Rattle.tinyvec.specs.Tiny.{IsInline, PlaceRule, tiny_capacity, tiny_items, tiny_len};
+ghost use Rattle.tinyvec.specs.TinyVec.{IsInline, PlaceRule, tiny_capacity, tiny_items, tiny_len};
 ghost use Rattle.tinyvec_borsh.specs.Items.{AfterItems, CountsAbove, InItem, IsListCut, IsListTooLong, ListFits};
 ghost use Rattle.tinyvec_borsh.specs.Items.{SpellsItems, SpellsList};
 ghost use Rattle.tinyvec_borsh.specs.ItemsLaws.{list_apart, list_code, list_spelled};

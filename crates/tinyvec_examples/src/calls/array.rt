@@ -1,9 +1,9 @@
 //! Callers of an `ArrayVec`.
-ghost use Rattle.std.specs.Prelude.{◌≡◌, ◌≢◌, ◌+◌, ◌<◌, ◌≤◌, ◌∷◌, [], ◌++◌, ◌↔◌, ◌==◌, length, take, pos, IsTrue, IsOk, IsSome, OnOk, OnErr, IfOk, IfNone};
+ghost use Rattle.std.specs.Prelude.{◌≡◌, ◌≢◌, ◌+◌, ◌<◌, ◌≤◌, ◌∷◌, [], ◌++◌, ◌↔◌, ◌==◌, length, take, pos, IsTrue, IsOk, IsSome, OnOk, OnErr, IfOk, IfNone, if◌then◌else◌, is_ok};
 ghost use Rattle.tinyvec_array.specs.Slots.{items, spare, items_len};
 
 use std::alloc::{AllocError, Global};
-use tinyvec_array::{Array, ArrayVec, TryFromSliceError};
+use tinyvec_array::{Array, ArrayVec, ArrayVecIterator, TryFromSliceError};
 
 /// An array whose slots are all spare.
 pub fn over_slots() -> ArrayVec<[i32; 3]>
@@ -84,7 +84,7 @@ pub fn first_swapped() -> (i32, ArrayVec<[i32; 4]>)
 /// A full vector returns the item.
 pub fn put_first<A: Array>(v: &mut ArrayVec<A>, x: A::Item) -> Option<A::Item>
     ensures put { IfNone result (items v.new ≡ x ∷ items v.old) }
-    ensures full { IsSome result ↔ (items_len v.old ≡ A.CAPACITY) }
+    ensures variant { IsSome result ↔ (items_len v.old ≡ A.CAPACITY) }
 {
     v.try_insert(0, x)
 }
@@ -203,7 +203,7 @@ pub fn try_in_vec<A: Array>(v: &mut ArrayVec<A>, alloc: Global) -> Result<Vec<A:
     v.try_drain_to_vec(alloc)
 }
 
-/// The list in a `Vec`, and one item behind it, for which there is room.
+/// The list in a `Vec`, and one item after it, for which there is room.
 pub fn in_vec_with<A: Array>(
     v: &mut ArrayVec<A>,
     alloc: Global,
@@ -229,7 +229,7 @@ pub fn try_in_vec_with<A: Array>(
     Ok(out)
 }
 
-/// All items, moved behind those of a `Vec` that has room.
+/// All items, moved after those of a `Vec` that has room.
 pub fn moved_into<A: Array>(v: &mut ArrayVec<A>, alloc: Global) -> Result<Vec<A::Item>, AllocError>
     ensures moved { IfOk result (λ out. out.items ≡ items v.old) }
     ensures left { OnOk result (items v.new ≡ []) }
@@ -255,4 +255,34 @@ pub fn untouched<A: Array>(v: &mut ArrayVec<A>) -> u128
     let touches = splice.touches();
     let _rest = splice.stop();
     touches
+}
+
+/// How many items still fit.
+pub fn left(v: &ArrayVec<[u8; 4]>) -> usize
+    ensures { items_len v.now + result ≡ 4 }
+{
+    v.remaining_capacity()
+}
+
+/// The item at a place, taken out, or `None` past the end.
+pub fn taken_at(v: &mut ArrayVec<[u32; 4]>, i: usize) -> Option<u32>
+    ensures { IsSome result ↔ (i < items_len v.old) }
+{
+    v.pop_at(i)
+}
+
+/// Numbers appended where all of them fit. Else nothing changes.
+pub fn append_all(v: &mut ArrayVec<[u32; 4]>, numbers: &[u32]) -> Result<(), TryFromSliceError>
+    ensures fits { IsOk result ↔ (items_len v.old + length numbers.now ≤ 4) }
+    ensures items { items v.new ≡ (if is_ok result then items v.old ++ numbers.now else items v.old) }
+{
+    v.try_extend_from_slice(numbers)
+}
+
+/// The items that are left, twice.
+pub fn both(
+    items: ArrayVecIterator<[u32; 4]>,
+) -> Result<(ArrayVecIterator<[u32; 4]>, ArrayVecIterator<[u32; 4]>), AllocError> {
+    let copy = items.clone()?;
+    Ok((items, copy))
 }

@@ -1,7 +1,8 @@
 //! Callers of slice methods, which an `ArrayVec` and a `TinyVec` have as slices do.
-ghost use Rattle.std.specs.Prelude.{◌≡◌, ◌+◌, ◌<◌, ◌≤◌, length};
+ghost use Rattle.std.specs.Prelude.{◌≡◌, ◌+◌, ◌<◌, ◌≤◌, ◌++◌, ◌∷◌, [], length, take, drop, swap, IsPermutation};
+ghost use Rattle.std.specs.List.Sorted.{IsNonDecreasing};
 ghost use Rattle.tinyvec.specs.Slots.{items, items_len, spare};
-ghost use Rattle.tinyvec.specs.Tiny.{tiny_len, is_inline};
+ghost use Rattle.tinyvec.specs.TinyVec.{tiny_items, tiny_len, is_inline};
 
 use tinyvec::{ArrayVec, TinyVec};
 
@@ -39,7 +40,7 @@ fn len_of(numbers: &[u32]) -> usize
 /// The first two items in each other's place. The spare slots stay.
 pub fn swap_first_two(v: &mut ArrayVec<[u32; 4]>)
     requires { 2 ≤ items_len v.old }
-    ensures len { items_len v.new ≡ items_len v.old }
+    ensures items { items v.new ≡ swap (items v.old) 0 1 }
     ensures spare { spare v.new ≡ spare v.old }
 {
     v.swap(0, 1);
@@ -47,7 +48,8 @@ pub fn swap_first_two(v: &mut ArrayVec<[u32; 4]>)
 
 /// The items in order, where they are.
 pub fn sort(v: &mut TinyVec<[u32; 4]>)
-    ensures len { tiny_len v.new ≡ tiny_len v.old }
+    ensures sorted { IsNonDecreasing (tiny_items v.new) }
+    ensures eq_slices { IsPermutation (tiny_items v.old) (tiny_items v.new) }
     ensures place { is_inline v.new ≡ is_inline v.old }
 {
     v.sort_unstable();
@@ -56,7 +58,8 @@ pub fn sort(v: &mut TinyVec<[u32; 4]>)
 /// Two bytes written over the second and the third.
 pub fn overwrite(v: &mut TinyVec<[u8; 4]>)
     requires { 3 ≤ tiny_len v.old }
-    ensures { tiny_len v.new ≡ tiny_len v.old }
+    ensures items { tiny_items v.new ≡ take 1 (tiny_items v.old) ++ 7 ∷ 8 ∷ [] ++ drop 3 (tiny_items v.old) }
+    ensures place { is_inline v.new ≡ is_inline v.old }
 {
     v[1..3].copy_from_slice(&[7, 8]);
 }

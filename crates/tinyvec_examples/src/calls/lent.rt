@@ -1,6 +1,6 @@
 //! Callers of a `SliceVec`.
 ghost use Rattle.std.specs.Prelude.{◌≡◌, ◌+◌, ◌<◌, ◌≤◌, ◌↔◌, length, IsTrue, IsSome};
-ghost use Rattle.tinyvec_slice.specs.View.{items, spare, slots};
+ghost use Rattle.tinyvec_slice.specs.SliceVec.{items, spare, slots};
 
 use tinyvec_slice::SliceVec;
 
@@ -59,4 +59,16 @@ pub fn parted(v: &mut SliceVec<'_, u8>, n: usize) -> usize
 {
     let tail = v.split_off(n);
     tail.len()
+}
+
+/// How many items still fit.
+pub fn left(v: &SliceVec<'_, u8>) -> usize
+    ensures { result ≡ length (spare v.now) }
+{
+    v.remaining_capacity()
+}
+
+/// The last item, as of a slice.
+pub fn last(v: &SliceVec<'_, u8>) -> Option<u8> {
+    v.last().copied()
 }

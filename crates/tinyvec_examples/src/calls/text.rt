@@ -1,7 +1,7 @@
 //! Callers of an `InlineText`.
 ghost use Rattle.std.specs.Prelude.{◌≡◌, ◌<◌, [], length, IsTrue, IfOk, IsOk};
-ghost use Rattle.tinyvec.specs.Tiny.{tiny_items};
-ghost use Rattle.tinyvec_text.specs.Text.{text_chars};
+ghost use Rattle.tinyvec.specs.TinyVec.{tiny_items};
+ghost use Rattle.tinyvec_text.specs.InlineText.{text_chars};
 
 use std::alloc::{AllocError, Global};
 use tinyvec::TinyVec;
@@ -20,7 +20,7 @@ pub fn room(text: &InlineText<8>) -> usize {
     text.capacity() - text.len()
 }
 
-/// Whether it takes no memory of the heap.
+/// Whether it allocates nothing of the heap.
 pub fn is_in_value(text: &InlineText<8>) -> bool
     ensures { result ≡ text.now.inline }
 {

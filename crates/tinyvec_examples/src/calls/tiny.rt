@@ -1,12 +1,12 @@
 //! Callers of a `TinyVec`.
-ghost use Rattle.std.specs.Prelude.{◌≡◌, ◌≢◌, ◌+◌, ◌-◌, ◌<◌, ◌≤◌, ◌∷◌, [], ◌++◌, ◌↔◌, length, take, insert, remove, pos, false, IsTrue, IsOk, OnOk, OnErr, IfOk};
+ghost use Rattle.std.specs.Prelude.{◌≡◌, ◌≢◌, ◌+◌, ◌-◌, ◌<◌, ◌≤◌, ◌∷◌, [], ◌++◌, ◌↔◌, length, take, insert, remove, pos, false, IsTrue, IsSome, IsOk, OnOk, OnErr, IfOk};
 ghost use Rattle.std.specs.Box.{boxed_slice_items};
 ghost use Rattle.tinyvec_array.specs.Slots.{items};
-ghost use Rattle.tinyvec.specs.Tiny.{tiny_items, tiny_len, tiny_capacity, is_inline, IsInline, Unchanged};
+ghost use Rattle.tinyvec.specs.TinyVec.{tiny_items, tiny_len, tiny_capacity, is_inline, IsInline, Unchanged};
 
 use std::alloc::{AllocError, Global};
 use std::boxed::BoxedSlice;
-use tinyvec::{Array, ArrayVec, TinyVec};
+use tinyvec::{Array, ArrayVec, TinyVec, TinyVecIterator};
 
 /// The whole array is the list.
 pub fn of_array(alloc: Global) -> TinyVec<[i32; 3]>
@@ -77,7 +77,7 @@ pub fn is_somewhere<A: Array>(v: &TinyVec<A>) -> bool
     v.is_inline() || v.is_heap()
 }
 
-/// Appends an item where there is room, which takes no memory.
+/// Appends an item where there is room, which allocates nothing.
 pub fn push_if_room<A: Array>(v: &mut TinyVec<A>, x: A::Item)
     ensures room { tiny_len v.old < tiny_capacity A.CAPACITY v.old → tiny_items v.new ≡ tiny_items v.old ++ x ∷ [] }
     ensures place { is_inline v.new ≡ is_inline v.old }
@@ -118,7 +118,7 @@ pub fn first_swapped(alloc: Global) -> (i32, TinyVec<[i32; 4]>)
     (first, v)
 }
 
-/// Bytes behind the list, which takes no memory where there is room for them.
+/// Bytes after the list, which allocates nothing where there is room for them.
 pub fn with_bytes(v: &mut TinyVec<[u8; 16]>, bytes: &[u8]) -> Result<(), AllocError>
     ensures items { OnOk result (tiny_items v.new ≡ tiny_items v.old ++ bytes.now) }
     ensures succeeds { tiny_len v.old + length bytes.now ≤ tiny_capacity 16 v.old → IsOk result }
@@ -214,7 +214,7 @@ pub fn first_zeroed(v: &mut TinyVec<[u8; 8]>)
     }
 }
 
-/// All items, moved behind those of a `Vec` that has room.
+/// All items, moved after those of a `Vec` that has room.
 pub fn moved_into<A: Array>(v: &mut TinyVec<A>, alloc: Global) -> Result<Vec<A::Item>, AllocError>
     ensures moved { IfOk result (λ out. out.items ≡ tiny_items v.old) }
     ensures left { OnOk result (tiny_items v.new ≡ []) }
@@ -309,4 +309,26 @@ pub fn touches_of_cut(v: &mut TinyVec<[u8; 8]>, n: usize) -> u128
 {
     let (_, touches) = v.splice(..n, None).finish_counted();
     touches
+}
+
+/// An empty list, which allocates from where this one does.
+pub fn beside(v: &TinyVec<[u32; 4]>) -> TinyVec<[u32; 4]>
+    ensures { tiny_items result ≡ [] }
+{
+    TinyVec::new(*v.allocator())
+}
+
+/// The item at a place, taken out, or `None` past the end.
+pub fn taken_at(v: &mut TinyVec<[u32; 4]>, i: usize) -> Option<u32>
+    ensures { IsSome result ↔ (i < tiny_len v.old) }
+{
+    v.pop_at(i)
+}
+
+/// The items that are left, twice.
+pub fn both(
+    items: TinyVecIterator<[u32; 4]>,
+) -> Result<(TinyVecIterator<[u32; 4]>, TinyVecIterator<[u32; 4]>), AllocError> {
+    let copy = items.clone()?;
+    Ok((items, copy))
 }

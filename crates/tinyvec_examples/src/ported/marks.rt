@@ -1,6 +1,6 @@
 //! The buffer of a Unicode normaliser: characters whose marks are still to be sorted.
 ghost use Rattle.std.specs.Prelude.{◌≤◌};
-ghost use Rattle.tinyvec.specs.Tiny.{tiny_len};
+ghost use Rattle.tinyvec.specs.TinyVec.{tiny_len};
 
 use std::alloc::{AllocError, Global};
 use tinyvec::TinyVec;

@@ -4,7 +4,7 @@ ghost use Rattle.tinyvec_array.specs.Slots.{items, spare, items_len, AreDefaults
 
 use tinyvec_array::{Array, ArrayVec};
 
-/// What was pushed is popped, the items are the same, and the slot that it stood in holds a default.
+/// What was pushed is popped, the items are the same, and its slot holds a default.
 pub fn push_then_pop<A: Array>(v: &mut ArrayVec<A>, x: A::Item) -> Option<A::Item>
     requires { items_len v.old < A.CAPACITY }
     ensures back { result ≡ Some x }

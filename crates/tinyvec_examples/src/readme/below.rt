@@ -1,7 +1,7 @@
 //! Numbers below a limit, in a list that rarely needs the heap.
 ghost use Rattle.std.specs.Prelude.{◌≡◌, ◌≤◌, nat_lt, length, IfOk, IsOk};
 ghost use Rattle.std.specs.List.{filter};
-ghost use Rattle.tinyvec.specs.Tiny.{tiny_items, IsInline};
+ghost use Rattle.tinyvec.specs.TinyVec.{tiny_items, IsInline};
 
 use std::alloc::{AllocError, Global};
 use tinyvec::TinyVec;

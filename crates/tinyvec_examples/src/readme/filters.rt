@@ -2,7 +2,7 @@
 ghost use Rattle.std.specs.Prelude.{◌≡◌, ◌==◌, ◌%◌, nat_lt};
 ghost use Rattle.std.specs.List.{filter};
 ghost use Rattle.tinyvec.specs.Slots.{items};
-ghost use Rattle.tinyvec.specs.Tiny.{tiny_items};
+ghost use Rattle.tinyvec.specs.TinyVec.{tiny_items};
 
 use tinyvec::{ArrayVec, TinyVec};
 

@@ -1,6 +1,6 @@
 //! A name joined from its parts.
 ghost use Rattle.std.specs.Prelude.{◌≡◌, ◌+◌, ◌≤◌, ◌++◌, ◌∷◌, [], ◌↔◌, length, chars, IsTrue, IfOk};
-ghost use Rattle.tinyvec_text.specs.Text.{text_chars};
+ghost use Rattle.tinyvec_text.specs.InlineText.{text_chars};
 
 use std::alloc::{AllocError, Global};
 use tinyvec_text::InlineText;

@@ -1,7 +1,7 @@
 //! Items pushed in a loop, where each push may be refused.
 ghost use Rattle.std.specs.Prelude.{◌≡◌, ◌≤◌, ◌-◌, ◌++◌, ◌↔◌, ℕ, length, take, IsTrue, OnOk, OnErr};
 ghost use Rattle.tinyvec.specs.Slots.{items, items_len};
-ghost use Rattle.tinyvec.specs.Tiny.{tiny_items};
+ghost use Rattle.tinyvec.specs.TinyVec.{tiny_items};
 
 use std::alloc::AllocError;
 use tinyvec::{ArrayVec, TinyVec};
@@ -22,7 +22,7 @@ pub fn push_while_room(v: &mut ArrayVec<[u32; 8]>, numbers: &[u32]) -> bool
     true
 }
 
-/// Pushes the numbers until memory is refused: `?` drops the number that the refused push hands back.
+/// Pushes the numbers until memory is refused: `?` drops the number that the refused push returns.
 pub fn push_each(v: &mut TinyVec<[u32; 8]>, numbers: &[u32]) -> Result<(), AllocError>
     ensures ok { OnOk result (tiny_items v.new ≡ tiny_items v.old ++ numbers.now) }
     ensures refused { OnErr result ((k : ℕ) × (tiny_items v.new ≡ tiny_items v.old ++ take k numbers.now)) }

@@ -3,7 +3,7 @@ ghost use Rattle.std.specs.Prelude.{◌≡◌, ◌+◌, ◌≤◌, [], ◌∷◌
 
 use tinyvec_slice::SliceVec;
 
-/// A push writes the slot behind the list, and no other: the owner of the slots sees it.
+/// A push writes the slot after the list, and no other: the owner of the slots sees it.
 pub fn pushed(slots: &mut [u8])
     requires { 3 ≤ length slots.old }
     ensures { slots.new ≡ take 2 slots.old ++ 7 ∷ [] ++ drop 3 slots.old }

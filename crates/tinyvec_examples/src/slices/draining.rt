@@ -2,21 +2,21 @@
 //! One that names `SliceVec` knows it by `drain_each` and `drain_into`.
 ghost use Rattle.std.specs.Prelude.{◌≡◌, ◌≤◌, ◌-◌, ◌+◌, ◌++◌, ◌∷◌, [], pos, length, take, drop, slice_get, slice_range, vec_len, vec_capacity};
 ghost use Rattle.std.specs.List.{remove_range};
-ghost use Rattle.tinyvec_slice.specs.Slots.{Frees};
+ghost use Rattle.tinyvec_slice.specs.Slots.{Vacates};
 ghost use Rattle.tinyvec_slice.specs.Cut.{IsRangeOf, before, after};
-ghost use Rattle.tinyvec_slice.specs.View.{items_of, name_of, seen_of, items, spare, name};
+ghost use Rattle.tinyvec_slice.specs.SliceVec.{items_of, name_of, seen_of, items, spare, name};
 
 use std::ops::RangeBounds;
-use tinyvec_slice::{Lent, SliceVec, SliceVecOver};
+use tinyvec_slice::{GenericSliceVec, Lent, SliceVec};
 
 /// Left at the end of its scope, after one item of two.
-pub fn drain_one<B: Lent>(v: &mut SliceVecOver<B>) -> Option<B::Item>
+pub fn drain_one<B: Lent>(v: &mut GenericSliceVec<B>) -> Option<B::Item>
 where
     B::Item: Default,
     requires { 3 ≤ length (items_of B.Lent v.old) }
     ensures same_reference { name_of B.Lent v.new ≡ name_of B.Lent v.old }
     ensures items { items_of B.Lent v.new ≡ remove_range (items_of B.Lent v.old) 1 3 }
-    ensures spare { Frees B.Item.is_default 2 (seen_of B.Lent v.old) (seen_of B.Lent v.new) }
+    ensures spare { Vacates B.Item.is_default 2 (seen_of B.Lent v.old) (seen_of B.Lent v.new) }
     ensures value { result ≡ slice_get (items_of B.Lent v.old) 1 }
 {
     let mut d = v.drain(1..3);
@@ -35,11 +35,11 @@ pub fn one_drained() -> [i32; 5]
     array
 }
 
-/// Any range of any vector: what stood before and after it is left.
-pub fn cut<B: Lent, R: RangeBounds<usize>>(v: &mut SliceVecOver<B>, range: R)
+/// Any range of any vector: what preceded and followed it is left.
+pub fn cut<B: Lent, R: RangeBounds<usize>>(v: &mut GenericSliceVec<B>, range: R)
 where
     B::Item: Default,
-    requires known { R.has_bounds range }
+    requires not_exhausted { R.has_bounds range }
     requires in_list { IsRangeOf (items_of B.Lent v.old) (R.start_bound range) (R.end_bound range) }
     ensures same_reference { name_of B.Lent v.new ≡ name_of B.Lent v.old }
     ensures items { items_of B.Lent v.new
@@ -48,9 +48,9 @@ where
     let _items = v.drain(range);
 }
 
-/// Moves the items from `start` up to `end` behind those of `out`, which has room for them.
+/// Moves the items from `start` up to `end` after those of `out`, which has room for them.
 pub fn drain_into<B: Lent>(
-    v: &mut SliceVecOver<B>,
+    v: &mut GenericSliceVec<B>,
     start: usize,
     end: usize,
     out: &mut Vec<B::Item>,
@@ -62,7 +62,7 @@ where
     requires room { vec_len out.old + (end - start) ≤ vec_capacity out.old }
     ensures same_reference { name_of B.Lent v.new ≡ name_of B.Lent v.old }
     ensures items { items_of B.Lent v.new ≡ remove_range (items_of B.Lent v.old) start end }
-    ensures spare { Frees B.Item.is_default (end - start) (seen_of B.Lent v.old) (seen_of B.Lent v.new) }
+    ensures spare { Vacates B.Item.is_default (end - start) (seen_of B.Lent v.old) (seen_of B.Lent v.new) }
     ensures moved { out.new.items ≡ out.old.items ++ slice_range (items_of B.Lent v.old) start end }
 {
     for x in v.drain(start..end) {
@@ -70,7 +70,7 @@ where
     }
 }
 
-/// A caller by name: the items are taken one by one, and what stood before and after them is left.
+/// A caller by name: the items are taken one by one, and what preceded and followed them is left.
 pub fn drop_two(v: &mut SliceVec<'_, i32>)
     requires { 3 ≤ length (items v.old) }
     ensures same_reference { name v.new ≡ name v.old }
@@ -108,7 +108,7 @@ pub fn counted(slots: &mut [i32]) -> u64
     n
 }
 
-/// A caller by name: the items from the second on move behind those of `out`.
+/// A caller by name: the items from the second on move after those of `out`.
 pub fn move_tail(v: &mut SliceVec<'_, i32>, out: &mut Vec<i32>)
     requires list { 1 ≤ length (items v.old) }
     requires room { vec_len out.old + length (items v.old) ≤ vec_capacity out.old }

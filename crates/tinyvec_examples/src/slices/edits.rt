@@ -1,10 +1,10 @@
 //! What the owner sees after pushes and edits.
 ghost use Rattle.std.specs.Prelude.{◌≡◌, ◌<◌, ◌≤◌, ◌+◌, ◌∷◌, [], length, take, drop, insert, pos, remove};
-ghost use Rattle.tinyvec_slice.specs.View.{items, spare, name};
+ghost use Rattle.tinyvec_slice.specs.SliceVec.{items, spare, name};
 
 use tinyvec_slice::SliceVec;
 
-/// A push writes the slot behind the list, in an array.
+/// A push writes the slot after the list, in an array.
 pub fn pushed_in_array() -> [i32; 4]
     ensures { result ≡ pos 1 ∷ pos 2 ∷ pos 7 ∷ pos 8 ∷ [] }
 {
@@ -15,7 +15,7 @@ pub fn pushed_in_array() -> [i32; 4]
     array
 }
 
-/// As many pushes as it is told, in a loop.
+/// Pushes in a loop.
 pub fn push_fives(v: &mut SliceVec<'_, i32>, n: usize)
     requires { n ≤ length (spare v.old) }
     ensures same_reference { name v.new ≡ name v.old }
@@ -50,7 +50,7 @@ pub fn edit(v: &mut SliceVec<'_, i32>)
     v.insert(1, 8);
 }
 
-/// The owner sees the list, then a default in the vacated slot, then what stood behind.
+/// The owner sees the list, then a default in the vacated slot, then what followed.
 pub fn edited() -> [i32; 5]
     ensures { result ≡ pos 1 ∷ pos 8 ∷ pos 3 ∷ pos 0 ∷ pos 9 ∷ [] }
 {
@@ -107,7 +107,7 @@ pub fn border_moved(slots: &mut [u8], n: usize)
     v.set_len(n);
 }
 
-/// The items of one vector move behind those of another.
+/// The items of one vector move after those of another.
 pub fn appended() -> ([i32; 4], [i32; 3])
     ensures longer { result.0 ≡ pos 1 ∷ pos 2 ∷ pos 3 ∷ pos 9 ∷ [] }
     ensures emptied { result.1 ≡ pos 0 ∷ pos 0 ∷ pos 8 ∷ [] }

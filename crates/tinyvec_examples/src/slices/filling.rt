@@ -37,7 +37,7 @@ pub fn resized() -> [i32; 4]
     array
 }
 
-/// Clones behind the list.
+/// Clones after the list.
 pub fn extended_by_clones() -> [i32; 4]
     ensures { result ≡ pos 1 ∷ pos 2 ∷ pos 3 ∷ pos 9 ∷ [] }
 {
@@ -47,7 +47,7 @@ pub fn extended_by_clones() -> [i32; 4]
     array
 }
 
-/// The even items are kept, and the slots of the others stand before those behind the list.
+/// The even items are kept, and the slots of the others precede the spare slots.
 pub fn retained() -> [u8; 5]
     ensures { result ≡ 2 ∷ 4 ∷ 0 ∷ 0 ∷ 9 ∷ [] }
 {

@@ -1,8 +1,8 @@
 //! Writes through what the vector lends. The owner sees each of them.
 ghost use Rattle.std.specs.Prelude.{◌≡◌, ◌<◌, ◌≤◌, ◌∷◌, [], ◌++◌, length, drop, slice_set};
-ghost use Rattle.tinyvec_slice.specs.View.{items, spare, slots, name, seen, items_of, name_of};
+ghost use Rattle.tinyvec_slice.specs.SliceVec.{items, spare, slots, name, seen, items_of, name_of};
 
-use tinyvec_slice::{Lent, SliceVec, SliceVecOver};
+use tinyvec_slice::{GenericSliceVec, Lent, SliceVec};
 
 /// Two items, through the slice of the items.
 pub fn write_two(v: &mut SliceVec<'_, u8>)
@@ -37,7 +37,7 @@ pub fn write_at(v: &mut SliceVec<'_, u8>, i: usize, x: u8)
 }
 
 /// The same of any vector in lent slots.
-pub fn write_any<B: Lent>(v: &mut SliceVecOver<B>, i: usize, x: B::Item)
+pub fn write_any<B: Lent>(v: &mut GenericSliceVec<B>, i: usize, x: B::Item)
     requires { i < length (items_of B.Lent v.old) }
     ensures same_reference { name_of B.Lent v.new ≡ name_of B.Lent v.old }
     ensures items { items_of B.Lent v.new ≡ slice_set (items_of B.Lent v.old) i x }

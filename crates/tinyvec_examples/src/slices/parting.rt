@@ -1,7 +1,7 @@
 //! What is lent, parted in the caller's own body. Its owner sees what was done to both parts, which no caller of
 //! `split_off` can know.
 ghost use Rattle.std.specs.Prelude.{◌≡◌, ◌≤◌, length, slice_set};
-ghost use Rattle.tinyvec_slice.specs.View.{items, slots, name, seen};
+ghost use Rattle.tinyvec_slice.specs.SliceVec.{items, slots, name, seen};
 
 use tinyvec_slice::SliceVec;
 

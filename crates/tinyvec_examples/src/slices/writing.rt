@@ -2,15 +2,15 @@
 ghost use Rattle.std.specs.Prelude.{◌≡◌, ◌≤◌, ◌↔◌, ◌++◌, ◌∷◌, [], length, drop, codes, OnOk, IsTrue};
 ghost use Rattle.std.specs.Bool.{OnTrue, OnFalse};
 ghost use Rattle.std.specs.Fmt.{decimal};
-ghost use Rattle.tinyvec_slice.specs.View.{items_of, spare_of, name_of, items, spare, name};
+ghost use Rattle.tinyvec_slice.specs.SliceVec.{items_of, spare_of, name_of, items, spare, name};
 
 use std::fmt;
 use std::fmt::Write;
-use tinyvec_slice::{Lent, SliceVec, SliceVecOver};
+use tinyvec_slice::{GenericSliceVec, Lent, SliceVec};
 
-/// Two numbers and text between them, behind the list of any vector of bytes. Where not all of it fits, the caller of
+/// Two numbers and text between them, after the list of any vector of bytes. Where not all of it fits, the caller of
 /// `write!` knows nothing of the vector.
-pub fn write_pair<B: Lent<Item = u8>>(v: &mut SliceVecOver<B>, x: u32, y: u32) -> fmt::Result
+pub fn write_pair<B: Lent<Item = u8>>(v: &mut GenericSliceVec<B>, x: u32, y: u32) -> fmt::Result
     ensures same_reference { OnOk result (name_of B.Lent v.new ≡ name_of B.Lent v.old) }
     ensures items { OnOk result
         (items_of B.Lent v.new ≡ items_of B.Lent v.old ++ (decimal x ++ (codes ", " ++ decimal y))) }
@@ -41,8 +41,8 @@ pub fn pair_into(bytes: &mut [u8], x: u32, y: u32) -> bool
     write_pair(&mut v, x, y).is_ok()
 }
 
-/// Any text behind the list of any vector of bytes. It is written as a whole or not at all.
-pub fn write_text<B: Lent<Item = u8>>(v: &mut SliceVecOver<B>, s: &str) -> bool
+/// Any text after the list of any vector of bytes. It is written as a whole or not at all.
+pub fn write_text<B: Lent<Item = u8>>(v: &mut GenericSliceVec<B>, s: &str) -> bool
     ensures fits { IsTrue result ↔ (length s.now ≤ length (spare_of B.Lent v.old)) }
     ensures same_reference { name_of B.Lent v.new ≡ name_of B.Lent v.old }
     ensures items { OnTrue result (items_of B.Lent v.new ≡ items_of B.Lent v.old ++ s.now) }

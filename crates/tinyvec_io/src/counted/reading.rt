@@ -1,4 +1,4 @@
-//! The counted end as a reader.
+//! `Counted` as a reader.
 ghost use Rattle.std.specs.Prelude.{◌≡◌, ◌≢◌, ◌<◌, ◌≤◌, OnErr, IfOk, IfErr, length, take};
 ghost use Rattle.std.specs.List.{AllByRecursion};
 ghost use Rattle.std.specs.Io.{ReadsAtMost};
@@ -29,10 +29,9 @@ impl<R: Read> Read for Counted<R> {
 }
 
 impl<R: Read> Counted<R> {
-    /// Reads some bytes, and tries again where it was interrupted. An answer of 0 is the end of
-    /// input.
+    /// Reads some bytes, and retries after an interruption. Returns 0 at the end of input.
     ///
-    /// Each interruption counts. After `u64::MAX` of them it gives up with `ErrorKind::TimedOut`.
+    /// Each interruption counts. After `u64::MAX` of them it fails with `ErrorKind::TimedOut`.
     pub fn read_some(&mut self, buf: &mut [u8]) -> io::Result<usize>
         requires { 0 < length buf.old }
         ensures bound { ReadsAtMost result buf.new }
@@ -54,8 +53,8 @@ impl<R: Read> Counted<R> {
         Err(io::Error::from(ErrorKind::TimedOut))
     }
 
-    /// Reads until the buffer is full or the input has ended, and answers how many bytes it read. It
-    /// tries again where it was interrupted.
+    /// Reads until the buffer is full or the input ends, and returns the number of bytes read. Retries after an
+    /// interruption.
     pub fn fill(&mut self, buf: &mut [u8]) -> io::Result<usize>
         ensures bound { ReadsAtMost result buf.new }
         ensures bytes { IfOk result (λ n. Consumes (R.remaining self.old.end)

@@ -1,4 +1,4 @@
-//! The counted end as a writer.
+//! `Counted` as a writer.
 ghost use Rattle.std.specs.Prelude.{◌≡◌, ◌≢◌, ◌<◌, ◌≤◌, OnOk, OnErr, IfOk, IfErr, length};
 ghost use Rattle.std.specs.Io.{WritesAtMost};
 ghost use Rattle.std.specs.Io.KnownBytes.{Keeps, Appends, WriteAppends};
@@ -42,10 +42,10 @@ impl<W: Write> Write for Counted<W> {
         result
     }
 
-    /// Writes all the bytes, a piece after another, and tries again where it was interrupted.
+    /// Writes all the bytes, in as many writes as that takes, and retries after an interruption.
     ///
-    /// Each interruption counts. Where a write takes nothing it fails with `ErrorKind::WriteZero`,
-    /// and after `u64::MAX` interruptions of a piece with `ErrorKind::TimedOut`.
+    /// Each interruption counts. If a write returns `Ok(0)` it fails with `ErrorKind::WriteZero`, and after `u64::MAX`
+    /// interruptions of one write with `ErrorKind::TimedOut`.
     fn write_all(&mut self, buf: &[u8]) -> io::Result<()>
         ensures bytes { OnOk result (Appends (W.contents self.old.end) (W.contents self.new.end)
             buf.now) }
@@ -65,7 +65,7 @@ impl<W: Write> Write for Counted<W> {
 }
 
 impl<W: Write> Counted<W> {
-    // Writes some of the bytes, and tries again where it was interrupted.
+    // Writes some of the bytes, and retries after an interruption.
     fn write_some(&mut self, buf: &[u8]) -> io::Result<usize>
         requires { 0 < length buf.now }
         ensures some { IfOk result (λ n. 0 < n) }

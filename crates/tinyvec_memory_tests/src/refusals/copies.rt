@@ -89,7 +89,7 @@ fn with_much_room(alloc: Global) -> Result<Three, AllocError> {
     Ok(heap)
 }
 
-// What is on the heap takes no memory.
+// What is on the heap allocates nothing.
 fn is_a_vec(v: Three, items: &[i32]) -> bool {
     match v.into_vec() {
         Ok(vec) => vec.as_slice() == items,

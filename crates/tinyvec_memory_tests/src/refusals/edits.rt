@@ -31,7 +31,7 @@ fn splices(v: &mut TinyVec<[i32; 4]>) -> Met {
     if is_refused {
         wrong = first(wrong, 3, handed_back == Some((8, None)));
         wrong = first(wrong, 4, lies(v, &[1, 7, 9, 3], true));
-        // What was handed back is put in its place by another splice.
+        // What was returned is put in its place by another splice.
         wrong = first(wrong, 5, puts_in(v, 2, 8));
     }
     wrong = first(wrong, 6, lies(v, &[1, 7, 8, 9, 3], false));

@@ -47,7 +47,7 @@ fn write_on_the_heap(rt: HostRuntime) -> Result<(), Fail> {
 
 type Three = TinyVec<[i32; 3]>;
 
-// What a refused `extend` hands back: the item without room, and the two after it.
+// What a refused `extend` returns: the item without room, and the two after it.
 type Back = [Option<i32>; 3];
 
 fn extend(v: &mut Three, first: i32, last: i32) -> Option<Back> {
@@ -57,7 +57,7 @@ fn extend(v: &mut Three, first: i32, last: i32) -> Option<Back> {
     }
 }
 
-// The numbers are put behind a list, or up to the first that is refused and is handed back with the next.
+// The numbers are put after a list, or up to the first that is refused and is returned with the next.
 fn extends(v: &mut Three, numbers: (i32, i32), kept: &[i32], back: Back, items: &[i32]) -> Met {
     let inline = v.is_inline();
     let room = v.capacity();

@@ -19,7 +19,7 @@ fn one_two(alloc: Global) -> Result<Boxes, AllocError> {
     Ok(TinyVec::from_array(alloc, [owned(alloc, 1)?, owned(alloc, 2)?]))
 }
 
-// Whether a list has these numbers, and lies there.
+// Whether a list has these numbers, and is there.
 fn holds(v: &Boxes, numbers: &[i32], inline: bool) -> bool {
     v.is_inline() == inline
         && v.len() == numbers.len()
@@ -76,7 +76,7 @@ fn append_what_owns(rt: HostRuntime) -> Result<(), Fail> {
     told(&rt, appends(&mut v, &mut other))
 }
 
-// Each clone asks for memory too.
+// Each clone allocates too.
 type Letters = Option<Vec<u8>>;
 
 type Words = TinyVec<[Letters; 2]>;
@@ -98,7 +98,7 @@ fn spells(items: &[Letters], word: &[u8]) -> bool {
         })
 }
 
-// Whether a list spells this, and lies there.
+// Whether a list spells this, and is there.
 fn reads(v: &Words, word: &[u8], inline: bool) -> bool {
     (v.is_inline() == inline) & spells(v.as_slice(), word)
 }

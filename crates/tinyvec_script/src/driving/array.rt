@@ -10,8 +10,8 @@ use std::alloc::Global;
 use std::iter::Fuse;
 use tinyvec::{Array, ArrayVec, ArrayVecSplice, NoMemory};
 
-/// Replaces the items from `start` up to `end`. Before that an item is taken from each end that the word names. Room for
-/// what is taken and for what may find no room is asked for first: where it is refused, the replacement comes back.
+/// Replaces the items from `start` up to `end`. Before that it takes an item from each end that the word names. Allocates
+/// both result lists first; if that fails, returns the replacement and changes nothing.
 pub fn drive_array_splice<A: Array>(
     alloc: Global,
     vec: &mut ArrayVec<A>,

@@ -1,7 +1,7 @@
 //! A driven splice of a `TinyVec`.
 ghost use Rattle.std.specs.Prelude.{◌≡◌, ◌+◌, ◌<◌, ◌≤◌, IfOk, IfErr, OnErr, vec_len};
 ghost use Rattle.std.specs.Iterator.Adapters.{fuse_steps};
-ghost use Rattle.tinyvec.specs.Tiny.{tiny_items, tiny_len, tiny_capacity};
+ghost use Rattle.tinyvec.specs.TinyVec.{tiny_items, tiny_len, tiny_capacity};
 ghost use Rattle.tinyvec_script.specs.Driving.{TinySplices, SpliceComputes};
 
 use crate::End;
@@ -10,9 +10,9 @@ use std::alloc::Global;
 use std::iter::Fuse;
 use tinyvec::{Array, NoMemory, TinyVec, TinyVecSplice};
 
-/// Replaces the items from `start` up to `end`. Before that an item is taken from each end that the word names. Room for
-/// what is taken and for what may find no room, which is so where memory is refused for an item, is asked for first: where
-/// it is refused, the replacement comes back.
+/// Replaces the items from `start` up to `end`. Before that it takes an item from each end that the word names. Allocates
+/// both result lists first; if that fails, returns the replacement and changes nothing. Items find no room where the
+/// allocator refuses to grow the vector.
 pub fn drive_tiny_splice<A: Array>(
     alloc: Global,
     vec: &mut TinyVec<A>,
@@ -42,7 +42,7 @@ pub fn drive_tiny_splice<A: Array>(
 
 impl<'a, A: Array, I: DoubleEndedIterator<Item = A::Item>> TwoEnds
     for TinyVecSplice<'a, A, Fuse<I>> {
-    ghost use Rattle.tinyvec.specs.TinySplice.{SpliceCanNext, SpliceSteps, SpliceStepsBack};
+    ghost use Rattle.tinyvec.specs.TinyVecSplice.{SpliceCanNext, SpliceSteps, SpliceStepsBack};
 
     type Item = A::Item;
 

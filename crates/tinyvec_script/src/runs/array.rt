@@ -2,13 +2,13 @@
 ghost use Rattle.std.specs.Prelude.{◌≡◌, [], IsOk, IfOk, IfErr};
 ghost use Rattle.tinyvec_script.specs.Step.{ArrayStep, Run};
 
-use crate::array_step::answer_array;
+use crate::slots_step::answer_array;
 use crate::{Answer, Call};
 use std::alloc::Global;
 use tinyvec::{Array, ArrayVec, NoMemory};
 
-/// Makes the calls in order, and gives one answer to each. Room for all answers is asked for first: where that is
-/// refused, no call is made and the calls come back.
+/// Makes the calls in order, and returns one answer to each. Allocates room for all answers first; if that fails, makes no
+/// call and returns the calls.
 pub fn run_array<A: Array>(
     alloc: Global,
     vec: &mut ArrayVec<A>,

@@ -1,18 +1,18 @@
 //! A list of calls of a vector in lent slots.
 ghost use Rattle.std.specs.Prelude.{◌≡◌, [], IsOk, IfOk, IfErr};
-ghost use Rattle.tinyvec_slice.specs.View.{seen_of, name_of};
+ghost use Rattle.tinyvec_slice.specs.SliceVec.{seen_of, name_of};
 ghost use Rattle.tinyvec_script.specs.Step.{SliceStep, Run};
 
-use crate::slice_step::answer_slice;
+use crate::slots_step::answer_slice;
 use crate::{Answer, Call};
 use std::alloc::Global;
-use tinyvec::{Lent, NoMemory, SliceVecOver};
+use tinyvec::{GenericSliceVec, Lent, NoMemory};
 
-/// Makes the calls in order, and gives one answer to each. Room for all answers is asked for first: where that is
-/// refused, no call is made and the calls come back.
+/// Makes the calls in order, and returns one answer to each. Allocates room for all answers first; if that fails, makes no
+/// call and returns the calls.
 pub fn run_slice<B: Lent>(
     alloc: Global,
-    vec: &mut SliceVecOver<B>,
+    vec: &mut GenericSliceVec<B>,
     calls: Vec<Call<B::Item>>,
 ) -> Result<Vec<Answer<B::Item>>, NoMemory<Vec<Call<B::Item>>>>
 where

@@ -9,8 +9,8 @@ use crate::{Answer, Call};
 use std::alloc::Global;
 use tinyvec::{Array, NoMemory, TinyVec};
 
-/// Makes the calls in order, and gives one answer to each. Room for all answers is asked for first: where that is
-/// refused, no call is made and the calls come back.
+/// Makes the calls in order, and returns one answer to each. Allocates room for all answers first; if that fails, makes no
+/// call and returns the calls.
 pub fn run_tiny<A: Array>(
     alloc: Global,
     vec: &mut TinyVec<A>,

@@ -6,7 +6,7 @@ use tinyvec::{Array, TinyVec};
 use tinyvec_borsh::{BorshDeserialize, BorshError};
 use tinyvec_io::Counted;
 
-// What came of so many copies of an item behind their count, which are read onto the heap, or, with a request refused, at the
+// What came of `n` copies of an item after their count, which are read onto the heap, or, with a request refused, at the
 // second time.
 fn read<A: Array>(
     alloc: Global,

@@ -136,7 +136,7 @@ ok [] heap
 range [] heap
 bad
 ",
-        // without a drain: both items are left, so that there is one to insert behind
+        // without a drain: both items are left, so that there is one to insert after
         b"ok [1] inline
 ok [1, 2] inline
 ok [1, 2] inline

@@ -1,13 +1,26 @@
-//! Items put in and taken out at a place.
-ghost use Rattle.std.specs.Prelude.{◌≡◌, ◌-◌, ◌<◌, ◌≤◌, length, drop, slice_index_or, remove, insert};
+//! Items that are pushed, popped, inserted, removed and cut off.
+ghost use Rattle.std.specs.Prelude.{◌≡◌, ◌-◌, ◌<◌, ◌↔◌, [], ◌∷◌, ◌++◌, length, take, drop, slice_get, slice_index_or, IsSome, OnSome, IfNone, IfSome, ◌≤◌, remove, insert};
+ghost use Rattle.tinyvec_slice.specs.SliceVec.{items_of, spare_of, name_of, len_of, VacatesOf, items, spare};
 ghost use Rattle.std.specs.List.{swap_remove, SwappedAt};
-ghost use Rattle.tinyvec_slice.specs.View.{items_of, spare_of, name_of, len_of, FreesOf};
 
-use crate::slots::{insert_slot, last_slot_to, remove_slot};
-use crate::{Lent, SliceVecOver};
+use crate::slots::{fill_default_in, insert_slot, last_slot_to, remove_slot, take_slot};
+use crate::{GenericSliceVec, Lent, SliceVec};
+use std::mem;
 use tinyvec_slots::are_short;
 
-impl<B: Lent> SliceVecOver<B> {
+impl<B: Lent> GenericSliceVec<B> {
+    /// Appends `x`.
+    pub fn push(&mut self, x: B::Item)
+        requires { 0 < length (spare_of B.Lent self.old) }
+        ensures same_reference { name_of B.Lent self.new ≡ name_of B.Lent self.old }
+        ensures items { items_of B.Lent self.new ≡ items_of B.Lent self.old ++ x ∷ [] }
+        ensures spare { spare_of B.Lent self.new ≡ drop 1 (spare_of B.Lent self.old) }
+    {
+        let len = self.len();
+        self.lent.all_mut()[len] = x;
+        self.len = len + 1;
+    }
+
     /// Puts `x` at `i`, and moves the later items up.
     pub fn insert(&mut self, i: usize, x: B::Item)
         requires in_list { i ≤ len_of B.Lent self.old }
@@ -40,7 +53,42 @@ impl<B: Lent> SliceVecOver<B> {
     }
 }
 
-impl<B: Lent> SliceVecOver<B>
+impl<B: Lent> GenericSliceVec<B>
+where
+    B::Item: Default,
+{
+    /// Takes the last item, and leaves a default in its slot.
+    pub fn pop(&mut self) -> Option<B::Item>
+        ensures same_reference { name_of B.Lent self.new ≡ name_of B.Lent self.old }
+        ensures variant { IsSome result ↔ (0 < len_of B.Lent self.old) }
+        ensures some { IfSome result (λ x. items_of B.Lent self.old ≡ items_of B.Lent self.new ++ x ∷ []) }
+        ensures value { result ≡ slice_get (items_of B.Lent self.old) (len_of B.Lent self.old - 1) }
+        ensures items { items_of B.Lent self.new ≡ take (len_of B.Lent self.old - 1) (items_of B.Lent self.old) }
+        ensures spare { OnSome result (VacatesOf B.Lent B.Item.is_default 1 self.old self.new) }
+        ensures empty { IfNone result (self.new ≡ self.old) }
+    {
+        if self.is_empty() {
+            return None;
+        }
+        Some(self.take_last())
+    }
+
+    // Takes the last item.
+    pub(crate) fn take_last(&mut self) -> B::Item
+        requires { 0 < len_of B.Lent self.old }
+        ensures same_reference { name_of B.Lent self.new ≡ name_of B.Lent self.old }
+        ensures items { items_of B.Lent self.old ≡ items_of B.Lent self.new ++ result ∷ [] }
+        ensures rest { items_of B.Lent self.new ≡ take (len_of B.Lent self.old - 1) (items_of B.Lent self.old) }
+        ensures value { result ≡ slice_index_or (items_of B.Lent self.old) (len_of B.Lent self.old - 1) result }
+        ensures spare { VacatesOf B.Lent B.Item.is_default 1 self.old self.new }
+    {
+        let last = self.len() - 1;
+        self.len = last;
+        take_slot(&mut self.lent, last)
+    }
+}
+
+impl<B: Lent> GenericSliceVec<B>
 where
     B::Item: Default,
 {
@@ -50,7 +98,7 @@ where
         ensures same_reference { name_of B.Lent self.new ≡ name_of B.Lent self.old }
         ensures value { result ≡ slice_index_or (items_of B.Lent self.old) i result }
         ensures items { items_of B.Lent self.new ≡ remove (items_of B.Lent self.old) i }
-        ensures spare { FreesOf B.Lent B.Item.is_default 1 self.old self.new }
+        ensures spare { VacatesOf B.Lent B.Item.is_default 1 self.old self.new }
     {
         let len = self.len();
         if are_short(&self.as_slice()[i..]) {
@@ -58,7 +106,7 @@ where
             self.len = len - 1;
             return item;
         }
-        self.items_to_end(i, i + 1);
+        self.move_to_end(i, i + 1);
         self.take_last()
     }
 
@@ -68,10 +116,60 @@ where
         ensures same_reference { name_of B.Lent self.new ≡ name_of B.Lent self.old }
         ensures value { result ≡ slice_index_or (items_of B.Lent self.old) i result }
         ensures items { items_of B.Lent self.new ≡ swap_remove (items_of B.Lent self.old) i result }
-        ensures spare { FreesOf B.Lent B.Item.is_default 1 self.old self.new }
+        ensures spare { VacatesOf B.Lent B.Item.is_default 1 self.old self.new }
     {
         let last = self.len() - 1;
         self.swap_items(i, last);
         self.take_last()
+    }
+}
+
+impl<B: Lent> GenericSliceVec<B>
+where
+    B::Item: Default,
+{
+    /// Keeps the first `n` items, or all where there are no more. Each vacated slot is given a default.
+    pub fn truncate(&mut self, n: usize)
+        ensures same_reference { name_of B.Lent self.new ≡ name_of B.Lent self.old }
+        ensures items { items_of B.Lent self.new ≡ take n (items_of B.Lent self.old) }
+        ensures spare { VacatesOf B.Lent B.Item.is_default (len_of B.Lent self.old - n) self.old self.new }
+    {
+        let len = self.len();
+        if n < len {
+            fill_default_in(&mut self.lent, n, len);
+            self.len = n;
+        }
+    }
+
+    /// Empties the list. Each vacated slot is given a default.
+    pub fn clear(&mut self)
+        ensures same_reference { name_of B.Lent self.new ≡ name_of B.Lent self.old }
+        ensures items { items_of B.Lent self.new ≡ [] }
+        ensures spare { VacatesOf B.Lent B.Item.is_default (len_of B.Lent self.old) self.old self.new }
+    {
+        self.truncate(0);
+    }
+}
+
+impl<'s, T: Drop> GenericSliceVec<&'s mut [T]> {
+    /// Splits the slots at `at`. The vector keeps the slots before `at`, all in its list; the result has the later
+    /// items and all spare slots. No slot is written. Limitation: the owner's proof does not learn which part is where;
+    /// split `as_mut_inner()` by `split_at_mut` and make a vector over each part instead.
+    pub fn split_off(&mut self, at: usize) -> SliceVec<'s, T>
+        requires { at ≤ length (items self.old) }
+        ensures items { items self.new ≡ take at (items self.old) }
+        ensures full { spare self.new ≡ [] }
+        ensures tail { items result ≡ drop at (items self.old) }
+        ensures tail_spare { spare result ≡ spare self.old }
+    {
+        let len = self.len();
+        let slots = mem::take(&mut self.lent);
+        let (first, second) = slots.split_at_mut(at);
+        self.lent = first;
+        self.len = at;
+        GenericSliceVec {
+            len: len - at,
+            lent: second,
+        }
     }
 }

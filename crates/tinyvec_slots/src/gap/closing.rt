@@ -1,5 +1,5 @@
-//! The end of a splice: the gap is filled, and what is left of it closed, or what found no place in it brought in. It is
-//! part of the caller's code, since calls would cost a short splice as much as its moves.
+//! Finishing a splice: fill the gap, then close what is left of it, or rotate the surplus in. All of it is inlined, since
+//! calls would cost a short splice as much as its moves.
 ghost use Rattle.std.specs.Prelude.{◌≡◌, ◌+◌, ◌*◌, ◌-◌, ◌<◌, ◌≤◌, ◌^◌, ◌++◌, List, Some, None, length, take, drop, slice_range, slice_set};
 ghost use Rattle.std.specs.Bool.{MatchBool};
 ghost use Rattle.std.specs.Iterator.{Drains, Yields, IsFinite};
@@ -10,10 +10,10 @@ use crate::gap::Gap;
 use crate::touches::Touches;
 
 impl Gap {
-    /// Drops the removed items that are left, places what `replacement` gives between what was placed from both ends, and
-    /// says whether it is all filled. Where it is not, `replacement` has ended.
+    // Drops the removed items that are left, places what `replacement` yields between what was placed from both ends, and
+    // returns whether that filled the gap. If not, `replacement` is exhausted.
     #[inline(always)]
-    pub fn fill<I: Iterator>(&mut self, slots: &mut [I::Item], replacement: &mut I) -> bool
+    pub(crate) fn fill<I: Iterator>(&mut self, slots: &mut [I::Item], replacement: &mut I) -> bool
     where
         I::Item: Drop,
         requires lies { GapLies self.old (length slots.old) }
@@ -36,10 +36,10 @@ impl Gap {
         self.front == self.back
     }
 
-    /// Moves what stands behind the gap down over it, and says how many slots hold the list then. The others are for the
-    /// caller to empty, each a touch.
+    // Moves the items after the gap down over it, and returns the length of the list then. The caller empties the other slots,
+    // each a touch.
     #[inline(always)]
-    pub fn close<T>(&mut self, slots: &mut [T]) -> usize
+    pub(crate) fn close<T>(&mut self, slots: &mut [T]) -> usize
         requires in_order { gap_front self.old ≤ gap_back self.old }
         requires in_bounds { gap_back self.old ≤ length slots.old }
         requires few { gap_touches self.old < 2 ^ 80 }
@@ -54,9 +54,9 @@ impl Gap {
         slots.len() - gap
     }
 
-    /// Moves the items from `end` on, which the caller appended, each with a touch, to where the gap was.
+    // Moves the items from `end` on, which the caller appended, each with a touch, to where the gap was.
     #[inline(always)]
-    pub fn bring_in<T>(&mut self, slots: &mut [T], end: usize)
+    pub(crate) fn rotate_in<T>(&mut self, slots: &mut [T], end: usize)
         requires in_order { gap_front self.old ≤ end }
         requires in_bounds { end ≤ length slots.old }
         requires few { gap_touches self.old < 2 ^ 80 }
@@ -75,8 +75,8 @@ impl Gap {
         }
     }
 
-    /// Counts that so many items were moved to other slots.
-    pub fn count_moved(&mut self, n: usize)
+    // Counts `n` items that were moved to other slots.
+    pub(crate) fn count_moved(&mut self, n: usize)
         requires few { gap_touches self.old < 2 ^ 100 }
         ensures { gap_touches self.new ≡ gap_touches self.old + n }
     {
@@ -84,8 +84,8 @@ impl Gap {
     }
 }
 
-// Places what `replacement` gives over the slots from `front` up to `back`, and says where that ends: before `back` only
-// where `replacement` has ended.
+// Places what `replacement` yields over the slots from `front` up to `back`, and returns where that ends: before `back` only
+// if `replacement` is exhausted.
 #[inline(always)]
 fn place<I: Iterator>(
     slots: &mut [I::Item],
@@ -119,7 +119,7 @@ where
     back
 }
 
-// Places the next item of `replacement` at `at`, and says whether there was one.
+// Places the next item of `replacement` at `at`, and returns whether there was one.
 #[inline(always)]
 fn place_one<I: Iterator>(
     slots: &mut [I::Item],

@@ -4,10 +4,10 @@ use Rattle.example_dns_query.specs.Answer.{IsAnswer}
 use Rattle.example_dns_query.proofs.Answering.{answers_last, always_ok}
 use Rattle.example_dns_query.proofs.answers.finish.Goals as goal
 
-pub returns-in-Ok : goal.returns-in-Ok
-returns-in-Ok g c =
+pub returns-in-Ok-clause-ok : goal.returns-in-Ok-clause-ok
+returns-in-Ok-clause-ok g c =
     let line = c.args.line.now in
-    let said = c.in-Ok.ensures in
+    let said = c.in-Ok.ensures.ok in
     let some : 0 < length line = search rules in
     always_ok c.flush-in-Ok.result (
       said.0,

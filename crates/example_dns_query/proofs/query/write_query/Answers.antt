@@ -1,5 +1,5 @@
 use Rattle.std.proofs.Common.{◌≡◌, ◌∙◌, ◌+◌, ◌++◌, ap, arith, rules, length, drop}
-use Rattle.tinyvec_slice.specs.View.{slots}
+use Rattle.tinyvec_slice.specs.SliceVec.{slots}
 use Rattle.tinyvec_slice.specs.Appends.{Appends}
 use Rattle.example_dns_query.specs.Name.{labels_of, labels_in, name_wire}
 use Rattle.example_dns_query.specs.Message.{query}

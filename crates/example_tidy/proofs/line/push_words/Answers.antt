@@ -1,7 +1,7 @@
 use Rattle.std.proofs.Common.{◌≡◌, ◌≢◌, ◌∙◌, true, false, List, ℕ, ◌++◌, ◌∷◌, rules, arith, ap, sym, length}
 use Rattle.std.specs.List.{dedup, join_with_byte}
 use Rattle.std.specs.Str.{bytes_eq}
-use Rattle.tinyvec.specs.Tiny.{tiny_items}
+use Rattle.tinyvec.specs.TinyVec.{tiny_items}
 use Rattle.example_tidy.specs.Tidy.{words}
 use Rattle.example_tidy.proofs.Joining.{said_all, spaced, spoken, first_fits}
 use Rattle.example_tidy.proofs.line.push_words.Goals as goal
@@ -39,5 +39,5 @@ loop-word-preserved-in_ok-extend_from_slice-2 c =
         spaced (tiny_items c.args.output.now) front word _ _ _ before.so_far.1 c.in_ok-push-2.ensures.items grown,
         spoken front last word all (words c.loop-word.left.now) (words c.in-Some-next_word.more.now) c.in-Some-next_word.ensures.some other before.so_far.2,
       );
-      room = omega (arith, before.room, c.push-then-ne.ensures.capacity, c.extend_from_slice-then-ne.ensures.capacity);
+      room = omega (arith, before.room, c.push-then-ne.ensures.room.capacity, c.extend_from_slice-then-ne.ensures.room.capacity);
     }

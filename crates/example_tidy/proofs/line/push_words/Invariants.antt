@@ -1,7 +1,7 @@
 use Rattle.std.proofs.Common.{◌≡◌, ◌≤◌, ◌++◌, List, ℕ, length}
 use Rattle.std.specs.List.{dedup, join_with_byte}
 use Rattle.std.specs.Str.{bytes_eq}
-use Rattle.tinyvec.specs.Tiny.{tiny_items, tiny_capacity}
+use Rattle.tinyvec.specs.TinyVec.{tiny_items, tiny_capacity}
 use Rattle.example_tidy.specs.Tidy.{words}
 use Rattle.example_tidy.proofs.Joining.{said}
 use Rattle.example_tidy.proofs.line.push_words.Given as goal

@@ -3,7 +3,7 @@ use Rattle.std.proofs.KnownBytes.{Appends-kept}
 use Rattle.example_tidy.specs.Tidy.{Ends}
 use Rattle.example_tidy.proofs.Feeding.{ends_text}
 use Rattle.example_tidy.proofs.Lengths.{length-normal_line}
-use Rattle.tinyvec.specs.Tiny.{tiny_capacity}
+use Rattle.tinyvec.specs.TinyVec.{tiny_capacity}
 use Rattle.example_tidy.proofs.stream.finish.Goals as goal
 
 pub returns-in_default-clause-long : goal.returns-in_default-clause-long

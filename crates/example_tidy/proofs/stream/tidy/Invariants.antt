@@ -1,6 +1,6 @@
 use Rattle.std.proofs.Common.{◌≤◌, List, ℕ, length}
 use Rattle.std.specs.Io.KnownBytes.{Appends, Consumes}
-use Rattle.tinyvec.specs.Tiny.{tiny_items, tiny_capacity}
+use Rattle.tinyvec.specs.TinyVec.{tiny_items, tiny_capacity}
 use Rattle.example_tidy.specs.Tidy.{TidiedUpTo}
 use Rattle.example_tidy.proofs.stream.tidy.Given as goal
 

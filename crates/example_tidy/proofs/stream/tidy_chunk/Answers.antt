@@ -1,6 +1,6 @@
 use Rattle.std.proofs.Common.{◌≡◌, ◌∙◌, [], ◌++◌, ap, sym, subst, length, arith, rules, ◌+◌, ◌-◌, ◌<◌, ◌≤◌}
 use Rattle.std.proofs.KnownBytes.{Appends-nil}
-use Rattle.tinyvec.specs.Tiny.{tiny_items, tiny_len, tiny_capacity}
+use Rattle.tinyvec.specs.TinyVec.{tiny_items, tiny_len, tiny_capacity}
 use Rattle.example_tidy.specs.Tidy.{EndsBeforeLong, EndsSome}
 use Rattle.example_tidy.proofs.Feeding.{ends_either}
 use Rattle.example_tidy.proofs.Refusals.{before_long, before_old}

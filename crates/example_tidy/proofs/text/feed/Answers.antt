@@ -1,6 +1,6 @@
 use Rattle.std.proofs.Common.{◌≡◌, ◌∙◌, false, true, ap, length, arith, length-append}
 use Rattle.tinyvec_slots.proofs.CloneLemmas.{on_err}
-use Rattle.tinyvec.specs.Tiny.{tiny_items}
+use Rattle.tinyvec.specs.TinyVec.{tiny_items}
 use Rattle.example_tidy.proofs.Refusals.{refuses_at}
 use Rattle.example_tidy.proofs.text.feed.Goals as goal
 

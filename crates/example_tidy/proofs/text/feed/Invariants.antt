@@ -1,5 +1,5 @@
 use Rattle.std.proofs.Common.{◌≡◌, ◌≤◌, ◌++◌, List, ℕ, take}
-use Rattle.tinyvec.specs.Tiny.{tiny_items, tiny_capacity}
+use Rattle.tinyvec.specs.TinyVec.{tiny_items, tiny_capacity}
 use Rattle.example_tidy.specs.Tidy.{Advances}
 use Rattle.example_tidy.proofs.text.feed.Given as goal
 

@@ -1,6 +1,6 @@
 use Rattle.std.proofs.Common.{rules, ◌≤◌, ◌≡◌, ◌≢◌, length, true, false, sym, subst, ap, arith}
 use Rattle.std.proofs.lemmas.List.Elements.{All-nil}
-use Rattle.tinyvec.specs.Tiny.{tiny_items, tiny_capacity}
+use Rattle.tinyvec.specs.TinyVec.{tiny_items, tiny_capacity}
 use Rattle.example_tidy.specs.Tidy.{Tidied, TidiedUpTo}
 use Rattle.example_tidy.proofs.Feeding.{advanced}
 use Rattle.example_tidy.proofs.Lines.{tidied_again}

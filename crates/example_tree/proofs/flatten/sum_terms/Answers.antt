@@ -1,5 +1,5 @@
 use Rattle.std.proofs.Common.{◌≡◌, suc, false, length, arith}
-use Rattle.tinyvec.specs.Tiny.{tiny_items}
+use Rattle.tinyvec.specs.TinyVec.{tiny_items}
 use Rattle.example_tree.specs.Nodes.{forms, form_at, is_sum_form}
 use Rattle.example_tree.proofs.Gathering.{sum_gathered, sum_less, term_gathered, term_less}
 use Rattle.example_tree.proofs.flatten.sum_terms.Goals as goal

@@ -1,4 +1,4 @@
-use Rattle.tinyvec.specs.Tiny.{tiny_items}
+use Rattle.tinyvec.specs.TinyVec.{tiny_items}
 use Rattle.example_tree.proofs.Gathering.{weight, IsGathered}
 use Rattle.example_tree.proofs.flatten.sum_terms.Given as goal
 

@@ -1,5 +1,5 @@
 use Rattle.std.proofs.Common.{rules, ◌≡◌, ◌≢◌, length, subst}
-use Rattle.tinyvec.specs.Tiny.{tiny_items}
+use Rattle.tinyvec.specs.TinyVec.{tiny_items}
 use Rattle.example_tree.specs.Nodes.{tree_at, tree_of, trees_of, form_by}
 use Rattle.example_tree.specs.Levels.{Adds, joined_by}
 use Rattle.example_tree.proofs.Groups.{joined_more}

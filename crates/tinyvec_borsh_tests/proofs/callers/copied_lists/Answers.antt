@@ -1,5 +1,5 @@
 use Rattle.tinyvec_slots.specs.Slots.{items}
-use Rattle.tinyvec.specs.Tiny.{tiny_items}
+use Rattle.tinyvec.specs.TinyVec.{tiny_items}
 use Rattle.tinyvec_borsh.proofs.ReadBack.{same-lists}
 use Rattle.tinyvec_borsh_tests.proofs.callers.copied_lists.Goals as goal
 

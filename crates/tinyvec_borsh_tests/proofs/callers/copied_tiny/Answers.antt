@@ -1,4 +1,4 @@
-use Rattle.tinyvec.specs.Tiny.{tiny_items}
+use Rattle.tinyvec.specs.TinyVec.{tiny_items}
 use Rattle.tinyvec_borsh.proofs.ReadBack.{same-items}
 use Rattle.tinyvec_borsh_tests.proofs.callers.copied_tiny.Goals as goal
 

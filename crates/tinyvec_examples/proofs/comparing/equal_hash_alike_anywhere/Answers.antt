@@ -1,7 +1,7 @@
 use Rattle.std.proofs.Common.{◌∙◌, sym}
 use Rattle.std.specs.List.{fold}
 use Rattle.std.specs.Hash.{Alike, items_Alike}
-use Rattle.tinyvec.specs.Tiny.{tiny_items}
+use Rattle.tinyvec.specs.TinyVec.{tiny_items}
 use Rattle.tinyvec_examples.proofs.comparing.equal_hash_alike_anywhere.Goals as goal
 
 pub returns : goal.returns

@@ -1,6 +1,6 @@
 use Rattle.std.proofs.Common.{◌≤◌, ◌+◌, length, rules}
 use Rattle.std.proofs.lemmas.Iterator.Adapters.{YieldsList-from_vec}
-use Rattle.tinyvec.specs.Tiny.{tiny_len, tiny_capacity}
+use Rattle.tinyvec.specs.TinyVec.{tiny_len, tiny_capacity}
 use Rattle.tinyvec_examples.proofs.known_items.into_room.Goals as goal
 
 pub returns : goal.returns

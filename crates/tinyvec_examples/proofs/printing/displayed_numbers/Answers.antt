@@ -1,7 +1,7 @@
 use Rattle.std.proofs.Common.{◌≡◌, subst, IfOk, IfSome, string_bytes}
 use Rattle.std.specs.Fmt.{decimal}
 use Rattle.std.proofs.Debugs.{debug_list-Some}
-use Rattle.tinyvec.specs.Tiny.{tiny_items}
+use Rattle.tinyvec.specs.TinyVec.{tiny_items}
 use Rattle.tinyvec_examples.proofs.printing.displayed_numbers.Goals as goal
 
 pub returns : goal.returns

@@ -6,7 +6,8 @@ use Rattle.tinyvec_slots.specs.Fused.{fused_rest}
 use Rattle.tinyvec_array.specs.Splice.{splice_view, splice_front, splice_left, splice_back, splice_replacement, SpliceKeeps}
 use Rattle.tinyvec_slots.proofs.Fused.{fused_ends}
 use Rattle.tinyvec_array.proofs.SpliceLemmas.{Asks-splices}
-use Rattle.tinyvec_examples.proofs.SpliceEnded.{array_ends, first_taken, last_taken, ended_all, ended_slots, numbers_spliced}
+use Rattle.tinyvec_slots.proofs.KnownItems.{array_ends}
+use Rattle.tinyvec_examples.proofs.SpliceEnded.{first_taken, last_taken, ended_all, ended_slots, numbers_spliced}
 use Rattle.tinyvec_examples.proofs.splicing.longer.Goals as goal
 
 pub returns : goal.returns

@@ -4,11 +4,12 @@ use Rattle.tinyvec_slots.specs.Slots.{all_slots, items}
 use Rattle.tinyvec_slots.specs.Ends.{back}
 use Rattle.tinyvec_slots.specs.Fused.{fused_rest}
 use Rattle.tinyvec_array.specs.Splice.{splice_view, splice_front, splice_left, splice_back, splice_replacement, SpliceKeeps}
-use Rattle.tinyvec_slots.specs.Splices.{FinishesWith}
-use Rattle.tinyvec_slots.specs.Splicing.{SplicedByWord}
+use Rattle.tinyvec_slots.specs.AnySplice.{FinishesWith}
+use Rattle.tinyvec_slots.specs.SplicedByWord.{SplicedByWord}
 use Rattle.tinyvec_slots.proofs.Fused.{fused_first, fused_ends}
 use Rattle.tinyvec_array.proofs.SpliceLemmas.{Asks-splices}
-use Rattle.tinyvec_examples.proofs.SpliceEnded.{array_ends, ended_no_room, ended_refused, ended_full, ended_slots, numbers_spliced, refused_at, next_is_none}
+use Rattle.tinyvec_slots.proofs.KnownItems.{array_ends}
+use Rattle.tinyvec_examples.proofs.SpliceEnded.{ended_no_room, ended_refused, ended_full, ended_slots, numbers_spliced, refused_at, next_is_none}
 use Rattle.tinyvec_examples.proofs.splicing.refused_before_the_back.Goals.{After-drop-rest}
 use Rattle.tinyvec_examples.proofs.splicing.refused_before_the_back.Goals as goal
 

@@ -6,7 +6,7 @@ use Rattle.tinyvec_slots.specs.Ends.{front, back}
 use Rattle.tinyvec_slots.proofs.Lists.{length-slice_range}
 use Rattle.tinyvec_slots.specs.Fused.{fused_rest}
 use Rattle.tinyvec_array.specs.Splice.{splice_replacement}
-use Rattle.tinyvec_slots.specs.Splicing.{IsSpliceRefused}
+use Rattle.tinyvec_slots.specs.SplicedByWord.{IsSpliceRefused}
 use Rattle.tinyvec_examples.proofs.SpliceCounted.{array_counted}
 use Rattle.tinyvec_examples.proofs.SpliceEnded.{ended_fits, ended_list, ended_refused, ended_slots}
 use Rattle.tinyvec_examples.proofs.splicing.replace.Goals as goal

@@ -2,11 +2,11 @@ use Rattle.std.proofs.Common.{◌≡◌, ◌-◌, [], ◌∷◌, ◌++◌, take,
 use Rattle.std.proofs.lemmas.List.{length-take-le, length-drop}
 use Rattle.tinyvec_slots.specs.Ends.{front, back}
 use Rattle.tinyvec_slots.specs.Fused.{fused_rest}
-use Rattle.tinyvec_slots.specs.Splicing.{IsSpliceRefused}
+use Rattle.tinyvec_slots.specs.SplicedByWord.{IsSpliceRefused}
 use Rattle.tinyvec_slots.proofs.Lists.{length-slice_range}
 use Rattle.tinyvec_slots.proofs.SplicingLemmas.{spliced_len}
-use Rattle.tinyvec.specs.Tiny.{tiny_items, tiny_len, is_inline, tiny_capacity, PlaceRule, TinySlotRule}
-use Rattle.tinyvec.specs.TinySplice.{splice_view, splice_replacement, splice_vec, SpliceKeeps}
+use Rattle.tinyvec.specs.TinyVec.{tiny_items, tiny_len, is_inline, tiny_capacity, PlaceRule, TinySlotRule}
+use Rattle.tinyvec.specs.TinyVecSplice.{splice_view, splice_replacement, splice_vec, SpliceKeeps}
 use Rattle.tinyvec.proofs.TinyLemmas.{tiny_slots_framed}
 use Rattle.tinyvec_examples.proofs.SpliceEnded.{ended_list, ended_refused}
 use Rattle.tinyvec_examples.proofs.tiny_splicing.replace.Goals as goal
@@ -65,7 +65,7 @@ returns-clause-place g c =
     let lender = c.splice-splice.ensures.same_reference in
     let v = c.finish.new.self.0 in
     let before : is_inline (splice_vec c.one_from_each_end-ends.new.splice) ≡ is_inline c.args.vec.now = kept.1.2 ∙ ap is_inline c.splice-splice.ensures.vec in
-    let rule : PlaceRule g.A.Array.CAPACITY (tiny_len v) c.args.vec.now v = rw (sym before) c.finish.ensures.place in
+    let rule : PlaceRule g.A.Array.CAPACITY (tiny_len v) c.args.vec.now v = rw (sym before) c.finish.ensures.grows.place in
     subst (λ w. PlaceRule g.A.Array.CAPACITY (tiny_len w) c.args.vec.now w) (search rules) rule
 
 pub returns-clause-slots : goal.returns-clause-slots
@@ -75,6 +75,6 @@ returns-clause-slots g c =
     let lender = c.splice-splice.ensures.same_reference in
     let D = g.A.Item.Default.is_default in
     let t = c.one_from_each_end-ends.new.splice in
-    let framed = tiny_slots_framed D (splice_vec c.splice-splice.result) (splice_vec t) c.finish.new.self.0 kept.1 c.finish.ensures.slots in
+    let framed = tiny_slots_framed D (splice_vec c.splice-splice.result) (splice_vec t) c.finish.new.self.0 kept.1 c.finish.ensures.grows.slot_rule in
     let rule = subst (λ u. TinySlotRule D u c.finish.new.self.0) c.splice-splice.ensures.vec framed in
     subst (TinySlotRule D c.args.vec.now) (search rules) rule

@@ -4,10 +4,12 @@ use Rattle.tinyvec_slots.specs.Ends.{front}
 use Rattle.tinyvec_slots.specs.Fused.{fused_rest}
 use Rattle.tinyvec_slots.proofs.Fused.{fused_ends}
 use Rattle.tinyvec_slots.proofs.SplicingLemmas.{spliced_len}
-use Rattle.tinyvec.specs.Tiny.{tiny_items, tiny_len, is_inline, tiny_capacity, IsInline}
-use Rattle.tinyvec.specs.TinySplice.{splice_view, splice_front, splice_left, splice_back, splice_replacement, splice_vec, SpliceKeeps}
+use Rattle.tinyvec.specs.TinyVec.{tiny_items, tiny_len, is_inline, tiny_capacity, IsInline}
+use Rattle.tinyvec.specs.TinyVecSplice.{splice_view, splice_front, splice_left, splice_back, splice_replacement, splice_vec, SpliceKeeps}
 use Rattle.tinyvec.proofs.SpliceLemmas.{Asks-splices}
-use Rattle.tinyvec_examples.proofs.SpliceEnded.{array_ends, first_taken, ended_fits, ended_all, capacity_inline}
+use Rattle.tinyvec_slots.proofs.KnownItems.{array_ends}
+use Rattle.tinyvec.proofs.TinyLemmas.{capacity_inline}
+use Rattle.tinyvec_examples.proofs.SpliceEnded.{first_taken, ended_fits, ended_all}
 use Rattle.tinyvec_examples.proofs.tiny_splicing.replaced_inline.Goals as goal
 
 pub returns : goal.returns
@@ -32,7 +34,7 @@ returns c =
     let fits = (ended_fits R (tiny_capacity 4 v) s t (front ∷ []) (tiny_items v) _ _ _ _ along ahead left behind whole _ finished).0 ok in
     let list : tiny_items v ≡ pos 1 ∷ pos 7 ∷ pos 8 ∷ pos 3 ∷ [] = ended_all R (tiny_capacity 4 v) s t (front ∷ []) (tiny_items v) _ _ _ _ along ahead left behind whole _ finished fits in
     let long : tiny_len v ≡ 4 = ap length list in
-    let place : IsInline v = c.finish-finished.ensures.place.1 (inside, omega (arith, long)) in
+    let place : IsInline v = c.finish-finished.ensures.grows.place.1 (inside, omega (arith, long)) in
     let same = along.kept.0 in
     let lender = made.same_reference in
     record {

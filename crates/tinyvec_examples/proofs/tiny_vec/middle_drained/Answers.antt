@@ -1,5 +1,5 @@
 use Rattle.std.proofs.Common.{◌≡◌, ◌∷◌, [], pos, refl, ◌∙◌, rules}
-use Rattle.tinyvec.specs.Tiny.{tiny_items, tiny_spare}
+use Rattle.tinyvec.specs.TinyVec.{tiny_items, tiny_spare}
 use Rattle.tinyvec.proofs.TinyLemmas.{tiny_slots_only}
 use Rattle.tinyvec.proofs.DrainLemmas.{tiny_drained, DrainSteps-keeps}
 use Rattle.tinyvec_examples.proofs.tiny_vec.middle_drained.Goals as goal

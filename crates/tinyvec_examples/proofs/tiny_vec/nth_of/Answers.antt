@@ -1,6 +1,6 @@
 use Rattle.std.proofs.Common.{◌≡◌, ◌++◌, ◌∙◌, rules}
 use Rattle.tinyvec_slots.specs.Cut.{before, after}
-use Rattle.tinyvec.specs.Tiny.{tiny_items, is_inline, tiny_capacity, TinySlotRule}
+use Rattle.tinyvec.specs.TinyVec.{tiny_items, is_inline, tiny_capacity, TinySlotRule}
 use Rattle.tinyvec.proofs.DrainLemmas.{nth-keeps, tiny_drained}
 use Rattle.tinyvec_examples.proofs.tiny_vec.nth_of.Goals as goal
 

@@ -1,13 +1,14 @@
-use Rattle.std.proofs.Common.{◌≡◌, ◌≤◌, ◌+◌, ◌++◌, List, ℕ, [], Some, length, take, replicate, pos, sym, ap, ◌∙◌, arith, append-nil, length-append}
+use Rattle.std.proofs.Common.{◌≡◌, ◌≤◌, ◌+◌, ◌++◌, List, ℕ, [], Some, length, take, replicate, pos, sym, ap, ◌∙◌, arith, le_refl, le_trans, append-nil}
 use Rattle.tinyvec_slots.specs.Slots.{spare, split_at}
 use Rattle.tinyvec_slots.proofs.SlotsLemmas.{defaults_are}
 use Rattle.tinyvec_script.specs.Script.{start, zeros, State, IsZero}
-use Rattle.tinyvec_slice.specs.View.{seen}
+use Rattle.tinyvec_slice.specs.SliceVec.{seen}
 use Rattle.tinyvec_script.specs.Place.{tiny_of}
 use Rattle.tinyvec_script.proofs.PlaceLemmas.{tiny_of-begins}
 use Rattle.tinyvec_script.specs.State.{held}
 use Rattle.std.proofs.KnownBytes.{Appends-nil, Appends-trans, Consumes-nil, Consumes-trans, Consumes-kept}
-use Rattle.tinyvec_script.proofs.HistoryLemmas.{feeds_nothing, feeds_then, complete_lines, whole_script}
+use Rattle.tinyvec_script.proofs.HistoryLemmas.{feeds_nothing, feeds_then, complete_lines, whole_script, chunk_longer}
+use Rattle.tinyvec_script.proofs.Written.{reported_since}
 use Rattle.tinyvec_script.proofs.script.run.Goals as goal
 
 pub loop-piece-init : goal.loop-piece-init
@@ -25,15 +26,24 @@ loop-piece-init g c =
     let state : State = record { a = array; s = seen c.from_slice_len.result; t = tiny_of tiny.result; x = text.result } in
     let begins : state ≡ start = λ t. record { a = a_begins t; s = s_begins t; t = t_begins t; x = x_begins t } in
     record {
-      so_far = ([], [], Consumes-nil _, Appends-nil _, rw (begins, c.new-line.ensures) (feeds_nothing start (Some [])), omega arith);
-      read_grows = omega arith;
-      write_grows = omega arith;
+      so_far = ([], [], Consumes-nil _, Appends-nil _, rw (begins, c.new-line.ensures) (feeds_nothing start (Some [])), le_refl 0);
+      read_grows = le_refl _;
+      write_grows = le_refl _;
     }
 
 pub returns-in-Err-clause-read : goal.returns-in-Err-clause-read
 returns-in-Err-clause-read g c =
     let s = c.loop-piece.invariant.so_far in
     λ _ _. (s.0, s.1, Consumes-kept _ _ _ s.0 s.2 c.in-Err.ensures.err, s.3, complete_lines s.0 s.1 (held c.loop-piece.vectors) c.loop-piece.line s.4)
+
+pub returns-in-Err-clause-read_fault : goal.returns-in-Err-clause-read_fault
+returns-in-Err-clause-read_fault g c = λ _ _. reported_since _ _ _ c.loop-piece.invariant.read_grows c.in-Err.ensures.fault
+
+pub returns-in-Err-finish-clause-write_fault : goal.returns-in-Err-finish-clause-write_fault
+returns-in-Err-finish-clause-write_fault g c = λ _ _. reported_since _ _ _ c.loop-piece.invariant.write_grows c.in-Err-finish.ensures.fault
+
+pub returns-in-Err-answer_chunk-clause-write_fault : goal.returns-in-Err-answer_chunk-clause-write_fault
+returns-in-Err-answer_chunk-clause-write_fault g c = λ _ _. reported_since _ _ _ c.loop-piece.invariant.write_grows c.in-Err-answer_chunk.ensures.fault
 
 pub returns-in-Ok-finish-clause-ok : goal.returns-in-Ok-finish-clause-ok
 returns-in-Ok-finish-clause-ok g c =
@@ -48,7 +58,7 @@ loop-piece-preserved g c =
     let s = c.loop-piece.invariant.so_far in
     let f = c.in-Ok-answer_chunk.ensures.ok in
     let bytes : List ℕ = take c.in-Ok.count c.read_some.new.buf in
-    let longer : c.loop-piece._piece + 1 ≤ length (s.0 ++ bytes) = omega (arith, length-append s.0 bytes, c.in-Ok.ensures.bound.1, c.if-count-eq0.false, s.5) in
+    let longer = chunk_longer s.0 c.read_some.new.buf c.loop-piece._piece c.in-Ok.count s.5 c.in-Ok.ensures.bound.1 c.if-count-eq0.false in
     record {
       so_far = (
         s.0 ++ bytes,
@@ -58,8 +68,8 @@ loop-piece-preserved g c =
         feeds_then _ (held c.loop-piece.vectors) (held c.answer_chunk.new.vectors) (Some []) c.loop-piece.line c.answer_chunk.new.line s.0 bytes s.1 f.0 s.4 f.2,
         longer,
       );
-      read_grows = omega (arith, c.in-Ok.ensures.grows);
-      write_grows = omega (arith, c.in-Ok-answer_chunk.ensures.grows);
+      read_grows = le_trans c.loop-piece.invariant.read_grows c.in-Ok.ensures.grows;
+      write_grows = le_trans c.loop-piece.invariant.write_grows c.in-Ok-answer_chunk.ensures.grows;
     }
 
 pub returns-clause-too_long : goal.returns-clause-too_long

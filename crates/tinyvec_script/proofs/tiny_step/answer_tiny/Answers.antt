@@ -1,7 +1,7 @@
 use Rattle.std.proofs.Common.{◌≤◌, refl, sym, arith}
 use Rattle.std.proofs.lemmas.Grind.{common_steps}
 use Rattle.std.proofs.lemmas.Option.{slice_get_read}
-use Rattle.tinyvec.specs.Tiny.{tiny_items, tiny_len}
+use Rattle.tinyvec.specs.TinyVec.{tiny_items, tiny_len}
 use Rattle.tinyvec_script.proofs.PlaceLemmas.{place_kept, ruled, splices}
 use Rattle.tinyvec_script.proofs.tiny_step.answer_tiny.Goals as goal
 
@@ -27,7 +27,7 @@ returns-in-Remove-clause-answered g c =
     rw c.in-Remove.is (
       slice_get_read (tiny_items old) _ c.in-Remove.i _ refl (omega arith) made.value,
       made.items,
-      ruled g.A.Item.Default.is_default slots 0 old new (place_kept slots old new made.place) made.slots (omega (arith, made.capacity)) (λ _. made.capacity),
+      ruled g.A.Item.Default.is_default slots 0 old new (place_kept slots old new made.frame.place) made.frame.slot_rule (omega (arith, made.frame.capacity)) (λ _. made.frame.capacity),
     )
 
 pub returns-in-SwapRemove-clause-answered : goal.returns-in-SwapRemove-clause-answered
@@ -39,7 +39,7 @@ returns-in-SwapRemove-clause-answered g c =
     rw c.in-SwapRemove.is (
       slice_get_read (tiny_items old) _ c.in-SwapRemove.i _ refl (omega arith) made.value,
       made.items,
-      ruled g.A.Item.Default.is_default slots 0 old new (place_kept slots old new made.place) made.slots (omega (arith, made.capacity)) (λ _. made.capacity),
+      ruled g.A.Item.Default.is_default slots 0 old new (place_kept slots old new made.frame.place) made.frame.slot_rule (omega (arith, made.frame.capacity)) (λ _. made.frame.capacity),
     )
 
 pub drain_into-requires-clause-room : goal.drain_into-requires-clause-room

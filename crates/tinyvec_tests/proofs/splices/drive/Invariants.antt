@@ -1,4 +1,4 @@
-use Rattle.tinyvec.specs.TinySplice.{SpliceCanStep}
+use Rattle.tinyvec.specs.TinyVecSplice.{SpliceCanStep}
 use Rattle.tinyvec_tests.proofs.splices.drive.Given as goal
 
 -- the splice may be asked again

@@ -2,7 +2,7 @@ use Rattle.std.proofs.Common.{subst}
 use Rattle.std.proofs.lemmas.Result.{err_from_is_err_and}
 use Rattle.std.proofs.lemmas.List.{map-id}
 use Rattle.tinyvec_slots.specs.Slots.{items}
-use Rattle.tinyvec.specs.Tiny.{tiny_items}
+use Rattle.tinyvec.specs.TinyVec.{tiny_items}
 use Rattle.tinyvec_borsh.specs.Number.{SpellsNumber}
 use Rattle.example_records.specs.Readings.{SamplesFit, SpellsNote, SpellsSamples}
 use Rattle.tinyvec_borsh.specs.Both.{SpellsBoth}

@@ -1,6 +1,6 @@
 use Rattle.std.proofs.Common.{subst}
 use Rattle.std.proofs.lemmas.List.{map-id}
-use Rattle.tinyvec.specs.Tiny.{tiny_items}
+use Rattle.tinyvec.specs.TinyVec.{tiny_items}
 use Rattle.tinyvec_slots.specs.Slots.{items}
 use Rattle.tinyvec_borsh.proofs.Outcomes.{on-ok}
 use Rattle.tinyvec_borsh.specs.Number.{SpellsNumber}

@@ -1,5 +1,5 @@
 use Rattle.std.proofs.Common.{◌≡◌, ◌∙◌, [], ap}
-use Rattle.tinyvec.specs.Tiny.{tiny_items}
+use Rattle.tinyvec.specs.TinyVec.{tiny_items}
 use Rattle.example_tree.specs.Tree.{product}
 use Rattle.example_tree.specs.Nodes.{tree_at, trees_of}
 use Rattle.example_tree.specs.Outcome.{joined}

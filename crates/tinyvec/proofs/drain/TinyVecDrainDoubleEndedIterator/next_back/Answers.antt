@@ -1,7 +1,7 @@
 use Rattle.std.proofs.Common.{◌-◌, refl, arith, take, ap, ◌∙◌}
 use Rattle.std.proofs.lemmas.List.{take-set-le}
 use Rattle.tinyvec_slots.proofs.Lists.{slice_range_last}
-use Rattle.tinyvec.specs.Tiny.{tiny_items}
+use Rattle.tinyvec.specs.TinyVec.{tiny_items}
 use Rattle.tinyvec.proofs.drain.TinyVecDrainDoubleEndedIterator.next_back.Goals as goal
 
 pub returns-clause-steps : goal.returns-clause-steps

@@ -1,5 +1,5 @@
 use Rattle.std.proofs.Common.{◌+◌, length, ap, subst, ◌∙◌, length-append}
-use Rattle.tinyvec.specs.Tiny.{tiny_items, tiny_len}
+use Rattle.tinyvec.specs.TinyVec.{tiny_items, tiny_len}
 use Rattle.tinyvec.specs.Room.{GrowsFor}
 use Rattle.tinyvec.proofs.TinyLemmas.{tiny_slots_grown}
 use Rattle.tinyvec.proofs.tiny_vec.TinyVec.append.Goals as goal

@@ -5,7 +5,7 @@ use Rattle.tinyvec_slots.specs.Slots.{all_slots, items, spare}
 use Rattle.tinyvec_slots.specs.Clones.{RefusedAt}
 use Rattle.tinyvec_slots.proofs.SlotsLemmas.{slots_are}
 use Rattle.tinyvec_slots.proofs.CloneLemmas.{on_err}
-use Rattle.tinyvec.specs.Tiny.{tiny_items, tiny_len, tiny_spare, is_inline}
+use Rattle.tinyvec.specs.TinyVec.{tiny_items, tiny_len, tiny_spare, is_inline}
 use Rattle.tinyvec.proofs.TinyLemmas.{never_if_ok}
 use Rattle.tinyvec.proofs.CloneLemmas.{appends_alone, spare_cloned}
 use Rattle.tinyvec.proofs.tiny_vec.TinyVec.clone.Goals as goal

@@ -1,4 +1,4 @@
-use Rattle.std.proofs.Common.{All, inl, ◌≡◌, ◌+◌, ◌-◌, ◌<◌, ◌≤◌, inr, min, length, take, drop, sym, ap, subst, ◌∙◌, arith, length-take, length-drop, take_all}
+use Rattle.std.proofs.Common.{All, inl, ◌≡◌, ◌-◌, ◌<◌, ◌≤◌, inr, min, length, take, drop, sym, ap, subst, ◌∙◌, arith, length-take, length-drop, take_all}
 use Rattle.std.proofs.lemmas.Bool.{false≢true}
 use Rattle.std.proofs.lemmas.List.{take-take}
 use Rattle.std.proofs.lemmas.List.Elements.{same_from_all_zip, length_all_zip, All-take, All-drop}
@@ -6,9 +6,9 @@ use Rattle.std.proofs.lemmas.Result.{on_ok_weaker, on_err_weaker}
 use Rattle.std.specs.List.{AllZip}
 use Rattle.tinyvec_slots.specs.Clones.{RefusedAt}
 use Rattle.tinyvec_slots.proofs.CloneLemmas.{on_err}
-use Rattle.tinyvec.specs.Tiny.{tiny_items, tiny_len, tiny_capacity}
-use Rattle.tinyvec.specs.Room.{GrowsFor}
+use Rattle.tinyvec.specs.TinyVec.{tiny_items, tiny_len, tiny_capacity}
 use Rattle.tinyvec.proofs.TinyLemmas.{tiny_slots_grown, tiny_slots_then_framed, on_ok_two, on_err_two, never_ok}
+use Rattle.tinyvec.proofs.FrameLemmas.{room_kept, room_refused, room_made}
 use Rattle.tinyvec.proofs.CloneLemmas.{appends_len, appends_rest}
 use Rattle.tinyvec.proofs.RefusedLemmas.{refused_in_front, refused_behind, partly_over, partly_behind, cut_freed, none_freed, spare_kept, place_kept, place_then}
 use Rattle.tinyvec.proofs.tiny_vec.TinyVec.clone_from.Goals as goal
@@ -38,31 +38,22 @@ returns-then-count-len-clause-place g c =
     let is_count = c.len-count.ensures.value in
     let le = c.if-count-len.true in
     on_ok_weaker c.overwrite.result
-    (λ _. place_kept _ _ c.args.self.now c.overwrite.new.self (c.overwrite.ensures.frame.2 ∙ c.truncate.ensures.place) (omega (arith, c.len-len.ensures.fits)))
+    (λ _. place_kept _ _ c.args.self.now c.overwrite.new.self (c.overwrite.ensures.frame.2 ∙ c.truncate.ensures.frame.place) (omega (arith, c.len-len.ensures.fits)))
     c.overwrite.ensures.ok
 
 pub returns-then-count-len-clause-slots : goal.returns-then-count-len-clause-slots
 returns-then-count-len-clause-slots g c =
     on_ok_weaker c.overwrite.result
-    (λ _. tiny_slots_then_framed g.A.Item.Default.is_default c.args.self.now c.truncate.new.self c.overwrite.new.self c.truncate.ensures.slots c.overwrite.ensures.frame)
+    (λ _. tiny_slots_then_framed g.A.Item.Default.is_default c.args.self.now c.truncate.new.self c.overwrite.new.self c.truncate.ensures.frame.slot_rule c.overwrite.ensures.frame)
     c.overwrite.ensures.ok
 
-pub returns-then-count-len-clause-capacity : goal.returns-then-count-len-clause-capacity
-returns-then-count-len-clause-capacity g c = omega (arith, c.overwrite.ensures.frame.3 g.A.Array.CAPACITY, c.truncate.ensures.capacity)
-
-pub returns-then-count-len-clause-same_room : goal.returns-then-count-len-clause-same_room
-returns-then-count-len-clause-same_room g c = λ _. c.overwrite.ensures.frame.3 g.A.Array.CAPACITY ∙ c.truncate.ensures.capacity
-
-pub returns-then-count-len-clause-grown : goal.returns-then-count-len-clause-grown
-returns-then-count-len-clause-grown g c =
-    let fits : tiny_len c.args.source.now ≤ tiny_capacity g.A.Array.CAPACITY c.args.self.now =
-    omega (arith, c.len-count.ensures.value, c.if-count-len.true, c.len-len.ensures.value, c.len-len.ensures.fits) in
-    on_ok_weaker c.overwrite.result (λ _ less. absurd (omega (arith, fits, less))) c.overwrite.ensures.ok
-
-pub returns-then-count-len-clause-fits : goal.returns-then-count-len-clause-fits
-returns-then-count-len-clause-fits g c =
+pub returns-then-count-len-clause-room : goal.returns-then-count-len-clause-room
+returns-then-count-len-clause-room g c =
     let frame = c.overwrite.ensures.frame in
-    omega (arith, frame.0, frame.3 g.A.Array.CAPACITY, c.truncate.ensures.fits)
+    let cut = c.truncate.ensures.frame in
+    let room : tiny_len c.args.source.now ≤ tiny_capacity g.A.Array.CAPACITY c.args.self.now =
+    omega (arith, c.len-count.ensures.value, c.if-count-len.true, c.len-len.ensures.value, c.len-len.ensures.fits) in
+    room_kept _ _ c.args.self.now _ c.overwrite.result room (frame.3 g.A.Array.CAPACITY ∙ cut.capacity) (omega (arith, frame.0, frame.3 g.A.Array.CAPACITY, cut.fits))
 
 pub returns-then-count-len-clause-succeeds : goal.returns-then-count-len-clause-succeeds
 returns-then-count-len-clause-succeeds g c = λ fits all. c.overwrite.ensures.succeeds (rw c.as_slice.ensures all)
@@ -84,10 +75,10 @@ returns-then-count-len-clause-refused g c =
     let below : h.0 < length xs = rw c.as_slice.ensures at h.1.0 in
     let early : h.0 ≤ m = omega arith in
     inr (
-      place_kept _ _ _ _ (c.overwrite.ensures.frame.2 ∙ c.truncate.ensures.place) (omega (arith, c.len-len.ensures.fits)),
+      place_kept _ _ _ _ (c.overwrite.ensures.frame.2 ∙ c.truncate.ensures.frame.place) (omega (arith, c.len-len.ensures.fits)),
       partly_over g.A.Item.Default.is_default g.A.Item.Clone.is_infallible g.A.Item.Clone.is_clone xs c.args.self.now new m h.0 early
           (rw c.as_slice.ensures at h.1) (rw (c.as_slice.ensures, cut) at h.2)
-          (cut_freed g.A.Item.Default.is_default c.args.self.now left new m c.overwrite.ensures.frame c.truncate.ensures.place c.truncate.ensures.slots cut within),
+          (cut_freed g.A.Item.Default.is_default c.args.self.now left new m c.overwrite.ensures.frame c.truncate.ensures.frame.place c.truncate.ensures.frame.slot_rule cut within),
     ))
     c.overwrite.ensures.refused
 
@@ -104,10 +95,7 @@ returns-in_err-reserve g c =
       if_clones_equal = never_ok _ answer err;
       place = never_ok _ answer err;
       slots = never_ok _ answer err;
-      capacity = grown.capacity;
-      same_room = λ _. grown.refused.3 g.A.Array.CAPACITY;
-      grown = never_ok _ answer err;
-      fits = grown.fits;
+      room = room_refused _ _ _ _ answer err (grown.refused.3 g.A.Array.CAPACITY) grown.fits;
       succeeds = λ fits _. absurd (false≢true (grown.succeeds (omega (arith, fits))));
       refused = on_err answer (inl (omega (arith, grown.full), grown.refused));
     }
@@ -134,21 +122,12 @@ returns-in_err-overwrite-clause-place g c = never_ok _ c.from_residual-in_err-ov
 pub returns-in_err-overwrite-clause-slots : goal.returns-in_err-overwrite-clause-slots
 returns-in_err-overwrite-clause-slots g c = never_ok _ c.from_residual-in_err-overwrite.result c.from_residual-in_err-overwrite.ensures.0
 
-pub returns-in_err-overwrite-clause-grown : goal.returns-in_err-overwrite-clause-grown
-returns-in_err-overwrite-clause-grown g c = never_ok _ c.from_residual-in_err-overwrite.result c.from_residual-in_err-overwrite.ensures.0
-
-pub returns-in_err-overwrite-clause-capacity : goal.returns-in_err-overwrite-clause-capacity
-returns-in_err-overwrite-clause-capacity g c = omega (arith, c.reserve.ensures.capacity, c.overwrite-2.ensures.frame.3 g.A.Array.CAPACITY)
-
-pub returns-in_err-overwrite-clause-same_room : goal.returns-in_err-overwrite-clause-same_room
-returns-in_err-overwrite-clause-same_room g c = λ fits.
-    let kept = c.reserve.ensures.kept (omega (arith, fits, c.len-len.ensures.value, c.len-count.ensures.value, c.if-count-len.false)) in
-    c.overwrite-2.ensures.frame.3 g.A.Array.CAPACITY ∙ ap (tiny_capacity g.A.Array.CAPACITY) kept
-
-pub returns-in_err-overwrite-clause-fits : goal.returns-in_err-overwrite-clause-fits
-returns-in_err-overwrite-clause-fits g c =
+pub returns-in_err-overwrite-clause-room : goal.returns-in_err-overwrite-clause-room
+returns-in_err-overwrite-clause-room g c =
     let frame = c.overwrite-2.ensures.frame in
-    omega (arith, c.reserve.ensures.fits, frame.0, frame.3 g.A.Array.CAPACITY)
+    let same = frame.3 g.A.Array.CAPACITY in
+    room_made _ _ c.args.self.now _ c.from_residual-in_err-overwrite.result g.A.Item.Default.is_default _ c.reserve.new.self _
+    (omega (arith, c.len-len.ensures.value, c.len-count.ensures.value, c.if-count-len.false)) c.in_ok-reserve.ensures same (omega (arith, c.reserve.ensures.fits, frame.0, same))
 
 pub returns-in_err-overwrite-clause-refused : goal.returns-in_err-overwrite-clause-refused
 returns-in_err-overwrite-clause-refused g c =
@@ -225,27 +204,12 @@ returns-clause-place g c =
     (made.place ∙ c.overwrite-2.ensures.frame.2) c.in_ok-reserve.ensures.place)
     made.items
 
-pub returns-clause-capacity : goal.returns-clause-capacity
-returns-clause-capacity g c = omega (arith, c.reserve.ensures.capacity, c.overwrite-2.ensures.frame.3 g.A.Array.CAPACITY, c.extend_reserved.ensures.capacity)
-
-pub returns-clause-same_room : goal.returns-clause-same_room
-returns-clause-same_room g c = λ fits.
-    let kept = c.reserve.ensures.kept (omega (arith, fits, c.len-len.ensures.value, c.len-count.ensures.value, c.if-count-len.false)) in
-    c.extend_reserved.ensures.capacity ∙ c.overwrite-2.ensures.frame.3 g.A.Array.CAPACITY ∙ ap (tiny_capacity g.A.Array.CAPACITY) kept
-
-pub returns-clause-grown : goal.returns-clause-grown
-returns-clause-grown g c =
-    let slots = g.A.Array.CAPACITY in
-    let old = c.args.self.now in
-    let new = c.extend_reserved.new.self in
+pub returns-clause-room : goal.returns-clause-room
+returns-clause-room g c =
     let made = c.extend_reserved.ensures in
-    let same : tiny_capacity slots new ≡ tiny_capacity slots c.reserve.new.self = made.capacity ∙ c.overwrite-2.ensures.frame.3 slots in
-    let need : tiny_len old + (c.len-count.result - c.len-len.result) ≡ tiny_len c.args.source.now =
-    omega (arith, c.len-count.ensures.value, c.len-len.ensures.value, c.if-count-len.false) in
-    on_ok_weaker c.extend_reserved.result (λ _. subst (λ n. GrowsFor slots n old new) need (λ less. same ∙ c.in_ok-reserve.ensures.grown less)) made.items
-
-pub returns-clause-fits : goal.returns-clause-fits
-returns-clause-fits g c = c.extend_reserved.ensures.fits
+    room_made _ _ c.args.self.now _ c.extend_reserved.result g.A.Item.Default.is_default _ c.reserve.new.self _
+    (omega (arith, c.len-len.ensures.value, c.len-count.ensures.value, c.if-count-len.false)) c.in_ok-reserve.ensures
+    (made.capacity ∙ c.overwrite-2.ensures.frame.3 g.A.Array.CAPACITY) made.fits
 
 pub returns-clause-slots : goal.returns-clause-slots
 returns-clause-slots g c =

@@ -1,4 +1,4 @@
-use Rattle.tinyvec.specs.Tiny.{tiny_items, tiny_capacity}
+use Rattle.tinyvec.specs.TinyVec.{tiny_items, tiny_capacity}
 use Rattle.tinyvec.proofs.FillingLemmas.{told_listed, told_known}
 use Rattle.tinyvec.proofs.tiny_vec.TinyVec.extend.Goals as goal
 
@@ -17,4 +17,4 @@ returns-clause-known g c = λ xs yields.
     let old = c.args.self.now in
     let new = c.extend_runs.new.self in
     told_known g.I.IntoIter.Iterator.next_gives (λ e. e.item) (λ e. e.rest) c.extend_runs.result xs it (yields it c.into_iter.ensures.into_iter_gives) ran.0
-    (tiny_items old) (tiny_items new) (tiny_capacity slots old) (tiny_capacity slots new) ran.1 ran.2 made.capacity made.full
+    (tiny_items old) (tiny_items new) (tiny_capacity slots old) (tiny_capacity slots new) ran.1 ran.2 made.grows.capacity made.full

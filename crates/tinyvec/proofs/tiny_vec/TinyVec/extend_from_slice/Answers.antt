@@ -1,14 +1,15 @@
-use Rattle.std.proofs.Common.{inl, inr, ◌≡◌, sym, ◌+◌, ◌≤◌, ◌++◌, length, drop, refl, ap, ◌∙◌, le_refl, arith}
+use Rattle.std.proofs.Common.{inl, inr, ◌≡◌, sym, ◌+◌, ◌≤◌, ◌++◌, length, drop, refl, ap, ◌∙◌, arith, vec_capacity}
 use Rattle.std.proofs.lemmas.Bool.{false≢true}
 use Rattle.std.proofs.lemmas.List.Elements.{same_from_all_zip}
 use Rattle.std.proofs.lemmas.Result.{on_ok_weaker, on_err_weaker}
 use Rattle.tinyvec_slots.specs.Slots.{items_len}
 use Rattle.tinyvec_slots.proofs.SlotsLemmas.{slots_used}
 use Rattle.tinyvec_slots.proofs.CloneLemmas.{on_err}
-use Rattle.tinyvec.specs.Tiny.{tiny_items, tiny_len, tiny_capacity, is_inline, PlaceRule}
+use Rattle.tinyvec.specs.TinyVec.{tiny_items, tiny_len, is_inline, PlaceRule}
 use Rattle.tinyvec.specs.declared.tiny_vec.TinyVec.TheVariants.{Inline, Heap}
 use Rattle.tinyvec.proofs.TinyLemmas.{tiny_slots_grown, on_ok_two, never_ok}
-use Rattle.tinyvec.proofs.CloneLemmas.{appends_len}
+use Rattle.tinyvec.proofs.FrameLemmas.{room_kept, room_refused, room_made}
+use Rattle.tinyvec.proofs.CloneLemmas.{appends_len, chosen}
 use Rattle.tinyvec.proofs.RefusedLemmas.{place_kept, place_then, spare_kept}
 use Rattle.tinyvec.proofs.tiny_vec.TinyVec.extend_from_slice.Goals.{In_default, in_default-via-in-Inline+else-other-capacity, in_default-via-in-Heap+else-other-capacity-2}
 use Rattle.tinyvec.proofs.tiny_vec.TinyVec.extend_from_slice.Goals as goal
@@ -28,10 +29,14 @@ pub returns-in-Inline-clause-items : goal.returns-in-Inline-clause-items
 returns-in-Inline-clause-items g c = rw c.in-Inline.is c.extend_from_slice.ensures.items
 
 pub returns-in-Inline-clause-len : goal.returns-in-Inline-clause-len
-returns-in-Inline-clause-len g c = rw c.in-Inline.is c.extend_from_slice.ensures.len
+returns-in-Inline-clause-len g c =
+    let made = c.extend_from_slice.ensures in
+    rw c.in-Inline.is (chosen c.extend_from_slice.result _ _ made.len (on_err_weaker c.extend_from_slice.result (λ h. ap length h) made.kept))
 
 pub returns-in-Inline-clause-if_clones_equal : goal.returns-in-Inline-clause-if_clones_equal
-returns-in-Inline-clause-if_clones_equal g c = rw c.in-Inline.is c.extend_from_slice.ensures.if_clones_equal
+returns-in-Inline-clause-if_clones_equal g c =
+    let made = c.extend_from_slice.ensures in
+    rw c.in-Inline.is (λ rule. chosen c.extend_from_slice.result _ _ (on_ok_weaker c.extend_from_slice.result (λ h. h rule) made.if_clones_equal) made.kept)
 
 pub returns-in-Inline-clause-place : goal.returns-in-Inline-clause-place
 returns-in-Inline-clause-place g c = on_ok_weaker c.extend_from_slice.result (λ _. inline_place g c) c.extend_from_slice.ensures.len
@@ -42,14 +47,14 @@ returns-in-Inline-clause-slots g c =
     on_ok_two c.extend_from_slice.result made.len made.spare (λ long behind.
     rw c.in-Inline.is (slots_used g.A.Item.Default.is_default c.in-Inline.v c.extend_from_slice.new.self (length c.args.other.now) long behind))
 
-pub returns-in-Inline-clause-capacity : goal.returns-in-Inline-clause-capacity
-returns-in-Inline-clause-capacity g c = rw c.in-Inline.is (le_refl g.A.Array.CAPACITY)
-
-pub returns-in-Inline-clause-same_room : goal.returns-in-Inline-clause-same_room
-returns-in-Inline-clause-same_room g c = rw c.in-Inline.is (λ _. refl)
-
-pub returns-in-Inline-clause-fits : goal.returns-in-Inline-clause-fits
-returns-in-Inline-clause-fits g c = c.extend_from_slice.ensures.fits
+pub returns-in-Inline-clause-room : goal.returns-in-Inline-clause-room
+returns-in-Inline-clause-room g c =
+    let room : items_len c.in-Inline.v + length c.args.other.now ≤ g.A.Array.CAPACITY =
+    omega (arith, c.if-other-capacity.true, c.capacity.ensures.value, c.capacity.ensures.fits, c.len.ensures.value) in
+    let need = items_len c.in-Inline.v + length c.args.other.now in
+    let alloc = c.in-Inline.field-1 in
+    rw c.in-Inline.is (room_kept g.A.Array.CAPACITY need (Inline c.in-Inline.v alloc) (Inline c.extend_from_slice.new.self alloc) c.extend_from_slice.result room refl
+    c.extend_from_slice.ensures.fits)
 
 pub returns-in-Inline-clause-succeeds : goal.returns-in-Inline-clause-succeeds
 returns-in-Inline-clause-succeeds g c = λ _. c.extend_from_slice.ensures.succeeds
@@ -74,15 +79,19 @@ returns-in-Heap-clause-items g c = rw c.in-Heap.is c.push_clones.ensures.items
 
 pub returns-in-Heap-clause-len : goal.returns-in-Heap-clause-len
 returns-in-Heap-clause-len g c =
-    on_ok_weaker c.push_clones.result (λ h.
-    rw c.in-Heap.is (appends_len g.A.Item.Clone.is_clone c.in-Heap.v.items c.push_clones.new.heap.items c.args.other.now h))
-    c.push_clones.ensures.items
+    let answer = c.push_clones.result in
+    let made = c.push_clones.ensures in
+    rw c.in-Heap.is (chosen answer _ _
+    (on_ok_weaker answer (λ h. appends_len g.A.Item.Clone.is_clone c.in-Heap.v.items c.push_clones.new.heap.items c.args.other.now h) made.items)
+    (on_err_weaker answer (λ h. ap length h) made.kept))
 
 pub returns-in-Heap-clause-if_clones_equal : goal.returns-in-Heap-clause-if_clones_equal
 returns-in-Heap-clause-if_clones_equal g c =
-    on_ok_weaker c.push_clones.result (λ h rule.
-    rw c.in-Heap.is (h.1 ∙ ap (λ l. c.in-Heap.v.items ++ l) (same_from_all_zip g.A.Item.Clone.is_clone c.args.other.now h.0 h.2 rule)))
-    c.push_clones.ensures.items
+    let answer = c.push_clones.result in
+    let made = c.push_clones.ensures in
+    rw c.in-Heap.is (λ rule. chosen answer _ _
+    (on_ok_weaker answer (λ h. h.1 ∙ ap (λ l. c.in-Heap.v.items ++ l) (same_from_all_zip g.A.Item.Clone.is_clone c.args.other.now h.0 h.2 rule)) made.items)
+    made.kept)
 
 pub returns-in-Heap-clause-place : goal.returns-in-Heap-clause-place
 returns-in-Heap-clause-place g c = on_ok_weaker c.push_clones.result (λ _. heap_place g c) c.push_clones.ensures.items
@@ -90,16 +99,14 @@ returns-in-Heap-clause-place g c = on_ok_weaker c.push_clones.result (λ _. heap
 pub returns-in-Heap-clause-slots : goal.returns-in-Heap-clause-slots
 returns-in-Heap-clause-slots g c = on_ok_weaker c.push_clones.result (λ _. rw c.in-Heap.is tt) c.push_clones.ensures.items
 
-pub returns-in-Heap-clause-capacity : goal.returns-in-Heap-clause-capacity
-returns-in-Heap-clause-capacity g c = rw c.in-Heap.is (omega (arith, c.push_clones.ensures.capacity))
-
-pub returns-in-Heap-clause-same_room : goal.returns-in-Heap-clause-same_room
-returns-in-Heap-clause-same_room g c = rw c.in-Heap.is (λ _. c.push_clones.ensures.capacity)
-
-pub returns-in-Heap-clause-fits : goal.returns-in-Heap-clause-fits
-returns-in-Heap-clause-fits g c =
+pub returns-in-Heap-clause-room : goal.returns-in-Heap-clause-room
+returns-in-Heap-clause-room g c =
     let ok = c.push_clones.new.heap.ok in
-    omega (arith, ok.0, ok.1)
+    let room : length c.in-Heap.v.items + length c.args.other.now ≤ vec_capacity c.in-Heap.v =
+    omega (arith, c.in-Heap.v.ok.0, c.in-Heap.v.ok.1) in
+    let need = length c.in-Heap.v.items + length c.args.other.now in
+    rw c.in-Heap.is (room_kept g.A.Array.CAPACITY need (Heap c.in-Heap.v) (Heap c.push_clones.new.heap) c.push_clones.result room c.push_clones.ensures.capacity
+    (omega (arith, ok.0, ok.1)))
 
 pub returns-in-Heap-clause-succeeds : goal.returns-in-Heap-clause-succeeds
 returns-in-Heap-clause-succeeds g c = λ _. c.push_clones.ensures.succeeds
@@ -124,14 +131,11 @@ returns-in_err-grow-in_default g c =
     let err = c.from_residual.ensures.0 in
     let grown = rw (same g (goal.at.returns-in_err-grow-in_default g c).In_default) at c.in_err-grow-in_default.ensures in record {
       items = never_ok _ answer err;
-      len = never_ok _ answer err;
-      if_clones_equal = never_ok _ answer err;
+      len = chosen answer _ _ (never_ok _ answer err) (on_err answer (ap length grown.refused.0));
+      if_clones_equal = λ _. chosen answer _ _ (never_ok _ answer err) (on_err answer grown.refused.0);
       place = never_ok _ answer err;
       slots = never_ok _ answer err;
-      capacity = grown.capacity;
-      same_room = λ _. grown.refused.3 g.A.Array.CAPACITY;
-      grown = never_ok _ answer err;
-      fits = grown.fits;
+      room = room_refused _ _ _ _ answer err (grown.refused.3 g.A.Array.CAPACITY) grown.fits;
       succeeds = λ fits _. absurd (false≢true (grown.succeeds fits));
       kept = on_err answer grown.refused.0;
       refused = on_err answer (inl (grown.full, grown.refused));
@@ -153,16 +157,15 @@ returns-in_ok-grow-in_default g c =
     let grown = rw (same g (goal.at.returns-in_ok-grow-in_default g c).In_default) at c.in_ok-grow-in_default.ensures in
     let place = place_then _ _ old mid new _ refl made.place grown.place in record {
       items = rw (← grown.items) made.items;
-      len = on_ok_weaker answer (λ h. appends_len C (tiny_items mid) (tiny_items new) ys h ∙ ap (λ l. length l + length ys) grown.items) made.items;
+      len = chosen answer _ _ (on_ok_weaker answer (λ h. appends_len C (tiny_items mid) (tiny_items new) ys h ∙ ap (λ l. length l + length ys) grown.items) made.items)
+          (on_err_weaker answer (λ h. ap length (h ∙ grown.items)) made.kept);
       if_clones_equal =
-          on_ok_weaker answer (λ h rule. h.1 ∙ ap (λ l. l ++ h.0) grown.items ∙ ap (λ l. tiny_items old ++ l) (same_from_all_zip C ys h.0 h.2 rule)) made.items;
+          λ rule. chosen answer _ _ (on_ok_weaker answer (λ h. h.1 ∙ ap (λ l. l ++ h.0) grown.items ∙ ap (λ l. tiny_items old ++ l) (same_from_all_zip C ys h.0 h.2 rule)) made.items)
+          (on_err_weaker answer (λ h. h ∙ grown.items) made.kept);
       place = on_ok_weaker answer (λ _. place) made.items;
       slots = on_ok_two answer made.items made.spare (λ h spare.
           tiny_slots_grown g.A.Item.Default.is_default old mid new (length ys) grown.stays made.place (appends_len C (tiny_items mid) (tiny_items new) ys h) spare);
-      capacity = rw made.capacity grown.capacity;
-      same_room = rw made.capacity (λ fits. ap (tiny_capacity g.A.Array.CAPACITY) (grown.kept fits));
-      grown = on_ok_weaker answer (λ _. rw made.capacity grown.grown) made.items;
-      fits = made.fits;
+      room = room_made _ _ old new answer g.A.Item.Default.is_default _ mid _ refl grown made.capacity made.fits;
       succeeds = λ _. made.succeeds;
       kept = rw (← grown.items) made.kept;
       refused = on_err_weaker answer (λ h. inr (

@@ -2,7 +2,7 @@ use Rattle.std.proofs.Common.{length, refl, sym, ap, arith}
 use Rattle.std.proofs.Math.Seq.{drop-nil}
 use Rattle.std.proofs.lemmas.Bool.{false≢true}
 use Rattle.std.proofs.lemmas.Result.{on_ok_weaker, on_err_weaker}
-use Rattle.tinyvec.specs.Tiny.{is_inline}
+use Rattle.tinyvec.specs.TinyVec.{is_inline}
 use Rattle.tinyvec.proofs.tiny_vec.TinyVec.extend_reserved.Goals as goal
 
 pub extend_from_slice-requires : goal.extend_from_slice-requires

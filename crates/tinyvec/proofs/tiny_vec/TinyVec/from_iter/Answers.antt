@@ -21,4 +21,4 @@ returns-in-Ok-clause-known g c = λ xs yields.
 pub returns-in-Ok-clause-spare : goal.returns-in-Ok-clause-spare
 returns-in-Ok-clause-spare g c =
     let made = c.new-vec.ensures in
-    defaults_left g.A.Item.Default.is_default g.A.Array.CAPACITY c.new-vec.result c.extend.new.self made.items made.place made.spare c.in-Ok.ensures.slots
+    defaults_left g.A.Item.Default.is_default g.A.Array.CAPACITY c.new-vec.result c.extend.new.self made.items made.place made.spare c.in-Ok.ensures.grows.slot_rule

@@ -2,7 +2,7 @@ use Rattle.std.proofs.Common.{◌-◌, ◌++◌, length, All, arith, sym, ap, su
 use Rattle.std.proofs.lemmas.List.Elements.{same_from_all_zip, All-drop}
 use Rattle.std.specs.Prelude.{IsTrue}
 use Rattle.tinyvec_slots.proofs.CloneLemmas.{on_err}
-use Rattle.tinyvec.specs.Tiny.{tiny_items, tiny_spare}
+use Rattle.tinyvec.specs.TinyVec.{tiny_items, tiny_spare}
 use Rattle.tinyvec.proofs.CloneLemmas.{appends_len}
 use Rattle.tinyvec.proofs.tiny_vec.TinyVec.from_slice.Goals as goal
 

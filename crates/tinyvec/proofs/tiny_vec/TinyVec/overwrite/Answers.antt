@@ -2,7 +2,7 @@ use Rattle.std.proofs.Common.{◌≡◌, [], ◌++◌, length, drop, append-nil,
 use Rattle.std.specs.List.{AllZip}
 use Rattle.std.proofs.lemmas.List.{drop_all}
 use Rattle.std.proofs.lemmas.Result.{on_ok_weaker, on_err_weaker}
-use Rattle.tinyvec.specs.Tiny.{tiny_items, tiny_len}
+use Rattle.tinyvec.specs.TinyVec.{tiny_items, tiny_len}
 use Rattle.tinyvec.proofs.TinyLemmas.{tiny_items-with, tiny_framed-with}
 use Rattle.tinyvec.proofs.tiny_vec.TinyVec.overwrite.Goals as goal
 

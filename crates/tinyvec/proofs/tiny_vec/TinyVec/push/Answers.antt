@@ -1,9 +1,9 @@
-use Rattle.std.proofs.Common.{◌≡◌, ℕ, ◌+◌, ◌<◌, ◌≤◌, [], ◌∷◌, ◌++◌, false, Vec, Global, Result, Ok, Err, drop, refl, sym, ap, ◌∙◌, le_refl, arith, vec_capacity}
+use Rattle.std.proofs.Common.{◌≡◌, ℕ, ◌+◌, ◌<◌, ◌≤◌, [], ◌∷◌, ◌++◌, false, Vec, Global, Result, Ok, Err, drop, refl, sym, ap, ◌∙◌, le_refl, arith, length, length-append, vec_capacity}
 use Rattle.std.specs.Prelude.{OnOk}
 use Rattle.std.specs.Result.{is_err}
 use Rattle.std.proofs.lemmas.Bool.{false≢true, eqb-true, eqb-false}
 use Rattle.tinyvec_slots.specs.Slots.{Slots, items, items_len, spare}
-use Rattle.tinyvec.specs.Tiny.{tiny_items, tiny_len, tiny_capacity, is_inline, PlaceRule, TinySlotRule}
+use Rattle.tinyvec.specs.TinyVec.{tiny_items, tiny_len, tiny_capacity, is_inline, PlaceRule, TinySlotRule}
 use Rattle.tinyvec.specs.Room.{Doubles, KeepsRoom}
 use Rattle.tinyvec.specs.declared.tiny_vec.TinyVec.{TinyVec}
 use Rattle.tinyvec.specs.declared.tiny_vec.TinyVec.TheVariants.{Inline, Heap}
@@ -22,7 +22,7 @@ record Pushed {A T : Type 0} (D : T → Type 0) (slots : ℕ) (x : T) (old new :
   items_are : tiny_items new ≡ tiny_items old ++ x ∷ []
   place : PlaceRule slots (tiny_len old + 1) old new
   slot_rule : TinySlotRule D old new
-  doubles : Doubles slots old new
+  doubles : Doubles slots (tiny_len old + 1) old new
   capacity : tiny_capacity slots old ≤ tiny_capacity slots new
   same_room : KeepsRoom slots (tiny_len old + 1) old new
   fits : tiny_len new ≤ tiny_capacity slots new
@@ -34,7 +34,7 @@ module _ {A T : Type 0} (D : T → Type 0) (slots : ℕ) (x : T) where
     items_are = is;
     place = place_kept {A = A} slots (items_len v + 1) (Inline v a) (Inline w a) refl (omega (arith, room));
     slot_rule = slots_pushed D v w x is behind;
-    doubles = λ full. absurd (omega (arith, full, room));
+    doubles = λ less. absurd (omega (arith, less, room));
     capacity = le_refl slots;
     same_room = λ _. refl;
     fits = fits;
@@ -45,7 +45,7 @@ module _ {A T : Type 0} (D : T → Type 0) (slots : ℕ) (x : T) where
     items_are = is;
     place = ((λ i. absurd (false≢true i)), λ h. absurd (false≢true h.0));
     slot_rule = tt;
-    doubles = λ full. absurd (omega (arith, full, room, v.ok.0));
+    doubles = λ less. absurd (omega (arith, less, room, v.ok.0));
     capacity = omega (arith, same);
     same_room = λ _. same;
     fits = omega (arith, w.ok.0, w.ok.1);
@@ -61,7 +61,7 @@ module _ {A T : Type 0} (D : T → Type 0) (slots : ℕ) (x : T) where
 
   -- it grew first
   grown : (old mid new : TinyVec A T) → tiny_len old ≡ tiny_capacity slots old → tiny_items mid ≡ tiny_items old → is_inline mid ≡ false
-      → Doubles slots old mid → tiny_capacity slots old ≤ tiny_capacity slots mid
+      → Doubles slots (tiny_len old + 1) old mid → tiny_capacity slots old ≤ tiny_capacity slots mid
       → tiny_items new ≡ tiny_items mid ++ x ∷ [] → is_inline new ≡ is_inline mid → tiny_capacity slots new ≡ tiny_capacity slots mid
       → tiny_len new ≤ tiny_capacity slots new → Pushed D slots x old new
   grown old mid new full kept out doubles more is place same fits =
@@ -69,7 +69,7 @@ module _ {A T : Type 0} (D : T → Type 0) (slots : ℕ) (x : T) where
         items_are = is ∙ ap (λ l. l ++ x ∷ []) kept;
         place = rules.0;
         slot_rule = rules.1;
-        doubles = λ full. rw same (doubles full);
+        doubles = λ less. rw same (doubles less);
         capacity = rw same more;
         same_room = λ room. absurd (omega (arith, full, room));
         fits = fits;
@@ -98,21 +98,20 @@ pushed g c = elim c.match-self.branch as (λ _. Pushed g.A.Item.Default.is_defau
       let ok = w.if-is_err.ensures.value in
       let put = w.push_reserved-in_default.ensures in
       rw w.self-is (grown g.A.Item.Default.is_default g.A.Array.CAPACITY c.args.x old w.grow_one.new.self w.push_reserved-in_default.new.self was.1
-      room.items (when_ok w.grow_one.result ok room.place) (when_ok w.grow_one.result ok room.room) room.capacity put.items put.place put.capacity put.fits)
+      room.items (when_ok w.grow_one.result ok room.place) (when_ok w.grow_one.result ok room.room) room.capacity put.items put.frame.place put.frame.capacity put.frame.fits)
 ]
 
 pub returns : goal.returns
 returns g c =
-    let made = pushed g c in record {
+    let made = pushed g c in
+    let long : tiny_len c.match-self.self ≡ tiny_len c.args.self.now + 1 = omega (arith, simp length-append at (ap length made.items_are)) in record {
       items = made.items_are;
+      len = long;
       place = made.place;
       slots = made.slot_rule;
-      doubles = made.doubles;
-      capacity = made.capacity;
-      same_room = made.same_room;
-      fits = made.fits;
+      room = record { capacity = made.capacity; same_room = made.same_room; grown = made.doubles; fits = made.fits };
       succeeds = λ _. refl;
       full = tt;
       refused = tt;
-      back = tt;
+      value_returned = tt;
     }

@@ -3,7 +3,7 @@ use Rattle.std.specs.Fn.{Called}
 use Rattle.std.proofs.SliceLists.{chained_more}
 use Rattle.std.proofs.iter.Next.{called}
 use Rattle.std.proofs.lemmas.List.{length_push, drop-drop}
-use Rattle.tinyvec.specs.Tiny.{tiny_items, tiny_len, tiny_spare}
+use Rattle.tinyvec.specs.TinyVec.{tiny_items, tiny_len, tiny_spare}
 use Rattle.tinyvec.proofs.tiny_vec.TinyVec.push_answers.Goals as goal
 
 pub loop-self-preserved : goal.loop-self-preserved
@@ -28,6 +28,6 @@ loop-self-preserved g c =
         chained_more (λ f y f'. Called g.F.FnMut f tt y f') _ run.0 at.f y _ run.2 (called g.F.FnMut c.f.ensures refl),
       ),
       search of_calls,
-      rw put.place at.invariant.5,
-      rw put.capacity at.invariant.6,
+      rw put.frame.place at.invariant.5,
+      rw put.frame.capacity at.invariant.6,
     )

@@ -1,7 +1,9 @@
+use Rattle.tinyvec.proofs.FrameLemmas.{inline_stays}
 use Rattle.tinyvec.proofs.TinyLemmas.{slots_pushed}
 use Rattle.tinyvec.proofs.tiny_vec.TinyVec.push_reserved.Goals as goal
 
-pub returns-in-Inline-clause-slots : goal.returns-in-Inline-clause-slots
-returns-in-Inline-clause-slots g c =
+pub returns-in-Inline-clause-frame : goal.returns-in-Inline-clause-frame
+returns-in-Inline-clause-frame g c =
     let put = c.push.ensures in
-    rw c.in-Inline.is (slots_pushed g.A.Item.Default.is_default c.in-Inline.v c.push.new.self c.args.x put.items put.spare)
+    rw c.in-Inline.is (inline_stays g.A.Item.Default.is_default g.A.Array.CAPACITY c.in-Inline.v c.push.new.self c.in-Inline.field-1
+    (slots_pushed g.A.Item.Default.is_default c.in-Inline.v c.push.new.self c.args.x put.items put.spare) put.fits)

@@ -2,7 +2,7 @@ use Rattle.std.proofs.Common.{◌<◌, ◌∷◌, ◌++◌, [], length, take, dr
 use Rattle.std.proofs.lemmas.List.{drop-drop, take_all, take_more_set}
 use Rattle.std.proofs.lemmas.List.Elements.{All-push, All-same}
 use Rattle.tinyvec_slots.proofs.FillingLemmas.{one_taken, rest_after_one}
-use Rattle.tinyvec.specs.Tiny.{tiny_items}
+use Rattle.tinyvec.specs.TinyVec.{tiny_items}
 use Rattle.tinyvec.proofs.tiny_vec.TinyVec.push_taken.Goals as goal
 
 pub loop-i-preserved : goal.loop-i-preserved
@@ -20,8 +20,8 @@ loop-i-preserved g c =
       put.items ∙ ap (λ l. l ++ c.take.result ∷ []) inv.0 ∙ append_assoc _ (take i first) _
           ∙ ap (λ l. tiny_items c.args.self.now ++ l) (ap (λ y. take i first ++ y ∷ []) taken ∙ sym (one_taken at.from first i c.index-from-i.result within inv.5 c.index-from-i.is)),
       put.spare ∙ ap (drop 1) inv.1 ∙ drop-drop 1 i _,
-      put.place ∙ inv.2,
-      put.capacity ∙ inv.3,
+      put.frame.place ∙ inv.2,
+      put.frame.capacity ∙ inv.3,
       length-set at.from i d ∙ inv.4,
       rest_after_one at.from first i d inv.5,
       All-same D _ _ (take_more_set at.from i d long) (All-push D (take i at.from) d inv.6 c.take.ensures.after),

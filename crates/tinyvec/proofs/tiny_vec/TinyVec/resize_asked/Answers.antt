@@ -1,5 +1,5 @@
 use Rattle.std.proofs.Common.{◌≡◌, ◌<◌, ◌++◌, take, take_all, sym, ap, ◌∙◌, arith}
-use Rattle.tinyvec.specs.Tiny.{tiny_items, tiny_len}
+use Rattle.tinyvec.specs.TinyVec.{tiny_items, tiny_len}
 use Rattle.tinyvec.proofs.tiny_vec.TinyVec.resize_asked.Goals as goal
 
 pub returns-then-n-len-clause-items : goal.returns-then-n-len-clause-items

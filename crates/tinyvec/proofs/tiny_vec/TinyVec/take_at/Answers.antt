@@ -1,5 +1,5 @@
 use Rattle.std.proofs.Common.{◌≡◌, length, set, ap, ◌∙◌, length-set}
-use Rattle.tinyvec.specs.Tiny.{tiny_len}
+use Rattle.tinyvec.specs.TinyVec.{tiny_len}
 use Rattle.tinyvec.proofs.TinyLemmas.{tiny_items-with, tiny_framed-with}
 use Rattle.tinyvec.proofs.tiny_vec.TinyVec.take_at.Goals as goal
 

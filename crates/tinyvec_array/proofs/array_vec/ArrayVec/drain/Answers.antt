@@ -14,20 +14,20 @@ pub returns : goal.returns
 returns g c =
     let L = items c.args.self.now in
     let S = spare c.args.self.now in
-    let i = c.resolve-part.result.start in
-    let j = c.resolve-part.result.end in
-    let n = c.narrow-count.result in
+    let i = c.resolve_range-part.result.start in
+    let j = c.resolve_range-part.result.end in
+    let n = c.via_u32-count.result in
     let k = c.len-len.result - n in
     let B = remove_range L i j in
     let M = slice_range L i j in
     let bounds = g.R.RangeBounds.end_bound c.args.range in
-    let start_is = c.resolve-part.ensures.start in
-    let end_is = c.resolve-part.ensures.end ∙ ap (range_end bounds) c.len-len.ensures.value in
+    let start_is = c.resolve_range-part.ensures.start in
+    let end_is = c.resolve_range-part.ensures.end ∙ ap (range_end bounds) c.len-len.ensures.value in
     let long-B : length B ≡ k = search (rules, length-remove_range) in
     let long-M : length M ≡ n = search (rules, length-slice_range) in
     let cut : c.set_len.new.self ≡ split_at k (B ++ M ++ S) =
-    c.set_len.ensures.value ∙ ap (split_at k) (slots_are c.items_to_end.new.self ∙ ap (λ xs. xs ++ spare c.items_to_end.new.self) c.items_to_end.ensures.items
-    ∙ ap (λ xs. B ++ M ++ xs) c.items_to_end.ensures.spare) in
+    c.set_len.ensures.value ∙ ap (split_at k) (slots_are c.move_to_end.new.self ∙ ap (λ xs. xs ++ spare c.move_to_end.new.self) c.move_to_end.ensures.items
+    ∙ ap (λ xs. B ++ M ++ xs) c.move_to_end.ensures.spare) in
     let rest : slice_range (spare c.set_len.new.self) 0 n ≡ M =
     ap (λ m. take m (spare c.set_len.new.self)) (minus_zero n) ∙ ap (λ v. take n (spare v)) cut ∙ second_part B M S k n long-B long-M in
     let within : n ≤ length (spare c.set_len.new.self) = rw cut (second_part_within B M S k n long-B long-M) in

@@ -6,8 +6,8 @@ use Rattle.tinyvec_array.specs.Drain.{DrainKeeps, DrainLeaves, drain_items}
 use Rattle.tinyvec_array.proofs.DrainLemmas.{DrainKeeps-refl, DrainKeeps-then}
 use Rattle.tinyvec_array.proofs.array_vec.ArrayVec.drain_into.Goals as goal
 
-pub drain-x-items-requires-clause-known : goal.drain-x-items-requires-clause-known
-drain-x-items-requires-clause-known g c = c.requires.known
+pub drain-x-items-requires-clause-not_exhausted : goal.drain-x-items-requires-clause-not_exhausted
+drain-x-items-requires-clause-not_exhausted g c = c.requires.not_exhausted
 
 pub drain-x-items-requires-clause-in_list : goal.drain-x-items-requires-clause-in_list
 drain-x-items-requires-clause-in_list g c = c.requires.in_list

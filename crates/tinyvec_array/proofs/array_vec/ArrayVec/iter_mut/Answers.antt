@@ -1,6 +1,6 @@
 use Rattle.std.proofs.Common.{◌≤◌, length, rules}
 use Rattle.tinyvec_slots.specs.Slots.{all_slots}
-use Rattle.tinyvec_array.proofs.IteratingLemmas.{items_len-with_items}
+use Rattle.tinyvec_array.proofs.IterMutLemmas.{items_len-with_items}
 use Rattle.tinyvec_array.proofs.array_vec.ArrayVec.iter_mut.Goals as goal
 
 pub returns : goal.returns

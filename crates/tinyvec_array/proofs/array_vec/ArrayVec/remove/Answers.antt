@@ -46,14 +46,14 @@ returns-clause-value g c =
     let all = length-append B M in
     let last = length-slice_range xs i (i + 1) (omega arith) (omega (arith, c.requires)) in
     let at_end : length (B ++ M) - 1 ≡ length B + 0 = omega (arith, all, last) in
-    c.take_last.ensures.value ∙ ap (λ l. get_or l (length l - 1) x) c.items_to_end.ensures.items
+    c.take_last.ensures.value ∙ ap (λ l. get_or l (length l - 1) x) c.move_to_end.ensures.items
     ∙ ap (λ n. get_or (B ++ M) n x) at_end ∙ get_or-append-add B M 0 x ∙ ap (λ n. get_or (take n (drop i xs)) 0 x) one
     ∙ get_or-take 1 (drop i xs) 0 x (omega arith) ∙ get_or-drop i xs 0 x ∙ ap (λ n. get_or xs n x) here
 
 pub returns-clause-spare : goal.returns-clause-spare
 returns-clause-spare g c =
     let frees = c.take_last.ensures.spare in
-    (frees.0, frees.1, frees.2 ∙ ap (λ l. frees.0 ++ l) c.items_to_end.ensures.spare)
+    (frees.0, frees.1, frees.2 ∙ ap (λ l. frees.0 ++ l) c.move_to_end.ensures.spare)
 
 pub returns-clause-fits : goal.returns-clause-fits
 returns-clause-fits g c = c.take_last.ensures.fits
@@ -68,7 +68,7 @@ returns-clause-items g c =
     let one = length-slice_range xs i (i + 1) (omega arith) (omega arith) in
     let all = length-append B M in
     let cut = take_at B M (length (B ++ M) - 1) (omega arith) in
-    rw (c.take_last.ensures.rest, c.items_to_end.ensures.items, cut, add-one)
+    rw (c.take_last.ensures.rest, c.move_to_end.ensures.items, cut, add-one)
 
 pub returns-then-are_short_of-clause-spare : goal.returns-then-are_short_of-clause-spare
 returns-then-are_short_of-clause-spare g c =
@@ -104,5 +104,5 @@ take_last-requires g c =
     let xs = items c.args.self.now in
     let i = c.args.i in
     let one = length-slice_range xs i (i + 1) (omega arith) (omega arith) in
-    let all = ap length c.items_to_end.ensures.items ∙ length-append (remove_range xs i (i + 1)) (slice_range xs i (i + 1)) in
+    let all = ap length c.move_to_end.ensures.items ∙ length-append (remove_range xs i (i + 1)) (slice_range xs i (i + 1)) in
     omega (arith, one, all)

@@ -11,7 +11,7 @@ returns-in-Ok g c =
     let n = c.args.n in
     let x = c.args.x in
     let slots = g.A.Array.slots c.self.inside.array in
-    let new = g.A.Array.slots c.put_copies.new.array in
+    let new = g.A.Array.slots c.write_clones_of.new.array in
     let at : len ≡ c.self.inside.len = search rules in
     let was : c.args.self.now ≡ split_at len slots = sym c.self.view_is ∙ ap (λ k. split_at k slots) (sym at) in
     let fits : len ≤ length slots = search rules in
@@ -25,7 +25,7 @@ returns-in-Ok g c =
       len = written.1 ∙ ap (λ k. k + (n - len)) long ∙ sum;
       if_clones_equal = rw (was, all, long) (written.2);
       spare = rw was (slots_used g.A.Item.Default.is_default (split_at len slots) (split_at n new) (n - len) written.1 written.3);
-      back = tt;
+      value_returned = tt;
       kept = tt;
       refused = tt;
       fits = le_trans (length-take-most n new) c.requires.in_bounds;
@@ -54,4 +54,4 @@ returns-in-Err-clause-refused g c =
     (h.0, few, h.2, (made.0, made.1, made.2, rw (made.3, ← c.self.view_is, at) (behind_writes slots made.0 inside.len h.0 fits)))
 
 pub returns-in-Err-clause-fits : goal.returns-in-Err-clause-fits
-returns-in-Err-clause-fits g c = le_trans (length-take-most c.self.inside.len (g.A.Array.slots c.put_copies.new.array)) c.self.invariant.0
+returns-in-Err-clause-fits g c = le_trans (length-take-most c.self.inside.len (g.A.Array.slots c.write_clones_of.new.array)) c.self.invariant.0

@@ -1,5 +1,5 @@
 use Rattle.std.specs.Bool.{⊤}
-use Rattle.tinyvec.specs.Tiny.{tiny_len}
+use Rattle.tinyvec.specs.TinyVec.{tiny_len}
 use Rattle.tinyvec_bench.proofs.tiny.ends.pop_until_empty.Given as goal
 
 abbrev pub invariant-loop-y : goal.invariant-loop-y

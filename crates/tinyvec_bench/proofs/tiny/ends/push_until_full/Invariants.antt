@@ -1,6 +1,6 @@
 use Rattle.std.specs.Bool.{⊤}
 use Rattle.std.proofs.Common.{◌-◌}
-use Rattle.tinyvec.specs.Tiny.{tiny_len}
+use Rattle.tinyvec.specs.TinyVec.{tiny_len}
 use Rattle.tinyvec_bench.proofs.tiny.ends.push_until_full.Given as goal
 
 abbrev pub invariant-loop-vec : goal.invariant-loop-vec

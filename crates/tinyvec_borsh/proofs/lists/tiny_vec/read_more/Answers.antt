@@ -1,5 +1,5 @@
 use Rattle.std.proofs.Common.{◌≡◌, ◌∙◌, ◌+◌, ◌≤◌, inr, length, max, arith, rules}
-use Rattle.tinyvec.specs.Tiny.{tiny_items, tiny_len}
+use Rattle.tinyvec.specs.TinyVec.{tiny_items, tiny_len}
 use Rattle.tinyvec.specs.Lends.{tiny_with_items}
 use Rattle.tinyvec.proofs.TinyLemmas.{tiny_framed-with, tiny_items-with}
 use Rattle.tinyvec_borsh.proofs.Blocks.{fails-of-more, grown}

@@ -1,6 +1,6 @@
 use Rattle.std.proofs.Common.{◌≡◌, ◌≤◌, nat_lt, length, take}
 use Rattle.std.specs.List.{filter}
-use Rattle.tinyvec.specs.Tiny.{tiny_items, tiny_len, tiny_capacity, IsInline}
+use Rattle.tinyvec.specs.TinyVec.{tiny_items, tiny_len, tiny_capacity, IsInline}
 use Rattle.tinyvec_examples.proofs.readme.below.below.Given as goal
 
 abbrev pub invariant-loop-number : goal.invariant-loop-number

@@ -1,5 +1,5 @@
 use Rattle.std.proofs.Common.{◌≡◌, ◌++◌, take}
-use Rattle.tinyvec.specs.Tiny.{tiny_items}
+use Rattle.tinyvec.specs.TinyVec.{tiny_items}
 use Rattle.tinyvec_examples.proofs.readme.loops.push_each.Given as goal
 
 abbrev pub invariant-loop-number : goal.invariant-loop-number

@@ -1,5 +1,5 @@
 use Rattle.std.proofs.Common.{◌≡◌, ◌∷◌, [], pos, rules, refl, ◌∙◌}
-use Rattle.tinyvec_slice.specs.View.{items, spare, slots, seen}
+use Rattle.tinyvec_slice.specs.SliceVec.{items, spare, slots, seen}
 use Rattle.tinyvec_slots.proofs.SlotsLemmas.{freed}
 use Rattle.tinyvec_slice.proofs.ViewLemmas.{owner_sees}
 use Rattle.tinyvec_examples.proofs.slices.draining.one_drained.Goals as goal

@@ -1,6 +1,6 @@
 use Rattle.std.proofs.Common.{◌∷◌, pos, ap, ◌∙◌}
 use Rattle.tinyvec_slots.proofs.SlotsLemmas.{freed}
-use Rattle.tinyvec_slice.specs.View.{seen}
+use Rattle.tinyvec_slice.specs.SliceVec.{seen}
 use Rattle.tinyvec_examples.proofs.slices.draining.push_then_drain.Goals as goal
 
 pub returns-clause-spare : goal.returns-clause-spare

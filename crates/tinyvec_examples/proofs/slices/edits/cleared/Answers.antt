@@ -1,6 +1,6 @@
 use Rattle.std.proofs.Common.{◌≡◌, ◌∷◌, [], ◌++◌, pos, rules, ap, ◌∙◌, length, replicate}
 use Rattle.tinyvec_slots.proofs.SlotsLemmas.{freed}
-use Rattle.tinyvec_slice.specs.View.{items, spare, slots, seen}
+use Rattle.tinyvec_slice.specs.SliceVec.{items, spare, slots, seen}
 use Rattle.tinyvec_slice.proofs.ViewLemmas.{owner_sees}
 use Rattle.tinyvec_examples.proofs.slices.edits.cleared.Goals as goal
 

@@ -1,5 +1,5 @@
 use Rattle.std.proofs.Common.{◌≡◌, ◌∷◌, [], pos, rules, refl, sym, ap, ◌∙◌, length, drop, get_or, arith}
-use Rattle.tinyvec_slice.specs.View.{items, spare, slots}
+use Rattle.tinyvec_slice.specs.SliceVec.{items, spare, slots}
 use Rattle.tinyvec_slice.proofs.ViewLemmas.{owner_sees}
 use Rattle.tinyvec_examples.proofs.slices.filling.extended.Goals as goal
 

@@ -4,30 +4,30 @@ use Rattle.std.specs.Fmt.{decimal, WritesInCalls}
 use Rattle.std.specs.List.{FoldsTo, concat}
 use Rattle.std.proofs.lemmas.List.{drop-drop}
 use Rattle.std.proofs.lemmas.Result.{on_ok_weaker}
-use Rattle.tinyvec_slice.specs.View.{items_of, spare_of, name_of}
+use Rattle.tinyvec_slice.specs.SliceVec.{items_of, spare_of, name_of}
 use Rattle.tinyvec_slice.specs.declared.lent.Lent as Lent
-use Rattle.tinyvec_slice.specs.declared.slice_vec.SliceVecOver.{SliceVecOver}
+use Rattle.tinyvec_slice.specs.declared.slice_vec.GenericSliceVec.{GenericSliceVec}
 use Rattle.tinyvec_examples.proofs.slices.writing.write_pair.Goals as goal
 
 module _ {B : Type 0} (g : Lent.Ghosts B ℕ) where
   -- w is v after a text
-  abbrev pub Wrote : SliceVecOver B ℕ → List ℕ → SliceVecOver B ℕ → Type 0
+  abbrev pub Wrote : GenericSliceVec B ℕ → List ℕ → GenericSliceVec B ℕ → Type 0
   Wrote v bytes w = (items_of g w ≡ items_of g v ++ bytes) × (spare_of g w ≡ drop (length bytes) (spare_of g v)) × (name_of g w ≡ name_of g v)
 
   -- one text behind another
-  both_written : (v mid w : SliceVecOver B ℕ) (xs ys : List ℕ) → Wrote v xs mid → Wrote mid ys w → Wrote v (xs ++ ys) w
+  both_written : (v mid w : GenericSliceVec B ℕ) (xs ys : List ℕ) → Wrote v xs mid → Wrote mid ys w → Wrote v (xs ++ ys) w
   both_written v mid w xs ys one two = (
     two.0 ∙ ap (λ l. l ++ ys) one.0 ∙ append_assoc (items_of g v) xs ys,
     two.1 ∙ ap (drop (length ys)) one.1 ∙ drop-drop (length ys) (length xs) (spare_of g v) ∙ ap (λ n. drop n (spare_of g v)) (sym (length-append xs ys)),
     two.2 ∙ one.2,
   )
 
-  all_written : (v : SliceVecOver B ℕ) (parts : List (List ℕ)) (w : SliceVecOver B ℕ) → FoldsTo Wrote v parts w → Wrote v (concat parts) w
+  all_written : (v : GenericSliceVec B ℕ) (parts : List (List ℕ)) (w : GenericSliceVec B ℕ) → FoldsTo Wrote v parts w → Wrote v (concat parts) w
   all_written v [] w same = (ap (items_of g) (sym same) ∙ sym (append-nil (items_of g v)), ap (spare_of g) (sym same), ap (name_of g) (sym same))
   all_written v (xs ∷ parts) w along = both_written v along.0 w xs (concat parts) along.1 (all_written along.0 parts w along.2)
 
   -- the calls of `write_str` together wrote the text
-  pub text_written : (v : SliceVecOver B ℕ) (bytes : List ℕ) (w : SliceVecOver B ℕ) → WritesInCalls Wrote v bytes w → Wrote v bytes w
+  pub text_written : (v : GenericSliceVec B ℕ) (bytes : List ℕ) (w : GenericSliceVec B ℕ) → WritesInCalls Wrote v bytes w → Wrote v bytes w
   text_written v bytes w wrote = subst (λ l. Wrote v l w) wrote.whole (all_written v wrote.parts w wrote.calls)
 
 pub returns-clause-same_reference : goal.returns-clause-same_reference

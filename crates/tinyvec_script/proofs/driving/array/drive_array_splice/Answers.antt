@@ -6,8 +6,8 @@ use Rattle.std.specs.Vec.Iter.{into_iter_items, into_iter_steps, into_iter_steps
 use Rattle.tinyvec_slots.specs.Slots.{items, items_len, spare}
 use Rattle.tinyvec_slots.specs.Ends.{Asks, TakesFromEnds, given_items}
 use Rattle.tinyvec_slots.specs.Fused.{fused_rest}
-use Rattle.tinyvec_slots.specs.Splices.{FinishesWith}
-use Rattle.tinyvec_slots.specs.Splicing.{SplicedByWord}
+use Rattle.tinyvec_slots.specs.AnySplice.{FinishesWith}
+use Rattle.tinyvec_slots.specs.SplicedByWord.{SplicedByWord}
 use Rattle.tinyvec_slots.proofs.Fused.{fused_ends}
 use Rattle.tinyvec_slots.proofs.Lists.{length-slice_range}
 use Rattle.tinyvec_array.specs.Splice.{splice_view, splice_left, splice_replacement, splice_slots, SpliceKeeps, SpliceSteps, SpliceStepsBack}

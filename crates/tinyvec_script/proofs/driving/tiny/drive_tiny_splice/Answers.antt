@@ -5,13 +5,13 @@ use Rattle.std.specs.Iterator.Adapters.{fuse_steps}
 use Rattle.std.specs.Vec.Iter.{into_iter_items, into_iter_steps, into_iter_steps_back}
 use Rattle.tinyvec_slots.specs.Ends.{Asks, TakesFromEnds, given_items}
 use Rattle.tinyvec_slots.specs.Fused.{fused_rest}
-use Rattle.tinyvec_slots.specs.Splices.{FinishesWith}
-use Rattle.tinyvec_slots.specs.Splicing.{SplicedByWord}
+use Rattle.tinyvec_slots.specs.AnySplice.{FinishesWith}
+use Rattle.tinyvec_slots.specs.SplicedByWord.{SplicedByWord}
 use Rattle.tinyvec_slots.proofs.Fused.{fused_ends}
 use Rattle.tinyvec_slots.proofs.Lists.{length-slice_range}
-use Rattle.tinyvec.specs.Tiny.{tiny_items, tiny_len, tiny_capacity, SameFrame}
+use Rattle.tinyvec.specs.TinyVec.{tiny_items, tiny_len, tiny_capacity, SameFrame}
 use Rattle.tinyvec.proofs.TinyLemmas.{tiny_slots_framed}
-use Rattle.tinyvec.specs.TinySplice.{splice_view, splice_left, splice_replacement, splice_vec, SpliceKeeps, SpliceSteps, SpliceStepsBack}
+use Rattle.tinyvec.specs.TinyVecSplice.{splice_view, splice_left, splice_replacement, splice_vec, SpliceKeeps, SpliceSteps, SpliceStepsBack}
 use Rattle.tinyvec.specs.declared.splice.TinyVecSplice.{TinyVecSplice}
 use Rattle.tinyvec.proofs.SpliceLemmas.{Asks-splices, Asks-takes_removed}
 use Rattle.tinyvec_script.specs.Driving.{refused_items, TinySplices}
@@ -91,11 +91,11 @@ returns-clause-splices g c =
     c.requires.start_le_end c.requires.in_bounds made.front made.left made.back (whole g d) c.finish.result (finished g d) in
     let fact : TinySplices D slots c.args.vec.now c.args.start c.args.end word P c.take_word.new.yields.items c.keep_refused.new.list.items v = record {
       list = rw (yields, rest) list;
-      place = place_framed slots (tiny_len v) old mid v frame c.finish.ensures.place;
-      slot_rule = tiny_slots_framed D old mid v frame c.finish.ensures.slots;
-      capacity = capacity_framed slots (tiny_len v) old mid v frame c.finish.ensures.capacity;
-      same_room = room_framed slots (tiny_len v) old mid v frame c.finish.ensures.same_room;
-      fits = (c.finish.ensures.finished).fits;
+      place = place_framed slots (tiny_len v) old mid v frame c.finish.ensures.grows.place;
+      slot_rule = tiny_slots_framed D old mid v frame c.finish.ensures.grows.slot_rule;
+      capacity = capacity_framed slots (tiny_len v) old mid v frame c.finish.ensures.grows.capacity;
+      same_room = room_framed slots (tiny_len v) old mid v frame c.finish.ensures.grows.same_room;
+      fits = c.finish.ensures.grows.fits;
       no_shorter = λ over. rw (sym frame.0) (refused_over splice_view SpliceKeeps (fused_rest into_iter_items) _ _ word asks.0 (along _ _ asks.0 _ asks.1) (takes _ _ asks.0 _ asks.1)
           (tiny_capacity slots v) (tiny_items c.args.vec.now) (tiny_items v) c.args.start c.args.end P
           c.requires.start_le_end c.requires.in_bounds made.front made.left made.back (whole g d) c.finish.result (finished g d) c.finish.ensures.no_shorter over);

@@ -1,6 +1,6 @@
 use Rattle.std.proofs.Common.{◌+◌, ◌∙◌, sym, ap, arith, rules}
 use Rattle.std.proofs.lemmas.List.{length_push}
-use Rattle.tinyvec_slice.specs.View.{seen_of}
+use Rattle.tinyvec_slice.specs.SliceVec.{seen_of}
 use Rattle.tinyvec_script.specs.Step.{SliceStep}
 use Rattle.tinyvec_script.proofs.RunLemmas.{Run-more, call_left, none_left}
 use Rattle.tinyvec_script.proofs.runs.slice.run_slice.Goals as goal

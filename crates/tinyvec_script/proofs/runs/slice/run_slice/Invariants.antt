@@ -1,5 +1,5 @@
 use Rattle.std.proofs.Common.{◌≡◌, ◌≤◌, length, vec_len, vec_capacity}
-use Rattle.tinyvec_slice.specs.View.{seen_of, name_of}
+use Rattle.tinyvec_slice.specs.SliceVec.{seen_of, name_of}
 use Rattle.tinyvec_script.specs.Step.{SliceStep, Run}
 use Rattle.tinyvec_script.proofs.runs.slice.run_slice.Given as goal
 

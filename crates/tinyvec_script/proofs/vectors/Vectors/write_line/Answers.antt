@@ -1,11 +1,8 @@
-use Rattle.tinyvec_script.proofs.PlaceLemmas.{place_of-inline}
+use Rattle.tinyvec_script.proofs.Written.{gathered_then, Gathers-then}
 use Rattle.tinyvec_script.proofs.vectors.Vectors.write_line.Goals as goal
 
-pub returns-in-A : goal.returns-in-A
-returns-in-A g c = rw c.in-A.is (rw (c.as_slice.ensures, c.grab_spare_slice.ensures) at c.write_line.ensures)
-
-pub returns-in-S : goal.returns-in-S
-returns-in-S g c = rw c.in-S.is (rw (c.as_slice-in-S.ensures, c.grab_spare_slice-in-S.ensures) at c.write_line-in-S.ensures)
-
-pub returns-in-T : goal.returns-in-T
-returns-in-T g c = rw (c.in-T.is, place_of-inline c.args.self.now.t) (rw (c.as_slice-in-T.ensures, c.is_inline.ensures) at c.write_tiny_line.ensures)
+pub returns : goal.returns
+returns g c =
+    let answer = gathered_then _ _ _ _ _ _ _ _ c.in_ok-write_answer.ensures c.in_ok-put.ensures in
+    let vector = gathered_then _ _ _ _ _ _ _ _ answer c.in_ok-write_vector.ensures in
+    Gathers-then c.put-2.result _ _ _ _ _ _ _ _ vector c.put-2.ensures

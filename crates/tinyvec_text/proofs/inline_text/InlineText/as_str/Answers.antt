@@ -1,6 +1,6 @@
 use Rattle.std.proofs.Common.{IsUtf8, sym, subst, ◌∙◌, rules}
 use Rattle.std.proofs.lemmas.Str.{IsUtf8-had, encodes-chars, scalars-chars}
-use Rattle.tinyvec_text.specs.Text.{Text}
+use Rattle.tinyvec_text.specs.InlineText.{Text}
 use Rattle.tinyvec_text.proofs.inline_text.InlineText.as_str.Goals as goal
 
 pub unreachable-requires : goal.unreachable-requires

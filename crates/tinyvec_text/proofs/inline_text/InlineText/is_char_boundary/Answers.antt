@@ -1,6 +1,6 @@
 use Rattle.std.proofs.Common.{sym, subst}
 use Rattle.std.proofs.lemmas.Str.{IsUtf8-had}
-use Rattle.tinyvec_text.specs.Text.{Text, text_chars, IsBoundary}
+use Rattle.tinyvec_text.specs.InlineText.{Text, text_chars, IsBoundary}
 use Rattle.tinyvec_text.proofs.Boundaries.{boundary_from_split, split_from_boundary}
 use Rattle.tinyvec_text.proofs.inline_text.InlineText.is_char_boundary.Goals as goal
 

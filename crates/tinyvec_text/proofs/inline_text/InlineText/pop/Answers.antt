@@ -1,8 +1,8 @@
 use Rattle.std.proofs.Common.{◌≡◌, ◌++◌, ◌∷◌, [], IsUtf8, encode_utf8, take, ap, sym, subst, ◌∙◌, chars, refl, rules}
 use Rattle.std.specs.Char.{IsScalar}
 use Rattle.std.proofs.lemmas.Str.{IsUtf8-had, IsUtf8-encode, chars-append}
-use Rattle.tinyvec.specs.Tiny.{tiny_items}
-use Rattle.tinyvec_text.specs.Text.{text_chars}
+use Rattle.tinyvec.specs.TinyVec.{tiny_items}
+use Rattle.tinyvec_text.specs.InlineText.{text_chars}
 use Rattle.tinyvec_text.proofs.Boundaries.{chars_of_one}
 use Rattle.tinyvec_text.proofs.inline_text.InlineText.pop.Goals as goal
 

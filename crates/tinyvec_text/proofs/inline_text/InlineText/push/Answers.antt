@@ -1,8 +1,8 @@
 use Rattle.std.proofs.Common.{◌≡◌, ◌++◌, ◌∷◌, [], IsUtf8, ap, sym, subst, ◌∙◌, chars, rules}
 use Rattle.std.proofs.lemmas.Str.{IsUtf8-had, IsUtf8-append, IsUtf8-from_ascii, chars-append, encode_ascii}
 use Rattle.std.specs.Prelude.{encode_utf8}
-use Rattle.tinyvec.specs.Tiny.{tiny_items}
-use Rattle.tinyvec_text.specs.Text.{Text, text_chars}
+use Rattle.tinyvec.specs.TinyVec.{tiny_items}
+use Rattle.tinyvec_text.specs.InlineText.{Text, text_chars}
 use Rattle.tinyvec_text.proofs.Boundaries.{chars_of_one}
 use Rattle.tinyvec_text.proofs.inline_text.InlineText.push.Goals as goal
 

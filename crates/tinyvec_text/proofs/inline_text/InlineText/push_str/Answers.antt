@@ -1,8 +1,8 @@
 use Rattle.std.proofs.Common.{◌≡◌, ◌++◌, IsUtf8, ap, sym, subst, ◌∙◌, chars, rules}
 use Rattle.std.proofs.lemmas.Str.{IsUtf8-had, IsUtf8-append, chars-append}
 use Rattle.tinyvec_slots.proofs.CloneLemmas.{on_err}
-use Rattle.tinyvec.specs.Tiny.{tiny_items}
-use Rattle.tinyvec_text.specs.Text.{Text, text_chars}
+use Rattle.tinyvec.specs.TinyVec.{tiny_items}
+use Rattle.tinyvec_text.specs.InlineText.{Text, text_chars}
 use Rattle.tinyvec_text.proofs.Lists.{text_unchanged, refused_memory}
 use Rattle.tinyvec_text.proofs.inline_text.InlineText.push_str.Goals as goal
 

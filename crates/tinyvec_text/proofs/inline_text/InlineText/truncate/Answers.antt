@@ -1,8 +1,8 @@
 use Rattle.std.proofs.Common.{◌++◌, IsUtf8, ap, sym, subst, ◌∙◌, chars, length, drop, length-take-le}
 use Rattle.std.proofs.CharBoundary.{IsUtf8-take-drop}
 use Rattle.std.proofs.lemmas.Str.{IsUtf8-had}
-use Rattle.tinyvec.specs.Tiny.{tiny_items}
-use Rattle.tinyvec_text.specs.Text.{Text, text_chars, IsBoundary}
+use Rattle.tinyvec.specs.TinyVec.{tiny_items}
+use Rattle.tinyvec_text.specs.InlineText.{Text, text_chars, IsBoundary}
 use Rattle.tinyvec_text.proofs.Boundaries.{chars_cut, split_from_boundary}
 use Rattle.tinyvec_text.proofs.inline_text.InlineText.truncate.Goals as goal
 

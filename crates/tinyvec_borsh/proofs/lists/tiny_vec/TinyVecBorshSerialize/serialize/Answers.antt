@@ -1,6 +1,6 @@
 use Rattle.std.proofs.Common.{map, arith}
 use Rattle.std.proofs.lemmas.List.{length-map}
-use Rattle.tinyvec.specs.Tiny.{tiny_items}
+use Rattle.tinyvec.specs.TinyVec.{tiny_items}
 use Rattle.tinyvec_borsh.proofs.Outcomes.{on-ok}
 use Rattle.tinyvec_borsh.proofs.ItemByItem.{wrote-list}
 use Rattle.tinyvec_borsh.proofs.lists.tiny_vec.TinyVecBorshSerialize.serialize.Goals as goal

@@ -1,0 +1,88 @@
+-- Lemmas on what a call leaves of place and capacity.
+use Rattle.std.proofs.Common.{◌≡◌, ℕ, ◌≤◌, ◌+◌, ◌*◌, max, Global, Result, Ok, Err, refl, sym, ap, ◌∙◌, arith}
+use Rattle.std.specs.Prelude.{OnOk, IsErr}
+use Rattle.std.proofs.lemmas.Bool.{false≢true}
+use Rattle.tinyvec_slots.specs.Slots.{Slots, SlotRule, items_len}
+use Rattle.tinyvec.specs.TinyVec.{tiny_len, tiny_capacity, IsInline, PlaceRule, TinySlotRule, StaysInPlace}
+use Rattle.tinyvec.specs.Room.{Doubles, GrowsFor, Grows, Reserves, RoomGrows}
+use Rattle.tinyvec.proofs.TinyLemmas.{tiny_slots_then, never_ok}
+use Rattle.tinyvec.specs.declared.tiny_vec.TinyVec.{TinyVec}
+use Rattle.tinyvec.specs.declared.tiny_vec.TinyVec.TheVariants.{Inline, Heap}
+
+on_ok : {X E P : Type 0} (r : Result X E) → P → OnOk r P
+on_ok (Ok x) p = p
+on_ok (Err e) p = tt
+
+module _ {A T : Type 0} (D : T → Type 0) (slots : ℕ) where
+  -- an array whose slots follow the slot rule
+  pub inline_stays : (v w : Slots T) (a : Global) → SlotRule D v w → items_len w ≤ slots → StaysInPlace {A = A} D slots (Inline v a) (Inline w a)
+  inline_stays v w a rule fits = record { place = refl; slot_rule = rule; capacity = refl; fits = fits }
+
+  -- an inline list that fits the slots
+  pub inline_fits : (v : TinyVec A T) → IsInline v → tiny_len v ≤ tiny_capacity slots v → tiny_len v ≤ slots
+  inline_fits (Inline v a) i fits = fits
+  inline_fits (Heap v) i fits = absurd (false≢true i)
+
+  -- a list that grew, and then became no shorter in its place
+  pub grows_stays : (u v w : TinyVec A T) → tiny_len u ≤ tiny_len v → tiny_len v ≤ tiny_len w
+      → Grows D slots u v → StaysInPlace D slots v w → Grows D slots u w
+  grows_stays u v w le more h k =
+      let same = k.capacity in
+      let before : IsInline w → IsInline v = λ i. sym k.place ∙ i in record {
+        place = (
+          λ i. ((h.place.0 (before i)).0, inline_fits w i k.fits),
+          λ both. k.place ∙ h.place.1 (both.0, let few = both.1 in omega arith),
+        );
+        slot_rule = tiny_slots_then D u v w before le more h.slot_rule k.slot_rule;
+        capacity = let c = h.capacity in omega arith;
+        same_room = λ fits. same ∙ h.same_room (omega arith);
+        grown = λ higher. let less = h.grown (omega (arith, same, higher)) in omega (arith, same, less, more);
+        fits = k.fits;
+      }
+
+  -- a list that grew and was full, and then took one more item
+  pub grows_pushed : {X E : Type 0} (u v w : TinyVec A T) (x : X) → tiny_len u ≤ tiny_len v → tiny_len w ≡ tiny_len v + 1 → tiny_len v ≡ tiny_capacity slots v
+      → Grows D slots u v → PlaceRule slots (tiny_len v + 1) v w → TinySlotRule D v w → RoomGrows {E = E} Doubles slots (tiny_len v + 1) v w (Ok x) → Grows D slots u w
+  grows_pushed u v w x le one full h place rule room = record {
+    place = (
+      λ i. let both = place.0 i in ((h.place.0 both.0).0, let few = both.1 in omega arith),
+      λ both. let few = both.1 in place.1 (h.place.1 (both.0, omega arith), omega arith),
+    );
+    slot_rule = tiny_slots_then D u v w (λ i. (place.0 i).0) le (omega arith) h.slot_rule rule;
+    capacity = let first = h.capacity in let then = room.capacity in omega arith;
+    same_room = λ fits. let same = h.same_room (omega arith) in room.same_room (omega arith) ∙ same;
+    grown = λ _. let doubled = room.grown (omega arith) in omega (arith, doubled, full, one);
+    fits = room.fits;
+  }
+
+module _ {A T X E : Type 0} (slots need : ℕ) (old new : TinyVec A T) (r : Result X E) where
+  -- there was room
+  pub room_kept : need ≤ tiny_capacity slots old → tiny_capacity slots new ≡ tiny_capacity slots old → tiny_len new ≤ tiny_capacity slots new
+      → RoomGrows GrowsFor slots need old new r
+  room_kept room same fits = record {
+    capacity = omega (arith, same);
+    same_room = λ _. same;
+    grown = on_ok r (λ less. absurd (omega (arith, room, less)));
+    fits = fits;
+  }
+
+  -- room was refused
+  pub room_refused : IsErr r → tiny_capacity slots new ≡ tiny_capacity slots old → tiny_len new ≤ tiny_capacity slots new
+      → RoomGrows GrowsFor slots need old new r
+  room_refused err same fits = record {
+    capacity = omega (arith, same);
+    same_room = λ _. same;
+    grown = never_ok _ r err;
+    fits = fits;
+  }
+
+  -- room was granted first, and kept
+  pub room_made : {Y F : Type 0} (D : T → Type 0) (n : ℕ) (mid : TinyVec A T) (y : Y) → tiny_len old + n ≡ need
+      → Reserves {E = F} D slots n (max (2 * tiny_capacity slots old) (tiny_len old + n)) old mid (Ok y)
+      → tiny_capacity slots new ≡ tiny_capacity slots mid → tiny_len new ≤ tiny_capacity slots new → RoomGrows GrowsFor slots need old new r
+  room_made D n mid y is made same fits = record {
+    capacity = let more = made.capacity in omega (arith, same, more);
+    same_room = λ room. same ∙ ap (tiny_capacity slots) (made.kept (omega (arith, is, room)));
+    grown = on_ok r (rw (same, sym is) made.grown);
+    fits = fits;
+  }

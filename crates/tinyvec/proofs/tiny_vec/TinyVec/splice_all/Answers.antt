@@ -1,0 +1,20 @@
+use Rattle.std.proofs.Common.{rules}
+use Rattle.tinyvec_slots.proofs.ReplacingLemmas.{between}
+use Rattle.tinyvec.specs.TinyVecSplice.{splice_replacement}
+use Rattle.tinyvec.proofs.tiny_vec.TinyVec.splice_all.Goals as goal
+
+pub returns-clause-ran : goal.returns-clause-ran
+returns-clause-ran g c =
+    let s = c.splice-splice.result in
+    let made = c.splice-splice.ensures in
+    let done = c.finish.ensures.finished in
+    let lender = made.same_reference in
+    let list = between _ _ done.placed _ _ _ done.list_is made.front made.back in
+    (splice_replacement s, done.placed, made.replacement, made.unasked, done.ran, search rules)
+
+pub returns-clause-known : goal.returns-clause-known
+returns-clause-known g c = λ xs yields.
+    let made = c.splice-splice.ensures in
+    let lender = made.same_reference in
+    let known = c.finish.ensures.known xs (made.unasked, yields _ made.replacement) in
+    search rules

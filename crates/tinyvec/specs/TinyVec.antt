@@ -1,0 +1,69 @@
+-- What a contract sees of a `TinyVec`: its list, its spare slots, its place, and its capacity.
+use Rattle.std.specs.Prelude.{◌≡◌, ℕ, ◌≤◌, List, [], length, Bool, true, false, IsTrue, ◌↔◌, vec_capacity, ⊤}
+use Rattle.std.specs.Global.{Global}
+use Rattle.std.specs.Vec.{vec_allocator}
+use Rattle.tinyvec_slots.specs.Slots.{SlotRule, items, spare}
+use Rattle.tinyvec.specs.declared.tiny_vec.TinyVec.{TinyVec}
+use Rattle.tinyvec.specs.declared.tiny_vec.TinyVec.TheVariants.{Inline, Heap}
+
+module _ {A T : Type 0} where
+  -- the list
+  abbrev pub tiny_items : TinyVec A T → List T
+  tiny_items (Inline v alloc) = items v
+  tiny_items (Heap v) = v.items
+
+  -- the length of the list
+  abbrev pub tiny_len : TinyVec A T → ℕ
+  tiny_len v = length (tiny_items v)
+
+  -- the spare slots after the list; on the heap there are none
+  abbrev pub tiny_spare : TinyVec A T → List T
+  tiny_spare (Inline v alloc) = spare v
+  tiny_spare (Heap v) = []
+
+  -- `v.is_inline()`
+  abbrev pub is_inline : TinyVec A T → Bool
+  is_inline (Inline v alloc) = true
+  is_inline (Heap v) = false
+
+  -- the list is in the array
+  abbrev pub IsInline : TinyVec A T → Type 0
+  IsInline v = IsTrue (is_inline v)
+
+  -- `v.capacity()`, if an array has so many slots
+  abbrev pub tiny_capacity : ℕ → TinyVec A T → ℕ
+  tiny_capacity slots (Inline v alloc) = slots
+  tiny_capacity slots (Heap v) = vec_capacity v
+
+  -- `v.allocator()`
+  abbrev pub tiny_allocator : TinyVec A T → Global
+  tiny_allocator (Inline v alloc) = alloc
+  tiny_allocator (Heap v) = vec_allocator v
+
+  -- The place rule: after a call that needs room for `need` items, the list is inline exactly where it was inline and the
+  -- need is within the slots.
+  abbrev pub PlaceRule : ℕ → ℕ → TinyVec A T → TinyVec A T → Type 0
+  PlaceRule slots need old new = IsInline new ↔ (IsInline old × (need ≤ slots))
+
+  -- The slot rule of an `ArrayVec`, where the list is inline before and after.
+  abbrev pub TinySlotRule : (T → Type 0) → TinyVec A T → TinyVec A T → Type 0
+  TinySlotRule D (Inline v alloc) (Inline w other) = SlotRule D v w
+  TinySlotRule D (Inline v alloc) (Heap w) = ⊤
+  TinySlotRule D (Heap v) w = ⊤
+
+  -- the same length, spare slots, place and capacity
+  abbrev pub SameFrame : TinyVec A T → TinyVec A T → Type 0
+  SameFrame old new = (tiny_len new ≡ tiny_len old) × (tiny_spare new ≡ tiny_spare old)
+      × (is_inline new ≡ is_inline old) × ((slots : ℕ) → tiny_capacity slots new ≡ tiny_capacity slots old)
+
+  -- a call that allocates nothing took `old` to `new`: place and capacity are unchanged, and inline the slot rule holds
+  pub record StaysInPlace (D : T → Type 0) (slots : ℕ) (old new : TinyVec A T) : Type 0 where
+    pub place : is_inline new ≡ is_inline old
+    pub slot_rule : TinySlotRule D old new
+    pub capacity : tiny_capacity slots new ≡ tiny_capacity slots old
+    pub fits : tiny_len new ≤ tiny_capacity slots new
+
+  -- list, spare slots, place and capacity are unchanged
+  abbrev pub Unchanged : TinyVec A T → TinyVec A T → Type 0
+  Unchanged old new = (tiny_items new ≡ tiny_items old) × (tiny_spare new ≡ tiny_spare old)
+      × (is_inline new ≡ is_inline old) × ((slots : ℕ) → tiny_capacity slots new ≡ tiny_capacity slots old)

@@ -1,0 +1,75 @@
+-- What a contract sees of a `TinyVecSplice`, and what its calls do to it.
+use Rattle.std.specs.Prelude.{◌≡◌, ℕ, Bool, if◌then◌else◌, List, Option}
+use Rattle.std.specs.Borrow.{GName}
+use Rattle.std.specs.declared.iter.Fuse.{Fuse}
+use Rattle.std.specs.Iterator.Adapters.{fuse_done}
+use Rattle.tinyvec_slots.specs.Fused.{FusedCan}
+use Rattle.tinyvec_slots.specs.Gap.{gap_len, gap_view, GapCanStep}
+use Rattle.tinyvec_slots.specs.AnySplice.{SpliceView, Splices, SplicesBack}
+use Rattle.tinyvec.specs.TinyVec.{tiny_items, tiny_len, SameFrame}
+use Rattle.tinyvec.specs.declared.tiny_vec.TinyVec.{TinyVec}
+use Rattle.tinyvec.specs.declared.splice.TinyVecSplice.{TinyVecSplice}
+
+module _ {A I T : Type 0} where
+  -- what all splices show of themselves
+  abbrev pub splice_view : TinyVecSplice A I T → SpliceView I T
+  splice_view s = gap_view s.gap s.replacement (tiny_items s.vec.now)
+
+  -- what preceded the range, and the replacement items placed from the front
+  abbrev pub splice_front : TinyVecSplice A I T → List T
+  splice_front s = (splice_view s).front
+
+  -- the removed items that are left
+  abbrev pub splice_left : TinyVecSplice A I T → List T
+  splice_left s = (splice_view s).left
+
+  -- `s.len()`
+  abbrev pub splice_len : TinyVecSplice A I T → ℕ
+  splice_len s = gap_len s.gap
+
+  -- the replacement items placed from the back, and what followed the range
+  abbrev pub splice_back : TinyVecSplice A I T → List T
+  splice_back s = (splice_view s).back
+
+  -- the rest of the replacement
+  abbrev pub splice_replacement : TinyVecSplice A I T → I
+  splice_replacement s = (splice_view s).replacement
+
+  -- the number of touches since `splice`
+  abbrev pub splice_touches : TinyVecSplice A I T → ℕ
+  splice_touches s = (splice_view s).touches
+
+  -- the vector while it is spliced
+  abbrev pub splice_vec : TinyVecSplice A I T → TinyVec A T
+  splice_vec s = s.vec.now
+
+  -- the ghost name of the reference to the vector
+  abbrev pub splice_lender : TinyVecSplice A I T → GName
+  splice_lender s = s.vec.ghost_name
+
+-- the gap is within the list
+abbrev pub SpliceCanStep : {A I T : Type 0} → TinyVecSplice A (Fuse I) T → Type 0
+SpliceCanStep s = GapCanStep s.gap (fuse_done s.replacement) (tiny_len (splice_vec s))
+
+-- and its replacement can be iterated further
+abbrev pub SpliceCanNext : {A I T : Type 0} → (I → Type 0) → TinyVecSplice A (Fuse I) T → Type 0
+SpliceCanNext can s = SpliceCanStep s × FusedCan can s.replacement
+
+module _ {A I T : Type 0} where
+  -- old and new borrow the same vector, and leave its length, spare slots, place and capacity
+  abbrev pub SpliceKeeps : TinyVecSplice A (Fuse I) T → TinyVecSplice A (Fuse I) T → Type 0
+  SpliceKeeps old new = (splice_lender new ≡ splice_lender old) × SameFrame (splice_vec old) (splice_vec new)
+      × (SpliceCanStep old → SpliceCanStep new)
+
+  module _ (gives : Fuse I → Option T → Fuse I → Type 0) where
+    -- `next` took old to new
+    abbrev pub SpliceSteps : TinyVecSplice A (Fuse I) T → Option T → TinyVecSplice A (Fuse I) T → Type 0
+    SpliceSteps = Splices splice_view SpliceKeeps gives
+
+    -- `next_back` took old to new
+    abbrev pub SpliceStepsBack : TinyVecSplice A (Fuse I) T → Option T → TinyVecSplice A (Fuse I) T → Type 0
+    SpliceStepsBack = SplicesBack splice_view SpliceKeeps gives
+
+-- the number of items that moved to the heap: only a full array moves
+abbrev pub items_moved : ℕ → Bool → Bool → ℕ
+items_moved slots was_inline is_inline = if was_inline then (if is_inline then 0 else slots) else 0

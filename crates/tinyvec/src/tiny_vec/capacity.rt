@@ -1,0 +1,228 @@
+//! Room on the heap, and moves between the array and the heap.
+ghost use Rattle.std.specs.Prelude.{◌≡◌, ◌+◌, ◌*◌, ◌<◌, ◌≤◌, max, false, OnOk, OnErr, vec_len, vec_capacity, ◌-◌, ◌↔◌, IsOk, IfOk, IfErr};
+ghost use Rattle.tinyvec.specs.TinyVec.{tiny_items, tiny_len, is_inline, tiny_capacity, Unchanged, tiny_spare, IsInline, TinySlotRule};
+ghost use Rattle.tinyvec.specs.Room.{Doubles, Reserves, MovesToHeap, MovesToHeapWithRoom};
+ghost use Rattle.std.specs.Box.{boxed_slice_items};
+ghost use Rattle.tinyvec_slots.specs.Slots.{AreDefaults, items, spare};
+
+use crate::TinyVec;
+use std::alloc::AllocError;
+use std::boxed::BoxedSlice;
+use tinyvec_array::{Array, ArrayVec, NoMemory};
+
+impl<A: Array> TinyVec<A> {
+    // Doubles the capacity of a full list.
+    #[cold]
+    #[inline(never)]
+    pub(crate) fn grow_one(&mut self) -> Result<(), AllocError>
+        requires { tiny_capacity A.CAPACITY self.old ≤ tiny_len self.old }
+        ensures items { tiny_items self.new ≡ tiny_items self.old }
+        ensures place { OnOk result (is_inline self.new ≡ false) }
+        ensures room { OnOk result (Doubles A.CAPACITY (tiny_len self.old + 1) self.old self.new) }
+        ensures capacity { tiny_capacity A.CAPACITY self.old ≤ tiny_capacity A.CAPACITY self.new }
+        ensures fits { tiny_len self.new ≤ tiny_capacity A.CAPACITY self.new }
+        ensures refused { OnErr result (Unchanged self.old self.new) }
+    {
+        match self {
+            TinyVec::Inline(v, alloc) => {
+                let len = v.len();
+                let more = if len > usize::MAX - len {
+                    1
+                } else {
+                    len.max(1)
+                };
+                let heap = v.drain_to_vec_and_reserve(*alloc, more)?;
+                *self = TinyVec::Heap(heap);
+                Ok(())
+            }
+            TinyVec::Heap(v) => grow_heap(v, 1),
+        }
+    }
+
+    /// Reserves room for `n` items more. An inline list whose array has no such room moves to the heap. Where there is room
+    /// already, it allocates nothing.
+    #[inline(always)]
+    pub fn reserve(&mut self, n: usize) -> Result<(), AllocError>
+        ensures { Reserves A.Item.is_default A.CAPACITY n
+            (max (2 * tiny_capacity A.CAPACITY self.old) (tiny_len self.old + n)) self.old self.new result }
+    {
+        if n <= self.capacity() - self.len() {
+            return Ok(());
+        }
+        self.grow(n)
+    }
+
+    // `reserve` of a list that has no such room.
+    #[cold]
+    #[inline(never)]
+    pub(crate) fn grow(&mut self, n: usize) -> Result<(), AllocError>
+        requires { tiny_capacity A.CAPACITY self.old < tiny_len self.old + n }
+        ensures { Reserves A.Item.is_default A.CAPACITY n
+            (max (2 * tiny_capacity A.CAPACITY self.old) (tiny_len self.old + n)) self.old self.new result }
+    {
+        // Shows the proof that the list fits.
+        let _len = self.len();
+        match self {
+            TinyVec::Inline(v, alloc) => {
+                let heap = v.drain_to_vec_and_reserve(*alloc, n)?;
+                *self = TinyVec::Heap(heap);
+                Ok(())
+            }
+            TinyVec::Heap(v) => grow_heap(v, n),
+        }
+    }
+
+    /// The same as `reserve`.
+    pub fn try_reserve(&mut self, n: usize) -> Result<(), AllocError>
+        ensures { Reserves A.Item.is_default A.CAPACITY n
+            (max (2 * tiny_capacity A.CAPACITY self.old) (tiny_len self.old + n)) self.old self.new result }
+    {
+        self.reserve(n)
+    }
+
+    /// Reserves room for `n` items more, and on the heap for no further ones.
+    pub fn reserve_exact(&mut self, n: usize) -> Result<(), AllocError>
+        ensures reserves { Reserves A.Item.is_default A.CAPACITY n (tiny_len self.old + n) self.old self.new result }
+        ensures exact { OnOk result (tiny_capacity A.CAPACITY self.new
+            ≡ max (tiny_capacity A.CAPACITY self.old) (tiny_len self.old + n)) }
+    {
+        match self {
+            TinyVec::Inline(_, _) => self.reserve(n),
+            TinyVec::Heap(v) => {
+                if n <= v.capacity() - v.len() {
+                    return Ok(());
+                }
+                v.reserve_exact(n)
+            }
+        }
+    }
+
+    /// The same as `reserve_exact`.
+    pub fn try_reserve_exact(&mut self, n: usize) -> Result<(), AllocError>
+        ensures reserves { Reserves A.Item.is_default A.CAPACITY n (tiny_len self.old + n) self.old self.new result }
+        ensures exact { OnOk result (tiny_capacity A.CAPACITY self.new
+            ≡ max (tiny_capacity A.CAPACITY self.old) (tiny_len self.old + n)) }
+    {
+        self.reserve_exact(n)
+    }
+
+    // Moves the items of `heap` into an array.
+    fn to_inline(heap: &mut Vec<A::Item>) -> ArrayVec<A>
+        requires { vec_len heap.old ≤ A.CAPACITY }
+        ensures items { items result ≡ heap.old.items }
+        ensures spare { AreDefaults A.Item.is_default (A.CAPACITY - vec_len heap.old) (spare result) }
+    {
+        let mut v = ArrayVec::new();
+        for x in heap.drain(..) {
+            v.push(x);
+        }
+        v
+    }
+
+    /// Moves an inline list to the heap, with a capacity of its length. A list on the heap stays as it is.
+    pub fn move_to_the_heap(&mut self) -> Result<(), AllocError>
+        ensures { MovesToHeap A.CAPACITY self.old self.new result }
+    {
+        if let TinyVec::Inline(v, alloc) = self {
+            let heap = v.drain_to_vec(*alloc)?;
+            *self = TinyVec::Heap(heap);
+        }
+        Ok(())
+    }
+
+    /// The same as `move_to_the_heap`.
+    pub fn try_move_to_the_heap(&mut self) -> Result<(), AllocError>
+        ensures { MovesToHeap A.CAPACITY self.old self.new result }
+    {
+        self.move_to_the_heap()
+    }
+
+    /// Moves an inline list to the heap, and reserves room there for `n` items more.
+    pub fn move_to_the_heap_and_reserve(&mut self, n: usize) -> Result<(), AllocError>
+        ensures { MovesToHeapWithRoom A.CAPACITY n self.old self.new result }
+    {
+        match self {
+            TinyVec::Inline(v, alloc) => {
+                let heap = v.drain_to_vec_and_reserve(*alloc, n)?;
+                *self = TinyVec::Heap(heap);
+                Ok(())
+            }
+            TinyVec::Heap(_) => self.reserve(n),
+        }
+    }
+
+    /// The same as `move_to_the_heap_and_reserve`.
+    pub fn try_move_to_the_heap_and_reserve(&mut self, n: usize) -> Result<(), AllocError>
+        ensures { MovesToHeapWithRoom A.CAPACITY n self.old self.new result }
+    {
+        self.move_to_the_heap_and_reserve(n)
+    }
+
+    /// Moves a list on the heap into the array where it fits, which allocates nothing. Otherwise shrinks the allocation; if
+    /// the allocator refuses, nothing changes and no error is returned.
+    pub fn shrink_to_fit(&mut self)
+        ensures items { tiny_items self.new ≡ tiny_items self.old }
+        ensures place { IsInline self.new ↔ (tiny_len self.old ≤ A.CAPACITY) }
+        ensures spare { is_inline self.old ≡ false → IsInline self.new
+            → AreDefaults A.Item.is_default (A.CAPACITY - tiny_len self.old) (tiny_spare self.new) }
+        ensures kept { IsInline self.old → self.new ≡ self.old }
+        ensures slots { TinySlotRule A.Item.is_default self.old self.new }
+        ensures capacity { is_inline self.new ≡ false
+            → tiny_capacity A.CAPACITY self.new ≤ tiny_capacity A.CAPACITY self.old }
+        ensures fits { tiny_len self.new ≤ tiny_capacity A.CAPACITY self.new }
+    {
+        let len = self.len();
+        if let TinyVec::Heap(v) = self {
+            if len <= A::CAPACITY {
+                let alloc = *v.allocator();
+                let inline = Self::to_inline(v);
+                *self = TinyVec::Inline(inline, alloc);
+            } else {
+                v.shrink_to_fit();
+            }
+        }
+    }
+
+    /// Converts to a `Vec`. A list on the heap keeps its allocation; an inline one gets a capacity of its length. If the
+    /// allocator refuses, the vector is returned.
+    pub fn into_vec(self) -> Result<Vec<A::Item>, NoMemory<Self>>
+        ensures items { IfOk result (λ v. v.items ≡ tiny_items self) }
+        ensures room { IfOk result (λ v. IsInline self → vec_capacity v ≡ tiny_len self) }
+        ensures same_room { IfOk result (λ v. is_inline self ≡ false → vec_capacity v ≡ tiny_capacity A.CAPACITY self) }
+        ensures succeeds { is_inline self ≡ false → IsOk result }
+        ensures succeeds_empty { tiny_len self ≡ 0 → IsOk result }
+        ensures value_returned { IfErr result (λ refused. refused.0 ≡ self) }
+    {
+        match self {
+            TinyVec::Inline(mut v, alloc) => match v.drain_to_vec(alloc) {
+                Ok(heap) => Ok(heap),
+                Err(_) => Err(NoMemory(TinyVec::Inline(v, alloc))),
+            },
+            TinyVec::Heap(v) => Ok(v),
+        }
+    }
+
+    /// Converts to a boxed slice. If the allocator refuses, the items are dropped.
+    pub fn into_boxed_slice(self) -> Result<BoxedSlice<A::Item>, AllocError>
+        ensures items { IfOk result (λ b. boxed_slice_items b ≡ tiny_items self) }
+        ensures succeeds { is_inline self ≡ false → IsOk result }
+        ensures succeeds_empty { tiny_len self ≡ 0 → IsOk result }
+    {
+        match self.into_vec() {
+            Ok(heap) => Ok(heap.into_boxed_slice()),
+            Err(_) => Err(AllocError),
+        }
+    }
+}
+
+// Reserves room on the heap for `n` items more: twice the capacity, or what is needed where that is more. `Vec::reserve`
+// does so too, but does not promise it.
+fn grow_heap<T>(heap: &mut Vec<T>, n: usize) -> Result<(), AllocError>
+    requires { vec_capacity heap.old < vec_len heap.old + n }
+    ensures items { heap.new.items ≡ heap.old.items }
+    ensures room { OnOk result (vec_capacity heap.new ≡ max (2 * vec_capacity heap.old) (vec_len heap.old + n)) }
+    ensures refused { OnErr result (vec_capacity heap.new ≡ vec_capacity heap.old) }
+{
+    let twice = 2 * heap.capacity() - heap.len();
+    heap.reserve_exact(n.max(twice))
+}

@@ -1,0 +1,480 @@
+//! Growing by other lists, by clones, by iterators and by closures.
+ghost use Rattle.std.specs.Prelude.{◌≡◌, ◌+◌, ◌≤◌, ◌++◌, ℕ, All, length, take, drop, IsOk, OnOk, OnErr, if◌then◌else◌, is_ok, ◌<◌, [], ◌-◌, ◌*◌, ◌↔◌, ◌∷◌, List, Some, MatchResult, IfOk, IfErr, vec_len, vec_capacity, max, replicate};
+ghost use Rattle.std.specs.List.{AppendsClones, AppendsResults};
+ghost use Rattle.tinyvec_slots.specs.Clones.{RefusedAt, ClonesAreEqual};
+ghost use Rattle.tinyvec.specs.TinyVec.{tiny_items, tiny_len, tiny_spare, is_inline, tiny_capacity, PlaceRule, TinySlotRule, IsInline, StaysInPlace, Unchanged};
+ghost use Rattle.tinyvec.specs.Growth.{RefusedFor, ClonesBehind};
+ghost use Rattle.tinyvec.specs.Room.{GrowsFor, RoomGrows, Grows};
+ghost use Rattle.tinyvec_slots.specs.Slots.{AreDefaults, items, spare, items_len};
+ghost use Rattle.std.specs.Iterator.{IsFinite, Drains, YieldsThen};
+ghost use Rattle.tinyvec_slots.specs.Filling.{ShowsItems, IntoIterYields, AppendsResultsTo};
+ghost use Rattle.tinyvec.specs.Following.{Follows};
+
+use crate::TinyVec;
+use crate::cloning::{push_clones, push_clones_of};
+use std::alloc::{AllocError, Global};
+use std::mem;
+use tinyvec_array::{Array, ArrayVec, FromIterRest, NoMemory, NoRoom};
+
+impl<A: Array> TinyVec<A> {
+    // `extend_from_slice` of a list that has room.
+    pub(crate) fn extend_reserved(&mut self, other: &[A::Item]) -> Result<(), AllocError>
+    where
+        A::Item: Clone,
+        requires room { tiny_len self.old + length other.now ≤ tiny_capacity A.CAPACITY self.old }
+        ensures items { OnOk result (AppendsClones A.Item.is_clone
+            (tiny_items self.old) (tiny_items self.new) other.now) }
+        ensures spare { OnOk result (tiny_spare self.new ≡ drop (length other.now) (tiny_spare self.old)) }
+        ensures place { is_inline self.new ≡ is_inline self.old }
+        ensures capacity { tiny_capacity A.CAPACITY self.new ≡ tiny_capacity A.CAPACITY self.old }
+        ensures fits { tiny_len self.new ≤ tiny_capacity A.CAPACITY self.new }
+        ensures kept { OnErr result (tiny_items self.new ≡ tiny_items self.old) }
+
+        // Inline, the first j spare slots hold the clones made.
+        ensures refused { OnErr result ((j : ℕ) × RefusedAt A.Item.is_infallible other.now j
+            × ClonesBehind A.Item.is_clone (take j other.now) j self.old self.new) }
+        ensures succeeds { All A.Item.is_infallible other.now → IsOk result }
+    {
+        match self {
+            TinyVec::Inline(v, _) => v.extend_from_slice(other),
+            TinyVec::Heap(v) => push_clones(v, other),
+        }
+    }
+
+    /// Appends clones of the slice's items. Room for all is allocated once, before any is cloned.
+    // Inlined, so that LLVM knows variant and length from the calls before.
+    #[inline(always)]
+    pub fn extend_from_slice(&mut self, other: &[A::Item]) -> Result<(), AllocError>
+    where
+        A::Item: Clone,
+        ensures items { OnOk result (AppendsClones A.Item.is_clone
+            (tiny_items self.old) (tiny_items self.new) other.now) }
+        ensures len { tiny_len self.new
+            ≡ (if is_ok result then tiny_len self.old + length other.now else tiny_len self.old) }
+        ensures if_clones_equal { ClonesAreEqual A.Item.is_clone → tiny_items self.new
+            ≡ (if is_ok result then tiny_items self.old ++ other.now else tiny_items self.old) }
+        ensures place { OnOk result (PlaceRule A.CAPACITY (tiny_len self.old + length other.now) self.old self.new) }
+        ensures slots { OnOk result (TinySlotRule A.Item.is_default self.old self.new) }
+        ensures room { RoomGrows GrowsFor A.CAPACITY (tiny_len self.old + length other.now) self.old self.new result }
+
+        // Where there is room only clones allocate.
+        ensures succeeds { tiny_len self.old + length other.now ≤ tiny_capacity A.CAPACITY self.old
+            → All A.Item.is_infallible other.now → IsOk result }
+
+        // On failure the list is unchanged. If only a clone failed, the reservation stays, and an inline list's first j
+        // spare slots hold the clones made.
+        ensures kept { OnErr result (tiny_items self.new ≡ tiny_items self.old) }
+        ensures refused { OnErr result (RefusedFor A.CAPACITY (tiny_len self.old + length other.now)
+            ((j : ℕ) × RefusedAt A.Item.is_infallible other.now j
+            × ClonesBehind A.Item.is_clone (take j other.now) j self.old self.new)
+            self.old self.new) }
+    {
+        match self {
+            TinyVec::Inline(v, _) if other.len() <= v.capacity() - v.len() => v.extend_from_slice(
+                other,
+            ),
+            TinyVec::Heap(v) if other.len() <= v.capacity() - v.len() => push_clones(v, other),
+            _ => {
+                self.grow(other.len())?;
+                self.extend_reserved(other)
+            }
+        }
+    }
+
+    // Moves the items of `from` to a list that has room, and leaves defaults.
+    fn push_taken(&mut self, from: &mut [A::Item])
+        requires { tiny_len self.old + length from.old ≤ tiny_capacity A.CAPACITY self.old }
+        ensures items { tiny_items self.new ≡ tiny_items self.old ++ from.old }
+        ensures spare { tiny_spare self.new ≡ drop (length from.old) (tiny_spare self.old) }
+        ensures place { is_inline self.new ≡ is_inline self.old }
+        ensures capacity { tiny_capacity A.CAPACITY self.new ≡ tiny_capacity A.CAPACITY self.old }
+        ensures fits { tiny_len self.new ≤ tiny_capacity A.CAPACITY self.new }
+        ensures left { AreDefaults A.Item.is_default (length from.old) from.new }
+    {
+        for i in 0..from.len() {
+            self.push_reserved(mem::take(&mut from[i]));
+        }
+    }
+
+    // `append` to a list that has room.
+    fn append_reserved(&mut self, other: &mut Self)
+        requires { tiny_len self.old + tiny_len other.old ≤ tiny_capacity A.CAPACITY self.old }
+        ensures items { tiny_items self.new ≡ tiny_items self.old ++ tiny_items other.old }
+        ensures spare { tiny_spare self.new ≡ drop (tiny_len other.old) (tiny_spare self.old) }
+        ensures place { is_inline self.new ≡ is_inline self.old }
+        ensures capacity { tiny_capacity A.CAPACITY self.old ≤ tiny_capacity A.CAPACITY self.new }
+        ensures fits { tiny_len self.new ≤ tiny_capacity A.CAPACITY self.new }
+        ensures same_room { IsInline other.old
+            → tiny_capacity A.CAPACITY self.new ≡ tiny_capacity A.CAPACITY self.old }
+        ensures other_items { tiny_items other.new ≡ [] }
+        ensures other_frame { StaysInPlace A.Item.is_default A.CAPACITY other.old other.new }
+    {
+        if let TinyVec::Heap(v) = self {
+            if let TinyVec::Heap(w) = other {
+                let _room_was_there = v.append(w);
+                return;
+            }
+        }
+        self.push_taken(other.as_mut_slice());
+        other.clear();
+    }
+
+    /// Moves the items of `other` to the end of the list, and leaves `other` empty, in its place. Room for all is allocated
+    /// once, before any is moved.
+    pub fn append(&mut self, other: &mut Self) -> Result<(), AllocError>
+        ensures items { OnOk result (tiny_items self.new ≡ tiny_items self.old ++ tiny_items other.old) }
+        ensures place { OnOk result (PlaceRule A.CAPACITY (tiny_len self.old + tiny_len other.old) self.old self.new) }
+        ensures slots { TinySlotRule A.Item.is_default self.old self.new }
+        ensures capacity { tiny_capacity A.CAPACITY self.old ≤ tiny_capacity A.CAPACITY self.new }
+        ensures fits { tiny_len self.new ≤ tiny_capacity A.CAPACITY self.new }
+
+        // `Vec::append` promises no upper bound.
+        ensures grown { IsInline other.old
+            → OnOk result (GrowsFor A.CAPACITY (tiny_len self.old + tiny_len other.old) self.old self.new) }
+        ensures other_items { OnOk result (tiny_items other.new ≡ []) }
+        ensures other_frame { StaysInPlace A.Item.is_default A.CAPACITY other.old other.new }
+
+        // Where there is room it allocates nothing.
+        ensures succeeds { tiny_len self.old + tiny_len other.old ≤ tiny_capacity A.CAPACITY self.old → IsOk result }
+        ensures full { OnErr result (tiny_capacity A.CAPACITY self.old < tiny_len self.old + tiny_len other.old) }
+        ensures refused { OnErr result (Unchanged self.old self.new × (other.new ≡ other.old)) }
+    {
+        self.reserve(other.len())?;
+        self.append_reserved(other);
+        Ok(())
+    }
+
+    /// Appends the items. A full list grows as by `push`. If the allocator refuses, returns the item that found no room and
+    /// the rest of the iterator.
+    // Inlined, since a result that may hold an iterator is passed through memory otherwise.
+    #[inline(always)]
+    pub fn extend<I: IntoIterator<Item = A::Item>>(
+        &mut self,
+        iter: I,
+    ) -> Result<(), NoRoom<A::Item, I::IntoIter>>
+        requires { (it : I.IntoIter) → I.into_iter_gives iter it
+            → I.IntoIter.can_next it × IsFinite (I.IntoIter.remaining it) }
+        ensures ran { (it : I.IntoIter) × (xs : List A.Item) × I.into_iter_gives iter it
+            × MatchResult result (λ _. Drains I.IntoIter.next_gives it xs)
+            (λ refused. YieldsThen I.IntoIter.next_gives it xs (Some refused.item) refused.rest)
+            × (tiny_items self.new ≡ tiny_items self.old ++ xs) }
+        ensures grows { Grows A.Item.is_default A.CAPACITY self.old self.new }
+
+        // It fails only where there is no room.
+        ensures full { OnErr result (tiny_len self.new ≡ tiny_capacity A.CAPACITY self.new) }
+
+        // The returned iterator can be iterated further.
+        ensures goes_on { IfErr result (λ refused. I.IntoIter.can_next refused.rest) }
+
+        // For an iterator whose items are known.
+        ensures listed { (rest : I.IntoIter → List A.Item) → ShowsItems I.IntoIter.next_gives rest
+            → (it : I.IntoIter) × (xs : List A.Item) × I.into_iter_gives iter it
+            × MatchResult result (λ _. rest it ≡ xs) (λ refused. rest it ≡ xs ++ refused.item ∷ rest refused.rest)
+            × (tiny_items self.new ≡ tiny_items self.old ++ xs) }
+
+        // For items that are known, as those of a `Vec`, a range or a slice. Where they fit, it allocates nothing.
+        ensures known { (xs : List A.Item) → IntoIterYields I.into_iter_gives I.IntoIter.next_gives iter xs
+            → OnOk result (tiny_items self.new ≡ tiny_items self.old ++ xs)
+            × (tiny_len self.old + length xs ≤ tiny_capacity A.CAPACITY self.old
+            → IsOk result × (tiny_items self.new ≡ tiny_items self.old ++ xs)) }
+    {
+        self.extend_runs(iter.into_iter())
+    }
+
+    // Appends a run of items wherever there is room, and pushes the one after it.
+    #[inline(always)]
+    fn extend_runs<I: Iterator<Item = A::Item>>(
+        &mut self,
+        iter: I,
+    ) -> Result<(), NoRoom<A::Item, I>>
+        requires { I.can_next iter × IsFinite (I.remaining iter) }
+        ensures ran { (xs : List A.Item) × MatchResult result (λ _. Drains I.next_gives iter xs)
+            (λ refused. YieldsThen I.next_gives iter xs (Some refused.item) refused.rest)
+            × (tiny_items self.new ≡ tiny_items self.old ++ xs) }
+        ensures grows { Grows A.Item.is_default A.CAPACITY self.old self.new }
+        ensures full { OnErr result (tiny_len self.new ≡ tiny_capacity A.CAPACITY self.new) }
+        ensures goes_on { IfErr result (λ refused. I.can_next refused.rest) }
+    {
+        // Shows the proof that an empty iterator leaves a list that fits.
+        let _len = self.len();
+        let mut items = iter;
+        loop {
+            match self.fill_room(items) {
+                Ok(()) => return Ok(()),
+                Err(NoRoom { item, rest }) => match self.push(item) {
+                    Ok(()) => items = rest,
+                    Err(NoMemory(item)) => return Err(NoRoom { item, rest }),
+                },
+            }
+        }
+    }
+
+    // Appends items while there is room. Returns the first that finds none, and the rest of the iterator.
+    #[inline(always)]
+    fn fill_room<I: Iterator<Item = A::Item>>(&mut self, iter: I) -> Result<(), NoRoom<A::Item, I>>
+        requires { I.can_next iter × IsFinite (I.remaining iter) }
+        ensures ran { (xs : List A.Item) × MatchResult result (λ _. Drains I.next_gives iter xs)
+            (λ refused. YieldsThen I.next_gives iter xs (Some refused.item) refused.rest)
+            × (tiny_items self.new ≡ tiny_items self.old ++ xs) }
+        ensures frame { StaysInPlace A.Item.is_default A.CAPACITY self.old self.new }
+        ensures longer { tiny_len self.old ≤ tiny_len self.new }
+        ensures full { OnErr result (tiny_len self.new ≡ tiny_capacity A.CAPACITY self.new) }
+        ensures goes_on { IfErr result (λ refused. Follows I.can_next I.remaining iter refused.rest) }
+    {
+        match self {
+            TinyVec::Inline(v, _) => fill_array(v, iter),
+            TinyVec::Heap(v) => fill_heap(v, iter),
+        }
+    }
+
+    /// A list of the items, inline while they fit the array. A full list grows as by `push`. If the allocator refuses,
+    /// returns the list so far, the item that found no room and the rest of the iterator.
+    pub fn from_iter<I: IntoIterator<Item = A::Item>>(
+        alloc: Global,
+        iter: I,
+    ) -> Result<Self, FromIterRest<Self, A::Item, I::IntoIter>>
+        requires { (it : I.IntoIter) → I.into_iter_gives iter it
+            → I.IntoIter.can_next it × IsFinite (I.IntoIter.remaining it) }
+        ensures ran { (it : I.IntoIter) × (xs : List A.Item) × I.into_iter_gives iter it
+            × MatchResult result (λ v. Drains I.IntoIter.next_gives it xs × (tiny_items v ≡ xs))
+            (λ refused. YieldsThen I.IntoIter.next_gives it xs (Some refused.item) refused.rest
+            × (tiny_items refused.vec ≡ xs)) }
+        ensures place { IfOk result (λ v. IsInline v ↔ (tiny_len v ≤ A.CAPACITY)) }
+        ensures spare { IfOk result (λ v. IsInline v
+            → AreDefaults A.Item.is_default (A.CAPACITY - tiny_len v) (tiny_spare v)) }
+        ensures grown { IfOk result (λ v. A.CAPACITY < tiny_capacity A.CAPACITY v
+            → tiny_capacity A.CAPACITY v < 2 * tiny_len v) }
+        ensures fits { IfOk result (λ v. tiny_len v ≤ tiny_capacity A.CAPACITY v) }
+
+        // It fails only where there is no room.
+        ensures full { IfErr result (λ refused. (tiny_len refused.vec ≡ tiny_capacity A.CAPACITY refused.vec)
+            × (A.CAPACITY ≤ tiny_len refused.vec)) }
+        ensures refused_place { IfErr result (λ refused. IsInline refused.vec ↔ (tiny_len refused.vec ≤ A.CAPACITY)) }
+
+        // The returned iterator can be iterated further.
+        ensures goes_on { IfErr result (λ refused. I.IntoIter.can_next refused.rest) }
+
+        // For an iterator whose items are known.
+        ensures listed { (rest : I.IntoIter → List A.Item) → ShowsItems I.IntoIter.next_gives rest
+            → (it : I.IntoIter) × I.into_iter_gives iter it
+            × MatchResult result (λ v. rest it ≡ tiny_items v)
+            (λ refused. rest it ≡ tiny_items refused.vec ++ refused.item ∷ rest refused.rest) }
+
+        // For items that are known. Where they fit the array, it allocates nothing.
+        ensures known { (xs : List A.Item) → IntoIterYields I.into_iter_gives I.IntoIter.next_gives iter xs
+            → IfOk result (λ v. tiny_items v ≡ xs) × (length xs ≤ A.CAPACITY → IsOk result) }
+    {
+        let mut vec = Self::new(alloc);
+        match vec.extend(iter) {
+            Ok(()) => Ok(vec),
+            Err(NoRoom { item, rest }) => Err(FromIterRest { vec, item, rest }),
+        }
+    }
+
+    /// Truncates the list to `n` items, or extends it to `n` by clones of `x`. Room for all of them is allocated once,
+    /// before any is cloned. On failure `x` is returned.
+    pub fn resize(&mut self, n: usize, x: A::Item) -> Result<(), NoMemory<A::Item>>
+    where
+        A::Item: Clone,
+        ensures items { OnOk result (AppendsClones A.Item.is_clone
+            (take n (tiny_items self.old)) (tiny_items self.new) (replicate (n - tiny_len self.old) x)) }
+        ensures len { OnOk result (tiny_len self.new ≡ n) }
+        ensures if_clones_equal { OnOk result (ClonesAreEqual A.Item.is_clone
+            → tiny_items self.new ≡ take n (tiny_items self.old) ++ replicate (n - tiny_len self.old) x) }
+        ensures place { OnOk result (PlaceRule A.CAPACITY (max n (tiny_len self.old)) self.old self.new) }
+        ensures slots { OnOk result (TinySlotRule A.Item.is_default self.old self.new) }
+        ensures room { RoomGrows GrowsFor A.CAPACITY n self.old self.new result }
+
+        // Where there is room only clones allocate.
+        ensures cuts { n ≤ tiny_len self.old → IsOk result }
+        ensures succeeds { n ≤ tiny_capacity A.CAPACITY self.old → A.Item.is_infallible x → IsOk result }
+
+        // On failure the list is unchanged. If only a clone failed, the reservation stays, and an inline list's first j
+        // spare slots hold the clones made.
+        ensures value_returned { IfErr result (λ refused. refused.0 ≡ x) }
+        ensures kept { OnErr result (tiny_items self.new ≡ tiny_items self.old) }
+        ensures refused { OnErr result (RefusedFor A.CAPACITY (max n (tiny_len self.old))
+            ((j : ℕ) × (j < n - tiny_len self.old) × ¬ (A.Item.is_infallible x)
+            × ClonesBehind A.Item.is_clone (replicate j x) j self.old self.new)
+            self.old self.new) }
+    {
+        let len = self.len();
+        if n <= len {
+            self.truncate(n);
+            return Ok(());
+        }
+        if self.reserve(n - len).is_err() {
+            return Err(NoMemory(x));
+        }
+        self.fill_reserved(n - len, x)
+    }
+
+    // Appends `n` clones of `x` to a list that has room.
+    fn fill_reserved(&mut self, n: usize, x: A::Item) -> Result<(), NoMemory<A::Item>>
+    where
+        A::Item: Clone,
+        requires room { tiny_len self.old + n ≤ tiny_capacity A.CAPACITY self.old }
+        ensures items { OnOk result (AppendsClones A.Item.is_clone
+            (tiny_items self.old) (tiny_items self.new) (replicate n x)) }
+        ensures slots { OnOk result (TinySlotRule A.Item.is_default self.old self.new) }
+        ensures place { is_inline self.new ≡ is_inline self.old }
+        ensures capacity { tiny_capacity A.CAPACITY self.new ≡ tiny_capacity A.CAPACITY self.old }
+        ensures fits { tiny_len self.new ≤ tiny_capacity A.CAPACITY self.new }
+        ensures value_returned { IfErr result (λ refused. refused.0 ≡ x) }
+        ensures kept { OnErr result (tiny_items self.new ≡ tiny_items self.old) }
+
+        // Inline, the first j spare slots hold the clones made.
+        ensures refused { OnErr result ((j : ℕ) × (j < n) × ¬ (A.Item.is_infallible x)
+            × ClonesBehind A.Item.is_clone (replicate j x) j self.old self.new) }
+        ensures succeeds { A.Item.is_infallible x → IsOk result }
+    {
+        match self {
+            TinyVec::Inline(v, _) => {
+                let len = v.len() + n;
+                v.resize(len, x)
+            }
+            TinyVec::Heap(v) => match push_clones_of(v, n, &x) {
+                Ok(()) => Ok(()),
+                Err(_) => Err(NoMemory(x)),
+            },
+        }
+    }
+
+    /// Truncates the list to `n` items, or extends it to `n` by results of `f`, which is called only for those. Room for all
+    /// of them is allocated once, before the first call.
+    pub fn resize_with<F: FnMut() -> A::Item>(
+        &mut self,
+        n: usize,
+        mut f: F,
+    ) -> Result<(), AllocError>
+        requires { F.IsAlwaysCallable f }
+        ensures items { OnOk result (AppendsResults F.step (take n (tiny_items self.old)) (tiny_items self.new) f) }
+        ensures len { OnOk result (tiny_len self.new ≡ n) }
+        ensures place { OnOk result (PlaceRule A.CAPACITY (max n (tiny_len self.old)) self.old self.new) }
+        ensures slots { TinySlotRule A.Item.is_default self.old self.new }
+        ensures room { RoomGrows GrowsFor A.CAPACITY n self.old self.new result }
+
+        // Where there is room it allocates nothing.
+        ensures succeeds { n ≤ tiny_capacity A.CAPACITY self.old → IsOk result }
+        ensures full { OnErr result (tiny_capacity A.CAPACITY self.old < n) }
+        ensures refused { OnErr result (Unchanged self.old self.new) }
+    {
+        self.resize_asked(n, &mut f)
+    }
+
+    // `resize_with`, and the state in which the last call leaves `f`.
+    fn resize_asked<F: FnMut() -> A::Item>(&mut self, n: usize, f: &mut F) -> Result<(), AllocError>
+        requires { F.IsAlwaysCallable f.old }
+        ensures items { OnOk result (AppendsResultsTo F.step
+            (take n (tiny_items self.old)) (tiny_items self.new) f.old f.new) }
+        ensures len { OnOk result (tiny_len self.new ≡ n) }
+        ensures place { OnOk result (PlaceRule A.CAPACITY (max n (tiny_len self.old)) self.old self.new) }
+        ensures slots { TinySlotRule A.Item.is_default self.old self.new }
+        ensures room { RoomGrows GrowsFor A.CAPACITY n self.old self.new result }
+        ensures succeeds { n ≤ tiny_capacity A.CAPACITY self.old → IsOk result }
+        ensures full { OnErr result (tiny_capacity A.CAPACITY self.old < n) }
+        ensures refused { OnErr result (Unchanged self.old self.new × (f.new ≡ f.old)) }
+    {
+        let len = self.len();
+        if n > len {
+            self.reserve(n - len)?;
+            self.push_answers(n, f);
+            return Ok(());
+        }
+        self.truncate(n);
+        Ok(())
+    }
+
+    // Extends a list that has room to `n` items by results of `f`.
+    fn push_answers<F: FnMut() -> A::Item>(&mut self, n: usize, f: &mut F)
+        requires longer { tiny_len self.old ≤ n }
+        requires room { n ≤ tiny_capacity A.CAPACITY self.old }
+        requires callable { F.IsAlwaysCallable f.old }
+        ensures items { AppendsResultsTo F.step (tiny_items self.old) (tiny_items self.new) f.old f.new }
+        ensures len { tiny_len self.new ≡ n }
+        ensures spare { tiny_spare self.new ≡ drop (n - tiny_len self.old) (tiny_spare self.old) }
+        ensures place { is_inline self.new ≡ is_inline self.old }
+        ensures capacity { tiny_capacity A.CAPACITY self.new ≡ tiny_capacity A.CAPACITY self.old }
+        ensures fits { tiny_len self.new ≤ tiny_capacity A.CAPACITY self.new }
+    {
+        while self.len() < n {
+            self.push_reserved(f());
+        }
+    }
+}
+
+// `fill_room` of an array.
+fn fill_array<A: Array, I: Iterator<Item = A::Item>>(
+    vec: &mut ArrayVec<A>,
+    mut iter: I,
+) -> Result<(), NoRoom<A::Item, I>>
+    requires { I.can_next iter × IsFinite (I.remaining iter) }
+    ensures ran { (xs : List A.Item) × MatchResult result (λ _. Drains I.next_gives iter xs)
+        (λ refused. YieldsThen I.next_gives iter xs (Some refused.item) refused.rest)
+        × (items vec.new ≡ items vec.old ++ xs) }
+    ensures spare { spare vec.new ≡ drop (items_len vec.new - items_len vec.old) (spare vec.old) }
+    ensures longer { items_len vec.old ≤ items_len vec.new }
+    ensures fits { items_len vec.new ≤ A.CAPACITY }
+    ensures full { OnErr result (items_len vec.new ≡ A.CAPACITY) }
+    ensures goes_on { IfErr result (λ refused. Follows I.can_next I.remaining iter refused.rest) }
+{
+    let len = vec.len();
+    match fill_slots(vec.grab_spare_slice_mut(), iter) {
+        Ok(count) => {
+            vec.set_len(len + count);
+            Ok(())
+        }
+        Err(refused) => {
+            vec.set_len(A::CAPACITY);
+            Err(refused)
+        }
+    }
+}
+
+// Writes items over the slots, and returns their number, or the first that finds no slot and the rest of the iterator. The
+// caller sets the length once: a loop that set it at each item would not be vectorised.
+fn fill_slots<T: Drop, I: Iterator<Item = T>>(
+    slots: &mut [T],
+    mut iter: I,
+) -> Result<usize, NoRoom<T, I>>
+    requires { I.can_next iter × IsFinite (I.remaining iter) }
+    ensures ran { (xs : List T) × MatchResult result (λ n. Drains I.next_gives iter xs × (n ≡ length xs))
+        (λ refused. YieldsThen I.next_gives iter xs (Some refused.item) refused.rest × (length xs ≡ length slots.old))
+        × (length xs ≤ length slots.old) × (slots.new ≡ xs ++ drop (length xs) slots.old) }
+    ensures goes_on { IfErr result (λ refused. Follows I.can_next I.remaining iter refused.rest) }
+{
+    let mut count = 0;
+    while let Some(item) = iter.next() {
+        if count == slots.len() {
+            return Err(NoRoom { item, rest: iter });
+        }
+        slots[count] = item;
+        count += 1;
+    }
+    Ok(count)
+}
+
+// `fill_room` on the heap. The vector is in a local variable meanwhile, as in `push_clones`.
+fn fill_heap<T: Drop, I: Iterator<Item = T>>(
+    heap: &mut Vec<T>,
+    mut iter: I,
+) -> Result<(), NoRoom<T, I>>
+    requires { I.can_next iter × IsFinite (I.remaining iter) }
+    ensures ran { (xs : List T) × MatchResult result (λ _. Drains I.next_gives iter xs)
+        (λ refused. YieldsThen I.next_gives iter xs (Some refused.item) refused.rest)
+        × (heap.new.items ≡ heap.old.items ++ xs) }
+    ensures capacity { vec_capacity heap.new ≡ vec_capacity heap.old }
+    ensures full { OnErr result (vec_len heap.new ≡ vec_capacity heap.new) }
+    ensures goes_on { IfErr result (λ refused. Follows I.can_next I.remaining iter refused.rest) }
+{
+    let mut vec = mem::replace(heap, Vec::new(*heap.allocator()));
+    while let Some(item) = iter.next() {
+        if vec.len() == vec.capacity() {
+            *heap = vec;
+            return Err(NoRoom { item, rest: iter });
+        }
+        vec.push_reserved(item);
+    }
+    *heap = vec;
+    Ok(())
+}

@@ -1,0 +1,273 @@
+//! Growing by other lists, by clones, by iterators and by closures.
+ghost use Rattle.std.specs.Prelude.{◌≡◌, ◌+◌, ◌-◌, ◌≤◌, ◌++◌, ℕ, All, length, take, drop, IsOk, OnOk, OnErr, ◌<◌, ◌↔◌, [], IsSome, IfSome, IfNone, IfOk, IfErr, MatchResult, ◌∷◌, List, Some, replicate};
+ghost use Rattle.std.specs.List.{AppendsClones, AppendsResults};
+ghost use Rattle.tinyvec_slots.specs.Slots.{items, spare, items_len, AreDefaults, Vacates, SlotRule};
+ghost use Rattle.tinyvec_slots.specs.Clones.{RefusedAt, ClonesAreEqual, ClonesOver};
+ghost use Rattle.std.specs.Iterator.{Drains, YieldsThen};
+ghost use Rattle.tinyvec_slots.specs.Filling.{YieldsUpTo, ShowsItems, IntoIterYields, AppendsResultsTo};
+
+use crate::clone_slots::{write_clones, write_clones_of};
+use crate::{Array, ArrayVec, FromIterRest, NoMemory, NoRoom};
+use std::alloc::AllocError;
+use std::mem;
+
+impl<A: Array> ArrayVec<A> {
+    /// Appends clones of the slice's items. Only clones allocate.
+    pub fn extend_from_slice(&mut self, other: &[A::Item]) -> Result<(), AllocError>
+    where
+        A::Item: Clone,
+        requires room { length other.now ≤ A.CAPACITY - items_len self.old }
+        ensures items { OnOk result (AppendsClones A.Item.is_clone (items self.old) (items self.new) other.now) }
+        ensures len { OnOk result (items_len self.new ≡ items_len self.old + length other.now) }
+        ensures if_clones_equal { OnOk result (ClonesAreEqual A.Item.is_clone
+            → items self.new ≡ items self.old ++ other.now) }
+        ensures spare { OnOk result (spare self.new ≡ drop (length other.now) (spare self.old)) }
+        ensures kept { OnErr result (items self.new ≡ items self.old) }
+        ensures fits { items_len self.new ≤ A.CAPACITY }
+
+        // The first `j` spare slots hold the clones made.
+        ensures refused { OnErr result ((j : ℕ) × RefusedAt A.Item.is_infallible other.now j
+            × ClonesOver A.Item.is_clone (take j other.now) j (spare self.old) (spare self.new)) }
+        ensures succeeds { All A.Item.is_infallible other.now → IsOk result }
+    {
+        let len = self.len();
+        write_clones(&mut self.array, len, other)?;
+        self.len = len + other.len();
+        Ok(())
+    }
+
+    // Moves the items of `from` to the end, and leaves defaults there.
+    fn push_taken(&mut self, from: &mut [A::Item])
+        requires { length from.old ≤ A.CAPACITY - items_len self.old }
+        ensures items { items self.new ≡ items self.old ++ from.old }
+        ensures spare { spare self.new ≡ drop (length from.old) (spare self.old) }
+        ensures left { AreDefaults A.Item.is_default (length from.old) from.new }
+        ensures fits { items_len self.new ≤ A.CAPACITY }
+    {
+        // For the proof: the list fits, also if nothing is pushed.
+        let _len = self.len();
+        for i in 0..from.len() {
+            self.push(mem::take(&mut from[i]));
+        }
+    }
+
+    /// Moves the items of `other` to the end, and leaves `other` empty. Each item moves once.
+    pub fn append(&mut self, other: &mut Self)
+        requires { items_len other.old ≤ A.CAPACITY - items_len self.old }
+        ensures items { items self.new ≡ items self.old ++ items other.old }
+        ensures spare { spare self.new ≡ drop (items_len other.old) (spare self.old) }
+        ensures other_items { items other.new ≡ [] }
+        ensures other_spare { Vacates A.Item.is_default (items_len other.old) other.old other.new }
+        ensures fits { items_len self.new ≤ A.CAPACITY }
+    {
+        self.push_taken(other.as_mut_slice());
+        other.set_len(0);
+    }
+
+    /// `append` if the items fit; otherwise nothing changes. Returns `other` either way: emptied in `Ok`, refused in
+    /// `Err`.
+    pub fn append_if_fits<'o>(&mut self, other: &'o mut Self) -> Result<&'o mut Self, &'o mut Self>
+        ensures variant { IsOk result ↔ (items_len self.old + items_len other.old ≤ A.CAPACITY) }
+        ensures items { OnOk result (items self.new ≡ items self.old ++ items other.old) }
+        ensures spare { OnOk result (spare self.new ≡ drop (items_len other.old) (spare self.old)) }
+        ensures other_items { IfOk result (λ emptied. items emptied.now ≡ []) }
+        ensures other_spare { IfOk result
+            (λ emptied. Vacates A.Item.is_default (items_len other.old) other.old emptied.now) }
+        ensures refused { IfErr result (λ back. (self.new ≡ self.old) × (back.now ≡ other.old)) }
+        ensures fits { items_len self.new ≤ A.CAPACITY }
+        ensures same_reference { MatchResult result (λ emptied. emptied.ghost_name ≡ other.entry.ghost_name)
+            (λ back. back.ghost_name ≡ other.entry.ghost_name) }
+    {
+        if other.len() > self.capacity() - self.len() {
+            return Err(other);
+        }
+        self.append(other);
+        Ok(other)
+    }
+
+    /// `append` if the items fit; otherwise returns `other`, and nothing changes. `append_if_fits` does the same, and
+    /// its contract says what `other` is in both cases.
+    // A reference that may be in the result has no value after the call, so no clause can say that `other` is empty at
+    // `None`.
+    pub fn try_append<'o>(&mut self, other: &'o mut Self) -> Option<&'o mut Self>
+        ensures variant { IsSome result ↔ (A.CAPACITY < items_len self.old + items_len other.old) }
+        ensures refused { IfSome result (λ back. (back.now ≡ other.old) × (self.new ≡ self.old)) }
+        ensures same_reference { IfSome result (λ back. back.ghost_name ≡ other.entry.ghost_name) }
+        ensures items { IfNone result (items self.new ≡ items self.old ++ items other.old) }
+        ensures spare { IfNone result (spare self.new ≡ drop (items_len other.old) (spare self.old)) }
+        ensures fits { items_len self.new ≤ A.CAPACITY }
+    {
+        match self.append_if_fits(other) {
+            Ok(_emptied) => None,
+            Err(refused) => Some(refused),
+        }
+    }
+
+    /// Appends items until the vector is full or there are no more. Returns the rest of the iterator. `next` is never
+    /// called on a full vector, so `iter` may be infinite.
+    pub fn fill<I: IntoIterator<Item = A::Item>>(&mut self, iter: I) -> I::IntoIter
+        requires { (it : I.IntoIter) → I.into_iter_gives iter it → I.IntoIter.can_next it }
+        ensures ran { (it : I.IntoIter) × (xs : List A.Item) × I.into_iter_gives iter it
+            × YieldsUpTo I.IntoIter.next_gives (A.CAPACITY - items_len self.old) it xs result
+            × (items self.new ≡ items self.old ++ xs) }
+        ensures spare { spare self.new ≡ drop (items_len self.new - items_len self.old) (spare self.old) }
+        ensures fits { items_len self.new ≤ A.CAPACITY }
+
+        // After an item, `next` may be called again.
+        ensures goes_on { items_len self.new ≡ A.CAPACITY → I.IntoIter.can_next result }
+
+        // The same for an iterator whose items are known.
+        ensures listed { (rest : I.IntoIter → List A.Item) → ShowsItems I.IntoIter.next_gives rest
+            → (it : I.IntoIter) × I.into_iter_gives iter it
+            × (items self.new ≡ items self.old ++ take (A.CAPACITY - items_len self.old) (rest it))
+            × (rest result ≡ drop (A.CAPACITY - items_len self.old) (rest it)) }
+    {
+        let mut items = iter.into_iter();
+        while !self.is_full() {
+            match items.next() {
+                Some(item) => self.push(item),
+                None => return items,
+            }
+        }
+        items
+    }
+
+    /// Appends the items. On overflow, returns the first item that did not fit and the rest of the iterator, so `iter`
+    /// may be infinite.
+    pub fn extend<I: IntoIterator<Item = A::Item>>(
+        &mut self,
+        iter: I,
+    ) -> Result<(), NoRoom<A::Item, I::IntoIter>>
+        requires { (it : I.IntoIter) → I.into_iter_gives iter it → I.IntoIter.can_next it }
+        ensures ran { (it : I.IntoIter) × (xs : List A.Item) × I.into_iter_gives iter it
+            × MatchResult result (λ _. Drains I.IntoIter.next_gives it xs)
+            (λ refused. YieldsThen I.IntoIter.next_gives it xs (Some refused.item) refused.rest)
+            × (items self.new ≡ items self.old ++ xs) }
+        ensures full { OnErr result (items_len self.new ≡ A.CAPACITY) }
+        ensures spare { spare self.new ≡ drop (items_len self.new - items_len self.old) (spare self.old) }
+        ensures fits { items_len self.new ≤ A.CAPACITY }
+
+        // After an item, `next` may be called again.
+        ensures goes_on { IfErr result (λ refused. I.IntoIter.can_next refused.rest) }
+
+        // The same for an iterator whose items are known.
+        ensures listed { (rest : I.IntoIter → List A.Item) → ShowsItems I.IntoIter.next_gives rest
+            → (it : I.IntoIter) × I.into_iter_gives iter it
+            × (IsOk result ↔ (length (rest it) ≤ A.CAPACITY - items_len self.old))
+            × (items self.new ≡ items self.old ++ take (A.CAPACITY - items_len self.old) (rest it))
+            × IfErr result
+            (λ refused. drop (A.CAPACITY - items_len self.old) (rest it) ≡ refused.item ∷ rest refused.rest) }
+
+        // For items that are known, as those of a `Vec`, a range or a slice, and that fit.
+        ensures known { (xs : List A.Item) → IntoIterYields I.into_iter_gives I.IntoIter.next_gives iter xs
+            → length xs ≤ A.CAPACITY - items_len self.old → IsOk result × (items self.new ≡ items self.old ++ xs) }
+    {
+        let mut items = self.fill(iter);
+        if !self.is_full() {
+            return Ok(());
+        }
+        match items.next() {
+            Some(item) => Err(NoRoom { item, rest: items }),
+            None => Ok(()),
+        }
+    }
+
+    /// A vector of the items. On overflow, returns the full vector, the first item that did not fit and the rest of the
+    /// iterator, so `iter` may be infinite.
+    pub fn from_iter<I: IntoIterator<Item = A::Item>>(
+        iter: I,
+    ) -> Result<Self, FromIterRest<Self, A::Item, I::IntoIter>>
+        requires { (it : I.IntoIter) → I.into_iter_gives iter it → I.IntoIter.can_next it }
+        ensures ran { (it : I.IntoIter) × (xs : List A.Item) × I.into_iter_gives iter it
+            × MatchResult result (λ v. Drains I.IntoIter.next_gives it xs × (items v ≡ xs))
+            (λ refused. YieldsThen I.IntoIter.next_gives it xs (Some refused.item) refused.rest
+            × (items refused.vec ≡ xs)) }
+        ensures full { IfErr result (λ refused. (items_len refused.vec ≡ A.CAPACITY) × (spare refused.vec ≡ [])) }
+        ensures spare { IfOk result (λ v. AreDefaults A.Item.is_default (A.CAPACITY - items_len v) (spare v)) }
+        ensures fits { IfOk result (λ v. items_len v ≤ A.CAPACITY) }
+
+        // After an item, `next` may be called again.
+        ensures goes_on { IfErr result (λ refused. I.IntoIter.can_next refused.rest) }
+
+        // The same for an iterator whose items are known.
+        ensures listed { (rest : I.IntoIter → List A.Item) → ShowsItems I.IntoIter.next_gives rest
+            → (it : I.IntoIter) × I.into_iter_gives iter it
+            × (IsOk result ↔ (length (rest it) ≤ A.CAPACITY))
+            × MatchResult result (λ v. items v ≡ rest it)
+            (λ refused. (items refused.vec ≡ take A.CAPACITY (rest it))
+            × (drop A.CAPACITY (rest it) ≡ refused.item ∷ rest refused.rest)) }
+
+        // For items that are known, and that fit.
+        ensures known { (xs : List A.Item) → IntoIterYields I.into_iter_gives I.IntoIter.next_gives iter xs
+            → length xs ≤ A.CAPACITY → IsOk result × IfOk result (λ v. items v ≡ xs) }
+    {
+        let mut vec = ArrayVec::new();
+        match vec.extend(iter) {
+            Ok(()) => Ok(vec),
+            Err(NoRoom { item, rest }) => Err(FromIterRest { vec, item, rest }),
+        }
+    }
+
+    /// Truncates to `n` items, or fills up to `n` with clones of `x`. Only clones allocate.
+    pub fn resize(&mut self, n: usize, x: A::Item) -> Result<(), NoMemory<A::Item>>
+    where
+        A::Item: Clone,
+        requires in_bounds { n ≤ A.CAPACITY }
+        ensures items { OnOk result (AppendsClones A.Item.is_clone (take n (items self.old)) (items self.new)
+            (replicate (n - items_len self.old) x)) }
+        ensures len { OnOk result (items_len self.new ≡ n) }
+        ensures if_clones_equal { OnOk result (ClonesAreEqual A.Item.is_clone
+            → items self.new ≡ take n (items self.old) ++ replicate (n - items_len self.old) x) }
+        ensures spare { OnOk result (SlotRule A.Item.is_default self.old self.new) }
+        ensures value_returned { IfErr result (λ refused. refused.0 ≡ x) }
+        ensures kept { OnErr result (items self.new ≡ items self.old) }
+
+        // The first `j` spare slots hold the clones made.
+        ensures refused { OnErr result ((j : ℕ) × (j < n - items_len self.old) × ¬ (A.Item.is_infallible x)
+            × ClonesOver A.Item.is_clone (replicate j x) j (spare self.old) (spare self.new)) }
+        ensures fits { items_len self.new ≤ A.CAPACITY }
+        ensures cuts { n ≤ items_len self.old → IsOk result }
+        ensures succeeds { A.Item.is_infallible x → IsOk result }
+    {
+        let len = self.len();
+        if n <= len {
+            self.truncate(n);
+            return Ok(());
+        }
+        match write_clones_of(&mut self.array, len, n, &x) {
+            Ok(()) => {
+                self.len = n;
+                Ok(())
+            }
+            Err(_) => Err(NoMemory(x)),
+        }
+    }
+
+    /// Truncates to `n` items, or fills up to `n` with what `f` returns. Calls `f` once for each missing item.
+    pub fn resize_with<F: FnMut() -> A::Item>(&mut self, n: usize, mut f: F)
+        requires room { n ≤ A.CAPACITY }
+        requires callable { F.IsAlwaysCallable f }
+        ensures items { AppendsResults F.step (take n (items self.old)) (items self.new) f }
+        ensures len { items_len self.new ≡ n }
+        ensures spare { SlotRule A.Item.is_default self.old self.new }
+        ensures fits { items_len self.new ≤ A.CAPACITY }
+    {
+        self.resize_asked(n, &mut f);
+    }
+
+    // `resize_with`, and the state in which the last call leaves `f`.
+    fn resize_asked<F: FnMut() -> A::Item>(&mut self, n: usize, f: &mut F)
+        requires room { n ≤ A.CAPACITY }
+        requires callable { F.IsAlwaysCallable f.old }
+        ensures items { AppendsResults F.step (take n (items self.old)) (items self.new) f.old }
+        ensures asked { AppendsResultsTo F.step (take n (items self.old)) (items self.new) f.old f.new }
+        ensures len { items_len self.new ≡ n }
+        ensures spare { SlotRule A.Item.is_default self.old self.new }
+        ensures fits { items_len self.new ≤ A.CAPACITY }
+    {
+        self.truncate(n);
+        while self.len() < n {
+            self.push(f());
+        }
+    }
+}

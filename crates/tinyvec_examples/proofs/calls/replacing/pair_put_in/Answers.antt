@@ -1,0 +1,18 @@
+use Rattle.std.proofs.Common.{[], ◌∷◌, ◌+◌, length, pos, ap, ◌∙◌, arith, rules, length-take-le, length-drop}
+use Rattle.tinyvec_slots.specs.Slots.{items}
+use Rattle.tinyvec_slots.proofs.KnownItems.{array_yields}
+use Rattle.tinyvec_slots.proofs.ReplacingLemmas.{between}
+use Rattle.tinyvec_examples.proofs.calls.replacing.pair_put_in.Goals as goal
+
+pub returns : goal.returns
+returns c =
+    let made = c.splice.ensures in
+    let xs = items c.args.v.now in
+    let pair = pos 7 ∷ pos 8 ∷ [] in
+    let known = c.finish-all_fit.ensures.known pair (made.unasked, array_yields pair _ made.replacement.0) in
+    let front = ap length made.front ∙ length-take-le c.args.at xs (omega (arith, c.requires)) in
+    let back = ap length made.back ∙ length-drop (c.args.at + 2) xs in
+    let fits = known.1 (omega (arith, front, back, c.requires, c.len-len.ensures.value, c.len-len.ensures.fits)) in
+    let list = between _ _ pair _ _ _ fits.1 made.front made.back in
+    let lender = made.same_reference in
+    search rules

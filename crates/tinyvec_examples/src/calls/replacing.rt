@@ -1,0 +1,61 @@
+//! Callers that replace a range as a whole.
+ghost use Rattle.std.specs.Prelude.{◌≡◌, ◌+◌, ◌≤◌, ◌++◌, ◌∷◌, [], pos, take, drop, OnOk, OnErr};
+ghost use Rattle.tinyvec.specs.Slots.{items, items_len};
+ghost use Rattle.tinyvec.specs.TinyVec.{tiny_items, tiny_len, Unchanged};
+
+use std::alloc::AllocError;
+use std::iter::{Copied, Fuse};
+use std::slice;
+use tinyvec::{Array, ArrayVec, CapacityError, SpliceRest, TinyVec};
+
+/// A word in the place of the first two bytes, where there is room for it.
+pub fn spelled(v: &mut ArrayVec<[u8; 16]>, word: &[u8]) -> Result<(), CapacityError>
+    requires { 2 ≤ items_len v.old }
+    ensures items { OnOk result (items v.new ≡ word.now ++ drop 2 (items v.old)) }
+    ensures refused { OnErr result (v.new ≡ v.old) }
+{
+    v.replace_range(..2, word)
+}
+
+/// A word at a place of a list. Where memory is refused, nothing changes.
+pub fn word_put_in(v: &mut TinyVec<[u8; 16]>, at: usize, word: &[u8]) -> Result<(), AllocError>
+    requires { at ≤ tiny_len v.old }
+    ensures items { OnOk result (tiny_items v.new ≡ take at (tiny_items v.old) ++ word.now ++ drop at (tiny_items v.old)) }
+    ensures refused { OnErr result (Unchanged v.old v.new) }
+{
+    v.replace_range(at..at, word)
+}
+
+/// Copies of a slice's items at a place of any `ArrayVec`. The first that finds no room is returned, with the others.
+pub fn copies_put_in<'a, T: Copy + Default + Drop + 'a, A: Array<Item = T>>(
+    v: &mut ArrayVec<A>,
+    at: usize,
+    more: &'a [T],
+) -> Result<(), SpliceRest<T, Fuse<Copied<slice::Iter<'a, T>>>>>
+    requires { at ≤ items_len v.old }
+    ensures { OnOk result (items v.new ≡ take at (items v.old) ++ more.now ++ drop at (items v.old)) }
+{
+    v.splice_all(at..at, more.iter().copied())
+}
+
+/// The characters of a text before the others: whether memory was granted for all.
+pub fn spelled_before(v: &mut TinyVec<[char; 4]>, text: &str) -> bool {
+    v.splice_all(0..0, text.chars()).is_ok()
+}
+
+/// Bytes at a place of a list: whether memory was granted for all.
+pub fn bytes_put_in(v: &mut TinyVec<[u8; 16]>, at: usize, bytes: &[u8]) -> bool
+    requires { at ≤ tiny_len v.old }
+{
+    v.splice_all(at..at, bytes.iter().copied()).is_ok()
+}
+
+/// An array's items in the place of a range, by `splice` and `finish`.
+pub fn pair_put_in(v: &mut ArrayVec<[i32; 8]>, at: usize)
+    requires { at + 2 ≤ items_len v.old }
+    ensures { items v.new ≡ take at (items v.old) ++ (pos 7 ∷ pos 8 ∷ []) ++ drop (at + 2) (items v.old) }
+{
+    // A vector that was lent is not known to fit until a call says so.
+    let _len = v.len();
+    let _all_fit = v.splice(at..at + 2, [7, 8]).finish();
+}

@@ -1,8 +1,0 @@
-use Rattle.tinyvec_script.proofs.Written.{gathered_then, Gathers-then}
-use Rattle.tinyvec_script.proofs.answers.write_text_line.Goals as goal
-
-pub returns : goal.returns
-returns g c =
-    let answer = gathered_then _ _ _ _ _ _ _ _ c.in_ok-write_answer.ensures c.in_ok-put.ensures in
-    let state = gathered_then _ _ _ _ _ _ _ _ answer c.in_ok-write_text_state.ensures in
-    Gathers-then c.put-2.result _ _ _ _ _ _ _ _ state c.put-2.ensures

@@ -1,0 +1,54 @@
+use Rattle.std.proofs.Common.{◌≤◌, ◌++◌, sym, ap, ◌∙◌, arith, rules}
+use Rattle.std.specs.declared.ops.Bound.TheVariants.{Included, Excluded}
+use Rattle.tinyvec_slots.specs.Slots.{items, items_len}
+use Rattle.tinyvec_slots.specs.Cut.{removed}
+use Rattle.tinyvec_script.proofs.StepLemmas.{pushes, inserts, removes, swap_removes, drains, splices}
+use Rattle.tinyvec_script.proofs.slots_step.answer_array.Goals as goal
+
+pub returns-in-Push : goal.returns-in-Push
+returns-in-Push g c =
+    let made = c.push.ensures in
+    rw c.in-Push.is (pushes g.A.Item.Default.is_default g.A.Array.CAPACITY c.args.vec.now c.push.new.self c.in-Push.x
+    (search rules) made.items made.spare)
+
+pub returns-in-Insert : goal.returns-in-Insert
+returns-in-Insert g c =
+    let made = c.insert.ensures in
+    rw c.in-Insert.is (inserts g.A.Item.Default.is_default g.A.Array.CAPACITY c.args.vec.now c.insert.new.self c.in-Insert.i c.in-Insert.x
+    (omega arith) (search rules) made.items made.spare)
+
+pub returns-in-Remove : goal.returns-in-Remove
+returns-in-Remove g c =
+    let made = c.remove.ensures in
+    rw c.in-Remove.is (removes g.A.Item.Default.is_default g.A.Array.CAPACITY c.args.vec.now c.remove.new.self c.in-Remove.i c.remove.result
+    (omega arith) made.value made.items made.spare)
+
+pub returns-in-SwapRemove : goal.returns-in-SwapRemove
+returns-in-SwapRemove g c =
+    let made = c.swap_remove.ensures in
+    rw c.in-SwapRemove.is (swap_removes g.A.Item.Default.is_default g.A.Array.CAPACITY c.args.vec.now c.swap_remove.new.self c.in-SwapRemove.i
+    c.swap_remove.result (omega arith) made.value made.items made.spare)
+
+pub returns-in-Drain : goal.returns-in-Drain
+returns-in-Drain g c =
+    let old = c.args.vec.now in
+    let i = c.in-Drain.start in
+    let j = c.in-Drain.end in
+    let left = c.drain_into.ensures in
+    let in_order : i ≤ j = omega arith in
+    let in_list : j ≤ items_len old = omega arith in
+    let taken = left.moved ∙ ap (λ xs. xs ++ removed (items old) (Included i) (Excluded j)) c.in-Ok.ensures.items in
+    rw c.in-Drain.is (
+      (in_order, in_list),
+      drains g.A.Item.Default.is_default g.A.Array.CAPACITY old c.drain_into.new.self i j
+          c.drain_into.new.out.items in_order in_list taken left.items left.spare,
+    )
+
+pub returns-in-Ok-drive_array_splice : goal.returns-in-Ok-drive_array_splice
+returns-in-Ok-drive_array_splice g c =
+    let in_order : c.in-Splice.start ≤ c.in-Splice.end = omega arith in
+    let in_list : c.in-Splice.end ≤ items_len c.args.vec.now = omega arith in
+    let made = c.answer_driven.ensures in
+    rw c.in-Splice.is (splices g.A.Item.Default.is_default g.A.Array.CAPACITY c.args.vec.now c.drive_array_splice.new.vec c.in-Splice.start c.in-Splice.end c.in-Splice.word
+    c.in-Splice.replacement c.in-Ok-drive_array_splice.driven.yields c.in-Ok-drive_array_splice.driven.rest c.answer_driven.result
+    in_order in_list made.items made.spliced (rw (sym c.as_slice.ensures.value) c.in-Ok-drive_array_splice.ensures.splices))

@@ -1,0 +1,68 @@
+use Rattle.std.proofs.Common.{[], ◌-◌, ◌<◌, ◌≡◌, length, take, replicate, refl, sym, ap, subst, ◌∙◌, le_refl, arith, take_all}
+use Rattle.std.specs.List.{AllZip}
+use Rattle.tinyvec_slots.proofs.CloneLemmas.{on_err}
+use Rattle.tinyvec_slots.specs.Clones.{ClonesBefore}
+use Rattle.tinyvec_slice.specs.SliceVec.{items_of, spare_of}
+use Rattle.tinyvec_slice.proofs.ResizingLemmas.{one_less, first_items, clone_before, left_after}
+use Rattle.tinyvec_slice.proofs.slice_vec.GenericSliceVec.cut_to_clones.Goals as goal
+
+pub loop-n-init : goal.loop-n-init
+loop-n-init g c =
+    let L = items_of g.B.Lent c.args.self.now in
+    let none : 0 ≡ length L - length L = omega arith in (
+      c.requires.shorter,
+      le_refl _,
+      sym (take_all (length L) L (le_refl _)),
+      ([], subst (λ n. AllZip g.B.Item.Clone.is_clone (replicate n c.args.x.now) []) none tt, refl),
+      refl,
+    )
+
+pub loop-n-preserved : goal.loop-n-preserved
+loop-n-preserved g c =
+    let at = c.loop-n in
+    let inv = at.invariant in
+    let put = c.replace_last.ensures in
+    let whole = items_of g.B.Lent c.args.self.now in
+    let old = items_of g.B.Lent at.self in
+    let new = items_of g.B.Lent c.replace_last.new.self in
+    let len = c.len.ensures.value in
+    let more = c.loop-n-test.true in
+    let some : 0 < length old = omega (arith, len, more) in
+    let less = one_less whole old new some put.items in
+    let base = spare_of g.B.Lent c.args.self.now in
+    let behind = spare_of g.B.Lent at.self in
+    let after = spare_of g.B.Lent c.replace_last.new.self in (
+      omega (arith, less, len, more),
+      omega (arith, less),
+      first_items whole old new some put.items inv.2,
+      clone_before whole old new some put.items g.B.Item.Clone.is_clone c.args.x.now c.in_ok-filling.filling base behind after inv.1 c.in_ok-filling.ensures.cases put.spare inv.3,
+      put.same_reference ∙ inv.4,
+    )
+
+pub returns-in_err-filling-clause-refused : goal.returns-in_err-filling-clause-refused
+returns-in_err-filling-clause-refused g c =
+    let at = c.loop-n in
+    let inv = at.invariant in
+    let whole = items_of g.B.Lent c.args.self.now in
+    let k = length (items_of g.B.Lent at.self) in
+    let len = c.len.ensures.value in
+    let more = c.loop-n-test.true in
+    on_err c.from_residual.result (length whole - k, omega (arith, inv.1, len, more), c.in_err-filling.ensures.cases, inv.2 ∙ left_after whole k inv.1, inv.3)
+
+pub returns-clause-items : goal.returns-clause-items
+returns-clause-items g c =
+    let at = c.loop-n in
+    let len = c.len.ensures.value in
+    let done = c.loop-n-test.false in
+    let ends : length (items_of g.B.Lent at.self) ≡ c.args.n = omega (arith, at.invariant.0) in
+    at.invariant.2 ∙ ap (λ n. take n (items_of g.B.Lent c.args.self.now)) ends
+
+pub returns-clause-spare : goal.returns-clause-spare
+returns-clause-spare g c =
+    let at = c.loop-n in
+    let len = c.len.ensures.value in
+    let done = c.loop-n-test.false in
+    let ends : length (items_of g.B.Lent at.self) ≡ c.args.n = omega (arith, at.invariant.0) in
+    let old = c.args.self.now in
+    let base = spare_of g.B.Lent old in
+    subst (λ n. ClonesBefore g.B.Item.Clone.is_clone (replicate (length (items_of g.B.Lent old) - n) c.args.x.now) base (spare_of g.B.Lent at.self)) ends at.invariant.3

@@ -1,0 +1,16 @@
+use Rattle.std.proofs.Common.{◌≡◌, ◌+◌, ◌-◌, ◌≤◌, ◌++◌, List, length, drop}
+use Rattle.std.specs.Iterator.{Yields}
+use Rattle.tinyvec_slice.specs.SliceVec.{items_of, spare_of, name_of}
+use Rattle.tinyvec_slice.proofs.slice_vec.GenericSliceVec.fill.Given as goal
+
+abbrev pub invariant-loop-items : goal.invariant-loop-items
+invariant-loop-items g l = g.I.IntoIter.Iterator.can_next l.items
+    × (length (items_of g.B.Lent l.initial.self) ≤ length (items_of g.B.Lent l.self))
+    × (length (items_of g.B.Lent l.self) ≤ length (items_of g.B.Lent l.initial.self) + length (spare_of g.B.Lent l.initial.self))
+    × (spare_of g.B.Lent l.self ≡ drop (length (items_of g.B.Lent l.self) - length (items_of g.B.Lent l.initial.self)) (spare_of g.B.Lent l.initial.self))
+    × ((placed : List g.row.B-Item.Denot) × Yields g.I.IntoIter.Iterator.next_gives l.initial.items placed l.items
+    × (items_of g.B.Lent l.self ≡ items_of g.B.Lent l.initial.self ++ placed))
+    × (name_of g.B.Lent l.self ≡ name_of g.B.Lent l.initial.self)
+
+abbrev pub decreases-loop-items : goal.decreases-loop-items
+decreases-loop-items g l = length (spare_of g.B.Lent l.self)

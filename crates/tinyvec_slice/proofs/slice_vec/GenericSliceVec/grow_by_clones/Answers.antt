@@ -1,0 +1,61 @@
+use Rattle.std.proofs.Common.{◌≡◌, ◌<◌, ◌≤◌, ◌+◌, ◌-◌, ◌++◌, length, take, drop, replicate, sym, ap, ◌∙◌, arith, rules}
+use Rattle.tinyvec_slots.proofs.CloneLemmas.{on_err, behind_writes}
+use Rattle.tinyvec_slots.proofs.BorderLemmas.{kept_before, clones_written}
+use Rattle.tinyvec_slice.specs.SliceVec.{spare_of}
+use Rattle.tinyvec_slice.proofs.ViewLemmas.{border, within, list_to, spare_from, parts_of}
+use Rattle.tinyvec_slice.proofs.slice_vec.GenericSliceVec.grow_by_clones.Goals as goal
+
+module _ (g : _) (c : goal.After-from_residual g) where
+  -- a slot is spare, so the list ends at the vector's `len`
+  same : c.len-len.result ≡ c.args.self.now.len
+  same =
+      let v = c.args.self.now in
+      let slots = g.B.Lent.slots v.lent in
+      let n = c.len-len.result in
+      let long = c.len-len.ensures.value in
+      let parts = parts_of g.B.Lent v in
+      let room : 0 < length (spare_of g.B.Lent v) = omega (arith, parts, long, c.in_err-write_clones_of.ensures.refused.1, c.requires.in_bounds) in
+      border v.len slots n long room
+
+  le : c.args.self.now.len ≤ length (g.B.Lent.slots c.args.self.now.lent)
+  le = rw (← same) (within c.args.self.now.len (g.B.Lent.slots c.args.self.now.lent) c.len-len.result c.len-len.ensures.value)
+
+pub returns-in_err-write_clones_of-clause-kept : goal.returns-in_err-write_clones_of-clause-kept
+returns-in_err-write_clones_of-clause-kept g c =
+    let v = c.args.self.now in
+    let slots = g.B.Lent.slots v.lent in
+    let h = c.in_err-write_clones_of.ensures.refused in
+    let made = h.3 in
+    let after = made.3 ∙ ap (λ k. take k slots ++ made.0 ++ drop (k + h.0) slots) (same g c) in
+    on_err c.from_residual.result (ap (take v.len) after ∙ kept_before slots made.0 (drop (v.len + h.0) slots) v.len (le g c))
+
+pub returns-in_err-write_clones_of-clause-refused : goal.returns-in_err-write_clones_of-clause-refused
+returns-in_err-write_clones_of-clause-refused g c =
+    let v = c.args.self.now in
+    let slots = g.B.Lent.slots v.lent in
+    let h = c.in_err-write_clones_of.ensures.refused in
+    let made = h.3 in
+    let after = made.3 ∙ ap (λ k. take k slots ++ made.0 ++ drop (k + h.0) slots) (same g c) in
+    let few = rw c.len-len.ensures.value at h.1 in
+    on_err c.from_residual.result (h.0, few, h.2, (made.0, made.1, made.2, ap (drop v.len) after ∙ behind_writes slots made.0 v.len h.0 (le g c)))
+
+pub returns : goal.returns
+returns g c =
+    let v = c.args.self.now in
+    let slots = g.B.Lent.slots v.lent in
+    let len = c.len-len.result in
+    let long = c.len-len.ensures.value in
+    let n = c.args.n in
+    let sum : len + (n - len) ≡ n = omega arith in
+    let behind = clones_written g.B.Item.Clone.is_clone len (n - len) (replicate (n - len) c.args.x.now) slots (g.B.Lent.slots c.write_clones_of.new.lent) (within v.len slots len long) c.in_ok-write_clones_of.ensures.ok in
+    let written = rw sum at behind in
+    let list = list_to v.len slots len long in
+    record {
+      same_reference = search rules;
+      items = rw (← long, ← list) (written.0);
+      len = written.1 ∙ ap (λ l. length l + (n - len)) list ∙ ap (λ k. k + (n - len)) (sym long) ∙ sum;
+      spare = rw (← long) (written.3 ∙ ap (drop (n - len)) (spare_from v.len slots len long));
+      kept = search rules;
+      refused = search rules;
+      succeeds = search rules;
+    }

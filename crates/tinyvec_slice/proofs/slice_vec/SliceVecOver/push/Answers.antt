@@ -1,7 +1,0 @@
-use Rattle.tinyvec_slice.proofs.ViewLemmas.{drop-pushed}
-use Rattle.tinyvec_slice.proofs.slice_vec.SliceVecOver.push.Goals as goal
-
-pub returns-clause-spare : goal.returns-clause-spare
-returns-clause-spare g c =
-    let v = c.args.self.now in
-    rw (c.put.ensures.after) (drop-pushed v.len (g.B.Lent.slots v.lent) c.len-len.result c.len-len.ensures.value c.args.x)

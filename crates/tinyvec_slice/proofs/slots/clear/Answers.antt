@@ -1,6 +1,0 @@
-use Rattle.std.proofs.Common.{arith}
-use Rattle.std.proofs.lemmas.Grind.{common_steps}
-use Rattle.tinyvec_slice.proofs.slots.clear.Goals as goal
-
-pub returns-clause-after : goal.returns-clause-after
-returns-clause-after g c = grind (arith, common_steps)

@@ -1,0 +1,53 @@
+-- What a contract sees of a vector in lent slots.
+use Rattle.std.specs.Prelude.{ℕ, List, length}
+use Rattle.std.specs.Borrow.{GName, MutBor}
+use Rattle.tinyvec_slots.specs.Slots.{Slots, Vacates, items as items_in, spare as spare_in}
+use Rattle.tinyvec_slice.specs.declared.lent.Lent as Lent
+use Rattle.tinyvec_slice.specs.declared.slice_vec.GenericSliceVec.{GenericSliceVec}
+
+-- The words of generic code, over what the trait says of the slots that are lent.
+module _ {B T : Type 0} (g : Lent.Ghosts B T) where
+  -- the slots, and how many of them hold the list
+  abbrev pub seen_of : GenericSliceVec B T → Slots T
+  seen_of v = record { slots = g.slots v.lent; len = v.len }
+
+  -- the list
+  abbrev pub items_of : GenericSliceVec B T → List T
+  items_of v = items_in (seen_of v)
+
+  -- the spare slots behind it
+  abbrev pub spare_of : GenericSliceVec B T → List T
+  spare_of v = spare_in (seen_of v)
+
+  -- the length of the list
+  abbrev pub len_of : GenericSliceVec B T → ℕ
+  len_of v = length (items_of v)
+
+  -- the list and the spare slots, one behind the other
+  abbrev pub slots_of : GenericSliceVec B T → List T
+  slots_of v = g.slots v.lent
+
+  -- the ghost name of the reference to the slots
+  abbrev pub name_of : GenericSliceVec B T → GName
+  name_of v = g.name v.lent
+
+  -- the n vacated slots stand, as defaults, before the old spare slots
+  abbrev pub VacatesOf : (T → Type 0) → ℕ → GenericSliceVec B T → GenericSliceVec B T → Type 0
+  VacatesOf D n old new = Vacates D n (seen_of old) (seen_of new)
+
+-- The same words of a vector in a lent slice.
+module _ {T : Type 0} where
+  abbrev pub seen : GenericSliceVec (MutBor (List T)) T → Slots T
+  seen v = record { slots = v.lent.now; len = v.len }
+
+  abbrev pub items : GenericSliceVec (MutBor (List T)) T → List T
+  items v = items_in (seen v)
+
+  abbrev pub spare : GenericSliceVec (MutBor (List T)) T → List T
+  spare v = spare_in (seen v)
+
+  abbrev pub slots : GenericSliceVec (MutBor (List T)) T → List T
+  slots v = v.lent.now
+
+  abbrev pub name : GenericSliceVec (MutBor (List T)) T → GName
+  name v = v.lent.ghost_name

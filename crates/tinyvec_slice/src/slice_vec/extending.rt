@@ -1,0 +1,315 @@
+//! Growing by other lists, by clones, by iterators and by closures.
+ghost use Rattle.std.specs.Prelude.{◌≡◌, ◌+◌, ◌≤◌, ◌++◌, ℕ, All, length, take, drop, IsOk, OnOk, OnErr, [], ◌-◌, ◌↔◌, ◌∷◌, List, MatchResult, IfErr, Some, ◌<◌, replicate, reverse};
+ghost use Rattle.std.specs.List.{AppendsClones, AppendsResults};
+ghost use Rattle.tinyvec_slots.specs.Clones.{RefusedAt, ClonesAreEqual, ClonesOver, ClonesBefore};
+ghost use Rattle.tinyvec_slice.specs.SliceVec.{items_of, spare_of, name_of, len_of, VacatesOf, slots_of};
+ghost use Rattle.tinyvec_slots.specs.Slots.{AreDefaults};
+ghost use Rattle.std.specs.Iterator.{Drains, YieldsThen};
+ghost use Rattle.tinyvec_slots.specs.Filling.{YieldsUpTo, ShowsItems, IntoIterYields, AppendsResultsTo};
+
+use crate::clone_slots::{write_clones, write_clones_of};
+use crate::{GenericSliceVec, Lent};
+use std::alloc::AllocError;
+use std::mem;
+use tinyvec_slots::{NoMemory, NoRoom};
+
+impl<B: Lent> GenericSliceVec<B> {
+    /// Appends clones of the slice's items. Only clones allocate.
+    pub fn extend_from_slice(&mut self, other: &[B::Item]) -> Result<(), AllocError>
+    where
+        B::Item: Clone,
+        requires room { length other.now ≤ length (spare_of B.Lent self.old) }
+        ensures same_reference { name_of B.Lent self.new ≡ name_of B.Lent self.old }
+        ensures items { OnOk result (AppendsClones B.Item.is_clone (items_of B.Lent self.old)
+            (items_of B.Lent self.new) other.now) }
+        ensures len { OnOk result (len_of B.Lent self.new ≡ len_of B.Lent self.old + length other.now) }
+        ensures if_clones_equal { OnOk result (ClonesAreEqual B.Item.is_clone
+            → items_of B.Lent self.new ≡ items_of B.Lent self.old ++ other.now) }
+        ensures spare { OnOk result (spare_of B.Lent self.new ≡ drop (length other.now) (spare_of B.Lent self.old)) }
+        ensures kept { OnErr result (items_of B.Lent self.new ≡ items_of B.Lent self.old) }
+
+        // The first `j` spare slots hold the clones made.
+        ensures refused { OnErr result ((j : ℕ) × RefusedAt B.Item.is_infallible other.now j
+            × ClonesOver B.Item.is_clone (take j other.now) j (spare_of B.Lent self.old) (spare_of B.Lent self.new)) }
+        ensures succeeds { All B.Item.is_infallible other.now → IsOk result }
+    {
+        let len = self.len();
+        write_clones(&mut self.lent, len, other)?;
+        self.len = len + other.len();
+        Ok(())
+    }
+
+    /// Appends items until the vector is full or there are no more. Returns the rest of the iterator. `next` is never
+    /// called on a full vector, so `iter` may be infinite.
+    pub fn fill<I: IntoIterator<Item = B::Item>>(&mut self, iter: I) -> I::IntoIter
+        requires { (it : I.IntoIter) → I.into_iter_gives iter it → I.IntoIter.can_next it }
+        ensures same_reference { name_of B.Lent self.new ≡ name_of B.Lent self.old }
+        ensures ran { (it : I.IntoIter) × (xs : List B.Item) × I.into_iter_gives iter it
+            × YieldsUpTo I.IntoIter.next_gives (length (spare_of B.Lent self.old)) it xs result
+            × (items_of B.Lent self.new ≡ items_of B.Lent self.old ++ xs) }
+        ensures spare { spare_of B.Lent self.new
+            ≡ drop (len_of B.Lent self.new - len_of B.Lent self.old) (spare_of B.Lent self.old) }
+
+        // After an item, `next` may be called again.
+        ensures goes_on { length (spare_of B.Lent self.new) ≡ 0 → I.IntoIter.can_next result }
+
+        // The same for an iterator whose items are known.
+        ensures listed { (rest : I.IntoIter → List B.Item) → ShowsItems I.IntoIter.next_gives rest
+            → (it : I.IntoIter) × I.into_iter_gives iter it
+            × (items_of B.Lent self.new
+            ≡ items_of B.Lent self.old ++ take (length (spare_of B.Lent self.old)) (rest it))
+            × (rest result ≡ drop (length (spare_of B.Lent self.old)) (rest it)) }
+    {
+        let mut items = iter.into_iter();
+        while !self.is_full() {
+            match items.next() {
+                Some(item) => self.push(item),
+                None => return items,
+            }
+        }
+        items
+    }
+
+    /// Appends the items. On overflow, returns the first item that did not fit and the rest of the iterator, so `iter`
+    /// may be infinite.
+    pub fn extend<I: IntoIterator<Item = B::Item>>(
+        &mut self,
+        iter: I,
+    ) -> Result<(), NoRoom<B::Item, I::IntoIter>>
+        requires { (it : I.IntoIter) → I.into_iter_gives iter it → I.IntoIter.can_next it }
+        ensures same_reference { name_of B.Lent self.new ≡ name_of B.Lent self.old }
+        ensures ran { (it : I.IntoIter) × (xs : List B.Item) × I.into_iter_gives iter it
+            × MatchResult result (λ _. Drains I.IntoIter.next_gives it xs)
+            (λ refused. YieldsThen I.IntoIter.next_gives it xs (Some refused.item) refused.rest)
+            × (items_of B.Lent self.new ≡ items_of B.Lent self.old ++ xs) }
+        ensures full { OnErr result (spare_of B.Lent self.new ≡ []) }
+        ensures spare { spare_of B.Lent self.new
+            ≡ drop (len_of B.Lent self.new - len_of B.Lent self.old) (spare_of B.Lent self.old) }
+
+        // After an item, `next` may be called again.
+        ensures goes_on { IfErr result (λ refused. I.IntoIter.can_next refused.rest) }
+
+        // The same for an iterator whose items are known.
+        ensures listed { (rest : I.IntoIter → List B.Item) → ShowsItems I.IntoIter.next_gives rest
+            → (it : I.IntoIter) × I.into_iter_gives iter it
+            × (IsOk result ↔ (length (rest it) ≤ length (spare_of B.Lent self.old)))
+            × (items_of B.Lent self.new
+            ≡ items_of B.Lent self.old ++ take (length (spare_of B.Lent self.old)) (rest it))
+            × IfErr result (λ refused. drop (length (spare_of B.Lent self.old)) (rest it)
+            ≡ refused.item ∷ rest refused.rest) }
+
+        // For items that are known, as those of a `Vec`, a range or a slice, and that fit.
+        ensures known { (xs : List B.Item) → IntoIterYields I.into_iter_gives I.IntoIter.next_gives iter xs
+            → length xs ≤ length (spare_of B.Lent self.old)
+            → IsOk result × (items_of B.Lent self.new ≡ items_of B.Lent self.old ++ xs) }
+    {
+        let mut items = self.fill(iter);
+        if !self.is_full() {
+            return Ok(());
+        }
+        match items.next() {
+            Some(item) => Err(NoRoom { item, rest: items }),
+            None => Ok(()),
+        }
+    }
+
+    /// Fills the list up to `n` items with clones of `x`, or truncates it to `n` items and fills the emptied slots with
+    /// clones of `x`, the last slot first. Only clones allocate.
+    pub fn resize(&mut self, n: usize, x: B::Item) -> Result<(), NoMemory<B::Item>>
+    where
+        B::Item: Clone,
+        requires in_bounds { n ≤ length (slots_of B.Lent self.old) }
+        ensures same_reference { name_of B.Lent self.new ≡ name_of B.Lent self.old }
+        ensures items { OnOk result (AppendsClones B.Item.is_clone (take n (items_of B.Lent self.old))
+            (items_of B.Lent self.new) (replicate (n - len_of B.Lent self.old) x)) }
+        ensures len { OnOk result (len_of B.Lent self.new ≡ n) }
+        ensures if_clones_equal { OnOk result (ClonesAreEqual B.Item.is_clone
+            → items_of B.Lent self.new
+            ≡ take n (items_of B.Lent self.old) ++ replicate (n - len_of B.Lent self.old) x) }
+        ensures spare { OnOk result (ClonesBefore B.Item.is_clone (replicate (len_of B.Lent self.old - n) x)
+            (drop (n - len_of B.Lent self.old) (spare_of B.Lent self.old)) (spare_of B.Lent self.new)) }
+        ensures spare_if_clones_equal { OnOk result (ClonesAreEqual B.Item.is_clone
+            → spare_of B.Lent self.new ≡ replicate (len_of B.Lent self.old - n) x
+            ++ drop (n - len_of B.Lent self.old) (spare_of B.Lent self.old)) }
+        ensures value_returned { IfErr result (λ refused. refused.0 ≡ x) }
+
+        // A list that was to grow is as it was, and the first j spare slots hold the clones that were made.
+        ensures refused_growing { OnErr result (len_of B.Lent self.old ≤ n → (j : ℕ) × (j < n - len_of B.Lent self.old)
+            × ¬ (B.Item.is_infallible x) × (items_of B.Lent self.new ≡ items_of B.Lent self.old)
+            × ClonesOver B.Item.is_clone (replicate j x) j (spare_of B.Lent self.old) (spare_of B.Lent self.new)) }
+
+        // A list that was to be cut is shorter by the j slots that hold the clones that were made.
+        ensures refused_cutting { OnErr result (n ≤ len_of B.Lent self.old → (j : ℕ) × (j < len_of B.Lent self.old - n)
+            × ¬ (B.Item.is_infallible x)
+            × (items_of B.Lent self.new ≡ take (len_of B.Lent self.old - j) (items_of B.Lent self.old))
+            × ClonesBefore B.Item.is_clone (replicate j x) (spare_of B.Lent self.old) (spare_of B.Lent self.new)) }
+        ensures succeeds { B.Item.is_infallible x → IsOk result }
+    {
+        let len = self.len();
+        if n <= len {
+            return match self.cut_to_clones(n, &x) {
+                Ok(()) => Ok(()),
+                Err(_) => Err(NoMemory(x)),
+            };
+        }
+        match self.grow_by_clones(n, &x) {
+            Ok(()) => Ok(()),
+            Err(_) => Err(NoMemory(x)),
+        }
+    }
+
+    // Fills the list up to `n` items with clones of `x`.
+    fn grow_by_clones(&mut self, n: usize, x: &B::Item) -> Result<(), AllocError>
+    where
+        B::Item: Clone,
+        requires longer { len_of B.Lent self.old ≤ n }
+        requires in_bounds { n ≤ length (slots_of B.Lent self.old) }
+        ensures same_reference { name_of B.Lent self.new ≡ name_of B.Lent self.old }
+        ensures items { OnOk result (AppendsClones B.Item.is_clone (items_of B.Lent self.old) (items_of B.Lent self.new)
+            (replicate (n - len_of B.Lent self.old) x.now)) }
+        ensures len { OnOk result (len_of B.Lent self.new ≡ n) }
+        ensures spare { OnOk result (spare_of B.Lent self.new
+            ≡ drop (n - len_of B.Lent self.old) (spare_of B.Lent self.old)) }
+        ensures kept { OnErr result (items_of B.Lent self.new ≡ items_of B.Lent self.old) }
+        ensures refused { OnErr result ((j : ℕ) × (j < n - len_of B.Lent self.old) × ¬ (B.Item.is_infallible x.now)
+            × ClonesOver B.Item.is_clone (replicate j x.now) j (spare_of B.Lent self.old) (spare_of B.Lent self.new)) }
+        ensures succeeds { B.Item.is_infallible x.now → IsOk result }
+    {
+        let len = self.len();
+        write_clones_of(&mut self.lent, len, n, x)?;
+        self.len = n;
+        Ok(())
+    }
+
+    // Cuts the list to `n` items, and fills the vacated slots with clones of `x`, the last slot first.
+    fn cut_to_clones(&mut self, n: usize, x: &B::Item) -> Result<(), AllocError>
+    where
+        B::Item: Clone,
+        requires shorter { n ≤ len_of B.Lent self.old }
+        ensures same_reference { name_of B.Lent self.new ≡ name_of B.Lent self.old }
+        ensures items { OnOk result (items_of B.Lent self.new ≡ take n (items_of B.Lent self.old)) }
+        ensures spare { OnOk result (ClonesBefore B.Item.is_clone (replicate (len_of B.Lent self.old - n) x.now)
+            (spare_of B.Lent self.old) (spare_of B.Lent self.new)) }
+        ensures refused { OnErr result ((j : ℕ) × (j < len_of B.Lent self.old - n) × ¬ (B.Item.is_infallible x.now)
+            × (items_of B.Lent self.new ≡ take (len_of B.Lent self.old - j) (items_of B.Lent self.old))
+            × ClonesBefore B.Item.is_clone (replicate j x.now) (spare_of B.Lent self.old) (spare_of B.Lent self.new)) }
+        ensures succeeds { B.Item.is_infallible x.now → IsOk result }
+    {
+        while self.len() > n {
+            let filling = x.clone()?;
+            self.replace_last(filling);
+        }
+        Ok(())
+    }
+
+    /// Fills the list up to `n` items with what `f` returns, or truncates it to `n` items and fills the emptied slots
+    /// with what `f` returns, the last slot first.
+    pub fn resize_with<F: FnMut() -> B::Item>(&mut self, n: usize, mut f: F)
+        requires room { n ≤ length (slots_of B.Lent self.old) }
+        requires callable { F.IsAlwaysCallable f }
+        ensures same_reference { name_of B.Lent self.new ≡ name_of B.Lent self.old }
+        ensures len { len_of B.Lent self.new ≡ n }
+        ensures grown { len_of B.Lent self.old ≤ n
+            → AppendsResults F.step (items_of B.Lent self.old) (items_of B.Lent self.new) f
+            × (spare_of B.Lent self.new ≡ drop (n - len_of B.Lent self.old) (spare_of B.Lent self.old)) }
+        ensures cut { n ≤ len_of B.Lent self.old → (items_of B.Lent self.new ≡ take n (items_of B.Lent self.old))
+            × ((ys : List B.Item) × AppendsResults F.step [] ys f × (length ys ≡ len_of B.Lent self.old - n)
+            × (spare_of B.Lent self.new ≡ reverse ys ++ spare_of B.Lent self.old)) }
+    {
+        self.resize_asked(n, &mut f);
+    }
+
+    // `resize_with`, and the state in which the last call leaves `f`.
+    fn resize_asked<F: FnMut() -> B::Item>(&mut self, n: usize, f: &mut F)
+        requires room { n ≤ length (slots_of B.Lent self.old) }
+        requires callable { F.IsAlwaysCallable f.old }
+        ensures same_reference { name_of B.Lent self.new ≡ name_of B.Lent self.old }
+        ensures len { len_of B.Lent self.new ≡ n }
+        ensures grown { len_of B.Lent self.old ≤ n
+            → AppendsResultsTo F.step (items_of B.Lent self.old) (items_of B.Lent self.new) f.old f.new
+            × (spare_of B.Lent self.new ≡ drop (n - len_of B.Lent self.old) (spare_of B.Lent self.old)) }
+        ensures cut { n ≤ len_of B.Lent self.old → (items_of B.Lent self.new ≡ take n (items_of B.Lent self.old))
+            × ((ys : List B.Item) × AppendsResultsTo F.step [] ys f.old f.new × (length ys ≡ len_of B.Lent self.old - n)
+            × (spare_of B.Lent self.new ≡ reverse ys ++ spare_of B.Lent self.old)) }
+    {
+        if n <= self.len() {
+            self.cut_to_answers(n, f);
+            return;
+        }
+        self.grow_by_answers(n, f);
+    }
+
+    // Fills the list up to `n` items with what `f` returns.
+    fn grow_by_answers<F: FnMut() -> B::Item>(&mut self, n: usize, f: &mut F)
+        requires longer { len_of B.Lent self.old ≤ n }
+        requires room { n ≤ length (slots_of B.Lent self.old) }
+        requires callable { F.IsAlwaysCallable f.old }
+        ensures same_reference { name_of B.Lent self.new ≡ name_of B.Lent self.old }
+        ensures len { len_of B.Lent self.new ≡ n }
+        ensures items { AppendsResultsTo F.step (items_of B.Lent self.old) (items_of B.Lent self.new) f.old f.new }
+        ensures spare { spare_of B.Lent self.new ≡ drop (n - len_of B.Lent self.old) (spare_of B.Lent self.old) }
+    {
+        while self.len() < n {
+            self.push(f());
+        }
+    }
+
+    // Truncates to `n` items, and fills the emptied slots with what `f` returns, the last slot first.
+    fn cut_to_answers<F: FnMut() -> B::Item>(&mut self, n: usize, f: &mut F)
+        requires shorter { n ≤ len_of B.Lent self.old }
+        requires callable { F.IsAlwaysCallable f.old }
+        ensures same_reference { name_of B.Lent self.new ≡ name_of B.Lent self.old }
+        ensures items { items_of B.Lent self.new ≡ take n (items_of B.Lent self.old) }
+        ensures spare { (ys : List B.Item) × AppendsResultsTo F.step [] ys f.old f.new
+            × (length ys ≡ len_of B.Lent self.old - n)
+            × (spare_of B.Lent self.new ≡ reverse ys ++ spare_of B.Lent self.old) }
+    {
+        while self.len() > n {
+            self.replace_last(f());
+        }
+    }
+
+    // Cuts off the last item, and leaves `x` in its slot.
+    fn replace_last(&mut self, x: B::Item)
+        requires { 0 < len_of B.Lent self.old }
+        ensures same_reference { name_of B.Lent self.new ≡ name_of B.Lent self.old }
+        ensures items { items_of B.Lent self.new ≡ take (len_of B.Lent self.old - 1) (items_of B.Lent self.old) }
+        ensures spare { spare_of B.Lent self.new ≡ x ∷ spare_of B.Lent self.old }
+    {
+        let last = self.len() - 1;
+        self.lent.all_mut()[last] = x;
+        self.len = last;
+    }
+}
+
+impl<B: Lent> GenericSliceVec<B>
+where
+    B::Item: Default,
+{
+    // Moves the items of `from` to the end, and leaves defaults there.
+    fn push_taken(&mut self, from: &mut [B::Item])
+        requires { length from.old ≤ length (spare_of B.Lent self.old) }
+        ensures same_reference { name_of B.Lent self.new ≡ name_of B.Lent self.old }
+        ensures items { items_of B.Lent self.new ≡ items_of B.Lent self.old ++ from.old }
+        ensures spare { spare_of B.Lent self.new ≡ drop (length from.old) (spare_of B.Lent self.old) }
+        ensures left { AreDefaults B.Item.is_default (length from.old) from.new }
+    {
+        for i in 0..from.len() {
+            self.push(mem::take(&mut from[i]));
+        }
+    }
+
+    /// Moves the items of `other` to the end, and leaves `other` empty. Each item moves once.
+    pub fn append(&mut self, other: &mut Self)
+        requires { len_of B.Lent other.old ≤ length (spare_of B.Lent self.old) }
+        ensures same_reference { name_of B.Lent self.new ≡ name_of B.Lent self.old }
+        ensures items { items_of B.Lent self.new ≡ items_of B.Lent self.old ++ items_of B.Lent other.old }
+        ensures spare { spare_of B.Lent self.new ≡ drop (len_of B.Lent other.old) (spare_of B.Lent self.old) }
+        ensures other_reference { name_of B.Lent other.new ≡ name_of B.Lent other.old }
+        ensures other_items { items_of B.Lent other.new ≡ [] }
+        ensures other_spare { VacatesOf B.Lent B.Item.is_default (len_of B.Lent other.old) other.old other.new }
+    {
+        self.push_taken(other.as_mut_slice());
+        other.set_len(0);
+    }
+}

@@ -1,9 +1,0 @@
-use Rattle.std.proofs.Common.{◌≡◌, ◌≤◌, ◌++◌, ◌∷◌, [], length, insert}
-use Rattle.tinyvec_slots.proofs.shifting.shift_down.Given as goal
-
-abbrev pub invariant-loop-i : goal.invariant-loop-i
-invariant-loop-i g l = (insert l.items l.i l.held ≡ l.initial.items ++ l.fn.x ∷ []) × (length l.items ≡ length l.initial.items)
-    × (l.index ≤ l.i) × (l.i ≤ length l.items)
-
-abbrev pub decreases-loop-i : goal.decreases-loop-i
-decreases-loop-i g l = l.i

@@ -1,0 +1,152 @@
+//! Writing clones into slots. No item is cloned twice: the first clone that fails ends the call, and those before it stay.
+ghost use Rattle.std.specs.Prelude.{◌≡◌, ◌-◌, ◌<◌, ◌≤◌, ℕ, All, length, take, replicate, IfOk, IsOk, OnOk, OnErr};
+ghost use Rattle.tinyvec_slots.specs.Clones.{RefusedAt, ClonesOver, ClonesOverFrom};
+
+use std::alloc::AllocError;
+use std::mem;
+
+/// Writes clones of `from` over the first slots of `to`.
+pub fn clone_over<T: Clone + Default>(to: &mut [T], from: &[T]) -> Result<(), AllocError>
+    requires fits { length from.now ≤ length to.old }
+    ensures ok { OnOk result (ClonesOver T.is_clone from.now (length from.now) to.old to.new) }
+    ensures refused { OnErr result ((j : ℕ) × RefusedAt T.is_infallible from.now j
+        × ClonesOver T.is_clone (take j from.now) j to.old to.new) }
+    ensures len { length to.new ≡ length to.old }
+    ensures succeeds { All T.is_infallible from.now → IsOk result }
+{
+    // A block is on the stack, which large items would fill.
+    if from.len() * mem::size_of::<T>() / 16 > from.len() {
+        return clone_each(to, from);
+    }
+    let done = clone_blocks::<T, 512>(to, from)?;
+    clone_rest(&mut to[done..], &from[done..])
+}
+
+// Like `clone_over`, in blocks of 16, and then item by item.
+fn clone_rest<T: Clone + Default>(to: &mut [T], from: &[T]) -> Result<(), AllocError>
+    requires fits { length from.now ≤ length to.old }
+    ensures ok { OnOk result (ClonesOver T.is_clone from.now (length from.now) to.old to.new) }
+    ensures refused { OnErr result ((j : ℕ) × RefusedAt T.is_infallible from.now j
+        × ClonesOver T.is_clone (take j from.now) j to.old to.new) }
+    ensures len { length to.new ≡ length to.old }
+    ensures succeeds { All T.is_infallible from.now → IsOk result }
+{
+    let done = clone_blocks::<T, 16>(to, from)?;
+    clone_each(&mut to[done..], &from[done..])
+}
+
+/// Like `clone_over`, item by item. If the compiler knows that `to` and `from` do not overlap, as for a new array, it turns
+/// this into one `memcpy`.
+pub fn clone_each<T: Clone>(to: &mut [T], from: &[T]) -> Result<(), AllocError>
+    requires fits { length from.now ≤ length to.old }
+    ensures ok { OnOk result (ClonesOver T.is_clone from.now (length from.now) to.old to.new) }
+    ensures refused { OnErr result ((j : ℕ) × RefusedAt T.is_infallible from.now j
+        × ClonesOver T.is_clone (take j from.now) j to.old to.new) }
+    ensures len { length to.new ≡ length to.old }
+    ensures succeeds { All T.is_infallible from.now → IsOk result }
+{
+    let made = clone_until_refused(to, from);
+    if made < from.len() {
+        return Err(AllocError);
+    }
+    Ok(())
+}
+
+// Clones item by item up to the first clone that fails, and returns the number of clones.
+fn clone_until_refused<T: Clone>(to: &mut [T], from: &[T]) -> usize
+    requires fits { length from.now ≤ length to.old }
+    ensures within { result ≤ length from.now }
+    ensures cloned { ClonesOver T.is_clone (take result from.now) result to.old to.new }
+    ensures refused { result < length from.now → RefusedAt T.is_infallible from.now result }
+    ensures len { length to.new ≡ length to.old }
+{
+    for i in 0..from.len() {
+        match from[i].clone() {
+            Ok(x) => to[i] = x,
+            Err(_) => return i,
+        }
+    }
+    from.len()
+}
+
+// Clones in blocks of N while N items are left, and returns the number of clones.
+fn clone_blocks<T: Clone + Default, const N: usize>(
+    to: &mut [T],
+    from: &[T],
+) -> Result<usize, AllocError>
+    requires some { 0 < N }
+    requires fits { length from.now ≤ length to.old }
+    ensures within { IfOk result (λ n. n ≤ length from.now) }
+    ensures cloned { IfOk result (λ n. ClonesOver T.is_clone (take n from.now) n to.old to.new) }
+    ensures refused { OnErr result ((j : ℕ) × RefusedAt T.is_infallible from.now j
+        × ClonesOver T.is_clone (take j from.now) j to.old to.new) }
+    ensures len { length to.new ≡ length to.old }
+{
+    let mut done = 0;
+    while N <= from.len() - done {
+        clone_block::<T, N>(&mut to[done..], &from[done..])?;
+        done += N;
+    }
+    Ok(done)
+}
+
+// Clones the first N items. All are read before one is written, so the compiler moves a block of numbers as a whole. It
+// clears a block on the stack first, which pays only for N items.
+fn clone_block<T: Clone + Default, const N: usize>(
+    to: &mut [T],
+    from: &[T],
+) -> Result<(), AllocError>
+    requires enough { N ≤ length from.now }
+    requires fits { length from.now ≤ length to.old }
+    ensures cloned { OnOk result (ClonesOver T.is_clone (take N from.now) N to.old to.new) }
+    ensures refused { OnErr result ((j : ℕ) × RefusedAt T.is_infallible from.now j
+        × ClonesOver T.is_clone (take j from.now) j to.old to.new) }
+    ensures len { length to.new ≡ length to.old }
+{
+    // Tells the proof that the items fit in memory.
+    let _bytes = from.len() * mem::size_of::<T>();
+    let mut block: [T; N] = Default::default();
+    let made = clone_until_refused(&mut block, &from[..N]);
+    if made < N {
+        to[..made].swap_with_slice(&mut block[..made]);
+        return Err(AllocError);
+    }
+    let Some(place) = to.first_chunk_mut::<N>() else {
+        unreachable!();
+    };
+    *place = block;
+    Ok(())
+}
+
+/// Writes a clone of `x` into each slot from `start` up to `end`.
+pub fn fill_clones<T: Clone>(
+    to: &mut [T],
+    start: usize,
+    end: usize,
+    x: &T,
+) -> Result<(), AllocError>
+    requires start_le_end { start ≤ end }
+    requires in_bounds { end ≤ length to.old }
+    ensures ok { OnOk result (ClonesOverFrom T.is_clone start (replicate (end - start) x.now) (end - start)
+        to.old to.new) }
+    ensures refused { OnErr result ((j : ℕ) × (j < end - start) × ¬ (T.is_infallible x.now)
+        × ClonesOverFrom T.is_clone start (replicate j x.now) j to.old to.new) }
+    ensures len { length to.new ≡ length to.old }
+    ensures succeeds { T.is_infallible x.now → IsOk result }
+{
+    clone_to_all(&mut to[start..end], x)
+}
+
+// Writes a clone of `x` into each slot.
+fn clone_to_all<T: Clone>(to: &mut [T], x: &T) -> Result<(), AllocError>
+    ensures ok { OnOk result (ClonesOver T.is_clone (replicate (length to.old) x.now) (length to.old) to.old to.new) }
+    ensures refused { OnErr result ((j : ℕ) × (j < length to.old) × ¬ (T.is_infallible x.now)
+        × ClonesOver T.is_clone (replicate j x.now) j to.old to.new) }
+    ensures len { length to.new ≡ length to.old }
+    ensures succeeds { T.is_infallible x.now → IsOk result }
+{
+    for i in 0..to.len() {
+        to[i] = x.clone()?;
+    }
+    Ok(())
+}

@@ -1,0 +1,83 @@
+//! Items that change their places.
+ghost use Rattle.std.specs.Prelude.{◌≡◌, ◌-◌, ◌<◌, ◌≤◌, List, [], ◌∷◌, ◌++◌, length, take, drop, slice_range, insert};
+ghost use Rattle.std.specs.List.{remove_range};
+
+use crate::tuned::shifting::are_few;
+
+/// Moves the items `start..end` to the end.
+pub fn move_to_end<T>(items: &mut [T], start: usize, end: usize)
+    requires start_le_end { start ≤ end }
+    requires in_bounds { end ≤ length items.old }
+    ensures { items.new ≡ remove_range items.old start end ++ slice_range items.old start end }
+{
+    if end == items.len() {
+        return;
+    }
+    // `rotate_left` clears a buffer first, unless it goes by one. For few items that costs more than swaps.
+    if end - start != 1 && are_few(items.len() - start) {
+        rotate_few(&mut items[start..], end - start);
+        return;
+    }
+    items[start..].rotate_left(end - start);
+}
+
+// Moves the first `count` items to the end: swaps the shorter side with as many items at the other end, which are then
+// in place, until one side is empty.
+fn rotate_few<T>(items: &mut [T], count: usize)
+    requires { count ≤ length items.old }
+    ensures { items.new ≡ drop count items.old ++ take count items.old }
+{
+    let rest = items.len() - count;
+    if count == 0 || rest == 0 {
+        return;
+    }
+    if count <= rest {
+        swap_ends(items, count);
+        rotate_few(&mut items[..rest], count);
+    } else {
+        swap_ends(items, rest);
+        rotate_few(&mut items[rest..], count - rest);
+    }
+}
+
+// Swaps the first `count` items with the last ones.
+fn swap_ends<T>(items: &mut [T], count: usize)
+    requires { count ≤ length items.old - count }
+    ensures { items.new
+        ≡ drop (length items.old - count) items.old ++ slice_range items.old count (length items.old - count)
+        ++ take count items.old }
+{
+    let border = items.len() - count;
+    let (front, back) = items.split_at_mut(border);
+    front[..count].swap_with_slice(back);
+}
+
+/// Moves the items `start..end` to the end of the first `len`.
+pub fn move_to_end_below<T>(slots: &mut [T], start: usize, end: usize, len: usize)
+    requires start_le_end { start ≤ end }
+    requires in_list { end ≤ len }
+    requires in_bounds { len ≤ length slots.old }
+    ensures { slots.new
+        ≡ remove_range (take len slots.old) start end ++ slice_range (take len slots.old) start end
+        ++ drop len slots.old }
+{
+    move_to_end(&mut slots[..len], start, end);
+}
+
+// Moves the last item to `index`, and the items from there on up.
+fn move_last<T>(items: &mut [T], index: usize)
+    requires { index < length items.old }
+    ensures { (front : List T) (last : T) → items.old ≡ front ++ last ∷ [] → items.new ≡ insert front index last }
+{
+    items[index..].rotate_right(1);
+}
+
+/// Moves the last item below `len` to `index`, and the items from there on up.
+pub fn last_to<T>(slots: &mut [T], index: usize, len: usize)
+    requires in_list { index < len }
+    requires in_bounds { len ≤ length slots.old }
+    ensures { (front : List T) (last : T) → take len slots.old ≡ front ++ last ∷ []
+        → slots.new ≡ insert front index last ++ drop len slots.old }
+{
+    move_last(&mut slots[..len], index);
+}

@@ -1,0 +1,36 @@
+-- What a contract sees of an `InlineText`: its text, its place, and its room.
+use Rattle.std.specs.Prelude.{◌≡◌, ℕ, ◌*◌, ◌<◌, ◌≤◌, if◌then◌else◌, max, List, ◌++◌, length, Bool, IsTrue, ◌↔◌, chars, encode_utf8_all}
+use Rattle.tinyvec.specs.TinyVec.{tiny_items, is_inline, tiny_capacity}
+use Rattle.tinyvec.specs.declared.tiny_vec.TinyVec.{TinyVec}
+
+-- the UTF-8 bytes of the text, whether they lie in the array, and how many bytes fit where they lie
+pub record Text : Type 0 where
+  pub bytes : List ℕ
+  pub inline : Bool
+  pub room : ℕ
+
+-- what a list of bytes, whose array has so many slots, is as a text
+abbrev pub text_of : {A : Type 0} → ℕ → TinyVec A ℕ → Text
+text_of slots v = record { bytes = tiny_items v; inline = is_inline v; room = tiny_capacity slots v }
+
+-- the text: the characters that the bytes spell
+abbrev pub text_chars : Text → List ℕ
+text_chars t = chars t.bytes
+
+-- `t.len()`
+abbrev pub text_len : Text → ℕ
+text_len t = length t.bytes
+
+-- The place rule. After a call that needs room for so many bytes, the text is inline exactly where it was inline and
+-- the need is within the slots.
+abbrev pub TextPlaceRule : ℕ → ℕ → Text → Text → Type 0
+TextPlaceRule slots need old new = IsTrue new.inline ↔ (IsTrue old.inline × (need ≤ slots))
+
+-- where there was less room than `need`, there is room for just so many bytes, or twice the room that there was where that is
+-- more, and `moves` does not hold
+abbrev pub TextGrows : Bool → ℕ → Text → Text → Type 0
+TextGrows moves need old new = old.room < need → new.room ≡ (if moves then need else max (2 * old.room) need)
+
+-- i is the length of the bytes of some first characters
+abbrev pub IsBoundary : List ℕ → ℕ → Type 0
+IsBoundary cs i = (front : List ℕ) × (rest : List ℕ) × (cs ≡ front ++ rest) × (length (encode_utf8_all front) ≡ i)

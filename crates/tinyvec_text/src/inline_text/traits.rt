@@ -1,0 +1,119 @@
+//! Comparisons, hashes, texts, writers, indexing and iteration.
+ghost use Rattle.std.specs.Prelude.{◌≡◌, false, IsTrue, IsOk, IfOk, MatchResult, Some, nat_eq, refl, ◌+◌, ◌≤◌, ◌++◌, length, OnOk, OnErr, chars};
+ghost use Rattle.tinyvec_text.specs.InlineText.{text_chars, text_len, TextPlaceRule};
+ghost use Rattle.std.specs.Ordering.{nat_cmp};
+ghost use Rattle.std.specs.Cmp.{on_equiv, on_total, on_po, on_per, partial_equiv_from_equiv};
+ghost use Rattle.std.specs.Cmp.Lexicographic.{pointwise, slice_cmp, nat_list_eq_equiv, nat_list_cmp_total, texts_po, texts_ties};
+ghost use Rattle.std.specs.Cmp.Rules.{hashing};
+ghost use Rattle.std.proofs.Common.{rules};
+ghost use Rattle.std.specs.Fmt.{debug_str};
+ghost use Rattle.std.specs.Hash as fed;
+
+use super::InlineText;
+use std::alloc::AllocError;
+use std::cmp::Ordering;
+use std::fmt;
+use std::hash::{Hash, Hasher};
+
+impl<const N: usize> Clone for InlineText<N> {
+    ghost is_clone = { λ t u. u.bytes ≡ t.bytes };
+
+    ghost is_infallible = { λ t. IsTrue t.inline };
+
+    /// The same text, inline exactly where this one is. A text on the heap is copied into an allocation of its length.
+    fn clone(&self) -> Result<Self, AllocError>
+        ensures cases { MatchResult result (λ t. t.bytes ≡ self.now.bytes) (λ _. ¬ (IsTrue self.now.inline)) }
+        ensures text { IfOk result (λ t. text_chars t ≡ text_chars self.now) }
+        ensures place { IfOk result (λ t. t.inline ≡ self.now.inline) }
+        ensures room { IfOk result (λ t. t.inline ≡ false → t.room ≡ text_len self.now) }
+    {
+        let list = self.list.clone()?;
+        Ok(InlineText { list })
+    }
+}
+
+impl<const N: usize> PartialEq for InlineText<N> {
+    ghost eq = { λ s t. pointwise nat_eq s.bytes t.bytes };
+
+    ghost laws = { on_per (λ s. s.bytes) (partial_equiv_from_equiv nat_list_eq_equiv) };
+
+    fn eq(&self, other: &Self) -> bool {
+        self.list == other.list
+    }
+}
+
+impl<const N: usize> Eq for InlineText<N> {
+    ghost laws = { on_equiv (λ s. s.bytes) nat_list_eq_equiv };
+}
+
+impl<const N: usize> PartialOrd for InlineText<N> {
+    ghost partial_cmp = { λ s t. Some (slice_cmp nat_cmp s.bytes t.bytes) };
+
+    ghost laws = { on_po (λ s. s.bytes) texts_po };
+
+    fn partial_cmp(&self, other: &Self) -> Option<Ordering> {
+        Some(self.cmp(other))
+    }
+}
+
+impl<const N: usize> Ord for InlineText<N> {
+    ghost cmp = { λ s t. slice_cmp nat_cmp s.bytes t.bytes };
+
+    ghost total = { on_total (λ s. s.bytes) nat_list_cmp_total };
+
+    ghost matches_partial_cmp = { λ s t. refl };
+
+    ghost matches_eq = { λ s t. texts_ties s.bytes t.bytes };
+
+    fn cmp(&self, other: &Self) -> Ordering {
+        self.list.cmp(&other.list)
+    }
+}
+
+impl<const N: usize> Hash for InlineText<N> {
+    ghost hash_input = { λ s. fed.str s.bytes };
+
+    ghost respects_eq = { Prim.search (hashing, rules) };
+
+    // The bytes, and then one that no UTF-8 has.
+    fn hash<H: Hasher>(&self, state: &mut H) {
+        state.write(self.list.as_slice());
+        state.write_u8(0xFF);
+    }
+}
+
+impl<const N: usize> fmt::Debug for InlineText<N> {
+    ghost debug_output = { λ t. debug_str t.bytes };
+
+    fn fmt<W: fmt::Write>(&self, f: &mut fmt::Formatter<W>) -> fmt::Result {
+        fmt::Debug::fmt(&self.as_str(), f)
+    }
+}
+
+impl<const N: usize> fmt::Display for InlineText<N> {
+    ghost output = { λ t. Some t.bytes };
+
+    fn fmt<W: fmt::Write>(&self, f: &mut fmt::Formatter<W>) -> fmt::Result {
+        f.pad(self.as_str())
+    }
+}
+
+/// `write_str` appends the whole text, or fails where memory is refused and changes nothing.
+impl<const N: usize> fmt::Write for InlineText<N> {
+    ghost write_str_gives = { λ old bytes new. new.bytes ≡ old.bytes ++ bytes };
+
+    fn write_str(&mut self, s: &str) -> fmt::Result
+        ensures ok { IsOk result → self.new.bytes ≡ self.old.bytes ++ s.now }
+        ensures text { OnOk result (text_chars self.new ≡ text_chars self.old ++ chars s.now) }
+        ensures place { OnOk result (TextPlaceRule N (text_len self.old + length s.now) self.old self.new) }
+        ensures room { self.old.room ≤ self.new.room }
+        ensures succeeds { text_len self.old + length s.now ≤ self.old.room → IsOk result }
+        ensures inline_succeeds { IsTrue self.old.inline → text_len self.old + length s.now ≤ N → IsOk result }
+        ensures refused { OnErr result (self.new ≡ self.old) }
+    {
+        match self.push_str(s) {
+            Ok(()) => Ok(()),
+            Err(_) => Err(fmt::Error),
+        }
+    }
+}
