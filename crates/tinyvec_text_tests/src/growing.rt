@@ -1,5 +1,6 @@
 //! Appending text, and capacity.
 use crate::steps::{begins, is_cut_at, joins, pushes, reserves};
+use std::alloc::AllocError;
 use std::test::Fail;
 use tinyvec_test_items::{all_right, first, granted_ok};
 use tinyvec_text::InlineText;
@@ -139,26 +140,25 @@ fn room_asked_for_on_the_heap(rt: HostRuntime) -> Result<(), Fail> {
     all_right(wrong)
 }
 
-// How many bytes fit, once this is joined.
-fn room_after<const N: usize>(t: &mut InlineText<N>, s: &str) -> Option<usize> {
-    match t.push_str(s) {
-        Ok(()) => Some(t.capacity()),
-        Err(_) => None,
-    }
+// Whether this many bytes fit, once this is joined.
+fn makes_room<const N: usize>(
+    t: &mut InlineText<N>,
+    s: &str,
+    bytes: usize,
+) -> Result<bool, AllocError> {
+    t.push_str(s)?;
+    Ok(t.capacity() == bytes)
 }
 
 // The need where a text moves, and then twice the room, or the need where that is more.
 #[test]
 fn room_made(rt: HostRuntime) -> Result<(), Fail> {
     let mut t: InlineText<4> = InlineText::new(rt.alloc());
+    let long = "0123456789012345678901";
     let mut wrong = 0;
-    wrong = first(wrong, 1, room_after(&mut t, "abc") == Some(4));
-    wrong = first(wrong, 2, room_after(&mut t, "defg") == Some(7));
-    wrong = first(wrong, 3, room_after(&mut t, "h") == Some(14));
-    wrong = first(
-        wrong,
-        4,
-        room_after(&mut t, "0123456789012345678901") == Some(30),
-    );
+    wrong = granted_ok(wrong, 1, makes_room(&mut t, "abc", 4));
+    wrong = granted_ok(wrong, 2, makes_room(&mut t, "defg", 7));
+    wrong = granted_ok(wrong, 3, makes_room(&mut t, "h", 14));
+    wrong = granted_ok(wrong, 4, makes_room(&mut t, long, 30));
     all_right(wrong)
 }
