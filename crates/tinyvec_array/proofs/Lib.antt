@@ -3,4 +3,3 @@ pub mod DrainedLemmas
 pub mod IntoIterLemmas
 pub mod IterMutLemmas
 pub mod SpliceLemmas
-mod ArrayWalks

@@ -12,15 +12,15 @@ mod clones;
 mod edits;
 mod extending;
 mod filters;
+mod in_slots;
 mod traits;
 
-use crate::parts::part_of;
 use crate::slots::{fill_default_in, take_slot_behind};
 use crate::{Array, TryFromSliceError};
 use std::convert::AsSlice;
 use std::marker::Model;
 use std::slice;
-use tinyvec_slots::move_to_end_below;
+use tinyvec_slots::{move_to_end_below, part_of};
 
 /// A list in an array. The slots after the list are its spare slots: they hold values too, and vacated ones hold defaults.
 #[derive(Drop)]
@@ -267,7 +267,7 @@ impl<A: Array> ArrayVec<A> {
         ensures value { result.now ≡ items self.old }
     {
         let len = self.len();
-        part_of(&mut self.array, 0, len)
+        part_of(self, 0, len)
     }
 
     /// The spare slots, for writing.
@@ -276,7 +276,7 @@ impl<A: Array> ArrayVec<A> {
         ensures value { result.now ≡ spare self.old }
     {
         let len = self.len();
-        part_of(&mut self.array, len, A::CAPACITY)
+        part_of(self, len, A::CAPACITY)
     }
 
     /// The array, spare slots too, for writing.

@@ -8,7 +8,6 @@ mod clone_slots;
 mod drain;
 mod into_iter;
 mod macros;
-mod parts;
 mod slots;
 mod splice;
 mod try_from_slice_error;

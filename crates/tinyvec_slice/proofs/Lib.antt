@@ -2,4 +2,3 @@ pub mod ViewLemmas
 pub mod AppendsLemmas
 pub mod DrainLemmas
 mod ResizingLemmas
-mod LentWalks

@@ -4,7 +4,7 @@ use Rattle.std.proofs.lemmas.List.{same_lists, places}
 use Rattle.tinyvec_slots.specs.Slots.{SameSpare, Shortens}
 use Rattle.tinyvec_slots.proofs.SlotsLemmas.{written_shortened}
 use Rattle.tinyvec_slice.specs.Parts.{with_front}
-use Rattle.tinyvec_slice.specs.SliceVec.{seen_of, items_of, spare_of, name_of}
+use Rattle.tinyvec_slice.specs.SliceVec.{seen_of, items_of, name_of}
 use Rattle.tinyvec_slice.specs.Lends.{at_slots}
 use Rattle.tinyvec_slice.specs.declared.lent.Lent as Lent
 use Rattle.tinyvec_slice.specs.declared.slice_vec.GenericSliceVec.{GenericSliceVec}

@@ -5,7 +5,6 @@ mod can_cut;
 mod clone_slots;
 mod drain;
 mod lent;
-mod parts;
 mod sealed;
 mod slice_vec;
 mod slots;

@@ -13,14 +13,14 @@ ghost use Rattle.std.specs.Iterator.Runs.{EveryRun, ItemsMapTo, ItemsMapToRevers
 mod edits;
 mod extending;
 mod filters;
+mod in_slots;
 mod traits;
 
 use crate::Lent;
-use crate::parts::part_of;
 use crate::slots::{fill_default_in, take_slot};
 use std::convert::AsSlice;
 use std::slice;
-use tinyvec_slots::move_to_end_below;
+use tinyvec_slots::{move_to_end_below, part_of};
 
 /// A list in lent slots. The slots after the list are its spare slots: they hold values too, and vacated ones hold defaults.
 /// When it is dropped, the owner of the slots sees the list followed by the spare slots.
@@ -128,7 +128,7 @@ impl<B: Lent> GenericSliceVec<B> {
         ensures value { result.now ≡ items_of B.Lent self.old }
     {
         let len = self.len();
-        part_of(&mut self.lent, 0, len)
+        part_of(self, 0, len)
     }
 
     /// The spare slots, for writing.
@@ -138,7 +138,7 @@ impl<B: Lent> GenericSliceVec<B> {
     {
         let len = self.len();
         let all = self.capacity();
-        part_of(&mut self.lent, len, all)
+        part_of(self, len, all)
     }
 
     /// All slots, for writing.

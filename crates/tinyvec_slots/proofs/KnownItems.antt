@@ -1,14 +1,12 @@
 -- What std's iterators yield, in the form in which the clause `known` of `extend`, `finish` and `splice_all` takes it. Those of a
 -- `Vec` and of a range are `YieldsList-from_vec` and `YieldsList-from_range` of std's lemmas, with `.runs`.
-use Rattle.std.proofs.Common.{◌≡◌, ℕ, List, [], Option, Some, None, Bor, Iter, option_copied, refl, sym, ap, subst, ◌∙◌}
+use Rattle.std.proofs.Common.{◌≡◌, ℕ, List, Option, Some, None, Bor, Iter, option_copied, sym, ap, subst, ◌∙◌}
 use Rattle.std.proofs.iter.Yields.{Copied-slice}
-use Rattle.std.proofs.lemmas.Iterator.Adapters.{YieldsList-from_once}
-use Rattle.std.proofs.lemmas.Iterator.Consumers.{YieldsList-from_shown, YieldsList-from_first}
+use Rattle.std.proofs.lemmas.Iterator.Consumers.{YieldsList-from_shown}
 use Rattle.std.proofs.lemmas.List.{nil_from_length}
 use Rattle.std.specs.Array.Iter.{array_into_iter_items, array_steps, array_steps_back}
 use Rattle.std.specs.Iterator.{AlwaysYields, YieldsFirst, YieldsLast}
-use Rattle.std.specs.Iterator.Adapters.{copied_source, copied_steps, once_item, once_steps}
-use Rattle.std.specs.Option.{option_to_list}
+use Rattle.std.specs.Iterator.Adapters.{copied_source, copied_steps}
 use Rattle.std.specs.Slice.Iter.{iter_rest, iter_steps}
 use Rattle.std.specs.declared.array.IntoIter.{IntoIter as Items}
 use Rattle.std.specs.declared.iter.Copied.{Copied}

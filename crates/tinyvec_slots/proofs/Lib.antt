@@ -10,7 +10,8 @@ pub mod ClonesOverLemmas
 pub mod CloneFromLemmas
 pub mod FillingLemmas
 pub mod ComparingLemmas
-pub mod Walks
+mod Walks
+mod PartWalks
 pub mod Runs
 pub mod Fused
 pub mod TurnLemmas

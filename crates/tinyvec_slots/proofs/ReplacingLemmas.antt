@@ -1,8 +1,8 @@
 -- Lemmas on a splice whose replacement is known: what it leaves, and what std's iterators yield.
-use Rattle.std.proofs.Common.{◌≡◌, ℕ, ◌+◌, ◌≤◌, List, [], ◌∷◌, ◌++◌, length, Bool, true, false, Option, Some, None, Result, Ok, Err, IsOk, OnErr, refl, ap, subst, sym, ◌∙◌, arith, length-append, take, drop}
+use Rattle.std.proofs.Common.{◌≡◌, ℕ, ◌≤◌, List, [], ◌∷◌, ◌++◌, length, Bool, true, false, Option, Result, Ok, Err, refl, ap, ◌∙◌, arith, length-append, take, drop}
 use Rattle.std.specs.Bool.{MatchBool}
 use Rattle.std.specs.declared.iter.Fuse.{Fuse}
-use Rattle.std.specs.Iterator.{AlwaysYields, Drains, YieldsThen}
+use Rattle.std.specs.Iterator.{AlwaysYields}
 use Rattle.std.specs.Iterator.Adapters.{fuse_done, fuse_source, fuse_steps}
 use Rattle.tinyvec_slots.specs.Replacing.{FusedYields, PutsBetween}
 use Rattle.tinyvec_slots.specs.AnySplice.{SpliceView, Finishes}

@@ -1,4 +1,5 @@
 pub mod Slots
+pub mod Parts
 pub mod Cut
 pub mod Ends
 pub mod AnyDrain

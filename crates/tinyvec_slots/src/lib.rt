@@ -5,8 +5,10 @@ mod can_cut;
 mod can_splice;
 mod filtering;
 mod gap;
+mod in_slots;
 mod no_memory;
 mod no_room;
+mod parts;
 mod printing;
 mod range;
 mod splicing;
@@ -17,8 +19,10 @@ pub use can_cut::CanCut;
 pub use can_splice::CanSplice;
 pub use filtering::{dedup_by, dedup_by_key, retain, retain_mut};
 pub use gap::Gap;
+pub use in_slots::InSlots;
 pub use no_memory::NoMemory;
 pub use no_room::{FromIterRest, NoRoom, SpliceRest};
+pub use parts::{part_of, slot_of};
 pub use printing::{
     InBinary, InHex, InOctal, InUpperHex, ItemText, Plain, write_items, write_named,
 };

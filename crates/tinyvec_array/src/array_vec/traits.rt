@@ -12,7 +12,6 @@ ghost use Rattle.std.specs.Fmt.{DisplaysOnOk, debug_list};
 ghost use Rattle.tinyvec_slots.specs.Texts.{list_in_radix};
 ghost use Rattle.std.specs.Hash as fed;
 
-use crate::parts::slot_of;
 use crate::{Array, ArrayVec, ArrayVecIterator};
 use std::cmp::Ordering;
 use std::fmt::HasDigits;
@@ -21,7 +20,7 @@ use std::ops::{DerefSlice, DerefSliceMut, Index, IndexMut};
 use std::{fmt, slice};
 use tinyvec_slots::{
     InBinary, InHex, InOctal, InUpperHex, Plain, cmp_slices, eq_slices, hash_items,
-    partial_cmp_slices, write_items,
+    partial_cmp_slices, slot_of, write_items,
 };
 
 impl<A: Array> Index<usize> for ArrayVec<A> {
@@ -45,7 +44,7 @@ impl<A: Array> IndexMut<usize> for ArrayVec<A> {
         ensures value { result.now ≡ slice_index_or (items self.old) i result.now }
     {
         let _len = self.len();
-        slot_of(&mut self.array, i)
+        slot_of(self, i)
     }
 }
 

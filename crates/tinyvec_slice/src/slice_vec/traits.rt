@@ -12,7 +12,6 @@ ghost use Rattle.std.specs.Fmt.{DisplaysOnOk, debug_list};
 ghost use Rattle.tinyvec_slots.specs.Texts.{list_in_radix};
 ghost use Rattle.std.specs.Hash as fed;
 
-use crate::parts::slot_of;
 use crate::{GenericSliceVec, Lent};
 use std::cmp::Ordering;
 use std::fmt::HasDigits;
@@ -21,7 +20,7 @@ use std::ops::{DerefSlice, DerefSliceMut, Index, IndexMut};
 use std::{fmt, slice};
 use tinyvec_slots::{
     InBinary, InHex, InOctal, InUpperHex, Plain, cmp_slices, eq_slices, hash_items,
-    partial_cmp_slices, write_items,
+    partial_cmp_slices, slot_of, write_items,
 };
 
 impl<B: Lent> Index<usize> for GenericSliceVec<B> {
@@ -42,7 +41,7 @@ impl<B: Lent> IndexMut<usize> for GenericSliceVec<B> {
         ensures* writes_back { sem 𝓛 (lends_item B.row B.Item.row B.Lent self.entry i result) }
         ensures value { result.now ≡ slice_index_or (items_of B.Lent self.old) i result.now }
     {
-        slot_of(&mut self.lent, i)
+        slot_of(self, i)
     }
 }
 

@@ -1,4 +1,4 @@
--- What the proofs by hand share of functions that lend on a part of what `as_slice_mut` lends.
+-- What the proofs by hand share of functions that lend on a part of what `slots_mut` lends.
 use mathlib.Core.List.{[], ◌∷◌}
 use seplogic.Ra.Ura.{Ura}
 use mir.Syntax.{Args, Dict, Callee, a_type, dcons, dnil, method}
@@ -14,19 +14,15 @@ use denote.RattleType.{RattleType}
 use denote.Ref.{MutBor, mut_vals}
 use denote.Triple.Spec.{triple_of}
 use denote.Triple.Statement.{Contract}
-use Rattle.std.specs.declared.default.Default as Def
-use Rattle.tinyvec_array.specs.declared.array.Array as Slots
-use Rattle.tinyvec_array.specs.contracts.array.Array.as_slice_mut as AM
+use Rattle.tinyvec_slots.specs.declared.in_slots.InSlots
+use Rattle.tinyvec_slots.specs.contracts.in_slots.InSlots.slots_mut as SM
 
 -- the parameter, its items, and what a statement assumes of them
 pub record Par : Type 2 where
   pub self : RattleType
   pub item : RattleType
-  pub g : Slots.Ghosts self.Denot item.Denot
+  pub g : InSlots.Ghosts self.Denot item.Denot
   pub d : Dict
-  pub dg : Def.Ghosts item.Denot
-  pub dd : Dict
-  pub xs : Dict
   pub xi : Dict
 
 module _ (Z : Par) where
@@ -37,18 +33,18 @@ module _ (Z : Par) where
   R = param 1 Z.item
 
   abbrev pub args : Args
-  args = bounded (a_type ∷ a_type ∷ []) (Z.self, (Z.item, tt)) (dcons Z.d (dcons Z.dd (dcons Z.xs (dcons Z.xi dnil))))
+  args = bounded (a_type ∷ a_type ∷ []) (Z.self, (Z.item, tt)) (dcons Z.d (dcons Z.xi dnil))
 
-  -- `as_slice_mut`, where it is called
+  -- `slots_mut`, where it is called
   abbrev pub key : Callee
-  key = method Z.d 2 (layouts [] tt)
+  key = method Z.d 0 (layouts [] tt)
 
 module _ (Z : Par) {M : Type 1} {𝓤 : Ura M} (𝓛 : Logic 𝓤) (at_mem : Memory → SProp 𝓤) (run : Routine → Fun 𝓤) where
   -- and its contract
   abbrev pub Con : Contract 𝓤
-  Con = triple_of 𝓛 (AM.signature Z.self Z.item) (AM.spec Z.self Z.item Z.g Z.d Z.dg Z.dd Z.xs Z.xi 𝓛 at_mem run)
+  Con = triple_of 𝓛 (SM.signature Z.self Z.item) (SM.spec Z.self Z.item Z.g Z.d Z.xi 𝓛 at_mem run)
 
-  module _ (κ κA κI : Lft) (q qA qI : Share) (bd : AllOutlive 3 (AM.signature Z.self Z.item).outlives (κ, (κA, (κI, tt)))) (self : MutBor Z.self.Denot) where
+  module _ (κ κA κI : Lft) (q qA qI : Share) (bd : AllOutlive 3 (SM.signature Z.self Z.item).outlives (κ, (κA, (κI, tt)))) (self : MutBor Z.self.Denot) where
     -- the call for the slots behind `self`
     abbrev pub asked : Con.Ghost
     asked = (((κ, (κA, (κI, tt))), (q, (qA, (qI, tt))), bd, (self, tt), (mut_vals self, tt)), tt)

@@ -1,4 +1,4 @@
--- `slot_of` lends one slot of what `as_slice_mut` lends. The borrow checker does not follow
+-- `slot_of` lends one slot of what `slots_mut` lends. The borrow checker does not follow
 -- a part of a call's result, so this proof walks the code by hand.
 use mathlib.Core.Path.{◌≡◌, refl, ap, ◌∙◌}
 use Prim.Native.Nat.{ℕ, ◌+◌, ◌*◌, ◌^◌, ◌<◌, ◌≤◌}
@@ -46,18 +46,18 @@ use types.ByLocal.{alloc_all, pass_all, free_all, look_at, get, get_in, through,
 use denote.Slice.{MutSlice, Room, slice_val, mut_slice_Tells}
 use Rattle.std.proofs.lemmas.List.{get_or_default}
 use Rattle.tinyvec_slots.proofs.Walks.{an_element, lends_element}
-use Rattle.tinyvec_array.proofs.ArrayWalks.{Par, S, R, args, key, Con, asked}
-use Rattle.tinyvec_array.specs.contracts.parts.slot_of as F
-use Rattle.tinyvec_array.specs.contracts.parts.slot_of.Key.{name as #self}
-use Rattle.tinyvec_array.proofs.parts.slot_of.Statement as stated
-use Rattle.tinyvec_array.proofs.parts.slot_of.Code as code
+use Rattle.tinyvec_slots.proofs.PartWalks.{Par, S, R, args, key, Con, asked}
+use Rattle.tinyvec_slots.specs.contracts.parts.slot_of as F
+use Rattle.tinyvec_slots.specs.contracts.parts.slot_of.Key.{name as #self}
+use Rattle.tinyvec_slots.proofs.parts.slot_of.Statement as stated
+use Rattle.tinyvec_slots.proofs.parts.slot_of.Code as code
 
 module _ (Z : Par) where
   abbrev function : Fn
   function = inst_fn (args Z) code.function
 
   abbrev ended : Ended
-  ended = F.ended Z.self Z.item Z.g Z.d Z.dg Z.dd Z.xs Z.xi
+  ended = F.ended Z.self Z.item Z.g Z.d Z.xi
 
   abbrev stayed : Stays ended.signature.params ended.kept
   stayed = (
@@ -69,7 +69,7 @@ module _ (Z : Par) {M : Type 1} {𝓤 : Ura M} (𝓛 : Logic 𝓤) (at_mem : Mem
   open 𝓛 use {H, A}
 
   abbrev clauses : Clauses 𝓤 (ended Z)
-  clauses = F.clauses Z.self Z.item Z.g Z.d Z.dg Z.dd Z.xs Z.xi 𝓛 at_mem run
+  clauses = F.clauses Z.self Z.item Z.g Z.d Z.xi 𝓛 at_mem run
 
   module _ (𝓣 : Tables 𝓤 H) (tk : Triple 𝓤 (𝓣.C (key Z)) (Con Z 𝓛 at_mem run)) (κ κA κI : Lft) (q qA qI : Share)
       (bd : AllOutlive 3 (ended Z).signature.outlives (κ, (κA, (κI, tt)))) (b o : ℕ) (γ : GName)
@@ -86,7 +86,7 @@ module _ (Z : Par) {M : Type 1} {𝓤 : Ura M} (𝓛 : Logic 𝓤) (at_mem : Mem
     abbrev Slice : RattleType
     Slice = MutSlice (named 0) κ (R Z)
 
-    walk : κA ⊑ Z.self.lives → κI ⊑ Z.item.lives → i < Z.g.CAPACITY → i < 2 ^ 64
+    walk : κA ⊑ Z.self.lives → κI ⊑ Z.item.lives → i < length (Z.g.slots s) → i < 2 ^ 64
         → ent 𝓤 (on_entry 𝓛 (ended Z).signature (κ, (κA, (κI, tt))) (q, (qA, (qI, tt))) (self, (i, tt)) (mut_vals self, (vint w64 i ∷ [], tt))) (WpFn 𝓤 H 𝓣.C 𝓣.Λ (function Z) (vptr b o ∷ vint w64 i ∷ []) ((walk_of 𝓛 (ended Z) (stayed Z) clauses).post bound))
     walk leA leI within fm =
         qed 𝓛 ((‵ (flft κ q) ⊛ ‵ (flft κA qA) ⊛ ‵ (flft κI qI) ⊛ ‵ ftrue) ∷ ‵ (owns (MutRef (named 0) κ (S Z) ∷ usize ∷ []) (self, (i, tt)) (mut_vals self, (vint w64 i ∷ [], tt))) ∷ []) ∵
@@ -99,12 +99,13 @@ module _ (Z : Par) {M : Type 1} {𝓤 : Ura M} (𝓛 : Logic 𝓤) (at_mem : Mem
         move ! (1 ∷ 0 ∷ []) $ join ! $ use1 𝓛 (raw ((Con Z 𝓛 at_mem run).pre y)) (id⊢ 𝓤 ((Con Z 𝓛 at_mem run).pre y)) $
         calls_at ! (fm_of 𝓤 H 𝓛.laws 𝓣) (Con Z 𝓛 at_mem run) tk y (and_then ! (get ! refl) (no_more !)) (λ v.
         use1 𝓛 (later (some (λ (r : MutBor (List Z.item.Denot)). ((‵ (flft κ q) ⊛ ‵ (flft κA qA) ⊛ ‵ (flft κI qI) ⊛ ‵ ftrue) ⊛ ‵ (Slice.own_val r (v ∷ [])))
-        ⊛ some (λ (ws : Unit {0} × Unit {0}). ‵ (fsep ftrue ftrue) ⊛ (‵ (follows (S Z) (Array (R Z) 0) γ r.ghost_name (Z.g.of_slots)) ⊛ raw (fact 𝓤 (r.now ≡ Z.g.slots s)) ⊛ raw (fact 𝓤 (length r.now ≡ Z.g.CAPACITY))))))) (id⊢ 𝓤 _) $ await ! tt $ pick ! (λ r.
-        split ! $ move ! (1 ∷ []) $ pick ! (λ ws. split ! $ drop ! $ split3 ! $
-        move ! (1 ∷ []) $ heard ! (r.now ≡ Z.g.slots s) (λ shown. move ! (1 ∷ []) $ heard ! (length r.now ≡ Z.g.CAPACITY) (λ long.
+        ⊛ some (λ (ws : Unit {0} × Unit {0}). ‵ (fsep ftrue ftrue) ⊛ (‵ (follows (S Z) (Array (R Z) 0) γ r.ghost_name (Z.g.with_slots s)) ⊛ raw (fact 𝓤 (r.now ≡ Z.g.slots s))))))) (id⊢ 𝓤 _) $ await ! tt $ pick ! (λ r.
+        split ! $ move ! (1 ∷ []) $ pick ! (λ ws. split ! $ drop ! $ split ! $
+        move ! (1 ∷ []) $ heard ! (r.now ≡ Z.g.slots s) (λ shown.
         -- [what the array follows; the tokens and the slice]
         move ! (1 ∷ []) $ split ! $ move ! (1 ∷ []) $
         peeks ! Slice (Is Slice) (shows 𝓛 Slice) r (v ∷ []) (λ is.
+        let long : length r.now ≡ length (Z.g.slots s) = ap length shown in
         let told : v ≡ slice_val r.ref_ptr (length r.now) = ap only (mut_slice_Tells (named 0) κ (R Z) r (v ∷ []) is) in
         let rm : Room (R Z) (length r.now) = is.0.1 in
         lands_as ! told refl (tt, (tt, (record { fits = rm.0 }, tt))) $
@@ -124,12 +125,12 @@ module _ (Z : Par) {M : Type 1} {𝓤 : Ura M} (𝓛 : Logic 𝓤) (at_mem : Mem
         use2 𝓛 (later (some (λ (δ : GName). ‵ ((MutRef (named 0) κ (R Z)).own_val (record { ref_ptr = (r.ref_ptr.0, at_i); ghost_name = δ; now = item }) (vptr r.ref_ptr.0 at_i ∷ [])) ⊛ ‵ (flft κ q) ⊛ ‵ (follows (Array (R Z) 0) (R Z) r.ghost_name δ (set r.now i)))))
         (lends_element 𝓛 (R Z) κ q r.ref_ptr.0 r.ref_ptr.1 r.ghost_name r.now i li d (v ∷ [])) $ await ! tt $ pick ! (λ δ. split3 ! $
         move ! (4 ∷ 2 ∷ []) $
-        use2 𝓛 (‵ (follows (S Z) (R Z) γ δ (λ w. Z.g.of_slots (set r.now i w))))
-        (follows_then 𝓛 (S Z) (Array (R Z) 0) (R Z) (Z.g.of_slots) (set r.now i) γ r.ghost_name δ) $
-        rewrite ! 0 (λ (l : List Z.item.Denot). ‵ (follows (S Z) (R Z) γ δ (λ w. Z.g.of_slots (set l i w)))) shown refl $
+        use2 𝓛 (‵ (follows (S Z) (R Z) γ δ (λ w. Z.g.with_slots s (set r.now i w))))
+        (follows_then 𝓛 (S Z) (Array (R Z) 0) (R Z) (Z.g.with_slots s) (set r.now i) γ r.ghost_name δ) $
+        rewrite ! 0 (λ (l : List Z.item.Denot). ‵ (follows (S Z) (R Z) γ δ (λ w. Z.g.with_slots s (set l i w)))) shown refl $
         returns ! (look_at ! 0 refl) $ free_all ! refl $ keep ! (1 ∷ 2 ∷ 0 ∷ 3 ∷ []) $
         suffices ! _ (ends_at 𝓛 (ended Z) (stayed Z) clauses bound (vptr r.ref_ptr.0 at_i) (record { ref_ptr = (r.ref_ptr.0, at_i); ghost_name = δ; now = item }) (tt, (tt, tt)) (tt, (tt, tt))) $
-        nothing ! $ nothing ! $ fjoin ! $ nothing ! $ fjoin ! $ join ! $ move ! (1 ∷ 3 ∷ []) $ join ! $ join ! $ frame ! $ says ! (get_or_default r.now i d item li ∙ ap (λ l. get_or l i item) shown) $ done !))))))))
+        nothing ! $ nothing ! $ fjoin ! $ nothing ! $ fjoin ! $ join ! $ move ! (1 ∷ 3 ∷ []) $ join ! $ join ! $ frame ! $ says ! (get_or_default r.now i d item li ∙ ap (λ l. get_or l i item) shown) $ done !)))))))
 
   meets : (𝓣 : Tables 𝓤 H) → Triple 𝓤 (𝓣.C (key Z)) (Con Z 𝓛 at_mem run)
       → Meets 𝓛 (ended Z).signature (WpFn 𝓤 H 𝓣.C 𝓣.Λ (function Z)) (closing 𝓛 (ended Z) clauses)
@@ -137,14 +138,14 @@ module _ (Z : Par) {M : Type 1} {𝓤 : Ura M} (𝓛 : Logic 𝓤) (at_mem : Mem
       walk_Meets 𝓛 (ended Z) (stayed Z) (Goes-spent_ref 𝓛 3 (0 ∷ []) tt (plain (λ _. S Z)), (Goes-dropped 𝓛 3 (plain (λ _. usize)) yes (λ κs x f. refl), tt)) clauses (WpFn 𝓤 H 𝓣.C 𝓣.Λ (function Z)) (WpFn-mono 𝓤 H 𝓛.laws 𝓣 (function Z))
       (walked 𝓛 (ended Z) (stayed Z) clauses (WpFn 𝓤 H 𝓣.C 𝓣.Λ (function Z)) (λ κs. (mut_vals, (uint_vals w64, tt))) (λ κs. (mut_Tells (named 0) κs.0 (S Z), (uint_Tells w64, tt)))
       (λ κs qs bounds a g are.
-      qed 𝓛 (raw (on_entry 𝓛 (ended Z).signature κs qs a (mut_vals a.0, (vint w64 a.1.0 ∷ [], tt))) ∷ (given (κs.1.0 ⊑ Z.self.lives) (‵ ftrue) ⊛ given (κs.1.1.0 ⊑ Z.item.lives) (‵ ftrue) ⊛ given (a.1.0 < Z.g.CAPACITY) (‵ ftrue)) ∷ []) ∵
+      qed 𝓛 (raw (on_entry 𝓛 (ended Z).signature κs qs a (mut_vals a.0, (vint w64 a.1.0 ∷ [], tt))) ∷ (given (κs.1.0 ⊑ Z.self.lives) (‵ ftrue) ⊛ given (κs.1.1.0 ⊑ Z.item.lives) (‵ ftrue) ⊛ given (a.1.0 < length (Z.g.slots a.0.now)) (‵ ftrue)) ∷ []) ∵
       move ! (1 ∷ []) $ split3 ! $ learn ! (λ leA. drop ! $ learn ! (λ leI. drop ! $ learn ! (λ within. drop ! $
       by ! (walk 𝓣 tk κs.0 κs.1.0 κs.1.1.0 qs.0 qs.1.0 qs.1.1.0 bounds a.0.ref_ptr.0 a.0.ref_ptr.1 a.0.ghost_name a.0.now a.1.0 leA leI within are.1.0.1))))))
 
 pub slot_of_spec : {M : Type 1} → stated.statement M
 unfolding tables_of
-slot_of_spec 𝓤 𝓛 𝓜 𝓡 wired X Y LX LY g d dg dd xs xi met met-default glue glue-item =
-    let Z : Par = record { self = X; item = Y; g = g; d = d; dg = dg; dd = dd; xs = xs; xi = xi } in
+slot_of_spec 𝓤 𝓛 𝓜 𝓡 wired X Y LX LY g d xi met glue =
+    let Z : Par = record { self = X; item = Y; g = g; d = d; xi = xi } in
     let 𝓣 : Tables 𝓤 𝓛.H = tables_of 𝓤 𝓛.H 𝓜 (tables 𝓤 𝓛.H 𝓜 𝓡 𝓡.env) in
-    entered 𝓤 𝓛.H (triple_of 𝓛 (ended Z).signature (F.spec X Y g d dg dd xs xi 𝓛 𝓜.mem 𝓡.returns)) 𝓣.C 𝓣.Λ (#self (args Z)) (function Z) (code.unfolded 𝓤 𝓛.H 𝓜 𝓡 wired (X, (Y, tt)) d dd xs xi)
-    (meets Z 𝓛 𝓜.mem 𝓡.returns 𝓣 (met.as_slice_mut xs xi))
+    entered 𝓤 𝓛.H (triple_of 𝓛 (ended Z).signature (F.spec X Y g d xi 𝓛 𝓜.mem 𝓡.returns)) 𝓣.C 𝓣.Λ (#self (args Z)) (function Z) (code.unfolded 𝓤 𝓛.H 𝓜 𝓡 wired (X, (Y, tt)) d xi)
+    (meets Z 𝓛 𝓜.mem 𝓡.returns 𝓣 (met.slots_mut xi))
