@@ -1,6 +1,7 @@
 -- Lemmas on lists of clones. C is the `is_clone` of an item's `Clone`.
 use Rattle.std.proofs.Common.{◌≡◌, ℕ, Result, Ok, Err, ◌+◌, ◌-◌, ◌<◌, List, [], ◌∷◌, ◌++◌, length, take, drop, get_or, replicate, refl, sym, ap, subst, ◌∙◌, append_assoc, arith, length-append, length-drop, drop_at, take_all, take-append-drop}
-use Rattle.std.proofs.lemmas.List.{take_more, replicate_more}
+use Rattle.std.proofs.Math.Seq.{take-add}
+use Rattle.std.proofs.lemmas.List.{take_more, take_rest, replicate_more}
 use Rattle.std.proofs.lemmas.List.Elements.{AllZip-push, length_all_zip}
 use Rattle.std.specs.Prelude.{OnOk, OnErr, if◌then◌else◌, is_ok}
 use Rattle.std.specs.List.{AllZip, AppendsClones}
@@ -59,3 +60,9 @@ module _ {T : Type 0} (C : T → T → Type 0) where
 pub chosen : {T E A : Type 0} (r : Result T E) {x : A} (y z : A) → OnOk r (x ≡ y) → OnErr r (x ≡ z) → x ≡ (if is_ok r then y else z)
 chosen (Ok t) y z ok err = ok
 chosen (Err e) y z ok err = err
+
+-- behind the first a items of `from` the next n were appended
+pub appended_further : {T : Type 0} (old mid new from : List T) (a n : ℕ) → mid ≡ old ++ take a from → new ≡ mid ++ take n (take (length from - a) (drop a from)) → new ≡ old ++ take (a + n) from
+appended_further old mid new from a n first next =
+    let more = take n (drop a from) in
+    next ∙ ap (λ l. mid ++ take n l) (take_rest from a) ∙ ap (λ l. l ++ more) first ∙ append_assoc old (take a from) more ∙ ap (λ l. old ++ l) (sym (take-add a n from))

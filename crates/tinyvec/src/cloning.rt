@@ -2,7 +2,7 @@
 //!
 //! Each loop works on a local variable, whose length and pointer LLVM keeps in registers. Through a reference it cannot,
 //! since the items might overlap the vector.
-ghost use Rattle.std.specs.Prelude.{◌≡◌, ◌+◌, ◌<◌, ◌≤◌, ℕ, All, length, replicate, IsOk, OnOk, OnErr, vec_len, vec_capacity};
+ghost use Rattle.std.specs.Prelude.{◌≡◌, ◌+◌, ◌<◌, ◌≤◌, ◌++◌, ℕ, All, length, take, replicate, IsOk, OnOk, OnErr, vec_len, vec_capacity};
 ghost use Rattle.std.specs.List.{AppendsClones};
 ghost use Rattle.tinyvec_slots.specs.Clones.{RefusedAt};
 
@@ -57,4 +57,55 @@ pub(crate) fn push_clones_of<T: Clone>(heap: &mut Vec<T>, n: usize, x: &T) -> Re
     }
     *heap = vec;
     Ok(())
+}
+
+// Appends copies of `from`, where there is room. `Vec::extend_from_slice` does not say that a capacity which suffices stays.
+pub(crate) fn push_copies<T: Copy>(heap: &mut Vec<T>, from: &[T])
+    requires room { vec_len heap.old + length from.now ≤ vec_capacity heap.old }
+    ensures items { heap.new.items ≡ heap.old.items ++ from.now }
+    ensures capacity { vec_capacity heap.new ≡ vec_capacity heap.old }
+{
+    let mut vec = mem::replace(heap, Vec::new(*heap.allocator()));
+    let most = push_blocks::<T, 16>(&mut vec, from);
+    let more = most + push_blocks::<T, 4>(&mut vec, &from[most..]);
+    for i in more..from.len() {
+        vec.push_reserved(from[i]);
+    }
+    *heap = vec;
+}
+
+// Appends copies in blocks of N while N items are left, and returns their number.
+#[inline(always)]
+fn push_blocks<T: Copy, const N: usize>(vec: &mut Vec<T>, from: &[T]) -> usize
+    requires some { 0 < N }
+    requires room { vec_len vec.old + length from.now ≤ vec_capacity vec.old }
+    ensures items { vec.new.items ≡ vec.old.items ++ take result from.now }
+    ensures within { result ≤ length from.now }
+    ensures capacity { vec_capacity vec.new ≡ vec_capacity vec.old }
+{
+    let mut done = 0;
+    while N <= from.len() - done {
+        push_block::<T, N>(vec, &from[done..]);
+        done += N;
+    }
+    done
+}
+
+// Appends copies of the first N items. All are read before one is written, so LLVM moves a block in registers.
+#[inline(always)]
+fn push_block<T: Copy, const N: usize>(vec: &mut Vec<T>, from: &[T])
+    requires enough { N ≤ length from.now }
+    requires room { vec_len vec.old + N ≤ vec_capacity vec.old }
+    ensures items { vec.new.items ≡ vec.old.items ++ take N from.now }
+    ensures capacity { vec_capacity vec.new ≡ vec_capacity vec.old }
+{
+    // Tells the proof that the items fit in memory.
+    let _bytes = from.len() * mem::size_of::<T>();
+    let Some(first) = from.first_chunk::<N>() else {
+        unreachable!();
+    };
+    let block = *first;
+    for i in 0..N {
+        vec.push_reserved(block[i]);
+    }
 }

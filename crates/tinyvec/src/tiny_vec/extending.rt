@@ -11,7 +11,7 @@ ghost use Rattle.tinyvec_slots.specs.Filling.{ShowsItems, IntoIterYields, Append
 ghost use Rattle.tinyvec.specs.Following.{Follows};
 
 use crate::TinyVec;
-use crate::cloning::{push_clones, push_clones_of};
+use crate::cloning::{push_clones, push_clones_of, push_copies};
 use std::alloc::{AllocError, Global};
 use std::mem;
 use tinyvec_array::{Array, ArrayVec, FromIterRest, NoMemory, NoRoom};
@@ -79,6 +79,48 @@ impl<A: Array> TinyVec<A> {
                 self.extend_reserved(other)
             }
         }
+    }
+
+    // `extend_from_slice_copy` of a list that has room.
+    #[inline(always)]
+    fn copy_reserved(&mut self, other: &[A::Item])
+    where
+        A::Item: Copy,
+        requires room { tiny_len self.old + length other.now ≤ tiny_capacity A.CAPACITY self.old }
+        ensures items { tiny_items self.new ≡ tiny_items self.old ++ other.now }
+        ensures spare { tiny_spare self.new ≡ drop (length other.now) (tiny_spare self.old) }
+        ensures place { is_inline self.new ≡ is_inline self.old }
+        ensures capacity { tiny_capacity A.CAPACITY self.new ≡ tiny_capacity A.CAPACITY self.old }
+        ensures fits { tiny_len self.new ≤ tiny_capacity A.CAPACITY self.new }
+    {
+        match self {
+            TinyVec::Inline(v, _) => v.extend_from_slice_copy(other),
+            TinyVec::Heap(v) => push_copies(v, other),
+        }
+    }
+
+    /// Appends the slice's items, which are copied as one block. Allocates at most once, before anything changes.
+    // Inlined, so that LLVM knows variant and length from the calls before.
+    #[inline(always)]
+    pub fn extend_from_slice_copy(&mut self, other: &[A::Item]) -> Result<(), AllocError>
+    where
+        A::Item: Copy,
+        ensures items { tiny_items self.new
+            ≡ (if is_ok result then tiny_items self.old ++ other.now else tiny_items self.old) }
+        ensures len { tiny_len self.new
+            ≡ (if is_ok result then tiny_len self.old + length other.now else tiny_len self.old) }
+        ensures place { OnOk result (PlaceRule A.CAPACITY (tiny_len self.old + length other.now) self.old self.new) }
+        ensures slots { TinySlotRule A.Item.is_default self.old self.new }
+        ensures room { RoomGrows GrowsFor A.CAPACITY (tiny_len self.old + length other.now) self.old self.new result }
+
+        // Where there is room it allocates nothing.
+        ensures succeeds { tiny_len self.old + length other.now ≤ tiny_capacity A.CAPACITY self.old → IsOk result }
+        ensures full { OnErr result (tiny_capacity A.CAPACITY self.old < tiny_len self.old + length other.now) }
+        ensures refused { OnErr result (Unchanged self.old self.new) }
+    {
+        self.reserve(other.len())?;
+        self.copy_reserved(other);
+        Ok(())
     }
 
     // Moves the items of `from` to a list that has room, and leaves defaults.

@@ -36,6 +36,21 @@ impl<A: Array> ArrayVec<A> {
         Ok(())
     }
 
+    /// Appends the slice's items, which are copied as one block.
+    pub fn extend_from_slice_copy(&mut self, other: &[A::Item])
+    where
+        A::Item: Copy,
+        requires room { length other.now ≤ A.CAPACITY - items_len self.old }
+        ensures items { items self.new ≡ items self.old ++ other.now }
+        ensures spare { spare self.new ≡ drop (length other.now) (spare self.old) }
+        ensures fits { items_len self.new ≤ A.CAPACITY }
+    {
+        let len = self.len();
+        let end = len + other.len();
+        self.array.as_slice_mut()[len..end].copy_from_slice(other);
+        self.len = end;
+    }
+
     // Moves the items of `from` to the end, and leaves defaults there.
     fn push_taken(&mut self, from: &mut [A::Item])
         requires { length from.old ≤ A.CAPACITY - items_len self.old }
