@@ -1,35 +1,16 @@
 //! Calls that take no memory. `tests/refuse` sees that these tests allocate nothing, also where a refusal would be ignored.
 use crate::helpers::{reads, reads_array, reads_tiny, refuses};
-use std::io;
-use std::io::Write;
 use std::test::Fail;
 use tinyvec::{ArrayVec, TinyVec};
 use tinyvec_borsh::BorshError::{Ended, InvalidLength};
 use tinyvec_borsh::BorshSerialize;
 use tinyvec_io::Counted;
+use tinyvec_test_items::streams::Page;
 use tinyvec_test_items::{all_right, first};
-
-// Takes up to 32 bytes.
-#[derive(Drop)]
-struct Page(ArrayVec<[u8; 32]>);
-
-impl Write for Page {
-    fn write(&mut self, buf: &[u8]) -> io::Result<usize> {
-        let count = buf.len().min(self.0.remaining_capacity());
-        match self.0.extend_from_slice(&buf[..count]) {
-            Ok(()) => Ok(count),
-            Err(_) => Ok(0),
-        }
-    }
-
-    fn flush(&mut self) -> io::Result<()> {
-        Ok(())
-    }
-}
 
 // Whether just these bytes are written for the value.
 fn writes<T: BorshSerialize>(value: &T, bytes: &[u8]) -> bool {
-    let mut writer = Counted::new(Page(ArrayVec::new()));
+    let mut writer = Counted::new(Page::<32>(ArrayVec::new()));
     let is_written = value.serialize(&mut writer).is_ok();
     is_written & (writer.into_inner().0.as_slice() == bytes)
 }
