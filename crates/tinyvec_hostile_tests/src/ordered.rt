@@ -232,3 +232,19 @@ fn large_items(rt: HostRuntime) -> Result<(), Fail> {
     let questions = Questions::default();
     all_right(first_wrong::<Large>(rt.alloc(), &questions, &OF_LARGE))
 }
+
+// Each item after the first is asked about once.
+#[test]
+fn repeats(rt: HostRuntime) -> Result<(), Fail> {
+    let questions = Questions::default();
+    let (mut v, mut w) = listed::<Small>(&(9, 9, 4, 0, 0), &questions);
+    let mut tiny = TinyVec::Inline(v, rt.alloc());
+    let mut wrong = 0;
+    v.dedup();
+    wrong = first(wrong, 1, (v.len() == 3) & (taken(&questions) == (8, 0)));
+    w.dedup_by_key(|x| *x);
+    wrong = first(wrong, 2, (w.len() == 1) & (taken(&questions) == (8, 0)));
+    tiny.dedup();
+    wrong = first(wrong, 3, (tiny.len() == 3) & (taken(&questions) == (8, 0)));
+    all_right(wrong)
+}
