@@ -1,7 +1,10 @@
 -- Where a vector lies that is read item after item.
-use Rattle.std.proofs.Common.{◌≡◌, sym, subst, IsTrue, ◌<◌, ◌≤◌, ◌↔◌, inl, inr, ℕ, arith, false, refl, Result, Err, IsOk, is_ok, ap}
+use Rattle.std.proofs.Common.{◌≡◌, ◌∙◌, sym, subst, IsTrue, ◌<◌, ◌≤◌, ◌-◌, ◌++◌, [], drop, ◌↔◌, inl, inr, ℕ, arith, false, refl, Result, Err, IsOk, is_ok, ap}
+use Rattle.std.proofs.lemmas.List.{nil_from_length, length-drop}
+use Rattle.std.proofs.lemmas.List.Elements.{All-drop}
+use Rattle.tinyvec_slots.specs.Slots.{AreDefaults, items_len, spare}
 use Rattle.std.proofs.lemmas.Bool.{both_ways, cases_lt}
-use Rattle.tinyvec.specs.TinyVec.{tiny_len, tiny_capacity, is_inline, IsInline, PlaceRule}
+use Rattle.tinyvec.specs.TinyVec.{tiny_len, tiny_spare, tiny_capacity, is_inline, IsInline, PlaceRule, TinySlotRule}
 use Rattle.tinyvec.specs.declared.tiny_vec.TinyVec.{TinyVec}
 use Rattle.tinyvec.specs.declared.tiny_vec.TinyVec.TheVariants.{Inline, Heap}
 
@@ -21,6 +24,18 @@ module _ {A T : Type 0} where
     fits = λ h. (rule.0 h).1;
     all_fit = λ h. rule.1 (before.all_fit h, omega (arith, few, h));
   }
+
+  -- A list that got longer in its place used up defaults, where the slots after it were defaults.
+  pub spare-longer : (D : T → Type 0) (slots : ℕ) (old new : TinyVec A T) → tiny_len old ≤ tiny_len new → PlaceRule slots (tiny_len new) old new → TinySlotRule D old new
+      → (IsInline old → AreDefaults D (slots - tiny_len old) (tiny_spare old)) → IsInline new → AreDefaults D (slots - tiny_len new) (tiny_spare new)
+  spare-longer D slots (Inline v a) (Inline w b) longer rule used before h =
+      let were = before h in
+      let none : used.0 ≡ [] = nil_from_length used.0 (omega (arith, used.1.0, longer)) in
+      let is : spare w ≡ drop (items_len w - items_len v) (spare v) = used.2 ∙ ap (λ ds. ds ++ drop (items_len w - items_len v) (spare v)) none in
+      let long = length-drop (items_len w - items_len v) (spare v) in
+      subst (AreDefaults D (slots - items_len w)) (sym is) (omega (arith, long, were.0, longer), All-drop D (items_len w - items_len v) (spare v) were.1)
+  spare-longer D slots (Inline v a) (Heap w) longer rule used before h = absurd (both_ways false refl h)
+  spare-longer D slots (Heap v) new longer rule used before h = absurd (both_ways false refl (rule.0 h).0)
 
   -- room is wanting only where more items are to come than the array has room for
   pub wanting-above : (slots n : ℕ) (v : TinyVec A T) → tiny_capacity slots v < n → IsPlaced slots n v → slots < n

@@ -1,5 +1,5 @@
 //! Lists: the count, and then the items.
-ghost use Rattle.std.specs.Prelude.{◌≡◌, ◌-◌, ◌≤◌, ◌++◌, List, length, map, take, IfErr, OnOk};
+ghost use Rattle.std.specs.Prelude.{◌≡◌, ◌-◌, ◌≤◌, ◌++◌, List, length, map, take, drop, IfErr, OnOk};
 ghost use Rattle.std.specs.List.{AllByRecursion};
 ghost use Rattle.tinyvec_borsh.specs.Items.{AfterItems, SpellsItems};
 ghost use Rattle.tinyvec_borsh.specs.Reading.{Fails, Takes};
@@ -26,6 +26,7 @@ fn read_items<T: BorshDeserialize + Drop, R: Read>(
         × (length xs ≡ end - start) × AllByRecursion T.Fits (map T.content_of xs)
         × Takes (SpellsItems T.Spells (map T.content_of xs))
         (R.remaining reader.old.end) (R.remaining reader.new.end)) }
+    ensures behind { drop end slots.new ≡ drop end slots.old }
     ensures err { IfErr result (Fails (AfterItems T.Spells T.Fits T.IsCut (end - start))
         (AfterItems T.Spells T.Fits T.IsTooLong (end - start)) (AfterItems T.Spells T.Fits T.MayAsk (end - start))
         (R.remaining reader.old.end) reader.old.faults reader.new.faults) }

@@ -131,3 +131,23 @@ fn numbers_are_read_in_blocks(rt: HostRuntime) -> Result<(), Fail> {
     );
     all_right(wrong)
 }
+
+// A read that gives some of the bytes, or none, is followed by one more only where it gave some.
+#[test]
+fn nothing_is_read_after_the_end(rt: HostRuntime) -> Result<(), Fail> {
+    let bytes = [3, 0, 0, 0, 0, 0, 0, 0, 1];
+    let mut wrong = 0;
+    wrong = granted_ok(wrong, 1, is_read_by::<u32>(1, rt.alloc(), &[]));
+    wrong = granted_ok(wrong, 2, is_read_by::<u32>(2, rt.alloc(), &bytes[..2]));
+    wrong = granted_ok(
+        wrong,
+        3,
+        is_read_by::<ArrayVec<[u8; 4]>>(3, rt.alloc(), &bytes),
+    );
+    wrong = granted_ok(
+        wrong,
+        4,
+        is_read_by::<TinyVec<[u8; 4]>>(3, rt.alloc(), &bytes),
+    );
+    all_right(wrong)
+}

@@ -60,19 +60,6 @@ fn great_counts(rt: HostRuntime) -> Result<(), Fail> {
     all_right(wrong)
 }
 
-// Of items of 65544 bytes one is made ahead of the input, and of items of 2048 bytes three. The arrays have that room, so no
-// memory is wanted, and none can be refused.
-#[test]
-fn great_counts_of_large_items(rt: HostRuntime) -> Result<(), Fail> {
-    let great = [0, 0, 0, 0, 0, 0, 0, 16];
-    let one = refuses::<TinyVec<[Large; 1]>>(rt.alloc(), &great, Ended, 0);
-    let three = refuses::<TinyVec<[ArrayVec<[u8; 2040]>; 3]>>(rt.alloc(), &great, Ended, 0);
-    let mut wrong = 0;
-    wrong = first(wrong, 1, one == Ok(true));
-    wrong = first(wrong, 2, three == Ok(true));
-    all_right(wrong)
-}
-
 // A step for each byte.
 #[test]
 fn cut_after_each_byte(rt: HostRuntime) -> Result<(), Fail> {

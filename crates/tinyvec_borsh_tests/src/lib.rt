@@ -17,6 +17,8 @@ mod helpers;
 #[cfg(test)]
 mod hostile;
 #[cfg(test)]
+mod no_memory;
+#[cfg(test)]
 mod refusals;
 #[cfg(test)]
 mod unread;

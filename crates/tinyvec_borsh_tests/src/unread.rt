@@ -1,7 +1,8 @@
 //! Lists that are read, and what stays unread.
 use crate::helpers::{read, reads_array, reads_tiny};
+use std::alloc::{AllocError, Global};
 use std::test::Fail;
-use tinyvec::ArrayVec;
+use tinyvec::{ArrayVec, TinyVec};
 use tinyvec_test_items::{all_right, first, granted_ok};
 
 #[test]
@@ -52,6 +53,22 @@ fn a_tiny_vec_in_each_place(rt: HostRuntime) -> Result<(), Fail> {
         2,
         reads_tiny::<[u8; 3]>(rt.alloc(), &bytes, &items, true, 1),
     );
+    all_right(wrong)
+}
+
+// Whether a list that is read onto the heap has room for its items alone.
+fn has_just_room(alloc: Global, bytes: &[u8], len: usize) -> Result<bool, AllocError> {
+    let (list, _) = read::<TinyVec<[u8; 2]>>(alloc, bytes);
+    match list {
+        Ok(v) => Ok((v.len() == len) & (v.capacity() == len)),
+        Err(_) => Err(AllocError),
+    }
+}
+
+#[test]
+fn the_room_on_the_heap(rt: HostRuntime) -> Result<(), Fail> {
+    let bytes = [3, 0, 0, 0, 0, 0, 0, 0, 1, 2, 3];
+    let wrong = granted_ok(0, 1, has_just_room(rt.alloc(), &bytes, 3));
     all_right(wrong)
 }
 

@@ -4,6 +4,8 @@
 #[cfg(test)]
 mod always;
 #[cfg(test)]
+mod asked;
+#[cfg(test)]
 mod bases;
 #[cfg(test)]
 mod blocks;
@@ -27,6 +29,8 @@ mod many_lent;
 mod many_texts;
 #[cfg(test)]
 mod many_tiny;
+#[cfg(test)]
+mod ordered;
 #[cfg(test)]
 mod pages;
 #[cfg(test)]

@@ -136,3 +136,25 @@ fn taken_apart_and_joined(rt: HostRuntime) -> Result<(), Fail> {
     wrong = first(wrong, 6, v.into_iter().next() == Some(5));
     all_right(wrong)
 }
+
+// Whether an empty `Vec` was made.
+fn is_empty<E: Drop>(moved: Result<Vec<i32>, E>) -> bool {
+    match moved {
+        Ok(moved) => moved.is_empty() & (moved.capacity() == 0),
+        Err(_) => false,
+    }
+}
+
+#[test]
+fn an_array_of_no_items_is_moved_to_a_vec(rt: HostRuntime) -> Result<(), Fail> {
+    let mut v = ArrayVec::<[i32; 4]>::new();
+    let mut wrong = 0;
+    wrong = first(wrong, 1, is_empty(v.drain_to_vec(rt.alloc())));
+    wrong = first(wrong, 2, is_empty(v.try_drain_to_vec(rt.alloc())));
+    wrong = first(
+        wrong,
+        3,
+        is_empty(v.drain_to_vec_and_reserve(rt.alloc(), 0)),
+    );
+    all_right(wrong)
+}

@@ -16,6 +16,8 @@ mod flushes;
 #[cfg(test)]
 mod forms;
 #[cfg(test)]
+mod no_memory;
+#[cfg(test)]
 mod order;
 #[cfg(test)]
 mod refusals;

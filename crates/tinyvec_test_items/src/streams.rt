@@ -2,6 +2,7 @@
 use std::cell::RefCell;
 use std::io;
 use std::io::{ErrorKind, Read, Write};
+use tinyvec_array::ArrayVec;
 
 /// Reads its bytes, at most `most` a call, and then fails or ends.
 #[derive(Drop)]
@@ -79,6 +80,22 @@ impl Write for ShortWriter {
         }
         self.taken.extend_from_slice(&buf[..count])?;
         self.room -= count;
+        Ok(count)
+    }
+
+    fn flush(&mut self) -> io::Result<()> {
+        Ok(())
+    }
+}
+
+/// Takes bytes into an array, as many as it has slots, and allocates nothing.
+#[derive(Drop)]
+pub struct Page<const N: usize>(pub ArrayVec<[u8; N]>);
+
+impl<const N: usize> Write for Page<N> {
+    fn write(&mut self, buf: &[u8]) -> io::Result<usize> {
+        let count = buf.len().min(self.0.remaining_capacity());
+        self.0.extend_from_slice(&buf[..count])?;
         Ok(count)
     }
 

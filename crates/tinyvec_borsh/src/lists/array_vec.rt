@@ -1,6 +1,6 @@
 //! An `ArrayVec` of what can be written and read.
-ghost use Rattle.std.specs.Prelude.{◌≡◌, ◌<◌, ◌≤◌, ◌^◌, ℕ, List, length, map, IfOk, IfErr, OnOk};
-ghost use Rattle.tinyvec_slots.specs.Slots.{items};
+ghost use Rattle.std.specs.Prelude.{◌≡◌, ◌<◌, ◌≤◌, ◌^◌, ◌-◌, ℕ, List, length, map, IfOk, IfErr, OnOk};
+ghost use Rattle.tinyvec_slots.specs.Slots.{items, items_len, spare, AreDefaults};
 ghost use Rattle.tinyvec_borsh.specs.Items.{SpellsList, ListFits, InItem, IsListCut, IsListTooLong};
 ghost use Rattle.tinyvec_borsh.specs.Reading.{Fails, LeavesRest, Takes};
 ghost use Rattle.tinyvec_borsh.specs.ItemsLaws.{list_code, list_apart, list_spelled};
@@ -65,6 +65,7 @@ where
             (InItem A.Item.Spells A.Item.Fits A.Item.MayAsk A.CAPACITY)
             (R.remaining reader.old.end) reader.old.faults reader.new.faults) }
         ensures grows { reader.old.faults ≤ reader.new.faults }
+        ensures spare { IfOk result (λ v. AreDefaults A.Item.is_default (A.CAPACITY - items_len v) (spare v)) }
         ensures rest { IfErr result (LeavesRest A.Item.Spells A.Item.IsTooLong A.CAPACITY
             (R.remaining reader.old.end) (R.remaining reader.new.end)) }
     {

@@ -1,7 +1,8 @@
 //! A `TinyVec` of what can be written and read.
-ghost use Rattle.std.specs.Prelude.{◌≡◌, ◌<◌, ◌≤◌, ◌^◌, ◌-◌, ◌++◌, ◌⊎◌, ◌↔◌, ℕ, List, length, map, IfOk, IfErr, OnOk};
+ghost use Rattle.std.specs.Prelude.{◌≡◌, ◌<◌, ◌≤◌, ◌^◌, ◌-◌, ◌*◌, ◌++◌, ◌⊎◌, ◌↔◌, ℕ, List, length, map, IfOk, IfErr, OnOk};
 ghost use Rattle.std.specs.List.{AllByRecursion};
-ghost use Rattle.tinyvec.specs.TinyVec.{IsInline, PlaceRule, tiny_capacity, tiny_items, tiny_len};
+ghost use Rattle.tinyvec_slots.specs.Slots.{AreDefaults};
+ghost use Rattle.tinyvec.specs.TinyVec.{IsInline, PlaceRule, TinySlotRule, tiny_capacity, tiny_items, tiny_len, tiny_spare};
 ghost use Rattle.tinyvec_borsh.specs.Items.{AfterItems, CountsAbove, InItem, IsListCut, IsListTooLong, ListFits};
 ghost use Rattle.tinyvec_borsh.specs.Items.{SpellsItems, SpellsList};
 ghost use Rattle.tinyvec_borsh.specs.ItemsLaws.{list_apart, list_code, list_spelled};
@@ -23,7 +24,15 @@ const BYTES_AHEAD: usize = 8192;
 fn items_ahead<T: Drop>() -> usize
     ensures { 0 < result }
 {
-    BYTES_AHEAD / mem::size_of_val(&None::<T>).clamp(1, BYTES_AHEAD)
+    items_in_bytes_ahead(mem::size_of_val(&None::<T>))
+}
+
+// How many items of this size take at most `BYTES_AHEAD` bytes, or one.
+fn items_in_bytes_ahead(size: usize) -> usize
+    ensures some { 0 < result }
+    ensures few { 1 < result → result * size ≤ BYTES_AHEAD }
+{
+    BYTES_AHEAD / size.clamp(1, BYTES_AHEAD)
 }
 
 impl<A: Array> BorshForm for TinyVec<A>
@@ -82,6 +91,8 @@ where
             (R.remaining reader.old.end) reader.old.faults reader.new.faults) }
         ensures grows { reader.old.faults ≤ reader.new.faults }
         ensures place { IfOk result (λ v. IsInline v ↔ (tiny_len v ≤ A.CAPACITY)) }
+        ensures spare { IfOk result (λ v. IsInline v
+            → AreDefaults A.Item.is_default (A.CAPACITY - tiny_len v) (tiny_spare v)) }
     {
         let count = u64::deserialize_reader(alloc, reader)?;
         let ahead = count.min(items_ahead::<A::Item>() as u64) as usize;
@@ -110,6 +121,7 @@ where
         × Takes (SpellsItems A.Item.Spells (map A.Item.content_of xs))
         (R.remaining reader.old.end) (R.remaining reader.new.end)) }
     ensures place { OnOk result (PlaceRule A.CAPACITY (tiny_len v.new) v.old v.new) }
+    ensures slots { OnOk result (TinySlotRule A.Item.is_default v.old v.new) }
     ensures err { IfErr result (λ e. ((e ≡ BorshError.Memory) × (tiny_capacity A.CAPACITY v.old < count))
         ⊎ Fails (AfterItems A.Item.Spells A.Item.Fits A.Item.IsCut (count - tiny_len v.old))
         (AfterItems A.Item.Spells A.Item.Fits A.Item.IsTooLong (count - tiny_len v.old))

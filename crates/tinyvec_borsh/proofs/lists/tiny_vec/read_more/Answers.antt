@@ -1,7 +1,7 @@
 use Rattle.std.proofs.Common.{◌≡◌, ◌∙◌, ◌+◌, ◌≤◌, inr, length, max, arith, rules}
 use Rattle.tinyvec.specs.TinyVec.{tiny_items, tiny_len}
 use Rattle.tinyvec.specs.Lends.{tiny_with_items}
-use Rattle.tinyvec.proofs.TinyLemmas.{tiny_framed-with, tiny_items-with}
+use Rattle.tinyvec.proofs.TinyLemmas.{tiny_framed-with, tiny_items-with, tiny_slots_then_framed}
 use Rattle.tinyvec_borsh.proofs.Blocks.{fails-of-more, grown}
 use Rattle.tinyvec_borsh.proofs.Outcomes.{err-so, on-ok}
 use Rattle.tinyvec_borsh.proofs.Place.{place-framed}
@@ -35,3 +35,9 @@ returns-clause-ok g c =
 pub returns-clause-err : goal.returns-clause-err
 returns-clause-err g c =
     err-so c.read_items.result (λ e f. inr (fails-of-more g.A.Item.BorshForm.Spells g.A.Item.BorshForm.Fits g.A.Item.BorshDeserialize.IsCut g.A.Item.BorshDeserialize.IsTooLong g.A.Item.BorshDeserialize.MayAsk _ _ _ _ _ e (search rules) f)) c.read_items.ensures.err
+
+pub returns-clause-slots : goal.returns-clause-slots
+returns-clause-slots g c =
+    let mid = c.resize_with.new.self in
+    let same : length c.read_items.new.slots ≡ tiny_len mid = search rules in
+    on-ok c.read_items.result (λ _. tiny_slots_then_framed g.A.Item.Default.is_default c.args.v.now mid (tiny_with_items mid c.read_items.new.slots) c.resize_with.ensures.slots (tiny_framed-with mid c.read_items.new.slots same)) c.read_items.ensures.ok

@@ -1,8 +1,8 @@
-use Rattle.std.proofs.Common.{inl, inr, arith}
+use Rattle.std.proofs.Common.{inl, inr, ap, length, length-append, arith}
 use Rattle.tinyvec.specs.TinyVec.{tiny_items}
 use Rattle.std.proofs.lemmas.List.{length-map}
 use Rattle.std.proofs.lemmas.Result.{err_from_is_err_and}
-use Rattle.tinyvec_borsh.proofs.Place.{placed-longer, refused-above, wanting-above}
+use Rattle.tinyvec_borsh.proofs.Place.{placed-longer, spare-longer, refused-above, wanting-above}
 use Rattle.tinyvec_borsh.proofs.ItemByItem.{counts-above, fails-wanting, maybe-so, read-appended, read-first}
 use Rattle.tinyvec_borsh.proofs.lists.tiny_vec.TinyVecBorshDeserialize.deserialize_reader.Goals as goal
 
@@ -19,6 +19,7 @@ loop-alloc-preserved g c =
     record {
       read = read-appended g.A.Item.BorshForm.Spells g.A.Item.BorshForm.Fits g.A.Item.BorshForm.content_of _ _ t.0 _ _ _ _ t.1 c.loop-alloc.invariant.read t.5 t.4;
       few = t.3;
+      spare = spare-longer g.A.Item.Default.is_default g.A.Array.CAPACITY c.loop-alloc.v c.read_more.new.v (omega (arith, ap length t.1, length-append (tiny_items c.loop-alloc.v) t.0)) c.in_ok-read_more.ensures.place c.in_ok-read_more.ensures.slots c.loop-alloc.invariant.spare;
       place = placed-longer g.A.Array.CAPACITY _ c.loop-alloc.v c.read_more.new.v t.3 c.in_ok-read_more.ensures.place c.loop-alloc.invariant.place;
       grows = omega arith;
     }

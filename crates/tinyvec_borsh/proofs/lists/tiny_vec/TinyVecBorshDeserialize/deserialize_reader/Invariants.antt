@@ -1,5 +1,6 @@
 use Rattle.std.proofs.Common.{◌-◌, ◌≤◌, map}
-use Rattle.tinyvec.specs.TinyVec.{tiny_items, tiny_len}
+use Rattle.tinyvec_slots.specs.Slots.{AreDefaults}
+use Rattle.tinyvec.specs.TinyVec.{IsInline, tiny_items, tiny_len, tiny_spare}
 use Rattle.tinyvec_borsh.proofs.ItemByItem.{WasRead}
 use Rattle.tinyvec_borsh.proofs.Place.{IsPlaced}
 use Rattle.tinyvec_borsh.proofs.lists.tiny_vec.TinyVecBorshDeserialize.deserialize_reader.Given as goal
@@ -10,6 +11,7 @@ invariant-loop-alloc g l = record {
   read : WasRead g.A.Item.BorshForm.Spells g.A.Item.BorshForm.Fits l.count (map g.A.Item.BorshForm.content_of (tiny_items l.v)) (g.R.Read.remaining l.fn.reader.end) (g.R.Read.remaining l.reader.end);
   few : tiny_len l.v ≤ l.count;
   place : IsPlaced g.A.Array.CAPACITY l.count l.v;
+  spare : IsInline l.v → AreDefaults g.A.Item.Default.is_default (g.A.Array.CAPACITY - tiny_len l.v) (tiny_spare l.v);
   grows : l.fn.reader.faults ≤ l.reader.faults;
 }
 
