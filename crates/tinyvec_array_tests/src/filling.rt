@@ -50,6 +50,34 @@ fn extend(rt: HostRuntime) -> Result<(), Fail> {
     all_right(wrong)
 }
 
+// Whether these are copied after the list, and leave this.
+fn copies(v: &mut ArrayVec<[i32; 4]>, more: &[i32], items: &[i32], spare: &[i32]) -> bool {
+    if more.len() > v.capacity() - v.len() {
+        return false;
+    }
+    v.extend_from_slice_copy(more);
+    holds(v, items, spare)
+}
+
+#[test]
+fn extend_from_slice_copy(_rt: HostRuntime) -> Result<(), Fail> {
+    let mut v = ArrayVec::from_array_len([1, 5, 6, 7], 1);
+    let mut none = ArrayVec::<[i32; 0]>::new();
+    let mut long = ArrayVec::from_array_len([9_u8; 100], 3);
+    let mut wrong = 0;
+    wrong = first(wrong, 1, copies(&mut v, &[2, 3], &[1, 2, 3], &[7]));
+    wrong = first(wrong, 2, copies(&mut v, &[], &[1, 2, 3], &[7]));
+    wrong = first(wrong, 3, copies(&mut v, &[4], &[1, 2, 3, 4], &[]));
+    wrong = first(wrong, 4, copies(&mut v, &[], &[1, 2, 3, 4], &[]));
+    none.extend_from_slice_copy(&[]);
+    wrong = first(wrong, 5, none.is_empty());
+    long.extend_from_slice_copy(&[7; 90]);
+    let mut all = [7; 93];
+    all[..3].fill(9);
+    wrong = first(wrong, 6, holds(&long, &all, &[9; 7]));
+    all_right(wrong)
+}
+
 #[test]
 fn extend_by_a_vec(rt: HostRuntime) -> Result<(), Fail> {
     let items = [2, 3].to_vec(rt.alloc())?;

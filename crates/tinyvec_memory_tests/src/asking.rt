@@ -8,6 +8,7 @@ pub(crate) enum Asking {
     Push(i32),
     Insert(usize, i32),
     ExtendFromSlice(&'static [i32]),
+    ExtendFromSliceCopy(&'static [i32]),
     // By the numbers from the first up to the last.
     Extend(i32, i32),
     Resize(usize, i32),
@@ -43,6 +44,7 @@ impl Asking {
                 return Ok(());
             }
             Asking::ExtendFromSlice(items) => v.extend_from_slice(items),
+            Asking::ExtendFromSliceCopy(items) => v.extend_from_slice_copy(items),
             Asking::Reserve(count) => v.reserve(count),
             Asking::TryReserve(count) => v.try_reserve(count),
             Asking::ReserveExact(count) => v.reserve_exact(count),

@@ -15,11 +15,12 @@ fn full(alloc: Global) -> Two {
 
 // Calls of a full list, each with the list that it leaves on the heap and the room there: where one item finds no room, that
 // for twice as many, and where the need is known, that for just this many.
-const GROWN: [(Asking, &[i32], usize); 12] = [
+const GROWN: [(Asking, &[i32], usize); 13] = [
     (Asking::Push(3), &[1, 2, 3], 4),
     (Asking::Insert(2, 3), &[1, 2, 3], 4),
     (Asking::Insert(1, 3), &[1, 3, 2], 4),
     (Asking::ExtendFromSlice(&[3]), &[1, 2, 3], 3),
+    (Asking::ExtendFromSliceCopy(&[3]), &[1, 2, 3], 3),
     (Asking::Extend(3, 3), &[1, 2, 3], 4),
     (Asking::Extend(3, 4), &[1, 2, 3, 4], 4),
     (Asking::Resize(3, 3), &[1, 2, 3], 3),
@@ -32,10 +33,11 @@ const GROWN: [(Asking, &[i32], usize); 12] = [
 
 // Calls of a full list of three on the heap. Where the need is known, there is room for twice as many then, or for the need
 // where that is more.
-const GROWN_ON_THE_HEAP: [(Asking, &[i32], usize); 8] = [
+const GROWN_ON_THE_HEAP: [(Asking, &[i32], usize); 9] = [
     (Asking::Push(4), &[1, 2, 3, 4], 6),
     (Asking::Insert(0, 4), &[4, 1, 2, 3], 6),
     (Asking::ExtendFromSlice(&[4]), &[1, 2, 3, 4], 6),
+    (Asking::ExtendFromSliceCopy(&[4]), &[1, 2, 3, 4], 6),
     (Asking::Resize(5, 9), &[1, 2, 3, 9, 9], 6),
     (Asking::ResizeWith(4, 9), &[1, 2, 3, 9], 6),
     (Asking::Reserve(2), &[1, 2, 3], 6),

@@ -6,7 +6,7 @@ use tinyvec::{ArrayVec, TinyVec};
 use tinyvec_test_items::{all_right, first, granted};
 use tinyvec_test_looks::{lies, makes};
 
-const INLINE: [Step; 11] = [
+const INLINE: [Step; 12] = [
     (
         Asking::Push(1),
         Need::Nothing,
@@ -72,6 +72,12 @@ const INLINE: [Step; 11] = [
         Need::Nothing,
         &[2, 1, 7],
         Place::Inline(&[0]),
+    ),
+    (
+        Asking::ExtendFromSliceCopy(&[8]),
+        Need::Nothing,
+        &[2, 1, 7, 8],
+        Place::Inline(&[]),
     ),
 ];
 

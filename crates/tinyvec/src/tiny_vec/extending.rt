@@ -99,7 +99,7 @@ impl<A: Array> TinyVec<A> {
         }
     }
 
-    /// Appends the slice's items, which are copied as one block. Allocates at most once, before anything changes.
+    /// Appends copies of the slice's items. Room for all is allocated once, before any is copied.
     // Inlined, so that LLVM knows variant and length from the calls before.
     #[inline(always)]
     pub fn extend_from_slice_copy(&mut self, other: &[A::Item]) -> Result<(), AllocError>

@@ -104,6 +104,16 @@ pub fn try_joined<A: Array>(v: &mut ArrayVec<A>, other: &mut ArrayVec<A>) -> boo
     v.try_append(other).is_none()
 }
 
+/// Copies of a slice's items after the list: nothing can fail.
+pub fn with_copies<A: Array>(v: &mut ArrayVec<A>, more: &[A::Item])
+where
+    A::Item: Copy,
+    requires { items_len v.old + length more.now ≤ A.CAPACITY }
+    ensures { items v.new ≡ items v.old ++ more.now }
+{
+    v.extend_from_slice_copy(more);
+}
+
 /// The first `n` items.
 pub fn cut_to<A: Array>(v: &mut ArrayVec<A>, n: usize)
     ensures { items v.new ≡ take n (items v.old) }

@@ -126,6 +126,16 @@ pub fn with_bytes(v: &mut TinyVec<[u8; 16]>, bytes: &[u8]) -> Result<(), AllocEr
     v.extend_from_slice(bytes)
 }
 
+/// Copies of numbers after the list. Where memory is refused, nothing changes.
+pub fn with_copies(v: &mut TinyVec<[u32; 8]>, numbers: &[u32]) -> Result<(), AllocError>
+    ensures items { OnOk result (tiny_items v.new ≡ tiny_items v.old ++ numbers.now) }
+    ensures place { OnOk result (IsInline v.new → tiny_len v.new ≤ 8) }
+    ensures succeeds { tiny_len v.old + length numbers.now ≤ tiny_capacity 8 v.old → IsOk result }
+    ensures refused { OnErr result (Unchanged v.old v.new) }
+{
+    v.extend_from_slice_copy(numbers)
+}
+
 /// The first `n` items.
 pub fn cut_to<A: Array>(v: &mut TinyVec<A>, n: usize)
     ensures { tiny_items v.new ≡ take n (tiny_items v.old) }

@@ -27,9 +27,15 @@ fn of_a_full_list(rt: HostRuntime) -> Result<(), Fail> {
 }
 
 // A refused `resize_with` had not asked its closure.
-const PAST_THE_ARRAY: [Row; 3] = [
+const PAST_THE_ARRAY: [Row; 4] = [
     Row {
         call: Asking::ExtendFromSlice(&[3, 4]),
+        back: None,
+        items: &[1, 2, 3, 4],
+        room: 4,
+    },
+    Row {
+        call: Asking::ExtendFromSliceCopy(&[3, 4]),
         back: None,
         items: &[1, 2, 3, 4],
         room: 4,
@@ -56,7 +62,7 @@ fn past_the_array(rt: HostRuntime) -> Result<(), Fail> {
     )
 }
 
-const ON_THE_HEAP: [Row; 5] = [
+const ON_THE_HEAP: [Row; 6] = [
     Row {
         call: Asking::Push(5),
         back: Some(5),
@@ -71,6 +77,12 @@ const ON_THE_HEAP: [Row; 5] = [
     },
     Row {
         call: Asking::ExtendFromSlice(&[5, 6]),
+        back: None,
+        items: &[1, 2, 3, 4, 5, 6],
+        room: 6,
+    },
+    Row {
+        call: Asking::ExtendFromSliceCopy(&[5, 6]),
         back: None,
         items: &[1, 2, 3, 4, 5, 6],
         room: 6,
