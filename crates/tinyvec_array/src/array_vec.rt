@@ -15,12 +15,12 @@ mod filters;
 mod in_slots;
 mod traits;
 
-use crate::slots::{fill_default_in, take_slot_behind};
+use crate::slots::via_u32;
 use crate::{Array, TryFromSliceError};
 use std::convert::AsSlice;
 use std::marker::Model;
-use std::slice;
-use tinyvec_slots::{move_to_end_below, part_of};
+use std::{mem, slice};
+use tinyvec_slots::{InSlots, fill_default, move_to_end_below, part_of};
 
 /// A list in an array. The slots after the list are its spare slots: they hold values too, and vacated ones hold defaults.
 #[derive(Drop)]
@@ -159,7 +159,9 @@ impl<A: Array> ArrayVec<A> {
         ensures spare { (d : A.Item) × A.Item.is_default d × (spare self.new ≡ slice_set (spare self.old) i d) }
     {
         let len = self.len();
-        take_slot_behind(&mut self.array, len, i)
+        let slots = self.slots_mut();
+        let at = via_u32(len, slots.len()) + via_u32(i, slots.len());
+        mem::take(&mut slots[at])
     }
 
     // Writes defaults into the first `n` spare slots, or none where there are fewer.
@@ -170,7 +172,7 @@ impl<A: Array> ArrayVec<A> {
     {
         let len = self.len();
         if n <= A::CAPACITY - len {
-            fill_default_in(&mut self.array, len, len + n);
+            fill_default(self.slots_mut(), len, len + n, A::CAPACITY);
         }
     }
 

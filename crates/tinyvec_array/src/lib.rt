@@ -4,7 +4,6 @@
 mod array;
 mod array_vec;
 mod capacity_error;
-mod clone_slots;
 mod drain;
 mod into_iter;
 mod macros;

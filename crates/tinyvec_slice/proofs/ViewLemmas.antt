@@ -3,7 +3,7 @@ use Rattle.std.proofs.Common.{◌≡◌, ℕ, ◌+◌, ◌-◌, ◌<◌, ◌≤�
 use Rattle.std.proofs.Math.Seq.{take-set-lt}
 use Rattle.std.proofs.lemmas.List.{same_lists, places, drop-set-add}
 use Rattle.std.specs.Borrow.{MutBor}
-use Rattle.tinyvec_slots.proofs.Lists.{drop-put, drop-vacated, drop-inserted, drop-removed}
+use Rattle.tinyvec_slots.proofs.Lists.{drop-put, drop-vacated, take-inserted, drop-inserted, take-removed, drop-removed}
 use Rattle.tinyvec_slice.specs.Parts.{with_front}
 use Rattle.tinyvec_slice.specs.SliceVec.{items_of, spare_of, slots_of, items, spare, slots}
 use Rattle.tinyvec_slice.specs.Lends.{at_slots}
@@ -43,9 +43,21 @@ module _ {X : Type 0} (k : ℕ) (xs : List X) (n : ℕ) (is : n ≡ length (take
   drop-put_in i x le room =
       drop-inserted xs i n x le (beyond room) ∙ ap (drop 1) spare_from
 
+  -- the list into which an item was put, and the one that lost an item
+  pub take-put_in : (i : ℕ) (x : X) → i ≤ n → 0 < length (drop k xs)
+      → take (n + 1) (insert (take n xs) i x ++ drop (n + 1) xs) ≡ insert (take k xs) i x
+  take-put_in i x le room = take-inserted xs i n x le (beyond room) ∙ ap (λ l. insert l i x) list_to
+
+  pub take-taken : (i : ℕ) (d : X) → i < n → take (n - 1) (remove (take n xs) i ++ d ∷ drop n xs) ≡ remove (take k xs) i
+  take-taken i d lt = take-removed xs i n d lt within ∙ ap (λ l. remove l i) list_to
+
   -- what the list that lost an item leaves stands before the spare slots
   pub drop-taken : (i : ℕ) (d : X) → i < n → drop (n - 1) (remove (take n xs) i ++ d ∷ drop n xs) ≡ d ∷ drop k xs
   drop-taken i d lt = drop-removed xs i n d lt within ∙ ap (λ l. d ∷ l) spare_from
+
+  -- the first m spare slots were written
+  pub spare-put : (ds : List X) (m : ℕ) → length ds ≡ m → m ≤ length (drop k xs) → drop k (take n xs ++ ds ++ drop (n + m) xs) ≡ ds ++ drop m (drop k xs)
+  spare-put ds m long le = same_lists _ _ (search (rules, places, is, long)) (λ i d h. grind (arith, places, is, long))
 
   -- a spare slot was written
   pub spare-set : (i : ℕ) (x : X) → i < length (drop k xs) → drop k (set xs (n + i) x) ≡ set (drop k xs) i x

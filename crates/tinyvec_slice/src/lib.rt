@@ -2,12 +2,10 @@
 #![tactic(auto)]
 
 mod can_cut;
-mod clone_slots;
 mod drain;
 mod lent;
 mod sealed;
 mod slice_vec;
-mod slots;
 
 pub use drain::{GenericSliceVecDrain, SliceVecDrain};
 pub use lent::Lent;

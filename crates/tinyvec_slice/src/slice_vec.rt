@@ -17,10 +17,9 @@ mod in_slots;
 mod traits;
 
 use crate::Lent;
-use crate::slots::{fill_default_in, take_slot};
 use std::convert::AsSlice;
-use std::slice;
-use tinyvec_slots::{move_to_end_below, part_of};
+use std::{mem, slice};
+use tinyvec_slots::{fill_default, move_to_end_below, part_of};
 
 /// A list in lent slots. The slots after the list are its spare slots: they hold values too, and vacated ones hold defaults.
 /// When it is dropped, the owner of the slots sees the list followed by the spare slots.
@@ -194,7 +193,7 @@ where
             × (spare_of B.Lent self.new ≡ slice_set (spare_of B.Lent self.old) i d) }
     {
         let len = self.len();
-        take_slot(&mut self.lent, len + i)
+        mem::take(&mut self.lent.all_mut()[len + i])
     }
 
     // Writes defaults into the first `n` spare slots, or none where there are fewer.
@@ -207,7 +206,7 @@ where
     {
         let len = self.len();
         if n <= self.capacity() - len {
-            fill_default_in(&mut self.lent, len, len + n);
+            fill_default(self.lent.all_mut(), len, len + n, usize::MAX);
         }
     }
 }

@@ -1,5 +1,5 @@
 -- Clones written over slots, block by block.
-use Rattle.std.proofs.Common.{◌≡◌, ℕ, zero, suc, ◌+◌, ◌-◌, ◌<◌, ◌≤◌, List, [], ◌∷◌, ◌++◌, All, length, take, drop, set, get_or, replicate, refl, sym, ap, subst, ◌∙◌, le_refl, arith, append-nil, length-append, length-drop, take_at, drop_at, take_all, drop-drop, get_or-drop}
+use Rattle.std.proofs.Common.{◌≡◌, ℕ, zero, suc, ◌+◌, ◌-◌, ◌<◌, ◌≤◌, List, [], ◌∷◌, ◌++◌, All, length, take, drop, slice_range, set, get_or, replicate, refl, sym, ap, subst, ◌∙◌, le_refl, arith, append-nil, length-append, length-drop, take_at, drop_at, take_all, drop-drop, get_or-drop}
 use Rattle.std.proofs.lemmas.List.{take_more, replicate_more, drop_all}
 use Rattle.std.proofs.lemmas.List.Elements.{All-get_or, All-take, All-drop, AllZip-push, same_from_all_zip}
 use Rattle.std.proofs.lemmas.Result.{on_ok_weaker, on_err_weaker}
@@ -53,6 +53,13 @@ module _ {X : Type 0} (C : X → X → Type 0) where
   clones_all from old new n le h fits =
       let same : n ≡ length from = omega arith in
       subst (λ k. ClonesOver C from k old new) same (subst (λ l. ClonesOver C l n old new) (take_all n from le) h)
+
+  -- over the elements from `start` on, seen from all of them
+  pub clones_from : (start n : ℕ) (xs old new : List X) → start ≤ length old → n ≤ length old - start
+      → ClonesOver C xs n (slice_range old start (length old)) new
+      → ClonesOverFrom C start xs n old (take start old ++ (new ++ post_of start (length old - start) old))
+  clones_from start n xs old new within fits h =
+      (h.0, h.1, h.2, written_part old old h.0 new start (length old - start) n refl h.3 fits (omega arith))
 
   -- over all elements
   pub clones_whole_of : (xs old new : List X) → length xs ≡ length old → ClonesOver C xs (length xs) old new → AllZip C xs new

@@ -1,5 +1,5 @@
 -- Facts on parts of a list.
-use Rattle.std.proofs.Common.{◌≡◌, ℕ, suc, ◌+◌, ◌-◌, ◌<◌, ◌≤◌, List, [], ◌∷◌, ◌++◌, length, get_or, take, drop, set, insert, remove, slice_range, sym, ap, ◌∙◌, arith, rules, drop-set-lt, length-set, append_assoc, append-nil, take_at, take_all, take-append-drop, length-append, length-drop}
+use Rattle.std.proofs.Common.{◌≡◌, ℕ, suc, add-one, refl, ◌+◌, ◌-◌, ◌<◌, ◌≤◌, List, [], ◌∷◌, ◌++◌, length, get_or, take, drop, set, insert, remove, slice_range, sym, ap, ◌∙◌, arith, rules, drop-set-lt, length-set, append_assoc, append-nil, take_at, take_all, take-append-drop, length-append, length-drop}
 use Rattle.std.proofs.Math.Seq.{take-add}
 use Rattle.std.proofs.lemmas.List.{same_lists, take-append-le, drop-append-le, places, get_or-set_same, get_or_default, drop-drop, drop_more, drop_at, drop_all, length-take-le}
 use Rattle.std.proofs.lemmas.List.Edits.{insert-append_left}
@@ -57,6 +57,19 @@ module _ {X : Type 0} (xs : List X) (i j : ℕ) (le : i ≤ j) (within : j ≤ l
 
   pub length-slice_range : length (slice_range xs i j) ≡ j - i
   length-slice_range = search (rules, places)
+
+-- one item was moved to the end: it is there, and the others are what is before it
+module _ {X : Type 0} (xs ys : List X) (i : ℕ) (lt : i < length xs) (moved : ys ≡ remove_range xs i (i + 1) ++ slice_range xs i (i + 1)) where
+  pub length-moved : length ys ≡ length xs
+  length-moved =
+      let front = length-remove_range xs i (i + 1) (omega arith) (omega (arith, lt)) in
+      let one = length-slice_range xs i (i + 1) (omega arith) (omega (arith, lt)) in
+      ap length moved ∙ length-append (remove_range xs i (i + 1)) (slice_range xs i (i + 1)) ∙ omega (arith, front, one, lt)
+
+  pub take-moved : take (length ys - 1) ys ≡ remove xs i
+  take-moved =
+      let front = length-remove_range xs i (i + 1) (omega arith) (omega (arith, lt)) in
+      rw (length-moved, moved, take_at (remove_range xs i (i + 1)) (slice_range xs i (i + 1)) (length xs - 1) (omega (arith, front, lt)), add-one) refl
 
 -- the first n elements changed places with the last ones
 module _ {X : Type 0} (xs ys : List X) (n : ℕ) (fits : n ≤ length xs) (apart : n ≤ length xs - n)
@@ -136,6 +149,13 @@ insert_over xs ys i n x y le lt is =
     let long-ys : length ys ≡ n + 1 = omega (arith, ap length all, length-append ys (y ∷ []), length-append (insert (take n xs) i x) (z ∷ []), long-new) in
     sym (take_at ys (y ∷ []) (n + 1) long-ys) ∙ ap (take (n + 1)) all ∙ take_at (insert (take n xs) i x) (z ∷ []) (n + 1) long-new
 
+-- the first n and one that was put in among them
+pub take-inserted : {X : Type 0} (xs : List X) (i n : ℕ) (x : X) → i ≤ n → n < length xs
+    → take (n + 1) (insert (take n xs) i x ++ drop (n + 1) xs) ≡ insert (take n xs) i x
+take-inserted xs i n x le lt =
+    let long : length (take n xs) ≡ n = length-take-le n xs (omega (arith, lt)) in
+    take_at (insert (take n xs) i x) (drop (n + 1) xs) (n + 1) (search (rules, places, long))
+
 -- behind the first n and one that was put in among them lie the others but for the first
 pub drop-inserted : {X : Type 0} (xs : List X) (i n : ℕ) (x : X) → i ≤ n → n < length xs
     → drop (n + 1) (insert (take n xs) i x ++ drop (n + 1) xs) ≡ drop 1 (drop n xs)
@@ -143,6 +163,13 @@ drop-inserted xs i n x le lt =
     let long : length (take n xs) ≡ n = length-take-le n xs (omega (arith, lt)) in
     let long-new : length (insert (take n xs) i x) ≡ n + 1 = search (rules, places, long) in
     drop_at (insert (take n xs) i x) (drop (n + 1) xs) (n + 1) long-new ∙ sym (drop-drop 1 n xs)
+
+-- the first n but for one
+pub take-removed : {X : Type 0} (xs : List X) (i n : ℕ) (d : X) → i < n → n ≤ length xs
+    → take (n - 1) (remove (take n xs) i ++ d ∷ drop n xs) ≡ remove (take n xs) i
+take-removed xs i n d lt le =
+    let long : length (take n xs) ≡ n = length-take-le n xs le in
+    take_at (remove (take n xs) i) (d ∷ drop n xs) (n - 1) (search (rules, places, long))
 
 -- what one of the first n left behind, and the items behind them
 pub drop-removed : {X : Type 0} (xs : List X) (i n : ℕ) (d : X) → i < n → n ≤ length xs

@@ -4,9 +4,9 @@ ghost use Rattle.tinyvec_slots.specs.Slots.{items, spare, items_len, all_slots, 
 ghost use Rattle.std.specs.List.{AllZip};
 ghost use Rattle.tinyvec_slots.specs.Clones.{RefusedAt, ClonesAreEqual, ClonesInPart};
 
-use crate::clone_slots::{clone_slots, write_clones};
 use crate::{Array, ArrayVec};
 use std::alloc::AllocError;
+use tinyvec_slots::{InSlots, clone_each, clone_over_from};
 
 impl<A: Array + Copy> Clone for ArrayVec<A> {
     ghost is_clone = { λ v w. w ≡ v };
@@ -36,8 +36,8 @@ impl<A: Array> ArrayVec<A> {
     {
         let len = self.len();
         let mut array = A::default();
-        clone_slots(&mut array, &self.array)?;
-        Ok(ArrayVec { len, array })
+        clone_slots(&mut array, self.as_inner())?;
+        Ok(Self::from_array_len(array, len))
     }
 
     /// Makes the list clones of the other's items. Where a clone is refused, the list is cut to the other's length first.
@@ -56,8 +56,21 @@ impl<A: Array> ArrayVec<A> {
     {
         let len = source.len();
         self.truncate(len);
-        write_clones(&mut self.array, 0, source.as_slice())?;
-        self.len = len;
+        // Tells the proof how many slots there are.
+        let _len = self.len();
+        clone_over_from(self.slots_mut(), 0, source.as_slice())?;
+        self.set_len(len);
         Ok(())
     }
+}
+
+// Writes clones of all slots of `from`. A function of its own, whose arguments LLVM knows not to overlap.
+fn clone_slots<A: Array>(to: &mut A, from: &A) -> Result<(), AllocError>
+where
+    A::Item: Clone,
+    ensures ok { OnOk result (AllZip A.Item.is_clone (A.slots from.now) (A.slots to.new)) }
+    ensures refused { OnErr result ((j : ℕ) × RefusedAt A.Item.is_infallible (A.slots from.now) j) }
+    ensures succeeds { All A.Item.is_infallible (A.slots from.now) → IsOk result }
+{
+    clone_each(to.as_slice_mut(), from.as_slice())
 }

@@ -4,10 +4,10 @@ ghost use Rattle.tinyvec_slots.specs.Slots.{items, spare, items_len, Vacates, Ar
 ghost use Rattle.std.specs.List.{swap_remove, SwappedAt, AppendsClones};
 ghost use Rattle.tinyvec_slots.specs.Clones.{RefusedAt, ClonesAreEqual, ClonesOver};
 
-use crate::slots::{
-    are_short_of, fill_default_in, insert_slot, last_slot_to, remove_slot, take_slot, via_u32,
-};
+use crate::slots::{are_short_of, via_u32};
 use crate::{Array, ArrayVec, TryFromSliceError};
+use std::mem;
+use tinyvec_slots::{InSlots, fill_default, insert_shifting, last_to, remove_shifting};
 
 impl<A: Array> ArrayVec<A> {
     /// Appends `x`.
@@ -66,9 +66,11 @@ impl<A: Array> ArrayVec<A> {
         ensures fits { items_len self.new < A.CAPACITY }
     {
         let last = self.len() - 1;
-        let item = take_slot(&mut self.array, last);
+        let slots = self.slots_mut();
+        let at = via_u32(last, slots.len());
+        let item = mem::take(&mut slots[at]);
         // Written last, so that LLVM knows the length in a loop of pops.
-        self.len = last;
+        self.set_len(last);
         item
     }
 
@@ -82,13 +84,13 @@ impl<A: Array> ArrayVec<A> {
     {
         let len = self.len();
         if are_short_of(&self.array, i, len) {
-            insert_slot(&mut self.array, i, len, x);
-            self.len = len + 1;
+            insert_shifting(self.slots_mut(), i, len, x);
+            self.set_len(len + 1);
             return;
         }
         self.push(x);
         let len = self.len();
-        last_slot_to(&mut self.array, i, len);
+        last_to(self.slots_mut(), i, len);
     }
 
     /// Inserts `x` at `i`, or returns it if the vector is full.
@@ -117,8 +119,8 @@ impl<A: Array> ArrayVec<A> {
     {
         let len = self.len();
         if are_short_of(&self.array, i, len) {
-            let item = remove_slot(&mut self.array, i, len);
-            self.len = len - 1;
+            let item = remove_shifting(self.slots_mut(), i, len);
+            self.set_len(len - 1);
             return item;
         }
         self.move_to_end(i, i + 1);
@@ -157,8 +159,8 @@ impl<A: Array> ArrayVec<A> {
     {
         let len = self.len();
         if n < len {
-            fill_default_in(&mut self.array, n, len);
-            self.len = n;
+            fill_default(self.slots_mut(), n, len, A::CAPACITY);
+            self.set_len(n);
         }
     }
 

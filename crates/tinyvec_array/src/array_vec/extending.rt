@@ -6,10 +6,10 @@ ghost use Rattle.tinyvec_slots.specs.Clones.{RefusedAt, ClonesAreEqual, ClonesOv
 ghost use Rattle.std.specs.Iterator.{Drains, YieldsThen};
 ghost use Rattle.tinyvec_slots.specs.Filling.{YieldsUpTo, ShowsItems, IntoIterYields, AppendsResultsTo};
 
-use crate::clone_slots::{write_clones, write_clones_of};
 use crate::{Array, ArrayVec, FromIterRest, NoMemory, NoRoom};
 use std::alloc::AllocError;
 use std::mem;
+use tinyvec_slots::{InSlots, clone_over_from, fill_clones};
 
 impl<A: Array> ArrayVec<A> {
     /// Appends clones of the slice's items. Only clones allocate.
@@ -31,8 +31,8 @@ impl<A: Array> ArrayVec<A> {
         ensures succeeds { All A.Item.is_infallible other.now → IsOk result }
     {
         let len = self.len();
-        write_clones(&mut self.array, len, other)?;
-        self.len = len + other.len();
+        clone_over_from(self.slots_mut(), len, other)?;
+        self.set_len(len + other.len());
         Ok(())
     }
 
@@ -249,9 +249,9 @@ impl<A: Array> ArrayVec<A> {
             self.truncate(n);
             return Ok(());
         }
-        match write_clones_of(&mut self.array, len, n, &x) {
+        match fill_clones(self.slots_mut(), len, n, &x) {
             Ok(()) => {
-                self.len = n;
+                self.set_len(n);
                 Ok(())
             }
             Err(_) => Err(NoMemory(x)),

@@ -3,10 +3,9 @@ ghost use Rattle.std.specs.Prelude.{◌≡◌, ◌-◌, ◌<◌, ◌↔◌, [], 
 ghost use Rattle.tinyvec_slice.specs.SliceVec.{items_of, spare_of, name_of, len_of, VacatesOf, items, spare};
 ghost use Rattle.std.specs.List.{swap_remove, SwappedAt};
 
-use crate::slots::{fill_default_in, insert_slot, last_slot_to, remove_slot, take_slot};
 use crate::{GenericSliceVec, Lent, SliceVec};
 use std::mem;
-use tinyvec_slots::are_short;
+use tinyvec_slots::{are_short, fill_default, insert_shifting, last_to, remove_shifting};
 
 impl<B: Lent> GenericSliceVec<B> {
     /// Appends `x`.
@@ -31,13 +30,13 @@ impl<B: Lent> GenericSliceVec<B> {
     {
         let len = self.len();
         if are_short(&self.as_slice()[i..]) {
-            insert_slot(&mut self.lent, i, len, x);
+            insert_shifting(self.lent.all_mut(), i, len, x);
             self.len = len + 1;
             return;
         }
         self.push(x);
         let len = self.len();
-        last_slot_to(&mut self.lent, i, len);
+        last_to(self.lent.all_mut(), i, len);
     }
 
     // Swaps the items at `i` and `j`.
@@ -84,7 +83,7 @@ where
     {
         let last = self.len() - 1;
         self.len = last;
-        take_slot(&mut self.lent, last)
+        mem::take(&mut self.lent.all_mut()[last])
     }
 }
 
@@ -102,7 +101,7 @@ where
     {
         let len = self.len();
         if are_short(&self.as_slice()[i..]) {
-            let item = remove_slot(&mut self.lent, i, len);
+            let item = remove_shifting(self.lent.all_mut(), i, len);
             self.len = len - 1;
             return item;
         }
@@ -136,7 +135,7 @@ where
     {
         let len = self.len();
         if n < len {
-            fill_default_in(&mut self.lent, n, len);
+            fill_default(self.lent.all_mut(), n, len, usize::MAX);
             self.len = n;
         }
     }

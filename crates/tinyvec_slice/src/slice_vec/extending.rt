@@ -7,11 +7,10 @@ ghost use Rattle.tinyvec_slots.specs.Slots.{AreDefaults};
 ghost use Rattle.std.specs.Iterator.{Drains, YieldsThen};
 ghost use Rattle.tinyvec_slots.specs.Filling.{YieldsUpTo, ShowsItems, IntoIterYields, AppendsResultsTo};
 
-use crate::clone_slots::{write_clones, write_clones_of};
 use crate::{GenericSliceVec, Lent};
 use std::alloc::AllocError;
 use std::mem;
-use tinyvec_slots::{NoMemory, NoRoom};
+use tinyvec_slots::{NoMemory, NoRoom, clone_each_from, fill_clones};
 
 impl<B: Lent> GenericSliceVec<B> {
     /// Appends clones of the slice's items. Only clones allocate.
@@ -34,7 +33,7 @@ impl<B: Lent> GenericSliceVec<B> {
         ensures succeeds { All B.Item.is_infallible other.now → IsOk result }
     {
         let len = self.len();
-        write_clones(&mut self.lent, len, other)?;
+        clone_each_from(self.lent.all_mut(), len, other)?;
         self.len = len + other.len();
         Ok(())
     }
@@ -176,7 +175,7 @@ impl<B: Lent> GenericSliceVec<B> {
         ensures succeeds { B.Item.is_infallible x.now → IsOk result }
     {
         let len = self.len();
-        write_clones_of(&mut self.lent, len, n, x)?;
+        fill_clones(self.lent.all_mut(), len, n, x)?;
         self.len = n;
         Ok(())
     }

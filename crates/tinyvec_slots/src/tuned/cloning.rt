@@ -5,6 +5,40 @@ ghost use Rattle.tinyvec_slots.specs.Clones.{RefusedAt, ClonesOver, ClonesOverFr
 use std::alloc::AllocError;
 use std::mem;
 
+/// Writes clones of `from` over the slots from `start` on, by blocks.
+pub fn clone_over_from<T: Clone + Default>(
+    slots: &mut [T],
+    start: usize,
+    from: &[T],
+) -> Result<(), AllocError>
+    requires in_bounds { start ≤ length slots.old }
+    requires fits { length from.now ≤ length slots.old - start }
+    ensures ok { OnOk result (ClonesOverFrom T.is_clone start from.now (length from.now) slots.old slots.new) }
+    ensures refused { OnErr result ((j : ℕ) × RefusedAt T.is_infallible from.now j
+        × ClonesOverFrom T.is_clone start (take j from.now) j slots.old slots.new) }
+    ensures succeeds { All T.is_infallible from.now → IsOk result }
+{
+    // The minimum is the length. It lets the compiler drop the blocks of more items than there are slots.
+    let count = from.len().min(slots.len());
+    clone_over(&mut slots[start..], &from[..count])
+}
+
+/// The same, item by item.
+pub fn clone_each_from<T: Clone>(
+    slots: &mut [T],
+    start: usize,
+    from: &[T],
+) -> Result<(), AllocError>
+    requires in_bounds { start ≤ length slots.old }
+    requires fits { length from.now ≤ length slots.old - start }
+    ensures ok { OnOk result (ClonesOverFrom T.is_clone start from.now (length from.now) slots.old slots.new) }
+    ensures refused { OnErr result ((j : ℕ) × RefusedAt T.is_infallible from.now j
+        × ClonesOverFrom T.is_clone start (take j from.now) j slots.old slots.new) }
+    ensures succeeds { All T.is_infallible from.now → IsOk result }
+{
+    clone_each(&mut slots[start..], from)
+}
+
 /// Writes clones of `from` over the first slots of `to`.
 pub fn clone_over<T: Clone + Default>(to: &mut [T], from: &[T]) -> Result<(), AllocError>
     requires fits { length from.now ≤ length to.old }

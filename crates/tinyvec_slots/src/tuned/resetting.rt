@@ -1,19 +1,24 @@
 //! Defaults written into slots.
-ghost use Rattle.std.specs.Prelude.{◌≡◌, ◌-◌, ◌*◌, ◌<◌, ◌≤◌, ◌++◌, List, length, drop};
+ghost use Rattle.std.specs.Prelude.{◌≡◌, ◌-◌, ◌*◌, ◌<◌, ◌≤◌, ◌++◌, List, length, take, drop};
 ghost use Rattle.tinyvec_slots.specs.Slots.{AreDefaults};
 
 use std::mem;
 
-/// Writes a default into each slot.
-pub fn fill_default<T: Default + Drop>(slots: &mut [T])
-    ensures { AreDefaults T.is_default (length slots.old) slots.new }
+/// Writes a default into each slot from `start` up to `end`, which are at most `most`. A constant `most` removes the branches
+/// for more slots.
+#[inline(always)]
+pub fn fill_default<T: Default + Drop>(slots: &mut [T], start: usize, end: usize, most: usize)
+    requires start_le_end { start ≤ end }
+    requires in_bounds { end ≤ length slots.old }
+    requires few { end - start ≤ most }
+    ensures { (ds : List T) × AreDefaults T.is_default (end - start) ds
+        × (slots.new ≡ take start slots.old ++ ds ++ drop end slots.old) }
 {
-    fill_default_at_most(slots, usize::MAX);
+    fill_at_most(&mut slots[start..end], most);
 }
 
-/// The same, for at most `most` slots. A constant `most` removes the branches for longer slices. Short slices are
-/// written as two overlapping runs, which beats `memset`.
-pub fn fill_default_at_most<T: Default + Drop>(slots: &mut [T], most: usize)
+// Writes a default into each slot. Short slices are written as two overlapping runs, which beats `memset`.
+fn fill_at_most<T: Default + Drop>(slots: &mut [T], most: usize)
     requires { length slots.old ≤ most }
     ensures { AreDefaults T.is_default (length slots.old) slots.new }
 {

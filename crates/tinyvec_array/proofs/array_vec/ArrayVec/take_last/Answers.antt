@@ -1,15 +1,13 @@
-use Rattle.std.proofs.Common.{◌≡◌, rules, refl, ◌<◌, ◌≤◌, length, ◌∷◌, []}
+use Rattle.std.proofs.Common.{refl, ◌∷◌, [], arith}
 use Rattle.std.proofs.lemmas.List.Elements.{All-cons, All-nil}
+use Rattle.tinyvec_slots.specs.Slots.{all_slots}
 use Rattle.tinyvec_slots.proofs.Lists.{drop-vacated}
 use Rattle.tinyvec_array.proofs.array_vec.ArrayVec.take_last.Goals as goal
 
 pub returns-clause-spare : goal.returns-clause-spare
 returns-clause-spare g c =
-    let inside = c.self.inside in
-    let at : c.len-last.result ≡ inside.len = search rules in
-    let slots = g.A.Array.slots inside.array in
-    let after = c.take_slot-item.ensures.after in
-    let one = All-cons g.A.Item.Default.is_default after.0 [] after.1 (All-nil _) in
-    let le : inside.len ≤ length slots = search rules in
-    let pos : 0 < inside.len = search rules in
-    (after.0 ∷ [], (refl, one), rw (after.2, ← c.self.view_is, at) (drop-vacated slots inside.len after.0 pos le))
+    let len = c.len-last.result in
+    let d = c.take-item.new.dest in
+    let one = All-cons g.A.Item.Default.is_default d [] c.take-item.ensures.after (All-nil _) in
+    let behind = drop-vacated (all_slots c.args.self.now) len d (omega (arith, c.requires, c.len-last.ensures.value)) (omega (arith, c.len-last.ensures.fits, c.len-last.ensures.slots)) in
+    (d ∷ [], (refl, one), rw (c.set_len.ensures.value, c.via_u32-at.ensures, c.slots_mut-slots.ensures.value, ← c.len-last.ensures.field) behind)

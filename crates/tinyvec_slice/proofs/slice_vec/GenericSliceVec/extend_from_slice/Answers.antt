@@ -5,11 +5,11 @@ use Rattle.tinyvec_slice.specs.SliceVec.{spare_of}
 use Rattle.tinyvec_slice.proofs.ViewLemmas.{border, within, list_to, spare_from}
 use Rattle.tinyvec_slice.proofs.slice_vec.GenericSliceVec.extend_from_slice.Goals as goal
 
-pub returns-in_err-write_clones-clause-refused : goal.returns-in_err-write_clones-clause-refused
-returns-in_err-write_clones-clause-refused g c =
-    let h = c.in_err-write_clones.ensures.refused in
-    let made = h.2 in
+pub returns-in_err-clone_each_from-clause-refused : goal.returns-in_err-clone_each_from-clause-refused
+returns-in_err-clone_each_from-clause-refused g c =
     let v = c.args.self.now in
+    let h = c.in_err-clone_each_from.ensures.refused in
+    let made = rw (c.all_mut.ensures.value, ← g.B.Lent.slots_written v.lent c.clone_each_from.new.slots) at h.2 in
     let slots = g.B.Lent.slots v.lent in
     let n = c.len-len.result in
     let long = c.len-len.ensures.value in
@@ -19,11 +19,11 @@ returns-in_err-write_clones-clause-refused g c =
     let after = made.3 ∙ ap (λ k. take k slots ++ made.0 ++ drop (k + h.0) slots) same in
     on_err c.from_residual.result (h.0, h.1, (made.0, made.1, made.2, ap (drop v.len) after ∙ behind_writes slots made.0 v.len h.0 le))
 
-pub returns-in_err-write_clones-clause-kept : goal.returns-in_err-write_clones-clause-kept
-returns-in_err-write_clones-clause-kept g c =
-    let h = c.in_err-write_clones.ensures.refused in
-    let made = h.2 in
+pub returns-in_err-clone_each_from-clause-kept : goal.returns-in_err-clone_each_from-clause-kept
+returns-in_err-clone_each_from-clause-kept g c =
     let v = c.args.self.now in
+    let h = c.in_err-clone_each_from.ensures.refused in
+    let made = rw (c.all_mut.ensures.value, ← g.B.Lent.slots_written v.lent c.clone_each_from.new.slots) at h.2 in
     let slots = g.B.Lent.slots v.lent in
     let n = c.len-len.result in
     let long = c.len-len.ensures.value in
@@ -40,7 +40,7 @@ returns g c =
     let n = c.len-len.result in
     let long = c.len-len.ensures.value in
     let xs = c.args.other.now in
-    let written = clones_written g.B.Item.Clone.is_clone n (length xs) xs slots (g.B.Lent.slots c.write_clones.new.lent) (within v.len slots n long) c.in_ok-write_clones.ensures.ok in
+    let written = clones_written g.B.Item.Clone.is_clone n (length xs) xs slots _ (within v.len slots n long) (rw (c.all_mut.ensures.value, ← g.B.Lent.slots_written v.lent c.clone_each_from.new.slots) at c.in_ok-clone_each_from.ensures.ok) in
     let list = list_to v.len slots n long in
     record {
       same_reference = search rules;

@@ -14,27 +14,27 @@ module _ (g : _) (c : goal.After-from_residual g) where
       let n = c.len-len.result in
       let long = c.len-len.ensures.value in
       let parts = parts_of g.B.Lent v in
-      let room : 0 < length (spare_of g.B.Lent v) = omega (arith, parts, long, c.in_err-write_clones_of.ensures.refused.1, c.requires.in_bounds) in
+      let room : 0 < length (spare_of g.B.Lent v) = omega (arith, parts, long, c.in_err-fill_clones.ensures.refused.1, c.requires.in_bounds) in
       border v.len slots n long room
 
   le : c.args.self.now.len ≤ length (g.B.Lent.slots c.args.self.now.lent)
   le = rw (← same) (within c.args.self.now.len (g.B.Lent.slots c.args.self.now.lent) c.len-len.result c.len-len.ensures.value)
 
-pub returns-in_err-write_clones_of-clause-kept : goal.returns-in_err-write_clones_of-clause-kept
-returns-in_err-write_clones_of-clause-kept g c =
+pub returns-in_err-fill_clones-clause-kept : goal.returns-in_err-fill_clones-clause-kept
+returns-in_err-fill_clones-clause-kept g c =
     let v = c.args.self.now in
     let slots = g.B.Lent.slots v.lent in
-    let h = c.in_err-write_clones_of.ensures.refused in
-    let made = h.3 in
+    let h = c.in_err-fill_clones.ensures.refused in
+    let made = rw (c.all_mut.ensures.value, ← g.B.Lent.slots_written v.lent c.fill_clones.new.to) at h.3 in
     let after = made.3 ∙ ap (λ k. take k slots ++ made.0 ++ drop (k + h.0) slots) (same g c) in
     on_err c.from_residual.result (ap (take v.len) after ∙ kept_before slots made.0 (drop (v.len + h.0) slots) v.len (le g c))
 
-pub returns-in_err-write_clones_of-clause-refused : goal.returns-in_err-write_clones_of-clause-refused
-returns-in_err-write_clones_of-clause-refused g c =
+pub returns-in_err-fill_clones-clause-refused : goal.returns-in_err-fill_clones-clause-refused
+returns-in_err-fill_clones-clause-refused g c =
     let v = c.args.self.now in
     let slots = g.B.Lent.slots v.lent in
-    let h = c.in_err-write_clones_of.ensures.refused in
-    let made = h.3 in
+    let h = c.in_err-fill_clones.ensures.refused in
+    let made = rw (c.all_mut.ensures.value, ← g.B.Lent.slots_written v.lent c.fill_clones.new.to) at h.3 in
     let after = made.3 ∙ ap (λ k. take k slots ++ made.0 ++ drop (k + h.0) slots) (same g c) in
     let few = rw c.len-len.ensures.value at h.1 in
     on_err c.from_residual.result (h.0, few, h.2, (made.0, made.1, made.2, ap (drop v.len) after ∙ behind_writes slots made.0 v.len h.0 (le g c)))
@@ -47,7 +47,7 @@ returns g c =
     let long = c.len-len.ensures.value in
     let n = c.args.n in
     let sum : len + (n - len) ≡ n = omega arith in
-    let behind = clones_written g.B.Item.Clone.is_clone len (n - len) (replicate (n - len) c.args.x.now) slots (g.B.Lent.slots c.write_clones_of.new.lent) (within v.len slots len long) c.in_ok-write_clones_of.ensures.ok in
+    let behind = clones_written g.B.Item.Clone.is_clone len (n - len) (replicate (n - len) c.args.x.now) slots _ (within v.len slots len long) (rw (c.all_mut.ensures.value, ← g.B.Lent.slots_written v.lent c.fill_clones.new.to) at c.in_ok-fill_clones.ensures.ok) in
     let written = rw sum at behind in
     let list = list_to v.len slots len long in
     record {

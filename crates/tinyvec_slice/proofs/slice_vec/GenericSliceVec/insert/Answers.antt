@@ -2,7 +2,7 @@ use Rattle.std.proofs.Common.{◌≤◌, rules, arith, ap, ◌∙◌, length}
 use Rattle.std.proofs.lemmas.Grind.{common_steps}
 use Rattle.std.proofs.lemmas.List.{length_push}
 use Rattle.tinyvec_slice.specs.SliceVec.{items_of}
-use Rattle.tinyvec_slice.proofs.ViewLemmas.{drop-put_in, beyond}
+use Rattle.tinyvec_slice.proofs.ViewLemmas.{take-put_in, drop-put_in, beyond}
 use Rattle.tinyvec_slice.proofs.slice_vec.GenericSliceVec.insert.Goals as goal
 
 pub returns-then-are_short-clause-spare : goal.returns-then-are_short-clause-spare
@@ -11,10 +11,15 @@ returns-then-are_short-clause-spare g c =
     let n = c.len-len.result in
     let slots = g.B.Lent.slots v.lent in
     let in_list : c.args.i ≤ n = search rules in
-    rw (c.insert_slot.ensures.after) (drop-put_in v.len slots n c.len-len.ensures.value c.args.i c.args.x in_list c.requires.room)
+    rw (g.B.Lent.slots_written, c.insert_shifting.ensures, c.all_mut.ensures.value) (drop-put_in v.len slots n c.len-len.ensures.value c.args.i c.args.x in_list c.requires.room)
 
 pub returns-then-are_short-clause-items : goal.returns-then-are_short-clause-items
-returns-then-are_short-clause-items g c = grind (arith, common_steps)
+returns-then-are_short-clause-items g c =
+    let v = c.args.self.now in
+    let n = c.len-len.result in
+    let slots = g.B.Lent.slots v.lent in
+    let in_list : c.args.i ≤ n = search rules in
+    rw (g.B.Lent.slots_written, c.insert_shifting.ensures, c.all_mut.ensures.value) (take-put_in v.len slots n c.len-len.ensures.value c.args.i c.args.x in_list c.requires.room)
 
 pub returns-clause-items : goal.returns-clause-items
 returns-clause-items g c = grind (arith, common_steps)
@@ -22,17 +27,17 @@ returns-clause-items g c = grind (arith, common_steps)
 pub returns-clause-spare : goal.returns-clause-spare
 returns-clause-spare g c = grind (arith, common_steps)
 
-pub insert_slot-requires-clause-room : goal.insert_slot-requires-clause-room
-insert_slot-requires-clause-room g c =
+pub insert_shifting-requires-clause-room : goal.insert_shifting-requires-clause-room
+insert_shifting-requires-clause-room g c =
     let v = c.args.self.now in
-    beyond v.len (g.B.Lent.slots v.lent) c.len-len.result c.len-len.ensures.value c.requires.room
+    rw c.all_mut.ensures.value (beyond v.len (g.B.Lent.slots v.lent) c.len-len.result c.len-len.ensures.value c.requires.room)
 
 pub overflow_add-self : goal.overflow_add-self
 overflow_add-self g c =
     let v = c.args.self.now in
     omega (arith, beyond v.len (g.B.Lent.slots v.lent) c.len-len.result c.len-len.ensures.value c.requires.room)
 
-pub last_slot_to-requires-clause-in_list : goal.last_slot_to-requires-clause-in_list
-last_slot_to-requires-clause-in_list g c =
+pub last_to-requires-clause-in_list : goal.last_to-requires-clause-in_list
+last_to-requires-clause-in_list g c =
     let grown = ap length c.push.ensures.items ∙ length_push (items_of g.B.Lent c.args.self.now) c.args.x in
     omega arith

@@ -8,10 +8,10 @@ pub returns-clause-spare : goal.returns-clause-spare
 returns-clause-spare g c =
     let v = c.args.self.now in
     let n = c.len-last.result in
-    let after = c.take_slot.ensures.after in
-    let one = All-cons g.B.Item.Default.is_default after.0 [] after.1 (All-nil _) in
+    let d = c.take.new.dest in
+    let one = All-cons g.B.Item.Default.is_default d [] c.take.ensures.after (All-nil _) in
     let pos : 0 < n = search rules in
-    (after.0 ∷ [], (refl, one), rw (after.2) (drop-popped v.len (g.B.Lent.slots v.lent) n c.len-last.ensures.value after.0 pos))
+    (d ∷ [], (refl, one), rw (g.B.Lent.slots_written, c.all_mut.ensures.value) (drop-popped v.len (g.B.Lent.slots v.lent) n c.len-last.ensures.value d pos))
 
 pub returns-clause-items : goal.returns-clause-items
 returns-clause-items g c = grind (arith, common_steps)

@@ -4,5 +4,5 @@ use Rattle.tinyvec_slice.proofs.slice_vec.GenericSliceVec.take_spare.Goals as go
 pub returns-clause-spare : goal.returns-clause-spare
 returns-clause-spare g c =
     let v = c.args.self.now in
-    let after = c.take_slot.ensures.after in
-    (after.0, after.1, rw (after.2) (spare-set v.len (g.B.Lent.slots v.lent) c.len-len.result c.len-len.ensures.value c.args.i after.0 c.requires))
+    let d = c.take.new.dest in
+    (d, c.take.ensures.after, rw (g.B.Lent.slots_written, c.all_mut.ensures.value) (spare-set v.len (g.B.Lent.slots v.lent) c.len-len.result c.len-len.ensures.value c.args.i d c.requires))

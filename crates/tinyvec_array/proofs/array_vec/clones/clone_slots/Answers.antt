@@ -1,7 +1,7 @@
 use Rattle.std.proofs.Common.{◌≡◌, length, sym, ◌∙◌, le_refl}
 use Rattle.std.proofs.lemmas.Result.{on_ok_weaker, on_err_weaker}
 use Rattle.tinyvec_slots.proofs.ClonesOverLemmas.{clones_whole_of}
-use Rattle.tinyvec_array.proofs.clone_slots.clone_slots.Goals as goal
+use Rattle.tinyvec_array.proofs.array_vec.clones.clone_slots.Goals as goal
 
 pub clone_each-requires : goal.clone_each-requires
 clone_each-requires g c = record { fits = rw (c.as_slice.ensures.len, c.as_slice_mut.ensures.len) (le_refl _) }

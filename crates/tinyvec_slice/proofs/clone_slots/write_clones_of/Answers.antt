@@ -1,7 +1,0 @@
-use Rattle.tinyvec_slice.proofs.clone_slots.write_clones_of.Goals as goal
-
-pub returns-clause-ok : goal.returns-clause-ok
-returns-clause-ok g c = rw (g.B.Lent.slots_written, ← c.all_mut.ensures.value) c.fill_clones.ensures.ok
-
-pub returns-clause-refused : goal.returns-clause-refused
-returns-clause-refused g c = rw (g.B.Lent.slots_written, ← c.all_mut.ensures.value) c.fill_clones.ensures.refused

@@ -1,6 +1,0 @@
-use Rattle.std.proofs.Common.{arith}
-use Rattle.std.proofs.lemmas.Grind.{common_steps}
-use Rattle.tinyvec_slice.proofs.slots.fill_default_in.Goals as goal
-
-pub returns-clause-after : goal.returns-clause-after
-returns-clause-after g c = grind (arith, common_steps)
