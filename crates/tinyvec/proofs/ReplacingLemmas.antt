@@ -1,8 +1,8 @@
 -- Lemmas on a list that was granted room for n more items, and had a range replaced then.
-use Rattle.std.proofs.Common.{◌≡◌, ◌∙◌, ℕ, ◌+◌, ◌-◌, ◌*◌, ◌<◌, ◌≤◌, max, List, ◌++◌, take, drop, length, length-append, length-drop, length-take-le, Result, inl, inr, sym, ap, subst, refl, arith}
+use Rattle.std.proofs.Common.{◌≡◌, ◌∙◌, ℕ, ◌+◌, ◌-◌, ◌<◌, ◌≤◌, List, ◌++◌, take, drop, length, length-append, length-drop, length-take-le, Result, inl, inr, sym, ap, subst, refl, arith}
 use Rattle.std.proofs.lemmas.Bool.{cases_lt}
 use Rattle.tinyvec_slots.specs.Replacing.{PutsBetween}
-use Rattle.tinyvec.specs.TinyVec.{tiny_items, tiny_len, is_inline, tiny_capacity, IsInline, PlaceRule, TinySlotRule}
+use Rattle.tinyvec.specs.TinyVec.{tiny_items, tiny_len, tiny_capacity, IsInline, PlaceRule, TinySlotRule}
 use Rattle.tinyvec.specs.Room.{GrowsFor, KeepsRoom}
 use Rattle.tinyvec.specs.declared.tiny_vec.TinyVec.{TinyVec}
 use Rattle.tinyvec.specs.declared.tiny_vec.TinyVec.TheVariants.{Inline, Heap}
