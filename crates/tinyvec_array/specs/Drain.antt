@@ -14,13 +14,15 @@ module _ {A T : Type 0} where
   abbrev pub drain_len : ArrayVecDrain A T → ℕ
   drain_len d = d.back - d.front
 
-  -- the list of the vector, how many slots are vacated, and the spare slots behind those
+  -- the list of the vector
   abbrev pub drain_kept : ArrayVecDrain A T → List T
   drain_kept d = items d.vec.now
 
+  -- how many slots are vacated
   abbrev pub drain_count : ArrayVecDrain A T → ℕ
   drain_count d = d.count
 
+  -- the spare slots after the vacated ones
   abbrev pub drain_spare : ArrayVecDrain A T → List T
   drain_spare d = drop d.count (spare d.vec.now)
 

@@ -1,4 +1,4 @@
--- Two contents, spelled one behind the other: what a struct is, field by field.
+-- Two contents, spelled one after the other: what a struct is, field by field.
 use Rattle.std.specs.Prelude.{◌≡◌, ℕ, ◌⊎◌, List, ◌++◌}
 
 -- the spelling of the first, and then that of the second
@@ -10,10 +10,10 @@ SpellsBoth SpellsFirst SpellsSecond both bytes =
 abbrev pub BothFit : {A B : Type 0} → (A → Type 0) → (B → Type 0) → A × B → Type 0
 BothFit FirstFits SecondFits both = FirstFits both.0 × SecondFits both.1
 
--- The input begins with a content that fits, and is so behind it.
+-- The input begins with a content that fits, and is so after it.
 abbrev pub IsBehind : {A : Type 0} → (A → List ℕ → Type 0) → (A → Type 0) → (List ℕ → Type 0) → List ℕ → Type 0
 IsBehind {A} Spells Fits P input = (c : A) × (bytes rest : List ℕ) × Fits c × Spells c bytes × (input ≡ bytes ++ rest) × P rest
 
--- The input is so in the first, or behind the first in the second.
+-- The input is so in the first, or after the first in the second.
 abbrev pub InEither : {A : Type 0} → (A → List ℕ → Type 0) → (A → Type 0) → (InFirst InSecond : List ℕ → Type 0) → List ℕ → Type 0
 InEither Spells Fits InFirst InSecond input = InFirst input ⊎ IsBehind Spells Fits InSecond input

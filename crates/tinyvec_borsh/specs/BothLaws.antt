@@ -1,4 +1,4 @@
--- Where two spellings are codes, so is the one behind the other, and no input is two of fitting, cut and too long.
+-- Where two spellings are codes, so is the one after the other, and no input is two of fitting, cut and too long.
 use Rattle.std.proofs.Common.{◌≡◌, ◌∙◌, ap, sym, subst, ℕ, inl, inr, List, ◌++◌, length, refl, arith, append_assoc, length-append}
 use Rattle.tinyvec_borsh.specs.Code.{IsCode}
 use Rattle.tinyvec_borsh.specs.Apart.{AreApart}
@@ -9,7 +9,7 @@ regroup : (x y rest input other : List ℕ) → input ≡ x ++ y → input ++ re
 regroup x y rest input other is e = sym (append_assoc x y rest) ∙ ap (λ l. l ++ rest) (sym is) ∙ e
 
 module _ {A B : Type 0} (SpellsA : A → List ℕ → Type 0) (SpellsB : B → List ℕ → Type 0) (code_a : IsCode SpellsA) where
-  -- what stands behind the first is the second
+  -- what stands after the first is the second
   second-stands : (P : List ℕ → Type 0) (FitsA : A → Type 0) (c : A × B) (bytes rest : List ℕ) (p : SpellsBoth SpellsA SpellsB c bytes) → IsBehind SpellsA FitsA P (bytes ++ rest) → P (p.1 ++ rest)
   second-stands P FitsA c bytes rest p s =
       let t = same-item SpellsA code_a c.0 s.0 p.0 s.1 (p.1 ++ rest) s.2 p.2 s.4 (regroup p.0 p.1 rest bytes (s.1 ++ s.2) p.4 s.5) in

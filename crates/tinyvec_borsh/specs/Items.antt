@@ -13,7 +13,7 @@ module _ {C : Type 0} (Spells : C → List ℕ → Type 0) where
   SpellsItems [] bytes = bytes ≡ []
   SpellsItems (c ∷ cs) bytes = (first rest : List ℕ) × Spells c first × SpellsItems cs rest × (bytes ≡ first ++ rest)
 
-  -- The input begins with these items, and is so behind them.
+  -- The input begins with these items, and is so after them.
   abbrev pub BeginsWithItems : List C → (List ℕ → Type 0) → List ℕ → Type 0
   BeginsWithItems cs P input = (bytes tail : List ℕ) × SpellsItems cs bytes × (input ≡ bytes ++ tail) × P tail
 
@@ -41,7 +41,7 @@ module _ {C : Type 0} (Spells : C → List ℕ → Type 0) (Fits : C → Type 0)
   abbrev pub InItem : (List ℕ → Type 0) → (room : ℕ) → List ℕ → Type 0
   InItem P room input = (n : ℕ) × (cs : List C) × (tail : List ℕ) × HasItems n cs tail input × (length cs < n) × (length cs ≤ room) × P tail
 
-  -- The input has items, fewer than n, which fit, and is so behind them.
+  -- The input has items, fewer than n, which fit, and is so after them.
   abbrev pub AfterItems : (List ℕ → Type 0) → (n : ℕ) → List ℕ → Type 0
   AfterItems P n input = (cs : List C) × (bytes tail : List ℕ) × SpellsItems Spells cs bytes × AllByRecursion Fits cs × (input ≡ bytes ++ tail) × (length cs < n) × P tail
 

@@ -55,7 +55,7 @@ module _ {C : Type 0} (Spells : C → List ℕ → Type 0) (code : IsCode Spells
       let more = same-items cs ds p.1 q.1 x y (omega arith) p.3 q.3 item.2 in
       ((λ i. item.0 i ∷ more.0 i), more.1)
 
-  -- where more items are known to stand, one stands behind the first ones
+  -- where more items are known to stand, one stands after the first ones
   pub next-item : (Fits : C → Type 0) (cs ds : List C) (a b x y : List ℕ) → length cs < length ds → SpellsItems Spells cs a → SpellsItems Spells ds b → a ++ x ≡ b ++ y
       → (d : C) × (e rest : List ℕ) × Spells d e × (x ≡ e ++ rest) × (AllByRecursion Fits ds → Fits d)
   next-item Fits [] [] a b x y n p q e = absurd (omega arith)
@@ -66,7 +66,7 @@ module _ {C : Type 0} (Spells : C → List ℕ → Type 0) (code : IsCode Spells
       let more = next-item Fits cs ds p.1 q.1 x y (omega arith) p.3 q.3 item.2 in
       (more.0, more.1, more.2, more.3, more.4, λ h. more.5 h.1)
 
-  -- the count and what stands behind it
+  -- the count and what stands after it
   same-list : (n m : ℕ) (count other x y : List ℕ) → IsCount n count → IsCount m other → count ++ x ≡ other ++ y → (n ≡ m) × (x ≡ y)
   same-list n m count other x y p q e =
       let front = one-begins count other x y e in
@@ -76,7 +76,7 @@ module _ {C : Type 0} (Spells : C → List ℕ → Type 0) (code : IsCode Spells
         | inr f ↦ (sym (of_count.one_content m n other f.0 q (subst (IsCount n) f.1 p)), sym (f.2 ∙ ap (λ l. l ++ x) (nil_from_length f.0 (omega (arith, p.many, q.many, ap length f.1, length-append other f.0)))))
       ]
 
-  -- a spelled list's count is that of its items, and they stand behind it
+  -- a spelled list's count is that of its items, and they stand after it
   list-begins : (cs : List C) (bytes rest : List ℕ) (n : ℕ) (count x : List ℕ) (p : SpellsList Spells cs bytes) → IsCount n count → bytes ++ rest ≡ count ++ x → (length cs ≡ n) × (p.1 ++ rest ≡ x)
   list-begins cs bytes rest n count x p q e =
       same-list (length cs) n p.0 count (p.1 ++ rest) x p.2 q (sym (append_assoc p.0 p.1 rest) ∙ ap (λ l. l ++ rest) (sym p.4) ∙ e)

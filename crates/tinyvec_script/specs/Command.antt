@@ -10,11 +10,12 @@ use Rattle.tinyvec_script.specs.declared.call.Call.TheVariants.{Push, Pop, Inser
 use Rattle.tinyvec_script.specs.declared.command.Name.{Name}
 use Rattle.tinyvec_script.specs.declared.command.Name.TheVariants.{A, S, T}
 
--- a word of ends, which is a dash where it has no letters
+-- the letter of an end
 abbrev pub letter_code : End → ℕ
 letter_code Front = 102
 letter_code Back = 98
 
+-- a word of ends, which is a dash where it has no letters
 abbrev pub word_text : List End → List ℕ
 word_text [] = codes "-"
 word_text (letter ∷ word) = letter_code letter ∷ map letter_code word
@@ -23,6 +24,7 @@ word_text (letter ∷ word) = letter_code letter ∷ map letter_code word
 abbrev pub numbers_text : List ℤ → List ℕ
 numbers_text numbers = flat_map (λ number. 32 ∷ signed_decimal number) numbers
 
+-- how a splice is spelled: its range, its word, and its replacement
 abbrev pub splice_text : ℕ → ℕ → List End → List ℤ → List ℕ
 splice_text start end word numbers = decimal start ++ 32 ∷ (decimal end ++ 32 ∷ (word_text word ++ numbers_text numbers))
 

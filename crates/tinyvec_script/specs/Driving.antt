@@ -13,11 +13,12 @@ use Rattle.tinyvec.specs.declared.tiny_vec.TinyVec.{TinyVec}
 use Rattle.tinyvec_script.specs.declared.call.End.{End}
 use Rattle.tinyvec_script.specs.declared.call.End.TheVariants.{Front, Back}
 
--- the letter that names an end, and the word that names ends one after another
+-- the letter that names an end
 abbrev pub letter : End → ends.End
 letter Front = front
 letter Back = back
 
+-- the word that names these ends one after another
 abbrev pub word_of : List End → List ends.End
 word_of = map letter
 
@@ -72,16 +73,19 @@ module _ {T : Type 0} (capacity : ℕ) (xs : List T) (start end : ℕ) (word : L
   abbrev pub yields_of : List T
   yields_of = taken (word_of word) (removed xs (Included start) (Excluded end))
 
-  -- the run that has no place, where the list does not fit: where it begins in the replacement, and where it ends
+  -- where the run that has no place begins in the replacement, where the list does not fit
   abbrev pub unplaced_from : ℕ
   unplaced_from = capacity - (start + placed_back (word_of word) (end - start) (length replacement) + (length xs - end))
 
+  -- where that run ends
   abbrev pub unplaced_to : ℕ
   unplaced_to = length replacement - placed_back (word_of word) (end - start) (length replacement)
 
+  -- whether the list does not fit
   abbrev pub overflows : Bool
   overflows = nat_lt capacity (start + length replacement + (length xs - end))
 
+  -- what is not placed
   abbrev pub rest_of : List T
   rest_of = if overflows then slice_range replacement unplaced_from unplaced_to else []
 
@@ -92,6 +96,7 @@ module _ {T : Type 0} (capacity : ℕ) (xs : List T) (start end : ℕ) (word : L
       ++ after xs (Excluded end)
       else before xs (Included start) ++ replacement ++ after xs (Excluded end)
 
+  -- these are what was yielded, what was not placed and what the list is
   pub record SpliceComputes (yields rest list : List T) : Type 0 where
     pub yields_are : yields ≡ yields_of
     pub rest_is : rest ≡ rest_of

@@ -10,6 +10,7 @@ pub data Place : Type 0 where
   in_array : Place
   on_heap : ℕ → Place
 
+-- whether it is in the array
 abbrev pub lies_inline : Place → Bool
 lies_inline in_array = true
 lies_inline (on_heap n) = false
@@ -26,6 +27,7 @@ pub record Tiny (T : Type 0) : Type 0 where
   pub place : Place
 
 module _ {A T : Type 0} where
+  -- where the list of a vector is
   abbrev pub place_of : TinyVec A T → Place
   place_of (tiny.Inline v alloc) = in_array
   place_of (tiny.Heap v) = on_heap (vec_capacity v)
@@ -35,9 +37,11 @@ module _ {A T : Type 0} where
   tiny_of v = record { items = tiny_items v; spare = tiny_spare v; place = place_of v }
 
 module _ {T : Type 0} where
+  -- the length of the list
   abbrev pub count : Tiny T → ℕ
   count v = length v.items
 
+  -- the list is in the array
   abbrev pub Inline : Tiny T → Type 0
   Inline v = IsTrue (lies_inline v.place)
 

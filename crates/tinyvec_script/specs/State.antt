@@ -7,6 +7,7 @@ use Rattle.tinyvec_script.specs.Place.{tiny_of}
 use Rattle.tinyvec_script.specs.Script.{State}
 use Rattle.tinyvec_script.specs.declared.vectors.Vectors.{Vectors}
 
+-- what is seen of vectors over lent slots
 abbrev pub state_of : {B : Type 0} → Lent.Ghosts B ℤ → Vectors B → State
 state_of g vectors = record { a = vectors.a; s = seen_of g vectors.s; t = tiny_of vectors.t; x = vectors.x }
 

@@ -12,6 +12,7 @@ use Rattle.tinyvec_script.specs.declared.call.Answer.TheVariants as answers
 unfoldable pub list_text : List ℤ → List ℕ
 list_text numbers = codes "[" ++ join_by signed_decimal (codes ", ") numbers ++ codes "]"
 
+-- an answer
 abbrev pub answer_text : Answer ℤ → List ℕ
 answer_text answers.Done = codes "ok"
 answer_text (answers.Some number) = codes "some " ++ signed_decimal number
@@ -41,6 +42,7 @@ place_text false = codes "heap"
 unfoldable pub place_state_text : List ℤ → Bool → List ℕ
 place_state_text items inline = list_text items ++ codes " " ++ place_text inline
 
+-- a vector: its list and its place
 abbrev pub tiny_text : Tiny ℤ → List ℕ
 tiny_text v = place_state_text v.items (lies_inline v.place)
 
@@ -48,5 +50,6 @@ tiny_text v = place_state_text v.items (lies_inline v.place)
 unfoldable pub text_state_text : List ℕ → Bool → List ℕ
 text_state_text bytes inline = codes "[" ++ bytes ++ codes "] " ++ place_text inline
 
+-- a text and its place
 abbrev pub inline_text_text : Text → List ℕ
 inline_text_text x = text_state_text x.bytes x.inline

@@ -26,10 +26,11 @@ module _ {B T : Type 0} (g : Lent.Ghosts B T) where
   abbrev pub drain_items : GenericSliceVecDrain B T → List T
   drain_items d = slice_range (spare_of g d.vec.now) d.front d.count
 
-  -- the list of the vector, and the spare slots behind the vacated ones
+  -- the list of the vector
   abbrev pub drain_kept : GenericSliceVecDrain B T → List T
   drain_kept d = items_of g d.vec.now
 
+  -- the spare slots after the vacated ones
   abbrev pub drain_spare : GenericSliceVecDrain B T → List T
   drain_spare d = drop d.count (spare_of g d.vec.now)
 

@@ -15,7 +15,7 @@ module _ {B T : Type 0} (g : Lent.Ghosts B T) where
   abbrev pub items_of : GenericSliceVec B T → List T
   items_of v = items_in (seen_of v)
 
-  -- the spare slots behind it
+  -- the spare slots after it
   abbrev pub spare_of : GenericSliceVec B T → List T
   spare_of v = spare_in (seen_of v)
 
@@ -23,7 +23,7 @@ module _ {B T : Type 0} (g : Lent.Ghosts B T) where
   abbrev pub len_of : GenericSliceVec B T → ℕ
   len_of v = length (items_of v)
 
-  -- the list and the spare slots, one behind the other
+  -- the list and the spare slots, one after the other
   abbrev pub slots_of : GenericSliceVec B T → List T
   slots_of v = g.slots v.lent
 
@@ -40,14 +40,18 @@ module _ {T : Type 0} where
   abbrev pub seen : GenericSliceVec (MutBor (List T)) T → Slots T
   seen v = record { slots = v.lent.now; len = v.len }
 
+  -- the list
   abbrev pub items : GenericSliceVec (MutBor (List T)) T → List T
   items v = items_in (seen v)
 
+  -- the spare slots after it
   abbrev pub spare : GenericSliceVec (MutBor (List T)) T → List T
   spare v = spare_in (seen v)
 
+  -- the list, then the spare slots
   abbrev pub slots : GenericSliceVec (MutBor (List T)) T → List T
   slots v = v.lent.now
 
+  -- the ghost name of the reference to the slots
   abbrev pub name : GenericSliceVec (MutBor (List T)) T → GName
   name v = v.lent.ghost_name

@@ -24,7 +24,7 @@ abbrev pub ClonesBefore : {T : Type 0} → (T → T → Type 0) → List T → L
 ClonesBefore {T} C xs old new = (ys : List T) × AllZip C xs ys × (new ≡ ys ++ old)
 
 -- A `clone_from` that was refused a clone took the list `olds` to `news`, which is cut to m items, the lesser of the two
--- lengths. `made`, k of these, are clones. Where the list lies in slots, `more`, j further clones, stand behind it, after
+-- lengths. `made`, k of these, are clones. Where the list lies in slots, `more`, j further clones, stand after it, after
 -- the defaults in the vacated slots.
 pub record ClonesInPart {T : Type 0} (D I : T → Type 0) (C : T → T → Type 0) (source olds news : List T) (m : ℕ) (in_slots : Type 0) (spares behind : List T) : Type 0 where
   pub k : ℕ

@@ -1,16 +1,18 @@
 -- Taking from the two ends of a list, by a word of ends.
 use Rattle.std.specs.Prelude.{◌≡◌, ℕ, ◌+◌, ◌-◌, min, List, [], ◌∷◌, ◌++◌, length, get_or, take, drop, reverse, slice_range, map, replicate, Option, Some, None}
 
+-- an end of a list
 pub data End : Type 0 where
   front : End
   back : End
 
--- how many letters of a word are `front`, and how many are `back`
+-- how many letters of a word are `front`
 abbrev pub fronts : List End → ℕ
 fronts [] = 0
 fronts (front ∷ word) = fronts word + 1
 fronts (back ∷ word) = fronts word
 
+-- how many letters of a word are `back`
 abbrev pub backs : List End → ℕ
 backs [] = 0
 backs (front ∷ word) = backs word
@@ -61,9 +63,11 @@ module _ {T : Type 0} where
   answered_by (front ∷ word) (x ∷ xs) = Some x ∷ answered_by word xs
   answered_by (back ∷ word) (x ∷ xs) = Some (get_or (x ∷ xs) (length xs) x) ∷ answered_by word (take (length xs) (x ∷ xs))
 
+  -- the items that a word takes
   abbrev pub taken : List End → List T → List T
   taken word xs = given_items (answered_by word xs)
 
+  -- the items that it leaves
   abbrev pub untaken : List End → List T → List T
   untaken [] xs = xs
   untaken (e ∷ word) [] = untaken word []

@@ -30,6 +30,7 @@ module _ {S X : Type 0} (R : S → X → X → Bool → S → X → X → Type 0
   DedupsFromTo s k (x ∷ xs) ys last = (b : Bool) × (t : S) × (x' : X) × (k' : X) × R s x k b t x' k'
       × MatchBool b (DedupsFromTo t k' xs ys last) ((zs : List X) × DedupsFromTo t x' xs zs last × (ys ≡ k' ∷ zs))
 
+  -- the same of all of a list, whose first item is kept
   abbrev pub DedupsAllTo : S → List X → List X → S → Type 0
   DedupsAllTo s [] ys last = (ys ≡ []) × (last ≡ s)
   DedupsAllTo s (x ∷ xs) ys last = DedupsFromTo s x xs ys last

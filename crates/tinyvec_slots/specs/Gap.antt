@@ -4,10 +4,11 @@ use Rattle.tinyvec_slots.specs.AnySplice.{SpliceView}
 use Rattle.tinyvec_slots.specs.Touches.{touch_count}
 use Rattle.tinyvec_slots.specs.declared.gap.Gap.{Gap}
 
--- what was placed from the front ends here, and what was placed from the back begins there
+-- where what was placed from the front ends
 abbrev pub gap_front : Gap → ℕ
 gap_front g = g.front
 
+-- where what was placed from the back begins
 abbrev pub gap_back : Gap → ℕ
 gap_back g = g.back
 

@@ -8,6 +8,7 @@ pub record Slots (T : Type 0) : Type 0 where
   pub slots : List T
   pub len : ℕ
 
+-- the code of slots, from that of their items
 abbrev pub slots_code : {T : Type 0} → Coded T → Coded (Slots T)
 slots_code {T} code =
     code_by (List T × ℕ) (coded× (coded_list code) coded_ℕ) (λ v. (v.slots, v.len)) (λ p. record { slots = p.0; len = p.1 }) (λ _. refl)
@@ -21,7 +22,7 @@ module _ {T : Type 0} where
   abbrev pub items : Slots T → List T
   items v = take v.len v.slots
 
-  -- the spare slots behind it
+  -- the spare slots after it
   abbrev pub spare : Slots T → List T
   spare v = drop v.len v.slots
 
@@ -29,7 +30,7 @@ module _ {T : Type 0} where
   abbrev pub items_len : Slots T → ℕ
   items_len v = length (items v)
 
-  -- the list and the spare slots, one behind the other
+  -- the list and the spare slots, one after the other
   abbrev pub all_slots : Slots T → List T
   all_slots v = v.slots
 
