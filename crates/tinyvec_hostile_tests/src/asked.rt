@@ -66,8 +66,9 @@ fn hints_of_what_fills_an_array_or_a_slice(rt: HostRuntime) -> Result<(), Fail> 
     wrong = first(wrong, 1, v.extend(three(&asked)).is_ok());
     let _rest = v.fill(three(&asked));
     wrong = first(wrong, 2, v.len() == 8);
-    wrong = first(wrong, 3, v.splice_all(..2, three(&asked)).is_err());
-    wrong = first(wrong, 4, v.splice_all(1.., three(&asked)).is_ok());
+    wrong = first(wrong, 3, v.splice_all(.., three(&asked)).is_ok());
+    v.clear();
+    wrong = first(wrong, 4, v.splice_all(.., three(&asked)).is_ok());
     wrong = first(
         wrong,
         5,
@@ -244,7 +245,8 @@ fn is_written<V: Display>(v: &V, items: usize) -> bool {
 fn is_debugged<V: Debug>(v: &V) -> bool {
     let mut all = Pieces::failing_at(0);
     let mut is_right = write!(all, "{v:?}").is_ok() & !all.has_empty;
-    for number in 1..=all.asked {
+    for before in 0..all.asked {
+        let number = before.saturating_add(1);
         let mut some = Pieces::failing_at(number);
         is_right &= write!(some, "{v:?}").is_err() & (some.asked == number);
     }

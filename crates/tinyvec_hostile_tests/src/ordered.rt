@@ -10,7 +10,7 @@ use std::alloc::{AllocError, Global};
 use std::cell::Cell;
 use std::cmp::Ordering;
 use std::test::Fail;
-use tinyvec::{ArrayVec, SliceVec, TinyVec};
+use tinyvec::{Array, ArrayVec, SliceVec, TinyVec};
 use tinyvec_test_items::{all_right, first, granted_ok};
 
 // How often it was asked whether two items are equal, and which is less.
@@ -105,8 +105,6 @@ impl<'a> Asked<'a> for Large<'a> {
     }
 }
 
-type List<T> = ArrayVec<[T; 350]>;
-
 // Two lists of these lengths, and the index of an item of the first that is less, if it has one: how often is asked whether
 // two items are equal, by `==` and by `cmp`.
 type Row = (usize, usize, usize, usize, usize);
@@ -118,19 +116,22 @@ const SAME: usize = usize::MAX;
 const AS_A_SLICE: usize = usize::MAX;
 
 // The two lists of a row, which share the counts.
-fn listed<'a, T: Asked<'a>>(row: &Row, questions: &'a Questions) -> (List<T>, List<T>) {
+fn listed<'a, A: Array>(row: &Row, questions: &'a Questions) -> (ArrayVec<A>, ArrayVec<A>)
+where
+    A::Item: Asked<'a>,
+{
     let (len, other, at, _, _) = *row;
     let (mut v, mut w) = (ArrayVec::new(), ArrayVec::new());
     for i in 0..len {
         let item = if i == at {
-            T::default()
+            A::Item::default()
         } else {
-            T::counting(questions)
+            A::Item::counting(questions)
         };
         let _full = v.try_push(item);
     }
     for _at in 0..other {
-        let _full = w.try_push(T::counting(questions));
+        let _full = w.try_push(A::Item::counting(questions));
     }
     (v, w)
 }
@@ -163,8 +164,11 @@ fn compare<V: Ord>(v: &V, w: &V, questions: &Questions, row: &Row) -> bool {
     is_right & is_ordered & is_partial
 }
 
-fn arrays_and_slices<'a, T: Asked<'a>>(questions: &'a Questions, row: &Row) -> bool {
-    let (mut v, mut w) = listed::<T>(row, questions);
+fn arrays_and_slices<'a, A: Array>(questions: &'a Questions, row: &Row) -> bool
+where
+    A::Item: Asked<'a>,
+{
+    let (mut v, mut w) = listed::<A>(row, questions);
     let is_right = compare(&v, &w, questions, row);
     let v = SliceVec::from_slice(v.as_mut_slice());
     let w = SliceVec::from_slice(w.as_mut_slice());
@@ -172,12 +176,15 @@ fn arrays_and_slices<'a, T: Asked<'a>>(questions: &'a Questions, row: &Row) -> b
 }
 
 // The same of a `TinyVec` in the array, and on the heap.
-fn tiny_vecs<'a, T: Asked<'a>>(
+fn tiny_vecs<'a, A: Array>(
     alloc: Global,
     questions: &'a Questions,
     row: &Row,
-) -> Result<bool, AllocError> {
-    let (v, w) = listed::<T>(row, questions);
+) -> Result<bool, AllocError>
+where
+    A::Item: Asked<'a>,
+{
+    let (v, w) = listed::<A>(row, questions);
     let (mut v, mut w) = (TinyVec::Inline(v, alloc), TinyVec::Inline(w, alloc));
     let is_right = compare(&v, &w, questions, row);
     v.move_to_the_heap()?;
@@ -186,12 +193,15 @@ fn tiny_vecs<'a, T: Asked<'a>>(
     Ok(is_right & is_mixed & compare(&v, &w, questions, row))
 }
 
-fn first_wrong<'a, T: Asked<'a>>(alloc: Global, questions: &'a Questions, rows: &[Row]) -> u32 {
+fn first_wrong<'a, A: Array>(alloc: Global, questions: &'a Questions, rows: &[Row]) -> u32
+where
+    A::Item: Asked<'a>,
+{
     let mut wrong = 0;
     let mut step = 1_u32;
     for row in rows {
-        wrong = first(wrong, step, arrays_and_slices::<T>(questions, row));
-        wrong = granted_ok(wrong, step, tiny_vecs::<T>(alloc, questions, row));
+        wrong = first(wrong, step, arrays_and_slices::<A>(questions, row));
+        wrong = granted_ok(wrong, step, tiny_vecs::<A>(alloc, questions, row));
         step = step.wrapping_add(1);
     }
     wrong
@@ -224,27 +234,32 @@ const OF_LARGE: [Row; 5] = [
 #[test]
 fn small_items(rt: HostRuntime) -> Result<(), Fail> {
     let questions = Questions::default();
-    all_right(first_wrong::<Small>(rt.alloc(), &questions, &OF_SMALL))
+    all_right(first_wrong::<[Small; 350]>(rt.alloc(), &questions, &OF_SMALL))
 }
 
 #[test]
 fn large_items(rt: HostRuntime) -> Result<(), Fail> {
     let questions = Questions::default();
-    all_right(first_wrong::<Large>(rt.alloc(), &questions, &OF_LARGE))
+    all_right(first_wrong::<[Large; 350]>(rt.alloc(), &questions, &OF_LARGE))
 }
 
 // Each item after the first is asked about once.
+fn first_wrong_repeat<'a, A: Array>(alloc: Global, questions: &'a Questions) -> u32
+where
+    A::Item: Asked<'a>,
+{
+    let (mut v, _) = listed::<A>(&(9, 0, 4, 0, 0), questions);
+    let (inline, _) = listed::<A>(&(9, 0, 4, 0, 0), questions);
+    let mut tiny = TinyVec::Inline(inline, alloc);
+    let mut wrong = 0;
+    v.dedup();
+    wrong = first(wrong, 1, (v.len() == 3) & (taken(questions) == (8, 0)));
+    tiny.dedup();
+    first(wrong, 2, (tiny.len() == 3) & (taken(questions) == (8, 0)))
+}
+
 #[test]
 fn repeats(rt: HostRuntime) -> Result<(), Fail> {
     let questions = Questions::default();
-    let (mut v, mut w) = listed::<Small>(&(9, 9, 4, 0, 0), &questions);
-    let mut tiny = TinyVec::Inline(v, rt.alloc());
-    let mut wrong = 0;
-    v.dedup();
-    wrong = first(wrong, 1, (v.len() == 3) & (taken(&questions) == (8, 0)));
-    w.dedup_by_key(|x| *x);
-    wrong = first(wrong, 2, (w.len() == 1) & (taken(&questions) == (8, 0)));
-    tiny.dedup();
-    wrong = first(wrong, 3, (tiny.len() == 3) & (taken(&questions) == (8, 0)));
-    all_right(wrong)
+    all_right(first_wrong_repeat::<[Small; 350]>(rt.alloc(), &questions))
 }
