@@ -15,24 +15,20 @@ CPU = "x86-64-v3"
 
 # The toolchain's vectors cannot be emptied without a write, so beside them each side begins a row by `clear`.
 CLEARED = {
-    r"(fn empty\b.*?\{\n).*?\n\}": r"\1    vec.clear();\n}",
+    r"(?s)(fn empty\(&mut self\) \{\n).*?\n    \}": r"\1        self.clear();\n    }",
 }
 
 # The toolchain's vectors in an array: `arrayvec`, `smallvec` and `ArrayString`.
 INLINE = CLEARED | {
-    r"\btinyvec_array::ArrayVec": "arrayvec::ArrayVec",
-    r"ArrayVec<\[(\w+); (\w+)\]>": r"ArrayVec<\1, \2>",
-    r"ArrayVec::from_array\(": "ArrayVec::from_array_in((), ",
-    r"(capacity\(\) \{\n.*\n    \}\n    match vec\.)extend_from_slice": r"\1try_extend_from_slice",
-    r"\bRattle\.tinyvec_(slots|array)\.specs\.Slots\b": "Rattle.arrayvec.specs.ArrayVec",
-    r"\bitems_len\b": "array_vec_len",
-    r"\btinyvec::TinyVec": "smallvec::SmallVec",
-    r"TinyVec(::)?<\[(\w+); (\w+)\]>": r"SmallVec\1<\2, \3>",
-    r"TinyVec::from_array\(": "SmallVec::from_buf(",
+    # Calls that they lack, in rows that are left out.
+    r"self\.splice\(.*\)": "false",
+    r"ArrayVec::dedup\(self\);": "",
+    r"(ArrayVec|TinyVec|\$vec)(::)?<\[([$\w]+); (\w+)\]>": r"\1\2<\3, \4>",
+    r"\btinyvec_array::": "arrayvec::",
+    r"(capacity\(\) (&&|\|\|) \w+\.)extend_from_slice": r"\1try_extend_from_slice",
+    r"\btinyvec::": "smallvec::",
     r"vec\.move_to_the_heap\(\)": "vec.reserve(1)",
-    r"TinyVec::": "SmallVec::",
-    r"\bRattle\.tinyvec\.specs\.TinyVec\b": "Rattle.smallvec.specs.SmallVec",
-    r"\btiny_len\b": "small_vec_len",
+    r"\bTinyVec\b": "SmallVec",
     r"is_odd\(item: &u64\)": "is_odd(item: &mut u64)",
     r"\btinyvec_text::InlineText": "arrayvec::ArrayString",
     r"InlineText::new\(alloc\)": "ArrayString::new()",
@@ -45,28 +41,19 @@ NOT_INLINE = r"mod (form|growth|slices|splicing);|\bof_(forms|arrays|lists|slice
 # std's `Vec` and `String`. What the others do in an array, they do on the heap.
 STD = CLEARED | {
     r"\buse tinyvec(_text)?::\w+;\n": "",
-    r"TinyVec(::)?<\[(\w+); (\w+)\]>": r"Vec\1<\2>",
-    r"TinyVec::from_array\(alloc, array\)": "Vec::from_slice(alloc, &array)?",
+    r"(TinyVec|\$vec)(::)?<\[([$\w]+); \w+\]>": r"Vec\2<\3>",
     r"vec\.move_to_the_heap\(\)\?": "{}",
     r"TinyVec::": "Vec::",
-    r"\.finish\(\) \{\n( *)Ok\(\(\)\)": r" {\n\1Ok(_)",
-    r"\bRattle\.tinyvec\.specs\.TinyVec\b": "Rattle.std.specs.Prelude",
-    r"\btiny_len\b": "vec_len",
-    r"of_(words|bytes)::<R, (\d+)>\(report\);": r"\1_of_tiny::<R, \2>(report, alloc, Place::Heap)?;",
-    r"of_splices::<R, (\d+)>\(report\);": r"of_tiny_splices::<R, \1>(report, alloc, Place::Heap)?;",
-    r"alloc, Place::Inline\)": "alloc, Place::Heap)",
-    r"use crate::tiny::rows::\{": "use crate::tiny::rows::{bytes_of_tiny, words_of_tiny, ",
+    r"\.finish\(\)(\.is_(ok|err)\(\))": r"\1",
+    r"alloc, Place::Inline\b": "alloc, Place::Heap",
     r"InlineText<\w+>|InlineText": "String",
 }
-NOT_STD = (
-    r"^mod (arrays|cutting|edits|emptying|ends|filling|form|growth|reading|rows|slices|splicing);"
-    r"|\bof_(words|bytes|forms|arrays|lists|slices|splices)\b"
-)
+NOT_STD = r"mod (arrays|form|growth|slices);|\bof_(forms|arrays|lists|slices)\b"
 
 # Texts are printed into an `ArrayVec` of this library on each side.
 UNCHANGED = "src/printing.rt"
 # The files that name the modules, and the rows.
-LISTS = ("src/main.rt", "src/tiny.rt", "src/all.rt")
+LISTS = ("src/main.rt", "src/all.rt")
 
 
 class Made(crates.Crate):
@@ -84,24 +71,22 @@ class Made(crates.Crate):
     @functools.cached_property
     def files(self):
         texts = {path: self.changed(path, text.decode()) for path, text in self.base.sources.items()}
-        main, tiny = (re.findall(r"\bmod (\w+);", texts[path]) for path in LISTS[:2])
-        kept = {"main", *main, *(f"tiny/{it}" for it in tiny)}
+        kept = {"main", *re.findall(r"\bmod (\w+);", texts[LISTS[0]])}
         return {path: text.encode() for path, text in texts.items() if module_of(path) in kept}
 
     def changed(self, path, text):
         if path == UNCHANGED:
             return text
         for pattern, word in self.words.items():
-            text = re.sub(pattern, word, text, flags=re.S if pattern in CLEARED else 0)
+            text = re.sub(pattern, word, text)
         if path in LISTS:
             text = "".join(it for it in text.splitlines(True) if not re.search(self.lacked, it))
         return text
 
 
 def module_of(path):
-    """Of src/tiny/ends.rt, and of each file below proofs/tiny/ends, it is tiny/ends."""
-    names = path.removesuffix(".rt").split("/")[1:]
-    return "/".join(names[: 2 if names[0] == "tiny" else 1])
+    """Of src/edits.rt, and of each file below proofs/edits, it is edits."""
+    return path.removesuffix(".rt").split("/")[1]
 
 
 class Run(crates.Run):

@@ -22,7 +22,7 @@ fn hex_digit(number: u8) -> u8
 
 // Writes two digits for each byte.
 fn write_hex<W: Write>(writer: &mut Counted<W>, bytes: &[u8]) -> io::Result<()>
-    ensures ok { OnOk result (Appends (W.contents writer.old.end) (W.contents writer.new.end) (hex_of bytes.now)) }
+    ensures ok { OnOk result (Appends (W.contents writer.old.inner) (W.contents writer.new.inner) (hex_of bytes.now)) }
     ensures grows { writer.old.faults ≤ writer.new.faults }
     ensures fault { OnErr result (Reported writer.old.faults writer.new.faults) }
 {
@@ -35,7 +35,7 @@ fn write_hex<W: Write>(writer: &mut Counted<W>, bytes: &[u8]) -> io::Result<()>
 
 // Writes what is wrong with a line, and a line feed.
 fn write_error<W: Write>(writer: &mut Counted<W>, text: &str) -> io::Result<()>
-    ensures ok { OnOk result (Appends (W.contents writer.old.end) (W.contents writer.new.end)
+    ensures ok { OnOk result (Appends (W.contents writer.old.inner) (W.contents writer.new.inner)
         (codes "error: " ++ (text.now ++ 10 ∷ []))) }
     ensures grows { writer.old.faults ≤ writer.new.faults }
     ensures fault { OnErr result (Reported writer.old.faults writer.new.faults) }
@@ -47,7 +47,7 @@ fn write_error<W: Write>(writer: &mut Counted<W>, text: &str) -> io::Result<()>
 
 /// Writes the answer to a line, and a line feed: the message in hexadecimal, or why there is none.
 pub fn write_answer<W: Write>(writer: &mut Counted<W>, line: &[u8]) -> io::Result<()>
-    ensures ok { OnOk result ((text : List ℕ) × Appends (W.contents writer.old.end) (W.contents writer.new.end) text
+    ensures ok { OnOk result ((text : List ℕ) × Appends (W.contents writer.old.inner) (W.contents writer.new.inner) text
         × IsAnswer line.now text) }
     ensures grows { writer.old.faults ≤ writer.new.faults }
     ensures fault { OnErr result (Reported writer.old.faults writer.new.faults) }

@@ -31,12 +31,12 @@ pub fn answer_lines<R: Read, W: Write>(
     writer: &mut Counted<W>,
 ) -> Result<(), Failure>
     // All was read, and each line was answered.
-    ensures ok { OnOk result ((output : List ℕ) × Appends (W.contents writer.old.end) (W.contents writer.new.end) output
+    ensures ok { OnOk result ((output : List ℕ) × Appends (W.contents writer.old.inner) (W.contents writer.new.inner) output
         × ((input : List ℕ) → reader_remaining R.remaining reader.old ≡ Some input → IsAnswered input output)) }
 
     // Each line that came whole before the fault was answered.
     ensures input { (error : IoError) → result ≡ Err (Failure.Input error)
-        → (output : List ℕ) × Appends (W.contents writer.old.end) (W.contents writer.new.end) output
+        → (output : List ℕ) × Appends (W.contents writer.old.inner) (W.contents writer.new.inner) output
         × ((input : List ℕ) → reader_remaining R.remaining reader.old ≡ Some input
         → AnswersComplete input (reader_remaining R.remaining reader.new) output) }
 
@@ -76,7 +76,7 @@ pub fn answer_lines<R: Read, W: Write>(
 
 // Answers the last line, if it has bytes.
 fn finish<W: Write>(line: &[u8], writer: &mut Counted<W>) -> io::Result<()>
-    ensures ok { OnOk result ((output : List ℕ) × Appends (W.contents writer.old.end) (W.contents writer.new.end) output
+    ensures ok { OnOk result ((output : List ℕ) × Appends (W.contents writer.old.inner) (W.contents writer.new.inner) output
         × AnswersEach (map strip_carriage_return (last_line line.now)) output) }
     ensures grows { writer.old.faults ≤ writer.new.faults }
     ensures fault { OnErr result (Reported writer.old.faults writer.new.faults) }

@@ -37,31 +37,43 @@ first-of-first read first cs more all f = (f.0 ++ more, all ∙ ap (λ l. l ++ m
 same-first : (read first cs more : List Said) → cs ≡ first ++ more → read ≡ first → AreFirst read cs
 same-first read first cs more all same = (more, all ∙ ap (λ l. l ++ more) (sym same))
 
-module _ (before after : ℕ) (cs read first more : List Said) (front bytes tail : List ℕ) (all : cs ≡ first ++ more) (spelled : SpellsStream first bytes) (whole : front ≡ bytes ++ tail) where
+module _ (before after : ℕ) (cs read : List Said) (front : List ℕ) (t : HasFirst SpellsFrame ReadingFits IsFrameFront cs front) where
   -- the cut is between two records, or behind the last
-  between : (given : Result (Unit {0}) StreamError) → tail ≡ [] → Gives first (Ok tt) before after read given → GivesCut cs front before after read given
-  between (Ok done) none g = (same-first read first cs more all g.0, subst (λ l. SpellsStream l front) (sym g.0) (subst (SpellsStream first) (sym (whole ∙ ap (λ l. bytes ++ l) none ∙ append-nil bytes)) spelled))
+  between : (given : Result (Unit {0}) StreamError) → t.parts.rest ≡ [] → Gives t.first (Ok tt) before after read given → GivesCut cs front before after read given
+  between (Ok done) none g =
+      let whole : front ≡ t.parts.first = t.parts.whole ∙ ap (λ l. t.parts.first ++ l) none ∙ append-nil t.parts.first in
+      (same-first read t.first cs t.more t.all g.0, subst (λ l. SpellsStream l front) (sym g.0) (subst (SpellsStream t.first) (sym whole) t.parts.is_first))
   between (Err Cut) none g = cc
   between (Err WrongTag) none g = cc
   between (Err TooManySamples) none g = cc
-  between (Err Io) none g = (first-of-first read first cs more all g.0, g.1)
-  between (Err Memory) none g = first-of-first read first cs more all g
+  between (Err Io) none g = (first-of-first read t.first cs t.more t.all g.0, g.1)
+  between (Err Memory) none g = first-of-first read t.first cs t.more t.all g
 
   -- the cut is in a record
-  within : (given : Result (Unit {0}) StreamError) → IsTagged tag IsReadingCut tail → Gives first (Err Cut) before after read given → GivesCut cs front before after read given
+  within : (given : Result (Unit {0}) StreamError) → IsTagged tag IsReadingCut t.parts.rest → Gives t.first (Err Cut) before after read given → GivesCut cs front before after read given
   within (Ok done) cut g = cc
-  within (Err Cut) cut g = (same-first read first cs more all g.0, (bytes, tail, subst (λ l. SpellsStream l bytes) (sym g.0) spelled, whole, cut))
+  within (Err Cut) cut g = (
+    same-first read t.first cs t.more t.all g.0,
+    record {
+      first = t.parts.first;
+      rest = t.parts.rest;
+      is_first = subst (λ l. SpellsStream l t.parts.first) (sym g.0) t.parts.is_first;
+      is_rest = cut;
+      whole = t.parts.whole;
+    },
+  )
   within (Err WrongTag) cut g = cc
   within (Err TooManySamples) cut g = cc
-  within (Err Io) cut g = (first-of-first read first cs more all g.0, g.1)
-  within (Err Memory) cut g = first-of-first read first cs more all g
+  within (Err Io) cut g = (first-of-first read t.first cs t.more t.all g.0, g.1)
+  within (Err Memory) cut g = first-of-first read t.first cs t.more t.all g
 
 pub gives-cut : (before after : ℕ) (cs read : List Said) → AllByRecursion ReadingFits cs → AllByRecursion ReadingFits read → (given : Result (Unit {0}) StreamError) (old : Option (List ℕ)) (front back : List ℕ)
     → SpellsStream cs (front ++ back) → old ≡ Some front → (IsErrOf given Io → Reported before after) → MayBe old (BeginsWith read (StandsBehind given)) → GivesCut cs front before after read given
 gives-cut before after cs read fit_cs fit_read given old front back p known fault may =
     let t = stream-fronts cs front back fit_cs p in
-    let known_parts : old ≡ Some (t.bytes ++ t.tail) = known ∙ ap Some t.whole in
-    elim t.left [
-      | inl none ↦ between before after cs read t.first t.more front t.bytes t.tail t.all t.spelled t.whole given none (gives-all before after t.first read t.fit fit_read (Ok tt) given old t.bytes t.tail t.spelled none known_parts fault may)
-      | inr cut ↦ within before after cs read t.first t.more front t.bytes t.tail t.all t.spelled t.whole given cut (gives-all before after t.first read t.fit fit_read (Err Cut) given old t.bytes t.tail t.spelled cut known_parts fault may)
+    let parts = t.parts in
+    let known_parts : old ≡ Some (parts.first ++ parts.rest) = known ∙ ap Some parts.whole in
+    elim parts.is_rest [
+      | inl none ↦ between before after cs read front t given none (gives-all before after t.first read t.fit fit_read (Ok tt) given old parts.first parts.rest parts.is_first none known_parts fault may)
+      | inr cut ↦ within before after cs read front t given cut (gives-all before after t.first read t.fit fit_read (Err Cut) given old parts.first parts.rest parts.is_first cut known_parts fault may)
     ]

@@ -3,6 +3,7 @@ use Rattle.std.proofs.Common.{◌≡◌, ◌≢◌, ◌∙◌, ap, subst, ℕ, i
 use Rattle.tinyvec_borsh.specs.declared.borsh_error.BorshError.{BorshError}
 use Rattle.tinyvec_borsh.specs.declared.borsh_error.BorshError.TheVariants.{Ended, InvalidLength, Io, Memory}
 use Rattle.tinyvec_borsh.specs.Number.{SpellsNumber}
+use Rattle.tinyvec_borsh.specs.Parts.{rest-so}
 use Rattle.tinyvec_borsh.specs.Reading.{Fails, MayBe, Takes}
 use Rattle.tinyvec_borsh.proofs.Counts.{never-too-long}
 use Rattle.tinyvec_borsh.proofs.ItemByItem.{maybe-any, maybe-behind, maybe-so}
@@ -17,18 +18,18 @@ use Rattle.example_records.specs.declared.stream_error.StreamError.TheVariants a
 too-many : (input : List ℕ) → IsReadingTooLong input → HasTooManySamples input
 too-many input long = elim long [
   | inl none ↦ absurd none
-  | inr s ↦ elim s.6 [
+  | inr s ↦ elim s.is_rest [
     | inl samples ↦ elim samples [
-      | inl many ↦ (s.0, s.1, s.2, s.3, s.4, s.5, many)
-      | inr item ↦ absurd item.6
+      | inl many ↦ record { content = s.content; fits = s.fits; parts = rest-so s.parts many }
+      | inr item ↦ absurd item.left
     ]
-    | inr t ↦ absurd (never-too-long _ _ t.2 t.6)
+    | inr t ↦ absurd (never-too-long _ _ t.rest t.is_rest)
   ]
 ]
 
 module _ (n : ℕ) (old mid : Option (List ℕ)) (byte : Takes (SpellsNumber 1 n) old mid) where
   pub wrong-tag : n ≢ tag → MayBe old (StandsBehind (Err stream.WrongTag))
-  wrong-tag other = behind-byte n old mid byte (λ tail. Unit {0}) (StandsBehind (Err stream.WrongTag)) (λ input tail whole so. (n, tail, other, whole)) (maybe-any mid)
+  wrong-tag other = behind-byte n old mid byte (λ tail. Unit {0}) (StandsBehind (Err stream.WrongTag)) (λ input tail whole so. record { byte = n; rest = tail; other = other; whole = whole }) (maybe-any mid)
 
   -- a record was not read
   pub record-fails : n ≡ tag → (before after : ℕ) (e : BorshError) → Fails IsReadingCut IsReadingTooLong ReadingAsks mid before after e → MayBe old (StandsBehind (Err (stream_error e)))
@@ -44,4 +45,4 @@ next-some old new next reading is given = subst (λ o. NextIs old new (Ok o)) is
 -- a record was read for which there is no memory
 pub not-kept : (reading : Reading) (old new : Option (List ℕ)) → Takes (SpellsFrame (said reading)) old new → MayBe old (StandsBehind (Err stream.Memory))
 not-kept reading old new t =
-    maybe-behind old new t.0 (λ tail. Unit {0}) (StandsBehind (Err stream.Memory)) t.2 (λ input tail whole so. (t.1.0 ++ tail, whole ∙ ap (λ l. l ++ tail) t.1.2, tt)) (maybe-any new)
+    maybe-behind old new (λ tail. Unit {0}) (StandsBehind (Err stream.Memory)) t (λ input p. (p.is_first.0 ++ p.rest, p.whole ∙ ap (λ l. l ++ p.rest) p.is_first.2, tt)) (maybe-any new)

@@ -30,12 +30,12 @@ module _ (before after : ℕ) (cs read : List Said) (fit_cs : AllByRecursion Rea
   -- of an input that is known
   gives-known : (end given : Result (Unit {0}) StreamError) (bytes tail : List ℕ) → SpellsStream cs bytes → IsEnd end tail
       → (IsErrOf given Io → Reported before after) → BeginsWith read (StandsBehind given) (bytes ++ tail) → Gives cs end before after read given
-  gives-known end (Ok done) bytes tail p is fault b = both-end end (Ok done) cs read bytes b.0 tail b.1 is b.4 fit_cs fit_read p b.2 b.3
-  gives-known end (Err Cut) bytes tail p is fault b = both-end end (Err Cut) cs read bytes b.0 tail b.1 is b.4 fit_cs fit_read p b.2 b.3
-  gives-known end (Err WrongTag) bytes tail p is fault b = both-end end (Err WrongTag) cs read bytes b.0 tail b.1 is b.4 fit_cs fit_read p b.2 b.3
-  gives-known end (Err TooManySamples) bytes tail p is fault b = both-end end (Err TooManySamples) cs read bytes b.0 tail b.1 is b.4 fit_cs fit_read p b.2 b.3
-  gives-known end (Err Io) bytes tail p is fault b = (some-first end cs read bytes b.0 tail b.1 is fit_read p b.2 b.3, fault refl)
-  gives-known end (Err Memory) bytes tail p is fault b = some-first end cs read bytes b.0 tail b.1 is fit_read p b.2 b.3
+  gives-known end (Ok done) bytes tail p is fault b = both-end end (Ok done) cs read bytes b.first tail b.rest is b.is_rest fit_cs fit_read p b.is_first b.whole
+  gives-known end (Err Cut) bytes tail p is fault b = both-end end (Err Cut) cs read bytes b.first tail b.rest is b.is_rest fit_cs fit_read p b.is_first b.whole
+  gives-known end (Err WrongTag) bytes tail p is fault b = both-end end (Err WrongTag) cs read bytes b.first tail b.rest is b.is_rest fit_cs fit_read p b.is_first b.whole
+  gives-known end (Err TooManySamples) bytes tail p is fault b = both-end end (Err TooManySamples) cs read bytes b.first tail b.rest is b.is_rest fit_cs fit_read p b.is_first b.whole
+  gives-known end (Err Io) bytes tail p is fault b = (some-first end cs read bytes b.first tail b.rest is fit_read p b.is_first b.whole, fault refl)
+  gives-known end (Err Memory) bytes tail p is fault b = some-first end cs read bytes b.first tail b.rest is fit_read p b.is_first b.whole
 
   pub gives-all : (end given : Result (Unit {0}) StreamError) (old : Option (List ℕ)) (bytes tail : List ℕ) → SpellsStream cs bytes → IsEnd end tail → old ≡ Some (bytes ++ tail)
       → (IsErrOf given Io → Reported before after) → MayBe old (BeginsWith read (StandsBehind given)) → Gives cs end before after read given

@@ -27,12 +27,19 @@ SpellsStream = SpellsItems SpellsFrame
 abbrev pub HasTooManySamples : List ℕ → Type 0
 HasTooManySamples = IsBehind (SpellsNumber 4) StationFits (HasTooMany (SpellsNumber 2) (λ n. n < 2 ^ 16) 8)
 
+-- another byte in the place of the tag
+pub record HasOtherTag (input : List ℕ) : Type 0 where
+  pub byte : ℕ
+  pub rest : List ℕ
+  pub other : byte ≢ tag
+  pub whole : input ≡ byte ∷ rest
+
 -- What is after the last record, where it is the input that ended the reading: no byte; a record that is cut after its
 -- tag; another byte in the place of the tag; a record with more samples than there is room for.
 abbrev pub IsEnd : Result (Unit {0}) StreamError → List ℕ → Type 0
 IsEnd (Ok done) tail = tail ≡ []
 IsEnd (Err Cut) tail = IsTagged tag IsReadingCut tail
-IsEnd (Err WrongTag) tail = (byte : ℕ) × (rest : List ℕ) × (byte ≢ tag) × (tail ≡ byte ∷ rest)
+IsEnd (Err WrongTag) tail = HasOtherTag tail
 IsEnd (Err TooManySamples) tail = IsTagged tag HasTooManySamples tail
 IsEnd (Err Io) tail = ⊥
 IsEnd (Err Memory) tail = ⊥
@@ -40,12 +47,9 @@ IsEnd (Err Memory) tail = ⊥
 -- What is after the last record that was read. Of a fault of the reader nothing is known, and where memory was refused
 -- there is a further tag.
 abbrev pub StandsBehind : Result (Unit {0}) StreamError → List ℕ → Type 0
-StandsBehind (Ok done) tail = IsEnd (Ok done) tail
-StandsBehind (Err Cut) tail = IsEnd (Err Cut) tail
-StandsBehind (Err WrongTag) tail = IsEnd (Err WrongTag) tail
-StandsBehind (Err TooManySamples) tail = IsEnd (Err TooManySamples) tail
 StandsBehind (Err Io) tail = Unit {0}
 StandsBehind (Err Memory) tail = IsTagged tag (λ rest. Unit {0}) tail
+StandsBehind end tail = IsEnd end tail
 
 -- The input begins with these records, and is so after them.
 abbrev pub BeginsWith : List Said → (List ℕ → Type 0) → List ℕ → Type 0
@@ -64,12 +68,9 @@ AreFirst read cs = (more : List Said) × (cs ≡ read ++ more)
 -- Just these records were read, and this end was told; or the reader reported a fault, or memory was refused, and the first
 -- ones were read.
 abbrev pub Gives : List Said → Result (Unit {0}) StreamError → (before after : ℕ) → List Said → Result (Unit {0}) StreamError → Type 0
-Gives cs end before after read (Ok done) = (read ≡ cs) × (end ≡ Ok done)
-Gives cs end before after read (Err Cut) = (read ≡ cs) × (end ≡ Err Cut)
-Gives cs end before after read (Err WrongTag) = (read ≡ cs) × (end ≡ Err WrongTag)
-Gives cs end before after read (Err TooManySamples) = (read ≡ cs) × (end ≡ Err TooManySamples)
 Gives cs end before after read (Err Io) = AreFirst read cs × Reported before after
 Gives cs end before after read (Err Memory) = AreFirst read cs
+Gives cs end before after read told = (read ≡ cs) × (end ≡ told)
 
 -- The records before the cut were read. The end is told as a clean one only where no byte is after them, and `Cut` only
 -- where a record was cut.

@@ -22,7 +22,7 @@ pub const TAG: u8 = b'R';
 /// Appends a record to the stream.
 pub fn append<W: Write>(reading: &Reading, writer: &mut Counted<W>) -> Result<(), BorshError>
     ensures ok { OnOk result (Adds (SpellsFrame (said reading.now))
-        (W.contents writer.old.end) (W.contents writer.new.end)) }
+        (W.contents writer.old.inner) (W.contents writer.new.inner)) }
     ensures fits { OnOk result (ReadingFits (said reading.now)) }
     ensures err { IfErr result (λ e. (e ≡ BorshError.Io) × Reported writer.old.faults writer.new.faults) }
     ensures grows { writer.old.faults ≤ writer.new.faults }
@@ -34,7 +34,7 @@ pub fn append<W: Write>(reading: &Reading, writer: &mut Counted<W>) -> Result<()
 /// Appends records to the stream, in order.
 pub fn append_all<W: Write>(readings: &[Reading], writer: &mut Counted<W>) -> Result<(), BorshError>
     ensures ok { OnOk result (Adds (SpellsStream (map said readings.now))
-        (W.contents writer.old.end) (W.contents writer.new.end)) }
+        (W.contents writer.old.inner) (W.contents writer.new.inner)) }
     ensures fit { OnOk result (AllByRecursion ReadingFits (map said readings.now)) }
     ensures err { IfErr result (λ e. (e ≡ BorshError.Io) × Reported writer.old.faults writer.new.faults) }
     ensures grows { writer.old.faults ≤ writer.new.faults }
@@ -71,7 +71,7 @@ pub struct Recovered {
 /// Reads the records of a stream up to its end, or up to what is no record.
 pub fn read_all<R: Read>(alloc: Global, reader: &mut Counted<R>) -> Recovered
     // What was read is at the front of the input, in order, followed by what the end says.
-    ensures stands { MayBe (R.remaining reader.old.end)
+    ensures stands { MayBe (R.remaining reader.old.inner)
         (BeginsWith (map said result.records.items) (StandsBehind result.end)) }
     ensures fit { AllByRecursion ReadingFits (map said result.records.items) }
     ensures fault { IsErrOf result.end StreamError.Io → Reported reader.old.faults reader.new.faults }
@@ -79,13 +79,13 @@ pub fn read_all<R: Read>(alloc: Global, reader: &mut Counted<R>) -> Recovered
     // The records at the front of the input are all read, and the end is described.
     ensures all { (cs : List Said) (bytes tail : List ℕ) (end : Result (Unit {0}) StreamError)
         → AllByRecursion ReadingFits cs → SpellsStream cs bytes → IsEnd end tail
-        → R.remaining reader.old.end ≡ Some (bytes ++ tail)
+        → R.remaining reader.old.inner ≡ Some (bytes ++ tail)
         → Gives cs end reader.old.faults reader.new.faults (map said result.records.items) result.end }
 
     // Of a stream that is cut after any byte, the records before the cut are read.
     ensures cut { (cs : List Said) (front back : List ℕ)
         → AllByRecursion ReadingFits cs → SpellsStream cs (front ++ back)
-        → R.remaining reader.old.end ≡ Some front
+        → R.remaining reader.old.inner ≡ Some front
         → GivesCut cs front reader.old.faults reader.new.faults (map said result.records.items) result.end }
 {
     let mut records = Vec::new(alloc);
@@ -113,7 +113,7 @@ fn read_records<R: Read>(
 ) -> Result<(), StreamError>
     ensures stands { (more : List Reading) × (records.new.items ≡ records.old.items ++ more)
         × AllByRecursion ReadingFits (map said more)
-        × MayBe (R.remaining reader.old.end) (BeginsWith (map said more) (StandsBehind result)) }
+        × MayBe (R.remaining reader.old.inner) (BeginsWith (map said more) (StandsBehind result)) }
     ensures fault { IsErrOf result StreamError.Io → Reported reader.old.faults reader.new.faults }
 {
     while let Some(reading) = read_next(alloc, reader)? {
@@ -129,7 +129,7 @@ fn read_next<R: Read>(
     alloc: Global,
     reader: &mut Counted<R>,
 ) -> Result<Option<Reading>, StreamError>
-    ensures next { NextIs (R.remaining reader.old.end) (R.remaining reader.new.end) result }
+    ensures next { NextIs (R.remaining reader.old.inner) (R.remaining reader.new.inner) result }
     ensures fault { IsErrOf result StreamError.Io → Reported reader.old.faults reader.new.faults }
     ensures grows { reader.old.faults ≤ reader.new.faults }
 {

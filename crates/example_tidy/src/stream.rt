@@ -58,37 +58,37 @@ pub fn tidy<R: Read, W: Write>(
 ) -> Result<(), TidyError>
     // All was read, and what was written is its normal form, and also its own.
     ensures ok { OnOk result ((input output : List ℕ)
-        × Consumes (R.remaining reader.old.end) (R.remaining reader.new.end) input
-        × IsAtEnd (R.remaining reader.new.end)
-        × Appends (W.contents writer.old.end) (W.contents writer.new.end) output
+        × Consumes (R.remaining reader.old.inner) (R.remaining reader.new.inner) input
+        × IsAtEnd (R.remaining reader.new.inner)
+        × Appends (W.contents writer.old.inner) (W.contents writer.new.inner) output
         × Tidied input output × Tidied output output) }
 
     // What came before the fault was read, and the normal forms of its complete lines were written.
     ensures read { (error : IoError) → IsErrOf result (TidyError.Read error) → (input output line : List ℕ)
-        × Consumes (R.remaining reader.old.end) (R.remaining reader.new.end) input
-        × Appends (W.contents writer.old.end) (W.contents writer.new.end) output
+        × Consumes (R.remaining reader.old.inner) (R.remaining reader.new.inner) input
+        × Appends (W.contents writer.old.inner) (W.contents writer.new.inner) output
         × TidiedUpTo input output line }
 
     // The normal forms of exactly the lines before the one that memory was refused for were written. That line is not
     // short, so this comes of no text whose lines are.
     ensures memory { IsErrOf result TidyError.Memory → (input output : List ℕ)
-        × Consumes (R.remaining reader.old.end) (R.remaining reader.new.end) input
-        × Appends (W.contents writer.old.end) (W.contents writer.new.end) output
+        × Consumes (R.remaining reader.old.inner) (R.remaining reader.new.inner) input
+        × Appends (W.contents writer.old.inner) (W.contents writer.new.inner) output
         × TidiedBeforeLong input output }
-    ensures short { (text : List ℕ) → R.remaining reader.old.end ≡ Some text → AllShort text
+    ensures short { (text : List ℕ) → R.remaining reader.old.inner ≡ Some text → AllShort text
         → IsErrOf result TidyError.Memory → ⊥ }
 
     // What was written is a beginning of what was to be written.
     ensures write { (error : IoError) → IsErrOf result (TidyError.Write error) → (input output : List ℕ)
-        × Consumes (R.remaining reader.old.end) (R.remaining reader.new.end) input
-        × Appends (W.contents writer.old.end) (W.contents writer.new.end) output
+        × Consumes (R.remaining reader.old.inner) (R.remaining reader.new.inner) input
+        × Appends (W.contents writer.old.inner) (W.contents writer.new.inner) output
         × IsBegun input output }
 
     // So long an input is not read on.
     ensures too_long { IsErrOf result TidyError.TooLong → (input output line : List ℕ)
-        × Consumes (R.remaining reader.old.end) (R.remaining reader.new.end) input
+        × Consumes (R.remaining reader.old.inner) (R.remaining reader.new.inner) input
         × (2 ^ 64 - 1 ≤ length input)
-        × Appends (W.contents writer.old.end) (W.contents writer.new.end) output
+        × Appends (W.contents writer.old.inner) (W.contents writer.new.inner) output
         × TidiedUpTo input output line }
     ensures read_fault { (error : IoError) → IsErrOf result (TidyError.Read error) → Reported reader.old.faults reader.new.faults }
     ensures write_fault { (error : IoError) → IsErrOf result (TidyError.Write error) → Reported writer.old.faults writer.new.faults }
@@ -115,14 +115,14 @@ fn tidy_chunk<W: Write>(
     bytes: &[u8],
     writer: &mut Counted<W>,
 ) -> Result<(), TidyError>
-    ensures ok { OnOk result ((said : List ℕ) × Appends (W.contents writer.old.end) (W.contents writer.new.end) said
+    ensures ok { OnOk result ((said : List ℕ) × Appends (W.contents writer.old.inner) (W.contents writer.new.inner) said
         × Advances (tiny_items line.old) bytes.now said (tiny_items line.new)) }
     ensures memory { IsErrOf result TidyError.Memory → 80 ≤ tiny_capacity 80 line.old → length bytes.now ≤ CHUNK
-        → (said : List ℕ) × Appends (W.contents writer.old.end) (W.contents writer.new.end) said
+        → (said : List ℕ) × Appends (W.contents writer.old.inner) (W.contents writer.new.inner) said
         × EndsBeforeLong (tiny_items line.old) bytes.now said }
     ensures line_room { tiny_capacity 80 line.old ≤ tiny_capacity 80 line.new }
     ensures write { (error : IoError) → IsErrOf result (TidyError.Write error) → (said missing : List ℕ)
-        × Appends (W.contents writer.old.end) (W.contents writer.new.end) said
+        × Appends (W.contents writer.old.inner) (W.contents writer.new.inner) said
         × EndsSome (tiny_items line.old) bytes.now (said ++ missing) }
     ensures no_read { (error : IoError) → IsErrOf result (TidyError.Read error) → ⊥ }
     ensures not_long { IsErrOf result TidyError.TooLong → ⊥ }
@@ -147,13 +147,13 @@ fn tidy_chunk<W: Write>(
 
 // Ends the last line, if it has bytes.
 fn finish<W: Write>(alloc: Global, line: &[u8], writer: &mut Counted<W>) -> Result<(), TidyError>
-    ensures ok { OnOk result ((said : List ℕ) × Appends (W.contents writer.old.end) (W.contents writer.new.end) said
+    ensures ok { OnOk result ((said : List ℕ) × Appends (W.contents writer.old.inner) (W.contents writer.new.inner) said
         × Ends line.now said) }
     ensures memory { IsErrOf result TidyError.Memory
-        → Keeps (W.contents writer.old.end) (W.contents writer.new.end) }
+        → Keeps (W.contents writer.old.inner) (W.contents writer.new.inner) }
     ensures long { IsErrOf result TidyError.Memory → IsShort line.now → ⊥ }
     ensures write { (error : IoError) → IsErrOf result (TidyError.Write error) → (said missing : List ℕ)
-        × Appends (W.contents writer.old.end) (W.contents writer.new.end) said
+        × Appends (W.contents writer.old.inner) (W.contents writer.new.inner) said
         × Ends line.now (said ++ missing) }
     ensures no_read { (error : IoError) → IsErrOf result (TidyError.Read error) → ⊥ }
     ensures not_long { IsErrOf result TidyError.TooLong → ⊥ }

@@ -1,13 +1,15 @@
 -- What calls of `next` and `next_back` give, for a drain, and what the vector is once it ended.
-use Rattle.std.proofs.Common.{◌≡◌, ℕ, Option, refl, ◌∙◌}
+use Rattle.std.proofs.Common.{◌≡◌, ℕ, ◌+◌, List, length, take, Option, refl, ap, ◌∙◌}
+use Rattle.std.specs.List.{remove_range}
 use Rattle.std.specs.Iterator.{SkipsThenYields}
 use Rattle.std.specs.Iterator.Runs.{YieldsInOrder, YieldsInReverse}
 use Rattle.tinyvec_slots.proofs.DrainsLemmas.{runs_in_order, runs_in_reverse, step_keeps, step_back_keeps, nth_keeps, nth_back_keeps, takes_any_word}
-use Rattle.tinyvec.specs.TinyVec.{tiny_items, is_inline, tiny_capacity, TinySlotRule, SameFrame}
-use Rattle.tinyvec.specs.Drain.{drain_items, drain_vec, drain_kept, DrainSteps, DrainStepsBack, DrainKeeps, DrainLeaves, DrainsFromEnds}
+use Rattle.tinyvec.specs.TinyVec.{tiny_items, tiny_len, is_inline, tiny_capacity, TinySlotRule, SameFrame, StaysInPlace}
+use Rattle.tinyvec.specs.Lends.{tiny_with_items}
+use Rattle.tinyvec.specs.Drain.{drain_items, drain_vec, drain_kept, Drained, DrainSteps, DrainStepsBack, DrainKeeps, DrainLeaves, DrainsFromEnds}
 use Rattle.tinyvec.specs.declared.tiny_vec.TinyVec.{TinyVec}
 use Rattle.tinyvec.specs.declared.drain.TinyVecDrain.{TinyVecDrain}
-use Rattle.tinyvec.proofs.TinyLemmas.{SameFrame-refl, SameFrame-then, tiny_slots_framed}
+use Rattle.tinyvec.proofs.TinyLemmas.{SameFrame-refl, SameFrame-then, tiny_items-with, tiny_framed-with, tiny_slots_framed, capacity_stays}
 
 module _ {A T : Type 0} where
   pub drain_runs : YieldsInOrder (DrainSteps {A = A} {T = T}) drain_items
@@ -17,10 +19,15 @@ module _ {A T : Type 0} where
   drain_runs_back = runs_in_reverse drain_items DrainKeeps
 
   pub DrainKeeps-refl : (d : TinyVecDrain A T) → DrainKeeps d d
-  DrainKeeps-refl d = (refl, refl, SameFrame-refl (drain_vec d), λ h. h)
+  DrainKeeps-refl d = record { same_reference = refl; kept = refl; frame = SameFrame-refl (drain_vec d); ready = λ can. can }
 
   pub DrainKeeps-then : (d e f : TinyVecDrain A T) → DrainKeeps d e → DrainKeeps e f → DrainKeeps d f
-  DrainKeeps-then d e f h k = (k.0 ∙ h.0, k.1 ∙ h.1, SameFrame-then (drain_vec d) (drain_vec e) (drain_vec f) h.2 k.2, λ t. k.3 (h.3 t))
+  DrainKeeps-then d e f h k = record {
+    same_reference = k.same_reference ∙ h.same_reference;
+    kept = k.kept ∙ h.kept;
+    frame = SameFrame-then (drain_vec d) (drain_vec e) (drain_vec f) h.frame k.frame;
+    ready = λ can. k.ready (h.ready can);
+  }
 
   pub DrainSteps-keeps : (d : TinyVecDrain A T) (r : Option T) (e : TinyVecDrain A T) → DrainSteps d r e → DrainKeeps d e
   DrainSteps-keeps = step_keeps drain_items DrainKeeps DrainKeeps-refl DrainKeeps-then
@@ -37,12 +44,29 @@ module _ {A T : Type 0} where
   pub drains_from_ends : (d : TinyVecDrain A T) → DrainsFromEnds d
   drains_from_ends = takes_any_word drain_items DrainKeeps DrainKeeps-refl DrainKeeps-then
 
+  -- what d leaves once its gap was closed: xs were the items, then ws, and the first `kept` of those stayed
+  pub drain_left : (D : T → Type 0) (slots : ℕ) (d : TinyVecDrain A T) (xs ws : List T) (kept : ℕ) (new : TinyVec A T)
+      → xs ≡ tiny_items (drain_vec d) → length ws ≡ length xs → take kept ws ≡ remove_range xs d.start (d.start + d.gap)
+      → tiny_items new ≡ take kept (tiny_items (tiny_with_items (drain_vec d) ws))
+      → StaysInPlace D slots (tiny_with_items (drain_vec d) ws) new → DrainLeaves D d new
+  drain_left D slots d xs ws kept new same long is cut stays =
+      let mid = tiny_with_items (drain_vec d) ws in
+      let all = long ∙ ap length same in
+      let frame = tiny_framed-with (drain_vec d) ws all in record {
+        items = cut ∙ ap (take kept) (tiny_items-with (drain_vec d) ws all) ∙ is ∙ ap (λ l. remove_range l d.start (d.start + d.gap)) same;
+        place = stays.place ∙ frame.place;
+        slot_rule = tiny_slots_framed D (drain_vec d) mid new frame stays.slot_rule;
+        capacity = λ n. capacity_stays slots mid new stays.place stays.capacity n ∙ frame.capacity n;
+      }
+
   -- What a vector is once a drain of it ended. The premises are what `drain` ensures of `first`, what calls keep up to
   -- `last`, and what the end of `last` leaves.
   pub tiny_drained : (D : T → Type 0) (old : TinyVec A T) (first last : TinyVecDrain A T) (new : TinyVec A T)
-      → SameFrame old (drain_vec first) → DrainKeeps first last → DrainLeaves D last new
-      → (tiny_items new ≡ drain_kept first) × (is_inline new ≡ is_inline old) × TinySlotRule D old new
-      × ((slots : ℕ) → tiny_capacity slots new ≡ tiny_capacity slots old)
+      → SameFrame old (drain_vec first) → DrainKeeps first last → DrainLeaves D last new → Drained D (drain_kept first) old new
   tiny_drained D old first last new frame kept left =
-      let all = SameFrame-then old (drain_vec first) (drain_vec last) frame kept.2 in
-      (left.0 ∙ kept.1, left.1 ∙ all.2, tiny_slots_framed D old (drain_vec last) new all left.2, λ slots. left.3 slots ∙ all.3 slots)
+      let all = SameFrame-then old (drain_vec first) (drain_vec last) frame kept.frame in record {
+        items = left.items ∙ kept.kept;
+        place = left.place ∙ all.place;
+        slot_rule = tiny_slots_framed D old (drain_vec last) new all left.slot_rule;
+        capacity = λ slots. left.capacity slots ∙ all.capacity slots;
+      }

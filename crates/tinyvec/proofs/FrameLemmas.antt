@@ -3,13 +3,13 @@ use Rattle.std.proofs.Common.{◌≡◌, ℕ, ◌≤◌, ◌+◌, ◌*◌, max, 
 use Rattle.std.specs.Prelude.{OnOk, IsErr}
 use Rattle.std.proofs.lemmas.Bool.{false≢true}
 use Rattle.tinyvec_slots.specs.Slots.{Slots, SlotRule, items_len}
-use Rattle.tinyvec.specs.TinyVec.{tiny_len, tiny_capacity, IsInline, PlaceRule, TinySlotRule, StaysInPlace}
+use Rattle.tinyvec.specs.TinyVec.{tiny_len, is_inline, tiny_capacity, IsInline, PlaceRule, TinySlotRule, StaysInPlace}
 use Rattle.tinyvec.specs.Room.{Doubles, GrowsFor, Grows, Reserves, RoomGrows}
 use Rattle.tinyvec.proofs.TinyLemmas.{tiny_slots_then, never_ok}
 use Rattle.tinyvec.specs.declared.tiny_vec.TinyVec.{TinyVec}
 use Rattle.tinyvec.specs.declared.tiny_vec.TinyVec.TheVariants.{Inline, Heap}
 
-on_ok : {X E P : Type 0} (r : Result X E) → P → OnOk r P
+pub on_ok : {X E P : Type 0} (r : Result X E) → P → OnOk r P
 on_ok (Ok x) p = p
 on_ok (Err e) p = tt
 
@@ -54,6 +54,16 @@ module _ {A T : Type 0} (D : T → Type 0) (slots : ℕ) where
     grown = λ _. let doubled = room.grown (omega arith) in omega (arith, doubled, full, one);
     fits = room.fits;
   }
+
+  same_place : (need : ℕ) (v w : TinyVec A T) → need ≤ tiny_capacity slots v → PlaceRule slots need v w → is_inline w ≡ is_inline v
+  same_place need (Inline v a) (Inline w b) le rule = refl
+  same_place need (Inline v a) (Heap w) le rule = absurd (false≢true (rule.1 (refl, le)))
+  same_place need (Heap v) (Inline w b) le rule = absurd (false≢true (rule.0 refl).0)
+  same_place need (Heap v) (Heap w) le rule = refl
+
+  -- a list that grew, and fits the room that it had
+  pub grows_in_room : (v w : TinyVec A T) → tiny_len w ≤ tiny_capacity slots v → Grows D slots v w → StaysInPlace D slots v w
+  grows_in_room v w le h = record { place = same_place (tiny_len w) v w le h.place; slot_rule = h.slot_rule; capacity = h.same_room le; fits = h.fits }
 
 module _ {A T X E : Type 0} (slots need : ℕ) (old new : TinyVec A T) (r : Result X E) where
   -- there was room

@@ -38,19 +38,19 @@ module _ {A T : Type 0} (D I : T → Type 0) (C : T → T → Type 0) (source : 
   -- the refused clone is one of the first
   pub partly_over : (j : ℕ) → j ≤ m → RefusedAt I source j → ClonesOver C (take j source) j (take m (tiny_items old)) (tiny_items new)
       → (IsInline new → Behind D old new m (tiny_spare old)) → InPart
-  partly_over j le refused made spares =
+  partly_over j le refused over spares =
       let sum : j + 0 ≡ j = omega arith in
       let none : m + 0 - m ≡ 0 = omega arith in
       let nothing : slice_range source m (m + 0) ≡ [] = ap (λ n. take n (drop m source)) none in
       record {
         k = j;
         j = 0;
-        made = made.0;
+        made = over.made;
         within = le;
         in_order = λ h. absurd (omega (arith, h));
         refused_at = rw sum refused;
-        clones = made.1;
-        listed = made.3 ∙ ap (λ l. made.0 ++ l) (drop_within (tiny_items old) j m le);
+        clones = over.clones;
+        listed = over.written ∙ ap (λ l. over.made ++ l) (drop_within (tiny_items old) j m le);
         left = λ i.
             let h = spares i in
             (h.0, h.1, [], rw nothing tt, rw (append-nil h.0) h.2);
@@ -74,8 +74,8 @@ module _ {A T : Type 0} (D I : T → Type 0) (C : T → T → Type 0) (source : 
         clones = clones;
         listed = sym (ap (λ l. tiny_items new ++ l) nothing ∙ append-nil (tiny_items new));
         left = λ i.
-            let h = spares i in
-            ([], (freed, All-nil D), h.0, rw more h.1, h.3);
+            let over = spares i in
+            ([], (freed, All-nil D), over.made, rw more over.clones, over.written);
       }
 
 module _ {A T : Type 0} (D : T → Type 0) where
@@ -87,11 +87,11 @@ module _ {A T : Type 0} (D : T → Type 0) where
       let no_more : items_len w - items_len v ≡ 0 = omega arith in (
         rule.0,
         (rule.1.0 ∙ ap (λ n. items_len v - n) long, rule.1.1),
-        frame.1 ∙ rule.2 ∙ ap (λ n. rule.0 ++ drop n (spare v)) no_more,
+        frame.spare ∙ rule.2 ∙ ap (λ n. rule.0 ++ drop n (spare v)) no_more,
       )
   cut_freed (Inline v a) (Heap w) new m frame same rule cut le i = search rules
   cut_freed (Heap v) (Inline w b) new m frame same rule cut le i = search rules
-  cut_freed (Heap v) (Heap w) new m frame same rule cut le i = absurd (let no : false ≡ true = subst IsTrue frame.2 i in cc)
+  cut_freed (Heap v) (Heap w) new m frame same rule cut le i = absurd (let no : false ≡ true = subst IsTrue frame.place i in cc)
 
   -- a list that is as long vacated none
   pub none_freed : (old new : TinyVec A T) (m : ℕ) → m ≡ tiny_len old → tiny_spare new ≡ tiny_spare old → Behind D old new m (tiny_spare old)

@@ -1,12 +1,27 @@
--- Lemmas on a list that was granted room for n more items, and had a range replaced then.
-use Rattle.std.proofs.Common.{◌≡◌, ◌∙◌, ℕ, ◌+◌, ◌-◌, ◌<◌, ◌≤◌, List, ◌++◌, take, drop, length, length-append, length-drop, length-take-le, Result, inl, inr, sym, ap, subst, refl, arith}
+-- Lemmas on a range that was replaced: where there is room, and of a list that was granted room for n more items first.
+use Rattle.std.proofs.Common.{◌≡◌, ◌∙◌, ℕ, ◌+◌, ◌-◌, ◌*◌, ◌<◌, ◌≤◌, max, List, ◌++◌, take, drop, length, length-append, length-drop, length-take-le, Result, Ok, inl, inr, sym, ap, subst, refl, arith}
 use Rattle.std.proofs.lemmas.Bool.{cases_lt}
 use Rattle.tinyvec_slots.specs.Replacing.{PutsBetween}
-use Rattle.tinyvec.specs.TinyVec.{tiny_items, tiny_len, tiny_capacity, IsInline, PlaceRule, TinySlotRule}
-use Rattle.tinyvec.specs.Room.{GrowsFor, KeepsRoom}
+use Rattle.tinyvec.specs.TinyVec.{tiny_items, tiny_len, is_inline, tiny_capacity, IsInline, PlaceRule, TinySlotRule, StaysInPlace}
+use Rattle.tinyvec.specs.Room.{GrowsFor, RoomGrows, Reserves}
 use Rattle.tinyvec.specs.declared.tiny_vec.TinyVec.{TinyVec}
 use Rattle.tinyvec.specs.declared.tiny_vec.TinyVec.TheVariants.{Inline, Heap}
 use Rattle.tinyvec.proofs.TinyLemmas.{capacity_inline}
+use Rattle.tinyvec.proofs.FrameLemmas.{on_ok}
+
+-- a list with a range of it replaced
+pub record Replaced {T : Type 0} (start end : ℕ) (put old new : List T) : Type 0 where
+  pub items : new ≡ take start old ++ put ++ drop end old
+  pub len : length new ≡ length old - (end - start) + length put
+
+pub replaced : {T X E : Type 0} (room start end : ℕ) (put old new : List T) (result : Result X E) → start ≤ end → end ≤ length old
+    → length old - (end - start) + length put ≤ room → PutsBetween room (take start old) put (drop end old) result new → Replaced start end put old new
+replaced room start end put old new result le inside fits puts =
+    let ahead = length-take-le start old (omega (arith, le, inside)) in
+    let behind = length-drop end old in
+    let list = (puts.1 (omega (arith, ahead, behind, le, inside, fits))).1 in
+    let sum = ap length list ∙ length-append (take start old ++ put) (drop end old) in
+    record { items = list; len = omega (arith, sum, length-append (take start old) put, ahead, behind, le, inside) }
 
 module _ {A T : Type 0} (slots n : ℕ) (old mid new : TinyVec A T) (fits : tiny_len old ≤ tiny_capacity slots old)
     (long : tiny_len new ≤ tiny_len old + n) (exact : 0 < n → tiny_len new ≡ tiny_len old + n) where
@@ -18,22 +33,21 @@ module _ {A T : Type 0} (slots n : ℕ) (old mid new : TinyVec A T) (fits : tiny
         | inr none ↦ omega (arith, none, few)
       ]
 
-  pub replaced_place : PlaceRule slots (tiny_len old + n) old mid → PlaceRule slots (tiny_len new) mid new → PlaceRule slots (tiny_len new) old new
-  replaced_place first second = (
-    (λ i. let m = second.0 i in let o = first.0 m.0 in (o.0, m.1)),
-    λ h. let capacity = capacity_inline slots old h.0 in second.1 (first.1 (h.0, as_many slots (omega (arith, fits, capacity)) h.1), h.1),
+  pub replaced_place : PlaceRule slots (tiny_len old + n) old mid → is_inline new ≡ is_inline mid → PlaceRule slots (tiny_len new) old new
+  replaced_place first same = (
+    (λ i. let both = first.0 (sym same ∙ i) in (both.0, omega (arith, long, both.1))),
+    λ h. same ∙ first.1 (h.0, as_many slots (omega (arith, fits, capacity_inline slots old h.0)) h.1),
   )
 
-  pub replaced_same : (tiny_len old + n ≤ tiny_capacity slots old → mid ≡ old) → KeepsRoom slots (tiny_len new) mid new → KeepsRoom slots (tiny_len new) old new
-  replaced_same kept same le = subst (λ v. KeepsRoom slots (tiny_len new) v new) (kept (as_many (tiny_capacity slots old) fits le)) same le
-
-  pub replaced_grown : GrowsFor slots (tiny_len old + n) old mid → tiny_len old + n ≤ tiny_capacity slots mid
-      → KeepsRoom slots (tiny_len new) mid new → GrowsFor slots (tiny_len new) old new
-  replaced_grown grown room same less =
-      elim (cases_lt 0 n) [
-        | inl more ↦ same (omega (arith, long, room)) ∙ subst (λ k. GrowsFor slots k old mid) (sym (exact more)) grown less
-        | inr none ↦ absurd (omega (arith, none, less, long, fits))
-      ]
+  pub replaced_room : {X E Y F : Type 0} (D : T → Type 0) (r : Result X E) (y : Y)
+      → Reserves {E = F} D slots n (max (2 * tiny_capacity slots old) (tiny_len old + n)) old mid (Ok y) → StaysInPlace D slots mid new
+      → RoomGrows GrowsFor slots (tiny_len new) old new r
+  replaced_room D r y made stays = record {
+    capacity = omega (arith, made.capacity, stays.capacity);
+    same_room = λ le. stays.capacity ∙ ap (tiny_capacity slots) (made.kept (as_many (tiny_capacity slots old) fits le));
+    grown = on_ok r (λ less. stays.capacity ∙ subst (λ k. GrowsFor slots k old mid) (sym (exact (omega (arith, less, long, fits)))) made.grown less);
+    fits = stays.fits;
+  }
 
 pub replaced_slots : {A T : Type 0} (D : T → Type 0) (old mid new : TinyVec A T) → (IsInline mid → mid ≡ old) → (IsInline new → IsInline mid)
     → TinySlotRule D mid new → TinySlotRule D old new
@@ -41,34 +55,3 @@ replaced_slots D (Inline v a) (Inline m b) (Inline w d) stays still rule = subst
 replaced_slots D (Inline v a) (Heap m) (Inline w d) stays still rule = absurd (let no = still refl in cc)
 replaced_slots D (Inline v a) mid (Heap w) stays still rule = tt
 replaced_slots D (Heap v) mid new stays still rule = tt
-
--- a list that got room first, with a range of it replaced, and what is known of its place and its room
-pub record Replaced {A T : Type 0} (slots : ℕ) (old new : TinyVec A T) (list : List T) : Type 0 where
-  pub items : tiny_items new ≡ list
-  pub place : PlaceRule slots (tiny_len new) old new
-  pub grown : GrowsFor slots (tiny_len new) old new
-  pub same_room : KeepsRoom slots (tiny_len new) old new
-
-pub replaced : {A T X E : Type 0} (slots n start end : ℕ) (old mid new : TinyVec A T) (items : List T) (result : Result X E)
-    → tiny_len old ≤ tiny_capacity slots old → start ≤ end → end ≤ tiny_len old → n ≡ length items - (end - start)
-    → tiny_items mid ≡ tiny_items old → (tiny_len old + n ≤ tiny_capacity slots old → mid ≡ old) → PlaceRule slots (tiny_len old + n) old mid
-    → GrowsFor slots (tiny_len old + n) old mid → tiny_len old + n ≤ tiny_capacity slots mid
-    → PutsBetween (tiny_capacity slots mid) (take start (tiny_items mid)) items (drop end (tiny_items mid)) result (tiny_items new)
-    → PlaceRule slots (tiny_len new) mid new → KeepsRoom slots (tiny_len new) mid new
-    → Replaced slots old new (take start (tiny_items old) ++ items ++ drop end (tiny_items old))
-replaced slots n start end old mid new items result fits le inside count same kept place grown room puts second keeps =
-    let xs = tiny_items old in
-    let one = length-take-le start xs (omega (arith, le, inside)) in
-    let two = length-drop end xs in
-    let put = subst (λ l. PutsBetween (tiny_capacity slots mid) (take start l) items (drop end l) result (tiny_items new)) same puts in
-    let list : tiny_items new ≡ take start xs ++ items ++ drop end xs = (put.1 (omega (arith, one, two, le, inside, count, room))).1 in
-    let sum = ap length list ∙ length-append (take start xs ++ items) (drop end xs) in
-    let front = length-append (take start xs) items in
-    let long : tiny_len new ≤ tiny_len old + n = omega (arith, sum, front, one, two, le, inside, count) in
-    let exact : 0 < n → tiny_len new ≡ tiny_len old + n = λ more. omega (arith, sum, front, one, two, le, inside, count, more) in
-    record {
-      items = list;
-      place = replaced_place slots n old mid new fits long exact place second;
-      grown = replaced_grown slots n old mid new fits long exact grown room keeps;
-      same_room = replaced_same slots n old mid new fits long exact kept keeps;
-    }

@@ -10,11 +10,15 @@ use Rattle.tinyvec.specs.FrameLaws.{SameFrame-refl, SameFrame-then}
 use Rattle.tinyvec.specs.declared.splice.TinyVecSplice.{TinyVecSplice}
 
 module _ {A I T : Type 0} where
-  keeps_same : (s : TinyVecSplice A (Fuse I) T) → SpliceKeeps s s
-  keeps_same s = (refl, SameFrame-refl (splice_vec s), λ ready. ready)
+  pub keeps_same : (s : TinyVecSplice A (Fuse I) T) → SpliceKeeps s s
+  keeps_same s = record { same_reference = refl; frame = SameFrame-refl (splice_vec s); ready = λ can. can }
 
-  keeps_then : (s mid t : TinyVecSplice A (Fuse I) T) → SpliceKeeps s mid → SpliceKeeps mid t → SpliceKeeps s t
-  keeps_then s mid t h k = (k.0 ∙ h.0, SameFrame-then (splice_vec s) (splice_vec mid) (splice_vec t) h.1 k.1, λ ready. k.2 (h.2 ready))
+  pub keeps_then : (s mid t : TinyVecSplice A (Fuse I) T) → SpliceKeeps s mid → SpliceKeeps mid t → SpliceKeeps s t
+  keeps_then s mid t h k = record {
+    same_reference = k.same_reference ∙ h.same_reference;
+    frame = SameFrame-then (splice_vec s) (splice_vec mid) (splice_vec t) h.frame k.frame;
+    ready = λ can. k.ready (h.ready can);
+  }
 
   -- what its calls placed, of a replacement of which `rest` shows what it gives
   pub Asks-splices : (rest : Fuse I → List T) (gives gives_back : Fuse I → Option T → Fuse I → Type 0) → HasTwoEnds gives gives_back rest

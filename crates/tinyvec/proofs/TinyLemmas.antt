@@ -17,6 +17,14 @@ pub capacity_inline : {A T : Type 0} (slots : ℕ) (v : TinyVec A T) → IsInlin
 capacity_inline slots (Inline v alloc) is = refl
 capacity_inline slots (Heap v) is = absurd (let no = is in cc)
 
+-- a list that stayed in its place with its capacity, for any number of slots
+pub capacity_stays : {A T : Type 0} (n : ℕ) (old new : TinyVec A T) → is_inline new ≡ is_inline old → tiny_capacity n new ≡ tiny_capacity n old
+    → (slots : ℕ) → tiny_capacity slots new ≡ tiny_capacity slots old
+capacity_stays n (Inline v a) (Inline w b) place same slots = refl
+capacity_stays n (Inline v a) (Heap w) place same slots = absurd (let no = place in cc)
+capacity_stays n (Heap v) (Inline w b) place same slots = absurd (let no = place in cc)
+capacity_stays n (Heap v) (Heap w) place same slots = same
+
 module _ {A T : Type 0} where
   -- a write of one item writes that item
   pub tiny_items-with_item : (v : TinyVec A T) (i : ℕ) (x : T) → i < tiny_len v → tiny_items (tiny_with_item v i x) ≡ slice_set (tiny_items v) i x
@@ -25,8 +33,13 @@ module _ {A T : Type 0} where
 
   -- and leaves spare slots, place and room
   pub tiny_framed-with_item : (v : TinyVec A T) (i : ℕ) (x : T) → i < tiny_len v → SameFrame v (tiny_with_item v i x)
-  tiny_framed-with_item (Inline v alloc) i x h = (ap length (items-with_slot v i x h) ∙ length-set (items v) i x, spare-with_slot v i x h, refl, λ n. refl)
-  tiny_framed-with_item (Heap v) i x h = (length-set v.items i x, refl, refl, λ n. refl)
+  tiny_framed-with_item (Inline v alloc) i x h = record {
+    len = ap length (items-with_slot v i x h) ∙ length-set (items v) i x;
+    spare = spare-with_slot v i x h;
+    place = refl;
+    capacity = λ slots. refl;
+  }
+  tiny_framed-with_item (Heap v) i x h = record { len = length-set v.items i x; spare = refl; place = refl; capacity = λ slots. refl }
 
 -- the slot rule of a call that pushed, inserted or removed one item
 module _ {T : Type 0} (D : T → Type 0) (old new : Slots T) where

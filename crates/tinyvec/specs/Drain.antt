@@ -1,6 +1,7 @@
 -- What a contract sees of a `TinyVecDrain`.
-use Rattle.std.specs.Prelude.{◌≡◌, ℕ, ◌-◌, ◌≤◌, List, take, slice_range, Option}
+use Rattle.std.specs.Prelude.{◌≡◌, ℕ, ◌+◌, ◌-◌, ◌≤◌, List, slice_range, Option}
 use Rattle.std.specs.Borrow.{GName}
+use Rattle.std.specs.List.{remove_range}
 use Rattle.tinyvec_slots.specs.AnyDrain.{Steps, StepsBack, TakesAnyWord}
 use Rattle.tinyvec.specs.TinyVec.{tiny_items, tiny_len, is_inline, tiny_capacity, TinySlotRule, SameFrame}
 use Rattle.tinyvec.specs.declared.tiny_vec.TinyVec.{TinyVec}
@@ -17,7 +18,7 @@ module _ {A T : Type 0} where
 
   -- the list of the vector once d is dropped
   abbrev pub drain_kept : TinyVecDrain A T → List T
-  drain_kept d = take d.keep (tiny_items d.vec.now)
+  drain_kept d = remove_range (tiny_items d.vec.now) d.start (d.start + d.gap)
 
   -- the vector while it is drained
   abbrev pub drain_vec : TinyVecDrain A T → TinyVec A T
@@ -27,19 +28,27 @@ module _ {A T : Type 0} where
   abbrev pub drain_owner : TinyVecDrain A T → GName
   drain_owner d = d.vec.ghost_name
 
-  -- the remaining items are in the list, after those that stay
+  -- the remaining items are in the range, and the range is in the list
   abbrev pub DrainCanStep : TinyVecDrain A T → Type 0
-  DrainCanStep d = (d.keep ≤ d.front) × (d.back ≤ tiny_len d.vec.now)
+  DrainCanStep d = (d.start ≤ d.front) × (d.back ≤ d.start + d.gap) × (d.start + d.gap ≤ tiny_len d.vec.now)
 
-  -- what d leaves when it is dropped: the items that stay, in their place, with the same capacity, by the slot rule
+  -- a drain of `old` left `new`: the items that stay, in their place, with the same capacity, by the slot rule
+  pub record Drained (D : T → Type 0) (kept : List T) (old new : TinyVec A T) : Type 0 where
+    pub items : tiny_items new ≡ kept
+    pub place : is_inline new ≡ is_inline old
+    pub slot_rule : TinySlotRule D old new
+    pub capacity : (slots : ℕ) → tiny_capacity slots new ≡ tiny_capacity slots old
+
+  -- what d leaves when it is dropped
   abbrev pub DrainLeaves : (T → Type 0) → TinyVecDrain A T → TinyVec A T → Type 0
-  DrainLeaves D d v = (tiny_items v ≡ drain_kept d) × (is_inline v ≡ is_inline (drain_vec d))
-      × TinySlotRule D (drain_vec d) v × ((slots : ℕ) → tiny_capacity slots v ≡ tiny_capacity slots (drain_vec d))
+  DrainLeaves D d = Drained D (drain_kept d) (drain_vec d)
 
   -- old and new borrow the same vector, and leave it the same
-  abbrev pub DrainKeeps : TinyVecDrain A T → TinyVecDrain A T → Type 0
-  DrainKeeps old new = (drain_owner new ≡ drain_owner old) × (drain_kept new ≡ drain_kept old)
-      × SameFrame (drain_vec old) (drain_vec new) × (DrainCanStep old → DrainCanStep new)
+  pub record DrainKeeps (old new : TinyVecDrain A T) : Type 0 where
+    pub same_reference : drain_owner new ≡ drain_owner old
+    pub kept : drain_kept new ≡ drain_kept old
+    pub frame : SameFrame (drain_vec old) (drain_vec new)
+    pub ready : DrainCanStep old → DrainCanStep new
 
   -- `next` took old to new, and returned the first item
   abbrev pub DrainSteps : TinyVecDrain A T → Option T → TinyVecDrain A T → Type 0

@@ -8,10 +8,15 @@ use Rattle.tinyvec.specs.declared.tiny_vec.TinyVec.TheVariants.{Inline, Heap}
 
 module _ {A T : Type 0} where
   pub SameFrame-refl : (v : TinyVec A T) → SameFrame v v
-  SameFrame-refl v = (refl, refl, refl, λ n. refl)
+  SameFrame-refl v = record { len = refl; spare = refl; place = refl; capacity = λ slots. refl }
 
   pub SameFrame-then : (u v w : TinyVec A T) → SameFrame u v → SameFrame v w → SameFrame u w
-  SameFrame-then u v w h k = (k.0 ∙ h.0, k.1 ∙ h.1, k.2 ∙ h.2, λ n. k.3 n ∙ h.3 n)
+  SameFrame-then u v w h k = record {
+    len = k.len ∙ h.len;
+    spare = k.spare ∙ h.spare;
+    place = k.place ∙ h.place;
+    capacity = λ slots. k.capacity slots ∙ h.capacity slots;
+  }
 
   -- a write through the slice of the items, which keeps its length, leaves what the slice shows
   pub tiny_items-with : (v : TinyVec A T) (ws : List T) → length ws ≡ tiny_len v → tiny_items (tiny_with_items v ws) ≡ ws
@@ -20,21 +25,26 @@ module _ {A T : Type 0} where
 
   -- and leaves spare slots, place and room
   pub tiny_framed-with : (v : TinyVec A T) (ws : List T) → length ws ≡ tiny_len v → SameFrame v (tiny_with_items v ws)
-  tiny_framed-with (Inline v alloc) ws e = (ap length (items-with_items v ws e) ∙ e, spare-with_items v ws e, refl, λ n. refl)
-  tiny_framed-with (Heap v) ws e = (ap length (tiny_items-with (Heap v) ws e) ∙ e, refl, refl, λ n. refl)
+  tiny_framed-with (Inline v alloc) ws e = record {
+    len = ap length (items-with_items v ws e) ∙ e;
+    spare = spare-with_items v ws e;
+    place = refl;
+    capacity = λ slots. refl;
+  }
+  tiny_framed-with (Heap v) ws e = record { len = ap length (tiny_items-with (Heap v) ws e) ∙ e; spare = refl; place = refl; capacity = λ slots. refl }
 
   module _ (D : T → Type 0) where
     -- the slot rule reads no more of the old vector than its frame
     pub tiny_slots_framed : (old mid new : TinyVec A T) → SameFrame old mid → TinySlotRule D mid new → TinySlotRule D old new
-    tiny_slots_framed (Inline v a) (Inline m b) (Inline n d) frame h = rw (sym frame.0, sym frame.1) h
-    tiny_slots_framed (Inline v a) (Heap m) (Inline n d) frame h = absurd (let no = frame.2 in cc)
+    tiny_slots_framed (Inline v a) (Inline m b) (Inline n d) frame h = rw (sym frame.len, sym frame.spare) h
+    tiny_slots_framed (Inline v a) (Heap m) (Inline n d) frame h = absurd (let no = frame.place in cc)
     tiny_slots_framed (Inline v a) mid (Heap n) frame h = tt
     tiny_slots_framed (Heap v) mid new frame h = tt
 
     -- and no more of the new one
     pub tiny_slots_then_framed : (old mid new : TinyVec A T) → TinySlotRule D old mid → SameFrame mid new → TinySlotRule D old new
-    tiny_slots_then_framed (Inline v a) (Inline m b) (Inline n d) h frame = rw (frame.0, frame.1) h
-    tiny_slots_then_framed (Inline v a) (Heap m) (Inline n d) h frame = absurd (let no = frame.2 in cc)
+    tiny_slots_then_framed (Inline v a) (Inline m b) (Inline n d) h frame = rw (frame.len, frame.spare) h
+    tiny_slots_then_framed (Inline v a) (Heap m) (Inline n d) h frame = absurd (let no = frame.place in cc)
     tiny_slots_then_framed (Inline v a) mid (Heap n) h frame = tt
     tiny_slots_then_framed (Heap v) mid new h frame = tt
 

@@ -16,7 +16,7 @@ pub use Rattle.tinyvec_slice.specs.SliceVec
 pub mod TinyVec
 pub mod Lends
 pub mod Drain
-pub mod Growth
+pub mod Refused
 pub mod Room
 pub mod IterMut
 pub mod TinyVecSplice

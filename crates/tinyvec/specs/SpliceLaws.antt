@@ -15,25 +15,25 @@ module _ {A T : Type 0} where
 
   pub frame_moved : (slots : ℕ) (u v w x : TinyVec A T) → SameFrame u v → SameFrame w x
       → items_moved slots (is_inline v) (is_inline w) ≡ items_moved slots (is_inline u) (is_inline x)
-  frame_moved slots u v w x k j = ap (λ b. items_moved slots b (is_inline w)) k.2 ∙ ap (items_moved slots (is_inline u)) (sym j.2)
+  frame_moved slots u v w x k j = ap (λ b. items_moved slots b (is_inline w)) k.place ∙ ap (items_moved slots (is_inline u)) (sym j.place)
 
   module _ (D : T → Type 0) (slots : ℕ) where
     pub frame_stays : (u v w : TinyVec A T) → SameFrame u v → StaysInPlace D slots v w → StaysInPlace D slots u w
     frame_stays u v w k h = record {
-      place = h.place ∙ k.2;
+      place = h.place ∙ k.place;
       slot_rule = tiny_slots_framed D u v w k h.slot_rule;
-      capacity = h.capacity ∙ k.3 slots;
+      capacity = h.capacity ∙ k.capacity slots;
       fits = h.fits;
     }
 
     pub frame_grows : (u v w x : TinyVec A T) → SameFrame u v → Grows D slots v w → SameFrame w x → Grows D slots u x
     frame_grows u v w x k h j = record {
-      place = rw (j.2, j.0, sym k.2) h.place;
+      place = rw (j.place, j.len, sym k.place) h.place;
       slot_rule = tiny_slots_then_framed D u w x (tiny_slots_framed D u v w k h.slot_rule) j;
-      capacity = let c = h.capacity in let a = k.3 slots in let b = j.3 slots in omega arith;
-      same_room = λ fits. j.3 slots ∙ h.same_room (let a = k.3 slots in let b = j.0 in omega arith) ∙ k.3 slots;
-      grown = λ more. let a = k.3 slots in let b = j.3 slots in let c = j.0 in let less = h.grown (omega (arith, a, b, more)) in omega (arith, b, c, less);
-      fits = let fits = h.fits in let b = j.3 slots in let c = j.0 in omega (arith, b, c, fits);
+      capacity = let c = h.capacity in let a = k.capacity slots in let b = j.capacity slots in omega arith;
+      same_room = λ fits. j.capacity slots ∙ h.same_room (let a = k.capacity slots in let b = j.len in omega arith) ∙ k.capacity slots;
+      grown = λ more. let a = k.capacity slots in let b = j.capacity slots in let c = j.len in let less = h.grown (omega (arith, a, b, more)) in omega (arith, b, c, less);
+      fits = let fits = h.fits in let b = j.capacity slots in let c = j.len in omega (arith, b, c, fits);
     }
 
     pub stays_grows : (v w : TinyVec A T) → StaysInPlace D slots v w → tiny_len w ≤ tiny_capacity slots w → Grows D slots v w

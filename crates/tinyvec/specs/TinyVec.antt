@@ -52,9 +52,11 @@ module _ {A T : Type 0} where
   TinySlotRule D (Heap v) w = ⊤
 
   -- the same length, spare slots, place and capacity
-  abbrev pub SameFrame : TinyVec A T → TinyVec A T → Type 0
-  SameFrame old new = (tiny_len new ≡ tiny_len old) × (tiny_spare new ≡ tiny_spare old)
-      × (is_inline new ≡ is_inline old) × ((slots : ℕ) → tiny_capacity slots new ≡ tiny_capacity slots old)
+  pub record SameFrame (old new : TinyVec A T) : Type 0 where
+    pub len : tiny_len new ≡ tiny_len old
+    pub spare : tiny_spare new ≡ tiny_spare old
+    pub place : is_inline new ≡ is_inline old
+    pub capacity : (slots : ℕ) → tiny_capacity slots new ≡ tiny_capacity slots old
 
   -- a call that allocates nothing took `old` to `new`: place and capacity are unchanged, and inline the slot rule holds
   pub record StaysInPlace (D : T → Type 0) (slots : ℕ) (old new : TinyVec A T) : Type 0 where
@@ -64,6 +66,8 @@ module _ {A T : Type 0} where
     pub fits : tiny_len new ≤ tiny_capacity slots new
 
   -- list, spare slots, place and capacity are unchanged
-  abbrev pub Unchanged : TinyVec A T → TinyVec A T → Type 0
-  Unchanged old new = (tiny_items new ≡ tiny_items old) × (tiny_spare new ≡ tiny_spare old)
-      × (is_inline new ≡ is_inline old) × ((slots : ℕ) → tiny_capacity slots new ≡ tiny_capacity slots old)
+  pub record Unchanged (old new : TinyVec A T) : Type 0 where
+    pub items : tiny_items new ≡ tiny_items old
+    pub spare : tiny_spare new ≡ tiny_spare old
+    pub place : is_inline new ≡ is_inline old
+    pub capacity : (slots : ℕ) → tiny_capacity slots new ≡ tiny_capacity slots old

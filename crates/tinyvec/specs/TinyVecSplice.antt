@@ -57,9 +57,10 @@ SpliceCanNext can s = SpliceCanStep s × FusedCan can s.replacement
 
 module _ {A I T : Type 0} where
   -- old and new borrow the same vector, and leave its length, spare slots, place and capacity
-  abbrev pub SpliceKeeps : TinyVecSplice A (Fuse I) T → TinyVecSplice A (Fuse I) T → Type 0
-  SpliceKeeps old new = (splice_lender new ≡ splice_lender old) × SameFrame (splice_vec old) (splice_vec new)
-      × (SpliceCanStep old → SpliceCanStep new)
+  pub record SpliceKeeps (old new : TinyVecSplice A (Fuse I) T) : Type 0 where
+    pub same_reference : splice_lender new ≡ splice_lender old
+    pub frame : SameFrame (splice_vec old) (splice_vec new)
+    pub ready : SpliceCanStep old → SpliceCanStep new
 
   module _ (gives : Fuse I → Option T → Fuse I → Type 0) where
     -- `next` took old to new

@@ -12,13 +12,14 @@ use std::fmt;
 use std::iter::FusedIterator;
 use std::ops::RangeBounds;
 use tinyvec_array::Array;
-use tinyvec_slots::{resolve_range, subslice, write_named};
+use tinyvec_slots::{close_gap, resolve_range, subslice, write_named};
 
 /// Yields the items of a range. When it is dropped the vector keeps the others, in its place.
 pub struct TinyVecDrain<'a, A: Array> {
-    // The first `keep` items stay, and those from `front` up to `back` remain.
+    // The range is the `gap` items from `start` on. Those from `front` up to `back` remain.
     vec: &'a mut TinyVec<A>,
-    keep: usize,
+    start: usize,
+    gap: usize,
     front: usize,
     back: usize,
 }
@@ -28,8 +29,8 @@ impl<A: Array> TinyVec<A> {
 
     /// Removes the items of the range, and yields them from both ends.
     ///
-    /// `known` fails only for an exhausted `RangeInclusive`.
-    // Inlined with its destructor, so that the four fields stay in registers.
+    /// `not_exhausted` fails only for a `RangeInclusive` that was iterated to its end.
+    // Inlined with its destructor, so that the five fields stay in registers.
     #[inline(always)]
     pub fn drain<R: RangeBounds<usize>>(&mut self, range: R) -> TinyVecDrain<'_, A>
         requires not_exhausted { R.has_bounds range }
@@ -49,21 +50,19 @@ impl<A: Array> TinyVec<A> {
             ≡ before (tiny_items self.old) (R.start_bound range) ++ after (tiny_items self.old) (R.end_bound range) }
         ensures frame { SameFrame self.old (drain_vec result) }
     {
-        let len = self.len();
-        let part = resolve_range(range, len);
-        let keep = len - (part.end - part.start);
-        self.move_to_end(part.start, part.end);
+        let part = resolve_range(range, self.len());
         TinyVecDrain {
             vec: self,
-            keep,
-            front: keep,
-            back: len,
+            start: part.start,
+            gap: part.end - part.start,
+            front: part.start,
+            back: part.end,
         }
     }
 
     /// Moves the items of the range to the end of `out`, which has room for them.
     ///
-    /// `known` fails only for an exhausted `RangeInclusive`.
+    /// `not_exhausted` fails only for a `RangeInclusive` that was iterated to its end.
     pub fn drain_into<R: RangeBounds<usize>>(&mut self, range: R, out: &mut Vec<A::Item>)
         requires not_exhausted { R.has_bounds range }
         requires in_list { IsRangeOf (tiny_items self.old) (R.start_bound range) (R.end_bound range) }
@@ -93,11 +92,13 @@ impl<'a, A: Array> Drop for TinyVecDrain<'a, A> {
     {
         let TinyVecDrain {
             vec,
-            keep,
+            start,
+            gap,
             front: _,
             back: _,
         } = self;
-        vec.truncate(keep);
+        let kept = close_gap(vec.as_mut_slice(), start, gap);
+        vec.truncate(kept);
     }
 }
 

@@ -1,5 +1,5 @@
 //! The splice: what replaces a range of items by those of an iterator.
-ghost use Rattle.std.specs.Prelude.{◌≡◌, length, false, codes, Some, IfSome, ◌+◌, ◌-◌, ◌*◌, ◌<◌, ◌≤◌, ◌++◌, List, IsOk, OnErr, IfErr, MatchResult, OnOk, true};
+ghost use Rattle.std.specs.Prelude.{◌≡◌, length, false, codes, Some, IfSome, ◌+◌, ◌-◌, ◌*◌, ◌<◌, ◌≤◌, ◌++◌, List, take, drop, IsOk, OnErr, IfErr, MatchResult, OnOk, true};
 ghost use Rattle.std.specs.Fmt.{debug_list, debug_variant};
 ghost use Rattle.std.specs.Iterator.{UpTo, MakesProgress, at_most, IsFinite, Drains, YieldsThen};
 ghost use Rattle.std.specs.Iterator.Adapters.{fuse_done, fuse_source, fuse_steps};
@@ -10,14 +10,14 @@ ghost use Rattle.tinyvec.specs.TinyVec.{tiny_items, tiny_len, is_inline, tiny_ca
 ghost use Rattle.tinyvec_slots.specs.Filling.{ShowsItems, IntoIterYields};
 ghost use Rattle.tinyvec_slots.specs.Replacing.{FusedYields, PutsBetween};
 ghost use Rattle.tinyvec_slots.specs.AnySplice.{finish_placed, finish_bound, Finishes, FinishesWith};
-ghost use Rattle.tinyvec.specs.Room.{Grows, GrowsFor, GrowsInSteps, KeepsRoom};
+ghost use Rattle.tinyvec.specs.Room.{Grows, GrowsFor, RoomGrows};
 ghost use Rattle.tinyvec.specs.TinyVecSplice.{items_moved};
 
 use crate::TinyVec;
 use std::alloc::AllocError;
 use std::fmt;
 use std::iter::{Fuse, FusedIterator};
-use std::ops::RangeBounds;
+use std::ops::{Range, RangeBounds};
 use tinyvec_array::{Array, NoRoom, SpliceRest};
 use tinyvec_slots::{
     CanCut, CanSplice, Gap, close_in, finish_in, resolve_range, step_back_in, step_in, write_named,
@@ -51,7 +51,7 @@ impl<A: Array> TinyVec<A> {
 
     /// Removes the items of the range, yields them from both ends, and puts those of `replacement` in their place.
     ///
-    /// `known` fails only for an exhausted `RangeInclusive`.
+    /// `not_exhausted` fails only for a `RangeInclusive` that was iterated to its end.
     pub fn splice<R: RangeBounds<usize>, I: IntoIterator<Item = A::Item>>(
         &mut self,
         range: R,
@@ -83,7 +83,7 @@ impl<A: Array> TinyVec<A> {
     /// memory is refused for an item, it is returned with those that follow it. Items that find no place in the range are
     /// pushed one by one, whatever the replacement hints at.
     ///
-    /// `has_bounds` is false of an `a..=b` that was iterated to its end, and of no other range of std.
+    /// `not_exhausted` fails only for a `RangeInclusive` that was iterated to its end.
     pub fn splice_all<R: RangeBounds<usize>, I: IntoIterator<Item = A::Item>>(
         &mut self,
         range: R,
@@ -102,15 +102,10 @@ impl<A: Array> TinyVec<A> {
 
         // It refuses none while there is room.
         ensures full { OnErr result (tiny_len self.new ≡ tiny_capacity A.CAPACITY self.new) }
-        ensures place { PlaceRule A.CAPACITY (tiny_len self.new) self.old self.new }
-        ensures slots { TinySlotRule A.Item.is_default self.old self.new }
-        ensures capacity { tiny_capacity A.CAPACITY self.old ≤ tiny_capacity A.CAPACITY self.new }
-        ensures same_room { KeepsRoom A.CAPACITY (tiny_len self.new) self.old self.new }
-        ensures grown { GrowsInSteps A.CAPACITY self.old self.new }
-        ensures fits { tiny_len self.new ≤ tiny_capacity A.CAPACITY self.new }
+        ensures grows { Grows A.Item.is_default A.CAPACITY self.old self.new }
         ensures no_shorter { OnErr result (tiny_len self.old ≤ tiny_len self.new) }
 
-        // After an item it may be called again.
+        // The returned iterator can be iterated further.
         ensures goes_on { IfErr result (λ refused. FusedCan I.IntoIter.can_next refused.rest) }
 
         // The same of items that are known, as those of a `Vec`, a range or a slice. Where there is room for them it
@@ -139,10 +134,7 @@ impl<A: Array> TinyVec<A> {
             ++ after (tiny_items self.old) (R.end_bound range)) }
         ensures place { OnOk result (PlaceRule A.CAPACITY (tiny_len self.new) self.old self.new) }
         ensures slots { OnOk result (TinySlotRule A.Item.is_default self.old self.new) }
-        ensures capacity { tiny_capacity A.CAPACITY self.old ≤ tiny_capacity A.CAPACITY self.new }
-        ensures grown { OnOk result (GrowsFor A.CAPACITY (tiny_len self.new) self.old self.new) }
-        ensures same_room { OnOk result (KeepsRoom A.CAPACITY (tiny_len self.new) self.old self.new) }
-        ensures fits { tiny_len self.new ≤ tiny_capacity A.CAPACITY self.new }
+        ensures room { RoomGrows GrowsFor A.CAPACITY (tiny_len self.new) self.old self.new result }
 
         // Where there is room it allocates nothing.
         ensures succeeds { length (before (tiny_items self.old) (R.start_bound range)) + length replacement.now
@@ -153,8 +145,24 @@ impl<A: Array> TinyVec<A> {
         let part = resolve_range(range, self.len());
         let more = replacement.len().saturating_sub(part.end - part.start);
         self.reserve(more)?;
-        let _all_fit = self.splice_all(part, replacement.iter().copied());
+        self.replace_reserved(part, replacement);
         Ok(())
+    }
+
+    // `replace_range` of a list that has room.
+    fn replace_reserved(&mut self, part: Range<usize>, replacement: &[A::Item])
+    where
+        A::Item: Copy,
+        requires start_le_end { part.start ≤ part.end }
+        requires in_list { part.end ≤ tiny_len self.old }
+        requires room { tiny_len self.old - (part.end - part.start) + length replacement.now
+            ≤ tiny_capacity A.CAPACITY self.old }
+        ensures items { tiny_items self.new
+            ≡ take part.start (tiny_items self.old) ++ replacement.now ++ drop part.end (tiny_items self.old) }
+        ensures len { tiny_len self.new ≡ tiny_len self.old - (part.end - part.start) + length replacement.now }
+        ensures frame { StaysInPlace A.Item.is_default A.CAPACITY self.old self.new }
+    {
+        let _all_fit = self.splice_all(part, replacement.iter().copied());
     }
 }
 
@@ -366,7 +374,7 @@ impl<A: Array> CanSplice for TinyVec<A> {
 
     ghost kept_same = { SameFrame-refl };
 
-    ghost kept_room = { λ v w k. k.3 A.CAPACITY };
+    ghost kept_room = { λ v w k. k.capacity A.CAPACITY };
 
     ghost kept_grown = { frame_grows A.Item.is_default A.CAPACITY };
 

@@ -1,6 +1,6 @@
 //! `TinyVec`.
-ghost use Rattle.std.specs.Prelude.{◌≡◌, ◌+◌, ◌<◌, ◌≤◌, ◌==◌, not, ◌++◌, length, slice_index_or, slice_set, slice_range, ◌-◌, ◌↔◌, ℕ, All, max, [], take, drop, IsOk, IsErr, IfOk, IfErr, OnErr, vec_capacity, ◌^◌, List};
-ghost use Rattle.std.specs.List.{remove_range, AllZip};
+ghost use Rattle.std.specs.Prelude.{◌≡◌, ◌+◌, ◌<◌, ◌≤◌, ◌==◌, not, ◌++◌, length, slice_index_or, slice_set, ◌-◌, ◌↔◌, ℕ, All, max, [], take, drop, IsOk, IsErr, IfOk, IfErr, OnErr, vec_capacity, ◌^◌, List};
+ghost use Rattle.std.specs.List.{AllZip};
 ghost use Rattle.tinyvec.specs.TinyVec.{tiny_items, tiny_len, tiny_spare, is_inline, tiny_capacity, IsInline, SameFrame, tiny_allocator};
 ghost use Rattle.tinyvec_slots.specs.Slots.{AreDefaults, items, spare};
 ghost use Rattle.tinyvec_slots.specs.Clones.{RefusedAt, ClonesAreEqual};
@@ -21,7 +21,6 @@ use std::alloc::{AllocError, Global};
 use std::convert::AsSlice;
 use std::{mem, slice};
 use tinyvec_array::{Array, ArrayVec};
-use tinyvec_slots::move_to_end;
 
 /// A list that is inline, in an array, and moves to the heap once it needs more room than the array has.
 #[derive(Drop)]
@@ -50,11 +49,7 @@ impl<A: Array> TinyVec<A> {
     pub fn is_empty(&self) -> bool
         ensures { result ≡ (tiny_len self.now == 0) }
     {
-        // The place is looked at alone, and no length of the other.
-        match self {
-            TinyVec::Inline(v, _) => v.is_empty(),
-            TinyVec::Heap(v) => v.is_empty(),
-        }
+        self.len() == 0
     }
 
     /// The number of items that fit without a further allocation.
@@ -93,18 +88,6 @@ impl<A: Array> TinyVec<A> {
             TinyVec::Inline(v, _) => v.as_slice(),
             TinyVec::Heap(v) => v.as_slice(),
         }
-    }
-
-    // Moves the items from `start` up to `end` to the end of the list.
-    #[inline(always)]
-    pub(crate) fn move_to_end(&mut self, start: usize, end: usize)
-        requires start_le_end { start ≤ end }
-        requires in_bounds { end ≤ tiny_len self.old }
-        ensures items { tiny_items self.new
-            ≡ remove_range (tiny_items self.old) start end ++ slice_range (tiny_items self.old) start end }
-        ensures frame { SameFrame self.old self.new }
-    {
-        move_to_end(self.as_mut_slice(), start, end);
     }
 
     // Takes the item at `i`, and leaves a default.
@@ -187,7 +170,7 @@ impl<A: Array> TinyVec<A> {
         TinyVec::Inline(ArrayVec::from_array_len(array, len), alloc)
     }
 
-    /// A list of the first `len` slots of the array, inline. An array with fewer slots is returned.
+    /// A list of the first `len` slots of the array, inline. Returns the array if it has fewer slots.
     // Inlined, since LLVM takes minutes over a function that returns one of two large values.
     #[inline(always)]
     pub fn try_from_array_len(alloc: Global, array: A, len: usize) -> Result<Self, A>

@@ -14,10 +14,16 @@ module _ {A T : Type 0} where
   drain_runs_back = runs_in_reverse drain_items DrainKeeps
 
   pub DrainKeeps-refl : (d : ArrayVecDrain A T) → DrainKeeps d d
-  DrainKeeps-refl d = (refl, refl, refl, refl, λ h. h)
+  DrainKeeps-refl d = record { same_reference = refl; kept = refl; count = refl; spare = refl; ready = λ h. h }
 
   pub DrainKeeps-then : (d e f : ArrayVecDrain A T) → DrainKeeps d e → DrainKeeps e f → DrainKeeps d f
-  DrainKeeps-then d e f h k = (k.0 ∙ h.0, k.1 ∙ h.1, k.2 ∙ h.2, k.3 ∙ h.3, λ t. k.4 (h.4 t))
+  DrainKeeps-then d e f h k = record {
+    same_reference = k.same_reference ∙ h.same_reference;
+    kept = k.kept ∙ h.kept;
+    count = k.count ∙ h.count;
+    spare = k.spare ∙ h.spare;
+    ready = λ can. k.ready (h.ready can);
+  }
 
   pub DrainSteps-keeps : (d : ArrayVecDrain A T) (r : Option T) (e : ArrayVecDrain A T) → DrainSteps d r e → DrainKeeps d e
   DrainSteps-keeps = step_keeps drain_items DrainKeeps DrainKeeps-refl DrainKeeps-then

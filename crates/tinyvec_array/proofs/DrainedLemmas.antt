@@ -15,14 +15,14 @@ module _ {A T : Type 0} (D : T → Type 0) (first last : ArrayVecDrain A T) (old
     (count : drain_count first ≡ length (drain_items first)) (kept : drain_kept first ≡ before (items old) start ++ after (items old) end)
     (behind : drain_spare first ≡ spare old) (keeps : DrainKeeps first last) (left : DrainLeaves D last new) where
   pub drained_items : items new ≡ before (items old) start ++ after (items old) end
-  drained_items = left.0 ∙ keeps.1 ∙ kept
+  drained_items = left.0 ∙ keeps.kept ∙ kept
 
   pub drained_frees : Vacates D (range_end end (items_len old) - range_start start) old new
   drained_frees =
       let i = range_start start in
       let j = range_end end (items_len old) in
-      let count_is : drain_count last ≡ j - i = keeps.2 ∙ count ∙ ap length rest ∙ length-slice_range (items old) i j in_list.0 in_list.1 in
-      (left.1.0, (left.1.1.0 ∙ count_is, left.1.1.1), left.1.2 ∙ ap (λ xs. left.1.0 ++ xs) (keeps.3 ∙ behind))
+      let count_is : drain_count last ≡ j - i = keeps.count ∙ count ∙ ap length rest ∙ length-slice_range (items old) i j in_list.0 in_list.1 in
+      (left.1.0, (left.1.1.0 ∙ count_is, left.1.1.1), left.1.2 ∙ ap (λ xs. left.1.0 ++ xs) (keeps.spare ∙ behind))
 
   pub drained_slots : SlotRule D old new
   drained_slots =
@@ -49,8 +49,8 @@ module _ {T : Type 0} (D : T → Type 0) (c : T) (only : (x : T) → D x → x �
       → (items v ≡ drain_kept first) × (spare v ≡ replicate (drain_count first) c ++ drain_spare first)
       × (all_slots v ≡ drain_kept first ++ (replicate (drain_count first) c ++ drain_spare first))
   drained first last v kept h =
-      let listed = h.0 ∙ kept.1 in
+      let listed = h.0 ∙ kept.kept in
       let behind : spare v ≡ replicate (drain_count first) c ++ drain_spare first =
       h.1.2 ∙ ap (λ ds. ds ++ drain_spare last) (defaults_are D c only (drain_count last) h.1.0 h.1.1)
-      ∙ ap (λ n. replicate n c ++ drain_spare last) kept.2 ∙ ap (λ xs. replicate (drain_count first) c ++ xs) kept.3 in
+      ∙ ap (λ n. replicate n c ++ drain_spare last) kept.count ∙ ap (λ xs. replicate (drain_count first) c ++ xs) kept.spare in
       (listed, behind, slots_are v ∙ ap (λ xs. xs ++ spare v) listed ∙ ap (λ xs. drain_kept first ++ xs) behind)

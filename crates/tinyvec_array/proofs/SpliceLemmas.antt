@@ -9,11 +9,16 @@ use Rattle.tinyvec_array.specs.Splice.{splice_view, splice_left, SpliceKeeps, Sp
 use Rattle.tinyvec_array.specs.declared.splice.ArrayVecSplice.{ArrayVecSplice}
 
 module _ {A I T : Type 0} where
-  keeps_same : (s : ArrayVecSplice A (Fuse I) T) → SpliceKeeps s s
-  keeps_same s = (refl, refl, refl, λ ready. ready)
+  pub keeps_same : (s : ArrayVecSplice A (Fuse I) T) → SpliceKeeps s s
+  keeps_same s = record { same_reference = refl; spare = refl; len = refl; ready = λ can. can }
 
-  keeps_then : (s mid t : ArrayVecSplice A (Fuse I) T) → SpliceKeeps s mid → SpliceKeeps mid t → SpliceKeeps s t
-  keeps_then s mid t h k = (k.0 ∙ h.0, k.1 ∙ h.1, k.2 ∙ h.2, λ ready. k.3 (h.3 ready))
+  pub keeps_then : (s mid t : ArrayVecSplice A (Fuse I) T) → SpliceKeeps s mid → SpliceKeeps mid t → SpliceKeeps s t
+  keeps_then s mid t h k = record {
+    same_reference = k.same_reference ∙ h.same_reference;
+    spare = k.spare ∙ h.spare;
+    len = k.len ∙ h.len;
+    ready = λ can. k.ready (h.ready can);
+  }
 
   -- what its calls placed, of a replacement of which `rest` shows what it gives
   pub Asks-splices : (rest : Fuse I → List T) (gives gives_back : Fuse I → Option T → Fuse I → Type 0) → HasTwoEnds gives gives_back rest

@@ -40,19 +40,21 @@ module _ {A T : Type 0} where
       × ((ds : List T) × AreDefaults D (drain_count d) ds × (spare v ≡ ds ++ drain_spare d))
 
   -- old and new borrow the same vector, and leave it the same
-  abbrev pub DrainKeeps : ArrayVecDrain A T → ArrayVecDrain A T → Type 0
-  DrainKeeps old new = (drain_owner new ≡ drain_owner old) × (drain_kept new ≡ drain_kept old)
-      × (drain_count new ≡ drain_count old) × (drain_spare new ≡ drain_spare old)
-      × (DrainCanStep old → DrainCanStep new)
+  pub record DrainKeeps (old new : ArrayVecDrain A T) : Type 0 where
+    pub same_reference : drain_owner new ≡ drain_owner old
+    pub kept : drain_kept new ≡ drain_kept old
+    pub count : drain_count new ≡ drain_count old
+    pub spare : drain_spare new ≡ drain_spare old
+    pub ready : DrainCanStep old → DrainCanStep new
 
-  -- `next` took old to new, and answered with the first item
+  -- `next` took old to new, and returned the first item
   abbrev pub DrainSteps : ArrayVecDrain A T → Option T → ArrayVecDrain A T → Type 0
   DrainSteps = Steps drain_items DrainKeeps
 
-  -- `next_back` took old to new, and answered with the last item
+  -- `next_back` took old to new, and returned the last item
   abbrev pub DrainStepsBack : ArrayVecDrain A T → Option T → ArrayVecDrain A T → Type 0
   DrainStepsBack = StepsBack drain_items DrainKeeps
 
-  -- however calls of `next` and `next_back` follow one another, they take from the two ends of the remaining items
+  -- any calls of `next` and `next_back` take from the two ends of the remaining items
   abbrev pub DrainsFromEnds : ArrayVecDrain A T → Type 0
   DrainsFromEnds = TakesAnyWord drain_items DrainKeeps

@@ -1,4 +1,4 @@
--- What an `ArrayVec` ends as, where a `&mut` to its items is returned.
+-- What an `ArrayVec` is after a borrow of its items.
 use Rattle.std.specs.Prelude.{ℕ, List}
 use Rattle.std.specs.Borrow.{Lends, Fml, RattleType, MutBor, Array as ListOf}
 use Rattle.std.specs.declared.default.Default as Default

@@ -14,7 +14,7 @@ module _ {A I T : Type 0} where
   abbrev pub splice_view : ArrayVecSplice A I T → SpliceView I T
   splice_view s = gap_view s.gap s.replacement (items s.vec.now)
 
-  -- what stood before the range, and the replacement items placed from the front
+  -- what preceded the range, and the replacement items placed from the front
   abbrev pub splice_front : ArrayVecSplice A I T → List T
   splice_front s = (splice_view s).front
 
@@ -26,15 +26,15 @@ module _ {A I T : Type 0} where
   abbrev pub splice_len : ArrayVecSplice A I T → ℕ
   splice_len s = gap_len s.gap
 
-  -- the replacement items placed from the back, and what stood after the range
+  -- the replacement items placed from the back, and what followed the range
   abbrev pub splice_back : ArrayVecSplice A I T → List T
   splice_back s = (splice_view s).back
 
-  -- the replacement, as far as it was not asked
+  -- the rest of the replacement
   abbrev pub splice_replacement : ArrayVecSplice A I T → I
   splice_replacement s = (splice_view s).replacement
 
-  -- how many slots were touched since `splice`
+  -- the number of touches since `splice`
   abbrev pub splice_touches : ArrayVecSplice A I T → ℕ
   splice_touches s = (splice_view s).touches
 
@@ -50,15 +50,17 @@ module _ {A I T : Type 0} where
 abbrev pub SpliceCanStep : {A I T : Type 0} → ArrayVecSplice A (Fuse I) T → Type 0
 SpliceCanStep s = GapCanStep s.gap (fuse_done s.replacement) (items_len (splice_slots s))
 
--- and its replacement may be asked
+-- and its replacement can be iterated further
 abbrev pub SpliceCanNext : {A I T : Type 0} → (I → Type 0) → ArrayVecSplice A (Fuse I) T → Type 0
 SpliceCanNext can s = SpliceCanStep s × FusedCan can s.replacement
 
 module _ {A I T : Type 0} where
   -- old and new borrow the same vector. Its list in the array is as long, and its spare slots are the same.
-  abbrev pub SpliceKeeps : ArrayVecSplice A (Fuse I) T → ArrayVecSplice A (Fuse I) T → Type 0
-  SpliceKeeps old new = (splice_lender new ≡ splice_lender old) × (spare (splice_slots new) ≡ spare (splice_slots old))
-      × (items_len (splice_slots new) ≡ items_len (splice_slots old)) × (SpliceCanStep old → SpliceCanStep new)
+  pub record SpliceKeeps (old new : ArrayVecSplice A (Fuse I) T) : Type 0 where
+    pub same_reference : splice_lender new ≡ splice_lender old
+    pub spare : spare (splice_slots new) ≡ spare (splice_slots old)
+    pub len : items_len (splice_slots new) ≡ items_len (splice_slots old)
+    pub ready : SpliceCanStep old → SpliceCanStep new
 
   module _ (gives : Fuse I → Option T → Fuse I → Type 0) where
     -- `next` took old to new

@@ -225,7 +225,7 @@ impl<A: Array> ArrayVec<A> {
         ArrayVec { len: 0, array }
     }
 
-    /// A vector whose list is the first `len` slots of the array. Returns an array that has fewer slots.
+    /// A vector whose list is the first `len` slots of the array. Returns the array if it has fewer slots.
     // Inlined, since LLVM takes minutes over a function that returns one of two large values.
     #[inline(always)]
     pub fn try_from_array_len(array: A, len: usize) -> Result<Self, A>

@@ -1,5 +1,5 @@
 //! What moves a range of items out of a vector.
-ghost use Rattle.std.specs.Prelude.{◌≡◌, ◌≤◌, ◌++◌, length, codes, Some, IfSome, ◌+◌, vec_len, vec_capacity};
+ghost use Rattle.std.specs.Prelude.{◌≡◌, ◌<◌, ◌≤◌, ◌++◌, List, length, take, drop, codes, Some, IfSome, ◌+◌, vec_len, vec_capacity};
 ghost use Rattle.std.specs.Fmt.{debug_list, debug_variant};
 ghost use Rattle.std.specs.Iterator.{at_most, UpTo};
 ghost use Rattle.std.specs.Iterator.SizeHint.{IsWithinCount};
@@ -43,7 +43,8 @@ impl<A: Array> ArrayVec<A> {
         ensures runs_back { YieldsInReverse (DrainStepsBack {A = A} {T = A.Item}) drain_items }
         ensures both_ends { DrainsFromEnds result }
 
-        // The list is what precedes and follows the range; the spare slots will be the emptied ones, then the old.
+        // The list is what precedes and follows the range. Once the drain is dropped, the vacated slots precede the old spare
+        // slots.
         ensures fits { items_len self.old ≤ A.CAPACITY }
         ensures same_reference { drain_owner result ≡ self.entry.ghost_name }
         ensures kept { drain_kept result
@@ -102,6 +103,8 @@ impl<A: Array> ArrayVec<A> {
     }
 
     /// Moves the list into a `Vec` that has room for it and for `n` more items, and for no more.
+    // Inlined, so that a `TinyVec` takes the `Vec` in registers.
+    #[inline(always)]
     pub fn drain_to_vec_and_reserve(
         &mut self,
         alloc: Global,
@@ -216,8 +219,30 @@ where
     }
 }
 
-// Moves the items of the slots to the end of `vec`, and leaves defaults.
+// Moves the items of the slots to the end of `vec`, and leaves defaults. Items of 4 to 16 bytes move in blocks: bytes are
+// moved as fast one by one, and a block of large items would fill the stack.
+#[inline(always)]
 fn take_all<T: Default + Drop>(slots: &mut [T], vec: &mut Vec<T>)
+    requires { vec_len vec.old + length slots.old ≤ vec_capacity vec.old }
+    ensures items { vec.new.items ≡ vec.old.items ++ slots.old }
+    ensures capacity { vec_capacity vec.new ≡ vec_capacity vec.old }
+    ensures emptied { AreDefaults T.is_default (length slots.old) slots.new }
+{
+    if slots.is_empty() {
+        return;
+    }
+    let size = slots[..1].len() * mem::size_of::<T>();
+    if size < 4 || size > 16 {
+        return take_each(slots, vec);
+    }
+    let most = take_blocks::<T, 16>(slots, vec);
+    let more = most + take_blocks::<T, 4>(&mut slots[most..], vec);
+    take_each(&mut slots[more..], vec);
+}
+
+// Like `take_all`, item by item.
+#[inline(always)]
+fn take_each<T: Default + Drop>(slots: &mut [T], vec: &mut Vec<T>)
     requires { vec_len vec.old + length slots.old ≤ vec_capacity vec.old }
     ensures items { vec.new.items ≡ vec.old.items ++ slots.old }
     ensures capacity { vec_capacity vec.new ≡ vec_capacity vec.old }
@@ -226,4 +251,40 @@ fn take_all<T: Default + Drop>(slots: &mut [T], vec: &mut Vec<T>)
     for slot in slots.iter_mut() {
         vec.push_reserved(mem::take(slot));
     }
+}
+
+// Takes blocks of N items while N are left, and returns the number of items taken.
+#[inline(always)]
+fn take_blocks<T: Default + Drop, const N: usize>(slots: &mut [T], vec: &mut Vec<T>) -> usize
+    requires some { 0 < N }
+    requires room { vec_len vec.old + length slots.old ≤ vec_capacity vec.old }
+    ensures within { result ≤ length slots.old }
+    ensures items { vec.new.items ≡ vec.old.items ++ take result slots.old }
+    ensures capacity { vec_capacity vec.new ≡ vec_capacity vec.old }
+    ensures emptied { (ds : List T) × AreDefaults T.is_default result ds × (slots.new ≡ ds ++ drop result slots.old) }
+{
+    let mut done = 0;
+    while N <= slots.len() - done {
+        take_block::<T, N>(&mut slots[done..], vec);
+        done += N;
+    }
+    done
+}
+
+// Takes the first N items. All are read before one is written, so LLVM moves a block in registers.
+#[inline(always)]
+fn take_block<T: Default + Drop, const N: usize>(slots: &mut [T], vec: &mut Vec<T>)
+    requires enough { N ≤ length slots.old }
+    requires room { vec_len vec.old + N ≤ vec_capacity vec.old }
+    ensures items { vec.new.items ≡ vec.old.items ++ take N slots.old }
+    ensures capacity { vec_capacity vec.new ≡ vec_capacity vec.old }
+    ensures emptied { (ds : List T) × AreDefaults T.is_default N ds × (slots.new ≡ ds ++ drop N slots.old) }
+{
+    // Tells the proof that the items fit in memory.
+    let _bytes = slots.len() * mem::size_of::<T>();
+    let Some(first) = slots.first_chunk_mut::<N>() else {
+        unreachable!();
+    };
+    let mut block = mem::take(first);
+    take_each(&mut block, vec);
 }

@@ -17,7 +17,7 @@ use tinyvec_slots::write_named;
 /// Yields the items of a vector from both ends.
 #[derive(Drop)]
 pub struct ArrayVecIterator<A: Array> {
-    // The slots in `front..back` hold the items that are left. The others hold defaults.
+    // The slots in `front..back` hold the items that are left. Those of taken items hold defaults.
     front: usize,
     back: usize,
     array: A,

@@ -3,7 +3,7 @@ ghost use Rattle.std.specs.Prelude.{◌≡◌, ◌<◌, ◌≤◌, length, slice
 
 use crate::Array;
 use std::mem;
-use tinyvec_slots::are_short;
+use tinyvec_slots::prefers_shifting;
 
 // Takes the value of the slot at `i`, and leaves a default.
 pub(crate) fn take_slot<A: Array>(array: &mut A, i: usize) -> A::Item
@@ -32,10 +32,10 @@ pub(crate) fn via_u32(i: usize, most: usize) -> usize
 
 // Whether the slots from `start` up to `end` are moved one by one. For an `A` of few slots the result is a constant.
 #[inline(always)]
-pub(crate) fn are_short_of<A: Array>(array: &A, start: usize, end: usize) -> bool
+pub(crate) fn prefers_shifting_in<A: Array>(array: &A, start: usize, end: usize) -> bool
     requires start_le_end { start ≤ end }
     requires in_bounds { end ≤ A.CAPACITY }
 {
     let slots = array.as_slice();
-    are_short(slots) || are_short(&slots[start..end])
+    prefers_shifting(slots) || prefers_shifting(&slots[start..end])
 }

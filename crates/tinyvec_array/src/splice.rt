@@ -80,7 +80,7 @@ impl<A: Array> ArrayVec<A> {
     /// Puts the items of `replacement` in the place of the range, whose items it drops: `splice` and `finish` in one. Where
     /// an item has no room, the vector is full, and that item is returned with those that follow it.
     ///
-    /// `has_bounds` is false of an `a..=b` that was iterated to its end, and of no other range of std.
+    /// `not_exhausted` fails only for a `RangeInclusive` that was iterated to its end.
     pub fn splice_all<R: RangeBounds<usize>, I: IntoIterator<Item = A::Item>>(
         &mut self,
         range: R,
@@ -99,7 +99,7 @@ impl<A: Array> ArrayVec<A> {
         ensures slots { SlotRule A.Item.is_default self.old self.new }
         ensures fits { items_len self.new ≤ A.CAPACITY }
 
-        // After an item it may be called again.
+        // The returned iterator can be iterated further.
         ensures goes_on { IfErr result (λ refused. FusedCan I.IntoIter.can_next refused.rest) }
 
         // The same of items that are known, as those of a `Vec`, a range or a slice.
@@ -232,7 +232,7 @@ impl<'a, A: Array, I: Iterator<Item = A::Item>> ArrayVecSplice<'a, A, Fuse<I>> {
             (splice_view self.entry) result (items self.exit.0.now) }
         ensures slots { SlotRule A.Item.is_default (splice_slots self.entry) self.exit.0.now }
 
-        // After an item, `next` of the replacement may be called again.
+        // The returned replacement can be iterated further.
         ensures goes_on { IfErr result (λ refused. FusedCan I.can_next refused.rest) }
 
         // The same of a replacement that shows its items, and of one whose items are known, as those of a `Vec`, a range or a

@@ -2,7 +2,7 @@
 
 use thiserror::Error;
 
-/// A slice was not made an `ArrayVec`.
+/// Why `try_from_slice` or `try_extend_from_slice` failed.
 #[derive(Debug, Clone, Copy, PartialEq, Eq, Error)]
 pub enum TryFromSliceError {
     /// The slice is longer than the array.

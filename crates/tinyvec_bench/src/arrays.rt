@@ -1,62 +1,143 @@
-//! What the rows of an `ArrayVec` work on.
+//! The calls of an `ArrayVec`.
+ghost use Rattle.std.specs.Prelude.{◌<◌, length};
 
-use crate::cutting::{drain_dropped, drain_taken, retain_half};
-use crate::edits::{insert_front, insert_middle, remove_front, remove_middle, swap_remove};
-use crate::ends::{push_and_pop, truncate_and_refill, two_pushes};
-use crate::filling::{clone_of, extend_from_range, extend_from_slice};
-use crate::lists::{Cut, Edit};
-use crate::number::Number;
-use crate::reading::{last_of, sum};
-use crate::report::Bench;
+use crate::number::{Number, is_odd, last};
+use crate::vector::{Place, Vector, Words};
+use std::alloc::{AllocError, Global};
+use std::ops::Range;
 use tinyvec_array::ArrayVec;
 
-/// The vector, one that differs from it, and what it is filled with.
-#[derive(Drop)]
-pub struct ArrayBench<'a, T: Number, const N: usize> {
-    pub vec: ArrayVec<[T; N]>,
-    pub odd: ArrayVec<[T; N]>,
-    pub source: &'a [T; N],
-}
+impl<T: Number, const N: usize> Vector<T, N> for ArrayVec<[T; N]> {
+    ghost has_room = { λ v. length (Self.items v) < N };
 
-/// The one benchmark that a `TinyVec` has twice.
-#[derive(Clone, Copy)]
-pub struct TwoPushes;
-
-impl<T: Number, const N: usize> Bench<TwoPushes> for ArrayBench<'_, T, N> {
     #[inline(always)]
-    fn round(&mut self, _benchmark: TwoPushes, x: u64) -> u64 {
-        last_of(&two_pushes(&self.vec, x))
+    fn placed(_alloc: Global, _place: Place, items: &[T]) -> Result<Self, AllocError> {
+        let mut vec = ArrayVec::new();
+        // Pushed: a second call of `extend_from_slice` might not be inlined in its row.
+        for item in items {
+            if vec.len() == vec.capacity() {
+                return Err(AllocError);
+            }
+            vec.push(*item);
+        }
+        Ok(vec)
+    }
+
+    #[inline(always)]
+    fn last_of_two_pushes(&self, _alloc: Global, _place: Place, x: u64) -> u64 {
+        last(two_pushes(self, x).as_slice())
+    }
+
+    #[inline(always)]
+    fn last_of_clone(&self, _alloc: Global, odd: &Self, x: u64) -> u64 {
+        last(clone_of(self, odd, x).as_slice())
+    }
+
+    #[inline(always)]
+    fn len(&self) -> usize {
+        self.len()
+    }
+
+    #[inline(always)]
+    fn empty(&mut self) {
+        self.set_len(0);
+    }
+
+    #[inline(always)]
+    fn push(&mut self, x: T) -> bool {
+        self.push(x);
+        true
+    }
+
+    #[inline(always)]
+    fn pop(&mut self) -> Option<T> {
+        self.pop()
+    }
+
+    #[inline(always)]
+    fn insert(&mut self, i: usize, x: T) -> bool {
+        self.insert(i, x);
+        true
+    }
+
+    #[inline(always)]
+    fn remove(&mut self, i: usize) -> T {
+        self.remove(i)
+    }
+
+    #[inline(always)]
+    fn swap_remove(&mut self, i: usize) -> T {
+        self.swap_remove(i)
+    }
+
+    #[inline(always)]
+    fn truncate(&mut self, n: usize) {
+        self.truncate(n);
+    }
+
+    #[inline(always)]
+    fn extend_from_slice(&mut self, source: &[T]) -> bool {
+        source.len() <= self.capacity() && self.extend_from_slice(source).is_ok()
     }
 }
 
-impl<T: Number, const N: usize> Bench<Edit> for ArrayBench<'_, T, N> {
+impl<const N: usize> Words<N> for ArrayVec<[u64; N]> {
     #[inline(always)]
-    fn round(&mut self, benchmark: Edit, x: u64) -> u64 {
-        let source = self.source;
-        match benchmark {
-            Edit::PushAndPop => push_and_pop(&mut self.vec, x),
-            Edit::InsertFront => insert_front(&mut self.vec, x),
-            Edit::InsertMiddle => insert_middle(&mut self.vec, x),
-            Edit::RemoveFront => remove_front(&mut self.vec, x),
-            Edit::RemoveMiddle => remove_middle(&mut self.vec, x),
-            Edit::SwapRemove => swap_remove(&mut self.vec, x),
-            Edit::TruncateAndRefill => truncate_and_refill(&mut self.vec, x),
-            Edit::ExtendFromSlice => extend_from_slice(&mut self.vec, source, x),
-            Edit::Clone => last_of(&clone_of(&self.vec, &self.odd, x)),
-            Edit::Sum => sum(&self.vec, x),
+    fn extend_from_range(&mut self, numbers: Range<u64>) -> bool {
+        self.extend(numbers).is_ok()
+    }
+
+    #[inline(always)]
+    fn drain_taken(&mut self, start: usize, end: usize, x: u64) -> u64 {
+        let mut sum = x;
+        for y in self.drain(start..end) {
+            sum = sum.wrapping_add(y);
         }
+        sum
+    }
+
+    #[inline(always)]
+    fn drain_dropped(&mut self, start: usize, end: usize) {
+        drop(self.drain(start..end));
+    }
+
+    #[inline(always)]
+    fn retain_odd(&mut self) {
+        self.retain(is_odd);
+    }
+
+    #[inline(always)]
+    fn dedup(&mut self) {
+        ArrayVec::dedup(self);
+    }
+
+    #[inline(always)]
+    fn splice(&mut self, start: usize, end: usize, count: u64) -> bool {
+        self.splice(start..end, 0..count).finish().is_ok()
     }
 }
 
-impl<const N: usize> Bench<Cut> for ArrayBench<'_, u64, N> {
-    #[inline(always)]
-    fn round(&mut self, benchmark: Cut, x: u64) -> u64 {
-        let source = self.source;
-        match benchmark {
-            Cut::ExtendFromRange => extend_from_range(&mut self.vec, x),
-            Cut::DrainTaken => drain_taken(&mut self.vec, source, x),
-            Cut::DrainDropped => drain_dropped(&mut self.vec, source, x),
-            Cut::RetainHalf => retain_half(&mut self.vec, source, x),
-        }
+// A new vector as long as `_like`, and two pushes.
+#[inline(never)]
+fn two_pushes<T: Number, const N: usize>(_like: &ArrayVec<[T; N]>, x: u64) -> ArrayVec<[T; N]> {
+    let mut vec = ArrayVec::new();
+    if N >= 2 {
+        vec.push(T::of(x));
+        vec.push(T::of(x));
+    }
+    vec
+}
+
+// A clone of the one or the other, as `x` is even or odd.
+#[inline(never)]
+fn clone_of<T: Number, const N: usize>(
+    even: &ArrayVec<[T; N]>,
+    odd: &ArrayVec<[T; N]>,
+    x: u64,
+) -> ArrayVec<[T; N]> {
+    let vec = if x % 2 == 0 { even } else { odd };
+    match vec.clone() {
+        Ok(copy) => copy,
+        Err(_) => ArrayVec::new(),
     }
 }

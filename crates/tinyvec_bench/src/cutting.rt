@@ -1,34 +1,73 @@
-//! Parts of a list taken out, replaced, and filtered.
+//! The rows of lists of `u64`.
 
-use crate::filling::extend_from_slice;
-use crate::number::is_odd;
-use tinyvec_array::ArrayVec;
+use crate::edits::{ListBench, extend_from_slice};
+use crate::report::Bench;
+use crate::vector::Words;
 
-/// Fills the vector, and takes the middle half out.
+/// What is done with lists of `u64`.
+#[derive(Clone, Copy)]
+pub enum Cut {
+    ExtendFromRange,
+    DrainTaken,
+    DrainDropped,
+    RetainHalf,
+    Dedup,
+}
+
+impl<V: Words<N>, const N: usize> Bench<Cut> for ListBench<'_, u64, V, N> {
+    #[inline(always)]
+    fn round(&mut self, benchmark: Cut, x: u64) -> u64 {
+        let source = &self.source;
+        match benchmark {
+            Cut::ExtendFromRange => extend_from_range(self.vec, x),
+            Cut::DrainTaken => drain_taken(self.vec, source, x),
+            Cut::DrainDropped => drain_dropped(self.vec, source, x),
+            Cut::RetainHalf => retain_half(self.vec, source, x),
+            Cut::Dedup => dedup(self.vec, source, x),
+        }
+    }
+}
+
+/// Makes the list as many numbers from `x` on as the array has slots.
 #[inline(never)]
-pub fn drain_taken<const N: usize>(vec: &mut ArrayVec<[u64; N]>, source: &[u64], x: u64) -> u64 {
+pub fn extend_from_range<V: Words<N>, const N: usize>(vec: &mut V, x: u64) -> u64 {
+    vec.empty();
+    let start = x % 65536;
+    if !vec.extend_from_range(start..start.saturating_add(N as u64)) {
+        return 0;
+    }
+    vec.len() as u64
+}
+
+// Fills the vector, and takes the middle half out.
+#[inline(never)]
+fn drain_taken<V: Words<N>, const N: usize>(vec: &mut V, source: &[u64], x: u64) -> u64 {
     extend_from_slice(vec, source, x);
     let len = vec.len();
-    let mut sum = x;
-    for y in vec.drain(len / 4..len - len / 4) {
-        sum = sum.wrapping_add(y);
-    }
-    sum
+    vec.drain_taken(len / 4, len - len / 4, x)
 }
 
 /// Fills the vector, and drops the middle half.
 #[inline(never)]
-pub fn drain_dropped<const N: usize>(vec: &mut ArrayVec<[u64; N]>, source: &[u64], x: u64) -> u64 {
+pub fn drain_dropped<V: Words<N>, const N: usize>(vec: &mut V, source: &[u64], x: u64) -> u64 {
     extend_from_slice(vec, source, x);
     let len = vec.len();
-    drop(vec.drain(len / 4..len - len / 4));
+    vec.drain_dropped(len / 4, len - len / 4);
     x.wrapping_add(vec.len() as u64)
 }
 
 /// Fills the vector, and keeps the odd items.
 #[inline(never)]
-pub fn retain_half<const N: usize>(vec: &mut ArrayVec<[u64; N]>, source: &[u64], x: u64) -> u64 {
+pub fn retain_half<V: Words<N>, const N: usize>(vec: &mut V, source: &[u64], x: u64) -> u64 {
     extend_from_slice(vec, source, x);
-    vec.retain(is_odd);
+    vec.retain_odd();
+    x.wrapping_add(vec.len() as u64)
+}
+
+// Fills the vector with runs, and keeps one of each.
+#[inline(never)]
+fn dedup<V: Words<N>, const N: usize>(vec: &mut V, runs: &[u64], x: u64) -> u64 {
+    extend_from_slice(vec, runs, x);
+    vec.dedup();
     x.wrapping_add(vec.len() as u64)
 }

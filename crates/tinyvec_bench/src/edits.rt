@@ -1,60 +1,215 @@
-//! Items put in and taken out at a place.
+//! What the rows of a vector work on, and those of lists of any number.
 
 use crate::number::Number;
-use tinyvec_array::ArrayVec;
+use crate::report::Bench;
+use crate::vector::{Place, Vector};
+use std::alloc::Global;
 
-/// Pops an item, and inserts one in front.
+/// The vector, one that differs from it, and what it is filled with: the array itself, whose size is then known to the proof.
+#[derive(Drop)]
+pub struct ListBench<'a, T: Number, V: Vector<T, N>, const N: usize> {
+    pub alloc: Global,
+    pub vec: &'a mut V,
+    pub odd: &'a V,
+    pub source: [T; N],
+}
+
+// Two pushes to a new vector at this place.
+impl<V: Vector<u64, N>, const N: usize> Bench<Place> for ListBench<'_, u64, V, N> {
+    #[inline(always)]
+    fn round(&mut self, benchmark: Place, x: u64) -> u64 {
+        self.vec.last_of_two_pushes(self.alloc, benchmark, x)
+    }
+}
+
+/// What is done with lists of `u64`.
+#[derive(Clone, Copy)]
+pub enum Edit {
+    PushAndPop,
+    InsertFront,
+    InsertMiddle,
+    RemoveFront,
+    RemoveMiddle,
+    SwapRemove,
+    TruncateAndRefill,
+    ExtendFromSlice,
+    Clone,
+    Sum,
+}
+
+impl<V: Vector<u64, N>, const N: usize> Bench<Edit> for ListBench<'_, u64, V, N> {
+    #[inline(always)]
+    fn round(&mut self, benchmark: Edit, x: u64) -> u64 {
+        let source = &self.source;
+        match benchmark {
+            Edit::PushAndPop => push_and_pop(self.vec, x),
+            Edit::InsertFront => insert_front(self.vec, x),
+            Edit::InsertMiddle => insert_middle(self.vec, x),
+            Edit::RemoveFront => remove_front(self.vec, x),
+            Edit::RemoveMiddle => remove_middle(self.vec, x),
+            Edit::SwapRemove => swap_remove(self.vec, x),
+            Edit::TruncateAndRefill => truncate_and_refill(self.vec, x),
+            Edit::ExtendFromSlice => extend_from_slice(self.vec, source, x),
+            Edit::Clone => self.vec.last_of_clone(self.alloc, self.odd, x),
+            Edit::Sum => sum(self.vec, x),
+        }
+    }
+}
+
+/// What is done with lists of `u8`, where the size of an item matters.
+#[derive(Clone, Copy)]
+pub enum ByteEdit {
+    PushAndPop,
+    InsertFront,
+    RemoveFront,
+    ExtendFromSlice,
+    Clone,
+    Sum,
+}
+
+impl<V: Vector<u8, N>, const N: usize> Bench<ByteEdit> for ListBench<'_, u8, V, N> {
+    #[inline(always)]
+    fn round(&mut self, benchmark: ByteEdit, x: u64) -> u64 {
+        match benchmark {
+            ByteEdit::PushAndPop => push_and_pop(self.vec, x),
+            ByteEdit::InsertFront => insert_front(self.vec, x),
+            ByteEdit::RemoveFront => remove_front(self.vec, x),
+            ByteEdit::ExtendFromSlice => extend_from_slice(self.vec, &self.source, x),
+            ByteEdit::Clone => self.vec.last_of_clone(self.alloc, self.odd, x),
+            ByteEdit::Sum => sum(self.vec, x),
+        }
+    }
+}
+
+// Pushes until there are `N` items, and pops until the vector is empty.
 #[inline(never)]
-pub fn insert_front<T: Number, const N: usize>(vec: &mut ArrayVec<[T; N]>, x: u64) -> u64 {
+fn push_and_pop<T: Number, V: Vector<T, N>, const N: usize>(vec: &mut V, x: u64) -> u64 {
+    vec.empty();
+    push_until_full(vec, x);
+    pop_until_empty(vec)
+}
+
+/// Pushes from none until there are `N` items.
+#[inline(never)]
+pub fn push_all<T: Number, V: Vector<T, N>, const N: usize>(vec: &mut V, x: u64) -> u64 {
+    vec.empty();
+    push_until_full(vec, x)
+}
+
+// Cuts the list to its first half, and pushes until there are `N` items.
+#[inline(never)]
+fn truncate_and_refill<T: Number, V: Vector<T, N>, const N: usize>(vec: &mut V, x: u64) -> u64 {
+    vec.truncate(N / 2);
+    push_until_full(vec, x)
+}
+
+// Answers the number that would have come next.
+fn push_until_full<T: Number, V: Vector<T, N>, const N: usize>(vec: &mut V, x: u64) -> u64 {
+    let mut next = x;
+    while vec.len() < N {
+        if !vec.push(T::of(next)) {
+            return 0;
+        }
+        next = next.wrapping_add(1);
+    }
+    next
+}
+
+// Answers the sum.
+fn pop_until_empty<T: Number, V: Vector<T, N>, const N: usize>(vec: &mut V) -> u64 {
+    let mut sum: u64 = 0;
+    while let Some(y) = vec.pop() {
+        sum = sum.wrapping_add(y.value());
+    }
+    sum
+}
+
+// Pops an item, and inserts one in front.
+#[inline(never)]
+fn insert_front<T: Number, V: Vector<T, N>, const N: usize>(vec: &mut V, x: u64) -> u64 {
     let Some(last) = vec.pop() else {
         return 0;
     };
-    vec.insert(0, T::of(x));
+    if !vec.insert(0, T::of(x)) {
+        return 0;
+    }
     last.value()
 }
 
-/// Pops an item, and inserts one in the middle.
+// Pops an item, and inserts one in the middle.
 #[inline(never)]
-pub fn insert_middle<T: Number, const N: usize>(vec: &mut ArrayVec<[T; N]>, x: u64) -> u64 {
+fn insert_middle<T: Number, V: Vector<T, N>, const N: usize>(vec: &mut V, x: u64) -> u64 {
     let Some(last) = vec.pop() else {
         return 0;
     };
     let middle = vec.len() / 2;
-    vec.insert(middle, T::of(x));
+    if !vec.insert(middle, T::of(x)) {
+        return 0;
+    }
     last.value()
 }
 
-/// Removes the first item, and pushes one.
+// Removes the first item, and pushes one.
 #[inline(never)]
-pub fn remove_front<T: Number, const N: usize>(vec: &mut ArrayVec<[T; N]>, x: u64) -> u64 {
-    if vec.is_empty() {
+fn remove_front<T: Number, V: Vector<T, N>, const N: usize>(vec: &mut V, x: u64) -> u64 {
+    if vec.len() == 0 {
         return 0;
     }
     let first = vec.remove(0);
-    vec.push(T::of(x));
+    if !vec.push(T::of(x)) {
+        return 0;
+    }
     first.value()
 }
 
-/// Removes the item in the middle, and pushes one.
+// Removes the item in the middle, and pushes one.
 #[inline(never)]
-pub fn remove_middle<T: Number, const N: usize>(vec: &mut ArrayVec<[T; N]>, x: u64) -> u64 {
-    if vec.is_empty() {
+fn remove_middle<T: Number, V: Vector<T, N>, const N: usize>(vec: &mut V, x: u64) -> u64 {
+    if vec.len() == 0 {
         return 0;
     }
     let middle = vec.len() / 2;
     let removed = vec.remove(middle);
-    vec.push(T::of(x));
+    if !vec.push(T::of(x)) {
+        return 0;
+    }
     removed.value()
 }
 
-/// Swaps the item in the middle out, and pushes one.
+// Swaps the item in the middle out, and pushes one.
 #[inline(never)]
-pub fn swap_remove<T: Number, const N: usize>(vec: &mut ArrayVec<[T; N]>, x: u64) -> u64 {
-    if vec.is_empty() {
+fn swap_remove<T: Number, V: Vector<T, N>, const N: usize>(vec: &mut V, x: u64) -> u64 {
+    if vec.len() == 0 {
         return 0;
     }
     let middle = vec.len() / 2;
     let removed = vec.swap_remove(middle);
-    vec.push(T::of(x));
+    if !vec.push(T::of(x)) {
+        return 0;
+    }
     removed.value()
+}
+
+/// Makes the list the items of `source`, by one copy.
+#[inline(never)]
+pub fn extend_from_slice<T: Number, V: Vector<T, N>, const N: usize>(
+    vec: &mut V,
+    source: &[T],
+    x: u64,
+) -> u64 {
+    vec.empty();
+    if !vec.extend_from_slice(source) {
+        return 0;
+    }
+    x.wrapping_add(vec.len() as u64)
+}
+
+// The sum of the items and `x`.
+#[inline(never)]
+fn sum<T: Number, V: Vector<T, N>, const N: usize>(vec: &V, x: u64) -> u64 {
+    let mut sum = x;
+    for y in vec.as_slice() {
+        sum = sum.wrapping_add((*y).value());
+    }
+    sum
 }

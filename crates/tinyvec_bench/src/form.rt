@@ -1,7 +1,6 @@
 //! Lists written and read in the Borsh form.
 ghost use Rattle.std.specs.Prelude.{◌*◌, ◌^◌, ◌<◌};
 
-use crate::filling::full;
 use crate::number::{Number, last};
 use crate::report::{Bench, Report};
 use crate::sources::scattered;
@@ -45,7 +44,7 @@ pub fn of_forms<R: Runtime, const N: usize>(report: &mut Report<'_, R>, alloc: G
     requires { N * 64 < 2 ^ 63 }
 {
     let mut form = Vec::new(alloc);
-    let vec = full(scattered::<u8, N>());
+    let vec = ArrayVec::from_array(scattered::<u8, N>());
     let mut bytes = FormBench {
         alloc,
         vec,
@@ -53,7 +52,7 @@ pub fn of_forms<R: Runtime, const N: usize>(report: &mut Report<'_, R>, alloc: G
     };
     report.run("borsh_write_bytes", N, Form::Write, &mut bytes);
     report.run("borsh_read_bytes", N, Form::Read, &mut bytes);
-    let vec = full(scattered::<u32, N>());
+    let vec = ArrayVec::from_array(scattered::<u32, N>());
     let mut numbers = FormBench {
         alloc,
         vec,

@@ -1,17 +1,17 @@
 //! The same calls at many lengths, which tell how the time grows with them.
 ghost use Rattle.std.specs.Prelude.{◌*◌, ◌^◌, ◌<◌};
 
-use crate::arrays::ArrayBench;
-use crate::ends::push_all;
-use crate::filling::{extend_from_range, full};
+use crate::cutting::{drain_dropped, extend_from_range, retain_half};
+use crate::edits::{ListBench, push_all};
 use crate::report::{Bench, Report};
 use crate::sources::counting;
-use crate::tiny::{cutting as tiny_cutting, spilling, splicing as tiny_splicing};
-use crate::{cutting, splicing};
+use crate::spilling;
+use crate::splicing::splice;
 use std::alloc::Global;
 use std::io;
 use std::rt::Runtime;
 use tinyvec::TinyVec;
+use tinyvec_array::ArrayVec;
 
 /// What is done with a list of each length.
 #[derive(Clone, Copy)]
@@ -24,38 +24,38 @@ enum Growth {
     Retain,
 }
 
-impl<const N: usize> Bench<Growth> for ArrayBench<'_, u64, N> {
+impl<const N: usize> Bench<Growth> for ListBench<'_, u64, ArrayVec<[u64; N]>, N> {
     #[inline(always)]
     fn round(&mut self, benchmark: Growth, x: u64) -> u64 {
-        let source = self.source;
+        let source = &self.source;
         match benchmark {
-            Growth::Push => push_all(&mut self.vec, x),
-            Growth::Extend => extend_from_range(&mut self.vec, x),
-            Growth::Splice(count) => splicing::splice(&mut self.vec, source, count, x),
-            Growth::Drain => cutting::drain_dropped(&mut self.vec, source, x),
-            Growth::Retain => cutting::retain_half(&mut self.vec, source, x),
+            Growth::Push => push_all(self.vec, x),
+            Growth::Extend => extend_from_range(self.vec, x),
+            Growth::Splice(count) => splice(self.vec, source, count, x),
+            Growth::Drain => drain_dropped(self.vec, source, x),
+            Growth::Retain => retain_half(self.vec, source, x),
         }
     }
 }
 
 // A list over four slots, and what it is filled with.
 #[derive(Drop)]
-struct ListBench<'a> {
+struct GrowBench<'a> {
     alloc: Global,
     vec: TinyVec<[u64; 4]>,
     source: &'a [u64],
 }
 
-impl Bench<Growth> for ListBench<'_> {
+impl Bench<Growth> for GrowBench<'_> {
     #[inline(always)]
     fn round(&mut self, benchmark: Growth, x: u64) -> u64 {
         let count = self.source.len() as u64;
         match benchmark {
             Growth::Push => spilling::push(self.alloc, &self.vec, count, x),
             Growth::Extend => spilling::extend_from_range(self.alloc, &self.vec, count, x),
-            Growth::Splice(count) => tiny_splicing::splice(&mut self.vec, self.source, count, x),
-            Growth::Drain => tiny_cutting::drain_dropped(&mut self.vec, self.source, x),
-            Growth::Retain => tiny_cutting::retain_half(&mut self.vec, self.source, x),
+            Growth::Splice(count) => splice(&mut self.vec, self.source, count, x),
+            Growth::Drain => drain_dropped(&mut self.vec, self.source, x),
+            Growth::Retain => retain_half(&mut self.vec, self.source, x),
         }
     }
 }
@@ -77,19 +77,20 @@ pub fn of_lists<R: Runtime>(report: &mut Report<'_, R>, alloc: Global, n: usize)
     }
     let vec = TinyVec::<[u64; 4]>::new(alloc);
     let source = items.as_slice();
-    grown(report, n, &mut ListBench { alloc, vec, source });
+    grown(report, n, &mut GrowBench { alloc, vec, source });
     Ok(())
 }
 
 /// An `ArrayVec` of as many numbers as it has slots.
-pub fn of_arrays<R: Runtime, const N: usize>(report: &mut Report<'_, R>)
+pub fn of_arrays<R: Runtime, const N: usize>(report: &mut Report<'_, R>, alloc: Global)
     requires { N * 64 < 2 ^ 63 }
 {
     let source = counting::<N>();
-    let mut list = ArrayBench {
-        vec: full(source),
-        odd: full(source),
-        source: &source,
+    let mut list = ListBench {
+        alloc,
+        vec: &mut ArrayVec::from_array(source),
+        odd: &ArrayVec::from_array(source),
+        source,
     };
     grown(report, N, &mut list);
 }

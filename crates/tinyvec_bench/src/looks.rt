@@ -36,14 +36,14 @@ impl<V: PartialOrd + Hash + fmt::Debug> Bench<Look> for LookBench<'_, '_, V> {
     }
 }
 
-/// Compares `vec` to an equal one, to one that is higher at its end, and to one that is higher at its start.
+/// Compares `vec` to an equal one, to one that is higher at its end, and, where one is given, to one that is higher at its start.
 pub fn looks<'v, R: Runtime, V: PartialOrd + Hash + fmt::Debug>(
     report: &mut Report<'_, R>,
     n: usize,
     vec: &'v V,
     same: &'v V,
     last_higher: &'v V,
-    first_higher: &'v V,
+    first_higher: Option<&'v V>,
 ) {
     let mut text = Text::new();
     let mut look = LookBench {
@@ -54,29 +54,10 @@ pub fn looks<'v, R: Runtime, V: PartialOrd + Hash + fmt::Debug>(
     report.run("equal", n, Look::Equal, &mut look);
     look.other = last_higher;
     report.run("compare", n, Look::Compare, &mut look);
-    look.other = first_higher;
-    report.run("compare_first", n, Look::Compare, &mut look);
+    if let Some(first_higher) = first_higher {
+        look.other = first_higher;
+        report.run("compare_first", n, Look::Compare, &mut look);
+    }
     report.run("hash", n, Look::Hash, &mut look);
     report.run("debug_print", n, Look::DebugPrint, &mut look);
-}
-
-/// The rows of a vector in a lent slice.
-pub fn slice_looks<'v, R: Runtime, V: PartialOrd + Hash + fmt::Debug>(
-    report: &mut Report<'_, R>,
-    n: usize,
-    vec: &'v V,
-    same: &'v V,
-    last_higher: &'v V,
-) {
-    let mut text = Text::new();
-    let mut look = LookBench {
-        vec,
-        other: same,
-        text: &mut text,
-    };
-    report.run("slice_equal", n, Look::Equal, &mut look);
-    look.other = last_higher;
-    report.run("slice_compare", n, Look::Compare, &mut look);
-    report.run("slice_hash", n, Look::Hash, &mut look);
-    report.run("slice_debug_print", n, Look::DebugPrint, &mut look);
 }

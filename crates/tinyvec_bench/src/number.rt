@@ -1,7 +1,10 @@
 //! What the benchmarks' vectors hold, and what is asked of it.
 
+use std::fmt::Debug;
+use std::hash::Hash;
+
 /// A number that is made from a `u64` and adds up to one.
-pub trait Number: Copy + Clone + Default + Drop + PartialEq {
+pub trait Number: Copy + Clone + Debug + Default + Drop + Hash + PartialOrd {
     fn of(x: u64) -> Self;
 
     fn value(self) -> u64;

@@ -1,7 +1,7 @@
 //! Vectors in a lent slice.
 ghost use Rattle.std.specs.Prelude.{◌*◌, ◌^◌, ◌<◌};
 
-use crate::looks::slice_looks;
+use crate::looks::looks;
 use crate::number::is_odd;
 use crate::report::{Bench, Report};
 use crate::sources::{higher_at, pairs, scattered};
@@ -49,12 +49,12 @@ pub fn of_slices<R: Runtime, const N: usize>(report: &mut Report<'_, R>)
         slots: source,
         source: &source,
     };
-    report.run("slice_push", N, SliceEdit::Push, &mut slice);
-    report.run("slice_insert", N, SliceEdit::Insert, &mut slice);
-    report.run("slice_remove", N, SliceEdit::Remove, &mut slice);
-    report.run("slice_drain", N, SliceEdit::Drain, &mut slice);
+    report.run("push", N, SliceEdit::Push, &mut slice);
+    report.run("insert", N, SliceEdit::Insert, &mut slice);
+    report.run("remove", N, SliceEdit::Remove, &mut slice);
+    report.run("drain", N, SliceEdit::Drain, &mut slice);
     slice.source = &runs;
-    report.run("slice_retain", N, SliceEdit::Retain, &mut slice);
+    report.run("retain", N, SliceEdit::Retain, &mut slice);
     looks_at_slices(report, source);
 }
 
@@ -65,7 +65,7 @@ fn looks_at_slices<R: Runtime, const N: usize>(report: &mut Report<'_, R>, sourc
     let vec = full_slice(&mut slots);
     let same = full_slice(&mut same_slots);
     let last_higher = full_slice(&mut higher_slots);
-    slice_looks(report, N, &vec, &same, &last_higher);
+    looks(report, N, &vec, &same, &last_higher, None);
 }
 
 // A full vector over the slots.

@@ -1,73 +1,102 @@
-//! The rows of an `ArrayVec` that vectors of other crates lack: `dedup` and `splice`.
+//! The rows of `splice`, which most vectors of other crates lack.
 ghost use Rattle.std.specs.Prelude.{◌*◌, ◌^◌, ◌<◌};
 
-use crate::arrays::ArrayBench;
-use crate::filling::{extend_from_slice, full};
-use crate::lists::{Dedup, Splice, splices};
+use crate::edits::{ListBench, extend_from_slice};
 use crate::report::{Bench, Report};
 use crate::sources::{pairs, scattered};
+use crate::spilling::{SpillBench, filled, look_at};
+use crate::vector::{Place, Words};
+use std::alloc::Global;
+use std::io;
 use std::rt::Runtime;
-use tinyvec_array::ArrayVec;
+use tinyvec::TinyVec;
 
-impl<const N: usize> Bench<Dedup> for ArrayBench<'_, u64, N> {
-    #[inline(always)]
-    fn round(&mut self, _benchmark: Dedup, x: u64) -> u64 {
-        let source = self.source;
-        dedup(&mut self.vec, source, x)
-    }
+/// How many items a splice puts in the place of a quarter.
+#[derive(Clone, Copy)]
+enum Share {
+    AsMany,
+    Fewer,
+    More,
 }
 
-impl<const N: usize> Bench<Splice> for ArrayBench<'_, u64, N> {
+impl<V: Words<N>, const N: usize> Bench<Share> for ListBench<'_, u64, V, N> {
     #[inline(always)]
-    fn round(&mut self, benchmark: Splice, x: u64) -> u64 {
-        let source = self.source;
+    fn round(&mut self, benchmark: Share, x: u64) -> u64 {
+        let source = &self.source;
         match benchmark {
-            Splice::AsMany => splice(&mut self.vec, source, N as u64 / 4, x),
-            Splice::Fewer => splice(&mut self.vec, source, N as u64 / 8, x),
-            Splice::More => splice(&mut self.vec, source, N as u64 / 2, x),
+            Share::AsMany => splice(self.vec, source, N as u64 / 4, x),
+            Share::Fewer => splice(self.vec, source, N as u64 / 8, x),
+            Share::More => splice(self.vec, source, N as u64 / 2, x),
         }
     }
 }
 
-/// These rows of an `ArrayVec`, at one capacity.
-pub fn of_splices<R: Runtime, const N: usize>(report: &mut Report<'_, R>)
+/// A splice that moves a full list to the heap.
+#[derive(Clone, Copy)]
+struct SpliceMore;
+
+impl<const N: usize> Bench<SpliceMore> for SpillBench<'_, N> {
+    #[inline(always)]
+    fn round(&mut self, _benchmark: SpliceMore, x: u64) -> u64 {
+        let count = N as u64;
+        splice_more(self.alloc, self.source, count.saturating_add(count / 4), x)
+    }
+}
+
+/// The splices of a vector that stays where it is.
+pub fn of_splices<R: Runtime, V: Words<N>, const N: usize>(
+    report: &mut Report<'_, R>,
+    alloc: Global,
+    place: Place,
+) -> io::Result<()>
     requires { N * 64 < 2 ^ 63 }
 {
     let source = scattered::<u64, N>();
-    let runs = pairs::<N>();
-    let mut list = ArrayBench {
-        vec: full(source),
-        odd: full(runs),
-        source: &runs,
+    let mut list = ListBench {
+        alloc,
+        vec: &mut V::placed(alloc, place, &source)?,
+        odd: &V::placed(alloc, place, &pairs::<N>())?,
+        source,
     };
-    report.run("dedup", N, Dedup, &mut list);
-    list.source = &source;
-    splices(report, N, &mut list);
+    report.run("splice_as_many", N, Share::AsMany, &mut list);
+    report.run("splice_fewer", N, Share::Fewer, &mut list);
+    report.run("splice_more", N, Share::More, &mut list);
+    Ok(())
 }
 
-// Fills the vector with runs, and keeps one of each.
-#[inline(never)]
-fn dedup<const N: usize>(vec: &mut ArrayVec<[u64; N]>, runs: &[u64], x: u64) -> u64 {
-    extend_from_slice(vec, runs, x);
-    vec.dedup();
-    x.wrapping_add(vec.len() as u64)
+/// That of a `TinyVec` that moves to the heap in each round.
+pub fn of_spilling_splices<R: Runtime, const N: usize>(report: &mut Report<'_, R>, alloc: Global)
+    requires { N * 64 < 2 ^ 63 }
+{
+    let source = scattered::<u64, N>();
+    let mut list = SpillBench {
+        alloc,
+        other: TinyVec::new(alloc),
+        source: &source,
+    };
+    report.run("splice_more", N, SpliceMore, &mut list);
 }
 
 /// Makes the list the first three quarters of `source`, and puts `count` numbers in the place of the second quarter.
 #[inline(never)]
-pub fn splice<const N: usize>(
-    vec: &mut ArrayVec<[u64; N]>,
-    source: &[u64],
-    count: u64,
-    x: u64,
-) -> u64 {
+pub fn splice<V: Words<N>, const N: usize>(vec: &mut V, source: &[u64], count: u64, x: u64) -> u64 {
     let quarter = source.len() / 4;
     extend_from_slice(vec, &source[..3 * quarter], x);
-    if vec.len() < 2 * quarter {
+    if vec.len() < 2 * quarter || !vec.splice(quarter, 2 * quarter, count) {
         return 0;
     }
-    match vec.splice(quarter..2 * quarter, 0..count).finish() {
-        Ok(()) => x.wrapping_add(vec.len() as u64),
-        Err(_) => 0,
+    x.wrapping_add(vec.len() as u64)
+}
+
+// Puts `count` numbers in the place of the second quarter of a full list.
+#[inline(never)]
+fn splice_more<const N: usize>(alloc: Global, source: &[u64; N], count: u64, x: u64) -> u64 {
+    let Ok(mut vec) = filled(alloc, source) else {
+        return 0;
+    };
+    let quarter = vec.len() / 4;
+    if vec.splice(quarter..2 * quarter, 0..count).finish().is_err() {
+        return 0;
     }
+    look_at(vec.as_slice(), x)
 }

@@ -1,13 +1,168 @@
-//! A `TinyVec`: in its array, on the heap, and on its way there.
+//! The calls of a `TinyVec`.
+ghost use Rattle.std.specs.Prelude.{⊤};
 
-pub mod cutting;
-pub mod edits;
-pub mod emptying;
-pub mod ends;
-pub mod filling;
-pub mod lists;
-pub mod place;
-pub mod reading;
-pub mod rows;
-pub mod spilling;
-pub mod splicing;
+use crate::number::{Number, is_odd, last};
+use crate::vector::{Place, Vector, Words};
+use std::alloc::{AllocError, Global};
+use std::ops::Range;
+use tinyvec::TinyVec;
+
+impl<T: Number, const N: usize> Vector<T, N> for TinyVec<[T; N]> {
+    ghost has_room = { λ _. ⊤ };
+
+    #[inline(always)]
+    fn placed(alloc: Global, place: Place, items: &[T]) -> Result<Self, AllocError> {
+        let mut vec = TinyVec::new(alloc);
+        vec.reserve(items.len())?;
+        for item in items {
+            if vec.push(*item).is_err() {
+                return Err(AllocError);
+            }
+        }
+        match place {
+            Place::Inline => {}
+            Place::Heap => vec.move_to_the_heap()?,
+        }
+        Ok(vec)
+    }
+
+    #[inline(always)]
+    fn last_of_two_pushes(&self, alloc: Global, place: Place, x: u64) -> u64 {
+        match place {
+            Place::Inline => last(two_pushes::<T, N>(alloc, self, x).as_slice()),
+            Place::Heap => last(two_pushes_on_heap::<T, N>(alloc, self, x).as_slice()),
+        }
+    }
+
+    #[inline(always)]
+    fn last_of_clone(&self, alloc: Global, odd: &Self, x: u64) -> u64 {
+        last(clone_of::<T, N>(alloc, self, odd, x).as_slice())
+    }
+
+    #[inline(always)]
+    fn len(&self) -> usize {
+        self.len()
+    }
+
+    #[inline(always)]
+    fn empty(&mut self) {
+        match self {
+            TinyVec::Inline(array, _) => array.set_len(0),
+            TinyVec::Heap(heap) => heap.truncate(0),
+        }
+    }
+
+    #[inline(always)]
+    fn push(&mut self, x: T) -> bool {
+        self.push(x).is_ok()
+    }
+
+    #[inline(always)]
+    fn pop(&mut self) -> Option<T> {
+        self.pop()
+    }
+
+    #[inline(always)]
+    fn insert(&mut self, i: usize, x: T) -> bool {
+        self.insert(i, x).is_ok()
+    }
+
+    #[inline(always)]
+    fn remove(&mut self, i: usize) -> T {
+        self.remove(i)
+    }
+
+    #[inline(always)]
+    fn swap_remove(&mut self, i: usize) -> T {
+        self.swap_remove(i)
+    }
+
+    #[inline(always)]
+    fn truncate(&mut self, n: usize) {
+        self.truncate(n);
+    }
+
+    #[inline(always)]
+    fn extend_from_slice(&mut self, source: &[T]) -> bool {
+        self.extend_from_slice(source).is_ok()
+    }
+}
+
+impl<const N: usize> Words<N> for TinyVec<[u64; N]> {
+    #[inline(always)]
+    fn extend_from_range(&mut self, numbers: Range<u64>) -> bool {
+        self.extend(numbers).is_ok()
+    }
+
+    #[inline(always)]
+    fn drain_taken(&mut self, start: usize, end: usize, x: u64) -> u64 {
+        let mut sum = x;
+        for y in self.drain(start..end) {
+            sum = sum.wrapping_add(y);
+        }
+        sum
+    }
+
+    #[inline(always)]
+    fn drain_dropped(&mut self, start: usize, end: usize) {
+        drop(self.drain(start..end));
+    }
+
+    #[inline(always)]
+    fn retain_odd(&mut self) {
+        self.retain(is_odd);
+    }
+
+    #[inline(always)]
+    fn dedup(&mut self) {
+        self.dedup();
+    }
+
+    #[inline(always)]
+    fn splice(&mut self, start: usize, end: usize, count: u64) -> bool {
+        self.splice(start..end, 0..count).finish().is_ok()
+    }
+}
+
+// A new vector as long as `_like`, and two pushes.
+#[inline(never)]
+fn two_pushes<T: Number, const N: usize>(
+    alloc: Global,
+    _like: &TinyVec<[T; N]>,
+    x: u64,
+) -> TinyVec<[T; N]> {
+    let mut vec = TinyVec::new(alloc);
+    let _first = vec.push(T::of(x));
+    let _second = vec.push(T::of(x));
+    vec
+}
+
+// A new vector as long as `_like` with room on the heap, and two pushes.
+#[inline(never)]
+fn two_pushes_on_heap<T: Number, const N: usize>(
+    alloc: Global,
+    _like: &TinyVec<[T; N]>,
+    x: u64,
+) -> TinyVec<[T; N]> {
+    let Ok(mut vec) = TinyVec::with_capacity(alloc, N.saturating_add(1)) else {
+        return TinyVec::new(alloc);
+    };
+    let _first = vec.push(T::of(x));
+    let _second = vec.push(T::of(x));
+    vec
+}
+
+// A clone of the one or the other, as `x` is even or odd.
+#[inline(never)]
+fn clone_of<T: Number, const N: usize>(
+    alloc: Global,
+    even: &TinyVec<[T; N]>,
+    odd: &TinyVec<[T; N]>,
+    x: u64,
+) -> TinyVec<[T; N]> {
+    let vec = if x % 2 == 0 { even } else { odd };
+    match vec.clone() {
+        Ok(copy) => copy,
+        Err(_) => TinyVec::new(alloc),
+    }
+}

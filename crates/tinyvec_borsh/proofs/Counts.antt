@@ -9,7 +9,7 @@ count-below n count p = omega (arith, p.value, number-below count 8 p.many p.sma
 module _ {C : Type 0} (Spells : C → List ℕ → Type 0) (Fits : C → Type 0) where
   -- a list that has room for every count is never too long, but for what is in its items
   pub never-too-many : (input : List ℕ) → HasTooMany Spells Fits (2 ^ 64 - 1) input → ⊥
-  never-too-many input m = omega (arith, m.5, count-below m.0 m.3.count m.3.counted)
+  never-too-many input m = omega (arith, m.above, count-below m.len m.count m.counted)
 
   pub never-too-long : (input : List ℕ) → IsListTooLong Spells Fits (λ _. ⊥) (2 ^ 64 - 1) input → ⊥
-  never-too-long input long = elim long [ inl many ↦ never-too-many input many | inr item ↦ item.6 ]
+  never-too-long input long = elim long [ inl many ↦ never-too-many input many | inr item ↦ item.left ]

@@ -1,5 +1,5 @@
 -- Where the fronts of spellings are cut, so are those of what is made of them.
-use Rattle.std.proofs.Common.{◌≡◌, ◌∙◌, ap, sym, subst, ℕ, ◌<◌, ◌⊎◌, inl, inr, List, [], ◌∷◌, ◌++◌, length, refl, arith, append-nil, append_assoc, length-append}
+use Rattle.std.proofs.Common.{◌≡◌, ◌∙◌, ap, sym, subst, ℕ, ◌<◌, ◌⊎◌, inl, inr, List, [], ◌∷◌, ◌++◌, length, refl, arith, append-nil, length-append}
 use Rattle.std.specs.Prelude.{ℤ}
 use Rattle.std.specs.Int.{Width}
 use Rattle.std.specs.List.{AllByRecursion}
@@ -7,6 +7,7 @@ use Rattle.tinyvec_borsh.specs.Both.{BothFit, InEither, SpellsBoth}
 use Rattle.tinyvec_borsh.specs.Fronts.{FrontsAreCut}
 use Rattle.tinyvec_borsh.specs.Items.{IsListCut, ListFits, SpellsItems, SpellsList}
 use Rattle.tinyvec_borsh.specs.Number.{SpellsNumber, SpellsSigned}
+use Rattle.tinyvec_borsh.specs.Parts.{HasParts, group-first, joined}
 
 -- a list of two parts is cut in its first part, or in its second
 cut-place : (x y a b : List ℕ) → x ++ y ≡ a ++ b → ((r : List ℕ) × (x ≡ a ++ r) × (0 < length r)) ⊎ ((r : List ℕ) × (a ≡ x ++ r) × (y ≡ r ++ b))
@@ -29,9 +30,13 @@ signed-fronts w width Fits c front back some fits p = omega (arith, some, p.1.ma
 -- the first, or the second behind it
 pub both-fronts : {A B : Type 0} (SpellsA : A → List ℕ → Type 0) (SpellsB : B → List ℕ → Type 0) (FitsA : A → Type 0) (FitsB : B → Type 0) (CutA CutB : List ℕ → Type 0)
     → FrontsAreCut SpellsA FitsA CutA → FrontsAreCut SpellsB FitsB CutB → FrontsAreCut (SpellsBoth SpellsA SpellsB) (BothFit FitsA FitsB) (InEither SpellsA FitsA CutA CutB)
-both-fronts SpellsA SpellsB FitsA FitsB CutA CutB fronts_a fronts_b c front back some fits p = elim (cut-place p.0 p.1 front back (sym p.4)) [
-  | inl f ↦ inl (fronts_a c.0 front f.0 f.2 fits.0 (subst (SpellsA c.0) f.1 p.2))
-  | inr s ↦ inr (c.0, p.0, s.0, fits.0, p.2, s.1, fronts_b c.1 s.0 back some fits.1 (subst (SpellsB c.1) s.2 p.3))
+both-fronts SpellsA SpellsB FitsA FitsB CutA CutB fronts_a fronts_b c front back some fits p = elim (cut-place p.first p.rest front back (sym p.whole)) [
+  | inl f ↦ inl (fronts_a c.0 front f.0 f.2 fits.0 (subst (SpellsA c.0) f.1 p.is_first))
+  | inr s ↦ inr (record {
+    content = c.0;
+    fits = fits.0;
+    parts = record { first = p.first; rest = s.0; is_first = p.is_first; is_rest = fronts_b c.1 s.0 back some fits.1 (subst (SpellsB c.1) s.2 p.is_rest); whole = s.1 };
+  })
 ]
 
 module _ {C : Type 0} (Spells : C → List ℕ → Type 0) (Fits : C → Type 0) (P : List ℕ → Type 0) where
@@ -39,13 +44,9 @@ module _ {C : Type 0} (Spells : C → List ℕ → Type 0) (Fits : C → Type 0)
   pub record HasFirst (cs : List C) (front : List ℕ) : Type 0 where
     pub first : List C
     pub more : List C
-    pub bytes : List ℕ
-    pub tail : List ℕ
     pub all : cs ≡ first ++ more
     pub fit : AllByRecursion Fits first
-    pub spelled : SpellsItems Spells first bytes
-    pub whole : front ≡ bytes ++ tail
-    pub left : P tail
+    pub parts : HasParts (SpellsItems Spells first) P front
 
   -- They are not all of the items.
   abbrev HasSome : List C → List ℕ → Type 0
@@ -57,13 +58,9 @@ module _ {C : Type 0} (Spells : C → List ℕ → Type 0) (Fits : C → Type 0)
         record {
           first = c ∷ t.first;
           more = t.more;
-          bytes = a ++ t.bytes;
-          tail = t.tail;
           all = ap (λ l. c ∷ l) t.all;
           fit = (fits, t.fit);
-          spelled = (a, t.bytes, p, t.spelled, refl);
-          whole = is ∙ ap (λ l. a ++ l) t.whole ∙ sym (append_assoc a t.bytes t.tail);
-          left = t.left;
+          parts = group-first (record { first = a; rest = r; is_first = p; is_rest = t.parts; whole = is });
         },
         s.1,
       )
@@ -72,22 +69,18 @@ module _ {C : Type 0} (Spells : C → List ℕ → Type 0) (Fits : C → Type 0)
     -- where some byte of the last item is missing, one is cut
     cut-items : (cs : List C) (front back : List ℕ) → 0 < length back → AllByRecursion Fits cs → SpellsItems Spells cs (front ++ back) → HasSome cs front
     cut-items [] front back some fit p = absurd (omega (arith, some, ap length p, length-append front back))
-    cut-items (c ∷ cs) front back some fit p = elim (cut-place p.0 p.1 front back (sym p.4)) [
+    cut-items (c ∷ cs) front back some fit p = elim (cut-place p.first p.rest front back (sym p.whole)) [
       | inl f ↦ (
         record {
           first = [];
           more = c ∷ cs;
-          bytes = [];
-          tail = front;
           all = refl;
           fit = tt;
-          spelled = refl;
-          whole = refl;
-          left = fronts c front f.0 f.2 fit.0 (subst (Spells c) f.1 p.2);
+          parts = joined [] front refl (fronts c front f.0 f.2 fit.0 (subst (Spells c) f.1 p.is_first));
         },
         omega arith,
       )
-      | inr s ↦ one-before c cs p.0 s.0 front fit.0 p.2 s.1 (cut-items cs s.0 back some fit.1 (subst (SpellsItems Spells cs) s.2 p.3))
+      | inr s ↦ one-before c cs p.first s.0 front fit.0 p.is_first s.1 (cut-items cs s.0 back some fit.1 (subst (SpellsItems Spells cs) s.2 p.is_rest))
     ]
 
     -- a front of the items' spelling, the whole of it too
@@ -95,30 +88,24 @@ module _ {C : Type 0} (Spells : C → List ℕ → Type 0) (Fits : C → Type 0)
     items-fronts none cs front [] fit p = record {
       first = cs;
       more = [];
-      bytes = front;
-      tail = [];
       all = sym (append-nil cs);
       fit = fit;
-      spelled = subst (SpellsItems Spells cs) (append-nil front) p;
-      whole = sym (append-nil front);
-      left = none;
+      parts = record { first = front; rest = []; is_first = subst (SpellsItems Spells cs) (append-nil front) p; is_rest = none; whole = sym (append-nil front) };
     }
     items-fronts none cs front (byte ∷ back) fit p = (cut-items cs front (byte ∷ back) (omega arith) fit p).0
 
     -- the count, or an item
     pub list-fronts : (room : ℕ) → FrontsAreCut (SpellsList Spells) (ListFits Spells Fits room) (IsListCut Spells Fits P room)
-    list-fronts room cs front back some fits p = elim (cut-place p.0 p.1 front back (sym p.4)) [
-      | inl f ↦ inl (omega (arith, f.2, p.2.many, ap length f.1, length-append front f.0))
+    list-fronts room cs front back some fits p = elim (cut-place p.first p.rest front back (sym p.whole)) [
+      | inl f ↦ inl (omega (arith, f.2, p.is_first.many, ap length f.1, length-append front f.0))
       | inr s ↦
-          let t = cut-items cs s.0 back some fits.items (subst (SpellsItems Spells cs) s.2 p.3) in
+          let t = cut-items cs s.0 back some fits.items (subst (SpellsItems Spells cs) s.2 p.is_rest) in
+          let items = t.0.parts in
           let fewer : length t.0.first < length cs = omega (arith, t.1, ap length t.0.all, length-append t.0.first t.0.more) in
-          inr (
-            length cs,
-            t.0.first,
-            t.0.tail,
-            record { count = p.0; bytes = t.0.bytes; counted = p.2; spelled = t.0.spelled; fit = t.0.fit; whole = s.1 ∙ ap (λ l. p.0 ++ l) t.0.whole },
-            fewer,
-            omega (arith, fewer, fits.few),
-            t.0.left,
-          )
+          inr (record {
+            has = record { len = length cs; items = t.0.first; count = p.first; bytes = items.first; tail = items.rest; counted = p.is_first; spelled = items.is_first; fit = t.0.fit; whole = s.1 ∙ ap (λ l. p.first ++ l) items.whole };
+            fewer = fewer;
+            few = omega (arith, fewer, fits.few);
+            left = items.is_rest;
+          })
     ]

@@ -1,10 +1,11 @@
 -- Which items stand at the front of an input.
-use Rattle.std.proofs.Common.{◌≡◌, ◌∙◌, ap, sym, ℕ, ◌<◌, inl, inr, List, [], ◌∷◌, ◌++◌, length, refl, arith, append-nil, append_assoc, length-append}
+use Rattle.std.proofs.Common.{◌≡◌, ◌∙◌, ap, sym, ℕ, ◌<◌, inl, inr, List, [], ◌∷◌, ◌++◌, length, refl, arith, append-nil, length-append}
 use Rattle.std.specs.List.{AllByRecursion}
 use Rattle.std.proofs.lemmas.Bool.{cases_lt}
 use Rattle.tinyvec_borsh.specs.Code.{IsCode}
 use Rattle.tinyvec_borsh.specs.Items.{SpellsItems}
 use Rattle.tinyvec_borsh.specs.ItemsLaws.{next-item, same-item, same-items}
+use Rattle.tinyvec_borsh.specs.Parts.{with-tail}
 
 module _ {C : Type 0} (Spells : C → List ℕ → Type 0) (code : IsCode Spells) where
   -- fewer items at the front of the same input are the first ones
@@ -12,9 +13,8 @@ module _ {C : Type 0} (Spells : C → List ℕ → Type 0) (code : IsCode Spells
   fewer-first [] ds a b x y fewer p q e = (ds, refl)
   fewer-first (c ∷ cs) [] a b x y fewer p q e = absurd (omega (arith, fewer))
   fewer-first (c ∷ cs) (d ∷ ds) a b x y fewer p q e =
-      let whole : p.0 ++ (p.1 ++ x) ≡ q.0 ++ (q.1 ++ y) = sym (append_assoc p.0 p.1 x) ∙ ap (λ l. l ++ x) (sym p.4) ∙ e ∙ ap (λ l. l ++ y) q.4 ∙ append_assoc q.0 q.1 y in
-      let item = same-item Spells code c d p.0 q.0 (p.1 ++ x) (q.1 ++ y) p.2 q.2 whole in
-      let more = fewer-first cs ds p.1 q.1 x y (omega (arith, fewer)) p.3 q.3 item.2 in
+      let item = same-item Spells code c d p.first q.first (p.rest ++ x) (q.rest ++ y) p.is_first q.is_first (sym (with-tail p x) ∙ e ∙ with-tail q y) in
+      let more = fewer-first cs ds p.rest q.rest x y (omega (arith, fewer)) p.is_rest q.is_rest item.2 in
       (more.0, λ i. sym item.0 i ∷ more.1 i)
 
   module _ (Fits : C → Type 0) where
@@ -27,7 +27,7 @@ module _ {C : Type 0} (Spells : C → List ℕ → Type 0) (code : IsCode Spells
     first-items cs ds a b x y none fit p q e = elim (cases_lt (length cs) (length ds)) [
       | inl further ↦
           let next = next-item Spells code Fits cs ds a b x y further p q e in
-          absurd (none next.0 next.1 next.2 (next.5 fit) next.3 next.4)
+          absurd (none next.0 next.1.first next.1.rest (next.2 fit) next.1.is_first next.1.whole)
       | inr no_further ↦ elim (cases_lt (length ds) (length cs)) [
         | inl fewer ↦ fewer-first ds cs b a y x fewer q p (sym e)
         | inr no_fewer ↦

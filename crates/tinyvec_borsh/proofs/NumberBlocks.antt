@@ -1,18 +1,19 @@
 -- Numbers that are written and read in blocks.
-use Rattle.std.proofs.Common.{◌≡◌, ◌∙◌, ap, sym, subst, ℕ, ◌+◌, ◌-◌, ◌*◌, ◌/◌, ◌<◌, ◌≤◌, zero, suc, inl, inr, List, [], ◌∷◌, ◌++◌, length, refl, arith, append_assoc, length-append, Option, take, drop, get_or, slice_set, take-append-drop, length-take-le, length-drop, take-add}
+use Rattle.std.proofs.Common.{◌≡◌, ◌∙◌, ap, sym, subst, ℕ, ◌+◌, ◌-◌, ◌*◌, ◌/◌, ◌<◌, ◌≤◌, zero, suc, inl, inr, List, [], ◌∷◌, ◌++◌, length, refl, arith, length-append, Option, take, drop, get_or, slice_set, take-append-drop, length-take-le, length-drop, take-add}
 use Rattle.std.proofs.Math.Nat.{div-mul-le_self, mul-le-mul_right}
 use Rattle.std.proofs.lemmas.Bool.{cases_lt}
 use Rattle.std.proofs.lemmas.List.{take_more, take_more_set}
 use Rattle.std.specs.List.{AllByRecursion}
 use Rattle.std.specs.Io.KnownBytes.{Appends}
-use Rattle.std.proofs.KnownBytes.{Appends-trans, Consumes-trans}
+use Rattle.std.proofs.KnownBytes.{Appends-trans}
 use Rattle.tinyvec_borsh.specs.declared.borsh_error.BorshError.{BorshError}
 use Rattle.tinyvec_borsh.specs.declared.borsh_error.BorshError.TheVariants.{Ended, InvalidLength, Io, Memory}
 use Rattle.tinyvec_borsh.specs.Items.{SpellsItems, AfterItems}
 use Rattle.tinyvec_borsh.specs.Number.{SpellsNumber}
-use Rattle.tinyvec_borsh.specs.Reading.{Fails, IsFewBytes, MayBe, Takes}
+use Rattle.tinyvec_borsh.specs.Parts.{HasParts, first-so, group-first, joined, rest-so}
+use Rattle.tinyvec_borsh.specs.Reading.{Fails, IsFewBytes, MayBe}
 use Rattle.tinyvec_borsh.proofs.Blocks.{TookItems}
-use Rattle.tinyvec_borsh.proofs.ItemByItem.{WroteItems, fit-join, fit-more, items-join, items-more, maybe-behind, maybe-so}
+use Rattle.tinyvec_borsh.proofs.ItemByItem.{WroteItems, fails-so, fit-join, fit-more, items-join, items-more, maybe-behind, maybe-so}
 
 -- a number more takes as many bytes more
 one-more : (i width : ℕ) → (i + 1) * width ≡ i * width + width
@@ -37,16 +38,13 @@ small_bytes (x ∷ bytes) small = (small 0, small_bytes bytes (λ i. small (suc 
 -- each byte spells itself
 pub spells-bytes : (xs : List ℕ) → AllByRecursion (λ byte. byte < 256) xs → SpellsItems (SpellsNumber 1) xs xs
 spells-bytes [] small = refl
-spells-bytes (x ∷ xs) small = (x ∷ [], xs, record { many = refl; small = (small.0, tt); value = omega arith }, spells-bytes xs small.1, refl)
+spells-bytes (x ∷ xs) small = joined (x ∷ []) xs (record { many = refl; small = (small.0, tt); value = omega arith }) (spells-bytes xs small.1)
 
 -- the first items, and the block behind them
 pub until-end : {T : Type 0} (start count : ℕ) (xs : List T) → take (start + count) xs ≡ take start xs ++ take (start + count - start) (drop start xs)
 until-end start count xs =
     let many : start + count - start ≡ count = omega arith in
     take-add start count xs ∙ ap (λ n. take start xs ++ take n (drop start xs)) (sym many)
-
-behind-front : (n : ℕ) (input bytes rest : List ℕ) → drop n input ≡ bytes ++ rest → input ≡ (take n input ++ bytes) ++ rest
-behind-front n input bytes rest is = sym (take-append-drop n input) ∙ ap (λ l. take n input ++ l) is ∙ sym (append_assoc (take n input) bytes rest)
 
 small-take : (n : ℕ) (bytes : List ℕ) → AllByRecursion (λ byte. byte < 256) bytes → AllByRecursion (λ byte. byte < 256) (take n bytes)
 small-take zero bytes small = tt
@@ -68,7 +66,7 @@ module _ {C : Type 0} (Spells : C → List ℕ → Type 0) (Fits : C → Type 0)
       subst (λ cs. SpellsItems Spells cs (take ((i + 1) * width) bytes)) (sym (take_more_set xs i x within)) (subst (SpellsItems Spells _) (sym front) more)
 
   pub fit-slot : (xs : List C) (i : ℕ) (x : C) → i < length xs → AllByRecursion Fits (take i xs) → Fits x → AllByRecursion Fits (take (i + 1) (slice_set xs i x))
-  fit-slot xs i x within before fits = subst (AllByRecursion Fits) (sym (take_more_set xs i x within)) (fit-more Spells Fits (take i xs) x before fits)
+  fit-slot xs i x within before fits = subst (AllByRecursion Fits) (sym (take_more_set xs i x within)) (fit-more Fits (take i xs) x before fits)
 
   next-item : (xs : List C) (i : ℕ) (x : C) → i < length xs → x ≡ get_or xs i x → take (i + 1) xs ≡ take i xs ++ x ∷ []
   next-item xs i x within is = take_more xs i x within ∙ ap (λ y. take i xs ++ y ∷ []) (sym is)
@@ -81,69 +79,54 @@ module _ {C : Type 0} (Spells : C → List ℕ → Type 0) (Fits : C → Type 0)
       subst (λ cs. SpellsItems Spells cs (take ((i + 1) * width) new)) (sym (next-item xs i x within is)) (subst (SpellsItems Spells _) (sym front) (items-more Spells (take i xs) x _ bytes before next))
 
   pub fit-put : (xs : List C) (i : ℕ) (x : C) → i < length xs → x ≡ get_or xs i x → AllByRecursion Fits (take i xs) → Fits x → AllByRecursion Fits (take (i + 1) xs)
-  fit-put xs i x within is before fits = subst (AllByRecursion Fits) (sym (next-item xs i x within is)) (fit-more Spells Fits (take i xs) x before fits)
-
-  -- a block was read behind the items so far
-  pub took-block : (xs ys zs : List C) (old mid new : Option (List ℕ)) → zs ≡ xs ++ ys → TookItems Spells Fits xs old mid → Takes (SpellsItems Spells ys) mid new → AllByRecursion Fits ys → TookItems Spells Fits zs old new
-  took-block xs ys zs old mid new joined w t f = subst (λ cs. TookItems Spells Fits cs old new) (sym joined) (record {
-    bytes = w.bytes ++ t.0;
-    spelled = items-join Spells xs ys w.bytes t.0 w.spelled t.1;
-    fit = fit-join Spells Fits xs ys w.fit f;
-    taken = Consumes-trans old mid new w.bytes t.0 w.taken t.2;
-  })
+  fit-put xs i x within is before fits = subst (AllByRecursion Fits) (sym (next-item xs i x within is)) (fit-more Fits (take i xs) x before fits)
 
   -- a block was put into the room and written behind the items so far
   pub wrote-block : (width n : ℕ) (xs ys zs : List C) (bytes room : List ℕ) (old mid new : Option (List ℕ)) → zs ≡ xs ++ ys → bytes ≡ take (n * width) room → n ≡ length ys → WroteItems Spells xs old mid
       → SpellsItems Spells ys (take (length ys * width) room) → Appends mid new bytes → WroteItems Spells zs old new
-  wrote-block width n xs ys zs bytes room old mid new joined is many w spelled added = subst (λ cs. WroteItems Spells cs old new) (sym joined) (record {
+  wrote-block width n xs ys zs bytes room old mid new both is many w spelled added = subst (λ cs. WroteItems Spells cs old new) (sym both) (record {
     bytes = w.bytes ++ bytes;
-    spelled = items-join Spells xs ys w.bytes bytes w.spelled (subst (SpellsItems Spells ys) (sym (is ∙ ap (λ m. take (m * width) room) many)) spelled);
+    spelled = items-join Spells xs ys (w.bytes ++ bytes) (joined w.bytes bytes w.spelled (subst (SpellsItems Spells ys) (sym (is ∙ ap (λ m. take (m * width) room) many)) spelled));
     appended = Appends-trans old mid new w.bytes bytes w.appended added;
   })
 
   pub fit-block : (xs ys zs : List C) → zs ≡ xs ++ ys → AllByRecursion Fits xs → AllByRecursion Fits ys → AllByRecursion Fits zs
-  fit-block xs ys zs joined p q = subst (AllByRecursion Fits) (sym joined) (fit-join Spells Fits xs ys p q)
+  fit-block xs ys zs both p q = subst (AllByRecursion Fits) (sym both) (fit-join Fits xs ys p q)
 
   behind-block : (P : List ℕ → Type 0) (k n : ℕ) (cs : List C) (old mid : Option (List ℕ)) → TookItems Spells Fits cs old mid → length cs + k ≤ n → MayBe mid (AfterItems Spells Fits P k) → MayBe old (AfterItems Spells Fits P n)
-  behind-block P k n cs old mid w fewer may = maybe-behind old mid w.bytes (AfterItems Spells Fits P k) _ w.taken (λ input tail is so. (
-    cs ++ so.0,
-    w.bytes ++ so.1,
-    so.2,
-    items-join Spells cs so.0 w.bytes so.1 w.spelled so.3,
-    fit-join Spells Fits cs so.0 w.fit so.4,
-    is ∙ ap (λ l. w.bytes ++ l) so.5 ∙ sym (append_assoc w.bytes so.1 so.2),
-    omega (arith, length-append cs so.0, so.6, fewer),
-    so.7,
-  )) may
+  behind-block P k n cs old mid w fewer may = maybe-behind old mid (AfterItems Spells Fits P k) _ w.taken (λ input p.
+      let so = p.is_rest in
+      let q : HasParts (HasParts (SpellsItems Spells cs) (SpellsItems Spells so.items)) P input = group-first (rest-so p so.parts) in
+      record {
+        items = cs ++ so.items;
+        fewer = omega (arith, length-append cs so.items, so.fewer, fewer);
+        fit = fit-join Fits cs so.items w.fit so.fit;
+        parts = first-so q (items-join Spells cs so.items q.first q.is_first);
+      }) may
 
   -- an item of the block was not read, and the input is so from it on
   pub fails-behind-block : (IsCut IsTooLong MayAsk : List ℕ → Type 0) (k n : ℕ) (cs : List C) (old mid : Option (List ℕ)) (before between after : ℕ) (e : BorshError) → TookItems Spells Fits cs old mid → length cs + k ≤ n → before ≤ between
       → Fails (AfterItems Spells Fits IsCut k) (AfterItems Spells Fits IsTooLong k) (AfterItems Spells Fits MayAsk k) mid between after e
       → Fails (AfterItems Spells Fits IsCut n) (AfterItems Spells Fits IsTooLong n) (AfterItems Spells Fits MayAsk n) old before after e
-  fails-behind-block IsCut IsTooLong MayAsk k n cs old mid before between after Ended w fewer grows f = behind-block IsCut k n cs old mid w fewer f
-  fails-behind-block IsCut IsTooLong MayAsk k n cs old mid before between after InvalidLength w fewer grows f = behind-block IsTooLong k n cs old mid w fewer f
-  fails-behind-block IsCut IsTooLong MayAsk k n cs old mid before between after Io w fewer grows f = elim f [ inl less ↦ inl (omega (arith, less, grows)) | inr full ↦ inr full ]
-  fails-behind-block IsCut IsTooLong MayAsk k n cs old mid before between after Memory w fewer grows f = behind-block MayAsk k n cs old mid w fewer f
+  fails-behind-block IsCut IsTooLong MayAsk k n cs old mid before between after e w fewer grows f =
+      fails-so _ _ _ _ _ _ old mid before between after e grows f (behind-block IsCut k n cs old mid w fewer) (behind-block IsTooLong k n cs old mid w fewer) (behind-block MayAsk k n cs old mid w fewer)
 
   module _ (width : ℕ) (of_bytes : List ℕ → C) (read : (bytes : List ℕ) → length bytes ≡ width → AllByRecursion (λ byte. byte < 256) bytes → Spells (of_bytes bytes) bytes × Fits (of_bytes bytes)) where
     -- of fewer bytes than so many numbers have, the last number that begins is cut
     few-numbers : (n : ℕ) (input : List ℕ) → IsFewBytes (n * width) input → AfterItems Spells Fits (λ rest. length rest < width) n input
     few-numbers zero input few = absurd (omega (arith, few.1))
     few-numbers (suc n) input few = elim (cases_lt (length input) width) [
-      | inl cut ↦ ([], [], input, refl, tt, refl, omega arith, cut)
+      | inl cut ↦ record { items = []; fewer = omega arith; fit = tt; parts = joined [] input refl cut }
       | inr enough ↦
           let long = length-take-le width input enough in
           let one = read (take width input) long (small-take width input few.0) in
-          let rest = few-numbers n (drop width input) (small-drop width input few.0, omega (arith, length-drop width input, few.1, enough)) in (
-            of_bytes (take width input) ∷ rest.0,
-            take width input ++ rest.1,
-            rest.2,
-            (take width input, rest.1, one.0, rest.3, refl),
-            (one.1, rest.4),
-            behind-front width input rest.1 rest.2 rest.5,
-            omega (arith, rest.6),
-            rest.7,
-          )
+          let rest = few-numbers n (drop width input) (small-drop width input few.0, omega (arith, length-drop width input, few.1, enough)) in
+          record {
+            items = of_bytes (take width input) ∷ rest.items;
+            fewer = omega (arith, rest.fewer);
+            fit = (one.1, rest.fit);
+            parts = group-first (record { first = take width input; rest = drop width input; is_first = one.0; is_rest = rest.parts; whole = sym (take-append-drop width input) });
+          }
     ]
 
     -- so many numbers have `many` bytes, which were not all there

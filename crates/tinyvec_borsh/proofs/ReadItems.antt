@@ -2,39 +2,34 @@
 use Rattle.std.proofs.Common.{◌≡◌, ◌∙◌, ap, sym, subst, ℕ, List, [], ◌∷◌, ◌++◌, Option, map, refl, append-nil, append_assoc}
 use Rattle.std.proofs.lemmas.List.{map-append}
 use Rattle.std.specs.List.{AllByRecursion}
-use Rattle.std.specs.Io.KnownBytes.{Consumes}
-use Rattle.std.proofs.KnownBytes.{Consumes-nil, Consumes-trans}
+use Rattle.std.proofs.KnownBytes.{Consumes-nil}
 use Rattle.tinyvec_borsh.specs.Items.{BeginsWithItems, SpellsItems}
 use Rattle.tinyvec_borsh.specs.Reading.{MayBe, Takes}
-use Rattle.tinyvec_borsh.proofs.ItemByItem.{fit-more, items-more, maybe-behind}
+use Rattle.tinyvec_borsh.proofs.ItemByItem.{fit-more, maybe-behind, one-item, takes-items, takes-so}
 
 module _ {T C : Type 0} (content : T → C) (Spells : C → List ℕ → Type 0) (Fits : C → Type 0) where
   -- Behind the items from before these stand now, and just their spellings were taken.
   pub record ReadItems (before now : List T) (old new : Option (List ℕ)) : Type 0 where
     pub more : List T
-    pub bytes : List ℕ
     pub grown : now ≡ before ++ more
     pub fit : AllByRecursion Fits (map content more)
-    pub spelled : SpellsItems Spells (map content more) bytes
-    pub taken : Consumes old new bytes
+    pub taken : Takes (SpellsItems Spells (map content more)) old new
 
   pub read-none : (before : List T) (old : Option (List ℕ)) → ReadItems before before old old
-  read-none before old = record { more = []; bytes = []; grown = sym (append-nil before); fit = tt; spelled = refl; taken = Consumes-nil old }
+  read-none before old = record { more = []; grown = sym (append-nil before); fit = tt; taken = ([], refl, Consumes-nil old) }
 
   pub read-next : (before now next : List T) (x : T) (old mid new : Option (List ℕ)) → ReadItems before now old mid → Takes (Spells (content x)) mid new → Fits (content x) → next ≡ now ++ x ∷ [] → ReadItems before next old new
   read-next before now next x old mid new r t fits pushed =
       let all_more : map content (r.more ++ x ∷ []) ≡ map content r.more ++ content x ∷ [] = map-append content r.more (x ∷ []) in
       record {
         more = r.more ++ x ∷ [];
-        bytes = r.bytes ++ t.0;
         grown = pushed ∙ ap (λ l. l ++ x ∷ []) r.grown ∙ append_assoc before r.more (x ∷ []);
-        fit = subst (AllByRecursion Fits) (sym all_more) (fit-more Spells Fits (map content r.more) (content x) r.fit fits);
-        spelled = subst (λ cs. SpellsItems Spells cs (r.bytes ++ t.0)) (sym all_more) (items-more Spells (map content r.more) (content x) r.bytes t.0 r.spelled t.1);
-        taken = Consumes-trans old mid new r.bytes t.0 r.taken t.2;
+        fit = subst (AllByRecursion Fits) (sym all_more) (fit-more Fits (map content r.more) (content x) r.fit fits);
+        taken = subst (λ cs. Takes (SpellsItems Spells cs) old new) (sym all_more) (takes-items Spells (map content r.more) (content x ∷ []) old mid new r.taken (takes-so mid new (one-item Spells (content x)) t));
       }
 
   -- and behind them the input is so
   pub read-then : (before now : List T) (P : List ℕ → Type 0) (old new : Option (List ℕ)) → ReadItems before now old new → MayBe new P
       → (more : List T) × (now ≡ before ++ more) × AllByRecursion Fits (map content more) × MayBe old (BeginsWithItems Spells (map content more) P)
   read-then before now P old new r may =
-      (r.more, r.grown, r.fit, maybe-behind old new r.bytes P (BeginsWithItems Spells (map content r.more) P) r.taken (λ input tail whole so. (r.bytes, tail, r.spelled, whole, so)) may)
+      (r.more, r.grown, r.fit, maybe-behind old new P (BeginsWithItems Spells (map content r.more) P) r.taken (λ input p. p) may)

@@ -45,7 +45,7 @@ module _ {C : Type 0} (tag : ℕ) (Spells : C → List ℕ → Type 0) where
 module _ (n : ℕ) (old mid : Option (List ℕ)) (byte : Takes (SpellsNumber 1 n) old mid) where
   -- what was read behind a byte
   pub behind-byte : (P Q : List ℕ → Type 0) → ((input tail : List ℕ) → input ≡ n ∷ tail → P tail → Q input) → MayBe mid P → MayBe old Q
-  behind-byte P Q then may = maybe-behind old mid byte.0 P Q byte.2 (λ input tail whole so. then input tail (whole ∙ ap (λ l. l ++ tail) (one-byte n byte.0 byte.1)) so) may
+  behind-byte P Q then may = maybe-behind old mid P Q byte (λ input p. then input p.rest (p.whole ∙ ap (λ l. l ++ p.rest) (one-byte n p.first p.is_first)) p.is_rest) may
 
   module _ (tag : ℕ) (is : n ≡ tag) where
     pub takes-tagged : {C : Type 0} (Spells : C → List ℕ → Type 0) (c : C) (new : Option (List ℕ)) → Takes (Spells c) mid new → Takes (SpellsTagged tag Spells c) old new

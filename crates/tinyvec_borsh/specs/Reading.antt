@@ -4,6 +4,7 @@ use Rattle.std.specs.List.{AllByRecursion}
 use Rattle.std.specs.Io.KnownBytes.{Consumes}
 use Rattle.tinyvec_io.specs.Counted.{Reported}
 use Rattle.tinyvec_borsh.specs.Items.{IsCount, SpellsItems}
+use Rattle.tinyvec_borsh.specs.Parts.{HasParts}
 use Rattle.tinyvec_borsh.specs.declared.borsh_error.BorshError.{BorshError}
 use Rattle.tinyvec_borsh.specs.declared.borsh_error.BorshError.TheVariants.{Ended, InvalidLength, Io, Memory}
 
@@ -37,12 +38,17 @@ ReadsBack content MayAsk c input rest new old_faults new_faults (Err Memory) = M
 ReadsBack content MayAsk c input rest new old_faults new_faults (Err Ended) = ⊥
 ReadsBack content MayAsk c input rest new old_faults new_faults (Err InvalidLength) = ⊥
 
--- After `InvalidLength` just the count, above the room, and one item more than the room were taken; or an inner list is too
--- long.
+-- Just a count, above the room, and one item more than the room were taken.
+pub record TakesTooMany {C : Type 0} (Spells : C → List ℕ → Type 0) (room : ℕ) (old new : Option (List ℕ)) : Type 0 where
+  pub len : ℕ
+  pub items : List C
+  pub over : length items ≡ room + 1
+  pub above : room < len
+  pub taken : Takes (HasParts (IsCount len) (SpellsItems Spells items)) old new
+
+-- After `InvalidLength` just these were taken; or an inner list is too long.
 abbrev pub LeavesRest : {C : Type 0} → (C → List ℕ → Type 0) → (IsTooLong : List ℕ → Type 0) → (room : ℕ) → (old new : Option (List ℕ)) → BorshError → Type 0
-LeavesRest {C} Spells IsTooLong room old new InvalidLength =
-    ((n : ℕ) × (cs : List C) × (count bytes : List ℕ) × IsCount n count × SpellsItems Spells cs bytes × (length cs ≡ room + 1) × (room < n) × Consumes old new (count ++ bytes))
-    ⊎ ((input : List ℕ) × IsTooLong input)
+LeavesRest Spells IsTooLong room old new InvalidLength = TakesTooMany Spells room old new ⊎ ((input : List ℕ) × IsTooLong input)
 LeavesRest Spells IsTooLong room old new Ended = Unit {0}
 LeavesRest Spells IsTooLong room old new Io = Unit {0}
 LeavesRest Spells IsTooLong room old new Memory = Unit {0}

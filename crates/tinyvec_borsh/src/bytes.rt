@@ -11,12 +11,12 @@ use tinyvec_io::Counted;
 
 // Fills the buffer.
 pub(crate) fn read_bytes<R: Read>(reader: &mut Counted<R>, buf: &mut [u8]) -> Result<(), BorshError>
-    ensures ok { OnOk result (Consumes (R.remaining reader.old.end) (R.remaining reader.new.end) buf.new) }
+    ensures ok { OnOk result (Consumes (R.remaining reader.old.inner) (R.remaining reader.new.inner) buf.new) }
     ensures small { OnOk result (AllByRecursion (λ byte. byte < 256) buf.new) }
     ensures err { IfErr result (Fails (λ input. length input < length buf.old) (λ _. ⊥) (λ _. ⊥)
-        (R.remaining reader.old.end) reader.old.faults reader.new.faults) }
+        (R.remaining reader.old.inner) reader.old.faults reader.new.faults) }
     ensures ended { IfErr result (λ e. e ≡ BorshError.Ended
-        → MayBe (R.remaining reader.old.end) (IsFewBytes (length buf.old))) }
+        → MayBe (R.remaining reader.old.inner) (IsFewBytes (length buf.old))) }
     ensures grows { reader.old.faults ≤ reader.new.faults }
 {
     match reader.fill(buf) {
@@ -28,7 +28,7 @@ pub(crate) fn read_bytes<R: Read>(reader: &mut Counted<R>, buf: &mut [u8]) -> Re
 
 // Writes all the bytes.
 pub(crate) fn write_bytes<W: Write>(writer: &mut Counted<W>, bytes: &[u8]) -> Result<(), BorshError>
-    ensures ok { OnOk result (Appends (W.contents writer.old.end) (W.contents writer.new.end) bytes.now) }
+    ensures ok { OnOk result (Appends (W.contents writer.old.inner) (W.contents writer.new.inner) bytes.now) }
     ensures err { IfErr result (λ e. (e ≡ BorshError.Io) × Reported writer.old.faults writer.new.faults) }
     ensures grows { writer.old.faults ≤ writer.new.faults }
 {

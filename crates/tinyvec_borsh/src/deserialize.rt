@@ -28,10 +28,10 @@ pub trait BorshDeserialize: BorshForm + Sized {
         reader: &mut Counted<R>,
     ) -> Result<Self, BorshError>
         ensures ok { IfOk result (λ v. Takes (Self.Spells (Self.content_of v))
-            (R.remaining reader.old.end) (R.remaining reader.new.end)) }
+            (R.remaining reader.old.inner) (R.remaining reader.new.inner)) }
         ensures fits { IfOk result (λ v. Self.Fits (Self.content_of v)) }
         ensures err { IfErr result (Fails IsCut IsTooLong MayAsk
-            (R.remaining reader.old.end) reader.old.faults reader.new.faults) }
+            (R.remaining reader.old.inner) reader.old.faults reader.new.faults) }
         ensures grows { reader.old.faults ≤ reader.new.faults };
 
     /// Reads a value into each slot, one after the other.
@@ -43,12 +43,12 @@ pub trait BorshDeserialize: BorshForm + Sized {
     where
         Self: Drop,
         ensures ok { OnOk result (Takes (SpellsItems Self.Spells (map Self.content_of slots.new))
-            (R.remaining reader.old.end) (R.remaining reader.new.end)) }
+            (R.remaining reader.old.inner) (R.remaining reader.new.inner)) }
         ensures fits { OnOk result (AllByRecursion Self.Fits (map Self.content_of slots.new)) }
         ensures err { IfErr result (Fails (AfterItems Self.Spells Self.Fits IsCut (length slots.old))
             (AfterItems Self.Spells Self.Fits IsTooLong (length slots.old))
             (AfterItems Self.Spells Self.Fits MayAsk (length slots.old))
-            (R.remaining reader.old.end) reader.old.faults reader.new.faults) }
+            (R.remaining reader.old.inner) reader.old.faults reader.new.faults) }
         ensures grows { reader.old.faults ≤ reader.new.faults }
     {
         for i in 0..slots.len() {

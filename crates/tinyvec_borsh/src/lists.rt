@@ -25,11 +25,11 @@ fn read_items<T: BorshDeserialize + Drop, R: Read>(
     ensures ok { OnOk result ((xs : List T) × (take end slots.new ≡ take start slots.old ++ xs)
         × (length xs ≡ end - start) × AllByRecursion T.Fits (map T.content_of xs)
         × Takes (SpellsItems T.Spells (map T.content_of xs))
-        (R.remaining reader.old.end) (R.remaining reader.new.end)) }
+        (R.remaining reader.old.inner) (R.remaining reader.new.inner)) }
     ensures behind { drop end slots.new ≡ drop end slots.old }
     ensures err { IfErr result (Fails (AfterItems T.Spells T.Fits T.IsCut (end - start))
         (AfterItems T.Spells T.Fits T.IsTooLong (end - start)) (AfterItems T.Spells T.Fits T.MayAsk (end - start))
-        (R.remaining reader.old.end) reader.old.faults reader.new.faults) }
+        (R.remaining reader.old.inner) reader.old.faults reader.new.faults) }
     ensures grows { reader.old.faults ≤ reader.new.faults }
 {
     T::deserialize_slots(alloc, &mut slots[start..end], reader)

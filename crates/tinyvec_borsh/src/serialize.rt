@@ -14,7 +14,7 @@ pub trait BorshSerialize: BorshForm {
     /// Writes the spelling of the value's content.
     fn serialize<W: Write>(&self, writer: &mut Counted<W>) -> Result<(), BorshError>
         ensures ok { OnOk result (Adds (Self.Spells (Self.content_of self.now))
-            (W.contents writer.old.end) (W.contents writer.new.end)) }
+            (W.contents writer.old.inner) (W.contents writer.new.inner)) }
         ensures fits { OnOk result (Self.Fits (Self.content_of self.now)) }
         ensures err { IfErr result (λ e. (e ≡ BorshError.Io) × Reported writer.old.faults writer.new.faults) }
         ensures grows { writer.old.faults ≤ writer.new.faults };
@@ -24,7 +24,7 @@ pub trait BorshSerialize: BorshForm {
     where
         Self: Sized,
         ensures ok { OnOk result (Adds (SpellsItems Self.Spells (map Self.content_of items.now))
-            (W.contents writer.old.end) (W.contents writer.new.end)) }
+            (W.contents writer.old.inner) (W.contents writer.new.inner)) }
         ensures fits { OnOk result (AllByRecursion Self.Fits (map Self.content_of items.now)) }
         ensures err { IfErr result (λ e. (e ≡ BorshError.Io) × Reported writer.old.faults writer.new.faults) }
         ensures grows { writer.old.faults ≤ writer.new.faults }

@@ -10,4 +10,4 @@ pub numbers_left : {A : Type 0} (first last : ArrayVecDrain A ℤ) (v : Slots �
     → (DrainCanStep last → DrainLeaves (λ x. x ≡ pos 0) last v)
     → all_slots v ≡ drain_kept first ++ (replicate (drain_count first) (pos 0) ++ drain_spare first)
 numbers_left first last v ready kept leaves =
-    (drained _ (pos 0) (λ x h. h) first last v kept (leaves (kept.4 ready))).2
+    (drained _ (pos 0) (λ x h. h) first last v kept (leaves (kept.ready ready))).2

@@ -9,7 +9,8 @@ use Rattle.tinyvec_array.specs.Splice.{splice_view, SpliceKeeps, SpliceSteps, Sp
 use Rattle.tinyvec_array.specs.declared.splice.ArrayVecSplice.{ArrayVecSplice}
 use Rattle.tinyvec.specs.TinyVecSplice as tiny
 use Rattle.tinyvec.specs.declared.splice.TinyVecSplice.{TinyVecSplice}
-use Rattle.tinyvec.proofs.TinyLemmas.{SameFrame-refl, SameFrame-then}
+use Rattle.tinyvec_array.proofs.SpliceLemmas.{keeps_same, keeps_then}
+use Rattle.tinyvec.proofs.SpliceLemmas as tiny_lemmas
 
 -- what a word placed, however the replacement gives it
 pub record Counts {S I T : Type 0} (view : S → SpliceView I T) (keeps : S → S → Type 0) (s : S) (answers : List (Option T)) (t : S) : Type 0 where
@@ -77,8 +78,7 @@ pub array_counted : {A I T : Type 0} (gives gives_back : Fuse I → Option T →
     → (s : ArrayVecSplice A (Fuse I) T) (word : List End) (answers : List (Option T)) (t : ArrayVecSplice A (Fuse I) T)
     → Asks (SpliceSteps gives) (SpliceStepsBack gives_back) s word answers t → Counts splice_view SpliceKeeps s answers t
 array_counted =
-    counted splice_view SpliceKeeps (λ s. (refl, refl, refl, λ ready. ready))
-    (λ s mid t h k. (k.0 ∙ h.0, k.1 ∙ h.1, k.2 ∙ h.2, λ ready. k.3 (h.3 ready)))
+    counted splice_view SpliceKeeps keeps_same keeps_then
 
 -- and of a `TinyVec`'s
 pub tiny_counted : {A I T : Type 0} (gives gives_back : Fuse I → Option T → Fuse I → Type 0)
@@ -86,8 +86,7 @@ pub tiny_counted : {A I T : Type 0} (gives gives_back : Fuse I → Option T → 
     → Asks (tiny.SpliceSteps gives) (tiny.SpliceStepsBack gives_back) s word answers t
     → Counts tiny.splice_view tiny.SpliceKeeps s answers t
 tiny_counted =
-    counted tiny.splice_view tiny.SpliceKeeps (λ s. (refl, SameFrame-refl (tiny.splice_vec s), λ ready. ready))
-    (λ s mid t h k. (k.0 ∙ h.0, SameFrame-then (tiny.splice_vec s) (tiny.splice_vec mid) (tiny.splice_vec t) h.1 k.1, λ ready. k.2 (h.2 ready)))
+    counted tiny.splice_view tiny.SpliceKeeps tiny_lemmas.keeps_same tiny_lemmas.keeps_then
 
 -- how many slots were touched up to the end of a splice
 module _ {S I T : Type 0} {view : S → SpliceView I T} {keeps : S → S → Type 0} (s t : S) (answers : List (Option T)) (list : List T)

@@ -50,8 +50,8 @@ module _ {S I T : Type 0} {view : S → SpliceView I T} {keeps : S → S → Typ
 pub ended_slots : {A I T : Type 0} (D : T → Type 0) (s t : ArrayVecSplice A (Fuse I) T) (old v : Slots T) → SpliceKeeps s t → splice_slots s ≡ old
     → SlotRule D (splice_slots t) v → SlotRule D old v
 ended_slots D s t old v keeps slots rule =
-    let count : items_len (splice_slots t) ≡ items_len old = keeps.2 ∙ ap items_len slots in
-    let behind : spare (splice_slots t) ≡ spare old = keeps.1 ∙ ap spare slots in (
+    let count : items_len (splice_slots t) ≡ items_len old = keeps.len ∙ ap items_len slots in
+    let behind : spare (splice_slots t) ≡ spare old = keeps.spare ∙ ap spare slots in (
       rule.0,
       (rule.1.0 ∙ ap (λ n. n - items_len v) count, rule.1.1),
       rule.2 ∙ ap (λ n. rule.0 ++ drop (items_len v - n) (spare (splice_slots t))) count ∙ ap (λ l. rule.0 ++ drop (items_len v - items_len old) l) behind,

@@ -4,7 +4,6 @@ ghost use Rattle.std.specs.Prelude.{◌≡◌, ◌-◌, ⊤};
 ghost use Rattle.std.specs.Iterator.{at_most};
 ghost use Rattle.std.specs.declared.ops.Bound.TheVariants.{Included, Excluded};
 
-use crate::steps::granted;
 use std::alloc::AllocError;
 use std::cell::Cell;
 use std::fmt;
@@ -13,6 +12,7 @@ use std::ops::{Bound, RangeBounds};
 use std::test::Fail;
 use tinyvec::{ArrayVec, SliceVec, TinyVec};
 use tinyvec_test_items::{all_right, first, granted_ok};
+use tinyvec_test_looks::steps::granted;
 
 // Counts one more.
 fn count(asked: &Cell<usize>) {

@@ -1,10 +1,10 @@
 //! Endless iterators of items that own memory. No item is asked for that finds no room, and none is lost.
-use crate::steps::are_same;
 use std::alloc::{AllocError, Global};
 use std::test::Fail;
 use tinyvec::{ArrayVec, FromIterRest, NoRoom, SliceVec, SpliceRest};
 use tinyvec_test_items::arrays::holds;
 use tinyvec_test_items::{all_right, first, granted_ok, refuses};
+use tinyvec_test_looks::steps::are_same;
 
 // An item that owns memory. Where memory is refused it is `None`.
 type Owned = Option<Box<u8>>;

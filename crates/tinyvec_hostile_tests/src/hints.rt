@@ -2,12 +2,12 @@
 ghost use Rattle.std.specs.Prelude.{◌+◌, ◌-◌, ◌^◌};
 ghost use Rattle.std.specs.Iterator.{at_most};
 
-use crate::steps::{are_same, granted, makes};
 use std::test::Fail;
 use tinyvec::{ArrayVec, FromIterRest, SliceVec, SpliceRest, TinyVec};
 use tinyvec_test_items::arrays::holds;
 use tinyvec_test_items::{Unhinted, all_right, answers, first, granted_ok, refuses};
 use tinyvec_test_looks::lies;
+use tinyvec_test_looks::steps::{are_same, granted, makes};
 
 /// Gives the numbers below `end`, and promises as many items as a number counts.
 #[derive(Drop)]

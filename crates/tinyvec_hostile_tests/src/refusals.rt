@@ -1,6 +1,5 @@
 //! Memory refused in turn: what the refused call leaves, and that the call succeeds when it is made again. `tests/refuse`
 //! has each allocation refused in turn.
-use crate::steps::{are_same, granted, makes};
 use std::alloc::{AllocError, Global};
 use std::cell::Cell;
 use std::slice;
@@ -8,6 +7,7 @@ use std::test::Fail;
 use tinyvec::{ArrayVec, NoMemory, SliceVec, SpliceRest, TinyVec, TryFromSliceError, tiny_vec};
 use tinyvec_test_items::{all_right, counted, first, granted_ok};
 use tinyvec_test_looks::lies;
+use tinyvec_test_looks::steps::{are_same, granted, makes};
 
 // Ends a test. It says that a refusal was met, where one was: the script asks this of each test here.
 fn tells(rt: &impl Print, is_refused: bool, wrong: u32) -> Result<(), Fail> {

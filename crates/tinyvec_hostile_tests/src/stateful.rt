@@ -1,11 +1,11 @@
 //! Items that are unequal to themselves, and closures whose answers hang on what they were asked before.
-use crate::steps::are_same;
 use std::alloc::AllocError;
 use std::cell::Cell;
 use std::test::Fail;
 use tinyvec::{Array, ArrayVec, SliceVec, TinyVec};
 use tinyvec_test_items::arrays::holds;
 use tinyvec_test_items::{all_right, first, granted_ok};
+use tinyvec_test_looks::steps::are_same;
 use tinyvec_test_looks::{lies, spares};
 
 // A number that is none equals nothing, so no item repeats the last one kept.

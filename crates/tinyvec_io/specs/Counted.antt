@@ -3,8 +3,8 @@ use Rattle.std.specs.Prelude.{◌≡◌, ℕ, ◌+◌, ◌-◌, ◌^◌, ◌<◌
 use Rattle.std.specs.Io.KnownBytes.{Appends}
 
 -- the reader or writer, and the number of its faults
-pub record CountedEnd (E : Type 0) : Type 0 where
-  pub end : E
+pub record CountedView (E : Type 0) : Type 0 where
+  pub inner : E
   pub faults : ℕ
 
 -- one fault more, up to `u64::MAX`

@@ -1,6 +1,6 @@
 //! `Counted`.
 ghost use Rattle.std.specs.Prelude.{◌≡◌, ◌≤◌};
-ghost use Rattle.tinyvec_io.specs.Counted.{CountedEnd, one_more_fault};
+ghost use Rattle.tinyvec_io.specs.Counted.{CountedView, one_more_fault};
 
 mod reading;
 mod writing;
@@ -14,23 +14,23 @@ use std::marker::Model;
 /// no bytes are buffered.
 #[derive(Debug, Drop)]
 pub struct Counted<E> {
-    end: E,
+    inner: E,
     faults: u64,
 }
 
 impl<E> Model for Counted<E> {
-    ghost Value = { CountedEnd E };
+    ghost Value = { CountedView E };
 
-    ghost view = { λ c. record { end = c.end; faults = c.faults } };
+    ghost view = { λ c. record { inner = c.inner; faults = c.faults } };
 }
 
 impl<E> Counted<E> {
     /// Wraps a reader or writer, with no fault so far.
-    pub fn new(end: E) -> Self
-        ensures end { result.end ≡ end }
+    pub fn new(inner: E) -> Self
+        ensures inner { result.inner ≡ inner }
         ensures faults { result.faults ≡ 0 }
     {
-        Counted { end, faults: 0 }
+        Counted { inner, faults: 0 }
     }
 
     /// The number of faults so far. It stays at `u64::MAX` once there.
@@ -42,14 +42,14 @@ impl<E> Counted<E> {
 
     /// Returns the reader or writer, and drops the number.
     pub fn into_inner(self) -> E
-        ensures { result ≡ self.end }
+        ensures { result ≡ self.inner }
     {
-        let Counted { end, faults: _ } = self;
-        end
+        let Counted { inner, faults: _ } = self;
+        inner
     }
 
     fn count_fault(&mut self)
-        ensures end { self.new.end ≡ self.old.end }
+        ensures inner { self.new.inner ≡ self.old.inner }
         ensures faults { self.new.faults ≡ one_more_fault self.old.faults }
         ensures grows { self.old.faults ≤ self.new.faults }
     {

@@ -66,13 +66,13 @@ slots_framed D old mid new count behind h = rw (sym count, sym behind) h
 -- and the rules of place and room no more than its frame
 module _ {A T : Type 0} (slots need : ℕ) (old mid new : TinyVec A T) (frame : SameFrame old mid) where
   pub place_framed : PlaceRule slots need mid new → PlaceRule slots need old new
-  place_framed h = rw (sym frame.2) h
+  place_framed h = rw (sym frame.place) h
 
   pub room_framed : KeepsRoom slots need mid new → KeepsRoom slots need old new
-  room_framed h within = h (omega (arith, within, frame.3 slots)) ∙ frame.3 slots
+  room_framed h within = h (omega (arith, within, frame.capacity slots)) ∙ frame.capacity slots
 
   pub capacity_framed : tiny_capacity slots mid ≤ tiny_capacity slots new → tiny_capacity slots old ≤ tiny_capacity slots new
-  capacity_framed h = omega (arith, h, frame.3 slots)
+  capacity_framed h = omega (arith, h, frame.capacity slots)
 
 -- what a splice along a word, then finished, made of a list
 module _ {S I T : Type 0} (view : S → SpliceView I T) (keeps : S → S → Type 0) (rest : I → List T) (s t : S) (word : List End) (answers : List (Option T))

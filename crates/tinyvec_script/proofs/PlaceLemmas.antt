@@ -25,10 +25,10 @@ module _ {A T : Type 0} where
 
   -- a call that changed nothing shows the same
   pub tiny_of-same : (old new : TinyVec A T) → Unchanged old new → tiny_of new ≡ tiny_of old
-  tiny_of-same (Inline v a) (Inline w b) h = λ t. record { items = h.0 t; spare = h.1 t; place = in_array }
-  tiny_of-same (Inline v a) (Heap w) h = search rules
-  tiny_of-same (Heap v) (Inline w b) h = search rules
-  tiny_of-same (Heap v) (Heap w) h = λ t. record { items = h.0 t; spare = []; place = on_heap (h.3 0 t) }
+  tiny_of-same (Inline v a) (Inline w b) h = λ t. record { items = h.items t; spare = h.spare t; place = in_array }
+  tiny_of-same (Inline v a) (Heap w) h = absurd (let no = h.place in cc)
+  tiny_of-same (Heap v) (Inline w b) h = absurd (let no = h.place in cc)
+  tiny_of-same (Heap v) (Heap w) h = λ t. record { items = h.items t; spare = []; place = on_heap (h.capacity 0 t) }
 
   -- a vector that begins as an empty list in its array
   pub tiny_of-begins : (v : TinyVec A T) (xs : List T) → tiny_items v ≡ [] → tiny_spare v ≡ xs → IsInline v

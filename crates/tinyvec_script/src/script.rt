@@ -46,15 +46,15 @@ pub fn run<R: Read, W: Write>(
 ) -> Result<(), RunError>
     // All was read, and what was written is the output to it.
     ensures ok { OnOk result ((input output : List ℕ)
-        × Consumes (R.remaining reader.old.end) (R.remaining reader.new.end) input
-        × IsAtEnd (R.remaining reader.new.end)
-        × Appends (W.contents writer.old.end) (W.contents writer.new.end) output
+        × Consumes (R.remaining reader.old.inner) (R.remaining reader.new.inner) input
+        × IsAtEnd (R.remaining reader.new.inner)
+        × Appends (W.contents writer.old.inner) (W.contents writer.new.inner) output
         × Script input output) }
 
     // The complete lines before the fault were answered.
     ensures read { (error : Error) → IsErrOf result (RunError.Read error) → (input output : List ℕ)
-        × Consumes (R.remaining reader.old.end) (R.remaining reader.new.end) input
-        × Appends (W.contents writer.old.end) (W.contents writer.new.end) output
+        × Consumes (R.remaining reader.old.inner) (R.remaining reader.new.inner) input
+        × Appends (W.contents writer.old.inner) (W.contents writer.new.inner) output
         × CompleteLines input output }
     ensures read_fault { (error : Error) → IsErrOf result (RunError.Read error)
         → Reported reader.old.faults reader.new.faults }
@@ -63,9 +63,9 @@ pub fn run<R: Read, W: Write>(
 
     // An input of this length is not read to its end.
     ensures too_long { IsErrOf result RunError.TooLong → (input output : List ℕ)
-        × Consumes (R.remaining reader.old.end) (R.remaining reader.new.end) input
+        × Consumes (R.remaining reader.old.inner) (R.remaining reader.new.inner) input
         × (2 ^ 64 - 1 ≤ length input)
-        × Appends (W.contents writer.old.end) (W.contents writer.new.end) output
+        × Appends (W.contents writer.old.inner) (W.contents writer.new.inner) output
         × CompleteLines input output }
 {
     let mut slots = [0; 4];
@@ -105,7 +105,7 @@ fn answer_chunk<W: Write, B: Lent<Item = i32>>(
     bytes: &[u8],
 ) -> io::Result<()>
     ensures ok { OnOk result ((written : List ℕ)
-        × Appends (W.contents writer.old.end) (W.contents writer.new.end) written
+        × Appends (W.contents writer.old.inner) (W.contents writer.new.inner) written
         × Feeds (state_of B.Lent vectors.old) line.old bytes.now written (state_of B.Lent vectors.new) line.new) }
     ensures grows { writer.old.faults ≤ writer.new.faults }
     ensures fault { OnErr result (Reported writer.old.faults writer.new.faults) }
@@ -123,7 +123,7 @@ fn finish<W: Write, B: Lent<Item = i32>>(
     writer: &mut Counted<W>,
 ) -> io::Result<()>
     ensures ok { OnOk result ((written : List ℕ)
-        × Appends (W.contents writer.old.end) (W.contents writer.new.end) written
+        × Appends (W.contents writer.old.inner) (W.contents writer.new.inner) written
         × Ends (state_of B.Lent vectors.old) line.now written) }
     ensures grows { writer.old.faults ≤ writer.new.faults }
     ensures fault { OnErr result (Reported writer.old.faults writer.new.faults) }
@@ -147,8 +147,8 @@ fn feed<W: Write, B: Lent<Item = i32>>(
     bytes: &[u8],
 ) -> io::Result<()>
     ensures ok { OnOk result ((written : List ℕ)
-        × Appends (append_known (W.contents writer.old.end) gathered.old)
-        (append_known (W.contents writer.new.end) gathered.new) written
+        × Appends (append_known (W.contents writer.old.inner) gathered.old)
+        (append_known (W.contents writer.new.inner) gathered.new) written
         × Feeds (state_of B.Lent vectors.old) line.old bytes.now written (state_of B.Lent vectors.new) line.new) }
     ensures grows { writer.old.faults ≤ writer.new.faults }
     ensures fault { OnErr result (Reported writer.old.faults writer.new.faults) }
@@ -169,8 +169,8 @@ fn feed_byte<W: Write, B: Lent<Item = i32>>(
     byte: u8,
 ) -> io::Result<()>
     ensures ok { OnOk result ((written : List ℕ)
-        × Appends (append_known (W.contents writer.old.end) gathered.old)
-        (append_known (W.contents writer.new.end) gathered.new) written
+        × Appends (append_known (W.contents writer.old.inner) gathered.old)
+        (append_known (W.contents writer.new.inner) gathered.new) written
         × Feeds (state_of B.Lent vectors.old) line.old (byte ∷ []) written (state_of B.Lent vectors.new) line.new) }
     ensures grows { writer.old.faults ≤ writer.new.faults }
     ensures fault { OnErr result (Reported writer.old.faults writer.new.faults) }
@@ -193,8 +193,8 @@ fn answer_line<W: Write, B: Lent<Item = i32>>(
     writer: &mut Counted<W>,
 ) -> io::Result<()>
     ensures ok { OnOk result ((text : List ℕ)
-        × Appends (append_known (W.contents writer.old.end) gathered.old)
-        (append_known (W.contents writer.new.end) gathered.new) (text ++ 10 ∷ [])
+        × Appends (append_known (W.contents writer.old.inner) gathered.old)
+        (append_known (W.contents writer.new.inner) gathered.new) (text ++ 10 ∷ [])
         × ((rest : List ℕ) → line.now ≡ kept rest
         → Answered (state_of B.Lent vectors.old) rest text (state_of B.Lent vectors.new))) }
     ensures grows { writer.old.faults ≤ writer.new.faults }

@@ -15,10 +15,17 @@ module _ {B T : Type 0} (g : Lent.Ghosts B T) where
   drain_runs = runs_in_order (drain_items g) (DrainKeeps g)
 
   pub DrainKeeps-refl : (d : GenericSliceVecDrain B T) → DrainKeeps g d d
-  DrainKeeps-refl d = (refl, refl, refl, refl, refl, λ h. h)
+  DrainKeeps-refl d = record { same_reference = refl; same_slots = refl; kept = refl; count = refl; spare = refl; ready = λ h. h }
 
   pub DrainKeeps-then : (d e f : GenericSliceVecDrain B T) → DrainKeeps g d e → DrainKeeps g e f → DrainKeeps g d f
-  DrainKeeps-then d e f h k = (k.0 ∙ h.0, k.1 ∙ h.1, k.2 ∙ h.2, k.3 ∙ h.3, k.4 ∙ h.4, λ t. k.5 (h.5 t))
+  DrainKeeps-then d e f h k = record {
+    same_reference = k.same_reference ∙ h.same_reference;
+    same_slots = k.same_slots ∙ h.same_slots;
+    kept = k.kept ∙ h.kept;
+    count = k.count ∙ h.count;
+    spare = k.spare ∙ h.spare;
+    ready = λ can. k.ready (h.ready can);
+  }
 
   pub DrainSteps-keeps : (d : GenericSliceVecDrain B T) (r : Option T) (e : GenericSliceVecDrain B T) → DrainSteps g d r e → DrainKeeps g d e
   DrainSteps-keeps = step_keeps (drain_items g) (DrainKeeps g) DrainKeeps-refl DrainKeeps-then
@@ -31,4 +38,4 @@ module _ {B T : Type 0} (g : Lent.Ghosts B T) where
       → DrainKeeps g first last → drain_count first ≡ n → drain_spare g first ≡ spare_of g old → DrainLeaves g D last v → Vacates D n (seen_of g old) (seen_of g v)
   drain_frees D n old v first last kept count rest left =
       let ds = left.2.0 in
-      (ds, (left.2.1.0 ∙ kept.3 ∙ count, left.2.1.1), left.2.2 ∙ ap (λ xs. ds ++ xs) (kept.4 ∙ rest))
+      (ds, (left.2.1.0 ∙ kept.count ∙ count, left.2.1.1), left.2.2 ∙ ap (λ xs. ds ++ xs) (kept.spare ∙ rest))

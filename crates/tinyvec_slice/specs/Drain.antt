@@ -48,11 +48,14 @@ module _ {B T : Type 0} (g : Lent.Ghosts B T) where
       × ((ds : List T) × AreDefaults D (drain_count d) ds × (spare_of g v ≡ ds ++ drain_spare d))
 
   -- old and new borrow the same vector, and leave it the same
-  abbrev pub DrainKeeps : GenericSliceVecDrain B T → GenericSliceVecDrain B T → Type 0
-  DrainKeeps old new = (drain_owner new ≡ drain_owner old) × (drain_name new ≡ drain_name old)
-      × (drain_kept new ≡ drain_kept old) × (drain_count new ≡ drain_count old) × (drain_spare new ≡ drain_spare old)
-      × (DrainCanStep old → DrainCanStep new)
+  pub record DrainKeeps (old new : GenericSliceVecDrain B T) : Type 0 where
+    pub same_reference : drain_owner new ≡ drain_owner old
+    pub same_slots : drain_name new ≡ drain_name old
+    pub kept : drain_kept new ≡ drain_kept old
+    pub count : drain_count new ≡ drain_count old
+    pub spare : drain_spare new ≡ drain_spare old
+    pub ready : DrainCanStep old → DrainCanStep new
 
-  -- `next` took old to new, and answered with the first item
+  -- `next` took old to new, and returned the first item
   abbrev pub DrainSteps : GenericSliceVecDrain B T → Option T → GenericSliceVecDrain B T → Type 0
   DrainSteps = Steps drain_items DrainKeeps

@@ -1,4 +1,4 @@
--- What a vector in lent slots ends as, where a `&mut` to its items is returned.
+-- What a vector in lent slots is after a borrow of its items.
 use Rattle.std.specs.Prelude.{ℕ, List, length, slice_set}
 use Rattle.std.specs.Borrow.{Lends, Fml, MutBor, RattleType, Array}
 use Rattle.tinyvec_slice.specs.Parts.{with_front, with_back}

@@ -1,4 +1,4 @@
-//! What a filter needs of a vector in lent slots.
+//! `CanCut`, which the filters need.
 ghost use Rattle.std.specs.Prelude.{length};
 
 use crate::{GenericSliceVec, Lent};

@@ -50,7 +50,8 @@ where
         ensures ready { DrainCanStep B.Lent result }
         ensures runs { YieldsInOrder (DrainSteps B.Lent) (drain_items B.Lent) }
 
-        // The list is what precedes and follows the range; the spare slots will be the emptied ones, then the old.
+        // The list is what precedes and follows the range. Once the drain is dropped, the vacated slots precede the old spare
+        // slots. `same_reference` is of the reference to the vector; `same_slots` is what other calls name `same_reference`.
         ensures same_reference { drain_owner result ≡ self.entry.ghost_name }
         ensures same_slots { drain_name B.Lent result ≡ name_of B.Lent self.old }
         ensures kept { drain_kept B.Lent result ≡ before (items_of B.Lent self.old) (R.start_bound range)

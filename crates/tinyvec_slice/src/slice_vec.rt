@@ -25,7 +25,7 @@ use tinyvec_slots::{fill_default, move_to_end_below, part_of};
 /// When it is dropped, the owner of the slots sees the list followed by the spare slots.
 #[derive(Drop)]
 pub struct GenericSliceVec<B: Lent> {
-    // If this is more than the number of slots, all of them hold the list.
+    // No invariant bounds this by the number of slots. If it is more, all slots hold the list, so bodies call `len()`.
     len: usize,
     lent: B,
 }

@@ -39,12 +39,6 @@ module _ {X : Type 0} where
   written_part xs seen ws new a k j same is le fits =
       ap (λ l. take a xs ++ (l ++ post_of a k xs)) is ∙ in_part xs ws a k j le fits ∙ ap (λ l. take a l ++ ws ++ drop (a + j) l) same
 
-  -- behind what was written from n on lies what stood there
-  pub behind_writes : (xs ws : List X) (n k : ℕ) → n ≤ length xs → drop n (take n xs ++ ws ++ drop (n + k) xs) ≡ ws ++ drop k (drop n xs)
-  behind_writes xs ws n k fits =
-      ap (drop n) (append_assoc (take n xs) ws (drop (n + k) xs)) ∙ drop_at (take n xs) (ws ++ drop (n + k) xs) n (length-take-le n xs fits)
-      ∙ ap (λ l. ws ++ l) (sym (drop-drop k n xs))
-
   -- the first j of m elements left out
   pub drop_within : (xs : List X) (j m : ℕ) → j ≤ m → drop j (take m xs) ≡ take (m - j) (drop j xs)
   drop_within xs j m le =

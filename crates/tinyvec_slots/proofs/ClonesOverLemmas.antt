@@ -1,7 +1,7 @@
 -- Clones written over slots, block by block.
-use Rattle.std.proofs.Common.{◌≡◌, ℕ, zero, suc, ◌+◌, ◌-◌, ◌<◌, ◌≤◌, List, [], ◌∷◌, ◌++◌, All, length, take, drop, slice_range, set, get_or, replicate, refl, sym, ap, subst, ◌∙◌, le_refl, arith, append-nil, length-append, length-drop, take_at, drop_at, take_all, drop-drop, get_or-drop}
+use Rattle.std.proofs.Common.{◌≡◌, ℕ, zero, suc, ◌+◌, ◌-◌, ◌<◌, ◌≤◌, List, [], ◌∷◌, ◌++◌, All, length, take, drop, set, get_or, replicate, refl, sym, ap, subst, ◌∙◌, le_refl, arith, append-nil, length-append, length-drop, take_at, drop_at, take_all, drop-drop, get_or-drop}
 use Rattle.std.proofs.lemmas.List.{take_more, replicate_more, drop_all}
-use Rattle.std.proofs.lemmas.List.Elements.{All-get_or, All-take, All-drop, AllZip-push, same_from_all_zip}
+use Rattle.std.proofs.lemmas.List.Elements.{All-get_or, All-take, All-drop, AllZip-push}
 use Rattle.std.proofs.lemmas.Result.{on_ok_weaker, on_err_weaker}
 use Rattle.std.proofs.Math.Seq.{take-add}
 use Rattle.std.specs.Prelude.{Result, IsOk, OnOk, OnErr}
@@ -24,18 +24,17 @@ module _ {X : Type 0} (C : X → X → Type 0) where
 
   -- none yet
   pub clones_none : (from old : List X) → ClonesOver C (take 0 from) 0 old old
-  clones_none from old = ([], tt, refl, refl)
+  clones_none from old = record { made = []; clones = tt; count = refl; written = refl }
 
   -- one more
   clones_next : (xs more old new : List X) (i : ℕ) (x y : X) → xs ++ x ∷ [] ≡ more → i < length old → C x y
       → ClonesOver C xs i old new → ClonesOver C more (i + 1) old (set new i y)
-  clones_next xs more old new i x y is lt clone h =
-      let ys : List X = h.0 in (
-        ys ++ y ∷ [],
-        subst (λ l. AllZip C l (ys ++ y ∷ [])) is (AllZip-push C xs ys x y h.1 clone),
-        length-append ys (y ∷ []) ∙ ap (λ n. n + 1) h.2,
-        ap (λ l. set l i y) h.3 ∙ set_next ys old i y h.2 lt,
-      )
+  clones_next xs more old new i x y is lt clone h = record {
+    made = h.made ++ y ∷ [];
+    clones = subst (λ l. AllZip C l (h.made ++ y ∷ [])) is (AllZip-push C xs h.made x y h.clones clone);
+    count = length-append h.made (y ∷ []) ∙ ap (λ n. n + 1) h.count;
+    written = ap (λ l. set l i y) h.written ∙ set_next h.made old i y h.count lt;
+  }
 
   -- one more of the elements of a list
   pub clones_of_next : (from old new : List X) (i : ℕ) (x y : X) → i < length from → length from ≤ length old → x ≡ get_or from i x → C x y
@@ -54,26 +53,21 @@ module _ {X : Type 0} (C : X → X → Type 0) where
       let same : n ≡ length from = omega arith in
       subst (λ k. ClonesOver C from k old new) same (subst (λ l. ClonesOver C l n old new) (take_all n from le) h)
 
-  -- over the elements from `start` on, seen from all of them
-  pub clones_from : (start n : ℕ) (xs old new : List X) → start ≤ length old → n ≤ length old - start
-      → ClonesOver C xs n (slice_range old start (length old)) new
-      → ClonesOverFrom C start xs n old (take start old ++ (new ++ post_of start (length old - start) old))
-  clones_from start n xs old new within fits h =
-      (h.0, h.1, h.2, written_part old old h.0 new start (length old - start) n refl h.3 fits (omega arith))
+  -- over k elements from `start` on, seen from all of them
+  pub clones_from : (start k n : ℕ) (xs old new : List X) → start + k ≤ length old → n ≤ k
+      → ClonesOver C xs n (take k (drop start old)) new → ClonesOverFrom C start xs n old (take start old ++ (new ++ post_of start k old))
+  clones_from start k n xs old new within fits h = record {
+    made = h.made;
+    clones = h.clones;
+    count = h.count;
+    written = written_part old old h.made new start k n refl h.written fits within;
+  }
 
   -- over all elements
   pub clones_whole_of : (xs old new : List X) → length xs ≡ length old → ClonesOver C xs (length xs) old new → AllZip C xs new
   clones_whole_of xs old new same h =
-      let whole : new ≡ h.0 = h.3 ∙ ap (λ l. h.0 ++ l) (drop_all (length xs) old (omega (arith, same))) ∙ append-nil h.0 in
-      subst (AllZip C xs) (sym whole) h.1
-
-  -- where clones equal their originals
-  pub clones_equal : (xs old new : List X) (n : ℕ) → ((x y : X) → C x y → y ≡ x) → ClonesOver C xs n old new → new ≡ xs ++ drop n old
-  clones_equal xs old new n rule h = h.3 ∙ ap (λ l. l ++ drop n old) (same_from_all_zip C xs h.0 h.1 rule)
-
-  pub clones_equal_from : (start : ℕ) (xs old new : List X) (n : ℕ) → ((x y : X) → C x y → y ≡ x) → ClonesOverFrom C start xs n old new
-      → new ≡ take start old ++ xs ++ drop (start + n) old
-  clones_equal_from start xs old new n rule h = h.3 ∙ ap (λ l. take start old ++ l ++ drop (start + n) old) (same_from_all_zip C xs h.0 h.1 rule)
+      let whole : new ≡ h.made = h.written ∙ ap (λ l. h.made ++ l) (drop_all (length xs) old (omega (arith, same))) ∙ append-nil h.made in
+      subst (AllZip C xs) (sym whole) h.clones
 
   -- the first n of a list of clones
   pub AllZip-take : (n : ℕ) (xs ys : List X) → AllZip C xs ys → AllZip C (take n xs) (take n ys)
@@ -112,22 +106,22 @@ module _ {X : Type 0} (C : X → X → Type 0) where
     pub clones_further : (k : ℕ) → k ≤ length rest → ClonesOver C (take k rest) k lent part
         → (a + k ≤ length from) × ClonesOver C (take (a + k) from) (a + k) old written
     clones_further k fit h =
-        let ys : List X = done.0 in
-        let zs : List X = h.0 in
+        let ys : List X = done.made in
+        let zs : List X = h.made in
         let ends : a + k ≤ length from = omega (arith, fit, rest_len) in
-        let start : take a (ys ++ drop a old) ≡ ys = take_at ys (drop a old) a done.2 in
+        let start : take a (ys ++ drop a old) ≡ ys = take_at ys (drop a old) a done.count in
         let end : drop (a + k) (ys ++ drop a old) ≡ drop (a + k) old =
-        sym (drop-drop k a (ys ++ drop a old)) ∙ ap (drop k) (drop_at ys (drop a old) a done.2) ∙ drop-drop k a old in
-        let clones = AllZip-join (take a from) ys (take k rest) zs done.1 h.1 in
+        sym (drop-drop k a (ys ++ drop a old)) ∙ ap (drop k) (drop_at ys (drop a old) a done.count) ∙ drop-drop k a old in
+        let clones = AllZip-join (take a from) ys (take k rest) zs done.clones h.clones in
         let cut : take a from ++ take k rest ≡ take (a + k) from = ap (λ l. take a from ++ take k l) rest_whole ∙ sym (take-add a k from) in (
           ends,
-          (
-            ys ++ zs,
-            subst (λ l. AllZip C l (ys ++ zs)) cut clones,
-            length-append ys zs ∙ ap (λ n. n + length zs) done.2 ∙ ap (λ n. a + n) h.2,
-            written_part to (ys ++ drop a old) zs part a (length to - a) k done.3 h.3 (omega arith) (omega arith)
-                ∙ ap (λ l. l ++ zs ++ drop (a + k) (ys ++ drop a old)) start ∙ ap (λ l. ys ++ zs ++ l) end,
-          ),
+          record {
+            made = ys ++ zs;
+            clones = subst (λ l. AllZip C l (ys ++ zs)) cut clones;
+            count = length-append ys zs ∙ ap (λ n. n + length zs) done.count ∙ ap (λ n. a + n) h.count;
+            written = written_part to (ys ++ drop a old) zs part a (length to - a) k done.written h.written (omega arith) (omega arith)
+                ∙ ap (λ l. l ++ zs ++ drop (a + k) (ys ++ drop a old)) start ∙ ap (λ l. ys ++ zs ++ l) end;
+          },
         )
 
     -- all were written

@@ -1,7 +1,7 @@
 -- Facts on parts of a list.
-use Rattle.std.proofs.Common.{◌≡◌, ℕ, suc, add-one, refl, ◌+◌, ◌-◌, ◌<◌, ◌≤◌, List, [], ◌∷◌, ◌++◌, length, get_or, take, drop, set, insert, remove, slice_range, sym, ap, ◌∙◌, arith, rules, drop-set-lt, length-set, append_assoc, append-nil, take_at, take_all, take-append-drop, length-append, length-drop}
+use Rattle.std.proofs.Common.{◌≡◌, ℕ, suc, add-one, refl, ◌+◌, ◌-◌, ◌<◌, ◌≤◌, min, List, [], ◌∷◌, ◌++◌, length, get_or, take, drop, set, insert, remove, slice_range, sym, ap, ◌∙◌, arith, rules, drop-set-lt, length-set, append_assoc, append-nil, take_at, take_all, take-append-drop, length-append, length-drop}
 use Rattle.std.proofs.Math.Seq.{take-add}
-use Rattle.std.proofs.lemmas.List.{same_lists, take-append-le, drop-append-le, places, get_or-set_same, get_or_default, drop-drop, drop_more, drop_at, drop_all, length-take-le}
+use Rattle.std.proofs.lemmas.List.{same_lists, take-append-le, drop-append-le, places, get_or-set_same, get_or_default, drop-drop, drop_more, drop_at, drop_all, length-take-le, take_min, drop_min, take-set-le}
 use Rattle.std.proofs.lemmas.List.Edits.{insert-append_left}
 use Rattle.std.specs.List.{remove_range}
 use Rattle.std.proofs.lemmas.Bool.{cases_eq, cases_lt}
@@ -58,18 +58,35 @@ module _ {X : Type 0} (xs : List X) (i j : ℕ) (le : i ≤ j) (within : j ≤ l
   pub length-slice_range : length (slice_range xs i j) ≡ j - i
   length-slice_range = search (rules, places)
 
+  -- it was moved to the end: the others precede it
+  module _ (ys : List X) (moved : ys ≡ remove_range xs i j ++ slice_range xs i j) where
+    pub take-range_moved : (n : ℕ) → n + (j - i) ≡ length xs → take n ys ≡ remove_range xs i j
+    take-range_moved n all = ap (take n) moved ∙ take_at (remove_range xs i j) (slice_range xs i j) n (length-remove_range ∙ omega (arith, all))
+
+    pub length-range_moved : length ys ≡ length xs
+    length-range_moved = ap length moved ∙ length-append (remove_range xs i j) (slice_range xs i j) ∙ omega (arith, length-remove_range, length-slice_range)
+
+-- a range that is cut to the list
+pub remove_range_within : {X : Type 0} (xs : List X) (start gap i n : ℕ) → i ≡ min start (length xs) → n ≡ min gap (length xs - i)
+    → remove_range xs i (i + n) ≡ remove_range xs start (start + gap)
+remove_range_within xs start gap i n first count =
+    let end : i + n ≡ min (start + gap) (length xs) = omega (arith, first, count) in
+    ap (λ k. take k xs ++ drop (i + n) xs) first ∙ ap (λ l. l ++ drop (i + n) xs) (take_min start xs)
+    ∙ ap (λ k. take start xs ++ drop k xs) end ∙ ap (λ l. take start xs ++ l) (drop_min (start + gap) xs)
+
+-- a write within a range changes no item beside it
+pub remove_range-set : {X : Type 0} (xs : List X) (i j k : ℕ) (x : X) → i ≤ k → k < j → remove_range (set xs k x) i j ≡ remove_range xs i j
+remove_range-set xs i j k x above below =
+    ap (λ l. l ++ drop j (set xs k x)) (take-set-le i xs k x above) ∙ ap (λ l. take i xs ++ l) (drop-set-lt j xs k x below)
+
 -- one item was moved to the end: it is there, and the others are what is before it
 module _ {X : Type 0} (xs ys : List X) (i : ℕ) (lt : i < length xs) (moved : ys ≡ remove_range xs i (i + 1) ++ slice_range xs i (i + 1)) where
   pub length-moved : length ys ≡ length xs
-  length-moved =
-      let front = length-remove_range xs i (i + 1) (omega arith) (omega (arith, lt)) in
-      let one = length-slice_range xs i (i + 1) (omega arith) (omega (arith, lt)) in
-      ap length moved ∙ length-append (remove_range xs i (i + 1)) (slice_range xs i (i + 1)) ∙ omega (arith, front, one, lt)
+  length-moved = length-range_moved xs i (i + 1) (omega arith) (omega (arith, lt)) ys moved
 
   pub take-moved : take (length ys - 1) ys ≡ remove xs i
   take-moved =
-      let front = length-remove_range xs i (i + 1) (omega arith) (omega (arith, lt)) in
-      rw (length-moved, moved, take_at (remove_range xs i (i + 1)) (slice_range xs i (i + 1)) (length xs - 1) (omega (arith, front, lt)), add-one) refl
+      take-range_moved xs i (i + 1) (omega arith) (omega (arith, lt)) ys moved (length ys - 1) (omega (arith, length-moved, lt)) ∙ rw add-one refl
 
 -- the first n elements changed places with the last ones
 module _ {X : Type 0} (xs ys : List X) (n : ℕ) (fits : n ≤ length xs) (apart : n ≤ length xs - n)
@@ -126,6 +143,21 @@ module _ {X : Type 0} (xs ys : List X) (n : ℕ) (fits : n ≤ length xs) (apart
       let joined : A ++ M ≡ take c xs = sym (take-add n (length xs - n - n) xs) ∙ ap (λ k. take k xs) ends in
       ap (λ l. l ++ (zs ++ drop (length ys - n) (drop n ys))) (front ∙ ap (λ k. drop k xs) (sym same))
       ∙ ap (λ l. drop c xs ++ l) (ap (λ l. zs ++ l) none ∙ append-nil zs ∙ turned ∙ joined)
+
+-- of the part of a list from i on the last b elements changed places with the first ones, which are in a gap of n
+pub closed_by_ends : {X : Type 0} (xs part zs rest : List X) (i n b : ℕ) → i + n + b ≡ length xs → part ≡ drop i xs
+    → zs ≡ drop (length part - b) part ++ slice_range part b (length part - b) ++ take b part
+    → take (length xs - n) (take i xs ++ (zs ++ rest)) ≡ remove_range xs i (i + n)
+closed_by_ends xs part zs rest i n b all is swapped =
+    let long : length part ≡ n + b = ap length is ∙ length-drop i xs ∙ omega (arith, all) in
+    let gap : length part - b ≡ n = omega (arith, long) in
+    let last : drop (length part - b) part ≡ drop (i + n) xs = ap (λ k. drop k part) gap ∙ ap (drop n) is ∙ drop-drop n i xs in
+    let others = slice_range part b (length part - b) ++ take b part in
+    let whole : take i xs ++ (zs ++ rest) ≡ remove_range xs i (i + n) ++ (others ++ rest) =
+    ap (λ l. take i xs ++ (l ++ rest)) (swapped ∙ ap (λ l. l ++ slice_range part b (length part - b) ++ take b part) last) ∙ simp append_assoc in
+    ap (take (length xs - n)) whole
+    ∙ take_at (remove_range xs i (i + n)) (others ++ rest) (length xs - n)
+    (length-remove_range xs i (i + n) (omega arith) (omega (arith, all)) ∙ omega arith)
 
 -- what is put in is the same after it changed places with the item that it stood before
 pub insert_shifted : {X : Type 0} (xs : List X) (i : ℕ) (x y : X) → i < length xs → y ≡ get_or xs i y

@@ -3,15 +3,15 @@ use Rattle.std.specs.Prelude.{◌≡◌, List, [], ◌∷◌, ◌++◌, Option, 
 use Rattle.tinyvec_slots.specs.Ends.{End, TakesFromEnds, Asks}
 
 module _ {S T : Type 0} (rest : S → List T) (keeps : S → S → Type 0) where
-  -- `next` took old to new, and answered with the first item
+  -- `next` took old to new, and returned the first item
   abbrev pub Steps : S → Option T → S → Type 0
   Steps old item new = MatchOption item ((rest old ≡ []) × (new ≡ old)) (λ x. (rest old ≡ x ∷ rest new) × keeps old new)
 
-  -- `next_back` took old to new, and answered with the last item
+  -- `next_back` took old to new, and returned the last item
   abbrev pub StepsBack : S → Option T → S → Type 0
   StepsBack old item new = MatchOption item ((rest old ≡ []) × (new ≡ old)) (λ x. (rest old ≡ rest new ++ x ∷ []) × keeps old new)
 
-  -- however calls of `next` and `next_back` follow one another, they take from the two ends of the remaining items
+  -- any calls of `next` and `next_back` take from the two ends of the remaining items
   abbrev pub TakesAnyWord : S → Type 0
   TakesAnyWord d = (word : List End) (answers : List (Option T)) (later : S) → Asks Steps StepsBack d word answers later
       → TakesFromEnds (rest d) word answers (rest later) × keeps d later

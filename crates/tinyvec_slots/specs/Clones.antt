@@ -12,12 +12,18 @@ abbrev pub RefusedAt : {T : Type 0} → (T → Type 0) → List T → ℕ → Ty
 RefusedAt I xs k = (k < length xs) × HoldsAt (λ x. ¬ (I x)) xs k
 
 -- clones of xs, of which there are n, stand over the first n elements of `old`
-abbrev pub ClonesOver : {T : Type 0} → (T → T → Type 0) → List T → ℕ → List T → List T → Type 0
-ClonesOver {T} C xs n old new = (ys : List T) × AllZip C xs ys × (length ys ≡ n) × (new ≡ ys ++ drop n old)
+pub record ClonesOver {T : Type 0} (C : T → T → Type 0) (xs : List T) (n : ℕ) (old new : List T) : Type 0 where
+  pub made : List T
+  pub clones : AllZip C xs made
+  pub count : length made ≡ n
+  pub written : new ≡ made ++ drop n old
 
 -- the same over the elements from `start` on
-abbrev pub ClonesOverFrom : {T : Type 0} → (T → T → Type 0) → ℕ → List T → ℕ → List T → List T → Type 0
-ClonesOverFrom {T} C start xs n old new = (ys : List T) × AllZip C xs ys × (length ys ≡ n) × (new ≡ take start old ++ ys ++ drop (start + n) old)
+pub record ClonesOverFrom {T : Type 0} (C : T → T → Type 0) (start : ℕ) (xs : List T) (n : ℕ) (old new : List T) : Type 0 where
+  pub made : List T
+  pub clones : AllZip C xs made
+  pub count : length made ≡ n
+  pub written : new ≡ take start old ++ made ++ drop (start + n) old
 
 -- clones of xs stand before `old`
 abbrev pub ClonesBefore : {T : Type 0} → (T → T → Type 0) → List T → List T → List T → Type 0

@@ -1,7 +1,7 @@
 -- What a contract sees of a `Gap`, with the replacement of its splice and the slots that it lies in.
-use Rattle.std.specs.Prelude.{◌≡◌, ℕ, ◌+◌, ◌*◌, ◌-◌, ◌≤◌, ◌^◌, false, Bool, List, [], take, drop, slice_range, Option, MatchOption}
+use Rattle.std.specs.Prelude.{◌≡◌, ℕ, ◌+◌, ◌*◌, ◌-◌, ◌≤◌, false, Bool, List, [], take, drop, slice_range, Option, MatchOption}
 use Rattle.tinyvec_slots.specs.AnySplice.{SpliceView}
-use Rattle.tinyvec_slots.specs.Touches.{touch_count}
+use Rattle.tinyvec_slots.specs.Touches.{touch_count, FitsBits}
 use Rattle.tinyvec_slots.specs.declared.gap.Gap.{Gap}
 
 -- where what was placed from the front ends
@@ -35,18 +35,26 @@ gap_view g replacement xs = record {
 }
 
 -- all items of the range are left
-abbrev pub GapOpens : ℕ → ℕ → Gap → Type 0
-GapOpens start end g = (g.front ≡ start) × (g.next ≡ start) × (g.end ≡ end) × (g.back ≡ end) × (gap_touches g ≡ 0)
+pub record GapOpens (start end : ℕ) (g : Gap) : Type 0 where
+  pub front_is_start : g.front ≡ start
+  pub next_is_start : g.next ≡ start
+  pub end_is_end : g.end ≡ end
+  pub back_is_end : g.back ≡ end
+  pub untouched : gap_touches g ≡ 0
 
 -- the gap lies in so many slots, and its touches can be counted on
 abbrev pub GapLies : Gap → ℕ → Type 0
-GapLies g len = (g.front ≤ g.back) × (g.back ≤ len) × (gap_touches g ≤ 2 ^ 66)
+GapLies g len = (g.front ≤ g.back) × (g.back ≤ len) × FitsBits 66 (gap_touches g)
 
 -- the removed items that are left lie in it, there is no slot besides before the replacement has ended, and the touches
 -- can be counted on
-abbrev pub GapCanStep : Gap → Bool → ℕ → Type 0
-GapCanStep g ended len = (g.front ≤ g.next) × (g.next ≤ g.end) × (g.end ≤ g.back) × (g.back ≤ len)
-    × (ended ≡ false → (g.front ≡ g.next) × (g.end ≡ g.back)) × (gap_touches g + 2 * gap_len g ≤ 2 ^ 66)
+pub record GapCanStep (g : Gap) (ended : Bool) (len : ℕ) : Type 0 where
+  pub front_le_next : g.front ≤ g.next
+  pub next_le_end : g.next ≤ g.end
+  pub end_le_back : g.end ≤ g.back
+  pub back_le_len : g.back ≤ len
+  pub no_slot_besides : ended ≡ false → (g.front ≡ g.next) × (g.end ≡ g.back)
+  pub few : FitsBits 66 (gap_touches g + 2 * gap_len g)
 
 -- A call at one end of a gap took a vector, its gap and its replacement to others, where `items` is the list of the vector,
 -- `Kept` what a write of it leaves, and `Gives` how an item is given.

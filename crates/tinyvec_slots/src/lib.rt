@@ -30,6 +30,6 @@ pub use range::{resolve_range, subslice};
 pub use splicing::{close_in, finish_in, step_back_in, step_in};
 pub use tuned::cloning::{clone_each, clone_each_from, clone_over, clone_over_from, fill_clones};
 pub use tuned::comparing::{cmp_slices, eq_slices, hash_items, partial_cmp_slices};
-pub use tuned::moving::{last_to, move_to_end, move_to_end_below};
+pub use tuned::moving::{close_gap, last_to, move_to_end, move_to_end_below};
 pub use tuned::resetting::fill_default;
-pub use tuned::shifting::{are_few, are_short, insert_shifting, remove_shifting};
+pub use tuned::shifting::{insert_shifting, prefers_shifting, prefers_swaps, remove_shifting};

@@ -12,6 +12,7 @@ pub fn part_of<V: InSlots>(vec: &mut V, start: usize, end: usize) -> &mut [V::It
     ensures* writes_back { sem 𝓛 (lends_part V.row V.Item.row V.InSlots vec.entry start end result) }
     ensures value { result.now ≡ slice_range (V.slots vec.old) start end }
 {
+    // Proved by hand: the borrow checker does not follow one loan out of another.
     &mut vec.slots_mut()[start..end]
 }
 
@@ -21,5 +22,6 @@ pub fn slot_of<V: InSlots>(vec: &mut V, i: usize) -> &mut V::Item
     ensures* writes_back { sem 𝓛 (lends_slot V.row V.Item.row V.InSlots vec.entry i result) }
     ensures value { result.now ≡ slice_index_or (V.slots vec.old) i result.now }
 {
+    // Proved by hand, as `part_of`.
     &mut vec.slots_mut()[i]
 }

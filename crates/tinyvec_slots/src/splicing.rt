@@ -1,11 +1,12 @@
 //! The calls of every splice, over its parts: the list, the gap in it and the replacement.
-ghost use Rattle.std.specs.Prelude.{◌≡◌, ◌+◌, ◌-◌, ◌*◌, ◌<◌, ◌≤◌, ◌^◌, ◌++◌, ⊤, List, Some, length, take, drop, IsOk, OnErr, IfErr, MatchResult};
+ghost use Rattle.std.specs.Prelude.{◌≡◌, ◌+◌, ◌-◌, ◌*◌, ◌<◌, ◌≤◌, ◌++◌, ⊤, List, Some, length, take, drop, IsOk, OnErr, IfErr, MatchResult};
 ghost use Rattle.std.specs.Bool.{MatchBool};
 ghost use Rattle.std.specs.Iterator.{Drains, YieldsThen, IsFinite};
 ghost use Rattle.std.specs.Iterator.Adapters.{fuse_done, fuse_steps};
 ghost use Rattle.tinyvec_slots.specs.Filling.{ShowsItems};
 ghost use Rattle.tinyvec_slots.specs.Fused.{FusedCan, FusedFinite, fused_rest};
 ghost use Rattle.tinyvec_slots.specs.Gap.{gap_len, gap_front, gap_back, gap_touches, gap_view, GapCanStep, GapSteps};
+ghost use Rattle.tinyvec_slots.specs.Touches.{FitsBits};
 ghost use Rattle.tinyvec_slots.specs.AnySplice.{GivesFromFront, GivesFromBack, finish_placed, finish_bound, Finishes, FinishesWith};
 
 use crate::{CanSplice, Gap, SpliceRest};
@@ -62,7 +63,7 @@ pub fn step_back_in<V: CanSplice, I: DoubleEndedIterator<Item = V::Item>>(
 pub fn close_in<V: CanSplice>(vec: &mut V, gap: &mut Gap)
     requires in_order { gap_front gap.old ≤ gap_back gap.old }
     requires in_bounds { gap_back gap.old ≤ length (V.items vec.old) }
-    requires few { gap_touches gap.old < 2 ^ 80 }
+    requires few { FitsBits 80 (gap_touches gap.old) }
     ensures items { V.items vec.new
         ≡ take (gap_front gap.old) (V.items vec.old) ++ drop (gap_back gap.old) (V.items vec.old) }
     ensures len { length (V.items vec.old) ≡ length (V.items vec.new) + (gap_back gap.old - gap_front gap.old) }
@@ -126,7 +127,7 @@ fn append_in<V: CanSplice, I: Iterator<Item = V::Item>>(
     replacement: I,
 ) -> Result<(), SpliceRest<V::Item, I>>
     requires in_bounds { gap_front gap.old ≤ length (V.items vec.old) }
-    requires few { gap_touches gap.old < 2 ^ 70 }
+    requires few { FitsBits 70 (gap_touches gap.old) }
     requires can { I.can_next replacement }
     requires finite { MatchBool V.must_end (IsFinite (I.remaining replacement)) ⊤ }
     ensures ran { (placed : List V.Item) × MatchResult result (λ _. Drains I.next_gives replacement placed)

@@ -1,7 +1,7 @@
 //! The slots that a splice reaches, each touch counted.
-ghost use Rattle.std.specs.Prelude.{◌≡◌, ◌≢◌, ◌+◌, ◌-◌, ◌<◌, ◌≤◌, ◌^◌, ◌++◌, length, take, drop, slice_index_or, slice_set, slice_range};
+ghost use Rattle.std.specs.Prelude.{◌≡◌, ◌≢◌, ◌+◌, ◌-◌, ◌<◌, ◌≤◌, ◌++◌, length, take, drop, slice_index_or, slice_set, slice_range};
 ghost use Rattle.std.specs.List.{SwappedAt};
-ghost use Rattle.tinyvec_slots.specs.Touches.{touch_count};
+ghost use Rattle.tinyvec_slots.specs.Touches.{touch_count, FitsBits};
 
 use std::mem;
 
@@ -28,7 +28,7 @@ impl Touches {
 
     // Counts `n` touches that a vector made of its own slots.
     pub(crate) fn add(&mut self, n: usize)
-        requires few { touch_count self.old < 2 ^ 120 }
+        requires few { FitsBits 120 (touch_count self.old) }
         ensures { touch_count self.new ≡ touch_count self.old + n }
     {
         self.count += n as u128;
@@ -37,7 +37,7 @@ impl Touches {
     // Places `x` in the slot at `i`, and takes out what was there.
     pub(crate) fn replace<T>(&mut self, slots: &mut [T], i: usize, x: T) -> T
         requires in_bounds { i < length slots.old }
-        requires few { touch_count self.old < 2 ^ 120 }
+        requires few { FitsBits 120 (touch_count self.old) }
         ensures value { result ≡ slice_index_or slots.old i result }
         ensures after { slots.new ≡ slice_set slots.old i x }
         ensures count { touch_count self.new ≡ touch_count self.old + 2 }
@@ -49,7 +49,7 @@ impl Touches {
     // Takes out what the slot at `i` holds, and leaves a default.
     pub(crate) fn take<T: Default>(&mut self, slots: &mut [T], i: usize) -> T
         requires in_bounds { i < length slots.old }
-        requires few { touch_count self.old < 2 ^ 120 }
+        requires few { FitsBits 120 (touch_count self.old) }
         ensures value { result ≡ slice_index_or slots.old i result }
         ensures after { (d : T) × T.is_default d × (slots.new ≡ slice_set slots.old i d) }
         ensures count { touch_count self.new ≡ touch_count self.old + 1 }
@@ -62,7 +62,7 @@ impl Touches {
     fn swap<T>(&mut self, slots: &mut [T], i: usize, j: usize)
         requires first { i < length slots.old }
         requires second { j < length slots.old }
-        requires few { touch_count self.old < 2 ^ 120 }
+        requires few { FitsBits 120 (touch_count self.old) }
         ensures by_index { SwappedAt slots.old slots.new i j }
         ensures len { length slots.new ≡ length slots.old }
         ensures count { touch_count self.new ≡ touch_count self.old + 1 }
@@ -75,7 +75,7 @@ impl Touches {
     pub(crate) fn close<T>(&mut self, slots: &mut [T], at: usize, back: usize)
         requires in_order { at ≤ back }
         requires in_bounds { back ≤ length slots.old }
-        requires few { touch_count self.old < 2 ^ 100 }
+        requires few { FitsBits 100 (touch_count self.old) }
         ensures kept { take (length slots.old - (back - at)) slots.new ≡ take at slots.old ++ drop back slots.old }
         ensures len { length slots.new ≡ length slots.old }
         ensures count { touch_count self.new ≡ touch_count self.old + (length slots.old - back) }
@@ -93,7 +93,7 @@ impl Touches {
     pub(crate) fn rotate<T>(&mut self, slots: &mut [T], start: usize, middle: usize)
         requires in_order { start ≤ middle }
         requires in_bounds { middle ≤ length slots.old }
-        requires few { touch_count self.old < 2 ^ 100 }
+        requires few { FitsBits 100 (touch_count self.old) }
         ensures after { slots.new
             ≡ take start slots.old ++ drop middle slots.old ++ slice_range slots.old start middle }
         ensures grows { touch_count self.old ≤ touch_count self.new }

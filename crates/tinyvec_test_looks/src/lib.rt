@@ -3,6 +3,8 @@
 
 ghost use Rattle.std.specs.Iterator.{IsFinite};
 
+pub mod steps;
+
 use std::alloc::AllocError;
 use std::io::Write;
 use tinyvec::{Array, TinyVec};

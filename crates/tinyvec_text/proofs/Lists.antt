@@ -3,13 +3,13 @@ use Rattle.std.proofs.Common.{◌≡◌, ℕ, List, inl, inr}
 use Rattle.std.specs.Bool.{⊤}
 use Rattle.tinyvec_slots.specs.Clones.{RefusedAt}
 use Rattle.tinyvec.specs.TinyVec.{Unchanged}
-use Rattle.tinyvec.specs.Growth.{RefusedFor}
+use Rattle.tinyvec.specs.Refused.{RefusedFor}
 use Rattle.tinyvec.specs.declared.tiny_vec.TinyVec.{TinyVec}
 use Rattle.tinyvec_text.specs.InlineText.{text_of}
 
 module _ {A : Type 0} where
   pub text_unchanged : (slots : ℕ) (old new : TinyVec A ℕ) → Unchanged old new → text_of slots new ≡ text_of slots old
-  text_unchanged slots old new h i = record { bytes = h.0 i; inline = h.2 i; room = h.3 slots i }
+  text_unchanged slots old new h i = record { bytes = h.items i; inline = h.place i; room = h.capacity slots i }
 
   -- the clone of a number cannot be refused, so a refusal was one of memory
   pub refused_memory : (xs : List ℕ) (slots need : ℕ) (Q : ℕ → Type 0) (old new : TinyVec A ℕ)

@@ -3,7 +3,7 @@ ghost use Rattle.std.specs.Prelude.{◌≡◌, ◌≤◌, ◌++◌, ℕ, All, mi
 ghost use Rattle.std.specs.List.{AllZip};
 ghost use Rattle.tinyvec_slots.specs.Clones.{RefusedAt, ClonesAreEqual, ClonesOver, ClonesInPart};
 ghost use Rattle.tinyvec.specs.TinyVec.{tiny_items, tiny_len, tiny_spare, is_inline, tiny_capacity, IsInline, PlaceRule, TinySlotRule, SameFrame};
-ghost use Rattle.tinyvec.specs.Growth.{RefusedFor};
+ghost use Rattle.tinyvec.specs.Refused.{RefusedFor};
 ghost use Rattle.tinyvec.specs.Room.{GrowsFor, RoomGrows};
 
 use crate::TinyVec;

@@ -205,9 +205,7 @@ impl<A: Array> TinyVec<A> {
         ensures value { result ≡ slice_get (tiny_items self.old) i }
         ensures items { OnSome result (tiny_items self.new ≡ remove (tiny_items self.old) i) }
         ensures none { IfNone result (Unchanged self.old self.new) }
-        ensures place { is_inline self.new ≡ is_inline self.old }
-        ensures slots { TinySlotRule A.Item.is_default self.old self.new }
-        ensures capacity { tiny_capacity A.CAPACITY self.new ≡ tiny_capacity A.CAPACITY self.old }
+        ensures frame { StaysInPlace A.Item.is_default A.CAPACITY self.old self.new }
     {
         if i >= self.len() {
             return None;

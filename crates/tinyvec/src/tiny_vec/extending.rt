@@ -3,7 +3,7 @@ ghost use Rattle.std.specs.Prelude.{◌≡◌, ◌+◌, ◌≤◌, ◌++◌, ℕ
 ghost use Rattle.std.specs.List.{AppendsClones, AppendsResults};
 ghost use Rattle.tinyvec_slots.specs.Clones.{RefusedAt, ClonesAreEqual};
 ghost use Rattle.tinyvec.specs.TinyVec.{tiny_items, tiny_len, tiny_spare, is_inline, tiny_capacity, PlaceRule, TinySlotRule, IsInline, StaysInPlace, Unchanged};
-ghost use Rattle.tinyvec.specs.Growth.{RefusedFor, ClonesBehind};
+ghost use Rattle.tinyvec.specs.Refused.{RefusedFor, ClonesBehind};
 ghost use Rattle.tinyvec.specs.Room.{GrowsFor, RoomGrows, Grows};
 ghost use Rattle.tinyvec_slots.specs.Slots.{AreDefaults, items, spare, items_len};
 ghost use Rattle.std.specs.Iterator.{IsFinite, Drains, YieldsThen};
@@ -208,7 +208,7 @@ impl<A: Array> TinyVec<A> {
         // The returned iterator can be iterated further.
         ensures goes_on { IfErr result (λ refused. I.IntoIter.can_next refused.rest) }
 
-        // For an iterator whose items are known.
+        // For an iterator of which `rest` shows the remaining items.
         ensures listed { (rest : I.IntoIter → List A.Item) → ShowsItems I.IntoIter.next_gives rest
             → (it : I.IntoIter) × (xs : List A.Item) × I.into_iter_gives iter it
             × MatchResult result (λ _. rest it ≡ xs) (λ refused. rest it ≡ xs ++ refused.item ∷ rest refused.rest)
@@ -296,7 +296,7 @@ impl<A: Array> TinyVec<A> {
         // The returned iterator can be iterated further.
         ensures goes_on { IfErr result (λ refused. I.IntoIter.can_next refused.rest) }
 
-        // For an iterator whose items are known.
+        // For an iterator of which `rest` shows the remaining items.
         ensures listed { (rest : I.IntoIter → List A.Item) → ShowsItems I.IntoIter.next_gives rest
             → (it : I.IntoIter) × I.into_iter_gives iter it
             × MatchResult result (λ v. rest it ≡ tiny_items v)

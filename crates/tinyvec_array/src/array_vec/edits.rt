@@ -4,7 +4,7 @@ ghost use Rattle.tinyvec_slots.specs.Slots.{items, spare, items_len, Vacates, Ar
 ghost use Rattle.std.specs.List.{swap_remove, SwappedAt, AppendsClones};
 ghost use Rattle.tinyvec_slots.specs.Clones.{RefusedAt, ClonesAreEqual, ClonesOver};
 
-use crate::slots::{are_short_of, via_u32};
+use crate::slots::{prefers_shifting_in, via_u32};
 use crate::{Array, ArrayVec, TryFromSliceError};
 use std::mem;
 use tinyvec_slots::{InSlots, fill_default, insert_shifting, last_to, remove_shifting};
@@ -83,7 +83,7 @@ impl<A: Array> ArrayVec<A> {
         ensures fits { items_len self.new ≤ A.CAPACITY }
     {
         let len = self.len();
-        if are_short_of(&self.array, i, len) {
+        if prefers_shifting_in(&self.array, i, len) {
             insert_shifting(self.slots_mut(), i, len, x);
             self.set_len(len + 1);
             return;
@@ -118,7 +118,7 @@ impl<A: Array> ArrayVec<A> {
         ensures fits { items_len self.new < A.CAPACITY }
     {
         let len = self.len();
-        if are_short_of(&self.array, i, len) {
+        if prefers_shifting_in(&self.array, i, len) {
             let item = remove_shifting(self.slots_mut(), i, len);
             self.set_len(len - 1);
             return item;

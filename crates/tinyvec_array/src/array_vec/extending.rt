@@ -128,10 +128,10 @@ impl<A: Array> ArrayVec<A> {
         ensures spare { spare self.new ≡ drop (items_len self.new - items_len self.old) (spare self.old) }
         ensures fits { items_len self.new ≤ A.CAPACITY }
 
-        // After an item, `next` may be called again.
+        // An iterator that stopped at a full vector can be iterated further.
         ensures goes_on { items_len self.new ≡ A.CAPACITY → I.IntoIter.can_next result }
 
-        // The same for an iterator whose items are known.
+        // The same for an iterator of which `rest` shows the remaining items.
         ensures listed { (rest : I.IntoIter → List A.Item) → ShowsItems I.IntoIter.next_gives rest
             → (it : I.IntoIter) × I.into_iter_gives iter it
             × (items self.new ≡ items self.old ++ take (A.CAPACITY - items_len self.old) (rest it))
@@ -162,10 +162,10 @@ impl<A: Array> ArrayVec<A> {
         ensures spare { spare self.new ≡ drop (items_len self.new - items_len self.old) (spare self.old) }
         ensures fits { items_len self.new ≤ A.CAPACITY }
 
-        // After an item, `next` may be called again.
+        // The returned iterator can be iterated further.
         ensures goes_on { IfErr result (λ refused. I.IntoIter.can_next refused.rest) }
 
-        // The same for an iterator whose items are known.
+        // The same for an iterator of which `rest` shows the remaining items.
         ensures listed { (rest : I.IntoIter → List A.Item) → ShowsItems I.IntoIter.next_gives rest
             → (it : I.IntoIter) × I.into_iter_gives iter it
             × (IsOk result ↔ (length (rest it) ≤ A.CAPACITY - items_len self.old))
@@ -201,10 +201,10 @@ impl<A: Array> ArrayVec<A> {
         ensures spare { IfOk result (λ v. AreDefaults A.Item.is_default (A.CAPACITY - items_len v) (spare v)) }
         ensures fits { IfOk result (λ v. items_len v ≤ A.CAPACITY) }
 
-        // After an item, `next` may be called again.
+        // The returned iterator can be iterated further.
         ensures goes_on { IfErr result (λ refused. I.IntoIter.can_next refused.rest) }
 
-        // The same for an iterator whose items are known.
+        // The same for an iterator of which `rest` shows the remaining items.
         ensures listed { (rest : I.IntoIter → List A.Item) → ShowsItems I.IntoIter.next_gives rest
             → (it : I.IntoIter) × I.into_iter_gives iter it
             × (IsOk result ↔ (length (rest it) ≤ A.CAPACITY))

@@ -1,4 +1,4 @@
-//! Keeping some of the items.
+//! Keeping some of the items. The loops are in `tinyvec_slots`, over `CanCut`, implemented in `splice.rt`.
 ghost use Rattle.std.specs.Prelude.{◌≡◌, ◌-◌, ◌≤◌};
 ghost use Rattle.std.specs.Fn.{CalledAt, CalledAtMut, CalledAtPairMut, ComparesKeys};
 ghost use Rattle.std.specs.List.{dedup as dedup_list};

@@ -57,17 +57,17 @@ where
         reader: &mut Counted<R>,
     ) -> Result<Self, BorshError>
         ensures ok { IfOk result (λ v. Takes (SpellsList A.Item.Spells (map A.Item.content_of (items v)))
-            (R.remaining reader.old.end) (R.remaining reader.new.end)) }
+            (R.remaining reader.old.inner) (R.remaining reader.new.inner)) }
         ensures fits { IfOk result (λ v. ListFits A.Item.Spells A.Item.Fits A.CAPACITY
             (map A.Item.content_of (items v))) }
         ensures err { IfErr result (Fails (IsListCut A.Item.Spells A.Item.Fits A.Item.IsCut A.CAPACITY)
             (IsListTooLong A.Item.Spells A.Item.Fits A.Item.IsTooLong A.CAPACITY)
             (InItem A.Item.Spells A.Item.Fits A.Item.MayAsk A.CAPACITY)
-            (R.remaining reader.old.end) reader.old.faults reader.new.faults) }
+            (R.remaining reader.old.inner) reader.old.faults reader.new.faults) }
         ensures grows { reader.old.faults ≤ reader.new.faults }
         ensures spare { IfOk result (λ v. AreDefaults A.Item.is_default (A.CAPACITY - items_len v) (spare v)) }
         ensures rest { IfErr result (LeavesRest A.Item.Spells A.Item.IsTooLong A.CAPACITY
-            (R.remaining reader.old.end) (R.remaining reader.new.end)) }
+            (R.remaining reader.old.inner) (R.remaining reader.new.inner)) }
     {
         let count = u64::deserialize_reader(alloc, reader)?;
         let len = count.min(A::CAPACITY as u64) as usize;

@@ -82,13 +82,13 @@ where
         reader: &mut Counted<R>,
     ) -> Result<Self, BorshError>
         ensures ok { IfOk result (λ v. Takes (SpellsList A.Item.Spells (map A.Item.content_of (tiny_items v)))
-            (R.remaining reader.old.end) (R.remaining reader.new.end)) }
+            (R.remaining reader.old.inner) (R.remaining reader.new.inner)) }
         ensures fits { IfOk result (λ v. ListFits A.Item.Spells A.Item.Fits (2 ^ 64 - 1)
             (map A.Item.content_of (tiny_items v))) }
         ensures err { IfErr result (Fails (IsListCut A.Item.Spells A.Item.Fits A.Item.IsCut (2 ^ 64 - 1))
             (IsListTooLong A.Item.Spells A.Item.Fits A.Item.IsTooLong (2 ^ 64 - 1))
             (λ input. CountsAbove A.CAPACITY input ⊎ InItem A.Item.Spells A.Item.Fits A.Item.MayAsk (2 ^ 64 - 1) input)
-            (R.remaining reader.old.end) reader.old.faults reader.new.faults) }
+            (R.remaining reader.old.inner) reader.old.faults reader.new.faults) }
         ensures grows { reader.old.faults ≤ reader.new.faults }
         ensures place { IfOk result (λ v. IsInline v ↔ (tiny_len v ≤ A.CAPACITY)) }
         ensures spare { IfOk result (λ v. IsInline v
@@ -119,14 +119,14 @@ where
     ensures ok { OnOk result ((xs : List A.Item) × (tiny_items v.new ≡ tiny_items v.old ++ xs)
         × (0 < length xs) × (tiny_len v.new ≤ count) × AllByRecursion A.Item.Fits (map A.Item.content_of xs)
         × Takes (SpellsItems A.Item.Spells (map A.Item.content_of xs))
-        (R.remaining reader.old.end) (R.remaining reader.new.end)) }
+        (R.remaining reader.old.inner) (R.remaining reader.new.inner)) }
     ensures place { OnOk result (PlaceRule A.CAPACITY (tiny_len v.new) v.old v.new) }
     ensures slots { OnOk result (TinySlotRule A.Item.is_default v.old v.new) }
     ensures err { IfErr result (λ e. ((e ≡ BorshError.Memory) × (tiny_capacity A.CAPACITY v.old < count))
         ⊎ Fails (AfterItems A.Item.Spells A.Item.Fits A.Item.IsCut (count - tiny_len v.old))
         (AfterItems A.Item.Spells A.Item.Fits A.Item.IsTooLong (count - tiny_len v.old))
         (AfterItems A.Item.Spells A.Item.Fits A.Item.MayAsk (count - tiny_len v.old))
-        (R.remaining reader.old.end) reader.old.faults reader.new.faults e) }
+        (R.remaining reader.old.inner) reader.old.faults reader.new.faults e) }
     ensures grows { reader.old.faults ≤ reader.new.faults }
 {
     let start = v.len();

@@ -38,7 +38,7 @@ pub(crate) trait FixedWidth: Copy {
 pub(crate) trait Number: FixedWidth {
     fn write_all<W: Write>(items: &[Self], writer: &mut Counted<W>) -> Result<(), BorshError>
         ensures ok { OnOk result (Adds (SpellsItems Self.form.Spells items.now)
-            (W.contents writer.old.end) (W.contents writer.new.end)) }
+            (W.contents writer.old.inner) (W.contents writer.new.inner)) }
         ensures fits { OnOk result (AllByRecursion Self.form.Fits items.now) }
         ensures err { IfErr result (λ e. (e ≡ BorshError.Io) × Reported writer.old.faults writer.new.faults) }
         ensures grows { writer.old.faults ≤ writer.new.faults }
@@ -57,13 +57,13 @@ pub(crate) trait Number: FixedWidth {
 
     fn read_all<R: Read>(slots: &mut [Self], reader: &mut Counted<R>) -> Result<(), BorshError>
         ensures ok { OnOk result (Takes (SpellsItems Self.form.Spells slots.new)
-            (R.remaining reader.old.end) (R.remaining reader.new.end)) }
+            (R.remaining reader.old.inner) (R.remaining reader.new.inner)) }
         ensures fits { OnOk result (AllByRecursion Self.form.Fits slots.new) }
         ensures err { IfErr result (Fails
             (AfterItems Self.form.Spells Self.form.Fits (λ input. length input < byte_len Self.form.width) (length slots.old))
             (AfterItems Self.form.Spells Self.form.Fits (λ _. ⊥) (length slots.old))
             (AfterItems Self.form.Spells Self.form.Fits (λ _. ⊥) (length slots.old))
-            (R.remaining reader.old.end) reader.old.faults reader.new.faults) }
+            (R.remaining reader.old.inner) reader.old.faults reader.new.faults) }
         ensures grows { reader.old.faults ≤ reader.new.faults }
     {
         let width = Self::Bytes::CAPACITY;

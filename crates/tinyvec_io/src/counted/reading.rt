@@ -11,16 +11,16 @@ use std::io;
 use std::io::{ErrorKind, Read};
 
 impl<R: Read> Read for Counted<R> {
-    ghost remaining = { λ c. R.remaining c.end };
+    ghost remaining = { λ c. R.remaining c.inner };
 
     fn read(&mut self, buf: &mut [u8]) -> io::Result<usize>
         ensures bound { ReadsAtMost result buf.new }
-        ensures bytes { ReadConsumes (R.remaining self.old.end) (R.remaining self.new.end)
+        ensures bytes { ReadConsumes (R.remaining self.old.inner) (R.remaining self.new.inner)
             result buf.new }
         ensures faults { self.new.faults ≡ faults_after self.old.faults result }
         ensures grows { self.old.faults ≤ self.new.faults }
     {
-        let result = self.end.read(buf);
+        let result = self.inner.read(buf);
         if result.is_err() {
             self.count_fault();
         }
@@ -35,10 +35,10 @@ impl<R: Read> Counted<R> {
     pub fn read_some(&mut self, buf: &mut [u8]) -> io::Result<usize>
         requires { 0 < length buf.old }
         ensures bound { ReadsAtMost result buf.new }
-        ensures bytes { IfOk result (λ n. Consumes (R.remaining self.old.end)
-            (R.remaining self.new.end) (take n buf.new)) }
-        ensures end { IfOk result (λ n. n ≡ 0 → IsAtEnd (R.remaining self.new.end)) }
-        ensures err { OnErr result (Keeps (R.remaining self.old.end) (R.remaining self.new.end)) }
+        ensures bytes { IfOk result (λ n. Consumes (R.remaining self.old.inner)
+            (R.remaining self.new.inner) (take n buf.new)) }
+        ensures end { IfOk result (λ n. n ≡ 0 → IsAtEnd (R.remaining self.new.inner)) }
+        ensures err { OnErr result (Keeps (R.remaining self.old.inner) (R.remaining self.new.inner)) }
         ensures retried { IfErr result (λ e. error_kind e ≢ ErrorKind.Interrupted) }
         ensures grows { self.old.faults ≤ self.new.faults }
         ensures fault { OnErr result (Reported self.old.faults self.new.faults) }
@@ -57,9 +57,9 @@ impl<R: Read> Counted<R> {
     /// interruption.
     pub fn fill(&mut self, buf: &mut [u8]) -> io::Result<usize>
         ensures bound { ReadsAtMost result buf.new }
-        ensures bytes { IfOk result (λ n. Consumes (R.remaining self.old.end)
-            (R.remaining self.new.end) (take n buf.new)) }
-        ensures end { IfOk result (λ n. n < length buf.new → IsAtEnd (R.remaining self.new.end)) }
+        ensures bytes { IfOk result (λ n. Consumes (R.remaining self.old.inner)
+            (R.remaining self.new.inner) (take n buf.new)) }
+        ensures end { IfOk result (λ n. n < length buf.new → IsAtEnd (R.remaining self.new.inner)) }
         ensures small { IfOk result (λ n. AllByRecursion (λ byte. byte < 256) (take n buf.new)) }
         ensures grows { self.old.faults ≤ self.new.faults }
         ensures fault { OnErr result (Reported self.old.faults self.new.faults) }

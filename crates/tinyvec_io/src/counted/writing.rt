@@ -10,16 +10,16 @@ use std::io;
 use std::io::{ErrorKind, Write};
 
 impl<W: Write> Write for Counted<W> {
-    ghost contents = { λ c. W.contents c.end };
+    ghost contents = { λ c. W.contents c.inner };
 
     fn write(&mut self, buf: &[u8]) -> io::Result<usize>
         ensures bound { WritesAtMost result buf.now }
-        ensures bytes { WriteAppends (W.contents self.old.end) (W.contents self.new.end)
+        ensures bytes { WriteAppends (W.contents self.old.inner) (W.contents self.new.inner)
             result buf.now }
         ensures faults { self.new.faults ≡ faults_after_write self.old.faults result buf.now }
         ensures grows { self.old.faults ≤ self.new.faults }
     {
-        let result = self.end.write(buf);
+        let result = self.inner.write(buf);
         let is_fault = match &result {
             Ok(count) => *count == 0 && !buf.is_empty(),
             Err(_) => true,
@@ -31,11 +31,11 @@ impl<W: Write> Write for Counted<W> {
     }
 
     fn flush(&mut self) -> io::Result<()>
-        ensures bytes { Keeps (W.contents self.old.end) (W.contents self.new.end) }
+        ensures bytes { Keeps (W.contents self.old.inner) (W.contents self.new.inner) }
         ensures faults { self.new.faults ≡ faults_after self.old.faults result }
         ensures grows { self.old.faults ≤ self.new.faults }
     {
-        let result = self.end.flush();
+        let result = self.inner.flush();
         if result.is_err() {
             self.count_fault();
         }
@@ -47,10 +47,10 @@ impl<W: Write> Write for Counted<W> {
     /// Each interruption counts. If a write returns `Ok(0)` it fails with `ErrorKind::WriteZero`, and after `u64::MAX`
     /// interruptions of one write with `ErrorKind::TimedOut`.
     fn write_all(&mut self, buf: &[u8]) -> io::Result<()>
-        ensures bytes { OnOk result (Appends (W.contents self.old.end) (W.contents self.new.end)
+        ensures bytes { OnOk result (Appends (W.contents self.old.inner) (W.contents self.new.inner)
             buf.now) }
-        ensures err { OnErr result (AppendsFront (W.contents self.old.end)
-            (W.contents self.new.end) buf.now) }
+        ensures err { OnErr result (AppendsFront (W.contents self.old.inner)
+            (W.contents self.new.inner) buf.now) }
         ensures retried { IfErr result (λ e. error_kind e ≢ ErrorKind.Interrupted) }
         ensures grows { self.old.faults ≤ self.new.faults }
         ensures fault { OnErr result (Reported self.old.faults self.new.faults) }
@@ -70,7 +70,7 @@ impl<W: Write> Counted<W> {
         requires { 0 < length buf.now }
         ensures some { IfOk result (λ n. 0 < n) }
         ensures bound { WritesAtMost result buf.now }
-        ensures bytes { WriteAppends (W.contents self.old.end) (W.contents self.new.end)
+        ensures bytes { WriteAppends (W.contents self.old.inner) (W.contents self.new.inner)
             result buf.now }
         ensures retried { IfErr result (λ e. error_kind e ≢ ErrorKind.Interrupted) }
         ensures grows { self.old.faults ≤ self.new.faults }

@@ -5,7 +5,7 @@ ghost use Rattle.std.specs.List.{swap_remove, SwappedAt};
 
 use crate::{GenericSliceVec, Lent, SliceVec};
 use std::mem;
-use tinyvec_slots::{are_short, fill_default, insert_shifting, last_to, remove_shifting};
+use tinyvec_slots::{fill_default, insert_shifting, last_to, prefers_shifting, remove_shifting};
 
 impl<B: Lent> GenericSliceVec<B> {
     /// Appends `x`.
@@ -29,7 +29,7 @@ impl<B: Lent> GenericSliceVec<B> {
         ensures spare { spare_of B.Lent self.new ≡ drop 1 (spare_of B.Lent self.old) }
     {
         let len = self.len();
-        if are_short(&self.as_slice()[i..]) {
+        if prefers_shifting(&self.as_slice()[i..]) {
             insert_shifting(self.lent.all_mut(), i, len, x);
             self.len = len + 1;
             return;
@@ -100,7 +100,7 @@ where
         ensures spare { VacatesOf B.Lent B.Item.is_default 1 self.old self.new }
     {
         let len = self.len();
-        if are_short(&self.as_slice()[i..]) {
+        if prefers_shifting(&self.as_slice()[i..]) {
             let item = remove_shifting(self.lent.all_mut(), i, len);
             self.len = len - 1;
             return item;

@@ -49,10 +49,10 @@ impl<B: Lent> GenericSliceVec<B> {
         ensures spare { spare_of B.Lent self.new
             ≡ drop (len_of B.Lent self.new - len_of B.Lent self.old) (spare_of B.Lent self.old) }
 
-        // After an item, `next` may be called again.
+        // An iterator that stopped at a full vector can be iterated further.
         ensures goes_on { length (spare_of B.Lent self.new) ≡ 0 → I.IntoIter.can_next result }
 
-        // The same for an iterator whose items are known.
+        // The same for an iterator of which `rest` shows the remaining items.
         ensures listed { (rest : I.IntoIter → List B.Item) → ShowsItems I.IntoIter.next_gives rest
             → (it : I.IntoIter) × I.into_iter_gives iter it
             × (items_of B.Lent self.new
@@ -85,10 +85,10 @@ impl<B: Lent> GenericSliceVec<B> {
         ensures spare { spare_of B.Lent self.new
             ≡ drop (len_of B.Lent self.new - len_of B.Lent self.old) (spare_of B.Lent self.old) }
 
-        // After an item, `next` may be called again.
+        // The returned iterator can be iterated further.
         ensures goes_on { IfErr result (λ refused. I.IntoIter.can_next refused.rest) }
 
-        // The same for an iterator whose items are known.
+        // The same for an iterator of which `rest` shows the remaining items.
         ensures listed { (rest : I.IntoIter → List B.Item) → ShowsItems I.IntoIter.next_gives rest
             → (it : I.IntoIter) × I.into_iter_gives iter it
             × (IsOk result ↔ (length (rest it) ≤ length (spare_of B.Lent self.old)))

@@ -1,10 +1,10 @@
 //! Finishing a splice: fill the gap, then close what is left of it, or rotate the surplus in. All of it is inlined, since
 //! calls would cost a short splice as much as its moves.
-ghost use Rattle.std.specs.Prelude.{◌≡◌, ◌+◌, ◌*◌, ◌-◌, ◌<◌, ◌≤◌, ◌^◌, ◌++◌, List, Some, None, length, take, drop, slice_range, slice_set};
+ghost use Rattle.std.specs.Prelude.{◌≡◌, ◌+◌, ◌*◌, ◌-◌, ◌<◌, ◌≤◌, ◌++◌, List, Some, None, length, take, drop, slice_range, slice_set};
 ghost use Rattle.std.specs.Bool.{MatchBool};
 ghost use Rattle.std.specs.Iterator.{Drains, Yields, IsFinite};
 ghost use Rattle.tinyvec_slots.specs.Gap.{gap_front, gap_back, gap_touches, GapLies};
-ghost use Rattle.tinyvec_slots.specs.Touches.{touch_count};
+ghost use Rattle.tinyvec_slots.specs.Touches.{touch_count, FitsBits};
 
 use crate::gap::Gap;
 use crate::touches::Touches;
@@ -42,7 +42,7 @@ impl Gap {
     pub(crate) fn close<T>(&mut self, slots: &mut [T]) -> usize
         requires in_order { gap_front self.old ≤ gap_back self.old }
         requires in_bounds { gap_back self.old ≤ length slots.old }
-        requires few { gap_touches self.old < 2 ^ 80 }
+        requires few { FitsBits 80 (gap_touches self.old) }
         ensures len { result ≡ length slots.old - (gap_back self.old - gap_front self.old) }
         ensures kept { take result slots.new ≡ take (gap_front self.old) slots.old ++ drop (gap_back self.old) slots.old }
         ensures slots { length slots.new ≡ length slots.old }
@@ -59,7 +59,7 @@ impl Gap {
     pub(crate) fn rotate_in<T>(&mut self, slots: &mut [T], end: usize)
         requires in_order { gap_front self.old ≤ end }
         requires in_bounds { end ≤ length slots.old }
-        requires few { gap_touches self.old < 2 ^ 80 }
+        requires few { FitsBits 80 (gap_touches self.old) }
         ensures brought { slots.new ≡ take (gap_front self.old) slots.old ++ drop end slots.old
             ++ slice_range slots.old (gap_front self.old) end }
         ensures slots { length slots.new ≡ length slots.old }
@@ -77,7 +77,7 @@ impl Gap {
 
     // Counts `n` items that were moved to other slots.
     pub(crate) fn count_moved(&mut self, n: usize)
-        requires few { gap_touches self.old < 2 ^ 100 }
+        requires few { FitsBits 100 (gap_touches self.old) }
         ensures { gap_touches self.new ≡ gap_touches self.old + n }
     {
         self.touches.add(n);
@@ -98,7 +98,7 @@ where
     I::Item: Drop,
     requires in_order { front ≤ back }
     requires in_bounds { back ≤ length slots.old }
-    requires few { touch_count touches.old ≤ 2 ^ 66 }
+    requires few { FitsBits 66 (touch_count touches.old) }
     requires can { I.can_next replacement.old }
     ensures bounds { (front ≤ result) × (result ≤ back) }
     ensures len { length slots.new ≡ length slots.old }
@@ -130,7 +130,7 @@ fn place_one<I: Iterator>(
 where
     I::Item: Drop,
     requires in_bounds { at < length slots.old }
-    requires few { touch_count touches.old < 2 ^ 100 }
+    requires few { FitsBits 100 (touch_count touches.old) }
     requires can { I.can_next replacement.old }
     ensures finite { IsFinite (I.remaining replacement.old) → IsFinite (I.remaining replacement.new) }
     ensures placed { MatchBool result ((new : I.Item) × I.next_gives replacement.old (Some new) replacement.new

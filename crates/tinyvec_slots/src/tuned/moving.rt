@@ -1,8 +1,8 @@
 //! Items that change their places.
-ghost use Rattle.std.specs.Prelude.{◌≡◌, ◌-◌, ◌<◌, ◌≤◌, List, [], ◌∷◌, ◌++◌, length, take, drop, slice_range, insert};
+ghost use Rattle.std.specs.Prelude.{◌≡◌, ◌+◌, ◌-◌, ◌<◌, ◌≤◌, List, [], ◌∷◌, ◌++◌, length, take, drop, slice_range, insert};
 ghost use Rattle.std.specs.List.{remove_range};
 
-use crate::tuned::shifting::are_few;
+use crate::tuned::shifting::prefers_swaps;
 
 /// Moves the items `start..end` to the end.
 pub fn move_to_end<T>(items: &mut [T], start: usize, end: usize)
@@ -14,7 +14,7 @@ pub fn move_to_end<T>(items: &mut [T], start: usize, end: usize)
         return;
     }
     // `rotate_left` clears a buffer first, unless it goes by one. For few items that costs more than swaps.
-    if end - start != 1 && are_few(items.len() - start) {
+    if end - start != 1 && prefers_swaps(items.len() - start) {
         rotate_few(&mut items[start..], end - start);
         return;
     }
@@ -80,4 +80,22 @@ pub fn last_to<T>(slots: &mut [T], index: usize, len: usize)
         → slots.new ≡ insert front index last ++ drop len slots.old }
 {
     move_last(&mut slots[..len], index);
+}
+
+/// Moves up to `gap` items from `start` on to the end, in any order, and returns how many items precede them.
+pub fn close_gap<T>(items: &mut [T], start: usize, gap: usize) -> usize
+    ensures kept { take result items.new ≡ remove_range items.old start (start + gap) }
+    ensures len { length items.new ≡ length items.old }
+{
+    let len = items.len();
+    let start = start.min(len);
+    let gap = gap.min(len - start);
+    let behind = len - start - gap;
+    // Where all that follows fits the gap, one swap of blocks beats a rotation.
+    if behind <= gap {
+        swap_ends(&mut items[start..], behind);
+        return len - gap;
+    }
+    move_to_end(items, start, start + gap);
+    len - gap
 }

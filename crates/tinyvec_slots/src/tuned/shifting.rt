@@ -5,13 +5,13 @@ use std::mem;
 
 /// Whether moving this many items one by one beats a rotation.
 #[inline(always)]
-pub fn are_few(count: usize) -> bool {
+pub fn prefers_swaps(count: usize) -> bool {
     count <= 64
 }
 
 /// Whether moving the items one by one beats `memmove`.
 #[inline(always)]
-pub fn are_short<T>(items: &[T]) -> bool {
+pub fn prefers_shifting<T>(items: &[T]) -> bool {
     items.len() * mem::size_of::<T>() <= 128
 }
 

@@ -29,6 +29,6 @@ returns-in-Err-clause-ok g c =
     let fault = tells_line_fault line (length slots) c.answer_line.result told.query told.words told.number told.unknown_type error c.in-Err.is in
     on_ok_weaker c.write_error.result (λ end. (
       codes "error: " ++ (line_error_text error ++ 10 ∷ []),
-      subst (λ said. Appends (g.W.Write.contents c.args.writer.now.end) (g.W.Write.contents c.write_error.new.writer.end) (codes "error: " ++ (said ++ 10 ∷ []))) c.text.ensures end,
+      subst (λ said. Appends (g.W.Write.contents c.args.writer.now.inner) (g.W.Write.contents c.write_error.new.writer.inner) (codes "error: " ++ (said ++ 10 ∷ []))) c.text.ensures end,
       inr (error, subst (λ n. HasLineFault line n error) room fault, refl),
     )) c.write_error.ensures.ok

@@ -16,7 +16,7 @@ use Rattle.example_dns_query.proofs.answers.answer_lines.Goals.{then-not-contain
 pub returns-in-Ok-finish-clause-ok : goal.returns-in-Ok-finish-clause-ok
 returns-in-Ok-finish-clause-ok g c =
     let before = c.loop-turn.invariant.answered in
-    let written : Appends (g.W.Write.contents c.args.writer.now.end) (g.W.Write.contents c.if-not-contains.writer.end) before.0 =
+    let written : Appends (g.W.Write.contents c.args.writer.now.inner) (g.W.Write.contents c.if-not-contains.writer.inner) before.0 =
     elim c.if-not-contains.branch [
       | then-not-contains+in-Ok w ↦ rw w.writer-is (Appends-kept _ _ _ before.0 before.1 w.flush.ensures.bytes)
       | else-not-contains w ↦ rw w.writer-is before.1
@@ -36,7 +36,7 @@ returns-in-Ok-finish-clause-ok g c =
 pub loop-turn-preserved : goal.loop-turn-preserved
 loop-turn-preserved g c =
     let before = c.loop-turn.invariant.answered in
-    let written : Appends (g.W.Write.contents c.args.writer.now.end) (g.W.Write.contents c.if-not-contains.writer.end) before.0 =
+    let written : Appends (g.W.Write.contents c.args.writer.now.inner) (g.W.Write.contents c.if-not-contains.writer.inner) before.0 =
     elim c.if-not-contains.branch [
       | then-not-contains+in-Ok w ↦ rw w.writer-is (Appends-kept _ _ _ before.0 before.1 w.flush.ensures.bytes)
       | else-not-contains w ↦ rw w.writer-is before.1
@@ -70,7 +70,7 @@ loop-turn-preserved g c =
 pub returns-in-Err-read_until-clause-input : goal.returns-in-Err-read_until-clause-input
 returns-in-Err-read_until-clause-input g c = λ error is.
     let before = c.loop-turn.invariant.answered in
-    let written : Appends (g.W.Write.contents c.args.writer.now.end) (g.W.Write.contents c.if-not-contains.writer.end) before.0 =
+    let written : Appends (g.W.Write.contents c.args.writer.now.inner) (g.W.Write.contents c.if-not-contains.writer.inner) before.0 =
     elim c.if-not-contains.branch [
       | then-not-contains+in-Ok w ↦ rw w.writer-is (Appends-kept _ _ _ before.0 before.1 w.flush.ensures.bytes)
       | else-not-contains w ↦ rw w.writer-is before.1

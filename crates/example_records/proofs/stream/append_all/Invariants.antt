@@ -8,7 +8,7 @@ use Rattle.example_records.proofs.stream.append_all.Given as goal
 -- the records so far were written
 abbrev pub invariant-loop-reading : goal.invariant-loop-reading
 invariant-loop-reading g l = record {
-  wrote : WroteItems SpellsFrame (map said (take l.reading-index l.readings)) (g.W.Write.contents l.fn.writer.end) (g.W.Write.contents l.writer.end);
+  wrote : WroteItems SpellsFrame (map said (take l.reading-index l.readings)) (g.W.Write.contents l.fn.writer.inner) (g.W.Write.contents l.writer.inner);
   fit : AllByRecursion ReadingFits (map said (take l.reading-index l.readings));
   grows : l.fn.writer.faults ≤ l.writer.faults;
 }

@@ -7,7 +7,7 @@ use Rattle.example_records.proofs.stream.read_records.Given as goal
 -- the records so far were read
 abbrev pub invariant-loop-reading : goal.invariant-loop-reading
 invariant-loop-reading g l = record {
-  read : ReadItems said SpellsFrame ReadingFits l.fn.records.items l.records.items (g.R.Read.remaining l.fn.reader.end) (g.R.Read.remaining l.reader.end);
+  read : ReadItems said SpellsFrame ReadingFits l.fn.records.items l.records.items (g.R.Read.remaining l.fn.reader.inner) (g.R.Read.remaining l.reader.inner);
   grows : l.fn.reader.faults ≤ l.reader.faults;
 }
 

@@ -52,7 +52,7 @@ returns-then-count-eq0-clause-memory g c =
 pub returns-then-count-eq0-clause-short : goal.returns-then-count-eq0-clause-short
 returns-then-count-eq0-clause-short g c = λ text known each is.
     let m = returns-then-count-eq0-clause-memory g c is in
-    long_not_short m.0 m.1 m.4 (short_consumed (g.R.Read.remaining c.args.reader.now.end) (g.R.Read.remaining c.read_some.new.self.end) text m.0 known m.2 each)
+    long_not_short m.0 m.1 m.4 (short_consumed (g.R.Read.remaining c.args.reader.now.inner) (g.R.Read.remaining c.read_some.new.self.inner) text m.0 known m.2 each)
 
 pub returns-then-count-eq0-clause-write : goal.returns-then-count-eq0-clause-write
 returns-then-count-eq0-clause-write g c =
@@ -81,7 +81,7 @@ returns-in_err-tidy_chunk-clause-memory g c =
 pub returns-in_err-tidy_chunk-clause-short : goal.returns-in_err-tidy_chunk-clause-short
 returns-in_err-tidy_chunk-clause-short g c = λ text known each is.
     let m = returns-in_err-tidy_chunk-clause-memory g c is in
-    long_not_short m.0 m.1 m.4 (short_consumed (g.R.Read.remaining c.args.reader.now.end) (g.R.Read.remaining c.read_some.new.self.end) text m.0 known m.2 each)
+    long_not_short m.0 m.1 m.4 (short_consumed (g.R.Read.remaining c.args.reader.now.inner) (g.R.Read.remaining c.read_some.new.self.inner) text m.0 known m.2 each)
 
 pub returns-in_err-tidy_chunk-clause-write : goal.returns-in_err-tidy_chunk-clause-write
 returns-in_err-tidy_chunk-clause-write g c =

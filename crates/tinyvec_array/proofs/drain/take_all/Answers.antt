@@ -1,50 +1,29 @@
-use Rattle.std.proofs.Common.{◌≡◌, ℕ, ◌+◌, ◌<◌, ◌++◌, ◌∷◌, [], List, length, take, drop, set, get_or, sym, ap, ◌∙◌, append_assoc, arith, rules, drop-set-lt, length-append, length-take-le, take_all}
-use Rattle.std.proofs.lemmas.List.{take_more, get_or-drop}
-use Rattle.std.proofs.lemmas.Grind.{drop_more_same}
+use Rattle.std.proofs.Common.{◌+◌, arith}
+use Rattle.tinyvec_array.proofs.EmptiedLemmas.{emptied_further, emptied_all, emptied_len, moved_further, moved_all, rest_len}
 use Rattle.tinyvec_array.proofs.drain.take_all.Goals as goal
-
-module _ {X : Type 0} where
-  -- lists that end alike from i on hold the same at i
-  get_or-same_end : (xs ys : List X) (i : ℕ) (d : X) → drop i ys ≡ drop i xs → get_or ys i d ≡ get_or xs i d
-  get_or-same_end xs ys i d same =
-      let at : i + 0 ≡ i = omega arith in
-      ap (λ k. get_or ys k d) (sym at) ∙ sym (get_or-drop i ys 0 d) ∙ ap (λ zs. get_or zs 0 d) same ∙ get_or-drop i xs 0 d ∙ ap (λ k. get_or xs k d) at
-
-  -- a write at i leaves what stands behind it
-  left_behind : (xs ys : List X) (i : ℕ) (d : X) → drop i ys ≡ drop i xs → drop (i + 1) (set ys i d) ≡ drop (i + 1) xs
-  left_behind xs ys i d same = drop-set-lt (i + 1) ys i d (omega arith) ∙ drop_more_same ys xs i same
-
-  -- one item more was moved behind the others
-  moved_one : (front old new xs : List X) (i : ℕ) (x d : X) → i < length xs → x ≡ get_or xs i d
-      → old ≡ front ++ take i xs → new ≡ old ++ x ∷ [] → new ≡ front ++ take (i + 1) xs
-  moved_one front old new xs i x d within is was now =
-      now ∙ ap (λ l. l ++ x ∷ []) was ∙ append_assoc front (take i xs) (x ∷ [])
-      ∙ ap (λ y. front ++ (take i xs ++ y ∷ [])) is ∙ ap (λ l. front ++ l) (sym (take_more xs i d within))
-
-pub loop-slot-preserved : goal.loop-slot-preserved
-loop-slot-preserved g c =
-    let inv = c.loop-slot.invariant in
-    let xs = c.args.slots.now in
-    let ys = c.loop-slot.slots in
-    let i = c.loop-slot.slot-index in
-    let x = c.take.result in
-    let d = c.slot-item.result in
-    let is : x ≡ get_or xs i d = c.take.ensures.value ∙ get_or-same_end xs ys i d inv.1 in (
-      moved_one c.args.vec.now.items c.loop-slot.vec.items c.push_reserved.new.self.items xs i x d c.loop-slot-test.true is inv.0 c.push_reserved.ensures.items,
-      left_behind xs ys i c.take.new.dest inv.1,
-      c.push_reserved.ensures.capacity ∙ inv.2,
-      search rules,
-    )
-
-pub push_reserved-requires : goal.push_reserved-requires
-push_reserved-requires g c =
-    let inv = c.loop-slot.invariant in
-    let xs = c.args.slots.now in
-    let i = c.loop-slot.slot-index in
-    let long = ap length inv.0 ∙ length-append c.args.vec.now.items (take i xs) in
-    let moved = length-take-le i xs (omega arith) in
-    omega (arith, long, moved, inv.2)
 
 pub returns-clause-items : goal.returns-clause-items
 returns-clause-items g c =
-    c.loop-slot.invariant.0 ∙ ap (λ l. c.args.vec.now.items ++ l) (take_all c.loop-slot.slot-index c.args.slots.now c.loop-slot-test.false)
+    let D = g.T.Default.is_default in
+    let old = c.args.slots.now in
+    let front = c.args.vec.now.items in
+    let most = c.take_blocks-most in
+    let more = c.take_blocks in
+    let within = most.ensures.within in
+    let fits = rest_len D old most.new.slots most.result within most.ensures.emptied in
+    let emptied = emptied_further D old most.new.slots most.result within most.ensures.emptied more.new.slots more.result (omega (arith, fits, more.ensures.within)) more.ensures.emptied in
+    let moved = moved_further D old most.new.slots most.result within most.ensures.emptied front most.new.vec.items more.new.vec.items more.result most.ensures.items more.ensures.items in
+    let long = emptied_len D old most.new.slots most.result within most.ensures.emptied in
+    moved_all D old _ (most.result + more.result) (omega (arith, fits, long, within, more.ensures.within)) emptied front more.new.vec.items c.take_each-2.new.vec.items moved c.take_each-2.ensures.items
+
+pub returns-clause-emptied : goal.returns-clause-emptied
+returns-clause-emptied g c =
+    let D = g.T.Default.is_default in
+    let old = c.args.slots.now in
+    let most = c.take_blocks-most in
+    let more = c.take_blocks in
+    let within = most.ensures.within in
+    let fits = rest_len D old most.new.slots most.result within most.ensures.emptied in
+    let emptied = emptied_further D old most.new.slots most.result within most.ensures.emptied more.new.slots more.result (omega (arith, fits, more.ensures.within)) more.ensures.emptied in
+    let long = emptied_len D old most.new.slots most.result within most.ensures.emptied in
+    emptied_all D old _ (most.result + more.result) (omega (arith, fits, long, within, more.ensures.within)) emptied c.take_each-2.new.slots c.take_each-2.ensures.emptied

@@ -13,5 +13,5 @@ returns-clause-left c =
     let left : all_slots c.drop.new.self.0 ≡ pos 1 ∷ pos 4 ∷ pos 0 ∷ pos 0 ∷ [] =
     numbers_left first last c.drop.new.self.0 made.ready kept c.drop.ensures
     ∙ rw (made.kept, made.spare, made.count, made.rest, c.from_array_len-v.ensures) (refl {a = pos 1 ∷ pos 4 ∷ pos 0 ∷ pos 0 ∷ []}) in
-    let same = kept.0 in
+    let same = kept.same_reference in
     search rules

@@ -19,7 +19,7 @@ returns c =
     let left : all_slots c.drop.new.self.0 ≡ pos 1 ∷ pos 0 ∷ pos 0 ∷ pos 0 ∷ [] =
     numbers_left first last c.drop.new.self.0 made.ready took.1 c.drop.ensures
     ∙ rw (made.kept, made.spare, made.count, made.rest, c.from_array_len-v.ensures) (refl {a = pos 1 ∷ pos 0 ∷ pos 0 ∷ pos 0 ∷ []}) in
-    let same = took.1.0 in
+    let same = took.1.same_reference in
     record {
       first = given.0;
       last = given.1;

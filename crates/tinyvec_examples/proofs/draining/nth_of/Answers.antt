@@ -15,8 +15,8 @@ returns-clause-left g c =
     let kept = nth-keeps c.drain-d.result c.args.n c.nth.result c.nth.new.self c.nth.ensures.ran in
     let listed : items new ≡ before (items old) start ++ after (items old) end =
     drained_items g.A.Item.Default.is_default c.drain-d.result c.nth.new.self old new start end
-    c.requires.in_list made.rest made.count made.kept made.spare kept (c.drop-d.ensures (kept.4 made.ready)) in
-    let same = kept.0 in
+    c.requires.in_list made.rest made.count made.kept made.spare kept (c.drop-d.ensures (kept.ready made.ready)) in
+    let same = kept.same_reference in
     search rules
 
 pub returns-clause-spare : goal.returns-clause-spare
@@ -29,6 +29,6 @@ returns-clause-spare g c =
     let kept = nth-keeps c.drain-d.result c.args.n c.nth.result c.nth.new.self c.nth.ensures.ran in
     let ruled : SlotRule g.A.Item.Default.is_default old new =
     drained_slots g.A.Item.Default.is_default c.drain-d.result c.nth.new.self old new start end
-    c.requires.in_list made.rest made.count made.kept made.spare kept (c.drop-d.ensures (kept.4 made.ready)) in
-    let same = kept.0 in
+    c.requires.in_list made.rest made.count made.kept made.spare kept (c.drop-d.ensures (kept.ready made.ready)) in
+    let same = kept.same_reference in
     (ruled.0, (search rules, ruled.1.1), search rules)

@@ -17,5 +17,5 @@ returns c =
     let left = numbers_left first last c.drop-x-iterator.new.self.0 made.ready kept c.drop-x-iterator.ensures in
     let is : all_slots c.drop-x-iterator.new.self.0 ≡ pos 1 ∷ pos 4 ∷ pos 0 ∷ pos 0 ∷ [] =
     left ∙ rw (made.kept, made.spare, made.count, made.rest, c.from_array_len-v.ensures) (refl {a = pos 1 ∷ pos 4 ∷ pos 0 ∷ pos 0 ∷ []}) in
-    let same = kept.0 in
+    let same = kept.same_reference in
     search rules

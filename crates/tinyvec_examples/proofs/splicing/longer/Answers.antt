@@ -31,7 +31,7 @@ returns c =
     let rule = ended_slots (λ x. x ≡ pos 0) s t old v along.kept made.slots c.finish-all_fit.ensures.slots in
     let slots : all_slots v ≡ pos 1 ∷ pos 7 ∷ pos 8 ∷ pos 9 ∷ pos 4 ∷ pos 6 ∷ [] =
     numbers_spliced old v _ list rule ∙ rw c.from_array_len-v.ensures (refl {a = pos 1 ∷ pos 7 ∷ pos 8 ∷ pos 9 ∷ pos 4 ∷ pos 6 ∷ []}) in
-    let same = along.kept.0 in
+    let same = along.kept.same_reference in
     let lender = made.same_reference in
     record {
       last = last.0;

@@ -66,7 +66,7 @@ returns c =
     let split : gave.item ∷ R gave.rest ≡ pos 9 ∷ pos 10 ∷ [] = at.1 in
     let item : gave.item ≡ pos 9 = cc in
     let others : R gave.rest ≡ pos 10 ∷ [] = cc in
-    let same = (along c).kept.0 in
+    let same = (along c).kept.same_reference in
     let lender = c.splice-splice.ensures.same_reference in
     record {
       item = search rules;

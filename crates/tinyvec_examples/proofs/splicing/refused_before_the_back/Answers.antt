@@ -66,7 +66,7 @@ returns c =
     let split : gave.item ∷ R gave.rest ≡ pos 8 ∷ [] = at.1 in
     let item : gave.item ≡ pos 8 = cc in
     let others : R gave.rest ≡ [] = cc in
-    let same = (along c).kept.0 in
+    let same = (along c).kept.same_reference in
     let lender = c.splice-splice.ensures.same_reference in
     record {
       item = search rules;

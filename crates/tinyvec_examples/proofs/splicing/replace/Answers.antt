@@ -32,7 +32,7 @@ returns-clause-list g c = λ rest ends.
     ended_list R g.A.Array.CAPACITY s t (front ∷ back ∷ []) (items v) _ _ _ P along made.front made.left made.back whole result finished in
     let unplaced = ended_refused R g.A.Array.CAPACITY s t (front ∷ back ∷ []) (items v) _ _ _ P along made.front made.left made.back whole result finished in
     let counted_out = subst (λ k. IfErr result (λ refused. IsSpliceRefused (front ∷ back ∷ []) k (take c.args.start xs) (drop c.args.end xs) P (items v) (refused.item ∷ R refused.rest))) n unplaced in
-    let same = along.kept.0 in
+    let same = along.kept.same_reference in
     let lender = made.same_reference in (
       (λ ok. let le = fits.0 ok in omega (arith, le, one, two), λ le. fits.1 (omega (arith, le, one, two))),
       subst (λ w. OnOk result (items w ≡ take c.args.start xs ++ P ++ drop c.args.end xs)) (search rules) list,
@@ -43,7 +43,7 @@ pub returns-clause-full : goal.returns-clause-full
 returns-clause-full g c =
     let counts = array_counted (fuse_steps g.I.Iterator.next_gives) (fuse_steps g.I.DoubleEndedIterator.next_back_gives) c.splice-splice.result (front ∷ back ∷ [])
     (c.one_from_each_end-ends.result.0 ∷ c.one_from_each_end-ends.result.1 ∷ []) c.one_from_each_end-ends.new.splice c.one_from_each_end-ends.ensures.asked in
-    let same = counts.kept.0 in
+    let same = counts.kept.same_reference in
     let lender = c.splice-splice.ensures.same_reference in
     subst (λ w. OnErr c.finish.result (items_len w ≡ g.A.Array.CAPACITY)) (search rules) c.finish.ensures.finished.full
 
@@ -51,7 +51,7 @@ pub returns-clause-spare : goal.returns-clause-spare
 returns-clause-spare g c =
     let counts = array_counted (fuse_steps g.I.Iterator.next_gives) (fuse_steps g.I.DoubleEndedIterator.next_back_gives) c.splice-splice.result (front ∷ back ∷ [])
     (c.one_from_each_end-ends.result.0 ∷ c.one_from_each_end-ends.result.1 ∷ []) c.one_from_each_end-ends.new.splice c.one_from_each_end-ends.ensures.asked in
-    let same = counts.kept.0 in
+    let same = counts.kept.same_reference in
     let lender = c.splice-splice.ensures.same_reference in
     let fact = ended_slots g.A.Item.Default.is_default c.splice-splice.result c.one_from_each_end-ends.new.splice c.args.vec.now c.finish.new.self.0 counts.kept c.splice-splice.ensures.slots c.finish.ensures.slots in
     subst (SlotRule g.A.Item.Default.is_default c.args.vec.now) (search rules) fact

@@ -34,7 +34,7 @@ module _ (g : _) (c : Joined-finished g) where
 
 pub returns-clause-kept : goal.returns-clause-kept
 returns-clause-kept g c =
-    let same = (counts g c).kept.0 in
+    let same = (counts g c).kept.same_reference in
     let lender = c.splice-splice.ensures.same_reference in
     let kept = kept_around c.splice-splice.result c.one_from_each_end-first.new.splice _ (items c.finish_counted-finished.new.self.0) (counts g c) c.splice-splice.ensures.touches (within g c) in
     let is = around g c in
@@ -43,7 +43,7 @@ returns-clause-kept g c =
 
 pub returns-clause-at_least : goal.returns-clause-at_least
 returns-clause-at_least g c =
-    let same = (counts g c).kept.0 in
+    let same = (counts g c).kept.same_reference in
     let lender = c.splice-splice.ensures.same_reference in
     let v = c.finish_counted-finished.new.self.0 in
     let least = touched_at_least c.splice-splice.result c.one_from_each_end-first.new.splice _ (items v) (counts g c) c.splice-splice.ensures.touches (within g c) c.finish_counted-finished.result.1 c.finish_counted-finished.ensures.at_least in
@@ -54,7 +54,7 @@ returns-clause-at_least g c =
 
 pub returns-clause-at_most : goal.returns-clause-at_most
 returns-clause-at_most g c =
-    let same = (counts g c).kept.0 in
+    let same = (counts g c).kept.same_reference in
     let lender = c.splice-splice.ensures.same_reference in
     let v = c.finish_counted-finished.new.self.0 in
     let old = c.args.vec.now in
@@ -62,6 +62,6 @@ returns-clause-at_most g c =
     let most = touched_at_most c.splice-splice.result c.one_from_each_end-first.new.splice _ (items v) (counts g c) c.splice-splice.ensures.touches (within g c) touches _ c.finish_counted-finished.ensures.at_most in
     let is = around g c in
     let all = inside g c in
-    let slots = (counts g c).kept.2 ∙ ap items_len c.splice-splice.ensures.slots in
+    let slots = (counts g c).kept.len ∙ ap items_len c.splice-splice.ensures.slots in
     let fact : touches ≤ (c.args.end - c.args.start) + (items_len v - (items_len old - (c.args.end - c.args.start))) + max (items_len old) (items_len v) = omega (arith, most, is, all, slots) in
     subst (λ w. touches ≤ (c.args.end - c.args.start) + (items_len w - (items_len old - (c.args.end - c.args.start))) + max (items_len old) (items_len w)) (search rules) fact

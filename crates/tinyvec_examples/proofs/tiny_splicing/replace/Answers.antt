@@ -29,7 +29,7 @@ returns-clause-list g c = λ rest ends.
     ended_list R (tiny_capacity g.A.Array.CAPACITY v) s t (front ∷ back ∷ []) (tiny_items v) _ _ _ P along made.front made.left made.back whole result finished in
     let unplaced = ended_refused R (tiny_capacity g.A.Array.CAPACITY v) s t (front ∷ back ∷ []) (tiny_items v) _ _ _ P along made.front made.left made.back whole result finished in
     let counted_out = subst (λ k. IfErr result (λ refused. IsSpliceRefused (front ∷ back ∷ []) k (take c.args.start xs) (drop c.args.end xs) P (tiny_items v) (refused.item ∷ R refused.rest))) n unplaced in
-    let same = along.kept.0 in
+    let same = along.kept.same_reference in
     let lender = made.same_reference in (
       subst (λ l. OnOk result (l ≡ take c.args.start xs ++ P ++ drop c.args.end xs)) (search rules) list,
       subst (λ l. IfErr result (λ refused. IsSpliceRefused (front ∷ back ∷ []) (c.args.end - c.args.start) (take c.args.start xs) (drop c.args.end xs) P l (refused.item ∷ R refused.rest))) (search rules) counted_out,
@@ -48,12 +48,12 @@ returns-clause-succeeds g c = λ rest ends room.
     let two = length-drop c.args.end xs in
     let sum = spliced_len splice_view SpliceKeeps (fused_rest rest) s t (front ∷ back ∷ []) xs _ _ _ P along made.front made.left made.back whole in
     let capacity : tiny_capacity g.A.Array.CAPACITY (splice_vec t) ≡ tiny_capacity g.A.Array.CAPACITY c.args.vec.now =
-    along.kept.1.3 g.A.Array.CAPACITY ∙ ap (tiny_capacity g.A.Array.CAPACITY) made.vec in
+    along.kept.frame.capacity g.A.Array.CAPACITY ∙ ap (tiny_capacity g.A.Array.CAPACITY) made.vec in
     c.finish.ensures.succeeds rest ends.first (omega (arith, room, one, two, sum, capacity))
 
 pub returns-clause-full : goal.returns-clause-full
 returns-clause-full g c =
-    let same = c.one_from_each_end-ends.ensures.kept.0 in
+    let same = c.one_from_each_end-ends.ensures.kept.same_reference in
     let lender = c.splice-splice.ensures.same_reference in
     let fact : OnErr c.finish.result (tiny_len c.finish.new.self.0 ≡ tiny_capacity g.A.Array.CAPACITY c.finish.new.self.0) = c.finish.ensures.finished.full in
     search rules
@@ -61,20 +61,20 @@ returns-clause-full g c =
 pub returns-clause-place : goal.returns-clause-place
 returns-clause-place g c =
     let kept = c.one_from_each_end-ends.ensures.kept in
-    let same = kept.0 in
+    let same = kept.same_reference in
     let lender = c.splice-splice.ensures.same_reference in
     let v = c.finish.new.self.0 in
-    let before : is_inline (splice_vec c.one_from_each_end-ends.new.splice) ≡ is_inline c.args.vec.now = kept.1.2 ∙ ap is_inline c.splice-splice.ensures.vec in
+    let before : is_inline (splice_vec c.one_from_each_end-ends.new.splice) ≡ is_inline c.args.vec.now = kept.frame.place ∙ ap is_inline c.splice-splice.ensures.vec in
     let rule : PlaceRule g.A.Array.CAPACITY (tiny_len v) c.args.vec.now v = rw (sym before) c.finish.ensures.grows.place in
     subst (λ w. PlaceRule g.A.Array.CAPACITY (tiny_len w) c.args.vec.now w) (search rules) rule
 
 pub returns-clause-slots : goal.returns-clause-slots
 returns-clause-slots g c =
     let kept = c.one_from_each_end-ends.ensures.kept in
-    let same = kept.0 in
+    let same = kept.same_reference in
     let lender = c.splice-splice.ensures.same_reference in
     let D = g.A.Item.Default.is_default in
     let t = c.one_from_each_end-ends.new.splice in
-    let framed = tiny_slots_framed D (splice_vec c.splice-splice.result) (splice_vec t) c.finish.new.self.0 kept.1 c.finish.ensures.grows.slot_rule in
+    let framed = tiny_slots_framed D (splice_vec c.splice-splice.result) (splice_vec t) c.finish.new.self.0 kept.frame c.finish.ensures.grows.slot_rule in
     let rule = subst (λ u. TinySlotRule D u c.finish.new.self.0) c.splice-splice.ensures.vec framed in
     subst (TinySlotRule D c.args.vec.now) (search rules) rule

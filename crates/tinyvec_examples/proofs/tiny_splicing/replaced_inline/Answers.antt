@@ -27,7 +27,7 @@ returns c =
     let first = first_taken splice_view SpliceKeeps _ s t _ (pos 2) [] c.next-first.ensures.steps left in
     let along = Asks-splices R _ _ (fused_ends _ _ _ array_ends) s (front ∷ []) (c.next-first.result ∷ []) t (t, c.next-first.ensures.steps, refl) in
     let sum = spliced_len splice_view SpliceKeeps R s t (front ∷ []) (tiny_items v) _ _ _ _ along ahead left behind whole in
-    let inside : IsInline (splice_vec t) = along.kept.1.2 ∙ ap is_inline made.vec ∙ start.place in
+    let inside : IsInline (splice_vec t) = along.kept.frame.place ∙ ap is_inline made.vec ∙ start.place in
     let slots : tiny_capacity 4 (splice_vec t) ≡ 4 = capacity_inline 4 (splice_vec t) inside in
     let ok : IsOk c.finish-finished.result = c.finish-finished.ensures.succeeds array_into_iter_items array_ends.first (omega (arith, sum, slots)) in
     let finished = c.finish-finished.ensures.listed array_into_iter_items array_ends.first in
@@ -35,7 +35,7 @@ returns c =
     let list : tiny_items v ≡ pos 1 ∷ pos 7 ∷ pos 8 ∷ pos 3 ∷ [] = ended_all R (tiny_capacity 4 v) s t (front ∷ []) (tiny_items v) _ _ _ _ along ahead left behind whole _ finished fits in
     let long : tiny_len v ≡ 4 = ap length list in
     let place : IsInline v = c.finish-finished.ensures.grows.place.1 (inside, omega (arith, long)) in
-    let same = along.kept.0 in
+    let same = along.kept.same_reference in
     let lender = made.same_reference in
     record {
       first = first.0;

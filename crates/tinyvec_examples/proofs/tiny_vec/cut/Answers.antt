@@ -6,5 +6,5 @@ pub returns-clause-slots : goal.returns-clause-slots
 returns-clause-slots g c =
     let d = c.drain.result in
     let left = tiny_drained g.A.Item.Default.is_default c.args.v.now d d c.drop.new.self.0 c.drain.ensures.frame (DrainKeeps-refl d) c.drop.ensures in
-    let ruled = left.2 in
+    let ruled = left.slot_rule in
     search rules

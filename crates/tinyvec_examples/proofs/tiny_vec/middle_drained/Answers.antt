@@ -12,8 +12,8 @@ returns-clause-spare c =
     let new = c.drop-d.new.self.0 in
     let kept = DrainSteps-keeps first c.next-two.result last c.next-two.ensures.steps in
     let left = tiny_drained (λ x. x ≡ pos 0) old first last new c.drain-d.ensures.frame kept c.drop-d.ensures in
-    let items : tiny_items new ≡ pos 1 ∷ pos 4 ∷ [] = left.0 ∙ rw (c.drain-d.ensures.kept, c.from_array_len-v.ensures.items) refl in
-    let spare = tiny_slots_only (λ x. x ≡ pos 0) (pos 0) (λ x h. h) old new (search rules) (search rules) left.2 in
+    let items : tiny_items new ≡ pos 1 ∷ pos 4 ∷ [] = left.items ∙ rw (c.drain-d.ensures.kept, c.from_array_len-v.ensures.items) refl in
+    let spare = tiny_slots_only (λ x. x ≡ pos 0) (pos 0) (λ x h. h) old new (search rules) (search rules) left.slot_rule in
     let is : tiny_spare new ≡ pos 0 ∷ pos 0 ∷ [] = spare ∙ rw (items, c.from_array_len-v.ensures.items, c.from_array_len-v.ensures.spare) refl in
-    let same = kept.0 in
+    let same = kept.same_reference in
     search rules

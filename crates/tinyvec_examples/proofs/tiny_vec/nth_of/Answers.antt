@@ -11,8 +11,8 @@ returns-clause-left g c =
     let kept = nth-keeps c.drain-d.result c.args.n c.nth.result c.nth.new.self c.nth.ensures.ran in
     let left = tiny_drained g.A.Item.Default.is_default old c.drain-d.result c.nth.new.self new c.drain-d.ensures.frame kept c.drop-d.ensures in
     let listed : tiny_items new ≡ before (tiny_items old) (g.R.RangeBounds.start_bound c.args.range) ++ after (tiny_items old) (g.R.RangeBounds.end_bound c.args.range) =
-    left.0 ∙ c.drain-d.ensures.kept in
-    let same = kept.0 in
+    left.items ∙ c.drain-d.ensures.kept in
+    let same = kept.same_reference in
     search rules
 
 pub returns-clause-place : goal.returns-clause-place
@@ -21,8 +21,8 @@ returns-clause-place g c =
     let new = c.drop-d.new.self.0 in
     let kept = nth-keeps c.drain-d.result c.args.n c.nth.result c.nth.new.self c.nth.ensures.ran in
     let left = tiny_drained g.A.Item.Default.is_default old c.drain-d.result c.nth.new.self new c.drain-d.ensures.frame kept c.drop-d.ensures in
-    let stays : is_inline new ≡ is_inline old = left.1 in
-    let same = kept.0 in
+    let stays : is_inline new ≡ is_inline old = left.place in
+    let same = kept.same_reference in
     search rules
 
 pub returns-clause-slots : goal.returns-clause-slots
@@ -31,8 +31,8 @@ returns-clause-slots g c =
     let new = c.drop-d.new.self.0 in
     let kept = nth-keeps c.drain-d.result c.args.n c.nth.result c.nth.new.self c.nth.ensures.ran in
     let left = tiny_drained g.A.Item.Default.is_default old c.drain-d.result c.nth.new.self new c.drain-d.ensures.frame kept c.drop-d.ensures in
-    let ruled : TinySlotRule g.A.Item.Default.is_default old new = left.2 in
-    let same = kept.0 in
+    let ruled : TinySlotRule g.A.Item.Default.is_default old new = left.slot_rule in
+    let same = kept.same_reference in
     search rules
 
 pub returns-clause-capacity : goal.returns-clause-capacity
@@ -41,6 +41,6 @@ returns-clause-capacity g c =
     let new = c.drop-d.new.self.0 in
     let kept = nth-keeps c.drain-d.result c.args.n c.nth.result c.nth.new.self c.nth.ensures.ran in
     let left = tiny_drained g.A.Item.Default.is_default old c.drain-d.result c.nth.new.self new c.drain-d.ensures.frame kept c.drop-d.ensures in
-    let room : tiny_capacity g.A.Array.CAPACITY new ≡ tiny_capacity g.A.Array.CAPACITY old = left.3 g.A.Array.CAPACITY in
-    let same = kept.0 in
+    let room : tiny_capacity g.A.Array.CAPACITY new ≡ tiny_capacity g.A.Array.CAPACITY old = left.capacity g.A.Array.CAPACITY in
+    let same = kept.same_reference in
     search rules

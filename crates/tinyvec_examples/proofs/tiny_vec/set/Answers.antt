@@ -5,7 +5,7 @@ pub returns-clause-items : goal.returns-clause-items
 returns-clause-items g c = tiny_items-with_item c.args.v.now c.args.i c.args.x c.requires
 
 pub returns-clause-spare : goal.returns-clause-spare
-returns-clause-spare g c = (tiny_framed-with_item c.args.v.now c.args.i c.args.x c.requires).1
+returns-clause-spare g c = (tiny_framed-with_item c.args.v.now c.args.i c.args.x c.requires).spare
 
 pub returns-clause-place : goal.returns-clause-place
-returns-clause-place g c = (tiny_framed-with_item c.args.v.now c.args.i c.args.x c.requires).2
+returns-clause-place g c = (tiny_framed-with_item c.args.v.now c.args.i c.args.x c.requires).place

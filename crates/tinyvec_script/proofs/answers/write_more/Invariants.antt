@@ -7,7 +7,7 @@ use Rattle.tinyvec_script.proofs.answers.write_more.Given as goal
 -- what completes the text of the numbers that are left completes the text of all
 abbrev pub invariant-loop-number : goal.invariant-loop-number
 invariant-loop-number g l = record {
-  bytes : (new : Option (List ℕ)) → Appends (append_known (g.W.Write.contents l.writer.end) l.gathered) new (flat_map (λ number. codes ", " ++ signed_decimal number) (drop l.number-index l.numbers))
-      → Appends (append_known (g.W.Write.contents l.fn.writer.end) l.fn.gathered) new (flat_map (λ number. codes ", " ++ signed_decimal number) l.numbers);
+  bytes : (new : Option (List ℕ)) → Appends (append_known (g.W.Write.contents l.writer.inner) l.gathered) new (flat_map (λ number. codes ", " ++ signed_decimal number) (drop l.number-index l.numbers))
+      → Appends (append_known (g.W.Write.contents l.fn.writer.inner) l.fn.gathered) new (flat_map (λ number. codes ", " ++ signed_decimal number) l.numbers);
   grows : l.fn.writer.faults ≤ l.writer.faults;
 }

@@ -13,8 +13,8 @@ push_reserved-requires-in-loop-item g c =
     let pushed = ap length began.ensures.items ∙ length-append c.args.list.now.items (c.args.refused.item ∷ []) in
     let from : rest ≡ c.args.refused.rest = search rules in
     let left = ap (λ it. length (fused_rest into_iter_items it)) from in
-    let whole = ap length turn.invariant.3 in
+    let whole = ap length turn.invariant.kept in
     let now = length-append turn.list.items (fused_rest into_iter_items turn.item-iterator) in
     let then = length-append began.new.self.items (fused_rest into_iter_items rest) in
     let some = rw c.in-Some.is at ((fused_ends _ _ _ (into_iter_ends {X = g.row.T.Denot} {Z = Global})).first turn.item-iterator c.next.result c.next.new.self c.next.ensures.steps) in
-    omega (arith, c.requires, pushed, left, whole, now, then, ap length some, began.ensures.capacity, turn.invariant.2, turn.list.ok.0, c.args.list.now.ok.0)
+    omega (arith, c.requires, pushed, left, whole, now, then, ap length some, began.ensures.capacity, turn.invariant.room, turn.list.ok.0, c.args.list.now.ok.0)

@@ -9,8 +9,8 @@ use Rattle.tinyvec_script.proofs.script.run.Given as goal
 abbrev pub invariant-loop-piece : goal.invariant-loop-piece
 invariant-loop-piece g l = record {
   so_far : (input : List ℕ) × (output : List ℕ)
-      × Consumes (g.R.Read.remaining l.fn.reader.end) (g.R.Read.remaining l.reader.end) input
-      × Appends (g.W.Write.contents l.fn.writer.end) (g.W.Write.contents l.writer.end) output
+      × Consumes (g.R.Read.remaining l.fn.reader.inner) (g.R.Read.remaining l.reader.inner) input
+      × Appends (g.W.Write.contents l.fn.writer.inner) (g.W.Write.contents l.writer.inner) output
       × Feeds start (Some []) input output (held l.vectors) l.line
       × (l._piece ≤ length input);
   read_grows : l.fn.reader.faults ≤ l.reader.faults;

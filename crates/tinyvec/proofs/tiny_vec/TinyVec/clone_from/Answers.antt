@@ -38,7 +38,7 @@ returns-then-count-len-clause-place g c =
     let is_count = c.len-count.ensures.value in
     let le = c.if-count-len.true in
     on_ok_weaker c.overwrite.result
-    (λ _. place_kept _ _ c.args.self.now c.overwrite.new.self (c.overwrite.ensures.frame.2 ∙ c.truncate.ensures.frame.place) (omega (arith, c.len-len.ensures.fits)))
+    (λ _. place_kept _ _ c.args.self.now c.overwrite.new.self (c.overwrite.ensures.frame.place ∙ c.truncate.ensures.frame.place) (omega (arith, c.len-len.ensures.fits)))
     c.overwrite.ensures.ok
 
 pub returns-then-count-len-clause-slots : goal.returns-then-count-len-clause-slots
@@ -53,7 +53,7 @@ returns-then-count-len-clause-room g c =
     let cut = c.truncate.ensures.frame in
     let room : tiny_len c.args.source.now ≤ tiny_capacity g.A.Array.CAPACITY c.args.self.now =
     omega (arith, c.len-count.ensures.value, c.if-count-len.true, c.len-len.ensures.value, c.len-len.ensures.fits) in
-    room_kept _ _ c.args.self.now _ c.overwrite.result room (frame.3 g.A.Array.CAPACITY ∙ cut.capacity) (omega (arith, frame.0, frame.3 g.A.Array.CAPACITY, cut.fits))
+    room_kept _ _ c.args.self.now _ c.overwrite.result room (frame.capacity g.A.Array.CAPACITY ∙ cut.capacity) (omega (arith, frame.len, frame.capacity g.A.Array.CAPACITY, cut.fits))
 
 pub returns-then-count-len-clause-succeeds : goal.returns-then-count-len-clause-succeeds
 returns-then-count-len-clause-succeeds g c = λ fits all. c.overwrite.ensures.succeeds (rw c.as_slice.ensures all)
@@ -75,7 +75,7 @@ returns-then-count-len-clause-refused g c =
     let below : h.0 < length xs = rw c.as_slice.ensures at h.1.0 in
     let early : h.0 ≤ m = omega arith in
     inr (
-      place_kept _ _ _ _ (c.overwrite.ensures.frame.2 ∙ c.truncate.ensures.frame.place) (omega (arith, c.len-len.ensures.fits)),
+      place_kept _ _ _ _ (c.overwrite.ensures.frame.place ∙ c.truncate.ensures.frame.place) (omega (arith, c.len-len.ensures.fits)),
       partly_over g.A.Item.Default.is_default g.A.Item.Clone.is_infallible g.A.Item.Clone.is_clone xs c.args.self.now new m h.0 early
           (rw c.as_slice.ensures at h.1) (rw (c.as_slice.ensures, cut) at h.2)
           (cut_freed g.A.Item.Default.is_default c.args.self.now left new m c.overwrite.ensures.frame c.truncate.ensures.frame.place c.truncate.ensures.frame.slot_rule cut within),
@@ -95,7 +95,7 @@ returns-in_err-reserve g c =
       if_clones_equal = never_ok _ answer err;
       place = never_ok _ answer err;
       slots = never_ok _ answer err;
-      room = room_refused _ _ _ _ answer err (grown.refused.3 g.A.Array.CAPACITY) grown.fits;
+      room = room_refused _ _ _ _ answer err (grown.refused.capacity g.A.Array.CAPACITY) grown.fits;
       succeeds = λ fits _. absurd (false≢true (grown.succeeds (omega (arith, fits))));
       refused = on_err answer (inl (omega (arith, grown.full), grown.refused));
     }
@@ -125,9 +125,9 @@ returns-in_err-overwrite-clause-slots g c = never_ok _ c.from_residual-in_err-ov
 pub returns-in_err-overwrite-clause-room : goal.returns-in_err-overwrite-clause-room
 returns-in_err-overwrite-clause-room g c =
     let frame = c.overwrite-2.ensures.frame in
-    let same = frame.3 g.A.Array.CAPACITY in
+    let same = frame.capacity g.A.Array.CAPACITY in
     room_made _ _ c.args.self.now _ c.from_residual-in_err-overwrite.result g.A.Item.Default.is_default _ c.reserve.new.self _
-    (omega (arith, c.len-len.ensures.value, c.len-count.ensures.value, c.if-count-len.false)) c.in_ok-reserve.ensures same (omega (arith, c.reserve.ensures.fits, frame.0, same))
+    (omega (arith, c.len-len.ensures.value, c.len-count.ensures.value, c.if-count-len.false)) c.in_ok-reserve.ensures same (omega (arith, c.reserve.ensures.fits, frame.len, same))
 
 pub returns-in_err-overwrite-clause-refused : goal.returns-in_err-overwrite-clause-refused
 returns-in_err-overwrite-clause-refused g c =
@@ -148,11 +148,11 @@ returns-in_err-overwrite-clause-refused g c =
     let frame = c.overwrite-2.ensures.frame in
     let long : m ≡ length olds = omega arith in
     on_err c.from_residual-in_err-overwrite.result (inr (
-      place_then _ _ _ mid _ _ (omega arith) frame.2 c.in_ok-reserve.ensures.place,
+      place_then _ _ _ mid _ _ (omega arith) frame.place c.in_ok-reserve.ensures.place,
       partly_over g.A.Item.Default.is_default g.A.Item.Clone.is_infallible g.A.Item.Clone.is_clone xs c.args.self.now new m h.0 (omega arith)
           (refused_in_front g.A.Item.Clone.is_infallible xs n h.0 h.1) (rw (take-take h.0 n xs early, c.reserve.ensures.items ∙ sym all) at h.2)
           (λ i. none_freed g.A.Item.Default.is_default c.args.self.now new m long
-          (frame.1 ∙ spare_kept c.args.self.now mid new c.reserve.ensures.stays frame.2 i)),
+          (frame.spare ∙ spare_kept c.args.self.now mid new c.reserve.ensures.stays frame.place i)),
     ))
 
 pub extend_reserved-requires : goal.extend_reserved-requires
@@ -167,8 +167,8 @@ extend_reserved-requires g c =
         rest,
         length-drop n xs,
         ap length c.as_slice-3.ensures,
-        frame.0,
-        frame.3 g.A.Array.CAPACITY,
+        frame.len,
+        frame.capacity g.A.Array.CAPACITY,
         c.in_ok-reserve.ensures.room,
         ap length c.reserve.ensures.items,
         c.len-len.ensures.value,
@@ -201,7 +201,7 @@ returns-clause-place g c =
     let made = c.extend_reserved.ensures in
     on_ok_weaker c.extend_reserved.result
     (λ _. place_then _ _ c.args.self.now c.reserve.new.self c.extend_reserved.new.self _ (omega (arith, c.len-len.ensures.value, c.len-count.ensures.value, c.if-count-len.false))
-    (made.place ∙ c.overwrite-2.ensures.frame.2) c.in_ok-reserve.ensures.place)
+    (made.place ∙ c.overwrite-2.ensures.frame.place) c.in_ok-reserve.ensures.place)
     made.items
 
 pub returns-clause-room : goal.returns-clause-room
@@ -209,7 +209,7 @@ returns-clause-room g c =
     let made = c.extend_reserved.ensures in
     room_made _ _ c.args.self.now _ c.extend_reserved.result g.A.Item.Default.is_default _ c.reserve.new.self _
     (omega (arith, c.len-len.ensures.value, c.len-count.ensures.value, c.if-count-len.false)) c.in_ok-reserve.ensures
-    (made.capacity ∙ c.overwrite-2.ensures.frame.3 g.A.Array.CAPACITY) made.fits
+    (made.capacity ∙ c.overwrite-2.ensures.frame.capacity g.A.Array.CAPACITY) made.fits
 
 pub returns-clause-slots : goal.returns-clause-slots
 returns-clause-slots g c =
@@ -222,7 +222,7 @@ returns-clause-slots g c =
     on_ok_two c.extend_reserved.result made.items made.spare (λ items spare.
     let long = appends_len g.A.Item.Clone.is_clone (tiny_items mid) (tiny_items new) ys items in
     tiny_slots_grown g.A.Item.Default.is_default c.args.self.now c.reserve.new.self new (length ys)
-    c.reserve.ensures.stays (made.place ∙ frame.2) (omega (arith, frame.0)) (spare ∙ ap (drop (length ys)) frame.1))
+    c.reserve.ensures.stays (made.place ∙ frame.place) (omega (arith, frame.len)) (spare ∙ ap (drop (length ys)) frame.spare))
 
 pub returns-clause-refused : goal.returns-clause-refused
 returns-clause-refused g c =
@@ -241,11 +241,11 @@ returns-clause-refused g c =
     ap (λ l. take (length l - n) (drop n l)) c.as_slice-3.ensures ∙ take_all (length xs - n) (drop n xs) (omega (arith, length-drop n xs)) in
     let first : AllZip g.A.Item.Clone.is_clone (take n xs) (tiny_items mid) = rw c.as_slice-2.ensures at c.in_ok-overwrite.ensures.ok in
     on_err_two c.extend_reserved.result made.refused made.kept (λ h kept. inr (
-      place_then _ _ _ c.reserve.new.self _ _ (omega arith) (made.place ∙ frame.2) c.in_ok-reserve.ensures.place,
+      place_then _ _ _ c.reserve.new.self _ _ (omega arith) (made.place ∙ frame.place) c.in_ok-reserve.ensures.place,
       rw (← least) (partly_behind g.A.Item.Default.is_default g.A.Item.Clone.is_infallible g.A.Item.Clone.is_clone xs c.args.self.now new n h.0 is_len
           (refused_behind g.A.Item.Clone.is_infallible xs n h.0 (subst (λ l. RefusedAt g.A.Item.Clone.is_infallible l h.0) others h.1))
           (subst (AllZip g.A.Item.Clone.is_clone (take n xs)) (sym kept) first)
-          (λ i. rw (others, frame.1 ∙ spare_kept c.args.self.now c.reserve.new.self new c.reserve.ensures.stays (made.place ∙ frame.2) i) at h.2 i)),
+          (λ i. rw (others, frame.spare ∙ spare_kept c.args.self.now c.reserve.new.self new c.reserve.ensures.stays (made.place ∙ frame.place) i) at h.2 i)),
     ))
 
 pub returns-in_err-overwrite-clause-succeeds : goal.returns-in_err-overwrite-clause-succeeds

@@ -1,4 +1,4 @@
-use Rattle.std.proofs.Common.{inl, inr, ◌≡◌, sym, ◌+◌, ◌≤◌, ◌++◌, length, drop, refl, ap, ◌∙◌, arith, vec_capacity}
+use Rattle.std.proofs.Common.{inl, inr, ◌≡◌, sym, ◌+◌, ◌≤◌, ◌++◌, length, refl, ap, ◌∙◌, arith, vec_capacity}
 use Rattle.std.proofs.lemmas.Bool.{false≢true}
 use Rattle.std.proofs.lemmas.List.Elements.{same_from_all_zip}
 use Rattle.std.proofs.lemmas.Result.{on_ok_weaker, on_err_weaker}
@@ -131,13 +131,13 @@ returns-in_err-grow-in_default g c =
     let err = c.from_residual.ensures.0 in
     let grown = rw (same g (goal.at.returns-in_err-grow-in_default g c).In_default) at c.in_err-grow-in_default.ensures in record {
       items = never_ok _ answer err;
-      len = chosen answer _ _ (never_ok _ answer err) (on_err answer (ap length grown.refused.0));
-      if_clones_equal = λ _. chosen answer _ _ (never_ok _ answer err) (on_err answer grown.refused.0);
+      len = chosen answer _ _ (never_ok _ answer err) (on_err answer (ap length grown.refused.items));
+      if_clones_equal = λ _. chosen answer _ _ (never_ok _ answer err) (on_err answer grown.refused.items);
       place = never_ok _ answer err;
       slots = never_ok _ answer err;
-      room = room_refused _ _ _ _ answer err (grown.refused.3 g.A.Array.CAPACITY) grown.fits;
+      room = room_refused _ _ _ _ answer err (grown.refused.capacity g.A.Array.CAPACITY) grown.fits;
       succeeds = λ fits _. absurd (false≢true (grown.succeeds fits));
-      kept = on_err answer grown.refused.0;
+      kept = on_err answer grown.refused.items;
       refused = on_err answer (inl (grown.full, grown.refused));
     }
 
@@ -168,14 +168,5 @@ returns-in_ok-grow-in_default g c =
       room = room_made _ _ old new answer g.A.Item.Default.is_default _ mid _ refl grown made.capacity made.fits;
       succeeds = λ _. made.succeeds;
       kept = rw (← grown.items) made.kept;
-      refused = on_err_weaker answer (λ h. inr (
-        place,
-        (
-          h.0,
-          h.1,
-          λ i.
-              let clones = h.2 i in
-              (clones.0, clones.1, clones.2, clones.3 ∙ ap (λ l. clones.0 ++ drop h.0 l) (spare_kept old mid new grown.stays made.place i)),
-        ),
-      )) made.refused;
+      refused = on_err_weaker answer (λ h. inr (place, (h.0, h.1, λ i. rw (spare_kept old mid new grown.stays made.place i) at h.2 i))) made.refused;
     }

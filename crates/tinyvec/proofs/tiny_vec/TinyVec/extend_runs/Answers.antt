@@ -73,7 +73,7 @@ returns-in-Err-push-clause-ran g c =
     let olds = tiny_items c.args.self.now in (
       placed.0 ++ ran.0,
       subst (λ y. YieldsThen steps c.args.iter (placed.0 ++ ran.0) (Some y) rest) (sym refusal.value_returned) all,
-      refusal.refused.0 ∙ ran.2 ∙ ap (λ l. l ++ ran.0) placed.2 ∙ append_assoc olds placed.0 ran.0,
+      refusal.refused.items ∙ ran.2 ∙ ap (λ l. l ++ ran.0) placed.2 ∙ append_assoc olds placed.0 ran.0,
     )
 
 pub returns-in-Err-push-clause-grows : goal.returns-in-Err-push-clause-grows
@@ -81,7 +81,7 @@ returns-in-Err-push-clause-grows g c =
     let run = c.fill_room.ensures in
     let mid = c.fill_room.new.self in
     let refused = c.in-Err-push.ensures.refused in
-    let same = ap length refused.0 in
+    let same = ap length refused.items in
     grows_stays g.A.Item.Default.is_default g.A.Array.CAPACITY c.args.self.now mid c.push.new.self
     (omega (arith, c.loop-item.invariant.longer, run.longer)) (omega (arith, same)) (filled g (goal.at.returns-in-Err-push-clause-grows g c).After-fill_room)
-    (record { place = refused.2; slot_rule = c.push.ensures.slots; capacity = refused.3 g.A.Array.CAPACITY; fits = c.push.ensures.room.fits })
+    (record { place = refused.place; slot_rule = c.push.ensures.slots; capacity = refused.capacity g.A.Array.CAPACITY; fits = c.push.ensures.room.fits })

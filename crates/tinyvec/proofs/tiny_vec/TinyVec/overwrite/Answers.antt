@@ -15,9 +15,9 @@ returns-clause-ok g c =
     let long : length ws ≡ tiny_len v = c.clone_over.ensures.len ∙ ap length same in
     let none : drop (length xs) c.as_mut_slice.result.now ≡ [] = ap (drop (length xs)) same ∙ drop_all (length xs) (tiny_items v) (omega (arith, c.requires.same_len)) in
     on_ok_weaker c.clone_over.result
-    (λ made.
-    let whole = tiny_items-with v ws long ∙ made.3 ∙ ap (λ l. made.0 ++ l) none ∙ append-nil made.0 in
-    subst (AllZip g.A.Item.Clone.is_clone xs) (sym whole) made.1)
+    (λ over.
+    let whole = tiny_items-with v ws long ∙ over.written ∙ ap (λ l. over.made ++ l) none ∙ append-nil over.made in
+    subst (AllZip g.A.Item.Clone.is_clone xs) (sym whole) over.clones)
     c.clone_over.ensures.ok
 
 pub returns-clause-refused : goal.returns-clause-refused
@@ -26,11 +26,7 @@ returns-clause-refused g c =
     let ws = c.clone_over.new.to in
     let same = c.as_mut_slice.ensures.value in
     let long : length ws ≡ tiny_len v = c.clone_over.ensures.len ∙ ap length same in
-    on_err_weaker c.clone_over.result
-    (λ h.
-    let made = h.2 in
-    (h.0, h.1, (made.0, made.1, made.2, tiny_items-with v ws long ∙ made.3 ∙ ap (λ l. made.0 ++ drop h.0 l) same)))
-    c.clone_over.ensures.refused
+    on_err_weaker c.clone_over.result (λ h. (h.0, h.1, rw (same, ← tiny_items-with v ws long) at h.2)) c.clone_over.ensures.refused
 
 pub returns-clause-frame : goal.returns-clause-frame
 returns-clause-frame g c = tiny_framed-with c.args.self.now c.clone_over.new.to (c.clone_over.ensures.len ∙ ap length c.as_mut_slice.ensures.value)

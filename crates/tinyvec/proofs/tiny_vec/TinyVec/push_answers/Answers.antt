@@ -11,23 +11,23 @@ loop-self-preserved g c =
     let at = c.loop-self in
     let put = c.push_reserved.ensures in
     let y = c.f.result in
-    let run = at.invariant.3 in
+    let run = at.invariant.called in
     let len = c.len.ensures.value in
     let more = c.loop-self-test.true in
     let first = tiny_len c.args.self.now in
     let grown : tiny_len c.push_reserved.new.self ≡ tiny_len at.self + 1 = rw put.items (length_push (tiny_items at.self) y) in
     let all : tiny_items at.self ++ y ∷ [] ≡ tiny_items c.args.self.now ++ (run.0 ++ y ∷ []) = ap (λ l. l ++ y ∷ []) run.1 ∙ append_assoc (tiny_items c.args.self.now) run.0 (y ∷ []) in
-    let used : tiny_len at.self - first + 1 ≡ tiny_len c.push_reserved.new.self - first = omega (arith, grown, at.invariant.1) in (
-      omega (arith, grown),
-      omega (arith, grown, at.invariant.1),
-      put.spare ∙ ap (drop 1) at.invariant.2 ∙ drop-drop 1 (tiny_len at.self - first) (tiny_spare c.args.self.now)
-          ∙ ap (λ k. drop k (tiny_spare c.args.self.now)) used,
-      (
+    let used : tiny_len at.self - first + 1 ≡ tiny_len c.push_reserved.new.self - first = omega (arith, grown, at.invariant.longer) in record {
+      at_most_n = omega (arith, grown);
+      longer = omega (arith, grown, at.invariant.longer);
+      spare = put.spare ∙ ap (drop 1) at.invariant.spare ∙ drop-drop 1 (tiny_len at.self - first) (tiny_spare c.args.self.now)
+          ∙ ap (λ k. drop k (tiny_spare c.args.self.now)) used;
+      called = (
         run.0 ++ y ∷ [],
         rw put.items all,
         chained_more (λ f y f'. Called g.F.FnMut f tt y f') _ run.0 at.f y _ run.2 (called g.F.FnMut c.f.ensures refl),
-      ),
-      search of_calls,
-      rw put.frame.place at.invariant.5,
-      rw put.frame.capacity at.invariant.6,
-    )
+      );
+      callable = search of_calls;
+      place = put.frame.place ∙ at.invariant.place;
+      capacity = put.frame.capacity ∙ at.invariant.capacity;
+    }

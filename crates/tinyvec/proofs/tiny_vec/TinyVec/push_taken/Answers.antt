@@ -15,20 +15,20 @@ loop-i-preserved g c =
     let put = c.push_reserved.ensures in
     let D = g.A.Item.Default.is_default in
     let within : i < length first = c.loop-i-test.true in
-    let long : i < length at.from = omega (arith, inv.4) in
-    let taken = c.take.ensures.value ∙ sym c.index-from-i.is in (
-      put.items ∙ ap (λ l. l ++ c.take.result ∷ []) inv.0 ∙ append_assoc _ (take i first) _
-          ∙ ap (λ l. tiny_items c.args.self.now ++ l) (ap (λ y. take i first ++ y ∷ []) taken ∙ sym (one_taken at.from first i c.index-from-i.result within inv.5 c.index-from-i.is)),
-      put.spare ∙ ap (drop 1) inv.1 ∙ drop-drop 1 i _,
-      put.frame.place ∙ inv.2,
-      put.frame.capacity ∙ inv.3,
-      length-set at.from i d ∙ inv.4,
-      rest_after_one at.from first i d inv.5,
-      All-same D _ _ (take_more_set at.from i d long) (All-push D (take i at.from) d inv.6 c.take.ensures.after),
-    )
+    let long : i < length at.from = omega (arith, inv.slots) in
+    let taken = c.take.ensures.value ∙ sym c.index-from-i.is in record {
+      items = put.items ∙ ap (λ l. l ++ c.take.result ∷ []) inv.items ∙ append_assoc _ (take i first) _
+          ∙ ap (λ l. tiny_items c.args.self.now ++ l) (ap (λ y. take i first ++ y ∷ []) taken ∙ sym (one_taken at.from first i c.index-from-i.result within inv.untaken c.index-from-i.is));
+      spare = put.spare ∙ ap (drop 1) inv.spare ∙ drop-drop 1 i _;
+      place = put.frame.place ∙ inv.place;
+      capacity = put.frame.capacity ∙ inv.capacity;
+      slots = length-set at.from i d ∙ inv.slots;
+      untaken = rest_after_one at.from first i d inv.untaken;
+      defaults = All-same D _ _ (take_more_set at.from i d long) (All-push D (take i at.from) d inv.defaults c.take.ensures.after);
+    }
 
 pub returns-clause-left : goal.returns-clause-left
 returns-clause-left g c =
     let at = c.loop-i in
-    let all = take_all at.i at.from (omega (arith, at.invariant.4)) in
-    (at.invariant.4, All-same g.A.Item.Default.is_default _ _ (sym all) at.invariant.6)
+    let all = take_all at.i at.from (omega (arith, at.invariant.slots)) in
+    (at.invariant.slots, All-same g.A.Item.Default.is_default _ _ (sym all) at.invariant.defaults)

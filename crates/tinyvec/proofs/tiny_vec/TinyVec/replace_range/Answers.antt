@@ -1,71 +1,34 @@
-use Rattle.std.proofs.Common.{◌∙◌, ap, arith, rules}
+use Rattle.std.proofs.Common.{◌≡◌, ◌++◌, take, drop, length, ap, subst, ◌∙◌, arith}
 use Rattle.tinyvec_slots.specs.Cut.{range_end}
-use Rattle.tinyvec_slots.proofs.KnownItems.{copied_yields}
 use Rattle.tinyvec_slots.proofs.ReplacingLemmas.{placed_at}
 use Rattle.tinyvec.specs.TinyVec.{tiny_items}
-use Rattle.tinyvec.proofs.ReplacingLemmas.{replaced}
+use Rattle.tinyvec.proofs.ReplacingLemmas.{replaced_place, replaced_room}
 use Rattle.tinyvec.proofs.tiny_vec.TinyVec.replace_range.Goals as goal
 
 pub returns-clause-items : goal.returns-clause-items
 returns-clause-items g c =
-    let old = c.args.self.now in
-    let start = c.resolve_range-part.ensures.start in
-    let end = c.resolve_range-part.ensures.end ∙ ap (range_end (g.R.RangeBounds.end_bound c.args.range)) c.len.ensures.value in
-    let within = c.requires.in_list in
-    let made = c.reserve.ensures in
-    let room = c.in_ok-reserve.ensures in
-    let done = c.splice_all-all_fit.ensures in
-    let whole =
-    replaced g.A.Array.CAPACITY c.saturating_sub-more.result c.resolve_range-part.result.start c.resolve_range-part.result.end old c.reserve.new.self c.splice_all-all_fit.new.self
-    c.args.replacement.now c.splice_all-all_fit.result (let fits = c.len.ensures.fits in let value = c.len.ensures.value in omega (arith, fits, value))
-    (omega (arith, start, end, within.0)) (omega (arith, end, within.1)) c.saturating_sub-more.ensures made.items made.kept room.place room.grown room.room
-    (done.known c.args.replacement.now (λ it h. copied_yields c.args.replacement.now it (search rules))) done.place done.same_room in
-    placed_at _ (tiny_items old) c.args.replacement.now _ _ _ _ whole.items start end
+    let part = c.resolve_range-part.result in
+    let new = c.args.replacement.now in
+    let list = subst (λ xs. tiny_items c.replace_reserved.new.self ≡ take part.start xs ++ new ++ drop part.end xs) c.reserve.ensures.items c.replace_reserved.ensures.items in
+    placed_at _ (tiny_items c.args.self.now) new _ _ _ _ list c.resolve_range-part.ensures.start
+    (c.resolve_range-part.ensures.end ∙ ap (range_end (g.R.RangeBounds.end_bound c.args.range)) c.len.ensures.value)
 
 pub returns-clause-place : goal.returns-clause-place
 returns-clause-place g c =
-    let old = c.args.self.now in
-    let start = c.resolve_range-part.ensures.start in
     let end = c.resolve_range-part.ensures.end ∙ ap (range_end (g.R.RangeBounds.end_bound c.args.range)) c.len.ensures.value in
-    let within = c.requires.in_list in
-    let made = c.reserve.ensures in
-    let room = c.in_ok-reserve.ensures in
-    let done = c.splice_all-all_fit.ensures in
-    let whole =
-    replaced g.A.Array.CAPACITY c.saturating_sub-more.result c.resolve_range-part.result.start c.resolve_range-part.result.end old c.reserve.new.self c.splice_all-all_fit.new.self
-    c.args.replacement.now c.splice_all-all_fit.result (let fits = c.len.ensures.fits in let value = c.len.ensures.value in omega (arith, fits, value))
-    (omega (arith, start, end, within.0)) (omega (arith, end, within.1)) c.saturating_sub-more.ensures made.items made.kept room.place room.grown room.room
-    (done.known c.args.replacement.now (λ it h. copied_yields c.args.replacement.now it (search rules))) done.place done.same_room in
-    whole.place
+    let inside = c.requires.in_list.1 in
+    let long = c.replace_reserved.ensures.len in
+    let same = ap length c.reserve.ensures.items in
+    let more = c.saturating_sub-more.ensures in
+    replaced_place _ _ _ _ _ (omega (arith, c.len.ensures.fits, c.len.ensures.value)) (omega (arith, long, same, more, end, inside)) (λ some. omega (arith, long, same, more, end, inside, some))
+    c.in_ok-reserve.ensures.place c.replace_reserved.ensures.frame.place
 
-pub returns-clause-grown : goal.returns-clause-grown
-returns-clause-grown g c =
-    let old = c.args.self.now in
-    let start = c.resolve_range-part.ensures.start in
+pub returns-clause-room : goal.returns-clause-room
+returns-clause-room g c =
     let end = c.resolve_range-part.ensures.end ∙ ap (range_end (g.R.RangeBounds.end_bound c.args.range)) c.len.ensures.value in
-    let within = c.requires.in_list in
-    let made = c.reserve.ensures in
-    let room = c.in_ok-reserve.ensures in
-    let done = c.splice_all-all_fit.ensures in
-    let whole =
-    replaced g.A.Array.CAPACITY c.saturating_sub-more.result c.resolve_range-part.result.start c.resolve_range-part.result.end old c.reserve.new.self c.splice_all-all_fit.new.self
-    c.args.replacement.now c.splice_all-all_fit.result (let fits = c.len.ensures.fits in let value = c.len.ensures.value in omega (arith, fits, value))
-    (omega (arith, start, end, within.0)) (omega (arith, end, within.1)) c.saturating_sub-more.ensures made.items made.kept room.place room.grown room.room
-    (done.known c.args.replacement.now (λ it h. copied_yields c.args.replacement.now it (search rules))) done.place done.same_room in
-    whole.grown
-
-pub returns-clause-same_room : goal.returns-clause-same_room
-returns-clause-same_room g c =
-    let old = c.args.self.now in
-    let start = c.resolve_range-part.ensures.start in
-    let end = c.resolve_range-part.ensures.end ∙ ap (range_end (g.R.RangeBounds.end_bound c.args.range)) c.len.ensures.value in
-    let within = c.requires.in_list in
-    let made = c.reserve.ensures in
-    let room = c.in_ok-reserve.ensures in
-    let done = c.splice_all-all_fit.ensures in
-    let whole =
-    replaced g.A.Array.CAPACITY c.saturating_sub-more.result c.resolve_range-part.result.start c.resolve_range-part.result.end old c.reserve.new.self c.splice_all-all_fit.new.self
-    c.args.replacement.now c.splice_all-all_fit.result (let fits = c.len.ensures.fits in let value = c.len.ensures.value in omega (arith, fits, value))
-    (omega (arith, start, end, within.0)) (omega (arith, end, within.1)) c.saturating_sub-more.ensures made.items made.kept room.place room.grown room.room
-    (done.known c.args.replacement.now (λ it h. copied_yields c.args.replacement.now it (search rules))) done.place done.same_room in
-    whole.same_room
+    let inside = c.requires.in_list.1 in
+    let long = c.replace_reserved.ensures.len in
+    let same = ap length c.reserve.ensures.items in
+    let more = c.saturating_sub-more.ensures in
+    replaced_room _ _ _ _ _ (omega (arith, c.len.ensures.fits, c.len.ensures.value)) (omega (arith, long, same, more, end, inside)) (λ some. omega (arith, long, same, more, end, inside, some))
+    _ _ _ c.in_ok-reserve.ensures c.replace_reserved.ensures.frame

@@ -15,14 +15,14 @@ loop-x-preserved g c =
     let rest = drain_items c.next.new.self in
     let grown : items_len c.push.new.self ≡ items_len old + 1 = rw put.items (length_push (items old) x) in
     let less : length (spare c.push.new.self) ≡ length (spare old) - 1 = rw put.spare (length-drop 1 (spare old)) in
-    let all = ap length inv.2 in
+    let all = ap length inv.moved in
     let moved : (items old ++ x ∷ []) ++ rest ≡ items old ++ drain_items c.loop-x.x-iterator = append_assoc (items old) (x ∷ []) rest ∙ ap (λ xs. items old ++ xs) (sym step.0) in
     let front = length-append (items old) (drain_items c.loop-x.x-iterator) in
     let more = ap length step.0 in
-    let count = c.args.heap.now.ok.0 in (
-      tt,
-      tt,
-      rw put.items (moved ∙ inv.2),
-      omega (arith, inv.3, c.requires),
-      rw (put.spare) (All-drop g.A.Item.Default.is_default 1 (spare old) inv.4),
-    )
+    let count = c.args.heap.now.ok.0 in record {
+      can = tt;
+      ends = tt;
+      moved = rw put.items (moved ∙ inv.moved);
+      room = omega (arith, inv.room, c.requires);
+      defaults = rw (put.spare) (All-drop g.A.Item.Default.is_default 1 (spare old) inv.defaults);
+    }

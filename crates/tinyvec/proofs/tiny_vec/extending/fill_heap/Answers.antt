@@ -2,7 +2,13 @@ use Rattle.std.proofs.Common.{[], ◌∷◌, ◌++◌, refl, sym, ap, ◌∙◌,
 use Rattle.tinyvec.proofs.tiny_vec.extending.fill_heap.Goals as goal
 
 pub loop-item-init : goal.loop-item-init
-loop-item-init g c = (c.requires.0, c.requires.1, le_refl _, sym (append-nil c.replace-vec.result.items), refl)
+loop-item-init g c = record {
+  can = c.requires.0;
+  ends = c.requires.1;
+  no_longer = le_refl _;
+  filled = sym (append-nil c.replace-vec.result.items);
+  capacity = refl;
+}
 
 pub push_reserved-requires : goal.push_reserved-requires
 push_reserved-requires g c = omega (arith, c.if-len-capacity.false, c.len.ensures, c.capacity.ensures, c.loop-item.vec.ok.1)
@@ -12,22 +18,22 @@ loop-item-preserved g c =
     let at = c.loop-item in
     let inv = at.invariant in
     let one = c.in-Some.item ∷ [] in
-    let went = c.in-Some.ensures.goes.on inv.1 in
-    let put = c.push_reserved.ensures in (
-      went.0,
-      went.1,
-      omega (arith, went.2, inv.2),
-      put.items ∙ ap (λ l. l ++ one) inv.3 ∙ append_assoc c.replace-vec.result.items at.yielded one,
-      put.capacity ∙ inv.4,
-    )
+    let went = c.in-Some.ensures.goes.on inv.ends in
+    let put = c.push_reserved.ensures in record {
+      can = went.0;
+      ends = went.1;
+      no_longer = omega (arith, went.2, inv.no_longer);
+      filled = put.items ∙ ap (λ l. l ++ one) inv.filled ∙ append_assoc c.replace-vec.result.items at.yielded one;
+      capacity = put.capacity ∙ inv.capacity;
+    }
 
 pub returns-then-len-capacity-clause-ran : goal.returns-then-len-capacity-clause-ran
 returns-then-len-capacity-clause-ran g c =
     let at = c.loop-item in
-    (at.yielded, (at.iter, at.yielded_by, c.in-Some.ensures.steps), rw (← c.replace-vec.ensures.value) at.invariant.3)
+    (at.yielded, (at.iter, at.yielded_by, c.in-Some.ensures.steps), rw (← c.replace-vec.ensures.value) at.invariant.filled)
 
 pub returns-then-len-capacity-clause-capacity : goal.returns-then-len-capacity-clause-capacity
-returns-then-len-capacity-clause-capacity g c = c.loop-item.invariant.4 ∙ ap vec_capacity c.replace-vec.ensures.value
+returns-then-len-capacity-clause-capacity g c = c.loop-item.invariant.capacity ∙ ap vec_capacity c.replace-vec.ensures.value
 
 pub returns-then-len-capacity-clause-full : goal.returns-then-len-capacity-clause-full
 returns-then-len-capacity-clause-full g c = sym c.len.ensures ∙ c.if-len-capacity.true ∙ c.capacity.ensures
@@ -35,16 +41,16 @@ returns-then-len-capacity-clause-full g c = sym c.len.ensures ∙ c.if-len-capac
 pub returns-then-len-capacity-clause-goes_on : goal.returns-then-len-capacity-clause-goes_on
 returns-then-len-capacity-clause-goes_on g c =
     let inv = c.loop-item.invariant in
-    let went = c.in-Some.ensures.goes.on inv.1 in
-    (went.0, went.1, omega (arith, went.2, inv.2))
+    let went = c.in-Some.ensures.goes.on inv.ends in
+    (went.0, went.1, omega (arith, went.2, inv.no_longer))
 
 pub returns-clause-ran : goal.returns-clause-ran
 returns-clause-ran g c =
     let at = c.loop-item in
-    (at.yielded, (c.next.new.self, (at.iter, at.yielded_by, c.in_default.ensures.steps)), rw (← c.replace-vec.ensures.value) at.invariant.3)
+    (at.yielded, (c.next.new.self, (at.iter, at.yielded_by, c.in_default.ensures.steps)), rw (← c.replace-vec.ensures.value) at.invariant.filled)
 
 pub returns-clause-capacity : goal.returns-clause-capacity
-returns-clause-capacity g c = c.loop-item.invariant.4 ∙ ap vec_capacity c.replace-vec.ensures.value
+returns-clause-capacity g c = c.loop-item.invariant.capacity ∙ ap vec_capacity c.replace-vec.ensures.value
 
 pub returns-clause-full : goal.returns-clause-full
 returns-clause-full g c = tt

@@ -9,11 +9,12 @@ loop-item-preserved g c =
     let inv = at.invariant in
     let x = c.in-Some.item in
     let slots = c.args.slots.now in
-    let lt : at.count < length slots = search (rules, arith) in (
-      search rules,
-      search rules,
-      search (rules, arith),
-      length_push at.yielded x ∙ ap (λ k. k + 1) inv.3,
-      omega (arith, lt),
-      ap (λ l. slice_set l at.count x) inv.5 ∙ slots_filled slots at.yielded at.count x inv.3 lt,
-    )
+    let went = c.in-Some.ensures.goes.on inv.ends in
+    let lt : at.count < length slots = search (rules, arith) in record {
+      can = went.0;
+      ends = went.1;
+      no_longer = omega (arith, went.2, inv.no_longer);
+      count = length_push at.yielded x ∙ ap (λ k. k + 1) inv.count;
+      in_bounds = omega (arith, lt);
+      filled = ap (λ l. slice_set l at.count x) inv.filled ∙ slots_filled slots at.yielded at.count x inv.count lt;
+    }

@@ -8,7 +8,7 @@ use Rattle.tinyvec_array.proofs.array_vec.ArrayVec.clone_from.Goals as goal
 pub returns-in_err-clone_over_from-clause-refused : goal.returns-in_err-clone_over_from-clause-refused
 returns-in_err-clone_over_from-clause-refused g c =
     let h = c.in_err-clone_over_from.ensures.refused in
-    let made = h.2 in
+    let over = h.2 in
     let cut = c.truncate.new.self in
     let slots = all_slots cut in
     let source = c.as_slice.result.now in
@@ -16,10 +16,10 @@ returns-in_err-clone_over_from-clause-refused g c =
     let long = c.len-len.ensures.value ∙ sym (ap length c.as_slice.ensures) in
     let fits : cut.len ≤ length slots = omega (arith, c.len-len-2.ensures) in
     let from_start : 0 + h.0 ≡ h.0 = omega arith in
-    let written = rw c.slots_mut.ensures.value at made.3 ∙ ap (λ k. made.0 ++ drop k slots) from_start in
+    let written = rw c.slots_mut.ensures.value at over.written ∙ ap (λ k. over.made ++ drop k slots) from_start in
     on_err c.from_residual.result (rw (← c.as_slice.ensures)
     (clones_in_part g.A.Item.Default.is_default g.A.Item.Clone.is_infallible g.A.Item.Clone.is_clone c.args.self.now cut cut source n
-    refl long fits c.truncate.ensures.items c.truncate.ensures.spare h.0 made.0 _ h.1 made.1 written))
+    refl long fits c.truncate.ensures.items c.truncate.ensures.spare h.0 over.made _ h.1 over.clones written))
 
 pub returns : goal.returns
 returns g c =
@@ -28,20 +28,20 @@ returns g c =
     let new = split_at c.len-len.result c.clone_over_from.new.slots in
     let source = c.as_slice.result.now in
     let n = c.len-len.result in
-    let made = c.in_ok-clone_over_from.ensures.ok in
+    let over = c.in_ok-clone_over_from.ensures.ok in
     let long = c.len-len.ensures.value ∙ sym (ap length c.as_slice.ensures) in
-    let count = made.2 ∙ sym long in
+    let count = over.count ∙ sym long in
     let fits : cut.len ≤ length slots = omega (arith, c.len-len-2.ensures) in
     let from_start : 0 + length source ≡ length source = omega arith in
-    let written = rw c.slots_mut.ensures.value at made.3 ∙ ap (λ k. made.0 ++ drop k slots) from_start in
-    let listed : items new ≡ made.0 = ap (take n) written ∙ take_at made.0 (drop (length source) slots) n count in
-    let behind : spare new ≡ drop (length source) slots = ap (drop n) written ∙ drop_at made.0 (drop (length source) slots) n count in
+    let written = rw c.slots_mut.ensures.value at over.written ∙ ap (λ k. over.made ++ drop k slots) from_start in
+    let listed : items new ≡ over.made = ap (take n) written ∙ take_at over.made (drop (length source) slots) n count in
+    let behind : spare new ≡ drop (length source) slots = ap (drop n) written ∙ drop_at over.made (drop (length source) slots) n count in
     record {
-      items = rw (← c.as_slice.ensures, c.set_len.ensures.value, listed) (made.1);
-      len = rw (c.set_len.ensures.value) (ap length listed ∙ made.2 ∙ ap length c.as_slice.ensures);
-      if_clones_equal = λ rule. rw (c.set_len.ensures.value) (listed ∙ same_from_all_zip g.A.Item.Clone.is_clone source made.0 made.1 rule ∙ c.as_slice.ensures);
+      items = rw (← c.as_slice.ensures, c.set_len.ensures.value, listed) (over.clones);
+      len = rw (c.set_len.ensures.value) (ap length listed ∙ over.count ∙ ap length c.as_slice.ensures);
+      if_clones_equal = λ rule. rw (c.set_len.ensures.value) (listed ∙ same_from_all_zip g.A.Item.Clone.is_clone source over.made over.clones rule ∙ c.as_slice.ensures);
       spare = rw (c.set_len.ensures.value) (all_cloned g.A.Item.Default.is_default g.A.Item.Clone.is_infallible g.A.Item.Clone.is_clone c.args.self.now cut cut source n
-          refl long fits c.truncate.ensures.items c.truncate.ensures.spare new (ap length listed ∙ made.2) behind);
+          refl long fits c.truncate.ensures.items c.truncate.ensures.spare new (ap length listed ∙ over.count) behind);
       fits = rw (c.set_len.ensures.fits) c.len-len.ensures.fits;
       refused = tt;
       succeeds = λ _. refl;

@@ -47,7 +47,7 @@ loop-x-preserved g c =
     let step = c.in-Some.ensures.steps in
     let out = c.loop-x.out.items in
     let left = drain_items c.next.new.self in record {
-      can = step.1.4 inv.can;
+      can = step.1.ready inv.can;
       ends = tt;
       keeps = DrainKeeps-then c.into_iter-x-iterator.result c.loop-x.x-iterator c.next.new.self inv.keeps step.1;
       moved = ap (λ l. l ++ left) c.push_reserved.ensures.items ∙ append_assoc out (c.in-Some.x ∷ []) left ∙ ap (λ l. out ++ l) (sym step.0) ∙ inv.moved;
@@ -64,17 +64,17 @@ module _ (g : _) (c : goal.After-self-1 g) where
 
 pub returns-clause-items : goal.returns-clause-items
 returns-clause-items g c =
-    let same = (keeps g c).0 in
-    let listed = (left g c).0 ∙ (keeps g c).1 ∙ c.drain-x-items.ensures.kept in
+    let same = (keeps g c).same_reference in
+    let listed = (left g c).0 ∙ (keeps g c).kept ∙ c.drain-x-items.ensures.kept in
     search rules
 
 pub returns-clause-spare : goal.returns-clause-spare
 returns-clause-spare g c =
     let drain = c.drain-x-items.ensures in
     let ds = (left g c).1 in
-    let same = (keeps g c).0 in
-    let behind = ds.2 ∙ ap (λ l. ds.0 ++ l) ((keeps g c).3 ∙ drain.spare) in
-    (ds.0, (ds.1.0 ∙ (keeps g c).2 ∙ drain.count ∙ ap length drain.rest, ds.1.1), search rules)
+    let same = (keeps g c).same_reference in
+    let behind = ds.2 ∙ ap (λ l. ds.0 ++ l) ((keeps g c).spare ∙ drain.spare) in
+    (ds.0, (ds.1.0 ∙ (keeps g c).count ∙ drain.count ∙ ap length drain.rest, ds.1.1), search rules)
 
 pub returns-clause-fits : goal.returns-clause-fits
 returns-clause-fits g c =

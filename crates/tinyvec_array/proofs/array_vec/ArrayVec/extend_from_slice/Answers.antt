@@ -1,7 +1,7 @@
 use Rattle.std.proofs.Common.{◌≤◌, length, arith, rules}
 use Rattle.tinyvec_slots.specs.Slots.{all_slots}
-use Rattle.tinyvec_slots.proofs.CloneLemmas.{on_err, behind_writes}
-use Rattle.tinyvec_slots.proofs.BorderLemmas.{kept_before, clones_written}
+use Rattle.tinyvec_slots.proofs.CloneLemmas.{on_err}
+use Rattle.tinyvec_slots.proofs.BorderLemmas.{kept_in_front, clones_behind, clones_written}
 use Rattle.tinyvec_array.proofs.array_vec.ArrayVec.extend_from_slice.Goals as goal
 
 pub returns-in_err-clone_over_from-clause-kept : goal.returns-in_err-clone_over_from-clause-kept
@@ -9,7 +9,7 @@ returns-in_err-clone_over_from-clause-kept g c =
     let v = c.args.self.now in
     let made = rw (c.slots_mut.ensures.value, c.len-len.ensures.field) at c.in_err-clone_over_from.ensures.refused.2 in
     let fits : v.len ≤ length (all_slots v) = omega (arith, c.len-len.ensures) in
-    on_err c.from_residual.result (rw (made.3) (kept_before (all_slots v) made.0 _ v.len fits))
+    on_err c.from_residual.result (kept_in_front fits made)
 
 pub returns-in_err-clone_over_from-clause-refused : goal.returns-in_err-clone_over_from-clause-refused
 returns-in_err-clone_over_from-clause-refused g c =
@@ -17,15 +17,14 @@ returns-in_err-clone_over_from-clause-refused g c =
     let h = c.in_err-clone_over_from.ensures.refused in
     let made = rw (c.slots_mut.ensures.value, c.len-len.ensures.field) at h.2 in
     let fits : v.len ≤ length (all_slots v) = omega (arith, c.len-len.ensures) in
-    on_err c.from_residual.result (h.0, h.1, (made.0, made.1, made.2, rw (made.3) (behind_writes (all_slots v) made.0 v.len h.0 fits)))
+    on_err c.from_residual.result (h.0, h.1, clones_behind fits made)
 
 pub returns : goal.returns
 returns g c =
     let v = c.args.self.now in
-    let xs = c.args.other.now in
     let made = rw (c.slots_mut.ensures.value, c.len-len.ensures.field) at c.in_ok-clone_over_from.ensures.ok in
     let fits : v.len ≤ length (all_slots v) = omega (arith, c.len-len.ensures) in
-    let written = clones_written g.A.Item.Clone.is_clone v.len (length xs) xs (all_slots v) c.clone_over_from.new.slots fits made in
+    let written = clones_written fits made in
     let after = rw c.len-len.ensures.field at c.set_len.ensures.value in
     record {
       items = rw after (written.0);

@@ -10,30 +10,34 @@ pub loop-items-init : goal.loop-items-init
 loop-items-init g c =
     let old = c.args.self.now in
     let none : 0 ≡ items_len old - items_len old = omega arith in
-    let can = c.requires c.into_iter-items.result c.into_iter-items.ensures.into_iter_gives in
-    (can, omega arith, ap (λ k. drop k (spare old)) none, ([], refl, sym (append-nil _)))
+    record {
+      can = c.requires c.into_iter-items.result c.into_iter-items.ensures.into_iter_gives;
+      longer = omega arith;
+      behind = ap (λ k. drop k (spare old)) none;
+      ran = ([], refl, sym (append-nil _));
+    }
 
 pub loop-items-preserved : goal.loop-items-preserved
 loop-items-preserved g c =
     let turn = c.loop-items in
-    let run = turn.invariant.3 in
+    let run = turn.invariant.ran in
     let put = c.push.ensures in
     let x = c.in-Some.item in
-    let grown = ap length put.items ∙ length_push (items turn.self) x in (
-      c.in-Some.ensures.goes.keeps,
-      omega (arith, grown),
-      spare_after c.args.self.now turn.self c.push.new.self x turn.invariant.1 put.items turn.invariant.2 put.spare,
-      (
+    let grown = ap length put.items ∙ length_push (items turn.self) x in record {
+      can = c.in-Some.ensures.goes.keeps;
+      longer = omega (arith, grown);
+      behind = spare_after c.args.self.now turn.self c.push.new.self x turn.invariant.longer put.items turn.invariant.behind put.spare;
+      ran = (
         run.0 ++ x ∷ [],
         Yields-more g.I.IntoIter.Iterator.next_gives _ run.0 _ _ _ run.1 c.in-Some.ensures.steps,
         put.items ∙ ap (λ xs. xs ++ x ∷ []) run.2 ∙ append_assoc _ run.0 _,
-      ),
-    )
+      );
+    }
 
 pub returns-in-None-clause-ran : goal.returns-in-None-clause-ran
 returns-in-None-clause-ran g c =
     let turn = c.loop-items in
-    let run = turn.invariant.3 in
+    let run = turn.invariant.ran in
     let grown = ap length run.2 ∙ length-append (items c.args.self.now) run.0 in
     let has_room : items_len turn.self < g.A.Array.CAPACITY = grind (arith, common_steps) in
     let room : length run.0 < g.A.Array.CAPACITY - items_len c.args.self.now = omega (arith, grown, has_room) in
@@ -48,7 +52,7 @@ returns-in-None-clause-listed g c = λ rest shows.
 pub returns-clause-ran : goal.returns-clause-ran
 returns-clause-ran g c =
     let turn = c.loop-items in
-    let run = turn.invariant.3 in
+    let run = turn.invariant.ran in
     let grown = ap length run.2 ∙ length-append (items c.args.self.now) run.0 in
     let full : items_len turn.self ≡ g.A.Array.CAPACITY = grind (arith, common_steps) in
     let room : length run.0 ≡ g.A.Array.CAPACITY - items_len c.args.self.now = omega (arith, grown, full) in

@@ -3,8 +3,8 @@ use Rattle.tinyvec_slots.specs.Slots.{all_slots}
 use Rattle.tinyvec_slots.proofs.Lists.{drop-inserted}
 use Rattle.tinyvec_array.proofs.array_vec.ArrayVec.insert.Goals as goal
 
-pub returns-then-are_short_of-clause-spare : goal.returns-then-are_short_of-clause-spare
-returns-then-are_short_of-clause-spare g c =
+pub returns-then-prefers_shifting_in-clause-spare : goal.returns-then-prefers_shifting_in-clause-spare
+returns-then-prefers_shifting_in-clause-spare g c =
     let len = c.len-len.ensures in
     rw (c.set_len.ensures.value, c.insert_shifting.ensures, c.slots_mut.ensures.value, ← len.field)
     (drop-inserted (all_slots c.args.self.now) c.args.i c.len-len.result c.args.x (omega (arith, c.requires.in_list, len.value)) (omega (arith, c.requires.room, len.value, len.slots)))

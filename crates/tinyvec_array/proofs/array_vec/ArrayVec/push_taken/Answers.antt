@@ -16,18 +16,18 @@ loop-i-preserved g c =
     let put = c.push.ensures in
     let D = g.A.Item.Default.is_default in
     let within : i < length first = c.loop-i-test.true in
-    let long : i < length at.from = omega (arith, inv.0) in
-    let taken = c.take.ensures.value ∙ sym c.index-from-i.is in (
-      length-set at.from i d ∙ inv.0,
-      put.items ∙ ap (λ l. l ++ c.take.result ∷ []) inv.1 ∙ append_assoc _ (take i first) _
-          ∙ ap (λ l. items c.args.self.now ++ l) (ap (λ y. take i first ++ y ∷ []) taken ∙ sym (one_taken at.from first i x within inv.3 c.index-from-i.is)),
-      put.spare ∙ ap (drop 1) inv.2 ∙ drop-drop 1 i _,
-      rest_after_one at.from first i d inv.3,
-      All-same D _ _ (take_more_set at.from i d long) (All-push D (take i at.from) d inv.4 c.take.ensures.after),
-    )
+    let long : i < length at.from = omega (arith, inv.len) in
+    let taken = c.take.ensures.value ∙ sym c.index-from-i.is in record {
+      len = length-set at.from i d ∙ inv.len;
+      moved = put.items ∙ ap (λ l. l ++ c.take.result ∷ []) inv.moved ∙ append_assoc _ (take i first) _
+          ∙ ap (λ l. items c.args.self.now ++ l) (ap (λ y. take i first ++ y ∷ []) taken ∙ sym (one_taken at.from first i x within inv.left c.index-from-i.is));
+      behind = put.spare ∙ ap (drop 1) inv.behind ∙ drop-drop 1 i _;
+      left = rest_after_one at.from first i d inv.left;
+      defaults = All-same D _ _ (take_more_set at.from i d long) (All-push D (take i at.from) d inv.defaults c.take.ensures.after);
+    }
 
 pub returns-clause-left : goal.returns-clause-left
 returns-clause-left g c =
     let at = c.loop-i in
-    let all = take_all at.i at.from (omega (arith, at.invariant.0)) in
-    (at.invariant.0, All-same g.A.Item.Default.is_default _ _ (sym all) at.invariant.4)
+    let all = take_all at.i at.from (omega (arith, at.invariant.len)) in
+    (at.invariant.len, All-same g.A.Item.Default.is_default _ _ (sym all) at.invariant.defaults)

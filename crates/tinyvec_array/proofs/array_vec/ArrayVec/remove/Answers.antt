@@ -4,8 +4,8 @@ use Rattle.tinyvec_slots.specs.Slots.{items, all_slots}
 use Rattle.tinyvec_slots.proofs.Lists.{take-moved, drop-removed}
 use Rattle.tinyvec_array.proofs.array_vec.ArrayVec.remove.Goals as goal
 
-pub returns-then-are_short_of-clause-spare : goal.returns-then-are_short_of-clause-spare
-returns-then-are_short_of-clause-spare g c =
+pub returns-then-prefers_shifting_in-clause-spare : goal.returns-then-prefers_shifting_in-clause-spare
+returns-then-prefers_shifting_in-clause-spare g c =
     let len = c.len-len.ensures in
     let after = c.remove_shifting-item.ensures.after in
     let one = All-cons g.A.Item.Default.is_default after.0 [] after.1 (All-nil _) in (

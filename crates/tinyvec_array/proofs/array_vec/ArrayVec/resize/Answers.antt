@@ -1,8 +1,7 @@
 use Rattle.std.proofs.Common.{◌≡◌, ◌+◌, ◌-◌, ◌≤◌, length, length-take-le, replicate, take, take_all, refl, arith}
 use Rattle.tinyvec_slots.specs.Slots.{all_slots, split_at}
 use Rattle.tinyvec_slots.proofs.SlotsLemmas.{slots_used}
-use Rattle.tinyvec_slots.proofs.CloneLemmas.{behind_writes}
-use Rattle.tinyvec_slots.proofs.BorderLemmas.{kept_before, clones_written}
+use Rattle.tinyvec_slots.proofs.BorderLemmas.{kept_in_front, clones_behind, clones_written}
 use Rattle.tinyvec_array.proofs.array_vec.ArrayVec.resize.Goals as goal
 
 pub returns-in-Ok : goal.returns-in-Ok
@@ -16,7 +15,7 @@ returns-in-Ok g c =
     let long = length-take-le v.len (all_slots v) fits in
     let all : take n (take v.len (all_slots v)) ≡ take v.len (all_slots v) = take_all n (take v.len (all_slots v)) (omega (arith, long, sum)) in
     let made = rw (c.slots_mut.ensures.value, c.len-len.ensures.field) at c.in-Ok.ensures.ok in
-    let written = rw sum at (clones_written g.A.Item.Clone.is_clone v.len (n - v.len) more (all_slots v) new fits made) in
+    let written = rw sum at (clones_written fits made) in
     let after = c.set_len.ensures.value in
     record {
       items = rw (after, all, long) (written.0);
@@ -36,7 +35,7 @@ returns-in-Err-clause-kept g c =
     let v = c.args.self.now in
     let made = rw (c.slots_mut.ensures.value, c.len-len.ensures.field) at c.in-Err.ensures.refused.3 in
     let fits : v.len ≤ length (all_slots v) = omega (arith, c.len-len.ensures) in
-    rw (made.3) (kept_before (all_slots v) made.0 _ v.len fits)
+    kept_in_front fits made
 
 pub returns-in-Err-clause-refused : goal.returns-in-Err-clause-refused
 returns-in-Err-clause-refused g c =
@@ -45,4 +44,4 @@ returns-in-Err-clause-refused g c =
     let few = rw c.len-len.ensures.value at h.1 in
     let made = rw (c.slots_mut.ensures.value, c.len-len.ensures.field) at h.3 in
     let fits : v.len ≤ length (all_slots v) = omega (arith, c.len-len.ensures) in
-    (h.0, few, h.2, (made.0, made.1, made.2, rw (made.3) (behind_writes (all_slots v) made.0 v.len h.0 fits)))
+    (h.0, few, h.2, clones_behind fits made)

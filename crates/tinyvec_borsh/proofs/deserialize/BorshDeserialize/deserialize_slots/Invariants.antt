@@ -5,7 +5,7 @@ use Rattle.tinyvec_borsh.proofs.deserialize.BorshDeserialize.deserialize_slots.G
 -- the slots so far were read
 abbrev pub invariant-loop-i : goal.invariant-loop-i
 invariant-loop-i g l = record {
-  read : TookItems g.Self.BorshForm.Spells g.Self.BorshForm.Fits (map g.Self.BorshForm.content_of (take l.i l.slots)) (g.R.Read.remaining l.fn.reader.end) (g.R.Read.remaining l.reader.end);
+  read : TookItems g.Self.BorshForm.Spells g.Self.BorshForm.Fits (map g.Self.BorshForm.content_of (take l.i l.slots)) (g.R.Read.remaining l.fn.reader.inner) (g.R.Read.remaining l.reader.inner);
   many : length l.slots ≡ length l.fn.slots;
   grows : l.fn.reader.faults ≤ l.reader.faults;
 }

@@ -13,7 +13,7 @@ returns-clause-place g c =
     let same : length c.read_items.new.slots ≡ tiny_len mid = search rules in
     let framed = tiny_framed-with mid c.read_items.new.slots same in
     let long : tiny_len mid ≡ max (tiny_len mid) (tiny_len c.args.v.now) = search rules in
-    on-ok c.read_items.result (λ _. place-framed g.A.Array.CAPACITY _ c.args.v.now mid (tiny_with_items mid c.read_items.new.slots) (search rules) framed.2 (framed.0 ∙ long)) c.read_items.ensures.ok
+    on-ok c.read_items.result (λ _. place-framed g.A.Array.CAPACITY _ c.args.v.now mid (tiny_with_items mid c.read_items.new.slots) (search rules) framed.place (framed.len ∙ long)) c.read_items.ensures.ok
 
 pub returns-clause-ok : goal.returns-clause-ok
 returns-clause-ok g c =
@@ -27,7 +27,7 @@ returns-clause-ok g c =
       t.0,
       tiny_items-with mid c.read_items.new.slots same ∙ grown c.len-start.result (c.len-start.result + c.min.result) (tiny_items c.args.v.now) c.in-Ok.ensures.items.0 (tiny_items mid) c.read_items.new.slots t.0 (search rules) (search rules) c.in-Ok.ensures.items.2 (search rules) (search rules),
       search rules,
-      omega (arith, framed.0, fewer),
+      omega (arith, framed.len, fewer),
       t.3,
       t.4,
     )) c.read_items.ensures.ok

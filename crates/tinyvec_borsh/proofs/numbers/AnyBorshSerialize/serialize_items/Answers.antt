@@ -6,7 +6,7 @@ use Rattle.tinyvec_borsh.specs.Writing.{Adds}
 use Rattle.tinyvec_borsh.proofs.numbers.AnyBorshSerialize.serialize_items.Goals as goal
 
 pub returns-clause-ok : goal.returns-clause-ok
-returns-clause-ok g c = subst (λ xs. OnOk c.write_all.result (Adds (SpellsItems g.T.FixedWidth.form.Spells xs) (g.W.Write.contents c.args.writer.now.end) (g.W.Write.contents c.write_all.new.writer.end))) (sym (map-id c.args.items.now)) c.write_all.ensures.ok
+returns-clause-ok g c = subst (λ xs. OnOk c.write_all.result (Adds (SpellsItems g.T.FixedWidth.form.Spells xs) (g.W.Write.contents c.args.writer.now.inner) (g.W.Write.contents c.write_all.new.writer.inner))) (sym (map-id c.args.items.now)) c.write_all.ensures.ok
 
 pub returns-clause-fits : goal.returns-clause-fits
 returns-clause-fits g c = subst (λ xs. OnOk c.write_all.result (AllByRecursion g.T.FixedWidth.form.Fits xs)) (sym (map-id c.args.items.now)) c.write_all.ensures.fits

@@ -6,7 +6,7 @@ use Rattle.tinyvec_borsh.proofs.serialize.BorshSerialize.serialize_items.Given a
 -- the items so far were written
 abbrev pub invariant-loop-item : goal.invariant-loop-item
 invariant-loop-item g l = record {
-  wrote : WroteItems g.Self.BorshForm.Spells (map g.Self.BorshForm.content_of (take l.item-index l.items)) (g.W.Write.contents l.fn.writer.end) (g.W.Write.contents l.writer.end);
+  wrote : WroteItems g.Self.BorshForm.Spells (map g.Self.BorshForm.content_of (take l.item-index l.items)) (g.W.Write.contents l.fn.writer.inner) (g.W.Write.contents l.writer.inner);
   fit : AllByRecursion g.Self.BorshForm.Fits (map g.Self.BorshForm.content_of (take l.item-index l.items));
   grows : l.fn.writer.faults ≤ l.writer.faults;
 }

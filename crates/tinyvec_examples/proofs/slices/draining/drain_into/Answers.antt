@@ -17,10 +17,10 @@ push_reserved-requires g c =
     let long : length (slice_range (items_of g.B.Lent c.args.v.now) c.args.start c.args.end) ≡ c.args.end - c.args.start = search (rules, places) in
     let begun : length at_first ≡ c.args.end - c.args.start = ap (λ d. length (drain_items g.B.Lent d)) start ∙ ap length made.rest ∙ long in
     let one = ap length c.in-Some.ensures.steps.0 in
-    let same = ap length inv.3 in
+    let same = ap length inv.moved in
     let left = length-append c.loop-x.out.items to_come in
     let right = length-append c.args.out.now.items at_first in
-    let cap = inv.4 in
+    let cap = inv.room in
     let room = c.requires.room in
     omega arith
 
@@ -33,9 +33,9 @@ returns-clause-spare g c =
     let n = c.args.end - c.args.start in
     let kept : DrainKeeps g.B.Lent first last =
     subst (λ d. DrainKeeps g.B.Lent d last) start
-    (DrainKeeps-then g.B.Lent c.into_iter-x-iterator.result c.loop-x.x-iterator last c.loop-x.invariant.2 (DrainSteps-keeps g.B.Lent _ c.next.result last c.next.ensures.steps)) in
+    (DrainKeeps-then g.B.Lent c.into_iter-x-iterator.result c.loop-x.x-iterator last c.loop-x.invariant.keeps (DrainSteps-keeps g.B.Lent _ c.next.result last c.next.ensures.steps)) in
     let long : length (slice_range (items_of g.B.Lent c.args.v.now) c.args.start c.args.end) ≡ n = search (rules, places) in
     let count : drain_count first ≡ n = made.count ∙ ap length made.rest ∙ long in
     let frees : Vacates g.B.Item.Default.is_default n (seen_of g.B.Lent c.args.v.now) (seen_of g.B.Lent c.drop-x-iterator.new.self.0) =
-    drain_frees g.B.Lent g.B.Item.Default.is_default n c.args.v.now c.drop-x-iterator.new.self.0 first last kept count made.spare (c.drop-x-iterator.ensures (kept.5 made.ready)) in
+    drain_frees g.B.Lent g.B.Item.Default.is_default n c.args.v.now c.drop-x-iterator.new.self.0 first last kept count made.spare (c.drop-x-iterator.ensures (kept.ready made.ready)) in
     search rules

@@ -14,5 +14,5 @@ returns-clause-spare g c =
     let kept : DrainKeeps g.B.Lent first last = DrainSteps-keeps g.B.Lent first c.next.result last c.next.ensures.steps in
     let count : drain_count first ≡ 2 = made.count ∙ ap length made.rest ∙ search (rules, places) in
     let frees : Vacates g.B.Item.Default.is_default 2 (seen_of g.B.Lent c.args.v.now) (seen_of g.B.Lent c.drop-d.new.self.0) =
-    drain_frees g.B.Lent g.B.Item.Default.is_default 2 c.args.v.now c.drop-d.new.self.0 first last kept count made.spare (c.drop-d.ensures (kept.5 made.ready)) in
+    drain_frees g.B.Lent g.B.Item.Default.is_default 2 c.args.v.now c.drop-d.new.self.0 first last kept count made.spare (c.drop-d.ensures (kept.ready made.ready)) in
     search rules

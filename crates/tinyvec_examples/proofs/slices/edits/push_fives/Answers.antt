@@ -7,9 +7,9 @@ pub loop-i-preserved : goal.loop-i-preserved
 loop-i-preserved c =
     let inv = c.loop-i.invariant in
     let put = c.push.ensures in
-    let first = length (items c.args.v.now) in (
-      put.same_reference ∙ inv.0,
-      ap (take first) put.items ∙ take-append-le first (items c.loop-i.v) (pos 5 ∷ []) (omega (arith, inv.2)) ∙ inv.1,
-      search (rules, places),
-      put.spare ∙ ap (drop 1) inv.3 ∙ drop-drop 1 c.loop-i._i (spare c.args.v.now),
-    )
+    let first = length (items c.args.v.now) in record {
+      same_reference = put.same_reference ∙ inv.same_reference;
+      kept = ap (take first) put.items ∙ take-append-le first (items c.loop-i.v) (pos 5 ∷ []) (omega (arith, inv.len)) ∙ inv.kept;
+      len = search (rules, places);
+      spare = put.spare ∙ ap (drop 1) inv.spare ∙ drop-drop 1 c.loop-i._i (spare c.args.v.now);
+    }

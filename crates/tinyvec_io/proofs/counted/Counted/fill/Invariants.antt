@@ -6,7 +6,7 @@ use Rattle.tinyvec_io.proofs.counted.Counted.fill.Given as goal
 -- what was read so far fills the front
 abbrev pub invariant-loop-filled : goal.invariant-loop-filled
 invariant-loop-filled g l = record {
-  bytes : Consumes (g.R.Read.remaining l.fn.self.end) (g.R.Read.remaining l.self.end) (take l.filled l.buf);
+  bytes : Consumes (g.R.Read.remaining l.fn.self.inner) (g.R.Read.remaining l.self.inner) (take l.filled l.buf);
   small : AllByRecursion (λ byte. byte < 256) (take l.filled l.buf);
   bound : l.filled ≤ length l.buf;
   grows : l.fn.self.faults ≤ l.self.faults;

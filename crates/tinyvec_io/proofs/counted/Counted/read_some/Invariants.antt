@@ -6,7 +6,7 @@ use Rattle.tinyvec_io.proofs.counted.Counted.read_some.Given as goal
 -- only interrupted reads so far
 abbrev pub invariant-loop-tries : goal.invariant-loop-tries
 invariant-loop-tries g l = record {
-  bytes : Keeps (g.R.Read.remaining l.fn.self.end) (g.R.Read.remaining l.self.end);
+  bytes : Keeps (g.R.Read.remaining l.fn.self.inner) (g.R.Read.remaining l.self.inner);
   grows : l.fn.self.faults ≤ l.self.faults;
   fault : Reported l.fn.self.faults l.self.faults ⊎ (l._tries ≡ 0);
 }

@@ -6,7 +6,7 @@ use Rattle.tinyvec_io.proofs.counted.Counted.write_some.Given as goal
 -- only interrupted writes so far
 abbrev pub invariant-loop-tries : goal.invariant-loop-tries
 invariant-loop-tries g l = record {
-  bytes : Keeps (g.W.Write.contents l.fn.self.end) (g.W.Write.contents l.self.end);
+  bytes : Keeps (g.W.Write.contents l.fn.self.inner) (g.W.Write.contents l.self.inner);
   grows : l.fn.self.faults ≤ l.self.faults;
   fault : Reported l.fn.self.faults l.self.faults ⊎ (l._tries ≡ 0);
 }

@@ -29,7 +29,7 @@ module _ {A T Z : Type 0} (s : ArrayVecSplice A (Fuse (IntoIter T Z)) T) (word :
 
 pub take_word-requires-clause-can : goal.take_word-requires-clause-can
 take_word-requires-clause-can g c word answers t asks =
-    let step = (along c.splice-splice.result word answers t asks).kept.3 c.splice-splice.ensures.ready in
+    let step = (along c.splice-splice.result word answers t asks).kept.ready c.splice-splice.ensures.ready in
     ((step, λ _. tt), (step, λ _. tt))
 
 pub take_word-requires-clause-room : goal.take_word-requires-clause-room
@@ -44,7 +44,7 @@ take_word-requires-clause-room g c word answers t asks =
 pub finish-requires : goal.finish-requires
 finish-requires g c =
     let asks = c.take_word.ensures.asks in
-    ((along c.splice-splice.result _ asks.0 _ asks.1).kept.3 c.splice-splice.ensures.ready, λ _. tt)
+    ((along c.splice-splice.result _ asks.0 _ asks.1).kept.ready c.splice-splice.ensures.ready, λ _. tt)
 
 -- what the call to `finish` left
 module _ (g : _) (c : After-finish g) where
@@ -87,10 +87,10 @@ returns-clause-splices g c =
     c.requires.start_le_end c.requires.in_bounds made.front made.left made.back (whole g d) c.finish.result (finished g d) in
     let fact : ArraySplices D capacity c.args.vec.now c.args.start c.args.end word P c.take_word.new.yields.items c.keep_refused.new.list.items v = record {
       list = rw (yields, rest) list;
-      slot_rule = slots_framed D c.args.vec.now (splice_slots c.take_word.new.splice) v (kept.2 ∙ ap items_len made.slots) (kept.1 ∙ ap spare made.slots) c.finish.ensures.slots;
+      slot_rule = slots_framed D c.args.vec.now (splice_slots c.take_word.new.splice) v (kept.len ∙ ap items_len made.slots) (kept.spare ∙ ap spare made.slots) c.finish.ensures.slots;
     } in
     let same = made.same_reference in
-    let lender = kept.0 in
+    let lender = kept.same_reference in
     subst (ArraySplices D capacity c.args.vec.now c.args.start c.args.end word P c.take_word.new.yields.items c.keep_refused.new.list.items) (search rules) fact
 
 pub returns-clause-computed : goal.returns-clause-computed

@@ -30,7 +30,7 @@ module _ {A T Z : Type 0} (s : TinyVecSplice A (Fuse (IntoIter T Z)) T) (word : 
 
 pub take_word-requires-clause-can : goal.take_word-requires-clause-can
 take_word-requires-clause-can g c word answers t asks =
-    let step = (along c.splice-splice.result word answers t asks).kept.2 c.splice-splice.ensures.ready in
+    let step = (along c.splice-splice.result word answers t asks).kept.ready c.splice-splice.ensures.ready in
     ((step, λ _. tt), (step, λ _. tt))
 
 pub take_word-requires-clause-room : goal.take_word-requires-clause-room
@@ -45,7 +45,7 @@ take_word-requires-clause-room g c word answers t asks =
 pub finish-requires-clause-can : goal.finish-requires-clause-can
 finish-requires-clause-can g c =
     let asks = c.take_word.ensures.asks in
-    ((along c.splice-splice.result _ asks.0 _ asks.1).kept.2 c.splice-splice.ensures.ready, λ _. tt)
+    ((along c.splice-splice.result _ asks.0 _ asks.1).kept.ready c.splice-splice.ensures.ready, λ _. tt)
 
 -- what the call to `finish` left
 module _ (g : _) (c : After-finish g) where
@@ -81,7 +81,7 @@ returns-clause-splices g c =
     let P = c.args.replacement.items in
     let old = c.args.vec.now in
     let mid = splice_vec c.take_word.new.splice in
-    let frame : SameFrame old mid = subst (λ w. SameFrame w mid) made.vec kept.1 in
+    let frame : SameFrame old mid = subst (λ w. SameFrame w mid) made.vec kept.frame in
     let yields : c.take_word.new.yields.items ≡ given_items asks.0 =
     asks.2 ∙ ap (λ l. l ++ given_items asks.0) c.in-Ok.ensures.empty.0 in
     let rest : c.keep_refused.new.list.items ≡ refused_items (fused_rest into_iter_items) c.finish.result =
@@ -96,12 +96,12 @@ returns-clause-splices g c =
       capacity = capacity_framed slots (tiny_len v) old mid v frame c.finish.ensures.grows.capacity;
       same_room = room_framed slots (tiny_len v) old mid v frame c.finish.ensures.grows.same_room;
       fits = c.finish.ensures.grows.fits;
-      no_shorter = λ over. rw (sym frame.0) (refused_over splice_view SpliceKeeps (fused_rest into_iter_items) _ _ word asks.0 (along _ _ asks.0 _ asks.1) (takes _ _ asks.0 _ asks.1)
+      no_shorter = λ over. rw (sym frame.len) (refused_over splice_view SpliceKeeps (fused_rest into_iter_items) _ _ word asks.0 (along _ _ asks.0 _ asks.1) (takes _ _ asks.0 _ asks.1)
           (tiny_capacity slots v) (tiny_items c.args.vec.now) (tiny_items v) c.args.start c.args.end P
           c.requires.start_le_end c.requires.in_bounds made.front made.left made.back (whole g d) c.finish.result (finished g d) c.finish.ensures.no_shorter over);
     } in
     let same = made.same_reference in
-    let lender = kept.0 in
+    let lender = kept.same_reference in
     subst (TinySplices D slots c.args.vec.now c.args.start c.args.end word P c.take_word.new.yields.items c.keep_refused.new.list.items) (search rules) fact
 
 pub returns-clause-computed : goal.returns-clause-computed

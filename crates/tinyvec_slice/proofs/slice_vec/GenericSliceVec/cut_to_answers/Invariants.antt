@@ -6,14 +6,16 @@ use Rattle.tinyvec_slice.specs.SliceVec.{items_of, spare_of, name_of}
 use Rattle.tinyvec_slice.proofs.slice_vec.GenericSliceVec.cut_to_answers.Given as goal
 
 abbrev pub invariant-loop-self : goal.invariant-loop-self
-invariant-loop-self g l = (l.n ≤ length (items_of g.B.Lent l.self))
-    × (length (items_of g.B.Lent l.self) ≤ length (items_of g.B.Lent l.initial.self))
-    × (items_of g.B.Lent l.self ≡ take (length (items_of g.B.Lent l.self)) (items_of g.B.Lent l.initial.self))
-    × ((ys : List g.row.B-Item.Denot) × (length ys ≡ length (items_of g.B.Lent l.initial.self) - length (items_of g.B.Lent l.self))
-    × (spare_of g.B.Lent l.self ≡ reverse ys ++ spare_of g.B.Lent l.initial.self)
-    × FoldsTo (λ f y f'. Called g.F.FnMut f tt y f') l.initial.f ys l.f)
-    × goal.F-IsAlwaysCallable g l.f
-    × (name_of g.B.Lent l.self ≡ name_of g.B.Lent l.initial.self)
+invariant-loop-self g l = record {
+  enough : l.n ≤ length (items_of g.B.Lent l.self);
+  shorter : length (items_of g.B.Lent l.self) ≤ length (items_of g.B.Lent l.initial.self);
+  kept : items_of g.B.Lent l.self ≡ take (length (items_of g.B.Lent l.self)) (items_of g.B.Lent l.initial.self);
+  ran : (ys : List g.row.B-Item.Denot) × (length ys ≡ length (items_of g.B.Lent l.initial.self) - length (items_of g.B.Lent l.self))
+      × (spare_of g.B.Lent l.self ≡ reverse ys ++ spare_of g.B.Lent l.initial.self)
+      × FoldsTo (λ f y f'. Called g.F.FnMut f tt y f') l.initial.f ys l.f;
+  callable : goal.F-IsAlwaysCallable g l.f;
+  same_reference : name_of g.B.Lent l.self ≡ name_of g.B.Lent l.initial.self;
+}
 
 abbrev pub decreases-loop-self : goal.decreases-loop-self
 decreases-loop-self g l = length (items_of g.B.Lent l.self)

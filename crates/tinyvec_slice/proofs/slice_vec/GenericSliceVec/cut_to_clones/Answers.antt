@@ -9,13 +9,13 @@ use Rattle.tinyvec_slice.proofs.slice_vec.GenericSliceVec.cut_to_clones.Goals as
 pub loop-n-init : goal.loop-n-init
 loop-n-init g c =
     let L = items_of g.B.Lent c.args.self.now in
-    let none : 0 ≡ length L - length L = omega arith in (
-      c.requires.shorter,
-      le_refl _,
-      sym (take_all (length L) L (le_refl _)),
-      ([], subst (λ n. AllZip g.B.Item.Clone.is_clone (replicate n c.args.x.now) []) none tt, refl),
-      refl,
-    )
+    let none : 0 ≡ length L - length L = omega arith in record {
+      enough = c.requires.shorter;
+      shorter = le_refl _;
+      kept = sym (take_all (length L) L (le_refl _));
+      cloned = ([], subst (λ n. AllZip g.B.Item.Clone.is_clone (replicate n c.args.x.now) []) none tt, refl);
+      same_reference = refl;
+    }
 
 pub loop-n-preserved : goal.loop-n-preserved
 loop-n-preserved g c =
@@ -31,13 +31,13 @@ loop-n-preserved g c =
     let less = one_less whole old new some put.items in
     let base = spare_of g.B.Lent c.args.self.now in
     let behind = spare_of g.B.Lent at.self in
-    let after = spare_of g.B.Lent c.replace_last.new.self in (
-      omega (arith, less, len, more),
-      omega (arith, less),
-      first_items whole old new some put.items inv.2,
-      clone_before whole old new some put.items g.B.Item.Clone.is_clone c.args.x.now c.in_ok-filling.filling base behind after inv.1 c.in_ok-filling.ensures.cases put.spare inv.3,
-      put.same_reference ∙ inv.4,
-    )
+    let after = spare_of g.B.Lent c.replace_last.new.self in record {
+      enough = omega (arith, less, len, more);
+      shorter = omega (arith, less);
+      kept = first_items whole old new some put.items inv.kept;
+      cloned = clone_before whole old new some put.items g.B.Item.Clone.is_clone c.args.x.now c.in_ok-filling.filling base behind after inv.shorter c.in_ok-filling.ensures.cases put.spare inv.cloned;
+      same_reference = put.same_reference ∙ inv.same_reference;
+    }
 
 pub returns-in_err-filling-clause-refused : goal.returns-in_err-filling-clause-refused
 returns-in_err-filling-clause-refused g c =
@@ -47,22 +47,22 @@ returns-in_err-filling-clause-refused g c =
     let k = length (items_of g.B.Lent at.self) in
     let len = c.len.ensures.value in
     let more = c.loop-n-test.true in
-    on_err c.from_residual.result (length whole - k, omega (arith, inv.1, len, more), c.in_err-filling.ensures.cases, inv.2 ∙ left_after whole k inv.1, inv.3)
+    on_err c.from_residual.result (length whole - k, omega (arith, inv.shorter, len, more), c.in_err-filling.ensures.cases, inv.kept ∙ left_after whole k inv.shorter, inv.cloned)
 
 pub returns-clause-items : goal.returns-clause-items
 returns-clause-items g c =
     let at = c.loop-n in
     let len = c.len.ensures.value in
     let done = c.loop-n-test.false in
-    let ends : length (items_of g.B.Lent at.self) ≡ c.args.n = omega (arith, at.invariant.0) in
-    at.invariant.2 ∙ ap (λ n. take n (items_of g.B.Lent c.args.self.now)) ends
+    let ends : length (items_of g.B.Lent at.self) ≡ c.args.n = omega (arith, at.invariant.enough) in
+    at.invariant.kept ∙ ap (λ n. take n (items_of g.B.Lent c.args.self.now)) ends
 
 pub returns-clause-spare : goal.returns-clause-spare
 returns-clause-spare g c =
     let at = c.loop-n in
     let len = c.len.ensures.value in
     let done = c.loop-n-test.false in
-    let ends : length (items_of g.B.Lent at.self) ≡ c.args.n = omega (arith, at.invariant.0) in
+    let ends : length (items_of g.B.Lent at.self) ≡ c.args.n = omega (arith, at.invariant.enough) in
     let old = c.args.self.now in
     let base = spare_of g.B.Lent old in
-    subst (λ n. ClonesBefore g.B.Item.Clone.is_clone (replicate (length (items_of g.B.Lent old) - n) c.args.x.now) base (spare_of g.B.Lent at.self)) ends at.invariant.3
+    subst (λ n. ClonesBefore g.B.Item.Clone.is_clone (replicate (length (items_of g.B.Lent old) - n) c.args.x.now) base (spare_of g.B.Lent at.self)) ends at.invariant.cloned

@@ -18,7 +18,7 @@ loop-x-preserved g c =
     let step = c.in-Some.ensures.steps in
     let f = c.f.new.self in
     record {
-      can = step.1.5 inv.can;
+      can = step.1.ready inv.can;
       ends = tt;
       keeps = DrainKeeps-then g.B.Lent c.into_iter-x-iterator.result c.loop-x.x-iterator c.next.new.self inv.keeps step.1;
       callable = search of_calls;
@@ -35,19 +35,19 @@ module _ (g : _) (c : goal.After-self-1 g) where
 
 pub returns-clause-same_reference : goal.returns-clause-same_reference
 returns-clause-same_reference g c =
-    let same = (keeps g c).0 in
-    let named = (left g c).0 ∙ (keeps g c).1 ∙ c.drain-x-items.ensures.same_slots in
+    let same = (keeps g c).same_reference in
+    let named = (left g c).0 ∙ (keeps g c).same_slots ∙ c.drain-x-items.ensures.same_slots in
     search rules
 
 pub returns-clause-items : goal.returns-clause-items
 returns-clause-items g c =
-    let same = (keeps g c).0 in
-    let listed = (left g c).1 ∙ (keeps g c).2 ∙ c.drain-x-items.ensures.kept in
+    let same = (keeps g c).same_reference in
+    let listed = (left g c).1 ∙ (keeps g c).kept ∙ c.drain-x-items.ensures.kept in
     search rules
 
 pub returns-clause-spare : goal.returns-clause-spare
 returns-clause-spare g c =
     let drain = c.drain-x-items.ensures in
-    let same = (keeps g c).0 in
+    let same = (keeps g c).same_reference in
     let frees = drain_frees g.B.Lent g.B.Item.Default.is_default _ c.args.self.now c.drop-x-iterator.new.self.0 c.drain-x-items.result c.next.new.self (keeps g c) (drain.count ∙ ap length drain.rest) drain.spare (left g c) in
     search rules

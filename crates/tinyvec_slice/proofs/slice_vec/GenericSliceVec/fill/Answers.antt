@@ -10,41 +10,47 @@ pub loop-items-init : goal.loop-items-init
 loop-items-init g c =
     let L = items_of g.B.Lent c.args.self.now in
     let none : 0 ≡ length L - length L = omega arith in
-    let can = c.requires c.into_iter-items.result c.into_iter-items.ensures.into_iter_gives in
-    (can, omega arith, omega arith, ap (λ k. drop k (spare_of g.B.Lent c.args.self.now)) none, ([], refl, sym (append-nil _)), refl)
+    record {
+      can = c.requires c.into_iter-items.result c.into_iter-items.ensures.into_iter_gives;
+      longer = omega arith;
+      fits = omega arith;
+      behind = ap (λ k. drop k (spare_of g.B.Lent c.args.self.now)) none;
+      ran = ([], refl, sym (append-nil _));
+      same_reference = refl;
+    }
 
 pub loop-items-preserved : goal.loop-items-preserved
 loop-items-preserved g c =
     let turn = c.loop-items in
-    let run = turn.invariant.4 in
+    let run = turn.invariant.ran in
     let put = c.push.ensures in
     let x = c.in-Some.item in
     let view = seen_of g.B.Lent in
     let S = spare_of g.B.Lent c.args.self.now in
     let L = items_of g.B.Lent c.args.self.now in
-    let left = ap length turn.invariant.3 ∙ length-drop (length (items_of g.B.Lent turn.self) - length L) S in
+    let left = ap length turn.invariant.behind ∙ length-drop (length (items_of g.B.Lent turn.self) - length L) S in
     let has_room : 0 < length (spare_of g.B.Lent turn.self) = grind (arith, common_steps) in
-    let grown = ap length put.items ∙ length_push (items_of g.B.Lent turn.self) x in (
-      c.in-Some.ensures.goes.keeps,
-      omega (arith, grown),
-      omega (arith, grown, left, has_room),
-      spare_after (view c.args.self.now) (view turn.self) (view c.push.new.self) x turn.invariant.1 put.items turn.invariant.3 put.spare,
-      (
+    let grown = ap length put.items ∙ length_push (items_of g.B.Lent turn.self) x in record {
+      can = c.in-Some.ensures.goes.keeps;
+      longer = omega (arith, grown);
+      fits = omega (arith, grown, left, has_room);
+      behind = spare_after (view c.args.self.now) (view turn.self) (view c.push.new.self) x turn.invariant.longer put.items turn.invariant.behind put.spare;
+      ran = (
         run.0 ++ x ∷ [],
         Yields-more g.I.IntoIter.Iterator.next_gives _ run.0 _ _ _ run.1 c.in-Some.ensures.steps,
         put.items ∙ ap (λ xs. xs ++ x ∷ []) run.2 ∙ append_assoc _ run.0 _,
-      ),
-      put.same_reference ∙ turn.invariant.5,
-    )
+      );
+      same_reference = put.same_reference ∙ turn.invariant.same_reference;
+    }
 
 pub returns-in-None-clause-ran : goal.returns-in-None-clause-ran
 returns-in-None-clause-ran g c =
     let turn = c.loop-items in
-    let run = turn.invariant.4 in
+    let run = turn.invariant.ran in
     let S = spare_of g.B.Lent c.args.self.now in
     let L = items_of g.B.Lent c.args.self.now in
     let grown = ap length run.2 ∙ length-append L run.0 in
-    let left = ap length turn.invariant.3 ∙ length-drop (length (items_of g.B.Lent turn.self) - length L) S in
+    let left = ap length turn.invariant.behind ∙ length-drop (length (items_of g.B.Lent turn.self) - length L) S in
     let has_room : 0 < length (spare_of g.B.Lent turn.self) = grind (arith, common_steps) in
     let room : length run.0 < length S = omega (arith, grown, left, has_room) in
     (c.into_iter-items.result, run.0, c.into_iter-items.ensures.into_iter_gives, stopped_early _ _ _ run.0 _ room (turn.items, run.1, c.in-None.ensures.steps), run.2)
@@ -58,13 +64,13 @@ returns-in-None-clause-listed g c = λ rest shows.
 pub returns-clause-ran : goal.returns-clause-ran
 returns-clause-ran g c =
     let turn = c.loop-items in
-    let run = turn.invariant.4 in
+    let run = turn.invariant.ran in
     let S = spare_of g.B.Lent c.args.self.now in
     let L = items_of g.B.Lent c.args.self.now in
     let grown = ap length run.2 ∙ length-append L run.0 in
-    let left = ap length turn.invariant.3 ∙ length-drop (length (items_of g.B.Lent turn.self) - length L) S in
+    let left = ap length turn.invariant.behind ∙ length-drop (length (items_of g.B.Lent turn.self) - length L) S in
     let full : length (spare_of g.B.Lent turn.self) ≡ 0 = grind (arith, common_steps) in
-    let room : length run.0 ≡ length S = omega (arith, grown, left, full, turn.invariant.2) in
+    let room : length run.0 ≡ length S = omega (arith, grown, left, full, turn.invariant.fits) in
     (c.into_iter-items.result, run.0, c.into_iter-items.ensures.into_iter_gives, stopped_full _ _ _ run.0 _ room run.1, run.2)
 
 pub returns-clause-listed : goal.returns-clause-listed

@@ -13,31 +13,31 @@ push-requires g c =
     let at = c.loop-self in
     let old = c.args.self.now in
     let L = items_of g.B.Lent old in
-    let left = ap length at.invariant.2 ∙ length-drop (length (items_of g.B.Lent at.self) - length L) (spare_of g.B.Lent old) in
+    let left = ap length at.invariant.behind ∙ length-drop (length (items_of g.B.Lent at.self) - length L) (spare_of g.B.Lent old) in
     let whole = parts_of g.B.Lent old in
     let len = c.len.ensures.value in
     let more = c.loop-self-test.true in
     let room = c.requires.room in
-    omega (arith, left, whole, len, more, room, at.invariant.1)
+    omega (arith, left, whole, len, more, room, at.invariant.longer)
 
 pub loop-self-preserved : goal.loop-self-preserved
 loop-self-preserved g c =
     let at = c.loop-self in
     let put = c.push.ensures in
     let y = c.f.result in
-    let run = at.invariant.3 in
+    let run = at.invariant.ran in
     let len = c.len.ensures.value in
     let more = c.loop-self-test.true in
     let view = seen_of g.B.Lent in
-    let grown = ap length put.items ∙ length_push (items_of g.B.Lent at.self) y in (
-      omega (arith, grown),
-      omega (arith, grown),
-      spare_after (view c.args.self.now) (view at.self) (view c.push.new.self) y at.invariant.1 put.items at.invariant.2 put.spare,
-      (
+    let grown = ap length put.items ∙ length_push (items_of g.B.Lent at.self) y in record {
+      in_bounds = omega (arith, grown);
+      longer = omega (arith, grown);
+      behind = spare_after (view c.args.self.now) (view at.self) (view c.push.new.self) y at.invariant.longer put.items at.invariant.behind put.spare;
+      ran = (
         run.0 ++ y ∷ [],
         put.items ∙ ap (λ l. l ++ y ∷ []) run.1 ∙ append_assoc _ run.0 (y ∷ []),
         chained_more (λ f y f'. Called g.F.FnMut f tt y f') _ run.0 at.f y _ run.2 (called g.F.FnMut c.f.ensures refl),
-      ),
-      search of_calls,
-      put.same_reference ∙ at.invariant.5,
-    )
+      );
+      callable = search of_calls;
+      same_reference = put.same_reference ∙ at.invariant.same_reference;
+    }

@@ -1,6 +1,6 @@
-use Rattle.std.proofs.Common.{◌≡◌, ◌<◌, ◌≤◌, ◌+◌, ◌-◌, ◌++◌, length, take, drop, replicate, sym, ap, ◌∙◌, arith, rules}
-use Rattle.tinyvec_slots.proofs.CloneLemmas.{on_err, behind_writes}
-use Rattle.tinyvec_slots.proofs.BorderLemmas.{kept_before, clones_written}
+use Rattle.std.proofs.Common.{◌≡◌, ◌<◌, ◌≤◌, ◌+◌, ◌-◌, length, drop, sym, ap, ◌∙◌, arith, rules}
+use Rattle.tinyvec_slots.proofs.CloneLemmas.{on_err}
+use Rattle.tinyvec_slots.proofs.BorderLemmas.{kept_in_front, clones_behind, clones_written}
 use Rattle.tinyvec_slice.specs.SliceVec.{spare_of}
 use Rattle.tinyvec_slice.proofs.ViewLemmas.{border, within, list_to, spare_from, parts_of}
 use Rattle.tinyvec_slice.proofs.slice_vec.GenericSliceVec.grow_by_clones.Goals as goal
@@ -23,21 +23,17 @@ module _ (g : _) (c : goal.After-from_residual g) where
 pub returns-in_err-fill_clones-clause-kept : goal.returns-in_err-fill_clones-clause-kept
 returns-in_err-fill_clones-clause-kept g c =
     let v = c.args.self.now in
-    let slots = g.B.Lent.slots v.lent in
     let h = c.in_err-fill_clones.ensures.refused in
-    let made = rw (c.all_mut.ensures.value, ← g.B.Lent.slots_written v.lent c.fill_clones.new.to) at h.3 in
-    let after = made.3 ∙ ap (λ k. take k slots ++ made.0 ++ drop (k + h.0) slots) (same g c) in
-    on_err c.from_residual.result (ap (take v.len) after ∙ kept_before slots made.0 (drop (v.len + h.0) slots) v.len (le g c))
+    let made = rw (c.all_mut.ensures.value, ← g.B.Lent.slots_written v.lent c.fill_clones.new.to, same g c) at h.3 in
+    on_err c.from_residual.result (kept_in_front (le g c) made)
 
 pub returns-in_err-fill_clones-clause-refused : goal.returns-in_err-fill_clones-clause-refused
 returns-in_err-fill_clones-clause-refused g c =
     let v = c.args.self.now in
-    let slots = g.B.Lent.slots v.lent in
     let h = c.in_err-fill_clones.ensures.refused in
-    let made = rw (c.all_mut.ensures.value, ← g.B.Lent.slots_written v.lent c.fill_clones.new.to) at h.3 in
-    let after = made.3 ∙ ap (λ k. take k slots ++ made.0 ++ drop (k + h.0) slots) (same g c) in
+    let made = rw (c.all_mut.ensures.value, ← g.B.Lent.slots_written v.lent c.fill_clones.new.to, same g c) at h.3 in
     let few = rw c.len-len.ensures.value at h.1 in
-    on_err c.from_residual.result (h.0, few, h.2, (made.0, made.1, made.2, ap (drop v.len) after ∙ behind_writes slots made.0 v.len h.0 (le g c)))
+    on_err c.from_residual.result (h.0, few, h.2, clones_behind (le g c) made)
 
 pub returns : goal.returns
 returns g c =
@@ -47,8 +43,8 @@ returns g c =
     let long = c.len-len.ensures.value in
     let n = c.args.n in
     let sum : len + (n - len) ≡ n = omega arith in
-    let behind = clones_written g.B.Item.Clone.is_clone len (n - len) (replicate (n - len) c.args.x.now) slots _ (within v.len slots len long) (rw (c.all_mut.ensures.value, ← g.B.Lent.slots_written v.lent c.fill_clones.new.to) at c.in_ok-fill_clones.ensures.ok) in
-    let written = rw sum at behind in
+    let made = rw (c.all_mut.ensures.value, ← g.B.Lent.slots_written v.lent c.fill_clones.new.to) at c.in_ok-fill_clones.ensures.ok in
+    let written = rw sum at (clones_written (within v.len slots len long) made) in
     let list = list_to v.len slots len long in
     record {
       same_reference = search rules;

@@ -5,16 +5,16 @@ use Rattle.tinyvec_slice.specs.SliceVec.{items_of}
 use Rattle.tinyvec_slice.proofs.ViewLemmas.{take-put_in, drop-put_in, beyond}
 use Rattle.tinyvec_slice.proofs.slice_vec.GenericSliceVec.insert.Goals as goal
 
-pub returns-then-are_short-clause-spare : goal.returns-then-are_short-clause-spare
-returns-then-are_short-clause-spare g c =
+pub returns-then-prefers_shifting-clause-spare : goal.returns-then-prefers_shifting-clause-spare
+returns-then-prefers_shifting-clause-spare g c =
     let v = c.args.self.now in
     let n = c.len-len.result in
     let slots = g.B.Lent.slots v.lent in
     let in_list : c.args.i ≤ n = search rules in
     rw (g.B.Lent.slots_written, c.insert_shifting.ensures, c.all_mut.ensures.value) (drop-put_in v.len slots n c.len-len.ensures.value c.args.i c.args.x in_list c.requires.room)
 
-pub returns-then-are_short-clause-items : goal.returns-then-are_short-clause-items
-returns-then-are_short-clause-items g c =
+pub returns-then-prefers_shifting-clause-items : goal.returns-then-prefers_shifting-clause-items
+returns-then-prefers_shifting-clause-items g c =
     let v = c.args.self.now in
     let n = c.len-len.result in
     let slots = g.B.Lent.slots v.lent in

@@ -4,9 +4,11 @@ use Rattle.tinyvec_slice.specs.SliceVec.{items_of, spare_of, name_of}
 use Rattle.tinyvec_slice.proofs.slice_vec.GenericSliceVec.push_taken.Given as goal
 
 abbrev pub invariant-loop-i : goal.invariant-loop-i
-invariant-loop-i g l = (length l.from ≡ length l.initial.from)
-    × (items_of g.B.Lent l.self ≡ items_of g.B.Lent l.initial.self ++ take l.i l.initial.from)
-    × (spare_of g.B.Lent l.self ≡ drop l.i (spare_of g.B.Lent l.initial.self))
-    × (drop l.i l.from ≡ drop l.i l.initial.from)
-    × All g.B.Item.Default.is_default (take l.i l.from)
-    × (name_of g.B.Lent l.self ≡ name_of g.B.Lent l.initial.self)
+invariant-loop-i g l = record {
+  len : length l.from ≡ length l.initial.from;
+  moved : items_of g.B.Lent l.self ≡ items_of g.B.Lent l.initial.self ++ take l.i l.initial.from;
+  behind : spare_of g.B.Lent l.self ≡ drop l.i (spare_of g.B.Lent l.initial.self);
+  left : drop l.i l.from ≡ drop l.i l.initial.from;
+  defaults : All g.B.Item.Default.is_default (take l.i l.from);
+  same_reference : name_of g.B.Lent l.self ≡ name_of g.B.Lent l.initial.self;
+}

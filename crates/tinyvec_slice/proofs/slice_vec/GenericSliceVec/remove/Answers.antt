@@ -9,8 +9,8 @@ use Rattle.tinyvec_slice.proofs.slice_vec.GenericSliceVec.remove.Goals as goal
 pub returns-clause-items : goal.returns-clause-items
 returns-clause-items g c = c.take_last.ensures.rest ∙ take-moved (items_of g.B.Lent c.args.self.now) _ c.args.i c.requires c.move_to_end.ensures.items
 
-pub returns-then-are_short-clause-spare : goal.returns-then-are_short-clause-spare
-returns-then-are_short-clause-spare g c =
+pub returns-then-prefers_shifting-clause-spare : goal.returns-then-prefers_shifting-clause-spare
+returns-then-prefers_shifting-clause-spare g c =
     let v = c.args.self.now in
     let n = c.len-len.result in
     let after = c.remove_shifting-item.ensures.after in
@@ -18,11 +18,11 @@ returns-then-are_short-clause-spare g c =
     let in_list : c.args.i < n = search rules in
     (after.0 ∷ [], (refl, one), rw (g.B.Lent.slots_written, after.2, c.all_mut.ensures.value) (drop-taken v.len (g.B.Lent.slots v.lent) n c.len-len.ensures.value c.args.i after.0 in_list))
 
-pub returns-then-are_short-clause-value : goal.returns-then-are_short-clause-value
-returns-then-are_short-clause-value g c = grind (arith, common_steps)
+pub returns-then-prefers_shifting-clause-value : goal.returns-then-prefers_shifting-clause-value
+returns-then-prefers_shifting-clause-value g c = grind (arith, common_steps)
 
-pub returns-then-are_short-clause-items : goal.returns-then-are_short-clause-items
-returns-then-are_short-clause-items g c =
+pub returns-then-prefers_shifting-clause-items : goal.returns-then-prefers_shifting-clause-items
+returns-then-prefers_shifting-clause-items g c =
     let v = c.args.self.now in
     let n = c.len-len.result in
     let after = c.remove_shifting-item.ensures.after in

@@ -1,4 +1,4 @@
-use Rattle.std.proofs.Common.{◌-◌, length, Some, None, refl, sym, ap, ◌∙◌, arith, le_refl, true≢false, length-set, drop-set-lt}
+use Rattle.std.proofs.Common.{◌-◌, length, Some, None, sym, ap, ◌∙◌, arith, rules, true≢false, length-set, drop-set-lt}
 use Rattle.std.proofs.lemmas.List.{take-set-le}
 use Rattle.tinyvec_slots.proofs.Lists.{slice_range_last, drop_from_set}
 use Rattle.tinyvec_slots.proofs.Fused.{not_ended}
@@ -11,13 +11,13 @@ returns-in-Some-clause-gives g c =
     let at = s.end - 1 in
     let ready = c.requires.ready in
     let asked = rw c.in-Some.is at c.next_back.ensures.steps in
-    let no_gap = (ready.4 (not_ended g.I.DoubleEndedIterator.next_back_gives _ _ _ asked)).1 in
+    let no_gap = (ready.no_slot_besides (not_ended g.I.DoubleEndedIterator.next_back_gives _ _ _ asked)).1 in
     let is = c.replace.ensures.after in record {
-      left = rw is (slice_range_last xs s.next s.end _ _ (omega arith) (omega (arith, ready.2, ready.3)) c.replace.ensures.value);
+      left = rw is (slice_range_last xs s.next s.end _ _ (omega arith) (omega (arith, ready.end_le_back, ready.back_le_len)) c.replace.ensures.value);
       placed = Some c.in-Some.new;
       asked = asked;
-      front = rw is (take-set-le s.front xs at c.in-Some.new (omega (arith, ready.0)));
-      back = rw is (drop_from_set xs s.end s.back c.in-Some.new (omega arith) (omega (arith, ready.2, ready.3)) no_gap);
+      front = rw is (take-set-le s.front xs at c.in-Some.new (omega (arith, ready.front_le_next)));
+      back = rw is (drop_from_set xs s.end s.back c.in-Some.new (omega arith) (omega (arith, ready.end_le_back, ready.back_le_len)) no_gap);
       touches = c.replace.ensures.count ∙ omega arith;
     }
 
@@ -29,11 +29,11 @@ returns-in-None-clause-gives g c =
     let ready = c.requires.ready in
     let d = c.take.ensures.after.0 in
     let is = c.take.ensures.after.2 in record {
-      left = rw is (slice_range_last xs s.next s.end _ _ (omega arith) (omega (arith, ready.2, ready.3)) c.take.ensures.value);
+      left = rw is (slice_range_last xs s.next s.end _ _ (omega arith) (omega (arith, ready.end_le_back, ready.back_le_len)) c.take.ensures.value);
       placed = None;
       asked = rw c.in-None.is at c.next_back.ensures.steps;
-      front = rw is (take-set-le s.front xs at d (omega (arith, ready.0)));
-      back = rw is (drop-set-lt s.back xs at d (omega (arith, ready.2)));
+      front = rw is (take-set-le s.front xs at d (omega (arith, ready.front_le_next)));
+      back = rw is (drop-set-lt s.back xs at d (omega (arith, ready.end_le_back)));
       touches = c.take.ensures.count ∙ omega arith;
     }
 
@@ -42,21 +42,14 @@ returns-in-Some-clause-ready g c =
     let ready = c.requires.ready in
     let long = ap length c.replace.ensures.after ∙ length-set c.args.slots.now (c.args.self.now.end - 1) c.in-Some.new in
     let asked = rw c.in-Some.is at c.next_back.ensures.steps in
-    let joined = ready.4 (not_ended g.I.DoubleEndedIterator.next_back_gives _ _ _ asked) in
-    (ready.0, omega arith, le_refl _, omega (arith, ready.2, ready.3, long), λ _. (joined.0, refl), omega (arith, ready.5, c.replace.ensures.count))
+    let joined = ready.no_slot_besides (not_ended g.I.DoubleEndedIterator.next_back_gives _ _ _ asked) in
+    search (rules, arith)
 
 pub returns-in-None-clause-ready : goal.returns-in-None-clause-ready
 returns-in-None-clause-ready g c =
-    let ready = c.requires.ready in
     let long = ap length c.take.ensures.after.2 ∙ length-set c.args.slots.now (c.args.self.now.end - 1) c.take.ensures.after.0 in
-    let asked = rw c.in-None.is at c.next_back.ensures.steps in (
-      ready.0,
-      omega arith,
-      omega (arith, ready.2),
-      omega (arith, ready.3, long),
-      λ more. absurd (true≢false (sym asked.1 ∙ more)),
-      omega (arith, ready.5, c.take.ensures.count),
-    )
+    let asked = rw c.in-None.is at c.next_back.ensures.steps in
+    search (rules, arith)
 
 pub returns-in-None-clause-can : goal.returns-in-None-clause-can
 returns-in-None-clause-can g c =

@@ -1,4 +1,4 @@
-use Rattle.std.proofs.Common.{◌≡◌, ◌<◌, length, take, slice_range, subst, arith}
+use Rattle.std.proofs.Common.{◌≡◌, ◌<◌, ◌-◌, length, take, slice_range, subst, arith}
 use Rattle.std.specs.Prelude.{ℕ}
 use Rattle.std.proofs.lemmas.List.{take_all}
 use Rattle.std.proofs.lemmas.Result.{on_ok_weaker, on_err_weaker}
@@ -18,7 +18,7 @@ returns-clause-ok g c =
     let slots = c.args.slots.now in
     let new = c.clone_over.new.to in
     on_ok_weaker c.clone_over.result (λ made.
-    clones_from C c.args.start (length xs) xs slots new c.requires.in_bounds c.requires.fits
+    clones_from C c.args.start (length slots - c.args.start) (length xs) xs slots new (omega arith) c.requires.fits
     (subst (λ l. ClonesOver C l (length l) (slice_range slots c.args.start (length slots)) new) (whole g c) made))
     c.clone_over.ensures.ok
 
@@ -31,5 +31,5 @@ returns-clause-refused g c =
     on_err_weaker c.clone_over.result (λ h.
     let same = subst (λ l. (j : ℕ) × RefusedAt g.T.Clone.is_infallible l j × ClonesOver C (take j l) j (slice_range slots c.args.start (length slots)) new) (whole g c) h in
     let below : same.0 < length xs = same.1.0 in
-    (same.0, same.1, clones_from C c.args.start same.0 (take same.0 xs) slots new c.requires.in_bounds (omega arith) same.2))
+    (same.0, same.1, clones_from C c.args.start (length slots - c.args.start) same.0 (take same.0 xs) slots new (omega arith) (omega arith) same.2))
     c.clone_over.ensures.refused

@@ -13,13 +13,13 @@ loop-i-preserved g c =
     let is : y ≡ get_or items (i - 1) y = search rules in
     let lt : i - 1 < length items = search rules in
     let back : i - 1 + 1 ≡ i = search rules in
-    let long : length (set items (i - 1) x) ≡ length items = length-set items (i - 1) x in (
-      ap (λ z. insert (set items (i - 1) z) (i - 1) y) c.replace-held.ensures.after ∙ insert_shifted_down items (i - 1) c.loop-i.held y lt is
-          ∙ ap (λ n. insert items n c.loop-i.held) back ∙ inv.0,
-      long ∙ inv.1,
-      search rules,
-      search rules,
-    )
+    let long : length (set items (i - 1) x) ≡ length items = length-set items (i - 1) x in record {
+      inserted = ap (λ z. insert (set items (i - 1) z) (i - 1) y) c.replace-held.ensures.after ∙ insert_shifted_down items (i - 1) c.loop-i.held y lt is
+          ∙ ap (λ n. insert items n c.loop-i.held) back ∙ inv.inserted;
+      len = long ∙ inv.len;
+      started = search rules;
+      in_bounds = search rules;
+    }
 
 pub returns-clause-value : goal.returns-clause-value
 returns-clause-value g c =
@@ -32,7 +32,7 @@ returns-clause-value g c =
     let le : i ≤ length c.loop-i.items = search rules in
     let lt : index < length xs = c.requires in
     let before : get_or (xs ++ c.args.x ∷ []) index y ≡ get_or xs index y = grind (arith, places) in
-    insert_taken c.loop-i.items i y le ∙ ap (λ l. get_or l i y) inv.0 ∙ ap (λ n. get_or (xs ++ c.args.x ∷ []) n y) at ∙ before
+    insert_taken c.loop-i.items i y le ∙ ap (λ l. get_or l i y) inv.inserted ∙ ap (λ n. get_or (xs ++ c.args.x ∷ []) n y) at ∙ before
 
 pub returns-clause-after : goal.returns-clause-after
 returns-clause-after g c =
@@ -42,5 +42,5 @@ returns-clause-after g c =
     let i = c.loop-i.i in
     let at : i ≡ c.args.index = search rules in
     let le : i ≤ length c.loop-i.items = search rules in
-    sym (insert_removed c.loop-i.items i c.loop-i.held le) ∙ ap (λ l. remove l i) inv.0 ∙ ap (λ n. remove (xs ++ x ∷ []) n) at
+    sym (insert_removed c.loop-i.items i c.loop-i.held le) ∙ ap (λ l. remove l i) inv.inserted ∙ ap (λ n. remove (xs ++ x ∷ []) n) at
     ∙ remove_in_front xs c.args.index x c.requires

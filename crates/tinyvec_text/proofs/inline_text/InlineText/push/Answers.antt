@@ -7,7 +7,7 @@ use Rattle.tinyvec_text.proofs.Boundaries.{chars_of_one}
 use Rattle.tinyvec_text.proofs.inline_text.InlineText.push.Goals as goal
 
 pub invariant_of-self : goal.invariant_of-self
-invariant_of-self g c = ∣ subst IsUtf8 (sym c.in_err-push.ensures.refused.0) (IsUtf8-had _ c.self.invariant) ∣₁
+invariant_of-self g c = ∣ subst IsUtf8 (sym c.in_err-push.ensures.refused.items) (IsUtf8-had _ c.self.invariant) ∣₁
 
 pub invariant_of-self-then-is_ascii : goal.invariant_of-self-then-is_ascii
 invariant_of-self-then-is_ascii g c =

@@ -3,7 +3,7 @@ use Rattle.std.specs.Bool.{⊤}
 use Rattle.tinyvec_slots.specs.Clones.{RefusedAt}
 use Rattle.tinyvec.specs.declared.tiny_vec.TinyVec.{TinyVec}
 use Rattle.tinyvec.specs.TinyVec.{Unchanged}
-use Rattle.tinyvec.specs.Growth.{RefusedFor}
+use Rattle.tinyvec.specs.Refused.{RefusedFor}
 use Rattle.tinyvec.proofs.tiny_vec.traits.TinyVecWrite.write.Goals as goal
 
 always : {X E P : Type 0} (r : Result X E) → P → OnErr r P

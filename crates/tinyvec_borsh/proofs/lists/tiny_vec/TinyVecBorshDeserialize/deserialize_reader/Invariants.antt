@@ -8,7 +8,7 @@ use Rattle.tinyvec_borsh.proofs.lists.tiny_vec.TinyVecBorshDeserialize.deseriali
 -- the items so far were read, and are the list
 abbrev pub invariant-loop-alloc : goal.invariant-loop-alloc
 invariant-loop-alloc g l = record {
-  read : WasRead g.A.Item.BorshForm.Spells g.A.Item.BorshForm.Fits l.count (map g.A.Item.BorshForm.content_of (tiny_items l.v)) (g.R.Read.remaining l.fn.reader.end) (g.R.Read.remaining l.reader.end);
+  read : WasRead g.A.Item.BorshForm.Spells g.A.Item.BorshForm.Fits l.count (map g.A.Item.BorshForm.content_of (tiny_items l.v)) (g.R.Read.remaining l.fn.reader.inner) (g.R.Read.remaining l.reader.inner);
   few : tiny_len l.v ≤ l.count;
   place : IsPlaced g.A.Array.CAPACITY l.count l.v;
   spare : IsInline l.v → AreDefaults g.A.Item.Default.is_default (g.A.Array.CAPACITY - tiny_len l.v) (tiny_spare l.v);

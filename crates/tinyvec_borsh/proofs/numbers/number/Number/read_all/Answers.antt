@@ -4,8 +4,8 @@ use Rattle.std.specs.List.{AllByRecursion}
 use Rattle.std.proofs.lemmas.List.{take_all}
 use Rattle.std.proofs.lemmas.Result.{err_from_is_err_and}
 use Rattle.tinyvec_borsh.specs.Items.{SpellsItems}
-use Rattle.tinyvec_borsh.proofs.Blocks.{take-block}
-use Rattle.tinyvec_borsh.proofs.NumberBlocks.{block_within, fails-behind-block, fails-numbers, took-block}
+use Rattle.tinyvec_borsh.proofs.Blocks.{take-block, took-block}
+use Rattle.tinyvec_borsh.proofs.NumberBlocks.{block_within, fails-behind-block, fails-numbers}
 use Rattle.tinyvec_borsh.proofs.numbers.number.Number.read_all.Goals as goal
 
 pub returns-in_err-read_bytes-clause-err : goal.returns-in_err-read_bytes-clause-err
@@ -36,9 +36,9 @@ loop-start-preserved g c =
 
 pub returns-clause-ok : goal.returns-clause-ok
 returns-clause-ok g c =
-    let read = c.loop-start.invariant.read in
+    let taken = c.loop-start.invariant.read.taken in
     let all = take_all c.loop-start.start c.loop-start.slots (omega arith) in
-    (read.bytes, subst (λ xs. SpellsItems g.Self.FixedWidth.form.Spells xs read.bytes) all read.spelled, read.taken)
+    (taken.0, subst (λ xs. SpellsItems g.Self.FixedWidth.form.Spells xs taken.0) all taken.1, taken.2)
 
 pub returns-clause-fits : goal.returns-clause-fits
 returns-clause-fits g c = subst (AllByRecursion g.Self.FixedWidth.form.Fits) (take_all c.loop-start.start c.loop-start.slots (omega arith)) c.loop-start.invariant.read.fit

@@ -5,7 +5,7 @@ use Rattle.tinyvec_borsh.proofs.numbers.number.Number.read_all.Given as goal
 -- the slots so far were read
 abbrev pub invariant-loop-start : goal.invariant-loop-start
 invariant-loop-start g l = record {
-  read : TookItems g.Self.FixedWidth.form.Spells g.Self.FixedWidth.form.Fits (take l.start l.slots) (g.R.Read.remaining l.fn.reader.end) (g.R.Read.remaining l.reader.end);
+  read : TookItems g.Self.FixedWidth.form.Spells g.Self.FixedWidth.form.Fits (take l.start l.slots) (g.R.Read.remaining l.fn.reader.inner) (g.R.Read.remaining l.reader.inner);
   room : length l.room ≡ 256;
   many : length l.slots ≡ length l.fn.slots;
   within : l.start ≤ length l.slots;

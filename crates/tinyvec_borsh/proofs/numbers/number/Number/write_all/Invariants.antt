@@ -6,7 +6,7 @@ use Rattle.tinyvec_borsh.proofs.numbers.number.Number.write_all.Given as goal
 -- the items so far were written
 abbrev pub invariant-loop-start : goal.invariant-loop-start
 invariant-loop-start g l = record {
-  wrote : WroteItems g.Self.FixedWidth.form.Spells (take l.start l.items) (g.W.Write.contents l.fn.writer.end) (g.W.Write.contents l.writer.end);
+  wrote : WroteItems g.Self.FixedWidth.form.Spells (take l.start l.items) (g.W.Write.contents l.fn.writer.inner) (g.W.Write.contents l.writer.inner);
   fit : AllByRecursion g.Self.FixedWidth.form.Fits (take l.start l.items);
   room : length l.room ≡ 256;
   within : l.start ≤ length l.items;

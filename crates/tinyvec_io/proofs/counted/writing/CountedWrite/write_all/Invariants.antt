@@ -5,7 +5,7 @@ use Rattle.tinyvec_io.proofs.counted.writing.CountedWrite.write_all.Given as goa
 -- what went before the rest was appended
 abbrev pub invariant-loop-rest : goal.invariant-loop-rest
 invariant-loop-rest g l = record {
-  bytes : AppendsUpTo (g.W.Write.contents l.fn.self.end) (g.W.Write.contents l.self.end) l.buf l.rest;
+  bytes : AppendsUpTo (g.W.Write.contents l.fn.self.inner) (g.W.Write.contents l.self.inner) l.buf l.rest;
   grows : l.fn.self.faults ≤ l.self.faults;
 }
 

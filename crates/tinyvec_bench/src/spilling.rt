@@ -1,0 +1,164 @@
+//! New lists that grow from the array to twice as many items as it has slots, and are dropped.
+ghost use Rattle.std.specs.Prelude.{◌*◌, ◌^◌, ◌<◌};
+
+use crate::report::{Bench, Report};
+use crate::sources::scattered;
+use std::alloc::{AllocError, Global};
+use std::rt::Runtime;
+use tinyvec::TinyVec;
+
+/// How a list grows.
+#[derive(Clone, Copy)]
+pub enum Spill {
+    Push,
+    ExtendFromSlice,
+    ExtendFromRange,
+    Append,
+    InsertFront,
+    InsertMiddle,
+    Resize,
+}
+
+/// What the lists are filled with, and one that is appended.
+#[derive(Drop)]
+pub struct SpillBench<'a, const N: usize> {
+    pub alloc: Global,
+    pub other: TinyVec<[u64; N]>,
+    pub source: &'a [u64; N],
+}
+
+impl<const N: usize> Bench<Spill> for SpillBench<'_, N> {
+    #[inline(always)]
+    fn round(&mut self, benchmark: Spill, x: u64) -> u64 {
+        let count = N as u64;
+        let twice = count.saturating_add(count);
+        match benchmark {
+            Spill::Push => push::<N>(self.alloc, &self.other, twice, x),
+            Spill::ExtendFromSlice => extend_from_slice(self.alloc, self.source, x),
+            Spill::ExtendFromRange => extend_from_range::<N>(self.alloc, &self.other, twice, x),
+            Spill::Append => append(self.alloc, &mut self.other, self.source, x),
+            Spill::InsertFront => insert(self.alloc, self.source, 0, x),
+            Spill::InsertMiddle => insert(self.alloc, self.source, N / 2, x),
+            Spill::Resize => resize(self.alloc, self.source, N.saturating_add(N), x),
+        }
+    }
+}
+
+/// The benchmarks of a `TinyVec` that moves to the heap in each round.
+pub fn of_spilling<R: Runtime, const N: usize>(report: &mut Report<'_, R>, alloc: Global)
+    requires { N * 64 < 2 ^ 63 }
+{
+    let source = scattered::<u64, N>();
+    let mut list = SpillBench {
+        alloc,
+        other: TinyVec::new(alloc),
+        source: &source,
+    };
+    report.run("push", N, Spill::Push, &mut list);
+    report.run("extend_from_slice", N, Spill::ExtendFromSlice, &mut list);
+    report.run("extend_from_range", N, Spill::ExtendFromRange, &mut list);
+    report.run("append", N, Spill::Append, &mut list);
+    report.run("insert_front", N, Spill::InsertFront, &mut list);
+    report.run("insert_middle", N, Spill::InsertMiddle, &mut list);
+    report.run("resize", N, Spill::Resize, &mut list);
+}
+
+/// Pushes `count` numbers to a list over as many slots as `_like`.
+#[inline(never)]
+pub fn push<const N: usize>(alloc: Global, _like: &TinyVec<[u64; N]>, count: u64, x: u64) -> u64 {
+    let mut vec = TinyVec::<[u64; N]>::new(alloc);
+    for k in 0..count {
+        if vec.push(x.wrapping_add(k)).is_err() {
+            return 0;
+        }
+    }
+    look_at(vec.as_slice(), x)
+}
+
+// Puts a number in at `i`, where the array is full.
+#[inline(never)]
+fn insert<const N: usize>(alloc: Global, source: &[u64; N], i: usize, x: u64) -> u64 {
+    let Ok(mut vec) = filled(alloc, source) else {
+        return 0;
+    };
+    if i > vec.len() || vec.insert(i, x).is_err() {
+        return 0;
+    }
+    look_at(vec.as_slice(), x)
+}
+
+// Adds `source` twice, each time by one copy.
+#[inline(never)]
+fn extend_from_slice<const N: usize>(alloc: Global, source: &[u64; N], x: u64) -> u64 {
+    let Ok(mut vec) = filled(alloc, source) else {
+        return 0;
+    };
+    match vec.extend_from_slice(source) {
+        Ok(()) => look_at(vec.as_slice(), x),
+        Err(AllocError) => 0,
+    }
+}
+
+/// Adds `count` numbers from `x` on to a list over as many slots as `_like`.
+#[inline(never)]
+pub fn extend_from_range<const N: usize>(
+    alloc: Global,
+    _like: &TinyVec<[u64; N]>,
+    count: u64,
+    x: u64,
+) -> u64 {
+    let mut vec = TinyVec::<[u64; N]>::new(alloc);
+    let start = x % 65536;
+    match vec.extend(start..start.saturating_add(count)) {
+        Ok(()) => look_at(vec.as_slice(), x),
+        Err(_) => 0,
+    }
+}
+
+// Moves a list of as many items after a full one.
+#[inline(never)]
+fn append<const N: usize>(
+    alloc: Global,
+    other: &mut TinyVec<[u64; N]>,
+    source: &[u64; N],
+    x: u64,
+) -> u64 {
+    let Ok(mut vec) = filled(alloc, source) else {
+        return 0;
+    };
+    if other.extend_from_slice(source).is_err() || vec.append(other).is_err() {
+        return 0;
+    }
+    look_at(vec.as_slice(), x)
+}
+
+// Makes a full list as long as `len`.
+#[inline(never)]
+fn resize<const N: usize>(alloc: Global, source: &[u64; N], len: usize, x: u64) -> u64 {
+    let Ok(mut vec) = filled(alloc, source) else {
+        return 0;
+    };
+    if vec.resize(len, x).is_err() {
+        return 0;
+    }
+    look_at(vec.as_slice(), x)
+}
+
+/// A new list of the items of `source`, in its array.
+pub fn filled<const N: usize>(
+    alloc: Global,
+    source: &[u64; N],
+) -> Result<TinyVec<[u64; N]>, AllocError> {
+    let mut vec = TinyVec::new(alloc);
+    vec.extend_from_slice(source)?;
+    Ok(vec)
+}
+
+/// How many items there are, one of them and `x`, added up.
+pub fn look_at(items: &[u64], x: u64) -> u64 {
+    let item = match items.get((x % 64) as usize) {
+        Some(y) => *y,
+        None => 0,
+    };
+    x.wrapping_add(item).wrapping_add(items.len() as u64)
+}
