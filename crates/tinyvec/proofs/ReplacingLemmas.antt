@@ -2,7 +2,7 @@
 use Rattle.std.proofs.Common.{◌≡◌, ◌∙◌, ℕ, ◌+◌, ◌-◌, ◌*◌, ◌<◌, ◌≤◌, max, List, ◌++◌, take, drop, length, length-append, length-drop, length-take-le, Result, Ok, inl, inr, sym, ap, subst, refl, arith}
 use Rattle.std.proofs.lemmas.Bool.{cases_lt}
 use Rattle.tinyvec_slots.specs.Replacing.{PutsBetween}
-use Rattle.tinyvec.specs.TinyVec.{tiny_items, tiny_len, is_inline, tiny_capacity, IsInline, PlaceRule, TinySlotRule, StaysInPlace}
+use Rattle.tinyvec.specs.TinyVec.{tiny_len, is_inline, tiny_capacity, IsInline, PlaceRule, TinySlotRule, StaysInPlace}
 use Rattle.tinyvec.specs.Room.{GrowsFor, RoomGrows, Reserves}
 use Rattle.tinyvec.specs.declared.tiny_vec.TinyVec.{TinyVec}
 use Rattle.tinyvec.specs.declared.tiny_vec.TinyVec.TheVariants.{Inline, Heap}

@@ -1,5 +1,5 @@
 -- Steps of a vector that is seen as slots, from what its calls tell.
-use Rattle.std.proofs.Common.{◌≡◌, ℕ, ◌+◌, ◌-◌, ◌<◌, ◌≤◌, List, [], ◌∷◌, ◌++◌, length, drop, set, get_or, insert, remove, slice_index_or, Vec, Global, refl, sym, ap, ◌∙◌, arith, length-take, length-set}
+use Rattle.std.proofs.Common.{◌≡◌, ℕ, ◌+◌, ◌-◌, ◌<◌, ◌≤◌, List, [], ◌∷◌, ◌++◌, length, take, drop, set, get_or, insert, remove, slice_index_or, Vec, Global, refl, sym, ap, ◌∙◌, arith, length-take, length-set}
 use Rattle.std.specs.List.{swap_remove}
 use Rattle.std.specs.declared.ops.Bound.TheVariants.{Included, Excluded}
 use Rattle.std.proofs.lemmas.List.{length_push}
@@ -14,7 +14,7 @@ use Rattle.tinyvec_script.specs.Step.{ArrayStep, ArrayDrains}
 use Rattle.tinyvec_script.proofs.DrivingLemmas.{driven_answered, splice_fits, splice_overflows}
 use Rattle.tinyvec_script.specs.declared.call.End.{End}
 use Rattle.tinyvec_script.specs.declared.call.Answer.{Answer}
-use Rattle.tinyvec_script.specs.declared.call.Call.TheVariants.{Push, Insert, Remove, SwapRemove, Splice}
+use Rattle.tinyvec_script.specs.declared.call.Call.TheVariants.{Push, Insert, Remove, SwapRemove, Truncate, Splice}
 use Rattle.tinyvec_script.specs.declared.call.Answer.TheVariants as answers
 
 module _ {T : Type 0} (D : T → Type 0) (capacity : ℕ) (old new : Slots T) where
@@ -42,6 +42,10 @@ module _ {T : Type 0} (D : T → Type 0) (capacity : ℕ) (old new : Slots T) wh
       let all = ap length is in
       let fewer : items_len old ≡ items_len new + 1 = omega arith in
       (slice_get_read (items old) _ i _ refl in_list value, is, slots_freed D old new 1 fewer frees)
+
+  pub truncates : (n : ℕ) → items new ≡ take n (items old) → Vacates D (items_len old - n) old new
+      → ArrayStep D capacity old (Truncate n) answers.Done new
+  truncates n is frees = (is, slots_freed D old new (items_len old - n) (omega (arith, ap length is, length-take n (items old))) frees)
 
   pub drains : (start end : ℕ) (given : List T) → start ≤ end → end ≤ items_len old
       → given ≡ removed (items old) (Included start) (Excluded end)

@@ -2,7 +2,7 @@ use Rattle.std.proofs.Common.{◌++◌, codes, refl, sym, ◌∙◌, subst, arit
 use Rattle.std.proofs.lemmas.Result.{on_ok_weaker}
 use Rattle.tinyvec_script.specs.Text.{answer_text, inline_text_text}
 use Rattle.tinyvec_script.specs.Spelled.{Spells}
-use Rattle.tinyvec_script.specs.Script.{Answered, text_of}
+use Rattle.tinyvec_script.specs.Script.{text_of}
 use Rattle.tinyvec_script.specs.Script.Answered.{done, memory, text_done, bad}
 use Rattle.tinyvec_script.specs.State.{state_of}
 use Rattle.tinyvec_script.specs.TextCalls.{call_of}

@@ -2,7 +2,7 @@ use Rattle.std.proofs.Common.{◌≤◌, ◌++◌, sym, ap, ◌∙◌, arith, ru
 use Rattle.std.specs.declared.ops.Bound.TheVariants.{Included, Excluded}
 use Rattle.tinyvec_slots.specs.Slots.{items, items_len}
 use Rattle.tinyvec_slots.specs.Cut.{removed}
-use Rattle.tinyvec_script.proofs.StepLemmas.{pushes, inserts, removes, swap_removes, drains, splices}
+use Rattle.tinyvec_script.proofs.StepLemmas.{pushes, inserts, removes, swap_removes, truncates, drains, splices}
 use Rattle.tinyvec_script.proofs.slots_step.answer_array.Goals as goal
 
 pub returns-in-Push : goal.returns-in-Push
@@ -28,6 +28,11 @@ returns-in-SwapRemove g c =
     let made = c.swap_remove.ensures in
     rw c.in-SwapRemove.is (swap_removes g.A.Item.Default.is_default g.A.Array.CAPACITY c.args.vec.now c.swap_remove.new.self c.in-SwapRemove.i
     c.swap_remove.result (omega arith) made.value made.items made.spare)
+
+pub returns-in-Truncate : goal.returns-in-Truncate
+returns-in-Truncate g c =
+    let made = c.truncate.ensures in
+    rw c.in-Truncate.is (truncates g.A.Item.Default.is_default g.A.Array.CAPACITY c.args.vec.now c.truncate.new.self c.in-Truncate.n made.items made.spare)
 
 pub returns-in-Drain : goal.returns-in-Drain
 returns-in-Drain g c =

@@ -5,7 +5,7 @@ use Rattle.tinyvec_slots.specs.Slots.{items, spare, items_len, all_slots}
 use Rattle.tinyvec_slots.specs.Cut.{removed}
 use Rattle.tinyvec_slots.proofs.SlotsLemmas.{slots_are}
 use Rattle.tinyvec_slice.specs.SliceVec.{seen_of}
-use Rattle.tinyvec_script.proofs.StepLemmas.{pushes, inserts, removes, swap_removes, drains}
+use Rattle.tinyvec_script.proofs.StepLemmas.{pushes, inserts, removes, swap_removes, truncates, drains}
 use Rattle.tinyvec_script.proofs.slots_step.answer_slice.Goals as goal
 
 pub returns-in-Push-clause-step : goal.returns-in-Push-clause-step
@@ -62,7 +62,10 @@ pub returns-then-is_full-2-clause-step : goal.returns-then-is_full-2-clause-step
 returns-then-is_full-2-clause-step g c = grind (arith, common_steps)
 
 pub returns-in-Truncate-clause-step : goal.returns-in-Truncate-clause-step
-returns-in-Truncate-clause-step g c = grind (arith, common_steps)
+returns-in-Truncate-clause-step g c =
+    let old = seen_of g.B.Lent c.args.vec.now in
+    let made = c.truncate.ensures in
+    rw c.in-Truncate.is (truncates g.B.Item.Default.is_default (length (all_slots old)) old (seen_of g.B.Lent c.truncate.new.self) c.in-Truncate.n made.items made.spare)
 
 pub drain_into-requires-clause-room : goal.drain_into-requires-clause-room
 drain_into-requires-clause-room g c = grind (arith, common_steps)

@@ -1,5 +1,7 @@
-use Rattle.std.proofs.Common.{◌≤◌, rules}
+use Rattle.std.proofs.Common.{◌≤◌, length, ap, ◌∙◌, rules}
+use Rattle.std.proofs.lemmas.List.Edits.{length-insert}
 use Rattle.tinyvec_slots.specs.Slots.{items_len}
+use Rattle.tinyvec.specs.TinyVec.{tiny_items}
 use Rattle.tinyvec.proofs.TinyLemmas.{slots_inserted}
 use Rattle.tinyvec.proofs.tiny_vec.TinyVec.insert.Goals as goal
 use Rattle.tinyvec.proofs.tiny_vec.TinyVec.insert.Goals.{in-Inline, in-Heap, in_default+else-is_err}
@@ -14,3 +16,9 @@ returns-clause-slots g c = elim c.match-self.branch [
   | in-Heap w ↦ rw w.in-Heap.is tt
   | in_default+else-is_err w ↦ search rules
 ]
+
+pub returns-clause-items : goal.returns-clause-items
+returns-clause-items g c = search rules
+
+pub returns-clause-len : goal.returns-clause-len
+returns-clause-len g c = ap length (returns-clause-items g c) ∙ length-insert (tiny_items c.args.self.now) c.args.i c.args.x c.requires
