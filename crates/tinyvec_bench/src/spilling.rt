@@ -34,12 +34,12 @@ impl<const N: usize> Bench<Spill> for SpillBench<'_, N> {
         let twice = count.saturating_add(count);
         match benchmark {
             Spill::Push => push::<N>(self.alloc, &self.other, twice, x),
-            Spill::ExtendFromSlice => extend_from_slice(self.alloc, self.source, x),
+            Spill::ExtendFromSlice => extend_from_slice(self.alloc, &self.other, self.source, x),
             Spill::ExtendFromRange => extend_from_range::<N>(self.alloc, &self.other, twice, x),
             Spill::Append => append(self.alloc, &mut self.other, self.source, x),
-            Spill::InsertFront => insert(self.alloc, self.source, 0, x),
-            Spill::InsertMiddle => insert(self.alloc, self.source, N / 2, x),
-            Spill::Resize => resize(self.alloc, self.source, N.saturating_add(N), x),
+            Spill::InsertFront => insert(self.alloc, &self.other, self.source, 0, x),
+            Spill::InsertMiddle => insert(self.alloc, &self.other, self.source, N / 2, x),
+            Spill::Resize => resize(self.alloc, &self.other, self.source, N.saturating_add(N), x),
         }
     }
 }
@@ -75,9 +75,16 @@ pub fn push<const N: usize>(alloc: Global, _like: &TinyVec<[u64; N]>, count: u64
     look_at(vec.as_slice(), x)
 }
 
-// Puts a number in at `i`, where the array is full.
+// Puts a number in at `i`, where the array is full. `_like`, here and below, tells the proof of the same row over another
+// vector that such a list fits in memory.
 #[inline(never)]
-fn insert<const N: usize>(alloc: Global, source: &[u64; N], i: usize, x: u64) -> u64 {
+fn insert<const N: usize>(
+    alloc: Global,
+    _like: &TinyVec<[u64; N]>,
+    source: &[u64; N],
+    i: usize,
+    x: u64,
+) -> u64 {
     let Ok(mut vec) = filled(alloc, source) else {
         return 0;
     };
@@ -89,7 +96,12 @@ fn insert<const N: usize>(alloc: Global, source: &[u64; N], i: usize, x: u64) ->
 
 // Adds `source` twice, each time by one copy.
 #[inline(never)]
-fn extend_from_slice<const N: usize>(alloc: Global, source: &[u64; N], x: u64) -> u64 {
+fn extend_from_slice<const N: usize>(
+    alloc: Global,
+    _like: &TinyVec<[u64; N]>,
+    source: &[u64; N],
+    x: u64,
+) -> u64 {
     let Ok(mut vec) = filled(alloc, source) else {
         return 0;
     };
@@ -134,7 +146,13 @@ fn append<const N: usize>(
 
 // Makes a full list as long as `len`.
 #[inline(never)]
-fn resize<const N: usize>(alloc: Global, source: &[u64; N], len: usize, x: u64) -> u64 {
+fn resize<const N: usize>(
+    alloc: Global,
+    _like: &TinyVec<[u64; N]>,
+    source: &[u64; N],
+    len: usize,
+    x: u64,
+) -> u64 {
     let Ok(mut vec) = filled(alloc, source) else {
         return 0;
     };
