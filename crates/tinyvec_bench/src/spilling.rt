@@ -21,25 +21,31 @@ pub enum Spill {
 
 /// What the lists are filled with, and one that is appended.
 #[derive(Drop)]
-pub struct SpillBench<'a, const N: usize> {
+pub struct SpillBench<const N: usize> {
     pub alloc: Global,
     pub other: TinyVec<[u64; N]>,
-    pub source: &'a [u64; N],
+    pub source: [u64; N],
 }
 
-impl<const N: usize> Bench<Spill> for SpillBench<'_, N> {
+impl<const N: usize> Bench<Spill> for SpillBench<N> {
     #[inline(always)]
     fn round(&mut self, benchmark: Spill, x: u64) -> u64 {
         let count = N as u64;
         let twice = count.saturating_add(count);
         match benchmark {
             Spill::Push => push::<N>(self.alloc, &self.other, twice, x),
-            Spill::ExtendFromSlice => extend_from_slice(self.alloc, &self.other, self.source, x),
+            Spill::ExtendFromSlice => extend_from_slice(self.alloc, &self.other, &self.source, x),
             Spill::ExtendFromRange => extend_from_range::<N>(self.alloc, &self.other, twice, x),
-            Spill::Append => append(self.alloc, &mut self.other, self.source, x),
-            Spill::InsertFront => insert(self.alloc, &self.other, self.source, 0, x),
-            Spill::InsertMiddle => insert(self.alloc, &self.other, self.source, N / 2, x),
-            Spill::Resize => resize(self.alloc, &self.other, self.source, N.saturating_add(N), x),
+            Spill::Append => append(self.alloc, &mut self.other, &self.source, x),
+            Spill::InsertFront => insert(self.alloc, &self.other, &self.source, 0, x),
+            Spill::InsertMiddle => insert(self.alloc, &self.other, &self.source, N / 2, x),
+            Spill::Resize => resize(
+                self.alloc,
+                &self.other,
+                &self.source,
+                N.saturating_add(N),
+                x,
+            ),
         }
     }
 }
@@ -52,7 +58,7 @@ pub fn of_spilling<R: Runtime, const N: usize>(report: &mut Report<'_, R>, alloc
     let mut list = SpillBench {
         alloc,
         other: TinyVec::new(alloc),
-        source: &source,
+        source,
     };
     report.run("push", N, Spill::Push, &mut list);
     report.run("extend_from_slice", N, Spill::ExtendFromSlice, &mut list);

@@ -35,11 +35,11 @@ impl<V: Words<N>, const N: usize> Bench<Share> for ListBench<'_, u64, V, N> {
 #[derive(Clone, Copy)]
 struct SpliceMore;
 
-impl<const N: usize> Bench<SpliceMore> for SpillBench<'_, N> {
+impl<const N: usize> Bench<SpliceMore> for SpillBench<N> {
     #[inline(always)]
     fn round(&mut self, _benchmark: SpliceMore, x: u64) -> u64 {
         let count = N as u64;
-        splice_more(self.alloc, self.source, count.saturating_add(count / 4), x)
+        splice_more(self.alloc, &self.source, count.saturating_add(count / 4), x)
     }
 }
 
@@ -72,7 +72,7 @@ pub fn of_spilling_splices<R: Runtime, const N: usize>(report: &mut Report<'_, R
     let mut list = SpillBench {
         alloc,
         other: TinyVec::new(alloc),
-        source: &source,
+        source,
     };
     report.run("splice_more", N, SpliceMore, &mut list);
 }
