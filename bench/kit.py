@@ -24,7 +24,7 @@ INLINE = CLEARED | {
     r"self\.splice\(.*\)": "false",
     r"ArrayVec::dedup\(self\);": "",
     r"(ArrayVec|TinyVec|\$vec)(::)?<\[([$\w]+); (\w+)\]>": r"\1\2<\3, \4>",
-    # Only its `len` says that a list fits.
+    # Its `len` says that a list fits, these three calls do not.
     r"( +)(self\.(?:pop\(\)|remove\(i\)|swap_remove\(i\))\n)": r"\1let _len = self.len();\n\1\2",
     r"\btinyvec_array::": "arrayvec::",
     r"(capacity\(\) (&&|\|\|) \w+\.)extend_from_slice": r"\1try_extend_from_slice",
