@@ -1,10 +1,11 @@
 -- Lemmas on lists of clones. C is the `is_clone` of an item's `Clone`.
 use Rattle.std.proofs.Common.{◌≡◌, ℕ, Result, Ok, Err, ◌+◌, ◌-◌, ◌<◌, List, [], ◌∷◌, ◌++◌, length, take, drop, get_or, replicate, refl, sym, ap, subst, ◌∙◌, append_assoc, arith, length-append, length-drop, drop_at, take_all, take-append-drop}
 use Rattle.std.proofs.Math.Seq.{take-add}
-use Rattle.std.proofs.lemmas.List.{take_more, take_rest, replicate_more}
+use Rattle.std.proofs.lemmas.List.{take_more, take_rest, replicate_more, get_or_default}
 use Rattle.std.proofs.lemmas.List.Elements.{AllZip-push, length_all_zip}
 use Rattle.std.specs.Prelude.{OnOk, OnErr, if◌then◌else◌, is_ok}
 use Rattle.std.specs.List.{AllZip, AppendsClones}
+use Rattle.tinyvec_slots.specs.Clones.{RefusedAt}
 use Rattle.tinyvec_slots.specs.Slots.{Slots, items, items_len, spare, all_slots}
 use Rattle.tinyvec_slots.proofs.SlotsLemmas.{slots_are}
 use Rattle.tinyvec_slots.proofs.ClonesOverLemmas.{AllZip-drop, AllZip-join}
@@ -20,10 +21,10 @@ module _ {T : Type 0} (C : T → T → Type 0) where
       )
 
   -- one more of the elements of a list
-  pub appends_of_next : (old new from : List T) (i : ℕ) (x y : T) → i < length from → x ≡ get_or from i x → C x y
-      → AppendsClones C old new (take i from) → AppendsClones C old (new ++ y ∷ []) (take (i + 1) from)
-  appends_of_next old new from i x y lt is =
-      appends_next old new (take i from) (take (i + 1) from) x y (ap (λ z. take i from ++ z ∷ []) is ∙ sym (take_more from i x lt))
+  pub appends_of_next : (old new from : List T) (i n : ℕ) (x y : T) → i < length from → n ≡ i + 1 → x ≡ get_or from i x → C x y
+      → AppendsClones C old new (take i from) → AppendsClones C old (new ++ y ∷ []) (take n from)
+  appends_of_next old new from i n x y lt next is =
+      appends_next old new (take i from) (take n from) x y (ap (λ z. take i from ++ z ∷ []) is ∙ sym (take_more from i x lt) ∙ ap (λ k. take k from) (sym next))
 
   -- one more of one value
   pub appends_copy : (old new : List T) (i : ℕ) (x y : T) → C x y
@@ -55,6 +56,10 @@ module _ {T : Type 0} (C : T → T → Type 0) where
       let behind : drop k (all_slots v) ≡ spare v = ap (drop k) (slots_are v) ∙ drop_at (items v) (spare v) k refl in
       let behind_clones : drop k (all_slots w) ≡ spare w = ap (drop k) (slots_are w) ∙ drop_at (items w) (spare w) k long in
       subst (λ l. AllZip C l (spare w)) behind (subst (AllZip C (drop k (all_slots v))) behind_clones (AllZip-drop C k (all_slots v) (all_slots w) h))
+
+-- the clone of the element at i was refused
+pub refused_at : {T : Type 0} (I : T → Type 0) (from : List T) (i : ℕ) (x : T) → i < length from → x ≡ get_or from i x → (I x → ⊥) → (j : ℕ) × RefusedAt I from j
+refused_at I from i x lt is refused = (i, (lt, λ d sure. refused (subst I (get_or_default from i d x lt ∙ sym is) sure)))
 
 -- what a value is after each outcome of a call, said at once
 pub chosen : {T E A : Type 0} (r : Result T E) {x : A} (y z : A) → OnOk r (x ≡ y) → OnErr r (x ≡ z) → x ≡ (if is_ok r then y else z)

@@ -20,18 +20,62 @@ pub(crate) fn push_clones<T: Clone>(heap: &mut Vec<T>, from: &[T]) -> Result<(),
 {
     let mut vec = mem::replace(heap, Vec::new(*heap.allocator()));
     let len = vec.len();
-    for i in 0..from.len() {
-        match from[i].clone() {
-            Ok(x) => vec.push_reserved(x),
-            Err(error) => {
-                vec.truncate(len);
-                *heap = vec;
-                return Err(error);
-            }
-        }
+    let pushed = push_until_refused(&mut vec, from);
+    if pushed < from.len() {
+        vec.truncate(len);
+        *heap = vec;
+        return Err(AllocError);
     }
     *heap = vec;
     Ok(())
+}
+
+// Appends clones until one fails, where there is room. Returns how many of `from` were cloned.
+#[inline(always)]
+fn push_until_refused<T: Clone>(vec: &mut Vec<T>, from: &[T]) -> usize
+    requires room { vec_len vec.old + length from.now ≤ vec_capacity vec.old }
+    ensures within { result ≤ length from.now }
+    ensures items { AppendsClones T.is_clone vec.old.items vec.new.items (take result from.now) }
+    ensures refused { result < length from.now → (j : ℕ) × RefusedAt T.is_infallible from.now j }
+    ensures capacity { vec_capacity vec.new ≡ vec_capacity vec.old }
+{
+    let mut done = 0;
+    // Four are read before one is written, so LLVM moves them in registers. Smaller items it moves in longer blocks itself.
+    while 4 <= from.len() - done && fit_registers(from) {
+        let Ok(first) = from[done].clone() else {
+            return done;
+        };
+        let Ok(second) = from[done + 1].clone() else {
+            return done;
+        };
+        let Ok(third) = from[done + 2].clone() else {
+            return done;
+        };
+        let Ok(fourth) = from[done + 3].clone() else {
+            return done;
+        };
+        vec.push_reserved(first);
+        vec.push_reserved(second);
+        vec.push_reserved(third);
+        vec.push_reserved(fourth);
+        done += 4;
+    }
+    for i in done..from.len() {
+        let Ok(x) = from[i].clone() else {
+            return i;
+        };
+        vec.push_reserved(x);
+    }
+    from.len()
+}
+
+// Whether an item takes 4 to 16 bytes.
+#[inline(always)]
+fn fit_registers<T>(items: &[T]) -> bool
+    requires some { 0 < length items.now }
+{
+    let size = items[..1].len() * mem::size_of::<T>();
+    4 <= size && size <= 16
 }
 
 // Appends `n` clones of `x`, where there is room.
