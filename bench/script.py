@@ -47,17 +47,13 @@ def grow(lengths):
     return micros, peaks
 
 
-def commands_of(programs):
-    return {"tv": [programs.tv], "plain Rust": [programs.peers, "script"]}
-
-
 def times_of(run, script, answers, runs):
     """The median seconds of each program."""
-    times = {name: [] for name in commands}
+    times = {name: [] for name in COMMANDS}
     for turn in range(runs):
-        names = list(commands)
+        names = list(COMMANDS)
         for name in names if turn % 2 == 0 else names[::-1]:
-            times[name].append(run(commands[name], script, answers))
+            times[name].append(run(COMMANDS[name], script, answers))
     return {name: statistics.median(taken) for name, taken in times.items()}
 
 
