@@ -80,10 +80,11 @@ module _ {A T X E : Type 0} where
     pub place : OnOk result (is_inline new ≡ false)
     pub room : OnOk result (tiny_len old + n ≤ tiny_capacity slots new)
     pub fits : tiny_len new ≤ tiny_capacity slots new
-    -- A list that moves has room for no further items. On the heap no room is lost, and where there is room it allocates
-    -- nothing and nothing changes. Nor does it on failure.
+    -- A list that moves has room for no further items. On the heap no room is lost, and one that grows does as by `reserve`;
+    -- where there is room it allocates nothing and nothing changes. Nor does it on failure.
     pub moved : IsInline old → OnOk result (tiny_capacity slots new ≡ tiny_len old + n)
     pub keeps_room : is_inline old ≡ false → tiny_capacity slots old ≤ tiny_capacity slots new
+    pub grown : is_inline old ≡ false → OnOk result (GrowsFor slots (tiny_len old + n) old new)
     pub kept : is_inline old ≡ false → tiny_len old + n ≤ tiny_capacity slots old → new ≡ old
     pub succeeds : is_inline old ≡ false → tiny_len old + n ≤ tiny_capacity slots old → IsOk result
     pub succeeds_empty : tiny_len old + n ≡ 0 → IsOk result

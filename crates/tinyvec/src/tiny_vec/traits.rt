@@ -1,5 +1,5 @@
 //! Comparisons, hashes, texts, writers, indexing and iteration.
-ghost use Rattle.std.specs.Prelude.{◌≡◌, ◌<◌, slice_index_or, ◌^◌, List, length, true, false, ◌+◌, ◌≤◌, Some, IfOk, IsOk, OnOk, OnErr};
+ghost use Rattle.std.specs.Prelude.{◌≡◌, ◌<◌, slice_index_or, ◌^◌, List, length, true, false, ◌+◌, ◌≤◌, Some, IfOk, IfErr, IsOk, OnOk, OnErr};
 ghost use Rattle.std.specs.Borrow.{sem};
 ghost use Rattle.tinyvec.specs.TinyVec.{tiny_items, tiny_len, tiny_capacity, PlaceRule, TinySlotRule, Unchanged};
 ghost use Rattle.std.specs.Slice.Iter.{iter_rest, iter_mut_rest, iter_steps, iter_mut_steps};
@@ -12,6 +12,8 @@ ghost use Rattle.std.specs.Hash.{on_Alike, items_Alike};
 ghost use Rattle.std.specs.Fmt.{DisplaysOnOk, debug_list};
 ghost use Rattle.tinyvec_slots.specs.Texts.{list_in_radix};
 ghost use Rattle.std.specs.Io.{WritesAtMost};
+ghost use Rattle.std.specs.IoError.{error_kind};
+ghost use Rattle.std.specs.declared.io.ErrorKind.TheVariants.{OutOfMemory};
 ghost use Rattle.std.specs.Io.KnownBytes.{Keeps, WriteAppends};
 ghost use Rattle.tinyvec.specs.Room.{GrowsFor, RoomGrows};
 ghost use Rattle.std.specs.Hash as fed;
@@ -276,6 +278,7 @@ impl<A: Array<Item = u8>> io::Write for TinyVec<A> {
         ensures succeeds { tiny_len self.old + length buf.now ≤ tiny_capacity A.CAPACITY self.old → IsOk result }
         ensures room { RoomGrows GrowsFor A.CAPACITY (tiny_len self.old + length buf.now) self.old self.new result }
         ensures refused { OnErr result (Unchanged self.old self.new) }
+        ensures kind { IfErr result (λ e. error_kind e ≡ OutOfMemory) }
     {
         self.extend_from_slice(buf)?;
         Ok(buf.len())
