@@ -6,8 +6,8 @@ use Rattle.std.proofs.lemmas.List.Elements.{All-append, All-drop}
 use Rattle.std.proofs.lemmas.Str.{IsUtf8-had}
 use Rattle.tinyvec_slots.specs.Clones.{RefusedAt}
 use Rattle.tinyvec_slots.specs.Slots.{AreDefaults}
-use Rattle.tinyvec.proofs.TinyLemmas.{capacity_inline}
-use Rattle.tinyvec.specs.TinyVec.{tiny_items, tiny_len, tiny_spare, tiny_capacity, is_inline, IsInline, PlaceRule, TinySlotRule, StaysInPlace, Unchanged}
+use Rattle.tinyvec.proofs.TinyLemmas.{capacity_inline, tiny_slots_framed}
+use Rattle.tinyvec.specs.TinyVec.{tiny_items, tiny_len, tiny_spare, tiny_capacity, is_inline, IsInline, PlaceRule, TinySlotRule, SameFrame, StaysInPlace, Unchanged}
 use Rattle.tinyvec.specs.Refused.{RefusedFor}
 use Rattle.tinyvec.specs.Room.{GrowsFor, RoomGrows}
 use Rattle.tinyvec.specs.declared.tiny_vec.TinyVec.{TinyVec}
@@ -88,6 +88,12 @@ module _ {A : Type 0} where
   pub text_stays : (slots : ℕ) (old new : TinyVec A ℕ) → StaysInPlace (λ b. b ≡ 0) slots old new
       → IsText old → IsUtf8 (tiny_items new) → IsText new
   text_stays slots old new frame = text_kept old new (λ i. subst IsTrue frame.place i) frame.slot_rule
+
+  -- the same of a call that first wrote over the bytes
+  pub text_rewritten : (slots : ℕ) (old mid new : TinyVec A ℕ) → SameFrame old mid → StaysInPlace (λ b. b ≡ 0) slots mid new
+      → IsText old → IsUtf8 (tiny_items new) → IsText new
+  text_rewritten slots old mid new frame stays =
+      text_kept old new (λ i. subst IsTrue (stays.place ∙ frame.place) i) (tiny_slots_framed (λ b. b ≡ 0) old mid new frame stays.slot_rule)
 
   pub text_same : (old new : TinyVec A ℕ) → Unchanged old new → IsText old → IsText new
   text_same old new h is = (subst (λ bs. ∥ IsUtf8 bs ∥₁) (sym h.items) is.0, subst (All (λ b. b ≡ 0)) (sym h.spare) is.1)

@@ -251,7 +251,7 @@ fn is_split_point(bytes: &[u8], i: usize) -> bool
 }
 
 // The first character, and how many bytes it takes. No more than its own bytes are read.
-fn first_char(bytes: &[u8]) -> (char, usize)
+pub(crate) fn first_char(bytes: &[u8]) -> (char, usize)
     requires some { 0 < length bytes.now }
     requires utf8 { IsUtf8 bytes.now }
     ensures encoded { take result.1 bytes.now ≡ encode_utf8 result.0 }
