@@ -48,10 +48,10 @@ class Libraries:
 
     def add(self, crate):
         """Takes a library as its files are now, and builds it first where it is not. Returns what is wrong."""
-        built, held = library(crate), self.folder / f"{crate.name}.rlib"
+        built, held = crate.format.parent, self.folder / f"{crate.name}.rlib"
         if held.is_dir():
             return None
-        said = None if is_from_gate(crate) else Said(run(["rt", "lib"], crate.folder))
+        said = None if crate.has_library() and crate.is_built() else Said(run(["rt", "lib"], crate.folder))
         if not built.is_dir():
             return said
         link(built, held)
@@ -111,16 +111,6 @@ def link_file(source, target):
         os.link(source, target)
     except OSError:
         shutil.copyfile(source, target)
-
-
-def library(crate):
-    return crate.out / f"rlib/{crate.name}.rlib"
-
-
-def is_from_gate(crate):
-    """Whether the gate built the library, and no source has changed since. What `rt lib` builds has a stamp, and it knows
-    whether that is as its files are now. The gate leaves none, so `rt lib` would prove all again."""
-    return not (crate.out / "rlib/stamp").exists() and crate.is_newer(library(crate))
 
 
 class Stopped(Exception):
