@@ -108,13 +108,13 @@ class Crate:
         return is_made and text_of(self.out / "built") == self.record()
 
     def fits(self):
-        """Whether the library can be used beside those below as they are built now: one of `rt ci` holds only statements, and
-        is refused beside other builds than those that it was proved over."""
+        """Whether the library can be used beside those below as they are built now: one of `rt ci` holds only statements,
+        and is refused beside other builds than those that it was proved over."""
         over = dict(OVER.findall(text_of(self.format)))
         return all(over[it.name] == it.build() for it in self.below if it.name in over)
 
     def has_library(self):
-        """Whether there is a library to begin with. One that does not fit loses its mark, by which rt would take it as it is."""
+        """Whether there is a library to begin with. One that does not fit loses its mark, by which rt would take it."""
         if not self.fits():
             (self.out / self.mark).unlink(missing_ok=True)
         return self.fits() and (self.out / "rlib").is_dir()

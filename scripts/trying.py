@@ -1,5 +1,5 @@
-"""Has `rt try` answer for a program that is still to be built: it interprets the sources, also compiles them with checks, and
-proves nothing. The program that it compiled is kept, and answers later inputs as long as the sources are the same.
+"""Has `rt try` answer for a program that is still to be built: it interprets the sources, also compiles them with checks,
+and proves nothing. The program that it compiled is kept, and answers later inputs as long as the sources are the same.
 """
 import contextlib
 import fcntl
@@ -172,8 +172,8 @@ def keep(crate, program):
 
 @contextlib.contextmanager
 def keeping_kit(crate):
-    """The command `rt` of a kit that is made of links, but for a linker that leaves the program in a file, and that file. It is
-    rt itself and no file where the kit has no such linker."""
+    """The command `rt` of a kit that is made of links, but for a linker that leaves the program in a file, and that file.
+    It is rt itself and no file where the kit has no such linker."""
     kit = pathlib.Path(shutil.which("rt")).resolve().parent.parent
     own = ("bin", "toolchain", "toolchain/bin")
     linker = kit / "toolchain/bin/ld.lld"
