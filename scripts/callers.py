@@ -82,7 +82,7 @@ class Known:
         if export.kind == "method":
             self.types.add(export.of)
             self.returns[(export.of, export.name)] = self.answer(export.item, export.of)
-        elif export.kind == "impl":
+        elif export.kind == "impl" and not export.of.startswith("&"):
             of = self.type_named(export.of)
             for it in (it for it in export.item.members() if it.kind == "fn"):
                 self.returns.setdefault((of, it.name), self.answer(it, of))

@@ -60,7 +60,7 @@ PROOFS = re.compile(
     r"ghost (?:use\b|(?:coded|inverse|inverse_ok|laws|total|matches_\w+|respects_eq|kept_\w+|grown_\w+|cut_grown|moved|written"
     r"|part_written|slots_written|name_kept|slots_of_slots|of_slots_slots|code|spelled|apart)\b)"
 )
-NAMES = re.compile(r"(\w+)(?:::|: )(\{[^}]*\}|\w+)")
+NAMES = re.compile(r"(\w+)(::|: )(\{[^}]*\}|\w+!?)")
 
 
 def main():
@@ -153,12 +153,12 @@ def notes():
     """What the last column of the table of differences ties to a type and a call: `TinyVec::{extend, fill}`, `ArrayVec: Clone`."""
     found = {}
     for row in (TOP / "docs/DIFFERENCES.md").read_text(encoding="utf-8").splitlines():
-        cells = [it.strip() for it in row.strip("| ").split(" | ")]
-        if row.startswith("| ") and len(cells) == 3 and cells[2] != "Of":
-            for of, names in NAMES.findall(cells[2].replace("`", "")):
-                mark = ": " if f"{of}: " in cells[2] else "::"
-                for name in re.findall(r"\w+!?", names):
-                    found.setdefault(f"{of}{mark}{name}", []).append(f"In Rust: {cells[0]}. Here: {cells[1]}.")
+        cells = [it.strip() for it in row.strip("|").split(" | ")]
+        for of, mark, names in NAMES.findall(cells[2].replace("`", "")) if row.startswith("| ") and len(cells) == 3 else ():
+            for name in re.findall(r"\w+!?", names):
+                # A macro is of no type.
+                key = name if name.endswith("!") else of + mark + name
+                found.setdefault(key, []).append(f"In Rust: {cells[0]}. Here: {cells[1]}.")
     return found
 
 
