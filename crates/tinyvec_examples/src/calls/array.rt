@@ -186,7 +186,7 @@ pub fn count_of_zeros(v: &ArrayVec<[u8; 8]>) -> usize {
     v.iter().filter(|x| **x == 0).count()
 }
 
-/// The first items, as many as fit.
+/// The first items, as many as there is room for.
 pub fn first_four(numbers: ArrayVec<[u32; 8]>) -> ArrayVec<[u32; 4]>
     ensures { items result ≡ take 4 (items numbers) }
 {
