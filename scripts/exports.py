@@ -250,3 +250,32 @@ def shortened(type_, aliases=()):
     # The arguments of `From` and the like tell impls of one type apart; those of a type do not.
     shows = arguments and head in ("From", "TryFrom", "PartialEq", "PartialOrd", "ItemText", "Index", "Borrow", "AsRef")
     return reference + head + (f"<{arguments[1]}>" if shows else "")
+
+
+GHOST_USE = re.compile(r"(?:ghost )?use Rattle\.([\w.]+)\.\{([^}]*)\}")
+PASSED_ON = re.compile(r"^pub use Rattle\.([\w.]+)$", re.M)
+
+
+def imported(text):
+    """The words that a source or a proof imports, each with its path and the name that it has there."""
+    found = {}
+    for path, names in GHOST_USE.findall(text):
+        for name in (it.strip() for it in names.split(",")):
+            found[name.split(" as ")[-1]] = (home(path), name.split(" as ")[0])
+    return found
+
+
+def home(path):
+    """The crate and the file that define the words of a path: a crate passes some on that are defined below it."""
+    crate, _, rest = path.partition(".specs.")
+    lib = TOP / "crates" / crate / "specs/Lib.antt"
+    if rest and lib.is_file() and not (lib.parent / f"{rest}.antt").is_file():
+        for it in PASSED_ON.findall(lib.read_text(encoding="utf-8")):
+            if it.endswith(f".{rest}"):
+                return home(it)
+    return path
+
+
+def word_anchor(path, name):
+    """What a link names a word on the page of words by. std's are named by their name alone."""
+    return f"std-{name}" if path.startswith("std.") else path.replace(".specs.", "-") + f"-{name}"

@@ -36,6 +36,9 @@ COLUMNS = ("ARRAY_VEC", "SLICE_VEC", "TINY_VEC", "INLINE_TEXT")
 # the script by `run`.
 UNCALLED = ("COUNTED", "SCRIPT")
 
+# A caller of more lines than this is named, and not shown.
+LONGEST = 9
+
 # What a reader looks for first. Other files follow by name, and traits and further types at the end.
 FIRST = ("making", "edits", "extending", "drain", "splice", "filters", "capacity", "reading", "writing", "taking")
 TITLES = {
@@ -60,6 +63,7 @@ PROOFS = re.compile(
     r"ghost (?:use\b|(?:coded|inverse|inverse_ok|laws|total|matches_\w+|respects_eq|kept_\w+|grown_\w+|cut_grown|moved|written"
     r"|part_written|slots_written|name_kept|slots_of_slots|of_slots_slots|code|spelled|apart)\b)"
 )
+NO_WORDS = re.compile(r"\.declared\.|\.proofs\.|^std\.specs\.Prelude$")
 NAMES = re.compile(r"(\w+)(::|: )(\{[^}]*\}|\w+!?)")
 
 
@@ -200,6 +204,12 @@ class Entry(exports.Export):
         signature = self.item.signature()
         return "reading" if "&self" in signature else "writing" if "&mut self" in signature else "taking"
 
+    def words(self):
+        """The words that its contract cites, with the path that defines each, but for operators, variants, proofs and std's prelude."""
+        known = exports.imported(self.source.file.read_text(encoding="utf-8"))
+        cited = (known[it] for it in dict.fromkeys(re.findall(r"[^\s(){}.,;:\[\]]+", self.code())) if it in known)
+        return [it for it in cited if re.fullmatch(r"[\w-]+", it[1]) and not NO_WORDS.search(it[0])]
+
     def prose(self):
         yield from paragraphs(self.item.comment)
         for it in self.item.members() if self.item.kind in ("impl", "trait") else ():
@@ -255,6 +265,7 @@ class Page:
 
     def __init__(self, library, name):
         self.library, self.entries, self.shown, self.noted = library, library.pages[name], {}, {}
+        self.codes = {}
         self.main = main_of(name)
         self.sections = {}
         for it in self.entries:
@@ -274,12 +285,16 @@ class Page:
         return TITLES.get(section) or self.sections[section][0].source.title.replace("`", "")
 
     def text(self):
-        rows, below = [], []
+        rows, below, cited = [], [], {}
         for section in self.order:
             found = self.sections[section]
             links = ", ".join(f"[`{it.trait or it.heading(self.main).strip('`')}`](#{it.anchor(self.main)})" for it in found if not it.is_part)
             rows.append(f"| [{self.title(section)}](#{anchor(self.title(section))}) | {links} |\n")
             below.append(f"\n## {self.title(section)}\n")
+            # Each word has a link in the first section that cites it.
+            words = [word for it in found if not it.is_part for word in it.words() if cited.setdefault(word, section) == section]
+            links = ", ".join(f"[`{name}`](WORDS.md#{exports.word_anchor(path, name)})" for path, name in sorted(set(words), key=lambda it: it[1].lower()))
+            below += [f"\nWords: {links}.\n"] if words else []
             below += self.parts(found) if section == "parts" else [line for it in found for line in self.entry(it)]
         return "\n\n| | |\n|---|---|\n" + "".join(rows + below)
 
@@ -293,14 +308,21 @@ class Page:
     def entry(self, it):
         yield f"\n### {it.heading(self.main)}\n"
         yield from (f"\n{said}\n" for said in it.prose())
-        yield f"\n```\n{it.code()}\n```\n"
+        # A call and its `try_` form have one contract.
+        twin = self.codes.setdefault(re.sub(rf"\b{it.name}\b", "", it.code()), it) if it.kind in ("method", "fn") else it
+        if twin is it:
+            yield f"\n```\n{it.code()}\n```\n"
+        else:
+            yield f"\nIts contract is that of [`{twin.name}`](#{twin.anchor(self.main)}).\n"
         for note in self.library.notes.get(it.key(), []):
             first = self.noted.setdefault(note, it)
             yield f"\n{note}\n" if first is it else f"\nIn Rust: as of [`{first.name}`](#{first.anchor(self.main)}).\n"
         caller = self.library.callers.get(it.key()) if is_call(it.key()) else None
         if caller:
             first = self.shown.setdefault(caller.text, it)
-            if first is it:
+            if caller.text.count("\n") > LONGEST:
+                yield f"\nA caller: `{caller.name}`, in [`{caller.path}`](../../{caller.path}).\n"
+            elif first is it:
                 yield f"\nA caller, in [`{caller.path}`](../../{caller.path}):\n\n```\n{caller.text}\n```\n"
             else:
                 yield f"\nA caller: `{caller.name}`, at [`{first.name}`](#{first.anchor(self.main)}).\n"

@@ -1,6 +1,5 @@
 -- Examples of a drain of `[1, 2, 3, 4] [0]` over 1..3, from which nothing was taken.
-use Rattle.std.proofs.Common.{◌≡◌, ℕ, [], ◌∷◌, ◌++◌, Some, refl, rules, arith}
-use Rattle.tinyvec_slots.specs.Slots.{Slots}
+use Rattle.std.proofs.Common.{◌≡◌, ℕ, [], ◌∷◌, ◌++◌, Some, refl, rules}
 use Rattle.tinyvec_slots.specs.Ends.{Asks, TakesFromEnds, front, back}
 use Rattle.tinyvec_array.specs.declared.drain.ArrayVecDrain.{ArrayVecDrain}
 use Rattle.tinyvec_array.specs.Drain.{drain_items, drain_len, drain_kept, drain_count, drain_spare, drain_owner, DrainCanStep, DrainLeaves, DrainSteps, DrainStepsBack, DrainsFromEnds}

@@ -1,8 +1,7 @@
 -- Examples of a splice s of `[1, 2, 3, 4] [0]` over 1..3, from which nothing was taken, and of one t that a call leaves.
-use Rattle.std.proofs.Common.{◌≡◌, ℕ, ◌≤◌, List, [], ◌∷◌, ◌++◌, Option, Some, refl, rules, arith}
+use Rattle.std.proofs.Common.{◌≡◌, ℕ, ◌≤◌, List, [], ◌∷◌, ◌++◌, Option, Some, refl, rules}
 use Rattle.std.specs.declared.iter.Fuse.{Fuse}
 use Rattle.tinyvec_slots.specs.Touches.{touch_count}
-use Rattle.tinyvec_slots.specs.AnySplice.{SpliceView}
 use Rattle.tinyvec_array.specs.declared.splice.ArrayVecSplice.{ArrayVecSplice}
 use Rattle.tinyvec_array.specs.Splice.{splice_view, splice_front, splice_left, splice_len, splice_back, splice_replacement, splice_touches, splice_slots, splice_lender, SpliceCanStep, SpliceCanNext, SpliceSteps, SpliceStepsBack}
 use Rattle.tinyvec_words.proofs.Shown.{over}

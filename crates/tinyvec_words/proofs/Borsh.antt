@@ -1,11 +1,9 @@
 -- Examples of the Borsh form, of contents that are bytes: each spells itself. Inputs are cut if they have no byte.
 use Rattle.std.proofs.Common.{◌≡◌, ℕ, ◌<◌, List, [], ◌∷◌, Some, None, inl, refl, rules, arith}
-use Rattle.tinyvec_borsh.specs.Items.{SpellsItems, SpellsList, ListFits, InItem, AfterItems, IsListCut, IsListTooLong, CountsAbove, HasItems, IsCount}
+use Rattle.tinyvec_borsh.specs.Items.{SpellsItems, SpellsList, ListFits, InItem, AfterItems, IsListCut, IsListTooLong, CountsAbove}
 use Rattle.tinyvec_borsh.specs.Reading.{Takes, Fails, LeavesRest}
 use Rattle.tinyvec_borsh.specs.Writing.{Adds}
-use Rattle.tinyvec_borsh.specs.Parts.{HasParts}
-use Rattle.tinyvec_borsh.specs.declared.borsh_error.BorshError.TheVariants.{Ended, Io}
-use Rattle.tinyvec_words.proofs.Shown.{nums}
+use Rattle.tinyvec_borsh.specs.declared.borsh_error.BorshError.TheVariants.{Ended}
 
 -- a byte spells itself
 abbrev pub Spells : ℕ → List ℕ → Type 0

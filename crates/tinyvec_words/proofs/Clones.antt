@@ -1,5 +1,5 @@
 -- Examples of clones, one of which was refused.
-use Rattle.std.proofs.Common.{◌≡◌, ℕ, [], ◌∷◌, refl, rules, arith}
+use Rattle.std.proofs.Common.{[], ◌∷◌, refl, rules, arith}
 use Rattle.std.specs.Prelude.{⊤}
 use Rattle.tinyvec_slots.specs.Clones.{ClonesAreEqual, RefusedAt, ClonesOver, ClonesBefore, ClonesInPart}
 use Rattle.tinyvec_words.proofs.Shown.{D, C, I}

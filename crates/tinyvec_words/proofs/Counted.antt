@@ -1,7 +1,6 @@
 -- Examples of counted faults.
-use Rattle.std.proofs.Common.{◌≡◌, ℕ, ◌^◌, ◌-◌, List, [], ◌∷◌, Some, Ok, Err, Result, refl, rules, arith}
+use Rattle.std.proofs.Common.{◌≡◌, ℕ, [], ◌∷◌, Some, Ok, Err, Result, refl, rules}
 use Rattle.tinyvec_io.specs.Counted.{CountedView, Reported, faults_after, faults_after_write, AppendsFront}
-use Rattle.tinyvec_words.proofs.Shown.{nums}
 
 abbrev pub failed : Result ℕ Unit
 failed = Err _

@@ -1,5 +1,5 @@
 -- Examples of what a range cuts a list into.
-use Rattle.std.proofs.Common.{◌≡◌, ℕ, [], ◌∷◌, refl, rules, arith}
+use Rattle.std.proofs.Common.{◌≡◌, [], ◌∷◌, refl, arith}
 use Rattle.std.specs.declared.ops.Bound.TheVariants.{Included, Excluded}
 use Rattle.tinyvec_slots.specs.Cut.{IsRangeOf, before, removed, after}
 use Rattle.tinyvec_words.proofs.Shown.{nums}

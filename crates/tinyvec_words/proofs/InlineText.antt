@@ -1,5 +1,5 @@
 -- Examples of a text with room for four bytes, `ab`, in the value or on the heap with room for four.
-use Rattle.std.proofs.Common.{◌≡◌, ℕ, List, [], ◌∷◌, ◌++◌, true, false, Bool, length, codes, refl, rules, arith}
+use Rattle.std.proofs.Common.{◌≡◌, ℕ, List, [], ◌∷◌, true, false, refl, rules}
 use Rattle.std.specs.Prelude.{chars}
 use Rattle.tinyvec.specs.declared.tiny_vec.TinyVec.{TinyVec}
 use Rattle.tinyvec.specs.TinyVec.{tiny_items}

@@ -1,6 +1,7 @@
 -- Examples of iterators. One that is seen as the list of what is left is written as that list.
-use Rattle.std.proofs.Common.{◌≡◌, ℕ, ◌<◌, List, [], ◌∷◌, Some, None, true, false, refl, rules, arith}
+use Rattle.std.proofs.Common.{◌≡◌, ℕ, List, [], ◌∷◌, Some, true, false, refl, rules}
 use Rattle.std.specs.declared.iter.Fuse.{Fuse}
+use Rattle.std.specs.Iterator.{endless}
 use Rattle.std.specs.Iterator.Adapters.{fuse_done, fuse_source}
 use Rattle.tinyvec_slots.specs.Ends.{Asks, TakesFromEnds, back}
 use Rattle.tinyvec_slots.specs.Filling.{IntoIterYields, ShowsItems, YieldsUpTo}
@@ -38,3 +39,6 @@ example-IteratesOver left h = h.0
 
 pub example-GivesFromEnds : GivesFromEnds (nums (1 ∷ 2 ∷ [])) → Asks GivesFirst GivesLast (nums (1 ∷ 2 ∷ [])) (back ∷ []) (Some 2 ∷ []) (1 ∷ []) → TakesFromEnds (nums (1 ∷ 2 ∷ [])) (back ∷ []) (Some 2 ∷ []) (1 ∷ [])
 example-GivesFromEnds h asked = h _ _ _ asked
+
+pub example-FusedFinite : (s : Fuse (List ℕ)) → fuse_done s ≡ true → FusedFinite (λ left. endless) s
+example-FusedFinite s done = search rules

@@ -17,3 +17,4 @@ pub mod ToVec
 pub mod InlineText
 pub mod Counted
 pub mod Script
+pub mod Borsh

@@ -1,5 +1,5 @@
 -- Examples of a drain of a vector whose list is `[1]` then, and whose slots after it hold `[2, 3, 0]`: a drain of two items.
-use Rattle.std.proofs.Common.{◌≡◌, ℕ, [], ◌∷◌, ◌++◌, Some, refl, ◌∙◌, rules, arith}
+use Rattle.std.proofs.Common.{◌≡◌, ℕ, [], ◌∷◌, Some, refl, ◌∙◌, rules}
 use Rattle.tinyvec_slice.specs.declared.lent.Lent as Lent
 use Rattle.tinyvec_slice.specs.declared.slice_vec.GenericSliceVec.{GenericSliceVec}
 use Rattle.tinyvec_slice.specs.declared.drain.GenericSliceVecDrain.{GenericSliceVecDrain}

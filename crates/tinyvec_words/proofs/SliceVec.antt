@@ -4,7 +4,7 @@ use Rattle.tinyvec_slots.specs.Slots.{spare as spare_in}
 use Rattle.std.specs.Borrow.{MutBor}
 use Rattle.tinyvec_slice.specs.declared.lent.Lent as Lent
 use Rattle.tinyvec_slice.specs.declared.slice_vec.GenericSliceVec.{GenericSliceVec}
-use Rattle.tinyvec_slice.specs.SliceVec.{seen, items, spare, slots, name, seen_of, items_of, spare_of, len_of, slots_of, name_of, VacatesOf}
+use Rattle.tinyvec_slice.specs.SliceVec.{seen, items, spare, name, seen_of, items_of, spare_of, len_of, slots_of, name_of, VacatesOf}
 use Rattle.tinyvec_words.proofs.Shown.{D, over}
 
 module _ (v : GenericSliceVec (MutBor (List ℕ)) ℕ) (lent : v.lent.now ≡ 1 ∷ 2 ∷ 0 ∷ []) (len : v.len ≡ 2) where
@@ -16,9 +16,6 @@ module _ (v : GenericSliceVec (MutBor (List ℕ)) ℕ) (lent : v.lent.now ≡ 1 
 
   pub example-spare : spare v ≡ 0 ∷ []
   example-spare = rw (lent, len) refl
-
-  pub example-slots : slots v ≡ 1 ∷ 2 ∷ 0 ∷ []
-  example-slots = lent
 
   pub example-name : name v ≡ v.lent.ghost_name
   example-name = refl

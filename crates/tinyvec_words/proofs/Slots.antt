@@ -1,6 +1,6 @@
 -- Examples of lists and spare slots.
-use Rattle.std.proofs.Common.{◌≡◌, ℕ, [], ◌∷◌, refl, rules}
-use Rattle.tinyvec_slots.specs.Slots.{Slots, items, spare, items_len, all_slots, split_at, AreDefaults, Vacates, SlotRule, with_items}
+use Rattle.std.proofs.Common.{◌≡◌, [], ◌∷◌, refl, rules}
+use Rattle.tinyvec_slots.specs.Slots.{items, spare, items_len, all_slots, split_at, AreDefaults, Vacates, SlotRule, with_items}
 use Rattle.tinyvec_words.proofs.Shown.{D, nums, over}
 
 pub example-Slots : (over (1 ∷ 2 ∷ []) (0 ∷ [])).slots ≡ 1 ∷ 2 ∷ 0 ∷ []

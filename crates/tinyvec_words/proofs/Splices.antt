@@ -1,5 +1,5 @@
 -- Examples of splices: of one that has `[1]` before it and `[4]` after it, and whose replacement is seen as a list.
-use Rattle.std.proofs.Common.{◌≡◌, ℕ, List, [], ◌∷◌, ◌++◌, Some, Ok, Err, Result, true, false, codes, refl, rules, arith}
+use Rattle.std.proofs.Common.{◌≡◌, ℕ, List, [], ◌∷◌, ◌++◌, Some, Ok, Result, false, codes, refl, rules, arith}
 use Rattle.std.specs.Fmt.{radix_digits}
 use Rattle.tinyvec_slots.specs.declared.no_room.SpliceRest.{SpliceRest}
 use Rattle.tinyvec_slots.specs.AnySplice.{SpliceView, finish_placed, finish_bound, Finishes, FinishesWith}

@@ -1,5 +1,5 @@
 -- Examples of a drain d of `[1, 2, 3, 4]` over 1..3, from which nothing was taken, and of one e that a call leaves.
-use Rattle.std.proofs.Common.{◌≡◌, ℕ, [], ◌∷◌, ◌++◌, Some, refl, ◌∙◌, rules, arith}
+use Rattle.std.proofs.Common.{◌≡◌, ℕ, [], ◌∷◌, ◌++◌, Some, refl, ◌∙◌, rules}
 use Rattle.tinyvec_slots.specs.Ends.{Asks, TakesFromEnds, front, back}
 use Rattle.tinyvec.specs.declared.tiny_vec.TinyVec.{TinyVec}
 use Rattle.tinyvec.specs.declared.drain.TinyVecDrain.{TinyVecDrain}

@@ -1,8 +1,7 @@
 -- Examples of a splice s of `[1, 2, 3, 4]` over 1..3, from which nothing was taken, and of one t that a call leaves.
-use Rattle.std.proofs.Common.{◌≡◌, ℕ, ◌≤◌, List, [], ◌∷◌, ◌++◌, Option, Some, refl, rules, arith}
+use Rattle.std.proofs.Common.{◌≡◌, ℕ, ◌≤◌, List, [], ◌∷◌, ◌++◌, Option, Some, refl, rules}
 use Rattle.std.specs.declared.iter.Fuse.{Fuse}
 use Rattle.tinyvec_slots.specs.Touches.{touch_count}
-use Rattle.tinyvec_slots.specs.AnySplice.{SpliceView}
 use Rattle.tinyvec.specs.declared.splice.TinyVecSplice.{TinyVecSplice}
 use Rattle.tinyvec.specs.TinyVecSplice.{splice_view, splice_front, splice_left, splice_len, splice_back, splice_replacement, splice_touches, splice_vec, splice_lender, SpliceCanStep, SpliceCanNext, SpliceSteps, SpliceStepsBack}
 use Rattle.tinyvec.specs.TinyVec.{tiny_items}

@@ -61,12 +61,15 @@ module _ (A : Type 0) (alloc : Global) where
   pub example-tiny_with_items : tiny_with_items (inline (1 ∷ 2 ∷ []) (0 ∷ 0 ∷ [])) (3 ∷ 4 ∷ []) ≡ inline (3 ∷ 4 ∷ []) (0 ∷ 0 ∷ [])
   example-tiny_with_items = refl
 
+  -- of tinyvec.specs.Lends
   pub example-lends_items : tiny_with_items (inline (1 ∷ 2 ∷ []) (0 ∷ 0 ∷ [])) (3 ∷ 4 ∷ []) ≡ inline (3 ∷ 4 ∷ []) (0 ∷ 0 ∷ [])
   example-lends_items = refl
 
+  -- of tinyvec.specs.IterMut
   pub example-lends_iter : tiny_with_items (inline (1 ∷ 2 ∷ []) (0 ∷ 0 ∷ [])) (3 ∷ 4 ∷ []) ≡ inline (3 ∷ 4 ∷ []) (0 ∷ 0 ∷ [])
   example-lends_iter = refl
 
+  -- of tinyvec.specs.Lends
   pub example-lends_item : tiny_with_item (inline (1 ∷ 2 ∷ []) (0 ∷ 0 ∷ [])) 1 7 ≡ inline (1 ∷ 7 ∷ []) (0 ∷ 0 ∷ [])
   example-lends_item = refl
 

@@ -1,5 +1,5 @@
 -- An example of a list that is moved into a `Vec`.
-use Rattle.std.proofs.Common.{◌≡◌, ℕ, [], ◌∷◌, Ok, Result, refl, rules}
+use Rattle.std.proofs.Common.{◌≡◌, ℕ, [], ◌∷◌, Ok, Result}
 use Rattle.std.specs.Prelude.{Vec, vec_items}
 use Rattle.tinyvec_slots.specs.Slots.{Slots}
 use Rattle.tinyvec_array.specs.ToVec.{DrainsToVec}
