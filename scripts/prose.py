@@ -4,8 +4,8 @@
 usage: scripts/prose.py [DOCUMENT..]
        scripts/prose.py --comments [CRATE..]
 
-All documents together have at most MOST words, code and tables among them; the pages of docs/reference and bench/results,
-which scripts write, are left out. A sentence is named where it has more than LONGEST words, or one of the words of ODD. Code
+All documents together have at most MOST words, code and tables among them. CHANGELOG, bench/*.md and what scripts write
+(docs/reference, bench/results) are left out. A sentence is named where it has more than LONGEST words, or one of the words of ODD. Code
 is left out of that, and so are tables. `--comments` names such sentences of the comments in crates/*/src and crates/*/specs.
 """
 import pathlib
@@ -13,9 +13,11 @@ import re
 import sys
 
 TOP = pathlib.Path(__file__).resolve().parent.parent
-MOST = 25000
+MOST = 24000
 LONGEST = 35
 WHERE = ("*.md", "docs/*.md", "crates/*/*.md")
+# A list of what has changed grows with each version.
+UNCOUNTED = ("CHANGELOG.md",)
 
 # What a Rust reader has to translate.
 ODD = re.compile(
@@ -59,7 +61,7 @@ def read(name):
 
 
 def total():
-    return sum(len(read(it).split()) for it in documents())
+    return sum(len(read(it).split()) for it in documents() if it not in UNCOUNTED)
 
 
 def named():

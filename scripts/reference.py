@@ -1,173 +1,331 @@
 #!/usr/bin/env -S python3 -B
-"""Writes the reference, docs/reference/*.md: each public call of a type, with its contract, a caller and what differs from Rust.
+"""Writes the reference, docs/reference/*.md: all that the library crates export, with contracts, callers and what differs in Rust.
 
 usage: scripts/reference.py
 
-`tests/docs` tells which pages are not as they would be written, and which calls have no caller.
-
-What precedes the line MARK of a page is written by hand, and stays.
+`tests/docs` names the pages that differ from what this would write, exports that are on no page or on two, comments that are
+missing, and calls without a caller. What precedes the line MARK of a page is written by hand, and stays.
 """
 import pathlib
 import re
-import sys
 
-TOP = pathlib.Path(__file__).resolve().parent.parent
+import callers
+import exports
+
+TOP = exports.TOP
+FOLDER = TOP / "docs/reference"
 MARK = "<!-- scripts/reference.py writes what follows -->"
 
-# The crate of each page, and what a caller of its types has in its text.
+# The crate of each page, and the type whose methods are named without it.
 PAGES = {
-    "ARRAY_VEC": ("tinyvec_array", r"\bArrayVec\b|\barray_vec!"),
-    "SLICE_VEC": ("tinyvec_slice", r"\b(?:Generic)?SliceVec\b"),
-    "TINY_VEC": ("tinyvec", r"\bTinyVec\b|\btiny_vec!"),
-    "INLINE_TEXT": ("tinyvec_text", r"\bInlineText\b"),
-    "BORSH": ("tinyvec_borsh", r"\bBorsh"),
-    "COUNTED": ("tinyvec_io", r"\bCounted\b"),
+    "ARRAY_VEC": ("tinyvec_array", "ArrayVec"),
+    "SLICE_VEC": ("tinyvec_slice", "SliceVec"),
+    "TINY_VEC": ("tinyvec", "TinyVec"),
+    "INLINE_TEXT": ("tinyvec_text", "InlineText"),
+    "BORSH": ("tinyvec_borsh", None),
+    "COUNTED": ("tinyvec_io", "Counted"),
+    "SCRIPT": ("tinyvec_script", None),
+    "SLOTS": ("tinyvec_slots", None),
 }
 
-# A page that has a caller only where there is one.
-UNCALLED = ("COUNTED",)
+# The page of the table of calls, and the types that it has.
+INDEX = "README"
+COLUMNS = ("ARRAY_VEC", "SLICE_VEC", "TINY_VEC", "INLINE_TEXT")
 
-# The files that a reader wants first. The others follow by name.
-FIRST = ("making", "array_vec", "slice_vec", "tiny_vec", "inline_text", "lending", "ends", "edits", "growing", "filling", "joining")
+# Pages of which not every call has a caller beside the tests: those of a `Counted` are made by readers and writers, those of
+# the script by `run`.
+UNCALLED = ("COUNTED", "SCRIPT")
 
-# Whose functions are shown as callers, the shortest first.
-CALLERS = ("tinyvec_examples", "example_fields", "example_tidy", "example_dns_query", "example_tree", "example_records")
+# A caller of more lines than this is named, and not shown.
+LONGEST = 9
 
-BLOCK = re.compile(r"^(?:impl|pub trait)\b.*")
-CALL = re.compile(r"    (pub )?fn (\w+)")
-BODY = re.compile(r"^(?:\{|(?! *(?:requires|ensures)).* \{)\n", re.M)
-FREE = re.compile(r"^(?:///[^\n]*\n)*pub fn .*?^\}$", re.M | re.S)
+# What a reader looks for first. Other files follow by name, and traits and further types at the end.
+FIRST = ("making", "edits", "extending", "drain", "splice", "filters", "capacity", "reading", "writing", "taking")
+TITLES = {
+    "making": "Making one",
+    "edits": "Pushing, inserting, removing",
+    "extending": "Growing",
+    "drain": "Moving a range out",
+    "splice": "Replacing a range",
+    "filters": "Keeping some items",
+    "capacity": "Room, and moves to the heap and back",
+    "clones": "Cloning",
+    "borsh_error": "Errors",
+    "reading": "Looking at it",
+    "writing": "Lending it for writing",
+    "taking": "Taking it apart",
+    "traits": "The type and its traits",
+    "parts": "For those who write vectors",
+}
+
+# Ghost items that are proofs. A reader needs the definitions beside them.
+PROOFS = re.compile(
+    r"ghost (?:use\b|(?:coded|inverse|inverse_ok|laws|total|matches_\w+|respects_eq|kept_\w+|grown_\w+|cut_grown|moved|written"
+    r"|part_written|slots_written|name_kept|slots_of_slots|of_slots_slots|code|spelled|apart)\b)"
+)
+NO_WORDS = re.compile(r"\.declared\.|\.proofs\.|^std\.specs\.Prelude$")
+NAMES = re.compile(r"(\w+)(::|: )(\{[^}]*\}|\w+!?)")
 
 
 def main():
-    for file, above, _, page in pages():
-        file.write_text(above + MARK + page.text(), encoding="utf-8")
+    for file, above, _, text in pages():
+        file.write_text(above + MARK + text, encoding="utf-8")
 
 
 def faults():
-    for file, _, old, page in pages():
+    written = {}
+    for file, _, below, text in pages():
         name = file.relative_to(TOP)
-        yield from [f"{name}: not as scripts/reference.py writes it"] * (old != page.text())
-        yield from (f"{name}: no caller of {it}" for it in page.uncalled if file.stem not in UNCALLED)
+        written[file.stem] = file.read_text(encoding="utf-8")
+        yield from [f"{name}: not as scripts/reference.py writes it: run it"] * (below != text)
+    library = Library()
+    for crate in library.crates:
+        for source in crate.sources.values():
+            yield from (f"{source.path}:{at}: scripts/exports.py does not read what begins here" for at in source.unread())
+    for page, found in library.pages.items():
+        for it in found:
+            marks = {name: it.mark(main_of(page) if name == page else None) for name in written}
+            places = [name for name, text in written.items() for _ in range(text.count(marks[name]))]
+            yield from [f"{it.source.path}: {it.key()} is on {len(places)} pages of docs/reference: {', '.join(places)}"] * (len(places) != 1)
+            if it.kind != "impl" and not it.item.comment:
+                yield f"{it.source.path}: {it.key()} has no `///`"
+            if it.key() in library.uncalled and page not in (*UNCALLED, "SLOTS"):
+                yield f"docs/reference/{page}.md: no caller of {it.key()}: write one in crates/tinyvec_examples/src"
+    yield from (f"docs/DIFFERENCES.md: no such call: {it}" for it in library.notes if it not in library.keys)
+
+
+def main_of(page):
+    return PAGES[page][1]
 
 
 def pages():
     """Each page: its file, what precedes MARK there and what follows it, and what should."""
-    callers = [it for crate in CALLERS for it in callers_in(crate)]
-    rows = [it.strip("| ").split(" | ") for it in text_of("docs/DIFFERENCES.md").splitlines() if it.startswith("| ")]
-    for name, (crate, speaks) in PAGES.items():
-        file = TOP / f"docs/reference/{name}.md"
-        above, _, below = file.read_text(encoding="utf-8").partition(MARK)
-        yield file, above, below, Page(crate, [it for it in callers if re.search(speaks, it[1])], rows)
+    library = Library()
+    texts = {name: Page(library, name).text() for name in PAGES}
+    texts[INDEX] = library.table()
+    for name, text in texts.items():
+        file = FOLDER / f"{name}.md"
+        above, _, below = (file.read_text(encoding="utf-8") if file.is_file() else "").partition(MARK)
+        yield file, above, below, text
 
 
-def text_of(path):
-    return (TOP / path).read_text(encoding="utf-8")
+class Library:
+    """All exports by page, who calls them, and what is said of them beside Rust's crate."""
+
+    def __init__(self):
+        self.crates = [exports.Crate(it) for it in exports.LIBRARIES]
+        # What a vector's crate passes on is for its users, all else of `tinyvec_slots` for those who write vectors.
+        self.passed_on = {it for crate in self.crates for it in crate.passed_on}
+        by_crate = {it.name: [Entry(export) for export in it.exports()] for it in self.crates}
+        self.pages = {page: by_crate[crate] for page, (crate, _) in PAGES.items()}
+        self.keys = {it.key() for found in self.pages.values() for it in found}
+        for it in (it for found in self.pages.values() for it in found):
+            it.is_part = self.is_part(it)
+        self.callers = {}
+        for caller in callers.callers(callers.Known(self.crates)):
+            for it in caller.calls:
+                self.callers[it] = min(self.callers.get(it, caller), caller, key=lambda one: len(one.text))
+        self.uncalled = {it for it in self.keys if is_call(it)} - self.callers.keys()
+        self.notes = notes()
+
+    def is_part(self, entry):
+        """Whether an export is what vectors are written with, and nothing for their users."""
+        name = entry.trait and exports.head_of(entry.trait) or entry.of or entry.name
+        owned = self.crates[0].names
+        if entry.trait and "NoMemory" in entry.trait:
+            return False
+        names = {name, *([exports.head_of(entry.of)] if entry.of else [])}
+        return any(it in owned and (self.crates[0].name, it) not in self.passed_on for it in names)
+
+    def table(self):
+        """Which of the four types has a call, by name."""
+        rows = {}
+        for page in COLUMNS:
+            for it in self.pages[page]:
+                if it.kind == "method" and it.of == main_of(page):
+                    rows.setdefault(it.name, {})[page] = f"[✓]({page}.md#{it.name})"
+        names = [f"[`{main_of(it)}`]({it}.md)" for it in COLUMNS]
+        head = f"\n\n| Call | {' | '.join(names)} |\n|{'---|' * (len(COLUMNS) + 1)}\n"
+        return head + "".join(f"| `{name}` | {' | '.join(rows[name].get(it, '') for it in COLUMNS)} |\n" for name in sorted(rows))
+
+
+def is_call(key):
+    return ": " not in key and ("::" in key or key.endswith("!") or key.islower())
+
+
+def notes():
+    """What the last column of the table of differences ties to a type and a call: `TinyVec::{extend, fill}`, `ArrayVec: Clone`."""
+    found = {}
+    for row in (TOP / "docs/DIFFERENCES.md").read_text(encoding="utf-8").splitlines():
+        cells = [it.strip() for it in row.strip("|").split(" | ")]
+        for of, mark, names in NAMES.findall(cells[2].replace("`", "")) if row.startswith("| ") and len(cells) == 3 else ():
+            for name in re.findall(r"\w+!?", names):
+                # A macro is of no type.
+                key = name if name.endswith("!") else of + mark + name
+                found.setdefault(key, []).append(f"In Rust: {cells[0]}. Here: {cells[1]}.")
+    return found
+
+
+class Entry(exports.Export):
+    """An export as a page shows it."""
+
+    def __init__(self, export):
+        self.__dict__.update(export.__dict__)
+        self.is_part = False
+
+    def heading(self, main):
+        if self.trait:
+            article = "a " * self.of.startswith("&")
+            return f"`{self.trait}` for {article}`{self.of}`"
+        return f"`{self.name}`" if self.of == main and self.of else f"`{self.key()}`"
+
+    def mark(self, main):
+        """What stands once on the page of an export."""
+        return self.row() if self.is_part else f"\n### {self.heading(main)}\n"
+
+    def anchor(self, main):
+        return anchor(self.heading(main))
+
+    def row(self):
+        return f"\n| [`{self.key()}`](../../{self.source.path}) |"
+
+    def section(self, main):
+        stem = self.source.file.stem
+        of = re.sub(r"^&(?:mut )?", "", self.of or self.name)
+        if self.is_part:
+            return "parts"
+        if self.kind == "macro_rules!" or self.kind == "method" and of == main and not self.has_self():
+            return "making"
+        if self.kind == "method":
+            return self.own_section() if of == main and stem == snake(main) else stem
+        return "traits" if main and of in (main, f"Generic{main}") else stem
+
+    def own_section(self):
+        signature = self.item.signature()
+        return "reading" if "&self" in signature else "writing" if "&mut self" in signature else "taking"
+
+    def words(self):
+        """The words that its contract cites, with the path that defines each, but for operators, variants, proofs and std's prelude."""
+        known = exports.imported(self.source.file.read_text(encoding="utf-8"))
+        cited = (known[it] for it in dict.fromkeys(re.findall(r"[^\s(){}.,;:\[\]]+", self.code())) if it in known)
+        return [it for it in cited if re.fullmatch(r"[\w-]+", it[1]) and not NO_WORDS.search(it[0])]
+
+    def prose(self):
+        yield from paragraphs(self.item.comment)
+        for it in self.item.members() if self.item.kind in ("impl", "trait") else ():
+            if it.kind in ("fn", "type", "const") and it.comment:
+                yield from (f"`{it.name}`: {said}" for said in paragraphs(it.comment))
+
+    def code(self):
+        """The declaration, without bodies, private fields and proofs."""
+        item = self.item
+        if item.kind in ("impl", "trait"):
+            lines = [*item.head()]
+            for it in item.members():
+                if it.kind == "ghost" and not PROOFS.match(it.lines[0]):
+                    lines += indented(it.lines)
+                elif it.kind in ("type", "const") and item.kind == "trait" or it.kind == "fn" and has_contract(it):
+                    lines += indented(it.head())
+            return "\n".join(it for it in lines if it.strip())
+        lines = [*(it for it in item.attributes if "derive" in it and item.kind != "fn"), *item.head()]
+        if item.kind == "macro_rules!":
+            arms = [it.strip() for it in item.lines if it.startswith("    (") and "(@" not in it]
+            lines = [f"macro_rules! {item.name}", *(f"    {it.partition(' =>')[0] if ' => {' not in it else it.rpartition(' => ')[0]}" for it in arms)]
+        if item.kind == "struct" and "{" in item.lines[0]:
+            fields = [it for it in item.lines[1:-1] if it.strip().startswith(("pub ", "///"))]
+            inside = [*item.lines[:1], *fields, "}"] if fields else [item.lines[0] + " .. }"]
+            lines = [*(it for it in item.attributes if "derive" in it), *inside]
+        return "\n".join(it for it in lines if it.strip())
+
+
+def has_contract(item):
+    return bool(re.search(r"^\s*(?:requires|ensures)", "\n".join(item.head()), re.M)) or item.lines[-1].endswith(";")
+
+
+def indented(lines):
+    return [f"    {it}" for it in lines]
+
+
+def paragraphs(comment):
+    """The paragraphs of a comment, each as one line."""
+    return [" ".join(it.split()) for it in "\n".join(comment).split("\n\n") if it.strip()]
+
+
+def snake(name):
+    return re.sub(r"(?<=[a-z])(?=[A-Z])", "_", name).lower()
+
+
+def anchor(heading):
+    """What a link names a heading by."""
+    return re.sub(r"[^\w\- ]", "", heading.lower()).strip().replace(" ", "-")
 
 
 class Page:
-    """What the page of a crate has: a table of its calls, and a section for each file that has some."""
+    """What a page has: a table of its sections, and each section with its entries."""
 
-    def __init__(self, crate, callers, rows):
-        self.callers, self.rows, self.shown, self.uncalled, self.table, self.sections = callers, rows, {}, [], [], []
-        order = lambda it: (FIRST.index(it.stem) if it.stem in FIRST else len(FIRST), str(it))
-        for file in sorted((TOP / "crates" / crate / "src").rglob("*.rt"), key=order):
-            text = file.read_text(encoding="utf-8")
-            entries = [it for block in blocks_of(text) for it in entries_of(*block)]
-            if entries:
-                self.add(str(file.relative_to(TOP)), re.match(r"//! (.*?)\.?\n", text)[1], entries)
+    def __init__(self, library, name):
+        self.library, self.entries, self.shown, self.noted = library, library.pages[name], {}, {}
+        self.codes = {}
+        self.main = main_of(name)
+        self.sections = {}
+        for it in self.entries:
+            self.sections.setdefault(it.section(self.main), []).append(it)
+        for found in self.sections.values():
+            # The calls of the page's type, then what they return.
+            found.sort(key=self.place)
+        last = ("traits", "parts")
+        place = lambda it: (FIRST.index(it) if it in FIRST else len(FIRST) + (last.index(it) + 1 if it in last else 0), it)
+        self.order = sorted(self.sections, key=place)
 
-    def add(self, path, title, entries):
-        links = ", ".join(dict.fromkeys(f"[`{name}`](#{name.lower()})" for name, _, _ in entries))
-        self.table.append(f"| {title} | {links} |\n")
-        self.sections.append(f"\n## {title.replace('`', '')}\n\nIn [`{path}`](../../{path}).\n")
-        for name, comment, code in entries:
-            self.sections.append(f"\n### `{name}`\n{comment}\n```\n{code}\n```\n")
-            remarks = (f"\nIn Rust: {cells[0]}. Here: {'. '.join(cells[1:])}.\n" for cells in self.rows if speaks_of(name, cells))
-            self.sections += (it for it in remarks if it not in self.sections)
-            # A trait is called through its users.
-            if CALL.match("    " + code.removeprefix("pub ")):
-                self.sections += self.caller(name)
+    def place(self, it):
+        is_own = it.kind == "method" and it.of == self.main
+        return (not is_own, is_own and it.source.file.stem != snake(self.main), self.entries.index(it)) if self.main else ()
 
-    def caller(self, name):
-        """The shortest function whose body makes the call, once a page."""
-        makes = re.compile(rf"(?:\.|::){name}(?:::<.*?>)?\(")
-        found = min((it for it in self.callers if makes.search(BODY.split(it[1], 1)[1])), key=lambda it: len(it[1]), default=None)
-        if not found:
-            self.uncalled.append(name)
-            return
-        path, text = found
-        called = re.search(r"pub fn (\w+)", text)[1]
-        shown = self.shown.setdefault(text, name)
-        if shown == name:
-            yield f"\nA caller, in [`{path}`](../../{path}):\n\n```\n{text}\n```\n"
-        else:
-            yield f"\nA caller: `{called}`, at [`{shown}`](#{shown}).\n"
+    def title(self, section):
+        return TITLES.get(section) or self.sections[section][0].source.title.replace("`", "")
 
     def text(self):
-        return "\n\n| | Calls |\n|---|---|\n" + "".join(self.table + self.sections)
+        rows, below, cited = [], [], {}
+        for section in self.order:
+            found = self.sections[section]
+            links = ", ".join(f"[`{it.trait or it.heading(self.main).strip('`')}`](#{it.anchor(self.main)})" for it in found if not it.is_part)
+            rows.append(f"| [{self.title(section)}](#{anchor(self.title(section))}) | {links} |\n")
+            below.append(f"\n## {self.title(section)}\n")
+            # Each word has a link in the first section that cites it.
+            words = [word for it in found if not it.is_part for word in it.words() if cited.setdefault(word, section) == section]
+            links = ", ".join(f"[`{name}`](WORDS.md#{exports.word_anchor(path, name)})" for path, name in sorted(set(words), key=lambda it: it[1].lower()))
+            below += [f"\nWords: {links}.\n"] if words else []
+            below += self.parts(found) if section == "parts" else [line for it in found for line in self.entry(it)]
+        return "\n\n| | |\n|---|---|\n" + "".join(rows + below)
 
+    def parts(self, found):
+        yield "\nVectors are written with these; their contracts are in the sources.\n\n| | |\n|---|---|"
+        for it in found:
+            said = re.split(r"(?<=\.)\s", " ".join(it.item.comment))[0].replace("|", "\\|")
+            yield f"{it.row()} {said} |"
+        yield "\n"
 
-def blocks_of(text):
-    """Each impl and trait, by its first line and the lines in it."""
-    head, lines = None, []
-    for line in text.splitlines():
-        if head is None and BLOCK.match(line) and line.endswith("{}"):
-            yield line.removesuffix(" {}"), []
-        elif head is None:
-            head = line if BLOCK.match(line) else None
-        elif line == "}":
-            yield head, lines
-            head, lines = None, []
+    def entry(self, it):
+        yield f"\n### {it.heading(self.main)}\n"
+        yield from (f"\n{said}\n" for said in it.prose())
+        # A call and its `try_` form have one contract.
+        twin = self.codes.setdefault(re.sub(rf"\b{it.name}\b", "", it.code()), it) if it.kind in ("method", "fn") else it
+        if twin is it:
+            yield f"\n```\n{it.code()}\n```\n"
         else:
-            lines.append(line)
-
-
-def entries_of(head, lines):
-    """The name, the comment and the code of what a reader may call. A trait is one entry, and so is an impl of one."""
-    of = re.search(r"(\w+)(?:<[^ ]*>)? for (?!<)", head) or re.match(r"pub trait (\w+)", head)
-    comment, code, ghosts, calls = [], None, [], []
-    is_ghost = False
-    for line in lines:
-        bare = line.strip()
-        if code is not None:
-            ends = line == "    {" or bare.endswith(" {") and not bare.startswith(("requires", "ensures")) or bare.endswith(";")
-            if line != "    {":
-                code.append(line.removesuffix(" {") if ends else line)
-            if ends:
-                calls.append((name, comment, code, is_public))
-                comment, code = [], None
-        elif is_ghost or re.match("    ghost (?!use|type)", line):
-            ghosts.append(line)
-            is_ghost = not bare.endswith("};")
-        elif line.startswith("    ///"):
-            comment.append(bare.removeprefix("///").strip())
-        elif found := CALL.match(line):
-            is_public, name = bool(found[1]), found[2]
-            if bare.endswith((" {", ";")):
-                calls.append((name, comment, [line.removesuffix(" {")], is_public))
-                comment = []
+            yield f"\nIts contract is that of [`{twin.name}`](#{twin.anchor(self.main)}).\n"
+        for note in self.library.notes.get(it.key(), []):
+            first = self.noted.setdefault(note, it)
+            yield f"\n{note}\n" if first is it else f"\nIn Rust: as of [`{first.name}`](#{first.anchor(self.main)}).\n"
+        caller = self.library.callers.get(it.key()) if is_call(it.key()) else None
+        if caller:
+            first = self.shown.setdefault(caller.text, it)
+            if caller.text.count("\n") > LONGEST:
+                yield f"\nA caller: `{caller.name}`, in [`{caller.path}`](../../{caller.path}).\n"
+            elif first is it:
+                yield f"\nA caller, in [`{caller.path}`](../../{caller.path}):\n\n```\n{caller.text}\n```\n"
             else:
-                code = [line]
-        elif not bare.startswith(("//", "#[")):
-            comment = []
-    if of:
-        heads = [line for _, _, code, _ in calls for line in code if len(code) > 1]
-        yield of[1], "", "\n".join([head.removesuffix(" {"), *ghosts, *heads])
-        return
-    for name, comment, code, is_public in calls:
-        if is_public:
-            yield name, "\n" + " ".join(comment) + "\n", "\n".join(it[4:] for it in code)
-
-
-def callers_in(crate):
-    """The public functions of a crate, with their file. Idioms are left out: they have no contract to show."""
-    for file in sorted(it for it in (TOP / "crates" / crate / "src").rglob("*.rt") if it.stem != "idioms"):
-        yield from ((str(file.relative_to(TOP)), it[0]) for it in FREE.finditer(file.read_text(encoding="utf-8")))
-
-
-def speaks_of(name, cells):
-    return re.search(rf"`(?:\w+::)?{name}(?:\([^`]*\))?`", cells[0])
+                yield f"\nA caller: `{caller.name}`, at [`{first.name}`](#{first.anchor(self.main)}).\n"
 
 
 if __name__ == "__main__":

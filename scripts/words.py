@@ -1,84 +1,126 @@
 #!/usr/bin/env -S python3 -B
-"""Writes docs/reference/WORDS.md: each word of the contracts, with the comment above its definition in crates/*/specs.
+"""Writes docs/reference/WORDS.md: each word that a contract of the reference cites, what it means, and an example.
 
-What follows `For example: ` in a comment is the word's example.
+usage: scripts/words.py
 
-usage: scripts/words.py [--bare]
-
-`--bare` names the words that have no comment. What precedes the line MARK of the page is written by hand, and stays.
+A meaning is the comment above the definition in crates/*/specs. An example is the statement of a lemma `example-WORD` in
+crates/tinyvec_words/proofs, in a file that imports the word. What precedes the line MARK of the page is written by hand, and
+stays: there std's words have a line each. `tests/docs` names the words that lack one of these.
 """
 import pathlib
 import re
-import sys
 
-TOP = pathlib.Path(__file__).resolve().parent.parent
+import exports
+import reference
+
+TOP = exports.TOP
 PAGE = TOP / "docs/reference/WORDS.md"
 MARK = "<!-- scripts/words.py writes what follows -->"
-CRATES = [f"tinyvec{it}" for it in ("_slots", "_array", "_slice", "", "_text", "_io", "_borsh", "_script")]
+EXAMPLES = "crates/tinyvec_words/proofs"
 
 COMMENT = re.compile(r" *-- (.*)")
 WORD = re.compile(r"(?P<indent> *)(?:(?:abbrev|unfoldable) )?pub (?:(?P<kind>record|data) )?(?P<name>[^\s:]+)(?P<rest>.*)")
 FIELD = re.compile(r" +(?:pub )?([^\s:]+) : .*")
 # What a record or a data type is given, without its types.
 GIVEN = re.compile(r"\(((?:\w+ )+): ")
-LONGEST = 120
-EXAMPLE = "For example: "
+# A comment `of PATH` above a lemma names the file of a word that the statement itself does not have.
+EXAMPLE = re.compile(r"^(?: *-- of (\S+)\n)? *pub example-(\S+) : (.*)$", re.M)
 
 
 def main():
-    if sys.argv[1:] == ["--bare"]:
-        found = [f"{file.relative_to(TOP)}: {it.name}\n" for file in files() for it in words_of(file) if not it.comment]
-        print("".join(found) + f"words: {len(found)} without a comment")
-    else:
-        above, _, _ = PAGE.read_text(encoding="utf-8").partition(MARK)
-        PAGE.write_text(above + MARK + text(), encoding="utf-8")
+    PAGE.write_text(Words().page(), encoding="utf-8")
 
 
 def faults():
-    above, _, below = PAGE.read_text(encoding="utf-8").partition(MARK)
-    if below != text():
-        yield f"{PAGE.relative_to(TOP)}: not as scripts/words.py writes it"
+    words = Words()
+    page = PAGE.relative_to(TOP)
+    if PAGE.read_text(encoding="utf-8") != words.page():
+        yield f"{page}: not as scripts/words.py writes it: run it"
+    for path, name in words.cited:
+        if path.startswith("std."):
+            yield from [f"{page}: std's `{name}` has no line"] * (f'<a id="std-{name}">' not in words.above)
+        elif (path, name) not in words.defined:
+            yield f"{path}: no definition of `{name}` was found"
+        else:
+            yield from [f"{path}: `{name}` has no comment"] * (not words.defined[path, name].comment)
+            yield from [f"{EXAMPLES}: no `example-{name}` of {path}"] * ((path, name) not in words.examples)
+    yield from (f"{EXAMPLES}: no contract of the reference cites `{name}` of {path}" for path, name in words.examples if (path, name) not in words.cited)
 
 
-def files():
-    return [it for crate in CRATES for it in sorted((TOP / "crates" / crate / "specs").glob("*.antt")) if it.stem != "Lib"]
+class Words:
+    """The words that contracts cite, with their definitions and examples."""
+
+    def __init__(self):
+        found = [it for entries in reference.Library().pages.values() for it in entries if not it.is_part]
+        self.cited = dict.fromkeys(word for it in found for word in it.words())
+        self.files = sorted({path for path, _ in self.cited if not path.startswith("std.")}, key=lambda it: (exports.LIBRARIES.index(it.split(".")[0]), it))
+        self.defined = {(path, it.name): it for path in self.files for it in words_of(source_of(path))}
+        self.examples = {}
+        for file in sorted((TOP / EXAMPLES).glob("*.antt")):
+            text = file.read_text(encoding="utf-8")
+            known = exports.imported(text)
+            of = lambda path, name: (path, name) if path else known.get(name, (file.stem, name))
+            self.examples.update({of(path, name): plain(shown) for path, name, shown in EXAMPLE.findall(text)})
+        self.above = PAGE.read_text(encoding="utf-8").partition(MARK)[0]
+
+    def page(self):
+        return self.above + MARK + "".join(self.section(it) for it in self.files) + "\n"
+
+    def section(self, path):
+        crate, _, stem = path.partition(".specs.")
+        file = source_of(path)
+        title = COMMENT.match(file.read_text(encoding="utf-8"))
+        head = f"\n\n## `{stem}` of `{crate}`\n\n{title[1] if title else ''} In [`{file.name}`](../../{file.relative_to(TOP)}).\n"
+        rows = (self.row(path, it) for it in self.defined if it[0] == path and it in self.cited)
+        return head + "\n| Word | Means | For example |\n|---|---|---|\n" + "\n".join(rows)
+
+    def row(self, path, word):
+        found = self.defined[word]
+        example = self.examples.get(word, "")
+        return f'| <a id="{exports.word_anchor(*word)}"></a>{found.shown} | {found.meaning} | {example and code(example)} |'
 
 
-def text():
-    crates = {}
-    for file in files():
-        crates.setdefault(file.parent.parent.name, []).append(section(file))
-    return "".join(f"\n\n## `{crate}`\n" + "\n".join(filter(None, found)) for crate, found in crates.items())
+def source_of(path):
+    crate, _, stem = path.partition(".specs.")
+    return TOP / "crates" / crate / f"specs/{stem}.antt"
 
 
-def section(file):
-    rows = "".join(f"| {it.shown} | {it.meaning} | {it.example} |\n" for it in words_of(file))
-    title = COMMENT.match(file.read_text(encoding="utf-8"))
-    path = file.relative_to(TOP)
-    head = f"\n{title[1] if title else ''} ([`{file.stem}`](../../{path}))\n"
-    return rows and f"{head}\n| Word | Means | For example |\n|---|---|---|\n{rows}"
+def plain(statement):
+    """A statement as it is read: lists in brackets, without the types of variables and what only helps the prover."""
+    while bound := re.match(r"[({]\w[\w ]* : ", statement):
+        end = closing(statement)
+        statement = re.sub(r"^ *→ ", "", statement[end:]).lstrip()
+    statement = re.sub(r" \{\w+ = [^}]*\}", "", statement)
+    statement = re.sub(r"(?:[\w.]+ ∷ )+\[\]", lambda it: f"[{', '.join(it[0].split(' ∷ ')[:-1])}]", statement)
+    statement = re.sub(r"\((\[[^]]*\])\)", r"\1", statement)
+    statement = re.sub(r"\(nums (\[[^]]*\])\)|\bnums (\[[^]]*\])", lambda it: it[1] or it[2], statement)
+    return re.sub(r"\(over (\[[^]]*\]) (\[[^]]*\])\)|\bover (\[[^]]*\]) (\[[^]]*\])", lambda it: f"({it[1] or it[3]} {it[2] or it[4]})", statement)
+
+
+def closing(text):
+    depth = 0
+    for at, letter in enumerate(text):
+        depth += (letter in "({") - (letter in ")}")
+        if depth == 0:
+            return at + 1
+    return len(text)
 
 
 class Word:
     def __init__(self, found, comment, lines):
         """`lines` are those after the word's first, up to the next word."""
-        comment, _, self.example = comment.partition(EXAMPLE)
-        comment = comment.strip().rstrip(".")
-        self.name, self.comment, self.kind = found["name"], comment, found["kind"]
+        self.name, self.kind = found["name"], found["kind"]
+        self.comment = comment.strip().rstrip(".")
         body = [it for it in lines if len(it) - len(it.lstrip()) > len(found["indent"])]
         head = found["rest"]
         while self.kind and body and not head.endswith("where"):
             head += body.pop(0)
         equation = next((it.strip() for it in lines if re.match(rf" *{re.escape(self.name)} .*=( |$)", it)), "")
-        left, _, right = re.sub(r"\{\w+\} ", "", equation).partition(" =")
-        plain = [left.removeprefix(self.name)] * bool(re.fullmatch(r"[\w ]+", left))
-        given = GIVEN.findall(head) if self.kind else plain
+        left = re.sub(r"\{\w+\} ", "", equation).partition(" =")[0]
+        given = GIVEN.findall(head) if self.kind else [left.removeprefix(self.name)] * bool(re.fullmatch(r"[\w ]+", left))
         self.shown = code(" ".join(" ".join([self.name, *given]).split()))
         parts = self.parts(body) if self.kind else ""
-        if parts:
-            comment = f"{comment}. " * bool(comment) + {"record": "It has ", "data": "One of "}[self.kind] + parts
-        short = right and len(right) <= LONGEST and "[" not in left and not right.endswith("{")
-        self.meaning = comment or (short and code(right.strip())) or "as it is defined there"
+        self.meaning = self.comment + f". {'It has' if self.kind == 'record' else 'One of'} {parts}" * bool(parts)
 
     def parts(self, body):
         """The fields of a record, or the variants of a data type, with their comments."""

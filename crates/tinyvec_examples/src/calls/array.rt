@@ -1,5 +1,5 @@
 //! Callers of an `ArrayVec`.
-ghost use Rattle.std.specs.Prelude.{◌≡◌, ◌≢◌, ◌+◌, ◌<◌, ◌≤◌, ◌∷◌, [], ◌++◌, ◌↔◌, ◌==◌, length, take, pos, IsTrue, IsOk, IsSome, OnOk, OnErr, IfOk, IfNone, if◌then◌else◌, is_ok};
+ghost use Rattle.std.specs.Prelude.{◌≡◌, ◌≢◌, ◌+◌, ◌-◌, ◌<◌, ◌≤◌, ◌∷◌, [], ◌++◌, ◌↔◌, ◌==◌, length, take, pos, IsTrue, IsOk, IsSome, OnOk, OnErr, IfOk, IfNone, if◌then◌else◌, is_ok};
 ghost use Rattle.tinyvec_array.specs.Slots.{items, spare, items_len};
 
 use std::alloc::{AllocError, Global};
@@ -179,6 +179,29 @@ pub fn zeroed(v: &mut ArrayVec<[u8; 8]>)
     for x in v.iter_mut() {
         *x = 0;
     }
+}
+
+/// How many items are 0.
+pub fn count_of_zeros(v: &ArrayVec<[u8; 8]>) -> usize {
+    v.iter().filter(|x| **x == 0).count()
+}
+
+/// The first items, as many as there is room for.
+pub fn first_four(numbers: ArrayVec<[u32; 8]>) -> ArrayVec<[u32; 4]>
+    ensures { items result ≡ take 4 (items numbers) }
+{
+    let mut v = ArrayVec::new();
+    let _rest = v.fill(numbers);
+    v
+}
+
+/// How many items are left once the first was taken.
+pub fn left_after_one<A: Array>(v: ArrayVec<A>) -> usize
+    ensures { result ≡ items_len v - 1 }
+{
+    let mut left = v.into_iter();
+    let _first = left.next();
+    left.as_slice().len()
 }
 
 /// A list of four, the new items 9.

@@ -215,6 +215,15 @@ pub fn count_of_zeros(v: &TinyVec<[u8; 8]>) -> usize {
     v.iter().filter(|x| **x == 0).count()
 }
 
+/// How many items are left once the first was taken.
+pub fn left_after_one<A: Array>(v: TinyVec<A>) -> usize
+    ensures { result ≡ tiny_len v - 1 }
+{
+    let mut left = v.into_iter();
+    let _first = left.next();
+    left.as_slice().len()
+}
+
 /// The first item is set to 0.
 pub fn first_zeroed(v: &mut TinyVec<[u8; 8]>)
     ensures len { tiny_len v.new ≡ tiny_len v.old }

@@ -6,7 +6,7 @@ ghost use Rattle.tinyvec.specs.TinyVec.{tiny_items, IsInline};
 use std::alloc::{AllocError, Global};
 use tinyvec::TinyVec;
 
-/// The numbers below `limit`, in order. Of up to eight numbers it allocates nothing, so it cannot fail.
+/// The numbers below `limit`, in order. With at most eight numbers it allocates nothing, so it cannot fail.
 pub fn below(alloc: Global, numbers: &[u32], limit: u32) -> Result<TinyVec<[u32; 8]>, AllocError>
     ensures items { IfOk result (λ v. tiny_items v ≡ filter (λ x. nat_lt x limit) numbers.now) }
     ensures inline { length numbers.now ≤ 8 → IfOk result IsInline }

@@ -1,0 +1,35 @@
+-- Examples of clones, one of which was refused.
+use Rattle.std.proofs.Common.{[], ◌∷◌, refl, rules, arith}
+use Rattle.std.specs.Prelude.{⊤}
+use Rattle.tinyvec_slots.specs.Clones.{ClonesAreEqual, RefusedAt, ClonesOver, ClonesBefore, ClonesInPart}
+use Rattle.tinyvec_words.proofs.Shown.{D, C, I}
+
+pub example-ClonesAreEqual : ClonesAreEqual C
+example-ClonesAreEqual = λ x y h. h
+
+pub example-RefusedAt : RefusedAt I (7 ∷ 9 ∷ []) 1
+example-RefusedAt = (omega arith, λ d h. h refl)
+
+pub example-ClonesOver : ClonesOver C (7 ∷ 8 ∷ []) 2 (0 ∷ 0 ∷ 0 ∷ []) (7 ∷ 8 ∷ 0 ∷ [])
+example-ClonesOver = record {
+  made = 7 ∷ 8 ∷ [];
+  clones = (refl, (refl, tt));
+  count = refl;
+  written = refl;
+}
+
+pub example-ClonesBefore : ClonesBefore C (7 ∷ []) (0 ∷ []) (7 ∷ 0 ∷ [])
+example-ClonesBefore = (7 ∷ [], (refl, tt), refl)
+
+pub example-ClonesInPart : ClonesInPart D I C (5 ∷ 9 ∷ []) (1 ∷ 2 ∷ 3 ∷ []) (5 ∷ 2 ∷ []) 2 ⊤ [] (0 ∷ [])
+example-ClonesInPart = record {
+  k = 1;
+  j = 0;
+  made = 5 ∷ [];
+  within = omega arith;
+  in_order = λ h. absurd (omega arith);
+  refused_at = (omega arith, λ d h. h refl);
+  clones = (refl, tt);
+  listed = refl;
+  left = λ _. (0 ∷ [], search rules, [], tt, refl);
+}

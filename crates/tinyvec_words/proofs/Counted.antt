@@ -1,0 +1,28 @@
+-- Examples of counted faults.
+use Rattle.std.proofs.Common.{◌≡◌, ℕ, [], ◌∷◌, Some, Ok, Err, Result, refl, rules}
+use Rattle.tinyvec_io.specs.Counted.{CountedView, Reported, faults_after, faults_after_write, AppendsFront}
+
+abbrev pub failed : Result ℕ Unit
+failed = Err _
+
+abbrev pub wrote : ℕ → Result ℕ Unit
+wrote count = Ok count
+
+-- a reader with two faults
+abbrev pub seen : {E : Type 0} → E → CountedView E
+seen reader = record { inner = reader; faults = 2 }
+
+pub example-CountedView : {E : Type 0} (reader : E) → (seen reader).faults ≡ 2
+example-CountedView reader = refl
+
+pub example-Reported : Reported 2 3
+example-Reported = search rules
+
+pub example-faults_after : faults_after 2 failed ≡ 3
+example-faults_after = refl
+
+pub example-faults_after_write : faults_after_write 2 (wrote 0) (7 ∷ []) ≡ 3
+example-faults_after_write = refl
+
+pub example-AppendsFront : AppendsFront (Some (1 ∷ [])) (Some (1 ∷ 2 ∷ [])) (2 ∷ 3 ∷ [])
+example-AppendsFront = (2 ∷ [], 3 ∷ [], refl, search rules)

@@ -1,0 +1,44 @@
+-- Examples of iterators. One that is seen as the list of what is left is written as that list.
+use Rattle.std.proofs.Common.{◌≡◌, ℕ, List, [], ◌∷◌, Some, true, false, refl, rules}
+use Rattle.std.specs.declared.iter.Fuse.{Fuse}
+use Rattle.std.specs.Iterator.{endless}
+use Rattle.std.specs.Iterator.Adapters.{fuse_done, fuse_source}
+use Rattle.tinyvec_slots.specs.Ends.{Asks, TakesFromEnds, back}
+use Rattle.tinyvec_slots.specs.Filling.{IntoIterYields, ShowsItems, YieldsUpTo}
+use Rattle.tinyvec_slots.specs.Fused.{FusedCan, FusedFinite, fused_rest}
+use Rattle.tinyvec_slots.specs.Replacing.{FusedYields}
+use Rattle.tinyvec_array.specs.IntoIter.{GivesFirst, GivesLast, GivesFromEnds, IteratesOver}
+use Rattle.tinyvec_words.proofs.Shown.{nums}
+
+pub example-GivesFirst : GivesFirst (nums (1 ∷ 2 ∷ 3 ∷ [])) (Some 1) (2 ∷ 3 ∷ [])
+example-GivesFirst = refl
+
+pub example-GivesLast : GivesLast (nums (1 ∷ 2 ∷ 3 ∷ [])) (Some 3) (1 ∷ 2 ∷ [])
+example-GivesLast = refl
+
+pub example-ShowsItems : ShowsItems {A = ℕ} GivesFirst (λ left. left)
+example-ShowsItems = λ s r t h. h
+
+pub example-IntoIterYields : IntoIterYields {U = List ℕ} (λ xs it. it ≡ xs) GivesFirst (1 ∷ 2 ∷ []) (1 ∷ 2 ∷ [])
+example-IntoIterYields = search rules
+
+pub example-YieldsUpTo : YieldsUpTo GivesFirst 2 (nums (1 ∷ 2 ∷ 3 ∷ [])) (1 ∷ 2 ∷ []) (3 ∷ [])
+example-YieldsUpTo = search rules
+
+pub example-fused_rest : (s : Fuse (List ℕ)) → fuse_done s ≡ true → fused_rest (λ left. left) s ≡ []
+example-fused_rest s done = search rules
+
+pub example-FusedCan : (s : Fuse (List ℕ)) → fuse_done s ≡ true → FusedCan (λ left. ⊥) s
+example-FusedCan s done = search rules
+
+pub example-FusedYields : (s : Fuse (List ℕ)) → fuse_done s ≡ false → fuse_source s ≡ 1 ∷ [] → FusedYields GivesFirst s (1 ∷ [])
+example-FusedYields s running source = search rules
+
+pub example-IteratesOver : (left : List ℕ) → IteratesOver (1 ∷ 2 ∷ []) left → left ≡ 1 ∷ 2 ∷ []
+example-IteratesOver left h = h.0
+
+pub example-GivesFromEnds : GivesFromEnds (nums (1 ∷ 2 ∷ [])) → Asks GivesFirst GivesLast (nums (1 ∷ 2 ∷ [])) (back ∷ []) (Some 2 ∷ []) (1 ∷ []) → TakesFromEnds (nums (1 ∷ 2 ∷ [])) (back ∷ []) (Some 2 ∷ []) (1 ∷ [])
+example-GivesFromEnds h asked = h _ _ _ asked
+
+pub example-FusedFinite : (s : Fuse (List ℕ)) → fuse_done s ≡ true → FusedFinite (λ left. endless) s
+example-FusedFinite s done = search rules

@@ -1,0 +1,111 @@
+-- Examples of a `TinyVec` whose array has four slots. `inline xs ys` has the list xs in the array, and the spare slots ys.
+use Rattle.std.proofs.Common.{◌≡◌, ℕ, ◌≤◌, List, [], ◌∷◌, Ok, Result, true, false, refl, rules, arith}
+use Rattle.std.specs.Global.{Global}
+use Rattle.tinyvec.specs.declared.tiny_vec.TinyVec.{TinyVec}
+use Rattle.tinyvec.specs.declared.tiny_vec.TinyVec.TheVariants.{Inline}
+use Rattle.tinyvec.specs.TinyVec.{tiny_items, tiny_len, tiny_spare, is_inline, IsInline, tiny_capacity, tiny_allocator, PlaceRule, TinySlotRule, SameFrame, StaysInPlace, Unchanged}
+use Rattle.tinyvec.specs.Room.{Doubles, GrowsFor, Grows, RoomGrows, Reserves, MovesToHeap, MovesToHeapWithRoom}
+use Rattle.tinyvec.specs.Refused.{RefusedFor, ClonesBehind}
+use Rattle.tinyvec.specs.Lends.{tiny_with_items, tiny_with_item}
+use Rattle.tinyvec.specs.TinyVecSplice.{items_moved}
+use Rattle.tinyvec_words.proofs.Shown.{D, C, over}
+
+abbrev pub done : Result Unit Unit
+done = Ok _
+
+module _ (A : Type 0) (alloc : Global) where
+  abbrev pub inline : List ℕ → List ℕ → TinyVec A ℕ
+  inline xs ys = Inline (over xs ys) alloc
+
+  pub example-tiny_items : tiny_items (inline (1 ∷ 2 ∷ []) (0 ∷ 0 ∷ [])) ≡ 1 ∷ 2 ∷ []
+  example-tiny_items = refl
+
+  pub example-tiny_len : tiny_len (inline (1 ∷ 2 ∷ []) (0 ∷ 0 ∷ [])) ≡ 2
+  example-tiny_len = refl
+
+  pub example-tiny_spare : tiny_spare (inline (1 ∷ 2 ∷ []) (0 ∷ 0 ∷ [])) ≡ 0 ∷ 0 ∷ []
+  example-tiny_spare = refl
+
+  pub example-is_inline : is_inline (inline (1 ∷ 2 ∷ []) (0 ∷ 0 ∷ [])) ≡ true
+  example-is_inline = refl
+
+  pub example-IsInline : IsInline (inline (1 ∷ 2 ∷ []) (0 ∷ 0 ∷ []))
+  example-IsInline = search rules
+
+  pub example-tiny_capacity : tiny_capacity 4 (inline (1 ∷ 2 ∷ []) (0 ∷ 0 ∷ [])) ≡ 4
+  example-tiny_capacity = refl
+
+  pub example-tiny_allocator : tiny_allocator (inline (1 ∷ 2 ∷ []) (0 ∷ 0 ∷ [])) ≡ alloc
+  example-tiny_allocator = refl
+
+  pub example-PlaceRule : (v : TinyVec A ℕ) → is_inline v ≡ false → PlaceRule 4 5 (inline (1 ∷ 2 ∷ 3 ∷ 4 ∷ []) []) v
+  example-PlaceRule v outside = search rules
+
+  pub example-TinySlotRule : TinySlotRule D (inline (1 ∷ []) (7 ∷ 8 ∷ 0 ∷ [])) (inline (1 ∷ 5 ∷ []) (8 ∷ 0 ∷ []))
+  example-TinySlotRule = search rules
+
+  pub example-SameFrame : SameFrame (inline (1 ∷ 2 ∷ []) (0 ∷ 0 ∷ [])) (inline (2 ∷ 1 ∷ []) (0 ∷ 0 ∷ []))
+  example-SameFrame = search rules
+
+  pub example-StaysInPlace : StaysInPlace D 4 (inline (1 ∷ 2 ∷ []) (7 ∷ 8 ∷ [])) (inline (1 ∷ []) (0 ∷ 7 ∷ 8 ∷ []))
+  example-StaysInPlace = record {
+    place = refl;
+    slot_rule = (0 ∷ [], search rules, refl);
+    capacity = refl;
+    fits = omega arith;
+  }
+
+  pub example-Unchanged : Unchanged (inline (1 ∷ []) (0 ∷ 0 ∷ 0 ∷ [])) (inline (1 ∷ []) (0 ∷ 0 ∷ 0 ∷ []))
+  example-Unchanged = search rules
+
+  pub example-tiny_with_items : tiny_with_items (inline (1 ∷ 2 ∷ []) (0 ∷ 0 ∷ [])) (3 ∷ 4 ∷ []) ≡ inline (3 ∷ 4 ∷ []) (0 ∷ 0 ∷ [])
+  example-tiny_with_items = refl
+
+  -- of tinyvec.specs.Lends
+  pub example-lends_items : tiny_with_items (inline (1 ∷ 2 ∷ []) (0 ∷ 0 ∷ [])) (3 ∷ 4 ∷ []) ≡ inline (3 ∷ 4 ∷ []) (0 ∷ 0 ∷ [])
+  example-lends_items = refl
+
+  -- of tinyvec.specs.IterMut
+  pub example-lends_iter : tiny_with_items (inline (1 ∷ 2 ∷ []) (0 ∷ 0 ∷ [])) (3 ∷ 4 ∷ []) ≡ inline (3 ∷ 4 ∷ []) (0 ∷ 0 ∷ [])
+  example-lends_iter = refl
+
+  -- of tinyvec.specs.Lends
+  pub example-lends_item : tiny_with_item (inline (1 ∷ 2 ∷ []) (0 ∷ 0 ∷ [])) 1 7 ≡ inline (1 ∷ 7 ∷ []) (0 ∷ 0 ∷ [])
+  example-lends_item = refl
+
+  pub example-Grows : Grows D 4 (inline (1 ∷ []) (7 ∷ 8 ∷ 0 ∷ [])) (inline (1 ∷ 5 ∷ []) (8 ∷ 0 ∷ []))
+  example-Grows = search rules
+
+  pub example-Reserves : Reserves D 4 2 8 (inline (1 ∷ []) (0 ∷ 0 ∷ 0 ∷ [])) (inline (1 ∷ []) (0 ∷ 0 ∷ 0 ∷ [])) done
+  example-Reserves = search rules
+
+  pub example-MovesToHeap : (v : TinyVec A ℕ) → MovesToHeap 4 (inline (1 ∷ []) (0 ∷ 0 ∷ 0 ∷ [])) v done → tiny_capacity 4 v ≡ 1
+  example-MovesToHeap v h = search rules
+
+  pub example-MovesToHeapWithRoom : (v : TinyVec A ℕ) → MovesToHeapWithRoom 4 2 (inline (1 ∷ []) (0 ∷ 0 ∷ 0 ∷ [])) v done → tiny_capacity 4 v ≡ 3
+  example-MovesToHeapWithRoom v h = search rules
+
+  pub example-ClonesBehind : ClonesBehind C (7 ∷ []) 1 (inline (1 ∷ []) (0 ∷ 0 ∷ 0 ∷ [])) (inline (1 ∷ []) (7 ∷ 0 ∷ 0 ∷ []))
+  example-ClonesBehind = λ _. record {
+    made = 7 ∷ [];
+    clones = (refl, tt);
+    count = refl;
+    written = refl;
+  }
+
+  pub example-RefusedFor : RefusedFor 4 5 ⊥ (inline (1 ∷ 2 ∷ 3 ∷ 4 ∷ []) []) (inline (1 ∷ 2 ∷ 3 ∷ 4 ∷ []) [])
+  example-RefusedFor = search rules
+
+-- two vectors that have room for four and for eight items
+module _ {A : Type 0} (v w : TinyVec A ℕ) (small : tiny_capacity 4 v ≡ 4) (large : tiny_capacity 4 w ≡ 8) where
+  pub example-Doubles : Doubles 4 5 v w
+  example-Doubles = search rules
+
+  pub example-GrowsFor : is_inline v ≡ false → GrowsFor 4 5 v w
+  example-GrowsFor outside = search rules
+
+  pub example-RoomGrows : tiny_len w ≤ 8 → RoomGrows Doubles 4 5 v w done
+  example-RoomGrows few = search rules
+
+pub example-items_moved : items_moved 4 true false ≡ 4
+example-items_moved = refl

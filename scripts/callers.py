@@ -1,0 +1,158 @@
+"""Which functions call which, by the type that a call is made on, as far as a function's own lines tell it."""
+import re
+
+import exports
+
+# Whose functions are shown as callers, the shortest first.
+CRATES = (
+    "tinyvec_examples",
+    "example_fields",
+    "example_tidy",
+    "example_dns_query",
+    "example_tree",
+    "example_records",
+    "example_script",
+)
+
+MADE_BY = {"array_vec!": "ArrayVec", "tiny_vec!": "TinyVec"}
+CALLED = re.compile(r"\.(\w+)\(")
+NAMED = re.compile(r"(?<![\w.])((?:\w+::)*)(\w+!?)\(")
+BOUND = re.compile(r"\b(?:let|if let|while let) (?:(?:Ok|Some|Err)\()?(?:mut )?(\w+)\)?(?:: ([^=;]+?))? = ([^;]*?)(?:;| else \{| \{\n)")
+INDEXED = re.compile(r"\w+")
+
+
+class Caller:
+    """A public function of a caller's crate, and the calls that it makes: `TinyVec::push`, `run`, `array_vec!`."""
+
+    def __init__(self, source, item, known):
+        self.path, self.name, self.text = source.path, item.name, "\n".join([*(f"/// {it}".rstrip() for it in item.comment), *item.lines])
+        self.known = known
+        head = item.signature()
+        inside = exports.split_angles(head[head.index(item.name) + len(item.name) :])[1]
+        self.types = {name: known.type_named(of) for name, of in parameters(inside)}
+        body = without_turbofish(exports.OPAQUE.sub('""', "\n".join(item.lines[len(item.head()) :])))
+        for found in BOUND.finditer(body):
+            self.types[found[1]] = known.type_named(found[2]) if found[2] else self.type_of(found[3])
+        self.calls = set(self.calls_in(body))
+
+    def calls_in(self, body):
+        for found in CALLED.finditer(body):
+            of = self.type_of(body[receiver_start(body, found.start()) : found.start()])
+            if of:
+                yield f"{of}::{found[1]}"
+        for found in NAMED.finditer(body):
+            of = self.known.type_named(found[1].removesuffix("::").split("::")[-1])
+            yield f"{of}::{found[2]}" if found[1] and of in self.known.types else found[2]
+
+    def type_of(self, text):
+        """The type of an expression, where it is a variable or a chain of calls whose types are known."""
+        text = text.strip().lstrip("&*(!").removeprefix("mut ").strip()
+        found = re.match(r"((?:\w+::)*)(\w+!?)", text)
+        if not found:
+            return None
+        at, name = found.end(), found[2]
+        if text[at : at + 1] == "(":
+            path = found[1].removesuffix("::").split("::")[-1]
+            made = self.known.answers(self.known.type_named(path), name) if path else self.known.functions.get(name)
+            of, at = MADE_BY.get(name, made), closing(text, at)
+        else:
+            of = self.types.get(name)
+        while of and at < len(text):
+            if text[at] == "?":
+                at += 1
+            elif found := re.compile(r"\s*\.(\w+)\(").match(text, at):
+                of, at = self.known.answers(of, found[1]), closing(text, found.end() - 1)
+            else:
+                return None if text[at:].strip(") \n") else of
+        return of
+
+
+class Known:
+    """What the libraries' calls return, by type and name."""
+
+    def __init__(self, crates):
+        self.returns, self.types, self.functions, self.aliases = {}, set(), {}, {}
+        for crate in crates:
+            self.aliases.update({of: alias for alias, of in crate.aliases.items() if alias in crate.names})
+        for crate in crates:
+            for it in crate.exports():
+                self.add(it)
+
+    def add(self, export):
+        if export.kind == "method":
+            self.types.add(export.of)
+            self.returns[(export.of, export.name)] = self.answer(export.item, export.of)
+        elif export.kind == "impl" and not export.of.startswith("&"):
+            of = self.type_named(export.of)
+            for it in (it for it in export.item.members() if it.kind == "fn"):
+                self.returns.setdefault((of, it.name), self.answer(it, of))
+        elif export.kind == "fn":
+            self.functions[export.name] = self.answer(export.item, None)
+
+    def answer(self, item, of):
+        """The type of what a function returns, of a `Result` or `Option` that of a success."""
+        found = re.search(r"-> (.*?)(?: (?:where|requires|ensures\*?)\b.*)?$", item.signature())
+        if not found:
+            return None
+        text = re.sub(r"^(?:&(?:'\w+ )?(?:mut )?|io::)*", "", found[1])
+        while wrapped := re.match(r"(?:Result|Option)<(.*)>$", text):
+            text = exports.split_top(wrapped[1], ", ")[0]
+        return of if text == "Self" else self.type_named(text)
+
+    def answers(self, of, name):
+        return of if name in ("by_ref", "unwrap", "expect", "ok") else self.returns.get((of, name))
+
+    def type_named(self, text):
+        head = exports.head_of(text or "")
+        return self.aliases.get(head, head)
+
+
+def parameters(text):
+    """The parameters of a function, whose list begins the text, each with its type."""
+    inside = text[1 : closing(text, 0) - 1]
+    while inside.strip():
+        one, _, inside = exports.split_top(inside, ",")
+        name, _, of = one.strip().partition(": ")
+        yield name.removeprefix("mut "), of.strip()
+
+
+def closing(text, at):
+    """Where the bracket at a place ends."""
+    depth = 0
+    for end in range(at, len(text)):
+        depth += (text[end] in "([{") - (text[end] in ")]}")
+        if depth == 0:
+            return end + 1
+    return len(text)
+
+
+def receiver_start(text, at):
+    """Where the expression begins that ends at a place."""
+    while at > 0:
+        letter = text[at - 1]
+        if letter in ")]":
+            depth = 0
+            while at > 0:
+                at -= 1
+                depth += (text[at] in ")]") - (text[at] in "([")
+                if depth == 0:
+                    break
+        elif re.match(r"[\w.?!:]", letter) or letter.isspace() and text[at:].lstrip().startswith("."):
+            at -= 1
+        else:
+            break
+    return at
+
+
+def without_turbofish(text):
+    while (at := text.find("::<")) >= 0:
+        text = text[:at] + exports.split_angles(text[at + 2 :])[1]
+    return text
+
+
+def callers(known):
+    """The public functions of the callers' crates. Idioms are left out: they have no contract to show."""
+    for crate in CRATES:
+        for file in sorted(it for it in (exports.TOP / "crates" / crate / "src").rglob("*.rt") if it.stem != "idioms"):
+            source = exports.Source(crate, file)
+            yield from (Caller(source, it, known) for it in source.items if it.kind == "fn" and it.is_public)

@@ -1,0 +1,281 @@
+"""What the library crates export, read off their sources: each function, impl, macro, type and trait, with its contract."""
+import pathlib
+import re
+
+TOP = pathlib.Path(__file__).resolve().parent.parent
+LIBRARIES = (
+    "tinyvec_slots",
+    "tinyvec_array",
+    "tinyvec_slice",
+    "tinyvec",
+    "tinyvec_text",
+    "tinyvec_io",
+    "tinyvec_borsh",
+    "tinyvec_script",
+)
+
+# Text in which a bracket is none: strings, characters and comments.
+OPAQUE = re.compile(r'"(?:\\.|[^"\\])*"|\'(?:\\.|[^\'\\])\'|//.*')
+DECLARED = re.compile(
+    r"(?P<pub>pub(?P<limited>\([^)]*\))? )?(?:const (?=fn))?"
+    r"(?P<kind>macro_rules!|(?:fn|struct|enum|trait|type|impl|mod|use|ghost|const|static)\b) ?(?P<name>\w+)?"
+)
+USED = re.compile(r"pub use ([\w:]+?)(?:::(\{[^}]*\}|\w+|\*))?;", re.S)
+DERIVED = re.compile(r"#\[derive\((.*)\)\]")
+
+# A line that begins something that may be exported. Each has to be one that `Source` reads, so no layout escapes it.
+BEGINS = re.compile(r"^(?:    )?(?:pub (?:const )?(?:fn|trait|struct|enum|type)\b|macro_rules!|impl\b)")
+
+
+class Item:
+    """A declaration: its comment, its attributes, its lines, and the line of the file that it begins at."""
+
+    def __init__(self, comment, attributes, lines, at):
+        self.comment, self.attributes, self.lines, self.at = comment, attributes, lines, at
+        found = DECLARED.match(lines[0])
+        self.kind = found["kind"] if found else ""
+        self.name = found["name"] if found else None
+        self.is_public = bool(found and found["pub"] and not found["limited"])
+        self.is_public |= self.kind == "macro_rules!" and "#[macro_export]" in attributes
+
+    def head(self):
+        """The lines up to a body, by which a function has its contract."""
+        ends = next((at for at, it in enumerate(self.lines) if it == "{"), None)
+        if ends is not None:
+            return self.lines[:ends]
+        ends = next((at for at, it in enumerate(self.lines) if it.endswith((" {", "{}"))), None)
+        if ends is None or self.kind in ("struct", "enum"):
+            return self.lines
+        return [*self.lines[:ends], re.sub(r" ?\{\}?$", "", self.lines[ends])]
+
+    def members(self):
+        """What stands in an impl or a trait."""
+        above = len(self.head()) + (len(self.head()) < len(self.lines) and self.lines[len(self.head())] == "{")
+        lines = [it[4:] if it.startswith("    ") else it for it in self.lines[above:]]
+        return items_in(lines[:-1] if lines and lines[-1] == "}" else lines, self.at + above)
+
+    def signature(self):
+        return " ".join(" ".join(self.head()).split())
+
+
+def items_in(lines, first):
+    """The items that lines declare, each of which begins at the left edge. `first` is the number of the first line."""
+    comment, attributes, body, depth = [], [], [], 0
+    for at, line in enumerate(lines, first):
+        if not body:
+            if not line.strip():
+                comment, attributes = [], []
+            elif line.startswith("///"):
+                comment.append(line.removeprefix("///").strip())
+            elif line.startswith("#["):
+                attributes.append(line)
+            elif not line.startswith(("//", "#!")):
+                body, begins, depth = [line], at, balance(line)
+        else:
+            body.append(line)
+            depth += balance(line)
+        if body and depth == 0 and (line.startswith("}") or line.endswith((";", "{}")) or is_braced(line, body)):
+            yield Item(comment, attributes, body, begins)
+            comment, attributes, body = [], [], []
+
+
+def is_braced(line, body):
+    """Whether a declaration ends where it begins, as `pub struct A { .. }` in one line."""
+    return len(body) == 1 and line.endswith("}")
+
+
+def balance(line):
+    bare = OPAQUE.sub("", line)
+    return sum(bare.count(it) for it in "({[") - sum(bare.count(it) for it in ")}]")
+
+
+class Source:
+    """A file of a crate, by the path of its module."""
+
+    def __init__(self, crate, file):
+        self.crate, self.file = crate, file
+        self.path = str(file.relative_to(TOP))
+        parts = file.relative_to(TOP / "crates" / crate / "src").with_suffix("").parts
+        self.module = () if parts == ("lib",) else parts
+        text = file.read_text(encoding="utf-8")
+        self.title = re.match(r"//! (.*?)\.?\n", text)[1]
+        self.items = list(items_in(text.splitlines(), 1))
+        self.begins = [at for at, line in enumerate(text.splitlines(), 1) if BEGINS.match(line)]
+
+    def unread(self):
+        """Lines that begin a declaration, and that no item begins at."""
+        read = {it.at for it in self.items} | {it.at for item in self.items for it in item_members(item)}
+        inside = [range(it.at + 1, it.at + len(it.lines)) for it in self.items if it.kind in ("fn", "macro_rules!")]
+        return [at for at in self.begins if at not in read and not any(at in it for it in inside)]
+
+
+def item_members(item):
+    return list(item.members()) if item.kind in ("impl", "trait") else []
+
+
+class Export:
+    """What a caller can name: where it is, what it is called, and what is shown of it."""
+
+    def __init__(self, source, item, name, of=None, trait=None):
+        self.source, self.item, self.name, self.of, self.trait = source, item, name, of, trait
+        self.kind = "impl" if trait else "method" if of else item.kind
+
+    def key(self):
+        if self.trait:
+            return f"{self.of}: {self.trait}"
+        return f"{self.of}::{self.name}" if self.of else self.name + "!" * (self.kind == "macro_rules!")
+
+    def has_self(self):
+        return bool(re.search(r"\(\s*(?:&(?:'\w+ )?)?(?:mut )?self\b", self.item.signature()))
+
+
+class Crate:
+    def __init__(self, name):
+        self.name = name
+        files = sorted((TOP / "crates" / name / "src").rglob("*.rt"))
+        self.sources = {it.module: it for it in (Source(name, file) for file in files)}
+        # Each exported name, with its file and declaration, and those that another crate declares.
+        self.names, self.passed_on = {}, []
+        self.export(())
+        self.declared = {it.name: it for source in self.sources.values() for it in source.items if it.kind in TYPES}
+        self.aliases = {
+            it.name: head_of(re.search(r"= (.*);", it.signature())[1]) for it in self.declared.values() if it.kind == "type"
+        }
+
+    def export(self, module):
+        """Exports what a module makes public."""
+        source = self.sources[module]
+        for item in source.items:
+            if item.kind == "use" and item.is_public:
+                found = USED.match("\n".join(item.lines))
+                for name in re.findall(r"\w+", found[2] or ""):
+                    self.resolve(module, found[1].split("::"), name)
+            elif item.kind == "mod" and item.is_public:
+                self.export((*module, item.name))
+            elif item.is_public and item.kind in (*TYPES, "fn"):
+                self.names[item.name] = (source, item)
+        if module == ():
+            macros = ((source, it) for source in self.sources.values() for it in source.items if it.kind == "macro_rules!")
+            self.names.update({it.name: (source, it) for source, it in macros if it.is_public})
+
+    def resolve(self, module, path, name):
+        inner = (*module, *(it for it in path if it not in ("crate", "self")))
+        source = self.sources.get(inner)
+        if source is None:
+            self.passed_on.append((path[0], name))
+            return
+        for item in source.items:
+            if item.name == name and item.is_public and item.kind in (*TYPES, "fn"):
+                self.names[name] = (source, item)
+            elif item.kind == "use" and item.is_public and name in re.findall(r"\w+", item.lines[0]):
+                self.resolve(inner, USED.match("\n".join(item.lines))[1].split("::"), name)
+
+    def exports(self):
+        """All that a caller can name, file by file."""
+        for source in self.sources.values():
+            for item in source.items:
+                if item.kind == "impl":
+                    yield from self.exports_of_impl(source, item)
+                elif self.names.get(item.name) == (source, item):
+                    yield Export(source, item, item.name)
+
+    def exports_of_impl(self, source, item):
+        trait, of, _ = impl_of(item)
+        names = [it for it in (trait and head_of(trait), head_of(of)) if it in self.declared]
+        if all(it in self.names for it in names):
+            if trait:
+                yield Export(source, item, head_of(trait), shortened(of, self.aliases), shortened(trait, self.aliases))
+            else:
+                yield from (
+                    Export(source, it, it.name, self.spoken(head_of(of)))
+                    for it in item.members()
+                    if it.kind == "fn" and it.is_public
+                )
+
+    def spoken(self, name):
+        """The name of a type that callers use, where it is an alias."""
+        return next((alias for alias, it in self.aliases.items() if it == name), name)
+
+
+TYPES = ("struct", "enum", "trait", "type")
+
+
+def impl_of(item):
+    """The trait of an impl, if it is of one, its type, and its parameters."""
+    text = re.sub(r"\bwhere\b.*", "", item.signature())
+    parameters, rest = split_angles(text.removeprefix("impl"))
+    trait, is_one, of = split_top(rest.strip(), " for ")
+    return (trait, of, parameters) if is_one else (None, trait, parameters)
+
+
+def split_angles(text):
+    """A text that begins with parameters in angles: these, and the rest."""
+    if not text.startswith("<"):
+        return "", text
+    depth = 0
+    for at, letter in enumerate(text):
+        depth += (letter == "<") - (letter == ">" and text[at - 1] != "-")
+        if depth == 0:
+            return text[1:at], text[at + 1 :]
+    raise ValueError(text)
+
+
+def split_top(text, separator):
+    """A text split at a separator that is in no brackets, with whether there is one."""
+    depth = 0
+    for at, letter in enumerate(text):
+        depth += (letter in "<([") - (letter in ")]" or letter == ">" and text[at - 1] != "-")
+        if depth == 0 and text.startswith(separator, at):
+            return text[:at], True, text[at + len(separator) :]
+    return text, False, ""
+
+
+def head_of(type_):
+    """The name of a type without its path, its parameters and its references."""
+    bare = re.sub(r"^(?:&(?:'\w+ )?(?:mut )?)+", "", type_.strip())
+    return re.sub(r"<.*", "", bare, flags=re.S).split("::")[-1].strip() if not bare.startswith("[") else bare
+
+
+def shortened(type_, aliases=()):
+    """A type or trait as a heading names it: without lifetimes, and without the parameters of a library's own type."""
+    plain = re.sub(r"'\w+ ?", "", type_)
+    reference = re.match(r"(?:&(?:mut )?)*", plain)[0]
+    bare = plain.removeprefix(reference)
+    if bare.startswith("["):
+        return plain
+    head = head_of(bare)
+    for alias, of in dict(aliases).items():
+        head = alias if head == of else head
+    arguments = re.search(r"<(.*)>$", bare)
+    # The arguments of `From` and the like tell impls of one type apart; those of a type do not.
+    shows = arguments and head in ("From", "TryFrom", "PartialEq", "PartialOrd", "ItemText", "Index", "Borrow", "AsRef")
+    return reference + head + (f"<{arguments[1]}>" if shows else "")
+
+
+GHOST_USE = re.compile(r"(?:ghost )?use Rattle\.([\w.]+)\.\{([^}]*)\}")
+PASSED_ON = re.compile(r"^pub use Rattle\.([\w.]+)$", re.M)
+
+
+def imported(text):
+    """The words that a source or a proof imports, each with its path and the name that it has there."""
+    found = {}
+    for path, names in GHOST_USE.findall(text):
+        for name in (it.strip() for it in names.split(",")):
+            found[name.split(" as ")[-1]] = (home(path), name.split(" as ")[0])
+    return found
+
+
+def home(path):
+    """The crate and the file that define the words of a path: a crate passes some on that are defined below it."""
+    crate, _, rest = path.partition(".specs.")
+    lib = TOP / "crates" / crate / "specs/Lib.antt"
+    if rest and lib.is_file() and not (lib.parent / f"{rest}.antt").is_file():
+        for it in PASSED_ON.findall(lib.read_text(encoding="utf-8")):
+            if it.endswith(f".{rest}"):
+                return home(it)
+    return path
+
+
+def word_anchor(path, name):
+    """What a link names a word on the page of words by. std's are named by their name alone."""
+    return f"std-{name}" if path.startswith("std.") else path.replace(".specs.", "-") + f"-{name}"
