@@ -4,7 +4,7 @@ ghost use Rattle.std.specs.List.{AppendsClones, AppendsResults};
 ghost use Rattle.tinyvec_slots.specs.Slots.{items, spare, items_len, AreDefaults, Vacates, SlotRule};
 ghost use Rattle.tinyvec_slots.specs.Clones.{RefusedAt, ClonesAreEqual, ClonesOver};
 ghost use Rattle.std.specs.Iterator.{Drains, YieldsThen};
-ghost use Rattle.tinyvec_slots.specs.Filling.{YieldsUpTo, ShowsItems, IntoIterYields, AppendsResultsTo};
+ghost use Rattle.tinyvec_slots.specs.Filling.{YieldsUpTo, ShowsItems, IntoIterYields};
 
 use crate::{Array, ArrayVec, FromIterRest, NoMemory, NoRoom};
 use std::alloc::AllocError;
@@ -263,19 +263,6 @@ impl<A: Array> ArrayVec<A> {
         requires room { n ≤ A.CAPACITY }
         requires callable { F.IsAlwaysCallable f }
         ensures items { AppendsResults F.step (take n (items self.old)) (items self.new) f }
-        ensures len { items_len self.new ≡ n }
-        ensures spare { SlotRule A.Item.is_default self.old self.new }
-        ensures fits { items_len self.new ≤ A.CAPACITY }
-    {
-        self.resize_asked(n, &mut f);
-    }
-
-    // `resize_with`, and the state in which the last call leaves `f`.
-    fn resize_asked<F: FnMut() -> A::Item>(&mut self, n: usize, f: &mut F)
-        requires room { n ≤ A.CAPACITY }
-        requires callable { F.IsAlwaysCallable f.old }
-        ensures items { AppendsResults F.step (take n (items self.old)) (items self.new) f.old }
-        ensures asked { AppendsResultsTo F.step (take n (items self.old)) (items self.new) f.old f.new }
         ensures len { items_len self.new ≡ n }
         ensures spare { SlotRule A.Item.is_default self.old self.new }
         ensures fits { items_len self.new ≤ A.CAPACITY }
