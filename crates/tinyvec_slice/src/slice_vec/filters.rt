@@ -1,8 +1,8 @@
 //! Keeping some of the items. The loops are in `tinyvec_slots`, over `CanCut`, implemented in `can_cut.rt`.
-ghost use Rattle.std.specs.Prelude.{◌≡◌, ◌-◌, ◌≤◌};
+ghost use Rattle.std.specs.Prelude.{◌≡◌, ◌-◌, ◌≤◌, length};
 ghost use Rattle.std.specs.Fn.{CalledAt};
 ghost use Rattle.std.specs.List.Retain.{IsFiltered};
-ghost use Rattle.tinyvec_slice.specs.SliceVec.{items_of, name_of, len_of, VacatesOf};
+ghost use Rattle.tinyvec_slice.specs.SliceVec.{items_of, slots_of, name_of, len_of, VacatesOf};
 
 use crate::{GenericSliceVec, Lent};
 
@@ -15,6 +15,7 @@ where
     pub fn retain<F: FnMut(&B::Item) -> bool>(&mut self, mut f: F)
         requires { F.IsAlwaysCallable f }
         ensures same_reference { name_of B.Lent self.new ≡ name_of B.Lent self.old }
+        ensures slot_count { length (slots_of B.Lent self.new) ≡ length (slots_of B.Lent self.old) }
         ensures filtered { IsFiltered (CalledAt F.FnMut) f (items_of B.Lent self.old) (items_of B.Lent self.new) }
         ensures bound { len_of B.Lent self.new ≤ len_of B.Lent self.old }
         ensures spare { VacatesOf B.Lent B.Item.is_default
