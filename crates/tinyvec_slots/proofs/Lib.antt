@@ -19,3 +19,4 @@ pub mod SplicingLemmas
 pub mod TextLemmas
 pub mod ReplacingLemmas
 pub mod KnownItems
+pub mod PopLemmas

@@ -1,7 +1,7 @@
 //! Keeping some items of a list: those kept move to its front, in order.
-ghost use Rattle.std.specs.Prelude.{◌≡◌, ◌+◌, ◌<◌, ◌≤◌, ◌++◌, true, length, take, drop};
-ghost use Rattle.std.specs.Fn.{CalledAt, CalledAtMut, CalledAtPairMut, ComparesKeys};
-ghost use Rattle.std.specs.List.Retain.{IsFiltered, RetainsInTurn, IsDeduped};
+ghost use Rattle.std.specs.Prelude.{◌≡◌, ◌+◌, ◌-◌, ◌<◌, ◌≤◌, ◌++◌, Some, slice_get, true, length, take, drop};
+ghost use Rattle.std.specs.Fn.{FnOnceTakesAtMut, CalledAt, CalledAtMut, CalledAtPairMut, ComparesKeys};
+ghost use Rattle.std.specs.List.Retain.{IsFiltered, RetainsInTurn, IsDeduped, PopsIf};
 ghost use Rattle.tinyvec_slots.specs.Filters.{AsksPair};
 
 use crate::CanCut;
@@ -56,6 +56,41 @@ pub fn dedup_by_key<V: CanCut, K: PartialEq + Drop, F: FnMut(&mut V::Item) -> K>
 {
     let kept = dedup_keys_in_front(vec.as_mut_slice(), key);
     vec.truncate(kept);
+}
+
+/// Calls `f` on the last item, and takes the item if it returns `true`. Of an empty list nothing is called.
+pub fn pop_if<V: CanCut, F: FnOnce(&mut V::Item) -> bool>(vec: &mut V, f: F) -> Option<V::Item>
+    requires { (x : V.Item) → slice_get (V.items vec.old) (length (V.items vec.old) - 1) ≡ Some x
+        → FnOnceTakesAtMut F.FnOnce f x }
+    ensures popped { PopsIf F.FnOnce (V.items vec.old) (V.items vec.new) f result }
+    ensures bound { length (V.items vec.new) ≤ length (V.items vec.old) }
+    ensures fits { length (V.items vec.new) ≤ V.room vec.new }
+    ensures cut { V.Cut vec.old vec.new }
+{
+    let (kept, item) = take_last_if(vec.as_mut_slice(), f);
+    vec.truncate(kept);
+    item
+}
+
+// Takes the last item if `f` returns `true` for it, and counts the items that are left.
+fn take_last_if<T: Default + Drop, F: FnOnce(&mut T) -> bool>(
+    items: &mut [T],
+    f: F,
+) -> (usize, Option<T>)
+    requires { (x : T) → slice_get items.old (length items.old - 1) ≡ Some x → FnOnceTakesAtMut F.FnOnce f x }
+    ensures popped { PopsIf F.FnOnce items.old (take result.0 items.new) f result.1 }
+    ensures bound { result.0 ≤ length items.old }
+    ensures len { length items.new ≡ length items.old }
+{
+    let len = items.len();
+    if len == 0 {
+        return (0, None);
+    }
+    let last = len - 1;
+    if f(&mut items[last]) {
+        return (last, Some(mem::take(&mut items[last])));
+    }
+    (len, None)
 }
 
 // Moves the items for which `f` returns `true` to the front, and counts them.

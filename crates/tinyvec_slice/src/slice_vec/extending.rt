@@ -4,13 +4,15 @@ ghost use Rattle.std.specs.List.{AppendsClones, AppendsResults};
 ghost use Rattle.tinyvec_slots.specs.Clones.{RefusedAt, ClonesAreEqual, ClonesOver, ClonesBefore};
 ghost use Rattle.tinyvec_slice.specs.SliceVec.{items_of, spare_of, name_of, len_of, VacatesOf, slots_of};
 ghost use Rattle.tinyvec_slots.specs.Slots.{AreDefaults};
+ghost use Rattle.tinyvec_slots.specs.Cut.{IsRangeOf, removed};
 ghost use Rattle.std.specs.Iterator.{Drains, YieldsThen};
 ghost use Rattle.tinyvec_slots.specs.Filling.{YieldsUpTo, ShowsItems, IntoIterYields};
 
 use crate::{GenericSliceVec, Lent};
 use std::alloc::AllocError;
 use std::mem;
-use tinyvec_slots::{NoMemory, NoRoom, clone_each_from, fill_clones};
+use std::ops::RangeBounds;
+use tinyvec_slots::{NoMemory, NoRoom, clone_each_from, clone_within, fill_clones, resolve_range};
 
 impl<B: Lent> GenericSliceVec<B> {
     /// Appends clones of the slice's items. Only clones allocate.
@@ -36,6 +38,46 @@ impl<B: Lent> GenericSliceVec<B> {
         let len = self.len();
         clone_each_from(self.lent.all_mut(), len, other)?;
         self.len = len + other.len();
+        Ok(())
+    }
+
+    /// Appends clones of the items of the range. Only clones allocate.
+    ///
+    /// `not_exhausted` fails only for a `RangeInclusive` that was iterated to its end.
+    pub fn extend_from_within<R: RangeBounds<usize>>(&mut self, range: R) -> Result<(), AllocError>
+    where
+        B::Item: Clone,
+        requires not_exhausted { R.has_bounds range }
+        requires in_list { IsRangeOf (items_of B.Lent self.old) (R.start_bound range) (R.end_bound range) }
+        requires room { length (removed (items_of B.Lent self.old) (R.start_bound range) (R.end_bound range))
+            ≤ length (spare_of B.Lent self.old) }
+        ensures same_reference { name_of B.Lent self.new ≡ name_of B.Lent self.old }
+        ensures slot_count { length (slots_of B.Lent self.new) ≡ length (slots_of B.Lent self.old) }
+        ensures items { OnOk result (AppendsClones B.Item.is_clone (items_of B.Lent self.old) (items_of B.Lent self.new)
+            (removed (items_of B.Lent self.old) (R.start_bound range) (R.end_bound range))) }
+        ensures len { OnOk result (len_of B.Lent self.new ≡ len_of B.Lent self.old
+            + length (removed (items_of B.Lent self.old) (R.start_bound range) (R.end_bound range))) }
+        ensures if_clones_equal { OnOk result (ClonesAreEqual B.Item.is_clone
+            → items_of B.Lent self.new ≡ items_of B.Lent self.old
+            ++ removed (items_of B.Lent self.old) (R.start_bound range) (R.end_bound range)) }
+        ensures spare { OnOk result (spare_of B.Lent self.new
+            ≡ drop (length (removed (items_of B.Lent self.old) (R.start_bound range) (R.end_bound range)))
+            (spare_of B.Lent self.old)) }
+        ensures kept { OnErr result (items_of B.Lent self.new ≡ items_of B.Lent self.old) }
+
+        // The first `j` spare slots hold the clones made.
+        ensures refused { OnErr result ((j : ℕ) × RefusedAt B.Item.is_infallible
+            (removed (items_of B.Lent self.old) (R.start_bound range) (R.end_bound range)) j
+            × ClonesOver B.Item.is_clone
+            (take j (removed (items_of B.Lent self.old) (R.start_bound range) (R.end_bound range))) j
+            (spare_of B.Lent self.old) (spare_of B.Lent self.new)) }
+        ensures succeeds { All B.Item.is_infallible
+            (removed (items_of B.Lent self.old) (R.start_bound range) (R.end_bound range)) → IsOk result }
+    {
+        let len = self.len();
+        let part = resolve_range(range, len);
+        clone_within(self.lent.all_mut(), part.start, part.end, len)?;
+        self.len = len + (part.end - part.start);
         Ok(())
     }
 
