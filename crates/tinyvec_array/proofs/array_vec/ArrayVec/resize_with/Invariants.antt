@@ -2,7 +2,7 @@ use Rattle.std.proofs.Common.{◌≡◌, ◌≤◌, ◌-◌, List, ◌++◌, dro
 use Rattle.std.specs.Fn.{Called}
 use Rattle.std.specs.List.{FoldsTo}
 use Rattle.tinyvec_slots.specs.Slots.{items, spare, items_len}
-use Rattle.tinyvec_array.proofs.array_vec.ArrayVec.resize_asked.Given as goal
+use Rattle.tinyvec_array.proofs.array_vec.ArrayVec.resize_with.Given as goal
 
 abbrev pub invariant-loop-self : goal.invariant-loop-self
 invariant-loop-self g l = record {

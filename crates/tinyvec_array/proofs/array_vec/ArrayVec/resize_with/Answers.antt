@@ -5,7 +5,7 @@ use Rattle.std.proofs.iter.Next.{called}
 use Rattle.std.proofs.lemmas.List.{length_push}
 use Rattle.tinyvec_slots.specs.Slots.{items, items_len}
 use Rattle.tinyvec_slots.proofs.FillingLemmas.{spare_after, slots_resized}
-use Rattle.tinyvec_array.proofs.array_vec.ArrayVec.resize_asked.Goals as goal
+use Rattle.tinyvec_array.proofs.array_vec.ArrayVec.resize_with.Goals as goal
 
 pub loop-self-preserved : goal.loop-self-preserved
 loop-self-preserved g c =
