@@ -36,6 +36,7 @@ impl<A: Array> TinyVec<A> {
 
         // Where there is room it allocates nothing.
         ensures succeeds { tiny_len self.old < tiny_capacity A.CAPACITY self.old → IsOk result }
+        ensures succeeds_inline { IsInline self.old → tiny_len self.old < A.CAPACITY → IsOk result }
         ensures full { OnErr result (tiny_len self.old ≡ tiny_capacity A.CAPACITY self.old) }
         ensures refused { OnErr result (Unchanged self.old self.new) }
         ensures value_returned { IfErr result (λ refused. refused.0 ≡ x) }
@@ -98,6 +99,7 @@ impl<A: Array> TinyVec<A> {
 
         // Where there is room it allocates nothing.
         ensures succeeds { tiny_len self.old < tiny_capacity A.CAPACITY self.old → IsOk result }
+        ensures succeeds_inline { IsInline self.old → tiny_len self.old < A.CAPACITY → IsOk result }
         ensures full { OnErr result (tiny_len self.old ≡ tiny_capacity A.CAPACITY self.old) }
         ensures refused { OnErr result (Unchanged self.old self.new) }
         ensures value_returned { IfErr result (λ refused. refused.0 ≡ x) }
