@@ -27,10 +27,10 @@ faults_after_write faults (Err error) bytes = one_more_fault faults
 abbrev pub Reported : ℕ → ℕ → Type 0
 Reported old new = (old < new) ⊎ (new ≡ 2 ^ 64 - 1)
 
--- the known bytes grow by a prefix of these bytes, and not by all of them
+-- the known bytes grow by a prefix of these bytes
 abbrev pub AppendsFront : Option (List ℕ) → Option (List ℕ) → List ℕ → Type 0
-AppendsFront old new bytes = (front rest : List ℕ) × (bytes ≡ front ++ rest) × (0 < length rest) × Appends old new front
+AppendsFront old new bytes = (front rest : List ℕ) × (bytes ≡ front ++ rest) × Appends old new front
 
--- the known bytes begin with a prefix of these bytes, and not with all of them, and lose it
+-- the known bytes begin with a prefix of these bytes, and lose it; it is not all of these
 abbrev pub ConsumesFront : Option (List ℕ) → Option (List ℕ) → List ℕ → Type 0
 ConsumesFront old new bytes = (front rest : List ℕ) × (bytes ≡ front ++ rest) × (0 < length rest) × Consumes old new front
