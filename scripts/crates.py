@@ -332,6 +332,26 @@ class Run:
                 (crate.out / "took").write_text(f"{max(1, round(time.monotonic() - began))}\n", encoding="utf-8")
         return is_proved
 
+    def build_all(self, crates):
+        """Proves and builds the crates, each after those that it uses, up to the first that is not proved."""
+
+        def build_one(crate, jobs):
+            self.begins(crate)
+            if not self.build(crate, jobs):
+                raise NotProved(crate)
+            self.ends(crate, "proved and built")
+
+        steps = {}
+        for it in crates:
+            after = [steps[used] for used in it.uses if used in steps]
+            steps[it] = Step(lambda jobs, it=it: build_one(it, jobs), after)
+        try:
+            self.do(steps.values())
+        except NotProved as error:
+            refused = error.args[0]
+            sys.stderr.write(text_of(refused.out / "build.log"))
+            sys.exit(f"{refused.name} is not proved, so nothing is answered; the lines above are rt's")
+
     def rt(self, crate, folder, words, log):
         """Runs rt, with what it says in a file of the crate's out/. Returns its status."""
         self.states[crate] = "reads and checks"
@@ -454,6 +474,10 @@ def clock(began, expected):
     """The time since then, and how much is expected if that is known, as short as a terminal's line wants it."""
     short = lambda seconds: f"{seconds // 60}:{seconds % 60:02}"
     return short(round(time.monotonic() - began)) + (f" of some {short(expected)}" if expected else "")
+
+
+class NotProved(Exception):
+    pass
 
 
 class Stopped(Exception):
