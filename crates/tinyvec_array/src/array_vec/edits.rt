@@ -173,7 +173,7 @@ impl<A: Array> ArrayVec<A> {
         self.truncate(0);
     }
 
-    /// Cuts the list at `at`, and gives what stood from there on. These items are moved one by one.
+    /// Splits the list at `at` and returns the items from `at` on. These items are moved one by one.
     pub fn split_off(&mut self, at: usize) -> Self
         requires { at ≤ items_len self.old }
         ensures items { items self.new ≡ take at (items self.old) }
