@@ -218,7 +218,7 @@ where
     }
 }
 
-/// `write_str` appends the whole text, or fails where it does not fit and changes nothing.
+/// `write_str` appends the whole text. If it does not fit, it fails and changes nothing.
 impl<B: Lent<Item = u8>> fmt::Write for GenericSliceVec<B> {
     ghost use Rattle.tinyvec_slice.specs.SliceVec.{items_of, spare_of, slots_of, name_of, len_of};
 
