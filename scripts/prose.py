@@ -5,8 +5,9 @@ usage: scripts/prose.py [DOCUMENT..]
        scripts/prose.py --comments [CRATE..]
 
 All documents together have at most MOST words, code and tables among them. CHANGELOG, bench/*.md and what scripts write
-(docs/reference, bench/results) are left out. A sentence is named where it has more than LONGEST words, or one of the words of ODD. Code
-is left out of that, and so are tables. `--comments` names such sentences of the comments in crates/*/src and crates/*/specs.
+(docs/reference, bench/results) are left out. A sentence or a cell of a table is named if it has more than LONGEST words, or one
+of the words of ODD; code is left out of that. `--comments` names such sentences of the comments in crates/*/src and
+crates/*/specs, which the pages of docs/reference show.
 """
 import pathlib
 import re
@@ -21,7 +22,7 @@ UNCOUNTED = ("CHANGELOG.md",)
 
 # What a Rust reader has to translate.
 ODD = re.compile(
-    r"\b(of so many|so many as|(?:is|are) told|giv(?:es?|ing) up|gave up|lies?|lay|stands?(?! for\b)|stood(?! for\b)|behind"
+    r"(?:^Of (?!course)|\btakes? it where\b)|\b(of so many|so many as|so many (?:slots|items|bytes)|(?:is|are) told|giv(?:es?|ing) up|gave up|lies?|lay|stands?(?! for\b)|stood(?! for\b)|behind"
     r"|hand(?:s|ed)? back|ask(?:s|ed)? for (?:memory|room)|(?:inner|counted|standard) ends?|the end that it holds|it is so)\b"
 )
 MARK = {".rt": r" *//[/!]? ?", ".antt": r" *-- ?"}
@@ -65,8 +66,9 @@ def total():
 
 
 def named():
-    """The hard sentences of the documents."""
-    yield from (f"{name}: hard to read: {it}" for name in documents() for it in hard(read(name)))
+    """The hard sentences of the documents and of the pages that show the comments of the sources."""
+    pages = [str(it.relative_to(TOP)) for it in sorted(TOP.glob("docs/reference/*.md"))]
+    yield from (f"{name}: hard to read: {it}" for name in [*documents(), *pages] for it in hard(read(name)))
 
 
 def faults():
@@ -86,8 +88,8 @@ def comments(text, mark):
 
 def sentences(text):
     text = re.sub(r"^( *)```.*?^\1```$", "", text, flags=re.M | re.S)
-    # What is quoted is no prose.
-    kept = (it for it in text.splitlines() if not it.startswith(("|", "#")))
+    # A cell of a table is a paragraph. What is quoted is no prose.
+    kept = (re.sub(r" \| |^\| | \|$", "\n\n", it) for it in text.splitlines() if not it.startswith(("|--", "#")))
     lines = [re.sub(r'"[^"]*"', '".."', re.sub(r"`[^`]*`", "`..`", it)) for it in kept]
     for paragraph in re.split(r"\n\s*\n|\n(?=[-\d])", "\n".join(lines)):
         yield from (it.strip() for it in re.split(r"(?<=[.:;!?])\s+", " ".join(paragraph.split())))

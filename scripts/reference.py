@@ -80,18 +80,24 @@ def faults():
         yield from [f"{name}: not as scripts/reference.py writes it: run it"] * (below != text)
     library = Library()
     for crate in library.crates:
-        for source in crate.sources.values():
-            yield from (f"{source.path}:{at}: scripts/exports.py does not read what begins here" for at in source.unread())
+        yield from crate.lost()
+    unlisted = (it.parent.name for it in TOP.glob("crates/*/CALLING.md") if it.parent.name not in exports.LIBRARIES)
+    yield from (f"crates/{it}: a library that scripts/exports.py does not list" for it in unlisted)
     for page, found in library.pages.items():
+        shown = " ".join(written[page].split())
         for it in found:
             marks = {name: it.mark(main_of(page) if name == page else None) for name in written}
             places = [name for name, text in written.items() for _ in range(text.count(marks[name]))]
             yield from [f"{it.source.path}: {it.key()} is on {len(places)} pages of docs/reference: {', '.join(places)}"] * (len(places) != 1)
+            yield from (f"{it.source.path}: not on {page}: {line}" for line in it.said() if line not in shown)
             if it.kind != "impl" and not it.item.comment:
                 yield f"{it.source.path}: {it.key()} has no `///`"
             if it.key() in library.uncalled and page not in (*UNCALLED, "SLOTS"):
                 yield f"docs/reference/{page}.md: no caller of {it.key()}: write one in crates/tinyvec_examples/src"
     yield from (f"docs/DIFFERENCES.md: no such call: {it}" for it in library.notes if it not in library.keys)
+    for cells in differences():
+        bare = [it for it in re.findall(r"`([^`]*)`", cells[2]) if not NAMES.fullmatch(it)]
+        yield from (f"docs/DIFFERENCES.md: a call without its type: {it}" for it in bare)
 
 
 def main_of(page):
@@ -156,14 +162,20 @@ def is_call(key):
 def notes():
     """What the last column of the table of differences ties to a type and a call: `TinyVec::{extend, fill}`, `ArrayVec: Clone`."""
     found = {}
-    for row in (TOP / "docs/DIFFERENCES.md").read_text(encoding="utf-8").splitlines():
-        cells = [it.strip() for it in row.strip("|").split(" | ")]
-        for of, mark, names in NAMES.findall(cells[2].replace("`", "")) if row.startswith("| ") and len(cells) == 3 else ():
+    for cells in differences():
+        for of, mark, names in NAMES.findall(cells[2].replace("`", "")):
             for name in re.findall(r"\w+!?", names):
                 # A macro is of no type.
                 key = name if name.endswith("!") else of + mark + name
                 found.setdefault(key, []).append(f"In Rust: {cells[0]}. Here: {cells[1]}.")
     return found
+
+
+def differences():
+    """The rows of the table of differences."""
+    rows = (TOP / "docs/DIFFERENCES.md").read_text(encoding="utf-8").splitlines()
+    found = ([it.strip() for it in row.strip("|").split(" | ")] for row in rows if row.startswith("| "))
+    return [it for it in found if len(it) == 3]
 
 
 class Entry(exports.Export):
@@ -215,6 +227,12 @@ class Entry(exports.Export):
         for it in self.item.members() if self.item.kind in ("impl", "trait") else ():
             if it.kind in ("fn", "type", "const") and it.comment:
                 yield from (f"`{it.name}`: {said}" for said in paragraphs(it.comment))
+
+    def said(self):
+        """Each line of `///` that a page has to show, as the source has it."""
+        inside = self.item.lines if self.item.kind in ("impl", "trait") and not self.is_part else []
+        comment = [] if self.is_part else self.item.comment
+        return [" ".join(it.split()) for it in [*comment, *re.findall(r"^ *///(.*)$", "\n".join(inside), re.M)] if it.strip()]
 
     def code(self):
         """The declaration, without bodies, private fields and proofs."""

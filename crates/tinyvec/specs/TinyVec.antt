@@ -31,7 +31,7 @@ module _ {A T : Type 0} where
   abbrev pub IsInline : TinyVec A T → Type 0
   IsInline v = IsTrue (is_inline v)
 
-  -- `v.capacity()`, if an array has so many slots
+  -- `v.capacity()`, if an array has this many slots
   abbrev pub tiny_capacity : ℕ → TinyVec A T → ℕ
   tiny_capacity slots (Inline v alloc) = slots
   tiny_capacity slots (Heap v) = vec_capacity v

@@ -27,7 +27,7 @@ pub struct TinyVecDrain<'a, A: Array> {
 impl<A: Array> TinyVec<A> {
     ghost use Rattle.tinyvec.specs.Drain.{drain_items, drain_len, drain_owner, drain_kept, drain_vec, DrainCanStep, DrainSteps, DrainStepsBack, DrainsFromEnds};
 
-    /// Removes the items of the range, and yields them from both ends.
+    /// Removes the range, and yields its items from both ends.
     ///
     /// `not_exhausted` fails only for a `RangeInclusive` that was iterated to its end.
     // Inlined with its destructor, so that the five fields stay in registers.

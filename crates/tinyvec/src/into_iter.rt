@@ -124,7 +124,7 @@ where
 
     ghost is_infallible = { λ left. (length left ≤ A.CAPACITY) × All A.Item.is_infallible left };
 
-    /// An iterator over clones of the items that are left. Only these are cloned, and they are inline where they fit.
+    /// An iterator over clones of the items that are left. Only these are cloned, and they are inline if they fit.
     fn clone(&self) -> Result<Self, AllocError> {
         let vec = TinyVec::from_slice(*self.vec.allocator(), self.as_slice())?;
         Ok(TinyVecIterator::over(vec))

@@ -49,7 +49,7 @@ impl<'a, A: Array, I: Drop> Drop for TinyVecSplice<'a, A, I> {
 impl<A: Array> TinyVec<A> {
     ghost use Rattle.tinyvec.specs.TinyVecSplice.{splice_front, splice_left, splice_len, splice_back, splice_replacement, splice_touches, splice_vec, splice_lender, SpliceCanStep};
 
-    /// Removes the items of the range, yields them from both ends, and puts those of `replacement` in their place.
+    /// Removes the range, yields its items from both ends, and puts those of `replacement` in their place.
     ///
     /// `not_exhausted` fails only for a `RangeInclusive` that was iterated to its end.
     pub fn splice<R: RangeBounds<usize>, I: IntoIterator<Item = A::Item>>(
@@ -79,9 +79,9 @@ impl<A: Array> TinyVec<A> {
         }
     }
 
-    /// Puts the items of `replacement` in the place of the range, whose items it drops: `splice` and `finish` in one. Where
-    /// memory is refused for an item, it is returned with those that follow it. Items that find no place in the range are
-    /// pushed one by one, whatever the replacement hints at.
+    /// Puts the items of `replacement` in the place of the range, whose items it drops: `splice` and `finish` in one. If an
+    /// item finds no room, it is returned with those that follow it. Items that find no place in the range are pushed one by
+    /// one, whatever the replacement hints at.
     ///
     /// `not_exhausted` fails only for a `RangeInclusive` that was iterated to its end.
     pub fn splice_all<R: RangeBounds<usize>, I: IntoIterator<Item = A::Item>>(

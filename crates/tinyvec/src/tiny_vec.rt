@@ -104,7 +104,7 @@ impl<A: Array> TinyVec<A> {
         mem::take(&mut self.as_mut_slice()[i])
     }
 
-    /// An empty list, inline.
+    /// An empty vector, inline.
     pub fn new(alloc: Global) -> Self
         ensures items { tiny_items result ≡ [] }
         ensures spare { AreDefaults A.Item.is_default A.CAPACITY (tiny_spare result) }
@@ -113,7 +113,7 @@ impl<A: Array> TinyVec<A> {
         TinyVec::Inline(ArrayVec::new(), alloc)
     }
 
-    /// An empty list with room for `n` items, inline where the array has it. Otherwise allocates it.
+    /// An empty vector with room for `n` items, inline if the array has that room. Otherwise allocates it.
     pub fn with_capacity(alloc: Global, n: usize) -> Result<Self, AllocError>
         ensures items { IfOk result (λ v. tiny_items v ≡ []) }
         ensures spare { IfOk result (λ v. IsInline v → AreDefaults A.Item.is_default A.CAPACITY (tiny_spare v)) }
@@ -129,7 +129,7 @@ impl<A: Array> TinyVec<A> {
         Ok(TinyVec::Heap(heap))
     }
 
-    /// A list of `n` defaults, inline where they fit the array. Otherwise room for all is allocated once.
+    /// A vector of `n` defaults, inline if they fit the array. Otherwise room for all is allocated once.
     pub fn with_initial_len(alloc: Global, n: usize) -> Result<Self, AllocError>
         ensures items { IfOk result (λ v. AreDefaults A.Item.is_default n (tiny_items v)) }
         ensures room { IfOk result (λ v. tiny_capacity A.CAPACITY v ≡ max n A.CAPACITY) }
@@ -145,7 +145,7 @@ impl<A: Array> TinyVec<A> {
         Ok(TinyVec::Heap(heap))
     }
 
-    /// A list of the whole array, inline.
+    /// A full vector, whose list is the whole array. It is inline.
     pub fn from_array(alloc: Global, array: A) -> Self
         ensures items { tiny_items result ≡ A.slots array }
         ensures spare { tiny_spare result ≡ [] }
@@ -163,7 +163,7 @@ impl<A: Array> TinyVec<A> {
         TinyVec::Inline(vec, alloc)
     }
 
-    /// A list of the first `len` slots of the array, inline. The others are its spare slots.
+    /// A vector whose list is the first `len` slots of the array. The others are its spare slots. It is inline.
     pub fn from_array_len(alloc: Global, array: A, len: usize) -> Self
         requires { len ≤ A.CAPACITY }
         ensures items { tiny_items result ≡ take len (A.slots array) }
@@ -173,7 +173,7 @@ impl<A: Array> TinyVec<A> {
         TinyVec::Inline(ArrayVec::from_array_len(array, len), alloc)
     }
 
-    /// A list of the first `len` slots of the array, inline. Returns the array if it has fewer slots.
+    /// A vector whose list is the first `len` slots of the array. Returns the array if it has fewer slots. It is inline.
     // Inlined, since LLVM takes minutes over a function that returns one of two large values.
     #[inline(always)]
     pub fn try_from_array_len(alloc: Global, array: A, len: usize) -> Result<Self, A>
@@ -189,7 +189,7 @@ impl<A: Array> TinyVec<A> {
         Ok(Self::from_array_len(alloc, array, len))
     }
 
-    /// A list of clones of the slice's items, inline where they fit the array. Otherwise room for all is allocated once,
+    /// A vector of clones of the slice's items, inline if they fit the array. Otherwise room for all is allocated once,
     /// before any is cloned.
     pub fn from_slice(alloc: Global, slice: &[A::Item]) -> Result<Self, AllocError>
     where

@@ -30,7 +30,7 @@ module _ {A T : Type 0} where
   abbrev pub drain_owner : ArrayVecDrain A T → GName
   drain_owner d = d.vec.ghost_name
 
-  -- the remaining items lie among the vacated slots
+  -- the remaining items are in the vacated slots
   abbrev pub DrainCanStep : ArrayVecDrain A T → Type 0
   DrainCanStep d = (d.front ≤ d.back) × (d.back ≤ d.count) × (d.count ≤ length (spare d.vec.now))
 

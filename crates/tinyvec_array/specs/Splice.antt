@@ -38,7 +38,7 @@ module _ {A I T : Type 0} where
   abbrev pub splice_touches : ArrayVecSplice A I T → ℕ
   splice_touches s = (splice_view s).touches
 
-  -- the list and its spare slots, as they lie in the array
+  -- the list and its spare slots, as the array has them
   abbrev pub splice_slots : ArrayVecSplice A I T → Slots T
   splice_slots s = s.vec.now
 
@@ -46,7 +46,7 @@ module _ {A I T : Type 0} where
   abbrev pub splice_lender : ArrayVecSplice A I T → GName
   splice_lender s = s.vec.ghost_name
 
--- the gap lies in the list
+-- the gap is in the list
 abbrev pub SpliceCanStep : {A I T : Type 0} → ArrayVecSplice A (Fuse I) T → Type 0
 SpliceCanStep s = GapCanStep s.gap (fuse_done s.replacement) (items_len (splice_slots s))
 

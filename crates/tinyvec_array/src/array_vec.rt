@@ -63,7 +63,7 @@ impl<A: Array> ArrayVec<A> {
         self.len
     }
 
-    /// How many items fit, which is the number of slots.
+    /// The number of items that fit, which is that of the slots.
     pub fn capacity(&self) -> usize
         ensures value { result ≡ A.CAPACITY }
         ensures fits { items_len self.now ≤ A.CAPACITY }
@@ -292,7 +292,7 @@ impl<A: Array> ArrayVec<A> {
 
     ghost use Rattle.tinyvec_array.specs.IterMut.{lends_iter};
 
-    /// The items, in order or from the back.
+    /// Iterates over the items, in order or from the back.
     pub fn iter(&self) -> slice::Iter<'_, A::Item>
         ensures rest { iter_rest result ≡ items self.now }
         ensures len { length (iter_rest result) ≡ items_len self.now }
@@ -303,8 +303,8 @@ impl<A: Array> ArrayVec<A> {
         self.as_slice().iter()
     }
 
-    /// The items for writing, in order or from the back. After a loop over this, a proof knows the length of the list
-    /// and the spare slots. After one over `as_mut_slice().iter_mut()`, it knows the items too.
+    /// Iterates over the items for writing, in order or from the back. After a loop over it a proof knows the length and the
+    /// spare slots, and after one over `as_mut_slice().iter_mut()` the items too.
     pub fn iter_mut(&mut self) -> slice::IterMut<'_, A::Item>
         ensures* writes_back { sem 𝓛 (lends_iter A.row A.Item.row A.Array A.Item.Default self.entry result) }
         ensures rest { iter_mut_rest result ≡ items self.old }

@@ -47,7 +47,7 @@ impl<'a, A: Array, I: Drop> Drop for ArrayVecSplice<'a, A, I> {
 impl<A: Array> ArrayVec<A> {
     ghost use Rattle.tinyvec_array.specs.Splice.{splice_front, splice_left, splice_len, splice_back, splice_replacement, splice_touches, splice_slots, splice_lender, SpliceCanStep};
 
-    /// Replaces the items of the range by those of `replacement`, and yields the removed ones from both ends.
+    /// Removes the range, yields its items from both ends, and puts those of `replacement` in their place.
     ///
     /// `not_exhausted` fails only for a `RangeInclusive` that was iterated to its end.
     pub fn splice<R: RangeBounds<usize>, I: IntoIterator<Item = A::Item>>(
@@ -77,8 +77,8 @@ impl<A: Array> ArrayVec<A> {
         }
     }
 
-    /// Puts the items of `replacement` in the place of the range, whose items it drops: `splice` and `finish` in one. Where
-    /// an item has no room, the vector is full, and that item is returned with those that follow it.
+    /// Puts the items of `replacement` in the place of the range, whose items it drops: `splice` and `finish` in one. If an
+    /// item finds no room, it is returned with those that follow it, and the vector is full.
     ///
     /// `not_exhausted` fails only for a `RangeInclusive` that was iterated to its end.
     pub fn splice_all<R: RangeBounds<usize>, I: IntoIterator<Item = A::Item>>(
@@ -111,8 +111,8 @@ impl<A: Array> ArrayVec<A> {
         splice.finish()
     }
 
-    /// Puts copies of the slice's items in the place of the range, whose items it drops. Fails where they don't fit, and
-    /// changes nothing then.
+    /// Puts copies of the slice's items in the place of the range, whose items it drops. If they don't fit, fails and
+    /// changes nothing.
     pub fn replace_range<R: RangeBounds<usize>>(
         &mut self,
         range: R,

@@ -35,7 +35,7 @@ module _ {C : Type 0} (Spells : C → List ℕ → Type 0) (Fits : C → Type 0)
     pub fit : AllByRecursion Fits items
     pub whole : input ≡ count ++ (bytes ++ tail)
 
-  -- The list has a value with room for so many items.
+  -- A value with this room has the list.
   pub record ListFits (room : ℕ) (cs : List C) : Type 0 where
     pub few : length cs ≤ room
     pub counted : length cs < 2 ^ 64

@@ -22,7 +22,7 @@ pub trait BorshDeserialize: BorshForm + Sized {
     ghost MayAsk: { List ℕ → Type 0 };
 
     /// Reads the value at the start of the input, and leaves the rest unread. A whole number is read by one call, and a
-    /// list of whole numbers in blocks. Allocates only where a `TinyVec` moves to the heap.
+    /// list of whole numbers in blocks. Allocates only if a `TinyVec` moves to the heap.
     fn deserialize_reader<R: Read>(
         alloc: Global,
         reader: &mut Counted<R>,

@@ -38,7 +38,7 @@ module _ {B T : Type 0} (g : Lent.Ghosts B T) where
   abbrev pub drain_name : GenericSliceVecDrain B T → GName
   drain_name d = name_of g d.vec.now
 
-  -- the remaining items lie in the vacated slots
+  -- the remaining items are in the vacated slots
   abbrev pub DrainCanStep : GenericSliceVecDrain B T → Type 0
   DrainCanStep d = (d.front ≤ d.count) × (d.count ≤ length (spare_of g d.vec.now))
 

@@ -31,7 +31,7 @@ module _ {B T : Type 0} (g : Lent.Ghosts B T) where
   abbrev pub name_of : GenericSliceVec B T → GName
   name_of v = g.name v.lent
 
-  -- the n vacated slots stand, as defaults, before the old spare slots
+  -- the n vacated slots hold defaults, and precede the old spare slots
   abbrev pub VacatesOf : (T → Type 0) → ℕ → GenericSliceVec B T → GenericSliceVec B T → Type 0
   VacatesOf D n old new = Vacates D n (seen_of old) (seen_of new)
 

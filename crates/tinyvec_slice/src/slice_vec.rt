@@ -43,7 +43,7 @@ impl<B: Lent> GenericSliceVec<B> {
         self.len.min(self.capacity())
     }
 
-    /// How many items fit, which is the number of slots.
+    /// The number of items that fit, which is that of the slots.
     pub fn capacity(&self) -> usize
         ensures value { result ≡ length (slots_of B.Lent self.now) }
         ensures parts { result ≡ len_of B.Lent self.now + length (spare_of B.Lent self.now) }
@@ -150,7 +150,7 @@ impl<B: Lent> GenericSliceVec<B> {
 
     ghost use Rattle.tinyvec_slice.specs.IterMut.{lends_iter};
 
-    /// The items, in order or from the back.
+    /// Iterates over the items, in order or from the back.
     pub fn iter(&self) -> slice::Iter<'_, B::Item>
         ensures rest { iter_rest result ≡ items_of B.Lent self.now }
         ensures len { length (iter_rest result) ≡ len_of B.Lent self.now }
@@ -161,7 +161,7 @@ impl<B: Lent> GenericSliceVec<B> {
         self.as_slice().iter()
     }
 
-    /// The items for writing, in order or from the back.
+    /// Iterates over the items for writing, in order or from the back.
     pub fn iter_mut(&mut self) -> slice::IterMut<'_, B::Item>
         ensures* writes_back { sem 𝓛 (lends_iter B.row B.Item.row B.Lent self.entry result) }
         ensures rest { iter_mut_rest result ≡ items_of B.Lent self.old }
@@ -241,7 +241,7 @@ impl<'s, T: Drop> GenericSliceVec<&'s mut [T]> {
         Self::from_slice_len(slice, len)
     }
 
-    /// A vector whose list is the first `len` slots of the slice, or all slots where there are fewer.
+    /// A vector whose list is the first `len` slots of the slice, or all slots if there are fewer.
     pub fn from_slice_at_most(slice: &'s mut [T], len: usize) -> Self
         ensures same_reference { name result ≡ slice.entry.ghost_name }
         ensures value { seen result ≡ split_at (min len (length slice.old)) slice.old }

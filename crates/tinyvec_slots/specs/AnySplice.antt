@@ -6,11 +6,11 @@ use Rattle.tinyvec_slots.specs.declared.no_room.SpliceRest.{SpliceRest}
 
 -- what a contract sees of a splice
 pub record SpliceView (I T : Type 0) : Type 0 where
-  -- what stood before the range, and the replacement items placed from the front
+  -- what preceded the range, and the replacement items placed from the front
   pub front : List T
   -- the removed items that are left
   pub left : List T
-  -- the replacement items placed from the back, and what stood after the range
+  -- the replacement items placed from the back, and what followed the range
   pub back : List T
   -- the replacement, as far as it was not asked
   pub replacement : I
@@ -47,20 +47,19 @@ module _ {S I T : Type 0} (view : S → SpliceView I T) (keeps : S → S → Typ
   SplicesBack old item new = MatchOption item (((view old).left ≡ []) × (new ≡ old))
       (λ x. GivesFromBack gives (view old) x (view new) × keeps old new)
 
--- how a splice ended, which left a list
 module _ {I T : Type 0} where
   -- how many items of the replacement `finish` placed
   abbrev pub finish_placed : SpliceView I T → List T → ℕ
   finish_placed s list = length list - (length s.front + length s.back)
 
-  -- how many touches `finish` may need for the removed items that are left, for those that it places and for moving,
-  -- where so many slots held the list
+  -- how many touches `finish` may need for the removed items that are left, for those that it places and for moving, if
+  -- `slots` slots held the list
   abbrev pub finish_bound : SpliceView I T → ℕ → List T → ℕ
   finish_bound s slots list = length s.left + finish_placed s list + max slots (length list)
 
 module _ {I T : Type 0} (gives : I → Option T → I → Type 0) (capacity : ℕ) where
-  -- `finish` of s was answered with result. It placed what the replacement still gave, as far as there was room, between
-  -- what stood in front and what stood at the back.
+  -- `finish` of s returned the result. It placed what the replacement still yielded, as far as there was room, between the
+  -- front and the back.
   pub record Finishes (s : SpliceView I T) (result : Result Unit (SpliceRest T I)) (list : List T) : Type 0 where
     pub placed : List T
     pub ran : MatchResult result (λ _. Drains gives s.replacement placed)
@@ -69,7 +68,7 @@ module _ {I T : Type 0} (gives : I → Option T → I → Type 0) (capacity : �
     pub full : OnErr result (length list ≡ capacity)
     pub fits : length list ≤ capacity
 
--- the same of a replacement of which it is known what it still gives: it all went in, or did not fit
+-- the same if it is known what the replacement still yields: it all went in, or did not fit
 module _ {I T : Type 0} (rest : I → List T) (capacity : ℕ) where
   pub record FinishesWith (s : SpliceView I T) (result : Result Unit (SpliceRest T I)) (list : List T) : Type 0 where
     pub fits : IsOk result ↔ (length s.front + length (rest s.replacement) + length s.back ≤ capacity)

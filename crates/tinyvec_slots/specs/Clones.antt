@@ -11,7 +11,7 @@ ClonesAreEqual {T} C = (x y : T) → C x y → y ≡ x
 abbrev pub RefusedAt : {T : Type 0} → (T → Type 0) → List T → ℕ → Type 0
 RefusedAt I xs k = (k < length xs) × HoldsAt (λ x. ¬ (I x)) xs k
 
--- clones of xs, of which there are n, stand over the first n elements of `old`
+-- the n clones of xs replace the first n elements of `old`
 pub record ClonesOver {T : Type 0} (C : T → T → Type 0) (xs : List T) (n : ℕ) (old new : List T) : Type 0 where
   pub made : List T
   pub clones : AllZip C xs made
@@ -25,13 +25,13 @@ pub record ClonesOverFrom {T : Type 0} (C : T → T → Type 0) (start : ℕ) (x
   pub count : length made ≡ n
   pub written : new ≡ take start old ++ made ++ drop (start + n) old
 
--- clones of xs stand before `old`
+-- new is clones of xs, followed by `old`
 abbrev pub ClonesBefore : {T : Type 0} → (T → T → Type 0) → List T → List T → List T → Type 0
 ClonesBefore {T} C xs old new = (ys : List T) × AllZip C xs ys × (new ≡ ys ++ old)
 
 -- A `clone_from` that was refused a clone took the list `olds` to `news`, which is cut to m items, the lesser of the two
--- lengths. `made`, k of these, are clones. Where the list lies in slots, `more`, j further clones, stand after it, after
--- the defaults in the vacated slots.
+-- lengths. `made`, k of these, are clones. If the list is in slots, `more`, j further clones, follow the defaults in the
+-- vacated slots.
 pub record ClonesInPart {T : Type 0} (D I : T → Type 0) (C : T → T → Type 0) (source olds news : List T) (m : ℕ) (in_slots : Type 0) (spares behind : List T) : Type 0 where
   pub k : ℕ
   pub j : ℕ

@@ -20,7 +20,7 @@ range_end (Excluded n) len = n
 range_end Unbounded len = len
 
 module _ {T : Type 0} where
-  -- the range with these ends lies in the list, and does not run backwards
+  -- the range with these ends is in the list, and does not run backwards
   abbrev pub IsRangeOf : List T → Bound ℕ → Bound ℕ → Type 0
   IsRangeOf xs start end = (range_start start ≤ range_end end (length xs)) × (range_end end (length xs) ≤ length xs)
 

@@ -38,12 +38,12 @@ module _ {T : Type 0} where
   abbrev pub split_at : ℕ → List T → Slots T
   split_at n xs = record { slots = xs; len = n }
 
-  -- the n vacated slots stand, as defaults, before the old spare slots
+  -- the n vacated slots hold defaults, and precede the old spare slots
   abbrev pub Vacates : (T → Type 0) → ℕ → Slots T → Slots T → Type 0
   Vacates D n old new = (ds : List T) × AreDefaults D n ds × (spare new ≡ ds ++ spare old)
 
-  -- The slot rule. Where the list got shorter, as many defaults stand before the old spare slots. Where it got longer,
-  -- it used up as many of them. Where it is as long, they are the same.
+  -- The slot rule. If the list got shorter, as many defaults precede the old spare slots. If it got longer, it used up as
+  -- many of them. If it is as long, they are the same.
   abbrev pub SlotRule : (T → Type 0) → Slots T → Slots T → Type 0
   SlotRule D old new = (ds : List T) × AreDefaults D (items_len old - items_len new) ds
       × (spare new ≡ ds ++ drop (items_len new - items_len old) (spare old))

@@ -3,13 +3,13 @@ use Rattle.std.specs.Prelude.{◌≡◌, ℕ, ◌*◌, ◌<◌, ◌≤◌, if◌
 use Rattle.tinyvec.specs.TinyVec.{tiny_items, tiny_spare, is_inline, tiny_capacity}
 use Rattle.tinyvec.specs.declared.tiny_vec.TinyVec.{TinyVec}
 
--- the UTF-8 bytes of the text, whether they lie in the array, and how many bytes fit where they lie
+-- the UTF-8 bytes of the text, whether they are in the array, and how many bytes fit where they are
 pub record Text : Type 0 where
   pub bytes : List ℕ
   pub inline : Bool
   pub room : ℕ
 
--- what a list of bytes, whose array has so many slots, is as a text
+-- what a list of bytes, whose array has this many slots, is as a text
 abbrev pub text_of : {A : Type 0} → ℕ → TinyVec A ℕ → Text
 text_of slots v = record { bytes = tiny_items v; inline = is_inline v; room = tiny_capacity slots v }
 
@@ -25,13 +25,13 @@ text_chars t = chars t.bytes
 abbrev pub text_len : Text → ℕ
 text_len t = length t.bytes
 
--- The place rule. After a call that needs room for so many bytes, the text is inline exactly where it was inline and
--- the need is within the slots.
+-- The place rule. After a call that needs room for `need` bytes, the text is inline exactly if it was inline and the need is
+-- within the slots.
 abbrev pub TextPlaceRule : ℕ → ℕ → Text → Text → Type 0
 TextPlaceRule slots need old new = IsTrue new.inline ↔ (IsTrue old.inline × (need ≤ slots))
 
--- where there was less room than `need`, there is room for just so many bytes, or twice the room that there was where that is
--- more, and `moves` does not hold
+-- if there was less room than `need`, there is room for just that if `moves` holds, else twice the old room, or `need` if that
+-- is more
 abbrev pub TextGrows : Bool → ℕ → Text → Text → Type 0
 TextGrows moves need old new = old.room < need → new.room ≡ (if moves then need else max (2 * old.room) need)
 

@@ -3,6 +3,7 @@ use Rattle.std.proofs.Common.{◌≡◌, [], ◌∷◌, refl, rules}
 use Rattle.tinyvec_slots.specs.Slots.{items, spare, items_len, all_slots, split_at, AreDefaults, Vacates, SlotRule, with_items}
 use Rattle.tinyvec_words.proofs.Shown.{D, nums, over}
 
+-- of tinyvec_slots.specs.Slots
 pub example-Slots : (over (1 ∷ 2 ∷ []) (0 ∷ [])).slots ≡ 1 ∷ 2 ∷ 0 ∷ []
 example-Slots = refl
 

@@ -158,7 +158,7 @@ impl<A: Array> TinyVec<A> {
         self.move_to_the_heap_and_reserve(n)
     }
 
-    /// Moves a list on the heap into the array where it fits, which allocates nothing. Otherwise shrinks the allocation; if
+    /// Moves a list on the heap into the array if it fits, which allocates nothing. Otherwise shrinks the allocation; if
     /// the allocator refuses, nothing changes and no error is returned.
     pub fn shrink_to_fit(&mut self)
         ensures items { tiny_items self.new ≡ tiny_items self.old }

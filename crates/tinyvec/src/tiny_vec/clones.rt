@@ -13,7 +13,7 @@ use tinyvec_array::Array;
 use tinyvec_slots::clone_over;
 
 impl<A: Array> TinyVec<A> {
-    /// Clones the list into the same place, and inline the spare slots too.
+    /// Clones the vector, spare slots too. The clone is in the same place.
     // Inlined, and with one return for each variant: a shared return copies the whole value once more.
     #[inline(always)]
     pub fn clone(&self) -> Result<Self, AllocError>

@@ -55,7 +55,7 @@ impl<A: Array> TinyVec<A> {
         Ok(())
     }
 
-    /// Removes and returns the last item. Inline its slot gets a default.
+    /// Removes the last item and returns it. Inline, its slot is reset to a default.
     pub fn pop(&mut self) -> Option<A::Item>
         ensures variant { IsSome result ↔ (0 < tiny_len self.old) }
         ensures some { IfSome result (λ x. tiny_items self.old ≡ tiny_items self.new ++ x ∷ []) }
@@ -84,8 +84,8 @@ impl<A: Array> TinyVec<A> {
         }
     }
 
-    /// Puts `x` at `i` and moves the later items up. A full list first doubles its capacity, which moves an inline one to
-    /// the heap. If the allocator refuses, nothing changes and `x` is returned.
+    /// Inserts `x` at `i`, and moves the later items up. A full list first doubles its capacity, which moves an inline one
+    /// to the heap. If the allocator refuses, nothing changes and `x` is returned.
     // Inlined, so that the variant is tested once for this call and the next.
     #[inline(always)]
     pub fn insert(&mut self, i: usize, x: A::Item) -> Result<(), NoMemory<A::Item>>
@@ -119,7 +119,7 @@ impl<A: Array> TinyVec<A> {
         Ok(())
     }
 
-    /// Removes and returns the item at `i`, and moves the later ones down.
+    /// Removes the item at `i` and returns it. The later ones move down.
     // Inlined like `insert`.
     #[inline(always)]
     pub fn remove(&mut self, i: usize) -> A::Item
@@ -134,7 +134,7 @@ impl<A: Array> TinyVec<A> {
         }
     }
 
-    /// Removes and returns the item at `i`, and moves the last one into its place.
+    /// Removes the item at `i` and returns it. The last one takes its place.
     pub fn swap_remove(&mut self, i: usize) -> A::Item
         requires { i < tiny_len self.old }
         ensures value { result ≡ slice_index_or (tiny_items self.old) i result }
@@ -147,7 +147,7 @@ impl<A: Array> TinyVec<A> {
         }
     }
 
-    /// Keeps the first `n` items, or all where there are no more. Inline each vacated slot gets a default.
+    /// Keeps the first `n` items, or all if there are no more. Inline, each vacated slot is reset to a default.
     #[inline(always)]
     pub fn truncate(&mut self, n: usize)
         ensures items { tiny_items self.new ≡ take n (tiny_items self.old) }
@@ -159,7 +159,7 @@ impl<A: Array> TinyVec<A> {
         }
     }
 
-    /// Empties the list. Inline each vacated slot gets a default.
+    /// Empties the list. Inline, each vacated slot is reset to a default.
     pub fn clear(&mut self)
         ensures items { tiny_items self.new ≡ [] }
         ensures frame { StaysInPlace A.Item.is_default A.CAPACITY self.old self.new }
@@ -177,8 +177,8 @@ impl<A: Array> TinyVec<A> {
         }
     }
 
-    /// Splits the list at `at`, and returns the items from there on, in the same place. An inline list allocates nothing;
-    /// one on the heap allocates room for those items.
+    /// Splits the list at `at` and returns the items from `at` on, in the same place. An inline list allocates nothing; one
+    /// on the heap allocates room for those items.
     pub fn split_off(&mut self, at: usize) -> Result<Self, AllocError>
         requires { at ≤ tiny_len self.old }
         ensures items { OnOk result (tiny_items self.new ≡ take at (tiny_items self.old)) }
@@ -204,7 +204,7 @@ impl<A: Array> TinyVec<A> {
         }
     }
 
-    /// Takes the item at `i` and moves the later ones down, or returns `None` where the list has no such item.
+    /// Removes the item at `i` and returns it, or returns `None` if the list has no such item. The later ones move down.
     pub fn pop_at(&mut self, i: usize) -> Option<A::Item>
         ensures variant { IsSome result ↔ (i < tiny_len self.old) }
         ensures value { result ≡ slice_get (tiny_items self.old) i }

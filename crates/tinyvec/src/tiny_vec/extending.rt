@@ -153,8 +153,8 @@ impl<A: Array> TinyVec<A> {
         other.clear();
     }
 
-    /// Moves the items of `other` to the end of the list, and leaves `other` empty, in its place. Room for all is allocated
-    /// once, before any is moved.
+    /// Moves the items of `other` to the end, and leaves `other` empty, in its place. Room for all is allocated once, before
+    /// any is moved.
     pub fn append(&mut self, other: &mut Self) -> Result<(), AllocError>
         ensures items { OnOk result (tiny_items self.new ≡ tiny_items self.old ++ tiny_items other.old) }
         ensures place { OnOk result (PlaceRule A.CAPACITY (tiny_len self.old + tiny_len other.old) self.old self.new) }
@@ -257,8 +257,8 @@ impl<A: Array> TinyVec<A> {
         }
     }
 
-    /// A list of the items, inline while they fit the array. A full list grows as by `push`. If the allocator refuses,
-    /// returns the list so far, the item that found no room and the rest of the iterator.
+    /// Makes a vector of the items, inline while they fit the array. A full list grows as by `push`. If the allocator
+    /// refuses, returns the vector so far, the item that found no room and the rest of the iterator.
     pub fn from_iter<I: IntoIterator<Item = A::Item>>(
         alloc: Global,
         iter: I,
@@ -301,7 +301,7 @@ impl<A: Array> TinyVec<A> {
         }
     }
 
-    /// Truncates the list to `n` items, or extends it to `n` by clones of `x`. Room for all of them is allocated once,
+    /// Truncates the list to `n` items, or fills it up to `n` with clones of `x`. Room for all of them is allocated once,
     /// before any is cloned. On failure `x` is returned.
     pub fn resize(&mut self, n: usize, x: A::Item) -> Result<(), NoMemory<A::Item>>
     where
@@ -370,8 +370,8 @@ impl<A: Array> TinyVec<A> {
         }
     }
 
-    /// Truncates the list to `n` items, or extends it to `n` by results of `f`, which is called only for those. Room for all
-    /// of them is allocated once, before the first call.
+    /// Truncates the list to `n` items, or fills it up to `n` with what `f` returns. `f` is called only for these. Room for
+    /// all of them is allocated once, before the first call.
     pub fn resize_with<F: FnMut() -> A::Item>(
         &mut self,
         n: usize,

@@ -23,7 +23,7 @@ impl<A: Array + Copy> Clone for ArrayVec<A> {
 }
 
 impl<A: Array> ArrayVec<A> {
-    /// A vector of clones, in the spare slots too.
+    /// Clones the vector, spare slots too.
     pub fn clone(&self) -> Result<Self, AllocError>
     where
         A::Item: Clone,
@@ -40,7 +40,7 @@ impl<A: Array> ArrayVec<A> {
         Ok(Self::from_array_len(array, len))
     }
 
-    /// Makes the list clones of the other's items. Where a clone is refused, the list is cut to the other's length first.
+    /// Replaces the list by clones of `source`'s items. If a clone is refused, the list is cut to the shorter length first.
     pub fn clone_from(&mut self, source: &Self) -> Result<(), AllocError>
     where
         A::Item: Clone,

@@ -39,7 +39,7 @@ impl<A: Array> ArrayVec<A> {
         None
     }
 
-    /// Takes the last item, and leaves a default in its slot.
+    /// Removes the last item and returns it. Its slot is reset to a default.
     pub fn pop(&mut self) -> Option<A::Item>
         ensures variant { IsSome result ↔ (0 < items_len self.old) }
         ensures some { IfSome result (λ x. items self.old ≡ items self.new ++ x ∷ []) }
@@ -74,7 +74,7 @@ impl<A: Array> ArrayVec<A> {
         item
     }
 
-    /// Puts `x` at `i`, and moves the later items up.
+    /// Inserts `x` at `i`, and moves the later items up.
     pub fn insert(&mut self, i: usize, x: A::Item)
         requires in_list { i ≤ items_len self.old }
         requires room { items_len self.old < A.CAPACITY }
@@ -109,7 +109,7 @@ impl<A: Array> ArrayVec<A> {
         None
     }
 
-    /// Takes the item at `i`, and moves the later ones down.
+    /// Removes the item at `i` and returns it. The later ones move down.
     pub fn remove(&mut self, i: usize) -> A::Item
         requires { i < items_len self.old }
         ensures value { result ≡ slice_index_or (items self.old) i result }
@@ -127,7 +127,7 @@ impl<A: Array> ArrayVec<A> {
         self.take_last()
     }
 
-    /// Takes the item at `i`, and moves the last one into its place.
+    /// Removes the item at `i` and returns it. The last one takes its place.
     pub fn swap_remove(&mut self, i: usize) -> A::Item
         requires { i < items_len self.old }
         ensures value { result ≡ slice_index_or (items self.old) i result }
@@ -151,7 +151,7 @@ impl<A: Array> ArrayVec<A> {
         self.as_mut_slice().swap(i, j);
     }
 
-    /// Keeps the first `n` items, or all where there are no more. Each vacated slot is given a default.
+    /// Keeps the first `n` items, or all if there are no more. Each vacated slot is reset to a default.
     pub fn truncate(&mut self, n: usize)
         ensures items { items self.new ≡ take n (items self.old) }
         ensures spare { Vacates A.Item.is_default (items_len self.old - n) self.old self.new }
@@ -164,7 +164,7 @@ impl<A: Array> ArrayVec<A> {
         }
     }
 
-    /// Empties the list. Each vacated slot is given a default.
+    /// Empties the list. Each vacated slot is reset to a default.
     pub fn clear(&mut self)
         ensures items { items self.new ≡ [] }
         ensures spare { Vacates A.Item.is_default (items_len self.old) self.old self.new }
@@ -173,7 +173,7 @@ impl<A: Array> ArrayVec<A> {
         self.truncate(0);
     }
 
-    /// Cuts the list at `at`, and gives what stood from there on. These items are moved one by one.
+    /// Splits the list at `at` and returns the items from `at` on. They are moved one by one.
     pub fn split_off(&mut self, at: usize) -> Self
         requires { at ≤ items_len self.old }
         ensures items { items self.new ≡ take at (items self.old) }
@@ -189,7 +189,7 @@ impl<A: Array> ArrayVec<A> {
         back
     }
 
-    /// Takes the item at `i` and moves the later ones down, or returns `None` where the list has no such item.
+    /// Removes the item at `i` and returns it, or returns `None` if the list has no such item. The later ones move down.
     pub fn pop_at(&mut self, i: usize) -> Option<A::Item>
         ensures variant { IsSome result ↔ (i < items_len self.old) }
         ensures value { result ≡ slice_get (items self.old) i }
@@ -204,8 +204,8 @@ impl<A: Array> ArrayVec<A> {
         Some(self.remove(i))
     }
 
-    /// Appends clones of the slice's items, or fails where they do not all fit and changes nothing. Only clones of items
-    /// may allocate.
+    /// Appends clones of the slice's items. If they do not all fit, or a clone is refused, fails and appends nothing. Only
+    /// clones of items allocate.
     pub fn try_extend_from_slice(&mut self, other: &[A::Item]) -> Result<(), TryFromSliceError>
     where
         A::Item: Clone,

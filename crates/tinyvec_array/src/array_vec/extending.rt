@@ -38,7 +38,7 @@ impl<A: Array> ArrayVec<A> {
         Ok(())
     }
 
-    /// Appends the slice's items, which are copied as one block.
+    /// Appends copies of the slice's items. They are copied as one block.
     pub fn extend_from_slice_copy(&mut self, other: &[A::Item])
     where
         A::Item: Copy,
@@ -226,8 +226,8 @@ impl<A: Array> ArrayVec<A> {
         }
     }
 
-    /// A vector of the items. On overflow, returns the full vector, the first item that did not fit and the rest of the
-    /// iterator, so `iter` may be infinite.
+    /// Makes a vector of the items. On overflow, returns the full vector, the first item that did not fit and the rest of
+    /// the iterator, so `iter` may be infinite.
     pub fn from_iter<I: IntoIterator<Item = A::Item>>(
         iter: I,
     ) -> Result<Self, FromIterRest<Self, A::Item, I::IntoIter>>
@@ -262,7 +262,7 @@ impl<A: Array> ArrayVec<A> {
         }
     }
 
-    /// Truncates to `n` items, or fills up to `n` with clones of `x`. Only clones allocate.
+    /// Truncates the list to `n` items, or fills it up to `n` with clones of `x`. Only clones allocate.
     pub fn resize(&mut self, n: usize, x: A::Item) -> Result<(), NoMemory<A::Item>>
     where
         A::Item: Clone,
@@ -297,7 +297,7 @@ impl<A: Array> ArrayVec<A> {
         }
     }
 
-    /// Truncates to `n` items, or fills up to `n` with what `f` returns. Calls `f` once for each missing item.
+    /// Truncates the list to `n` items, or fills it up to `n` with what `f` returns. Calls `f` once for each missing item.
     pub fn resize_with<F: FnMut() -> A::Item>(&mut self, n: usize, mut f: F)
         requires room { n ≤ A.CAPACITY }
         requires callable { F.IsAlwaysCallable f }

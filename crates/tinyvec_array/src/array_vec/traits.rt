@@ -256,7 +256,7 @@ where
     }
 }
 
-/// `write_str` appends the whole text, or fails where it does not fit and changes nothing.
+/// `write_str` appends the whole text. If it does not fit, it fails and changes nothing.
 impl<A: Array<Item = u8>> fmt::Write for ArrayVec<A> {
     ghost write_str_gives = { λ v bytes w. (items w ≡ items v ++ bytes) × (spare w ≡ drop (length bytes) (spare v)) };
 

@@ -21,7 +21,7 @@ impl<B: Lent> GenericSliceVec<B> {
         self.len = len + 1;
     }
 
-    /// Puts `x` at `i`, and moves the later items up.
+    /// Inserts `x` at `i`, and moves the later items up.
     pub fn insert(&mut self, i: usize, x: B::Item)
         requires in_list { i ≤ len_of B.Lent self.old }
         requires room { 0 < length (spare_of B.Lent self.old) }
@@ -59,7 +59,7 @@ impl<B: Lent> GenericSliceVec<B>
 where
     B::Item: Default,
 {
-    /// Takes the last item, and leaves a default in its slot.
+    /// Removes the last item and returns it. Its slot is reset to a default.
     pub fn pop(&mut self) -> Option<B::Item>
         ensures same_reference { name_of B.Lent self.new ≡ name_of B.Lent self.old }
         ensures slot_count { length (slots_of B.Lent self.new) ≡ length (slots_of B.Lent self.old) }
@@ -96,7 +96,7 @@ impl<B: Lent> GenericSliceVec<B>
 where
     B::Item: Default,
 {
-    /// Takes the item at `i`, and moves the later ones down.
+    /// Removes the item at `i` and returns it. The later ones move down.
     pub fn remove(&mut self, i: usize) -> B::Item
         requires { i < len_of B.Lent self.old }
         ensures same_reference { name_of B.Lent self.new ≡ name_of B.Lent self.old }
@@ -115,7 +115,7 @@ where
         self.take_last()
     }
 
-    /// Takes the item at `i`, and moves the last one into its place.
+    /// Removes the item at `i` and returns it. The last one takes its place.
     pub fn swap_remove(&mut self, i: usize) -> B::Item
         requires { i < len_of B.Lent self.old }
         ensures same_reference { name_of B.Lent self.new ≡ name_of B.Lent self.old }
@@ -134,7 +134,7 @@ impl<B: Lent> GenericSliceVec<B>
 where
     B::Item: Default,
 {
-    /// Keeps the first `n` items, or all where there are no more. Each vacated slot is given a default.
+    /// Keeps the first `n` items, or all if there are no more. Each vacated slot is reset to a default.
     pub fn truncate(&mut self, n: usize)
         ensures same_reference { name_of B.Lent self.new ≡ name_of B.Lent self.old }
         ensures slot_count { length (slots_of B.Lent self.new) ≡ length (slots_of B.Lent self.old) }
@@ -148,7 +148,7 @@ where
         }
     }
 
-    /// Empties the list. Each vacated slot is given a default.
+    /// Empties the list. Each vacated slot is reset to a default.
     pub fn clear(&mut self)
         ensures same_reference { name_of B.Lent self.new ≡ name_of B.Lent self.old }
         ensures slot_count { length (slots_of B.Lent self.new) ≡ length (slots_of B.Lent self.old) }

@@ -157,8 +157,8 @@ impl<B: Lent> GenericSliceVec<B> {
         }
     }
 
-    /// Fills the list up to `n` items with clones of `x`, or truncates it to `n` items and fills the emptied slots with
-    /// clones of `x`, the last slot first. Only clones allocate.
+    /// Truncates the list to `n` items, or fills it up to `n` with clones of `x`. The slots that a cut vacates are filled
+    /// with clones of `x` too, the last slot first. Only clones allocate.
     pub fn resize(&mut self, n: usize, x: B::Item) -> Result<(), NoMemory<B::Item>>
     where
         B::Item: Clone,
@@ -249,8 +249,8 @@ impl<B: Lent> GenericSliceVec<B> {
         Ok(())
     }
 
-    /// Fills the list up to `n` items with what `f` returns, or truncates it to `n` items and fills the emptied slots
-    /// with what `f` returns, the last slot first.
+    /// Truncates the list to `n` items, or fills it up to `n` with what `f` returns. The slots that a cut vacates are filled
+    /// with what `f` returns too, the last slot first.
     pub fn resize_with<F: FnMut() -> B::Item>(&mut self, n: usize, mut f: F)
         requires room { n ≤ length (slots_of B.Lent self.old) }
         requires callable { F.IsAlwaysCallable f }

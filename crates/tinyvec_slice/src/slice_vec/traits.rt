@@ -196,7 +196,7 @@ where
     }
 }
 
-/// `write_str` appends the whole text, or fails where it does not fit and changes nothing.
+/// `write_str` appends the whole text. If it does not fit, it fails and changes nothing.
 impl<B: Lent<Item = u8>> fmt::Write for GenericSliceVec<B> {
     ghost write_str_gives = { λ v bytes w. (items_of B.Lent w ≡ items_of B.Lent v ++ bytes)
         × (spare_of B.Lent w ≡ drop (length bytes) (spare_of B.Lent v))

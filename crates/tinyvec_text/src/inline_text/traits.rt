@@ -21,7 +21,7 @@ impl<const N: usize> Clone for InlineText<N> {
 
     ghost is_infallible = { λ t. IsTrue t.inline };
 
-    /// The same text, inline exactly where this one is. A text on the heap is copied into an allocation of its length.
+    /// The same text, inline exactly if this one is. A text on the heap is copied into an allocation of its length.
     fn clone(&self) -> Result<Self, AllocError>
         ensures cases { MatchResult result (λ t. t.bytes ≡ self.now.bytes) (λ _. ¬ (IsTrue self.now.inline)) }
         ensures text { IfOk result (λ t. text_chars t ≡ text_chars self.now) }
@@ -107,7 +107,7 @@ impl<const N: usize> fmt::Display for InlineText<N> {
     }
 }
 
-/// `write_str` appends the whole text, or fails where memory is refused and changes nothing.
+/// `write_str` appends the whole text. If memory is refused, it fails and changes nothing.
 impl<const N: usize> fmt::Write for InlineText<N> {
     ghost write_str_gives = { λ old bytes new. new.bytes ≡ old.bytes ++ bytes };
 
