@@ -4,7 +4,7 @@ ghost use Rattle.std.specs.IoError.{error_kind};
 ghost use Rattle.std.specs.declared.io.ErrorKind.TheVariants.{OutOfMemory};
 
 use std::alloc::AllocError;
-use std::io;
+use std::io::Error;
 
 /// The allocator refused. The argument is returned, and nothing else has changed.
 #[derive(PartialEq, Eq, Debug, Drop)]
@@ -18,10 +18,10 @@ impl<T: Drop> From<NoMemory<T>> for AllocError {
 }
 
 /// Drops the argument.
-impl<T: Drop> From<NoMemory<T>> for io::Error {
+impl<T: Drop> From<NoMemory<T>> for Error {
     ghost from_gives = { λ _ e. error_kind e ≡ OutOfMemory };
 
     fn from(_refused: NoMemory<T>) -> Self {
-        io::Error::from(AllocError)
+        Error::from(AllocError)
     }
 }

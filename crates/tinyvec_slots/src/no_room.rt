@@ -5,7 +5,7 @@ ghost use Rattle.std.specs.IoError.{error_kind};
 ghost use Rattle.std.specs.declared.io.ErrorKind.TheVariants.{OutOfMemory};
 
 use std::alloc::AllocError;
-use std::io;
+use std::io::Error;
 
 /// `item` did not fit, and `rest` yields the items after it.
 #[derive(PartialEq, Eq, Debug, Drop)]
@@ -35,11 +35,11 @@ impl<T: Drop, I: Drop> From<NoRoom<T, I>> for AllocError {
     }
 }
 
-impl<T: Drop, I: Drop> From<NoRoom<T, I>> for io::Error {
+impl<T: Drop, I: Drop> From<NoRoom<T, I>> for Error {
     ghost from_gives = { λ _ e. error_kind e ≡ OutOfMemory };
 
     fn from(_refused: NoRoom<T, I>) -> Self {
-        io::Error::from(AllocError)
+        Error::from(AllocError)
     }
 }
 
@@ -49,11 +49,11 @@ impl<V: Drop, T: Drop, I: Drop> From<FromIterRest<V, T, I>> for AllocError {
     }
 }
 
-impl<V: Drop, T: Drop, I: Drop> From<FromIterRest<V, T, I>> for io::Error {
+impl<V: Drop, T: Drop, I: Drop> From<FromIterRest<V, T, I>> for Error {
     ghost from_gives = { λ _ e. error_kind e ≡ OutOfMemory };
 
     fn from(_refused: FromIterRest<V, T, I>) -> Self {
-        io::Error::from(AllocError)
+        Error::from(AllocError)
     }
 }
 
@@ -63,10 +63,10 @@ impl<T: Drop, I: Drop> From<SpliceRest<T, I>> for AllocError {
     }
 }
 
-impl<T: Drop, I: Drop> From<SpliceRest<T, I>> for io::Error {
+impl<T: Drop, I: Drop> From<SpliceRest<T, I>> for Error {
     ghost from_gives = { λ _ e. error_kind e ≡ OutOfMemory };
 
     fn from(_refused: SpliceRest<T, I>) -> Self {
-        io::Error::from(AllocError)
+        Error::from(AllocError)
     }
 }
