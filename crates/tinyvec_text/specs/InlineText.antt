@@ -48,6 +48,16 @@ pub record MakesRoom {X E : Type 0} (moves : Bool) (slots need : ℕ) (old new :
   pub full : OnErr result (old.room < need)
   pub refused : OnErr result (new ≡ old)
 
+-- A call that appends piece by piece took `old` to `new`: the text moves only where it outgrows the array, and grows to less
+-- than twice its bytes.
+pub record TextExtends (slots : ℕ) (old new : Text) : Type 0 where
+  pub longer : text_len old ≤ text_len new
+  pub place : TextPlaceRule slots (text_len new) old new
+  pub capacity : old.room ≤ new.room
+  pub same_room : text_len new ≤ old.room → new.room ≡ old.room
+  pub grown : old.room < new.room → new.room < 2 * text_len new
+  pub fits : text_len new ≤ new.room
+
 -- a call that allocates nothing took `old` to `new`: place and room are unchanged
 pub record StaysInPlace (old new : Text) : Type 0 where
   pub place : new.inline ≡ old.inline

@@ -8,6 +8,7 @@ ghost use Rattle.tinyvec.specs.TinyVec.{tiny_items, tiny_spare, is_inline, tiny_
 ghost use Rattle.tinyvec_text.specs.InlineText.{text_chars, text_len};
 
 mod edits;
+mod extending;
 mod filters;
 mod from_utf8_error;
 mod traits;

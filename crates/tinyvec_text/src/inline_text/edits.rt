@@ -67,6 +67,7 @@ impl<const N: usize> InlineText<N> {
     }
 
     /// Appends `c`. Allocates only if the bytes don't fit.
+    #[inline(always)]
     pub fn push(&mut self, c: char) -> Result<(), AllocError>
         ensures bytes { self.new.bytes
             ≡ (if is_ok result then self.old.bytes ++ encode_utf8 c else self.old.bytes) }
@@ -81,6 +82,19 @@ impl<const N: usize> InlineText<N> {
             self.list.push(c as u8)?;
             return Ok(());
         }
+        self.push_wide(c)
+    }
+
+    // `push` of a character that takes more than a byte. A call of its own, so that `push` is short enough to inline.
+    #[inline(never)]
+    fn push_wide(&mut self, c: char) -> Result<(), AllocError>
+        requires { 128 ≤ c }
+        ensures bytes { self.new.bytes
+            ≡ (if is_ok result then self.old.bytes ++ encode_utf8 c else self.old.bytes) }
+        ensures text { OnOk result (text_chars self.new ≡ text_chars self.old ++ c ∷ []) }
+        ensures room { MakesRoom (self.old.inline && nat_le 128 c) N (text_len self.old + length (encode_utf8 c))
+            self.old self.new result }
+    {
         let mut buffer = [0; 4];
         self.push_str(c.encode_utf8(&mut buffer))?;
         Ok(())

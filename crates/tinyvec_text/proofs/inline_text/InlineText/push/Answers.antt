@@ -24,7 +24,3 @@ returns-then-is_ascii-clause-text g c =
     let own : encode_utf8 c.args.c ≡ c.args.c ∷ [] = encode_ascii c.args.c (search rules) in
     ap chars joined ∙ chars-append _ _ (text_utf8 c.self.inside.list c.self.invariant) ∙ ap (λ cs. chars (tiny_items c.self.inside.list) ++ cs) (chars_of_one _ c.args.c ascii (sym own))
     ∙ ap (λ (t : Text). text_chars t ++ c.args.c ∷ []) c.self.view_is
-
-pub returns-clause-text : goal.returns-clause-text
-returns-clause-text g c =
-    c.in_ok-push_str.ensures.text ∙ ap (λ cs. text_chars c.args.self.now ++ cs) (chars_of_one _ c.args.c c.encode_utf8.utf8 c.encode_utf8.ensures.value)

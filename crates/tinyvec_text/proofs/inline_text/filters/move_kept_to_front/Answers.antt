@@ -1,4 +1,4 @@
-use Rattle.std.proofs.Common.{◌≡◌, ◌+◌, ◌-◌, ◌++◌, [], Bool, true, false, refl, sym, ap, subst, ◌∙◌, IsUtf8, encode_utf8, length, take, drop, take_all, le_of_eq, length-drop, append-nil, arith, rules, of_calls}
+use Rattle.std.proofs.Common.{◌≡◌, ◌+◌, ◌-◌, ◌++◌, true, false, refl, sym, ap, subst, ◌∙◌, IsUtf8, encode_utf8, length, take, drop, take_all, le_of_eq, length-drop, append-nil, arith, of_calls}
 use Rattle.std.proofs.lemmas.List.{drop-drop}
 use Rattle.std.proofs.lemmas.Fn.{called}
 use Rattle.tinyvec_text.proofs.Filters.{retain_none, retain_more, retain_all}
