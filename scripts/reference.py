@@ -297,7 +297,8 @@ class Page:
 
     def place(self, it):
         is_own = it.kind == "method" and it.of == self.main
-        return (not is_own, is_own and it.source.file.stem != snake(self.main), self.entries.index(it)) if self.main else ()
+        is_elsewhere = is_own and it.source.file.stem != snake(self.main)
+        return (not is_own, is_elsewhere, it.kind in ("impl", "method"), self.entries.index(it)) if self.main else ()
 
     def title(self, section):
         return TITLES.get(section) or self.sections[section][0].source.title.replace("`", "")

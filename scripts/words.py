@@ -131,7 +131,7 @@ class Word:
             elif found := FIELD.match(line):
                 shown.append(code(found[1]) + f" ({said})" * bool(said))
                 said = ""
-        return ", ".join(shown)
+        return "; ".join(shown)
 
 
 def code(text):
