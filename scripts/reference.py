@@ -77,7 +77,7 @@ def faults():
     for file, _, below, text in pages():
         name = file.relative_to(TOP)
         written[file.stem] = file.read_text(encoding="utf-8")
-        yield from [f"{name}: not as scripts/reference.py writes it: run it"] * (below != text)
+        yield from [f"{name}: not as scripts/reference.py writes it: run tests/docs --write"] * (below != text)
     library = Library()
     for crate in library.crates:
         yield from crate.lost()
