@@ -32,10 +32,6 @@ PAGES = {
 INDEX = "README"
 COLUMNS = ("ARRAY_VEC", "SLICE_VEC", "TINY_VEC", "INLINE_TEXT")
 
-# Pages of which not every call has a caller beside the tests: those of a `Counted` are made by readers and writers, those of
-# the script by `run`.
-UNCALLED = ("COUNTED", "SCRIPT")
-
 # A caller of more lines than this is named, and not shown.
 LONGEST = 9
 
@@ -92,7 +88,7 @@ def faults():
             yield from (f"{it.source.path}: not on {page}: {line}" for line in it.said() if line not in shown)
             if it.kind != "impl" and not it.item.comment:
                 yield f"{it.source.path}: {it.key()} has no `///`"
-            if it.key() in library.uncalled and page not in (*UNCALLED, "SLOTS"):
+            if it.key() in library.uncalled and not it.is_part:
                 yield f"docs/reference/{page}.md: no caller of {it.key()}: write one in crates/tinyvec_examples/src"
     yield from (f"docs/DIFFERENCES.md: no such call: {it}" for it in library.notes if it not in library.keys)
     for cells in differences():
