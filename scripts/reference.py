@@ -140,15 +140,19 @@ class Library:
         return any(it in owned and (self.crates[0].name, it) not in self.passed_on for it in names)
 
     def table(self):
-        """Which of the four types has a call, by name."""
-        rows = {}
+        """Which of the four types has a call, by name, and which implements a trait."""
+        calls, traits = {}, {}
         for page in COLUMNS:
-            for it in self.pages[page]:
-                if it.kind == "method" and it.of == main_of(page):
-                    rows.setdefault(it.name, {})[page] = f"[✓]({page}.md#{it.name})"
-        names = [f"[`{main_of(it)}`]({it}.md)" for it in COLUMNS]
-        head = f"\n\n| Call | {' | '.join(names)} |\n|{'---|' * (len(COLUMNS) + 1)}\n"
-        return head + "".join(f"| `{name}` | {' | '.join(rows[name].get(it, '') for it in COLUMNS)} |\n" for name in sorted(rows))
+            main = main_of(page)
+            for it in (it for it in self.pages[page] if it.of == main and not it.is_part):
+                rows, name = (traits, it.trait) if it.trait else (calls, it.name)
+                rows.setdefault(name, {})[page] = f"[✓]({page}.md#{it.anchor(main)})"
+        heads = " | ".join(f"[`{main_of(it)}`]({it}.md)" for it in COLUMNS)
+        lines = []
+        for title, rows in (("Call", calls), ("Trait", traits)):
+            lines.append(f"\n\n| {title} | {heads} |\n|{'---|' * (len(COLUMNS) + 1)}")
+            lines += [f"\n| `{name}` | {' | '.join(rows[name].get(it, '') for it in COLUMNS)} |" for name in sorted(rows)]
+        return "".join(lines) + "\n"
 
 
 def is_call(key):
