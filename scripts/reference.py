@@ -132,12 +132,11 @@ class Library:
 
     def is_part(self, entry):
         """Whether an export is what vectors are written with, and nothing for their users."""
-        name = entry.trait and exports.head_of(entry.trait) or entry.of or entry.name
-        owned = self.crates[0].names
-        if entry.trait and "NoMemory" in entry.trait:
+        slots = self.crates[0]
+        named = set(re.findall(r"\w+", f"{entry.trait or entry.of or entry.name} {entry.of or ''}")) & slots.names.keys()
+        if entry.source.crate != slots.name and entry.kind != "impl":
             return False
-        names = {name, *([exports.head_of(entry.of)] if entry.of else [])}
-        return any(it in owned and (self.crates[0].name, it) not in self.passed_on for it in names)
+        return bool(named) and not any((slots.name, it) in self.passed_on for it in named)
 
     def table(self):
         """Which of the four types has a call, by name, and which implements a trait."""
