@@ -253,6 +253,9 @@ def head_of(type_):
     return re.sub(r"<.*", "", bare, flags=re.S).split("::")[-1].strip() if not bare.startswith("[") else bare
 
 
+SHOWN_ARGUMENTS = ("From", "TryFrom", "PartialEq", "PartialOrd", "Extend", "FromIterator", "Index", "Borrow", "AsRef", "ItemText")
+
+
 def shortened(type_, aliases=()):
     """A type or trait as a heading names it: without lifetimes, and without the parameters of a library's own type."""
     plain = re.sub(r"'\w+ ?", "", type_)
@@ -265,7 +268,7 @@ def shortened(type_, aliases=()):
         head = alias if head == of else head
     arguments = re.search(r"<(.*)>$", bare)
     # The arguments of `From` and the like tell impls of one type apart; those of a type do not.
-    shows = arguments and head in ("From", "TryFrom", "PartialEq", "PartialOrd", "ItemText", "Index", "Borrow", "AsRef")
+    shows = arguments and head in SHOWN_ARGUMENTS
     return reference + head + (f"<{arguments[1]}>" if shows else "")
 
 

@@ -22,7 +22,7 @@ UNCOUNTED = ("CHANGELOG.md",)
 
 # What a Rust reader has to translate.
 ODD = re.compile(
-    r"(?:^Of (?!course)|\btakes? it where\b)|\b(of so many|so many as|so many (?:slots|items|bytes)|(?:is|are) told|giv(?:es?|ing) up|gave up|lies?|lay|stands?(?! for\b)|stood(?! for\b)|behind"
+    r"(?:^Of (?!course)|^Where (?!Rust|it is)|\btakes? it where\b)|\b(of so many|so many as|so many (?:slots|items|bytes)|(?:is|are) told|giv(?:es?|ing) up|gave up|lies?|lay|stands?(?! for\b)|stood(?! for\b)|behind"
     r"|hand(?:s|ed)? back|ask(?:s|ed)? for (?:memory|room)|(?:inner|counted|standard) ends?|the end that it holds|it is so)\b"
 )
 MARK = {".rt": r" *//[/!]? ?", ".antt": r" *-- ?"}

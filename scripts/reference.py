@@ -32,10 +32,6 @@ PAGES = {
 INDEX = "README"
 COLUMNS = ("ARRAY_VEC", "SLICE_VEC", "TINY_VEC", "INLINE_TEXT")
 
-# Pages of which not every call has a caller beside the tests: those of a `Counted` are made by readers and writers, those of
-# the script by `run`.
-UNCALLED = ("COUNTED", "SCRIPT")
-
 # A caller of more lines than this is named, and not shown.
 LONGEST = 9
 
@@ -77,7 +73,7 @@ def faults():
     for file, _, below, text in pages():
         name = file.relative_to(TOP)
         written[file.stem] = file.read_text(encoding="utf-8")
-        yield from [f"{name}: not as scripts/reference.py writes it: run it"] * (below != text)
+        yield from [f"{name}: not as scripts/reference.py writes it: run tests/docs --write"] * (below != text)
     library = Library()
     for crate in library.crates:
         yield from crate.lost()
@@ -92,7 +88,7 @@ def faults():
             yield from (f"{it.source.path}: not on {page}: {line}" for line in it.said() if line not in shown)
             if it.kind != "impl" and not it.item.comment:
                 yield f"{it.source.path}: {it.key()} has no `///`"
-            if it.key() in library.uncalled and page not in (*UNCALLED, "SLOTS"):
+            if it.key() in library.uncalled and not it.is_part:
                 yield f"docs/reference/{page}.md: no caller of {it.key()}: write one in crates/tinyvec_examples/src"
     yield from (f"docs/DIFFERENCES.md: no such call: {it}" for it in library.notes if it not in library.keys)
     for cells in differences():
@@ -136,23 +132,26 @@ class Library:
 
     def is_part(self, entry):
         """Whether an export is what vectors are written with, and nothing for their users."""
-        name = entry.trait and exports.head_of(entry.trait) or entry.of or entry.name
-        owned = self.crates[0].names
-        if entry.trait and "NoMemory" in entry.trait:
+        slots = self.crates[0]
+        named = set(re.findall(r"\w+", f"{entry.trait or entry.of or entry.name} {entry.of or ''}")) & slots.names.keys()
+        if entry.source.crate != slots.name and entry.kind != "impl":
             return False
-        names = {name, *([exports.head_of(entry.of)] if entry.of else [])}
-        return any(it in owned and (self.crates[0].name, it) not in self.passed_on for it in names)
+        return bool(named) and not any((slots.name, it) in self.passed_on for it in named)
 
     def table(self):
-        """Which of the four types has a call, by name."""
-        rows = {}
+        """Which of the four types has a call, by name, and which implements a trait."""
+        calls, traits = {}, {}
         for page in COLUMNS:
-            for it in self.pages[page]:
-                if it.kind == "method" and it.of == main_of(page):
-                    rows.setdefault(it.name, {})[page] = f"[✓]({page}.md#{it.name})"
-        names = [f"[`{main_of(it)}`]({it}.md)" for it in COLUMNS]
-        head = f"\n\n| Call | {' | '.join(names)} |\n|{'---|' * (len(COLUMNS) + 1)}\n"
-        return head + "".join(f"| `{name}` | {' | '.join(rows[name].get(it, '') for it in COLUMNS)} |\n" for name in sorted(rows))
+            main = main_of(page)
+            for it in (it for it in self.pages[page] if it.of == main and not it.is_part):
+                rows, name = (traits, it.trait) if it.trait else (calls, it.name)
+                rows.setdefault(name, {})[page] = f"[✓]({page}.md#{it.anchor(main)})"
+        heads = " | ".join(f"[`{main_of(it)}`]({it}.md)" for it in COLUMNS)
+        lines = []
+        for title, rows in (("Call", calls), ("Trait", traits)):
+            lines.append(f"\n\n| {title} | {heads} |\n|{'---|' * (len(COLUMNS) + 1)}")
+            lines += [f"\n| `{name}` | {' | '.join(rows[name].get(it, '') for it in COLUMNS)} |" for name in sorted(rows)]
+        return "".join(lines) + "\n"
 
 
 def is_call(key):
@@ -297,7 +296,8 @@ class Page:
 
     def place(self, it):
         is_own = it.kind == "method" and it.of == self.main
-        return (not is_own, is_own and it.source.file.stem != snake(self.main), self.entries.index(it)) if self.main else ()
+        is_elsewhere = is_own and it.source.file.stem != snake(self.main)
+        return (not is_own, is_elsewhere, it.kind in ("impl", "method"), self.entries.index(it)) if self.main else ()
 
     def title(self, section):
         return TITLES.get(section) or self.sections[section][0].source.title.replace("`", "")

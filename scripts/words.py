@@ -35,7 +35,7 @@ def faults():
     words = Words()
     page = PAGE.relative_to(TOP)
     if PAGE.read_text(encoding="utf-8") != words.page():
-        yield f"{page}: not as scripts/words.py writes it: run it"
+        yield f"{page}: not as scripts/words.py writes it: run tests/docs --write"
     for path, name in words.cited:
         if path.startswith("std."):
             yield from [f"{page}: std's `{name}` has no line"] * (f'<a id="std-{name}">' not in words.above)
@@ -60,7 +60,7 @@ class Words:
             text = file.read_text(encoding="utf-8")
             known = exports.imported(text)
             of = lambda path, name: (path, name) if path else known.get(name, (file.stem, name))
-            self.examples.update({of(path, name): plain(shown) for path, name, shown in EXAMPLE.findall(text)})
+            self.examples.update({of(path, name): (file, plain(shown)) for path, name, shown in EXAMPLE.findall(text)})
         self.above = PAGE.read_text(encoding="utf-8").partition(MARK)[0]
 
     def page(self):
@@ -71,12 +71,14 @@ class Words:
         file = source_of(path)
         title = COMMENT.match(file.read_text(encoding="utf-8"))
         head = f"\n\n## `{stem}` of `{crate}`\n\n{title[1] if title else ''} In [`{file.name}`](../../{file.relative_to(TOP)}).\n"
-        rows = (self.row(path, it) for it in self.defined if it[0] == path and it in self.cited)
-        return head + "\n| Word | Means | For example |\n|---|---|---|\n" + "\n".join(rows)
+        rows = [it for it in self.defined if it[0] == path and it in self.cited]
+        shown = sorted({self.examples[it][0] for it in rows if it in self.examples})
+        head += "".join(f"The examples are in [`{it.name}`](../../{it.relative_to(TOP)}).\n" for it in shown)
+        return head + "\n| Word | Means | For example |\n|---|---|---|\n" + "\n".join(self.row(it) for it in rows)
 
-    def row(self, path, word):
+    def row(self, word):
         found = self.defined[word]
-        example = self.examples.get(word, "")
+        _, example = self.examples.get(word, ("", ""))
         return f'| <a id="{exports.word_anchor(*word)}"></a>{found.shown} | {found.meaning} | {example and code(example)} |'
 
 
@@ -131,7 +133,7 @@ class Word:
             elif found := FIELD.match(line):
                 shown.append(code(found[1]) + f" ({said})" * bool(said))
                 said = ""
-        return ", ".join(shown)
+        return "; ".join(shown)
 
 
 def code(text):

@@ -45,7 +45,7 @@ module _ {A T : Type 0} where
     pub fits : length xs ≤ tiny_capacity slots v
 
 module _ {A T X E : Type 0} where
-  -- A call that needs room for `need` items took `old` to `new`, with this result. Where there was that room the capacity is
+  -- A call that needs room for `need` items took `old` to `new`, with this result. If there was that room, the capacity is
   -- unchanged, else it grew by the rule `G`: `Doubles` or `GrowsFor`.
   pub record RoomGrows (G : ℕ → ℕ → TinyVec A T → TinyVec A T → Type 0) (slots need : ℕ) (old new : TinyVec A T)
       (result : Result X E) : Type 0 where

@@ -2,7 +2,7 @@
 
 /// Makes a `TinyVec`: `tiny_vec!(alloc; [i32; 4] => 1, 2)?`, `tiny_vec!(alloc; [i32; 4])?`, `tiny_vec!(alloc; 1, 2)?`,
 /// `tiny_vec!(alloc; 0; 4)?` or `tiny_vec!(alloc;)?`. It returns a `Result`, with an `AllocError` if the
-/// allocator refuses. A list that is longer than the array is on the heap. Where no array is named, it is inferred. Items
+/// allocator refuses. A list that is longer than the array is on the heap. If no array is named, it is inferred. Items
 /// are evaluated once each, in order, after their room was allocated.
 #[macro_export]
 macro_rules! tiny_vec {

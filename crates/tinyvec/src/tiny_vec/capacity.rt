@@ -39,7 +39,7 @@ impl<A: Array> TinyVec<A> {
         }
     }
 
-    /// Reserves room for `n` items more. An inline list whose array has no such room moves to the heap. Where there is room
+    /// Reserves room for `n` items more. An inline list whose array has no such room moves to the heap. If there is room
     /// already, it allocates nothing.
     #[inline(always)]
     pub fn reserve(&mut self, n: usize) -> Result<(), AllocError>
