@@ -112,9 +112,6 @@ pub record AnswersFront (turns : ℕ) (input left output : List ℕ) : Type 0 wh
   pub each : All IsLine all
   pub answers : AnswersEach (map strip_carriage_return all) output
 
-pub none_read : (input : List ℕ) → AnswersFront 0 input input []
-none_read input = record { all = []; many = omega arith; whole = refl; each = All-nil IsLine; answers = refl }
-
 -- one line more was answered
 pub one_answered : (turns : ℕ) (input left piece complete output text : List ℕ) → piece ≡ take_through 10 left → end_of piece ≡ 10 ∷ [] → complete ≡ front_of piece
     → IsAnswer (strip_carriage_return complete) text → AnswersFront turns input left output → AnswersFront (turns + 1) input (drop_through 10 left) (output ++ text)

@@ -1,8 +1,8 @@
 //! A query in a lent slice.
-ghost use Rattle.std.specs.Prelude.{◌≡◌, ◌≢◌, ◌+◌, ◌<◌, ◌≤◌, ◌↔◌, ◌++◌, ◌∷◌, [], ℕ, List, map, length, drop, ◌==◌, All, Any, IsTrue, OnOk, IfOk, IsOk, OnErr, Some, None, Err, slice_get};
-ghost use Rattle.std.specs.List.{flat_map, slice_split};
+ghost use Rattle.std.specs.Prelude.{◌≡◌, ◌≢◌, ◌+◌, ◌<◌, ◌≤◌, ◌↔◌, ◌++◌, length, drop, ◌==◌, All, IsTrue, OnOk, IfOk, IsOk, OnErr, Some, None, Err};
+ghost use Rattle.std.specs.List.{flat_map};
 ghost use Rattle.std.specs.Option.{option_copied};
-ghost use Rattle.tinyvec_slice.specs.SliceVec.{items, spare, name};
+ghost use Rattle.tinyvec_slice.specs.SliceVec.{spare, name};
 ghost use Rattle.tinyvec_slice.specs.Appends.{Appends};
 ghost use Rattle.example_dns_query.specs.Message.{two_bytes, header, type_and_class, query};
 ghost use Rattle.example_dns_query.specs.Name.{IsPrinted, IsLabel, IsName, SpellsOnly, body_of as body_in, labels_in, labels_of, first_fault, label_wire, name_wire};
@@ -55,7 +55,6 @@ impl QueryError {
 }
 
 impl fmt::Display for QueryError {
-    ghost use Rattle.std.specs.Prelude.{Some};
     ghost use Rattle.example_dns_query.specs.Answer.{query_error_text};
 
     ghost output = { λ error. Some (query_error_text error) };

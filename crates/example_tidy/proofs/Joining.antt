@@ -54,24 +54,6 @@ spaced old front word text more grown is space long =
     long ∙ ap (λ b. b ++ word) (space ∙ ap (λ b. b ++ 32 ∷ []) is ∙ append_assoc old front (32 ∷ []))
     ∙ append_assoc old (front ++ 32 ∷ []) word ∙ ap (λ b. old ++ b) (append_assoc front (32 ∷ []) word)
 
--- where no word is left, all was said
-pub said_end : (old front last text grown all : List ℕ) (left : List (List ℕ)) → left ≡ [] → front ++ said last left ≡ all
-    → text ≡ old ++ front → grown ≡ text ++ 10 ∷ [] → grown ≡ old ++ (all ++ 10 ∷ [])
-said_end old front last text grown all left none so_far is ends =
-    let whole : front ≡ all = sym (append-nil front) ∙ ap (λ back. front ++ back) (sym (ap (said last) none)) ∙ so_far in
-    ends ∙ ap (λ b. b ++ 10 ∷ []) (is ∙ ap (λ b. old ++ b) whole) ∙ append_assoc old all (10 ∷ [])
-
 -- the first word has its place in what is said in all
 pub first_fits : (word : List ℕ) (words : List (List ℕ)) → length word ≤ length (join_with_byte 32 (dedup bytes_eq (word ∷ words)))
 first_fits word words = omega (arith, ap length (said_all word words), length-append word (said word words))
-
--- and so has another word, with a space
-pub next_fits : (front last word all : List ℕ) (left more : List (List ℕ)) → left ≡ word ∷ more → word ≢ last
-    → front ++ said last left ≡ all → length front + 1 + length word ≤ length all
-next_fits front last word all left more next other so_far =
-    let whole = spoken front last word all left more next other so_far in
-    omega (arith, ap length whole, length-append (front ++ 32 ∷ word) (said word more), length-append front (32 ∷ word))
-
--- what was said so far is a part of it
-pub said_fits : (front last all : List ℕ) (left : List (List ℕ)) → front ++ said last left ≡ all → length front ≤ length all
-said_fits front last all left so_far = omega (arith, ap length so_far, length-append front (said last left))

@@ -4,7 +4,6 @@ ghost use Rattle.std.specs.IoError.{error_kind};
 ghost use Rattle.std.specs.Io.KnownBytes.{Appends, Consumes, IsAtEnd, Keeps};
 ghost use Rattle.tinyvec.specs.TinyVec.{tiny_items, tiny_capacity};
 ghost use Rattle.tinyvec_io.specs.Counted.{Reported};
-ghost use Rattle.tinyvec_io.specs.Lines.{IsLine};
 ghost use Rattle.std.specs.declared.io.Error.{Error as IoError};
 ghost use Rattle.example_tidy.specs.Tidy.{Advances, AllShort, Ends, EndsBeforeLong, EndsSome, IsBegun, IsShort, Tidied, TidiedBeforeLong, TidiedUpTo};
 
