@@ -7,6 +7,7 @@ holds the sources still: an edit made meanwhile is seen by the next run, and a r
 half-made in out/.
 """
 import concurrent.futures
+import contextlib
 import fcntl
 import functools
 import hashlib
@@ -35,9 +36,13 @@ WAITING = re.compile(r"^rt: .*\bwaiting for ")
 # Goes to the start of a terminal's line, and removes what stands there.
 CLEAR = "\r\033[K"
 
-# What a built library has that no proof above can cite: its code, the proofs of single functions, and sums over all of it.
+# What a built library has that no proof above can cite: its code, the proofs of single functions, sums over all of it, and
+# what differs between a library of `rt ci` and one of `rt lib`.
 UNCITED = re.compile(r"toolchain/|lang/antt/made\.json$|lang/antt/proofs/.*/(?:Answers|Invariants|Proof)\.antt$")
-SUMS = re.compile(rb"^(?:checked|sum) .*$", re.M)
+SUMS = re.compile(rb"^(?:(?:checked|sum|carries|needs|over|free|free-alone) .*|lists-free|incremental)\n", re.M)
+
+# The build of a library over which one of `rt ci` was proved: the sum of its file `format`.
+OVER = re.compile(r"^over (\w+) (\w+)$", re.M)
 
 
 class Crate:
@@ -48,6 +53,7 @@ class Crate:
         self.is_program = (self.folder / "src/main.rt").is_file()
         # rt's own mark, which it leaves beside what it made of unchanged sources.
         self.mark = f"{name}.stamp" if self.is_program else "rlib/stamp"
+        self.format = self.out / f"rlib/{name}.rlib/format"
         self.made = [name, self.mark] if self.is_program else ["rlib"]
         # The program that lists its tests, and runs one of them.
         self.tests = self.out / f"{name}_tests"
@@ -98,7 +104,50 @@ class Crate:
         return f"{self.sum}\n{text_of(self.out / self.mark)}"
 
     def is_built(self):
-        return all((self.out / it).exists() for it in self.made) and text_of(self.out / "built") == self.record()
+        is_made = all((self.out / it).exists() for it in self.made) and self.fits()
+        return is_made and text_of(self.out / "built") == self.record()
+
+    def fits(self):
+        """Whether the library can be used beside those below as they are built now: one of `rt ci` holds only statements,
+        and is refused beside other builds than those that it was proved over."""
+        over = dict(OVER.findall(text_of(self.format)))
+        return all(over[it.name] == it.build() for it in self.below if it.name in over)
+
+    def has_library(self):
+        """Whether there is a library to begin with. One that does not fit loses its mark, by which rt would take it."""
+        if not self.fits():
+            (self.out / self.mark).unlink(missing_ok=True)
+        return self.fits() and (self.out / "rlib").is_dir()
+
+    def build(self):
+        """The sum by which a library above names this build."""
+        return sum_of_file(self.format)
+
+    def has_only_tests(self):
+        """Whether nothing is made of the crate but tests, with which it is proved."""
+        return self.has_tests() and not self.is_program and not self.is_used
+
+    def verdict(self):
+        """What out/good holds where the crate was found good with these very files, over what stands below it."""
+        tested = [it.files for it in self.uses if self.name == f"{it.name}_tests"]
+        return sum_of(kit(), self.row, self.files, tested, [it.statements() for it in self.below])
+
+    def is_good(self):
+        is_made = self.has_only_tests() or all((self.out / it).exists() for it in self.made)
+        is_made &= self.tests.exists() or not self.has_tests()
+        return is_made and text_of(self.out / "good") == self.verdict()
+
+    def is_found_good(self):
+        (self.out / "good").write_text(self.verdict(), encoding="utf-8")
+
+    def is_now_built(self):
+        """Notes of what rt has just made that it was made from these sources, and what it states."""
+        if not self.is_program:
+            stated = statements_of(self.format.parent)
+            (self.out / "statements").write_text(stated, encoding="utf-8")
+        # Written apart and renamed, so that no other run meets half of it.
+        (self.out / "built.new").write_text(self.record(), encoding="utf-8")
+        (self.out / "built.new").replace(self.out / "built")
 
 
 def read_crates():
@@ -130,6 +179,10 @@ def sum_of(*parts):
     return hashlib.sha256(repr(parts).encode()).hexdigest()
 
 
+def sum_of_file(file):
+    return hashlib.sha256(file.read_bytes()).hexdigest() if file.is_file() else None
+
+
 def text_of(file):
     return file.read_text(encoding="utf-8") if file.is_file() else ""
 
@@ -158,18 +211,30 @@ def kit():
 
 
 def lock(crates):
-    """Keeps other runs of these scripts, and of rt, out of the crates' folders until this process ends."""
-    has_told = False
+    """Keeps other runs of these scripts, and of rt, out of the crates' folders until this process ends, or closes the files
+    that are returned."""
+    has_told, held = False, []
     # In the order in which rt takes them, so that no two runs wait for each other.
     for crate in sorted(crates, key=lambda it: str(it.folder)):
-        held = os.open(crate.folder, os.O_RDONLY)
+        held.append(os.open(crate.folder, os.O_RDONLY))
         try:
-            fcntl.flock(held, fcntl.LOCK_EX | fcntl.LOCK_NB)
+            fcntl.flock(held[-1], fcntl.LOCK_EX | fcntl.LOCK_NB)
         except BlockingIOError:
             if not has_told:
                 say(f"waiting for another run, which works on {crate.name}, to end")
                 has_told = True
-            fcntl.flock(held, fcntl.LOCK_EX)
+            fcntl.flock(held[-1], fcntl.LOCK_EX)
+    return held
+
+
+@contextlib.contextmanager
+def locked(crates):
+    held = lock(crates)
+    try:
+        yield
+    finally:
+        for it in held:
+            os.close(it)
 
 
 def say(text):
@@ -207,23 +272,18 @@ class Copy:
         folder = self.top / "crates" / crate.name
         (folder / "out").mkdir(parents=True)
         write_files(folder, files)
-        if (crate.out / "rlib").is_dir():
+        if crate.has_library():
             # rt removes these files and writes them anew, and never writes into them.
             shutil.copytree(crate.out / "rlib", folder / "out/rlib", copy_function=os.link)
 
     def publish(self):
         """Puts what rt made in place of what the crate had."""
-        built = self.crate.out / "built"
-        built.unlink(missing_ok=True)
+        (self.crate.out / "built").unlink(missing_ok=True)
         for name in self.crate.made:
             if (self.crate.out / name).is_dir():
                 (self.crate.out / name).rename(self.top / "old")
             (self.out / name).replace(self.crate.out / name)
-        if not self.crate.is_program:
-            stated = statements_of(self.crate.out / f"rlib/{self.crate.name}.rlib")
-            (self.crate.out / "statements").write_text(stated, encoding="utf-8")
-        (self.top / "built").write_text(self.crate.record(), encoding="utf-8")
-        (self.top / "built").replace(built)
+        self.crate.is_now_built()
 
     def keep_tests(self, read_at):
         """Keeps the tests that rt built, as old as the text that it was given."""
@@ -271,6 +331,26 @@ class Run:
                 copy.publish()
                 (crate.out / "took").write_text(f"{max(1, round(time.monotonic() - began))}\n", encoding="utf-8")
         return is_proved
+
+    def build_all(self, crates):
+        """Proves and builds the crates, each after those that it uses, up to the first that is not proved."""
+
+        def build_one(crate, jobs):
+            self.begins(crate)
+            if not self.build(crate, jobs):
+                raise NotProved(crate)
+            self.ends(crate, "proved and built")
+
+        steps = {}
+        for it in crates:
+            after = [steps[used] for used in it.uses if used in steps]
+            steps[it] = Step(lambda jobs, it=it: build_one(it, jobs), after)
+        try:
+            self.do(steps.values())
+        except NotProved as error:
+            refused = error.args[0]
+            sys.stderr.write(text_of(refused.out / "build.log"))
+            sys.exit(f"{refused.name} is not proved, so nothing is answered; the lines above are rt's")
 
     def rt(self, crate, folder, words, log):
         """Runs rt, with what it says in a file of the crate's out/. Returns its status."""
@@ -394,6 +474,10 @@ def clock(began, expected):
     """The time since then, and how much is expected if that is known, as short as a terminal's line wants it."""
     short = lambda seconds: f"{seconds // 60}:{seconds % 60:02}"
     return short(round(time.monotonic() - began)) + (f" of some {short(expected)}" if expected else "")
+
+
+class NotProved(Exception):
+    pass
 
 
 class Stopped(Exception):

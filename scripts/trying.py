@@ -1,8 +1,14 @@
-"""Has `rt try` answer for a program that is still to be built: it interprets the sources, and proves nothing."""
+"""Has `rt try` answer for a program that is still to be built: it interprets the sources, also compiles them with checks,
+and proves nothing. The program that it compiled is kept, and answers later inputs as long as the sources are the same.
+"""
+import contextlib
 import fcntl
 import os
+import pathlib
 import re
 import select
+import shlex
+import shutil
 import subprocess
 import sys
 import tempfile
@@ -18,6 +24,17 @@ PATIENCE = 10
 # The last line of `rt try` where the program ended, and what it says where no run of it did.
 ENDED = re.compile(rb"^run=ended status=\d+ .*\n\Z", re.M)
 NO_ANSWER = re.compile(rb"^(?:interpreter: no-answer|checked: no-answer|rt): (.*)$", re.M)
+
+# As long as `rt try` gives a compiled program.
+LIMIT = 60
+
+# A linker that also leaves the program in a file. It gets no environment.
+LINKER = """#!/bin/sh
+{linker} "$@" && while [ $# -gt 1 ]; do
+    if [ "$1" = -o ]; then exec cp "$2" {program}; fi
+    shift
+done
+"""
 
 # Its statuses where the sources are refused, and where they stop at a fault: no proof would pass these.
 WRONG = (1, 4)
@@ -96,26 +113,90 @@ def tell(crate, text):
     crates.say(f"{crate.name}: {text}")
 
 
+def is_kept(crate):
+    """Whether there is a program that `rt try` compiled from the sources as they stand."""
+    return program_kept(crate).exists() and crates.text_of(crate.out / "tried/sum") == crate.sum
+
+
+def program_kept(crate):
+    return crate.out / "tried" / crate.name
+
+
 def try_on(crate, arguments, read):
     """Ends this process with the answer of `rt try`, or returns why there is none."""
+    if is_kept(crate):
+        answer_by_kept(crate, arguments, read)
     read.seek(0)
-    words = ["rt", "try", *(["--", *arguments] if arguments else [])]
     pipes = {"stdin": read, "stdout": subprocess.PIPE, "stderr": subprocess.PIPE}
     # Ctrl-C is for this process alone, which ends rt once, so that rt removes its files.
-    with subprocess.Popen(words, cwd=crate.folder, start_new_session=True, **pipes) as ran:
-        try:
-            answers, said = ran.communicate()
-        except BaseException:
-            ran.terminate()
-            raise
-    if ENDED.search(said):
-        write(crate.name, answers)
-        sys.exit(ran.returncode)
+    with keeping_kit(crate) as (rt, program):
+        words = [rt, "try", *(["--", *arguments] if arguments else [])]
+        with subprocess.Popen(words, cwd=crate.folder, start_new_session=True, **pipes) as ran:
+            try:
+                answers, said = ran.communicate()
+            except BaseException:
+                ran.terminate()
+                raise
+        if ENDED.search(said):
+            if program and program.exists():
+                keep(crate, program)
+            write(crate.name, answers)
+            sys.exit(ran.returncode)
     if ran.returncode in WRONG:
         sys.stderr.write(said.decode(errors="replace"))
         sys.exit(f"{crate.name}: the sources are refused, so nothing is answered; the lines above are rt's")
     reasons = NO_ANSWER.findall(said)
     return reasons[-1].decode(errors="replace") if reasons else f"`rt try` ended with status {ran.returncode}"
+
+
+def answer_by_kept(crate, arguments, read):
+    """Ends this process with the answer of the program that was kept, or returns where a check stopped it."""
+    read.seek(0)
+    pipes = {"stdin": read, "stdout": subprocess.PIPE, "stderr": subprocess.PIPE, "env": {}}
+    with contextlib.suppress(subprocess.TimeoutExpired):
+        ran = subprocess.run([program_kept(crate), *arguments], timeout=LIMIT, **pipes)
+        if ran.returncode in (0, 1):
+            write(crate.name, ran.stdout)
+            sys.stderr.write(ran.stderr.decode(errors="replace"))
+            sys.exit(ran.returncode)
+
+
+def keep(crate, program):
+    """Keeps a program beside a sum of the sources, unless they were changed meanwhile."""
+    if crates.read_crates()[crate.name].sum == crate.sum:
+        (crate.out / "tried").mkdir(exist_ok=True)
+        (crate.out / "tried/sum").unlink(missing_ok=True)
+        program.replace(program_kept(crate))
+        (crate.out / "tried/sum").write_text(crate.sum, encoding="utf-8")
+
+
+@contextlib.contextmanager
+def keeping_kit(crate):
+    """The command `rt` of a kit that is made of links, but for a linker that leaves the program in a file, and that file.
+    It is rt itself and no file where the kit has no such linker."""
+    kit = pathlib.Path(shutil.which("rt")).resolve().parent.parent
+    own = ("bin", "toolchain", "toolchain/bin")
+    linker = kit / "toolchain/bin/ld.lld"
+    if not linker.is_file():
+        yield "rt", None
+        return
+    crate.out.mkdir(exist_ok=True)
+    with tempfile.TemporaryDirectory(prefix="kit-", dir=crate.out) as room:
+        copy, program = pathlib.Path(room, "kit"), pathlib.Path(room, crate.name)
+        for folder in ("", *own):
+            (copy / folder).mkdir()
+            for it in (kit / folder).iterdir():
+                if str(it.relative_to(kit)) not in own:
+                    (copy / folder / it.name).symlink_to(it)
+        # Python finds the kit by where its own files are.
+        for it in ("bin/rt", "bin/rtlib.py", "toolchain/bin/ld.lld"):
+            (copy / it).unlink()
+        for it in ("bin/rt", "bin/rtlib.py"):
+            shutil.copy(kit / it, copy / it)
+        words = {"linker": shlex.quote(str(linker)), "program": shlex.quote(str(program))}
+        (copy / "toolchain/bin/ld.lld").write_text(LINKER.format(**words), encoding="utf-8")
+        (copy / "toolchain/bin/ld.lld").chmod(0o755)
+        yield copy / "bin/rt", program
 
 
 def write(name, answers):

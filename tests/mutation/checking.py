@@ -13,6 +13,11 @@ KEPT = "out/incremental"
 VERDICT = re.compile(r"^fn (\S+): (.*)$", re.M)
 # The last line of a check of a whole crate, and of some functions.
 PROVED = re.compile(r"^(?:logic=proved\b|only=(\d+) proved=\1$)", re.M)
+# What a check says of the written proof of a function: its folder, and the error. Some errors only follow from others, and
+# some say that a name is gone which the proof has of the code.
+ERROR = re.compile(r"^(?:\./)?proofs/(\S+)/\w+\.antt:\d+:\d+: error: (.*)$", re.M)
+FOLLOWS = re.compile(r"which (?:was|were) rejected, (?:was|were) not checked")
+GONE = re.compile(r"has no field|is not in scope|has no `|was not admitted")
 JUDGED = re.compile(r"^(?:logic=(?:not-)?proved\b|only=\d+ proved=\d+$)", re.M)
 
 
@@ -29,6 +34,12 @@ class Said:
         """Whether the function itself is refused, and not only for another that it calls."""
         verdict = self.verdicts.get(path, "")
         return verdict.startswith(("not proved", "no proof")) and not self.hides(path)
+
+    def refuses_by_name(self, path):
+        """Whether the function is refused only since its written proof names what is not there: its contract may be met."""
+        folder = "/".join(path.split("::")[1:])
+        told = [error for at, error in ERROR.findall(self.text) if at == folder and not FOLLOWS.search(error)]
+        return self.verdicts[path].startswith("not proved") and bool(told) and all(GONE.search(it) for it in told)
 
     def hides(self, path):
         return self.verdicts.get(path, "").startswith("no proof: it calls ")
@@ -48,10 +59,10 @@ class Libraries:
 
     def add(self, crate):
         """Takes a library as its files are now, and builds it first where it is not. Returns what is wrong."""
-        built, held = library(crate), self.folder / f"{crate.name}.rlib"
+        built, held = crate.format.parent, self.folder / f"{crate.name}.rlib"
         if held.is_dir():
             return None
-        said = None if is_from_gate(crate) else Said(run(["rt", "lib"], crate.folder))
+        said = None if crate.has_library() and crate.is_built() else Said(run(["rt", "lib"], crate.folder))
         if not built.is_dir():
             return said
         link(built, held)
@@ -111,16 +122,6 @@ def link_file(source, target):
         os.link(source, target)
     except OSError:
         shutil.copyfile(source, target)
-
-
-def library(crate):
-    return crate.out / f"rlib/{crate.name}.rlib"
-
-
-def is_from_gate(crate):
-    """Whether the gate built the library, and no source has changed since. What `rt lib` builds has a stamp, and it knows
-    whether that is as its files are now. The gate leaves none, so `rt lib` would prove all again."""
-    return not (crate.out / "rlib/stamp").exists() and crate.is_newer(library(crate))
 
 
 class Stopped(Exception):

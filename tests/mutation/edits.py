@@ -112,6 +112,15 @@ def apply(edit, texts):
     return changed
 
 
+def misfit(edit, texts):
+    """Why an edit cannot be applied, or None."""
+    try:
+        apply(edit, texts)
+    except BadEdit as why:
+        return str(why)
+    return None
+
+
 def places(edit, texts):
     """Where the edit changes which file, as paths and offsets. Later pairs of one file apply to what earlier ones made."""
     found, changed = [], {}

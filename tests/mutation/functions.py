@@ -46,6 +46,11 @@ class Function:
             return f"{plain_name(self.type)}::{self.name}"
         return "::".join([*modules_of(self.file), "+".join(words_of(self.type)), self.name])
 
+    def proof(self):
+        """The folder of its written proof, below the crate's proofs/."""
+        own = flat(self.type) + flat(self.trait) if self.trait not in ("", "Drop") else plain_name(self.type)
+        return "/".join([*modules_of(self.file), *([own] if self.type else []), self.name])
+
     def is_named(self, path):
         """Whether a check means this function by the path, as in `a_crate::a_module::ATypeATrait::a_name`."""
         _, *modules, name = path.split("::")

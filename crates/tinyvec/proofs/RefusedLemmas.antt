@@ -7,7 +7,9 @@ use Rattle.tinyvec_slots.specs.Slots.{AreDefaults, items, items_len, spare}
 use Rattle.std.specs.List.{AllZip}
 use Rattle.tinyvec_slots.specs.Clones.{RefusedAt, ClonesOver, ClonesInPart}
 use Rattle.tinyvec_slots.proofs.CloneLemmas.{drop_within}
-use Rattle.tinyvec.specs.TinyVec.{tiny_items, tiny_len, tiny_spare, is_inline, IsInline, PlaceRule, TinySlotRule, SameFrame}
+use Rattle.tinyvec.specs.TinyVec.{tiny_items, tiny_len, tiny_spare, is_inline, tiny_capacity, IsInline, PlaceRule, TinySlotRule, SameFrame}
+use Rattle.tinyvec.specs.Room.{GrowsFor}
+use Rattle.tinyvec.specs.Refused.{RoomGranted}
 pub use Rattle.tinyvec.specs.FrameLaws.{place_kept}
 use Rattle.tinyvec.specs.declared.tiny_vec.TinyVec.{TinyVec}
 use Rattle.tinyvec.specs.declared.tiny_vec.TinyVec.TheVariants.{Inline, Heap}
@@ -108,3 +110,12 @@ module _ {A T : Type 0} (slots need : ℕ) where
   -- a list that stayed where its room was granted
   pub place_then : (old mid new : TinyVec A T) (n : ℕ) → n ≡ need → is_inline new ≡ is_inline mid → PlaceRule slots n old mid → PlaceRule slots need old new
   place_then old mid new n same stays place = rw (← same, stays) place
+
+  -- and kept that room
+  pub granted_then : (old mid new : TinyVec A T) (n : ℕ) → n ≡ need → is_inline new ≡ is_inline mid → tiny_capacity slots new ≡ tiny_capacity slots mid
+      → PlaceRule slots n old mid → GrowsFor slots n old mid → RoomGranted slots need old new
+  granted_then old mid new n is stays same place grown = (place_then old mid new n is stays place, rw (← is, same) grown)
+
+  -- there was room before
+  pub granted_before : (old new : TinyVec A T) → is_inline new ≡ is_inline old → need ≤ tiny_capacity slots old → RoomGranted slots need old new
+  granted_before old new same le = (place_kept slots need old new same le, λ less. absurd (omega (arith, le, less)))

@@ -1,6 +1,7 @@
 -- Growth, reserving room, and moves to the heap. A call and its `try_` form have one word.
-use Rattle.std.specs.Prelude.{◌≡◌, ℕ, ◌+◌, ◌*◌, ◌<◌, ◌≤◌, if◌then◌else◌, max, false, Result, IsOk, OnOk, OnErr}
-use Rattle.tinyvec.specs.TinyVec.{tiny_items, tiny_len, is_inline, tiny_capacity, IsInline, PlaceRule, TinySlotRule, Unchanged}
+use Rattle.std.specs.Prelude.{◌≡◌, ℕ, ◌+◌, ◌-◌, ◌*◌, ◌<◌, ◌≤◌, ◌↔◌, List, length, if◌then◌else◌, max, false, Result, IsOk, OnOk, OnErr}
+use Rattle.tinyvec_slots.specs.Slots.{AreDefaults}
+use Rattle.tinyvec.specs.TinyVec.{tiny_items, tiny_len, tiny_spare, is_inline, tiny_capacity, IsInline, PlaceRule, TinySlotRule, Unchanged}
 use Rattle.tinyvec.specs.declared.tiny_vec.TinyVec.{TinyVec}
 
 module _ {A T : Type 0} where
@@ -33,6 +34,15 @@ module _ {A T : Type 0} where
     pub same_room : KeepsRoom slots (tiny_len new) old new
     pub grown : GrowsInSteps slots old new
     pub fits : tiny_len new ≤ tiny_capacity slots new
+
+  -- `v` is what collecting `xs` makes: inline where they fit the array, before defaults; on the heap its capacity is less than
+  -- twice the length
+  pub record Collects (D : T → Type 0) (slots : ℕ) (xs : List T) (v : TinyVec A T) : Type 0 where
+    pub items : tiny_items v ≡ xs
+    pub place : IsInline v ↔ (length xs ≤ slots)
+    pub spare : IsInline v → AreDefaults D (slots - length xs) (tiny_spare v)
+    pub grown : slots < tiny_capacity slots v → tiny_capacity slots v < 2 * length xs
+    pub fits : length xs ≤ tiny_capacity slots v
 
 module _ {A T X E : Type 0} where
   -- A call that needs room for `need` items took `old` to `new`, with this result. If there was that room, the capacity is
@@ -80,10 +90,11 @@ module _ {A T X E : Type 0} where
     pub place : OnOk result (is_inline new ≡ false)
     pub room : OnOk result (tiny_len old + n ≤ tiny_capacity slots new)
     pub fits : tiny_len new ≤ tiny_capacity slots new
-    -- A list that moves has room for no further items. On the heap no room is lost, and where there is room it allocates
-    -- nothing and nothing changes. Nor does it on failure.
+    -- A list that moves has room for no further items. On the heap no room is lost, and one that grows does as by `reserve`;
+    -- where there is room it allocates nothing and nothing changes. Nor does it on failure.
     pub moved : IsInline old → OnOk result (tiny_capacity slots new ≡ tiny_len old + n)
     pub keeps_room : is_inline old ≡ false → tiny_capacity slots old ≤ tiny_capacity slots new
+    pub grown : is_inline old ≡ false → OnOk result (GrowsFor slots (tiny_len old + n) old new)
     pub kept : is_inline old ≡ false → tiny_len old + n ≤ tiny_capacity slots old → new ≡ old
     pub succeeds : is_inline old ≡ false → tiny_len old + n ≤ tiny_capacity slots old → IsOk result
     pub succeeds_empty : tiny_len old + n ≡ 0 → IsOk result

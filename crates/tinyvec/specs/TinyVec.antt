@@ -1,5 +1,6 @@
 -- What a contract sees of a `TinyVec`: its list, its spare slots, its place, and its capacity.
-use Rattle.std.specs.Prelude.{◌≡◌, ℕ, ◌≤◌, List, [], length, Bool, true, false, IsTrue, ◌↔◌, vec_capacity, ⊤}
+use Rattle.std.specs.Prelude.{◌≡◌, ℕ, ◌≤◌, List, [], length, Bool, true, false, IsTrue, ◌↔◌, ◌⊎◌, ◌++◌, All, vec_capacity, ⊤}
+use Rattle.std.specs.List.{AllZip}
 use Rattle.std.specs.Global.{Global}
 use Rattle.std.specs.Vec.{vec_allocator}
 use Rattle.tinyvec_slots.specs.Slots.{SlotRule, items, spare}
@@ -71,3 +72,16 @@ module _ {A T : Type 0} where
     pub spare : tiny_spare new ≡ tiny_spare old
     pub place : is_inline new ≡ is_inline old
     pub capacity : (slots : ℕ) → tiny_capacity slots new ≡ tiny_capacity slots old
+
+  -- what `v.clone()` may return: clones of the items and the spare slots in the same place, on the heap with a capacity of
+  -- the length; C is the `is_clone` of the item
+  pub record IsTinyClone (C : T → T → Type 0) (slots : ℕ) (v w : TinyVec A T) : Type 0 where
+    pub items : AllZip C (tiny_items v) (tiny_items w)
+    pub spare : AllZip C (tiny_spare v) (tiny_spare w)
+    pub place : is_inline w ≡ is_inline v
+    pub room : is_inline w ≡ false → tiny_capacity slots w ≡ tiny_len v
+
+  -- `v.clone()` cannot fail: no clone can, where the list is inline; on the heap an empty list allocates nothing
+  abbrev pub IsTinyInfallible : (T → Type 0) → TinyVec A T → Type 0
+  IsTinyInfallible I v =
+      (IsInline v × All I (tiny_items v ++ tiny_spare v)) ⊎ ((is_inline v ≡ false) × (tiny_len v ≡ 0))

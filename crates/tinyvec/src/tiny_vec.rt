@@ -49,7 +49,10 @@ impl<A: Array> TinyVec<A> {
     pub fn is_empty(&self) -> bool
         ensures { result ≡ (tiny_len self.now == 0) }
     {
-        self.len() == 0
+        match self {
+            TinyVec::Inline(v, _) => v.is_empty(),
+            TinyVec::Heap(v) => v.is_empty(),
+        }
     }
 
     /// The number of items that fit without a further allocation.

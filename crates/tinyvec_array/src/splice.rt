@@ -299,7 +299,6 @@ impl<'a, A: Array, I: Iterator<Item = A::Item>> ArrayVecSplice<'a, A, Fuse<I>> {
 }
 
 impl<A: Array> CanSplice for ArrayVec<A> {
-    ghost use Rattle.tinyvec_slots.specs.Slots.{SlotRule};
     ghost use Rattle.tinyvec_slots.proofs.SlotsLemmas.{shortened};
     ghost use Rattle.tinyvec_array.specs.SpliceLaws.{same_spare-refl, slots_kept_around};
 

@@ -4,7 +4,7 @@ use Rattle.std.specs.List.{slice_split}
 use Rattle.std.specs.Str.Lines.{lines, lines_of_parts, strip_carriage_return}
 use Rattle.std.proofs.lemmas.Bool.{ne_eqb}
 use Rattle.std.proofs.lemmas.Grind.{flat_map-append}
-use Rattle.std.proofs.lemmas.List.Elements.{All-nil, All-head, All-tail, All-push, All-weaker}
+use Rattle.std.proofs.lemmas.List.Elements.{All-nil, All-append, All-head, All-tail, All-push, All-weaker}
 use Rattle.std.proofs.lemmas.List.Splits.{slice_split_at, slice_split_none, length-slice_split}
 use Rattle.tinyvec_io.specs.Lines.{IsLine, ended, last_line, Splits}
 
@@ -16,14 +16,20 @@ ended_more all line = flat_map-append (λ each. each ++ 10 ∷ []) all (line ∷
 pub Splits-line : (line : List ℕ) → IsLine line → Splits line [] line
 Splits-line line whole = record { whole = refl; each = All-nil IsLine; partial = whole }
 
+-- bytes that end no line
+pub Splits-piece : (text : List ℕ) (all : List (List ℕ)) (rest piece : List ℕ) → IsLine piece → Splits text all rest
+    → Splits (text ++ piece) all (rest ++ piece)
+Splits-piece text all rest piece inner so_far = record {
+  whole = ap (λ front. front ++ piece) so_far.whole ∙ append_assoc (ended all) rest piece;
+  each = so_far.each;
+  partial = All-append (λ b. b ≢ 10) rest piece so_far.partial inner;
+}
+
 -- a byte that ends no line
 pub Splits-byte : (text : List ℕ) (all : List (List ℕ)) (rest : List ℕ) (byte : ℕ) → byte ≢ 10 → Splits text all rest
     → Splits (text ++ byte ∷ []) all (rest ++ byte ∷ [])
-Splits-byte text all rest byte inner so_far = record {
-  whole = ap (λ front. front ++ byte ∷ []) so_far.whole ∙ append_assoc (ended all) rest (byte ∷ []);
-  each = so_far.each;
-  partial = All-push (λ b. b ≢ 10) rest byte so_far.partial inner;
-}
+Splits-byte text all rest byte inner so_far =
+    Splits-piece text all rest (byte ∷ []) (All-push (λ b. b ≢ 10) [] byte (All-nil (λ b. b ≢ 10)) inner) so_far
 
 -- a line feed
 pub Splits-ended : (text : List ℕ) (all : List (List ℕ)) (rest : List ℕ) → Splits text all rest → Splits (text ++ 10 ∷ []) (all ++ rest ∷ []) []

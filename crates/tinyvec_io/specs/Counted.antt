@@ -1,6 +1,6 @@
 -- What a contract sees of a `Counted`, and how the results of its calls change the number of faults.
-use Rattle.std.specs.Prelude.{◌≡◌, ℕ, ◌+◌, ◌-◌, ◌^◌, ◌<◌, ◌⊎◌, min, zero, suc, List, [], ◌∷◌, ◌++◌, Option, Ok, Err, Result}
-use Rattle.std.specs.Io.KnownBytes.{Appends}
+use Rattle.std.specs.Prelude.{◌≡◌, ℕ, ◌+◌, ◌-◌, ◌^◌, ◌<◌, ◌⊎◌, min, zero, suc, List, [], ◌∷◌, ◌++◌, length, Option, Ok, Err, Result}
+use Rattle.std.specs.Io.KnownBytes.{Appends, Consumes}
 
 -- the reader or writer, and the number of its faults
 pub record CountedView (E : Type 0) : Type 0 where
@@ -30,3 +30,7 @@ Reported old new = (old < new) ⊎ (new ≡ 2 ^ 64 - 1)
 -- the known bytes grow by a prefix of these bytes
 abbrev pub AppendsFront : Option (List ℕ) → Option (List ℕ) → List ℕ → Type 0
 AppendsFront old new bytes = (front rest : List ℕ) × (bytes ≡ front ++ rest) × Appends old new front
+
+-- the known bytes begin with a prefix of these bytes, and lose it; it is not all of these
+abbrev pub ConsumesFront : Option (List ℕ) → Option (List ℕ) → List ℕ → Type 0
+ConsumesFront old new bytes = (front rest : List ℕ) × (bytes ≡ front ++ rest) × (0 < length rest) × Consumes old new front

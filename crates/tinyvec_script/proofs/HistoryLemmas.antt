@@ -2,13 +2,13 @@
 use Rattle.std.proofs.Common.{◌≡◌, ◌≢◌, ℕ, ◌+◌, ◌<◌, ◌≤◌, List, [], ◌∷◌, ◌++◌, length, take, Option, None, Some, refl, sym, ap, subst, ◌∙◌, append_assoc, append-nil, length-append, arith}
 use Rattle.std.proofs.lemmas.Bool.Decides.{nat_tests}
 use Rattle.std.proofs.lemmas.List.Elements.{All-nil}
-use Rattle.tinyvec_io.specs.Lines.{last_line}
-use Rattle.tinyvec_io.proofs.LineLemmas.{Splits-line, Splits-byte, Splits-ended}
+use Rattle.tinyvec_io.specs.Lines.{IsLine, last_line}
+use Rattle.tinyvec_io.proofs.LineLemmas.{Splits-line, Splits-piece, Splits-ended}
 use Rattle.tinyvec_script.specs.Script.{State, start, Answered, Answers, Script, CompleteLines}
-use Rattle.tinyvec_script.specs.History.{kept, push_kept, Progress, Feeds, Ends}
+use Rattle.tinyvec_script.specs.History.{kept, extend_kept, Progress, Feeds, Ends}
 
-pub kept_more : (rest : List ℕ) (byte : ℕ) → push_kept (kept rest) byte ≡ kept (rest ++ byte ∷ [])
-kept_more rest byte = grind (arith, nat_tests, length-append {A = ℕ})
+pub kept_more : (rest piece : List ℕ) → extend_kept (kept rest) piece ≡ kept (rest ++ piece)
+kept_more rest piece = grind (arith, nat_tests, length-append {A = ℕ})
 
 -- what is kept of a line is the line, or nothing of one that is too long
 pub kept_is : (rest bytes : List ℕ) → Some bytes ≡ kept rest → (bytes ≡ rest) × (length rest ≤ 128)
@@ -24,10 +24,10 @@ answers_more old mid new [] output line text h a =
 answers_more old mid new (first ∷ lines) output line text h a =
     (h.0, h.1, h.2 ++ (text ++ 10 ∷ []), h.3, ap (λ l. l ++ (text ++ 10 ∷ [])) h.4 ∙ append_assoc h.0 (10 ∷ h.2) (text ++ 10 ∷ []), answers_more h.1 mid new lines h.2 line text h.5 a)
 
-pub progress_byte : (text output rest : List ℕ) (state : State) (byte : ℕ) → Progress text output state rest → byte ≢ 10 → Progress (text ++ byte ∷ []) (output ++ []) state (rest ++ byte ∷ [])
-progress_byte text output rest state byte p other = record {
+pub progress_piece : (text output rest piece : List ℕ) (state : State) → Progress text output state rest → IsLine piece → Progress (text ++ piece) (output ++ []) state (rest ++ piece)
+progress_piece text output rest piece state p inner = record {
   lines = p.lines;
-  split = Splits-byte text p.lines rest byte other p.split;
+  split = Splits-piece text p.lines rest piece inner p.split;
   answers = subst (λ o. Answers start p.lines o state) (sym (append-nil output)) p.answers;
 }
 
@@ -46,9 +46,9 @@ Progress-start = record {
 }
 
 -- a line goes on, or is ended and answered
-pub feeds_byte : (state : State) (line line' : Option (List ℕ)) (byte : ℕ) → byte ≢ 10 → line' ≡ push_kept line byte → Feeds state line (byte ∷ []) [] state line'
-feeds_byte state line line' byte other e = λ text output rest p k.
-    (rest ++ byte ∷ [], progress_byte text output rest state byte p other, e ∙ ap (λ l. push_kept l byte) k ∙ kept_more rest byte)
+pub feeds_piece : (state : State) (line line' : Option (List ℕ)) (piece : List ℕ) → IsLine piece → line' ≡ extend_kept line piece → Feeds state line piece [] state line'
+feeds_piece state line line' piece inner e = λ text output rest p k.
+    (rest ++ piece, progress_piece text output rest piece state p inner, e ∙ ap (λ l. extend_kept l piece) k ∙ kept_more rest piece)
 
 pub feeds_line : (state new : State) (line line' : Option (List ℕ)) (answer : List ℕ) → ((rest : List ℕ) → line ≡ kept rest → Answered state rest answer new) → line' ≡ Some [] → Feeds state line (10 ∷ []) (answer ++ 10 ∷ []) new line'
 feeds_line state new line line' answer a e = λ text output rest p k.

@@ -1,13 +1,13 @@
 -- Indices, as they are printed.
-use Rattle.std.proofs.Common.{◌≡◌, ◌≢◌, ℕ, zero, suc, ◌^◌, ◌<◌, ◌≤◌, List, [], ◌∷◌, length, get_or, sym, ap, ◌∙◌, arith, Result, Ok}
+use Rattle.std.proofs.Common.{◌≡◌, ◌≢◌, ℕ, zero, suc, ◌+◌, ◌-◌, ◌*◌, ◌^◌, ◌<◌, ◌≤◌, List, [], ◌∷◌, length, take, get_or, sym, ap, ◌∙◌, arith}
 use Rattle.std.specs.List.{All}
 use Rattle.std.specs.Fmt.{decimal}
-use Rattle.std.specs.Str.{IsUtf8}
-use Rattle.std.specs.Str.Parse.{AllDigits, digits_value, ParsesUnsigned}
-use Rattle.std.proofs.lemmas.Str.Parse.{IsNumeralModel, numerals_by_value, tells_digits, parse_plain, digit_at}
-use Rattle.std.proofs.lemmas.Fmt.{digits_decimal, decimal_digit, decimal_nonempty, first_decimal, decimal-digits_value, parse-decimal, IsAscii-decimal}
-use Rattle.std.proofs.lemmas.Result.{OkIff-at_ok}
-use Rattle.std.proofs.lemmas.Str.{IsUtf8-from_ascii}
+use Rattle.std.specs.Char.{digit_value}
+use Rattle.std.specs.Str.Parse.{AllDigits, digits_value}
+use Rattle.std.proofs.lemmas.Str.Parse.{IsNumeralModel, numerals_by_value, tells_digits, digit_at, digits_value-take-le}
+use Rattle.std.proofs.lemmas.Int.Digits.{digits_more, digits_value_more}
+use Rattle.std.proofs.lemmas.Bool.Decides.{nat_tests}
+use Rattle.std.proofs.lemmas.Fmt.{digits_decimal, decimal_digit, decimal_nonempty, first_decimal, decimal-digits_value, digits_value-decimal}
 use Rattle.std.proofs.lemmas.List.Elements.{All-from_get_or}
 
 own : IsNumeralModel (AllDigits 10) (digits_value 10)
@@ -15,12 +15,6 @@ own = numerals_by_value (AllDigits 10) tells_digits
 
 byte_at : (n i : ℕ) → n < 2 ^ 64 → i < length (decimal n) → (48 ≤ get_or (decimal n) i 0) × (get_or (decimal n) i 0 ≤ 57)
 byte_at n i h lt = let r = digit_at (decimal n) i (digits_decimal own n h) lt in (omega (arith, r), omega (arith, r))
-
-pub printed_not_plus : (n : ℕ) (bs : List ℕ) → n < 2 ^ 64 → bs ≡ decimal n → get_or bs 0 0 ≢ 43
-printed_not_plus n bs h e p =
-    let r = byte_at n 0 h (decimal_nonempty n h) in
-    let same : get_or bs 0 0 ≡ get_or (decimal n) 0 0 = ap (λ l. get_or l 0 0) e in
-    omega (arith, r.0)
 
 pub printed_nonempty : (n : ℕ) (bs : List ℕ) → n < 2 ^ 64 → bs ≡ decimal n → 0 < length bs
 printed_nonempty n bs h e = rw e (decimal_nonempty n h)
@@ -32,16 +26,40 @@ printed_zero (suc n) bs h e p =
     let same : get_or bs 0 0 ≡ get_or (decimal (suc n)) 0 0 = ap (λ l. get_or l 0 0) e in
     absurd (omega arith)
 
-pub printed_is_text : (n : ℕ) (bs : List ℕ) → n < 2 ^ 64 → bs ≡ decimal n → IsUtf8 bs
-printed_is_text n bs h e = rw e (IsUtf8-from_ascii _ (IsAscii-decimal n h))
+-- what was read of digits with no leading zero is printed so, and what was not read is printed by no index
+pub read_is_printed : (bs : List ℕ) (value : ℕ) → 0 < length bs → AllDigits 10 bs → digits_value 10 bs ≡ value → value < 2 ^ 64 → get_or bs 0 0 ≢ 48 → bs ≡ decimal value
+read_is_printed bs value some digits is fits first =
+    sym (decimal-digits_value own bs digits some (λ z. absurd (first z)) (rw is fits)) ∙ ap decimal is
 
-pub printed_is_read : {E : Type 0} (n : ℕ) (bs : List ℕ) (r : Result ℕ E) → n < 2 ^ 64 → bs ≡ decimal n → ParsesUnsigned 64 10 bs r → r ≡ Ok n
-printed_is_read n bs r h e p = parse-decimal 64 n bs r h h e p
+pub unread_is_unprinted : (bs : List ℕ) → (AllDigits 10 bs → 2 ^ 64 ≤ digits_value 10 bs) → (n : ℕ) → n < 2 ^ 64 → bs ≢ decimal n
+unread_is_unprinted bs large n h e =
+    let digits : AllDigits 10 bs = rw e (digits_decimal own n h) in
+    let value : digits_value 10 bs ≡ n = ap (digits_value 10) e ∙ digits_value-decimal own n h in
+    omega (arith, large digits, value)
 
-pub read_is_printed : {E : Type 0} (bs : List ℕ) (r : Result ℕ E) (x : ℕ) → ParsesUnsigned 64 10 bs r → r ≡ Ok x → get_or bs 0 0 ≢ 43 → get_or bs 0 0 ≢ 48 → bs ≡ decimal x
-read_is_printed bs r x p ok plus zero_first =
-    let q = OkIff-at_ok r _ _ x (parse_plain own 64 bs r p plus) ok in
-    sym (ap decimal q.1 ∙ decimal-digits_value own bs q.0.0 q.0.1 (λ z. absurd (zero_first z)) q.0.2)
+-- numbers are told apart by their texts, and no text of one begins with a minus
+pub decimal_once : (n m : ℕ) → n < 2 ^ 64 → m < 2 ^ 64 → decimal n ≡ decimal m → n ≡ m
+decimal_once n m hn hm e = sym (digits_value-decimal own n hn) ∙ ap (digits_value 10) e ∙ digits_value-decimal own m hm
+
+pub first_is_digit : (n : ℕ) → n < 2 ^ 64 → (rest : List ℕ) → decimal n ≢ 45 ∷ rest
+first_is_digit n h rest e =
+    let same : get_or (decimal n) 0 0 ≡ 45 = ap (λ l. get_or l 0 0) e in
+    omega (arith, (byte_at n 0 h (decimal_nonempty n h)).0, same)
+
+module _ (bs : List ℕ) (i value : ℕ) (within : i < length bs) (before : digits_value 10 (take i bs) ≡ value) where
+  -- the next byte, where it is a digit
+  module _ (low : 48 ≤ get_or bs i 0) (high : get_or bs i 0 ≤ 57) where
+    digit_is : digit_value (get_or bs i 0) ≡ get_or bs i 0 - 48
+    digit_is = grind (arith, nat_tests)
+
+    pub digits_so_far : AllDigits 10 (take i bs) → AllDigits 10 (take (i + 1) bs)
+    digits_so_far digits = digits_more 10 bs i within digits (omega (arith, digit_is))
+
+    pub value_more : digits_value 10 (take (i + 1) bs) ≡ value * 10 + (get_or bs i 0 - 48)
+    value_more = digits_value_more 10 bs i within ∙ ap (λ v. v * 10 + digit_value (get_or bs i 0)) before ∙ ap (λ d. value * 10 + d) digit_is
+
+    pub value_at_least : value * 10 + (get_or bs i 0 - 48) ≤ digits_value 10 bs
+    value_at_least = omega (arith, value_more, digits_value-take-le 10 bs (i + 1) (omega arith))
 
 pub zero_is_printed : (bs : List ℕ) → get_or bs 0 0 ≡ 48 → length bs ≡ 1 → bs ≡ decimal 0
 zero_is_printed [] p l = absurd (omega arith)

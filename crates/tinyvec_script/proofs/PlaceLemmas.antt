@@ -63,6 +63,7 @@ module _ {A T : Type 0} where
   tiny_spliced D slots start end word replacement yields rest old new h = record {
     list = rw (place_of-room slots new) h.list;
     rules = ruled D slots (tiny_len new) old new h.place h.slot_rule h.capacity h.same_room;
+    grown = rw (place_of-room slots old, place_of-room slots new) h.grown;
   }
 
   -- and answered
@@ -76,6 +77,6 @@ module _ {A T : Type 0} where
       let seen = tiny_spliced D slots start end word.items replacement.items yields.items rest.items old new h in
       driven_answered (λ a. TinyAnswers D slots (tiny_of old) (Splice start end word replacement) a (tiny_of new)) yields rest answer all some
       (λ none. let fits = splice_fits capacity (tiny_items old) (tiny_items new) start end word.items replacement.items yields.items rest.items in_order in_list h.list none in
-      ((in_order, in_list), (rw (place_of-room slots new) fits.0, record { list = rw (place_of-room slots new) fits.1; rules = seen.rules })))
+      ((in_order, in_list), (rw (place_of-room slots new) fits.0, record { list = rw (place_of-room slots new) fits.1; rules = seen.rules; grown = seen.grown })))
       (λ more. let over = splice_overflows capacity (tiny_items old) (tiny_items new) start end word.items replacement.items yields.items rest.items in_order in_list h.list more in
       ((in_order, in_list), (rw (place_of-room slots new) over, h.no_shorter over, seen)))

@@ -7,8 +7,8 @@ use Rattle.tinyvec_slots.specs.Ends.{front, back, Asks, GivenByWord, taken}
 use Rattle.tinyvec_slots.specs.Ends as ends
 use Rattle.tinyvec_slots.specs.SplicedByWord.{IsSpliceRefused, placed_back}
 use Rattle.tinyvec_slots.specs.declared.no_room.SpliceRest.{SpliceRest}
-use Rattle.tinyvec.specs.TinyVec.{tiny_items, tiny_len, tiny_capacity, PlaceRule, TinySlotRule}
-use Rattle.tinyvec.specs.Room.{KeepsRoom}
+use Rattle.tinyvec.specs.TinyVec.{tiny_items, tiny_len, tiny_capacity}
+use Rattle.tinyvec.specs.Room.{Grows}
 use Rattle.tinyvec.specs.declared.tiny_vec.TinyVec.{TinyVec}
 use Rattle.tinyvec_script.specs.declared.call.End.{End}
 use Rattle.tinyvec_script.specs.declared.call.End.TheVariants.{Front, Back}
@@ -55,16 +55,13 @@ pub record ArraySplices {T : Type 0} (D : T → Type 0) (capacity : ℕ) (old : 
   pub list : ListSplices capacity (items old) start end word replacement yields rest (items new)
   pub slot_rule : SlotRule D old new
 
--- And so a `TinyVec`, which has the room that it has then. There is no less than before, so where the old room holds the
--- list nothing is refused.
+-- And so a `TinyVec`, which has the room that it has then, and grew as where items are pushed. There is no less than before, so
+-- where the old room holds the list nothing is refused.
 pub record TinySplices {A T : Type 0} (D : T → Type 0) (slots : ℕ) (old : TinyVec A T) (start end : ℕ) (word : List End)
     (replacement yields rest : List T) (new : TinyVec A T) : Type 0 where
   pub list : ListSplices (tiny_capacity slots new) (tiny_items old) start end word replacement yields rest (tiny_items new)
-  pub place : PlaceRule slots (tiny_len new) old new
-  pub slot_rule : TinySlotRule D old new
-  pub capacity : tiny_capacity slots old ≤ tiny_capacity slots new
-  pub same_room : KeepsRoom slots (tiny_len new) old new
-  pub fits : tiny_len new ≤ tiny_capacity slots new
+  pub grows : Grows D slots old new
+  pub open grows use *
   pub no_shorter : tiny_capacity slots new < start + length replacement + (tiny_len old - end) → tiny_len old ≤ tiny_len new
 
 -- What a splice makes of a list, computed for given numbers and a given word.

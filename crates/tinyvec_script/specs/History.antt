@@ -1,5 +1,5 @@
 -- Words for what is under way between two bytes of the input.
-use Rattle.std.specs.Prelude.{◌≡◌, ℕ, List, [], ◌∷◌, ◌++◌, length, Option, None, Some, nat_lt, if◌then◌else◌}
+use Rattle.std.specs.Prelude.{◌≡◌, ℕ, List, ◌++◌, length, Option, None, Some, nat_lt, if◌then◌else◌}
 use Rattle.tinyvec_io.specs.Lines.{Splits}
 use Rattle.tinyvec_script.specs.Script.{State, start, Answers, Script}
 
@@ -7,10 +7,10 @@ use Rattle.tinyvec_script.specs.Script.{State, start, Answers, Script}
 abbrev pub kept : List ℕ → Option (List ℕ)
 kept rest = if nat_lt 128 (length rest) then None else Some rest
 
--- one byte more
-abbrev pub push_kept : Option (List ℕ) → ℕ → Option (List ℕ)
-push_kept None byte = None
-push_kept (Some bytes) byte = if nat_lt (length bytes) 128 then Some (bytes ++ byte ∷ []) else None
+-- some bytes more
+abbrev pub extend_kept : Option (List ℕ) → List ℕ → Option (List ℕ)
+extend_kept None piece = None
+extend_kept (Some bytes) piece = kept (bytes ++ piece)
 
 -- the output answers the complete lines of the text, and leaves the list; the rest has come of the next line
 pub record Progress (text output : List ℕ) (state : State) (rest : List ℕ) : Type 0 where

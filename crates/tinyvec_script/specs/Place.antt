@@ -62,6 +62,10 @@ module _ {T : Type 0} (slots : ℕ) where
   abbrev pub Doubled : Tiny T → Tiny T → Type 0
   Doubled old new = count old ≡ room slots old.place → room slots new.place ≡ max (2 * room slots old.place) (count old + 1)
 
+  -- Room that grew item by item is for less than twice the items.
+  abbrev pub GrownInSteps : Tiny T → Tiny T → Type 0
+  GrownInSteps old new = room slots old.place < room slots new.place → room slots new.place < 2 * count new
+
   -- Where there was less room than `need`, a list that moves got room for just that, and one on the heap twice the room
   -- that it had, or `need` where that is more.
   abbrev pub Grown : ℕ → Tiny T → Tiny T → Type 0

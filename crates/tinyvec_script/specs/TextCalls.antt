@@ -1,7 +1,7 @@
 -- The text of a script: how its calls are spelled, what they may be answered, and what they then leave.
 use Rattle.std.specs.Prelude.{◌≡◌, ℕ, ℤ, ◌+◌, ◌<◌, ◌≤◌, ◌^◌, List, ◌++◌, length, take, codes, chars, IsUtf8}
 use Rattle.std.specs.Fmt.{decimal}
-use Rattle.tinyvec_text.specs.InlineText.{Text, text_chars, text_len, TextPlaceRule, IsBoundary}
+use Rattle.tinyvec_text.specs.InlineText.{Text, text_chars, text_len, TextPlaceRule, TextGrows, IsBoundary}
 use Rattle.tinyvec_script.specs.declared.call.Answer.{Answer}
 use Rattle.tinyvec_script.specs.declared.call.Answer.TheVariants as answers
 use Rattle.tinyvec_script.specs.declared.text_command.TextCall.{TextCall as Said}
@@ -34,7 +34,7 @@ pub record IsTextCommand (line : List ℕ) (call : TextCall) : Type 0 where
   pub short : length line ≤ 128
 
 -- The bytes were appended, by the place rule at the joined length. There is no less room than before, and enough; where
--- the old room holds the text it is the same.
+-- the old room holds the text it is the same, and else it grew as the place says.
 pub record Added (slots : ℕ) (old : Text) (text : List ℕ) (new : Text) : Type 0 where
   pub chars_are : text_chars new ≡ text_chars old ++ chars text
   pub bytes_are : new.bytes ≡ old.bytes ++ text
@@ -42,6 +42,7 @@ pub record Added (slots : ℕ) (old : Text) (text : List ℕ) (new : Text) : Typ
   pub keeps_room : old.room ≤ new.room
   pub fits : text_len new ≤ new.room
   pub same_room : text_len old + length text ≤ old.room → new.room ≡ old.room
+  pub grown : TextGrows old.inline (text_len old + length text) old new
 
 -- the first characters were kept, whose bytes are `index`, in their place
 pub record CutAt (old : Text) (index : ℕ) (new : Text) : Type 0 where

@@ -4,7 +4,7 @@ use Rattle.std.specs.List.{swap_remove}
 use Rattle.std.specs.declared.ops.Bound.TheVariants.{Included, Excluded}
 use Rattle.tinyvec_slots.specs.Slots.{AreDefaults}
 use Rattle.tinyvec_slots.specs.Cut.{IsRangeOf, before, removed, after}
-use Rattle.tinyvec_script.specs.Place.{Tiny, count, Inline, lies_inline, room, Ruled, Doubled, Grown}
+use Rattle.tinyvec_script.specs.Place.{Tiny, count, Inline, lies_inline, room, Ruled, Doubled, Grown, GrownInSteps}
 use Rattle.tinyvec_script.specs.Driving.{ListSplices}
 use Rattle.tinyvec_script.specs.declared.call.End.{End}
 use Rattle.tinyvec_script.specs.declared.call.Call.{Call}
@@ -38,6 +38,7 @@ module _ {T : Type 0} (D : T → Type 0) (slots : ℕ) where
   pub record Spliced (old : Tiny T) (start end : ℕ) (word : List End) (replacement yields rest : List T) (new : Tiny T) : Type 0 where
     pub list : ListSplices (room slots new.place) old.items start end word replacement yields rest new.items
     pub rules : Ruled D slots (count new) old new
+    pub grown : GrownInSteps slots old new
 
   -- How a splice of a range that is in the list is answered: by what was taken, and by what found no room if there is such.
   -- Then the list is full, and no shorter.
@@ -52,7 +53,7 @@ module _ {T : Type 0} (D : T → Type 0) (slots : ℕ) where
   TinySpliceAnswers old start end word replacement answer new = ⊥
 
   -- From the old value the call may have this answer, and leave the new value, if that fits. A refused allocation is a case
-  -- of its own: `Memory` only where there is no room for the items, for the move of an inline list to the heap, for the items
+  -- of its own: `Memory` only where there is no room for the items, for the move of an inline list of items to the heap, for those
   -- that a drain or a splice takes, or for those that a splice may return.
   abbrev pub TinyAnswers : Tiny T → Call T → Answer T → Tiny T → Type 0
   TinyAnswers old (Push x) answers.Done new = (new.items ≡ old.items ++ x ∷ []) × Ruled D slots (count old + 1) old new
@@ -85,7 +86,7 @@ module _ {T : Type 0} (D : T → Type 0) (slots : ℕ) where
       × Ruled D slots (count old + n) old new × Grown slots (count old + n) old new
   TinyAnswers old (Reserve n) answers.Memory new = (room slots old.place < count old + n) × (new ≡ old)
   TinyAnswers old Heap answers.Done new = Moved old new
-  TinyAnswers old Heap answers.Memory new = Inline old × (new ≡ old)
+  TinyAnswers old Heap answers.Memory new = Inline old × (0 < count old) × (new ≡ old)
   TinyAnswers old Shrink answers.Done new = Shrunk old new
   -- it has no such call
   TinyAnswers old (SetLen n) answers.Unfit new = new ≡ old

@@ -1,16 +1,38 @@
 -- What a call does that writes to a `Counted`, some of it gathered first.
-use Rattle.std.specs.Prelude.{ℕ, ◌≤◌, List, Option, Result, OnOk, OnErr}
-use Rattle.std.specs.Io.KnownBytes.{Appends, append_known}
-use Rattle.tinyvec_io.specs.Counted.{CountedView, Reported}
+use Rattle.std.specs.Prelude.{◌≡◌, ◌⊎◌, ℕ, ◌≤◌, List, [], ◌++◌, Option, None, Some, Result, OnOk, OnErr, IsErr}
+use Rattle.std.specs.Io.KnownBytes.{Appends}
+use Rattle.tinyvec_io.specs.Counted.{CountedView, AppendsFront, Reported}
 
--- the text was written where the call succeeded, and a fault was reported where it failed
-abbrev pub Writes : {W T E : Type 0} → (W → Option (List ℕ)) → CountedView W → CountedView W → Result T E → List ℕ → Type 0
-Writes contents old new result text = OnOk result (Appends (contents old.inner) (contents new.inner) text)
-    × (old.faults ≤ new.faults) × OnErr result (Reported old.faults new.faults)
+-- The text was written where the call succeeded, and a front of it where it failed, of which a fault was reported.
+pub record Writes {W T E : Type 0} (contents : W → Option (List ℕ)) (old new : CountedView W) (result : Result T E) (text : List ℕ) : Type 0 where
+  pub ok : OnOk result (Appends (contents old.inner) (contents new.inner) text)
+  pub err : OnErr result (AppendsFront (contents old.inner) (contents new.inner) text)
+  pub grows : old.faults ≤ new.faults
+  pub fault : OnErr result (Reported old.faults new.faults)
 
--- the same of what was written and what is gathered after it
-abbrev pub Gathers : {W T E : Type 0} → (W → Option (List ℕ)) → CountedView W → List ℕ → CountedView W → List ℕ
-    → Result T E → List ℕ → Type 0
-Gathers contents old gathered new gathered' result text =
-    OnOk result (Appends (append_known (contents old.inner) gathered) (append_known (contents new.inner) gathered') text)
-    × (old.faults ≤ new.faults) × OnErr result (Reported old.faults new.faults)
+-- the bytes that are gathered, or nothing after an error
+abbrev pub gathered_of : {E : Type 0} → Option E → List ℕ → Option (List ℕ)
+gathered_of None bytes = Some bytes
+gathered_of (Some error) bytes = None
+
+-- The text came behind these bytes. A front of them all was written, and the rest is gathered; or a fault was reported.
+pub record GathersBehind {W : Type 0} (contents : W → Option (List ℕ)) (old : CountedView W) (bytes : List ℕ) (new : CountedView W)
+    (gathered : Option (List ℕ)) (text : List ℕ) : Type 0 where
+  pub written : List ℕ
+  pub rest : List ℕ
+  pub appended : Appends (contents old.inner) (contents new.inner) written
+  pub whole : bytes ++ text ≡ written ++ rest
+  pub grows : old.faults ≤ new.faults
+  pub kept : (gathered ≡ Some rest) ⊎ ((gathered ≡ None) × Reported old.faults new.faults)
+
+-- The text was put behind what was gathered. After an error nothing more is written.
+abbrev pub Gathers : {W : Type 0} → (W → Option (List ℕ)) → CountedView W → Option (List ℕ) → CountedView W → Option (List ℕ)
+    → List ℕ → Type 0
+Gathers contents old None new gathered text = (new ≡ old) × (gathered ≡ None)
+Gathers contents old (Some bytes) new gathered text = GathersBehind contents old bytes new gathered text
+
+-- What was gathered was written, and then nothing is gathered. After an error the call fails.
+abbrev pub Sends : {W T E : Type 0} → (W → Option (List ℕ)) → CountedView W → Option (List ℕ) → CountedView W → Option (List ℕ)
+    → Result T E → Type 0
+Sends contents old None new gathered result = (new ≡ old) × IsErr result
+Sends contents old (Some bytes) new gathered result = Writes contents old new result bytes × OnOk result (gathered ≡ Some [])

@@ -1,14 +1,12 @@
 //! The text of answers and of vectors, written in pieces. It allocates nothing.
-ghost use Rattle.std.specs.Prelude.{◌++◌, codes};
+ghost use Rattle.std.specs.Prelude.{◌<◌, ◌++◌, codes};
 ghost use Rattle.std.specs.List.{flat_map};
-ghost use Rattle.std.specs.Fmt.{signed_decimal};
+ghost use Rattle.std.specs.Fmt.{decimal, signed_decimal};
 ghost use Rattle.tinyvec_script.specs.Writes.{Gathers};
-ghost use Rattle.tinyvec_script.specs.Text.{list_text, answer_text, state_text, place_text, place_state_text, text_state_text};
+ghost use Rattle.tinyvec_script.specs.Text.{digit_pair, list_text, answer_text, state_text, place_text, place_state_text, text_state_text};
 
 use crate::Answer;
-use crate::decimal::Decimal;
 use crate::gathered::Gathered;
-use std::io;
 use std::io::Write;
 use tinyvec_io::Counted;
 
@@ -16,24 +14,24 @@ pub(crate) fn write_answer<W: Write>(
     gathered: &mut Gathered,
     writer: &mut Counted<W>,
     answer: &Answer<i32>,
-) -> io::Result<()>
-    ensures { Gathers W.contents writer.old gathered.old writer.new gathered.new result (answer_text answer.now) }
+)
+    ensures { Gathers W.contents writer.old gathered.old writer.new gathered.new (answer_text answer.now) }
 {
     match answer {
         Answer::Done => gathered.put(writer, b"ok"),
         Answer::Some(number) => {
-            gathered.put(writer, b"some ")?;
+            gathered.put(writer, b"some ");
             write_number(gathered, writer, *number)
         }
         Answer::None => gathered.put(writer, b"none"),
         Answer::Items(numbers) => {
-            gathered.put(writer, b"items ")?;
+            gathered.put(writer, b"items ");
             write_list(gathered, writer, numbers.as_slice())
         }
         Answer::Spliced(numbers, rest) => {
-            gathered.put(writer, b"items ")?;
-            write_list(gathered, writer, numbers.as_slice())?;
-            gathered.put(writer, b" rest ")?;
+            gathered.put(writer, b"items ");
+            write_list(gathered, writer, numbers.as_slice());
+            gathered.put(writer, b" rest ");
             write_list(gathered, writer, rest.as_slice())
         }
         Answer::Full => gathered.put(writer, b"full"),
@@ -50,12 +48,12 @@ pub(crate) fn write_state<W: Write>(
     writer: &mut Counted<W>,
     items: &[i32],
     spare: &[i32],
-) -> io::Result<()>
-    ensures { Gathers W.contents writer.old gathered.old writer.new gathered.new result (state_text items.now spare.now) }
+)
+    ensures { Gathers W.contents writer.old gathered.old writer.new gathered.new (state_text items.now spare.now) }
 {
-    write_list(gathered, writer, items)?;
-    gathered.put(writer, b" ")?;
-    write_list(gathered, writer, spare)
+    write_list(gathered, writer, items);
+    gathered.put(writer, b" ");
+    write_list(gathered, writer, spare);
 }
 
 // Writes the list, a blank and the place.
@@ -65,12 +63,12 @@ pub(crate) fn write_place_state<W: Write>(
     writer: &mut Counted<W>,
     items: &[i32],
     inline: bool,
-) -> io::Result<()>
-    ensures { Gathers W.contents writer.old gathered.old writer.new gathered.new result (place_state_text items.now inline) }
+)
+    ensures { Gathers W.contents writer.old gathered.old writer.new gathered.new (place_state_text items.now inline) }
 {
-    write_list(gathered, writer, items)?;
-    gathered.put(writer, b" ")?;
-    write_place(gathered, writer, inline)
+    write_list(gathered, writer, items);
+    gathered.put(writer, b" ");
+    write_place(gathered, writer, inline);
 }
 
 // Writes the bytes in brackets, a blank and the place.
@@ -80,67 +78,84 @@ pub(crate) fn write_text_state<W: Write>(
     writer: &mut Counted<W>,
     bytes: &[u8],
     inline: bool,
-) -> io::Result<()>
-    ensures { Gathers W.contents writer.old gathered.old writer.new gathered.new result (text_state_text bytes.now inline) }
+)
+    ensures { Gathers W.contents writer.old gathered.old writer.new gathered.new (text_state_text bytes.now inline) }
 {
-    gathered.put(writer, b"[")?;
-    gathered.put(writer, bytes)?;
-    gathered.put(writer, b"] ")?;
-    write_place(gathered, writer, inline)
+    gathered.put(writer, b"[");
+    gathered.put(writer, bytes);
+    gathered.put(writer, b"] ");
+    write_place(gathered, writer, inline);
 }
 
-fn write_place<W: Write>(
-    gathered: &mut Gathered,
-    writer: &mut Counted<W>,
-    inline: bool,
-) -> io::Result<()>
-    ensures { Gathers W.contents writer.old gathered.old writer.new gathered.new result (place_text inline) }
+fn write_place<W: Write>(gathered: &mut Gathered, writer: &mut Counted<W>, inline: bool)
+    ensures { Gathers W.contents writer.old gathered.old writer.new gathered.new (place_text inline) }
 {
     if inline {
-        return gathered.put(writer, b"inline");
+        gathered.put(writer, b"inline");
+    } else {
+        gathered.put(writer, b"heap");
     }
-    gathered.put(writer, b"heap")
 }
 
 // Writes a list in brackets.
 #[tactic(auto, unfolding(crate::specs::Text::list_text))]
-fn write_list<W: Write>(
-    gathered: &mut Gathered,
-    writer: &mut Counted<W>,
-    numbers: &[i32],
-) -> io::Result<()>
-    ensures { Gathers W.contents writer.old gathered.old writer.new gathered.new result (list_text numbers.now) }
+fn write_list<W: Write>(gathered: &mut Gathered, writer: &mut Counted<W>, numbers: &[i32])
+    ensures { Gathers W.contents writer.old gathered.old writer.new gathered.new (list_text numbers.now) }
 {
-    gathered.put(writer, b"[")?;
+    gathered.put(writer, b"[");
     if let Some((first, others)) = numbers.split_first() {
-        write_number(gathered, writer, *first)?;
-        write_more(gathered, writer, others)?;
+        write_number(gathered, writer, *first);
+        write_more(gathered, writer, others);
     }
-    gathered.put(writer, b"]")
+    gathered.put(writer, b"]");
 }
 
 // Writes numbers, each after a comma and a blank.
-fn write_more<W: Write>(
-    gathered: &mut Gathered,
-    writer: &mut Counted<W>,
-    numbers: &[i32],
-) -> io::Result<()>
-    ensures { Gathers W.contents writer.old gathered.old writer.new gathered.new result
+fn write_more<W: Write>(gathered: &mut Gathered, writer: &mut Counted<W>, numbers: &[i32])
+    ensures { Gathers W.contents writer.old gathered.old writer.new gathered.new
         (flat_map (λ number. codes ", " ++ signed_decimal number) numbers.now) }
 {
     for number in numbers {
-        gathered.put(writer, b", ")?;
-        write_number(gathered, writer, *number)?;
+        gathered.put(writer, b", ");
+        write_number(gathered, writer, *number);
     }
-    Ok(())
 }
 
-fn write_number<W: Write>(
-    gathered: &mut Gathered,
-    writer: &mut Counted<W>,
-    number: i32,
-) -> io::Result<()>
-    ensures { Gathers W.contents writer.old gathered.old writer.new gathered.new result (signed_decimal number) }
+fn write_number<W: Write>(gathered: &mut Gathered, writer: &mut Counted<W>, number: i32)
+    ensures { Gathers W.contents writer.old gathered.old writer.new gathered.new (signed_decimal number) }
 {
-    gathered.put(writer, Decimal::new(number).as_bytes())
+    if number >= 0 {
+        write_decimal(gathered, writer, number as u32);
+        return;
+    }
+    gathered.put(writer, b"-");
+    write_decimal(gathered, writer, number.unsigned_abs());
+}
+
+// Writes the digits of the number, two at a time where it has more than one.
+fn write_decimal<W: Write>(gathered: &mut Gathered, writer: &mut Counted<W>, number: u32)
+    ensures { Gathers W.contents writer.old gathered.old writer.new gathered.new (decimal number) }
+{
+    if number < 10 {
+        gathered.put(writer, &[b'0' + number as u8]);
+        return;
+    }
+    if number < 100 {
+        write_pair(gathered, writer, number);
+        return;
+    }
+    write_decimal(gathered, writer, number / 100);
+    write_pair(gathered, writer, number % 100);
+}
+
+// Writes two digits.
+#[inline(always)]
+fn write_pair<W: Write>(gathered: &mut Gathered, writer: &mut Counted<W>, pair: u32)
+    requires { pair < 100 }
+    ensures { Gathers W.contents writer.old gathered.old writer.new gathered.new (digit_pair pair) }
+{
+    gathered.put(
+        writer,
+        &[b'0' + (pair / 10) as u8, b'0' + (pair % 10) as u8],
+    );
 }

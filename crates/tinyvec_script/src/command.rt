@@ -170,7 +170,7 @@ fn parse_two_indices(text: &[u8]) -> Option<(usize, usize)>
     ensures none { IfNone result ((first second : ℕ) → first < 2 ^ 64 → second < 2 ^ 64
         → text.now ≢ decimal first ++ 32 ∷ decimal second) }
 {
-    let (first, second) = split_word(text)?;
+    let (first, second) = split_at_byte(text, b' ')?;
     Some((parse_index(first)?, parse_index(second)?))
 }
 
@@ -179,18 +179,18 @@ fn parse_index_and_number(text: &[u8]) -> Option<(usize, i32)>
     ensures none { IfNone result ((index : ℕ) (number : ℤ) → index < 2 ^ 64 → FitsSigned w32 number
         → text.now ≢ decimal index ++ 32 ∷ signed_decimal number) }
 {
-    let (index, number) = split_word(text)?;
+    let (index, number) = split_at_byte(text, b' ')?;
     Some((parse_index(index)?, parse_number(number)?))
 }
 
-// The text before the first blank, and the text after it.
-pub(crate) fn split_word(text: &[u8]) -> Option<(&[u8], &[u8])>
-    ensures some { IfSome result (λ parts. text.now ≡ parts.0.now ++ 32 ∷ parts.1.now) }
-    ensures word { IfSome result (λ parts. All (λ byte. byte ≢ 32) parts.0.now) }
-    ensures none { IfNone result (All (λ byte. byte ≢ 32) text.now) }
+// The text before the first such byte, and the text after it.
+pub(crate) fn split_at_byte(text: &[u8], byte: u8) -> Option<(&[u8], &[u8])>
+    ensures some { IfSome result (λ parts. text.now ≡ parts.0.now ++ byte ∷ parts.1.now) }
+    ensures front { IfSome result (λ parts. All (λ b. b ≢ byte) parts.0.now) }
+    ensures none { IfNone result (All (λ b. b ≢ byte) text.now) }
 {
-    for (index, byte) in text.iter().enumerate() {
-        if *byte == b' ' {
+    for (index, b) in text.iter().enumerate() {
+        if *b == byte {
             return Some((&text[..index], &text[index + 1..]));
         }
     }

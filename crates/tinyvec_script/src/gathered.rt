@@ -1,71 +1,84 @@
 //! Bytes that are gathered before they are written.
-ghost use Rattle.std.specs.Prelude.{◌≡◌, ◌+◌, ◌≤◌, ◌++◌, List, ℕ, [], take, length, OnOk};
-ghost use Rattle.tinyvec_script.specs.Writes.{Writes, Gathers};
+ghost use Rattle.std.specs.Prelude.{◌≡◌, [], Some};
+ghost use Rattle.tinyvec_slots.specs.Slots.{items};
+ghost use Rattle.tinyvec_script.specs.Writes.{Gathers, Sends, gathered_of};
 
 use std::io;
 use std::io::Write;
 use std::marker::Model;
+use tinyvec::ArrayVec;
 use tinyvec_io::Counted;
 
 // Mostly enough for the answers to 4 KiB of lines.
 const ROOM: usize = 16384;
 
-// Bytes that are gathered before they are written.
+// Bytes that are gathered before they are written, and the error of a writer that failed. After an error nothing more is
+// written, and what is put is dropped: so a line is put together with no test of each piece.
 #[derive(Drop)]
 pub(crate) struct Gathered {
-    bytes: [u8; ROOM],
-    len: usize,
+    bytes: ArrayVec<[u8; ROOM]>,
+    error: Option<io::Error>,
 }
 
 impl Model for Gathered {
-    ghost Value = { List ℕ };
+    ghost use Rattle.std.specs.Prelude.{List, ℕ, Option};
+    ghost use Rattle.tinyvec_slots.specs.Slots.{items};
+    ghost use Rattle.tinyvec_script.specs.Writes.{gathered_of};
 
-    ghost view = { λ g. take g.len g.bytes };
+    ghost Value = { Option (List ℕ) };
 
-    ghost invariant = { λ g. g.len ≤ 16384 };
+    ghost view = { λ g. gathered_of g.error (items g.bytes) };
 }
 
 impl Gathered {
     pub(crate) fn new() -> Self
-        ensures { result ≡ [] }
+        ensures { result ≡ Some [] }
     {
         Gathered {
-            bytes: [0; ROOM],
-            len: 0,
+            bytes: ArrayVec::new(),
+            error: None,
         }
     }
 
     // Appends the text. Without room for it, writes what was gathered before.
-    pub(crate) fn put<W: Write>(&mut self, writer: &mut Counted<W>, text: &[u8]) -> io::Result<()>
-        ensures { Gathers W.contents writer.old self.old writer.new self.new result text.now }
+    #[inline(always)]
+    pub(crate) fn put<W: Write>(&mut self, writer: &mut Counted<W>, text: &[u8])
+        ensures { Gathers W.contents writer.old self.old writer.new self.new text.now }
     {
-        if text.len() > ROOM - self.len {
-            self.send(writer)?;
-            if text.len() > ROOM {
-                return writer.write_all(text);
-            }
+        if text.len() > self.bytes.capacity() - self.bytes.len() {
+            self.put_after_send(writer, text);
+        } else {
+            self.bytes.extend_from_slice_copy(text);
         }
-        self.append(text);
-        Ok(())
     }
 
-    // Appends the text, for which there is room.
-    fn append(&mut self, text: &[u8])
-        requires { length self.old + length text.now ≤ 16384 }
-        ensures { self.new ≡ self.old ++ text.now }
+    #[cold]
+    #[inline(never)]
+    fn put_after_send<W: Write>(&mut self, writer: &mut Counted<W>, text: &[u8])
+        ensures { Gathers W.contents writer.old self.old writer.new self.new text.now }
     {
-        let end = self.len + text.len();
-        self.bytes[self.len..end].copy_from_slice(text);
-        self.len = end;
+        if let Err(error) = self.send(writer) {
+            self.error = Some(error);
+            return;
+        }
+        if text.len() <= ROOM {
+            self.bytes.extend_from_slice_copy(text);
+            return;
+        }
+        if let Err(error) = writer.write_all(text) {
+            self.error = Some(error);
+        }
     }
 
-    // Writes what was gathered.
+    // Writes what was gathered, or returns the error that there was.
     pub(crate) fn send<W: Write>(&mut self, writer: &mut Counted<W>) -> io::Result<()>
-        ensures writes { Writes W.contents writer.old writer.new result self.old }
-        ensures gathered { OnOk result (self.new ≡ []) }
+        ensures { Sends W.contents writer.old self.old writer.new self.new result }
     {
-        writer.write_all(&self.bytes[..self.len])?;
-        self.len = 0;
+        if let Some(error) = self.error.take() {
+            return Err(error);
+        }
+        writer.write_all(self.bytes.as_slice())?;
+        self.bytes.set_len(0);
         Ok(())
     }
 }

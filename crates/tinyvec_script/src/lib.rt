@@ -4,7 +4,6 @@
 mod answers;
 mod call;
 mod command;
-mod decimal;
 mod driving;
 mod gathered;
 mod line;

@@ -1,7 +1,7 @@
 //! The part of a line that was read so far.
 ghost use Rattle.std.specs.Prelude.{◌≡◌, ◌↔◌, List, ℕ, [], None, Some, MatchOption, IsTrue, if◌then◌else◌, Option};
 ghost use Rattle.tinyvec_slots.specs.Slots.{items};
-ghost use Rattle.tinyvec_script.specs.History.{push_kept};
+ghost use Rattle.tinyvec_script.specs.History.{extend_kept};
 
 use std::marker::Model;
 use tinyvec::ArrayVec;
@@ -36,13 +36,13 @@ impl Line {
         self.is_long = false;
     }
 
-    pub fn push(&mut self, byte: u8)
-        ensures { self.new ≡ push_kept self.old byte }
+    pub fn extend(&mut self, piece: &[u8])
+        ensures { self.new ≡ extend_kept self.old piece.now }
     {
-        if self.bytes.is_full() {
+        if piece.len() > self.bytes.capacity() - self.bytes.len() {
             self.is_long = true;
         } else {
-            self.bytes.push(byte);
+            self.bytes.extend_from_slice_copy(piece);
         }
     }
 

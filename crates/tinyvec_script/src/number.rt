@@ -1,27 +1,26 @@
 //! Numbers, read in the one form that they are printed in.
-ghost use Rattle.std.specs.Prelude.{◌≡◌, ◌≢◌, ◌<◌, ◌^◌, ℕ, ℤ, IfSome, IfNone, FitsSigned};
+ghost use Rattle.std.specs.Prelude.{◌≡◌, ◌≢◌, ◌<◌, ◌≤◌, ◌^◌, ℕ, ℤ, IfSome, IfNone, FitsSigned};
 ghost use Rattle.std.specs.Int.{w32};
 ghost use Rattle.std.specs.Fmt.{decimal, signed_decimal};
-
-use crate::decimal::Decimal;
-use std::str;
+ghost use Rattle.std.specs.Str.Parse.{AllDigits, digits_value};
 
 // The number that the bytes spell.
 pub(crate) fn parse_number(bytes: &[u8]) -> Option<i32>
     ensures some { IfSome result (λ number. bytes.now ≡ signed_decimal number) }
     ensures none { IfNone result ((number : ℤ) → FitsSigned w32 number → bytes.now ≢ signed_decimal number) }
 {
-    let Ok(text) = str::from_utf8(bytes) else {
-        return None;
+    let Some(digits) = bytes.strip_prefix(b"-") else {
+        let size = parse_index(bytes)?;
+        if size >= 1 << 31 {
+            return None;
+        }
+        return Some(size as i32);
     };
-    let Ok(number) = text.parse::<i32>() else {
+    let size = parse_index(digits)?;
+    if size == 0 || size > 1 << 31 {
         return None;
-    };
-    if Decimal::new(number).as_bytes() == bytes {
-        Some(number)
-    } else {
-        None
     }
+    Some(-(size as i64) as i32)
 }
 
 // The index that the bytes spell.
@@ -32,17 +31,25 @@ pub(crate) fn parse_index(bytes: &[u8]) -> Option<usize>
     if bytes.is_empty() {
         return None;
     }
-    if bytes[0] == b'+' {
-        return None;
-    }
     if bytes[0] == b'0' {
         return if bytes.len() == 1 { Some(0) } else { None };
     }
-    let Ok(text) = str::from_utf8(bytes) else {
-        return None;
-    };
-    let Ok(index) = text.parse::<usize>() else {
-        return None;
-    };
-    Some(index)
+    Some(parse_digits(bytes)?)
+}
+
+// The value of the digits.
+fn parse_digits(bytes: &[u8]) -> Option<usize>
+    ensures some { IfSome result (λ value. AllDigits 10 bytes.now × (digits_value 10 bytes.now ≡ value)) }
+    ensures none { IfNone result (AllDigits 10 bytes.now → 2 ^ 64 ≤ digits_value 10 bytes.now) }
+{
+    let mut value: usize = 0;
+    for byte in bytes {
+        if *byte < b'0' || *byte > b'9' {
+            return None;
+        }
+        value = value
+            .checked_mul(10)?
+            .checked_add(usize::from(*byte - b'0'))?;
+    }
+    Some(value)
 }

@@ -1,14 +1,15 @@
 //! A script, read and answered.
-ghost use Rattle.std.specs.Prelude.{◌≡◌, ◌≤◌, ◌^◌, ◌-◌, ◌++◌, ◌∷◌, List, ℕ, [], OnOk, OnErr, IsErrOf, length};
-ghost use Rattle.std.specs.Io.KnownBytes.{Appends, Consumes, IsAtEnd, append_known};
+ghost use Rattle.std.specs.Prelude.{◌≡◌, ◌⊎◌, ◌≤◌, ◌^◌, ◌-◌, ◌++◌, ◌∷◌, List, ℕ, [], Some, OnOk, IsErrOf, length};
+ghost use Rattle.std.specs.Io.KnownBytes.{Appends, Consumes, IsAtEnd};
 ghost use Rattle.std.specs.declared.io.Error.{Error};
-ghost use Rattle.tinyvec_io.specs.Counted.{Reported};
+ghost use Rattle.tinyvec_io.specs.Counted.{AppendsFront, Reported};
+ghost use Rattle.tinyvec_script.specs.Writes.{Gathers, Writes};
 ghost use Rattle.tinyvec_script.specs.State.{state_of};
 ghost use Rattle.tinyvec_script.specs.Script.{Answered, Script, CompleteLines};
 ghost use Rattle.tinyvec_script.specs.History.{kept, Feeds, Ends};
 
 use crate::Answer;
-use crate::command::{Command, parse_line};
+use crate::command::{Command, parse_line, split_at_byte};
 use crate::gathered::Gathered;
 use crate::line::Line;
 use crate::vectors::Vectors;
@@ -58,6 +59,12 @@ pub fn run<R: Read, W: Write>(
         × CompleteLines input output }
     ensures read_fault { (error : Error) → IsErrOf result (RunError.Read error)
         → Reported reader.old.faults reader.new.faults }
+
+    // What was written is a front of the output.
+    ensures write { (error : Error) → IsErrOf result (RunError.Write error) → (input output : List ℕ)
+        × Consumes (R.remaining reader.old.inner) (R.remaining reader.new.inner) input
+        × AppendsFront (W.contents writer.old.inner) (W.contents writer.new.inner) output
+        × (CompleteLines input output ⊎ Script input output) }
     ensures write_fault { (error : Error) → IsErrOf result (RunError.Write error)
         → Reported writer.old.faults writer.new.faults }
 
@@ -76,6 +83,7 @@ pub fn run<R: Read, W: Write>(
         x: InlineText::new(alloc),
     };
     let mut line = Line::new();
+    let mut gathered = Gathered::new();
     let mut chunk = [0; CHUNK];
     for _piece in 0..u64::MAX {
         let count = match reader.read_some(&mut chunk) {
@@ -83,12 +91,19 @@ pub fn run<R: Read, W: Write>(
             Err(error) => return Err(RunError::Read(error)),
         };
         if count == 0 {
-            match finish(alloc, &mut vectors, &line, writer) {
+            match finish(alloc, &mut vectors, &line, &mut gathered, writer) {
                 Ok(()) => return Ok(()),
                 Err(error) => return Err(RunError::Write(error)),
             }
         }
-        match answer_chunk(alloc, &mut vectors, &mut line, writer, &chunk[..count]) {
+        match answer_chunk(
+            alloc,
+            &mut vectors,
+            &mut line,
+            &mut gathered,
+            writer,
+            &chunk[..count],
+        ) {
             Ok(()) => {}
             Err(error) => return Err(RunError::Write(error)),
         }
@@ -96,45 +111,58 @@ pub fn run<R: Read, W: Write>(
     Err(RunError::TooLong)
 }
 
-// Answers the lines that these bytes of the input end, and writes what it gathered.
+// Answers the lines that these bytes of the input end, and writes the answers.
 fn answer_chunk<W: Write, B: Lent<Item = i32>>(
     alloc: Global,
     vectors: &mut Vectors<B>,
     line: &mut Line,
+    gathered: &mut Gathered,
     writer: &mut Counted<W>,
     bytes: &[u8],
 ) -> io::Result<()>
-    ensures ok { OnOk result ((written : List ℕ)
-        × Appends (W.contents writer.old.inner) (W.contents writer.new.inner) written
-        × Feeds (state_of B.Lent vectors.old) line.old bytes.now written (state_of B.Lent vectors.new) line.new) }
-    ensures grows { writer.old.faults ≤ writer.new.faults }
-    ensures fault { OnErr result (Reported writer.old.faults writer.new.faults) }
+    requires { gathered.old ≡ Some [] }
+    ensures writes { (output : List ℕ) × Writes W.contents writer.old writer.new result output
+        × Feeds (state_of B.Lent vectors.old) line.old bytes.now output (state_of B.Lent vectors.new) line.new }
+    ensures gathered { OnOk result (gathered.new ≡ Some []) }
 {
-    let mut gathered = Gathered::new();
-    feed(alloc, vectors, line, &mut gathered, writer, bytes)?;
+    feed(alloc, vectors, line, gathered, writer, bytes);
     gathered.send(writer)
 }
 
-// Answers the last line, if it has bytes, and flushes.
+// Answers the last line, if it has bytes, writes the answer and flushes.
 fn finish<W: Write, B: Lent<Item = i32>>(
     alloc: Global,
     vectors: &mut Vectors<B>,
     line: &Line,
+    gathered: &mut Gathered,
     writer: &mut Counted<W>,
 ) -> io::Result<()>
-    ensures ok { OnOk result ((written : List ℕ)
-        × Appends (W.contents writer.old.inner) (W.contents writer.new.inner) written
-        × Ends (state_of B.Lent vectors.old) line.now written) }
-    ensures grows { writer.old.faults ≤ writer.new.faults }
-    ensures fault { OnErr result (Reported writer.old.faults writer.new.faults) }
+    requires { gathered.old ≡ Some [] }
+    ensures { (output : List ℕ) × Writes W.contents writer.old writer.new result output
+        × Ends (state_of B.Lent vectors.old) line.now output }
+{
+    answer_last(alloc, vectors, line, gathered, writer);
+    match gathered.send(writer) {
+        Ok(()) => writer.flush(),
+        Err(error) => Err(error),
+    }
+}
+
+// Answers the last line, if it has bytes.
+fn answer_last<W: Write, B: Lent<Item = i32>>(
+    alloc: Global,
+    vectors: &mut Vectors<B>,
+    line: &Line,
+    gathered: &mut Gathered,
+    writer: &mut Counted<W>,
+)
+    ensures { (output : List ℕ) × Gathers W.contents writer.old gathered.old writer.new gathered.new output
+        × Ends (state_of B.Lent vectors.old) line.now output }
 {
     if line.is_empty() {
-        return writer.flush();
+        return;
     }
-    let mut gathered = Gathered::new();
-    answer_line(alloc, vectors, line, &mut gathered, writer)?;
-    gathered.send(writer)?;
-    writer.flush()
+    answer_line(alloc, vectors, line, gathered, writer);
 }
 
 // Answers the lines that these bytes of the input end.
@@ -145,43 +173,18 @@ fn feed<W: Write, B: Lent<Item = i32>>(
     gathered: &mut Gathered,
     writer: &mut Counted<W>,
     bytes: &[u8],
-) -> io::Result<()>
-    ensures ok { OnOk result ((written : List ℕ)
-        × Appends (append_known (W.contents writer.old.inner) gathered.old)
-        (append_known (W.contents writer.new.inner) gathered.new) written
-        × Feeds (state_of B.Lent vectors.old) line.old bytes.now written (state_of B.Lent vectors.new) line.new) }
-    ensures grows { writer.old.faults ≤ writer.new.faults }
-    ensures fault { OnErr result (Reported writer.old.faults writer.new.faults) }
+)
+    ensures { (output : List ℕ) × Gathers W.contents writer.old gathered.old writer.new gathered.new output
+        × Feeds (state_of B.Lent vectors.old) line.old bytes.now output (state_of B.Lent vectors.new) line.new }
 {
-    for byte in bytes {
-        feed_byte(alloc, vectors, line, gathered, writer, *byte)?;
-    }
-    Ok(())
-}
-
-// Answers a line at a line feed, and keeps any other byte.
-fn feed_byte<W: Write, B: Lent<Item = i32>>(
-    alloc: Global,
-    vectors: &mut Vectors<B>,
-    line: &mut Line,
-    gathered: &mut Gathered,
-    writer: &mut Counted<W>,
-    byte: u8,
-) -> io::Result<()>
-    ensures ok { OnOk result ((written : List ℕ)
-        × Appends (append_known (W.contents writer.old.inner) gathered.old)
-        (append_known (W.contents writer.new.inner) gathered.new) written
-        × Feeds (state_of B.Lent vectors.old) line.old (byte ∷ []) written (state_of B.Lent vectors.new) line.new) }
-    ensures grows { writer.old.faults ≤ writer.new.faults }
-    ensures fault { OnErr result (Reported writer.old.faults writer.new.faults) }
-{
-    if byte == b'\n' {
-        answer_line(alloc, vectors, line, gathered, writer)?;
+    let mut rest = bytes;
+    while let Some((front, after)) = split_at_byte(rest, b'\n') {
+        line.extend(front);
+        answer_line(alloc, vectors, line, gathered, writer);
         line.clear();
-    } else {
-        line.push(byte);
+        rest = after;
     }
-    Ok(())
+    line.extend(rest);
 }
 
 // Answers a complete line.
@@ -191,26 +194,23 @@ fn answer_line<W: Write, B: Lent<Item = i32>>(
     line: &Line,
     gathered: &mut Gathered,
     writer: &mut Counted<W>,
-) -> io::Result<()>
-    ensures ok { OnOk result ((text : List ℕ)
-        × Appends (append_known (W.contents writer.old.inner) gathered.old)
-        (append_known (W.contents writer.new.inner) gathered.new) (text ++ 10 ∷ [])
+)
+    ensures { (text : List ℕ) × Gathers W.contents writer.old gathered.old writer.new gathered.new (text ++ 10 ∷ [])
         × ((rest : List ℕ) → line.now ≡ kept rest
-        → Answered (state_of B.Lent vectors.old) rest text (state_of B.Lent vectors.new))) }
-    ensures grows { writer.old.faults ≤ writer.new.faults }
-    ensures fault { OnErr result (Reported writer.old.faults writer.new.faults) }
+        → Answered (state_of B.Lent vectors.old) rest text (state_of B.Lent vectors.new)) }
 {
     let Some(text) = line.as_slice() else {
-        return gathered.put(writer, b"bad\n");
+        gathered.put(writer, b"bad\n");
+        return;
     };
     match parse_line(alloc, text) {
         Command::Vector(name, call) => {
             let answered = vectors.answer(alloc, name, call);
-            vectors.write_line(gathered, writer, &answered, name)
+            vectors.write_line(gathered, writer, &answered, name);
         }
         Command::Text(call) => {
             let answered = vectors.answer_text(call);
-            vectors.write_text_line(gathered, writer, &answered)
+            vectors.write_text_line(gathered, writer, &answered);
         }
         Command::Bad => gathered.put(writer, b"bad\n"),
         Command::Memory(name) => vectors.write_line(gathered, writer, &Answer::Memory, name),

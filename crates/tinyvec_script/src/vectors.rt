@@ -14,7 +14,6 @@ use crate::text_step::answer_text;
 use crate::tiny_step::answer_tiny;
 use crate::{Answer, Call};
 use std::alloc::Global;
-use std::io;
 use std::io::Write;
 use tinyvec::{ArrayVec, GenericSliceVec, Lent, TinyVec};
 use tinyvec_io::Counted;
@@ -56,14 +55,14 @@ impl<B: Lent<Item = i32>> Vectors<B> {
         gathered: &mut Gathered,
         writer: &mut Counted<W>,
         answer: &Answer<i32>,
-    ) -> io::Result<()>
-        ensures { Gathers W.contents writer.old gathered.old writer.new gathered.new result
+    )
+        ensures { Gathers W.contents writer.old gathered.old writer.new gathered.new
             (answer_text answer.now ++ codes " " ++ inline_text_text self.now.x ++ 10 ∷ []) }
     {
-        write_answer(gathered, writer, answer)?;
-        gathered.put(writer, b" ")?;
-        write_text_state(gathered, writer, self.x.as_bytes(), self.x.is_inline())?;
-        gathered.put(writer, b"\n")
+        write_answer(gathered, writer, answer);
+        gathered.put(writer, b" ");
+        write_text_state(gathered, writer, self.x.as_bytes(), self.x.is_inline());
+        gathered.put(writer, b"\n");
     }
 
     // Writes an answer line: the answer and the vector of that name.
@@ -73,23 +72,18 @@ impl<B: Lent<Item = i32>> Vectors<B> {
         writer: &mut Counted<W>,
         answer: &Answer<i32>,
         name: Name,
-    ) -> io::Result<()>
-        ensures { Gathers W.contents writer.old gathered.old writer.new gathered.new result
+    )
+        ensures { Gathers W.contents writer.old gathered.old writer.new gathered.new
             (answer_text answer.now ++ codes " " ++ text_of name (state_of B.Lent self.now) ++ 10 ∷ []) }
     {
-        write_answer(gathered, writer, answer)?;
-        gathered.put(writer, b" ")?;
-        self.write_vector(gathered, writer, name)?;
-        gathered.put(writer, b"\n")
+        write_answer(gathered, writer, answer);
+        gathered.put(writer, b" ");
+        self.write_vector(gathered, writer, name);
+        gathered.put(writer, b"\n");
     }
 
-    fn write_vector<W: Write>(
-        &self,
-        gathered: &mut Gathered,
-        writer: &mut Counted<W>,
-        name: Name,
-    ) -> io::Result<()>
-        ensures { Gathers W.contents writer.old gathered.old writer.new gathered.new result
+    fn write_vector<W: Write>(&self, gathered: &mut Gathered, writer: &mut Counted<W>, name: Name)
+        ensures { Gathers W.contents writer.old gathered.old writer.new gathered.new
             (text_of name (state_of B.Lent self.now)) }
     {
         match name {

@@ -1,5 +1,5 @@
 -- Calls that append to a vector over a lent slice, one after another.
-use Rattle.std.proofs.Common.{◌≡◌, ◌∙◌, ◌-◌, ◌∷◌, List, [], ◌++◌, ap, sym, refl, length, drop, append_assoc, append-nil, length-append}
+use Rattle.std.proofs.Common.{◌≡◌, ◌∙◌, ◌-◌, ◌∷◌, List, [], ◌++◌, ap, sym, length, drop, append_assoc, length-append}
 use Rattle.std.proofs.lemmas.List.{drop-drop, length-drop}
 use Rattle.std.specs.List.{flat_map}
 use Rattle.tinyvec_slice.specs.Appends.{LentVec, Appends}
@@ -7,9 +7,6 @@ use Rattle.tinyvec_slice.specs.SliceVec.{items, spare, slots}
 use Rattle.tinyvec_slice.proofs.ViewLemmas.{owner_sees}
 
 module _ {T : Type 0} where
-  pub Appends-none : (v : LentVec T) → Appends [] v v
-  Appends-none v = record { same_reference = refl; items = sym (append-nil _); spare = refl }
-
   pub Appends-then : (xs ys : List T) (u v w : LentVec T) → Appends xs u v → Appends ys v w → Appends (xs ++ ys) u w
   Appends-then xs ys u v w first second = record {
     same_reference = second.same_reference ∙ first.same_reference;

@@ -1,11 +1,11 @@
 -- Lemmas on the list and the spare slots of a vector in lent slots.
-use Rattle.std.proofs.Common.{◌≡◌, ℕ, ◌+◌, ◌-◌, ◌<◌, ◌≤◌, List, ◌∷◌, ◌++◌, length, take, drop, set, insert, remove, refl, sym, ap, ◌∙◌, arith, rules, length-append, take-append-drop}
+use Rattle.std.proofs.Common.{◌≡◌, ℕ, ◌+◌, ◌-◌, ◌<◌, ◌≤◌, List, ◌∷◌, ◌++◌, length, take, drop, set, insert, remove, slice_range, refl, sym, ap, ◌∙◌, arith, rules, length-append, take-append-drop}
 use Rattle.std.proofs.Math.Seq.{take-set-lt}
 use Rattle.std.proofs.lemmas.List.{same_lists, places, drop-set-add}
 use Rattle.std.specs.Borrow.{MutBor}
-use Rattle.tinyvec_slots.proofs.Lists.{drop-put, drop-vacated, take-inserted, drop-inserted, take-removed, drop-removed}
+use Rattle.tinyvec_slots.proofs.Lists.{length-remove_range, length-slice_range, drop-put, drop-vacated, take-inserted, drop-inserted, take-removed, drop-removed}
 use Rattle.tinyvec_slice.specs.Parts.{with_front}
-use Rattle.tinyvec_slice.specs.SliceVec.{items_of, spare_of, slots_of, items, spare, slots}
+use Rattle.tinyvec_slice.specs.SliceVec.{items_of, spare_of, slots_of, VacatesOf, items, spare, slots}
 use Rattle.tinyvec_slice.specs.Lends.{at_slots}
 use Rattle.tinyvec_slice.specs.declared.lent.Lent as Lent
 use Rattle.tinyvec_slice.specs.declared.slice_vec.GenericSliceVec.{GenericSliceVec}
@@ -79,6 +79,22 @@ module _ {B T : Type 0} (g : Lent.Ghosts B T) (v : GenericSliceVec B T) where
 
   pub parts_of : length (slots_of g v) ≡ length (items_of g v) + length (spare_of g v)
   parts_of = ap length slots-parts ∙ length-append (items_of g v) (spare_of g v)
+
+-- where n slots were vacated, there are as many as before
+module _ {B T : Type 0} (g : Lent.Ghosts B T) (D : T → Type 0) (old new : GenericSliceVec B T) where
+  pub vacated_count : (n : ℕ) → length (items_of g new) + n ≡ length (items_of g old) → VacatesOf g D n old new
+      → length (slots_of g new) ≡ length (slots_of g old)
+  vacated_count n shorter h =
+      let behind = ap length h.2 ∙ length-append h.0 (spare_of g old) in
+      omega (arith, parts_of g new, parts_of g old, behind, h.1.0, shorter)
+
+  -- where those of a range were
+  pub cut_count : (i j : ℕ) → i ≤ j → j ≤ length (items_of g old) → items_of g new ≡ take i (items_of g old) ++ drop j (items_of g old)
+      → VacatesOf g D (length (slice_range (items_of g old) i j)) old new → length (slots_of g new) ≡ length (slots_of g old)
+  cut_count i j le within listed h =
+      let left = ap length listed ∙ length-remove_range (items_of g old) i j le within in
+      let gone = length-slice_range (items_of g old) i j le within in
+      vacated_count (length (slice_range (items_of g old) i j)) (omega (arith, left, gone, le, within)) h
 
 -- one item was written
 module _ {B T : Type 0} (g : Lent.Ghosts B T) (v : GenericSliceVec B T) (i : ℕ) (x : T) (lt : i < length (items_of g v)) where

@@ -6,7 +6,7 @@ ghost use Rattle.std.specs.Iterator.SizeHint.{IsWithinCount};
 ghost use Rattle.std.specs.Iterator.Runs.{YieldsInOrder};
 ghost use Rattle.tinyvec_slots.specs.Cut.{IsRangeOf, before, removed, after};
 ghost use Rattle.std.specs.List.{FoldsTo};
-ghost use Rattle.tinyvec_slice.specs.SliceVec.{items_of, name_of, VacatesOf};
+ghost use Rattle.tinyvec_slice.specs.SliceVec.{items_of, spare_of, slots_of, name_of, VacatesOf};
 
 use crate::{GenericSliceVec, Lent};
 use std::fmt;
@@ -32,7 +32,6 @@ impl<B: Lent> GenericSliceVec<B>
 where
     B::Item: Default,
 {
-    ghost use Rattle.tinyvec_slice.specs.SliceVec.{items_of, spare_of, name_of};
     ghost use Rattle.tinyvec_slice.specs.Drain.{drain_items, drain_owner, drain_name, drain_kept, drain_count, drain_spare, DrainCanStep, DrainSteps};
 
     /// Removes the range, and yields its items in order. The items after the range move down at the call. A caller that
@@ -160,6 +159,7 @@ where
         requires in_list { IsRangeOf (items_of B.Lent self.old) (R.start_bound range) (R.end_bound range) }
         requires callable { F.IsAlwaysCallable f.old }
         ensures same_reference { name_of B.Lent self.new ≡ name_of B.Lent self.old }
+        ensures slot_count { length (slots_of B.Lent self.new) ≡ length (slots_of B.Lent self.old) }
         ensures items { items_of B.Lent self.new ≡ before (items_of B.Lent self.old) (R.start_bound range)
             ++ after (items_of B.Lent self.old) (R.end_bound range) }
         ensures spare { VacatesOf B.Lent B.Item.is_default
@@ -185,6 +185,7 @@ where
         requires room { vec_len out.old
             + length (removed (items_of B.Lent self.old) (R.start_bound range) (R.end_bound range)) ≤ vec_capacity out.old }
         ensures same_reference { name_of B.Lent self.new ≡ name_of B.Lent self.old }
+        ensures slot_count { length (slots_of B.Lent self.new) ≡ length (slots_of B.Lent self.old) }
         ensures items { items_of B.Lent self.new ≡ before (items_of B.Lent self.old) (R.start_bound range)
             ++ after (items_of B.Lent self.old) (R.end_bound range) }
         ensures spare { VacatesOf B.Lent B.Item.is_default

@@ -4,7 +4,7 @@ ghost use Rattle.std.specs.List.{remove_range};
 ghost use Rattle.tinyvec_slots.specs.Slots.{AreDefaults, split_at};
 ghost use Rattle.std.specs.Borrow.{sem};
 ghost use Rattle.tinyvec_slice.specs.Making.{lends_array};
-ghost use Rattle.tinyvec_slice.specs.SliceVec.{seen, items, spare, name, items_of, spare_of, slots_of, len_of};
+ghost use Rattle.tinyvec_slice.specs.SliceVec.{seen, items, spare, name, seen_of, items_of, spare_of, slots_of, name_of, len_of};
 ghost use Rattle.tinyvec_slice.specs.Lends.{lends_items, lends_inner, lends_spare};
 ghost use Rattle.std.specs.Slice.Iter.{iter_rest, iter_mut_rest, iter_mut_steps, iter_mut_steps_back};
 ghost use Rattle.std.specs.Iterator.Adapters.{IterYieldsInOrder, IterYieldsInReverse};
@@ -34,8 +34,6 @@ pub struct GenericSliceVec<B: Lent> {
 pub type SliceVec<'s, T> = GenericSliceVec<&'s mut [T]>;
 
 impl<B: Lent> GenericSliceVec<B> {
-    ghost use Rattle.tinyvec_slice.specs.SliceVec.{items_of, spare_of, slots_of, name_of, seen_of, len_of};
-
     /// The number of items.
     pub fn len(&self) -> usize
         ensures value { result ≡ len_of B.Lent self.now }
@@ -102,6 +100,7 @@ impl<B: Lent> GenericSliceVec<B> {
     pub fn set_len(&mut self, len: usize)
         requires { len ≤ length (slots_of B.Lent self.old) }
         ensures same_reference { name_of B.Lent self.new ≡ name_of B.Lent self.old }
+        ensures slot_count { length (slots_of B.Lent self.new) ≡ length (slots_of B.Lent self.old) }
         ensures value { seen_of B.Lent self.new ≡ split_at len (slots_of B.Lent self.old) }
         ensures fits { len_of B.Lent self.new ≡ len }
     {
@@ -113,6 +112,7 @@ impl<B: Lent> GenericSliceVec<B> {
         requires start_le_end { start ≤ end }
         requires in_bounds { end ≤ len_of B.Lent self.old }
         ensures same_reference { name_of B.Lent self.new ≡ name_of B.Lent self.old }
+        ensures slot_count { length (slots_of B.Lent self.new) ≡ length (slots_of B.Lent self.old) }
         ensures items { items_of B.Lent self.new ≡ remove_range (items_of B.Lent self.old) start end
             ++ slice_range (items_of B.Lent self.old) start end }
         ensures spare { spare_of B.Lent self.new ≡ spare_of B.Lent self.old }
@@ -181,12 +181,11 @@ impl<B: Lent> GenericSliceVec<B>
 where
     B::Item: Default,
 {
-    ghost use Rattle.tinyvec_slice.specs.SliceVec.{items_of, spare_of, slots_of, name_of, len_of};
-
     // Takes the value of the spare slot at `i`, and leaves a default.
     pub(crate) fn take_spare(&mut self, i: usize) -> B::Item
         requires { i < length (spare_of B.Lent self.old) }
         ensures same_reference { name_of B.Lent self.new ≡ name_of B.Lent self.old }
+        ensures slot_count { length (slots_of B.Lent self.new) ≡ length (slots_of B.Lent self.old) }
         ensures value { result ≡ slice_index_or (spare_of B.Lent self.old) i result }
         ensures items { items_of B.Lent self.new ≡ items_of B.Lent self.old }
         ensures spare { (d : B.Item) × B.Item.is_default d
@@ -199,6 +198,7 @@ where
     // Writes defaults into the first `n` spare slots, or none where there are fewer.
     pub(crate) fn fill_spare_default(&mut self, n: usize)
         ensures same_reference { name_of B.Lent self.new ≡ name_of B.Lent self.old }
+        ensures slot_count { length (slots_of B.Lent self.new) ≡ length (slots_of B.Lent self.old) }
         ensures items { items_of B.Lent self.new ≡ items_of B.Lent self.old }
         ensures spare { n ≤ length (spare_of B.Lent self.old) → (ds : List B.Item) × AreDefaults B.Item.is_default n ds
             × (spare_of B.Lent self.new ≡ ds ++ drop n (spare_of B.Lent self.old)) }
@@ -212,8 +212,6 @@ where
 }
 
 impl<B: Lent> AsSlice<B::Item> for GenericSliceVec<B> {
-    ghost use Rattle.tinyvec_slice.specs.SliceVec.{items_of, len_of};
-
     ghost items = { items_of B.Lent };
 
     fn as_slice(&self) -> &[B::Item] {

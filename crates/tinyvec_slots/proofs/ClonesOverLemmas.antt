@@ -1,5 +1,5 @@
 -- Clones written over slots, block by block.
-use Rattle.std.proofs.Common.{◌≡◌, ℕ, zero, suc, ◌+◌, ◌-◌, ◌<◌, ◌≤◌, List, [], ◌∷◌, ◌++◌, All, length, take, drop, set, get_or, replicate, refl, sym, ap, subst, ◌∙◌, le_refl, arith, append-nil, length-append, length-drop, take_at, drop_at, take_all, drop-drop, get_or-drop}
+use Rattle.std.proofs.Common.{◌≡◌, ℕ, zero, suc, ◌+◌, ◌-◌, ◌<◌, ◌≤◌, List, [], ◌∷◌, ◌++◌, All, length, take, drop, set, get_or, replicate, refl, sym, ap, subst, ◌∙◌, le_refl, arith, append-nil, append_assoc, length-append, length-drop, take_at, drop_at, take_all, drop-drop, get_or-drop}
 use Rattle.std.proofs.lemmas.List.{take_more, replicate_more, drop_all}
 use Rattle.std.proofs.lemmas.List.Elements.{All-get_or, All-take, All-drop, AllZip-push}
 use Rattle.std.proofs.lemmas.Result.{on_ok_weaker, on_err_weaker}
@@ -61,6 +61,15 @@ module _ {X : Type 0} (C : X → X → Type 0) where
     clones = h.clones;
     count = h.count;
     written = written_part old old h.made new start k n refl h.written fits within;
+  }
+
+  -- over the elements behind the first `at`
+  pub clones_behind_first : (at n : ℕ) (xs old new : List X) → ClonesOver C xs n (drop at old) new → ClonesOverFrom C at xs n old (take at old ++ new)
+  clones_behind_first at n xs old new h = record {
+    made = h.made;
+    clones = h.clones;
+    count = h.count;
+    written = ap (λ l. take at old ++ l) (h.written ∙ ap (λ l. h.made ++ l) (drop-drop n at old)) ∙ sym (append_assoc (take at old) h.made (drop (at + n) old));
   }
 
   -- over all elements

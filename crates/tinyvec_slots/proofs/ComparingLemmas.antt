@@ -108,14 +108,6 @@ module _ {T : Type 0} (E : T → T → Bool) where
       let l : length (drop i xs) ≡ length (drop i ys) = rw (length-drop i xs, length-drop i ys, long) refl in
       rw (pointwise_split i xs ys within w, same) (pointwise_front n (drop i xs) (drop i ys) m l f)
 
-  -- the first m pairs were looked at, which are all
-  pub differs_at : (n m : ℕ) (xs ys : List T) → m ≡ min (length xs) (length ys)
-      → FirstDifference E (take m xs) (take m ys) (length (take m xs)) n → DiffersAt E xs ys n
-  differs_at n m xs ys e first =
-      let h : m ≤ length xs = omega (arith, e) in
-      let at : FirstDifference E (take m xs) (take m ys) m n = rw (length-take-le m xs h) at first in
-      rw (← e) at
-
   pub first_of : (n m : ℕ) (xs ys : List T) → m ≡ min (length xs) (length ys) → DiffersAt E xs ys n
       → FirstDifference E (take m xs) (take m ys) m n
   first_of n m xs ys e first = rw e first

@@ -190,22 +190,6 @@ module _ {T : Type 0} where
   given_is_taken xs word given h =
       one_given xs word given (taken word xs) h (items_given xs word (answered_by word xs) (untaken word xs) (takes_by word xs))
 
-  -- what it leaves, computed
-  pub left_is_untaken : (xs : List T) (word : List End) (answers : List (Option T)) (left : List T)
-      → TakesFromEnds xs word answers left → left ≡ untaken word xs
-  left_is_untaken xs word answers left h =
-      let k = takes_by word xs in
-      let same = one_given xs word h.given k.given h.by_word k.by_word in
-      h.middle ∙ ap (λ given. slice_range xs (fronts (take (length given) word)) (length xs - backs (take (length given) word))) same ∙ sym k.middle
-
-  -- and how its letters are answered
-  pub answers_are : (xs : List T) (word : List End) (answers : List (Option T)) (left : List T)
-      → TakesFromEnds xs word answers left → answers ≡ answered_by word xs
-  answers_are xs word answers left h =
-      let k = takes_by word xs in
-      let same = one_given xs word h.given k.given h.by_word k.by_word in
-      h.answered ∙ ap (λ given. map Some given ++ replicate (length word - length given) None) same ∙ sym k.answered
-
 -- one letter more, asked after a word
 module _ {S T : Type 0} (gives gives_back : S → Option T → S → Type 0) where
   pub Asks-front : (from : S) (word : List End) (answers : List (Option T)) (mid : S) (r : Option T) (to : S)

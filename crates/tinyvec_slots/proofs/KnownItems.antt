@@ -1,6 +1,6 @@
 -- What std's iterators yield, in the form in which the clause `known` of `extend`, `finish` and `splice_all` takes it. Those of a
 -- `Vec` and of a range are `YieldsList-from_vec` and `YieldsList-from_range` of std's lemmas, with `.runs`.
-use Rattle.std.proofs.Common.{◌≡◌, ℕ, List, Option, Some, None, Bor, Iter, option_copied, sym, ap, subst, ◌∙◌}
+use Rattle.std.proofs.Common.{◌≡◌, ℕ, List, Option, Some, None, Iter, ap, subst, ◌∙◌}
 use Rattle.std.proofs.iter.Yields.{Copied-slice}
 use Rattle.std.proofs.lemmas.Iterator.Consumers.{YieldsList-from_shown}
 use Rattle.std.proofs.lemmas.List.{nil_from_length}
@@ -10,7 +10,6 @@ use Rattle.std.specs.Iterator.Adapters.{copied_source, copied_steps}
 use Rattle.std.specs.Slice.Iter.{iter_rest, iter_steps}
 use Rattle.std.specs.declared.array.IntoIter.{IntoIter as Items}
 use Rattle.std.specs.declared.iter.Copied.{Copied}
-use Rattle.tinyvec_slots.specs.Filling.{ShowsItems}
 use Rattle.tinyvec_slots.specs.Fused.{HasTwoEnds}
 
 -- an array
@@ -34,14 +33,6 @@ module _ {X : Type 0} {n : ℕ} where
 module _ {T : Type 0} where
   abbrev pub copied_rest : Copied (Iter T) → List T
   copied_rest it = iter_rest (copied_source it)
-
-  copied_first : (s t : Copied (Iter T)) (o : Option (Bor T)) → iter_steps (copied_source s) o (copied_source t)
-      → YieldsFirst copied_rest s (option_copied o) t
-  copied_first s t None step = let none = nil_from_length _ step.0 in (none, ap iter_rest step.1 ∙ none)
-  copied_first s t (Some x) step = step
-
-  pub copied_shows : ShowsItems {S = Copied (Iter T)} (copied_steps iter_steps) copied_rest
-  copied_shows s r t h = subst (λ q. YieldsFirst copied_rest s q t) (sym h.2) (copied_first s t h.0 h.1)
 
   pub copied_yields : (xs : List T) (it : Copied (Iter T)) → copied_rest it ≡ xs → AlwaysYields (copied_steps iter_steps) (λ x. x) it xs
   copied_yields xs it e = subst (AlwaysYields (copied_steps iter_steps) (λ x. x) it) e (Copied-slice it)

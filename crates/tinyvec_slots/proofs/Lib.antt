@@ -3,7 +3,6 @@ pub mod SlotsLemmas
 pub mod BorderLemmas
 pub mod EndsLemmas
 pub mod DrainsLemmas
-pub mod LastStateLemmas
 pub mod FiltersLemmas
 pub mod CloneLemmas
 pub mod ClonesOverLemmas
@@ -20,3 +19,4 @@ pub mod SplicingLemmas
 pub mod TextLemmas
 pub mod ReplacingLemmas
 pub mod KnownItems
+pub mod PopLemmas

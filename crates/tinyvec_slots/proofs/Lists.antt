@@ -144,6 +144,25 @@ module _ {X : Type 0} (xs ys : List X) (n : ℕ) (fits : n ≤ length xs) (apart
       ap (λ l. l ++ (zs ++ drop (length ys - n) (drop n ys))) (front ∙ ap (λ k. drop k xs) (sym same))
       ∙ ap (λ l. drop c xs ++ l) (ap (λ l. zs ++ l) none ∙ append-nil zs ∙ turned ∙ joined)
 
+-- the first element went to the end of the first m, which are n + 1, and from there to the end of all
+pub turned_by_pieces : {X : Type 0} (xs part ys zs : List X) (m n : ℕ) → m ≡ suc n → m ≤ length xs → part ≡ drop 1 (take m xs) ++ take 1 (take m xs)
+    → ys ≡ part ++ drop m xs → zs ≡ drop 1 (take (length ys - n) (drop n ys)) ++ take 1 (take (length ys - n) (drop n ys))
+    → take n ys ++ (zs ++ drop (length ys - n) (drop n ys)) ≡ drop 1 xs ++ take 1 xs
+turned_by_pieces [] part ys zs m n one few first all last = absurd (omega (arith, one, few))
+turned_by_pieces (x ∷ xs) part ys zs m n one few first all last =
+    let long : length (take n xs) ≡ n = length-take-le n xs (omega (arith, one, few)) in
+    let piece : part ≡ take n xs ++ x ∷ [] = rw one at first in
+    let beyond : drop m (x ∷ xs) ≡ drop n xs = ap (λ k. drop k (x ∷ xs)) one in
+    let is : ys ≡ take n xs ++ x ∷ drop n xs = all ∙ ap (λ l. l ++ drop m (x ∷ xs)) piece ∙ ap (λ l. (take n xs ++ x ∷ []) ++ l) beyond ∙ append_assoc (take n xs) (x ∷ []) (drop n xs) in
+    let front : take n ys ≡ take n xs = ap (take n) is ∙ take_at (take n xs) (x ∷ drop n xs) n long in
+    let back : drop n ys ≡ x ∷ drop n xs = ap (drop n) is ∙ drop_at (take n xs) (x ∷ drop n xs) n long in
+    let count : length (drop n ys) ≡ length ys - n = length-drop n ys in
+    let whole : take (length ys - n) (drop n ys) ≡ x ∷ drop n xs = take_all (length ys - n) (drop n ys) (omega (arith, count)) ∙ back in
+    let none : drop (length ys - n) (drop n ys) ≡ [] = drop_all (length ys - n) (drop n ys) (omega (arith, count)) in
+    let turned : zs ≡ drop n xs ++ x ∷ [] = last ∙ ap (λ l. drop 1 l ++ take 1 l) whole in
+    ap (λ l. l ++ (zs ++ drop (length ys - n) (drop n ys))) front ∙ ap (λ l. take n xs ++ (zs ++ l)) none
+    ∙ ap (λ l. take n xs ++ l) (append-nil zs ∙ turned) ∙ sym (append_assoc (take n xs) (drop n xs) (x ∷ [])) ∙ ap (λ l. l ++ x ∷ []) (take-append-drop n xs)
+
 -- of the part of a list from i on the last b elements changed places with the first ones, which are in a gap of n
 pub closed_by_ends : {X : Type 0} (xs part zs rest : List X) (i n b : ℕ) → i + n + b ≡ length xs → part ≡ drop i xs
     → zs ≡ drop (length part - b) part ++ slice_range part b (length part - b) ++ take b part

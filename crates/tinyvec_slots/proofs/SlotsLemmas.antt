@@ -1,7 +1,7 @@
 -- Lemmas on the list and the spare slots.
-use Rattle.std.proofs.Common.{◌≡◌, ℕ, ◌+◌, ◌-◌, List, [], ◌++◌, length, drop, replicate, sym, ap, ◌∙◌, ◌<◌, slice_set, drop-set-lt, arith, rules, take-append-drop, length-append, append_assoc}
+use Rattle.std.proofs.Common.{◌≡◌, ℕ, ◌+◌, ◌-◌, List, [], ◌++◌, length, drop, replicate, sym, ap, ◌∙◌, ◌<◌, slice_set, drop-set-lt, arith, rules, take-append-drop}
 use Rattle.std.proofs.Math.Seq.{take-set-lt}
-use Rattle.std.proofs.lemmas.List.Elements.{All-nil, All-append}
+use Rattle.std.proofs.lemmas.List.Elements.{All-nil}
 use Rattle.std.proofs.lemmas.List.{same_lists, places, get_or-replicate, length-replicate}
 use Rattle.tinyvec_slots.specs.Slots.{Slots, AreDefaults, Vacates, SlotRule, Shortens, SameSpare, items_len, all_slots, items, spare, with_items, with_slot}
 
@@ -45,12 +45,6 @@ module _ {T : Type 0} (D : T → Type 0) (old new : Slots T) where
 -- a list that was written and then cut
 pub written_shortened : {T : Type 0} (D : T → Type 0) (u v w : Slots T) → SameSpare u v → Shortens D v w → Shortens D u w
 written_shortened D u v w k h = rw (sym k.0, sym k.1) h
-
--- what two calls vacated, one after the other
-pub Vacates-more : {T : Type 0} (D : T → Type 0) (old mid new : Slots T) (j k : ℕ) → Vacates D j old mid → Vacates D k mid new → Vacates D (j + k) old new
-Vacates-more D old mid new j k first then =
-    let sum : length (then.0 ++ first.0) ≡ j + k = length-append then.0 first.0 ∙ omega (arith, first.1.0, then.1.0) in
-    (then.0 ++ first.0, (sum, All-append D then.0 first.0 then.1.1 first.1.1), then.2 ∙ ap (λ xs. then.0 ++ xs) first.2 ∙ sym (append_assoc then.0 first.0 (spare old)))
 
 -- where the item's `Default` answers one value only
 module _ {T : Type 0} (D : T → Type 0) (c : T) (only : (x : T) → D x → x ≡ c) where

@@ -1,8 +1,8 @@
 -- Lemmas on items that change their places by swaps.
-use Rattle.std.proofs.Common.{◌≡◌, ◌≢◌, ℕ, ◌+◌, ◌-◌, ◌<◌, ◌≤◌, List, [], ◌∷◌, ◌++◌, length, get_or, take, drop, slice_range, inl, inr, refl, sym, ap, ◌∙◌, arith, rules, append_assoc, append-nil, length-append, length-drop, take-append-drop, take_at}
+use Rattle.std.proofs.Common.{◌≡◌, ◌≢◌, ℕ, ◌+◌, ◌-◌, ◌<◌, ◌≤◌, List, [], ◌∷◌, ◌++◌, length, get_or, take, drop, slice_range, inl, inr, refl, sym, ap, ◌∙◌, arith, rules, append_assoc, append-nil, length-drop}
 use Rattle.std.specs.List.{SwappedAt}
 use Rattle.std.proofs.lemmas.Bool.{cases_eq}
-use Rattle.std.proofs.lemmas.List.{same_lists, places, get_or_default, get_or-drop, drop_more, drop-drop, drop_at, drop_all, take_all, take-append-le, drop-append-le}
+use Rattle.std.proofs.lemmas.List.{same_lists, places, get_or_default, get_or-drop, drop_more, drop-drop, drop_all, take_all}
 
 -- where the items at i and j stand in each other's place
 module _ {X : Type 0} (xs ys : List X) (i j : ℕ) (le : i ≤ j) (within : j < length xs) (long : length ys ≡ length xs) (is : SwappedAt xs ys i j) (d : X) where
@@ -77,10 +77,6 @@ module _ {X : Type 0} (xs : List X) where
       ∙ ap (λ l. l ++ slice_range xs f m) (sym (append-nil (take f xs ++ drop m xs)))
       ∙ ap (λ l. take f xs ++ drop m xs ++ l ++ slice_range xs f m) (sym (none m))
 
-  -- nothing is left to turn
-  pub turned_all : (f n : ℕ) → turned xs f n n ≡ take f xs ++ drop n xs ++ slice_range xs f n
-  turned_all f n = ap (λ l. take f xs ++ drop n xs ++ l ++ slice_range xs f n) (none n) ∙ ap (λ l. l ++ slice_range xs f n) (append-nil (take f xs ++ drop n xs))
-
 -- where the parts begin once a part that ran out gave way
 module _ {X : Type 0} (xs : List X) (f m n a b : ℕ) (le : f ≤ m) (behind : m ≤ n) (within : n ≤ length xs)
     (last : f ≡ m → (a ≡ n) × (b ≡ n)) (first : f ≢ m → n ≡ length xs → (a ≡ m) × (b ≡ m))
@@ -130,22 +126,3 @@ module _ {X : Type 0} (first xs ys : List X) (i j : ℕ) (le : i ≤ j) (within 
                 ∙ append_assoc (take at first) (slice_range first back j) (get_or first j d ∷ []) ∙ ap (λ zs. take at first ++ zs) (sym more),
             drop-swapped xs ys i j le within long is d ∙ sym (drop-drop 1 j xs) ∙ ap (drop 1) rest ∙ drop-drop 1 j first,
           )
-
--- what was appended to a list is turned in at a place
-module _ {X : Type 0} (xs ys : List X) (at : ℕ) (le : at ≤ length xs) where
-  pub turned_in : take at (xs ++ ys) ++ drop (length xs) (xs ++ ys) ++ slice_range (xs ++ ys) at (length xs) ≡ take at xs ++ ys ++ drop at xs
-  turned_in =
-      let count : length (drop at xs) ≡ length xs - at = length-drop at xs in
-      rw (take-append-le at xs ys le, drop_at xs ys (length xs) refl, drop-append-le at xs ys le, take_at (drop at xs) ys (length xs - at) count) refl
-
-  pub length-turned_in : length (take at xs ++ ys ++ drop at xs) ≡ length xs + length ys
-  length-turned_in =
-      let whole = length-append (take at xs) (drop at xs) in
-      let all = ap length (take-append-drop at xs) in
-      length-append (take at xs ++ ys) (drop at xs) ∙ ap (λ n. n + length (drop at xs)) (length-append (take at xs) ys) ∙ omega (arith, whole, all)
-
--- what was appended to xs stands at a place of them once it was turned in there
-pub brought_in : {X : Type 0} (xs ys long new : List X) (at : ℕ) → at ≤ length xs → long ≡ xs ++ ys
-    → new ≡ take at long ++ drop (length xs) long ++ slice_range long at (length xs) → new ≡ take at xs ++ ys ++ drop at xs
-brought_in xs ys long new at le grown is =
-    is ∙ ap (λ l. take at l ++ drop (length xs) l ++ slice_range l at (length xs)) grown ∙ turned_in xs ys at le

@@ -1,7 +1,5 @@
--- Questions about the items of a list, and the state in which the last one leaves what is asked.
-use Rattle.std.specs.Prelude.{◌≡◌, ℕ, Bool, List, [], ◌∷◌, cond, length, MatchBool, slice_index_or, slice_set}
-use Rattle.std.specs.List.{items_where_true}
-use Rattle.std.specs.List.Retain.{ReturnsInTurn}
+-- A question about two items of a list.
+use Rattle.std.specs.Prelude.{◌≡◌, ℕ, Bool, List, slice_index_or, slice_set}
 
 -- R was shown the items of xs at current and at last, was in the state s, answered with b, and is now in the state t.
 -- ys is xs with both items as R left them.
@@ -13,28 +11,3 @@ pub record AsksPair {S X : Type 0} (R : S → X → X → Bool → S → X → X
   pub left_beside : X
   pub asked : R s shown beside b t left left_beside
   pub after : ys ≡ slice_set (slice_set xs current left) last left_beside
-
--- R went over the items in turn, from s to last, and ys has those of which it said `true`, as it left them: `RetainsInTurn`, with the last state
-abbrev pub RetainsTo : {S X : Type 0} → (S → X → Bool → S → X → Type 0) → S → List X → List X → S → Type 0
-RetainsTo R s [] ys last = (ys ≡ []) × (last ≡ s)
-RetainsTo {S} {X} R s (x ∷ xs) ys last = (b : Bool) × (t : S) × (y : X) × R s x b t y × (zs : List X) × RetainsTo R t xs zs last × (ys ≡ cond b (y ∷ zs) zs)
-
--- ys has the items of xs at which a test that started as s, answers by R, and is now last, gave `true`: `IsFiltered`, with the last state
-abbrev pub IsFilteredTo : {S X : Type 0} → (S → X → Bool → S → Type 0) → S → List X → List X → S → Type 0
-IsFilteredTo R s xs ys last = (bs : List Bool) × (length bs ≡ length xs) × ReturnsInTurn R s bs xs last × (ys ≡ items_where_true bs xs)
-
-module _ {S X : Type 0} (R : S → X → X → Bool → S → X → X → Type 0) where
-  -- `DedupsFrom`, with the last state
-  abbrev pub DedupsFromTo : S → X → List X → List X → S → Type 0
-  DedupsFromTo s k [] ys last = (ys ≡ k ∷ []) × (last ≡ s)
-  DedupsFromTo s k (x ∷ xs) ys last = (b : Bool) × (t : S) × (x' : X) × (k' : X) × R s x k b t x' k'
-      × MatchBool b (DedupsFromTo t k' xs ys last) ((zs : List X) × DedupsFromTo t x' xs zs last × (ys ≡ k' ∷ zs))
-
-  -- the same of all of a list, whose first item is kept
-  abbrev pub DedupsAllTo : S → List X → List X → S → Type 0
-  DedupsAllTo s [] ys last = (ys ≡ []) × (last ≡ s)
-  DedupsAllTo s (x ∷ xs) ys last = DedupsFromTo s x xs ys last
-
-  -- ys is what `dedup_by` leaves of xs, asked from s to last
-  pub record IsDedupedTo (s : S) (xs ys : List X) (last : S) : Type 0 where
-    pub told : DedupsAllTo s xs ys last

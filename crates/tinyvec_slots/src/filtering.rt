@@ -1,8 +1,8 @@
 //! Keeping some items of a list: those kept move to its front, in order.
-ghost use Rattle.std.specs.Prelude.{◌≡◌, ◌+◌, ◌<◌, ◌≤◌, ◌++◌, true, length, take, drop};
-ghost use Rattle.std.specs.Fn.{CalledAt, CalledAtMut, CalledAtPairMut, ComparesKeys};
-ghost use Rattle.std.specs.List.Retain.{IsFiltered, RetainsInTurn, IsDeduped};
-ghost use Rattle.tinyvec_slots.specs.Filters.{AsksPair, RetainsTo, IsFilteredTo, IsDedupedTo};
+ghost use Rattle.std.specs.Prelude.{◌≡◌, ◌+◌, ◌-◌, ◌<◌, ◌≤◌, ◌++◌, Some, slice_get, true, length, take, drop};
+ghost use Rattle.std.specs.Fn.{FnOnceTakesAtMut, CalledAt, CalledAtMut, CalledAtPairMut, ComparesKeys};
+ghost use Rattle.std.specs.List.Retain.{IsFiltered, RetainsInTurn, IsDeduped, PopsIf};
+ghost use Rattle.tinyvec_slots.specs.Filters.{AsksPair};
 
 use crate::CanCut;
 use std::mem;
@@ -11,7 +11,6 @@ use std::mem;
 pub fn retain<V: CanCut, F: FnMut(&V::Item) -> bool>(vec: &mut V, f: &mut F)
     requires { F.IsAlwaysCallable f.old }
     ensures filtered { IsFiltered (CalledAt F.FnMut) f.old (V.items vec.old) (V.items vec.new) }
-    ensures asked { IsFilteredTo (CalledAt F.FnMut) f.old (V.items vec.old) (V.items vec.new) f.new }
     ensures bound { length (V.items vec.new) ≤ length (V.items vec.old) }
     ensures fits { length (V.items vec.new) ≤ V.room vec.new }
     ensures cut { V.Cut vec.old vec.new }
@@ -24,7 +23,6 @@ pub fn retain<V: CanCut, F: FnMut(&V::Item) -> bool>(vec: &mut V, f: &mut F)
 pub fn retain_mut<V: CanCut, F: FnMut(&mut V::Item) -> bool>(vec: &mut V, f: &mut F)
     requires { F.IsAlwaysCallable f.old }
     ensures filtered { RetainsInTurn (CalledAtMut F.FnMut) f.old (V.items vec.old) (V.items vec.new) }
-    ensures asked { RetainsTo (CalledAtMut F.FnMut) f.old (V.items vec.old) (V.items vec.new) f.new }
     ensures bound { length (V.items vec.new) ≤ length (V.items vec.old) }
     ensures fits { length (V.items vec.new) ≤ V.room vec.new }
     ensures cut { V.Cut vec.old vec.new }
@@ -37,7 +35,6 @@ pub fn retain_mut<V: CanCut, F: FnMut(&mut V::Item) -> bool>(vec: &mut V, f: &mu
 pub fn dedup_by<V: CanCut, F: FnMut(&mut V::Item, &mut V::Item) -> bool>(vec: &mut V, same: &mut F)
     requires { F.IsAlwaysCallable same.old }
     ensures filtered { IsDeduped (CalledAtPairMut F.FnMut) same.old (V.items vec.old) (V.items vec.new) }
-    ensures asked { IsDedupedTo (CalledAtPairMut F.FnMut) same.old (V.items vec.old) (V.items vec.new) same.new }
     ensures bound { length (V.items vec.new) ≤ length (V.items vec.old) }
     ensures fits { length (V.items vec.new) ≤ V.room vec.new }
     ensures cut { V.Cut vec.old vec.new }
@@ -53,7 +50,6 @@ pub fn dedup_by_key<V: CanCut, K: PartialEq + Drop, F: FnMut(&mut V::Item) -> K>
 )
     requires { F.IsAlwaysCallable key.old }
     ensures filtered { IsDeduped (ComparesKeys F.FnMut K.eq) key.old (V.items vec.old) (V.items vec.new) }
-    ensures asked { IsDedupedTo (ComparesKeys F.FnMut K.eq) key.old (V.items vec.old) (V.items vec.new) key.new }
     ensures bound { length (V.items vec.new) ≤ length (V.items vec.old) }
     ensures fits { length (V.items vec.new) ≤ V.room vec.new }
     ensures cut { V.Cut vec.old vec.new }
@@ -62,11 +58,45 @@ pub fn dedup_by_key<V: CanCut, K: PartialEq + Drop, F: FnMut(&mut V::Item) -> K>
     vec.truncate(kept);
 }
 
+/// Calls `f` on the last item, and takes the item if it returns `true`. Of an empty list nothing is called.
+pub fn pop_if<V: CanCut, F: FnOnce(&mut V::Item) -> bool>(vec: &mut V, f: F) -> Option<V::Item>
+    requires { (x : V.Item) → slice_get (V.items vec.old) (length (V.items vec.old) - 1) ≡ Some x
+        → FnOnceTakesAtMut F.FnOnce f x }
+    ensures popped { PopsIf F.FnOnce (V.items vec.old) (V.items vec.new) f result }
+    ensures bound { length (V.items vec.new) ≤ length (V.items vec.old) }
+    ensures fits { length (V.items vec.new) ≤ V.room vec.new }
+    ensures cut { V.Cut vec.old vec.new }
+{
+    let (kept, item) = take_last_if(vec.as_mut_slice(), f);
+    vec.truncate(kept);
+    item
+}
+
+// Takes the last item if `f` returns `true` for it, and counts the items that are left.
+fn take_last_if<T: Default + Drop, F: FnOnce(&mut T) -> bool>(
+    items: &mut [T],
+    f: F,
+) -> (usize, Option<T>)
+    requires { (x : T) → slice_get items.old (length items.old - 1) ≡ Some x → FnOnceTakesAtMut F.FnOnce f x }
+    ensures popped { PopsIf F.FnOnce items.old (take result.0 items.new) f result.1 }
+    ensures bound { result.0 ≤ length items.old }
+    ensures len { length items.new ≡ length items.old }
+{
+    let len = items.len();
+    if len == 0 {
+        return (0, None);
+    }
+    let last = len - 1;
+    if f(&mut items[last]) {
+        return (last, Some(mem::take(&mut items[last])));
+    }
+    (len, None)
+}
+
 // Moves the items for which `f` returns `true` to the front, and counts them.
 fn retain_in_front<T: Default + Drop, F: FnMut(&T) -> bool>(items: &mut [T], f: &mut F) -> usize
     requires { F.IsAlwaysCallable f.old }
     ensures filtered { IsFiltered (CalledAt F.FnMut) f.old items.old (take result items.new) }
-    ensures asked { IsFilteredTo (CalledAt F.FnMut) f.old items.old (take result items.new) f.new }
     ensures bound { result ≤ length items.old }
     ensures len { length items.new ≡ length items.old }
 {
@@ -88,7 +118,6 @@ fn retain_mut_in_front<T: Default + Drop, F: FnMut(&mut T) -> bool>(
 ) -> usize
     requires { F.IsAlwaysCallable f.old }
     ensures filtered { RetainsInTurn (CalledAtMut F.FnMut) f.old items.old (take result items.new) }
-    ensures asked { RetainsTo (CalledAtMut F.FnMut) f.old items.old (take result items.new) f.new }
     ensures bound { result ≤ length items.old }
     ensures len { length items.new ≡ length items.old }
 {
@@ -136,7 +165,6 @@ fn move_down<T: Default + Drop>(items: &mut [T], kept: usize, i: usize, stays: b
 fn dedup_in_front<T, F: FnMut(&mut T, &mut T) -> bool>(items: &mut [T], same: &mut F) -> usize
     requires { F.IsAlwaysCallable same.old }
     ensures filtered { IsDeduped (CalledAtPairMut F.FnMut) same.old items.old (take result items.new) }
-    ensures asked { IsDedupedTo (CalledAtPairMut F.FnMut) same.old items.old (take result items.new) same.new }
     ensures bound { result ≤ length items.old }
     ensures len { length items.new ≡ length items.old }
 {
@@ -161,7 +189,6 @@ fn dedup_keys_in_front<T, F: FnMut(&mut T) -> K, K: PartialEq + Drop>(
 ) -> usize
     requires { F.IsAlwaysCallable key.old }
     ensures filtered { IsDeduped (ComparesKeys F.FnMut K.eq) key.old items.old (take result items.new) }
-    ensures asked { IsDedupedTo (ComparesKeys F.FnMut K.eq) key.old items.old (take result items.new) key.new }
     ensures bound { result ≤ length items.old }
     ensures len { length items.new ≡ length items.old }
 {

@@ -1,5 +1,5 @@
 //! The trait `InSlots`.
-ghost use Rattle.std.specs.Prelude.{◌≡◌, ◌≤◌, ◌-◌, ◌++◌, ℕ, List, length, take, drop};
+ghost use Rattle.std.specs.Prelude.{◌≡◌, ◌-◌, ◌++◌, ℕ, List, length, take, drop};
 ghost use Rattle.std.specs.Borrow.{Lends, sem, Array as SliceOf};
 
 /// A vector in slots, whose number stays the same.

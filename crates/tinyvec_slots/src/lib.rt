@@ -17,7 +17,7 @@ mod tuned;
 
 pub use can_cut::CanCut;
 pub use can_splice::CanSplice;
-pub use filtering::{dedup_by, dedup_by_key, retain, retain_mut};
+pub use filtering::{dedup_by, dedup_by_key, pop_if, retain, retain_mut};
 pub use gap::Gap;
 pub use in_slots::InSlots;
 pub use no_memory::NoMemory;
@@ -28,7 +28,9 @@ pub use printing::{
 };
 pub use range::{resolve_range, subslice};
 pub use splicing::{close_in, finish_in, step_back_in, step_in};
-pub use tuned::cloning::{clone_each, clone_each_from, clone_over, clone_over_from, fill_clones};
+pub use tuned::cloning::{
+    clone_each, clone_each_from, clone_over, clone_over_from, clone_within, fill_clones,
+};
 pub use tuned::comparing::{cmp_slices, eq_slices, hash_items, partial_cmp_slices};
 pub use tuned::moving::{close_gap, last_to, move_to_end, move_to_end_below};
 pub use tuned::resetting::fill_default;

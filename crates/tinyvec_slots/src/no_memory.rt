@@ -1,6 +1,10 @@
 //! What is returned where the allocator refuses.
+ghost use Rattle.std.specs.Prelude.{◌≡◌};
+ghost use Rattle.std.specs.IoError.{error_kind};
+ghost use Rattle.std.specs.declared.io.ErrorKind.TheVariants.{OutOfMemory};
 
 use std::alloc::AllocError;
+use std::io::Error;
 
 /// The allocator refused. The argument is returned, and nothing else has changed.
 #[derive(PartialEq, Eq, Debug, Drop)]
@@ -10,5 +14,14 @@ pub struct NoMemory<T>(pub T);
 impl<T: Drop> From<NoMemory<T>> for AllocError {
     fn from(_refused: NoMemory<T>) -> Self {
         AllocError
+    }
+}
+
+/// Drops the argument.
+impl<T: Drop> From<NoMemory<T>> for Error {
+    ghost from_gives = { λ _ e. error_kind e ≡ OutOfMemory };
+
+    fn from(_refused: NoMemory<T>) -> Self {
+        Error::from(AllocError)
     }
 }

@@ -1,10 +1,11 @@
 -- Where the bytes of a text may be cut, and which characters stand on each side.
-use Rattle.std.proofs.Common.{◌≡◌, ℕ, ◌+◌, ◌≤◌, List, [], ◌∷◌, ◌++◌, length, take, drop, true, refl, sym, ap, ◌∙◌, take-append-drop, length-append, length-take-le, take_at, append-nil, append_assoc, encode_utf8, IsUtf8}
+use Rattle.std.proofs.Common.{◌≡◌, ℕ, ◌+◌, ◌-◌, ◌≤◌, List, [], ◌∷◌, ◌++◌, length, take, drop, true, refl, sym, ap, ◌∙◌, take-append-drop, length-append, length-take-le, length-drop, take_at, drop_at, subst, arith, append-nil, append_assoc, encode_utf8, IsUtf8}
 use Rattle.std.specs.Str.{chars, encode_utf8_all, all_scalars}
 use Rattle.std.specs.String.Boundary.{IsSplitPoint}
 use Rattle.std.proofs.CharBoundary.{IsUtf8-take-drop}
-use Rattle.std.proofs.lemmas.Str.{chars-append, encodes-chars, encodes-append, scalars-chars, IsCharBoundary-at_seam, chars_past_char, chars-nil}
+use Rattle.std.proofs.lemmas.Str.{chars-append, encodes-chars, encodes-append, IsUtf8-append, scalars-chars, IsCharBoundary-at_seam, chars_past_char, chars-nil}
 use Rattle.std.proofs.lemmas.Bool.{and_parts}
+use Rattle.std.proofs.lemmas.List.{drop-drop}
 use Rattle.tinyvec_text.specs.InlineText.{IsBoundary}
 
 -- the characters on each side of a cut
@@ -33,6 +34,60 @@ split_from_boundary bs u i (front, rest, parts, size) =
     let seam = IsCharBoundary-at_seam bs (encode_utf8_all front) (encode_utf8_all rest) whole (rest, (scalars, refl)) in
     let split : IsSplitPoint bs (length (encode_utf8_all front)) = (seam.0, λ _. seam.1) in
     rw size at split
+
+-- bytes in the place of those from i up to j
+module _ (bs : List ℕ) (u : IsUtf8 bs) (i j : ℕ) (p : IsSplitPoint bs i) (q : IsSplitPoint bs j) (put : List ℕ) (w : IsUtf8 put) where
+  pub utf8_put : IsUtf8 (take i bs ++ put ++ drop j bs)
+  utf8_put = IsUtf8-append (take i bs ++ put) (drop j bs) (IsUtf8-append (take i bs) put (IsUtf8-take-drop bs u i p).0 w) (IsUtf8-take-drop bs u j q).1
+
+  pub chars_put : chars (take i bs ++ put ++ drop j bs) ≡ chars (take i bs) ++ chars put ++ chars (drop j bs)
+  chars_put =
+      chars-append (take i bs ++ put) (drop j bs) (IsUtf8-append (take i bs) put (IsUtf8-take-drop bs u i p).0 w)
+      ∙ ap (λ cs. cs ++ chars (drop j bs)) (chars-append (take i bs) put (IsUtf8-take-drop bs u i p).0)
+
+-- the length of a list in which `put` is in the place of the items from a up to b
+pub replaced_len : (bs put : List ℕ) (a b : ℕ) → a ≤ b → b ≤ length bs
+    → length (take a bs ++ put ++ drop b bs) ≡ length bs - (b - a) + length put
+replaced_len bs put a b order within =
+    let front = length-take-le a bs (omega (arith, order, within)) in
+    let rest = length-drop b bs in
+    let both = length-append (take a bs) put in
+    length-append (take a bs ++ put) (drop b bs) ∙ omega (arith, front, rest, both, order, within)
+
+-- the character whose bytes are the first n from i on
+module _ (bs : List ℕ) (u : IsUtf8 bs) (i : ℕ) (p : IsSplitPoint bs i) (n c : ℕ) (own : take n (drop i bs) ≡ encode_utf8 c)
+    (w : IsUtf8 (drop n (drop i bs))) where
+  pub parts_here : drop i bs ≡ encode_utf8 c ++ drop (i + n) bs
+  parts_here = sym (take-append-drop n (drop i bs)) ∙ ap (λ xs. xs ++ drop n (drop i bs)) own ∙ ap (λ xs. encode_utf8 c ++ xs) (drop-drop n i bs)
+
+  after_here : IsUtf8 (drop (i + n) bs)
+  after_here = subst IsUtf8 (drop-drop n i bs) w
+
+  pub chars_here : chars bs ≡ chars (take i bs) ++ c ∷ chars (drop (i + n) bs)
+  chars_here =
+      chars_cut bs u i p
+      ∙ ap (λ cs. chars (take i bs) ++ cs) (chars_past_char (drop i bs) (drop (i + n) bs) c (IsUtf8-take-drop bs u i p).1 parts_here)
+
+  -- what is left without it
+  pub utf8_gap : IsUtf8 (take i bs ++ drop (i + n) bs)
+  utf8_gap = IsUtf8-append (take i bs) (drop (i + n) bs) (IsUtf8-take-drop bs u i p).0 after_here
+
+  pub chars_gap : chars (take i bs ++ drop (i + n) bs) ≡ chars (take i bs) ++ chars (drop (i + n) bs)
+  chars_gap = chars-append (take i bs) (drop (i + n) bs) (IsUtf8-take-drop bs u i p).0
+
+-- the first character of the first n bytes, of which rest is left
+module _ (bs rest : List ℕ) (n c : ℕ) (parts : take n bs ≡ encode_utf8 c ++ rest) (within : n ≤ length bs) where
+  whole : bs ≡ encode_utf8 c ++ (rest ++ drop n bs)
+  whole = sym (take-append-drop n bs) ∙ ap (λ xs. xs ++ drop n bs) parts ∙ append_assoc (encode_utf8 c) rest (drop n bs)
+
+  size : length (encode_utf8 c) ≡ n - length rest
+  size = let all = sym (length-take-le n bs within) ∙ ap length parts ∙ length-append (encode_utf8 c) rest in omega (arith, all)
+
+  pub take_first : take (n - length rest) bs ≡ encode_utf8 c
+  take_first = ap (take (n - length rest)) whole ∙ take_at (encode_utf8 c) (rest ++ drop n bs) (n - length rest) size
+
+  pub drop_first : drop (n - length rest) bs ≡ rest ++ drop n bs
+  drop_first = ap (drop (n - length rest)) whole ∙ drop_at (encode_utf8 c) (rest ++ drop n bs) (n - length rest) size
 
 -- the one character of its bytes
 pub chars_of_one : (bs : List ℕ) (c : ℕ) → IsUtf8 bs → bs ≡ encode_utf8 c → chars bs ≡ c ∷ []

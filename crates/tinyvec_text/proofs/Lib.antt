@@ -1,2 +1,4 @@
 pub mod Boundaries
+pub mod Extending
+pub mod Filters
 pub mod Lists

@@ -1,11 +1,48 @@
 -- Lists of bytes as texts.
-use Rattle.std.proofs.Common.{◌≡◌, ℕ, List, inl, inr}
+use Rattle.std.proofs.Common.{◌≡◌, ℕ, ◌<◌, ◌≤◌, List, All, IsUtf8, IsTrue, inl, inr, subst, sym, ◌∙◌, refl, rules, arith}
 use Rattle.std.specs.Bool.{⊤}
+use Rattle.std.specs.Prelude.{Bool, true, false, Result, Ok, Err, IsErr}
+use Rattle.std.proofs.lemmas.List.Elements.{All-append, All-drop}
+use Rattle.std.proofs.lemmas.Str.{IsUtf8-had}
 use Rattle.tinyvec_slots.specs.Clones.{RefusedAt}
-use Rattle.tinyvec.specs.TinyVec.{Unchanged}
+use Rattle.tinyvec_slots.specs.Slots.{AreDefaults}
+use Rattle.tinyvec.proofs.TinyLemmas.{capacity_inline, tiny_slots_framed}
+use Rattle.tinyvec.specs.TinyVec.{tiny_items, tiny_len, tiny_spare, tiny_capacity, is_inline, IsInline, PlaceRule, TinySlotRule, SameFrame, StaysInPlace, Unchanged}
 use Rattle.tinyvec.specs.Refused.{RefusedFor}
+use Rattle.tinyvec.specs.Room.{GrowsFor, RoomGrows}
 use Rattle.tinyvec.specs.declared.tiny_vec.TinyVec.{TinyVec}
-use Rattle.tinyvec_text.specs.InlineText.{text_of}
+use Rattle.tinyvec.specs.declared.tiny_vec.TinyVec.TheVariants.{Inline, Heap}
+use Rattle.std.specs.String.Boundary.{IsSplitPoint}
+use Rattle.tinyvec_text.specs.InlineText.{Text, IsText, text_of, text_chars, text_len, TextPlaceRule, MakesRoom, IsBoundary}
+use Rattle.tinyvec_text.proofs.Boundaries.{split_from_boundary}
+
+-- a and b are boundaries of the bytes, in this order
+pub record CutsAt (bs : List ℕ) (a b : ℕ) : Type 0 where
+  pub order : a ≤ b
+  pub first : IsSplitPoint bs a
+  pub last : IsSplitPoint bs b
+
+same_truth : (a b : Bool) → (IsTrue a → IsTrue b) → (IsTrue b → IsTrue a) → a ≡ b
+same_truth true true there back = refl
+same_truth true false there back = sym (there refl)
+same_truth false true there back = back refl
+same_truth false false there back = refl
+
+-- a refused call that needs room for more bytes than fit changes nothing
+refused_text : {X E : Type 0} (moves : Bool) (slots need : ℕ) (t : Text) (r : Result X E) → IsErr r → text_len t ≤ t.room
+    → (IsTrue t.inline → t.room ≡ slots) → t.room < need → MakesRoom moves slots need t t r
+refused_text moves slots need t (Ok x) err fits inline few = search rules
+refused_text moves slots need t (Err e) err fits inline few = record {
+  place = tt;
+  capacity = omega arith;
+  same_room = λ _. refl;
+  grown = tt;
+  fits = fits;
+  succeeds = λ enough. absurd (omega (arith, enough, few));
+  inline_succeeds = λ is enough. absurd (omega (arith, enough, few, inline is));
+  full = few;
+  refused = refl;
+}
 
 module _ {A : Type 0} where
   pub text_unchanged : (slots : ℕ) (old new : TinyVec A ℕ) → Unchanged old new → text_of slots new ≡ text_of slots old
@@ -16,3 +53,92 @@ module _ {A : Type 0} where
       → RefusedFor slots need ((j : ℕ) × RefusedAt (λ _. ⊤) xs j × Q j) old new → Unchanged old new
   refused_memory xs slots need Q old new (inl h) = h.1
   refused_memory xs slots need Q old new (inr h) = absurd (h.1.1.1 0 tt)
+
+  -- the same, seen from the list
+  pub refused_room : {X E : Type 0} (moves : Bool) (slots need : ℕ) (old new : TinyVec A ℕ) (t : Text) (r : Result X E) → IsErr r
+      → text_of slots old ≡ t → tiny_len new ≤ tiny_capacity slots new → tiny_capacity slots old < need → Unchanged old new
+      → MakesRoom moves slots need t (text_of slots new) r
+  refused_room moves slots need old new t r err same fits few h =
+      let is : text_of slots new ≡ t = text_unchanged slots old new h ∙ same in
+      subst (λ (u : Text). MakesRoom moves slots need t u r) (sym is)
+      (refused_text moves slots need t r err (subst (λ (u : Text). text_len u ≤ u.room) is fits)
+      (subst (λ (u : Text). IsTrue u.inline → u.room ≡ slots) same (capacity_inline slots old)) (subst (λ (u : Text). u.room < need) same few))
+
+  pub text_utf8 : (v : TinyVec A ℕ) → IsText v → IsUtf8 (tiny_items v)
+  text_utf8 v is = IsUtf8-had _ is.0
+
+  -- a boundary of the text is one of its bytes
+  pub text_cut : (slots : ℕ) (v : TinyVec A ℕ) (t : Text) → text_of slots v ≡ t → IsText v → (i : ℕ) → IsBoundary (text_chars t) i
+      → IsSplitPoint (tiny_items v) i
+  text_cut slots v t same is i cut =
+      split_from_boundary (tiny_items v) (text_utf8 v is) i (subst (λ (u : Text). IsBoundary (text_chars u) i) (sym same) cut)
+
+  -- what a call leaves in the list of a text: spare slots that it vacates are zero
+  zero_spare : (old new : TinyVec A ℕ) → (IsInline new → IsInline old) → TinySlotRule (λ b. b ≡ 0) old new
+      → All (λ b. b ≡ 0) (tiny_spare old) → All (λ b. b ≡ 0) (tiny_spare new)
+  zero_spare (Inline v a) (Inline w b) place rule zero =
+      subst (All (λ b. b ≡ 0)) (sym rule.2) (All-append (λ b. b ≡ 0) rule.0 _ rule.1.1 (All-drop (λ b. b ≡ 0) _ _ zero))
+  zero_spare old (Heap w) place rule zero = λ k d few. absurd (omega (arith, few))
+  zero_spare (Heap v) (Inline w b) place rule zero = absurd (let no = place refl in cc)
+
+  pub text_kept : (old new : TinyVec A ℕ) → (IsInline new → IsInline old) → TinySlotRule (λ b. b ≡ 0) old new
+      → IsText old → IsUtf8 (tiny_items new) → IsText new
+  text_kept old new place rule h utf8 = (∣ utf8 ∣₁, zero_spare old new place rule h.1)
+
+  pub text_stays : (slots : ℕ) (old new : TinyVec A ℕ) → StaysInPlace (λ b. b ≡ 0) slots old new
+      → IsText old → IsUtf8 (tiny_items new) → IsText new
+  text_stays slots old new frame = text_kept old new (λ i. subst IsTrue frame.place i) frame.slot_rule
+
+  -- the same of a call that first wrote over the bytes
+  pub text_rewritten : (slots : ℕ) (old mid new : TinyVec A ℕ) → SameFrame old mid → StaysInPlace (λ b. b ≡ 0) slots mid new
+      → IsText old → IsUtf8 (tiny_items new) → IsText new
+  text_rewritten slots old mid new frame stays =
+      text_kept old new (λ i. subst IsTrue (stays.place ∙ frame.place) i) (tiny_slots_framed (λ b. b ≡ 0) old mid new frame stays.slot_rule)
+
+  pub text_same : (old new : TinyVec A ℕ) → Unchanged old new → IsText old → IsText new
+  text_same old new h is = (subst (λ bs. ∥ IsUtf8 bs ∥₁) (sym h.items) is.0, subst (All (λ b. b ≡ 0)) (sym h.spare) is.1)
+
+  -- a list that was made of a text's bytes
+  pub text_made : (n : ℕ) (v : TinyVec A ℕ) → IsUtf8 (tiny_items v) → (IsInline v → AreDefaults (λ b. b ≡ 0) n (tiny_spare v)) → IsText v
+  text_made n (Inline v a) utf8 spare = (∣ utf8 ∣₁, (spare refl).1)
+  text_made n (Heap v) utf8 spare = (∣ utf8 ∣₁, λ k d few. absurd (omega (arith, few)))
+
+  -- a text that was moved into its array, or whose allocation was shrunk
+  pub text_shrunk : (n : ℕ) (old new : TinyVec A ℕ) → IsText old → tiny_items new ≡ tiny_items old → (IsInline old → new ≡ old)
+      → (is_inline old ≡ false → IsInline new → AreDefaults (λ b. b ≡ 0) n (tiny_spare new)) → IsText new
+  text_shrunk n (Inline v a) new is items kept spare = subst IsText (sym (kept refl)) is
+  text_shrunk n (Heap v) new is items kept spare = text_made n new (subst IsUtf8 (sym items) (text_utf8 (Heap v) is)) (spare refl)
+
+  -- the ends of a range are boundaries of the bytes
+  pub text_range : (slots : ℕ) (v : TinyVec A ℕ) (t : Text) → text_of slots v ≡ t → IsText v → (a : ℕ) (end : ℕ → ℕ) → a ≤ end (text_len t)
+      → IsBoundary (text_chars t) a → IsBoundary (text_chars t) (end (text_len t)) → CutsAt (tiny_items v) a (end (tiny_len v))
+  text_range slots v t same is a end order first last =
+      let utf8 = text_utf8 v is in
+      record {
+        order = subst (λ (u : Text). a ≤ end (text_len u)) (sym same) order;
+        first = split_from_boundary (tiny_items v) utf8 a (subst (λ (u : Text). IsBoundary (text_chars u) a) (sym same) first);
+        last = split_from_boundary (tiny_items v) utf8 (end (tiny_len v)) (subst (λ (u : Text). IsBoundary (text_chars u) (end (text_len u))) (sym same) last);
+      }
+
+  -- a call that made the room that it needs
+  pub made_room : {X E : Type 0} (slots need : ℕ) (old new : TinyVec A ℕ) (t : Text) (x : X) → text_of slots old ≡ t → tiny_len new ≡ need
+      → PlaceRule slots (tiny_len new) old new → RoomGrows {X = X} {E = E} GrowsFor slots (tiny_len new) old new (Ok x)
+      → MakesRoom {X = X} {E = E} t.inline slots need t (text_of slots new) (Ok x)
+  made_room {X} {E} slots need old new t x same len place room =
+      subst (λ (u : Text). MakesRoom {X = X} {E = E} u.inline slots need u (text_of slots new) (Ok x)) same
+      (subst (λ n. MakesRoom {X = X} {E = E} (is_inline old) slots n (text_of slots old) (text_of slots new) (Ok x)) len record {
+        place = place;
+        capacity = room.capacity;
+        same_room = room.same_room;
+        grown = room.grown;
+        fits = room.fits;
+        succeeds = λ _. refl;
+        inline_succeeds = λ _ _. refl;
+        full = tt;
+        refused = tt;
+      })
+
+-- a call with room leaves a text in its place
+pub place_stays : (slots need : ℕ) (old new : Text) → (IsTrue old.inline → old.room ≡ slots) → need ≤ old.room
+    → TextPlaceRule slots need old new → new.inline ≡ old.inline
+place_stays slots need old new room enough rule = same_truth new.inline old.inline (λ is. (rule.0 is).0) (λ is. rule.1 (is, omega (arith, enough, room is)))

@@ -1,17 +1,24 @@
 //! `InlineText`.
-ghost use Rattle.std.specs.Prelude.{◌≡◌, ◌≤◌, ◌==◌, [], length, true, IsTrue, encode_utf8_all};
+ghost use Rattle.std.specs.Prelude.{◌≡◌, ◌≤◌, ◌==◌, ◌↔◌, [], length, drop, max, All, true, false, IsTrue, IsOk, IfOk, IfErr, chars, encode_utf8_all, IsUtf8};
+ghost use Rattle.std.specs.Str.{valid_up_to, error_len};
+ghost use Rattle.std.specs.Str.Lossy.{utf8_valid_len, utf8_error_len};
+ghost use Rattle.std.specs.String.{string_bytes, string_capacity};
 ghost use Rattle.std.specs.Str.{all_scalars};
-ghost use Rattle.tinyvec.specs.TinyVec.{tiny_items, is_inline, tiny_capacity};
+ghost use Rattle.tinyvec.specs.TinyVec.{tiny_items, tiny_spare, is_inline, tiny_capacity};
 ghost use Rattle.tinyvec_text.specs.InlineText.{text_chars, text_len};
 
 mod edits;
+mod extending;
+mod filters;
+mod from_utf8_error;
 mod traits;
 
-use std::alloc::Global;
+pub use from_utf8_error::FromUtf8Error;
+use std::alloc::{AllocError, Global};
 use std::convert::{AsSlice, AsStr};
 use std::marker::Model;
 use std::str;
-use tinyvec::TinyVec;
+use tinyvec::{NoMemory, TinyVec};
 
 /// A text in an array of N bytes, or on the heap once it needed more room than the array has.
 #[derive(Drop)]
@@ -20,15 +27,13 @@ pub struct InlineText<const N: usize> {
 }
 
 impl<const N: usize> Model for InlineText<N> {
-    ghost use Rattle.std.specs.Prelude.{IsUtf8};
-    ghost use Rattle.tinyvec.specs.TinyVec.{tiny_items};
-    ghost use Rattle.tinyvec_text.specs.InlineText.{Text, text_of};
+    ghost use Rattle.tinyvec_text.specs.InlineText.{Text, text_of, IsText};
 
     ghost Value = { Text };
 
     ghost view = { λ t. text_of N t.list };
 
-    ghost invariant = { λ t. ∥ IsUtf8 (tiny_items t.list) ∥₁ };
+    ghost invariant = { λ t. IsText t.list };
 }
 
 impl<const N: usize> InlineText<N> {
@@ -42,6 +47,39 @@ impl<const N: usize> InlineText<N> {
         InlineText {
             list: TinyVec::new(alloc),
         }
+    }
+
+    /// An empty text with room for `n` bytes, inline where the array has it. Otherwise allocates it.
+    pub fn with_capacity(alloc: Global, n: usize) -> Result<Self, AllocError>
+        ensures bytes { IfOk result (λ t. t.bytes ≡ []) }
+        ensures text { IfOk result (λ t. text_chars t ≡ []) }
+        ensures place { IfOk result (λ t. IsTrue t.inline ↔ (n ≤ N)) }
+        ensures room { IfOk result (λ t. t.room ≡ max n N) }
+        ensures succeeds { n ≤ N → IsOk result }
+    {
+        let list = TinyVec::with_capacity(alloc, n)?;
+        Ok(InlineText { list })
+    }
+
+    /// The text of these bytes, in their place, or the bytes where they are not UTF-8. Allocates nothing. Sets the spare
+    /// slots to zero.
+    pub fn from_utf8(bytes: TinyVec<[u8; N]>) -> Result<Self, FromUtf8Error<N>>
+        ensures variant { IsOk result ↔ IsUtf8 (tiny_items bytes.entry) }
+        ensures bytes { IfOk result (λ t. t.bytes ≡ tiny_items bytes.entry) }
+        ensures text { IfOk result (λ t. text_chars t ≡ chars (tiny_items bytes.entry)) }
+        ensures place { IfOk result (λ t. t.inline ≡ is_inline bytes.entry) }
+        ensures room { IfOk result (λ t. t.room ≡ tiny_capacity N bytes.entry) }
+        ensures bytes_returned { IfErr result (λ refused. refused.bytes ≡ bytes.entry) }
+        ensures valid_len { IfErr result (λ refused. valid_up_to refused.error ≡ utf8_valid_len (tiny_items bytes.entry)) }
+        ensures fault { IfErr result (λ refused. error_len refused.error
+            ≡ utf8_error_len (drop (utf8_valid_len (tiny_items bytes.entry)) (tiny_items bytes.entry))) }
+    {
+        if let Err(error) = str::from_utf8(bytes.as_slice()) {
+            return Err(FromUtf8Error { bytes, error });
+        }
+        let mut list = bytes;
+        clear_spare(&mut list);
+        Ok(InlineText { list })
     }
 
     /// The length in bytes.
@@ -95,14 +133,49 @@ impl<const N: usize> InlineText<N> {
         self.list.as_slice()
     }
 
-    /// The bytes of the text, in their place. Does not allocate.
+    /// The bytes of the text, in their place. The spare slots are zero. Does not allocate.
     pub fn into_bytes(self) -> TinyVec<[u8; N]>
         ensures bytes { tiny_items result ≡ self.entry.bytes }
+        ensures utf8 { IsUtf8 (tiny_items result) }
+        ensures spare { All (λ b. b ≡ 0) (tiny_spare result) }
         ensures place { is_inline result ≡ self.entry.inline }
         ensures room { tiny_capacity N result ≡ self.entry.room }
     {
         let InlineText { list } = self;
         list
+    }
+
+    /// Converts to a `String`. A text on the heap keeps its allocation; an inline one gets a capacity of its length. If the
+    /// allocator refuses, the text is returned.
+    pub fn into_string(self) -> Result<String, NoMemory<Self>>
+        ensures bytes { IfOk result (λ s. string_bytes s ≡ self.entry.bytes) }
+        ensures room { IfOk result (λ s. IsTrue self.entry.inline → string_capacity s ≡ text_len self.entry) }
+        ensures same_room { IfOk result (λ s. self.entry.inline ≡ false → string_capacity s ≡ self.entry.room) }
+        ensures succeeds { self.entry.inline ≡ false → IsOk result }
+        ensures succeeds_empty { text_len self.entry ≡ 0 → IsOk result }
+        ensures value_returned { IfErr result (λ refused. refused.0 ≡ self.entry) }
+    {
+        let InlineText { list } = self;
+        let bytes = match list.into_vec() {
+            Ok(bytes) => bytes,
+            Err(NoMemory(list)) => return Err(NoMemory(InlineText { list })),
+        };
+        match String::from_utf8(bytes) {
+            Ok(text) => Ok(text),
+            Err(_) => unreachable!(),
+        }
+    }
+}
+
+// Sets the spare slots to zero.
+fn clear_spare<const N: usize>(list: &mut TinyVec<[u8; N]>)
+    ensures items { tiny_items list.new ≡ tiny_items list.old }
+    ensures spare { All (λ b. b ≡ 0) (tiny_spare list.new) }
+    ensures place { is_inline list.new ≡ is_inline list.old }
+    ensures room { tiny_capacity N list.new ≡ tiny_capacity N list.old }
+{
+    if let TinyVec::Inline(v, _) = list {
+        v.grab_spare_slice_mut().fill(0);
     }
 }
 

@@ -2,7 +2,7 @@
 ghost use Rattle.std.specs.Prelude.{◌≡◌, ◌≤◌, ◌++◌, ℕ, All, min, false, length, take, IfOk, OnOk, OnErr, IsOk};
 ghost use Rattle.std.specs.List.{AllZip};
 ghost use Rattle.tinyvec_slots.specs.Clones.{RefusedAt, ClonesAreEqual, ClonesOver, ClonesInPart};
-ghost use Rattle.tinyvec.specs.TinyVec.{tiny_items, tiny_len, tiny_spare, is_inline, tiny_capacity, IsInline, PlaceRule, TinySlotRule, SameFrame};
+ghost use Rattle.tinyvec.specs.TinyVec.{tiny_items, tiny_len, tiny_spare, is_inline, tiny_capacity, IsInline, PlaceRule, TinySlotRule, SameFrame, IsTinyClone, IsTinyInfallible};
 ghost use Rattle.tinyvec.specs.Refused.{RefusedFor};
 ghost use Rattle.tinyvec.specs.Room.{GrowsFor, RoomGrows};
 
@@ -96,9 +96,9 @@ impl<A: Array> Clone for TinyVec<A>
 where
     A::Item: Clone,
 {
-    ghost is_clone = { λ v w. AllZip A.Item.is_clone (tiny_items v) (tiny_items w) };
+    ghost is_clone = { IsTinyClone A.Item.is_clone A.CAPACITY };
 
-    ghost is_infallible = { λ v. IsInline v × All A.Item.is_infallible (tiny_items v ++ tiny_spare v) };
+    ghost is_infallible = { IsTinyInfallible A.Item.is_infallible };
 
     /// A vector of clones, in the same place.
     fn clone(&self) -> Result<Self, AllocError> {

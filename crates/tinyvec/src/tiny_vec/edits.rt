@@ -1,5 +1,5 @@
 //! Items that are pushed, popped, inserted, removed and cut off.
-ghost use Rattle.std.specs.Prelude.{◌≡◌, ◌+◌, ◌-◌, ◌<◌, ◌↔◌, [], ◌∷◌, ◌++◌, take, drop, slice_get, IsSome, IfSome, IsOk, OnOk, OnErr, IfErr, ◌≤◌, if◌then◌else◌, is_ok, insert, remove, slice_index_or, vec_len, vec_capacity, IfOk, OnSome, IfNone};
+ghost use Rattle.std.specs.Prelude.{◌≡◌, ◌+◌, ◌-◌, ◌<◌, ◌↔◌, [], ◌∷◌, ◌++◌, take, drop, slice_get, IsSome, IfSome, IsOk, OnOk, OnErr, IfErr, ◌≤◌, if◌then◌else◌, is_ok, false, insert, remove, slice_index_or, vec_len, vec_capacity, IfOk, OnSome, IfNone};
 ghost use Rattle.tinyvec.specs.TinyVec.{tiny_items, tiny_len, tiny_spare, tiny_capacity, PlaceRule, TinySlotRule, StaysInPlace, Unchanged, is_inline, IsInline};
 ghost use Rattle.tinyvec.specs.Room.{Doubles, RoomGrows};
 ghost use Rattle.std.specs.List.{swap_remove};
@@ -36,6 +36,7 @@ impl<A: Array> TinyVec<A> {
 
         // Where there is room it allocates nothing.
         ensures succeeds { tiny_len self.old < tiny_capacity A.CAPACITY self.old → IsOk result }
+        ensures succeeds_inline { IsInline self.old → tiny_len self.old < A.CAPACITY → IsOk result }
         ensures full { OnErr result (tiny_len self.old ≡ tiny_capacity A.CAPACITY self.old) }
         ensures refused { OnErr result (Unchanged self.old self.new) }
         ensures value_returned { IfErr result (λ refused. refused.0 ≡ x) }
@@ -98,6 +99,7 @@ impl<A: Array> TinyVec<A> {
 
         // Where there is room it allocates nothing.
         ensures succeeds { tiny_len self.old < tiny_capacity A.CAPACITY self.old → IsOk result }
+        ensures succeeds_inline { IsInline self.old → tiny_len self.old < A.CAPACITY → IsOk result }
         ensures full { OnErr result (tiny_len self.old ≡ tiny_capacity A.CAPACITY self.old) }
         ensures refused { OnErr result (Unchanged self.old self.new) }
         ensures value_returned { IfErr result (λ refused. refused.0 ≡ x) }
@@ -185,6 +187,7 @@ impl<A: Array> TinyVec<A> {
         ensures tail_place { IfOk result (λ v. is_inline v ≡ is_inline self.old) }
         ensures tail_spare { IfOk result (λ v. IsInline v
             → AreDefaults A.Item.is_default (A.CAPACITY - (tiny_len self.old - at)) (tiny_spare v)) }
+        ensures tail_room { IfOk result (λ v. is_inline v ≡ false → tiny_capacity A.CAPACITY v ≡ tiny_len v) }
         ensures tail_fits { IfOk result (λ v. tiny_len v ≤ tiny_capacity A.CAPACITY v) }
         ensures succeeds { IsInline self.old → IsOk result }
         ensures succeeds_at_the_end { at ≡ tiny_len self.old → IsOk result }
@@ -193,8 +196,10 @@ impl<A: Array> TinyVec<A> {
         match self {
             TinyVec::Inline(v, alloc) => Ok(TinyVec::Inline(v.split_off(at), *alloc)),
             TinyVec::Heap(v) => {
-                let back = v.split_off(at)?;
-                Ok(TinyVec::Heap(back))
+                let mut back = TinyVec::Heap(Vec::with_capacity(*v.allocator(), v.len() - at)?);
+                back.push_taken(&mut v.as_mut_slice()[at..]);
+                v.truncate(at);
+                Ok(back)
             }
         }
     }

@@ -124,7 +124,7 @@ impl<A: Array> TinyVec<A> {
     }
 
     // Moves the items of `from` to a list that has room, and leaves defaults.
-    fn push_taken(&mut self, from: &mut [A::Item])
+    pub(crate) fn push_taken(&mut self, from: &mut [A::Item])
         requires { tiny_len self.old + length from.old ≤ tiny_capacity A.CAPACITY self.old }
         ensures items { tiny_items self.new ≡ tiny_items self.old ++ from.old }
         ensures spare { tiny_spare self.new ≡ drop (length from.old) (tiny_spare self.old) }
@@ -144,19 +144,11 @@ impl<A: Array> TinyVec<A> {
         ensures items { tiny_items self.new ≡ tiny_items self.old ++ tiny_items other.old }
         ensures spare { tiny_spare self.new ≡ drop (tiny_len other.old) (tiny_spare self.old) }
         ensures place { is_inline self.new ≡ is_inline self.old }
-        ensures capacity { tiny_capacity A.CAPACITY self.old ≤ tiny_capacity A.CAPACITY self.new }
+        ensures capacity { tiny_capacity A.CAPACITY self.new ≡ tiny_capacity A.CAPACITY self.old }
         ensures fits { tiny_len self.new ≤ tiny_capacity A.CAPACITY self.new }
-        ensures same_room { IsInline other.old
-            → tiny_capacity A.CAPACITY self.new ≡ tiny_capacity A.CAPACITY self.old }
         ensures other_items { tiny_items other.new ≡ [] }
         ensures other_frame { StaysInPlace A.Item.is_default A.CAPACITY other.old other.new }
     {
-        if let TinyVec::Heap(v) = self {
-            if let TinyVec::Heap(w) = other {
-                let _room_was_there = v.append(w);
-                return;
-            }
-        }
         self.push_taken(other.as_mut_slice());
         other.clear();
     }
@@ -167,12 +159,8 @@ impl<A: Array> TinyVec<A> {
         ensures items { OnOk result (tiny_items self.new ≡ tiny_items self.old ++ tiny_items other.old) }
         ensures place { OnOk result (PlaceRule A.CAPACITY (tiny_len self.old + tiny_len other.old) self.old self.new) }
         ensures slots { TinySlotRule A.Item.is_default self.old self.new }
-        ensures capacity { tiny_capacity A.CAPACITY self.old ≤ tiny_capacity A.CAPACITY self.new }
-        ensures fits { tiny_len self.new ≤ tiny_capacity A.CAPACITY self.new }
-
-        // `Vec::append` promises no upper bound.
-        ensures grown { IsInline other.old
-            → OnOk result (GrowsFor A.CAPACITY (tiny_len self.old + tiny_len other.old) self.old self.new) }
+        ensures room { RoomGrows GrowsFor A.CAPACITY (tiny_len self.old + tiny_len other.old)
+            self.old self.new result }
         ensures other_items { OnOk result (tiny_items other.new ≡ []) }
         ensures other_frame { StaysInPlace A.Item.is_default A.CAPACITY other.old other.new }
 

@@ -1,8 +1,8 @@
 //! Keeping some of the items, by the filters of the array or of the `Vec`.
-ghost use Rattle.std.specs.Prelude.{◌≡◌, ◌≤◌};
-ghost use Rattle.std.specs.Fn.{CalledAt, CalledAtMut, CalledAtPairMut, ComparesKeys};
+ghost use Rattle.std.specs.Prelude.{◌≡◌, ◌-◌, ◌≤◌, slice_get, Some};
+ghost use Rattle.std.specs.Fn.{FnOnceTakesAtMut, CalledAt, CalledAtMut, CalledAtPairMut, ComparesKeys};
 ghost use Rattle.std.specs.List.{dedup as dedup_list};
-ghost use Rattle.std.specs.List.Retain.{IsFiltered, RetainsInTurn, IsDeduped};
+ghost use Rattle.std.specs.List.Retain.{IsFiltered, RetainsInTurn, IsDeduped, PopsIf};
 ghost use Rattle.tinyvec.specs.TinyVec.{tiny_items, tiny_len, StaysInPlace};
 
 use crate::TinyVec;
@@ -73,5 +73,17 @@ impl<A: Array> TinyVec<A> {
             TinyVec::Inline(v, _) => v.dedup_by_key(key),
             TinyVec::Heap(v) => v.dedup_by_key(key),
         }
+    }
+
+    /// Calls `predicate` on the last item, and removes and returns the item if it returns `true`. Otherwise the item stays, as
+    /// `predicate` left it. Of an empty list nothing is called.
+    pub fn pop_if<F: FnOnce(&mut A::Item) -> bool>(&mut self, predicate: F) -> Option<A::Item>
+        requires { (x : A.Item) → slice_get (tiny_items self.old) (tiny_len self.old - 1) ≡ Some x
+            → FnOnceTakesAtMut F.FnOnce predicate x }
+        ensures popped { PopsIf F.FnOnce (tiny_items self.old) (tiny_items self.new) predicate result }
+        ensures bound { tiny_len self.new ≤ tiny_len self.old }
+        ensures frame { StaysInPlace A.Item.is_default A.CAPACITY self.old self.new }
+    {
+        tinyvec_slots::pop_if(self, predicate)
     }
 }

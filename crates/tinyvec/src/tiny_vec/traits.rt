@@ -1,5 +1,5 @@
 //! Comparisons, hashes, texts, writers, indexing and iteration.
-ghost use Rattle.std.specs.Prelude.{◌≡◌, ◌<◌, slice_index_or, ◌^◌, List, length, true, false, ◌+◌, ◌≤◌, Some, IfOk, IsOk, OnOk, OnErr};
+ghost use Rattle.std.specs.Prelude.{◌≡◌, ◌<◌, slice_index_or, ◌^◌, List, length, true, false, ◌+◌, ◌++◌, ◌≤◌, Some, IfOk, IfErr, IsOk, OnOk, OnErr};
 ghost use Rattle.std.specs.Borrow.{sem};
 ghost use Rattle.tinyvec.specs.TinyVec.{tiny_items, tiny_len, tiny_capacity, PlaceRule, TinySlotRule, Unchanged};
 ghost use Rattle.std.specs.Slice.Iter.{iter_rest, iter_mut_rest, iter_steps, iter_mut_steps};
@@ -12,11 +12,14 @@ ghost use Rattle.std.specs.Hash.{on_Alike, items_Alike};
 ghost use Rattle.std.specs.Fmt.{DisplaysOnOk, debug_list};
 ghost use Rattle.tinyvec_slots.specs.Texts.{list_in_radix};
 ghost use Rattle.std.specs.Io.{WritesAtMost};
+ghost use Rattle.std.specs.IoError.{error_kind};
+ghost use Rattle.std.specs.declared.io.ErrorKind.TheVariants.{OutOfMemory};
 ghost use Rattle.std.specs.Io.KnownBytes.{Keeps, WriteAppends};
-ghost use Rattle.tinyvec.specs.Room.{GrowsFor, RoomGrows};
+ghost use Rattle.tinyvec.specs.Room.{GrowsFor, RoomGrows, Grows, Collects};
 ghost use Rattle.std.specs.Hash as fed;
 
 use crate::{TinyVec, TinyVecIterator};
+use std::alloc::{AllocError, Global};
 use std::cmp::Ordering;
 use std::fmt::HasDigits;
 use std::hash::{Hash, Hasher};
@@ -127,6 +130,34 @@ impl<A: Array> IntoIterator for TinyVec<A> {
         ensures into_iter_gives { IteratesOver (tiny_items self) result }
     {
         TinyVecIterator::over(self)
+    }
+}
+
+impl<A: Array> FromIterator<A::Item> for TinyVec<A> {
+    type Alloc = Global;
+
+    ghost from_iter_gives = { Collects A.Item.is_default A.CAPACITY };
+
+    /// `TinyVec::from_iter`, which drops what a refusal leaves: for `collect`.
+    fn from_iter<I: IntoIterator<Item = A::Item>>(
+        alloc: Global,
+        iter: I,
+    ) -> Result<Self, AllocError> {
+        match Self::from_iter(alloc, iter) {
+            Ok(vec) => Ok(vec),
+            Err(_) => Err(AllocError),
+        }
+    }
+}
+
+impl<A: Array> Extend<A::Item> for TinyVec<A> {
+    ghost extend_gives = { λ v xs w. (tiny_items w ≡ tiny_items v ++ xs)
+        × Grows A.Item.is_default A.CAPACITY v w };
+
+    /// `TinyVec::extend`, which drops what found no room and the rest of the iterator: for `try_collect` and `partition`.
+    fn extend<I: IntoIterator<Item = A::Item>>(&mut self, iter: I) -> Result<(), AllocError> {
+        self.extend(iter)?;
+        Ok(())
     }
 }
 
@@ -276,6 +307,7 @@ impl<A: Array<Item = u8>> io::Write for TinyVec<A> {
         ensures succeeds { tiny_len self.old + length buf.now ≤ tiny_capacity A.CAPACITY self.old → IsOk result }
         ensures room { RoomGrows GrowsFor A.CAPACITY (tiny_len self.old + length buf.now) self.old self.new result }
         ensures refused { OnErr result (Unchanged self.old self.new) }
+        ensures kind { IfErr result (λ e. error_kind e ≡ OutOfMemory) }
     {
         self.extend_from_slice(buf)?;
         Ok(buf.len())

@@ -1,5 +1,5 @@
 //! Copies and clones.
-ghost use Rattle.std.specs.Prelude.{◌≡◌, ◌≤◌, ℕ, All, min, length, IfOk, OnOk, OnErr, IsOk, ⊤};
+ghost use Rattle.std.specs.Prelude.{◌≡◌, ◌≤◌, ℕ, All, min, IfOk, OnOk, OnErr, IsOk, ⊤};
 ghost use Rattle.tinyvec_slots.specs.Slots.{items, spare, items_len, all_slots, SlotRule};
 ghost use Rattle.std.specs.List.{AllZip};
 ghost use Rattle.tinyvec_slots.specs.Clones.{RefusedAt, ClonesAreEqual, ClonesInPart};

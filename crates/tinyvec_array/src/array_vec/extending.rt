@@ -3,13 +3,15 @@ ghost use Rattle.std.specs.Prelude.{◌≡◌, ◌+◌, ◌-◌, ◌≤◌, ◌+
 ghost use Rattle.std.specs.List.{AppendsClones, AppendsResults};
 ghost use Rattle.tinyvec_slots.specs.Slots.{items, spare, items_len, AreDefaults, Vacates, SlotRule};
 ghost use Rattle.tinyvec_slots.specs.Clones.{RefusedAt, ClonesAreEqual, ClonesOver};
+ghost use Rattle.tinyvec_slots.specs.Cut.{IsRangeOf, removed};
 ghost use Rattle.std.specs.Iterator.{Drains, YieldsThen};
-ghost use Rattle.tinyvec_slots.specs.Filling.{YieldsUpTo, ShowsItems, IntoIterYields, AppendsResultsTo};
+ghost use Rattle.tinyvec_slots.specs.Filling.{YieldsUpTo, ShowsItems, IntoIterYields};
 
 use crate::{Array, ArrayVec, FromIterRest, NoMemory, NoRoom};
 use std::alloc::AllocError;
 use std::mem;
-use tinyvec_slots::{InSlots, clone_over_from, fill_clones};
+use std::ops::RangeBounds;
+use tinyvec_slots::{InSlots, clone_over_from, clone_within, fill_clones, resolve_range};
 
 impl<A: Array> ArrayVec<A> {
     /// Appends clones of the slice's items. Only clones allocate.
@@ -49,6 +51,43 @@ impl<A: Array> ArrayVec<A> {
         let end = len + other.len();
         self.array.as_slice_mut()[len..end].copy_from_slice(other);
         self.len = end;
+    }
+
+    /// Appends clones of the items of the range. Only clones allocate.
+    ///
+    /// `not_exhausted` fails only for a `RangeInclusive` that was iterated to its end.
+    pub fn extend_from_within<R: RangeBounds<usize>>(&mut self, range: R) -> Result<(), AllocError>
+    where
+        A::Item: Clone,
+        requires not_exhausted { R.has_bounds range }
+        requires in_list { IsRangeOf (items self.old) (R.start_bound range) (R.end_bound range) }
+        requires room { length (removed (items self.old) (R.start_bound range) (R.end_bound range))
+            ≤ A.CAPACITY - items_len self.old }
+        ensures items { OnOk result (AppendsClones A.Item.is_clone (items self.old) (items self.new)
+            (removed (items self.old) (R.start_bound range) (R.end_bound range))) }
+        ensures len { OnOk result (items_len self.new ≡ items_len self.old
+            + length (removed (items self.old) (R.start_bound range) (R.end_bound range))) }
+        ensures if_clones_equal { OnOk result (ClonesAreEqual A.Item.is_clone → items self.new
+            ≡ items self.old ++ removed (items self.old) (R.start_bound range) (R.end_bound range)) }
+        ensures spare { OnOk result (spare self.new
+            ≡ drop (length (removed (items self.old) (R.start_bound range) (R.end_bound range))) (spare self.old)) }
+        ensures kept { OnErr result (items self.new ≡ items self.old) }
+        ensures fits { items_len self.new ≤ A.CAPACITY }
+
+        // The first `j` spare slots hold the clones made.
+        ensures refused { OnErr result ((j : ℕ)
+            × RefusedAt A.Item.is_infallible (removed (items self.old) (R.start_bound range) (R.end_bound range)) j
+            × ClonesOver A.Item.is_clone
+            (take j (removed (items self.old) (R.start_bound range) (R.end_bound range))) j
+            (spare self.old) (spare self.new)) }
+        ensures succeeds { All A.Item.is_infallible
+            (removed (items self.old) (R.start_bound range) (R.end_bound range)) → IsOk result }
+    {
+        let len = self.len();
+        let part = resolve_range(range, len);
+        clone_within(self.slots_mut(), part.start, part.end, len)?;
+        self.set_len(len + (part.end - part.start));
+        Ok(())
     }
 
     // Moves the items of `from` to the end, and leaves defaults there.
@@ -263,19 +302,6 @@ impl<A: Array> ArrayVec<A> {
         requires room { n ≤ A.CAPACITY }
         requires callable { F.IsAlwaysCallable f }
         ensures items { AppendsResults F.step (take n (items self.old)) (items self.new) f }
-        ensures len { items_len self.new ≡ n }
-        ensures spare { SlotRule A.Item.is_default self.old self.new }
-        ensures fits { items_len self.new ≤ A.CAPACITY }
-    {
-        self.resize_asked(n, &mut f);
-    }
-
-    // `resize_with`, and the state in which the last call leaves `f`.
-    fn resize_asked<F: FnMut() -> A::Item>(&mut self, n: usize, f: &mut F)
-        requires room { n ≤ A.CAPACITY }
-        requires callable { F.IsAlwaysCallable f.old }
-        ensures items { AppendsResults F.step (take n (items self.old)) (items self.new) f.old }
-        ensures asked { AppendsResultsTo F.step (take n (items self.old)) (items self.new) f.old f.new }
         ensures len { items_len self.new ≡ n }
         ensures spare { SlotRule A.Item.is_default self.old self.new }
         ensures fits { items_len self.new ≤ A.CAPACITY }

@@ -1,8 +1,8 @@
 //! Keeping some of the items. The loops are in `tinyvec_slots`, over `CanCut`, implemented in `splice.rt`.
-ghost use Rattle.std.specs.Prelude.{◌≡◌, ◌-◌, ◌≤◌};
-ghost use Rattle.std.specs.Fn.{CalledAt, CalledAtMut, CalledAtPairMut, ComparesKeys};
+ghost use Rattle.std.specs.Prelude.{◌≡◌, ◌-◌, ◌≤◌, slice_get, Some};
+ghost use Rattle.std.specs.Fn.{FnOnceTakesAtMut, CalledAt, CalledAtMut, CalledAtPairMut, ComparesKeys};
 ghost use Rattle.std.specs.List.{dedup as dedup_list};
-ghost use Rattle.std.specs.List.Retain.{IsFiltered, RetainsInTurn, IsDeduped};
+ghost use Rattle.std.specs.List.Retain.{IsFiltered, RetainsInTurn, IsDeduped, PopsIf};
 ghost use Rattle.tinyvec_slots.specs.Slots.{items, items_len, Vacates};
 
 use crate::{Array, ArrayVec};
@@ -66,5 +66,18 @@ impl<A: Array> ArrayVec<A> {
         ensures spare { Vacates A.Item.is_default (items_len self.old - items_len self.new) self.old self.new }
     {
         tinyvec_slots::dedup_by_key(self, &mut key);
+    }
+
+    /// Calls `predicate` on the last item, and takes the item if it returns `true`. Otherwise the item stays, as `predicate`
+    /// left it. Of an empty list nothing is called.
+    pub fn pop_if<F: FnOnce(&mut A::Item) -> bool>(&mut self, predicate: F) -> Option<A::Item>
+        requires { (x : A.Item) → slice_get (items self.old) (items_len self.old - 1) ≡ Some x
+            → FnOnceTakesAtMut F.FnOnce predicate x }
+        ensures popped { PopsIf F.FnOnce (items self.old) (items self.new) predicate result }
+        ensures bound { items_len self.new ≤ items_len self.old }
+        ensures fits { items_len self.new ≤ A.CAPACITY }
+        ensures spare { Vacates A.Item.is_default (items_len self.old - items_len self.new) self.old self.new }
+    {
+        tinyvec_slots::pop_if(self, predicate)
     }
 }

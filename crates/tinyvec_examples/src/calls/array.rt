@@ -1,5 +1,5 @@
 //! Callers of an `ArrayVec`.
-ghost use Rattle.std.specs.Prelude.{◌≡◌, ◌≢◌, ◌+◌, ◌-◌, ◌<◌, ◌≤◌, ◌∷◌, [], ◌++◌, ◌↔◌, ◌==◌, length, take, pos, IsTrue, IsOk, IsSome, OnOk, OnErr, IfOk, IfNone, if◌then◌else◌, is_ok};
+ghost use Rattle.std.specs.Prelude.{◌≡◌, ◌≢◌, ◌+◌, ◌<◌, ◌≤◌, ◌∷◌, [], ◌++◌, ◌↔◌, ◌==◌, length, take, pos, IsTrue, IsOk, IsSome, OnOk, OnErr, IfOk, IfSome, IfNone, All, true, ◌-◌, if◌then◌else◌, is_ok};
 ghost use Rattle.tinyvec_array.specs.Slots.{items, spare, items_len};
 
 use std::alloc::{AllocError, Global};
@@ -302,6 +302,49 @@ pub fn taken_at(v: &mut ArrayVec<[u32; 4]>, i: usize) -> Option<u32>
     ensures { IsSome result ↔ (i < items_len v.old) }
 {
     v.pop_at(i)
+}
+
+/// The last counter lowered by one, and taken out once it is 0. The closure may subtract, since no counter is 0.
+pub fn count_down(v: &mut ArrayVec<[u32; 4]>) -> Option<u32>
+    requires { All (λ x. 0 < x) (items v.old) }
+    ensures taken { IfSome result (λ x. (x ≡ 0) × (items v.old ≡ items v.new ++ 1 ∷ [])) }
+    ensures kept { All (λ x. 0 < x) (items v.new) }
+{
+    v.pop_if(|count| {
+        *count -= 1;
+        *count == 0
+    })
+}
+
+/// The last item of any vector, taken out if it equals `x`.
+pub fn pop_equal<A: Array>(v: &mut ArrayVec<A>, x: &A::Item) -> Option<A::Item>
+where
+    A::Item: PartialEq,
+    ensures { IfSome result (λ y. (items v.old ≡ items v.new ++ y ∷ []) × (A.Item.eq y x.now ≡ true)) }
+{
+    v.pop_if(|y| *y == *x)
+}
+
+/// The items of any vector from `n` on, cloned to its end.
+pub fn repeat_from<A: Array>(v: &mut ArrayVec<A>, n: usize) -> Result<(), AllocError>
+where
+    A::Item: Clone,
+    requires in_list { n ≤ items_len v.old }
+    requires room { items_len v.old - n ≤ A.CAPACITY - items_len v.old }
+    ensures { OnOk result (items_len v.new ≡ items_len v.old + (items_len v.old - n)) }
+{
+    v.extend_from_within(n..)
+}
+
+/// The second and third number once more, which takes no memory.
+pub fn repeated() -> ArrayVec<[i32; 6]>
+    ensures { items result ≡ pos 1 ∷ pos 2 ∷ pos 3 ∷ pos 4 ∷ pos 2 ∷ pos 3 ∷ [] }
+{
+    let mut v = ArrayVec::from_array_len([1, 2, 3, 4, 0, 0], 4);
+    match v.extend_from_within(1..3) {
+        Ok(()) => v,
+        Err(_) => unreachable!(),
+    }
 }
 
 /// Numbers appended where all of them fit. Else nothing changes.

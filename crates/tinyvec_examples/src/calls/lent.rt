@@ -1,7 +1,8 @@
 //! Callers of a `SliceVec`.
-ghost use Rattle.std.specs.Prelude.{◌≡◌, ◌+◌, ◌<◌, ◌≤◌, ◌↔◌, length, IsTrue, IsSome};
+ghost use Rattle.std.specs.Prelude.{◌≡◌, ◌+◌, ◌-◌, ◌<◌, ◌≤◌, ◌↔◌, ◌∷◌, [], ◌++◌, length, IsTrue, IsSome, IfSome, OnOk};
 ghost use Rattle.tinyvec_slice.specs.SliceVec.{items, spare, slots};
 
+use std::alloc::AllocError;
 use tinyvec_slice::SliceVec;
 
 /// The first item.
@@ -71,4 +72,30 @@ pub fn left(v: &SliceVec<'_, u8>) -> usize
 /// The last item, as of a slice.
 pub fn last(v: &SliceVec<'_, u8>) -> Option<u8> {
     v.last().copied()
+}
+
+/// Two numbers appended. As many slots are lent as before.
+pub fn push_two(v: &mut SliceVec<'_, u8>, a: u8, b: u8)
+    requires { 1 < length (spare v.old) }
+    ensures { length (slots v.new) ≡ length (slots v.old) }
+{
+    v.push(a);
+    v.push(b);
+}
+
+/// The last number, taken out if it is below a limit.
+pub fn popped_below(v: &mut SliceVec<'_, u8>, limit: u8) -> Option<u8>
+    ensures taken { IfSome result (λ x. (items v.old ≡ items v.new ++ x ∷ []) × (x < limit)) }
+    ensures slots { length (slots v.new) ≡ length (slots v.old) }
+{
+    v.pop_if(|x| *x < limit)
+}
+
+/// The numbers from `n` on, once more.
+pub fn repeat_from(v: &mut SliceVec<'_, u8>, n: usize) -> Result<(), AllocError>
+    requires in_list { n ≤ length (items v.old) }
+    requires room { length (items v.old) - n ≤ length (spare v.old) }
+    ensures { OnOk result (length (items v.new) ≡ length (items v.old) + (length (items v.old) - n)) }
+{
+    v.extend_from_within(n..)
 }

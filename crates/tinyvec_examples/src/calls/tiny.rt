@@ -1,5 +1,5 @@
 //! Callers of a `TinyVec`.
-ghost use Rattle.std.specs.Prelude.{◌≡◌, ◌≢◌, ◌+◌, ◌-◌, ◌<◌, ◌≤◌, ◌∷◌, [], ◌++◌, ◌↔◌, length, take, insert, remove, pos, false, IsTrue, IsSome, IsOk, OnOk, OnErr, IfOk};
+ghost use Rattle.std.specs.Prelude.{◌≡◌, ◌≢◌, ◌+◌, ◌-◌, ◌<◌, ◌≤◌, ◌∷◌, [], ◌++◌, ◌↔◌, length, take, insert, remove, pos, false, IsTrue, IsSome, IsOk, OnOk, OnErr, IfOk, IfSome, IfNone};
 ghost use Rattle.std.specs.Box.{boxed_slice_items};
 ghost use Rattle.tinyvec_array.specs.Slots.{items};
 ghost use Rattle.tinyvec.specs.TinyVec.{tiny_items, tiny_len, tiny_capacity, is_inline, IsInline, Unchanged};
@@ -342,6 +342,21 @@ pub fn taken_at(v: &mut TinyVec<[u32; 4]>, i: usize) -> Option<u32>
     ensures { IsSome result ↔ (i < tiny_len v.old) }
 {
     v.pop_at(i)
+}
+
+/// The last number, taken out if it is below a limit. Otherwise nothing changes.
+pub fn popped_below(v: &mut TinyVec<[u32; 4]>, limit: u32) -> Option<u32>
+    ensures taken { IfSome result (λ x. (tiny_items v.old ≡ tiny_items v.new ++ x ∷ []) × (x < limit)) }
+    ensures kept { IfNone result (tiny_items v.new ≡ tiny_items v.old) }
+{
+    v.pop_if(|x| *x < limit)
+}
+
+/// The last item of any vector, taken out whatever it is.
+pub fn popped<A: Array>(v: &mut TinyVec<A>) -> Option<A::Item>
+    ensures { IsSome result ↔ (0 < tiny_len v.old) }
+{
+    v.pop_if(|_| true)
 }
 
 /// The items that are left, twice.

@@ -4,7 +4,7 @@ ghost use Rattle.std.specs.List.{AllByRecursion};
 ghost use Rattle.std.specs.Io.{ReadsAtMost};
 ghost use Rattle.std.specs.Io.KnownBytes.{Keeps, Consumes, IsAtEnd, ReadConsumes};
 ghost use Rattle.std.specs.IoError.{error_kind};
-ghost use Rattle.tinyvec_io.specs.Counted.{faults_after, Reported};
+ghost use Rattle.tinyvec_io.specs.Counted.{ConsumesFront, faults_after, Reported};
 
 use super::Counted;
 use std::io;
@@ -54,12 +54,15 @@ impl<R: Read> Counted<R> {
     }
 
     /// Reads until the buffer is full or the input ends, and returns the number of bytes read. Retries after an
-    /// interruption.
+    /// interruption. If it fails, what was read before is at the front of the buffer.
     pub fn fill(&mut self, buf: &mut [u8]) -> io::Result<usize>
         ensures bound { ReadsAtMost result buf.new }
         ensures bytes { IfOk result (λ n. Consumes (R.remaining self.old.inner)
             (R.remaining self.new.inner) (take n buf.new)) }
         ensures end { IfOk result (λ n. n < length buf.new → IsAtEnd (R.remaining self.new.inner)) }
+        ensures err { OnErr result (ConsumesFront (R.remaining self.old.inner)
+            (R.remaining self.new.inner) buf.new) }
+        ensures retried { IfErr result (λ e. error_kind e ≢ ErrorKind.Interrupted) }
         ensures small { IfOk result (λ n. AllByRecursion (λ byte. byte < 256) (take n buf.new)) }
         ensures grows { self.old.faults ≤ self.new.faults }
         ensures fault { OnErr result (Reported self.old.faults self.new.faults) }

@@ -1,6 +1,6 @@
 //! Items that are pushed, popped, inserted, removed and cut off.
 ghost use Rattle.std.specs.Prelude.{◌≡◌, ◌-◌, ◌<◌, ◌↔◌, [], ◌∷◌, ◌++◌, length, take, drop, slice_get, slice_index_or, IsSome, OnSome, IfNone, IfSome, ◌≤◌, remove, insert};
-ghost use Rattle.tinyvec_slice.specs.SliceVec.{items_of, spare_of, name_of, len_of, VacatesOf, items, spare};
+ghost use Rattle.tinyvec_slice.specs.SliceVec.{items_of, spare_of, slots_of, name_of, len_of, VacatesOf, items, spare};
 ghost use Rattle.std.specs.List.{swap_remove, SwappedAt};
 
 use crate::{GenericSliceVec, Lent, SliceVec};
@@ -12,6 +12,7 @@ impl<B: Lent> GenericSliceVec<B> {
     pub fn push(&mut self, x: B::Item)
         requires { 0 < length (spare_of B.Lent self.old) }
         ensures same_reference { name_of B.Lent self.new ≡ name_of B.Lent self.old }
+        ensures slot_count { length (slots_of B.Lent self.new) ≡ length (slots_of B.Lent self.old) }
         ensures items { items_of B.Lent self.new ≡ items_of B.Lent self.old ++ x ∷ [] }
         ensures spare { spare_of B.Lent self.new ≡ drop 1 (spare_of B.Lent self.old) }
     {
@@ -25,6 +26,7 @@ impl<B: Lent> GenericSliceVec<B> {
         requires in_list { i ≤ len_of B.Lent self.old }
         requires room { 0 < length (spare_of B.Lent self.old) }
         ensures same_reference { name_of B.Lent self.new ≡ name_of B.Lent self.old }
+        ensures slot_count { length (slots_of B.Lent self.new) ≡ length (slots_of B.Lent self.old) }
         ensures items { items_of B.Lent self.new ≡ insert (items_of B.Lent self.old) i x }
         ensures spare { spare_of B.Lent self.new ≡ drop 1 (spare_of B.Lent self.old) }
     {
@@ -44,6 +46,7 @@ impl<B: Lent> GenericSliceVec<B> {
         requires first { i < len_of B.Lent self.old }
         requires second { j < len_of B.Lent self.old }
         ensures same_reference { name_of B.Lent self.new ≡ name_of B.Lent self.old }
+        ensures slot_count { length (slots_of B.Lent self.new) ≡ length (slots_of B.Lent self.old) }
         ensures swapped { SwappedAt (items_of B.Lent self.old) (items_of B.Lent self.new) i j }
         ensures len { len_of B.Lent self.new ≡ len_of B.Lent self.old }
         ensures spare { spare_of B.Lent self.new ≡ spare_of B.Lent self.old }
@@ -59,6 +62,7 @@ where
     /// Removes the last item and returns it. Its slot is reset to a default.
     pub fn pop(&mut self) -> Option<B::Item>
         ensures same_reference { name_of B.Lent self.new ≡ name_of B.Lent self.old }
+        ensures slot_count { length (slots_of B.Lent self.new) ≡ length (slots_of B.Lent self.old) }
         ensures variant { IsSome result ↔ (0 < len_of B.Lent self.old) }
         ensures some { IfSome result (λ x. items_of B.Lent self.old ≡ items_of B.Lent self.new ++ x ∷ []) }
         ensures value { result ≡ slice_get (items_of B.Lent self.old) (len_of B.Lent self.old - 1) }
@@ -76,6 +80,7 @@ where
     pub(crate) fn take_last(&mut self) -> B::Item
         requires { 0 < len_of B.Lent self.old }
         ensures same_reference { name_of B.Lent self.new ≡ name_of B.Lent self.old }
+        ensures slot_count { length (slots_of B.Lent self.new) ≡ length (slots_of B.Lent self.old) }
         ensures items { items_of B.Lent self.old ≡ items_of B.Lent self.new ++ result ∷ [] }
         ensures rest { items_of B.Lent self.new ≡ take (len_of B.Lent self.old - 1) (items_of B.Lent self.old) }
         ensures value { result ≡ slice_index_or (items_of B.Lent self.old) (len_of B.Lent self.old - 1) result }
@@ -95,6 +100,7 @@ where
     pub fn remove(&mut self, i: usize) -> B::Item
         requires { i < len_of B.Lent self.old }
         ensures same_reference { name_of B.Lent self.new ≡ name_of B.Lent self.old }
+        ensures slot_count { length (slots_of B.Lent self.new) ≡ length (slots_of B.Lent self.old) }
         ensures value { result ≡ slice_index_or (items_of B.Lent self.old) i result }
         ensures items { items_of B.Lent self.new ≡ remove (items_of B.Lent self.old) i }
         ensures spare { VacatesOf B.Lent B.Item.is_default 1 self.old self.new }
@@ -113,6 +119,7 @@ where
     pub fn swap_remove(&mut self, i: usize) -> B::Item
         requires { i < len_of B.Lent self.old }
         ensures same_reference { name_of B.Lent self.new ≡ name_of B.Lent self.old }
+        ensures slot_count { length (slots_of B.Lent self.new) ≡ length (slots_of B.Lent self.old) }
         ensures value { result ≡ slice_index_or (items_of B.Lent self.old) i result }
         ensures items { items_of B.Lent self.new ≡ swap_remove (items_of B.Lent self.old) i result }
         ensures spare { VacatesOf B.Lent B.Item.is_default 1 self.old self.new }
@@ -130,6 +137,7 @@ where
     /// Keeps the first `n` items, or all if there are no more. Each vacated slot is reset to a default.
     pub fn truncate(&mut self, n: usize)
         ensures same_reference { name_of B.Lent self.new ≡ name_of B.Lent self.old }
+        ensures slot_count { length (slots_of B.Lent self.new) ≡ length (slots_of B.Lent self.old) }
         ensures items { items_of B.Lent self.new ≡ take n (items_of B.Lent self.old) }
         ensures spare { VacatesOf B.Lent B.Item.is_default (len_of B.Lent self.old - n) self.old self.new }
     {
@@ -143,6 +151,7 @@ where
     /// Empties the list. Each vacated slot is reset to a default.
     pub fn clear(&mut self)
         ensures same_reference { name_of B.Lent self.new ≡ name_of B.Lent self.old }
+        ensures slot_count { length (slots_of B.Lent self.new) ≡ length (slots_of B.Lent self.old) }
         ensures items { items_of B.Lent self.new ≡ [] }
         ensures spare { VacatesOf B.Lent B.Item.is_default (len_of B.Lent self.old) self.old self.new }
     {

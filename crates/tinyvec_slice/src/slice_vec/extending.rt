@@ -4,13 +4,15 @@ ghost use Rattle.std.specs.List.{AppendsClones, AppendsResults};
 ghost use Rattle.tinyvec_slots.specs.Clones.{RefusedAt, ClonesAreEqual, ClonesOver, ClonesBefore};
 ghost use Rattle.tinyvec_slice.specs.SliceVec.{items_of, spare_of, name_of, len_of, VacatesOf, slots_of};
 ghost use Rattle.tinyvec_slots.specs.Slots.{AreDefaults};
+ghost use Rattle.tinyvec_slots.specs.Cut.{IsRangeOf, removed};
 ghost use Rattle.std.specs.Iterator.{Drains, YieldsThen};
-ghost use Rattle.tinyvec_slots.specs.Filling.{YieldsUpTo, ShowsItems, IntoIterYields, AppendsResultsTo};
+ghost use Rattle.tinyvec_slots.specs.Filling.{YieldsUpTo, ShowsItems, IntoIterYields};
 
 use crate::{GenericSliceVec, Lent};
 use std::alloc::AllocError;
 use std::mem;
-use tinyvec_slots::{NoMemory, NoRoom, clone_each_from, fill_clones};
+use std::ops::RangeBounds;
+use tinyvec_slots::{NoMemory, NoRoom, clone_each_from, clone_within, fill_clones, resolve_range};
 
 impl<B: Lent> GenericSliceVec<B> {
     /// Appends clones of the slice's items. Only clones allocate.
@@ -19,6 +21,7 @@ impl<B: Lent> GenericSliceVec<B> {
         B::Item: Clone,
         requires room { length other.now ≤ length (spare_of B.Lent self.old) }
         ensures same_reference { name_of B.Lent self.new ≡ name_of B.Lent self.old }
+        ensures slot_count { length (slots_of B.Lent self.new) ≡ length (slots_of B.Lent self.old) }
         ensures items { OnOk result (AppendsClones B.Item.is_clone (items_of B.Lent self.old)
             (items_of B.Lent self.new) other.now) }
         ensures len { OnOk result (len_of B.Lent self.new ≡ len_of B.Lent self.old + length other.now) }
@@ -38,11 +41,52 @@ impl<B: Lent> GenericSliceVec<B> {
         Ok(())
     }
 
+    /// Appends clones of the items of the range. Only clones allocate.
+    ///
+    /// `not_exhausted` fails only for a `RangeInclusive` that was iterated to its end.
+    pub fn extend_from_within<R: RangeBounds<usize>>(&mut self, range: R) -> Result<(), AllocError>
+    where
+        B::Item: Clone,
+        requires not_exhausted { R.has_bounds range }
+        requires in_list { IsRangeOf (items_of B.Lent self.old) (R.start_bound range) (R.end_bound range) }
+        requires room { length (removed (items_of B.Lent self.old) (R.start_bound range) (R.end_bound range))
+            ≤ length (spare_of B.Lent self.old) }
+        ensures same_reference { name_of B.Lent self.new ≡ name_of B.Lent self.old }
+        ensures slot_count { length (slots_of B.Lent self.new) ≡ length (slots_of B.Lent self.old) }
+        ensures items { OnOk result (AppendsClones B.Item.is_clone (items_of B.Lent self.old) (items_of B.Lent self.new)
+            (removed (items_of B.Lent self.old) (R.start_bound range) (R.end_bound range))) }
+        ensures len { OnOk result (len_of B.Lent self.new ≡ len_of B.Lent self.old
+            + length (removed (items_of B.Lent self.old) (R.start_bound range) (R.end_bound range))) }
+        ensures if_clones_equal { OnOk result (ClonesAreEqual B.Item.is_clone
+            → items_of B.Lent self.new ≡ items_of B.Lent self.old
+            ++ removed (items_of B.Lent self.old) (R.start_bound range) (R.end_bound range)) }
+        ensures spare { OnOk result (spare_of B.Lent self.new
+            ≡ drop (length (removed (items_of B.Lent self.old) (R.start_bound range) (R.end_bound range)))
+            (spare_of B.Lent self.old)) }
+        ensures kept { OnErr result (items_of B.Lent self.new ≡ items_of B.Lent self.old) }
+
+        // The first `j` spare slots hold the clones made.
+        ensures refused { OnErr result ((j : ℕ) × RefusedAt B.Item.is_infallible
+            (removed (items_of B.Lent self.old) (R.start_bound range) (R.end_bound range)) j
+            × ClonesOver B.Item.is_clone
+            (take j (removed (items_of B.Lent self.old) (R.start_bound range) (R.end_bound range))) j
+            (spare_of B.Lent self.old) (spare_of B.Lent self.new)) }
+        ensures succeeds { All B.Item.is_infallible
+            (removed (items_of B.Lent self.old) (R.start_bound range) (R.end_bound range)) → IsOk result }
+    {
+        let len = self.len();
+        let part = resolve_range(range, len);
+        clone_within(self.lent.all_mut(), part.start, part.end, len)?;
+        self.len = len + (part.end - part.start);
+        Ok(())
+    }
+
     /// Appends items until the vector is full or there are no more. Returns the rest of the iterator. `next` is never
     /// called on a full vector, so `iter` may be infinite.
     pub fn fill<I: IntoIterator<Item = B::Item>>(&mut self, iter: I) -> I::IntoIter
         requires { (it : I.IntoIter) → I.into_iter_gives iter it → I.IntoIter.can_next it }
         ensures same_reference { name_of B.Lent self.new ≡ name_of B.Lent self.old }
+        ensures slot_count { length (slots_of B.Lent self.new) ≡ length (slots_of B.Lent self.old) }
         ensures ran { (it : I.IntoIter) × (xs : List B.Item) × I.into_iter_gives iter it
             × YieldsUpTo I.IntoIter.next_gives (length (spare_of B.Lent self.old)) it xs result
             × (items_of B.Lent self.new ≡ items_of B.Lent self.old ++ xs) }
@@ -77,6 +121,7 @@ impl<B: Lent> GenericSliceVec<B> {
     ) -> Result<(), NoRoom<B::Item, I::IntoIter>>
         requires { (it : I.IntoIter) → I.into_iter_gives iter it → I.IntoIter.can_next it }
         ensures same_reference { name_of B.Lent self.new ≡ name_of B.Lent self.old }
+        ensures slot_count { length (slots_of B.Lent self.new) ≡ length (slots_of B.Lent self.old) }
         ensures ran { (it : I.IntoIter) × (xs : List B.Item) × I.into_iter_gives iter it
             × MatchResult result (λ _. Drains I.IntoIter.next_gives it xs)
             (λ refused. YieldsThen I.IntoIter.next_gives it xs (Some refused.item) refused.rest)
@@ -119,6 +164,7 @@ impl<B: Lent> GenericSliceVec<B> {
         B::Item: Clone,
         requires in_bounds { n ≤ length (slots_of B.Lent self.old) }
         ensures same_reference { name_of B.Lent self.new ≡ name_of B.Lent self.old }
+        ensures slot_count { length (slots_of B.Lent self.new) ≡ length (slots_of B.Lent self.old) }
         ensures items { OnOk result (AppendsClones B.Item.is_clone (take n (items_of B.Lent self.old))
             (items_of B.Lent self.new) (replicate (n - len_of B.Lent self.old) x)) }
         ensures len { OnOk result (len_of B.Lent self.new ≡ n) }
@@ -164,6 +210,7 @@ impl<B: Lent> GenericSliceVec<B> {
         requires longer { len_of B.Lent self.old ≤ n }
         requires in_bounds { n ≤ length (slots_of B.Lent self.old) }
         ensures same_reference { name_of B.Lent self.new ≡ name_of B.Lent self.old }
+        ensures slot_count { length (slots_of B.Lent self.new) ≡ length (slots_of B.Lent self.old) }
         ensures items { OnOk result (AppendsClones B.Item.is_clone (items_of B.Lent self.old) (items_of B.Lent self.new)
             (replicate (n - len_of B.Lent self.old) x.now)) }
         ensures len { OnOk result (len_of B.Lent self.new ≡ n) }
@@ -186,6 +233,7 @@ impl<B: Lent> GenericSliceVec<B> {
         B::Item: Clone,
         requires shorter { n ≤ len_of B.Lent self.old }
         ensures same_reference { name_of B.Lent self.new ≡ name_of B.Lent self.old }
+        ensures slot_count { length (slots_of B.Lent self.new) ≡ length (slots_of B.Lent self.old) }
         ensures items { OnOk result (items_of B.Lent self.new ≡ take n (items_of B.Lent self.old)) }
         ensures spare { OnOk result (ClonesBefore B.Item.is_clone (replicate (len_of B.Lent self.old - n) x.now)
             (spare_of B.Lent self.old) (spare_of B.Lent self.new)) }
@@ -207,6 +255,7 @@ impl<B: Lent> GenericSliceVec<B> {
         requires room { n ≤ length (slots_of B.Lent self.old) }
         requires callable { F.IsAlwaysCallable f }
         ensures same_reference { name_of B.Lent self.new ≡ name_of B.Lent self.old }
+        ensures slot_count { length (slots_of B.Lent self.new) ≡ length (slots_of B.Lent self.old) }
         ensures len { len_of B.Lent self.new ≡ n }
         ensures grown { len_of B.Lent self.old ≤ n
             → AppendsResults F.step (items_of B.Lent self.old) (items_of B.Lent self.new) f
@@ -215,27 +264,11 @@ impl<B: Lent> GenericSliceVec<B> {
             × ((ys : List B.Item) × AppendsResults F.step [] ys f × (length ys ≡ len_of B.Lent self.old - n)
             × (spare_of B.Lent self.new ≡ reverse ys ++ spare_of B.Lent self.old)) }
     {
-        self.resize_asked(n, &mut f);
-    }
-
-    // `resize_with`, and the state in which the last call leaves `f`.
-    fn resize_asked<F: FnMut() -> B::Item>(&mut self, n: usize, f: &mut F)
-        requires room { n ≤ length (slots_of B.Lent self.old) }
-        requires callable { F.IsAlwaysCallable f.old }
-        ensures same_reference { name_of B.Lent self.new ≡ name_of B.Lent self.old }
-        ensures len { len_of B.Lent self.new ≡ n }
-        ensures grown { len_of B.Lent self.old ≤ n
-            → AppendsResultsTo F.step (items_of B.Lent self.old) (items_of B.Lent self.new) f.old f.new
-            × (spare_of B.Lent self.new ≡ drop (n - len_of B.Lent self.old) (spare_of B.Lent self.old)) }
-        ensures cut { n ≤ len_of B.Lent self.old → (items_of B.Lent self.new ≡ take n (items_of B.Lent self.old))
-            × ((ys : List B.Item) × AppendsResultsTo F.step [] ys f.old f.new × (length ys ≡ len_of B.Lent self.old - n)
-            × (spare_of B.Lent self.new ≡ reverse ys ++ spare_of B.Lent self.old)) }
-    {
         if n <= self.len() {
-            self.cut_to_answers(n, f);
+            self.cut_to_answers(n, &mut f);
             return;
         }
-        self.grow_by_answers(n, f);
+        self.grow_by_answers(n, &mut f);
     }
 
     // Fills the list up to `n` items with what `f` returns.
@@ -244,8 +277,9 @@ impl<B: Lent> GenericSliceVec<B> {
         requires room { n ≤ length (slots_of B.Lent self.old) }
         requires callable { F.IsAlwaysCallable f.old }
         ensures same_reference { name_of B.Lent self.new ≡ name_of B.Lent self.old }
+        ensures slot_count { length (slots_of B.Lent self.new) ≡ length (slots_of B.Lent self.old) }
         ensures len { len_of B.Lent self.new ≡ n }
-        ensures items { AppendsResultsTo F.step (items_of B.Lent self.old) (items_of B.Lent self.new) f.old f.new }
+        ensures items { AppendsResults F.step (items_of B.Lent self.old) (items_of B.Lent self.new) f.old }
         ensures spare { spare_of B.Lent self.new ≡ drop (n - len_of B.Lent self.old) (spare_of B.Lent self.old) }
     {
         while self.len() < n {
@@ -258,8 +292,9 @@ impl<B: Lent> GenericSliceVec<B> {
         requires shorter { n ≤ len_of B.Lent self.old }
         requires callable { F.IsAlwaysCallable f.old }
         ensures same_reference { name_of B.Lent self.new ≡ name_of B.Lent self.old }
+        ensures slot_count { length (slots_of B.Lent self.new) ≡ length (slots_of B.Lent self.old) }
         ensures items { items_of B.Lent self.new ≡ take n (items_of B.Lent self.old) }
-        ensures spare { (ys : List B.Item) × AppendsResultsTo F.step [] ys f.old f.new
+        ensures spare { (ys : List B.Item) × AppendsResults F.step [] ys f.old
             × (length ys ≡ len_of B.Lent self.old - n)
             × (spare_of B.Lent self.new ≡ reverse ys ++ spare_of B.Lent self.old) }
     {
@@ -272,6 +307,7 @@ impl<B: Lent> GenericSliceVec<B> {
     fn replace_last(&mut self, x: B::Item)
         requires { 0 < len_of B.Lent self.old }
         ensures same_reference { name_of B.Lent self.new ≡ name_of B.Lent self.old }
+        ensures slot_count { length (slots_of B.Lent self.new) ≡ length (slots_of B.Lent self.old) }
         ensures items { items_of B.Lent self.new ≡ take (len_of B.Lent self.old - 1) (items_of B.Lent self.old) }
         ensures spare { spare_of B.Lent self.new ≡ x ∷ spare_of B.Lent self.old }
     {
@@ -289,6 +325,7 @@ where
     fn push_taken(&mut self, from: &mut [B::Item])
         requires { length from.old ≤ length (spare_of B.Lent self.old) }
         ensures same_reference { name_of B.Lent self.new ≡ name_of B.Lent self.old }
+        ensures slot_count { length (slots_of B.Lent self.new) ≡ length (slots_of B.Lent self.old) }
         ensures items { items_of B.Lent self.new ≡ items_of B.Lent self.old ++ from.old }
         ensures spare { spare_of B.Lent self.new ≡ drop (length from.old) (spare_of B.Lent self.old) }
         ensures left { AreDefaults B.Item.is_default (length from.old) from.new }
@@ -302,6 +339,7 @@ where
     pub fn append(&mut self, other: &mut Self)
         requires { len_of B.Lent other.old ≤ length (spare_of B.Lent self.old) }
         ensures same_reference { name_of B.Lent self.new ≡ name_of B.Lent self.old }
+        ensures slot_count { length (slots_of B.Lent self.new) ≡ length (slots_of B.Lent self.old) }
         ensures items { items_of B.Lent self.new ≡ items_of B.Lent self.old ++ items_of B.Lent other.old }
         ensures spare { spare_of B.Lent self.new ≡ drop (len_of B.Lent other.old) (spare_of B.Lent self.old) }
         ensures other_reference { name_of B.Lent other.new ≡ name_of B.Lent other.old }

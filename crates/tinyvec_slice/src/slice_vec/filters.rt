@@ -1,8 +1,8 @@
 //! Keeping some of the items. The loops are in `tinyvec_slots`, over `CanCut`, implemented in `can_cut.rt`.
-ghost use Rattle.std.specs.Prelude.{◌≡◌, ◌-◌, ◌≤◌};
-ghost use Rattle.std.specs.Fn.{CalledAt};
-ghost use Rattle.std.specs.List.Retain.{IsFiltered};
-ghost use Rattle.tinyvec_slice.specs.SliceVec.{items_of, name_of, len_of, VacatesOf};
+ghost use Rattle.std.specs.Prelude.{◌≡◌, ◌-◌, ◌≤◌, length, slice_get, Some};
+ghost use Rattle.std.specs.Fn.{CalledAt, FnOnceTakesAtMut};
+ghost use Rattle.std.specs.List.Retain.{IsFiltered, PopsIf};
+ghost use Rattle.tinyvec_slice.specs.SliceVec.{items_of, slots_of, name_of, len_of, VacatesOf};
 
 use crate::{GenericSliceVec, Lent};
 
@@ -15,11 +15,26 @@ where
     pub fn retain<F: FnMut(&B::Item) -> bool>(&mut self, mut f: F)
         requires { F.IsAlwaysCallable f }
         ensures same_reference { name_of B.Lent self.new ≡ name_of B.Lent self.old }
+        ensures slot_count { length (slots_of B.Lent self.new) ≡ length (slots_of B.Lent self.old) }
         ensures filtered { IsFiltered (CalledAt F.FnMut) f (items_of B.Lent self.old) (items_of B.Lent self.new) }
         ensures bound { len_of B.Lent self.new ≤ len_of B.Lent self.old }
         ensures spare { VacatesOf B.Lent B.Item.is_default
             (len_of B.Lent self.old - len_of B.Lent self.new) self.old self.new }
     {
         tinyvec_slots::retain(self, &mut f);
+    }
+
+    /// Calls `predicate` on the last item, and takes the item if it returns `true`. Otherwise the item stays, as `predicate`
+    /// left it. Of an empty list nothing is called.
+    pub fn pop_if<F: FnOnce(&mut B::Item) -> bool>(&mut self, predicate: F) -> Option<B::Item>
+        requires { (x : B.Item) → slice_get (items_of B.Lent self.old) (len_of B.Lent self.old - 1) ≡ Some x
+            → FnOnceTakesAtMut F.FnOnce predicate x }
+        ensures same_reference { name_of B.Lent self.new ≡ name_of B.Lent self.old }
+        ensures slot_count { length (slots_of B.Lent self.new) ≡ length (slots_of B.Lent self.old) }
+        ensures popped { PopsIf F.FnOnce (items_of B.Lent self.old) (items_of B.Lent self.new) predicate result }
+        ensures spare { VacatesOf B.Lent B.Item.is_default
+            (len_of B.Lent self.old - len_of B.Lent self.new) self.old self.new }
+    {
+        tinyvec_slots::pop_if(self, predicate)
     }
 }

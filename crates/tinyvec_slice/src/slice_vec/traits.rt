@@ -1,7 +1,7 @@
 //! Comparisons, hashes, texts, writers, indexing and iteration.
 ghost use Rattle.std.specs.Prelude.{◌≡◌, ◌<◌, length, slice_index_or, ◌^◌, true, false, ◌+◌, ◌≤◌, ◌↔◌, ◌++◌, drop, IsOk, OnErr};
 ghost use Rattle.std.specs.Borrow.{sem};
-ghost use Rattle.tinyvec_slice.specs.SliceVec.{items_of, spare_of, slots_of, len_of, items};
+ghost use Rattle.tinyvec_slice.specs.SliceVec.{items_of, spare_of, slots_of, name_of, len_of, items};
 ghost use Rattle.tinyvec_slice.specs.Lends.{lends_items, lends_item};
 ghost use Rattle.std.specs.Slice.Iter.{iter_mut_rest, iter_mut_steps};
 ghost use Rattle.std.specs.Iterator.Runs.{EveryRun, ItemsMapTo};
@@ -67,8 +67,6 @@ impl<B: Lent> PartialEq for GenericSliceVec<B>
 where
     B::Item: PartialEq,
 {
-    ghost use Rattle.tinyvec_slice.specs.SliceVec.{items_of};
-
     ghost eq = { λ v w. pointwise B.Item.eq (items_of B.Lent v) (items_of B.Lent w) };
 
     ghost laws = { on_per (items_of B.Lent) (lists_per B.Item.laws) };
@@ -82,8 +80,6 @@ impl<B: Lent> Eq for GenericSliceVec<B>
 where
     B::Item: Eq,
 {
-    ghost use Rattle.tinyvec_slice.specs.SliceVec.{items_of};
-
     ghost laws = { on_equiv (items_of B.Lent) (lists_equiv B.Item.Eq.laws) };
 }
 
@@ -91,8 +87,6 @@ impl<B: Lent> PartialOrd for GenericSliceVec<B>
 where
     B::Item: PartialOrd,
 {
-    ghost use Rattle.tinyvec_slice.specs.SliceVec.{items_of};
-
     ghost partial_cmp = { λ v w. slice_partial_cmp B.Item.partial_cmp (items_of B.Lent v) (items_of B.Lent w) };
 
     ghost laws = { on_po (items_of B.Lent) (lists_po B.Item.PartialOrd.laws) };
@@ -106,8 +100,6 @@ impl<B: Lent> Ord for GenericSliceVec<B>
 where
     B::Item: Ord,
 {
-    ghost use Rattle.tinyvec_slice.specs.SliceVec.{items_of};
-
     ghost cmp = { λ v w. slice_cmp B.Item.cmp (items_of B.Lent v) (items_of B.Lent w) };
 
     ghost total = { on_total (items_of B.Lent) (lists_total B.Item.total) };
@@ -125,8 +117,6 @@ impl<B: Lent> Hash for GenericSliceVec<B>
 where
     B::Item: Hash,
 {
-    ghost use Rattle.tinyvec_slice.specs.SliceVec.{items_of};
-
     ghost hash_input = { λ v. fed.slice B.Item.hash_input (items_of B.Lent v) };
 
     ghost respects_eq = { (on_Alike (items_of B.Lent) (items_Alike (record { fed = B.Item.respects_eq }))).fed };
@@ -140,8 +130,6 @@ impl<B: Lent> fmt::Debug for GenericSliceVec<B>
 where
     B::Item: fmt::Debug,
 {
-    ghost use Rattle.tinyvec_slice.specs.SliceVec.{items_of};
-
     ghost debug_output = { λ v. debug_list B.Item.debug_output (items_of B.Lent v) };
 
     fn fmt<W: fmt::Write>(&self, f: &mut fmt::Formatter<W>) -> fmt::Result {
@@ -153,8 +141,6 @@ impl<B: Lent> fmt::Display for GenericSliceVec<B>
 where
     B::Item: fmt::Display,
 {
-    ghost use Rattle.tinyvec_slice.specs.SliceVec.{items_of};
-
     ghost output = { λ v. debug_list B.Item.output (items_of B.Lent v) };
 
     fn fmt<W: fmt::Write>(&self, f: &mut fmt::Formatter<W>) -> fmt::Result {
@@ -166,8 +152,6 @@ impl<B: Lent> fmt::Binary for GenericSliceVec<B>
 where
     B::Item: HasDigits + Copy,
 {
-    ghost use Rattle.tinyvec_slice.specs.SliceVec.{items_of};
-
     fn fmt<W: fmt::Write>(&self, f: &mut fmt::Formatter<W>) -> fmt::Result
         ensures { DisplaysOnOk W.write_str_gives f.old result
             (list_in_radix B.Item.word 2 false (items_of B.Lent self.now)) f.new }
@@ -180,8 +164,6 @@ impl<B: Lent> fmt::Octal for GenericSliceVec<B>
 where
     B::Item: HasDigits + Copy,
 {
-    ghost use Rattle.tinyvec_slice.specs.SliceVec.{items_of};
-
     fn fmt<W: fmt::Write>(&self, f: &mut fmt::Formatter<W>) -> fmt::Result
         ensures { DisplaysOnOk W.write_str_gives f.old result
             (list_in_radix B.Item.word 8 false (items_of B.Lent self.now)) f.new }
@@ -194,8 +176,6 @@ impl<B: Lent> fmt::LowerHex for GenericSliceVec<B>
 where
     B::Item: HasDigits + Copy,
 {
-    ghost use Rattle.tinyvec_slice.specs.SliceVec.{items_of};
-
     fn fmt<W: fmt::Write>(&self, f: &mut fmt::Formatter<W>) -> fmt::Result
         ensures { DisplaysOnOk W.write_str_gives f.old result
             (list_in_radix B.Item.word 16 false (items_of B.Lent self.now)) f.new }
@@ -208,8 +188,6 @@ impl<B: Lent> fmt::UpperHex for GenericSliceVec<B>
 where
     B::Item: HasDigits + Copy,
 {
-    ghost use Rattle.tinyvec_slice.specs.SliceVec.{items_of};
-
     fn fmt<W: fmt::Write>(&self, f: &mut fmt::Formatter<W>) -> fmt::Result
         ensures { DisplaysOnOk W.write_str_gives f.old result
             (list_in_radix B.Item.word 16 true (items_of B.Lent self.now)) f.new }
@@ -220,8 +198,6 @@ where
 
 /// `write_str` appends the whole text. If it does not fit, it fails and changes nothing.
 impl<B: Lent<Item = u8>> fmt::Write for GenericSliceVec<B> {
-    ghost use Rattle.tinyvec_slice.specs.SliceVec.{items_of, spare_of, slots_of, name_of, len_of};
-
     ghost write_str_gives = { λ v bytes w. (items_of B.Lent w ≡ items_of B.Lent v ++ bytes)
         × (spare_of B.Lent w ≡ drop (length bytes) (spare_of B.Lent v))
         × (name_of B.Lent w ≡ name_of B.Lent v) };
@@ -233,6 +209,7 @@ impl<B: Lent<Item = u8>> fmt::Write for GenericSliceVec<B> {
         ensures variant { IsOk result
             ↔ (len_of B.Lent self.old + length s.now ≤ length (slots_of B.Lent self.old)) }
         ensures err { OnErr result (self.new ≡ self.old) }
+        ensures slot_count { length (slots_of B.Lent self.new) ≡ length (slots_of B.Lent self.old) }
     {
         let bytes = s.as_bytes();
         if bytes.len() > self.capacity() - self.len() {

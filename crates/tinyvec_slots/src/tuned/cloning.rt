@@ -1,5 +1,5 @@
 //! Writing clones into slots. No item is cloned twice: the first clone that fails ends the call, and those before it stay.
-ghost use Rattle.std.specs.Prelude.{◌≡◌, ◌-◌, ◌<◌, ◌≤◌, ℕ, All, length, take, replicate, IfOk, IsOk, OnOk, OnErr};
+ghost use Rattle.std.specs.Prelude.{◌≡◌, ◌-◌, ◌<◌, ◌≤◌, ℕ, All, length, take, slice_range, replicate, IfOk, IsOk, OnOk, OnErr};
 ghost use Rattle.tinyvec_slots.specs.Clones.{RefusedAt, ClonesOver, ClonesOverFrom};
 
 use std::alloc::AllocError;
@@ -37,6 +37,46 @@ pub fn clone_each_from<T: Clone>(
     ensures succeeds { All T.is_infallible from.now → IsOk result }
 {
     clone_each(&mut slots[start..], from)
+}
+
+/// Writes clones of the slots from `start` up to `end` over those from `to` on.
+pub fn clone_within<T: Clone>(
+    slots: &mut [T],
+    start: usize,
+    end: usize,
+    to: usize,
+) -> Result<(), AllocError>
+    requires start_le_end { start ≤ end }
+    requires before { end ≤ to }
+    requires in_bounds { to ≤ length slots.old }
+    requires fits { end - start ≤ length slots.old - to }
+    ensures ok { OnOk result (ClonesOverFrom T.is_clone to (slice_range slots.old start end) (end - start)
+        slots.old slots.new) }
+    ensures refused { OnErr result ((j : ℕ) × RefusedAt T.is_infallible (slice_range slots.old start end) j
+        × ClonesOverFrom T.is_clone to (take j (slice_range slots.old start end)) j slots.old slots.new) }
+    ensures succeeds { All T.is_infallible (slice_range slots.old start end) → IsOk result }
+{
+    let (front, back) = slots.split_at_mut(to);
+    clone_range(back, front, start, end)
+}
+
+// Writes clones of `from[start..end]` over the first slots of `to`.
+#[inline(always)]
+fn clone_range<T: Clone>(
+    to: &mut [T],
+    from: &[T],
+    start: usize,
+    end: usize,
+) -> Result<(), AllocError>
+    requires start_le_end { start ≤ end }
+    requires in_bounds { end ≤ length from.now }
+    requires fits { end - start ≤ length to.old }
+    ensures ok { OnOk result (ClonesOver T.is_clone (slice_range from.now start end) (end - start) to.old to.new) }
+    ensures refused { OnErr result ((j : ℕ) × RefusedAt T.is_infallible (slice_range from.now start end) j
+        × ClonesOver T.is_clone (take j (slice_range from.now start end)) j to.old to.new) }
+    ensures succeeds { All T.is_infallible (slice_range from.now start end) → IsOk result }
+{
+    clone_each(to, &from[start..end])
 }
 
 /// Writes clones of `from` over the first slots of `to`.

@@ -3,6 +3,7 @@ ghost use Rattle.std.specs.Prelude.{◌≡◌, ◌+◌, ◌-◌, ◌<◌, ◌≤
 ghost use Rattle.std.specs.List.{remove_range};
 
 use crate::tuned::shifting::prefers_swaps;
+use std::mem;
 
 /// Moves the items `start..end` to the end.
 pub fn move_to_end<T>(items: &mut [T], start: usize, end: usize)
@@ -18,7 +19,47 @@ pub fn move_to_end<T>(items: &mut [T], start: usize, end: usize)
         rotate_few(&mut items[start..], end - start);
         return;
     }
-    items[start..].rotate_left(end - start);
+    rotate(&mut items[start..], end - start);
+}
+
+// Moves the first `count` items to the end.
+#[inline(always)]
+fn rotate<T>(items: &mut [T], count: usize)
+    requires { count ≤ length items.old }
+    ensures { items.new ≡ drop count items.old ++ take count items.old }
+{
+    if count == 1 && prefers_pieces(items) {
+        first_to_end(items);
+        return;
+    }
+    items.rotate_left(count);
+}
+
+// Whether there are more items than a piece has, of 8 bytes or more.
+#[inline(always)]
+fn prefers_pieces<T>(items: &[T]) -> bool {
+    items.len() > 257 && items.len() * mem::size_of::<T>() / 8 >= items.len()
+}
+
+// Moves the first item to the end, by pieces of 257 items. `rotate_left` moves more than that by 16 bytes through memory.
+#[inline(never)]
+fn first_to_end<T>(items: &mut [T])
+    ensures { items.new ≡ drop 1 items.old ++ take 1 items.old }
+{
+    let piece = items.len().min(257);
+    first_of_piece_to_end(&mut items[..piece]);
+    if piece < items.len() {
+        first_to_end(&mut items[piece - 1..]);
+    }
+}
+
+#[inline(never)]
+fn first_of_piece_to_end<T>(items: &mut [T])
+    ensures { items.new ≡ drop 1 items.old ++ take 1 items.old }
+{
+    if items.len() > 0 {
+        items.rotate_left(1);
+    }
 }
 
 // Moves the first `count` items to the end: swaps the shorter side with as many items at the other end, which are then

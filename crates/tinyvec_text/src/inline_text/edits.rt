@@ -1,10 +1,13 @@
 //! Items that are pushed, popped, inserted, removed and cut off.
-ghost use Rattle.std.specs.Prelude.{◌≡◌, ◌+◌, ◌<◌, ◌≤◌, ◌++◌, ◌∷◌, [], ◌↔◌, length, max, if◌then◌else◌, is_ok, IsTrue, IsOk, IfOk, OnOk, OnErr, chars, encode_utf8, ◌&&◌, nat_le, ℕ, List, take, IsSome, IfSome, IfNone, IsUtf8};
-ghost use Rattle.tinyvec_text.specs.InlineText.{text_chars, text_len, TextPlaceRule, TextGrows, IsBoundary};
+ghost use Rattle.std.specs.Prelude.{◌≡◌, ◌+◌, ◌-◌, ◌<◌, ◌≤◌, ◌++◌, ◌∷◌, [], ◌↔◌, length, max, if◌then◌else◌, is_ok, IsTrue, IsOk, IfOk, OnOk, OnErr, chars, encode_utf8, ◌&&◌, nat_le, ℕ, List, take, drop, IsSome, IfSome, IfNone, IsUtf8};
+ghost use Rattle.tinyvec_text.specs.InlineText.{text_chars, text_len, MakesRoom, StaysInPlace, IsBoundary};
+ghost use Rattle.tinyvec_slots.specs.Cut.{range_start, range_end, before, after};
 ghost use Rattle.std.specs.String.Boundary.{IsSplitPoint};
+ghost use Rattle.std.specs.Char.{IsScalar};
 
 use super::InlineText;
 use std::alloc::{AllocError, Global};
+use std::ops::RangeBounds;
 use std::str;
 
 impl<const N: usize> InlineText<N> {
@@ -21,6 +24,35 @@ impl<const N: usize> InlineText<N> {
         Ok(text)
     }
 
+    /// Appends `s` to a text that has room. It allocates nothing, so it cannot fail.
+    #[inline(always)]
+    pub fn push_str_reserved(&mut self, s: &str)
+        requires { text_len self.old + length s.now ≤ self.old.room }
+        ensures bytes { self.new.bytes ≡ self.old.bytes ++ s.now }
+        ensures text { text_chars self.new ≡ text_chars self.old ++ chars s.now }
+        ensures frame { StaysInPlace self.old self.new }
+    {
+        let Ok(()) = self.list.extend_from_slice(s.as_bytes()) else {
+            unreachable!();
+        };
+    }
+
+    /// Appends `c` to a text that has room. It allocates nothing, so it cannot fail.
+    #[inline(always)]
+    pub fn push_reserved(&mut self, c: char)
+        requires { text_len self.old + length (encode_utf8 c) ≤ self.old.room }
+        ensures bytes { self.new.bytes ≡ self.old.bytes ++ encode_utf8 c }
+        ensures text { text_chars self.new ≡ text_chars self.old ++ c ∷ [] }
+        ensures frame { StaysInPlace self.old self.new }
+    {
+        if c.is_ascii() {
+            self.list.push_reserved(c as u8);
+            return;
+        }
+        let mut buffer = [0; 4];
+        self.push_str_reserved(c.encode_utf8(&mut buffer));
+    }
+
     /// Appends `s`. Allocates only if the bytes don't fit.
     #[inline(always)]
     pub fn push_str(&mut self, s: &str) -> Result<(), AllocError>
@@ -28,51 +60,41 @@ impl<const N: usize> InlineText<N> {
         ensures len { text_len self.new
             ≡ (if is_ok result then text_len self.old + length s.now else text_len self.old) }
         ensures text { OnOk result (text_chars self.new ≡ text_chars self.old ++ chars s.now) }
-        ensures place { OnOk result (TextPlaceRule N (text_len self.old + length s.now) self.old self.new) }
-        ensures room { self.old.room ≤ self.new.room }
-        ensures fits { text_len self.new ≤ self.new.room }
-
-        // With room it does not allocate. A refusal changes nothing.
-        ensures succeeds { text_len self.old + length s.now ≤ self.old.room → IsOk result }
-        ensures inline_succeeds { IsTrue self.old.inline → text_len self.old + length s.now ≤ N → IsOk result }
-        ensures grown { OnOk result (TextGrows self.old.inline (text_len self.old + length s.now) self.old self.new) }
-        ensures same_room { text_len self.old + length s.now ≤ self.old.room → self.new.room ≡ self.old.room }
-        ensures refused { OnErr result (self.new ≡ self.old) }
+        ensures room { MakesRoom self.old.inline N (text_len self.old + length s.now) self.old self.new result }
     {
         self.list.extend_from_slice(s.as_bytes())?;
         Ok(())
     }
 
     /// Appends `c`. Allocates only if the bytes don't fit.
+    #[inline(always)]
     pub fn push(&mut self, c: char) -> Result<(), AllocError>
         ensures bytes { self.new.bytes
             ≡ (if is_ok result then self.old.bytes ++ encode_utf8 c else self.old.bytes) }
         ensures len { text_len self.new
             ≡ (if is_ok result then text_len self.old + length (encode_utf8 c) else text_len self.old) }
         ensures text { OnOk result (text_chars self.new ≡ text_chars self.old ++ c ∷ []) }
-        ensures place { OnOk result (TextPlaceRule N (text_len self.old + length (encode_utf8 c)) self.old self.new) }
-        ensures room { self.old.room ≤ self.new.room }
-        ensures fits { text_len self.new ≤ self.new.room }
-
-        // With room it does not allocate. A refusal changes nothing.
-        ensures succeeds { text_len self.old + length (encode_utf8 c) ≤ self.old.room → IsOk result }
-        ensures inline_succeeds { IsTrue self.old.inline
-            → text_len self.old + length (encode_utf8 c) ≤ N → IsOk result }
-        ensures grown { OnOk result (TextGrows (self.old.inline && nat_le 128 c)
-            (text_len self.old + length (encode_utf8 c)) self.old self.new) }
-        ensures same_room { text_len self.old + length (encode_utf8 c) ≤ self.old.room
-            → self.new.room ≡ self.old.room }
-        ensures refused { OnErr result (self.new ≡ self.old) }
-
-        // A character takes at most four bytes, and an ASCII one is its own byte.
-        ensures width { length (encode_utf8 c) ≤ 4 }
-        ensures ascii { c < 128 → encode_utf8 c ≡ c ∷ [] }
+        ensures room { MakesRoom (self.old.inline && nat_le 128 c) N (text_len self.old + length (encode_utf8 c))
+            self.old self.new result }
     {
         // Most characters are ASCII, and take a byte.
         if c.is_ascii() {
             self.list.push(c as u8)?;
             return Ok(());
         }
+        self.push_wide(c)
+    }
+
+    // `push` of a character that takes more than a byte. A call of its own, so that `push` is short enough to inline.
+    #[inline(never)]
+    fn push_wide(&mut self, c: char) -> Result<(), AllocError>
+        requires { 128 ≤ c }
+        ensures bytes { self.new.bytes
+            ≡ (if is_ok result then self.old.bytes ++ encode_utf8 c else self.old.bytes) }
+        ensures text { OnOk result (text_chars self.new ≡ text_chars self.old ++ c ∷ []) }
+        ensures room { MakesRoom (self.old.inline && nat_le 128 c) N (text_len self.old + length (encode_utf8 c))
+            self.old self.new result }
+    {
         let mut buffer = [0; 4];
         self.push_str(c.encode_utf8(&mut buffer))?;
         Ok(())
@@ -81,18 +103,24 @@ impl<const N: usize> InlineText<N> {
     /// Makes room for `n` more bytes. An inline text moves to the heap if they don't fit the array.
     pub fn reserve(&mut self, n: usize) -> Result<(), AllocError>
         ensures bytes { self.new.bytes ≡ self.old.bytes }
-        ensures place { OnOk result (TextPlaceRule N (text_len self.old + n) self.old self.new) }
-        ensures room { self.old.room ≤ self.new.room }
-        ensures grown { OnOk result (TextGrows self.old.inline (text_len self.old + n) self.old self.new) }
+        ensures room { MakesRoom self.old.inline N (text_len self.old + n) self.old self.new result }
         ensures enough { OnOk result (text_len self.old + n ≤ self.new.room) }
-
-        // With room it does not allocate, and nothing changes. A refusal changes nothing.
         ensures kept { text_len self.old + n ≤ self.old.room → self.new ≡ self.old }
-        ensures succeeds { text_len self.old + n ≤ self.old.room → IsOk result }
-        ensures refused { OnErr result (self.new ≡ self.old) }
     {
         self.list.reserve(n)?;
         Ok(())
+    }
+
+    /// Moves a text on the heap into the array where it fits, which allocates nothing. Otherwise shrinks the allocation; if
+    /// the allocator refuses, nothing changes and no error is returned.
+    pub fn shrink_to_fit(&mut self)
+        ensures bytes { self.new.bytes ≡ self.old.bytes }
+        ensures place { IsTrue self.new.inline ↔ (text_len self.old ≤ N) }
+        ensures room { self.new.room ≤ max self.old.room N }
+        ensures fits { text_len self.new ≤ self.new.room }
+        ensures kept { IsTrue self.old.inline → self.new ≡ self.old }
+    {
+        self.list.shrink_to_fit();
     }
 
     /// Whether the bytes before `i` are those of some first characters.
@@ -108,8 +136,7 @@ impl<const N: usize> InlineText<N> {
         ensures bytes { self.new.bytes ≡ take i self.old.bytes }
         ensures text { (rest : List ℕ) × (text_chars self.old ≡ text_chars self.new ++ rest) }
         ensures len { text_len self.new ≡ i }
-        ensures place { self.new.inline ≡ self.old.inline }
-        ensures room { self.new.room ≡ self.old.room }
+        ensures frame { StaysInPlace self.old self.new }
     {
         self.list.truncate(i);
     }
@@ -118,10 +145,92 @@ impl<const N: usize> InlineText<N> {
     pub fn clear(&mut self)
         ensures bytes { self.new.bytes ≡ [] }
         ensures text { text_chars self.new ≡ [] }
-        ensures place { self.new.inline ≡ self.old.inline }
-        ensures room { self.new.room ≡ self.old.room }
+        ensures frame { StaysInPlace self.old self.new }
     {
         self.list.clear();
+    }
+
+    /// Puts `c` at the byte `i`, where a character begins or the text ends. Allocates only if the bytes don't fit.
+    pub fn insert(&mut self, i: usize, c: char) -> Result<(), AllocError>
+        requires { IsBoundary (text_chars self.old) i }
+        ensures bytes { self.new.bytes
+            ≡ (if is_ok result then take i self.old.bytes ++ encode_utf8 c ++ drop i self.old.bytes else self.old.bytes) }
+        ensures text { OnOk result (text_chars self.new
+            ≡ chars (take i self.old.bytes) ++ c ∷ [] ++ chars (drop i self.old.bytes)) }
+        ensures room { MakesRoom self.old.inline N (text_len self.old + length (encode_utf8 c)) self.old self.new result }
+    {
+        let mut buffer = [0; 4];
+        self.insert_str(i, c.encode_utf8(&mut buffer))
+    }
+
+    /// Puts `s` at the byte `i`, where a character begins or the text ends. Allocates only if the bytes don't fit.
+    pub fn insert_str(&mut self, i: usize, s: &str) -> Result<(), AllocError>
+        requires { IsBoundary (text_chars self.old) i }
+        ensures bytes { self.new.bytes
+            ≡ (if is_ok result then take i self.old.bytes ++ s.now ++ drop i self.old.bytes else self.old.bytes) }
+        ensures text { OnOk result (text_chars self.new
+            ≡ chars (take i self.old.bytes) ++ chars s.now ++ chars (drop i self.old.bytes)) }
+        ensures room { MakesRoom self.old.inline N (text_len self.old + length s.now) self.old self.new result }
+    {
+        self.replace_range(i..i, s)
+    }
+
+    /// Puts `s` in the place of the range, whose ends are boundaries. Allocates only if the bytes don't fit.
+    pub fn replace_range<R: RangeBounds<usize>>(
+        &mut self,
+        range: R,
+        s: &str,
+    ) -> Result<(), AllocError>
+        requires not_exhausted { R.has_bounds range }
+        requires start_le_end { range_start (R.start_bound range) ≤ range_end (R.end_bound range) (text_len self.old) }
+        requires start_boundary { IsBoundary (text_chars self.old) (range_start (R.start_bound range)) }
+        requires end_boundary { IsBoundary (text_chars self.old) (range_end (R.end_bound range) (text_len self.old)) }
+        ensures bytes { self.new.bytes ≡ (if is_ok result
+            then before self.old.bytes (R.start_bound range) ++ s.now ++ after self.old.bytes (R.end_bound range)
+            else self.old.bytes) }
+        ensures text { OnOk result (text_chars self.new ≡ chars (before self.old.bytes (R.start_bound range))
+            ++ chars s.now ++ chars (after self.old.bytes (R.end_bound range))) }
+        ensures room { MakesRoom self.old.inline N (text_len self.old
+            - (range_end (R.end_bound range) (text_len self.old) - range_start (R.start_bound range)) + length s.now)
+            self.old self.new result }
+    {
+        self.list.replace_range(range, s.as_bytes())?;
+        Ok(())
+    }
+
+    /// Removes and returns the character at the byte `i`. Does not allocate, and the text stays in its place.
+    pub fn remove(&mut self, i: usize) -> char
+        requires boundary { IsBoundary (text_chars self.old) i }
+        requires in_bounds { i < text_len self.old }
+        ensures bytes { (rest : List ℕ) × (drop i self.old.bytes ≡ encode_utf8 result ++ rest)
+            × (self.new.bytes ≡ take i self.old.bytes ++ rest) }
+        ensures text { (rest : List ℕ) × (text_chars self.old ≡ chars (take i self.old.bytes) ++ result ∷ rest)
+            × (text_chars self.new ≡ chars (take i self.old.bytes) ++ rest) }
+        ensures frame { StaysInPlace self.old self.new }
+    {
+        let (c, width) = first_char(&self.list.as_slice()[i..]);
+        // Shows the proof that the list fits.
+        let _len = self.list.len();
+        drop(self.list.drain(i..i + width));
+        c
+    }
+
+    /// Splits the text at the byte `at`, where a character begins or the text ends, and returns what follows, in the same
+    /// place. An inline text allocates nothing; one on the heap allocates room for what follows.
+    pub fn split_off(&mut self, at: usize) -> Result<Self, AllocError>
+        requires { IsBoundary (text_chars self.old) at }
+        ensures bytes { OnOk result (self.new.bytes ≡ take at self.old.bytes) }
+        ensures tail { IfOk result (λ t. t.bytes ≡ drop at self.old.bytes) }
+        ensures text { IfOk result (λ t. text_chars self.old ≡ text_chars self.new ++ text_chars t) }
+        ensures frame { StaysInPlace self.old self.new }
+        ensures tail_place { IfOk result (λ t. t.inline ≡ self.old.inline) }
+        ensures tail_fits { IfOk result (λ t. text_len t ≤ t.room) }
+        ensures succeeds { IsTrue self.old.inline → IsOk result }
+        ensures succeeds_at_the_end { at ≡ text_len self.old → IsOk result }
+        ensures refused { OnErr result (self.new ≡ self.old) }
+    {
+        let list = self.list.split_off(at)?;
+        Ok(InlineText { list })
     }
 
     /// Removes and returns the last character, if any. Does not allocate, and the text stays in its place.
@@ -130,8 +239,7 @@ impl<const N: usize> InlineText<N> {
         ensures bytes { IfSome result (λ c. self.old.bytes ≡ self.new.bytes ++ encode_utf8 c) }
         ensures text { IfSome result (λ c. text_chars self.old ≡ text_chars self.new ++ c ∷ []) }
         ensures none { IfNone result (self.new ≡ self.old) }
-        ensures place { self.new.inline ≡ self.old.inline }
-        ensures room { self.new.room ≡ self.old.room }
+        ensures frame { StaysInPlace self.old self.new }
     {
         let bytes = self.list.as_slice();
         if bytes.is_empty() {
@@ -154,6 +262,40 @@ fn is_split_point(bytes: &[u8], i: usize) -> bool
         return false;
     }
     bytes[i] < 0x80 || 0xC0 <= bytes[i]
+}
+
+// The first character, and how many bytes it takes. No more than its own bytes are read.
+pub(crate) fn first_char(bytes: &[u8]) -> (char, usize)
+    requires some { 0 < length bytes.now }
+    requires utf8 { IsUtf8 bytes.now }
+    ensures encoded { take result.1 bytes.now ≡ encode_utf8 result.0 }
+    ensures rest { IsUtf8 (drop result.1 bytes.now) }
+    ensures scalar { IsScalar result.0 }
+    ensures positive { 0 < result.1 }
+    ensures in_bounds { result.1 ≤ length bytes.now }
+{
+    let end = first_char_end(bytes);
+    let Ok(first) = str::from_utf8(&bytes[..end]) else {
+        unreachable!();
+    };
+    let mut rest = first.chars();
+    let Some(c) = rest.next() else {
+        unreachable!();
+    };
+    (c, end - rest.as_str().len())
+}
+
+// Where the second character begins, or the bytes end.
+fn first_char_end(bytes: &[u8]) -> usize
+    requires { 0 < length bytes.now }
+    ensures positive { 0 < result }
+    ensures split { IsSplitPoint bytes.now result }
+{
+    let mut end = 1;
+    while !is_split_point(bytes, end) {
+        end += 1;
+    }
+    end
 }
 
 // The last character, and where it begins. No more than its own bytes are read.

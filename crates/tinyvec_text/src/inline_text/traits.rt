@@ -1,6 +1,6 @@
 //! Comparisons, hashes, texts, writers, indexing and iteration.
 ghost use Rattle.std.specs.Prelude.{◌≡◌, false, IsTrue, IsOk, IfOk, MatchResult, Some, nat_eq, refl, ◌+◌, ◌≤◌, ◌++◌, length, OnOk, OnErr, chars};
-ghost use Rattle.tinyvec_text.specs.InlineText.{text_chars, text_len, TextPlaceRule};
+ghost use Rattle.tinyvec_text.specs.InlineText.{text_chars, text_len, MakesRoom};
 ghost use Rattle.std.specs.Ordering.{nat_cmp};
 ghost use Rattle.std.specs.Cmp.{on_equiv, on_total, on_po, on_per, partial_equiv_from_equiv};
 ghost use Rattle.std.specs.Cmp.Lexicographic.{pointwise, slice_cmp, nat_list_eq_equiv, nat_list_cmp_total, texts_po, texts_ties};
@@ -14,6 +14,7 @@ use std::alloc::AllocError;
 use std::cmp::Ordering;
 use std::fmt;
 use std::hash::{Hash, Hasher};
+use std::ops::DerefStr;
 
 impl<const N: usize> Clone for InlineText<N> {
     ghost is_clone = { λ t u. u.bytes ≡ t.bytes };
@@ -29,6 +30,14 @@ impl<const N: usize> Clone for InlineText<N> {
     {
         let list = self.list.clone()?;
         Ok(InlineText { list })
+    }
+}
+
+impl<const N: usize> DerefStr for InlineText<N> {
+    ghost deref_gives = { λ t bytes. bytes ≡ t.bytes };
+
+    fn deref(&self) -> &str {
+        self.as_str()
     }
 }
 
@@ -105,11 +114,7 @@ impl<const N: usize> fmt::Write for InlineText<N> {
     fn write_str(&mut self, s: &str) -> fmt::Result
         ensures ok { IsOk result → self.new.bytes ≡ self.old.bytes ++ s.now }
         ensures text { OnOk result (text_chars self.new ≡ text_chars self.old ++ chars s.now) }
-        ensures place { OnOk result (TextPlaceRule N (text_len self.old + length s.now) self.old self.new) }
-        ensures room { self.old.room ≤ self.new.room }
-        ensures succeeds { text_len self.old + length s.now ≤ self.old.room → IsOk result }
-        ensures inline_succeeds { IsTrue self.old.inline → text_len self.old + length s.now ≤ N → IsOk result }
-        ensures refused { OnErr result (self.new ≡ self.old) }
+        ensures room { MakesRoom self.old.inline N (text_len self.old + length s.now) self.old self.new result }
     {
         match self.push_str(s) {
             Ok(()) => Ok(()),

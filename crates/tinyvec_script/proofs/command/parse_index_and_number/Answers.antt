@@ -9,8 +9,8 @@ returns-in_err-index-clause-none c = rw c.from_residual.ensures (λ i z hi hz e.
 
 pub returns-in_err-parse_index-clause-none : goal.returns-in_err-parse_index-clause-none
 returns-in_err-parse_index-clause-none c = rw c.from_residual-in_err-parse_index.ensures (λ i z hi hz e.
-    c.in_err-parse_index.ensures.none i hi (one_cut c.args.text.now _ _ (decimal i) (signed_decimal z) c.in_ok-index.ensures.some c.in_ok-index.ensures.word e (decimal_is_word i hi)).0)
+    c.in_err-parse_index.ensures.none i hi (one_cut c.args.text.now _ _ (decimal i) (signed_decimal z) c.in_ok-index.ensures.some c.in_ok-index.ensures.front e (decimal_is_word i hi)).0)
 
 pub returns-in_err-parse_number-clause-none : goal.returns-in_err-parse_number-clause-none
 returns-in_err-parse_number-clause-none c = rw c.from_residual-in_err-parse_number.ensures (λ i z hi hz e.
-    c.in_err-parse_number.ensures.none z hz (one_cut c.args.text.now _ _ (decimal i) (signed_decimal z) c.in_ok-index.ensures.some c.in_ok-index.ensures.word e (decimal_is_word i hi)).1)
+    c.in_err-parse_number.ensures.none z hz (one_cut c.args.text.now _ _ (decimal i) (signed_decimal z) c.in_ok-index.ensures.some c.in_ok-index.ensures.front e (decimal_is_word i hi)).1)

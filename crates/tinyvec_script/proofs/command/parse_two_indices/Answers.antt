@@ -9,8 +9,8 @@ returns-in_err-first-clause-none c = rw c.from_residual.ensures (λ i j hi hj e.
 
 pub returns-in_err-parse_index-clause-none : goal.returns-in_err-parse_index-clause-none
 returns-in_err-parse_index-clause-none c = rw c.from_residual-in_err-parse_index.ensures (λ i j hi hj e.
-    c.in_err-parse_index.ensures.none i hi (one_cut c.args.text.now _ _ (decimal i) (decimal j) c.in_ok-first.ensures.some c.in_ok-first.ensures.word e (decimal_is_word i hi)).0)
+    c.in_err-parse_index.ensures.none i hi (one_cut c.args.text.now _ _ (decimal i) (decimal j) c.in_ok-first.ensures.some c.in_ok-first.ensures.front e (decimal_is_word i hi)).0)
 
 pub returns-in_err-parse_index-2-clause-none : goal.returns-in_err-parse_index-2-clause-none
 returns-in_err-parse_index-2-clause-none c = rw c.from_residual-in_err-parse_index-2.ensures (λ i j hi hj e.
-    c.in_err-parse_index-2.ensures.none j hj (one_cut c.args.text.now _ _ (decimal i) (decimal j) c.in_ok-first.ensures.some c.in_ok-first.ensures.word e (decimal_is_word i hi)).1)
+    c.in_err-parse_index-2.ensures.none j hj (one_cut c.args.text.now _ _ (decimal i) (decimal j) c.in_ok-first.ensures.some c.in_ok-first.ensures.front e (decimal_is_word i hi)).1)

@@ -1,24 +1,22 @@
-use Rattle.std.proofs.Common.{◌≡◌, ap, sym, ◌∙◌, true, FitsSigned}
-use Rattle.std.specs.Int.{w32}
-use Rattle.std.specs.Fmt.{signed_decimal}
-use Rattle.std.proofs.lemmas.Int.{to_z-of_z}
-use Rattle.std.proofs.lemmas.Slice.Eq.{slice_eq-Decides}
+use Rattle.std.proofs.Common.{codes, None, Some, inl, inr, arith}
+use Rattle.std.proofs.lemmas.Slice.Eq.{strip_prefix_is}
 use Rattle.std.proofs.lemmas.Bool.Decides.{Decides-eqb}
-use Rattle.tinyvec_script.proofs.Numbers.{printed_is_text, printed_is_read}
+use Rattle.tinyvec_script.proofs.Numbers.{above_is_none, unread_is_none, below_is_none}
+use Rattle.tinyvec_script.proofs.number.parse_number.Goals.{then-size-eq0-via-then-size-eq0, then-size-eq0-via-else-size-eq0+then-size-2}
 use Rattle.tinyvec_script.proofs.number.parse_number.Goals as goal
 
-pub returns-in_default-clause-none : goal.returns-in_default-clause-none
-returns-in_default-clause-none c = λ z h e. c.in_default.ensures.cases.0 (printed_is_text z _ h e)
+pub returns-then-size-clause-none : goal.returns-then-size-clause-none
+returns-then-size-clause-none c =
+    above_is_none c.args.bytes.now c.in_ok-size.size (strip_prefix_is Decides-eqb c.args.bytes.now (codes "-") None c.in_default.ensures.cases) c.in_ok-size.ensures.some (omega arith) c.if-size.true
 
-pub returns-in_default-parse-clause-none : goal.returns-in_default-parse-clause-none
-returns-in_default-parse-clause-none c = λ z h e.
-    c.in_default-parse.not-Ok z (printed_is_read z c.in-Ok.text.now c.parse.result h (c.in-Ok.ensures.cases.0 ∙ e) c.parse.ensures.value.0)
+pub returns-in_err-size-2-clause-none : goal.returns-in_err-size-2-clause-none
+returns-in_err-size-2-clause-none c = rw c.from_residual-in_err-size-2.ensures
+    (unread_is_none c.args.bytes.now c.in-Some.digits.now (strip_prefix_is Decides-eqb c.args.bytes.now (codes "-") (Some c.in-Some.digits) c.in-Some.ensures.cases) c.in_err-size-2.ensures.none)
 
-pub returns-else-eq-clause-none : goal.returns-else-eq-clause-none
-returns-else-eq-clause-none c = λ z h e.
-    let read = printed_is_read z c.in-Ok.text.now c.parse.result h (c.in-Ok.ensures.cases.0 ∙ e) c.parse.ensures.value.0 in
-    let same : c.in-Ok-parse.number ≡ z = cc in
-    let fits : FitsSigned w32 c.in-Ok-parse.number = rw same h in
-    let printed : c.as_bytes.result.now ≡ c.args.bytes.now = c.as_bytes.ensures ∙ c.new.ensures ∙ ap signed_decimal (to_z-of_z w32 c.in-Ok-parse.number fits ∙ same) ∙ sym e in
-    let yes : c.eq.result ≡ true = (slice_eq-Decides Decides-eqb _ _ _ c.eq.ensures).1 printed in
-    cc
+pub returns-then-size-eq0-clause-none : goal.returns-then-size-eq0-clause-none
+returns-then-size-eq0-clause-none c =
+    let is = strip_prefix_is Decides-eqb c.args.bytes.now (codes "-") (Some c.in-Some.digits) c.in-Some.ensures.cases in
+    below_is_none c.args.bytes.now c.in-Some.digits.now c.in_ok-size-2.size is c.in_ok-size-2.ensures.some (omega arith) (elim c.then-size-eq0.branch [
+      | then-size-eq0-via-then-size-eq0 w ↦ inl w.if-size-eq0.true
+      | then-size-eq0-via-else-size-eq0+then-size-2 w ↦ inr w.if-size-2.true
+    ])

@@ -1,30 +1,46 @@
-use Rattle.std.proofs.Common.{◌<◌, [], ◌++◌, length, arith}
-use Rattle.std.proofs.lemmas.List.{take_more, take_all}
-use Rattle.std.proofs.KnownBytes.{Appends-nil, Appends-trans}
-use Rattle.tinyvec_script.proofs.HistoryLemmas.{feeds_nothing, feeds_then}
+use Rattle.std.proofs.Common.{◌≡◌, ℕ, ◌<◌, List, [], ◌∷◌, ◌++◌, ap, sym, ◌∙◌, append_assoc, append-nil, refl, length, length-append, arith}
+use Rattle.tinyvec_script.proofs.Written.{Gathers-nothing, Gathers-then}
+use Rattle.tinyvec_script.proofs.HistoryLemmas.{feeds_nothing, feeds_then, feeds_piece, feeds_line}
 use Rattle.tinyvec_script.specs.State.{state_of}
 use Rattle.tinyvec_script.proofs.script.feed.Goals as goal
 
-pub loop-byte-init : goal.loop-byte-init
-loop-byte-init g c = record {
-  fed = ([], Appends-nil _, feeds_nothing (state_of g.B.Lent c.args.vectors.now) c.args.line.now);
-  grows = omega arith;
-}
+pub loop-front-init : goal.loop-front-init
+loop-front-init g c = ([], [], refl, Gathers-nothing g.W.Write.contents c.args.writer.now c.args.gathered.now, feeds_nothing (state_of g.B.Lent c.args.vectors.now) c.args.line.now)
 
-pub loop-byte-preserved : goal.loop-byte-preserved
-loop-byte-preserved g c =
-    let so_far = c.loop-byte.invariant.fed in
-    let step = c.in_ok-feed_byte.ensures.ok in
-    let lt : c.loop-byte.byte-index < length c.args.bytes.now = c.loop-byte-test.true in
-    record {
-      fed = (
-        so_far.0 ++ step.0,
-        Appends-trans _ _ _ so_far.0 step.0 so_far.1 step.1,
-        rw (take_more c.args.bytes.now c.loop-byte.byte-index 0 lt)
-            (feeds_then (state_of g.B.Lent c.args.vectors.now) (state_of g.B.Lent c.loop-byte.vectors) (state_of g.B.Lent c.feed_byte.new.vectors) c.args.line.now c.loop-byte.line c.feed_byte.new.line _ _ so_far.0 step.0 so_far.2 step.2),
-      );
-      grows = omega (arith, c.in_ok-feed_byte.ensures.grows);
-    }
+-- a line behind others
+split_further : (bytes lines front after rest : List ℕ) → bytes ≡ lines ++ rest → rest ≡ front ++ 10 ∷ after → bytes ≡ (lines ++ (front ++ 10 ∷ [])) ++ after
+split_further bytes lines front after rest whole is =
+    whole ∙ ap (λ l. lines ++ l) (is ∙ sym (append_assoc front (10 ∷ []) after)) ∙ sym (append_assoc lines (front ++ 10 ∷ []) after)
 
-pub returns-clause-ok : goal.returns-clause-ok
-returns-clause-ok g c = rw (take_all c.loop-byte.byte-index c.args.bytes.now c.loop-byte-test.false) at c.loop-byte.invariant.fed
+after_is_shorter : (front after rest : List ℕ) → rest ≡ front ++ 10 ∷ after → length after < length rest
+after_is_shorter front after rest is = omega (arith, ap length is, length-append front (10 ∷ after))
+
+pub loop-front-preserved : goal.loop-front-preserved
+loop-front-preserved g c =
+    let before = c.loop-front.invariant in
+    let state = state_of g.B.Lent c.loop-front.vectors in
+    let next = state_of g.B.Lent c.answer_line.new.vectors in
+    let front = c.in-Some.front.now in
+    let answered = c.answer_line.ensures in
+    let kept = feeds_piece state c.loop-front.line c.extend.new.self front c.in-Some.ensures.front c.extend.ensures in
+    let ended = feeds_line state next c.extend.new.self c.clear.new.self answered.0 answered.2 c.clear.ensures in
+    let line = feeds_then state state next c.loop-front.line c.extend.new.self c.clear.new.self front (10 ∷ []) [] (answered.0 ++ 10 ∷ []) kept ended in (
+      before.0 ++ (front ++ 10 ∷ []),
+      before.1 ++ (answered.0 ++ 10 ∷ []),
+      split_further c.args.bytes.now before.0 front c.in-Some.after.now c.loop-front.rest.now before.2 c.in-Some.ensures.some,
+      Gathers-then _ _ _ _ c.args.gathered.now _ _ _ _ before.3 answered.1,
+      feeds_then (state_of g.B.Lent c.args.vectors.now) state next c.args.line.now c.loop-front.line c.clear.new.self before.0 (front ++ 10 ∷ []) before.1 (answered.0 ++ 10 ∷ []) before.4 line,
+    )
+
+pub loop-front-smaller : goal.loop-front-smaller
+loop-front-smaller g c = after_is_shorter c.in-Some.front.now c.in-Some.after.now c.loop-front.rest.now c.in-Some.ensures.some
+
+pub returns : goal.returns
+returns g c =
+    let before = c.loop-front.invariant in
+    let state = state_of g.B.Lent c.loop-front.vectors in
+    let kept = feeds_piece state c.loop-front.line c.extend-2.new.self c.loop-front.rest.now c.in_default.ensures.none c.extend-2.ensures in (
+      before.1,
+      before.3,
+      rw (before.2, ← append-nil before.1) (feeds_then (state_of g.B.Lent c.args.vectors.now) state state c.args.line.now c.loop-front.line c.extend-2.new.self before.0 c.loop-front.rest.now before.1 [] before.4 kept),
+    )

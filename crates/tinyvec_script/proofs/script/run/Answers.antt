@@ -1,4 +1,4 @@
-use Rattle.std.proofs.Common.{◌≡◌, ◌+◌, ◌++◌, List, ℕ, [], Some, take, replicate, pos, sym, ap, ◌∙◌, arith, le_refl, le_trans, append-nil}
+use Rattle.std.proofs.Common.{◌≡◌, ◌++◌, List, ℕ, [], Some, take, replicate, pos, sym, ap, ◌∙◌, arith, le_refl, le_trans, append-nil, inl, inr}
 use Rattle.tinyvec_slots.specs.Slots.{spare, split_at}
 use Rattle.tinyvec_slots.proofs.SlotsLemmas.{defaults_are}
 use Rattle.tinyvec_script.specs.Script.{start, zeros, State, IsZero}
@@ -8,7 +8,7 @@ use Rattle.tinyvec_script.proofs.PlaceLemmas.{tiny_of-begins}
 use Rattle.tinyvec_script.specs.State.{held}
 use Rattle.std.proofs.KnownBytes.{Appends-nil, Appends-trans, Consumes-nil, Consumes-trans, Consumes-kept}
 use Rattle.tinyvec_script.proofs.HistoryLemmas.{feeds_nothing, feeds_then, complete_lines, whole_script, chunk_longer}
-use Rattle.tinyvec_script.proofs.Written.{reported_since}
+use Rattle.tinyvec_script.proofs.Written.{AppendsFront-then, reported_since}
 use Rattle.tinyvec_script.proofs.script.run.Goals as goal
 
 pub loop-piece-init : goal.loop-piece-init
@@ -27,6 +27,7 @@ loop-piece-init g c =
     let begins : state ≡ start = λ t. record { a = a_begins t; s = s_begins t; t = t_begins t; x = x_begins t } in
     record {
       so_far = ([], [], Consumes-nil _, Appends-nil _, rw (begins, c.new-line.ensures) (feeds_nothing start (Some [])), le_refl 0);
+      empty = c.new-gathered.ensures;
       read_grows = le_refl _;
       write_grows = le_refl _;
     }
@@ -40,23 +41,39 @@ pub returns-in-Err-clause-read_fault : goal.returns-in-Err-clause-read_fault
 returns-in-Err-clause-read_fault g c = λ _ _. reported_since _ _ _ c.loop-piece.invariant.read_grows c.in-Err.ensures.fault
 
 pub returns-in-Err-finish-clause-write_fault : goal.returns-in-Err-finish-clause-write_fault
-returns-in-Err-finish-clause-write_fault g c = λ _ _. reported_since _ _ _ c.loop-piece.invariant.write_grows c.in-Err-finish.ensures.fault
+returns-in-Err-finish-clause-write_fault g c = λ _ _. reported_since _ _ _ c.loop-piece.invariant.write_grows c.in-Err-finish.ensures.1.fault
+
+pub returns-in-Err-finish-clause-write : goal.returns-in-Err-finish-clause-write
+returns-in-Err-finish-clause-write g c =
+    let s = c.loop-piece.invariant.so_far in
+    let f = c.in-Err-finish.ensures in
+    let none : c.in-Ok.count ≡ 0 = c.if-count-eq0.true in
+    let last = rw none at c.in-Ok.ensures.bytes in
+    λ _ _. (s.0, s.1 ++ f.0, rw append-nil at (Consumes-trans _ _ _ s.0 [] s.2 last), AppendsFront-then _ _ _ s.1 f.0 s.3 f.1.err, inr (whole_script s.0 s.1 f.0 (held c.loop-piece.vectors) c.loop-piece.line s.4 f.2))
+
+pub returns-in-Err-answer_chunk-clause-write : goal.returns-in-Err-answer_chunk-clause-write
+returns-in-Err-answer_chunk-clause-write g c =
+    let s = c.loop-piece.invariant.so_far in
+    let f = c.in-Err-answer_chunk.ensures.writes in
+    let bytes : List ℕ = take c.in-Ok.count c.read_some.new.buf in
+    let fed = feeds_then _ (held c.loop-piece.vectors) (held c.answer_chunk.new.vectors) (Some []) c.loop-piece.line c.answer_chunk.new.line s.0 bytes s.1 f.0 s.4 f.2 in
+    λ _ _. (s.0 ++ bytes, s.1 ++ f.0, Consumes-trans _ _ _ s.0 bytes s.2 c.in-Ok.ensures.bytes, AppendsFront-then _ _ _ s.1 f.0 s.3 f.1.err, inl (complete_lines _ _ (held c.answer_chunk.new.vectors) c.answer_chunk.new.line fed))
 
 pub returns-in-Err-answer_chunk-clause-write_fault : goal.returns-in-Err-answer_chunk-clause-write_fault
-returns-in-Err-answer_chunk-clause-write_fault g c = λ _ _. reported_since _ _ _ c.loop-piece.invariant.write_grows c.in-Err-answer_chunk.ensures.fault
+returns-in-Err-answer_chunk-clause-write_fault g c = λ _ _. reported_since _ _ _ c.loop-piece.invariant.write_grows c.in-Err-answer_chunk.ensures.writes.1.fault
 
 pub returns-in-Ok-finish-clause-ok : goal.returns-in-Ok-finish-clause-ok
 returns-in-Ok-finish-clause-ok g c =
     let s = c.loop-piece.invariant.so_far in
-    let f = c.in-Ok-finish.ensures.ok in
+    let f = c.in-Ok-finish.ensures in
     let none : c.in-Ok.count ≡ 0 = c.if-count-eq0.true in
     let last = rw none at c.in-Ok.ensures.bytes in
-    (s.0, s.1 ++ f.0, rw append-nil at (Consumes-trans _ _ _ s.0 [] s.2 last), c.in-Ok.ensures.end none, Appends-trans _ _ _ s.1 f.0 s.3 f.1, whole_script s.0 s.1 f.0 (held c.loop-piece.vectors) c.loop-piece.line s.4 f.2)
+    (s.0, s.1 ++ f.0, rw append-nil at (Consumes-trans _ _ _ s.0 [] s.2 last), c.in-Ok.ensures.end none, Appends-trans _ _ _ s.1 f.0 s.3 f.1.ok, whole_script s.0 s.1 f.0 (held c.loop-piece.vectors) c.loop-piece.line s.4 f.2)
 
 pub loop-piece-preserved : goal.loop-piece-preserved
 loop-piece-preserved g c =
     let s = c.loop-piece.invariant.so_far in
-    let f = c.in-Ok-answer_chunk.ensures.ok in
+    let f = c.in-Ok-answer_chunk.ensures.writes in
     let bytes : List ℕ = take c.in-Ok.count c.read_some.new.buf in
     let longer = chunk_longer s.0 c.read_some.new.buf c.loop-piece._piece c.in-Ok.count s.5 c.in-Ok.ensures.bound.1 c.if-count-eq0.false in
     record {
@@ -64,12 +81,13 @@ loop-piece-preserved g c =
         s.0 ++ bytes,
         s.1 ++ f.0,
         Consumes-trans _ _ _ s.0 bytes s.2 c.in-Ok.ensures.bytes,
-        Appends-trans _ _ _ s.1 f.0 s.3 f.1,
+        Appends-trans _ _ _ s.1 f.0 s.3 f.1.ok,
         feeds_then _ (held c.loop-piece.vectors) (held c.answer_chunk.new.vectors) (Some []) c.loop-piece.line c.answer_chunk.new.line s.0 bytes s.1 f.0 s.4 f.2,
         longer,
       );
+      empty = c.in-Ok-answer_chunk.ensures.gathered;
       read_grows = le_trans c.loop-piece.invariant.read_grows c.in-Ok.ensures.grows;
-      write_grows = le_trans c.loop-piece.invariant.write_grows c.in-Ok-answer_chunk.ensures.grows;
+      write_grows = le_trans c.loop-piece.invariant.write_grows c.in-Ok-answer_chunk.ensures.writes.1.grows;
     }
 
 pub returns-clause-too_long : goal.returns-clause-too_long

@@ -1,4 +1,4 @@
-use Rattle.std.proofs.Common.{◌≤◌, List, ℕ, [], Some, length}
+use Rattle.std.proofs.Common.{◌≡◌, ◌≤◌, List, ℕ, [], Some, length}
 use Rattle.std.specs.Io.KnownBytes.{Appends, Consumes}
 use Rattle.tinyvec_script.specs.Script.{start}
 use Rattle.tinyvec_script.specs.History.{Feeds}
@@ -13,6 +13,7 @@ invariant-loop-piece g l = record {
       × Appends (g.W.Write.contents l.fn.writer.inner) (g.W.Write.contents l.writer.inner) output
       × Feeds start (Some []) input output (held l.vectors) l.line
       × (l._piece ≤ length input);
+  empty : l.gathered ≡ Some [];
   read_grows : l.fn.reader.faults ≤ l.reader.faults;
   write_grows : l.fn.writer.faults ≤ l.writer.faults;
 }

@@ -1,6 +1,5 @@
-use Rattle.std.proofs.Common.{◌+◌, length, ap, subst, ◌∙◌, length-append}
+use Rattle.std.proofs.Common.{length, ap, ◌∙◌, length-append}
 use Rattle.tinyvec.specs.TinyVec.{tiny_items, tiny_len}
-use Rattle.tinyvec.specs.Room.{GrowsFor}
 use Rattle.tinyvec.proofs.TinyLemmas.{tiny_slots_grown}
 use Rattle.tinyvec.proofs.tiny_vec.TinyVec.append.Goals as goal
 
@@ -11,8 +10,3 @@ returns-clause-slots g c =
     let made = c.append_reserved.ensures in
     tiny_slots_grown g.A.Item.Default.is_default c.args.self.now mid c.append_reserved.new.self (tiny_len c.args.other.now)
     c.reserve.ensures.stays made.place (ap length made.items ∙ length-append (tiny_items mid) others) made.spare
-
-pub returns-clause-grown : goal.returns-clause-grown
-returns-clause-grown g c = λ inline.
-    subst (λ n. GrowsFor g.A.Array.CAPACITY (tiny_len c.args.self.now + n) c.args.self.now c.append_reserved.new.self) c.len.ensures.value
-    (λ less. c.append_reserved.ensures.same_room inline ∙ c.in_ok-reserve.ensures.grown less)

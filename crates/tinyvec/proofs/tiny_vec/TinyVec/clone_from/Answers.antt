@@ -10,7 +10,7 @@ use Rattle.tinyvec.specs.TinyVec.{tiny_items, tiny_len, tiny_capacity}
 use Rattle.tinyvec.proofs.TinyLemmas.{tiny_slots_grown, tiny_slots_then_framed, on_ok_two, on_err_two, never_ok}
 use Rattle.tinyvec.proofs.FrameLemmas.{room_kept, room_refused, room_made}
 use Rattle.tinyvec.proofs.CloneLemmas.{appends_len, appends_rest}
-use Rattle.tinyvec.proofs.RefusedLemmas.{refused_in_front, refused_behind, partly_over, partly_behind, cut_freed, none_freed, spare_kept, place_kept, place_then}
+use Rattle.tinyvec.proofs.RefusedLemmas.{refused_in_front, refused_behind, partly_over, partly_behind, cut_freed, none_freed, spare_kept, place_kept, place_then, granted_before, granted_then}
 use Rattle.tinyvec.proofs.tiny_vec.TinyVec.clone_from.Goals as goal
 
 pub overwrite-requires : goal.overwrite-requires
@@ -75,7 +75,7 @@ returns-then-count-len-clause-refused g c =
     let below : h.0 < length xs = rw c.as_slice.ensures at h.1.0 in
     let early : h.0 ≤ m = omega arith in
     inr (
-      place_kept _ _ _ _ (c.overwrite.ensures.frame.place ∙ c.truncate.ensures.frame.place) (omega (arith, c.len-len.ensures.fits)),
+      granted_before _ _ _ _ (c.overwrite.ensures.frame.place ∙ c.truncate.ensures.frame.place) (omega (arith, c.len-len.ensures.fits)),
       partly_over g.A.Item.Default.is_default g.A.Item.Clone.is_infallible g.A.Item.Clone.is_clone xs c.args.self.now new m h.0 early
           (rw c.as_slice.ensures at h.1) (rw (c.as_slice.ensures, cut) at h.2)
           (cut_freed g.A.Item.Default.is_default c.args.self.now left new m c.overwrite.ensures.frame c.truncate.ensures.frame.place c.truncate.ensures.frame.slot_rule cut within),
@@ -148,7 +148,7 @@ returns-in_err-overwrite-clause-refused g c =
     let frame = c.overwrite-2.ensures.frame in
     let long : m ≡ length olds = omega arith in
     on_err c.from_residual-in_err-overwrite.result (inr (
-      place_then _ _ _ mid _ _ (omega arith) frame.place c.in_ok-reserve.ensures.place,
+      granted_then _ _ _ mid _ _ (omega arith) frame.place (frame.capacity g.A.Array.CAPACITY) c.in_ok-reserve.ensures.place c.in_ok-reserve.ensures.grown,
       partly_over g.A.Item.Default.is_default g.A.Item.Clone.is_infallible g.A.Item.Clone.is_clone xs c.args.self.now new m h.0 (omega arith)
           (refused_in_front g.A.Item.Clone.is_infallible xs n h.0 h.1) (rw (take-take h.0 n xs early, c.reserve.ensures.items ∙ sym all) at h.2)
           (λ i. none_freed g.A.Item.Default.is_default c.args.self.now new m long
@@ -241,7 +241,8 @@ returns-clause-refused g c =
     ap (λ l. take (length l - n) (drop n l)) c.as_slice-3.ensures ∙ take_all (length xs - n) (drop n xs) (omega (arith, length-drop n xs)) in
     let first : AllZip g.A.Item.Clone.is_clone (take n xs) (tiny_items mid) = rw c.as_slice-2.ensures at c.in_ok-overwrite.ensures.ok in
     on_err_two c.extend_reserved.result made.refused made.kept (λ h kept. inr (
-      place_then _ _ _ c.reserve.new.self _ _ (omega arith) (made.place ∙ frame.place) c.in_ok-reserve.ensures.place,
+      granted_then _ _ _ c.reserve.new.self _ _ (omega arith) (made.place ∙ frame.place) (made.capacity ∙ frame.capacity g.A.Array.CAPACITY)
+          c.in_ok-reserve.ensures.place c.in_ok-reserve.ensures.grown,
       rw (← least) (partly_behind g.A.Item.Default.is_default g.A.Item.Clone.is_infallible g.A.Item.Clone.is_clone xs c.args.self.now new n h.0 is_len
           (refused_behind g.A.Item.Clone.is_infallible xs n h.0 (subst (λ l. RefusedAt g.A.Item.Clone.is_infallible l h.0) others h.1))
           (subst (AllZip g.A.Item.Clone.is_clone (take n xs)) (sym kept) first)

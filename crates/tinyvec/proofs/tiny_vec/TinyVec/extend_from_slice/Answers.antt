@@ -5,12 +5,13 @@ use Rattle.std.proofs.lemmas.Result.{on_ok_weaker, on_err_weaker}
 use Rattle.tinyvec_slots.specs.Slots.{items_len}
 use Rattle.tinyvec_slots.proofs.SlotsLemmas.{slots_used}
 use Rattle.tinyvec_slots.proofs.CloneLemmas.{on_err}
-use Rattle.tinyvec.specs.TinyVec.{tiny_items, tiny_len, is_inline, PlaceRule}
+use Rattle.tinyvec.specs.TinyVec.{tiny_items, tiny_len, is_inline}
+use Rattle.tinyvec.specs.Refused.{RoomGranted}
 use Rattle.tinyvec.specs.declared.tiny_vec.TinyVec.TheVariants.{Inline, Heap}
 use Rattle.tinyvec.proofs.TinyLemmas.{tiny_slots_grown, on_ok_two, never_ok}
 use Rattle.tinyvec.proofs.FrameLemmas.{room_kept, room_refused, room_made}
 use Rattle.tinyvec.proofs.CloneLemmas.{appends_len, chosen}
-use Rattle.tinyvec.proofs.RefusedLemmas.{place_kept, place_then, spare_kept}
+use Rattle.tinyvec.proofs.RefusedLemmas.{granted_before, granted_then, spare_kept}
 use Rattle.tinyvec.proofs.tiny_vec.TinyVec.extend_from_slice.Goals.{In_default, in_default-via-in-Inline+else-other-capacity, in_default-via-in-Heap+else-other-capacity-2}
 use Rattle.tinyvec.proofs.tiny_vec.TinyVec.extend_from_slice.Goals as goal
 
@@ -19,11 +20,11 @@ extend_from_slice-requires g c = record { room = omega (arith, c.if-other-capaci
 
 -- an array with room
 module _ (g : _) (c : goal.After-extend_from_slice g) where
-  inline_place : PlaceRule g.A.Array.CAPACITY (tiny_len c.args.self.now + length c.args.other.now) c.args.self.now (Inline c.extend_from_slice.new.self c.in-Inline.field-1)
-  inline_place =
+  inline_granted : RoomGranted g.A.Array.CAPACITY (tiny_len c.args.self.now + length c.args.other.now) c.args.self.now (Inline c.extend_from_slice.new.self c.in-Inline.field-1)
+  inline_granted =
       let room : items_len c.in-Inline.v + length c.args.other.now ≤ g.A.Array.CAPACITY =
       omega (arith, c.if-other-capacity.true, c.capacity.ensures.value, c.capacity.ensures.fits, c.len.ensures.value) in
-      place_kept g.A.Array.CAPACITY _ c.args.self.now (Inline c.extend_from_slice.new.self c.in-Inline.field-1) (sym (ap is_inline c.in-Inline.is)) (rw c.in-Inline.is room)
+      granted_before g.A.Array.CAPACITY _ c.args.self.now (Inline c.extend_from_slice.new.self c.in-Inline.field-1) (sym (ap is_inline c.in-Inline.is)) (rw c.in-Inline.is room)
 
 pub returns-in-Inline-clause-items : goal.returns-in-Inline-clause-items
 returns-in-Inline-clause-items g c = rw c.in-Inline.is c.extend_from_slice.ensures.items
@@ -39,7 +40,7 @@ returns-in-Inline-clause-if_clones_equal g c =
     rw c.in-Inline.is (λ rule. chosen c.extend_from_slice.result _ _ (on_ok_weaker c.extend_from_slice.result (λ h. h rule) made.if_clones_equal) made.kept)
 
 pub returns-in-Inline-clause-place : goal.returns-in-Inline-clause-place
-returns-in-Inline-clause-place g c = on_ok_weaker c.extend_from_slice.result (λ _. inline_place g c) c.extend_from_slice.ensures.len
+returns-in-Inline-clause-place g c = on_ok_weaker c.extend_from_slice.result (λ _. (inline_granted g c).0) c.extend_from_slice.ensures.len
 
 pub returns-in-Inline-clause-slots : goal.returns-in-Inline-clause-slots
 returns-in-Inline-clause-slots g c =
@@ -64,15 +65,18 @@ returns-in-Inline-clause-kept g c = rw c.in-Inline.is c.extend_from_slice.ensure
 
 pub returns-in-Inline-clause-refused : goal.returns-in-Inline-clause-refused
 returns-in-Inline-clause-refused g c =
-    on_err_weaker c.extend_from_slice.result (λ h. inr (inline_place g c, (h.0, h.1, λ _. rw c.in-Inline.is h.2))) c.extend_from_slice.ensures.refused
+    on_err_weaker c.extend_from_slice.result (λ h. inr (inline_granted g c, (h.0, h.1, λ _. rw c.in-Inline.is h.2))) c.extend_from_slice.ensures.refused
 
 pub push_clones-requires : goal.push_clones-requires
 push_clones-requires g c = record { room = omega arith }
 
 -- a heap with room
 module _ (g : _) (c : goal.After-push_clones g) where
-  heap_place : PlaceRule g.A.Array.CAPACITY (tiny_len c.args.self.now + length c.args.other.now) c.args.self.now (Heap c.push_clones.new.heap)
-  heap_place = rw c.in-Heap.is ((λ i. absurd (false≢true i)), λ i. i.0)
+  heap_granted : RoomGranted g.A.Array.CAPACITY (tiny_len c.args.self.now + length c.args.other.now) c.args.self.now (Heap c.push_clones.new.heap)
+  heap_granted =
+      let room : length c.in-Heap.v.items + length c.args.other.now ≤ vec_capacity c.in-Heap.v =
+      omega (arith, c.in-Heap.v.ok.0, c.in-Heap.v.ok.1) in
+      granted_before g.A.Array.CAPACITY _ c.args.self.now (Heap c.push_clones.new.heap) (sym (ap is_inline c.in-Heap.is)) (rw c.in-Heap.is room)
 
 pub returns-in-Heap-clause-items : goal.returns-in-Heap-clause-items
 returns-in-Heap-clause-items g c = rw c.in-Heap.is c.push_clones.ensures.items
@@ -94,7 +98,7 @@ returns-in-Heap-clause-if_clones_equal g c =
     made.kept)
 
 pub returns-in-Heap-clause-place : goal.returns-in-Heap-clause-place
-returns-in-Heap-clause-place g c = on_ok_weaker c.push_clones.result (λ _. heap_place g c) c.push_clones.ensures.items
+returns-in-Heap-clause-place g c = on_ok_weaker c.push_clones.result (λ _. (heap_granted g c).0) c.push_clones.ensures.items
 
 pub returns-in-Heap-clause-slots : goal.returns-in-Heap-clause-slots
 returns-in-Heap-clause-slots g c = on_ok_weaker c.push_clones.result (λ _. rw c.in-Heap.is tt) c.push_clones.ensures.items
@@ -116,7 +120,7 @@ returns-in-Heap-clause-kept g c = rw c.in-Heap.is c.push_clones.ensures.kept
 
 pub returns-in-Heap-clause-refused : goal.returns-in-Heap-clause-refused
 returns-in-Heap-clause-refused g c =
-    on_err_weaker c.push_clones.result (λ h. inr (heap_place g c, (h.0, h.1, λ i. absurd (false≢true i)))) c.push_clones.ensures.refused
+    on_err_weaker c.push_clones.result (λ h. inr (heap_granted g c, (h.0, h.1, λ i. absurd (false≢true i)))) c.push_clones.ensures.refused
 
 -- a list that had no room is as it was before it grows
 same : (g : _) (c : In_default g) → c.in_default.self ≡ c.args.self.now
@@ -155,18 +159,18 @@ returns-in_ok-grow-in_default g c =
     let answer = c.extend_reserved.result in
     let made = c.extend_reserved.ensures in
     let grown = rw (same g (goal.at.returns-in_ok-grow-in_default g c).In_default) at c.in_ok-grow-in_default.ensures in
-    let place = place_then _ _ old mid new _ refl made.place grown.place in record {
+    let granted = granted_then _ _ old mid new _ refl made.place made.capacity grown.place grown.grown in record {
       items = rw (← grown.items) made.items;
       len = chosen answer _ _ (on_ok_weaker answer (λ h. appends_len C (tiny_items mid) (tiny_items new) ys h ∙ ap (λ l. length l + length ys) grown.items) made.items)
           (on_err_weaker answer (λ h. ap length (h ∙ grown.items)) made.kept);
       if_clones_equal =
           λ rule. chosen answer _ _ (on_ok_weaker answer (λ h. h.1 ∙ ap (λ l. l ++ h.0) grown.items ∙ ap (λ l. tiny_items old ++ l) (same_from_all_zip C ys h.0 h.2 rule)) made.items)
           (on_err_weaker answer (λ h. h ∙ grown.items) made.kept);
-      place = on_ok_weaker answer (λ _. place) made.items;
+      place = on_ok_weaker answer (λ _. granted.0) made.items;
       slots = on_ok_two answer made.items made.spare (λ h spare.
           tiny_slots_grown g.A.Item.Default.is_default old mid new (length ys) grown.stays made.place (appends_len C (tiny_items mid) (tiny_items new) ys h) spare);
       room = room_made _ _ old new answer g.A.Item.Default.is_default _ mid _ refl grown made.capacity made.fits;
       succeeds = λ _. made.succeeds;
       kept = rw (← grown.items) made.kept;
-      refused = on_err_weaker answer (λ h. inr (place, (h.0, h.1, λ i. rw (spare_kept old mid new grown.stays made.place i) at h.2 i))) made.refused;
+      refused = on_err_weaker answer (λ h. inr (granted, (h.0, h.1, λ i. rw (spare_kept old mid new grown.stays made.place i) at h.2 i))) made.refused;
     }

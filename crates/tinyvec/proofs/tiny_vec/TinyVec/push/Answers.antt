@@ -111,6 +111,7 @@ returns g c =
       slots = made.slot_rule;
       room = record { capacity = made.capacity; same_room = made.same_room; grown = made.doubles; fits = made.fits };
       succeeds = λ _. refl;
+      succeeds_inline = λ _ _. refl;
       full = tt;
       refused = tt;
       value_returned = tt;

@@ -15,7 +15,7 @@ use Rattle.tinyvec.specs.TinyVecSplice.{splice_view, splice_left, splice_replace
 use Rattle.tinyvec.specs.declared.splice.TinyVecSplice.{TinyVecSplice}
 use Rattle.tinyvec.proofs.SpliceLemmas.{Asks-splices, Asks-takes_removed}
 use Rattle.tinyvec_script.specs.Driving.{refused_items, TinySplices}
-use Rattle.tinyvec_script.proofs.DrivingLemmas.{into_iter_ends, given_within, place_framed, room_framed, capacity_framed, splices_finished, refused_over, rest_within, splice_computes}
+use Rattle.tinyvec_script.proofs.DrivingLemmas.{into_iter_ends, given_within, place_framed, room_framed, grown_framed, capacity_framed, splices_finished, refused_over, rest_within, splice_computes}
 use Rattle.tinyvec_script.proofs.driving.tiny.drive_tiny_splice.Goals.{After-finish}
 use Rattle.tinyvec_script.proofs.driving.tiny.drive_tiny_splice.Goals as goal
 
@@ -91,11 +91,14 @@ returns-clause-splices g c =
     c.requires.start_le_end c.requires.in_bounds made.front made.left made.back (whole g d) c.finish.result (finished g d) in
     let fact : TinySplices D slots c.args.vec.now c.args.start c.args.end word P c.take_word.new.yields.items c.keep_refused.new.list.items v = record {
       list = rw (yields, rest) list;
-      place = place_framed slots (tiny_len v) old mid v frame c.finish.ensures.grows.place;
-      slot_rule = tiny_slots_framed D old mid v frame c.finish.ensures.grows.slot_rule;
-      capacity = capacity_framed slots (tiny_len v) old mid v frame c.finish.ensures.grows.capacity;
-      same_room = room_framed slots (tiny_len v) old mid v frame c.finish.ensures.grows.same_room;
-      fits = c.finish.ensures.grows.fits;
+      grows = record {
+        place = place_framed slots (tiny_len v) old mid v frame c.finish.ensures.grows.place;
+        slot_rule = tiny_slots_framed D old mid v frame c.finish.ensures.grows.slot_rule;
+        capacity = capacity_framed slots (tiny_len v) old mid v frame c.finish.ensures.grows.capacity;
+        same_room = room_framed slots (tiny_len v) old mid v frame c.finish.ensures.grows.same_room;
+        grown = grown_framed slots (tiny_len v) old mid v frame c.finish.ensures.grows.grown;
+        fits = c.finish.ensures.grows.fits;
+      };
       no_shorter = λ over. rw (sym frame.len) (refused_over splice_view SpliceKeeps (fused_rest into_iter_items) _ _ word asks.0 (along _ _ asks.0 _ asks.1) (takes _ _ asks.0 _ asks.1)
           (tiny_capacity slots v) (tiny_items c.args.vec.now) (tiny_items v) c.args.start c.args.end P
           c.requires.start_le_end c.requires.in_bounds made.front made.left made.back (whole g d) c.finish.result (finished g d) c.finish.ensures.no_shorter over);

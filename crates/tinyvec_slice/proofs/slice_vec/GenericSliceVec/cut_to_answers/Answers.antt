@@ -18,6 +18,7 @@ loop-self-init g c =
       ran = ([], none, refl, refl);
       callable = c.requires.callable;
       same_reference = refl;
+      slot_count = refl;
     }
 
 pub loop-self-preserved : goal.loop-self-preserved
@@ -45,6 +46,7 @@ loop-self-preserved g c =
       );
       callable = search of_calls;
       same_reference = put.same_reference ∙ inv.same_reference;
+      slot_count = put.slot_count ∙ inv.slot_count;
     }
 
 pub returns-clause-items : goal.returns-clause-items
@@ -62,4 +64,4 @@ returns-clause-spare g c =
     let len = c.len.ensures.value in
     let done = c.loop-self-test.false in
     let ends : length (items_of g.B.Lent at.self) ≡ c.args.n = omega (arith, at.invariant.enough) in
-    (run.0, (run.0, refl, run.3), run.1 ∙ ap (λ n. length (items_of g.B.Lent c.args.self.now) - n) ends, run.2)
+    (run.0, (run.0, at.f, refl, run.3), run.1 ∙ ap (λ n. length (items_of g.B.Lent c.args.self.now) - n) ends, run.2)

@@ -15,6 +15,7 @@ loop-n-init g c =
       kept = sym (take_all (length L) L (le_refl _));
       cloned = ([], subst (λ n. AllZip g.B.Item.Clone.is_clone (replicate n c.args.x.now) []) none tt, refl);
       same_reference = refl;
+      slot_count = refl;
     }
 
 pub loop-n-preserved : goal.loop-n-preserved
@@ -37,6 +38,7 @@ loop-n-preserved g c =
       kept = first_items whole old new some put.items inv.kept;
       cloned = clone_before whole old new some put.items g.B.Item.Clone.is_clone c.args.x.now c.in_ok-filling.filling base behind after inv.shorter c.in_ok-filling.ensures.cases put.spare inv.cloned;
       same_reference = put.same_reference ∙ inv.same_reference;
+      slot_count = put.slot_count ∙ inv.slot_count;
     }
 
 pub returns-in_err-filling-clause-refused : goal.returns-in_err-filling-clause-refused

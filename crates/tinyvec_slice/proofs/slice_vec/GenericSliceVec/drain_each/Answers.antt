@@ -2,6 +2,9 @@ use Rattle.std.proofs.Common.{refl, sym, ap, ◌∙◌, subst, length, rules, of
 use Rattle.std.specs.Fn.{Called}
 use Rattle.std.specs.List.{FoldsTo}
 use Rattle.tinyvec_slice.specs.Drain.{DrainKeeps, DrainLeaves, drain_items}
+use Rattle.tinyvec_slots.specs.Cut.{range_start, range_end}
+use Rattle.tinyvec_slice.specs.SliceVec.{items_of}
+use Rattle.tinyvec_slice.proofs.ViewLemmas.{cut_count}
 use Rattle.tinyvec_slice.proofs.DrainLemmas.{DrainKeeps-then, drain_frees}
 use Rattle.tinyvec_slice.proofs.slice_vec.GenericSliceVec.drain_each.Goals as goal
 
@@ -50,4 +53,16 @@ returns-clause-spare g c =
     let drain = c.drain-x-items.ensures in
     let same = (keeps g c).same_reference in
     let frees = drain_frees g.B.Lent g.B.Item.Default.is_default _ c.args.self.now c.drop-x-iterator.new.self.0 c.drain-x-items.result c.next.new.self (keeps g c) (drain.count ∙ ap length drain.rest) drain.spare (left g c) in
+    search rules
+
+pub returns-clause-slot_count : goal.returns-clause-slot_count
+returns-clause-slot_count g c =
+    let drain = c.drain-x-items.ensures in
+    let same = (keeps g c).same_reference in
+    let list = items_of g.B.Lent c.args.self.now in
+    let new = c.drop-x-iterator.new.self.0 in
+    let listed = (left g c).1 ∙ (keeps g c).kept ∙ drain.kept in
+    let frees = drain_frees g.B.Lent g.B.Item.Default.is_default _ c.args.self.now new c.drain-x-items.result c.next.new.self (keeps g c) (drain.count ∙ ap length drain.rest) drain.spare (left g c) in
+    let count = cut_count g.B.Lent g.B.Item.Default.is_default c.args.self.now new (range_start (g.R.RangeBounds.start_bound c.args.range)) (range_end (g.R.RangeBounds.end_bound c.args.range) (length list))
+    c.requires.in_list.0 c.requires.in_list.1 listed frees in
     search rules

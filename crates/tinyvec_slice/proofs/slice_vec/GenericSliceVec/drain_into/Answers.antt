@@ -1,5 +1,9 @@
-use Rattle.std.proofs.Common.{arith, ◌∙◌, ap, length, length-append}
-use Rattle.tinyvec_slice.specs.Drain.{drain_items}
+use Rattle.std.proofs.Common.{arith, rules, ◌∙◌, ap, length, length-append}
+use Rattle.tinyvec_slots.specs.Cut.{range_start, range_end}
+use Rattle.tinyvec_slice.specs.SliceVec.{items_of}
+use Rattle.tinyvec_slice.specs.Drain.{DrainKeeps, DrainLeaves, drain_items}
+use Rattle.tinyvec_slice.proofs.DrainLemmas.{drain_frees}
+use Rattle.tinyvec_slice.proofs.ViewLemmas.{cut_count}
 use Rattle.tinyvec_slice.proofs.slice_vec.GenericSliceVec.drain_into.Goals as goal
 
 pub push_reserved-requires : goal.push_reserved-requires
@@ -15,3 +19,23 @@ push_reserved-requires g c =
     let kept = inv.room in
     let room = c.requires.room in
     omega arith
+
+-- what the drain left, once it ended
+module _ (g : _) (c : goal.After-self-1 g) where
+  keeps : DrainKeeps g.B.Lent c.drain-x-items.result c.next.new.self
+  keeps = rw (c.in-None.ensures.steps.1, ← c.into_iter-x-iterator.ensures.into_iter_gives) c.loop-x.invariant.keeps
+
+  left : DrainLeaves g.B.Lent g.B.Item.Default.is_default c.next.new.self c.drop-x-iterator.new.self.0
+  left = c.drop-x-iterator.ensures (rw c.in-None.ensures.steps.1 c.loop-x.invariant.can)
+
+pub returns-clause-slot_count : goal.returns-clause-slot_count
+returns-clause-slot_count g c =
+    let drain = c.drain-x-items.ensures in
+    let same = (keeps g c).same_reference in
+    let list = items_of g.B.Lent c.args.self.now in
+    let new = c.drop-x-iterator.new.self.0 in
+    let listed = (left g c).1 ∙ (keeps g c).kept ∙ drain.kept in
+    let frees = drain_frees g.B.Lent g.B.Item.Default.is_default _ c.args.self.now new c.drain-x-items.result c.next.new.self (keeps g c) (drain.count ∙ ap length drain.rest) drain.spare (left g c) in
+    let count = cut_count g.B.Lent g.B.Item.Default.is_default c.args.self.now new (range_start (g.R.RangeBounds.start_bound c.args.range)) (range_end (g.R.RangeBounds.end_bound c.args.range) (length list))
+    c.requires.in_list.0 c.requires.in_list.1 listed frees in
+    search rules

@@ -40,4 +40,5 @@ loop-self-preserved g c =
       );
       callable = search of_calls;
       same_reference = put.same_reference ∙ at.invariant.same_reference;
+      slot_count = put.slot_count ∙ at.invariant.slot_count;
     }

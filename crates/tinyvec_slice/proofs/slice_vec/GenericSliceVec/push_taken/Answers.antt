@@ -32,6 +32,7 @@ loop-i-preserved g c =
       left = rest_after_one at.from first i d inv.left;
       defaults = All-same D _ _ (take_more_set at.from i d long) (All-push D (take i at.from) d inv.defaults c.take.ensures.after);
       same_reference = put.same_reference ∙ inv.same_reference;
+      slot_count = put.slot_count ∙ inv.slot_count;
     }
 
 pub returns-clause-left : goal.returns-clause-left

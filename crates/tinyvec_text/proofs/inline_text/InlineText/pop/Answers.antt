@@ -1,18 +1,19 @@
 use Rattle.std.proofs.Common.{◌≡◌, ◌++◌, ◌∷◌, [], IsUtf8, encode_utf8, take, ap, sym, subst, ◌∙◌, chars, refl, rules}
 use Rattle.std.specs.Char.{IsScalar}
-use Rattle.std.proofs.lemmas.Str.{IsUtf8-had, IsUtf8-encode, chars-append}
+use Rattle.std.proofs.lemmas.Str.{IsUtf8-encode, chars-append}
 use Rattle.tinyvec.specs.TinyVec.{tiny_items}
 use Rattle.tinyvec_text.specs.InlineText.{text_chars}
 use Rattle.tinyvec_text.proofs.Boundaries.{chars_of_one}
+use Rattle.tinyvec_text.proofs.Lists.{text_utf8, text_stays}
 use Rattle.tinyvec_text.proofs.inline_text.InlineText.pop.Goals as goal
 
 pub last_char-c-requires-clause-utf8 : goal.last_char-c-requires-clause-utf8
-last_char-c-requires-clause-utf8 g c = rw (← c.as_slice-bytes.ensures) at (IsUtf8-had _ c.self.invariant)
+last_char-c-requires-clause-utf8 g c = rw (← c.as_slice-bytes.ensures) at (text_utf8 c.self.inside.list c.self.invariant)
 
 pub invariant_of-self : goal.invariant_of-self
 invariant_of-self g c =
     let front = rw c.as_slice-bytes.ensures at c.last_char-c.ensures.front in
-    ∣ subst IsUtf8 (sym c.truncate.ensures.items) front ∣₁
+    text_stays g.row.N c.self.inside.list c.truncate.new.self c.truncate.ensures.frame c.self.invariant (subst IsUtf8 (sym c.truncate.ensures.items) front)
 
 pub returns-clause-text : goal.returns-clause-text
 returns-clause-text g c =

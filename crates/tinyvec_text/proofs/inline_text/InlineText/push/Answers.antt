@@ -1,28 +1,26 @@
 use Rattle.std.proofs.Common.{◌≡◌, ◌++◌, ◌∷◌, [], IsUtf8, ap, sym, subst, ◌∙◌, chars, rules}
-use Rattle.std.proofs.lemmas.Str.{IsUtf8-had, IsUtf8-append, IsUtf8-from_ascii, chars-append, encode_ascii}
+use Rattle.std.proofs.lemmas.Str.{IsUtf8-append, IsUtf8-from_ascii, chars-append, encode_ascii}
 use Rattle.std.specs.Prelude.{encode_utf8}
 use Rattle.tinyvec.specs.TinyVec.{tiny_items}
 use Rattle.tinyvec_text.specs.InlineText.{Text, text_chars}
 use Rattle.tinyvec_text.proofs.Boundaries.{chars_of_one}
+use Rattle.tinyvec_text.proofs.Lists.{text_utf8, text_kept, text_same}
 use Rattle.tinyvec_text.proofs.inline_text.InlineText.push.Goals as goal
 
 pub invariant_of-self : goal.invariant_of-self
-invariant_of-self g c = ∣ subst IsUtf8 (sym c.in_err-push.ensures.refused.items) (IsUtf8-had _ c.self.invariant) ∣₁
+invariant_of-self g c = text_same c.self.inside.list c.push.new.self c.in_err-push.ensures.refused c.self.invariant
 
 pub invariant_of-self-then-is_ascii : goal.invariant_of-self-then-is_ascii
 invariant_of-self-then-is_ascii g c =
     let joined : tiny_items c.push.new.self ≡ tiny_items c.self.inside.list ++ c.args.c ∷ [] = search rules in
     let ascii = IsUtf8-from_ascii (c.args.c ∷ []) (search rules) in
-    ∣ subst IsUtf8 (sym joined) (IsUtf8-append _ _ (IsUtf8-had _ c.self.invariant) ascii) ∣₁
+    text_kept c.self.inside.list c.push.new.self (λ i. (c.in_ok-push.ensures.place.0 i).0) c.in_ok-push.ensures.slots c.self.invariant
+    (subst IsUtf8 (sym joined) (IsUtf8-append _ _ (text_utf8 c.self.inside.list c.self.invariant) ascii))
 
 pub returns-then-is_ascii-clause-text : goal.returns-then-is_ascii-clause-text
 returns-then-is_ascii-clause-text g c =
     let joined : tiny_items c.push.new.self ≡ tiny_items c.self.inside.list ++ c.args.c ∷ [] = search rules in
     let ascii = IsUtf8-from_ascii (c.args.c ∷ []) (search rules) in
     let own : encode_utf8 c.args.c ≡ c.args.c ∷ [] = encode_ascii c.args.c (search rules) in
-    ap chars joined ∙ chars-append _ _ (IsUtf8-had _ c.self.invariant) ∙ ap (λ cs. chars (tiny_items c.self.inside.list) ++ cs) (chars_of_one _ c.args.c ascii (sym own))
+    ap chars joined ∙ chars-append _ _ (text_utf8 c.self.inside.list c.self.invariant) ∙ ap (λ cs. chars (tiny_items c.self.inside.list) ++ cs) (chars_of_one _ c.args.c ascii (sym own))
     ∙ ap (λ (t : Text). text_chars t ++ c.args.c ∷ []) c.self.view_is
-
-pub returns-clause-text : goal.returns-clause-text
-returns-clause-text g c =
-    c.in_ok-push_str.ensures.text ∙ ap (λ cs. text_chars c.args.self.now ++ cs) (chars_of_one _ c.args.c c.encode_utf8.utf8 c.encode_utf8.ensures.value)

@@ -1,9 +1,11 @@
 use Rattle.std.proofs.Common.{IsUtf8, sym, subst}
-use Rattle.std.proofs.lemmas.Str.{IsUtf8-had}
+use Rattle.tinyvec_text.proofs.Lists.{text_utf8, text_kept, text_same}
 use Rattle.tinyvec_text.proofs.inline_text.InlineText.reserve.Goals as goal
 
 pub invariant_of-self : goal.invariant_of-self
-invariant_of-self g c = ∣ subst IsUtf8 (sym c.in_err-reserve.ensures.items) (IsUtf8-had _ c.self.invariant) ∣₁
+invariant_of-self g c = text_same c.self.inside.list c.reserve.new.self c.in_err-reserve.ensures.refused c.self.invariant
 
 pub invariant_of-self-2 : goal.invariant_of-self-2
-invariant_of-self-2 g c = ∣ subst IsUtf8 (sym c.in_ok-reserve.ensures.items) (IsUtf8-had _ c.self.invariant) ∣₁
+invariant_of-self-2 g c =
+    let told = c.in_ok-reserve.ensures in
+    text_kept c.self.inside.list c.reserve.new.self (λ i. (told.place.0 i).0) told.slot_rule c.self.invariant (subst IsUtf8 (sym told.items) (text_utf8 c.self.inside.list c.self.invariant))

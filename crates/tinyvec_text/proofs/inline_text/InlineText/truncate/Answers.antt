@@ -1,29 +1,27 @@
 use Rattle.std.proofs.Common.{◌++◌, IsUtf8, ap, sym, subst, ◌∙◌, chars, length, drop, length-take-le}
 use Rattle.std.proofs.CharBoundary.{IsUtf8-take-drop}
-use Rattle.std.proofs.lemmas.Str.{IsUtf8-had}
 use Rattle.tinyvec.specs.TinyVec.{tiny_items}
-use Rattle.tinyvec_text.specs.InlineText.{Text, text_chars, IsBoundary}
-use Rattle.tinyvec_text.proofs.Boundaries.{chars_cut, split_from_boundary}
+use Rattle.tinyvec_text.specs.InlineText.{text_chars}
+use Rattle.tinyvec_text.proofs.Boundaries.{chars_cut}
+use Rattle.tinyvec_text.proofs.Lists.{text_utf8, text_cut, text_stays}
 use Rattle.tinyvec_text.proofs.inline_text.InlineText.truncate.Goals as goal
 
 pub invariant_of-self : goal.invariant_of-self
 invariant_of-self g c =
-    let bs = tiny_items c.self.inside.list in
-    let utf8 = IsUtf8-had bs c.self.invariant in
-    let cut = split_from_boundary bs utf8 c.args.i (subst (λ (t : Text). IsBoundary (text_chars t) c.args.i) (sym c.self.view_is) c.requires) in
-    ∣ subst IsUtf8 (sym c.truncate.ensures.items) (IsUtf8-take-drop bs utf8 c.args.i cut).0 ∣₁
+    let list = c.self.inside.list in
+    let cut = text_cut g.row.N list c.args.self.now c.self.view_is c.self.invariant c.args.i c.requires in
+    let front = (IsUtf8-take-drop (tiny_items list) (text_utf8 list c.self.invariant) c.args.i cut).0 in
+    text_stays g.row.N c.self.inside.list c.truncate.new.self c.truncate.ensures.frame c.self.invariant (subst IsUtf8 (sym c.truncate.ensures.items) front)
 
 pub returns-clause-text : goal.returns-clause-text
 returns-clause-text g c =
-    let bs = tiny_items c.self.inside.list in
-    let utf8 = IsUtf8-had bs c.self.invariant in
-    let cut = split_from_boundary bs utf8 c.args.i (subst (λ (t : Text). IsBoundary (text_chars t) c.args.i) (sym c.self.view_is) c.requires) in
-    let rest = chars (drop c.args.i bs) in
-    (rest, sym (ap text_chars c.self.view_is) ∙ chars_cut bs utf8 c.args.i cut ∙ ap (λ xs. chars xs ++ rest) (sym c.truncate.ensures.items))
+    let list = c.self.inside.list in
+    let cut = text_cut g.row.N list c.args.self.now c.self.view_is c.self.invariant c.args.i c.requires in
+    let rest = chars (drop c.args.i (tiny_items list)) in
+    (rest, sym (ap text_chars c.self.view_is) ∙ chars_cut (tiny_items list) (text_utf8 list c.self.invariant) c.args.i cut ∙ ap (λ xs. chars xs ++ rest) (sym c.truncate.ensures.items))
 
 pub returns-clause-len : goal.returns-clause-len
 returns-clause-len g c =
-    let bs = tiny_items c.self.inside.list in
-    let utf8 = IsUtf8-had bs c.self.invariant in
-    let cut = split_from_boundary bs utf8 c.args.i (subst (λ (t : Text). IsBoundary (text_chars t) c.args.i) (sym c.self.view_is) c.requires) in
-    ap length c.truncate.ensures.items ∙ length-take-le c.args.i bs cut.0
+    let list = c.self.inside.list in
+    let cut = text_cut g.row.N list c.args.self.now c.self.view_is c.self.invariant c.args.i c.requires in
+    ap length c.truncate.ensures.items ∙ length-take-le c.args.i (tiny_items list) cut.0

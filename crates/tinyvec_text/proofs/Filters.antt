@@ -1,0 +1,100 @@
+-- Characters that are kept or removed, in place.
+use Rattle.std.proofs.Common.{◌≡◌, ℕ, ◌+◌, ◌<◌, ◌≤◌, Bool, true, false, cond, ◌&&◌, List, [], ◌∷◌, ◌++◌, length, take, drop, get_or, set, refl, sym, ap, subst, ◌∙◌, suc, arith, IsUtf8, encode_utf8, append_assoc, append-nil, length-drop, length-set, take-append-drop}
+use Rattle.std.specs.Fn.{Called}
+use Rattle.std.specs.Str.{all_scalars, encode_utf8_all}
+use Rattle.std.specs.Char.{IsScalar}
+use Rattle.std.specs.String.{RetainsChars}
+use Rattle.std.specs.List.Retain.{IsFiltered}
+use Rattle.std.proofs.lemmas.List.{drop-drop, drop-set-lt, drop_all, get_or-drop}
+use Rattle.std.proofs.lemmas.Str.{IsUtf8-append, IsUtf8-encode, IsUtf8-nil}
+use Rattle.std.proofs.Math.Seq.{take-suc, take-suc-set}
+use denote.Param.Members.{Mut}
+
+-- bs is xs, with the i bytes at `from` copied to `to`
+pub record CopiedDown (xs bs : List ℕ) (to from i : ℕ) : Type 0 where
+  pub len : length bs ≡ length xs
+  pub front : take (to + i) bs ≡ take to xs ++ take i (drop from xs)
+  pub rest : drop (from + i) bs ≡ drop (from + i) xs
+
+pub copied_none : (xs : List ℕ) (to from : ℕ) → CopiedDown xs xs to from 0
+copied_none xs to from = let none : to + 0 ≡ to = omega arith in record { len = refl; front = ap (λ k. take k xs) none ∙ sym (append-nil (take to xs)); rest = refl }
+
+pub copied_more : (xs bs : List ℕ) (to from i : ℕ) → to ≤ from → from + i < length xs → CopiedDown xs bs to from i
+    → CopiedDown xs (set bs (to + i) (get_or bs (from + i) 0)) to from (i + 1)
+copied_more xs bs to from i down within h =
+    let b = get_or bs (from + i) 0 in
+    let here : from + i + 0 ≡ from + i = omega arith in
+    let is : b ≡ get_or (drop from xs) i 0 =
+    ap (λ k. get_or bs k 0) (sym here) ∙ sym (get_or-drop (from + i) bs 0 0) ∙ ap (λ l. get_or l 0 0) h.rest
+    ∙ get_or-drop (from + i) xs 0 0 ∙ ap (λ k. get_or xs k 0) here ∙ sym (get_or-drop from xs i 0) in
+    let left = length-drop from xs in
+    let len = h.len in
+    let on : to + (i + 1) ≡ suc (to + i) = omega arith in
+    let more : suc i ≡ i + 1 = omega arith in
+    let past : from + i + 1 ≡ from + (i + 1) = omega arith in record {
+      len = length-set bs (to + i) b ∙ len;
+      front =
+          ap (λ k. take k (set bs (to + i) b)) on ∙ take-suc-set bs (to + i) b (omega (arith, within, down, len))
+          ∙ (λ j. h.front j ++ is j ∷ []) ∙ append_assoc (take to xs) (take i (drop from xs)) (get_or (drop from xs) i 0 ∷ [])
+          ∙ ap (λ l. take to xs ++ l) (sym (take-suc (drop from xs) i 0 (omega (arith, within, left))) ∙ ap (λ k. take k (drop from xs)) more);
+      rest =
+          drop-set-lt (from + (i + 1)) bs (to + i) b (omega (arith, down)) ∙ ap (λ k. drop k bs) (sym past) ∙ sym (drop-drop 1 (from + i) bs)
+          ∙ ap (drop 1) h.rest ∙ drop-drop 1 (from + i) xs ∙ ap (λ k. drop k xs) past;
+    }
+
+module _ {F : Type 0} (g : Mut F (ℕ × Unit {0}) Bool) (first : F) (xs : List ℕ) where
+  abbrev pub Asks : F → ℕ → Bool → F → Type 0
+  Asks p c b q = Called g p (c, tt) b q
+
+  -- Of the first `read` bytes of xs, the kept characters are the first `kept` bytes of bs: whatever is kept of the others, both
+  -- together are what is kept of xs.
+  pub record Retaining (f : F) (bs : List ℕ) (read kept : ℕ) : Type 0 where
+    pub so_far : (all ks : List ℕ) → all_scalars all ≡ true → encode_utf8_all all ≡ drop read xs → IsFiltered Asks f all ks
+        → RetainsChars g first xs (take kept bs ++ encode_utf8_all ks)
+    pub front : IsUtf8 (take kept bs)
+    pub same : drop read bs ≡ drop read xs
+    pub rest : IsUtf8 (drop read bs)
+
+  pub retain_none : IsUtf8 xs → Retaining first xs 0 0
+  retain_none u = record {
+    so_far = λ all ks are spell chosen. record { all = all; kept = ks; are = are; spell = spell; chosen = chosen; stay = refl };
+    front = IsUtf8-nil;
+    same = refl;
+    rest = u;
+  }
+
+  chosen_more : (f p : F) (c : ℕ) (b : Bool) (all ks : List ℕ) → Asks f c b p → IsFiltered Asks p all ks
+      → IsFiltered Asks f (c ∷ all) (cond b (c ∷ ks) ks)
+  chosen_more f p c true all ks r (bs, q, len, turn, is) = (true ∷ bs, q, ap suc len, (p, r, turn), ap (λ l. c ∷ l) is)
+  chosen_more f p c false all ks r (bs, q, len, turn, is) = (false ∷ bs, q, ap suc len, (p, r, turn), is)
+
+  spelled : (b : Bool) (c : ℕ) (ks : List ℕ) → cond b (encode_utf8 c) [] ++ encode_utf8_all ks ≡ encode_utf8_all (cond b (c ∷ ks) ks)
+  spelled true c ks = refl
+  spelled false c ks = refl
+
+  utf8_kept : (b : Bool) (c : ℕ) → IsScalar c → IsUtf8 (cond b (encode_utf8 c) [])
+  utf8_kept true c is = IsUtf8-encode c is
+  utf8_kept false c is = IsUtf8-nil
+
+  pub retain_more : (f p : F) (bs ds : List ℕ) (read kept to n c : ℕ) (b : Bool) → Retaining f bs read kept → Asks f c b p
+      → take n (drop read bs) ≡ encode_utf8 c → IsUtf8 (drop (read + n) bs) → IsScalar c
+      → take to ds ≡ take kept bs ++ cond b (encode_utf8 c) [] → drop (read + n) ds ≡ drop (read + n) bs → Retaining p ds (read + n) to
+  retain_more f p bs ds read kept to n c b s r own after scalar put left =
+      let same : drop (read + n) ds ≡ drop (read + n) xs = left ∙ sym (drop-drop n read bs) ∙ ap (drop n) s.same ∙ drop-drop n read xs in
+      record {
+        so_far = λ all ks are spell chosen.
+            let whole : encode_utf8_all (c ∷ all) ≡ drop read xs =
+            (λ i. sym own i ++ (spell ∙ sym (drop-drop n read xs) ∙ ap (drop n) (sym s.same)) i) ∙ take-append-drop n (drop read bs) ∙ s.same in
+            let joined : take kept bs ++ encode_utf8_all (cond b (c ∷ ks) ks) ≡ take to ds ++ encode_utf8_all ks =
+            ap (λ l. take kept bs ++ l) (sym (spelled b c ks)) ∙ sym (append_assoc (take kept bs) (cond b (encode_utf8 c) []) (encode_utf8_all ks))
+            ∙ ap (λ l. l ++ encode_utf8_all ks) (sym put) in
+            subst (RetainsChars g first xs) joined
+            (s.so_far (c ∷ all) (cond b (c ∷ ks) ks) (ap (λ k. k && all_scalars all) scalar ∙ are) whole (chosen_more f p c b all ks r chosen));
+        front = subst IsUtf8 (sym put) (IsUtf8-append (take kept bs) (cond b (encode_utf8 c) []) s.front (utf8_kept b c scalar));
+        same = same;
+        rest = subst IsUtf8 (sym left) after;
+      }
+
+  pub retain_all : (f : F) (bs : List ℕ) (read kept : ℕ) → length xs ≤ read → Retaining f bs read kept → RetainsChars g first xs (take kept bs)
+  retain_all f bs read kept all s =
+      subst (RetainsChars g first xs) (append-nil (take kept bs)) (s.so_far [] [] refl (sym (drop_all read xs all)) ([], f, refl, refl, refl))

@@ -1,0 +1,27 @@
+use Rattle.std.proofs.Common.{◌≡◌, ◌++◌, ◌∷◌, [], IsUtf8, ap, sym, subst, ◌∙◌, chars, rules}
+use Rattle.std.proofs.lemmas.Str.{IsUtf8-append, IsUtf8-from_ascii, chars-append, encode_ascii}
+use Rattle.std.specs.Prelude.{encode_utf8}
+use Rattle.tinyvec.specs.TinyVec.{tiny_items}
+use Rattle.tinyvec_text.specs.InlineText.{Text, text_chars}
+use Rattle.tinyvec_text.proofs.Boundaries.{chars_of_one}
+use Rattle.tinyvec_text.proofs.Lists.{text_utf8, text_stays}
+use Rattle.tinyvec_text.proofs.inline_text.InlineText.push_reserved.Goals as goal
+
+pub invariant_of-self : goal.invariant_of-self
+invariant_of-self g c =
+    let ascii = IsUtf8-from_ascii (c.args.c ∷ []) (search rules) in
+    let told = c.push_reserved.ensures in
+    text_stays g.row.N c.self.inside.list c.push_reserved.new.self told.frame c.self.invariant
+    (subst IsUtf8 (sym told.items) (IsUtf8-append _ _ (text_utf8 c.self.inside.list c.self.invariant) ascii))
+
+pub returns-then-is_ascii-clause-text : goal.returns-then-is_ascii-clause-text
+returns-then-is_ascii-clause-text g c =
+    let list = c.self.inside.list in
+    let ascii = IsUtf8-from_ascii (c.args.c ∷ []) (search rules) in
+    let own : encode_utf8 c.args.c ≡ c.args.c ∷ [] = encode_ascii c.args.c (search rules) in
+    ap chars c.push_reserved.ensures.items ∙ chars-append _ _ (text_utf8 list c.self.invariant)
+    ∙ ap (λ cs. chars (tiny_items list) ++ cs) (chars_of_one _ c.args.c ascii (sym own)) ∙ ap (λ (t : Text). text_chars t ++ c.args.c ∷ []) c.self.view_is
+
+pub returns-clause-text : goal.returns-clause-text
+returns-clause-text g c =
+    c.push_str_reserved.ensures.text ∙ ap (λ cs. text_chars c.args.self.now ++ cs) (chars_of_one _ c.args.c c.encode_utf8.utf8 c.encode_utf8.ensures.value)

@@ -1,0 +1,14 @@
+use Rattle.std.proofs.Common.{length, length-append, ap, ◌∙◌, arith}
+use Rattle.std.specs.List.{flat_map}
+use Rattle.tinyvec_text.proofs.Extending.{no_more}
+use Rattle.tinyvec_text.proofs.inline_text.extending.InlineTextExtendRefStr.extend.Goals as goal
+
+pub returns-in_err-push_str-clause-known : goal.returns-in_err-push_str-clause-known
+returns-in_err-push_str-clause-known g c = λ all yields enough.
+    let at = c.loop-s in
+    let it = c.into_iter-rest.result in
+    let begun = no_more g.U.IntoIter.Iterator.next_gives (λ x. x.now) it at.yielded c.in-Some.s _ all (yields it c.into_iter-rest.ensures.into_iter_gives) (at.rest, at.yielded_by, c.in-Some.ensures.steps) in
+    let len = ap length at.invariant.bytes ∙ length-append c.args.self.now.bytes (flat_map (λ x. x.now) at.yielded) in
+    let room = at.invariant.grows.capacity in
+    let full = c.in_err-push_str.ensures.room.full in
+    absurd (omega (arith, begun, len, room, full, enough))

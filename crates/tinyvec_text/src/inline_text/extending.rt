@@ -1,0 +1,91 @@
+//! The characters and texts of an iterator.
+ghost use Rattle.std.specs.Prelude.{◌≡◌, ℕ, ◌+◌, ◌≤◌, ◌++◌, List, length, ⊤, IsOk, encode_utf8_all};
+ghost use Rattle.std.specs.List.{flat_map};
+ghost use Rattle.std.specs.Iterator.{IsFinite, HoldsAlong, ExtendsWithItems};
+ghost use Rattle.tinyvec_slots.specs.Filling.{IntoIterYields};
+ghost use Rattle.tinyvec_text.specs.InlineText.{text_len, TextExtends};
+
+use super::InlineText;
+use std::alloc::{AllocError, Global};
+
+/// Appends the characters. If the allocator refuses, those before stay.
+impl<const N: usize> Extend<char> for InlineText<N> {
+    ghost extend_gives = { λ t cs u. u.bytes ≡ t.bytes ++ encode_utf8_all cs };
+
+    fn extend<U: IntoIterator<Item = char>>(&mut self, iter: U) -> Result<(), AllocError>
+        requires { (it : U.IntoIter) → U.into_iter_gives iter it
+            → U.IntoIter.can_next it × IsFinite (U.IntoIter.remaining it) × HoldsAlong U.IntoIter.next_gives it (λ _. ⊤) }
+        ensures ran { ExtendsWithItems U.into_iter_gives U.IntoIter.next_gives
+            (λ t cs u. u.bytes ≡ t.bytes ++ encode_utf8_all cs) iter self.old self.new result }
+        ensures grows { TextExtends N self.old self.new }
+
+        // Where known characters fit, it allocates nothing.
+        ensures known { (cs : List ℕ) → IntoIterYields U.into_iter_gives U.IntoIter.next_gives iter cs
+            → text_len self.old + length (encode_utf8_all cs) ≤ self.old.room → IsOk result }
+    {
+        // Shows the proof that the text fits.
+        let _room = self.capacity();
+        let mut rest = iter.into_iter();
+        while let Some(c) = rest.next() {
+            self.push(c)?;
+        }
+        Ok(())
+    }
+}
+
+/// Appends the texts. If the allocator refuses, those before stay.
+impl<'a, const N: usize> Extend<&'a str> for InlineText<N> {
+    ghost extend_gives = { λ t xs u. u.bytes ≡ t.bytes ++ flat_map (λ x. x.now) xs };
+
+    fn extend<U: IntoIterator<Item = &'a str>>(&mut self, iter: U) -> Result<(), AllocError>
+        requires { (it : U.IntoIter) → U.into_iter_gives iter it
+            → U.IntoIter.can_next it × IsFinite (U.IntoIter.remaining it) × HoldsAlong U.IntoIter.next_gives it (λ _. ⊤) }
+        ensures ran { ExtendsWithItems U.into_iter_gives U.IntoIter.next_gives
+            (λ t xs u. u.bytes ≡ t.bytes ++ flat_map (λ x. x.now) xs) iter self.old self.new result }
+        ensures grows { TextExtends N self.old self.new }
+
+        // Where known texts fit, it allocates nothing.
+        ensures known { (xs : _) → IntoIterYields U.into_iter_gives U.IntoIter.next_gives iter xs
+            → text_len self.old + length (flat_map (λ x. x.now) xs) ≤ self.old.room → IsOk result }
+    {
+        // Shows the proof that the text fits.
+        let _room = self.capacity();
+        let mut rest = iter.into_iter();
+        while let Some(s) = rest.next() {
+            self.push_str(s)?;
+        }
+        Ok(())
+    }
+}
+
+/// The characters, as by `extend`. If the allocator refuses, they are dropped.
+impl<const N: usize> FromIterator<char> for InlineText<N> {
+    type Alloc = Global;
+
+    ghost from_iter_gives = { λ cs t. t.bytes ≡ encode_utf8_all cs };
+
+    fn from_iter<U: IntoIterator<Item = char>>(
+        alloc: Global,
+        iter: U,
+    ) -> Result<InlineText<N>, AllocError> {
+        let mut text = Self::new(alloc);
+        text.extend(iter)?;
+        Ok(text)
+    }
+}
+
+/// The texts, one after another, as by `extend`. If the allocator refuses, they are dropped.
+impl<'a, const N: usize> FromIterator<&'a str> for InlineText<N> {
+    type Alloc = Global;
+
+    ghost from_iter_gives = { λ xs t. t.bytes ≡ flat_map (λ x. x.now) xs };
+
+    fn from_iter<U: IntoIterator<Item = &'a str>>(
+        alloc: Global,
+        iter: U,
+    ) -> Result<InlineText<N>, AllocError> {
+        let mut text = Self::new(alloc);
+        text.extend(iter)?;
+        Ok(text)
+    }
+}
