@@ -1,11 +1,14 @@
 //! Callers of an `InlineText`.
-ghost use Rattle.std.specs.Prelude.{◌≡◌, ◌<◌, [], length, IsTrue, IfOk, IsOk};
+ghost use Rattle.std.specs.Prelude.{◌≡◌, ◌+◌, ◌≤◌, ◌++◌, ◌∷◌, [], ◌↔◌, length, drop, IsTrue, IfOk, IsOk, IfErr, OnOk, IsUtf8, encode_utf8};
+ghost use Rattle.std.specs.String.{string_bytes};
 ghost use Rattle.tinyvec.specs.TinyVec.{tiny_items};
-ghost use Rattle.tinyvec_text.specs.InlineText.{text_chars};
+ghost use Rattle.tinyvec_text.specs.InlineText.{text_chars, text_len, IsBoundary};
 
 use std::alloc::{AllocError, Global};
-use tinyvec::TinyVec;
-use tinyvec_text::InlineText;
+use std::fmt;
+use std::fmt::Write;
+use tinyvec::{NoMemory, TinyVec};
+use tinyvec_text::{FromUtf8Error, InlineText};
 
 /// No characters, in the value.
 pub fn empty(alloc: Global) -> InlineText<8>
@@ -86,4 +89,127 @@ pub fn twice(text: &InlineText<8>) -> Result<InlineText<8>, AllocError>
     ensures succeeds { IsTrue text.now.inline → IsOk result }
 {
     text.clone()
+}
+
+/// No characters, and room for a line of a terminal, so that as many bytes take no further memory.
+pub fn line(alloc: Global) -> Result<InlineText<8>, AllocError>
+    ensures { IfOk result (λ text. (text.bytes ≡ []) × (text.room ≡ 80)) }
+{
+    InlineText::with_capacity(alloc, 80)
+}
+
+/// The text of bytes from outside, or the bytes again where they are none.
+pub fn from_outside(bytes: TinyVec<[u8; 8]>) -> Result<InlineText<8>, FromUtf8Error<8>>
+    ensures text { IfOk result (λ text. text.bytes ≡ tiny_items bytes) }
+    ensures kept { IfErr result (λ refused. refused.bytes ≡ bytes) }
+    ensures succeeds { IsUtf8 (tiny_items bytes) → IsOk result }
+{
+    InlineText::from_utf8(bytes)
+}
+
+/// The bytes of a text and back, which allocates nothing.
+pub fn there_and_back(text: InlineText<8>) -> Result<InlineText<8>, FromUtf8Error<8>>
+    ensures same { IfOk result (λ again. again ≡ text) }
+    ensures succeeds { IsOk result }
+{
+    InlineText::from_utf8(text.into_bytes())
+}
+
+/// The text as a `String`, for a caller that wants one.
+pub fn as_string(text: InlineText<8>) -> Result<String, NoMemory<InlineText<8>>>
+    ensures bytes { IfOk result (λ s. string_bytes s ≡ text.bytes) }
+    ensures kept { IfErr result (λ refused. refused.0 ≡ text) }
+{
+    text.into_string()
+}
+
+/// A text of two characters, which has room in the value, so that no call can fail.
+pub fn initials(alloc: Global, first: char, last: char) -> InlineText<8>
+    ensures { text_chars result ≡ first ∷ last ∷ [] }
+{
+    let mut text = InlineText::new(alloc);
+    text.push_reserved(first);
+    text.push_reserved(last);
+    text
+}
+
+/// A separator after the text, for which the caller has reserved room.
+pub fn separated(text: &mut InlineText<8>, separator: &str)
+    requires { text_len text.old + length separator.now ≤ text.old.room }
+    ensures { text.new.bytes ≡ text.old.bytes ++ separator.now }
+{
+    text.push_str_reserved(separator);
+}
+
+/// A sign before the text.
+pub fn signed(text: &mut InlineText<8>) -> Result<(), AllocError>
+    ensures { OnOk result (text.new.bytes ≡ encode_utf8 45 ++ text.old.bytes) }
+{
+    text.insert(0, '-')
+}
+
+/// A prefix before the text.
+pub fn prefixed(text: &mut InlineText<8>, prefix: &str) -> Result<(), AllocError>
+    ensures { OnOk result (text.new.bytes ≡ prefix.now ++ text.old.bytes) }
+{
+    text.insert_str(0, prefix)
+}
+
+/// The first character, if there is one, which is taken off.
+pub fn take_first(text: &mut InlineText<8>) -> Option<char> {
+    if text.is_empty() {
+        return None;
+    }
+    Some(text.remove(0))
+}
+
+/// The text without its blanks.
+pub fn without_blanks(text: &mut InlineText<8>) {
+    text.retain(|c| c != ' ');
+}
+
+/// The first `n` bytes replaced, where a character ends there.
+pub fn with_front(text: &mut InlineText<8>, n: usize, front: &str) -> Result<bool, AllocError>
+    ensures { IfOk result (λ done. IsTrue done → text.new.bytes ≡ front.now ++ drop n text.old.bytes) }
+{
+    if !text.is_char_boundary(n) {
+        return Ok(false);
+    }
+    text.replace_range(..n, front)?;
+    Ok(true)
+}
+
+/// The text from the byte `at` on, which is cut off.
+pub fn cut_off(text: &mut InlineText<8>, at: usize) -> Result<InlineText<8>, AllocError>
+    requires { IsBoundary (text_chars text.old) at }
+    ensures { IfOk result (λ rest. text_chars text.old ≡ text_chars text.new ++ text_chars rest) }
+{
+    text.split_off(at)
+}
+
+/// The text in the value again, where it fits there.
+pub fn packed(text: &mut InlineText<8>)
+    ensures { IsTrue text.new.inline ↔ (text_len text.old ≤ 8) }
+{
+    text.shrink_to_fit();
+}
+
+/// The two sides of the first equals sign, as those of a `str`.
+pub fn key_and_value(text: &InlineText<8>) -> Option<(&str, &str)> {
+    text.split_once('=')
+}
+
+/// The words after the text, one after another.
+pub fn add_words(text: &mut InlineText<8>, words: &[&str]) -> Result<(), AllocError> {
+    text.extend(words.iter().copied())
+}
+
+/// The characters of a `str`, in the value where they fit.
+pub fn gathered(alloc: Global, s: &str) -> Result<InlineText<8>, AllocError> {
+    s.chars().collect(alloc)
+}
+
+/// A number in decimal after the text.
+pub fn add_number(text: &mut InlineText<8>, number: u32) -> fmt::Result {
+    write!(text, "{number}")
 }

@@ -1,4 +1,4 @@
-//! Comparisons, hashes, texts, writers, indexing and iteration.
+//! Clones, comparisons, hashes, printing and writing.
 ghost use Rattle.std.specs.Prelude.{◌≡◌, false, IsTrue, IsOk, IfOk, MatchResult, Some, nat_eq, refl, ◌+◌, ◌≤◌, ◌++◌, length, OnOk, OnErr, chars};
 ghost use Rattle.tinyvec_text.specs.InlineText.{text_chars, text_len, MakesRoom};
 ghost use Rattle.std.specs.Ordering.{nat_cmp};
