@@ -33,7 +33,7 @@ INDEX = "README"
 COLUMNS = ("ARRAY_VEC", "SLICE_VEC", "TINY_VEC", "INLINE_TEXT")
 
 # A caller of more lines than this is named, and not shown.
-LONGEST = 9
+LONGEST = 8
 
 # What a reader looks for first. Other files follow by name, and traits and further types at the end.
 FIRST = ("making", "edits", "extending", "drain", "splice", "filters", "capacity", "reading", "writing", "taking")

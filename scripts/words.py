@@ -73,7 +73,7 @@ class Words:
         head = f"\n\n## `{stem}` of `{crate}`\n\n{title[1] if title else ''} In [`{file.name}`](../../{file.relative_to(TOP)}).\n"
         rows = [it for it in self.defined if it[0] == path and it in self.cited]
         shown = sorted({self.examples[it][0] for it in rows if it in self.examples})
-        head += "".join(f"The examples are in [`{it.name}`](../../{it.relative_to(TOP)}).\n" for it in shown)
+        head += "".join(f"The examples are in [`{it.relative_to(TOP)}`](../../{it.relative_to(TOP)}).\n" for it in shown)
         return head + "\n| Word | Means | For example |\n|---|---|---|\n" + "\n".join(self.row(it) for it in rows)
 
     def row(self, word):

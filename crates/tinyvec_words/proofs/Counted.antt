@@ -1,6 +1,6 @@
 -- Examples of counted faults.
-use Rattle.std.proofs.Common.{◌≡◌, ℕ, [], ◌∷◌, Some, Ok, Err, Result, refl, rules}
-use Rattle.tinyvec_io.specs.Counted.{CountedView, Reported, faults_after, faults_after_write, AppendsFront}
+use Rattle.std.proofs.Common.{◌≡◌, ℕ, [], ◌∷◌, Some, Ok, Err, Result, refl, rules, arith}
+use Rattle.tinyvec_io.specs.Counted.{CountedView, Reported, faults_after, faults_after_write, AppendsFront, ConsumesFront}
 
 abbrev pub failed : Result ℕ Unit
 failed = Err _
@@ -26,3 +26,6 @@ example-faults_after_write = refl
 
 pub example-AppendsFront : AppendsFront (Some (1 ∷ [])) (Some (1 ∷ 2 ∷ [])) (2 ∷ 3 ∷ [])
 example-AppendsFront = (2 ∷ [], 3 ∷ [], refl, search rules)
+
+pub example-ConsumesFront : ConsumesFront (Some (1 ∷ 2 ∷ [])) (Some (2 ∷ [])) (1 ∷ 7 ∷ [])
+example-ConsumesFront = (1 ∷ [], 7 ∷ [], refl, omega arith, search rules)

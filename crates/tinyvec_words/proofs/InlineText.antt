@@ -1,17 +1,16 @@
--- Examples of a text with room for four bytes, `ab`, in the value or on the heap with room for four.
-use Rattle.std.proofs.Common.{◌≡◌, ℕ, List, [], ◌∷◌, true, false, refl, rules}
-use Rattle.std.specs.Prelude.{chars}
+-- Examples of a text in the value, with room for four bytes, as `ab`.
+use Rattle.std.proofs.Common.{◌≡◌, ℕ, List, [], ◌∷◌, Ok, Result, true, refl, rules}
+use Rattle.std.specs.Prelude.{All, chars}
 use Rattle.tinyvec.specs.declared.tiny_vec.TinyVec.{TinyVec}
-use Rattle.tinyvec.specs.TinyVec.{tiny_items}
-use Rattle.tinyvec_text.specs.InlineText.{Text, text_of, text_chars, text_len, TextPlaceRule, TextGrows, IsBoundary}
+use Rattle.tinyvec.specs.TinyVec.{tiny_items, tiny_spare}
+use Rattle.tinyvec_text.specs.InlineText.{Text, text_of, text_chars, text_len, IsText, StaysInPlace, MakesRoom, TextExtends, IsBoundary}
 
 -- these bytes, in the value, with room for four
 abbrev pub inline : List ℕ → Text
 inline bytes = record { bytes = bytes; inline = true; room = 4 }
 
--- these bytes on the heap, with this room
-abbrev pub on_heap : List ℕ → ℕ → Text
-on_heap bytes room = record { bytes = bytes; inline = false; room = room }
+abbrev pub done : Result Unit Unit
+done = Ok _
 
 pub example-Text : (inline (97 ∷ 98 ∷ [])).room ≡ 4
 example-Text = refl
@@ -25,11 +24,17 @@ example-text_len = refl
 pub example-text_chars : text_chars (inline (97 ∷ 98 ∷ [])) ≡ chars (97 ∷ 98 ∷ [])
 example-text_chars = refl
 
-pub example-TextPlaceRule : TextPlaceRule 4 5 (inline (97 ∷ 98 ∷ [])) (on_heap (97 ∷ 98 ∷ 99 ∷ 99 ∷ 99 ∷ []) 5)
-example-TextPlaceRule = search rules
-
-pub example-TextGrows : TextGrows true 5 (inline (97 ∷ 98 ∷ [])) (on_heap (97 ∷ 98 ∷ 99 ∷ 99 ∷ 99 ∷ []) 5)
-example-TextGrows = search rules
-
 pub example-IsBoundary : IsBoundary (97 ∷ 98 ∷ []) 0
 example-IsBoundary = ([], 97 ∷ 98 ∷ [], refl, search rules)
+
+pub example-IsText : {A : Type 0} (v : TinyVec A ℕ) → IsText v → All (λ b. b ≡ 0) (tiny_spare v)
+example-IsText v h = h.1
+
+pub example-StaysInPlace : StaysInPlace (inline (97 ∷ 98 ∷ [])) (inline (97 ∷ []))
+example-StaysInPlace = search rules
+
+pub example-MakesRoom : MakesRoom true 4 4 (inline (97 ∷ 98 ∷ [])) (inline (97 ∷ 98 ∷ [])) done
+example-MakesRoom = search rules
+
+pub example-TextExtends : TextExtends 4 (inline (97 ∷ [])) (inline (97 ∷ 98 ∷ []))
+example-TextExtends = search rules

@@ -39,7 +39,7 @@ pub example-ArraySplices : (yields rest : List ℕ) (new : Slots ℕ) → ArrayS
 example-ArraySplices yields rest new h = (h.list.placed (omega arith)).0
 
 pub example-TinySplices : {A : Type 0} (yields rest : List ℕ) (old new : TinyVec A ℕ) → TinySplices D 4 old 1 3 (Front ∷ []) (7 ∷ []) yields rest new → PlaceRule 4 (tiny_len new) old new
-example-TinySplices yields rest old new h = h.place
+example-TinySplices yields rest old new h = h.grows.place
 
 pub example-Script : Script [] []
 example-Script = search rules

@@ -3,12 +3,12 @@ use Rattle.std.proofs.Common.{◌≡◌, ℕ, ◌≤◌, List, [], ◌∷◌, Ok
 use Rattle.std.specs.Global.{Global}
 use Rattle.tinyvec.specs.declared.tiny_vec.TinyVec.{TinyVec}
 use Rattle.tinyvec.specs.declared.tiny_vec.TinyVec.TheVariants.{Inline}
-use Rattle.tinyvec.specs.TinyVec.{tiny_items, tiny_len, tiny_spare, is_inline, IsInline, tiny_capacity, tiny_allocator, PlaceRule, TinySlotRule, SameFrame, StaysInPlace, Unchanged}
-use Rattle.tinyvec.specs.Room.{Doubles, GrowsFor, Grows, RoomGrows, Reserves, MovesToHeap, MovesToHeapWithRoom}
+use Rattle.tinyvec.specs.TinyVec.{tiny_items, tiny_len, tiny_spare, is_inline, IsInline, tiny_capacity, tiny_allocator, PlaceRule, TinySlotRule, SameFrame, StaysInPlace, Unchanged, IsTinyClone, IsTinyInfallible}
+use Rattle.tinyvec.specs.Room.{Collects, Doubles, GrowsFor, Grows, RoomGrows, Reserves, MovesToHeap, MovesToHeapWithRoom}
 use Rattle.tinyvec.specs.Refused.{RefusedFor, ClonesBehind}
 use Rattle.tinyvec.specs.Lends.{tiny_with_items, tiny_with_item}
 use Rattle.tinyvec.specs.TinyVecSplice.{items_moved}
-use Rattle.tinyvec_words.proofs.Shown.{D, C, over}
+use Rattle.tinyvec_words.proofs.Shown.{D, C, I, over}
 
 abbrev pub done : Result Unit Unit
 done = Ok _
@@ -95,6 +95,15 @@ module _ (A : Type 0) (alloc : Global) where
 
   pub example-RefusedFor : RefusedFor 4 5 ⊥ (inline (1 ∷ 2 ∷ 3 ∷ 4 ∷ []) []) (inline (1 ∷ 2 ∷ 3 ∷ 4 ∷ []) [])
   example-RefusedFor = search rules
+
+  pub example-IsTinyClone : IsTinyClone C 4 (inline (1 ∷ []) (0 ∷ 0 ∷ 0 ∷ [])) (inline (1 ∷ []) (0 ∷ 0 ∷ 0 ∷ []))
+  example-IsTinyClone = search rules
+
+  pub example-IsTinyInfallible : IsTinyInfallible I (inline (1 ∷ []) (0 ∷ 0 ∷ 0 ∷ []))
+  example-IsTinyInfallible = search rules
+
+  pub example-Collects : Collects D 4 (1 ∷ []) (inline (1 ∷ []) (0 ∷ 0 ∷ 0 ∷ []))
+  example-Collects = search rules
 
 -- two vectors that have room for four and for eight items
 module _ {A : Type 0} (v w : TinyVec A ℕ) (small : tiny_capacity 4 v ≡ 4) (large : tiny_capacity 4 w ≡ 8) where

@@ -1,4 +1,4 @@
-use Rattle.std.proofs.Common.{◌≡◌, take, refl, ◌∙◌}
+use Rattle.std.proofs.Common.{◌≡◌, refl, ◌∙◌}
 use Rattle.tinyvec_array.specs.Slots.{items}
 use Rattle.tinyvec_examples.proofs.calls.array.first_four.Goals as goal
 
