@@ -1,5 +1,5 @@
 //! `InlineText`.
-ghost use Rattle.std.specs.Prelude.{◌≡◌, ◌≤◌, ◌==◌, ◌↔◌, [], length, drop, max, All, true, false, IsTrue, IsOk, IfOk, IfErr, chars, encode_utf8_all, IsUtf8};
+ghost use Rattle.std.specs.Prelude.{◌≡◌, ◌≤◌, ◌==◌, ◌↔◌, [], length, drop, max, All, true, false, IsTrue, IsOk, IfOk, IfErr, MatchResult, chars, encode_utf8_all, IsUtf8};
 ghost use Rattle.std.specs.Str.{valid_up_to, error_len};
 ghost use Rattle.std.specs.Str.Lossy.{utf8_valid_len, utf8_error_len};
 ghost use Rattle.std.specs.String.{string_bytes, string_capacity};
@@ -164,6 +164,17 @@ impl<const N: usize> InlineText<N> {
             Ok(text) => Ok(text),
             Err(_) => unreachable!(),
         }
+    }
+}
+
+/// The text as a `String`, by `into_string`.
+impl<const N: usize> TryFrom<InlineText<N>> for String {
+    type Error = NoMemory<InlineText<N>>;
+
+    ghost try_from_gives = { λ t r. MatchResult r (λ s. string_bytes s ≡ t.bytes) (λ refused. refused.0 ≡ t) };
+
+    fn try_from(text: InlineText<N>) -> Result<String, NoMemory<InlineText<N>>> {
+        text.into_string()
     }
 }
 

@@ -123,6 +123,13 @@ pub fn as_string(text: InlineText<8>) -> Result<String, NoMemory<InlineText<8>>>
     text.into_string()
 }
 
+/// The same by the conversion that generic code takes.
+pub fn converted(text: InlineText<8>) -> Result<String, NoMemory<InlineText<8>>>
+    ensures { IfOk result (λ s. string_bytes s ≡ text.bytes) }
+{
+    String::try_from(text)
+}
+
 /// A text of two characters, which has room in the value, so that no call can fail.
 pub fn initials(alloc: Global, first: char, last: char) -> InlineText<8>
     ensures { text_chars result ≡ first ∷ last ∷ [] }

@@ -1,7 +1,7 @@
 //! The characters and texts of an iterator.
-ghost use Rattle.std.specs.Prelude.{◌≡◌, ℕ, ◌+◌, ◌≤◌, ◌++◌, List, length, ⊤, IsOk, encode_utf8_all};
+ghost use Rattle.std.specs.Prelude.{◌≡◌, ℕ, ◌+◌, ◌*◌, ◌<◌, ◌≤◌, ◌↔◌, ◌++◌, List, length, ⊤, IsTrue, IsOk, IfOk, encode_utf8_all};
 ghost use Rattle.std.specs.List.{flat_map};
-ghost use Rattle.std.specs.Iterator.{IsFinite, HoldsAlong, ExtendsWithItems};
+ghost use Rattle.std.specs.Iterator.{IsFinite, HoldsAlong, DrainsIf, ExtendsWithItems};
 ghost use Rattle.tinyvec_slots.specs.Filling.{IntoIterYields};
 ghost use Rattle.tinyvec_text.specs.InlineText.{text_len, TextExtends};
 
@@ -67,7 +67,18 @@ impl<const N: usize> FromIterator<char> for InlineText<N> {
     fn from_iter<U: IntoIterator<Item = char>>(
         alloc: Global,
         iter: U,
-    ) -> Result<InlineText<N>, AllocError> {
+    ) -> Result<InlineText<N>, AllocError>
+        requires { (it : U.IntoIter) → U.into_iter_gives iter it
+            → U.IntoIter.can_next it × IsFinite (U.IntoIter.remaining it) × HoldsAlong U.IntoIter.next_gives it (λ _. ⊤) }
+        ensures ran { IfOk result (λ t. (it : U.IntoIter) × (xs : List ℕ) × U.into_iter_gives iter it
+            × DrainsIf U.IntoIter.next_gives ⊤ it xs × (t.bytes ≡ encode_utf8_all xs)) }
+        ensures place { IfOk result (λ t. IsTrue t.inline ↔ (text_len t ≤ N)) }
+        ensures grown { IfOk result (λ t. N < t.room → t.room < 2 * text_len t) }
+
+        // Where known items fit the array, it allocates nothing.
+        ensures known { (xs : List ℕ) → IntoIterYields U.into_iter_gives U.IntoIter.next_gives iter xs
+            → length (encode_utf8_all xs) ≤ N → IsOk result }
+    {
         let mut text = Self::new(alloc);
         text.extend(iter)?;
         Ok(text)
@@ -83,7 +94,18 @@ impl<'a, const N: usize> FromIterator<&'a str> for InlineText<N> {
     fn from_iter<U: IntoIterator<Item = &'a str>>(
         alloc: Global,
         iter: U,
-    ) -> Result<InlineText<N>, AllocError> {
+    ) -> Result<InlineText<N>, AllocError>
+        requires { (it : U.IntoIter) → U.into_iter_gives iter it
+            → U.IntoIter.can_next it × IsFinite (U.IntoIter.remaining it) × HoldsAlong U.IntoIter.next_gives it (λ _. ⊤) }
+        ensures ran { IfOk result (λ t. (it : U.IntoIter) × (xs : _) × U.into_iter_gives iter it
+            × DrainsIf U.IntoIter.next_gives ⊤ it xs × (t.bytes ≡ flat_map (λ x. x.now) xs)) }
+        ensures place { IfOk result (λ t. IsTrue t.inline ↔ (text_len t ≤ N)) }
+        ensures grown { IfOk result (λ t. N < t.room → t.room < 2 * text_len t) }
+
+        // Where known items fit the array, it allocates nothing.
+        ensures known { (xs : _) → IntoIterYields U.into_iter_gives U.IntoIter.next_gives iter xs
+            → length (flat_map (λ x. x.now) xs) ≤ N → IsOk result }
+    {
         let mut text = Self::new(alloc);
         text.extend(iter)?;
         Ok(text)
