@@ -209,7 +209,9 @@ class Entry(exports.Export):
             return "making"
         if self.kind == "method":
             return self.own_section() if of == main and stem == snake(main) else stem
-        return "traits" if main and of in (main, f"Generic{main}") else stem
+        # An impl for a type of std is of the type that its trait names.
+        is_own = main and (of in (main, f"Generic{main}") or main in (self.trait or ""))
+        return "traits" if is_own else stem
 
     def own_section(self):
         signature = self.item.signature()
