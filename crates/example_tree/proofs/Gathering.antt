@@ -2,7 +2,7 @@
 use Rattle.std.proofs.Common.{◌≡◌, ◌∙◌, ℕ, suc, ◌+◌, ◌<◌, List, [], ◌∷◌, ◌++◌, flat_map, take, drop, length, get_or, reverse, All, false, sym, ap, subst, arith, append_assoc, append-nil}
 use Rattle.std.proofs.lemmas.List.{take_all, take_more, drop_all, get_or_default, reverse-append}
 use Rattle.std.proofs.lemmas.List.Concat.{flat_map-append}
-use Rattle.std.proofs.lemmas.List.Elements.{All-append, All-cons, All-nil, All-same, All-take, All-weaker}
+use Rattle.std.proofs.lemmas.List.Elements.{All-append, All-same, All-take, All-weaker}
 use Rattle.example_tree.specs.Tree.{sum}
 use Rattle.example_tree.specs.Nodes.{forms, form_at, sum_form, children, is_sum_form, terms_at, tree_at, tree_of, trees_of, IsOrdered}
 use Rattle.example_tree.specs.Pieces.{size, sizes}
@@ -18,17 +18,6 @@ weight nodes ids = sizes (trees_of (tree_at nodes) ids)
 pub record IsGathered (nodes : List Node) (id : ℕ) (ahead terms : List ℕ) : Type 0 where
   pub inside : All (λ term. term < length nodes) ahead
   pub all : flat_map (terms_at (forms nodes)) ahead ++ reverse terms ≡ terms_at (forms nodes) id
-
-pub none_gathered : (nodes : List Node) (id : ℕ) (ahead terms : List ℕ) → id < length nodes → ahead ≡ id ∷ [] → terms ≡ [] → IsGathered nodes id ahead terms
-none_gathered nodes id ahead terms inside one none = record {
-  inside = All-same (λ term. term < length nodes) ahead (id ∷ []) one (All-cons (λ term. term < length nodes) id [] inside (All-nil (λ term. term < length nodes)));
-  all =
-      ap (λ l. flat_map (terms_at (forms nodes)) l ++ reverse terms) one ∙ ap (λ l. flat_map (terms_at (forms nodes)) (id ∷ []) ++ reverse l) none
-      ∙ append-nil (terms_at (forms nodes) id ++ []) ∙ append-nil (terms_at (forms nodes) id);
-}
-
-pub all_gathered : (nodes : List Node) (id : ℕ) (ahead terms : List ℕ) → IsGathered nodes id ahead terms → ahead ≡ [] → reverse terms ≡ terms_at (forms nodes) id
-all_gathered nodes id ahead terms gathered none = sym (ap (λ l. flat_map (terms_at (forms nodes)) l ++ reverse terms) none) ∙ gathered.all
 
 module _ (nodes : List Node) (ordered : IsOrdered (forms nodes)) (id : ℕ) (ahead terms : List ℕ) (last term : ℕ) (len : suc last ≡ length ahead) (read : term ≡ get_or ahead last term)
     (gathered : IsGathered nodes id ahead terms) where

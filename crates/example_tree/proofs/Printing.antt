@@ -31,9 +31,6 @@ module _ (nodes : List Node) where
     inside = λ all. All-same (IsPieceOf nodes) new (old ++ p ∷ []) is (All-append (IsPieceOf nodes) old (p ∷ []) all (All-cons (IsPieceOf nodes) p [] inside (All-nil (IsPieceOf nodes))));
   }
 
-  pub put_none : (old : List Piece) → Puts nodes old old [] 0
-  put_none old = record { text = refl; size = omega arith; inside = λ all. all }
-
   pub put_more : (old now new : List Piece) (first then : List ℕ) (m n : ℕ) → Puts nodes old now first m → Puts nodes now new then n → Puts nodes old new (then ++ first) (n + m)
   put_more old now new first then m n one two = record {
     text = two.text ∙ ap (λ l. then ++ l) one.text ∙ sym (append_assoc then first (pieces_text (tree_at nodes) old));

@@ -15,17 +15,6 @@ use Rattle.example_tree.proofs.Expanding.{ordered_after, done_after, done_here, 
 use Rattle.example_tree.proofs.Kept.{joined, joined_leaves, joined_law, total, times, total_value, times_value, total_law}
 use Rattle.example_tree.proofs.Flattening.{sum_of, product_of, flat_law, flat_sum, flat_product}
 
-pub none_written : (nodes : List Node) → IsOrdered (forms nodes) → Flattens nodes nodes
-none_written nodes ordered = record {
-  same = λ id. refl;
-  leaves = λ id. refl;
-  values = λ names id. refl;
-  ordered = ordered;
-  len = refl;
-  factors = λ id. refl;
-  done = λ id done. done;
-}
-
 pub more_written : (old now new : List Node) → Flattens old now → Flattens now new → Flattens old new
 more_written old now new first then = record {
   same = λ id. then.same id ∙ first.same id;

@@ -1,5 +1,5 @@
 //! Trees in a list of nodes, and one tree made of some.
-ghost use Rattle.std.specs.Prelude.{◌≡◌, ◌<◌, length, All, IfOk};
+ghost use Rattle.std.specs.Prelude.{◌<◌, length, All, IfOk};
 ghost use Rattle.example_tree.specs.Nodes.{children, form, forms, tree_of, trees_of, tree_at, IsOrdered};
 ghost use Rattle.example_tree.specs.Levels.{Adds, joined_by};
 ghost use Rattle.tinyvec.specs.TinyVec.{tiny_items};

@@ -1,6 +1,6 @@
 //! Writes through what the vector lends. The owner sees each of them.
 ghost use Rattle.std.specs.Prelude.{◌≡◌, ◌<◌, ◌≤◌, ◌∷◌, [], ◌++◌, length, drop, slice_set};
-ghost use Rattle.tinyvec_slice.specs.SliceVec.{items, spare, slots, name, seen, items_of, name_of};
+ghost use Rattle.tinyvec_slice.specs.SliceVec.{items, slots, name, seen, items_of, name_of};
 
 use tinyvec_slice::{GenericSliceVec, Lent, SliceVec};
 
