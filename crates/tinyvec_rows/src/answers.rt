@@ -1,7 +1,8 @@
 //! What calls answer, as text. A space follows each answer.
 use crate::{Item, Wrong};
-use std::fmt;
 use std::fmt::Write;
+use std::iter::ExactSizeIterator;
+use std::{fmt, vec};
 
 /// Writes an answer by `{:?}`.
 pub fn say<T: fmt::Debug>(out: &mut String, answer: &T) -> Result<(), Wrong> {
@@ -38,4 +39,36 @@ pub fn say_slots<T: Item>(out: &mut String, list: &[T], spare: &[T]) -> Result<(
     }
     out.push_str("] ")?;
     Ok(())
+}
+
+/// Writes the items that an iterator still yields.
+pub fn say_all<T: Item>(out: &mut String, rest: vec::IntoIter<T>) -> Result<(), Wrong> {
+    out.push('[')?;
+    for x in rest {
+        write!(out, "{x:?}, ")?;
+    }
+    out.push_str("] ")?;
+    Ok(())
+}
+
+/// Writes an item that found no room.
+pub fn say_refused<T: Item>(out: &mut String, x: &T) -> Result<(), Wrong> {
+    say_text(out, "refused")?;
+    say(out, x)
+}
+
+/// Writes an item that found no room, and those that follow it.
+pub fn say_rest<T: Item>(out: &mut String, x: &T, rest: vec::IntoIter<T>) -> Result<(), Wrong> {
+    say_refused(out, x)?;
+    say_all(out, rest)
+}
+
+/// Writes how many items an iterator has left, by its length and its hint.
+pub fn say_left<I: ExactSizeIterator>(out: &mut String, it: &I) -> Result<(), Wrong> {
+    say(out, &(it.len(), it.size_hint()))
+}
+
+/// Writes the hint of an iterator.
+pub fn say_hint<I: Iterator>(out: &mut String, it: &I) -> Result<(), Wrong> {
+    say(out, &it.size_hint())
 }

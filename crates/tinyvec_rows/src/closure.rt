@@ -117,3 +117,36 @@ fn bits(turns: &str) -> u64 {
     }
     bits
 }
+
+/// A closure that makes items of numbers, from one on.
+#[derive(Drop)]
+pub struct Counter {
+    alloc: Global,
+    number: i32,
+    calls: u32,
+}
+
+impl Counter {
+    pub fn new(alloc: Global, number: i32) -> Counter {
+        Counter {
+            alloc,
+            number,
+            calls: 0,
+        }
+    }
+
+    /// The next item, or a default if there is no memory for it.
+    pub fn next<T: Item>(&mut self) -> T {
+        let number = self.number;
+        self.number = number.wrapping_add(1);
+        self.calls = self.calls.wrapping_add(1);
+        match T::of(self.alloc, number) {
+            Ok(x) => x,
+            Err(_) => T::default(),
+        }
+    }
+
+    pub fn calls(&self) -> u32 {
+        self.calls
+    }
+}

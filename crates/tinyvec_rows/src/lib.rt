@@ -7,8 +7,10 @@ mod item;
 mod span;
 mod words;
 
-pub use answers::{done, say, say_slots, say_text};
-pub use closure::Closure;
+pub use answers::{
+    done, say, say_all, say_hint, say_left, say_refused, say_rest, say_slots, say_text,
+};
+pub use closure::{Closure, Counter};
 pub use item::Item;
 pub use span::{Span, is_within};
 pub use words::{Words, Wrong};
