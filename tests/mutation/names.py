@@ -1,5 +1,6 @@
 """Edits that take a call away which the written proof of their function names. A check refuses them for that name alone, so
 the refusal shows nothing of the contract."""
+import collections
 import re
 
 from . import edits, functions
@@ -17,10 +18,15 @@ def taken(edit, known, folder):
     for it in known:
         if any(it.is_at(file, at) for file, at in edits.places(edit, texts)):
             left = [one for one in functions.of_file(it.file, changed[it.file]) if is_same(it, one)]
-            gone = {name for _, name in it.calls} - {name for one in left for _, name in one.calls}
-            if gone := gone & steps(folder, it, changed):
-                found[it] = sorted(gone)
+            gone = calls(it, texts(it.file)) - sum((calls(one, changed[it.file]) for one in left), collections.Counter())
+            if taken_here := sorted(set(gone) & steps(folder, it, changed)):
+                found[it] = taken_here
     return found
+
+
+def calls(function, text):
+    """How often the function calls what, by names: of two calls of one name, each has another name where one is gone."""
+    return collections.Counter(it["name"] for it in functions.CALL.finditer(text[function.start : function.end]))
 
 
 def is_same(one, other):
