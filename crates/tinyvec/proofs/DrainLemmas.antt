@@ -3,7 +3,7 @@ use Rattle.std.proofs.Common.{◌≡◌, ℕ, ◌+◌, List, length, take, Optio
 use Rattle.std.specs.List.{remove_range}
 use Rattle.std.specs.Iterator.{SkipsThenYields}
 use Rattle.std.specs.Iterator.Runs.{YieldsInOrder, YieldsInReverse}
-use Rattle.tinyvec_slots.proofs.DrainsLemmas.{runs_in_order, runs_in_reverse, step_keeps, step_back_keeps, nth_keeps, nth_back_keeps, takes_any_word}
+use Rattle.tinyvec_slots.proofs.DrainsLemmas.{runs_in_order, runs_in_reverse, step_keeps, step_back_keeps, nth_keeps, takes_any_word}
 use Rattle.tinyvec.specs.TinyVec.{tiny_items, SameFrame, StaysInPlace}
 use Rattle.tinyvec.specs.Lends.{tiny_with_items}
 use Rattle.tinyvec.specs.Drain.{drain_items, drain_vec, drain_kept, Drained, DrainSteps, DrainStepsBack, DrainKeeps, DrainLeaves, DrainsFromEnds}
@@ -37,9 +37,6 @@ module _ {A T : Type 0} where
 
   pub nth-keeps : (d : TinyVecDrain A T) (n : ℕ) (r : Option T) (e : TinyVecDrain A T) → SkipsThenYields DrainSteps d n r e → DrainKeeps d e
   nth-keeps = nth_keeps drain_items DrainKeeps DrainKeeps-refl DrainKeeps-then
-
-  pub nth_back-keeps : (d : TinyVecDrain A T) (n : ℕ) (r : Option T) (e : TinyVecDrain A T) → SkipsThenYields DrainStepsBack d n r e → DrainKeeps d e
-  nth_back-keeps = nth_back_keeps drain_items DrainKeeps DrainKeeps-refl DrainKeeps-then
 
   pub drains_from_ends : (d : TinyVecDrain A T) → DrainsFromEnds d
   drains_from_ends = takes_any_word drain_items DrainKeeps DrainKeeps-refl DrainKeeps-then

@@ -1,11 +1,10 @@
 -- Lemmas on a range that was replaced: where there is room, and of a list that was granted room for n more items first.
-use Rattle.std.proofs.Common.{◌≡◌, ◌∙◌, ℕ, ◌+◌, ◌-◌, ◌*◌, ◌<◌, ◌≤◌, max, List, ◌++◌, take, drop, length, length-append, length-drop, length-take-le, Result, Ok, inl, inr, sym, ap, subst, refl, arith}
+use Rattle.std.proofs.Common.{◌≡◌, ◌∙◌, ℕ, ◌+◌, ◌-◌, ◌*◌, ◌<◌, ◌≤◌, max, List, ◌++◌, take, drop, length, length-append, length-drop, length-take-le, Result, Ok, inl, inr, sym, ap, subst, arith}
 use Rattle.std.proofs.lemmas.Bool.{cases_lt}
 use Rattle.tinyvec_slots.specs.Replacing.{PutsBetween}
-use Rattle.tinyvec.specs.TinyVec.{tiny_len, is_inline, tiny_capacity, IsInline, PlaceRule, TinySlotRule, StaysInPlace}
+use Rattle.tinyvec.specs.TinyVec.{tiny_len, is_inline, tiny_capacity, PlaceRule, StaysInPlace}
 use Rattle.tinyvec.specs.Room.{GrowsFor, RoomGrows, Reserves}
 use Rattle.tinyvec.specs.declared.tiny_vec.TinyVec.{TinyVec}
-use Rattle.tinyvec.specs.declared.tiny_vec.TinyVec.TheVariants.{Inline, Heap}
 use Rattle.tinyvec.proofs.TinyLemmas.{capacity_inline}
 use Rattle.tinyvec.proofs.FrameLemmas.{on_ok}
 
@@ -48,10 +47,3 @@ module _ {A T : Type 0} (slots n : ℕ) (old mid new : TinyVec A T) (fits : tiny
     grown = on_ok r (λ less. stays.capacity ∙ subst (λ k. GrowsFor slots k old mid) (sym (exact (omega (arith, less, long, fits)))) made.grown less);
     fits = stays.fits;
   }
-
-pub replaced_slots : {A T : Type 0} (D : T → Type 0) (old mid new : TinyVec A T) → (IsInline mid → mid ≡ old) → (IsInline new → IsInline mid)
-    → TinySlotRule D mid new → TinySlotRule D old new
-replaced_slots D (Inline v a) (Inline m b) (Inline w d) stays still rule = subst (λ u. TinySlotRule D u (Inline w d)) (stays refl) rule
-replaced_slots D (Inline v a) (Heap m) (Inline w d) stays still rule = absurd (let no = still refl in cc)
-replaced_slots D (Inline v a) mid (Heap w) stays still rule = tt
-replaced_slots D (Heap v) mid new stays still rule = tt

@@ -53,13 +53,6 @@ module _ {T : Type 0} (D : T → Type 0) (old new : Slots T) where
   slots_removed i in_list is = slots_freed D old new 1 (sym (ap (λ l. length l + 1) is ∙ length-remove (items old) i in_list))
 
 module _ {A T : Type 0} (D : T → Type 0) where
-  pub tiny_slots_same : (v : TinyVec A T) → TinySlotRule D v v
-  tiny_slots_same (Inline v alloc) = slots_used D v v 0 (search rules) refl
-  tiny_slots_same (Heap v) = tt
-
-  pub tiny_slots_kept : (v w : TinyVec A T) → w ≡ v → TinySlotRule D v w
-  tiny_slots_kept v w e = subst (TinySlotRule D v) (sym e) (tiny_slots_same v)
-
   -- an empty inline list among defaults was made longer: what is left of them
   pub defaults_left : (slots : ℕ) (old new : TinyVec A T) → tiny_items old ≡ [] → IsInline old → AreDefaults D slots (tiny_spare old)
       → TinySlotRule D old new → IsInline new → AreDefaults D (slots - tiny_len new) (tiny_spare new)

@@ -344,10 +344,8 @@ impl<'a, A: Array, I: Iterator<Item = A::Item>> TinyVecSplice<'a, A, Fuse<I>> {
 }
 
 impl<A: Array> CanSplice for TinyVec<A> {
-    ghost use Rattle.tinyvec.specs.TinyVec.{is_inline};
     ghost use Rattle.tinyvec.specs.FrameLaws.{SameFrame-refl};
     ghost use Rattle.tinyvec.specs.SpliceLaws.{frame_grows, frame_moved, stays_grows, stays};
-    ghost use Rattle.tinyvec.specs.Room.{Grows};
 
     ghost moved = { λ v w. items_moved A.CAPACITY (is_inline v) (is_inline w) };
 
@@ -400,7 +398,7 @@ fn count_move<A: Array>(was_inline: bool, is_inline: bool) -> usize
 }
 
 impl<A: Array> CanCut for TinyVec<A> {
-    ghost use Rattle.tinyvec.specs.TinyVec.{tiny_items, tiny_capacity, SameFrame, StaysInPlace};
+    ghost use Rattle.tinyvec.specs.TinyVec.{SameFrame};
     ghost use Rattle.tinyvec.specs.Lends.{tiny_with_items};
     ghost use Rattle.tinyvec.specs.SpliceLaws.{tiny_written, frame_stays};
 

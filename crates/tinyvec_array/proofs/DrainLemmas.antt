@@ -2,7 +2,7 @@
 use Rattle.std.proofs.Common.{ℕ, Option, refl, ◌∙◌}
 use Rattle.std.specs.Iterator.{SkipsThenYields}
 use Rattle.std.specs.Iterator.Runs.{YieldsInOrder, YieldsInReverse}
-use Rattle.tinyvec_slots.proofs.DrainsLemmas.{runs_in_order, runs_in_reverse, step_keeps, step_back_keeps, nth_keeps, nth_back_keeps, takes_any_word}
+use Rattle.tinyvec_slots.proofs.DrainsLemmas.{runs_in_order, runs_in_reverse, step_keeps, step_back_keeps, nth_keeps, takes_any_word}
 use Rattle.tinyvec_array.specs.Drain.{drain_items, DrainSteps, DrainStepsBack, DrainKeeps, DrainsFromEnds}
 use Rattle.tinyvec_array.specs.declared.drain.ArrayVecDrain.{ArrayVecDrain}
 
@@ -33,9 +33,6 @@ module _ {A T : Type 0} where
 
   pub nth-keeps : (d : ArrayVecDrain A T) (n : ℕ) (r : Option T) (e : ArrayVecDrain A T) → SkipsThenYields DrainSteps d n r e → DrainKeeps d e
   nth-keeps = nth_keeps drain_items DrainKeeps DrainKeeps-refl DrainKeeps-then
-
-  pub nth_back-keeps : (d : ArrayVecDrain A T) (n : ℕ) (r : Option T) (e : ArrayVecDrain A T) → SkipsThenYields DrainStepsBack d n r e → DrainKeeps d e
-  nth_back-keeps = nth_back_keeps drain_items DrainKeeps DrainKeeps-refl DrainKeeps-then
 
   pub drains_from_ends : (d : ArrayVecDrain A T) → DrainsFromEnds d
   drains_from_ends = takes_any_word drain_items DrainKeeps DrainKeeps-refl DrainKeeps-then

@@ -41,14 +41,6 @@ module _ {S T : Type 0} (rest : S → List T) (keeps : S → S → Type 0) where
     pub nth_keeps : (d : S) (n : ℕ) (r : Option T) (e : S) → SkipsThenYields (Steps rest keeps) d n r e → keeps d e
     nth_keeps d n r e h = then d h.1.0 e (yields_keeps d h.0 h.1.0 h.1.1) (step_keeps h.1.0 r e h.1.2)
 
-    -- and `nth_back`
-    yields_back_keeps : (d : S) (items : List T) (later : S) → Yields (StepsBack rest keeps) d items later → keeps d later
-    yields_back_keeps d [] later y = subst (keeps d) y (same d)
-    yields_back_keeps d (x ∷ xs) later y = then d y.0 later y.1.1 (yields_back_keeps y.0 xs later y.2)
-
-    pub nth_back_keeps : (d : S) (n : ℕ) (r : Option T) (e : S) → SkipsThenYields (StepsBack rest keeps) d n r e → keeps d e
-    nth_back_keeps d n r e h = then d h.1.0 e (yields_back_keeps d h.0 h.1.0 h.1.1) (step_back_keeps h.1.0 r e h.1.2)
-
     -- and each that a word of ends leads to
     asks_keeps : (d : S) (word : List End) (answers : List (Option T)) (later : S) → Asks (Steps rest keeps) (StepsBack rest keeps) d word answers later → keeps d later
     asks_keeps d [] [] later is = subst (keeps d) (sym is) (same d)

@@ -1,5 +1,5 @@
 //! `InlineText`.
-ghost use Rattle.std.specs.Prelude.{◌≡◌, ◌≤◌, ◌==◌, ◌↔◌, [], length, drop, max, All, true, false, IsTrue, IsOk, IfOk, IfErr, MatchResult, chars, encode_utf8_all, IsUtf8};
+ghost use Rattle.std.specs.Prelude.{◌≡◌, ◌≤◌, ◌==◌, ◌↔◌, [], drop, max, All, true, false, IsTrue, IsOk, IfOk, IfErr, MatchResult, chars, encode_utf8_all, IsUtf8};
 ghost use Rattle.std.specs.Str.{valid_up_to, error_len};
 ghost use Rattle.std.specs.Str.Lossy.{utf8_valid_len, utf8_error_len};
 ghost use Rattle.std.specs.String.{string_bytes, string_capacity};

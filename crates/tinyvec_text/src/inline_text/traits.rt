@@ -1,5 +1,5 @@
 //! Clones, comparisons, hashes, printing and writing.
-ghost use Rattle.std.specs.Prelude.{◌≡◌, false, IsTrue, IsOk, IfOk, MatchResult, Some, nat_eq, refl, ◌+◌, ◌≤◌, ◌++◌, length, OnOk, OnErr, chars};
+ghost use Rattle.std.specs.Prelude.{◌≡◌, false, IsTrue, IsOk, IfOk, MatchResult, Some, nat_eq, refl, ◌+◌, ◌++◌, length, OnOk, chars};
 ghost use Rattle.tinyvec_text.specs.InlineText.{text_chars, text_len, MakesRoom};
 ghost use Rattle.std.specs.Ordering.{nat_cmp};
 ghost use Rattle.std.specs.Cmp.{on_equiv, on_total, on_po, on_per, partial_equiv_from_equiv};

@@ -19,7 +19,6 @@ for_memory : {A : Type 0} (I : ℕ → Type 0) → ((x : ℕ) → I x) → (xs :
 for_memory I sure xs slots need Q old new (inl h) = h.1
 for_memory I sure xs slots need Q old new (inr h) = absurd (not_refused I sure xs h.1.0 h.1.1)
 
-pub returns-in_err-extend_from_slice-clause-refused :
-    goal.returns-in_err-extend_from_slice-clause-refused
+pub returns-in_err-extend_from_slice-clause-refused : goal.returns-in_err-extend_from_slice-clause-refused
 returns-in_err-extend_from_slice-clause-refused g c =
     always c.from_residual.result (for_memory (λ _. ⊤) (λ _. tt) c.args.buf.now _ _ _ c.args.self.now c.extend_from_slice.new.self c.in_err-extend_from_slice.ensures.refused)
