@@ -1,7 +1,6 @@
 //! Sorts the whole numbers on standard input, one a line. Up to eight of them are kept without the heap.
 #![tactic(auto)]
 
-use std::alloc::AllocError;
 use std::io;
 use tinyvec::TinyVec;
 
@@ -9,7 +8,7 @@ fn main(rt: HostRuntime) -> io::Result<()> {
     let mut numbers: TinyVec<[i64; 8]> = TinyVec::new(rt.alloc());
     for line in rt.lines(rt.alloc()) {
         match line?.trim().parse() {
-            Ok(number) => numbers.push(number).map_err(AllocError::from)?,
+            Ok(number) => numbers.push(number)?,
             Err(_) => println!(rt; "not a number")?,
         }
     }
