@@ -13,7 +13,7 @@ use Rattle.tinyvec_borsh.specs.Items.{IsCount, SpellsItems, SpellsList}
 use Rattle.tinyvec_borsh.specs.ItemsLaws.{one-items}
 use Rattle.tinyvec_borsh.specs.NumberLaws.{number_code}
 use Rattle.tinyvec_borsh.specs.Parts.{HasParts, joined}
-use Rattle.tinyvec_borsh.specs.Reading.{Takes, TakesSome}
+use Rattle.tinyvec_borsh.specs.Reading.{TakesSome}
 use Rattle.tinyvec_borsh.specs.Writing.{Adds, AddsFront}
 use Rattle.tinyvec_borsh.proofs.ItemByItem.{WroteItems}
 
