@@ -86,7 +86,7 @@ ReadingAsks = InEither (SpellsNumber 4) StationFits (λ _. ⊥) (InEither Spells
 
 -- ---- the laws, from those of the fields
 
-samples_code : IsCode SpellsSamples
+pub samples_code : IsCode SpellsSamples
 samples_code = list_code (SpellsNumber 2) (number_code 2 (lit< tt))
 
 samples_apart : AreApart SpellsSamples SamplesFit AreSamplesCut AreSamplesTooMany

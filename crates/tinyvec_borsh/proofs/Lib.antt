@@ -1,3 +1,4 @@
+pub mod AtFaults
 pub mod Blocks
 pub mod Both
 pub mod Counts

@@ -1,12 +1,17 @@
 -- Where a vector lies that is read item after item.
-use Rattle.std.proofs.Common.{◌≡◌, ◌∙◌, sym, subst, IsTrue, ◌<◌, ◌≤◌, ◌-◌, ◌++◌, [], drop, ◌↔◌, inl, inr, ℕ, arith, false, refl, Result, Err, IsOk, is_ok, ap}
+use Rattle.std.proofs.Common.{◌≡◌, ◌∙◌, ◌*◌, max, Bool, true, if◌then◌else◌, sym, subst, IsTrue, ◌<◌, ◌≤◌, ◌-◌, ◌++◌, [], drop, ◌↔◌, inl, inr, ℕ, arith, false, refl, Result, Err, IsOk, is_ok, ap}
 use Rattle.std.proofs.lemmas.List.{nil_from_length, length-drop}
 use Rattle.std.proofs.lemmas.List.Elements.{All-drop}
 use Rattle.tinyvec_slots.specs.Slots.{AreDefaults, items_len, spare}
 use Rattle.std.proofs.lemmas.Bool.{both_ways, cases_lt}
 use Rattle.tinyvec.specs.TinyVec.{tiny_len, tiny_spare, tiny_capacity, is_inline, IsInline, PlaceRule, TinySlotRule}
+use Rattle.tinyvec.specs.Room.{KeepsRoom, GrowsFor}
 use Rattle.tinyvec.specs.declared.tiny_vec.TinyVec.{TinyVec}
 use Rattle.tinyvec.specs.declared.tiny_vec.TinyVec.TheVariants.{Inline, Heap}
+
+either : (b : Bool) (x y most : ℕ) → x ≤ most → y ≤ most → (if b then x else y) ≤ most
+either true x y most p q = p
+either false x y most p q = q
 
 module _ {A T : Type 0} where
   -- a list was made longer, and then its items were written
@@ -36,6 +41,14 @@ module _ {A T : Type 0} where
       subst (AreDefaults D (slots - items_len w)) (sym is) (omega (arith, long, were.0, longer), All-drop D (items_len w - items_len v) (spare v) were.1)
   spare-longer D slots (Inline v a) (Heap w) longer rule used before h = absurd (both_ways false refl h)
   spare-longer D slots (Heap v) new longer rule used before h = absurd (both_ways false refl (rule.0 h).0)
+
+  -- a list that grows to n items, of which there will be at most `count`, has room for at most twice as many, if not for more before
+  pub room-grown : (slots n count : ℕ) (old new : TinyVec A T) → KeepsRoom slots n old new → GrowsFor slots n old new → n ≤ count
+      → tiny_capacity slots new ≤ max (tiny_capacity slots old) (2 * count)
+  room-grown slots n count old new kept grown few = elim (cases_lt (tiny_capacity slots old) n) [
+    | inl less ↦ (let most = either (is_inline old) n (max (2 * tiny_capacity slots old) n) (2 * count) (omega arith) (omega arith) in omega (arith, grown less, most))
+    | inr room ↦ omega (arith, kept room)
+  ]
 
   -- room is wanting only where more items are to come than the array has room for
   pub wanting-above : (slots n : ℕ) (v : TinyVec A T) → tiny_capacity slots v < n → IsPlaced slots n v → slots < n

@@ -45,7 +45,7 @@ same-count : (n m : ℕ) (count other x y : List ℕ) → IsCount n count → Is
 same-count = same-item (SpellsNumber 8) (number_code 8 (lit< tt))
 
 module _ {C : Type 0} (Spells : C → List ℕ → Type 0) (code : IsCode Spells) where
-  one-items : (cs : List C) (a b : List ℕ) → SpellsItems Spells cs a → SpellsItems Spells cs b → a ≡ b
+  pub one-items : (cs : List C) (a b : List ℕ) → SpellsItems Spells cs a → SpellsItems Spells cs b → a ≡ b
   one-items [] a b p q = p ∙ sym q
   one-items (c ∷ cs) a b p q = p.whole ∙ (λ i. code.one_spelling c p.first q.first p.is_first q.is_first i ++ one-items cs p.rest q.rest p.is_rest q.is_rest i) ∙ sym q.whole
 

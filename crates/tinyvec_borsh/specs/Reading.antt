@@ -1,7 +1,7 @@
 -- What a reading answers, by what the input is.
 use Rattle.std.specs.Prelude.{◌≡◌, ℕ, ◌+◌, ◌<◌, ◌⊎◌, List, length, None, Some, Option, Ok, Err, Result}
 use Rattle.std.specs.List.{AllByRecursion}
-use Rattle.std.specs.Io.KnownBytes.{Consumes}
+use Rattle.std.specs.Io.KnownBytes.{Consumes, IsAtEnd}
 use Rattle.tinyvec_io.specs.Counted.{Reported}
 use Rattle.tinyvec_borsh.specs.Items.{IsCount, SpellsItems}
 use Rattle.tinyvec_borsh.specs.Parts.{HasParts}
@@ -20,6 +20,12 @@ IsFewBytes n input = AllByRecursion (λ byte. byte < 256) input × (length input
 -- What was taken from the front of the input spells it.
 abbrev pub Takes : (List ℕ → Type 0) → Option (List ℕ) → Option (List ℕ) → Type 0
 Takes SpellsIt old new = (bytes : List ℕ) × SpellsIt bytes × Consumes old new bytes
+
+-- Some bytes were taken from the front of the input; all of them at its end.
+pub record TakesSome (old new : Option (List ℕ)) (error : BorshError) : Type 0 where
+  pub bytes : List ℕ
+  pub taken : Consumes old new bytes
+  pub end : error ≡ Ended → IsAtEnd new
 
 -- Why nothing was read. `Ended` comes only where the input is cut, `InvalidLength` only where it is too long, `Memory` only
 -- where memory may be asked for, and `Io` only where the reader reported a fault.

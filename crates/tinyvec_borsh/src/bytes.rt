@@ -1,9 +1,9 @@
 //! Bytes that are read and written whole.
-ghost use Rattle.std.specs.Prelude.{◌≡◌, ◌<◌, ◌≤◌, length, IfErr, OnOk};
+ghost use Rattle.std.specs.Prelude.{◌≡◌, ◌<◌, ◌≤◌, length, IfErr, OnErr, OnOk};
 ghost use Rattle.std.specs.Io.KnownBytes.{Appends, Consumes};
 ghost use Rattle.std.specs.List.{AllByRecursion};
-ghost use Rattle.tinyvec_io.specs.Counted.{Reported};
-ghost use Rattle.tinyvec_borsh.specs.Reading.{Fails, IsFewBytes, MayBe};
+ghost use Rattle.tinyvec_io.specs.Counted.{AppendsFront, Reported};
+ghost use Rattle.tinyvec_borsh.specs.Reading.{Fails, IsFewBytes, MayBe, TakesSome};
 
 use crate::BorshError;
 use std::io::{Read, Write};
@@ -15,6 +15,7 @@ pub(crate) fn read_bytes<R: Read>(reader: &mut Counted<R>, buf: &mut [u8]) -> Re
     ensures small { OnOk result (AllByRecursion (λ byte. byte < 256) buf.new) }
     ensures err { IfErr result (Fails (λ input. length input < length buf.old) (λ _. ⊥) (λ _. ⊥)
         (R.remaining reader.old.inner) reader.old.faults reader.new.faults) }
+    ensures taken { IfErr result (TakesSome (R.remaining reader.old.inner) (R.remaining reader.new.inner)) }
     ensures ended { IfErr result (λ e. e ≡ BorshError.Ended
         → MayBe (R.remaining reader.old.inner) (IsFewBytes (length buf.old))) }
     ensures grows { reader.old.faults ≤ reader.new.faults }
@@ -30,6 +31,7 @@ pub(crate) fn read_bytes<R: Read>(reader: &mut Counted<R>, buf: &mut [u8]) -> Re
 pub(crate) fn write_bytes<W: Write>(writer: &mut Counted<W>, bytes: &[u8]) -> Result<(), BorshError>
     ensures ok { OnOk result (Appends (W.contents writer.old.inner) (W.contents writer.new.inner) bytes.now) }
     ensures err { IfErr result (λ e. (e ≡ BorshError.Io) × Reported writer.old.faults writer.new.faults) }
+    ensures front { OnErr result (AppendsFront (W.contents writer.old.inner) (W.contents writer.new.inner) bytes.now) }
     ensures grows { writer.old.faults ≤ writer.new.faults }
 {
     match writer.write_all(bytes) {

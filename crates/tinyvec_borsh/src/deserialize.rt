@@ -2,7 +2,7 @@
 ghost use Rattle.std.specs.Prelude.{◌≤◌, ℕ, List, length, map, IfErr, IfOk, OnOk};
 ghost use Rattle.std.specs.List.{AllByRecursion};
 ghost use Rattle.tinyvec_borsh.specs.Items.{AfterItems, SpellsItems};
-ghost use Rattle.tinyvec_borsh.specs.Reading.{Fails, Takes};
+ghost use Rattle.tinyvec_borsh.specs.Reading.{Fails, Takes, TakesSome};
 ghost use Rattle.tinyvec_borsh.specs.Apart.{AreApart};
 
 use crate::{BorshError, BorshForm};
@@ -32,6 +32,7 @@ pub trait BorshDeserialize: BorshForm + Sized {
         ensures fits { IfOk result (λ v. Self.Fits (Self.content_of v)) }
         ensures err { IfErr result (Fails IsCut IsTooLong MayAsk
             (R.remaining reader.old.inner) reader.old.faults reader.new.faults) }
+        ensures taken { IfErr result (TakesSome (R.remaining reader.old.inner) (R.remaining reader.new.inner)) }
         ensures grows { reader.old.faults ≤ reader.new.faults };
 
     /// Reads a value into each slot, one after the other.
@@ -49,6 +50,7 @@ pub trait BorshDeserialize: BorshForm + Sized {
             (AfterItems Self.Spells Self.Fits IsTooLong (length slots.old))
             (AfterItems Self.Spells Self.Fits MayAsk (length slots.old))
             (R.remaining reader.old.inner) reader.old.faults reader.new.faults) }
+        ensures taken { IfErr result (TakesSome (R.remaining reader.old.inner) (R.remaining reader.new.inner)) }
         ensures grows { reader.old.faults ≤ reader.new.faults }
     {
         for i in 0..slots.len() {

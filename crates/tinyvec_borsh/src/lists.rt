@@ -2,7 +2,7 @@
 ghost use Rattle.std.specs.Prelude.{◌≡◌, ◌-◌, ◌≤◌, ◌++◌, List, length, map, take, drop, IfErr, OnOk};
 ghost use Rattle.std.specs.List.{AllByRecursion};
 ghost use Rattle.tinyvec_borsh.specs.Items.{AfterItems, SpellsItems};
-ghost use Rattle.tinyvec_borsh.specs.Reading.{Fails, Takes};
+ghost use Rattle.tinyvec_borsh.specs.Reading.{Fails, Takes, TakesSome};
 
 mod array_vec;
 mod tiny_vec;
@@ -30,6 +30,7 @@ fn read_items<T: BorshDeserialize + Drop, R: Read>(
     ensures err { IfErr result (Fails (AfterItems T.Spells T.Fits T.IsCut (end - start))
         (AfterItems T.Spells T.Fits T.IsTooLong (end - start)) (AfterItems T.Spells T.Fits T.MayAsk (end - start))
         (R.remaining reader.old.inner) reader.old.faults reader.new.faults) }
+    ensures taken { IfErr result (TakesSome (R.remaining reader.old.inner) (R.remaining reader.new.inner)) }
     ensures grows { reader.old.faults ≤ reader.new.faults }
 {
     T::deserialize_slots(alloc, &mut slots[start..end], reader)

@@ -1,9 +1,9 @@
 //! Writing.
-ghost use Rattle.std.specs.Prelude.{◌≡◌, ◌≤◌, map, IfErr, OnOk};
+ghost use Rattle.std.specs.Prelude.{◌≡◌, ◌≤◌, map, IfErr, OnErr, OnOk};
 ghost use Rattle.std.specs.List.{AllByRecursion};
 ghost use Rattle.tinyvec_io.specs.Counted.{Reported};
 ghost use Rattle.tinyvec_borsh.specs.Items.{SpellsItems};
-ghost use Rattle.tinyvec_borsh.specs.Writing.{Adds};
+ghost use Rattle.tinyvec_borsh.specs.Writing.{Adds, AddsFront};
 
 use crate::{BorshError, BorshForm};
 use std::io::Write;
@@ -17,6 +17,8 @@ pub trait BorshSerialize: BorshForm {
             (W.contents writer.old.inner) (W.contents writer.new.inner)) }
         ensures fits { OnOk result (Self.Fits (Self.content_of self.now)) }
         ensures err { IfErr result (λ e. (e ≡ BorshError.Io) × Reported writer.old.faults writer.new.faults) }
+        ensures front { OnErr result (AddsFront (Self.Spells (Self.content_of self.now))
+            (W.contents writer.old.inner) (W.contents writer.new.inner)) }
         ensures grows { writer.old.faults ≤ writer.new.faults };
 
     /// Writes the items one after the other.
@@ -27,6 +29,8 @@ pub trait BorshSerialize: BorshForm {
             (W.contents writer.old.inner) (W.contents writer.new.inner)) }
         ensures fits { OnOk result (AllByRecursion Self.Fits (map Self.content_of items.now)) }
         ensures err { IfErr result (λ e. (e ≡ BorshError.Io) × Reported writer.old.faults writer.new.faults) }
+        ensures front { OnErr result (AddsFront (SpellsItems Self.Spells (map Self.content_of items.now))
+            (W.contents writer.old.inner) (W.contents writer.new.inner)) }
         ensures grows { writer.old.faults ≤ writer.new.faults }
     {
         for item in items {

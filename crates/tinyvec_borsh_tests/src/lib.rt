@@ -13,6 +13,8 @@ mod errors;
 #[cfg(test)]
 mod faults;
 #[cfg(test)]
+mod faults_kept;
+#[cfg(test)]
 mod helpers;
 #[cfg(test)]
 mod hostile;

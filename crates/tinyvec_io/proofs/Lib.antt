@@ -1,3 +1,3 @@
 mod Filled
 pub mod LineLemmas
-mod Pieces
+pub mod Pieces

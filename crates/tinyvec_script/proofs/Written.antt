@@ -17,11 +17,6 @@ pub reported_until : (f g h : ℕ) → Reported f g → g ≤ h → h ≤ 2 ^ 64
 reported_until f g h (inl more) le most = inl (omega arith)
 reported_until f g h (inr full) le most = inr (omega arith)
 
--- a text was written, and then a front of one more
-pub AppendsFront-then : (a b c : Option (List ℕ)) (text more : List ℕ) → Appends a b text → AppendsFront b c more → AppendsFront a c (text ++ more)
-AppendsFront-then a b c text more p q =
-    (text ++ q.0, q.1, ap (λ l. text ++ l) q.2 ∙ sym (append_assoc text q.0 q.1), Appends-trans a b c text q.0 p q.3)
-
 -- the text of one item more
 pub flat_map_more : {X : Type 0} (f : X → List ℕ) (xs : List X) (i : ℕ) (d : X) → i < length xs → flat_map f (take (i + 1) xs) ≡ flat_map f (take i xs) ++ f (get_or xs i d)
 flat_map_more f xs i d within = ap (flat_map f) (take_more xs i d within) ∙ flat_map-append f (take i xs) (get_or xs i d ∷ []) ∙ ap (λ l. flat_map f (take i xs) ++ l) (append-nil (f (get_or xs i d)))

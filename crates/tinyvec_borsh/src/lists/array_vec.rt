@@ -2,7 +2,7 @@
 ghost use Rattle.std.specs.Prelude.{◌≡◌, ◌<◌, ◌≤◌, ◌^◌, ◌-◌, ℕ, List, length, map, IfOk, IfErr, OnOk};
 ghost use Rattle.tinyvec_slots.specs.Slots.{items, items_len, spare, AreDefaults};
 ghost use Rattle.tinyvec_borsh.specs.Items.{SpellsList, ListFits, InItem, IsListCut, IsListTooLong};
-ghost use Rattle.tinyvec_borsh.specs.Reading.{Fails, LeavesRest, Takes};
+ghost use Rattle.tinyvec_borsh.specs.Reading.{Fails, LeavesRest, Takes, TakesSome};
 ghost use Rattle.tinyvec_borsh.specs.ItemsLaws.{list_code, list_apart, list_spelled};
 
 use super::read_items;
@@ -64,6 +64,7 @@ where
             (IsListTooLong A.Item.Spells A.Item.Fits A.Item.IsTooLong A.CAPACITY)
             (InItem A.Item.Spells A.Item.Fits A.Item.MayAsk A.CAPACITY)
             (R.remaining reader.old.inner) reader.old.faults reader.new.faults) }
+        ensures taken { IfErr result (TakesSome (R.remaining reader.old.inner) (R.remaining reader.new.inner)) }
         ensures grows { reader.old.faults ≤ reader.new.faults }
         ensures spare { IfOk result (λ v. AreDefaults A.Item.is_default (A.CAPACITY - items_len v) (spare v)) }
         ensures rest { IfErr result (LeavesRest A.Item.Spells A.Item.IsTooLong A.CAPACITY

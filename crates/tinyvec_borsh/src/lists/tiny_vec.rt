@@ -1,12 +1,12 @@
 //! A `TinyVec` of what can be written and read.
-ghost use Rattle.std.specs.Prelude.{◌≡◌, ◌<◌, ◌≤◌, ◌^◌, ◌-◌, ◌*◌, ◌++◌, ◌⊎◌, ◌↔◌, ℕ, List, length, map, IfOk, IfErr, OnOk};
+ghost use Rattle.std.specs.Prelude.{◌≡◌, ◌<◌, ◌≤◌, ◌^◌, ◌-◌, ◌*◌, ◌++◌, ◌⊎◌, ◌↔◌, ℕ, List, length, map, max, IfOk, IfErr, OnOk};
 ghost use Rattle.std.specs.List.{AllByRecursion};
 ghost use Rattle.tinyvec_slots.specs.Slots.{AreDefaults};
 ghost use Rattle.tinyvec.specs.TinyVec.{IsInline, PlaceRule, TinySlotRule, tiny_capacity, tiny_items, tiny_len, tiny_spare};
 ghost use Rattle.tinyvec_borsh.specs.Items.{AfterItems, CountsAbove, InItem, IsListCut, IsListTooLong, ListFits};
 ghost use Rattle.tinyvec_borsh.specs.Items.{SpellsItems, SpellsList};
 ghost use Rattle.tinyvec_borsh.specs.ItemsLaws.{list_apart, list_code, list_spelled};
-ghost use Rattle.tinyvec_borsh.specs.Reading.{Fails, Takes};
+ghost use Rattle.tinyvec_borsh.specs.Reading.{Fails, Takes, TakesSome};
 
 use super::read_items;
 use crate::{BorshDeserialize, BorshError, BorshForm, BorshSerialize};
@@ -89,10 +89,12 @@ where
             (IsListTooLong A.Item.Spells A.Item.Fits A.Item.IsTooLong (2 ^ 64 - 1))
             (λ input. CountsAbove A.CAPACITY input ⊎ InItem A.Item.Spells A.Item.Fits A.Item.MayAsk (2 ^ 64 - 1) input)
             (R.remaining reader.old.inner) reader.old.faults reader.new.faults) }
+        ensures taken { IfErr result (TakesSome (R.remaining reader.old.inner) (R.remaining reader.new.inner)) }
         ensures grows { reader.old.faults ≤ reader.new.faults }
         ensures place { IfOk result (λ v. IsInline v ↔ (tiny_len v ≤ A.CAPACITY)) }
         ensures spare { IfOk result (λ v. IsInline v
             → AreDefaults A.Item.is_default (A.CAPACITY - tiny_len v) (tiny_spare v)) }
+        ensures room { IfOk result (λ v. tiny_capacity A.CAPACITY v ≤ max A.CAPACITY (2 * tiny_len v)) }
     {
         let count = u64::deserialize_reader(alloc, reader)?;
         let ahead = count.min(items_ahead::<A::Item>() as u64) as usize;
@@ -122,11 +124,13 @@ where
         (R.remaining reader.old.inner) (R.remaining reader.new.inner)) }
     ensures place { OnOk result (PlaceRule A.CAPACITY (tiny_len v.new) v.old v.new) }
     ensures slots { OnOk result (TinySlotRule A.Item.is_default v.old v.new) }
+    ensures room { OnOk result (tiny_capacity A.CAPACITY v.new ≤ max (tiny_capacity A.CAPACITY v.old) (2 * count)) }
     ensures err { IfErr result (λ e. ((e ≡ BorshError.Memory) × (tiny_capacity A.CAPACITY v.old < count))
         ⊎ Fails (AfterItems A.Item.Spells A.Item.Fits A.Item.IsCut (count - tiny_len v.old))
         (AfterItems A.Item.Spells A.Item.Fits A.Item.IsTooLong (count - tiny_len v.old))
         (AfterItems A.Item.Spells A.Item.Fits A.Item.MayAsk (count - tiny_len v.old))
         (R.remaining reader.old.inner) reader.old.faults reader.new.faults e) }
+    ensures taken { IfErr result (TakesSome (R.remaining reader.old.inner) (R.remaining reader.new.inner)) }
     ensures grows { reader.old.faults ≤ reader.new.faults }
 {
     let start = v.len();

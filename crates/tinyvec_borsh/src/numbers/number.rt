@@ -1,12 +1,12 @@
 //! Numbers as bytes, one and a block of them.
-ghost use Rattle.std.specs.Prelude.{◌≡◌, ◌*◌, ◌<◌, ◌≤◌, length, take, IfErr, OnOk};
+ghost use Rattle.std.specs.Prelude.{◌≡◌, ◌*◌, ◌<◌, ◌≤◌, length, take, IfErr, OnErr, OnOk};
 ghost use Rattle.std.specs.Int.{byte_len, from_le_bytes, to_le_bytes};
 ghost use Rattle.std.specs.List.{AllByRecursion};
 ghost use Rattle.tinyvec_io.specs.Counted.{Reported};
 ghost use Rattle.tinyvec_borsh.specs.Items.{AfterItems, SpellsItems};
 ghost use Rattle.tinyvec_borsh.specs.Number.{NumberForm};
-ghost use Rattle.tinyvec_borsh.specs.Reading.{Fails, Takes};
-ghost use Rattle.tinyvec_borsh.specs.Writing.{Adds};
+ghost use Rattle.tinyvec_borsh.specs.Reading.{Fails, Takes, TakesSome};
+ghost use Rattle.tinyvec_borsh.specs.Writing.{Adds, AddsFront};
 
 use crate::BorshError;
 use crate::bytes::{read_bytes, write_bytes};
@@ -41,6 +41,8 @@ pub(crate) trait Number: FixedWidth {
             (W.contents writer.old.inner) (W.contents writer.new.inner)) }
         ensures fits { OnOk result (AllByRecursion Self.form.Fits items.now) }
         ensures err { IfErr result (λ e. (e ≡ BorshError.Io) × Reported writer.old.faults writer.new.faults) }
+        ensures front { OnErr result (AddsFront (SpellsItems Self.form.Spells items.now)
+            (W.contents writer.old.inner) (W.contents writer.new.inner)) }
         ensures grows { writer.old.faults ≤ writer.new.faults }
     {
         let width = Self::Bytes::CAPACITY;
@@ -64,6 +66,7 @@ pub(crate) trait Number: FixedWidth {
             (AfterItems Self.form.Spells Self.form.Fits (λ _. ⊥) (length slots.old))
             (AfterItems Self.form.Spells Self.form.Fits (λ _. ⊥) (length slots.old))
             (R.remaining reader.old.inner) reader.old.faults reader.new.faults) }
+        ensures taken { IfErr result (TakesSome (R.remaining reader.old.inner) (R.remaining reader.new.inner)) }
         ensures grows { reader.old.faults ≤ reader.new.faults }
     {
         let width = Self::Bytes::CAPACITY;

@@ -8,7 +8,8 @@ use Rattle.tinyvec_script.proofs.PlaceLemmas.{tiny_of-begins}
 use Rattle.tinyvec_script.specs.State.{held}
 use Rattle.std.proofs.KnownBytes.{Appends-nil, Appends-trans, Consumes-nil, Consumes-trans, Consumes-kept}
 use Rattle.tinyvec_script.proofs.HistoryLemmas.{feeds_nothing, feeds_then, complete_lines, whole_script, chunk_longer}
-use Rattle.tinyvec_script.proofs.Written.{AppendsFront-then, reported_since}
+use Rattle.tinyvec_io.proofs.Pieces.{AppendsFront-then}
+use Rattle.tinyvec_script.proofs.Written.{reported_since}
 use Rattle.tinyvec_script.proofs.script.run.Goals as goal
 
 pub loop-piece-init : goal.loop-piece-init

@@ -7,6 +7,7 @@ use Rattle.tinyvec_borsh.specs.Number.{SpellsNumber}
 use Rattle.example_records.specs.Readings.{SamplesFit, SpellsNote, SpellsSamples}
 use Rattle.tinyvec_borsh.specs.Both.{SpellsBoth}
 use Rattle.tinyvec_borsh.proofs.Both.{fails-first, fails-second, takes-both}
+use Rattle.tinyvec_borsh.proofs.AtFaults.{some-then}
 use Rattle.example_records.proofs.reading.ReadingBorshDeserialize.deserialize_reader.Goals as goal
 
 pub returns-in_err-samples-clause-err : goal.returns-in_err-samples-clause-err
@@ -34,3 +35,16 @@ returns-clause-fits g c =
     let samples = map-id (items c.in_ok-samples.samples) in
     let note = map-id (tiny_items c.in_ok-note.note) in
     (c.in_ok-station.ensures.fits, (subst SamplesFit samples c.in_ok-samples.ensures.fits, rw note at c.in_ok-note.ensures.fits))
+
+pub returns-in_err-samples-clause-taken : goal.returns-in_err-samples-clause-taken
+returns-in_err-samples-clause-taken g c =
+    let p = err_from_is_err_and c.from_residual-in_err-samples.result c.from_residual-in_err-samples.ensures.1 in
+    let station = c.in_ok-station.ensures.ok in
+    rw (p.1, p.2) (some-then _ _ _ station.0 _ station.2 c.in_err-samples.ensures.taken)
+
+pub returns-in_err-note-clause-taken : goal.returns-in_err-note-clause-taken
+returns-in_err-note-clause-taken g c =
+    let p = err_from_is_err_and c.from_residual-in_err-note.result c.from_residual-in_err-note.ensures.1 in
+    let station = c.in_ok-station.ensures.ok in
+    let samples = c.in_ok-samples.ensures.ok in
+    rw (p.1, p.2) (some-then _ _ _ station.0 _ station.2 (some-then _ _ _ samples.0 _ samples.2 c.in_err-note.ensures.taken))

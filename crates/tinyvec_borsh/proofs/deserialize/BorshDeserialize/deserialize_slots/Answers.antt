@@ -1,6 +1,7 @@
 use Rattle.std.proofs.Common.{arith, rules}
 use Rattle.std.proofs.lemmas.Result.{err_from_is_err_and}
 use Rattle.tinyvec_borsh.proofs.Blocks.{fails-behind, length-mapped, took-slot}
+use Rattle.tinyvec_borsh.proofs.AtFaults.{some-then}
 use Rattle.tinyvec_borsh.proofs.deserialize.BorshDeserialize.deserialize_slots.Goals as goal
 
 pub returns-in_err-slots-clause-err : goal.returns-in_err-slots-clause-err
@@ -16,3 +17,9 @@ loop-i-preserved g c = record {
   many = search rules;
   grows = omega arith;
 }
+
+pub returns-in_err-slots-clause-taken : goal.returns-in_err-slots-clause-taken
+returns-in_err-slots-clause-taken g c =
+    let p = err_from_is_err_and c.from_residual.result c.from_residual.ensures.1 in
+    let before = c.loop-i.invariant.read.taken in
+    rw (p.1, p.2) (some-then _ _ _ before.0 _ before.2 c.in_err-slots.ensures.taken)

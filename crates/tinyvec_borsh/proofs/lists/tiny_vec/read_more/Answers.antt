@@ -4,7 +4,7 @@ use Rattle.tinyvec.specs.Lends.{tiny_with_items}
 use Rattle.tinyvec.proofs.TinyLemmas.{tiny_framed-with, tiny_items-with, tiny_slots_then_framed}
 use Rattle.tinyvec_borsh.proofs.Blocks.{fails-of-more, grown}
 use Rattle.tinyvec_borsh.proofs.Outcomes.{err-so, on-ok}
-use Rattle.tinyvec_borsh.proofs.Place.{place-framed}
+use Rattle.tinyvec_borsh.proofs.Place.{place-framed, room-grown}
 use Rattle.tinyvec_borsh.proofs.lists.tiny_vec.read_more.Goals as goal
 
 pub returns-clause-place : goal.returns-clause-place
@@ -41,3 +41,13 @@ returns-clause-slots g c =
     let mid = c.resize_with.new.self in
     let same : length c.read_items.new.slots ≡ tiny_len mid = search rules in
     on-ok c.read_items.result (λ _. tiny_slots_then_framed g.A.Item.Default.is_default c.args.v.now mid (tiny_with_items mid c.read_items.new.slots) c.resize_with.ensures.slots (tiny_framed-with mid c.read_items.new.slots same)) c.read_items.ensures.ok
+
+pub returns-clause-room : goal.returns-clause-room
+returns-clause-room g c =
+    let slots = g.A.Array.CAPACITY in
+    let mid = c.resize_with.new.self in
+    let same : length c.read_items.new.slots ≡ tiny_len mid = search rules in
+    let framed = tiny_framed-with mid c.read_items.new.slots same in
+    let few : c.len-start.result + c.min.result ≤ c.args.count = search rules in
+    let grown = room-grown slots (c.len-start.result + c.min.result) c.args.count c.args.v.now mid c.resize_with.ensures.room.same_room c.in-Ok.ensures.room.grown few in
+    on-ok c.read_items.result (λ _. omega (arith, framed.capacity slots, grown)) c.read_items.ensures.ok

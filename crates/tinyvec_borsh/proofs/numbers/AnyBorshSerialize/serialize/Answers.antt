@@ -1,8 +1,15 @@
 use Rattle.std.proofs.Common.{◌∙◌, subst, sym}
 use Rattle.tinyvec_borsh.proofs.Outcomes.{on-ok}
+use Rattle.tinyvec_borsh.proofs.AtFaults.{on-err}
+use Rattle.tinyvec_io.specs.Counted.{AppendsFront}
 use Rattle.tinyvec_borsh.proofs.numbers.AnyBorshSerialize.serialize.Goals as goal
 
 pub returns-clause-ok : goal.returns-clause-ok
 returns-clause-ok g c =
     let spelled = subst (g.T.FixedWidth.form.Spells c.args.self.now) (sym (c.as_slice.ensures.value ∙ c.to_bytes.ensures.bytes)) (g.T.FixedWidth.form.written c.args.self.now c.to_bytes.ensures.fits) in
     on-ok c.write_bytes.result (λ h. (c.as_slice.result.now, spelled, h)) c.write_bytes.ensures.ok
+
+pub returns-clause-front : goal.returns-clause-front
+returns-clause-front g c =
+    let spelled = subst (g.T.FixedWidth.form.Spells c.args.self.now) (sym (c.as_slice.ensures.value ∙ c.to_bytes.ensures.bytes)) (g.T.FixedWidth.form.written c.args.self.now c.to_bytes.ensures.fits) in
+    on-err c.write_bytes.result (λ h bytes p. subst (AppendsFront _ _) (g.T.FixedWidth.form.code.one_spelling c.args.self.now c.as_slice.result.now bytes spelled p) h) c.write_bytes.ensures.front

@@ -3,6 +3,7 @@ use Rattle.std.proofs.lemmas.List.{length-map}
 use Rattle.std.proofs.lemmas.Result.{err_from_is_err_and}
 use Rattle.tinyvec_slots.specs.Slots.{items}
 use Rattle.tinyvec_borsh.proofs.ItemByItem.{fails-block, fails-item, maybe-so, read-all, read-block, read-first, read-more, rest-many, too-many}
+use Rattle.tinyvec_borsh.proofs.AtFaults.{length_is_no_end, some-all, some-then}
 use Rattle.tinyvec_borsh.proofs.lists.array_vec.ArrayVecBorshDeserialize.deserialize_reader.Goals as goal
 
 pub returns-in_err-read_items-clause-err : goal.returns-in_err-read_items-clause-err
@@ -63,3 +64,23 @@ returns-clause-fits g c =
     let long = length-map t.0 g.A.Item.BorshForm.content_of in
     let full : length t.0 ≡ min c.in_ok-count.count g.A.Array.CAPACITY = search rules in
     rw same (record { few = omega (arith, long, full); counted = omega (arith, long, full, c.in_ok-count.ensures.fits); items = t.3 })
+
+pub returns-in_err-read_items-clause-taken : goal.returns-in_err-read_items-clause-taken
+returns-in_err-read_items-clause-taken g c =
+    let p = err_from_is_err_and c.from_residual-in_err-read_items.result c.from_residual-in_err-read_items.ensures.1 in
+    let count = c.in_ok-count.ensures.ok in
+    rw (p.1, p.2) (some-then _ _ _ count.0 _ count.2 c.in_err-read_items.ensures.taken)
+
+pub returns-in_err-deserialize_reader-clause-taken : goal.returns-in_err-deserialize_reader-clause-taken
+returns-in_err-deserialize_reader-clause-taken g c =
+    let p = err_from_is_err_and c.from_residual-in_err-deserialize_reader.result c.from_residual-in_err-deserialize_reader.ensures.1 in
+    let count = c.in_ok-count.ensures.ok in
+    let items = c.in_ok-read_items.ensures.ok.4 in
+    rw (p.1, p.2) (some-then _ _ _ count.0 _ count.2 (some-then _ _ _ items.0 _ items.2 c.in_err-deserialize_reader.ensures.taken))
+
+pub returns-then-len-count-clause-taken : goal.returns-then-len-count-clause-taken
+returns-then-len-count-clause-taken g c =
+    let count = c.in_ok-count.ensures.ok in
+    let items = c.in_ok-read_items.ensures.ok.4 in
+    let last = c.in_ok-deserialize_reader.ensures.ok in
+    some-then _ _ _ count.0 _ count.2 (some-then _ _ _ items.0 _ items.2 (some-all _ _ last.0 _ length_is_no_end last.2))

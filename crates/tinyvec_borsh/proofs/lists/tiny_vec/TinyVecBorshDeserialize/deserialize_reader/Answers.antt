@@ -4,6 +4,7 @@ use Rattle.std.proofs.lemmas.List.{length-map}
 use Rattle.std.proofs.lemmas.Result.{err_from_is_err_and}
 use Rattle.tinyvec_borsh.proofs.Place.{placed-longer, spare-longer, refused-above, wanting-above}
 use Rattle.tinyvec_borsh.proofs.ItemByItem.{counts-above, fails-wanting, maybe-so, read-appended, read-first}
+use Rattle.tinyvec_borsh.proofs.AtFaults.{memory_is_no_end, some-all, some-then}
 use Rattle.tinyvec_borsh.proofs.lists.tiny_vec.TinyVecBorshDeserialize.deserialize_reader.Goals as goal
 
 pub returns-in_default-clause-err : goal.returns-in_default-clause-err
@@ -21,6 +22,7 @@ loop-alloc-preserved g c =
       few = t.3;
       spare = spare-longer g.A.Item.Default.is_default g.A.Array.CAPACITY c.loop-alloc.v c.read_more.new.v (omega (arith, ap length t.1, length-append (tiny_items c.loop-alloc.v) t.0)) c.in_ok-read_more.ensures.place c.in_ok-read_more.ensures.slots c.loop-alloc.invariant.spare;
       place = placed-longer g.A.Array.CAPACITY _ c.loop-alloc.v c.read_more.new.v t.3 c.in_ok-read_more.ensures.place c.loop-alloc.invariant.place;
+      room = omega (arith, c.in_ok-read_more.ensures.room, c.loop-alloc.invariant.room);
       grows = omega arith;
     }
 
@@ -33,3 +35,12 @@ returns-in_err-read_more-clause-err g c =
     (λ wanting. maybe-so _ _ _ (λ input above. inl above) (counts-above g.A.Item.BorshForm.Spells g.A.Item.BorshForm.Fits g.A.Array.CAPACITY _ _ _ _ c.loop-alloc.invariant.read
     (wanting-above g.A.Array.CAPACITY c.in_ok-count.count c.loop-alloc.v wanting c.loop-alloc.invariant.place)))
     (λ input asks. inr asks) c.in_err-read_more.ensures.err)
+
+pub returns-in_default-clause-taken : goal.returns-in_default-clause-taken
+returns-in_default-clause-taken g c = some-all _ _ c.in_ok-count.ensures.ok.0 _ memory_is_no_end c.in_ok-count.ensures.ok.2
+
+pub returns-in_err-read_more-clause-taken : goal.returns-in_err-read_more-clause-taken
+returns-in_err-read_more-clause-taken g c =
+    let p = err_from_is_err_and c.from_residual-in_err-read_more.result c.from_residual-in_err-read_more.ensures.1 in
+    let before = c.loop-alloc.invariant.read.taken in
+    rw (p.1, p.2) (some-then _ _ _ before.0 _ before.2 c.in_err-read_more.ensures.taken)

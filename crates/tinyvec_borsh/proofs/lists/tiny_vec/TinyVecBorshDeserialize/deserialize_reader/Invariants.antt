@@ -1,6 +1,6 @@
-use Rattle.std.proofs.Common.{◌-◌, ◌≤◌, map}
+use Rattle.std.proofs.Common.{◌-◌, ◌*◌, ◌≤◌, max, map}
 use Rattle.tinyvec_slots.specs.Slots.{AreDefaults}
-use Rattle.tinyvec.specs.TinyVec.{IsInline, tiny_items, tiny_len, tiny_spare}
+use Rattle.tinyvec.specs.TinyVec.{IsInline, tiny_capacity, tiny_items, tiny_len, tiny_spare}
 use Rattle.tinyvec_borsh.proofs.ItemByItem.{WasRead}
 use Rattle.tinyvec_borsh.proofs.Place.{IsPlaced}
 use Rattle.tinyvec_borsh.proofs.lists.tiny_vec.TinyVecBorshDeserialize.deserialize_reader.Given as goal
@@ -12,6 +12,7 @@ invariant-loop-alloc g l = record {
   few : tiny_len l.v ≤ l.count;
   place : IsPlaced g.A.Array.CAPACITY l.count l.v;
   spare : IsInline l.v → AreDefaults g.A.Item.Default.is_default (g.A.Array.CAPACITY - tiny_len l.v) (tiny_spare l.v);
+  room : tiny_capacity g.A.Array.CAPACITY l.v ≤ max g.A.Array.CAPACITY (2 * l.count);
   grows : l.fn.reader.faults ≤ l.reader.faults;
 }
 

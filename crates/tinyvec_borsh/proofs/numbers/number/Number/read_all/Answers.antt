@@ -6,6 +6,7 @@ use Rattle.std.proofs.lemmas.Result.{err_from_is_err_and}
 use Rattle.tinyvec_borsh.specs.Items.{SpellsItems}
 use Rattle.tinyvec_borsh.proofs.Blocks.{take-block, took-block}
 use Rattle.tinyvec_borsh.proofs.NumberBlocks.{block_within, fails-behind-block, fails-numbers}
+use Rattle.tinyvec_borsh.proofs.AtFaults.{some-then}
 use Rattle.tinyvec_borsh.proofs.numbers.number.Number.read_all.Goals as goal
 
 pub returns-in_err-read_bytes-clause-err : goal.returns-in_err-read_bytes-clause-err
@@ -42,3 +43,9 @@ returns-clause-ok g c =
 
 pub returns-clause-fits : goal.returns-clause-fits
 returns-clause-fits g c = subst (AllByRecursion g.Self.FixedWidth.form.Fits) (take_all c.loop-start.start c.loop-start.slots (omega arith)) c.loop-start.invariant.read.fit
+
+pub returns-in_err-read_bytes-clause-taken : goal.returns-in_err-read_bytes-clause-taken
+returns-in_err-read_bytes-clause-taken g c =
+    let p = err_from_is_err_and c.from_residual.result c.from_residual.ensures.1 in
+    let before = c.loop-start.invariant.read.taken in
+    rw (p.1, p.2) (some-then _ _ _ before.0 _ before.2 c.in_err-read_bytes.ensures.taken)

@@ -1,0 +1,97 @@
+-- What was written or read where a call fails.
+use Rattle.std.proofs.Common.{◌≡◌, ◌≢◌, ◌∙◌, ap, sym, subst, ℕ, suc, ◌*◌, ◌<◌, List, [], ◌∷◌, ◌++◌, length, map, take, drop, get_or, append_assoc, refl, lit<, Option, Result, Ok, Err, OnErr}
+use Rattle.std.proofs.lemmas.List.{map-append, take-append-drop}
+use Rattle.std.proofs.Math.Seq.{drop-cons}
+use Rattle.std.specs.Io.KnownBytes.{Consumes}
+use Rattle.std.proofs.KnownBytes.{Consumes-trans}
+use Rattle.tinyvec_io.specs.Counted.{AppendsFront}
+use Rattle.tinyvec_io.proofs.Pieces.{AppendsFront-then, AppendsFront-longer}
+use Rattle.tinyvec_borsh.specs.declared.borsh_error.BorshError.{BorshError}
+use Rattle.tinyvec_borsh.specs.declared.borsh_error.BorshError.TheVariants.{Ended, InvalidLength, Memory}
+use Rattle.tinyvec_borsh.specs.Code.{IsCode}
+use Rattle.tinyvec_borsh.specs.Items.{IsCount, SpellsItems, SpellsList}
+use Rattle.tinyvec_borsh.specs.ItemsLaws.{one-items}
+use Rattle.tinyvec_borsh.specs.NumberLaws.{number_code}
+use Rattle.tinyvec_borsh.specs.Parts.{HasParts, joined}
+use Rattle.tinyvec_borsh.specs.Reading.{TakesSome}
+use Rattle.tinyvec_borsh.specs.Writing.{Adds, AddsFront}
+use Rattle.tinyvec_borsh.proofs.ItemByItem.{WroteItems}
+
+pub on-err : {T E P Q : Type 0} (r : Result T E) → (P → Q) → OnErr r P → OnErr r Q
+on-err (Ok x) f p = tt
+on-err (Err e) f p = f p
+
+-- a front of a first part is one of the whole
+pub front-first : {P Q : List ℕ → Type 0} (old new : Option (List ℕ)) → AddsFront P old new → AddsFront (HasParts P Q) old new
+front-first old new front bytes p = subst (AppendsFront old new) (sym p.whole) (AppendsFront-longer old new p.first p.rest (front p.first p.is_first))
+
+-- the first part was written, which is spelled in one way, and then a front of the rest
+pub front-second : {P Q : List ℕ → Type 0} (old mid new : Option (List ℕ)) → ((a b : List ℕ) → P a → P b → a ≡ b) → Adds P old mid → AddsFront Q mid new → AddsFront (HasParts P Q) old new
+front-second old mid new one wrote front bytes p =
+    let same : wrote.0 ≡ p.first = one wrote.0 p.first wrote.1 p.is_first in
+    subst (AppendsFront old new) (ap (λ l. l ++ p.rest) same ∙ sym p.whole) (AppendsFront-then old mid new wrote.0 p.rest wrote.2 (front p.rest p.is_rest))
+
+-- a list in three parts: the first i, one, and the others
+pub parts_at : {T C : Type 0} (content : T → C) (xs : List T) (i : ℕ) (x : T) → i < length xs → x ≡ get_or xs i x → map content xs ≡ map content (take i xs) ++ (content x ∷ map content (drop (suc i) xs))
+parts_at content xs i x within is =
+    ap (map content) (sym (take-append-drop i xs) ∙ ap (λ l. take i xs ++ l) (drop-cons xs i x within ∙ ap (λ y. y ∷ drop (suc i) xs) (sym is))) ∙ map-append content (take i xs) (x ∷ drop (suc i) xs)
+
+-- the first ones, a block, and the others
+pub parts_around : {T : Type 0} (xs : List T) (i k : ℕ) → xs ≡ take i xs ++ (take k (drop i xs) ++ drop k (drop i xs))
+parts_around xs i k = sym (take-append-drop i xs) ∙ ap (λ l. take i xs ++ l) (sym (take-append-drop k (drop i xs)))
+
+pub front-count : {C : Type 0} (Spells : C → List ℕ → Type 0) (n : ℕ) (cs : List C) (old new : Option (List ℕ)) → n ≡ length cs → AddsFront (IsCount n) old new → AddsFront (SpellsList Spells cs) old new
+front-count Spells n cs old new long front = front-first old new (subst (λ m. AddsFront (IsCount m) old new) long front)
+
+module _ {C : Type 0} (Spells : C → List ℕ → Type 0) (code : IsCode Spells) where
+  items-part : (cs ds : List C) (bytes : List ℕ) → SpellsItems Spells (cs ++ ds) bytes → HasParts (SpellsItems Spells cs) (SpellsItems Spells ds) bytes
+  items-part [] ds bytes p = joined [] bytes refl p
+  items-part (c ∷ cs) ds bytes p =
+      let rest = items-part cs ds p.rest p.is_rest in
+      record {
+        first = p.first ++ rest.first;
+        rest = rest.rest;
+        is_first = joined p.first rest.first p.is_first rest.is_first;
+        is_rest = rest.is_rest;
+        whole = p.whole ∙ ap (λ l. p.first ++ l) rest.whole ∙ sym (append_assoc p.first rest.first rest.rest);
+      }
+
+  -- items were written, and then a front of those behind them
+  pub front-items : (cs ds all : List C) (old mid new : Option (List ℕ)) → all ≡ cs ++ ds → WroteItems Spells cs old mid → AddsFront (SpellsItems Spells ds) mid new
+      → AddsFront (SpellsItems Spells all) old new
+  front-items cs ds all old mid new whole w front bytes p =
+      front-second old mid new (one-items Spells code cs) (w.bytes, w.spelled, w.appended) front bytes (items-part cs ds bytes (subst (λ l. SpellsItems Spells l bytes) whole p))
+
+  -- a front of a block that begins the items
+  pub front-block : (cs ds : List C) (old new : Option (List ℕ)) (block : List ℕ) → SpellsItems Spells cs block → AppendsFront old new block → AddsFront (SpellsItems Spells (cs ++ ds)) old new
+  front-block cs ds old new block spelled front bytes p =
+      let parts = items-part cs ds bytes p in
+      let same : block ≡ parts.first = one-items Spells code cs block parts.first spelled parts.is_first in
+      subst (AppendsFront old new) (ap (λ l. l ++ parts.rest) same ∙ sym parts.whole) (AppendsFront-longer old new block parts.rest front)
+
+  -- items were written, and then a front of a block behind them
+  pub front-next-block : (width n : ℕ) (xs ys more all : List C) (bytes room : List ℕ) (old mid new : Option (List ℕ)) → all ≡ xs ++ (ys ++ more) → bytes ≡ take (n * width) room → n ≡ length ys
+      → WroteItems Spells xs old mid → SpellsItems Spells ys (take (length ys * width) room) → AppendsFront mid new bytes → AddsFront (SpellsItems Spells all) old new
+  front-next-block width n xs ys more all bytes room old mid new whole is many w spelled front =
+      front-items xs (ys ++ more) all old mid new whole w
+      (front-block ys more mid new bytes (subst (SpellsItems Spells ys) (sym (is ∙ ap (λ m. take (m * width) room) many)) spelled) front)
+
+  -- the count was written, and then a front of the items
+  pub front-list : (n : ℕ) (cs : List C) (old mid new : Option (List ℕ)) → n ≡ length cs → Adds (IsCount n) old mid → AddsFront (SpellsItems Spells cs) mid new
+      → AddsFront (SpellsList Spells cs) old new
+  front-list n cs old mid new long wrote front =
+      front-second old mid new ((number_code 8 (lit< tt)).one_spelling (length cs)) (wrote.0, subst (λ m. IsCount m wrote.0) long wrote.1, wrote.2) front
+
+-- what was taken before is taken too
+pub some-then : (old mid new : Option (List ℕ)) (bytes : List ℕ) (e : BorshError) → Consumes old mid bytes → TakesSome mid new e → TakesSome old new e
+some-then old mid new bytes e before t = record { bytes = bytes ++ t.bytes; taken = Consumes-trans old mid new bytes t.bytes before t.taken; end = t.end }
+
+-- all of it was taken, and the call fails for another reason than the end
+pub some-all : (old new : Option (List ℕ)) (bytes : List ℕ) (e : BorshError) → e ≢ Ended → Consumes old new bytes → TakesSome old new e
+some-all old new bytes e other taken = record { bytes = bytes; taken = taken; end = λ is. absurd (other is) }
+
+pub length_is_no_end : InvalidLength ≢ Ended
+length_is_no_end e = cc
+
+pub memory_is_no_end : Memory ≢ Ended
+memory_is_no_end e = cc
