@@ -1,4 +1,4 @@
-//! Clones, of items that own memory and of numbers.
+//! A clone that is refused memory which is there would pass the check.
 use std::alloc::AllocGlobal;
 use std::test::Fail;
 use tinyvec::{ArrayVec, TinyVec};

@@ -1,4 +1,5 @@
-//! The tutorial's functions. The fields of each line were written down by hand.
+//! A definition of the fields of a line that has the same mistake as the code would pass the check. They were written down
+//! by hand.
 use example_fields::{key_and_value, split};
 use std::test::Fail;
 

@@ -1,4 +1,4 @@
-//! The filters of the documents.
+//! A filter whose clause and body both keep what it is to drop would pass the check. The tutorial quotes the first test.
 use std::test::Fail;
 use tinyvec::{array_vec, tiny_vec};
 use tinyvec_examples::readme::filters::*;

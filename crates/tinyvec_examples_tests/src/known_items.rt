@@ -1,4 +1,4 @@
-//! Known items, appended.
+//! Items that find no room which is there would pass the check.
 use std::alloc::AllocGlobal;
 use std::test::Fail;
 use tinyvec::{ArrayVec, SliceVec, TinyVec};

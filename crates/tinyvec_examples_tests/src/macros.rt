@@ -1,17 +1,6 @@
-//! The callers of the macros.
+//! A macro that is refused memory which is there would pass the check.
 use std::test::Fail;
 use tinyvec_examples::macros::*;
-
-#[test]
-fn arrays(rt: HostRuntime) {
-    assert!(rt; listed().as_slice() == [1, 2].as_slice());
-    assert!(rt; none_listed().is_empty());
-    assert!(rt; array_named().is_empty());
-    assert!(rt; evaluated(7).as_slice() == [8, 7, 7].as_slice());
-    assert!(rt; repeated().into_inner() == [5, 5, 5]);
-    assert!(rt; repeated().is_full());
-    assert!(rt; empty().is_empty());
-}
 
 #[test]
 fn tiny_vectors(rt: HostRuntime) -> Result<(), Fail> {

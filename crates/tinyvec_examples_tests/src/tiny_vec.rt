@@ -1,9 +1,9 @@
-//! The callers of a `TinyVec`.
+//! A call that is refused memory which is there would pass the check.
 use std::test::Fail;
 use tinyvec::*;
 use tinyvec_examples::tiny_vec::{
-    cut, cut_and_joined, last_of, lent_items, middle_drained, moved_by_iterator, nth_of,
-    one_too_many, set, there_and_back, three, two_more,
+    cut_and_joined, lent_items, moved_by_iterator, one_too_many, set, there_and_back, three,
+    two_more,
 };
 
 #[test]
@@ -36,15 +36,4 @@ fn changed(rt: HostRuntime) -> Result<(), Fail> {
     assert!(rt; v.as_slice() == [1, 7, 3].as_slice());
     assert!(rt; v.is_inline());
     Ok(())
-}
-
-#[test]
-fn drained(rt: HostRuntime) {
-    assert!(rt; middle_drained(rt.alloc()).as_slice() == [1, 4].as_slice());
-    let mut v = three(rt.alloc());
-    assert!(rt; nth_of(&mut v, ..2, 1) == Some(2));
-    assert!(rt; v.as_slice() == [3].as_slice());
-    cut(&mut v, ..0);
-    assert!(rt; last_of(&mut v) == Some(3));
-    assert!(rt; v.is_empty());
 }

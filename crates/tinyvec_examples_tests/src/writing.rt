@@ -1,4 +1,4 @@
-//! The callers that write texts and bytes.
+//! A text that is never written would pass the check.
 use std::test::Fail;
 use tinyvec::{ArrayVec, TinyVec};
 use tinyvec_examples::readme::texts::progress;
