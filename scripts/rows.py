@@ -1,4 +1,5 @@
 """Rows of calls: how they are read, given to the program that does them, and compared with what it answers."""
+import os
 import pathlib
 import re
 import subprocess
@@ -10,6 +11,7 @@ PIECES = re.compile(r'"(?:[^"\\]|\\.)*"|[^"]+|"')
 OPEN, CLOSE = "[(<", "])>"
 TIMES = re.compile(r"(?<=[\[,|])([^\[\],|*]+)\*(\d+)(?=[\],|])")
 UP_TO = re.compile(r"(?<=[\[,|])(-?\d+)\.\.(-?\d+)(?=[\],|])")
+WINDOW = re.compile(rb"^window (\d+)$", re.M)
 ESCAPES = {"n": "\n", "t": "\t", "r": "\r", "0": "\0"}
 
 
@@ -93,15 +95,18 @@ def unquoted(text):
     return re.sub(r"\\(.)", lambda it: ESCAPES.get(it[1], it[1]), text)
 
 
-def run(program, lines, is_tried=False):
-    """What the program answers to each line: the parts of its calls."""
+def run(program, lines, is_tried=False, refusing=None):
+    """What the program answers to each line: the parts of its calls. With a library that refuses memory also the number of
+    requests of each window that the program opened."""
     folder = TOP / "crates" / program
     words = ["rt", "try"] if is_tried else [folder / "out" / program]
     given = "".join(f"{it}\n" for it in lines).encode()
-    ran = subprocess.run(words, cwd=folder, input=given, capture_output=True)
+    environment = {**os.environ, "LD_PRELOAD": refusing.library} if refusing else None
+    ran = subprocess.run(words, cwd=folder, env=environment, input=given, capture_output=True)
     said = ran.stdout.decode(errors="replace").split("\n")[:-1]
     if ran.returncode != 0 or len(said) != len(lines):
         raise BadRow(
             f"{program}: status {ran.returncode}, {len(said)} of {len(lines)} rows are answered\n{ran.stderr.decode(errors='replace')[-2000:]}"
         )
-    return [it.split("\t") for it in said]
+    answers = [it.split("\t") for it in said]
+    return (answers, [int(it) for it in WINDOW.findall(ran.stderr)]) if refusing else answers

@@ -5,6 +5,7 @@ mod answers;
 mod closure;
 mod item;
 mod span;
+pub mod window;
 mod words;
 
 pub use answers::{

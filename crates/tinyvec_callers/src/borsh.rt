@@ -1,0 +1,111 @@
+//! What callers can prove of every type that can be written and read.
+ghost use Rattle.std.specs.Prelude.{◌≡◌, ◌⊎◌, ◌++◌, ℕ, List, map, IfErr, IfOk};
+ghost use Rattle.tinyvec_slots.specs.Slots.{items};
+ghost use Rattle.tinyvec.specs.TinyVec.{tiny_items};
+ghost use Rattle.tinyvec_borsh.specs.Code.{TellsApart};
+ghost use Rattle.tinyvec_borsh.specs.Reading.{ReadsBack};
+
+use std::alloc::Global;
+use std::io::Read;
+use std::test::Fail;
+use tinyvec::{Array, ArrayVec, TinyVec};
+use tinyvec_borsh::{BorshDeserialize, BorshError, BorshSerialize};
+use tinyvec_io::Counted;
+
+/// Where the input begins with the spelling of a content that fits, a value of that content is read, and what follows
+/// stays unread, faults and want of memory aside.
+pub fn read_back<T: BorshDeserialize, R: Read>(
+    alloc: Global,
+    reader: &mut Counted<R>,
+) -> Result<T, BorshError>
+    ensures { (c : T.Content) (bytes rest : List ℕ) → T.Fits c → T.Spells c bytes
+        → R.remaining reader.old.inner ≡ Some (bytes ++ rest)
+        → ReadsBack T.content_of T.MayAsk c (bytes ++ rest) rest
+        (R.remaining reader.new.inner) reader.old.faults reader.new.faults result }
+{
+    T::deserialize_reader(alloc, reader)
+}
+
+/// What was written is read again, with the same content, faults and want of memory aside.
+pub fn copied<T: BorshSerialize + BorshDeserialize>(alloc: Global, v: &T) -> Result<T, BorshError>
+    ensures same { IfOk result (λ w. T.content_of w ≡ T.content_of v.now) }
+    ensures err { IfErr result (λ e. (e ≡ BorshError.Io) ⊎ (e ≡ BorshError.Memory)) }
+{
+    let mut writer = Counted::new(Vec::new(alloc));
+    v.serialize(&mut writer)?;
+    let bytes = writer.into_inner();
+    let mut reader = Counted::new(bytes.as_slice());
+    T::deserialize_reader(alloc, &mut reader)
+}
+
+/// A list that was written is read again as an equal list, of all items that differ only where their contents do.
+pub fn copied_array<A: Array>(alloc: Global, v: &ArrayVec<A>) -> Result<ArrayVec<A>, BorshError>
+where
+    A::Item: BorshSerialize + BorshDeserialize,
+    requires { TellsApart A.Item.content_of }
+    ensures same { IfOk result (λ w. items w ≡ items v.now) }
+    ensures err { IfErr result (λ e. (e ≡ BorshError.Io) ⊎ (e ≡ BorshError.Memory)) }
+{
+    copied(alloc, v)
+}
+
+/// The same of a list that may be on the heap.
+pub fn copied_tiny<A: Array>(alloc: Global, v: &TinyVec<A>) -> Result<TinyVec<A>, BorshError>
+where
+    A::Item: BorshSerialize + BorshDeserialize,
+    requires { TellsApart A.Item.content_of }
+    ensures same { IfOk result (λ w. tiny_items w ≡ tiny_items v.now) }
+    ensures err { IfErr result (λ e. (e ≡ BorshError.Io) ⊎ (e ≡ BorshError.Memory)) }
+{
+    copied(alloc, v)
+}
+
+/// The same of a list of lists.
+pub fn copied_lists<A: Array, const N: usize>(
+    alloc: Global,
+    v: &TinyVec<[ArrayVec<A>; N]>,
+) -> Result<TinyVec<[ArrayVec<A>; N]>, BorshError>
+where
+    A::Item: BorshSerialize + BorshDeserialize,
+    requires { TellsApart A.Item.content_of }
+    ensures same { IfOk result (λ w. map items (tiny_items w) ≡ map items (tiny_items v.now)) }
+    ensures err { IfErr result (λ e. (e ≡ BorshError.Io) ⊎ (e ≡ BorshError.Memory)) }
+{
+    copied(alloc, v)
+}
+
+/// Of whole numbers that holds, since they are their own contents.
+pub fn copied_numbers(
+    alloc: Global,
+    unsigned: &TinyVec<[u16; 4]>,
+    signed: &ArrayVec<[i64; 4]>,
+) -> Result<(TinyVec<[u16; 4]>, ArrayVec<[i64; 4]>), BorshError>
+    ensures unsigned { IfOk result (λ w. tiny_items w.0 ≡ tiny_items unsigned.now) }
+    ensures signed { IfOk result (λ w. items w.1 ≡ items signed.now) }
+{
+    Ok((copied_tiny(alloc, unsigned)?, copied_array(alloc, signed)?))
+}
+
+/// And of lists of them.
+pub fn copied_lists_of_numbers(
+    alloc: Global,
+    v: &TinyVec<[ArrayVec<[u8; 4]>; 2]>,
+) -> Result<TinyVec<[ArrayVec<[u8; 4]>; 2]>, BorshError>
+    ensures { IfOk result (λ w. map items (tiny_items w) ≡ map items (tiny_items v.now)) }
+{
+    copied_lists(alloc, v)
+}
+
+#[test]
+fn memory_that_is_there_is_granted(rt: HostRuntime) -> Result<(), Fail> {
+    let alloc = rt.alloc();
+    let signed = ArrayVec::from_array_len([-1, 2, 0, 0], 2);
+    let unsigned = TinyVec::<[u16; 4]>::from_slice(alloc, &[1, 2, 3, 4, 5])?;
+    let numbers = copied_numbers(alloc, &unsigned, &signed);
+    assert!(rt; numbers.is_ok_and(|(v, w)| v == unsigned && w == signed));
+    let lists = TinyVec::from_array(alloc, [ArrayVec::from_array([1, 2, 3, 4]), ArrayVec::new()]);
+    assert!(rt; copied_lists_of_numbers(alloc, &lists).is_ok_and(|v| v == lists));
+    let mut reader = Counted::new([2, 1, 9].as_slice());
+    assert!(rt; read_back::<u16, _>(alloc, &mut reader) == Ok(258));
+    Ok(())
+}

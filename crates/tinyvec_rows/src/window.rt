@@ -1,0 +1,34 @@
+//! Marks of a call, for a library that refuses memory.
+use crate::{Words, Wrong};
+use std::alloc::{AllocError, Global};
+
+// So many bytes, and a number more, nothing else here asks for: a library that is loaded before the C library takes it for a
+// mark.
+const MARK: usize = 0x52_0000;
+
+/// Begins a window, in which the request of that number is refused: none of number 0, and each of `u16::MAX`.
+pub fn open(alloc: Global, refused: u16) {
+    mark(alloc, if refused == 0 { u16::MAX - 1 } else { refused });
+}
+
+/// Ends it.
+pub fn close(alloc: Global) {
+    mark(alloc, 0);
+}
+
+fn mark(alloc: Global, number: u16) {
+    let asked: Result<Vec<u8>, AllocError> = Vec::with_capacity(alloc, MARK + usize::from(number));
+    let _refused = asked.is_err();
+}
+
+/// The words of a call, and before them the number of the request that a call refuses which begins as `refused 1 `.
+pub fn read(alloc: Global, call: &str) -> Result<(u16, Words<'_>), Wrong> {
+    let Some(rest) = call.strip_prefix("refused ") else {
+        return Ok((0, Words::new(alloc, call)));
+    };
+    let (number, call) = rest.split_once(' ').unwrap_or((rest, ""));
+    match number.parse::<u16>() {
+        Ok(number) => Ok((number, Words::new(alloc, call))),
+        Err(_) => Err(Wrong::Value),
+    }
+}

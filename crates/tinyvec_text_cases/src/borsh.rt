@@ -1,0 +1,262 @@
+//! Values written and read in the Borsh form.
+use crate::streams::Streams;
+use std::alloc::{AllocError, Global};
+use std::fmt::{Display, Write as _};
+use std::str::FromStr;
+use tinyvec::{Array, ArrayVec, TinyVec};
+use tinyvec_borsh::{BorshDeserialize, BorshError, BorshSerialize};
+use tinyvec_rows::{Words, Wrong, window};
+
+// What is to be done with a value: it is written as the word says, or else read. The request for memory of that number is
+// refused.
+#[derive(Drop)]
+struct Case<'c, 's> {
+    alloc: Global,
+    refused: u16,
+    is_put: bool,
+    word: &'c str,
+    streams: &'c mut Streams<'s>,
+    out: &'c mut String,
+}
+
+/// Reads a value of the type that the next word names, and writes it.
+pub(crate) fn get(
+    refused: u16,
+    streams: &mut Streams<'_>,
+    words: &mut Words<'_>,
+    out: &mut String,
+) -> Result<(), Wrong> {
+    let name = words.word();
+    answer(
+        name,
+        &mut Case {
+            alloc: words.alloc,
+            refused,
+            is_put: false,
+            word: "",
+            streams,
+            out,
+        },
+    )
+}
+
+/// Writes a value of the type that the next word names in the Borsh form.
+pub(crate) fn put(
+    refused: u16,
+    streams: &mut Streams<'_>,
+    words: &mut Words<'_>,
+    out: &mut String,
+) -> Result<(), Wrong> {
+    let name = words.word();
+    answer(
+        name,
+        &mut Case {
+            alloc: words.alloc,
+            refused,
+            is_put: true,
+            word: words.word(),
+            streams,
+            out,
+        },
+    )
+}
+
+fn answer(name: &str, case: &mut Case<'_, '_>) -> Result<(), Wrong> {
+    match name {
+        "u8" => of_number::<u8>(case),
+        "i8" => of_number::<i8>(case),
+        "u16" => of_number::<u16>(case),
+        "i16" => of_number::<i16>(case),
+        "u32" => of_number::<u32>(case),
+        "i32" => of_number::<i32>(case),
+        "u64" => of_number::<u64>(case),
+        "i64" => of_number::<i64>(case),
+        "u128" => of_number::<u128>(case),
+        "i128" => of_number::<i128>(case),
+        "ArrayVec<[u8;0]>" => of_array::<[u8; 0]>(numbers(case.alloc, case.word)?, case),
+        "ArrayVec<[u8;1]>" => of_array::<[u8; 1]>(numbers(case.alloc, case.word)?, case),
+        "ArrayVec<[u8;2]>" => of_array::<[u8; 2]>(numbers(case.alloc, case.word)?, case),
+        "ArrayVec<[u8;4]>" => of_array::<[u8; 4]>(numbers(case.alloc, case.word)?, case),
+        "ArrayVec<[u8;64]>" => of_array::<[u8; 64]>(numbers(case.alloc, case.word)?, case),
+        "ArrayVec<[u8;5000]>" => of_array::<[u8; 5000]>(numbers(case.alloc, case.word)?, case),
+        "ArrayVec<[u8;65536]>" => of_array::<[u8; 65536]>(numbers(case.alloc, case.word)?, case),
+        "ArrayVec<[i8;65]>" => of_array::<[i8; 65]>(numbers(case.alloc, case.word)?, case),
+        "ArrayVec<[i16;2]>" => of_array::<[i16; 2]>(numbers(case.alloc, case.word)?, case),
+        "ArrayVec<[i16;129]>" => of_array::<[i16; 129]>(numbers(case.alloc, case.word)?, case),
+        "ArrayVec<[i32;0]>" => of_array::<[i32; 0]>(numbers(case.alloc, case.word)?, case),
+        "ArrayVec<[i32;4]>" => of_array::<[i32; 4]>(numbers(case.alloc, case.word)?, case),
+        "ArrayVec<[u32;64]>" => of_array::<[u32; 64]>(numbers(case.alloc, case.word)?, case),
+        "ArrayVec<[u32;65]>" => of_array::<[u32; 65]>(numbers(case.alloc, case.word)?, case),
+        "TinyVec<[u8;0]>" => of_tiny::<[u8; 0]>(numbers(case.alloc, case.word)?, case),
+        "TinyVec<[u8;1]>" => of_tiny::<[u8; 1]>(numbers(case.alloc, case.word)?, case),
+        "TinyVec<[u8;2]>" => of_tiny::<[u8; 2]>(numbers(case.alloc, case.word)?, case),
+        "TinyVec<[u8;3]>" => of_tiny::<[u8; 3]>(numbers(case.alloc, case.word)?, case),
+        "TinyVec<[u8;4]>" => of_tiny::<[u8; 4]>(numbers(case.alloc, case.word)?, case),
+        "TinyVec<[u8;64]>" => of_tiny::<[u8; 64]>(numbers(case.alloc, case.word)?, case),
+        "TinyVec<[u8;1100]>" => of_tiny::<[u8; 1100]>(numbers(case.alloc, case.word)?, case),
+        "TinyVec<[i16;4]>" => of_tiny::<[i16; 4]>(numbers(case.alloc, case.word)?, case),
+        "TinyVec<[i32;0]>" => of_tiny::<[i32; 0]>(numbers(case.alloc, case.word)?, case),
+        "TinyVec<[i32;1]>" => of_tiny::<[i32; 1]>(numbers(case.alloc, case.word)?, case),
+        "TinyVec<[i32;4]>" => of_tiny::<[i32; 4]>(numbers(case.alloc, case.word)?, case),
+        "TinyVec<[u32;2]>" => of_tiny::<[u32; 2]>(numbers(case.alloc, case.word)?, case),
+        "TinyVec<[u32;4]>" => of_tiny::<[u32; 4]>(numbers(case.alloc, case.word)?, case),
+        "TinyVec<[i128;4]>" => of_tiny::<[i128; 4]>(numbers(case.alloc, case.word)?, case),
+        "TinyVec<[i128;33]>" => of_tiny::<[i128; 33]>(numbers(case.alloc, case.word)?, case),
+        "ArrayVec<[ArrayVec<[u8;1]>;1]>" => of_array::<[ArrayVec<[u8; 1]>; 1]>(
+            lists(case.alloc, case.word)?,
+            case,
+        ),
+        "ArrayVec<[ArrayVec<[u8;2]>;2]>" => of_array::<[ArrayVec<[u8; 2]>; 2]>(
+            lists(case.alloc, case.word)?,
+            case,
+        ),
+        "TinyVec<[ArrayVec<[u8;2]>;1]>" => of_tiny::<[ArrayVec<[u8; 2]>; 1]>(
+            lists(case.alloc, case.word)?,
+            case,
+        ),
+        "TinyVec<[ArrayVec<[u8;2]>;2]>" => of_tiny::<[ArrayVec<[u8; 2]>; 2]>(
+            lists(case.alloc, case.word)?,
+            case,
+        ),
+        "TinyVec<[ArrayVec<[u8;2040]>;3]>" => of_tiny::<[ArrayVec<[u8; 2040]>; 3]>(
+            lists(case.alloc, case.word)?,
+            case,
+        ),
+        "TinyVec<[ArrayVec<[u8;65536]>;1]>" => of_tiny::<[ArrayVec<[u8; 65536]>; 1]>(
+            lists(case.alloc, case.word)?,
+            case,
+        ),
+        _ => Err(Wrong::Value),
+    }
+}
+
+fn of_number<T: BorshSerialize + BorshDeserialize + FromStr + Default + Display + Drop>(
+    case: &mut Case<'_, '_>,
+) -> Result<(), Wrong>
+where
+    T::Err: Drop,
+{
+    if case.is_put {
+        return write_value(case, &number::<T>(case.word));
+    }
+    match read_value::<T>(case.alloc, case.refused, case.streams) {
+        Ok(value) => write!(case.out, "{value}")?,
+        Err(error) => write!(case.out, "{error}")?,
+    }
+    Ok(())
+}
+
+fn of_array<A: Array>(items: Vec<A::Item>, case: &mut Case<'_, '_>) -> Result<(), Wrong>
+where
+    A::Item: BorshSerialize + BorshDeserialize + Display,
+{
+    if case.is_put {
+        let mut v = ArrayVec::<A>::new();
+        let _rest = v.fill(items);
+        return write_value(case, &v);
+    }
+    match read_value::<ArrayVec<A>>(case.alloc, case.refused, case.streams) {
+        Ok(v) => write_items(case.out, v.as_slice())?,
+        Err(error) => write!(case.out, "{error}")?,
+    }
+    Ok(())
+}
+
+// Of a list that was read the answer has its place and its room too.
+fn of_tiny<A: Array>(items: Vec<A::Item>, case: &mut Case<'_, '_>) -> Result<(), Wrong>
+where
+    A::Item: BorshSerialize + BorshDeserialize + Display,
+{
+    if case.is_put {
+        let mut v = TinyVec::<A>::new(case.alloc);
+        for item in items {
+            if v.push(item).is_err() {
+                return Err(Wrong::Memory);
+            }
+        }
+        return write_value(case, &v);
+    }
+    match read_value::<TinyVec<A>>(case.alloc, case.refused, case.streams) {
+        Ok(v) => {
+            let room = v.capacity();
+            if v.is_inline() {
+                case.out.push_str("inline ")?;
+            } else {
+                write!(case.out, "heap {room} ")?;
+            }
+            write_items(case.out, v.as_slice())?;
+        }
+        Err(error) => write!(case.out, "{error}")?,
+    }
+    Ok(())
+}
+
+fn read_value<T: BorshDeserialize>(
+    alloc: Global,
+    refused: u16,
+    streams: &mut Streams<'_>,
+) -> Result<T, BorshError> {
+    window::open(alloc, refused);
+    let value = T::deserialize_reader(alloc, &mut streams.reader);
+    window::close(alloc);
+    value
+}
+
+fn write_value<T: BorshSerialize>(case: &mut Case<'_, '_>, value: &T) -> Result<(), Wrong> {
+    window::open(case.alloc, case.refused);
+    let written = value.serialize(&mut case.streams.writer);
+    window::close(case.alloc);
+    match written {
+        Ok(()) => case.out.push_str("ok")?,
+        Err(error) => write!(case.out, "{error}")?,
+    }
+    Ok(())
+}
+
+fn number<T: FromStr + Default + Drop>(word: &str) -> T
+where
+    T::Err: Drop,
+{
+    word.parse::<T>().unwrap_or_default()
+}
+
+// The numbers of a word as `[1,2]`.
+fn numbers<T: FromStr + Default + Drop>(alloc: Global, word: &str) -> Result<Vec<T>, AllocError>
+where
+    T::Err: Drop,
+{
+    let mut items = Vec::new(alloc);
+    for part in inner(word).split(',') {
+        if !part.is_empty() {
+            items.push(number::<T>(part))?;
+        }
+    }
+    Ok(items)
+}
+
+// The lists of a word as `[[1];[]]`.
+fn lists<A: Array<Item = u8>>(alloc: Global, word: &str) -> Result<Vec<ArrayVec<A>>, AllocError> {
+    let mut items = Vec::new(alloc);
+    for part in inner(word).split(';') {
+        if !part.is_empty() {
+            let mut list = ArrayVec::new();
+            let _rest = list.fill(numbers::<u8>(alloc, part)?);
+            items.push(list)?;
+        }
+    }
+    Ok(items)
+}
+
+// What is in the brackets around a word.
+fn inner(word: &str) -> &str {
+    let word = word.strip_prefix('[').unwrap_or(word);
+    word.strip_suffix(']').unwrap_or(word)
+}
+
+fn write_items<T: Display>(out: &mut String, items: &[T]) -> Result<(), Wrong> {
+    out.push('[')?;
+    for item in items {
+        write!(out, "{item}, ")?;
+    }
+    Ok(out.push(']')?)
+}

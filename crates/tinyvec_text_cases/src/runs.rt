@@ -1,0 +1,186 @@
+//! Runs of calls, and driven splices.
+ghost use Rattle.std.specs.Prelude.{◌≤◌, IfOk, IfSome};
+
+use std::fmt::Write as _;
+use tinyvec::{Array, ArrayVec, SliceVec, TinyVec};
+use tinyvec_rows::{Words, Wrong, say, say_slots, window};
+use tinyvec_script::{
+    Call, End, drive_array_splice, drive_tiny_splice, run_array, run_slice, run_tiny,
+};
+
+/// Answers `run` and calls, or `drive` and a splice, of the array that the words name.
+pub(crate) fn in_array<A: Array<Item = i32>>(
+    words: &mut Words<'_>,
+    calls: &str,
+    out: &mut String,
+) -> Result<(), Wrong> {
+    let (alloc, (list, spare)) = (words.alloc, words.slots::<i32>()?);
+    let mut v = ArrayVec::<A>::new();
+    let _rest = v.fill(list.iter().chain(spare.iter()).copied());
+    v.set_len(list.len().min(v.capacity()));
+    for call in calls.split('\t') {
+        let (refused, mut words) = window::read(alloc, call)?;
+        match splice(v.len(), &mut words)? {
+            Some(
+                Driving {
+                    start,
+                    end,
+                    ends,
+                    items,
+                },
+            ) => {
+                window::open(alloc, refused);
+                let driven = drive_array_splice(alloc, &mut v, start, end, items, ends.as_slice());
+                window::close(alloc);
+                say(out, &driven)?;
+            }
+            None => {
+                let calls = read_calls(&mut words)?;
+                window::open(alloc, refused);
+                let answers = run_array(alloc, &mut v, calls);
+                window::close(alloc);
+                say(out, &answers)?;
+            }
+        }
+        say_slots(out, v.as_slice(), v.grab_spare_slice())?;
+        out.push('\t')?;
+    }
+    Ok(())
+}
+
+/// The same of a `TinyVec`, made of a list.
+pub(crate) fn in_tiny<A: Array<Item = i32>>(
+    words: &mut Words<'_>,
+    calls: &str,
+    out: &mut String,
+) -> Result<(), Wrong> {
+    let (alloc, list) = (words.alloc, words.items::<i32>()?);
+    let mut v = TinyVec::<A>::from_slice(alloc, list.as_slice())?;
+    for call in calls.split('\t') {
+        let (refused, mut words) = window::read(alloc, call)?;
+        match splice(v.len(), &mut words)? {
+            Some(
+                Driving {
+                    start,
+                    end,
+                    ends,
+                    items,
+                },
+            ) => {
+                window::open(alloc, refused);
+                let driven = drive_tiny_splice(alloc, &mut v, start, end, items, ends.as_slice());
+                window::close(alloc);
+                say(out, &driven)?;
+            }
+            None => {
+                let calls = read_calls(&mut words)?;
+                window::open(alloc, refused);
+                let answers = run_tiny(alloc, &mut v, calls);
+                window::close(alloc);
+                say(out, &answers)?;
+            }
+        }
+        let room = v.capacity();
+        if v.is_inline() {
+            out.push_str("inline ")?;
+        } else {
+            write!(out, "heap {room} ")?;
+        }
+        say(out, &v.as_slice())?;
+        out.push('\t')?;
+    }
+    Ok(())
+}
+
+/// Answers `run` and calls of a vector over slots.
+pub(crate) fn over_slice(
+    words: &mut Words<'_>,
+    calls: &str,
+    out: &mut String,
+) -> Result<(), Wrong> {
+    let (alloc, (list, spare)) = (words.alloc, words.slots::<i32>()?);
+    let mut slots = list.clone()?;
+    slots.extend_from_slice(spare.as_slice())?;
+    let mut v = SliceVec::from_slice_at_most(slots.as_mut_slice(), list.len());
+    for call in calls.split('\t') {
+        let (refused, mut words) = window::read(alloc, call)?;
+        let _run = words.word();
+        let calls = read_calls(&mut words)?;
+        window::open(alloc, refused);
+        let answers = run_slice(alloc, &mut v, calls);
+        window::close(alloc);
+        say(out, &answers)?;
+        say_slots(out, v.as_slice(), v.grab_spare_slice())?;
+        out.push('\t')?;
+    }
+    Ok(())
+}
+
+// A splice that is driven.
+#[derive(Drop)]
+struct Driving {
+    start: usize,
+    end: usize,
+    ends: Vec<End>,
+    items: Vec<i32>,
+}
+
+// The splice that words after `drive` name: a range, which a list of this length has, a word of ends, and items. Of other
+// words the first is read.
+fn splice(len: usize, words: &mut Words<'_>) -> Result<Option<Driving>, Wrong>
+    ensures { IfOk result (λ found. IfSome found (λ s. (s.start ≤ s.end) × (s.end ≤ len))) }
+{
+    if words.word() != "drive" {
+        return Ok(None);
+    }
+    let (start, end) = (words.index()?, words.index()?);
+    let (ends, items) = (read_ends(words)?, words.items::<i32>()?);
+    if start > end || end > len {
+        return Err(Wrong::Place);
+    }
+    Ok(Some(Driving {
+        start,
+        end,
+        ends,
+        items,
+    }))
+}
+
+// The letters `f` and `b`, or `-` where there is none.
+fn read_ends(words: &mut Words<'_>) -> Result<Vec<End>, Wrong> {
+    let mut ends = Vec::new(words.alloc);
+    for letter in words.word().as_bytes() {
+        match *letter {
+            b'f' => ends.push(End::Front)?,
+            b'b' => ends.push(End::Back)?,
+            _ => {}
+        }
+    }
+    Ok(ends)
+}
+
+fn read_calls(words: &mut Words<'_>) -> Result<Vec<Call<i32>>, Wrong> {
+    let mut calls = Vec::new(words.alloc);
+    for _call in 0..words.rest()?.len() {
+        let call = match words.word() {
+            "push" => Call::Push(words.number()?),
+            "pop" => Call::Pop,
+            "insert" => Call::Insert(words.index()?, words.number()?),
+            "remove" => Call::Remove(words.index()?),
+            "swap" => Call::SwapRemove(words.index()?),
+            "truncate" => Call::Truncate(words.index()?),
+            "drain" => Call::Drain(words.index()?, words.index()?),
+            "splice" => {
+                let (start, end) = (words.index()?, words.index()?);
+                Call::Splice(start, end, read_ends(words)?, words.items::<i32>()?)
+            }
+            "setlen" => Call::SetLen(words.index()?),
+            "reserve" => Call::Reserve(words.index()?),
+            "heap" => Call::Heap,
+            "shrink" => Call::Shrink,
+            _ => return Ok(calls),
+        };
+        calls.push(call)?;
+    }
+    Ok(calls)
+}

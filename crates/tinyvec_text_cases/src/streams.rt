@@ -1,0 +1,307 @@
+//! A reader and a writer that follow a plan and record their calls, and calls over them.
+use crate::borsh;
+use crate::plan::{Plan, Step};
+use std::alloc::{AllocError, Global};
+use std::cell::{Cell, RefCell};
+use std::fmt::{Debug, Write as _};
+use std::io::{Read, Write};
+use std::{io, str};
+use tinyvec_io::Counted;
+use tinyvec_rows::{Words, Wrong, window};
+use tinyvec_script::run;
+
+// A call: its letter, how many bytes it was given room for or passed, and how many it moved, or none where it failed.
+type Call = (char, usize, Option<usize>);
+
+/// What a reader and a writer were asked, with how often in a row; what was written; and how many bytes are not read.
+#[derive(Drop)]
+pub(crate) struct Trace {
+    calls: RefCell<Vec<(Call, usize)>>,
+    written: RefCell<Vec<u8>>,
+    left: Cell<usize>,
+}
+
+impl Trace {
+    // It has room for what a case records, so that what is tested alone allocates.
+    fn new(alloc: Global) -> Result<Trace, AllocError> {
+        Ok(Trace {
+            calls: RefCell::new(Vec::with_capacity(alloc, 512)?),
+            written: RefCell::new(Vec::with_capacity(alloc, 1 << 15)?),
+            left: Cell::new(0),
+        })
+    }
+
+    fn record(&self, call: Call) -> io::Result<()> {
+        let Ok(mut calls) = self.calls.try_borrow_mut() else {
+            return Err(io::Error::other("borrowed"));
+        };
+        let times = match calls.pop() {
+            Some((last, times)) if last == call => times.saturating_add(1),
+            Some(last) => {
+                calls.push(last)?;
+                1
+            }
+            None => 1,
+        };
+        Ok(calls.push((call, times))?)
+    }
+
+    fn keep(&self, bytes: &[u8]) -> io::Result<()> {
+        let Ok(mut written) = self.written.try_borrow_mut() else {
+            return Err(io::Error::other("borrowed"));
+        };
+        Ok(written.extend_from_slice(bytes)?)
+    }
+
+    // Writes the calls since the last time, as `r4096:6 w21 f`: a read of 6 bytes into 4096, a write of all of 21, and a
+    // flush. A call that failed has a `!`, and one that was made several times in a row a `*` and how often.
+    fn tell_calls(&self, out: &mut String) -> Result<(), Wrong> {
+        let Ok(mut calls) = self.calls.try_borrow_mut() else {
+            return Ok(());
+        };
+        for ((name, count, moved), times) in calls.as_slice() {
+            write!(out, " {name}")?;
+            if *name != 'f' {
+                write!(out, "{count}")?;
+            }
+            match *moved {
+                None => out.push('!')?,
+                Some(moved) if *name == 'r' || moved != *count => write!(out, ":{moved}")?,
+                Some(_) => {}
+            }
+            if *times > 1 {
+                write!(out, "*{times}")?;
+            }
+        }
+        calls.clear();
+        Ok(())
+    }
+
+    // Writes what was written since the last time: as a text, as digits, or of much how much it is.
+    fn tell_written(&self, out: &mut String, is_text: bool) -> Result<(), Wrong> {
+        let Ok(mut written) = self.written.try_borrow_mut() else {
+            return Ok(());
+        };
+        let len = written.len();
+        match str::from_utf8(written.as_slice()) {
+            Ok(text) if is_text && len <= 4000 => write!(out, "{text:?}")?,
+            _ if len > 40 => write!(out, "{len} bytes")?,
+            _ => write_hex(out, written.as_slice())?,
+        }
+        written.clear();
+        Ok(())
+    }
+}
+
+/// A reader or a writer.
+#[derive(Drop)]
+pub(crate) struct Stream<'a> {
+    input: &'a [u8],
+    steps: Vec<Step>,
+    trace: &'a Trace,
+}
+
+impl<'a> Stream<'a> {
+    // How many bytes a call moves that may move so many: `otherwise` once the plan has ended.
+    fn step(&mut self, name: char, count: usize, otherwise: usize) -> io::Result<usize> {
+        let moved = match self.steps.pop() {
+            Some(Step::Fails(kind, times)) => {
+                if times > 1 {
+                    self.steps.push(Step::Fails(kind, times - 1))?;
+                }
+                self.trace.record((name, count, None))?;
+                return Err(io::Error::from(kind));
+            }
+            Some(Step::Moves(room)) => {
+                if room > count {
+                    self.steps.push(Step::Moves(room - count))?;
+                }
+                room.min(count)
+            }
+            None => otherwise,
+        };
+        self.trace.record((name, count, Some(moved)))?;
+        Ok(moved)
+    }
+}
+
+impl Read for Stream<'_> {
+    fn read(&mut self, buf: &mut [u8]) -> io::Result<usize> {
+        let count = self.step('r', buf.len(), 0)?.min(buf.len());
+        let count = self.input.read(&mut buf[..count])?;
+        self.trace.left.set(self.input.len());
+        Ok(count)
+    }
+}
+
+impl Write for Stream<'_> {
+    fn write(&mut self, buf: &[u8]) -> io::Result<usize> {
+        let count = self.step('w', buf.len(), buf.len())?.min(buf.len());
+        self.trace.keep(&buf[..count])?;
+        Ok(count)
+    }
+
+    fn flush(&mut self) -> io::Result<()> {
+        self.step('f', 0, 0)?;
+        Ok(())
+    }
+}
+
+/// A reader and a writer that count their faults.
+#[derive(Drop)]
+pub(crate) struct Streams<'a> {
+    pub(crate) reader: Counted<Stream<'a>>,
+    pub(crate) writer: Counted<Stream<'a>>,
+}
+
+/// Answers calls, one after the other. After what a call returns are the faults so far, the calls of the reader and the
+/// writer, and what was written, or of a call that reads how many bytes are left.
+pub(crate) fn answer(words: &mut Words<'_>, calls: &str, out: &mut String) -> Result<(), Wrong> {
+    let (alloc, plan) = (words.alloc, Plan::read(words)?);
+    let trace = Trace::new(alloc)?;
+    trace.left.set(plan.input.len());
+    let mut streams = Streams {
+        reader: Counted::new(Stream {
+            input: plan.input.as_slice(),
+            steps: plan.reads.clone()?,
+            trace: &trace,
+        }),
+        writer: Counted::new(Stream {
+            input: &[],
+            steps: plan.writes.clone()?,
+            trace: &trace,
+        }),
+    };
+    for call in calls.split('\t') {
+        let (refused, mut words) = window::read(alloc, call)?;
+        let name = words.word();
+        make(name, refused, &mut streams, &mut words, out)?;
+        let faults = streams
+            .reader
+            .faults()
+            .saturating_add(streams.writer.faults());
+        write!(out, ", {faults} faults /")?;
+        trace.tell_calls(out)?;
+        out.push_str(" / ")?;
+        match name {
+            "read" | "read_some" | "fill" | "get" => {
+                let left = trace.left.get();
+                write!(out, "{left} left")?;
+            }
+            _ => trace.tell_written(out, name != "put")?,
+        }
+        out.push('\t')?;
+    }
+    Ok(())
+}
+
+/// Answers the lines of a script, each of which is a call. The request of the number that the start has is refused.
+pub(crate) fn answer_lines(
+    words: &mut Words<'_>,
+    calls: &str,
+    out: &mut String,
+) -> Result<(), Wrong> {
+    let alloc = words.alloc;
+    let refused = match words.word() {
+        "refused" => words.word().parse::<u16>().unwrap_or(0),
+        _ => 0,
+    };
+    let mut input = Vec::new(alloc);
+    for call in calls.split('\t') {
+        input.extend_from_slice(call.as_bytes())?;
+        input.push(b'\n')?;
+    }
+    let mut reader = Counted::new(input.as_slice());
+    let mut writer = Counted::new(Vec::with_capacity(alloc, 1 << 15)?);
+    window::open(alloc, refused);
+    let ended = run(alloc, &mut reader, &mut writer);
+    window::close(alloc);
+    let output = writer.into_inner();
+    for line in str::from_utf8(output.as_slice())
+        .unwrap_or("no text")
+        .split('\n')
+    {
+        out.push_str(line)?;
+        out.push('\t')?;
+    }
+    if let Err(error) = ended {
+        write!(out, "{error}")?;
+    }
+    Ok(())
+}
+
+// Makes a call, whose requests for memory are in a window.
+fn make(
+    name: &str,
+    refused: u16,
+    streams: &mut Streams<'_>,
+    words: &mut Words<'_>,
+    out: &mut String,
+) -> Result<(), Wrong> {
+    match name {
+        "get" => borsh::get(refused, streams, words, out),
+        "put" => borsh::put(refused, streams, words, out),
+        "script" => {
+            window::open(words.alloc, refused);
+            let ended = run(words.alloc, &mut streams.reader, &mut streams.writer);
+            window::close(words.alloc);
+            match ended {
+                Ok(()) => out.push_str("ok")?,
+                Err(error) => write!(out, "{error}")?,
+            }
+            Ok(())
+        }
+        _ => {
+            let text = if name.starts_with("write") {
+                words.text()?
+            } else {
+                String::new(words.alloc)
+            };
+            out.reserve(4096)?;
+            window::open(words.alloc, refused);
+            let made = move_bytes(name, streams, text.as_bytes(), out);
+            window::close(words.alloc);
+            made
+        }
+    }
+}
+
+fn move_bytes(
+    name: &str,
+    streams: &mut Streams<'_>,
+    bytes: &[u8],
+    out: &mut String,
+) -> Result<(), Wrong> {
+    let mut buf = [b'.'; 4];
+    let read = match name {
+        "read" => streams.reader.read(&mut buf),
+        "read_some" => streams.reader.read_some(&mut buf),
+        "fill" => streams.reader.fill(&mut buf),
+        "write" => return tell(out, streams.writer.write(bytes)),
+        "write_all" => return tell(out, streams.writer.write_all(bytes)),
+        "flush" => return tell(out, streams.writer.flush()),
+        _ => return Err(Wrong::Call),
+    };
+    tell(out, read)?;
+    let text = str::from_utf8(&buf).unwrap_or("?");
+    write!(out, " {text:?}")?;
+    Ok(())
+}
+
+// Writes what a call returned.
+fn tell<T: Debug + Drop>(out: &mut String, returned: io::Result<T>) -> Result<(), Wrong> {
+    match returned {
+        Ok(value) => write!(out, "{value:?}")?,
+        Err(error) => write!(out, "{error}")?,
+    }
+    Ok(())
+}
+
+/// Writes bytes in hexadecimal.
+fn write_hex(out: &mut String, bytes: &[u8]) -> Result<(), Wrong> {
+    for byte in bytes {
+        let (high, low) = (*byte / 16, *byte % 16);
+        write!(out, "{high:x}{low:x}")?;
+    }
+    Ok(())
+}

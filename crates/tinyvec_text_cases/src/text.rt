@@ -1,0 +1,165 @@
+//! Calls of an `InlineText`.
+use std::alloc::Global;
+use std::cmp::Ordering;
+use std::convert::{AsSlice, AsStr};
+use std::fmt::Write;
+use std::hash::{DefaultHasher, Hash, Hasher};
+use std::mem;
+use tinyvec_rows::{Words, Wrong, done, say, say_text, window};
+use tinyvec_text::InlineText;
+
+/// Answers calls of a text, one after the other.
+pub(crate) fn answer<const N: usize>(
+    mut t: InlineText<N>,
+    calls: &str,
+    out: &mut String,
+) -> Result<(), Wrong> {
+    for call in calls.split('\t') {
+        let (refused, mut words) = window::read(*out.allocator(), call)?;
+        make(&mut t, refused, &mut words, out)?;
+        state(out, &t)?;
+        out.push('\t')?;
+    }
+    Ok(())
+}
+
+/// The text that words make: `inline "a"`, or `heap 9 "a"` with a capacity of 9.
+pub(crate) fn made<const N: usize>(words: &mut Words<'_>) -> Result<InlineText<N>, Wrong> {
+    if words.word() == "inline" {
+        return Ok(InlineText::from_str(words.alloc, words.text()?.as_str())?);
+    }
+    let room = words.index()?;
+    let mut t = InlineText::from_str(words.alloc, words.text()?.as_str())?;
+    t.reserve(room.saturating_sub(t.len()))?;
+    Ok(t)
+}
+
+// Writes the place, on the heap the capacity, and the text.
+fn state<const N: usize>(out: &mut String, t: &InlineText<N>) -> Result<(), Wrong> {
+    let (text, room) = (t.as_str(), t.capacity());
+    if t.is_inline() {
+        write!(out, "inline {text:?} ")?;
+    } else {
+        write!(out, "heap {room} {text:?} ")?;
+    }
+    Ok(())
+}
+
+// What a call is passed.
+#[derive(Drop)]
+struct Arguments {
+    number: usize,
+    text: String,
+}
+
+// The number of a call and its text, in any order.
+fn read_arguments(words: &mut Words<'_>) -> Result<Arguments, Wrong> {
+    let alloc = words.alloc;
+    let mut given = Arguments {
+        number: 0,
+        text: String::new(alloc),
+    };
+    for word in words.rest()? {
+        let mut word_alone = Words::new(alloc, word);
+        if word.starts_with('<') {
+            given.text = word_alone.text()?;
+        } else {
+            given.number = word_alone.index()?;
+        }
+    }
+    Ok(given)
+}
+
+// Makes the call that the first word names, and writes what it returns. A condition of the call is tested first. Requests
+// for memory are in a window: the answer has room before.
+fn make<const N: usize>(
+    t: &mut InlineText<N>,
+    refused: u16,
+    words: &mut Words<'_>,
+    out: &mut String,
+) -> Result<(), Wrong> {
+    let alloc = words.alloc;
+    let name = words.word();
+    let other = match name {
+        "cmp" => made::<N>(words)?,
+        _ => InlineText::new(alloc),
+    };
+    let arguments = read_arguments(words)?;
+    out.reserve(4096)?;
+    window::open(alloc, refused);
+    let answered = call(t, alloc, name, &arguments, &other, out);
+    window::close(alloc);
+    answered
+}
+
+fn call<const N: usize>(
+    t: &mut InlineText<N>,
+    alloc: Global,
+    name: &str,
+    arguments: &Arguments,
+    other: &InlineText<N>,
+    out: &mut String,
+) -> Result<(), Wrong> {
+    let (n, s) = (arguments.number, arguments.text.as_str());
+    let c = s.chars().next().unwrap_or('?');
+    match name {
+        "new" => *t = InlineText::new(alloc),
+        "from_str" => match InlineText::from_str(alloc, s) {
+            Ok(made) => *t = made,
+            Err(error) => say(out, &error)?,
+        },
+        "push" => done(out, t.push(c))?,
+        "push_str" => done(out, t.push_str(s))?,
+        "write_str" => done(out, t.write_str(s))?,
+        "write_pair" => done(out, write!(t, "{n}, {s}"))?,
+        "pop" => say(out, &t.pop())?,
+        "truncate" if t.is_char_boundary(n) => t.truncate(n),
+        "truncate" => return Err(Wrong::Place),
+        "clear" => t.clear(),
+        "reserve" => done(out, t.reserve(n))?,
+        "len" => say(out, &(t.len(), t.is_empty(), t.capacity()))?,
+        "is_char_boundary" => say(out, &t.is_char_boundary(n))?,
+        "as_bytes" => say(out, &t.as_bytes())?,
+        "as_slice" => say(out, &AsSlice::as_slice(&*t))?,
+        "as_str" => say(out, &AsStr::as_str(&*t))?,
+        "into_bytes" => {
+            let bytes = mem::replace(t, InlineText::new(alloc)).into_bytes();
+            say_text(out, if bytes.is_inline() { "inline" } else { "heap" })?;
+            say(out, &bytes)?;
+        }
+        "clone" => match t.clone() {
+            Ok(copy) => state(out, &copy)?,
+            Err(error) => say(out, &error)?,
+        },
+        "cmp" => say(out, &order(&*t, other))?,
+        "is_hashed_as_str" => say(out, &(hash_of(&*t) == hash_of(&t.as_str())))?,
+        "show" => write!(out, "{t} ")?,
+        "show_to_four" => write!(out, "{t:>4} ")?,
+        "show_one" => write!(out, "{t:.1} ")?,
+        "debug" => say(out, &*t)?,
+        _ => return Err(Wrong::Call),
+    }
+    Ok(())
+}
+
+// The order of two texts, where all comparisons agree.
+fn order<T: Ord>(t: &T, u: &T) -> Option<Ordering> {
+    let order = t.cmp(u);
+    let signs = (*t == *u, *t != *u, *t < *u, *t <= *u, *t > *u, *t >= *u);
+    let wanted = match order {
+        Ordering::Less => (false, true, true, true, false, false),
+        Ordering::Equal => (true, false, false, true, false, true),
+        Ordering::Greater => (false, true, false, false, true, true),
+    };
+    if signs == wanted && t.partial_cmp(u) == Some(order) && u.cmp(t) == order.reverse() {
+        Some(order)
+    } else {
+        None
+    }
+}
+
+fn hash_of<T: Hash>(x: &T) -> u64 {
+    let mut state = DefaultHasher::new();
+    x.hash(&mut state);
+    state.finish()
+}
