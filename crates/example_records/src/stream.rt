@@ -2,7 +2,7 @@
 ghost use Rattle.std.specs.Prelude.{◌≡◌, ◌≤◌, ◌++◌, ℕ, List, Result, Some, IfErr, IfOk, OnErr, OnOk, IsErrOf, map};
 ghost use Rattle.std.specs.List.{AllByRecursion};
 ghost use Rattle.tinyvec_io.specs.Counted.{Reported};
-ghost use Rattle.tinyvec_borsh.specs.Reading.{MayBe, Takes};
+ghost use Rattle.tinyvec_borsh.specs.Reading.{MayBe};
 ghost use Rattle.tinyvec_borsh.specs.Writing.{Adds};
 ghost use Rattle.example_records.specs.Readings.{ReadingFits, Said, said};
 ghost use Rattle.example_records.specs.Stream.{BeginsWith, Gives, GivesCut, IsCopy, IsEnd, NextIs, SpellsFrame};

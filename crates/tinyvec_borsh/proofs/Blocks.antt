@@ -1,7 +1,6 @@
 -- Items that are read into slots, a block at a time.
-use Rattle.std.proofs.Common.{◌≡◌, ◌∙◌, ap, sym, subst, ℕ, ◌+◌, ◌-◌, ◌<◌, ◌≤◌, List, [], ◌∷◌, ◌++◌, length, refl, arith, Option, map, take, slice_set, length-take-le, take_at}
+use Rattle.std.proofs.Common.{◌≡◌, ◌∙◌, ap, sym, subst, ℕ, ◌+◌, ◌-◌, ◌<◌, ◌≤◌, List, [], ◌∷◌, ◌++◌, length, arith, Option, map, take, slice_set, length-take-le, take_at}
 use Rattle.std.proofs.lemmas.List.{length-map, map-append, take_all, take_more_set}
-use Rattle.std.proofs.KnownBytes.{Consumes-nil}
 use Rattle.std.specs.List.{AllByRecursion}
 use Rattle.std.proofs.lemmas.Slice.{take-put_mid}
 use borrow.Rule.Slice.PartMut.{put_mid}
@@ -15,9 +14,6 @@ module _ {C : Type 0} (Spells : C → List ℕ → Type 0) (Fits : C → Type 0)
   pub record TookItems (cs : List C) (old new : Option (List ℕ)) : Type 0 where
     pub fit : AllByRecursion Fits cs
     pub taken : Takes (SpellsItems Spells cs) old new
-
-  pub took-none : (old : Option (List ℕ)) → TookItems [] old old
-  took-none old = record { fit = tt; taken = ([], refl, Consumes-nil old) }
 
   -- a block was read behind the items so far
   pub took-block : (cs ds all : List C) (old mid new : Option (List ℕ)) → all ≡ cs ++ ds → TookItems cs old mid → Takes (SpellsItems Spells ds) mid new → AllByRecursion Fits ds → TookItems all old new

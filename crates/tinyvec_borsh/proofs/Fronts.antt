@@ -1,12 +1,10 @@
 -- Where the fronts of spellings are cut, so are those of what is made of them.
 use Rattle.std.proofs.Common.{◌≡◌, ◌∙◌, ap, sym, subst, ℕ, ◌<◌, ◌⊎◌, inl, inr, List, [], ◌∷◌, ◌++◌, length, refl, arith, append-nil, length-append}
-use Rattle.std.specs.Prelude.{ℤ}
-use Rattle.std.specs.Int.{Width}
 use Rattle.std.specs.List.{AllByRecursion}
 use Rattle.tinyvec_borsh.specs.Both.{BothFit, InEither, SpellsBoth}
 use Rattle.tinyvec_borsh.specs.Fronts.{FrontsAreCut}
 use Rattle.tinyvec_borsh.specs.Items.{IsListCut, ListFits, SpellsItems, SpellsList}
-use Rattle.tinyvec_borsh.specs.Number.{SpellsNumber, SpellsSigned}
+use Rattle.tinyvec_borsh.specs.Number.{SpellsNumber}
 use Rattle.tinyvec_borsh.specs.Parts.{HasParts, group-first, joined}
 
 -- a list of two parts is cut in its first part, or in its second
@@ -23,9 +21,6 @@ cut-place (u ∷ x) y (v ∷ a) b e =
 
 pub number-fronts : (width : ℕ) (Fits : ℕ → Type 0) → FrontsAreCut (SpellsNumber width) Fits (λ input. length input < width)
 number-fronts width Fits c front back some fits p = omega (arith, some, p.many, length-append front back)
-
-pub signed-fronts : (w : Width) (width : ℕ) (Fits : ℤ → Type 0) → FrontsAreCut (SpellsSigned w width) Fits (λ input. length input < width)
-signed-fronts w width Fits c front back some fits p = omega (arith, some, p.1.many, length-append front back)
 
 -- the first, or the second behind it
 pub both-fronts : {A B : Type 0} (SpellsA : A → List ℕ → Type 0) (SpellsB : B → List ℕ → Type 0) (FitsA : A → Type 0) (FitsB : B → Type 0) (CutA CutB : List ℕ → Type 0)

@@ -29,10 +29,6 @@ pub maybe-so : (old : Option (List ℕ)) (P Q : List ℕ → Type 0) → ((input
 maybe-so None P Q then may = (may.0, then may.0 may.1)
 maybe-so (Some x) P Q then may = then x may
 
-some-so : (old : Option (List ℕ)) (P : List ℕ → Type 0) → MayBe old P → (input : List ℕ) × P input
-some-so None P may = may
-some-so (Some x) P may = (x, may)
-
 pub maybe-any : (old : Option (List ℕ)) → MayBe old (λ _. Unit {0})
 maybe-any None = ([], tt)
 maybe-any (Some x) = tt
@@ -163,11 +159,6 @@ module _ {C : Type 0} (Spells : C → List ℕ → Type 0) where
         (n, above, rest-so q tt)) (maybe-any new)
 
     module _ (IsCut IsTooLong MayAsk Asks : List ℕ → Type 0) (room : ℕ) where
-      -- the count was not read
-      pub fails-count : (old : Option (List ℕ)) (before after : ℕ) (e : BorshError) → Fails (λ input. length input < 8) (λ _. ⊥) (λ _. ⊥) old before after e
-          → Fails (IsListCut Spells Fits IsCut room) (IsListTooLong Spells Fits IsTooLong room) Asks old before after e
-      fails-count old before after e f = fails-so _ _ _ _ _ _ old old before before after e (omega arith) f (maybe-so old _ _ (λ input few. inl few)) (maybe-so old _ _ (λ input no. absurd no)) (maybe-so old _ _ (λ input no. absurd no))
-
       -- an item was not read
       pub fails-item : (n : ℕ) (cs : List C) (old mid : Option (List ℕ)) (before between after : ℕ) (e : BorshError) → WasRead n cs old mid → length cs < n → length cs ≤ room → before ≤ between
           → ((input : List ℕ) → InItem Spells Fits MayAsk room input → Asks input) → Fails IsCut IsTooLong MayAsk mid between after e
@@ -195,26 +186,6 @@ module _ {C : Type 0} (Spells : C → List ℕ → Type 0) where
         | inl wanting ↦ subst (Fails (IsListCut Spells Fits IsCut room) (IsListTooLong Spells Fits IsTooLong room) Asks old before after) (sym wanting.0) (wants wanting.1)
         | inr failed ↦ fails-block n k cs old mid before between after e w more few grows asks failed
       ]
-
-    -- what was taken where the answer is `InvalidLength`
-    pub rest-count : (IsTooLong P : List ℕ → Type 0) (room : ℕ) (old new : Option (List ℕ)) (before after : ℕ) (e : BorshError) → Fails P (λ _. ⊥) (λ _. ⊥) old before after e → LeavesRest Spells IsTooLong room old new e
-    rest-count IsTooLong P room old new before after Ended f = tt
-    rest-count IsTooLong P room old new before after InvalidLength f = absurd (some-so old (λ _. ⊥) f).1
-    rest-count IsTooLong P room old new before after Io f = tt
-    rest-count IsTooLong P room old new before after Memory f = tt
-
-    pub rest-item : (IsCut IsTooLong MayAsk : List ℕ → Type 0) (room : ℕ) (old mid new : Option (List ℕ)) (before after : ℕ) (e : BorshError) → Fails IsCut IsTooLong MayAsk mid before after e → LeavesRest Spells IsTooLong room old new e
-    rest-item IsCut IsTooLong MayAsk room old mid new before after Ended f = tt
-    rest-item IsCut IsTooLong MayAsk room old mid new before after InvalidLength f = inr (some-so mid IsTooLong f)
-    rest-item IsCut IsTooLong MayAsk room old mid new before after Io f = tt
-    rest-item IsCut IsTooLong MayAsk room old mid new before after Memory f = tt
-
-    pub rest-block : (IsCut IsTooLong MayAsk : List ℕ → Type 0) (room k : ℕ) (old mid new : Option (List ℕ)) (before after : ℕ) (e : BorshError) → Fails (AfterItems Spells Fits IsCut k) (AfterItems Spells Fits IsTooLong k) (AfterItems Spells Fits MayAsk k) mid before after e
-        → LeavesRest Spells IsTooLong room old new e
-    rest-block IsCut IsTooLong MayAsk room k old mid new before after Ended f = tt
-    rest-block IsCut IsTooLong MayAsk room k old mid new before after InvalidLength f = let some = some-so mid (AfterItems Spells Fits IsTooLong k) f in inr (some.1.rest, some.1.is_rest)
-    rest-block IsCut IsTooLong MayAsk room k old mid new before after Io f = tt
-    rest-block IsCut IsTooLong MayAsk room k old mid new before after Memory f = tt
 
     pub rest-many : (IsTooLong : List ℕ → Type 0) (room n : ℕ) (cs : List C) (old new : Option (List ℕ)) → WasRead n cs old new → length cs ≡ room + 1 → room < n → LeavesRest Spells IsTooLong room old new InvalidLength
     rest-many IsTooLong room n cs old new w over above = inl (record { len = n; items = cs; over = over; above = above; taken = w.taken })

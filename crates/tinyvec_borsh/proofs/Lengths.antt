@@ -20,9 +20,6 @@ module _ {C : Type 0} (Spells : C → List ℕ → Type 0) where
   abbrev pub HaveLength : List C → ℕ → Type 0
   HaveLength cs n = (bytes : List ℕ) → SpellsItems Spells cs bytes → n ≡ min (length bytes) (2 ^ 64 - 1)
 
-  pub none-length : HaveLength [] 0
-  none-length bytes p = omega (arith, ap length p)
-
   -- a spelling of a list is one of its front, and then one of the last
   parts : (cs : List C) (c : C) (bytes : List ℕ) → SpellsItems Spells (cs ++ c ∷ []) bytes → HasParts (SpellsItems Spells cs) (Spells c) bytes
   parts [] c bytes p = record { first = []; rest = p.first; is_first = refl; is_rest = p.is_first; whole = p.whole ∙ ap (λ l. p.first ++ l) p.is_rest ∙ append-nil p.first }

@@ -1,8 +1,7 @@
 -- Items that are read one after another, until no further one is.
-use Rattle.std.proofs.Common.{◌≡◌, ◌∙◌, ap, sym, subst, ℕ, List, [], ◌∷◌, ◌++◌, Option, map, refl, append-nil, append_assoc}
+use Rattle.std.proofs.Common.{◌≡◌, ◌∙◌, ap, sym, subst, ℕ, List, [], ◌∷◌, ◌++◌, Option, map, append_assoc}
 use Rattle.std.proofs.lemmas.List.{map-append}
 use Rattle.std.specs.List.{AllByRecursion}
-use Rattle.std.proofs.KnownBytes.{Consumes-nil}
 use Rattle.tinyvec_borsh.specs.Items.{BeginsWithItems, SpellsItems}
 use Rattle.tinyvec_borsh.specs.Reading.{MayBe, Takes}
 use Rattle.tinyvec_borsh.proofs.ItemByItem.{fit-more, maybe-behind, one-item, takes-items, takes-so}
@@ -14,9 +13,6 @@ module _ {T C : Type 0} (content : T → C) (Spells : C → List ℕ → Type 0)
     pub grown : now ≡ before ++ more
     pub fit : AllByRecursion Fits (map content more)
     pub taken : Takes (SpellsItems Spells (map content more)) old new
-
-  pub read-none : (before : List T) (old : Option (List ℕ)) → ReadItems before before old old
-  read-none before old = record { more = []; grown = sym (append-nil before); fit = tt; taken = ([], refl, Consumes-nil old) }
 
   pub read-next : (before now next : List T) (x : T) (old mid new : Option (List ℕ)) → ReadItems before now old mid → Takes (Spells (content x)) mid new → Fits (content x) → next ≡ now ++ x ∷ [] → ReadItems before next old new
   read-next before now next x old mid new r t fits pushed =

@@ -157,9 +157,3 @@ signed w = record {
   written = λ z fits. (fits, spells-le w (cast_unsigned w z) (Fits-of_z fits).fits);
   read = λ bytes long small. (signed-bytes w bytes long small, (signed-bytes w bytes long small).0);
 }
-
-pub signed_apart : (w : Width) → AreApart (SpellsSigned w (byte_len w)) (FitsSigned w) (λ input. length input < byte_len w) (λ _. ⊥)
-signed_apart w = apart_by_length (byte_len w) (SpellsSigned w (byte_len w)) (FitsSigned w) (signed w).many
-
-pub signed_spelled : (w : Width) (z : ℤ) → FitsSigned w z → (bytes : List ℕ) × SpellsSigned w (byte_len w) z bytes
-signed_spelled w z fits = (to_le_bytes w (cast_unsigned w z), (signed w).written z fits)

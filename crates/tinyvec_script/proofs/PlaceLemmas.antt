@@ -1,6 +1,6 @@
 -- What is seen of a `TinyVec`, from what its calls tell.
 use Rattle.std.proofs.Common.{◌≡◌, ℕ, ◌<◌, ◌≤◌, List, [], length, Vec, Global, refl, rules, arith}
-use Rattle.tinyvec.specs.TinyVec.{tiny_items, tiny_len, tiny_spare, tiny_capacity, is_inline, IsInline, PlaceRule, TinySlotRule, Unchanged}
+use Rattle.tinyvec.specs.TinyVec.{tiny_items, tiny_len, tiny_spare, tiny_capacity, is_inline, IsInline, PlaceRule, TinySlotRule}
 use Rattle.tinyvec.specs.Room.{KeepsRoom}
 use Rattle.tinyvec.specs.declared.tiny_vec.TinyVec.{TinyVec}
 use Rattle.tinyvec.specs.declared.tiny_vec.TinyVec.TheVariants.{Inline, Heap}
@@ -12,7 +12,7 @@ use Rattle.tinyvec_script.specs.declared.call.Call.{Call}
 use Rattle.tinyvec_script.specs.declared.call.Call.TheVariants.{Splice}
 use Rattle.tinyvec_script.specs.declared.call.Answer.{Answer}
 use Rattle.tinyvec_script.specs.declared.call.Answer.TheVariants as answers
-use Rattle.tinyvec_script.specs.Place.{place_of, tiny_of, lies_inline, room, in_array, on_heap, Ruled}
+use Rattle.tinyvec_script.specs.Place.{place_of, tiny_of, lies_inline, room, in_array, Ruled}
 
 module _ {A T : Type 0} where
   pub place_of-inline : (v : TinyVec A T) → lies_inline (place_of v) ≡ is_inline v
@@ -22,13 +22,6 @@ module _ {A T : Type 0} where
   pub place_of-room : (slots : ℕ) (v : TinyVec A T) → room slots (place_of v) ≡ tiny_capacity slots v
   place_of-room slots (Inline v alloc) = refl
   place_of-room slots (Heap v) = refl
-
-  -- a call that changed nothing shows the same
-  pub tiny_of-same : (old new : TinyVec A T) → Unchanged old new → tiny_of new ≡ tiny_of old
-  tiny_of-same (Inline v a) (Inline w b) h = λ t. record { items = h.items t; spare = h.spare t; place = in_array }
-  tiny_of-same (Inline v a) (Heap w) h = absurd (let no = h.place in cc)
-  tiny_of-same (Heap v) (Inline w b) h = absurd (let no = h.place in cc)
-  tiny_of-same (Heap v) (Heap w) h = λ t. record { items = h.items t; spare = []; place = on_heap (h.capacity 0 t) }
 
   -- a vector that begins as an empty list in its array
   pub tiny_of-begins : (v : TinyVec A T) (xs : List T) → tiny_items v ≡ [] → tiny_spare v ≡ xs → IsInline v

@@ -1,5 +1,5 @@
 -- What was gathered is written.
-use Rattle.std.proofs.Common.{◌≡◌, ℕ, ◌+◌, ◌-◌, ◌^◌, ◌<◌, ◌≤◌, length, take, get_or, ◌∷◌, ◌⊎◌, inl, inr, List, [], ◌++◌, Option, None, Some, ap, sym, refl, subst, ◌∙◌, append-nil, append_assoc, arith, le_refl, le_trans, Result, Ok, Err, OnOk, IsErr, true≢false, is_err}
+use Rattle.std.proofs.Common.{◌≡◌, ℕ, ◌+◌, ◌-◌, ◌<◌, ◌≤◌, length, take, get_or, ◌∷◌, ◌⊎◌, inl, inr, List, [], ◌++◌, Option, None, Some, ap, sym, refl, subst, ◌∙◌, append-nil, append_assoc, arith, le_refl, le_trans, Result, Ok, Err, OnOk, IsErr, true≢false, is_err}
 use Rattle.std.specs.List.{flat_map}
 use Rattle.std.proofs.lemmas.List.{take_more}
 use Rattle.std.proofs.lemmas.Grind.{flat_map-append}
@@ -12,10 +12,6 @@ use Rattle.tinyvec_script.specs.Writes.{gathered_of, Writes, GathersBehind, Gath
 pub reported_since : (f g h : ℕ) → f ≤ g → Reported g h → Reported f h
 reported_since f g h le (inl more) = inl (omega arith)
 reported_since f g h le (inr most) = inr most
-
-pub reported_until : (f g h : ℕ) → Reported f g → g ≤ h → h ≤ 2 ^ 64 - 1 → Reported f h
-reported_until f g h (inl more) le most = inl (omega arith)
-reported_until f g h (inr full) le most = inr (omega arith)
 
 -- the text of one item more
 pub flat_map_more : {X : Type 0} (f : X → List ℕ) (xs : List X) (i : ℕ) (d : X) → i < length xs → flat_map f (take (i + 1) xs) ≡ flat_map f (take i xs) ++ f (get_or xs i d)

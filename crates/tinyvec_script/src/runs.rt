@@ -1,4 +1,4 @@
-//! Lists of calls, answered one after another.
+//! Lists of calls, each with its answer.
 
 mod array;
 mod slice;

@@ -1,5 +1,5 @@
 //! An `ArrayVec` of what can be written and read.
-ghost use Rattle.std.specs.Prelude.{◌≡◌, ◌<◌, ◌≤◌, ◌^◌, ◌-◌, ℕ, List, length, map, IfOk, IfErr, OnOk};
+ghost use Rattle.std.specs.Prelude.{◌<◌, ◌≤◌, ◌-◌, List, map, IfOk, IfErr};
 ghost use Rattle.tinyvec_slots.specs.Slots.{items, items_len, spare, AreDefaults};
 ghost use Rattle.tinyvec_borsh.specs.Items.{SpellsList, ListFits, InItem, IsListCut, IsListTooLong};
 ghost use Rattle.tinyvec_borsh.specs.Reading.{Fails, LeavesRest, Takes, TakesSome};
