@@ -1,5 +1,5 @@
-//! How often what a caller passes is asked: hints never, the bounds of a range once each, and a writer for no piece after the
-//! one at which it fails.
+//! A hint that is read, a bound of a range that is read twice, and a writer that is asked after it failed would pass the
+//! check.
 ghost use Rattle.std.specs.Prelude.{◌≡◌, ◌-◌, ⊤};
 ghost use Rattle.std.specs.Iterator.{at_most};
 ghost use Rattle.std.specs.declared.ops.Bound.TheVariants.{Included, Excluded};
@@ -77,6 +77,9 @@ fn hints_of_what_fills_an_array_or_a_slice(rt: HostRuntime) -> Result<(), Fail> 
     wrong = first(wrong, 6, lent.extend(three(&asked)).is_ok());
     let _rest = lent.fill(three(&asked));
     wrong = first(wrong, 7, lent.is_full());
+    let mut splice = v.splice(.., three(&asked));
+    let _first = splice.next();
+    let _rest = splice.stop();
     wrong = first(wrong, 8, asked.get() == 0);
     all_right(wrong)
 }
@@ -91,6 +94,9 @@ fn hints_of_what_fills_a_tiny_vec(rt: HostRuntime) -> Result<(), Fail> {
     wrong = granted_ok(wrong, 2, granted(v.extend(three(&asked))));
     wrong = granted_ok(wrong, 3, granted(v.splice_all(1.., three(&asked))));
     wrong = granted_ok(wrong, 4, granted(v.splice_all(..1, three(&asked))));
+    let mut splice = v.splice(.., three(&asked));
+    let _first = splice.next();
+    let _rest = splice.stop();
     wrong = first(wrong, 5, asked.get() == 0);
     all_right(wrong)
 }

@@ -1,5 +1,6 @@
-//! Clones that are counted and refused, of items that are cloned in blocks of 512 and 16, and of those that are left. A
-//! call asks for the clones that it needs, one after another, and for none after the one that is refused.
+//! A clone too many, and one after the one that is refused, would pass the check. Clones are counted and refused, of items
+//! that are cloned in blocks of 512 and 16, and of those that are left. A call asks for the clones that it needs, one after
+//! another, and for none after the one that is refused.
 ghost use Rattle.std.specs.Prelude.{◌≡◌};
 
 use std::alloc::{AllocError, Global};
@@ -87,8 +88,8 @@ enum Call {
 
 use Call::{CloneFrom, Extend, FromSlice, Resize};
 
-// What the call is to ask for and to leave. Slots that are named neither among the clones nor among the emptied ones hold what
-// they held.
+// What the call is to ask for and to leave. Slots that are named neither among the clones nor among the emptied ones hold
+// what they held.
 #[derive(Clone, Copy)]
 struct Wanted {
     asked: usize,

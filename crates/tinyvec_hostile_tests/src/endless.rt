@@ -1,4 +1,4 @@
-//! Endless iterators of items that own memory. No item is asked for that finds no room, and none is lost.
+//! An item of an endless iterator that is asked for and lost would pass the check.
 use std::alloc::{AllocError, Global};
 use std::test::Fail;
 use tinyvec::{ArrayVec, FromIterRest, NoRoom, SliceVec, SpliceRest};

@@ -1,4 +1,4 @@
-//! The tests of hostile use: memory refused, wrong hints, endless iterators, items and closures that count or lie.
+//! The tests of hostile use: memory refused, hints that are read, endless iterators, items and closures that count or lie.
 #![tactic(auto)]
 
 #[cfg(test)]
@@ -6,11 +6,7 @@ mod asked;
 #[cfg(test)]
 mod clones;
 #[cfg(test)]
-mod compared;
-#[cfg(test)]
 mod endless;
-#[cfg(test)]
-mod hints;
 #[cfg(test)]
 mod ordered;
 #[cfg(test)]

@@ -1,4 +1,5 @@
-//! How often items are asked whether they are equal, and which of two is less, where lists are compared.
+//! A comparison that asks its items more often than it needs, or asks two lists of two lengths at all whether they are
+//! equal, would pass the check.
 ghost use Rattle.std.specs.Prelude.{◌≡◌, ◌==◌, length};
 ghost use Rattle.std.proofs.Common.{rules};
 ghost use Rattle.std.specs.Cmp.{partial_order_from_own_ties};
@@ -235,6 +236,22 @@ const OF_LARGE: [Row; 5] = [
 fn small_items(rt: HostRuntime) -> Result<(), Fail> {
     let questions = Questions::default();
     all_right(first_wrong::<[Small; 350]>(rt.alloc(), &questions, &OF_SMALL))
+}
+
+// With and without items that fill no block of 4, of 16 and of 64: each pair is asked about once, and none of two lengths.
+#[test]
+fn each_pair_once(rt: HostRuntime) -> Result<(), Fail> {
+    let questions = Questions::default();
+    let mut wrong = 0;
+    for len in [0, 1, 3, 4, 5, 15, 16, 17, 63, 64, 85, 128, 341_usize] {
+        let rows = [
+            (len, len, SAME, len, len),
+            (len, len.wrapping_add(1), SAME, 0, len),
+        ];
+        let step = first_wrong::<[Small; 350]>(rt.alloc(), &questions, &rows);
+        wrong = first(wrong, step, step == 0);
+    }
+    all_right(wrong)
 }
 
 #[test]
