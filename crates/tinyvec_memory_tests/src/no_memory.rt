@@ -1,109 +1,12 @@
-//! Calls that take no memory. `tests/refuse` sees that these tests allocate nothing, also where a refusal would be ignored.
-use crate::asking::{Asking, Making};
-use crate::steps::{Need, Place, Step, go_so};
+//! A request for memory that is made for nothing would pass the check. `tests/refuse` sees that these tests make none.
+use crate::asking::Making;
+use std::cmp::Ordering;
+use std::hash::{DefaultHasher, Hash, Hasher};
+use std::io::Write;
 use std::test::Fail;
 use tinyvec::{ArrayVec, TinyVec};
 use tinyvec_test_items::{all_right, first, granted};
 use tinyvec_test_looks::{lies, makes};
-
-const INLINE: [Step; 12] = [
-    (
-        Asking::Push(1),
-        Need::Nothing,
-        &[1],
-        Place::Inline(&[0, 0, 0]),
-    ),
-    (
-        Asking::Insert(0, 2),
-        Need::Nothing,
-        &[2, 1],
-        Place::Inline(&[0, 0]),
-    ),
-    (
-        Asking::ExtendFromSlice(&[3]),
-        Need::Nothing,
-        &[2, 1, 3],
-        Place::Inline(&[0]),
-    ),
-    (
-        Asking::Extend(4, 4),
-        Need::Nothing,
-        &[2, 1, 3, 4],
-        Place::Inline(&[]),
-    ),
-    (
-        Asking::Resize(2, 9),
-        Need::Nothing,
-        &[2, 1],
-        Place::Inline(&[0, 0]),
-    ),
-    (
-        Asking::ResizeWith(3, 7),
-        Need::Nothing,
-        &[2, 1, 7],
-        Place::Inline(&[0]),
-    ),
-    (
-        Asking::Reserve(1),
-        Need::Nothing,
-        &[2, 1, 7],
-        Place::Inline(&[0]),
-    ),
-    (
-        Asking::TryReserve(1),
-        Need::Nothing,
-        &[2, 1, 7],
-        Place::Inline(&[0]),
-    ),
-    (
-        Asking::ReserveExact(1),
-        Need::Nothing,
-        &[2, 1, 7],
-        Place::Inline(&[0]),
-    ),
-    (
-        Asking::TryReserveExact(1),
-        Need::Nothing,
-        &[2, 1, 7],
-        Place::Inline(&[0]),
-    ),
-    (
-        Asking::ShrinkToFit,
-        Need::Nothing,
-        &[2, 1, 7],
-        Place::Inline(&[0]),
-    ),
-    (
-        Asking::ExtendFromSliceCopy(&[8]),
-        Need::Nothing,
-        &[2, 1, 7, 8],
-        Place::Inline(&[]),
-    ),
-];
-
-#[test]
-fn calls_of_an_inline_list(rt: HostRuntime) -> Result<(), Fail> {
-    let mut v: TinyVec<[i32; 4]> = TinyVec::new(rt.alloc());
-    all_right(go_so(0, 1, &mut v, &INLINE))
-}
-
-const EMPTY: [Step; 4] = [
-    (Asking::MoveToTheHeap, Need::Nothing, &[], Place::Heap(0)),
-    (
-        Asking::MoveToTheHeapAndReserve(0),
-        Need::Nothing,
-        &[],
-        Place::Heap(0),
-    ),
-    (Asking::Resize(0, 1), Need::Nothing, &[], Place::Heap(0)),
-    (Asking::Reserve(0), Need::Nothing, &[], Place::Heap(0)),
-];
-
-#[test]
-fn calls_of_an_empty_list(rt: HostRuntime) -> Result<(), Fail> {
-    let mut v: TinyVec<[i32; 4]> = TinyVec::new(rt.alloc());
-    all_right(go_so(0, 1, &mut v, &EMPTY))
-}
 
 // Calls that make a list, and its items in the array.
 const MADE: [(Making, &[i32]); 6] = [
@@ -140,6 +43,104 @@ fn taken_apart_and_joined(rt: HostRuntime) -> Result<(), Fail> {
     v.dedup();
     wrong = first(wrong, 5, v.splice(.., 5..=7).finish().is_ok());
     wrong = first(wrong, 6, v.into_iter().next() == Some(5));
+    all_right(wrong)
+}
+
+#[test]
+fn bytes_that_fit(rt: HostRuntime) -> Result<(), Fail> {
+    let mut v: TinyVec<[u8; 4]> = TinyVec::from_array_len(rt.alloc(), [1, 2, 3, 0], 3);
+    let mut wrong = 0;
+    if v.len() == 3 {
+        wrong = first(wrong, 1, v.replace_range(1..2, &[7, 8]).is_ok());
+    }
+    wrong = first(wrong, 2, lies(&v, &[1, 7, 8, 3], true));
+    wrong = first(wrong, 3, v.flush().is_ok());
+    v.truncate(2);
+    wrong = first(wrong, 4, v.write(&[9, 9]).is_ok());
+    wrong = first(wrong, 5, lies(&v, &[1, 7, 9, 9], true));
+    v.retain_mut(|x| *x != 9);
+    v.dedup_by(|_, _| false);
+    v.dedup_by_key(|x| *x);
+    wrong = first(wrong, 6, v.pop_at(0) == Some(1));
+    if v.len() < v.capacity() {
+        v.push_reserved(5);
+    }
+    wrong = first(wrong, 7, lies(&v, &[7, 5], true));
+    all_right(wrong)
+}
+
+#[test]
+fn lists_that_are_looked_at(rt: HostRuntime) -> Result<(), Fail> {
+    let alloc = rt.alloc();
+    let none: TinyVec<[i32; 4]> = TinyVec::new(alloc);
+    let mut v = TinyVec::from_array(alloc, [4, 3, 2, 1]);
+    let mut wrong = 0;
+    wrong = first(
+        wrong,
+        1,
+        TinyVec::try_from_array_len(*v.allocator(), [1, 2], 2).is_ok(),
+    );
+    wrong = first(
+        wrong,
+        2,
+        (v != none) & (v > none) & (v.cmp(&none) == Ordering::Greater),
+    );
+    wrong = first(wrong, 3, hash_of(&v) != hash_of(&none));
+    v.reverse();
+    wrong = first(wrong, 4, v.first() == Some(&1));
+    for x in v.iter_mut() {
+        *x = x.wrapping_add(1);
+    }
+    wrong = first(wrong, 5, v.iter().count() == v.as_mut_slice().len());
+    wrong = first(wrong, 6, lies(&v, &[2, 3, 4, 5], true));
+    all_right(wrong)
+}
+
+fn hash_of(v: &TinyVec<[i32; 4]>) -> u64 {
+    let mut state = DefaultHasher::new();
+    v.hash(&mut state);
+    state.finish()
+}
+
+#[test]
+fn iterators_from_both_ends(rt: HostRuntime) -> Result<(), Fail> {
+    let mut v = TinyVec::from_array(rt.alloc(), [1, 2, 3, 4]);
+    let mut wrong = 0;
+    let mut drain = v.drain(..3);
+    wrong = first(
+        wrong,
+        1,
+        (drain.len() == 3) & (drain.size_hint() == (3, Some(3))),
+    );
+    wrong = first(
+        wrong,
+        2,
+        (drain.next() == Some(1)) & (drain.next_back() == Some(3)),
+    );
+    drop(drain);
+    let mut splice = v.splice(.., [7, 8]);
+    wrong = first(
+        wrong,
+        3,
+        (splice.size_hint() == (1, Some(1))) & (splice.touches() == 0),
+    );
+    wrong = first(
+        wrong,
+        4,
+        (splice.next() == Some(4)) & (splice.stop().count() == 1),
+    );
+    let mut items = v.into_iter();
+    wrong = first(
+        wrong,
+        5,
+        (items.len() == 1) & (items.as_slice() == [7].as_slice()),
+    );
+    wrong = first(
+        wrong,
+        6,
+        (items.size_hint() == (1, Some(1))) & (items.next_back() == Some(7)),
+    );
+    wrong = first(wrong, 7, items.next() == None);
     all_right(wrong)
 }
 

@@ -1,69 +1,12 @@
-//! Lists that are cloned, or become a `Vec` or a boxed slice.
-use super::{Met, Start, in_the_array, on_the_heap, told};
+//! Lists that become a `Vec` or a boxed slice.
+use super::{Met, in_the_array, on_the_heap, told};
 use std::alloc::{AllocError, Global};
 use std::test::Fail;
 use tinyvec::{NoMemory, TinyVec};
 use tinyvec_test_items::first;
-use tinyvec_test_looks::{lies, lies_before};
+use tinyvec_test_looks::lies_before;
 
 type Three = TinyVec<[i32; 3]>;
-
-// Whether a clone of 1 to 4 was refused, and whether it is right otherwise.
-fn clones(v: &Three) -> Met {
-    match v.clone() {
-        Ok(copy) => Met {
-            is_refused: false,
-            wrong: first(0, 1, lies(&copy, &[1, 2, 3, 4], false)),
-        },
-        Err(AllocError) => Met {
-            is_refused: true,
-            wrong: first(0, 2, v.clone().is_ok()),
-        },
-    }
-}
-
-#[test]
-fn clone(rt: HostRuntime) -> Result<(), Fail> {
-    let v = on_the_heap(rt.alloc())?;
-    let mut met = clones(&v);
-    met.wrong = first(met.wrong, 3, lies(&v, &[1, 2, 3, 4], false));
-    met.wrong = first(met.wrong, 4, in_the_array(rt.alloc()).clone().is_ok());
-    told(&rt, met)
-}
-
-// Clones one list over another, and says whether that was granted.
-fn clones_from(v: &mut Three, source: &Three) -> bool {
-    v.clone_from(source).is_ok()
-}
-
-// A list becomes these items on the heap, or is as it was, and becomes them once it is asked again.
-fn becomes(alloc: Global, start: Start, items: &[i32]) -> Result<Met, AllocError> {
-    let mut v = start.make(alloc)?;
-    let source = Three::from_slice(alloc, items)?;
-    let room = v.capacity();
-    let is_refused = !clones_from(&mut v, &source);
-    let mut wrong = 0;
-    if is_refused {
-        wrong = first(wrong, 1, start.is_kept(&v, room));
-        wrong = first(wrong, 2, clones_from(&mut v, &source));
-    }
-    wrong = first(wrong, 3, lies(&v, items, false));
-    wrong = first(wrong, 4, lies(&source, items, false));
-    Ok(Met { is_refused, wrong })
-}
-
-#[test]
-fn clone_from(rt: HostRuntime) -> Result<(), Fail> {
-    told(&rt, becomes(rt.alloc(), Start::InTheArray, &[1, 2, 3, 4])?)
-}
-
-#[test]
-fn clone_from_on_the_heap(rt: HostRuntime) -> Result<(), Fail> {
-    told(
-        &rt,
-        becomes(rt.alloc(), Start::OnTheHeap, &[5, 6, 7, 8, 9])?,
-    )
-}
 
 // Whether a list becomes a `Vec` of these items, or comes back before this spare slot, and becomes it once it is asked again.
 fn becomes_a_vec(v: Three, items: &[i32], spare: &[i32]) -> Met {
