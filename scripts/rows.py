@@ -101,7 +101,6 @@ def run(program, lines, is_tried=False):
     ran = subprocess.run(words, cwd=folder, input=given, capture_output=True)
     said = ran.stdout.decode(errors="replace").split("\n")[:-1]
     if ran.returncode != 0 or len(said) != len(lines):
-        raise BadRow(
-            f"{program}: status {ran.returncode}, {len(said)} of {len(lines)} rows are answered\n{ran.stderr.decode(errors='replace')[-2000:]}"
-        )
+        why = ran.stderr.decode(errors="replace")[-2000:]
+        raise BadRow(f"{program}: status {ran.returncode}, {len(said)} of {len(lines)} rows are answered\n{why}")
     return [it.split("\t") for it in said]
