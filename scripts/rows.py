@@ -101,6 +101,7 @@ def run(program, lines, is_tried=False):
     ran = subprocess.run(words, cwd=folder, input=given, capture_output=True)
     said = ran.stdout.decode(errors="replace").split("\n")[:-1]
     if ran.returncode != 0 or len(said) != len(lines):
-        why = ran.stderr.decode(errors="replace")[-2000:]
-        raise BadRow(f"{program}: status {ran.returncode}, {len(said)} of {len(lines)} rows are answered\n{why}")
+        raise BadRow(
+            f"{program}: status {ran.returncode}, {len(said)} of {len(lines)} rows are answered\n{ran.stderr.decode(errors='replace')[-2000:]}"
+        )
     return [it.split("\t") for it in said]
