@@ -1,32 +1,9 @@
-//! Calls that test what others require, and the room that is left.
+//! Clones that are refused, and a clone of an iterator.
 use TryFromSliceError::{Memory, TooLong};
 use std::test::Fail;
 use tinyvec_array::{Array, ArrayVec, TryFromSliceError};
 use tinyvec_test_items::arrays::holds;
 use tinyvec_test_items::{Item, all_right, first};
-
-// Whether the item at `i` is popped, and that leaves this, with as much room as there are spare slots.
-fn pops_at<A: Array<Item = i32>>(
-    v: &mut ArrayVec<A>,
-    i: usize,
-    item: Option<i32>,
-    items: &[i32],
-    spare: &[i32],
-) -> bool {
-    let popped = v.pop_at(i) == item;
-    popped & holds(v, items, spare) & (v.remaining_capacity() == spare.len())
-}
-
-#[test]
-fn pop_at(rt: HostRuntime) -> Result<(), Fail> {
-    let mut v = ArrayVec::from_array_len([1, 2, 3, 9], 3);
-    let mut wrong = 0;
-    wrong = first(wrong, 1, pops_at(&mut v, 3, None, &[1, 2, 3], &[9]));
-    wrong = first(wrong, 2, pops_at(&mut v, 0, Some(1), &[2, 3], &[0, 9]));
-    wrong = first(wrong, 3, pops_at(&mut v, 1, Some(3), &[2], &[0, 0, 9]));
-    wrong = first(wrong, 4, pops_at(&mut v, 1, None, &[2], &[0, 0, 9]));
-    all_right(wrong)
-}
 
 // Whether clones are appended with this answer, and that leaves this.
 fn tries<A: Array<Item = Item>>(

@@ -3,7 +3,7 @@ use std::alloc::{AllocError, Global};
 use std::test::Fail;
 use tinyvec_array::{Array, ArrayVec, ArrayVecIterator};
 use tinyvec_test_items::arrays::holds;
-use tinyvec_test_items::{all_right, answers, first, is_left, yields, yields_back};
+use tinyvec_test_items::{all_right, first, is_left, yields, yields_back};
 
 // A vector of the first numbers over zeros.
 fn counted(last: i32) -> ArrayVec<[i32; 10]> {
@@ -49,13 +49,6 @@ fn iteration(rt: HostRuntime) -> Result<(), Fail> {
     wrong = first(wrong, 2, are_negatives(&vec, &negated));
     wrong = first(wrong, 3, holds(&doubled, &[22, 24, 26], &[8, 9]));
     all_right(wrong)
-}
-
-#[test]
-fn from_the_front(rt: HostRuntime) {
-    let items = ArrayVec::from_array([10, 11, 12, 13]).into_iter();
-    let given = [Some(10), Some(11), Some(12), Some(13), None];
-    assert!(rt; answers(items, &given));
 }
 
 #[test]

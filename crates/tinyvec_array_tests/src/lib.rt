@@ -2,8 +2,6 @@
 #![tactic(auto)]
 
 #[cfg(test)]
-mod asking;
-#[cfg(test)]
 mod checked;
 #[cfg(test)]
 mod clones;
@@ -11,8 +9,6 @@ mod clones;
 mod comparing;
 #[cfg(test)]
 mod draining;
-#[cfg(test)]
-mod edits;
 #[cfg(test)]
 mod errors;
 #[cfg(test)]
@@ -29,8 +25,6 @@ mod making;
 mod owned;
 #[cfg(test)]
 mod printing;
-#[cfg(test)]
-mod range_forms;
 #[cfg(test)]
 mod replacing;
 #[cfg(test)]

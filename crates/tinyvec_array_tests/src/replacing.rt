@@ -1,7 +1,7 @@
 //! Tests of a range that is replaced as a whole.
 use std::ops::Range;
 use std::test::Fail;
-use tinyvec_array::{ArrayVec, CapacityError, SpliceRest};
+use tinyvec_array::{ArrayVec, CapacityError};
 use tinyvec_test_items::arrays::holds;
 use tinyvec_test_items::{all_right, first};
 
@@ -59,47 +59,5 @@ fn by_slices(_rt: HostRuntime) -> Result<(), Fail> {
         replaces(&mut v, 1..1, &[1, 2, 3, 6], Ok(()), &all, &[]),
     );
     wrong = first(wrong, 7, replaces(&mut v, 6..6, &[1], full, &all, &[]));
-    all_right(wrong)
-}
-
-// Whether numbers are spliced in, and which is returned as the first with no room.
-fn splices(
-    v: &mut ArrayVec<[u8; 4]>,
-    range: Range<usize>,
-    numbers: Range<u8>,
-    returned: Option<u8>,
-    items: &[u8],
-    spare: &[u8],
-) -> bool {
-    let Range { start, end } = range;
-    if start > end || end > v.len() {
-        return false;
-    }
-    let item = match v.splice_all(start..end, numbers) {
-        Ok(()) => None,
-        Err(SpliceRest { item, rest: _ }) => Some(item),
-    };
-    (item == returned) & holds(v, items, spare)
-}
-
-#[test]
-fn by_numbers(_rt: HostRuntime) -> Result<(), Fail> {
-    let mut v = ArrayVec::from_array_len([1, 2, 3, 8], 3);
-    let mut wrong = 0;
-    wrong = first(
-        wrong,
-        1,
-        splices(&mut v, 1..2, 5..7, None, &[1, 5, 6, 3], &[]),
-    );
-    wrong = first(
-        wrong,
-        2,
-        splices(&mut v, 0..3, 4..5, None, &[4, 3], &[0, 0]),
-    );
-    wrong = first(
-        wrong,
-        3,
-        splices(&mut v, 1..1, 5..9, Some(7), &[4, 5, 6, 3], &[]),
-    );
     all_right(wrong)
 }

@@ -1,7 +1,7 @@
 //! The calls of a row.
 use crate::vector::Vector;
 use std::alloc::Global;
-use tinyvec_rows::{Closure, Counter, Item, Words, Wrong, say, say_slots};
+use tinyvec_rows::{Closure, Counter, Item, Words, Wrong, say, say_slots, window};
 
 /// Does the calls of a row one after the other, and writes of each what it answers and leaves. `pair` tells whether the row
 /// names the other vector.
@@ -14,7 +14,13 @@ pub fn answer<V: Vector>(
     out: &mut String,
 ) -> Result<(), Wrong> {
     for call in calls.split('\t') {
-        edit(v, other, &mut Words::new(alloc, call), out)?;
+        let (refused, mut words) = window::read(alloc, call)?;
+        // No request of the row's own falls into the window.
+        out.reserve(4096)?;
+        window::open(alloc, refused);
+        let answered = edit(v, other, &mut words, out);
+        window::close(alloc);
+        answered?;
         v.say_state(out)?;
         if pair {
             out.push_str("and ")?;

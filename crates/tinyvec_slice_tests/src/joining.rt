@@ -1,38 +1,8 @@
-//! Lists joined and parted.
+//! Lists parted, of which each part writes to its own slots.
 use std::test::Fail;
 use tinyvec_slice::SliceVec;
 use tinyvec_test_items::lent::holds;
 use tinyvec_test_items::{all_right, first};
-
-// Whether the items of a list find room after another, and both hold this.
-fn appends<'s>(
-    v: &mut SliceVec<'s, i32>,
-    other: &mut SliceVec<'s, i32>,
-    (items, spare): (&[i32], &[i32]),
-    (rest, emptied): (&[i32], &[i32]),
-) -> bool {
-    if other.len() > v.capacity() - v.len() {
-        return false;
-    }
-    v.append(other);
-    holds(v, items, spare) & holds(other, rest, emptied)
-}
-
-#[test]
-fn append_moves_the_items(rt: HostRuntime) -> Result<(), Fail> {
-    let mut one = [1, 2, 3, 8, 8, 8];
-    let mut two = [4, 5, 9];
-    let mut v = SliceVec::from_slice_len(&mut one, 3);
-    let mut other = SliceVec::from_slice_len(&mut two, 2);
-    let mut wrong = 0;
-    let all: (&[i32], &[i32]) = (&[1, 2, 3, 4, 5], &[8]);
-    let none: (&[i32], &[i32]) = (&[], &[0, 0, 9]);
-    wrong = first(wrong, 1, appends(&mut v, &mut other, all, none));
-    wrong = first(wrong, 2, appends(&mut v, &mut other, all, none));
-    wrong = first(wrong, 3, one == [1, 2, 3, 4, 5, 8]);
-    wrong = first(wrong, 4, two == [0, 0, 9]);
-    all_right(wrong)
-}
 
 type Parts = (&'static [i32], &'static [i32], &'static [i32]);
 

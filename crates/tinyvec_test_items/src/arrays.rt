@@ -41,47 +41,6 @@ where
     v.try_push(item).is_none() & holds(v, items, spare)
 }
 
-/// Whether the last item, or none, is taken out and leaves this.
-pub fn pops<A: Array>(
-    v: &mut ArrayVec<A>,
-    item: Option<A::Item>,
-    items: &[A::Item],
-    spare: &[A::Item],
-) -> bool
-where
-    A::Item: PartialEq,
-{
-    (v.pop() == item) & holds(v, items, spare)
-}
-
-/// Whether `try_insert` finds room for an item at an index of the list, and leaves this.
-pub fn inserts<A: Array>(
-    v: &mut ArrayVec<A>,
-    index: usize,
-    item: A::Item,
-    items: &[A::Item],
-    spare: &[A::Item],
-) -> bool
-where
-    A::Item: PartialEq,
-{
-    index <= v.len() && v.try_insert(index, item).is_none() & holds(v, items, spare)
-}
-
-/// Whether the item at an index of the list is this one, and its removal leaves this.
-pub fn removes<A: Array>(
-    v: &mut ArrayVec<A>,
-    index: usize,
-    item: A::Item,
-    items: &[A::Item],
-    spare: &[A::Item],
-) -> bool
-where
-    A::Item: PartialEq,
-{
-    index < v.len() && (v.remove(index) == item) & holds(v, items, spare)
-}
-
 /// Whether a cut to this length leaves this.
 pub fn truncates<A: Array>(
     v: &mut ArrayVec<A>,
@@ -94,20 +53,6 @@ where
 {
     v.truncate(len);
     holds(v, items, spare)
-}
-
-/// Whether the item at an index of the list is this one, and the last in its place leaves this.
-pub fn swap_removes<A: Array>(
-    v: &mut ArrayVec<A>,
-    index: usize,
-    item: A::Item,
-    items: &[A::Item],
-    spare: &[A::Item],
-) -> bool
-where
-    A::Item: PartialEq,
-{
-    index < v.len() && (v.swap_remove(index) == item) & holds(v, items, spare)
 }
 
 /// Whether `clone_from` answers this, and leaves this.

@@ -10,20 +10,6 @@ pub fn holds<T: PartialEq + Drop>(v: &SliceVec<'_, T>, items: &[T], spare: &[T])
     count & room & parts & slots.starts_with(items) & slots.ends_with(spare)
 }
 
-/// Whether an item finds room, and leaves this.
-pub fn pushes<T: PartialEq + Drop>(
-    v: &mut SliceVec<'_, T>,
-    item: T,
-    items: &[T],
-    spare: &[T],
-) -> bool {
-    if v.is_full() {
-        return false;
-    }
-    v.push(item);
-    holds(v, items, spare)
-}
-
 /// Whether the last item, or none, is taken out and leaves this.
 pub fn pops<T: PartialEq + Default + Drop>(
     v: &mut SliceVec<'_, T>,
@@ -32,43 +18,6 @@ pub fn pops<T: PartialEq + Default + Drop>(
     spare: &[T],
 ) -> bool {
     (v.pop() == item) & holds(v, items, spare)
-}
-
-/// Whether an item finds room at an index of the list, and leaves this.
-pub fn inserts<T: PartialEq + Drop>(
-    v: &mut SliceVec<'_, T>,
-    index: usize,
-    item: T,
-    items: &[T],
-    spare: &[T],
-) -> bool {
-    if index > v.len() || v.is_full() {
-        return false;
-    }
-    v.insert(index, item);
-    holds(v, items, spare)
-}
-
-/// Whether the item at an index of the list is this one, and its removal leaves this.
-pub fn removes<T: PartialEq + Default + Drop>(
-    v: &mut SliceVec<'_, T>,
-    index: usize,
-    item: T,
-    items: &[T],
-    spare: &[T],
-) -> bool {
-    index < v.len() && (v.remove(index) == item) & holds(v, items, spare)
-}
-
-/// Whether the item at an index of the list is this one, and the last one in its place leaves this.
-pub fn swap_removes<T: PartialEq + Default + Drop>(
-    v: &mut SliceVec<'_, T>,
-    index: usize,
-    item: T,
-    items: &[T],
-    spare: &[T],
-) -> bool {
-    index < v.len() && (v.swap_remove(index) == item) & holds(v, items, spare)
 }
 
 /// Whether a cut to this length leaves this.

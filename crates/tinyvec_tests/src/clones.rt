@@ -1,65 +1,9 @@
-//! Clones, granted and refused.
+//! Clones that are refused or counted: a check would pass a clone that is made once more.
 use std::alloc::{AllocError, Global};
 use std::test::Fail;
 use tinyvec::{NoMemory, TinyVec};
 use tinyvec_test_items::{Clones, Counted, Item, all_right, first, granted};
-use tinyvec_test_looks::{lies, makes_before, spares};
-
-#[test]
-fn cloned(rt: HostRuntime) -> Result<(), Fail> {
-    let v = TinyVec::from_array_len(rt.alloc(), [1, 2, 9], 2);
-    let mut wrong = 0;
-    wrong = granted(wrong, 1, makes_before(v.clone(), &[1, 2], &[9]));
-    wrong = first(wrong, 2, lies(&v, &[1, 2], true));
-    all_right(wrong)
-}
-
-// Whether a list becomes that of another, which has these items.
-fn clones_from<const N: usize>(
-    v: &mut TinyVec<[i32; N]>,
-    source: TinyVec<[i32; N]>,
-    items: &[i32],
-    inline: bool,
-) -> Option<bool> {
-    match v.clone_from(&source) {
-        Ok(()) => Some(lies(v, items, inline)),
-        Err(AllocError) => None,
-    }
-}
-
-#[test]
-fn clone_from_longer(rt: HostRuntime) -> Result<(), Fail> {
-    let source = TinyVec::from_slice(rt.alloc(), &[7, 8, 9])?;
-    let mut v = TinyVec::from_array_len(rt.alloc(), [1, 0], 1);
-    all_right(granted(0, 1, clones_from(&mut v, source, &[7, 8, 9], false)))
-}
-
-#[test]
-fn clone_from_shorter_on_the_heap(rt: HostRuntime) -> Result<(), Fail> {
-    let mut v: TinyVec<[i32; 2]> = TinyVec::from_slice(rt.alloc(), &[7, 8, 9])?;
-    let source = TinyVec::from_array_len(rt.alloc(), [5, 0], 1);
-    all_right(granted(0, 1, clones_from(&mut v, source, &[5], false)))
-}
-
-// `[4, 5]`, on the heap.
-fn two_on_the_heap(alloc: Global) -> Result<TinyVec<[i32; 4]>, AllocError> {
-    let mut v = TinyVec::from_slice(alloc, &[4, 5, 6, 7, 8])?;
-    v.truncate(2);
-    Ok(v)
-}
-
-#[test]
-fn clone_from_inline(rt: HostRuntime) -> Result<(), Fail> {
-    let heap = two_on_the_heap(rt.alloc())?;
-    let mut v = TinyVec::from_array_len(rt.alloc(), [1, 2, 3, 8], 3);
-    let one = TinyVec::from_array_len(rt.alloc(), [9, 7, 7, 7], 1);
-    let mut wrong = 0;
-    wrong = granted(wrong, 1, clones_from(&mut v, one, &[9], true));
-    wrong = first(wrong, 2, spares(&v, &[0, 0, 8]));
-    wrong = granted(wrong, 3, clones_from(&mut v, heap, &[4, 5], true));
-    wrong = first(wrong, 4, spares(&v, &[0, 8]));
-    all_right(wrong)
-}
+use tinyvec_test_looks::{lies, spares};
 
 type Items = TinyVec<[Item; 4]>;
 

@@ -2,7 +2,7 @@
 use std::alloc::{AllocError, Global};
 use std::test::Fail;
 use tinyvec::{TinyVec, TinyVecIterator};
-use tinyvec_test_items::{all_right, first, granted, is_left, yields, yields_back};
+use tinyvec_test_items::{all_right, first, granted, yields};
 use tinyvec_test_looks::{lies, lies_before};
 
 fn listed(alloc: Global, items: &[i32]) -> Result<TinyVec<[i32; 4]>, AllocError> {
@@ -46,43 +46,6 @@ fn negated(rt: HostRuntime) -> Result<(), Fail> {
     wrong = first(wrong, 3, sum(&heap) == -60);
     wrong = first(wrong, 4, go_along(&heap, &inline));
     all_right(wrong)
-}
-
-// The first step that goes wrong with an iterator of 1 to 4, or 0.
-fn driven(items: TinyVecIterator<[i32; 4]>) -> u32 {
-    let mut items = items;
-    let mut wrong = 0;
-    wrong = first(wrong, 1, is_left(&items, 4));
-    wrong = first(wrong, 2, yields(&mut items, Some(1)));
-    wrong = first(wrong, 3, yields_back(&mut items, Some(4)));
-    wrong = first(wrong, 4, items.as_slice() == [2, 3].as_slice());
-    wrong = first(wrong, 5, is_left(&items, 2));
-    wrong = first(wrong, 6, yields(&mut items, Some(2)));
-    wrong = first(wrong, 7, yields_back(&mut items, Some(3)));
-    wrong = first(wrong, 8, yields(&mut items, None));
-    wrong = first(wrong, 9, yields_back(&mut items, None));
-    first(wrong, 10, is_left(&items, 0))
-}
-
-// 1 to 4, on the heap.
-fn four_on_the_heap(alloc: Global) -> Result<TinyVec<[i32; 4]>, AllocError> {
-    let mut v = listed(alloc, &[1, 2, 3, 4, 5, 6])?;
-    v.truncate(4);
-    Ok(v)
-}
-
-#[test]
-fn both_ends(rt: HostRuntime) -> Result<(), Fail> {
-    let inline = TinyVec::from_array(rt.alloc(), [1, 2, 3, 4]);
-    let is_inline = inline.is_inline();
-    all_right(first(driven(inline.into_iter()), 11, is_inline))
-}
-
-#[test]
-fn both_ends_on_the_heap(rt: HostRuntime) -> Result<(), Fail> {
-    let heap = four_on_the_heap(rt.alloc())?;
-    let is_heap = heap.is_heap();
-    all_right(first(driven(heap.into_iter()), 11, is_heap))
 }
 
 // Whether an iterator yields this from its back, over as many items.

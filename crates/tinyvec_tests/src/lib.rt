@@ -8,11 +8,7 @@ mod comparing;
 #[cfg(test)]
 mod draining;
 #[cfg(test)]
-mod edits;
-#[cfg(test)]
 mod filling;
-#[cfg(test)]
-mod filters;
 #[cfg(test)]
 mod iterators;
 #[cfg(test)]

@@ -1,4 +1,4 @@
-//! Lists in either place, and ranges of them as values, so that the rows of a table may name them.
+//! Lists in either place.
 ghost use Rattle.std.specs.Prelude.{◌≡◌, IfOk};
 ghost use Rattle.tinyvec.specs.TinyVec.{tiny_len};
 
@@ -23,23 +23,4 @@ pub(crate) fn one_two_three(alloc: Global, inline: bool) -> Result<TinyVec<[i32;
         v.move_to_the_heap()?;
     }
     Ok(v)
-}
-
-// A range in each of the forms that a call takes.
-#[derive(Clone, Copy)]
-pub(crate) enum Span {
-    // `..`
-    All,
-    // `..end`
-    UpTo(usize),
-    // `..=last`
-    UpThrough(usize),
-    // `start..`
-    From(usize),
-    // `start..end`
-    Between(usize, usize),
-    // `start..=last`
-    Through(usize, usize),
-    // Bounds: after the first place, and up to the last.
-    Behind(usize, usize),
 }

@@ -43,36 +43,3 @@ fn by_slices(rt: HostRuntime) -> Result<(), Fail> {
     wrong = granted(wrong, 6, replaces(&mut v, 0..4, &[1, 2], &[1, 2, 3], false));
     all_right(wrong)
 }
-
-// Whether numbers are spliced in, which leaves this.
-fn splices(
-    v: &mut TinyVec<[u8; 4]>,
-    range: Range<usize>,
-    numbers: Range<u8>,
-    items: &[u8],
-    inline: bool,
-) -> Option<bool> {
-    let Range { start, end } = range;
-    if start > end || end > v.len() {
-        return Some(false);
-    }
-    match v.splice_all(start..end, numbers) {
-        Ok(()) => Some(lies(v, items, inline)),
-        Err(_) => None,
-    }
-}
-
-#[test]
-fn by_numbers(rt: HostRuntime) -> Result<(), Fail> {
-    let mut v = TinyVec::from_array_len(rt.alloc(), [1, 2, 3, 9], 3);
-    let mut wrong = 0;
-    wrong = granted(wrong, 1, splices(&mut v, 1..2, 5..7, &[1, 5, 6, 3], true));
-    wrong = granted(wrong, 2, splices(&mut v, 0..3, 4..5, &[4, 3], true));
-    wrong = first(wrong, 3, spares(&v, &[0, 0]));
-    wrong = granted(
-        wrong,
-        4,
-        splices(&mut v, 1..1, 5..9, &[4, 5, 6, 7, 8, 3], false),
-    );
-    all_right(wrong)
-}
