@@ -5,7 +5,9 @@ use std::convert::{AsSlice, AsStr};
 use std::fmt::Write;
 use std::hash::{DefaultHasher, Hash, Hasher};
 use std::mem;
-use tinyvec_rows::{Words, Wrong, done, say, say_text, window};
+use std::ops::Bound;
+use tinyvec::NoMemory;
+use tinyvec_rows::{Span, Words, Wrong, done, say, say_text, window};
 use tinyvec_text::InlineText;
 
 /// Answers calls of a text, one after the other.
@@ -49,20 +51,24 @@ fn state<const N: usize>(out: &mut String, t: &InlineText<N>) -> Result<(), Wron
 #[derive(Drop)]
 struct Arguments {
     number: usize,
+    span: Span,
     text: String,
 }
 
-// The number of a call and its text, in any order.
+// The number of a call or its range, and its text, in any order.
 fn read_arguments(words: &mut Words<'_>) -> Result<Arguments, Wrong> {
     let alloc = words.alloc;
     let mut given = Arguments {
         number: 0,
+        span: (Bound::Unbounded, Bound::Unbounded),
         text: String::new(alloc),
     };
     for word in words.rest()? {
         let mut word_alone = Words::new(alloc, word);
         if word.starts_with('<') {
             given.text = word_alone.text()?;
+        } else if word.contains("..") {
+            given.span = word_alone.span()?;
         } else {
             given.number = word_alone.index()?;
         }
@@ -137,9 +143,73 @@ fn call<const N: usize>(
         "show_to_four" => write!(out, "{t:>4} ")?,
         "show_one" => write!(out, "{t:.1} ")?,
         "debug" => say(out, &*t)?,
+        _ => edit(t, alloc, name, arguments, out)?,
+    }
+    Ok(())
+}
+
+// Calls that put characters in the middle, take them out, or turn the text into something else.
+fn edit<const N: usize>(
+    t: &mut InlineText<N>,
+    alloc: Global,
+    name: &str,
+    arguments: &Arguments,
+    out: &mut String,
+) -> Result<(), Wrong> {
+    let (n, s) = (arguments.number, arguments.text.as_str());
+    let c = s.chars().next().unwrap_or('?');
+    match name {
+        "with_capacity" => match InlineText::with_capacity(alloc, n) {
+            Ok(made) => *t = made,
+            Err(error) => say(out, &error)?,
+        },
+        "insert" if t.is_char_boundary(n) => done(out, t.insert(n, c))?,
+        "insert_str" if t.is_char_boundary(n) => done(out, t.insert_str(n, s))?,
+        "remove" if t.is_char_boundary(n) && n < t.len() => say(out, &t.remove(n))?,
+        "replace_range" => replace(t, arguments.span, s, out)?,
+        "split_off" if t.is_char_boundary(n) => match t.split_off(n) {
+            Ok(tail) => state(out, &tail)?,
+            Err(error) => say(out, &error)?,
+        },
+        "insert" | "insert_str" | "remove" | "split_off" => return Err(Wrong::Place),
+        "push_reserved" if c.len_utf8() <= t.capacity() - t.len() => t.push_reserved(c),
+        "push_str_reserved" if s.len() <= t.capacity() - t.len() => t.push_str_reserved(s),
+        "shrink_to_fit" => t.shrink_to_fit(),
+        "retain_not" => t.retain(|x| x != c),
+        "extend_chars" => done(out, t.extend(s.chars()))?,
+        "extend_words" => done(out, t.extend(s.split(' ')))?,
+        "collect" => match s.chars().collect::<InlineText<N>>(alloc) {
+            Ok(made) => *t = made,
+            Err(error) => say(out, &error)?,
+        },
+        "into_string" => match mem::replace(t, InlineText::new(alloc)).into_string() {
+            Ok(text) => say(out, &(text.capacity(), text))?,
+            Err(NoMemory(back)) => *t = back,
+        },
         _ => return Err(Wrong::Call),
     }
     Ok(())
+}
+
+// Puts a text in the place of a range, whose ends are tested first.
+fn replace<const N: usize>(
+    t: &mut InlineText<N>,
+    span: Span,
+    s: &str,
+    out: &mut String,
+) -> Result<(), Wrong> {
+    match span {
+        (Bound::Unbounded, Bound::Unbounded) => done(out, t.replace_range(0..t.len(), s)),
+        (Bound::Included(i), Bound::Unbounded) if t.is_char_boundary(i) => {
+            done(out, t.replace_range(i..t.len(), s))
+        }
+        (Bound::Included(i), Bound::Excluded(j))
+            if i <= j && t.is_char_boundary(i) && t.is_char_boundary(j) =>
+        {
+            done(out, t.replace_range(i..j, s))
+        }
+        _ => Err(Wrong::Place),
+    }
 }
 
 // The order of two texts, where all comparisons agree.
