@@ -158,6 +158,26 @@ impl<'s, T: Item> Vector for SliceVec<'s, T> {
         }
         drained(&mut self.drain(range), steps, out)
     }
+
+    fn own(&mut self, name: &str, n: usize, out: &mut String) -> Result<(), Wrong> {
+        match name {
+            "pop_if_even" => say(out, &self.pop_if(|x| x.number() % 2 == 0)),
+            "pop_if_next_even" => say(
+                out,
+                &self.pop_if(|x| {
+                    x.add(1);
+                    x.number() % 2 == 0
+                }),
+            ),
+            "extend_from_within" => {
+                if n > self.len() || n > self.capacity() - self.len() {
+                    return Err(Wrong::Place);
+                }
+                done(out, self.extend_from_within(..n))
+            }
+            _ => Err(Wrong::Call),
+        }
+    }
 }
 
 /// Does steps at a drain, and writes what each answers.

@@ -248,6 +248,14 @@ impl<T: Item, A: Array<Item = T>> Vector for TinyVec<A> {
                 out,
                 self.try_move_to_the_heap_and_reserve(n),
             ),
+            "pop_if_even" => say(out, &self.pop_if(|x| x.number() % 2 == 0)),
+            "pop_if_next_even" => say(
+                out,
+                &self.pop_if(|x| {
+                    x.add(1);
+                    x.number() % 2 == 0
+                }),
+            ),
             "has_room" => say(out, &(self.capacity() - self.len() >= n)),
             "shrink_to_fit" => {
                 self.shrink_to_fit();
