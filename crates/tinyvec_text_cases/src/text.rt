@@ -198,18 +198,16 @@ fn replace<const N: usize>(
     s: &str,
     out: &mut String,
 ) -> Result<(), Wrong> {
-    match span {
-        (Bound::Unbounded, Bound::Unbounded) => done(out, t.replace_range(0..t.len(), s)),
-        (Bound::Included(i), Bound::Unbounded) if t.is_char_boundary(i) => {
-            done(out, t.replace_range(i..t.len(), s))
-        }
-        (Bound::Included(i), Bound::Excluded(j))
-            if i <= j && t.is_char_boundary(i) && t.is_char_boundary(j) =>
-        {
-            done(out, t.replace_range(i..j, s))
-        }
-        _ => Err(Wrong::Place),
+    let (start, end) = match span {
+        (Bound::Unbounded, Bound::Unbounded) => (0, t.len()),
+        (Bound::Included(start), Bound::Unbounded) => (start, t.len()),
+        (Bound::Included(start), Bound::Excluded(end)) => (start, end),
+        _ => return Err(Wrong::Place),
+    };
+    if start > end || !t.is_char_boundary(start) || !t.is_char_boundary(end) {
+        return Err(Wrong::Place);
     }
+    done(out, t.replace_range(start..end, s))
 }
 
 // The order of two texts, where all comparisons agree.
