@@ -1,8 +1,8 @@
 -- Examples of the Borsh form, of contents that are bytes: each spells itself. Inputs are cut if they have no byte.
 use Rattle.std.proofs.Common.{◌≡◌, ℕ, ◌<◌, List, [], ◌∷◌, Some, None, inl, refl, rules, arith}
 use Rattle.tinyvec_borsh.specs.Items.{SpellsItems, SpellsList, ListFits, InItem, AfterItems, IsListCut, IsListTooLong, CountsAbove}
-use Rattle.tinyvec_borsh.specs.Reading.{Takes, Fails, LeavesRest}
-use Rattle.tinyvec_borsh.specs.Writing.{Adds}
+use Rattle.tinyvec_borsh.specs.Reading.{Takes, TakesSome, Fails, LeavesRest}
+use Rattle.tinyvec_borsh.specs.Writing.{Adds, AddsFront}
 use Rattle.tinyvec_borsh.specs.declared.borsh_error.BorshError.TheVariants.{Ended}
 
 -- a byte spells itself
@@ -66,6 +66,9 @@ example-CountsAbove = (5, omega arith, record { first = 5 ∷ 0 ∷ 0 ∷ 0 ∷ 
 pub example-Takes : Takes (λ bytes. bytes ≡ 7 ∷ []) (Some (7 ∷ 8 ∷ [])) (Some (8 ∷ []))
 example-Takes = (7 ∷ [], refl, search rules)
 
+pub example-TakesSome : TakesSome (Some (7 ∷ [])) (Some []) Ended
+example-TakesSome = record { bytes = 7 ∷ []; taken = search rules; end = λ _. refl }
+
 pub example-Fails : Fails IsCut IsNever IsNever (Some []) 0 0 Ended
 example-Fails = refl
 
@@ -74,3 +77,6 @@ example-LeavesRest = _
 
 pub example-Adds : Adds (λ bytes. bytes ≡ 7 ∷ []) (Some (1 ∷ [])) (Some (1 ∷ 7 ∷ []))
 example-Adds = (7 ∷ [], refl, search rules)
+
+pub example-AddsFront : AddsFront (λ bytes. bytes ≡ 7 ∷ 8 ∷ []) (Some (1 ∷ [])) (Some (1 ∷ 7 ∷ []))
+example-AddsFront bytes spelled = (7 ∷ [], 8 ∷ [], spelled, search rules)
