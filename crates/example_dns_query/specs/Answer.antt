@@ -1,9 +1,8 @@
 -- What is written for a line, and for a text.
-use Rattle.std.specs.Prelude.{◌≡◌, ◌⊎◌, ℕ, ◌+◌, ◌/◌, ◌%◌, if◌then◌else◌, nat_lt, List, [], ◌∷◌, ◌++◌, All, Option, Some, map, codes}
+use Rattle.std.specs.Prelude.{◌≡◌, ◌⊎◌, ℕ, ◌+◌, ◌/◌, ◌%◌, if◌then◌else◌, nat_lt, List, [], ◌∷◌, ◌++◌, map, codes}
 use Rattle.std.specs.List.{flat_map}
 use Rattle.std.specs.Str.Lines.{strip_carriage_return}
-use Rattle.tinyvec_io.specs.Lines.{IsLine, Splits, ended, last_line}
-use Rattle.std.specs.Io.{StopsAt}
+use Rattle.tinyvec_io.specs.Lines.{Splits, last_line}
 use Rattle.example_dns_query.specs.Line.{AsksFor, HasLineFault}
 use Rattle.example_dns_query.specs.declared.line.LineError.{LineError}
 use Rattle.example_dns_query.specs.declared.line.LineError.TheVariants.{Words, Number, UnknownType, Query}
@@ -52,13 +51,12 @@ pub record IsAnswered (input output : List ℕ) : Type 0 where
   pub split : Splits input all rest
   pub answers : AnswersEach (map strip_carriage_return (all ++ last_line rest)) output
 
--- The output answers the complete lines of the input up to where so much is left of it. A line after them may have come in part.
-pub record AnswersComplete (input : List ℕ) (left : Option (List ℕ)) (output : List ℕ) : Type 0 where
+-- The output answers the complete lines of the input, and this has come of the next line.
+pub record AnswersUpTo (input output line : List ℕ) : Type 0 where
   pub all : List (List ℕ)
-  pub part : List ℕ
-  pub rest : List ℕ
-  pub left_is : left ≡ Some rest
-  pub whole : input ≡ ended all ++ (part ++ rest)
-  pub each : All IsLine all
-  pub partial : StopsAt part 10
+  pub split : Splits input all line
   pub answers : AnswersEach (map strip_carriage_return all) output
+
+-- after these bytes, for which this is said, `new` has come of the next line, where `old` had
+abbrev pub Advances : List ℕ → List ℕ → List ℕ → List ℕ → Type 0
+Advances old bytes said new = (input output : List ℕ) → AnswersUpTo input output old → AnswersUpTo (input ++ bytes) (output ++ said) new

@@ -1,7 +1,7 @@
 //! The answer to a line.
 ghost use Rattle.std.specs.Prelude.{◌≡◌, ◌<◌, ◌≤◌, ◌++◌, ◌∷◌, [], List, ℕ, OnOk, OnErr, codes};
 ghost use Rattle.std.specs.Io.KnownBytes.{Appends};
-ghost use Rattle.tinyvec_io.specs.Counted.{Reported};
+ghost use Rattle.tinyvec_io.specs.Counted.{AppendsFront, Reported};
 ghost use Rattle.example_dns_query.specs.Answer.{IsAnswer, digit_of, hex_of};
 
 use crate::line::answer_line;
@@ -23,6 +23,7 @@ fn hex_digit(number: u8) -> u8
 // Writes two digits for each byte.
 fn write_hex<W: Write>(writer: &mut Counted<W>, bytes: &[u8]) -> io::Result<()>
     ensures ok { OnOk result (Appends (W.contents writer.old.inner) (W.contents writer.new.inner) (hex_of bytes.now)) }
+    ensures front { OnErr result (AppendsFront (W.contents writer.old.inner) (W.contents writer.new.inner) (hex_of bytes.now)) }
     ensures grows { writer.old.faults ≤ writer.new.faults }
     ensures fault { OnErr result (Reported writer.old.faults writer.new.faults) }
 {
@@ -37,6 +38,8 @@ fn write_hex<W: Write>(writer: &mut Counted<W>, bytes: &[u8]) -> io::Result<()>
 fn write_error<W: Write>(writer: &mut Counted<W>, text: &str) -> io::Result<()>
     ensures ok { OnOk result (Appends (W.contents writer.old.inner) (W.contents writer.new.inner)
         (codes "error: " ++ (text.now ++ 10 ∷ []))) }
+    ensures front { OnErr result (AppendsFront (W.contents writer.old.inner) (W.contents writer.new.inner)
+        (codes "error: " ++ (text.now ++ 10 ∷ []))) }
     ensures grows { writer.old.faults ≤ writer.new.faults }
     ensures fault { OnErr result (Reported writer.old.faults writer.new.faults) }
 {
@@ -49,6 +52,10 @@ fn write_error<W: Write>(writer: &mut Counted<W>, text: &str) -> io::Result<()>
 pub fn write_answer<W: Write>(writer: &mut Counted<W>, line: &[u8]) -> io::Result<()>
     ensures ok { OnOk result ((text : List ℕ) × Appends (W.contents writer.old.inner) (W.contents writer.new.inner) text
         × IsAnswer line.now text) }
+
+    // What was written is a front of the answer.
+    ensures front { OnErr result ((text : List ℕ)
+        × AppendsFront (W.contents writer.old.inner) (W.contents writer.new.inner) text × IsAnswer line.now text) }
     ensures grows { writer.old.faults ≤ writer.new.faults }
     ensures fault { OnErr result (Reported writer.old.faults writer.new.faults) }
 {

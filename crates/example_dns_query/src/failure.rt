@@ -9,13 +9,16 @@ use thiserror::Error;
 /// Why the program ends before its input does.
 #[derive(Debug, Drop, Error)]
 pub enum Failure {
-    /// A line was not read.
+    /// The reader reported a fault.
     #[error("cannot read input: {0}")]
     Input(io::Error),
-    /// `u64::MAX` lines were read, and the input goes on.
+    /// Memory was refused for a line.
+    #[error("cannot read input: out of memory")]
+    Memory,
+    /// `u64::MAX` pieces were read, and the input goes on.
     #[error("cannot read input: too long")]
     TooLong,
-    /// An answer was not written.
+    /// The writer reported a fault.
     #[error("cannot write output: {0}")]
     Output(io::Error),
 }

@@ -11,7 +11,7 @@ pub mod record_type;
 
 use answers::answer_lines;
 use failure::Failure;
-use std::io::{BufReader, BufWriter};
+use std::io::BufWriter;
 use std::process::ExitCode;
 use tinyvec_io::Counted;
 
@@ -28,7 +28,7 @@ fn main(rt: HostRuntime) -> ExitCode {
 
 // Answers standard input on standard output.
 fn answer_input(rt: &HostRuntime) -> Result<(), Failure> {
-    let mut reader = BufReader::new(rt.alloc(), rt.stdin()).map_err(Failure::Input)?;
+    let mut reader = Counted::new(rt.stdin());
     let writer = BufWriter::new(rt.alloc(), rt.stdout()).map_err(Failure::Output)?;
     answer_lines(rt.alloc(), &mut reader, &mut Counted::new(writer))
 }

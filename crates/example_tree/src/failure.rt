@@ -1,4 +1,8 @@
 //! `Failure`.
+ghost use Rattle.std.specs.Prelude.{◌≡◌, ◌↔◌, IsTrue};
+ghost use Rattle.std.specs.IoError.{error_kind};
+ghost use Rattle.std.specs.declared.io.Error.{Error as IoError};
+
 use std::alloc::AllocError;
 use std::io::{self, ErrorKind};
 use thiserror::Error;
@@ -19,7 +23,10 @@ pub enum Failure {
 
 impl Failure {
     /// Nobody reads the output any more.
-    pub fn is_closed_pipe(&self) -> bool {
+    pub fn is_closed_pipe(&self) -> bool
+        ensures { IsTrue result
+            ↔ ((error : IoError) × (self.now ≡ Failure.Output error) × (error_kind error ≡ ErrorKind.BrokenPipe)) }
+    {
         match self {
             Failure::Output(error) => error.kind() == ErrorKind::BrokenPipe,
             _ => false,

@@ -1,90 +1,94 @@
-use Rattle.std.proofs.Common.{◌≡◌, ◌≢◌, ◌≤◌, ◌∙◌, [], ◌∷◌, ◌++◌, map, ap, sym, subst, arith}
-use Rattle.std.specs.Prelude.{IfSome}
-use Rattle.std.specs.Cmp.Lexicographic.{same_text, other_text}
-use Rattle.std.specs.Io.BufRead.{take_through, drop_through, DropsThrough}
-use Rattle.std.specs.Io.Buffered.{reader_remaining}
-use Rattle.std.specs.Io.{appended_bytes}
-use Rattle.std.specs.Io.KnownBytes.{Appends, Consumes}
+use Rattle.std.proofs.Common.{◌≡◌, ◌∙◌, ◌≤◌, ◌+◌, ◌++◌, List, ℕ, [], ap, length, map, take, inl, inr, sym, subst, rules, arith, append_assoc, append-nil, length-append, length-take-le, Err}
+use Rattle.std.proofs.KnownBytes.{Appends-trans, Appends-kept, Consumes-trans}
+use Rattle.tinyvec_io.proofs.Pieces.{AppendsFront-then}
+use Rattle.std.specs.Io.KnownBytes.{Consumes}
 use Rattle.std.specs.Str.Lines.{strip_carriage_return}
-use Rattle.std.proofs.KnownBytes.{Appends-kept, Appends-trans}
 use Rattle.tinyvec_io.specs.Lines.{last_line}
-use Rattle.example_dns_query.specs.Answer.{AnswersEach, IsAnswer}
-use Rattle.example_dns_query.proofs.Answering.{all_answered, end_of, front_complete, front_of, one_answered, turns_read}
+use Rattle.example_dns_query.specs.Answer.{AnswersEach}
+use Rattle.example_dns_query.specs.declared.failure.Failure.TheVariants.{Memory, Output}
+use Rattle.example_dns_query.proofs.Answering.{all_answered, front_whole}
 use Rattle.example_dns_query.proofs.answers.answer_lines.Goals as goal
-use Rattle.example_dns_query.proofs.answers.answer_lines.Goals.{then-not-contains+in-Ok, else-not-contains}
+
+pub returns-in-Err-clause-output : goal.returns-in-Err-clause-output
+returns-in-Err-clause-output g c = λ _ _.
+    let s = c.loop-piece.invariant.so_far in
+    (s.0, [], s.1, c.loop-piece.line.items, subst (Consumes (g.R.Read.remaining c.args.reader.now.inner) (g.R.Read.remaining c.loop-piece.reader.inner)) (sym (append-nil s.0)) s.2, front_whole _ _ s.1 (Appends-kept _ _ _ s.1 s.3 c.in-Err.ensures.bytes), inl s.4)
 
 pub returns-in-Ok-finish-clause-ok : goal.returns-in-Ok-finish-clause-ok
 returns-in-Ok-finish-clause-ok g c =
-    let before = c.loop-turn.invariant.answered in
-    let written : Appends (g.W.Write.contents c.args.writer.now.inner) (g.W.Write.contents c.if-not-contains.writer.inner) before.0 =
-    elim c.if-not-contains.branch [
-      | then-not-contains+in-Ok w ↦ rw w.writer-is (Appends-kept _ _ _ before.0 before.1 w.flush.ensures.bytes)
-      | else-not-contains w ↦ rw w.writer-is before.1
-    ] in
-    let piece = c.read_until.new.buf.items in
-    let other : end_of piece ≢ 10 ∷ [] = subst (λ p. end_of p ≢ 10 ∷ []) c.as_slice.ensures.value (other_text _ _ (sym c.in_default.ensures.cases)) in
-    let last = c.in-Ok-finish.ensures.ok in (
-      before.0 ++ last.0,
-      Appends-trans _ _ _ before.0 last.0 written last.1,
-      λ input known.
-          let so_far = before.2 input known in
-          let read = subst (λ left. IfSome left (λ xs. piece ≡ c.clear.new.self.items ++ take_through 10 xs)) so_far.1 c.in-Ok-read_until.ensures.bytes in
-          all_answered c.loop-turn._turn input so_far.0 piece before.0 last.0 (read ∙ ap (λ old. old ++ take_through 10 so_far.0) c.clear.ensures.items) other
-          (subst (λ p. AnswersEach (map strip_carriage_return (last_line p)) last.0) c.as_slice-in_default.ensures.value last.2) so_far.2,
+    let s = c.loop-piece.invariant.so_far in
+    let none : c.in-Ok-read_some.count ≡ 0 = c.if-count-eq0.true in
+    let last = rw none at c.in-Ok-read_some.ensures.bytes in
+    let all = rw append-nil at (Consumes-trans _ _ _ s.0 [] s.2 last) in
+    let written = Appends-kept _ _ _ s.1 s.3 c.in-Ok.ensures.bytes in
+    let f = c.in-Ok-finish.ensures.ok in
+    let answered = all_answered s.0 s.1 c.loop-piece.line.items f.0 s.4
+    (subst (λ line. AnswersEach (map strip_carriage_return (last_line line)) f.0) c.as_slice.ensures.value f.2) in
+    (s.0, s.1 ++ f.0, all, c.in-Ok-read_some.ensures.end none, Appends-trans _ _ _ s.1 f.0 written f.1, answered)
+
+pub returns-in-Err-finish-clause-output : goal.returns-in-Err-finish-clause-output
+returns-in-Err-finish-clause-output g c = λ _ _.
+    let s = c.loop-piece.invariant.so_far in
+    let none : c.in-Ok-read_some.count ≡ 0 = c.if-count-eq0.true in
+    let last = rw none at c.in-Ok-read_some.ensures.bytes in
+    let all = rw append-nil at (Consumes-trans _ _ _ s.0 [] s.2 last) in
+    let written = Appends-kept _ _ _ s.1 s.3 c.in-Ok.ensures.bytes in
+    let f = c.in-Err-finish.ensures.front in
+    let answered = all_answered s.0 s.1 c.loop-piece.line.items f.0 s.4
+    (subst (λ line. AnswersEach (map strip_carriage_return (last_line line)) f.0) c.as_slice.ensures.value f.2) in
+    let before = g.R.Read.remaining c.args.reader.now.inner in
+    let after = g.R.Read.remaining c.read_some.new.self.inner in
+    (s.0, [], s.1 ++ f.0, [], subst (Consumes before after) (sym (append-nil s.0)) all, AppendsFront-then _ _ _ s.1 f.0 written f.1, inr answered)
+
+pub returns-in_err-answer_chunk-clause-memory : goal.returns-in_err-answer_chunk-clause-memory
+returns-in_err-answer_chunk-clause-memory g c = λ is.
+    let was : c.answer_chunk.result ≡ Err Memory = search rules in
+    let s = c.loop-piece.invariant.so_far in
+    let bytes : List ℕ = take c.in-Ok-read_some.count c.read_some.new.buf in
+    let written = Appends-kept _ _ _ s.1 s.3 c.in-Ok.ensures.bytes in
+    let all = Consumes-trans _ _ _ s.0 bytes s.2 c.in-Ok-read_some.ensures.bytes in
+    let before = g.R.Read.remaining c.args.reader.now.inner in
+    let after = g.R.Read.remaining c.read_some.new.self.inner in
+    let f = c.answer_chunk.ensures.memory was in (
+      s.0 ++ f.0,
+      f.1,
+      s.1 ++ f.2,
+      f.3,
+      subst (Consumes before after) (ap (λ read. s.0 ++ read) f.4 ∙ sym (append_assoc s.0 f.0 f.1)) all,
+      Appends-trans _ _ _ s.1 f.2 written f.5,
+      f.6 s.0 s.1 s.4,
     )
 
-pub loop-turn-preserved : goal.loop-turn-preserved
-loop-turn-preserved g c =
-    let before = c.loop-turn.invariant.answered in
-    let written : Appends (g.W.Write.contents c.args.writer.now.inner) (g.W.Write.contents c.if-not-contains.writer.inner) before.0 =
-    elim c.if-not-contains.branch [
-      | then-not-contains+in-Ok w ↦ rw w.writer-is (Appends-kept _ _ _ before.0 before.1 w.flush.ensures.bytes)
-      | else-not-contains w ↦ rw w.writer-is before.1
-    ] in
-    let grown : c.args.writer.now.faults ≤ c.if-not-contains.writer.faults =
-    elim c.if-not-contains.branch [
-      | then-not-contains+in-Ok w ↦ rw w.writer-is (omega (arith, c.loop-turn.invariant.grows, w.flush.ensures.grows))
-      | else-not-contains w ↦ rw w.writer-is c.loop-turn.invariant.grows
-    ] in
-    let piece = c.read_until.new.buf.items in
-    let complete = c.in-Some.complete.now in
-    let said = c.in-Ok-write_answer.ensures.ok in
-    let ends : end_of piece ≡ 10 ∷ [] = subst (λ p. end_of p ≡ 10 ∷ []) c.as_slice.ensures.value (same_text _ _ (sym c.in-Some.ensures.cases.0)) in
-    let front : complete ≡ front_of piece = subst (λ p. complete ≡ front_of p) c.as_slice.ensures.value c.in-Some.ensures.cases.1 in record {
-      answered = (
-        before.0 ++ said.0,
-        Appends-trans _ _ _ before.0 said.0 written said.1,
-        λ input known.
-            let so_far = before.2 input known in
-            let read = subst (λ left. IfSome left (λ xs. piece ≡ c.clear.new.self.items ++ take_through 10 xs)) so_far.1 c.in-Ok-read_until.ensures.bytes in
-            let rest = subst (λ left. DropsThrough left (reader_remaining g.R.Read.remaining c.read_until.new.self) 10) so_far.1 c.in-Ok-read_until.ensures.rest in (
-              drop_through 10 so_far.0,
-              rest,
-              one_answered c.loop-turn._turn input so_far.0 piece complete before.0 said.0 (read ∙ ap (λ old. old ++ take_through 10 so_far.0) c.clear.ensures.items) ends front
-                  (subst (λ text. IsAnswer text said.0) c.strip_return.ensures said.2) so_far.2,
-            ),
-      );
-      grows = omega (arith, grown, c.in-Ok-write_answer.ensures.grows);
+pub returns-in_err-answer_chunk-clause-output : goal.returns-in_err-answer_chunk-clause-output
+returns-in_err-answer_chunk-clause-output g c = λ error is.
+    let was : c.answer_chunk.result ≡ Err (Output error) = search rules in
+    let s = c.loop-piece.invariant.so_far in
+    let bytes : List ℕ = take c.in-Ok-read_some.count c.read_some.new.buf in
+    let written = Appends-kept _ _ _ s.1 s.3 c.in-Ok.ensures.bytes in
+    let all = Consumes-trans _ _ _ s.0 bytes s.2 c.in-Ok-read_some.ensures.bytes in
+    let before = g.R.Read.remaining c.args.reader.now.inner in
+    let after = g.R.Read.remaining c.read_some.new.self.inner in
+    let f = c.answer_chunk.ensures.output error was in (
+      s.0 ++ f.0,
+      f.1,
+      s.1 ++ f.2,
+      f.3,
+      subst (Consumes before after) (ap (λ read. s.0 ++ read) f.4 ∙ sym (append_assoc s.0 f.0 f.1)) all,
+      AppendsFront-then _ _ _ s.1 f.2 written f.5,
+      inl (f.6 s.0 s.1 s.4),
+    )
+
+pub loop-piece-preserved : goal.loop-piece-preserved
+loop-piece-preserved g c =
+    let s = c.loop-piece.invariant.so_far in
+    let bytes : List ℕ = take c.in-Ok-read_some.count c.read_some.new.buf in
+    let written = Appends-kept _ _ _ s.1 s.3 c.in-Ok.ensures.bytes in
+    let all = Consumes-trans _ _ _ s.0 bytes s.2 c.in-Ok-read_some.ensures.bytes in
+    let f = c.in_ok-answer_chunk.ensures.ok in
+    let longer : c.loop-piece._piece + 1 ≤ length (s.0 ++ bytes) =
+    omega (arith, length-append s.0 bytes, length-take-le c.in-Ok-read_some.count c.read_some.new.buf c.in-Ok-read_some.ensures.bound.0, c.if-count-eq0.false, s.5) in
+    record {
+      so_far = (s.0 ++ bytes, s.1 ++ f.0, all, Appends-trans _ _ _ s.1 f.0 written f.1, f.2 s.0 s.1 s.4, longer);
+      read_grows = omega (arith, c.loop-piece.invariant.read_grows, c.in-Ok-read_some.ensures.grows);
+      write_grows = omega (arith, c.loop-piece.invariant.write_grows, c.in-Ok.ensures.grows, c.in_ok-answer_chunk.ensures.grows);
     }
-
-pub returns-in-Err-read_until-clause-input : goal.returns-in-Err-read_until-clause-input
-returns-in-Err-read_until-clause-input g c = λ error is.
-    let before = c.loop-turn.invariant.answered in
-    let written : Appends (g.W.Write.contents c.args.writer.now.inner) (g.W.Write.contents c.if-not-contains.writer.inner) before.0 =
-    elim c.if-not-contains.branch [
-      | then-not-contains+in-Ok w ↦ rw w.writer-is (Appends-kept _ _ _ before.0 before.1 w.flush.ensures.bytes)
-      | else-not-contains w ↦ rw w.writer-is before.1
-    ] in
-    let part = appended_bytes c.clear.new.self.items c.read_until.new.buf.items in
-    let left = reader_remaining g.R.Read.remaining c.read_until.new.self in (
-      before.0,
-      written,
-      λ input known.
-          let so_far = before.2 input known in
-          front_complete c.loop-turn._turn input so_far.0 before.0 part left (subst (λ old. Consumes old left part) so_far.1 c.in-Err-read_until.ensures.none_lost) c.in-Err-read_until.ensures.stops so_far.2,
-    )
-
-pub returns-clause-too_long : goal.returns-clause-too_long
-returns-clause-too_long g c = λ is input known.
-    let so_far = c.loop-turn.invariant.answered.2 input known in
-    omega (arith, turns_read c.loop-turn._turn input so_far.0 c.loop-turn.invariant.answered.0 so_far.2, c.loop-turn-test.false)
