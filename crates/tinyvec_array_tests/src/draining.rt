@@ -1,5 +1,4 @@
 //! Drains: no contract says what one that is never dropped leaves.
-ghost use Rattle.tinyvec_slots.specs.Slots.{items};
 ghost use Rattle.tinyvec_array.specs.Drain.{DrainCanStep};
 
 use std::mem;

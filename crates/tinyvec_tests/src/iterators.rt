@@ -2,7 +2,7 @@
 use std::alloc::{AllocError, Global};
 use std::test::Fail;
 use tinyvec::{TinyVec, TinyVecIterator};
-use tinyvec_test_items::{all_right, first, granted, yields};
+use tinyvec_test_items::{all_right, first, granted};
 use tinyvec_test_looks::{lies, lies_before};
 
 fn listed(alloc: Global, items: &[i32]) -> Result<TinyVec<[i32; 4]>, AllocError> {
