@@ -6,6 +6,7 @@ ghost use Rattle.example_records.specs.Commands.{Answers, AreSamples, Commands, 
 ghost use Rattle.example_records.specs.Commands.{behind_comma, part_of, rest_of, word_of};
 ghost use Rattle.example_records.specs.Errors.{end_text};
 ghost use Rattle.example_records.specs.Readings.{ReadingFits, Said, SamplesFit, said};
+ghost use Rattle.example_records.specs.Shown.{IsLineOf, IsShown};
 ghost use Rattle.example_records.specs.Stream.{SpellsStream};
 ghost use Rattle.example_records.specs.declared.command.CommandError.TheVariants.{Memory, Samples, Text, Unknown};
 
@@ -77,7 +78,9 @@ pub fn run(
 }
 
 /// The records, a line each, and then where they end, and why no more were read.
-pub fn shown(alloc: Global, recovered: &Recovered) -> Result<String, AllocError> {
+pub fn shown(alloc: Global, recovered: &Recovered) -> Result<String, AllocError>
+    ensures { IfOk result (λ text. IsShown (map said recovered.now.records.items) recovered.now.end (string_bytes text)) }
+{
     let mut text = String::new(alloc);
     for reading in &recovered.records {
         let line = shown_reading(alloc, reading)?;
@@ -243,7 +246,10 @@ fn copy(alloc: Global, rest: &str, stream: &[u8]) -> Result<Option<Recovered>, C
     }
 }
 
-fn shown_reading(alloc: Global, reading: &Reading) -> Result<String, AllocError> {
+// The line of a record.
+fn shown_reading(alloc: Global, reading: &Reading) -> Result<String, AllocError>
+    ensures { IfOk result (λ text. IsLineOf (said reading.now) (string_bytes text)) }
+{
     let station = reading.station;
     let samples = &reading.samples;
     match str::from_utf8(reading.note.as_slice()) {
