@@ -1,5 +1,5 @@
 -- A text that is read and answered line by line.
-use Rattle.std.proofs.Common.{◌≡◌, ◌≢◌, ◌∙◌, ℕ, ◌+◌, ◌/◌, ◌%◌, ◌<◌, List, [], ◌∷◌, ◌++◌, map, length, take, drop, get_or, suc, take-append-drop, drop-cons, take-add, Option, Result, Ok, Err, OnOk, OnErr, ap, refl, sym, subst, arith, append_assoc, append-nil}
+use Rattle.std.proofs.Common.{◌≡◌, ◌≢◌, ◌∙◌, ℕ, ◌/◌, ◌%◌, ◌<◌, List, [], ◌∷◌, ◌++◌, map, length, take, drop, get_or, suc, take-append-drop, drop-cons, Option, Result, Ok, Err, OnOk, OnErr, ap, refl, sym, subst, arith, append_assoc, append-nil}
 use Rattle.std.specs.Str.Lines.{strip_carriage_return}
 use Rattle.std.proofs.lemmas.List.{map-append}
 use Rattle.std.proofs.lemmas.List.Elements.{All-nil}
@@ -46,9 +46,6 @@ pub around : (bytes : List ℕ) (i : ℕ) → i < length bytes → bytes ≡ (ta
 around bytes i inside =
     sym (take-append-drop i bytes) ∙ ap (λ rest. take i bytes ++ rest) (drop-cons bytes i 0 inside)
     ∙ sym (append_assoc (take i bytes) (get_or bytes i 0 ∷ []) (drop (suc i) bytes))
-
-pub take_more : (bytes : List ℕ) (i : ℕ) → i < length bytes → take (i + 1) bytes ≡ take i bytes ++ get_or bytes i 0 ∷ []
-take_more bytes i inside = take-add i 1 bytes ∙ ap (λ rest. take i bytes ++ take 1 rest) (drop-cons bytes i 0 inside)
 
 -- the digits of bytes, around those of one of them
 pub hex_around : (bytes : List ℕ) (i : ℕ) → i < length bytes

@@ -4,4 +4,5 @@ pub mod FrameLaws
 pub mod Frames
 pub mod HexLaws
 pub mod Lengths
+pub mod Showing
 pub mod WholeStreams

@@ -1,11 +1,26 @@
--- What an error in a record is to the stream.
+-- What an error in a record is to the stream, and what is shown of how a stream ends.
+use Rattle.std.specs.Prelude.{ℕ, List, ◌++◌, codes, Ok, Err, Result}
+use Rattle.std.specs.Fmt.{decimal}
 use Rattle.tinyvec_borsh.specs.declared.borsh_error.BorshError.{BorshError}
 use Rattle.tinyvec_borsh.specs.declared.borsh_error.BorshError.TheVariants as borsh
 use Rattle.example_records.specs.declared.stream_error.StreamError.{StreamError}
-use Rattle.example_records.specs.declared.stream_error.StreamError.TheVariants.{Cut, Io, Memory, TooManySamples}
+use Rattle.example_records.specs.declared.stream_error.StreamError.TheVariants.{Cut, Io, Memory, TooManySamples, WrongTag}
 
 abbrev pub stream_error : BorshError → StreamError
 stream_error borsh.Ended = Cut
 stream_error borsh.InvalidLength = TooManySamples
 stream_error borsh.Io = Io
 stream_error borsh.Memory = Memory
+
+-- what an error of a stream says
+abbrev pub stream_error_text : StreamError → List ℕ
+stream_error_text Cut = codes "the stream is cut within a record"
+stream_error_text WrongTag = codes "no record begins here"
+stream_error_text TooManySamples = codes "a record has more than eight samples"
+stream_error_text Io = codes "the reader reported a fault"
+stream_error_text Memory = codes "out of memory"
+
+-- where the records end, so many bytes from the start, and why no more were read
+abbrev pub end_text : ℕ → Result (Unit {0}) StreamError → List ℕ
+end_text len (Ok done) = codes "end after " ++ (decimal len ++ codes " bytes")
+end_text len (Err error) = codes "end after " ++ (decimal len ++ (codes " bytes: " ++ stream_error_text error))

@@ -1,10 +1,13 @@
 //! The commands of the program.
-ghost use Rattle.std.specs.Prelude.{◌≡◌, ℕ, List, Err, codes, IfErr, IfOk, OnErr, IsTrue, IsUtf8};
+ghost use Rattle.std.specs.Prelude.{◌≡◌, ◌-◌, ◌^◌, ℕ, List, Err, codes, length, map, min, IfErr, IfOk, OnErr, IsTrue, IsUtf8, string_bytes};
 ghost use Rattle.std.specs.Option.{option_copied};
 ghost use Rattle.tinyvec_slots.specs.Slots.{items};
 ghost use Rattle.example_records.specs.Commands.{Answers, AreSamples, Commands, IsCommand, IsMemoryOr, IsRecord, IsTold, Says, Tells};
 ghost use Rattle.example_records.specs.Commands.{behind_comma, part_of, rest_of, word_of};
+ghost use Rattle.example_records.specs.Errors.{end_text};
 ghost use Rattle.example_records.specs.Readings.{ReadingFits, Said, SamplesFit, said};
+ghost use Rattle.example_records.specs.Shown.{IsLineOf, IsShown};
+ghost use Rattle.example_records.specs.Stream.{SpellsStream};
 ghost use Rattle.example_records.specs.declared.command.CommandError.TheVariants.{Memory, Samples, Text, Unknown};
 
 use crate::hex::bytes_of_hex;
@@ -75,7 +78,9 @@ pub fn run(
 }
 
 /// The records, a line each, and then where they end, and why no more were read.
-pub fn shown(alloc: Global, recovered: &Recovered) -> Result<String, AllocError> {
+pub fn shown(alloc: Global, recovered: &Recovered) -> Result<String, AllocError>
+    ensures { IfOk result (λ text. IsShown (map said recovered.now.records.items) recovered.now.end (string_bytes text)) }
+{
     let mut text = String::new(alloc);
     for reading in &recovered.records {
         let line = shown_reading(alloc, reading)?;
@@ -241,7 +246,10 @@ fn copy(alloc: Global, rest: &str, stream: &[u8]) -> Result<Option<Recovered>, C
     }
 }
 
-fn shown_reading(alloc: Global, reading: &Reading) -> Result<String, AllocError> {
+// The line of a record.
+fn shown_reading(alloc: Global, reading: &Reading) -> Result<String, AllocError>
+    ensures { IfOk result (λ text. IsLineOf (said reading.now) (string_bytes text)) }
+{
     let station = reading.station;
     let samples = &reading.samples;
     match str::from_utf8(reading.note.as_slice()) {
@@ -254,7 +262,10 @@ fn shown_reading(alloc: Global, reading: &Reading) -> Result<String, AllocError>
 }
 
 // Where the records end, and why no more were read.
-fn shown_end(alloc: Global, recovered: &Recovered) -> Result<String, AllocError> {
+fn shown_end(alloc: Global, recovered: &Recovered) -> Result<String, AllocError>
+    ensures { IfOk result (λ text. (bytes : List ℕ) → SpellsStream (map said recovered.now.records.items) bytes
+        → string_bytes text ≡ end_text (min (length bytes) (2 ^ 64 - 1)) recovered.now.end) }
+{
     let len = stream_len(recovered.records.as_slice());
     match recovered.end {
         Ok(()) => format!(in alloc; "end after {len} bytes"),

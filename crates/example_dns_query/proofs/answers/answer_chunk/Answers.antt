@@ -1,10 +1,10 @@
 use Rattle.std.proofs.Common.{◌≡◌, ◌++◌, ◌∷◌, [], take, drop, suc, get_or, sym, subst, rules, arith, Err, take-append-drop}
 use Rattle.std.proofs.KnownBytes.{Appends-trans, Appends-kept}
-use Rattle.std.proofs.lemmas.List.{take_all}
+use Rattle.std.proofs.lemmas.List.{take_all, take_more}
 use Rattle.tinyvec_io.proofs.Pieces.{AppendsFront-then}
 use Rattle.example_dns_query.specs.Answer.{Advances}
 use Rattle.example_dns_query.specs.declared.failure.Failure.TheVariants.{Memory, Output}
-use Rattle.example_dns_query.proofs.Answering.{advances_then, around, take_more}
+use Rattle.example_dns_query.proofs.Answering.{advances_then, around}
 use Rattle.example_dns_query.proofs.answers.answer_chunk.Goals as goal
 
 pub returns-in_err-answer_byte-clause-memory : goal.returns-in_err-answer_byte-clause-memory
@@ -49,7 +49,7 @@ loop-byte-preserved g c =
       so_far = (
         s.0 ++ f.0,
         Appends-trans _ _ _ s.0 f.0 s.1 f.1,
-        subst (λ read. Advances old read (s.0 ++ f.0) new) (sym (take_more bytes i c.loop-byte-test.true))
+        subst (λ read. Advances old read (s.0 ++ f.0) new) (sym (take_more bytes i 0 c.loop-byte-test.true))
             (advances_then old c.loop-byte.line.items new (take i bytes) (get_or bytes i 0 ∷ []) s.0 f.0 s.2 f.2),
       );
       grows = omega (arith, c.loop-byte.invariant.grows, c.in_ok-answer_byte.ensures.grows);

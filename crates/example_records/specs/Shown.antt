@@ -1,0 +1,32 @@
+-- What is shown of the records of a stream.
+use Rattle.std.specs.Prelude.{◌≡◌, ℕ, ◌-◌, ◌^◌, List, [], ◌∷◌, ◌++◌, codes, length, min, Option, Some, IfSome, Result}
+use Rattle.std.specs.Fmt.{◌++?◌, debug_list, debug_str, decimal}
+use Rattle.std.specs.Str.{IsUtf8}
+use Rattle.example_records.specs.Errors.{end_text}
+use Rattle.example_records.specs.Readings.{Said}
+use Rattle.example_records.specs.Stream.{SpellsStream}
+use Rattle.example_records.specs.declared.stream_error.StreamError.{StreamError}
+
+-- the station, the samples and a note that is shown so, with a blank between two, and a line feed
+abbrev pub line_text : Said → Option (List ℕ) → Option (List ℕ)
+line_text c note =
+    Some (decimal c.0) ++? (Some (codes " ") ++? (debug_list (λ n. Some (decimal n)) (c.1.0) ++? (Some (codes " ") ++? (note ++? Some (10 ∷ [])))))
+
+-- The text shows the record: the note as text where it is, else as a list of bytes. Nothing is said of a note with a
+-- character that is not in ASCII.
+pub record IsLineOf (c : Said) (text : List ℕ) : Type 0 where
+  pub as_text : IsUtf8 (c.1.1) → IfSome (line_text c (debug_str (c.1.1))) (λ line. text ≡ line)
+  pub as_bytes : (IsUtf8 (c.1.1) → ⊥) → IfSome (line_text c (debug_list (λ n. Some (decimal n)) (c.1.1))) (λ line. text ≡ line)
+
+-- the text is a line for each record, in order
+abbrev pub AreLinesOf : List Said → List ℕ → Type 0
+AreLinesOf [] text = text ≡ []
+AreLinesOf (c ∷ cs) text = (first rest : List ℕ) × IsLineOf c first × AreLinesOf cs rest × (text ≡ first ++ rest)
+
+-- The text shows the records, and then where they end in their stream, and why no more were read.
+pub record IsShown (cs : List Said) (end : Result (Unit {0}) StreamError) (text : List ℕ) : Type 0 where
+  pub lines : List ℕ
+  pub last : List ℕ
+  pub are : AreLinesOf cs lines
+  pub is_end : (bytes : List ℕ) → SpellsStream cs bytes → last ≡ end_text (min (length bytes) (2 ^ 64 - 1)) end
+  pub whole : text ≡ lines ++ last
