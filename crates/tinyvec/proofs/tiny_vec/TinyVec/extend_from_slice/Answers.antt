@@ -42,8 +42,8 @@ returns-in-Inline-clause-if_clones_equal g c =
 pub returns-in-Inline-clause-place : goal.returns-in-Inline-clause-place
 returns-in-Inline-clause-place g c = on_ok_weaker c.extend_from_slice.result (λ _. (inline_granted g c).0) c.extend_from_slice.ensures.len
 
-pub returns-in-Inline-clause-slots : goal.returns-in-Inline-clause-slots
-returns-in-Inline-clause-slots g c =
+pub returns-in-Inline-clause-slot_rule : goal.returns-in-Inline-clause-slot_rule
+returns-in-Inline-clause-slot_rule g c =
     let made = c.extend_from_slice.ensures in
     on_ok_two c.extend_from_slice.result made.len made.spare (λ long behind.
     rw c.in-Inline.is (slots_used g.A.Item.Default.is_default c.in-Inline.v c.extend_from_slice.new.self (length c.args.other.now) long behind))
@@ -100,8 +100,8 @@ returns-in-Heap-clause-if_clones_equal g c =
 pub returns-in-Heap-clause-place : goal.returns-in-Heap-clause-place
 returns-in-Heap-clause-place g c = on_ok_weaker c.push_clones.result (λ _. (heap_granted g c).0) c.push_clones.ensures.items
 
-pub returns-in-Heap-clause-slots : goal.returns-in-Heap-clause-slots
-returns-in-Heap-clause-slots g c = on_ok_weaker c.push_clones.result (λ _. rw c.in-Heap.is tt) c.push_clones.ensures.items
+pub returns-in-Heap-clause-slot_rule : goal.returns-in-Heap-clause-slot_rule
+returns-in-Heap-clause-slot_rule g c = on_ok_weaker c.push_clones.result (λ _. rw c.in-Heap.is tt) c.push_clones.ensures.items
 
 pub returns-in-Heap-clause-room : goal.returns-in-Heap-clause-room
 returns-in-Heap-clause-room g c =

@@ -25,7 +25,7 @@ returns-in-Ok g c =
       value_returned = tt;
       kept = tt;
       refused = tt;
-      fits = rw (c.set_len.ensures.fits) c.requires.in_bounds;
+      fits = rw (c.set_len.ensures.fits) c.requires.room;
       cuts = λ _. refl;
       succeeds = λ _. refl;
     }
