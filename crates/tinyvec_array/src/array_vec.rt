@@ -129,14 +129,14 @@ impl<A: Array> ArrayVec<A> {
     }
 
     /// Moves the border between the items and the spare slots. No slot is written.
-    pub fn set_len(&mut self, len: usize)
-        requires { len ≤ A.CAPACITY }
-        ensures value { self.new ≡ split_at len (all_slots self.old) }
-        ensures fits { items_len self.new ≡ len }
+    pub fn set_len(&mut self, new_len: usize)
+        requires { new_len ≤ A.CAPACITY }
+        ensures value { self.new ≡ split_at new_len (all_slots self.old) }
+        ensures fits { items_len self.new ≡ new_len }
     {
         // Tells the proof how many slots there are.
         let _slots = self.array.as_slice();
-        self.len = len;
+        self.len = new_len;
     }
 
     // Moves the items from `start` up to `end` after the others.
@@ -164,7 +164,7 @@ impl<A: Array> ArrayVec<A> {
         mem::take(&mut slots[at])
     }
 
-    // Writes defaults into the first `n` spare slots, or none where there are fewer.
+    // Writes defaults into the first `n` spare slots, or none if there are fewer.
     pub(crate) fn fill_spare_default(&mut self, n: usize)
         ensures items { items self.new ≡ items self.old }
         ensures spare { n ≤ length (spare self.old) → (ds : List A.Item) × AreDefaults A.Item.is_default n ds

@@ -102,21 +102,21 @@ impl<A: Array> ArrayVec<A> {
         self.drain_to_vec(alloc)
     }
 
-    /// Moves the list into a `Vec` that has room for it and for `n` more items, and for no more.
+    /// Moves the list into a `Vec` that has room for it and for `additional` more items, and for no more.
     // Inlined, so that a `TinyVec` takes the `Vec` in registers.
     #[inline(always)]
     pub fn drain_to_vec_and_reserve(
         &mut self,
         alloc: Global,
-        n: usize,
+        additional: usize,
     ) -> Result<Vec<A::Item>, AllocError>
-        ensures { DrainsToVec A.Item.is_default A.CAPACITY n self.old self.new result }
+        ensures { DrainsToVec A.Item.is_default A.CAPACITY additional self.old self.new result }
     {
         let len = self.len();
-        if n > usize::MAX - len {
+        if additional > usize::MAX - len {
             return Err(AllocError);
         }
-        let mut vec = Vec::with_capacity(alloc, len + n)?;
+        let mut vec = Vec::with_capacity(alloc, len + additional)?;
         take_all(self.as_mut_slice(), &mut vec);
         self.set_len(0);
         Ok(vec)
@@ -126,11 +126,11 @@ impl<A: Array> ArrayVec<A> {
     pub fn try_drain_to_vec_and_reserve(
         &mut self,
         alloc: Global,
-        n: usize,
+        additional: usize,
     ) -> Result<Vec<A::Item>, AllocError>
-        ensures { DrainsToVec A.Item.is_default A.CAPACITY n self.old self.new result }
+        ensures { DrainsToVec A.Item.is_default A.CAPACITY additional self.old self.new result }
     {
-        self.drain_to_vec_and_reserve(alloc, n)
+        self.drain_to_vec_and_reserve(alloc, additional)
     }
 }
 

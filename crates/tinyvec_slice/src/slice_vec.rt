@@ -97,14 +97,14 @@ impl<B: Lent> GenericSliceVec<B> {
     }
 
     /// Moves the border between the items and the spare slots. No slot is written.
-    pub fn set_len(&mut self, len: usize)
-        requires { len ≤ length (slots_of B.Lent self.old) }
+    pub fn set_len(&mut self, new_len: usize)
+        requires { new_len ≤ length (slots_of B.Lent self.old) }
         ensures same_reference { name_of B.Lent self.new ≡ name_of B.Lent self.old }
         ensures slot_count { length (slots_of B.Lent self.new) ≡ length (slots_of B.Lent self.old) }
-        ensures value { view_of B.Lent self.new ≡ split_at len (slots_of B.Lent self.old) }
-        ensures fits { len_of B.Lent self.new ≡ len }
+        ensures value { view_of B.Lent self.new ≡ split_at new_len (slots_of B.Lent self.old) }
+        ensures fits { len_of B.Lent self.new ≡ new_len }
     {
-        self.len = len;
+        self.len = new_len;
     }
 
     // Moves the items from `start` up to `end` after the others.
@@ -195,7 +195,7 @@ where
         mem::take(&mut self.lent.all_mut()[len + i])
     }
 
-    // Writes defaults into the first `n` spare slots, or none where there are fewer.
+    // Writes defaults into the first `n` spare slots, or none if there are fewer.
     pub(crate) fn fill_spare_default(&mut self, n: usize)
         ensures same_reference { name_of B.Lent self.new ≡ name_of B.Lent self.old }
         ensures slot_count { length (slots_of B.Lent self.new) ≡ length (slots_of B.Lent self.old) }

@@ -19,7 +19,7 @@ pub fn retain<V: CanCut, F: FnMut(&V::Item) -> bool>(vec: &mut V, f: &mut F)
     vec.truncate(kept);
 }
 
-/// Like `retain`, where `f` may write to the items.
+/// Like `retain`, but `f` may write to the items.
 pub fn retain_mut<V: CanCut, F: FnMut(&mut V::Item) -> bool>(vec: &mut V, f: &mut F)
     requires { F.IsAlwaysCallable f.old }
     ensures filtered { RetainsInTurn (CalledAtMut F.FnMut) f.old (V.items vec.old) (V.items vec.new) }
@@ -58,7 +58,7 @@ pub fn dedup_by_key<V: CanCut, K: PartialEq + Drop, F: FnMut(&mut V::Item) -> K>
     vec.truncate(kept);
 }
 
-/// Calls `f` on the last item, and takes the item if it returns `true`. Of an empty list nothing is called.
+/// Calls `f` on the last item, and takes the item if it returns `true`. Calls nothing if the list is empty.
 pub fn pop_if<V: CanCut, F: FnOnce(&mut V::Item) -> bool>(vec: &mut V, f: F) -> Option<V::Item>
     requires { (x : V.Item) → slice_get (V.items vec.old) (length (V.items vec.old) - 1) ≡ Some x
         → FnOnceTakesAtMut F.FnOnce f x }
@@ -111,7 +111,7 @@ fn retain_in_front<T: Default + Drop, F: FnMut(&T) -> bool>(items: &mut [T], f: 
     kept
 }
 
-// Like `retain_in_front`, where `f` may write to the items.
+// Like `retain_in_front`, but `f` may write to the items.
 fn retain_mut_in_front<T: Default + Drop, F: FnMut(&mut T) -> bool>(
     items: &mut [T],
     f: &mut F,

@@ -52,7 +52,7 @@ impl Gap {
         self.len() == 0
     }
 
-    /// The removed items that are left, where `slots` are all items.
+    /// The removed items that are left, if `slots` are all items.
     pub fn left<'s, T>(&self, slots: &'s [T]) -> &'s [T]
         ensures { result.now ≡ gap_left self.now slots.now }
     {

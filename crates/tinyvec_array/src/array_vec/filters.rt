@@ -69,7 +69,7 @@ impl<A: Array> ArrayVec<A> {
     }
 
     /// Calls `predicate` on the last item, and takes the item if it returns `true`. Otherwise the item stays, as `predicate`
-    /// left it. Of an empty list nothing is called.
+    /// left it. Calls nothing if the list is empty.
     pub fn pop_if<F: FnOnce(&mut A::Item) -> bool>(&mut self, predicate: F) -> Option<A::Item>
         requires { (x : A.Item) → slice_get (items self.old) (items_len self.old - 1) ≡ Some x
             → FnOnceTakesAtMut F.FnOnce predicate x }

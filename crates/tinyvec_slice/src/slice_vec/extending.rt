@@ -157,49 +157,49 @@ impl<B: Lent> GenericSliceVec<B> {
         }
     }
 
-    /// Truncates the list to `n` items, or fills it up to `n` with clones of `x`. The slots that a cut vacates are filled
-    /// with clones of `x` too, the last slot first. Only clones allocate.
-    pub fn resize(&mut self, n: usize, x: B::Item) -> Result<(), NoMemory<B::Item>>
+    /// Truncates the list to `new_len` items, or fills it up to `new_len` with clones of `value`. The slots that a cut vacates are filled
+    /// with clones of `value` too, the last slot first. Only clones allocate.
+    pub fn resize(&mut self, new_len: usize, value: B::Item) -> Result<(), NoMemory<B::Item>>
     where
         B::Item: Clone,
-        requires room { n ≤ length (slots_of B.Lent self.old) }
+        requires room { new_len ≤ length (slots_of B.Lent self.old) }
         ensures same_reference { name_of B.Lent self.new ≡ name_of B.Lent self.old }
         ensures slot_count { length (slots_of B.Lent self.new) ≡ length (slots_of B.Lent self.old) }
-        ensures items { OnOk result (AppendsClones B.Item.is_clone (take n (items_of B.Lent self.old))
-            (items_of B.Lent self.new) (replicate (n - len_of B.Lent self.old) x)) }
-        ensures len { OnOk result (len_of B.Lent self.new ≡ n) }
+        ensures items { OnOk result (AppendsClones B.Item.is_clone (take new_len (items_of B.Lent self.old))
+            (items_of B.Lent self.new) (replicate (new_len - len_of B.Lent self.old) value)) }
+        ensures len { OnOk result (len_of B.Lent self.new ≡ new_len) }
         ensures if_clones_equal { OnOk result (ClonesAreEqual B.Item.is_clone
             → items_of B.Lent self.new
-            ≡ take n (items_of B.Lent self.old) ++ replicate (n - len_of B.Lent self.old) x) }
-        ensures spare { OnOk result (ClonesBefore B.Item.is_clone (replicate (len_of B.Lent self.old - n) x)
-            (drop (n - len_of B.Lent self.old) (spare_of B.Lent self.old)) (spare_of B.Lent self.new)) }
+            ≡ take new_len (items_of B.Lent self.old) ++ replicate (new_len - len_of B.Lent self.old) value) }
+        ensures spare { OnOk result (ClonesBefore B.Item.is_clone (replicate (len_of B.Lent self.old - new_len) value)
+            (drop (new_len - len_of B.Lent self.old) (spare_of B.Lent self.old)) (spare_of B.Lent self.new)) }
         ensures spare_if_clones_equal { OnOk result (ClonesAreEqual B.Item.is_clone
-            → spare_of B.Lent self.new ≡ replicate (len_of B.Lent self.old - n) x
-            ++ drop (n - len_of B.Lent self.old) (spare_of B.Lent self.old)) }
-        ensures value_returned { IfErr result (λ refused. refused.0 ≡ x) }
+            → spare_of B.Lent self.new ≡ replicate (len_of B.Lent self.old - new_len) value
+            ++ drop (new_len - len_of B.Lent self.old) (spare_of B.Lent self.old)) }
+        ensures value_returned { IfErr result (λ refused. refused.0 ≡ value) }
 
         // A list that was to grow is as it was, and the first j spare slots hold the clones that were made.
-        ensures refused_growing { OnErr result (len_of B.Lent self.old ≤ n → (j : ℕ) × (j < n - len_of B.Lent self.old)
-            × ¬ (B.Item.is_infallible x) × (items_of B.Lent self.new ≡ items_of B.Lent self.old)
-            × ClonesOver B.Item.is_clone (replicate j x) j (spare_of B.Lent self.old) (spare_of B.Lent self.new)) }
+        ensures refused_growing { OnErr result (len_of B.Lent self.old ≤ new_len → (j : ℕ) × (j < new_len - len_of B.Lent self.old)
+            × ¬ (B.Item.is_infallible value) × (items_of B.Lent self.new ≡ items_of B.Lent self.old)
+            × ClonesOver B.Item.is_clone (replicate j value) j (spare_of B.Lent self.old) (spare_of B.Lent self.new)) }
 
         // A list that was to be cut is shorter by the j slots that hold the clones that were made.
-        ensures refused_cutting { OnErr result (n ≤ len_of B.Lent self.old → (j : ℕ) × (j < len_of B.Lent self.old - n)
-            × ¬ (B.Item.is_infallible x)
+        ensures refused_cutting { OnErr result (new_len ≤ len_of B.Lent self.old → (j : ℕ) × (j < len_of B.Lent self.old - new_len)
+            × ¬ (B.Item.is_infallible value)
             × (items_of B.Lent self.new ≡ take (len_of B.Lent self.old - j) (items_of B.Lent self.old))
-            × ClonesBefore B.Item.is_clone (replicate j x) (spare_of B.Lent self.old) (spare_of B.Lent self.new)) }
-        ensures succeeds { B.Item.is_infallible x → IsOk result }
+            × ClonesBefore B.Item.is_clone (replicate j value) (spare_of B.Lent self.old) (spare_of B.Lent self.new)) }
+        ensures succeeds { B.Item.is_infallible value → IsOk result }
     {
         let len = self.len();
-        if n <= len {
-            return match self.cut_to_clones(n, &x) {
+        if new_len <= len {
+            return match self.cut_to_clones(new_len, &value) {
                 Ok(()) => Ok(()),
-                Err(_) => Err(NoMemory(x)),
+                Err(_) => Err(NoMemory(value)),
             };
         }
-        match self.grow_by_clones(n, &x) {
+        match self.grow_by_clones(new_len, &value) {
             Ok(()) => Ok(()),
-            Err(_) => Err(NoMemory(x)),
+            Err(_) => Err(NoMemory(value)),
         }
     }
 

@@ -25,7 +25,7 @@ where
     }
 
     /// Calls `predicate` on the last item, and takes the item if it returns `true`. Otherwise the item stays, as `predicate`
-    /// left it. Of an empty list nothing is called.
+    /// left it. Calls nothing if the list is empty.
     pub fn pop_if<F: FnOnce(&mut B::Item) -> bool>(&mut self, predicate: F) -> Option<B::Item>
         requires { (x : B.Item) → slice_get (items_of B.Lent self.old) (len_of B.Lent self.old - 1) ≡ Some x
             → FnOnceTakesAtMut F.FnOnce predicate x }

@@ -97,7 +97,7 @@ pub fn partial_cmp_slices<T: PartialOrd>(a: &[T], b: &[T]) -> Option<Ordering>
     partial_order_at(a, b, first)
 }
 
-// The same, where `first` is the first pair that is not equal, or how many pairs there are.
+// The same, if `first` is the first pair that is not equal, or how many pairs there are.
 #[inline(always)]
 fn partial_order_at<T: PartialOrd>(a: &[T], b: &[T], first: usize) -> Option<Ordering>
     requires { DiffersAt T.eq a.now b.now first }
@@ -123,7 +123,7 @@ pub fn cmp_slices<T: Ord>(a: &[T], b: &[T]) -> Ordering
     order_at(a, b, first)
 }
 
-// The same, where `first` is the first pair that is not equal, or how many pairs there are.
+// The same, if `first` is the first pair that is not equal, or how many pairs there are.
 #[inline(always)]
 fn order_at<T: Ord>(a: &[T], b: &[T], first: usize) -> Ordering
     requires { DiffersAt T.eq a.now b.now first }

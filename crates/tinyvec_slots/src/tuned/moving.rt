@@ -132,7 +132,7 @@ pub fn close_gap<T>(items: &mut [T], start: usize, gap: usize) -> usize
     let start = start.min(len);
     let gap = gap.min(len - start);
     let behind = len - start - gap;
-    // Where all that follows fits the gap, one swap of blocks beats a rotation.
+    // If all that follows fits the gap, one swap of blocks beats a rotation.
     if behind <= gap {
         swap_ends(&mut items[start..], behind);
         return len - gap;
