@@ -138,7 +138,7 @@ returns-in_err-grow-in_default g c =
       len = chosen answer _ _ (never_ok _ answer err) (on_err answer (ap length grown.refused.items));
       if_clones_equal = λ _. chosen answer _ _ (never_ok _ answer err) (on_err answer grown.refused.items);
       place = never_ok _ answer err;
-      slots = never_ok _ answer err;
+      slot_rule = never_ok _ answer err;
       room = room_refused _ _ _ _ answer err (grown.refused.capacity g.A.Array.CAPACITY) grown.fits;
       succeeds = λ fits _. absurd (false≢true (grown.succeeds fits));
       kept = on_err answer grown.refused.items;
@@ -167,7 +167,7 @@ returns-in_ok-grow-in_default g c =
           λ rule. chosen answer _ _ (on_ok_weaker answer (λ h. h.1 ∙ ap (λ l. l ++ h.0) grown.items ∙ ap (λ l. tiny_items old ++ l) (same_from_all_zip C ys h.0 h.2 rule)) made.items)
           (on_err_weaker answer (λ h. h ∙ grown.items) made.kept);
       place = on_ok_weaker answer (λ _. granted.0) made.items;
-      slots = on_ok_two answer made.items made.spare (λ h spare.
+      slot_rule = on_ok_two answer made.items made.spare (λ h spare.
           tiny_slots_grown g.A.Item.Default.is_default old mid new (length ys) grown.stays made.place (appends_len C (tiny_items mid) (tiny_items new) ys h) spare);
       room = room_made _ _ old new answer g.A.Item.Default.is_default _ mid _ refl grown made.capacity made.fits;
       succeeds = λ _. made.succeeds;
