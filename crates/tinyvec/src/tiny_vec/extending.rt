@@ -301,7 +301,7 @@ impl<A: Array> TinyVec<A> {
         }
     }
 
-    /// Truncates the list to `new_len` items, or fills it up to `new_len` with clones of `value`. Room for all of them is allocated once,
+    /// Truncates the list to `new_len` items, or fills it up with clones of `value`. Room for all of them is allocated once,
     /// before any is cloned. On failure `value` is returned.
     pub fn resize(&mut self, new_len: usize, value: A::Item) -> Result<(), NoMemory<A::Item>>
     where
@@ -370,48 +370,52 @@ impl<A: Array> TinyVec<A> {
         }
     }
 
-    /// Truncates the list to `n` items, or fills it up to `n` with what `f` returns. `f` is called only for these. Room for
+    /// Truncates the list to `new_len` items, or fills it up with what `f` returns. `f` is called only for these. Room for
     /// all of them is allocated once, before the first call.
     pub fn resize_with<F: FnMut() -> A::Item>(
         &mut self,
-        n: usize,
+        new_len: usize,
         mut f: F,
     ) -> Result<(), AllocError>
         requires { F.IsAlwaysCallable f }
-        ensures items { OnOk result (AppendsResults F.step (take n (tiny_items self.old)) (tiny_items self.new) f) }
-        ensures len { OnOk result (tiny_len self.new ≡ n) }
-        ensures place { OnOk result (PlaceRule A.CAPACITY (max n (tiny_len self.old)) self.old self.new) }
+        ensures items { OnOk result (AppendsResults F.step (take new_len (tiny_items self.old)) (tiny_items self.new) f) }
+        ensures len { OnOk result (tiny_len self.new ≡ new_len) }
+        ensures place { OnOk result (PlaceRule A.CAPACITY (max new_len (tiny_len self.old)) self.old self.new) }
         ensures slot_rule { TinySlotRule A.Item.is_default self.old self.new }
-        ensures room { RoomGrows GrowsFor A.CAPACITY n self.old self.new result }
+        ensures room { RoomGrows GrowsFor A.CAPACITY new_len self.old self.new result }
 
         // If there is room it allocates nothing.
-        ensures succeeds { n ≤ tiny_capacity A.CAPACITY self.old → IsOk result }
-        ensures full { OnErr result (tiny_capacity A.CAPACITY self.old < n) }
+        ensures succeeds { new_len ≤ tiny_capacity A.CAPACITY self.old → IsOk result }
+        ensures full { OnErr result (tiny_capacity A.CAPACITY self.old < new_len) }
         ensures refused { OnErr result (Unchanged self.old self.new) }
     {
-        self.resize_asked(n, &mut f)
+        self.resize_asked(new_len, &mut f)
     }
 
     // `resize_with`, and the state in which the last call leaves `f`.
-    fn resize_asked<F: FnMut() -> A::Item>(&mut self, n: usize, f: &mut F) -> Result<(), AllocError>
+    fn resize_asked<F: FnMut() -> A::Item>(
+        &mut self,
+        new_len: usize,
+        f: &mut F,
+    ) -> Result<(), AllocError>
         requires { F.IsAlwaysCallable f.old }
         ensures items { OnOk result (AppendsResultsTo F.step
-            (take n (tiny_items self.old)) (tiny_items self.new) f.old f.new) }
-        ensures len { OnOk result (tiny_len self.new ≡ n) }
-        ensures place { OnOk result (PlaceRule A.CAPACITY (max n (tiny_len self.old)) self.old self.new) }
+            (take new_len (tiny_items self.old)) (tiny_items self.new) f.old f.new) }
+        ensures len { OnOk result (tiny_len self.new ≡ new_len) }
+        ensures place { OnOk result (PlaceRule A.CAPACITY (max new_len (tiny_len self.old)) self.old self.new) }
         ensures slot_rule { TinySlotRule A.Item.is_default self.old self.new }
-        ensures room { RoomGrows GrowsFor A.CAPACITY n self.old self.new result }
-        ensures succeeds { n ≤ tiny_capacity A.CAPACITY self.old → IsOk result }
-        ensures full { OnErr result (tiny_capacity A.CAPACITY self.old < n) }
+        ensures room { RoomGrows GrowsFor A.CAPACITY new_len self.old self.new result }
+        ensures succeeds { new_len ≤ tiny_capacity A.CAPACITY self.old → IsOk result }
+        ensures full { OnErr result (tiny_capacity A.CAPACITY self.old < new_len) }
         ensures refused { OnErr result (Unchanged self.old self.new × (f.new ≡ f.old)) }
     {
         let len = self.len();
-        if n > len {
-            self.reserve(n - len)?;
-            self.push_answers(n, f);
+        if new_len > len {
+            self.reserve(new_len - len)?;
+            self.push_answers(new_len, f);
             return Ok(());
         }
-        self.truncate(n);
+        self.truncate(new_len);
         Ok(())
     }
 

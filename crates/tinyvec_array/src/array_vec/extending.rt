@@ -262,7 +262,7 @@ impl<A: Array> ArrayVec<A> {
         }
     }
 
-    /// Truncates the list to `new_len` items, or fills it up to `new_len` with clones of `value`. Only clones allocate.
+    /// Truncates the list to `new_len` items, or fills it up with clones of `value`. Only clones allocate.
     pub fn resize(&mut self, new_len: usize, value: A::Item) -> Result<(), NoMemory<A::Item>>
     where
         A::Item: Clone,
@@ -297,17 +297,17 @@ impl<A: Array> ArrayVec<A> {
         }
     }
 
-    /// Truncates the list to `n` items, or fills it up to `n` with what `f` returns. Calls `f` once for each missing item.
-    pub fn resize_with<F: FnMut() -> A::Item>(&mut self, n: usize, mut f: F)
-        requires room { n ≤ A.CAPACITY }
+    /// Truncates the list to `new_len` items, or fills it up with what `f` returns. Calls `f` once for each missing item.
+    pub fn resize_with<F: FnMut() -> A::Item>(&mut self, new_len: usize, mut f: F)
+        requires room { new_len ≤ A.CAPACITY }
         requires callable { F.IsAlwaysCallable f }
-        ensures items { AppendsResults F.step (take n (items self.old)) (items self.new) f }
-        ensures len { items_len self.new ≡ n }
+        ensures items { AppendsResults F.step (take new_len (items self.old)) (items self.new) f }
+        ensures len { items_len self.new ≡ new_len }
         ensures slot_rule { SlotRule A.Item.is_default self.old self.new }
         ensures fits { items_len self.new ≤ A.CAPACITY }
     {
-        self.truncate(n);
-        while self.len() < n {
+        self.truncate(new_len);
+        while self.len() < new_len {
             self.push(f());
         }
     }

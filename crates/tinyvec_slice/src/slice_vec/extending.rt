@@ -157,7 +157,7 @@ impl<B: Lent> GenericSliceVec<B> {
         }
     }
 
-    /// Truncates the list to `new_len` items, or fills it up to `new_len` with clones of `value`. The slots that a cut vacates are filled
+    /// Truncates the list to `new_len` items, or fills it up with clones of `value`. The slots that a cut vacates are filled
     /// with clones of `value` too, the last slot first. Only clones allocate.
     pub fn resize(&mut self, new_len: usize, value: B::Item) -> Result<(), NoMemory<B::Item>>
     where
@@ -249,26 +249,26 @@ impl<B: Lent> GenericSliceVec<B> {
         Ok(())
     }
 
-    /// Truncates the list to `n` items, or fills it up to `n` with what `f` returns. The slots that a cut vacates are filled
+    /// Truncates the list to `new_len` items, or fills it up with what `f` returns. The slots that a cut vacates are filled
     /// with what `f` returns too, the last slot first.
-    pub fn resize_with<F: FnMut() -> B::Item>(&mut self, n: usize, mut f: F)
-        requires room { n ≤ length (slots_of B.Lent self.old) }
+    pub fn resize_with<F: FnMut() -> B::Item>(&mut self, new_len: usize, mut f: F)
+        requires room { new_len ≤ length (slots_of B.Lent self.old) }
         requires callable { F.IsAlwaysCallable f }
         ensures same_reference { name_of B.Lent self.new ≡ name_of B.Lent self.old }
         ensures slot_count { length (slots_of B.Lent self.new) ≡ length (slots_of B.Lent self.old) }
-        ensures len { len_of B.Lent self.new ≡ n }
-        ensures grown { len_of B.Lent self.old ≤ n
+        ensures len { len_of B.Lent self.new ≡ new_len }
+        ensures grown { len_of B.Lent self.old ≤ new_len
             → AppendsResults F.step (items_of B.Lent self.old) (items_of B.Lent self.new) f
-            × (spare_of B.Lent self.new ≡ drop (n - len_of B.Lent self.old) (spare_of B.Lent self.old)) }
-        ensures cut { n ≤ len_of B.Lent self.old → (items_of B.Lent self.new ≡ take n (items_of B.Lent self.old))
-            × ((ys : List B.Item) × AppendsResults F.step [] ys f × (length ys ≡ len_of B.Lent self.old - n)
+            × (spare_of B.Lent self.new ≡ drop (new_len - len_of B.Lent self.old) (spare_of B.Lent self.old)) }
+        ensures cut { new_len ≤ len_of B.Lent self.old → (items_of B.Lent self.new ≡ take new_len (items_of B.Lent self.old))
+            × ((ys : List B.Item) × AppendsResults F.step [] ys f × (length ys ≡ len_of B.Lent self.old - new_len)
             × (spare_of B.Lent self.new ≡ reverse ys ++ spare_of B.Lent self.old)) }
     {
-        if n <= self.len() {
-            self.cut_to_answers(n, &mut f);
+        if new_len <= self.len() {
+            self.cut_to_answers(new_len, &mut f);
             return;
         }
-        self.grow_by_answers(n, &mut f);
+        self.grow_by_answers(new_len, &mut f);
     }
 
     // Fills the list up to `n` items with what `f` returns.

@@ -12,7 +12,7 @@ returns-then-prefers_shifting_in-clause-spare g c =
       after.0 ∷ [],
       (refl, one),
       rw (c.set_len.ensures.value, after.2, c.slots_mut.ensures.value, ← len.field)
-          (drop-removed (all_slots c.args.self.now) c.args.index c.len-len.result after.0 (omega (arith, c.requires, len.value)) (omega (arith, len.fits, len.slots))),
+          (drop-removed (all_slots c.args.self.now) c.args.index c.len-len.result after.0 (omega (arith, c.requires, len.value)) (omega (arith, len.fits, len.slot_count))),
     )
 
 pub returns-clause-items : goal.returns-clause-items
