@@ -17,7 +17,7 @@ invariant_of-self g c =
     let list = c.self.inside.list in
     let joined : tiny_items c.extend_from_slice.new.self ≡ tiny_items list ++ c.args.string.now = search rules in
     text_kept list c.extend_from_slice.new.self (λ i. (c.in-Ok.ensures.place.0 i).0) c.in-Ok.ensures.slot_rule c.self.invariant
-    (subst IsUtf8 (sym joined) (IsUtf8-append _ _ (text_utf8 list c.self.invariant) c.utf8.s))
+    (subst IsUtf8 (sym joined) (IsUtf8-append _ _ (text_utf8 list c.self.invariant) c.utf8.string))
 
 pub returns-clause-text : goal.returns-clause-text
 returns-clause-text g c =
