@@ -172,7 +172,7 @@ impl<const N: usize> InlineText<N> {
             ≡ chars (take index self.old.bytes) ++ chars string.now ++ chars (drop index self.old.bytes)) }
         ensures room { MakesRoom self.old.inline N (text_len self.old + length string.now) self.old self.new result }
     {
-        self.replace_range(index..i, string)
+        self.replace_range(index..index, string)
     }
 
     /// Puts `replace_with` in the place of the range, whose ends are boundaries. Allocates only if the bytes don't fit.
@@ -211,7 +211,7 @@ impl<const N: usize> InlineText<N> {
         let (c, width) = first_char(&self.list.as_slice()[index..]);
         // Shows the proof that the list fits.
         let _len = self.list.len();
-        drop(self.list.drain(index..i + width));
+        drop(self.list.drain(index..index + width));
         c
     }
 
