@@ -1,5 +1,6 @@
 //! Reading and writing an array's slots.
 ghost use Rattle.std.specs.Prelude.{◌≡◌, ◌<◌, ◌≤◌, length, slice_index_or, slice_set};
+ghost use Rattle.tinyvec_slots.specs.Ranges.{Within};
 
 use crate::Array;
 use std::mem;
@@ -33,8 +34,7 @@ pub(crate) fn bounded_index(i: usize, most: usize) -> usize
 // Whether the slots from `start` up to `end` are moved one by one. For an `A` of few slots the result is a constant.
 #[inline(always)]
 pub(crate) fn prefers_shifting_in<A: Array>(array: &A, start: usize, end: usize) -> bool
-    requires start_le_end { start ≤ end }
-    requires in_bounds { end ≤ A.CAPACITY }
+    requires { Within start end A.CAPACITY }
 {
     let slots = array.as_slice();
     prefers_shifting(slots) || prefers_shifting(&slots[start..end])

@@ -34,4 +34,6 @@ pub use tuned::cloning::{
 pub use tuned::comparing::{cmp_slices, eq_slices, hash_items, partial_cmp_slices};
 pub use tuned::moving::{close_gap, last_to, move_to_end, move_to_end_below};
 pub use tuned::resetting::fill_default;
-pub use tuned::shifting::{insert_shifting, prefers_shifting, prefers_swaps, remove_shifting};
+pub use tuned::shifting::{insert_shifting, prefers_swaps, remove_shifting};
+pub use tuned::sizes::{fit_registers, prefers_shifting};
+pub use tuned::taking::take_all;

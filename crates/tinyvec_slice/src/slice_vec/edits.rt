@@ -1,6 +1,6 @@
 //! Items that are pushed, popped, inserted, removed and cut off.
 ghost use Rattle.std.specs.Prelude.{◌≡◌, ◌-◌, ◌<◌, ◌↔◌, [], ◌∷◌, ◌++◌, length, take, drop, slice_get, slice_index_or, IsSome, OnSome, IfNone, IfSome, ◌≤◌, remove, insert};
-ghost use Rattle.tinyvec_slice.specs.SliceVec.{items_of, spare_of, slots_of, name_of, len_of, VacatesOf, items, spare};
+ghost use Rattle.tinyvec_slice.specs.SliceVec.{items_of, spare_of, len_of, VacatesOf, items, spare, SameLender};
 ghost use Rattle.std.specs.List.{swap_remove, SwappedAt};
 
 use crate::{GenericSliceVec, Lent, SliceVec};
@@ -11,8 +11,7 @@ impl<B: Lent> GenericSliceVec<B> {
     /// Appends `value`.
     pub fn push(&mut self, value: B::Item)
         requires { 0 < length (spare_of B.Lent self.old) }
-        ensures same_reference { name_of B.Lent self.new ≡ name_of B.Lent self.old }
-        ensures slot_count { length (slots_of B.Lent self.new) ≡ length (slots_of B.Lent self.old) }
+        ensures lender { SameLender B.Lent self.old self.new }
         ensures items { items_of B.Lent self.new ≡ items_of B.Lent self.old ++ value ∷ [] }
         ensures spare { spare_of B.Lent self.new ≡ drop 1 (spare_of B.Lent self.old) }
     {
@@ -25,8 +24,7 @@ impl<B: Lent> GenericSliceVec<B> {
     pub fn insert(&mut self, index: usize, element: B::Item)
         requires in_list { index ≤ len_of B.Lent self.old }
         requires room { 0 < length (spare_of B.Lent self.old) }
-        ensures same_reference { name_of B.Lent self.new ≡ name_of B.Lent self.old }
-        ensures slot_count { length (slots_of B.Lent self.new) ≡ length (slots_of B.Lent self.old) }
+        ensures lender { SameLender B.Lent self.old self.new }
         ensures items { items_of B.Lent self.new ≡ insert (items_of B.Lent self.old) index element }
         ensures spare { spare_of B.Lent self.new ≡ drop 1 (spare_of B.Lent self.old) }
     {
@@ -45,8 +43,7 @@ impl<B: Lent> GenericSliceVec<B> {
     fn swap_items(&mut self, i: usize, j: usize)
         requires first { i < len_of B.Lent self.old }
         requires second { j < len_of B.Lent self.old }
-        ensures same_reference { name_of B.Lent self.new ≡ name_of B.Lent self.old }
-        ensures slot_count { length (slots_of B.Lent self.new) ≡ length (slots_of B.Lent self.old) }
+        ensures lender { SameLender B.Lent self.old self.new }
         ensures swapped { SwappedAt (items_of B.Lent self.old) (items_of B.Lent self.new) i j }
         ensures len { len_of B.Lent self.new ≡ len_of B.Lent self.old }
         ensures spare { spare_of B.Lent self.new ≡ spare_of B.Lent self.old }
@@ -61,8 +58,7 @@ where
 {
     /// Removes the last item and returns it. Its slot is reset to a default.
     pub fn pop(&mut self) -> Option<B::Item>
-        ensures same_reference { name_of B.Lent self.new ≡ name_of B.Lent self.old }
-        ensures slot_count { length (slots_of B.Lent self.new) ≡ length (slots_of B.Lent self.old) }
+        ensures lender { SameLender B.Lent self.old self.new }
         ensures variant { IsSome result ↔ (0 < len_of B.Lent self.old) }
         ensures some { IfSome result (λ x. items_of B.Lent self.old ≡ items_of B.Lent self.new ++ x ∷ []) }
         ensures value { result ≡ slice_get (items_of B.Lent self.old) (len_of B.Lent self.old - 1) }
@@ -79,8 +75,7 @@ where
     // Takes the last item.
     pub(crate) fn take_last(&mut self) -> B::Item
         requires { 0 < len_of B.Lent self.old }
-        ensures same_reference { name_of B.Lent self.new ≡ name_of B.Lent self.old }
-        ensures slot_count { length (slots_of B.Lent self.new) ≡ length (slots_of B.Lent self.old) }
+        ensures lender { SameLender B.Lent self.old self.new }
         ensures items { items_of B.Lent self.old ≡ items_of B.Lent self.new ++ result ∷ [] }
         ensures rest { items_of B.Lent self.new ≡ take (len_of B.Lent self.old - 1) (items_of B.Lent self.old) }
         ensures value { result ≡ slice_index_or (items_of B.Lent self.old) (len_of B.Lent self.old - 1) result }
@@ -99,8 +94,7 @@ where
     /// Removes the item at `index` and returns it. The later ones move down.
     pub fn remove(&mut self, index: usize) -> B::Item
         requires { index < len_of B.Lent self.old }
-        ensures same_reference { name_of B.Lent self.new ≡ name_of B.Lent self.old }
-        ensures slot_count { length (slots_of B.Lent self.new) ≡ length (slots_of B.Lent self.old) }
+        ensures lender { SameLender B.Lent self.old self.new }
         ensures value { result ≡ slice_index_or (items_of B.Lent self.old) index result }
         ensures items { items_of B.Lent self.new ≡ remove (items_of B.Lent self.old) index }
         ensures spare { VacatesOf B.Lent B.Item.is_default 1 self.old self.new }
@@ -118,8 +112,7 @@ where
     /// Removes the item at `index` and returns it. The last one takes its place.
     pub fn swap_remove(&mut self, index: usize) -> B::Item
         requires { index < len_of B.Lent self.old }
-        ensures same_reference { name_of B.Lent self.new ≡ name_of B.Lent self.old }
-        ensures slot_count { length (slots_of B.Lent self.new) ≡ length (slots_of B.Lent self.old) }
+        ensures lender { SameLender B.Lent self.old self.new }
         ensures value { result ≡ slice_index_or (items_of B.Lent self.old) index result }
         ensures items { items_of B.Lent self.new ≡ swap_remove (items_of B.Lent self.old) index result }
         ensures spare { VacatesOf B.Lent B.Item.is_default 1 self.old self.new }
@@ -136,8 +129,7 @@ where
 {
     /// Keeps the first `new_len` items, or all if there are no more. Each vacated slot is reset to a default.
     pub fn truncate(&mut self, new_len: usize)
-        ensures same_reference { name_of B.Lent self.new ≡ name_of B.Lent self.old }
-        ensures slot_count { length (slots_of B.Lent self.new) ≡ length (slots_of B.Lent self.old) }
+        ensures lender { SameLender B.Lent self.old self.new }
         ensures items { items_of B.Lent self.new ≡ take new_len (items_of B.Lent self.old) }
         ensures spare { VacatesOf B.Lent B.Item.is_default (len_of B.Lent self.old - new_len) self.old self.new }
     {
@@ -150,8 +142,7 @@ where
 
     /// Empties the list. Each vacated slot is reset to a default.
     pub fn clear(&mut self)
-        ensures same_reference { name_of B.Lent self.new ≡ name_of B.Lent self.old }
-        ensures slot_count { length (slots_of B.Lent self.new) ≡ length (slots_of B.Lent self.old) }
+        ensures lender { SameLender B.Lent self.old self.new }
         ensures items { items_of B.Lent self.new ≡ [] }
         ensures spare { VacatesOf B.Lent B.Item.is_default (len_of B.Lent self.old) self.old self.new }
     {
