@@ -8,6 +8,7 @@ mod gap;
 mod in_slots;
 mod no_memory;
 mod no_room;
+mod owned;
 mod parts;
 mod printing;
 mod range;
@@ -22,6 +23,7 @@ pub use gap::Gap;
 pub use in_slots::InSlots;
 pub use no_memory::NoMemory;
 pub use no_room::{FromIterRest, NoRoom, SpliceRest};
+pub use owned::{OwnedItems, OwnsItems, into_items};
 pub use parts::{part_of, slot_of};
 pub use printing::{
     InBinary, InHex, InOctal, InUpperHex, ItemText, Plain, write_items, write_named,

@@ -19,7 +19,7 @@ use std::hash::{Hash, Hasher};
 use std::ops::{DerefSlice, DerefSliceMut, Index, IndexMut};
 use std::{fmt, slice};
 use tinyvec_slots::{
-    InBinary, InHex, InOctal, InUpperHex, Plain, cmp_slices, eq_slices, hash_items,
+    InBinary, InHex, InOctal, InUpperHex, Plain, cmp_slices, eq_slices, hash_items, into_items,
     partial_cmp_slices, slot_of, write_items,
 };
 
@@ -118,8 +118,7 @@ impl<A: Array> IntoIterator for ArrayVec<A> {
         ensures both_ends { GivesFromEnds result }
         ensures into_iter_gives { IteratesOver (items self) result }
     {
-        let len = self.len();
-        ArrayVecIterator::over(self.array, len)
+        into_items(self)
     }
 }
 
