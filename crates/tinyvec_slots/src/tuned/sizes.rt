@@ -37,12 +37,6 @@ pub(crate) fn are_large<T>(items: &[T]) -> bool {
     items.len() * mem::size_of::<T>() / 16 > items.len()
 }
 
-/// Whether an item takes 8 bytes or more.
-#[inline(always)]
-pub(crate) fn are_words<T>(items: &[T]) -> bool {
-    items.len() * mem::size_of::<T>() / 8 >= items.len()
-}
-
 /// Whether all items together take up to 128 bytes.
 #[inline(always)]
 pub fn prefers_shifting<T>(items: &[T]) -> bool {
