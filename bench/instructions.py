@@ -11,8 +11,10 @@ import shutil
 import subprocess
 import tempfile
 
-COUNTER = ["valgrind", "--tool=callgrind", "--combine-dumps=yes"]
-ROWS = ["--zero-before=*::begin_rounds*", "--dump-before=*::end_rounds*"]
+COUNTER = [
+    "valgrind", "--tool=callgrind", "--combine-dumps=yes",
+    "--zero-before=*::begin_rounds*", "--dump-before=*::end_rounds*",
+]
 
 # The whole of it: some copies of the C library take 7 or 14 instructions more or fewer by the alignment of the stack, and that
 # depends on the length of the environment and of the program's name. Every call is bound before it starts. The C library copies
@@ -43,7 +45,7 @@ def counted(command):
     """The rounds and instructions of each row."""
     with tempfile.TemporaryDirectory() as folder:
         counts = f"{folder}/counts"
-        printed = run(command, counts, ROWS, stdout=subprocess.PIPE)
+        printed = run(command, counts, stdout=subprocess.PIPE)
         with open(counts, encoding="utf-8") as file:
             totals = totals_of(file)
     rows = [line.split() for line in printed.splitlines()]
@@ -56,18 +58,17 @@ def of_run(command, source):
     """The instructions of a run that reads the file."""
     with tempfile.TemporaryDirectory() as folder, open(source, "rb") as lines:
         counts = f"{folder}/counts"
-        run(command, counts, [], stdin=lines, stdout=subprocess.DEVNULL)
+        run(command, counts, stdin=lines, stdout=subprocess.DEVNULL)
         with open(counts, encoding="utf-8") as file:
             return next(int(line.split()[1]) for line in file if line.startswith("totals:"))
 
 
-def run(command, counts, words, **streams):
+def run(command, counts, **streams):
     """Runs the program, writes its counts to the file of this name, and returns what it printed."""
-    program, *arguments = command
-    counter = [shutil.which(COUNTER[0]), *COUNTER[1:], *words, f"--callgrind-out-file={counts}"]
+    program, *words = command
     ran = subprocess.run(
-        [*counter, f"./{program.name}", *arguments], check=True, stderr=subprocess.DEVNULL, text=True, cwd=program.parent,
-        env=ENVIRONMENT, **streams,
+        [shutil.which(COUNTER[0]), *COUNTER[1:], f"--callgrind-out-file={counts}", f"./{program.name}", *words],
+        check=True, stderr=subprocess.DEVNULL, text=True, cwd=program.parent, env=ENVIRONMENT, **streams,
     )
     return ran.stdout
 
