@@ -39,7 +39,7 @@ module _ {A T : Type 0} where
   -- the three rules, as they are seen
   pub ruled : (D : T → Type 0) (slots need : ℕ) (old new : TinyVec A T) → PlaceRule slots need old new → TinySlotRule D old new
       → tiny_capacity slots old ≤ tiny_capacity slots new → KeepsRoom slots need old new → Ruled D slots need (tiny_of old) (tiny_of new)
-  ruled D slots need (Inline v a) (Inline w b) place slot keeps same = record { place_rule = place; slot_rule = λ i j. slot; keeps_room = keeps; same_room = same }
+  ruled D slots need (Inline v a) (Inline w b) place slot keeps same = record { place_rule = place; slot_rule = slot; keeps_room = keeps; same_room = same }
   ruled D slots need (Inline v a) (Heap w) place slot keeps same = record { place_rule = place; slot_rule = λ i j. search rules; keeps_room = keeps; same_room = same }
   ruled D slots need (Heap v) (Inline w b) place slot keeps same = record { place_rule = place; slot_rule = λ i j. search rules; keeps_room = keeps; same_room = same }
   ruled D slots need (Heap v) (Heap w) place slot keeps same = record { place_rule = place; slot_rule = λ i j. search rules; keeps_room = keeps; same_room = same }

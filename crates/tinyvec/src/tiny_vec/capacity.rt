@@ -23,20 +23,8 @@ impl<A: Array> TinyVec<A> {
         ensures fits { tiny_len self.new ≤ tiny_capacity A.CAPACITY self.new }
         ensures refused { OnErr result (Unchanged self.old self.new) }
     {
-        match self {
-            TinyVec::Inline(v, alloc) => {
-                let len = v.len();
-                let more = if len > usize::MAX - len {
-                    1
-                } else {
-                    len.max(1)
-                };
-                let heap = v.drain_to_vec_and_reserve(*alloc, more)?;
-                *self = TinyVec::Heap(heap);
-                Ok(())
-            }
-            TinyVec::Heap(v) => grow_heap(v, 1),
-        }
+        let len = self.len();
+        self.grow(len.max(1))
     }
 
     /// Reserves room for `additional` items more. An inline list whose array has no such room moves to the heap. If there is room
@@ -70,6 +58,18 @@ impl<A: Array> TinyVec<A> {
             }
             TinyVec::Heap(v) => grow_heap(v, n),
         }
+    }
+
+    // Moves an inline list to the heap, with room for `n` items more.
+    fn leave_array(&mut self, n: usize) -> Result<(), AllocError>
+        requires { IsInline self.old }
+        ensures { MovesToHeapWithRoom A.CAPACITY n self.old self.new result }
+    {
+        if let TinyVec::Inline(v, alloc) = self {
+            let heap = v.drain_to_vec_and_reserve(*alloc, n)?;
+            *self = TinyVec::Heap(heap);
+        }
+        Ok(())
     }
 
     /// The same as `reserve`.
@@ -123,9 +123,8 @@ impl<A: Array> TinyVec<A> {
     pub fn move_to_the_heap(&mut self) -> Result<(), AllocError>
         ensures { MovesToHeap A.CAPACITY self.old self.new result }
     {
-        if let TinyVec::Inline(v, alloc) = self {
-            let heap = v.drain_to_vec(*alloc)?;
-            *self = TinyVec::Heap(heap);
+        if self.is_inline() {
+            return self.leave_array(0);
         }
         Ok(())
     }
@@ -142,11 +141,7 @@ impl<A: Array> TinyVec<A> {
         ensures { MovesToHeapWithRoom A.CAPACITY additional self.old self.new result }
     {
         match self {
-            TinyVec::Inline(v, alloc) => {
-                let heap = v.drain_to_vec_and_reserve(*alloc, additional)?;
-                *self = TinyVec::Heap(heap);
-                Ok(())
-            }
+            TinyVec::Inline(_, _) => self.leave_array(additional),
             TinyVec::Heap(_) => self.reserve(additional),
         }
     }

@@ -7,7 +7,7 @@ ghost use Rattle.tinyvec.specs.Refused.{RefusedFor};
 ghost use Rattle.tinyvec.specs.Room.{GrowsFor, RoomGrows};
 
 use crate::TinyVec;
-use crate::cloning::push_clones;
+use crate::tuned::push_clones;
 use std::alloc::AllocError;
 use tinyvec_array::Array;
 use tinyvec_slots::clone_over;

@@ -7,11 +7,11 @@ ghost use Rattle.tinyvec.specs.Refused.{RefusedFor, ClonesBehind};
 ghost use Rattle.tinyvec.specs.Room.{GrowsFor, RoomGrows, Grows};
 ghost use Rattle.tinyvec_slots.specs.Slots.{AreDefaults, items, spare, items_len};
 ghost use Rattle.std.specs.Iterator.{IsFinite, Drains, YieldsThen};
-ghost use Rattle.tinyvec_slots.specs.Filling.{ShowsItems, IntoIterYields, AppendsResultsTo};
+ghost use Rattle.tinyvec_slots.specs.Filling.{ShowsItems, IntoIterYields};
 ghost use Rattle.tinyvec.specs.Following.{Follows};
 
 use crate::TinyVec;
-use crate::cloning::{push_clones, push_clones_of, push_copies};
+use crate::tuned::{push_clones, push_clones_of, push_copies};
 use std::alloc::{AllocError, Global};
 use std::mem;
 use tinyvec_array::{Array, ArrayVec, FromIterRest, NoMemory, NoRoom};
@@ -389,30 +389,10 @@ impl<A: Array> TinyVec<A> {
         ensures full { OnErr result (tiny_capacity A.CAPACITY self.old < new_len) }
         ensures refused { OnErr result (Unchanged self.old self.new) }
     {
-        self.resize_asked(new_len, &mut f)
-    }
-
-    // `resize_with`, and the state in which the last call leaves `f`.
-    fn resize_asked<F: FnMut() -> A::Item>(
-        &mut self,
-        new_len: usize,
-        f: &mut F,
-    ) -> Result<(), AllocError>
-        requires { F.IsAlwaysCallable f.old }
-        ensures items { OnOk result (AppendsResultsTo F.step
-            (take new_len (tiny_items self.old)) (tiny_items self.new) f.old f.new) }
-        ensures len { OnOk result (tiny_len self.new ≡ new_len) }
-        ensures place { OnOk result (PlaceRule A.CAPACITY (max new_len (tiny_len self.old)) self.old self.new) }
-        ensures slot_rule { TinySlotRule A.Item.is_default self.old self.new }
-        ensures room { RoomGrows GrowsFor A.CAPACITY new_len self.old self.new result }
-        ensures succeeds { new_len ≤ tiny_capacity A.CAPACITY self.old → IsOk result }
-        ensures full { OnErr result (tiny_capacity A.CAPACITY self.old < new_len) }
-        ensures refused { OnErr result (Unchanged self.old self.new × (f.new ≡ f.old)) }
-    {
         let len = self.len();
         if new_len > len {
             self.reserve(new_len - len)?;
-            self.push_answers(new_len, f);
+            self.push_answers(new_len, &mut f);
             return Ok(());
         }
         self.truncate(new_len);
@@ -424,7 +404,7 @@ impl<A: Array> TinyVec<A> {
         requires longer { tiny_len self.old ≤ n }
         requires room { n ≤ tiny_capacity A.CAPACITY self.old }
         requires callable { F.IsAlwaysCallable f.old }
-        ensures items { AppendsResultsTo F.step (tiny_items self.old) (tiny_items self.new) f.old f.new }
+        ensures items { AppendsResults F.step (tiny_items self.old) (tiny_items self.new) f.old }
         ensures len { tiny_len self.new ≡ n }
         ensures spare { tiny_spare self.new ≡ drop (n - tiny_len self.old) (tiny_spare self.old) }
         ensures place { is_inline self.new ≡ is_inline self.old }

@@ -1,4 +1,5 @@
 use Rattle.std.proofs.Common.{◌≤◌, length, ap, ◌∙◌, rules}
+use Rattle.std.proofs.lemmas.Bool.{false≢true}
 use Rattle.std.proofs.lemmas.List.Edits.{length-insert}
 use Rattle.tinyvec_slots.specs.Slots.{items_len}
 use Rattle.tinyvec.specs.TinyVec.{tiny_items}
@@ -12,8 +13,8 @@ returns-clause-slot_rule g c = elim c.match-self.branch [
       let v = w.in-Inline.v in
       let put = w.insert.ensures in
       let in_list : c.args.index ≤ items_len v = rw w.in-Inline.is at c.requires in
-      rw (w.in-Inline.is, w.self-is) (slots_inserted g.A.Item.Default.is_default v w.insert.new.self c.args.index c.args.element in_list put.items put.spare)
-  | in-Heap w ↦ rw w.in-Heap.is tt
+      rw (w.in-Inline.is, w.self-is) (λ _ _. slots_inserted g.A.Item.Default.is_default v w.insert.new.self c.args.index c.args.element in_list put.items put.spare)
+  | in-Heap w ↦ rw w.in-Heap.is (λ i _. absurd (false≢true i))
   | in_default+else-is_err w ↦ search rules
 ]
 

@@ -3,11 +3,11 @@ use Rattle.std.specs.Prelude.{OnOk}
 use Rattle.std.specs.Result.{is_err}
 use Rattle.std.proofs.lemmas.Bool.{false≢true, eqb-true, eqb-false}
 use Rattle.tinyvec_slots.specs.Slots.{Slots, items, items_len, spare}
-use Rattle.tinyvec.specs.TinyVec.{tiny_items, tiny_len, tiny_capacity, is_inline, PlaceRule, TinySlotRule}
+use Rattle.tinyvec.specs.TinyVec.{tiny_items, tiny_len, tiny_capacity, is_inline, IsInline, PlaceRule, TinySlotRule}
 use Rattle.tinyvec.specs.Room.{Doubles, KeepsRoom}
 use Rattle.tinyvec.specs.declared.tiny_vec.TinyVec.{TinyVec}
 use Rattle.tinyvec.specs.declared.tiny_vec.TinyVec.TheVariants.{Inline, Heap}
-use Rattle.tinyvec.proofs.TinyLemmas.{slots_pushed}
+use Rattle.tinyvec.proofs.TinyLemmas.{slots_pushed, capacity_inline}
 use Rattle.tinyvec.proofs.RefusedLemmas.{place_kept}
 use Rattle.tinyvec.proofs.tiny_vec.TinyVec.push.Goals.{in-Inline, in-Heap, in_default+else-is_err, in_default-via-in-Inline+else-not-is_full, in_default-via-in-Heap+else-len-capacity}
 use Rattle.tinyvec.proofs.tiny_vec.TinyVec.push.Goals as goal
@@ -33,7 +33,7 @@ module _ {A T : Type 0} (D : T → Type 0) (slots : ℕ) (x : T) where
   in_array v w a room is behind fits = record {
     items_are = is;
     place = place_kept {A = A} slots (items_len v + 1) (Inline v a) (Inline w a) refl (omega (arith, room));
-    slot_rule = slots_pushed D v w x is behind;
+    slot_rule = λ _ _. slots_pushed D v w x is behind;
     doubles = λ less. absurd (omega (arith, less, room));
     capacity = le_refl slots;
     same_room = λ _. refl;
@@ -44,7 +44,7 @@ module _ {A T : Type 0} (D : T → Type 0) (slots : ℕ) (x : T) where
   on_heap v w room is same = record {
     items_are = is;
     place = ((λ i. absurd (false≢true i)), λ h. absurd (false≢true h.0));
-    slot_rule = tt;
+    slot_rule = λ i _. absurd (false≢true i);
     doubles = λ less. absurd (omega (arith, less, room, v.ok.0));
     capacity = omega (arith, same);
     same_room = λ _. same;
@@ -54,10 +54,9 @@ module _ {A T : Type 0} (D : T → Type 0) (slots : ℕ) (x : T) where
   -- a full list moved to the heap
   moved : (old new : TinyVec A T) → tiny_len old ≡ tiny_capacity slots old → is_inline new ≡ false
       → PlaceRule slots (tiny_len old + 1) old new × TinySlotRule D old new
-  moved (Inline v a) (Inline w b) full out = absurd (false≢true (sym out))
-  moved (Inline v a) (Heap w) full out = (((λ i. absurd (false≢true i)), λ h. absurd (omega (arith, full, h.1))), tt)
-  moved (Heap v) (Inline w b) full out = absurd (false≢true (sym out))
-  moved (Heap v) (Heap w) full out = (((λ i. absurd (false≢true i)), λ h. absurd (false≢true h.0)), tt)
+  moved old new full out =
+      let outside : IsInline new → ⊥ = λ j. false≢true (sym out ∙ j) in
+      ((λ j. absurd (outside j), λ h. absurd (omega (arith, full, h.1, capacity_inline slots old h.0))), λ _ j. absurd (outside j))
 
   -- it grew first
   grown : (old mid new : TinyVec A T) → tiny_len old ≡ tiny_capacity slots old → tiny_items mid ≡ tiny_items old → is_inline mid ≡ false

@@ -1,4 +1,4 @@
-//! Clones and copies appended to a `Vec` that has room for them.
+//! What is tuned for LLVM: clones and copies appended to a `Vec` that has room for them.
 //!
 //! Each loop works on a local variable, whose length and pointer LLVM keeps in registers. Through a reference it cannot,
 //! since the items might overlap the vector.

@@ -1,7 +1,7 @@
 use Rattle.std.proofs.Common.{[], ◌≡◌, replicate, refl, sym, ap, ◌∙◌, arith, take, take_at, append-nil, vec_len, vec_capacity}
 use Rattle.std.proofs.lemmas.List.{length-replicate}
 use Rattle.tinyvec.proofs.CloneLemmas.{appends_copy, appends_len}
-use Rattle.tinyvec.proofs.cloning.push_clones_of.Goals as goal
+use Rattle.tinyvec.proofs.tuned.push_clones_of.Goals as goal
 
 pub loop-i-init : goal.loop-i-init
 loop-i-init g c = (([], sym (append-nil c.replace-vec.result.items), tt), refl)

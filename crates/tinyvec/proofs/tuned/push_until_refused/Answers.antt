@@ -1,6 +1,6 @@
 use Rattle.std.proofs.Common.{rules, refl, ◌+◌, arith}
 use Rattle.tinyvec.proofs.CloneLemmas.{appends_of_next, refused_at}
-use Rattle.tinyvec.proofs.cloning.push_until_refused.Goals as goal
+use Rattle.tinyvec.proofs.tuned.push_until_refused.Goals as goal
 
 pub returns-in_default-clone-clause-refused : goal.returns-in_default-clone-clause-refused
 returns-in_default-clone-clause-refused g c = λ _.

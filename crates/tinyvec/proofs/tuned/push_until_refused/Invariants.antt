@@ -1,6 +1,6 @@
 use Rattle.std.proofs.Common.{◌≡◌, ◌≤◌, ◌-◌, ◌+◌, take, length, vec_len, vec_capacity}
 use Rattle.std.specs.List.{AppendsClones}
-use Rattle.tinyvec.proofs.cloning.push_until_refused.Given as goal
+use Rattle.tinyvec.proofs.tuned.push_until_refused.Given as goal
 
 abbrev pub invariant-loop-done : goal.invariant-loop-done
 invariant-loop-done g l = record {

@@ -1,6 +1,6 @@
 use Rattle.std.proofs.Common.{◌∙◌, arith}
 use Rattle.tinyvec.proofs.CloneLemmas.{appended_further}
-use Rattle.tinyvec.proofs.cloning.push_blocks.Goals as goal
+use Rattle.tinyvec.proofs.tuned.push_blocks.Goals as goal
 
 pub loop-done-preserved : goal.loop-done-preserved
 loop-done-preserved g c =

@@ -1,5 +1,5 @@
 use Rattle.tinyvec_slots.proofs.ClonesOverLemmas.{all_granted}
-use Rattle.tinyvec.proofs.cloning.push_clones.Goals as goal
+use Rattle.tinyvec.proofs.tuned.push_clones.Goals as goal
 
 pub returns-then-pushed-from-clause-succeeds : goal.returns-then-pushed-from-clause-succeeds
 returns-then-pushed-from-clause-succeeds g c = λ all.
