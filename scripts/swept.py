@@ -1,10 +1,16 @@
-"""Rows whose start begins with `each byte`: such a case is also cut, failed and interrupted at each byte.
+"""Rows whose start begins with `each byte` or `each item`.
+
+Of two equal lists that are compared, each item of the second is made greater in turn, by the number after `each item`.
+
+A case of `each byte` is also cut, failed and interrupted at each byte.
 
 Where the input of a script fails, its complete lines are answered; where the output fails, its first bytes are written. A value
 of the Borsh form that is cut is told as the end of the input, and any failure but an interruption as a fault."""
 import rows
 
 MARK = "each byte"
+ITEM_MARK = "each item"
+EQUAL, LESS = "Some(Equal) Some(Equal) true", "Some(Less) Some(Greater) false"
 # In what is wanted: whatever the calls of the reader and the writer were.
 ANY = ".."
 # So many bytes are told in digits, where they are no text.
@@ -13,6 +19,9 @@ MOST_DIGITS = 40
 
 def expanded(chain):
     """The chain without its mark, and the cases that follow from it."""
+    if chain.start.startswith(ITEM_MARK):
+        more, start = chain.start.removeprefix(ITEM_MARK).split(maxsplit=1)
+        return of_items(made(chain, start, chain.calls), int(more))
     if not chain.start.startswith(MARK):
         return [chain]
     plain = made(chain, chain.start.removeprefix(MARK).strip(), chain.calls)
@@ -23,6 +32,21 @@ def made(chain, start, calls):
     new = rows.Chain(chain.path, chain.kind, start)
     new.calls = list(calls)
     return new
+
+
+def of_items(chain, more):
+    """The chain, and for each item of the second list the case in which that one is greater."""
+    yield chain
+    ((where, call, wanted),) = chain.calls
+    first, second = rows.canonical(chain.start).split(" and ")
+    place, _, slots = second.rpartition("[")
+    items, bar, spare = slots.partition("|") if "|" in slots else (slots[:-1], "", "]")
+    items = items.split(",") if items else []
+    for i, item in enumerate(items):
+        greater = ",".join([*items[:i], str(int(item) + more), *items[i + 1 :]])
+        start = f"{first} and {place}[{greater}{bar}{spare}"
+        left = f" {start}" if wanted != EQUAL else ""
+        yield made(chain, start, [(f"{where}, item {i}", call, LESS + left)])
 
 
 def of_script(chain):

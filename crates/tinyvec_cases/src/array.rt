@@ -2,16 +2,22 @@
 ghost use Rattle.tinyvec_array.specs.Drain.{DrainCanStep};
 ghost use Rattle.tinyvec_array.specs.Splice.{SpliceCanStep};
 
+use crate::held::Copies;
 use crate::vector::Vector;
+use std::alloc::AllocError;
+use std::fmt::Write;
 use std::iter::Fuse;
 use std::{mem, vec};
-use tinyvec::{Array, ArrayVec, ArrayVecDrain, ArrayVecIterator, ArrayVecSplice, NoRoom};
+use tinyvec::{
+    Array, ArrayVec, ArrayVecDrain, ArrayVecIterator, ArrayVecSplice, FromIterRest, NoRoom,
+};
 use tinyvec_rows::{
-    Item, Span, Wrong, done, is_within, say, say_all, say_left, say_refused, say_rest, say_slots,
+    Item, Read, Span, Words, Wrong, counted, done, is_within, say, say_all, say_left, say_refused,
+    say_rest, say_slots, say_text,
 };
 
 /// The vector of a list and the slots after it.
-pub fn made<T: Item, A: Array<Item = T>>(slots: (Vec<T>, Vec<T>)) -> Result<ArrayVec<A>, Wrong> {
+pub fn made<T: Read, A: Array<Item = T>>(slots: (Vec<T>, Vec<T>)) -> Result<ArrayVec<A>, Wrong> {
     let (list, spare) = slots;
     let len = list.len();
     let mut array = A::default();
@@ -46,6 +52,13 @@ impl<T: Item, A: Array<Item = T>> Vector for ArrayVec<A> {
 
     fn pop(&mut self) -> Option<T> {
         self.pop()
+    }
+
+    fn pop_if_even(&mut self, more: i32) -> Option<T> {
+        self.pop_if(|x| {
+            x.add(more);
+            x.number() % 2 == 0
+        })
     }
 
     fn remove(&mut self, i: usize, out: &mut String) -> Result<(), Wrong> {
@@ -136,6 +149,13 @@ impl<T: Item, A: Array<Item = T>> Vector for ArrayVec<A> {
             return Err(Wrong::Place);
         }
         done(out, self.extend_from_slice(with))
+    }
+
+    fn extend_from_within(&mut self, n: usize, out: &mut String) -> Result<(), Wrong> {
+        if n > self.len() || n > self.capacity() - self.len() {
+            return Err(Wrong::Place);
+        }
+        done(out, self.extend_from_within(..n))
     }
 
     fn resize(&mut self, n: usize, x: T, out: &mut String) -> Result<(), Wrong> {
@@ -268,31 +288,107 @@ impl<T: Item, A: Array<Item = T>> Vector for ArrayVec<A> {
     }
 
     fn copy(&self, out: &mut String) -> Result<(), Wrong> {
-        self.clone()?.say_state(out)
+        match self.clone() {
+            Ok(copy) => copy.say_state(out),
+            Err(error) => say(out, &error),
+        }
     }
 
     fn into_iter(&mut self, steps: &[&str], out: &mut String) -> Result<(), Wrong> {
         iterated(mem::replace(self, ArrayVec::new()).into_iter(), steps, out)
     }
 
-    fn own(&mut self, name: &str, n: usize, out: &mut String) -> Result<(), Wrong> {
+    fn own(&mut self, name: &str, words: &mut Words<'_>, out: &mut String) -> Result<(), Wrong> {
+        let alloc = words.alloc;
         match name {
-            "pop_if_even" => say(out, &self.pop_if(|x| x.number() % 2 == 0)),
-            "pop_if_next_even" => say(
+            "drain_to_vec" => say_drained(self.drain_to_vec(alloc), out),
+            "try_drain_to_vec" => say_drained(self.try_drain_to_vec(alloc), out),
+            "drain_to_vec_and_reserve" => say_drained(
+                self.drain_to_vec_and_reserve(alloc, words.index()?),
                 out,
-                &self.pop_if(|x| {
-                    x.add(1);
-                    x.number() % 2 == 0
-                }),
             ),
-            "extend_from_within" => {
-                if n > self.len() || n > self.capacity() - self.len() {
-                    return Err(Wrong::Place);
-                }
-                done(out, self.extend_from_within(..n))
+            "try_drain_to_vec_and_reserve" => say_drained(
+                self.try_drain_to_vec_and_reserve(alloc, words.index()?),
+                out,
+            ),
+            _ => {
+                let old = mem::replace(self, ArrayVec::new());
+                *self = remade(old, name, words, out)?;
+                Ok(())
             }
-            _ => Err(Wrong::Call),
         }
+    }
+}
+
+// Writes the items that came out, and how much room they have.
+fn say_drained<T: Item>(
+    drained: Result<Vec<T>, AllocError>,
+    out: &mut String,
+) -> Result<(), Wrong> {
+    match drained {
+        Ok(vec) => {
+            say_slots(out, vec.as_slice(), &[])?;
+            say(out, &vec.capacity())
+        }
+        Err(error) => say(out, &error),
+    }
+}
+
+// A vector that is made of the slots of another, or of items.
+fn remade<T: Item, A: Array<Item = T>>(
+    old: ArrayVec<A>,
+    name: &str,
+    words: &mut Words<'_>,
+    out: &mut String,
+) -> Result<ArrayVec<A>, Wrong> {
+    match name {
+        "new" => Ok(ArrayVec::new()),
+        "default" => Ok(ArrayVec::default()),
+        "from" => Ok(ArrayVec::from(old.into_inner())),
+        "from_array" => Ok(ArrayVec::from_array(old.into_inner())),
+        "from_array_empty" => Ok(ArrayVec::from_array_empty(old.into_inner())),
+        "try_from_array_len" => match ArrayVec::try_from_array_len(
+            old.into_inner(),
+            words.index()?,
+        ) {
+            Ok(v) => Ok(v),
+            Err(array) => {
+                say_text(out, "refused")?;
+                Ok(ArrayVec::from_array_empty(array))
+            }
+        },
+        "try_from_slice" => match ArrayVec::try_from_slice(words.items()?.as_slice()) {
+            Ok(v) => Ok(v),
+            Err(error) => {
+                say(out, &error)?;
+                Ok(old)
+            }
+        },
+        "from_iter" => match ArrayVec::from_iter(words.items()?) {
+            Ok(v) => Ok(v),
+            Err(FromIterRest { vec, item, rest }) => {
+                say_rest(out, &item, rest)?;
+                Ok(vec)
+            }
+        },
+        _ => Err(Wrong::Call),
+    }
+}
+
+impl<T: Item + Copy, A: Array<Item = T>> Copies for ArrayVec<A> {
+    fn extend_from_slice_copy(&mut self, with: &[T], _out: &mut String) -> Result<(), Wrong> {
+        if with.len() > self.remaining_capacity() {
+            return Err(Wrong::Place);
+        }
+        self.extend_from_slice_copy(with);
+        Ok(())
+    }
+
+    fn replace_range(&mut self, range: Span, with: &[T], out: &mut String) -> Result<(), Wrong> {
+        if !is_within(range, self.len()) {
+            return Err(Wrong::Place);
+        }
+        done(out, self.replace_range(range, with))
     }
 }
 
@@ -309,6 +405,7 @@ fn drained<T: Item, A: Array<Item = T>>(
             "next" => say(out, &drain.next())?,
             "back" => say(out, &drain.next_back())?,
             "left" => say_left(out, drain)?,
+            "debug" => say(out, drain)?,
             _ => return Err(Wrong::Value),
         }
     }
@@ -330,6 +427,7 @@ fn spliced<T: Item, A: Array<Item = T>>(
             "back" => say(out, &splice.next_back())?,
             "left" => say(out, &((*splice).len(), (*splice).size_hint()))?,
             "touches" => say(out, &(*splice).touches())?,
+            "debug" => write!(out, "{splice:?} ")?,
             _ => return Err(Wrong::Value),
         }
     }
@@ -349,7 +447,14 @@ fn iterated<T: Item, A: Array<Item = T>>(
             "left" => say_left(out, &it)?,
             "debug" => say(out, &it)?,
             "slice" => say_slots(out, it.as_slice(), &[])?,
-            _ => return Err(Wrong::Value),
+            "clone" => say(out, &it.clone()?)?,
+            "last" => return say(out, &it.last()),
+            "count" => return say(out, &it.count()),
+            step => match counted(step)? {
+                ("nth", count) => say(out, &it.nth(count))?,
+                ("nth_back", count) => say(out, &it.nth_back(count))?,
+                _ => return Err(Wrong::Value),
+            },
         }
     }
     Ok(())

@@ -1,4 +1,5 @@
 //! The calls of a row.
+use crate::held::Held;
 use crate::vector::Vector;
 use std::alloc::Global;
 use tinyvec_rows::{Closure, Counter, Item, Words, Wrong, say, say_slots, window};
@@ -12,13 +13,20 @@ pub fn answer<V: Vector>(
     pair: bool,
     calls: &str,
     out: &mut String,
-) -> Result<(), Wrong> {
+) -> Result<(), Wrong>
+where
+    V::Item: Held<V>,
+{
     for call in calls.split('\t') {
         let (refused, mut words) = window::read(alloc, call)?;
+        let name = words.word();
         // No request of the row's own falls into the window.
         out.reserve(4096)?;
         window::open(alloc, refused);
-        let answered = edit(v, other, &mut words, out);
+        let answered = match V::Item::call(v, other, name, &mut words, out) {
+            Err(Wrong::Call) => edit(v, other, name, &mut words, out),
+            answered => answered,
+        };
         window::close(alloc);
         answered?;
         v.say_state(out)?;
@@ -35,13 +43,16 @@ pub fn answer<V: Vector>(
 fn edit<V: Vector>(
     v: &mut V,
     other: &mut V,
+    name: &str,
     words: &mut Words<'_>,
     out: &mut String,
 ) -> Result<(), Wrong> {
-    match words.word() {
+    match name {
         "push" => v.push(words.item()?, out),
         "try_push" => v.try_push(words.item()?, out),
         "pop" => say(out, &v.pop()),
+        "pop_if_even" => say(out, &v.pop_if_even(0)),
+        "pop_if_next_even" => say(out, &v.pop_if_even(1)),
         "pop_at" => v.pop_at(words.index()?, out),
         "insert" => v.insert(words.index()?, words.item()?, out),
         "try_insert" => v.try_insert(words.index()?, words.item()?, out),
@@ -71,6 +82,12 @@ fn join<V: Vector>(
     out: &mut String,
 ) -> Result<(), Wrong> {
     match name {
+        "push_all" => {
+            for x in words.items()? {
+                v.push(x, out)?;
+            }
+            Ok(())
+        }
         "append" => v.append(other, out),
         "try_append" => v.try_append(other, out),
         "append_if_fits" => v.append_if_fits(other, out),
@@ -81,6 +98,7 @@ fn join<V: Vector>(
         "fill" => v.fill(words.items()?, out),
         "extend_from_slice" => v.extend_from_slice(words.items()?.as_slice(), out),
         "try_extend_from_slice" => v.try_extend_from_slice(words.items()?.as_slice(), out),
+        "extend_from_within" => v.extend_from_within(words.index()?, out),
         "resize" => v.resize(words.index()?, words.item()?, out),
         "into_iter" => v.into_iter(words.rest()?.as_slice(), out),
         name => cut(v, name, words, out),
@@ -120,7 +138,7 @@ fn cut<V: Vector>(
             v.resize_with(n, || counter.next(), out)?;
             say(out, &counter.calls())
         }
-        _ => v.own(name, words.index().unwrap_or(0), out),
+        _ => v.own(name, words, out),
     }
 }
 

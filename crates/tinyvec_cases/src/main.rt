@@ -3,6 +3,8 @@
 
 mod array;
 mod calls;
+mod compare;
+mod held;
 mod slice;
 mod starts;
 mod tiny;

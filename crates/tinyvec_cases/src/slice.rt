@@ -1,7 +1,9 @@
 //! Rows of a `SliceVec`.
 ghost use Rattle.tinyvec_slice.specs.Drain.{DrainCanStep};
 
+use crate::held::Copies;
 use crate::vector::Vector;
+use std::fmt::Write;
 use tinyvec::{GenericSliceVecDrain, Lent, NoRoom, SliceVec};
 use tinyvec_rows::{
     Item, Span, Wrong, done, is_within, say, say_all, say_hint, say_rest, say_slots,
@@ -25,6 +27,13 @@ impl<'s, T: Item> Vector for SliceVec<'s, T> {
 
     fn pop(&mut self) -> Option<T> {
         self.pop()
+    }
+
+    fn pop_if_even(&mut self, more: i32) -> Option<T> {
+        self.pop_if(|x| {
+            x.add(more);
+            x.number() % 2 == 0
+        })
     }
 
     fn remove(&mut self, i: usize, out: &mut String) -> Result<(), Wrong> {
@@ -117,6 +126,13 @@ impl<'s, T: Item> Vector for SliceVec<'s, T> {
         done(out, self.extend_from_slice(with))
     }
 
+    fn extend_from_within(&mut self, n: usize, out: &mut String) -> Result<(), Wrong> {
+        if n > self.len() || n > self.capacity() - self.len() {
+            return Err(Wrong::Place);
+        }
+        done(out, self.extend_from_within(..n))
+    }
+
     fn resize(&mut self, n: usize, x: T, out: &mut String) -> Result<(), Wrong> {
         if n > self.capacity() {
             return Err(Wrong::Place);
@@ -158,27 +174,9 @@ impl<'s, T: Item> Vector for SliceVec<'s, T> {
         }
         drained(&mut self.drain(range), steps, out)
     }
-
-    fn own(&mut self, name: &str, n: usize, out: &mut String) -> Result<(), Wrong> {
-        match name {
-            "pop_if_even" => say(out, &self.pop_if(|x| x.number() % 2 == 0)),
-            "pop_if_next_even" => say(
-                out,
-                &self.pop_if(|x| {
-                    x.add(1);
-                    x.number() % 2 == 0
-                }),
-            ),
-            "extend_from_within" => {
-                if n > self.len() || n > self.capacity() - self.len() {
-                    return Err(Wrong::Place);
-                }
-                done(out, self.extend_from_within(..n))
-            }
-            _ => Err(Wrong::Call),
-        }
-    }
 }
+
+impl<'s, T: Item + Copy> Copies for SliceVec<'s, T> {}
 
 /// Does steps at a drain, and writes what each answers.
 fn drained<T: Item, B: Lent<Item = T>>(
@@ -192,6 +190,7 @@ fn drained<T: Item, B: Lent<Item = T>>(
         match *step {
             "next" => say(out, &drain.next())?,
             "hint" => say_hint(out, drain)?,
+            "debug" => say(out, drain)?,
             _ => return Err(Wrong::Value),
         }
     }

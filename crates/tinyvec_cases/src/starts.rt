@@ -1,9 +1,13 @@
 //! The vectors that rows begin with.
-use crate::{array, calls, tiny};
+use crate::held::Held;
+use crate::{array, calls, compare, tiny};
+use std::alloc::Global;
 use tinyvec::{Array, ArrayVec, SliceVec, TinyVec};
-use tinyvec_rows::{Item, Words, Wrong};
+use tinyvec_rows::{Read, Words, Wrong, say_text};
 
 type Boxed = Option<Box<i32>>;
+
+type Wide = (u64, u64, u64);
 
 /// Makes the vectors of a row, and answers its calls.
 pub fn answer(words: &mut Words<'_>, calls: &str, out: &mut String) -> Result<(), Wrong> {
@@ -36,12 +40,68 @@ fn answer_array(
         "[i32;7]" => of_array::<i32, [i32; 7]>(words, calls, out),
         "[i32;8]" => of_array::<i32, [i32; 8]>(words, calls, out),
         "[i32;10]" => of_array::<i32, [i32; 10]>(words, calls, out),
+        "[u8;0]" => of_array::<u8, [u8; 0]>(words, calls, out),
+        "[u8;3]" => of_array::<u8, [u8; 3]>(words, calls, out),
         "[u8;4]" => of_array::<u8, [u8; 4]>(words, calls, out),
-        "[u8;8]" => of_array::<u8, [u8; 8]>(words, calls, out),
+        "[u8;5]" => of_array::<u8, [u8; 5]>(words, calls, out),
+        "[u8;6]" => of_array::<u8, [u8; 6]>(words, calls, out),
+        "[u8;10]" => of_array::<u8, [u8; 10]>(words, calls, out),
+        "[u8;100]" => of_array::<u8, [u8; 100]>(words, calls, out),
         "[();4]" => of_array::<(), [(); 4]>(words, calls, out),
         "[Box;4]" => of_array::<Boxed, [Boxed; 4]>(words, calls, out),
+        "[Box;21]" => of_array::<Boxed, [Boxed; 21]>(words, calls, out),
+        _ => compared_array(held, words, calls, out),
+    }
+}
+
+// Items that are only compared and shown.
+fn compared_array(
+    held: &str,
+    words: &mut Words<'_>,
+    calls: &str,
+    out: &mut String,
+) -> Result<(), Wrong> {
+    match held {
+        "[u64;200]" => {
+            let (v, w, _) = arrays::<u64, [u64; 200]>(words)?;
+            compare::say_compared(&v, &w, v.as_slice(), out)
+        }
+        "[u128;100]" => {
+            let (v, w, _) = arrays::<u128, [u128; 100]>(words)?;
+            compare::say_compared(&v, &w, v.as_slice(), out)
+        }
+        "[Wide;20]" => {
+            let (v, w, _) = arrays::<Wide, [Wide; 20]>(words)?;
+            compare::say_compared(&v, &w, v.as_slice(), out)
+        }
+        "[f64;2]" => {
+            let (v, w, _) = arrays::<f64, [f64; 2]>(words)?;
+            compare::answer(words.alloc, &v, &w, calls, out)
+        }
+        "[f64;70]" => {
+            let (v, w, _) = arrays::<f64, [f64; 70]>(words)?;
+            compare::answer(words.alloc, &v, &w, calls, out)
+        }
+        "[char;3]" => {
+            let (v, w, _) = arrays::<char, [char; 3]>(words)?;
+            compare::answer(words.alloc, &v, &w, calls, out)
+        }
         _ => Err(Wrong::Vector),
     }
+}
+
+// A type parameter `T` would have to hold for each lifetime of a lent slice.
+macro_rules! lend {
+    ($item:ty, $words:ident, $calls:ident, $out:ident) => {{
+        let (mut slots, len) = lent::<$item>($words)?;
+        let (mut others, other_len, pair) = lent_after_and::<$item>($words)?;
+        let (one, two) = ((slots.as_mut_slice(), len), (others.as_mut_slice(), other_len));
+        let shown = of_slices::<$item>($words.alloc, one, two, pair, $calls, $out)?;
+        if !slots.starts_with(shown.as_slice()) {
+            say_text($out, "but the owner of the slots sees others")?;
+        }
+        Ok(())
+    }};
 }
 
 fn answer_slice(
@@ -51,10 +111,17 @@ fn answer_slice(
     out: &mut String,
 ) -> Result<(), Wrong> {
     match held {
-        "i32" => of_slice::<i32>(words, calls, out),
-        "u8" => of_slice::<u8>(words, calls, out),
-        "()" => of_slice::<()>(words, calls, out),
-        "Box" => of_slice::<Boxed>(words, calls, out),
+        "i32" => lend!(i32, words, calls, out),
+        "u8" => lend!(u8, words, calls, out),
+        "()" => lend!((), words, calls, out),
+        "Box" => lend!(Boxed, words, calls, out),
+        "f64" => {
+            let (mut one, len) = lent::<f64>(words)?;
+            let (mut two, other_len, _) = lent_after_and::<f64>(words)?;
+            let v = SliceVec::from_slice_at_most(one.as_mut_slice(), len);
+            let w = SliceVec::from_slice_at_most(two.as_mut_slice(), other_len);
+            compare::answer(words.alloc, &v, &w, calls, out)
+        }
         _ => Err(Wrong::Vector),
     }
 }
@@ -74,44 +141,66 @@ fn answer_tiny(
         "[i32;5]" => of_tiny::<i32, [i32; 5]>(words, calls, out),
         "[i32;8]" => of_tiny::<i32, [i32; 8]>(words, calls, out),
         "[i32;10]" => of_tiny::<i32, [i32; 10]>(words, calls, out),
+        "[i32;70]" => of_tiny::<i32, [i32; 70]>(words, calls, out),
+        "[u8;0]" => of_tiny::<u8, [u8; 0]>(words, calls, out),
+        "[u8;2]" => of_tiny::<u8, [u8; 2]>(words, calls, out),
+        "[u8;3]" => of_tiny::<u8, [u8; 3]>(words, calls, out),
         "[u8;4]" => of_tiny::<u8, [u8; 4]>(words, calls, out),
+        "[u8;5]" => of_tiny::<u8, [u8; 5]>(words, calls, out),
+        "[u8;6]" => of_tiny::<u8, [u8; 6]>(words, calls, out),
+        "[u8;10]" => of_tiny::<u8, [u8; 10]>(words, calls, out),
         "[();2]" => of_tiny::<(), [(); 2]>(words, calls, out),
         "[Box;4]" => of_tiny::<Boxed, [Boxed; 4]>(words, calls, out),
+        "[Box;21]" => of_tiny::<Boxed, [Boxed; 21]>(words, calls, out),
+        "[f64;2]" => {
+            let (v, w, _) = tinies::<f64, [f64; 2]>(words)?;
+            compare::answer(words.alloc, &v, &w, calls, out)
+        }
+        "[char;3]" => {
+            let (v, w, _) = tinies::<char, [char; 3]>(words)?;
+            compare::answer(words.alloc, &v, &w, calls, out)
+        }
         _ => Err(Wrong::Vector),
     }
 }
 
-fn of_array<T: Item, A: Array<Item = T>>(
+fn of_array<T: Held<ArrayVec<A>>, A: Array<Item = T>>(
     words: &mut Words<'_>,
     calls: &str,
     out: &mut String,
 ) -> Result<(), Wrong> {
-    let mut v = array::made::<T, A>(words.slots()?)?;
-    let pair = words.word() == "and";
-    let mut other = if pair {
-        array::made::<T, A>(words.slots()?)?
-    } else {
-        ArrayVec::new()
-    };
+    let (mut v, mut other, pair) = arrays::<T, A>(words)?;
     calls::answer(words.alloc, &mut v, &mut other, pair, calls, out)
 }
 
-// The slots are lent to the vector.
-fn of_slice<T: Item>(words: &mut Words<'_>, calls: &str, out: &mut String) -> Result<(), Wrong> {
-    let (mut slots, len) = lent::<T>(words)?;
-    let pair = words.word() == "and";
-    let (mut others, other_len) = if pair {
-        lent::<T>(words)?
-    } else {
-        (Vec::new(words.alloc), 0)
-    };
-    let mut v = SliceVec::from_slice_at_most(slots.as_mut_slice(), len);
-    let mut other = SliceVec::from_slice_at_most(others.as_mut_slice(), other_len);
-    calls::answer(words.alloc, &mut v, &mut other, pair, calls, out)
+// Both vectors of a row, and whether it names the second.
+fn arrays<T: Read, A: Array<Item = T>>(
+    words: &mut Words<'_>,
+) -> Result<(ArrayVec<A>, ArrayVec<A>, bool), Wrong> {
+    let v = array::made::<T, A>(words.slots()?)?;
+    if words.word() == "and" {
+        return Ok((v, array::made::<T, A>(words.slots()?)?, true));
+    }
+    Ok((v, ArrayVec::new(), false))
+}
+
+// Lends the slots of a row to its vectors. What they show of them, their owner has to see.
+fn of_slices<'s, T: Held<SliceVec<'s, T>>>(
+    alloc: Global,
+    slots: (&'s mut [T], usize),
+    others: (&'s mut [T], usize),
+    pair: bool,
+    calls: &str,
+    out: &mut String,
+) -> Result<Vec<T>, Wrong> {
+    let mut v = SliceVec::from_slice_at_most(slots.0, slots.1);
+    let mut other = SliceVec::from_slice_at_most(others.0, others.1);
+    calls::answer(alloc, &mut v, &mut other, pair, calls, out)?;
+    Ok(v.as_inner().to_vec(alloc)?)
 }
 
 // All slots, and how many of them are the list.
-fn lent<T: Item>(words: &mut Words<'_>) -> Result<(Vec<T>, usize), Wrong> {
+fn lent<T: Read>(words: &mut Words<'_>) -> Result<(Vec<T>, usize), Wrong> {
     let (mut slots, spare) = words.slots::<T>()?;
     let len = slots.len();
     for x in spare {
@@ -120,23 +209,36 @@ fn lent<T: Item>(words: &mut Words<'_>) -> Result<(Vec<T>, usize), Wrong> {
     Ok((slots, len))
 }
 
-fn of_tiny<T: Item, A: Array<Item = T>>(
+// The same of the second vector, and whether the row names it.
+fn lent_after_and<T: Read>(words: &mut Words<'_>) -> Result<(Vec<T>, usize, bool), Wrong> {
+    if words.word() == "and" {
+        let (slots, len) = lent(words)?;
+        return Ok((slots, len, true));
+    }
+    Ok((Vec::new(words.alloc), 0, false))
+}
+
+fn of_tiny<T: Held<TinyVec<A>>, A: Array<Item = T>>(
     words: &mut Words<'_>,
     calls: &str,
     out: &mut String,
 ) -> Result<(), Wrong> {
-    let mut v = tiny_of::<T, A>(words)?;
-    let pair = words.word() == "and";
-    let mut other = if pair {
-        tiny_of::<T, A>(words)?
-    } else {
-        TinyVec::new(words.alloc)
-    };
+    let (mut v, mut other, pair) = tinies::<T, A>(words)?;
     calls::answer(words.alloc, &mut v, &mut other, pair, calls, out)
 }
 
-// `inline [1,2|0]`, `heap [1,2]`, or `heap 8 [1,2]` with room for eight items.
-fn tiny_of<T: Item, A: Array<Item = T>>(words: &mut Words<'_>) -> Result<TinyVec<A>, Wrong> {
+fn tinies<T: Read, A: Array<Item = T>>(
+    words: &mut Words<'_>,
+) -> Result<(TinyVec<A>, TinyVec<A>, bool), Wrong> {
+    let v = tiny_of::<T, A>(words)?;
+    if words.word() == "and" {
+        return Ok((v, tiny_of::<T, A>(words)?, true));
+    }
+    Ok((v, TinyVec::new(words.alloc), false))
+}
+
+// `inline [1,2|0]`, `heap [1,2]`, or `room 8 [1,2]` with room for eight items.
+fn tiny_of<T: Read, A: Array<Item = T>>(words: &mut Words<'_>) -> Result<TinyVec<A>, Wrong> {
     let alloc = words.alloc;
     match words.word() {
         "inline" => Ok(tiny::inline(alloc, array::made::<T, A>(words.slots()?)?)),

@@ -2,13 +2,19 @@
 ghost use Rattle.tinyvec.specs.Drain.{DrainCanStep};
 ghost use Rattle.tinyvec.specs.TinyVecSplice.{SpliceCanStep};
 
+use crate::array;
+use crate::held::Copies;
 use crate::vector::Vector;
-use std::alloc::Global;
+use std::alloc::{AllocError, Global};
+use std::fmt::Write;
 use std::iter::Fuse;
 use std::{mem, vec};
-use tinyvec::{Array, ArrayVec, NoRoom, TinyVec, TinyVecDrain, TinyVecIterator, TinyVecSplice};
+use tinyvec::{
+    Array, ArrayVec, FromIterRest, NoRoom, TinyVec, TinyVecDrain, TinyVecIterator, TinyVecSplice,
+};
 use tinyvec_rows::{
-    Item, Span, Wrong, done, is_within, say, say_left, say_refused, say_rest, say_slots, say_text,
+    Item, Read, Span, Words, Wrong, counted, done, is_within, say, say_left, say_refused, say_rest,
+    say_slots, say_text,
 };
 
 /// A list inline, before the slots after it.
@@ -17,7 +23,7 @@ pub fn inline<A: Array>(alloc: Global, array: ArrayVec<A>) -> TinyVec<A> {
 }
 
 /// A list on the heap, with room for this many items or for all of them.
-pub fn heap<T: Item, A: Array<Item = T>>(
+pub fn heap<T: Read, A: Array<Item = T>>(
     alloc: Global,
     list: Vec<T>,
     room: usize,
@@ -60,6 +66,13 @@ impl<T: Item, A: Array<Item = T>> Vector for TinyVec<A> {
 
     fn pop(&mut self) -> Option<T> {
         self.pop()
+    }
+
+    fn pop_if_even(&mut self, more: i32) -> Option<T> {
+        self.pop_if(|x| {
+            x.add(more);
+            x.number() % 2 == 0
+        })
     }
 
     fn remove(&mut self, i: usize, out: &mut String) -> Result<(), Wrong> {
@@ -235,7 +248,17 @@ impl<T: Item, A: Array<Item = T>> Vector for TinyVec<A> {
         )
     }
 
-    fn own(&mut self, name: &str, n: usize, out: &mut String) -> Result<(), Wrong> {
+    fn own(&mut self, name: &str, words: &mut Words<'_>, out: &mut String) -> Result<(), Wrong> {
+        match made_of(name, words, out) {
+            Err(Wrong::Call) => {}
+            Ok(Ok(made)) => {
+                *self = made;
+                return Ok(());
+            }
+            Ok(Err(error)) => return say(out, &error),
+            Err(wrong) => return Err(wrong),
+        }
+        let n = words.index().unwrap_or(0);
         match name {
             "reserve" => done(out, self.reserve(n)),
             "reserve_exact" => done(out, self.reserve_exact(n)),
@@ -248,14 +271,6 @@ impl<T: Item, A: Array<Item = T>> Vector for TinyVec<A> {
                 out,
                 self.try_move_to_the_heap_and_reserve(n),
             ),
-            "pop_if_even" => say(out, &self.pop_if(|x| x.number() % 2 == 0)),
-            "pop_if_next_even" => say(
-                out,
-                &self.pop_if(|x| {
-                    x.add(1);
-                    x.number() % 2 == 0
-                }),
-            ),
             "has_room" => say(out, &(self.capacity() - self.len() >= n)),
             "shrink_to_fit" => {
                 self.shrink_to_fit();
@@ -263,6 +278,60 @@ impl<T: Item, A: Array<Item = T>> Vector for TinyVec<A> {
             }
             _ => Err(Wrong::Call),
         }
+    }
+}
+
+// A vector that is made of items, or of how many there are or find room.
+fn made_of<T: Item, A: Array<Item = T>>(
+    name: &str,
+    words: &mut Words<'_>,
+    out: &mut String,
+) -> Result<Result<TinyVec<A>, AllocError>, Wrong> {
+    let alloc = words.alloc;
+    let made = match name {
+        "new" => Ok(TinyVec::new(alloc)),
+        "with_capacity" => TinyVec::with_capacity(alloc, words.index()?),
+        "with_initial_len" => TinyVec::with_initial_len(alloc, words.index()?),
+        "from_slice" => TinyVec::from_slice(alloc, words.items()?.as_slice()),
+        "from_array" => Ok(TinyVec::from_array(alloc, array_of(words)?)),
+        "try_from_array_len" => match TinyVec::try_from_array_len(
+            alloc,
+            array_of(words)?,
+            words.index()?,
+        ) {
+            Ok(v) => Ok(v),
+            Err(array) => {
+                say_text(out, "refused")?;
+                Ok(TinyVec::from_array(alloc, array))
+            }
+        },
+        "from_iter" => match TinyVec::from_iter(alloc, words.items()?) {
+            Ok(v) => Ok(v),
+            Err(FromIterRest { vec, item, rest }) => {
+                say_rest(out, &item, rest)?;
+                Ok(vec)
+            }
+        },
+        _ => return Err(Wrong::Call),
+    };
+    Ok(made)
+}
+
+// The array of a list of its items.
+fn array_of<T: Item, A: Array<Item = T>>(words: &mut Words<'_>) -> Result<A, Wrong> {
+    Ok(array::made::<T, A>(words.slots()?)?.into_inner())
+}
+
+impl<T: Item + Copy, A: Array<Item = T>> Copies for TinyVec<A> {
+    fn extend_from_slice_copy(&mut self, with: &[T], out: &mut String) -> Result<(), Wrong> {
+        done(out, self.extend_from_slice_copy(with))
+    }
+
+    fn replace_range(&mut self, range: Span, with: &[T], out: &mut String) -> Result<(), Wrong> {
+        if !is_within(range, self.len()) {
+            return Err(Wrong::Place);
+        }
+        done(out, self.replace_range(range, with))
     }
 }
 
@@ -279,6 +348,7 @@ fn drained<T: Item, A: Array<Item = T>>(
             "next" => say(out, &drain.next())?,
             "back" => say(out, &drain.next_back())?,
             "left" => say_left(out, drain)?,
+            "debug" => say(out, drain)?,
             _ => return Err(Wrong::Value),
         }
     }
@@ -300,6 +370,7 @@ fn spliced<T: Item, A: Array<Item = T>>(
             "back" => say(out, &splice.next_back())?,
             "left" => say(out, &((*splice).len(), (*splice).size_hint()))?,
             "touches" => say(out, &(*splice).touches())?,
+            "debug" => write!(out, "{splice:?} ")?,
             _ => return Err(Wrong::Value),
         }
     }
@@ -319,7 +390,14 @@ fn iterated<T: Item, A: Array<Item = T>>(
             "left" => say_left(out, &it)?,
             "debug" => say(out, &it)?,
             "slice" => say_slots(out, it.as_slice(), &[])?,
-            _ => return Err(Wrong::Value),
+            "clone" => say(out, &it.clone()?)?,
+            "last" => return say(out, &it.last()),
+            "count" => return say(out, &it.count()),
+            step => match counted(step)? {
+                ("nth", count) => say(out, &it.nth(count))?,
+                ("nth_back", count) => say(out, &it.nth_back(count))?,
+                _ => return Err(Wrong::Value),
+            },
         }
     }
     Ok(())

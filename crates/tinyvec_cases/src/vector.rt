@@ -1,5 +1,5 @@
 //! The trait of the vectors that rows call.
-use tinyvec_rows::{Item, Span, Wrong};
+use tinyvec_rows::{Item, Span, Words, Wrong};
 
 /// A vector that rows call. A call whose condition does not hold is not made, and the row is wrong. What a call answers is
 /// written to `out`.
@@ -23,6 +23,9 @@ pub trait Vector {
     }
 
     fn pop(&mut self) -> Option<Self::Item>;
+
+    /// Adds to the last item, and takes it if it is then even.
+    fn pop_if_even(&mut self, more: i32) -> Option<Self::Item>;
 
     fn pop_at(&mut self, _i: usize, _out: &mut String) -> Result<(), Wrong> {
         Err(Wrong::Call)
@@ -115,6 +118,10 @@ pub trait Vector {
         Err(Wrong::Call)
     }
 
+    fn extend_from_within(&mut self, _n: usize, _out: &mut String) -> Result<(), Wrong> {
+        Err(Wrong::Call)
+    }
+
     fn resize(&mut self, n: usize, x: Self::Item, out: &mut String) -> Result<(), Wrong>;
 
     fn resize_with<F: FnMut() -> Self::Item>(
@@ -149,8 +156,8 @@ pub trait Vector {
         Err(Wrong::Call)
     }
 
-    /// Calls that only one vector has, by name and number.
-    fn own(&mut self, _name: &str, _n: usize, _out: &mut String) -> Result<(), Wrong> {
+    /// Calls that only one vector has, and those that make one.
+    fn own(&mut self, _name: &str, _words: &mut Words<'_>, _out: &mut String) -> Result<(), Wrong> {
         Err(Wrong::Call)
     }
 }

@@ -12,6 +12,6 @@ pub use answers::{
     done, say, say_all, say_hint, say_left, say_refused, say_rest, say_slots, say_text,
 };
 pub use closure::{Closure, Counter};
-pub use item::Item;
+pub use item::{Item, Read};
 pub use span::{Span, is_within};
-pub use words::{Words, Wrong};
+pub use words::{Words, Wrong, counted};

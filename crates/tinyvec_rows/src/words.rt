@@ -1,5 +1,5 @@
 //! The words of a row.
-use crate::{Item, Span};
+use crate::{Read, Span};
 use std::alloc::{AllocError, AllocFailed, Global};
 use std::ops::Bound;
 use std::str;
@@ -84,17 +84,17 @@ impl<'a> Words<'a> {
         }
     }
 
-    pub fn item<T: Item>(&mut self) -> Result<T, Wrong> {
+    pub fn item<T: Read>(&mut self) -> Result<T, Wrong> {
         T::read(self.alloc, self.word())
     }
 
     /// A list in brackets: `[1,2]`.
-    pub fn items<T: Item>(&mut self) -> Result<Vec<T>, Wrong> {
+    pub fn items<T: Read>(&mut self) -> Result<Vec<T>, Wrong> {
         items_of(self.alloc, inside(self.word(), '[', ']')?)
     }
 
     /// A list and the slots after it: `[1,2|0,0]`.
-    pub fn slots<T: Item>(&mut self) -> Result<(Vec<T>, Vec<T>), Wrong> {
+    pub fn slots<T: Read>(&mut self) -> Result<(Vec<T>, Vec<T>), Wrong> {
         let text = inside(self.word(), '[', ']')?;
         let (list, spare) = text.split_once('|').unwrap_or((text, ""));
         Ok((items_of(self.alloc, list)?, items_of(self.alloc, spare)?))
@@ -126,6 +126,14 @@ impl<'a> Words<'a> {
             return Err(Wrong::Value);
         };
         Ok((bound(start, '>')?, bound(end, '=')?))
+    }
+}
+
+/// The name and the number of a step such as `nth:2`.
+pub fn counted(step: &str) -> Result<(&str, usize), Wrong> {
+    match step.split_once(':') {
+        Some((name, count)) => Ok((name, index_of(count)?)),
+        None => Err(Wrong::Value),
     }
 }
 
@@ -162,7 +170,7 @@ fn inside(text: &str, open: char, close: char) -> Result<&str, Wrong> {
     }
 }
 
-fn items_of<T: Item>(alloc: Global, text: &str) -> Result<Vec<T>, Wrong> {
+fn items_of<T: Read>(alloc: Global, text: &str) -> Result<Vec<T>, Wrong> {
     let mut items = Vec::new(alloc);
     if !text.is_empty() {
         for word in text.split(',') {
