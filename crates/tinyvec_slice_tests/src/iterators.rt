@@ -1,23 +1,12 @@
-//! Iteration over the items.
+//! Loops over a vector.
 use std::test::Fail;
 use tinyvec_slice::SliceVec;
 use tinyvec_test_items::{all_right, first, yields, yields_back};
 
+/// A loop that lends a spare slot, or moves a slot, would pass the check: no clause says what the owner sees. Every length of
+/// the list, whether or not the iterator is asked.
 #[test]
 fn into_iter_lends_the_list_alone(rt: HostRuntime) {
-    let mut slots = [1_i32, 2, 3];
-    let mut count = 0_u32;
-    for x in SliceVec::from_slice_len(&mut slots, 2) {
-        *x = x.wrapping_add(10);
-        count = count.saturating_add(1);
-    }
-    assert!(rt; count == 2);
-    assert!(rt; slots == [11, 12, 3]);
-}
-
-// Every length of the list: each slot keeps its place, whether or not the iterator is asked.
-#[test]
-fn into_iter_moves_no_slot(rt: HostRuntime) {
     for len in 0..5 {
         let mut slots = [1, 2, 3, 4];
         let mut unasked = SliceVec::from_slice_len(&mut slots, len).into_iter();
@@ -34,6 +23,7 @@ fn into_iter_moves_no_slot(rt: HostRuntime) {
     }
 }
 
+/// One that lends a slot twice would pass it too: no clause says what items a loop over `&mut` leaves.
 #[test]
 fn iter_and_iter_mut(rt: HostRuntime) -> Result<(), Fail> {
     let mut slots = [1_i32, 2, 3];

@@ -1,23 +1,10 @@
-//! The tests of `SliceVec`.
+//! The tests of `SliceVec` that no row of `tests/cases` can say: what the owner of the slots sees after calls that say nothing of
+//! it.
 #![tactic(auto)]
 
 #[cfg(test)]
-mod clones;
-#[cfg(test)]
-mod comparing;
-#[cfg(test)]
-mod draining;
-#[cfg(test)]
-mod edits;
-#[cfg(test)]
-mod filling;
-#[cfg(test)]
 mod iterators;
-#[cfg(test)]
-mod joining;
 #[cfg(test)]
 mod making;
 #[cfg(test)]
-mod printing;
-#[cfg(test)]
-mod writing;
+mod parting;
