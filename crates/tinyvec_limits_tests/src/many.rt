@@ -168,7 +168,9 @@ fn lent_slots_are_shifted_and_joined(rt: HostRuntime) -> Result<(), Fail> {
     wrong = first(wrong, 3, v.remove(0) == 1);
     wrong = first(wrong, 4, v.swap_remove(0) == 7);
     wrong = first(wrong, 5, are(v.as_slice(), 65534, 7));
-    other.append(&mut v);
+    if v.len() <= other.remaining_capacity() {
+        other.append(&mut v);
+    }
     wrong = first(wrong, 6, are(other.as_slice(), 65534, 7));
     wrong = first(wrong, 7, are(&slots, 65536, 0));
     all_right(wrong)
