@@ -1,12 +1,10 @@
 use Rattle.std.proofs.Common.{◌≡◌, ◌≤◌, length, vec_len, vec_capacity}
 use Rattle.tinyvec_script.specs.Step.{Run}
-use Rattle.tinyvec_script.specs.Place.{tiny_of}
-use Rattle.tinyvec_script.specs.TinyCalls.{TinyStep}
-use Rattle.tinyvec_script.proofs.runs.tiny.run_tiny.Given as goal
+use Rattle.tinyvec_script.proofs.runs.run_calls.Given as goal
 
 abbrev pub invariant-loop-call : goal.invariant-loop-call
 invariant-loop-call g l = record {
-  run : Run (TinyStep g.A.Item.Default.is_default g.A.Array.CAPACITY) (tiny_of l.fn.vec) l.yielded l.answers.items (tiny_of l.vec);
+  run : Run g.V.AnswersCalls.step l.fn.vec l.yielded l.answers.items l.vec;
   count : vec_len l.answers ≡ length l.yielded;
   room : length l.fn.calls.items ≤ vec_capacity l.answers;
 }
