@@ -1,4 +1,6 @@
-pub mod DrainEnded
 pub mod BothEnds
-pub mod SpliceEnded
+pub mod DrainEnded
+pub mod Pieces
+pub mod Punycode
 pub mod SpliceCounted
+pub mod SpliceEnded
