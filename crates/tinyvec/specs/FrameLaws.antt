@@ -48,7 +48,7 @@ module _ {A T : Type 0} where
     tiny_slots_then_framed (Inline v a) mid (Heap n) h frame = tt
     tiny_slots_then_framed (Heap v) mid new h frame = tt
 
--- a list that stayed in its place, where there was room
+-- a list that stayed in its place, if there was room
 pub place_kept : {A T : Type 0} (slots need : ℕ) (old new : TinyVec A T) → is_inline new ≡ is_inline old → need ≤ tiny_capacity slots old → PlaceRule slots need old new
 place_kept slots need (Inline v a) (Inline w b) same le = (λ i. (i, le), λ h. h.0)
 place_kept slots need (Inline v a) (Heap w) same le = absurd (let no = same in cc)

@@ -41,12 +41,12 @@ module _ {A T : Type 0} where
   tiny_allocator (Inline v alloc) = alloc
   tiny_allocator (Heap v) = vec_allocator v
 
-  -- The place rule: after a call that needs room for `need` items, the list is inline exactly where it was inline and the
+  -- The place rule: after a call that needs room for `need` items, the list is inline exactly if it was inline and the
   -- need is within the slots.
   abbrev pub PlaceRule : ℕ → ℕ → TinyVec A T → TinyVec A T → Type 0
   PlaceRule slots need old new = IsInline new ↔ (IsInline old × (need ≤ slots))
 
-  -- The slot rule of an `ArrayVec`, where the list is inline before and after.
+  -- The slot rule of an `ArrayVec`, if the list is inline before and after.
   abbrev pub TinySlotRule : (T → Type 0) → TinyVec A T → TinyVec A T → Type 0
   TinySlotRule D (Inline v alloc) (Inline w other) = SlotRule D v w
   TinySlotRule D (Inline v alloc) (Heap w) = ⊤
@@ -81,7 +81,7 @@ module _ {A T : Type 0} where
     pub place : is_inline w ≡ is_inline v
     pub room : is_inline w ≡ false → tiny_capacity slots w ≡ tiny_len v
 
-  -- `v.clone()` cannot fail: no clone can, where the list is inline; on the heap an empty list allocates nothing
+  -- `v.clone()` cannot fail: no clone can, if the list is inline; on the heap an empty list allocates nothing
   abbrev pub IsTinyInfallible : (T → Type 0) → TinyVec A T → Type 0
   IsTinyInfallible I v =
       (IsInline v × All I (tiny_items v ++ tiny_spare v)) ⊎ ((is_inline v ≡ false) × (tiny_len v ≡ 0))

@@ -9,7 +9,7 @@ ghost use Rattle.tinyvec_slots.specs.Clones.{RefusedAt};
 use std::alloc::AllocError;
 use std::mem;
 
-// Appends clones of `from`, where there is room.
+// Appends clones of `from`, if there is room.
 pub(crate) fn push_clones<T: Clone>(heap: &mut Vec<T>, from: &[T]) -> Result<(), AllocError>
     requires room { vec_len heap.old + length from.now ≤ vec_capacity heap.old }
     ensures items { OnOk result (AppendsClones T.is_clone heap.old.items heap.new.items from.now) }
@@ -30,7 +30,7 @@ pub(crate) fn push_clones<T: Clone>(heap: &mut Vec<T>, from: &[T]) -> Result<(),
     Ok(())
 }
 
-// Appends clones until one fails, where there is room. Returns how many of `from` were cloned.
+// Appends clones until one fails, if there is room. Returns how many of `from` were cloned.
 #[inline(always)]
 fn push_until_refused<T: Clone>(vec: &mut Vec<T>, from: &[T]) -> usize
     requires room { vec_len vec.old + length from.now ≤ vec_capacity vec.old }
@@ -78,7 +78,7 @@ fn fit_registers<T>(items: &[T]) -> bool
     4 <= size && size <= 16
 }
 
-// Appends `n` clones of `x`, where there is room.
+// Appends `n` clones of `x`, if there is room.
 pub(crate) fn push_clones_of<T: Clone>(heap: &mut Vec<T>, n: usize, x: &T) -> Result<(), AllocError>
     requires room { vec_len heap.old + n ≤ vec_capacity heap.old }
     ensures items { OnOk result (AppendsClones T.is_clone heap.old.items heap.new.items (replicate n x.now)) }
@@ -103,7 +103,7 @@ pub(crate) fn push_clones_of<T: Clone>(heap: &mut Vec<T>, n: usize, x: &T) -> Re
     Ok(())
 }
 
-// Appends copies of `from`, where there is room. `Vec::extend_from_slice` does not say that a capacity which suffices stays.
+// Appends copies of `from`, if there is room. `Vec::extend_from_slice` does not say that a capacity which suffices stays.
 pub(crate) fn push_copies<T: Copy>(heap: &mut Vec<T>, from: &[T])
     requires room { vec_len heap.old + length from.now ≤ vec_capacity heap.old }
     ensures items { heap.new.items ≡ heap.old.items ++ from.now }

@@ -132,7 +132,7 @@ fn write_number<W: Write>(gathered: &mut Gathered, writer: &mut Counted<W>, numb
     write_decimal(gathered, writer, number.unsigned_abs());
 }
 
-// Writes the digits of the number, two at a time where it has more than one.
+// Writes the digits of the number, two at a time if it has more than one.
 fn write_decimal<W: Write>(gathered: &mut Gathered, writer: &mut Counted<W>, number: u32)
     ensures { Gathers W.contents writer.old gathered.old writer.new gathered.new (decimal number) }
 {

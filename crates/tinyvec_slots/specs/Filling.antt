@@ -3,7 +3,7 @@ use Rattle.std.specs.Prelude.{◌≡◌, ℕ, ◌<◌, ◌≤◌, List, ◌++◌
 use Rattle.std.specs.List.{FoldsTo}
 use Rattle.std.specs.Iterator.{Yields, YieldsThen, YieldsFirst, AlwaysYields}
 
--- Calls of `next` from s gave xs and left u. They stopped at n items, or at `None` where fewer came.
+-- Calls of `next` from s gave xs and left u. They stopped at n items, or at `None` if fewer came.
 pub record YieldsUpTo {S A : Type 0} (steps : S → Option A → S → Type 0) (n : ℕ) (s : S) (xs : List A) (u : S) : Type 0 where
   pub at_most_n : length xs ≤ n
   pub stopped : length xs ≡ n → Yields steps s xs u

@@ -31,7 +31,7 @@ pub fn too_long(alloc: Global) -> bool
     TinyVec::try_from_array_len(alloc, [7, 8], 3).is_err()
 }
 
-/// Numbers of a slice, inline exactly where there are at most four.
+/// Numbers of a slice, inline exactly if there are at most four.
 pub fn of_slice(alloc: Global, numbers: &[u32]) -> Result<TinyVec<[u32; 4]>, AllocError>
     ensures items { IfOk result (λ v. tiny_items v ≡ numbers.now) }
     ensures place { IfOk result (λ v. IsInline v ↔ (length numbers.now ≤ 4)) }

@@ -75,15 +75,15 @@ module _ {A T : Type 0} (D : T → Type 0) (slots : ℕ) (x : T) where
         fits = fits;
       }
 
-pushed : (g : _) (c : goal.Joined-self g) → Pushed g.A.Item.Default.is_default g.A.Array.CAPACITY c.args.x c.args.self.now c.match-self.self
-pushed g c = elim c.match-self.branch as (λ _. Pushed g.A.Item.Default.is_default g.A.Array.CAPACITY c.args.x c.args.self.now c.match-self.self) [
+pushed : (g : _) (c : goal.Joined-self g) → Pushed g.A.Item.Default.is_default g.A.Array.CAPACITY c.args.value c.args.self.now c.match-self.self
+pushed g c = elim c.match-self.branch as (λ _. Pushed g.A.Item.Default.is_default g.A.Array.CAPACITY c.args.value c.args.self.now c.match-self.self) [
   | in-Inline w ↦
       let v = w.in-Inline.v in
       let some = eqb-false (items_len v) g.A.Array.CAPACITY (sym w.if-not-is_full.ensures.value) in
       let put = w.push.ensures in
-      rw (w.self-is, w.in-Inline.is) (in_array g.A.Item.Default.is_default g.A.Array.CAPACITY c.args.x v w.push.new.self w.in-Inline.field-1
+      rw (w.self-is, w.in-Inline.is) (in_array g.A.Item.Default.is_default g.A.Array.CAPACITY c.args.value v w.push.new.self w.in-Inline.field-1
       (omega (arith, some, w.is_full.ensures.fits)) put.items put.spare put.fits)
-  | in-Heap w ↦ rw (w.self-is, w.in-Heap.is) (on_heap g.A.Item.Default.is_default g.A.Array.CAPACITY c.args.x w.in-Heap.v w.push_reserved.new.self (omega (arith, w.len.ensures, w.capacity.ensures, w.if-len-capacity.true)) w.push_reserved.ensures.items w.push_reserved.ensures.capacity)
+  | in-Heap w ↦ rw (w.self-is, w.in-Heap.is) (on_heap g.A.Item.Default.is_default g.A.Array.CAPACITY c.args.value w.in-Heap.v w.push_reserved.new.self (omega (arith, w.len.ensures, w.capacity.ensures, w.if-len-capacity.true)) w.push_reserved.ensures.items w.push_reserved.ensures.capacity)
   | in_default+else-is_err w ↦
       let old = c.args.self.now in
       let was : (w.in_default.self ≡ old) × (tiny_len old ≡ tiny_capacity g.A.Array.CAPACITY old) =
@@ -97,7 +97,7 @@ pushed g c = elim c.match-self.branch as (λ _. Pushed g.A.Item.Default.is_defau
       let room = rw was.0 at w.grow_one.ensures in
       let ok = w.if-is_err.ensures.value in
       let put = w.push_reserved-in_default.ensures in
-      rw w.self-is (grown g.A.Item.Default.is_default g.A.Array.CAPACITY c.args.x old w.grow_one.new.self w.push_reserved-in_default.new.self was.1
+      rw w.self-is (grown g.A.Item.Default.is_default g.A.Array.CAPACITY c.args.value old w.grow_one.new.self w.push_reserved-in_default.new.self was.1
       room.items (when_ok w.grow_one.result ok room.place) (when_ok w.grow_one.result ok room.room) room.capacity put.items put.frame.place put.frame.capacity put.frame.fits)
 ]
 

@@ -1,6 +1,6 @@
 use Rattle.std.proofs.Common.{◌+◌, arith}
-use Rattle.tinyvec_array.proofs.EmptiedLemmas.{emptied_further, emptied_all, emptied_len, moved_further, moved_all, rest_len}
-use Rattle.tinyvec_array.proofs.drain.take_all.Goals as goal
+use Rattle.tinyvec_slots.proofs.EmptiedLemmas.{emptied_further, emptied_all, emptied_len, moved_further, moved_all, rest_len}
+use Rattle.tinyvec_slots.proofs.tuned.taking.take_all.Goals as goal
 
 pub returns-clause-items : goal.returns-clause-items
 returns-clause-items g c =

@@ -1,7 +1,7 @@
 use Rattle.std.proofs.Common.{◌≡◌, ℕ, ◌+◌, ◌<◌, ◌++◌, ◌∷◌, [], List, length, take, drop, set, get_or, sym, ap, ◌∙◌, append_assoc, arith, rules, drop-set-lt, length-append, length-take-le, take_all}
 use Rattle.std.proofs.lemmas.List.{take_more, get_or-drop}
 use Rattle.std.proofs.lemmas.Grind.{drop_more_same}
-use Rattle.tinyvec_array.proofs.drain.take_each.Goals as goal
+use Rattle.tinyvec_slots.proofs.tuned.taking.take_each.Goals as goal
 
 module _ {X : Type 0} where
   -- lists that end alike from i on hold the same at i

@@ -1,6 +1,6 @@
 use Rattle.std.proofs.Common.{◌+◌, ◌∙◌, arith, refl, zero-le, append-nil, sym}
-use Rattle.tinyvec_array.proofs.EmptiedLemmas.{emptied_none, emptied_len, emptied_further, moved_further}
-use Rattle.tinyvec_array.proofs.drain.take_blocks.Goals as goal
+use Rattle.tinyvec_slots.proofs.EmptiedLemmas.{emptied_none, emptied_len, emptied_further, moved_further}
+use Rattle.tinyvec_slots.proofs.tuned.taking.take_blocks.Goals as goal
 
 pub loop-slots-init : goal.loop-slots-init
 loop-slots-init g c = record {

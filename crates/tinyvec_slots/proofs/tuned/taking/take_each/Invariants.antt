@@ -1,6 +1,6 @@
 use Rattle.std.proofs.Common.{◌≡◌, ℕ, ◌<◌, ◌++◌, take, drop, get_or}
 use Rattle.std.specs.Prelude.{vec_capacity}
-use Rattle.tinyvec_array.proofs.drain.take_each.Given as goal
+use Rattle.tinyvec_slots.proofs.tuned.taking.take_each.Given as goal
 
 abbrev pub invariant-loop-slot : goal.invariant-loop-slot
 invariant-loop-slot g l = record {
