@@ -24,7 +24,7 @@ fn hex_digit(number: u8) -> u8
 fn write_hex<W: Write>(writer: &mut Counted<W>, bytes: &[u8]) -> io::Result<()>
     ensures ok { OnOk result (Appends (W.contents writer.old.inner) (W.contents writer.new.inner) (hex_of bytes.now)) }
     ensures front { OnErr result (AppendsFront (W.contents writer.old.inner) (W.contents writer.new.inner) (hex_of bytes.now)) }
-    ensures grows { writer.old.faults ≤ writer.new.faults }
+    ensures faults_grow { writer.old.faults ≤ writer.new.faults }
     ensures fault { OnErr result (Reported writer.old.faults writer.new.faults) }
 {
     for byte in bytes {
@@ -40,7 +40,7 @@ fn write_error<W: Write>(writer: &mut Counted<W>, text: &str) -> io::Result<()>
         (codes "error: " ++ (text.now ++ 10 ∷ []))) }
     ensures front { OnErr result (AppendsFront (W.contents writer.old.inner) (W.contents writer.new.inner)
         (codes "error: " ++ (text.now ++ 10 ∷ []))) }
-    ensures grows { writer.old.faults ≤ writer.new.faults }
+    ensures faults_grow { writer.old.faults ≤ writer.new.faults }
     ensures fault { OnErr result (Reported writer.old.faults writer.new.faults) }
 {
     writer.write_all(b"error: ")?;
@@ -56,7 +56,7 @@ pub fn write_answer<W: Write>(writer: &mut Counted<W>, line: &[u8]) -> io::Resul
     // What was written is a front of the answer.
     ensures front { OnErr result ((text : List ℕ)
         × AppendsFront (W.contents writer.old.inner) (W.contents writer.new.inner) text × IsAnswer line.now text) }
-    ensures grows { writer.old.faults ≤ writer.new.faults }
+    ensures faults_grow { writer.old.faults ≤ writer.new.faults }
     ensures fault { OnErr result (Reported writer.old.faults writer.new.faults) }
 {
     let mut slice = [0; 512];

@@ -97,7 +97,7 @@ fn answer_chunk<W: Write>(
         × Advances line.old.items front said next }
     ensures no_input { (error : IoError) → IsErrOf result (Failure.Input error) → ⊥ }
     ensures not_long { IsErrOf result Failure.TooLong → ⊥ }
-    ensures grows { writer.old.faults ≤ writer.new.faults }
+    ensures faults_grow { writer.old.faults ≤ writer.new.faults }
     ensures output_fault { (error : IoError) → IsErrOf result (Failure.Output error)
         → Reported writer.old.faults writer.new.faults }
 {
@@ -121,7 +121,7 @@ fn answer_byte<W: Write>(
         × Advances line.old.items (byte ∷ []) said [] }
     ensures no_input { (error : IoError) → IsErrOf result (Failure.Input error) → ⊥ }
     ensures not_long { IsErrOf result Failure.TooLong → ⊥ }
-    ensures grows { writer.old.faults ≤ writer.new.faults }
+    ensures faults_grow { writer.old.faults ≤ writer.new.faults }
     ensures output_fault { (error : IoError) → IsErrOf result (Failure.Output error)
         → Reported writer.old.faults writer.new.faults }
 {
@@ -157,7 +157,7 @@ fn finish<W: Write>(line: &[u8], writer: &mut Counted<W>) -> io::Result<()>
     ensures front { OnErr result ((output : List ℕ)
         × AppendsFront (W.contents writer.old.inner) (W.contents writer.new.inner) output
         × AnswersEach (map strip_carriage_return (last_line line.now)) output) }
-    ensures grows { writer.old.faults ≤ writer.new.faults }
+    ensures faults_grow { writer.old.faults ≤ writer.new.faults }
     ensures fault { OnErr result (Reported writer.old.faults writer.new.faults) }
 {
     if line.is_empty() {

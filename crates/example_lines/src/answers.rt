@@ -104,7 +104,7 @@ fn answer_chunk<A: Answer, W: Write>(
         × Advances A.IsAnswer program.old line.old.items front said next program.new }
     ensures no_input { (error : IoError) → IsErrOf result (Failure.Input error) → ⊥ }
     ensures not_long { IsErrOf result Failure.TooLong → ⊥ }
-    ensures grows { writer.old.faults ≤ writer.new.faults }
+    ensures faults_grow { writer.old.faults ≤ writer.new.faults }
     ensures output_fault { (error : IoError) → IsErrOf result (Failure.Output error)
         → Reported writer.old.faults writer.new.faults }
 {
@@ -130,7 +130,7 @@ fn answer_byte<A: Answer, W: Write>(
         × Advances A.IsAnswer program.old line.old.items (byte ∷ []) said [] program.new }
     ensures no_input { (error : IoError) → IsErrOf result (Failure.Input error) → ⊥ }
     ensures not_long { IsErrOf result Failure.TooLong → ⊥ }
-    ensures grows { writer.old.faults ≤ writer.new.faults }
+    ensures faults_grow { writer.old.faults ≤ writer.new.faults }
     ensures output_fault { (error : IoError) → IsErrOf result (Failure.Output error)
         → Reported writer.old.faults writer.new.faults }
 {
@@ -164,7 +164,7 @@ fn answer_line<A: Answer, W: Write>(
         × A.IsAnswer program.old (strip_carriage_return line.now) text program.new }
     ensures no_input { (error : IoError) → IsErrOf result (Failure.Input error) → ⊥ }
     ensures not_long { IsErrOf result Failure.TooLong → ⊥ }
-    ensures grows { writer.old.faults ≤ writer.new.faults }
+    ensures faults_grow { writer.old.faults ≤ writer.new.faults }
     ensures output_fault { (error : IoError) → IsErrOf result (Failure.Output error)
         → Reported writer.old.faults writer.new.faults }
 {
@@ -202,7 +202,7 @@ fn finish<A: Answer, W: Write>(
         × AnswersEach A.IsAnswer program.old (map strip_carriage_return (last_line line.now)) output program.new }
     ensures no_input { (error : IoError) → IsErrOf result (Failure.Input error) → ⊥ }
     ensures not_long { IsErrOf result Failure.TooLong → ⊥ }
-    ensures grows { writer.old.faults ≤ writer.new.faults }
+    ensures faults_grow { writer.old.faults ≤ writer.new.faults }
     ensures output_fault { (error : IoError) → IsErrOf result (Failure.Output error)
         → Reported writer.old.faults writer.new.faults }
 {
@@ -220,7 +220,7 @@ fn flush<W: Write>(writer: &mut Counted<W>) -> Result<(), Failure>
     ensures memory { IsErrOf result Failure.Memory → ⊥ }
     ensures no_input { (error : IoError) → IsErrOf result (Failure.Input error) → ⊥ }
     ensures not_long { IsErrOf result Failure.TooLong → ⊥ }
-    ensures grows { writer.old.faults ≤ writer.new.faults }
+    ensures faults_grow { writer.old.faults ≤ writer.new.faults }
     ensures output_fault { (error : IoError) → IsErrOf result (Failure.Output error)
         → Reported writer.old.faults writer.new.faults }
 {

@@ -1,7 +1,7 @@
 -- Records behind their tags are a code, and what ends a stream is no record, and no other end.
 use Rattle.std.proofs.Common.{◌≡◌, ◌≢◌, ◌∙◌, ap, sym, subst, ℕ, inl, inr, List, [], ◌∷◌, ◌++◌, length, refl, arith, Result, Ok, Err, length-append}
 use Rattle.tinyvec_borsh.specs.Code.{IsCode}
-use Rattle.tinyvec_borsh.specs.Parts.{rest-so}
+use Rattle.tinyvec_borsh.specs.TwoParts.{rest-so}
 use Rattle.tinyvec_borsh.proofs.Tagged.{same-tagged, tagged-code}
 use Rattle.example_records.specs.Readings.{IsReadingCut, IsReadingTooLong, ReadingFits, Said, SpellsReading, reading_apart, reading_code}
 use Rattle.example_records.specs.Stream.{HasTooManySamples, IsEnd, SpellsFrame, tag}

@@ -3,8 +3,8 @@ use Rattle.std.proofs.Common.{◌≡◌, ◌≢◌, ◌∙◌, ap, subst, ℕ, i
 use Rattle.tinyvec_borsh.specs.declared.borsh_error.BorshError.{BorshError}
 use Rattle.tinyvec_borsh.specs.declared.borsh_error.BorshError.TheVariants.{Ended, InvalidLength, Io, Memory}
 use Rattle.tinyvec_borsh.specs.Number.{SpellsNumber}
-use Rattle.tinyvec_borsh.specs.Parts.{rest-so}
-use Rattle.tinyvec_borsh.specs.Reading.{Fails, MayBe, Takes}
+use Rattle.tinyvec_borsh.specs.TwoParts.{rest-so}
+use Rattle.tinyvec_borsh.specs.Reading.{Fails, MayBe, ReadsSpelling}
 use Rattle.tinyvec_borsh.proofs.Counts.{never-too-long}
 use Rattle.tinyvec_borsh.proofs.ItemByItem.{maybe-any, maybe-behind, maybe-so}
 use Rattle.tinyvec_borsh.proofs.Tagged.{behind-byte, behind-tag}
@@ -27,7 +27,7 @@ too-many input long = elim long [
   ]
 ]
 
-module _ (n : ℕ) (old mid : Option (List ℕ)) (byte : Takes (SpellsNumber 1 n) old mid) where
+module _ (n : ℕ) (old mid : Option (List ℕ)) (byte : ReadsSpelling (SpellsNumber 1 n) old mid) where
   pub wrong-tag : n ≢ tag → MayBe old (StandsBehind (Err stream.WrongTag))
   wrong-tag other = behind-byte n old mid byte (λ tail. Unit {0}) (StandsBehind (Err stream.WrongTag)) (λ input tail whole so. record { byte = n; rest = tail; other = other; whole = whole }) (maybe-any mid)
 
@@ -39,10 +39,10 @@ module _ (n : ℕ) (old mid : Option (List ℕ)) (byte : Takes (SpellsNumber 1 n
   record-fails is before after Memory f = behind-tag n old mid byte tag is (λ rest. Unit {0}) (maybe-any mid)
 
 -- the next record, where there is one
-pub next-some : (old new : Option (List ℕ)) (next : Option Reading) (reading : Reading) → next ≡ Some reading → NextIs old new (Ok next) → Takes (SpellsFrame (said reading)) old new × ReadingFits (said reading)
+pub next-some : (old new : Option (List ℕ)) (next : Option Reading) (reading : Reading) → next ≡ Some reading → NextIs old new (Ok next) → ReadsSpelling (SpellsFrame (said reading)) old new × ReadingFits (said reading)
 next-some old new next reading is given = subst (λ o. NextIs old new (Ok o)) is given
 
 -- a record was read for which there is no memory
-pub not-kept : (reading : Reading) (old new : Option (List ℕ)) → Takes (SpellsFrame (said reading)) old new → MayBe old (StandsBehind (Err stream.Memory))
+pub not-kept : (reading : Reading) (old new : Option (List ℕ)) → ReadsSpelling (SpellsFrame (said reading)) old new → MayBe old (StandsBehind (Err stream.Memory))
 not-kept reading old new t =
     maybe-behind old new (λ tail. Unit {0}) (StandsBehind (Err stream.Memory)) t (λ input p. (p.is_first.0 ++ p.rest, p.whole ∙ ap (λ l. l ++ p.rest) p.is_first.2, tt)) (maybe-any new)

@@ -1,6 +1,6 @@
 -- How many bytes a record takes.
 use Rattle.std.proofs.Common.{◌≡◌, ap, ℕ, ◌+◌, ◌*◌, List, length, arith}
-use Rattle.tinyvec_borsh.specs.Parts.{parts-length}
+use Rattle.tinyvec_borsh.specs.TwoParts.{parts-length}
 use Rattle.tinyvec_borsh.proofs.Lengths.{list-length}
 use Rattle.example_records.specs.Stream.{SpellsFrame}
 

@@ -4,7 +4,7 @@ use Rattle.tinyvec_io.specs.Counted.{Reported}
 use Rattle.tinyvec_borsh.specs.Both.{IsBehind}
 use Rattle.tinyvec_borsh.specs.Items.{BeginsWithItems, HasTooMany, SpellsItems}
 use Rattle.tinyvec_borsh.specs.Number.{SpellsNumber}
-use Rattle.tinyvec_borsh.specs.Reading.{MayBe, Takes}
+use Rattle.tinyvec_borsh.specs.Reading.{MayBe, ReadsSpelling}
 use Rattle.tinyvec_borsh.specs.Tagged.{IsTagged, SpellsTagged}
 use Rattle.example_records.specs.Readings.{IsReadingCut, ReadingFits, Said, SpellsReading, StationFits, said}
 use Rattle.example_records.specs.declared.reading.Reading.{Reading}
@@ -57,7 +57,7 @@ BeginsWith = BeginsWithItems SpellsFrame
 
 -- A record was taken from the front of the input, or none, and then the input is as the answer says.
 abbrev pub NextIs : (old new : Option (List ℕ)) → Result (Option Reading) StreamError → Type 0
-NextIs old new (Ok (Some reading)) = Takes (SpellsFrame (said reading)) old new × ReadingFits (said reading)
+NextIs old new (Ok (Some reading)) = ReadsSpelling (SpellsFrame (said reading)) old new × ReadingFits (said reading)
 NextIs old new (Ok None) = MayBe old (StandsBehind (Ok tt))
 NextIs old new (Err error) = MayBe old (StandsBehind (Err error))
 

@@ -46,7 +46,7 @@ impl BorshDeserialize for Reading {
 
     ghost IsTooLong = { IsReadingTooLong };
 
-    ghost MayAsk = { ReadingAsks };
+    ghost MayAllocate = { ReadingAsks };
 
     ghost apart = { reading_apart };
 

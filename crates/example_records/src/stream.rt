@@ -3,7 +3,7 @@ ghost use Rattle.std.specs.Prelude.{◌≡◌, ◌≤◌, ◌++◌, ℕ, List, R
 ghost use Rattle.std.specs.List.{AllByRecursion};
 ghost use Rattle.tinyvec_io.specs.Counted.{Reported};
 ghost use Rattle.tinyvec_borsh.specs.Reading.{MayBe};
-ghost use Rattle.tinyvec_borsh.specs.Writing.{Adds};
+ghost use Rattle.tinyvec_borsh.specs.Writing.{WritesSpelling};
 ghost use Rattle.example_records.specs.Readings.{ReadingFits, Said, said};
 ghost use Rattle.example_records.specs.Stream.{BeginsWith, Gives, GivesCut, IsCopy, IsEnd, NextIs, SpellsFrame};
 ghost use Rattle.example_records.specs.Stream.{SpellsStream, StandsBehind};
@@ -21,11 +21,11 @@ pub const TAG: u8 = b'R';
 
 /// Appends a record to the stream.
 pub fn append<W: Write>(reading: &Reading, writer: &mut Counted<W>) -> Result<(), BorshError>
-    ensures ok { OnOk result (Adds (SpellsFrame (said reading.now))
+    ensures ok { OnOk result (WritesSpelling (SpellsFrame (said reading.now))
         (W.contents writer.old.inner) (W.contents writer.new.inner)) }
     ensures fits { OnOk result (ReadingFits (said reading.now)) }
     ensures err { IfErr result (λ e. (e ≡ BorshError.Io) × Reported writer.old.faults writer.new.faults) }
-    ensures grows { writer.old.faults ≤ writer.new.faults }
+    ensures faults_grow { writer.old.faults ≤ writer.new.faults }
 {
     TAG.serialize(writer)?;
     reading.serialize(writer)
@@ -33,11 +33,11 @@ pub fn append<W: Write>(reading: &Reading, writer: &mut Counted<W>) -> Result<()
 
 /// Appends records to the stream, in order.
 pub fn append_all<W: Write>(readings: &[Reading], writer: &mut Counted<W>) -> Result<(), BorshError>
-    ensures ok { OnOk result (Adds (SpellsStream (map said readings.now))
+    ensures ok { OnOk result (WritesSpelling (SpellsStream (map said readings.now))
         (W.contents writer.old.inner) (W.contents writer.new.inner)) }
     ensures fit { OnOk result (AllByRecursion ReadingFits (map said readings.now)) }
     ensures err { IfErr result (λ e. (e ≡ BorshError.Io) × Reported writer.old.faults writer.new.faults) }
-    ensures grows { writer.old.faults ≤ writer.new.faults }
+    ensures faults_grow { writer.old.faults ≤ writer.new.faults }
 {
     for reading in readings {
         append(reading, writer)?;
@@ -131,7 +131,7 @@ fn read_next<R: Read>(
 ) -> Result<Option<Reading>, StreamError>
     ensures next { NextIs (R.remaining reader.old.inner) (R.remaining reader.new.inner) result }
     ensures fault { IsErrOf result StreamError.Io → Reported reader.old.faults reader.new.faults }
-    ensures grows { reader.old.faults ≤ reader.new.faults }
+    ensures faults_grow { reader.old.faults ≤ reader.new.faults }
 {
     let tag = match u8::deserialize_reader(alloc, reader) {
         Ok(tag) => tag,

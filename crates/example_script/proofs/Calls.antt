@@ -7,7 +7,7 @@ use Rattle.std.proofs.lemmas.Fmt.{signed_decimal_injective}
 use Rattle.tinyvec_slots.specs.Slots.{Slots, items, spare, items_len, SlotRule}
 use Rattle.tinyvec_slots.proofs.SlotsLemmas.{defaults_are}
 use Rattle.tinyvec_script.specs.Command.{IsCommand, spelling, name_text}
-use Rattle.tinyvec_script.specs.Spelled.{AsksMemory}
+use Rattle.tinyvec_script.specs.Spelled.{NeedsMemory}
 use Rattle.tinyvec_script.specs.Script.{State, Steps, Answered, IsZero, text_of}
 use Rattle.tinyvec_script.specs.Step.{ArrayStep}
 use Rattle.tinyvec_script.specs.Text.{answer_text, state_text, vector_text}
@@ -48,7 +48,7 @@ only_pop T made is = differ 0 _ _ (spelled _ T made is) refl
 
 -- a line that spells a call, and nothing else, is answered by a step
 pub called : (old new : State) (line text : List ℕ) (name : Name) (call : Call ℤ) → IsCommand line name call → SpellsOnly line name call
-    → ((other : Name) → AsksMemory line other → ⊥) → ((said : TextCall) → IsTextCommand line said → ⊥) → Answered old line text new
+    → ((other : Name) → NeedsMemory line other → ⊥) → ((said : TextCall) → IsTextCommand line said → ⊥) → Answered old line text new
     → (answer : Answer ℤ) × Steps name old call answer new × (text ≡ answer_text answer ++ codes " " ++ text_of name new)
 called old new line text name call is only asks says h = elim h [
   | Answered.done other made answer command steps e ↦
@@ -74,12 +74,12 @@ spare_is old new rule =
 
 -- a command of `A` is none of the text, and asks for memory only if it is a splice
 module _ (rest : List ℕ) where
-  no_push_asks : (other : Name) → AsksMemory (codes "A push " ++ rest) other → ⊥
+  no_push_asks : (other : Name) → NeedsMemory (codes "A push " ++ rest) other → ⊥
   no_push_asks A asks = differ 3 _ _ (asks.named ∙ ap (λ text. codes "A " ++ text) asks.spelled.spelled) refl
   no_push_asks S asks = differ 0 _ _ asks.named refl
   no_push_asks T asks = differ 0 _ _ asks.named refl
 
-no_pop_asks : (other : Name) → AsksMemory (codes "A pop") other → ⊥
+no_pop_asks : (other : Name) → NeedsMemory (codes "A pop") other → ⊥
 no_pop_asks A asks = differ 3 _ _ (asks.named ∙ ap (λ text. codes "A " ++ text) asks.spelled.spelled) refl
 no_pop_asks S asks = differ 0 _ _ asks.named refl
 no_pop_asks T asks = differ 0 _ _ asks.named refl

@@ -9,7 +9,7 @@ use denote.RawPtr.{Ptr}
 use Rattle.tinyvec_slots.specs.Slots.{Slots, items, spare, items_len, split_at}
 use Rattle.tinyvec_io.specs.Lines.{ended}
 use Rattle.tinyvec_script.specs.Command.{IsCommand, splice_text, word_text, numbers_text}
-use Rattle.tinyvec_script.specs.Spelled.{AsksMemory}
+use Rattle.tinyvec_script.specs.Spelled.{NeedsMemory}
 use Rattle.tinyvec_script.specs.Script.{State, start, Answered, Script, IsZero, Steps, text_of}
 use Rattle.tinyvec_script.specs.Step.{ArrayStep}
 use Rattle.tinyvec_script.specs.Text.{answer_text, list_text, state_text, vector_text}
@@ -110,7 +110,7 @@ only_splice A made is = differ 3 _ _ (spelled _ A made is) refl
 only_splice S made is = differ 0 _ _ (spelled _ S made is) refl
 only_splice T made is = differ 0 _ _ (spelled _ T made is) refl
 
-asks_of_A : (other : Name) → AsksMemory (codes "A splice 0 1 - 1 2 3 4") other → other ≡ A
+asks_of_A : (other : Name) → NeedsMemory (codes "A splice 0 1 - 1 2 3 4") other → other ≡ A
 asks_of_A A asks = refl
 asks_of_A S asks = differ 0 _ _ asks.named refl
 asks_of_A T asks = differ 0 _ _ asks.named refl
@@ -162,7 +162,7 @@ only_setlen A made is = differ 4 _ _ (spelled _ A made is) refl
 only_setlen S made is = differ 0 _ _ (spelled _ S made is) refl
 only_setlen T made is = differ 0 _ _ (spelled _ T made is) refl
 
-no_setlen_asks : (other : Name) → AsksMemory (codes "A setlen 2") other → ⊥
+no_setlen_asks : (other : Name) → NeedsMemory (codes "A setlen 2") other → ⊥
 no_setlen_asks A asks = differ 3 _ _ (asks.named ∙ ap (λ text. codes "A " ++ text) asks.spelled.spelled) refl
 no_setlen_asks S asks = differ 0 _ _ asks.named refl
 no_setlen_asks T asks = differ 0 _ _ asks.named refl

@@ -125,7 +125,7 @@ fn tidy_chunk<W: Write>(
         × EndsSome (tiny_items line.old) bytes.now (said ++ missing) }
     ensures no_read { (error : IoError) → IsErrOf result (TidyError.Read error) → ⊥ }
     ensures not_long { IsErrOf result TidyError.TooLong → ⊥ }
-    ensures grows { writer.old.faults ≤ writer.new.faults }
+    ensures faults_grow { writer.old.faults ≤ writer.new.faults }
     ensures write_fault { (error : IoError) → IsErrOf result (TidyError.Write error) → Reported writer.old.faults writer.new.faults }
 {
     let mut output = TinyVec::new(alloc);
@@ -156,7 +156,7 @@ fn finish<W: Write>(alloc: Global, line: &[u8], writer: &mut Counted<W>) -> Resu
         × Ends line.now (said ++ missing) }
     ensures no_read { (error : IoError) → IsErrOf result (TidyError.Read error) → ⊥ }
     ensures not_long { IsErrOf result TidyError.TooLong → ⊥ }
-    ensures grows { writer.old.faults ≤ writer.new.faults }
+    ensures faults_grow { writer.old.faults ≤ writer.new.faults }
     ensures write_fault { (error : IoError) → IsErrOf result (TidyError.Write error) → Reported writer.old.faults writer.new.faults }
 {
     let mut output = TinyVec::new(alloc);

@@ -3,7 +3,7 @@ use Rattle.std.proofs.Common.{◌≡◌, ℕ, ◌+◌, List, length, take, Optio
 use Rattle.std.specs.List.{remove_range}
 use Rattle.std.specs.Iterator.{SkipsThenYields}
 use Rattle.std.specs.Iterator.Runs.{YieldsInOrder, YieldsInReverse}
-use Rattle.tinyvec_slots.proofs.DrainsLemmas.{runs_in_order, runs_in_reverse, step_keeps, step_back_keeps, nth_keeps, takes_any_word}
+use Rattle.tinyvec_slots.proofs.AnyDrainLemmas.{runs_in_order, runs_in_reverse, step_keeps, step_back_keeps, nth_keeps, takes_any_word}
 use Rattle.tinyvec.specs.TinyVec.{tiny_items, SameFrame, StaysInPlace}
 use Rattle.tinyvec.specs.Lends.{tiny_with_items}
 use Rattle.tinyvec.specs.Drain.{drain_items, drain_vec, drain_kept, Drained, DrainSteps, DrainStepsBack, DrainKeeps, DrainLeaves, DrainsFromEnds}

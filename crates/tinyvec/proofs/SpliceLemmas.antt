@@ -1,10 +1,10 @@
 -- A `TinyVec`'s splice along a word of ends.
 use Rattle.std.proofs.Common.{List, Option, refl, ◌∙◌}
 use Rattle.std.specs.declared.iter.Fuse.{Fuse}
-use Rattle.tinyvec_slots.specs.Ends.{End, TakesFromEnds, Asks}
+use Rattle.tinyvec_slots.specs.Ends.{End, TakesFromEnds, RunsWord}
 use Rattle.tinyvec_slots.specs.Fused.{HasTwoEnds}
 use Rattle.tinyvec_slots.specs.SplicedByWord.{SplicedByWord}
-use Rattle.tinyvec_slots.proofs.SplicingLemmas as all
+use Rattle.tinyvec_slots.proofs.AnySpliceLemmas as all
 use Rattle.tinyvec.specs.TinyVecSplice.{splice_view, splice_left, splice_vec, SpliceKeeps, SpliceSteps, SpliceStepsBack}
 use Rattle.tinyvec.specs.FrameLaws.{SameFrame-refl, SameFrame-then}
 use Rattle.tinyvec.specs.declared.splice.TinyVecSplice.{TinyVecSplice}
@@ -21,13 +21,13 @@ module _ {A I T : Type 0} where
   }
 
   -- what its calls placed, of a replacement of which `rest` shows what it gives
-  pub Asks-splices : (rest : Fuse I → List T) (gives gives_back : Fuse I → Option T → Fuse I → Type 0) → HasTwoEnds gives gives_back rest
+  pub RunsWord-splices : (rest : Fuse I → List T) (gives gives_back : Fuse I → Option T → Fuse I → Type 0) → HasTwoEnds gives gives_back rest
       → (s : TinyVecSplice A (Fuse I) T) (word : List End) (answers : List (Option T)) (t : TinyVecSplice A (Fuse I) T)
-      → Asks (SpliceSteps gives) (SpliceStepsBack gives_back) s word answers t → SplicedByWord splice_view SpliceKeeps rest s word t
-  Asks-splices rest = all.Asks-splices splice_view SpliceKeeps rest keeps_same keeps_then
+      → RunsWord (SpliceSteps gives) (SpliceStepsBack gives_back) s word answers t → SplicedByWord splice_view SpliceKeeps rest s word t
+  RunsWord-splices rest = all.RunsWord-splices splice_view SpliceKeeps rest keeps_same keeps_then
 
   -- and the removed items that they gave
-  pub Asks-takes_removed : (gives gives_back : Fuse I → Option T → Fuse I → Type 0)
+  pub RunsWord-takes_removed : (gives gives_back : Fuse I → Option T → Fuse I → Type 0)
       → (s : TinyVecSplice A (Fuse I) T) (word : List End) (answers : List (Option T)) (t : TinyVecSplice A (Fuse I) T)
-      → Asks (SpliceSteps gives) (SpliceStepsBack gives_back) s word answers t → TakesFromEnds (splice_left s) word answers (splice_left t)
-  Asks-takes_removed = all.Asks-takes_removed splice_view SpliceKeeps
+      → RunsWord (SpliceSteps gives) (SpliceStepsBack gives_back) s word answers t → TakesFromEnds (splice_left s) word answers (splice_left t)
+  RunsWord-takes_removed = all.RunsWord-takes_removed splice_view SpliceKeeps

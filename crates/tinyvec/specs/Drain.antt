@@ -25,8 +25,8 @@ module _ {A T : Type 0} where
   drain_vec d = d.vec.now
 
   -- the ghost name of the reference to the vector
-  abbrev pub drain_owner : TinyVecDrain A T → GName
-  drain_owner d = d.vec.ghost_name
+  abbrev pub drain_lender : TinyVecDrain A T → GName
+  drain_lender d = d.vec.ghost_name
 
   -- the remaining items are in the range, and the range is in the list
   abbrev pub DrainCanStep : TinyVecDrain A T → Type 0
@@ -45,7 +45,7 @@ module _ {A T : Type 0} where
 
   -- old and new borrow the same vector, and leave it the same
   pub record DrainKeeps (old new : TinyVecDrain A T) : Type 0 where
-    pub same_reference : drain_owner new ≡ drain_owner old
+    pub same_reference : drain_lender new ≡ drain_lender old
     pub kept : drain_kept new ≡ drain_kept old
     pub frame : SameFrame (drain_vec old) (drain_vec new)
     pub ready : DrainCanStep old → DrainCanStep new

@@ -1,6 +1,6 @@
 -- The words of the crates below that contracts here cite, so that a caller names one crate.
 pub use Rattle.tinyvec_slots.specs.Slots
-pub use Rattle.tinyvec_slots.specs.Cut
+pub use Rattle.tinyvec_slots.specs.Ranges
 pub use Rattle.tinyvec_slots.specs.Ends
 pub use Rattle.tinyvec_slots.specs.Filling
 pub use Rattle.tinyvec_slots.specs.Filters

@@ -4,7 +4,7 @@ ghost use Rattle.std.specs.Fmt.{debug_list, debug_variant};
 ghost use Rattle.std.specs.Iterator.{at_most, UpTo};
 ghost use Rattle.std.specs.Iterator.SizeHint.{IsWithinCount};
 ghost use Rattle.std.specs.Iterator.Runs.{YieldsInOrder, YieldsInReverse};
-ghost use Rattle.tinyvec_slots.specs.Cut.{IsRangeOf, before, removed, after};
+ghost use Rattle.tinyvec_slots.specs.Ranges.{IsRangeOf, before, removed, after};
 ghost use Rattle.tinyvec.specs.TinyVec.{tiny_items, SameFrame, is_inline, tiny_capacity, TinySlotRule};
 
 use crate::TinyVec;
@@ -25,7 +25,7 @@ pub struct TinyVecDrain<'a, A: Array> {
 }
 
 impl<A: Array> TinyVec<A> {
-    ghost use Rattle.tinyvec.specs.Drain.{drain_items, drain_len, drain_owner, drain_kept, drain_vec, DrainCanStep, DrainSteps, DrainStepsBack, DrainsFromEnds};
+    ghost use Rattle.tinyvec.specs.Drain.{drain_items, drain_len, drain_lender, drain_kept, drain_vec, DrainCanStep, DrainSteps, DrainStepsBack, DrainsFromEnds};
 
     /// Removes the range, and yields its items from both ends.
     ///
@@ -45,7 +45,7 @@ impl<A: Array> TinyVec<A> {
         ensures both_ends { DrainsFromEnds result }
 
         // Once it is dropped, the list is what preceded the range and what followed it, in its place.
-        ensures same_reference { drain_owner result ≡ self.entry.ghost_name }
+        ensures same_reference { drain_lender result ≡ self.entry.ghost_name }
         ensures kept { drain_kept result
             ≡ before (tiny_items self.old) (R.start_bound range) ++ after (tiny_items self.old) (R.end_bound range) }
         ensures frame { SameFrame self.old (drain_vec result) }
@@ -71,7 +71,7 @@ impl<A: Array> TinyVec<A> {
         ensures items { tiny_items self.new
             ≡ before (tiny_items self.old) (R.start_bound range) ++ after (tiny_items self.old) (R.end_bound range) }
         ensures place { is_inline self.new ≡ is_inline self.old }
-        ensures slots { TinySlotRule A.Item.is_default self.old self.new }
+        ensures slot_rule { TinySlotRule A.Item.is_default self.old self.new }
         ensures capacity { tiny_capacity A.CAPACITY self.new ≡ tiny_capacity A.CAPACITY self.old }
         ensures moved { out.new.items
             ≡ out.old.items ++ removed (tiny_items self.old) (R.start_bound range) (R.end_bound range) }

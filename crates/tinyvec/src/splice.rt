@@ -5,7 +5,7 @@ ghost use Rattle.std.specs.Iterator.{UpTo, MakesProgress, at_most, IsFinite, Dra
 ghost use Rattle.std.specs.Iterator.Adapters.{fuse_done, fuse_source, fuse_steps};
 ghost use Rattle.std.specs.Iterator.SizeHint.{IsWithinCount};
 ghost use Rattle.tinyvec_slots.specs.Fused.{FusedFinite, FusedCan, fused_rest};
-ghost use Rattle.tinyvec_slots.specs.Cut.{IsRangeOf, before, removed, after};
+ghost use Rattle.tinyvec_slots.specs.Ranges.{IsRangeOf, before, removed, after};
 ghost use Rattle.tinyvec.specs.TinyVec.{tiny_items, tiny_len, is_inline, tiny_capacity, StaysInPlace, PlaceRule, TinySlotRule, Unchanged};
 ghost use Rattle.tinyvec_slots.specs.Filling.{ShowsItems, IntoIterYields};
 ghost use Rattle.tinyvec_slots.specs.Replacing.{FusedYields, PutsBetween};
@@ -20,7 +20,8 @@ use std::iter::{Fuse, FusedIterator};
 use std::ops::{Range, RangeBounds};
 use tinyvec_array::{Array, NoRoom, SpliceRest};
 use tinyvec_slots::{
-    CanCut, CanSplice, Gap, close_in, finish_in, resolve_range, step_back_in, step_in, write_named,
+    CanCut, CanSplice, Gap, resolve_range, splice_finish, splice_next, splice_next_back,
+    splice_stop, write_named,
 };
 
 /// Yields the items of a range, and puts those of `replacement` in their place. Each item taken from one end is replaced by
@@ -133,7 +134,7 @@ impl<A: Array> TinyVec<A> {
             ≡ before (tiny_items self.old) (R.start_bound range) ++ replacement.now
             ++ after (tiny_items self.old) (R.end_bound range)) }
         ensures place { OnOk result (PlaceRule A.CAPACITY (tiny_len self.new) self.old self.new) }
-        ensures slots { OnOk result (TinySlotRule A.Item.is_default self.old self.new) }
+        ensures slot_rule { OnOk result (TinySlotRule A.Item.is_default self.old self.new) }
         ensures room { RoomGrows GrowsFor A.CAPACITY (tiny_len self.new) self.old self.new result }
 
         // Where there is room it allocates nothing.
@@ -185,7 +186,7 @@ impl<'a, A: Array, I: Iterator<Item = A::Item>> Iterator for TinyVecSplice<'a, A
         ensures finite { FusedFinite I.remaining (splice_replacement self.old)
             → FusedFinite I.remaining (splice_replacement self.new) }
     {
-        step_in(self.vec, &mut self.gap, &mut self.replacement)
+        splice_next(self.vec, &mut self.gap, &mut self.replacement)
     }
 
     /// Both bounds are the number of removed items that are left.
@@ -216,7 +217,7 @@ impl<'a, A: Array, I: DoubleEndedIterator<Item = A::Item>> DoubleEndedIterator
         ensures finite { FusedFinite I.remaining (splice_replacement self.old)
             → FusedFinite I.remaining (splice_replacement self.new) }
     {
-        step_back_in(self.vec, &mut self.gap, &mut self.replacement)
+        splice_next_back(self.vec, &mut self.gap, &mut self.replacement)
     }
 }
 
@@ -322,7 +323,7 @@ impl<'a, A: Array, I: Iterator<Item = A::Item>> TinyVecSplice<'a, A, Fuse<I>> {
             replacement,
             unspent: _,
         } = self;
-        finish_in(vec, gap, replacement)
+        splice_finish(vec, gap, replacement)
     }
 
     /// Drops the removed items that are left, and returns the rest of the replacement, which may be infinite.
@@ -338,7 +339,7 @@ impl<'a, A: Array, I: Iterator<Item = A::Item>> TinyVecSplice<'a, A, Fuse<I>> {
             replacement,
             unspent: _,
         } = self;
-        close_in(vec, &mut unfilled);
+        splice_stop(vec, &mut unfilled);
         replacement
     }
 }
@@ -412,7 +413,7 @@ impl<A: Array> CanCut for TinyVec<A> {
 
     ghost Kept = { SameFrame };
 
-    ghost Cut = { StaysInPlace A.Item.is_default A.CAPACITY };
+    ghost Truncated = { StaysInPlace A.Item.is_default A.CAPACITY };
 
     #[inline]
     fn as_mut_slice(&mut self) -> &mut [A::Item] {

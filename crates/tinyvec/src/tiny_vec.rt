@@ -36,7 +36,7 @@ impl<A: Array> TinyVec<A> {
     pub fn len(&self) -> usize
         ensures value { result ≡ tiny_len self.now }
         ensures fits { result ≤ tiny_capacity A.CAPACITY self.now }
-        ensures slots { IsInline self.now → tiny_len self.now + length (tiny_spare self.now) ≡ A.CAPACITY }
+        ensures slot_count { IsInline self.now → tiny_len self.now + length (tiny_spare self.now) ≡ A.CAPACITY }
     {
         match self {
             // Equal to the length. The minimum shows LLVM an upper bound, which keeps the two variants apart.

@@ -2,7 +2,7 @@
 use Rattle.std.proofs.Common.{ℕ, Option, refl, ◌∙◌}
 use Rattle.std.specs.Iterator.{SkipsThenYields}
 use Rattle.std.specs.Iterator.Runs.{YieldsInOrder, YieldsInReverse}
-use Rattle.tinyvec_slots.proofs.DrainsLemmas.{runs_in_order, runs_in_reverse, step_keeps, step_back_keeps, nth_keeps, takes_any_word}
+use Rattle.tinyvec_slots.proofs.AnyDrainLemmas.{runs_in_order, runs_in_reverse, step_keeps, step_back_keeps, nth_keeps, takes_any_word}
 use Rattle.tinyvec_array.specs.Drain.{drain_items, DrainSteps, DrainStepsBack, DrainKeeps, DrainsFromEnds}
 use Rattle.tinyvec_array.specs.declared.drain.ArrayVecDrain.{ArrayVecDrain}
 

@@ -3,7 +3,7 @@ use Rattle.std.proofs.Common.{List, length, ap}
 use Rattle.std.specs.Iterator.Runs.{YieldsInOrder, YieldsInReverse}
 use Rattle.std.proofs.iter.runs.Sources.{from_front, from_back, as_is, as_is_back}
 use Rattle.tinyvec_array.specs.IntoIter.{GivesFirst, GivesLast, GivesFromEnds}
-use Rattle.tinyvec_slots.proofs.EndsLemmas.{Asks-takes}
+use Rattle.tinyvec_slots.proofs.EndsLemmas.{RunsWord-takes}
 
 module _ {T : Type 0} where
   pub gives_runs : YieldsInOrder (GivesFirst {T = T}) (λ left. left)
@@ -14,4 +14,4 @@ module _ {T : Type 0} where
 
   pub gives_from_ends : (left : List T) → GivesFromEnds left
   gives_from_ends left word answers later asks =
-      Asks-takes GivesFirst GivesLast (λ left. left) (λ s r t h. h) (λ s r t h. h) left word answers later asks
+      RunsWord-takes GivesFirst GivesLast (λ left. left) (λ s r t h. h) (λ s r t h. h) left word answers later asks

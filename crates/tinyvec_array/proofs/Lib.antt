@@ -1,5 +1,5 @@
 pub mod DrainLemmas
-pub mod DrainedLemmas
+pub mod DrainEndLemmas
 pub mod EmptiedLemmas
 pub mod IntoIterLemmas
 pub mod IterMutLemmas

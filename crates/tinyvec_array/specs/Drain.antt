@@ -27,8 +27,8 @@ module _ {A T : Type 0} where
   drain_spare d = drop d.count (spare d.vec.now)
 
   -- the ghost name of the reference to the vector
-  abbrev pub drain_owner : ArrayVecDrain A T → GName
-  drain_owner d = d.vec.ghost_name
+  abbrev pub drain_lender : ArrayVecDrain A T → GName
+  drain_lender d = d.vec.ghost_name
 
   -- the remaining items are in the vacated slots
   abbrev pub DrainCanStep : ArrayVecDrain A T → Type 0
@@ -41,7 +41,7 @@ module _ {A T : Type 0} where
 
   -- old and new borrow the same vector, and leave it the same
   pub record DrainKeeps (old new : ArrayVecDrain A T) : Type 0 where
-    pub same_reference : drain_owner new ≡ drain_owner old
+    pub same_reference : drain_lender new ≡ drain_lender old
     pub kept : drain_kept new ≡ drain_kept old
     pub count : drain_count new ≡ drain_count old
     pub spare : drain_spare new ≡ drain_spare old

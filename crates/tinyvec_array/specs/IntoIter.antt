@@ -2,7 +2,7 @@
 use Rattle.std.specs.Prelude.{◌≡◌, ◌<◌, ◌^◌, List, length, Option}
 use Rattle.std.specs.Iterator.{YieldsFirst, YieldsLast}
 use Rattle.std.specs.Iterator.Runs.{YieldsInOrder, YieldsInReverse}
-use Rattle.tinyvec_slots.specs.Ends.{End, TakesFromEnds, Asks}
+use Rattle.tinyvec_slots.specs.Ends.{End, TakesFromEnds, RunsWord}
 
 module _ {T : Type 0} where
   -- `next` answers with the first item that is left, and leaves the others
@@ -16,7 +16,7 @@ module _ {T : Type 0} where
   -- however calls of `next` and `next_back` follow one another, they take from the two ends of what is left
   abbrev pub GivesFromEnds : List T → Type 0
   GivesFromEnds left = (word : List End) (answers : List (Option T)) (later : List T)
-      → Asks GivesFirst GivesLast left word answers later → TakesFromEnds left word answers later
+      → RunsWord GivesFirst GivesLast left word answers later → TakesFromEnds left word answers later
 
   -- what is left are these items, whose number fits a `usize`, and each run gives what is left, in order or in reverse
   abbrev pub IteratesOver : List T → List T → Type 0

@@ -1,6 +1,6 @@
 -- The words of `tinyvec_slots` that contracts here cite, so that a caller names one crate.
 pub use Rattle.tinyvec_slots.specs.Slots
-pub use Rattle.tinyvec_slots.specs.Cut
+pub use Rattle.tinyvec_slots.specs.Ranges
 pub use Rattle.tinyvec_slots.specs.Ends
 pub use Rattle.tinyvec_slots.specs.Filling
 pub use Rattle.tinyvec_slots.specs.Filters
@@ -10,7 +10,7 @@ pub use Rattle.tinyvec_slots.specs.Fused
 pub use Rattle.tinyvec_slots.specs.AnySplice
 pub use Rattle.tinyvec_slots.specs.SplicedByWord
 pub use Rattle.tinyvec_slots.specs.Replacing
-pub mod Parts
+pub mod ArrayParts
 pub mod Lends
 pub mod Drain
 pub mod IntoIter

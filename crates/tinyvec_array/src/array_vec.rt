@@ -15,7 +15,7 @@ mod filters;
 mod in_slots;
 mod traits;
 
-use crate::slots::via_u32;
+use crate::slots::bounded_index;
 use crate::{Array, TryFromSliceError};
 use std::convert::AsSlice;
 use std::marker::Model;
@@ -53,7 +53,7 @@ impl<A: Array> ArrayVec<A> {
     pub fn len(&self) -> usize
         ensures value { result ≡ items_len self.now }
         ensures fits { result ≤ A.CAPACITY }
-        ensures slots { length (all_slots self.now) ≡ A.CAPACITY }
+        ensures slot_count { length (all_slots self.now) ≡ A.CAPACITY }
         ensures field { result ≡ self.now.len }
         ensures small { A.CAPACITY < 2 ^ 64 }
     {
@@ -160,7 +160,7 @@ impl<A: Array> ArrayVec<A> {
     {
         let len = self.len();
         let slots = self.slots_mut();
-        let at = via_u32(len, slots.len()) + via_u32(i, slots.len());
+        let at = bounded_index(len, slots.len()) + bounded_index(i, slots.len());
         mem::take(&mut slots[at])
     }
 

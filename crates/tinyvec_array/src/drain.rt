@@ -5,10 +5,10 @@ ghost use Rattle.std.specs.Iterator.{at_most, UpTo};
 ghost use Rattle.std.specs.Iterator.SizeHint.{IsWithinCount};
 ghost use Rattle.std.specs.Iterator.Runs.{YieldsInOrder, YieldsInReverse};
 ghost use Rattle.tinyvec_slots.specs.Slots.{items, spare, items_len, Vacates, AreDefaults};
-ghost use Rattle.tinyvec_slots.specs.Cut.{IsRangeOf, before, removed, after};
+ghost use Rattle.tinyvec_slots.specs.Ranges.{IsRangeOf, before, removed, after};
 ghost use Rattle.tinyvec_array.specs.ToVec.{DrainsToVec};
 
-use crate::slots::via_u32;
+use crate::slots::bounded_index;
 use crate::{Array, ArrayVec};
 use std::alloc::{AllocError, Global};
 use std::iter::FusedIterator;
@@ -26,7 +26,7 @@ pub struct ArrayVecDrain<'a, A: Array> {
 }
 
 impl<A: Array> ArrayVec<A> {
-    ghost use Rattle.tinyvec_array.specs.Drain.{drain_items, drain_len, drain_owner, drain_kept, drain_count, drain_spare, DrainCanStep, DrainSteps, DrainStepsBack, DrainsFromEnds};
+    ghost use Rattle.tinyvec_array.specs.Drain.{drain_items, drain_len, drain_lender, drain_kept, drain_count, drain_spare, DrainCanStep, DrainSteps, DrainStepsBack, DrainsFromEnds};
 
     /// Removes the range, and yields its items from both ends. The items after the range move down at the call.
     ///
@@ -46,7 +46,7 @@ impl<A: Array> ArrayVec<A> {
         // The list is what precedes and follows the range. Once the drain is dropped, the vacated slots precede the old spare
         // slots.
         ensures fits { items_len self.old ≤ A.CAPACITY }
-        ensures same_reference { drain_owner result ≡ self.entry.ghost_name }
+        ensures same_reference { drain_lender result ≡ self.entry.ghost_name }
         ensures kept { drain_kept result
             ≡ before (items self.old) (R.start_bound range) ++ after (items self.old) (R.end_bound range) }
         ensures count { drain_count result ≡ length (drain_items result) }
@@ -55,7 +55,7 @@ impl<A: Array> ArrayVec<A> {
         let len = self.len();
         let part = resolve_range(range, len);
         // Bounds the trip count, so loop indices fit `u32`.
-        let count = via_u32(part.end - part.start, A::CAPACITY);
+        let count = bounded_index(part.end - part.start, A::CAPACITY);
         self.move_to_end(part.start, part.end);
         self.set_len(len - count);
         ArrayVecDrain {

@@ -13,14 +13,14 @@ pub(crate) fn take_slot<A: Array>(array: &mut A, i: usize) -> A::Item
     ensures len { length (A.slots array.old) ≡ A.CAPACITY }
 {
     let slots = array.as_slice_mut();
-    let at = via_u32(i, slots.len());
+    let at = bounded_index(i, slots.len());
     mem::take(&mut slots[at])
 }
 
 // Returns `i`. Going through `u32` shows LLVM that the address cannot wrap onto the length field, which precedes the slots. So
 // the length stays in a register, and a loop of pushes is vectorized.
 #[inline(always)]
-pub(crate) fn via_u32(i: usize, most: usize) -> usize
+pub(crate) fn bounded_index(i: usize, most: usize) -> usize
     requires { i ≤ most }
     ensures { result ≡ i }
 {

@@ -5,7 +5,7 @@ ghost use Rattle.std.specs.Iterator.{UpTo, MakesProgress, at_most, Drains, Yield
 ghost use Rattle.std.specs.Iterator.Adapters.{fuse_done, fuse_source, fuse_steps};
 ghost use Rattle.std.specs.Iterator.SizeHint.{IsWithinCount};
 ghost use Rattle.tinyvec_slots.specs.Slots.{items, items_len, SlotRule};
-ghost use Rattle.tinyvec_slots.specs.Cut.{IsRangeOf, before, removed, after};
+ghost use Rattle.tinyvec_slots.specs.Ranges.{IsRangeOf, before, removed, after};
 ghost use Rattle.tinyvec_slots.specs.Filling.{ShowsItems, IntoIterYields};
 ghost use Rattle.tinyvec_slots.specs.Fused.{FusedCan, fused_rest};
 ghost use Rattle.tinyvec_slots.specs.Replacing.{FusedYields, PutsBetween};
@@ -17,7 +17,8 @@ use std::fmt;
 use std::iter::{Fuse, FusedIterator};
 use std::ops::RangeBounds;
 use tinyvec_slots::{
-    CanCut, CanSplice, Gap, close_in, finish_in, resolve_range, step_back_in, step_in, write_named,
+    CanCut, CanSplice, Gap, resolve_range, splice_finish, splice_next, splice_next_back,
+    splice_stop, write_named,
 };
 
 /// Yields the items of a range. Each item taken from one end is replaced by one item of `replacement` from that end.
@@ -96,7 +97,7 @@ impl<A: Array> ArrayVec<A> {
             × (items self.new
             ≡ before (items self.old) (R.start_bound range) ++ xs ++ after (items self.old) (R.end_bound range)) }
         ensures full { OnErr result (items_len self.new ≡ A.CAPACITY) }
-        ensures slots { SlotRule A.Item.is_default self.old self.new }
+        ensures slot_rule { SlotRule A.Item.is_default self.old self.new }
         ensures fits { items_len self.new ≤ A.CAPACITY }
 
         // The returned iterator can be iterated further.
@@ -127,7 +128,7 @@ impl<A: Array> ArrayVec<A> {
         ensures items { OnOk result (items self.new
             ≡ before (items self.old) (R.start_bound range) ++ replacement.now
             ++ after (items self.old) (R.end_bound range)) }
-        ensures slots { SlotRule A.Item.is_default self.old self.new }
+        ensures slot_rule { SlotRule A.Item.is_default self.old self.new }
         ensures refused { OnErr result (self.new ≡ self.old) }
         ensures fits { items_len self.new ≤ A.CAPACITY }
     {
@@ -158,7 +159,7 @@ impl<'a, A: Array, I: Iterator<Item = A::Item>> Iterator for ArrayVecSplice<'a, 
         ensures goes { MakesProgress (SpliceCanNext I.can_next) (λ s. at_most (splice_len s)) self.old result self.new }
         ensures ready { SpliceCanStep self.new }
     {
-        step_in(self.vec, &mut self.gap, &mut self.replacement)
+        splice_next(self.vec, &mut self.gap, &mut self.replacement)
     }
 
     /// Both bounds are the number of removed items that are left.
@@ -187,7 +188,7 @@ impl<'a, A: Array, I: DoubleEndedIterator<Item = A::Item>> DoubleEndedIterator
             (λ s. at_most (splice_len s)) self.old result self.new }
         ensures ready { SpliceCanStep self.new }
     {
-        step_back_in(self.vec, &mut self.gap, &mut self.replacement)
+        splice_next_back(self.vec, &mut self.gap, &mut self.replacement)
     }
 }
 
@@ -230,7 +231,7 @@ impl<'a, A: Array, I: Iterator<Item = A::Item>> ArrayVecSplice<'a, A, Fuse<I>> {
         requires { SpliceCanNext I.can_next self }
         ensures finished { Finishes (fuse_steps I.next_gives) A.CAPACITY
             (splice_view self.entry) result (items self.exit.0.now) }
-        ensures slots { SlotRule A.Item.is_default (splice_slots self.entry) self.exit.0.now }
+        ensures slot_rule { SlotRule A.Item.is_default (splice_slots self.entry) self.exit.0.now }
 
         // The returned replacement can be iterated further.
         ensures goes_on { IfErr result (λ refused. FusedCan I.can_next refused.rest) }
@@ -265,7 +266,7 @@ impl<'a, A: Array, I: Iterator<Item = A::Item>> ArrayVecSplice<'a, A, Fuse<I>> {
             + finish_bound (splice_view self.entry) (items_len (splice_slots self.entry)) (items self.exit.0.now) }
         ensures finished { Finishes (fuse_steps I.next_gives) A.CAPACITY
             (splice_view self.entry) result.0 (items self.exit.0.now) }
-        ensures slots { SlotRule A.Item.is_default (splice_slots self.entry) self.exit.0.now }
+        ensures slot_rule { SlotRule A.Item.is_default (splice_slots self.entry) self.exit.0.now }
         ensures goes_on { IfErr result.0 (λ refused. FusedCan I.can_next refused.rest) }
         ensures listed { (rest : I → List A.Item) → ShowsItems I.next_gives rest
             → FinishesWith (fused_rest rest) A.CAPACITY (splice_view self.entry) result.0 (items self.exit.0.now) }
@@ -276,7 +277,7 @@ impl<'a, A: Array, I: Iterator<Item = A::Item>> ArrayVecSplice<'a, A, Fuse<I>> {
             replacement,
             unspent: _,
         } = self;
-        finish_in(vec, gap, replacement)
+        splice_finish(vec, gap, replacement)
     }
 
     /// Drops the removed items that are left, and returns the replacement without calling `next`.
@@ -284,7 +285,7 @@ impl<'a, A: Array, I: Iterator<Item = A::Item>> ArrayVecSplice<'a, A, Fuse<I>> {
         requires { SpliceCanStep self }
         ensures rest { result ≡ splice_replacement self.entry }
         ensures items { items self.exit.0.now ≡ splice_front self.entry ++ splice_back self.entry }
-        ensures slots { SlotRule A.Item.is_default (splice_slots self.entry) self.exit.0.now }
+        ensures slot_rule { SlotRule A.Item.is_default (splice_slots self.entry) self.exit.0.now }
         ensures fits { items_len self.exit.0.now ≤ A.CAPACITY }
     {
         let ArrayVecSplice {
@@ -293,7 +294,7 @@ impl<'a, A: Array, I: Iterator<Item = A::Item>> ArrayVecSplice<'a, A, Fuse<I>> {
             replacement,
             unspent: _,
         } = self;
-        close_in(vec, &mut unfilled);
+        splice_stop(vec, &mut unfilled);
         replacement
     }
 }
@@ -354,7 +355,7 @@ impl<A: Array> CanCut for ArrayVec<A> {
 
     ghost Kept = { SameSpare };
 
-    ghost Cut = { Shortens A.Item.is_default };
+    ghost Truncated = { Shortens A.Item.is_default };
 
     #[inline]
     fn as_mut_slice(&mut self) -> &mut [A::Item] {

@@ -12,9 +12,9 @@ use Rattle.tinyvec_borsh.specs.Code.{IsCode}
 use Rattle.tinyvec_borsh.specs.Items.{IsCount, SpellsItems, SpellsList}
 use Rattle.tinyvec_borsh.specs.ItemsLaws.{one-items}
 use Rattle.tinyvec_borsh.specs.NumberLaws.{number_code}
-use Rattle.tinyvec_borsh.specs.Parts.{HasParts, joined}
+use Rattle.tinyvec_borsh.specs.TwoParts.{HasParts, joined}
 use Rattle.tinyvec_borsh.specs.Reading.{TakesSome}
-use Rattle.tinyvec_borsh.specs.Writing.{Adds, AddsFront}
+use Rattle.tinyvec_borsh.specs.Writing.{WritesSpelling, AddsFront}
 use Rattle.tinyvec_borsh.proofs.ItemByItem.{WroteItems}
 
 pub on-err : {T E P Q : Type 0} (r : Result T E) → (P → Q) → OnErr r P → OnErr r Q
@@ -26,7 +26,7 @@ pub front-first : {P Q : List ℕ → Type 0} (old new : Option (List ℕ)) → 
 front-first old new front bytes p = subst (AppendsFront old new) (sym p.whole) (AppendsFront-longer old new p.first p.rest (front p.first p.is_first))
 
 -- the first part was written, which is spelled in one way, and then a front of the rest
-pub front-second : {P Q : List ℕ → Type 0} (old mid new : Option (List ℕ)) → ((a b : List ℕ) → P a → P b → a ≡ b) → Adds P old mid → AddsFront Q mid new → AddsFront (HasParts P Q) old new
+pub front-second : {P Q : List ℕ → Type 0} (old mid new : Option (List ℕ)) → ((a b : List ℕ) → P a → P b → a ≡ b) → WritesSpelling P old mid → AddsFront Q mid new → AddsFront (HasParts P Q) old new
 front-second old mid new one wrote front bytes p =
     let same : wrote.0 ≡ p.first = one wrote.0 p.first wrote.1 p.is_first in
     subst (AppendsFront old new) (ap (λ l. l ++ p.rest) same ∙ sym p.whole) (AppendsFront-then old mid new wrote.0 p.rest wrote.2 (front p.rest p.is_rest))
@@ -77,7 +77,7 @@ module _ {C : Type 0} (Spells : C → List ℕ → Type 0) (code : IsCode Spells
       (front-block ys more mid new bytes (subst (SpellsItems Spells ys) (sym (is ∙ ap (λ m. take (m * width) room) many)) spelled) front)
 
   -- the count was written, and then a front of the items
-  pub front-list : (n : ℕ) (cs : List C) (old mid new : Option (List ℕ)) → n ≡ length cs → Adds (IsCount n) old mid → AddsFront (SpellsItems Spells cs) mid new
+  pub front-list : (n : ℕ) (cs : List C) (old mid new : Option (List ℕ)) → n ≡ length cs → WritesSpelling (IsCount n) old mid → AddsFront (SpellsItems Spells cs) mid new
       → AddsFront (SpellsList Spells cs) old new
   front-list n cs old mid new long wrote front =
       front-second old mid new ((number_code 8 (lit< tt)).one_spelling (length cs)) (wrote.0, subst (λ m. IsCount m wrote.0) long wrote.1, wrote.2) front

@@ -6,20 +6,20 @@ use Rattle.std.proofs.lemmas.Slice.{take-put_mid}
 use borrow.Rule.Slice.PartMut.{put_mid}
 use Rattle.tinyvec_borsh.specs.declared.borsh_error.BorshError.{BorshError}
 use Rattle.tinyvec_borsh.specs.Items.{SpellsItems, AfterItems}
-use Rattle.tinyvec_borsh.specs.Reading.{MayBe, Takes, Fails}
+use Rattle.tinyvec_borsh.specs.Reading.{MayBe, ReadsSpelling, Fails}
 use Rattle.tinyvec_borsh.proofs.ItemByItem.{fails-so, fit-join, maybe-behind, maybe-so, one-item, takes-items, takes-so}
 
 module _ {C : Type 0} (Spells : C → List ℕ → Type 0) (Fits : C → Type 0) where
   -- these items were read
   pub record TookItems (cs : List C) (old new : Option (List ℕ)) : Type 0 where
     pub fit : AllByRecursion Fits cs
-    pub taken : Takes (SpellsItems Spells cs) old new
+    pub taken : ReadsSpelling (SpellsItems Spells cs) old new
 
   -- a block was read behind the items so far
-  pub took-block : (cs ds all : List C) (old mid new : Option (List ℕ)) → all ≡ cs ++ ds → TookItems cs old mid → Takes (SpellsItems Spells ds) mid new → AllByRecursion Fits ds → TookItems all old new
+  pub took-block : (cs ds all : List C) (old mid new : Option (List ℕ)) → all ≡ cs ++ ds → TookItems cs old mid → ReadsSpelling (SpellsItems Spells ds) mid new → AllByRecursion Fits ds → TookItems all old new
   took-block cs ds all old mid new is w t f = subst (λ cs. TookItems cs old new) (sym is) (record { fit = fit-join Fits cs ds w.fit f; taken = takes-items Spells cs ds old mid new w.taken t })
 
-  pub took-slot : {T : Type 0} (content : T → C) (xs : List T) (i : ℕ) (x : T) (old mid new : Option (List ℕ)) → i < length xs → TookItems (map content (take i xs)) old mid → Takes (Spells (content x)) mid new → Fits (content x)
+  pub took-slot : {T : Type 0} (content : T → C) (xs : List T) (i : ℕ) (x : T) (old mid new : Option (List ℕ)) → i < length xs → TookItems (map content (take i xs)) old mid → ReadsSpelling (Spells (content x)) mid new → Fits (content x)
       → TookItems (map content (take (i + 1) (slice_set xs i x))) old new
   took-slot content xs i x old mid new within w t f =
       took-block (map content (take i xs)) (content x ∷ []) _ old mid new (ap (map content) (take_more_set xs i x within) ∙ map-append content (take i xs) (x ∷ [])) w (takes-so mid new (one-item Spells (content x)) t) (f, tt)
@@ -28,21 +28,21 @@ module _ {C : Type 0} (Spells : C → List ℕ → Type 0) (Fits : C → Type 0)
   behind-items : (P : List ℕ → Type 0) (n : ℕ) (cs : List C) (old mid : Option (List ℕ)) → TookItems cs old mid → length cs < n → MayBe mid P → MayBe old (AfterItems Spells Fits P n)
   behind-items P n cs old mid w fewer may = maybe-behind old mid P _ w.taken (λ input p. record { items = cs; fewer = fewer; fit = w.fit; parts = p }) may
 
-  pub fails-behind : (IsCut IsTooLong MayAsk : List ℕ → Type 0) (n : ℕ) (cs : List C) (old mid : Option (List ℕ)) (before between after : ℕ) (e : BorshError) → TookItems cs old mid → length cs < n → before ≤ between
-      → Fails IsCut IsTooLong MayAsk mid between after e → Fails (AfterItems Spells Fits IsCut n) (AfterItems Spells Fits IsTooLong n) (AfterItems Spells Fits MayAsk n) old before after e
-  fails-behind IsCut IsTooLong MayAsk n cs old mid before between after e w fewer grows f =
-      fails-so _ _ _ _ _ _ old mid before between after e grows f (behind-items IsCut n cs old mid w fewer) (behind-items IsTooLong n cs old mid w fewer) (behind-items MayAsk n cs old mid w fewer)
+  pub fails-behind : (IsCut IsTooLong MayAllocate : List ℕ → Type 0) (n : ℕ) (cs : List C) (old mid : Option (List ℕ)) (before between after : ℕ) (e : BorshError) → TookItems cs old mid → length cs < n → before ≤ between
+      → Fails IsCut IsTooLong MayAllocate mid between after e → Fails (AfterItems Spells Fits IsCut n) (AfterItems Spells Fits IsTooLong n) (AfterItems Spells Fits MayAllocate n) old before after e
+  fails-behind IsCut IsTooLong MayAllocate n cs old mid before between after e w fewer grows f =
+      fails-so _ _ _ _ _ _ old mid before between after e grows f (behind-items IsCut n cs old mid w fewer) (behind-items IsTooLong n cs old mid w fewer) (behind-items MayAllocate n cs old mid w fewer)
 
 module _ {C : Type 0} (Spells : C → List ℕ → Type 0) (Fits : C → Type 0) where
   of-more : (P : List ℕ → Type 0) (k n : ℕ) → k ≤ n → (input : List ℕ) → AfterItems Spells Fits P k input → AfterItems Spells Fits P n input
   of-more P k n fewer input t = record { items = t.items; fewer = omega (arith, t.fewer, fewer); fit = t.fit; parts = t.parts }
 
   -- what is wrong with the next items is wrong with all that are to come
-  pub fails-of-more : (IsCut IsTooLong MayAsk : List ℕ → Type 0) (k n : ℕ) (old : Option (List ℕ)) (before after : ℕ) (e : BorshError) → k ≤ n
-      → Fails (AfterItems Spells Fits IsCut k) (AfterItems Spells Fits IsTooLong k) (AfterItems Spells Fits MayAsk k) old before after e
-      → Fails (AfterItems Spells Fits IsCut n) (AfterItems Spells Fits IsTooLong n) (AfterItems Spells Fits MayAsk n) old before after e
-  fails-of-more IsCut IsTooLong MayAsk k n old before after e fewer f =
-      fails-so _ _ _ _ _ _ old old before before after e (omega arith) f (maybe-so old _ _ (of-more IsCut k n fewer)) (maybe-so old _ _ (of-more IsTooLong k n fewer)) (maybe-so old _ _ (of-more MayAsk k n fewer))
+  pub fails-of-more : (IsCut IsTooLong MayAllocate : List ℕ → Type 0) (k n : ℕ) (old : Option (List ℕ)) (before after : ℕ) (e : BorshError) → k ≤ n
+      → Fails (AfterItems Spells Fits IsCut k) (AfterItems Spells Fits IsTooLong k) (AfterItems Spells Fits MayAllocate k) old before after e
+      → Fails (AfterItems Spells Fits IsCut n) (AfterItems Spells Fits IsTooLong n) (AfterItems Spells Fits MayAllocate n) old before after e
+  fails-of-more IsCut IsTooLong MayAllocate k n old before after e fewer f =
+      fails-so _ _ _ _ _ _ old old before before after e (omega arith) f (maybe-so old _ _ (of-more IsCut k n fewer)) (maybe-so old _ _ (of-more IsTooLong k n fewer)) (maybe-so old _ _ (of-more MayAllocate k n fewer))
 
 -- a list was made longer, and what was added was written
 pub grown : {T : Type 0} (start end : ℕ) (old more mid ws xs : List T) → length old ≡ start → start ≤ end → mid ≡ take end old ++ more → length ws ≡ end → take end ws ≡ take start mid ++ xs → ws ≡ old ++ xs

@@ -5,7 +5,7 @@ use Rattle.tinyvec_borsh.specs.Both.{BothFit, InEither, SpellsBoth}
 use Rattle.tinyvec_borsh.specs.Fronts.{FrontsAreCut}
 use Rattle.tinyvec_borsh.specs.Items.{IsListCut, ListFits, SpellsItems, SpellsList}
 use Rattle.tinyvec_borsh.specs.Number.{SpellsNumber}
-use Rattle.tinyvec_borsh.specs.Parts.{HasParts, group-first, joined}
+use Rattle.tinyvec_borsh.specs.TwoParts.{HasParts, group-first, joined}
 
 -- a list of two parts is cut in its first part, or in its second
 cut-place : (x y a b : List ℕ) → x ++ y ≡ a ++ b → ((r : List ℕ) × (x ≡ a ++ r) × (0 < length r)) ⊎ ((r : List ℕ) × (a ≡ x ++ r) × (y ≡ r ++ b))

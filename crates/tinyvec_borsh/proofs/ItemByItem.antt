@@ -7,19 +7,19 @@ use Rattle.std.specs.List.{AllByRecursion}
 use Rattle.tinyvec_borsh.specs.declared.borsh_error.BorshError.{BorshError}
 use Rattle.tinyvec_borsh.specs.declared.borsh_error.BorshError.TheVariants.{Ended, InvalidLength, Io, Memory}
 use Rattle.tinyvec_borsh.specs.Items.{AfterItems, IsCount, SpellsItems, SpellsList, HasItems, InItem, HasTooMany, CountsAbove, IsListCut, IsListTooLong}
-use Rattle.tinyvec_borsh.specs.Parts.{HasParts, first-so, group-first, group-rest, joined, rest-so, with-tail}
-use Rattle.tinyvec_borsh.specs.Reading.{MayBe, Takes, Fails, LeavesRest}
+use Rattle.tinyvec_borsh.specs.TwoParts.{HasParts, first-so, group-first, group-rest, joined, rest-so, with-tail}
+use Rattle.tinyvec_borsh.specs.Reading.{MayBe, ReadsSpelling, Fails, LeavesRest}
 
 -- what was taken is so, as it was
-pub takes-so : {P Q : List ℕ → Type 0} (old new : Option (List ℕ)) → ((bytes : List ℕ) → P bytes → Q bytes) → Takes P old new → Takes Q old new
+pub takes-so : {P Q : List ℕ → Type 0} (old new : Option (List ℕ)) → ((bytes : List ℕ) → P bytes → Q bytes) → ReadsSpelling P old new → ReadsSpelling Q old new
 takes-so old new then t = (t.0, then t.0 t.1, t.2)
 
 -- one part was taken, and then another
-pub takes-then : {P Q : List ℕ → Type 0} (old mid new : Option (List ℕ)) → Takes P old mid → Takes Q mid new → Takes (HasParts P Q) old new
+pub takes-then : {P Q : List ℕ → Type 0} (old mid new : Option (List ℕ)) → ReadsSpelling P old mid → ReadsSpelling Q mid new → ReadsSpelling (HasParts P Q) old new
 takes-then old mid new p q = (p.0 ++ q.0, joined p.0 q.0 p.1 q.1, Consumes-trans old mid new p.0 q.0 p.2 q.2)
 
 -- what was read, and the input is so behind it
-pub maybe-behind : {S : List ℕ → Type 0} (old new : Option (List ℕ)) (P Q : List ℕ → Type 0) → Takes S old new → ((input : List ℕ) → HasParts S P input → Q input) → MayBe new P → MayBe old Q
+pub maybe-behind : {S : List ℕ → Type 0} (old new : Option (List ℕ)) (P Q : List ℕ → Type 0) → ReadsSpelling S old new → ((input : List ℕ) → HasParts S P input → Q input) → MayBe new P → MayBe old Q
 maybe-behind None None P Q t then may = (t.0 ++ may.0, then (t.0 ++ may.0) (joined t.0 may.0 t.1 may.1))
 maybe-behind None (Some y) P Q t then may = (t.0 ++ y, then (t.0 ++ y) (joined t.0 y t.1 may))
 maybe-behind (Some x) None P Q t then may = absurd t.2
@@ -62,7 +62,7 @@ module _ {C : Type 0} (Spells : C → List ℕ → Type 0) where
   pub items-more : (cs : List C) (c : C) (a b : List ℕ) → SpellsItems Spells cs a → Spells c b → SpellsItems Spells (cs ++ c ∷ []) (a ++ b)
   items-more cs c a b p q = items-join cs (c ∷ []) (a ++ b) (joined a b p (one-item c b q))
 
-  pub takes-items : (cs ds : List C) (old mid new : Option (List ℕ)) → Takes (SpellsItems Spells cs) old mid → Takes (SpellsItems Spells ds) mid new → Takes (SpellsItems Spells (cs ++ ds)) old new
+  pub takes-items : (cs ds : List C) (old mid new : Option (List ℕ)) → ReadsSpelling (SpellsItems Spells cs) old mid → ReadsSpelling (SpellsItems Spells ds) mid new → ReadsSpelling (SpellsItems Spells (cs ++ ds)) old new
   takes-items cs ds old mid new p q = takes-so old new (items-join cs ds) (takes-then old mid new p q)
 
   -- these items were written
@@ -91,9 +91,9 @@ module _ {C : Type 0} (Spells : C → List ℕ → Type 0) where
     -- the count and these items were read
     pub record WasRead (n : ℕ) (cs : List C) (old new : Option (List ℕ)) : Type 0 where
       pub fit : AllByRecursion Fits cs
-      pub taken : Takes (HasParts (IsCount n) (SpellsItems Spells cs)) old new
+      pub taken : ReadsSpelling (HasParts (IsCount n) (SpellsItems Spells cs)) old new
 
-    pub read-first : (n : ℕ) (old new : Option (List ℕ)) → Takes (IsCount n) old new → WasRead n [] old new
+    pub read-first : (n : ℕ) (old new : Option (List ℕ)) → ReadsSpelling (IsCount n) old new → WasRead n [] old new
     read-first n old new t = record { fit = tt; taken = (t.0, record { first = t.0; rest = []; is_first = t.1; is_rest = refl; whole = sym (append-nil t.0) }, t.2) }
 
     list-join : (n : ℕ) (cs ds : List C) (bytes : List ℕ) → HasParts (HasParts (IsCount n) (SpellsItems Spells cs)) (SpellsItems Spells ds) bytes → HasParts (IsCount n) (SpellsItems Spells (cs ++ ds)) bytes
@@ -102,19 +102,19 @@ module _ {C : Type 0} (Spells : C → List ℕ → Type 0) where
         rest-so q (items-join cs ds q.rest q.is_rest)
 
     -- and a block of items
-    pub read-block : (n : ℕ) (cs ds : List C) (old mid new : Option (List ℕ)) → WasRead n cs old mid → Takes (SpellsItems Spells ds) mid new → AllByRecursion Fits ds → WasRead n (cs ++ ds) old new
+    pub read-block : (n : ℕ) (cs ds : List C) (old mid new : Option (List ℕ)) → WasRead n cs old mid → ReadsSpelling (SpellsItems Spells ds) mid new → AllByRecursion Fits ds → WasRead n (cs ++ ds) old new
     read-block n cs ds old mid new w t f = record { fit = fit-join Fits cs ds w.fit f; taken = takes-so old new (list-join n cs ds) (takes-then old mid new w.taken t) }
 
     -- and one more item
-    pub read-more : (n : ℕ) (cs : List C) (c : C) (old mid new : Option (List ℕ)) → WasRead n cs old mid → Takes (Spells c) mid new → Fits c → WasRead n (cs ++ c ∷ []) old new
+    pub read-more : (n : ℕ) (cs : List C) (c : C) (old mid new : Option (List ℕ)) → WasRead n cs old mid → ReadsSpelling (Spells c) mid new → Fits c → WasRead n (cs ++ c ∷ []) old new
     read-more n cs c old mid new w t f = read-block n cs (c ∷ []) old mid new w (takes-so mid new (one-item c) t) (f, tt)
 
-    pub read-appended : {T : Type 0} (content : T → C) (n : ℕ) (xs ys zs : List T) (old mid new : Option (List ℕ)) → zs ≡ xs ++ ys → WasRead n (map content xs) old mid → Takes (SpellsItems Spells (map content ys)) mid new → AllByRecursion Fits (map content ys) → WasRead n (map content zs) old new
+    pub read-appended : {T : Type 0} (content : T → C) (n : ℕ) (xs ys zs : List T) (old mid new : Option (List ℕ)) → zs ≡ xs ++ ys → WasRead n (map content xs) old mid → ReadsSpelling (SpellsItems Spells (map content ys)) mid new → AllByRecursion Fits (map content ys) → WasRead n (map content zs) old new
     read-appended content n xs ys zs old mid new appended w t f =
         subst (λ cs. WasRead n cs old new) (sym (ap (map content) appended ∙ map-append content xs ys)) (read-block n (map content xs) (map content ys) old mid new w t f)
 
-    pub read-all : (n : ℕ) (cs : List C) (old new : Option (List ℕ)) → n ≡ length cs → WasRead n cs old new → Takes (SpellsList Spells cs) old new
-    read-all n cs old new long w = subst (λ m. Takes (HasParts (IsCount m) (SpellsItems Spells cs)) old new) long w.taken
+    pub read-all : (n : ℕ) (cs : List C) (old new : Option (List ℕ)) → n ≡ length cs → WasRead n cs old new → ReadsSpelling (SpellsList Spells cs) old new
+    read-all n cs old new long w = subst (λ m. ReadsSpelling (HasParts (IsCount m) (SpellsItems Spells cs)) old new) long w.taken
 
     abbrev has-items : {P : List ℕ → Type 0} (n : ℕ) (cs : List C) (input : List ℕ) → AllByRecursion Fits cs → HasParts (HasParts (IsCount n) (SpellsItems Spells cs)) P input → HasItems Spells Fits input
     has-items n cs input fit p = record {
@@ -158,29 +158,29 @@ module _ {C : Type 0} (Spells : C → List ℕ → Type 0) where
         let q : HasParts (IsCount n) (HasParts (SpellsItems Spells cs) (λ _. Unit {0})) input = group-rest p in
         (n, above, rest-so q tt)) (maybe-any new)
 
-    module _ (IsCut IsTooLong MayAsk Asks : List ℕ → Type 0) (room : ℕ) where
+    module _ (IsCut IsTooLong MayAllocate Asks : List ℕ → Type 0) (room : ℕ) where
       -- an item was not read
       pub fails-item : (n : ℕ) (cs : List C) (old mid : Option (List ℕ)) (before between after : ℕ) (e : BorshError) → WasRead n cs old mid → length cs < n → length cs ≤ room → before ≤ between
-          → ((input : List ℕ) → InItem Spells Fits MayAsk room input → Asks input) → Fails IsCut IsTooLong MayAsk mid between after e
+          → ((input : List ℕ) → InItem Spells Fits MayAllocate room input → Asks input) → Fails IsCut IsTooLong MayAllocate mid between after e
           → Fails (IsListCut Spells Fits IsCut room) (IsListTooLong Spells Fits IsTooLong room) Asks old before after e
       fails-item n cs old mid before between after e w more few grows asks f = fails-so _ _ _ _ _ _ old mid before between after e grows f
           (λ cut. maybe-so old _ _ (λ input cut. inr cut) (in-item IsCut room n cs old mid w more few cut))
           (λ long. maybe-so old _ _ (λ input long. inr long) (in-item IsTooLong room n cs old mid w more few long))
-          (λ ask. maybe-so old _ _ asks (in-item MayAsk room n cs old mid w more few ask))
+          (λ ask. maybe-so old _ _ asks (in-item MayAllocate room n cs old mid w more few ask))
 
       -- a block was not read
       pub fails-block : (n k : ℕ) (cs : List C) (old mid : Option (List ℕ)) (before between after : ℕ) (e : BorshError) → WasRead n cs old mid → length cs + k ≤ n → length cs + k ≤ room + 1 → before ≤ between
-          → ((input : List ℕ) → InItem Spells Fits MayAsk room input → Asks input) → Fails (AfterItems Spells Fits IsCut k) (AfterItems Spells Fits IsTooLong k) (AfterItems Spells Fits MayAsk k) mid between after e
+          → ((input : List ℕ) → InItem Spells Fits MayAllocate room input → Asks input) → Fails (AfterItems Spells Fits IsCut k) (AfterItems Spells Fits IsTooLong k) (AfterItems Spells Fits MayAllocate k) mid between after e
           → Fails (IsListCut Spells Fits IsCut room) (IsListTooLong Spells Fits IsTooLong room) Asks old before after e
       fails-block n k cs old mid before between after e w more few grows asks f = fails-so _ _ _ _ _ _ old mid before between after e grows f
           (λ cut. maybe-so old _ _ (λ input cut. inr cut) (in-block IsCut room n k cs old mid w more few cut))
           (λ long. maybe-so old _ _ (λ input long. inr long) (in-block IsTooLong room n k cs old mid w more few long))
-          (λ ask. maybe-so old _ _ asks (in-block MayAsk room n k cs old mid w more few ask))
+          (λ ask. maybe-so old _ _ asks (in-block MayAllocate room n k cs old mid w more few ask))
 
       -- nor was it where memory was wanting
       pub fails-wanting : (Wanting : Type 0) (n k : ℕ) (cs : List C) (old mid : Option (List ℕ)) (before between after : ℕ) (e : BorshError) → WasRead n cs old mid → length cs + k ≤ n → length cs + k ≤ room + 1 → before ≤ between
-          → (Wanting → MayBe old Asks) → ((input : List ℕ) → InItem Spells Fits MayAsk room input → Asks input)
-          → ((e ≡ Memory) × Wanting) ⊎ Fails (AfterItems Spells Fits IsCut k) (AfterItems Spells Fits IsTooLong k) (AfterItems Spells Fits MayAsk k) mid between after e
+          → (Wanting → MayBe old Asks) → ((input : List ℕ) → InItem Spells Fits MayAllocate room input → Asks input)
+          → ((e ≡ Memory) × Wanting) ⊎ Fails (AfterItems Spells Fits IsCut k) (AfterItems Spells Fits IsTooLong k) (AfterItems Spells Fits MayAllocate k) mid between after e
           → Fails (IsListCut Spells Fits IsCut room) (IsListTooLong Spells Fits IsTooLong room) Asks old before after e
       fails-wanting Wanting n k cs old mid before between after e w more few grows wants asks f = elim f [
         | inl wanting ↦ subst (Fails (IsListCut Spells Fits IsCut room) (IsListTooLong Spells Fits IsTooLong room) Asks old before after) (sym wanting.0) (wants wanting.1)

@@ -5,7 +5,7 @@ use Rattle.std.proofs.lemmas.Bool.{cases_lt}
 use Rattle.tinyvec_borsh.specs.Code.{IsCode}
 use Rattle.tinyvec_borsh.specs.Items.{SpellsItems}
 use Rattle.tinyvec_borsh.specs.ItemsLaws.{next-item, same-item, same-items}
-use Rattle.tinyvec_borsh.specs.Parts.{with-tail}
+use Rattle.tinyvec_borsh.specs.TwoParts.{with-tail}
 
 module _ {C : Type 0} (Spells : C → List ℕ → Type 0) (code : IsCode Spells) where
   -- fewer items at the front of the same input are the first ones

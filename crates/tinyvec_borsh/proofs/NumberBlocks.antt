@@ -10,7 +10,7 @@ use Rattle.tinyvec_borsh.specs.declared.borsh_error.BorshError.{BorshError}
 use Rattle.tinyvec_borsh.specs.declared.borsh_error.BorshError.TheVariants.{Ended, InvalidLength, Io, Memory}
 use Rattle.tinyvec_borsh.specs.Items.{SpellsItems, AfterItems}
 use Rattle.tinyvec_borsh.specs.Number.{SpellsNumber}
-use Rattle.tinyvec_borsh.specs.Parts.{HasParts, first-so, group-first, joined, rest-so}
+use Rattle.tinyvec_borsh.specs.TwoParts.{HasParts, first-so, group-first, joined, rest-so}
 use Rattle.tinyvec_borsh.specs.Reading.{Fails, IsFewBytes, MayBe}
 use Rattle.tinyvec_borsh.proofs.Blocks.{TookItems}
 use Rattle.tinyvec_borsh.proofs.ItemByItem.{WroteItems, fails-so, fit-join, fit-more, items-join, items-more, maybe-behind, maybe-so}
@@ -105,11 +105,11 @@ module _ {C : Type 0} (Spells : C → List ℕ → Type 0) (Fits : C → Type 0)
       }) may
 
   -- an item of the block was not read, and the input is so from it on
-  pub fails-behind-block : (IsCut IsTooLong MayAsk : List ℕ → Type 0) (k n : ℕ) (cs : List C) (old mid : Option (List ℕ)) (before between after : ℕ) (e : BorshError) → TookItems Spells Fits cs old mid → length cs + k ≤ n → before ≤ between
-      → Fails (AfterItems Spells Fits IsCut k) (AfterItems Spells Fits IsTooLong k) (AfterItems Spells Fits MayAsk k) mid between after e
-      → Fails (AfterItems Spells Fits IsCut n) (AfterItems Spells Fits IsTooLong n) (AfterItems Spells Fits MayAsk n) old before after e
-  fails-behind-block IsCut IsTooLong MayAsk k n cs old mid before between after e w fewer grows f =
-      fails-so _ _ _ _ _ _ old mid before between after e grows f (behind-block IsCut k n cs old mid w fewer) (behind-block IsTooLong k n cs old mid w fewer) (behind-block MayAsk k n cs old mid w fewer)
+  pub fails-behind-block : (IsCut IsTooLong MayAllocate : List ℕ → Type 0) (k n : ℕ) (cs : List C) (old mid : Option (List ℕ)) (before between after : ℕ) (e : BorshError) → TookItems Spells Fits cs old mid → length cs + k ≤ n → before ≤ between
+      → Fails (AfterItems Spells Fits IsCut k) (AfterItems Spells Fits IsTooLong k) (AfterItems Spells Fits MayAllocate k) mid between after e
+      → Fails (AfterItems Spells Fits IsCut n) (AfterItems Spells Fits IsTooLong n) (AfterItems Spells Fits MayAllocate n) old before after e
+  fails-behind-block IsCut IsTooLong MayAllocate k n cs old mid before between after e w fewer grows f =
+      fails-so _ _ _ _ _ _ old mid before between after e grows f (behind-block IsCut k n cs old mid w fewer) (behind-block IsTooLong k n cs old mid w fewer) (behind-block MayAllocate k n cs old mid w fewer)
 
   module _ (width : ℕ) (of_bytes : List ℕ → C) (read : (bytes : List ℕ) → length bytes ≡ width → AllByRecursion (λ byte. byte < 256) bytes → Spells (of_bytes bytes) bytes × Fits (of_bytes bytes)) where
     -- of fewer bytes than so many numbers have, the last number that begins is cut

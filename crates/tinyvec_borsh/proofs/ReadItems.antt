@@ -3,7 +3,7 @@ use Rattle.std.proofs.Common.{◌≡◌, ◌∙◌, ap, sym, subst, ℕ, List, [
 use Rattle.std.proofs.lemmas.List.{map-append}
 use Rattle.std.specs.List.{AllByRecursion}
 use Rattle.tinyvec_borsh.specs.Items.{BeginsWithItems, SpellsItems}
-use Rattle.tinyvec_borsh.specs.Reading.{MayBe, Takes}
+use Rattle.tinyvec_borsh.specs.Reading.{MayBe, ReadsSpelling}
 use Rattle.tinyvec_borsh.proofs.ItemByItem.{fit-more, maybe-behind, one-item, takes-items, takes-so}
 
 module _ {T C : Type 0} (content : T → C) (Spells : C → List ℕ → Type 0) (Fits : C → Type 0) where
@@ -12,16 +12,16 @@ module _ {T C : Type 0} (content : T → C) (Spells : C → List ℕ → Type 0)
     pub more : List T
     pub grown : now ≡ before ++ more
     pub fit : AllByRecursion Fits (map content more)
-    pub taken : Takes (SpellsItems Spells (map content more)) old new
+    pub taken : ReadsSpelling (SpellsItems Spells (map content more)) old new
 
-  pub read-next : (before now next : List T) (x : T) (old mid new : Option (List ℕ)) → ReadItems before now old mid → Takes (Spells (content x)) mid new → Fits (content x) → next ≡ now ++ x ∷ [] → ReadItems before next old new
+  pub read-next : (before now next : List T) (x : T) (old mid new : Option (List ℕ)) → ReadItems before now old mid → ReadsSpelling (Spells (content x)) mid new → Fits (content x) → next ≡ now ++ x ∷ [] → ReadItems before next old new
   read-next before now next x old mid new r t fits pushed =
       let all_more : map content (r.more ++ x ∷ []) ≡ map content r.more ++ content x ∷ [] = map-append content r.more (x ∷ []) in
       record {
         more = r.more ++ x ∷ [];
         grown = pushed ∙ ap (λ l. l ++ x ∷ []) r.grown ∙ append_assoc before r.more (x ∷ []);
         fit = subst (AllByRecursion Fits) (sym all_more) (fit-more Fits (map content r.more) (content x) r.fit fits);
-        taken = subst (λ cs. Takes (SpellsItems Spells cs) old new) (sym all_more) (takes-items Spells (map content r.more) (content x ∷ []) old mid new r.taken (takes-so mid new (one-item Spells (content x)) t));
+        taken = subst (λ cs. ReadsSpelling (SpellsItems Spells cs) old new) (sym all_more) (takes-items Spells (map content r.more) (content x ∷ []) old mid new r.taken (takes-so mid new (one-item Spells (content x)) t));
       }
 
   -- and behind them the input is so

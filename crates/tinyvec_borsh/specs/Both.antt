@@ -1,6 +1,6 @@
 -- Two contents, spelled one after the other: what a struct is, field by field.
 use Rattle.std.specs.Prelude.{ℕ, ◌⊎◌, List}
-use Rattle.tinyvec_borsh.specs.Parts.{HasParts}
+use Rattle.tinyvec_borsh.specs.TwoParts.{HasParts}
 
 -- the spelling of the first, and then that of the second
 abbrev pub SpellsBoth : {A B : Type 0} → (A → List ℕ → Type 0) → (B → List ℕ → Type 0) → A × B → List ℕ → Type 0

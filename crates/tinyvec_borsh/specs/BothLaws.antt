@@ -4,7 +4,7 @@ use Rattle.tinyvec_borsh.specs.Code.{IsCode}
 use Rattle.tinyvec_borsh.specs.Apart.{AreApart}
 use Rattle.tinyvec_borsh.specs.ItemsLaws.{same-item}
 use Rattle.tinyvec_borsh.specs.Both.{SpellsBoth, BothFit, IsBehind, InEither}
-use Rattle.tinyvec_borsh.specs.Parts.{joined, parts-length, with-tail}
+use Rattle.tinyvec_borsh.specs.TwoParts.{joined, parts-length, with-tail}
 
 module _ {A B : Type 0} (SpellsA : A → List ℕ → Type 0) (SpellsB : B → List ℕ → Type 0) (code_a : IsCode SpellsA) where
   -- what stands after the first is the second

@@ -2,7 +2,7 @@
 use Rattle.std.specs.Prelude.{◌≡◌, ℕ, ◌+◌, ◌^◌, ◌<◌, ◌≤◌, ◌⊎◌, List, [], ◌∷◌, ◌++◌, length}
 use Rattle.std.specs.List.{AllByRecursion}
 use Rattle.tinyvec_borsh.specs.Number.{SpellsNumber}
-use Rattle.tinyvec_borsh.specs.Parts.{HasParts}
+use Rattle.tinyvec_borsh.specs.TwoParts.{HasParts}
 
 -- eight bytes whose value, least first, is the count
 abbrev pub IsCount : ℕ → List ℕ → Type 0

@@ -8,7 +8,7 @@ use Rattle.tinyvec_borsh.specs.Apart.{AreApart}
 use Rattle.tinyvec_borsh.specs.Number.{SpellsNumber}
 use Rattle.tinyvec_borsh.specs.NumberLaws.{number_code, number_spelled}
 use Rattle.tinyvec_borsh.specs.Items.{HasItems, IsCount, SpellsItems, SpellsList, ListFits, IsListCut, IsListTooLong}
-use Rattle.tinyvec_borsh.specs.Parts.{HasParts, joined, parts-length, with-tail}
+use Rattle.tinyvec_borsh.specs.TwoParts.{HasParts, joined, parts-length, with-tail}
 
 -- of two fronts of one list, one begins the other
 one-begins : (a b x y : List ℕ) → a ++ x ≡ b ++ y → ((r : List ℕ) × (b ≡ a ++ r) × (x ≡ r ++ y)) ⊎ ((r : List ℕ) × (a ≡ b ++ r) × (y ≡ r ++ x))

@@ -7,7 +7,7 @@ pub mod Items
 pub mod ItemsLaws
 pub mod Number
 pub mod NumberLaws
-pub mod Parts
+pub mod TwoParts
 pub mod Reading
 pub mod Tagged
 pub mod Writing

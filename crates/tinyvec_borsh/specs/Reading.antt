@@ -4,7 +4,7 @@ use Rattle.std.specs.List.{AllByRecursion}
 use Rattle.std.specs.Io.KnownBytes.{Consumes, IsAtEnd}
 use Rattle.tinyvec_io.specs.Counted.{Reported}
 use Rattle.tinyvec_borsh.specs.Items.{IsCount, SpellsItems}
-use Rattle.tinyvec_borsh.specs.Parts.{HasParts}
+use Rattle.tinyvec_borsh.specs.TwoParts.{HasParts}
 use Rattle.tinyvec_borsh.specs.declared.borsh_error.BorshError.{BorshError}
 use Rattle.tinyvec_borsh.specs.declared.borsh_error.BorshError.TheVariants.{Ended, InvalidLength, Io, Memory}
 
@@ -18,8 +18,8 @@ abbrev pub IsFewBytes : ℕ → List ℕ → Type 0
 IsFewBytes n input = AllByRecursion (λ byte. byte < 256) input × (length input < n)
 
 -- What was taken from the front of the input spells it.
-abbrev pub Takes : (List ℕ → Type 0) → Option (List ℕ) → Option (List ℕ) → Type 0
-Takes SpellsIt old new = (bytes : List ℕ) × SpellsIt bytes × Consumes old new bytes
+abbrev pub ReadsSpelling : (List ℕ → Type 0) → Option (List ℕ) → Option (List ℕ) → Type 0
+ReadsSpelling SpellsIt old new = (bytes : List ℕ) × SpellsIt bytes × Consumes old new bytes
 
 -- Some bytes were taken from the front of the input; all of them at its end.
 pub record TakesSome (old new : Option (List ℕ)) (error : BorshError) : Type 0 where
@@ -29,20 +29,20 @@ pub record TakesSome (old new : Option (List ℕ)) (error : BorshError) : Type 0
 
 -- Why nothing was read. `Ended` comes only where the input is cut, `InvalidLength` only where it is too long, `Memory` only
 -- where memory may be asked for, and `Io` only where the reader reported a fault.
-abbrev pub Fails : (IsCut IsTooLong MayAsk : List ℕ → Type 0) → Option (List ℕ) → ℕ → ℕ → BorshError → Type 0
-Fails IsCut IsTooLong MayAsk input old_faults new_faults Ended = MayBe input IsCut
-Fails IsCut IsTooLong MayAsk input old_faults new_faults InvalidLength = MayBe input IsTooLong
-Fails IsCut IsTooLong MayAsk input old_faults new_faults Io = Reported old_faults new_faults
-Fails IsCut IsTooLong MayAsk input old_faults new_faults Memory = MayBe input MayAsk
+abbrev pub Fails : (IsCut IsTooLong MayAllocate : List ℕ → Type 0) → Option (List ℕ) → ℕ → ℕ → BorshError → Type 0
+Fails IsCut IsTooLong MayAllocate input old_faults new_faults Ended = MayBe input IsCut
+Fails IsCut IsTooLong MayAllocate input old_faults new_faults InvalidLength = MayBe input IsTooLong
+Fails IsCut IsTooLong MayAllocate input old_faults new_faults Io = Reported old_faults new_faults
+Fails IsCut IsTooLong MayAllocate input old_faults new_faults Memory = MayBe input MayAllocate
 
 -- A value of the content was read, and what follows stays unread; or the reader reported a fault, or memory was refused that
 -- may be asked for to read this input.
 abbrev pub ReadsBack : {T C : Type 0} → (T → C) → (List ℕ → Type 0) → C → (input rest : List ℕ) → Option (List ℕ) → ℕ → ℕ → Result T BorshError → Type 0
-ReadsBack content MayAsk c input rest new old_faults new_faults (Ok v) = (content v ≡ c) × (new ≡ Some rest)
-ReadsBack content MayAsk c input rest new old_faults new_faults (Err Io) = Reported old_faults new_faults
-ReadsBack content MayAsk c input rest new old_faults new_faults (Err Memory) = MayAsk input
-ReadsBack content MayAsk c input rest new old_faults new_faults (Err Ended) = ⊥
-ReadsBack content MayAsk c input rest new old_faults new_faults (Err InvalidLength) = ⊥
+ReadsBack content MayAllocate c input rest new old_faults new_faults (Ok v) = (content v ≡ c) × (new ≡ Some rest)
+ReadsBack content MayAllocate c input rest new old_faults new_faults (Err Io) = Reported old_faults new_faults
+ReadsBack content MayAllocate c input rest new old_faults new_faults (Err Memory) = MayAllocate input
+ReadsBack content MayAllocate c input rest new old_faults new_faults (Err Ended) = ⊥
+ReadsBack content MayAllocate c input rest new old_faults new_faults (Err InvalidLength) = ⊥
 
 -- Just a count, above the room, and one item more than the room were taken.
 pub record TakesTooMany {C : Type 0} (Spells : C → List ℕ → Type 0) (room : ℕ) (old new : Option (List ℕ)) : Type 0 where
@@ -50,7 +50,7 @@ pub record TakesTooMany {C : Type 0} (Spells : C → List ℕ → Type 0) (room 
   pub items : List C
   pub over : length items ≡ room + 1
   pub above : room < len
-  pub taken : Takes (HasParts (IsCount len) (SpellsItems Spells items)) old new
+  pub taken : ReadsSpelling (HasParts (IsCount len) (SpellsItems Spells items)) old new
 
 -- After `InvalidLength` just these were taken; or an inner list is too long.
 abbrev pub LeavesRest : {C : Type 0} → (C → List ℕ → Type 0) → (IsTooLong : List ℕ → Type 0) → (room : ℕ) → (old new : Option (List ℕ)) → BorshError → Type 0

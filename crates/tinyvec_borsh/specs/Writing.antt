@@ -4,8 +4,8 @@ use Rattle.std.specs.Io.KnownBytes.{Appends}
 use Rattle.tinyvec_io.specs.Counted.{AppendsFront}
 
 -- What was written spells it, and was added to what the writer had, where that is known.
-abbrev pub Adds : (List ℕ → Type 0) → Option (List ℕ) → Option (List ℕ) → Type 0
-Adds SpellsIt old new = (bytes : List ℕ) × SpellsIt bytes × Appends old new bytes
+abbrev pub WritesSpelling : (List ℕ → Type 0) → Option (List ℕ) → Option (List ℕ) → Type 0
+WritesSpelling SpellsIt old new = (bytes : List ℕ) × SpellsIt bytes × Appends old new bytes
 
 -- What was written begins each spelling.
 abbrev pub AddsFront : (List ℕ → Type 0) → Option (List ℕ) → Option (List ℕ) → Type 0

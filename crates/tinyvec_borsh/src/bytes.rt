@@ -18,7 +18,7 @@ pub(crate) fn read_bytes<R: Read>(reader: &mut Counted<R>, buf: &mut [u8]) -> Re
     ensures taken { IfErr result (TakesSome (R.remaining reader.old.inner) (R.remaining reader.new.inner)) }
     ensures ended { IfErr result (λ e. e ≡ BorshError.Ended
         → MayBe (R.remaining reader.old.inner) (IsFewBytes (length buf.old))) }
-    ensures grows { reader.old.faults ≤ reader.new.faults }
+    ensures faults_grow { reader.old.faults ≤ reader.new.faults }
 {
     match reader.fill(buf) {
         Ok(count) if count < buf.len() => Err(BorshError::Ended),
@@ -32,7 +32,7 @@ pub(crate) fn write_bytes<W: Write>(writer: &mut Counted<W>, bytes: &[u8]) -> Re
     ensures ok { OnOk result (Appends (W.contents writer.old.inner) (W.contents writer.new.inner) bytes.now) }
     ensures err { IfErr result (λ e. (e ≡ BorshError.Io) × Reported writer.old.faults writer.new.faults) }
     ensures front { OnErr result (AppendsFront (W.contents writer.old.inner) (W.contents writer.new.inner) bytes.now) }
-    ensures grows { writer.old.faults ≤ writer.new.faults }
+    ensures faults_grow { writer.old.faults ≤ writer.new.faults }
 {
     match writer.write_all(bytes) {
         Ok(()) => Ok(()),

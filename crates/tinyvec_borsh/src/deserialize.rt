@@ -2,7 +2,7 @@
 ghost use Rattle.std.specs.Prelude.{◌≤◌, ℕ, List, length, map, IfErr, IfOk, OnOk};
 ghost use Rattle.std.specs.List.{AllByRecursion};
 ghost use Rattle.tinyvec_borsh.specs.Items.{AfterItems, SpellsItems};
-ghost use Rattle.tinyvec_borsh.specs.Reading.{Fails, Takes, TakesSome};
+ghost use Rattle.tinyvec_borsh.specs.Reading.{Fails, ReadsSpelling, TakesSome};
 ghost use Rattle.tinyvec_borsh.specs.Apart.{AreApart};
 
 use crate::{BorshError, BorshForm};
@@ -19,7 +19,7 @@ pub trait BorshDeserialize: BorshForm + Sized {
     ghost IsTooLong: { List ℕ → Type 0 };
 
     // Reading this input may allocate.
-    ghost MayAsk: { List ℕ → Type 0 };
+    ghost MayAllocate: { List ℕ → Type 0 };
 
     /// Reads the value at the start of the input, and leaves the rest unread. A whole number is read by one call, and a
     /// list of whole numbers in blocks. Allocates only if a `TinyVec` moves to the heap.
@@ -27,13 +27,13 @@ pub trait BorshDeserialize: BorshForm + Sized {
         alloc: Global,
         reader: &mut Counted<R>,
     ) -> Result<Self, BorshError>
-        ensures ok { IfOk result (λ v. Takes (Self.Spells (Self.content_of v))
+        ensures ok { IfOk result (λ v. ReadsSpelling (Self.Spells (Self.content_of v))
             (R.remaining reader.old.inner) (R.remaining reader.new.inner)) }
         ensures fits { IfOk result (λ v. Self.Fits (Self.content_of v)) }
-        ensures err { IfErr result (Fails IsCut IsTooLong MayAsk
+        ensures err { IfErr result (Fails IsCut IsTooLong MayAllocate
             (R.remaining reader.old.inner) reader.old.faults reader.new.faults) }
         ensures taken { IfErr result (TakesSome (R.remaining reader.old.inner) (R.remaining reader.new.inner)) }
-        ensures grows { reader.old.faults ≤ reader.new.faults };
+        ensures faults_grow { reader.old.faults ≤ reader.new.faults };
 
     /// Reads a value into each slot, one after the other.
     fn deserialize_slots<R: Read>(
@@ -43,15 +43,15 @@ pub trait BorshDeserialize: BorshForm + Sized {
     ) -> Result<(), BorshError>
     where
         Self: Drop,
-        ensures ok { OnOk result (Takes (SpellsItems Self.Spells (map Self.content_of slots.new))
+        ensures ok { OnOk result (ReadsSpelling (SpellsItems Self.Spells (map Self.content_of slots.new))
             (R.remaining reader.old.inner) (R.remaining reader.new.inner)) }
         ensures fits { OnOk result (AllByRecursion Self.Fits (map Self.content_of slots.new)) }
         ensures err { IfErr result (Fails (AfterItems Self.Spells Self.Fits IsCut (length slots.old))
             (AfterItems Self.Spells Self.Fits IsTooLong (length slots.old))
-            (AfterItems Self.Spells Self.Fits MayAsk (length slots.old))
+            (AfterItems Self.Spells Self.Fits MayAllocate (length slots.old))
             (R.remaining reader.old.inner) reader.old.faults reader.new.faults) }
         ensures taken { IfErr result (TakesSome (R.remaining reader.old.inner) (R.remaining reader.new.inner)) }
-        ensures grows { reader.old.faults ≤ reader.new.faults }
+        ensures faults_grow { reader.old.faults ≤ reader.new.faults }
     {
         for i in 0..slots.len() {
             slots[i] = Self::deserialize_reader(alloc, reader)?;

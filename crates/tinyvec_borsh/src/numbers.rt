@@ -46,7 +46,7 @@ impl<T: Number> BorshDeserialize for T {
 
     ghost IsTooLong = { λ _. ⊥ };
 
-    ghost MayAsk = { λ _. ⊥ };
+    ghost MayAllocate = { λ _. ⊥ };
 
     ghost apart = { apart_by_length (byte_len T.form.width) T.form.Spells T.form.Fits T.form.many };
 

@@ -20,7 +20,7 @@ pub fn read_back<T: BorshDeserialize, R: Read>(
 ) -> Result<T, BorshError>
     ensures { (c : T.Content) (bytes rest : List ℕ) → T.Fits c → T.Spells c bytes
         → R.remaining reader.old.inner ≡ Some (bytes ++ rest)
-        → ReadsBack T.content_of T.MayAsk c (bytes ++ rest) rest
+        → ReadsBack T.content_of T.MayAllocate c (bytes ++ rest) rest
         (R.remaining reader.new.inner) reader.old.faults reader.new.faults result }
 {
     T::deserialize_reader(alloc, reader)

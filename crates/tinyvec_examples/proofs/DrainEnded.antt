@@ -3,7 +3,7 @@ use Rattle.std.proofs.Common.{◌≡◌, ℤ, pos, ◌++◌, replicate}
 use Rattle.tinyvec_slots.specs.Slots.{Slots, all_slots}
 use Rattle.tinyvec_array.specs.Drain.{DrainCanStep, DrainKeeps, DrainLeaves, drain_kept, drain_count, drain_spare}
 use Rattle.tinyvec_array.specs.declared.drain.ArrayVecDrain.{ArrayVecDrain}
-use Rattle.tinyvec_array.proofs.DrainedLemmas.{drained}
+use Rattle.tinyvec_array.proofs.DrainEndLemmas.{drained}
 
 -- the vacated slots hold 0
 pub numbers_left : {A : Type 0} (first last : ArrayVecDrain A ℤ) (v : Slots ℤ) → DrainCanStep first → DrainKeeps first last

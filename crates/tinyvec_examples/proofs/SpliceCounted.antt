@@ -3,7 +3,7 @@ use Rattle.std.proofs.Common.{◌≡◌, ℕ, ◌+◌, ◌-◌, ◌≤◌, max, 
 use Rattle.std.proofs.lemmas.List.{length_push}
 use Rattle.std.specs.Option.{option_to_list}
 use Rattle.std.specs.declared.iter.Fuse.{Fuse}
-use Rattle.tinyvec_slots.specs.Ends.{End, front, back, Asks, given_items}
+use Rattle.tinyvec_slots.specs.Ends.{End, front, back, RunsWord, given_items}
 use Rattle.tinyvec_slots.specs.AnySplice.{SpliceView, Splices, SplicesBack, finish_placed, finish_bound}
 use Rattle.tinyvec_array.specs.Splice.{splice_view, SpliceKeeps, SpliceSteps, SpliceStepsBack}
 use Rattle.tinyvec_array.specs.declared.splice.ArrayVecSplice.{ArrayVecSplice}
@@ -33,7 +33,7 @@ module _ {S I T : Type 0} (view : S → SpliceView I T) (keeps : S → S → Typ
   }
 
   pub counted : (s : S) (word : List End) (answers : List (Option T)) (t : S)
-      → Asks (Splices view keeps gives) (SplicesBack view keeps gives_back) s word answers t → Counts view keeps s answers t
+      → RunsWord (Splices view keeps gives) (SplicesBack view keeps gives_back) s word answers t → Counts view keeps s answers t
   counted s [] [] t is =
       subst (Counts view keeps s []) (sym is) record {
         placed = 0;
@@ -76,14 +76,14 @@ module _ {S I T : Type 0} (view : S → SpliceView I T) (keeps : S → S → Typ
 -- the same of an array's splice
 pub array_counted : {A I T : Type 0} (gives gives_back : Fuse I → Option T → Fuse I → Type 0)
     → (s : ArrayVecSplice A (Fuse I) T) (word : List End) (answers : List (Option T)) (t : ArrayVecSplice A (Fuse I) T)
-    → Asks (SpliceSteps gives) (SpliceStepsBack gives_back) s word answers t → Counts splice_view SpliceKeeps s answers t
+    → RunsWord (SpliceSteps gives) (SpliceStepsBack gives_back) s word answers t → Counts splice_view SpliceKeeps s answers t
 array_counted =
     counted splice_view SpliceKeeps keeps_same keeps_then
 
 -- and of a `TinyVec`'s
 pub tiny_counted : {A I T : Type 0} (gives gives_back : Fuse I → Option T → Fuse I → Type 0)
     → (s : TinyVecSplice A (Fuse I) T) (word : List End) (answers : List (Option T)) (t : TinyVecSplice A (Fuse I) T)
-    → Asks (tiny.SpliceSteps gives) (tiny.SpliceStepsBack gives_back) s word answers t
+    → RunsWord (tiny.SpliceSteps gives) (tiny.SpliceStepsBack gives_back) s word answers t
     → Counts tiny.splice_view tiny.SpliceKeeps s answers t
 tiny_counted =
     counted tiny.splice_view tiny.SpliceKeeps tiny_lemmas.keeps_same tiny_lemmas.keeps_then

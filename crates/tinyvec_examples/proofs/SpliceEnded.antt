@@ -9,7 +9,7 @@ use Rattle.tinyvec_slots.proofs.SlotsLemmas.{zeros_are, slots_are}
 use Rattle.tinyvec_slots.specs.AnySplice.{SpliceView, Splices, SplicesBack, FinishesWith}
 use Rattle.tinyvec_slots.specs.SplicedByWord.{placed_back, IsSpliceRefused, SplicedByWord}
 use Rattle.tinyvec_slots.specs.declared.no_room.SpliceRest.{SpliceRest}
-use Rattle.tinyvec_slots.proofs.SplicingLemmas.{spliced_len, spliced_all, spliced_refused}
+use Rattle.tinyvec_slots.proofs.AnySpliceLemmas.{spliced_len, spliced_all, spliced_refused}
 use Rattle.tinyvec_array.specs.Splice.{splice_slots, SpliceKeeps}
 use Rattle.tinyvec_array.specs.declared.splice.ArrayVecSplice.{ArrayVecSplice}
 

@@ -1,7 +1,7 @@
 //! Callers of a drain.
 ghost use Rattle.std.specs.Prelude.{◌≡◌, ◌≤◌, ◌-◌, ◌++◌, ◌∷◌, [], pos, Some, slice_get};
 ghost use Rattle.tinyvec_array.specs.Slots.{items, items_len, SlotRule};
-ghost use Rattle.tinyvec_array.specs.Cut.{IsRangeOf, before, removed, after};
+ghost use Rattle.tinyvec_array.specs.Ranges.{IsRangeOf, before, removed, after};
 
 use std::ops::{Bound, RangeBounds};
 use tinyvec_array::{Array, ArrayVec};
@@ -126,7 +126,7 @@ pub fn from_behind() -> Option<i32>
 /// The whole list, of any vector.
 pub fn drain_all<A: Array>(v: &mut ArrayVec<A>)
     ensures items { items v.new ≡ [] }
-    ensures spare { SlotRule A.Item.is_default v.old v.new }
+    ensures slot_rule { SlotRule A.Item.is_default v.old v.new }
 {
     drop(v.drain(..));
 }
@@ -137,7 +137,7 @@ pub fn cut<A: Array, R: RangeBounds<usize>>(v: &mut ArrayVec<A>, range: R)
     requires in_list { IsRangeOf (items v.old) (R.start_bound range) (R.end_bound range) }
     ensures items { items v.new
         ≡ before (items v.old) (R.start_bound range) ++ after (items v.old) (R.end_bound range) }
-    ensures spare { SlotRule A.Item.is_default v.old v.new }
+    ensures slot_rule { SlotRule A.Item.is_default v.old v.new }
 {
     drop(v.drain(range));
 }
@@ -152,7 +152,7 @@ pub fn nth_of<A: Array, R: RangeBounds<usize>>(
     requires in_list { IsRangeOf (items v.old) (R.start_bound range) (R.end_bound range) }
     ensures item { result ≡ slice_get (removed (items v.old) (R.start_bound range) (R.end_bound range)) n }
     ensures left { items v.new ≡ before (items v.old) (R.start_bound range) ++ after (items v.old) (R.end_bound range) }
-    ensures spare { SlotRule A.Item.is_default v.old v.new }
+    ensures slot_rule { SlotRule A.Item.is_default v.old v.new }
 {
     let mut d = v.drain(range);
     d.nth(n)

@@ -2,7 +2,7 @@
 ghost use Rattle.std.specs.Prelude.{◌≡◌, ◌≤◌, ◌+◌, ◌-◌, ◌++◌, ◌∷◌, [], List, pos, Some, None, length, take, drop, max, IsOk, OnOk, OnErr, IfErr, ◌↔◌};
 ghost use Rattle.std.specs.Iterator.Adapters.{fuse_steps};
 ghost use Rattle.tinyvec_array.specs.Slots.{items, items_len, SlotRule};
-ghost use Rattle.tinyvec_array.specs.Ends.{front, back, given_items, Asks, TakesFromEnds};
+ghost use Rattle.tinyvec_array.specs.Ends.{front, back, given_items, RunsWord, TakesFromEnds};
 ghost use Rattle.tinyvec_array.specs.Fused.{fused_rest, HasTwoEnds};
 ghost use Rattle.tinyvec_array.specs.Splice.{splice_view, splice_left, SpliceKeeps, SpliceCanStep, SpliceSteps, SpliceStepsBack};
 ghost use Rattle.tinyvec_array.specs.SplicedByWord.{IsSpliceRefused, SplicedByWord};
@@ -16,7 +16,7 @@ pub fn one_from_each_end<A: Array, I: DoubleEndedIterator<Item = A::Item>>(
 ) -> (Option<A::Item>, Option<A::Item>)
     requires ready { SpliceCanStep splice.old }
     requires can { (s : I) → I.can_next s × I.can_next_back s }
-    ensures asked { Asks (SpliceSteps (fuse_steps I.next_gives)) (SpliceStepsBack (fuse_steps I.next_back_gives))
+    ensures asked { RunsWord (SpliceSteps (fuse_steps I.next_gives)) (SpliceStepsBack (fuse_steps I.next_back_gives))
         splice.old (front ∷ back ∷ []) (result.0 ∷ result.1 ∷ []) splice.new }
     ensures yields { TakesFromEnds (splice_left splice.old) (front ∷ back ∷ [])
         (result.0 ∷ result.1 ∷ []) (splice_left splice.new) }
@@ -32,7 +32,7 @@ pub fn one_from_each_end<A: Array, I: DoubleEndedIterator<Item = A::Item>>(
 /// Replaces the whole list of any vector, as far as there is room.
 pub fn replace_all<A: Array>(vec: &mut ArrayVec<A>, replacement: Vec<A::Item>)
     ensures fits { items_len vec.new ≤ A.CAPACITY }
-    ensures spare { SlotRule A.Item.is_default vec.old vec.new }
+    ensures slot_rule { SlotRule A.Item.is_default vec.old vec.new }
 {
     let splice = vec.splice(.., replacement);
     let _finished = splice.finish();
@@ -56,7 +56,7 @@ pub fn replace<A: Array, I: DoubleEndedIterator<Item = A::Item>>(
         (take start (items vec.old)) (drop end (items vec.old)) (rest replacement)
         (items vec.new) (refused.item ∷ fused_rest rest refused.rest)) }
     ensures full { OnErr result (items_len vec.new ≡ A.CAPACITY) }
-    ensures spare { SlotRule A.Item.is_default vec.old vec.new }
+    ensures slot_rule { SlotRule A.Item.is_default vec.old vec.new }
 {
     let mut splice = vec.splice(start..end, replacement);
     let _ends = one_from_each_end(&mut splice);

@@ -2,7 +2,7 @@
 ghost use Rattle.std.specs.Prelude.{◌≡◌, ◌≤◌, ◌+◌, ◌-◌, ◌++◌, ◌∷◌, [], List, pos, Some, length, take, drop, IsTrue, IsOk, OnOk, OnErr, IfErr};
 ghost use Rattle.std.specs.Iterator.{IsFinite};
 ghost use Rattle.std.specs.Iterator.Adapters.{fuse_steps};
-ghost use Rattle.tinyvec.specs.Ends.{front, back, Asks};
+ghost use Rattle.tinyvec.specs.Ends.{front, back, RunsWord};
 ghost use Rattle.tinyvec.specs.Fused.{fused_rest, FusedFinite, HasTwoEnds};
 ghost use Rattle.tinyvec.specs.SplicedByWord.{IsSpliceRefused, SplicedByWord};
 ghost use Rattle.tinyvec.specs.TinyVec.{tiny_items, tiny_len, tiny_capacity, IsInline, PlaceRule, TinySlotRule};
@@ -33,7 +33,7 @@ pub fn one_from_each_end<A: Array, I: DoubleEndedIterator<Item = A::Item>>(
 ) -> (Option<A::Item>, Option<A::Item>)
     requires ready { SpliceCanStep splice.old }
     requires can { (s : I) → I.can_next s × I.can_next_back s }
-    ensures asked { Asks (SpliceSteps (fuse_steps I.next_gives)) (SpliceStepsBack (fuse_steps I.next_back_gives))
+    ensures asked { RunsWord (SpliceSteps (fuse_steps I.next_gives)) (SpliceStepsBack (fuse_steps I.next_back_gives))
         splice.old (front ∷ back ∷ []) (result.0 ∷ result.1 ∷ []) splice.new }
     ensures spliced { (rest : I → List A.Item) → HasTwoEnds I.next_gives I.next_back_gives rest
         → SplicedByWord splice_view SpliceKeeps (fused_rest rest) splice.old (front ∷ back ∷ []) splice.new }
@@ -70,7 +70,7 @@ pub fn replace<A: Array, I: DoubleEndedIterator<Item = A::Item>>(
         → IsOk result }
     ensures full { OnErr result (tiny_len vec.new ≡ tiny_capacity A.CAPACITY vec.new) }
     ensures place { PlaceRule A.CAPACITY (tiny_len vec.new) vec.old vec.new }
-    ensures slots { TinySlotRule A.Item.is_default vec.old vec.new }
+    ensures slot_rule { TinySlotRule A.Item.is_default vec.old vec.new }
 {
     let mut splice = vec.splice(start..end, replacement);
     let _ends = one_from_each_end(&mut splice);

@@ -1,6 +1,6 @@
 //! Callers of a `TinyVec`: one list, and where it is.
 ghost use Rattle.std.specs.Prelude.{◌≡◌, ◌+◌, ◌-◌, ◌<◌, ◌≤◌, ◌++◌, ◌∷◌, [], pos, slice_get, slice_set, false, IsTrue, OnOk, OnErr};
-ghost use Rattle.tinyvec.specs.Cut.{IsRangeOf, before, removed, after};
+ghost use Rattle.tinyvec.specs.Ranges.{IsRangeOf, before, removed, after};
 ghost use Rattle.tinyvec.specs.TinyVec.{tiny_items, tiny_len, tiny_spare, is_inline, tiny_capacity, IsInline, TinySlotRule, Unchanged};
 
 use crate::making::count;
@@ -77,7 +77,7 @@ pub fn cut<A: Array, R: RangeBounds<usize>>(v: &mut TinyVec<A>, range: R)
     ensures items { tiny_items v.new
         ≡ before (tiny_items v.old) (R.start_bound range) ++ after (tiny_items v.old) (R.end_bound range) }
     ensures place { is_inline v.new ≡ is_inline v.old }
-    ensures slots { TinySlotRule A.Item.is_default v.old v.new }
+    ensures slot_rule { TinySlotRule A.Item.is_default v.old v.new }
     ensures capacity { tiny_capacity A.CAPACITY v.new ≡ tiny_capacity A.CAPACITY v.old }
 {
     drop(v.drain(range));
@@ -95,7 +95,7 @@ pub fn nth_of<A: Array, R: RangeBounds<usize>>(
     ensures left { tiny_items v.new
         ≡ before (tiny_items v.old) (R.start_bound range) ++ after (tiny_items v.old) (R.end_bound range) }
     ensures place { is_inline v.new ≡ is_inline v.old }
-    ensures slots { TinySlotRule A.Item.is_default v.old v.new }
+    ensures slot_rule { TinySlotRule A.Item.is_default v.old v.new }
     ensures capacity { tiny_capacity A.CAPACITY v.new ≡ tiny_capacity A.CAPACITY v.old }
 {
     let mut d = v.drain(range);

@@ -51,7 +51,7 @@ impl<E> Counted<E> {
     fn count_fault(&mut self)
         ensures inner { self.new.inner ≡ self.old.inner }
         ensures faults { self.new.faults ≡ one_more_fault self.old.faults }
-        ensures grows { self.old.faults ≤ self.new.faults }
+        ensures faults_grow { self.old.faults ≤ self.new.faults }
     {
         self.faults = self.faults.saturating_add(1);
     }

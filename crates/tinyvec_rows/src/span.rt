@@ -1,6 +1,6 @@
 //! Ranges of a list.
 ghost use Rattle.std.specs.Prelude.{◌≡◌, ◌≤◌, true};
-ghost use Rattle.tinyvec_slots.specs.Cut.{range_start, range_end};
+ghost use Rattle.tinyvec_slots.specs.Ranges.{range_start, range_end};
 
 use std::ops::Bound;
 

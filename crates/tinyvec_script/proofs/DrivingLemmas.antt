@@ -7,15 +7,15 @@ use Rattle.std.specs.Vec.Iter.{into_iter_items, into_iter_len, into_iter_steps, 
 use Rattle.std.specs.declared.vec.IntoIter.{IntoIter}
 use Rattle.std.specs.declared.ops.Bound.TheVariants.{Included, Excluded}
 use Rattle.tinyvec_slots.specs.Slots.{Slots, spare, items_len, SlotRule}
-use Rattle.tinyvec_slots.specs.Cut.{before, removed, after}
-use Rattle.tinyvec_slots.specs.Ends.{Asks, GivenByWord, TakesFromEnds, given_items}
+use Rattle.tinyvec_slots.specs.Ranges.{before, removed, after}
+use Rattle.tinyvec_slots.specs.Ends.{RunsWord, GivenByWord, TakesFromEnds, given_items}
 use Rattle.tinyvec_slots.specs.Fused.{HasTwoEnds}
 use Rattle.tinyvec_slots.specs.AnySplice.{SpliceView, FinishesWith}
 use Rattle.tinyvec_slots.specs.SplicedByWord.{IsSpliceRefused, SplicedByWord}
 use Rattle.tinyvec_slots.specs.declared.no_room.SpliceRest.{SpliceRest}
-use Rattle.tinyvec_slots.proofs.EndsLemmas.{Asks-front, Asks-back, items_given, given_is_taken}
+use Rattle.tinyvec_slots.proofs.EndsLemmas.{RunsWord-front, RunsWord-back, items_given, given_is_taken}
 use Rattle.tinyvec_slots.proofs.Lists.{length-slice_range}
-use Rattle.tinyvec_slots.proofs.SplicingLemmas.{spliced_len, spliced_all, spliced_refused}
+use Rattle.tinyvec_slots.proofs.AnySpliceLemmas.{spliced_len, spliced_all, spliced_refused}
 use Rattle.tinyvec.specs.TinyVec.{tiny_capacity, PlaceRule, SameFrame}
 use Rattle.tinyvec.specs.Room.{KeepsRoom, GrowsInSteps}
 use Rattle.tinyvec.specs.declared.tiny_vec.TinyVec.{TinyVec}
@@ -27,11 +27,11 @@ use Rattle.tinyvec_script.specs.declared.call.End.TheVariants.{Front, Back}
 
 module _ {S T : Type 0} (gives gives_back : S → Option T → S → Type 0) where
   -- one letter more
-  pub Asks-letter : (e : End) (s : S) (word : _) (answers : List (Option T)) (mid : S) (r : Option T) (to : S)
-      → Asks gives gives_back s word answers mid → TakesAt gives gives_back e mid r to
-      → Asks gives gives_back s (word ++ letter e ∷ []) (answers ++ r ∷ []) to
-  Asks-letter Front = Asks-front gives gives_back
-  Asks-letter Back = Asks-back gives gives_back
+  pub RunsWord-letter : (e : End) (s : S) (word : _) (answers : List (Option T)) (mid : S) (r : Option T) (to : S)
+      → RunsWord gives gives_back s word answers mid → TakesAt gives gives_back e mid r to
+      → RunsWord gives gives_back s (word ++ letter e ∷ []) (answers ++ r ∷ []) to
+  RunsWord-letter Front = RunsWord-front gives gives_back
+  RunsWord-letter Back = RunsWord-back gives gives_back
 
 -- the word with one letter more
 pub word_of-more : (word : List End) (i : ℕ) (d : End) → i < length word → word_of (take (i + 1) word) ≡ word_of (take i word) ++ letter (get_or word i d) ∷ []

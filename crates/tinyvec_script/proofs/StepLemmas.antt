@@ -6,7 +6,7 @@ use Rattle.std.proofs.lemmas.List.{length_push}
 use Rattle.std.proofs.lemmas.List.Edits.{length-insert, length-remove}
 use Rattle.std.proofs.lemmas.Option.{slice_get_read}
 use Rattle.tinyvec_slots.specs.Slots.{Slots, items, spare, items_len, Vacates}
-use Rattle.tinyvec_slots.specs.Cut.{before, removed, after}
+use Rattle.tinyvec_slots.specs.Ranges.{before, removed, after}
 use Rattle.tinyvec_slots.proofs.Lists.{length-remove_range, length-slice_range}
 use Rattle.tinyvec_slots.proofs.SlotsLemmas.{slots_used, slots_freed}
 use Rattle.tinyvec_script.specs.Driving.{ArraySplices}

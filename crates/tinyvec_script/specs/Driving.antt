@@ -2,8 +2,8 @@
 use Rattle.std.specs.Prelude.{◌≡◌, ℕ, ◌+◌, ◌-◌, ◌<◌, ◌≤◌, List, [], ◌∷◌, ◌++◌, length, map, take, drop, slice_range, Option, Bool, nat_lt, if◌then◌else◌, Result, Ok, Err}
 use Rattle.std.specs.declared.ops.Bound.TheVariants.{Included, Excluded}
 use Rattle.tinyvec_slots.specs.Slots.{Slots, items, SlotRule}
-use Rattle.tinyvec_slots.specs.Cut.{before, removed, after}
-use Rattle.tinyvec_slots.specs.Ends.{front, back, Asks, GivenByWord, taken}
+use Rattle.tinyvec_slots.specs.Ranges.{before, removed, after}
+use Rattle.tinyvec_slots.specs.Ends.{front, back, RunsWord, GivenByWord, taken}
 use Rattle.tinyvec_slots.specs.Ends as ends
 use Rattle.tinyvec_slots.specs.SplicedByWord.{IsSpliceRefused, placed_back}
 use Rattle.tinyvec_slots.specs.declared.no_room.SpliceRest.{SpliceRest}
@@ -31,7 +31,7 @@ module _ {S T : Type 0} (gives gives_back : S → Option T → S → Type 0) whe
   -- this holds of the answers to any word that is asked of s, and where it leads
   abbrev pub WhateverIsAsked : S → (List (Option T) → S → Type 0) → Type 0
   WhateverIsAsked s Holds = (word : List ends.End) (answers : List (Option T)) (t : S)
-      → Asks gives gives_back s word answers t → Holds answers t
+      → RunsWord gives gives_back s word answers t → Holds answers t
 
 -- the item that found no room, and what gives the others
 abbrev pub refused_items : {I T : Type 0} → (I → List T) → Result Unit (SpliceRest T I) → List T

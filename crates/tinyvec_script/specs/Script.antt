@@ -12,7 +12,7 @@ use Rattle.tinyvec_script.specs.Place.{Tiny, in_array}
 use Rattle.tinyvec_script.specs.TinyCalls.{TinyStep}
 use Rattle.tinyvec_script.specs.TextCalls.{TextCall, IsTextCommand, TextStep}
 use Rattle.tinyvec_script.specs.Command.{IsCommand}
-use Rattle.tinyvec_script.specs.Spelled.{AsksMemory}
+use Rattle.tinyvec_script.specs.Spelled.{NeedsMemory}
 use Rattle.tinyvec_script.specs.Text.{answer_text, vector_text, tiny_text, inline_text_text}
 
 -- the vectors of a script: `A` in an array, `S` in a lent slice, `T` in an array or on the heap, and `X`, a text there
@@ -62,7 +62,7 @@ pub data Answered : State → List ℕ → List ℕ → State → Type 0 where
   done : {old new : State} {line text : List ℕ} (name : Name) (call : Call ℤ) (answer : Answer ℤ) → IsCommand line name call
       → Steps name old call answer new
       → text ≡ answer_text answer ++ codes " " ++ text_of name new → Answered old line text new
-  memory : {old new : State} {line text : List ℕ} (name : Name) → AsksMemory line name
+  memory : {old new : State} {line text : List ℕ} (name : Name) → NeedsMemory line name
       → text ≡ codes "memory" ++ codes " " ++ text_of name old → new ≡ old → Answered old line text new
   text_done : {old new : State} {line text : List ℕ} (call : TextCall) (answer : Answer ℤ) → IsTextCommand line call
       → TextSteps old call answer new

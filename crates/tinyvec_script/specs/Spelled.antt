@@ -9,7 +9,7 @@ use Rattle.tinyvec_script.specs.declared.command.Command.TheVariants as commands
 use Rattle.tinyvec_script.specs.TextCalls.{TextCall, IsTextCommand, call_of}
 
 -- the line spells a splice of a vector that has splices, whose letters or numbers have to be allocated
-pub record AsksMemory (line : List ℕ) (name : Name) : Type 0 where
+pub record NeedsMemory (line : List ℕ) (name : Name) : Type 0 where
   pub text : List ℕ
   pub start : ℕ
   pub end : ℕ
@@ -34,4 +34,4 @@ Spells line (commands.Vector name call) = IsCommand line name call
 Spells line (commands.Text call) = IsTextCommand line (call_of call)
 Spells line commands.Bad = ((name : Name) (call : Call ℤ) → IsCommand line name call → ⊥)
     × ((call : TextCall) → IsTextCommand line call → ⊥)
-Spells line (commands.Memory name) = AsksMemory line name
+Spells line (commands.Memory name) = NeedsMemory line name

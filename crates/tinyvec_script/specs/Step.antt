@@ -3,7 +3,7 @@ use Rattle.std.specs.Prelude.{◌≡◌, ℕ, ◌+◌, ◌-◌, ◌<◌, ◌≤�
 use Rattle.std.specs.List.{swap_remove}
 use Rattle.std.specs.declared.ops.Bound.TheVariants.{Included, Excluded}
 use Rattle.tinyvec_slots.specs.Slots.{Slots, items, items_len, all_slots, split_at, SlotRule}
-use Rattle.tinyvec_slots.specs.Cut.{IsRangeOf, before, removed, after}
+use Rattle.tinyvec_slots.specs.Ranges.{IsRangeOf, before, removed, after}
 use Rattle.tinyvec_script.specs.Driving.{ArraySplices}
 use Rattle.tinyvec_script.specs.declared.call.End.{End}
 use Rattle.tinyvec_script.specs.declared.call.Call.{Call}

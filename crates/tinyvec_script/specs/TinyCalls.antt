@@ -3,7 +3,7 @@ use Rattle.std.specs.Prelude.{◌≡◌, ℕ, ◌+◌, ◌-◌, ◌<◌, ◌≤�
 use Rattle.std.specs.List.{swap_remove}
 use Rattle.std.specs.declared.ops.Bound.TheVariants.{Included, Excluded}
 use Rattle.tinyvec_slots.specs.Slots.{AreDefaults}
-use Rattle.tinyvec_slots.specs.Cut.{IsRangeOf, before, removed, after}
+use Rattle.tinyvec_slots.specs.Ranges.{IsRangeOf, before, removed, after}
 use Rattle.tinyvec_script.specs.Place.{Tiny, count, Inline, lies_inline, room, Ruled, Doubled, Grown, GrownInSteps}
 use Rattle.tinyvec_script.specs.Driving.{ListSplices}
 use Rattle.tinyvec_script.specs.declared.call.End.{End}

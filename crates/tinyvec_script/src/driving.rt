@@ -1,7 +1,7 @@
 //! A splice whose items are taken from the ends that a word names.
 ghost use Rattle.std.specs.Prelude.{◌≡◌, ◌+◌, ◌<◌, ◌≤◌, ◌∷◌, ◌++◌, [], List, Option, length, IfOk, OnErr, vec_len, vec_capacity};
 ghost use Rattle.std.specs.Vec.Iter.{into_iter_items};
-ghost use Rattle.tinyvec_slots.specs.Ends.{Asks, given_items};
+ghost use Rattle.tinyvec_slots.specs.Ends.{RunsWord, given_items};
 ghost use Rattle.tinyvec_slots.specs.Fused.{fused_rest};
 ghost use Rattle.tinyvec_script.specs.Driving.{word_of, TakesAt, WhateverIsAsked, refused_items};
 ghost use Rattle.tinyvec_script.specs.declared.call.Answer.TheVariants as answers;
@@ -69,7 +69,7 @@ fn take_word<S: TwoEnds>(splice: &mut S, word: &[End], yields: &mut Vec<S::Item>
     requires room { WhateverIsAsked S.gives S.gives_back splice.old
         (λ answers t. vec_len yields.old + length (given_items answers) ≤ vec_capacity yields.old) }
     ensures asks { (answers : List (Option S.Item))
-        × Asks S.gives S.gives_back splice.old (word_of word.now) answers splice.new
+        × RunsWord S.gives S.gives_back splice.old (word_of word.now) answers splice.new
         × (yields.new.items ≡ yields.old.items ++ given_items answers) }
 {
     for letter in word {

@@ -1,6 +1,6 @@
 //! One call of a vector whose slots are all there from the start, answered.
 ghost use Rattle.std.specs.Prelude.{◌≡◌};
-ghost use Rattle.tinyvec_slice.specs.SliceVec.{seen_of, name_of};
+ghost use Rattle.tinyvec_slice.specs.SliceVec.{view_of, name_of};
 ghost use Rattle.tinyvec_script.specs.Step.{ArrayStep, SliceStep};
 
 use crate::driving::answer_driven;
@@ -99,7 +99,7 @@ pub(crate) fn answer_slice<B: Lent>(
 ) -> Answer<B::Item>
 where
     B::Item: Default,
-    ensures step { SliceStep B.Item.is_default (seen_of B.Lent vec.old) call result (seen_of B.Lent vec.new) }
+    ensures step { SliceStep B.Item.is_default (view_of B.Lent vec.old) call result (view_of B.Lent vec.new) }
     ensures same_slots { name_of B.Lent vec.new ≡ name_of B.Lent vec.old }
 {
     answer_in_slots!(alloc, vec, call, Call::Splice(_, _, _, _) => Answer::Unfit)

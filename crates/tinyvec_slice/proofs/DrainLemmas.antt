@@ -3,8 +3,8 @@ use Rattle.std.proofs.Common.{ℕ, Option, ◌++◌, ◌≡◌, refl, ap, ◌∙
 use Rattle.std.specs.Iterator.{SkipsThenYields}
 use Rattle.std.specs.Iterator.Runs.{YieldsInOrder}
 use Rattle.tinyvec_slots.specs.Slots.{Vacates}
-use Rattle.tinyvec_slots.proofs.DrainsLemmas.{runs_in_order, step_keeps, nth_keeps}
-use Rattle.tinyvec_slice.specs.SliceVec.{seen_of, spare_of}
+use Rattle.tinyvec_slots.proofs.AnyDrainLemmas.{runs_in_order, step_keeps, nth_keeps}
+use Rattle.tinyvec_slice.specs.SliceVec.{view_of, spare_of}
 use Rattle.tinyvec_slice.specs.Drain.{drain_items, drain_count, drain_spare, DrainSteps, DrainKeeps, DrainLeaves}
 use Rattle.tinyvec_slice.specs.declared.lent.Lent as Lent
 use Rattle.tinyvec_slice.specs.declared.slice_vec.GenericSliceVec.{GenericSliceVec}
@@ -35,7 +35,7 @@ module _ {B T : Type 0} (g : Lent.Ghosts B T) where
 
   -- what a drain that ended as `last` left as spare slots, in the words of the vector that it began at
   pub drain_frees : (D : T → Type 0) (n : ℕ) (old v : GenericSliceVec B T) (first last : GenericSliceVecDrain B T)
-      → DrainKeeps g first last → drain_count first ≡ n → drain_spare g first ≡ spare_of g old → DrainLeaves g D last v → Vacates D n (seen_of g old) (seen_of g v)
+      → DrainKeeps g first last → drain_count first ≡ n → drain_spare g first ≡ spare_of g old → DrainLeaves g D last v → Vacates D n (view_of g old) (view_of g v)
   drain_frees D n old v first last kept count rest left =
       let ds = left.2.0 in
       (ds, (left.2.1.0 ∙ kept.count ∙ count, left.2.1.1), left.2.2 ∙ ap (λ xs. ds ++ xs) (kept.spare ∙ rest))

@@ -4,7 +4,7 @@ use Rattle.std.proofs.Math.Seq.{take-set-lt}
 use Rattle.std.proofs.lemmas.List.{same_lists, places, drop-set-add}
 use Rattle.std.specs.Borrow.{MutBor}
 use Rattle.tinyvec_slots.proofs.Lists.{length-remove_range, length-slice_range, drop-put, drop-vacated, take-inserted, drop-inserted, take-removed, drop-removed}
-use Rattle.tinyvec_slice.specs.Parts.{with_front}
+use Rattle.tinyvec_slice.specs.SliceParts.{with_front}
 use Rattle.tinyvec_slice.specs.SliceVec.{items_of, spare_of, slots_of, VacatesOf, items, spare, slots}
 use Rattle.tinyvec_slice.specs.Lends.{at_slots}
 use Rattle.tinyvec_slice.specs.declared.lent.Lent as Lent

@@ -3,8 +3,8 @@ use Rattle.std.proofs.Common.{◌≡◌, ℕ, List, ◌++◌, length, take, drop
 use Rattle.std.proofs.lemmas.List.{same_lists, places}
 use Rattle.tinyvec_slots.specs.Slots.{SameSpare, Shortens}
 use Rattle.tinyvec_slots.proofs.SlotsLemmas.{written_shortened}
-use Rattle.tinyvec_slice.specs.Parts.{with_front}
-use Rattle.tinyvec_slice.specs.SliceVec.{seen_of, items_of, name_of}
+use Rattle.tinyvec_slice.specs.SliceParts.{with_front}
+use Rattle.tinyvec_slice.specs.SliceVec.{view_of, items_of, name_of}
 use Rattle.tinyvec_slice.specs.Lends.{at_slots}
 use Rattle.tinyvec_slice.specs.declared.lent.Lent as Lent
 use Rattle.tinyvec_slice.specs.declared.slice_vec.GenericSliceVec.{GenericSliceVec}
@@ -25,10 +25,10 @@ module _ {B T : Type 0} (g : Lent.Ghosts B T) where
 
   -- the same slots are lent, and a write of the list or a cut of its tail left the spare slots so
   abbrev pub KeptOf : GenericSliceVec B T → GenericSliceVec B T → Type 0
-  KeptOf old new = (name_of g new ≡ name_of g old) × SameSpare (seen_of g old) (seen_of g new)
+  KeptOf old new = (name_of g new ≡ name_of g old) × SameSpare (view_of g old) (view_of g new)
 
   abbrev pub CutOf : (T → Type 0) → GenericSliceVec B T → GenericSliceVec B T → Type 0
-  CutOf D old new = (name_of g new ≡ name_of g old) × Shortens D (seen_of g old) (seen_of g new)
+  CutOf D old new = (name_of g new ≡ name_of g old) × Shortens D (view_of g old) (view_of g new)
 
   pub written_of : (v : GenericSliceVec B T) (ws : List T) → length ws ≡ length (items_of g v)
       → (items_of g (with_items_of v ws) ≡ ws) × KeptOf v (with_items_of v ws)
@@ -40,4 +40,4 @@ module _ {B T : Type 0} (g : Lent.Ghosts B T) where
       (list, (g.name_kept v.lent slots, (behind, ap length list ∙ long)))
 
   pub kept_cut_of : (D : T → Type 0) (u v w : GenericSliceVec B T) → KeptOf u v → CutOf D v w → CutOf D u w
-  kept_cut_of D u v w k h = (h.0 ∙ k.0, written_shortened D (seen_of g u) (seen_of g v) (seen_of g w) k.1 h.1)
+  kept_cut_of D u v w k h = (h.0 ∙ k.0, written_shortened D (view_of g u) (view_of g v) (view_of g w) k.1 h.1)

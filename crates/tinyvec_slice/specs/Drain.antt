@@ -18,8 +18,8 @@ module _ {B T : Type 0} where
   drain_count d = d.count
 
   -- the ghost name of the reference to the vector
-  abbrev pub drain_owner : GenericSliceVecDrain B T → GName
-  drain_owner d = d.vec.ghost_name
+  abbrev pub drain_lender : GenericSliceVecDrain B T → GName
+  drain_lender d = d.vec.ghost_name
 
 module _ {B T : Type 0} (g : Lent.Ghosts B T) where
   -- the remaining items
@@ -49,7 +49,7 @@ module _ {B T : Type 0} (g : Lent.Ghosts B T) where
 
   -- old and new borrow the same vector, and leave it the same
   pub record DrainKeeps (old new : GenericSliceVecDrain B T) : Type 0 where
-    pub same_reference : drain_owner new ≡ drain_owner old
+    pub same_reference : drain_lender new ≡ drain_lender old
     pub same_slots : drain_name new ≡ drain_name old
     pub kept : drain_kept new ≡ drain_kept old
     pub count : drain_count new ≡ drain_count old

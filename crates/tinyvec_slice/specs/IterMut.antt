@@ -3,7 +3,7 @@ use Rattle.std.specs.Prelude.{length}
 use Rattle.std.specs.Borrow.{Fml, RattleType, MutBor, Array, follows}
 use Rattle.std.specs.Slice.Iter.{iter_mut_name}
 use Rattle.std.specs.declared.slice.IterMut.{IterMut}
-use Rattle.tinyvec_slice.specs.Parts.{with_front}
+use Rattle.tinyvec_slice.specs.SliceParts.{with_front}
 use Rattle.tinyvec_slice.specs.SliceVec.{items_of}
 use Rattle.tinyvec_slice.specs.Lends.{at_slots}
 use Rattle.tinyvec_slice.specs.declared.lent.Lent as Lent

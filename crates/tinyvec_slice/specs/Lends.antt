@@ -1,7 +1,7 @@
 -- What a vector in lent slots is after a borrow of its items.
 use Rattle.std.specs.Prelude.{ℕ, List, length, slice_set}
 use Rattle.std.specs.Borrow.{Lends, Fml, MutBor, RattleType, Array}
-use Rattle.tinyvec_slice.specs.Parts.{with_front, with_back}
+use Rattle.tinyvec_slice.specs.SliceParts.{with_front, with_back}
 use Rattle.tinyvec_slice.specs.SliceVec.{items_of}
 use Rattle.tinyvec_slice.specs.declared.lent.Lent as Lent
 use Rattle.tinyvec_slice.specs.declared.slice_vec.GenericSliceVec.{GenericSliceVec}

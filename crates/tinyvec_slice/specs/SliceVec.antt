@@ -8,16 +8,16 @@ use Rattle.tinyvec_slice.specs.declared.slice_vec.GenericSliceVec.{GenericSliceV
 -- The words of generic code, over what the trait says of the slots that are lent.
 module _ {B T : Type 0} (g : Lent.Ghosts B T) where
   -- the slots, and how many of them hold the list
-  abbrev pub seen_of : GenericSliceVec B T → Slots T
-  seen_of v = record { slots = g.slots v.lent; len = v.len }
+  abbrev pub view_of : GenericSliceVec B T → Slots T
+  view_of v = record { slots = g.slots v.lent; len = v.len }
 
   -- the list
   abbrev pub items_of : GenericSliceVec B T → List T
-  items_of v = items_in (seen_of v)
+  items_of v = items_in (view_of v)
 
   -- the spare slots after it
   abbrev pub spare_of : GenericSliceVec B T → List T
-  spare_of v = spare_in (seen_of v)
+  spare_of v = spare_in (view_of v)
 
   -- the length of the list
   abbrev pub len_of : GenericSliceVec B T → ℕ
@@ -33,20 +33,20 @@ module _ {B T : Type 0} (g : Lent.Ghosts B T) where
 
   -- the n vacated slots hold defaults, and precede the old spare slots
   abbrev pub VacatesOf : (T → Type 0) → ℕ → GenericSliceVec B T → GenericSliceVec B T → Type 0
-  VacatesOf D n old new = Vacates D n (seen_of old) (seen_of new)
+  VacatesOf D n old new = Vacates D n (view_of old) (view_of new)
 
 -- The same words of a vector in a lent slice.
 module _ {T : Type 0} where
-  abbrev pub seen : GenericSliceVec (MutBor (List T)) T → Slots T
-  seen v = record { slots = v.lent.now; len = v.len }
+  abbrev pub view : GenericSliceVec (MutBor (List T)) T → Slots T
+  view v = record { slots = v.lent.now; len = v.len }
 
   -- the list
   abbrev pub items : GenericSliceVec (MutBor (List T)) T → List T
-  items v = items_in (seen v)
+  items v = items_in (view v)
 
   -- the spare slots after it
   abbrev pub spare : GenericSliceVec (MutBor (List T)) T → List T
-  spare v = spare_in (seen v)
+  spare v = spare_in (view v)
 
   -- the list, then the spare slots
   abbrev pub slots : GenericSliceVec (MutBor (List T)) T → List T

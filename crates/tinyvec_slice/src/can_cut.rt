@@ -21,7 +21,7 @@ where
 
     ghost Kept = { KeptOf B.Lent };
 
-    ghost Cut = { CutOf B.Lent B.Item.is_default };
+    ghost Truncated = { CutOf B.Lent B.Item.is_default };
 
     #[inline]
     fn as_mut_slice(&mut self) -> &mut [B::Item] {

@@ -4,7 +4,7 @@ ghost use Rattle.std.specs.Fmt.{debug_list, debug_variant};
 ghost use Rattle.std.specs.Iterator.{at_most, UpTo};
 ghost use Rattle.std.specs.Iterator.SizeHint.{IsWithinCount};
 ghost use Rattle.std.specs.Iterator.Runs.{YieldsInOrder};
-ghost use Rattle.tinyvec_slots.specs.Cut.{IsRangeOf, before, removed, after};
+ghost use Rattle.tinyvec_slots.specs.Ranges.{IsRangeOf, before, removed, after};
 ghost use Rattle.std.specs.List.{FoldsTo};
 ghost use Rattle.tinyvec_slice.specs.SliceVec.{items_of, spare_of, slots_of, name_of, VacatesOf};
 
@@ -32,7 +32,7 @@ impl<B: Lent> GenericSliceVec<B>
 where
     B::Item: Default,
 {
-    ghost use Rattle.tinyvec_slice.specs.Drain.{drain_items, drain_owner, drain_name, drain_kept, drain_count, drain_spare, DrainCanStep, DrainSteps};
+    ghost use Rattle.tinyvec_slice.specs.Drain.{drain_items, drain_lender, drain_name, drain_kept, drain_count, drain_spare, DrainCanStep, DrainSteps};
 
     /// Removes the range, and yields its items in order. The items after the range move down at the call. A caller that
     /// is generic over `Lent` knows what the vector holds afterwards; one that names `SliceVec` does not, and takes
@@ -51,7 +51,7 @@ where
 
         // The list is what precedes and follows the range. Once the drain is dropped, the vacated slots precede the old spare
         // slots. `same_reference` is of the reference to the vector; `same_slots` is what other calls name `same_reference`.
-        ensures same_reference { drain_owner result ≡ self.entry.ghost_name }
+        ensures same_reference { drain_lender result ≡ self.entry.ghost_name }
         ensures same_slots { drain_name B.Lent result ≡ name_of B.Lent self.old }
         ensures kept { drain_kept B.Lent result ≡ before (items_of B.Lent self.old) (R.start_bound range)
             ++ after (items_of B.Lent self.old) (R.end_bound range) }

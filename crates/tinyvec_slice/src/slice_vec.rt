@@ -4,7 +4,7 @@ ghost use Rattle.std.specs.List.{remove_range};
 ghost use Rattle.tinyvec_slots.specs.Slots.{AreDefaults, split_at};
 ghost use Rattle.std.specs.Borrow.{sem};
 ghost use Rattle.tinyvec_slice.specs.Making.{lends_array};
-ghost use Rattle.tinyvec_slice.specs.SliceVec.{seen, items, spare, name, seen_of, items_of, spare_of, slots_of, name_of, len_of};
+ghost use Rattle.tinyvec_slice.specs.SliceVec.{view, items, spare, name, view_of, items_of, spare_of, slots_of, name_of, len_of};
 ghost use Rattle.tinyvec_slice.specs.Lends.{lends_items, lends_inner, lends_spare};
 ghost use Rattle.std.specs.Slice.Iter.{iter_rest, iter_mut_rest, iter_mut_steps, iter_mut_steps_back};
 ghost use Rattle.std.specs.Iterator.Adapters.{IterYieldsInOrder, IterYieldsInReverse};
@@ -101,7 +101,7 @@ impl<B: Lent> GenericSliceVec<B> {
         requires { len ≤ length (slots_of B.Lent self.old) }
         ensures same_reference { name_of B.Lent self.new ≡ name_of B.Lent self.old }
         ensures slot_count { length (slots_of B.Lent self.new) ≡ length (slots_of B.Lent self.old) }
-        ensures value { seen_of B.Lent self.new ≡ split_at len (slots_of B.Lent self.old) }
+        ensures value { view_of B.Lent self.new ≡ split_at len (slots_of B.Lent self.old) }
         ensures fits { len_of B.Lent self.new ≡ len }
     {
         self.len = len;
@@ -224,7 +224,7 @@ impl<'s, T: Drop> GenericSliceVec<&'s mut [T]> {
     pub fn from_slice_len(slice: &'s mut [T], len: usize) -> Self
         requires { len ≤ length slice.old }
         ensures same_reference { name result ≡ slice.entry.ghost_name }
-        ensures value { seen result ≡ split_at len slice.old }
+        ensures value { view result ≡ split_at len slice.old }
         ensures items { items result ≡ take len slice.old }
         ensures spare { spare result ≡ drop len slice.old }
     {
@@ -234,7 +234,7 @@ impl<'s, T: Drop> GenericSliceVec<&'s mut [T]> {
     /// A full vector, whose list is the whole slice. An array can be passed as `&mut array`.
     pub fn from_slice(slice: &'s mut [T]) -> Self
         ensures same_reference { name result ≡ slice.entry.ghost_name }
-        ensures value { seen result ≡ split_at (length slice.old) slice.old }
+        ensures value { view result ≡ split_at (length slice.old) slice.old }
         ensures items { items result ≡ slice.old }
     {
         let len = slice.len();
@@ -244,7 +244,7 @@ impl<'s, T: Drop> GenericSliceVec<&'s mut [T]> {
     /// A vector whose list is the first `len` slots of the slice, or all slots if there are fewer.
     pub fn from_slice_at_most(slice: &'s mut [T], len: usize) -> Self
         ensures same_reference { name result ≡ slice.entry.ghost_name }
-        ensures value { seen result ≡ split_at (min len (length slice.old)) slice.old }
+        ensures value { view result ≡ split_at (min len (length slice.old)) slice.old }
         ensures items { items result ≡ take len slice.old }
         ensures spare { spare result ≡ drop len slice.old }
     {
@@ -257,7 +257,7 @@ impl<'s, T: Drop> GenericSliceVec<&'s mut [T]> {
     pub fn try_from_slice_len(slice: &'s mut [T], len: usize) -> Option<Self>
         ensures fits { IsSome result ↔ (len ≤ length slice.old) }
         ensures same_reference { IfSome result (λ v. name v ≡ slice.entry.ghost_name) }
-        ensures value { IfSome result (λ v. seen v ≡ split_at len slice.old) }
+        ensures value { IfSome result (λ v. view v ≡ split_at len slice.old) }
     {
         if len > slice.len() {
             return None;
@@ -267,7 +267,7 @@ impl<'s, T: Drop> GenericSliceVec<&'s mut [T]> {
 }
 
 impl<'s, T: Drop> Default for GenericSliceVec<&'s mut [T]> {
-    ghost is_default = { λ v. seen v ≡ split_at 0 [] };
+    ghost is_default = { λ v. view v ≡ split_at 0 [] };
 
     /// A vector over no slots.
     fn default() -> Self {
@@ -279,7 +279,7 @@ impl<'s, T: Drop> Default for GenericSliceVec<&'s mut [T]> {
 }
 
 impl<'s, T: Drop> From<&'s mut [T]> for GenericSliceVec<&'s mut [T]> {
-    ghost from_gives = { λ slice v. (name v ≡ slice.ghost_name) × (seen v ≡ split_at (length slice.now) slice.now) };
+    ghost from_gives = { λ slice v. (name v ≡ slice.ghost_name) × (view v ≡ split_at (length slice.now) slice.now) };
 
     /// A full vector, whose list is the whole slice.
     fn from(slice: &'s mut [T]) -> Self {
@@ -288,13 +288,13 @@ impl<'s, T: Drop> From<&'s mut [T]> for GenericSliceVec<&'s mut [T]> {
 }
 
 impl<'s, T: Drop, const N: usize> From<&'s mut [T; N]> for GenericSliceVec<&'s mut [T]> {
-    ghost from_gives = { λ array v. seen v ≡ split_at (length array.now) array.now };
+    ghost from_gives = { λ array v. view v ≡ split_at (length array.now) array.now };
 
     /// A full vector, whose list is the whole array. Limitation: the owner's proof does not learn what the vector did;
     /// use `from_slice` or `from_slice_len`.
     fn from(array: &'s mut [T; N]) -> Self
         ensures* writes_back { sem 𝓛 (lends_array T.row N array.entry result) }
-        ensures value { seen result ≡ split_at (length array.old) array.old }
+        ensures value { view result ≡ split_at (length array.old) array.old }
     {
         Self::from_slice(array.as_mut_slice())
     }

@@ -1,5 +1,5 @@
 //! Drains passed over, and items handed to a closure.
-ghost use Rattle.tinyvec_slots.specs.Cut.{IsRangeOf};
+ghost use Rattle.tinyvec_slots.specs.Ranges.{IsRangeOf};
 ghost use Rattle.tinyvec_slice.specs.SliceVec.{items};
 
 use std::ops::RangeBounds;

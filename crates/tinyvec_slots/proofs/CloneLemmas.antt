@@ -3,7 +3,7 @@ use Rattle.std.proofs.Common.{◌≡◌, ℕ, ◌+◌, ◌-◌, ◌<◌, ◌≤�
 use Rattle.std.proofs.lemmas.List.{drop_more, set_at, drop-drop, drop-append-le, drop-take, take-take, take_at, drop_at}
 use Rattle.std.proofs.Math.Seq.{take-append-add}
 use Rattle.std.specs.declared.ops.Bound.{Bound}
-use Rattle.tinyvec_slots.specs.Cut.{range_start, range_end, removed}
+use Rattle.tinyvec_slots.specs.Ranges.{range_start, range_end, removed}
 use Rattle.tinyvec_slots.specs.Slots.{Slots, SlotRule, all_slots, items, spare, split_at}
 use Rattle.tinyvec_slots.proofs.SlotsLemmas.{slots_used}
 use borrow.Rule.Slice.PartMut.{post_of}

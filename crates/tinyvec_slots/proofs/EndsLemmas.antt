@@ -4,7 +4,7 @@ use Rattle.std.specs.Prelude.{reverse}
 use Rattle.std.specs.Iterator.{YieldsFirst, YieldsLast}
 use Rattle.std.specs.Option.{option_to_list}
 use Rattle.std.proofs.lemmas.List.{take_more, reverse-append, take-append-le, drop-append-le, drop_all}
-use Rattle.tinyvec_slots.specs.Ends.{End, front, back, fronts, backs, from_front, from_back, GivenByWord, TakesFromEnds, Asks, given_items, answered_by, taken, untaken}
+use Rattle.tinyvec_slots.specs.Ends.{End, front, back, fronts, backs, from_front, from_back, GivenByWord, TakesFromEnds, RunsWord, given_items, answered_by, taken, untaken}
 
 -- each letter is one or the other
 pub fronts-backs : (word : List End) → fronts word + backs word ≡ length word
@@ -124,15 +124,15 @@ module _ {S T : Type 0} (gives gives_back : S → Option T → S → Type 0) (re
   one_back s (Some x) t word answers left y h =
       subst (λ l. TakesFromEnds l (back ∷ word) (Some x ∷ answers) left) (sym y) (TakesFromEnds-back x (rest t) word answers left h)
 
-  pub Asks-takes : (from : S) (word : List End) (answers : List (Option T)) (to : S)
-      → Asks gives gives_back from word answers to → TakesFromEnds (rest from) word answers (rest to)
-  Asks-takes from [] [] to same = subst (λ t. TakesFromEnds (rest from) [] [] (rest t)) (sym same) (TakesFromEnds-nil (rest from))
-  Asks-takes from [] (r ∷ answers) to asks = absurd asks
-  Asks-takes from (e ∷ word) [] to asks = absurd asks
-  Asks-takes from (front ∷ word) (r ∷ answers) to asks =
-      one_front from r asks.0 word answers (rest to) (first from r asks.0 asks.1) (Asks-takes asks.0 word answers to asks.2)
-  Asks-takes from (back ∷ word) (r ∷ answers) to asks =
-      one_back from r asks.0 word answers (rest to) (last from r asks.0 asks.1) (Asks-takes asks.0 word answers to asks.2)
+  pub RunsWord-takes : (from : S) (word : List End) (answers : List (Option T)) (to : S)
+      → RunsWord gives gives_back from word answers to → TakesFromEnds (rest from) word answers (rest to)
+  RunsWord-takes from [] [] to same = subst (λ t. TakesFromEnds (rest from) [] [] (rest t)) (sym same) (TakesFromEnds-nil (rest from))
+  RunsWord-takes from [] (r ∷ answers) to asks = absurd asks
+  RunsWord-takes from (e ∷ word) [] to asks = absurd asks
+  RunsWord-takes from (front ∷ word) (r ∷ answers) to asks =
+      one_front from r asks.0 word answers (rest to) (first from r asks.0 asks.1) (RunsWord-takes asks.0 word answers to asks.2)
+  RunsWord-takes from (back ∷ word) (r ∷ answers) to asks =
+      one_back from r asks.0 word answers (rest to) (last from r asks.0 asks.1) (RunsWord-takes asks.0 word answers to asks.2)
 
 -- the items among the answers to a word are those that it is given
 pub items_given : {T : Type 0} (xs : List T) (word : List End) (answers : List (Option T)) (left : List T) → TakesFromEnds xs word answers left
@@ -192,21 +192,21 @@ module _ {T : Type 0} where
 
 -- one letter more, asked after a word
 module _ {S T : Type 0} (gives gives_back : S → Option T → S → Type 0) where
-  pub Asks-front : (from : S) (word : List End) (answers : List (Option T)) (mid : S) (r : Option T) (to : S)
-      → Asks gives gives_back from word answers mid → gives mid r to → Asks gives gives_back from (word ++ front ∷ []) (answers ++ r ∷ []) to
-  Asks-front from [] [] mid r to same step = (to, subst (λ s. gives s r to) same step, refl)
-  Asks-front from [] (q ∷ answers) mid r to asks step = absurd asks
-  Asks-front from (e ∷ word) [] mid r to asks step = absurd asks
-  Asks-front from (front ∷ word) (q ∷ answers) mid r to asks step = (asks.0, asks.1, Asks-front asks.0 word answers mid r to asks.2 step)
-  Asks-front from (back ∷ word) (q ∷ answers) mid r to asks step = (asks.0, asks.1, Asks-front asks.0 word answers mid r to asks.2 step)
+  pub RunsWord-front : (from : S) (word : List End) (answers : List (Option T)) (mid : S) (r : Option T) (to : S)
+      → RunsWord gives gives_back from word answers mid → gives mid r to → RunsWord gives gives_back from (word ++ front ∷ []) (answers ++ r ∷ []) to
+  RunsWord-front from [] [] mid r to same step = (to, subst (λ s. gives s r to) same step, refl)
+  RunsWord-front from [] (q ∷ answers) mid r to asks step = absurd asks
+  RunsWord-front from (e ∷ word) [] mid r to asks step = absurd asks
+  RunsWord-front from (front ∷ word) (q ∷ answers) mid r to asks step = (asks.0, asks.1, RunsWord-front asks.0 word answers mid r to asks.2 step)
+  RunsWord-front from (back ∷ word) (q ∷ answers) mid r to asks step = (asks.0, asks.1, RunsWord-front asks.0 word answers mid r to asks.2 step)
 
-  pub Asks-back : (from : S) (word : List End) (answers : List (Option T)) (mid : S) (r : Option T) (to : S)
-      → Asks gives gives_back from word answers mid → gives_back mid r to → Asks gives gives_back from (word ++ back ∷ []) (answers ++ r ∷ []) to
-  Asks-back from [] [] mid r to same step = (to, subst (λ s. gives_back s r to) same step, refl)
-  Asks-back from [] (q ∷ answers) mid r to asks step = absurd asks
-  Asks-back from (e ∷ word) [] mid r to asks step = absurd asks
-  Asks-back from (front ∷ word) (q ∷ answers) mid r to asks step = (asks.0, asks.1, Asks-back asks.0 word answers mid r to asks.2 step)
-  Asks-back from (back ∷ word) (q ∷ answers) mid r to asks step = (asks.0, asks.1, Asks-back asks.0 word answers mid r to asks.2 step)
+  pub RunsWord-back : (from : S) (word : List End) (answers : List (Option T)) (mid : S) (r : Option T) (to : S)
+      → RunsWord gives gives_back from word answers mid → gives_back mid r to → RunsWord gives gives_back from (word ++ back ∷ []) (answers ++ r ∷ []) to
+  RunsWord-back from [] [] mid r to same step = (to, subst (λ s. gives_back s r to) same step, refl)
+  RunsWord-back from [] (q ∷ answers) mid r to asks step = absurd asks
+  RunsWord-back from (e ∷ word) [] mid r to asks step = absurd asks
+  RunsWord-back from (front ∷ word) (q ∷ answers) mid r to asks step = (asks.0, asks.1, RunsWord-back asks.0 word answers mid r to asks.2 step)
+  RunsWord-back from (back ∷ word) (q ∷ answers) mid r to asks step = (asks.0, asks.1, RunsWord-back asks.0 word answers mid r to asks.2 step)
 
 -- one answer more
 pub given_items-more : {T : Type 0} (answers : List (Option T)) (r : Option T) → given_items (answers ++ r ∷ []) ≡ given_items answers ++ option_to_list r

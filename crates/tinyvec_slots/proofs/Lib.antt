@@ -2,7 +2,7 @@ pub mod Lists
 pub mod SlotsLemmas
 pub mod BorderLemmas
 pub mod EndsLemmas
-pub mod DrainsLemmas
+pub mod AnyDrainLemmas
 pub mod FiltersLemmas
 pub mod CloneLemmas
 pub mod ClonesOverLemmas
@@ -14,8 +14,8 @@ mod PartWalks
 pub mod Runs
 pub mod Fused
 pub mod TurnLemmas
-pub mod SpliceLemmas
-pub mod SplicingLemmas
+pub mod FinishLemmas
+pub mod AnySpliceLemmas
 pub mod TextLemmas
 pub mod ReplacingLemmas
 pub mod KnownItems

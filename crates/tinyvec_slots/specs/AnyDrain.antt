@@ -1,6 +1,6 @@
 -- What all drains do: `rest` shows the remaining items of one, and `keeps` says what its calls leave as it was.
 use Rattle.std.specs.Prelude.{◌≡◌, List, [], ◌∷◌, ◌++◌, Option, MatchOption}
-use Rattle.tinyvec_slots.specs.Ends.{End, TakesFromEnds, Asks}
+use Rattle.tinyvec_slots.specs.Ends.{End, TakesFromEnds, RunsWord}
 
 module _ {S T : Type 0} (rest : S → List T) (keeps : S → S → Type 0) where
   -- `next` took old to new, and returned the first item
@@ -13,5 +13,5 @@ module _ {S T : Type 0} (rest : S → List T) (keeps : S → S → Type 0) where
 
   -- any calls of `next` and `next_back` take from the two ends of the remaining items
   abbrev pub TakesAnyWord : S → Type 0
-  TakesAnyWord d = (word : List End) (answers : List (Option T)) (later : S) → Asks Steps StepsBack d word answers later
+  TakesAnyWord d = (word : List End) (answers : List (Option T)) (later : S) → RunsWord Steps StepsBack d word answers later
       → TakesFromEnds (rest d) word answers (rest later) × keeps d later

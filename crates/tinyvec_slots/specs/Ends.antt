@@ -76,9 +76,9 @@ module _ {T : Type 0} where
 
 -- Calls of `next` and `next_back`, by the letters of a word, took `from` to `to` and were answered so.
 module _ {S T : Type 0} (gives gives_back : S → Option T → S → Type 0) where
-  abbrev pub Asks : S → List End → List (Option T) → S → Type 0
-  Asks from [] [] to = to ≡ from
-  Asks from [] (r ∷ answers) to = ⊥
-  Asks from (e ∷ word) [] to = ⊥
-  Asks from (front ∷ word) (r ∷ answers) to = (mid : S) × gives from r mid × Asks mid word answers to
-  Asks from (back ∷ word) (r ∷ answers) to = (mid : S) × gives_back from r mid × Asks mid word answers to
+  abbrev pub RunsWord : S → List End → List (Option T) → S → Type 0
+  RunsWord from [] [] to = to ≡ from
+  RunsWord from [] (r ∷ answers) to = ⊥
+  RunsWord from (e ∷ word) [] to = ⊥
+  RunsWord from (front ∷ word) (r ∷ answers) to = (mid : S) × gives from r mid × RunsWord mid word answers to
+  RunsWord from (back ∷ word) (r ∷ answers) to = (mid : S) × gives_back from r mid × RunsWord mid word answers to

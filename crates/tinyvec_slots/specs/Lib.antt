@@ -1,6 +1,6 @@
 pub mod Slots
-pub mod Parts
-pub mod Cut
+pub mod LentParts
+pub mod Ranges
 pub mod Ends
 pub mod AnyDrain
 pub mod Filters

@@ -18,7 +18,7 @@ pub trait CanCut {
     // What a write of the list and a cut of its tail leave of all else.
     ghost Kept: { Self → Self → Type 0 };
 
-    ghost Cut: { Self → Self → Type 0 };
+    ghost Truncated: { Self → Self → Type 0 };
 
     /// The items, for writing.
     fn as_mut_slice(&mut self) -> &mut [Self::Item]
@@ -28,11 +28,11 @@ pub trait CanCut {
     /// Keeps the first `n` items, and drops the others.
     fn truncate(&mut self, n: usize)
         ensures items { items self.new ≡ take n (items self.old) }
-        ensures cut { Cut self.old self.new }
+        ensures cut { Truncated self.old self.new }
         ensures fits { length (items self.new) ≤ room self.new };
 
     ghost written: { (v : Self) (xs : List Self.Item) → length xs ≡ length (items v)
         → (items (with_items v xs) ≡ xs) × Kept v (with_items v xs) };
 
-    ghost kept_cut: { (u v w : Self) → Kept u v → Cut v w → Cut u w };
+    ghost kept_cut: { (u v w : Self) → Kept u v → Truncated v w → Truncated u w };
 }

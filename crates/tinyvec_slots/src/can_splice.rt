@@ -46,7 +46,7 @@ pub trait CanSplice: CanCut {
 
     ghost kept_moved: { (u v w x : Self) → Self.Kept u v → Self.Kept w x → moved v w ≡ moved u x };
 
-    ghost cut_grown: { (v w : Self) → Self.Cut v w → length (Self.items w) ≤ Self.room w → Grown v w };
+    ghost cut_grown: { (v w : Self) → Self.Truncated v w → length (Self.items w) ≤ Self.room w → Grown v w };
 
     ghost grown_room: { (v w : Self) → Grown v w → Self.room v ≤ Self.room w };
 

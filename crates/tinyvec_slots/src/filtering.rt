@@ -13,7 +13,7 @@ pub fn retain<V: CanCut, F: FnMut(&V::Item) -> bool>(vec: &mut V, f: &mut F)
     ensures filtered { IsFiltered (CalledAt F.FnMut) f.old (V.items vec.old) (V.items vec.new) }
     ensures bound { length (V.items vec.new) ≤ length (V.items vec.old) }
     ensures fits { length (V.items vec.new) ≤ V.room vec.new }
-    ensures cut { V.Cut vec.old vec.new }
+    ensures cut { V.Truncated vec.old vec.new }
 {
     let kept = retain_in_front(vec.as_mut_slice(), f);
     vec.truncate(kept);
@@ -25,7 +25,7 @@ pub fn retain_mut<V: CanCut, F: FnMut(&mut V::Item) -> bool>(vec: &mut V, f: &mu
     ensures filtered { RetainsInTurn (CalledAtMut F.FnMut) f.old (V.items vec.old) (V.items vec.new) }
     ensures bound { length (V.items vec.new) ≤ length (V.items vec.old) }
     ensures fits { length (V.items vec.new) ≤ V.room vec.new }
-    ensures cut { V.Cut vec.old vec.new }
+    ensures cut { V.Truncated vec.old vec.new }
 {
     let kept = retain_mut_in_front(vec.as_mut_slice(), f);
     vec.truncate(kept);
@@ -37,7 +37,7 @@ pub fn dedup_by<V: CanCut, F: FnMut(&mut V::Item, &mut V::Item) -> bool>(vec: &m
     ensures filtered { IsDeduped (CalledAtPairMut F.FnMut) same.old (V.items vec.old) (V.items vec.new) }
     ensures bound { length (V.items vec.new) ≤ length (V.items vec.old) }
     ensures fits { length (V.items vec.new) ≤ V.room vec.new }
-    ensures cut { V.Cut vec.old vec.new }
+    ensures cut { V.Truncated vec.old vec.new }
 {
     let kept = dedup_in_front(vec.as_mut_slice(), same);
     vec.truncate(kept);
@@ -52,7 +52,7 @@ pub fn dedup_by_key<V: CanCut, K: PartialEq + Drop, F: FnMut(&mut V::Item) -> K>
     ensures filtered { IsDeduped (ComparesKeys F.FnMut K.eq) key.old (V.items vec.old) (V.items vec.new) }
     ensures bound { length (V.items vec.new) ≤ length (V.items vec.old) }
     ensures fits { length (V.items vec.new) ≤ V.room vec.new }
-    ensures cut { V.Cut vec.old vec.new }
+    ensures cut { V.Truncated vec.old vec.new }
 {
     let kept = dedup_keys_in_front(vec.as_mut_slice(), key);
     vec.truncate(kept);
@@ -65,7 +65,7 @@ pub fn pop_if<V: CanCut, F: FnOnce(&mut V::Item) -> bool>(vec: &mut V, f: F) -> 
     ensures popped { PopsIf F.FnOnce (V.items vec.old) (V.items vec.new) f result }
     ensures bound { length (V.items vec.new) ≤ length (V.items vec.old) }
     ensures fits { length (V.items vec.new) ≤ V.room vec.new }
-    ensures cut { V.Cut vec.old vec.new }
+    ensures cut { V.Truncated vec.old vec.new }
 {
     let (kept, item) = take_last_if(vec.as_mut_slice(), f);
     vec.truncate(kept);

@@ -82,7 +82,7 @@ impl Gap {
         ensures ready { GapCanStep self.new (fuse_done replacement.new) (length slots.new) }
         ensures can { FusedCan I.can_next replacement.new }
         ensures finite { FusedFinite I.remaining replacement.old → FusedFinite I.remaining replacement.new }
-        ensures slots { length slots.new ≡ length slots.old }
+        ensures slot_count { length slots.new ≡ length slots.old }
         ensures fewer { gap_len self.old ≡ gap_len self.new + 1 }
     {
         let at = self.next;
@@ -112,7 +112,7 @@ impl Gap {
         ensures ready { GapCanStep self.new (fuse_done replacement.new) (length slots.new) }
         ensures can { FusedCan I.can_next_back replacement.new }
         ensures finite { FusedFinite I.remaining replacement.old → FusedFinite I.remaining replacement.new }
-        ensures slots { length slots.new ≡ length slots.old }
+        ensures slot_count { length slots.new ≡ length slots.old }
         ensures fewer { gap_len self.old ≡ gap_len self.new + 1 }
     {
         let at = self.end - 1;

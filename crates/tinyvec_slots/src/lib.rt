@@ -27,7 +27,7 @@ pub use printing::{
     InBinary, InHex, InOctal, InUpperHex, ItemText, Plain, write_items, write_named,
 };
 pub use range::{resolve_range, subslice};
-pub use splicing::{close_in, finish_in, step_back_in, step_in};
+pub use splicing::{splice_finish, splice_next, splice_next_back, splice_stop};
 pub use tuned::cloning::{
     clone_each, clone_each_from, clone_over, clone_over_from, clone_within, fill_clones,
 };

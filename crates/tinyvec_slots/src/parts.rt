@@ -1,7 +1,7 @@
 //! Parts of a vector's slots, lent for writing.
 ghost use Rattle.std.specs.Prelude.{◌≡◌, ◌<◌, ◌≤◌, length, slice_index_or, slice_range};
 ghost use Rattle.std.specs.Borrow.{sem};
-ghost use Rattle.tinyvec_slots.specs.Parts.{lends_part, lends_slot};
+ghost use Rattle.tinyvec_slots.specs.LentParts.{lends_part, lends_slot};
 
 use crate::InSlots;
 

@@ -1,6 +1,6 @@
 //! The range rule, and a part of a slice.
 ghost use Rattle.std.specs.Prelude.{◌≡◌, slice_range};
-ghost use Rattle.tinyvec_slots.specs.Cut.{range_start, range_end};
+ghost use Rattle.tinyvec_slots.specs.Ranges.{range_start, range_end};
 
 use std::ops::{Bound, Range, RangeBounds};
 

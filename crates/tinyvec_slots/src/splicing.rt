@@ -14,7 +14,7 @@ use std::iter::Fuse;
 
 /// `next` of a splice.
 #[inline]
-pub fn step_in<V: CanSplice, I: Iterator<Item = V::Item>>(
+pub fn splice_next<V: CanSplice, I: Iterator<Item = V::Item>>(
     vec: &mut V,
     gap: &mut Gap,
     replacement: &mut Fuse<I>,
@@ -37,7 +37,7 @@ pub fn step_in<V: CanSplice, I: Iterator<Item = V::Item>>(
 
 /// `next_back` of a splice.
 #[inline]
-pub fn step_back_in<V: CanSplice, I: DoubleEndedIterator<Item = V::Item>>(
+pub fn splice_next_back<V: CanSplice, I: DoubleEndedIterator<Item = V::Item>>(
     vec: &mut V,
     gap: &mut Gap,
     replacement: &mut Fuse<I>,
@@ -60,14 +60,14 @@ pub fn step_back_in<V: CanSplice, I: DoubleEndedIterator<Item = V::Item>>(
 
 /// Removes what is left of the gap, which ends a splice as it is.
 #[inline(always)]
-pub fn close_in<V: CanSplice>(vec: &mut V, gap: &mut Gap)
+pub fn splice_stop<V: CanSplice>(vec: &mut V, gap: &mut Gap)
     requires in_order { gap_front gap.old ≤ gap_back gap.old }
     requires in_bounds { gap_back gap.old ≤ length (V.items vec.old) }
     requires few { FitsBits 80 (gap_touches gap.old) }
     ensures items { V.items vec.new
         ≡ take (gap_front gap.old) (V.items vec.old) ++ drop (gap_back gap.old) (V.items vec.old) }
     ensures len { length (V.items vec.old) ≡ length (V.items vec.new) + (gap_back gap.old - gap_front gap.old) }
-    ensures cut { V.Cut vec.old vec.new }
+    ensures cut { V.Truncated vec.old vec.new }
     ensures fits { length (V.items vec.new) ≤ V.room vec.new }
     ensures touches { gap_touches gap.new ≡ gap_touches gap.old + (length (V.items vec.old) - gap_front gap.old) }
 {
@@ -78,7 +78,7 @@ pub fn close_in<V: CanSplice>(vec: &mut V, gap: &mut Gap)
 /// `finish_counted` of a splice: places what `replacement` still yields between what was placed from both ends, and returns
 /// the number of touches too. An item with no room is returned with those that follow it.
 #[inline(always)]
-pub fn finish_in<V: CanSplice, I: Iterator<Item = V::Item>>(
+pub fn splice_finish<V: CanSplice, I: Iterator<Item = V::Item>>(
     vec: &mut V,
     gap: Gap,
     replacement: Fuse<I>,
@@ -112,7 +112,7 @@ pub fn finish_in<V: CanSplice, I: Iterator<Item = V::Item>>(
     let mut gap = gap;
     let mut replacement = replacement;
     if !gap.fill(vec.as_mut_slice(), &mut replacement) {
-        close_in(vec, &mut gap);
+        splice_stop(vec, &mut gap);
         return (Ok(()), gap.touches());
     }
     let finished = append_in(vec, &mut gap, replacement);

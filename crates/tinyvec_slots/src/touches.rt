@@ -96,7 +96,7 @@ impl Touches {
         requires few { FitsBits 100 (touch_count self.old) }
         ensures after { slots.new
             ≡ take start slots.old ++ drop middle slots.old ++ slice_range slots.old start middle }
-        ensures grows { touch_count self.old ≤ touch_count self.new }
+        ensures touches_grow { touch_count self.old ≤ touch_count self.new }
         ensures count { touch_count self.new ≤ touch_count self.old + (length slots.old - start) }
     {
         let mut first = start;

@@ -43,13 +43,13 @@ copied_more xs bs to from i down within h =
     }
 
 module _ {F : Type 0} (g : Mut F (ℕ × Unit {0}) Bool) (first : F) (xs : List ℕ) where
-  abbrev pub Asks : F → ℕ → Bool → F → Type 0
-  Asks p c b q = Called g p (c, tt) b q
+  abbrev pub RunsWord : F → ℕ → Bool → F → Type 0
+  RunsWord p c b q = Called g p (c, tt) b q
 
   -- Of the first `read` bytes of xs, the kept characters are the first `kept` bytes of bs: whatever is kept of the others, both
   -- together are what is kept of xs.
   pub record Retaining (f : F) (bs : List ℕ) (read kept : ℕ) : Type 0 where
-    pub so_far : (all ks : List ℕ) → all_scalars all ≡ true → encode_utf8_all all ≡ drop read xs → IsFiltered Asks f all ks
+    pub so_far : (all ks : List ℕ) → all_scalars all ≡ true → encode_utf8_all all ≡ drop read xs → IsFiltered RunsWord f all ks
         → RetainsChars g first xs (take kept bs ++ encode_utf8_all ks)
     pub front : IsUtf8 (take kept bs)
     pub same : drop read bs ≡ drop read xs
@@ -63,8 +63,8 @@ module _ {F : Type 0} (g : Mut F (ℕ × Unit {0}) Bool) (first : F) (xs : List 
     rest = u;
   }
 
-  chosen_more : (f p : F) (c : ℕ) (b : Bool) (all ks : List ℕ) → Asks f c b p → IsFiltered Asks p all ks
-      → IsFiltered Asks f (c ∷ all) (cond b (c ∷ ks) ks)
+  chosen_more : (f p : F) (c : ℕ) (b : Bool) (all ks : List ℕ) → RunsWord f c b p → IsFiltered RunsWord p all ks
+      → IsFiltered RunsWord f (c ∷ all) (cond b (c ∷ ks) ks)
   chosen_more f p c true all ks r (bs, q, len, turn, is) = (true ∷ bs, q, ap suc len, (p, r, turn), ap (λ l. c ∷ l) is)
   chosen_more f p c false all ks r (bs, q, len, turn, is) = (false ∷ bs, q, ap suc len, (p, r, turn), is)
 
@@ -76,7 +76,7 @@ module _ {F : Type 0} (g : Mut F (ℕ × Unit {0}) Bool) (first : F) (xs : List 
   utf8_kept true c is = IsUtf8-encode c is
   utf8_kept false c is = IsUtf8-nil
 
-  pub retain_more : (f p : F) (bs ds : List ℕ) (read kept to n c : ℕ) (b : Bool) → Retaining f bs read kept → Asks f c b p
+  pub retain_more : (f p : F) (bs ds : List ℕ) (read kept to n c : ℕ) (b : Bool) → Retaining f bs read kept → RunsWord f c b p
       → take n (drop read bs) ≡ encode_utf8 c → IsUtf8 (drop (read + n) bs) → IsScalar c
       → take to ds ≡ take kept bs ++ cond b (encode_utf8 c) [] → drop (read + n) ds ≡ drop (read + n) bs → Retaining p ds (read + n) to
   retain_more f p bs ds read kept to n c b s r own after scalar put left =

@@ -1,8 +1,8 @@
 -- Examples of a drain of `[1, 2, 3, 4] [0]` over 1..3, from which nothing was taken.
 use Rattle.std.proofs.Common.{◌≡◌, ℕ, [], ◌∷◌, ◌++◌, Some, refl, rules}
-use Rattle.tinyvec_slots.specs.Ends.{Asks, TakesFromEnds, front, back}
+use Rattle.tinyvec_slots.specs.Ends.{RunsWord, TakesFromEnds, front, back}
 use Rattle.tinyvec_array.specs.declared.drain.ArrayVecDrain.{ArrayVecDrain}
-use Rattle.tinyvec_array.specs.Drain.{drain_items, drain_len, drain_kept, drain_count, drain_spare, drain_owner, DrainCanStep, DrainLeaves, DrainSteps, DrainStepsBack, DrainsFromEnds}
+use Rattle.tinyvec_array.specs.Drain.{drain_items, drain_len, drain_kept, drain_count, drain_spare, drain_lender, DrainCanStep, DrainLeaves, DrainSteps, DrainStepsBack, DrainsFromEnds}
 use Rattle.tinyvec_words.proofs.Shown.{D, over}
 
 module _ {A : Type 0} (d e : ArrayVecDrain A ℕ) (vec : d.vec.now ≡ over (1 ∷ 4 ∷ []) (2 ∷ 3 ∷ 0 ∷ [])) (count : d.count ≡ 2) (first : d.front ≡ 0) (last : d.back ≡ 2) where
@@ -21,8 +21,8 @@ module _ {A : Type 0} (d e : ArrayVecDrain A ℕ) (vec : d.vec.now ≡ over (1 �
   pub example-drain_spare : drain_spare d ≡ 0 ∷ []
   example-drain_spare = rw (vec, count) refl
 
-  pub example-drain_owner : drain_owner d ≡ d.vec.ghost_name
-  example-drain_owner = refl
+  pub example-drain_lender : drain_lender d ≡ d.vec.ghost_name
+  example-drain_lender = refl
 
   pub example-DrainCanStep : DrainCanStep d
   example-DrainCanStep = search rules
@@ -36,5 +36,5 @@ module _ {A : Type 0} (d e : ArrayVecDrain A ℕ) (vec : d.vec.now ≡ over (1 �
   pub example-DrainStepsBack : DrainStepsBack d (Some 3) e → drain_items d ≡ drain_items e ++ 3 ∷ []
   example-DrainStepsBack h = h.0
 
-  pub example-DrainsFromEnds : DrainsFromEnds d → Asks DrainSteps DrainStepsBack d (front ∷ back ∷ []) (Some 2 ∷ Some 3 ∷ []) e → TakesFromEnds (drain_items d) (front ∷ back ∷ []) (Some 2 ∷ Some 3 ∷ []) (drain_items e)
+  pub example-DrainsFromEnds : DrainsFromEnds d → RunsWord DrainSteps DrainStepsBack d (front ∷ back ∷ []) (Some 2 ∷ Some 3 ∷ []) e → TakesFromEnds (drain_items d) (front ∷ back ∷ []) (Some 2 ∷ Some 3 ∷ []) (drain_items e)
   example-DrainsFromEnds h asked = (h _ _ _ asked).0

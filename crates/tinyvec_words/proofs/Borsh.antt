@@ -1,8 +1,8 @@
 -- Examples of the Borsh form, of contents that are bytes: each spells itself. Inputs are cut if they have no byte.
 use Rattle.std.proofs.Common.{◌≡◌, ℕ, ◌<◌, List, [], ◌∷◌, Some, None, inl, refl, rules, arith}
 use Rattle.tinyvec_borsh.specs.Items.{SpellsItems, SpellsList, ListFits, InItem, AfterItems, IsListCut, IsListTooLong, CountsAbove}
-use Rattle.tinyvec_borsh.specs.Reading.{Takes, TakesSome, Fails, LeavesRest}
-use Rattle.tinyvec_borsh.specs.Writing.{Adds, AddsFront}
+use Rattle.tinyvec_borsh.specs.Reading.{ReadsSpelling, TakesSome, Fails, LeavesRest}
+use Rattle.tinyvec_borsh.specs.Writing.{WritesSpelling, AddsFront}
 use Rattle.tinyvec_borsh.specs.declared.borsh_error.BorshError.TheVariants.{Ended}
 
 -- a byte spells itself
@@ -63,8 +63,8 @@ example-IsListTooLong = inl record {
 pub example-CountsAbove : CountsAbove 4 (5 ∷ 0 ∷ 0 ∷ 0 ∷ 0 ∷ 0 ∷ 0 ∷ 0 ∷ 7 ∷ [])
 example-CountsAbove = (5, omega arith, record { first = 5 ∷ 0 ∷ 0 ∷ 0 ∷ 0 ∷ 0 ∷ 0 ∷ 0 ∷ []; rest = 7 ∷ []; is_first = search rules; is_rest = _; whole = refl })
 
-pub example-Takes : Takes (λ bytes. bytes ≡ 7 ∷ []) (Some (7 ∷ 8 ∷ [])) (Some (8 ∷ []))
-example-Takes = (7 ∷ [], refl, search rules)
+pub example-ReadsSpelling : ReadsSpelling (λ bytes. bytes ≡ 7 ∷ []) (Some (7 ∷ 8 ∷ [])) (Some (8 ∷ []))
+example-ReadsSpelling = (7 ∷ [], refl, search rules)
 
 pub example-TakesSome : TakesSome (Some (7 ∷ [])) (Some []) Ended
 example-TakesSome = record { bytes = 7 ∷ []; taken = search rules; end = λ _. refl }
@@ -75,8 +75,8 @@ example-Fails = refl
 pub example-LeavesRest : LeavesRest Spells IsNever 4 None None Ended
 example-LeavesRest = _
 
-pub example-Adds : Adds (λ bytes. bytes ≡ 7 ∷ []) (Some (1 ∷ [])) (Some (1 ∷ 7 ∷ []))
-example-Adds = (7 ∷ [], refl, search rules)
+pub example-WritesSpelling : WritesSpelling (λ bytes. bytes ≡ 7 ∷ []) (Some (1 ∷ [])) (Some (1 ∷ 7 ∷ []))
+example-WritesSpelling = (7 ∷ [], refl, search rules)
 
 pub example-AddsFront : AddsFront (λ bytes. bytes ≡ 7 ∷ 8 ∷ []) (Some (1 ∷ [])) (Some (1 ∷ 7 ∷ []))
 example-AddsFront bytes spelled = (7 ∷ [], 8 ∷ [], spelled, search rules)

@@ -3,7 +3,7 @@ use Rattle.std.proofs.Common.{◌≡◌, ℕ, List, [], ◌∷◌, Some, true, f
 use Rattle.std.specs.declared.iter.Fuse.{Fuse}
 use Rattle.std.specs.Iterator.{endless}
 use Rattle.std.specs.Iterator.Adapters.{fuse_done, fuse_source}
-use Rattle.tinyvec_slots.specs.Ends.{Asks, TakesFromEnds, back}
+use Rattle.tinyvec_slots.specs.Ends.{RunsWord, TakesFromEnds, back}
 use Rattle.tinyvec_slots.specs.Filling.{IntoIterYields, ShowsItems, YieldsUpTo}
 use Rattle.tinyvec_slots.specs.Fused.{FusedCan, FusedFinite, fused_rest}
 use Rattle.tinyvec_slots.specs.Replacing.{FusedYields}
@@ -37,7 +37,7 @@ example-FusedYields s running source = search rules
 pub example-IteratesOver : (left : List ℕ) → IteratesOver (1 ∷ 2 ∷ []) left → left ≡ 1 ∷ 2 ∷ []
 example-IteratesOver left h = h.0
 
-pub example-GivesFromEnds : GivesFromEnds (nums (1 ∷ 2 ∷ [])) → Asks GivesFirst GivesLast (nums (1 ∷ 2 ∷ [])) (back ∷ []) (Some 2 ∷ []) (1 ∷ []) → TakesFromEnds (nums (1 ∷ 2 ∷ [])) (back ∷ []) (Some 2 ∷ []) (1 ∷ [])
+pub example-GivesFromEnds : GivesFromEnds (nums (1 ∷ 2 ∷ [])) → RunsWord GivesFirst GivesLast (nums (1 ∷ 2 ∷ [])) (back ∷ []) (Some 2 ∷ []) (1 ∷ []) → TakesFromEnds (nums (1 ∷ 2 ∷ [])) (back ∷ []) (Some 2 ∷ []) (1 ∷ [])
 example-GivesFromEnds h asked = h _ _ _ asked
 
 pub example-FusedFinite : (s : Fuse (List ℕ)) → fuse_done s ≡ true → FusedFinite (λ left. endless) s

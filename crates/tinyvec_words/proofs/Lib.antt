@@ -1,7 +1,7 @@
 pub mod Shown
 pub mod Slots
 pub mod Clones
-pub mod Cut
+pub mod Ranges
 pub mod Iterators
 pub mod Splices
 pub mod ArrayDrain

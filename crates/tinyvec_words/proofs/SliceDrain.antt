@@ -4,7 +4,7 @@ use Rattle.tinyvec_slice.specs.declared.lent.Lent as Lent
 use Rattle.tinyvec_slice.specs.declared.slice_vec.GenericSliceVec.{GenericSliceVec}
 use Rattle.tinyvec_slice.specs.declared.drain.GenericSliceVecDrain.{GenericSliceVecDrain}
 use Rattle.tinyvec_slice.specs.SliceVec.{items_of, spare_of, name_of}
-use Rattle.tinyvec_slice.specs.Drain.{drain_left, drain_count, drain_owner, drain_items, drain_kept, drain_spare, drain_name, DrainCanStep, DrainLeaves, DrainSteps}
+use Rattle.tinyvec_slice.specs.Drain.{drain_left, drain_count, drain_lender, drain_items, drain_kept, drain_spare, drain_name, DrainCanStep, DrainLeaves, DrainSteps}
 use Rattle.tinyvec_words.proofs.Shown.{D}
 
 module _ {B : Type 0} (g : Lent.Ghosts B ℕ) (d e : GenericSliceVecDrain B ℕ) (list : items_of g d.vec.now ≡ 1 ∷ []) (after : spare_of g d.vec.now ≡ 2 ∷ 3 ∷ 0 ∷ []) (count : d.count ≡ 2) (first : d.front ≡ 0) where
@@ -14,8 +14,8 @@ module _ {B : Type 0} (g : Lent.Ghosts B ℕ) (d e : GenericSliceVecDrain B ℕ)
   pub example-drain_count : drain_count d ≡ 2
   example-drain_count = count
 
-  pub example-drain_owner : drain_owner d ≡ d.vec.ghost_name
-  example-drain_owner = refl
+  pub example-drain_lender : drain_lender d ≡ d.vec.ghost_name
+  example-drain_lender = refl
 
   pub example-drain_items : drain_items g d ≡ 2 ∷ 3 ∷ []
   example-drain_items = rw (after, count, first) refl

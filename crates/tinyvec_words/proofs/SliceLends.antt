@@ -1,6 +1,6 @@
 -- What a `SliceVec` in the slots `[1, 2, 0]`, whose list is `[1, 2]`, is once a loan ended: its slots, or those of its owner.
 use Rattle.std.proofs.Common.{◌≡◌, ℕ, List, [], ◌∷◌, slice_set, refl}
-use Rattle.tinyvec_slice.specs.Parts.{with_front, with_back}
+use Rattle.tinyvec_slice.specs.SliceParts.{with_front, with_back}
 use Rattle.tinyvec_slice.specs.Lends.{at_slots}
 use Rattle.tinyvec_slice.specs.SliceVec.{slots_of}
 use Rattle.tinyvec_slice.specs.declared.lent.Lent as Lent

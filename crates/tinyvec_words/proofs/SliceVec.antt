@@ -4,12 +4,12 @@ use Rattle.tinyvec_slots.specs.Slots.{spare as spare_in}
 use Rattle.std.specs.Borrow.{MutBor}
 use Rattle.tinyvec_slice.specs.declared.lent.Lent as Lent
 use Rattle.tinyvec_slice.specs.declared.slice_vec.GenericSliceVec.{GenericSliceVec}
-use Rattle.tinyvec_slice.specs.SliceVec.{seen, items, spare, name, seen_of, items_of, spare_of, len_of, slots_of, name_of, VacatesOf}
+use Rattle.tinyvec_slice.specs.SliceVec.{view, items, spare, name, view_of, items_of, spare_of, len_of, slots_of, name_of, VacatesOf}
 use Rattle.tinyvec_words.proofs.Shown.{D, over}
 
 module _ (v : GenericSliceVec (MutBor (List ℕ)) ℕ) (lent : v.lent.now ≡ 1 ∷ 2 ∷ 0 ∷ []) (len : v.len ≡ 2) where
-  pub example-seen : seen v ≡ over (1 ∷ 2 ∷ []) (0 ∷ [])
-  example-seen = rw (lent, len) refl
+  pub example-view : view v ≡ over (1 ∷ 2 ∷ []) (0 ∷ [])
+  example-view = rw (lent, len) refl
 
   pub example-items : items v ≡ 1 ∷ 2 ∷ []
   example-items = rw (lent, len) refl
@@ -21,8 +21,8 @@ module _ (v : GenericSliceVec (MutBor (List ℕ)) ℕ) (lent : v.lent.now ≡ 1 
   example-name = refl
 
 module _ {B : Type 0} (g : Lent.Ghosts B ℕ) (v : GenericSliceVec B ℕ) (lent : g.slots v.lent ≡ 1 ∷ 2 ∷ 0 ∷ []) (len : v.len ≡ 2) where
-  pub example-seen_of : seen_of g v ≡ over (1 ∷ 2 ∷ []) (0 ∷ [])
-  example-seen_of = rw (lent, len) refl
+  pub example-view_of : view_of g v ≡ over (1 ∷ 2 ∷ []) (0 ∷ [])
+  example-view_of = rw (lent, len) refl
 
   pub example-items_of : items_of g v ≡ 1 ∷ 2 ∷ []
   example-items_of = rw (lent, len) refl
@@ -39,5 +39,5 @@ module _ {B : Type 0} (g : Lent.Ghosts B ℕ) (v : GenericSliceVec B ℕ) (lent 
   pub example-name_of : name_of g v ≡ g.name v.lent
   example-name_of = refl
 
-  pub example-VacatesOf : (w : GenericSliceVec B ℕ) → seen_of g w ≡ over (1 ∷ []) (0 ∷ 0 ∷ []) → VacatesOf g D 1 v w
+  pub example-VacatesOf : (w : GenericSliceVec B ℕ) → view_of g w ≡ over (1 ∷ []) (0 ∷ 0 ∷ []) → VacatesOf g D 1 v w
   example-VacatesOf w after = (0 ∷ [], search rules, ap spare_in after ∙ ap (λ xs. 0 ∷ xs) (sym example-spare_of))

@@ -166,7 +166,7 @@ impl<A: Array> TinyVec<A> {
         ensures spare { is_inline self.old ≡ false → IsInline self.new
             → AreDefaults A.Item.is_default (A.CAPACITY - tiny_len self.old) (tiny_spare self.new) }
         ensures kept { IsInline self.old → self.new ≡ self.old }
-        ensures slots { TinySlotRule A.Item.is_default self.old self.new }
+        ensures slot_rule { TinySlotRule A.Item.is_default self.old self.new }
         ensures capacity { is_inline self.new ≡ false
             → tiny_capacity A.CAPACITY self.new ≤ tiny_capacity A.CAPACITY self.old }
         ensures fits { tiny_len self.new ≤ tiny_capacity A.CAPACITY self.new }

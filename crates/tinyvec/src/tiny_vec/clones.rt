@@ -67,7 +67,7 @@ impl<A: Array> TinyVec<A> {
         ensures if_clones_equal { OnOk result (ClonesAreEqual A.Item.is_clone
             → tiny_items self.new ≡ tiny_items source.now) }
         ensures place { OnOk result (PlaceRule A.CAPACITY (tiny_len source.now) self.old self.new) }
-        ensures slots { OnOk result (TinySlotRule A.Item.is_default self.old self.new) }
+        ensures slot_rule { OnOk result (TinySlotRule A.Item.is_default self.old self.new) }
         ensures room { RoomGrows GrowsFor A.CAPACITY (tiny_len source.now) self.old self.new result }
 
         // Where there is room only clones allocate.

@@ -31,7 +31,7 @@ impl<A: Array> TinyVec<A> {
             ≡ (if is_ok result then tiny_items self.old ++ x ∷ [] else tiny_items self.old) }
         ensures len { tiny_len self.new ≡ (if is_ok result then tiny_len self.old + 1 else tiny_len self.old) }
         ensures place { OnOk result (PlaceRule A.CAPACITY (tiny_len self.old + 1) self.old self.new) }
-        ensures slots { TinySlotRule A.Item.is_default self.old self.new }
+        ensures slot_rule { TinySlotRule A.Item.is_default self.old self.new }
         ensures room { RoomGrows Doubles A.CAPACITY (tiny_len self.old + 1) self.old self.new result }
 
         // Where there is room it allocates nothing.
@@ -94,7 +94,7 @@ impl<A: Array> TinyVec<A> {
             ≡ (if is_ok result then insert (tiny_items self.old) i x else tiny_items self.old) }
         ensures len { tiny_len self.new ≡ (if is_ok result then tiny_len self.old + 1 else tiny_len self.old) }
         ensures place { OnOk result (PlaceRule A.CAPACITY (tiny_len self.old + 1) self.old self.new) }
-        ensures slots { TinySlotRule A.Item.is_default self.old self.new }
+        ensures slot_rule { TinySlotRule A.Item.is_default self.old self.new }
         ensures room { RoomGrows Doubles A.CAPACITY (tiny_len self.old + 1) self.old self.new result }
 
         // Where there is room it allocates nothing.
@@ -197,7 +197,7 @@ impl<A: Array> TinyVec<A> {
             TinyVec::Inline(v, alloc) => Ok(TinyVec::Inline(v.split_off(at), *alloc)),
             TinyVec::Heap(v) => {
                 let mut back = TinyVec::Heap(Vec::with_capacity(*v.allocator(), v.len() - at)?);
-                back.push_taken(&mut v.as_mut_slice()[at..]);
+                back.append_slots(&mut v.as_mut_slice()[at..]);
                 v.truncate(at);
                 Ok(back)
             }

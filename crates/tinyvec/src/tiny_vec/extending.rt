@@ -54,7 +54,7 @@ impl<A: Array> TinyVec<A> {
         ensures if_clones_equal { ClonesAreEqual A.Item.is_clone → tiny_items self.new
             ≡ (if is_ok result then tiny_items self.old ++ other.now else tiny_items self.old) }
         ensures place { OnOk result (PlaceRule A.CAPACITY (tiny_len self.old + length other.now) self.old self.new) }
-        ensures slots { OnOk result (TinySlotRule A.Item.is_default self.old self.new) }
+        ensures slot_rule { OnOk result (TinySlotRule A.Item.is_default self.old self.new) }
         ensures room { RoomGrows GrowsFor A.CAPACITY (tiny_len self.old + length other.now) self.old self.new result }
 
         // Where there is room only clones allocate.
@@ -110,7 +110,7 @@ impl<A: Array> TinyVec<A> {
         ensures len { tiny_len self.new
             ≡ (if is_ok result then tiny_len self.old + length other.now else tiny_len self.old) }
         ensures place { OnOk result (PlaceRule A.CAPACITY (tiny_len self.old + length other.now) self.old self.new) }
-        ensures slots { TinySlotRule A.Item.is_default self.old self.new }
+        ensures slot_rule { TinySlotRule A.Item.is_default self.old self.new }
         ensures room { RoomGrows GrowsFor A.CAPACITY (tiny_len self.old + length other.now) self.old self.new result }
 
         // Where there is room it allocates nothing.
@@ -124,7 +124,7 @@ impl<A: Array> TinyVec<A> {
     }
 
     // Moves the items of `from` to a list that has room, and leaves defaults.
-    pub(crate) fn push_taken(&mut self, from: &mut [A::Item])
+    pub(crate) fn append_slots(&mut self, from: &mut [A::Item])
         requires { tiny_len self.old + length from.old ≤ tiny_capacity A.CAPACITY self.old }
         ensures items { tiny_items self.new ≡ tiny_items self.old ++ from.old }
         ensures spare { tiny_spare self.new ≡ drop (length from.old) (tiny_spare self.old) }
@@ -149,7 +149,7 @@ impl<A: Array> TinyVec<A> {
         ensures other_items { tiny_items other.new ≡ [] }
         ensures other_frame { StaysInPlace A.Item.is_default A.CAPACITY other.old other.new }
     {
-        self.push_taken(other.as_mut_slice());
+        self.append_slots(other.as_mut_slice());
         other.clear();
     }
 
@@ -158,7 +158,7 @@ impl<A: Array> TinyVec<A> {
     pub fn append(&mut self, other: &mut Self) -> Result<(), AllocError>
         ensures items { OnOk result (tiny_items self.new ≡ tiny_items self.old ++ tiny_items other.old) }
         ensures place { OnOk result (PlaceRule A.CAPACITY (tiny_len self.old + tiny_len other.old) self.old self.new) }
-        ensures slots { TinySlotRule A.Item.is_default self.old self.new }
+        ensures slot_rule { TinySlotRule A.Item.is_default self.old self.new }
         ensures room { RoomGrows GrowsFor A.CAPACITY (tiny_len self.old + tiny_len other.old)
             self.old self.new result }
         ensures other_items { OnOk result (tiny_items other.new ≡ []) }
@@ -312,7 +312,7 @@ impl<A: Array> TinyVec<A> {
         ensures if_clones_equal { OnOk result (ClonesAreEqual A.Item.is_clone
             → tiny_items self.new ≡ take n (tiny_items self.old) ++ replicate (n - tiny_len self.old) x) }
         ensures place { OnOk result (PlaceRule A.CAPACITY (max n (tiny_len self.old)) self.old self.new) }
-        ensures slots { OnOk result (TinySlotRule A.Item.is_default self.old self.new) }
+        ensures slot_rule { OnOk result (TinySlotRule A.Item.is_default self.old self.new) }
         ensures room { RoomGrows GrowsFor A.CAPACITY n self.old self.new result }
 
         // Where there is room only clones allocate.
@@ -346,7 +346,7 @@ impl<A: Array> TinyVec<A> {
         requires room { tiny_len self.old + n ≤ tiny_capacity A.CAPACITY self.old }
         ensures items { OnOk result (AppendsClones A.Item.is_clone
             (tiny_items self.old) (tiny_items self.new) (replicate n x)) }
-        ensures slots { OnOk result (TinySlotRule A.Item.is_default self.old self.new) }
+        ensures slot_rule { OnOk result (TinySlotRule A.Item.is_default self.old self.new) }
         ensures place { is_inline self.new ≡ is_inline self.old }
         ensures capacity { tiny_capacity A.CAPACITY self.new ≡ tiny_capacity A.CAPACITY self.old }
         ensures fits { tiny_len self.new ≤ tiny_capacity A.CAPACITY self.new }
@@ -381,7 +381,7 @@ impl<A: Array> TinyVec<A> {
         ensures items { OnOk result (AppendsResults F.step (take n (tiny_items self.old)) (tiny_items self.new) f) }
         ensures len { OnOk result (tiny_len self.new ≡ n) }
         ensures place { OnOk result (PlaceRule A.CAPACITY (max n (tiny_len self.old)) self.old self.new) }
-        ensures slots { TinySlotRule A.Item.is_default self.old self.new }
+        ensures slot_rule { TinySlotRule A.Item.is_default self.old self.new }
         ensures room { RoomGrows GrowsFor A.CAPACITY n self.old self.new result }
 
         // Where there is room it allocates nothing.
@@ -399,7 +399,7 @@ impl<A: Array> TinyVec<A> {
             (take n (tiny_items self.old)) (tiny_items self.new) f.old f.new) }
         ensures len { OnOk result (tiny_len self.new ≡ n) }
         ensures place { OnOk result (PlaceRule A.CAPACITY (max n (tiny_len self.old)) self.old self.new) }
-        ensures slots { TinySlotRule A.Item.is_default self.old self.new }
+        ensures slot_rule { TinySlotRule A.Item.is_default self.old self.new }
         ensures room { RoomGrows GrowsFor A.CAPACITY n self.old self.new result }
         ensures succeeds { n ≤ tiny_capacity A.CAPACITY self.old → IsOk result }
         ensures full { OnErr result (tiny_capacity A.CAPACITY self.old < n) }

@@ -303,7 +303,7 @@ impl<A: Array<Item = u8>> io::Write for TinyVec<A> {
         ensures bytes { WriteAppends (Some (tiny_items self.old)) (Some (tiny_items self.new)) result buf.now }
         ensures count { IfOk result (λ n. n ≡ length buf.now) }
         ensures place { OnOk result (PlaceRule A.CAPACITY (tiny_len self.old + length buf.now) self.old self.new) }
-        ensures slots { OnOk result (TinySlotRule ⟦<u8 as Default>⟧.is_default self.old self.new) }
+        ensures slot_rule { OnOk result (TinySlotRule ⟦<u8 as Default>⟧.is_default self.old self.new) }
         ensures succeeds { tiny_len self.old + length buf.now ≤ tiny_capacity A.CAPACITY self.old → IsOk result }
         ensures room { RoomGrows GrowsFor A.CAPACITY (tiny_len self.old + length buf.now) self.old self.new result }
         ensures refused { OnErr result (Unchanged self.old self.new) }

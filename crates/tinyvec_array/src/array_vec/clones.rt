@@ -47,7 +47,7 @@ impl<A: Array> ArrayVec<A> {
         ensures items { OnOk result (AllZip A.Item.is_clone (items source.now) (items self.new)) }
         ensures len { OnOk result (items_len self.new ≡ items_len source.now) }
         ensures if_clones_equal { OnOk result (ClonesAreEqual A.Item.is_clone → items self.new ≡ items source.now) }
-        ensures spare { OnOk result (SlotRule A.Item.is_default self.old self.new) }
+        ensures slot_rule { OnOk result (SlotRule A.Item.is_default self.old self.new) }
         ensures fits { items_len self.new ≤ A.CAPACITY }
         ensures refused { OnErr result (ClonesInPart A.Item.is_default A.Item.is_infallible A.Item.is_clone
             (items source.now) (items self.old) (items self.new) (min (items_len self.old) (items_len source.now))

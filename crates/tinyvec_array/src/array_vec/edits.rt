@@ -4,7 +4,7 @@ ghost use Rattle.tinyvec_slots.specs.Slots.{items, spare, items_len, Vacates, Ar
 ghost use Rattle.std.specs.List.{swap_remove, SwappedAt, AppendsClones};
 ghost use Rattle.tinyvec_slots.specs.Clones.{RefusedAt, ClonesAreEqual, ClonesOver};
 
-use crate::slots::{prefers_shifting_in, via_u32};
+use crate::slots::{bounded_index, prefers_shifting_in};
 use crate::{Array, ArrayVec, TryFromSliceError};
 use std::mem;
 use tinyvec_slots::{InSlots, fill_default, insert_shifting, last_to, remove_shifting};
@@ -19,7 +19,7 @@ impl<A: Array> ArrayVec<A> {
     {
         let len = self.len();
         let slots = self.array.as_slice_mut();
-        let at = via_u32(len, slots.len());
+        let at = bounded_index(len, slots.len());
         slots[at] = x;
         self.len = len + 1;
     }
@@ -46,7 +46,7 @@ impl<A: Array> ArrayVec<A> {
         ensures value { result ≡ slice_get (items self.old) (items_len self.old - 1) }
         ensures items { items self.new ≡ take (items_len self.old - 1) (items self.old) }
         ensures spare { OnSome result (Vacates A.Item.is_default 1 self.old self.new) }
-        ensures empty { IfNone result (self.new ≡ self.old) }
+        ensures none { IfNone result (self.new ≡ self.old) }
         ensures fits { items_len self.new ≤ A.CAPACITY }
         ensures room { OnSome result (items_len self.new < A.CAPACITY) }
     {
@@ -67,7 +67,7 @@ impl<A: Array> ArrayVec<A> {
     {
         let last = self.len() - 1;
         let slots = self.slots_mut();
-        let at = via_u32(last, slots.len());
+        let at = bounded_index(last, slots.len());
         let item = mem::take(&mut slots[at]);
         // Written last, so that LLVM knows the length in a loop of pops.
         self.set_len(last);

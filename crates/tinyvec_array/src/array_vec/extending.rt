@@ -3,7 +3,7 @@ ghost use Rattle.std.specs.Prelude.{◌≡◌, ◌+◌, ◌-◌, ◌≤◌, ◌+
 ghost use Rattle.std.specs.List.{AppendsClones, AppendsResults};
 ghost use Rattle.tinyvec_slots.specs.Slots.{items, spare, items_len, AreDefaults, Vacates, SlotRule};
 ghost use Rattle.tinyvec_slots.specs.Clones.{RefusedAt, ClonesAreEqual, ClonesOver};
-ghost use Rattle.tinyvec_slots.specs.Cut.{IsRangeOf, removed};
+ghost use Rattle.tinyvec_slots.specs.Ranges.{IsRangeOf, removed};
 ghost use Rattle.std.specs.Iterator.{Drains, YieldsThen};
 ghost use Rattle.tinyvec_slots.specs.Filling.{YieldsUpTo, ShowsItems, IntoIterYields};
 
@@ -91,7 +91,7 @@ impl<A: Array> ArrayVec<A> {
     }
 
     // Moves the items of `from` to the end, and leaves defaults there.
-    fn push_taken(&mut self, from: &mut [A::Item])
+    fn append_slots(&mut self, from: &mut [A::Item])
         requires { length from.old ≤ A.CAPACITY - items_len self.old }
         ensures items { items self.new ≡ items self.old ++ from.old }
         ensures spare { spare self.new ≡ drop (length from.old) (spare self.old) }
@@ -114,7 +114,7 @@ impl<A: Array> ArrayVec<A> {
         ensures other_spare { Vacates A.Item.is_default (items_len other.old) other.old other.new }
         ensures fits { items_len self.new ≤ A.CAPACITY }
     {
-        self.push_taken(other.as_mut_slice());
+        self.append_slots(other.as_mut_slice());
         other.set_len(0);
     }
 
@@ -266,13 +266,13 @@ impl<A: Array> ArrayVec<A> {
     pub fn resize(&mut self, n: usize, x: A::Item) -> Result<(), NoMemory<A::Item>>
     where
         A::Item: Clone,
-        requires in_bounds { n ≤ A.CAPACITY }
+        requires room { n ≤ A.CAPACITY }
         ensures items { OnOk result (AppendsClones A.Item.is_clone (take n (items self.old)) (items self.new)
             (replicate (n - items_len self.old) x)) }
         ensures len { OnOk result (items_len self.new ≡ n) }
         ensures if_clones_equal { OnOk result (ClonesAreEqual A.Item.is_clone
             → items self.new ≡ take n (items self.old) ++ replicate (n - items_len self.old) x) }
-        ensures spare { OnOk result (SlotRule A.Item.is_default self.old self.new) }
+        ensures slot_rule { OnOk result (SlotRule A.Item.is_default self.old self.new) }
         ensures value_returned { IfErr result (λ refused. refused.0 ≡ x) }
         ensures kept { OnErr result (items self.new ≡ items self.old) }
 
@@ -303,7 +303,7 @@ impl<A: Array> ArrayVec<A> {
         requires callable { F.IsAlwaysCallable f }
         ensures items { AppendsResults F.step (take n (items self.old)) (items self.new) f }
         ensures len { items_len self.new ≡ n }
-        ensures spare { SlotRule A.Item.is_default self.old self.new }
+        ensures slot_rule { SlotRule A.Item.is_default self.old self.new }
         ensures fits { items_len self.new ≤ A.CAPACITY }
     {
         self.truncate(n);

@@ -4,7 +4,7 @@ use tinyvec_slots::InSlots;
 
 impl<A: Array> InSlots for ArrayVec<A> {
     ghost use Rattle.tinyvec_slots.specs.Slots.{all_slots};
-    ghost use Rattle.tinyvec_array.specs.Parts.{with_part as part_put, with_part-as_long};
+    ghost use Rattle.tinyvec_array.specs.ArrayParts.{with_part as part_put, with_part-as_long};
 
     type Item = A::Item;
 

@@ -2,7 +2,7 @@
 ghost use Rattle.std.specs.Prelude.{◌<◌, ◌≤◌, ◌-◌, List, map, IfOk, IfErr};
 ghost use Rattle.tinyvec_slots.specs.Slots.{items, items_len, spare, AreDefaults};
 ghost use Rattle.tinyvec_borsh.specs.Items.{SpellsList, ListFits, InItem, IsListCut, IsListTooLong};
-ghost use Rattle.tinyvec_borsh.specs.Reading.{Fails, LeavesRest, Takes, TakesSome};
+ghost use Rattle.tinyvec_borsh.specs.Reading.{Fails, LeavesRest, ReadsSpelling, TakesSome};
 ghost use Rattle.tinyvec_borsh.specs.ItemsLaws.{list_code, list_apart, list_spelled};
 
 use super::read_items;
@@ -47,7 +47,7 @@ where
 
     ghost IsTooLong = { IsListTooLong A.Item.Spells A.Item.Fits A.Item.IsTooLong A.CAPACITY };
 
-    ghost MayAsk = { InItem A.Item.Spells A.Item.Fits A.Item.MayAsk A.CAPACITY };
+    ghost MayAllocate = { InItem A.Item.Spells A.Item.Fits A.Item.MayAllocate A.CAPACITY };
 
     ghost apart = { list_apart A.Item.Spells A.Item.code A.Item.Fits A.Item.IsCut A.Item.IsTooLong A.Item.apart
         A.CAPACITY };
@@ -56,16 +56,16 @@ where
         alloc: Global,
         reader: &mut Counted<R>,
     ) -> Result<Self, BorshError>
-        ensures ok { IfOk result (λ v. Takes (SpellsList A.Item.Spells (map A.Item.content_of (items v)))
+        ensures ok { IfOk result (λ v. ReadsSpelling (SpellsList A.Item.Spells (map A.Item.content_of (items v)))
             (R.remaining reader.old.inner) (R.remaining reader.new.inner)) }
         ensures fits { IfOk result (λ v. ListFits A.Item.Spells A.Item.Fits A.CAPACITY
             (map A.Item.content_of (items v))) }
         ensures err { IfErr result (Fails (IsListCut A.Item.Spells A.Item.Fits A.Item.IsCut A.CAPACITY)
             (IsListTooLong A.Item.Spells A.Item.Fits A.Item.IsTooLong A.CAPACITY)
-            (InItem A.Item.Spells A.Item.Fits A.Item.MayAsk A.CAPACITY)
+            (InItem A.Item.Spells A.Item.Fits A.Item.MayAllocate A.CAPACITY)
             (R.remaining reader.old.inner) reader.old.faults reader.new.faults) }
         ensures taken { IfErr result (TakesSome (R.remaining reader.old.inner) (R.remaining reader.new.inner)) }
-        ensures grows { reader.old.faults ≤ reader.new.faults }
+        ensures faults_grow { reader.old.faults ≤ reader.new.faults }
         ensures spare { IfOk result (λ v. AreDefaults A.Item.is_default (A.CAPACITY - items_len v) (spare v)) }
         ensures rest { IfErr result (LeavesRest A.Item.Spells A.Item.IsTooLong A.CAPACITY
             (R.remaining reader.old.inner) (R.remaining reader.new.inner)) }

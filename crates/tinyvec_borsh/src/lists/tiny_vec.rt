@@ -6,7 +6,7 @@ ghost use Rattle.tinyvec.specs.TinyVec.{IsInline, PlaceRule, TinySlotRule, tiny_
 ghost use Rattle.tinyvec_borsh.specs.Items.{AfterItems, CountsAbove, InItem, IsListCut, IsListTooLong, ListFits};
 ghost use Rattle.tinyvec_borsh.specs.Items.{SpellsItems, SpellsList};
 ghost use Rattle.tinyvec_borsh.specs.ItemsLaws.{list_apart, list_code, list_spelled};
-ghost use Rattle.tinyvec_borsh.specs.Reading.{Fails, Takes, TakesSome};
+ghost use Rattle.tinyvec_borsh.specs.Reading.{Fails, ReadsSpelling, TakesSome};
 
 use super::read_items;
 use crate::{BorshDeserialize, BorshError, BorshForm, BorshSerialize};
@@ -71,8 +71,8 @@ where
 
     ghost IsTooLong = { IsListTooLong A.Item.Spells A.Item.Fits A.Item.IsTooLong (2 ^ 64 - 1) };
 
-    ghost MayAsk = { λ input. CountsAbove A.CAPACITY input
-        ⊎ InItem A.Item.Spells A.Item.Fits A.Item.MayAsk (2 ^ 64 - 1) input };
+    ghost MayAllocate = { λ input. CountsAbove A.CAPACITY input
+        ⊎ InItem A.Item.Spells A.Item.Fits A.Item.MayAllocate (2 ^ 64 - 1) input };
 
     ghost apart = { list_apart A.Item.Spells A.Item.code A.Item.Fits A.Item.IsCut A.Item.IsTooLong A.Item.apart
         (2 ^ 64 - 1) };
@@ -81,16 +81,16 @@ where
         alloc: Global,
         reader: &mut Counted<R>,
     ) -> Result<Self, BorshError>
-        ensures ok { IfOk result (λ v. Takes (SpellsList A.Item.Spells (map A.Item.content_of (tiny_items v)))
+        ensures ok { IfOk result (λ v. ReadsSpelling (SpellsList A.Item.Spells (map A.Item.content_of (tiny_items v)))
             (R.remaining reader.old.inner) (R.remaining reader.new.inner)) }
         ensures fits { IfOk result (λ v. ListFits A.Item.Spells A.Item.Fits (2 ^ 64 - 1)
             (map A.Item.content_of (tiny_items v))) }
         ensures err { IfErr result (Fails (IsListCut A.Item.Spells A.Item.Fits A.Item.IsCut (2 ^ 64 - 1))
             (IsListTooLong A.Item.Spells A.Item.Fits A.Item.IsTooLong (2 ^ 64 - 1))
-            (λ input. CountsAbove A.CAPACITY input ⊎ InItem A.Item.Spells A.Item.Fits A.Item.MayAsk (2 ^ 64 - 1) input)
+            (λ input. CountsAbove A.CAPACITY input ⊎ InItem A.Item.Spells A.Item.Fits A.Item.MayAllocate (2 ^ 64 - 1) input)
             (R.remaining reader.old.inner) reader.old.faults reader.new.faults) }
         ensures taken { IfErr result (TakesSome (R.remaining reader.old.inner) (R.remaining reader.new.inner)) }
-        ensures grows { reader.old.faults ≤ reader.new.faults }
+        ensures faults_grow { reader.old.faults ≤ reader.new.faults }
         ensures place { IfOk result (λ v. IsInline v ↔ (tiny_len v ≤ A.CAPACITY)) }
         ensures spare { IfOk result (λ v. IsInline v
             → AreDefaults A.Item.is_default (A.CAPACITY - tiny_len v) (tiny_spare v)) }
@@ -120,18 +120,18 @@ where
     requires { tiny_len v.old < count }
     ensures ok { OnOk result ((xs : List A.Item) × (tiny_items v.new ≡ tiny_items v.old ++ xs)
         × (0 < length xs) × (tiny_len v.new ≤ count) × AllByRecursion A.Item.Fits (map A.Item.content_of xs)
-        × Takes (SpellsItems A.Item.Spells (map A.Item.content_of xs))
+        × ReadsSpelling (SpellsItems A.Item.Spells (map A.Item.content_of xs))
         (R.remaining reader.old.inner) (R.remaining reader.new.inner)) }
     ensures place { OnOk result (PlaceRule A.CAPACITY (tiny_len v.new) v.old v.new) }
-    ensures slots { OnOk result (TinySlotRule A.Item.is_default v.old v.new) }
+    ensures slot_rule { OnOk result (TinySlotRule A.Item.is_default v.old v.new) }
     ensures room { OnOk result (tiny_capacity A.CAPACITY v.new ≤ max (tiny_capacity A.CAPACITY v.old) (2 * count)) }
     ensures err { IfErr result (λ e. ((e ≡ BorshError.Memory) × (tiny_capacity A.CAPACITY v.old < count))
         ⊎ Fails (AfterItems A.Item.Spells A.Item.Fits A.Item.IsCut (count - tiny_len v.old))
         (AfterItems A.Item.Spells A.Item.Fits A.Item.IsTooLong (count - tiny_len v.old))
-        (AfterItems A.Item.Spells A.Item.Fits A.Item.MayAsk (count - tiny_len v.old))
+        (AfterItems A.Item.Spells A.Item.Fits A.Item.MayAllocate (count - tiny_len v.old))
         (R.remaining reader.old.inner) reader.old.faults reader.new.faults e) }
     ensures taken { IfErr result (TakesSome (R.remaining reader.old.inner) (R.remaining reader.new.inner)) }
-    ensures grows { reader.old.faults ≤ reader.new.faults }
+    ensures faults_grow { reader.old.faults ≤ reader.new.faults }
 {
     let start = v.len();
     let end = start + (count - start as u64).min(items_ahead::<A::Item>() as u64) as usize;

@@ -5,8 +5,8 @@ ghost use Rattle.std.specs.List.{AllByRecursion};
 ghost use Rattle.tinyvec_io.specs.Counted.{Reported};
 ghost use Rattle.tinyvec_borsh.specs.Items.{AfterItems, SpellsItems};
 ghost use Rattle.tinyvec_borsh.specs.Number.{NumberForm};
-ghost use Rattle.tinyvec_borsh.specs.Reading.{Fails, Takes, TakesSome};
-ghost use Rattle.tinyvec_borsh.specs.Writing.{Adds, AddsFront};
+ghost use Rattle.tinyvec_borsh.specs.Reading.{Fails, ReadsSpelling, TakesSome};
+ghost use Rattle.tinyvec_borsh.specs.Writing.{WritesSpelling, AddsFront};
 
 use crate::BorshError;
 use crate::bytes::{read_bytes, write_bytes};
@@ -37,13 +37,13 @@ pub(crate) trait FixedWidth: Copy {
 /// How a list of such numbers is written and read: in blocks, where its type does not say otherwise.
 pub(crate) trait Number: FixedWidth {
     fn write_all<W: Write>(items: &[Self], writer: &mut Counted<W>) -> Result<(), BorshError>
-        ensures ok { OnOk result (Adds (SpellsItems Self.form.Spells items.now)
+        ensures ok { OnOk result (WritesSpelling (SpellsItems Self.form.Spells items.now)
             (W.contents writer.old.inner) (W.contents writer.new.inner)) }
         ensures fits { OnOk result (AllByRecursion Self.form.Fits items.now) }
         ensures err { IfErr result (λ e. (e ≡ BorshError.Io) × Reported writer.old.faults writer.new.faults) }
         ensures front { OnErr result (AddsFront (SpellsItems Self.form.Spells items.now)
             (W.contents writer.old.inner) (W.contents writer.new.inner)) }
-        ensures grows { writer.old.faults ≤ writer.new.faults }
+        ensures faults_grow { writer.old.faults ≤ writer.new.faults }
     {
         let width = Self::Bytes::CAPACITY;
         let mut room = [0; ROOM];
@@ -58,7 +58,7 @@ pub(crate) trait Number: FixedWidth {
     }
 
     fn read_all<R: Read>(slots: &mut [Self], reader: &mut Counted<R>) -> Result<(), BorshError>
-        ensures ok { OnOk result (Takes (SpellsItems Self.form.Spells slots.new)
+        ensures ok { OnOk result (ReadsSpelling (SpellsItems Self.form.Spells slots.new)
             (R.remaining reader.old.inner) (R.remaining reader.new.inner)) }
         ensures fits { OnOk result (AllByRecursion Self.form.Fits slots.new) }
         ensures err { IfErr result (Fails
@@ -67,7 +67,7 @@ pub(crate) trait Number: FixedWidth {
             (AfterItems Self.form.Spells Self.form.Fits (λ _. ⊥) (length slots.old))
             (R.remaining reader.old.inner) reader.old.faults reader.new.faults) }
         ensures taken { IfErr result (TakesSome (R.remaining reader.old.inner) (R.remaining reader.new.inner)) }
-        ensures grows { reader.old.faults ≤ reader.new.faults }
+        ensures faults_grow { reader.old.faults ≤ reader.new.faults }
     {
         let width = Self::Bytes::CAPACITY;
         let mut room = [0; ROOM];

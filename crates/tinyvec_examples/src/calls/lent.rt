@@ -86,7 +86,7 @@ pub fn push_two(v: &mut SliceVec<'_, u8>, a: u8, b: u8)
 /// The last number, taken out if it is below a limit.
 pub fn popped_below(v: &mut SliceVec<'_, u8>, limit: u8) -> Option<u8>
     ensures taken { IfSome result (λ x. (items v.old ≡ items v.new ++ x ∷ []) × (x < limit)) }
-    ensures slots { length (slots v.new) ≡ length (slots v.old) }
+    ensures slot_count { length (slots v.new) ≡ length (slots v.old) }
 {
     v.pop_if(|x| *x < limit)
 }

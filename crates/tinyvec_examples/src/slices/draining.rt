@@ -3,8 +3,8 @@
 ghost use Rattle.std.specs.Prelude.{◌≡◌, ◌≤◌, ◌-◌, ◌+◌, ◌++◌, ◌∷◌, [], pos, length, take, drop, slice_get, slice_range, vec_len, vec_capacity};
 ghost use Rattle.std.specs.List.{remove_range};
 ghost use Rattle.tinyvec_slice.specs.Slots.{Vacates};
-ghost use Rattle.tinyvec_slice.specs.Cut.{IsRangeOf, before, after};
-ghost use Rattle.tinyvec_slice.specs.SliceVec.{items_of, name_of, seen_of, items, spare, name};
+ghost use Rattle.tinyvec_slice.specs.Ranges.{IsRangeOf, before, after};
+ghost use Rattle.tinyvec_slice.specs.SliceVec.{items_of, name_of, view_of, items, spare, name};
 
 use std::ops::RangeBounds;
 use tinyvec_slice::{GenericSliceVec, Lent, SliceVec};
@@ -16,7 +16,7 @@ where
     requires { 3 ≤ length (items_of B.Lent v.old) }
     ensures same_reference { name_of B.Lent v.new ≡ name_of B.Lent v.old }
     ensures items { items_of B.Lent v.new ≡ remove_range (items_of B.Lent v.old) 1 3 }
-    ensures spare { Vacates B.Item.is_default 2 (seen_of B.Lent v.old) (seen_of B.Lent v.new) }
+    ensures spare { Vacates B.Item.is_default 2 (view_of B.Lent v.old) (view_of B.Lent v.new) }
     ensures value { result ≡ slice_get (items_of B.Lent v.old) 1 }
 {
     let mut d = v.drain(1..3);
@@ -62,7 +62,7 @@ where
     requires room { vec_len out.old + (end - start) ≤ vec_capacity out.old }
     ensures same_reference { name_of B.Lent v.new ≡ name_of B.Lent v.old }
     ensures items { items_of B.Lent v.new ≡ remove_range (items_of B.Lent v.old) start end }
-    ensures spare { Vacates B.Item.is_default (end - start) (seen_of B.Lent v.old) (seen_of B.Lent v.new) }
+    ensures spare { Vacates B.Item.is_default (end - start) (view_of B.Lent v.old) (view_of B.Lent v.new) }
     ensures moved { out.new.items ≡ out.old.items ++ slice_range (items_of B.Lent v.old) start end }
 {
     for x in v.drain(start..end) {

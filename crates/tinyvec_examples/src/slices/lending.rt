@@ -1,6 +1,6 @@
 //! Writes through what the vector lends. The owner sees each of them.
 ghost use Rattle.std.specs.Prelude.{◌≡◌, ◌<◌, ◌≤◌, ◌∷◌, [], ◌++◌, length, drop, slice_set};
-ghost use Rattle.tinyvec_slice.specs.SliceVec.{items, slots, name, seen, items_of, name_of};
+ghost use Rattle.tinyvec_slice.specs.SliceVec.{items, slots, name, view, items_of, name_of};
 
 use tinyvec_slice::{GenericSliceVec, Lent, SliceVec};
 
@@ -8,7 +8,7 @@ use tinyvec_slice::{GenericSliceVec, Lent, SliceVec};
 pub fn write_two(v: &mut SliceVec<'_, u8>)
     requires { 2 ≤ length (items v.old) }
     ensures same_reference { name v.new ≡ name v.old }
-    ensures len { (seen v.new).len ≡ (seen v.old).len }
+    ensures len { (view v.new).len ≡ (view v.old).len }
     ensures slots { slots v.new
         ≡ slice_set (slice_set (items v.old) 0 7) 1 8 ++ drop (length (items v.old)) (slots v.old) }
 {
@@ -30,7 +30,7 @@ pub fn two_written(xs: &mut [u8])
 pub fn write_at(v: &mut SliceVec<'_, u8>, i: usize, x: u8)
     requires { i < length (items v.old) }
     ensures same_reference { name v.new ≡ name v.old }
-    ensures len { (seen v.new).len ≡ (seen v.old).len }
+    ensures len { (view v.new).len ≡ (view v.old).len }
     ensures slots { slots v.new ≡ slice_set (slots v.old) i x }
 {
     v[i] = x;

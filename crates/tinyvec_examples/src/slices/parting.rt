@@ -1,7 +1,7 @@
 //! What is lent, parted in the caller's own body. Its owner sees what was done to both parts, which no caller of
 //! `split_off` can know.
 ghost use Rattle.std.specs.Prelude.{◌≡◌, ◌≤◌, length, slice_set};
-ghost use Rattle.tinyvec_slice.specs.SliceVec.{items, slots, name, seen};
+ghost use Rattle.tinyvec_slice.specs.SliceVec.{items, slots, name, view};
 
 use tinyvec_slice::SliceVec;
 
@@ -22,7 +22,7 @@ pub fn both_parts(xs: &mut [u8])
 pub fn part(v: &mut SliceVec<'_, u8>)
     requires { 3 ≤ length (items v.old) }
     ensures same_reference { name v.new ≡ name v.old }
-    ensures len { (seen v.new).len ≡ (seen v.old).len }
+    ensures len { (view v.new).len ≡ (view v.old).len }
     ensures slots { slots v.new ≡ slice_set (slice_set (slots v.old) 0 7) 1 6 }
 {
     let (front, back) = v.as_mut_inner().split_at_mut(1);

@@ -18,7 +18,7 @@ impl<R: Read> Read for Counted<R> {
         ensures bytes { ReadConsumes (R.remaining self.old.inner) (R.remaining self.new.inner)
             result buf.new }
         ensures faults { self.new.faults ≡ faults_after self.old.faults result }
-        ensures grows { self.old.faults ≤ self.new.faults }
+        ensures faults_grow { self.old.faults ≤ self.new.faults }
     {
         let result = self.inner.read(buf);
         if result.is_err() {
@@ -40,7 +40,7 @@ impl<R: Read> Counted<R> {
         ensures end { IfOk result (λ n. n ≡ 0 → IsAtEnd (R.remaining self.new.inner)) }
         ensures err { OnErr result (Keeps (R.remaining self.old.inner) (R.remaining self.new.inner)) }
         ensures retried { IfErr result (λ e. error_kind e ≢ ErrorKind.Interrupted) }
-        ensures grows { self.old.faults ≤ self.new.faults }
+        ensures faults_grow { self.old.faults ≤ self.new.faults }
         ensures fault { OnErr result (Reported self.old.faults self.new.faults) }
     {
         for _tries in 0..u64::MAX {
@@ -64,7 +64,7 @@ impl<R: Read> Counted<R> {
             (R.remaining self.new.inner) buf.new) }
         ensures retried { IfErr result (λ e. error_kind e ≢ ErrorKind.Interrupted) }
         ensures small { IfOk result (λ n. AllByRecursion (λ byte. byte < 256) (take n buf.new)) }
-        ensures grows { self.old.faults ≤ self.new.faults }
+        ensures faults_grow { self.old.faults ≤ self.new.faults }
         ensures fault { OnErr result (Reported self.old.faults self.new.faults) }
     {
         let mut filled = 0;

@@ -17,7 +17,7 @@ impl<W: Write> Write for Counted<W> {
         ensures bytes { WriteAppends (W.contents self.old.inner) (W.contents self.new.inner)
             result buf.now }
         ensures faults { self.new.faults ≡ faults_after_write self.old.faults result buf.now }
-        ensures grows { self.old.faults ≤ self.new.faults }
+        ensures faults_grow { self.old.faults ≤ self.new.faults }
     {
         let result = self.inner.write(buf);
         let is_fault = match &result {
@@ -33,7 +33,7 @@ impl<W: Write> Write for Counted<W> {
     fn flush(&mut self) -> io::Result<()>
         ensures bytes { Keeps (W.contents self.old.inner) (W.contents self.new.inner) }
         ensures faults { self.new.faults ≡ faults_after self.old.faults result }
-        ensures grows { self.old.faults ≤ self.new.faults }
+        ensures faults_grow { self.old.faults ≤ self.new.faults }
     {
         let result = self.inner.flush();
         if result.is_err() {
@@ -52,7 +52,7 @@ impl<W: Write> Write for Counted<W> {
         ensures err { OnErr result (AppendsFront (W.contents self.old.inner)
             (W.contents self.new.inner) buf.now) }
         ensures retried { IfErr result (λ e. error_kind e ≢ ErrorKind.Interrupted) }
-        ensures grows { self.old.faults ≤ self.new.faults }
+        ensures faults_grow { self.old.faults ≤ self.new.faults }
         ensures fault { OnErr result (Reported self.old.faults self.new.faults) }
     {
         let mut rest = buf;
@@ -73,7 +73,7 @@ impl<W: Write> Counted<W> {
         ensures bytes { WriteAppends (W.contents self.old.inner) (W.contents self.new.inner)
             result buf.now }
         ensures retried { IfErr result (λ e. error_kind e ≢ ErrorKind.Interrupted) }
-        ensures grows { self.old.faults ≤ self.new.faults }
+        ensures faults_grow { self.old.faults ≤ self.new.faults }
         ensures fault { OnErr result (Reported self.old.faults self.new.faults) }
     {
         for _tries in 0..u64::MAX {

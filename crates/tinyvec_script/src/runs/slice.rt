@@ -1,6 +1,6 @@
 //! A list of calls of a vector in lent slots.
 ghost use Rattle.std.specs.Prelude.{◌≡◌, [], IsOk, IfOk, IfErr};
-ghost use Rattle.tinyvec_slice.specs.SliceVec.{seen_of, name_of};
+ghost use Rattle.tinyvec_slice.specs.SliceVec.{view_of, name_of};
 ghost use Rattle.tinyvec_script.specs.Step.{SliceStep, Run};
 
 use crate::slots_step::answer_slice;
@@ -18,7 +18,7 @@ pub fn run_slice<B: Lent>(
 where
     B::Item: Default,
     ensures run { IfOk result (λ answers. Run (SliceStep B.Item.is_default)
-        (seen_of B.Lent vec.old) calls.items answers.items (seen_of B.Lent vec.new)) }
+        (view_of B.Lent vec.old) calls.items answers.items (view_of B.Lent vec.new)) }
     ensures refused { IfErr result (λ refused. (refused.0 ≡ calls) × (vec.new ≡ vec.old)) }
     ensures same_slots { name_of B.Lent vec.new ≡ name_of B.Lent vec.old }
     ensures none { calls.items ≡ [] → IsOk result }

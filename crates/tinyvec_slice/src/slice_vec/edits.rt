@@ -68,7 +68,7 @@ where
         ensures value { result ≡ slice_get (items_of B.Lent self.old) (len_of B.Lent self.old - 1) }
         ensures items { items_of B.Lent self.new ≡ take (len_of B.Lent self.old - 1) (items_of B.Lent self.old) }
         ensures spare { OnSome result (VacatesOf B.Lent B.Item.is_default 1 self.old self.new) }
-        ensures empty { IfNone result (self.new ≡ self.old) }
+        ensures none { IfNone result (self.new ≡ self.old) }
     {
         if self.is_empty() {
             return None;

@@ -4,7 +4,7 @@ ghost use Rattle.std.specs.List.{AppendsClones, AppendsResults};
 ghost use Rattle.tinyvec_slots.specs.Clones.{RefusedAt, ClonesAreEqual, ClonesOver, ClonesBefore};
 ghost use Rattle.tinyvec_slice.specs.SliceVec.{items_of, spare_of, name_of, len_of, VacatesOf, slots_of};
 ghost use Rattle.tinyvec_slots.specs.Slots.{AreDefaults};
-ghost use Rattle.tinyvec_slots.specs.Cut.{IsRangeOf, removed};
+ghost use Rattle.tinyvec_slots.specs.Ranges.{IsRangeOf, removed};
 ghost use Rattle.std.specs.Iterator.{Drains, YieldsThen};
 ghost use Rattle.tinyvec_slots.specs.Filling.{YieldsUpTo, ShowsItems, IntoIterYields};
 
@@ -162,7 +162,7 @@ impl<B: Lent> GenericSliceVec<B> {
     pub fn resize(&mut self, n: usize, x: B::Item) -> Result<(), NoMemory<B::Item>>
     where
         B::Item: Clone,
-        requires in_bounds { n ≤ length (slots_of B.Lent self.old) }
+        requires room { n ≤ length (slots_of B.Lent self.old) }
         ensures same_reference { name_of B.Lent self.new ≡ name_of B.Lent self.old }
         ensures slot_count { length (slots_of B.Lent self.new) ≡ length (slots_of B.Lent self.old) }
         ensures items { OnOk result (AppendsClones B.Item.is_clone (take n (items_of B.Lent self.old))
@@ -322,7 +322,7 @@ where
     B::Item: Default,
 {
     // Moves the items of `from` to the end, and leaves defaults there.
-    fn push_taken(&mut self, from: &mut [B::Item])
+    fn append_slots(&mut self, from: &mut [B::Item])
         requires { length from.old ≤ length (spare_of B.Lent self.old) }
         ensures same_reference { name_of B.Lent self.new ≡ name_of B.Lent self.old }
         ensures slot_count { length (slots_of B.Lent self.new) ≡ length (slots_of B.Lent self.old) }
@@ -346,7 +346,7 @@ where
         ensures other_items { items_of B.Lent other.new ≡ [] }
         ensures other_spare { VacatesOf B.Lent B.Item.is_default (len_of B.Lent other.old) other.old other.new }
     {
-        self.push_taken(other.as_mut_slice());
+        self.append_slots(other.as_mut_slice());
         other.set_len(0);
     }
 }

@@ -7,7 +7,7 @@ use tinyvec_slots::InSlots;
 impl<B: Lent> InSlots for GenericSliceVec<B> {
     ghost use Rattle.tinyvec_slice.specs.SliceVec.{slots_of};
     ghost use Rattle.tinyvec_slice.specs.Lends.{at_slots};
-    ghost use Rattle.tinyvec_slice.specs.Parts.{with_part as part_put};
+    ghost use Rattle.tinyvec_slice.specs.SliceParts.{with_part as part_put};
 
     type Item = B::Item;
 

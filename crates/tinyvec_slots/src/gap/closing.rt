@@ -29,7 +29,7 @@ impl Gap {
         ensures finite { IsFinite (I.remaining replacement.old) → IsFinite (I.remaining replacement.new) }
         ensures back { gap_back self.new ≡ gap_back self.old }
         ensures behind { drop (gap_back self.old) slots.new ≡ drop (gap_back self.old) slots.old }
-        ensures slots { length slots.new ≡ length slots.old }
+        ensures slot_count { length slots.new ≡ length slots.old }
         ensures touches { gap_touches self.new ≡ gap_touches self.old + 2 * (gap_front self.new - gap_front self.old) }
     {
         self.front = place(slots, &mut self.touches, self.front, self.back, replacement);
@@ -45,7 +45,7 @@ impl Gap {
         requires few { FitsBits 80 (gap_touches self.old) }
         ensures len { result ≡ length slots.old - (gap_back self.old - gap_front self.old) }
         ensures kept { take result slots.new ≡ take (gap_front self.old) slots.old ++ drop (gap_back self.old) slots.old }
-        ensures slots { length slots.new ≡ length slots.old }
+        ensures slot_count { length slots.new ≡ length slots.old }
         ensures touches { gap_touches self.new ≡ gap_touches self.old + (length slots.old - gap_front self.old) }
     {
         let gap = self.back - self.front;
@@ -62,7 +62,7 @@ impl Gap {
         requires few { FitsBits 80 (gap_touches self.old) }
         ensures brought { slots.new ≡ take (gap_front self.old) slots.old ++ drop end slots.old
             ++ slice_range slots.old (gap_front self.old) end }
-        ensures slots { length slots.new ≡ length slots.old }
+        ensures slot_count { length slots.new ≡ length slots.old }
         ensures none { end ≡ length slots.old → gap_touches self.new ≡ gap_touches self.old }
         ensures at_least { gap_touches self.old + (length slots.old - end) ≤ gap_touches self.new }
         ensures at_most { gap_touches self.new

@@ -1,7 +1,7 @@
 //! Text that is pushed, popped, inserted, removed, replaced and cut off.
 ghost use Rattle.std.specs.Prelude.{◌≡◌, ◌+◌, ◌-◌, ◌<◌, ◌≤◌, ◌++◌, ◌∷◌, [], ◌↔◌, length, max, if◌then◌else◌, is_ok, IsTrue, IsOk, IfOk, OnOk, OnErr, chars, encode_utf8, ◌&&◌, nat_le, ℕ, List, take, drop, IsSome, IfSome, IfNone, IsUtf8};
 ghost use Rattle.tinyvec_text.specs.InlineText.{text_chars, text_len, MakesRoom, StaysInPlace, IsBoundary};
-ghost use Rattle.tinyvec_slots.specs.Cut.{range_start, range_end, before, after};
+ghost use Rattle.tinyvec_slots.specs.Ranges.{range_start, range_end, before, after};
 ghost use Rattle.std.specs.String.Boundary.{IsSplitPoint};
 ghost use Rattle.std.specs.Char.{IsScalar};
 

@@ -1,11 +1,11 @@
 use Rattle.std.proofs.Common.{rules}
 use Rattle.tinyvec_slots.specs.Slots.{SlotRule}
 use Rattle.tinyvec_array.proofs.DrainLemmas.{DrainKeeps-refl}
-use Rattle.tinyvec_array.proofs.DrainedLemmas.{drained_slots}
+use Rattle.tinyvec_array.proofs.DrainEndLemmas.{drained_slots}
 use Rattle.tinyvec_examples.proofs.draining.cut.Goals as goal
 
-pub returns-clause-spare : goal.returns-clause-spare
-returns-clause-spare g c =
+pub returns-clause-slot_rule : goal.returns-clause-slot_rule
+returns-clause-slot_rule g c =
     let d = c.drain.result in
     let made = c.drain.ensures in
     let start = g.R.RangeBounds.start_bound c.args.range in

@@ -1,8 +1,8 @@
 use Rattle.std.proofs.Common.{◌≡◌, ◌++◌, rules}
-use Rattle.tinyvec_slots.specs.Cut.{before, after}
+use Rattle.tinyvec_slots.specs.Ranges.{before, after}
 use Rattle.tinyvec_slots.specs.Slots.{SlotRule, items}
 use Rattle.tinyvec_array.proofs.DrainLemmas.{nth-keeps}
-use Rattle.tinyvec_array.proofs.DrainedLemmas.{drained_items, drained_slots}
+use Rattle.tinyvec_array.proofs.DrainEndLemmas.{drained_items, drained_slots}
 use Rattle.tinyvec_examples.proofs.draining.nth_of.Goals as goal
 
 pub returns-clause-left : goal.returns-clause-left
@@ -19,8 +19,8 @@ returns-clause-left g c =
     let same = kept.same_reference in
     search rules
 
-pub returns-clause-spare : goal.returns-clause-spare
-returns-clause-spare g c =
+pub returns-clause-slot_rule : goal.returns-clause-slot_rule
+returns-clause-slot_rule g c =
     let old = c.args.v.now in
     let new = c.drop-d.new.self.0 in
     let start = g.R.RangeBounds.start_bound c.args.range in

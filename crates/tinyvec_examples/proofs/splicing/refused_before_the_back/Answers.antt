@@ -7,7 +7,7 @@ use Rattle.tinyvec_array.specs.Splice.{splice_view, splice_front, splice_left, s
 use Rattle.tinyvec_slots.specs.AnySplice.{FinishesWith}
 use Rattle.tinyvec_slots.specs.SplicedByWord.{SplicedByWord}
 use Rattle.tinyvec_slots.proofs.Fused.{fused_first, fused_ends}
-use Rattle.tinyvec_array.proofs.SpliceLemmas.{Asks-splices}
+use Rattle.tinyvec_array.proofs.SpliceLemmas.{RunsWord-splices}
 use Rattle.tinyvec_slots.proofs.KnownItems.{array_ends}
 use Rattle.tinyvec_examples.proofs.SpliceEnded.{ended_no_room, ended_refused, ended_full, ended_slots, numbers_spliced, refused_at, next_is_none}
 use Rattle.tinyvec_examples.proofs.splicing.refused_before_the_back.Goals.{After-drop-rest}
@@ -22,7 +22,7 @@ unreachable-requires c =
     let ahead : splice_front s ≡ pos 1 ∷ [] = made.front ∙ rw c.from_array_len-v.ensures (refl {a = pos 1 ∷ []}) in
     let behind : splice_back s ≡ pos 3 ∷ [] = made.back ∙ rw c.from_array_len-v.ensures (refl {a = pos 3 ∷ []}) in
     let whole : R (splice_replacement s) ≡ pos 7 ∷ pos 8 ∷ pos 9 ∷ [] = rw made.unasked made.replacement.0 in
-    let along = Asks-splices R _ _ (fused_ends _ _ _ array_ends) s (back ∷ []) (c.next_back-two.result ∷ []) t (t, c.next_back-two.ensures.steps, refl) in
+    let along = RunsWord-splices R _ _ (fused_ends _ _ _ array_ends) s (back ∷ []) (c.next_back-two.result ∷ []) t (t, c.next_back-two.ensures.steps, refl) in
     let ended = subst (λ r. FinishesWith R 4 (splice_view t) r (items c.finish.new.self.0)) c.in-Ok.is (c.finish.ensures.listed array_into_iter_items array_ends.first) in
     let le = ended_no_room R 4 s t (back ∷ []) (items c.finish.new.self.0) _ _ _ _ along ahead made.left behind whole c.in-Ok.field-0 ended in
     omega (arith, le)
@@ -30,7 +30,7 @@ unreachable-requires c =
 module _ (c : After-drop-rest) where
   abbrev along : SplicedByWord splice_view SpliceKeeps (fused_rest array_into_iter_items) c.splice-splice.result (back ∷ []) c.next_back-two.new.self
   along =
-      Asks-splices (fused_rest array_into_iter_items) _ _ (fused_ends _ _ _ array_ends) c.splice-splice.result (back ∷ []) (c.next_back-two.result ∷ []) c.next_back-two.new.self
+      RunsWord-splices (fused_rest array_into_iter_items) _ _ (fused_ends _ _ _ array_ends) c.splice-splice.result (back ∷ []) (c.next_back-two.result ∷ []) c.next_back-two.new.self
       (c.next_back-two.new.self, c.next_back-two.ensures.steps, refl)
 
   ahead : splice_front c.splice-splice.result ≡ pos 1 ∷ []
@@ -60,7 +60,7 @@ returns c =
     let is = ended_refused R 4 s t (back ∷ []) (items v) _ _ _ _ (along c) (ahead c) (left c) (behind c) (whole c) (Err gave) ended in
     let full = ended_full R 4 s t (back ∷ []) (items v) _ _ _ _ (along c) (ahead c) (left c) (behind c) (whole c) (Err gave) ended in
     let at = refused_at (back ∷ []) 1 (pos 1 ∷ []) (pos 3 ∷ []) (pos 7 ∷ pos 8 ∷ pos 9 ∷ []) (items v) (gave.item ∷ R gave.rest) 1 1 refl is full in
-    let rule = ended_slots (λ x. x ≡ pos 0) s t old v (along c).kept c.splice-splice.ensures.slots c.finish.ensures.slots in
+    let rule = ended_slots (λ x. x ≡ pos 0) s t old v (along c).kept c.splice-splice.ensures.slots c.finish.ensures.slot_rule in
     let slots : all_slots v ≡ pos 1 ∷ pos 7 ∷ pos 9 ∷ pos 3 ∷ [] =
     numbers_spliced old v _ at.0 rule ∙ rw c.from_array_len-v.ensures (refl {a = pos 1 ∷ pos 7 ∷ pos 9 ∷ pos 3 ∷ []}) in
     let split : gave.item ∷ R gave.rest ≡ pos 8 ∷ [] = at.1 in

@@ -47,11 +47,11 @@ returns-clause-full g c =
     let lender = c.splice-splice.ensures.same_reference in
     subst (λ w. OnErr c.finish.result (items_len w ≡ g.A.Array.CAPACITY)) (search rules) c.finish.ensures.finished.full
 
-pub returns-clause-spare : goal.returns-clause-spare
-returns-clause-spare g c =
+pub returns-clause-slot_rule : goal.returns-clause-slot_rule
+returns-clause-slot_rule g c =
     let counts = array_counted (fuse_steps g.I.Iterator.next_gives) (fuse_steps g.I.DoubleEndedIterator.next_back_gives) c.splice-splice.result (front ∷ back ∷ [])
     (c.one_from_each_end-ends.result.0 ∷ c.one_from_each_end-ends.result.1 ∷ []) c.one_from_each_end-ends.new.splice c.one_from_each_end-ends.ensures.asked in
     let same = counts.kept.same_reference in
     let lender = c.splice-splice.ensures.same_reference in
-    let fact = ended_slots g.A.Item.Default.is_default c.splice-splice.result c.one_from_each_end-ends.new.splice c.args.vec.now c.finish.new.self.0 counts.kept c.splice-splice.ensures.slots c.finish.ensures.slots in
+    let fact = ended_slots g.A.Item.Default.is_default c.splice-splice.result c.one_from_each_end-ends.new.splice c.args.vec.now c.finish.new.self.0 counts.kept c.splice-splice.ensures.slots c.finish.ensures.slot_rule in
     subst (SlotRule g.A.Item.Default.is_default c.args.vec.now) (search rules) fact

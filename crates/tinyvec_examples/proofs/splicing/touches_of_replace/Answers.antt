@@ -5,7 +5,7 @@ use Rattle.tinyvec_slots.specs.Slots.{items, items_len}
 use Rattle.tinyvec_slots.specs.Ends.{front, back, given_items}
 use Rattle.tinyvec_slots.proofs.Lists.{length-slice_range}
 use Rattle.tinyvec_array.specs.Splice.{splice_view, splice_front, splice_left, splice_back, SpliceKeeps}
-use Rattle.tinyvec_slots.proofs.SpliceLemmas.{finished_len}
+use Rattle.tinyvec_slots.proofs.FinishLemmas.{finished_len}
 use Rattle.tinyvec_examples.proofs.SpliceCounted.{Counts, array_counted, kept_around, touched_at_least, touched_at_most}
 use Rattle.tinyvec_examples.proofs.splicing.touches_of_replace.Goals.{Joined-finished}
 use Rattle.tinyvec_examples.proofs.splicing.touches_of_replace.Goals as goal

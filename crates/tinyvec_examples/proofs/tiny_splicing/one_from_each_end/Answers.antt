@@ -3,7 +3,7 @@ use Rattle.std.specs.Iterator.Adapters.{fuse_steps}
 use Rattle.tinyvec_slots.specs.Ends.{front, back}
 use Rattle.tinyvec_slots.specs.Fused.{fused_rest}
 use Rattle.tinyvec_slots.proofs.Fused.{fused_ends}
-use Rattle.tinyvec.proofs.SpliceLemmas.{Asks-splices}
+use Rattle.tinyvec.proofs.SpliceLemmas.{RunsWord-splices}
 use Rattle.tinyvec_examples.proofs.SpliceCounted.{tiny_counted}
 use Rattle.tinyvec_examples.proofs.tiny_splicing.one_from_each_end.Goals as goal
 
@@ -13,7 +13,7 @@ returns-clause-asked g c = let t = c.next_back-last.new.self in (c.next-first.ne
 pub returns-clause-spliced : goal.returns-clause-spliced
 returns-clause-spliced g c = λ rest ends.
     let t = c.next_back-last.new.self in
-    Asks-splices (fused_rest rest) (fuse_steps g.I.Iterator.next_gives) (fuse_steps g.I.DoubleEndedIterator.next_back_gives) (fused_ends _ _ rest ends)
+    RunsWord-splices (fused_rest rest) (fuse_steps g.I.Iterator.next_gives) (fuse_steps g.I.DoubleEndedIterator.next_back_gives) (fused_ends _ _ rest ends)
     c.args.splice.now (front ∷ back ∷ []) (c.next-first.result ∷ c.next_back-last.result ∷ []) t
     (c.next-first.new.self, c.next-first.ensures.steps, (t, c.next_back-last.ensures.steps, refl))
 

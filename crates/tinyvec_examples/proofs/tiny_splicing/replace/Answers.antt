@@ -4,7 +4,7 @@ use Rattle.tinyvec_slots.specs.Ends.{front, back}
 use Rattle.tinyvec_slots.specs.Fused.{fused_rest}
 use Rattle.tinyvec_slots.specs.SplicedByWord.{IsSpliceRefused}
 use Rattle.tinyvec_slots.proofs.Lists.{length-slice_range}
-use Rattle.tinyvec_slots.proofs.SplicingLemmas.{spliced_len}
+use Rattle.tinyvec_slots.proofs.AnySpliceLemmas.{spliced_len}
 use Rattle.tinyvec.specs.TinyVec.{tiny_items, tiny_len, is_inline, tiny_capacity, PlaceRule, TinySlotRule}
 use Rattle.tinyvec.specs.TinyVecSplice.{splice_view, splice_replacement, splice_vec, SpliceKeeps}
 use Rattle.tinyvec.proofs.TinyLemmas.{tiny_slots_framed}
@@ -68,8 +68,8 @@ returns-clause-place g c =
     let rule : PlaceRule g.A.Array.CAPACITY (tiny_len v) c.args.vec.now v = rw (sym before) c.finish.ensures.grows.place in
     subst (λ w. PlaceRule g.A.Array.CAPACITY (tiny_len w) c.args.vec.now w) (search rules) rule
 
-pub returns-clause-slots : goal.returns-clause-slots
-returns-clause-slots g c =
+pub returns-clause-slot_rule : goal.returns-clause-slot_rule
+returns-clause-slot_rule g c =
     let kept = c.one_from_each_end-ends.ensures.kept in
     let same = kept.same_reference in
     let lender = c.splice-splice.ensures.same_reference in

@@ -3,10 +3,10 @@ use Rattle.std.specs.Array.Iter.{array_into_iter_items}
 use Rattle.tinyvec_slots.specs.Ends.{front}
 use Rattle.tinyvec_slots.specs.Fused.{fused_rest}
 use Rattle.tinyvec_slots.proofs.Fused.{fused_ends}
-use Rattle.tinyvec_slots.proofs.SplicingLemmas.{spliced_len}
+use Rattle.tinyvec_slots.proofs.AnySpliceLemmas.{spliced_len}
 use Rattle.tinyvec.specs.TinyVec.{tiny_items, tiny_len, is_inline, tiny_capacity, IsInline}
 use Rattle.tinyvec.specs.TinyVecSplice.{splice_view, splice_front, splice_left, splice_back, splice_replacement, splice_vec, SpliceKeeps}
-use Rattle.tinyvec.proofs.SpliceLemmas.{Asks-splices}
+use Rattle.tinyvec.proofs.SpliceLemmas.{RunsWord-splices}
 use Rattle.tinyvec_slots.proofs.KnownItems.{array_ends}
 use Rattle.tinyvec.proofs.TinyLemmas.{capacity_inline}
 use Rattle.tinyvec_examples.proofs.SpliceEnded.{first_taken, ended_fits, ended_all}
@@ -25,7 +25,7 @@ returns c =
     let behind : splice_back s ≡ pos 3 ∷ [] = made.back ∙ rw start.items (refl {a = pos 3 ∷ []}) in
     let whole : R (splice_replacement s) ≡ pos 7 ∷ pos 8 ∷ [] = rw made.unasked made.replacement.0 in
     let first = first_taken splice_view SpliceKeeps _ s t _ (pos 2) [] c.next-first.ensures.steps left in
-    let along = Asks-splices R _ _ (fused_ends _ _ _ array_ends) s (front ∷ []) (c.next-first.result ∷ []) t (t, c.next-first.ensures.steps, refl) in
+    let along = RunsWord-splices R _ _ (fused_ends _ _ _ array_ends) s (front ∷ []) (c.next-first.result ∷ []) t (t, c.next-first.ensures.steps, refl) in
     let sum = spliced_len splice_view SpliceKeeps R s t (front ∷ []) (tiny_items v) _ _ _ _ along ahead left behind whole in
     let inside : IsInline (splice_vec t) = along.kept.frame.place ∙ ap is_inline made.vec ∙ start.place in
     let slots : tiny_capacity 4 (splice_vec t) ≡ 4 = capacity_inline 4 (splice_vec t) inside in

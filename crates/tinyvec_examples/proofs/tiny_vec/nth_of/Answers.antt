@@ -1,5 +1,5 @@
 use Rattle.std.proofs.Common.{◌≡◌, ◌++◌, ◌∙◌, rules}
-use Rattle.tinyvec_slots.specs.Cut.{before, after}
+use Rattle.tinyvec_slots.specs.Ranges.{before, after}
 use Rattle.tinyvec.specs.TinyVec.{tiny_items, is_inline, tiny_capacity, TinySlotRule}
 use Rattle.tinyvec.proofs.DrainLemmas.{nth-keeps, tiny_drained}
 use Rattle.tinyvec_examples.proofs.tiny_vec.nth_of.Goals as goal
@@ -25,8 +25,8 @@ returns-clause-place g c =
     let same = kept.same_reference in
     search rules
 
-pub returns-clause-slots : goal.returns-clause-slots
-returns-clause-slots g c =
+pub returns-clause-slot_rule : goal.returns-clause-slot_rule
+returns-clause-slot_rule g c =
     let old = c.args.v.now in
     let new = c.drop-d.new.self.0 in
     let kept = nth-keeps c.drain-d.result c.args.n c.nth.result c.nth.new.self c.nth.ensures.ran in

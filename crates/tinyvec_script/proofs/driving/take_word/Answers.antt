@@ -1,16 +1,16 @@
 use Rattle.std.proofs.Common.{◌+◌, ◌++◌, ◌∷◌, [], ap, ◌∙◌, subst, sym, append-nil, append_assoc, arith, take, length, length-append}
 use Rattle.std.specs.Option.{option_to_list}
-use Rattle.tinyvec_slots.specs.Ends.{Asks, given_items}
+use Rattle.tinyvec_slots.specs.Ends.{RunsWord, given_items}
 use Rattle.tinyvec_slots.proofs.EndsLemmas.{given_items-more}
 use Rattle.tinyvec_script.specs.Driving.{word_of}
 use Rattle.tinyvec_script.specs.declared.call.End.TheVariants.{Front}
-use Rattle.tinyvec_script.proofs.DrivingLemmas.{Asks-letter, word_of-more}
+use Rattle.tinyvec_script.proofs.DrivingLemmas.{RunsWord-letter, word_of-more}
 use Rattle.tinyvec_script.proofs.driving.take_word.Goals.{After-take_from, in-Some, in-None}
 use Rattle.tinyvec_script.proofs.driving.take_word.Goals as goal
 
 -- the word with this letter was asked
 asked_more : (g : _) (c : After-take_from g)
-    → Asks g.S.TwoEnds.gives g.S.TwoEnds.gives_back c.args.splice.now (word_of (take (c.loop-letter.letter-index + 1) c.args.word.now))
+    → RunsWord g.S.TwoEnds.gives g.S.TwoEnds.gives_back c.args.splice.now (word_of (take (c.loop-letter.letter-index + 1) c.args.word.now))
     (c.loop-letter.invariant.asks.0 ++ c.take_from.result ∷ []) c.take_from.new.self
 asked_more g c =
     let gives = g.S.TwoEnds.gives in
@@ -20,8 +20,8 @@ asked_more g c =
     let r = c.take_from.result in
     let to = c.take_from.new.self in
     let word = c.args.word.now in
-    subst (λ w. Asks gives gives_back c.args.splice.now w (asked.0 ++ r ∷ []) to) (sym (word_of-more word turn.letter-index Front c.loop-letter-test.true))
-    (Asks-letter gives gives_back _ c.args.splice.now (word_of (take turn.letter-index word)) asked.0 turn.splice r to asked.1 c.take_from.ensures)
+    subst (λ w. RunsWord gives gives_back c.args.splice.now w (asked.0 ++ r ∷ []) to) (sym (word_of-more word turn.letter-index Front c.loop-letter-test.true))
+    (RunsWord-letter gives gives_back _ c.args.splice.now (word_of (take turn.letter-index word)) asked.0 turn.splice r to asked.1 c.take_from.ensures)
 
 pub push_reserved-requires : goal.push_reserved-requires
 push_reserved-requires g c =

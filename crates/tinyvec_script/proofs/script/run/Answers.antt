@@ -2,7 +2,7 @@ use Rattle.std.proofs.Common.{◌≡◌, ◌++◌, List, ℕ, [], Some, take, re
 use Rattle.tinyvec_slots.specs.Slots.{spare, split_at}
 use Rattle.tinyvec_slots.proofs.SlotsLemmas.{defaults_are}
 use Rattle.tinyvec_script.specs.Script.{start, zeros, State, IsZero}
-use Rattle.tinyvec_slice.specs.SliceVec.{seen}
+use Rattle.tinyvec_slice.specs.SliceVec.{view}
 use Rattle.tinyvec_script.specs.Place.{tiny_of}
 use Rattle.tinyvec_script.proofs.PlaceLemmas.{tiny_of-begins}
 use Rattle.tinyvec_script.specs.State.{held}
@@ -18,13 +18,13 @@ loop-piece-init g c =
     let border = c.new.ensures.border in
     let empty = defaults_are IsZero (pos 0) (λ x h. h) 4 (spare array) c.new.ensures.spare in
     let a_begins : array ≡ zeros = border ∙ ap (split_at 0) (sym (ap spare border) ∙ empty) in
-    let s_begins : seen c.from_slice_len.result ≡ zeros = c.from_slice_len.ensures.value in
+    let s_begins : view c.from_slice_len.result ≡ zeros = c.from_slice_len.ensures.value in
     let tiny = c.new-2 in
     let tiny_spare = defaults_are IsZero (pos 0) (λ x h. h) 4 _ tiny.ensures.spare in
     let t_begins : tiny_of tiny.result ≡ start.t = tiny_of-begins tiny.result (replicate 4 (pos 0)) tiny.ensures.items tiny_spare tiny.ensures.place in
     let text = c.new-3 in
     let x_begins : text.result ≡ start.x = λ t. record { bytes = text.ensures.bytes t; inline = text.ensures.place t; room = text.ensures.room t } in
-    let state : State = record { a = array; s = seen c.from_slice_len.result; t = tiny_of tiny.result; x = text.result } in
+    let state : State = record { a = array; s = view c.from_slice_len.result; t = tiny_of tiny.result; x = text.result } in
     let begins : state ≡ start = λ t. record { a = a_begins t; s = s_begins t; t = t_begins t; x = x_begins t } in
     record {
       so_far = ([], [], Consumes-nil _, Appends-nil _, rw (begins, c.new-line.ensures) (feeds_nothing start (Some [])), le_refl 0);
@@ -87,7 +87,7 @@ loop-piece-preserved g c =
         longer,
       );
       empty = c.in-Ok-answer_chunk.ensures.gathered;
-      read_grows = le_trans c.loop-piece.invariant.read_grows c.in-Ok.ensures.grows;
+      read_grows = le_trans c.loop-piece.invariant.read_grows c.in-Ok.ensures.faults_grow;
       write_grows = le_trans c.loop-piece.invariant.write_grows c.in-Ok-answer_chunk.ensures.writes.1.grows;
     }
 

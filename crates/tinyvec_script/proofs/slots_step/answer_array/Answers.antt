@@ -1,7 +1,7 @@
 use Rattle.std.proofs.Common.{◌≤◌, ◌++◌, sym, ap, ◌∙◌, arith, rules}
 use Rattle.std.specs.declared.ops.Bound.TheVariants.{Included, Excluded}
 use Rattle.tinyvec_slots.specs.Slots.{items, items_len}
-use Rattle.tinyvec_slots.specs.Cut.{removed}
+use Rattle.tinyvec_slots.specs.Ranges.{removed}
 use Rattle.tinyvec_script.proofs.StepLemmas.{pushes, inserts, removes, swap_removes, truncates, drains, splices}
 use Rattle.tinyvec_script.proofs.slots_step.answer_array.Goals as goal
 

@@ -2,47 +2,47 @@ use Rattle.std.proofs.Common.{◌<◌, ◌≤◌, ◌++◌, length, ap, ◌∙�
 use Rattle.std.proofs.lemmas.Grind.{common_steps}
 use Rattle.std.specs.declared.ops.Bound.TheVariants.{Included, Excluded}
 use Rattle.tinyvec_slots.specs.Slots.{items, spare, items_len, all_slots}
-use Rattle.tinyvec_slots.specs.Cut.{removed}
+use Rattle.tinyvec_slots.specs.Ranges.{removed}
 use Rattle.tinyvec_slots.proofs.SlotsLemmas.{slots_are}
-use Rattle.tinyvec_slice.specs.SliceVec.{seen_of}
+use Rattle.tinyvec_slice.specs.SliceVec.{view_of}
 use Rattle.tinyvec_script.proofs.StepLemmas.{pushes, inserts, removes, swap_removes, truncates, drains}
 use Rattle.tinyvec_script.proofs.slots_step.answer_slice.Goals as goal
 
 pub returns-in-Push-clause-step : goal.returns-in-Push-clause-step
 returns-in-Push-clause-step g c =
-    let old = seen_of g.B.Lent c.args.vec.now in
+    let old = view_of g.B.Lent c.args.vec.now in
     let some : 0 < length (spare old) = search rules in
     let whole = ap length (slots_are old) ∙ length-append (items old) (spare old) in
     let made = c.push.ensures in
-    rw c.in-Push.is (pushes g.B.Item.Default.is_default (length (all_slots old)) old (seen_of g.B.Lent c.push.new.self) c.in-Push.x
+    rw c.in-Push.is (pushes g.B.Item.Default.is_default (length (all_slots old)) old (view_of g.B.Lent c.push.new.self) c.in-Push.x
     (omega (arith, some, whole)) made.items made.spare)
 
 pub returns-in-Insert-clause-step : goal.returns-in-Insert-clause-step
 returns-in-Insert-clause-step g c =
-    let old = seen_of g.B.Lent c.args.vec.now in
+    let old = view_of g.B.Lent c.args.vec.now in
     let some : 0 < length (spare old) = search rules in
     let whole = ap length (slots_are old) ∙ length-append (items old) (spare old) in
     let made = c.insert.ensures in
-    rw c.in-Insert.is (inserts g.B.Item.Default.is_default (length (all_slots old)) old (seen_of g.B.Lent c.insert.new.self) c.in-Insert.i
+    rw c.in-Insert.is (inserts g.B.Item.Default.is_default (length (all_slots old)) old (view_of g.B.Lent c.insert.new.self) c.in-Insert.i
     c.in-Insert.x (omega (arith, c.len.ensures.value)) (omega (arith, some, whole)) made.items made.spare)
 
 pub returns-in-Remove-clause-step : goal.returns-in-Remove-clause-step
 returns-in-Remove-clause-step g c =
-    let old = seen_of g.B.Lent c.args.vec.now in
+    let old = view_of g.B.Lent c.args.vec.now in
     let made = c.remove.ensures in
-    rw c.in-Remove.is (removes g.B.Item.Default.is_default (length (all_slots old)) old (seen_of g.B.Lent c.remove.new.self) c.in-Remove.i
+    rw c.in-Remove.is (removes g.B.Item.Default.is_default (length (all_slots old)) old (view_of g.B.Lent c.remove.new.self) c.in-Remove.i
     c.remove.result (omega (arith, c.len-in-Remove.ensures.value)) made.value made.items made.spare)
 
 pub returns-in-SwapRemove-clause-step : goal.returns-in-SwapRemove-clause-step
 returns-in-SwapRemove-clause-step g c =
-    let old = seen_of g.B.Lent c.args.vec.now in
+    let old = view_of g.B.Lent c.args.vec.now in
     let made = c.swap_remove.ensures in
-    rw c.in-SwapRemove.is (swap_removes g.B.Item.Default.is_default (length (all_slots old)) old (seen_of g.B.Lent c.swap_remove.new.self)
+    rw c.in-SwapRemove.is (swap_removes g.B.Item.Default.is_default (length (all_slots old)) old (view_of g.B.Lent c.swap_remove.new.self)
     c.in-SwapRemove.i c.swap_remove.result (omega (arith, c.len-in-SwapRemove.ensures.value)) made.value made.items made.spare)
 
 pub returns-in-Drain-clause-step : goal.returns-in-Drain-clause-step
 returns-in-Drain-clause-step g c =
-    let old = seen_of g.B.Lent c.args.vec.now in
+    let old = view_of g.B.Lent c.args.vec.now in
     let i = c.in-Drain.start in
     let j = c.in-Drain.end in
     let left = c.drain_into.ensures in
@@ -51,7 +51,7 @@ returns-in-Drain-clause-step g c =
     let taken = left.moved ∙ ap (λ xs. xs ++ removed (items old) (Included i) (Excluded j)) c.in-Ok.ensures.items in
     rw c.in-Drain.is (
       (in_order, in_list),
-      drains g.B.Item.Default.is_default (length (all_slots old)) old (seen_of g.B.Lent c.drain_into.new.self) i j
+      drains g.B.Item.Default.is_default (length (all_slots old)) old (view_of g.B.Lent c.drain_into.new.self) i j
           c.drain_into.new.out.items in_order in_list taken left.items left.spare,
     )
 
@@ -63,9 +63,9 @@ returns-then-is_full-2-clause-step g c = grind (arith, common_steps)
 
 pub returns-in-Truncate-clause-step : goal.returns-in-Truncate-clause-step
 returns-in-Truncate-clause-step g c =
-    let old = seen_of g.B.Lent c.args.vec.now in
+    let old = view_of g.B.Lent c.args.vec.now in
     let made = c.truncate.ensures in
-    rw c.in-Truncate.is (truncates g.B.Item.Default.is_default (length (all_slots old)) old (seen_of g.B.Lent c.truncate.new.self) c.in-Truncate.n made.items made.spare)
+    rw c.in-Truncate.is (truncates g.B.Item.Default.is_default (length (all_slots old)) old (view_of g.B.Lent c.truncate.new.self) c.in-Truncate.n made.items made.spare)
 
 pub drain_into-requires-clause-room : goal.drain_into-requires-clause-room
 drain_into-requires-clause-room g c = grind (arith, common_steps)

@@ -13,15 +13,15 @@ use Rattle.example_records.proofs.reading.ReadingBorshDeserialize.deserialize_re
 pub returns-in_err-samples-clause-err : goal.returns-in_err-samples-clause-err
 returns-in_err-samples-clause-err g c =
     let p = err_from_is_err_and c.from_residual-in_err-samples.result c.from_residual-in_err-samples.ensures.1 in
-    rw (p.1, p.2) (fails-second _ _ _ _ _ _ _ _ _ _ _ _ _ _ _ c.in_ok-station.ensures.ok c.in_ok-station.ensures.fits c.in_ok-station.ensures.grows
+    rw (p.1, p.2) (fails-second _ _ _ _ _ _ _ _ _ _ _ _ _ _ _ c.in_ok-station.ensures.ok c.in_ok-station.ensures.fits c.in_ok-station.ensures.faults_grow
     (fails-first _ _ _ _ _ _ _ _ _ _ _ _ c.in_err-samples.ensures.err))
 
 pub returns-in_err-note-clause-err : goal.returns-in_err-note-clause-err
 returns-in_err-note-clause-err g c =
     let p = err_from_is_err_and c.from_residual-in_err-note.result c.from_residual-in_err-note.ensures.1 in
     let samples = map-id (items c.in_ok-samples.samples) in
-    rw (p.1, p.2) (fails-second _ _ _ _ _ _ _ _ _ _ _ _ _ _ _ c.in_ok-station.ensures.ok c.in_ok-station.ensures.fits c.in_ok-station.ensures.grows
-    (fails-second _ _ _ _ _ _ _ _ _ _ _ _ _ _ _ (rw samples at c.in_ok-samples.ensures.ok) (subst SamplesFit samples c.in_ok-samples.ensures.fits) c.in_ok-samples.ensures.grows c.in_err-note.ensures.err))
+    rw (p.1, p.2) (fails-second _ _ _ _ _ _ _ _ _ _ _ _ _ _ _ c.in_ok-station.ensures.ok c.in_ok-station.ensures.fits c.in_ok-station.ensures.faults_grow
+    (fails-second _ _ _ _ _ _ _ _ _ _ _ _ _ _ _ (rw samples at c.in_ok-samples.ensures.ok) (subst SamplesFit samples c.in_ok-samples.ensures.fits) c.in_ok-samples.ensures.faults_grow c.in_err-note.ensures.err))
 
 pub returns-clause-ok : goal.returns-clause-ok
 returns-clause-ok g c =

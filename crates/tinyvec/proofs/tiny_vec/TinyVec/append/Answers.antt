@@ -3,8 +3,8 @@ use Rattle.tinyvec.specs.TinyVec.{tiny_items, tiny_len}
 use Rattle.tinyvec.proofs.TinyLemmas.{tiny_slots_grown}
 use Rattle.tinyvec.proofs.tiny_vec.TinyVec.append.Goals as goal
 
-pub returns-clause-slots : goal.returns-clause-slots
-returns-clause-slots g c =
+pub returns-clause-slot_rule : goal.returns-clause-slot_rule
+returns-clause-slot_rule g c =
     let mid = c.reserve.new.self in
     let others = tiny_items c.args.other.now in
     let made = c.append_reserved.ensures in

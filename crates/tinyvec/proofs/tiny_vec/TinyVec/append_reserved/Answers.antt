@@ -7,6 +7,6 @@ use Rattle.tinyvec.proofs.tiny_vec.TinyVec.append_reserved.Goals as goal
 pub returns-clause-other_frame : goal.returns-clause-other_frame
 returns-clause-other_frame g c =
     let old = c.args.other.now in
-    let left = c.push_taken.new.from in
-    let frame = tiny_framed-with old left (c.push_taken.ensures.left.0 ∙ ap length c.as_mut_slice.ensures.value) in
+    let left = c.append_slots.new.from in
+    let frame = tiny_framed-with old left (c.append_slots.ensures.left.0 ∙ ap length c.as_mut_slice.ensures.value) in
     frame_stays g.A.Item.Default.is_default g.A.Array.CAPACITY old (tiny_with_items old left) c.clear.new.self frame c.clear.ensures.frame

@@ -41,8 +41,8 @@ returns-then-count-len-clause-place g c =
     (λ _. place_kept _ _ c.args.self.now c.overwrite.new.self (c.overwrite.ensures.frame.place ∙ c.truncate.ensures.frame.place) (omega (arith, c.len-len.ensures.fits)))
     c.overwrite.ensures.ok
 
-pub returns-then-count-len-clause-slots : goal.returns-then-count-len-clause-slots
-returns-then-count-len-clause-slots g c =
+pub returns-then-count-len-clause-slot_rule : goal.returns-then-count-len-clause-slot_rule
+returns-then-count-len-clause-slot_rule g c =
     on_ok_weaker c.overwrite.result
     (λ _. tiny_slots_then_framed g.A.Item.Default.is_default c.args.self.now c.truncate.new.self c.overwrite.new.self c.truncate.ensures.frame.slot_rule c.overwrite.ensures.frame)
     c.overwrite.ensures.ok
@@ -94,7 +94,7 @@ returns-in_err-reserve g c =
       len = never_ok _ answer err;
       if_clones_equal = never_ok _ answer err;
       place = never_ok _ answer err;
-      slots = never_ok _ answer err;
+      slot_rule = never_ok _ answer err;
       room = room_refused _ _ _ _ answer err (grown.refused.capacity g.A.Array.CAPACITY) grown.fits;
       succeeds = λ fits _. absurd (false≢true (grown.succeeds (omega (arith, fits))));
       refused = on_err answer (inl (omega (arith, grown.full), grown.refused));
@@ -119,8 +119,8 @@ returns-in_err-overwrite-clause-if_clones_equal g c = never_ok _ c.from_residual
 pub returns-in_err-overwrite-clause-place : goal.returns-in_err-overwrite-clause-place
 returns-in_err-overwrite-clause-place g c = never_ok _ c.from_residual-in_err-overwrite.result c.from_residual-in_err-overwrite.ensures.0
 
-pub returns-in_err-overwrite-clause-slots : goal.returns-in_err-overwrite-clause-slots
-returns-in_err-overwrite-clause-slots g c = never_ok _ c.from_residual-in_err-overwrite.result c.from_residual-in_err-overwrite.ensures.0
+pub returns-in_err-overwrite-clause-slot_rule : goal.returns-in_err-overwrite-clause-slot_rule
+returns-in_err-overwrite-clause-slot_rule g c = never_ok _ c.from_residual-in_err-overwrite.result c.from_residual-in_err-overwrite.ensures.0
 
 pub returns-in_err-overwrite-clause-room : goal.returns-in_err-overwrite-clause-room
 returns-in_err-overwrite-clause-room g c =
@@ -211,8 +211,8 @@ returns-clause-room g c =
     (omega (arith, c.len-len.ensures.value, c.len-count.ensures.value, c.if-count-len.false)) c.in_ok-reserve.ensures
     (made.capacity ∙ c.overwrite-2.ensures.frame.capacity g.A.Array.CAPACITY) made.fits
 
-pub returns-clause-slots : goal.returns-clause-slots
-returns-clause-slots g c =
+pub returns-clause-slot_rule : goal.returns-clause-slot_rule
+returns-clause-slot_rule g c =
     let mid = c.overwrite-2.new.self in
     let new = c.extend_reserved.new.self in
     let made = c.extend_reserved.ensures in

@@ -1,5 +1,5 @@
 use Rattle.std.proofs.Common.{◌≡◌, ◌+◌, ◌-◌, ◌++◌, length, take, drop, ap, ◌∙◌, arith}
-use Rattle.tinyvec_slots.specs.Cut.{range_end}
+use Rattle.tinyvec_slots.specs.Ranges.{range_end}
 use Rattle.tinyvec.specs.TinyVec.{tiny_items}
 use Rattle.tinyvec.proofs.DrainLemmas.{drain_runs, drain_runs_back, drains_from_ends}
 use Rattle.tinyvec.proofs.tiny_vec.TinyVec.drain.Goals as goal

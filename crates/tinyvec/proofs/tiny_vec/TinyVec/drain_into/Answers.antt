@@ -36,8 +36,8 @@ loop-x-preserved g c =
 pub returns-clause-items : goal.returns-clause-items
 returns-clause-items g c = search rules
 
-pub returns-clause-slots : goal.returns-clause-slots
-returns-clause-slots g c = search rules
+pub returns-clause-slot_rule : goal.returns-clause-slot_rule
+returns-clause-slot_rule g c = search rules
 
 pub returns-clause-moved : goal.returns-clause-moved
 returns-clause-moved g c = search rules

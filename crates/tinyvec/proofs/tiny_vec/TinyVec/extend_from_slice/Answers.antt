@@ -42,8 +42,8 @@ returns-in-Inline-clause-if_clones_equal g c =
 pub returns-in-Inline-clause-place : goal.returns-in-Inline-clause-place
 returns-in-Inline-clause-place g c = on_ok_weaker c.extend_from_slice.result (λ _. (inline_granted g c).0) c.extend_from_slice.ensures.len
 
-pub returns-in-Inline-clause-slots : goal.returns-in-Inline-clause-slots
-returns-in-Inline-clause-slots g c =
+pub returns-in-Inline-clause-slot_rule : goal.returns-in-Inline-clause-slot_rule
+returns-in-Inline-clause-slot_rule g c =
     let made = c.extend_from_slice.ensures in
     on_ok_two c.extend_from_slice.result made.len made.spare (λ long behind.
     rw c.in-Inline.is (slots_used g.A.Item.Default.is_default c.in-Inline.v c.extend_from_slice.new.self (length c.args.other.now) long behind))
@@ -100,8 +100,8 @@ returns-in-Heap-clause-if_clones_equal g c =
 pub returns-in-Heap-clause-place : goal.returns-in-Heap-clause-place
 returns-in-Heap-clause-place g c = on_ok_weaker c.push_clones.result (λ _. (heap_granted g c).0) c.push_clones.ensures.items
 
-pub returns-in-Heap-clause-slots : goal.returns-in-Heap-clause-slots
-returns-in-Heap-clause-slots g c = on_ok_weaker c.push_clones.result (λ _. rw c.in-Heap.is tt) c.push_clones.ensures.items
+pub returns-in-Heap-clause-slot_rule : goal.returns-in-Heap-clause-slot_rule
+returns-in-Heap-clause-slot_rule g c = on_ok_weaker c.push_clones.result (λ _. rw c.in-Heap.is tt) c.push_clones.ensures.items
 
 pub returns-in-Heap-clause-room : goal.returns-in-Heap-clause-room
 returns-in-Heap-clause-room g c =
@@ -138,7 +138,7 @@ returns-in_err-grow-in_default g c =
       len = chosen answer _ _ (never_ok _ answer err) (on_err answer (ap length grown.refused.items));
       if_clones_equal = λ _. chosen answer _ _ (never_ok _ answer err) (on_err answer grown.refused.items);
       place = never_ok _ answer err;
-      slots = never_ok _ answer err;
+      slot_rule = never_ok _ answer err;
       room = room_refused _ _ _ _ answer err (grown.refused.capacity g.A.Array.CAPACITY) grown.fits;
       succeeds = λ fits _. absurd (false≢true (grown.succeeds fits));
       kept = on_err answer grown.refused.items;
@@ -167,7 +167,7 @@ returns-in_ok-grow-in_default g c =
           λ rule. chosen answer _ _ (on_ok_weaker answer (λ h. h.1 ∙ ap (λ l. l ++ h.0) grown.items ∙ ap (λ l. tiny_items old ++ l) (same_from_all_zip C ys h.0 h.2 rule)) made.items)
           (on_err_weaker answer (λ h. h ∙ grown.items) made.kept);
       place = on_ok_weaker answer (λ _. granted.0) made.items;
-      slots = on_ok_two answer made.items made.spare (λ h spare.
+      slot_rule = on_ok_two answer made.items made.spare (λ h spare.
           tiny_slots_grown g.A.Item.Default.is_default old mid new (length ys) grown.stays made.place (appends_len C (tiny_items mid) (tiny_items new) ys h) spare);
       room = room_made _ _ old new answer g.A.Item.Default.is_default _ mid _ refl grown made.capacity made.fits;
       succeeds = λ _. made.succeeds;

@@ -58,7 +58,7 @@ loop-item-preserved g c =
       );
       longer = omega (arith, long, one);
       grows = grows_pushed g.A.Item.Default.is_default g.A.Array.CAPACITY first mid new _ long one c.in-Err.ensures.full
-          (filled g (goal.at.loop-item-preserved g c).After-fill_room) made.place c.push.ensures.slots made.room;
+          (filled g (goal.at.loop-item-preserved g c).After-fill_room) made.place c.push.ensures.slot_rule made.room;
     }
 
 pub returns-in-Err-push-clause-ran : goal.returns-in-Err-push-clause-ran
@@ -84,4 +84,4 @@ returns-in-Err-push-clause-grows g c =
     let same = ap length refused.items in
     grows_stays g.A.Item.Default.is_default g.A.Array.CAPACITY c.args.self.now mid c.push.new.self
     (omega (arith, c.loop-item.invariant.longer, run.longer)) (omega (arith, same)) (filled g (goal.at.returns-in-Err-push-clause-grows g c).After-fill_room)
-    (record { place = refused.place; slot_rule = c.push.ensures.slots; capacity = refused.capacity g.A.Array.CAPACITY; fits = c.push.ensures.room.fits })
+    (record { place = refused.place; slot_rule = c.push.ensures.slot_rule; capacity = refused.capacity g.A.Array.CAPACITY; fits = c.push.ensures.room.fits })

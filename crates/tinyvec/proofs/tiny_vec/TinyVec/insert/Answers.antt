@@ -6,8 +6,8 @@ use Rattle.tinyvec.proofs.TinyLemmas.{slots_inserted}
 use Rattle.tinyvec.proofs.tiny_vec.TinyVec.insert.Goals as goal
 use Rattle.tinyvec.proofs.tiny_vec.TinyVec.insert.Goals.{in-Inline, in-Heap, in_default+else-is_err}
 
-pub returns-clause-slots : goal.returns-clause-slots
-returns-clause-slots g c = elim c.match-self.branch [
+pub returns-clause-slot_rule : goal.returns-clause-slot_rule
+returns-clause-slot_rule g c = elim c.match-self.branch [
   | in-Inline w ↦
       let v = w.in-Inline.v in
       let put = w.insert.ensures in

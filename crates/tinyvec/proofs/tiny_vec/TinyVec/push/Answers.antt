@@ -108,7 +108,7 @@ returns g c =
       items = made.items_are;
       len = long;
       place = made.place;
-      slots = made.slot_rule;
+      slot_rule = made.slot_rule;
       room = record { capacity = made.capacity; same_room = made.same_room; grown = made.doubles; fits = made.fits };
       succeeds = λ _. refl;
       succeeds_inline = λ _ _. refl;

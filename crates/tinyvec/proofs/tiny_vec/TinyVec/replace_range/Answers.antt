@@ -1,5 +1,5 @@
 use Rattle.std.proofs.Common.{◌≡◌, ◌++◌, take, drop, length, ap, subst, ◌∙◌, arith}
-use Rattle.tinyvec_slots.specs.Cut.{range_end}
+use Rattle.tinyvec_slots.specs.Ranges.{range_end}
 use Rattle.tinyvec_slots.proofs.ReplacingLemmas.{placed_at}
 use Rattle.tinyvec.specs.TinyVec.{tiny_items}
 use Rattle.tinyvec.proofs.ReplacingLemmas.{replaced_place, replaced_room}

@@ -40,7 +40,7 @@ returns g c =
       items = rw (← c.as_slice.ensures, c.set_len.ensures.value, listed) (over.clones);
       len = rw (c.set_len.ensures.value) (ap length listed ∙ over.count ∙ ap length c.as_slice.ensures);
       if_clones_equal = λ rule. rw (c.set_len.ensures.value) (listed ∙ same_from_all_zip g.A.Item.Clone.is_clone source over.made over.clones rule ∙ c.as_slice.ensures);
-      spare = rw (c.set_len.ensures.value) (all_cloned g.A.Item.Default.is_default g.A.Item.Clone.is_infallible g.A.Item.Clone.is_clone c.args.self.now cut cut source n
+      slot_rule = rw (c.set_len.ensures.value) (all_cloned g.A.Item.Default.is_default g.A.Item.Clone.is_infallible g.A.Item.Clone.is_clone c.args.self.now cut cut source n
           refl long fits c.truncate.ensures.items c.truncate.ensures.spare new (ap length listed ∙ over.count) behind);
       fits = rw (c.set_len.ensures.fits) c.len-len.ensures.fits;
       refused = tt;

@@ -1,6 +1,6 @@
 use Rattle.std.proofs.Common.{◌≡◌, ℕ, ◌-◌, ◌≤◌, ◌++◌, length, take, drop, slice_range, refl, sym, ap, ◌∙◌, le_refl, zero-le, arith, rules}
 use Rattle.std.specs.List.{remove_range}
-use Rattle.tinyvec_slots.specs.Cut.{range_end}
+use Rattle.tinyvec_slots.specs.Ranges.{range_end}
 use Rattle.tinyvec_slots.specs.Slots.{split_at, items, spare}
 use Rattle.tinyvec_slots.proofs.Lists.{first_part, second_part, second_part_within, third_part, length-remove_range, length-slice_range}
 use Rattle.tinyvec_slots.proofs.SlotsLemmas.{slots_are}
@@ -16,7 +16,7 @@ returns g c =
     let S = spare c.args.self.now in
     let i = c.resolve_range-part.result.start in
     let j = c.resolve_range-part.result.end in
-    let n = c.via_u32-count.result in
+    let n = c.bounded_index-count.result in
     let k = c.len-len.result - n in
     let B = remove_range L i j in
     let M = slice_range L i j in

@@ -1,6 +1,6 @@
 use Rattle.std.proofs.Common.{◌++◌, ◌∷◌, [], arith, rules, refl, sym, ◌∙◌, ap, length, length-append, append_assoc, append-nil}
 use Rattle.tinyvec_slots.specs.Slots.{items}
-use Rattle.tinyvec_slots.specs.Cut.{range_start, range_end}
+use Rattle.tinyvec_slots.specs.Ranges.{range_start, range_end}
 use Rattle.tinyvec_slots.proofs.Lists.{length-remove_range}
 use Rattle.tinyvec_array.specs.Drain.{DrainKeeps, DrainLeaves, drain_items}
 use Rattle.tinyvec_array.proofs.DrainLemmas.{DrainKeeps-refl, DrainKeeps-then}

@@ -3,7 +3,7 @@ use Rattle.std.proofs.lemmas.Bool.{false≢true}
 use Rattle.std.proofs.lemmas.Result.{err_from_is_err_and}
 use Rattle.tinyvec_slots.specs.Slots.{items}
 use Rattle.tinyvec_slots.proofs.CloneLemmas.{on_err}
-use Rattle.tinyvec_array.proofs.DrainedLemmas.{moved_out}
+use Rattle.tinyvec_array.proofs.DrainEndLemmas.{moved_out}
 use Rattle.tinyvec_array.proofs.array_vec.ArrayVec.drain_to_vec_and_reserve.Goals as goal
 
 pub returns-then-n-len : goal.returns-then-n-len

@@ -1,5 +1,5 @@
 use Rattle.std.proofs.Common.{◌≤◌, ◌+◌, ◌-◌, length, take, drop, ap, ◌∙◌, arith, rules, length-take-le, length-drop}
-use Rattle.tinyvec_slots.specs.Cut.{range_end}
+use Rattle.tinyvec_slots.specs.Ranges.{range_end}
 use Rattle.tinyvec_slots.specs.Slots.{items}
 use Rattle.tinyvec_slots.proofs.KnownItems.{copied_yields}
 use Rattle.tinyvec_slots.proofs.ReplacingLemmas.{placed_at}

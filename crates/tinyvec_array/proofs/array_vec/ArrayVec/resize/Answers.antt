@@ -21,11 +21,11 @@ returns-in-Ok g c =
       items = rw (after, all, long) (written.0);
       len = c.set_len.ensures.fits;
       if_clones_equal = rw (after, all, long) (written.2);
-      spare = rw after (slots_used g.A.Item.Default.is_default v (split_at n new) (n - v.len) written.1 written.3);
+      slot_rule = rw after (slots_used g.A.Item.Default.is_default v (split_at n new) (n - v.len) written.1 written.3);
       value_returned = tt;
       kept = tt;
       refused = tt;
-      fits = rw (c.set_len.ensures.fits) c.requires.in_bounds;
+      fits = rw (c.set_len.ensures.fits) c.requires.room;
       cuts = λ _. refl;
       succeeds = λ _. refl;
     }

@@ -27,8 +27,8 @@ loop-self-preserved g c =
       callable = search of_calls;
     }
 
-pub returns-clause-spare : goal.returns-clause-spare
-returns-clause-spare g c =
+pub returns-clause-slot_rule : goal.returns-clause-slot_rule
+returns-clause-slot_rule g c =
     let at = c.loop-self in
     let cut = c.truncate.ensures in
     let len = c.len.ensures.value in

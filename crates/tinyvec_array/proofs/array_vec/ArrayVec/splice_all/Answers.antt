@@ -20,9 +20,9 @@ returns-clause-known g c = λ xs yields.
     let known = c.finish.ensures.known xs (made.unasked, yields _ made.replacement) in
     search rules
 
-pub returns-clause-slots : goal.returns-clause-slots
-returns-clause-slots g c =
+pub returns-clause-slot_rule : goal.returns-clause-slot_rule
+returns-clause-slot_rule g c =
     let made = c.splice-splice.ensures in
     let lender = made.same_reference in
-    let ruled : SlotRule g.A.Item.Default.is_default c.args.self.now c.finish.new.self.0 = subst (λ v. SlotRule g.A.Item.Default.is_default v c.finish.new.self.0) made.slots c.finish.ensures.slots in
+    let ruled : SlotRule g.A.Item.Default.is_default c.args.self.now c.finish.new.self.0 = subst (λ v. SlotRule g.A.Item.Default.is_default v c.finish.new.self.0) made.slots c.finish.ensures.slot_rule in
     search rules

@@ -2,10 +2,10 @@ use Rattle.std.proofs.Common.{◌∷◌, ◌++◌, [], length, ap, ◌∙◌, sy
 use Rattle.std.proofs.lemmas.List.{length_push, drop_all}
 use Rattle.std.proofs.lemmas.List.Elements.{All-drop}
 use Rattle.std.specs.declared.ops.Bound.TheVariants.{Included, Unbounded}
-use Rattle.tinyvec_slots.specs.Cut.{IsRangeOf}
+use Rattle.tinyvec_slots.specs.Ranges.{IsRangeOf}
 use Rattle.tinyvec_array.specs.Drain.{drain_items, DrainKeeps, DrainLeaves}
 use Rattle.tinyvec_array.proofs.DrainLemmas.{DrainSteps-keeps, DrainKeeps-refl, DrainKeeps-then}
-use Rattle.tinyvec_array.proofs.DrainedLemmas.{drained_frees}
+use Rattle.tinyvec_array.proofs.DrainEndLemmas.{drained_frees}
 use Rattle.tinyvec_slots.specs.Slots.{items, spare}
 use Rattle.tinyvec_array.proofs.array_vec.ArrayVec.split_off.Goals as goal
 

@@ -6,4 +6,4 @@ pub returns-clause-spare : goal.returns-clause-spare
 returns-clause-spare g c =
     let v = c.args.self.now in
     let d = c.take.new.dest in
-    (d, c.take.ensures.after, rw (c.slots_mut-slots.ensures.value, c.via_u32.ensures, c.via_u32-2.ensures, c.len-len.ensures.field) (drop-set-add v.len (all_slots v) c.args.i d))
+    (d, c.take.ensures.after, rw (c.slots_mut-slots.ensures.value, c.bounded_index.ensures, c.bounded_index-2.ensures, c.len-len.ensures.field) (drop-set-add v.len (all_slots v) c.args.i d))

@@ -34,13 +34,13 @@ returns-clause-ok g c =
 
 pub returns-clause-err : goal.returns-clause-err
 returns-clause-err g c =
-    err-so c.read_items.result (λ e f. inr (fails-of-more g.A.Item.BorshForm.Spells g.A.Item.BorshForm.Fits g.A.Item.BorshDeserialize.IsCut g.A.Item.BorshDeserialize.IsTooLong g.A.Item.BorshDeserialize.MayAsk _ _ _ _ _ e (search rules) f)) c.read_items.ensures.err
+    err-so c.read_items.result (λ e f. inr (fails-of-more g.A.Item.BorshForm.Spells g.A.Item.BorshForm.Fits g.A.Item.BorshDeserialize.IsCut g.A.Item.BorshDeserialize.IsTooLong g.A.Item.BorshDeserialize.MayAllocate _ _ _ _ _ e (search rules) f)) c.read_items.ensures.err
 
-pub returns-clause-slots : goal.returns-clause-slots
-returns-clause-slots g c =
+pub returns-clause-slot_rule : goal.returns-clause-slot_rule
+returns-clause-slot_rule g c =
     let mid = c.resize_with.new.self in
     let same : length c.read_items.new.slots ≡ tiny_len mid = search rules in
-    on-ok c.read_items.result (λ _. tiny_slots_then_framed g.A.Item.Default.is_default c.args.v.now mid (tiny_with_items mid c.read_items.new.slots) c.resize_with.ensures.slots (tiny_framed-with mid c.read_items.new.slots same)) c.read_items.ensures.ok
+    on-ok c.read_items.result (λ _. tiny_slots_then_framed g.A.Item.Default.is_default c.args.v.now mid (tiny_with_items mid c.read_items.new.slots) c.resize_with.ensures.slot_rule (tiny_framed-with mid c.read_items.new.slots same)) c.read_items.ensures.ok
 
 pub returns-clause-room : goal.returns-clause-room
 returns-clause-room g c =

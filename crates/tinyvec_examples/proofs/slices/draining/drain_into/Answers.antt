@@ -1,7 +1,7 @@
 use Rattle.std.proofs.Common.{rules, arith, ◌≡◌, ◌-◌, ◌∙◌, ap, length, length-append, slice_range, subst}
 use Rattle.std.proofs.lemmas.List.{places}
 use Rattle.tinyvec_slots.specs.Slots.{Vacates}
-use Rattle.tinyvec_slice.specs.SliceVec.{items_of, seen_of}
+use Rattle.tinyvec_slice.specs.SliceVec.{items_of, view_of}
 use Rattle.tinyvec_slice.specs.Drain.{drain_count, drain_items, DrainKeeps}
 use Rattle.tinyvec_slice.proofs.DrainLemmas.{DrainSteps-keeps, DrainKeeps-then, drain_frees}
 use Rattle.tinyvec_examples.proofs.slices.draining.drain_into.Goals as goal
@@ -36,6 +36,6 @@ returns-clause-spare g c =
     (DrainKeeps-then g.B.Lent c.into_iter-x-iterator.result c.loop-x.x-iterator last c.loop-x.invariant.keeps (DrainSteps-keeps g.B.Lent _ c.next.result last c.next.ensures.steps)) in
     let long : length (slice_range (items_of g.B.Lent c.args.v.now) c.args.start c.args.end) ≡ n = search (rules, places) in
     let count : drain_count first ≡ n = made.count ∙ ap length made.rest ∙ long in
-    let frees : Vacates g.B.Item.Default.is_default n (seen_of g.B.Lent c.args.v.now) (seen_of g.B.Lent c.drop-x-iterator.new.self.0) =
+    let frees : Vacates g.B.Item.Default.is_default n (view_of g.B.Lent c.args.v.now) (view_of g.B.Lent c.drop-x-iterator.new.self.0) =
     drain_frees g.B.Lent g.B.Item.Default.is_default n c.args.v.now c.drop-x-iterator.new.self.0 first last kept count made.spare (c.drop-x-iterator.ensures (kept.ready made.ready)) in
     search rules

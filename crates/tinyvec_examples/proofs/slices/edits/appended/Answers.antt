@@ -1,6 +1,6 @@
 use Rattle.std.proofs.Common.{◌≡◌, ◌∷◌, [], ◌++◌, pos, rules, refl, ap, ◌∙◌, length, replicate}
 use Rattle.tinyvec_slots.proofs.SlotsLemmas.{freed}
-use Rattle.tinyvec_slice.specs.SliceVec.{items, spare, slots, seen}
+use Rattle.tinyvec_slice.specs.SliceVec.{items, spare, slots, view}
 use Rattle.tinyvec_slice.proofs.ViewLemmas.{owner_sees}
 use Rattle.tinyvec_examples.proofs.slices.edits.appended.Goals as goal
 
@@ -17,7 +17,7 @@ returns-clause-emptied c =
     let old = c.from_slice_len-w.result in
     let w = c.append.new.other in
     let rest : spare w ≡ pos 0 ∷ pos 0 ∷ pos 8 ∷ [] =
-    freed _ (pos 0) (λ x h. h) (length (items old)) (seen old) (seen w) c.append.ensures.other_spare
+    freed _ (pos 0) (λ x h. h) (length (items old)) (view old) (view w) c.append.ensures.other_spare
     ∙ ap (λ l. replicate (length l) (pos 0) ++ spare old) c.from_slice_len-w.ensures.items
     ∙ ap (λ l. pos 0 ∷ pos 0 ∷ l) c.from_slice_len-w.ensures.spare in
     let whole : slots w ≡ pos 0 ∷ pos 0 ∷ pos 8 ∷ [] = owner_sees w _ _ c.append.ensures.other_items rest in

@@ -1,7 +1,7 @@
 use Rattle.std.proofs.Common.{◌≡◌, ◌∷◌, [], pos, rules, refl, ap, ◌∙◌}
 use Rattle.tinyvec_slots.specs.Slots.{Vacates}
 use Rattle.tinyvec_slots.proofs.SlotsLemmas.{freed}
-use Rattle.tinyvec_slice.specs.SliceVec.{items, spare, slots, seen}
+use Rattle.tinyvec_slice.specs.SliceVec.{items, spare, slots, view}
 use Rattle.tinyvec_slice.proofs.ViewLemmas.{owner_sees}
 use Rattle.tinyvec_examples.proofs.slices.edits.popped.Goals as goal
 
@@ -10,7 +10,7 @@ returns c =
     let old = c.from_slice_len-v.result in
     let v = c.pop-two.new.self in
     let list : items v ≡ pos 1 ∷ [] = c.pop-two.ensures.items ∙ rw (c.from_slice_len-v.ensures.items) refl in
-    let frees : Vacates (λ x. x ≡ pos 0) 1 (seen old) (seen v) = search rules in
-    let rest : spare v ≡ pos 0 ∷ pos 9 ∷ [] = freed _ (pos 0) (λ x h. h) 1 (seen old) (seen v) frees ∙ ap (λ l. pos 0 ∷ l) c.from_slice_len-v.ensures.spare in
+    let frees : Vacates (λ x. x ≡ pos 0) 1 (view old) (view v) = search rules in
+    let rest : spare v ≡ pos 0 ∷ pos 9 ∷ [] = freed _ (pos 0) (λ x h. h) 1 (view old) (view v) frees ∙ ap (λ l. pos 0 ∷ l) c.from_slice_len-v.ensures.spare in
     let whole : slots v ≡ pos 1 ∷ pos 0 ∷ pos 9 ∷ [] = owner_sees v _ _ list rest in
     search rules

@@ -4,7 +4,7 @@ use Rattle.std.specs.declared.vec.IntoIter.{IntoIter}
 use Rattle.std.specs.Iterator.Adapters.{fuse_steps}
 use Rattle.std.specs.Vec.Iter.{into_iter_items, into_iter_steps, into_iter_steps_back}
 use Rattle.tinyvec_slots.specs.Slots.{items, items_len, spare}
-use Rattle.tinyvec_slots.specs.Ends.{Asks, TakesFromEnds, given_items}
+use Rattle.tinyvec_slots.specs.Ends.{RunsWord, TakesFromEnds, given_items}
 use Rattle.tinyvec_slots.specs.Fused.{fused_rest}
 use Rattle.tinyvec_slots.specs.AnySplice.{FinishesWith}
 use Rattle.tinyvec_slots.specs.SplicedByWord.{SplicedByWord}
@@ -12,7 +12,7 @@ use Rattle.tinyvec_slots.proofs.Fused.{fused_ends}
 use Rattle.tinyvec_slots.proofs.Lists.{length-slice_range}
 use Rattle.tinyvec_array.specs.Splice.{splice_view, splice_left, splice_replacement, splice_slots, SpliceKeeps, SpliceSteps, SpliceStepsBack}
 use Rattle.tinyvec_array.specs.declared.splice.ArrayVecSplice.{ArrayVecSplice}
-use Rattle.tinyvec_array.proofs.SpliceLemmas.{Asks-splices, Asks-takes_removed}
+use Rattle.tinyvec_array.proofs.SpliceLemmas.{RunsWord-splices, RunsWord-takes_removed}
 use Rattle.tinyvec_script.specs.Driving.{refused_items, ArraySplices}
 use Rattle.tinyvec_script.proofs.DrivingLemmas.{into_iter_ends, given_within, slots_framed, splices_finished, rest_within, splice_computes}
 use Rattle.tinyvec_script.proofs.driving.array.drive_array_splice.Goals.{After-finish}
@@ -20,12 +20,12 @@ use Rattle.tinyvec_script.proofs.driving.array.drive_array_splice.Goals as goal
 
 -- what the calls by a word did to a splice
 module _ {A T Z : Type 0} (s : ArrayVecSplice A (Fuse (IntoIter T Z)) T) (word : _) (answers : _) (t : _)
-    (asks : Asks (SpliceSteps (fuse_steps into_iter_steps)) (SpliceStepsBack (fuse_steps into_iter_steps_back)) s word answers t) where
+    (asks : RunsWord (SpliceSteps (fuse_steps into_iter_steps)) (SpliceStepsBack (fuse_steps into_iter_steps_back)) s word answers t) where
   along : SplicedByWord splice_view SpliceKeeps (fused_rest into_iter_items) s word t
-  along = Asks-splices (fused_rest into_iter_items) _ _ (fused_ends _ _ _ into_iter_ends) s word answers t asks
+  along = RunsWord-splices (fused_rest into_iter_items) _ _ (fused_ends _ _ _ into_iter_ends) s word answers t asks
 
   takes : TakesFromEnds (splice_left s) word answers (splice_left t)
-  takes = Asks-takes_removed _ _ s word answers t asks
+  takes = RunsWord-takes_removed _ _ s word answers t asks
 
 pub take_word-requires-clause-can : goal.take_word-requires-clause-can
 take_word-requires-clause-can g c word answers t asks =
@@ -87,7 +87,7 @@ returns-clause-splices g c =
     c.requires.start_le_end c.requires.in_bounds made.front made.left made.back (whole g d) c.finish.result (finished g d) in
     let fact : ArraySplices D capacity c.args.vec.now c.args.start c.args.end word P c.take_word.new.yields.items c.keep_refused.new.list.items v = record {
       list = rw (yields, rest) list;
-      slot_rule = slots_framed D c.args.vec.now (splice_slots c.take_word.new.splice) v (kept.len ∙ ap items_len made.slots) (kept.spare ∙ ap spare made.slots) c.finish.ensures.slots;
+      slot_rule = slots_framed D c.args.vec.now (splice_slots c.take_word.new.splice) v (kept.len ∙ ap items_len made.slots) (kept.spare ∙ ap spare made.slots) c.finish.ensures.slot_rule;
     } in
     let same = made.same_reference in
     let lender = kept.same_reference in

@@ -3,7 +3,7 @@ use Rattle.std.specs.declared.iter.Fuse.{Fuse}
 use Rattle.std.specs.declared.vec.IntoIter.{IntoIter}
 use Rattle.std.specs.Iterator.Adapters.{fuse_steps}
 use Rattle.std.specs.Vec.Iter.{into_iter_items, into_iter_steps, into_iter_steps_back}
-use Rattle.tinyvec_slots.specs.Ends.{Asks, TakesFromEnds, given_items}
+use Rattle.tinyvec_slots.specs.Ends.{RunsWord, TakesFromEnds, given_items}
 use Rattle.tinyvec_slots.specs.Fused.{fused_rest}
 use Rattle.tinyvec_slots.specs.AnySplice.{FinishesWith}
 use Rattle.tinyvec_slots.specs.SplicedByWord.{SplicedByWord}
@@ -13,7 +13,7 @@ use Rattle.tinyvec.specs.TinyVec.{tiny_items, tiny_len, tiny_capacity, SameFrame
 use Rattle.tinyvec.proofs.TinyLemmas.{tiny_slots_framed}
 use Rattle.tinyvec.specs.TinyVecSplice.{splice_view, splice_left, splice_replacement, splice_vec, SpliceKeeps, SpliceSteps, SpliceStepsBack}
 use Rattle.tinyvec.specs.declared.splice.TinyVecSplice.{TinyVecSplice}
-use Rattle.tinyvec.proofs.SpliceLemmas.{Asks-splices, Asks-takes_removed}
+use Rattle.tinyvec.proofs.SpliceLemmas.{RunsWord-splices, RunsWord-takes_removed}
 use Rattle.tinyvec_script.specs.Driving.{refused_items, TinySplices}
 use Rattle.tinyvec_script.proofs.DrivingLemmas.{into_iter_ends, given_within, place_framed, room_framed, grown_framed, capacity_framed, splices_finished, refused_over, rest_within, splice_computes}
 use Rattle.tinyvec_script.proofs.driving.tiny.drive_tiny_splice.Goals.{After-finish}
@@ -21,12 +21,12 @@ use Rattle.tinyvec_script.proofs.driving.tiny.drive_tiny_splice.Goals as goal
 
 -- what the calls by a word did to a splice
 module _ {A T Z : Type 0} (s : TinyVecSplice A (Fuse (IntoIter T Z)) T) (word : _) (answers : _) (t : _)
-    (asks : Asks (SpliceSteps (fuse_steps into_iter_steps)) (SpliceStepsBack (fuse_steps into_iter_steps_back)) s word answers t) where
+    (asks : RunsWord (SpliceSteps (fuse_steps into_iter_steps)) (SpliceStepsBack (fuse_steps into_iter_steps_back)) s word answers t) where
   along : SplicedByWord splice_view SpliceKeeps (fused_rest into_iter_items) s word t
-  along = Asks-splices (fused_rest into_iter_items) _ _ (fused_ends _ _ _ into_iter_ends) s word answers t asks
+  along = RunsWord-splices (fused_rest into_iter_items) _ _ (fused_ends _ _ _ into_iter_ends) s word answers t asks
 
   takes : TakesFromEnds (splice_left s) word answers (splice_left t)
-  takes = Asks-takes_removed _ _ s word answers t asks
+  takes = RunsWord-takes_removed _ _ s word answers t asks
 
 pub take_word-requires-clause-can : goal.take_word-requires-clause-can
 take_word-requires-clause-can g c word answers t asks =

@@ -13,9 +13,9 @@ returns-then-text-le-ROOM g c =
 pub returns-in-Err-write_all : goal.returns-in-Err-write_all
 returns-in-Err-write_all g c =
     let sent = Gathers-sent _ _ _ c.args.self.now _ _ _ c.args.text.now c.in_default.is c.send.ensures in
-    Gathers-failed _ _ _ _ c.args.self.now _ sent.1 (rw c.in-Err-write_all.is at c.write_all.ensures.err) c.write_all.ensures.grows (rw c.in-Err-write_all.is at c.write_all.ensures.fault)
+    Gathers-failed _ _ _ _ c.args.self.now _ sent.1 (rw c.in-Err-write_all.is at c.write_all.ensures.err) c.write_all.ensures.faults_grow (rw c.in-Err-write_all.is at c.write_all.ensures.fault)
 
 pub returns-in_default-write_all : goal.returns-in_default-write_all
 returns-in_default-write_all g c =
     let sent = Gathers-sent _ _ _ c.args.self.now _ _ _ c.args.text.now c.in_default.is c.send.ensures in
-    rw sent.0 (Gathers-written _ _ _ _ c.args.self.now _ sent.1 (rw c.in_default-write_all.is at c.write_all.ensures.bytes) c.write_all.ensures.grows)
+    rw sent.0 (Gathers-written _ _ _ _ c.args.self.now _ sent.1 (rw c.in_default-write_all.is at c.write_all.ensures.bytes) c.write_all.ensures.faults_grow)

@@ -1,13 +1,13 @@
 use Rattle.std.proofs.Common.{◌+◌, ◌∙◌, sym, ap, arith, rules}
 use Rattle.std.proofs.lemmas.List.{length_push}
-use Rattle.tinyvec_slice.specs.SliceVec.{seen_of}
+use Rattle.tinyvec_slice.specs.SliceVec.{view_of}
 use Rattle.tinyvec_script.specs.Step.{SliceStep}
 use Rattle.tinyvec_script.proofs.RunLemmas.{Run-more, call_left, none_left}
 use Rattle.tinyvec_script.proofs.runs.slice.run_slice.Goals as goal
 
 pub loop-call-preserved : goal.loop-call-preserved
 loop-call-preserved g c = record {
-  run = rw c.push_reserved.ensures.items (Run-more (SliceStep g.B.Item.Default.is_default) (seen_of g.B.Lent c.args.vec.now) (seen_of g.B.Lent c.loop-call.vec) (seen_of g.B.Lent c.answer_slice-answered.new.vec)
+  run = rw c.push_reserved.ensures.items (Run-more (SliceStep g.B.Item.Default.is_default) (view_of g.B.Lent c.args.vec.now) (view_of g.B.Lent c.loop-call.vec) (view_of g.B.Lent c.answer_slice-answered.new.vec)
       c.loop-call.yielded c.loop-call.answers.items c.in-Some.call c.answer_slice-answered.result c.loop-call.invariant.run c.answer_slice-answered.ensures.step);
   same = c.answer_slice-answered.ensures.same_slots ∙ c.loop-call.invariant.same;
   count = c.push_reserved.ensures.len ∙ ap (λ n. n + 1) c.loop-call.invariant.count ∙ sym (length_push c.loop-call.yielded c.in-Some.call);

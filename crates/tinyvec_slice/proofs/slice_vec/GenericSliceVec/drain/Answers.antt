@@ -1,10 +1,10 @@
 use Rattle.std.proofs.Common.{◌≡◌, ℕ, ◌-◌, ◌≤◌, ◌++◌, length, take, drop, slice_range, refl, sym, ap, subst, ◌∙◌, zero-le, arith, rules, length-append}
 use Rattle.std.specs.List.{remove_range}
-use Rattle.tinyvec_slots.specs.Cut.{range_end}
+use Rattle.tinyvec_slots.specs.Ranges.{range_end}
 use Rattle.tinyvec_slots.specs.Slots.{split_at, items, spare}
 use Rattle.tinyvec_slots.proofs.Lists.{first_part, second_part, second_part_within, third_part, length-remove_range, length-slice_range}
 use Rattle.tinyvec_slots.proofs.SlotsLemmas.{slots_are}
-use Rattle.tinyvec_slice.specs.SliceVec.{items_of, spare_of, seen_of, slots_of}
+use Rattle.tinyvec_slice.specs.SliceVec.{items_of, spare_of, view_of, slots_of}
 use Rattle.tinyvec_slice.proofs.DrainLemmas.{drain_runs}
 use Rattle.tinyvec_slice.proofs.ViewLemmas.{within}
 use Rattle.tinyvec_slice.proofs.slice_vec.GenericSliceVec.drain.Goals as goal
@@ -32,7 +32,7 @@ set_len-requires g c =
 
 pub returns : goal.returns
 returns g c =
-    let view = seen_of g.B.Lent in
+    let view = view_of g.B.Lent in
     let L = items_of g.B.Lent c.args.self.now in
     let S = spare_of g.B.Lent c.args.self.now in
     let i = c.resolve_range-part.result.start in

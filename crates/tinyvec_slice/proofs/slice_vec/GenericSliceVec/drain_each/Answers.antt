@@ -2,7 +2,7 @@ use Rattle.std.proofs.Common.{refl, sym, ap, ◌∙◌, subst, length, rules, of
 use Rattle.std.specs.Fn.{Called}
 use Rattle.std.specs.List.{FoldsTo}
 use Rattle.tinyvec_slice.specs.Drain.{DrainKeeps, DrainLeaves, drain_items}
-use Rattle.tinyvec_slots.specs.Cut.{range_start, range_end}
+use Rattle.tinyvec_slots.specs.Ranges.{range_start, range_end}
 use Rattle.tinyvec_slice.specs.SliceVec.{items_of}
 use Rattle.tinyvec_slice.proofs.ViewLemmas.{cut_count}
 use Rattle.tinyvec_slice.proofs.DrainLemmas.{DrainKeeps-then, drain_frees}

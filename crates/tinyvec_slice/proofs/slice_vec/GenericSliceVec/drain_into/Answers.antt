@@ -1,5 +1,5 @@
 use Rattle.std.proofs.Common.{arith, rules, ◌∙◌, ap, length, length-append}
-use Rattle.tinyvec_slots.specs.Cut.{range_start, range_end}
+use Rattle.tinyvec_slots.specs.Ranges.{range_start, range_end}
 use Rattle.tinyvec_slice.specs.SliceVec.{items_of}
 use Rattle.tinyvec_slice.specs.Drain.{DrainKeeps, DrainLeaves, drain_items}
 use Rattle.tinyvec_slice.proofs.DrainLemmas.{drain_frees}

@@ -3,7 +3,7 @@ use Rattle.std.proofs.iter.Next.{Yields-more}
 use Rattle.std.proofs.lemmas.Grind.{common_steps}
 use Rattle.std.proofs.lemmas.List.{length_push}
 use Rattle.tinyvec_slots.proofs.FillingLemmas.{spare_after, stopped_full, stopped_early, filled}
-use Rattle.tinyvec_slice.specs.SliceVec.{items_of, spare_of, seen_of}
+use Rattle.tinyvec_slice.specs.SliceVec.{items_of, spare_of, view_of}
 use Rattle.tinyvec_slice.proofs.slice_vec.GenericSliceVec.fill.Goals as goal
 
 pub loop-items-init : goal.loop-items-init
@@ -25,7 +25,7 @@ loop-items-preserved g c =
     let run = turn.invariant.ran in
     let put = c.push.ensures in
     let x = c.in-Some.item in
-    let view = seen_of g.B.Lent in
+    let view = view_of g.B.Lent in
     let S = spare_of g.B.Lent c.args.self.now in
     let L = items_of g.B.Lent c.args.self.now in
     let left = ap length turn.invariant.behind ∙ length-drop (length (items_of g.B.Lent turn.self) - length L) S in

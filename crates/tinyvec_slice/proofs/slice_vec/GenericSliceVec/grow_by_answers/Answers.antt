@@ -4,7 +4,7 @@ use Rattle.std.proofs.SliceLists.{chained_more}
 use Rattle.std.proofs.iter.Next.{called}
 use Rattle.std.proofs.lemmas.List.{length_push}
 use Rattle.tinyvec_slots.proofs.FillingLemmas.{spare_after}
-use Rattle.tinyvec_slice.specs.SliceVec.{items_of, spare_of, seen_of}
+use Rattle.tinyvec_slice.specs.SliceVec.{items_of, spare_of, view_of}
 use Rattle.tinyvec_slice.proofs.ViewLemmas.{parts_of}
 use Rattle.tinyvec_slice.proofs.slice_vec.GenericSliceVec.grow_by_answers.Goals as goal
 
@@ -28,7 +28,7 @@ loop-self-preserved g c =
     let run = at.invariant.ran in
     let len = c.len.ensures.value in
     let more = c.loop-self-test.true in
-    let view = seen_of g.B.Lent in
+    let view = view_of g.B.Lent in
     let grown = ap length put.items ∙ length_push (items_of g.B.Lent at.self) y in record {
       in_bounds = omega (arith, grown);
       longer = omega (arith, grown);

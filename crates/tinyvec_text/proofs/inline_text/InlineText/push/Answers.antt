@@ -14,7 +14,7 @@ pub invariant_of-self-then-is_ascii : goal.invariant_of-self-then-is_ascii
 invariant_of-self-then-is_ascii g c =
     let joined : tiny_items c.push.new.self ≡ tiny_items c.self.inside.list ++ c.args.c ∷ [] = search rules in
     let ascii = IsUtf8-from_ascii (c.args.c ∷ []) (search rules) in
-    text_kept c.self.inside.list c.push.new.self (λ i. (c.in_ok-push.ensures.place.0 i).0) c.in_ok-push.ensures.slots c.self.invariant
+    text_kept c.self.inside.list c.push.new.self (λ i. (c.in_ok-push.ensures.place.0 i).0) c.in_ok-push.ensures.slot_rule c.self.invariant
     (subst IsUtf8 (sym joined) (IsUtf8-append _ _ (text_utf8 c.self.inside.list c.self.invariant) ascii))
 
 pub returns-then-is_ascii-clause-text : goal.returns-then-is_ascii-clause-text

@@ -16,7 +16,7 @@ pub invariant_of-self : goal.invariant_of-self
 invariant_of-self g c =
     let list = c.self.inside.list in
     let joined : tiny_items c.extend_from_slice.new.self ≡ tiny_items list ++ c.args.s.now = search rules in
-    text_kept list c.extend_from_slice.new.self (λ i. (c.in-Ok.ensures.place.0 i).0) c.in-Ok.ensures.slots c.self.invariant
+    text_kept list c.extend_from_slice.new.self (λ i. (c.in-Ok.ensures.place.0 i).0) c.in-Ok.ensures.slot_rule c.self.invariant
     (subst IsUtf8 (sym joined) (IsUtf8-append _ _ (text_utf8 list c.self.invariant) c.utf8.s))
 
 pub returns-clause-text : goal.returns-clause-text

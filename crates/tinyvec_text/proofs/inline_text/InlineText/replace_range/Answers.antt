@@ -1,7 +1,7 @@
 use Rattle.std.proofs.Common.{◌+◌, ◌-◌, ◌≤◌, ◌++◌, IsUtf8, ap, sym, subst, ◌∙◌, chars, length, length-append}
 use Rattle.std.proofs.Math.Nat.{lt_of_not-le}
 use Rattle.tinyvec.specs.TinyVec.{tiny_items, tiny_capacity}
-use Rattle.tinyvec_slots.specs.Cut.{range_start, range_end, before, after}
+use Rattle.tinyvec_slots.specs.Ranges.{range_start, range_end, before, after}
 use Rattle.tinyvec_text.proofs.Boundaries.{replaced_len, utf8_put, chars_put}
 use Rattle.tinyvec_text.proofs.Lists.{text_utf8, text_range, text_kept, text_same, made_room, refused_room}
 use Rattle.tinyvec_text.proofs.inline_text.InlineText.replace_range.Goals as goal

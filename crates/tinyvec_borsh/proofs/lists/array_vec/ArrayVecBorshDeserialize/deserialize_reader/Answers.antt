@@ -9,8 +9,8 @@ use Rattle.tinyvec_borsh.proofs.lists.array_vec.ArrayVecBorshDeserialize.deseria
 pub returns-in_err-read_items-clause-err : goal.returns-in_err-read_items-clause-err
 returns-in_err-read_items-clause-err g c =
     let p = err_from_is_err_and c.from_residual-in_err-read_items.result c.from_residual-in_err-read_items.ensures.1 in
-    rw (p.1, p.2) (fails-block g.A.Item.BorshForm.Spells g.A.Item.BorshForm.Fits g.A.Item.BorshDeserialize.IsCut g.A.Item.BorshDeserialize.IsTooLong g.A.Item.BorshDeserialize.MayAsk _ g.A.Array.CAPACITY
-    c.in_ok-count.count _ [] _ _ _ _ _ _ (read-first g.A.Item.BorshForm.Spells g.A.Item.BorshForm.Fits _ _ _ c.in_ok-count.ensures.ok) (search rules) (search rules) c.in_ok-count.ensures.grows (λ input asks. asks) c.in_err-read_items.ensures.err)
+    rw (p.1, p.2) (fails-block g.A.Item.BorshForm.Spells g.A.Item.BorshForm.Fits g.A.Item.BorshDeserialize.IsCut g.A.Item.BorshDeserialize.IsTooLong g.A.Item.BorshDeserialize.MayAllocate _ g.A.Array.CAPACITY
+    c.in_ok-count.count _ [] _ _ _ _ _ _ (read-first g.A.Item.BorshForm.Spells g.A.Item.BorshForm.Fits _ _ _ c.in_ok-count.ensures.ok) (search rules) (search rules) c.in_ok-count.ensures.faults_grow (λ input asks. asks) c.in_err-read_items.ensures.err)
 
 pub returns-in_err-deserialize_reader-clause-err : goal.returns-in_err-deserialize_reader-clause-err
 returns-in_err-deserialize_reader-clause-err g c =
@@ -19,7 +19,7 @@ returns-in_err-deserialize_reader-clause-err g c =
     let long = length-map t.0 g.A.Item.BorshForm.content_of in
     let full : length t.0 ≡ min c.in_ok-count.count g.A.Array.CAPACITY = search rules in
     let above : min c.in_ok-count.count g.A.Array.CAPACITY + 1 ≤ c.in_ok-count.count = search rules in
-    rw (p.1, p.2) (fails-item g.A.Item.BorshForm.Spells g.A.Item.BorshForm.Fits g.A.Item.BorshDeserialize.IsCut g.A.Item.BorshDeserialize.IsTooLong g.A.Item.BorshDeserialize.MayAsk _ g.A.Array.CAPACITY
+    rw (p.1, p.2) (fails-item g.A.Item.BorshForm.Spells g.A.Item.BorshForm.Fits g.A.Item.BorshDeserialize.IsCut g.A.Item.BorshDeserialize.IsTooLong g.A.Item.BorshDeserialize.MayAllocate _ g.A.Array.CAPACITY
     _ _ _ _ _ _ _ _ (read-block g.A.Item.BorshForm.Spells g.A.Item.BorshForm.Fits _ [] _ _ _ _ (read-first g.A.Item.BorshForm.Spells g.A.Item.BorshForm.Fits _ _ _ c.in_ok-count.ensures.ok) t.4 t.3)
     (omega (arith, long, full, above)) (omega (arith, long, full, above)) (search rules) (λ input asks. asks) c.in_err-deserialize_reader.ensures.err)
 

@@ -3,8 +3,8 @@ use Rattle.std.proofs.Common.{◌≡◌, ℕ, suc, ◌+◌, ◌-◌, min, List, 
 use Rattle.std.proofs.lemmas.List.{drop_at, length_push}
 use Rattle.std.specs.Option.{option_to_list}
 use Rattle.std.specs.Iterator.{YieldsFirst, YieldsLast}
-use Rattle.tinyvec_slots.specs.Ends.{End, front, back, fronts, backs, TakesFromEnds, Asks}
-use Rattle.tinyvec_slots.proofs.EndsLemmas.{Asks-takes}
+use Rattle.tinyvec_slots.specs.Ends.{End, front, back, fronts, backs, TakesFromEnds, RunsWord}
+use Rattle.tinyvec_slots.proofs.EndsLemmas.{RunsWord-takes}
 use Rattle.tinyvec_slots.specs.Fused.{HasTwoEnds}
 use Rattle.tinyvec_slots.specs.AnySplice.{SpliceView, Splices, SplicesBack}
 use Rattle.tinyvec_slots.specs.SplicedByWord.{placed_front, placed_back, IsSpliceRefused, SplicedByWord}
@@ -142,23 +142,23 @@ module _ {S I T : Type 0} (view : S → SpliceView I T) (keeps : S → S → Typ
       }
 
   module _ (gives gives_back : I → Option T → I → Type 0) (ends : HasTwoEnds gives gives_back rest) where
-    pub Asks-splices : (s : S) (word : List End) (answers : List (Option T)) (t : S)
-        → Asks (Splices view keeps gives) (SplicesBack view keeps gives_back) s word answers t → SplicedByWord view keeps rest s word t
-    Asks-splices s [] [] t same = subst (SplicedByWord view keeps rest s []) (sym same) (spliced_nil s)
-    Asks-splices s [] (r ∷ answers) t asks = absurd asks
-    Asks-splices s (e ∷ word) [] t asks = absurd asks
-    Asks-splices s (front ∷ word) (None ∷ answers) t asks =
-        spliced_none front s word t asks.1.0 (subst (λ m. SplicedByWord view keeps rest m word t) asks.1.1 (Asks-splices asks.0 word answers t asks.2))
-    Asks-splices s (back ∷ word) (None ∷ answers) t asks =
-        spliced_none back s word t asks.1.0 (subst (λ m. SplicedByWord view keeps rest m word t) asks.1.1 (Asks-splices asks.0 word answers t asks.2))
-    Asks-splices s (front ∷ word) (Some x ∷ answers) t asks =
+    pub RunsWord-splices : (s : S) (word : List End) (answers : List (Option T)) (t : S)
+        → RunsWord (Splices view keeps gives) (SplicesBack view keeps gives_back) s word answers t → SplicedByWord view keeps rest s word t
+    RunsWord-splices s [] [] t same = subst (SplicedByWord view keeps rest s []) (sym same) (spliced_nil s)
+    RunsWord-splices s [] (r ∷ answers) t asks = absurd asks
+    RunsWord-splices s (e ∷ word) [] t asks = absurd asks
+    RunsWord-splices s (front ∷ word) (None ∷ answers) t asks =
+        spliced_none front s word t asks.1.0 (subst (λ m. SplicedByWord view keeps rest m word t) asks.1.1 (RunsWord-splices asks.0 word answers t asks.2))
+    RunsWord-splices s (back ∷ word) (None ∷ answers) t asks =
+        spliced_none back s word t asks.1.0 (subst (λ m. SplicedByWord view keeps rest m word t) asks.1.1 (RunsWord-splices asks.0 word answers t asks.2))
+    RunsWord-splices s (front ∷ word) (Some x ∷ answers) t asks =
         let step = asks.1.0 in
         spliced_front s asks.0 t word x step.placed step.left (ends.first _ _ _ step.asked) step.front step.back step.touches asks.1.1
-        (Asks-splices asks.0 word answers t asks.2)
-    Asks-splices s (back ∷ word) (Some x ∷ answers) t asks =
+        (RunsWord-splices asks.0 word answers t asks.2)
+    RunsWord-splices s (back ∷ word) (Some x ∷ answers) t asks =
         let step = asks.1.0 in
         spliced_back s asks.0 t word x step.placed step.left (ends.last _ _ _ step.asked) step.front step.back step.touches asks.1.1
-        (Asks-splices asks.0 word answers t asks.2)
+        (RunsWord-splices asks.0 word answers t asks.2)
 
 -- the removed items are taken from both ends
 module _ {S I T : Type 0} (view : S → SpliceView I T) (keeps : S → S → Type 0) (gives gives_back : I → Option T → I → Type 0) where
@@ -173,9 +173,9 @@ module _ {S I T : Type 0} (view : S → SpliceView I T) (keeps : S → S → Typ
   last_left s None t h = (h.0, ap left_of h.1 ∙ h.0)
   last_left s (Some x) t h = h.0.left
 
-  pub Asks-takes_removed : (s : S) (word : List End) (answers : List (Option T)) (t : S)
-      → Asks (Splices view keeps gives) (SplicesBack view keeps gives_back) s word answers t → TakesFromEnds (view s).left word answers (view t).left
-  Asks-takes_removed = Asks-takes (Splices view keeps gives) (SplicesBack view keeps gives_back) left_of first_left last_left
+  pub RunsWord-takes_removed : (s : S) (word : List End) (answers : List (Option T)) (t : S)
+      → RunsWord (Splices view keeps gives) (SplicesBack view keeps gives_back) s word answers t → TakesFromEnds (view s).left word answers (view t).left
+  RunsWord-takes_removed = RunsWord-takes (Splices view keeps gives) (SplicesBack view keeps gives_back) left_of first_left last_left
 
 -- a list of three parts
 record CutOf {T : Type 0} (left middle right whole : List T) : Type 0 where

@@ -3,7 +3,7 @@ use Rattle.std.proofs.lemmas.List.{drop-drop, take_all, take_more_set}
 use Rattle.std.proofs.lemmas.List.Elements.{All-push, All-same}
 use Rattle.tinyvec_slots.proofs.FillingLemmas.{one_taken, rest_after_one}
 use Rattle.tinyvec.specs.TinyVec.{tiny_items}
-use Rattle.tinyvec.proofs.tiny_vec.TinyVec.push_taken.Goals as goal
+use Rattle.tinyvec.proofs.tiny_vec.TinyVec.append_slots.Goals as goal
 
 pub loop-i-preserved : goal.loop-i-preserved
 loop-i-preserved g c =

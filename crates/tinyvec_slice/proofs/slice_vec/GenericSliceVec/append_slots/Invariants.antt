@@ -1,7 +1,7 @@
 use Rattle.std.proofs.Common.{◌≡◌, ◌++◌, length, take, drop}
 use Rattle.std.specs.Prelude.{All}
 use Rattle.tinyvec_slice.specs.SliceVec.{items_of, spare_of, slots_of, name_of}
-use Rattle.tinyvec_slice.proofs.slice_vec.GenericSliceVec.push_taken.Given as goal
+use Rattle.tinyvec_slice.proofs.slice_vec.GenericSliceVec.append_slots.Given as goal
 
 abbrev pub invariant-loop-i : goal.invariant-loop-i
 invariant-loop-i g l = record {

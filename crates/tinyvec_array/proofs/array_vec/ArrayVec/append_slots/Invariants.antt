@@ -1,7 +1,7 @@
 use Rattle.std.proofs.Common.{◌≡◌, ◌++◌, length, take, drop}
 use Rattle.std.specs.Prelude.{All}
 use Rattle.tinyvec_slots.specs.Slots.{items, spare}
-use Rattle.tinyvec_array.proofs.array_vec.ArrayVec.push_taken.Given as goal
+use Rattle.tinyvec_array.proofs.array_vec.ArrayVec.append_slots.Given as goal
 
 abbrev pub invariant-loop-i : goal.invariant-loop-i
 invariant-loop-i g l = record {

@@ -2,7 +2,7 @@
 use Rattle.std.proofs.Common.{◌≡◌, ℕ, ◌-◌, List, ◌++◌, length, replicate, ap, ◌∙◌, arith}
 use Rattle.std.specs.declared.ops.Bound.{Bound}
 use Rattle.tinyvec_slots.specs.Slots.{Slots, AreDefaults, Vacates, SlotRule, items_len, all_slots, items, spare, split_at, with_items}
-use Rattle.tinyvec_slots.specs.Cut.{IsRangeOf, range_start, range_end, before, removed, after}
+use Rattle.tinyvec_slots.specs.Ranges.{IsRangeOf, range_start, range_end, before, removed, after}
 use Rattle.tinyvec_slots.proofs.Lists.{length-remove_range, length-slice_range}
 use Rattle.tinyvec_slots.proofs.SlotsLemmas.{slots_are, items-with_items, spare-with_items, slots_freed, defaults_are}
 use Rattle.tinyvec_array.specs.Drain.{DrainLeaves, DrainKeeps, drain_items, drain_kept, drain_count, drain_spare}

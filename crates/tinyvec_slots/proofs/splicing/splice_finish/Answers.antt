@@ -4,14 +4,14 @@ use Rattle.tinyvec_slots.specs.Fused.{fused_rest}
 use Rattle.tinyvec_slots.specs.Gap.{gap_front, gap_back, gap_view}
 use Rattle.tinyvec_slots.specs.AnySplice.{Finishes}
 use Rattle.tinyvec_slots.proofs.Fused.{fused_first}
-use Rattle.tinyvec_slots.proofs.SpliceLemmas.{finishes_with, finishes_closed, finishes_appended}
-use Rattle.tinyvec_slots.proofs.splicing.finish_in.Goals.{After-fill}
-use Rattle.tinyvec_slots.proofs.splicing.finish_in.Goals as goal
+use Rattle.tinyvec_slots.proofs.FinishLemmas.{finishes_with, finishes_closed, finishes_appended}
+use Rattle.tinyvec_slots.proofs.splicing.splice_finish.Goals.{After-fill}
+use Rattle.tinyvec_slots.proofs.splicing.splice_finish.Goals as goal
 
 -- the gap, as it was filled
 module _ (g : _) (c : After-fill g) where
   same : length c.fill.new.slots ≡ length (g.V.CanCut.items c.args.vec.now)
-  same = c.fill.ensures.slots ∙ ap length c.as_mut_slice.ensures.value
+  same = c.fill.ensures.slot_count ∙ ap length c.as_mut_slice.ensures.value
 
   mid_is : g.V.CanCut.items (g.V.CanCut.with_items c.args.vec.now c.fill.new.slots) ≡ c.fill.new.slots
   mid_is = (g.met.V.CanCut.written c.args.vec.now c.fill.new.slots same).0
@@ -30,19 +30,19 @@ module _ (g : _) (c : goal.After-drop-replacement g) where
   abbrev filled : After-fill g
   filled = (goal.at.returns-then-not-fill-clause-listed g c).After-fill
 
-  closed : Finishes (fuse_steps g.I.Iterator.next_gives) (g.V.CanCut.room c.close_in.new.vec) (gap_view c.args.gap c.args.replacement (g.V.CanCut.items c.args.vec.now)) (Ok tt) (g.V.CanCut.items c.close_in.new.vec)
+  closed : Finishes (fuse_steps g.I.Iterator.next_gives) (g.V.CanCut.room c.splice_stop.new.vec) (gap_view c.args.gap c.args.replacement (g.V.CanCut.items c.args.vec.now)) (Ok tt) (g.V.CanCut.items c.splice_stop.new.vec)
   closed =
       let at = gap_front c.fill.new.self in
-      let is = c.close_in.ensures.items ∙ ap (λ l. take at l ++ drop (gap_back c.fill.new.self) l) (mid_is g filled)
+      let is = c.splice_stop.ensures.items ∙ ap (λ l. take at l ++ drop (gap_back c.fill.new.self) l) (mid_is g filled)
       ∙ ap (λ k. take at c.fill.new.slots ++ drop k c.fill.new.slots) c.fill.ensures.back in
-      finishes_closed (fuse_steps g.I.Iterator.next_gives) (g.V.CanCut.room c.close_in.new.vec) (gap_view c.args.gap c.args.replacement (g.V.CanCut.items c.args.vec.now)) c.fill.ensures.placed.0 at
-      (gap_back c.args.gap) c.fill.new.slots (front_is g filled) (back_is g filled) tt (g.V.CanCut.items c.close_in.new.vec)
-      (rw c.if-not-fill.true at c.fill.ensures.placed.3) is c.close_in.ensures.fits
+      finishes_closed (fuse_steps g.I.Iterator.next_gives) (g.V.CanCut.room c.splice_stop.new.vec) (gap_view c.args.gap c.args.replacement (g.V.CanCut.items c.args.vec.now)) c.fill.ensures.placed.0 at
+      (gap_back c.args.gap) c.fill.new.slots (front_is g filled) (back_is g filled) tt (g.V.CanCut.items c.splice_stop.new.vec)
+      (rw c.if-not-fill.true at c.fill.ensures.placed.3) is c.splice_stop.ensures.fits
 
 pub returns-then-not-fill-clause-listed : goal.returns-then-not-fill-clause-listed
 returns-then-not-fill-clause-listed g c = λ rest shows.
     let gives = g.I.Iterator.next_gives in
-    finishes_with (fuse_steps gives) _ (gap_view c.args.gap c.args.replacement (g.V.CanCut.items c.args.vec.now)) (g.V.CanCut.items c.close_in.new.vec) (fused_rest rest) (fused_first gives rest shows) (Ok tt) (closed g c)
+    finishes_with (fuse_steps gives) _ (gap_view c.args.gap c.args.replacement (g.V.CanCut.items c.args.vec.now)) (g.V.CanCut.items c.splice_stop.new.vec) (fused_rest rest) (fused_first gives rest shows) (Ok tt) (closed g c)
 
 -- more was appended
 module _ (g : _) (c : goal.After-touches-2 g) where

@@ -3,9 +3,9 @@ use Rattle.std.proofs.Common.{ℕ, List, Option, Some, None, [], ◌∷◌, leng
 use Rattle.std.specs.Iterator.{YieldsFirst, YieldsLast, SkipsThenYields, Yields}
 use Rattle.std.specs.Iterator.Runs.{YieldsInOrder, YieldsInReverse}
 use Rattle.std.proofs.iter.runs.Sources.{from_front, from_back, as_is, as_is_back}
-use Rattle.tinyvec_slots.specs.Ends.{End, front, back, Asks}
+use Rattle.tinyvec_slots.specs.Ends.{End, front, back, RunsWord}
 use Rattle.tinyvec_slots.specs.AnyDrain.{Steps, StepsBack, TakesAnyWord}
-use Rattle.tinyvec_slots.proofs.EndsLemmas.{Asks-takes}
+use Rattle.tinyvec_slots.proofs.EndsLemmas.{RunsWord-takes}
 
 module _ {S T : Type 0} (rest : S → List T) (keeps : S → S → Type 0) where
   pub runs_in_order : YieldsInOrder (Steps rest keeps) rest
@@ -42,7 +42,7 @@ module _ {S T : Type 0} (rest : S → List T) (keeps : S → S → Type 0) where
     nth_keeps d n r e h = then d h.1.0 e (yields_keeps d h.0 h.1.0 h.1.1) (step_keeps h.1.0 r e h.1.2)
 
     -- and each that a word of ends leads to
-    asks_keeps : (d : S) (word : List End) (answers : List (Option T)) (later : S) → Asks (Steps rest keeps) (StepsBack rest keeps) d word answers later → keeps d later
+    asks_keeps : (d : S) (word : List End) (answers : List (Option T)) (later : S) → RunsWord (Steps rest keeps) (StepsBack rest keeps) d word answers later → keeps d later
     asks_keeps d [] [] later is = subst (keeps d) (sym is) (same d)
     asks_keeps d [] (r ∷ answers) later asks = absurd asks
     asks_keeps d (e ∷ word) [] later asks = absurd asks
@@ -51,4 +51,4 @@ module _ {S T : Type 0} (rest : S → List T) (keeps : S → S → Type 0) where
 
     pub takes_any_word : (d : S) → TakesAnyWord rest keeps d
     takes_any_word d word answers later asks =
-        (Asks-takes (Steps rest keeps) (StepsBack rest keeps) rest step_first step_last d word answers later asks, asks_keeps d word answers later asks)
+        (RunsWord-takes (Steps rest keeps) (StepsBack rest keeps) rest step_first step_last d word answers later asks, asks_keeps d word answers later asks)

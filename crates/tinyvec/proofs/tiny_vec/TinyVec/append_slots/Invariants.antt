@@ -1,7 +1,7 @@
 use Rattle.std.proofs.Common.{◌≡◌, ◌++◌, length, take, drop}
 use Rattle.std.specs.Prelude.{All}
 use Rattle.tinyvec.specs.TinyVec.{tiny_items, tiny_spare, is_inline, tiny_capacity}
-use Rattle.tinyvec.proofs.tiny_vec.TinyVec.push_taken.Given as goal
+use Rattle.tinyvec.proofs.tiny_vec.TinyVec.append_slots.Given as goal
 
 abbrev pub invariant-loop-i : goal.invariant-loop-i
 invariant-loop-i g l = record {

@@ -1,7 +1,7 @@
 -- Examples of what a range cuts a list into.
 use Rattle.std.proofs.Common.{◌≡◌, [], ◌∷◌, refl, arith}
 use Rattle.std.specs.declared.ops.Bound.TheVariants.{Included, Excluded}
-use Rattle.tinyvec_slots.specs.Cut.{range_start, range_end, IsRangeOf, before, removed, after}
+use Rattle.tinyvec_slots.specs.Ranges.{range_start, range_end, IsRangeOf, before, removed, after}
 use Rattle.tinyvec_words.proofs.Shown.{nums}
 
 pub example-IsRangeOf : IsRangeOf (nums (1 ∷ 2 ∷ 3 ∷ 4 ∷ [])) (Included 1) (Excluded 3)
