@@ -1,8 +1,9 @@
-"""The instructions a round, counted by callgrind: they are the same on each run, whatever else the machine does.
+"""Instructions, counted by callgrind: they are the same on each run, whatever else the machine does.
 
-Callgrind counts from the function `begin_rounds`, which is called before a row's rounds, to the function `end_rounds`, which
-is called after them. Each program runs for so many rounds and for twice as many, and the difference is that of the further
-rounds alone: what the first ones cost besides, as a page of memory, falls out.
+Of a row callgrind counts from the function `begin_rounds`, which is called before a row's rounds, to the function
+`end_rounds`, which is called after them. Each program runs for so many rounds and for twice as many, and the difference is that
+of the further rounds alone: what the first ones cost besides, as a page of memory, falls out. A whole program is counted from
+its start to its end.
 """
 import concurrent.futures
 import os
@@ -42,19 +43,34 @@ def further(once, twice):
 
 def counted(command):
     """The rounds and instructions of each row."""
-    program, *words = command
     with tempfile.TemporaryDirectory() as folder:
         counts = f"{folder}/counts"
-        ran = subprocess.run(
-            [shutil.which(COUNTER[0]), *COUNTER[1:], f"--callgrind-out-file={counts}", f"./{program.name}", *words],
-            check=True, capture_output=True, text=True, cwd=program.parent, env=ENVIRONMENT,
-        )
+        printed = run(command, counts, stdout=subprocess.PIPE)
         with open(counts, encoding="utf-8") as file:
             totals = totals_of(file)
-    rows = [line.split() for line in ran.stdout.splitlines()]
+    rows = [line.split() for line in printed.splitlines()]
     if len(rows) != len(totals):
         raise ValueError(f"{command}: {len(rows)} rows, but {len(totals)} counts")
     return {(row[0], int(row[1])): (int(row[2]), total) for row, total in zip(rows, totals)}
+
+
+def of_run(command, source):
+    """The instructions of a run that reads the file."""
+    with tempfile.TemporaryDirectory() as folder, open(source, "rb") as lines:
+        counts = f"{folder}/counts"
+        run(command, counts, stdin=lines, stdout=subprocess.DEVNULL)
+        with open(counts, encoding="utf-8") as file:
+            return next(int(line.split()[1]) for line in file if line.startswith("totals:"))
+
+
+def run(command, counts, **streams):
+    """Runs the program, writes its counts to the file of this name, and returns what it printed."""
+    program, *words = command
+    ran = subprocess.run(
+        [shutil.which(COUNTER[0]), *COUNTER[1:], f"--callgrind-out-file={counts}", f"./{program.name}", *words],
+        check=True, stderr=subprocess.DEVNULL, text=True, cwd=program.parent, env=ENVIRONMENT, **streams,
+    )
+    return ran.stdout
 
 
 def totals_of(file):

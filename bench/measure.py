@@ -1,15 +1,15 @@
-"""usage: bench/run [--quick] [--times] [--instructions] [--growth] [--script] [--results]
+"""usage: bench/run [--quick] [--programs] [--times] [--instructions] [--growth] [--results]
 
-Measures the vectors against those that users would pick instead, the toolchain's and Rust's, and `tv` against a plain Rust
-program, and prints a table of each. With none of the four words in the middle, all four are measured.
+Measures whole programs against plain Rust programs, and the vectors against those that users would pick instead, the
+toolchain's and Rust's, and prints a table of each. With none of the four words in the middle, all four are measured.
 
+--programs      instructions, time and memory of whole programs
 --times         nanoseconds a round, with the ratios to the peers
 --instructions  instructions a round, as callgrind counts them, and where they and the times disagree
 --growth        the time an item against the number of items, and that of tv against the number of lines
---script        the speed and memory of tv on a long script
 --quick         fewer and shorter runs
---results       writes what is printed into bench/results, the means into docs/PERFORMANCE.md, and what --growth measured into
-                docs/pictures
+--results       writes what is printed into bench/results, the programs and the means into docs/PERFORMANCE.md, and what
+                --growth measured into docs/pictures
 """
 import contextlib
 import io
@@ -20,12 +20,12 @@ import growth
 import instructions
 import kit
 import plots
-import script
 import tables
 import times
+import whole
 from programs import TOP, beside_rust, beside_toolchain, check_sums, describe
 
-PARTS = {"--times", "--instructions", "--growth", "--script"}
+PARTS = {"--programs", "--times", "--instructions", "--growth"}
 CORES = os.sched_getaffinity(0)
 CORE = {max(CORES)}
 
@@ -37,8 +37,9 @@ class Effort:
         self.runs, self.rounds = (9, 4000) if is_quick else (41, 16000)
         self.counted_rounds = 128 if is_quick else 320
         self.growth_runs, self.growth_rounds = (3, 16384) if is_quick else (9, 65536)
-        self.script_lines, self.script_runs = (300000, 3) if is_quick else (1000000, 5)
-        self.script_lengths = [10**power for power in range(4, 7 if is_quick else 8)]
+        self.program_lines, self.program_runs = (10000, 5) if is_quick else (100000, 21)
+        self.length_runs = 3
+        self.lengths = [10**power for power in range(4, 7 if is_quick else 8)]
 
 
 def main():
@@ -47,6 +48,11 @@ def main():
         sys.exit(__doc__)
     parts = PARTS & words or PARTS
     effort, is_kept = Effort("--quick" in words), "--results" in words
+    if "--programs" in parts:
+        with result("programs", is_kept):
+            measured = whole.measure(effort.program_lines, effort.program_runs, CORE)
+            print(f"{effort.program_lines} lines for each program. Times are the least of {effort.program_runs} runs.\n")
+            print_table("programs", is_kept, tables.print_programs, measured)
     if parts & {"--times", "--instructions"}:
         for name, programs in (("toolchain", beside_toolchain()), ("rust", beside_rust())):
             with result(name, is_kept):
@@ -57,9 +63,6 @@ def main():
     if "--growth" in parts:
         with result("growth", is_kept):
             measure_growth(effort, is_kept)
-    if "--script" in parts:
-        with result("script", is_kept):
-            script.measure(effort.script_lines, effort.script_runs)
 
 
 @contextlib.contextmanager
@@ -79,18 +82,24 @@ def measure_rows(name, programs, parts, effort, is_kept):
     check_sums(programs, "rows")
     if "--instructions" in parts:
         counted = instructions.count(programs, effort.counted_rounds)
-        with contextlib.redirect_stdout(io.StringIO()) as means:
-            tables.print_means(counted)
-        print(means.getvalue())
-        if is_kept:
-            tables.put(TOP / "docs/PERFORMANCE.md", name, means.getvalue())
+        print_table(name, is_kept, tables.print_means, counted)
         tables.print_groups(counted, "instructions")
     if "--times" in parts:
         os.sched_setaffinity(0, CORE)
         timed = times.measure(programs, "rows", effort.runs, effort.rounds)
+        print(f"Times are the least of {effort.runs} runs.\n")
         tables.print_groups(timed, "nanoseconds")
     if {"--times", "--instructions"} <= parts:
         tables.print_disagreements(timed, counted)
+
+
+def print_table(name, is_kept, print_it, measured):
+    """Prints a table that is on docs/PERFORMANCE.md too."""
+    with contextlib.redirect_stdout(io.StringIO()) as table:
+        print_it(measured)
+    print(table.getvalue(), end="")
+    if is_kept:
+        tables.put(name, table.getvalue())
 
 
 def count_for(cpu, effort):
@@ -104,9 +113,10 @@ def measure_growth(effort, is_kept):
     os.sched_setaffinity(0, CORE)
     check_sums(beside_rust(), "growth")
     grown = growth.an_item(times.measure(beside_rust(), "growth", effort.growth_runs, effort.growth_rounds))
+    print(f"Times are the least of {effort.growth_runs} runs, of tv of {effort.length_runs}.\n")
     growth.print_rows(grown)
     os.sched_setaffinity(0, CORES)
-    lines = script.grow(effort.script_lengths)
+    lines = whole.grow(effort.lengths, effort.length_runs)
     growth.print_lines(*lines)
     if is_kept:
         plots.draw(TOP / "docs/pictures", grown, *lines)

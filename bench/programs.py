@@ -8,7 +8,6 @@ import sys
 import kit
 
 TOP = pathlib.Path(__file__).resolve().parent.parent
-TV = TOP / "crates/tv/out/tv"
 CRATES = ["tinyvec", "smallvec", "arrayvec"]
 
 
@@ -22,6 +21,15 @@ def beside_rust(cpu=""):
     """Rust's crates, and std. Each compiler builds for its default processor where none is named."""
     here = kit.programs()[cpu].program if cpu else kit.base().out / kit.NAME
     return {"here": [here]} | {it: [peers(cpu), it] for it in [*CRATES, "vec"]}
+
+
+# Of a whole program.
+SIDES = ("here", "plain Rust")
+
+
+def whole(name):
+    """A program of this repository, and the plain Rust program of that name."""
+    return dict(zip(SIDES, ([TOP / f"crates/{name}/out/{name}"], [peers(), name])))
 
 
 def peers(cpu=""):

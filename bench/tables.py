@@ -1,6 +1,13 @@
 """Tables in Markdown of what is measured: here, and how much of each peer's that is."""
 import math
+import pathlib
 import re
+
+import reasons
+
+TOP = pathlib.Path(__file__).resolve().parent.parent
+PERFORMANCE = TOP / "docs/PERFORMANCE.md"
+RESULTS = TOP / "bench/results"
 
 # A row belongs to the group with the longest prefix that its name has.
 GROUPS = {
@@ -21,8 +28,17 @@ NAMES = {
 
 CAPACITIES = [4, 16, 64, 1024]
 
-# A cell above it has a cause that a reader may want to know.
+# A cell of instructions above it has a reason.
 LIMIT = 1.2
+
+# A ratio to a peer that lacks the row.
+NOTHING = "–"
+
+# What is said over a table of rows, and its last column if it is one of instructions.
+COUNTED = "instructions"
+OVER = " a round, and that over "
+WHY = f"Why above {LIMIT}"
+TABLE = re.compile(rf"(\*\*.*\*\*: {COUNTED}{OVER}(.*)\n\n.*\n.*\n)((?:\|.*\n)+)")
 
 
 def group_of(row):
@@ -37,6 +53,14 @@ def peers_of(measured, keys):
     return [it for it in measured if it != "here" and any(key in measured[it] for key in keys)]
 
 
+def print_programs(measured):
+    """A line for each program, by unit: what it takes, and how much of the plain Rust program's that is."""
+    print_head("Program, over plain Rust", measured)
+    for name in next(iter(measured.values()))["here"]:
+        print_line(f"`{name}`", (cell(it, ["plain Rust"], name) for it in measured.values()))
+    print(flush=True)
+
+
 def print_groups(measured, unit):
     for group in GROUPS:
         keys = [key for key in measured["here"] if group_of(key[0]) == group]
@@ -46,12 +70,29 @@ def print_groups(measured, unit):
 
 def print_group(group, keys, measured, unit):
     peers = peers_of(measured, keys)
+    names = [name_of(it, group) for it in peers]
     capacities = sorted({capacity for _, capacity in keys})
-    print(f"**{group}**: {unit} a round, and that over {', '.join(name_of(it, group) for it in peers)}\n")
-    print_head("Row", capacities)
+    print(f"**{group}**: {unit}{OVER}{', '.join(names)}\n")
+    print_head("Row", [*capacities, WHY] if unit == COUNTED else capacities)
     for row in dict.fromkeys(row for row, _ in keys):
-        print_line(row, (cell(measured, peers, (row, it)) for it in capacities))
+        cells = [cell(measured, peers, (row, it)) for it in capacities]
+        print_line(row, [*cells, why(row, slow(names, cells))] if unit == COUNTED else cells)
     print(flush=True)
+
+
+def why(row, peers):
+    """The last cell of a row that is above the limit over these peers."""
+    return ", ".join(dict.fromkeys(it.key for it in reasons.of(row, peers)))
+
+
+def slow(peers, cells):
+    """The peers that the row is above the limit of, by what is printed."""
+    ratios = [it.partition(": ")[2].split() for it in cells if it]
+    return [peer for number, peer in enumerate(peers) if any(is_above(it[number]) for it in ratios)]
+
+
+def is_above(ratio):
+    return ratio != NOTHING and float(ratio) > LIMIT
 
 
 def print_means(measured):
@@ -62,7 +103,7 @@ def print_means(measured):
         for peer in peers_of(measured, keys):
             ratios = {key: ratio(measured, peer, key) for key in keys if key in measured[peer]}
             means = [mean([it for key, it in ratios.items() if key[1] == capacity]) for capacity in CAPACITIES]
-            above = sum(it > LIMIT for it in ratios.values())
+            above = sum(is_above(text_of(it)) for it in ratios.values())
             print_line(f"{group} over `{name_of(peer, group)}`", [*map(text_of, means), f"{above} of {len(ratios)}"])
     print(flush=True)
 
@@ -73,7 +114,11 @@ def print_head(first, columns):
 
 
 def print_line(first, cells):
-    print(f"| {first} | {' | '.join(map(str, cells))} |")
+    print(line_of(first, cells))
+
+
+def line_of(first, cells):
+    return f"| {first} | {' | '.join(map(str, cells))} |"
 
 
 def cell(measured, peers, key):
@@ -89,7 +134,7 @@ def ratio(measured, peer, key):
 
 
 def text_of(ratio):
-    return "–" if ratio is None else f"{ratio:.2f}"
+    return NOTHING if ratio is None else f"{ratio:.2f}"
 
 
 def mean(ratios):
@@ -108,10 +153,58 @@ def print_disagreements(times, instructions):
     print(flush=True)
 
 
-def put(document, name, table):
-    """Writes the table in place of the one after the comment of this name."""
-    text = document.read_text(encoding="utf-8")
-    text, count = re.subn(rf"(<!-- {re.escape(name)} -->\n)(?:\|.*\n)*", lambda it: it[1] + table.strip() + "\n", text)
+def put(name, table):
+    """Writes the table in place of the one on PERFORMANCE after the comment of this name."""
+    place = rf"(<!-- {re.escape(name)} -->\n)(?:\|.*\n)*"
+    text, count = re.subn(place, lambda it: it[1] + table.strip() + "\n", read(PERFORMANCE))
     if count != 1:
-        raise ValueError(f"{document} has {count} comments <!-- {name} -->")
-    document.write_text(text, encoding="utf-8")
+        raise ValueError(f"{PERFORMANCE} has {count} comments <!-- {name} -->")
+    PERFORMANCE.write_text(text, encoding="utf-8")
+
+
+def faults():
+    """Tables of PERFORMANCE that bench/results lacks, rows above the limit with no reason, and reasons of no such row."""
+    for name, table in re.findall(r"<!-- (.*) -->\n((?:\|.*\n)*)", read(PERFORMANCE)):
+        if not table or table not in read(RESULTS / f"{name}.md"):
+            yield f"docs/PERFORMANCE.md: the table {name} is not that of bench/results/{name}.md"
+    used = set()
+    for file in sorted(RESULTS.glob("*.md")):
+        text = read(file)
+        for row, peer in slow_rows(text):
+            found = reasons.of(row, [peer])
+            used.update(found)
+            if not found:
+                yield f"bench/reasons.txt: no reason why {row} is above {LIMIT} over {peer} in {file.name}"
+        if explained(text) != text:
+            yield f"bench/results/{file.name}: its reasons are not those of bench/reasons.txt, which bench/tables.py writes"
+    yield from (f"bench/reasons.txt: {it.key} explains no row: {it.pattern}" for it in reasons.ROWS if it not in used)
+
+
+def slow_rows(text):
+    """The rows above the limit, with the peer."""
+    for table in TABLE.finditer(text):
+        for row, *cells, _ in map(cells_of, table[3].splitlines()):
+            yield from ((row, peer) for peer in slow(table[2].split(", "), cells))
+
+
+def explained(text):
+    """The text with the last column anew in its tables of instructions."""
+    return TABLE.sub(lambda it: it[1] + "".join(explained_row(line, it[2].split(", ")) for line in it[3].splitlines()), text)
+
+
+def explained_row(line, peers):
+    row, *cells, _ = cells_of(line)
+    return line_of(row, [*cells, why(row, slow(peers, cells))]) + "\n"
+
+
+def cells_of(line):
+    return [it.strip() for it in line[1:-1].split("|")]
+
+
+def read(file):
+    return file.read_text(encoding="utf-8")
+
+
+if __name__ == "__main__":
+    for name in RESULTS.glob("*.md"):
+        name.write_text(explained(read(name)), encoding="utf-8")

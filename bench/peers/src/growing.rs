@@ -14,6 +14,9 @@ pub trait Growing<T: Number, const N: usize>: Vector<T, N> {
     /// The items of the array, on the heap.
     fn on_heap(array: [T; N]) -> Self;
 
+    /// Makes room for so many items more.
+    fn reserve(&mut self, n: usize);
+
     fn append(&mut self, other: &mut Self);
     fn resize(&mut self, n: usize, x: T);
 }
@@ -29,6 +32,11 @@ macro_rules! shared_calls {
         #[inline(always)]
         fn with_room(n: usize) -> Self {
             Self::with_capacity(n)
+        }
+
+        #[inline(always)]
+        fn reserve(&mut self, n: usize) {
+            self.reserve(n)
         }
 
         #[inline(always)]

@@ -1,10 +1,11 @@
-//! The benchmarks of `crates/tinyvec_bench` over the crates that users would pick instead, and the script of `tv` over
-//! std's `Vec`. The first argument is `tinyvec`, `smallvec`, `arrayvec`, `vec` or `script`. The benchmarks print
-//! checksums, with `rows ROUNDS` times too, and with `growth` in the place of `rows` those of the same calls at many
-//! lengths.
+//! The benchmarks of `crates/tinyvec_bench` over the crates that users would pick instead, and four programs over
+//! `tinyvec`. The first argument is `tinyvec`, `smallvec`, `arrayvec` or `vec`, or the name of a program. The benchmarks
+//! print checksums, with `rows ROUNDS` times too, and with `growth` in the place of `rows` those of the same calls at many
+//! lengths. A program reads standard input and writes standard output.
 
 mod benchmarks;
 mod comparing;
+mod dns_query;
 mod fnv;
 mod form;
 mod growing;
@@ -14,25 +15,39 @@ mod peers;
 mod printing;
 mod report;
 mod rows;
-mod script;
 mod slices;
 mod sources;
 mod spilling;
 mod texts;
+mod tidy;
+mod tree;
+mod tv;
+mod unbuffered;
 mod vector;
 
 use crate::report::Report;
 use std::env;
+use std::io;
 use std::process::ExitCode;
 
 /// So often a benchmark runs for its checksum alone.
 const FEW_ROUNDS: u64 = 20;
 
+fn program(name: &str) -> Option<fn() -> io::Result<()>> {
+    match name {
+        "tv" => Some(tv::run),
+        "example_tidy" => Some(tidy::run),
+        "example_tree" => Some(tree::run),
+        "example_dns_query" => Some(dns_query::run),
+        _ => None,
+    }
+}
+
 fn main() -> ExitCode {
     let args: Vec<String> = env::args().skip(1).collect();
     let word = |i: usize| args.get(i).map(String::as_str);
-    if word(0) == Some("script") {
-        return script::run();
+    if let Some(program) = word(0).and_then(program) {
+        return if program().is_ok() { ExitCode::SUCCESS } else { ExitCode::FAILURE };
     }
     let report = match word(2).map(str::parse) {
         None => Report { prefix: "", rounds: FEW_ROUNDS, is_timed: false },

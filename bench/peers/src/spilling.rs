@@ -40,6 +40,16 @@ pub fn extend_from_range<V: Growing<u64, N>, const N: usize>(count: u64, x: u64)
     look_at(vec.as_slice(), x)
 }
 
+/// The same, after room for them is reserved.
+#[inline(never)]
+pub fn reserve_and_extend<V: Growing<u64, N>, const N: usize>(count: usize, x: u64) -> u64 {
+    let mut vec = V::empty();
+    vec.reserve(count);
+    let start = x % 65536;
+    vec.extend(start..start.saturating_add(count as u64));
+    look_at(vec.as_slice(), x)
+}
+
 /// Moves a list of as many items behind a full one.
 #[inline(never)]
 pub fn append<V: Growing<u64, N>, const N: usize>(other: &mut V, source: &[u64; N], x: u64) -> u64 {

@@ -1,11 +1,13 @@
 -- Lemmas on what a call leaves of place and capacity.
-use Rattle.std.proofs.Common.{◌≡◌, ℕ, ◌≤◌, ◌+◌, ◌*◌, max, Global, Result, Ok, Err, refl, sym, ap, ◌∙◌, arith}
+use Rattle.std.proofs.Common.{◌≡◌, ℕ, ◌≤◌, ◌+◌, ◌*◌, max, Result, Ok, Err, refl, sym, ap, subst, ◌∙◌, arith}
 use Rattle.std.specs.Prelude.{OnOk, IsErr}
 use Rattle.std.proofs.lemmas.Bool.{false≢true}
-use Rattle.tinyvec_slots.specs.Slots.{Slots, SlotRule, items_len}
-use Rattle.tinyvec.specs.TinyVec.{tiny_len, is_inline, tiny_capacity, IsInline, PlaceRule, TinySlotRule, StaysInPlace}
+use Rattle.tinyvec_slots.specs.Slots.{Slots, SlotRule, items, items_len, spare}
+use Rattle.tinyvec.specs.TinyVec.{tiny_view, tiny_len, is_inline, tiny_capacity, IsInline, PlaceRule, TinySlotRule, StaysInPlace, Unchanged}
 use Rattle.tinyvec.specs.Room.{Doubles, GrowsFor, Grows, Reserves, RoomGrows}
-use Rattle.tinyvec.proofs.TinyLemmas.{tiny_slots_then, never_ok}
+use Rattle.tinyvec.proofs.TinyLemmas.{slots_taken, tiny_slots_then, never_ok}
+use Rattle.tinyvec.specs.View.{in_array, ViewStays}
+use Rattle.tinyvec.specs.FrameLaws.{view_unchanged}
 use Rattle.tinyvec.specs.declared.tiny_vec.TinyVec.{TinyVec}
 use Rattle.tinyvec.specs.declared.tiny_vec.TinyVec.TheVariants.{Inline, Heap}
 
@@ -13,10 +15,18 @@ pub on_ok : {X E P : Type 0} (r : Result X E) → P → OnOk r P
 on_ok (Ok x) p = p
 on_ok (Err e) p = tt
 
+-- an array whose slots follow the slot rule
+pub inline_stays : {T : Type 0} (D : T → Type 0) (slots : ℕ) (v w : Slots T) → SlotRule D v w → items_len w ≤ slots
+    → ViewStays D slots (record { items = items v; spare = spare v; place = in_array }) (record { items = items w; spare = spare w; place = in_array })
+inline_stays D slots v w rule fits = record { place = refl; slot_rule = λ _ _. rule; capacity = refl; fits = fits }
+
 module _ {A T : Type 0} (D : T → Type 0) (slots : ℕ) where
-  -- an array whose slots follow the slot rule
-  pub inline_stays : (v w : Slots T) (a : Global) → SlotRule D v w → items_len w ≤ slots → StaysInPlace {A = A} D slots (Inline v a) (Inline w a)
-  inline_stays v w a rule fits = record { place = refl; slot_rule = rule; capacity = refl; fits = fits }
+  -- a list that is as it was
+  pub stays_same : (v : TinyVec A T) → tiny_len v ≤ tiny_capacity slots v → StaysInPlace D slots v v
+  stays_same v fits = record { place = refl; slot_rule = slots_taken D v v 0 (omega arith) refl; capacity = refl; fits = fits }
+
+  pub unchanged_stays : (v w : TinyVec A T) → tiny_len v ≤ tiny_capacity slots v → Unchanged v w → StaysInPlace D slots v w
+  unchanged_stays v w fits h = subst (ViewStays D slots (tiny_view v)) (sym (view_unchanged v w h)) (stays_same v fits)
 
   -- an inline list that fits the slots
   pub inline_fits : (v : TinyVec A T) → IsInline v → tiny_len v ≤ tiny_capacity slots v → tiny_len v ≤ slots

@@ -1,9 +1,9 @@
 -- Lemmas on what refused calls leave.
-use Rattle.std.proofs.Common.{◌≡◌, ℕ, ◌+◌, ◌-◌, ◌≤◌, List, [], ◌++◌, take, drop, slice_range, refl, sym, ap, subst, ◌∙◌, le_refl, arith, rules, append-nil, length, length-take, length-take-le, length-drop}
+use Rattle.std.proofs.Common.{◌≡◌, ℕ, ◌+◌, ◌-◌, ◌≤◌, List, [], ◌++◌, take, drop, slice_range, refl, sym, ap, subst, ◌∙◌, le_refl, arith, append-nil, length, length-take, length-take-le, length-drop}
 use Rattle.std.proofs.lemmas.List.{get_or-take, get_or-drop}
-use Rattle.std.specs.Prelude.{IsTrue, false, true}
+use Rattle.std.specs.Prelude.{IsTrue}
 use Rattle.std.proofs.lemmas.List.Elements.{All-nil}
-use Rattle.tinyvec_slots.specs.Slots.{AreDefaults, items, items_len, spare}
+use Rattle.tinyvec_slots.specs.Slots.{AreDefaults, spare}
 use Rattle.std.specs.List.{AllZip}
 use Rattle.tinyvec_slots.specs.Clones.{RefusedAt, ClonesOver, ClonesInPart}
 use Rattle.tinyvec_slots.proofs.CloneLemmas.{drop_within}
@@ -12,7 +12,6 @@ use Rattle.tinyvec.specs.Room.{GrowsFor}
 use Rattle.tinyvec.specs.Refused.{RoomGranted}
 pub use Rattle.tinyvec.specs.FrameLaws.{place_kept}
 use Rattle.tinyvec.specs.declared.tiny_vec.TinyVec.{TinyVec}
-use Rattle.tinyvec.specs.declared.tiny_vec.TinyVec.TheVariants.{Inline, Heap}
 
 module _ {T : Type 0} (I : T → Type 0) (xs : List T) where
   -- what was refused among the first n was refused
@@ -84,16 +83,15 @@ module _ {A T : Type 0} (D : T → Type 0) where
   -- the slots that a cut vacated stand as defaults before the old spare ones
   pub cut_freed : (old mid new : TinyVec A T) (m : ℕ) → SameFrame mid new → is_inline mid ≡ is_inline old → TinySlotRule D old mid
       → tiny_items mid ≡ take m (tiny_items old) → m ≤ tiny_len old → IsInline new → Behind D old new m (tiny_spare old)
-  cut_freed (Inline v a) (Inline w b) new m frame same rule cut le i =
-      let long : items_len w ≡ m = ap length cut ∙ length-take-le m (items v) le in
-      let no_more : items_len w - items_len v ≡ 0 = omega arith in (
-        rule.0,
-        (rule.1.0 ∙ ap (λ n. items_len v - n) long, rule.1.1),
-        frame.spare ∙ rule.2 ∙ ap (λ n. rule.0 ++ drop n (spare v)) no_more,
+  cut_freed old mid new m frame same rule cut le j =
+      let was = sym frame.place ∙ j in
+      let h = rule (sym same ∙ was) was in
+      let long : tiny_len mid ≡ m = ap length cut ∙ length-take-le m (tiny_items old) le in
+      let no_more : tiny_len mid - tiny_len old ≡ 0 = omega arith in (
+        h.0,
+        (h.1.0 ∙ ap (λ n. tiny_len old - n) long, h.1.1),
+        frame.spare ∙ h.2 ∙ ap (λ n. h.0 ++ drop n (tiny_spare old)) no_more,
       )
-  cut_freed (Inline v a) (Heap w) new m frame same rule cut le i = search rules
-  cut_freed (Heap v) (Inline w b) new m frame same rule cut le i = search rules
-  cut_freed (Heap v) (Heap w) new m frame same rule cut le i = absurd (let no : false ≡ true = subst IsTrue frame.place i in cc)
 
   -- a list that is as long vacated none
   pub none_freed : (old new : TinyVec A T) (m : ℕ) → m ≡ tiny_len old → tiny_spare new ≡ tiny_spare old → Behind D old new m (tiny_spare old)

@@ -1,7 +1,8 @@
 -- What has the same frame: the same vector, and one whose items were written. The slot rule reads no more of a vector.
-use Rattle.std.proofs.Common.{◌≡◌, ◌≤◌, ℕ, List, length, drop, refl, sym, ap, ◌∙◌, take_at}
+use Rattle.std.proofs.Common.{◌≡◌, ◌≤◌, ℕ, List, length, drop, refl, sym, ap, ◌∙◌, subst, take_at}
 use Rattle.tinyvec_slots.proofs.SlotsLemmas.{items-with_items, spare-with_items}
-use Rattle.tinyvec.specs.TinyVec.{tiny_items, tiny_len, is_inline, tiny_capacity, PlaceRule, TinySlotRule, SameFrame}
+use Rattle.tinyvec.specs.View.{Place, in_array, on_heap, lies_inline, capacity_in}
+use Rattle.tinyvec.specs.TinyVec.{tiny_view, place_of, tiny_items, tiny_len, is_inline, IsInline, tiny_capacity, PlaceRule, TinySlotRule, SameFrame, Unchanged}
 use Rattle.tinyvec.specs.Lends.{tiny_with_items}
 use Rattle.tinyvec.specs.declared.tiny_vec.TinyVec.{TinyVec}
 use Rattle.tinyvec.specs.declared.tiny_vec.TinyVec.TheVariants.{Inline, Heap}
@@ -36,21 +37,31 @@ module _ {A T : Type 0} where
   module _ (D : T → Type 0) where
     -- the slot rule reads no more of the old vector than its frame
     pub tiny_slots_framed : (old mid new : TinyVec A T) → SameFrame old mid → TinySlotRule D mid new → TinySlotRule D old new
-    tiny_slots_framed (Inline v a) (Inline m b) (Inline n d) frame h = rw (sym frame.len, sym frame.spare) h
-    tiny_slots_framed (Inline v a) (Heap m) (Inline n d) frame h = absurd (let no = frame.place in cc)
-    tiny_slots_framed (Inline v a) mid (Heap n) frame h = tt
-    tiny_slots_framed (Heap v) mid new frame h = tt
+    tiny_slots_framed old mid new frame h i j = rw (sym frame.len, sym frame.spare) (h (frame.place ∙ i) j)
 
     -- and no more of the new one
     pub tiny_slots_then_framed : (old mid new : TinyVec A T) → TinySlotRule D old mid → SameFrame mid new → TinySlotRule D old new
-    tiny_slots_then_framed (Inline v a) (Inline m b) (Inline n d) h frame = rw (frame.len, frame.spare) h
-    tiny_slots_then_framed (Inline v a) (Heap m) (Inline n d) h frame = absurd (let no = frame.place in cc)
-    tiny_slots_then_framed (Inline v a) mid (Heap n) h frame = tt
-    tiny_slots_then_framed (Heap v) mid new h frame = tt
+    tiny_slots_then_framed old mid new h frame i j = rw (frame.len, frame.spare) (h i (sym frame.place ∙ j))
 
--- a list that stayed in its place, where there was room
+-- how many items fit a list that is inline
+pub capacity_inline : {A T : Type 0} (slots : ℕ) (v : TinyVec A T) → IsInline v → tiny_capacity slots v ≡ slots
+capacity_inline slots (Inline v alloc) is = refl
+capacity_inline slots (Heap v) is = absurd (let no = is in cc)
+
+-- a list that stayed in its place, if there was room
 pub place_kept : {A T : Type 0} (slots need : ℕ) (old new : TinyVec A T) → is_inline new ≡ is_inline old → need ≤ tiny_capacity slots old → PlaceRule slots need old new
-place_kept slots need (Inline v a) (Inline w b) same le = (λ i. (i, le), λ h. h.0)
-place_kept slots need (Inline v a) (Heap w) same le = absurd (let no = same in cc)
-place_kept slots need (Heap v) (Inline w b) same le = absurd (let no = same in cc)
-place_kept slots need (Heap v) (Heap w) same le = (λ i. absurd (let no = i in cc), λ h. absurd (let no = h.0 in cc))
+place_kept slots need old new same le = (
+  λ i. let was = sym same ∙ i in (was, subst (λ n. need ≤ n) (capacity_inline slots old was) le),
+  λ h. same ∙ h.0,
+)
+
+-- two places that are both in the array, or both on the heap with one capacity
+pub same_place : (slots : ℕ) (p q : Place) → lies_inline q ≡ lies_inline p → capacity_in slots q ≡ capacity_in slots p → q ≡ p
+same_place slots in_array in_array same room = refl
+same_place slots in_array (on_heap n) same room = absurd (let no = same in cc)
+same_place slots (on_heap m) in_array same room = absurd (let no = same in cc)
+same_place slots (on_heap m) (on_heap n) same room = ap on_heap room
+
+-- what did not change looks the same
+pub view_unchanged : {A T : Type 0} (old new : TinyVec A T) → Unchanged old new → tiny_view new ≡ tiny_view old
+view_unchanged old new h i = record { items = h.items i; spare = h.spare i; place = same_place 0 (place_of old) (place_of new) h.place (h.capacity 0) i }

@@ -13,6 +13,7 @@ pub use Rattle.tinyvec_slots.specs.Replacing
 pub use Rattle.tinyvec_array.specs.Splice
 pub use Rattle.tinyvec_array.specs.IntoIter
 pub use Rattle.tinyvec_slice.specs.SliceVec
+pub mod View
 pub mod TinyVec
 pub mod Lends
 pub mod Drain

@@ -1,41 +1,32 @@
 -- Growth, reserving room, and moves to the heap. A call and its `try_` form have one word.
-use Rattle.std.specs.Prelude.{◌≡◌, ℕ, ◌+◌, ◌-◌, ◌*◌, ◌<◌, ◌≤◌, ◌↔◌, List, length, if◌then◌else◌, max, false, Result, IsOk, OnOk, OnErr}
+use Rattle.std.specs.Prelude.{◌≡◌, ℕ, ◌+◌, ◌-◌, ◌*◌, ◌<◌, ◌≤◌, ◌↔◌, List, length, false, Result, IsOk, OnOk, OnErr}
 use Rattle.tinyvec_slots.specs.Slots.{AreDefaults}
-use Rattle.tinyvec.specs.TinyVec.{tiny_items, tiny_len, tiny_spare, is_inline, tiny_capacity, IsInline, PlaceRule, TinySlotRule, Unchanged}
+use Rattle.tinyvec.specs.View.{ViewKeepsRoom, ViewDoubles, ViewGrowsTo, ViewGrowsFor, ViewGrows}
+use Rattle.tinyvec.specs.TinyVec.{tiny_view, tiny_items, tiny_len, tiny_spare, is_inline, tiny_capacity, IsInline, PlaceRule, TinySlotRule, Unchanged}
 use Rattle.tinyvec.specs.declared.tiny_vec.TinyVec.{TinyVec}
 
 module _ {A T : Type 0} where
-  -- where there was room for `need` items, the capacity is as it was
+  -- if there was room for `need` items, the capacity is as it was
   abbrev pub KeepsRoom : ℕ → ℕ → TinyVec A T → TinyVec A T → Type 0
-  KeepsRoom slots need old new = need ≤ tiny_capacity slots old → tiny_capacity slots new ≡ tiny_capacity slots old
+  KeepsRoom slots need old new = ViewKeepsRoom slots need (tiny_view old) (tiny_view new)
 
-  -- where there was less room than `need`, the capacity doubled, or became `need` where that is more
+  -- if there was less room than `need`, the capacity doubled, or became `need` if that is more
   abbrev pub Doubles : ℕ → ℕ → TinyVec A T → TinyVec A T → Type 0
-  Doubles slots need old new = tiny_capacity slots old < need
-      → tiny_capacity slots new ≡ max (2 * tiny_capacity slots old) need
+  Doubles slots need old new = ViewDoubles slots need (tiny_view old) (tiny_view new)
 
-  -- where there was less room than `need`, a list that moves got a capacity of `need`, and one on the heap of `room`
+  -- if there was less room than `need`, a list that moves got a capacity of `need`, and one on the heap of `room`
   abbrev pub GrowsTo : ℕ → ℕ → ℕ → TinyVec A T → TinyVec A T → Type 0
-  GrowsTo slots need room old new = tiny_capacity slots old < need → tiny_capacity slots new ≡ (if is_inline old then need else room)
+  GrowsTo slots need room old new = ViewGrowsTo slots need room (tiny_view old) (tiny_view new)
 
-  -- the same, where one on the heap doubled its capacity, or got `need` where that is more
+  -- the same, if one on the heap doubled its capacity, or got `need` if that is more
   abbrev pub GrowsFor : ℕ → ℕ → TinyVec A T → TinyVec A T → Type 0
-  GrowsFor slots need old new = GrowsTo slots need (max (2 * tiny_capacity slots old) need) old new
+  GrowsFor slots need old new = ViewGrowsFor slots need (tiny_view old) (tiny_view new)
 
-  -- a capacity that grew item by item is less than twice the length
-  abbrev pub GrowsInSteps : ℕ → TinyVec A T → TinyVec A T → Type 0
-  GrowsInSteps slots old new = tiny_capacity slots old < tiny_capacity slots new → tiny_capacity slots new < 2 * tiny_len new
+  -- a call that pushes item by item took `old` to `new`: the list moves only if it outgrows the array
+  abbrev pub Grows : (T → Type 0) → ℕ → TinyVec A T → TinyVec A T → Type 0
+  Grows D slots old new = ViewGrows D slots (tiny_view old) (tiny_view new)
 
-  -- a call that pushes item by item took `old` to `new`: the list moves only where it outgrows the array
-  pub record Grows (D : T → Type 0) (slots : ℕ) (old new : TinyVec A T) : Type 0 where
-    pub place : PlaceRule slots (tiny_len new) old new
-    pub slot_rule : TinySlotRule D old new
-    pub capacity : tiny_capacity slots old ≤ tiny_capacity slots new
-    pub same_room : KeepsRoom slots (tiny_len new) old new
-    pub grown : GrowsInSteps slots old new
-    pub fits : tiny_len new ≤ tiny_capacity slots new
-
-  -- `v` is what collecting `xs` makes: inline where they fit the array, before defaults; on the heap its capacity is less than
+  -- `v` is what collecting `xs` makes: inline if they fit the array, before defaults; on the heap its capacity is less than
   -- twice the length
   pub record Collects (D : T → Type 0) (slots : ℕ) (xs : List T) (v : TinyVec A T) : Type 0 where
     pub items : tiny_items v ≡ xs
@@ -64,7 +55,7 @@ module _ {A T X E : Type 0} where
     pub capacity : tiny_capacity slots old ≤ tiny_capacity slots new
     pub fits : tiny_len new ≤ tiny_capacity slots new
     pub grown : OnOk result (GrowsTo slots (tiny_len old + n) heap old new)
-    -- where there is room it allocates nothing, and nothing changes; nor does it on failure
+    -- if there is room it allocates nothing, and nothing changes; nor does it on failure
     pub kept : tiny_len old + n ≤ tiny_capacity slots old → new ≡ old
     pub succeeds : tiny_len old + n ≤ tiny_capacity slots old → IsOk result
     pub full : OnErr result (tiny_capacity slots old < tiny_len old + n)
@@ -91,7 +82,7 @@ module _ {A T X E : Type 0} where
     pub room : OnOk result (tiny_len old + n ≤ tiny_capacity slots new)
     pub fits : tiny_len new ≤ tiny_capacity slots new
     -- A list that moves has room for no further items. On the heap no room is lost, and one that grows does as by `reserve`;
-    -- where there is room it allocates nothing and nothing changes. Nor does it on failure.
+    -- if there is room it allocates nothing and nothing changes. Nor does it on failure.
     pub moved : IsInline old → OnOk result (tiny_capacity slots new ≡ tiny_len old + n)
     pub keeps_room : is_inline old ≡ false → tiny_capacity slots old ≤ tiny_capacity slots new
     pub grown : is_inline old ≡ false → OnOk result (GrowsFor slots (tiny_len old + n) old new)

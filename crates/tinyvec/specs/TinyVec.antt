@@ -1,9 +1,10 @@
 -- What a contract sees of a `TinyVec`: its list, its spare slots, its place, and its capacity.
-use Rattle.std.specs.Prelude.{◌≡◌, ℕ, ◌≤◌, List, [], length, Bool, true, false, IsTrue, ◌↔◌, ◌⊎◌, ◌++◌, All, vec_capacity, ⊤}
+use Rattle.std.specs.Prelude.{◌≡◌, ℕ, List, [], length, Bool, false, IsTrue, ◌⊎◌, ◌++◌, All, vec_capacity}
 use Rattle.std.specs.List.{AllZip}
 use Rattle.std.specs.Global.{Global}
 use Rattle.std.specs.Vec.{vec_allocator}
-use Rattle.tinyvec_slots.specs.Slots.{SlotRule, items, spare}
+use Rattle.tinyvec_slots.specs.Slots.{items, spare}
+use Rattle.tinyvec.specs.View.{Place, in_array, on_heap, lies_inline, capacity_in, TinyView, ViewPlaceRule, ViewSlotRule, ViewStays}
 use Rattle.tinyvec.specs.declared.tiny_vec.TinyVec.{TinyVec}
 use Rattle.tinyvec.specs.declared.tiny_vec.TinyVec.TheVariants.{Inline, Heap}
 
@@ -22,10 +23,18 @@ module _ {A T : Type 0} where
   tiny_spare (Inline v alloc) = spare v
   tiny_spare (Heap v) = []
 
+  -- where the list is
+  abbrev pub place_of : TinyVec A T → Place
+  place_of (Inline v alloc) = in_array
+  place_of (Heap v) = on_heap (vec_capacity v)
+
+  -- list, spare slots and place
+  abbrev pub tiny_view : TinyVec A T → TinyView T
+  tiny_view v = record { items = tiny_items v; spare = tiny_spare v; place = place_of v }
+
   -- `v.is_inline()`
   abbrev pub is_inline : TinyVec A T → Bool
-  is_inline (Inline v alloc) = true
-  is_inline (Heap v) = false
+  is_inline v = lies_inline (place_of v)
 
   -- the list is in the array
   abbrev pub IsInline : TinyVec A T → Type 0
@@ -33,24 +42,21 @@ module _ {A T : Type 0} where
 
   -- `v.capacity()`, if an array has this many slots
   abbrev pub tiny_capacity : ℕ → TinyVec A T → ℕ
-  tiny_capacity slots (Inline v alloc) = slots
-  tiny_capacity slots (Heap v) = vec_capacity v
+  tiny_capacity slots v = capacity_in slots (place_of v)
 
   -- `v.allocator()`
   abbrev pub tiny_allocator : TinyVec A T → Global
   tiny_allocator (Inline v alloc) = alloc
   tiny_allocator (Heap v) = vec_allocator v
 
-  -- The place rule: after a call that needs room for `need` items, the list is inline exactly where it was inline and the
+  -- The place rule: after a call that needs room for `need` items, the list is inline exactly if it was inline and the
   -- need is within the slots.
   abbrev pub PlaceRule : ℕ → ℕ → TinyVec A T → TinyVec A T → Type 0
-  PlaceRule slots need old new = IsInline new ↔ (IsInline old × (need ≤ slots))
+  PlaceRule slots need old new = ViewPlaceRule slots need (tiny_view old) (tiny_view new)
 
-  -- The slot rule of an `ArrayVec`, where the list is inline before and after.
+  -- The slot rule of an `ArrayVec`, if the list is inline before and after.
   abbrev pub TinySlotRule : (T → Type 0) → TinyVec A T → TinyVec A T → Type 0
-  TinySlotRule D (Inline v alloc) (Inline w other) = SlotRule D v w
-  TinySlotRule D (Inline v alloc) (Heap w) = ⊤
-  TinySlotRule D (Heap v) w = ⊤
+  TinySlotRule D old new = ViewSlotRule D (tiny_view old) (tiny_view new)
 
   -- the same length, spare slots, place and capacity
   pub record SameFrame (old new : TinyVec A T) : Type 0 where
@@ -60,11 +66,8 @@ module _ {A T : Type 0} where
     pub capacity : (slots : ℕ) → tiny_capacity slots new ≡ tiny_capacity slots old
 
   -- a call that allocates nothing took `old` to `new`: place and capacity are unchanged, and inline the slot rule holds
-  pub record StaysInPlace (D : T → Type 0) (slots : ℕ) (old new : TinyVec A T) : Type 0 where
-    pub place : is_inline new ≡ is_inline old
-    pub slot_rule : TinySlotRule D old new
-    pub capacity : tiny_capacity slots new ≡ tiny_capacity slots old
-    pub fits : tiny_len new ≤ tiny_capacity slots new
+  abbrev pub StaysInPlace : (T → Type 0) → ℕ → TinyVec A T → TinyVec A T → Type 0
+  StaysInPlace D slots old new = ViewStays D slots (tiny_view old) (tiny_view new)
 
   -- list, spare slots, place and capacity are unchanged
   pub record Unchanged (old new : TinyVec A T) : Type 0 where
@@ -81,7 +84,7 @@ module _ {A T : Type 0} where
     pub place : is_inline w ≡ is_inline v
     pub room : is_inline w ≡ false → tiny_capacity slots w ≡ tiny_len v
 
-  -- `v.clone()` cannot fail: no clone can, where the list is inline; on the heap an empty list allocates nothing
+  -- `v.clone()` cannot fail: no clone can, if the list is inline; on the heap an empty list allocates nothing
   abbrev pub IsTinyInfallible : (T → Type 0) → TinyVec A T → Type 0
   IsTinyInfallible I v =
       (IsInline v × All I (tiny_items v ++ tiny_spare v)) ⊎ ((is_inline v ≡ false) × (tiny_len v ≡ 0))

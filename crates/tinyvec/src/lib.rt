@@ -1,12 +1,12 @@
 //! A vector that is inline, in an array, while its list fits, and then moves to the heap.
 #![tactic(auto)]
 
-mod cloning;
 mod drain;
 mod into_iter;
 mod macros;
 mod splice;
 mod tiny_vec;
+mod tuned;
 
 pub use drain::TinyVecDrain;
 pub use into_iter::TinyVecIterator;

@@ -109,7 +109,7 @@ impl<A: Array> TinyVec<A> {
         // The returned iterator can be iterated further.
         ensures goes_on { IfErr result (λ refused. FusedCan I.IntoIter.can_next refused.rest) }
 
-        // The same of items that are known, as those of a `Vec`, a range or a slice. Where there is room for them it
+        // The same of items that are known, as those of a `Vec`, a range or a slice. If there is room for them it
         // allocates nothing.
         ensures known { (xs : List A.Item) → IntoIterYields I.into_iter_gives I.IntoIter.next_gives replacement xs
             → PutsBetween (tiny_capacity A.CAPACITY self.old) (before (tiny_items self.old) (R.start_bound range)) xs
@@ -137,7 +137,7 @@ impl<A: Array> TinyVec<A> {
         ensures slot_rule { OnOk result (TinySlotRule A.Item.is_default self.old self.new) }
         ensures room { RoomGrows GrowsFor A.CAPACITY (tiny_len self.new) self.old self.new result }
 
-        // Where there is room it allocates nothing.
+        // If there is room it allocates nothing.
         ensures succeeds { length (before (tiny_items self.old) (R.start_bound range)) + length replacement.now
             + length (after (tiny_items self.old) (R.end_bound range)) ≤ tiny_capacity A.CAPACITY self.old
             → IsOk result }
@@ -270,7 +270,7 @@ impl<'a, A: Array, I: Iterator<Item = A::Item>> TinyVecSplice<'a, A, Fuse<I>> {
         ensures goes_on { IfErr result (λ refused. FusedCan I.can_next refused.rest) }
 
         // The same of a replacement that shows its items, and of one whose items are known, as those of a `Vec`, a range or a
-        // slice. Where there is room for them it allocates nothing.
+        // slice. If there is room for them it allocates nothing.
         ensures listed { (rest : I → List A.Item) → ShowsItems I.next_gives rest
             → FinishesWith (fused_rest rest) (tiny_capacity A.CAPACITY self.exit.0.now)
             (splice_view self.entry) result (tiny_items self.exit.0.now) }
@@ -291,7 +291,7 @@ impl<'a, A: Array, I: Iterator<Item = A::Item>> TinyVecSplice<'a, A, Fuse<I>> {
         requires can { SpliceCanNext I.can_next self }
         requires finite { FusedFinite I.remaining (splice_replacement self) }
 
-        // Where the list got no longer the number is exact: two touches for each item placed in a filled gap, and in a
+        // If the list got no longer the number is exact: two touches for each item placed in a filled gap, and in a
         // closed one a further touch for each slot after those.
         ensures filled { tiny_len self.exit.0.now ≡ tiny_len (splice_vec self.entry)
             → result.1 ≡ splice_touches self.entry
@@ -421,8 +421,8 @@ impl<A: Array> CanCut for TinyVec<A> {
     }
 
     #[inline]
-    fn truncate(&mut self, n: usize) {
-        self.truncate(n);
+    fn truncate(&mut self, new_len: usize) {
+        self.truncate(new_len);
     }
 
     ghost written = { tiny_written };

@@ -113,35 +113,35 @@ impl<A: Array> TinyVec<A> {
         TinyVec::Inline(ArrayVec::new(), alloc)
     }
 
-    /// An empty vector with room for `n` items, inline if the array has that room. Otherwise allocates it.
-    pub fn with_capacity(alloc: Global, n: usize) -> Result<Self, AllocError>
+    /// An empty vector with room for `capacity` items, inline if the array has that room. Otherwise allocates it.
+    pub fn with_capacity(alloc: Global, capacity: usize) -> Result<Self, AllocError>
         ensures items { IfOk result (λ v. tiny_items v ≡ []) }
         ensures spare { IfOk result (λ v. IsInline v → AreDefaults A.Item.is_default A.CAPACITY (tiny_spare v)) }
-        ensures place { IfOk result (λ v. IsInline v ↔ (n ≤ A.CAPACITY)) }
-        ensures room { IfOk result (λ v. n ≤ tiny_capacity A.CAPACITY v) }
-        ensures exact { IfOk result (λ v. tiny_capacity A.CAPACITY v ≡ max n A.CAPACITY) }
-        ensures succeeds { n ≤ A.CAPACITY → IsOk result }
+        ensures place { IfOk result (λ v. IsInline v ↔ (capacity ≤ A.CAPACITY)) }
+        ensures room { IfOk result (λ v. capacity ≤ tiny_capacity A.CAPACITY v) }
+        ensures exact { IfOk result (λ v. tiny_capacity A.CAPACITY v ≡ max capacity A.CAPACITY) }
+        ensures succeeds { capacity ≤ A.CAPACITY → IsOk result }
     {
-        if n <= A::CAPACITY {
+        if capacity <= A::CAPACITY {
             return Ok(Self::new(alloc));
         }
-        let heap = Vec::with_capacity(alloc, n)?;
+        let heap = Vec::with_capacity(alloc, capacity)?;
         Ok(TinyVec::Heap(heap))
     }
 
-    /// A vector of `n` defaults, inline if they fit the array. Otherwise room for all is allocated once.
-    pub fn with_initial_len(alloc: Global, n: usize) -> Result<Self, AllocError>
-        ensures items { IfOk result (λ v. AreDefaults A.Item.is_default n (tiny_items v)) }
-        ensures room { IfOk result (λ v. tiny_capacity A.CAPACITY v ≡ max n A.CAPACITY) }
-        ensures spare { IfOk result (λ v. IsInline v → AreDefaults A.Item.is_default (A.CAPACITY - n) (tiny_spare v)) }
-        ensures place { IfOk result (λ v. IsInline v ↔ (n ≤ A.CAPACITY)) }
-        ensures succeeds { n ≤ A.CAPACITY → IsOk result }
+    /// A vector of `len` defaults, inline if they fit the array. Otherwise room for all is allocated once.
+    pub fn with_initial_len(alloc: Global, len: usize) -> Result<Self, AllocError>
+        ensures items { IfOk result (λ v. AreDefaults A.Item.is_default len (tiny_items v)) }
+        ensures room { IfOk result (λ v. tiny_capacity A.CAPACITY v ≡ max len A.CAPACITY) }
+        ensures spare { IfOk result (λ v. IsInline v → AreDefaults A.Item.is_default (A.CAPACITY - len) (tiny_spare v)) }
+        ensures place { IfOk result (λ v. IsInline v ↔ (len ≤ A.CAPACITY)) }
+        ensures succeeds { len ≤ A.CAPACITY → IsOk result }
     {
-        if n <= A::CAPACITY {
-            return Ok(Self::from_array_len(alloc, A::default(), n));
+        if len <= A::CAPACITY {
+            return Ok(Self::from_array_len(alloc, A::default(), len));
         }
-        let mut heap = Vec::with_capacity(alloc, n)?;
-        push_defaults(&mut heap, n);
+        let mut heap = Vec::with_capacity(alloc, len)?;
+        push_defaults(&mut heap, len);
         Ok(TinyVec::Heap(heap))
     }
 

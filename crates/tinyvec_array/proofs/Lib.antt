@@ -1,6 +1,5 @@
 pub mod DrainLemmas
 pub mod DrainEndLemmas
-pub mod EmptiedLemmas
 pub mod IntoIterLemmas
 pub mod IterMutLemmas
 pub mod SpliceLemmas

@@ -1,4 +1,4 @@
--- What an array's slots hold where some of them are lent for writing.
+-- What an array's slots hold when some of them are lent for writing.
 use Rattle.std.proofs.Common.{◌≡◌, ℕ, ◌-◌, List, ◌++◌, length, take, drop, slice_range, sym, ap, take_at}
 use Rattle.std.specs.List.{refill}
 

@@ -1,4 +1,4 @@
--- What an `ArrayVec` ends as, where its items are lent one by one.
+-- What an `ArrayVec` ends as when its items are lent one by one.
 use Rattle.std.specs.Borrow.{Fml, RattleType, MutBor, Array as ListOf, follows}
 use Rattle.std.specs.Slice.Iter.{iter_mut_name}
 use Rattle.std.specs.declared.slice.IterMut.{IterMut}

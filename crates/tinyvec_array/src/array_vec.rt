@@ -3,6 +3,7 @@ ghost use Rattle.std.specs.Prelude.{◌≡◌, ◌+◌, ◌<◌, ◌≤◌, ◌^
 ghost use Rattle.std.specs.List.{remove_range, AllZip};
 ghost use Rattle.tinyvec_slots.specs.Slots.{items, spare, items_len, all_slots, split_at, AreDefaults, with_items};
 ghost use Rattle.tinyvec_slots.specs.Clones.{RefusedAt, ClonesAreEqual};
+ghost use Rattle.tinyvec_slots.specs.Ranges.{Within};
 ghost use Rattle.std.specs.Borrow.{sem};
 ghost use Rattle.std.specs.Slice.Iter.{iter_rest, iter_mut_rest, iter_mut_steps, iter_mut_steps_back};
 ghost use Rattle.std.specs.Iterator.Adapters.{IterYieldsInOrder, IterYieldsInReverse};
@@ -129,20 +130,19 @@ impl<A: Array> ArrayVec<A> {
     }
 
     /// Moves the border between the items and the spare slots. No slot is written.
-    pub fn set_len(&mut self, len: usize)
-        requires { len ≤ A.CAPACITY }
-        ensures value { self.new ≡ split_at len (all_slots self.old) }
-        ensures fits { items_len self.new ≡ len }
+    pub fn set_len(&mut self, new_len: usize)
+        requires { new_len ≤ A.CAPACITY }
+        ensures value { self.new ≡ split_at new_len (all_slots self.old) }
+        ensures fits { items_len self.new ≡ new_len }
     {
         // Tells the proof how many slots there are.
         let _slots = self.array.as_slice();
-        self.len = len;
+        self.len = new_len;
     }
 
     // Moves the items from `start` up to `end` after the others.
     pub(crate) fn move_to_end(&mut self, start: usize, end: usize)
-        requires start_le_end { start ≤ end }
-        requires in_bounds { end ≤ items_len self.old }
+        requires { Within start end (items_len self.old) }
         ensures items { items self.new
             ≡ remove_range (items self.old) start end ++ slice_range (items self.old) start end }
         ensures spare { spare self.new ≡ spare self.old }
@@ -164,7 +164,7 @@ impl<A: Array> ArrayVec<A> {
         mem::take(&mut slots[at])
     }
 
-    // Writes defaults into the first `n` spare slots, or none where there are fewer.
+    // Writes defaults into the first `n` spare slots, or none if there are fewer.
     pub(crate) fn fill_spare_default(&mut self, n: usize)
         ensures items { items self.new ≡ items self.old }
         ensures spare { n ≤ length (spare self.old) → (ds : List A.Item) × AreDefaults A.Item.is_default n ds

@@ -1,20 +1,20 @@
 //! What moves a range of items out of a vector.
-ghost use Rattle.std.specs.Prelude.{◌≡◌, ◌<◌, ◌≤◌, ◌++◌, List, length, take, drop, codes, Some, IfSome, ◌+◌, vec_len, vec_capacity};
+ghost use Rattle.std.specs.Prelude.{◌≡◌, ◌<◌, ◌≤◌, ◌++◌, length, drop, codes, Some, IfSome, ◌+◌, vec_len, vec_capacity};
 ghost use Rattle.std.specs.Fmt.{debug_list, debug_variant};
 ghost use Rattle.std.specs.Iterator.{at_most, UpTo};
 ghost use Rattle.std.specs.Iterator.SizeHint.{IsWithinCount};
 ghost use Rattle.std.specs.Iterator.Runs.{YieldsInOrder, YieldsInReverse};
-ghost use Rattle.tinyvec_slots.specs.Slots.{items, spare, items_len, Vacates, AreDefaults};
+ghost use Rattle.tinyvec_slots.specs.Slots.{items, spare, items_len, Vacates};
 ghost use Rattle.tinyvec_slots.specs.Ranges.{IsRangeOf, before, removed, after};
 ghost use Rattle.tinyvec_array.specs.ToVec.{DrainsToVec};
 
 use crate::slots::bounded_index;
 use crate::{Array, ArrayVec};
 use std::alloc::{AllocError, Global};
+use std::fmt;
 use std::iter::FusedIterator;
 use std::ops::RangeBounds;
-use std::{fmt, mem};
-use tinyvec_slots::{resolve_range, subslice, write_named};
+use tinyvec_slots::{resolve_range, subslice, take_all, write_named};
 
 /// Yields the items of a range, which the list no longer has. When it is dropped, their slots hold defaults.
 pub struct ArrayVecDrain<'a, A: Array> {
@@ -102,21 +102,21 @@ impl<A: Array> ArrayVec<A> {
         self.drain_to_vec(alloc)
     }
 
-    /// Moves the list into a `Vec` that has room for it and for `n` more items, and for no more.
+    /// Moves the list into a `Vec` that has room for it and for `additional` more items, and for no more.
     // Inlined, so that a `TinyVec` takes the `Vec` in registers.
     #[inline(always)]
     pub fn drain_to_vec_and_reserve(
         &mut self,
         alloc: Global,
-        n: usize,
+        additional: usize,
     ) -> Result<Vec<A::Item>, AllocError>
-        ensures { DrainsToVec A.Item.is_default A.CAPACITY n self.old self.new result }
+        ensures { DrainsToVec A.Item.is_default A.CAPACITY additional self.old self.new result }
     {
         let len = self.len();
-        if n > usize::MAX - len {
+        if additional > usize::MAX - len {
             return Err(AllocError);
         }
-        let mut vec = Vec::with_capacity(alloc, len + n)?;
+        let mut vec = Vec::with_capacity(alloc, len + additional)?;
         take_all(self.as_mut_slice(), &mut vec);
         self.set_len(0);
         Ok(vec)
@@ -126,11 +126,11 @@ impl<A: Array> ArrayVec<A> {
     pub fn try_drain_to_vec_and_reserve(
         &mut self,
         alloc: Global,
-        n: usize,
+        additional: usize,
     ) -> Result<Vec<A::Item>, AllocError>
-        ensures { DrainsToVec A.Item.is_default A.CAPACITY n self.old self.new result }
+        ensures { DrainsToVec A.Item.is_default A.CAPACITY additional self.old self.new result }
     {
-        self.drain_to_vec_and_reserve(alloc, n)
+        self.drain_to_vec_and_reserve(alloc, additional)
     }
 }
 
@@ -217,74 +217,4 @@ where
         let vacated = self.vec.grab_spare_slice();
         write_named(f, "ArrayVecDrain", subslice(vacated, self.front, self.back))
     }
-}
-
-// Moves the items of the slots to the end of `vec`, and leaves defaults. Items of 4 to 16 bytes move in blocks: bytes are
-// moved as fast one by one, and a block of large items would fill the stack.
-#[inline(always)]
-fn take_all<T: Default + Drop>(slots: &mut [T], vec: &mut Vec<T>)
-    requires { vec_len vec.old + length slots.old ≤ vec_capacity vec.old }
-    ensures items { vec.new.items ≡ vec.old.items ++ slots.old }
-    ensures capacity { vec_capacity vec.new ≡ vec_capacity vec.old }
-    ensures emptied { AreDefaults T.is_default (length slots.old) slots.new }
-{
-    if slots.is_empty() {
-        return;
-    }
-    let size = slots[..1].len() * mem::size_of::<T>();
-    if size < 4 || size > 16 {
-        return take_each(slots, vec);
-    }
-    let most = take_blocks::<T, 16>(slots, vec);
-    let more = most + take_blocks::<T, 4>(&mut slots[most..], vec);
-    take_each(&mut slots[more..], vec);
-}
-
-// Like `take_all`, item by item.
-#[inline(always)]
-fn take_each<T: Default + Drop>(slots: &mut [T], vec: &mut Vec<T>)
-    requires { vec_len vec.old + length slots.old ≤ vec_capacity vec.old }
-    ensures items { vec.new.items ≡ vec.old.items ++ slots.old }
-    ensures capacity { vec_capacity vec.new ≡ vec_capacity vec.old }
-    ensures emptied { AreDefaults T.is_default (length slots.old) slots.new }
-{
-    for slot in slots.iter_mut() {
-        vec.push_reserved(mem::take(slot));
-    }
-}
-
-// Takes blocks of N items while N are left, and returns the number of items taken.
-#[inline(always)]
-fn take_blocks<T: Default + Drop, const N: usize>(slots: &mut [T], vec: &mut Vec<T>) -> usize
-    requires some { 0 < N }
-    requires room { vec_len vec.old + length slots.old ≤ vec_capacity vec.old }
-    ensures within { result ≤ length slots.old }
-    ensures items { vec.new.items ≡ vec.old.items ++ take result slots.old }
-    ensures capacity { vec_capacity vec.new ≡ vec_capacity vec.old }
-    ensures emptied { (ds : List T) × AreDefaults T.is_default result ds × (slots.new ≡ ds ++ drop result slots.old) }
-{
-    let mut done = 0;
-    while N <= slots.len() - done {
-        take_block::<T, N>(&mut slots[done..], vec);
-        done += N;
-    }
-    done
-}
-
-// Takes the first N items. All are read before one is written, so LLVM moves a block in registers.
-#[inline(always)]
-fn take_block<T: Default + Drop, const N: usize>(slots: &mut [T], vec: &mut Vec<T>)
-    requires enough { N ≤ length slots.old }
-    requires room { vec_len vec.old + N ≤ vec_capacity vec.old }
-    ensures items { vec.new.items ≡ vec.old.items ++ take N slots.old }
-    ensures capacity { vec_capacity vec.new ≡ vec_capacity vec.old }
-    ensures emptied { (ds : List T) × AreDefaults T.is_default N ds × (slots.new ≡ ds ++ drop N slots.old) }
-{
-    // Tells the proof that the items fit in memory.
-    let _bytes = slots.len() * mem::size_of::<T>();
-    let Some(first) = slots.first_chunk_mut::<N>() else {
-        unreachable!();
-    };
-    let mut block = mem::take(first);
-    take_each(&mut block, vec);
 }

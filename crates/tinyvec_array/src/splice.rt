@@ -363,8 +363,8 @@ impl<A: Array> CanCut for ArrayVec<A> {
     }
 
     #[inline]
-    fn truncate(&mut self, n: usize) {
-        self.truncate(n);
+    fn truncate(&mut self, new_len: usize) {
+        self.truncate(new_len);
     }
 
     ghost written = { slots_written };

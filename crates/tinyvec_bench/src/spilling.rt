@@ -13,6 +13,7 @@ pub enum Spill {
     Push,
     ExtendFromSlice,
     ExtendFromRange,
+    ReserveAndExtend,
     Append,
     InsertFront,
     InsertMiddle,
@@ -36,6 +37,9 @@ impl<const N: usize> Bench<Spill> for SpillBench<N> {
             Spill::Push => push::<N>(self.alloc, &self.other, twice, x),
             Spill::ExtendFromSlice => extend_from_slice(self.alloc, &self.other, &self.source, x),
             Spill::ExtendFromRange => extend_from_range::<N>(self.alloc, &self.other, twice, x),
+            Spill::ReserveAndExtend => {
+                reserve_and_extend::<N>(self.alloc, &self.other, N.saturating_add(N), x)
+            }
             Spill::Append => append(self.alloc, &mut self.other, &self.source, x),
             Spill::InsertFront => insert(self.alloc, &self.other, &self.source, 0, x),
             Spill::InsertMiddle => insert(self.alloc, &self.other, &self.source, N / 2, x),
@@ -63,6 +67,7 @@ pub fn of_spilling<R: Runtime, const N: usize>(report: &mut Report<'_, R>, alloc
     report.run("push", N, Spill::Push, &mut list);
     report.run("extend_from_slice", N, Spill::ExtendFromSlice, &mut list);
     report.run("extend_from_range", N, Spill::ExtendFromRange, &mut list);
+    report.run("reserve_and_extend", N, Spill::ReserveAndExtend, &mut list);
     report.run("append", N, Spill::Append, &mut list);
     report.run("insert_front", N, Spill::InsertFront, &mut list);
     report.run("insert_middle", N, Spill::InsertMiddle, &mut list);
@@ -128,6 +133,25 @@ pub fn extend_from_range<const N: usize>(
     let mut vec = TinyVec::<[u64; N]>::new(alloc);
     let start = x % 65536;
     match vec.extend(start..start.saturating_add(count)) {
+        Ok(()) => look_at(vec.as_slice(), x),
+        Err(_) => 0,
+    }
+}
+
+// The same, after room for them is reserved.
+#[inline(never)]
+fn reserve_and_extend<const N: usize>(
+    alloc: Global,
+    _like: &TinyVec<[u64; N]>,
+    count: usize,
+    x: u64,
+) -> u64 {
+    let mut vec = TinyVec::<[u64; N]>::new(alloc);
+    if vec.reserve(count).is_err() {
+        return 0;
+    }
+    let start = x % 65536;
+    match vec.extend(start..start.saturating_add(count as u64)) {
         Ok(()) => look_at(vec.as_slice(), x),
         Err(_) => 0,
     }

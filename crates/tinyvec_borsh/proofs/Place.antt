@@ -2,7 +2,7 @@
 use Rattle.std.proofs.Common.{◌≡◌, ◌∙◌, ◌*◌, max, Bool, true, if◌then◌else◌, sym, subst, IsTrue, ◌<◌, ◌≤◌, ◌-◌, ◌++◌, [], drop, ◌↔◌, inl, inr, ℕ, arith, false, refl, Result, Err, IsOk, is_ok, ap}
 use Rattle.std.proofs.lemmas.List.{nil_from_length, length-drop}
 use Rattle.std.proofs.lemmas.List.Elements.{All-drop}
-use Rattle.tinyvec_slots.specs.Slots.{AreDefaults, items_len, spare}
+use Rattle.tinyvec_slots.specs.Slots.{AreDefaults}
 use Rattle.std.proofs.lemmas.Bool.{both_ways, cases_lt}
 use Rattle.tinyvec.specs.TinyVec.{tiny_len, tiny_spare, tiny_capacity, is_inline, IsInline, PlaceRule, TinySlotRule}
 use Rattle.tinyvec.specs.Room.{KeepsRoom, GrowsFor}
@@ -33,14 +33,15 @@ module _ {A T : Type 0} where
   -- A list that got longer in its place used up defaults, where the slots after it were defaults.
   pub spare-longer : (D : T → Type 0) (slots : ℕ) (old new : TinyVec A T) → tiny_len old ≤ tiny_len new → PlaceRule slots (tiny_len new) old new → TinySlotRule D old new
       → (IsInline old → AreDefaults D (slots - tiny_len old) (tiny_spare old)) → IsInline new → AreDefaults D (slots - tiny_len new) (tiny_spare new)
-  spare-longer D slots (Inline v a) (Inline w b) longer rule used before h =
-      let were = before h in
-      let none : used.0 ≡ [] = nil_from_length used.0 (omega (arith, used.1.0, longer)) in
-      let is : spare w ≡ drop (items_len w - items_len v) (spare v) = used.2 ∙ ap (λ ds. ds ++ drop (items_len w - items_len v) (spare v)) none in
-      let long = length-drop (items_len w - items_len v) (spare v) in
-      subst (AreDefaults D (slots - items_len w)) (sym is) (omega (arith, long, were.0, longer), All-drop D (items_len w - items_len v) (spare v) were.1)
-  spare-longer D slots (Inline v a) (Heap w) longer rule used before h = absurd (both_ways false refl h)
-  spare-longer D slots (Heap v) new longer rule used before h = absurd (both_ways false refl (rule.0 h).0)
+  spare-longer D slots old new longer rule used before h =
+      let was = (rule.0 h).0 in
+      let were = before was in
+      let u = used was h in
+      let n = tiny_len new - tiny_len old in
+      let none : u.0 ≡ [] = nil_from_length u.0 (omega (arith, u.1.0, longer)) in
+      let is : tiny_spare new ≡ drop n (tiny_spare old) = u.2 ∙ ap (λ ds. ds ++ drop n (tiny_spare old)) none in
+      let long = length-drop n (tiny_spare old) in
+      subst (AreDefaults D (slots - tiny_len new)) (sym is) (omega (arith, long, were.0, longer), All-drop D n (tiny_spare old) were.1)
 
   -- a list that grows to n items, of which there will be at most `count`, has room for at most twice as many, if not for more before
   pub room-grown : (slots n count : ℕ) (old new : TinyVec A T) → KeepsRoom slots n old new → GrowsFor slots n old new → n ≤ count

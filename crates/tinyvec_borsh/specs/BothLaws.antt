@@ -1,4 +1,4 @@
--- Where two spellings are codes, so is the one after the other, and no input is two of fitting, cut and too long.
+-- If two spellings are codes, so is the one after the other, and no input is two of fitting, cut and too long.
 use Rattle.std.proofs.Common.{◌≡◌, ◌∙◌, sym, subst, ℕ, inl, inr, List, ◌++◌, arith}
 use Rattle.tinyvec_borsh.specs.Code.{IsCode}
 use Rattle.tinyvec_borsh.specs.Apart.{AreApart}

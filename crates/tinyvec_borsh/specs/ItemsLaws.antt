@@ -1,4 +1,4 @@
--- Where the items' spelling is a code, so is that of lists, and no input is two of fitting, cut and too long.
+-- If the items' spelling is a code, so is that of lists, and no input is two of fitting, cut and too long.
 use Rattle.std.proofs.Common.{◌≡◌, ◌∙◌, ap, sym, subst, ℕ, ◌<◌, ◌⊎◌, inl, inr, List, [], ◌∷◌, ◌++◌, length, refl, arith, append-nil, length-append, lit<}
 use Rattle.std.specs.List.{AllByRecursion}
 use Rattle.std.proofs.lemmas.Bool.{cases_lt}
@@ -59,7 +59,7 @@ module _ {C : Type 0} (Spells : C → List ℕ → Type 0) (code : IsCode Spells
       let more = same-items cs ds p.rest q.rest x y (omega arith) p.is_rest q.is_rest item.2 in
       ((λ i. item.0 i ∷ more.0 i), more.1)
 
-  -- where more items are known to stand, one stands after the first ones
+  -- if more items are known to stand, one stands after the first ones
   pub next-item : (Fits : C → Type 0) (cs ds : List C) (a b x y : List ℕ) → length cs < length ds → SpellsItems Spells cs a → SpellsItems Spells ds b → a ++ x ≡ b ++ y
       → (d : C) × HasParts (Spells d) (λ _. Unit {0}) x × (AllByRecursion Fits ds → Fits d)
   next-item Fits [] [] a b x y n p q e = absurd (omega arith)

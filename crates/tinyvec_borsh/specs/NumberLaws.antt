@@ -31,7 +31,7 @@ number_code width some = record {
       sym p.value ∙ ap number_of (sym (append-nil a) ∙ ap (λ l. a ++ l) (sym none)) ∙ q.value;
 }
 
--- Where each spelling has so many bytes, an input with fewer is cut, and none is too long.
+-- If each spelling has so many bytes, an input with fewer is cut, and none is too long.
 pub apart_by_length : {C : Type 0} (width : ℕ) (Spells : C → List ℕ → Type 0) (Fits : C → Type 0) → ((c : C) (bytes : List ℕ) → Spells c bytes → length bytes ≡ width) → AreApart Spells Fits (λ input. length input < width) (λ _. ⊥)
 apart_by_length width Spells Fits many = record {
   spelled_or_cut = λ c bytes rest p cut. omega (arith, many c bytes p, length-append bytes rest);

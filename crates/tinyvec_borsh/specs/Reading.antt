@@ -8,7 +8,7 @@ use Rattle.tinyvec_borsh.specs.TwoParts.{HasParts}
 use Rattle.tinyvec_borsh.specs.declared.borsh_error.BorshError.{BorshError}
 use Rattle.tinyvec_borsh.specs.declared.borsh_error.BorshError.TheVariants.{Ended, InvalidLength, Io, Memory}
 
--- the input is so, where it is known; else it may be so
+-- the input is so, if it is known; else it may be so
 abbrev pub MayBe : Option (List ℕ) → (List ℕ → Type 0) → Type 0
 MayBe None P = (input : List ℕ) × P input
 MayBe (Some input) P = P input
@@ -27,8 +27,8 @@ pub record TakesSome (old new : Option (List ℕ)) (error : BorshError) : Type 0
   pub taken : Consumes old new bytes
   pub end : error ≡ Ended → IsAtEnd new
 
--- Why nothing was read. `Ended` comes only where the input is cut, `InvalidLength` only where it is too long, `Memory` only
--- where memory may be asked for, and `Io` only where the reader reported a fault.
+-- Why nothing was read. `Ended` comes only if the input is cut, `InvalidLength` only if it is too long, `Memory` only
+-- if memory may be asked for, and `Io` only if the reader reported a fault.
 abbrev pub Fails : (IsCut IsTooLong MayAllocate : List ℕ → Type 0) → Option (List ℕ) → ℕ → ℕ → BorshError → Type 0
 Fails IsCut IsTooLong MayAllocate input old_faults new_faults Ended = MayBe input IsCut
 Fails IsCut IsTooLong MayAllocate input old_faults new_faults InvalidLength = MayBe input IsTooLong

@@ -3,7 +3,7 @@ use Rattle.std.specs.Prelude.{ℕ, List, Option}
 use Rattle.std.specs.Io.KnownBytes.{Appends}
 use Rattle.tinyvec_io.specs.Counted.{AppendsFront}
 
--- What was written spells it, and was added to what the writer had, where that is known.
+-- What was written spells it, and was added to what the writer had, if that is known.
 abbrev pub WritesSpelling : (List ℕ → Type 0) → Option (List ℕ) → Option (List ℕ) → Type 0
 WritesSpelling SpellsIt old new = (bytes : List ℕ) × SpellsIt bytes × Appends old new bytes
 

@@ -23,10 +23,8 @@ pub fn one_for_two(alloc: Global) -> Result<Spliced, AllocError>
     let mut vec = ArrayVec::from_array_len([1, 2, 3, 4], 4);
     let replacement = Vec::from_array(alloc, [7])?;
     let word = [End::Front, End::Back];
-    match drive_array_splice(alloc, &mut vec, 1, 3, replacement, &word) {
-        Ok(driven) => Ok(Spliced { driven, vec }),
-        Err(_) => Err(AllocError),
-    }
+    let driven = drive_array_splice(alloc, &mut vec, 1, 3, replacement, &word)?;
+    Ok(Spliced { driven, vec })
 }
 
 /// The same with four numbers, of which the first and the last find room.
@@ -38,10 +36,8 @@ pub fn four_for_two(alloc: Global) -> Result<Spliced, AllocError>
     let mut vec = ArrayVec::from_array_len([1, 2, 3, 4], 4);
     let replacement = Vec::from_array(alloc, [6, 7, 8, 9])?;
     let word = [End::Front, End::Back];
-    match drive_array_splice(alloc, &mut vec, 1, 3, replacement, &word) {
-        Ok(driven) => Ok(Spliced { driven, vec }),
-        Err(_) => Err(AllocError),
-    }
+    let driven = drive_array_splice(alloc, &mut vec, 1, 3, replacement, &word)?;
+    Ok(Spliced { driven, vec })
 }
 
 #[test]

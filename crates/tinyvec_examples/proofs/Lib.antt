@@ -1,4 +1,5 @@
-pub mod DrainEnded
 pub mod BothEnds
-pub mod SpliceEnded
+pub mod DrainEnded
+pub mod Punycode
 pub mod SpliceCounted
+pub mod SpliceEnded

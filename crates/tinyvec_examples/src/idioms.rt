@@ -63,35 +63,32 @@ pub fn counted_owned(v: TinyVec<[u32; 4]>) -> usize
 
 /// `for x in v`, of a lent vector.
 pub fn has_one(v: &TinyVec<[u32; 4]>) -> bool {
-    let mut has = false;
     for x in v {
         if *x == 1 {
-            has = true;
+            return true;
         }
     }
-    has
+    false
 }
 
 /// `for x in v.iter()`.
 pub fn has_one_by_iter(v: &TinyVec<[u32; 4]>) -> bool {
-    let mut has = false;
     for x in v.iter() {
         if *x == 1 {
-            has = true;
+            return true;
         }
     }
-    has
+    false
 }
 
 /// `for x in v`, of an owned vector.
 pub fn had_one(v: TinyVec<[u32; 4]>) -> bool {
-    let mut has = false;
     for x in v {
         if x == 1 {
-            has = true;
+            return true;
         }
     }
-    has
+    false
 }
 
 /// `for x in v`, of one that is lent for writing.
@@ -174,12 +171,13 @@ pub fn reverse(v: &mut TinyVec<[u32; 4]>) {
 }
 
 /// `v.windows(2)`.
-pub fn has_pair(v: &TinyVec<[u32; 4]>) -> bool {
-    let mut has = false;
-    for _pair in v.windows(2) {
-        has = true;
+pub fn has_repeat(v: &TinyVec<[u32; 4]>) -> bool {
+    for pair in v.windows(2) {
+        if pair[0] == pair[1] {
+            return true;
+        }
     }
-    has
+    false
 }
 
 /// `v.starts_with(b"ab")`.
@@ -200,7 +198,7 @@ pub fn begins_with_a(v: &TinyVec<[u8; 4]>) -> bool {
     }
 }
 
-/// A pattern of as many items.
+/// A pattern of two items.
 pub fn is_pair_of_equals(v: &TinyVec<[u8; 4]>) -> bool {
     match v.as_slice() {
         [a, b] => *a == *b,
@@ -209,12 +207,13 @@ pub fn is_pair_of_equals(v: &TinyVec<[u8; 4]>) -> bool {
 }
 
 /// `v.iter().rev()`.
-pub fn has_any(v: &TinyVec<[u8; 4]>) -> bool {
-    let mut has = false;
-    for _x in v.iter().rev() {
-        has = true;
+pub fn last_even(v: &TinyVec<[u8; 4]>) -> Option<u8> {
+    for x in v.iter().rev() {
+        if *x % 2 == 0 {
+            return Some(*x);
+        }
     }
-    has
+    None
 }
 
 /// `str::from_utf8(&v).ok()`.
@@ -222,7 +221,7 @@ pub fn text(v: &TinyVec<[u8; 4]>) -> Option<&str> {
     str::from_utf8(v.as_slice()).ok()
 }
 
-/// `str::from_utf8(&v)`, with a text for what is none.
+/// `str::from_utf8(&v)`, with an empty text for bytes that are no UTF-8.
 pub fn text_or_empty(v: &TinyVec<[u8; 8]>) -> &str {
     match str::from_utf8(v) {
         Ok(text) => text,
@@ -321,7 +320,7 @@ pub fn has_lists(v: &TinyVec<[Option<TinyVec<[u8; 4]>>; 4]>) -> bool {
     !v.is_empty()
 }
 
-/// What has a vector in it derives `Clone`.
+/// A struct with a vector in it derives `Clone`.
 #[derive(Clone, Drop)]
 pub struct Named {
     pub name: TinyVec<[u8; 8]>,

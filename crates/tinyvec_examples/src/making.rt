@@ -26,7 +26,7 @@ pub fn full_list<A: Array>(array: A) -> ArrayVec<A>
     ensures items { items result ≡ A.slots array }
     ensures spare { spare result ≡ [] }
 {
-    // For the proof: the number of slots.
+    // How many slots the array has is known once a call says so.
     let _slots = array.as_slice();
     converted(array)
 }

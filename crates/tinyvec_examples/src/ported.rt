@@ -1,5 +1,8 @@
-//! Code as programs over Rust's `tinyvec` have it, ported. Each file is proved safe with no file of proof.
+//! Code as programs over Rust's `tinyvec` have it, ported. Each file is proved with no file of proof, but for `punycode`,
+//! which states what it writes, as `date` does.
+pub mod date;
 pub mod marks;
 pub mod own_error;
+pub mod punycode;
 pub mod question;
 pub mod sentence;

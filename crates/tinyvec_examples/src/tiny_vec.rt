@@ -53,7 +53,7 @@ pub fn there_and_back<A: Array>(v: &mut TinyVec<A>) -> Result<(), AllocError>
     ensures items { tiny_items v.new ≡ tiny_items v.old }
     ensures place { IsInline v.old → IsInline v.new }
 {
-    // It tells the proof that the list fits the array where it is there.
+    // A vector that was lent is not known to fit until a call says so.
     let _len = v.len();
     v.move_to_the_heap()?;
     v.shrink_to_fit();

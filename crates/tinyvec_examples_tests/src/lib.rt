@@ -1,21 +1,13 @@
-//! The examples whose clauses speak of a success alone, run.
+//! The examples whose clauses speak of a success alone, run, and texts that no clause states.
 #![tactic(auto)]
 
 #[cfg(test)]
-mod clones;
+mod errors;
 #[cfg(test)]
 mod fields;
 #[cfg(test)]
 mod filters;
 #[cfg(test)]
-mod known_items;
-#[cfg(test)]
-mod macros;
-#[cfg(test)]
-mod printing;
+mod granted;
 #[cfg(test)]
 mod splices;
-#[cfg(test)]
-mod tiny_vec;
-#[cfg(test)]
-mod writing;

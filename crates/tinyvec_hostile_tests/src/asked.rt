@@ -1,6 +1,6 @@
 //! A hint that is read, a bound of a range that is read twice, and a writer that is asked after it failed would pass the
 //! check.
-ghost use Rattle.std.specs.Prelude.{◌≡◌, ◌-◌, ⊤};
+ghost use Rattle.std.specs.Prelude.{◌≡◌, ⊤};
 ghost use Rattle.std.specs.Iterator.{at_most};
 ghost use Rattle.std.specs.declared.ops.Bound.TheVariants.{Included, Excluded};
 
@@ -11,88 +11,109 @@ use std::fmt::{Debug, Display, Write};
 use std::ops::{Bound, RangeBounds};
 use std::test::Fail;
 use tinyvec::{ArrayVec, SliceVec, TinyVec};
-use tinyvec_test_items::{all_right, first, granted_ok};
-use tinyvec_test_looks::steps::granted;
+use tinyvec_test_items::all_steps;
+use tinyvec_test_looks::granted;
 
 // Counts one more.
 fn count(asked: &Cell<usize>) {
     asked.set(asked.get().wrapping_add(1));
 }
 
-// Gives the numbers below `end`, and counts how often it is asked for a hint.
+// Yields 5, 6 and 7, and counts how often it is asked for a hint. Its hint says nothing, or promises more items than come.
 #[derive(Drop)]
 struct Hinting<'a> {
-    next: u8,
-    end: u8,
+    number: i32,
+    promised: usize,
+    kept_back: usize,
+    is_silent: bool,
     asked: &'a Cell<usize>,
 }
 
 impl<'a> Iterator for Hinting<'a> {
     type Item = i32;
 
-    ghost remaining = { λ s. at_most (s.end - s.next) };
+    ghost remaining = { λ s. at_most s.promised };
 
     fn next(&mut self) -> Option<i32> {
-        if self.next >= self.end {
+        if self.promised <= self.kept_back {
             return None;
         }
-        let given = self.next;
-        self.next += 1;
-        Some(i32::from(given))
+        self.promised -= 1;
+        let number = self.number;
+        self.number = number.wrapping_add(1);
+        Some(number)
     }
 
     fn size_hint(&self) -> (usize, Option<usize>) {
         count(self.asked);
-        (0, None)
+        if self.is_silent {
+            return (0, None);
+        }
+        (self.promised, Some(self.promised))
     }
 }
 
-// The numbers from 5 up to 8.
-fn three(asked: &Cell<usize>) -> Hinting<'_> {
+// It promises this many items, or is silent at 0.
+fn three(asked: &Cell<usize>, promised: usize) -> Hinting<'_> {
     Hinting {
-        next: 5,
-        end: 8,
+        number: 5,
+        promised: promised.max(3),
+        kept_back: promised.saturating_sub(3),
+        is_silent: promised == 0,
         asked,
     }
 }
 
+const PROMISED: [usize; 3] = [0, 4, usize::MAX];
+
 #[test]
 fn hints_of_what_fills_an_array_or_a_slice(rt: HostRuntime) -> Result<(), Fail> {
     let asked = Cell::new(0);
-    let mut v = ArrayVec::from_array_len([1, 2, 0, 0, 0, 0, 0, 0], 2);
-    let mut slots = [1, 0, 0, 0, 0];
-    let mut lent = SliceVec::from_slice_len(&mut slots, 1);
-    let mut wrong = 0;
-    wrong = first(wrong, 1, v.extend(three(&asked)).is_ok());
-    let _rest = v.fill(three(&asked));
-    wrong = first(wrong, 2, v.len() == 8);
-    wrong = first(wrong, 3, v.splice_all(.., three(&asked)).is_ok());
-    v.clear();
-    wrong = first(wrong, 4, v.splice_all(.., three(&asked)).is_ok());
-    wrong = first(
-        wrong,
-        5,
-        ArrayVec::<[i32; 3]>::from_iter(three(&asked)).is_ok(),
-    );
-    wrong = first(wrong, 6, lent.extend(three(&asked)).is_ok());
-    let _rest = lent.fill(three(&asked));
-    wrong = first(wrong, 7, lent.is_full());
-    wrong = first(wrong, 8, asked.get() == 0);
-    all_right(wrong)
+    for promised in PROMISED {
+        let mut v = ArrayVec::<[i32; 7]>::new();
+        let mut slots = [0; 7];
+        let mut lent = SliceVec::from_slice_len(&mut slots, 0);
+        let is_extended = v.extend(three(&asked, promised)).is_ok();
+        let is_filled = v.fill(three(&asked, promised)).next().is_none() & (v.len() == 6);
+        let is_spliced = v.splice_all(.., three(&asked, promised)).is_ok() & (v.len() == 3);
+        v.clear();
+        let is_appended = v.splice_all(.., three(&asked, promised)).is_ok() & (v.len() == 3);
+        let mut splice = v.splice(.., three(&asked, promised));
+        let is_taken = splice.next() == Some(5);
+        let is_stopped = splice.stop().next() == Some(6);
+        all_steps(&[
+            is_extended & is_filled,
+            is_spliced & is_appended,
+            is_taken & is_stopped & (v.as_slice() == [5].as_slice()),
+            ArrayVec::<[i32; 3]>::from_iter(three(&asked, promised)).is_ok(),
+            lent.extend(three(&asked, promised)).is_ok() & (lent.len() == 3),
+            lent.fill(three(&asked, promised)).next().is_none() & (lent.len() == 6),
+            asked.get() == 0,
+        ])?;
+    }
+    Ok(())
 }
 
 #[test]
 fn hints_of_what_fills_a_tiny_vec(rt: HostRuntime) -> Result<(), Fail> {
     let asked = Cell::new(0);
-    let mut v = TinyVec::from_array_len(rt.alloc(), [1, 2, 0, 0], 2);
-    let mut wrong = 0;
-    let made = TinyVec::<[i32; 2]>::from_iter(rt.alloc(), three(&asked));
-    wrong = granted_ok(wrong, 1, granted(made.map(|_| ())));
-    wrong = granted_ok(wrong, 2, granted(v.extend(three(&asked))));
-    wrong = granted_ok(wrong, 3, granted(v.splice_all(1.., three(&asked))));
-    wrong = granted_ok(wrong, 4, granted(v.splice_all(..1, three(&asked))));
-    wrong = first(wrong, 5, asked.get() == 0);
-    all_right(wrong)
+    for promised in PROMISED {
+        let made = TinyVec::<[i32; 2]>::from_iter(rt.alloc(), three(&asked, promised));
+        let mut v = made.map_err(|_| AllocError)?;
+        let is_extended = granted(v.extend(three(&asked, promised)))? & (v.len() == 6);
+        let is_spliced = granted(v.splice_all(.., three(&asked, promised)))? & (v.len() == 3);
+        v.clear();
+        let is_appended = granted(v.splice_all(.., three(&asked, promised)))? & (v.len() == 3);
+        let mut splice = v.splice(.., three(&asked, promised));
+        let is_taken = splice.next() == Some(5);
+        let is_stopped = splice.stop().next() == Some(6);
+        all_steps(&[
+            is_extended & is_spliced & is_appended,
+            is_taken & is_stopped & (v.as_slice() == [5].as_slice()),
+            asked.get() == 0,
+        ])?;
+    }
+    Ok(())
 }
 
 // How often each bound of a range was asked for.
@@ -152,39 +173,26 @@ impl<'a> RangeBounds<usize> for Second<'a> {
 }
 
 #[test]
-fn bounds_of_a_range_of_an_array_or_a_slice(rt: HostRuntime) -> Result<(), Fail> {
+fn bounds_of_a_range(rt: HostRuntime) -> Result<(), Fail> {
     let asked = Bounds::default();
-    let mut v = ArrayVec::from_array([1, 2, 3]);
     let mut slots = [1, 2, 3];
-    let mut wrong = 0;
-    wrong = first(wrong, 1, v.drain(Second::of(&asked)).next() == Some(2));
-    wrong = first(wrong, 2, asked.are_asked_once());
-    let mut v = ArrayVec::from_array([1, 2, 3]);
-    wrong = first(wrong, 3, v.splice(Second::of(&asked), [7]).finish().is_ok());
-    wrong = first(wrong, 4, asked.are_asked_once());
-    let mut v = ArrayVec::from_array([1, 2, 3]);
-    wrong = first(wrong, 5, v.replace_range(Second::of(&asked), &[8]).is_ok());
-    wrong = first(wrong, 6, asked.are_asked_once());
     let mut lent = SliceVec::from_slice(&mut slots);
     lent.drain_each(Second::of(&asked), &mut |_| {});
-    wrong = first(wrong, 7, asked.are_asked_once());
-    all_right(wrong)
-}
-
-#[test]
-fn bounds_of_a_range_of_a_tiny_vec(rt: HostRuntime) -> Result<(), Fail> {
-    let asked = Bounds::default();
+    let of_a_slice = asked.are_asked_once();
+    let mut v = ArrayVec::from_array([1, 2, 3]);
+    let drains = (v.drain(Second::of(&asked)).next() == Some(2)) & asked.are_asked_once();
+    let mut v = ArrayVec::from_array([1, 2, 3]);
+    let splices = v.splice(Second::of(&asked), [7]).finish().is_ok() & asked.are_asked_once();
+    let mut v = ArrayVec::from_array([1, 2, 3]);
+    let replaces = v.replace_range(Second::of(&asked), &[8]).is_ok() & asked.are_asked_once();
+    all_steps(&[of_a_slice, drains, splices, replaces])?;
     let mut v = TinyVec::from_array(rt.alloc(), [1, 2, 3]);
-    let mut wrong = 0;
-    wrong = first(wrong, 1, v.drain(Second::of(&asked)).next() == Some(2));
-    wrong = first(wrong, 2, asked.are_asked_once());
+    let drains = (v.drain(Second::of(&asked)).next() == Some(2)) & asked.are_asked_once();
     let mut v = TinyVec::from_array(rt.alloc(), [1, 2, 3]);
-    wrong = first(wrong, 3, v.splice(Second::of(&asked), [7]).finish().is_ok());
-    wrong = first(wrong, 4, asked.are_asked_once());
+    let splices = v.splice(Second::of(&asked), [7]).finish().is_ok() & asked.are_asked_once();
     let mut v = TinyVec::from_array(rt.alloc(), [1, 2, 3]);
-    wrong = first(wrong, 5, v.replace_range(Second::of(&asked), &[8]).is_ok());
-    wrong = first(wrong, 6, asked.are_asked_once());
-    all_right(wrong)
+    let replaces = v.replace_range(Second::of(&asked), &[8]).is_ok() & asked.are_asked_once();
+    all_steps(&[drains, splices, replaces])
 }
 
 // An item whose text is one piece.
@@ -255,30 +263,17 @@ fn is_debugged<V: Debug>(v: &V) -> bool {
 
 #[test]
 fn pieces_of_texts(rt: HostRuntime) -> Result<(), Fail> {
-    let mut wrong = 0;
     let mut v = ArrayVec::<[Mark; 3]>::new();
-    wrong = first(wrong, 1, is_written(&v, 0));
-    wrong = first(wrong, 2, v.try_push(Mark(1)).is_none() & is_written(&v, 1));
-    wrong = first(wrong, 3, v.try_push(Mark(2)).is_none() & is_written(&v, 2));
-    wrong = first(wrong, 4, v.try_push(Mark(3)).is_none() & is_written(&v, 3));
-    wrong = first(wrong, 5, is_written(&TinyVec::Inline(v, rt.alloc()), 3));
-    wrong = first(
-        wrong,
-        6,
+    for items in 0..3_usize {
+        all_steps(&[is_written(&v, items), v.try_push(Mark(1)).is_none()])?;
+    }
+    let heap = TinyVec::<[Mark; 1]>::from_slice(rt.alloc(), v.as_slice())?;
+    all_steps(&[
+        is_written(&v, 3),
+        is_written(&TinyVec::Inline(v, rt.alloc()), 3),
+        is_written(&heap, 3),
         is_written(&SliceVec::from_slice(v.as_mut_slice()), 3),
-    );
-    wrong = first(wrong, 7, is_debugged(&v));
-    wrong = first(wrong, 8, is_debugged(&v.into_iter()));
-    all_right(wrong)
-}
-
-fn heap_is_written(alloc: std::alloc::Global) -> Result<bool, AllocError> {
-    let v = TinyVec::<[Mark; 1]>::from_slice(alloc, &[Mark(1), Mark(2)])?;
-    Ok(v.is_heap() & is_written(&v, 2))
-}
-
-#[test]
-fn pieces_of_a_text_on_the_heap(rt: HostRuntime) -> Result<(), Fail> {
-    let wrong = granted_ok(0, 1, heap_is_written(rt.alloc()));
-    all_right(wrong)
+        is_debugged(&v),
+        is_debugged(&v.into_iter()),
+    ])
 }

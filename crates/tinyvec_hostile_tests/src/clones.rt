@@ -1,12 +1,11 @@
-//! A clone too many, and one after the one that is refused, would pass the check. Clones are counted and refused, of items
-//! that are cloned in blocks of 512 and 16, and of those that are left. A call asks for the clones that it needs, one after
-//! another, and for none after the one that is refused.
+//! A clone too many, one after the one that is refused, and clones that were made and are not left would pass the check. Clones
+//! are counted and refused, of items that are cloned in blocks of 512 and 16, and of those that are left.
 ghost use Rattle.std.specs.Prelude.{◌≡◌};
 
 use std::alloc::{AllocError, Global};
 use std::test::Fail;
-use tinyvec::{ArrayVec, NoMemory, SliceVec, TinyVec, TryFromSliceError};
-use tinyvec_test_items::{Clones, Counted, all_right, first, granted};
+use tinyvec::{ArrayVec, SliceVec, TinyVec};
+use tinyvec_test_items::{Clones, Counted, all_right, all_steps, granted};
 
 // An item of 16 bytes, which is named and counted by the one that it refers to. A clone of a default is refused.
 #[derive(Default, Drop)]
@@ -25,11 +24,11 @@ impl<'a, 'n> Clone for Small<'a, 'n> {
 }
 
 impl<'a, 'n> Small<'a, 'n> {
-    // 0 of a default.
-    fn name(&self) -> usize {
+    // Whether its name is one of the first 600, as those of the items that are cloned. A default has none.
+    fn is_copy(&self) -> bool {
         match self.0 {
-            Some(counted) => counted.name,
-            None => 0,
+            Some(counted) => counted.name <= 600,
+            None => false,
         }
     }
 }
@@ -88,19 +87,12 @@ enum Call {
 
 use Call::{CloneFrom, Extend, FromSlice, Resize};
 
-// What the call is to ask for and to leave. Slots that are named neither among the clones nor among the emptied ones hold
-// what they held.
+// What the call asks for, and leaves in the slots that are seen.
 #[derive(Clone, Copy)]
 struct Wanted {
-    asked: usize,
     is_granted: bool,
-    len: usize,
-    // The clones, by their place and their number, and whether they are all of one item.
-    start: usize,
-    clones: usize,
-    are_copies: bool,
-    // From the first of these places up to the second.
-    emptied: (usize, usize),
+    asked: usize,
+    left: usize,
 }
 
 impl Wanted {
@@ -114,157 +106,64 @@ impl Wanted {
             (Resize, _) => count.saturating_sub(len),
         };
         let is_granted = refused == 0 || refused > needed;
-        let (asked, clones) = if is_granted {
-            (needed, needed)
+        let made = if is_granted {
+            needed
         } else {
-            (refused, refused.saturating_sub(1))
+            refused.saturating_sub(1)
         };
-        let all = Wanted {
-            asked,
+        let left = match (call, vector) {
+            (Call::Clone | FromSlice, _) => 0,
+            (CloneFrom, Vector::Heap) if !is_granted => made.min(len),
+            // Behind its list nothing is seen.
+            (_, Vector::Heap) if !is_granted => 0,
+            _ => made,
+        };
+        let asked = if is_granted { needed } else { refused };
+        Wanted {
             is_granted,
-            len,
-            start: 0,
-            clones,
-            are_copies: false,
-            emptied: (0, 0),
-        };
-        match (call, vector) {
-            (Call::Clone, _) => Wanted { clones: 0, ..all },
-            (CloneFrom, _) => Wanted {
-                len: if is_granted { count } else { len.min(count) },
-                emptied: (count, len),
-                ..all
-            },
-            (Extend, _) => Wanted {
-                len: if is_granted {
-                    len.wrapping_add(count)
-                } else {
-                    len
-                },
-                start: len,
-                ..all
-            },
-            (Resize, _) if len <= count => Wanted {
-                len: if is_granted { count } else { len },
-                start: len,
-                are_copies: true,
-                ..all
-            },
-            // The last slot is filled first.
-            (Resize, Vector::Slice) => Wanted {
-                len: len.saturating_sub(clones),
-                start: len.saturating_sub(clones),
-                are_copies: true,
-                ..all
-            },
-            (Resize, _) => Wanted {
-                len: count,
-                emptied: (count, len),
-                ..all
-            },
-            (FromSlice, _) => Wanted {
-                len: count,
-                emptied: (count, 599),
-                ..all
-            },
+            asked,
+            left,
         }
     }
 
-    // The name in a slot of a vector whose names began by 601. Those of the clones begin by 1.
-    fn name_at(&self, at: usize) -> usize {
-        let clone = at.wrapping_sub(self.start);
-        if at >= self.start && clone < self.clones {
-            return if self.are_copies {
-                1
-            } else {
-                clone.wrapping_add(1)
-            };
-        }
-        if self.emptied.0 <= at && at < self.emptied.1 {
-            return 0;
-        }
-        at.wrapping_add(601)
-    }
-
-    fn are_named(&self, slots: &[Small<'_, '_>], first: usize) -> bool {
-        let mut are = true;
-        for (at, slot) in slots.iter().enumerate() {
-            are = are & (slot.name() == self.name_at(first.wrapping_add(at)));
-        }
-        are
-    }
-
-    // Whether the call asked for this many clones, was granted them or not, and left this.
-    fn is_left(
+    fn is(
         &self,
         clones: &Clones,
         is_granted: bool,
         items: &[Small<'_, '_>],
         spare: &[Small<'_, '_>],
     ) -> bool {
-        let answer = (clones.asked() == self.asked) & (is_granted == self.is_granted);
-        let list = (items.len() == self.len) & self.are_named(items, 0);
-        answer & list & self.are_named(spare, self.len)
-    }
-
-    // Whether it asked for this many, and made no vector.
-    fn is_refused(&self, clones: &Clones) -> bool {
-        (clones.asked() == self.asked) & !self.is_granted
-    }
-}
-
-// Whether the clones were granted. Where they were not, the item comes back.
-fn is_granted(resized: Result<(), NoMemory<Small<'_, '_>>>) -> bool {
-    match resized {
-        Ok(()) => true,
-        Err(NoMemory(item)) => item.name() != 1,
-    }
-}
-
-fn is_made(wanted: &Wanted, clones: &Clones, made: Result<List<'_, '_>, AllocError>) -> bool {
-    match made {
-        Ok(v) => wanted.is_left(clones, true, v.as_slice(), v.grab_spare_slice()),
-        Err(AllocError) => wanted.is_refused(clones),
-    }
-}
-
-// An empty list in place of the error that it may not be.
-fn by_memory<'a, 'n>(
-    made: Result<List<'a, 'n>, TryFromSliceError>,
-) -> Result<List<'a, 'n>, AllocError> {
-    match made {
-        Ok(v) => Ok(v),
-        Err(TryFromSliceError::Memory) => Err(AllocError),
-        Err(TryFromSliceError::TooLong) => Ok(ArrayVec::new()),
+        let left = items
+            .iter()
+            .chain(spare)
+            .filter(|slot| slot.is_copy())
+            .count();
+        (clones.asked() == self.asked) & (is_granted == self.is_granted) & (left == self.left)
     }
 }
 
 fn array(call: Call, len: usize, count: usize, refused: usize) -> bool {
     let clones = Clones::refusing(refused);
-    let wanted = Wanted::of(Vector::Array, call, len, count, refused);
     let names = names(&clones);
     let source = named(&names, 0, count);
     let mut v = named(&names, 600, len);
     let one = Small(names.as_slice().first());
     let is_granted = match call {
-        Call::Clone => return is_made(&wanted, &clones, v.clone()),
+        Call::Clone => v.clone().is_ok(),
         CloneFrom => v.clone_from(&source).is_ok(),
         Extend if source.len() <= v.capacity() - v.len() => {
             v.extend_from_slice(source.as_slice()).is_ok()
         }
-        Resize if count <= v.capacity() => is_granted(v.resize(count, one)),
-        FromSlice => {
-            let made = List::try_from_slice(source.as_slice());
-            return is_made(&wanted, &clones, by_memory(made));
-        }
+        Resize if count <= v.capacity() => v.resize(count, one).is_ok(),
+        FromSlice => List::try_from_slice(source.as_slice()).is_ok(),
         _ => return false,
     };
-    wanted.is_left(&clones, is_granted, v.as_slice(), v.grab_spare_slice())
+    let wanted = Wanted::of(Vector::Array, call, len, count, refused);
+    wanted.is(&clones, is_granted, v.as_slice(), v.grab_spare_slice())
 }
 
 fn slice(call: Call, len: usize, count: usize, refused: usize) -> bool {
     let clones = Clones::refusing(refused);
-    let wanted = Wanted::of(Vector::Slice, call, len, count, refused);
     let names = names(&clones);
     let source = named(&names, 0, count);
     let mut room = named(&names, 600, 599);
@@ -274,43 +173,14 @@ fn slice(call: Call, len: usize, count: usize, refused: usize) -> bool {
         Extend if source.len() <= v.capacity() - v.len() => {
             v.extend_from_slice(source.as_slice()).is_ok()
         }
-        Resize if count <= v.capacity() => is_granted(v.resize(count, one)),
+        Resize if count <= v.capacity() => v.resize(count, one).is_ok(),
         _ => return false,
     };
-    wanted.is_left(&clones, is_granted, v.as_slice(), v.grab_spare_slice())
+    let wanted = Wanted::of(Vector::Slice, call, len, count, refused);
+    wanted.is(&clones, is_granted, v.as_slice(), v.grab_spare_slice())
 }
 
-type Tiny<'a, 'n> = TinyVec<Slots<'a, 'n>>;
-
-// Whether the vector, which is in this place, is left so. Memory for the vector itself may be refused.
-fn is_tiny_left(
-    wanted: &Wanted,
-    clones: &Clones,
-    is_granted: bool,
-    v: &Tiny<'_, '_>,
-    inline: bool,
-) -> Option<bool> {
-    if !is_granted && clones.asked() == 0 && wanted.asked != 0 {
-        return None;
-    }
-    let is_right = match v {
-        TinyVec::Inline(list, _) => {
-            wanted.is_left(clones, is_granted, list.as_slice(), list.grab_spare_slice())
-        }
-        TinyVec::Heap(list) => wanted.is_left(clones, is_granted, list.as_slice(), &[]),
-    };
-    Some(is_right & (v.is_inline() == inline))
-}
-
-// The same where no vector was made.
-fn is_none_made(wanted: &Wanted, clones: &Clones) -> Option<bool> {
-    if clones.asked() == 0 && wanted.asked != 0 {
-        return None;
-    }
-    Some(wanted.is_refused(clones))
-}
-
-// A list on the heap has room for 599 items more.
+// A list on the heap has room for 599 items more. `None` says that memory for the vector itself was refused.
 fn tiny(
     alloc: Global,
     call: Call,
@@ -320,8 +190,6 @@ fn tiny(
     inline: bool,
 ) -> Option<bool> {
     let clones = Clones::refusing(refused);
-    let vector = if inline { Vector::Inline } else { Vector::Heap };
-    let wanted = Wanted::of(vector, call, len, count, refused);
     let names = names(&clones);
     let source = TinyVec::Inline(named(&names, 0, count), alloc);
     let mut v = TinyVec::Inline(named(&names, 600, len), alloc);
@@ -330,31 +198,32 @@ fn tiny(
     }
     let one = Small(names.as_slice().first());
     let is_granted = match call {
-        Call::Clone => {
-            return match v.clone() {
-                Ok(copy) => is_tiny_left(&wanted, &clones, true, &copy, inline),
-                Err(AllocError) => is_none_made(&wanted, &clones),
-            };
-        }
+        Call::Clone => v.clone().is_ok(),
         CloneFrom => v.clone_from(&source).is_ok(),
         Extend => v.extend_from_slice(source.as_slice()).is_ok(),
-        Resize => is_granted(v.resize(count, one)),
+        Resize => v.resize(count, one).is_ok(),
         FromSlice if inline => {
-            return match Tiny::from_slice(alloc, source.as_slice()) {
-                Ok(made) => is_tiny_left(&wanted, &clones, true, &made, true),
-                Err(AllocError) => is_none_made(&wanted, &clones),
-            };
+            TinyVec::<Slots<'_, '_>>::from_slice(alloc, source.as_slice()).is_ok()
         }
-        FromSlice => {
-            return match TinyVec::<[Small; 1]>::from_slice(alloc, source.as_slice()) {
-                Ok(made) => Some(
-                    wanted.is_left(&clones, true, made.as_slice(), &[]) & made.is_heap(),
-                ),
-                Err(AllocError) => is_none_made(&wanted, &clones),
-            };
-        }
+        FromSlice => TinyVec::<[Small; 1]>::from_slice(alloc, source.as_slice()).is_ok(),
     };
-    is_tiny_left(&wanted, &clones, is_granted, &v, inline)
+    let vector = if inline { Vector::Inline } else { Vector::Heap };
+    let wanted = Wanted::of(vector, call, len, count, refused);
+    if !is_granted && clones.asked() == 0 && wanted.asked != 0 {
+        return None;
+    }
+    let is_right = match &v {
+        TinyVec::Inline(list, _) => {
+            wanted.is(
+                &clones,
+                is_granted,
+                list.as_slice(),
+                list.grab_spare_slice(),
+            )
+        }
+        TinyVec::Heap(list) => wanted.is(&clones, is_granted, list.as_slice(), &[]),
+    };
+    Some(is_right & (v.is_inline() == inline))
 }
 
 fn is_so(
@@ -453,12 +322,11 @@ fn refused_before_any_clone(rt: HostRuntime) -> Result<(), Fail> {
     let clones = Clones::refusing(0);
     let names = names(&clones);
     let source = named(&names, 0, 5);
-    let made = ArrayVec::<[Small; 4]>::try_from_slice(source.as_slice());
     let mut v: TinyVec<[Small; 4]> = TinyVec::new(rt.alloc());
     let one = Small(names.as_slice().first());
-    let mut wrong = 0;
-    wrong = first(wrong, 1, made.err() == Some(TryFromSliceError::TooLong));
-    wrong = first(wrong, 2, !is_granted(v.resize(usize::MAX, one)));
-    wrong = first(wrong, 3, clones.asked() == 0);
-    all_right(wrong)
+    all_steps(&[
+        ArrayVec::<[Small; 4]>::try_from_slice(source.as_slice()).is_err(),
+        v.resize(usize::MAX, one).is_err(),
+        clones.asked() == 0,
+    ])
 }

@@ -1,4 +1,4 @@
-//! The tests of hostile use: memory refused, hints that are read, endless iterators, items and closures that count or lie.
+//! The tests of hostile use: hints that lie, endless iterators, items and closures that count or are refused a clone.
 #![tactic(auto)]
 
 #[cfg(test)]
@@ -9,7 +9,5 @@ mod clones;
 mod endless;
 #[cfg(test)]
 mod ordered;
-#[cfg(test)]
-mod refusals;
 #[cfg(test)]
 mod stateful;

@@ -23,7 +23,7 @@ faults_after_write faults (Ok zero) [] = faults
 faults_after_write faults (Ok (suc count)) bytes = faults
 faults_after_write faults (Err error) bytes = one_more_fault faults
 
--- the number rose during the call, or is `u64::MAX`, where it cannot rise
+-- the number rose during the call, or is `u64::MAX`, which cannot rise
 abbrev pub Reported : ℕ → ℕ → Type 0
 Reported old new = (old < new) ⊎ (new ≡ 2 ^ 64 - 1)
 

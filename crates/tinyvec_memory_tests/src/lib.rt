@@ -1,8 +1,6 @@
-//! The tests of a `TinyVec`'s memory that rows cannot hold.
+//! The tests of memory that rows cannot hold.
 #![tactic(auto)]
 
-#[cfg(test)]
-mod asking;
 #[cfg(test)]
 mod no_memory;
 #[cfg(test)]

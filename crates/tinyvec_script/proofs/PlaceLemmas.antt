@@ -5,10 +5,9 @@ use Rattle.tinyvec.specs.Room.{KeepsRoom}
 use Rattle.tinyvec.specs.declared.tiny_vec.TinyVec.{TinyVec}
 use Rattle.tinyvec.specs.declared.tiny_vec.TinyVec.TheVariants.{Inline, Heap}
 use Rattle.tinyvec_script.specs.Driving.{TinySplices}
-use Rattle.tinyvec_script.specs.TinyCalls.{TinyAnswers, TinyStep, Spliced}
+use Rattle.tinyvec_script.specs.TinyCalls.{TinyAnswers, Spliced}
 use Rattle.tinyvec_script.proofs.DrivingLemmas.{driven_answered, splice_fits, splice_overflows}
 use Rattle.tinyvec_script.specs.declared.call.End.{End}
-use Rattle.tinyvec_script.specs.declared.call.Call.{Call}
 use Rattle.tinyvec_script.specs.declared.call.Call.TheVariants.{Splice}
 use Rattle.tinyvec_script.specs.declared.call.Answer.{Answer}
 use Rattle.tinyvec_script.specs.declared.call.Answer.TheVariants as answers
@@ -39,16 +38,10 @@ module _ {A T : Type 0} where
   -- the three rules, as they are seen
   pub ruled : (D : T → Type 0) (slots need : ℕ) (old new : TinyVec A T) → PlaceRule slots need old new → TinySlotRule D old new
       → tiny_capacity slots old ≤ tiny_capacity slots new → KeepsRoom slots need old new → Ruled D slots need (tiny_of old) (tiny_of new)
-  ruled D slots need (Inline v a) (Inline w b) place slot keeps same = record { place_rule = place; slot_rule = λ i j. slot; keeps_room = keeps; same_room = same }
+  ruled D slots need (Inline v a) (Inline w b) place slot keeps same = record { place_rule = place; slot_rule = slot; keeps_room = keeps; same_room = same }
   ruled D slots need (Inline v a) (Heap w) place slot keeps same = record { place_rule = place; slot_rule = λ i j. search rules; keeps_room = keeps; same_room = same }
   ruled D slots need (Heap v) (Inline w b) place slot keeps same = record { place_rule = place; slot_rule = λ i j. search rules; keeps_room = keeps; same_room = same }
   ruled D slots need (Heap v) (Heap w) place slot keeps same = record { place_rule = place; slot_rule = λ i j. search rules; keeps_room = keeps; same_room = same }
-
-  -- an answer is a step where the list fits
-  pub tiny_steps : (D : T → Type 0) (slots : ℕ) (old new : TinyVec A T) (call : Call T) (answer : Answer T)
-      → TinyAnswers D slots (tiny_of old) call answer (tiny_of new) → tiny_len new ≤ tiny_capacity slots new
-      → TinyStep D slots (tiny_of old) call answer (tiny_of new)
-  tiny_steps D slots old new call answer answered fits = record { answered = answered; fits = rw (place_of-room slots new) fits }
 
   -- a splice, as it is seen
   tiny_spliced : (D : T → Type 0) (slots start end : ℕ) (word : List End) (replacement yields rest : List T) (old new : TinyVec A T)

@@ -15,7 +15,7 @@ abbrev pub letter_code : End → ℕ
 letter_code Front = 102
 letter_code Back = 98
 
--- a word of ends, which is a dash where it has no letters
+-- a word of ends, which is a dash if it has no letters
 abbrev pub word_text : List End → List ℕ
 word_text [] = codes "-"
 word_text (letter ∷ word) = letter_code letter ∷ map letter_code word

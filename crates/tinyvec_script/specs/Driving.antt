@@ -38,7 +38,7 @@ abbrev pub refused_items : {I T : Type 0} → (I → List T) → Result Unit (Sp
 refused_items rest (Ok u) = []
 refused_items rest (Err refused) = refused.item ∷ rest refused.rest
 
--- The items from start up to end were replaced, after a word of ends had taken yields from them. Where not all of the
+-- The items from start up to end were replaced, after a word of ends had taken yields from them. If not all of the
 -- replacement fits, the list is full, and rest is the one run that was not placed.
 pub record ListSplices {T : Type 0} (capacity : ℕ) (old : List T) (start end : ℕ) (word : List End)
     (replacement yields rest new : List T) : Type 0 where
@@ -55,8 +55,8 @@ pub record ArraySplices {T : Type 0} (D : T → Type 0) (capacity : ℕ) (old : 
   pub list : ListSplices capacity (items old) start end word replacement yields rest (items new)
   pub slot_rule : SlotRule D old new
 
--- And so a `TinyVec`, which has the room that it has then, and grew as where items are pushed. There is no less than before, so
--- where the old room holds the list nothing is refused.
+-- And so a `TinyVec`, which has the room that it has then, and grew as when items are pushed. There is no less than before, so
+-- if the old room holds the list nothing is refused.
 pub record TinySplices {A T : Type 0} (D : T → Type 0) (slots : ℕ) (old : TinyVec A T) (start end : ℕ) (word : List End)
     (replacement yields rest : List T) (new : TinyVec A T) : Type 0 where
   pub list : ListSplices (tiny_capacity slots new) (tiny_items old) start end word replacement yields rest (tiny_items new)
@@ -70,7 +70,7 @@ module _ {T : Type 0} (capacity : ℕ) (xs : List T) (start end : ℕ) (word : L
   abbrev pub yields_of : List T
   yields_of = taken (word_of word) (removed xs (Included start) (Excluded end))
 
-  -- where the run that has no place begins in the replacement, where the list does not fit
+  -- where the run that has no place begins in the replacement, if the list does not fit
   abbrev pub unplaced_from : ℕ
   unplaced_from = capacity - (start + placed_back (word_of word) (end - start) (length replacement) + (length xs - end))
 
@@ -86,7 +86,7 @@ module _ {T : Type 0} (capacity : ℕ) (xs : List T) (start end : ℕ) (word : L
   abbrev pub rest_of : List T
   rest_of = if overflows then slice_range replacement unplaced_from unplaced_to else []
 
-  -- the list is full where the replacement does not fit
+  -- the list is full if the replacement does not fit
   abbrev pub list_of : List T
   list_of = if overflows
       then before xs (Included start) ++ take unplaced_from replacement ++ drop unplaced_to replacement

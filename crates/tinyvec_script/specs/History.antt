@@ -3,7 +3,7 @@ use Rattle.std.specs.Prelude.{◌≡◌, ℕ, List, ◌++◌, length, Option, No
 use Rattle.tinyvec_io.specs.Lines.{Splits}
 use Rattle.tinyvec_script.specs.Script.{State, start, Answers, Script}
 
--- what is kept of a line that isn't ended: nothing where it is too long for a command
+-- what is kept of a line that isn't ended: nothing if it is too long for a command
 abbrev pub kept : List ℕ → Option (List ℕ)
 kept rest = if nat_lt 128 (length rest) then None else Some rest
 

@@ -15,7 +15,7 @@ abbrev pub lies_inline : Place → Bool
 lies_inline in_array = true
 lies_inline (on_heap n) = false
 
--- how many items fit there, where the array has `slots` slots
+-- how many items fit there, if the array has `slots` slots
 abbrev pub room : ℕ → Place → ℕ
 room slots in_array = slots
 room slots (on_heap n) = n
@@ -48,12 +48,12 @@ module _ {T : Type 0} where
 module _ {T : Type 0} (D : T → Type 0) (slots : ℕ) where
   -- What a call leaves that succeeded, needs room for `need` items, and is not itself a move.
   pub record Ruled (need : ℕ) (old new : Tiny T) : Type 0 where
-    -- the list is inline exactly where it was inline and the need is within the slots
+    -- the list is inline exactly if it was inline and the need is within the slots
     pub place_rule : Inline new ↔ (Inline old × (need ≤ slots))
     -- slots that the list gave up hold defaults, and it used up those that it grew into
     pub slot_rule : Inline old → Inline new → (ds : List T) × AreDefaults D (count old - count new) ds
         × (new.spare ≡ ds ++ drop (count new - count old) old.spare)
-    -- there is no less room, and where there was enough there is just as much
+    -- there is no less room, and if there was enough there is just as much
     pub keeps_room : room slots old.place ≤ room slots new.place
     pub same_room : need ≤ room slots old.place → room slots new.place ≡ room slots old.place
 
@@ -66,8 +66,8 @@ module _ {T : Type 0} (slots : ℕ) where
   abbrev pub GrownInSteps : Tiny T → Tiny T → Type 0
   GrownInSteps old new = room slots old.place < room slots new.place → room slots new.place < 2 * count new
 
-  -- Where there was less room than `need`, a list that moves got room for just that, and one on the heap twice the room
-  -- that it had, or `need` where that is more.
+  -- If there was less room than `need`, a list that moves got room for just that, and one on the heap twice the room
+  -- that it had, or `need` if that is more.
   abbrev pub Grown : ℕ → Tiny T → Tiny T → Type 0
   Grown need old new = room slots old.place < need
       → room slots new.place ≡ (if lies_inline old.place then need else max (2 * room slots old.place) need)

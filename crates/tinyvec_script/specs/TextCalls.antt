@@ -33,7 +33,7 @@ pub record IsTextCommand (line : List ℕ) (call : TextCall) : Type 0 where
   pub fits : TextFits call
   pub short : length line ≤ 128
 
--- The bytes were appended, by the place rule at the joined length. There is no less room than before, and enough; where
+-- The bytes were appended, by the place rule at the joined length. There is no less room than before, and enough; if
 -- the old room holds the text it is the same, and else it grew as the place says.
 pub record Added (slots : ℕ) (old : Text) (text : List ℕ) (new : Text) : Type 0 where
   pub chars_are : text_chars new ≡ text_chars old ++ chars text
@@ -54,7 +54,7 @@ pub record CutAt (old : Text) (index : ℕ) (new : Text) : Type 0 where
   pub room : new.room ≡ old.room
 
 -- From the old text the call may have this answer, and leave the new one. A refused allocation is a case of its own: `Memory`
--- only where the joined text does not fit the room of the old one. It changes nothing, and neither does `Range`.
+-- only if the joined text does not fit the room of the old one. It changes nothing, and neither does `Range`.
 abbrev pub TextStep : ℕ → Text → TextCall → Answer ℤ → Text → Type 0
 TextStep slots old (add text) answers.Done new = Added slots old text new
 TextStep slots old (add text) answers.Memory new = (old.room < text_len old + length text) × (new ≡ old)

@@ -26,7 +26,7 @@ module _ {T : Type 0} (D : T → Type 0) (slots : ℕ) where
     pub room_is : Inline old → room slots new.place ≡ count old
     pub kept : lies_inline old.place ≡ false → new ≡ old
 
-  -- A move back left the list in the array where it fits, with defaults after it. An inline list stays as it is.
+  -- A move back left the list in the array if it fits, with defaults after it. An inline list stays as it is.
   pub record Shrunk (old new : Tiny T) : Type 0 where
     pub items_are : new.items ≡ old.items
     pub place_is : Inline new ↔ (count old ≤ slots)
@@ -53,7 +53,7 @@ module _ {T : Type 0} (D : T → Type 0) (slots : ℕ) where
   TinySpliceAnswers old start end word replacement answer new = ⊥
 
   -- From the old value the call may have this answer, and leave the new value, if that fits. A refused allocation is a case
-  -- of its own: `Memory` only where there is no room for the items, for the move of an inline list of items to the heap, for those
+  -- of its own: `Memory` only if there is no room for the items, for the move of an inline list of items to the heap, for those
   -- that a drain or a splice takes, or for those that a splice may return.
   abbrev pub TinyAnswers : Tiny T → Call T → Answer T → Tiny T → Type 0
   TinyAnswers old (Push x) answers.Done new = (new.items ≡ old.items ++ x ∷ []) × Ruled D slots (count old + 1) old new

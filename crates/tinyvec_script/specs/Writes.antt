@@ -3,7 +3,7 @@ use Rattle.std.specs.Prelude.{◌≡◌, ◌⊎◌, ℕ, ◌≤◌, List, [], �
 use Rattle.std.specs.Io.KnownBytes.{Appends}
 use Rattle.tinyvec_io.specs.Counted.{CountedView, AppendsFront, Reported}
 
--- The text was written where the call succeeded, and a front of it where it failed, of which a fault was reported.
+-- The text was written if the call succeeded, and a front of it if it failed, of which a fault was reported.
 pub record Writes {W T E : Type 0} (contents : W → Option (List ℕ)) (old new : CountedView W) (result : Result T E) (text : List ℕ) : Type 0 where
   pub ok : OnOk result (Appends (contents old.inner) (contents new.inner) text)
   pub err : OnErr result (AppendsFront (contents old.inner) (contents new.inner) text)

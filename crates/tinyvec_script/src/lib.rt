@@ -8,6 +8,7 @@ mod driving;
 mod gathered;
 mod line;
 mod number;
+mod reason;
 mod runs;
 mod script;
 mod slots_step;

@@ -9,6 +9,7 @@ ghost use Rattle.tinyvec_script.specs.Script.{Answered, Script, CompleteLines};
 ghost use Rattle.tinyvec_script.specs.History.{kept, Feeds, Ends};
 
 use crate::Answer;
+use crate::answers::write_reason;
 use crate::command::{Command, parse_line, split_at_byte};
 use crate::gathered::Gathered;
 use crate::line::Line;
@@ -200,7 +201,7 @@ fn answer_line<W: Write, B: Lent<Item = i32>>(
         → Answered (state_of B.Lent vectors.old) rest text (state_of B.Lent vectors.new)) }
 {
     let Some(text) = line.as_slice() else {
-        gathered.put(writer, b"bad\n");
+        gathered.put(writer, b"bad: a line has at most 128 bytes\n");
         return;
     };
     match parse_line(alloc, text) {
@@ -212,7 +213,7 @@ fn answer_line<W: Write, B: Lent<Item = i32>>(
             let answered = vectors.answer_text(call);
             vectors.write_text_line(gathered, writer, &answered);
         }
-        Command::Bad => gathered.put(writer, b"bad\n"),
+        Command::Bad => write_reason(gathered, writer, text),
         Command::Memory(name) => vectors.write_line(gathered, writer, &Answer::Memory, name),
     }
 }

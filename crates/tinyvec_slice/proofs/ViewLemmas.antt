@@ -5,7 +5,7 @@ use Rattle.std.proofs.lemmas.List.{same_lists, places, drop-set-add}
 use Rattle.std.specs.Borrow.{MutBor}
 use Rattle.tinyvec_slots.proofs.Lists.{length-remove_range, length-slice_range, drop-put, drop-vacated, take-inserted, drop-inserted, take-removed, drop-removed}
 use Rattle.tinyvec_slice.specs.SliceParts.{with_front}
-use Rattle.tinyvec_slice.specs.SliceVec.{items_of, spare_of, slots_of, VacatesOf, items, spare, slots}
+use Rattle.tinyvec_slice.specs.SliceVec.{items_of, spare_of, slots_of, SameLender, VacatesOf, items, spare, slots}
 use Rattle.tinyvec_slice.specs.Lends.{at_slots}
 use Rattle.tinyvec_slice.specs.declared.lent.Lent as Lent
 use Rattle.tinyvec_slice.specs.declared.slice_vec.GenericSliceVec.{GenericSliceVec}
@@ -79,6 +79,17 @@ module _ {B T : Type 0} (g : Lent.Ghosts B T) (v : GenericSliceVec B T) where
 
   pub parts_of : length (slots_of g v) ≡ length (items_of g v) + length (spare_of g v)
   parts_of = ap length slots-parts ∙ length-append (items_of g v) (spare_of g v)
+
+-- a call, or two one after the other, keeps to the same slots
+module _ {B T : Type 0} (g : Lent.Ghosts B T) where
+  pub same_lender : (v : GenericSliceVec B T) → SameLender g v v
+  same_lender v = record { same_reference = refl; slot_count = refl }
+
+  pub SameLender-then : (u v w : GenericSliceVec B T) → SameLender g u v → SameLender g v w → SameLender g u w
+  SameLender-then u v w first second = record {
+    same_reference = second.same_reference ∙ first.same_reference;
+    slot_count = second.slot_count ∙ first.slot_count;
+  }
 
 -- where n slots were vacated, there are as many as before
 module _ {B T : Type 0} (g : Lent.Ghosts B T) (D : T → Type 0) (old new : GenericSliceVec B T) where

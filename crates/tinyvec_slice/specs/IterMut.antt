@@ -1,4 +1,4 @@
--- What a vector in lent slots ends as, where its items are lent one by one.
+-- What a vector in lent slots ends as when its items are lent one by one.
 use Rattle.std.specs.Prelude.{length}
 use Rattle.std.specs.Borrow.{Fml, RattleType, MutBor, Array, follows}
 use Rattle.std.specs.Slice.Iter.{iter_mut_name}

@@ -7,7 +7,7 @@ use Rattle.tinyvec_slice.specs.declared.lent.Lent as Lent
 use Rattle.tinyvec_slice.specs.declared.slice_vec.GenericSliceVec.{GenericSliceVec}
 use Rattle.tinyvec_slice.specs.contracts.slice_vec.GenericSliceVec.{the_row}
 
--- v where its slots hold xs
+-- v if its slots hold xs
 abbrev pub at_slots : {B T : Type 0} → Lent.Ghosts B T → GenericSliceVec B T → List T → GenericSliceVec B T
 at_slots g v xs = record v { lent = g.with_slots v.lent xs }
 

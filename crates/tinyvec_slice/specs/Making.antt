@@ -1,4 +1,4 @@
--- What an array ends as, where a vector is made over it.
+-- What an array ends as when a vector is made over it.
 use Rattle.std.specs.Prelude.{ℕ, List}
 use Rattle.std.specs.Borrow.{Fml, RattleType, MutBor, Array, follows}
 use Rattle.tinyvec_slice.specs.SliceVec.{name}

@@ -1,4 +1,4 @@
--- What lent slots hold where some of them are lent on for writing.
+-- What lent slots hold when some of them are lent on for writing.
 use Rattle.std.specs.Prelude.{ℕ, List, ◌++◌, take, drop}
 
 -- xs with its first n elements replaced by ws

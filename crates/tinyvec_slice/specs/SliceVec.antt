@@ -1,5 +1,5 @@
 -- What a contract sees of a vector in lent slots.
-use Rattle.std.specs.Prelude.{ℕ, List, length}
+use Rattle.std.specs.Prelude.{◌≡◌, ℕ, List, length}
 use Rattle.std.specs.Borrow.{GName, MutBor}
 use Rattle.tinyvec_slots.specs.Slots.{Slots, Vacates, items as items_in, spare as spare_in}
 use Rattle.tinyvec_slice.specs.declared.lent.Lent as Lent
@@ -30,6 +30,11 @@ module _ {B T : Type 0} (g : Lent.Ghosts B T) where
   -- the ghost name of the reference to the slots
   abbrev pub name_of : GenericSliceVec B T → GName
   name_of v = g.name v.lent
+
+  -- new is over the slots that old was lent, and there are as many
+  pub record SameLender (old new : GenericSliceVec B T) : Type 0 where
+    pub same_reference : name_of new ≡ name_of old
+    pub slot_count : length (slots_of new) ≡ length (slots_of old)
 
   -- the n vacated slots hold defaults, and precede the old spare slots
   abbrev pub VacatesOf : (T → Type 0) → ℕ → GenericSliceVec B T → GenericSliceVec B T → Type 0

@@ -29,8 +29,8 @@ where
     }
 
     #[inline]
-    fn truncate(&mut self, n: usize) {
-        self.truncate(n);
+    fn truncate(&mut self, new_len: usize) {
+        self.truncate(new_len);
     }
 
     ghost written = { written_of B.Lent };

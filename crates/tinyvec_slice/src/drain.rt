@@ -6,7 +6,7 @@ ghost use Rattle.std.specs.Iterator.SizeHint.{IsWithinCount};
 ghost use Rattle.std.specs.Iterator.Runs.{YieldsInOrder};
 ghost use Rattle.tinyvec_slots.specs.Ranges.{IsRangeOf, before, removed, after};
 ghost use Rattle.std.specs.List.{FoldsTo};
-ghost use Rattle.tinyvec_slice.specs.SliceVec.{items_of, spare_of, slots_of, name_of, VacatesOf};
+ghost use Rattle.tinyvec_slice.specs.SliceVec.{items_of, spare_of, name_of, VacatesOf, SameLender};
 
 use crate::{GenericSliceVec, Lent};
 use std::fmt;
@@ -158,8 +158,7 @@ where
         requires not_exhausted { R.has_bounds range }
         requires in_list { IsRangeOf (items_of B.Lent self.old) (R.start_bound range) (R.end_bound range) }
         requires callable { F.IsAlwaysCallable f.old }
-        ensures same_reference { name_of B.Lent self.new ≡ name_of B.Lent self.old }
-        ensures slot_count { length (slots_of B.Lent self.new) ≡ length (slots_of B.Lent self.old) }
+        ensures lender { SameLender B.Lent self.old self.new }
         ensures items { items_of B.Lent self.new ≡ before (items_of B.Lent self.old) (R.start_bound range)
             ++ after (items_of B.Lent self.old) (R.end_bound range) }
         ensures spare { VacatesOf B.Lent B.Item.is_default
@@ -184,8 +183,7 @@ where
         requires in_list { IsRangeOf (items_of B.Lent self.old) (R.start_bound range) (R.end_bound range) }
         requires room { vec_len out.old
             + length (removed (items_of B.Lent self.old) (R.start_bound range) (R.end_bound range)) ≤ vec_capacity out.old }
-        ensures same_reference { name_of B.Lent self.new ≡ name_of B.Lent self.old }
-        ensures slot_count { length (slots_of B.Lent self.new) ≡ length (slots_of B.Lent self.old) }
+        ensures lender { SameLender B.Lent self.old self.new }
         ensures items { items_of B.Lent self.new ≡ before (items_of B.Lent self.old) (R.start_bound range)
             ++ after (items_of B.Lent self.old) (R.end_bound range) }
         ensures spare { VacatesOf B.Lent B.Item.is_default

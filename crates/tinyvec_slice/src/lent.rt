@@ -15,7 +15,7 @@ pub trait Lent: Drop + IsSlice {
     // The ghost name of the reference to the slots.
     ghost name: { Self → GName };
 
-    // The same reference, where the slots hold this.
+    // The same reference, if the slots hold this.
     ghost with_slots: { Self → List Self.Item → Self };
 
     // What was written is what the slots hold.

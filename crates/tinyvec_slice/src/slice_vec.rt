@@ -2,9 +2,10 @@
 ghost use Rattle.std.specs.Prelude.{◌≡◌, ◌<◌, ◌≤◌, ◌==◌, ◌+◌, ◌^◌, length, drop, slice_range, slice_index_or, slice_set, List, ◌++◌, ◌↔◌, [], take, min, IsSome, IfSome};
 ghost use Rattle.std.specs.List.{remove_range};
 ghost use Rattle.tinyvec_slots.specs.Slots.{AreDefaults, split_at};
+ghost use Rattle.tinyvec_slots.specs.Ranges.{Within};
 ghost use Rattle.std.specs.Borrow.{sem};
 ghost use Rattle.tinyvec_slice.specs.Making.{lends_array};
-ghost use Rattle.tinyvec_slice.specs.SliceVec.{view, items, spare, name, view_of, items_of, spare_of, slots_of, name_of, len_of};
+ghost use Rattle.tinyvec_slice.specs.SliceVec.{view, items, spare, name, view_of, items_of, spare_of, slots_of, len_of, SameLender};
 ghost use Rattle.tinyvec_slice.specs.Lends.{lends_items, lends_inner, lends_spare};
 ghost use Rattle.std.specs.Slice.Iter.{iter_rest, iter_mut_rest, iter_mut_steps, iter_mut_steps_back};
 ghost use Rattle.std.specs.Iterator.Adapters.{IterYieldsInOrder, IterYieldsInReverse};
@@ -97,22 +98,19 @@ impl<B: Lent> GenericSliceVec<B> {
     }
 
     /// Moves the border between the items and the spare slots. No slot is written.
-    pub fn set_len(&mut self, len: usize)
-        requires { len ≤ length (slots_of B.Lent self.old) }
-        ensures same_reference { name_of B.Lent self.new ≡ name_of B.Lent self.old }
-        ensures slot_count { length (slots_of B.Lent self.new) ≡ length (slots_of B.Lent self.old) }
-        ensures value { view_of B.Lent self.new ≡ split_at len (slots_of B.Lent self.old) }
-        ensures fits { len_of B.Lent self.new ≡ len }
+    pub fn set_len(&mut self, new_len: usize)
+        requires { new_len ≤ length (slots_of B.Lent self.old) }
+        ensures lender { SameLender B.Lent self.old self.new }
+        ensures value { view_of B.Lent self.new ≡ split_at new_len (slots_of B.Lent self.old) }
+        ensures fits { len_of B.Lent self.new ≡ new_len }
     {
-        self.len = len;
+        self.len = new_len;
     }
 
     // Moves the items from `start` up to `end` after the others.
     pub(crate) fn move_to_end(&mut self, start: usize, end: usize)
-        requires start_le_end { start ≤ end }
-        requires in_bounds { end ≤ len_of B.Lent self.old }
-        ensures same_reference { name_of B.Lent self.new ≡ name_of B.Lent self.old }
-        ensures slot_count { length (slots_of B.Lent self.new) ≡ length (slots_of B.Lent self.old) }
+        requires { Within start end (len_of B.Lent self.old) }
+        ensures lender { SameLender B.Lent self.old self.new }
         ensures items { items_of B.Lent self.new ≡ remove_range (items_of B.Lent self.old) start end
             ++ slice_range (items_of B.Lent self.old) start end }
         ensures spare { spare_of B.Lent self.new ≡ spare_of B.Lent self.old }
@@ -184,8 +182,7 @@ where
     // Takes the value of the spare slot at `i`, and leaves a default.
     pub(crate) fn take_spare(&mut self, i: usize) -> B::Item
         requires { i < length (spare_of B.Lent self.old) }
-        ensures same_reference { name_of B.Lent self.new ≡ name_of B.Lent self.old }
-        ensures slot_count { length (slots_of B.Lent self.new) ≡ length (slots_of B.Lent self.old) }
+        ensures lender { SameLender B.Lent self.old self.new }
         ensures value { result ≡ slice_index_or (spare_of B.Lent self.old) i result }
         ensures items { items_of B.Lent self.new ≡ items_of B.Lent self.old }
         ensures spare { (d : B.Item) × B.Item.is_default d
@@ -195,10 +192,9 @@ where
         mem::take(&mut self.lent.all_mut()[len + i])
     }
 
-    // Writes defaults into the first `n` spare slots, or none where there are fewer.
+    // Writes defaults into the first `n` spare slots, or none if there are fewer.
     pub(crate) fn fill_spare_default(&mut self, n: usize)
-        ensures same_reference { name_of B.Lent self.new ≡ name_of B.Lent self.old }
-        ensures slot_count { length (slots_of B.Lent self.new) ≡ length (slots_of B.Lent self.old) }
+        ensures lender { SameLender B.Lent self.old self.new }
         ensures items { items_of B.Lent self.new ≡ items_of B.Lent self.old }
         ensures spare { n ≤ length (spare_of B.Lent self.old) → (ds : List B.Item) × AreDefaults B.Item.is_default n ds
             × (spare_of B.Lent self.new ≡ ds ++ drop n (spare_of B.Lent self.old)) }

@@ -3,6 +3,7 @@ pub mod SlotsLemmas
 pub mod BorderLemmas
 pub mod EndsLemmas
 pub mod AnyDrainLemmas
+mod EmptiedLemmas
 pub mod FiltersLemmas
 pub mod CloneLemmas
 pub mod ClonesOverLemmas

@@ -40,11 +40,11 @@ module _ {T : Type 0} (D : T → Type 0) (old new : Slots T) where
       (h.0, (h.1.0 ∙ sym fewer, h.1.1), h.2 ∙ ap (λ n. h.0 ++ drop n (spare old)) (sym none))
 
   pub shortened : Shortens D old new → SlotRule D old new
-  shortened h = slots_freed (items_len old - items_len new) (omega (arith, h.0)) h.1
+  shortened h = slots_freed (items_len old - items_len new) (omega (arith, h.bound)) h.spare
 
 -- a list that was written and then cut
 pub written_shortened : {T : Type 0} (D : T → Type 0) (u v w : Slots T) → SameSpare u v → Shortens D v w → Shortens D u w
-written_shortened D u v w k h = rw (sym k.0, sym k.1) h
+written_shortened D u v w k h = record { bound = rw (sym k.1) h.bound; spare = rw (sym k.0, sym k.1) h.spare }
 
 -- where the item's `Default` answers one value only
 module _ {T : Type 0} (D : T → Type 0) (c : T) (only : (x : T) → D x → x ≡ c) where

@@ -1,4 +1,4 @@
--- Lists of clones, and what a call that clones leaves, where a clone was refused. C is the `is_clone` of an item's `Clone`.
+-- Lists of clones, and what a call that clones leaves if a clone was refused. C is the `is_clone` of an item's `Clone`.
 use Rattle.std.specs.Prelude.{◌≡◌, ℕ, ◌+◌, ◌-◌, ◌<◌, ◌≤◌, List, ◌++◌, length, take, drop, slice_range}
 use Rattle.std.specs.List.{HoldsAt, AllZip}
 use Rattle.tinyvec_slots.specs.Slots.{AreDefaults}

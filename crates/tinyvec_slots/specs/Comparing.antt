@@ -6,7 +6,7 @@ use Rattle.std.specs.Cmp.Lexicographic.{pointwise}
 abbrev pub SameInFront : {T : Type 0} → (T → T → Bool) → List T → List T → ℕ → Type 0
 SameInFront E xs ys n = pointwise E (take n xs) (take n ys) ≡ true
 
--- the pairs before n are equal, and where n is less than m the pair there is not
+-- the pairs before n are equal, and if n is less than m the pair there is not
 abbrev pub FirstDifference : {T : Type 0} → (T → T → Bool) → List T → List T → ℕ → ℕ → Type 0
 FirstDifference E xs ys m n = (n ≤ m) × SameInFront E xs ys n
     × (n < m → (x y : _) → x ≡ slice_index_or xs n x → y ≡ slice_index_or ys n y → E x y ≡ false)

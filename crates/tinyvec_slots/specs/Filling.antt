@@ -1,9 +1,8 @@
 -- Items asked of an iterator, as long as there is room.
-use Rattle.std.specs.Prelude.{◌≡◌, ℕ, ◌<◌, ◌≤◌, List, ◌++◌, length, Option, None}
-use Rattle.std.specs.List.{FoldsTo}
+use Rattle.std.specs.Prelude.{◌≡◌, ℕ, ◌<◌, ◌≤◌, List, length, Option, None}
 use Rattle.std.specs.Iterator.{Yields, YieldsThen, YieldsFirst, AlwaysYields}
 
--- Calls of `next` from s gave xs and left u. They stopped at n items, or at `None` where fewer came.
+-- Calls of `next` from s gave xs and left u. They stopped at n items, or at `None` if fewer came.
 pub record YieldsUpTo {S A : Type 0} (steps : S → Option A → S → Type 0) (n : ℕ) (s : S) (xs : List A) (u : S) : Type 0 where
   pub at_most_n : length xs ≤ n
   pub stopped : length xs ≡ n → Yields steps s xs u
@@ -17,7 +16,3 @@ ShowsItems {S} {A} steps rest = (s : S) (r : Option A) (t : S) → steps s r t �
 -- of a range, a slice's items, a map and more.
 abbrev pub IntoIterYields : {U S A : Type 0} → (U → S → Type 0) → (S → Option A → S → Type 0) → U → List A → Type 0
 IntoIterYields {U} {S} becomes steps iter xs = (it : S) → becomes iter it → AlwaysYields steps (λ x. x) it xs
-
--- new is old, followed by what calls of f returned, one after another, the last of which left `last`: `AppendsResults`, with the last state
-abbrev pub AppendsResultsTo : {F X : Type 0} → (F → X → F → Type 0) → List X → List X → F → F → Type 0
-AppendsResultsTo {F} {X} step old new f last = (ys : List X) × (new ≡ old ++ ys) × FoldsTo step f ys last

@@ -4,15 +4,15 @@ use Rattle.std.specs.declared.iter.Fuse.{Fuse}
 use Rattle.std.specs.Iterator.{Count, IsFinite, count_unless, YieldsFirst, YieldsLast}
 use Rattle.std.specs.Iterator.Adapters.{fuse_done, fuse_source}
 
--- a fused iterator may be asked: where it has not ended, its source may
+-- a fused iterator may be asked: if it has not ended, its source may
 abbrev pub FusedCan : {S : Type 0} → (S → Type 0) → Fuse S → Type 0
 FusedCan can s = fuse_done s ≡ false → can (fuse_source s)
 
--- it ends: at once where it has ended
+-- it ends: at once if it has ended
 abbrev pub FusedFinite : {S : Type 0} → (S → Count) → Fuse S → Type 0
 FusedFinite left s = IsFinite (count_unless (fuse_done s) (left (fuse_source s)))
 
--- what is left of a fused iterator, where `rest` is what is left of its source
+-- what is left of a fused iterator, if `rest` is what is left of its source
 abbrev pub fused_rest : {S A : Type 0} → (S → List A) → Fuse S → List A
 fused_rest rest s = if fuse_done s then [] else rest (fuse_source s)
 

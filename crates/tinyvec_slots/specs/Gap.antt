@@ -56,7 +56,7 @@ pub record GapCanStep (g : Gap) (ended : Bool) (len : ℕ) : Type 0 where
   pub no_slot_besides : ended ≡ false → (g.front ≡ g.next) × (g.end ≡ g.back)
   pub few : FitsBits 66 (gap_touches g + 2 * gap_len g)
 
--- A call at one end of a gap took a vector, its gap and its replacement to others, where `items` is the list of the vector,
+-- A call at one end of a gap took a vector, its gap and its replacement to others, if `items` is the list of the vector,
 -- `Kept` what a write of it leaves, and `Gives` how an item is given.
 abbrev pub GapSteps : {V I T : Type 0} → (V → List T) → (V → V → Type 0) → (SpliceView I T → T → SpliceView I T → Type 0)
     → V → Gap → I → Option T → V → Gap → I → Type 0

@@ -1,4 +1,4 @@
--- What a vector in slots ends as, where some of its slots are lent for writing.
+-- What a vector in slots ends as when some of its slots are lent for writing.
 use Rattle.std.specs.Prelude.{ℕ, List, slice_set}
 use Rattle.std.specs.Borrow.{Lends, Fml, MutBor, RattleType, Array as ListOf}
 use Rattle.tinyvec_slots.specs.declared.in_slots.InSlots

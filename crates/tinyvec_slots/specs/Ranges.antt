@@ -19,6 +19,10 @@ range_end (Included n) len = after_index n
 range_end (Excluded n) len = n
 range_end Unbounded len = len
 
+-- the range from start to end does not run backwards, and ends within n
+abbrev pub Within : ℕ → ℕ → ℕ → Type 0
+Within start end n = (start ≤ end) × (end ≤ n)
+
 module _ {T : Type 0} where
   -- the range with these ends is in the list, and does not run backwards
   abbrev pub IsRangeOf : List T → Bound ℕ → Bound ℕ → Type 0

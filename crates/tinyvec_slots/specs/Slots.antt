@@ -49,8 +49,9 @@ module _ {T : Type 0} where
       × (spare new ≡ ds ++ drop (items_len new - items_len old) (spare old))
 
   -- The list got no longer, and as many defaults as it lost items stand before the old spare slots.
-  abbrev pub Shortens : (T → Type 0) → Slots T → Slots T → Type 0
-  Shortens D old new = (items_len new ≤ items_len old) × Vacates D (items_len old - items_len new) old new
+  pub record Shortens (D : T → Type 0) (old new : Slots T) : Type 0 where
+    pub bound : items_len new ≤ items_len old
+    pub spare : Vacates D (items_len old - items_len new) old new
 
   -- the list is as long, and the spare slots are the same
   abbrev pub SameSpare : Slots T → Slots T → Type 0

@@ -3,7 +3,7 @@ use Rattle.std.specs.Prelude.{◌≡◌, ℕ, ◌+◌, ◌-◌, ◌<◌, ◌≤�
 use Rattle.tinyvec_slots.specs.Ends.{End, fronts, backs}
 use Rattle.tinyvec_slots.specs.AnySplice.{SpliceView}
 
--- where a range of n items is replaced by m items, how many of them a word places from the front
+-- if a range of n items is replaced by m items, how many of them a word places from the front
 abbrev pub placed_front : List End → ℕ → ℕ → ℕ
 placed_front word n m = fronts (take (min (length word) (min n m)) word)
 

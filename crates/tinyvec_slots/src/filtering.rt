@@ -2,30 +2,27 @@
 ghost use Rattle.std.specs.Prelude.{◌≡◌, ◌+◌, ◌-◌, ◌<◌, ◌≤◌, ◌++◌, Some, slice_get, true, length, take, drop};
 ghost use Rattle.std.specs.Fn.{FnOnceTakesAtMut, CalledAt, CalledAtMut, CalledAtPairMut, ComparesKeys};
 ghost use Rattle.std.specs.List.Retain.{IsFiltered, RetainsInTurn, IsDeduped, PopsIf};
-ghost use Rattle.tinyvec_slots.specs.Filters.{AsksPair};
+ghost use Rattle.tinyvec_slots.specs.Filters.{AsksPair, Shortened};
 
 use crate::CanCut;
+use crate::tuned::sizes::are_small;
 use std::mem;
 
 /// Calls `f` on each item in turn, and keeps those for which it returns `true`.
 pub fn retain<V: CanCut, F: FnMut(&V::Item) -> bool>(vec: &mut V, f: &mut F)
     requires { F.IsAlwaysCallable f.old }
     ensures filtered { IsFiltered (CalledAt F.FnMut) f.old (V.items vec.old) (V.items vec.new) }
-    ensures bound { length (V.items vec.new) ≤ length (V.items vec.old) }
-    ensures fits { length (V.items vec.new) ≤ V.room vec.new }
-    ensures cut { V.Truncated vec.old vec.new }
+    ensures shorter { Shortened V.items V.room V.Truncated vec.old vec.new }
 {
     let kept = retain_in_front(vec.as_mut_slice(), f);
     vec.truncate(kept);
 }
 
-/// Like `retain`, where `f` may write to the items.
+/// Like `retain`, but `f` may write to the items.
 pub fn retain_mut<V: CanCut, F: FnMut(&mut V::Item) -> bool>(vec: &mut V, f: &mut F)
     requires { F.IsAlwaysCallable f.old }
     ensures filtered { RetainsInTurn (CalledAtMut F.FnMut) f.old (V.items vec.old) (V.items vec.new) }
-    ensures bound { length (V.items vec.new) ≤ length (V.items vec.old) }
-    ensures fits { length (V.items vec.new) ≤ V.room vec.new }
-    ensures cut { V.Truncated vec.old vec.new }
+    ensures shorter { Shortened V.items V.room V.Truncated vec.old vec.new }
 {
     let kept = retain_mut_in_front(vec.as_mut_slice(), f);
     vec.truncate(kept);
@@ -35,9 +32,7 @@ pub fn retain_mut<V: CanCut, F: FnMut(&mut V::Item) -> bool>(vec: &mut V, f: &mu
 pub fn dedup_by<V: CanCut, F: FnMut(&mut V::Item, &mut V::Item) -> bool>(vec: &mut V, same: &mut F)
     requires { F.IsAlwaysCallable same.old }
     ensures filtered { IsDeduped (CalledAtPairMut F.FnMut) same.old (V.items vec.old) (V.items vec.new) }
-    ensures bound { length (V.items vec.new) ≤ length (V.items vec.old) }
-    ensures fits { length (V.items vec.new) ≤ V.room vec.new }
-    ensures cut { V.Truncated vec.old vec.new }
+    ensures shorter { Shortened V.items V.room V.Truncated vec.old vec.new }
 {
     let kept = dedup_in_front(vec.as_mut_slice(), same);
     vec.truncate(kept);
@@ -50,22 +45,18 @@ pub fn dedup_by_key<V: CanCut, K: PartialEq + Drop, F: FnMut(&mut V::Item) -> K>
 )
     requires { F.IsAlwaysCallable key.old }
     ensures filtered { IsDeduped (ComparesKeys F.FnMut K.eq) key.old (V.items vec.old) (V.items vec.new) }
-    ensures bound { length (V.items vec.new) ≤ length (V.items vec.old) }
-    ensures fits { length (V.items vec.new) ≤ V.room vec.new }
-    ensures cut { V.Truncated vec.old vec.new }
+    ensures shorter { Shortened V.items V.room V.Truncated vec.old vec.new }
 {
     let kept = dedup_keys_in_front(vec.as_mut_slice(), key);
     vec.truncate(kept);
 }
 
-/// Calls `f` on the last item, and takes the item if it returns `true`. Of an empty list nothing is called.
+/// Calls `f` on the last item, and takes the item if it returns `true`. Calls nothing if the list is empty.
 pub fn pop_if<V: CanCut, F: FnOnce(&mut V::Item) -> bool>(vec: &mut V, f: F) -> Option<V::Item>
     requires { (x : V.Item) → slice_get (V.items vec.old) (length (V.items vec.old) - 1) ≡ Some x
         → FnOnceTakesAtMut F.FnOnce f x }
     ensures popped { PopsIf F.FnOnce (V.items vec.old) (V.items vec.new) f result }
-    ensures bound { length (V.items vec.new) ≤ length (V.items vec.old) }
-    ensures fits { length (V.items vec.new) ≤ V.room vec.new }
-    ensures cut { V.Truncated vec.old vec.new }
+    ensures shorter { Shortened V.items V.room V.Truncated vec.old vec.new }
 {
     let (kept, item) = take_last_if(vec.as_mut_slice(), f);
     vec.truncate(kept);
@@ -80,7 +71,6 @@ fn take_last_if<T: Default + Drop, F: FnOnce(&mut T) -> bool>(
     requires { (x : T) → slice_get items.old (length items.old - 1) ≡ Some x → FnOnceTakesAtMut F.FnOnce f x }
     ensures popped { PopsIf F.FnOnce items.old (take result.0 items.new) f result.1 }
     ensures bound { result.0 ≤ length items.old }
-    ensures len { length items.new ≡ length items.old }
 {
     let len = items.len();
     if len == 0 {
@@ -98,7 +88,6 @@ fn retain_in_front<T: Default + Drop, F: FnMut(&T) -> bool>(items: &mut [T], f: 
     requires { F.IsAlwaysCallable f.old }
     ensures filtered { IsFiltered (CalledAt F.FnMut) f.old items.old (take result items.new) }
     ensures bound { result ≤ length items.old }
-    ensures len { length items.new ≡ length items.old }
 {
     let mut kept = 0;
     for i in 0..items.len() {
@@ -111,7 +100,7 @@ fn retain_in_front<T: Default + Drop, F: FnMut(&T) -> bool>(items: &mut [T], f: 
     kept
 }
 
-// Like `retain_in_front`, where `f` may write to the items.
+// Like `retain_in_front`, but `f` may write to the items.
 fn retain_mut_in_front<T: Default + Drop, F: FnMut(&mut T) -> bool>(
     items: &mut [T],
     f: &mut F,
@@ -119,7 +108,6 @@ fn retain_mut_in_front<T: Default + Drop, F: FnMut(&mut T) -> bool>(
     requires { F.IsAlwaysCallable f.old }
     ensures filtered { RetainsInTurn (CalledAtMut F.FnMut) f.old items.old (take result items.new) }
     ensures bound { result ≤ length items.old }
-    ensures len { length items.new ≡ length items.old }
 {
     let mut kept = 0;
     for i in 0..items.len() {
@@ -132,15 +120,6 @@ fn retain_mut_in_front<T: Default + Drop, F: FnMut(&mut T) -> bool>(
     kept
 }
 
-// Whether an item takes up to 16 bytes.
-#[inline(always)]
-fn are_small<T>(items: &[T]) -> bool
-    requires some { 0 < length items.now }
-{
-    let first = &items[..1];
-    first.len() * mem::size_of::<T>() <= 16
-}
-
 // Moves the item at `i` to `kept` if it stays. An item of up to 16 bytes moves in any case, since that takes no branch.
 #[inline(always)]
 fn move_down<T: Default + Drop>(items: &mut [T], kept: usize, i: usize, stays: bool)
@@ -149,7 +128,6 @@ fn move_down<T: Default + Drop>(items: &mut [T], kept: usize, i: usize, stays: b
     ensures behind { drop (i + 1) items.new ≡ drop (i + 1) items.old }
     ensures before { take kept items.new ≡ take kept items.old }
     ensures moved { stays ≡ true → take (kept + 1) items.new ≡ take kept items.old ++ take 1 (drop i items.old) }
-    ensures len { length items.new ≡ length items.old }
 {
     if are_small(items) {
         let item = mem::take(&mut items[i]);
@@ -166,7 +144,6 @@ fn dedup_in_front<T, F: FnMut(&mut T, &mut T) -> bool>(items: &mut [T], same: &m
     requires { F.IsAlwaysCallable same.old }
     ensures filtered { IsDeduped (CalledAtPairMut F.FnMut) same.old items.old (take result items.new) }
     ensures bound { result ≤ length items.old }
-    ensures len { length items.new ≡ length items.old }
 {
     let count = items.len();
     if count == 0 {
@@ -190,7 +167,6 @@ fn dedup_keys_in_front<T, F: FnMut(&mut T) -> K, K: PartialEq + Drop>(
     requires { F.IsAlwaysCallable key.old }
     ensures filtered { IsDeduped (ComparesKeys F.FnMut K.eq) key.old items.old (take result items.new) }
     ensures bound { result ≤ length items.old }
-    ensures len { length items.new ≡ length items.old }
 {
     let count = items.len();
     if count == 0 {

@@ -52,7 +52,7 @@ impl Gap {
         self.len() == 0
     }
 
-    /// The removed items that are left, where `slots` are all items.
+    /// The removed items that are left, if `slots` are all items.
     pub fn left<'s, T>(&self, slots: &'s [T]) -> &'s [T]
         ensures { result.now ≡ gap_left self.now slots.now }
     {
@@ -82,7 +82,6 @@ impl Gap {
         ensures ready { GapCanStep self.new (fuse_done replacement.new) (length slots.new) }
         ensures can { FusedCan I.can_next replacement.new }
         ensures finite { FusedFinite I.remaining replacement.old → FusedFinite I.remaining replacement.new }
-        ensures slot_count { length slots.new ≡ length slots.old }
         ensures fewer { gap_len self.old ≡ gap_len self.new + 1 }
     {
         let at = self.next;
@@ -112,7 +111,6 @@ impl Gap {
         ensures ready { GapCanStep self.new (fuse_done replacement.new) (length slots.new) }
         ensures can { FusedCan I.can_next_back replacement.new }
         ensures finite { FusedFinite I.remaining replacement.old → FusedFinite I.remaining replacement.new }
-        ensures slot_count { length slots.new ≡ length slots.old }
         ensures fewer { gap_len self.old ≡ gap_len self.new + 1 }
     {
         let at = self.end - 1;

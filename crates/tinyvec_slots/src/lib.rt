@@ -8,6 +8,7 @@ mod gap;
 mod in_slots;
 mod no_memory;
 mod no_room;
+mod owned;
 mod parts;
 mod printing;
 mod range;
@@ -22,6 +23,7 @@ pub use gap::Gap;
 pub use in_slots::InSlots;
 pub use no_memory::NoMemory;
 pub use no_room::{FromIterRest, NoRoom, SpliceRest};
+pub use owned::{OwnedItems, OwnsItems, into_items};
 pub use parts::{part_of, slot_of};
 pub use printing::{
     InBinary, InHex, InOctal, InUpperHex, ItemText, Plain, write_items, write_named,
@@ -34,4 +36,6 @@ pub use tuned::cloning::{
 pub use tuned::comparing::{cmp_slices, eq_slices, hash_items, partial_cmp_slices};
 pub use tuned::moving::{close_gap, last_to, move_to_end, move_to_end_below};
 pub use tuned::resetting::fill_default;
-pub use tuned::shifting::{insert_shifting, prefers_shifting, prefers_swaps, remove_shifting};
+pub use tuned::shifting::{insert_shifting, prefers_swaps, remove_shifting};
+pub use tuned::sizes::{fit_registers, prefers_shifting};
+pub use tuned::taking::take_all;

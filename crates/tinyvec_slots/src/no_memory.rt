@@ -1,4 +1,4 @@
-//! What is returned where the allocator refuses.
+//! What is returned if the allocator refuses.
 ghost use Rattle.std.specs.Prelude.{◌≡◌};
 ghost use Rattle.std.specs.IoError.{error_kind};
 ghost use Rattle.std.specs.declared.io.ErrorKind.TheVariants.{OutOfMemory};

@@ -1,4 +1,4 @@
-//! What is returned where an item does not fit. By `?` each becomes an `AllocError`, or an `io::Error`, which drops what it
+//! What is returned if an item does not fit. By `?` each becomes an `AllocError`, or an `io::Error`, which drops what it
 //! holds.
 ghost use Rattle.std.specs.Prelude.{◌≡◌};
 ghost use Rattle.std.specs.IoError.{error_kind};

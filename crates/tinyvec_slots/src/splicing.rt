@@ -3,6 +3,7 @@ ghost use Rattle.std.specs.Prelude.{◌≡◌, ◌+◌, ◌-◌, ◌*◌, ◌<�
 ghost use Rattle.std.specs.Bool.{MatchBool};
 ghost use Rattle.std.specs.Iterator.{Drains, YieldsThen, IsFinite};
 ghost use Rattle.std.specs.Iterator.Adapters.{fuse_done, fuse_steps};
+ghost use Rattle.tinyvec_slots.specs.Ranges.{Within};
 ghost use Rattle.tinyvec_slots.specs.Filling.{ShowsItems};
 ghost use Rattle.tinyvec_slots.specs.Fused.{FusedCan, FusedFinite, fused_rest};
 ghost use Rattle.tinyvec_slots.specs.Gap.{gap_len, gap_front, gap_back, gap_touches, gap_view, GapCanStep, GapSteps};
@@ -61,8 +62,7 @@ pub fn splice_next_back<V: CanSplice, I: DoubleEndedIterator<Item = V::Item>>(
 /// Removes what is left of the gap, which ends a splice as it is.
 #[inline(always)]
 pub fn splice_stop<V: CanSplice>(vec: &mut V, gap: &mut Gap)
-    requires in_order { gap_front gap.old ≤ gap_back gap.old }
-    requires in_bounds { gap_back gap.old ≤ length (V.items vec.old) }
+    requires in_bounds { Within (gap_front gap.old) (gap_back gap.old) (length (V.items vec.old)) }
     requires few { FitsBits 80 (gap_touches gap.old) }
     ensures items { V.items vec.new
         ≡ take (gap_front gap.old) (V.items vec.old) ++ drop (gap_back gap.old) (V.items vec.old) }

@@ -1,6 +1,7 @@
 //! The slots that a splice reaches, each touch counted.
 ghost use Rattle.std.specs.Prelude.{◌≡◌, ◌≢◌, ◌+◌, ◌-◌, ◌<◌, ◌≤◌, ◌++◌, length, take, drop, slice_index_or, slice_set, slice_range};
 ghost use Rattle.std.specs.List.{SwappedAt};
+ghost use Rattle.tinyvec_slots.specs.Ranges.{Within};
 ghost use Rattle.tinyvec_slots.specs.Touches.{touch_count, FitsBits};
 
 use std::mem;
@@ -64,7 +65,6 @@ impl Touches {
         requires second { j < length slots.old }
         requires few { FitsBits 120 (touch_count self.old) }
         ensures by_index { SwappedAt slots.old slots.new i j }
-        ensures len { length slots.new ≡ length slots.old }
         ensures count { touch_count self.new ≡ touch_count self.old + 1 }
     {
         self.count += 1;
@@ -73,11 +73,9 @@ impl Touches {
 
     // Moves the slots from `back` on down to `at`, and those between to the end.
     pub(crate) fn close<T>(&mut self, slots: &mut [T], at: usize, back: usize)
-        requires in_order { at ≤ back }
-        requires in_bounds { back ≤ length slots.old }
+        requires in_bounds { Within at back (length slots.old) }
         requires few { FitsBits 100 (touch_count self.old) }
         ensures kept { take (length slots.old - (back - at)) slots.new ≡ take at slots.old ++ drop back slots.old }
-        ensures len { length slots.new ≡ length slots.old }
         ensures count { touch_count self.new ≡ touch_count self.old + (length slots.old - back) }
     {
         let gap = back - at;
@@ -91,8 +89,7 @@ impl Touches {
 
     // Moves the slots from `middle` on before those from `start` on.
     pub(crate) fn rotate<T>(&mut self, slots: &mut [T], start: usize, middle: usize)
-        requires in_order { start ≤ middle }
-        requires in_bounds { middle ≤ length slots.old }
+        requires in_bounds { Within start middle (length slots.old) }
         requires few { FitsBits 100 (touch_count self.old) }
         ensures after { slots.new
             ≡ take start slots.old ++ drop middle slots.old ++ slice_range slots.old start middle }

@@ -41,20 +41,6 @@ where
     v.try_push(item).is_none() & holds(v, items, spare)
 }
 
-/// Whether a cut to this length leaves this.
-pub fn truncates<A: Array>(
-    v: &mut ArrayVec<A>,
-    len: usize,
-    items: &[A::Item],
-    spare: &[A::Item],
-) -> bool
-where
-    A::Item: PartialEq,
-{
-    v.truncate(len);
-    holds(v, items, spare)
-}
-
 /// Whether `clone_from` answers this, and leaves this.
 pub fn clones_over<A: Array>(
     v: &mut ArrayVec<A>,

@@ -1,4 +1,4 @@
-//! Items, iterators, readers, writers and assertions that several crates of tests need.
+//! Items, iterators, steps and assertions that several crates of tests need.
 #![tactic(auto)]
 
 pub mod arrays;
@@ -8,13 +8,12 @@ mod counting;
 pub mod lent;
 mod memory;
 mod steps;
-pub mod streams;
 mod unhinted;
 
-pub use asserting::{debugs, eq_slices, same_value, shows};
+pub use asserting::{debugs, same_value, shows};
 pub use cloned::{Clones, Counted, Item};
 pub use counting::counted;
-pub use memory::{all_right, granted, granted_ok};
+pub use memory::{all_right, all_steps, granted, granted_ok};
 pub use steps::{
     answers, fails, first, is_debugged, is_left, is_shown, refuses, splice_refuses, yields,
     yields_back,

@@ -1,4 +1,5 @@
 //! Steps that may allocate, and the end of a test by steps.
+use crate::steps::first;
 use std::alloc::AllocError;
 use std::test::Fail;
 
@@ -35,4 +36,15 @@ pub fn all_right(wrong: u32) -> Result<(), Fail> {
         REFUSED => Err(Fail::from(Wrong::Memory)),
         _ => Err(Fail::from(Wrong::Step(wrong))),
     }
+}
+
+/// Ends a test by the number of the first of these steps that went wrong, if there is one.
+pub fn all_steps(steps: &[bool]) -> Result<(), Fail> {
+    let mut wrong = 0;
+    let mut step = 0_u32;
+    for is_right in steps {
+        step = step.wrapping_add(1);
+        wrong = first(wrong, step, *is_right);
+    }
+    all_right(wrong)
 }

@@ -3,11 +3,17 @@
 
 ghost use Rattle.std.specs.Iterator.{IsFinite};
 
-pub mod steps;
-
 use std::alloc::AllocError;
 use std::io::Write;
 use tinyvec::{Array, TinyVec};
+
+/// Whether memory was granted. Else the error ends a test that is refused it.
+pub fn granted<E: Drop>(called: Result<(), E>) -> Result<bool, AllocError> {
+    match called {
+        Ok(()) => Ok(true),
+        Err(_) => Err(AllocError),
+    }
+}
 
 /// Whether these are the items, and are there.
 pub fn lies<A: Array>(v: &TinyVec<A>, items: &[A::Item], inline: bool) -> bool
@@ -118,13 +124,4 @@ pub fn writes<A: Array<Item = u8>>(
         Ok(count) => Some((count == bytes.len()) & lies(v, items, inline)),
         Err(_) => refused(inline),
     }
-}
-
-/// Whether a cut to this length leaves this.
-pub fn truncates<A: Array>(v: &mut TinyVec<A>, len: usize, items: &[A::Item], inline: bool) -> bool
-where
-    A::Item: PartialEq,
-{
-    v.truncate(len);
-    lies(v, items, inline)
 }

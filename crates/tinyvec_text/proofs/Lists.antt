@@ -77,7 +77,8 @@ module _ {A : Type 0} where
   zero_spare : (old new : TinyVec A ℕ) → (IsInline new → IsInline old) → TinySlotRule (λ b. b ≡ 0) old new
       → All (λ b. b ≡ 0) (tiny_spare old) → All (λ b. b ≡ 0) (tiny_spare new)
   zero_spare (Inline v a) (Inline w b) place rule zero =
-      subst (All (λ b. b ≡ 0)) (sym rule.2) (All-append (λ b. b ≡ 0) rule.0 _ rule.1.1 (All-drop (λ b. b ≡ 0) _ _ zero))
+      let h = rule refl refl in
+      subst (All (λ b. b ≡ 0)) (sym h.2) (All-append (λ b. b ≡ 0) h.0 _ h.1.1 (All-drop (λ b. b ≡ 0) _ _ zero))
   zero_spare old (Heap w) place rule zero = λ k d few. absurd (omega (arith, few))
   zero_spare (Heap v) (Inline w b) place rule zero = absurd (let no = place refl in cc)
 

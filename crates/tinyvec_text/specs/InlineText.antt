@@ -42,13 +42,13 @@ pub record MakesRoom {X E : Type 0} (moves : Bool) (slots need : ℕ) (old new :
   pub same_room : need ≤ old.room → new.room ≡ old.room
   pub grown : OnOk result (TextGrows moves need old new)
   pub fits : text_len new ≤ new.room
-  -- where there is room it allocates nothing, and a failure changes nothing
+  -- if there is room it allocates nothing, and a failure changes nothing
   pub succeeds : need ≤ old.room → IsOk result
   pub inline_succeeds : IsTrue old.inline → need ≤ slots → IsOk result
   pub full : OnErr result (old.room < need)
   pub refused : OnErr result (new ≡ old)
 
--- A call that appends piece by piece took `old` to `new`: the text moves only where it outgrows the array, and grows to less
+-- A call that appends piece by piece took `old` to `new`: the text moves only if it outgrows the array, and grows to less
 -- than twice its bytes.
 pub record TextExtends (slots : ℕ) (old new : Text) : Type 0 where
   pub longer : text_len old ≤ text_len new

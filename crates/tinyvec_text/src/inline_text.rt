@@ -49,19 +49,19 @@ impl<const N: usize> InlineText<N> {
         }
     }
 
-    /// An empty text with room for `n` bytes, inline where the array has it. Otherwise allocates it.
-    pub fn with_capacity(alloc: Global, n: usize) -> Result<Self, AllocError>
+    /// An empty text with room for `capacity` bytes, inline if the array has it. Otherwise allocates it.
+    pub fn with_capacity(alloc: Global, capacity: usize) -> Result<Self, AllocError>
         ensures bytes { IfOk result (λ t. t.bytes ≡ []) }
         ensures text { IfOk result (λ t. text_chars t ≡ []) }
-        ensures place { IfOk result (λ t. IsTrue t.inline ↔ (n ≤ N)) }
-        ensures room { IfOk result (λ t. t.room ≡ max n N) }
-        ensures succeeds { n ≤ N → IsOk result }
+        ensures place { IfOk result (λ t. IsTrue t.inline ↔ (capacity ≤ N)) }
+        ensures room { IfOk result (λ t. t.room ≡ max capacity N) }
+        ensures succeeds { capacity ≤ N → IsOk result }
     {
-        let list = TinyVec::with_capacity(alloc, n)?;
+        let list = TinyVec::with_capacity(alloc, capacity)?;
         Ok(InlineText { list })
     }
 
-    /// The text of these bytes, in their place, or the bytes where they are not UTF-8. Allocates nothing. Sets the spare
+    /// The text of these bytes, in their place, or the bytes if they are not UTF-8. Allocates nothing. Sets the spare
     /// slots to zero.
     pub fn from_utf8(bytes: TinyVec<[u8; N]>) -> Result<Self, FromUtf8Error<N>>
         ensures variant { IsOk result ↔ IsUtf8 (tiny_items bytes.entry) }

@@ -4,7 +4,7 @@ use Rattle.tinyvec_slots.specs.Slots.{spare as spare_in}
 use Rattle.std.specs.Borrow.{MutBor}
 use Rattle.tinyvec_slice.specs.declared.lent.Lent as Lent
 use Rattle.tinyvec_slice.specs.declared.slice_vec.GenericSliceVec.{GenericSliceVec}
-use Rattle.tinyvec_slice.specs.SliceVec.{view, items, spare, name, view_of, items_of, spare_of, len_of, slots_of, name_of, VacatesOf}
+use Rattle.tinyvec_slice.specs.SliceVec.{view, items, spare, name, view_of, items_of, spare_of, len_of, slots_of, name_of, SameLender, VacatesOf}
 use Rattle.tinyvec_words.proofs.Shown.{D, over}
 
 module _ (v : GenericSliceVec (MutBor (List ℕ)) ℕ) (lent : v.lent.now ≡ 1 ∷ 2 ∷ 0 ∷ []) (len : v.len ≡ 2) where
@@ -38,6 +38,9 @@ module _ {B : Type 0} (g : Lent.Ghosts B ℕ) (v : GenericSliceVec B ℕ) (lent 
 
   pub example-name_of : name_of g v ≡ g.name v.lent
   example-name_of = refl
+
+  pub example-SameLender : SameLender g v v
+  example-SameLender = record { same_reference = refl; slot_count = refl }
 
   pub example-VacatesOf : (w : GenericSliceVec B ℕ) → view_of g w ≡ over (1 ∷ []) (0 ∷ 0 ∷ []) → VacatesOf g D 1 v w
   example-VacatesOf w after = (0 ∷ [], search rules, ap spare_in after ∙ ap (λ xs. 0 ∷ xs) (sym example-spare_of))

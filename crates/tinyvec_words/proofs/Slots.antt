@@ -1,6 +1,6 @@
 -- Examples of lists and spare slots.
 use Rattle.std.proofs.Common.{◌≡◌, [], ◌∷◌, refl, rules}
-use Rattle.tinyvec_slots.specs.Slots.{items, spare, items_len, all_slots, split_at, AreDefaults, Vacates, SlotRule, with_items}
+use Rattle.tinyvec_slots.specs.Slots.{items, spare, items_len, all_slots, split_at, AreDefaults, Vacates, SlotRule, with_items, Shortens}
 use Rattle.tinyvec_words.proofs.Shown.{D, nums, over}
 
 -- of tinyvec_slots.specs.Slots
@@ -27,6 +27,9 @@ example-AreDefaults = search rules
 
 pub example-Vacates : Vacates D 2 (over (1 ∷ 2 ∷ 3 ∷ []) (7 ∷ [])) (over (1 ∷ []) (0 ∷ 0 ∷ 7 ∷ []))
 example-Vacates = (0 ∷ 0 ∷ [], example-AreDefaults, refl)
+
+pub example-Shortens : Shortens D (over (1 ∷ 2 ∷ 3 ∷ []) (7 ∷ [])) (over (1 ∷ []) (0 ∷ 0 ∷ 7 ∷ []))
+example-Shortens = record { bound = search rules; spare = example-Vacates }
 
 pub example-SlotRule : SlotRule D (over (1 ∷ []) (7 ∷ 8 ∷ [])) (over (1 ∷ 5 ∷ []) (8 ∷ []))
 example-SlotRule = search rules

@@ -50,7 +50,7 @@ module _ (A : Type 0) (alloc : Global) where
   pub example-StaysInPlace : StaysInPlace D 4 (inline (1 ∷ 2 ∷ []) (7 ∷ 8 ∷ [])) (inline (1 ∷ []) (0 ∷ 7 ∷ 8 ∷ []))
   example-StaysInPlace = record {
     place = refl;
-    slot_rule = (0 ∷ [], search rules, refl);
+    slot_rule = λ _ _. (0 ∷ [], search rules, refl);
     capacity = refl;
     fits = omega arith;
   }

@@ -23,33 +23,21 @@ impl<A: Array> TinyVec<A> {
         ensures fits { tiny_len self.new ≤ tiny_capacity A.CAPACITY self.new }
         ensures refused { OnErr result (Unchanged self.old self.new) }
     {
-        match self {
-            TinyVec::Inline(v, alloc) => {
-                let len = v.len();
-                let more = if len > usize::MAX - len {
-                    1
-                } else {
-                    len.max(1)
-                };
-                let heap = v.drain_to_vec_and_reserve(*alloc, more)?;
-                *self = TinyVec::Heap(heap);
-                Ok(())
-            }
-            TinyVec::Heap(v) => grow_heap(v, 1),
-        }
+        let len = self.len();
+        self.grow(len.max(1))
     }
 
-    /// Reserves room for `n` items more. An inline list whose array has no such room moves to the heap. If there is room
+    /// Reserves room for `additional` items more. An inline list whose array has no such room moves to the heap. If there is room
     /// already, it allocates nothing.
     #[inline(always)]
-    pub fn reserve(&mut self, n: usize) -> Result<(), AllocError>
-        ensures { Reserves A.Item.is_default A.CAPACITY n
-            (max (2 * tiny_capacity A.CAPACITY self.old) (tiny_len self.old + n)) self.old self.new result }
+    pub fn reserve(&mut self, additional: usize) -> Result<(), AllocError>
+        ensures { Reserves A.Item.is_default A.CAPACITY additional
+            (max (2 * tiny_capacity A.CAPACITY self.old) (tiny_len self.old + additional)) self.old self.new result }
     {
-        if n <= self.capacity() - self.len() {
+        if additional <= self.capacity() - self.len() {
             return Ok(());
         }
-        self.grow(n)
+        self.grow(additional)
     }
 
     // `reserve` of a list that has no such room.
@@ -72,38 +60,50 @@ impl<A: Array> TinyVec<A> {
         }
     }
 
-    /// The same as `reserve`.
-    pub fn try_reserve(&mut self, n: usize) -> Result<(), AllocError>
-        ensures { Reserves A.Item.is_default A.CAPACITY n
-            (max (2 * tiny_capacity A.CAPACITY self.old) (tiny_len self.old + n)) self.old self.new result }
+    // Moves an inline list to the heap, with room for `n` items more.
+    fn leave_array(&mut self, n: usize) -> Result<(), AllocError>
+        requires { IsInline self.old }
+        ensures { MovesToHeapWithRoom A.CAPACITY n self.old self.new result }
     {
-        self.reserve(n)
+        if let TinyVec::Inline(v, alloc) = self {
+            let heap = v.drain_to_vec_and_reserve(*alloc, n)?;
+            *self = TinyVec::Heap(heap);
+        }
+        Ok(())
     }
 
-    /// Reserves room for `n` items more, and on the heap for no further ones.
-    pub fn reserve_exact(&mut self, n: usize) -> Result<(), AllocError>
-        ensures reserves { Reserves A.Item.is_default A.CAPACITY n (tiny_len self.old + n) self.old self.new result }
+    /// The same as `reserve`.
+    pub fn try_reserve(&mut self, additional: usize) -> Result<(), AllocError>
+        ensures { Reserves A.Item.is_default A.CAPACITY additional
+            (max (2 * tiny_capacity A.CAPACITY self.old) (tiny_len self.old + additional)) self.old self.new result }
+    {
+        self.reserve(additional)
+    }
+
+    /// Reserves room for `additional` items more, and on the heap for no further ones.
+    pub fn reserve_exact(&mut self, additional: usize) -> Result<(), AllocError>
+        ensures reserves { Reserves A.Item.is_default A.CAPACITY additional (tiny_len self.old + additional) self.old self.new result }
         ensures exact { OnOk result (tiny_capacity A.CAPACITY self.new
-            ≡ max (tiny_capacity A.CAPACITY self.old) (tiny_len self.old + n)) }
+            ≡ max (tiny_capacity A.CAPACITY self.old) (tiny_len self.old + additional)) }
     {
         match self {
-            TinyVec::Inline(_, _) => self.reserve(n),
+            TinyVec::Inline(_, _) => self.reserve(additional),
             TinyVec::Heap(v) => {
-                if n <= v.capacity() - v.len() {
+                if additional <= v.capacity() - v.len() {
                     return Ok(());
                 }
-                v.reserve_exact(n)
+                v.reserve_exact(additional)
             }
         }
     }
 
     /// The same as `reserve_exact`.
-    pub fn try_reserve_exact(&mut self, n: usize) -> Result<(), AllocError>
-        ensures reserves { Reserves A.Item.is_default A.CAPACITY n (tiny_len self.old + n) self.old self.new result }
+    pub fn try_reserve_exact(&mut self, additional: usize) -> Result<(), AllocError>
+        ensures reserves { Reserves A.Item.is_default A.CAPACITY additional (tiny_len self.old + additional) self.old self.new result }
         ensures exact { OnOk result (tiny_capacity A.CAPACITY self.new
-            ≡ max (tiny_capacity A.CAPACITY self.old) (tiny_len self.old + n)) }
+            ≡ max (tiny_capacity A.CAPACITY self.old) (tiny_len self.old + additional)) }
     {
-        self.reserve_exact(n)
+        self.reserve_exact(additional)
     }
 
     // Moves the items of `heap` into an array.
@@ -123,9 +123,8 @@ impl<A: Array> TinyVec<A> {
     pub fn move_to_the_heap(&mut self) -> Result<(), AllocError>
         ensures { MovesToHeap A.CAPACITY self.old self.new result }
     {
-        if let TinyVec::Inline(v, alloc) = self {
-            let heap = v.drain_to_vec(*alloc)?;
-            *self = TinyVec::Heap(heap);
+        if self.is_inline() {
+            return self.leave_array(0);
         }
         Ok(())
     }
@@ -137,25 +136,21 @@ impl<A: Array> TinyVec<A> {
         self.move_to_the_heap()
     }
 
-    /// Moves an inline list to the heap, and reserves room there for `n` items more.
-    pub fn move_to_the_heap_and_reserve(&mut self, n: usize) -> Result<(), AllocError>
-        ensures { MovesToHeapWithRoom A.CAPACITY n self.old self.new result }
+    /// Moves an inline list to the heap, and reserves room there for `additional` items more.
+    pub fn move_to_the_heap_and_reserve(&mut self, additional: usize) -> Result<(), AllocError>
+        ensures { MovesToHeapWithRoom A.CAPACITY additional self.old self.new result }
     {
         match self {
-            TinyVec::Inline(v, alloc) => {
-                let heap = v.drain_to_vec_and_reserve(*alloc, n)?;
-                *self = TinyVec::Heap(heap);
-                Ok(())
-            }
-            TinyVec::Heap(_) => self.reserve(n),
+            TinyVec::Inline(_, _) => self.leave_array(additional),
+            TinyVec::Heap(_) => self.reserve(additional),
         }
     }
 
     /// The same as `move_to_the_heap_and_reserve`.
-    pub fn try_move_to_the_heap_and_reserve(&mut self, n: usize) -> Result<(), AllocError>
-        ensures { MovesToHeapWithRoom A.CAPACITY n self.old self.new result }
+    pub fn try_move_to_the_heap_and_reserve(&mut self, additional: usize) -> Result<(), AllocError>
+        ensures { MovesToHeapWithRoom A.CAPACITY additional self.old self.new result }
     {
-        self.move_to_the_heap_and_reserve(n)
+        self.move_to_the_heap_and_reserve(additional)
     }
 
     /// Moves a list on the heap into the array if it fits, which allocates nothing. Otherwise shrinks the allocation; if
@@ -215,7 +210,7 @@ impl<A: Array> TinyVec<A> {
     }
 }
 
-// Reserves room on the heap for `n` items more: twice the capacity, or what is needed where that is more. `Vec::reserve`
+// Reserves room on the heap for `n` items more: twice the capacity, or what is needed if that is more. `Vec::reserve`
 // does so too, but does not promise it.
 fn grow_heap<T>(heap: &mut Vec<T>, n: usize) -> Result<(), AllocError>
     requires { vec_capacity heap.old < vec_len heap.old + n }

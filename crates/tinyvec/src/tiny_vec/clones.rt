@@ -7,7 +7,7 @@ ghost use Rattle.tinyvec.specs.Refused.{RefusedFor};
 ghost use Rattle.tinyvec.specs.Room.{GrowsFor, RoomGrows};
 
 use crate::TinyVec;
-use crate::cloning::push_clones;
+use crate::tuned::push_clones;
 use std::alloc::AllocError;
 use tinyvec_array::Array;
 use tinyvec_slots::clone_over;
@@ -70,7 +70,7 @@ impl<A: Array> TinyVec<A> {
         ensures slot_rule { OnOk result (TinySlotRule A.Item.is_default self.old self.new) }
         ensures room { RoomGrows GrowsFor A.CAPACITY (tiny_len source.now) self.old self.new result }
 
-        // Where there is room only clones allocate.
+        // If there is room only clones allocate.
         ensures succeeds { tiny_len source.now ≤ tiny_capacity A.CAPACITY self.old
             → All A.Item.is_infallible (tiny_items source.now) → IsOk result }
         ensures refused { OnErr result (RefusedFor A.CAPACITY (tiny_len source.now)

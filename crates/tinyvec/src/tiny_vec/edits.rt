@@ -11,45 +11,45 @@ use tinyvec_array::{Array, NoMemory};
 use tinyvec_slots::{move_to_end, remove_shifting};
 
 impl<A: Array> TinyVec<A> {
-    /// Appends `x` to a list that has room. It allocates nothing, so it cannot fail.
-    pub fn push_reserved(&mut self, x: A::Item)
+    /// Appends `value` to a list that has room. It allocates nothing, so it cannot fail.
+    pub fn push_reserved(&mut self, value: A::Item)
         requires { tiny_len self.old < tiny_capacity A.CAPACITY self.old }
-        ensures items { tiny_items self.new ≡ tiny_items self.old ++ x ∷ [] }
+        ensures items { tiny_items self.new ≡ tiny_items self.old ++ value ∷ [] }
         ensures spare { tiny_spare self.new ≡ drop 1 (tiny_spare self.old) }
         ensures frame { StaysInPlace A.Item.is_default A.CAPACITY self.old self.new }
     {
         match self {
-            TinyVec::Inline(v, _) => v.push(x),
-            TinyVec::Heap(v) => v.push_reserved(x),
+            TinyVec::Inline(v, _) => v.push(value),
+            TinyVec::Heap(v) => v.push_reserved(value),
         }
     }
 
-    /// Appends `x`. A full list first doubles its capacity, which moves an inline one to the heap. If the allocator refuses,
-    /// nothing changes and `x` is returned.
-    pub fn push(&mut self, x: A::Item) -> Result<(), NoMemory<A::Item>>
+    /// Appends `value`. A full list first doubles its capacity, which moves an inline one to the heap. If the allocator refuses,
+    /// nothing changes and `value` is returned.
+    pub fn push(&mut self, value: A::Item) -> Result<(), NoMemory<A::Item>>
         ensures items { tiny_items self.new
-            ≡ (if is_ok result then tiny_items self.old ++ x ∷ [] else tiny_items self.old) }
+            ≡ (if is_ok result then tiny_items self.old ++ value ∷ [] else tiny_items self.old) }
         ensures len { tiny_len self.new ≡ (if is_ok result then tiny_len self.old + 1 else tiny_len self.old) }
         ensures place { OnOk result (PlaceRule A.CAPACITY (tiny_len self.old + 1) self.old self.new) }
         ensures slot_rule { TinySlotRule A.Item.is_default self.old self.new }
         ensures room { RoomGrows Doubles A.CAPACITY (tiny_len self.old + 1) self.old self.new result }
 
-        // Where there is room it allocates nothing.
+        // If there is room it allocates nothing.
         ensures succeeds { tiny_len self.old < tiny_capacity A.CAPACITY self.old → IsOk result }
         ensures succeeds_inline { IsInline self.old → tiny_len self.old < A.CAPACITY → IsOk result }
         ensures full { OnErr result (tiny_len self.old ≡ tiny_capacity A.CAPACITY self.old) }
         ensures refused { OnErr result (Unchanged self.old self.new) }
-        ensures value_returned { IfErr result (λ refused. refused.0 ≡ x) }
+        ensures value_returned { IfErr result (λ refused. refused.0 ≡ value) }
     {
         // One test of the variant; growing is kept out of the usual path.
         match self {
-            TinyVec::Inline(v, _) if !v.is_full() => v.push(x),
-            TinyVec::Heap(v) if v.len() < v.capacity() => v.push_reserved(x),
+            TinyVec::Inline(v, _) if !v.is_full() => v.push(value),
+            TinyVec::Heap(v) if v.len() < v.capacity() => v.push_reserved(value),
             _ => {
                 if self.grow_one().is_err() {
-                    return Err(NoMemory(x));
+                    return Err(NoMemory(value));
                 }
-                self.push_reserved(x);
+                self.push_reserved(value);
             }
         }
         Ok(())
@@ -70,92 +70,92 @@ impl<A: Array> TinyVec<A> {
     }
 
     // `insert` into a list that has room.
-    fn insert_reserved(&mut self, i: usize, x: A::Item)
-        requires in_list { i ≤ tiny_len self.old }
+    fn insert_reserved(&mut self, index: usize, element: A::Item)
+        requires in_list { index ≤ tiny_len self.old }
         requires room { tiny_len self.old < tiny_capacity A.CAPACITY self.old }
-        ensures items { tiny_items self.new ≡ insert (tiny_items self.old) i x }
+        ensures items { tiny_items self.new ≡ insert (tiny_items self.old) index element }
         ensures frame { StaysInPlace A.Item.is_default A.CAPACITY self.old self.new }
     {
         match self {
-            TinyVec::Inline(v, _) => v.insert(i, x),
+            TinyVec::Inline(v, _) => v.insert(index, element),
             TinyVec::Heap(v) => {
-                let _room_was_there = v.insert(i, x);
+                let _room_was_there = v.insert(index, element);
             }
         }
     }
 
-    /// Inserts `x` at `i`, and moves the later items up. A full list first doubles its capacity, which moves an inline one
-    /// to the heap. If the allocator refuses, nothing changes and `x` is returned.
+    /// Inserts `element` at `index`, and moves the later items up. A full list first doubles its capacity, which moves an inline one
+    /// to the heap. If the allocator refuses, nothing changes and `element` is returned.
     // Inlined, so that the variant is tested once for this call and the next.
     #[inline(always)]
-    pub fn insert(&mut self, i: usize, x: A::Item) -> Result<(), NoMemory<A::Item>>
-        requires { i ≤ tiny_len self.old }
+    pub fn insert(&mut self, index: usize, element: A::Item) -> Result<(), NoMemory<A::Item>>
+        requires { index ≤ tiny_len self.old }
         ensures items { tiny_items self.new
-            ≡ (if is_ok result then insert (tiny_items self.old) i x else tiny_items self.old) }
+            ≡ (if is_ok result then insert (tiny_items self.old) index element else tiny_items self.old) }
         ensures len { tiny_len self.new ≡ (if is_ok result then tiny_len self.old + 1 else tiny_len self.old) }
         ensures place { OnOk result (PlaceRule A.CAPACITY (tiny_len self.old + 1) self.old self.new) }
         ensures slot_rule { TinySlotRule A.Item.is_default self.old self.new }
         ensures room { RoomGrows Doubles A.CAPACITY (tiny_len self.old + 1) self.old self.new result }
 
-        // Where there is room it allocates nothing.
+        // If there is room it allocates nothing.
         ensures succeeds { tiny_len self.old < tiny_capacity A.CAPACITY self.old → IsOk result }
         ensures succeeds_inline { IsInline self.old → tiny_len self.old < A.CAPACITY → IsOk result }
         ensures full { OnErr result (tiny_len self.old ≡ tiny_capacity A.CAPACITY self.old) }
         ensures refused { OnErr result (Unchanged self.old self.new) }
-        ensures value_returned { IfErr result (λ refused. refused.0 ≡ x) }
+        ensures value_returned { IfErr result (λ refused. refused.0 ≡ element) }
     {
         match self {
-            TinyVec::Inline(v, _) if !v.is_full() => v.insert(i, x),
+            TinyVec::Inline(v, _) if !v.is_full() => v.insert(index, element),
             TinyVec::Heap(v) if v.len() < v.capacity() => {
-                let _room_was_there = v.insert(i, x);
+                let _room_was_there = v.insert(index, element);
             }
             _ => {
                 if self.grow_one().is_err() {
-                    return Err(NoMemory(x));
+                    return Err(NoMemory(element));
                 }
-                self.insert_reserved(i, x);
+                self.insert_reserved(index, element);
             }
         }
         Ok(())
     }
 
-    /// Removes the item at `i` and returns it. The later ones move down.
+    /// Removes the item at `index` and returns it. The later ones move down.
     // Inlined like `insert`.
     #[inline(always)]
-    pub fn remove(&mut self, i: usize) -> A::Item
-        requires { i < tiny_len self.old }
-        ensures value { result ≡ slice_index_or (tiny_items self.old) i result }
-        ensures items { tiny_items self.new ≡ remove (tiny_items self.old) i }
+    pub fn remove(&mut self, index: usize) -> A::Item
+        requires { index < tiny_len self.old }
+        ensures value { result ≡ slice_index_or (tiny_items self.old) index result }
+        ensures items { tiny_items self.new ≡ remove (tiny_items self.old) index }
         ensures frame { StaysInPlace A.Item.is_default A.CAPACITY self.old self.new }
     {
         match self {
-            TinyVec::Inline(v, _) => v.remove(i),
-            TinyVec::Heap(v) => remove_on_heap(v, i),
+            TinyVec::Inline(v, _) => v.remove(index),
+            TinyVec::Heap(v) => remove_on_heap(v, index),
         }
     }
 
-    /// Removes the item at `i` and returns it. The last one takes its place.
-    pub fn swap_remove(&mut self, i: usize) -> A::Item
-        requires { i < tiny_len self.old }
-        ensures value { result ≡ slice_index_or (tiny_items self.old) i result }
-        ensures items { tiny_items self.new ≡ swap_remove (tiny_items self.old) i result }
+    /// Removes the item at `index` and returns it. The last one takes its place.
+    pub fn swap_remove(&mut self, index: usize) -> A::Item
+        requires { index < tiny_len self.old }
+        ensures value { result ≡ slice_index_or (tiny_items self.old) index result }
+        ensures items { tiny_items self.new ≡ swap_remove (tiny_items self.old) index result }
         ensures frame { StaysInPlace A.Item.is_default A.CAPACITY self.old self.new }
     {
         match self {
-            TinyVec::Inline(v, _) => v.swap_remove(i),
-            TinyVec::Heap(v) => v.swap_remove(i),
+            TinyVec::Inline(v, _) => v.swap_remove(index),
+            TinyVec::Heap(v) => v.swap_remove(index),
         }
     }
 
-    /// Keeps the first `n` items, or all if there are no more. Inline, each vacated slot is reset to a default.
+    /// Keeps the first `new_len` items, or all if there are no more. Inline, each vacated slot is reset to a default.
     #[inline(always)]
-    pub fn truncate(&mut self, n: usize)
-        ensures items { tiny_items self.new ≡ take n (tiny_items self.old) }
+    pub fn truncate(&mut self, new_len: usize)
+        ensures items { tiny_items self.new ≡ take new_len (tiny_items self.old) }
         ensures frame { StaysInPlace A.Item.is_default A.CAPACITY self.old self.new }
     {
         match self {
-            TinyVec::Inline(v, _) => v.truncate(n),
-            TinyVec::Heap(v) => v.truncate(n),
+            TinyVec::Inline(v, _) => v.truncate(new_len),
+            TinyVec::Heap(v) => v.truncate(new_len),
         }
     }
 
@@ -204,18 +204,18 @@ impl<A: Array> TinyVec<A> {
         }
     }
 
-    /// Removes the item at `i` and returns it, or returns `None` if the list has no such item. The later ones move down.
-    pub fn pop_at(&mut self, i: usize) -> Option<A::Item>
-        ensures variant { IsSome result ↔ (i < tiny_len self.old) }
-        ensures value { result ≡ slice_get (tiny_items self.old) i }
-        ensures items { OnSome result (tiny_items self.new ≡ remove (tiny_items self.old) i) }
+    /// Removes the item at `index` and returns it, or returns `None` if the list has no such item. The later ones move down.
+    pub fn pop_at(&mut self, index: usize) -> Option<A::Item>
+        ensures variant { IsSome result ↔ (index < tiny_len self.old) }
+        ensures value { result ≡ slice_get (tiny_items self.old) index }
+        ensures items { OnSome result (tiny_items self.new ≡ remove (tiny_items self.old) index) }
         ensures none { IfNone result (Unchanged self.old self.new) }
         ensures frame { StaysInPlace A.Item.is_default A.CAPACITY self.old self.new }
     {
-        if i >= self.len() {
+        if index >= self.len() {
             return None;
         }
-        Some(self.remove(i))
+        Some(self.remove(index))
     }
 }
 

@@ -7,11 +7,11 @@ ghost use Rattle.tinyvec.specs.Refused.{RefusedFor, ClonesBehind};
 ghost use Rattle.tinyvec.specs.Room.{GrowsFor, RoomGrows, Grows};
 ghost use Rattle.tinyvec_slots.specs.Slots.{AreDefaults, items, spare, items_len};
 ghost use Rattle.std.specs.Iterator.{IsFinite, Drains, YieldsThen};
-ghost use Rattle.tinyvec_slots.specs.Filling.{ShowsItems, IntoIterYields, AppendsResultsTo};
+ghost use Rattle.tinyvec_slots.specs.Filling.{ShowsItems, IntoIterYields};
 ghost use Rattle.tinyvec.specs.Following.{Follows};
 
 use crate::TinyVec;
-use crate::cloning::{push_clones, push_clones_of, push_copies};
+use crate::tuned::{push_clones, push_clones_of, push_copies};
 use std::alloc::{AllocError, Global};
 use std::mem;
 use tinyvec_array::{Array, ArrayVec, FromIterRest, NoMemory, NoRoom};
@@ -57,7 +57,7 @@ impl<A: Array> TinyVec<A> {
         ensures slot_rule { OnOk result (TinySlotRule A.Item.is_default self.old self.new) }
         ensures room { RoomGrows GrowsFor A.CAPACITY (tiny_len self.old + length other.now) self.old self.new result }
 
-        // Where there is room only clones allocate.
+        // If there is room only clones allocate.
         ensures succeeds { tiny_len self.old + length other.now ≤ tiny_capacity A.CAPACITY self.old
             → All A.Item.is_infallible other.now → IsOk result }
 
@@ -113,7 +113,7 @@ impl<A: Array> TinyVec<A> {
         ensures slot_rule { TinySlotRule A.Item.is_default self.old self.new }
         ensures room { RoomGrows GrowsFor A.CAPACITY (tiny_len self.old + length other.now) self.old self.new result }
 
-        // Where there is room it allocates nothing.
+        // If there is room it allocates nothing.
         ensures succeeds { tiny_len self.old + length other.now ≤ tiny_capacity A.CAPACITY self.old → IsOk result }
         ensures full { OnErr result (tiny_capacity A.CAPACITY self.old < tiny_len self.old + length other.now) }
         ensures refused { OnErr result (Unchanged self.old self.new) }
@@ -164,7 +164,7 @@ impl<A: Array> TinyVec<A> {
         ensures other_items { OnOk result (tiny_items other.new ≡ []) }
         ensures other_frame { StaysInPlace A.Item.is_default A.CAPACITY other.old other.new }
 
-        // Where there is room it allocates nothing.
+        // If there is room it allocates nothing.
         ensures succeeds { tiny_len self.old + tiny_len other.old ≤ tiny_capacity A.CAPACITY self.old → IsOk result }
         ensures full { OnErr result (tiny_capacity A.CAPACITY self.old < tiny_len self.old + tiny_len other.old) }
         ensures refused { OnErr result (Unchanged self.old self.new × (other.new ≡ other.old)) }
@@ -190,7 +190,7 @@ impl<A: Array> TinyVec<A> {
             × (tiny_items self.new ≡ tiny_items self.old ++ xs) }
         ensures grows { Grows A.Item.is_default A.CAPACITY self.old self.new }
 
-        // It fails only where there is no room.
+        // It fails only if there is no room.
         ensures full { OnErr result (tiny_len self.new ≡ tiny_capacity A.CAPACITY self.new) }
 
         // The returned iterator can be iterated further.
@@ -202,7 +202,7 @@ impl<A: Array> TinyVec<A> {
             × MatchResult result (λ _. rest it ≡ xs) (λ refused. rest it ≡ xs ++ refused.item ∷ rest refused.rest)
             × (tiny_items self.new ≡ tiny_items self.old ++ xs) }
 
-        // For items that are known, as those of a `Vec`, a range or a slice. Where they fit, it allocates nothing.
+        // For items that are known, as those of a `Vec`, a range or a slice. If they fit, it allocates nothing.
         ensures known { (xs : List A.Item) → IntoIterYields I.into_iter_gives I.IntoIter.next_gives iter xs
             → OnOk result (tiny_items self.new ≡ tiny_items self.old ++ xs)
             × (tiny_len self.old + length xs ≤ tiny_capacity A.CAPACITY self.old
@@ -276,7 +276,7 @@ impl<A: Array> TinyVec<A> {
             → tiny_capacity A.CAPACITY v < 2 * tiny_len v) }
         ensures fits { IfOk result (λ v. tiny_len v ≤ tiny_capacity A.CAPACITY v) }
 
-        // It fails only where there is no room.
+        // It fails only if there is no room.
         ensures full { IfErr result (λ refused. (tiny_len refused.vec ≡ tiny_capacity A.CAPACITY refused.vec)
             × (A.CAPACITY ≤ tiny_len refused.vec)) }
         ensures refused_place { IfErr result (λ refused. IsInline refused.vec ↔ (tiny_len refused.vec ≤ A.CAPACITY)) }
@@ -290,7 +290,7 @@ impl<A: Array> TinyVec<A> {
             × MatchResult result (λ v. rest it ≡ tiny_items v)
             (λ refused. rest it ≡ tiny_items refused.vec ++ refused.item ∷ rest refused.rest) }
 
-        // For items that are known. Where they fit the array, it allocates nothing.
+        // For items that are known. If they fit the array, it allocates nothing.
         ensures known { (xs : List A.Item) → IntoIterYields I.into_iter_gives I.IntoIter.next_gives iter xs
             → IfOk result (λ v. tiny_items v ≡ xs) × (length xs ≤ A.CAPACITY → IsOk result) }
     {
@@ -301,42 +301,42 @@ impl<A: Array> TinyVec<A> {
         }
     }
 
-    /// Truncates the list to `n` items, or fills it up to `n` with clones of `x`. Room for all of them is allocated once,
-    /// before any is cloned. On failure `x` is returned.
-    pub fn resize(&mut self, n: usize, x: A::Item) -> Result<(), NoMemory<A::Item>>
+    /// Truncates the list to `new_len` items, or fills it up with clones of `value`. Room for all of them is allocated once,
+    /// before any is cloned. On failure `value` is returned.
+    pub fn resize(&mut self, new_len: usize, value: A::Item) -> Result<(), NoMemory<A::Item>>
     where
         A::Item: Clone,
         ensures items { OnOk result (AppendsClones A.Item.is_clone
-            (take n (tiny_items self.old)) (tiny_items self.new) (replicate (n - tiny_len self.old) x)) }
-        ensures len { OnOk result (tiny_len self.new ≡ n) }
+            (take new_len (tiny_items self.old)) (tiny_items self.new) (replicate (new_len - tiny_len self.old) value)) }
+        ensures len { OnOk result (tiny_len self.new ≡ new_len) }
         ensures if_clones_equal { OnOk result (ClonesAreEqual A.Item.is_clone
-            → tiny_items self.new ≡ take n (tiny_items self.old) ++ replicate (n - tiny_len self.old) x) }
-        ensures place { OnOk result (PlaceRule A.CAPACITY (max n (tiny_len self.old)) self.old self.new) }
+            → tiny_items self.new ≡ take new_len (tiny_items self.old) ++ replicate (new_len - tiny_len self.old) value) }
+        ensures place { OnOk result (PlaceRule A.CAPACITY (max new_len (tiny_len self.old)) self.old self.new) }
         ensures slot_rule { OnOk result (TinySlotRule A.Item.is_default self.old self.new) }
-        ensures room { RoomGrows GrowsFor A.CAPACITY n self.old self.new result }
+        ensures room { RoomGrows GrowsFor A.CAPACITY new_len self.old self.new result }
 
-        // Where there is room only clones allocate.
-        ensures cuts { n ≤ tiny_len self.old → IsOk result }
-        ensures succeeds { n ≤ tiny_capacity A.CAPACITY self.old → A.Item.is_infallible x → IsOk result }
+        // If there is room only clones allocate.
+        ensures cuts { new_len ≤ tiny_len self.old → IsOk result }
+        ensures succeeds { new_len ≤ tiny_capacity A.CAPACITY self.old → A.Item.is_infallible value → IsOk result }
 
         // On failure the list is unchanged. If only a clone failed, the reservation stays, and an inline list's first j
         // spare slots hold the clones made.
-        ensures value_returned { IfErr result (λ refused. refused.0 ≡ x) }
+        ensures value_returned { IfErr result (λ refused. refused.0 ≡ value) }
         ensures kept { OnErr result (tiny_items self.new ≡ tiny_items self.old) }
-        ensures refused { OnErr result (RefusedFor A.CAPACITY (max n (tiny_len self.old))
-            ((j : ℕ) × (j < n - tiny_len self.old) × ¬ (A.Item.is_infallible x)
-            × ClonesBehind A.Item.is_clone (replicate j x) j self.old self.new)
+        ensures refused { OnErr result (RefusedFor A.CAPACITY (max new_len (tiny_len self.old))
+            ((j : ℕ) × (j < new_len - tiny_len self.old) × ¬ (A.Item.is_infallible value)
+            × ClonesBehind A.Item.is_clone (replicate j value) j self.old self.new)
             self.old self.new) }
     {
         let len = self.len();
-        if n <= len {
-            self.truncate(n);
+        if new_len <= len {
+            self.truncate(new_len);
             return Ok(());
         }
-        if self.reserve(n - len).is_err() {
-            return Err(NoMemory(x));
+        if self.reserve(new_len - len).is_err() {
+            return Err(NoMemory(value));
         }
-        self.fill_reserved(n - len, x)
+        self.fill_reserved(new_len - len, value)
     }
 
     // Appends `n` clones of `x` to a list that has room.
@@ -370,48 +370,32 @@ impl<A: Array> TinyVec<A> {
         }
     }
 
-    /// Truncates the list to `n` items, or fills it up to `n` with what `f` returns. `f` is called only for these. Room for
+    /// Truncates the list to `new_len` items, or fills it up with what `f` returns. `f` is called only for these. Room for
     /// all of them is allocated once, before the first call.
     pub fn resize_with<F: FnMut() -> A::Item>(
         &mut self,
-        n: usize,
+        new_len: usize,
         mut f: F,
     ) -> Result<(), AllocError>
         requires { F.IsAlwaysCallable f }
-        ensures items { OnOk result (AppendsResults F.step (take n (tiny_items self.old)) (tiny_items self.new) f) }
-        ensures len { OnOk result (tiny_len self.new ≡ n) }
-        ensures place { OnOk result (PlaceRule A.CAPACITY (max n (tiny_len self.old)) self.old self.new) }
+        ensures items { OnOk result (AppendsResults F.step (take new_len (tiny_items self.old)) (tiny_items self.new) f) }
+        ensures len { OnOk result (tiny_len self.new ≡ new_len) }
+        ensures place { OnOk result (PlaceRule A.CAPACITY (max new_len (tiny_len self.old)) self.old self.new) }
         ensures slot_rule { TinySlotRule A.Item.is_default self.old self.new }
-        ensures room { RoomGrows GrowsFor A.CAPACITY n self.old self.new result }
+        ensures room { RoomGrows GrowsFor A.CAPACITY new_len self.old self.new result }
 
-        // Where there is room it allocates nothing.
-        ensures succeeds { n ≤ tiny_capacity A.CAPACITY self.old → IsOk result }
-        ensures full { OnErr result (tiny_capacity A.CAPACITY self.old < n) }
+        // If there is room it allocates nothing.
+        ensures succeeds { new_len ≤ tiny_capacity A.CAPACITY self.old → IsOk result }
+        ensures full { OnErr result (tiny_capacity A.CAPACITY self.old < new_len) }
         ensures refused { OnErr result (Unchanged self.old self.new) }
     {
-        self.resize_asked(n, &mut f)
-    }
-
-    // `resize_with`, and the state in which the last call leaves `f`.
-    fn resize_asked<F: FnMut() -> A::Item>(&mut self, n: usize, f: &mut F) -> Result<(), AllocError>
-        requires { F.IsAlwaysCallable f.old }
-        ensures items { OnOk result (AppendsResultsTo F.step
-            (take n (tiny_items self.old)) (tiny_items self.new) f.old f.new) }
-        ensures len { OnOk result (tiny_len self.new ≡ n) }
-        ensures place { OnOk result (PlaceRule A.CAPACITY (max n (tiny_len self.old)) self.old self.new) }
-        ensures slot_rule { TinySlotRule A.Item.is_default self.old self.new }
-        ensures room { RoomGrows GrowsFor A.CAPACITY n self.old self.new result }
-        ensures succeeds { n ≤ tiny_capacity A.CAPACITY self.old → IsOk result }
-        ensures full { OnErr result (tiny_capacity A.CAPACITY self.old < n) }
-        ensures refused { OnErr result (Unchanged self.old self.new × (f.new ≡ f.old)) }
-    {
         let len = self.len();
-        if n > len {
-            self.reserve(n - len)?;
-            self.push_answers(n, f);
+        if new_len > len {
+            self.reserve(new_len - len)?;
+            self.push_answers(new_len, &mut f);
             return Ok(());
         }
-        self.truncate(n);
+        self.truncate(new_len);
         Ok(())
     }
 
@@ -420,7 +404,7 @@ impl<A: Array> TinyVec<A> {
         requires longer { tiny_len self.old ≤ n }
         requires room { n ≤ tiny_capacity A.CAPACITY self.old }
         requires callable { F.IsAlwaysCallable f.old }
-        ensures items { AppendsResultsTo F.step (tiny_items self.old) (tiny_items self.new) f.old f.new }
+        ensures items { AppendsResults F.step (tiny_items self.old) (tiny_items self.new) f.old }
         ensures len { tiny_len self.new ≡ n }
         ensures spare { tiny_spare self.new ≡ drop (n - tiny_len self.old) (tiny_spare self.old) }
         ensures place { is_inline self.new ≡ is_inline self.old }

@@ -76,7 +76,7 @@ impl<A: Array> TinyVec<A> {
     }
 
     /// Calls `predicate` on the last item, and removes and returns the item if it returns `true`. Otherwise the item stays, as
-    /// `predicate` left it. Of an empty list nothing is called.
+    /// `predicate` left it. Calls nothing if the list is empty.
     pub fn pop_if<F: FnOnce(&mut A::Item) -> bool>(&mut self, predicate: F) -> Option<A::Item>
         requires { (x : A.Item) → slice_get (tiny_items self.old) (tiny_len self.old - 1) ≡ Some x
             → FnOnceTakesAtMut F.FnOnce predicate x }

@@ -38,22 +38,22 @@ impl<A: Array> Index<usize> for TinyVec<A> {
 
     ghost index_gives = { λ v i x. x ≡ slice_index_or (tiny_items v) i x };
 
-    fn index(&self, i: usize) -> &A::Item {
-        &self.as_slice()[i]
+    fn index(&self, index: usize) -> &A::Item {
+        &self.as_slice()[index]
     }
 }
 
 impl<A: Array> IndexMut<usize> for TinyVec<A> {
     ghost use Rattle.tinyvec.specs.Lends.{lends_item};
 
-    fn index_mut(&mut self, i: usize) -> &mut A::Item
-        requires { i < tiny_len self.old }
-        ensures* writes_back { sem 𝓛 (lends_item A.row A.Item.row A.Array A.Item.Default self.entry i result) }
-        ensures value { result.now ≡ slice_index_or (tiny_items self.old) i result.now }
+    fn index_mut(&mut self, index: usize) -> &mut A::Item
+        requires { index < tiny_len self.old }
+        ensures* writes_back { sem 𝓛 (lends_item A.row A.Item.row A.Array A.Item.Default self.entry index result) }
+        ensures value { result.now ≡ slice_index_or (tiny_items self.old) index result.now }
     {
         match self {
-            TinyVec::Inline(v, _) => &mut v[i],
-            TinyVec::Heap(v) => &mut v[i],
+            TinyVec::Inline(v, _) => &mut v[index],
+            TinyVec::Heap(v) => &mut v[index],
         }
     }
 }

@@ -10,32 +10,32 @@ use std::mem;
 use tinyvec_slots::{InSlots, fill_default, insert_shifting, last_to, remove_shifting};
 
 impl<A: Array> ArrayVec<A> {
-    /// Appends `x`.
-    pub fn push(&mut self, x: A::Item)
+    /// Appends `value`.
+    pub fn push(&mut self, value: A::Item)
         requires { items_len self.old < A.CAPACITY }
-        ensures items { items self.new ≡ items self.old ++ x ∷ [] }
+        ensures items { items self.new ≡ items self.old ++ value ∷ [] }
         ensures spare { spare self.new ≡ drop 1 (spare self.old) }
         ensures fits { items_len self.new ≤ A.CAPACITY }
     {
         let len = self.len();
         let slots = self.array.as_slice_mut();
         let at = bounded_index(len, slots.len());
-        slots[at] = x;
+        slots[at] = value;
         self.len = len + 1;
     }
 
-    /// Appends `x`, or returns it if the vector is full.
-    pub fn try_push(&mut self, x: A::Item) -> Option<A::Item>
+    /// Appends `value`, or returns it if the vector is full.
+    pub fn try_push(&mut self, value: A::Item) -> Option<A::Item>
         ensures variant { IsSome result ↔ (items_len self.old ≡ A.CAPACITY) }
-        ensures refused { IfSome result (λ y. (y ≡ x) × (self.new ≡ self.old)) }
-        ensures items { IfNone result (items self.new ≡ items self.old ++ x ∷ []) }
+        ensures refused { IfSome result (λ y. (y ≡ value) × (self.new ≡ self.old)) }
+        ensures items { IfNone result (items self.new ≡ items self.old ++ value ∷ []) }
         ensures spare { IfNone result (spare self.new ≡ drop 1 (spare self.old)) }
         ensures fits { items_len self.new ≤ A.CAPACITY }
     {
         if self.is_full() {
-            return Some(x);
+            return Some(value);
         }
-        self.push(x);
+        self.push(value);
         None
     }
 
@@ -74,69 +74,69 @@ impl<A: Array> ArrayVec<A> {
         item
     }
 
-    /// Inserts `x` at `i`, and moves the later items up.
-    pub fn insert(&mut self, i: usize, x: A::Item)
-        requires in_list { i ≤ items_len self.old }
+    /// Inserts `element` at `index`, and moves the later items up.
+    pub fn insert(&mut self, index: usize, element: A::Item)
+        requires in_list { index ≤ items_len self.old }
         requires room { items_len self.old < A.CAPACITY }
-        ensures items { items self.new ≡ insert (items self.old) i x }
+        ensures items { items self.new ≡ insert (items self.old) index element }
         ensures spare { spare self.new ≡ drop 1 (spare self.old) }
         ensures fits { items_len self.new ≤ A.CAPACITY }
     {
         let len = self.len();
-        if prefers_shifting_in(&self.array, i, len) {
-            insert_shifting(self.slots_mut(), i, len, x);
+        if prefers_shifting_in(&self.array, index, len) {
+            insert_shifting(self.slots_mut(), index, len, element);
             self.set_len(len + 1);
             return;
         }
-        self.push(x);
+        self.push(element);
         let len = self.len();
-        last_to(self.slots_mut(), i, len);
+        last_to(self.slots_mut(), index, len);
     }
 
-    /// Inserts `x` at `i`, or returns it if the vector is full.
-    pub fn try_insert(&mut self, i: usize, x: A::Item) -> Option<A::Item>
-        requires { i ≤ items_len self.old }
+    /// Inserts `element` at `index`, or returns it if the vector is full.
+    pub fn try_insert(&mut self, index: usize, element: A::Item) -> Option<A::Item>
+        requires { index ≤ items_len self.old }
         ensures variant { IsSome result ↔ (items_len self.old ≡ A.CAPACITY) }
-        ensures refused { IfSome result (λ y. (y ≡ x) × (self.new ≡ self.old)) }
-        ensures items { IfNone result (items self.new ≡ insert (items self.old) i x) }
+        ensures refused { IfSome result (λ y. (y ≡ element) × (self.new ≡ self.old)) }
+        ensures items { IfNone result (items self.new ≡ insert (items self.old) index element) }
         ensures spare { IfNone result (spare self.new ≡ drop 1 (spare self.old)) }
         ensures fits { items_len self.new ≤ A.CAPACITY }
     {
         if self.is_full() {
-            return Some(x);
+            return Some(element);
         }
-        self.insert(i, x);
+        self.insert(index, element);
         None
     }
 
-    /// Removes the item at `i` and returns it. The later ones move down.
-    pub fn remove(&mut self, i: usize) -> A::Item
-        requires { i < items_len self.old }
-        ensures value { result ≡ slice_index_or (items self.old) i result }
-        ensures items { items self.new ≡ remove (items self.old) i }
+    /// Removes the item at `index` and returns it. The later ones move down.
+    pub fn remove(&mut self, index: usize) -> A::Item
+        requires { index < items_len self.old }
+        ensures value { result ≡ slice_index_or (items self.old) index result }
+        ensures items { items self.new ≡ remove (items self.old) index }
         ensures spare { Vacates A.Item.is_default 1 self.old self.new }
         ensures fits { items_len self.new < A.CAPACITY }
     {
         let len = self.len();
-        if prefers_shifting_in(&self.array, i, len) {
-            let item = remove_shifting(self.slots_mut(), i, len);
+        if prefers_shifting_in(&self.array, index, len) {
+            let item = remove_shifting(self.slots_mut(), index, len);
             self.set_len(len - 1);
             return item;
         }
-        self.move_to_end(i, i + 1);
+        self.move_to_end(index, index + 1);
         self.take_last()
     }
 
-    /// Removes the item at `i` and returns it. The last one takes its place.
-    pub fn swap_remove(&mut self, i: usize) -> A::Item
-        requires { i < items_len self.old }
-        ensures value { result ≡ slice_index_or (items self.old) i result }
-        ensures items { items self.new ≡ swap_remove (items self.old) i result }
+    /// Removes the item at `index` and returns it. The last one takes its place.
+    pub fn swap_remove(&mut self, index: usize) -> A::Item
+        requires { index < items_len self.old }
+        ensures value { result ≡ slice_index_or (items self.old) index result }
+        ensures items { items self.new ≡ swap_remove (items self.old) index result }
         ensures spare { Vacates A.Item.is_default 1 self.old self.new }
         ensures fits { items_len self.new < A.CAPACITY }
     {
         let last = self.len() - 1;
-        self.swap_items(i, last);
+        self.swap_items(index, last);
         self.take_last()
     }
 
@@ -151,16 +151,16 @@ impl<A: Array> ArrayVec<A> {
         self.as_mut_slice().swap(i, j);
     }
 
-    /// Keeps the first `n` items, or all if there are no more. Each vacated slot is reset to a default.
-    pub fn truncate(&mut self, n: usize)
-        ensures items { items self.new ≡ take n (items self.old) }
-        ensures spare { Vacates A.Item.is_default (items_len self.old - n) self.old self.new }
+    /// Keeps the first `new_len` items, or all if there are no more. Each vacated slot is reset to a default.
+    pub fn truncate(&mut self, new_len: usize)
+        ensures items { items self.new ≡ take new_len (items self.old) }
+        ensures spare { Vacates A.Item.is_default (items_len self.old - new_len) self.old self.new }
         ensures fits { items_len self.new ≤ A.CAPACITY }
     {
         let len = self.len();
-        if n < len {
-            fill_default(self.slots_mut(), n, len, A::CAPACITY);
-            self.set_len(n);
+        if new_len < len {
+            fill_default(self.slots_mut(), new_len, len, A::CAPACITY);
+            self.set_len(new_len);
         }
     }
 
@@ -189,19 +189,19 @@ impl<A: Array> ArrayVec<A> {
         back
     }
 
-    /// Removes the item at `i` and returns it, or returns `None` if the list has no such item. The later ones move down.
-    pub fn pop_at(&mut self, i: usize) -> Option<A::Item>
-        ensures variant { IsSome result ↔ (i < items_len self.old) }
-        ensures value { result ≡ slice_get (items self.old) i }
-        ensures items { OnSome result (items self.new ≡ remove (items self.old) i) }
+    /// Removes the item at `index` and returns it, or returns `None` if the list has no such item. The later ones move down.
+    pub fn pop_at(&mut self, index: usize) -> Option<A::Item>
+        ensures variant { IsSome result ↔ (index < items_len self.old) }
+        ensures value { result ≡ slice_get (items self.old) index }
+        ensures items { OnSome result (items self.new ≡ remove (items self.old) index) }
         ensures spare { OnSome result (Vacates A.Item.is_default 1 self.old self.new) }
         ensures none { IfNone result (self.new ≡ self.old) }
         ensures fits { items_len self.new ≤ A.CAPACITY }
     {
-        if i >= self.len() {
+        if index >= self.len() {
             return None;
         }
-        Some(self.remove(i))
+        Some(self.remove(index))
     }
 
     /// Appends clones of the slice's items. If they do not all fit, or a clone is refused, fails and appends nothing. Only

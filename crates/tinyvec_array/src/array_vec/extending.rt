@@ -262,52 +262,52 @@ impl<A: Array> ArrayVec<A> {
         }
     }
 
-    /// Truncates the list to `n` items, or fills it up to `n` with clones of `x`. Only clones allocate.
-    pub fn resize(&mut self, n: usize, x: A::Item) -> Result<(), NoMemory<A::Item>>
+    /// Truncates the list to `new_len` items, or fills it up with clones of `value`. Only clones allocate.
+    pub fn resize(&mut self, new_len: usize, value: A::Item) -> Result<(), NoMemory<A::Item>>
     where
         A::Item: Clone,
-        requires room { n ≤ A.CAPACITY }
-        ensures items { OnOk result (AppendsClones A.Item.is_clone (take n (items self.old)) (items self.new)
-            (replicate (n - items_len self.old) x)) }
-        ensures len { OnOk result (items_len self.new ≡ n) }
+        requires room { new_len ≤ A.CAPACITY }
+        ensures items { OnOk result (AppendsClones A.Item.is_clone (take new_len (items self.old)) (items self.new)
+            (replicate (new_len - items_len self.old) value)) }
+        ensures len { OnOk result (items_len self.new ≡ new_len) }
         ensures if_clones_equal { OnOk result (ClonesAreEqual A.Item.is_clone
-            → items self.new ≡ take n (items self.old) ++ replicate (n - items_len self.old) x) }
+            → items self.new ≡ take new_len (items self.old) ++ replicate (new_len - items_len self.old) value) }
         ensures slot_rule { OnOk result (SlotRule A.Item.is_default self.old self.new) }
-        ensures value_returned { IfErr result (λ refused. refused.0 ≡ x) }
+        ensures value_returned { IfErr result (λ refused. refused.0 ≡ value) }
         ensures kept { OnErr result (items self.new ≡ items self.old) }
 
         // The first `j` spare slots hold the clones made.
-        ensures refused { OnErr result ((j : ℕ) × (j < n - items_len self.old) × ¬ (A.Item.is_infallible x)
-            × ClonesOver A.Item.is_clone (replicate j x) j (spare self.old) (spare self.new)) }
+        ensures refused { OnErr result ((j : ℕ) × (j < new_len - items_len self.old) × ¬ (A.Item.is_infallible value)
+            × ClonesOver A.Item.is_clone (replicate j value) j (spare self.old) (spare self.new)) }
         ensures fits { items_len self.new ≤ A.CAPACITY }
-        ensures cuts { n ≤ items_len self.old → IsOk result }
-        ensures succeeds { A.Item.is_infallible x → IsOk result }
+        ensures cuts { new_len ≤ items_len self.old → IsOk result }
+        ensures succeeds { A.Item.is_infallible value → IsOk result }
     {
         let len = self.len();
-        if n <= len {
-            self.truncate(n);
+        if new_len <= len {
+            self.truncate(new_len);
             return Ok(());
         }
-        match fill_clones(self.slots_mut(), len, n, &x) {
+        match fill_clones(self.slots_mut(), len, new_len, &value) {
             Ok(()) => {
-                self.set_len(n);
+                self.set_len(new_len);
                 Ok(())
             }
-            Err(_) => Err(NoMemory(x)),
+            Err(_) => Err(NoMemory(value)),
         }
     }
 
-    /// Truncates the list to `n` items, or fills it up to `n` with what `f` returns. Calls `f` once for each missing item.
-    pub fn resize_with<F: FnMut() -> A::Item>(&mut self, n: usize, mut f: F)
-        requires room { n ≤ A.CAPACITY }
+    /// Truncates the list to `new_len` items, or fills it up with what `f` returns. Calls `f` once for each missing item.
+    pub fn resize_with<F: FnMut() -> A::Item>(&mut self, new_len: usize, mut f: F)
+        requires room { new_len ≤ A.CAPACITY }
         requires callable { F.IsAlwaysCallable f }
-        ensures items { AppendsResults F.step (take n (items self.old)) (items self.new) f }
-        ensures len { items_len self.new ≡ n }
+        ensures items { AppendsResults F.step (take new_len (items self.old)) (items self.new) f }
+        ensures len { items_len self.new ≡ new_len }
         ensures slot_rule { SlotRule A.Item.is_default self.old self.new }
         ensures fits { items_len self.new ≤ A.CAPACITY }
     {
-        self.truncate(n);
-        while self.len() < n {
+        self.truncate(new_len);
+        while self.len() < new_len {
             self.push(f());
         }
     }

@@ -3,7 +3,7 @@ ghost use Rattle.std.specs.Prelude.{◌≡◌, ◌-◌, ◌≤◌, slice_get, So
 ghost use Rattle.std.specs.Fn.{FnOnceTakesAtMut, CalledAt, CalledAtMut, CalledAtPairMut, ComparesKeys};
 ghost use Rattle.std.specs.List.{dedup as dedup_list};
 ghost use Rattle.std.specs.List.Retain.{IsFiltered, RetainsInTurn, IsDeduped, PopsIf};
-ghost use Rattle.tinyvec_slots.specs.Slots.{items, items_len, Vacates};
+ghost use Rattle.tinyvec_slots.specs.Slots.{items, items_len, Shortens};
 
 use crate::{Array, ArrayVec};
 
@@ -13,9 +13,8 @@ impl<A: Array> ArrayVec<A> {
     pub fn retain<F: FnMut(&A::Item) -> bool>(&mut self, mut f: F)
         requires { F.IsAlwaysCallable f }
         ensures filtered { IsFiltered (CalledAt F.FnMut) f (items self.old) (items self.new) }
-        ensures bound { items_len self.new ≤ items_len self.old }
+        ensures shorter { Shortens A.Item.is_default self.old self.new }
         ensures fits { items_len self.new ≤ A.CAPACITY }
-        ensures spare { Vacates A.Item.is_default (items_len self.old - items_len self.new) self.old self.new }
     {
         tinyvec_slots::retain(self, &mut f);
     }
@@ -25,9 +24,8 @@ impl<A: Array> ArrayVec<A> {
     pub fn retain_mut<F: FnMut(&mut A::Item) -> bool>(&mut self, mut f: F)
         requires { F.IsAlwaysCallable f }
         ensures filtered { RetainsInTurn (CalledAtMut F.FnMut) f (items self.old) (items self.new) }
-        ensures bound { items_len self.new ≤ items_len self.old }
+        ensures shorter { Shortens A.Item.is_default self.old self.new }
         ensures fits { items_len self.new ≤ A.CAPACITY }
-        ensures spare { Vacates A.Item.is_default (items_len self.old - items_len self.new) self.old self.new }
     {
         tinyvec_slots::retain_mut(self, &mut f);
     }
@@ -37,9 +35,8 @@ impl<A: Array> ArrayVec<A> {
     where
         A::Item: PartialEq,
         ensures items { items self.new ≡ dedup_list A.Item.eq (items self.old) }
-        ensures bound { items_len self.new ≤ items_len self.old }
+        ensures shorter { Shortens A.Item.is_default self.old self.new }
         ensures fits { items_len self.new ≤ A.CAPACITY }
-        ensures spare { Vacates A.Item.is_default (items_len self.old - items_len self.new) self.old self.new }
     {
         self.dedup_by(|current, last| *current == *last);
     }
@@ -49,9 +46,8 @@ impl<A: Array> ArrayVec<A> {
     pub fn dedup_by<F: FnMut(&mut A::Item, &mut A::Item) -> bool>(&mut self, mut same: F)
         requires { F.IsAlwaysCallable same }
         ensures filtered { IsDeduped (CalledAtPairMut F.FnMut) same (items self.old) (items self.new) }
-        ensures bound { items_len self.new ≤ items_len self.old }
+        ensures shorter { Shortens A.Item.is_default self.old self.new }
         ensures fits { items_len self.new ≤ A.CAPACITY }
-        ensures spare { Vacates A.Item.is_default (items_len self.old - items_len self.new) self.old self.new }
     {
         tinyvec_slots::dedup_by(self, &mut same);
     }
@@ -61,22 +57,20 @@ impl<A: Array> ArrayVec<A> {
     pub fn dedup_by_key<K: PartialEq + Drop, F: FnMut(&mut A::Item) -> K>(&mut self, mut key: F)
         requires { F.IsAlwaysCallable key }
         ensures filtered { IsDeduped (ComparesKeys F.FnMut K.eq) key (items self.old) (items self.new) }
-        ensures bound { items_len self.new ≤ items_len self.old }
+        ensures shorter { Shortens A.Item.is_default self.old self.new }
         ensures fits { items_len self.new ≤ A.CAPACITY }
-        ensures spare { Vacates A.Item.is_default (items_len self.old - items_len self.new) self.old self.new }
     {
         tinyvec_slots::dedup_by_key(self, &mut key);
     }
 
     /// Calls `predicate` on the last item, and takes the item if it returns `true`. Otherwise the item stays, as `predicate`
-    /// left it. Of an empty list nothing is called.
+    /// left it. Calls nothing if the list is empty.
     pub fn pop_if<F: FnOnce(&mut A::Item) -> bool>(&mut self, predicate: F) -> Option<A::Item>
         requires { (x : A.Item) → slice_get (items self.old) (items_len self.old - 1) ≡ Some x
             → FnOnceTakesAtMut F.FnOnce predicate x }
         ensures popped { PopsIf F.FnOnce (items self.old) (items self.new) predicate result }
-        ensures bound { items_len self.new ≤ items_len self.old }
+        ensures shorter { Shortens A.Item.is_default self.old self.new }
         ensures fits { items_len self.new ≤ A.CAPACITY }
-        ensures spare { Vacates A.Item.is_default (items_len self.old - items_len self.new) self.old self.new }
     {
         tinyvec_slots::pop_if(self, predicate)
     }

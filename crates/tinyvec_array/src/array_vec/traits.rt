@@ -19,7 +19,7 @@ use std::hash::{Hash, Hasher};
 use std::ops::{DerefSlice, DerefSliceMut, Index, IndexMut};
 use std::{fmt, slice};
 use tinyvec_slots::{
-    InBinary, InHex, InOctal, InUpperHex, Plain, cmp_slices, eq_slices, hash_items,
+    InBinary, InHex, InOctal, InUpperHex, Plain, cmp_slices, eq_slices, hash_items, into_items,
     partial_cmp_slices, slot_of, write_items,
 };
 
@@ -30,21 +30,21 @@ impl<A: Array> Index<usize> for ArrayVec<A> {
 
     ghost index_gives = { λ v i x. x ≡ slice_index_or (items v) i x };
 
-    fn index(&self, i: usize) -> &A::Item {
-        &self.as_slice()[i]
+    fn index(&self, index: usize) -> &A::Item {
+        &self.as_slice()[index]
     }
 }
 
 impl<A: Array> IndexMut<usize> for ArrayVec<A> {
     ghost use Rattle.tinyvec_array.specs.Lends.{lends_item};
 
-    fn index_mut(&mut self, i: usize) -> &mut A::Item
-        requires { i < items_len self.old }
-        ensures* writes_back { sem 𝓛 (lends_item A.row A.Item.row A.Array A.Item.Default self.entry i result) }
-        ensures value { result.now ≡ slice_index_or (items self.old) i result.now }
+    fn index_mut(&mut self, index: usize) -> &mut A::Item
+        requires { index < items_len self.old }
+        ensures* writes_back { sem 𝓛 (lends_item A.row A.Item.row A.Array A.Item.Default self.entry index result) }
+        ensures value { result.now ≡ slice_index_or (items self.old) index result.now }
     {
         let _len = self.len();
-        slot_of(self, i)
+        slot_of(self, index)
     }
 }
 
@@ -118,8 +118,7 @@ impl<A: Array> IntoIterator for ArrayVec<A> {
         ensures both_ends { GivesFromEnds result }
         ensures into_iter_gives { IteratesOver (items self) result }
     {
-        let len = self.len();
-        ArrayVecIterator::over(self.array, len)
+        into_items(self)
     }
 }
 

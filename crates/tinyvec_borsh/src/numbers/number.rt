@@ -34,7 +34,7 @@ pub(crate) trait FixedWidth: Copy {
     ghost sized: { Self.Bytes.CAPACITY ≡ byte_len form.width };
 }
 
-/// How a list of such numbers is written and read: in blocks, where its type does not say otherwise.
+/// How a list of such numbers is written and read: in blocks, if its type does not say otherwise.
 pub(crate) trait Number: FixedWidth {
     fn write_all<W: Write>(items: &[Self], writer: &mut Counted<W>) -> Result<(), BorshError>
         ensures ok { OnOk result (WritesSpelling (SpellsItems Self.form.Spells items.now)

@@ -49,6 +49,7 @@ pub fn room<A: Array>(v: &ArrayVec<A>) -> usize
 pub fn spare_slots<A: Array>(v: &ArrayVec<A>) -> usize
     ensures { items_len v.now + result ≡ A.CAPACITY }
 {
+    // A vector that was lent is not known to fit until a call says so.
     let _len = v.len();
     v.grab_spare_slice().len()
 }
@@ -355,7 +356,7 @@ pub fn append_all(v: &mut ArrayVec<[u32; 4]>, numbers: &[u32]) -> Result<(), Try
     v.try_extend_from_slice(numbers)
 }
 
-/// The items that are left, twice.
+/// An iterator, and its clone over the same items.
 pub fn both(
     items: ArrayVecIterator<[u32; 4]>,
 ) -> Result<(ArrayVecIterator<[u32; 4]>, ArrayVecIterator<[u32; 4]>), AllocError> {

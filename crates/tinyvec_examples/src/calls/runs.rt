@@ -17,8 +17,7 @@ pub fn answers_of_array(
 ) -> Result<Vec<Answer<u8>>, AllocError>
     ensures { OnErr result (v.new ≡ v.old) }
 {
-    let answers = run_array(alloc, v, calls)?;
-    Ok(answers)
+    Ok(run_array(alloc, v, calls)?)
 }
 
 /// The same of a vector in lent slots, which stays in them.
@@ -30,8 +29,7 @@ pub fn answers_of_slice(
     ensures same_reference { name v.new ≡ name v.old }
     ensures refused { OnErr result (v.new ≡ v.old) }
 {
-    let answers = run_slice(alloc, v, calls)?;
-    Ok(answers)
+    Ok(run_slice(alloc, v, calls)?)
 }
 
 /// The same of a vector that may move to the heap.
@@ -42,8 +40,7 @@ pub fn answers_of_tiny(
 ) -> Result<Vec<Answer<u8>>, AllocError>
     ensures { OnErr result (v.new ≡ v.old) }
 {
-    let answers = run_tiny(alloc, v, calls)?;
-    Ok(answers)
+    Ok(run_tiny(alloc, v, calls)?)
 }
 
 /// Puts the bytes in the place of the list, after the items at these ends were taken.
@@ -56,8 +53,7 @@ pub fn replaced_in_array(
     ensures { OnErr result (v.new ≡ v.old) }
 {
     let len = v.len();
-    let driven = drive_array_splice(alloc, v, 0, len, bytes, word)?;
-    Ok(driven)
+    Ok(drive_array_splice(alloc, v, 0, len, bytes, word)?)
 }
 
 /// The same of a vector that may move to the heap.
@@ -70,6 +66,5 @@ pub fn replaced_in_tiny(
     ensures { OnErr result (v.new ≡ v.old) }
 {
     let len = v.len();
-    let driven = drive_tiny_splice(alloc, v, 0, len, bytes, word)?;
-    Ok(driven)
+    Ok(drive_tiny_splice(alloc, v, 0, len, bytes, word)?)
 }

@@ -18,12 +18,12 @@ pub fn empty(alloc: Global) -> InlineText<8>
     InlineText::new(alloc)
 }
 
-/// How many bytes more fit where the text is.
+/// How many more bytes fit where the text is.
 pub fn room(text: &InlineText<8>) -> usize {
     text.capacity() - text.len()
 }
 
-/// Whether it allocates nothing of the heap.
+/// Whether the text is in the value.
 pub fn is_in_value(text: &InlineText<8>) -> bool
     ensures { result ≡ text.now.inline }
 {
@@ -44,7 +44,7 @@ pub fn into_bytes(text: InlineText<8>) -> TinyVec<[u8; 8]>
     text.into_bytes()
 }
 
-/// Its characters as a `str`.
+/// Whether the text begins with `front`, as of a `str`.
 pub fn starts_with(text: &InlineText<8>, front: &str) -> bool {
     text.as_str().starts_with(front)
 }
@@ -53,7 +53,7 @@ pub fn starts_with(text: &InlineText<8>, front: &str) -> bool {
 pub fn cut_if_whole(text: &mut InlineText<8>, at: usize) -> bool
     ensures { IsTrue result → length text.new.bytes ≡ at }
 {
-    if !text.is_char_boundary(at) || at > text.len() {
+    if !text.is_char_boundary(at) {
         return false;
     }
     text.truncate(at);
@@ -98,7 +98,7 @@ pub fn line(alloc: Global) -> Result<InlineText<8>, AllocError>
     InlineText::with_capacity(alloc, 80)
 }
 
-/// The text of bytes from outside, or the bytes again where they are none.
+/// The text of bytes from outside, or the bytes again where they are no UTF-8.
 pub fn from_outside(bytes: TinyVec<[u8; 8]>) -> Result<InlineText<8>, FromUtf8Error<8>>
     ensures text { IfOk result (λ text. text.bytes ≡ tiny_items bytes) }
     ensures kept { IfErr result (λ refused. refused.bytes ≡ bytes) }

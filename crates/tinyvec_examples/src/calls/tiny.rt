@@ -31,7 +31,7 @@ pub fn too_long(alloc: Global) -> bool
     TinyVec::try_from_array_len(alloc, [7, 8], 3).is_err()
 }
 
-/// Numbers of a slice, inline exactly where there are at most four.
+/// Numbers of a slice, inline exactly if there are at most four.
 pub fn of_slice(alloc: Global, numbers: &[u32]) -> Result<TinyVec<[u32; 4]>, AllocError>
     ensures items { IfOk result (λ v. tiny_items v ≡ numbers.now) }
     ensures place { IfOk result (λ v. IsInline v ↔ (length numbers.now ≤ 4)) }
@@ -243,7 +243,7 @@ pub fn moved_into<A: Array>(v: &mut TinyVec<A>, alloc: Global) -> Result<Vec<A::
     Ok(out)
 }
 
-/// Room for `n` items more, and for no more than that where the list moves.
+/// Room for `n` more items, and for no more than that where the list moves.
 pub fn with_exact_room<A: Array>(v: &mut TinyVec<A>, n: usize) -> Result<(), AllocError>
     ensures { OnOk result (tiny_len v.old + n ≤ tiny_capacity A.CAPACITY v.new) }
 {
@@ -257,7 +257,7 @@ pub fn try_with_exact_room<A: Array>(v: &mut TinyVec<A>, n: usize) -> Result<(),
     v.try_reserve_exact(n)
 }
 
-/// Room for `n` items more, or perhaps for more than that.
+/// Room for `n` more items, or perhaps for more than that.
 pub fn with_some_room<A: Array>(v: &mut TinyVec<A>, n: usize) -> Result<(), AllocError>
     ensures room { OnOk result (tiny_len v.old + n ≤ tiny_capacity A.CAPACITY v.new) }
     ensures refused { OnErr result (Unchanged v.old v.new) }
@@ -273,7 +273,7 @@ pub fn on_heap<A: Array>(v: &mut TinyVec<A>) -> Result<(), AllocError>
     v.try_move_to_the_heap()
 }
 
-/// The list on the heap, with room for `n` items more.
+/// The list on the heap, with room for `n` more items.
 pub fn on_heap_with_room<A: Array>(v: &mut TinyVec<A>, n: usize) -> Result<(), AllocError>
     ensures items { tiny_items v.new ≡ tiny_items v.old }
     ensures room { OnOk result (tiny_len v.old + n ≤ tiny_capacity A.CAPACITY v.new) }
@@ -359,7 +359,7 @@ pub fn popped<A: Array>(v: &mut TinyVec<A>) -> Option<A::Item>
     v.pop_if(|_| true)
 }
 
-/// The items that are left, twice.
+/// An iterator, and its clone over the same items.
 pub fn both(
     items: TinyVecIterator<[u32; 4]>,
 ) -> Result<(TinyVecIterator<[u32; 4]>, TinyVecIterator<[u32; 4]>), AllocError> {

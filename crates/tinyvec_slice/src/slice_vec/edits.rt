@@ -1,6 +1,6 @@
 //! Items that are pushed, popped, inserted, removed and cut off.
 ghost use Rattle.std.specs.Prelude.{◌≡◌, ◌-◌, ◌<◌, ◌↔◌, [], ◌∷◌, ◌++◌, length, take, drop, slice_get, slice_index_or, IsSome, OnSome, IfNone, IfSome, ◌≤◌, remove, insert};
-ghost use Rattle.tinyvec_slice.specs.SliceVec.{items_of, spare_of, slots_of, name_of, len_of, VacatesOf, items, spare};
+ghost use Rattle.tinyvec_slice.specs.SliceVec.{items_of, spare_of, len_of, VacatesOf, items, spare, SameLender};
 ghost use Rattle.std.specs.List.{swap_remove, SwappedAt};
 
 use crate::{GenericSliceVec, Lent, SliceVec};
@@ -8,45 +8,42 @@ use std::mem;
 use tinyvec_slots::{fill_default, insert_shifting, last_to, prefers_shifting, remove_shifting};
 
 impl<B: Lent> GenericSliceVec<B> {
-    /// Appends `x`.
-    pub fn push(&mut self, x: B::Item)
+    /// Appends `value`.
+    pub fn push(&mut self, value: B::Item)
         requires { 0 < length (spare_of B.Lent self.old) }
-        ensures same_reference { name_of B.Lent self.new ≡ name_of B.Lent self.old }
-        ensures slot_count { length (slots_of B.Lent self.new) ≡ length (slots_of B.Lent self.old) }
-        ensures items { items_of B.Lent self.new ≡ items_of B.Lent self.old ++ x ∷ [] }
+        ensures lender { SameLender B.Lent self.old self.new }
+        ensures items { items_of B.Lent self.new ≡ items_of B.Lent self.old ++ value ∷ [] }
         ensures spare { spare_of B.Lent self.new ≡ drop 1 (spare_of B.Lent self.old) }
     {
         let len = self.len();
-        self.lent.all_mut()[len] = x;
+        self.lent.all_mut()[len] = value;
         self.len = len + 1;
     }
 
-    /// Inserts `x` at `i`, and moves the later items up.
-    pub fn insert(&mut self, i: usize, x: B::Item)
-        requires in_list { i ≤ len_of B.Lent self.old }
+    /// Inserts `element` at `index`, and moves the later items up.
+    pub fn insert(&mut self, index: usize, element: B::Item)
+        requires in_list { index ≤ len_of B.Lent self.old }
         requires room { 0 < length (spare_of B.Lent self.old) }
-        ensures same_reference { name_of B.Lent self.new ≡ name_of B.Lent self.old }
-        ensures slot_count { length (slots_of B.Lent self.new) ≡ length (slots_of B.Lent self.old) }
-        ensures items { items_of B.Lent self.new ≡ insert (items_of B.Lent self.old) i x }
+        ensures lender { SameLender B.Lent self.old self.new }
+        ensures items { items_of B.Lent self.new ≡ insert (items_of B.Lent self.old) index element }
         ensures spare { spare_of B.Lent self.new ≡ drop 1 (spare_of B.Lent self.old) }
     {
         let len = self.len();
-        if prefers_shifting(&self.as_slice()[i..]) {
-            insert_shifting(self.lent.all_mut(), i, len, x);
+        if prefers_shifting(&self.as_slice()[index..]) {
+            insert_shifting(self.lent.all_mut(), index, len, element);
             self.len = len + 1;
             return;
         }
-        self.push(x);
+        self.push(element);
         let len = self.len();
-        last_to(self.lent.all_mut(), i, len);
+        last_to(self.lent.all_mut(), index, len);
     }
 
     // Swaps the items at `i` and `j`.
     fn swap_items(&mut self, i: usize, j: usize)
         requires first { i < len_of B.Lent self.old }
         requires second { j < len_of B.Lent self.old }
-        ensures same_reference { name_of B.Lent self.new ≡ name_of B.Lent self.old }
-        ensures slot_count { length (slots_of B.Lent self.new) ≡ length (slots_of B.Lent self.old) }
+        ensures lender { SameLender B.Lent self.old self.new }
         ensures swapped { SwappedAt (items_of B.Lent self.old) (items_of B.Lent self.new) i j }
         ensures len { len_of B.Lent self.new ≡ len_of B.Lent self.old }
         ensures spare { spare_of B.Lent self.new ≡ spare_of B.Lent self.old }
@@ -61,8 +58,7 @@ where
 {
     /// Removes the last item and returns it. Its slot is reset to a default.
     pub fn pop(&mut self) -> Option<B::Item>
-        ensures same_reference { name_of B.Lent self.new ≡ name_of B.Lent self.old }
-        ensures slot_count { length (slots_of B.Lent self.new) ≡ length (slots_of B.Lent self.old) }
+        ensures lender { SameLender B.Lent self.old self.new }
         ensures variant { IsSome result ↔ (0 < len_of B.Lent self.old) }
         ensures some { IfSome result (λ x. items_of B.Lent self.old ≡ items_of B.Lent self.new ++ x ∷ []) }
         ensures value { result ≡ slice_get (items_of B.Lent self.old) (len_of B.Lent self.old - 1) }
@@ -79,8 +75,7 @@ where
     // Takes the last item.
     pub(crate) fn take_last(&mut self) -> B::Item
         requires { 0 < len_of B.Lent self.old }
-        ensures same_reference { name_of B.Lent self.new ≡ name_of B.Lent self.old }
-        ensures slot_count { length (slots_of B.Lent self.new) ≡ length (slots_of B.Lent self.old) }
+        ensures lender { SameLender B.Lent self.old self.new }
         ensures items { items_of B.Lent self.old ≡ items_of B.Lent self.new ++ result ∷ [] }
         ensures rest { items_of B.Lent self.new ≡ take (len_of B.Lent self.old - 1) (items_of B.Lent self.old) }
         ensures value { result ≡ slice_index_or (items_of B.Lent self.old) (len_of B.Lent self.old - 1) result }
@@ -96,36 +91,34 @@ impl<B: Lent> GenericSliceVec<B>
 where
     B::Item: Default,
 {
-    /// Removes the item at `i` and returns it. The later ones move down.
-    pub fn remove(&mut self, i: usize) -> B::Item
-        requires { i < len_of B.Lent self.old }
-        ensures same_reference { name_of B.Lent self.new ≡ name_of B.Lent self.old }
-        ensures slot_count { length (slots_of B.Lent self.new) ≡ length (slots_of B.Lent self.old) }
-        ensures value { result ≡ slice_index_or (items_of B.Lent self.old) i result }
-        ensures items { items_of B.Lent self.new ≡ remove (items_of B.Lent self.old) i }
+    /// Removes the item at `index` and returns it. The later ones move down.
+    pub fn remove(&mut self, index: usize) -> B::Item
+        requires { index < len_of B.Lent self.old }
+        ensures lender { SameLender B.Lent self.old self.new }
+        ensures value { result ≡ slice_index_or (items_of B.Lent self.old) index result }
+        ensures items { items_of B.Lent self.new ≡ remove (items_of B.Lent self.old) index }
         ensures spare { VacatesOf B.Lent B.Item.is_default 1 self.old self.new }
     {
         let len = self.len();
-        if prefers_shifting(&self.as_slice()[i..]) {
-            let item = remove_shifting(self.lent.all_mut(), i, len);
+        if prefers_shifting(&self.as_slice()[index..]) {
+            let item = remove_shifting(self.lent.all_mut(), index, len);
             self.len = len - 1;
             return item;
         }
-        self.move_to_end(i, i + 1);
+        self.move_to_end(index, index + 1);
         self.take_last()
     }
 
-    /// Removes the item at `i` and returns it. The last one takes its place.
-    pub fn swap_remove(&mut self, i: usize) -> B::Item
-        requires { i < len_of B.Lent self.old }
-        ensures same_reference { name_of B.Lent self.new ≡ name_of B.Lent self.old }
-        ensures slot_count { length (slots_of B.Lent self.new) ≡ length (slots_of B.Lent self.old) }
-        ensures value { result ≡ slice_index_or (items_of B.Lent self.old) i result }
-        ensures items { items_of B.Lent self.new ≡ swap_remove (items_of B.Lent self.old) i result }
+    /// Removes the item at `index` and returns it. The last one takes its place.
+    pub fn swap_remove(&mut self, index: usize) -> B::Item
+        requires { index < len_of B.Lent self.old }
+        ensures lender { SameLender B.Lent self.old self.new }
+        ensures value { result ≡ slice_index_or (items_of B.Lent self.old) index result }
+        ensures items { items_of B.Lent self.new ≡ swap_remove (items_of B.Lent self.old) index result }
         ensures spare { VacatesOf B.Lent B.Item.is_default 1 self.old self.new }
     {
         let last = self.len() - 1;
-        self.swap_items(i, last);
+        self.swap_items(index, last);
         self.take_last()
     }
 }
@@ -134,24 +127,22 @@ impl<B: Lent> GenericSliceVec<B>
 where
     B::Item: Default,
 {
-    /// Keeps the first `n` items, or all if there are no more. Each vacated slot is reset to a default.
-    pub fn truncate(&mut self, n: usize)
-        ensures same_reference { name_of B.Lent self.new ≡ name_of B.Lent self.old }
-        ensures slot_count { length (slots_of B.Lent self.new) ≡ length (slots_of B.Lent self.old) }
-        ensures items { items_of B.Lent self.new ≡ take n (items_of B.Lent self.old) }
-        ensures spare { VacatesOf B.Lent B.Item.is_default (len_of B.Lent self.old - n) self.old self.new }
+    /// Keeps the first `new_len` items, or all if there are no more. Each vacated slot is reset to a default.
+    pub fn truncate(&mut self, new_len: usize)
+        ensures lender { SameLender B.Lent self.old self.new }
+        ensures items { items_of B.Lent self.new ≡ take new_len (items_of B.Lent self.old) }
+        ensures spare { VacatesOf B.Lent B.Item.is_default (len_of B.Lent self.old - new_len) self.old self.new }
     {
         let len = self.len();
-        if n < len {
-            fill_default(self.lent.all_mut(), n, len, usize::MAX);
-            self.len = n;
+        if new_len < len {
+            fill_default(self.lent.all_mut(), new_len, len, usize::MAX);
+            self.len = new_len;
         }
     }
 
     /// Empties the list. Each vacated slot is reset to a default.
     pub fn clear(&mut self)
-        ensures same_reference { name_of B.Lent self.new ≡ name_of B.Lent self.old }
-        ensures slot_count { length (slots_of B.Lent self.new) ≡ length (slots_of B.Lent self.old) }
+        ensures lender { SameLender B.Lent self.old self.new }
         ensures items { items_of B.Lent self.new ≡ [] }
         ensures spare { VacatesOf B.Lent B.Item.is_default (len_of B.Lent self.old) self.old self.new }
     {

@@ -2,7 +2,7 @@
 ghost use Rattle.std.specs.Prelude.{◌≡◌, ◌+◌, ◌≤◌, ◌++◌, ℕ, All, length, take, drop, IsOk, OnOk, OnErr, [], ◌-◌, ◌↔◌, ◌∷◌, List, MatchResult, IfErr, Some, ◌<◌, replicate, reverse};
 ghost use Rattle.std.specs.List.{AppendsClones, AppendsResults};
 ghost use Rattle.tinyvec_slots.specs.Clones.{RefusedAt, ClonesAreEqual, ClonesOver, ClonesBefore};
-ghost use Rattle.tinyvec_slice.specs.SliceVec.{items_of, spare_of, name_of, len_of, VacatesOf, slots_of};
+ghost use Rattle.tinyvec_slice.specs.SliceVec.{items_of, spare_of, name_of, len_of, VacatesOf, slots_of, SameLender};
 ghost use Rattle.tinyvec_slots.specs.Slots.{AreDefaults};
 ghost use Rattle.tinyvec_slots.specs.Ranges.{IsRangeOf, removed};
 ghost use Rattle.std.specs.Iterator.{Drains, YieldsThen};
@@ -20,8 +20,7 @@ impl<B: Lent> GenericSliceVec<B> {
     where
         B::Item: Clone,
         requires room { length other.now ≤ length (spare_of B.Lent self.old) }
-        ensures same_reference { name_of B.Lent self.new ≡ name_of B.Lent self.old }
-        ensures slot_count { length (slots_of B.Lent self.new) ≡ length (slots_of B.Lent self.old) }
+        ensures lender { SameLender B.Lent self.old self.new }
         ensures items { OnOk result (AppendsClones B.Item.is_clone (items_of B.Lent self.old)
             (items_of B.Lent self.new) other.now) }
         ensures len { OnOk result (len_of B.Lent self.new ≡ len_of B.Lent self.old + length other.now) }
@@ -51,8 +50,7 @@ impl<B: Lent> GenericSliceVec<B> {
         requires in_list { IsRangeOf (items_of B.Lent self.old) (R.start_bound range) (R.end_bound range) }
         requires room { length (removed (items_of B.Lent self.old) (R.start_bound range) (R.end_bound range))
             ≤ length (spare_of B.Lent self.old) }
-        ensures same_reference { name_of B.Lent self.new ≡ name_of B.Lent self.old }
-        ensures slot_count { length (slots_of B.Lent self.new) ≡ length (slots_of B.Lent self.old) }
+        ensures lender { SameLender B.Lent self.old self.new }
         ensures items { OnOk result (AppendsClones B.Item.is_clone (items_of B.Lent self.old) (items_of B.Lent self.new)
             (removed (items_of B.Lent self.old) (R.start_bound range) (R.end_bound range))) }
         ensures len { OnOk result (len_of B.Lent self.new ≡ len_of B.Lent self.old
@@ -85,8 +83,7 @@ impl<B: Lent> GenericSliceVec<B> {
     /// called on a full vector, so `iter` may be infinite.
     pub fn fill<I: IntoIterator<Item = B::Item>>(&mut self, iter: I) -> I::IntoIter
         requires { (it : I.IntoIter) → I.into_iter_gives iter it → I.IntoIter.can_next it }
-        ensures same_reference { name_of B.Lent self.new ≡ name_of B.Lent self.old }
-        ensures slot_count { length (slots_of B.Lent self.new) ≡ length (slots_of B.Lent self.old) }
+        ensures lender { SameLender B.Lent self.old self.new }
         ensures ran { (it : I.IntoIter) × (xs : List B.Item) × I.into_iter_gives iter it
             × YieldsUpTo I.IntoIter.next_gives (length (spare_of B.Lent self.old)) it xs result
             × (items_of B.Lent self.new ≡ items_of B.Lent self.old ++ xs) }
@@ -120,8 +117,7 @@ impl<B: Lent> GenericSliceVec<B> {
         iter: I,
     ) -> Result<(), NoRoom<B::Item, I::IntoIter>>
         requires { (it : I.IntoIter) → I.into_iter_gives iter it → I.IntoIter.can_next it }
-        ensures same_reference { name_of B.Lent self.new ≡ name_of B.Lent self.old }
-        ensures slot_count { length (slots_of B.Lent self.new) ≡ length (slots_of B.Lent self.old) }
+        ensures lender { SameLender B.Lent self.old self.new }
         ensures ran { (it : I.IntoIter) × (xs : List B.Item) × I.into_iter_gives iter it
             × MatchResult result (λ _. Drains I.IntoIter.next_gives it xs)
             (λ refused. YieldsThen I.IntoIter.next_gives it xs (Some refused.item) refused.rest)
@@ -157,49 +153,48 @@ impl<B: Lent> GenericSliceVec<B> {
         }
     }
 
-    /// Truncates the list to `n` items, or fills it up to `n` with clones of `x`. The slots that a cut vacates are filled
-    /// with clones of `x` too, the last slot first. Only clones allocate.
-    pub fn resize(&mut self, n: usize, x: B::Item) -> Result<(), NoMemory<B::Item>>
+    /// Truncates the list to `new_len` items, or fills it up with clones of `value`. The slots that a cut vacates are filled
+    /// with clones of `value` too, the last slot first. Only clones allocate.
+    pub fn resize(&mut self, new_len: usize, value: B::Item) -> Result<(), NoMemory<B::Item>>
     where
         B::Item: Clone,
-        requires room { n ≤ length (slots_of B.Lent self.old) }
-        ensures same_reference { name_of B.Lent self.new ≡ name_of B.Lent self.old }
-        ensures slot_count { length (slots_of B.Lent self.new) ≡ length (slots_of B.Lent self.old) }
-        ensures items { OnOk result (AppendsClones B.Item.is_clone (take n (items_of B.Lent self.old))
-            (items_of B.Lent self.new) (replicate (n - len_of B.Lent self.old) x)) }
-        ensures len { OnOk result (len_of B.Lent self.new ≡ n) }
+        requires room { new_len ≤ length (slots_of B.Lent self.old) }
+        ensures lender { SameLender B.Lent self.old self.new }
+        ensures items { OnOk result (AppendsClones B.Item.is_clone (take new_len (items_of B.Lent self.old))
+            (items_of B.Lent self.new) (replicate (new_len - len_of B.Lent self.old) value)) }
+        ensures len { OnOk result (len_of B.Lent self.new ≡ new_len) }
         ensures if_clones_equal { OnOk result (ClonesAreEqual B.Item.is_clone
             → items_of B.Lent self.new
-            ≡ take n (items_of B.Lent self.old) ++ replicate (n - len_of B.Lent self.old) x) }
-        ensures spare { OnOk result (ClonesBefore B.Item.is_clone (replicate (len_of B.Lent self.old - n) x)
-            (drop (n - len_of B.Lent self.old) (spare_of B.Lent self.old)) (spare_of B.Lent self.new)) }
+            ≡ take new_len (items_of B.Lent self.old) ++ replicate (new_len - len_of B.Lent self.old) value) }
+        ensures spare { OnOk result (ClonesBefore B.Item.is_clone (replicate (len_of B.Lent self.old - new_len) value)
+            (drop (new_len - len_of B.Lent self.old) (spare_of B.Lent self.old)) (spare_of B.Lent self.new)) }
         ensures spare_if_clones_equal { OnOk result (ClonesAreEqual B.Item.is_clone
-            → spare_of B.Lent self.new ≡ replicate (len_of B.Lent self.old - n) x
-            ++ drop (n - len_of B.Lent self.old) (spare_of B.Lent self.old)) }
-        ensures value_returned { IfErr result (λ refused. refused.0 ≡ x) }
+            → spare_of B.Lent self.new ≡ replicate (len_of B.Lent self.old - new_len) value
+            ++ drop (new_len - len_of B.Lent self.old) (spare_of B.Lent self.old)) }
+        ensures value_returned { IfErr result (λ refused. refused.0 ≡ value) }
 
         // A list that was to grow is as it was, and the first j spare slots hold the clones that were made.
-        ensures refused_growing { OnErr result (len_of B.Lent self.old ≤ n → (j : ℕ) × (j < n - len_of B.Lent self.old)
-            × ¬ (B.Item.is_infallible x) × (items_of B.Lent self.new ≡ items_of B.Lent self.old)
-            × ClonesOver B.Item.is_clone (replicate j x) j (spare_of B.Lent self.old) (spare_of B.Lent self.new)) }
+        ensures refused_growing { OnErr result (len_of B.Lent self.old ≤ new_len → (j : ℕ) × (j < new_len - len_of B.Lent self.old)
+            × ¬ (B.Item.is_infallible value) × (items_of B.Lent self.new ≡ items_of B.Lent self.old)
+            × ClonesOver B.Item.is_clone (replicate j value) j (spare_of B.Lent self.old) (spare_of B.Lent self.new)) }
 
         // A list that was to be cut is shorter by the j slots that hold the clones that were made.
-        ensures refused_cutting { OnErr result (n ≤ len_of B.Lent self.old → (j : ℕ) × (j < len_of B.Lent self.old - n)
-            × ¬ (B.Item.is_infallible x)
+        ensures refused_cutting { OnErr result (new_len ≤ len_of B.Lent self.old → (j : ℕ) × (j < len_of B.Lent self.old - new_len)
+            × ¬ (B.Item.is_infallible value)
             × (items_of B.Lent self.new ≡ take (len_of B.Lent self.old - j) (items_of B.Lent self.old))
-            × ClonesBefore B.Item.is_clone (replicate j x) (spare_of B.Lent self.old) (spare_of B.Lent self.new)) }
-        ensures succeeds { B.Item.is_infallible x → IsOk result }
+            × ClonesBefore B.Item.is_clone (replicate j value) (spare_of B.Lent self.old) (spare_of B.Lent self.new)) }
+        ensures succeeds { B.Item.is_infallible value → IsOk result }
     {
         let len = self.len();
-        if n <= len {
-            return match self.cut_to_clones(n, &x) {
+        if new_len <= len {
+            return match self.cut_to_clones(new_len, &value) {
                 Ok(()) => Ok(()),
-                Err(_) => Err(NoMemory(x)),
+                Err(_) => Err(NoMemory(value)),
             };
         }
-        match self.grow_by_clones(n, &x) {
+        match self.grow_by_clones(new_len, &value) {
             Ok(()) => Ok(()),
-            Err(_) => Err(NoMemory(x)),
+            Err(_) => Err(NoMemory(value)),
         }
     }
 
@@ -209,8 +204,7 @@ impl<B: Lent> GenericSliceVec<B> {
         B::Item: Clone,
         requires longer { len_of B.Lent self.old ≤ n }
         requires in_bounds { n ≤ length (slots_of B.Lent self.old) }
-        ensures same_reference { name_of B.Lent self.new ≡ name_of B.Lent self.old }
-        ensures slot_count { length (slots_of B.Lent self.new) ≡ length (slots_of B.Lent self.old) }
+        ensures lender { SameLender B.Lent self.old self.new }
         ensures items { OnOk result (AppendsClones B.Item.is_clone (items_of B.Lent self.old) (items_of B.Lent self.new)
             (replicate (n - len_of B.Lent self.old) x.now)) }
         ensures len { OnOk result (len_of B.Lent self.new ≡ n) }
@@ -232,8 +226,7 @@ impl<B: Lent> GenericSliceVec<B> {
     where
         B::Item: Clone,
         requires shorter { n ≤ len_of B.Lent self.old }
-        ensures same_reference { name_of B.Lent self.new ≡ name_of B.Lent self.old }
-        ensures slot_count { length (slots_of B.Lent self.new) ≡ length (slots_of B.Lent self.old) }
+        ensures lender { SameLender B.Lent self.old self.new }
         ensures items { OnOk result (items_of B.Lent self.new ≡ take n (items_of B.Lent self.old)) }
         ensures spare { OnOk result (ClonesBefore B.Item.is_clone (replicate (len_of B.Lent self.old - n) x.now)
             (spare_of B.Lent self.old) (spare_of B.Lent self.new)) }
@@ -249,26 +242,25 @@ impl<B: Lent> GenericSliceVec<B> {
         Ok(())
     }
 
-    /// Truncates the list to `n` items, or fills it up to `n` with what `f` returns. The slots that a cut vacates are filled
+    /// Truncates the list to `new_len` items, or fills it up with what `f` returns. The slots that a cut vacates are filled
     /// with what `f` returns too, the last slot first.
-    pub fn resize_with<F: FnMut() -> B::Item>(&mut self, n: usize, mut f: F)
-        requires room { n ≤ length (slots_of B.Lent self.old) }
+    pub fn resize_with<F: FnMut() -> B::Item>(&mut self, new_len: usize, mut f: F)
+        requires room { new_len ≤ length (slots_of B.Lent self.old) }
         requires callable { F.IsAlwaysCallable f }
-        ensures same_reference { name_of B.Lent self.new ≡ name_of B.Lent self.old }
-        ensures slot_count { length (slots_of B.Lent self.new) ≡ length (slots_of B.Lent self.old) }
-        ensures len { len_of B.Lent self.new ≡ n }
-        ensures grown { len_of B.Lent self.old ≤ n
+        ensures lender { SameLender B.Lent self.old self.new }
+        ensures len { len_of B.Lent self.new ≡ new_len }
+        ensures grown { len_of B.Lent self.old ≤ new_len
             → AppendsResults F.step (items_of B.Lent self.old) (items_of B.Lent self.new) f
-            × (spare_of B.Lent self.new ≡ drop (n - len_of B.Lent self.old) (spare_of B.Lent self.old)) }
-        ensures cut { n ≤ len_of B.Lent self.old → (items_of B.Lent self.new ≡ take n (items_of B.Lent self.old))
-            × ((ys : List B.Item) × AppendsResults F.step [] ys f × (length ys ≡ len_of B.Lent self.old - n)
+            × (spare_of B.Lent self.new ≡ drop (new_len - len_of B.Lent self.old) (spare_of B.Lent self.old)) }
+        ensures cut { new_len ≤ len_of B.Lent self.old → (items_of B.Lent self.new ≡ take new_len (items_of B.Lent self.old))
+            × ((ys : List B.Item) × AppendsResults F.step [] ys f × (length ys ≡ len_of B.Lent self.old - new_len)
             × (spare_of B.Lent self.new ≡ reverse ys ++ spare_of B.Lent self.old)) }
     {
-        if n <= self.len() {
-            self.cut_to_answers(n, &mut f);
+        if new_len <= self.len() {
+            self.cut_to_answers(new_len, &mut f);
             return;
         }
-        self.grow_by_answers(n, &mut f);
+        self.grow_by_answers(new_len, &mut f);
     }
 
     // Fills the list up to `n` items with what `f` returns.
@@ -276,8 +268,7 @@ impl<B: Lent> GenericSliceVec<B> {
         requires longer { len_of B.Lent self.old ≤ n }
         requires room { n ≤ length (slots_of B.Lent self.old) }
         requires callable { F.IsAlwaysCallable f.old }
-        ensures same_reference { name_of B.Lent self.new ≡ name_of B.Lent self.old }
-        ensures slot_count { length (slots_of B.Lent self.new) ≡ length (slots_of B.Lent self.old) }
+        ensures lender { SameLender B.Lent self.old self.new }
         ensures len { len_of B.Lent self.new ≡ n }
         ensures items { AppendsResults F.step (items_of B.Lent self.old) (items_of B.Lent self.new) f.old }
         ensures spare { spare_of B.Lent self.new ≡ drop (n - len_of B.Lent self.old) (spare_of B.Lent self.old) }
@@ -291,8 +282,7 @@ impl<B: Lent> GenericSliceVec<B> {
     fn cut_to_answers<F: FnMut() -> B::Item>(&mut self, n: usize, f: &mut F)
         requires shorter { n ≤ len_of B.Lent self.old }
         requires callable { F.IsAlwaysCallable f.old }
-        ensures same_reference { name_of B.Lent self.new ≡ name_of B.Lent self.old }
-        ensures slot_count { length (slots_of B.Lent self.new) ≡ length (slots_of B.Lent self.old) }
+        ensures lender { SameLender B.Lent self.old self.new }
         ensures items { items_of B.Lent self.new ≡ take n (items_of B.Lent self.old) }
         ensures spare { (ys : List B.Item) × AppendsResults F.step [] ys f.old
             × (length ys ≡ len_of B.Lent self.old - n)
@@ -306,8 +296,7 @@ impl<B: Lent> GenericSliceVec<B> {
     // Cuts off the last item, and leaves `x` in its slot.
     fn replace_last(&mut self, x: B::Item)
         requires { 0 < len_of B.Lent self.old }
-        ensures same_reference { name_of B.Lent self.new ≡ name_of B.Lent self.old }
-        ensures slot_count { length (slots_of B.Lent self.new) ≡ length (slots_of B.Lent self.old) }
+        ensures lender { SameLender B.Lent self.old self.new }
         ensures items { items_of B.Lent self.new ≡ take (len_of B.Lent self.old - 1) (items_of B.Lent self.old) }
         ensures spare { spare_of B.Lent self.new ≡ x ∷ spare_of B.Lent self.old }
     {
@@ -324,8 +313,7 @@ where
     // Moves the items of `from` to the end, and leaves defaults there.
     fn append_slots(&mut self, from: &mut [B::Item])
         requires { length from.old ≤ length (spare_of B.Lent self.old) }
-        ensures same_reference { name_of B.Lent self.new ≡ name_of B.Lent self.old }
-        ensures slot_count { length (slots_of B.Lent self.new) ≡ length (slots_of B.Lent self.old) }
+        ensures lender { SameLender B.Lent self.old self.new }
         ensures items { items_of B.Lent self.new ≡ items_of B.Lent self.old ++ from.old }
         ensures spare { spare_of B.Lent self.new ≡ drop (length from.old) (spare_of B.Lent self.old) }
         ensures left { AreDefaults B.Item.is_default (length from.old) from.new }
@@ -338,8 +326,7 @@ where
     /// Moves the items of `other` to the end, and leaves `other` empty. Each item moves once.
     pub fn append(&mut self, other: &mut Self)
         requires { len_of B.Lent other.old ≤ length (spare_of B.Lent self.old) }
-        ensures same_reference { name_of B.Lent self.new ≡ name_of B.Lent self.old }
-        ensures slot_count { length (slots_of B.Lent self.new) ≡ length (slots_of B.Lent self.old) }
+        ensures lender { SameLender B.Lent self.old self.new }
         ensures items { items_of B.Lent self.new ≡ items_of B.Lent self.old ++ items_of B.Lent other.old }
         ensures spare { spare_of B.Lent self.new ≡ drop (len_of B.Lent other.old) (spare_of B.Lent self.old) }
         ensures other_reference { name_of B.Lent other.new ≡ name_of B.Lent other.old }

@@ -1,8 +1,9 @@
 //! Keeping some of the items. The loops are in `tinyvec_slots`, over `CanCut`, implemented in `can_cut.rt`.
-ghost use Rattle.std.specs.Prelude.{◌≡◌, ◌-◌, ◌≤◌, length, slice_get, Some};
+ghost use Rattle.std.specs.Prelude.{◌≡◌, ◌-◌, slice_get, Some};
 ghost use Rattle.std.specs.Fn.{CalledAt, FnOnceTakesAtMut};
 ghost use Rattle.std.specs.List.Retain.{IsFiltered, PopsIf};
-ghost use Rattle.tinyvec_slice.specs.SliceVec.{items_of, slots_of, name_of, len_of, VacatesOf};
+ghost use Rattle.tinyvec_slots.specs.Slots.{Shortens};
+ghost use Rattle.tinyvec_slice.specs.SliceVec.{view_of, items_of, len_of, SameLender};
 
 use crate::{GenericSliceVec, Lent};
 
@@ -14,26 +15,21 @@ where
     /// spare slots. A kept item is moved by at most one swap; items of up to 16 bytes are all moved, with no branch.
     pub fn retain<F: FnMut(&B::Item) -> bool>(&mut self, mut f: F)
         requires { F.IsAlwaysCallable f }
-        ensures same_reference { name_of B.Lent self.new ≡ name_of B.Lent self.old }
-        ensures slot_count { length (slots_of B.Lent self.new) ≡ length (slots_of B.Lent self.old) }
+        ensures lender { SameLender B.Lent self.old self.new }
         ensures filtered { IsFiltered (CalledAt F.FnMut) f (items_of B.Lent self.old) (items_of B.Lent self.new) }
-        ensures bound { len_of B.Lent self.new ≤ len_of B.Lent self.old }
-        ensures spare { VacatesOf B.Lent B.Item.is_default
-            (len_of B.Lent self.old - len_of B.Lent self.new) self.old self.new }
+        ensures shorter { Shortens B.Item.is_default (view_of B.Lent self.old) (view_of B.Lent self.new) }
     {
         tinyvec_slots::retain(self, &mut f);
     }
 
     /// Calls `predicate` on the last item, and takes the item if it returns `true`. Otherwise the item stays, as `predicate`
-    /// left it. Of an empty list nothing is called.
+    /// left it. Calls nothing if the list is empty.
     pub fn pop_if<F: FnOnce(&mut B::Item) -> bool>(&mut self, predicate: F) -> Option<B::Item>
         requires { (x : B.Item) → slice_get (items_of B.Lent self.old) (len_of B.Lent self.old - 1) ≡ Some x
             → FnOnceTakesAtMut F.FnOnce predicate x }
-        ensures same_reference { name_of B.Lent self.new ≡ name_of B.Lent self.old }
-        ensures slot_count { length (slots_of B.Lent self.new) ≡ length (slots_of B.Lent self.old) }
+        ensures lender { SameLender B.Lent self.old self.new }
         ensures popped { PopsIf F.FnOnce (items_of B.Lent self.old) (items_of B.Lent self.new) predicate result }
-        ensures spare { VacatesOf B.Lent B.Item.is_default
-            (len_of B.Lent self.old - len_of B.Lent self.new) self.old self.new }
+        ensures shorter { Shortens B.Item.is_default (view_of B.Lent self.old) (view_of B.Lent self.new) }
     {
         tinyvec_slots::pop_if(self, predicate)
     }

@@ -30,18 +30,18 @@ impl<B: Lent> Index<usize> for GenericSliceVec<B> {
 
     ghost index_gives = { λ v i x. x ≡ slice_index_or (items_of B.Lent v) i x };
 
-    fn index(&self, i: usize) -> &B::Item {
-        &self.as_slice()[i]
+    fn index(&self, index: usize) -> &B::Item {
+        &self.as_slice()[index]
     }
 }
 
 impl<B: Lent> IndexMut<usize> for GenericSliceVec<B> {
-    fn index_mut(&mut self, i: usize) -> &mut B::Item
-        requires { i < len_of B.Lent self.old }
-        ensures* writes_back { sem 𝓛 (lends_item B.row B.Item.row B.Lent self.entry i result) }
-        ensures value { result.now ≡ slice_index_or (items_of B.Lent self.old) i result.now }
+    fn index_mut(&mut self, index: usize) -> &mut B::Item
+        requires { index < len_of B.Lent self.old }
+        ensures* writes_back { sem 𝓛 (lends_item B.row B.Item.row B.Lent self.entry index result) }
+        ensures value { result.now ≡ slice_index_or (items_of B.Lent self.old) index result.now }
     {
-        slot_of(self, i)
+        slot_of(self, index)
     }
 }
 

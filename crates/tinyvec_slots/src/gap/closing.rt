@@ -3,6 +3,7 @@
 ghost use Rattle.std.specs.Prelude.{◌≡◌, ◌+◌, ◌*◌, ◌-◌, ◌<◌, ◌≤◌, ◌++◌, List, Some, None, length, take, drop, slice_range, slice_set};
 ghost use Rattle.std.specs.Bool.{MatchBool};
 ghost use Rattle.std.specs.Iterator.{Drains, Yields, IsFinite};
+ghost use Rattle.tinyvec_slots.specs.Ranges.{Within};
 ghost use Rattle.tinyvec_slots.specs.Gap.{gap_front, gap_back, gap_touches, GapLies};
 ghost use Rattle.tinyvec_slots.specs.Touches.{touch_count, FitsBits};
 
@@ -29,7 +30,6 @@ impl Gap {
         ensures finite { IsFinite (I.remaining replacement.old) → IsFinite (I.remaining replacement.new) }
         ensures back { gap_back self.new ≡ gap_back self.old }
         ensures behind { drop (gap_back self.old) slots.new ≡ drop (gap_back self.old) slots.old }
-        ensures slot_count { length slots.new ≡ length slots.old }
         ensures touches { gap_touches self.new ≡ gap_touches self.old + 2 * (gap_front self.new - gap_front self.old) }
     {
         self.front = place(slots, &mut self.touches, self.front, self.back, replacement);
@@ -40,12 +40,10 @@ impl Gap {
     // each a touch.
     #[inline(always)]
     pub(crate) fn close<T>(&mut self, slots: &mut [T]) -> usize
-        requires in_order { gap_front self.old ≤ gap_back self.old }
-        requires in_bounds { gap_back self.old ≤ length slots.old }
+        requires in_bounds { Within (gap_front self.old) (gap_back self.old) (length slots.old) }
         requires few { FitsBits 80 (gap_touches self.old) }
         ensures len { result ≡ length slots.old - (gap_back self.old - gap_front self.old) }
         ensures kept { take result slots.new ≡ take (gap_front self.old) slots.old ++ drop (gap_back self.old) slots.old }
-        ensures slot_count { length slots.new ≡ length slots.old }
         ensures touches { gap_touches self.new ≡ gap_touches self.old + (length slots.old - gap_front self.old) }
     {
         let gap = self.back - self.front;
@@ -57,12 +55,10 @@ impl Gap {
     // Moves the items from `end` on, which the caller appended, each with a touch, to where the gap was.
     #[inline(always)]
     pub(crate) fn rotate_in<T>(&mut self, slots: &mut [T], end: usize)
-        requires in_order { gap_front self.old ≤ end }
-        requires in_bounds { end ≤ length slots.old }
+        requires in_bounds { Within (gap_front self.old) end (length slots.old) }
         requires few { FitsBits 80 (gap_touches self.old) }
         ensures brought { slots.new ≡ take (gap_front self.old) slots.old ++ drop end slots.old
             ++ slice_range slots.old (gap_front self.old) end }
-        ensures slot_count { length slots.new ≡ length slots.old }
         ensures none { end ≡ length slots.old → gap_touches self.new ≡ gap_touches self.old }
         ensures at_least { gap_touches self.old + (length slots.old - end) ≤ gap_touches self.new }
         ensures at_most { gap_touches self.new
@@ -96,12 +92,10 @@ fn place<I: Iterator>(
 ) -> usize
 where
     I::Item: Drop,
-    requires in_order { front ≤ back }
-    requires in_bounds { back ≤ length slots.old }
+    requires in_bounds { Within front back (length slots.old) }
     requires few { FitsBits 66 (touch_count touches.old) }
     requires can { I.can_next replacement.old }
     ensures bounds { (front ≤ result) × (result ≤ back) }
-    ensures len { length slots.new ≡ length slots.old }
     ensures behind { drop back slots.new ≡ drop back slots.old }
     ensures can { result ≡ back → I.can_next replacement.new }
     ensures finite { IsFinite (I.remaining replacement.old) → IsFinite (I.remaining replacement.new) }

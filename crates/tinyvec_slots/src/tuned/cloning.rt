@@ -1,7 +1,9 @@
 //! Writing clones into slots. No item is cloned twice: the first clone that fails ends the call, and those before it stay.
-ghost use Rattle.std.specs.Prelude.{◌≡◌, ◌-◌, ◌<◌, ◌≤◌, ℕ, All, length, take, slice_range, replicate, IfOk, IsOk, OnOk, OnErr};
+ghost use Rattle.std.specs.Prelude.{◌+◌, ◌-◌, ◌<◌, ◌≤◌, ℕ, All, length, take, slice_range, replicate, IfOk, IsOk, OnOk, OnErr};
+ghost use Rattle.tinyvec_slots.specs.Ranges.{Within};
 ghost use Rattle.tinyvec_slots.specs.Clones.{RefusedAt, ClonesOver, ClonesOverFrom};
 
+use crate::tuned::sizes::are_large;
 use std::alloc::AllocError;
 use std::mem;
 
@@ -11,8 +13,7 @@ pub fn clone_over_from<T: Clone + Default>(
     start: usize,
     from: &[T],
 ) -> Result<(), AllocError>
-    requires in_bounds { start ≤ length slots.old }
-    requires fits { length from.now ≤ length slots.old - start }
+    requires fits { start + length from.now ≤ length slots.old }
     ensures ok { OnOk result (ClonesOverFrom T.is_clone start from.now (length from.now) slots.old slots.new) }
     ensures refused { OnErr result ((j : ℕ) × RefusedAt T.is_infallible from.now j
         × ClonesOverFrom T.is_clone start (take j from.now) j slots.old slots.new) }
@@ -29,8 +30,7 @@ pub fn clone_each_from<T: Clone>(
     start: usize,
     from: &[T],
 ) -> Result<(), AllocError>
-    requires in_bounds { start ≤ length slots.old }
-    requires fits { length from.now ≤ length slots.old - start }
+    requires fits { start + length from.now ≤ length slots.old }
     ensures ok { OnOk result (ClonesOverFrom T.is_clone start from.now (length from.now) slots.old slots.new) }
     ensures refused { OnErr result ((j : ℕ) × RefusedAt T.is_infallible from.now j
         × ClonesOverFrom T.is_clone start (take j from.now) j slots.old slots.new) }
@@ -46,10 +46,8 @@ pub fn clone_within<T: Clone>(
     end: usize,
     to: usize,
 ) -> Result<(), AllocError>
-    requires start_le_end { start ≤ end }
-    requires before { end ≤ to }
-    requires in_bounds { to ≤ length slots.old }
-    requires fits { end - start ≤ length slots.old - to }
+    requires before { Within start end to }
+    requires fits { to + (end - start) ≤ length slots.old }
     ensures ok { OnOk result (ClonesOverFrom T.is_clone to (slice_range slots.old start end) (end - start)
         slots.old slots.new) }
     ensures refused { OnErr result ((j : ℕ) × RefusedAt T.is_infallible (slice_range slots.old start end) j
@@ -68,8 +66,7 @@ fn clone_range<T: Clone>(
     start: usize,
     end: usize,
 ) -> Result<(), AllocError>
-    requires start_le_end { start ≤ end }
-    requires in_bounds { end ≤ length from.now }
+    requires in_bounds { Within start end (length from.now) }
     requires fits { end - start ≤ length to.old }
     ensures ok { OnOk result (ClonesOver T.is_clone (slice_range from.now start end) (end - start) to.old to.new) }
     ensures refused { OnErr result ((j : ℕ) × RefusedAt T.is_infallible (slice_range from.now start end) j
@@ -85,11 +82,10 @@ pub fn clone_over<T: Clone + Default>(to: &mut [T], from: &[T]) -> Result<(), Al
     ensures ok { OnOk result (ClonesOver T.is_clone from.now (length from.now) to.old to.new) }
     ensures refused { OnErr result ((j : ℕ) × RefusedAt T.is_infallible from.now j
         × ClonesOver T.is_clone (take j from.now) j to.old to.new) }
-    ensures len { length to.new ≡ length to.old }
     ensures succeeds { All T.is_infallible from.now → IsOk result }
 {
     // A block is on the stack, which large items would fill.
-    if from.len() * mem::size_of::<T>() / 16 > from.len() {
+    if are_large(from) {
         return clone_each(to, from);
     }
     let done = clone_blocks::<T, 512>(to, from)?;
@@ -102,7 +98,6 @@ fn clone_rest<T: Clone + Default>(to: &mut [T], from: &[T]) -> Result<(), AllocE
     ensures ok { OnOk result (ClonesOver T.is_clone from.now (length from.now) to.old to.new) }
     ensures refused { OnErr result ((j : ℕ) × RefusedAt T.is_infallible from.now j
         × ClonesOver T.is_clone (take j from.now) j to.old to.new) }
-    ensures len { length to.new ≡ length to.old }
     ensures succeeds { All T.is_infallible from.now → IsOk result }
 {
     let done = clone_blocks::<T, 16>(to, from)?;
@@ -116,7 +111,6 @@ pub fn clone_each<T: Clone>(to: &mut [T], from: &[T]) -> Result<(), AllocError>
     ensures ok { OnOk result (ClonesOver T.is_clone from.now (length from.now) to.old to.new) }
     ensures refused { OnErr result ((j : ℕ) × RefusedAt T.is_infallible from.now j
         × ClonesOver T.is_clone (take j from.now) j to.old to.new) }
-    ensures len { length to.new ≡ length to.old }
     ensures succeeds { All T.is_infallible from.now → IsOk result }
 {
     let made = clone_until_refused(to, from);
@@ -132,7 +126,6 @@ fn clone_until_refused<T: Clone>(to: &mut [T], from: &[T]) -> usize
     ensures within { result ≤ length from.now }
     ensures cloned { ClonesOver T.is_clone (take result from.now) result to.old to.new }
     ensures refused { result < length from.now → RefusedAt T.is_infallible from.now result }
-    ensures len { length to.new ≡ length to.old }
 {
     for i in 0..from.len() {
         match from[i].clone() {
@@ -154,7 +147,6 @@ fn clone_blocks<T: Clone + Default, const N: usize>(
     ensures cloned { IfOk result (λ n. ClonesOver T.is_clone (take n from.now) n to.old to.new) }
     ensures refused { OnErr result ((j : ℕ) × RefusedAt T.is_infallible from.now j
         × ClonesOver T.is_clone (take j from.now) j to.old to.new) }
-    ensures len { length to.new ≡ length to.old }
 {
     let mut done = 0;
     while N <= from.len() - done {
@@ -175,7 +167,6 @@ fn clone_block<T: Clone + Default, const N: usize>(
     ensures cloned { OnOk result (ClonesOver T.is_clone (take N from.now) N to.old to.new) }
     ensures refused { OnErr result ((j : ℕ) × RefusedAt T.is_infallible from.now j
         × ClonesOver T.is_clone (take j from.now) j to.old to.new) }
-    ensures len { length to.new ≡ length to.old }
 {
     // Tells the proof that the items fit in memory.
     let _bytes = from.len() * mem::size_of::<T>();
@@ -199,13 +190,11 @@ pub fn fill_clones<T: Clone>(
     end: usize,
     x: &T,
 ) -> Result<(), AllocError>
-    requires start_le_end { start ≤ end }
-    requires in_bounds { end ≤ length to.old }
+    requires in_bounds { Within start end (length to.old) }
     ensures ok { OnOk result (ClonesOverFrom T.is_clone start (replicate (end - start) x.now) (end - start)
         to.old to.new) }
     ensures refused { OnErr result ((j : ℕ) × (j < end - start) × ¬ (T.is_infallible x.now)
         × ClonesOverFrom T.is_clone start (replicate j x.now) j to.old to.new) }
-    ensures len { length to.new ≡ length to.old }
     ensures succeeds { T.is_infallible x.now → IsOk result }
 {
     clone_to_all(&mut to[start..end], x)
@@ -216,7 +205,6 @@ fn clone_to_all<T: Clone>(to: &mut [T], x: &T) -> Result<(), AllocError>
     ensures ok { OnOk result (ClonesOver T.is_clone (replicate (length to.old) x.now) (length to.old) to.old to.new) }
     ensures refused { OnErr result ((j : ℕ) × (j < length to.old) × ¬ (T.is_infallible x.now)
         × ClonesOver T.is_clone (replicate j x.now) j to.old to.new) }
-    ensures len { length to.new ≡ length to.old }
     ensures succeeds { T.is_infallible x.now → IsOk result }
 {
     for i in 0..to.len() {

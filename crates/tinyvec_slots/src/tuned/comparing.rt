@@ -3,11 +3,12 @@ ghost use Rattle.std.specs.Prelude.{◌≡◌, ◌-◌, ◌%◌, ◌<◌, ◌≤
 ghost use Rattle.std.specs.Cmp.Lexicographic.{pointwise, slice_cmp, slice_partial_cmp};
 ghost use Rattle.std.specs.Hash as fed;
 ghost use Rattle.std.specs.List.{fold};
+ghost use Rattle.tinyvec_slots.specs.Ranges.{Within};
 ghost use Rattle.tinyvec_slots.specs.Comparing.{SameInFront, FirstDifference, DiffersAt};
 
+use crate::tuned::sizes::{are_bytes, are_large};
 use std::cmp::Ordering;
 use std::hash::{Hash, Hasher};
-use std::mem;
 
 /// What `a == b` returns. Small items are compared in blocks with no branch inside a block, so LLVM compares several
 /// numbers at once. No pair is compared twice.
@@ -18,6 +19,7 @@ pub fn eq_slices<T: PartialEq>(a: &[T], b: &[T]) -> bool
     if a.len() != b.len() {
         return false;
     }
+    // A pair of large items may take long to compare, so none is compared that does not decide.
     if are_large(a) {
         return *a == *b;
     }
@@ -97,7 +99,7 @@ pub fn partial_cmp_slices<T: PartialOrd>(a: &[T], b: &[T]) -> Option<Ordering>
     partial_order_at(a, b, first)
 }
 
-// The same, where `first` is the first pair that is not equal, or how many pairs there are.
+// The same, if `first` is the first pair that is not equal, or how many pairs there are.
 #[inline(always)]
 fn partial_order_at<T: PartialOrd>(a: &[T], b: &[T], first: usize) -> Option<Ordering>
     requires { DiffersAt T.eq a.now b.now first }
@@ -123,7 +125,7 @@ pub fn cmp_slices<T: Ord>(a: &[T], b: &[T]) -> Ordering
     order_at(a, b, first)
 }
 
-// The same, where `first` is the first pair that is not equal, or how many pairs there are.
+// The same, if `first` is the first pair that is not equal, or how many pairs there are.
 #[inline(always)]
 fn order_at<T: Ord>(a: &[T], b: &[T], first: usize) -> Ordering
     requires { DiffersAt T.eq a.now b.now first }
@@ -145,22 +147,6 @@ pub fn hash_items<T: Hash, H: Hasher>(items: &[T], state: &mut H)
     for i in 0..items.len() {
         items[i].hash(state);
     }
-}
-
-// Whether an item takes more than 16 bytes. A pair of such items may take long to compare, so none is compared that does not
-// decide.
-#[inline(always)]
-fn are_large<T>(items: &[T]) -> bool {
-    items.len() * mem::size_of::<T>() / 16 > items.len()
-}
-
-// Whether an item takes one byte.
-#[inline(always)]
-fn are_bytes<T>(items: &[T]) -> bool
-    requires some { 0 < length items.now }
-{
-    let first = &items[..1];
-    first.len() * mem::size_of::<T>() == 1
 }
 
 // Whether there is no pair, or the first is not equal. Most lists that differ do so in their first items, and such a list is
@@ -194,8 +180,7 @@ fn difference_behind_first<T: PartialEq>(a: &[T], b: &[T]) -> usize
 #[inline(always)]
 fn difference_before<T: PartialEq>(a: &[T], b: &[T], start: usize, end: usize) -> usize
     requires as_long { length a.now ≡ length b.now }
-    requires in_order { start ≤ end }
-    requires in_bounds { end ≤ length a.now }
+    requires in_bounds { Within start end (length a.now) }
     requires same_before { SameInFront T.eq a.now b.now start }
     ensures { FirstDifference T.eq a.now b.now end result }
 {

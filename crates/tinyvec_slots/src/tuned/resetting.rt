@@ -1,15 +1,15 @@
 //! Defaults written into slots.
 ghost use Rattle.std.specs.Prelude.{◌≡◌, ◌-◌, ◌*◌, ◌<◌, ◌≤◌, ◌++◌, List, length, take, drop};
+ghost use Rattle.tinyvec_slots.specs.Ranges.{Within};
 ghost use Rattle.tinyvec_slots.specs.Slots.{AreDefaults};
 
-use std::mem;
+use crate::tuned::sizes::prefers_shifting;
 
 /// Writes a default into each slot from `start` up to `end`, which are at most `most`. A constant `most` removes the branches
 /// for more slots.
 #[inline(always)]
 pub fn fill_default<T: Default + Drop>(slots: &mut [T], start: usize, end: usize, most: usize)
-    requires start_le_end { start ≤ end }
-    requires in_bounds { end ≤ length slots.old }
+    requires in_bounds { Within start end (length slots.old) }
     requires few { end - start ≤ most }
     ensures { (ds : List T) × AreDefaults T.is_default (end - start) ds
         × (slots.new ≡ take start slots.old ++ ds ++ drop end slots.old) }
@@ -43,7 +43,7 @@ fn fill_many<T: Default + Drop>(slots: &mut [T])
     requires { 32 < length slots.old }
     ensures { AreDefaults T.is_default (length slots.old) slots.new }
 {
-    if slots.len() <= 64 && slots.len() * mem::size_of::<T>() <= 128 {
+    if slots.len() <= 64 && prefers_shifting(slots) {
         fill_ends::<T, 32>(slots);
     } else {
         fill_each(slots);

@@ -9,12 +9,6 @@ pub fn prefers_swaps(count: usize) -> bool {
     count <= 64
 }
 
-/// Whether moving the items one by one beats `memmove`.
-#[inline(always)]
-pub fn prefers_shifting<T>(items: &[T]) -> bool {
-    items.len() * mem::size_of::<T>() <= 128
-}
-
 /// Inserts `x` at `index` into the first `len` items, which overwrites the item at `len`.
 pub fn insert_shifting<T: Drop>(slots: &mut [T], index: usize, len: usize, x: T)
     requires in_list { index ≤ len }

@@ -24,65 +24,65 @@ impl<const N: usize> InlineText<N> {
         Ok(text)
     }
 
-    /// Appends `s` to a text that has room. It allocates nothing, so it cannot fail.
+    /// Appends `string` to a text that has room. It allocates nothing, so it cannot fail.
     #[inline(always)]
-    pub fn push_str_reserved(&mut self, s: &str)
-        requires { text_len self.old + length s.now ≤ self.old.room }
-        ensures bytes { self.new.bytes ≡ self.old.bytes ++ s.now }
-        ensures text { text_chars self.new ≡ text_chars self.old ++ chars s.now }
+    pub fn push_str_reserved(&mut self, string: &str)
+        requires { text_len self.old + length string.now ≤ self.old.room }
+        ensures bytes { self.new.bytes ≡ self.old.bytes ++ string.now }
+        ensures text { text_chars self.new ≡ text_chars self.old ++ chars string.now }
         ensures frame { StaysInPlace self.old self.new }
     {
-        let Ok(()) = self.list.extend_from_slice(s.as_bytes()) else {
+        let Ok(()) = self.list.extend_from_slice(string.as_bytes()) else {
             unreachable!();
         };
     }
 
-    /// Appends `c` to a text that has room. It allocates nothing, so it cannot fail.
+    /// Appends `ch` to a text that has room. It allocates nothing, so it cannot fail.
     #[inline(always)]
-    pub fn push_reserved(&mut self, c: char)
-        requires { text_len self.old + length (encode_utf8 c) ≤ self.old.room }
-        ensures bytes { self.new.bytes ≡ self.old.bytes ++ encode_utf8 c }
-        ensures text { text_chars self.new ≡ text_chars self.old ++ c ∷ [] }
+    pub fn push_reserved(&mut self, ch: char)
+        requires { text_len self.old + length (encode_utf8 ch) ≤ self.old.room }
+        ensures bytes { self.new.bytes ≡ self.old.bytes ++ encode_utf8 ch }
+        ensures text { text_chars self.new ≡ text_chars self.old ++ ch ∷ [] }
         ensures frame { StaysInPlace self.old self.new }
     {
-        if c.is_ascii() {
-            self.list.push_reserved(c as u8);
+        if ch.is_ascii() {
+            self.list.push_reserved(ch as u8);
             return;
         }
         let mut buffer = [0; 4];
-        self.push_str_reserved(c.encode_utf8(&mut buffer));
+        self.push_str_reserved(ch.encode_utf8(&mut buffer));
     }
 
-    /// Appends `s`. Allocates only if the bytes don't fit.
+    /// Appends `string`. Allocates only if the bytes don't fit.
     #[inline(always)]
-    pub fn push_str(&mut self, s: &str) -> Result<(), AllocError>
-        ensures bytes { self.new.bytes ≡ (if is_ok result then self.old.bytes ++ s.now else self.old.bytes) }
+    pub fn push_str(&mut self, string: &str) -> Result<(), AllocError>
+        ensures bytes { self.new.bytes ≡ (if is_ok result then self.old.bytes ++ string.now else self.old.bytes) }
         ensures len { text_len self.new
-            ≡ (if is_ok result then text_len self.old + length s.now else text_len self.old) }
-        ensures text { OnOk result (text_chars self.new ≡ text_chars self.old ++ chars s.now) }
-        ensures room { MakesRoom self.old.inline N (text_len self.old + length s.now) self.old self.new result }
+            ≡ (if is_ok result then text_len self.old + length string.now else text_len self.old) }
+        ensures text { OnOk result (text_chars self.new ≡ text_chars self.old ++ chars string.now) }
+        ensures room { MakesRoom self.old.inline N (text_len self.old + length string.now) self.old self.new result }
     {
-        self.list.extend_from_slice(s.as_bytes())?;
+        self.list.extend_from_slice(string.as_bytes())?;
         Ok(())
     }
 
-    /// Appends `c`. Allocates only if the bytes don't fit.
+    /// Appends `ch`. Allocates only if the bytes don't fit.
     #[inline(always)]
-    pub fn push(&mut self, c: char) -> Result<(), AllocError>
+    pub fn push(&mut self, ch: char) -> Result<(), AllocError>
         ensures bytes { self.new.bytes
-            ≡ (if is_ok result then self.old.bytes ++ encode_utf8 c else self.old.bytes) }
+            ≡ (if is_ok result then self.old.bytes ++ encode_utf8 ch else self.old.bytes) }
         ensures len { text_len self.new
-            ≡ (if is_ok result then text_len self.old + length (encode_utf8 c) else text_len self.old) }
-        ensures text { OnOk result (text_chars self.new ≡ text_chars self.old ++ c ∷ []) }
-        ensures room { MakesRoom (self.old.inline && nat_le 128 c) N (text_len self.old + length (encode_utf8 c))
+            ≡ (if is_ok result then text_len self.old + length (encode_utf8 ch) else text_len self.old) }
+        ensures text { OnOk result (text_chars self.new ≡ text_chars self.old ++ ch ∷ []) }
+        ensures room { MakesRoom (self.old.inline && nat_le 128 ch) N (text_len self.old + length (encode_utf8 ch))
             self.old self.new result }
     {
         // Most characters are ASCII, and take a byte.
-        if c.is_ascii() {
-            self.list.push(c as u8)?;
+        if ch.is_ascii() {
+            self.list.push(ch as u8)?;
             return Ok(());
         }
-        self.push_wide(c)
+        self.push_wide(ch)
     }
 
     // `push` of a character that takes more than a byte. A call of its own, so that `push` is short enough to inline.
@@ -100,14 +100,14 @@ impl<const N: usize> InlineText<N> {
         Ok(())
     }
 
-    /// Makes room for `n` more bytes. An inline text moves to the heap if they don't fit the array.
-    pub fn reserve(&mut self, n: usize) -> Result<(), AllocError>
+    /// Makes room for `additional` more bytes. An inline text moves to the heap if they don't fit the array.
+    pub fn reserve(&mut self, additional: usize) -> Result<(), AllocError>
         ensures bytes { self.new.bytes ≡ self.old.bytes }
-        ensures room { MakesRoom self.old.inline N (text_len self.old + n) self.old self.new result }
-        ensures enough { OnOk result (text_len self.old + n ≤ self.new.room) }
-        ensures kept { text_len self.old + n ≤ self.old.room → self.new ≡ self.old }
+        ensures room { MakesRoom self.old.inline N (text_len self.old + additional) self.old self.new result }
+        ensures enough { OnOk result (text_len self.old + additional ≤ self.new.room) }
+        ensures kept { text_len self.old + additional ≤ self.old.room → self.new ≡ self.old }
     {
-        self.list.reserve(n)?;
+        self.list.reserve(additional)?;
         Ok(())
     }
 
@@ -123,22 +123,22 @@ impl<const N: usize> InlineText<N> {
         self.list.shrink_to_fit();
     }
 
-    /// Whether the bytes before `i` are those of some first characters.
-    pub fn is_char_boundary(&self, i: usize) -> bool
-        ensures { IsTrue result ↔ IsBoundary (text_chars self.now) i }
+    /// Whether the bytes before `index` are those of some first characters.
+    pub fn is_char_boundary(&self, index: usize) -> bool
+        ensures { IsTrue result ↔ IsBoundary (text_chars self.now) index }
     {
-        is_split_point(self.list.as_slice(), i)
+        is_split_point(self.list.as_slice(), index)
     }
 
-    /// Keeps the first `i` bytes, which end at a character. Does not allocate, and the text stays in its place.
-    pub fn truncate(&mut self, i: usize)
-        requires { IsBoundary (text_chars self.old) i }
-        ensures bytes { self.new.bytes ≡ take i self.old.bytes }
+    /// Keeps the first `new_len` bytes, which end at a character. Does not allocate, and the text stays in its place.
+    pub fn truncate(&mut self, new_len: usize)
+        requires { IsBoundary (text_chars self.old) new_len }
+        ensures bytes { self.new.bytes ≡ take new_len self.old.bytes }
         ensures text { (rest : List ℕ) × (text_chars self.old ≡ text_chars self.new ++ rest) }
-        ensures len { text_len self.new ≡ i }
+        ensures len { text_len self.new ≡ new_len }
         ensures frame { StaysInPlace self.old self.new }
     {
-        self.list.truncate(i);
+        self.list.truncate(new_len);
     }
 
     /// Empties the text. Does not allocate, and the text stays in its place.
@@ -150,68 +150,68 @@ impl<const N: usize> InlineText<N> {
         self.list.clear();
     }
 
-    /// Puts `c` at the byte `i`, where a character begins or the text ends. Allocates only if the bytes don't fit.
-    pub fn insert(&mut self, i: usize, c: char) -> Result<(), AllocError>
-        requires { IsBoundary (text_chars self.old) i }
+    /// Puts `ch` at the byte `index`, where a character begins or the text ends. Allocates only if the bytes don't fit.
+    pub fn insert(&mut self, index: usize, ch: char) -> Result<(), AllocError>
+        requires { IsBoundary (text_chars self.old) index }
         ensures bytes { self.new.bytes
-            ≡ (if is_ok result then take i self.old.bytes ++ encode_utf8 c ++ drop i self.old.bytes else self.old.bytes) }
+            ≡ (if is_ok result then take index self.old.bytes ++ encode_utf8 ch ++ drop index self.old.bytes else self.old.bytes) }
         ensures text { OnOk result (text_chars self.new
-            ≡ chars (take i self.old.bytes) ++ c ∷ [] ++ chars (drop i self.old.bytes)) }
-        ensures room { MakesRoom self.old.inline N (text_len self.old + length (encode_utf8 c)) self.old self.new result }
+            ≡ chars (take index self.old.bytes) ++ ch ∷ [] ++ chars (drop index self.old.bytes)) }
+        ensures room { MakesRoom self.old.inline N (text_len self.old + length (encode_utf8 ch)) self.old self.new result }
     {
         let mut buffer = [0; 4];
-        self.insert_str(i, c.encode_utf8(&mut buffer))
+        self.insert_str(index, ch.encode_utf8(&mut buffer))
     }
 
-    /// Puts `s` at the byte `i`, where a character begins or the text ends. Allocates only if the bytes don't fit.
-    pub fn insert_str(&mut self, i: usize, s: &str) -> Result<(), AllocError>
-        requires { IsBoundary (text_chars self.old) i }
+    /// Puts `string` at the byte `index`, where a character begins or the text ends. Allocates only if the bytes don't fit.
+    pub fn insert_str(&mut self, index: usize, string: &str) -> Result<(), AllocError>
+        requires { IsBoundary (text_chars self.old) index }
         ensures bytes { self.new.bytes
-            ≡ (if is_ok result then take i self.old.bytes ++ s.now ++ drop i self.old.bytes else self.old.bytes) }
+            ≡ (if is_ok result then take index self.old.bytes ++ string.now ++ drop index self.old.bytes else self.old.bytes) }
         ensures text { OnOk result (text_chars self.new
-            ≡ chars (take i self.old.bytes) ++ chars s.now ++ chars (drop i self.old.bytes)) }
-        ensures room { MakesRoom self.old.inline N (text_len self.old + length s.now) self.old self.new result }
+            ≡ chars (take index self.old.bytes) ++ chars string.now ++ chars (drop index self.old.bytes)) }
+        ensures room { MakesRoom self.old.inline N (text_len self.old + length string.now) self.old self.new result }
     {
-        self.replace_range(i..i, s)
+        self.replace_range(index..index, string)
     }
 
-    /// Puts `s` in the place of the range, whose ends are boundaries. Allocates only if the bytes don't fit.
+    /// Puts `replace_with` in the place of the range, whose ends are boundaries. Allocates only if the bytes don't fit.
     pub fn replace_range<R: RangeBounds<usize>>(
         &mut self,
         range: R,
-        s: &str,
+        replace_with: &str,
     ) -> Result<(), AllocError>
         requires not_exhausted { R.has_bounds range }
         requires start_le_end { range_start (R.start_bound range) ≤ range_end (R.end_bound range) (text_len self.old) }
         requires start_boundary { IsBoundary (text_chars self.old) (range_start (R.start_bound range)) }
         requires end_boundary { IsBoundary (text_chars self.old) (range_end (R.end_bound range) (text_len self.old)) }
         ensures bytes { self.new.bytes ≡ (if is_ok result
-            then before self.old.bytes (R.start_bound range) ++ s.now ++ after self.old.bytes (R.end_bound range)
+            then before self.old.bytes (R.start_bound range) ++ replace_with.now ++ after self.old.bytes (R.end_bound range)
             else self.old.bytes) }
         ensures text { OnOk result (text_chars self.new ≡ chars (before self.old.bytes (R.start_bound range))
-            ++ chars s.now ++ chars (after self.old.bytes (R.end_bound range))) }
+            ++ chars replace_with.now ++ chars (after self.old.bytes (R.end_bound range))) }
         ensures room { MakesRoom self.old.inline N (text_len self.old
-            - (range_end (R.end_bound range) (text_len self.old) - range_start (R.start_bound range)) + length s.now)
+            - (range_end (R.end_bound range) (text_len self.old) - range_start (R.start_bound range)) + length replace_with.now)
             self.old self.new result }
     {
-        self.list.replace_range(range, s.as_bytes())?;
+        self.list.replace_range(range, replace_with.as_bytes())?;
         Ok(())
     }
 
-    /// Removes and returns the character at the byte `i`. Does not allocate, and the text stays in its place.
-    pub fn remove(&mut self, i: usize) -> char
-        requires boundary { IsBoundary (text_chars self.old) i }
-        requires in_bounds { i < text_len self.old }
-        ensures bytes { (rest : List ℕ) × (drop i self.old.bytes ≡ encode_utf8 result ++ rest)
-            × (self.new.bytes ≡ take i self.old.bytes ++ rest) }
-        ensures text { (rest : List ℕ) × (text_chars self.old ≡ chars (take i self.old.bytes) ++ result ∷ rest)
-            × (text_chars self.new ≡ chars (take i self.old.bytes) ++ rest) }
+    /// Removes and returns the character at the byte `index`. Does not allocate, and the text stays in its place.
+    pub fn remove(&mut self, index: usize) -> char
+        requires boundary { IsBoundary (text_chars self.old) index }
+        requires in_bounds { index < text_len self.old }
+        ensures bytes { (rest : List ℕ) × (drop index self.old.bytes ≡ encode_utf8 result ++ rest)
+            × (self.new.bytes ≡ take index self.old.bytes ++ rest) }
+        ensures text { (rest : List ℕ) × (text_chars self.old ≡ chars (take index self.old.bytes) ++ result ∷ rest)
+            × (text_chars self.new ≡ chars (take index self.old.bytes) ++ rest) }
         ensures frame { StaysInPlace self.old self.new }
     {
-        let (c, width) = first_char(&self.list.as_slice()[i..]);
+        let (c, width) = first_char(&self.list.as_slice()[index..]);
         // Shows the proof that the list fits.
         let _len = self.list.len();
-        drop(self.list.drain(i..i + width));
+        drop(self.list.drain(index..index + width));
         c
     }
 

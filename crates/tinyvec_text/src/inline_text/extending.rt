@@ -19,7 +19,7 @@ impl<const N: usize> Extend<char> for InlineText<N> {
             (λ t cs u. u.bytes ≡ t.bytes ++ encode_utf8_all cs) iter self.old self.new result }
         ensures grows { TextExtends N self.old self.new }
 
-        // Where known characters fit, it allocates nothing.
+        // If known characters fit, it allocates nothing.
         ensures known { (cs : List ℕ) → IntoIterYields U.into_iter_gives U.IntoIter.next_gives iter cs
             → text_len self.old + length (encode_utf8_all cs) ≤ self.old.room → IsOk result }
     {
@@ -44,7 +44,7 @@ impl<'a, const N: usize> Extend<&'a str> for InlineText<N> {
             (λ t xs u. u.bytes ≡ t.bytes ++ flat_map (λ x. x.now) xs) iter self.old self.new result }
         ensures grows { TextExtends N self.old self.new }
 
-        // Where known texts fit, it allocates nothing.
+        // If known texts fit, it allocates nothing.
         ensures known { (xs : _) → IntoIterYields U.into_iter_gives U.IntoIter.next_gives iter xs
             → text_len self.old + length (flat_map (λ x. x.now) xs) ≤ self.old.room → IsOk result }
     {
@@ -75,7 +75,7 @@ impl<const N: usize> FromIterator<char> for InlineText<N> {
         ensures place { IfOk result (λ t. IsTrue t.inline ↔ (text_len t ≤ N)) }
         ensures grown { IfOk result (λ t. N < t.room → t.room < 2 * text_len t) }
 
-        // Where known items fit the array, it allocates nothing.
+        // If known items fit the array, it allocates nothing.
         ensures known { (xs : List ℕ) → IntoIterYields U.into_iter_gives U.IntoIter.next_gives iter xs
             → length (encode_utf8_all xs) ≤ N → IsOk result }
     {
@@ -102,7 +102,7 @@ impl<'a, const N: usize> FromIterator<&'a str> for InlineText<N> {
         ensures place { IfOk result (λ t. IsTrue t.inline ↔ (text_len t ≤ N)) }
         ensures grown { IfOk result (λ t. N < t.room → t.room < 2 * text_len t) }
 
-        // Where known items fit the array, it allocates nothing.
+        // If known items fit the array, it allocates nothing.
         ensures known { (xs : _) → IntoIterYields U.into_iter_gives U.IntoIter.next_gives iter xs
             → length (flat_map (λ x. x.now) xs) ≤ N → IsOk result }
     {

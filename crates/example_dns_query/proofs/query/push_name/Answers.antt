@@ -5,4 +5,4 @@ use Rattle.example_dns_query.proofs.query.push_name.Goals as goal
 pub returns : goal.returns
 returns c =
     let push = c.push.ensures in
-    Appends-then _ (0 ∷ []) _ _ _ c.push_labels.ensures (record { same_reference = push.same_reference; items = push.items; spare = push.spare })
+    Appends-then _ (0 ∷ []) _ _ _ c.push_labels.ensures (record { same_reference = push.lender.same_reference; items = push.items; spare = push.spare })

@@ -11,7 +11,7 @@ use Rattle.tinyvec_slots.proofs.splicing.splice_finish.Goals as goal
 -- the gap, as it was filled
 module _ (g : _) (c : After-fill g) where
   same : length c.fill.new.slots ≡ length (g.V.CanCut.items c.args.vec.now)
-  same = c.fill.ensures.slot_count ∙ ap length c.as_mut_slice.ensures.value
+  same = c.fill.auto.slots ∙ ap length c.as_mut_slice.ensures.value
 
   mid_is : g.V.CanCut.items (g.V.CanCut.with_items c.args.vec.now c.fill.new.slots) ≡ c.fill.new.slots
   mid_is = (g.met.V.CanCut.written c.args.vec.now c.fill.new.slots same).0

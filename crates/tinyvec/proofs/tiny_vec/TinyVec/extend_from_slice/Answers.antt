@@ -46,7 +46,7 @@ pub returns-in-Inline-clause-slot_rule : goal.returns-in-Inline-clause-slot_rule
 returns-in-Inline-clause-slot_rule g c =
     let made = c.extend_from_slice.ensures in
     on_ok_two c.extend_from_slice.result made.len made.spare (λ long behind.
-    rw c.in-Inline.is (slots_used g.A.Item.Default.is_default c.in-Inline.v c.extend_from_slice.new.self (length c.args.other.now) long behind))
+    rw c.in-Inline.is (λ _ _. slots_used g.A.Item.Default.is_default c.in-Inline.v c.extend_from_slice.new.self (length c.args.other.now) long behind))
 
 pub returns-in-Inline-clause-room : goal.returns-in-Inline-clause-room
 returns-in-Inline-clause-room g c =
@@ -101,7 +101,7 @@ pub returns-in-Heap-clause-place : goal.returns-in-Heap-clause-place
 returns-in-Heap-clause-place g c = on_ok_weaker c.push_clones.result (λ _. (heap_granted g c).0) c.push_clones.ensures.items
 
 pub returns-in-Heap-clause-slot_rule : goal.returns-in-Heap-clause-slot_rule
-returns-in-Heap-clause-slot_rule g c = on_ok_weaker c.push_clones.result (λ _. rw c.in-Heap.is tt) c.push_clones.ensures.items
+returns-in-Heap-clause-slot_rule g c = on_ok_weaker c.push_clones.result (λ _. rw c.in-Heap.is (λ i _. absurd (false≢true i))) c.push_clones.ensures.items
 
 pub returns-in-Heap-clause-room : goal.returns-in-Heap-clause-room
 returns-in-Heap-clause-room g c =

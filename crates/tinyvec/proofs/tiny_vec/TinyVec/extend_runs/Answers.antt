@@ -5,7 +5,7 @@ use Rattle.std.specs.Iterator.{YieldsThen}
 use Rattle.tinyvec.specs.TinyVec.{tiny_items, tiny_len}
 use Rattle.tinyvec.specs.Room.{Grows}
 use Rattle.tinyvec.proofs.FillingLemmas.{yields_then}
-use Rattle.tinyvec.proofs.FrameLemmas.{grows_stays, grows_pushed}
+use Rattle.tinyvec.proofs.FrameLemmas.{unchanged_stays, grows_stays, grows_pushed}
 use Rattle.tinyvec.proofs.tiny_vec.TinyVec.extend_runs.Goals.{After-fill_room}
 use Rattle.tinyvec.proofs.tiny_vec.TinyVec.extend_runs.Goals as goal
 
@@ -84,4 +84,4 @@ returns-in-Err-push-clause-grows g c =
     let same = ap length refused.items in
     grows_stays g.A.Item.Default.is_default g.A.Array.CAPACITY c.args.self.now mid c.push.new.self
     (omega (arith, c.loop-item.invariant.longer, run.longer)) (omega (arith, same)) (filled g (goal.at.returns-in-Err-push-clause-grows g c).After-fill_room)
-    (record { place = refused.place; slot_rule = c.push.ensures.slot_rule; capacity = refused.capacity g.A.Array.CAPACITY; fits = c.push.ensures.room.fits })
+    (unchanged_stays g.A.Item.Default.is_default g.A.Array.CAPACITY mid c.push.new.self run.frame.fits refused)

@@ -5,7 +5,7 @@ use Rattle.tinyvec.proofs.tiny_vec.TinyVec.fill_reserved.Goals as goal
 pub resize-requires : goal.resize-requires
 resize-requires g c =
     let room : items_len c.in-Inline.v + c.args.n ≤ g.A.Array.CAPACITY = rw c.in-Inline.is at c.requires.room in
-    record { in_bounds = omega (arith, c.len.ensures.value) }
+    record { room = omega (arith, c.len.ensures.value) }
 
 pub returns-in-Inline-clause-items : goal.returns-in-Inline-clause-items
 returns-in-Inline-clause-items g c =

@@ -1,4 +1,5 @@
 use Rattle.std.proofs.Common.{◌≤◌, length, ap, ◌∙◌, rules}
+use Rattle.std.proofs.lemmas.Bool.{false≢true}
 use Rattle.std.proofs.lemmas.List.Edits.{length-insert}
 use Rattle.tinyvec_slots.specs.Slots.{items_len}
 use Rattle.tinyvec.specs.TinyVec.{tiny_items}
@@ -11,9 +12,9 @@ returns-clause-slot_rule g c = elim c.match-self.branch [
   | in-Inline w ↦
       let v = w.in-Inline.v in
       let put = w.insert.ensures in
-      let in_list : c.args.i ≤ items_len v = rw w.in-Inline.is at c.requires in
-      rw (w.in-Inline.is, w.self-is) (slots_inserted g.A.Item.Default.is_default v w.insert.new.self c.args.i c.args.x in_list put.items put.spare)
-  | in-Heap w ↦ rw w.in-Heap.is tt
+      let in_list : c.args.index ≤ items_len v = rw w.in-Inline.is at c.requires in
+      rw (w.in-Inline.is, w.self-is) (λ _ _. slots_inserted g.A.Item.Default.is_default v w.insert.new.self c.args.index c.args.element in_list put.items put.spare)
+  | in-Heap w ↦ rw w.in-Heap.is (λ i _. absurd (false≢true i))
   | in_default+else-is_err w ↦ search rules
 ]
 
@@ -21,4 +22,4 @@ pub returns-clause-items : goal.returns-clause-items
 returns-clause-items g c = search rules
 
 pub returns-clause-len : goal.returns-clause-len
-returns-clause-len g c = ap length (returns-clause-items g c) ∙ length-insert (tiny_items c.args.self.now) c.args.i c.args.x c.requires
+returns-clause-len g c = ap length (returns-clause-items g c) ∙ length-insert (tiny_items c.args.self.now) c.args.index c.args.element c.requires

@@ -7,6 +7,6 @@ use Rattle.tinyvec.proofs.tiny_vec.TinyVec.insert_reserved.Goals as goal
 pub returns-in-Inline-clause-frame : goal.returns-in-Inline-clause-frame
 returns-in-Inline-clause-frame g c =
     let put = c.insert.ensures in
-    let in_list : c.args.i ≤ items_len c.in-Inline.v = rw c.in-Inline.is at c.requires.in_list in
-    rw c.in-Inline.is (inline_stays g.A.Item.Default.is_default g.A.Array.CAPACITY c.in-Inline.v c.insert.new.self c.in-Inline.field-1
-    (slots_inserted g.A.Item.Default.is_default c.in-Inline.v c.insert.new.self c.args.i c.args.x in_list put.items put.spare) put.fits)
+    let in_list : c.args.index ≤ items_len c.in-Inline.v = rw c.in-Inline.is at c.requires.in_list in
+    rw c.in-Inline.is (inline_stays g.A.Item.Default.is_default g.A.Array.CAPACITY c.in-Inline.v c.insert.new.self
+    (slots_inserted g.A.Item.Default.is_default c.in-Inline.v c.insert.new.self c.args.index c.args.element in_list put.items put.spare) put.fits)

@@ -12,7 +12,7 @@ returns-clause-ok g c =
     let xs = c.args.source.now in
     let ws = c.clone_over.new.to in
     let same = c.as_mut_slice.ensures.value in
-    let long : length ws ≡ tiny_len v = c.clone_over.ensures.len ∙ ap length same in
+    let long : length ws ≡ tiny_len v = c.clone_over.auto.to ∙ ap length same in
     let none : drop (length xs) c.as_mut_slice.result.now ≡ [] = ap (drop (length xs)) same ∙ drop_all (length xs) (tiny_items v) (omega (arith, c.requires.same_len)) in
     on_ok_weaker c.clone_over.result
     (λ over.
@@ -25,8 +25,8 @@ returns-clause-refused g c =
     let v = c.args.self.now in
     let ws = c.clone_over.new.to in
     let same = c.as_mut_slice.ensures.value in
-    let long : length ws ≡ tiny_len v = c.clone_over.ensures.len ∙ ap length same in
+    let long : length ws ≡ tiny_len v = c.clone_over.auto.to ∙ ap length same in
     on_err_weaker c.clone_over.result (λ h. (h.0, h.1, rw (same, ← tiny_items-with v ws long) at h.2)) c.clone_over.ensures.refused
 
 pub returns-clause-frame : goal.returns-clause-frame
-returns-clause-frame g c = tiny_framed-with c.args.self.now c.clone_over.new.to (c.clone_over.ensures.len ∙ ap length c.as_mut_slice.ensures.value)
+returns-clause-frame g c = tiny_framed-with c.args.self.now c.clone_over.new.to (c.clone_over.auto.to ∙ ap length c.as_mut_slice.ensures.value)

@@ -3,11 +3,11 @@ use Rattle.std.specs.Prelude.{OnOk}
 use Rattle.std.specs.Result.{is_err}
 use Rattle.std.proofs.lemmas.Bool.{false≢true, eqb-true, eqb-false}
 use Rattle.tinyvec_slots.specs.Slots.{Slots, items, items_len, spare}
-use Rattle.tinyvec.specs.TinyVec.{tiny_items, tiny_len, tiny_capacity, is_inline, PlaceRule, TinySlotRule}
+use Rattle.tinyvec.specs.TinyVec.{tiny_items, tiny_len, tiny_capacity, is_inline, IsInline, PlaceRule, TinySlotRule}
 use Rattle.tinyvec.specs.Room.{Doubles, KeepsRoom}
 use Rattle.tinyvec.specs.declared.tiny_vec.TinyVec.{TinyVec}
 use Rattle.tinyvec.specs.declared.tiny_vec.TinyVec.TheVariants.{Inline, Heap}
-use Rattle.tinyvec.proofs.TinyLemmas.{slots_pushed}
+use Rattle.tinyvec.proofs.TinyLemmas.{slots_pushed, capacity_inline}
 use Rattle.tinyvec.proofs.RefusedLemmas.{place_kept}
 use Rattle.tinyvec.proofs.tiny_vec.TinyVec.push.Goals.{in-Inline, in-Heap, in_default+else-is_err, in_default-via-in-Inline+else-not-is_full, in_default-via-in-Heap+else-len-capacity}
 use Rattle.tinyvec.proofs.tiny_vec.TinyVec.push.Goals as goal
@@ -33,7 +33,7 @@ module _ {A T : Type 0} (D : T → Type 0) (slots : ℕ) (x : T) where
   in_array v w a room is behind fits = record {
     items_are = is;
     place = place_kept {A = A} slots (items_len v + 1) (Inline v a) (Inline w a) refl (omega (arith, room));
-    slot_rule = slots_pushed D v w x is behind;
+    slot_rule = λ _ _. slots_pushed D v w x is behind;
     doubles = λ less. absurd (omega (arith, less, room));
     capacity = le_refl slots;
     same_room = λ _. refl;
@@ -44,7 +44,7 @@ module _ {A T : Type 0} (D : T → Type 0) (slots : ℕ) (x : T) where
   on_heap v w room is same = record {
     items_are = is;
     place = ((λ i. absurd (false≢true i)), λ h. absurd (false≢true h.0));
-    slot_rule = tt;
+    slot_rule = λ i _. absurd (false≢true i);
     doubles = λ less. absurd (omega (arith, less, room, v.ok.0));
     capacity = omega (arith, same);
     same_room = λ _. same;
@@ -54,10 +54,9 @@ module _ {A T : Type 0} (D : T → Type 0) (slots : ℕ) (x : T) where
   -- a full list moved to the heap
   moved : (old new : TinyVec A T) → tiny_len old ≡ tiny_capacity slots old → is_inline new ≡ false
       → PlaceRule slots (tiny_len old + 1) old new × TinySlotRule D old new
-  moved (Inline v a) (Inline w b) full out = absurd (false≢true (sym out))
-  moved (Inline v a) (Heap w) full out = (((λ i. absurd (false≢true i)), λ h. absurd (omega (arith, full, h.1))), tt)
-  moved (Heap v) (Inline w b) full out = absurd (false≢true (sym out))
-  moved (Heap v) (Heap w) full out = (((λ i. absurd (false≢true i)), λ h. absurd (false≢true h.0)), tt)
+  moved old new full out =
+      let outside : IsInline new → ⊥ = λ j. false≢true (sym out ∙ j) in
+      ((λ j. absurd (outside j), λ h. absurd (omega (arith, full, h.1, capacity_inline slots old h.0))), λ _ j. absurd (outside j))
 
   -- it grew first
   grown : (old mid new : TinyVec A T) → tiny_len old ≡ tiny_capacity slots old → tiny_items mid ≡ tiny_items old → is_inline mid ≡ false
@@ -75,15 +74,15 @@ module _ {A T : Type 0} (D : T → Type 0) (slots : ℕ) (x : T) where
         fits = fits;
       }
 
-pushed : (g : _) (c : goal.Joined-self g) → Pushed g.A.Item.Default.is_default g.A.Array.CAPACITY c.args.x c.args.self.now c.match-self.self
-pushed g c = elim c.match-self.branch as (λ _. Pushed g.A.Item.Default.is_default g.A.Array.CAPACITY c.args.x c.args.self.now c.match-self.self) [
+pushed : (g : _) (c : goal.Joined-self g) → Pushed g.A.Item.Default.is_default g.A.Array.CAPACITY c.args.value c.args.self.now c.match-self.self
+pushed g c = elim c.match-self.branch as (λ _. Pushed g.A.Item.Default.is_default g.A.Array.CAPACITY c.args.value c.args.self.now c.match-self.self) [
   | in-Inline w ↦
       let v = w.in-Inline.v in
       let some = eqb-false (items_len v) g.A.Array.CAPACITY (sym w.if-not-is_full.ensures.value) in
       let put = w.push.ensures in
-      rw (w.self-is, w.in-Inline.is) (in_array g.A.Item.Default.is_default g.A.Array.CAPACITY c.args.x v w.push.new.self w.in-Inline.field-1
+      rw (w.self-is, w.in-Inline.is) (in_array g.A.Item.Default.is_default g.A.Array.CAPACITY c.args.value v w.push.new.self w.in-Inline.field-1
       (omega (arith, some, w.is_full.ensures.fits)) put.items put.spare put.fits)
-  | in-Heap w ↦ rw (w.self-is, w.in-Heap.is) (on_heap g.A.Item.Default.is_default g.A.Array.CAPACITY c.args.x w.in-Heap.v w.push_reserved.new.self (omega (arith, w.len.ensures, w.capacity.ensures, w.if-len-capacity.true)) w.push_reserved.ensures.items w.push_reserved.ensures.capacity)
+  | in-Heap w ↦ rw (w.self-is, w.in-Heap.is) (on_heap g.A.Item.Default.is_default g.A.Array.CAPACITY c.args.value w.in-Heap.v w.push_reserved.new.self (omega (arith, w.len.ensures, w.capacity.ensures, w.if-len-capacity.true)) w.push_reserved.ensures.items w.push_reserved.ensures.capacity)
   | in_default+else-is_err w ↦
       let old = c.args.self.now in
       let was : (w.in_default.self ≡ old) × (tiny_len old ≡ tiny_capacity g.A.Array.CAPACITY old) =
@@ -97,7 +96,7 @@ pushed g c = elim c.match-self.branch as (λ _. Pushed g.A.Item.Default.is_defau
       let room = rw was.0 at w.grow_one.ensures in
       let ok = w.if-is_err.ensures.value in
       let put = w.push_reserved-in_default.ensures in
-      rw w.self-is (grown g.A.Item.Default.is_default g.A.Array.CAPACITY c.args.x old w.grow_one.new.self w.push_reserved-in_default.new.self was.1
+      rw w.self-is (grown g.A.Item.Default.is_default g.A.Array.CAPACITY c.args.value old w.grow_one.new.self w.push_reserved-in_default.new.self was.1
       room.items (when_ok w.grow_one.result ok room.place) (when_ok w.grow_one.result ok room.room) room.capacity put.items put.frame.place put.frame.capacity put.frame.fits)
 ]
 

@@ -31,3 +31,6 @@ loop-self-preserved g c =
       place = put.frame.place ∙ at.invariant.place;
       capacity = put.frame.capacity ∙ at.invariant.capacity;
     }
+
+pub returns-clause-items : goal.returns-clause-items
+returns-clause-items g c = let run = c.loop-self.invariant.called in (run.0, c.loop-self.f, run.1, run.2)

@@ -10,7 +10,7 @@ room g c =
     let v = c.args.vec.now in
     let made = c.in-Ok.ensures.ran in
     let len = c.len-len.ensures in
-    omega (arith, made.1.1, made.2, ap length c.grab_spare_slice_mut.ensures.value, length-drop v.len v.slots, len.field, len.fits, len.slots)
+    omega (arith, made.1.1, made.2, ap length c.grab_spare_slice_mut.ensures.value, length-drop v.len v.slots, len.field, len.fits, len.slot_count)
 
 -- items stand in all the slots
 all_filled : (g : _) (c : After-set_len-in-Err g) → c.CAPACITY.result ≡ items_len c.args.vec.now + length c.in-Err.ensures.ran.0
@@ -18,7 +18,7 @@ all_filled g c =
     let v = c.args.vec.now in
     let made = c.in-Err.ensures.ran in
     let len = c.len-len.ensures in
-    omega (arith, made.1.1, ap length c.grab_spare_slice_mut.ensures.value, length-drop v.len v.slots, len.value, len.field, len.fits, len.slots, c.CAPACITY.ensures)
+    omega (arith, made.1.1, ap length c.grab_spare_slice_mut.ensures.value, length-drop v.len v.slots, len.value, len.field, len.fits, len.slot_count, c.CAPACITY.ensures)
 
 pub fill_slots-requires : goal.fill_slots-requires
 fill_slots-requires g c = c.requires

@@ -6,9 +6,9 @@ use Rattle.tinyvec_slots.proofs.CloneLemmas.{on_err}
 use Rattle.tinyvec_array.proofs.DrainEndLemmas.{moved_out}
 use Rattle.tinyvec_array.proofs.array_vec.ArrayVec.drain_to_vec_and_reserve.Goals as goal
 
-pub returns-then-n-len : goal.returns-then-n-len
-returns-then-n-len g c =
-    let many = c.if-n-len.true in
+pub returns-then-additional-len : goal.returns-then-additional-len
+returns-then-additional-len g c =
+    let many = c.if-additional-len.true in
     let value = c.len-len.ensures.value in record {
       moved = tt;
       room = tt;
@@ -48,11 +48,11 @@ returns g c =
     let shown = c.as_mut_slice.ensures.value in
     let taken = c.take_all.ensures in
     let made = c.in_ok-vec.ensures in
-    let few = c.if-n-len.false in
+    let few = c.if-additional-len.false in
     let value = c.len-len.ensures.value in
     let small = c.len-len.type_inv in record {
       moved = taken.items ∙ ap (λ l. l ++ c.as_mut_slice.result.now) made.items ∙ shown;
-      room = taken.capacity ∙ made.exact ∙ ap (λ k. k + c.args.n) value;
+      room = taken.capacity ∙ made.exact ∙ ap (λ k. k + c.args.additional) value;
       emptied = ap items c.set_len.ensures.value;
       spare = moved_out g.A.Item.Default.is_default c.args.self.now c.set_len.new.self c.take_all.new.slots
           (taken.emptied.0 ∙ ap length shown, taken.emptied.1) c.set_len.ensures.value;

@@ -7,4 +7,4 @@ pub returns-then-prefers_shifting_in-clause-spare : goal.returns-then-prefers_sh
 returns-then-prefers_shifting_in-clause-spare g c =
     let len = c.len-len.ensures in
     rw (c.set_len.ensures.value, c.insert_shifting.ensures, c.slots_mut.ensures.value, ← len.field)
-    (drop-inserted (all_slots c.args.self.now) c.args.i c.len-len.result c.args.x (omega (arith, c.requires.in_list, len.value)) (omega (arith, c.requires.room, len.value, len.slots)))
+    (drop-inserted (all_slots c.args.self.now) c.args.index c.len-len.result c.args.element (omega (arith, c.requires.in_list, len.value)) (omega (arith, c.requires.room, len.value, len.slot_count)))

@@ -12,8 +12,8 @@ returns-then-prefers_shifting_in-clause-spare g c =
       after.0 ∷ [],
       (refl, one),
       rw (c.set_len.ensures.value, after.2, c.slots_mut.ensures.value, ← len.field)
-          (drop-removed (all_slots c.args.self.now) c.args.i c.len-len.result after.0 (omega (arith, c.requires, len.value)) (omega (arith, len.fits, len.slots))),
+          (drop-removed (all_slots c.args.self.now) c.args.index c.len-len.result after.0 (omega (arith, c.requires, len.value)) (omega (arith, len.fits, len.slot_count))),
     )
 
 pub returns-clause-items : goal.returns-clause-items
-returns-clause-items g c = c.take_last.ensures.rest ∙ take-moved (items c.args.self.now) _ c.args.i c.requires c.move_to_end.ensures.items
+returns-clause-items g c = c.take_last.ensures.rest ∙ take-moved (items c.args.self.now) _ c.args.index c.requires c.move_to_end.ensures.items

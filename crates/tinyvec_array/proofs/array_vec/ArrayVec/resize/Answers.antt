@@ -7,11 +7,11 @@ use Rattle.tinyvec_array.proofs.array_vec.ArrayVec.resize.Goals as goal
 pub returns-in-Ok : goal.returns-in-Ok
 returns-in-Ok g c =
     let v = c.args.self.now in
-    let n = c.args.n in
-    let more = replicate (n - v.len) c.args.x in
+    let n = c.args.new_len in
+    let more = replicate (n - v.len) c.args.value in
     let new = c.fill_clones.new.to in
     let fits : v.len ≤ length (all_slots v) = omega (arith, c.len-len.ensures) in
-    let sum : v.len + (n - v.len) ≡ n = omega (arith, c.len-len.ensures.field, c.if-n-len.false) in
+    let sum : v.len + (n - v.len) ≡ n = omega (arith, c.len-len.ensures.field, c.if-new_len-len.false) in
     let long = length-take-le v.len (all_slots v) fits in
     let all : take n (take v.len (all_slots v)) ≡ take v.len (all_slots v) = take_all n (take v.len (all_slots v)) (omega (arith, long, sum)) in
     let made = rw (c.slots_mut.ensures.value, c.len-len.ensures.field) at c.in-Ok.ensures.ok in

@@ -33,5 +33,5 @@ returns-clause-slot_rule g c =
     let cut = c.truncate.ensures in
     let len = c.len.ensures.value in
     let done = c.loop-self-test.false in
-    let long : items_len at.self ≡ c.args.n = omega arith in
-    slots_resized g.A.Item.Default.is_default c.args.self.now c.truncate.new.self at.self c.args.n cut.items cut.spare at.invariant.longer long at.invariant.behind
+    let long : items_len at.self ≡ c.args.new_len = omega arith in
+    slots_resized g.A.Item.Default.is_default c.args.self.now c.truncate.new.self at.self c.args.new_len cut.items cut.spare at.invariant.longer long at.invariant.behind

@@ -6,7 +6,7 @@ use Rattle.tinyvec_array.proofs.array_vec.ArrayVec.resize_with.Given as goal
 
 abbrev pub invariant-loop-self : goal.invariant-loop-self
 invariant-loop-self g l = record {
-  in_bounds : items_len l.self ≤ l.n;
+  in_bounds : items_len l.self ≤ l.new_len;
   longer : items_len l.initial.self ≤ items_len l.self;
   behind : spare l.self ≡ drop (items_len l.self - items_len l.initial.self) (spare l.initial.self);
   ran : (ys : List g.row.A-Item.Denot) × (items l.self ≡ items l.initial.self ++ ys)
@@ -15,4 +15,4 @@ invariant-loop-self g l = record {
 }
 
 abbrev pub decreases-loop-self : goal.decreases-loop-self
-decreases-loop-self g l = l.n - items_len l.self
+decreases-loop-self g l = l.new_len - items_len l.self

@@ -9,5 +9,5 @@ returns-clause-spare g c =
     let len = c.len-last.result in
     let d = c.take-item.new.dest in
     let one = All-cons g.A.Item.Default.is_default d [] c.take-item.ensures.after (All-nil _) in
-    let behind = drop-vacated (all_slots c.args.self.now) len d (omega (arith, c.requires, c.len-last.ensures.value)) (omega (arith, c.len-last.ensures.fits, c.len-last.ensures.slot_rule)) in
+    let behind = drop-vacated (all_slots c.args.self.now) len d (omega (arith, c.requires, c.len-last.ensures.value)) (omega (arith, c.len-last.ensures.fits, c.len-last.ensures.slot_count)) in
     (d ∷ [], (refl, one), rw (c.set_len.ensures.value, c.bounded_index-at.ensures, c.slots_mut-slots.ensures.value, ← c.len-last.ensures.field) behind)

@@ -13,7 +13,7 @@ returns c =
     let made = c.from_slice_len-v.ensures in
     let kept : items v ≡ filter (λ x. nat_eq (x % 2) 0) (items old) = filter_same _ _ _ (λ x b f' k. search rules) _ _ c.retain.ensures.filtered in
     let list : items v ≡ 2 ∷ 4 ∷ [] = kept ∙ rw (made.items) refl in
-    let emptied = freed _ 0 (λ x h. h) (length (items old) - length (items v)) (view old) (view v) c.retain.ensures.spare in
+    let emptied = freed _ 0 (λ x h. h) (length (items old) - length (items v)) (view old) (view v) c.retain.ensures.shorter.spare in
     let rest : spare v ≡ 0 ∷ 0 ∷ 9 ∷ [] = emptied ∙ rw (list, made.items, made.spare) refl in
     let whole : slots v ≡ 2 ∷ 4 ∷ 0 ∷ 0 ∷ 9 ∷ [] = owner_sees v _ _ list rest in
     search rules

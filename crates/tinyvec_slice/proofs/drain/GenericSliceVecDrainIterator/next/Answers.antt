@@ -12,7 +12,7 @@ returns-clause-steps g c =
       rw (after.2) (slice_range_first xs d.front d.count c.take_spare.result after.0 (omega arith) (omega arith) c.take_spare.ensures.value),
       record {
         same_reference = refl;
-        same_slots = c.take_spare.ensures.same_reference;
+        same_slots = c.take_spare.ensures.lender.same_reference;
         kept = c.take_spare.ensures.items;
         count = refl;
         spare = ap (drop d.count) after.2 ∙ drop-set-lt d.count xs d.front after.0 (omega arith);

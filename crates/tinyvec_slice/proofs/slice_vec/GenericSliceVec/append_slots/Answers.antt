@@ -3,6 +3,7 @@ use Rattle.std.proofs.lemmas.List.{drop-drop, take_all, take_more_set}
 use Rattle.std.proofs.lemmas.List.Elements.{All-push, All-same}
 use Rattle.tinyvec_slots.proofs.FillingLemmas.{one_taken, rest_after_one}
 use Rattle.tinyvec_slice.specs.SliceVec.{items_of, spare_of}
+use Rattle.tinyvec_slice.proofs.ViewLemmas.{SameLender-then}
 use Rattle.tinyvec_slice.proofs.slice_vec.GenericSliceVec.append_slots.Goals as goal
 
 pub push-requires : goal.push-requires
@@ -31,8 +32,7 @@ loop-i-preserved g c =
       behind = put.spare ∙ ap (drop 1) inv.behind ∙ drop-drop 1 i _;
       left = rest_after_one at.from first i d inv.left;
       defaults = All-same D _ _ (take_more_set at.from i d long) (All-push D (take i at.from) d inv.defaults c.take.ensures.after);
-      same_reference = put.same_reference ∙ inv.same_reference;
-      slot_count = put.slot_count ∙ inv.slot_count;
+      lender = SameLender-then g.B.Lent _ _ _ inv.lender put.lender;
     }
 
 pub returns-clause-left : goal.returns-clause-left

@@ -1,6 +1,6 @@
 use Rattle.std.proofs.Common.{◌≡◌, ◌++◌, length, take, drop}
 use Rattle.std.specs.Prelude.{All}
-use Rattle.tinyvec_slice.specs.SliceVec.{items_of, spare_of, slots_of, name_of}
+use Rattle.tinyvec_slice.specs.SliceVec.{items_of, spare_of, SameLender}
 use Rattle.tinyvec_slice.proofs.slice_vec.GenericSliceVec.append_slots.Given as goal
 
 abbrev pub invariant-loop-i : goal.invariant-loop-i
@@ -10,6 +10,5 @@ invariant-loop-i g l = record {
   behind : spare_of g.B.Lent l.self ≡ drop l.i (spare_of g.B.Lent l.initial.self);
   left : drop l.i l.from ≡ drop l.i l.initial.from;
   defaults : All g.B.Item.Default.is_default (take l.i l.from);
-  same_reference : name_of g.B.Lent l.self ≡ name_of g.B.Lent l.initial.self;
-  slot_count : length (slots_of g.B.Lent l.self) ≡ length (slots_of g.B.Lent l.initial.self);
+  lender : SameLender g.B.Lent l.initial.self l.self;
 }

@@ -5,6 +5,7 @@ use Rattle.std.proofs.iter.Next.{called}
 use Rattle.std.proofs.lemmas.List.{length_push, reverse-append}
 use Rattle.tinyvec_slice.proofs.ResizingLemmas.{one_less, first_items, one_more}
 use Rattle.tinyvec_slice.specs.SliceVec.{items_of, spare_of}
+use Rattle.tinyvec_slice.proofs.ViewLemmas.{same_lender, SameLender-then}
 use Rattle.tinyvec_slice.proofs.slice_vec.GenericSliceVec.cut_to_answers.Goals as goal
 
 pub loop-self-init : goal.loop-self-init
@@ -17,8 +18,7 @@ loop-self-init g c =
       kept = sym (take_all (length L) L (le_refl _));
       ran = ([], none, refl, refl);
       callable = c.requires.callable;
-      same_reference = refl;
-      slot_count = refl;
+      lender = same_lender g.B.Lent _;
     }
 
 pub loop-self-preserved : goal.loop-self-preserved
@@ -45,8 +45,7 @@ loop-self-preserved g c =
         chained_more (λ f y f'. Called g.F.FnMut f tt y f') _ run.0 at.f y _ run.3 (called g.F.FnMut c.f.ensures refl),
       );
       callable = search of_calls;
-      same_reference = put.same_reference ∙ inv.same_reference;
-      slot_count = put.slot_count ∙ inv.slot_count;
+      lender = SameLender-then g.B.Lent _ _ _ inv.lender put.lender;
     }
 
 pub returns-clause-items : goal.returns-clause-items

@@ -2,7 +2,7 @@ use Rattle.std.proofs.Common.{◌≡◌, ◌≤◌, ◌-◌, List, ◌++◌, len
 use Rattle.std.specs.Prelude.{reverse}
 use Rattle.std.specs.Fn.{Called}
 use Rattle.std.specs.List.{FoldsTo}
-use Rattle.tinyvec_slice.specs.SliceVec.{items_of, spare_of, slots_of, name_of}
+use Rattle.tinyvec_slice.specs.SliceVec.{items_of, spare_of, SameLender}
 use Rattle.tinyvec_slice.proofs.slice_vec.GenericSliceVec.cut_to_answers.Given as goal
 
 abbrev pub invariant-loop-self : goal.invariant-loop-self
@@ -14,8 +14,7 @@ invariant-loop-self g l = record {
       × (spare_of g.B.Lent l.self ≡ reverse ys ++ spare_of g.B.Lent l.initial.self)
       × FoldsTo (λ f y f'. Called g.F.FnMut f tt y f') l.initial.f ys l.f;
   callable : goal.F-IsAlwaysCallable g l.f;
-  same_reference : name_of g.B.Lent l.self ≡ name_of g.B.Lent l.initial.self;
-  slot_count : length (slots_of g.B.Lent l.self) ≡ length (slots_of g.B.Lent l.initial.self);
+  lender : SameLender g.B.Lent l.initial.self l.self;
 }
 
 abbrev pub decreases-loop-self : goal.decreases-loop-self

@@ -4,6 +4,7 @@ use Rattle.tinyvec_slots.proofs.CloneLemmas.{on_err}
 use Rattle.tinyvec_slots.specs.Clones.{ClonesBefore}
 use Rattle.tinyvec_slice.specs.SliceVec.{items_of, spare_of}
 use Rattle.tinyvec_slice.proofs.ResizingLemmas.{one_less, first_items, clone_before, left_after}
+use Rattle.tinyvec_slice.proofs.ViewLemmas.{same_lender, SameLender-then}
 use Rattle.tinyvec_slice.proofs.slice_vec.GenericSliceVec.cut_to_clones.Goals as goal
 
 pub loop-n-init : goal.loop-n-init
@@ -14,8 +15,7 @@ loop-n-init g c =
       shorter = le_refl _;
       kept = sym (take_all (length L) L (le_refl _));
       cloned = ([], subst (λ n. AllZip g.B.Item.Clone.is_clone (replicate n c.args.x.now) []) none tt, refl);
-      same_reference = refl;
-      slot_count = refl;
+      lender = same_lender g.B.Lent _;
     }
 
 pub loop-n-preserved : goal.loop-n-preserved
@@ -37,8 +37,7 @@ loop-n-preserved g c =
       shorter = omega (arith, less);
       kept = first_items whole old new some put.items inv.kept;
       cloned = clone_before whole old new some put.items g.B.Item.Clone.is_clone c.args.x.now c.in_ok-filling.filling base behind after inv.shorter c.in_ok-filling.ensures.cases put.spare inv.cloned;
-      same_reference = put.same_reference ∙ inv.same_reference;
-      slot_count = put.slot_count ∙ inv.slot_count;
+      lender = SameLender-then g.B.Lent _ _ _ inv.lender put.lender;
     }
 
 pub returns-in_err-filling-clause-refused : goal.returns-in_err-filling-clause-refused

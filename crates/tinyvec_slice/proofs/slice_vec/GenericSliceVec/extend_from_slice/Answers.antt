@@ -38,8 +38,7 @@ returns g c =
     let written = clones_written (within v.len slots n long) made in
     let list = list_to v.len slots n long in
     record {
-      same_reference = search rules;
-      slot_count = ap length (g.B.Lent.slots_written v.lent c.clone_each_from.new.slots) ∙ c.clone_each_from.auto.slots ∙ ap length c.all_mut.ensures.value;
+      lender = record { same_reference = search rules; slot_count = ap length (g.B.Lent.slots_written v.lent c.clone_each_from.new.slots) ∙ c.clone_each_from.auto.slots ∙ ap length c.all_mut.ensures.value };
       items = rw (← list) (written.0);
       len = rw (← list) (written.1);
       if_clones_equal = rw (← list) (written.2);

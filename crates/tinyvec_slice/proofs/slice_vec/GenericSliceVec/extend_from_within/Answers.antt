@@ -86,8 +86,7 @@ returns g c =
     let list = list_to v.len slots n long in
     let grown = rw list at (written.1) in
     record {
-      same_reference = search rules;
-      slot_count = ap length (g.B.Lent.slots_written v.lent c.clone_within.new.slots) ∙ c.clone_within.auto.slots ∙ ap length c.all_mut.ensures.value;
+      lender = record { same_reference = search rules; slot_count = ap length (g.B.Lent.slots_written v.lent c.clone_within.new.slots) ∙ c.clone_within.auto.slots ∙ ap length c.all_mut.ensures.value };
       items = rw list at (written.0);
       len = grown ∙ ap (λ k. length (items_of g.B.Lent v) + k) many;
       if_clones_equal = rw list at (written.2);

@@ -4,6 +4,7 @@ use Rattle.std.proofs.lemmas.Grind.{common_steps}
 use Rattle.std.proofs.lemmas.List.{length_push}
 use Rattle.tinyvec_slots.proofs.FillingLemmas.{spare_after, stopped_full, stopped_early, filled}
 use Rattle.tinyvec_slice.specs.SliceVec.{items_of, spare_of, view_of}
+use Rattle.tinyvec_slice.proofs.ViewLemmas.{same_lender, SameLender-then}
 use Rattle.tinyvec_slice.proofs.slice_vec.GenericSliceVec.fill.Goals as goal
 
 pub loop-items-init : goal.loop-items-init
@@ -16,7 +17,7 @@ loop-items-init g c =
       fits = omega arith;
       behind = ap (λ k. drop k (spare_of g.B.Lent c.args.self.now)) none;
       ran = ([], refl, sym (append-nil _));
-      same_reference = refl;
+      lender = same_lender g.B.Lent _;
     }
 
 pub loop-items-preserved : goal.loop-items-preserved
@@ -40,7 +41,7 @@ loop-items-preserved g c =
         Yields-more g.I.IntoIter.Iterator.next_gives _ run.0 _ _ _ run.1 c.in-Some.ensures.steps,
         put.items ∙ ap (λ xs. xs ++ x ∷ []) run.2 ∙ append_assoc _ run.0 _,
       );
-      same_reference = put.same_reference ∙ turn.invariant.same_reference;
+      lender = SameLender-then g.B.Lent _ _ _ turn.invariant.lender put.lender;
     }
 
 pub returns-in-None-clause-ran : goal.returns-in-None-clause-ran

@@ -1,6 +1,6 @@
 use Rattle.std.proofs.Common.{◌≡◌, ◌+◌, ◌-◌, ◌≤◌, ◌++◌, List, length, drop}
 use Rattle.std.specs.Iterator.{Yields}
-use Rattle.tinyvec_slice.specs.SliceVec.{items_of, spare_of, name_of}
+use Rattle.tinyvec_slice.specs.SliceVec.{items_of, spare_of, SameLender}
 use Rattle.tinyvec_slice.proofs.slice_vec.GenericSliceVec.fill.Given as goal
 
 abbrev pub invariant-loop-items : goal.invariant-loop-items
@@ -11,7 +11,7 @@ invariant-loop-items g l = record {
   behind : spare_of g.B.Lent l.self ≡ drop (length (items_of g.B.Lent l.self) - length (items_of g.B.Lent l.initial.self)) (spare_of g.B.Lent l.initial.self);
   ran : (placed : List g.row.B-Item.Denot) × Yields g.I.IntoIter.Iterator.next_gives l.initial.items placed l.items
       × (items_of g.B.Lent l.self ≡ items_of g.B.Lent l.initial.self ++ placed);
-  same_reference : name_of g.B.Lent l.self ≡ name_of g.B.Lent l.initial.self;
+  lender : SameLender g.B.Lent l.initial.self l.self;
 }
 
 abbrev pub decreases-loop-items : goal.decreases-loop-items

@@ -5,7 +5,7 @@ use Rattle.std.proofs.iter.Next.{called}
 use Rattle.std.proofs.lemmas.List.{length_push}
 use Rattle.tinyvec_slots.proofs.FillingLemmas.{spare_after}
 use Rattle.tinyvec_slice.specs.SliceVec.{items_of, spare_of, view_of}
-use Rattle.tinyvec_slice.proofs.ViewLemmas.{parts_of}
+use Rattle.tinyvec_slice.proofs.ViewLemmas.{parts_of, SameLender-then}
 use Rattle.tinyvec_slice.proofs.slice_vec.GenericSliceVec.grow_by_answers.Goals as goal
 
 pub push-requires : goal.push-requires
@@ -39,6 +39,5 @@ loop-self-preserved g c =
         chained_more (λ f y f'. Called g.F.FnMut f tt y f') _ run.0 at.f y _ run.2 (called g.F.FnMut c.f.ensures refl),
       );
       callable = search of_calls;
-      same_reference = put.same_reference ∙ at.invariant.same_reference;
-      slot_count = put.slot_count ∙ at.invariant.slot_count;
+      lender = SameLender-then g.B.Lent _ _ _ at.invariant.lender put.lender;
     }

@@ -1,7 +1,7 @@
 use Rattle.std.proofs.Common.{◌≡◌, ◌≤◌, ◌-◌, List, ◌++◌, length, drop}
 use Rattle.std.specs.Fn.{Called}
 use Rattle.std.specs.List.{FoldsTo}
-use Rattle.tinyvec_slice.specs.SliceVec.{items_of, spare_of, slots_of, name_of}
+use Rattle.tinyvec_slice.specs.SliceVec.{items_of, spare_of, SameLender}
 use Rattle.tinyvec_slice.proofs.slice_vec.GenericSliceVec.grow_by_answers.Given as goal
 
 abbrev pub invariant-loop-self : goal.invariant-loop-self
@@ -12,8 +12,7 @@ invariant-loop-self g l = record {
   ran : (ys : List g.row.B-Item.Denot) × (items_of g.B.Lent l.self ≡ items_of g.B.Lent l.initial.self ++ ys)
       × FoldsTo (λ f y f'. Called g.F.FnMut f tt y f') l.initial.f ys l.f;
   callable : goal.F-IsAlwaysCallable g l.f;
-  same_reference : name_of g.B.Lent l.self ≡ name_of g.B.Lent l.initial.self;
-  slot_count : length (slots_of g.B.Lent l.self) ≡ length (slots_of g.B.Lent l.initial.self);
+  lender : SameLender g.B.Lent l.initial.self l.self;
 }
 
 abbrev pub decreases-loop-self : goal.decreases-loop-self

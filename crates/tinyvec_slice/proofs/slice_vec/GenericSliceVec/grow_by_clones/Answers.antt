@@ -47,8 +47,7 @@ returns g c =
     let written = rw sum at (clones_written (within v.len slots len long) made) in
     let list = list_to v.len slots len long in
     record {
-      same_reference = search rules;
-      slot_count = ap length (g.B.Lent.slots_written v.lent c.fill_clones.new.to) ∙ c.fill_clones.auto.to ∙ ap length c.all_mut.ensures.value;
+      lender = record { same_reference = search rules; slot_count = ap length (g.B.Lent.slots_written v.lent c.fill_clones.new.to) ∙ c.fill_clones.auto.to ∙ ap length c.all_mut.ensures.value };
       items = rw (← long, ← list) (written.0);
       len = written.1 ∙ ap (λ l. length l + (n - len)) list ∙ ap (λ k. k + (n - len)) (sym long) ∙ sum;
       spare = rw (← long) (written.3 ∙ ap (drop (n - len)) (spare_from v.len slots len long));

@@ -10,16 +10,16 @@ returns-then-prefers_shifting-clause-spare g c =
     let v = c.args.self.now in
     let n = c.len-len.result in
     let slots = g.B.Lent.slots v.lent in
-    let in_list : c.args.i ≤ n = search rules in
-    rw (g.B.Lent.slots_written, c.insert_shifting.ensures, c.all_mut.ensures.value) (drop-put_in v.len slots n c.len-len.ensures.value c.args.i c.args.x in_list c.requires.room)
+    let in_list : c.args.index ≤ n = search rules in
+    rw (g.B.Lent.slots_written, c.insert_shifting.ensures, c.all_mut.ensures.value) (drop-put_in v.len slots n c.len-len.ensures.value c.args.index c.args.element in_list c.requires.room)
 
 pub returns-then-prefers_shifting-clause-items : goal.returns-then-prefers_shifting-clause-items
 returns-then-prefers_shifting-clause-items g c =
     let v = c.args.self.now in
     let n = c.len-len.result in
     let slots = g.B.Lent.slots v.lent in
-    let in_list : c.args.i ≤ n = search rules in
-    rw (g.B.Lent.slots_written, c.insert_shifting.ensures, c.all_mut.ensures.value) (take-put_in v.len slots n c.len-len.ensures.value c.args.i c.args.x in_list c.requires.room)
+    let in_list : c.args.index ≤ n = search rules in
+    rw (g.B.Lent.slots_written, c.insert_shifting.ensures, c.all_mut.ensures.value) (take-put_in v.len slots n c.len-len.ensures.value c.args.index c.args.element in_list c.requires.room)
 
 pub returns-clause-items : goal.returns-clause-items
 returns-clause-items g c = grind (arith, common_steps)
@@ -39,5 +39,5 @@ overflow_add-self g c =
 
 pub last_to-requires-clause-in_list : goal.last_to-requires-clause-in_list
 last_to-requires-clause-in_list g c =
-    let grown = ap length c.push.ensures.items ∙ length_push (items_of g.B.Lent c.args.self.now) c.args.x in
+    let grown = ap length c.push.ensures.items ∙ length_push (items_of g.B.Lent c.args.self.now) c.args.element in
     omega arith

@@ -7,7 +7,7 @@ use Rattle.tinyvec_slice.proofs.ViewLemmas.{take-taken, drop-taken}
 use Rattle.tinyvec_slice.proofs.slice_vec.GenericSliceVec.remove.Goals as goal
 
 pub returns-clause-items : goal.returns-clause-items
-returns-clause-items g c = c.take_last.ensures.rest ∙ take-moved (items_of g.B.Lent c.args.self.now) _ c.args.i c.requires c.move_to_end.ensures.items
+returns-clause-items g c = c.take_last.ensures.rest ∙ take-moved (items_of g.B.Lent c.args.self.now) _ c.args.index c.requires c.move_to_end.ensures.items
 
 pub returns-then-prefers_shifting-clause-spare : goal.returns-then-prefers_shifting-clause-spare
 returns-then-prefers_shifting-clause-spare g c =
@@ -15,8 +15,8 @@ returns-then-prefers_shifting-clause-spare g c =
     let n = c.len-len.result in
     let after = c.remove_shifting-item.ensures.after in
     let one = All-cons g.B.Item.Default.is_default after.0 [] after.1 (All-nil _) in
-    let in_list : c.args.i < n = search rules in
-    (after.0 ∷ [], (refl, one), rw (g.B.Lent.slots_written, after.2, c.all_mut.ensures.value) (drop-taken v.len (g.B.Lent.slots v.lent) n c.len-len.ensures.value c.args.i after.0 in_list))
+    let in_list : c.args.index < n = search rules in
+    (after.0 ∷ [], (refl, one), rw (g.B.Lent.slots_written, after.2, c.all_mut.ensures.value) (drop-taken v.len (g.B.Lent.slots v.lent) n c.len-len.ensures.value c.args.index after.0 in_list))
 
 pub returns-then-prefers_shifting-clause-value : goal.returns-then-prefers_shifting-clause-value
 returns-then-prefers_shifting-clause-value g c = grind (arith, common_steps)
@@ -26,11 +26,11 @@ returns-then-prefers_shifting-clause-items g c =
     let v = c.args.self.now in
     let n = c.len-len.result in
     let after = c.remove_shifting-item.ensures.after in
-    let in_list : c.args.i < n = search rules in
-    rw (g.B.Lent.slots_written, after.2, c.all_mut.ensures.value) (take-taken v.len (g.B.Lent.slots v.lent) n c.len-len.ensures.value c.args.i after.0 in_list)
+    let in_list : c.args.index < n = search rules in
+    rw (g.B.Lent.slots_written, after.2, c.all_mut.ensures.value) (take-taken v.len (g.B.Lent.slots v.lent) n c.len-len.ensures.value c.args.index after.0 in_list)
 
 pub returns-clause-value : goal.returns-clause-value
 returns-clause-value g c = grind (arith, common_steps)
 
 pub take_last-requires : goal.take_last-requires
-take_last-requires g c = let long = length-moved (items_of g.B.Lent c.args.self.now) _ c.args.i c.requires c.move_to_end.ensures.items in omega (arith, long, c.requires)
+take_last-requires g c = let long = length-moved (items_of g.B.Lent c.args.self.now) _ c.args.index c.requires c.move_to_end.ensures.items in omega (arith, long, c.requires)

@@ -9,7 +9,7 @@ loop-i-preserved g c =
     let turn = c.loop-i in
     let inv = outer.invariant in
     let held = turn.invariant in
-    let long = c.swap.ensures.len in
+    let long = c.swap.auto.slots in
     let step = turned_step turn.slots c.swap.new.slots (outer.first + turn.i) outer.middle (outer.next + turn.i)
     (omega arith) (omega (arith, inv.behind)) (omega (arith, held.len, inv.len)) long c.swap.ensures.by_index in
     let first : outer.first + (turn.i + 1) ≡ outer.first + turn.i + 1 = omega arith in

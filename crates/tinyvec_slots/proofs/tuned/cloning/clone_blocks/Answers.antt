@@ -13,7 +13,7 @@ loop-done-preserved g c =
     let rest = take (length from - done) (drop done from) in
     let enough : g.row.N ≤ length rest = search rules in
     let next = clones_further g.T.Clone.is_clone from c.args.to.now to c.clone_block.new.to done c.requires.fits inv.2 inv.0 inv.1 g.row.N enough c.in_ok-clone_block.ensures.cloned in
-    (next.0, next.1, same_len_mid done (length to - done) to c.clone_block.new.to c.clone_block.ensures.len ∙ inv.2)
+    (next.0, next.1, same_len_mid done (length to - done) to c.clone_block.new.to c.clone_block.auto.to ∙ inv.2)
 
 pub loop-done-init : goal.loop-done-init
 loop-done-init g c = (zero-le, clones_none g.T.Clone.is_clone c.args.from.now c.args.to.now, refl)

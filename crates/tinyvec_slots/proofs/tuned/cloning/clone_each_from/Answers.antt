@@ -7,7 +7,7 @@ pub returns-clause-ok : goal.returns-clause-ok
 returns-clause-ok g c =
     let slots = c.args.slots.now in
     on_ok_weaker c.clone_each.result
-    (clones_from g.T.Clone.is_clone c.args.start (length slots - c.args.start) _ c.args.from.now slots c.clone_each.new.to (omega arith) c.requires.fits)
+    (clones_from g.T.Clone.is_clone c.args.start (length slots - c.args.start) _ c.args.from.now slots c.clone_each.new.to (omega (arith, c.requires.fits)) (omega (arith, c.requires.fits)))
     c.clone_each.ensures.ok
 
 pub returns-clause-refused : goal.returns-clause-refused

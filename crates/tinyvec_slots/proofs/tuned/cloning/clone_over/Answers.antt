@@ -1,4 +1,3 @@
-use Rattle.std.proofs.Common.{rules}
 use Rattle.tinyvec_slots.proofs.ClonesOverLemmas.{all_granted, clones_joined}
 use Rattle.tinyvec_slots.proofs.tuned.cloning.clone_over.Goals as goal
 
@@ -12,11 +11,10 @@ returns g c =
     let first = c.clone_blocks in
     let done = c.in_ok-done in
     let rest = c.clone_rest in
-    let all = clones_joined g.T.Clone.is_clone c.args.from.now c.args.to.now first.new.to rest.new.to done.done c.requires.fits first.ensures.len done.ensures.within
+    let all = clones_joined g.T.Clone.is_clone c.args.from.now c.args.to.now first.new.to rest.new.to done.done c.requires.fits first.auto.to done.ensures.within
     done.ensures.cloned g.T.Clone.is_infallible rest.result rest.ensures.ok rest.ensures.refused rest.ensures.succeeds in
     record {
       ok = all.0;
       refused = all.1.0;
-      len = search rules;
       succeeds = all.1.1;
     }

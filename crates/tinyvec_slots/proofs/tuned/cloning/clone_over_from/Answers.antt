@@ -18,7 +18,7 @@ returns-clause-ok g c =
     let slots = c.args.slots.now in
     let new = c.clone_over.new.to in
     on_ok_weaker c.clone_over.result (λ made.
-    clones_from C c.args.start (length slots - c.args.start) (length xs) xs slots new (omega arith) c.requires.fits
+    clones_from C c.args.start (length slots - c.args.start) (length xs) xs slots new (omega (arith, c.requires.fits)) (omega (arith, c.requires.fits))
     (subst (λ l. ClonesOver C l (length l) (slice_range slots c.args.start (length slots)) new) (whole g c) made))
     c.clone_over.ensures.ok
 

@@ -5,5 +5,5 @@ use Rattle.tinyvec_text.proofs.inline_text.InlineText.insert_str.Goals as goal
 pub returns-clause-room : goal.returns-clause-room
 returns-clause-room g c =
     let len = text_len c.args.self.now in
-    let need : len - (c.args.i - c.args.i) + length c.args.s.now ≡ len + length c.args.s.now = omega arith in
+    let need : len - (c.args.index - c.args.index) + length c.args.string.now ≡ len + length c.args.string.now = omega arith in
     subst (λ n. MakesRoom c.args.self.now.inline g.row.N n c.args.self.now c.replace_range.new.self c.replace_range.result) need c.replace_range.ensures.room

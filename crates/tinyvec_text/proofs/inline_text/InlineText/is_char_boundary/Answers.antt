@@ -6,7 +6,7 @@ use Rattle.tinyvec_text.proofs.inline_text.InlineText.is_char_boundary.Goals as 
 
 pub returns : goal.returns
 returns g c =
-    let i = c.args.i in
+    let i = c.args.index in
     let utf8 = text_utf8 c.self.inside.list c.self.invariant in (
       λ yes. subst (λ (t : Text). IsBoundary (text_chars t) i) c.self.view_is
           (boundary_from_split _ utf8 i (rw c.as_slice.ensures at (c.is_split_point.ensures.0 yes))),

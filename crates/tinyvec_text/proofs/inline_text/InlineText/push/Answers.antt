@@ -12,15 +12,15 @@ invariant_of-self g c = text_same c.self.inside.list c.push.new.self c.in_err-pu
 
 pub invariant_of-self-then-is_ascii : goal.invariant_of-self-then-is_ascii
 invariant_of-self-then-is_ascii g c =
-    let joined : tiny_items c.push.new.self ≡ tiny_items c.self.inside.list ++ c.args.c ∷ [] = search rules in
-    let ascii = IsUtf8-from_ascii (c.args.c ∷ []) (search rules) in
+    let joined : tiny_items c.push.new.self ≡ tiny_items c.self.inside.list ++ c.args.ch ∷ [] = search rules in
+    let ascii = IsUtf8-from_ascii (c.args.ch ∷ []) (search rules) in
     text_kept c.self.inside.list c.push.new.self (λ i. (c.in_ok-push.ensures.place.0 i).0) c.in_ok-push.ensures.slot_rule c.self.invariant
     (subst IsUtf8 (sym joined) (IsUtf8-append _ _ (text_utf8 c.self.inside.list c.self.invariant) ascii))
 
 pub returns-then-is_ascii-clause-text : goal.returns-then-is_ascii-clause-text
 returns-then-is_ascii-clause-text g c =
-    let joined : tiny_items c.push.new.self ≡ tiny_items c.self.inside.list ++ c.args.c ∷ [] = search rules in
-    let ascii = IsUtf8-from_ascii (c.args.c ∷ []) (search rules) in
-    let own : encode_utf8 c.args.c ≡ c.args.c ∷ [] = encode_ascii c.args.c (search rules) in
-    ap chars joined ∙ chars-append _ _ (text_utf8 c.self.inside.list c.self.invariant) ∙ ap (λ cs. chars (tiny_items c.self.inside.list) ++ cs) (chars_of_one _ c.args.c ascii (sym own))
-    ∙ ap (λ (t : Text). text_chars t ++ c.args.c ∷ []) c.self.view_is
+    let joined : tiny_items c.push.new.self ≡ tiny_items c.self.inside.list ++ c.args.ch ∷ [] = search rules in
+    let ascii = IsUtf8-from_ascii (c.args.ch ∷ []) (search rules) in
+    let own : encode_utf8 c.args.ch ≡ c.args.ch ∷ [] = encode_ascii c.args.ch (search rules) in
+    ap chars joined ∙ chars-append _ _ (text_utf8 c.self.inside.list c.self.invariant) ∙ ap (λ cs. chars (tiny_items c.self.inside.list) ++ cs) (chars_of_one _ c.args.ch ascii (sym own))
+    ∙ ap (λ (t : Text). text_chars t ++ c.args.ch ∷ []) c.self.view_is

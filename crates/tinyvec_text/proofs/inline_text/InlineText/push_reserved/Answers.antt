@@ -9,7 +9,7 @@ use Rattle.tinyvec_text.proofs.inline_text.InlineText.push_reserved.Goals as goa
 
 pub invariant_of-self : goal.invariant_of-self
 invariant_of-self g c =
-    let ascii = IsUtf8-from_ascii (c.args.c ∷ []) (search rules) in
+    let ascii = IsUtf8-from_ascii (c.args.ch ∷ []) (search rules) in
     let told = c.push_reserved.ensures in
     text_stays g.row.N c.self.inside.list c.push_reserved.new.self told.frame c.self.invariant
     (subst IsUtf8 (sym told.items) (IsUtf8-append _ _ (text_utf8 c.self.inside.list c.self.invariant) ascii))
@@ -17,11 +17,11 @@ invariant_of-self g c =
 pub returns-then-is_ascii-clause-text : goal.returns-then-is_ascii-clause-text
 returns-then-is_ascii-clause-text g c =
     let list = c.self.inside.list in
-    let ascii = IsUtf8-from_ascii (c.args.c ∷ []) (search rules) in
-    let own : encode_utf8 c.args.c ≡ c.args.c ∷ [] = encode_ascii c.args.c (search rules) in
+    let ascii = IsUtf8-from_ascii (c.args.ch ∷ []) (search rules) in
+    let own : encode_utf8 c.args.ch ≡ c.args.ch ∷ [] = encode_ascii c.args.ch (search rules) in
     ap chars c.push_reserved.ensures.items ∙ chars-append _ _ (text_utf8 list c.self.invariant)
-    ∙ ap (λ cs. chars (tiny_items list) ++ cs) (chars_of_one _ c.args.c ascii (sym own)) ∙ ap (λ (t : Text). text_chars t ++ c.args.c ∷ []) c.self.view_is
+    ∙ ap (λ cs. chars (tiny_items list) ++ cs) (chars_of_one _ c.args.ch ascii (sym own)) ∙ ap (λ (t : Text). text_chars t ++ c.args.ch ∷ []) c.self.view_is
 
 pub returns-clause-text : goal.returns-clause-text
 returns-clause-text g c =
-    c.push_str_reserved.ensures.text ∙ ap (λ cs. text_chars c.args.self.now ++ cs) (chars_of_one _ c.args.c c.encode_utf8.utf8 c.encode_utf8.ensures.value)
+    c.push_str_reserved.ensures.text ∙ ap (λ cs. text_chars c.args.self.now ++ cs) (chars_of_one _ c.args.ch c.encode_utf8.utf8 c.encode_utf8.ensures.value)

@@ -10,15 +10,15 @@ invariant_of-self g c = text_same c.self.inside.list c.extend_from_slice.new.sel
 
 pub invariant_of-self-2 : goal.invariant_of-self-2
 invariant_of-self-2 g c =
-    let joined : tiny_items c.extend_from_slice.new.self ≡ tiny_items c.self.inside.list ++ c.args.s.now = search rules in
+    let joined : tiny_items c.extend_from_slice.new.self ≡ tiny_items c.self.inside.list ++ c.args.string.now = search rules in
     text_kept c.self.inside.list c.extend_from_slice.new.self (λ i. (c.in_ok-extend_from_slice.ensures.place.0 i).0)
     c.in_ok-extend_from_slice.ensures.slot_rule c.self.invariant
-    (subst IsUtf8 (sym joined) (IsUtf8-append _ _ (text_utf8 c.self.inside.list c.self.invariant) c.utf8.s))
+    (subst IsUtf8 (sym joined) (IsUtf8-append _ _ (text_utf8 c.self.inside.list c.self.invariant) c.utf8.string))
 
 pub returns-clause-text : goal.returns-clause-text
 returns-clause-text g c =
-    let joined : tiny_items c.extend_from_slice.new.self ≡ tiny_items c.self.inside.list ++ c.args.s.now = search rules in
-    ap chars joined ∙ chars-append _ _ (text_utf8 c.self.inside.list c.self.invariant) ∙ ap (λ (t : Text). text_chars t ++ chars c.args.s.now) c.self.view_is
+    let joined : tiny_items c.extend_from_slice.new.self ≡ tiny_items c.self.inside.list ++ c.args.string.now = search rules in
+    ap chars joined ∙ chars-append _ _ (text_utf8 c.self.inside.list c.self.invariant) ∙ ap (λ (t : Text). text_chars t ++ chars c.args.string.now) c.self.view_is
 
 pub returns-in_err-extend_from_slice-clause-room : goal.returns-in_err-extend_from_slice-clause-room
 returns-in_err-extend_from_slice-clause-room g c =

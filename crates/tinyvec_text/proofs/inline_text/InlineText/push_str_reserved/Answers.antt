@@ -15,15 +15,15 @@ unreachable-requires g c =
 pub invariant_of-self : goal.invariant_of-self
 invariant_of-self g c =
     let list = c.self.inside.list in
-    let joined : tiny_items c.extend_from_slice.new.self ≡ tiny_items list ++ c.args.s.now = search rules in
+    let joined : tiny_items c.extend_from_slice.new.self ≡ tiny_items list ++ c.args.string.now = search rules in
     text_kept list c.extend_from_slice.new.self (λ i. (c.in-Ok.ensures.place.0 i).0) c.in-Ok.ensures.slot_rule c.self.invariant
-    (subst IsUtf8 (sym joined) (IsUtf8-append _ _ (text_utf8 list c.self.invariant) c.utf8.s))
+    (subst IsUtf8 (sym joined) (IsUtf8-append _ _ (text_utf8 list c.self.invariant) c.utf8.string))
 
 pub returns-clause-text : goal.returns-clause-text
 returns-clause-text g c =
     let list = c.self.inside.list in
-    let joined : tiny_items c.extend_from_slice.new.self ≡ tiny_items list ++ c.args.s.now = search rules in
-    ap chars joined ∙ chars-append _ _ (text_utf8 list c.self.invariant) ∙ ap (λ (t : Text). text_chars t ++ chars c.args.s.now) c.self.view_is
+    let joined : tiny_items c.extend_from_slice.new.self ≡ tiny_items list ++ c.args.string.now = search rules in
+    ap chars joined ∙ chars-append _ _ (text_utf8 list c.self.invariant) ∙ ap (λ (t : Text). text_chars t ++ chars c.args.string.now) c.self.view_is
 
 pub returns-clause-frame : goal.returns-clause-frame
 returns-clause-frame g c =

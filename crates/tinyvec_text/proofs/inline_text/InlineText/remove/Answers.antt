@@ -10,7 +10,7 @@ use Rattle.tinyvec_text.proofs.inline_text.InlineText.remove.Goals as goal
 pub first_char-c-requires-clause-utf8 : goal.first_char-c-requires-clause-utf8
 first_char-c-requires-clause-utf8 g c =
     let list = c.self.inside.list in
-    let i = c.args.i in
+    let i = c.args.index in
     let sl = c.as_slice.result.now in
     let cut = text_cut g.row.N list c.args.self.now c.self.view_is c.self.invariant i c.requires.boundary in
     let tail : take (length sl - i) (drop i sl) ≡ drop i (tiny_items list) = take_all _ _ (le_of_eq (length-drop i sl)) ∙ ap (drop i) c.as_slice.ensures in
@@ -20,7 +20,7 @@ pub invariant_of-self : goal.invariant_of-self
 invariant_of-self g c =
     let list = c.self.inside.list in
     let bs = tiny_items list in
-    let i = c.args.i in
+    let i = c.args.index in
     let n = c.first_char-c.result.1 in
     let x = c.first_char-c.result.0 in
     let sl = c.as_slice.result.now in
@@ -39,7 +39,7 @@ pub returns-clause-text : goal.returns-clause-text
 returns-clause-text g c =
     let list = c.self.inside.list in
     let bs = tiny_items list in
-    let i = c.args.i in
+    let i = c.args.index in
     let n = c.first_char-c.result.1 in
     let x = c.first_char-c.result.0 in
     let sl = c.as_slice.result.now in
@@ -61,7 +61,7 @@ pub returns-clause-frame : goal.returns-clause-frame
 returns-clause-frame g c =
     let list = c.self.inside.list in
     let bs = tiny_items list in
-    let i = c.args.i in
+    let i = c.args.index in
     let n = c.first_char-c.result.1 in
     let cut = text_cut g.row.N list c.args.self.now c.self.view_is c.self.invariant i c.requires.boundary in
     let d = c.drain.result in

@@ -1,4 +1,3 @@
-use Rattle.std.proofs.Common.{◌∙◌, length, ap, arith, rules, length-take}
 use Rattle.tinyvec_array.proofs.IntoIterLemmas.{gives_runs, gives_runs_back, gives_from_ends}
 use Rattle.tinyvec_array.proofs.array_vec.traits.ArrayVecIntoIterator.into_iter.Goals as goal
 
@@ -9,13 +8,7 @@ pub returns-clause-runs_back : goal.returns-clause-runs_back
 returns-clause-runs_back g c = gives_runs_back
 
 pub returns-clause-both_ends : goal.returns-clause-both_ends
-returns-clause-both_ends g c = gives_from_ends c.over.result
-
-pub returns-clause-bound : goal.returns-clause-bound
-returns-clause-bound g c =
-    let inside = c.self.inside in
-    let cut = ap length c.over.ensures ∙ length-take c.len-len.result (g.A.Array.slots inside.array) in
-    omega arith
+returns-clause-both_ends g c = gives_from_ends c.into_items.result
 
 pub returns-clause-into_iter_gives : goal.returns-clause-into_iter_gives
-returns-clause-into_iter_gives g c = (search rules, returns-clause-bound g c, gives_runs, gives_runs_back)
+returns-clause-into_iter_gives g c = (c.into_items.ensures.items, c.into_items.ensures.bound, gives_runs, gives_runs_back)

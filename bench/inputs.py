@@ -1,0 +1,62 @@
+"""The lines that whole programs read: the same in each run, and a few of them refused."""
+import random
+import string
+
+NAMES = ["x", "y", "total", "rate2", "a", "weighted", "remainderOfTheSums"]
+TYPES = ["A", "NS", "CNAME", "SOA", "PTR", "MX", "TXT", "AAAA"]
+WORDS = ["the", "The", "the", "cat", "CAT", "sat", "on", "a", "mat", "again", "AGAIN", "normalisation"]
+
+# An input is made of copies of a part of so many lines, or is its beginning.
+PART = 1000000
+
+
+def write(path, name, count):
+    """Writes so many lines for the program."""
+    chance = random.Random(1)
+    part = "".join(f"{MAKERS[name](chance)}\n" for _ in range(min(count, PART)))
+    with open(path, "w", encoding="ascii") as file:
+        for _ in range(max(count // PART, 1)):
+            file.write(part)
+
+
+def command(chance):
+    """A call of a vector: of each kind but splices."""
+    number, index = chance.randint(-1000000, 1000000), chance.randint(0, 4)
+    end = chance.randint(index, 4)
+    name = chance.choice("AST")
+    calls = [f"push {number}"] * 3 + [f"insert {index} {number}"] * 2
+    calls += ["pop", f"remove {index}", f"swap {index}", f"truncate {index}", f"drain {index} {end}"]
+    calls += ["heap", "shrink", f"reserve {index}"] if name == "T" else [f"setlen {index}"]
+    return chance.choice([*(f"{name} {it}" for it in calls), "nonsense"])
+
+
+def text(chance):
+    """Words, of which some repeat the one before. One line in seven has more than 80 bytes."""
+    count = chance.choice([0, 1, 3, 8, 8, 12, 30])
+    return "".join(chance.choice(["", " ", " ", " \t"]) + chance.choice(WORDS) + " " for _ in range(count))
+
+
+def expression(chance):
+    """A sum or a product."""
+    return joined(chance, 0) + chance.choice([""] * 19 + [" +"])
+
+
+def joined(chance, depth):
+    operands = [operand(chance, depth + 1) for _ in range(chance.randint(2, 4))]
+    return chance.choice([" + ", " + ", " * ", "*"]).join(operands)
+
+
+def operand(chance, depth):
+    if depth < 4 and chance.random() < 0.4:
+        return f"({joined(chance, depth)})"
+    return chance.choice([str(chance.randrange(10 ** chance.randint(1, 12))), chance.choice(NAMES)])
+
+
+def question(chance):
+    """A DNS query's number, name and type. A number in eleven is too large, a type in nine unknown."""
+    labels = ["".join(chance.choices(string.ascii_lowercase, k=chance.randint(1, 12))) for _ in range(chance.randint(1, 5))]
+    return f"{chance.randrange(72000)} {'.'.join(labels)} {chance.choice([*TYPES, 'ANY'])}"
+
+
+# By the program that reads them.
+MAKERS = {"tv": command, "example_tidy": text, "example_tree": expression, "example_dns_query": question}

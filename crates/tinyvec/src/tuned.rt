@@ -1,0 +1,155 @@
+//! What is tuned for LLVM: clones and copies appended to a `Vec` that has room for them.
+//!
+//! Each loop works on a local variable, whose length and pointer LLVM keeps in registers. Through a reference it cannot,
+//! since the items might overlap the vector.
+ghost use Rattle.std.specs.Prelude.{◌≡◌, ◌+◌, ◌<◌, ◌≤◌, ◌++◌, ℕ, All, length, take, replicate, IsOk, OnOk, OnErr, vec_len, vec_capacity};
+ghost use Rattle.std.specs.List.{AppendsClones};
+ghost use Rattle.tinyvec_slots.specs.Clones.{RefusedAt};
+
+use std::alloc::AllocError;
+use std::mem;
+
+// Appends clones of `from`, if there is room.
+pub(crate) fn push_clones<T: Clone>(heap: &mut Vec<T>, from: &[T]) -> Result<(), AllocError>
+    requires room { vec_len heap.old + length from.now ≤ vec_capacity heap.old }
+    ensures items { OnOk result (AppendsClones T.is_clone heap.old.items heap.new.items from.now) }
+    ensures kept { OnErr result (heap.new.items ≡ heap.old.items) }
+    ensures refused { OnErr result ((j : ℕ) × RefusedAt T.is_infallible from.now j) }
+    ensures capacity { vec_capacity heap.new ≡ vec_capacity heap.old }
+    ensures succeeds { All T.is_infallible from.now → IsOk result }
+{
+    let mut vec = mem::replace(heap, Vec::new(*heap.allocator()));
+    let len = vec.len();
+    let pushed = push_until_refused(&mut vec, from);
+    if pushed < from.len() {
+        vec.truncate(len);
+        *heap = vec;
+        return Err(AllocError);
+    }
+    *heap = vec;
+    Ok(())
+}
+
+// Appends clones until one fails, if there is room. Returns how many of `from` were cloned.
+#[inline(always)]
+fn push_until_refused<T: Clone>(vec: &mut Vec<T>, from: &[T]) -> usize
+    requires room { vec_len vec.old + length from.now ≤ vec_capacity vec.old }
+    ensures within { result ≤ length from.now }
+    ensures items { AppendsClones T.is_clone vec.old.items vec.new.items (take result from.now) }
+    ensures refused { result < length from.now → (j : ℕ) × RefusedAt T.is_infallible from.now j }
+    ensures capacity { vec_capacity vec.new ≡ vec_capacity vec.old }
+{
+    let mut done = 0;
+    // Four are read before one is written, so LLVM moves them in registers. Smaller items it moves in longer blocks itself.
+    while 4 <= from.len() - done && fit_registers(from) {
+        let Ok(first) = from[done].clone() else {
+            return done;
+        };
+        let Ok(second) = from[done + 1].clone() else {
+            return done;
+        };
+        let Ok(third) = from[done + 2].clone() else {
+            return done;
+        };
+        let Ok(fourth) = from[done + 3].clone() else {
+            return done;
+        };
+        vec.push_reserved(first);
+        vec.push_reserved(second);
+        vec.push_reserved(third);
+        vec.push_reserved(fourth);
+        done += 4;
+    }
+    for i in done..from.len() {
+        let Ok(x) = from[i].clone() else {
+            return i;
+        };
+        vec.push_reserved(x);
+    }
+    from.len()
+}
+
+// Whether an item takes 4 to 16 bytes.
+#[inline(always)]
+fn fit_registers<T>(items: &[T]) -> bool
+    requires some { 0 < length items.now }
+{
+    let size = items[..1].len() * mem::size_of::<T>();
+    4 <= size && size <= 16
+}
+
+// Appends `n` clones of `x`, if there is room.
+pub(crate) fn push_clones_of<T: Clone>(heap: &mut Vec<T>, n: usize, x: &T) -> Result<(), AllocError>
+    requires room { vec_len heap.old + n ≤ vec_capacity heap.old }
+    ensures items { OnOk result (AppendsClones T.is_clone heap.old.items heap.new.items (replicate n x.now)) }
+    ensures kept { OnErr result (heap.new.items ≡ heap.old.items) }
+    ensures refused { OnErr result ((j : ℕ) × (j < n) × ¬ (T.is_infallible x.now)) }
+    ensures capacity { vec_capacity heap.new ≡ vec_capacity heap.old }
+    ensures succeeds { T.is_infallible x.now → IsOk result }
+{
+    let mut vec = mem::replace(heap, Vec::new(*heap.allocator()));
+    let len = vec.len();
+    for _i in 0..n {
+        match x.clone() {
+            Ok(y) => vec.push_reserved(y),
+            Err(error) => {
+                vec.truncate(len);
+                *heap = vec;
+                return Err(error);
+            }
+        }
+    }
+    *heap = vec;
+    Ok(())
+}
+
+// Appends copies of `from`, if there is room. `Vec::extend_from_slice` does not say that a capacity which suffices stays.
+pub(crate) fn push_copies<T: Copy>(heap: &mut Vec<T>, from: &[T])
+    requires room { vec_len heap.old + length from.now ≤ vec_capacity heap.old }
+    ensures items { heap.new.items ≡ heap.old.items ++ from.now }
+    ensures capacity { vec_capacity heap.new ≡ vec_capacity heap.old }
+{
+    let mut vec = mem::replace(heap, Vec::new(*heap.allocator()));
+    let most = push_blocks::<T, 16>(&mut vec, from);
+    let more = most + push_blocks::<T, 4>(&mut vec, &from[most..]);
+    for i in more..from.len() {
+        vec.push_reserved(from[i]);
+    }
+    *heap = vec;
+}
+
+// Appends copies in blocks of N while N items are left, and returns their number.
+#[inline(always)]
+fn push_blocks<T: Copy, const N: usize>(vec: &mut Vec<T>, from: &[T]) -> usize
+    requires some { 0 < N }
+    requires room { vec_len vec.old + length from.now ≤ vec_capacity vec.old }
+    ensures items { vec.new.items ≡ vec.old.items ++ take result from.now }
+    ensures within { result ≤ length from.now }
+    ensures capacity { vec_capacity vec.new ≡ vec_capacity vec.old }
+{
+    let mut done = 0;
+    while N <= from.len() - done {
+        push_block::<T, N>(vec, &from[done..]);
+        done += N;
+    }
+    done
+}
+
+// Appends copies of the first N items. All are read before one is written, so LLVM moves a block in registers.
+#[inline(always)]
+fn push_block<T: Copy, const N: usize>(vec: &mut Vec<T>, from: &[T])
+    requires enough { N ≤ length from.now }
+    requires room { vec_len vec.old + N ≤ vec_capacity vec.old }
+    ensures items { vec.new.items ≡ vec.old.items ++ take N from.now }
+    ensures capacity { vec_capacity vec.new ≡ vec_capacity vec.old }
+{
+    // Tells the proof that the items fit in memory.
+    let _bytes = from.len() * mem::size_of::<T>();
+    let Some(first) = from.first_chunk::<N>() else {
+        unreachable!();
+    };
+    let block = *first;
+    for i in 0..N {
+        vec.push_reserved(block[i]);
+    }
+}

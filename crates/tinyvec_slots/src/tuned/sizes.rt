@@ -1,0 +1,44 @@
+//! How many bytes an item takes. Each word is a constant once `T` is known, so the other branch is gone.
+//!
+//! A word takes the items, since a slice fits in memory, and so the proof knows that no product wraps.
+ghost use Rattle.std.specs.Prelude.{◌<◌, length};
+
+use std::mem;
+
+/// Whether an item takes one byte.
+#[inline(always)]
+pub(crate) fn are_bytes<T>(items: &[T]) -> bool
+    requires some { 0 < length items.now }
+{
+    items[..1].len() * mem::size_of::<T>() == 1
+}
+
+/// Whether an item takes 4 to 16 bytes.
+#[inline(always)]
+pub fn fit_registers<T>(items: &[T]) -> bool
+    requires some { 0 < length items.now }
+{
+    let size = items[..1].len() * mem::size_of::<T>();
+    4 <= size && size <= 16
+}
+
+/// Whether an item takes up to 16 bytes.
+#[inline(always)]
+pub(crate) fn are_small<T>(items: &[T]) -> bool
+    requires some { 0 < length items.now }
+{
+    items[..1].len() * mem::size_of::<T>() <= 16
+}
+
+/// Whether an item takes more than 16 bytes, also of a slice that may be empty. A short slice of items that take few more
+/// counts as small.
+#[inline(always)]
+pub(crate) fn are_large<T>(items: &[T]) -> bool {
+    items.len() * mem::size_of::<T>() / 16 > items.len()
+}
+
+/// Whether all items together take up to 128 bytes.
+#[inline(always)]
+pub fn prefers_shifting<T>(items: &[T]) -> bool {
+    items.len() * mem::size_of::<T>() <= 128
+}

@@ -1,0 +1,75 @@
+//! Items moved to the end of a `Vec` that has room for them.
+ghost use Rattle.std.specs.Prelude.{◌≡◌, ◌+◌, ◌<◌, ◌≤◌, ◌++◌, List, length, take, drop, vec_len, vec_capacity};
+ghost use Rattle.tinyvec_slots.specs.Slots.{AreDefaults};
+
+use crate::tuned::sizes::fit_registers;
+use std::mem;
+
+/// Moves the items of the slots to the end of `vec`, and leaves defaults. Bytes are moved as fast one by one, and a block of
+/// large items would fill the stack.
+#[inline(always)]
+pub fn take_all<T: Default + Drop>(slots: &mut [T], vec: &mut Vec<T>)
+    requires { vec_len vec.old + length slots.old ≤ vec_capacity vec.old }
+    ensures items { vec.new.items ≡ vec.old.items ++ slots.old }
+    ensures capacity { vec_capacity vec.new ≡ vec_capacity vec.old }
+    ensures emptied { AreDefaults T.is_default (length slots.old) slots.new }
+{
+    if slots.is_empty() {
+        return;
+    }
+    if !fit_registers(slots) {
+        return take_each(slots, vec);
+    }
+    let most = take_blocks::<T, 16>(slots, vec);
+    let more = most + take_blocks::<T, 4>(&mut slots[most..], vec);
+    take_each(&mut slots[more..], vec);
+}
+
+// Like `take_all`, item by item.
+#[inline(always)]
+fn take_each<T: Default + Drop>(slots: &mut [T], vec: &mut Vec<T>)
+    requires { vec_len vec.old + length slots.old ≤ vec_capacity vec.old }
+    ensures items { vec.new.items ≡ vec.old.items ++ slots.old }
+    ensures capacity { vec_capacity vec.new ≡ vec_capacity vec.old }
+    ensures emptied { AreDefaults T.is_default (length slots.old) slots.new }
+{
+    for slot in slots.iter_mut() {
+        vec.push_reserved(mem::take(slot));
+    }
+}
+
+// Takes blocks of N items while N are left, and returns the number of items taken.
+#[inline(always)]
+fn take_blocks<T: Default + Drop, const N: usize>(slots: &mut [T], vec: &mut Vec<T>) -> usize
+    requires some { 0 < N }
+    requires room { vec_len vec.old + length slots.old ≤ vec_capacity vec.old }
+    ensures within { result ≤ length slots.old }
+    ensures items { vec.new.items ≡ vec.old.items ++ take result slots.old }
+    ensures capacity { vec_capacity vec.new ≡ vec_capacity vec.old }
+    ensures emptied { (ds : List T) × AreDefaults T.is_default result ds × (slots.new ≡ ds ++ drop result slots.old) }
+{
+    let mut done = 0;
+    while N <= slots.len() - done {
+        take_block::<T, N>(&mut slots[done..], vec);
+        done += N;
+    }
+    done
+}
+
+// Takes the first N items. All are read before one is written, so LLVM moves a block in registers.
+#[inline(always)]
+fn take_block<T: Default + Drop, const N: usize>(slots: &mut [T], vec: &mut Vec<T>)
+    requires enough { N ≤ length slots.old }
+    requires room { vec_len vec.old + N ≤ vec_capacity vec.old }
+    ensures items { vec.new.items ≡ vec.old.items ++ take N slots.old }
+    ensures capacity { vec_capacity vec.new ≡ vec_capacity vec.old }
+    ensures emptied { (ds : List T) × AreDefaults T.is_default N ds × (slots.new ≡ ds ++ drop N slots.old) }
+{
+    // Tells the proof that the items fit in memory.
+    let _bytes = slots.len() * mem::size_of::<T>();
+    let Some(first) = slots.first_chunk_mut::<N>() else {
+        unreachable!();
+    };
+    let mut block = mem::take(first);
+    take_each(&mut block, vec);
+}
