@@ -1,15 +1,20 @@
 -- What a line commands, that it is one command, and what was done for it.
-use Rattle.std.proofs.Common.{◌≡◌, ◌≢◌, ◌∙◌, ap, ap₂, sym, subst, refl, ℕ, ◌+◌, ◌<◌, ◌≤◌, ◌^◌, inl, inr, nat_lt, ◌==◌, Bool, true, false, if◌then◌else◌, List, [], ◌∷◌, ◌++◌, length, map, take, slice_index, codes, Option, None, Some, Ok, Result, arith, append_assoc, length-append, length-drop}
+use Rattle.std.proofs.Common.{◌≡◌, ◌≢◌, ◌∙◌, ap, ap₂, sym, subst, refl, ℕ, ◌+◌, ◌<◌, ◌≤◌, ◌^◌, inl, inr, ◌⊎◌, nat_lt, ◌==◌, Bool, true, false, if◌then◌else◌, List, [], ◌∷◌, ◌++◌, length, map, take, slice_index, codes, Option, None, Some, Ok, Err, Result, arith, append_assoc, length-append, length-drop}
 use Rattle.std.specs.List.{AllByRecursion, after_first, position_or_len}
 use Rattle.std.specs.Str.Parse.{IsNumeral, digits_value, without_leading_plus}
 use Rattle.std.proofs.lemmas.Bool.{ltb-true}
-use Rattle.example_records.specs.Commands.{AreNumbers, AreSamples, Command, Does, IsDecimal, IsRead, IsReadOfCopy, IsRecord, Says, behind_comma, part_of, rest_of, word_of}
+use Rattle.example_records.specs.Commands.{Answers, AreNumbers, AreSamples, Command, Does, HasTag, IsDecimal, IsRead, IsReadOfCopy, IsRecord, Says, behind_comma, part_of, rest_of, word_of}
 use Rattle.example_records.specs.Commands.Command.{Add, Hex, Cut, Read, Copy}
-use Rattle.example_records.specs.Hex.{bytes_of}
+use Rattle.example_records.specs.Hex.{HasByte, bytes_of}
 use Rattle.example_records.specs.Readings.{ReadingFits, Said, SamplesFit, said}
 use Rattle.example_records.specs.Stream.{BeginsWith, Gives, IsEnd, SpellsFrame, SpellsStream, StandsBehind}
 use Rattle.example_records.specs.declared.stream.Recovered.{Recovered}
+use Rattle.example_records.specs.declared.command_error.CommandError.{CommandError}
+use Rattle.example_records.specs.declared.command_error.CommandError.TheVariants.{Hex as NoHex, Memory}
 use Rattle.example_records.specs.declared.stream_error.StreamError.{StreamError}
+use Rattle.example_records.specs.declared.stream_error.StreamError.TheVariants.{Io, WrongTag}
+use Rattle.example_records.proofs.HexLaws.{bytes_more}
+use Rattle.example_records.proofs.WholeStreams.{gives-all}
 
 -- ---- numbers
 
@@ -159,6 +164,57 @@ copied_as rest stream recovered is (Hex bytes) says = let w : 99 ≡ 104 = ap (�
 copied_as rest stream recovered is (Cut len) says = let w : 111 ≡ 117 = ap (λ word. slice_index word 1) says.0 in absurd (omega (arith, w))
 copied_as rest stream recovered is Read says = let w : 99 ≡ 114 = ap (λ word. slice_index word 0) says.0 in absurd (omega (arith, w))
 copied_as rest stream recovered is Copy says = inl (refl, (recovered, refl, is))
+
+-- ---- where memory was refused
+
+hex_refused : (text stream : List ℕ) → HasByte text → (command : Command) → Says (codes "hex") text command → Does command stream stream (Err Memory)
+hex_refused text stream has (Add c) says = let w : 104 ≡ 97 = ap (λ word. slice_index word 0) says.0 in absurd (omega (arith, w))
+hex_refused text stream has (Hex bytes) says = inr (bytes_more text bytes has says.1, (refl, refl))
+hex_refused text stream has (Cut len) says = let w : 104 ≡ 99 = ap (λ word. slice_index word 0) says.0 in absurd (omega (arith, w))
+hex_refused text stream has Read says = let w : 104 ≡ 114 = ap (λ word. slice_index word 0) says.0 in absurd (omega (arith, w))
+hex_refused text stream has Copy says = let w : 104 ≡ 99 = ap (λ word. slice_index word 0) says.0 in absurd (omega (arith, w))
+
+-- where the text is no bytes
+no_hex : (text stream : List ℕ) → bytes_of text ≡ None → (command : Command) → Says (codes "hex") text command → Does command stream stream (Err NoHex)
+no_hex text stream none (Add c) says = let w : 104 ≡ 97 = ap (λ word. slice_index word 0) says.0 in absurd (omega (arith, w))
+no_hex text stream none (Hex bytes) says = let some = says.1 in absurd (cc (none, some))
+no_hex text stream none (Cut len) says = let w : 104 ≡ 99 = ap (λ word. slice_index word 0) says.0 in absurd (omega (arith, w))
+no_hex text stream none Read says = let w : 104 ≡ 114 = ap (λ word. slice_index word 0) says.0 in absurd (omega (arith, w))
+no_hex text stream none Copy says = let w : 104 ≡ 99 = ap (λ word. slice_index word 0) says.0 in absurd (omega (arith, w))
+
+pub hex_fails : (text stream : List ℕ) (error : CommandError) → ((error ≡ Memory) × HasByte text) ⊎ ((error ≡ NoHex) × (bytes_of text ≡ None)) → Answers (Says (codes "hex") text) stream stream (Err error)
+hex_fails text stream error (inl memory) =
+    subst (λ e. Answers (Says (codes "hex") text) stream stream (Err e)) (sym memory.0) record { carried_out = hex_refused text stream memory.1; is_command = tt; refused = refl }
+hex_fails text stream error (inr none) =
+    subst (λ e. Answers (Says (codes "hex") text) stream stream (Err e)) (sym none.0) record { carried_out = no_hex text stream none.1; is_command = tt; refused = refl }
+
+-- ---- a stream with no tag at its start
+
+-- no record is there
+read_none : (stream : List ℕ) (end : Result (Unit {0}) StreamError) → StandsBehind end stream → (end ≡ Err Io → ⊥) → IsRead stream [] end
+read_none stream end is no_fault =
+    let stands : BeginsWith [] (StandsBehind end) stream = record { first = []; rest = stream; is_first = refl; is_rest = is; whole = refl } in record {
+      stands = stands;
+      fit = tt;
+      all = λ cs bytes tail told fit spelled is_told whole.
+          (0, gives-all 0 0 cs [] fit tt told end (Some stream) bytes tail spelled is_told (ap Some whole) (λ fault. absurd (no_fault fault)) stands);
+    }
+
+pub copy_none : (stream : List ℕ) → (HasTag stream → ⊥) → IsReadOfCopy stream [] (Ok tt)
+copy_none [] none = record {
+  records = [];
+  records_end = Ok tt;
+  first = read_none [] (Ok tt) refl (λ same. cc same);
+  told = ((λ same. cc same), (λ same. cc same));
+  copied = refl;
+}
+copy_none (byte ∷ rest) none = record {
+  records = [];
+  records_end = Err WrongTag;
+  first = read_none (byte ∷ rest) (Err WrongTag) (record { byte = byte; rest = rest; other = λ is. none (omega arith, is); whole = refl }) (λ same. cc same);
+  told = ((λ same. cc same), (λ same. cc same));
+  copied = refl;
+}
 
 pub is_read : (stream given : List ℕ) (before after : ℕ) (read : List Said) (end : Result (Unit {0}) StreamError) → given ≡ stream → before ≡ 0
     → BeginsWith read (StandsBehind end) given → AllByRecursion ReadingFits read

@@ -1,13 +1,13 @@
 -- The commands of the program: which lines are commands, and what each does to the stream and answers.
-use Rattle.std.specs.Prelude.{◌≡◌, ◌≢◌, ℕ, ◌<◌, ◌≤◌, ◌^◌, ◌⊎◌, nat_lt, if◌then◌else◌, List, [], ◌∷◌, ◌++◌, length, map, take, codes, eqb, Option, None, Some, Ok, Err, Result, OnOk, OnErr}
+use Rattle.std.specs.Prelude.{◌≡◌, ◌≢◌, ℕ, ◌<◌, ◌≤◌, ◌^◌, ◌⊎◌, nat_lt, if◌then◌else◌, List, [], ◌∷◌, ◌++◌, length, map, slice_index, take, codes, eqb, Option, None, Some, Ok, Err, Result, OnOk, OnErr}
 use Rattle.std.specs.List.{AllByRecursion, after_first, before_first, position_or_len}
 use Rattle.std.specs.Str.{IsUtf8}
 use Rattle.std.specs.Str.Parse.{IsNumeral, digits_value, without_leading_plus}
-use Rattle.example_records.specs.Hex.{bytes_of}
+use Rattle.example_records.specs.Hex.{HasByte, bytes_of}
 use Rattle.example_records.specs.Readings.{ReadingFits, Said, said}
-use Rattle.example_records.specs.Stream.{BeginsWith, Gives, IsCopy, IsEnd, SpellsFrame, SpellsStream, StandsBehind}
-use Rattle.example_records.specs.declared.command.CommandError.{CommandError}
-use Rattle.example_records.specs.declared.command.CommandError.TheVariants.{Hex as NoHex, Length, Memory, Samples, Station, Text, Unknown, Words}
+use Rattle.example_records.specs.Stream.{BeginsWith, Gives, IsCopy, IsEnd, SpellsFrame, SpellsStream, StandsBehind, tag}
+use Rattle.example_records.specs.declared.command_error.CommandError.{CommandError}
+use Rattle.example_records.specs.declared.command_error.CommandError.TheVariants.{Hex as NoHex, Length, Memory, Samples, Station, Text, Unknown, Words}
 use Rattle.example_records.specs.declared.stream.Recovered.{Recovered}
 use Rattle.example_records.specs.declared.stream_error.StreamError.{StreamError}
 use Rattle.example_records.specs.declared.stream_error.StreamError.TheVariants.{Io, Memory as NoMemory}
@@ -95,7 +95,12 @@ IsCommand word = (command : Command) × (word ≡ command_word command)
 abbrev pub HasStation : List ℕ → Type 0
 HasStation rest = (number : ℕ) × IsDecimal (word_of rest) number × (number < 2 ^ 32)
 
--- The reason of a refusal, by the first word and what is after it.
+-- the record also has samples
+abbrev pub HasSamples : List ℕ → Type 0
+HasSamples rest = HasStation rest × ((samples : List ℕ) × AreSamples (word_of (rest_of rest)) samples)
+
+-- The reason of a refusal, by the first word and what is after it. Memory is refused only where it is asked for: for what
+-- is a record, or begins with a byte.
 abbrev pub Tells : (word rest : List ℕ) → CommandError → Type 0
 Tells word rest Text = ⊥
 Tells word rest Unknown = IsCommand word → ⊥
@@ -104,7 +109,7 @@ Tells word rest Samples = (word ≡ codes "add") × HasStation rest
 Tells word rest NoHex = word ≡ codes "hex"
 Tells word rest Length = word ≡ codes "cut"
 Tells word rest Words = (word ≡ codes "read") ⊎ (word ≡ codes "copy")
-Tells word rest Memory = (word ≡ codes "add") ⊎ ((word ≡ codes "hex") ⊎ (word ≡ codes "copy"))
+Tells word rest Memory = ((word ≡ codes "add") × HasSamples rest) ⊎ (((word ≡ codes "hex") × HasByte rest) ⊎ (word ≡ codes "copy"))
 
 -- ---- what they do
 
@@ -137,15 +142,20 @@ pub record IsReadOfCopy (stream : List ℕ) (read : List Said) (end : Result (Un
   pub told : IsTold records_end
   pub copied : IsCopy records read end
 
--- What the command does to the stream, and what it answers.
+-- a record may begin here
+abbrev pub HasTag : List ℕ → Type 0
+HasTag stream = (0 < length stream) × (slice_index stream 0 ≡ tag)
+
+-- What the command does to the stream, and what it answers. Memory may be refused for a record, for bytes if there are any,
+-- and for the copy of a stream that has a tag at its start.
 abbrev pub Does : Command → (old new : List ℕ) → Answer → Type 0
 Does (Add c) old new answer = ((answer ≡ Ok None) × ((frame : List ℕ) × SpellsFrame c frame × (new ≡ old ++ frame))) ⊎ IsOutOfMemory old new answer
-Does (Hex bytes) old new answer = ((answer ≡ Ok None) × (new ≡ old ++ bytes)) ⊎ IsOutOfMemory old new answer
+Does (Hex bytes) old new answer = ((answer ≡ Ok None) × (new ≡ old ++ bytes)) ⊎ ((0 < length bytes) × IsOutOfMemory old new answer)
 Does (Cut len) old new answer = ((len ≤ length old) × (answer ≡ Ok None) × (new ≡ take len old)) ⊎ ((length old < len) × (answer ≡ Err Length) × (new ≡ old))
 Does Read old new answer = (new ≡ old) × ((recovered : Recovered) × (answer ≡ Ok (Some recovered)) × IsRead old (map said recovered.records.items) recovered.end)
 Does Copy old new answer =
     ((new ≡ old) × ((recovered : Recovered) × (answer ≡ Ok (Some recovered)) × IsReadOfCopy old (map said recovered.records.items) recovered.end))
-    ⊎ IsOutOfMemory old new answer
+    ⊎ (HasTag old × IsOutOfMemory old new answer)
 
 -- memory was refused, or else this holds
 abbrev pub IsMemoryOr : Type 0 → CommandError → Type 0

@@ -3,6 +3,8 @@ use Rattle.std.specs.Prelude.{ℕ, List, ◌++◌, codes, Ok, Err, Result}
 use Rattle.std.specs.Fmt.{decimal}
 use Rattle.tinyvec_borsh.specs.declared.borsh_error.BorshError.{BorshError}
 use Rattle.tinyvec_borsh.specs.declared.borsh_error.BorshError.TheVariants as borsh
+use Rattle.example_records.specs.declared.command_error.CommandError.{CommandError}
+use Rattle.example_records.specs.declared.command_error.CommandError.TheVariants as command
 use Rattle.example_records.specs.declared.stream_error.StreamError.{StreamError}
 use Rattle.example_records.specs.declared.stream_error.StreamError.TheVariants.{Cut, Io, Memory, TooManySamples, WrongTag}
 
@@ -19,6 +21,17 @@ stream_error_text WrongTag = codes "no record begins here"
 stream_error_text TooManySamples = codes "a record has more than eight samples"
 stream_error_text Io = codes "the reader reported a fault"
 stream_error_text Memory = codes "out of memory"
+
+-- what a refusal of a command says
+abbrev pub command_error_text : CommandError → List ℕ
+command_error_text command.Text = codes "no text in UTF-8"
+command_error_text command.Unknown = codes "no command: add, hex, cut, read and copy are"
+command_error_text command.Station = codes "no station"
+command_error_text command.Samples = codes "no list of up to eight samples"
+command_error_text command.Hex = codes "no bytes in hex"
+command_error_text command.Length = codes "no length within the stream"
+command_error_text command.Words = codes "no words stand behind read and copy"
+command_error_text command.Memory = codes "out of memory"
 
 -- where the records end, so many bytes from the start, and why no more were read
 abbrev pub end_text : ℕ → Result (Unit {0}) StreamError → List ℕ

@@ -1,10 +1,12 @@
--- What is shown of the records of a stream.
-use Rattle.std.specs.Prelude.{◌≡◌, ℕ, ◌-◌, ◌^◌, List, [], ◌∷◌, ◌++◌, codes, length, min, Option, Some, IfSome, Result}
+-- What is shown of the records of a stream, and the answers to lines.
+use Rattle.std.specs.Prelude.{◌≡◌, ℕ, ◌-◌, ◌^◌, ◌==◌, if◌then◌else◌, List, [], ◌∷◌, ◌++◌, codes, length, map, min, Option, None, Some, IfSome, Ok, Err, IfErr, Result}
 use Rattle.std.specs.Fmt.{◌++?◌, debug_list, debug_str, decimal}
 use Rattle.std.specs.Str.{IsUtf8}
-use Rattle.example_records.specs.Errors.{end_text}
-use Rattle.example_records.specs.Readings.{Said}
+use Rattle.example_records.specs.Commands.{Answer, Answers, Commands, IsCommand, Tells, rest_of, word_of}
+use Rattle.example_records.specs.Errors.{command_error_text, end_text}
+use Rattle.example_records.specs.Readings.{Said, said}
 use Rattle.example_records.specs.Stream.{SpellsStream}
+use Rattle.example_records.specs.declared.command_error.CommandError.TheVariants.{Text, Unknown}
 use Rattle.example_records.specs.declared.stream_error.StreamError.{StreamError}
 
 -- the station, the samples and a note that is shown so, with a blank between two, and a line feed
@@ -30,3 +32,24 @@ pub record IsShown (cs : List Said) (end : Result (Unit {0}) StreamError) (text 
   pub are : AreLinesOf cs lines
   pub is_end : (bytes : List ℕ) → SpellsStream cs bytes → last ≡ end_text (min (length bytes) (2 ^ 64 - 1)) end
   pub whole : text ≡ lines ++ last
+
+-- ---- answers
+
+-- how long a stream of so many bytes is
+abbrev pub len_text : ℕ → List ℕ
+len_text len = if len == 1 then codes "1 byte" else decimal len ++ codes " bytes"
+
+-- The text says what was answered, where the stream then has so many bytes. It ends with a line feed.
+abbrev pub IsTextOf : Answer → (len : ℕ) → List ℕ → Type 0
+IsTextOf (Ok None) len text = text ≡ len_text len ++ 10 ∷ []
+IsTextOf (Ok (Some recovered)) len text = (shown : List ℕ) × IsShown (map said recovered.records.items) recovered.end shown × (text ≡ shown ++ 10 ∷ [])
+IsTextOf (Err error) len text = text ≡ codes "refused: " ++ (command_error_text error ++ 10 ∷ [])
+
+-- A line was answered so, as `run` has it, and this is the text of the answer.
+pub record IsAnswered (line old new text : List ℕ) : Type 0 where
+  pub answer : Answer
+  pub answers : Answers (Commands line) old new answer
+  pub no_text : (IsUtf8 line → ⊥) → answer ≡ Err Text
+  pub unknown : IsUtf8 line → (IsCommand (word_of line) → ⊥) → answer ≡ Err Unknown
+  pub tells : IsUtf8 line → IfErr answer (Tells (word_of line) (rest_of line))
+  pub says : IsTextOf answer (length new) text

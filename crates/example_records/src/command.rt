@@ -1,62 +1,25 @@
 //! The commands of the program.
-ghost use Rattle.std.specs.Prelude.{◌≡◌, ◌-◌, ◌^◌, ℕ, List, Err, codes, length, map, min, IfErr, IfOk, OnErr, IsTrue, IsUtf8, string_bytes};
+ghost use Rattle.std.specs.Prelude.{◌≡◌, ◌↔◌, ◌-◌, ◌^◌, ℕ, List, Err, codes, length, map, min, IfErr, IfOk, OnErr, IsTrue, IsUtf8, string_bytes};
 ghost use Rattle.std.specs.Option.{option_copied};
 ghost use Rattle.tinyvec_slots.specs.Slots.{items};
-ghost use Rattle.example_records.specs.Commands.{Answers, AreSamples, Commands, IsCommand, IsMemoryOr, IsRecord, IsTold, Says, Tells};
+ghost use Rattle.example_records.specs.Commands.{Answers, AreSamples, Commands, HasTag, IsCommand, IsMemoryOr, IsRecord, IsTold, Says, Tells};
 ghost use Rattle.example_records.specs.Commands.{behind_comma, part_of, rest_of, word_of};
 ghost use Rattle.example_records.specs.Errors.{end_text};
 ghost use Rattle.example_records.specs.Readings.{ReadingFits, Said, SamplesFit, said};
 ghost use Rattle.example_records.specs.Shown.{IsLineOf, IsShown};
 ghost use Rattle.example_records.specs.Stream.{SpellsStream};
-ghost use Rattle.example_records.specs.declared.command.CommandError.TheVariants.{Memory, Samples, Text, Unknown};
+ghost use Rattle.example_records.specs.declared.command_error.CommandError.TheVariants.{Samples, Text, Unknown};
 
+use crate::command_error::CommandError;
 use crate::hex::bytes_of_hex;
 use crate::length::stream_len;
 use crate::reading::Reading;
-use crate::stream::{Recovered, append_to, copied, read_all};
+use crate::stream::{Recovered, TAG, append_to, copied, read_all};
 use crate::stream_error::StreamError;
 use std::alloc::{AllocError, Global};
 use std::str;
-use thiserror::Error;
 use tinyvec::{ArrayVec, TinyVec};
 use tinyvec_io::Counted;
-
-/// Why a command was not carried out. The stream is as it was.
-#[derive(Debug, Clone, Copy, PartialEq, Eq, Error)]
-pub enum CommandError {
-    /// The line is no UTF-8.
-    #[error("no text in UTF-8")]
-    Text,
-    /// There is no such command.
-    #[error("no command: add, hex, cut, read and copy are")]
-    Unknown,
-    /// The station is no number that fits a `u32`.
-    #[error("no station")]
-    Station,
-    /// The samples are no list of up to eight numbers that fit a `u16`.
-    #[error("no list of up to eight samples")]
-    Samples,
-    /// There are no pairs of digits in hex.
-    #[error("no bytes in hex")]
-    Hex,
-    /// The length is no number, or is above that of the stream.
-    #[error("no length within the stream")]
-    Length,
-    /// A command without words is followed by some.
-    #[error("no words stand behind read and copy")]
-    Words,
-    /// Memory was refused.
-    #[error("out of memory")]
-    Memory,
-}
-
-impl From<AllocError> for CommandError {
-    ghost from_gives = { λ _ given. given ≡ Memory };
-
-    fn from(_error: AllocError) -> CommandError {
-        CommandError::Memory
-    }
-}
 
 /// Carries out the command on a line. Answers what was read where the command is to read the stream or a copy of it.
 pub fn run(
@@ -227,6 +190,16 @@ fn is_told(end: Result<(), StreamError>) -> bool
     !matches!(end, Err(StreamError::Io | StreamError::Memory))
 }
 
+// Whether a record may begin the stream.
+fn has_tag(stream: &[u8]) -> bool
+    ensures { IsTrue result ↔ HasTag stream.now }
+{
+    match stream {
+        [first, ..] => *first == TAG,
+        [] => false,
+    }
+}
+
 // Reads a new stream to which the records of this one were appended, where no words follow the command.
 fn copy(alloc: Global, rest: &str, stream: &[u8]) -> Result<Option<Recovered>, CommandError>
     ensures answers { Answers (Says (codes "copy") rest.now) stream.now stream.now result }
@@ -234,6 +207,13 @@ fn copy(alloc: Global, rest: &str, stream: &[u8]) -> Result<Option<Recovered>, C
 {
     if !rest.is_empty() {
         return Err(CommandError::Words);
+    }
+    // Without a tag at its start a stream has no record, so its copy is empty, and takes no memory.
+    if !has_tag(stream) {
+        return Ok(Some(Recovered {
+            records: Vec::new(alloc),
+            end: Ok(()),
+        }));
     }
     let recovered = read_all(alloc, &mut Counted::new(stream));
     // Both streams are in memory, so only a refusal of memory is a fault.

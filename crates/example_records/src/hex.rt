@@ -1,15 +1,15 @@
 //! Bytes in hex.
 ghost use Rattle.std.specs.Prelude.{◌≡◌, ◌⊎◌, None, Some, IfErr, IfOk};
-ghost use Rattle.example_records.specs.Hex.{byte_of, bytes_of, hex_value};
-ghost use Rattle.example_records.specs.declared.command.CommandError.TheVariants.{Hex, Memory};
+ghost use Rattle.example_records.specs.Hex.{HasByte, byte_of, bytes_of, hex_value};
+ghost use Rattle.example_records.specs.declared.command_error.CommandError.TheVariants.{Hex, Memory};
 
-use crate::command::CommandError;
+use crate::command_error::CommandError;
 use std::alloc::Global;
 
-/// The bytes that pairs of digits spell, in either case.
+/// The bytes that pairs of digits spell, in either case. Memory is asked for as soon as there is a pair.
 pub fn bytes_of_hex(alloc: Global, text: &[u8]) -> Result<Vec<u8>, CommandError>
     ensures ok { IfOk result (λ bytes. bytes_of text.now ≡ Some bytes.items) }
-    ensures err { IfErr result (λ e. (e ≡ Memory) ⊎ ((e ≡ Hex) × (bytes_of text.now ≡ None))) }
+    ensures err { IfErr result (λ e. ((e ≡ Memory) × HasByte text.now) ⊎ ((e ≡ Hex) × (bytes_of text.now ≡ None))) }
 {
     let mut bytes = Vec::new(alloc);
     let mut rest = text;

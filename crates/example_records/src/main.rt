@@ -1,21 +1,23 @@
 //! Keeps a stream of records in memory: adds to it, cuts it and reads it, by commands on standard input.
 #![tactic(auto)]
 
+mod answer;
 mod command;
-mod failure;
+mod command_error;
 mod hex;
 mod length;
 mod reading;
 mod stream;
 mod stream_error;
 
-use failure::Failure;
-use std::alloc::{AllocError, Global};
-use std::io::{BufRead, BufReader};
+use answer::Records;
+use example_lines::{Failure, answer_lines};
+use std::io::BufWriter;
 use std::process::ExitCode;
+use tinyvec_io::Counted;
 
 fn main(rt: HostRuntime) -> ExitCode {
-    let Err(failure) = answer_lines(&rt) else {
+    let Err(failure) = answer_input(&rt) else {
         return ExitCode::SUCCESS;
     };
     if !failure.is_closed_pipe() {
@@ -25,36 +27,17 @@ fn main(rt: HostRuntime) -> ExitCode {
     ExitCode::FAILURE
 }
 
-// Answers each line of standard input.
-fn answer_lines(rt: &HostRuntime) -> Result<(), Failure> {
-    let mut stream = Vec::new(rt.alloc());
-    let reader = match BufReader::new(rt.alloc(), rt.reader()) {
-        Ok(reader) => reader,
-        Err(error) => return Err(Failure::Input(error)),
+// Answers standard input on standard output.
+fn answer_input(rt: &HostRuntime) -> Result<(), Failure> {
+    let mut reader = Counted::new(rt.stdin());
+    let writer = BufWriter::new(rt.alloc(), rt.stdout()).map_err(Failure::Output)?;
+    let mut records = Records {
+        stream: Vec::new(rt.alloc()),
     };
-    for line in reader.split(rt.alloc(), b'\n') {
-        let line = match line {
-            Ok(line) => line,
-            Err(error) => return Err(Failure::Input(error)),
-        };
-        let answer = answer(rt.alloc(), line.as_slice(), &mut stream)?;
-        if let Err(error) = println!(rt; "{answer}") {
-            return Err(Failure::Output(error));
-        }
-    }
-    Ok(())
-}
-
-// What is answered to a line. A carriage return at its end is no part of it.
-fn answer(alloc: Global, line: &[u8], stream: &mut Vec<u8>) -> Result<String, AllocError> {
-    let line = line.strip_suffix(b"\r").unwrap_or(line);
-    match command::run(alloc, line, stream) {
-        Ok(Some(recovered)) => command::shown(alloc, &recovered),
-        Ok(None) if stream.len() == 1 => format!(in alloc; "1 byte"),
-        Ok(None) => {
-            let len = stream.len();
-            format!(in alloc; "{len} bytes")
-        }
-        Err(error) => format!(in alloc; "refused: {error}"),
-    }
+    answer_lines(
+        rt.alloc(),
+        &mut records,
+        &mut reader,
+        &mut Counted::new(writer),
+    )
 }

@@ -8,3 +8,4 @@ pub mod Levels
 pub mod Printed
 pub mod Pieces
 pub mod Rewriting
+pub mod Answer

@@ -1,7 +1,7 @@
 //! Reads a sum or a product a line, and prints it with no sum in a sum, or says what is wrong, and where.
 #![tactic(auto)]
 
-mod failure;
+mod answer;
 mod flatten;
 mod forest;
 mod level;
@@ -12,14 +12,14 @@ mod print;
 mod reading;
 mod rewritten;
 
-use failure::Failure;
-use rewritten::rewritten;
-use std::alloc::{AllocError, Global};
-use std::io::{BufRead, BufReader};
+use answer::Rewriter;
+use example_lines::{Failure, answer_lines};
+use std::io::BufWriter;
 use std::process::ExitCode;
+use tinyvec_io::Counted;
 
 fn main(rt: HostRuntime) -> ExitCode {
-    let Err(failure) = answer_lines(&rt) else {
+    let Err(failure) = answer_input(&rt) else {
         return ExitCode::SUCCESS;
     };
     if !failure.is_closed_pipe() {
@@ -29,33 +29,14 @@ fn main(rt: HostRuntime) -> ExitCode {
     ExitCode::FAILURE
 }
 
-// Answers each line of standard input.
-fn answer_lines(rt: &HostRuntime) -> Result<(), Failure> {
-    let reader = match BufReader::new(rt.alloc(), rt.reader()) {
-        Ok(reader) => reader,
-        Err(error) => return Err(Failure::Input(error)),
-    };
-    for line in reader.split(rt.alloc(), b'\n') {
-        let line = match line {
-            Ok(line) => line,
-            Err(error) => return Err(Failure::Input(error)),
-        };
-        let answer = answer(rt.alloc(), line.as_slice())?;
-        if let Err(error) = print!(rt; "{answer}") {
-            return Err(Failure::Output(error));
-        }
-    }
-    Ok(())
-}
-
-// The line that answers a line. A carriage return at the end of a line is no part of it.
-fn answer(alloc: Global, line: &[u8]) -> Result<String, AllocError> {
-    let line = line.strip_suffix(b"\r").unwrap_or(line);
-    match rewritten(alloc, line) {
-        Ok(mut text) => {
-            text.push('\n')?;
-            Ok(text)
-        }
-        Err(error) => format!(in alloc; "{error}\n"),
-    }
+// Answers standard input on standard output.
+fn answer_input(rt: &HostRuntime) -> Result<(), Failure> {
+    let mut reader = Counted::new(rt.stdin());
+    let writer = BufWriter::new(rt.alloc(), rt.stdout()).map_err(Failure::Output)?;
+    answer_lines(
+        rt.alloc(),
+        &mut Rewriter,
+        &mut reader,
+        &mut Counted::new(writer),
+    )
 }

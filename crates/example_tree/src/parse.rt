@@ -12,7 +12,7 @@ use crate::forest::add;
 use crate::level::Level;
 use crate::node::{Leaf, Node, NodeId};
 use crate::parse_error::{Fault, ParseError, demand, syntax};
-use crate::reading::{begun, longer};
+use crate::reading::{begun, lengthen};
 use std::alloc::{AllocError, Global};
 use std::mem::replace;
 
@@ -79,14 +79,15 @@ impl Parser {
         requires { IsSound self.old }
         ensures { Answers result self.old self.new at (λ s. byte_fault s.last s.operand byte) (λ s. with_last s (with_byte s.last byte)) }
     {
-        let leaf = match self.reading.take() {
-            Some(leaf) => leaf,
-            None => {
-                demand(!self.after_operand, at, Fault::Operator)?;
-                begun(alloc, byte)
-            }
-        };
-        self.reading = Some(longer(leaf, byte, at)?);
+        if let Some(leaf) = &mut self.reading {
+            lengthen(leaf, byte, at)?;
+            self.after_operand = true;
+            return Ok(());
+        }
+        demand(!self.after_operand, at, Fault::Operator)?;
+        let mut leaf = begun(alloc, byte);
+        lengthen(&mut leaf, byte, at)?;
+        self.reading = Some(leaf);
         self.after_operand = true;
         Ok(())
     }

@@ -1,11 +1,12 @@
 //! A tree, written as text.
-ghost use Rattle.std.specs.Prelude.{◌≡◌, ◌+◌, ◌<◌, length, All, IfOk, OnOk, string_bytes};
+ghost use Rattle.std.specs.Prelude.{◌≡◌, ◌+◌, ◌<◌, ◌++◌, length, All, IfOk, OnOk, string_bytes};
 ghost use Rattle.example_tree.specs.Nodes.{form, forms, leaf_of, trees_of, tree_at, IsOrdered};
 ghost use Rattle.example_tree.specs.Pieces.{is_bracketed, size, sizes, IsPieceOf, Puts, Writes};
 ghost use Rattle.example_tree.specs.Printed.{leaf_text, sign_text, part_text, part_texts, separated, tree_text};
 
 use crate::node::{Leaf, Node, NodeId, Operation};
 use std::alloc::{AllocError, Global};
+use std::str;
 
 /// A part of a text that is still to be written.
 #[derive(Clone, Copy)]
@@ -16,13 +17,19 @@ pub enum Piece {
     ClosingBracket,
 }
 
-/// The text of a tree of a list of nodes. A sum or a product that is a factor is in brackets.
-pub fn printed(alloc: Global, nodes: &[Node], root: NodeId) -> Result<String, AllocError>
+/// The text of a tree of a list of nodes, with room for so many bytes at first. A sum or a product that is a factor is in
+/// brackets.
+pub fn printed(
+    alloc: Global,
+    nodes: &[Node],
+    root: NodeId,
+    room: usize,
+) -> Result<String, AllocError>
     requires ordered { IsOrdered (forms nodes.now) }
     requires root { root < length nodes.now }
     ensures { IfOk result (λ text. string_bytes text ≡ tree_text (tree_at nodes.now root)) }
 {
-    let mut text = String::new(alloc);
+    let mut text = String::with_capacity(alloc, room)?;
     // The last piece is written first.
     let mut pieces = Vec::new(alloc);
     pieces.push(Piece::Tree(root))?;
@@ -46,10 +53,7 @@ fn write_piece(
 {
     match piece {
         Piece::Tree(id) => match &nodes[id] {
-            Node::Leaf(leaf) => {
-                let leaf = leaf_text(alloc, leaf)?;
-                text.push_str(leaf.as_str())
-            }
+            Node::Leaf(leaf) => push_leaf(alloc, leaf, text),
             Node::Joined(operation, children) => {
                 push_children(pieces, *operation, children.as_slice(), nodes)
             }
@@ -60,13 +64,19 @@ fn write_piece(
     }
 }
 
-// The text of a number or a name.
-fn leaf_text(alloc: Global, leaf: &Leaf) -> Result<String, AllocError>
-    ensures { IfOk result (λ text. string_bytes text ≡ leaf_text (leaf_of leaf.now)) }
+// Writes a number or a name.
+fn push_leaf(alloc: Global, leaf: &Leaf, text: &mut String) -> Result<(), AllocError>
+    ensures { OnOk result (string_bytes text.new ≡ string_bytes text.old ++ leaf_text (leaf_of leaf.now)) }
 {
     match leaf {
-        Leaf::Number(number) => format!(in alloc; "{number}"),
-        Leaf::Name(name) => String::from_utf8_lossy(alloc, name.as_slice()),
+        Leaf::Number(number) => write!(text, "{number}"),
+        Leaf::Name(name) => match str::from_utf8(name.as_slice()) {
+            Ok(name) => text.push_str(name),
+            Err(_) => {
+                let name = String::from_utf8_lossy(alloc, name.as_slice())?;
+                text.push_str(name.as_str())
+            }
+        },
     }
 }
 

@@ -1,5 +1,5 @@
 //! A number or a name that may go on.
-ghost use Rattle.std.specs.Prelude.{◌≡◌, ◌<◌, ◌+◌, ◌*◌, ◌^◌, ◌↔◌, if◌then◌else◌, [], true, None, Some, IsSome, IfSome, IfOk, IfErr};
+ghost use Rattle.std.specs.Prelude.{◌≡◌, ◌<◌, ◌+◌, ◌*◌, ◌^◌, ◌↔◌, if◌then◌else◌, [], true, None, Some, IsSome, IfSome, OnOk, IfErr};
 ghost use Rattle.std.specs.Char.{is_ascii_digit};
 ghost use Rattle.example_tree.specs.Text.{digits, letters, open_of};
 ghost use Rattle.example_tree.specs.Levels.{with_byte, byte_fault};
@@ -22,22 +22,20 @@ pub fn begun(alloc: Global, byte: u8) -> Leaf
 }
 
 /// Goes on with a digit or a letter.
-pub fn longer(leaf: Leaf, byte: u8, at: usize) -> Result<Leaf, ParseError>
-    ensures ok { IfOk result (λ longer. open_of (Some longer) ≡ with_byte (open_of (Some leaf)) byte) }
-    ensures right { IfOk result (λ _. byte_fault (open_of (Some leaf)) true byte ≡ None) }
-    ensures err { IfErr result (λ error. IsAt error at (byte_fault (open_of (Some leaf)) true byte)) }
+pub fn lengthen(leaf: &mut Leaf, byte: u8, at: usize) -> Result<(), ParseError>
+    ensures ok { OnOk result (open_of (Some leaf.new) ≡ with_byte (open_of (Some leaf.old)) byte) }
+    ensures right { OnOk result (byte_fault (open_of (Some leaf.old)) true byte ≡ None) }
+    ensures err { IfErr result (λ error. IsAt error at (byte_fault (open_of (Some leaf.old)) true byte)) }
 {
     match leaf {
         Leaf::Number(number) => {
             demand(byte.is_ascii_digit(), at, Fault::Operator)?;
-            let longer = appended(number, u64::from(byte - b'0'));
-            Ok(Leaf::Number(longer.ok_or(syntax(at, Fault::Number))?))
+            let longer = appended(*number, u64::from(byte - b'0'));
+            *number = longer.ok_or(syntax(at, Fault::Number))?;
         }
-        Leaf::Name(mut name) => {
-            name.push(byte).map_err(|_| ParseError::Memory)?;
-            Ok(Leaf::Name(name))
-        }
+        Leaf::Name(name) => name.push(byte).map_err(|_| ParseError::Memory)?,
     }
+    Ok(())
 }
 
 // The number with one digit more, where it fits.

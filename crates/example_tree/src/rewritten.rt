@@ -20,5 +20,6 @@ pub fn rewritten(alloc: Global, line: &[u8]) -> Result<String, ParseError>
 {
     let mut tree = parse(alloc, line)?;
     flatten(alloc, &mut tree.nodes, tree.root)?;
-    Ok(printed(alloc, &tree.nodes, tree.root)?)
+    // The text is about as long as the line, and a line feed follows.
+    Ok(printed(alloc, &tree.nodes, tree.root, line.len() + 1)?)
 }

@@ -1,6 +1,10 @@
 //! Answers the script on standard input, a line each, on standard output.
 #![tactic(auto)]
 
+ghost use Rattle.std.specs.Prelude.{◌≡◌, ◌↔◌, IsTrue};
+ghost use Rattle.std.specs.IoError.{error_kind};
+ghost use Rattle.std.specs.declared.io.Error.{Error as IoError};
+
 use std::io::ErrorKind;
 use std::process::ExitCode;
 use tinyvec_io::Counted;
@@ -20,9 +24,12 @@ fn main(rt: HostRuntime) -> ExitCode {
 }
 
 // Nobody reads the output any more.
-fn is_closed_pipe(error: &RunError) -> bool {
+fn is_closed_pipe(error: &RunError) -> bool
+    ensures { IsTrue result
+        ↔ ((fault : IoError) × (error.now ≡ RunError.Write fault) × (error_kind fault ≡ ErrorKind.BrokenPipe)) }
+{
     match error {
-        RunError::Write(error) => error.kind() == ErrorKind::BrokenPipe,
+        RunError::Write(fault) => fault.kind() == ErrorKind::BrokenPipe,
         _ => false,
     }
 }

@@ -1,5 +1,5 @@
-use Rattle.std.proofs.Common.{◌≡◌, [], codes, rules}
-use Rattle.example_records.specs.Commands.{word_of}
+use Rattle.std.proofs.Common.{◌≡◌, [], IfErr, codes, rules, subst₂, sym}
+use Rattle.example_records.specs.Commands.{Tells, rest_of, word_of}
 use Rattle.example_records.specs.Commands.Command.{Add, Hex, Cut}
 use Rattle.example_records.proofs.command.obey.Goals as goal
 
@@ -17,3 +17,9 @@ pub returns-in-cut-clause-unknown : goal.returns-in-cut-clause-unknown
 returns-in-cut-clause-unknown c =
     let word : word_of c.args.text.now ≡ codes "cut" = search rules in
     λ none. absurd (none (Cut 0, word))
+
+pub returns-in-add-clause-tells : goal.returns-in-add-clause-tells
+returns-in-add-clause-tells c =
+    let word : word_of c.args.text.now ≡ codes "add" = search rules in
+    let rest : c.first_word.result.1.now ≡ rest_of c.args.text.now = search rules in
+    subst₂ (λ first behind. IfErr c.add.result (Tells first behind)) (sym word) rest c.add.ensures.tells

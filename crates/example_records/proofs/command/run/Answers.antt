@@ -1,6 +1,6 @@
-use Rattle.std.proofs.Common.{◌≡◌, IsUtf8, rules, subst, sym}
+use Rattle.std.proofs.Common.{◌≡◌, IfErr, IsUtf8, rules, subst, sym}
 use Rattle.tinyvec_borsh.proofs.Outcomes.{on-ok}
-use Rattle.example_records.specs.Commands.{Says, rest_of, word_of}
+use Rattle.example_records.specs.Commands.{Says, Tells, rest_of, word_of}
 use Rattle.example_records.proofs.command.run.Goals as goal
 
 pub returns-in-Ok-clause-answers : goal.returns-in-Ok-clause-answers
@@ -13,3 +13,8 @@ returns-in-Ok-clause-answers c =
       is_command = on-ok c.obey.result (λ said. (said.0, (text, subst (λ text. Says (word_of text) (rest_of text) (said.0)) same said.1))) answers.is_command;
       refused = answers.refused;
     }
+
+pub returns-in-Ok-clause-tells : goal.returns-in-Ok-clause-tells
+returns-in-Ok-clause-tells c =
+    let same : c.in-Ok.text.now ≡ c.args.line.now = search rules in
+    λ _. subst (λ text. IfErr c.obey.result (Tells (word_of text) (rest_of text))) same c.obey.ensures.tells

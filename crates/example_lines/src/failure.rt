@@ -3,22 +3,24 @@ ghost use Rattle.std.specs.Prelude.{◌≡◌, ◌↔◌, IsTrue};
 ghost use Rattle.std.specs.IoError.{error_kind};
 ghost use Rattle.std.specs.declared.io.Error.{Error as IoError};
 
-use std::alloc::AllocError;
 use std::io::{self, ErrorKind};
 use thiserror::Error;
 
-/// Why the program ends before its input does.
+/// Why a program ends before its input does.
 #[derive(Debug, Drop, Error)]
 pub enum Failure {
-    /// A line was not read.
+    /// The reader reported a fault.
     #[error("cannot read input: {0}")]
     Input(io::Error),
-    /// An answer was not written.
+    /// Memory was refused for a line, or for its answer.
+    #[error("cannot answer a line: out of memory")]
+    Memory,
+    /// `u64::MAX` pieces were read, and the input goes on.
+    #[error("cannot read input: too long")]
+    TooLong,
+    /// The writer reported a fault.
     #[error("cannot write output: {0}")]
     Output(io::Error),
-    /// Memory was refused.
-    #[error("cannot print an answer: out of memory")]
-    Memory(#[from(alloc)] AllocError),
 }
 
 impl Failure {

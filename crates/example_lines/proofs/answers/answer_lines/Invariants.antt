@@ -1,0 +1,16 @@
+use Rattle.std.proofs.Common.{◌≤◌, List, ℕ, length}
+use Rattle.std.specs.Io.KnownBytes.{Appends, Consumes}
+use Rattle.example_lines.specs.Answers.{AnswersUpTo}
+use Rattle.example_lines.proofs.answers.answer_lines.Given as goal
+
+-- what was read so far, and what was written for it
+abbrev pub invariant-loop-piece : goal.invariant-loop-piece
+invariant-loop-piece g l = record {
+  so_far : (input : List ℕ) × (output : List ℕ)
+      × Consumes (g.R.Read.remaining l.fn.reader.inner) (g.R.Read.remaining l.reader.inner) input
+      × Appends (g.W.Write.contents l.fn.writer.inner) (g.W.Write.contents l.writer.inner) output
+      × AnswersUpTo g.A.Answer.IsAnswer l.fn.program input output l.line.items l.program
+      × (l._piece ≤ length input);
+  read_grows : l.fn.reader.faults ≤ l.reader.faults;
+  write_grows : l.fn.writer.faults ≤ l.writer.faults;
+}

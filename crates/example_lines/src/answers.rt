@@ -1,0 +1,231 @@
+//! A text that is answered line by line.
+ghost use Rattle.std.specs.Prelude.{◌≡◌, ◌⊎◌, ◌≤◌, ◌-◌, ◌^◌, ◌++◌, ◌∷◌, [], List, ℕ, length, IfOk, OnOk, IsErrOf, map, string_bytes};
+ghost use Rattle.std.specs.Io.KnownBytes.{Appends, Consumes, IsAtEnd, Keeps};
+ghost use Rattle.std.specs.Str.Lines.{strip_carriage_return};
+ghost use Rattle.tinyvec_io.specs.Counted.{AppendsFront, Reported};
+ghost use Rattle.tinyvec_io.specs.Lines.{last_line};
+ghost use Rattle.example_lines.specs.Answers.{Advances, AdvancesSome, AnsweredSome, AnswersEach, AnswersUpTo, IsAnswered};
+ghost use Rattle.std.specs.declared.io.Error.{Error as IoError};
+
+use crate::failure::Failure;
+use std::alloc::{AllocError, Global};
+use std::io::{Read, Write};
+use tinyvec_io::Counted;
+
+// How many bytes are read at a time.
+const CHUNK: usize = 4096;
+
+/// What answers lines, one after another.
+pub trait Answer {
+    // What it is before a line, the line, the answer, and what it is after it.
+    ghost IsAnswer: { Self → List ℕ → List ℕ → Self → Type 0 };
+
+    /// The answer to a line. The one error is that memory was refused.
+    fn answer(&mut self, alloc: Global, line: &[u8]) -> Result<String, AllocError>
+        ensures { IfOk result (λ text. IsAnswer self.old line.now (string_bytes text) self.new) };
+}
+
+/// Answers each line of the input. The answers to the lines that have come are written before more is waited for.
+pub fn answer_lines<A: Answer, R: Read, W: Write>(
+    alloc: Global,
+    program: &mut A,
+    reader: &mut Counted<R>,
+    writer: &mut Counted<W>,
+) -> Result<(), Failure>
+    // All was read, and each line was answered.
+    ensures ok { OnOk result ((input output : List ℕ)
+        × Consumes (R.remaining reader.old.inner) (R.remaining reader.new.inner) input
+        × IsAtEnd (R.remaining reader.new.inner)
+        × Appends (W.contents writer.old.inner) (W.contents writer.new.inner) output
+        × IsAnswered A.IsAnswer program.old input output program.new) }
+
+    // Each line that came whole before the fault was answered.
+    ensures input { (error : IoError) → IsErrOf result (Failure.Input error) → (input output line : List ℕ)
+        × Consumes (R.remaining reader.old.inner) (R.remaining reader.new.inner) input
+        × Appends (W.contents writer.old.inner) (W.contents writer.new.inner) output
+        × AnswersUpTo A.IsAnswer program.old input output line program.new }
+    ensures input_fault { (error : IoError) → IsErrOf result (Failure.Input error)
+        → Reported reader.old.faults reader.new.faults }
+
+    // So was each line before the one that memory was refused for, of which some was read and not taken.
+    ensures memory { IsErrOf result Failure.Memory → (input left output line : List ℕ)
+        × Consumes (R.remaining reader.old.inner) (R.remaining reader.new.inner) (input ++ left)
+        × Appends (W.contents writer.old.inner) (W.contents writer.new.inner) output
+        × AnsweredSome A.IsAnswer program.old input output line }
+
+    // What was written is a front of the answers.
+    ensures output { (error : IoError) → IsErrOf result (Failure.Output error) → (input left output line : List ℕ)
+        × Consumes (R.remaining reader.old.inner) (R.remaining reader.new.inner) (input ++ left)
+        × AppendsFront (W.contents writer.old.inner) (W.contents writer.new.inner) output
+        × (AnswersUpTo A.IsAnswer program.old input output line program.new
+        ⊎ IsAnswered A.IsAnswer program.old input output program.new) }
+    ensures output_fault { (error : IoError) → IsErrOf result (Failure.Output error)
+        → Reported writer.old.faults writer.new.faults }
+
+    // So long an input is not read on.
+    ensures too_long { IsErrOf result Failure.TooLong → (input output line : List ℕ)
+        × Consumes (R.remaining reader.old.inner) (R.remaining reader.new.inner) input
+        × (2 ^ 64 - 1 ≤ length input)
+        × Appends (W.contents writer.old.inner) (W.contents writer.new.inner) output
+        × AnswersUpTo A.IsAnswer program.old input output line program.new }
+{
+    let mut line = Vec::new(alloc);
+    let mut chunk = [0; CHUNK];
+    for _piece in 0..u64::MAX {
+        flush(writer)?;
+        let count = match reader.read_some(&mut chunk) {
+            Ok(count) => count,
+            Err(error) => return Err(Failure::Input(error)),
+        };
+        if count == 0 {
+            return finish(alloc, program, line.as_slice(), writer);
+        }
+        answer_chunk(alloc, program, &mut line, &chunk[..count], writer)?;
+    }
+    Err(Failure::TooLong)
+}
+
+// Takes bytes of the input, and answers the lines that they end.
+fn answer_chunk<A: Answer, W: Write>(
+    alloc: Global,
+    program: &mut A,
+    line: &mut Vec<u8>,
+    bytes: &[u8],
+    writer: &mut Counted<W>,
+) -> Result<(), Failure>
+    ensures ok { OnOk result ((said : List ℕ) × Appends (W.contents writer.old.inner) (W.contents writer.new.inner) said
+        × Advances A.IsAnswer program.old line.old.items bytes.now said line.new.items program.new) }
+    ensures memory { IsErrOf result Failure.Memory → (front rest said next : List ℕ) × (bytes.now ≡ front ++ rest)
+        × Appends (W.contents writer.old.inner) (W.contents writer.new.inner) said
+        × AdvancesSome A.IsAnswer program.old line.old.items front said next }
+    ensures output { (error : IoError) → IsErrOf result (Failure.Output error)
+        → (front rest said next : List ℕ) × (bytes.now ≡ front ++ rest)
+        × AppendsFront (W.contents writer.old.inner) (W.contents writer.new.inner) said
+        × Advances A.IsAnswer program.old line.old.items front said next program.new }
+    ensures no_input { (error : IoError) → IsErrOf result (Failure.Input error) → ⊥ }
+    ensures not_long { IsErrOf result Failure.TooLong → ⊥ }
+    ensures faults_grow { writer.old.faults ≤ writer.new.faults }
+    ensures output_fault { (error : IoError) → IsErrOf result (Failure.Output error)
+        → Reported writer.old.faults writer.new.faults }
+{
+    for byte in bytes {
+        answer_byte(alloc, program, line, *byte, writer)?;
+    }
+    Ok(())
+}
+
+// Takes a byte of the input, and answers the line that it ends. If memory is refused, nothing was written.
+fn answer_byte<A: Answer, W: Write>(
+    alloc: Global,
+    program: &mut A,
+    line: &mut Vec<u8>,
+    byte: u8,
+    writer: &mut Counted<W>,
+) -> Result<(), Failure>
+    ensures ok { OnOk result ((said : List ℕ) × Appends (W.contents writer.old.inner) (W.contents writer.new.inner) said
+        × Advances A.IsAnswer program.old line.old.items (byte ∷ []) said line.new.items program.new) }
+    ensures memory { IsErrOf result Failure.Memory → Keeps (W.contents writer.old.inner) (W.contents writer.new.inner) }
+    ensures output { (error : IoError) → IsErrOf result (Failure.Output error) → (said : List ℕ)
+        × AppendsFront (W.contents writer.old.inner) (W.contents writer.new.inner) said
+        × Advances A.IsAnswer program.old line.old.items (byte ∷ []) said [] program.new }
+    ensures no_input { (error : IoError) → IsErrOf result (Failure.Input error) → ⊥ }
+    ensures not_long { IsErrOf result Failure.TooLong → ⊥ }
+    ensures faults_grow { writer.old.faults ≤ writer.new.faults }
+    ensures output_fault { (error : IoError) → IsErrOf result (Failure.Output error)
+        → Reported writer.old.faults writer.new.faults }
+{
+    if byte != b'\n' {
+        return match line.push(byte) {
+            Ok(()) => Ok(()),
+            Err(_) => Err(Failure::Memory),
+        };
+    }
+    match answer_line(alloc, program, line.as_slice(), writer) {
+        Ok(()) => {
+            line.clear();
+            Ok(())
+        }
+        Err(failure) => Err(failure),
+    }
+}
+
+// Writes the answer to a line, of which a carriage return at its end is no part. If memory is refused, nothing was written.
+fn answer_line<A: Answer, W: Write>(
+    alloc: Global,
+    program: &mut A,
+    line: &[u8],
+    writer: &mut Counted<W>,
+) -> Result<(), Failure>
+    ensures ok { OnOk result ((text : List ℕ) × Appends (W.contents writer.old.inner) (W.contents writer.new.inner) text
+        × A.IsAnswer program.old (strip_carriage_return line.now) text program.new) }
+    ensures memory { IsErrOf result Failure.Memory → Keeps (W.contents writer.old.inner) (W.contents writer.new.inner) }
+    ensures output { (error : IoError) → IsErrOf result (Failure.Output error) → (text : List ℕ)
+        × AppendsFront (W.contents writer.old.inner) (W.contents writer.new.inner) text
+        × A.IsAnswer program.old (strip_carriage_return line.now) text program.new }
+    ensures no_input { (error : IoError) → IsErrOf result (Failure.Input error) → ⊥ }
+    ensures not_long { IsErrOf result Failure.TooLong → ⊥ }
+    ensures faults_grow { writer.old.faults ≤ writer.new.faults }
+    ensures output_fault { (error : IoError) → IsErrOf result (Failure.Output error)
+        → Reported writer.old.faults writer.new.faults }
+{
+    let Ok(text) = program.answer(alloc, strip_return(line)) else {
+        return Err(Failure::Memory);
+    };
+    match writer.write_all(text.as_bytes()) {
+        Ok(()) => Ok(()),
+        Err(error) => Err(Failure::Output(error)),
+    }
+}
+
+// The line, without a carriage return at its end.
+fn strip_return(line: &[u8]) -> &[u8]
+    ensures { result.now ≡ strip_carriage_return line.now }
+{
+    match line.strip_suffix(b"\r") {
+        Some(stripped) => stripped,
+        None => line,
+    }
+}
+
+// Answers the last line, if it has bytes.
+fn finish<A: Answer, W: Write>(
+    alloc: Global,
+    program: &mut A,
+    line: &[u8],
+    writer: &mut Counted<W>,
+) -> Result<(), Failure>
+    ensures ok { OnOk result ((output : List ℕ) × Appends (W.contents writer.old.inner) (W.contents writer.new.inner) output
+        × AnswersEach A.IsAnswer program.old (map strip_carriage_return (last_line line.now)) output program.new) }
+    ensures memory { IsErrOf result Failure.Memory → Keeps (W.contents writer.old.inner) (W.contents writer.new.inner) }
+    ensures output { (error : IoError) → IsErrOf result (Failure.Output error) → (output : List ℕ)
+        × AppendsFront (W.contents writer.old.inner) (W.contents writer.new.inner) output
+        × AnswersEach A.IsAnswer program.old (map strip_carriage_return (last_line line.now)) output program.new }
+    ensures no_input { (error : IoError) → IsErrOf result (Failure.Input error) → ⊥ }
+    ensures not_long { IsErrOf result Failure.TooLong → ⊥ }
+    ensures faults_grow { writer.old.faults ≤ writer.new.faults }
+    ensures output_fault { (error : IoError) → IsErrOf result (Failure.Output error)
+        → Reported writer.old.faults writer.new.faults }
+{
+    if line.is_empty() {
+        return flush(writer);
+    }
+    match answer_line(alloc, program, line, writer) {
+        Ok(()) => flush(writer),
+        Err(failure) => Err(failure),
+    }
+}
+
+fn flush<W: Write>(writer: &mut Counted<W>) -> Result<(), Failure>
+    ensures bytes { Keeps (W.contents writer.old.inner) (W.contents writer.new.inner) }
+    ensures memory { IsErrOf result Failure.Memory → ⊥ }
+    ensures no_input { (error : IoError) → IsErrOf result (Failure.Input error) → ⊥ }
+    ensures not_long { IsErrOf result Failure.TooLong → ⊥ }
+    ensures faults_grow { writer.old.faults ≤ writer.new.faults }
+    ensures output_fault { (error : IoError) → IsErrOf result (Failure.Output error)
+        → Reported writer.old.faults writer.new.faults }
+{
+    match writer.flush() {
+        Ok(()) => Ok(()),
+        Err(error) => Err(Failure::Output(error)),
+    }
+}
