@@ -35,6 +35,8 @@ impl<A: Array> OwnsItems for ArrayVec<A> {
     where
         A::Item: Clone,
     {
+        // Tells the proof that a part of the list fits an array.
+        let _len = self.len();
         let mut vec = ArrayVec::new();
         vec.extend_from_slice(part)?;
         Ok(vec)

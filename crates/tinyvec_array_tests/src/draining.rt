@@ -1,6 +1,5 @@
 //! Drains that are never dropped.
 use std::mem;
-use std::test::Fail;
 use tinyvec_array::ArrayVec;
 
 /// One that leaves its items in the list would pass the check: no clause says what a drain leaves that is never dropped.

@@ -1,7 +1,7 @@
 //! What refused calls return, as text.
-use TryFromSliceError::{Memory, TooLong};
 use std::test::Fail;
-use tinyvec_array::{CapacityError, FromIterRest, NoMemory, NoRoom, SpliceRest, TryFromSliceError};
+use tinyvec_array::TryFromSliceError::{Memory, TooLong};
+use tinyvec_array::{CapacityError, FromIterRest, NoMemory, NoRoom, SpliceRest};
 use tinyvec_test_items::{all_right, first, is_debugged, is_shown};
 
 /// Another text would pass the check: no clause says what a derived text is.

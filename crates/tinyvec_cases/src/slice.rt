@@ -3,7 +3,6 @@ ghost use Rattle.tinyvec_slice.specs.Drain.{DrainCanStep};
 
 use crate::held::Copies;
 use crate::vector::Vector;
-use std::fmt::Write;
 use tinyvec::{GenericSliceVecDrain, Lent, NoRoom, SliceVec};
 use tinyvec_rows::{
     Item, Span, Wrong, done, is_within, say, say_all, say_hint, say_rest, say_slots,

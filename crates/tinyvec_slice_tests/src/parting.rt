@@ -1,5 +1,4 @@
 //! Lists parted by `split_off`, of which no clause says what the owner sees.
-use std::test::Fail;
 use tinyvec_slice::SliceVec;
 use tinyvec_test_items::lent::holds;
 
