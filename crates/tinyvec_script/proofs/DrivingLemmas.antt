@@ -16,8 +16,9 @@ use Rattle.tinyvec_slots.specs.declared.no_room.SpliceRest.{SpliceRest}
 use Rattle.tinyvec_slots.proofs.EndsLemmas.{RunsWord-front, RunsWord-back, items_given, given_is_taken}
 use Rattle.tinyvec_slots.proofs.Lists.{length-slice_range}
 use Rattle.tinyvec_slots.proofs.AnySpliceLemmas.{spliced_len, spliced_all, spliced_refused}
-use Rattle.tinyvec.specs.TinyVec.{tiny_capacity, PlaceRule, SameFrame}
-use Rattle.tinyvec.specs.Room.{KeepsRoom, GrowsInSteps}
+use Rattle.tinyvec.specs.TinyVec.{tiny_capacity, tiny_view, PlaceRule, SameFrame}
+use Rattle.tinyvec.specs.View.{ViewGrowsInSteps}
+use Rattle.tinyvec.specs.Room.{KeepsRoom}
 use Rattle.tinyvec.specs.declared.tiny_vec.TinyVec.{TinyVec}
 use Rattle.tinyvec_script.specs.Driving.{letter, word_of, TakesAt, refused_items, ListSplices, SpliceComputes, unplaced_from, unplaced_to}
 use Rattle.tinyvec_script.specs.declared.call.Answer.{Answer}
@@ -71,7 +72,7 @@ module _ {A T : Type 0} (slots need : ℕ) (old mid new : TinyVec A T) (frame : 
   pub room_framed : KeepsRoom slots need mid new → KeepsRoom slots need old new
   room_framed h within = h (omega (arith, within, frame.capacity slots)) ∙ frame.capacity slots
 
-  pub grown_framed : GrowsInSteps slots mid new → GrowsInSteps slots old new
+  pub grown_framed : ViewGrowsInSteps slots (tiny_view mid) (tiny_view new) → ViewGrowsInSteps slots (tiny_view old) (tiny_view new)
   grown_framed h more = h (omega (arith, more, frame.capacity slots))
 
   pub capacity_framed : tiny_capacity slots mid ≤ tiny_capacity slots new → tiny_capacity slots old ≤ tiny_capacity slots new
