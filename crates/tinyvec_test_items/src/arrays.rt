@@ -1,7 +1,6 @@
 //! Steps of an `ArrayVec`.
 use crate::steps::answers;
-use std::alloc::AllocError;
-use tinyvec_array::{Array, ArrayVec, FromIterRest, NoMemory};
+use tinyvec_array::{Array, ArrayVec, FromIterRest};
 
 /// Whether these are the items, and these the spare slots after them.
 pub fn holds<A: Array>(v: &ArrayVec<A>, items: &[A::Item], spare: &[A::Item]) -> bool
@@ -39,66 +38,6 @@ where
     A::Item: PartialEq,
 {
     v.try_push(item).is_none() & holds(v, items, spare)
-}
-
-/// Whether `clone_from` answers this, and leaves this.
-pub fn clones_over<A: Array>(
-    v: &mut ArrayVec<A>,
-    source: &ArrayVec<A>,
-    answer: Result<(), AllocError>,
-    items: &[A::Item],
-    spare: &[A::Item],
-) -> bool
-where
-    A::Item: Clone + PartialEq,
-{
-    (v.clone_from(source) == answer) & holds(v, items, spare)
-}
-
-/// Whether there is room for clones of these, and `extend_from_slice` answers this and leaves this.
-pub fn extends_by_clones<A: Array>(
-    v: &mut ArrayVec<A>,
-    source: &[A::Item],
-    answer: Result<(), AllocError>,
-    items: &[A::Item],
-    spare: &[A::Item],
-) -> bool
-where
-    A::Item: Clone + PartialEq,
-{
-    source.len() <= v.capacity().saturating_sub(v.len())
-        && (v.extend_from_slice(source) == answer) & holds(v, items, spare)
-}
-
-/// Whether there are this many slots, and `resize` answers this and leaves this.
-pub fn resizes<A: Array>(
-    v: &mut ArrayVec<A>,
-    len: usize,
-    item: A::Item,
-    answer: Result<(), NoMemory<A::Item>>,
-    items: &[A::Item],
-    spare: &[A::Item],
-) -> bool
-where
-    A::Item: Clone + PartialEq,
-{
-    len <= v.capacity() && (v.resize(len, item) == answer) & holds(v, items, spare)
-}
-
-/// Whether `fill` leaves this, and an iterator that answers so next.
-pub fn fills<A: Array, I: Iterator<Item = A::Item> + Drop>(
-    v: &mut ArrayVec<A>,
-    iter: I,
-    next: Option<A::Item>,
-    items: &[A::Item],
-    spare: &[A::Item],
-) -> bool
-where
-    A::Item: PartialEq,
-    requires { (s : I) → I.can_next s }
-{
-    let mut rest = v.fill(iter);
-    (rest.next() == next) & holds(v, items, spare)
 }
 
 /// Whether all items of an iterator find room, and leave this.

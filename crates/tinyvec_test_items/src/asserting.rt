@@ -3,7 +3,7 @@
 //! stop is in the macro, where it names the line of the test.
 
 use std::alloc::{AllocError, Global};
-use std::fmt::{Debug, Display};
+use std::fmt::Debug;
 
 /// Asserts that `{:?}` writes a value so: `assert_debugs!(rt; v, "[1, 2]")`. It may end by a refusal of memory.
 #[macro_export]
@@ -16,11 +16,6 @@ macro_rules! assert_debugs {
 /// Whether this is the wanted value, as `Some`.
 pub fn same_value<T: PartialEq + Drop>(value: T, wanted: T) -> Option<()> {
     if value == wanted { Some(()) } else { None }
-}
-
-/// Whether `{}` writes the value so, as `Some`.
-pub fn shows<T: Display>(alloc: Global, value: &T, text: &str) -> Result<Option<()>, AllocError> {
-    Ok(same_value(format!(in alloc; "{value}")?.as_str(), text))
 }
 
 /// Whether `{:?}` writes the value so, as `Some`.

@@ -10,47 +10,6 @@ pub fn holds<T: PartialEq + Drop>(v: &SliceVec<'_, T>, items: &[T], spare: &[T])
     count & room & parts & slots.starts_with(items) & slots.ends_with(spare)
 }
 
-/// Whether the last item, or none, is taken out and leaves this.
-pub fn pops<T: PartialEq + Default + Drop>(
-    v: &mut SliceVec<'_, T>,
-    item: Option<T>,
-    items: &[T],
-    spare: &[T],
-) -> bool {
-    (v.pop() == item) & holds(v, items, spare)
-}
-
-/// Whether a cut to this length leaves this.
-pub fn truncates<T: PartialEq + Default + Drop>(
-    v: &mut SliceVec<'_, T>,
-    len: usize,
-    items: &[T],
-    spare: &[T],
-) -> bool {
-    v.truncate(len);
-    holds(v, items, spare)
-}
-
-/// Whether the emptied list leaves this.
-pub fn clears<T: PartialEq + Default + Drop>(v: &mut SliceVec<'_, T>, spare: &[T]) -> bool {
-    v.clear();
-    holds(v, &[], spare)
-}
-
-/// Whether there are this many slots, and the border after them leaves this.
-pub fn sets_len<T: PartialEq + Drop>(
-    v: &mut SliceVec<'_, T>,
-    len: usize,
-    items: &[T],
-    spare: &[T],
-) -> bool {
-    if len > v.capacity() {
-        return false;
-    }
-    v.set_len(len);
-    holds(v, items, spare)
-}
-
 /// Whether an item is written at an index of the list, and leaves this.
 pub fn writes<T: PartialEq + Drop>(
     v: &mut SliceVec<'_, T>,

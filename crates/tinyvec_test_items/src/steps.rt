@@ -2,7 +2,6 @@
 //! the first step that went wrong. Its proof takes a quarter of that of an assertion after each call.
 use std::fmt::{Debug, Display, InlineText, Write};
 use std::iter::ExactSizeIterator;
-use tinyvec_slots::{NoRoom, SpliceRest};
 
 /// The first step that went wrong, or 0.
 pub fn first(wrong: u32, step: u32, is_right: bool) -> u32 {
@@ -52,39 +51,6 @@ where
     requires { I.can_next iter.now }
 {
     iter.next() == *wanted
-}
-
-/// Whether an item found no room and came back, with what answers so next.
-pub fn refuses<T: PartialEq + Drop, I: Iterator<Item = T> + Drop>(
-    extended: Result<(), NoRoom<T, I>>,
-    item: T,
-    next: &[Option<T>],
-) -> bool
-    requires { (s : I) → I.can_next s }
-{
-    match extended {
-        Ok(()) => false,
-        Err(refused) => (refused.item == item) & answers(refused.rest, next),
-    }
-}
-
-/// The same of what a splice put in place of its range.
-pub fn splice_refuses<T: PartialEq + Drop, I: Iterator<Item = T> + Drop>(
-    finished: Result<(), SpliceRest<T, I>>,
-    item: T,
-    next: &[Option<T>],
-) -> bool
-    requires { (s : I) → I.can_next s }
-{
-    match finished {
-        Ok(()) => false,
-        Err(refused) => (refused.item == item) & answers(refused.rest, next),
-    }
-}
-
-/// Whether a call failed by this error.
-pub fn fails<T: Drop, E: PartialEq + Drop>(answer: Result<T, E>, error: E) -> bool {
-    answer.err() == Some(error)
 }
 
 /// Whether `{}` writes a value so, in up to 128 bytes.

@@ -60,21 +60,6 @@ where
     }
 }
 
-/// Whether a list is made of these items, inline before these spare slots.
-pub fn makes_before<A: Array>(
-    made: Result<TinyVec<A>, AllocError>,
-    items: &[A::Item],
-    spare: &[A::Item],
-) -> Option<bool>
-where
-    A::Item: PartialEq,
-{
-    match made {
-        Ok(v) => Some(lies_before(&v, items, spare)),
-        Err(AllocError) => refused(true),
-    }
-}
-
 // What stays or becomes inline asks for no memory.
 fn refused(inline: bool) -> Option<bool> {
     if inline { Some(false) } else { None }
