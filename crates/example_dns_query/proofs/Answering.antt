@@ -1,14 +1,13 @@
 -- A text that is read and answered line by line.
-use Rattle.std.proofs.Common.{◌≡◌, ◌≢◌, ◌∙◌, ℕ, ◌/◌, ◌%◌, ◌<◌, List, [], ◌∷◌, ◌++◌, map, length, take, drop, get_or, suc, take-append-drop, drop-cons, Option, Result, Ok, Err, OnOk, OnErr, ap, refl, sym, subst, arith, append_assoc, append-nil}
+use Rattle.std.proofs.Common.{◌≡◌, ◌≢◌, ◌∙◌, ℕ, ◌<◌, List, [], ◌∷◌, ◌++◌, map, length, take, drop, get_or, suc, take-append-drop, drop-cons, Option, Result, Ok, Err, OnOk, OnErr, ap, refl, sym, subst, arith, append_assoc, append-nil}
 use Rattle.std.specs.Str.Lines.{strip_carriage_return}
 use Rattle.std.proofs.lemmas.List.{map-append}
 use Rattle.std.proofs.lemmas.List.Elements.{All-nil}
 use Rattle.std.specs.Io.KnownBytes.{Appends}
-use Rattle.std.proofs.lemmas.Grind.{flat_map-append}
 use Rattle.tinyvec_io.specs.Counted.{AppendsFront}
 use Rattle.tinyvec_io.specs.Lines.{last_line, Splits}
 use Rattle.tinyvec_io.proofs.LineLemmas.{Splits-line, Splits-byte, Splits-ended}
-use Rattle.example_dns_query.specs.Answer.{Advances, AnswersEach, AnswersUpTo, IsAnswer, IsAnswered, digit_of, hex_of}
+use Rattle.example_dns_query.specs.Answer.{Advances, AnswersEach, AnswersUpTo, IsAnswer, IsAnswered}
 
 answers_then : (lines more : List (List ℕ)) (a b : List ℕ) → AnswersEach lines a → AnswersEach more b → AnswersEach (lines ++ more) (a ++ b)
 answers_then [] more a b first second = subst (AnswersEach more) (sym (ap (λ front. front ++ b) first)) second
@@ -46,14 +45,6 @@ pub around : (bytes : List ℕ) (i : ℕ) → i < length bytes → bytes ≡ (ta
 around bytes i inside =
     sym (take-append-drop i bytes) ∙ ap (λ rest. take i bytes ++ rest) (drop-cons bytes i 0 inside)
     ∙ sym (append_assoc (take i bytes) (get_or bytes i 0 ∷ []) (drop (suc i) bytes))
-
--- the digits of bytes, around those of one of them
-pub hex_around : (bytes : List ℕ) (i : ℕ) → i < length bytes
-    → hex_of bytes ≡ (hex_of (take i bytes) ++ hex_of (get_or bytes i 0 ∷ [])) ++ hex_of (drop (suc i) bytes)
-hex_around bytes i inside =
-    let two : ℕ → List ℕ = λ byte. digit_of (byte / 16) ∷ digit_of (byte % 16) ∷ [] in
-    ap hex_of (around bytes i inside) ∙ flat_map-append two (take i bytes ++ get_or bytes i 0 ∷ []) (drop (suc i) bytes)
-    ∙ ap (λ front. front ++ hex_of (drop (suc i) bytes)) (flat_map-append two (take i bytes) (get_or bytes i 0 ∷ []))
 
 -- at the beginning nothing has come
 pub nothing_yet : AnswersUpTo [] [] []

@@ -1,5 +1,5 @@
 //! The answer to a line.
-ghost use Rattle.std.specs.Prelude.{◌≡◌, ◌<◌, ◌≤◌, ◌++◌, ◌∷◌, [], List, ℕ, OnOk, OnErr, codes};
+ghost use Rattle.std.specs.Prelude.{◌≡◌, ◌<◌, ◌≤◌, ◌++◌, ◌∷◌, [], List, ℕ, OnOk, OnErr, codes, length};
 ghost use Rattle.std.specs.Io.KnownBytes.{Appends};
 ghost use Rattle.tinyvec_io.specs.Counted.{AppendsFront, Reported};
 ghost use Rattle.example_dns_query.specs.Answer.{IsAnswer, digit_of, hex_of};
@@ -7,6 +7,7 @@ ghost use Rattle.example_dns_query.specs.Answer.{IsAnswer, digit_of, hex_of};
 use crate::line::answer_line;
 use std::io::{self, Write};
 use tinyvec_io::Counted;
+use tinyvec_slice::SliceVec;
 
 // The hexadecimal digit of a number below 16.
 fn hex_digit(number: u8) -> u8
@@ -20,18 +21,21 @@ fn hex_digit(number: u8) -> u8
     }
 }
 
-// Writes two digits for each byte.
+// Writes two digits for each byte, all of them at once.
 fn write_hex<W: Write>(writer: &mut Counted<W>, bytes: &[u8]) -> io::Result<()>
+    requires { length bytes.now ≤ 512 }
     ensures ok { OnOk result (Appends (W.contents writer.old.inner) (W.contents writer.new.inner) (hex_of bytes.now)) }
     ensures front { OnErr result (AppendsFront (W.contents writer.old.inner) (W.contents writer.new.inner) (hex_of bytes.now)) }
     ensures faults_grow { writer.old.faults ≤ writer.new.faults }
     ensures fault { OnErr result (Reported writer.old.faults writer.new.faults) }
 {
+    let mut slots = [0; 1024];
+    let mut digits = SliceVec::from_slice_len(&mut slots, 0);
     for byte in bytes {
-        let digits = [hex_digit(*byte / 16), hex_digit(*byte % 16)];
-        writer.write_all(&digits)?;
+        digits.push(hex_digit(*byte / 16));
+        digits.push(hex_digit(*byte % 16));
     }
-    Ok(())
+    writer.write_all(digits.as_slice())
 }
 
 // Writes what is wrong with a line, and a line feed.
