@@ -14,7 +14,7 @@ pub struct Field {
     pub end: usize,
 }
 
-/// Splits a line at each separator, or answers `None` where it has more than eight fields.
+/// Splits a line at each separator, or answers `None` if it has more than eight fields.
 pub fn split(line: &[u8], separator: u8) -> Option<ArrayVec<[Field; 8]>>
     ensures fields { IfSome result (λ fields. map (bytes_of line.now) (items fields) ≡ parts separator line.now) }
     ensures in_line { IfSome result (λ fields. All (IsIn line.now) (items fields)) }
@@ -41,7 +41,7 @@ pub fn split(line: &[u8], separator: u8) -> Option<ArrayVec<[Field; 8]>>
     Some(fields)
 }
 
-/// The two sides of a line like `key=value`, or `None` where it has no `=` or more than one.
+/// The two sides of a line like `key=value`, or `None` if it has no `=` or more than one.
 pub fn key_and_value(line: &[u8]) -> Option<(&[u8], &[u8])>
     ensures parts { IfSome result (λ sides. parts 61 line.now ≡ sides.0.now ∷ sides.1.now ∷ []) }
     ensures joined { IfSome result (λ sides. line.now ≡ sides.0.now ++ 61 ∷ sides.1.now) }

@@ -10,7 +10,7 @@ module _ {S : Type 0} (IsAnswer : S → List ℕ → List ℕ → S → Type 0) 
   AnswersEach old [] text new = (text ≡ []) × (new ≡ old)
   AnswersEach old (line ∷ more) text new = (mid : S) × (first rest : List ℕ) × IsAnswer old line first mid × AnswersEach mid more rest new × (text ≡ first ++ rest)
 
-  -- The output answers each line of the input, in order. A line ends before a line feed, or at the end of the input where it
+  -- The output answers each line of the input, in order. A line ends before a line feed, or at the end of the input if it
   -- has bytes, and a carriage return at its end is no part of it.
   pub record IsAnswered (old : S) (input output : List ℕ) (new : S) : Type 0 where
     pub all : List (List ℕ)
@@ -24,7 +24,7 @@ module _ {S : Type 0} (IsAnswer : S → List ℕ → List ℕ → S → Type 0) 
     pub split : Splits input all line
     pub answers : AnswersEach old (map strip_carriage_return all) output new
 
-  -- after these bytes, for which this is said, `new` has come of the next line, where `old` had
+  -- after these bytes, for which this is said, `new` has come of the next line, if `old` had
   abbrev pub Advances : S → List ℕ → List ℕ → List ℕ → List ℕ → S → Type 0
   Advances before old bytes said new after =
       (start : S) (input output : List ℕ) → AnswersUpTo start input output old before → AnswersUpTo start (input ++ bytes) (output ++ said) new after

@@ -26,7 +26,7 @@ rest_of text = after_first (λ byte. eqb byte 32) text
 abbrev pub part_of : List ℕ → List ℕ
 part_of text = before_first (λ byte. eqb byte 44) text
 
--- the text after the first comma, where there is one
+-- the text after the first comma, if there is one
 abbrev pub behind_comma : List ℕ → Option (List ℕ)
 behind_comma text =
     if nat_lt (position_or_len (λ byte. eqb byte 44) text) (length text) then Some (after_first (λ byte. eqb byte 44) text) else None
@@ -36,7 +36,7 @@ pub record IsDecimal (text : List ℕ) (number : ℕ) : Type 0 where
   pub numeral : IsNumeral 10 (without_leading_plus text)
   pub value : digits_value 10 (without_leading_plus text) ≡ number
 
--- the text, where there is one, spells these numbers, with a comma between two
+-- the text, if there is one, spells these numbers, with a comma between two
 abbrev pub AreNumbers : Option (List ℕ) → List ℕ → Type 0
 AreNumbers None [] = Unit {0}
 AreNumbers None (number ∷ numbers) = ⊥
@@ -99,7 +99,7 @@ HasStation rest = (number : ℕ) × IsDecimal (word_of rest) number × (number <
 abbrev pub HasSamples : List ℕ → Type 0
 HasSamples rest = HasStation rest × ((samples : List ℕ) × AreSamples (word_of (rest_of rest)) samples)
 
--- The reason of a refusal, by the first word and what is after it. Memory is refused only where it is asked for: for what
+-- The reason of a refusal, by the first word and what is after it. Memory is refused only if it is asked for: for what
 -- is a record, or begins with a byte.
 abbrev pub Tells : (word rest : List ℕ) → CommandError → Type 0
 Tells word rest Text = ⊥
@@ -113,7 +113,7 @@ Tells word rest Memory = ((word ≡ codes "add") × HasSamples rest) ⊎ (((word
 
 -- ---- what they do
 
--- what a command answers: what was read, where it is to read
+-- what a command answers: what was read, if it is to read
 abbrev pub Answer : Type 0
 Answer = Result (Option Recovered) CommandError
 
@@ -122,7 +122,7 @@ abbrev pub IsOutOfMemory : (old new : List ℕ) → Answer → Type 0
 IsOutOfMemory old new answer = (answer ≡ Err Memory) × (new ≡ old)
 
 -- The records that are at the front of the stream were read, in order, and after them is what the end says.
--- Where such records are there, just these were read, and their end was told, as `Gives` has it of a reader with these faults.
+-- If such records are there, just these were read, and their end was told, as `Gives` has it of a reader with these faults.
 pub record IsRead (stream : List ℕ) (read : List Said) (end : Result (Unit {0}) StreamError) : Type 0 where
   pub stands : BeginsWith read (StandsBehind end) stream
   pub fit : AllByRecursion ReadingFits read

@@ -10,7 +10,7 @@ hex_value digit =
     else if nat_le 97 digit && nat_le digit 102 then Some (digit - 87)
     else None
 
--- the byte of two digits, where both are
+-- the byte of two digits, if both are
 abbrev pub byte_of : (high low : ℕ) → Option ℕ
 byte_of high low = option_map (λ values. values.0 * 16 + values.1) (option_zip (hex_value high) (hex_value low))
 
@@ -20,7 +20,7 @@ HasByte [] = ⊥
 HasByte (digit ∷ []) = ⊥
 HasByte (high ∷ low ∷ rest) = byte_of high low ≢ None
 
--- the bytes of a text, where it is pairs of digits
+-- the bytes of a text, if it is pairs of digits
 unfoldable pub bytes_of : List ℕ → Option (List ℕ)
 bytes_of [] = Some []
 bytes_of (digit ∷ []) = None

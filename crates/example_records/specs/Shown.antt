@@ -14,7 +14,7 @@ abbrev pub line_text : Said → Option (List ℕ) → Option (List ℕ)
 line_text c note =
     Some (decimal c.0) ++? (Some (codes " ") ++? (debug_list (λ n. Some (decimal n)) (c.1.0) ++? (Some (codes " ") ++? (note ++? Some (10 ∷ [])))))
 
--- The text shows the record: the note as text where it is, else as a list of bytes. Nothing is said of a note with a
+-- The text shows the record: the note as text if it is, else as a list of bytes. Nothing is said of a note with a
 -- character that is not in ASCII.
 pub record IsLineOf (c : Said) (text : List ℕ) : Type 0 where
   pub as_text : IsUtf8 (c.1.1) → IfSome (line_text c (debug_str (c.1.1))) (λ line. text ≡ line)
@@ -39,7 +39,7 @@ pub record IsShown (cs : List Said) (end : Result (Unit {0}) StreamError) (text 
 abbrev pub len_text : ℕ → List ℕ
 len_text len = if len == 1 then codes "1 byte" else decimal len ++ codes " bytes"
 
--- The text says what was answered, where the stream then has so many bytes. It ends with a line feed.
+-- The text says what was answered, if the stream then has so many bytes. It ends with a line feed.
 abbrev pub IsTextOf : Answer → (len : ℕ) → List ℕ → Type 0
 IsTextOf (Ok None) len text = text ≡ len_text len ++ 10 ∷ []
 IsTextOf (Ok (Some recovered)) len text = (shown : List ℕ) × IsShown (map said recovered.records.items) recovered.end shown × (text ≡ shown ++ 10 ∷ [])

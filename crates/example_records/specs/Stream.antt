@@ -34,7 +34,7 @@ pub record HasOtherTag (input : List ℕ) : Type 0 where
   pub other : byte ≢ tag
   pub whole : input ≡ byte ∷ rest
 
--- What is after the last record, where it is the input that ended the reading: no byte; a record that is cut after its
+-- What is after the last record, if it is the input that ended the reading: no byte; a record that is cut after its
 -- tag; another byte in the place of the tag; a record with more samples than there is room for.
 abbrev pub IsEnd : Result (Unit {0}) StreamError → List ℕ → Type 0
 IsEnd (Ok done) tail = tail ≡ []
@@ -44,7 +44,7 @@ IsEnd (Err TooManySamples) tail = IsTagged tag HasTooManySamples tail
 IsEnd (Err Io) tail = ⊥
 IsEnd (Err Memory) tail = ⊥
 
--- What is after the last record that was read. Of a fault of the reader nothing is known, and where memory was refused
+-- What is after the last record that was read. Of a fault of the reader nothing is known, and if memory was refused
 -- there is a further tag.
 abbrev pub StandsBehind : Result (Unit {0}) StreamError → List ℕ → Type 0
 StandsBehind (Err Io) tail = Unit {0}
@@ -72,8 +72,8 @@ Gives cs end before after read (Err Io) = AreFirst read cs × Reported before af
 Gives cs end before after read (Err Memory) = AreFirst read cs
 Gives cs end before after read told = (read ≡ cs) × (end ≡ told)
 
--- The records before the cut were read. The end is told as a clean one only where no byte is after them, and `Cut` only
--- where a record was cut.
+-- The records before the cut were read. The end is told as a clean one only if no byte is after them, and `Cut` only
+-- if a record was cut.
 abbrev pub GivesCut : List Said → (front : List ℕ) → (before after : ℕ) → List Said → Result (Unit {0}) StreamError → Type 0
 GivesCut cs front before after read (Ok done) = AreFirst read cs × SpellsStream read front
 GivesCut cs front before after read (Err Cut) = AreFirst read cs × BeginsWith read (IsTagged tag IsReadingCut) front

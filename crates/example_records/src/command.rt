@@ -21,7 +21,7 @@ use std::str;
 use tinyvec::{ArrayVec, TinyVec};
 use tinyvec_io::Counted;
 
-/// Carries out the command on a line. Answers what was read where the command is to read the stream or a copy of it.
+/// Carries out the command on a line. Answers what was read if the command is to read the stream or a copy of it.
 pub fn run(
     alloc: Global,
     line: &[u8],
@@ -171,7 +171,7 @@ fn cut(text: &str, stream: &mut Vec<u8>) -> Result<Option<Recovered>, CommandErr
     }
 }
 
-// Reads the stream, where no words follow the command.
+// Reads the stream, if no words follow the command.
 fn read(alloc: Global, rest: &str, stream: &[u8]) -> Result<Option<Recovered>, CommandError>
     ensures answers { Answers (Says (codes "read") rest.now) stream.now stream.now result }
     ensures tells { IfErr result (Tells (codes "read") rest.now) }
@@ -200,7 +200,7 @@ fn has_tag(stream: &[u8]) -> bool
     }
 }
 
-// Reads a new stream to which the records of this one were appended, where no words follow the command.
+// Reads a new stream to which the records of this one were appended, if no words follow the command.
 fn copy(alloc: Global, rest: &str, stream: &[u8]) -> Result<Option<Recovered>, CommandError>
     ensures answers { Answers (Says (codes "copy") rest.now) stream.now stream.now result }
     ensures tells { IfErr result (Tells (codes "copy") rest.now) }

@@ -8,7 +8,7 @@ use crate::reading::Reading;
 // The tag, the station and two counts.
 const FIXED_BYTES: u64 = 21;
 
-/// How many bytes the records take in a stream, or `u64::MAX` where they take more.
+/// How many bytes the records take in a stream, or `u64::MAX` if they take more.
 ///
 /// Of the records that were read of a stream that is cut it tells where the record begins that is cut.
 pub fn stream_len(readings: &[Reading]) -> u64

@@ -21,7 +21,7 @@ fn main(rt: HostRuntime) -> ExitCode {
         return ExitCode::SUCCESS;
     };
     if !failure.is_closed_pipe() {
-        // Where standard error fails too, there is nowhere left to say so.
+        // If standard error fails too, there is nowhere left to say so.
         let _ = eprintln!(rt; "example_records: {failure}");
     }
     ExitCode::FAILURE

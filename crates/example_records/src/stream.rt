@@ -45,7 +45,7 @@ pub fn append_all<W: Write>(readings: &[Reading], writer: &mut Counted<W>) -> Re
     Ok(())
 }
 
-/// Appends a record to a stream in memory. Where memory is refused, the stream is as it was.
+/// Appends a record to a stream in memory. If memory is refused, the stream is as it was.
 pub fn append_to(alloc: Global, reading: &Reading, stream: &mut Vec<u8>) -> Result<(), AllocError>
     ensures ok { OnOk result ((frame : List ℕ) × SpellsFrame (said reading.now) frame
         × ReadingFits (said reading.now) × (stream.new.items ≡ stream.old.items ++ frame)) }
@@ -64,7 +64,7 @@ pub fn append_to(alloc: Global, reading: &Reading, stream: &mut Vec<u8>) -> Resu
 pub struct Recovered {
     /// The records, in order.
     pub records: Vec<Reading>,
-    /// `Ok` where no byte follows them, else what follows, or why no more was read.
+    /// `Ok` if no byte follows them, else what follows, or why no more was read.
     pub end: Result<(), StreamError>,
 }
 
@@ -124,7 +124,7 @@ fn read_records<R: Read>(
     Ok(())
 }
 
-// Reads the next record, or none where no byte is left.
+// Reads the next record, or none if no byte is left.
 fn read_next<R: Read>(
     alloc: Global,
     reader: &mut Counted<R>,

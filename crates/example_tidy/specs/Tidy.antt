@@ -14,7 +14,7 @@ has_bytes bytes = not (length bytes == 0)
 abbrev pub words : List ℕ → List (List ℕ)
 words line = filter has_bytes (slice_split is_ascii_whitespace line)
 
--- the words of the line in lower case, each said once where it repeats the one before
+-- the words of the line in lower case, each said once if it repeats the one before
 abbrev pub normal_words : List ℕ → List (List ℕ)
 normal_words line = dedup bytes_eq (words (map to_ascii_lowercase line))
 
@@ -61,7 +61,7 @@ pub record TidiedUpTo (input output line : List ℕ) : Type 0 where
   pub split : Splits input all line
   pub says : output ≡ ended (map normal_line all)
 
--- after these bytes, for which this is said, `new` has come of the next line, where `old` had
+-- after these bytes, for which this is said, `new` has come of the next line, if `old` had
 abbrev pub Advances : List ℕ → List ℕ → List ℕ → List ℕ → Type 0
 Advances old bytes said new = (input output : List ℕ) → TidiedUpTo input output old → TidiedUpTo (input ++ bytes) (output ++ said) new
 

@@ -16,7 +16,7 @@ pub type LineText = TinyVec<[u8; 80]>;
 /// Lines that are to be written. Up to 4096 bytes of them are in the value.
 pub type Output = TinyVec<[u8; 4096]>;
 
-/// Appends the normal form of a line and a line feed. Where memory was refused, nothing was appended.
+/// Appends the normal form of a line and a line feed. If memory was refused, nothing was appended.
 #[tactic(auto, unfolding(crate::specs::Tidy::normal_line))]
 pub fn end_line(alloc: Global, line: &[u8], output: &mut Output) -> Result<(), AllocError>
     ensures ok { OnOk result (tiny_items output.new ≡ tiny_items output.old ++ (normal_line line.now ++ 10 ∷ [])) }

@@ -17,7 +17,7 @@ fn main(rt: HostRuntime) -> ExitCode {
         return ExitCode::SUCCESS;
     };
     if !error.is_closed_pipe() {
-        // Where standard error fails too, there is nowhere left to say so.
+        // If standard error fails too, there is nowhere left to say so.
         let _ = eprintln!(rt; "example_tidy: {error}");
     }
     ExitCode::FAILURE

@@ -44,7 +44,7 @@ pub(crate) fn feed(
     Ok(())
 }
 
-// Takes a byte of the text. Where memory was refused, nothing has changed.
+// Takes a byte of the text. If memory was refused, nothing has changed.
 fn feed_byte(
     alloc: Global,
     line: &mut LineText,
@@ -70,7 +70,7 @@ fn feed_byte(
     Ok(())
 }
 
-// Ends the last line, if it has bytes. Where memory was refused, nothing was appended.
+// Ends the last line, if it has bytes. If memory was refused, nothing was appended.
 pub(crate) fn end_text(alloc: Global, line: &[u8], output: &mut Output) -> Result<(), AllocError>
     ensures ok { OnOk result ((said : List ℕ) × (tiny_items output.new ≡ tiny_items output.old ++ said)
         × Ends line.now said) }

@@ -21,7 +21,7 @@ IsSaid said Memory = ⊤
 abbrev pub IsRight : List ℕ → Type 0
 IsRight text = (t : Tree) × (outcome text ≡ right t)
 
--- What is before this place begins a text that is right. With the byte at this place it begins none; where the text ends
+-- What is before this place begins a text that is right. With the byte at this place it begins none; if the text ends
 -- there, it is none.
 pub record FirstWrong (text : List ℕ) (at : ℕ) : Type 0 where
   pub inside : at ≤ length text
@@ -33,7 +33,7 @@ abbrev pub IsFirstWrong : List ℕ → ParseError → Type 0
 IsFirstWrong text (Syntax at fault) = FirstWrong text at
 IsFirstWrong text Memory = ⊤
 
--- where the text spells a sum, a number of it is too large
+-- if the text spells a sum, a number of it is too large
 abbrev pub IsOnlyLarge : List ℕ → ParseError → Type 0
 IsOnlyLarge text (Syntax at fault) = (sum : Sum) → words text ≡ sum_words sum → fault ≡ Number
 IsOnlyLarge text Memory = ⊤

@@ -86,7 +86,7 @@ abbrev mutual
   part_leaves (word l) = l ∷ []
   part_leaves (bracket s) = sum_leaves s
 
--- the value, where each name has one
+-- the value, if each name has one
 abbrev mutual
   pub sum_is : (List ℕ → ℤ) → Sum → ℤ
   sum_is names (term p) = product_is names p

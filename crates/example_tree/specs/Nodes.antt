@@ -32,7 +32,7 @@ form (Joined operation children) = form_by operation (tiny_items children)
 abbrev pub forms : List Node → List Form
 forms nodes = map form nodes
 
--- a leaf where there is no node
+-- a leaf if there is no node
 abbrev pub form_at : List Form → ℕ → Form
 form_at fs id = get_or fs id (leaf_form (number 0))
 
@@ -50,7 +50,7 @@ abbrev pub trees_of : (ℕ → Tree) → List ℕ → Trees
 trees_of tree [] = none
 trees_of tree (id ∷ ids) = more (tree id) (trees_of tree ids)
 
--- the tree of a node, where those of the nodes before it are known
+-- the tree of a node, if those of the nodes before it are known
 abbrev pub tree_of : (ℕ → Tree) → Form → Tree
 tree_of tree (leaf_form l) = leaf l
 tree_of tree (sum_form ids) = sum (trees_of tree ids)

@@ -68,7 +68,7 @@ with_last s last = record { outer = s.outer; inner = s.inner; operand = true; la
 abbrev pub deeper : State → State
 deeper s = record { outer = s.inner ∷ s.outer; inner = empty; operand = s.operand; last = s.last }
 
--- a closing bracket, where these groups are open
+-- a closing bracket, if these groups are open
 abbrev pub closed_in : List Group → State → State
 closed_in [] s = s
 closed_in (g ∷ gs) s = record { outer = gs; inner = with_factor g (group_tree s.inner); operand = s.operand; last = s.last }
@@ -119,7 +119,7 @@ letter_fault nothing operand = before_fault operand
 letter_fault (digits n) operand = Some Operator
 letter_fault (letters bytes) operand = None
 
--- of a closing bracket, where these groups are open
+-- of a closing bracket, if these groups are open
 abbrev pub bracket_fault : List Group → Option Fault
 bracket_fault [] = Some NotOpen
 bracket_fault (g ∷ gs) = None
@@ -127,7 +127,7 @@ bracket_fault (g ∷ gs) = None
 abbrev pub close_fault : State → Option Fault
 close_fault s = if s.operand then bracket_fault s.outer else Some Operand
 
--- of the end, where these groups are open
+-- of the end, if these groups are open
 abbrev pub open_fault : List Group → Option Fault
 open_fault [] = None
 open_fault (g ∷ gs) = Some NotClosed

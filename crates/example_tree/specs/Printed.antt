@@ -19,7 +19,7 @@ sign_text Product = 32 ∷ (42 ∷ (32 ∷ []))
 abbrev pub bracketed : List ℕ → List ℕ
 bracketed text = 40 ∷ (text ++ 41 ∷ [])
 
--- the text of a child, where its own is known: a sum or a product that is a factor is in brackets
+-- the text of a child, if its own is known: a sum or a product that is a factor is in brackets
 abbrev pub part_text : Operation → Tree → List ℕ → List ℕ
 part_text Sum t text = text
 part_text Product (leaf l) text = text

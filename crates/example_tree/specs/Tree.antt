@@ -27,12 +27,12 @@ abbrev mutual
   all_leaves none = []
   all_leaves (more t ts) = leaves t ++ all_leaves ts
 
--- the value of a leaf, where each name has a value
+-- the value of a leaf, if each name has a value
 abbrev pub leaf_value : (List ℕ → ℤ) → Leaf → ℤ
 leaf_value names (number n) = pos n
 leaf_value names (name x) = names x
 
--- the value of a tree, where each name has a value
+-- the value of a tree, if each name has a value
 abbrev mutual
   pub value : (List ℕ → ℤ) → Tree → ℤ
   value names (leaf l) = leaf_value names l

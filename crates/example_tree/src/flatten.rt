@@ -9,7 +9,7 @@ use crate::node::{Node, NodeId, Operation};
 use std::alloc::{AllocError, Global};
 use tinyvec::TinyVec;
 
-/// Writes each sum in a sum out, in the tree of one node and in each tree that is no sum. Where memory is refused, some sums are
+/// Writes each sum in a sum out, in the tree of one node and in each tree that is no sum. If memory is refused, some sums are
 /// not written out.
 ///
 /// A sum that is a child of a sum, and no part of these trees, stays as it is: written out, such sums take memory that grows with
@@ -105,7 +105,7 @@ fn sum_terms(alloc: Global, nodes: &[Node], id: NodeId) -> Result<TinyVec<[NodeI
     Ok(terms)
 }
 
-// Puts a list in the place of one child. Where memory is refused, nothing changes.
+// Puts a list in the place of one child. If memory is refused, nothing changes.
 fn replace_child(
     children: &mut TinyVec<[NodeId; 4]>,
     at: usize,

@@ -38,7 +38,7 @@ pub fn lengthen(leaf: &mut Leaf, byte: u8, at: usize) -> Result<(), ParseError>
     Ok(())
 }
 
-// The number with one digit more, where it fits.
+// The number with one digit more, if it fits.
 fn appended(number: u64, digit: u64) -> Option<u64>
     ensures fits { IsSome result ↔ (number * 10 + digit < 2 ^ 64) }
     ensures value { IfSome result (λ longer. longer ≡ number * 10 + digit) }

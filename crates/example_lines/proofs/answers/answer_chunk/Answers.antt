@@ -54,7 +54,7 @@ loop-byte-preserved g c =
         subst (λ read. Advances g.A.Answer.IsAnswer before old read (s.0 ++ f.0) new after) (sym (take_more bytes i 0 c.loop-byte-test.true))
             (advances_then g.A.Answer.IsAnswer before c.loop-byte.program after old c.loop-byte.line.items new (take i bytes) (get_or bytes i 0 ∷ []) s.0 f.0 s.2 f.2),
       );
-      grows = omega (arith, c.loop-byte.invariant.grows, c.in_ok-answer_byte.ensures.grows);
+      grows = omega (arith, c.loop-byte.invariant.grows, c.in_ok-answer_byte.ensures.faults_grow);
     }
 
 pub returns-clause-ok : goal.returns-clause-ok
