@@ -1,4 +1,3 @@
-pub mod Answering
 pub mod Faults
 pub mod LineFaults
 pub mod LineLemmas

@@ -1,8 +1,6 @@
--- What is written for a line, and for a text.
-use Rattle.std.specs.Prelude.{◌≡◌, ◌⊎◌, ℕ, ◌+◌, ◌/◌, ◌%◌, if◌then◌else◌, nat_lt, List, [], ◌∷◌, ◌++◌, map, codes}
+-- What is written for a line.
+use Rattle.std.specs.Prelude.{◌≡◌, ◌⊎◌, ℕ, ◌+◌, ◌/◌, ◌%◌, if◌then◌else◌, nat_lt, List, [], ◌∷◌, ◌++◌, codes}
 use Rattle.std.specs.List.{flat_map}
-use Rattle.std.specs.Str.Lines.{strip_carriage_return}
-use Rattle.tinyvec_io.specs.Lines.{Splits, last_line}
 use Rattle.example_dns_query.specs.Line.{AsksFor, HasLineFault}
 use Rattle.example_dns_query.specs.declared.line.LineError.{LineError}
 use Rattle.example_dns_query.specs.declared.line.LineError.TheVariants.{Words, Number, UnknownType, Query}
@@ -33,30 +31,7 @@ abbrev pub hex_of : List ℕ → List ℕ
 hex_of bytes = flat_map (λ byte. digit_of (byte / 16) ∷ digit_of (byte % 16) ∷ []) bytes
 
 -- the text is the message that the line asks for in hexadecimal, or says what is wrong with the line; it ends with a line feed
-abbrev pub IsAnswer : List ℕ → List ℕ → Type 0
-IsAnswer line text =
+abbrev pub AnswersLine : List ℕ → List ℕ → Type 0
+AnswersLine line text =
     ((message : List ℕ) × AsksFor line message × (text ≡ hex_of message ++ 10 ∷ []))
     ⊎ ((error : LineError) × HasLineFault line 512 error × (text ≡ codes "error: " ++ (line_error_text error ++ 10 ∷ [])))
-
--- the text is an answer for each line, in order
-abbrev pub AnswersEach : List (List ℕ) → List ℕ → Type 0
-AnswersEach [] text = text ≡ []
-AnswersEach (line ∷ more) text = (first rest : List ℕ) × IsAnswer line first × AnswersEach more rest × (text ≡ first ++ rest)
-
--- The output answers each line of the input, in order. A line ends before a line feed, or at the end of the input where it
--- has bytes, and a carriage return at its end is no part of it.
-pub record IsAnswered (input output : List ℕ) : Type 0 where
-  pub all : List (List ℕ)
-  pub rest : List ℕ
-  pub split : Splits input all rest
-  pub answers : AnswersEach (map strip_carriage_return (all ++ last_line rest)) output
-
--- The output answers the complete lines of the input, and this has come of the next line.
-pub record AnswersUpTo (input output line : List ℕ) : Type 0 where
-  pub all : List (List ℕ)
-  pub split : Splits input all line
-  pub answers : AnswersEach (map strip_carriage_return all) output
-
--- after these bytes, for which this is said, `new` has come of the next line, where `old` had
-abbrev pub Advances : List ℕ → List ℕ → List ℕ → List ℕ → Type 0
-Advances old bytes said new = (input output : List ℕ) → AnswersUpTo input output old → AnswersUpTo (input ++ bytes) (output ++ said) new

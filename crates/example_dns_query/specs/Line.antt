@@ -57,7 +57,7 @@ pub record Answers (line old new : List ℕ) (len : ℕ) : Type 0 where
   pub long : len ≡ length message
   pub written : new ≡ message ++ drop len old
 
--- what is wrong with a query for such a name, where the slice has room for this many bytes
+-- what is wrong with a query for such a name, if the slice has room for this many bytes
 abbrev pub HasFault : ℕ → List ℕ → RecordType → ℕ → QueryError → Type 0
 HasFault id name record_type room BadByte = All IsPrinted name → ⊥
 HasFault id name record_type room EmptyLabel = All IsPrinted name × (first_fault (labels_of name) ≡ Some EmptyLabel)
@@ -74,7 +74,7 @@ pub record AsksFaulty (line : List ℕ) (room : ℕ) (fault : QueryError) : Type
   pub asks : Asks line id name record_type
   pub faulty : HasFault id name record_type room fault
 
--- what is wrong with a line, where the slice has room for this many bytes
+-- what is wrong with a line, if the slice has room for this many bytes
 abbrev pub HasLineFault : List ℕ → ℕ → LineError → Type 0
 HasLineFault line room Words = length (words line) ≢ 3
 HasLineFault line room Number = (length (words line) ≡ 3) × (IsId (slice_index_or (words line) 0 []) → ⊥)

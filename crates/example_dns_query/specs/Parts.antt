@@ -6,7 +6,7 @@ use Rattle.std.specs.List.{slice_split}
 abbrev pub parts : ℕ → List ℕ → List (List ℕ)
 parts separator text = slice_split (λ byte. byte == separator) text
 
--- the parts that are left, where there may be no text
+-- the parts that are left, if there is a text
 abbrev pub parts_left : ℕ → Option (List ℕ) → List (List ℕ)
 parts_left separator None = []
 parts_left separator (Some text) = parts separator text

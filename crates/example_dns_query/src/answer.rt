@@ -1,70 +1,53 @@
 //! The answer to a line.
-ghost use Rattle.std.specs.Prelude.{◌≡◌, ◌<◌, ◌≤◌, ◌++◌, ◌∷◌, [], List, ℕ, OnOk, OnErr, codes};
-ghost use Rattle.std.specs.Io.KnownBytes.{Appends};
-ghost use Rattle.tinyvec_io.specs.Counted.{AppendsFront, Reported};
-ghost use Rattle.example_dns_query.specs.Answer.{IsAnswer, digit_of, hex_of};
+ghost use Rattle.std.specs.Prelude.{◌≡◌, ◌<◌, ◌∷◌, [], IfOk, encode_utf8, string_bytes};
+ghost use Rattle.example_dns_query.specs.Answer.{digit_of, hex_of};
 
 use crate::line::answer_line;
-use std::io::{self, Write};
-use tinyvec_io::Counted;
+use example_lines::Answer;
+use std::alloc::{AllocError, Global};
+
+/// Answers each line by the query that it asks for, in hexadecimal, or says why there is none.
+#[derive(Clone, Copy)]
+pub struct Encoder;
+
+impl Answer for Encoder {
+    ghost use Rattle.example_dns_query.specs.Answer.{AnswersLine};
+
+    ghost IsAnswer = { λ _ line text _. AnswersLine line text };
+
+    fn answer(&mut self, alloc: Global, line: &[u8]) -> Result<String, AllocError> {
+        let mut slice = [0; 512];
+        match answer_line(&mut slice, line) {
+            Ok(len) => {
+                let mut text = hex_text(alloc, &slice[..len])?;
+                text.push('\n')?;
+                Ok(text)
+            }
+            Err(error) => format!(in alloc; "error: {error}\n"),
+        }
+    }
+}
+
+// Two digits for each byte, with room for a line feed.
+fn hex_text(alloc: Global, bytes: &[u8]) -> Result<String, AllocError>
+    ensures { IfOk result (λ text. string_bytes text ≡ hex_of bytes.now) }
+{
+    let mut text = String::with_capacity(alloc, 2 * bytes.len() + 1)?;
+    for byte in bytes {
+        text.push(hex_digit(*byte / 16))?;
+        text.push(hex_digit(*byte % 16))?;
+    }
+    Ok(text)
+}
 
 // The hexadecimal digit of a number below 16.
-fn hex_digit(number: u8) -> u8
+fn hex_digit(number: u8) -> char
     requires { number < 16 }
-    ensures { result ≡ digit_of number }
+    ensures { encode_utf8 result ≡ digit_of number ∷ [] }
 {
     if number < 10 {
-        b'0' + number
+        char::from(b'0' + number)
     } else {
-        b'a' - 10 + number
-    }
-}
-
-// Writes two digits for each byte.
-fn write_hex<W: Write>(writer: &mut Counted<W>, bytes: &[u8]) -> io::Result<()>
-    ensures ok { OnOk result (Appends (W.contents writer.old.inner) (W.contents writer.new.inner) (hex_of bytes.now)) }
-    ensures front { OnErr result (AppendsFront (W.contents writer.old.inner) (W.contents writer.new.inner) (hex_of bytes.now)) }
-    ensures faults_grow { writer.old.faults ≤ writer.new.faults }
-    ensures fault { OnErr result (Reported writer.old.faults writer.new.faults) }
-{
-    for byte in bytes {
-        let digits = [hex_digit(*byte / 16), hex_digit(*byte % 16)];
-        writer.write_all(&digits)?;
-    }
-    Ok(())
-}
-
-// Writes what is wrong with a line, and a line feed.
-fn write_error<W: Write>(writer: &mut Counted<W>, text: &str) -> io::Result<()>
-    ensures ok { OnOk result (Appends (W.contents writer.old.inner) (W.contents writer.new.inner)
-        (codes "error: " ++ (text.now ++ 10 ∷ []))) }
-    ensures front { OnErr result (AppendsFront (W.contents writer.old.inner) (W.contents writer.new.inner)
-        (codes "error: " ++ (text.now ++ 10 ∷ []))) }
-    ensures faults_grow { writer.old.faults ≤ writer.new.faults }
-    ensures fault { OnErr result (Reported writer.old.faults writer.new.faults) }
-{
-    writer.write_all(b"error: ")?;
-    writer.write_all(text.as_bytes())?;
-    writer.write_all(b"\n")
-}
-
-/// Writes the answer to a line, and a line feed: the message in hexadecimal, or why there is none.
-pub fn write_answer<W: Write>(writer: &mut Counted<W>, line: &[u8]) -> io::Result<()>
-    ensures ok { OnOk result ((text : List ℕ) × Appends (W.contents writer.old.inner) (W.contents writer.new.inner) text
-        × IsAnswer line.now text) }
-
-    // What was written is a front of the answer.
-    ensures front { OnErr result ((text : List ℕ)
-        × AppendsFront (W.contents writer.old.inner) (W.contents writer.new.inner) text × IsAnswer line.now text) }
-    ensures faults_grow { writer.old.faults ≤ writer.new.faults }
-    ensures fault { OnErr result (Reported writer.old.faults writer.new.faults) }
-{
-    let mut slice = [0; 512];
-    match answer_line(&mut slice, line) {
-        Ok(len) => {
-            write_hex(writer, &slice[..len])?;
-            writer.write_all(b"\n")
-        }
-        Err(error) => write_error(writer, error.text()),
+        char::from(b'a' - 10 + number)
     }
 }

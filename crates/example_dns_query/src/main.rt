@@ -2,15 +2,13 @@
 #![tactic(auto)]
 
 mod answer;
-mod answers;
-mod failure;
 pub mod line;
 pub mod parts;
 pub mod query;
 pub mod record_type;
 
-use answers::answer_lines;
-use failure::Failure;
+use answer::Encoder;
+use example_lines::{Failure, answer_lines};
 use std::io::BufWriter;
 use std::process::ExitCode;
 use tinyvec_io::Counted;
@@ -20,7 +18,7 @@ fn main(rt: HostRuntime) -> ExitCode {
         return ExitCode::SUCCESS;
     };
     if !failure.is_closed_pipe() {
-        // Where standard error fails too, there is nowhere left to say so.
+        // If standard error fails too, there is nowhere left to say so.
         let _ = eprintln!(rt; "example_dns_query: {failure}");
     }
     ExitCode::FAILURE
@@ -30,5 +28,10 @@ fn main(rt: HostRuntime) -> ExitCode {
 fn answer_input(rt: &HostRuntime) -> Result<(), Failure> {
     let mut reader = Counted::new(rt.stdin());
     let writer = BufWriter::new(rt.alloc(), rt.stdout()).map_err(Failure::Output)?;
-    answer_lines(rt.alloc(), &mut reader, &mut Counted::new(writer))
+    answer_lines(
+        rt.alloc(),
+        &mut Encoder,
+        &mut reader,
+        &mut Counted::new(writer),
+    )
 }

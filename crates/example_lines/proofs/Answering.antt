@@ -68,11 +68,10 @@ module _ {S : Type 0} (IsAnswer : S → List ℕ → List ℕ → S → Type 0) 
   }
 
   -- a line feed
-  pub advances_line : (a b : S) (line said next : List ℕ) (byte : ℕ) → byte ≡ 10 → IsAnswer a (strip_carriage_return line) said b → next ≡ [] → Advances IsAnswer a line (byte ∷ []) said next b
-  advances_line a b line said next byte feed is none start input output so_far = record {
+  pub advances_line : (a b : S) (line said next : List ℕ) → IsAnswer a (strip_carriage_return line) said b → next ≡ [] → Advances IsAnswer a line (10 ∷ []) said next b
+  advances_line a b line said next is none start input output so_far = record {
     all = so_far.all ++ line ∷ [];
-    split = subst (λ b. Splits (input ++ b ∷ []) (so_far.all ++ line ∷ []) next) (sym feed)
-        (subst (Splits (input ++ 10 ∷ []) (so_far.all ++ line ∷ [])) (sym none) (Splits-ended input so_far.all line so_far.split));
+    split = subst (Splits (input ++ 10 ∷ []) (so_far.all ++ line ∷ [])) (sym none) (Splits-ended input so_far.all line so_far.split);
     answers = subst (λ lines. AnswersEach IsAnswer start lines (output ++ said) b) (sym (map-append strip_carriage_return so_far.all (line ∷ [])))
         (answers_then start a b (map strip_carriage_return so_far.all) (strip_carriage_return line ∷ []) output said so_far.answers (answers_one a b (strip_carriage_return line) said is));
   }

@@ -109,37 +109,37 @@ fn answer_chunk<A: Answer, W: Write>(
         → Reported writer.old.faults writer.new.faults }
 {
     for byte in bytes {
-        answer_byte(alloc, program, line, *byte, writer)?;
+        if *byte == b'\n' {
+            end_line(alloc, program, line, writer)?;
+            continue;
+        }
+        match line.push(*byte) {
+            Ok(()) => {}
+            Err(_) => return Err(Failure::Memory),
+        }
     }
     Ok(())
 }
 
-// Takes a byte of the input, and answers the line that it ends. If memory is refused, nothing was written.
-fn answer_byte<A: Answer, W: Write>(
+// Answers the line that a line feed ends, and begins the next. If memory is refused, nothing was written.
+fn end_line<A: Answer, W: Write>(
     alloc: Global,
     program: &mut A,
     line: &mut Vec<u8>,
-    byte: u8,
     writer: &mut Counted<W>,
 ) -> Result<(), Failure>
     ensures ok { OnOk result ((said : List ℕ) × Appends (W.contents writer.old.inner) (W.contents writer.new.inner) said
-        × Advances A.IsAnswer program.old line.old.items (byte ∷ []) said line.new.items program.new) }
+        × Advances A.IsAnswer program.old line.old.items (10 ∷ []) said line.new.items program.new) }
     ensures memory { IsErrOf result Failure.Memory → Keeps (W.contents writer.old.inner) (W.contents writer.new.inner) }
     ensures output { (error : IoError) → IsErrOf result (Failure.Output error) → (said : List ℕ)
         × AppendsFront (W.contents writer.old.inner) (W.contents writer.new.inner) said
-        × Advances A.IsAnswer program.old line.old.items (byte ∷ []) said [] program.new }
+        × Advances A.IsAnswer program.old line.old.items (10 ∷ []) said [] program.new }
     ensures no_input { (error : IoError) → IsErrOf result (Failure.Input error) → ⊥ }
     ensures not_long { IsErrOf result Failure.TooLong → ⊥ }
     ensures faults_grow { writer.old.faults ≤ writer.new.faults }
     ensures output_fault { (error : IoError) → IsErrOf result (Failure.Output error)
         → Reported writer.old.faults writer.new.faults }
 {
-    if byte != b'\n' {
-        return match line.push(byte) {
-            Ok(()) => Ok(()),
-            Err(_) => Err(Failure::Memory),
-        };
-    }
     match answer_line(alloc, program, line.as_slice(), writer) {
         Ok(()) => {
             line.clear();

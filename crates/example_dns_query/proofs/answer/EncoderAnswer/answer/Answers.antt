@@ -1,0 +1,25 @@
+use Rattle.std.proofs.Common.{◌≡◌, ◌∙◌, List, ℕ, [], ◌∷◌, ◌++◌, inl, inr, ap, sym, subst, take, length, rules}
+use Rattle.std.specs.Prelude.{replicate}
+use Rattle.std.proofs.lemmas.List.{take_at}
+use Rattle.std.proofs.lemmas.Result.{IfOk-weaker}
+use Rattle.example_dns_query.specs.Answer.{hex_of}
+use Rattle.example_dns_query.specs.Line.{HasLineFault}
+use Rattle.example_dns_query.proofs.LineFaults.{tells_line_fault}
+use Rattle.example_dns_query.proofs.answer.EncoderAnswer.answer.Goals as goal
+
+pub returns-in_ok-push-in-Ok : goal.returns-in_ok-push-in-Ok
+unfolding lib.Utf8.encode
+returns-in_ok-push-in-Ok c =
+    let told = c.in-Ok.ensures.answers in
+    let message : take c.in-Ok.len c.answer_line.new.slice ≡ told.message = ap (take c.in-Ok.len) told.written ∙ take_at told.message _ c.in-Ok.len (sym told.long) in
+    inl (told.message, told.asked, c.in_ok-push-in-Ok.ensures.bytes ∙ ap (λ text. text ++ 10 ∷ []) (c.in_ok-text-in-Ok.ensures ∙ ap hex_of message))
+
+pub returns-in-Err : goal.returns-in-Err
+returns-in-Err c =
+    let line = c.args.line.now in
+    let error = c.in-Err.error in
+    let told = c.answer_line.ensures in
+    let slots : List ℕ = replicate 512 0 in
+    let room : length slots ≡ 512 = search rules in
+    let fault = tells_line_fault line (length slots) c.answer_line.result told.query told.words told.number told.unknown_type error c.in-Err.is in
+    IfOk-weaker c.format.result _ _ (λ text same. inr (error, subst (λ n. HasLineFault line n error) room fault, same)) c.format.ensures.ok
