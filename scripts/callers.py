@@ -8,6 +8,7 @@ CRATES = (
     "tinyvec_examples",
     "example_fields",
     "example_tidy",
+    "example_lines",
     "example_dns_query",
     "example_tree",
     "example_records",
