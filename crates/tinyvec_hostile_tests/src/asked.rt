@@ -4,7 +4,7 @@ ghost use Rattle.std.specs.Prelude.{◌≡◌, ⊤};
 ghost use Rattle.std.specs.Iterator.{at_most};
 ghost use Rattle.std.specs.declared.ops.Bound.TheVariants.{Included, Excluded};
 
-use std::alloc::AllocError;
+use std::alloc::{AllocError, Global};
 use std::cell::Cell;
 use std::fmt;
 use std::fmt::{Debug, Display, Write};
@@ -64,6 +64,10 @@ fn three(asked: &Cell<usize>, promised: usize) -> Hinting<'_> {
     }
 }
 
+fn collected(alloc: Global, items: Hinting<'_>) -> Result<TinyVec<[i32; 2]>, AllocError> {
+    Ok(TinyVec::from_iter(alloc, items)?)
+}
+
 const PROMISED: [usize; 3] = [0, 4, usize::MAX];
 
 #[test]
@@ -78,13 +82,9 @@ fn hints_of_what_fills_an_array_or_a_slice(rt: HostRuntime) -> Result<(), Fail> 
         let is_spliced = v.splice_all(.., three(&asked, promised)).is_ok() & (v.len() == 3);
         v.clear();
         let is_appended = v.splice_all(.., three(&asked, promised)).is_ok() & (v.len() == 3);
-        let mut splice = v.splice(.., three(&asked, promised));
-        let is_taken = splice.next() == Some(5);
-        let is_stopped = splice.stop().next() == Some(6);
         all_steps(&[
             is_extended & is_filled,
             is_spliced & is_appended,
-            is_taken & is_stopped & (v.as_slice() == [5].as_slice()),
             ArrayVec::<[i32; 3]>::from_iter(three(&asked, promised)).is_ok(),
             lent.extend(three(&asked, promised)).is_ok() & (lent.len() == 3),
             lent.fill(three(&asked, promised)).next().is_none() & (lent.len() == 6),
@@ -98,20 +98,12 @@ fn hints_of_what_fills_an_array_or_a_slice(rt: HostRuntime) -> Result<(), Fail> 
 fn hints_of_what_fills_a_tiny_vec(rt: HostRuntime) -> Result<(), Fail> {
     let asked = Cell::new(0);
     for promised in PROMISED {
-        let made = TinyVec::<[i32; 2]>::from_iter(rt.alloc(), three(&asked, promised));
-        let mut v = made.map_err(|_| AllocError)?;
+        let mut v = collected(rt.alloc(), three(&asked, promised))?;
         let is_extended = granted(v.extend(three(&asked, promised)))? & (v.len() == 6);
         let is_spliced = granted(v.splice_all(.., three(&asked, promised)))? & (v.len() == 3);
         v.clear();
         let is_appended = granted(v.splice_all(.., three(&asked, promised)))? & (v.len() == 3);
-        let mut splice = v.splice(.., three(&asked, promised));
-        let is_taken = splice.next() == Some(5);
-        let is_stopped = splice.stop().next() == Some(6);
-        all_steps(&[
-            is_extended & is_spliced & is_appended,
-            is_taken & is_stopped & (v.as_slice() == [5].as_slice()),
-            asked.get() == 0,
-        ])?;
+        all_steps(&[is_extended & is_spliced & is_appended, asked.get() == 0])?;
     }
     Ok(())
 }
