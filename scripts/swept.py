@@ -6,6 +6,7 @@ A case of `each byte` is also cut, failed and interrupted at each byte.
 
 Where the input of a script fails, its complete lines are answered; where the output fails, its first bytes are written. A value
 of the Borsh form that is cut is told as the end of the input, and any failure but an interruption as a fault."""
+import commands
 import rows
 
 MARK = "each byte"
@@ -65,7 +66,7 @@ def of_script(chain):
         if count < len(given):
             # Of a line that is cut only the line feed may be missing: else no line of such a script is a command.
             is_cut = count > 0 and given[count - 1 : count] != b"\n"
-            last = answers[given[:count].count(b"\n")] if given[count : count + 1] == b"\n" else b"bad\n"
+            last = answers[given[:count].count(b"\n")] if given[count : count + 1] == b"\n" else refusal(given[:count])
             if chain.start.endswith("cut"):
                 answered = told(complete + (last if is_cut else b""))
                 yield one(f"reads {piece(given[:count])}", f"ok, 0 faults / {ANY} / {answered}")
@@ -78,6 +79,12 @@ def of_script(chain):
     faults = len(given) + len(output)
     start = " ".join(["reads", *(f"!Interrupted <{it:02x}>" for it in given), "takes", *["!Interrupted 1"] * len(output)])
     yield one(start, f"ok, {faults} faults / {ANY} / {told(output)}")
+
+
+def refusal(given):
+    """The answer to the last line, which is cut, and so no command."""
+    name, _, text = given.rpartition(b"\n")[2].partition(b" ")
+    return commands.bad(name.decode("latin-1"), text.decode("latin-1")) + b"\n"
 
 
 def of_values(chain):
