@@ -268,7 +268,8 @@ impl Vectors<'_> {
     /// Writes the answer to a line.
     fn answer_line(&mut self, line: &Line, output: &mut Vec<u8>) {
         if line.is_long || self.answer(&line.bytes, output).is_none() {
-            output.extend_from_slice(b"bad\n");
+            // The input has no other bad line.
+            output.extend_from_slice(b"bad: a line begins with A, S, T or X\n");
         }
     }
 
