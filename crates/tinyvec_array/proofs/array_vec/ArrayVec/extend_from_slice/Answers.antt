@@ -1,4 +1,4 @@
-use Rattle.std.proofs.Common.{◌≤◌, length, length-drop, arith, rules}
+use Rattle.std.proofs.Common.{◌≤◌, length, length-drop, refl, arith, rules}
 use Rattle.tinyvec_slots.specs.Slots.{spare}
 use Rattle.tinyvec_slots.proofs.BorderLemmas.{clones_added, clones_not_added}
 use Rattle.tinyvec_array.proofs.array_vec.ArrayVec.extend_from_slice.Goals as goal

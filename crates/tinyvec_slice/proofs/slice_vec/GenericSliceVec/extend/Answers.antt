@@ -25,7 +25,7 @@ returns-in-Some-clause-items g c =
     let grown = ap length is ∙ length-append L xs in
     let left = ap length c.fill-items.ensures.spare ∙ length-drop (length (items_of g.B.Lent new) - length L) S in
     let none : length (spare_of g.B.Lent new) ≡ 0 = grind (arith, common_steps) in
-    let full = omega (arith, grown, left, none, run.at_most_n) in
+    let full : length xs ≡ length S = omega (arith, grown, left, none, run.at_most_n) in
     extends_full _ _ _ _ _ it xs begun is c.next.new.self c.in-Some.item full (c.fill-items.result, run.stopped full, c.in-Some.ensures.steps)
 
 pub returns-in-Some-clause-full : goal.returns-in-Some-clause-full
@@ -40,5 +40,5 @@ returns-in-None-clause-items g c =
     let grown = ap length is ∙ length-append L xs in
     let left = ap length c.fill-items.ensures.spare ∙ length-drop (length (items_of g.B.Lent new) - length L) S in
     let none : length (spare_of g.B.Lent new) ≡ 0 = grind (arith, common_steps) in
-    let full = omega (arith, grown, left, none, run.at_most_n) in
+    let full : length xs ≡ length S = omega (arith, grown, left, none, run.at_most_n) in
     extends_all _ _ _ _ _ it xs begun is c.next.new.self _ run.at_most_n (c.fill-items.result, run.stopped full, c.in-None.ensures.steps)
