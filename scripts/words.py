@@ -143,12 +143,13 @@ def code(text):
 def words_of(file):
     """Each public word of a file. The fields of records are told with their record."""
     lines = file.read_text(encoding="utf-8").splitlines()
-    depth, comment, starts = None, [], []
+    depth, comment, is_module, starts = None, [], False, []
     for at, line in enumerate(lines):
         if not line.strip():
             comment = []
         elif found := COMMENT.match(line):
-            comment.append(found[1])
+            comment = [*([] if is_module else comment), found[1]]
+            is_module = False
         else:
             indent = len(line) - len(line.lstrip())
             if depth is not None and indent <= depth:
@@ -158,8 +159,8 @@ def words_of(file):
                 starts.append((at, found, " ".join(comment).rstrip(".")))
                 depth = indent if found["kind"] else None
             # The comment of a module is that of its first word, unless this has one.
-            if not line.startswith("module"):
-                comment = []
+            is_module = line.startswith("module")
+            comment = comment if is_module else []
     for (at, found, said), (end, *_) in zip(starts, [*starts[1:], (len(lines),)]):
         yield Word(found, said, lines[at + 1 : end])
 

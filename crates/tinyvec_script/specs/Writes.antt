@@ -15,7 +15,7 @@ abbrev pub gathered_of : {E : Type 0} → Option E → List ℕ → Option (List
 gathered_of None bytes = Some bytes
 gathered_of (Some error) bytes = None
 
--- The text came behind these bytes. A front of them all was written, and the rest is gathered; or a fault was reported.
+-- The text followed these bytes. A prefix of both was written, and the rest is gathered; or a fault was reported.
 pub record GathersBehind {W : Type 0} (contents : W → Option (List ℕ)) (old : CountedView W) (bytes : List ℕ) (new : CountedView W)
     (gathered : Option (List ℕ)) (text : List ℕ) : Type 0 where
   pub written : List ℕ
@@ -25,7 +25,7 @@ pub record GathersBehind {W : Type 0} (contents : W → Option (List ℕ)) (old 
   pub grows : old.faults ≤ new.faults
   pub kept : (gathered ≡ Some rest) ⊎ ((gathered ≡ None) × Reported old.faults new.faults)
 
--- The text was put behind what was gathered. After an error nothing more is written.
+-- The text follows what was gathered. After an error nothing more is written.
 abbrev pub Gathers : {W : Type 0} → (W → Option (List ℕ)) → CountedView W → Option (List ℕ) → CountedView W → Option (List ℕ)
     → List ℕ → Type 0
 Gathers contents old None new gathered text = (new ≡ old) × (gathered ≡ None)

@@ -285,7 +285,7 @@ pub(crate) fn first_char(bytes: &[u8]) -> (char, usize)
     (c, end - rest.as_str().len())
 }
 
-// Where the second character begins, or the bytes end.
+// The index of the second character, or the number of bytes.
 fn first_char_end(bytes: &[u8]) -> usize
     requires { 0 < length bytes.now }
     ensures positive { 0 < result }
@@ -316,7 +316,7 @@ fn last_char(bytes: &[u8]) -> (char, usize)
     (c, start + rest.as_str().len())
 }
 
-// Where the last character begins.
+// The index of the last character.
 fn last_char_start(bytes: &[u8]) -> usize
     requires { 0 < length bytes.now }
     ensures in_bounds { result < length bytes.now }
