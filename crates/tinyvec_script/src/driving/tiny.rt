@@ -11,7 +11,7 @@ use std::iter::Fuse;
 use tinyvec::{Array, NoMemory, TinyVec, TinyVecSplice};
 
 /// Replaces the items from `start` up to `end`. Before that it takes an item from each end that the word names. Allocates
-/// both result lists first; if that fails, returns the replacement and changes nothing. Items find no room where the
+/// both result lists first; if that fails, returns the replacement and changes nothing. Items find no room if the
 /// allocator refuses to grow the vector.
 pub fn drive_tiny_splice<A: Array>(
     alloc: Global,

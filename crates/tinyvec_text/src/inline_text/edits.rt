@@ -111,7 +111,7 @@ impl<const N: usize> InlineText<N> {
         Ok(())
     }
 
-    /// Moves a text on the heap into the array where it fits, which allocates nothing. Otherwise shrinks the allocation; if
+    /// Moves a text on the heap into the array if it fits, which allocates nothing. Otherwise shrinks the allocation; if
     /// the allocator refuses, nothing changes and no error is returned.
     pub fn shrink_to_fit(&mut self)
         ensures bytes { self.new.bytes ≡ self.old.bytes }
