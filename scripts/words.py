@@ -74,7 +74,7 @@ class Words:
         title = COMMENT.match(file.read_text(encoding="utf-8"))
         rows = [it for it in self.defined if it[0] == path and it in self.cited]
         shown = sorted({self.examples[it][0] for it in rows if it in self.examples})
-        links = " and ".join(f"[`{it.name}`](../../{it.relative_to(TOP)})" for it in shown)
+        links = " and ".join(f"[`{it.relative_to(TOP)}`](../../{it.relative_to(TOP)})" for it in shown)
         head = f"\n\n## `{stem}` of `{crate}`\n\n{title[1] if title else ''} In [`{file.name}`](../../{file.relative_to(TOP)})" + f", examples in {links}" * bool(shown) + ".\n"
         own = [it for it in rows if self.first.setdefault(self.said(it), it) == it]
         again = [it for it in rows if it not in own]
