@@ -400,7 +400,7 @@ class Page:
             else:
                 name = first.trait or first.name if page == self.name else first.key()
                 place = f"#{first.anchor(main_of(page))}"
-                yield f"In Rust: as of [`{name}`]({'' if page == self.name else page + '.md'}{place})."
+                yield f"In Rust: see [`{name}`]({'' if page == self.name else page + '.md'}{place})."
 
 
 def difference(old, new):
