@@ -32,8 +32,9 @@ PAGES = {
 INDEX = "README"
 COLUMNS = ("ARRAY_VEC", "SLICE_VEC", "TINY_VEC", "INLINE_TEXT")
 
-# A caller of more lines than this is named, and not shown.
+# A caller of more lines than this, or whose body is one line, is named, and not shown.
 LONGEST = 8
+ONE_LINE = re.compile(r"\{\n[^\n]*\n\}$")
 
 # A caller of a call that several types have, and a note, are shown on the first of their pages in this order.
 ORDER = ("TINY_VEC", "ARRAY_VEC", "SLICE_VEC", "INLINE_TEXT", "BORSH", "COUNTED", "SCRIPT", "SLOTS")
@@ -367,7 +368,7 @@ class Page:
         elsewhere = self.library.exemplified.get(it.name, self.name) != self.name
         if first := self.shown.get(caller.text):
             yield f"\nA caller: `{caller.name}`, at [`{first.name}`](#{first.anchor(self.main)}).\n"
-        elif elsewhere or caller.text.count("\n") > LONGEST:
+        elif elsewhere or caller.text.count("\n") > LONGEST or ONE_LINE.search(caller.text):
             yield f"\nA caller: `{caller.name}`, in [`{caller.path}`](../../{caller.path}).\n"
         else:
             self.shown[caller.text] = it
