@@ -214,8 +214,9 @@ class Entry(exports.Export):
 
     def row(self, said):
         """An impl as a line of a table."""
-        ghosts = (re.sub(r"^ghost (.*?) = \{ (.*) \};$", r"\1 = \2", " ".join(" ".join(it.lines).split())) for it in self.ghosts())
-        cell = ". ".join(["; ".join("`" + it.replace("|", "\\|") + "`" for it in ghosts)] * bool(self.ghosts()) + [" ".join(said)] * bool(said))
+        shown = (re.sub(r"^ghost (.*?) = \{ (.*) \};$", r"\1 = \2", " ".join(" ".join(it.lines).split())) for it in self.ghosts())
+        codes = "; ".join("`" + it.replace("|", "\\|") + "`" for it in shown)
+        cell = ". ".join(it for it in (codes, " ".join(said)) if it)
         return f'| <a id="{self.anchor(None)}"></a>`{self.item.signature().rstrip(",")}` | {cell} |\n'
 
     def ghosts(self):
