@@ -100,6 +100,21 @@ def faults():
         yield from (f"docs/DIFFERENCES.md: a call without its type: {it}" for it in bare)
 
 
+# Calls of one name that do different things.
+UNLIKE = ("as_inner", "as_mut_inner", "capacity", "drain", "from_slice", "split_off")
+
+
+def named():
+    """Calls of several vectors whose `///` begin with different sentences."""
+    library, found = Library(), {}
+    for it in (it for page in COLUMNS[:3] for it in library.pages[page] if it.kind == "method" and it.of == main_of(page)):
+        said = re.split(r"(?<=\.)\s", " ".join(it.item.comment))[0]
+        found.setdefault(it.name, {}).setdefault(said, it)
+    for name, said in found.items():
+        if len(said) > 1 and name not in UNLIKE:
+            yield "one call, two sentences: " + " ".join(f"{it.key()}: {text}" for text, it in said.items())
+
+
 def main_of(page):
     return PAGES[page][1]
 

@@ -257,8 +257,8 @@ impl<A: Array> TinyVec<A> {
         }
     }
 
-    /// Makes a vector of the items, inline while they fit the array. A full list grows as by `push`. If the allocator
-    /// refuses, returns the vector so far, the item that found no room and the rest of the iterator.
+    /// Makes a vector of the items. It is inline while they fit the array. A full list grows as by `push`. If the
+    /// allocator refuses, returns the vector so far, the item that found no room and the rest of the iterator.
     pub fn from_iter<I: IntoIterator<Item = A::Item>>(
         alloc: Global,
         iter: I,
