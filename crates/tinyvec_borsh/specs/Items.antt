@@ -9,12 +9,12 @@ abbrev pub IsCount : ℕ → List ℕ → Type 0
 IsCount n bytes = SpellsNumber 8 n bytes
 
 module _ {C : Type 0} (Spells : C → List ℕ → Type 0) where
-  -- the spellings of the items, one after another
+  -- No item and no byte. Or an item's spelling, and then that of the further items.
   abbrev pub SpellsItems : List C → List ℕ → Type 0
   SpellsItems [] bytes = bytes ≡ []
   SpellsItems (c ∷ cs) bytes = HasParts (Spells c) (SpellsItems cs) bytes
 
-  -- The input is these items, and then bytes of which P holds.
+  -- The input begins with these items, and is so after them.
   abbrev pub BeginsWithItems : List C → (List ℕ → Type 0) → List ℕ → Type 0
   BeginsWithItems cs P input = HasParts (SpellsItems cs) P input
 
@@ -35,13 +35,13 @@ module _ {C : Type 0} (Spells : C → List ℕ → Type 0) (Fits : C → Type 0)
     pub fit : AllByRecursion Fits items
     pub whole : input ≡ count ++ (bytes ++ tail)
 
-  -- The list has at most `room` items, each of which fits.
+  -- A value with this room has the list.
   pub record ListFits (room : ℕ) (cs : List C) : Type 0 where
     pub few : length cs ≤ room
     pub counted : length cs < 2 ^ 64
     pub items : AllByRecursion Fits cs
 
-  -- The input is a count, at most `room` items, fewer than the count, and then bytes of which P holds.
+  -- The input is so from an item on that is to be read: the one after the room is, too.
   pub record InItem (P : List ℕ → Type 0) (room : ℕ) (input : List ℕ) : Type 0 where
     pub has : HasItems input
     pub open has use *
@@ -49,7 +49,7 @@ module _ {C : Type 0} (Spells : C → List ℕ → Type 0) (Fits : C → Type 0)
     pub few : length items ≤ room
     pub left : P tail
 
-  -- The input is fewer than n items, which fit, and then bytes of which P holds.
+  -- The input has items, fewer than n, which fit, and is so after them.
   pub record AfterItems (P : List ℕ → Type 0) (n : ℕ) (input : List ℕ) : Type 0 where
     pub items : List C
     pub fewer : length items < n
@@ -68,10 +68,10 @@ module _ {C : Type 0} (Spells : C → List ℕ → Type 0) (Fits : C → Type 0)
   abbrev pub IsListCut : (IsCut : List ℕ → Type 0) (room : ℕ) → List ℕ → Type 0
   IsListCut IsCut room input = (length input < 8) ⊎ InItem IsCut room input
 
-  -- The list has more items than `room`, or a list in it is too long.
+  -- The list is too long, or an inner one.
   abbrev pub IsListTooLong : (IsTooLong : List ℕ → Type 0) (room : ℕ) → List ℕ → Type 0
   IsListTooLong IsTooLong room input = HasTooMany room input ⊎ InItem IsTooLong room input
 
--- the count is more than `most`
+-- the count is above this
 abbrev pub CountsAbove : ℕ → List ℕ → Type 0
 CountsAbove most input = (n : ℕ) × (most < n) × HasParts (IsCount n) (λ _. Unit {0}) input

@@ -32,7 +32,7 @@ module _ {A T : Type 0} where
   place_of (tiny.Inline v alloc) = in_array
   place_of (tiny.Heap v) = on_heap (vec_capacity v)
 
-  -- the list, the spare slots and the place of a `TinyVec`
+  -- what is seen of a vector
   abbrev pub tiny_of : TinyVec A T → Tiny T
   tiny_of v = record { items = tiny_items v; spare = tiny_spare v; place = place_of v }
 
@@ -50,7 +50,7 @@ module _ {T : Type 0} (D : T → Type 0) (slots : ℕ) where
   pub record Ruled (need : ℕ) (old new : Tiny T) : Type 0 where
     -- the list is inline exactly if it was inline and the need is within the slots
     pub place_rule : Inline new ↔ (Inline old × (need ≤ slots))
-    -- vacated slots hold defaults, and those that the list grew into are used up
+    -- slots that the list gave up hold defaults, and it used up those that it grew into
     pub slot_rule : Inline old → Inline new → (ds : List T) × AreDefaults D (count old - count new) ds
         × (new.spare ≡ ds ++ drop (count new - count old) old.spare)
     -- there is no less room, and if there was enough there is just as much

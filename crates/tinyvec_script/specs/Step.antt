@@ -30,7 +30,7 @@ module _ {T : Type 0} (D : T → Type 0) where
       × ArraySplices D capacity old start end word replacement given.items rest.items new
   ArraySpliceStep capacity old start end word replacement answer new = ⊥
 
-  -- The call may have this answer, and take `old` to `new`. A refused allocation is a case of its own.
+  -- From the old value the call may have this answer, and leave the new value. A refused allocation is a case of its own.
   abbrev pub ArrayStep : ℕ → Slots T → Call T → Answer T → Slots T → Type 0
   ArrayStep capacity old (Push x) answers.Done new = (items_len old < capacity) × (items new ≡ items old ++ x ∷ [])
       × SlotRule D old new

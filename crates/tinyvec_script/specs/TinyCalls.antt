@@ -19,7 +19,7 @@ module _ {T : Type 0} (D : T → Type 0) (slots : ℕ) where
     pub items_are : new.items ≡ before old.items (Included start) ++ after old.items (Excluded end)
     pub rules : Ruled D slots 0 old new
 
-  -- A move to the heap left the list there, with room for no more. A list on the heap stays as it is.
+  -- A move to the heap left the list there, with room for no more. A list that lay there stays as it is.
   pub record Moved (old new : Tiny T) : Type 0 where
     pub items_are : new.items ≡ old.items
     pub place_is : lies_inline new.place ≡ false
@@ -52,8 +52,9 @@ module _ {T : Type 0} (D : T → Type 0) (slots : ℕ) where
       × Spliced old start end word replacement given.items rest.items new
   TinySpliceAnswers old start end word replacement answer new = ⊥
 
-  -- The call may have this answer, and take `old` to `new`, if that fits. A refused allocation is a case of its own: the answer
-  -- is `Memory` only if the items had no room, an inline list was to move to the heap, or a drain or a splice had to keep items.
+  -- From the old value the call may have this answer, and leave the new value, if that fits. A refused allocation is a case
+  -- of its own: `Memory` only if there is no room for the items, for the move of an inline list of items to the heap, for those
+  -- that a drain or a splice takes, or for those that a splice may return.
   abbrev pub TinyAnswers : Tiny T → Call T → Answer T → Tiny T → Type 0
   TinyAnswers old (Push x) answers.Done new = (new.items ≡ old.items ++ x ∷ []) × Ruled D slots (count old + 1) old new
       × Doubled slots old new
@@ -92,7 +93,8 @@ module _ {T : Type 0} (D : T → Type 0) (slots : ℕ) where
   -- no other answer is given
   TinyAnswers old call answer new = ⊥
 
-  -- The call may have this answer, and take `old` to `new`, whose list fits its place.
+  -- A step: the call may have this answer, and the list that it leaves fits its place. Otherwise a list could be longer than
+  -- its room, and a push after a pop be refused.
   pub record TinyStep (old : Tiny T) (call : Call T) (answer : Answer T) (new : Tiny T) : Type 0 where
     pub answered : TinyAnswers old call answer new
     pub fits : count new ≤ room slots new.place

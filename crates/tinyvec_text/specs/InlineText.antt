@@ -3,13 +3,13 @@ use Rattle.std.specs.Prelude.{◌≡◌, ℕ, ◌*◌, ◌<◌, ◌≤◌, if◌
 use Rattle.tinyvec.specs.TinyVec.{tiny_items, tiny_spare, is_inline, tiny_capacity}
 use Rattle.tinyvec.specs.declared.tiny_vec.TinyVec.{TinyVec}
 
--- the UTF-8 bytes of a text, whether they are in the array, and how many bytes fit without a further allocation
+-- the UTF-8 bytes of the text, whether they are in the array, and how many bytes fit where they are
 pub record Text : Type 0 where
   pub bytes : List ℕ
   pub inline : Bool
   pub room : ℕ
 
--- a list of bytes as a text, if its array has this many slots
+-- what a list of bytes, whose array has this many slots, is as a text
 abbrev pub text_of : {A : Type 0} → ℕ → TinyVec A ℕ → Text
 text_of slots v = record { bytes = tiny_items v; inline = is_inline v; room = tiny_capacity slots v }
 
