@@ -12,7 +12,7 @@ use tinyvec::{Array, ArrayVec, TinyVec};
 use tinyvec_borsh::{BorshDeserialize, BorshError, BorshSerialize};
 use tinyvec_io::Counted;
 
-/// If the input begins with the spelling of a content that fits, a value of that content is read, and what follows
+/// Where the input begins with the spelling of a content that fits, a value of that content is read, and what follows
 /// stays unread, faults and want of memory aside.
 pub fn read_back<T: BorshDeserialize, R: Read>(
     alloc: Global,
@@ -38,7 +38,7 @@ pub fn copied<T: BorshSerialize + BorshDeserialize>(alloc: Global, v: &T) -> Res
     T::deserialize_reader(alloc, &mut reader)
 }
 
-/// A list that was written is read again as an equal list, if items with equal contents are equal.
+/// A list that was written is read again as an equal list, of all items that differ only where their contents do.
 pub fn copied_array<A: Array>(alloc: Global, v: &ArrayVec<A>) -> Result<ArrayVec<A>, BorshError>
 where
     A::Item: BorshSerialize + BorshDeserialize,
@@ -74,7 +74,7 @@ where
     copied(alloc, v)
 }
 
-/// That holds of whole numbers, since they are their own contents.
+/// Of whole numbers that holds, since they are their own contents.
 pub fn copied_numbers(
     alloc: Global,
     unsigned: &TinyVec<[u16; 4]>,
