@@ -1,16 +1,20 @@
-use Rattle.std.proofs.Common.{◌≡◌, ◌++◌, List, ℕ, [], Some, take, replicate, pos, sym, ap, ◌∙◌, arith, le_refl, le_trans, append-nil, inl, inr}
+use Rattle.std.proofs.Common.{refl, ◌≡◌, ◌++◌, List, ℕ, [], Some, take, pos, sym, ap, ◌∙◌, arith, le_refl, le_trans, append-nil, inl, inr, IsTrue}
 use Rattle.tinyvec_slots.specs.Slots.{spare, split_at}
 use Rattle.tinyvec_slots.proofs.SlotsLemmas.{defaults_are}
 use Rattle.tinyvec_script.specs.Script.{start, zeros, State, IsZero}
 use Rattle.tinyvec_slice.specs.SliceVec.{view}
-use Rattle.tinyvec_script.specs.Place.{tiny_of}
-use Rattle.tinyvec_script.proofs.PlaceLemmas.{tiny_of-begins}
+use Rattle.tinyvec.specs.TinyVec.{tiny_view}
+use Rattle.tinyvec.specs.View.{Place, in_array, on_heap, lies_inline}
 use Rattle.tinyvec_script.specs.State.{held}
 use Rattle.std.proofs.KnownBytes.{Appends-nil, Appends-trans, Consumes-nil, Consumes-trans, Consumes-kept}
 use Rattle.tinyvec_script.proofs.HistoryLemmas.{feeds_nothing, feeds_then, complete_lines, whole_script, chunk_longer}
 use Rattle.tinyvec_io.proofs.Pieces.{AppendsFront-then}
 use Rattle.tinyvec_script.proofs.Written.{reported_since}
 use Rattle.tinyvec_script.proofs.script.run.Goals as goal
+
+is_in_array : (p : Place) → IsTrue (lies_inline p) → p ≡ in_array
+is_in_array in_array h = refl
+is_in_array (on_heap n) h = absurd (let no = h in cc)
 
 pub loop-piece-init : goal.loop-piece-init
 loop-piece-init g c =
@@ -21,10 +25,10 @@ loop-piece-init g c =
     let s_begins : view c.from_slice_len.result ≡ zeros = c.from_slice_len.ensures.value in
     let tiny = c.new-2 in
     let tiny_spare = defaults_are IsZero (pos 0) (λ x h. h) 4 _ tiny.ensures.spare in
-    let t_begins : tiny_of tiny.result ≡ start.t = tiny_of-begins tiny.result (replicate 4 (pos 0)) tiny.ensures.items tiny_spare tiny.ensures.place in
+    let t_begins : tiny_view tiny.result ≡ start.t = λ t. record { items = tiny.ensures.items t; spare = tiny_spare t; place = is_in_array _ tiny.ensures.place t } in
     let text = c.new-3 in
     let x_begins : text.result ≡ start.x = λ t. record { bytes = text.ensures.bytes t; inline = text.ensures.place t; room = text.ensures.room t } in
-    let state : State = record { a = array; s = view c.from_slice_len.result; t = tiny_of tiny.result; x = text.result } in
+    let state : State = record { a = array; s = view c.from_slice_len.result; t = tiny_view tiny.result; x = text.result } in
     let begins : state ≡ start = λ t. record { a = a_begins t; s = s_begins t; t = t_begins t; x = x_begins t } in
     record {
       so_far = ([], [], Consumes-nil _, Appends-nil _, rw (begins, c.new-line.ensures) (feeds_nothing start (Some [])), le_refl 0);

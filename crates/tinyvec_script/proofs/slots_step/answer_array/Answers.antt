@@ -1,8 +1,12 @@
-use Rattle.std.proofs.Common.{◌≤◌, ◌++◌, sym, ap, ◌∙◌, arith, rules}
+use Rattle.std.proofs.Common.{◌≤◌, ◌++◌, ap, ◌∙◌, arith, rules}
 use Rattle.std.specs.declared.ops.Bound.TheVariants.{Included, Excluded}
 use Rattle.tinyvec_slots.specs.Slots.{items, items_len}
 use Rattle.tinyvec_slots.specs.Ranges.{removed}
-use Rattle.tinyvec_script.proofs.StepLemmas.{pushes, inserts, removes, swap_removes, truncates, drains, splices}
+use Rattle.tinyvec_script.specs.Driving.{ArraySplices}
+use Rattle.tinyvec_script.specs.Step.{ArrayStep}
+use Rattle.tinyvec_script.specs.declared.call.Call.TheVariants.{Splice}
+use Rattle.tinyvec_script.proofs.StepLemmas.{pushes, inserts, removes, swap_removes, truncates, drains}
+use Rattle.tinyvec_script.proofs.DrivingLemmas.{splice_answers}
 use Rattle.tinyvec_script.proofs.slots_step.answer_array.Goals as goal
 
 pub returns-in-Push : goal.returns-in-Push
@@ -43,17 +47,26 @@ returns-in-Drain g c =
     let in_order : i ≤ j = omega arith in
     let in_list : j ≤ items_len old = omega arith in
     let taken = left.moved ∙ ap (λ xs. xs ++ removed (items old) (Included i) (Excluded j)) c.in-Ok.ensures.items in
-    rw c.in-Drain.is (
-      (in_order, in_list),
-      drains g.A.Item.Default.is_default g.A.Array.CAPACITY old c.drain_into.new.self i j
-          c.drain_into.new.out.items in_order in_list taken left.items left.spare,
-    )
+    let made = drains g.A.Item.Default.is_default g.A.Array.CAPACITY old c.drain_into.new.self i j c.drain_into.new.out.items in_order in_list taken left.items left.spare in
+    rw c.in-Drain.is ((in_order, in_list), made.0, made.1)
 
 pub returns-in-Ok-drive_array_splice : goal.returns-in-Ok-drive_array_splice
 returns-in-Ok-drive_array_splice g c =
-    let in_order : c.in-Splice.start ≤ c.in-Splice.end = omega arith in
-    let in_list : c.in-Splice.end ≤ items_len c.args.vec.now = omega arith in
-    let made = c.answer_driven.ensures in
-    rw c.in-Splice.is (splices g.A.Item.Default.is_default g.A.Array.CAPACITY c.args.vec.now c.drive_array_splice.new.vec c.in-Splice.start c.in-Splice.end c.in-Splice.word
-    c.in-Splice.replacement c.in-Ok-drive_array_splice.driven.yields c.in-Ok-drive_array_splice.driven.rest c.answer_driven.result
-    in_order in_list made.items made.spliced (rw (sym c.as_slice.ensures.value) c.in-Ok-drive_array_splice.ensures.splices))
+    let D = g.A.Item.Default.is_default in
+    let capacity = g.A.Array.CAPACITY in
+    let old = c.args.vec.now in
+    let new = c.drive_array_splice.new.vec in
+    let start = c.in-Splice.start in
+    let end = c.in-Splice.end in
+    let word = c.in-Splice.word in
+    let replacement = c.in-Splice.replacement in
+    let in_order : start ≤ end = omega arith in
+    let in_list : end ≤ items_len old = omega arith in
+    let answered = c.answer_driven.ensures in
+    let driven = c.in-Ok-drive_array_splice.driven in
+    let did = rw c.as_slice.ensures.value at c.in-Ok-drive_array_splice.ensures.splices in
+    rw c.in-Splice.is (splice_answers capacity (items old) (items new) start end word.items replacement.items driven.yields driven.rest c.answer_driven.result
+    in_order in_list answered.items answered.spliced did.list
+    (λ yields rest. ArraySplices D capacity old start end word.items replacement.items yields rest new) did
+    (λ answer. ArrayStep D capacity old (Splice start end word replacement) answer new)
+    (λ fits all. ((in_order, in_list), (fits, all))) (λ over some. ((in_order, in_list), (over, some))))

@@ -49,11 +49,8 @@ returns-in-Drain-clause-step g c =
     let in_order : i ≤ j = omega arith in
     let in_list : j ≤ items_len old = omega arith in
     let taken = left.moved ∙ ap (λ xs. xs ++ removed (items old) (Included i) (Excluded j)) c.in-Ok.ensures.items in
-    rw c.in-Drain.is (
-      (in_order, in_list),
-      drains g.B.Item.Default.is_default (length (all_slots old)) old (view_of g.B.Lent c.drain_into.new.self) i j
-          c.drain_into.new.out.items in_order in_list taken left.items left.spare,
-    )
+    let made = drains g.B.Item.Default.is_default (length (all_slots old)) old (view_of g.B.Lent c.drain_into.new.self) i j c.drain_into.new.out.items in_order in_list taken left.items left.spare in
+    rw c.in-Drain.is ((in_order, in_list), made.0, made.1)
 
 pub returns-then-is_full-clause-step : goal.returns-then-is_full-clause-step
 returns-then-is_full-clause-step g c = grind (arith, common_steps)
