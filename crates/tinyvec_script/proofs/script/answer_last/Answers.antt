@@ -1,12 +1,12 @@
 use Rattle.std.proofs.Common.{◌≡◌, ◌++◌, ◌∷◌, [], true}
-use Rattle.tinyvec_script.proofs.Written.{Gathers-nothing}
+use Rattle.tinyvec_script.proofs.Written.{gathers_nothing}
 use Rattle.tinyvec_script.proofs.HistoryLemmas.{ends_empty, ends_line}
 use Rattle.tinyvec_script.specs.State.{state_of}
 use Rattle.tinyvec_script.proofs.script.answer_last.Goals as goal
 
 pub returns-then-is_empty : goal.returns-then-is_empty
 returns-then-is_empty g c =
-    ([], Gathers-nothing g.W.Write.contents c.args.writer.now c.args.gathered.now, ends_empty (state_of g.B.Lent c.args.vectors.now) c.args.line.now (c.is_empty.ensures.0 c.if-is_empty.true))
+    ([], gathers_nothing, ends_empty (state_of g.B.Lent c.args.vectors.now) c.args.line.now (c.is_empty.ensures.0 c.if-is_empty.true))
 
 pub returns : goal.returns
 returns g c =

@@ -1,11 +1,11 @@
 use Rattle.std.proofs.Common.{◌≡◌, ℕ, ◌<◌, List, [], ◌∷◌, ◌++◌, ap, sym, ◌∙◌, append_assoc, append-nil, refl, length, length-append, arith}
-use Rattle.tinyvec_script.proofs.Written.{Gathers-nothing, Gathers-then}
+use Rattle.tinyvec_script.proofs.Written.{gathers_nothing, gathers_then}
 use Rattle.tinyvec_script.proofs.HistoryLemmas.{feeds_nothing, feeds_then, feeds_piece, feeds_line}
 use Rattle.tinyvec_script.specs.State.{state_of}
 use Rattle.tinyvec_script.proofs.script.feed.Goals as goal
 
 pub loop-front-init : goal.loop-front-init
-loop-front-init g c = ([], [], refl, Gathers-nothing g.W.Write.contents c.args.writer.now c.args.gathered.now, feeds_nothing (state_of g.B.Lent c.args.vectors.now) c.args.line.now)
+loop-front-init g c = ([], [], refl, gathers_nothing, feeds_nothing (state_of g.B.Lent c.args.vectors.now) c.args.line.now)
 
 -- a line behind others
 split_further : (bytes lines front after rest : List ℕ) → bytes ≡ lines ++ rest → rest ≡ front ++ 10 ∷ after → bytes ≡ (lines ++ (front ++ 10 ∷ [])) ++ after
@@ -28,7 +28,7 @@ loop-front-preserved g c =
       before.0 ++ (front ++ 10 ∷ []),
       before.1 ++ (answered.0 ++ 10 ∷ []),
       split_further c.args.bytes.now before.0 front c.in-Some.after.now c.loop-front.rest.now before.2 c.in-Some.ensures.some,
-      Gathers-then _ _ _ _ c.args.gathered.now _ _ _ _ before.3 answered.1,
+      gathers_then before.3 answered.1,
       feeds_then (state_of g.B.Lent c.args.vectors.now) state next c.args.line.now c.loop-front.line c.clear.new.self before.0 (front ++ 10 ∷ []) before.1 (answered.0 ++ 10 ∷ []) before.4 line,
     )
 
