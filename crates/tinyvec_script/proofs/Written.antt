@@ -1,12 +1,12 @@
 -- What was gathered is written.
-use Rattle.std.proofs.Common.{◌≡◌, ℕ, ◌+◌, ◌-◌, ◌<◌, ◌≤◌, length, take, get_or, ◌∷◌, ◌⊎◌, inl, inr, List, [], ◌++◌, Option, None, Some, ap, sym, refl, subst, ◌∙◌, append-nil, append_assoc, arith, le_refl, le_trans, Result, Ok, Err, OnOk, IsErr, true≢false, is_err}
+use Rattle.std.proofs.Common.{◌≡◌, ℕ, ◌+◌, ◌-◌, ◌<◌, ◌≤◌, length, take, get_or, ◌∷◌, inl, inr, List, [], ◌++◌, Option, None, Some, ap, sym, refl, subst, ◌∙◌, append-nil, append_assoc, arith, le_refl, le_trans, Result, Ok, Err, IsErr, true≢false, is_err}
 use Rattle.std.specs.List.{flat_map}
 use Rattle.std.proofs.lemmas.List.{take_more}
 use Rattle.std.proofs.lemmas.Grind.{flat_map-append}
 use Rattle.std.specs.Io.KnownBytes.{Appends, Keeps}
 use Rattle.std.proofs.KnownBytes.{Appends-nil, Appends-trans, Appends-kept}
 use Rattle.tinyvec_io.specs.Counted.{CountedView, AppendsFront, Reported, faults_after, one_more_fault}
-use Rattle.tinyvec_script.specs.Writes.{gathered_of, Writes, GathersBehind, Gathers, Sends}
+use Rattle.tinyvec_script.specs.Writes.{gathered_of, Writes, Gathers, Sends}
 
 -- a fault that was reported since then was reported since before, and one up to then was up to later
 pub reported_since : (f g h : ℕ) → f ≤ g → Reported g h → Reported f h
