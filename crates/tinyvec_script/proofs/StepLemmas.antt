@@ -1,35 +1,18 @@
 -- Steps of a vector that is seen as slots, from what its calls tell.
-use Rattle.std.proofs.Common.{◌≡◌, ℕ, ◌+◌, ◌-◌, ◌<◌, ◌≤◌, List, [], ◌∷◌, ◌++◌, length, take, drop, set, get_or, insert, remove, slice_index_or, refl, sym, ap, ◌∙◌, arith, length-take, length-set}
+use Rattle.std.proofs.Common.{◌≡◌, ℕ, ◌+◌, ◌-◌, ◌<◌, ◌≤◌, List, ◌++◌, length, take, set, get_or, slice_index_or, refl, ap, ◌∙◌, arith, length-take, length-set}
 use Rattle.std.specs.List.{swap_remove}
 use Rattle.std.specs.declared.ops.Bound.TheVariants.{Included, Excluded}
-use Rattle.std.proofs.lemmas.List.{length_push}
-use Rattle.std.proofs.lemmas.List.Edits.{length-insert, length-remove}
 use Rattle.std.proofs.lemmas.Option.{slice_get_read}
-use Rattle.tinyvec_slots.specs.Slots.{Slots, items, spare, items_len, Vacates, SlotRule}
+use Rattle.tinyvec_slots.specs.Slots.{Slots, items, items_len, Vacates, SlotRule}
 use Rattle.tinyvec_slots.specs.Ranges.{before, removed, after}
 use Rattle.tinyvec_slots.proofs.Lists.{length-remove_range, length-slice_range}
-use Rattle.tinyvec_slots.proofs.SlotsLemmas.{slots_used, slots_freed}
+use Rattle.tinyvec_slots.proofs.SlotsLemmas.{slots_freed}
 use Rattle.tinyvec_script.specs.Driving.{ListDrains}
 use Rattle.tinyvec_script.specs.Step.{ArrayStep}
-use Rattle.tinyvec_script.specs.declared.call.Call.TheVariants.{Push, Insert, Remove, SwapRemove, Truncate}
+use Rattle.tinyvec_script.specs.declared.call.Call.TheVariants.{SwapRemove, Truncate}
 use Rattle.tinyvec_script.specs.declared.call.Answer.TheVariants as answers
 
 module _ {T : Type 0} (D : T → Type 0) (capacity : ℕ) (old new : Slots T) where
-  pub pushes : (x : T) → items_len old < capacity → items new ≡ items old ++ x ∷ [] → spare new ≡ drop 1 (spare old)
-      → ArrayStep D capacity old (Push x) answers.Done new
-  pushes x room is behind = (room, is, slots_used D old new 1 (ap length is ∙ length_push (items old) x) behind)
-
-  pub inserts : (i : ℕ) (x : T) → i ≤ items_len old → items_len old < capacity → items new ≡ insert (items old) i x
-      → spare new ≡ drop 1 (spare old) → ArrayStep D capacity old (Insert i x) answers.Done new
-  inserts i x in_list room is behind =
-      (in_list, room, is, slots_used D old new 1 (ap length is ∙ length-insert (items old) i x in_list) behind)
-
-  pub removes : (i : ℕ) (x : T) → i < items_len old → x ≡ slice_index_or (items old) i x → items new ≡ remove (items old) i
-      → Vacates D 1 old new → ArrayStep D capacity old (Remove i) (answers.Some x) new
-  removes i x in_list value is frees =
-      let fewer : items_len old ≡ items_len new + 1 = sym (ap (λ n. n + 1) (ap length is) ∙ length-remove (items old) i in_list) in
-      (slice_get_read (items old) _ i _ refl in_list value, is, slots_freed D old new 1 fewer frees)
-
   pub swap_removes : (i : ℕ) (x : T) → i < items_len old → x ≡ slice_index_or (items old) i x
       → items new ≡ swap_remove (items old) i x → Vacates D 1 old new → ArrayStep D capacity old (SwapRemove i) (answers.Some x) new
   swap_removes i x in_list value is frees =

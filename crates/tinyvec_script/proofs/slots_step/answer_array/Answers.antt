@@ -1,31 +1,33 @@
-use Rattle.std.proofs.Common.{◌≤◌, ◌++◌, ap, ◌∙◌, arith, rules}
+use Rattle.std.proofs.Common.{refl, ◌<◌, ◌≤◌, ◌++◌, ap, ◌∙◌, arith, rules}
 use Rattle.std.specs.declared.ops.Bound.TheVariants.{Included, Excluded}
 use Rattle.tinyvec_slots.specs.Slots.{items, items_len}
 use Rattle.tinyvec_slots.specs.Ranges.{removed}
 use Rattle.tinyvec_script.specs.Driving.{ArraySplices}
 use Rattle.tinyvec_script.specs.Step.{ArrayStep}
 use Rattle.tinyvec_script.specs.declared.call.Call.TheVariants.{Splice}
-use Rattle.tinyvec_script.proofs.StepLemmas.{pushes, inserts, removes, swap_removes, truncates, drains}
+use Rattle.tinyvec.proofs.TinyLemmas.{slots_pushed, slots_inserted, slots_removed}
+use Rattle.std.proofs.lemmas.Option.{slice_get_read}
+use Rattle.tinyvec_script.proofs.StepLemmas.{swap_removes, truncates, drains}
 use Rattle.tinyvec_script.proofs.DrivingLemmas.{splice_answers}
 use Rattle.tinyvec_script.proofs.slots_step.answer_array.Goals as goal
 
 pub returns-in-Push : goal.returns-in-Push
 returns-in-Push g c =
     let made = c.push.ensures in
-    rw c.in-Push.is (pushes g.A.Item.Default.is_default g.A.Array.CAPACITY c.args.vec.now c.push.new.self c.in-Push.x
-    (search rules) made.items made.spare)
+    rw c.in-Push.is (search rules, made.items, slots_pushed g.A.Item.Default.is_default c.args.vec.now c.push.new.self c.in-Push.x made.items made.spare)
 
 pub returns-in-Insert : goal.returns-in-Insert
 returns-in-Insert g c =
     let made = c.insert.ensures in
-    rw c.in-Insert.is (inserts g.A.Item.Default.is_default g.A.Array.CAPACITY c.args.vec.now c.insert.new.self c.in-Insert.i c.in-Insert.x
-    (omega arith) (search rules) made.items made.spare)
+    let in_list : c.in-Insert.i ≤ items_len c.args.vec.now = omega arith in
+    rw c.in-Insert.is (in_list, search rules, made.items, slots_inserted g.A.Item.Default.is_default c.args.vec.now c.insert.new.self c.in-Insert.i c.in-Insert.x in_list made.items made.spare)
 
 pub returns-in-Remove : goal.returns-in-Remove
 returns-in-Remove g c =
     let made = c.remove.ensures in
-    rw c.in-Remove.is (removes g.A.Item.Default.is_default g.A.Array.CAPACITY c.args.vec.now c.remove.new.self c.in-Remove.i c.remove.result
-    (omega arith) made.value made.items made.spare)
+    let old = c.args.vec.now in
+    let in_list : c.in-Remove.i < items_len old = omega arith in
+    rw c.in-Remove.is (slice_get_read (items old) _ c.in-Remove.i _ refl in_list made.value, made.items, slots_removed g.A.Item.Default.is_default old c.remove.new.self c.in-Remove.i in_list made.items made.spare)
 
 pub returns-in-SwapRemove : goal.returns-in-SwapRemove
 returns-in-SwapRemove g c =
