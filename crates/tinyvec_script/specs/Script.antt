@@ -8,7 +8,7 @@ use Rattle.tinyvec_script.specs.declared.call.Answer.{Answer}
 use Rattle.tinyvec_script.specs.declared.command.Name.{Name}
 use Rattle.tinyvec_script.specs.declared.command.Name.TheVariants.{A, S, T}
 use Rattle.tinyvec_script.specs.Step.{ArrayStep, SliceStep}
-use Rattle.tinyvec_script.specs.Place.{Tiny, in_array}
+use Rattle.tinyvec.specs.View.{TinyView, in_array}
 use Rattle.tinyvec_script.specs.TinyCalls.{TinyStep}
 use Rattle.tinyvec_script.specs.TextCalls.{TextCall, IsTextCommand, TextStep}
 use Rattle.tinyvec_script.specs.Command.{IsCommand}
@@ -20,7 +20,7 @@ use Rattle.tinyvec_script.specs.Text.{answer_text, vector_text, tiny_text, inlin
 pub record State : Type 0 where
   pub a : Slots ℤ
   pub s : Slots ℤ
-  pub t : Tiny ℤ
+  pub t : TinyView ℤ
   pub x : Text
 
 -- four zeros, of which none holds the list
