@@ -1,6 +1,7 @@
 -- Items asked of an iterator, as long as there is room.
-use Rattle.std.specs.Prelude.{◌≡◌, ℕ, ◌<◌, ◌≤◌, List, length, Option, None}
-use Rattle.std.specs.Iterator.{Yields, YieldsThen, YieldsFirst, AlwaysYields}
+use Rattle.std.specs.Prelude.{◌≡◌, ℕ, ◌<◌, ◌≤◌, ◌↔◌, List, ◌∷◌, length, take, drop, Option, Some, None, Result, IsOk, IfErr, MatchResult}
+use Rattle.std.specs.Iterator.{Yields, YieldsThen, YieldsFirst, AlwaysYields, Drains}
+use Rattle.tinyvec_slots.specs.declared.no_room.NoRoom.{NoRoom}
 
 -- Calls of `next` from s yielded xs and left u. They stopped at n items, or at `None` if fewer came.
 pub record YieldsUpTo {S A : Type 0} (steps : S → Option A → S → Type 0) (n : ℕ) (s : S) (xs : List A) (u : S) : Type 0 where
@@ -16,3 +17,20 @@ ShowsItems {S} {A} steps rest = (s : S) (r : Option A) (t : S) → steps s r t �
 -- range, a slice's items, a map and more.
 abbrev pub IntoIterYields : {U S A : Type 0} → (U → S → Type 0) → (S → Option A → S → Type 0) → U → List A → Type 0
 IntoIterYields {U} {S} becomes steps iter xs = (it : S) → becomes iter it → AlwaysYields steps (λ x. x) it xs
+
+-- A call that had room for n items asked `iter` for them, and appended those that came, if `Adds xs` says that it appended xs.
+module _ {U S A : Type 0} (becomes : U → S → Type 0) (steps : S → Option A → S → Type 0) (iter : U) (n : ℕ) (Adds : List A → Type 0) where
+  -- It returned the rest of the iterator. `listed` is for one of which `rest` shows the remaining items.
+  pub record Fills (left : S) : Type 0 where
+    pub ran : (it : S) × (xs : List A) × becomes iter it × YieldsUpTo steps n it xs left × Adds xs
+    pub listed : (rest : S → List A) → ShowsItems steps rest
+        → (it : S) × becomes iter it × Adds (take n (rest it)) × (rest left ≡ drop n (rest it))
+
+  -- It failed if more came. `known` is for items that are known, as those of a `Vec`, a range or a slice, and that fit.
+  pub record Extends {R : Type 0} (r : Result R (NoRoom A S)) : Type 0 where
+    pub ran : (it : S) × (xs : List A) × becomes iter it
+        × MatchResult r (λ _. Drains steps it xs) (λ refused. YieldsThen steps it xs (Some refused.item) refused.rest) × Adds xs
+    pub listed : (rest : S → List A) → ShowsItems steps rest
+        → (it : S) × becomes iter it × (IsOk r ↔ (length (rest it) ≤ n)) × Adds (take n (rest it))
+        × IfErr r (λ refused. drop n (rest it) ≡ refused.item ∷ rest refused.rest)
+    pub known : (xs : List A) → IntoIterYields becomes steps iter xs → length xs ≤ n → IsOk r × Adds xs
