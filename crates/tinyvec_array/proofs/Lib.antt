@@ -3,3 +3,4 @@ pub mod DrainEndLemmas
 pub mod IntoIterLemmas
 pub mod IterMutLemmas
 pub mod SpliceLemmas
+pub mod LendsLemmas

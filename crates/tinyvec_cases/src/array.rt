@@ -301,6 +301,22 @@ impl<T: Item, A: Array<Item = T>> Vector for ArrayVec<A> {
     fn own(&mut self, name: &str, words: &mut Words<'_>, out: &mut String) -> Result<(), Wrong> {
         let alloc = words.alloc;
         match name {
+            "push_mut" => {
+                let (x, y) = (words.item()?, words.item()?);
+                if self.is_full() {
+                    return Err(Wrong::Place);
+                }
+                *self.push_mut(x) = y;
+                Ok(())
+            }
+            "insert_mut" => {
+                let (i, x, y) = (words.index()?, words.item()?, words.item()?);
+                if i > self.len() || self.is_full() {
+                    return Err(Wrong::Place);
+                }
+                *self.insert_mut(i, x) = y;
+                Ok(())
+            }
             "drain_to_vec" => say_drained(self.drain_to_vec(alloc), out),
             "try_drain_to_vec" => say_drained(self.try_drain_to_vec(alloc), out),
             "drain_to_vec_and_reserve" => say_drained(

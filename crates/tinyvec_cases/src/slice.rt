@@ -5,7 +5,7 @@ use crate::held::Copies;
 use crate::vector::Vector;
 use tinyvec::{GenericSliceVecDrain, Lent, NoRoom, SliceVec};
 use tinyvec_rows::{
-    Item, Span, Wrong, done, is_within, say, say_all, say_hint, say_rest, say_slots,
+    Item, Span, Words, Wrong, done, is_within, say, say_all, say_hint, say_rest, say_slots,
 };
 
 impl<'s, T: Item> Vector for SliceVec<'s, T> {
@@ -172,6 +172,18 @@ impl<'s, T: Item> Vector for SliceVec<'s, T> {
             return Err(Wrong::Place);
         }
         drained(&mut self.drain(range), steps, out)
+    }
+
+    fn own(&mut self, name: &str, words: &mut Words<'_>, _out: &mut String) -> Result<(), Wrong> {
+        if name != "push_mut" {
+            return Err(Wrong::Call);
+        }
+        let (x, y) = (words.item()?, words.item()?);
+        if self.is_full() {
+            return Err(Wrong::Place);
+        }
+        *self.push_mut(x) = y;
+        Ok(())
     }
 }
 

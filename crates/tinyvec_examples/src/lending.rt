@@ -1,5 +1,5 @@
 //! Callers that write through what a vector lends.
-ghost use Rattle.std.specs.Prelude.{◌≡◌, ◌<◌, ◌∷◌, [], pos, take, drop, slice_set};
+ghost use Rattle.std.specs.Prelude.{◌≡◌, ◌<◌, ◌∷◌, [], pos, take, drop, insert, slice_set};
 ghost use Rattle.tinyvec_array.specs.Slots.{items, spare, items_len};
 
 use tinyvec_array::{Array, ArrayVec};
@@ -20,6 +20,25 @@ pub fn second_written() -> [i32; 4]
     let mut v = ArrayVec::from_array_len([1, 2, 3, 4], 3);
     v[1] = 7;
     v.into_inner()
+}
+
+/// The new item is written, after a push and after an insertion.
+pub fn new_written() -> [i32; 4]
+    ensures { result ≡ pos 5 ∷ pos 1 ∷ pos 8 ∷ pos 4 ∷ [] }
+{
+    let mut v = ArrayVec::from_array_len([1, 2, 3, 4], 1);
+    *v.push_mut(7) = 8;
+    *v.insert_mut(0, 6) = 5;
+    v.into_inner()
+}
+
+/// Pushes `x`, and returns it for writing, in any vector.
+pub fn push_then_write<A: Array>(v: &mut ArrayVec<A>, x: A::Item, y: A::Item)
+    requires { items_len v.old < A.CAPACITY }
+    ensures items { items v.new ≡ insert (items v.old) (items_len v.old) y }
+    ensures spare { spare v.new ≡ drop 1 (spare v.old) }
+{
+    *v.push_mut(x) = y;
 }
 
 /// A spare slot is written, through the array.

@@ -1,5 +1,5 @@
 -- What a vector in lent slots is after a borrow of its items.
-use Rattle.std.specs.Prelude.{ℕ, List, length, slice_set}
+use Rattle.std.specs.Prelude.{ℕ, ◌+◌, List, length, slice_set}
 use Rattle.std.specs.Borrow.{Lends, Fml, MutBor, RattleType, Array}
 use Rattle.tinyvec_slice.specs.SliceParts.{with_front, with_back}
 use Rattle.tinyvec_slice.specs.SliceVec.{items_of}
@@ -23,6 +23,11 @@ module _ (B I : RattleType) (g : Lent.Ghosts B.Denot I.Denot) (v : MutBor (Gener
   -- once the borrow r ends, slot i is what r shows last
   abbrev pub lends_item : ℕ → MutBor I.Denot → Fml
   lends_item i r = Lends (the_row B I) I v r (λ x. at_slots g v.now (slice_set (g.slots v.now.lent) i x))
+
+  -- once the borrow r ends, the first spare slot is what r shows last, and belongs to the list
+  abbrev pub lends_pushed : MutBor I.Denot → Fml
+  lends_pushed r = Lends (the_row B I) I v r
+      (λ x. record { lent = g.with_slots v.now.lent (slice_set (g.slots v.now.lent) (length (items_of g v.now)) x); len = length (items_of g v.now) + 1 })
 
   -- once the borrow r ends, the slots are those that r shows last
   abbrev pub lends_inner : MutBor (List I.Denot) → Fml

@@ -1,9 +1,11 @@
 -- Equality of lists, part by part.
 use Rattle.std.proofs.Common.{◌≡◌, ℕ, Option, Some, None, true≢false, min, suc, zero, ◌+◌, ◌-◌, ◌%◌, ◌<◌, ◌≤◌, Bool, true, false, ◌&&◌, List, [], ◌∷◌, ◌++◌, length, length-drop, length-take-le, get_or, take, drop, refl, sym, ◌∙◌, ap, arith, rules, add-one}
-use Rattle.std.specs.Cmp.{IsPartialOrder, Equal-is, first_so, second_so}
-use Rattle.std.specs.Cmp.Lexicographic.{pointwise, slice_cmp, slice_partial_cmp}
+use Rattle.std.specs.Bool.{Decides}
+use Rattle.std.specs.Cmp.{Equal-is, first_so, second_so}
+use Rattle.std.specs.Prelude.{unwrap_or}
+use Rattle.std.specs.Cmp.Lexicographic.{pointwise, slice_cmp, slice_partial_cmp, lists_agrees}
 use Rattle.tinyvec_slots.specs.Comparing.{FirstDifference, DiffersAt}
-use Rattle.std.specs.Ordering.{eq_by_cmp, is_eq, nat_cmp, ordering_then, partial_ordering_then}
+use Rattle.std.specs.Ordering.{eq_by_cmp, nat_cmp, partial_ordering_then}
 use Rattle.std.specs.declared.cmp.Ordering.{Ordering}
 use Rattle.std.specs.declared.cmp.Ordering.TheVariants.{Less, Equal, Greater}
 use Rattle.std.proofs.lemmas.List.{take_all, take_rest, get_or-take}
@@ -129,19 +131,19 @@ module _ {T : Type 0} (E : T → T → Bool) where
   SameOf n m xs ys = pointwise E (take n (take m xs)) (take n (take m ys)) ≡ true
 
   -- of the first m pairs the first that is not equal is x and y, so it decides the order
-  module _ {C : T → T → Option Ordering} (o : IsPartialOrder E C) where
+  module _ {C : T → T → Option Ordering} (level : (x y : T) → Decides (E x y) (C x y ≡ Some Equal)) where
     decides : (x y : T) (r rest : Option Ordering) → C x y ≡ r → E x y ≡ false → partial_ordering_then r rest ≡ r
     decides x y None rest e u = refl
     decides x y (Some Less) rest e u = refl
     decides x y (Some Greater) rest e u = refl
-    decides x y (Some Equal) rest e u = absurd (true≢false (sym ((o.matches_eq x y).1 e) ∙ u))
+    decides x y (Some Equal) rest e u = absurd (true≢false (sym ((level x y).1 e) ∙ u))
 
     pub partial_order_at : (n m : ℕ) (xs ys : List T) (x y : T) → n < m → m ≤ length xs → m ≤ length ys → SameOf n m xs ys
         → x ≡ get_or xs n x → y ≡ get_or ys n y → E x y ≡ false → C x y ≡ slice_partial_cmp C xs ys
     partial_order_at zero m (p ∷ xs) (q ∷ ys) x y l h k e ex ey u =
         sym (decides x y (C x y) (slice_partial_cmp C xs ys) refl u) ∙ (λ i. partial_ordering_then (C (ex i) (ey i)) (slice_partial_cmp C xs ys))
     partial_order_at (suc n) (suc m) (p ∷ xs) (q ∷ ys) x y l h k e ex ey u =
-        let same = (o.matches_eq p q).0 (first_so (E p q) (pointwise E (take n (take m xs)) (take n (take m ys))) e) in
+        let same = (level p q).0 (first_so (E p q) (pointwise E (take n (take m xs)) (take n (take m ys))) e) in
         let others = second_so (E p q) (pointwise E (take n (take m xs)) (take n (take m ys))) e in
         rw same (partial_order_at n m xs ys x y (omega arith) (omega arith) (omega arith) others ex ey u)
     partial_order_at zero m [] ys x y l h k e ex ey u = absurd (omega arith)
@@ -158,36 +160,21 @@ module _ {T : Type 0} (E : T → T → Bool) where
     partial_order_long m (p ∷ xs) [] e same = ap Some (nat_cmp-greater (length xs))
     partial_order_long zero (p ∷ xs) (q ∷ ys) e same = absurd (omega (arith, e))
     partial_order_long (suc m) (p ∷ xs) (q ∷ ys) e same =
-        let now = (o.matches_eq p q).0 (first_so (E p q) (pointwise E (take m xs) (take m ys)) same) in
+        let now = (level p q).0 (first_so (E p q) (pointwise E (take m xs) (take m ys)) same) in
         rw now (rw (nat_cmp-suc (length xs) (length ys)) (partial_order_long m xs ys (omega (arith, e)) (second_so (E p q) (pointwise E (take m xs) (take m ys)) same)))
 
+  -- the same where each pair has an order
   module _ (R : T → T → Ordering) (ties : (x y : T) → E x y ≡ eq_by_cmp R x y) where
-    decides_all : (x y : T) (r rest : Ordering) → R x y ≡ r → E x y ≡ false → ordering_then r rest ≡ r
-    decides_all x y Less rest e u = refl
-    decides_all x y Greater rest e u = refl
-    decides_all x y Equal rest e u = absurd (true≢false (sym (ties x y ∙ ap is_eq e) ∙ u))
+    inside : (r s : Ordering) → Some r ≡ Some s → r ≡ s
+    inside r s e = ap (λ p. unwrap_or p Equal) e
+
+    some_level : (x y : T) → Decides (E x y) (Some (R x y) ≡ Some Equal)
+    some_level x y = (λ e. ap Some ((Equal-is (R x y)).0 (sym (ties x y) ∙ e)), λ e. ties x y ∙ (Equal-is (R x y)).1 (inside (R x y) Equal e))
 
     pub order_at : (n m : ℕ) (xs ys : List T) (x y : T) → n < m → m ≤ length xs → m ≤ length ys → SameOf n m xs ys
         → x ≡ get_or xs n x → y ≡ get_or ys n y → E x y ≡ false → R x y ≡ slice_cmp R xs ys
-    order_at zero m (p ∷ xs) (q ∷ ys) x y l h k e ex ey u =
-        sym (decides_all x y (R x y) (slice_cmp R xs ys) refl u) ∙ (λ i. ordering_then (R (ex i) (ey i)) (slice_cmp R xs ys))
-    order_at (suc n) (suc m) (p ∷ xs) (q ∷ ys) x y l h k e ex ey u =
-        let same = (Equal-is (R p q)).0 (sym (ties p q) ∙ first_so (E p q) (pointwise E (take n (take m xs)) (take n (take m ys))) e) in
-        let others = second_so (E p q) (pointwise E (take n (take m xs)) (take n (take m ys))) e in
-        rw same (order_at n m xs ys x y (omega arith) (omega arith) (omega arith) others ex ey u)
-    order_at zero m [] ys x y l h k e ex ey u = absurd (omega arith)
-    order_at zero m (p ∷ xs) [] x y l h k e ex ey u = absurd (omega arith)
-    order_at (suc n) zero xs ys x y l h k e ex ey u = absurd (omega arith)
-    order_at (suc n) (suc m) [] ys x y l h k e ex ey u = absurd (omega arith)
-    order_at (suc n) (suc m) (p ∷ xs) [] x y l h k e ex ey u = absurd (omega arith)
+    order_at n m xs ys x y l h k e ex ey u = inside _ _ (partial_order_at some_level n m xs ys x y l h k e ex ey u ∙ lists_agrees {R = R} (λ p q. refl) xs ys)
 
-    -- all pairs are equal, so the lengths decide
     pub order_long : (m : ℕ) (xs ys : List T) → m ≡ min (length xs) (length ys) → pointwise E (take m xs) (take m ys) ≡ true
         → nat_cmp (length xs) (length ys) ≡ slice_cmp R xs ys
-    order_long m [] [] e same = refl
-    order_long m [] (q ∷ ys) e same = nat_cmp-less (length ys)
-    order_long m (p ∷ xs) [] e same = nat_cmp-greater (length xs)
-    order_long zero (p ∷ xs) (q ∷ ys) e same = absurd (omega (arith, e))
-    order_long (suc m) (p ∷ xs) (q ∷ ys) e same =
-        let now = (Equal-is (R p q)).0 (sym (ties p q) ∙ first_so (E p q) (pointwise E (take m xs) (take m ys)) same) in
-        rw now (rw (nat_cmp-suc (length xs) (length ys)) (order_long m xs ys (omega (arith, e)) (second_so (E p q) (pointwise E (take m xs) (take m ys)) same)))
+    order_long m xs ys e same = inside _ _ (partial_order_long some_level m xs ys e same ∙ lists_agrees {R = R} (λ p q. refl) xs ys)

@@ -23,6 +23,10 @@ example-lends_spare = refl
 pub example-lends_item : slice_set (nums (1 ∷ 2 ∷ 0 ∷ [])) 1 7 ≡ 1 ∷ 7 ∷ 0 ∷ []
 example-lends_item = refl
 
+-- of tinyvec_slice.specs.Lends
+pub example-lends_pushed : slice_set (nums (1 ∷ 2 ∷ 0 ∷ [])) 2 7 ≡ 1 ∷ 2 ∷ 7 ∷ []
+example-lends_pushed = refl
+
 -- of tinyvec_slice.specs.Making
 pub example-lends_array : nums (3 ∷ 4 ∷ []) ≡ 3 ∷ 4 ∷ []
 example-lends_array = refl

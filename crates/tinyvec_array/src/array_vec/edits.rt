@@ -1,13 +1,14 @@
 //! Items that are pushed, popped, inserted, removed and cut off.
 ghost use Rattle.std.specs.Prelude.{◌≡◌, ◌-◌, ◌<◌, ◌≤◌, ◌↔◌, [], ◌∷◌, ◌++◌, take, drop, slice_get, slice_index_or, IsSome, OnSome, IfNone, IfSome, ◌+◌, remove, insert, ℕ, All, length, if◌then◌else◌, is_ok, IsOk, OnOk, OnErr, Err};
 ghost use Rattle.tinyvec_slots.specs.Slots.{items, spare, items_len, Vacates, AreDefaults};
+ghost use Rattle.std.specs.Borrow.{sem};
 ghost use Rattle.std.specs.List.{swap_remove, SwappedAt, AppendsClones};
 ghost use Rattle.tinyvec_slots.specs.Clones.{RefusedAt, ClonesAreEqual, ClonesOver};
 
 use crate::slots::{bounded_index, prefers_shifting_in};
 use crate::{Array, ArrayVec, TryFromSliceError};
 use std::mem;
-use tinyvec_slots::{InSlots, fill_default, insert_shifting, last_to, remove_shifting};
+use tinyvec_slots::{InSlots, fill_default, insert_shifting, last_to, remove_shifting, slot_of};
 
 impl<A: Array> ArrayVec<A> {
     /// Appends `value`.
@@ -37,6 +38,35 @@ impl<A: Array> ArrayVec<A> {
         }
         self.push(value);
         None
+    }
+
+    ghost use Rattle.tinyvec_array.specs.Lends.{lends_inserted};
+
+    /// Appends `value`, and returns it for writing.
+    pub fn push_mut(&mut self, value: A::Item) -> &mut A::Item
+        requires { items_len self.old < A.CAPACITY }
+        ensures* writes_back { sem 𝓛 (lends_inserted A.row A.Item.row A.Array A.Item.Default self.entry (items_len self.old) result) }
+        ensures value { result.now ≡ value }
+    {
+        let len = self.len();
+        self.push(value);
+        // Tells the proof how many slots there are.
+        let _longer = self.len();
+        slot_of(self, len)
+    }
+
+    /// Inserts `element` at `index`, moves the later items up, and returns the new item for writing.
+    pub fn insert_mut(&mut self, index: usize, element: A::Item) -> &mut A::Item
+        requires in_list { index ≤ items_len self.old }
+        requires room { items_len self.old < A.CAPACITY }
+        ensures* writes_back { sem 𝓛 (lends_inserted A.row A.Item.row A.Array A.Item.Default self.entry index result) }
+        ensures value { result.now ≡ element }
+    {
+        // Tell the proof how many slots there are.
+        let _len = self.len();
+        self.insert(index, element);
+        let _longer = self.len();
+        slot_of(self, index)
     }
 
     /// Removes the last item and returns it. Its slot is reset to a default.

@@ -36,6 +36,15 @@ pub fn write_at(v: &mut SliceVec<'_, u8>, i: usize, x: u8)
     v[i] = x;
 }
 
+/// The item that was pushed.
+pub fn pushed_written(xs: &mut [u8])
+    requires { 3 ≤ length xs.old }
+    ensures { xs.new ≡ slice_set xs.old 2 8 }
+{
+    let mut v = SliceVec::from_slice_len(xs, 2);
+    *v.push_mut(7) = 8;
+}
+
 /// The same of any vector in lent slots.
 pub fn write_any<B: Lent>(v: &mut GenericSliceVec<B>, i: usize, x: B::Item)
     requires { i < length (items_of B.Lent v.old) }

@@ -1,11 +1,12 @@
 //! Items that are pushed, popped, inserted, removed and cut off.
 ghost use Rattle.std.specs.Prelude.{◌≡◌, ◌-◌, ◌<◌, ◌↔◌, [], ◌∷◌, ◌++◌, length, take, drop, slice_get, slice_index_or, IsSome, OnSome, IfNone, IfSome, ◌≤◌, remove, insert};
 ghost use Rattle.tinyvec_slice.specs.SliceVec.{items_of, spare_of, len_of, VacatesOf, items, spare, SameLender};
+ghost use Rattle.std.specs.Borrow.{sem};
 ghost use Rattle.std.specs.List.{swap_remove, SwappedAt};
 
 use crate::{GenericSliceVec, Lent, SliceVec};
 use std::mem;
-use tinyvec_slots::{fill_default, insert_shifting, last_to, prefers_shifting, remove_shifting};
+use tinyvec_slots::{fill_default, insert_shifting, last_to, prefers_shifting, remove_shifting, slot_of};
 
 impl<B: Lent> GenericSliceVec<B> {
     /// Appends `value`.
@@ -18,6 +19,21 @@ impl<B: Lent> GenericSliceVec<B> {
         let len = self.len();
         self.lent.all_mut()[len] = value;
         self.len = len + 1;
+    }
+
+    ghost use Rattle.tinyvec_slice.specs.Lends.{lends_pushed};
+
+    /// Appends `value`, and returns it for writing.
+    pub fn push_mut(&mut self, value: B::Item) -> &mut B::Item
+        requires { 0 < length (spare_of B.Lent self.old) }
+        ensures* writes_back { sem 𝓛 (lends_pushed B.row B.Item.row B.Lent self.entry result) }
+        ensures value { result.now ≡ value }
+    {
+        let len = self.len();
+        self.len = len + 1;
+        let slot = slot_of(self, len);
+        *slot = value;
+        slot
     }
 
     /// Inserts `element` at `index`, and moves the later items up.

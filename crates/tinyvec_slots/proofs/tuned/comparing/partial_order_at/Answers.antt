@@ -12,7 +12,7 @@ returns-then-first-both g c =
     let x = c.index-a-first.result in
     let y = c.index-b-first.result in
     let first = first_of E n m a b c.min-both.ensures c.requires in
-    c.partial_cmp.ensures ∙ partial_order_at g.T.PartialEq.eq g.met.T.PartialOrd.laws n m a b x y c.if-first-both.true (search rules) (search rules) first.1
+    c.partial_cmp.ensures ∙ partial_order_at g.T.PartialEq.eq g.met.T.PartialOrd.laws.matches_eq n m a b x y c.if-first-both.true (search rules) (search rules) first.1
     c.index-a-first.is c.index-b-first.is (unlike_at E n m a b x y first c.if-first-both.true c.index-a-first.is c.index-b-first.is)
 
 pub returns : goal.returns
@@ -22,5 +22,5 @@ returns g c =
     let b = c.args.b.now in
     let n = c.args.first in
     let m = c.min-both.result in
-    ap Some c.cmp.ensures ∙ partial_order_long g.T.PartialEq.eq g.met.T.PartialOrd.laws m a b c.min-both.ensures
+    ap Some c.cmp.ensures ∙ partial_order_long g.T.PartialEq.eq g.met.T.PartialOrd.laws.matches_eq m a b c.min-both.ensures
     (alike_all E n m a b (first_of E n m a b c.min-both.ensures c.requires) c.if-first-both.false (search rules) (search rules))
