@@ -37,14 +37,30 @@ module _ {A T : Type 0} where
     pub fits : length xs ≤ tiny_capacity slots v
 
 module _ {A T X E : Type 0} where
-  -- A call that needs room for `need` items took `old` to `new`, with this result. If there was that room, the capacity is
-  -- unchanged, else it grew by the rule `G`: `Doubles` or `GrowsFor`.
-  pub record RoomGrows (G : ℕ → ℕ → TinyVec A T → TinyVec A T → Type 0) (slots need : ℕ) (old new : TinyVec A T)
-      (result : Result X E) : Type 0 where
-    pub capacity : tiny_capacity slots old ≤ tiny_capacity slots new
-    pub same_room : KeepsRoom slots need old new
-    pub grown : OnOk result (G slots need old new)
-    pub fits : tiny_len new ≤ tiny_capacity slots new
+  module _ (G : ℕ → ℕ → TinyVec A T → TinyVec A T → Type 0) (D : T → Type 0) (slots need : ℕ) (old new : TinyVec A T) (result : Result X E) where
+    -- A call that needs room for `need` items took `old` to `new`, with this result. The list is inline exactly if it was and the
+    -- need is within the slots. If there was that room, the capacity is unchanged, else it grew by the rule `G`: `Doubles` or
+    -- `GrowsFor`.
+    pub record RoomGrows : Type 0 where
+      pub place : OnOk result (PlaceRule slots need old new)
+      pub slot_rule : OnOk result (TinySlotRule D old new)
+      pub capacity : tiny_capacity slots old ≤ tiny_capacity slots new
+      pub same_room : KeepsRoom slots need old new
+      pub grown : OnOk result (G slots need old new)
+      pub fits : tiny_len new ≤ tiny_capacity slots new
+
+    -- the same of a call that clones nothing
+    pub record MakesRoom : Type 0 where
+      pub place : OnOk result (PlaceRule slots need old new)
+      pub slot_rule : TinySlotRule D old new
+      pub capacity : tiny_capacity slots old ≤ tiny_capacity slots new
+      pub same_room : KeepsRoom slots need old new
+      pub grown : OnOk result (G slots need old new)
+      pub fits : tiny_len new ≤ tiny_capacity slots new
+      -- if there is room it allocates nothing, and a failure changes nothing
+      pub succeeds : need ≤ tiny_capacity slots old → IsOk result
+      pub full : OnErr result (tiny_capacity slots old < need)
+      pub refused : OnErr result (Unchanged old new)
 
   -- reserving room for n more items took `old` to `new`, with this result; a list on the heap that grows gets a capacity of `heap`
   pub record Reserves (D : T → Type 0) (slots n heap : ℕ) (old new : TinyVec A T) (result : Result X E) : Type 0 where

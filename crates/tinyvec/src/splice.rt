@@ -6,7 +6,7 @@ ghost use Rattle.std.specs.Iterator.Adapters.{fuse_done, fuse_source, fuse_steps
 ghost use Rattle.std.specs.Iterator.SizeHint.{IsWithinCount};
 ghost use Rattle.tinyvec_slots.specs.Fused.{FusedFinite, FusedCan, fused_rest};
 ghost use Rattle.tinyvec_slots.specs.Ranges.{IsRangeOf, before, removed, after};
-ghost use Rattle.tinyvec.specs.TinyVec.{tiny_items, tiny_len, is_inline, tiny_capacity, StaysInPlace, PlaceRule, TinySlotRule, Unchanged};
+ghost use Rattle.tinyvec.specs.TinyVec.{tiny_items, tiny_len, is_inline, tiny_capacity, StaysInPlace, Unchanged};
 ghost use Rattle.tinyvec_slots.specs.Filling.{ShowsItems, IntoIterYields};
 ghost use Rattle.tinyvec_slots.specs.Replacing.{FusedYields, PutsBetween};
 ghost use Rattle.tinyvec_slots.specs.AnySplice.{finish_placed, finish_bound, Finishes, FinishesWith};
@@ -133,9 +133,7 @@ impl<A: Array> TinyVec<A> {
         ensures items { OnOk result (tiny_items self.new
             ≡ before (tiny_items self.old) (R.start_bound range) ++ replacement.now
             ++ after (tiny_items self.old) (R.end_bound range)) }
-        ensures place { OnOk result (PlaceRule A.CAPACITY (tiny_len self.new) self.old self.new) }
-        ensures slot_rule { OnOk result (TinySlotRule A.Item.is_default self.old self.new) }
-        ensures room { RoomGrows GrowsFor A.CAPACITY (tiny_len self.new) self.old self.new result }
+        ensures room { RoomGrows GrowsFor A.Item.is_default A.CAPACITY (tiny_len self.new) self.old self.new result }
 
         // If there is room it allocates nothing.
         ensures succeeds { length (before (tiny_items self.old) (R.start_bound range)) + length replacement.now

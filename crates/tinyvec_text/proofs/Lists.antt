@@ -7,7 +7,7 @@ use Rattle.std.proofs.lemmas.Str.{IsUtf8-had}
 use Rattle.tinyvec_slots.specs.Clones.{RefusedAt}
 use Rattle.tinyvec_slots.specs.Slots.{AreDefaults}
 use Rattle.tinyvec.proofs.TinyLemmas.{capacity_inline, tiny_slots_framed}
-use Rattle.tinyvec.specs.TinyVec.{tiny_items, tiny_len, tiny_spare, tiny_capacity, is_inline, IsInline, PlaceRule, TinySlotRule, SameFrame, StaysInPlace, Unchanged}
+use Rattle.tinyvec.specs.TinyVec.{tiny_items, tiny_len, tiny_spare, tiny_capacity, is_inline, IsInline, TinySlotRule, SameFrame, StaysInPlace, Unchanged}
 use Rattle.tinyvec.specs.Refused.{RefusedFor}
 use Rattle.tinyvec.specs.Room.{GrowsFor, RoomGrows}
 use Rattle.tinyvec.specs.declared.tiny_vec.TinyVec.{TinyVec}
@@ -123,12 +123,12 @@ module _ {A : Type 0} where
 
   -- a call that made the room that it needs
   pub made_room : {X E : Type 0} (slots need : ℕ) (old new : TinyVec A ℕ) (t : Text) (x : X) → text_of slots old ≡ t → tiny_len new ≡ need
-      → PlaceRule slots (tiny_len new) old new → RoomGrows {X = X} {E = E} GrowsFor slots (tiny_len new) old new (Ok x)
+      → RoomGrows {X = X} {E = E} GrowsFor (λ b. b ≡ 0) slots (tiny_len new) old new (Ok x)
       → MakesRoom {X = X} {E = E} t.inline slots need t (text_of slots new) (Ok x)
-  made_room {X} {E} slots need old new t x same len place room =
+  made_room {X} {E} slots need old new t x same len room =
       subst (λ (u : Text). MakesRoom {X = X} {E = E} u.inline slots need u (text_of slots new) (Ok x)) same
       (subst (λ n. MakesRoom {X = X} {E = E} (is_inline old) slots n (text_of slots old) (text_of slots new) (Ok x)) len record {
-        place = place;
+        place = room.place;
         capacity = room.capacity;
         same_room = room.same_room;
         grown = room.grown;

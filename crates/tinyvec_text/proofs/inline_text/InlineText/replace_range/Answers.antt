@@ -22,7 +22,7 @@ invariant_of-self-2 g c =
     let utf8 = text_utf8 list c.self.invariant in
     let cuts = text_range g.row.N list c.args.self.now c.self.view_is c.self.invariant (range_start (g.R.RangeBounds.start_bound r)) (range_end (g.R.RangeBounds.end_bound r)) c.requires.start_le_end c.requires.start_boundary c.requires.end_boundary in
     let told = c.in_ok-replace_range.ensures in
-    text_kept list c.replace_range.new.self (λ i. (told.place.0 i).0) told.slot_rule c.self.invariant
+    text_kept list c.replace_range.new.self (λ i. (told.room.place.0 i).0) told.room.slot_rule c.self.invariant
     (subst IsUtf8 (sym told.items) (utf8_put (tiny_items list) utf8 _ _ cuts.first cuts.last c.as_bytes.result.now c.as_bytes.ensures.utf8))
 
 pub returns-clause-text : goal.returns-clause-text
@@ -47,7 +47,7 @@ returns-clause-room g c =
     let told = c.in_ok-replace_range.ensures in
     let len = ap length told.items ∙ replaced_len (tiny_items list) c.as_bytes.result.now _ _ cuts.order cuts.last.0
     ∙ (λ i. length (c.self.view_is i).bytes - (range_end end (length (c.self.view_is i).bytes) - range_start start) + length (c.as_bytes.ensures.value i)) in
-    made_room g.row.N _ list c.replace_range.new.self c.args.self.now _ c.self.view_is len told.place told.room
+    made_room g.row.N _ list c.replace_range.new.self c.args.self.now _ c.self.view_is len told.room
 
 pub returns-in_err-replace_range-clause-room : goal.returns-in_err-replace_range-clause-room
 returns-in_err-replace_range-clause-room g c =
