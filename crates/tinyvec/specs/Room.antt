@@ -18,7 +18,8 @@ module _ {A T : Type 0} where
   abbrev pub GrowsTo : ℕ → ℕ → ℕ → TinyVec A T → TinyVec A T → Type 0
   GrowsTo slots need room old new = ViewGrowsTo slots need room (tiny_view old) (tiny_view new)
 
-  -- the same, if one on the heap doubled its capacity, or got `need` if that is more
+  -- if there was less room than `need`, a list that moves got a capacity of `need`, and one on the heap doubled its
+  -- capacity, or got `need` if that is more
   abbrev pub GrowsFor : ℕ → ℕ → TinyVec A T → TinyVec A T → Type 0
   GrowsFor slots need old new = ViewGrowsFor slots need (tiny_view old) (tiny_view new)
 
@@ -81,8 +82,8 @@ module _ {A T X E : Type 0} where
     pub place : OnOk result (is_inline new ≡ false)
     pub room : OnOk result (tiny_len old + n ≤ tiny_capacity slots new)
     pub fits : tiny_len new ≤ tiny_capacity slots new
-    -- A list that moves has room for no further items. On the heap no room is lost, and one that grows does as by `reserve`;
-    -- if there is room it allocates nothing and nothing changes. Nor does it on failure.
+    -- A list that moves has room for no further items. One on the heap grows as by `reserve`; if it has room, it allocates
+    -- nothing, and nothing changes. Nor does it on failure.
     pub moved : IsInline old → OnOk result (tiny_capacity slots new ≡ tiny_len old + n)
     pub keeps_room : is_inline old ≡ false → tiny_capacity slots old ≤ tiny_capacity slots new
     pub grown : is_inline old ≡ false → OnOk result (GrowsFor slots (tiny_len old + n) old new)

@@ -104,7 +104,7 @@ impl<A: Array> TinyVec<A> {
         mem::take(&mut self.as_mut_slice()[i])
     }
 
-    /// An empty vector, inline.
+    /// An empty vector. It is inline, and all its slots hold defaults.
     pub fn new(alloc: Global) -> Self
         ensures items { tiny_items result ≡ [] }
         ensures spare { AreDefaults A.Item.is_default A.CAPACITY (tiny_spare result) }

@@ -1,69 +1,15 @@
 -- Lemmas on the list and the spare slots of a vector in lent slots.
-use Rattle.std.proofs.Common.{◌≡◌, ℕ, ◌+◌, ◌-◌, ◌<◌, ◌≤◌, List, ◌∷◌, ◌++◌, length, take, drop, set, insert, remove, slice_range, refl, sym, ap, ◌∙◌, arith, rules, length-append, take-append-drop}
+use Rattle.std.proofs.Common.{◌≡◌, ℕ, ◌+◌, ◌<◌, ◌≤◌, List, ◌++◌, length, take, drop, set, slice_range, refl, sym, ap, ◌∙◌, arith, rules, length-append, take-append-drop}
 use Rattle.std.proofs.Math.Seq.{take-set-lt}
-use Rattle.std.proofs.lemmas.List.{same_lists, places, drop-set-add}
+use Rattle.std.proofs.lemmas.List.{places}
 use Rattle.std.specs.Borrow.{MutBor}
-use Rattle.tinyvec_slots.proofs.Lists.{length-remove_range, length-slice_range, drop-put, drop-vacated, take-inserted, drop-inserted, take-removed, drop-removed}
+use Rattle.tinyvec_slots.proofs.BorderLemmas.{spare_from}
+use Rattle.tinyvec_slots.proofs.Lists.{length-remove_range, length-slice_range}
 use Rattle.tinyvec_slice.specs.SliceParts.{with_front}
 use Rattle.tinyvec_slice.specs.SliceVec.{items_of, spare_of, slots_of, SameLender, VacatesOf, items, spare, slots}
 use Rattle.tinyvec_slice.specs.Lends.{at_slots}
 use Rattle.tinyvec_slice.specs.declared.lent.Lent as Lent
 use Rattle.tinyvec_slice.specs.declared.slice_vec.GenericSliceVec.{GenericSliceVec}
-
--- A vector's `len` may be more than there are slots. Then its list is all of them, and n below is how long the list is.
-module _ {X : Type 0} (k : ℕ) (xs : List X) (n : ℕ) (is : n ≡ length (take k xs)) where
-  pub list_to : take n xs ≡ take k xs
-  list_to = same_lists _ _ (search (rules, places, is)) (λ i d h. grind (arith, places, is))
-
-  pub spare_from : drop n xs ≡ drop k xs
-  spare_from = same_lists _ _ (search (rules, places, is)) (λ i d h. grind (arith, places, is))
-
-  -- with a spare slot it is the vector's `len`
-  pub border : 0 < length (drop k xs) → n ≡ k
-  border room = search (rules, places, is)
-
-  pub within : n ≤ length xs
-  within = search (rules, places, is)
-
-  -- and there are more slots than the list has items
-  pub beyond : 0 < length (drop k xs) → n < length xs
-  beyond room = search (rules, places, is)
-
-  -- behind an item that was put at the border lie the spare slots but for the first
-  pub drop-pushed : (x : X) → drop (n + 1) (set xs n x) ≡ drop 1 (drop k xs)
-  drop-pushed x = drop-put xs n x ∙ ap (drop 1) spare_from
-
-  -- what the last item was replaced by stands before the spare slots
-  pub drop-popped : (d : X) → 0 < n → drop (n - 1) (set xs (n - 1) d) ≡ d ∷ drop k xs
-  drop-popped d pos = drop-vacated xs n d pos within ∙ ap (λ l. d ∷ l) spare_from
-
-  -- behind the list into which an item was put lie the spare slots but for the first
-  pub drop-put_in : (i : ℕ) (x : X) → i ≤ n → 0 < length (drop k xs)
-      → drop (n + 1) (insert (take n xs) i x ++ drop (n + 1) xs) ≡ drop 1 (drop k xs)
-  drop-put_in i x le room =
-      drop-inserted xs i n x le (beyond room) ∙ ap (drop 1) spare_from
-
-  -- the list into which an item was put, and the one that lost an item
-  pub take-put_in : (i : ℕ) (x : X) → i ≤ n → 0 < length (drop k xs)
-      → take (n + 1) (insert (take n xs) i x ++ drop (n + 1) xs) ≡ insert (take k xs) i x
-  take-put_in i x le room = take-inserted xs i n x le (beyond room) ∙ ap (λ l. insert l i x) list_to
-
-  pub take-taken : (i : ℕ) (d : X) → i < n → take (n - 1) (remove (take n xs) i ++ d ∷ drop n xs) ≡ remove (take k xs) i
-  take-taken i d lt = take-removed xs i n d lt within ∙ ap (λ l. remove l i) list_to
-
-  -- what the list that lost an item leaves stands before the spare slots
-  pub drop-taken : (i : ℕ) (d : X) → i < n → drop (n - 1) (remove (take n xs) i ++ d ∷ drop n xs) ≡ d ∷ drop k xs
-  drop-taken i d lt = drop-removed xs i n d lt within ∙ ap (λ l. d ∷ l) spare_from
-
-  -- the first m spare slots were written
-  pub spare-put : (ds : List X) (m : ℕ) → length ds ≡ m → m ≤ length (drop k xs) → drop k (take n xs ++ ds ++ drop (n + m) xs) ≡ ds ++ drop m (drop k xs)
-  spare-put ds m long le = same_lists _ _ (search (rules, places, is, long)) (λ i d h. grind (arith, places, is, long))
-
-  -- a spare slot was written
-  pub spare-set : (i : ℕ) (x : X) → i < length (drop k xs) → drop k (set xs (n + i) x) ≡ set (drop k xs) i x
-  spare-set i x lt =
-      let same : n ≡ k = search (rules, places, is) in
-      ap (λ m. drop k (set xs (m + i) x)) same ∙ drop-set-add k xs i x
 
 -- the items were written as a slice
 module _ {B T : Type 0} (g : Lent.Ghosts B T) (v : GenericSliceVec B T) (ws : List T) where

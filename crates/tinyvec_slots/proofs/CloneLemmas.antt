@@ -2,8 +2,6 @@
 use Rattle.std.proofs.Common.{◌≡◌, ℕ, ◌+◌, ◌-◌, ◌<◌, ◌≤◌, List, [], ◌∷◌, ◌++◌, length, take, drop, set, get_or, slice_range, sym, ap, ◌∙◌, le_refl, arith, append_assoc, length-take-le, length-append, length-drop, take-append-drop, Result, Ok, Err, OnErr}
 use Rattle.std.proofs.lemmas.List.{drop_more, set_at, drop-drop, drop-append-le, drop-take, take-take, take_at, drop_at}
 use Rattle.std.proofs.Math.Seq.{take-append-add}
-use Rattle.std.specs.declared.ops.Bound.{Bound}
-use Rattle.tinyvec_slots.specs.Ranges.{range_start, range_end, removed}
 use Rattle.tinyvec_slots.specs.Slots.{Slots, SlotRule, all_slots, items, spare, split_at}
 use Rattle.tinyvec_slots.proofs.SlotsLemmas.{slots_used}
 use borrow.Rule.Slice.PartMut.{post_of}
@@ -55,13 +53,6 @@ module _ {X : Type 0} where
   pub range_before : (xs : List X) (i j m : ℕ) → i ≤ j → j ≤ m → slice_range (take m xs) i j ≡ slice_range xs i j
   range_before xs i j m le within =
       ap (take (j - i)) (drop_within xs i m (omega arith)) ∙ take-take (j - i) (m - i) (drop i xs) (omega arith)
-
-  -- the items of a range, where they stand in slots
-  pub removed_in : (slots list : List X) (first last : Bound ℕ) (len i j : ℕ) → list ≡ take len slots → i ≡ range_start first
-      → j ≡ range_end last (length list) → i ≤ j → j ≤ len → slice_range slots i j ≡ removed list first last
-  removed_in slots list first last len i j is start end le within =
-      sym (range_before slots i j len le within) ∙ ap (λ l. slice_range l i j) (sym is) ∙ ap (λ n. slice_range list n j) start
-      ∙ ap (slice_range list (range_start first)) end
 
   -- a list that starts with j writes, cut to no fewer
   pub take_writes : (ws xs : List X) (j m : ℕ) → length ws ≡ j → j ≤ m → take m (ws ++ drop j xs) ≡ ws ++ slice_range xs j m

@@ -2,12 +2,13 @@
 use Rattle.std.proofs.Common.{◌≡◌, ℕ, zero, suc, ◌+◌, ◌-◌, ◌<◌, ◌≤◌, List, [], ◌∷◌, ◌++◌, All, length, take, drop, set, get_or, replicate, refl, sym, ap, subst, ◌∙◌, le_refl, arith, append-nil, append_assoc, length-append, length-drop, take_at, drop_at, take_all, drop-drop, get_or-drop}
 use Rattle.std.proofs.lemmas.List.{take_more, replicate_more, drop_all}
 use Rattle.std.proofs.lemmas.List.Elements.{All-get_or, All-take, All-drop, AllZip-push}
-use Rattle.std.proofs.lemmas.Result.{on_ok_weaker, on_err_weaker}
+use Rattle.std.proofs.lemmas.Result.{IfOk-from_err, on_ok_weaker, on_err_weaker}
 use Rattle.std.proofs.Math.Seq.{take-add}
-use Rattle.std.specs.Prelude.{Result, IsOk, OnOk, OnErr}
+use Rattle.std.specs.Prelude.{Result, IsErr}
+use Rattle.std.specs.declared.clone.Clone as Clone
 use Rattle.std.specs.List.{AllZip, HoldsAt}
-use Rattle.tinyvec_slots.specs.Clones.{RefusedAt, ClonesOver, ClonesOverFrom}
-use Rattle.tinyvec_slots.proofs.CloneLemmas.{set_next, written_part, length-part}
+use Rattle.tinyvec_slots.specs.Clones.{RefusedAt, ClonesOver, ClonesOverFrom, WritesClones}
+use Rattle.tinyvec_slots.proofs.CloneLemmas.{on_err, set_next, written_part, length-part}
 use borrow.Rule.Slice.PartMut.{post_of}
 
 -- where each clone is granted, none is refused
@@ -153,12 +154,32 @@ module _ {X : Type 0} (C : X → X → Type 0) where
           (clones_further j (omega (arith, below)) found.2).1,
         )
 
-    -- the call that wrote them was answered so
-    pub clones_joined : {R E : Type 0} (I : X → Type 0) (r : Result R E) → OnOk r (ClonesOver C rest (length rest) lent part)
-        → OnErr r ((j : ℕ) × RefusedAt I rest j × ClonesOver C (take j rest) j lent part) → (All I rest → IsOk r)
-        → OnOk r (ClonesOver C from (length from) old written)
-        × (OnErr r ((j : ℕ) × RefusedAt I from j × ClonesOver C (take j from) j old written) × (All I from → IsOk r))
-    clones_joined I r ok refused succeeds = (
-      on_ok_weaker r clones_whole ok,
-      (on_err_weaker r (clones_in_part I) refused, λ all. succeeds (All-take I (length from - a) (drop a from) (All-drop I a from all))),
-    )
+module _ {X R E : Type 0} (g : Clone.Ghosts X) (r : Result R E) where
+  -- a call that was refused a clone
+  pub refused_writes : (Written : List X → ℕ → Type 0) (xs : List X) (j : ℕ) → IsErr r → RefusedAt g.is_infallible xs j → Written (take j xs) j
+      → WritesClones g Written xs r
+  refused_writes Written xs j err refused made = record {
+    ok = IfOk-from_err r (λ _. Written xs (length xs)) err;
+    refused = on_err r (j, refused, made);
+    succeeds = λ all. absurd (all_granted g.is_infallible xs j all refused);
+  }
+
+  -- a call that wrote clones of a part of the elements, seen from all of them
+  pub writes_weaker : (Written Seen : List X → ℕ → Type 0) (xs : List X) → ((ys : List X) (n : ℕ) → n ≤ length xs → Written ys n → Seen ys n)
+      → WritesClones g Written xs r → WritesClones g Seen xs r
+  writes_weaker Written Seen xs seen h = record {
+    ok = on_ok_weaker r (seen xs (length xs) (le_refl _)) h.ok;
+    refused = on_err_weaker r (λ w. let below : w.0 < length xs = w.1.0 in (w.0, w.1, seen (take w.0 xs) w.0 (omega (arith, below)) w.2)) h.refused;
+    succeeds = h.succeeds;
+  }
+
+  -- a call that wrote the elements behind those that are done
+  pub writes_joined : (from old to part : List X) (a : ℕ) (fits : length from ≤ length old) (long : length to ≡ length old)
+      (within : a ≤ length from) (done : ClonesOver g.is_clone (take a from) a old to)
+      → WritesClones g (λ ys n. ClonesOver g.is_clone ys n (take (length to - a) (drop a to)) part) (take (length from - a) (drop a from)) r
+      → WritesClones g (λ ys n. ClonesOver g.is_clone ys n old (take a to ++ (part ++ post_of a (length to - a) to))) from r
+  writes_joined from old to part a fits long within done h = record {
+    ok = on_ok_weaker r (clones_whole g.is_clone from old to part a fits long within done) h.ok;
+    refused = on_err_weaker r (clones_in_part g.is_clone from old to part a fits long within done g.is_infallible) h.refused;
+    succeeds = λ all. h.succeeds (All-take g.is_infallible (length from - a) (drop a from) (All-drop g.is_infallible a from all));
+  }

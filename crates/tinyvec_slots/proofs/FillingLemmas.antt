@@ -1,10 +1,11 @@
 -- Lemmas on items that are placed one by one.
-use Rattle.std.proofs.Common.{◌≡◌, ℕ, ◌+◌, ◌-◌, ◌<◌, ◌≤◌, List, ◌∷◌, ◌++◌, [], Option, Some, None, length, get_or, take, drop, set, inl, inr, sym, ap, ◌∙◌, arith, rules, length-take, length-drop, length-append, drop-set-lt, append-nil, take_at, map, map-id}
+use Rattle.std.proofs.Common.{◌≡◌, ℕ, ◌+◌, ◌-◌, ◌<◌, ◌≤◌, List, ◌∷◌, ◌++◌, [], Option, Some, None, length, get_or, take, drop, set, inl, inr, true≢false, refl, sym, ap, subst, ◌∙◌, arith, rules, length-take, length-drop, length-append, drop-set-lt, append-nil, take_at, map, map-id}
 use Rattle.std.proofs.lemmas.Bool.{cases_lt}
 use Rattle.std.proofs.lemmas.List.{drop-drop, drop_at, drop_all, take_all, get_or-drop, length_push, take_more}
 use Rattle.std.proofs.iter.Yields.{gives_left, gives_Drains}
 use Rattle.std.specs.Iterator.{Yields, YieldsThen, AlwaysYields}
-use Rattle.tinyvec_slots.specs.Filling.{YieldsUpTo, ShowsItems}
+use Rattle.std.specs.Prelude.{Ok, Err}
+use Rattle.tinyvec_slots.specs.Filling.{YieldsUpTo, ShowsItems, Fills, Extends}
 use Rattle.tinyvec_slots.specs.Slots.{Slots, Vacates, SlotRule, items, spare, items_len}
 use Rattle.tinyvec_slots.proofs.SlotsLemmas.{slots_used, slots_freed}
 
@@ -125,3 +126,34 @@ module _ {S A : Type 0} (steps : S → Option A → S → Type 0) (all : List A)
       let some = more_left run.0 x left.0 left.2 run.2 in
       let long = ap length left.1 ∙ length-append (map (λ x. x) xs) left.0 in
       omega (arith, some, long, ap length (map-id xs))
+
+-- A call that appended xs, of which what it says of an iterator that shows its items, or whose items are known, follows.
+module _ {U S A : Type 0} (becomes : U → S → Type 0) (steps : S → Option A → S → Type 0) (iter : U) (n : ℕ) (Adds : List A → Type 0)
+    (it : S) (xs : List A) (begun : becomes iter it) (adds : Adds xs) (u : S) where
+  pub fills_by : YieldsUpTo steps n it xs u → Fills becomes steps iter n Adds u
+  fills_by run = record {
+    ran = (it, xs, begun, run, adds);
+    listed = λ rest shows. let parts = filled steps rest shows n it xs u run in (it, begun, subst Adds parts.0 adds, parts.1);
+  }
+
+  pub extends_all : {R : Type 0} (r : R) → length xs ≤ n → YieldsThen steps it xs None u → Extends becomes steps iter n Adds (Ok r)
+  extends_all r fits run = record {
+    ran = (it, xs, begun, (u, run), adds);
+    listed = λ rest shows.
+        let all = drained steps rest shows it xs u run in
+        let le : length (rest it) ≤ n = omega (arith, ap length all, fits) in
+        (it, begun, (λ _. le, λ _. refl), subst Adds (sym all ∙ sym (take_all n (rest it) le)) adds, tt);
+    known = λ ys yields le. (refl, subst Adds (drained_all steps ys it (yields it begun) xs u run) adds);
+  }
+
+  pub extends_full : {R : Type 0} (x : A) → length xs ≡ n → YieldsThen steps it xs (Some x) u
+      → Extends becomes steps iter n Adds {R = R} (Err (record { item = x; rest = u }))
+  extends_full x full run = record {
+    ran = (it, xs, begun, run, adds);
+    listed = λ rest shows.
+        let all = refused steps rest shows it xs x u run in
+        let head : xs ≡ take n (rest it) = sym (take_at xs (x ∷ rest u) n full) ∙ ap (take n) (sym all) in
+        let tail : drop n (rest it) ≡ x ∷ rest u = ap (drop n) all ∙ drop_at xs (x ∷ rest u) n full in
+        (it, begun, (λ e. absurd (true≢false (sym e)), λ le. absurd (omega (arith, longer n (rest it) x (rest u) tail, le))), subst Adds head adds, tail);
+    known = λ ys yields le. absurd (omega (arith, refused_early steps ys it (yields it begun) xs u x run, le, full));
+  }

@@ -1,7 +1,8 @@
 -- Lists of clones, and what a call that clones leaves if a clone was refused. C is the `is_clone` of an item's `Clone`.
-use Rattle.std.specs.Prelude.{◌≡◌, ℕ, ◌+◌, ◌-◌, ◌<◌, ◌≤◌, List, ◌++◌, length, take, drop, slice_range}
-use Rattle.std.specs.List.{HoldsAt, AllZip}
-use Rattle.tinyvec_slots.specs.Slots.{AreDefaults}
+use Rattle.std.specs.Prelude.{◌≡◌, ℕ, ◌+◌, ◌-◌, ◌<◌, ◌≤◌, List, ◌++◌, All, length, take, drop, slice_range, Result, IsOk, OnOk, OnErr}
+use Rattle.std.specs.declared.clone.Clone as Clone
+use Rattle.std.specs.List.{HoldsAt, AllZip, AppendsClones}
+use Rattle.tinyvec_slots.specs.Slots.{Slots, AreDefaults, items as list_of, spare as spare_of, items_len}
 
 -- a clone equals its original, as that of a number does
 abbrev pub ClonesAreEqual : {T : Type 0} → (T → T → Type 0) → Type 0
@@ -24,6 +25,24 @@ pub record ClonesOverFrom {T : Type 0} (C : T → T → Type 0) (start : ℕ) (x
   pub clones : AllZip C xs made
   pub count : length made ≡ n
   pub written : new ≡ take start old ++ made ++ drop (start + n) old
+
+-- A call that was to write clones of xs returned r, if `Written ys n` says that the n clones of ys are written. The first clone
+-- that was refused, of element j, ended it.
+pub record WritesClones {T R E : Type 0} (g : Clone.Ghosts T) (Written : List T → ℕ → Type 0) (xs : List T) (r : Result R E) : Type 0 where
+  pub ok : OnOk r (Written xs (length xs))
+  pub refused : OnErr r ((j : ℕ) × RefusedAt g.is_infallible xs j × Written (take j xs) j)
+  pub succeeds : All g.is_infallible xs → IsOk r
+
+-- The same of a call that was to append them to the list `old`, over the spare slots behind it.
+pub record AddsClones {T R E : Type 0} (g : Clone.Ghosts T) (xs : List T) (r : Result R E) (old new : Slots T) : Type 0 where
+  pub items : OnOk r (AppendsClones g.is_clone (list_of old) (list_of new) xs)
+  pub len : OnOk r (items_len new ≡ items_len old + length xs)
+  pub if_clones_equal : OnOk r (ClonesAreEqual g.is_clone → list_of new ≡ list_of old ++ xs)
+  pub spare : OnOk r (spare_of new ≡ drop (length xs) (spare_of old))
+  pub kept : OnErr r (list_of new ≡ list_of old)
+  -- the first `j` spare slots hold the clones made
+  pub refused : OnErr r ((j : ℕ) × RefusedAt g.is_infallible xs j × ClonesOver g.is_clone (take j xs) j (spare_of old) (spare_of new))
+  pub succeeds : All g.is_infallible xs → IsOk r
 
 -- new is clones of xs, followed by `old`
 abbrev pub ClonesBefore : {T : Type 0} → (T → T → Type 0) → List T → List T → List T → Type 0

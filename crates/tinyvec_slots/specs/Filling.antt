@@ -1,18 +1,36 @@
 -- Items asked of an iterator, as long as there is room.
-use Rattle.std.specs.Prelude.{◌≡◌, ℕ, ◌<◌, ◌≤◌, List, length, Option, None}
-use Rattle.std.specs.Iterator.{Yields, YieldsThen, YieldsFirst, AlwaysYields}
+use Rattle.std.specs.Prelude.{◌≡◌, ℕ, ◌<◌, ◌≤◌, ◌↔◌, List, ◌∷◌, length, take, drop, Option, Some, None, Result, IsOk, IfErr, MatchResult}
+use Rattle.std.specs.Iterator.{Yields, YieldsThen, YieldsFirst, AlwaysYields, Drains}
+use Rattle.tinyvec_slots.specs.declared.no_room.NoRoom.{NoRoom}
 
--- Calls of `next` from s gave xs and left u. They stopped at n items, or at `None` if fewer came.
+-- Calls of `next` from s yielded xs and left u. They stopped at n items, or at `None` if fewer came.
 pub record YieldsUpTo {S A : Type 0} (steps : S → Option A → S → Type 0) (n : ℕ) (s : S) (xs : List A) (u : S) : Type 0 where
   pub at_most_n : length xs ≤ n
   pub stopped : length xs ≡ n → Yields steps s xs u
   pub ended : length xs < n → YieldsThen steps s xs None u
 
--- `rest` shows what an iterator will give, in order
+-- `rest` shows the items that an iterator still yields, in order
 abbrev pub ShowsItems : {S A : Type 0} → (S → Option A → S → Type 0) → (S → List A) → Type 0
 ShowsItems {S} {A} steps rest = (s : S) (r : Option A) (t : S) → steps s r t → YieldsFirst rest s r t
 
--- whatever `into_iter` makes of `iter`, every run of its calls gives xs, and then `None`. `YieldsList` of std's lemmas tells it
--- of a range, a slice's items, a map and more.
+-- every iterator that `into_iter` makes of `iter` yields xs, and then `None`. `YieldsList` of std's lemmas proves it of a
+-- range, a slice's items, a map and more.
 abbrev pub IntoIterYields : {U S A : Type 0} → (U → S → Type 0) → (S → Option A → S → Type 0) → U → List A → Type 0
 IntoIterYields {U} {S} becomes steps iter xs = (it : S) → becomes iter it → AlwaysYields steps (λ x. x) it xs
+
+-- A call that had room for n items asked `iter` for them, and appended those that came, if `Adds xs` says that it appended xs.
+module _ {U S A : Type 0} (becomes : U → S → Type 0) (steps : S → Option A → S → Type 0) (iter : U) (n : ℕ) (Adds : List A → Type 0) where
+  -- It returned the rest of the iterator. `listed` is for one of which `rest` shows the remaining items.
+  pub record Fills (left : S) : Type 0 where
+    pub ran : (it : S) × (xs : List A) × becomes iter it × YieldsUpTo steps n it xs left × Adds xs
+    pub listed : (rest : S → List A) → ShowsItems steps rest
+        → (it : S) × becomes iter it × Adds (take n (rest it)) × (rest left ≡ drop n (rest it))
+
+  -- It failed if more came. `known` is for items that are known, as those of a `Vec`, a range or a slice, and that fit.
+  pub record Extends {R : Type 0} (r : Result R (NoRoom A S)) : Type 0 where
+    pub ran : (it : S) × (xs : List A) × becomes iter it
+        × MatchResult r (λ _. Drains steps it xs) (λ refused. YieldsThen steps it xs (Some refused.item) refused.rest) × Adds xs
+    pub listed : (rest : S → List A) → ShowsItems steps rest
+        → (it : S) × becomes iter it × (IsOk r ↔ (length (rest it) ≤ n)) × Adds (take n (rest it))
+        × IfErr r (λ refused. drop n (rest it) ≡ refused.item ∷ rest refused.rest)
+    pub known : (xs : List A) → IntoIterYields becomes steps iter xs → length xs ≤ n → IsOk r × Adds xs

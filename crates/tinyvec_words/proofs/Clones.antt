@@ -1,8 +1,8 @@
 -- Examples of clones, one of which was refused.
 use Rattle.std.proofs.Common.{[], ◌∷◌, refl, rules, arith}
-use Rattle.std.specs.Prelude.{⊤}
-use Rattle.tinyvec_slots.specs.Clones.{ClonesAreEqual, RefusedAt, ClonesOver, ClonesBefore, ClonesInPart}
-use Rattle.tinyvec_words.proofs.Shown.{D, C, I}
+use Rattle.std.specs.Prelude.{⊤, ℕ, Ok}
+use Rattle.tinyvec_slots.specs.Clones.{ClonesAreEqual, RefusedAt, ClonesOver, AddsClones, ClonesBefore, ClonesInPart}
+use Rattle.tinyvec_words.proofs.Shown.{D, C, I, over}
 
 pub example-ClonesAreEqual : ClonesAreEqual C
 example-ClonesAreEqual = λ x y h. h
@@ -16,6 +16,17 @@ example-ClonesOver = record {
   clones = (refl, (refl, tt));
   count = refl;
   written = refl;
+}
+
+pub example-AddsClones : AddsClones {E = ℕ} (record { is_clone = C; is_infallible = I }) (7 ∷ 8 ∷ []) (Ok tt) (over (1 ∷ []) (0 ∷ 0 ∷ 3 ∷ [])) (over (1 ∷ 7 ∷ 8 ∷ []) (3 ∷ []))
+example-AddsClones = record {
+  items = (7 ∷ 8 ∷ [], refl, (refl, (refl, tt)));
+  len = refl;
+  if_clones_equal = λ _. refl;
+  spare = refl;
+  kept = tt;
+  refused = tt;
+  succeeds = λ _. refl;
 }
 
 pub example-ClonesBefore : ClonesBefore C (7 ∷ []) (0 ∷ []) (7 ∷ 0 ∷ [])

@@ -1,13 +1,15 @@
 -- Examples of iterators. One that is seen as the list of what is left is written as that list.
 use Rattle.std.proofs.Common.{◌≡◌, ℕ, List, [], ◌∷◌, Some, true, false, refl, rules}
+use Rattle.std.specs.Prelude.{Err}
 use Rattle.std.specs.declared.iter.Fuse.{Fuse}
 use Rattle.std.specs.Iterator.{endless}
 use Rattle.std.specs.Iterator.Adapters.{fuse_done, fuse_source}
 use Rattle.tinyvec_slots.specs.Ends.{RunsWord, TakesFromEnds, back}
-use Rattle.tinyvec_slots.specs.Filling.{IntoIterYields, ShowsItems, YieldsUpTo}
+use Rattle.tinyvec_slots.specs.Filling.{IntoIterYields, ShowsItems, Fills, Extends}
 use Rattle.tinyvec_slots.specs.Fused.{FusedCan, FusedFinite, fused_rest}
 use Rattle.tinyvec_slots.specs.Replacing.{FusedYields}
 use Rattle.tinyvec_array.specs.IntoIter.{GivesFirst, GivesLast, GivesFromEnds, IteratesOver}
+use Rattle.tinyvec_slots.proofs.FillingLemmas.{fills_by, extends_full}
 use Rattle.tinyvec_words.proofs.Shown.{nums}
 
 pub example-GivesFirst : GivesFirst (nums (1 ∷ 2 ∷ 3 ∷ [])) (Some 1) (2 ∷ 3 ∷ [])
@@ -22,8 +24,11 @@ example-ShowsItems = λ s r t h. h
 pub example-IntoIterYields : IntoIterYields {U = List ℕ} (λ xs it. it ≡ xs) GivesFirst (1 ∷ 2 ∷ []) (1 ∷ 2 ∷ [])
 example-IntoIterYields = search rules
 
-pub example-YieldsUpTo : YieldsUpTo GivesFirst 2 (nums (1 ∷ 2 ∷ 3 ∷ [])) (1 ∷ 2 ∷ []) (3 ∷ [])
-example-YieldsUpTo = search rules
+pub example-Fills : Fills {U = List ℕ} (λ xs it. it ≡ xs) GivesFirst (1 ∷ 2 ∷ 3 ∷ []) 2 (λ xs. xs ≡ 1 ∷ 2 ∷ []) (3 ∷ [])
+example-Fills = fills_by _ _ _ _ _ (1 ∷ 2 ∷ 3 ∷ []) (1 ∷ 2 ∷ []) refl refl (3 ∷ []) (search rules)
+
+pub example-Extends : Extends {U = List ℕ} {R = ℕ} (λ xs it. it ≡ xs) GivesFirst (1 ∷ 2 ∷ 3 ∷ []) 2 (λ xs. xs ≡ 1 ∷ 2 ∷ []) (Err (record { item = 3; rest = [] }))
+example-Extends = extends_full _ _ _ _ _ (1 ∷ 2 ∷ 3 ∷ []) (1 ∷ 2 ∷ []) refl refl [] 3 refl (search rules)
 
 pub example-fused_rest : (s : Fuse (List ℕ)) → fuse_done s ≡ true → fused_rest (λ left. left) s ≡ []
 example-fused_rest s done = search rules

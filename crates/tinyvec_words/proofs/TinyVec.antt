@@ -3,7 +3,8 @@ use Rattle.std.proofs.Common.{◌≡◌, ℕ, ◌≤◌, List, [], ◌∷◌, Ok
 use Rattle.std.specs.Global.{Global}
 use Rattle.tinyvec.specs.declared.tiny_vec.TinyVec.{TinyVec}
 use Rattle.tinyvec.specs.declared.tiny_vec.TinyVec.TheVariants.{Inline}
-use Rattle.tinyvec.specs.TinyVec.{tiny_items, tiny_len, tiny_spare, is_inline, IsInline, tiny_capacity, tiny_allocator, PlaceRule, TinySlotRule, SameFrame, StaysInPlace, Unchanged, IsTinyClone, IsTinyInfallible}
+use Rattle.tinyvec.specs.TinyVec.{tiny_view, tiny_items, tiny_len, tiny_spare, is_inline, IsInline, tiny_capacity, tiny_allocator, PlaceRule, TinySlotRule, SameFrame, StaysInPlace, Unchanged, IsTinyClone, IsTinyInfallible}
+use Rattle.tinyvec.specs.View.{in_array}
 use Rattle.tinyvec.specs.Room.{Collects, Doubles, GrowsFor, Grows, RoomGrows, Reserves, MovesToHeap, MovesToHeapWithRoom}
 use Rattle.tinyvec.specs.Refused.{RefusedFor, ClonesBehind}
 use Rattle.tinyvec.specs.Lends.{tiny_with_items, tiny_with_item}
@@ -19,6 +20,9 @@ module _ (A : Type 0) (alloc : Global) where
 
   pub example-tiny_items : tiny_items (inline (1 ∷ 2 ∷ []) (0 ∷ 0 ∷ [])) ≡ 1 ∷ 2 ∷ []
   example-tiny_items = refl
+
+  pub example-tiny_view : tiny_view (inline (1 ∷ []) (0 ∷ [])) ≡ record { items = 1 ∷ []; spare = 0 ∷ []; place = in_array }
+  example-tiny_view = refl
 
   pub example-tiny_len : tiny_len (inline (1 ∷ 2 ∷ []) (0 ∷ 0 ∷ [])) ≡ 2
   example-tiny_len = refl

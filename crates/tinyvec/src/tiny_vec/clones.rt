@@ -100,7 +100,7 @@ where
 
     ghost is_infallible = { IsTinyInfallible A.Item.is_infallible };
 
-    /// A vector of clones, in the same place.
+    /// Clones the vector, spare slots too. The clone is in the same place.
     fn clone(&self) -> Result<Self, AllocError> {
         self.clone()
     }

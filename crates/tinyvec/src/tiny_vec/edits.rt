@@ -55,7 +55,7 @@ impl<A: Array> TinyVec<A> {
         Ok(())
     }
 
-    /// Removes the last item and returns it. Inline, its slot is reset to a default.
+    /// Removes the last item and returns it. Its slot is reset to a default if the list is inline.
     pub fn pop(&mut self) -> Option<A::Item>
         ensures variant { IsSome result ↔ (0 < tiny_len self.old) }
         ensures some { IfSome result (λ x. tiny_items self.old ≡ tiny_items self.new ++ x ∷ []) }
@@ -147,7 +147,8 @@ impl<A: Array> TinyVec<A> {
         }
     }
 
-    /// Keeps the first `new_len` items, or all if there are no more. Inline, each vacated slot is reset to a default.
+    /// Keeps the first `new_len` items, or all if there are no more. Each vacated slot is reset to a default if the list
+    /// is inline.
     #[inline(always)]
     pub fn truncate(&mut self, new_len: usize)
         ensures items { tiny_items self.new ≡ take new_len (tiny_items self.old) }
@@ -159,7 +160,7 @@ impl<A: Array> TinyVec<A> {
         }
     }
 
-    /// Empties the list. Inline, each vacated slot is reset to a default.
+    /// Empties the list. Each vacated slot is reset to a default if the list is inline.
     pub fn clear(&mut self)
         ensures items { tiny_items self.new ≡ [] }
         ensures frame { StaysInPlace A.Item.is_default A.CAPACITY self.old self.new }
@@ -177,8 +178,8 @@ impl<A: Array> TinyVec<A> {
         }
     }
 
-    /// Splits the list at `at` and returns the items from `at` on, in the same place. An inline list allocates nothing; one
-    /// on the heap allocates room for those items.
+    /// Splits the list at `at` and returns the items from `at` on. The result is in the same place. An inline list
+    /// allocates nothing; one on the heap allocates room for those items.
     pub fn split_off(&mut self, at: usize) -> Result<Self, AllocError>
         requires { at ≤ tiny_len self.old }
         ensures items { OnOk result (tiny_items self.new ≡ take at (tiny_items self.old)) }

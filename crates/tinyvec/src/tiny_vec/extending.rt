@@ -153,8 +153,8 @@ impl<A: Array> TinyVec<A> {
         other.clear();
     }
 
-    /// Moves the items of `other` to the end, and leaves `other` empty, in its place. Room for all is allocated once, before
-    /// any is moved.
+    /// Moves the items of `other` to the end, and leaves `other` empty. Each item moves once. `other` stays in its place.
+    /// Room for all is allocated once, before any is moved.
     pub fn append(&mut self, other: &mut Self) -> Result<(), AllocError>
         ensures items { OnOk result (tiny_items self.new ≡ tiny_items self.old ++ tiny_items other.old) }
         ensures place { OnOk result (PlaceRule A.CAPACITY (tiny_len self.old + tiny_len other.old) self.old self.new) }
@@ -257,8 +257,8 @@ impl<A: Array> TinyVec<A> {
         }
     }
 
-    /// Makes a vector of the items, inline while they fit the array. A full list grows as by `push`. If the allocator
-    /// refuses, returns the vector so far, the item that found no room and the rest of the iterator.
+    /// Makes a vector of the items. It is inline while they fit the array. A full list grows as by `push`. If the
+    /// allocator refuses, returns the vector so far, the item that found no room and the rest of the iterator.
     pub fn from_iter<I: IntoIterator<Item = A::Item>>(
         alloc: Global,
         iter: I,
@@ -301,8 +301,8 @@ impl<A: Array> TinyVec<A> {
         }
     }
 
-    /// Truncates the list to `new_len` items, or fills it up with clones of `value`. Room for all of them is allocated once,
-    /// before any is cloned. On failure `value` is returned.
+    /// Truncates the list to `new_len` items, or fills it up with clones of `value`. On failure `value` is returned. Room
+    /// for all is allocated once, before any is cloned.
     pub fn resize(&mut self, new_len: usize, value: A::Item) -> Result<(), NoMemory<A::Item>>
     where
         A::Item: Clone,
@@ -370,8 +370,8 @@ impl<A: Array> TinyVec<A> {
         }
     }
 
-    /// Truncates the list to `new_len` items, or fills it up with what `f` returns. `f` is called only for these. Room for
-    /// all of them is allocated once, before the first call.
+    /// Truncates the list to `new_len` items, or fills it up with what `f` returns. Calls `f` once for each missing item.
+    /// Room for all is allocated once, before the first call.
     pub fn resize_with<F: FnMut() -> A::Item>(
         &mut self,
         new_len: usize,

@@ -27,7 +27,7 @@ use std::ops::{DerefSlice, DerefSliceMut, Index, IndexMut};
 use std::{fmt, io, slice};
 use tinyvec_array::Array;
 use tinyvec_slots::{
-    InBinary, InHex, InOctal, InUpperHex, Plain, cmp_slices, eq_slices, hash_items,
+    InBinary, InHex, InOctal, InUpperHex, Plain, cmp_slices, eq_slices, hash_items, into_items,
     partial_cmp_slices, write_items,
 };
 
@@ -129,7 +129,7 @@ impl<A: Array> IntoIterator for TinyVec<A> {
         ensures both_ends { GivesFromEnds result }
         ensures into_iter_gives { IteratesOver (tiny_items self) result }
     {
-        TinyVecIterator::over(self)
+        into_items(self)
     }
 }
 

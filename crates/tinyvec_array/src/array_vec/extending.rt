@@ -1,11 +1,11 @@
 //! Growing by other lists, by clones, by iterators and by closures.
-ghost use Rattle.std.specs.Prelude.{◌≡◌, ◌+◌, ◌-◌, ◌≤◌, ◌++◌, ℕ, All, length, take, drop, IsOk, OnOk, OnErr, ◌<◌, ◌↔◌, [], IsSome, IfSome, IfNone, IfOk, IfErr, MatchResult, ◌∷◌, List, Some, replicate};
+ghost use Rattle.std.specs.Prelude.{◌≡◌, ◌+◌, ◌-◌, ◌≤◌, ◌++◌, ℕ, length, take, drop, IsOk, OnOk, OnErr, ◌<◌, ◌↔◌, [], IsSome, IfSome, IfNone, IfOk, IfErr, MatchResult, ◌∷◌, List, Some, replicate};
 ghost use Rattle.std.specs.List.{AppendsClones, AppendsResults};
 ghost use Rattle.tinyvec_slots.specs.Slots.{items, spare, items_len, AreDefaults, Vacates, SlotRule};
-ghost use Rattle.tinyvec_slots.specs.Clones.{RefusedAt, ClonesAreEqual, ClonesOver};
+ghost use Rattle.tinyvec_slots.specs.Clones.{ClonesAreEqual, ClonesOver, AddsClones};
 ghost use Rattle.tinyvec_slots.specs.Ranges.{IsRangeOf, removed};
 ghost use Rattle.std.specs.Iterator.{Drains, YieldsThen};
-ghost use Rattle.tinyvec_slots.specs.Filling.{YieldsUpTo, ShowsItems, IntoIterYields};
+ghost use Rattle.tinyvec_slots.specs.Filling.{ShowsItems, IntoIterYields, Fills, Extends};
 
 use crate::{Array, ArrayVec, FromIterRest, NoMemory, NoRoom};
 use std::alloc::AllocError;
@@ -19,18 +19,8 @@ impl<A: Array> ArrayVec<A> {
     where
         A::Item: Clone,
         requires room { length other.now ≤ A.CAPACITY - items_len self.old }
-        ensures items { OnOk result (AppendsClones A.Item.is_clone (items self.old) (items self.new) other.now) }
-        ensures len { OnOk result (items_len self.new ≡ items_len self.old + length other.now) }
-        ensures if_clones_equal { OnOk result (ClonesAreEqual A.Item.is_clone
-            → items self.new ≡ items self.old ++ other.now) }
-        ensures spare { OnOk result (spare self.new ≡ drop (length other.now) (spare self.old)) }
-        ensures kept { OnErr result (items self.new ≡ items self.old) }
+        ensures clones { AddsClones A.Item.Clone other.now result self.old self.new }
         ensures fits { items_len self.new ≤ A.CAPACITY }
-
-        // The first `j` spare slots hold the clones made.
-        ensures refused { OnErr result ((j : ℕ) × RefusedAt A.Item.is_infallible other.now j
-            × ClonesOver A.Item.is_clone (take j other.now) j (spare self.old) (spare self.new)) }
-        ensures succeeds { All A.Item.is_infallible other.now → IsOk result }
     {
         let len = self.len();
         clone_over_from(self.slots_mut(), len, other)?;
@@ -63,25 +53,9 @@ impl<A: Array> ArrayVec<A> {
         requires in_list { IsRangeOf (items self.old) (R.start_bound range) (R.end_bound range) }
         requires room { length (removed (items self.old) (R.start_bound range) (R.end_bound range))
             ≤ A.CAPACITY - items_len self.old }
-        ensures items { OnOk result (AppendsClones A.Item.is_clone (items self.old) (items self.new)
-            (removed (items self.old) (R.start_bound range) (R.end_bound range))) }
-        ensures len { OnOk result (items_len self.new ≡ items_len self.old
-            + length (removed (items self.old) (R.start_bound range) (R.end_bound range))) }
-        ensures if_clones_equal { OnOk result (ClonesAreEqual A.Item.is_clone → items self.new
-            ≡ items self.old ++ removed (items self.old) (R.start_bound range) (R.end_bound range)) }
-        ensures spare { OnOk result (spare self.new
-            ≡ drop (length (removed (items self.old) (R.start_bound range) (R.end_bound range))) (spare self.old)) }
-        ensures kept { OnErr result (items self.new ≡ items self.old) }
+        ensures clones { AddsClones A.Item.Clone (removed (items self.old) (R.start_bound range) (R.end_bound range))
+            result self.old self.new }
         ensures fits { items_len self.new ≤ A.CAPACITY }
-
-        // The first `j` spare slots hold the clones made.
-        ensures refused { OnErr result ((j : ℕ)
-            × RefusedAt A.Item.is_infallible (removed (items self.old) (R.start_bound range) (R.end_bound range)) j
-            × ClonesOver A.Item.is_clone
-            (take j (removed (items self.old) (R.start_bound range) (R.end_bound range))) j
-            (spare self.old) (spare self.new)) }
-        ensures succeeds { All A.Item.is_infallible
-            (removed (items self.old) (R.start_bound range) (R.end_bound range)) → IsOk result }
     {
         let len = self.len();
         let part = resolve_range(range, len);
@@ -161,20 +135,13 @@ impl<A: Array> ArrayVec<A> {
     /// called on a full vector, so `iter` may be infinite.
     pub fn fill<I: IntoIterator<Item = A::Item>>(&mut self, iter: I) -> I::IntoIter
         requires { (it : I.IntoIter) → I.into_iter_gives iter it → I.IntoIter.can_next it }
-        ensures ran { (it : I.IntoIter) × (xs : List A.Item) × I.into_iter_gives iter it
-            × YieldsUpTo I.IntoIter.next_gives (A.CAPACITY - items_len self.old) it xs result
-            × (items self.new ≡ items self.old ++ xs) }
+        ensures items { Fills I.into_iter_gives I.IntoIter.next_gives iter (A.CAPACITY - items_len self.old)
+            (λ xs. items self.new ≡ items self.old ++ xs) result }
         ensures spare { spare self.new ≡ drop (items_len self.new - items_len self.old) (spare self.old) }
         ensures fits { items_len self.new ≤ A.CAPACITY }
 
         // An iterator that stopped at a full vector can be iterated further.
         ensures goes_on { items_len self.new ≡ A.CAPACITY → I.IntoIter.can_next result }
-
-        // The same for an iterator of which `rest` shows the remaining items.
-        ensures listed { (rest : I.IntoIter → List A.Item) → ShowsItems I.IntoIter.next_gives rest
-            → (it : I.IntoIter) × I.into_iter_gives iter it
-            × (items self.new ≡ items self.old ++ take (A.CAPACITY - items_len self.old) (rest it))
-            × (rest result ≡ drop (A.CAPACITY - items_len self.old) (rest it)) }
     {
         let mut items = iter.into_iter();
         while !self.is_full() {
@@ -193,28 +160,14 @@ impl<A: Array> ArrayVec<A> {
         iter: I,
     ) -> Result<(), NoRoom<A::Item, I::IntoIter>>
         requires { (it : I.IntoIter) → I.into_iter_gives iter it → I.IntoIter.can_next it }
-        ensures ran { (it : I.IntoIter) × (xs : List A.Item) × I.into_iter_gives iter it
-            × MatchResult result (λ _. Drains I.IntoIter.next_gives it xs)
-            (λ refused. YieldsThen I.IntoIter.next_gives it xs (Some refused.item) refused.rest)
-            × (items self.new ≡ items self.old ++ xs) }
+        ensures items { Extends I.into_iter_gives I.IntoIter.next_gives iter (A.CAPACITY - items_len self.old)
+            (λ xs. items self.new ≡ items self.old ++ xs) result }
         ensures full { OnErr result (items_len self.new ≡ A.CAPACITY) }
         ensures spare { spare self.new ≡ drop (items_len self.new - items_len self.old) (spare self.old) }
         ensures fits { items_len self.new ≤ A.CAPACITY }
 
         // The returned iterator can be iterated further.
         ensures goes_on { IfErr result (λ refused. I.IntoIter.can_next refused.rest) }
-
-        // The same for an iterator of which `rest` shows the remaining items.
-        ensures listed { (rest : I.IntoIter → List A.Item) → ShowsItems I.IntoIter.next_gives rest
-            → (it : I.IntoIter) × I.into_iter_gives iter it
-            × (IsOk result ↔ (length (rest it) ≤ A.CAPACITY - items_len self.old))
-            × (items self.new ≡ items self.old ++ take (A.CAPACITY - items_len self.old) (rest it))
-            × IfErr result
-            (λ refused. drop (A.CAPACITY - items_len self.old) (rest it) ≡ refused.item ∷ rest refused.rest) }
-
-        // For items that are known, as those of a `Vec`, a range or a slice, and that fit.
-        ensures known { (xs : List A.Item) → IntoIterYields I.into_iter_gives I.IntoIter.next_gives iter xs
-            → length xs ≤ A.CAPACITY - items_len self.old → IsOk result × (items self.new ≡ items self.old ++ xs) }
     {
         let mut items = self.fill(iter);
         if !self.is_full() {
@@ -262,7 +215,8 @@ impl<A: Array> ArrayVec<A> {
         }
     }
 
-    /// Truncates the list to `new_len` items, or fills it up with clones of `value`. Only clones allocate.
+    /// Truncates the list to `new_len` items, or fills it up with clones of `value`. On failure `value` is returned. Only
+    /// clones allocate.
     pub fn resize(&mut self, new_len: usize, value: A::Item) -> Result<(), NoMemory<A::Item>>
     where
         A::Item: Clone,

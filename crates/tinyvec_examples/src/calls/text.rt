@@ -50,7 +50,7 @@ pub fn starts_with(text: &InlineText<8>, front: &str) -> bool {
     text.as_str().starts_with(front)
 }
 
-/// The text up to the byte `at`, where a character ends there.
+/// The text up to the byte `at`, if a character ends there.
 pub fn cut_if_whole(text: &mut InlineText<8>, at: usize) -> bool
     ensures { IsTrue result → length text.new.bytes ≡ at }
 {
@@ -84,7 +84,7 @@ pub fn with_room(text: &mut InlineText<8>) -> Result<(), AllocError>
     text.reserve(20)
 }
 
-/// The same text once more, in the value where this one is.
+/// The same text once more, in the value if this one is.
 pub fn twice(text: &InlineText<8>) -> Result<InlineText<8>, AllocError>
     ensures text { IfOk result (λ t. text_chars t ≡ text_chars text.now) }
     ensures succeeds { IsTrue (lies_inline text.now.place) → IsOk result }
@@ -99,7 +99,7 @@ pub fn line(alloc: Global) -> Result<InlineText<8>, AllocError>
     InlineText::with_capacity(alloc, 80)
 }
 
-/// The text of bytes from outside, or the bytes again where they are no UTF-8.
+/// The text of bytes from outside, or the bytes again if they are no UTF-8.
 pub fn from_outside(bytes: TinyVec<[u8; 8]>) -> Result<InlineText<8>, FromUtf8Error<8>>
     ensures text { IfOk result (λ text. text.bytes ≡ tiny_items bytes) }
     ensures kept { IfErr result (λ refused. refused.bytes ≡ bytes) }
@@ -176,7 +176,7 @@ pub fn without_blanks(text: &mut InlineText<8>) {
     text.retain(|c| c != ' ');
 }
 
-/// The first `n` bytes replaced, where a character ends there.
+/// The first `n` bytes replaced, if a character ends there.
 pub fn with_front(text: &mut InlineText<8>, n: usize, front: &str) -> Result<bool, AllocError>
     ensures { IfOk result (λ done. IsTrue done → text.new.bytes ≡ front.now ++ drop n text.old.bytes) }
 {
@@ -195,7 +195,7 @@ pub fn cut_off(text: &mut InlineText<8>, at: usize) -> Result<InlineText<8>, All
     text.split_off(at)
 }
 
-/// The text in the value again, where it fits there.
+/// The text in the value again, if it fits there.
 pub fn packed(text: &mut InlineText<8>)
     ensures { IsTrue (lies_inline text.new.place) ↔ (text_len text.old ≤ 8) }
 {
@@ -212,7 +212,7 @@ pub fn add_words(text: &mut InlineText<8>, words: &[&str]) -> Result<(), AllocEr
     text.extend(words.iter().copied())
 }
 
-/// The characters of a `str`, in the value where they fit.
+/// The characters of a `str`, in the value if they fit.
 pub fn gathered(alloc: Global, s: &str) -> Result<InlineText<8>, AllocError> {
     s.chars().collect(alloc)
 }

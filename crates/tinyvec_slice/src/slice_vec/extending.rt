@@ -1,12 +1,11 @@
 //! Growing by other lists, by clones, by iterators and by closures.
-ghost use Rattle.std.specs.Prelude.{◌≡◌, ◌+◌, ◌≤◌, ◌++◌, ℕ, All, length, take, drop, IsOk, OnOk, OnErr, [], ◌-◌, ◌↔◌, ◌∷◌, List, MatchResult, IfErr, Some, ◌<◌, replicate, reverse};
+ghost use Rattle.std.specs.Prelude.{◌≡◌, ◌+◌, ◌≤◌, ◌++◌, ℕ, length, take, drop, IsOk, OnOk, OnErr, [], ◌-◌, ◌∷◌, List, IfErr, Some, ◌<◌, replicate, reverse};
 ghost use Rattle.std.specs.List.{AppendsClones, AppendsResults};
-ghost use Rattle.tinyvec_slots.specs.Clones.{RefusedAt, ClonesAreEqual, ClonesOver, ClonesBefore};
-ghost use Rattle.tinyvec_slice.specs.SliceVec.{items_of, spare_of, name_of, len_of, VacatesOf, slots_of, SameLender};
+ghost use Rattle.tinyvec_slots.specs.Clones.{ClonesAreEqual, ClonesOver, ClonesBefore, AddsClones};
+ghost use Rattle.tinyvec_slice.specs.SliceVec.{items_of, spare_of, name_of, len_of, VacatesOf, slots_of, view_of, SameLender};
 ghost use Rattle.tinyvec_slots.specs.Slots.{AreDefaults};
 ghost use Rattle.tinyvec_slots.specs.Ranges.{IsRangeOf, removed};
-ghost use Rattle.std.specs.Iterator.{Drains, YieldsThen};
-ghost use Rattle.tinyvec_slots.specs.Filling.{YieldsUpTo, ShowsItems, IntoIterYields};
+ghost use Rattle.tinyvec_slots.specs.Filling.{Fills, Extends};
 
 use crate::{GenericSliceVec, Lent};
 use std::alloc::AllocError;
@@ -21,18 +20,7 @@ impl<B: Lent> GenericSliceVec<B> {
         B::Item: Clone,
         requires room { length other.now ≤ length (spare_of B.Lent self.old) }
         ensures lender { SameLender B.Lent self.old self.new }
-        ensures items { OnOk result (AppendsClones B.Item.is_clone (items_of B.Lent self.old)
-            (items_of B.Lent self.new) other.now) }
-        ensures len { OnOk result (len_of B.Lent self.new ≡ len_of B.Lent self.old + length other.now) }
-        ensures if_clones_equal { OnOk result (ClonesAreEqual B.Item.is_clone
-            → items_of B.Lent self.new ≡ items_of B.Lent self.old ++ other.now) }
-        ensures spare { OnOk result (spare_of B.Lent self.new ≡ drop (length other.now) (spare_of B.Lent self.old)) }
-        ensures kept { OnErr result (items_of B.Lent self.new ≡ items_of B.Lent self.old) }
-
-        // The first `j` spare slots hold the clones made.
-        ensures refused { OnErr result ((j : ℕ) × RefusedAt B.Item.is_infallible other.now j
-            × ClonesOver B.Item.is_clone (take j other.now) j (spare_of B.Lent self.old) (spare_of B.Lent self.new)) }
-        ensures succeeds { All B.Item.is_infallible other.now → IsOk result }
+        ensures clones { AddsClones B.Item.Clone other.now result (view_of B.Lent self.old) (view_of B.Lent self.new) }
     {
         let len = self.len();
         clone_each_from(self.lent.all_mut(), len, other)?;
@@ -51,26 +39,9 @@ impl<B: Lent> GenericSliceVec<B> {
         requires room { length (removed (items_of B.Lent self.old) (R.start_bound range) (R.end_bound range))
             ≤ length (spare_of B.Lent self.old) }
         ensures lender { SameLender B.Lent self.old self.new }
-        ensures items { OnOk result (AppendsClones B.Item.is_clone (items_of B.Lent self.old) (items_of B.Lent self.new)
-            (removed (items_of B.Lent self.old) (R.start_bound range) (R.end_bound range))) }
-        ensures len { OnOk result (len_of B.Lent self.new ≡ len_of B.Lent self.old
-            + length (removed (items_of B.Lent self.old) (R.start_bound range) (R.end_bound range))) }
-        ensures if_clones_equal { OnOk result (ClonesAreEqual B.Item.is_clone
-            → items_of B.Lent self.new ≡ items_of B.Lent self.old
-            ++ removed (items_of B.Lent self.old) (R.start_bound range) (R.end_bound range)) }
-        ensures spare { OnOk result (spare_of B.Lent self.new
-            ≡ drop (length (removed (items_of B.Lent self.old) (R.start_bound range) (R.end_bound range)))
-            (spare_of B.Lent self.old)) }
-        ensures kept { OnErr result (items_of B.Lent self.new ≡ items_of B.Lent self.old) }
-
-        // The first `j` spare slots hold the clones made.
-        ensures refused { OnErr result ((j : ℕ) × RefusedAt B.Item.is_infallible
-            (removed (items_of B.Lent self.old) (R.start_bound range) (R.end_bound range)) j
-            × ClonesOver B.Item.is_clone
-            (take j (removed (items_of B.Lent self.old) (R.start_bound range) (R.end_bound range))) j
-            (spare_of B.Lent self.old) (spare_of B.Lent self.new)) }
-        ensures succeeds { All B.Item.is_infallible
-            (removed (items_of B.Lent self.old) (R.start_bound range) (R.end_bound range)) → IsOk result }
+        ensures clones { AddsClones B.Item.Clone
+            (removed (items_of B.Lent self.old) (R.start_bound range) (R.end_bound range)) result
+            (view_of B.Lent self.old) (view_of B.Lent self.new) }
     {
         let len = self.len();
         let part = resolve_range(range, len);
@@ -84,21 +55,13 @@ impl<B: Lent> GenericSliceVec<B> {
     pub fn fill<I: IntoIterator<Item = B::Item>>(&mut self, iter: I) -> I::IntoIter
         requires { (it : I.IntoIter) → I.into_iter_gives iter it → I.IntoIter.can_next it }
         ensures lender { SameLender B.Lent self.old self.new }
-        ensures ran { (it : I.IntoIter) × (xs : List B.Item) × I.into_iter_gives iter it
-            × YieldsUpTo I.IntoIter.next_gives (length (spare_of B.Lent self.old)) it xs result
-            × (items_of B.Lent self.new ≡ items_of B.Lent self.old ++ xs) }
+        ensures items { Fills I.into_iter_gives I.IntoIter.next_gives iter (length (spare_of B.Lent self.old))
+            (λ xs. items_of B.Lent self.new ≡ items_of B.Lent self.old ++ xs) result }
         ensures spare { spare_of B.Lent self.new
             ≡ drop (len_of B.Lent self.new - len_of B.Lent self.old) (spare_of B.Lent self.old) }
 
         // An iterator that stopped at a full vector can be iterated further.
         ensures goes_on { length (spare_of B.Lent self.new) ≡ 0 → I.IntoIter.can_next result }
-
-        // The same for an iterator of which `rest` shows the remaining items.
-        ensures listed { (rest : I.IntoIter → List B.Item) → ShowsItems I.IntoIter.next_gives rest
-            → (it : I.IntoIter) × I.into_iter_gives iter it
-            × (items_of B.Lent self.new
-            ≡ items_of B.Lent self.old ++ take (length (spare_of B.Lent self.old)) (rest it))
-            × (rest result ≡ drop (length (spare_of B.Lent self.old)) (rest it)) }
     {
         let mut items = iter.into_iter();
         while !self.is_full() {
@@ -118,30 +81,14 @@ impl<B: Lent> GenericSliceVec<B> {
     ) -> Result<(), NoRoom<B::Item, I::IntoIter>>
         requires { (it : I.IntoIter) → I.into_iter_gives iter it → I.IntoIter.can_next it }
         ensures lender { SameLender B.Lent self.old self.new }
-        ensures ran { (it : I.IntoIter) × (xs : List B.Item) × I.into_iter_gives iter it
-            × MatchResult result (λ _. Drains I.IntoIter.next_gives it xs)
-            (λ refused. YieldsThen I.IntoIter.next_gives it xs (Some refused.item) refused.rest)
-            × (items_of B.Lent self.new ≡ items_of B.Lent self.old ++ xs) }
+        ensures items { Extends I.into_iter_gives I.IntoIter.next_gives iter (length (spare_of B.Lent self.old))
+            (λ xs. items_of B.Lent self.new ≡ items_of B.Lent self.old ++ xs) result }
         ensures full { OnErr result (spare_of B.Lent self.new ≡ []) }
         ensures spare { spare_of B.Lent self.new
             ≡ drop (len_of B.Lent self.new - len_of B.Lent self.old) (spare_of B.Lent self.old) }
 
         // The returned iterator can be iterated further.
         ensures goes_on { IfErr result (λ refused. I.IntoIter.can_next refused.rest) }
-
-        // The same for an iterator of which `rest` shows the remaining items.
-        ensures listed { (rest : I.IntoIter → List B.Item) → ShowsItems I.IntoIter.next_gives rest
-            → (it : I.IntoIter) × I.into_iter_gives iter it
-            × (IsOk result ↔ (length (rest it) ≤ length (spare_of B.Lent self.old)))
-            × (items_of B.Lent self.new
-            ≡ items_of B.Lent self.old ++ take (length (spare_of B.Lent self.old)) (rest it))
-            × IfErr result (λ refused. drop (length (spare_of B.Lent self.old)) (rest it)
-            ≡ refused.item ∷ rest refused.rest) }
-
-        // For items that are known, as those of a `Vec`, a range or a slice, and that fit.
-        ensures known { (xs : List B.Item) → IntoIterYields I.into_iter_gives I.IntoIter.next_gives iter xs
-            → length xs ≤ length (spare_of B.Lent self.old)
-            → IsOk result × (items_of B.Lent self.new ≡ items_of B.Lent self.old ++ xs) }
     {
         let mut items = self.fill(iter);
         if !self.is_full() {
@@ -153,8 +100,8 @@ impl<B: Lent> GenericSliceVec<B> {
         }
     }
 
-    /// Truncates the list to `new_len` items, or fills it up with clones of `value`. The slots that a cut vacates are filled
-    /// with clones of `value` too, the last slot first. Only clones allocate.
+    /// Truncates the list to `new_len` items, or fills it up with clones of `value`. On failure `value` is returned. Only
+    /// clones allocate. The slots that a cut vacates are filled with clones of `value` too, the last slot first.
     pub fn resize(&mut self, new_len: usize, value: B::Item) -> Result<(), NoMemory<B::Item>>
     where
         B::Item: Clone,
@@ -242,8 +189,8 @@ impl<B: Lent> GenericSliceVec<B> {
         Ok(())
     }
 
-    /// Truncates the list to `new_len` items, or fills it up with what `f` returns. The slots that a cut vacates are filled
-    /// with what `f` returns too, the last slot first.
+    /// Truncates the list to `new_len` items, or fills it up with what `f` returns. The slots that a cut vacates are
+    /// filled with what `f` returns too, the last slot first. Calls `f` once for each of these slots.
     pub fn resize_with<F: FnMut() -> B::Item>(&mut self, new_len: usize, mut f: F)
         requires room { new_len ≤ length (slots_of B.Lent self.old) }
         requires callable { F.IsAlwaysCallable f }

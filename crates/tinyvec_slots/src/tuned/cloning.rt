@@ -1,7 +1,7 @@
 //! Writing clones into slots. No item is cloned twice: the first clone that fails ends the call, and those before it stay.
-ghost use Rattle.std.specs.Prelude.{◌+◌, ◌-◌, ◌<◌, ◌≤◌, ℕ, All, length, take, slice_range, replicate, IfOk, IsOk, OnOk, OnErr};
+ghost use Rattle.std.specs.Prelude.{◌+◌, ◌-◌, ◌<◌, ◌≤◌, ℕ, length, take, slice_range, replicate, IfOk, IsOk, OnOk, OnErr};
 ghost use Rattle.tinyvec_slots.specs.Ranges.{Within};
-ghost use Rattle.tinyvec_slots.specs.Clones.{RefusedAt, ClonesOver, ClonesOverFrom};
+ghost use Rattle.tinyvec_slots.specs.Clones.{RefusedAt, ClonesOver, ClonesOverFrom, WritesClones};
 
 use crate::tuned::sizes::are_large;
 use std::alloc::AllocError;
@@ -14,10 +14,7 @@ pub fn clone_over_from<T: Clone + Default>(
     from: &[T],
 ) -> Result<(), AllocError>
     requires fits { start + length from.now ≤ length slots.old }
-    ensures ok { OnOk result (ClonesOverFrom T.is_clone start from.now (length from.now) slots.old slots.new) }
-    ensures refused { OnErr result ((j : ℕ) × RefusedAt T.is_infallible from.now j
-        × ClonesOverFrom T.is_clone start (take j from.now) j slots.old slots.new) }
-    ensures succeeds { All T.is_infallible from.now → IsOk result }
+    ensures { WritesClones T.Clone (λ ys n. ClonesOverFrom T.is_clone start ys n slots.old slots.new) from.now result }
 {
     // The minimum is the length. It lets the compiler drop the blocks of more items than there are slots.
     let count = from.len().min(slots.len());
@@ -31,10 +28,7 @@ pub fn clone_each_from<T: Clone>(
     from: &[T],
 ) -> Result<(), AllocError>
     requires fits { start + length from.now ≤ length slots.old }
-    ensures ok { OnOk result (ClonesOverFrom T.is_clone start from.now (length from.now) slots.old slots.new) }
-    ensures refused { OnErr result ((j : ℕ) × RefusedAt T.is_infallible from.now j
-        × ClonesOverFrom T.is_clone start (take j from.now) j slots.old slots.new) }
-    ensures succeeds { All T.is_infallible from.now → IsOk result }
+    ensures { WritesClones T.Clone (λ ys n. ClonesOverFrom T.is_clone start ys n slots.old slots.new) from.now result }
 {
     clone_each(&mut slots[start..], from)
 }
@@ -48,11 +42,8 @@ pub fn clone_within<T: Clone>(
 ) -> Result<(), AllocError>
     requires before { Within start end to }
     requires fits { to + (end - start) ≤ length slots.old }
-    ensures ok { OnOk result (ClonesOverFrom T.is_clone to (slice_range slots.old start end) (end - start)
-        slots.old slots.new) }
-    ensures refused { OnErr result ((j : ℕ) × RefusedAt T.is_infallible (slice_range slots.old start end) j
-        × ClonesOverFrom T.is_clone to (take j (slice_range slots.old start end)) j slots.old slots.new) }
-    ensures succeeds { All T.is_infallible (slice_range slots.old start end) → IsOk result }
+    ensures { WritesClones T.Clone (λ ys n. ClonesOverFrom T.is_clone to ys n slots.old slots.new)
+        (slice_range slots.old start end) result }
 {
     let (front, back) = slots.split_at_mut(to);
     clone_range(back, front, start, end)
@@ -68,10 +59,8 @@ fn clone_range<T: Clone>(
 ) -> Result<(), AllocError>
     requires in_bounds { Within start end (length from.now) }
     requires fits { end - start ≤ length to.old }
-    ensures ok { OnOk result (ClonesOver T.is_clone (slice_range from.now start end) (end - start) to.old to.new) }
-    ensures refused { OnErr result ((j : ℕ) × RefusedAt T.is_infallible (slice_range from.now start end) j
-        × ClonesOver T.is_clone (take j (slice_range from.now start end)) j to.old to.new) }
-    ensures succeeds { All T.is_infallible (slice_range from.now start end) → IsOk result }
+    ensures { WritesClones T.Clone (λ ys n. ClonesOver T.is_clone ys n to.old to.new)
+        (slice_range from.now start end) result }
 {
     clone_each(to, &from[start..end])
 }
@@ -79,10 +68,7 @@ fn clone_range<T: Clone>(
 /// Writes clones of `from` over the first slots of `to`.
 pub fn clone_over<T: Clone + Default>(to: &mut [T], from: &[T]) -> Result<(), AllocError>
     requires fits { length from.now ≤ length to.old }
-    ensures ok { OnOk result (ClonesOver T.is_clone from.now (length from.now) to.old to.new) }
-    ensures refused { OnErr result ((j : ℕ) × RefusedAt T.is_infallible from.now j
-        × ClonesOver T.is_clone (take j from.now) j to.old to.new) }
-    ensures succeeds { All T.is_infallible from.now → IsOk result }
+    ensures { WritesClones T.Clone (λ ys n. ClonesOver T.is_clone ys n to.old to.new) from.now result }
 {
     // A block is on the stack, which large items would fill.
     if are_large(from) {
@@ -95,10 +81,7 @@ pub fn clone_over<T: Clone + Default>(to: &mut [T], from: &[T]) -> Result<(), Al
 // Like `clone_over`, in blocks of 16, and then item by item.
 fn clone_rest<T: Clone + Default>(to: &mut [T], from: &[T]) -> Result<(), AllocError>
     requires fits { length from.now ≤ length to.old }
-    ensures ok { OnOk result (ClonesOver T.is_clone from.now (length from.now) to.old to.new) }
-    ensures refused { OnErr result ((j : ℕ) × RefusedAt T.is_infallible from.now j
-        × ClonesOver T.is_clone (take j from.now) j to.old to.new) }
-    ensures succeeds { All T.is_infallible from.now → IsOk result }
+    ensures { WritesClones T.Clone (λ ys n. ClonesOver T.is_clone ys n to.old to.new) from.now result }
 {
     let done = clone_blocks::<T, 16>(to, from)?;
     clone_each(&mut to[done..], &from[done..])
@@ -108,10 +91,7 @@ fn clone_rest<T: Clone + Default>(to: &mut [T], from: &[T]) -> Result<(), AllocE
 /// this into one `memcpy`.
 pub fn clone_each<T: Clone>(to: &mut [T], from: &[T]) -> Result<(), AllocError>
     requires fits { length from.now ≤ length to.old }
-    ensures ok { OnOk result (ClonesOver T.is_clone from.now (length from.now) to.old to.new) }
-    ensures refused { OnErr result ((j : ℕ) × RefusedAt T.is_infallible from.now j
-        × ClonesOver T.is_clone (take j from.now) j to.old to.new) }
-    ensures succeeds { All T.is_infallible from.now → IsOk result }
+    ensures { WritesClones T.Clone (λ ys n. ClonesOver T.is_clone ys n to.old to.new) from.now result }
 {
     let made = clone_until_refused(to, from);
     if made < from.len() {

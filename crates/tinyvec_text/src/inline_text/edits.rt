@@ -109,7 +109,7 @@ impl<const N: usize> InlineText<N> {
         Ok(())
     }
 
-    /// Moves a text on the heap into the array where it fits, which allocates nothing. Otherwise shrinks the allocation; if
+    /// Moves a text on the heap into the array if it fits, which allocates nothing. Otherwise shrinks the allocation; if
     /// the allocator refuses, nothing changes and no error is returned.
     pub fn shrink_to_fit(&mut self)
         ensures bytes { self.new.bytes ≡ self.old.bytes }
@@ -283,7 +283,7 @@ pub(crate) fn first_char(bytes: &[u8]) -> (char, usize)
     (c, end - rest.as_str().len())
 }
 
-// Where the second character begins, or the bytes end.
+// The index of the second character, or the number of bytes.
 fn first_char_end(bytes: &[u8]) -> usize
     requires { 0 < length bytes.now }
     ensures positive { 0 < result }
@@ -314,7 +314,7 @@ fn last_char(bytes: &[u8]) -> (char, usize)
     (c, start + rest.as_str().len())
 }
 
-// Where the last character begins.
+// The index of the last character.
 fn last_char_start(bytes: &[u8]) -> usize
     requires { 0 < length bytes.now }
     ensures in_bounds { result < length bytes.now }

@@ -8,4 +8,4 @@ use Rattle.tinyvec_examples.proofs.known_items.by_copies.Goals as goal
 pub returns : goal.returns
 returns g c =
     let xs = c.args.more.now in
-    c.extend.ensures.known xs (λ it h. subst (AlwaysYields (copied_steps iter_steps) (λ x. x) it) (search rules) (Copied-slice it)) c.requires
+    c.extend.ensures.items.known xs (λ it h. subst (AlwaysYields (copied_steps iter_steps) (λ x. x) it) (search rules) (Copied-slice it)) c.requires

@@ -10,4 +10,4 @@ returns g c =
     let start = c.args.start in
     let n = c.args.end - start in
     let fits : length (range_with_len start n) ≤ g.A.Array.CAPACITY - items_len c.args.v.now = omega (arith, length-range_with_len start n) in
-    c.extend.ensures.known (range_with_len start n) (λ it h. (YieldsList-from_range start c.args.end n h refl).runs) fits
+    c.extend.ensures.items.known (range_with_len start n) (λ it h. (YieldsList-from_range start c.args.end n h refl).runs) fits

@@ -7,4 +7,4 @@ pub returns-clause-items : goal.returns-clause-items
 returns-clause-items c =
     let xs = c.args.more.items in
     let fits : length xs ≤ length (spare c.args.v.now) = search rules in
-    c.extend.ensures.known xs (λ it h. (YieldsList-from_vec xs h.0 (search rules)).runs) fits
+    c.extend.ensures.items.known xs (λ it h. (YieldsList-from_vec xs h.0 (search rules)).runs) fits

@@ -27,24 +27,24 @@ module _ (g : _) (c : goal.After-extend_from_slice g) where
       granted_before g.A.Array.CAPACITY _ c.args.self.now (Inline c.extend_from_slice.new.self c.in-Inline.field-1) (sym (ap is_inline c.in-Inline.is)) (rw c.in-Inline.is room)
 
 pub returns-in-Inline-clause-items : goal.returns-in-Inline-clause-items
-returns-in-Inline-clause-items g c = rw c.in-Inline.is c.extend_from_slice.ensures.items
+returns-in-Inline-clause-items g c = rw c.in-Inline.is c.extend_from_slice.ensures.clones.items
 
 pub returns-in-Inline-clause-len : goal.returns-in-Inline-clause-len
 returns-in-Inline-clause-len g c =
-    let made = c.extend_from_slice.ensures in
+    let made = c.extend_from_slice.ensures.clones in
     rw c.in-Inline.is (chosen c.extend_from_slice.result _ _ made.len (on_err_weaker c.extend_from_slice.result (λ h. ap length h) made.kept))
 
 pub returns-in-Inline-clause-if_clones_equal : goal.returns-in-Inline-clause-if_clones_equal
 returns-in-Inline-clause-if_clones_equal g c =
-    let made = c.extend_from_slice.ensures in
+    let made = c.extend_from_slice.ensures.clones in
     rw c.in-Inline.is (λ rule. chosen c.extend_from_slice.result _ _ (on_ok_weaker c.extend_from_slice.result (λ h. h rule) made.if_clones_equal) made.kept)
 
 pub returns-in-Inline-clause-place : goal.returns-in-Inline-clause-place
-returns-in-Inline-clause-place g c = on_ok_weaker c.extend_from_slice.result (λ _. (inline_granted g c).0) c.extend_from_slice.ensures.len
+returns-in-Inline-clause-place g c = on_ok_weaker c.extend_from_slice.result (λ _. (inline_granted g c).0) c.extend_from_slice.ensures.clones.len
 
 pub returns-in-Inline-clause-slot_rule : goal.returns-in-Inline-clause-slot_rule
 returns-in-Inline-clause-slot_rule g c =
-    let made = c.extend_from_slice.ensures in
+    let made = c.extend_from_slice.ensures.clones in
     on_ok_two c.extend_from_slice.result made.len made.spare (λ long behind.
     rw c.in-Inline.is (λ _ _. slots_used g.A.Item.Default.is_default c.in-Inline.v c.extend_from_slice.new.self (length c.args.other.now) long behind))
 
@@ -58,14 +58,14 @@ returns-in-Inline-clause-room g c =
     c.extend_from_slice.ensures.fits)
 
 pub returns-in-Inline-clause-succeeds : goal.returns-in-Inline-clause-succeeds
-returns-in-Inline-clause-succeeds g c = λ _. c.extend_from_slice.ensures.succeeds
+returns-in-Inline-clause-succeeds g c = λ _. c.extend_from_slice.ensures.clones.succeeds
 
 pub returns-in-Inline-clause-kept : goal.returns-in-Inline-clause-kept
-returns-in-Inline-clause-kept g c = rw c.in-Inline.is c.extend_from_slice.ensures.kept
+returns-in-Inline-clause-kept g c = rw c.in-Inline.is c.extend_from_slice.ensures.clones.kept
 
 pub returns-in-Inline-clause-refused : goal.returns-in-Inline-clause-refused
 returns-in-Inline-clause-refused g c =
-    on_err_weaker c.extend_from_slice.result (λ h. inr (inline_granted g c, (h.0, h.1, λ _. rw c.in-Inline.is h.2))) c.extend_from_slice.ensures.refused
+    on_err_weaker c.extend_from_slice.result (λ h. inr (inline_granted g c, (h.0, h.1, λ _. rw c.in-Inline.is h.2))) c.extend_from_slice.ensures.clones.refused
 
 pub push_clones-requires : goal.push_clones-requires
 push_clones-requires g c = record { room = omega arith }

@@ -1,38 +1,22 @@
-use Rattle.std.proofs.Common.{◌≤◌, length, arith, rules}
-use Rattle.tinyvec_slots.specs.Slots.{all_slots}
-use Rattle.tinyvec_slots.proofs.CloneLemmas.{on_err}
-use Rattle.tinyvec_slots.proofs.BorderLemmas.{kept_in_front, clones_behind, clones_written}
+use Rattle.std.proofs.Common.{◌≤◌, length, length-drop, refl, arith, rules}
+use Rattle.tinyvec_slots.specs.Slots.{spare}
+use Rattle.tinyvec_slots.proofs.BorderLemmas.{clones_added, clones_not_added}
 use Rattle.tinyvec_array.proofs.array_vec.ArrayVec.extend_from_slice.Goals as goal
 
-pub returns-in_err-clone_over_from-clause-kept : goal.returns-in_err-clone_over_from-clause-kept
-returns-in_err-clone_over_from-clause-kept g c =
+pub returns-in_err-clone_over_from-clause-clones : goal.returns-in_err-clone_over_from-clause-clones
+returns-in_err-clone_over_from-clause-clones g c =
     let v = c.args.self.now in
-    let made = rw (c.slots_mut.ensures.value, c.len-len.ensures.field) at c.in_err-clone_over_from.ensures.refused.2 in
-    let fits : v.len ≤ length (all_slots v) = omega (arith, c.len-len.ensures) in
-    on_err c.from_residual.result (kept_in_front fits made)
+    let xs = c.args.other.now in
+    let len = c.len-len in
+    let room : length xs ≤ length (spare v) = omega (arith, c.requires.room, len.ensures, length-drop v.len v.slots) in
+    let h = rw c.slots_mut.ensures.value at c.in_err-clone_over_from.ensures.refused in
+    clones_not_added g.A.Item.Clone v len.result len.ensures.value xs c.clone_over_from.new.slots room _ (search rules) h.0 h.1 h.2
 
-pub returns-in_err-clone_over_from-clause-refused : goal.returns-in_err-clone_over_from-clause-refused
-returns-in_err-clone_over_from-clause-refused g c =
+pub returns-clause-clones : goal.returns-clause-clones
+returns-clause-clones g c =
     let v = c.args.self.now in
-    let h = c.in_err-clone_over_from.ensures.refused in
-    let made = rw (c.slots_mut.ensures.value, c.len-len.ensures.field) at h.2 in
-    let fits : v.len ≤ length (all_slots v) = omega (arith, c.len-len.ensures) in
-    on_err c.from_residual.result (h.0, h.1, clones_behind fits made)
-
-pub returns : goal.returns
-returns g c =
-    let v = c.args.self.now in
-    let made = rw (c.slots_mut.ensures.value, c.len-len.ensures.field) at c.in_ok-clone_over_from.ensures.ok in
-    let fits : v.len ≤ length (all_slots v) = omega (arith, c.len-len.ensures) in
-    let written = clones_written fits made in
-    let after = rw c.len-len.ensures.field at c.set_len.ensures.value in
-    record {
-      items = rw after (written.0);
-      len = rw after (written.1);
-      if_clones_equal = rw after (written.2);
-      spare = rw after (written.3);
-      kept = search rules;
-      fits = search rules;
-      refused = search rules;
-      succeeds = search rules;
-    }
+    let xs = c.args.other.now in
+    let len = c.len-len in
+    let room : length xs ≤ length (spare v) = omega (arith, c.requires.room, len.ensures, length-drop v.len v.slots) in
+    let made = rw c.slots_mut.ensures.value at c.in_ok-clone_over_from.ensures.ok in
+    rw c.set_len.ensures.value (clones_added g.A.Item.Clone v len.result len.ensures.value xs c.clone_over_from.new.slots room _ refl made)

@@ -3,7 +3,7 @@ use Rattle.std.proofs.iter.Next.{Yields-more}
 use Rattle.std.proofs.lemmas.Grind.{common_steps}
 use Rattle.std.proofs.lemmas.List.{length_push}
 use Rattle.tinyvec_slots.specs.Slots.{items, spare, items_len}
-use Rattle.tinyvec_slots.proofs.FillingLemmas.{spare_after, stopped_full, stopped_early, filled}
+use Rattle.tinyvec_slots.proofs.FillingLemmas.{spare_after, stopped_full, stopped_early, fills_by}
 use Rattle.tinyvec_array.proofs.array_vec.ArrayVec.fill.Goals as goal
 
 pub loop-items-init : goal.loop-items-init
@@ -34,32 +34,19 @@ loop-items-preserved g c =
       );
     }
 
-pub returns-in-None-clause-ran : goal.returns-in-None-clause-ran
-returns-in-None-clause-ran g c =
+pub returns-in-None-clause-items : goal.returns-in-None-clause-items
+returns-in-None-clause-items g c =
     let turn = c.loop-items in
-    let run = turn.invariant.ran in
-    let grown = ap length run.2 ∙ length-append (items c.args.self.now) run.0 in
+    let (xs, run, is) = turn.invariant.ran in
+    let grown = ap length is ∙ length-append (items c.args.self.now) xs in
     let has_room : items_len turn.self < g.A.Array.CAPACITY = grind (arith, common_steps) in
-    let room : length run.0 < g.A.Array.CAPACITY - items_len c.args.self.now = omega (arith, grown, has_room) in
-    (c.into_iter-items.result, run.0, c.into_iter-items.ensures.into_iter_gives, stopped_early _ _ _ run.0 _ room (turn.items, run.1, c.in-None.ensures.steps), run.2)
+    fills_by _ _ _ _ _ c.into_iter-items.result xs c.into_iter-items.ensures.into_iter_gives is _
+    (stopped_early _ _ _ xs _ (omega (arith, grown, has_room)) (turn.items, run, c.in-None.ensures.steps))
 
-pub returns-in-None-clause-listed : goal.returns-in-None-clause-listed
-returns-in-None-clause-listed g c = λ rest shows.
-    let ran = returns-in-None-clause-ran g c in
-    let parts = filled _ rest shows _ _ ran.1 _ ran.3 in
-    (ran.0, ran.2, ran.4 ∙ ap (λ l. items c.args.self.now ++ l) parts.0, parts.1)
-
-pub returns-clause-ran : goal.returns-clause-ran
-returns-clause-ran g c =
+pub returns-clause-items : goal.returns-clause-items
+returns-clause-items g c =
     let turn = c.loop-items in
-    let run = turn.invariant.ran in
-    let grown = ap length run.2 ∙ length-append (items c.args.self.now) run.0 in
+    let (xs, run, is) = turn.invariant.ran in
+    let grown = ap length is ∙ length-append (items c.args.self.now) xs in
     let full : items_len turn.self ≡ g.A.Array.CAPACITY = grind (arith, common_steps) in
-    let room : length run.0 ≡ g.A.Array.CAPACITY - items_len c.args.self.now = omega (arith, grown, full) in
-    (c.into_iter-items.result, run.0, c.into_iter-items.ensures.into_iter_gives, stopped_full _ _ _ run.0 _ room run.1, run.2)
-
-pub returns-clause-listed : goal.returns-clause-listed
-returns-clause-listed g c = λ rest shows.
-    let ran = returns-clause-ran g c in
-    let parts = filled _ rest shows _ _ ran.1 _ ran.3 in
-    (ran.0, ran.2, ran.4 ∙ ap (λ l. items c.args.self.now ++ l) parts.0, parts.1)
+    fills_by _ _ _ _ _ c.into_iter-items.result xs c.into_iter-items.ensures.into_iter_gives is _ (stopped_full _ _ _ xs _ (omega (arith, grown, full)) run)

@@ -8,4 +8,4 @@ returns-in-Ok-clause-spare g c =
     let n = length c.args.slice.now in
     let made = c.new-vec.ensures.spare in
     let all = spare c.new-vec.result in
-    rw c.in-Ok.ensures.spare (length-drop n all ∙ ap (λ k. k - n) made.0, All-drop g.A.Item.Default.is_default n all made.1)
+    rw c.in-Ok.ensures.clones.spare (length-drop n all ∙ ap (λ k. k - n) made.0, All-drop g.A.Item.Default.is_default n all made.1)

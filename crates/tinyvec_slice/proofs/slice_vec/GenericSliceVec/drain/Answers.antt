@@ -6,7 +6,7 @@ use Rattle.tinyvec_slots.proofs.Lists.{first_part, second_part, second_part_with
 use Rattle.tinyvec_slots.proofs.SlotsLemmas.{slots_are}
 use Rattle.tinyvec_slice.specs.SliceVec.{items_of, spare_of, view_of, slots_of}
 use Rattle.tinyvec_slice.proofs.DrainLemmas.{drain_runs}
-use Rattle.tinyvec_slice.proofs.ViewLemmas.{within}
+use Rattle.tinyvec_slots.proofs.BorderLemmas.{within}
 use Rattle.tinyvec_slice.proofs.slice_vec.GenericSliceVec.drain.Goals as goal
 
 minus_zero : (n : ℕ) → n - 0 ≡ n

@@ -2,7 +2,7 @@ use Rattle.std.proofs.Common.{◌++◌, ◌∷◌, [], refl, sym, ap, ◌∙◌,
 use Rattle.std.proofs.iter.Next.{Yields-more}
 use Rattle.std.proofs.lemmas.Grind.{common_steps}
 use Rattle.std.proofs.lemmas.List.{length_push}
-use Rattle.tinyvec_slots.proofs.FillingLemmas.{spare_after, stopped_full, stopped_early, filled}
+use Rattle.tinyvec_slots.proofs.FillingLemmas.{spare_after, stopped_full, stopped_early, fills_by}
 use Rattle.tinyvec_slice.specs.SliceVec.{items_of, spare_of, view_of}
 use Rattle.tinyvec_slice.proofs.ViewLemmas.{same_lender, SameLender-then}
 use Rattle.tinyvec_slice.proofs.slice_vec.GenericSliceVec.fill.Goals as goal
@@ -44,38 +44,26 @@ loop-items-preserved g c =
       lender = SameLender-then g.B.Lent _ _ _ turn.invariant.lender put.lender;
     }
 
-pub returns-in-None-clause-ran : goal.returns-in-None-clause-ran
-returns-in-None-clause-ran g c =
+pub returns-in-None-clause-items : goal.returns-in-None-clause-items
+returns-in-None-clause-items g c =
     let turn = c.loop-items in
-    let run = turn.invariant.ran in
+    let (xs, run, is) = turn.invariant.ran in
     let S = spare_of g.B.Lent c.args.self.now in
     let L = items_of g.B.Lent c.args.self.now in
-    let grown = ap length run.2 ∙ length-append L run.0 in
+    let grown = ap length is ∙ length-append L xs in
     let left = ap length turn.invariant.behind ∙ length-drop (length (items_of g.B.Lent turn.self) - length L) S in
     let has_room : 0 < length (spare_of g.B.Lent turn.self) = grind (arith, common_steps) in
-    let room : length run.0 < length S = omega (arith, grown, left, has_room) in
-    (c.into_iter-items.result, run.0, c.into_iter-items.ensures.into_iter_gives, stopped_early _ _ _ run.0 _ room (turn.items, run.1, c.in-None.ensures.steps), run.2)
+    fills_by _ _ _ _ _ c.into_iter-items.result xs c.into_iter-items.ensures.into_iter_gives is _
+    (stopped_early _ _ _ xs _ (omega (arith, grown, left, has_room)) (turn.items, run, c.in-None.ensures.steps))
 
-pub returns-in-None-clause-listed : goal.returns-in-None-clause-listed
-returns-in-None-clause-listed g c = λ rest shows.
-    let ran = returns-in-None-clause-ran g c in
-    let parts = filled _ rest shows _ _ ran.1 _ ran.3 in
-    (ran.0, ran.2, ran.4 ∙ ap (λ l. items_of g.B.Lent c.args.self.now ++ l) parts.0, parts.1)
-
-pub returns-clause-ran : goal.returns-clause-ran
-returns-clause-ran g c =
+pub returns-clause-items : goal.returns-clause-items
+returns-clause-items g c =
     let turn = c.loop-items in
-    let run = turn.invariant.ran in
+    let (xs, run, is) = turn.invariant.ran in
     let S = spare_of g.B.Lent c.args.self.now in
     let L = items_of g.B.Lent c.args.self.now in
-    let grown = ap length run.2 ∙ length-append L run.0 in
+    let grown = ap length is ∙ length-append L xs in
     let left = ap length turn.invariant.behind ∙ length-drop (length (items_of g.B.Lent turn.self) - length L) S in
     let full : length (spare_of g.B.Lent turn.self) ≡ 0 = grind (arith, common_steps) in
-    let room : length run.0 ≡ length S = omega (arith, grown, left, full, turn.invariant.fits) in
-    (c.into_iter-items.result, run.0, c.into_iter-items.ensures.into_iter_gives, stopped_full _ _ _ run.0 _ room run.1, run.2)
-
-pub returns-clause-listed : goal.returns-clause-listed
-returns-clause-listed g c = λ rest shows.
-    let ran = returns-clause-ran g c in
-    let parts = filled _ rest shows _ _ ran.1 _ ran.3 in
-    (ran.0, ran.2, ran.4 ∙ ap (λ l. items_of g.B.Lent c.args.self.now ++ l) parts.0, parts.1)
+    fills_by _ _ _ _ _ c.into_iter-items.result xs c.into_iter-items.ensures.into_iter_gives is _
+    (stopped_full _ _ _ xs _ (omega (arith, grown, left, full, turn.invariant.fits)) run)

@@ -1,5 +1,5 @@
 use Rattle.std.proofs.Common.{◌≡◌, ◌+◌, ◌-◌, ◌∙◌, arith}
-use Rattle.tinyvec_slice.proofs.ViewLemmas.{spare-put}
+use Rattle.tinyvec_slots.proofs.BorderLemmas.{spare-put}
 use Rattle.tinyvec_slice.proofs.slice_vec.GenericSliceVec.fill_spare_default.Goals as goal
 
 pub returns-then-n-capacity-clause-spare : goal.returns-then-n-capacity-clause-spare

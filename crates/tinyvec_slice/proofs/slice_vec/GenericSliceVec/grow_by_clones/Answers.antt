@@ -1,8 +1,8 @@
 use Rattle.std.proofs.Common.{◌≡◌, ◌<◌, ◌≤◌, ◌+◌, ◌-◌, length, drop, sym, ap, ◌∙◌, arith, rules}
 use Rattle.tinyvec_slots.proofs.CloneLemmas.{on_err}
-use Rattle.tinyvec_slots.proofs.BorderLemmas.{kept_in_front, clones_behind, clones_written}
+use Rattle.tinyvec_slots.proofs.BorderLemmas.{kept_in_front, clones_behind, clones_written, border, within, list_to, spare_from}
 use Rattle.tinyvec_slice.specs.SliceVec.{spare_of}
-use Rattle.tinyvec_slice.proofs.ViewLemmas.{border, within, list_to, spare_from, parts_of}
+use Rattle.tinyvec_slice.proofs.ViewLemmas.{parts_of}
 use Rattle.tinyvec_slice.proofs.slice_vec.GenericSliceVec.grow_by_clones.Goals as goal
 
 module _ (g : _) (c : goal.After-from_residual g) where

@@ -2,7 +2,7 @@ use Rattle.std.proofs.Common.{◌≤◌, rules, arith, ap, ◌∙◌, length}
 use Rattle.std.proofs.lemmas.Grind.{common_steps}
 use Rattle.std.proofs.lemmas.List.{length_push}
 use Rattle.tinyvec_slice.specs.SliceVec.{items_of}
-use Rattle.tinyvec_slice.proofs.ViewLemmas.{take-put_in, drop-put_in, beyond}
+use Rattle.tinyvec_slots.proofs.BorderLemmas.{take-put_in, drop-put_in, beyond}
 use Rattle.tinyvec_slice.proofs.slice_vec.GenericSliceVec.insert.Goals as goal
 
 pub returns-then-prefers_shifting-clause-spare : goal.returns-then-prefers_shifting-clause-spare

@@ -1,4 +1,4 @@
-use Rattle.tinyvec_slice.proofs.ViewLemmas.{drop-pushed}
+use Rattle.tinyvec_slots.proofs.BorderLemmas.{drop-pushed}
 use Rattle.tinyvec_slice.proofs.slice_vec.GenericSliceVec.push.Goals as goal
 
 pub returns-clause-spare : goal.returns-clause-spare

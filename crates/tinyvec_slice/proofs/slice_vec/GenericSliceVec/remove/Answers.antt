@@ -3,7 +3,7 @@ use Rattle.std.proofs.lemmas.Grind.{common_steps}
 use Rattle.std.proofs.lemmas.List.Elements.{All-cons, All-nil}
 use Rattle.tinyvec_slots.proofs.Lists.{length-moved, take-moved}
 use Rattle.tinyvec_slice.specs.SliceVec.{items_of}
-use Rattle.tinyvec_slice.proofs.ViewLemmas.{take-taken, drop-taken}
+use Rattle.tinyvec_slots.proofs.BorderLemmas.{take-taken, drop-taken}
 use Rattle.tinyvec_slice.proofs.slice_vec.GenericSliceVec.remove.Goals as goal
 
 pub returns-clause-items : goal.returns-clause-items

@@ -1,7 +1,7 @@
 use Rattle.std.proofs.Common.{rules, refl, ◌<◌, ◌∷◌, [], arith}
 use Rattle.std.proofs.lemmas.Grind.{common_steps}
 use Rattle.std.proofs.lemmas.List.Elements.{All-cons, All-nil}
-use Rattle.tinyvec_slice.proofs.ViewLemmas.{drop-popped}
+use Rattle.tinyvec_slots.proofs.BorderLemmas.{drop-popped}
 use Rattle.tinyvec_slice.proofs.slice_vec.GenericSliceVec.take_last.Goals as goal
 
 pub returns-clause-spare : goal.returns-clause-spare

@@ -1,4 +1,4 @@
-use Rattle.tinyvec_slice.proofs.ViewLemmas.{spare-set}
+use Rattle.tinyvec_slots.proofs.BorderLemmas.{spare-set}
 use Rattle.tinyvec_slice.proofs.slice_vec.GenericSliceVec.take_spare.Goals as goal
 
 pub returns-clause-spare : goal.returns-clause-spare

@@ -1,6 +1,6 @@
 use Rattle.std.proofs.Common.{◌≤◌, drop, sym, ap, ◌∙◌, arith}
 use Rattle.tinyvec_slots.proofs.CloneLemmas.{drop_within}
-use Rattle.tinyvec_slice.proofs.ViewLemmas.{list_to}
+use Rattle.tinyvec_slots.proofs.BorderLemmas.{list_to}
 use Rattle.tinyvec_slice.proofs.slice_vec.edits.GenericSliceVec+mut+slice+T.split_off.Goals as goal
 
 pub returns-clause-tail : goal.returns-clause-tail
