@@ -2,6 +2,7 @@
 ghost use Rattle.std.specs.Prelude.{◌≡◌, ◌+◌, ◌≤◌, ◌++◌, ◌∷◌, [], ◌↔◌, length, drop, IsTrue, IfOk, IsOk, IfErr, OnOk, IsUtf8, encode_utf8};
 ghost use Rattle.std.specs.String.{string_bytes};
 ghost use Rattle.tinyvec.specs.TinyVec.{tiny_items};
+ghost use Rattle.tinyvec.specs.View.{lies_inline, capacity_in};
 ghost use Rattle.tinyvec_text.specs.InlineText.{text_chars, text_len, IsBoundary};
 
 use std::alloc::{AllocError, Global};
@@ -13,7 +14,7 @@ use tinyvec_text::{FromUtf8Error, InlineText};
 /// No characters, in the value.
 pub fn empty(alloc: Global) -> InlineText<8>
     ensures text { text_chars result ≡ [] }
-    ensures place { IsTrue result.inline }
+    ensures place { IsTrue (lies_inline result.place) }
 {
     InlineText::new(alloc)
 }
@@ -25,7 +26,7 @@ pub fn room(text: &InlineText<8>) -> usize {
 
 /// Whether the text is in the value.
 pub fn is_in_value(text: &InlineText<8>) -> bool
-    ensures { result ≡ text.now.inline }
+    ensures { result ≡ lies_inline text.now.place }
 {
     text.is_inline()
 }
@@ -86,14 +87,14 @@ pub fn with_room(text: &mut InlineText<8>) -> Result<(), AllocError>
 /// The same text once more, in the value if this one is.
 pub fn twice(text: &InlineText<8>) -> Result<InlineText<8>, AllocError>
     ensures text { IfOk result (λ t. text_chars t ≡ text_chars text.now) }
-    ensures succeeds { IsTrue text.now.inline → IsOk result }
+    ensures succeeds { IsTrue (lies_inline text.now.place) → IsOk result }
 {
     text.clone()
 }
 
 /// No characters, and room for a line of a terminal, so that as many bytes take no further memory.
 pub fn line(alloc: Global) -> Result<InlineText<8>, AllocError>
-    ensures { IfOk result (λ text. (text.bytes ≡ []) × (text.room ≡ 80)) }
+    ensures { IfOk result (λ text. (text.bytes ≡ []) × (capacity_in 8 text.place ≡ 80)) }
 {
     InlineText::with_capacity(alloc, 80)
 }
@@ -142,7 +143,7 @@ pub fn initials(alloc: Global, first: char, last: char) -> InlineText<8>
 
 /// A separator after the text, for which the caller has reserved room.
 pub fn separated(text: &mut InlineText<8>, separator: &str)
-    requires { text_len text.old + length separator.now ≤ text.old.room }
+    requires { text_len text.old + length separator.now ≤ capacity_in 8 text.old.place }
     ensures { text.new.bytes ≡ text.old.bytes ++ separator.now }
 {
     text.push_str_reserved(separator);
@@ -196,7 +197,7 @@ pub fn cut_off(text: &mut InlineText<8>, at: usize) -> Result<InlineText<8>, All
 
 /// The text in the value again, if it fits there.
 pub fn packed(text: &mut InlineText<8>)
-    ensures { IsTrue text.new.inline ↔ (text_len text.old ≤ 8) }
+    ensures { IsTrue (lies_inline text.new.place) ↔ (text_len text.old ≤ 8) }
 {
     text.shrink_to_fit();
 }

@@ -1,6 +1,6 @@
 use Rattle.std.proofs.Common.{◌≡◌, ◌+◌, ◌≤◌, ◌++◌, IsUtf8, ap, sym, subst, ◌∙◌, chars, length, rules}
 use Rattle.std.proofs.lemmas.Str.{IsUtf8-append, chars-append}
-use Rattle.tinyvec.proofs.TinyLemmas.{capacity_inline}
+use Rattle.tinyvec.specs.View.{lies_inline}
 use Rattle.tinyvec.specs.TinyVec.{tiny_items, tiny_len, tiny_capacity}
 use Rattle.tinyvec_text.specs.InlineText.{Text, text_of, text_chars}
 use Rattle.tinyvec_text.proofs.Lists.{text_utf8, text_kept, place_stays}
@@ -31,7 +31,7 @@ returns-clause-frame g c =
     let new = c.extend_from_slice.new.self in
     let enough : tiny_len list + length c.as_bytes.result.now ≤ tiny_capacity g.row.N list = search rules in
     record {
-      place = place_stays g.row.N _ (text_of g.row.N list) (text_of g.row.N new) (capacity_inline g.row.N list) enough c.in-Ok.ensures.room.place ∙ ap (λ (t : Text). t.inline) c.self.view_is;
+      place = place_stays g.row.N _ (text_of list) (text_of new) enough c.in-Ok.ensures.room.place ∙ ap (λ (t : Text). lies_inline t.place) c.self.view_is;
       room = search rules;
       fits = search rules;
     }
