@@ -38,10 +38,7 @@ unread_is_unprinted bs large n h e =
     let value : digits_value 10 bs ≡ n = ap (digits_value 10) e ∙ digits_value-decimal own n h in
     omega (arith, large digits, value)
 
--- numbers are told apart by their texts, and no text of one begins with a minus
-pub decimal_once : (n m : ℕ) → n < 2 ^ 64 → m < 2 ^ 64 → decimal n ≡ decimal m → n ≡ m
-decimal_once n m hn hm e = sym (digits_value-decimal own n hn) ∙ ap (digits_value 10) e ∙ digits_value-decimal own m hm
-
+-- no text of an index begins with a minus
 pub first_is_digit : (n : ℕ) → n < 2 ^ 64 → (rest : List ℕ) → decimal n ≢ 45 ∷ rest
 first_is_digit n h rest e =
     let same : get_or (decimal n) 0 0 ≡ 45 = ap (λ l. get_or l 0 0) e in

@@ -17,20 +17,20 @@ returns-in_err-end-clause-none c = rw c.from_residual-in_err-end.ensures (λ i j
 
 pub returns-then-not-is_word-clause-none : goal.returns-then-not-is_word-clause-none
 returns-then-not-is_word-clause-none c = λ i j word ns hi hj hs e.
+    let no : c.is_word.result ≡ false = search rules in
     let tail = word_text word ++ numbers_text ns in
     let rest = one_index c.args.text.now c.in_ok-start.start i _ (decimal j ++ 32 ∷ tail) (search rules) hi c.in_ok-start.ensures.some e in
     let last = one_index _ c.in_ok-end.end j _ tail (search rules) hj c.in_ok-end.ensures.some rest in
     let parts = c.until_blank.ensures in
     let split = one_split _ _ _ (word_text word) (numbers_text ns) parts.whole parts.word parts.rest last (word_has_no_blank word) (numbers_blank ns) in
-    let no : c.is_word.result ≡ false = search rules in
     c.is_word.ensures.no no word split.0
 
 pub returns-then-not-parse_numbers-clause-none : goal.returns-then-not-parse_numbers-clause-none
 returns-then-not-parse_numbers-clause-none c = λ i j word ns hi hj hs e.
+    let no : c.parse_numbers.result ≡ false = search rules in
     let tail = word_text word ++ numbers_text ns in
     let rest = one_index c.args.text.now c.in_ok-start.start i _ (decimal j ++ 32 ∷ tail) (search rules) hi c.in_ok-start.ensures.some e in
     let last = one_index _ c.in_ok-end.end j _ tail (search rules) hj c.in_ok-end.ensures.some rest in
     let parts = c.until_blank.ensures in
     let split = one_split _ _ _ (word_text word) (numbers_text ns) parts.whole parts.word parts.rest last (word_has_no_blank word) (numbers_blank ns) in
-    let no : c.parse_numbers.result ≡ false = search rules in
     c.parse_numbers.ensures.no no ns hs split.1
