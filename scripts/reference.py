@@ -32,8 +32,12 @@ PAGES = {
 INDEX = "README"
 COLUMNS = ("ARRAY_VEC", "SLICE_VEC", "TINY_VEC", "INLINE_TEXT")
 
-# A caller of more lines than this is named, and not shown.
+# A caller of more lines than this, or whose body is one line, is named, and not shown.
 LONGEST = 8
+ONE_LINE = re.compile(r"\{\n[^\n]*\n\}$")
+
+# A caller of a call that several types have, and a note, are shown on the first of their pages in this order.
+ORDER = ("TINY_VEC", "ARRAY_VEC", "SLICE_VEC", "INLINE_TEXT", "BORSH", "COUNTED", "SCRIPT", "SLOTS")
 
 # What a reader looks for first. Other files follow by name, and traits and further types at the end.
 FIRST = ("making", "edits", "extending", "drain", "splice", "filters", "capacity", "reading", "writing", "taking")
@@ -96,6 +100,21 @@ def faults():
         yield from (f"docs/DIFFERENCES.md: a call without its type: {it}" for it in bare)
 
 
+# Calls of one name that do different things.
+UNLIKE = ("as_inner", "as_mut_inner", "capacity", "drain", "from_slice", "split_off")
+
+
+def named():
+    """Calls of several vectors whose `///` begin with different sentences."""
+    library, found = Library(), {}
+    for it in (it for page in COLUMNS[:3] for it in library.pages[page] if it.kind == "method" and it.of == main_of(page)):
+        said = re.split(r"(?<=\.)\s", " ".join(it.item.comment))[0]
+        found.setdefault(it.name, {}).setdefault(said, it)
+    for name, said in found.items():
+        if len(said) > 1 and name not in UNLIKE:
+            yield "one call, two sentences: " + " ".join(f"{it.key()}: {text}" for text, it in said.items())
+
+
 def main_of(page):
     return PAGES[page][1]
 
@@ -103,7 +122,7 @@ def main_of(page):
 def pages():
     """Each page: its file, what precedes MARK there and what follows it, and what should."""
     library = Library()
-    texts = {name: Page(library, name).text() for name in PAGES}
+    texts = {name: Page(library, name).text() for name in ORDER}
     texts[INDEX] = library.table()
     for name, text in texts.items():
         file = FOLDER / f"{name}.md"
@@ -129,6 +148,8 @@ class Library:
                 self.callers[it] = min(self.callers.get(it, caller), caller, key=lambda one: len(one.text))
         self.uncalled = {it for it in self.keys if is_call(it)} - self.callers.keys()
         self.notes = notes()
+        # Where a note is shown, and the page that shows a caller of a call, by its name.
+        self.noted, self.exemplified = {}, {}
 
     def is_part(self, entry):
         """Whether an export is what vectors are written with, and nothing for their users."""
@@ -191,14 +212,31 @@ class Entry(exports.Export):
         return f"`{self.name}`" if self.of == main and self.of else f"`{self.key()}`"
 
     def mark(self, main):
-        """What stands once on the page of an export."""
-        return self.row() if self.is_part else f"\n### {self.heading(main)}\n"
+        """What is once on the page of an export."""
+        if self.is_part:
+            return self.link()
+        return f'<a id="{self.anchor(main)}">' if self.is_row() else f"\n### {self.heading(main)}\n"
 
     def anchor(self, main):
         return anchor(self.heading(main))
 
-    def row(self):
-        return f"\n| [`{self.key()}`](../../{self.source.path}) |"
+    def link(self):
+        return f"[`{self.key()}`](../../{self.source.path})"
+
+    def is_row(self):
+        """Whether a line of a table says all of an impl: no function of it has a contract."""
+        return self.kind == "impl" and not any(it.kind == "fn" and has_contract(it) for it in self.item.members())
+
+    def row(self, said):
+        """An impl as a line of a table."""
+        shown = (re.sub(r"^ghost (.*?) = \{ (.*) \};$", r"\1 = \2", " ".join(" ".join(it.lines).split())) for it in self.ghosts())
+        codes = "; ".join("`" + it.replace("|", "\\|") + "`" for it in shown)
+        cell = ". ".join(it for it in (codes, " ".join(said)) if it)
+        return f'| <a id="{self.anchor(None)}"></a>`{self.item.signature().rstrip(",")}` | {cell} |\n'
+
+    def ghosts(self):
+        """What an impl defines, without its proofs."""
+        return [it for it in self.item.members() if it.kind == "ghost" and not PROOFS.match(it.lines[0])]
 
     def section(self, main):
         stem = self.source.file.stem
@@ -283,8 +321,8 @@ class Page:
     """What a page has: a table of its sections, and each section with its entries."""
 
     def __init__(self, library, name):
-        self.library, self.entries, self.shown, self.noted = library, library.pages[name], {}, {}
-        self.codes = {}
+        self.library, self.name, self.entries, self.shown = library, name, library.pages[name], {}
+        self.codes, self.told = {}, set()
         self.main = main_of(name)
         self.sections = {}
         for it in self.entries:
@@ -302,7 +340,8 @@ class Page:
         return (not is_own, is_elsewhere, it.kind in ("impl", "method"), self.entries.index(it)) if self.main else ()
 
     def title(self, section):
-        return TITLES.get(section) or self.sections[section][0].source.title.replace("`", "")
+        title = TITLES.get(section) or self.sections[section][0].source.title.replace("`", "")
+        return title.partition(". ")[0]
 
     def text(self):
         rows, below, cited = [], [], {}
@@ -315,37 +354,78 @@ class Page:
             words = [word for it in found if not it.is_part for word in it.words() if cited.setdefault(word, section) == section]
             links = ", ".join(f"[`{name}`](WORDS.md#{exports.word_anchor(path, name)})" for path, name in sorted(set(words), key=lambda it: it[1].lower()))
             below += [f"\nWords: {links}.\n"] if words else []
-            below += self.parts(found) if section == "parts" else [line for it in found for line in self.entry(it)]
+            below += self.parts(found) if section == "parts" else self.section(found)
         return "\n\n| | |\n|---|---|\n" + "".join(rows + below)
 
     def parts(self, found):
-        yield "\nVectors are written with these; their contracts are in the sources.\n\n| | |\n|---|---|"
+        yield "\nVectors are written with these; their contracts are in the sources.\n\n"
+        for source in dict.fromkeys(it.source for it in found):
+            yield f"- {', '.join(it.link() for it in found if it.source == source)}\n"
+
+    def section(self, found):
         for it in found:
-            said = re.split(r"(?<=\.)\s", " ".join(it.item.comment))[0].replace("|", "\\|")
-            yield f"{it.row()} {said} |"
-        yield "\n"
+            yield from self.entry(it) if not it.is_row() else ()
+        rows = [it.row([*it.prose(), *self.notes(it)]) for it in found if it.is_row()]
+        yield from ["\n| Impl | Defines |\n|---|---|\n", *rows] if rows else ()
 
     def entry(self, it):
         yield f"\n### {it.heading(self.main)}\n"
-        yield from (f"\n{said}\n" for said in it.prose())
-        # A call and its `try_` form have one contract.
-        twin = self.codes.setdefault(re.sub(rf"\b{it.name}\b", "", it.code()), it) if it.kind in ("method", "fn") else it
+        yield from (f"\n{said}\n" for said in it.prose() if self.is_new(said))
+        twin, instead = self.twin(it)
         if twin is it:
             yield f"\n```\n{it.code()}\n```\n"
         else:
-            yield f"\nIts contract is that of [`{twin.name}`](#{twin.anchor(self.main)}).\n"
-        for note in self.library.notes.get(it.key(), []):
-            first = self.noted.setdefault(note, it)
-            yield f"\n{note}\n" if first is it else f"\nIn Rust: as of [`{first.name}`](#{first.anchor(self.main)}).\n"
+            yield f"\nIts contract is that of [`{twin.trait or twin.name}`](#{twin.anchor(self.main)}){instead}.\n"
+        notes = self.notes(it) if twin is it or it.kind == "impl" else ()
+        yield from (f"\n{note}\n" for note in notes)
         caller = self.library.callers.get(it.key()) if is_call(it.key()) else None
-        if caller:
-            first = self.shown.setdefault(caller.text, it)
-            if caller.text.count("\n") > LONGEST:
-                yield f"\nA caller: `{caller.name}`, in [`{caller.path}`](../../{caller.path}).\n"
-            elif first is it:
-                yield f"\nA caller, in [`{caller.path}`](../../{caller.path}):\n\n```\n{caller.text}\n```\n"
+        if not caller:
+            return
+        elsewhere = self.library.exemplified.get(it.name, self.name) != self.name
+        if first := self.shown.get(caller.text):
+            yield f"\nA caller: `{caller.name}`, at [`{first.name}`](#{first.anchor(self.main)}).\n"
+        elif elsewhere or caller.text.count("\n") > LONGEST or ONE_LINE.search(caller.text):
+            yield f"\nA caller: `{caller.name}`, in [`{caller.path}`](../../{caller.path}).\n"
+        else:
+            self.shown[caller.text] = it
+            self.library.exemplified[it.name] = self.name
+            yield f"\nA caller, in [`{caller.path}`](../../{caller.path}):\n\n```\n{caller.text}\n```\n"
+
+    def is_new(self, said):
+        """Whether a paragraph is on no line above. One that begins with the label of a clause is told once."""
+        is_told = said in self.told and said.startswith("`")
+        self.told.add(said)
+        return not is_told
+
+    def twin(self, it):
+        """The entry above that has the same contract but for its name, as a call and its `try_` form, and what differs otherwise."""
+        if it.kind not in ("method", "fn", "impl"):
+            return it, ""
+        code = re.sub(rf"\b{it.name}\b", "", it.code())
+        for other, above in self.codes.items():
+            pairs = difference(other, code) if it.kind == "impl" == above.kind else [] if other == code else None
+            if pairs is not None:
+                return above, ", with " * bool(pairs) + " and ".join(f"`{new}` for `{old}`" for old, new in pairs)
+        self.codes[code] = it
+        return it, ""
+
+    def notes(self, it):
+        for note in self.library.notes.get(it.key(), []):
+            page, first = self.library.noted.setdefault(note, (self.name, it))
+            if first is it:
+                yield note
             else:
-                yield f"\nA caller: `{caller.name}`, at [`{first.name}`](#{first.anchor(self.main)}).\n"
+                name = first.trait or first.name if page == self.name else first.key()
+                place = f"#{first.anchor(main_of(page))}"
+                yield f"In Rust: see [`{name}`]({'' if page == self.name else page + '.md'}{place})."
+
+
+def difference(old, new):
+    """The words in which two declarations differ, if these are at most two numbers or constants."""
+    pairs = [*zip(old.split(), new.split())]
+    found = [it for it in dict.fromkeys(pairs) if it[0] != it[1]]
+    is_small = len(old.split()) == len(new.split()) and len(found) <= 2 and all(re.fullmatch(r"\d+|true|false", part) for it in found for part in it)
+    return found if is_small else None
 
 
 if __name__ == "__main__":

@@ -62,6 +62,8 @@ class Words:
             of = lambda path, name: (path, name) if path else known.get(name, (file.stem, name))
             self.examples.update({of(path, name): (file, plain(shown)) for path, name, shown in EXAMPLE.findall(text)})
         self.above = PAGE.read_text(encoding="utf-8").partition(MARK)[0]
+        # The first word whose row says this.
+        self.first = {}
 
     def page(self):
         return self.above + MARK + "".join(self.section(it) for it in self.files) + "\n"
@@ -70,16 +72,35 @@ class Words:
         crate, _, stem = path.partition(".specs.")
         file = source_of(path)
         title = COMMENT.match(file.read_text(encoding="utf-8"))
-        head = f"\n\n## `{stem}` of `{crate}`\n\n{title[1] if title else ''} In [`{file.name}`](../../{file.relative_to(TOP)}).\n"
         rows = [it for it in self.defined if it[0] == path and it in self.cited]
         shown = sorted({self.examples[it][0] for it in rows if it in self.examples})
-        head += "".join(f"The examples are in [`{it.relative_to(TOP)}`](../../{it.relative_to(TOP)}).\n" for it in shown)
-        return head + "\n| Word | Means | For example |\n|---|---|---|\n" + "\n".join(self.row(it) for it in rows)
+        links = " and ".join(f"[`{it.relative_to(TOP)}`](../../{it.relative_to(TOP)})" for it in shown)
+        head = f"\n\n## `{stem}` of `{crate}`\n\n{title[1] if title else ''} In [`{file.name}`](../../{file.relative_to(TOP)})" + f", examples in {links}" * bool(shown) + ".\n"
+        own = [it for it in rows if self.first.setdefault(self.said(it), it) == it]
+        again = [it for it in rows if it not in own]
+        table = "\n| Word | Means | For example |\n|---|---|---|\n" + "\n".join(self.row(it) for it in own) if own else ""
+        return head + table + "".join(self.same(again))
+
+    def same(self, rows):
+        """Words whose rows would be those of another crate's words."""
+        found = {}
+        for it in rows:
+            found.setdefault(self.first[self.said(it)], it)
+        for of in dict.fromkeys(path for path, _ in found):
+            names = ", ".join(f'<a id="{exports.word_anchor(*it)}"></a>[`{it[1]}`](#{exports.word_anchor(*other)})' for other, it in found.items() if other[0] == of)
+            crate, _, stem = of.partition(".specs.")
+            yield f"\n\nAs in `{stem}` of `{crate}`: {names}."
+
+    def said(self, word):
+        """What the row of a word says."""
+        return self.defined[word].shown, self.defined[word].meaning, self.example(word)
+
+    def example(self, word):
+        return code(self.examples[word][1]) if word in self.examples else ""
 
     def row(self, word):
         found = self.defined[word]
-        _, example = self.examples.get(word, ("", ""))
-        return f'| <a id="{exports.word_anchor(*word)}"></a>{found.shown} | {found.meaning} | {example and code(example)} |'
+        return f'| <a id="{exports.word_anchor(*word)}"></a>{found.shown} | {found.meaning} | {self.example(word)} |'
 
 
 def source_of(path):
@@ -143,12 +164,13 @@ def code(text):
 def words_of(file):
     """Each public word of a file. The fields of records are told with their record."""
     lines = file.read_text(encoding="utf-8").splitlines()
-    depth, comment, starts = None, [], []
+    depth, comment, is_module, starts = None, [], False, []
     for at, line in enumerate(lines):
         if not line.strip():
             comment = []
         elif found := COMMENT.match(line):
-            comment.append(found[1])
+            comment = [*([] if is_module else comment), found[1]]
+            is_module = False
         else:
             indent = len(line) - len(line.lstrip())
             if depth is not None and indent <= depth:
@@ -158,8 +180,8 @@ def words_of(file):
                 starts.append((at, found, " ".join(comment).rstrip(".")))
                 depth = indent if found["kind"] else None
             # The comment of a module is that of its first word, unless this has one.
-            if not line.startswith("module"):
-                comment = []
+            is_module = line.startswith("module")
+            comment = comment if is_module else []
     for (at, found, said), (end, *_) in zip(starts, [*starts[1:], (len(lines),)]):
         yield Word(found, said, lines[at + 1 : end])
 

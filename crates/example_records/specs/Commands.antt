@@ -161,7 +161,7 @@ Does Copy old new answer =
 abbrev pub IsMemoryOr : Type 0 → CommandError → Type 0
 IsMemoryOr P error = (error ≡ Memory) ⊎ P
 
--- Of the commands that are asked for each is carried out. What is none of them is refused, and the stream stays as it is.
+-- Each command that is asked for is carried out. What is none of them is refused, and the stream stays as it is.
 pub record Answers (Asks : Command → Type 0) (old new : List ℕ) (answer : Answer) : Type 0 where
   pub carried_out : (command : Command) → Asks command → Does command old new answer
   pub is_command : OnOk answer ((command : Command) × Asks command)

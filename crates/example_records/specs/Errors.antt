@@ -33,7 +33,7 @@ command_error_text command.Length = codes "no length within the stream"
 command_error_text command.Words = codes "no words stand behind read and copy"
 command_error_text command.Memory = codes "out of memory"
 
--- where the records end, so many bytes from the start, and why no more were read
+-- how many bytes the records have, and why no more were read
 abbrev pub end_text : ℕ → Result (Unit {0}) StreamError → List ℕ
 end_text len (Ok done) = codes "end after " ++ (decimal len ++ codes " bytes")
 end_text len (Err error) = codes "end after " ++ (decimal len ++ (codes " bytes: " ++ stream_error_text error))

@@ -35,11 +35,11 @@ pub record IsShown (cs : List Said) (end : Result (Unit {0}) StreamError) (text 
 
 -- ---- answers
 
--- how long a stream of so many bytes is
+-- the length of a stream as it is shown
 abbrev pub len_text : ℕ → List ℕ
 len_text len = if len == 1 then codes "1 byte" else decimal len ++ codes " bytes"
 
--- The text says what was answered, if the stream then has so many bytes. It ends with a line feed.
+-- The text says what was answered, if the stream then has this length. It ends with a line feed.
 abbrev pub IsTextOf : Answer → (len : ℕ) → List ℕ → Type 0
 IsTextOf (Ok None) len text = text ≡ len_text len ++ 10 ∷ []
 IsTextOf (Ok (Some recovered)) len text = (shown : List ℕ) × IsShown (map said recovered.records.items) recovered.end shown × (text ≡ shown ++ 10 ∷ [])

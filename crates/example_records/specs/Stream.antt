@@ -44,7 +44,7 @@ IsEnd (Err TooManySamples) tail = IsTagged tag HasTooManySamples tail
 IsEnd (Err Io) tail = ⊥
 IsEnd (Err Memory) tail = ⊥
 
--- What is after the last record that was read. Of a fault of the reader nothing is known, and if memory was refused
+-- What is after the last record that was read. After a fault of the reader nothing is known, and if memory was refused
 -- there is a further tag.
 abbrev pub StandsBehind : Result (Unit {0}) StreamError → List ℕ → Type 0
 StandsBehind (Err Io) tail = Unit {0}
@@ -72,7 +72,7 @@ Gives cs end before after read (Err Io) = AreFirst read cs × Reported before af
 Gives cs end before after read (Err Memory) = AreFirst read cs
 Gives cs end before after read told = (read ≡ cs) × (end ≡ told)
 
--- The records before the cut were read. The end is told as a clean one only if no byte is after them, and `Cut` only
+-- The records before the cut were read. The end is a clean one only if no byte is after them, and `Cut` only
 -- if a record was cut.
 abbrev pub GivesCut : List Said → (front : List ℕ) → (before after : ℕ) → List Said → Result (Unit {0}) StreamError → Type 0
 GivesCut cs front before after read (Ok done) = AreFirst read cs × SpellsStream read front

@@ -241,7 +241,7 @@ fn shown_reading(alloc: Global, reading: &Reading) -> Result<String, AllocError>
     }
 }
 
-// Where the records end, and why no more were read.
+// Says where the records end, and why no more were read.
 fn shown_end(alloc: Global, recovered: &Recovered) -> Result<String, AllocError>
     ensures { IfOk result (λ text. (bytes : List ℕ) → SpellsStream (map said recovered.now.records.items) bytes
         → string_bytes text ≡ end_text (min (length bytes) (2 ^ 64 - 1)) recovered.now.end) }

@@ -10,7 +10,7 @@ const FIXED_BYTES: u64 = 21;
 
 /// How many bytes the records take in a stream, or `u64::MAX` if they take more.
 ///
-/// Of the records that were read of a stream that is cut it tells where the record begins that is cut.
+/// The records that were read of a cut stream take the bytes before the record that is cut.
 pub fn stream_len(readings: &[Reading]) -> u64
     ensures { (bytes : List ℕ) → SpellsStream (map said readings.now) bytes → result ≡ min (length bytes) (2 ^ 64 - 1) }
 {

@@ -82,7 +82,7 @@ pub fn read_all<R: Read>(alloc: Global, reader: &mut Counted<R>) -> Recovered
         → R.remaining reader.old.inner ≡ Some (bytes ++ tail)
         → Gives cs end reader.old.faults reader.new.faults (map said result.records.items) result.end }
 
-    // Of a stream that is cut after any byte, the records before the cut are read.
+    // If a stream is cut after any byte, the records before the cut are read.
     ensures cut { (cs : List Said) (front back : List ℕ)
         → AllByRecursion ReadingFits cs → SpellsStream cs (front ++ back)
         → R.remaining reader.old.inner ≡ Some front

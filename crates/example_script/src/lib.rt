@@ -10,7 +10,7 @@ use std::alloc::Global;
 use tinyvec_io::Counted;
 use tinyvec_script::{RunError, run};
 
-/// Answers a script in memory. Of three scripts it says which bytes are written.
+/// Answers a script in memory. The contract says which bytes three scripts write.
 pub fn answers(alloc: Global, input: &[u8]) -> Result<Vec<u8>, RunError>
     ensures script { IfOk result (λ written. Script input.now written.items) }
     ensures three_lines { IfOk result (λ written. input.now ≡ ended three → written.items ≡ ended three_answers) }

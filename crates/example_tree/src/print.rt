@@ -17,7 +17,7 @@ pub enum Piece {
     ClosingBracket,
 }
 
-/// The text of a tree of a list of nodes, with room for so many bytes at first. A sum or a product that is a factor is in
+/// The text of a tree of a list of nodes, with room for `room` bytes at first. A sum or a product that is a factor is in
 /// brackets.
 pub fn printed(
     alloc: Global,

@@ -1,11 +1,12 @@
 -- Lemmas on what a call leaves of place and capacity.
-use Rattle.std.proofs.Common.{◌≡◌, ℕ, ◌≤◌, ◌+◌, ◌*◌, max, Result, Ok, Err, refl, sym, ap, subst, ◌∙◌, arith}
+use Rattle.std.proofs.Common.{◌≡◌, ℕ, ◌≤◌, ◌+◌, ◌*◌, max, Result, Ok, Err, drop, refl, sym, ap, subst, ◌∙◌, arith}
 use Rattle.std.specs.Prelude.{OnOk, IsErr}
 use Rattle.std.proofs.lemmas.Bool.{false≢true}
 use Rattle.tinyvec_slots.specs.Slots.{Slots, SlotRule, items, items_len, spare}
-use Rattle.tinyvec.specs.TinyVec.{tiny_view, tiny_len, is_inline, tiny_capacity, IsInline, PlaceRule, TinySlotRule, StaysInPlace, Unchanged}
-use Rattle.tinyvec.specs.Room.{Doubles, GrowsFor, Grows, Reserves, RoomGrows}
+use Rattle.tinyvec.specs.TinyVec.{tiny_view, tiny_len, tiny_spare, is_inline, tiny_capacity, IsInline, PlaceRule, TinySlotRule, StaysInPlace, Unchanged}
+use Rattle.tinyvec.specs.Room.{Doubles, GrowsFor, Grows, Reserves, RoomGrows, MakesRoom}
 use Rattle.tinyvec.proofs.TinyLemmas.{slots_taken, tiny_slots_then, never_ok}
+use Rattle.tinyvec.proofs.RefusedLemmas.{place_then}
 use Rattle.tinyvec.specs.View.{in_array, ViewStays}
 use Rattle.tinyvec.specs.FrameLaws.{view_unchanged}
 use Rattle.tinyvec.specs.declared.tiny_vec.TinyVec.{TinyVec}
@@ -27,6 +28,16 @@ module _ {A T : Type 0} (D : T → Type 0) (slots : ℕ) where
 
   pub unchanged_stays : (v w : TinyVec A T) → tiny_len v ≤ tiny_capacity slots v → Unchanged v w → StaysInPlace D slots v w
   unchanged_stays v w fits h = subst (ViewStays D slots (tiny_view v)) (sym (view_unchanged v w h)) (stays_same v fits)
+
+  -- a list that used up k spare slots in its place
+  pub taken_stays : (v w : TinyVec A T) (k : ℕ) → tiny_len w ≡ tiny_len v + k → tiny_len v + k ≤ tiny_capacity slots v → tiny_spare w ≡ drop k (tiny_spare v)
+      → is_inline w ≡ is_inline v → tiny_capacity slots w ≡ tiny_capacity slots v → StaysInPlace D slots v w
+  taken_stays v w k len room behind place same = record {
+    place = place;
+    slot_rule = slots_taken D v w k len behind;
+    capacity = same;
+    fits = omega (arith, len, room, same);
+  }
 
   -- an inline list that fits the slots
   pub inline_fits : (v : TinyVec A T) → IsInline v → tiny_len v ≤ tiny_capacity slots v → tiny_len v ≤ slots
@@ -52,13 +63,13 @@ module _ {A T : Type 0} (D : T → Type 0) (slots : ℕ) where
 
   -- a list that grew and was full, and then took one more item
   pub grows_pushed : {X E : Type 0} (u v w : TinyVec A T) (x : X) → tiny_len u ≤ tiny_len v → tiny_len w ≡ tiny_len v + 1 → tiny_len v ≡ tiny_capacity slots v
-      → Grows D slots u v → PlaceRule slots (tiny_len v + 1) v w → TinySlotRule D v w → RoomGrows {E = E} Doubles slots (tiny_len v + 1) v w (Ok x) → Grows D slots u w
-  grows_pushed u v w x le one full h place rule room = record {
+      → Grows D slots u v → MakesRoom {E = E} Doubles D slots (tiny_len v + 1) v w (Ok x) → Grows D slots u w
+  grows_pushed u v w x le one full h room = record {
     place = (
-      λ i. let both = place.0 i in ((h.place.0 both.0).0, let few = both.1 in omega arith),
-      λ both. let few = both.1 in place.1 (h.place.1 (both.0, omega arith), omega arith),
+      λ i. let both = room.place.0 i in ((h.place.0 both.0).0, let few = both.1 in omega arith),
+      λ both. let few = both.1 in room.place.1 (h.place.1 (both.0, omega arith), omega arith),
     );
-    slot_rule = tiny_slots_then D u v w (λ i. (place.0 i).0) le (omega arith) h.slot_rule rule;
+    slot_rule = tiny_slots_then D u v w (λ i. (room.place.0 i).0) le (omega arith) h.slot_rule room.slot_rule;
     capacity = let first = h.capacity in let then = room.capacity in omega arith;
     same_room = λ fits. let same = h.same_room (omega arith) in room.same_room (omega arith) ∙ same;
     grown = λ _. let doubled = room.grown (omega arith) in omega (arith, doubled, full, one);
@@ -75,11 +86,13 @@ module _ {A T : Type 0} (D : T → Type 0) (slots : ℕ) where
   pub grows_in_room : (v w : TinyVec A T) → tiny_len w ≤ tiny_capacity slots v → Grows D slots v w → StaysInPlace D slots v w
   grows_in_room v w le h = record { place = same_place (tiny_len w) v w le h.place; slot_rule = h.slot_rule; capacity = h.same_room le; fits = h.fits }
 
-module _ {A T X E : Type 0} (slots need : ℕ) (old new : TinyVec A T) (r : Result X E) where
+module _ {A T X E : Type 0} (D : T → Type 0) (slots need : ℕ) (old new : TinyVec A T) (r : Result X E) where
   -- there was room
-  pub room_kept : need ≤ tiny_capacity slots old → tiny_capacity slots new ≡ tiny_capacity slots old → tiny_len new ≤ tiny_capacity slots new
-      → RoomGrows GrowsFor slots need old new r
-  room_kept room same fits = record {
+  pub room_kept : OnOk r (PlaceRule slots need old new) → OnOk r (TinySlotRule D old new) → need ≤ tiny_capacity slots old
+      → tiny_capacity slots new ≡ tiny_capacity slots old → tiny_len new ≤ tiny_capacity slots new → RoomGrows GrowsFor D slots need old new r
+  room_kept place rule room same fits = record {
+    place = place;
+    slot_rule = rule;
     capacity = omega (arith, same);
     same_room = λ _. same;
     grown = on_ok r (λ less. absurd (omega (arith, room, less)));
@@ -88,8 +101,10 @@ module _ {A T X E : Type 0} (slots need : ℕ) (old new : TinyVec A T) (r : Resu
 
   -- room was refused
   pub room_refused : IsErr r → tiny_capacity slots new ≡ tiny_capacity slots old → tiny_len new ≤ tiny_capacity slots new
-      → RoomGrows GrowsFor slots need old new r
+      → RoomGrows GrowsFor D slots need old new r
   room_refused err same fits = record {
+    place = never_ok _ r err;
+    slot_rule = never_ok _ r err;
     capacity = omega (arith, same);
     same_room = λ _. same;
     grown = never_ok _ r err;
@@ -97,10 +112,13 @@ module _ {A T X E : Type 0} (slots need : ℕ) (old new : TinyVec A T) (r : Resu
   }
 
   -- room was granted first, and kept
-  pub room_made : {Y F : Type 0} (D : T → Type 0) (n : ℕ) (mid : TinyVec A T) (y : Y) → tiny_len old + n ≡ need
+  pub room_made : {Y F : Type 0} (n : ℕ) (mid : TinyVec A T) (y : Y) → tiny_len old + n ≡ need → is_inline new ≡ is_inline mid
       → Reserves {E = F} D slots n (max (2 * tiny_capacity slots old) (tiny_len old + n)) old mid (Ok y)
-      → tiny_capacity slots new ≡ tiny_capacity slots mid → tiny_len new ≤ tiny_capacity slots new → RoomGrows GrowsFor slots need old new r
-  room_made D n mid y is made same fits = record {
+      → tiny_capacity slots new ≡ tiny_capacity slots mid → tiny_len new ≤ tiny_capacity slots new → OnOk r (TinySlotRule D old new)
+      → RoomGrows GrowsFor D slots need old new r
+  room_made n mid y is stays made same fits rule = record {
+    place = on_ok r (place_then slots need old mid new _ is stays made.place);
+    slot_rule = rule;
     capacity = let more = made.capacity in omega (arith, same, more);
     same_room = λ room. same ∙ ap (tiny_capacity slots) (made.kept (omega (arith, is, room)));
     grown = on_ok r (rw (same, sym is) made.grown);

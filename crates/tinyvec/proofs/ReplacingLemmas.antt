@@ -2,7 +2,7 @@
 use Rattle.std.proofs.Common.{◌≡◌, ◌∙◌, ℕ, ◌+◌, ◌-◌, ◌*◌, ◌<◌, ◌≤◌, max, List, ◌++◌, take, drop, length, length-append, length-drop, length-take-le, Result, Ok, inl, inr, sym, ap, subst, arith}
 use Rattle.std.proofs.lemmas.Bool.{cases_lt}
 use Rattle.tinyvec_slots.specs.Replacing.{PutsBetween}
-use Rattle.tinyvec.specs.TinyVec.{tiny_len, is_inline, tiny_capacity, PlaceRule, StaysInPlace}
+use Rattle.tinyvec.specs.TinyVec.{tiny_len, is_inline, tiny_capacity, PlaceRule, TinySlotRule, StaysInPlace}
 use Rattle.tinyvec.specs.Room.{GrowsFor, RoomGrows, Reserves}
 use Rattle.tinyvec.specs.declared.tiny_vec.TinyVec.{TinyVec}
 use Rattle.tinyvec.proofs.TinyLemmas.{capacity_inline}
@@ -32,7 +32,7 @@ module _ {A T : Type 0} (slots n : ℕ) (old mid new : TinyVec A T) (fits : tiny
         | inr none ↦ omega (arith, none, few)
       ]
 
-  pub replaced_place : PlaceRule slots (tiny_len old + n) old mid → is_inline new ≡ is_inline mid → PlaceRule slots (tiny_len new) old new
+  replaced_place : PlaceRule slots (tiny_len old + n) old mid → is_inline new ≡ is_inline mid → PlaceRule slots (tiny_len new) old new
   replaced_place first same = (
     (λ i. let both = first.0 (sym same ∙ i) in (both.0, omega (arith, long, both.1))),
     λ h. same ∙ first.1 (h.0, as_many slots (omega (arith, fits, capacity_inline slots old h.0)) h.1),
@@ -40,8 +40,10 @@ module _ {A T : Type 0} (slots n : ℕ) (old mid new : TinyVec A T) (fits : tiny
 
   pub replaced_room : {X E Y F : Type 0} (D : T → Type 0) (r : Result X E) (y : Y)
       → Reserves {E = F} D slots n (max (2 * tiny_capacity slots old) (tiny_len old + n)) old mid (Ok y) → StaysInPlace D slots mid new
-      → RoomGrows GrowsFor slots (tiny_len new) old new r
+      → RoomGrows GrowsFor D slots (tiny_len new) old new r
   replaced_room D r y made stays = record {
+    place = on_ok r (replaced_place made.place stays.place);
+    slot_rule = on_ok r (λ i j. subst (λ v. TinySlotRule D v new) (made.stays (sym stays.place ∙ j)) stays.slot_rule i j);
     capacity = omega (arith, made.capacity, stays.capacity);
     same_room = λ le. stays.capacity ∙ ap (tiny_capacity slots) (made.kept (as_many (tiny_capacity slots old) fits le));
     grown = on_ok r (λ less. stays.capacity ∙ subst (λ k. GrowsFor slots k old mid) (sym (exact (omega (arith, less, long, fits)))) made.grown less);

@@ -18,7 +18,8 @@ module _ {A T : Type 0} where
   abbrev pub GrowsTo : ℕ → ℕ → ℕ → TinyVec A T → TinyVec A T → Type 0
   GrowsTo slots need room old new = ViewGrowsTo slots need room (tiny_view old) (tiny_view new)
 
-  -- the same, if one on the heap doubled its capacity, or got `need` if that is more
+  -- if there was less room than `need`, a list that moves got a capacity of `need`, and one on the heap doubled its
+  -- capacity, or got `need` if that is more
   abbrev pub GrowsFor : ℕ → ℕ → TinyVec A T → TinyVec A T → Type 0
   GrowsFor slots need old new = ViewGrowsFor slots need (tiny_view old) (tiny_view new)
 
@@ -36,14 +37,30 @@ module _ {A T : Type 0} where
     pub fits : length xs ≤ tiny_capacity slots v
 
 module _ {A T X E : Type 0} where
-  -- A call that needs room for `need` items took `old` to `new`, with this result. If there was that room, the capacity is
-  -- unchanged, else it grew by the rule `G`: `Doubles` or `GrowsFor`.
-  pub record RoomGrows (G : ℕ → ℕ → TinyVec A T → TinyVec A T → Type 0) (slots need : ℕ) (old new : TinyVec A T)
-      (result : Result X E) : Type 0 where
-    pub capacity : tiny_capacity slots old ≤ tiny_capacity slots new
-    pub same_room : KeepsRoom slots need old new
-    pub grown : OnOk result (G slots need old new)
-    pub fits : tiny_len new ≤ tiny_capacity slots new
+  module _ (G : ℕ → ℕ → TinyVec A T → TinyVec A T → Type 0) (D : T → Type 0) (slots need : ℕ) (old new : TinyVec A T) (result : Result X E) where
+    -- A call that needs room for `need` items took `old` to `new`, with this result. The list is inline exactly if it was and the
+    -- need is within the slots. If there was that room, the capacity is unchanged, else it grew by the rule `G`: `Doubles` or
+    -- `GrowsFor`.
+    pub record RoomGrows : Type 0 where
+      pub place : OnOk result (PlaceRule slots need old new)
+      pub slot_rule : OnOk result (TinySlotRule D old new)
+      pub capacity : tiny_capacity slots old ≤ tiny_capacity slots new
+      pub same_room : KeepsRoom slots need old new
+      pub grown : OnOk result (G slots need old new)
+      pub fits : tiny_len new ≤ tiny_capacity slots new
+
+    -- the same of a call that clones nothing
+    pub record MakesRoom : Type 0 where
+      pub place : OnOk result (PlaceRule slots need old new)
+      pub slot_rule : TinySlotRule D old new
+      pub capacity : tiny_capacity slots old ≤ tiny_capacity slots new
+      pub same_room : KeepsRoom slots need old new
+      pub grown : OnOk result (G slots need old new)
+      pub fits : tiny_len new ≤ tiny_capacity slots new
+      -- if there is room it allocates nothing, and a failure changes nothing
+      pub succeeds : need ≤ tiny_capacity slots old → IsOk result
+      pub full : OnErr result (tiny_capacity slots old < need)
+      pub refused : OnErr result (Unchanged old new)
 
   -- reserving room for n more items took `old` to `new`, with this result; a list on the heap that grows gets a capacity of `heap`
   pub record Reserves (D : T → Type 0) (slots n heap : ℕ) (old new : TinyVec A T) (result : Result X E) : Type 0 where
@@ -81,8 +98,8 @@ module _ {A T X E : Type 0} where
     pub place : OnOk result (is_inline new ≡ false)
     pub room : OnOk result (tiny_len old + n ≤ tiny_capacity slots new)
     pub fits : tiny_len new ≤ tiny_capacity slots new
-    -- A list that moves has room for no further items. On the heap no room is lost, and one that grows does as by `reserve`;
-    -- if there is room it allocates nothing and nothing changes. Nor does it on failure.
+    -- A list that moves has room for no further items. One on the heap grows as by `reserve`; if it has room, it allocates
+    -- nothing, and nothing changes. Nor does it on failure.
     pub moved : IsInline old → OnOk result (tiny_capacity slots new ≡ tiny_len old + n)
     pub keeps_room : is_inline old ≡ false → tiny_capacity slots old ≤ tiny_capacity slots new
     pub grown : is_inline old ≡ false → OnOk result (GrowsFor slots (tiny_len old + n) old new)

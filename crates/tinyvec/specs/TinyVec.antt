@@ -40,6 +40,12 @@ module _ {A T : Type 0} where
   abbrev pub IsInline : TinyVec A T → Type 0
   IsInline v = IsTrue (is_inline v)
 
+  -- v is inline: xs is its list, and ys are its spare slots
+  pub record HoldsInline (xs ys : List T) (v : TinyVec A T) : Type 0 where
+    pub items : tiny_items v ≡ xs
+    pub spare : tiny_spare v ≡ ys
+    pub place : IsInline v
+
   -- `v.capacity()`, if an array has this many slots
   abbrev pub tiny_capacity : ℕ → TinyVec A T → ℕ
   tiny_capacity slots v = capacity_in slots (place_of v)

@@ -11,7 +11,7 @@ use Rattle.tinyvec.specs.declared.tiny_vec.TinyVec.{TinyVec}
 use Rattle.tinyvec.specs.declared.splice.TinyVecSplice.{TinyVecSplice}
 
 module _ {A I T : Type 0} where
-  -- what all splices show of themselves
+  -- the parts of a splice: front, removed items that are left, back, rest of the replacement, and touches
   abbrev pub splice_view : TinyVecSplice A I T → SpliceView I T
   splice_view s = gap_view s.gap s.replacement (tiny_items s.vec.now)
 
@@ -47,11 +47,11 @@ module _ {A I T : Type 0} where
   abbrev pub splice_lender : TinyVecSplice A I T → GName
   splice_lender s = s.vec.ghost_name
 
--- the gap is within the list
+-- the removed items that are left are in the list
 abbrev pub SpliceCanStep : {A I T : Type 0} → TinyVecSplice A (Fuse I) T → Type 0
 SpliceCanStep s = GapCanStep s.gap (fuse_done s.replacement) (tiny_len (splice_vec s))
 
--- and its replacement can be iterated further
+-- the removed items that are left are in the list, and `next` of the replacement may be called
 abbrev pub SpliceCanNext : {A I T : Type 0} → (I → Type 0) → TinyVecSplice A (Fuse I) T → Type 0
 SpliceCanNext can s = SpliceCanStep s × FusedCan can s.replacement
 
@@ -63,11 +63,13 @@ module _ {A I T : Type 0} where
     pub ready : SpliceCanStep old → SpliceCanStep new
 
   module _ (gives : Fuse I → Option T → Fuse I → Type 0) where
-    -- `next` took old to new
+    -- `next` took old to new: it returned the first removed item that was left, and placed the next item of the replacement
+    -- at the front
     abbrev pub SpliceSteps : TinyVecSplice A (Fuse I) T → Option T → TinyVecSplice A (Fuse I) T → Type 0
     SpliceSteps = Splices splice_view SpliceKeeps gives
 
-    -- `next_back` took old to new
+    -- `next_back` took old to new: it returned the last removed item that was left, and placed the last item of the
+    -- replacement at the back
     abbrev pub SpliceStepsBack : TinyVecSplice A (Fuse I) T → Option T → TinyVecSplice A (Fuse I) T → Type 0
     SpliceStepsBack = SplicesBack splice_view SpliceKeeps gives
 

@@ -14,7 +14,7 @@ use std::ops::RangeBounds;
 use tinyvec_array::Array;
 use tinyvec_slots::{close_gap, resolve_range, subslice, write_named};
 
-/// Yields the items of a range. When it is dropped the vector keeps the others, in its place.
+/// Yields the items of a range. When it is dropped, the list is what preceded and followed the range, in its place.
 pub struct TinyVecDrain<'a, A: Array> {
     // The range is the `gap` items from `start` on. Those from `front` up to `back` remain.
     vec: &'a mut TinyVec<A>,
@@ -27,7 +27,8 @@ pub struct TinyVecDrain<'a, A: Array> {
 impl<A: Array> TinyVec<A> {
     ghost use Rattle.tinyvec.specs.Drain.{drain_items, drain_len, drain_lender, drain_kept, drain_vec, DrainCanStep, DrainSteps, DrainStepsBack, DrainsFromEnds};
 
-    /// Removes the range, and yields its items from both ends.
+    /// Removes the range, and yields its items from both ends. The items after the range move down when the drain is
+    /// dropped.
     ///
     /// `not_exhausted` fails only for a `RangeInclusive` that was iterated to its end.
     // Inlined with its destructor, so that the five fields stay in registers.

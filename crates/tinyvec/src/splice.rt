@@ -6,7 +6,7 @@ ghost use Rattle.std.specs.Iterator.Adapters.{fuse_done, fuse_source, fuse_steps
 ghost use Rattle.std.specs.Iterator.SizeHint.{IsWithinCount};
 ghost use Rattle.tinyvec_slots.specs.Fused.{FusedFinite, FusedCan, fused_rest};
 ghost use Rattle.tinyvec_slots.specs.Ranges.{IsRangeOf, before, removed, after};
-ghost use Rattle.tinyvec.specs.TinyVec.{tiny_items, tiny_len, is_inline, tiny_capacity, StaysInPlace, PlaceRule, TinySlotRule, Unchanged};
+ghost use Rattle.tinyvec.specs.TinyVec.{tiny_items, tiny_len, is_inline, tiny_capacity, StaysInPlace, Unchanged};
 ghost use Rattle.tinyvec_slots.specs.Filling.{ShowsItems, IntoIterYields};
 ghost use Rattle.tinyvec_slots.specs.Replacing.{FusedYields, PutsBetween};
 ghost use Rattle.tinyvec_slots.specs.AnySplice.{finish_placed, finish_bound, Finishes, FinishesWith};
@@ -119,8 +119,8 @@ impl<A: Array> TinyVec<A> {
         splice.finish()
     }
 
-    /// Puts copies of the slice's items in the place of the range, whose items it drops. Allocates at most once, before
-    /// anything changes, and fails if the allocator refuses.
+    /// Puts copies of the slice's items in the place of the range, whose items it drops. Room for all is allocated once,
+    /// before anything changes. If the allocator refuses, fails and changes nothing.
     pub fn replace_range<R: RangeBounds<usize>>(
         &mut self,
         range: R,
@@ -133,9 +133,7 @@ impl<A: Array> TinyVec<A> {
         ensures items { OnOk result (tiny_items self.new
             ≡ before (tiny_items self.old) (R.start_bound range) ++ replacement.now
             ++ after (tiny_items self.old) (R.end_bound range)) }
-        ensures place { OnOk result (PlaceRule A.CAPACITY (tiny_len self.new) self.old self.new) }
-        ensures slot_rule { OnOk result (TinySlotRule A.Item.is_default self.old self.new) }
-        ensures room { RoomGrows GrowsFor A.CAPACITY (tiny_len self.new) self.old self.new result }
+        ensures room { RoomGrows GrowsFor A.Item.is_default A.CAPACITY (tiny_len self.new) self.old self.new result }
 
         // If there is room it allocates nothing.
         ensures succeeds { length (before (tiny_items self.old) (R.start_bound range)) + length replacement.now
@@ -247,16 +245,16 @@ impl<'a, A: Array, I: Iterator<Item = A::Item>> TinyVecSplice<'a, A, Fuse<I>> {
     ghost use Rattle.tinyvec.specs.TinyVecSplice.{splice_view, splice_front, splice_back, splice_replacement, splice_vec, splice_touches, SpliceCanStep, SpliceCanNext};
 
     /// The number of touches since `splice`. A touch takes the item of one slot, which may leave a default there, places
-    /// one item, swaps two slots or moves one item to the heap.
+    /// one item, or swaps two slots. An item that moves to the heap is a touch too.
     pub fn touches(&self) -> u128
         ensures { result ≡ splice_touches self.now }
     {
         self.gap.touches()
     }
 
-    /// Drops the removed items that are left, and pushes the rest of the replacement, item by item, between what was
-    /// placed from both ends. A list that outgrows its array moves to the heap. If the allocator refuses, returns the item
-    /// that found no room and the rest of the replacement.
+    /// Drops the removed items that are left, and puts the rest of the replacement between what was placed from both ends.
+    /// The rest is pushed item by item, so a list that outgrows its array moves to the heap. If the allocator refuses,
+    /// returns the item that found no room and the rest of the replacement.
     pub fn finish(self) -> Result<(), SpliceRest<A::Item, Fuse<I>>>
         requires can { SpliceCanNext I.can_next self }
         requires finite { FusedFinite I.remaining (splice_replacement self) }
@@ -326,7 +324,8 @@ impl<'a, A: Array, I: Iterator<Item = A::Item>> TinyVecSplice<'a, A, Fuse<I>> {
         splice_finish(vec, gap, replacement)
     }
 
-    /// Drops the removed items that are left, and returns the rest of the replacement, which may be infinite.
+    /// Drops the removed items that are left, and returns the rest of the replacement without calling `next`. It may be
+    /// infinite.
     pub fn stop(self) -> Fuse<I>
         requires { SpliceCanStep self }
         ensures rest { result ≡ splice_replacement self.entry }

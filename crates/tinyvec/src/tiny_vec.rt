@@ -1,7 +1,7 @@
 //! `TinyVec`.
 ghost use Rattle.std.specs.Prelude.{◌≡◌, ◌+◌, ◌<◌, ◌≤◌, ◌==◌, not, length, slice_index_or, slice_set, ◌-◌, ◌↔◌, ℕ, All, max, [], take, drop, IsOk, IsErr, IfOk, IfErr, OnErr, vec_capacity, ◌^◌, List};
 ghost use Rattle.std.specs.List.{AllZip};
-ghost use Rattle.tinyvec.specs.TinyVec.{tiny_items, tiny_len, tiny_spare, is_inline, tiny_capacity, IsInline, SameFrame, tiny_allocator};
+ghost use Rattle.tinyvec.specs.TinyVec.{tiny_items, tiny_len, tiny_spare, is_inline, tiny_capacity, IsInline, HoldsInline, SameFrame, tiny_allocator};
 ghost use Rattle.tinyvec_slots.specs.Slots.{AreDefaults, items, spare};
 ghost use Rattle.tinyvec_slots.specs.Clones.{RefusedAt, ClonesAreEqual};
 ghost use Rattle.std.specs.Borrow.{sem};
@@ -104,7 +104,7 @@ impl<A: Array> TinyVec<A> {
         mem::take(&mut self.as_mut_slice()[i])
     }
 
-    /// An empty vector, inline.
+    /// An empty vector. It is inline, and all its slots hold defaults.
     pub fn new(alloc: Global) -> Self
         ensures items { tiny_items result ≡ [] }
         ensures spare { AreDefaults A.Item.is_default A.CAPACITY (tiny_spare result) }
@@ -147,18 +147,14 @@ impl<A: Array> TinyVec<A> {
 
     /// A full vector, whose list is the whole array. It is inline.
     pub fn from_array(alloc: Global, array: A) -> Self
-        ensures items { tiny_items result ≡ A.slots array }
-        ensures spare { tiny_spare result ≡ [] }
-        ensures place { IsInline result }
+        ensures { HoldsInline (A.slots array) [] result }
     {
         TinyVec::Inline(ArrayVec::from_array(array), alloc)
     }
 
     /// The list of an `ArrayVec`, inline, with its spare slots.
     pub fn from_array_vec(alloc: Global, vec: ArrayVec<A>) -> Self
-        ensures items { tiny_items result ≡ items vec }
-        ensures spare { tiny_spare result ≡ spare vec }
-        ensures place { IsInline result }
+        ensures { HoldsInline (items vec) (spare vec) result }
     {
         TinyVec::Inline(vec, alloc)
     }
@@ -166,9 +162,7 @@ impl<A: Array> TinyVec<A> {
     /// A vector whose list is the first `len` slots of the array. The others are its spare slots. It is inline.
     pub fn from_array_len(alloc: Global, array: A, len: usize) -> Self
         requires { len ≤ A.CAPACITY }
-        ensures items { tiny_items result ≡ take len (A.slots array) }
-        ensures spare { tiny_spare result ≡ drop len (A.slots array) }
-        ensures place { IsInline result }
+        ensures { HoldsInline (take len (A.slots array)) (drop len (A.slots array)) result }
     {
         TinyVec::Inline(ArrayVec::from_array_len(array, len), alloc)
     }
@@ -178,9 +172,7 @@ impl<A: Array> TinyVec<A> {
     #[inline(always)]
     pub fn try_from_array_len(alloc: Global, array: A, len: usize) -> Result<Self, A>
         ensures refused { IsErr result ↔ (A.CAPACITY < len) }
-        ensures items { IfOk result (λ v. tiny_items v ≡ take len (A.slots array)) }
-        ensures spare { IfOk result (λ v. tiny_spare v ≡ drop len (A.slots array)) }
-        ensures place { IfOk result IsInline }
+        ensures made { IfOk result (HoldsInline (take len (A.slots array)) (drop len (A.slots array))) }
         ensures value_returned { IfErr result (λ a. a ≡ array) }
     {
         if len > A::CAPACITY {

@@ -8,6 +8,7 @@ ghost use Rattle.tinyvec_slots.specs.Clones.{RefusedAt};
 
 use std::alloc::AllocError;
 use std::mem;
+use tinyvec_slots::fit_registers;
 
 // Appends clones of `from`, if there is room.
 pub(crate) fn push_clones<T: Clone>(heap: &mut Vec<T>, from: &[T]) -> Result<(), AllocError>
@@ -67,15 +68,6 @@ fn push_until_refused<T: Clone>(vec: &mut Vec<T>, from: &[T]) -> usize
         vec.push_reserved(x);
     }
     from.len()
-}
-
-// Whether an item takes 4 to 16 bytes.
-#[inline(always)]
-fn fit_registers<T>(items: &[T]) -> bool
-    requires some { 0 < length items.now }
-{
-    let size = items[..1].len() * mem::size_of::<T>();
-    4 <= size && size <= 16
 }
 
 // Appends `n` clones of `x`, if there is room.

@@ -5,11 +5,11 @@ use Rattle.std.specs.Iterator.Runs.{YieldsInOrder, YieldsInReverse}
 use Rattle.tinyvec_slots.specs.Ends.{End, TakesFromEnds, RunsWord}
 
 module _ {T : Type 0} where
-  -- `next` answers with the first item that is left, and leaves the others
+  -- `next` returns the first item that is left
   abbrev pub GivesFirst : List T → Option T → List T → Type 0
   GivesFirst = YieldsFirst (λ left. left)
 
-  -- `next_back` answers with the last
+  -- `next_back` returns the last
   abbrev pub GivesLast : List T → Option T → List T → Type 0
   GivesLast = YieldsLast (λ left. left)
 
@@ -18,7 +18,7 @@ module _ {T : Type 0} where
   GivesFromEnds left = (word : List End) (answers : List (Option T)) (later : List T)
       → RunsWord GivesFirst GivesLast left word answers later → TakesFromEnds left word answers later
 
-  -- what is left are these items, whose number fits a `usize`, and each run gives what is left, in order or in reverse
+  -- the items that are left are xs, whose number fits a `usize`, and each run yields them, in order or in reverse
   abbrev pub IteratesOver : List T → List T → Type 0
   IteratesOver xs left = (left ≡ xs) × (length left < 2 ^ 64)
       × YieldsInOrder GivesFirst (λ left. left) × YieldsInReverse GivesLast (λ left. left)

@@ -10,7 +10,7 @@ use Rattle.tinyvec_slots.specs.AnySplice.{SpliceView, Splices, SplicesBack}
 use Rattle.tinyvec_array.specs.declared.splice.ArrayVecSplice.{ArrayVecSplice}
 
 module _ {A I T : Type 0} where
-  -- what all splices show of themselves
+  -- the parts of a splice: front, removed items that are left, back, rest of the replacement, and touches
   abbrev pub splice_view : ArrayVecSplice A I T → SpliceView I T
   splice_view s = gap_view s.gap s.replacement (items s.vec.now)
 
@@ -46,11 +46,11 @@ module _ {A I T : Type 0} where
   abbrev pub splice_lender : ArrayVecSplice A I T → GName
   splice_lender s = s.vec.ghost_name
 
--- the gap is in the list
+-- the removed items that are left are in the list
 abbrev pub SpliceCanStep : {A I T : Type 0} → ArrayVecSplice A (Fuse I) T → Type 0
 SpliceCanStep s = GapCanStep s.gap (fuse_done s.replacement) (items_len (splice_slots s))
 
--- and its replacement can be iterated further
+-- the removed items that are left are in the list, and `next` of the replacement may be called
 abbrev pub SpliceCanNext : {A I T : Type 0} → (I → Type 0) → ArrayVecSplice A (Fuse I) T → Type 0
 SpliceCanNext can s = SpliceCanStep s × FusedCan can s.replacement
 
@@ -63,10 +63,12 @@ module _ {A I T : Type 0} where
     pub ready : SpliceCanStep old → SpliceCanStep new
 
   module _ (gives : Fuse I → Option T → Fuse I → Type 0) where
-    -- `next` took old to new
+    -- `next` took old to new: it returned the first removed item that was left, and placed the next item of the replacement
+    -- at the front
     abbrev pub SpliceSteps : ArrayVecSplice A (Fuse I) T → Option T → ArrayVecSplice A (Fuse I) T → Type 0
     SpliceSteps = Splices splice_view SpliceKeeps gives
 
-    -- `next_back` took old to new
+    -- `next_back` took old to new: it returned the last removed item that was left, and placed the last item of the
+    -- replacement at the back
     abbrev pub SpliceStepsBack : ArrayVecSplice A (Fuse I) T → Option T → ArrayVecSplice A (Fuse I) T → Type 0
     SpliceStepsBack = SplicesBack splice_view SpliceKeeps gives

@@ -176,7 +176,7 @@ impl<A: Array> ArrayVec<A> {
         }
     }
 
-    /// An empty vector, all of whose slots hold defaults.
+    /// An empty vector. All its slots hold defaults.
     // Inlined, as those below, so that LLVM knows the length. A vector that a function makes, fills by a few pushes and
     // returns is then built in the caller's place.
     #[inline(always)]

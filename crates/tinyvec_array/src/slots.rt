@@ -1,4 +1,4 @@
-//! Where an array's slots are read and moved.
+//! How an array's slots are read and moved.
 ghost use Rattle.std.specs.Prelude.{◌≡◌, ◌≤◌};
 ghost use Rattle.tinyvec_slots.specs.Ranges.{Within};
 

@@ -21,8 +21,8 @@ use tinyvec_slots::{
     splice_stop, write_named,
 };
 
-/// Yields the items of a range. Each item taken from one end is replaced by one item of `replacement` from that end.
-/// Must be consumed by `finish`, `finish_counted` or `stop`.
+/// Yields the items of a range, and puts those of `replacement` in their place. Each item taken from one end is replaced
+/// by one item of `replacement` from that end. A splice must be finished by `finish`, `finish_counted` or `stop`.
 pub struct ArrayVecSplice<'a, A: Array, I: Drop> {
     vec: &'a mut ArrayVec<A>,
     gap: Gap,
@@ -78,8 +78,8 @@ impl<A: Array> ArrayVec<A> {
         }
     }
 
-    /// Puts the items of `replacement` in the place of the range, whose items it drops: `splice` and `finish` in one. If an
-    /// item finds no room, it is returned with those that follow it, and the vector is full.
+    /// Puts the items of `replacement` in the place of the range, whose items it drops: `splice` and `finish` in one. If
+    /// an item finds no room, it is returned with those that follow it. The vector is then full.
     ///
     /// `not_exhausted` fails only for a `RangeInclusive` that was iterated to its end.
     pub fn splice_all<R: RangeBounds<usize>, I: IntoIterator<Item = A::Item>>(
@@ -217,16 +217,16 @@ where
 impl<'a, A: Array, I: Iterator<Item = A::Item>> ArrayVecSplice<'a, A, Fuse<I>> {
     ghost use Rattle.tinyvec_array.specs.Splice.{splice_view, splice_front, splice_back, splice_replacement, splice_slots, splice_touches, SpliceCanStep, SpliceCanNext};
 
-    /// The number of touches since `splice`: a touch is one slot read out, with the default that it may leave, one item
-    /// placed in a slot, or two slots swapped.
+    /// The number of touches since `splice`. A touch takes the item of one slot, which may leave a default there, places
+    /// one item, or swaps two slots.
     pub fn touches(&self) -> u128
         ensures { result ≡ splice_touches self.now }
     {
         self.gap.touches()
     }
 
-    /// Drops the removed items that are left, and fills the gap with what the replacement still yields. On overflow,
-    /// returns the first item that did not fit and the rest of the replacement, which may be infinite.
+    /// Drops the removed items that are left, and puts the rest of the replacement between what was placed from both ends.
+    /// On overflow, returns the first item that did not fit and the rest of the replacement, which may be infinite.
     pub fn finish(self) -> Result<(), SpliceRest<A::Item, Fuse<I>>>
         requires { SpliceCanNext I.can_next self }
         ensures finished { Finishes (fuse_steps I.next_gives) A.CAPACITY
@@ -248,7 +248,7 @@ impl<'a, A: Array, I: Iterator<Item = A::Item>> ArrayVecSplice<'a, A, Fuse<I>> {
         finished
     }
 
-    /// The same, and returns the number of touches since `splice`.
+    /// `finish`, and the number of touches since `splice`.
     #[inline(always)]
     pub fn finish_counted(self) -> (Result<(), SpliceRest<A::Item, Fuse<I>>>, u128)
         requires { SpliceCanNext I.can_next self }
@@ -280,7 +280,8 @@ impl<'a, A: Array, I: Iterator<Item = A::Item>> ArrayVecSplice<'a, A, Fuse<I>> {
         splice_finish(vec, gap, replacement)
     }
 
-    /// Drops the removed items that are left, and returns the replacement without calling `next`.
+    /// Drops the removed items that are left, and returns the rest of the replacement without calling `next`. It may be
+    /// infinite.
     pub fn stop(self) -> Fuse<I>
         requires { SpliceCanStep self }
         ensures rest { result ≡ splice_replacement self.entry }

@@ -11,7 +11,7 @@ pub trait Bench<B: Copy> {
     fn round(&mut self, benchmark: B, x: u64) -> u64;
 }
 
-/// How a row is run, and where its line goes. Where a line cannot be printed, none follows.
+/// How a row is run, and where its line goes. If a line cannot be printed, none follows.
 #[derive(Drop)]
 pub struct Report<'r, R: Runtime> {
     rt: &'r R,
@@ -72,7 +72,7 @@ impl<'r, R: Runtime> Report<'r, R> {
         self.end_rounds(name, capacity, begun, sum);
     }
 
-    /// Begins a row. Where the time is taken, long lists have fewer rounds. It is not inlined, and neither is `end_rounds`,
+    /// Begins a row. If the time is taken, long lists have fewer rounds. It is not inlined, and neither is `end_rounds`,
     /// so that the instructions between the two can be counted.
     #[inline(never)]
     fn begin_rounds(&mut self, capacity: usize) -> Begun {

@@ -106,7 +106,7 @@ pub fn of_bytes<R: Runtime, V: Vector<u8, N>, const N: usize>(
     Ok(())
 }
 
-// These rows and those below take a reference. Where the caller owns the list, LLVM copies each vector that a row makes
+// These rows and those below take a reference. If the caller owns the list, LLVM copies each vector that a row makes
 // once more.
 fn edits<R: Runtime, S: Bench<Cut> + Bench<Edit> + Bench<Place>>(
     report: &mut Report<'_, R>,

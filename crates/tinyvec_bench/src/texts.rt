@@ -32,7 +32,7 @@ impl<const N: usize> Bench<TextPush> for TextBench<'_, N> {
     }
 }
 
-/// The first bytes of a text. Where the array has fewer slots, they move to the heap.
+/// The first bytes of a text. If the array has fewer slots, they move to the heap.
 pub fn of_texts<R: Runtime, const N: usize>(
     report: &mut Report<'_, R>,
     made: InlineText<N>,

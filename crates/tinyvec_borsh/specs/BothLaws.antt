@@ -7,7 +7,7 @@ use Rattle.tinyvec_borsh.specs.Both.{SpellsBoth, BothFit, IsBehind, InEither}
 use Rattle.tinyvec_borsh.specs.TwoParts.{joined, parts-length, with-tail}
 
 module _ {A B : Type 0} (SpellsA : A → List ℕ → Type 0) (SpellsB : B → List ℕ → Type 0) (code_a : IsCode SpellsA) where
-  -- what stands after the first is the second
+  -- the second follows the first
   second-stands : (P : List ℕ → Type 0) (FitsA : A → Type 0) (c : A × B) (bytes rest : List ℕ) (p : SpellsBoth SpellsA SpellsB c bytes) → IsBehind SpellsA FitsA P (bytes ++ rest) → P (p.rest ++ rest)
   second-stands P FitsA c bytes rest p s =
       let t = same-item SpellsA code_a c.0 s.content p.first s.first (p.rest ++ rest) s.rest p.is_first s.is_first (sym (with-tail p rest) ∙ s.whole) in

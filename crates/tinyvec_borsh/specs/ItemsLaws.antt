@@ -40,7 +40,7 @@ module _ {C : Type 0} (Spells : C → List ℕ → Type 0) (code : IsCode Spells
     | inr f ↦ let t = begun d c b a f.0 y x q p f.1 f.2 in (sym t.0, sym t.1, sym t.2)
   ]
 
--- the count and what stands after it
+-- the count and what follows it
 same-count : (n m : ℕ) (count other x y : List ℕ) → IsCount n count → IsCount m other → count ++ x ≡ other ++ y → (n ≡ m) × (count ≡ other) × (x ≡ y)
 same-count = same-item (SpellsNumber 8) (number_code 8 (lit< tt))
 
@@ -59,7 +59,7 @@ module _ {C : Type 0} (Spells : C → List ℕ → Type 0) (code : IsCode Spells
       let more = same-items cs ds p.rest q.rest x y (omega arith) p.is_rest q.is_rest item.2 in
       ((λ i. item.0 i ∷ more.0 i), more.1)
 
-  -- if more items are known to stand, one stands after the first ones
+  -- if more items are known, one follows the first ones
   pub next-item : (Fits : C → Type 0) (cs ds : List C) (a b x y : List ℕ) → length cs < length ds → SpellsItems Spells cs a → SpellsItems Spells ds b → a ++ x ≡ b ++ y
       → (d : C) × HasParts (Spells d) (λ _. Unit {0}) x × (AllByRecursion Fits ds → Fits d)
   next-item Fits [] [] a b x y n p q e = absurd (omega arith)
@@ -71,7 +71,7 @@ module _ {C : Type 0} (Spells : C → List ℕ → Type 0) (code : IsCode Spells
       let more = next-item Fits cs ds p.rest q.rest x y (omega arith) p.is_rest q.is_rest item.2 in
       (more.0, more.1, λ h. more.2 h.1)
 
-  -- a spelled list's count is that of its items, and they stand after it
+  -- a spelled list's count is that of its items, and they follow it
   list-begins : (cs : List C) (bytes rest : List ℕ) (n : ℕ) (count x : List ℕ) (p : SpellsList Spells cs bytes) → IsCount n count → bytes ++ rest ≡ count ++ x → (length cs ≡ n) × (p.rest ++ rest ≡ x)
   list-begins cs bytes rest n count x p q e =
       let t = same-count (length cs) n p.first count (p.rest ++ rest) x p.is_first q (sym (with-tail p rest) ∙ e) in

@@ -17,11 +17,11 @@ MayBe (Some input) P = P input
 abbrev pub IsFewBytes : ℕ → List ℕ → Type 0
 IsFewBytes n input = AllByRecursion (λ byte. byte < 256) input × (length input < n)
 
--- What was taken from the front of the input spells it.
+-- Bytes that spell the value were taken from the front of the input.
 abbrev pub ReadsSpelling : (List ℕ → Type 0) → Option (List ℕ) → Option (List ℕ) → Type 0
 ReadsSpelling SpellsIt old new = (bytes : List ℕ) × SpellsIt bytes × Consumes old new bytes
 
--- Some bytes were taken from the front of the input; all of them at its end.
+-- Some bytes were taken from the front of the input; all of it, if the error is `Ended`.
 pub record TakesSome (old new : Option (List ℕ)) (error : BorshError) : Type 0 where
   pub bytes : List ℕ
   pub taken : Consumes old new bytes
@@ -52,7 +52,8 @@ pub record TakesTooMany {C : Type 0} (Spells : C → List ℕ → Type 0) (room 
   pub above : room < len
   pub taken : ReadsSpelling (HasParts (IsCount len) (SpellsItems Spells items)) old new
 
--- After `InvalidLength` just these were taken; or an inner list is too long.
+-- After `InvalidLength` the count and one item more than the room were taken, or a list in the list is too long. Other
+-- errors tell nothing.
 abbrev pub LeavesRest : {C : Type 0} → (C → List ℕ → Type 0) → (IsTooLong : List ℕ → Type 0) → (room : ℕ) → (old new : Option (List ℕ)) → BorshError → Type 0
 LeavesRest Spells IsTooLong room old new InvalidLength = TakesTooMany Spells room old new ⊎ ((input : List ℕ) × IsTooLong input)
 LeavesRest Spells IsTooLong room old new Ended = Unit {0}

@@ -63,7 +63,7 @@ pub fn answer<V: PartialOrd + fmt::Display + fmt::Debug>(
     }
 }
 
-/// Writes the text of a list by `{}` or `{:?}`, in quotes.
+/// Writes the text of a list by `{}`, `{:?}`, `{:#?}` or `{:4}`, in quotes.
 pub fn say_shown<V: fmt::Display + fmt::Debug>(
     alloc: Global,
     v: &V,
@@ -73,6 +73,8 @@ pub fn say_shown<V: fmt::Display + fmt::Debug>(
     let text = match form {
         "{}" => format!(in alloc; "{v}")?,
         "{:?}" => format!(in alloc; "{v:?}")?,
+        "{:#?}" => format!(in alloc; "{v:#?}")?,
+        "{:4}" => format!(in alloc; "{v:4}")?,
         _ => return Err(Wrong::Call),
     };
     say(out, &text.as_str())

@@ -68,7 +68,7 @@ where
     *v == *w
 }
 
-/// Hashes two vectors and compares them. Where they are equal, hashers that were alike are so again.
+/// Hashes two vectors and compares them. If they are equal, hashers that were alike are so again.
 pub fn equal_hash_alike<A: Array, H: Hasher>(
     v: &ArrayVec<A>,
     w: &ArrayVec<A>,

@@ -27,7 +27,7 @@ pub fn push_on_full<A: Array>(v: &mut ArrayVec<A>, x: A::Item) -> Option<A::Item
     v.try_push(x)
 }
 
-/// Appends `x` where `is_full` says that there is room.
+/// Appends `x` if `is_full` says that there is room.
 pub fn push_if_room<A: Array>(v: &mut ArrayVec<A>, x: A::Item)
     ensures room { items_len v.old < A.CAPACITY → items v.new ≡ items v.old ++ x ∷ [] }
     ensures full { items_len v.old ≡ A.CAPACITY → v.new ≡ v.old }

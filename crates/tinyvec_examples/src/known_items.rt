@@ -57,7 +57,7 @@ pub fn into_slots(
     v.extend(more)
 }
 
-/// The items of a `Vec`, where there is room for them, inline or on the heap: nothing is allocated.
+/// The items of a `Vec`, if there is room for them, inline or on the heap: nothing is allocated.
 pub fn into_room<A: Array>(
     v: &mut TinyVec<A>,
     more: Vec<A::Item>,

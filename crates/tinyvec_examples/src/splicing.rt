@@ -63,7 +63,7 @@ pub fn replace<A: Array, I: DoubleEndedIterator<Item = A::Item>>(
     splice.finish()
 }
 
-/// How often slots are touched where a range of any vector is replaced so. Nothing is asked of the replacement but two
+/// How often slots are touched if a range of any vector is replaced so. Nothing is asked of the replacement but two
 /// ends.
 pub fn touches_of_replace<A: Array, I: DoubleEndedIterator<Item = A::Item>>(
     vec: &mut ArrayVec<A>,

@@ -27,7 +27,7 @@ pub fn lent_items<A: Array>(v: &TinyVec<A>) -> usize
     count(v)
 }
 
-/// A full inline list goes to the heap where memory is granted, and else nothing changes.
+/// A full inline list goes to the heap if memory is granted, and else nothing changes.
 pub fn one_too_many<A: Array>(v: &mut TinyVec<A>, x: A::Item) -> bool
     requires { tiny_len v.old ≡ A.CAPACITY }
     ensures heap { IsTrue result → is_inline v.new ≡ false }
@@ -48,7 +48,7 @@ pub fn two_more<A: Array>(v: &mut TinyVec<A>, x: A::Item, y: A::Item) -> Result<
     Ok(())
 }
 
-/// To the heap and back: the same list, inline where it was inline.
+/// To the heap and back: the same list, inline if it was inline.
 pub fn there_and_back<A: Array>(v: &mut TinyVec<A>) -> Result<(), AllocError>
     ensures items { tiny_items v.new ≡ tiny_items v.old }
     ensures place { IsInline v.old → IsInline v.new }
@@ -132,7 +132,7 @@ pub fn cut_and_joined<A: Array>(v: &mut TinyVec<A>, at: usize) -> Result<(), All
     v.append(&mut tail)
 }
 
-/// Moves all items to an empty vector. Where memory is refused for one, that item and the others come back.
+/// Moves all items to an empty vector. If memory is refused for one, that item and the others are returned.
 pub fn moved_by_iterator<A: Array>(
     from: TinyVec<A>,
     to: &mut TinyVec<A>,

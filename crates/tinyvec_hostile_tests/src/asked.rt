@@ -1,5 +1,5 @@
-//! A hint that is read, a bound of a range that is read twice, and a writer that is asked after it failed would pass the
-//! check.
+//! A hint that is read, an iterator that is asked after it ended, a bound of a range that is read twice, and a writer that is
+//! asked after it failed would pass the check.
 ghost use Rattle.std.specs.Prelude.{◌≡◌, ⊤};
 ghost use Rattle.std.specs.Iterator.{at_most};
 ghost use Rattle.std.specs.declared.ops.Bound.TheVariants.{Included, Excluded};
@@ -19,13 +19,15 @@ fn count(asked: &Cell<usize>) {
     asked.set(asked.get().wrapping_add(1));
 }
 
-// Yields 5, 6 and 7, and counts how often it is asked for a hint. Its hint says nothing, or promises more items than come.
+// Yields 5, 6 and 7, and counts how often it is asked for a hint, or for an item after it ended. Its hint says nothing, or
+// promises more items than come.
 #[derive(Drop)]
 struct Hinting<'a> {
     number: i32,
     promised: usize,
     kept_back: usize,
     is_silent: bool,
+    is_ended: bool,
     asked: &'a Cell<usize>,
 }
 
@@ -35,7 +37,12 @@ impl<'a> Iterator for Hinting<'a> {
     ghost remaining = { λ s. at_most s.promised };
 
     fn next(&mut self) -> Option<i32> {
+        if self.is_ended {
+            count(self.asked);
+            return None;
+        }
         if self.promised <= self.kept_back {
+            self.is_ended = true;
             return None;
         }
         self.promised -= 1;
@@ -60,11 +67,12 @@ fn three(asked: &Cell<usize>, promised: usize) -> Hinting<'_> {
         promised: promised.max(3),
         kept_back: promised.saturating_sub(3),
         is_silent: promised == 0,
+        is_ended: false,
         asked,
     }
 }
 
-fn collected(alloc: Global, items: Hinting<'_>) -> Result<TinyVec<[i32; 2]>, AllocError> {
+fn collected(alloc: Global, items: Hinting<'_>) -> Result<TinyVec<[i32; 3]>, AllocError> {
     Ok(TinyVec::from_iter(alloc, items)?)
 }
 
@@ -75,10 +83,10 @@ fn hints_of_what_fills_an_array_or_a_slice(rt: HostRuntime) -> Result<(), Fail> 
     let asked = Cell::new(0);
     for promised in PROMISED {
         let mut v = ArrayVec::<[i32; 7]>::new();
-        let mut slots = [0; 7];
+        let mut slots = [0; 6];
         let mut lent = SliceVec::from_slice_len(&mut slots, 0);
         let is_extended = v.extend(three(&asked, promised)).is_ok();
-        let is_filled = v.fill(three(&asked, promised)).next().is_none() & (v.len() == 6);
+        let is_filled = v.fill(three(&asked, promised)).is_ended & (v.len() == 6);
         let is_spliced = v.splice_all(.., three(&asked, promised)).is_ok() & (v.len() == 3);
         v.clear();
         let is_appended = v.splice_all(.., three(&asked, promised)).is_ok() & (v.len() == 3);
@@ -86,8 +94,8 @@ fn hints_of_what_fills_an_array_or_a_slice(rt: HostRuntime) -> Result<(), Fail> 
             is_extended & is_filled,
             is_spliced & is_appended,
             ArrayVec::<[i32; 3]>::from_iter(three(&asked, promised)).is_ok(),
-            lent.extend(three(&asked, promised)).is_ok() & (lent.len() == 3),
-            lent.fill(three(&asked, promised)).next().is_none() & (lent.len() == 6),
+            lent.fill(three(&asked, promised)).is_ended & (lent.len() == 3),
+            lent.extend(three(&asked, promised)).is_ok() & (lent.len() == 6),
             asked.get() == 0,
         ])?;
     }

@@ -31,6 +31,6 @@ Reported old new = (old < new) ⊎ (new ≡ 2 ^ 64 - 1)
 abbrev pub AppendsFront : Option (List ℕ) → Option (List ℕ) → List ℕ → Type 0
 AppendsFront old new bytes = (front rest : List ℕ) × (bytes ≡ front ++ rest) × Appends old new front
 
--- the known bytes begin with a prefix of these bytes, and lose it; it is not all of these
+-- the known bytes begin with a prefix of these bytes, but not with all of them, and lose that prefix
 abbrev pub ConsumesFront : Option (List ℕ) → Option (List ℕ) → List ℕ → Type 0
 ConsumesFront old new bytes = (front rest : List ℕ) × (bytes ≡ front ++ rest) × (0 < length rest) × Consumes old new front

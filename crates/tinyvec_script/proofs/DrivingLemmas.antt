@@ -16,9 +16,9 @@ use Rattle.tinyvec_slots.specs.declared.no_room.SpliceRest.{SpliceRest}
 use Rattle.tinyvec_slots.proofs.EndsLemmas.{RunsWord-front, RunsWord-back, items_given, given_is_taken}
 use Rattle.tinyvec_slots.proofs.Lists.{length-slice_range}
 use Rattle.tinyvec_slots.proofs.AnySpliceLemmas.{spliced_len, spliced_all, spliced_refused}
-use Rattle.tinyvec.specs.TinyVec.{tiny_capacity, tiny_view, PlaceRule, SameFrame}
-use Rattle.tinyvec.specs.View.{ViewGrowsInSteps}
-use Rattle.tinyvec.specs.Room.{KeepsRoom}
+use Rattle.tinyvec.specs.TinyVec.{SameFrame}
+use Rattle.tinyvec.specs.Room.{Grows}
+use Rattle.tinyvec.proofs.TinyLemmas.{tiny_slots_framed}
 use Rattle.tinyvec.specs.declared.tiny_vec.TinyVec.{TinyVec}
 use Rattle.tinyvec_script.specs.Driving.{letter, word_of, TakesAt, refused_items, ListSplices, SpliceComputes, unplaced_from, unplaced_to}
 use Rattle.tinyvec_script.specs.declared.call.Answer.{Answer}
@@ -64,19 +64,16 @@ pub slots_framed : {T : Type 0} (D : T → Type 0) (old mid new : Slots T) → i
     → SlotRule D mid new → SlotRule D old new
 slots_framed D old mid new count behind h = rw (sym count, sym behind) h
 
--- and the rules of place and room no more than its frame
-module _ {A T : Type 0} (slots need : ℕ) (old mid new : TinyVec A T) (frame : SameFrame old mid) where
-  pub place_framed : PlaceRule slots need mid new → PlaceRule slots need old new
-  place_framed h = rw (sym frame.place) h
-
-  pub room_framed : KeepsRoom slots need mid new → KeepsRoom slots need old new
-  room_framed h within = h (omega (arith, within, frame.capacity slots)) ∙ frame.capacity slots
-
-  pub grown_framed : ViewGrowsInSteps slots (tiny_view mid) (tiny_view new) → ViewGrowsInSteps slots (tiny_view old) (tiny_view new)
-  grown_framed h more = h (omega (arith, more, frame.capacity slots))
-
-  pub capacity_framed : tiny_capacity slots mid ≤ tiny_capacity slots new → tiny_capacity slots old ≤ tiny_capacity slots new
-  capacity_framed h = omega (arith, h, frame.capacity slots)
+-- and growth no more than its frame
+pub grows_framed : {A T : Type 0} (D : T → Type 0) (slots : ℕ) (old mid new : TinyVec A T) → SameFrame old mid → Grows D slots mid new → Grows D slots old new
+grows_framed D slots old mid new frame h = record {
+  place = rw (sym frame.place) h.place;
+  slot_rule = tiny_slots_framed D old mid new frame h.slot_rule;
+  capacity = rw (sym (frame.capacity slots)) h.capacity;
+  same_room = rw (sym (frame.capacity slots)) h.same_room;
+  grown = rw (sym (frame.capacity slots)) h.grown;
+  fits = h.fits;
+}
 
 -- what a splice along a word, then finished, made of a list
 module _ {S I T : Type 0} (view : S → SpliceView I T) (keeps : S → S → Type 0) (rest : I → List T) (s t : S) (word : List End) (answers : List (Option T))
@@ -186,33 +183,20 @@ module _ {T : Type 0} (capacity : ℕ) (old new : List T) (start end : ℕ) (wor
             })
       ]
 
-  -- it fits where nothing is left over
-  pub splice_fits : ListSplices capacity old start end word replacement yields rest new → rest ≡ []
-      → (start + length replacement + (length old - end) ≤ capacity) × ListSplices capacity old start end word replacement yields [] new
-  splice_fits h none = elim (cases_lt capacity (start + length replacement + (length old - end))) [
-    | inl over ↦
-        (let r = (h.refused over).0 in
-        let to = unplaced_to capacity old start end word replacement in
-        let long = length-slice_range replacement r.at to (omega (arith, r.below)) (omega arith) in
-        absurd (omega (arith, ap length none, ap length r.rest_is, long, r.below)))
-    | inr fits ↦ (fits, subst (λ left. ListSplices capacity old start end word replacement yields left new) none h)
-  ]
-
-  -- and does not where something is
-  pub splice_overflows : ListSplices capacity old start end word replacement yields rest new → 0 < length rest
-      → capacity < start + length replacement + (length old - end)
-  splice_overflows h some = elim (cases_lt capacity (start + length replacement + (length old - end))) [
-    | inl over ↦ over
-    | inr fits ↦ absurd (omega (arith, some, ap length (h.placed fits).0))
-  ]
-
--- what answers a splice that was driven, by whether something is left over
-pub driven_answered : {T : Type 0} (Holds : Answer T → Type 0) (yields rest : Vec T Global) (answer : Answer T)
+-- what holds of the answer to a splice that was driven: that the list fits, or that it does not
+pub splice_answers : {T : Type 0} (capacity : ℕ) (old new : List T) (start end : ℕ) (word : List End) (replacement : List T) (yields rest : Vec T Global)
+    (answer : Answer T) → start ≤ end → end ≤ length old
     → (rest.items ≡ [] → answer ≡ answers.Items yields) → (0 < length rest.items → answer ≡ answers.Spliced yields rest)
-    → (rest.items ≡ [] → Holds (answers.Items yields)) → (0 < length rest.items → Holds (answers.Spliced yields rest)) → Holds answer
-driven_answered Holds yields rest answer all some placed refused = elim (cases_lt 0 (length rest.items)) [
-  | inl more ↦ subst Holds (sym (some more)) (refused more)
-  | inr none ↦
-      (let empty = nil_from_length rest.items (omega (arith, none)) in
-      subst Holds (sym (all empty)) (placed empty))
-]
+    → ListSplices capacity old start end word replacement yields.items rest.items new
+    → (Splices : List T → List T → Type 0) → Splices yields.items rest.items → (Holds : Answer T → Type 0)
+    → (start + length replacement + (length old - end) ≤ capacity → Splices yields.items [] → Holds (answers.Items yields))
+    → (capacity < start + length replacement + (length old - end) → Splices yields.items rest.items → Holds (answers.Spliced yields rest)) → Holds answer
+splice_answers capacity old new start end word replacement yields rest answer in_order in_list all some h Splices did Holds placed refused =
+    elim (cases_lt capacity (start + length replacement + (length old - end))) [
+      | inl over ↦
+          (let r = (h.refused over).0 in
+          let to = unplaced_to capacity old start end word replacement in
+          let long = length-slice_range replacement r.at to (omega (arith, r.below)) (omega arith) in
+          subst Holds (sym (some (omega (arith, ap length r.rest_is, long, r.below)))) (refused over did))
+      | inr fits ↦ (let none = (h.placed fits).0 in subst Holds (sym (all none)) (placed fits (subst (Splices yields.items) none did)))
+    ]

@@ -1,5 +1,5 @@
 -- Indices, as they are printed.
-use Rattle.std.proofs.Common.{◌≡◌, ◌≢◌, ℕ, zero, suc, ◌+◌, ◌-◌, ◌*◌, ◌^◌, ◌<◌, ◌≤◌, List, [], ◌∷◌, length, take, get_or, sym, ap, ◌∙◌, arith}
+use Rattle.std.proofs.Common.{◌≡◌, ◌≢◌, ℕ, zero, suc, ◌+◌, ◌-◌, ◌*◌, ◌^◌, ◌<◌, ◌≤◌, List, [], ◌∷◌, ◌++◌, length, take, get_or, sym, ap, ◌∙◌, arith}
 use Rattle.std.specs.List.{All}
 use Rattle.std.specs.Fmt.{decimal}
 use Rattle.std.specs.Char.{digit_value}
@@ -9,6 +9,7 @@ use Rattle.std.proofs.lemmas.Int.Digits.{digits_more, digits_value_more}
 use Rattle.std.proofs.lemmas.Bool.Decides.{nat_tests}
 use Rattle.std.proofs.lemmas.Fmt.{digits_decimal, decimal_digit, decimal_nonempty, first_decimal, decimal-digits_value, digits_value-decimal}
 use Rattle.std.proofs.lemmas.List.Elements.{All-from_get_or}
+use Rattle.tinyvec_script.proofs.Words.{one_cut}
 
 own : IsNumeralModel (AllDigits 10) (digits_value 10)
 own = numerals_by_value (AllDigits 10) tells_digits
@@ -37,10 +38,7 @@ unread_is_unprinted bs large n h e =
     let value : digits_value 10 bs ≡ n = ap (digits_value 10) e ∙ digits_value-decimal own n h in
     omega (arith, large digits, value)
 
--- numbers are told apart by their texts, and no text of one begins with a minus
-pub decimal_once : (n m : ℕ) → n < 2 ^ 64 → m < 2 ^ 64 → decimal n ≡ decimal m → n ≡ m
-decimal_once n m hn hm e = sym (digits_value-decimal own n hn) ∙ ap (digits_value 10) e ∙ digits_value-decimal own m hm
-
+-- no text of an index begins with a minus
 pub first_is_digit : (n : ℕ) → n < 2 ^ 64 → (rest : List ℕ) → decimal n ≢ 45 ∷ rest
 first_is_digit n h rest e =
     let same : get_or (decimal n) 0 0 ≡ 45 = ap (λ l. get_or l 0 0) e in
@@ -68,3 +66,7 @@ zero_is_printed (b ∷ c ∷ bs) p l = absurd (omega arith)
 
 pub decimal_is_word : (n : ℕ) → n < 2 ^ 64 → All (λ byte. byte ≢ 32) (decimal n)
 decimal_is_word n h = All-from_get_or (λ byte. byte ≢ 32) (decimal n) 0 (λ i lt. let r = byte_at n i h lt in λ e. omega (arith, r.0))
+
+-- a text begins with one index
+pub one_index : (text : List ℕ) (i j : ℕ) (a b : List ℕ) → i < 2 ^ 64 → j < 2 ^ 64 → text ≡ decimal i ++ 32 ∷ a → text ≡ decimal j ++ 32 ∷ b → a ≡ b
+one_index text i j a b hi hj e f = (one_cut text (decimal i) a (decimal j) b e (decimal_is_word i hi) f (decimal_is_word j hj)).1

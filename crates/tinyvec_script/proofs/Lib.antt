@@ -7,5 +7,4 @@ pub mod Written
 pub mod DrivingLemmas
 pub mod SpliceText
 pub mod StepLemmas
-pub mod PlaceLemmas
 pub mod WrongRuns

@@ -4,7 +4,7 @@ use Rattle.std.specs.Int.{w32}
 use Rattle.std.proofs.lemmas.Fmt.{decimal_nonempty}
 use Rattle.std.specs.List.{All, AllByRecursion}
 use Rattle.std.specs.Fmt.{decimal, signed_decimal}
-use Rattle.std.proofs.lemmas.List.Elements.{All-from_recursion, recursion_from_All, All-cons, All-head, All-tail}
+use Rattle.std.proofs.lemmas.List.Elements.{All-from_recursion, recursion_from_All, All-cons, All-nil, All-head, All-tail}
 use Rattle.tinyvec_script.specs.Words.{StartsBlank, IsLetter}
 use Rattle.tinyvec_script.specs.Command.{letter_code, word_text, numbers_text}
 use Rattle.tinyvec_script.specs.declared.call.End.{End}
@@ -70,21 +70,14 @@ is_word_from text some all =
     let word = word_from text (recursion_from_All IsLetter text all) in
     (word.0, some_word text some word.0 word.1)
 
-no_blank_letter : (byte : ℕ) → IsLetter byte → byte ≢ 32
-no_blank_letter byte (inl e) = λ f. omega (arith, e, f)
-no_blank_letter byte (inr e) = λ f. omega (arith, e, f)
-
-no_blanks : (text : List ℕ) → AllByRecursion IsLetter text → AllByRecursion (λ byte. byte ≢ 32) text
-no_blanks [] all = tt
-no_blanks (byte ∷ text) all = (no_blank_letter byte all.0, no_blanks text all.1)
+letters_have_no_blank : (word : List End) → AllByRecursion (λ byte. byte ≢ 32) (map letter_code word)
+letters_have_no_blank [] = tt
+letters_have_no_blank (Front ∷ word) = ((λ e. omega (arith, e)), letters_have_no_blank word)
+letters_have_no_blank (Back ∷ word) = ((λ e. omega (arith, e)), letters_have_no_blank word)
 
 pub word_has_no_blank : (word : List End) → All (λ byte. byte ≢ 32) (word_text word)
-word_has_no_blank [] =
-    let all : AllByRecursion (λ byte. byte ≢ 32) (word_text []) = ((λ e. omega (arith, e)), tt) in
-    All-from_recursion (λ byte. byte ≢ 32) (word_text []) all
-word_has_no_blank (letter ∷ word) =
-    let all : AllByRecursion IsLetter (word_text (letter ∷ word)) = (letter_is letter, letters_are word) in
-    All-from_recursion (λ byte. byte ≢ 32) (word_text (letter ∷ word)) (no_blanks (word_text (letter ∷ word)) all)
+word_has_no_blank [] = All-cons (λ byte. byte ≢ 32) 45 [] (λ e. omega (arith, e)) (All-nil (λ byte. byte ≢ 32))
+word_has_no_blank (letter ∷ word) = All-from_recursion (λ byte. byte ≢ 32) (word_text (letter ∷ word)) (letters_have_no_blank (letter ∷ word))
 
 -- the text of numbers, where a blank was taken off it and it was parted behind the first number
 pub numbers_parted : (text number rest : List ℕ) → All (λ byte. byte ≢ 32) number → StartsBlank rest → text ≡ 32 ∷ (number ++ rest) → (numbers : List ℤ) → All (FitsSigned w32) numbers

@@ -1,38 +1,18 @@
 -- Steps of a vector that is seen as slots, from what its calls tell.
-use Rattle.std.proofs.Common.{◌≡◌, ℕ, ◌+◌, ◌-◌, ◌<◌, ◌≤◌, List, [], ◌∷◌, ◌++◌, length, take, drop, set, get_or, insert, remove, slice_index_or, Vec, Global, refl, sym, ap, ◌∙◌, arith, length-take, length-set}
+use Rattle.std.proofs.Common.{◌≡◌, ℕ, ◌+◌, ◌-◌, ◌<◌, ◌≤◌, List, ◌++◌, length, take, set, get_or, slice_index_or, refl, ap, ◌∙◌, arith, length-take, length-set}
 use Rattle.std.specs.List.{swap_remove}
 use Rattle.std.specs.declared.ops.Bound.TheVariants.{Included, Excluded}
-use Rattle.std.proofs.lemmas.List.{length_push}
-use Rattle.std.proofs.lemmas.List.Edits.{length-insert, length-remove}
 use Rattle.std.proofs.lemmas.Option.{slice_get_read}
-use Rattle.tinyvec_slots.specs.Slots.{Slots, items, spare, items_len, Vacates}
+use Rattle.tinyvec_slots.specs.Slots.{Slots, items, items_len, Vacates, SlotRule}
 use Rattle.tinyvec_slots.specs.Ranges.{before, removed, after}
 use Rattle.tinyvec_slots.proofs.Lists.{length-remove_range, length-slice_range}
-use Rattle.tinyvec_slots.proofs.SlotsLemmas.{slots_used, slots_freed}
-use Rattle.tinyvec_script.specs.Driving.{ArraySplices}
-use Rattle.tinyvec_script.specs.Step.{ArrayStep, ArrayDrains}
-use Rattle.tinyvec_script.proofs.DrivingLemmas.{driven_answered, splice_fits, splice_overflows}
-use Rattle.tinyvec_script.specs.declared.call.End.{End}
-use Rattle.tinyvec_script.specs.declared.call.Answer.{Answer}
-use Rattle.tinyvec_script.specs.declared.call.Call.TheVariants.{Push, Insert, Remove, SwapRemove, Truncate, Splice}
+use Rattle.tinyvec_slots.proofs.SlotsLemmas.{slots_freed}
+use Rattle.tinyvec_script.specs.Driving.{ListDrains}
+use Rattle.tinyvec_script.specs.Step.{ArrayStep}
+use Rattle.tinyvec_script.specs.declared.call.Call.TheVariants.{SwapRemove, Truncate}
 use Rattle.tinyvec_script.specs.declared.call.Answer.TheVariants as answers
 
 module _ {T : Type 0} (D : T → Type 0) (capacity : ℕ) (old new : Slots T) where
-  pub pushes : (x : T) → items_len old < capacity → items new ≡ items old ++ x ∷ [] → spare new ≡ drop 1 (spare old)
-      → ArrayStep D capacity old (Push x) answers.Done new
-  pushes x room is behind = (room, is, slots_used D old new 1 (ap length is ∙ length_push (items old) x) behind)
-
-  pub inserts : (i : ℕ) (x : T) → i ≤ items_len old → items_len old < capacity → items new ≡ insert (items old) i x
-      → spare new ≡ drop 1 (spare old) → ArrayStep D capacity old (Insert i x) answers.Done new
-  inserts i x in_list room is behind =
-      (in_list, room, is, slots_used D old new 1 (ap length is ∙ length-insert (items old) i x in_list) behind)
-
-  pub removes : (i : ℕ) (x : T) → i < items_len old → x ≡ slice_index_or (items old) i x → items new ≡ remove (items old) i
-      → Vacates D 1 old new → ArrayStep D capacity old (Remove i) (answers.Some x) new
-  removes i x in_list value is frees =
-      let fewer : items_len old ≡ items_len new + 1 = sym (ap (λ n. n + 1) (ap length is) ∙ length-remove (items old) i in_list) in
-      (slice_get_read (items old) _ i _ refl in_list value, is, slots_freed D old new 1 fewer frees)
-
   pub swap_removes : (i : ℕ) (x : T) → i < items_len old → x ≡ slice_index_or (items old) i x
       → items new ≡ swap_remove (items old) i x → Vacates D 1 old new → ArrayStep D capacity old (SwapRemove i) (answers.Some x) new
   swap_removes i x in_list value is frees =
@@ -50,21 +30,10 @@ module _ {T : Type 0} (D : T → Type 0) (capacity : ℕ) (old new : Slots T) wh
   pub drains : (start end : ℕ) (given : List T) → start ≤ end → end ≤ items_len old
       → given ≡ removed (items old) (Included start) (Excluded end)
       → items new ≡ before (items old) (Included start) ++ after (items old) (Excluded end)
-      → Vacates D (length (removed (items old) (Included start) (Excluded end))) old new → ArrayDrains D old start end given new
+      → Vacates D (length (removed (items old) (Included start) (Excluded end))) old new → ListDrains (items old) start end given (items new) × SlotRule D old new
   drains start end given in_order in_list taken is frees =
       let cut = length-slice_range (items old) start end in_order in_list in
       let left = ap length is ∙ length-remove_range (items old) start end in_order in_list in
       let n = length (removed (items old) (Included start) (Excluded end)) in
       let fewer : items_len old ≡ items_len new + n = omega (arith, cut, left, in_order, in_list) in
-      record { given_are = taken; items_are = is; slot_rule = slots_freed D old new n fewer frees }
-
-  pub splices : (start end : ℕ) (word : Vec End Global) (replacement yields rest : Vec T Global) (answer : Answer T) → start ≤ end → end ≤ items_len old
-      → (rest.items ≡ [] → answer ≡ answers.Items yields) → (0 < length rest.items → answer ≡ answers.Spliced yields rest)
-      → ArraySplices D capacity old start end word.items replacement.items yields.items rest.items new
-      → ArrayStep D capacity old (Splice start end word replacement) answer new
-  splices start end word replacement yields rest answer in_order in_list all some h =
-      driven_answered (λ a. ArrayStep D capacity old (Splice start end word replacement) a new) yields rest answer all some
-      (λ none. let fits = splice_fits capacity (items old) (items new) start end word.items replacement.items yields.items rest.items in_order in_list h.list none in
-      ((in_order, in_list), (fits.0, record { list = fits.1; slot_rule = h.slot_rule })))
-      (λ more. let over = splice_overflows capacity (items old) (items new) start end word.items replacement.items yields.items rest.items in_order in_list h.list more in
-      ((in_order, in_list), (over, h)))
+      (record { given_are = taken; items_are = is }, slots_freed D old new n fewer frees)

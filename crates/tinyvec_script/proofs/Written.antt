@@ -1,12 +1,12 @@
 -- What was gathered is written.
-use Rattle.std.proofs.Common.{◌≡◌, ℕ, ◌+◌, ◌-◌, ◌<◌, ◌≤◌, length, take, get_or, ◌∷◌, ◌⊎◌, inl, inr, List, [], ◌++◌, Option, None, Some, ap, sym, refl, subst, ◌∙◌, append-nil, append_assoc, arith, le_refl, le_trans, Result, Ok, Err, OnOk, IsErr, true≢false, is_err}
+use Rattle.std.proofs.Common.{◌≡◌, ℕ, ◌+◌, ◌-◌, ◌<◌, ◌≤◌, length, take, get_or, ◌∷◌, inl, inr, List, [], ◌++◌, Option, None, Some, ap, sym, refl, subst, ◌∙◌, append-nil, append_assoc, arith, le_refl, le_trans, Result, Ok, Err, IsErr, true≢false, is_err}
 use Rattle.std.specs.List.{flat_map}
 use Rattle.std.proofs.lemmas.List.{take_more}
 use Rattle.std.proofs.lemmas.Grind.{flat_map-append}
 use Rattle.std.specs.Io.KnownBytes.{Appends, Keeps}
 use Rattle.std.proofs.KnownBytes.{Appends-nil, Appends-trans, Appends-kept}
 use Rattle.tinyvec_io.specs.Counted.{CountedView, AppendsFront, Reported, faults_after, one_more_fault}
-use Rattle.tinyvec_script.specs.Writes.{gathered_of, Writes, GathersBehind, Gathers, Sends}
+use Rattle.tinyvec_script.specs.Writes.{gathered_of, Writes, Gathers, Sends}
 
 -- a fault that was reported since then was reported since before, and one up to then was up to later
 pub reported_since : (f g h : ℕ) → f ≤ g → Reported g h → Reported f h
@@ -17,183 +17,158 @@ reported_since f g h le (inr most) = inr most
 pub flat_map_more : {X : Type 0} (f : X → List ℕ) (xs : List X) (i : ℕ) (d : X) → i < length xs → flat_map f (take (i + 1) xs) ≡ flat_map f (take i xs) ++ f (get_or xs i d)
 flat_map_more f xs i d within = ap (flat_map f) (take_more xs i d within) ∙ flat_map-append f (take i xs) (get_or xs i d ∷ []) ∙ ap (λ l. flat_map f (take i xs) ++ l) (append-nil (f (get_or xs i d)))
 
--- where nothing is gathered there was no error
-pub gathered_after : {E : Type 0} (error : Option E) (bytes more text : List ℕ) → gathered_of error bytes ≡ Some [] → more ≡ bytes ++ text
-    → gathered_of error more ≡ Some text
-gathered_after None bytes more text e h = let none : bytes ≡ [] = cc in ap Some (h ∙ ap (λ l. l ++ text) none)
-gathered_after (Some error) bytes more text e h = cc
-
 one_fault : (f g : ℕ) → g ≡ one_more_fault f → Reported f g
 one_fault f g e = grind arith
 
-some≢none : {X : Type 0} {x : X} → Some x ≡ None → ⊥
-some≢none e = cc
-
-module _ {W : Type 0} (contents : W → Option (List ℕ)) where
+module _ {W : Type 0} {contents : W → Option (List ℕ)} where
   -- nothing was put
-  pub Gathers-nothing : (w : CountedView W) (gathered : Option (List ℕ)) → Gathers contents w gathered w gathered []
-  Gathers-nothing w None = (refl, refl)
-  Gathers-nothing w (Some bytes) = record {
-    written = [];
-    rest = bytes;
-    appended = Appends-nil _;
-    whole = append-nil bytes;
-    grows = le_refl _;
-    kept = inl refl;
+  pub gathers_nothing : {w : CountedView W} {gathered : Option (List ℕ)} → Gathers contents w gathered w gathered []
+  gathers_nothing = record {
+    after_error = λ e. (refl, e);
+    behind = λ bytes e. record { written = []; rest = bytes; appended = Appends-nil _; whole = append-nil bytes; grows = le_refl _; kept = inl e };
   }
+
+  -- a text was put behind what is gathered, of which nothing is written
+  pub gathers_more : {E : Type 0} {w : CountedView W} (error : Option E) (bytes more text : List ℕ) → more ≡ bytes ++ text
+      → Gathers contents w (gathered_of error bytes) w (gathered_of error more) text
+  gathers_more None bytes more text is = record {
+    after_error = λ e. absurd (let no : Some bytes ≡ None = e in cc);
+    behind = λ before e. record {
+      written = [];
+      rest = more;
+      appended = Appends-nil _;
+      whole = (let same : bytes ≡ before = cc in ap (λ l. l ++ text) (sym same) ∙ sym is);
+      grows = le_refl _;
+      kept = inl refl;
+    };
+  }
+  gathers_more (Some error) bytes more text is = record { after_error = λ e. (refl, refl); behind = λ before e. absurd (let no : None ≡ Some before = e in cc) }
 
   -- a text was put, and then one more
-  pub Gathers-then : (old mid new : CountedView W) (a b c : Option (List ℕ)) (text more : List ℕ) → Gathers contents old a mid b text
+  pub gathers_then : {old mid new : CountedView W} {a b c : Option (List ℕ)} {text more : List ℕ} → Gathers contents old a mid b text
       → Gathers contents mid b new c more → Gathers contents old a new c (text ++ more)
-  Gathers-then old mid new None b c text more p q =
-      let next : Gathers contents mid None new c more = subst (λ m. Gathers contents mid m new c more) p.1 q in
-      (next.0 ∙ p.0, next.1)
-  Gathers-then old mid new (Some bytes) b c text more p q = elim p.kept [
-    | inl goes_on ↦
-        (let next : GathersBehind contents mid p.rest new c more = subst (λ m. Gathers contents mid m new c more) goes_on q in
-        record {
-          written = p.written ++ next.written;
-          rest = next.rest;
-          appended = Appends-trans _ _ _ p.written next.written p.appended next.appended;
-          whole = sym (append_assoc bytes text more) ∙ ap (λ l. l ++ more) p.whole ∙ append_assoc p.written p.rest more
-              ∙ ap (λ l. p.written ++ l) next.whole ∙ sym (append_assoc p.written next.written next.rest);
-          grows = le_trans p.grows next.grows;
-          kept = elim next.kept [ inl on ↦ inl on | inr off ↦ inr (off.0, reported_since _ _ _ p.grows off.1) ];
-        })
-    | inr failed ↦
-        (let stays : (new ≡ mid) × (c ≡ None) = subst (λ m. Gathers contents mid m new c more) failed.0 q in
-        record {
-          written = p.written;
-          rest = p.rest ++ more;
-          appended = rw stays.0 p.appended;
-          whole = sym (append_assoc bytes text more) ∙ ap (λ l. l ++ more) p.whole ∙ append_assoc p.written p.rest more;
-          grows = rw stays.0 p.grows;
-          kept = inr (stays.1, rw stays.0 failed.1);
-        })
-  ]
+  gathers_then {old} {mid} {new} {a} {b} {c} {text} {more} p q = record {
+    after_error = λ e. let first = p.after_error e in let next = q.after_error first.1 in (next.0 ∙ first.0, next.1);
+    behind = λ bytes e. let first = p.behind bytes e in elim first.kept [
+      | inl goes_on ↦
+          (let next = q.behind first.rest goes_on in
+          record {
+            written = first.written ++ next.written;
+            rest = next.rest;
+            appended = Appends-trans _ _ _ first.written next.written first.appended next.appended;
+            whole = sym (append_assoc bytes text more) ∙ ap (λ l. l ++ more) first.whole ∙ append_assoc first.written first.rest more
+                ∙ ap (λ l. first.written ++ l) next.whole ∙ sym (append_assoc first.written next.written next.rest);
+            grows = le_trans first.grows next.grows;
+            kept = elim next.kept [ inl on ↦ inl on | inr off ↦ inr (off.0, reported_since _ _ _ first.grows off.1) ];
+          })
+      | inr failed ↦
+          (let stays = q.after_error failed.0 in
+          record {
+            written = first.written;
+            rest = first.rest ++ more;
+            appended = rw stays.0 first.appended;
+            whole = sym (append_assoc bytes text more) ∙ ap (λ l. l ++ more) first.whole ∙ append_assoc first.written first.rest more;
+            grows = rw stays.0 first.grows;
+            kept = inr (stays.1, rw stays.0 failed.1);
+          })
+    ];
+  }
 
   -- what was gathered was not written, so the text is not either
-  pub Gathers-unsent : {T E : Type 0} (old new : CountedView W) (a b : Option (List ℕ)) (r : Result T E) (e : E) (text : List ℕ)
+  pub gathers_unsent : {T E : Type 0} {old new : CountedView W} {a b : Option (List ℕ)} {r : Result T E} {e : E} {text : List ℕ}
       → r ≡ Err e → Sends contents old a new b r → Gathers contents old a new None text
-  Gathers-unsent old new None b r e text was q = (q.0, refl)
-  Gathers-unsent old new (Some bytes) b r e text was q =
-      let failed : Writes contents old new (Err e) bytes × Unit {0} = subst (λ r. Sends contents old (Some bytes) new b r) was q in
-      record {
-        written = failed.0.err.0;
-        rest = failed.0.err.1 ++ text;
-        appended = failed.0.err.3;
-        whole = ap (λ l. l ++ text) failed.0.err.2 ∙ append_assoc failed.0.err.0 failed.0.err.1 text;
-        grows = failed.0.grows;
-        kept = inr (refl, failed.0.fault);
-      }
-
-  -- what was gathered was written, and then the text was gathered
-  pub Gathers-sent : {T E : Type 0} (old new : CountedView W) (a b : Option (List ℕ)) (r : Result T E) (x : T) (text : List ℕ)
-      → r ≡ Ok x → Sends contents old a new b r → (b ≡ Some []) × Gathers contents old a new (Some text) text
-  Gathers-sent old new None b r x text was q = absurd (true≢false (sym q.1 ∙ ap is_err was))
-  Gathers-sent old new (Some bytes) b r x text was q =
-      let sent : Writes contents old new (Ok x) bytes × (b ≡ Some []) = subst (λ r. Sends contents old (Some bytes) new b r) was q in (
-        sent.1,
+  gathers_unsent {text = text} was q = record {
+    after_error = λ none. ((q.after_error none).0, refl);
+    behind = λ bytes some.
+        let failed = rw was at (q.behind bytes some) in
         record {
-          written = bytes;
-          rest = text;
-          appended = sent.0.ok;
-          whole = refl;
-          grows = sent.0.grows;
-          kept = inl refl;
-        },
-      )
-
-  -- all that was gathered, the text too, was then written, or a front of it
-  pub Gathers-written : (old mid new : CountedView W) (a : Option (List ℕ)) (text : List ℕ) → Gathers contents old a mid (Some text) text
-      → Appends (contents mid.inner) (contents new.inner) text → mid.faults ≤ new.faults → Gathers contents old a new (Some []) text
-  Gathers-written old mid new None text p q le = absurd (some≢none p.1)
-  Gathers-written old mid new (Some bytes) text p q le = record {
-    written = p.written ++ p.rest;
-    rest = [];
-    appended = Appends-trans _ _ _ p.written p.rest p.appended (subst (Appends _ _) (sym (is_rest p.kept)) q);
-    whole = p.whole ∙ sym (append-nil _);
-    grows = le_trans p.grows le;
-    kept = inl refl;
+          written = failed.err.0;
+          rest = failed.err.1 ++ text;
+          appended = failed.err.3;
+          whole = ap (λ l. l ++ text) failed.err.2 ∙ append_assoc failed.err.0 failed.err.1 text;
+          grows = failed.grows;
+          kept = inr (refl, failed.fault);
+        };
   }
-    where
-      is_rest : (Some text ≡ Some p.rest) ⊎ ((Some text ≡ None) × Reported old.faults mid.faults) → p.rest ≡ text
-      is_rest (inl same) = cc
-      is_rest (inr (none, fault)) = absurd (some≢none none)
 
-  pub Gathers-failed : (old mid new : CountedView W) (a : Option (List ℕ)) (text : List ℕ) → Gathers contents old a mid (Some text) text
-      → AppendsFront (contents mid.inner) (contents new.inner) text → mid.faults ≤ new.faults → Reported mid.faults new.faults
-      → Gathers contents old a new None text
-  Gathers-failed old mid new None text p q le fault = absurd (some≢none p.1)
-  Gathers-failed old mid new (Some bytes) text p q le fault = record {
-    written = p.written ++ q.0;
-    rest = q.1;
-    appended = Appends-trans _ _ _ p.written q.0 p.appended q.3;
-    whole = p.whole ∙ ap (λ l. p.written ++ l) (is_rest p.kept ∙ q.2) ∙ sym (append_assoc p.written q.0 q.1);
-    grows = le_trans p.grows le;
-    kept = inr (refl, reported_since _ _ _ p.grows fault);
+  -- what was gathered was written
+  pub gathers_sent : {T E : Type 0} {old new : CountedView W} {a b : Option (List ℕ)} {r : Result T E} {x : T}
+      → r ≡ Ok x → Sends contents old a new b r → Gathers contents old a new b []
+  gathers_sent {r = r} was q = record {
+    after_error = λ none. absurd (true≢false (sym (q.after_error none).1 ∙ ap is_err was));
+    behind = λ bytes some.
+        let sent = rw was at (q.behind bytes some) in
+        record { written = bytes; rest = []; appended = sent.ok; whole = refl; grows = sent.grows; kept = inl (rw was at q.empty) };
   }
-    where
-      is_rest : (Some text ≡ Some p.rest) ⊎ ((Some text ≡ None) × Reported old.faults mid.faults) → p.rest ≡ text
-      is_rest (inl same) = cc
-      is_rest (inr (none, fault)) = absurd (some≢none none)
+
+  -- where nothing is gathered, a text was written, or a front of it
+  pub gathers_written : {old new : CountedView W} {text : List ℕ} → Appends (contents old.inner) (contents new.inner) text → old.faults ≤ new.faults
+      → Gathers contents old (Some []) new (Some []) text
+  gathers_written {text = text} q le = record {
+    after_error = λ e. absurd (let no : Some [] ≡ None = e in cc);
+    behind = λ bytes e. record {
+      written = text;
+      rest = [];
+      appended = q;
+      whole = (let none : [] ≡ bytes = cc in ap (λ l. l ++ text) (sym none) ∙ sym (append-nil text));
+      grows = le;
+      kept = inl refl;
+    };
+  }
+
+  pub gathers_failed : {old new : CountedView W} {text : List ℕ} → AppendsFront (contents old.inner) (contents new.inner) text → old.faults ≤ new.faults
+      → Reported old.faults new.faults → Gathers contents old (Some []) new None text
+  gathers_failed {text = text} q le fault = record {
+    after_error = λ e. absurd (let no : Some [] ≡ None = e in cc);
+    behind = λ bytes e. record {
+      written = q.0;
+      rest = q.1;
+      appended = q.3;
+      whole = (let none : [] ≡ bytes = cc in ap (λ l. l ++ text) (sym none) ∙ q.2);
+      grows = le;
+      kept = inr (refl, fault);
+    };
+  }
+
+  -- a front of the text was written, and then the rest, or a front of it
+  writes_behind : {T E : Type 0} {old mid new : CountedView W} (r : Result T E) (written rest text : List ℕ) → Appends (contents old.inner) (contents mid.inner) written
+      → text ≡ written ++ rest → old.faults ≤ mid.faults → Writes contents mid new r rest → Writes contents old new r text
+  writes_behind (Ok x) written rest text wrote is le sent =
+      record { ok = subst (Appends _ _) (sym is) (Appends-trans _ _ _ written rest wrote sent.ok); err = tt; grows = le_trans le sent.grows; fault = tt }
+  writes_behind (Err e) written rest text wrote is le sent = record {
+    ok = tt;
+    err = (written ++ sent.err.0, sent.err.1, is ∙ ap (λ l. written ++ l) sent.err.2 ∙ sym (append_assoc written _ _), Appends-trans _ _ _ written sent.err.0 wrote sent.err.3);
+    grows = le_trans le sent.grows;
+    fault = reported_since _ _ _ le sent.fault;
+  }
+
+  -- or it failed before
+  writes_failed : {T E : Type 0} {old new : CountedView W} (r : Result T E) (text : List ℕ) → IsErr r → AppendsFront (contents old.inner) (contents new.inner) text
+      → old.faults ≤ new.faults → Reported old.faults new.faults → Writes contents old new r text
+  writes_failed (Ok x) text err wrote le fault = absurd (true≢false (sym err))
+  writes_failed (Err e) text err wrote le fault = record { ok = tt; err = wrote; grows = le; fault = fault }
 
   -- a text was put where nothing was gathered, and then what was gathered was written
-  pub Sends-then : {T E : Type 0} (old mid new : CountedView W) (b c : Option (List ℕ)) (r : Result T E) (text : List ℕ)
-      → Gathers contents old (Some []) mid b text → Sends contents mid b new c r → Writes contents old new r text × OnOk r (c ≡ Some [])
-  Sends-then {T} {E} old mid new b c r text p q = elim p.kept [
-    | inl goes_on ↦
-        (let sent : Writes contents mid new r p.rest × OnOk r (c ≡ Some []) = subst (λ m. Sends contents mid m new c r) goes_on q in
-        (by_result r sent.0, sent.1))
-    | inr failed ↦
-        (let stays = subst (λ m. Sends contents mid m new c r) failed.0 q in
-        where_failed r stays.0 stays.1 failed.1)
-  ]
-    where
-      by_result : (r : Result T E) → Writes contents mid new r p.rest → Writes contents old new r text
-      by_result (Ok x) sent = record {
-        ok = subst (Appends _ _) (sym p.whole) (Appends-trans _ _ _ p.written p.rest p.appended sent.ok);
-        err = tt;
-        grows = le_trans p.grows sent.grows;
-        fault = tt;
-      }
-      by_result (Err e) sent = record {
-        ok = tt;
-        err = (
-          p.written ++ sent.err.0,
-          sent.err.1,
-          p.whole ∙ ap (λ l. p.written ++ l) sent.err.2 ∙ sym (append_assoc p.written _ _),
-          Appends-trans _ _ _ p.written sent.err.0 p.appended sent.err.3,
-        );
-        grows = le_trans p.grows sent.grows;
-        fault = reported_since _ _ _ p.grows sent.fault;
-      }
-
-      where_failed : (r : Result T E) → new ≡ mid → IsErr r → Reported old.faults mid.faults → Writes contents old new r text × OnOk r (c ≡ Some [])
-      where_failed (Ok x) same err reported = absurd (true≢false (sym err))
-      where_failed (Err e) same err reported = (
-        record {
-          ok = tt;
-          err = (p.written, p.rest, p.whole, rw same p.appended);
-          grows = rw same p.grows;
-          fault = rw same reported;
-        },
-        tt,
-      )
+  pub sends_then : {T E : Type 0} {old mid new : CountedView W} {b c : Option (List ℕ)} {r : Result T E} {text : List ℕ}
+      → Gathers contents old (Some []) mid b text → Sends contents mid b new c r → Writes contents old new r text
+  sends_then {r = r} {text = text} p q =
+      let first = p.behind [] refl in
+      elim first.kept [
+        | inl goes_on ↦ writes_behind r first.written first.rest text first.appended first.whole first.grows (q.behind first.rest goes_on)
+        | inr failed ↦
+            (let stays = q.after_error failed.0 in
+            writes_failed r text stays.1 (first.written, first.rest, first.whole, rw stays.0 first.appended) (rw stays.0 first.grows) (rw stays.0 failed.1))
+      ]
 
   -- it was flushed after that
-  pub Writes-flushed : {T E : Type 0} (old mid new : CountedView W) (sent r : Result T E) (x : T) (text : List ℕ) → sent ≡ Ok x → Writes contents old mid sent text
-      → Keeps (contents mid.inner) (contents new.inner) → new.faults ≡ faults_after mid.faults r → mid.faults ≤ new.faults → Writes contents old new r text
-  Writes-flushed {T} {E} old mid new sent r x text was p kept counted grows = by_result r counted
-    where
-      written : Appends (contents old.inner) (contents new.inner) text
-      written = Appends-kept _ _ _ text (rw was at p.ok) kept
-
-      by_result : (r : Result T E) → new.faults ≡ faults_after mid.faults r → Writes contents old new r text
-      by_result (Ok y) counted = record { ok = written; err = tt; grows = le_trans p.grows grows; fault = tt }
-      by_result (Err e) counted = record {
-        ok = tt;
-        err = (text, [], sym (append-nil text), written);
-        grows = le_trans p.grows grows;
-        fault = reported_since _ _ _ p.grows (one_fault _ _ counted);
-      }
+  pub writes_flushed : {T F E : Type 0} {old mid new : CountedView W} {sent : Result T F} (r : Result T E) {x : T} {text : List ℕ} → sent ≡ Ok x
+      → Writes contents old mid sent text → Keeps (contents mid.inner) (contents new.inner) → new.faults ≡ faults_after mid.faults r
+      → mid.faults ≤ new.faults → Writes contents old new r text
+  writes_flushed (Ok y) was p kept counted grows =
+      record { ok = Appends-kept _ _ _ _ (rw was at p.ok) kept; err = tt; grows = le_trans p.grows grows; fault = tt }
+  writes_flushed (Err e) was p kept counted grows = record {
+    ok = tt;
+    err = (_, [], sym (append-nil _), Appends-kept _ _ _ _ (rw was at p.ok) kept);
+    grows = le_trans p.grows grows;
+    fault = reported_since _ _ _ p.grows (one_fault _ _ counted);
+  }

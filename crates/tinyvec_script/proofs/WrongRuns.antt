@@ -2,7 +2,7 @@
 use Rattle.std.proofs.Common.{◌≡◌, ℕ, ◌+◌, ◌<◌, ◌≤◌, List, [], ◌∷◌, length, length-append, ap, ◌∙◌, arith}
 use Rattle.tinyvec_text.specs.InlineText.{Text, text_len}
 use Rattle.tinyvec_script.specs.Step.{Run}
-use Rattle.tinyvec_script.specs.Place.{Tiny, count, room}
+use Rattle.tinyvec.specs.View.{TinyView, view_len, view_capacity}
 use Rattle.tinyvec_script.specs.TinyCalls.{TinyStep}
 use Rattle.tinyvec_script.specs.TextCalls.{add, cut, TextStep}
 use Rattle.tinyvec_script.specs.declared.call.Call.{Call}
@@ -13,7 +13,7 @@ use Rattle.tinyvec_script.specs.declared.call.Answer.TheVariants as answers
 module _ {T : Type 0} (D : T → Type 0) (slots : ℕ) where
   -- Whatever was called before, and whatever comes after: where a pop took an item there is room for one, so a push that
   -- follows is not refused.
-  pub memory_after_a_pop : (call : Call T) (answer : Answer T) (x y : T) (calls : List (Call T)) (more : List (Answer T)) (old new : Tiny T)
+  pub memory_after_a_pop : (call : Call T) (answer : Answer T) (x y : T) (calls : List (Call T)) (more : List (Answer T)) (old new : TinyView T)
       → Run (TinyStep D slots) old (call ∷ Pop ∷ Push x ∷ calls) (answer ∷ answers.Some y ∷ answers.Memory ∷ more) new → ⊥
   memory_after_a_pop call answer x y calls more old new run =
       let first = run.0 in
@@ -21,28 +21,28 @@ module _ {T : Type 0} (D : T → Type 0) (slots : ℕ) where
       let begun = run.1 in
       let popped = run.2.1 in
       let refused = run.2.2.1 in
-      let longer : count first ≡ count second + 1 = ap length popped.answered.0 ∙ length-append second.items (y ∷ []) in
-      omega (arith, begun.fits, popped.answered.1.keeps_room, refused.answered.0)
+      let longer : view_len first ≡ view_len second + 1 = ap length popped.answered.0 ∙ length-append second.items (y ∷ []) in
+      omega (arith, begun.fits, popped.answered.1.capacity, refused.answered.0)
 
   -- A full list of two items or more gets twice its room by a push, wherever it lies, so a push that follows is not refused.
-  pub memory_after_a_growth : (x y : T) (calls : List (Call T)) (more : List (Answer T)) (old new : Tiny T)
-      → count old ≡ room slots old.place → 1 < count old
+  pub memory_after_a_growth : (x y : T) (calls : List (Call T)) (more : List (Answer T)) (old new : TinyView T)
+      → view_len old ≡ view_capacity slots old → 1 < view_len old
       → Run (TinyStep D slots) old (Push x ∷ Push y ∷ calls) (answers.Done ∷ answers.Memory ∷ more) new → ⊥
   memory_after_a_growth x y calls more old new full some run =
       let begun = run.1.answered in
       let refused = run.2.1.answered in
-      let longer : count run.0 ≡ count old + 1 = ap length begun.0 ∙ length-append old.items (x ∷ []) in
-      omega (arith, longer, begun.2 full, refused.0, full, some)
+      let longer : view_len run.0 ≡ view_len old + 1 = ap length begun.0 ∙ length-append old.items (x ∷ []) in
+      omega (arith, longer, begun.1.grown, refused.0, full, some)
 
   -- What `Reserve` made room for is not refused, and a push with room keeps it.
-  pub memory_after_a_reserve : (n : ℕ) (x y : T) (calls : List (Call T)) (more : List (Answer T)) (old new : Tiny T) → 2 ≤ n
+  pub memory_after_a_reserve : (n : ℕ) (x y : T) (calls : List (Call T)) (more : List (Answer T)) (old new : TinyView T) → 2 ≤ n
       → Run (TinyStep D slots) old (Reserve n ∷ Push x ∷ Push y ∷ calls) (answers.Done ∷ answers.Done ∷ answers.Memory ∷ more) new → ⊥
   memory_after_a_reserve n x y calls more old new some run =
       let reserved = run.1.answered in
       let begun = run.2.1.answered in
       let refused = run.2.2.1.answered in
-      let same : count run.0 ≡ count old = ap length reserved.0 in
-      let longer : count run.2.0 ≡ count run.0 + 1 = ap length begun.0 ∙ length-append run.0.items (x ∷ []) in
+      let same : view_len run.0 ≡ view_len old = ap length reserved.0 in
+      let longer : view_len run.2.0 ≡ view_len run.0 + 1 = ap length begun.0 ∙ length-append run.0.items (x ∷ []) in
       omega (arith, same, longer, reserved.1, begun.1.same_room, refused.0, some)
 
 -- Where a text was appended there is room for all of it, and a cut keeps that room: what is no longer than what was cut off is
@@ -51,4 +51,4 @@ pub memory_after_a_cut : (slots : ℕ) (text more : List ℕ) (index : ℕ) (old
     → TextStep slots old (add text) answers.Done first → TextStep slots first (cut index) answers.Done second
     → TextStep slots second (add more) answers.Memory new → text_len second + length more ≤ text_len first → ⊥
 memory_after_a_cut slots text more index old first second new added shortened refused within =
-    omega (arith, added.fits, shortened.room, refused.0, within)
+    omega (arith, added.room.fits, shortened.frame.room, refused.0, within)

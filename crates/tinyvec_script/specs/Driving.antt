@@ -7,9 +7,9 @@ use Rattle.tinyvec_slots.specs.Ends.{front, back, RunsWord, GivenByWord, taken}
 use Rattle.tinyvec_slots.specs.Ends as ends
 use Rattle.tinyvec_slots.specs.SplicedByWord.{IsSpliceRefused, placed_back}
 use Rattle.tinyvec_slots.specs.declared.no_room.SpliceRest.{SpliceRest}
-use Rattle.tinyvec.specs.TinyVec.{tiny_items, tiny_len, tiny_capacity}
-use Rattle.tinyvec.specs.Room.{Grows}
-use Rattle.tinyvec.specs.declared.tiny_vec.TinyVec.{TinyVec}
+use Rattle.tinyvec.specs.View.{TinyView, view_len, view_capacity, ViewGrows}
+use Rattle.tinyvec_script.specs.declared.call.Answer.{Answer}
+use Rattle.tinyvec_script.specs.declared.call.Answer.TheVariants as answers
 use Rattle.tinyvec_script.specs.declared.call.End.{End}
 use Rattle.tinyvec_script.specs.declared.call.End.TheVariants.{Front, Back}
 
@@ -57,12 +57,26 @@ pub record ArraySplices {T : Type 0} (D : T → Type 0) (capacity : ℕ) (old : 
 
 -- And so a `TinyVec`, which has the room that it has then, and grew as when items are pushed. There is no less than before, so
 -- if the old room holds the list nothing is refused.
-pub record TinySplices {A T : Type 0} (D : T → Type 0) (slots : ℕ) (old : TinyVec A T) (start end : ℕ) (word : List End)
-    (replacement yields rest : List T) (new : TinyVec A T) : Type 0 where
-  pub list : ListSplices (tiny_capacity slots new) (tiny_items old) start end word replacement yields rest (tiny_items new)
-  pub grows : Grows D slots old new
-  pub open grows use *
-  pub no_shorter : tiny_capacity slots new < start + length replacement + (tiny_len old - end) → tiny_len old ≤ tiny_len new
+pub record TinySplices {T : Type 0} (D : T → Type 0) (slots : ℕ) (old : TinyView T) (start end : ℕ) (word : List End)
+    (replacement yields rest : List T) (new : TinyView T) : Type 0 where
+  pub list : ListSplices (view_capacity slots new) old.items start end word replacement yields rest new.items
+  pub grows : ViewGrows D slots old new
+  pub no_shorter : view_capacity slots new < start + length replacement + (view_len old - end) → view_len old ≤ view_len new
+
+-- How a splice of a range that is in a list of this length is answered: by what was taken, and by what found no room if
+-- there is such. `Splices` is what it then did. A refused allocation is a case of its own.
+abbrev pub SpliceAnswers : {T : Type 0} → ℕ → ℕ → ℕ → ℕ → List T → Type 0 → (List T → List T → Type 0) → Answer T → Type 0
+SpliceAnswers capacity len start end replacement Same Splices answers.Memory = (start < end + length replacement) × Same
+SpliceAnswers capacity len start end replacement Same Splices (answers.Items given) =
+    (start + length replacement + (len - end) ≤ capacity) × Splices given.items []
+SpliceAnswers capacity len start end replacement Same Splices (answers.Spliced given rest) =
+    (capacity < start + length replacement + (len - end)) × Splices given.items rest.items
+SpliceAnswers capacity len start end replacement Same Splices answer = ⊥
+
+-- the items from start up to end were taken out
+pub record ListDrains {T : Type 0} (old : List T) (start end : ℕ) (given new : List T) : Type 0 where
+  pub given_are : given ≡ removed old (Included start) (Excluded end)
+  pub items_are : new ≡ before old (Included start) ++ after old (Excluded end)
 
 -- What a splice makes of a list, computed for given numbers and a given word.
 module _ {T : Type 0} (capacity : ℕ) (xs : List T) (start end : ℕ) (word : List End) (replacement : List T) where

@@ -18,12 +18,11 @@ pub record Progress (text output : List ℕ) (state : State) (rest : List ℕ) :
   pub split : Splits text lines rest
   pub answers : Answers start lines output state
 
--- wherever a run stands, these bytes and what is written for them take it further
-abbrev pub Feeds : State → Option (List ℕ) → List ℕ → List ℕ → State → Option (List ℕ) → Type 0
-Feeds old line bytes written new line' = (text output rest : List ℕ) → Progress text output old rest → line ≡ kept rest
-    → (rest' : List ℕ) × Progress (text ++ bytes) (output ++ written) new rest' × (line' ≡ kept rest')
+-- at any point of a run, these bytes and what is written for them take it further
+pub record Feeds (old : State) (line : Option (List ℕ)) (bytes written : List ℕ) (new : State) (line' : Option (List ℕ)) : Type 0 where
+  pub from : (text output rest : List ℕ) → Progress text output old rest → line ≡ kept rest
+      → (rest' : List ℕ) × Progress (text ++ bytes) (output ++ written) new rest' × (line' ≡ kept rest')
 
--- wherever a run stands, the end of the input and what is written for it complete it
-abbrev pub Ends : State → Option (List ℕ) → List ℕ → Type 0
-Ends old line written =
-    (text output rest : List ℕ) → Progress text output old rest → line ≡ kept rest → Script text (output ++ written)
+-- at any point of a run, the end of the input and what is written for it complete it
+pub record Ends (old : State) (line : Option (List ℕ)) (written : List ℕ) : Type 0 where
+  pub from : (text output rest : List ℕ) → Progress text output old rest → line ≡ kept rest → Script text (output ++ written)

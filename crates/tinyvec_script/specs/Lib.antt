@@ -8,7 +8,6 @@ pub mod Driving
 pub mod Words
 pub mod Spelled
 pub mod State
-pub mod Place
 pub mod TinyCalls
 pub mod TextCalls
 pub mod Reason

@@ -8,7 +8,7 @@ use Rattle.tinyvec_script.specs.declared.call.Answer.{Answer}
 use Rattle.tinyvec_script.specs.declared.command.Name.{Name}
 use Rattle.tinyvec_script.specs.declared.command.Name.TheVariants.{A, S, T}
 use Rattle.tinyvec_script.specs.Step.{ArrayStep, SliceStep}
-use Rattle.tinyvec_script.specs.Place.{Tiny, in_array}
+use Rattle.tinyvec.specs.View.{TinyView, in_array}
 use Rattle.tinyvec_script.specs.TinyCalls.{TinyStep}
 use Rattle.tinyvec_script.specs.TextCalls.{TextCall, IsTextCommand, TextStep}
 use Rattle.tinyvec_script.specs.Command.{IsCommand}
@@ -20,7 +20,7 @@ use Rattle.tinyvec_script.specs.Text.{answer_text, vector_text, tiny_text, inlin
 pub record State : Type 0 where
   pub a : Slots ℤ
   pub s : Slots ℤ
-  pub t : Tiny ℤ
+  pub t : TinyView ℤ
   pub x : Text
 
 -- four zeros, of which none holds the list
@@ -56,9 +56,9 @@ Steps T old call answer new = TinyStep IsZero 4 old.t call answer new.t × (new.
 abbrev pub TextSteps : State → TextCall → Answer ℤ → State → Type 0
 TextSteps old call answer new = TextStep 4 old.x call answer new.x × (new.a ≡ old.a) × (new.s ≡ old.s) × (new.t ≡ old.t)
 
--- What is answered to one line, and the vectors that it leaves: a line that spells a call is answered by a step of its
--- vector or of the text, one for whose letters or numbers memory was refused is `memory` and changes nothing, and any other
--- is `bad`, for a reason, and changes nothing.
+-- What is answered to one line, and the vectors that it leaves. A line that spells a call is answered by a step of its vector
+-- or of the text. One for whose letters or numbers memory was refused is `memory`, and any other is `bad`, for a reason; both
+-- change nothing.
 pub data Answered : State → List ℕ → List ℕ → State → Type 0 where
   done : {old new : State} {line text : List ℕ} (name : Name) (call : Call ℤ) (answer : Answer ℤ) → IsCommand line name call
       → Steps name old call answer new

@@ -1,35 +1,16 @@
 -- What a call may be answered, and what it then leaves: steps, and runs of them.
-use Rattle.std.specs.Prelude.{◌≡◌, ℕ, ◌+◌, ◌-◌, ◌<◌, ◌≤◌, List, [], ◌∷◌, ◌++◌, length, take, insert, remove, slice_get, Some}
+use Rattle.std.specs.Prelude.{◌≡◌, ℕ, ◌+◌, ◌<◌, ◌≤◌, List, [], ◌∷◌, ◌++◌, length, take, insert, remove, slice_get, Some}
 use Rattle.std.specs.List.{swap_remove}
 use Rattle.std.specs.declared.ops.Bound.TheVariants.{Included, Excluded}
 use Rattle.tinyvec_slots.specs.Slots.{Slots, items, items_len, all_slots, split_at, SlotRule}
-use Rattle.tinyvec_slots.specs.Ranges.{IsRangeOf, before, removed, after}
-use Rattle.tinyvec_script.specs.Driving.{ArraySplices}
-use Rattle.tinyvec_script.specs.declared.call.End.{End}
+use Rattle.tinyvec_slots.specs.Ranges.{IsRangeOf}
+use Rattle.tinyvec_script.specs.Driving.{ArraySplices, SpliceAnswers, ListDrains}
 use Rattle.tinyvec_script.specs.declared.call.Call.{Call}
 use Rattle.tinyvec_script.specs.declared.call.Call.TheVariants.{Push, Pop, Insert, Remove, SwapRemove, Truncate, Drain, Splice, SetLen, Reserve, Heap, Shrink}
 use Rattle.tinyvec_script.specs.declared.call.Answer.{Answer}
 use Rattle.tinyvec_script.specs.declared.call.Answer.TheVariants as answers
 
 module _ {T : Type 0} (D : T → Type 0) where
-  -- the items from start up to end were taken out, and their slots hold defaults
-  pub record ArrayDrains (old : Slots T) (start end : ℕ) (given : List T) (new : Slots T) : Type 0 where
-    pub given_are : given ≡ removed (items old) (Included start) (Excluded end)
-    pub items_are : items new ≡ before (items old) (Included start) ++ after (items old) (Excluded end)
-    pub slot_rule : SlotRule D old new
-
-  -- How a splice of a range that is in the list is answered: by what was taken, and by what found no room if there is such.
-  abbrev pub ArraySpliceStep : ℕ → Slots T → ℕ → ℕ → List End → List T → Answer T → Slots T → Type 0
-  ArraySpliceStep capacity old start end word replacement answers.Memory new = (start < end + length replacement)
-      × (new ≡ old)
-  ArraySpliceStep capacity old start end word replacement (answers.Items given) new =
-      (start + length replacement + (items_len old - end) ≤ capacity)
-      × ArraySplices D capacity old start end word replacement given.items [] new
-  ArraySpliceStep capacity old start end word replacement (answers.Spliced given rest) new =
-      (capacity < start + length replacement + (items_len old - end))
-      × ArraySplices D capacity old start end word replacement given.items rest.items new
-  ArraySpliceStep capacity old start end word replacement answer new = ⊥
-
   -- From the old value the call may have this answer, and leave the new value. A refused allocation is a case of its own.
   abbrev pub ArrayStep : ℕ → Slots T → Call T → Answer T → Slots T → Type 0
   ArrayStep capacity old (Push x) answers.Done new = (items_len old < capacity) × (items new ≡ items old ++ x ∷ [])
@@ -53,12 +34,14 @@ module _ {T : Type 0} (D : T → Type 0) where
   ArrayStep capacity old (Drain start end) answers.Memory new = IsRangeOf (items old) (Included start) (Excluded end)
       × (start < end) × (new ≡ old)
   ArrayStep capacity old (Drain start end) (answers.Items given) new =
-      IsRangeOf (items old) (Included start) (Excluded end) × ArrayDrains old start end given.items new
+      IsRangeOf (items old) (Included start) (Excluded end) × ListDrains (items old) start end given.items (items new)
+      × SlotRule D old new
   ArrayStep capacity old (Splice start end word replacement) answers.Range new =
       (IsRangeOf (items old) (Included start) (Excluded end) → ⊥) × (new ≡ old)
   ArrayStep capacity old (Splice start end word replacement) answer new =
       IsRangeOf (items old) (Included start) (Excluded end)
-      × ArraySpliceStep capacity old start end word.items replacement.items answer new
+      × SpliceAnswers capacity (items_len old) start end replacement.items (new ≡ old)
+      (λ yields rest. ArraySplices D capacity old start end word.items replacement.items yields rest new) answer
   ArrayStep capacity old (SetLen n) answers.Done new = (n ≤ capacity) × (new ≡ split_at n (all_slots old))
   ArrayStep capacity old (SetLen n) answers.Range new = (capacity < n) × (new ≡ old)
   -- it has no such call

@@ -4,7 +4,7 @@ use Rattle.std.specs.Fmt.{signed_decimal}
 use Rattle.std.specs.List.{join_by}
 use Rattle.tinyvec_slots.specs.Slots.{Slots, items, spare}
 use Rattle.tinyvec_text.specs.InlineText.{Text}
-use Rattle.tinyvec_script.specs.Place.{Tiny, lies_inline}
+use Rattle.tinyvec.specs.View.{TinyView, lies_inline}
 use Rattle.tinyvec_script.specs.declared.call.Answer.{Answer}
 use Rattle.tinyvec_script.specs.declared.call.Answer.TheVariants as answers
 
@@ -47,7 +47,7 @@ unfoldable pub place_state_text : List ℤ → Bool → List ℕ
 place_state_text items inline = list_text items ++ codes " " ++ place_text inline
 
 -- a vector: its list and its place
-abbrev pub tiny_text : Tiny ℤ → List ℕ
+abbrev pub tiny_text : TinyView ℤ → List ℕ
 tiny_text v = place_state_text v.items (lies_inline v.place)
 
 -- the bytes of a text in brackets, and its place

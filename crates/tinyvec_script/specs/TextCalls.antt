@@ -1,7 +1,8 @@
 -- The text of a script: how its calls are spelled, what they may be answered, and what they then leave.
-use Rattle.std.specs.Prelude.{◌≡◌, ℕ, ℤ, ◌+◌, ◌<◌, ◌≤◌, ◌^◌, List, ◌++◌, length, take, codes, chars, IsUtf8}
+use Rattle.std.specs.Prelude.{◌≡◌, ℕ, ℤ, ◌+◌, ◌<◌, ◌≤◌, ◌^◌, List, ◌++◌, length, take, codes, chars, IsUtf8, Ok}
 use Rattle.std.specs.Fmt.{decimal}
-use Rattle.tinyvec_text.specs.InlineText.{Text, text_chars, text_len, TextPlaceRule, TextGrows, IsBoundary}
+use Rattle.std.specs.declared.alloc.AllocError.{AllocError}
+use Rattle.tinyvec_text.specs.InlineText.{Text, text_chars, text_len, MakesRoom, StaysInPlace, IsBoundary}
 use Rattle.tinyvec_script.specs.declared.call.Answer.{Answer}
 use Rattle.tinyvec_script.specs.declared.call.Answer.TheVariants as answers
 use Rattle.tinyvec_script.specs.declared.text_command.TextCall.{TextCall as Said}
@@ -33,16 +34,11 @@ pub record IsTextCommand (line : List ℕ) (call : TextCall) : Type 0 where
   pub fits : TextFits call
   pub short : length line ≤ 128
 
--- The bytes were appended, by the place rule at the joined length. There is no less room than before, and enough; if
--- the old room holds the text it is the same, and else it grew as the place says.
+-- the bytes were appended, with room for the joined length, as `push_str` makes it
 pub record Added (slots : ℕ) (old : Text) (text : List ℕ) (new : Text) : Type 0 where
   pub chars_are : text_chars new ≡ text_chars old ++ chars text
   pub bytes_are : new.bytes ≡ old.bytes ++ text
-  pub place : TextPlaceRule slots (text_len old + length text) old new
-  pub keeps_room : old.room ≤ new.room
-  pub fits : text_len new ≤ new.room
-  pub same_room : text_len old + length text ≤ old.room → new.room ≡ old.room
-  pub grown : TextGrows old.inline (text_len old + length text) old new
+  pub room : MakesRoom {X = Unit {0}} {E = AllocError} old.inline slots (text_len old + length text) old new (Ok tt)
 
 -- the first characters were kept, whose bytes are `index`, in their place
 pub record CutAt (old : Text) (index : ℕ) (new : Text) : Type 0 where
@@ -50,8 +46,7 @@ pub record CutAt (old : Text) (index : ℕ) (new : Text) : Type 0 where
   pub chars_are : (rest : List ℕ) × (text_chars old ≡ text_chars new ++ rest)
   pub bytes_are : new.bytes ≡ take index old.bytes
   pub len : text_len new ≡ index
-  pub place : new.inline ≡ old.inline
-  pub room : new.room ≡ old.room
+  pub frame : StaysInPlace old new
 
 -- From the old text the call may have this answer, and leave the new one. A refused allocation is a case of its own: `Memory`
 -- only if the joined text does not fit the room of the old one. It changes nothing, and neither does `Range`.

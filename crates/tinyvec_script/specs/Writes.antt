@@ -15,7 +15,7 @@ abbrev pub gathered_of : {E : Type 0} → Option E → List ℕ → Option (List
 gathered_of None bytes = Some bytes
 gathered_of (Some error) bytes = None
 
--- The text came behind these bytes. A front of them all was written, and the rest is gathered; or a fault was reported.
+-- The text followed these bytes. A prefix of both was written, and the rest is gathered; or a fault was reported.
 pub record GathersBehind {W : Type 0} (contents : W → Option (List ℕ)) (old : CountedView W) (bytes : List ℕ) (new : CountedView W)
     (gathered : Option (List ℕ)) (text : List ℕ) : Type 0 where
   pub written : List ℕ
@@ -25,14 +25,15 @@ pub record GathersBehind {W : Type 0} (contents : W → Option (List ℕ)) (old 
   pub grows : old.faults ≤ new.faults
   pub kept : (gathered ≡ Some rest) ⊎ ((gathered ≡ None) × Reported old.faults new.faults)
 
--- The text was put behind what was gathered. After an error nothing more is written.
-abbrev pub Gathers : {W : Type 0} → (W → Option (List ℕ)) → CountedView W → Option (List ℕ) → CountedView W → Option (List ℕ)
-    → List ℕ → Type 0
-Gathers contents old None new gathered text = (new ≡ old) × (gathered ≡ None)
-Gathers contents old (Some bytes) new gathered text = GathersBehind contents old bytes new gathered text
+-- The text follows what was gathered. After an error nothing more is written.
+pub record Gathers {W : Type 0} (contents : W → Option (List ℕ)) (old : CountedView W) (before : Option (List ℕ)) (new : CountedView W)
+    (gathered : Option (List ℕ)) (text : List ℕ) : Type 0 where
+  pub after_error : before ≡ None → (new ≡ old) × (gathered ≡ None)
+  pub behind : (bytes : List ℕ) → before ≡ Some bytes → GathersBehind contents old bytes new gathered text
 
 -- What was gathered was written, and then nothing is gathered. After an error the call fails.
-abbrev pub Sends : {W T E : Type 0} → (W → Option (List ℕ)) → CountedView W → Option (List ℕ) → CountedView W → Option (List ℕ)
-    → Result T E → Type 0
-Sends contents old None new gathered result = (new ≡ old) × IsErr result
-Sends contents old (Some bytes) new gathered result = Writes contents old new result bytes × OnOk result (gathered ≡ Some [])
+pub record Sends {W T E : Type 0} (contents : W → Option (List ℕ)) (old : CountedView W) (before : Option (List ℕ)) (new : CountedView W)
+    (gathered : Option (List ℕ)) (result : Result T E) : Type 0 where
+  pub after_error : before ≡ None → (new ≡ old) × IsErr result
+  pub behind : (bytes : List ℕ) → before ≡ Some bytes → Writes contents old new result bytes
+  pub empty : OnOk result (gathered ≡ Some [])

@@ -1,7 +1,6 @@
 //! The command that a line spells.
-ghost use Rattle.std.specs.Prelude.{◌≡◌, ◌≢◌, ◌<◌, ◌≤◌, ◌^◌, ◌++◌, ◌∷◌, ℕ, ℤ, length, codes, IfSome, IfNone, All, FitsSigned};
-ghost use Rattle.std.specs.Int.{w32};
-ghost use Rattle.std.specs.Fmt.{decimal, signed_decimal};
+ghost use Rattle.std.specs.Prelude.{◌≡◌, ◌≢◌, ◌<◌, ◌≤◌, ◌^◌, ◌++◌, ◌∷◌, List, ℕ, ℤ, length, codes, IfSome, IfNone, All};
+ghost use Rattle.std.specs.Fmt.{decimal};
 ghost use Rattle.tinyvec_script.specs.Command.{IsCall, IsNoSplice, Has, HasSplice};
 ghost use Rattle.tinyvec_script.specs.Spelled.{Spells, SpellsFor};
 ghost use Rattle.tinyvec_script.specs.declared.command.Name.TheVariants.{A, S, T};
@@ -149,8 +148,8 @@ fn parse_call(text: &[u8]) -> Option<Call<i32>>
         return Some(Call::Push(parse_number(number)?));
     }
     if let Some(rest) = text.strip_prefix(b"insert ") {
-        let (index, number) = parse_index_and_number(rest)?;
-        return Some(Call::Insert(index, number));
+        let (index, number) = parse_first_index(rest)?;
+        return Some(Call::Insert(index, parse_number(number)?));
     }
     if let Some(index) = text.strip_prefix(b"remove ") {
         return Some(Call::Remove(parse_index(index)?));
@@ -161,26 +160,17 @@ fn parse_call(text: &[u8]) -> Option<Call<i32>>
     if let Some(index) = text.strip_prefix(b"truncate ") {
         return Some(Call::Truncate(parse_index(index)?));
     }
-    let (start, end) = parse_two_indices(text.strip_prefix(b"drain ")?)?;
-    Some(Call::Drain(start, end))
+    let (start, end) = parse_first_index(text.strip_prefix(b"drain ")?)?;
+    Some(Call::Drain(start, parse_index(end)?))
 }
 
-fn parse_two_indices(text: &[u8]) -> Option<(usize, usize)>
-    ensures some { IfSome result (λ pair. text.now ≡ decimal pair.0 ++ 32 ∷ decimal pair.1) }
-    ensures none { IfNone result ((first second : ℕ) → first < 2 ^ 64 → second < 2 ^ 64
-        → text.now ≢ decimal first ++ 32 ∷ decimal second) }
+// The index that the text begins with, before a blank, and the text after that.
+pub(crate) fn parse_first_index(text: &[u8]) -> Option<(usize, &[u8])>
+    ensures some { IfSome result (λ parts. text.now ≡ decimal parts.0 ++ 32 ∷ parts.1.now) }
+    ensures none { IfNone result ((index : ℕ) (rest : List ℕ) → index < 2 ^ 64 → text.now ≢ decimal index ++ 32 ∷ rest) }
 {
-    let (first, second) = split_at_byte(text, b' ')?;
-    Some((parse_index(first)?, parse_index(second)?))
-}
-
-fn parse_index_and_number(text: &[u8]) -> Option<(usize, i32)>
-    ensures some { IfSome result (λ pair. text.now ≡ decimal pair.0 ++ 32 ∷ signed_decimal pair.1) }
-    ensures none { IfNone result ((index : ℕ) (number : ℤ) → index < 2 ^ 64 → FitsSigned w32 number
-        → text.now ≢ decimal index ++ 32 ∷ signed_decimal number) }
-{
-    let (index, number) = split_at_byte(text, b' ')?;
-    Some((parse_index(index)?, parse_number(number)?))
+    let (index, rest) = split_at_byte(text, b' ')?;
+    Some((parse_index(index)?, rest))
 }
 
 // The text before the first such byte, and the text after it.

@@ -2,7 +2,7 @@
 ghost use Rattle.std.specs.Prelude.{◌≡◌, [], IsOk, IfOk, IfErr};
 ghost use Rattle.tinyvec_slice.specs.SliceVec.{view_of, name_of};
 ghost use Rattle.tinyvec_script.specs.Step.{ArrayStep, SliceStep, Run};
-ghost use Rattle.tinyvec_script.specs.Place.{tiny_of};
+ghost use Rattle.tinyvec.specs.TinyVec.{tiny_view};
 ghost use Rattle.tinyvec_script.specs.TinyCalls.{TinyStep};
 ghost use Rattle.tinyvec_script.specs.declared.call.Call as calls;
 ghost use Rattle.tinyvec_script.specs.declared.call.Answer as answers;
@@ -56,10 +56,10 @@ where
 impl<A: Array> AnswersCalls for TinyVec<A> {
     type Item = A::Item;
 
-    ghost step = { λ old call answer new. TinyStep A.Item.is_default A.CAPACITY (tiny_of old) call answer (tiny_of new) };
+    ghost step = { λ old call answer new. TinyStep A.Item.is_default A.CAPACITY (tiny_view old) call answer (tiny_view new) };
 
     fn answer(&mut self, alloc: Global, call: Call<A::Item>) -> Answer<A::Item>
-        ensures { TinyStep A.Item.is_default A.CAPACITY (tiny_of self.old) call result (tiny_of self.new) }
+        ensures { TinyStep A.Item.is_default A.CAPACITY (tiny_view self.old) call result (tiny_view self.new) }
     {
         answer_tiny(alloc, self, call)
     }
@@ -106,7 +106,7 @@ pub fn run_tiny<A: Array>(
     calls: Vec<Call<A::Item>>,
 ) -> Result<Vec<Answer<A::Item>>, NoMemory<Vec<Call<A::Item>>>>
     ensures run { IfOk result (λ answers. Run (TinyStep A.Item.is_default A.CAPACITY)
-        (tiny_of vec.old) calls.items answers.items (tiny_of vec.new)) }
+        (tiny_view vec.old) calls.items answers.items (tiny_view vec.new)) }
     ensures refused { IfErr result (λ refused. (refused.0 ≡ calls) × (vec.new ≡ vec.old)) }
     ensures none { calls.items ≡ [] → IsOk result }
 {

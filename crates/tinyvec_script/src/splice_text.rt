@@ -7,8 +7,8 @@ ghost use Rattle.tinyvec_script.specs.Words.{StartsBlank, IsLetter};
 ghost use Rattle.tinyvec_script.specs.declared.call.End.{End};
 
 use crate::End;
-use crate::command::split_at_byte;
-use crate::number::{parse_index, parse_number};
+use crate::command::parse_first_index;
+use crate::number::parse_number;
 use std::alloc::{AllocError, Global};
 use tinyvec::ArrayVec;
 
@@ -28,10 +28,8 @@ pub(crate) fn parse_splice<'a>(
     ensures none { IfNone result ((start end : ℕ) (word : List End) (ns : List ℤ) → start < 2 ^ 64 → end < 2 ^ 64
         → All (FitsSigned w32) ns → text.now ≢ splice_text start end word ns) }
 {
-    let (first, rest) = split_at_byte(text, b' ')?;
-    let start = parse_index(first)?;
-    let (second, rest) = split_at_byte(rest, b' ')?;
-    let end = parse_index(second)?;
+    let (start, rest) = parse_first_index(text)?;
+    let (end, rest) = parse_first_index(rest)?;
     let (word, rest) = until_blank(rest);
     if !is_word(word) {
         return None;

@@ -8,7 +8,7 @@ use Rattle.tinyvec_slice.specs.declared.slice_vec.GenericSliceVec.{GenericSliceV
 abbrev pub LentVec : Type 0 → Type 0
 LentVec T = GenericSliceVec (MutBor (List T)) T
 
--- the items stand after the old list, in spare slots, and all else is as it was
+-- the items follow the old list, in spare slots, and all else is as it was
 pub record Appends {T : Type 0} (xs : List T) (old new : LentVec T) : Type 0 where
   pub same_reference : name new ≡ name old
   pub items : items new ≡ items old ++ xs

@@ -5,7 +5,7 @@ use Rattle.std.specs.Prelude.{ℕ, List, ◌++◌, take, drop}
 abbrev pub with_front : {X : Type 0} → List X → ℕ → List X → List X
 with_front xs n ws = ws ++ drop n xs
 
--- xs with what stands after its first n elements replaced by ws
+-- xs with all after its first n elements replaced by ws
 abbrev pub with_back : {X : Type 0} → List X → ℕ → List X → List X
 with_back xs n ws = take n xs ++ ws
 

@@ -42,6 +42,7 @@ module _ {B T : Type 0} (g : Lent.Ghosts B T) where
 
 -- The same words of a vector in a lent slice.
 module _ {T : Type 0} where
+  -- the slots, and how many of them hold the list
   abbrev pub view : GenericSliceVec (MutBor (List T)) T → Slots T
   view v = record { slots = v.lent.now; len = v.len }
 

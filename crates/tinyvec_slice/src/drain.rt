@@ -34,8 +34,8 @@ where
 {
     ghost use Rattle.tinyvec_slice.specs.Drain.{drain_items, drain_lender, drain_name, drain_kept, drain_count, drain_spare, DrainCanStep, DrainSteps};
 
-    /// Removes the range, and yields its items in order. The items after the range move down at the call. A caller that
-    /// is generic over `Lent` knows what the vector holds afterwards; one that names `SliceVec` does not, and takes
+    /// Removes the range, and yields its items in order. The items after the range move down at the call. A caller that is
+    /// generic over `Lent` knows what the vector holds afterwards; one that names `SliceVec` does not, and uses
     /// `drain_each` or `drain_into`.
     ///
     /// `not_exhausted` fails only for a `RangeInclusive` that was iterated to its end.
@@ -112,7 +112,7 @@ where
         Some(self.vec.take_spare(index))
     }
 
-    /// It says nothing of how many items are left.
+    /// The lower bound is 0, and there is no upper one.
     fn size_hint(&self) -> (usize, Option<usize>)
         ensures lower { IsWithinCount result.0 (at_most (drain_left self.now)) }
         ensures upper { IfSome result.1 (UpTo (at_most (drain_left self.now))) }
@@ -150,8 +150,8 @@ impl<B: Lent> GenericSliceVec<B>
 where
     B::Item: Default,
 {
-    /// Takes the items of the range out of the list, and calls `f` with each, in order. A caller that names `SliceVec`
-    /// knows what is left.
+    /// Removes the range, and calls `f` with each of its items, in order. A caller that names `SliceVec` knows what is
+    /// left.
     ///
     /// `not_exhausted` fails only for a `RangeInclusive` that was iterated to its end.
     pub fn drain_each<R: RangeBounds<usize>, F: FnMut(B::Item)>(&mut self, range: R, f: &mut F)

@@ -138,7 +138,7 @@ impl<B: Lent> GenericSliceVec<B> {
         part_of(self, len, all)
     }
 
-    /// All slots, for writing.
+    /// The slots, spare slots too, for writing.
     pub fn as_mut_inner(&mut self) -> &mut [B::Item]
         ensures* writes_back { sem 𝓛 (lends_inner B.row B.Item.row B.Lent self.entry result) }
         ensures value { result.now ≡ slots_of B.Lent self.old }

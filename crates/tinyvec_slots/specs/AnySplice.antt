@@ -12,13 +12,13 @@ pub record SpliceView (I T : Type 0) : Type 0 where
   pub left : List T
   -- the replacement items placed from the back, and what followed the range
   pub back : List T
-  -- the replacement, as far as it was not asked
+  -- the rest of the replacement
   pub replacement : I
-  -- how many slots were touched since `splice`
+  -- the number of touches since `splice`
   pub touches : ℕ
 
 module _ {I T : Type 0} (gives : I → Option T → I → Type 0) where
-  -- x was given, the first removed item that was left. The replacement was asked for one item, which stands in front now.
+  -- x was yielded, the first removed item that was left. The item that the replacement yielded, if any, is placed at the front.
   pub record GivesFromFront (old : SpliceView I T) (x : T) (new : SpliceView I T) : Type 0 where
     pub left : old.left ≡ x ∷ new.left
     pub placed : Option T
@@ -68,7 +68,7 @@ module _ {I T : Type 0} (gives : I → Option T → I → Type 0) (capacity : �
     pub full : OnErr result (length list ≡ capacity)
     pub fits : length list ≤ capacity
 
--- the same if it is known what the replacement still yields: it all went in, or did not fit
+-- the same, if it is known what the replacement still yields: all of it was placed, or it did not fit
 module _ {I T : Type 0} (rest : I → List T) (capacity : ℕ) where
   pub record FinishesWith (s : SpliceView I T) (result : Result Unit (SpliceRest T I)) (list : List T) : Type 0 where
     pub fits : IsOk result ↔ (length s.front + length (rest s.replacement) + length s.back ≤ capacity)

@@ -40,8 +40,8 @@ pub record GivenByWord {T : Type 0} (xs : List T) (word : List End) (given : Lis
   pub first : from_front word given ≡ take (fronts (take (length given) word)) xs
   pub last : from_back word given ≡ reverse (drop (length xs - backs (take (length given) word)) xs)
 
--- The letters of a word are answered with the items that they are given and then with `None`, and what stands between
--- those items is left.
+-- The letters of a word are answered with the items that they take and then with `None`, and the items between those are
+-- left.
 pub record TakesFromEnds {T : Type 0} (xs : List T) (word : List End) (answers : List (Option T)) (left : List T) : Type 0 where
   pub given : List T
   pub by_word : GivenByWord xs word given

@@ -1,4 +1,4 @@
--- What a contract sees of a `Gap`, with the replacement of its splice and the slots that it lies in.
+-- What a contract sees of a `Gap`, with the replacement of its splice and its slots.
 use Rattle.std.specs.Prelude.{◌≡◌, ℕ, ◌+◌, ◌*◌, ◌-◌, ◌≤◌, false, Bool, List, [], take, drop, slice_range, Option, MatchOption}
 use Rattle.tinyvec_slots.specs.AnySplice.{SpliceView}
 use Rattle.tinyvec_slots.specs.Touches.{touch_count, FitsBits}
@@ -42,12 +42,12 @@ pub record GapOpens (start end : ℕ) (g : Gap) : Type 0 where
   pub back_is_end : g.back ≡ end
   pub untouched : gap_touches g ≡ 0
 
--- the gap lies in so many slots, and its touches can be counted on
+-- the gap is within this many slots, and its touches can be counted on
 abbrev pub GapLies : Gap → ℕ → Type 0
 GapLies g len = (g.front ≤ g.back) × (g.back ≤ len) × FitsBits 66 (gap_touches g)
 
--- the removed items that are left lie in it, there is no slot besides before the replacement has ended, and the touches
--- can be counted on
+-- The removed items that are left are within it. Before the replacement has ended it has no other slot. Its touches can be
+-- counted on.
 pub record GapCanStep (g : Gap) (ended : Bool) (len : ℕ) : Type 0 where
   pub front_le_next : g.front ≤ g.next
   pub next_le_end : g.next ≤ g.end
@@ -56,8 +56,8 @@ pub record GapCanStep (g : Gap) (ended : Bool) (len : ℕ) : Type 0 where
   pub no_slot_besides : ended ≡ false → (g.front ≡ g.next) × (g.end ≡ g.back)
   pub few : FitsBits 66 (gap_touches g + 2 * gap_len g)
 
--- A call at one end of a gap took a vector, its gap and its replacement to others, if `items` is the list of the vector,
--- `Kept` what a write of it leaves, and `Gives` how an item is given.
+-- A call at one end of a gap took a vector, its gap and its replacement to others. `items` is the list of the vector, `Kept`
+-- what a write of it leaves, and `Gives` how an item is given.
 abbrev pub GapSteps : {V I T : Type 0} → (V → List T) → (V → V → Type 0) → (SpliceView I T → T → SpliceView I T → Type 0)
     → V → Gap → I → Option T → V → Gap → I → Type 0
 GapSteps items Kept Gives v g r item w h s = MatchOption item ((gap_left g (items v) ≡ []) × (w ≡ v) × (h ≡ g) × (s ≡ r))

@@ -7,13 +7,13 @@ use Rattle.std.specs.declared.ops.Bound.TheVariants.{Included, Excluded, Unbound
 abbrev pub after_index : ℕ → ℕ
 after_index n = min (n + 1) (2 ^ 64 - 1)
 
--- where a range starts
+-- the index of the first item in a range: 0 if its start is unbounded
 abbrev pub range_start : Bound ℕ → ℕ
 range_start (Included n) = n
 range_start (Excluded n) = after_index n
 range_start Unbounded = 0
 
--- where it ends, in a list of so many items
+-- the index after the last item in a range: the length of the list if its end is unbounded
 abbrev pub range_end : Bound ℕ → ℕ → ℕ
 range_end (Included n) len = after_index n
 range_end (Excluded n) len = n
@@ -28,7 +28,7 @@ module _ {T : Type 0} where
   abbrev pub IsRangeOf : List T → Bound ℕ → Bound ℕ → Type 0
   IsRangeOf xs start end = (range_start start ≤ range_end end (length xs)) × (range_end end (length xs) ≤ length xs)
 
-  -- the items before the range: of `a..b` the first a
+  -- the items before the range: the first a for `a..b`
   abbrev pub before : List T → Bound ℕ → List T
   before xs start = take (range_start start) xs
 
@@ -36,6 +36,6 @@ module _ {T : Type 0} where
   abbrev pub removed : List T → Bound ℕ → Bound ℕ → List T
   removed xs start end = slice_range xs (range_start start) (range_end end (length xs))
 
-  -- the items after the range: of `a..b` all but the first b
+  -- the items after the range: all but the first b for `a..b`
   abbrev pub after : List T → Bound ℕ → List T
   after xs end = drop (range_end end (length xs)) xs

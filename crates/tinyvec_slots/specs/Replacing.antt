@@ -8,8 +8,8 @@ use Rattle.std.specs.Iterator.Adapters.{fuse_done, fuse_source}
 abbrev pub FusedYields : {S A : Type 0} → (S → Option A → S → Type 0) → Fuse S → List A → Type 0
 FusedYields steps s xs = (fuse_done s ≡ false) × AlwaysYields steps (λ x. x) (fuse_source s) xs
 
--- A call that was to put xs between `before` and `after` had this result, and left a list. It succeeds if `room` items
--- are as many.
+-- A call that puts xs between `before` and `after` had this result, and left `list`. It succeeds if the three lists have at
+-- most `room` items.
 abbrev pub PutsBetween : {T X E : Type 0} → ℕ → List T → List T → List T → Result X E → List T → Type 0
 PutsBetween room before xs after result list = OnOk result (list ≡ before ++ xs ++ after)
     × (length before + length xs + length after ≤ room → IsOk result × (list ≡ before ++ xs ++ after))

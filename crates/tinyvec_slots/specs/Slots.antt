@@ -13,7 +13,7 @@ abbrev pub slots_code : {T : Type 0} → Coded T → Coded (Slots T)
 slots_code {T} code =
     code_by (List T × ℕ) (coded× (coded_list code) coded_ℕ) (λ v. (v.slots, v.len)) (λ p. record { slots = p.0; len = p.1 }) (λ _. refl)
 
--- xs is n values of which D holds: with the `is_default` of an item's `Default`, n defaults
+-- xs has n elements, and D holds of each: n defaults, if D is the `is_default` of an item's `Default`
 abbrev pub AreDefaults : {T : Type 0} → (T → Type 0) → ℕ → List T → Type 0
 AreDefaults D n xs = (length xs ≡ n) × All D xs
 
@@ -42,13 +42,13 @@ module _ {T : Type 0} where
   abbrev pub Vacates : (T → Type 0) → ℕ → Slots T → Slots T → Type 0
   Vacates D n old new = (ds : List T) × AreDefaults D n ds × (spare new ≡ ds ++ spare old)
 
-  -- The slot rule. If the list got shorter, as many defaults precede the old spare slots. If it got longer, it used up as
-  -- many of them. If it is as long, they are the same.
+  -- The slot rule. If the list lost n items, n defaults precede the old spare slots. If it gained n items, the first n
+  -- spare slots are used up. Else they are unchanged.
   abbrev pub SlotRule : (T → Type 0) → Slots T → Slots T → Type 0
   SlotRule D old new = (ds : List T) × AreDefaults D (items_len old - items_len new) ds
       × (spare new ≡ ds ++ drop (items_len new - items_len old) (spare old))
 
-  -- The list got no longer, and as many defaults as it lost items stand before the old spare slots.
+  -- A call that only removes items took `old` to `new`: the vacated slots hold defaults, and precede the old spare slots.
   pub record Shortens (D : T → Type 0) (old new : Slots T) : Type 0 where
     pub bound : items_len new ≤ items_len old
     pub spare : Vacates D (items_len old - items_len new) old new

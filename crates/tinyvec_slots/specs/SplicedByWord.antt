@@ -12,7 +12,7 @@ abbrev pub placed_back : List End → ℕ → ℕ → ℕ
 placed_back word n m = backs (take (min (length word) (min n m)) word)
 
 -- A range that held n items was to be replaced, and the replacement did not go in between `before` and `after` whole: its
--- first `at` items did, and those that a word placed from the back. What stands between them is `rest`.
+-- first `at` items did, and those that a word placed from the back. `rest` is the run between them.
 pub record IsSpliceRefused {T : Type 0} (word : List End) (n : ℕ) (before after replacement list rest : List T) : Type 0 where
   pub at : ℕ
   pub from : placed_front word n (length replacement) ≤ at
@@ -20,8 +20,8 @@ pub record IsSpliceRefused {T : Type 0} (word : List End) (n : ℕ) (before afte
   pub list_is : list ≡ before ++ take at replacement ++ drop (length replacement - placed_back word n (length replacement)) replacement ++ after
   pub rest_is : rest ≡ slice_range replacement at (length replacement - placed_back word n (length replacement))
 
--- However calls of `next` and `next_back` follow one another, by the letters of a word, what they placed stands at its
--- end. `rest` shows what a replacement will give, from both of its ends.
+-- However calls of `next` and `next_back` follow one another, by the letters of a word, what they placed is at its end.
+-- `rest` shows what a replacement still yields, from both of its ends.
 pub record SplicedByWord {S I T : Type 0} (view : S → SpliceView I T) (keeps : S → S → Type 0) (rest : I → List T)
     (s : S) (word : List End) (t : S) : Type 0 where
   pub in_front : List T

@@ -28,7 +28,8 @@ pub fn retain_mut<V: CanCut, F: FnMut(&mut V::Item) -> bool>(vec: &mut V, f: &mu
     vec.truncate(kept);
 }
 
-/// Calls `same` on each item after the first and the last one kept, and removes the item for which it returns `true`.
+/// Calls `same` on each item after the first and the last one kept, in this order, and removes the item if it returns
+/// `true`.
 pub fn dedup_by<V: CanCut, F: FnMut(&mut V::Item, &mut V::Item) -> bool>(vec: &mut V, same: &mut F)
     requires { F.IsAlwaysCallable same.old }
     ensures filtered { IsDeduped (CalledAtPairMut F.FnMut) same.old (V.items vec.old) (V.items vec.new) }
@@ -51,7 +52,7 @@ pub fn dedup_by_key<V: CanCut, K: PartialEq + Drop, F: FnMut(&mut V::Item) -> K>
     vec.truncate(kept);
 }
 
-/// Calls `f` on the last item, and takes the item if it returns `true`. Calls nothing if the list is empty.
+/// Calls `f` on the last item, and removes and returns the item if it returns `true`. Calls nothing if the list is empty.
 pub fn pop_if<V: CanCut, F: FnOnce(&mut V::Item) -> bool>(vec: &mut V, f: F) -> Option<V::Item>
     requires { (x : V.Item) → slice_get (V.items vec.old) (length (V.items vec.old) - 1) ≡ Some x
         → FnOnceTakesAtMut F.FnOnce f x }

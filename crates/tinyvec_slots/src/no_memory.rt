@@ -6,7 +6,7 @@ ghost use Rattle.std.specs.declared.io.ErrorKind.TheVariants.{OutOfMemory};
 use std::alloc::AllocError;
 use std::io::Error;
 
-/// The allocator refused. The argument is returned, and nothing else has changed.
+/// The allocator refused. The argument is returned.
 #[derive(PartialEq, Eq, Debug, Drop)]
 pub struct NoMemory<T>(pub T);
 

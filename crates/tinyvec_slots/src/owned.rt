@@ -16,7 +16,7 @@ pub trait OwnsItems: CanCut + Drop {
     // What `Debug` calls the iterator.
     ghost name: { List ℕ };
 
-    // When an iterator over these items can be cloned for sure, where `I` holds of items that can.
+    // When an iterator over these items can be cloned for sure, if `I` holds of the items that can.
     ghost infallible: { (Self.Item → Type 0) → List Self.Item → Type 0 };
 
     /// What `Debug` calls the iterator.

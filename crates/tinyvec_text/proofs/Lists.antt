@@ -6,14 +6,16 @@ use Rattle.std.proofs.lemmas.List.Elements.{All-append, All-drop}
 use Rattle.std.proofs.lemmas.Str.{IsUtf8-had}
 use Rattle.tinyvec_slots.specs.Clones.{RefusedAt}
 use Rattle.tinyvec_slots.specs.Slots.{AreDefaults}
-use Rattle.tinyvec.proofs.TinyLemmas.{capacity_inline, tiny_slots_framed}
-use Rattle.tinyvec.specs.TinyVec.{tiny_items, tiny_len, tiny_spare, tiny_capacity, is_inline, IsInline, PlaceRule, TinySlotRule, SameFrame, StaysInPlace, Unchanged}
+use Rattle.tinyvec.proofs.TinyLemmas.{tiny_slots_framed}
+use Rattle.tinyvec.specs.TinyVec.{place_of, tiny_items, tiny_len, tiny_spare, tiny_capacity, is_inline, IsInline, TinySlotRule, SameFrame, StaysInPlace, Unchanged}
 use Rattle.tinyvec.specs.Refused.{RefusedFor}
 use Rattle.tinyvec.specs.Room.{GrowsFor, RoomGrows}
 use Rattle.tinyvec.specs.declared.tiny_vec.TinyVec.{TinyVec}
 use Rattle.tinyvec.specs.declared.tiny_vec.TinyVec.TheVariants.{Inline, Heap}
 use Rattle.std.specs.String.Boundary.{IsSplitPoint}
-use Rattle.tinyvec_text.specs.InlineText.{Text, IsText, text_of, text_chars, text_len, TextPlaceRule, MakesRoom, IsBoundary}
+use Rattle.tinyvec.specs.View.{Place, in_array, on_heap, lies_inline, capacity_in, ViewPlaceRule}
+use Rattle.tinyvec.specs.FrameLaws.{same_place}
+use Rattle.tinyvec_text.specs.InlineText.{Text, IsText, text_of, text_view, text_chars, text_len, MakesRoom, IsBoundary}
 use Rattle.tinyvec_text.proofs.Boundaries.{split_from_boundary}
 
 -- a and b are boundaries of the bytes, in this order
@@ -28,25 +30,30 @@ same_truth true false there back = sym (there refl)
 same_truth false true there back = back refl
 same_truth false false there back = refl
 
+-- how many bytes fit a place in the array
+pub room_inline : (slots : ℕ) (p : Place) → IsTrue (lies_inline p) → capacity_in slots p ≡ slots
+room_inline slots in_array is = refl
+room_inline slots (on_heap n) is = absurd (let no = is in cc)
+
 -- a refused call that needs room for more bytes than fit changes nothing
-refused_text : {X E : Type 0} (moves : Bool) (slots need : ℕ) (t : Text) (r : Result X E) → IsErr r → text_len t ≤ t.room
-    → (IsTrue t.inline → t.room ≡ slots) → t.room < need → MakesRoom moves slots need t t r
-refused_text moves slots need t (Ok x) err fits inline few = search rules
-refused_text moves slots need t (Err e) err fits inline few = record {
+refused_text : {X E : Type 0} (moves : Bool) (slots need : ℕ) (t : Text) (r : Result X E) → IsErr r → text_len t ≤ capacity_in slots t.place
+    → capacity_in slots t.place < need → MakesRoom moves slots need t t r
+refused_text moves slots need t (Ok x) err fits few = search rules
+refused_text moves slots need t (Err e) err fits few = record {
   place = tt;
   capacity = omega arith;
   same_room = λ _. refl;
   grown = tt;
   fits = fits;
   succeeds = λ enough. absurd (omega (arith, enough, few));
-  inline_succeeds = λ is enough. absurd (omega (arith, enough, few, inline is));
+  inline_succeeds = λ is enough. absurd (omega (arith, enough, few, room_inline slots t.place is));
   full = few;
   refused = refl;
 }
 
 module _ {A : Type 0} where
-  pub text_unchanged : (slots : ℕ) (old new : TinyVec A ℕ) → Unchanged old new → text_of slots new ≡ text_of slots old
-  text_unchanged slots old new h i = record { bytes = h.items i; inline = h.place i; room = h.capacity slots i }
+  pub text_unchanged : (old new : TinyVec A ℕ) → Unchanged old new → text_of new ≡ text_of old
+  text_unchanged old new h i = record { bytes = h.items i; place = same_place 0 (place_of old) (place_of new) h.place (h.capacity 0) i }
 
   -- the clone of a number cannot be refused, so a refusal was one of memory
   pub refused_memory : (xs : List ℕ) (slots need : ℕ) (Q : ℕ → Type 0) (old new : TinyVec A ℕ)
@@ -56,21 +63,21 @@ module _ {A : Type 0} where
 
   -- the same, seen from the list
   pub refused_room : {X E : Type 0} (moves : Bool) (slots need : ℕ) (old new : TinyVec A ℕ) (t : Text) (r : Result X E) → IsErr r
-      → text_of slots old ≡ t → tiny_len new ≤ tiny_capacity slots new → tiny_capacity slots old < need → Unchanged old new
-      → MakesRoom moves slots need t (text_of slots new) r
+      → text_of old ≡ t → tiny_len new ≤ tiny_capacity slots new → tiny_capacity slots old < need → Unchanged old new
+      → MakesRoom moves slots need t (text_of new) r
   refused_room moves slots need old new t r err same fits few h =
-      let is : text_of slots new ≡ t = text_unchanged slots old new h ∙ same in
+      let is : text_of new ≡ t = text_unchanged old new h ∙ same in
       subst (λ (u : Text). MakesRoom moves slots need t u r) (sym is)
-      (refused_text moves slots need t r err (subst (λ (u : Text). text_len u ≤ u.room) is fits)
-      (subst (λ (u : Text). IsTrue u.inline → u.room ≡ slots) same (capacity_inline slots old)) (subst (λ (u : Text). u.room < need) same few))
+      (refused_text moves slots need t r err (subst (λ (u : Text). text_len u ≤ capacity_in slots u.place) is fits)
+      (subst (λ (u : Text). capacity_in slots u.place < need) same few))
 
   pub text_utf8 : (v : TinyVec A ℕ) → IsText v → IsUtf8 (tiny_items v)
   text_utf8 v is = IsUtf8-had _ is.0
 
   -- a boundary of the text is one of its bytes
-  pub text_cut : (slots : ℕ) (v : TinyVec A ℕ) (t : Text) → text_of slots v ≡ t → IsText v → (i : ℕ) → IsBoundary (text_chars t) i
+  pub text_cut : (v : TinyVec A ℕ) (t : Text) → text_of v ≡ t → IsText v → (i : ℕ) → IsBoundary (text_chars t) i
       → IsSplitPoint (tiny_items v) i
-  text_cut slots v t same is i cut =
+  text_cut v t same is i cut =
       split_from_boundary (tiny_items v) (text_utf8 v is) i (subst (λ (u : Text). IsBoundary (text_chars u) i) (sym same) cut)
 
   -- what a call leaves in the list of a text: spare slots that it vacates are zero
@@ -111,9 +118,9 @@ module _ {A : Type 0} where
   text_shrunk n (Heap v) new is items kept spare = text_made n new (subst IsUtf8 (sym items) (text_utf8 (Heap v) is)) (spare refl)
 
   -- the ends of a range are boundaries of the bytes
-  pub text_range : (slots : ℕ) (v : TinyVec A ℕ) (t : Text) → text_of slots v ≡ t → IsText v → (a : ℕ) (end : ℕ → ℕ) → a ≤ end (text_len t)
+  pub text_range : (v : TinyVec A ℕ) (t : Text) → text_of v ≡ t → IsText v → (a : ℕ) (end : ℕ → ℕ) → a ≤ end (text_len t)
       → IsBoundary (text_chars t) a → IsBoundary (text_chars t) (end (text_len t)) → CutsAt (tiny_items v) a (end (tiny_len v))
-  text_range slots v t same is a end order first last =
+  text_range v t same is a end order first last =
       let utf8 = text_utf8 v is in
       record {
         order = subst (λ (u : Text). a ≤ end (text_len u)) (sym same) order;
@@ -122,13 +129,13 @@ module _ {A : Type 0} where
       }
 
   -- a call that made the room that it needs
-  pub made_room : {X E : Type 0} (slots need : ℕ) (old new : TinyVec A ℕ) (t : Text) (x : X) → text_of slots old ≡ t → tiny_len new ≡ need
-      → PlaceRule slots (tiny_len new) old new → RoomGrows {X = X} {E = E} GrowsFor slots (tiny_len new) old new (Ok x)
-      → MakesRoom {X = X} {E = E} t.inline slots need t (text_of slots new) (Ok x)
-  made_room {X} {E} slots need old new t x same len place room =
-      subst (λ (u : Text). MakesRoom {X = X} {E = E} u.inline slots need u (text_of slots new) (Ok x)) same
-      (subst (λ n. MakesRoom {X = X} {E = E} (is_inline old) slots n (text_of slots old) (text_of slots new) (Ok x)) len record {
-        place = place;
+  pub made_room : {X E : Type 0} (slots need : ℕ) (old new : TinyVec A ℕ) (t : Text) (x : X) → text_of old ≡ t → tiny_len new ≡ need
+      → RoomGrows {X = X} {E = E} GrowsFor (λ b. b ≡ 0) slots (tiny_len new) old new (Ok x)
+      → MakesRoom {X = X} {E = E} (lies_inline t.place) slots need t (text_of new) (Ok x)
+  made_room {X} {E} slots need old new t x same len room =
+      subst (λ (u : Text). MakesRoom {X = X} {E = E} (lies_inline u.place) slots need u (text_of new) (Ok x)) same
+      (subst (λ n. MakesRoom {X = X} {E = E} (is_inline old) slots n (text_of old) (text_of new) (Ok x)) len record {
+        place = room.place;
         capacity = room.capacity;
         same_room = room.same_room;
         grown = room.grown;
@@ -140,6 +147,7 @@ module _ {A : Type 0} where
       })
 
 -- a call with room leaves a text in its place
-pub place_stays : (slots need : ℕ) (old new : Text) → (IsTrue old.inline → old.room ≡ slots) → need ≤ old.room
-    → TextPlaceRule slots need old new → new.inline ≡ old.inline
-place_stays slots need old new room enough rule = same_truth new.inline old.inline (λ is. (rule.0 is).0) (λ is. rule.1 (is, omega (arith, enough, room is)))
+pub place_stays : (slots need : ℕ) (old new : Text) → need ≤ capacity_in slots old.place
+    → ViewPlaceRule slots need (text_view old) (text_view new) → lies_inline new.place ≡ lies_inline old.place
+place_stays slots need old new enough rule =
+    same_truth (lies_inline new.place) (lies_inline old.place) (λ is. (rule.0 is).0) (λ is. rule.1 (is, omega (arith, enough, room_inline slots old.place is)))

@@ -1,11 +1,12 @@
 //! `InlineText`.
-ghost use Rattle.std.specs.Prelude.{◌≡◌, ◌≤◌, ◌==◌, ◌↔◌, [], drop, max, All, true, false, IsTrue, IsOk, IfOk, IfErr, MatchResult, chars, encode_utf8_all, IsUtf8};
+ghost use Rattle.std.specs.Prelude.{◌≡◌, ◌≤◌, ◌==◌, ◌↔◌, [], drop, max, All, true, false, IsTrue, IsOk, IfOk, IfErr, MatchResult, encode_utf8_all, IsUtf8};
 ghost use Rattle.std.specs.Str.{valid_up_to, error_len};
 ghost use Rattle.std.specs.Str.Lossy.{utf8_valid_len, utf8_error_len};
 ghost use Rattle.std.specs.String.{string_bytes, string_capacity};
 ghost use Rattle.std.specs.Str.{all_scalars};
-ghost use Rattle.tinyvec.specs.TinyVec.{tiny_items, tiny_spare, is_inline, tiny_capacity};
-ghost use Rattle.tinyvec_text.specs.InlineText.{text_chars, text_len};
+ghost use Rattle.tinyvec.specs.View.{in_array, lies_inline, capacity_in};
+ghost use Rattle.tinyvec.specs.TinyVec.{tiny_items, tiny_spare};
+ghost use Rattle.tinyvec_text.specs.InlineText.{text_of, text_chars, text_len};
 
 mod edits;
 mod extending;
@@ -31,7 +32,7 @@ impl<const N: usize> Model for InlineText<N> {
 
     ghost Value = { Text };
 
-    ghost view = { λ t. text_of N t.list };
+    ghost view = { λ t. text_of t.list };
 
     ghost invariant = { λ t. IsText t.list };
 }
@@ -41,8 +42,7 @@ impl<const N: usize> InlineText<N> {
     pub fn new(alloc: Global) -> Self
         ensures bytes { result.bytes ≡ [] }
         ensures text { text_chars result ≡ [] }
-        ensures place { IsTrue result.inline }
-        ensures room { result.room ≡ N }
+        ensures place { result.place ≡ in_array }
     {
         InlineText {
             list: TinyVec::new(alloc),
@@ -53,8 +53,8 @@ impl<const N: usize> InlineText<N> {
     pub fn with_capacity(alloc: Global, capacity: usize) -> Result<Self, AllocError>
         ensures bytes { IfOk result (λ t. t.bytes ≡ []) }
         ensures text { IfOk result (λ t. text_chars t ≡ []) }
-        ensures place { IfOk result (λ t. IsTrue t.inline ↔ (capacity ≤ N)) }
-        ensures room { IfOk result (λ t. t.room ≡ max capacity N) }
+        ensures place { IfOk result (λ t. IsTrue (lies_inline t.place) ↔ (capacity ≤ N)) }
+        ensures room { IfOk result (λ t. capacity_in N t.place ≡ max capacity N) }
         ensures succeeds { capacity ≤ N → IsOk result }
     {
         let list = TinyVec::with_capacity(alloc, capacity)?;
@@ -65,10 +65,7 @@ impl<const N: usize> InlineText<N> {
     /// slots to zero.
     pub fn from_utf8(bytes: TinyVec<[u8; N]>) -> Result<Self, FromUtf8Error<N>>
         ensures variant { IsOk result ↔ IsUtf8 (tiny_items bytes.entry) }
-        ensures bytes { IfOk result (λ t. t.bytes ≡ tiny_items bytes.entry) }
-        ensures text { IfOk result (λ t. text_chars t ≡ chars (tiny_items bytes.entry)) }
-        ensures place { IfOk result (λ t. t.inline ≡ is_inline bytes.entry) }
-        ensures room { IfOk result (λ t. t.room ≡ tiny_capacity N bytes.entry) }
+        ensures value { IfOk result (λ t. t ≡ text_of bytes.entry) }
         ensures bytes_returned { IfErr result (λ refused. refused.bytes ≡ bytes.entry) }
         ensures valid_len { IfErr result (λ refused. valid_up_to refused.error ≡ utf8_valid_len (tiny_items bytes.entry)) }
         ensures fault { IfErr result (λ refused. error_len refused.error
@@ -85,7 +82,7 @@ impl<const N: usize> InlineText<N> {
     /// The length in bytes.
     pub fn len(&self) -> usize
         ensures value { result ≡ text_len self.now }
-        ensures fits { result ≤ self.now.room }
+        ensures fits { result ≤ capacity_in N self.now.place }
     {
         self.list.len()
     }
@@ -99,16 +96,15 @@ impl<const N: usize> InlineText<N> {
 
     /// Whether the text is in the array.
     pub fn is_inline(&self) -> bool
-        ensures { result ≡ self.now.inline }
+        ensures { result ≡ lies_inline self.now.place }
     {
         self.list.is_inline()
     }
 
     /// How many bytes fit in the text's place.
     pub fn capacity(&self) -> usize
-        ensures value { result ≡ self.now.room }
+        ensures value { result ≡ capacity_in N self.now.place }
         ensures fits { text_len self.now ≤ result }
-        ensures array { IsTrue self.now.inline → result ≡ N }
     {
         self.list.capacity()
     }
@@ -135,11 +131,9 @@ impl<const N: usize> InlineText<N> {
 
     /// The bytes of the text, in their place. The spare slots are zero. Does not allocate.
     pub fn into_bytes(self) -> TinyVec<[u8; N]>
-        ensures bytes { tiny_items result ≡ self.entry.bytes }
+        ensures value { text_of result ≡ self.entry }
         ensures utf8 { IsUtf8 (tiny_items result) }
         ensures spare { All (λ b. b ≡ 0) (tiny_spare result) }
-        ensures place { is_inline result ≡ self.entry.inline }
-        ensures room { tiny_capacity N result ≡ self.entry.room }
     {
         let InlineText { list } = self;
         list
@@ -149,9 +143,8 @@ impl<const N: usize> InlineText<N> {
     /// allocator refuses, the text is returned.
     pub fn into_string(self) -> Result<String, NoMemory<Self>>
         ensures bytes { IfOk result (λ s. string_bytes s ≡ self.entry.bytes) }
-        ensures room { IfOk result (λ s. IsTrue self.entry.inline → string_capacity s ≡ text_len self.entry) }
-        ensures same_room { IfOk result (λ s. self.entry.inline ≡ false → string_capacity s ≡ self.entry.room) }
-        ensures succeeds { self.entry.inline ≡ false → IsOk result }
+        ensures room { IfOk result (λ s. string_capacity s ≡ capacity_in (text_len self.entry) self.entry.place) }
+        ensures succeeds { lies_inline self.entry.place ≡ false → IsOk result }
         ensures succeeds_empty { text_len self.entry ≡ 0 → IsOk result }
         ensures value_returned { IfErr result (λ refused. refused.0 ≡ self.entry) }
     {
@@ -180,10 +173,8 @@ impl<const N: usize> TryFrom<InlineText<N>> for String {
 
 // Sets the spare slots to zero.
 fn clear_spare<const N: usize>(list: &mut TinyVec<[u8; N]>)
-    ensures items { tiny_items list.new ≡ tiny_items list.old }
+    ensures value { text_of list.new ≡ text_of list.old }
     ensures spare { All (λ b. b ≡ 0) (tiny_spare list.new) }
-    ensures place { is_inline list.new ≡ is_inline list.old }
-    ensures room { tiny_capacity N list.new ≡ tiny_capacity N list.old }
 {
     if let TinyVec::Inline(v, _) = list {
         v.grab_spare_slice_mut().fill(0);

@@ -2,21 +2,25 @@
 use Rattle.std.proofs.Common.{◌≡◌, ℕ, List, [], ◌∷◌, Ok, Result, true, refl, rules}
 use Rattle.std.specs.Prelude.{All, chars}
 use Rattle.tinyvec.specs.declared.tiny_vec.TinyVec.{TinyVec}
+use Rattle.tinyvec.specs.View.{in_array}
 use Rattle.tinyvec.specs.TinyVec.{tiny_items, tiny_spare}
-use Rattle.tinyvec_text.specs.InlineText.{Text, text_of, text_chars, text_len, IsText, StaysInPlace, MakesRoom, TextExtends, IsBoundary}
+use Rattle.tinyvec_text.specs.InlineText.{Text, text_of, text_view, text_chars, text_len, IsText, StaysInPlace, MakesRoom, TextExtends, IsBoundary}
 
--- these bytes, in the value, with room for four
+-- these bytes, in the value
 abbrev pub inline : List ℕ → Text
-inline bytes = record { bytes = bytes; inline = true; room = 4 }
+inline bytes = record { bytes = bytes; place = in_array }
 
 abbrev pub done : Result Unit Unit
 done = Ok _
 
-pub example-Text : (inline (97 ∷ 98 ∷ [])).room ≡ 4
+pub example-Text : (inline (97 ∷ 98 ∷ [])).place ≡ in_array
 example-Text = refl
 
-pub example-text_of : {A : Type 0} (v : TinyVec A ℕ) → tiny_items v ≡ 97 ∷ 98 ∷ [] → (text_of 4 v).bytes ≡ 97 ∷ 98 ∷ []
+pub example-text_of : {A : Type 0} (v : TinyVec A ℕ) → tiny_items v ≡ 97 ∷ 98 ∷ [] → (text_of v).bytes ≡ 97 ∷ 98 ∷ []
 example-text_of v list = list
+
+pub example-text_view : (text_view (inline (97 ∷ []))).items ≡ 97 ∷ []
+example-text_view = refl
 
 pub example-text_len : text_len (inline (97 ∷ 98 ∷ [])) ≡ 2
 example-text_len = refl
@@ -30,7 +34,7 @@ example-IsBoundary = ([], 97 ∷ 98 ∷ [], refl, search rules)
 pub example-IsText : {A : Type 0} (v : TinyVec A ℕ) → IsText v → All (λ b. b ≡ 0) (tiny_spare v)
 example-IsText v h = h.1
 
-pub example-StaysInPlace : StaysInPlace (inline (97 ∷ 98 ∷ [])) (inline (97 ∷ []))
+pub example-StaysInPlace : StaysInPlace 4 (inline (97 ∷ 98 ∷ [])) (inline (97 ∷ []))
 example-StaysInPlace = search rules
 
 pub example-MakesRoom : MakesRoom true 4 4 (inline (97 ∷ 98 ∷ [])) (inline (97 ∷ 98 ∷ [])) done

@@ -1,10 +1,11 @@
 -- Examples of a `TinyVec` whose array has four slots. `inline xs ys` has the list xs in the array, and the spare slots ys.
-use Rattle.std.proofs.Common.{◌≡◌, ℕ, ◌≤◌, List, [], ◌∷◌, Ok, Result, true, false, refl, rules, arith}
+use Rattle.std.proofs.Common.{◌≡◌, ℕ, List, [], ◌∷◌, Ok, Result, true, false, refl, rules, arith}
 use Rattle.std.specs.Global.{Global}
 use Rattle.tinyvec.specs.declared.tiny_vec.TinyVec.{TinyVec}
 use Rattle.tinyvec.specs.declared.tiny_vec.TinyVec.TheVariants.{Inline}
-use Rattle.tinyvec.specs.TinyVec.{tiny_items, tiny_len, tiny_spare, is_inline, IsInline, tiny_capacity, tiny_allocator, PlaceRule, TinySlotRule, SameFrame, StaysInPlace, Unchanged, IsTinyClone, IsTinyInfallible}
-use Rattle.tinyvec.specs.Room.{Collects, Doubles, GrowsFor, Grows, RoomGrows, Reserves, MovesToHeap, MovesToHeapWithRoom}
+use Rattle.tinyvec.specs.TinyVec.{tiny_items, tiny_len, tiny_spare, is_inline, IsInline, HoldsInline, tiny_capacity, tiny_allocator, TinySlotRule, SameFrame, StaysInPlace, Unchanged, IsTinyClone, IsTinyInfallible, tiny_view}
+use Rattle.tinyvec.specs.Room.{Collects, Doubles, GrowsFor, Grows, RoomGrows, MakesRoom, Reserves, MovesToHeap, MovesToHeapWithRoom}
+use Rattle.tinyvec.specs.View.{in_array}
 use Rattle.tinyvec.specs.Refused.{RefusedFor, ClonesBehind}
 use Rattle.tinyvec.specs.Lends.{tiny_with_items, tiny_with_item}
 use Rattle.tinyvec.specs.TinyVecSplice.{items_moved}
@@ -20,6 +21,9 @@ module _ (A : Type 0) (alloc : Global) where
   pub example-tiny_items : tiny_items (inline (1 ∷ 2 ∷ []) (0 ∷ 0 ∷ [])) ≡ 1 ∷ 2 ∷ []
   example-tiny_items = refl
 
+  pub example-tiny_view : tiny_view (inline (1 ∷ []) (0 ∷ [])) ≡ record { items = 1 ∷ []; spare = 0 ∷ []; place = in_array }
+  example-tiny_view = refl
+
   pub example-tiny_len : tiny_len (inline (1 ∷ 2 ∷ []) (0 ∷ 0 ∷ [])) ≡ 2
   example-tiny_len = refl
 
@@ -32,14 +36,14 @@ module _ (A : Type 0) (alloc : Global) where
   pub example-IsInline : IsInline (inline (1 ∷ 2 ∷ []) (0 ∷ 0 ∷ []))
   example-IsInline = search rules
 
+  pub example-HoldsInline : HoldsInline (1 ∷ 2 ∷ []) (0 ∷ 0 ∷ []) (inline (1 ∷ 2 ∷ []) (0 ∷ 0 ∷ []))
+  example-HoldsInline = search rules
+
   pub example-tiny_capacity : tiny_capacity 4 (inline (1 ∷ 2 ∷ []) (0 ∷ 0 ∷ [])) ≡ 4
   example-tiny_capacity = refl
 
   pub example-tiny_allocator : tiny_allocator (inline (1 ∷ 2 ∷ []) (0 ∷ 0 ∷ [])) ≡ alloc
   example-tiny_allocator = refl
-
-  pub example-PlaceRule : (v : TinyVec A ℕ) → is_inline v ≡ false → PlaceRule 4 5 (inline (1 ∷ 2 ∷ 3 ∷ 4 ∷ []) []) v
-  example-PlaceRule v outside = search rules
 
   pub example-TinySlotRule : TinySlotRule D (inline (1 ∷ []) (7 ∷ 8 ∷ 0 ∷ [])) (inline (1 ∷ 5 ∷ []) (8 ∷ 0 ∷ []))
   example-TinySlotRule = search rules
@@ -75,6 +79,12 @@ module _ (A : Type 0) (alloc : Global) where
 
   pub example-Grows : Grows D 4 (inline (1 ∷ []) (7 ∷ 8 ∷ 0 ∷ [])) (inline (1 ∷ 5 ∷ []) (8 ∷ 0 ∷ []))
   example-Grows = search rules
+
+  pub example-RoomGrows : RoomGrows GrowsFor D 4 2 (inline (1 ∷ []) (7 ∷ 8 ∷ 0 ∷ [])) (inline (1 ∷ 5 ∷ []) (8 ∷ 0 ∷ [])) done
+  example-RoomGrows = search rules
+
+  pub example-MakesRoom : MakesRoom Doubles D 4 2 (inline (1 ∷ []) (7 ∷ 8 ∷ 0 ∷ [])) (inline (1 ∷ 5 ∷ []) (8 ∷ 0 ∷ [])) done
+  example-MakesRoom = search rules
 
   pub example-Reserves : Reserves D 4 2 8 (inline (1 ∷ []) (0 ∷ 0 ∷ 0 ∷ [])) (inline (1 ∷ []) (0 ∷ 0 ∷ 0 ∷ [])) done
   example-Reserves = search rules
@@ -112,9 +122,6 @@ module _ {A : Type 0} (v w : TinyVec A ℕ) (small : tiny_capacity 4 v ≡ 4) (l
 
   pub example-GrowsFor : is_inline v ≡ false → GrowsFor 4 5 v w
   example-GrowsFor outside = search rules
-
-  pub example-RoomGrows : tiny_len w ≤ 8 → RoomGrows Doubles 4 5 v w done
-  example-RoomGrows few = search rules
 
 pub example-items_moved : items_moved 4 true false ≡ 4
 example-items_moved = refl

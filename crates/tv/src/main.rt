@@ -17,7 +17,7 @@ fn main(rt: HostRuntime) -> ExitCode {
         return ExitCode::SUCCESS;
     };
     if !is_closed_pipe(&error) {
-        // Where standard error fails too, there is nowhere left to say so.
+        // If standard error fails too, there is nowhere left to say so.
         let _ = eprintln!(rt; "tv: {error}");
     }
     ExitCode::FAILURE

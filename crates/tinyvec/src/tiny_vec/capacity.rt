@@ -51,11 +51,7 @@ impl<A: Array> TinyVec<A> {
         // Shows the proof that the list fits.
         let _len = self.len();
         match self {
-            TinyVec::Inline(v, alloc) => {
-                let heap = v.drain_to_vec_and_reserve(*alloc, n)?;
-                *self = TinyVec::Heap(heap);
-                Ok(())
-            }
+            TinyVec::Inline(_, _) => self.leave_array(n),
             TinyVec::Heap(v) => grow_heap(v, n),
         }
     }
@@ -63,7 +59,8 @@ impl<A: Array> TinyVec<A> {
     // Moves an inline list to the heap, with room for `n` items more.
     fn leave_array(&mut self, n: usize) -> Result<(), AllocError>
         requires { IsInline self.old }
-        ensures { MovesToHeapWithRoom A.CAPACITY n self.old self.new result }
+        ensures moves { MovesToHeapWithRoom A.CAPACITY n self.old self.new result }
+        ensures kept { IsInline self.new → self.new ≡ self.old }
     {
         if let TinyVec::Inline(v, alloc) = self {
             let heap = v.drain_to_vec_and_reserve(*alloc, n)?;

@@ -2,7 +2,7 @@
 ghost use Rattle.std.specs.Prelude.{◌≡◌, ◌≤◌, ◌++◌, ℕ, All, min, false, length, take, IfOk, OnOk, OnErr, IsOk};
 ghost use Rattle.std.specs.List.{AllZip};
 ghost use Rattle.tinyvec_slots.specs.Clones.{RefusedAt, ClonesAreEqual, ClonesOver, ClonesInPart};
-ghost use Rattle.tinyvec.specs.TinyVec.{tiny_items, tiny_len, tiny_spare, is_inline, tiny_capacity, IsInline, PlaceRule, TinySlotRule, SameFrame, IsTinyClone, IsTinyInfallible};
+ghost use Rattle.tinyvec.specs.TinyVec.{tiny_items, tiny_len, tiny_spare, is_inline, tiny_capacity, IsInline, SameFrame, IsTinyClone, IsTinyInfallible};
 ghost use Rattle.tinyvec.specs.Refused.{RefusedFor};
 ghost use Rattle.tinyvec.specs.Room.{GrowsFor, RoomGrows};
 
@@ -19,13 +19,10 @@ impl<A: Array> TinyVec<A> {
     pub fn clone(&self) -> Result<Self, AllocError>
     where
         A::Item: Clone,
-        ensures items { IfOk result (λ v. AllZip A.Item.is_clone (tiny_items self.now) (tiny_items v)) }
-        ensures spare { IfOk result (λ v. AllZip A.Item.is_clone (tiny_spare self.now) (tiny_spare v)) }
+        ensures copied { IfOk result (IsTinyClone A.Item.is_clone A.CAPACITY self.now) }
         ensures len { IfOk result (λ v. tiny_len v ≡ tiny_len self.now) }
         ensures if_clones_equal { IfOk result (λ v. ClonesAreEqual A.Item.is_clone
             → (tiny_items v ≡ tiny_items self.now) × (tiny_spare v ≡ tiny_spare self.now)) }
-        ensures place { IfOk result (λ v. is_inline v ≡ is_inline self.now) }
-        ensures room { IfOk result (λ v. is_inline v ≡ false → tiny_capacity A.CAPACITY v ≡ tiny_len self.now) }
         ensures refused { OnErr result (IsInline self.now
             → (j : ℕ) × RefusedAt A.Item.is_infallible (tiny_items self.now ++ tiny_spare self.now) j) }
         ensures succeeds { IsInline self.now
@@ -66,9 +63,7 @@ impl<A: Array> TinyVec<A> {
         ensures len { OnOk result (tiny_len self.new ≡ tiny_len source.now) }
         ensures if_clones_equal { OnOk result (ClonesAreEqual A.Item.is_clone
             → tiny_items self.new ≡ tiny_items source.now) }
-        ensures place { OnOk result (PlaceRule A.CAPACITY (tiny_len source.now) self.old self.new) }
-        ensures slot_rule { OnOk result (TinySlotRule A.Item.is_default self.old self.new) }
-        ensures room { RoomGrows GrowsFor A.CAPACITY (tiny_len source.now) self.old self.new result }
+        ensures room { RoomGrows GrowsFor A.Item.is_default A.CAPACITY (tiny_len source.now) self.old self.new result }
 
         // If there is room only clones allocate.
         ensures succeeds { tiny_len source.now ≤ tiny_capacity A.CAPACITY self.old
@@ -100,7 +95,7 @@ where
 
     ghost is_infallible = { IsTinyInfallible A.Item.is_infallible };
 
-    /// A vector of clones, in the same place.
+    /// Clones the vector, spare slots too. The clone is in the same place.
     fn clone(&self) -> Result<Self, AllocError> {
         self.clone()
     }

@@ -1,7 +1,7 @@
 //! Items that are pushed, popped, inserted, removed and cut off.
 ghost use Rattle.std.specs.Prelude.{◌≡◌, ◌+◌, ◌-◌, ◌<◌, ◌↔◌, [], ◌∷◌, ◌++◌, take, drop, slice_get, IsSome, IfSome, IsOk, OnOk, OnErr, IfErr, ◌≤◌, if◌then◌else◌, is_ok, false, insert, remove, slice_index_or, vec_len, vec_capacity, IfOk, OnSome, IfNone};
-ghost use Rattle.tinyvec.specs.TinyVec.{tiny_items, tiny_len, tiny_spare, tiny_capacity, PlaceRule, TinySlotRule, StaysInPlace, Unchanged, is_inline, IsInline};
-ghost use Rattle.tinyvec.specs.Room.{Doubles, RoomGrows};
+ghost use Rattle.tinyvec.specs.TinyVec.{tiny_items, tiny_len, tiny_spare, tiny_capacity, StaysInPlace, Unchanged, is_inline, IsInline};
+ghost use Rattle.tinyvec.specs.Room.{Doubles, MakesRoom};
 ghost use Rattle.std.specs.List.{swap_remove};
 ghost use Rattle.tinyvec_slots.specs.Slots.{AreDefaults};
 
@@ -30,15 +30,9 @@ impl<A: Array> TinyVec<A> {
         ensures items { tiny_items self.new
             ≡ (if is_ok result then tiny_items self.old ++ value ∷ [] else tiny_items self.old) }
         ensures len { tiny_len self.new ≡ (if is_ok result then tiny_len self.old + 1 else tiny_len self.old) }
-        ensures place { OnOk result (PlaceRule A.CAPACITY (tiny_len self.old + 1) self.old self.new) }
-        ensures slot_rule { TinySlotRule A.Item.is_default self.old self.new }
-        ensures room { RoomGrows Doubles A.CAPACITY (tiny_len self.old + 1) self.old self.new result }
-
-        // If there is room it allocates nothing.
-        ensures succeeds { tiny_len self.old < tiny_capacity A.CAPACITY self.old → IsOk result }
+        ensures room { MakesRoom Doubles A.Item.is_default A.CAPACITY (tiny_len self.old + 1) self.old self.new result }
         ensures succeeds_inline { IsInline self.old → tiny_len self.old < A.CAPACITY → IsOk result }
         ensures full { OnErr result (tiny_len self.old ≡ tiny_capacity A.CAPACITY self.old) }
-        ensures refused { OnErr result (Unchanged self.old self.new) }
         ensures value_returned { IfErr result (λ refused. refused.0 ≡ value) }
     {
         // One test of the variant; growing is kept out of the usual path.
@@ -55,7 +49,7 @@ impl<A: Array> TinyVec<A> {
         Ok(())
     }
 
-    /// Removes the last item and returns it. Inline, its slot is reset to a default.
+    /// Removes the last item and returns it. Its slot is reset to a default if the list is inline.
     pub fn pop(&mut self) -> Option<A::Item>
         ensures variant { IsSome result ↔ (0 < tiny_len self.old) }
         ensures some { IfSome result (λ x. tiny_items self.old ≡ tiny_items self.new ++ x ∷ []) }
@@ -93,15 +87,9 @@ impl<A: Array> TinyVec<A> {
         ensures items { tiny_items self.new
             ≡ (if is_ok result then insert (tiny_items self.old) index element else tiny_items self.old) }
         ensures len { tiny_len self.new ≡ (if is_ok result then tiny_len self.old + 1 else tiny_len self.old) }
-        ensures place { OnOk result (PlaceRule A.CAPACITY (tiny_len self.old + 1) self.old self.new) }
-        ensures slot_rule { TinySlotRule A.Item.is_default self.old self.new }
-        ensures room { RoomGrows Doubles A.CAPACITY (tiny_len self.old + 1) self.old self.new result }
-
-        // If there is room it allocates nothing.
-        ensures succeeds { tiny_len self.old < tiny_capacity A.CAPACITY self.old → IsOk result }
+        ensures room { MakesRoom Doubles A.Item.is_default A.CAPACITY (tiny_len self.old + 1) self.old self.new result }
         ensures succeeds_inline { IsInline self.old → tiny_len self.old < A.CAPACITY → IsOk result }
         ensures full { OnErr result (tiny_len self.old ≡ tiny_capacity A.CAPACITY self.old) }
-        ensures refused { OnErr result (Unchanged self.old self.new) }
         ensures value_returned { IfErr result (λ refused. refused.0 ≡ element) }
     {
         match self {
@@ -147,7 +135,8 @@ impl<A: Array> TinyVec<A> {
         }
     }
 
-    /// Keeps the first `new_len` items, or all if there are no more. Inline, each vacated slot is reset to a default.
+    /// Keeps the first `new_len` items, or all if there are no more. Each vacated slot is reset to a default if the list
+    /// is inline.
     #[inline(always)]
     pub fn truncate(&mut self, new_len: usize)
         ensures items { tiny_items self.new ≡ take new_len (tiny_items self.old) }
@@ -159,7 +148,7 @@ impl<A: Array> TinyVec<A> {
         }
     }
 
-    /// Empties the list. Inline, each vacated slot is reset to a default.
+    /// Empties the list. Each vacated slot is reset to a default if the list is inline.
     pub fn clear(&mut self)
         ensures items { tiny_items self.new ≡ [] }
         ensures frame { StaysInPlace A.Item.is_default A.CAPACITY self.old self.new }
@@ -177,8 +166,8 @@ impl<A: Array> TinyVec<A> {
         }
     }
 
-    /// Splits the list at `at` and returns the items from `at` on, in the same place. An inline list allocates nothing; one
-    /// on the heap allocates room for those items.
+    /// Splits the list at `at` and returns the items from `at` on. The result is in the same place. An inline list
+    /// allocates nothing; one on the heap allocates room for those items.
     pub fn split_off(&mut self, at: usize) -> Result<Self, AllocError>
         requires { at ≤ tiny_len self.old }
         ensures items { OnOk result (tiny_items self.new ≡ take at (tiny_items self.old)) }

@@ -2,9 +2,9 @@
 ghost use Rattle.std.specs.Prelude.{◌≡◌, ◌+◌, ◌≤◌, ◌++◌, ℕ, All, length, take, drop, IsOk, OnOk, OnErr, if◌then◌else◌, is_ok, ◌<◌, [], ◌-◌, ◌*◌, ◌↔◌, ◌∷◌, List, Some, MatchResult, IfOk, IfErr, vec_len, vec_capacity, max, replicate};
 ghost use Rattle.std.specs.List.{AppendsClones, AppendsResults};
 ghost use Rattle.tinyvec_slots.specs.Clones.{RefusedAt, ClonesAreEqual};
-ghost use Rattle.tinyvec.specs.TinyVec.{tiny_items, tiny_len, tiny_spare, is_inline, tiny_capacity, PlaceRule, TinySlotRule, IsInline, StaysInPlace, Unchanged};
+ghost use Rattle.tinyvec.specs.TinyVec.{tiny_items, tiny_len, tiny_spare, is_inline, tiny_capacity, TinySlotRule, IsInline, StaysInPlace};
 ghost use Rattle.tinyvec.specs.Refused.{RefusedFor, ClonesBehind};
-ghost use Rattle.tinyvec.specs.Room.{GrowsFor, RoomGrows, Grows};
+ghost use Rattle.tinyvec.specs.Room.{GrowsFor, RoomGrows, MakesRoom, Grows};
 ghost use Rattle.tinyvec_slots.specs.Slots.{AreDefaults, items, spare, items_len};
 ghost use Rattle.std.specs.Iterator.{IsFinite, Drains, YieldsThen};
 ghost use Rattle.tinyvec_slots.specs.Filling.{ShowsItems, IntoIterYields};
@@ -53,9 +53,7 @@ impl<A: Array> TinyVec<A> {
             ≡ (if is_ok result then tiny_len self.old + length other.now else tiny_len self.old) }
         ensures if_clones_equal { ClonesAreEqual A.Item.is_clone → tiny_items self.new
             ≡ (if is_ok result then tiny_items self.old ++ other.now else tiny_items self.old) }
-        ensures place { OnOk result (PlaceRule A.CAPACITY (tiny_len self.old + length other.now) self.old self.new) }
-        ensures slot_rule { OnOk result (TinySlotRule A.Item.is_default self.old self.new) }
-        ensures room { RoomGrows GrowsFor A.CAPACITY (tiny_len self.old + length other.now) self.old self.new result }
+        ensures room { RoomGrows GrowsFor A.Item.is_default A.CAPACITY (tiny_len self.old + length other.now) self.old self.new result }
 
         // If there is room only clones allocate.
         ensures succeeds { tiny_len self.old + length other.now ≤ tiny_capacity A.CAPACITY self.old
@@ -89,9 +87,7 @@ impl<A: Array> TinyVec<A> {
         requires room { tiny_len self.old + length other.now ≤ tiny_capacity A.CAPACITY self.old }
         ensures items { tiny_items self.new ≡ tiny_items self.old ++ other.now }
         ensures spare { tiny_spare self.new ≡ drop (length other.now) (tiny_spare self.old) }
-        ensures place { is_inline self.new ≡ is_inline self.old }
-        ensures capacity { tiny_capacity A.CAPACITY self.new ≡ tiny_capacity A.CAPACITY self.old }
-        ensures fits { tiny_len self.new ≤ tiny_capacity A.CAPACITY self.new }
+        ensures frame { StaysInPlace A.Item.is_default A.CAPACITY self.old self.new }
     {
         match self {
             TinyVec::Inline(v, _) => v.extend_from_slice_copy(other),
@@ -109,14 +105,7 @@ impl<A: Array> TinyVec<A> {
             ≡ (if is_ok result then tiny_items self.old ++ other.now else tiny_items self.old) }
         ensures len { tiny_len self.new
             ≡ (if is_ok result then tiny_len self.old + length other.now else tiny_len self.old) }
-        ensures place { OnOk result (PlaceRule A.CAPACITY (tiny_len self.old + length other.now) self.old self.new) }
-        ensures slot_rule { TinySlotRule A.Item.is_default self.old self.new }
-        ensures room { RoomGrows GrowsFor A.CAPACITY (tiny_len self.old + length other.now) self.old self.new result }
-
-        // If there is room it allocates nothing.
-        ensures succeeds { tiny_len self.old + length other.now ≤ tiny_capacity A.CAPACITY self.old → IsOk result }
-        ensures full { OnErr result (tiny_capacity A.CAPACITY self.old < tiny_len self.old + length other.now) }
-        ensures refused { OnErr result (Unchanged self.old self.new) }
+        ensures room { MakesRoom GrowsFor A.Item.is_default A.CAPACITY (tiny_len self.old + length other.now) self.old self.new result }
     {
         self.reserve(other.len())?;
         self.copy_reserved(other);
@@ -128,9 +117,7 @@ impl<A: Array> TinyVec<A> {
         requires { tiny_len self.old + length from.old ≤ tiny_capacity A.CAPACITY self.old }
         ensures items { tiny_items self.new ≡ tiny_items self.old ++ from.old }
         ensures spare { tiny_spare self.new ≡ drop (length from.old) (tiny_spare self.old) }
-        ensures place { is_inline self.new ≡ is_inline self.old }
-        ensures capacity { tiny_capacity A.CAPACITY self.new ≡ tiny_capacity A.CAPACITY self.old }
-        ensures fits { tiny_len self.new ≤ tiny_capacity A.CAPACITY self.new }
+        ensures frame { StaysInPlace A.Item.is_default A.CAPACITY self.old self.new }
         ensures left { AreDefaults A.Item.is_default (length from.old) from.new }
     {
         for i in 0..from.len() {
@@ -143,9 +130,7 @@ impl<A: Array> TinyVec<A> {
         requires { tiny_len self.old + tiny_len other.old ≤ tiny_capacity A.CAPACITY self.old }
         ensures items { tiny_items self.new ≡ tiny_items self.old ++ tiny_items other.old }
         ensures spare { tiny_spare self.new ≡ drop (tiny_len other.old) (tiny_spare self.old) }
-        ensures place { is_inline self.new ≡ is_inline self.old }
-        ensures capacity { tiny_capacity A.CAPACITY self.new ≡ tiny_capacity A.CAPACITY self.old }
-        ensures fits { tiny_len self.new ≤ tiny_capacity A.CAPACITY self.new }
+        ensures frame { StaysInPlace A.Item.is_default A.CAPACITY self.old self.new }
         ensures other_items { tiny_items other.new ≡ [] }
         ensures other_frame { StaysInPlace A.Item.is_default A.CAPACITY other.old other.new }
     {
@@ -153,21 +138,15 @@ impl<A: Array> TinyVec<A> {
         other.clear();
     }
 
-    /// Moves the items of `other` to the end, and leaves `other` empty, in its place. Room for all is allocated once, before
-    /// any is moved.
+    /// Moves the items of `other` to the end, and leaves `other` empty. Each item moves once. `other` stays in its place.
+    /// Room for all is allocated once, before any is moved.
     pub fn append(&mut self, other: &mut Self) -> Result<(), AllocError>
         ensures items { OnOk result (tiny_items self.new ≡ tiny_items self.old ++ tiny_items other.old) }
-        ensures place { OnOk result (PlaceRule A.CAPACITY (tiny_len self.old + tiny_len other.old) self.old self.new) }
-        ensures slot_rule { TinySlotRule A.Item.is_default self.old self.new }
-        ensures room { RoomGrows GrowsFor A.CAPACITY (tiny_len self.old + tiny_len other.old)
+        ensures room { MakesRoom GrowsFor A.Item.is_default A.CAPACITY (tiny_len self.old + tiny_len other.old)
             self.old self.new result }
         ensures other_items { OnOk result (tiny_items other.new ≡ []) }
         ensures other_frame { StaysInPlace A.Item.is_default A.CAPACITY other.old other.new }
-
-        // If there is room it allocates nothing.
-        ensures succeeds { tiny_len self.old + tiny_len other.old ≤ tiny_capacity A.CAPACITY self.old → IsOk result }
-        ensures full { OnErr result (tiny_capacity A.CAPACITY self.old < tiny_len self.old + tiny_len other.old) }
-        ensures refused { OnErr result (Unchanged self.old self.new × (other.new ≡ other.old)) }
+        ensures other_kept { OnErr result (other.new ≡ other.old) }
     {
         self.reserve(other.len())?;
         self.append_reserved(other);
@@ -257,8 +236,8 @@ impl<A: Array> TinyVec<A> {
         }
     }
 
-    /// Makes a vector of the items, inline while they fit the array. A full list grows as by `push`. If the allocator
-    /// refuses, returns the vector so far, the item that found no room and the rest of the iterator.
+    /// Makes a vector of the items. It is inline while they fit the array. A full list grows as by `push`. If the
+    /// allocator refuses, returns the vector so far, the item that found no room and the rest of the iterator.
     pub fn from_iter<I: IntoIterator<Item = A::Item>>(
         alloc: Global,
         iter: I,
@@ -301,8 +280,8 @@ impl<A: Array> TinyVec<A> {
         }
     }
 
-    /// Truncates the list to `new_len` items, or fills it up with clones of `value`. Room for all of them is allocated once,
-    /// before any is cloned. On failure `value` is returned.
+    /// Truncates the list to `new_len` items, or fills it up with clones of `value`. On failure `value` is returned. Room
+    /// for all is allocated once, before any is cloned.
     pub fn resize(&mut self, new_len: usize, value: A::Item) -> Result<(), NoMemory<A::Item>>
     where
         A::Item: Clone,
@@ -311,9 +290,7 @@ impl<A: Array> TinyVec<A> {
         ensures len { OnOk result (tiny_len self.new ≡ new_len) }
         ensures if_clones_equal { OnOk result (ClonesAreEqual A.Item.is_clone
             → tiny_items self.new ≡ take new_len (tiny_items self.old) ++ replicate (new_len - tiny_len self.old) value) }
-        ensures place { OnOk result (PlaceRule A.CAPACITY (max new_len (tiny_len self.old)) self.old self.new) }
-        ensures slot_rule { OnOk result (TinySlotRule A.Item.is_default self.old self.new) }
-        ensures room { RoomGrows GrowsFor A.CAPACITY new_len self.old self.new result }
+        ensures room { RoomGrows GrowsFor A.Item.is_default A.CAPACITY new_len self.old self.new result }
 
         // If there is room only clones allocate.
         ensures cuts { new_len ≤ tiny_len self.old → IsOk result }
@@ -370,8 +347,8 @@ impl<A: Array> TinyVec<A> {
         }
     }
 
-    /// Truncates the list to `new_len` items, or fills it up with what `f` returns. `f` is called only for these. Room for
-    /// all of them is allocated once, before the first call.
+    /// Truncates the list to `new_len` items, or fills it up with what `f` returns. Calls `f` once for each missing item.
+    /// Room for all is allocated once, before the first call.
     pub fn resize_with<F: FnMut() -> A::Item>(
         &mut self,
         new_len: usize,
@@ -380,14 +357,7 @@ impl<A: Array> TinyVec<A> {
         requires { F.IsAlwaysCallable f }
         ensures items { OnOk result (AppendsResults F.step (take new_len (tiny_items self.old)) (tiny_items self.new) f) }
         ensures len { OnOk result (tiny_len self.new ≡ new_len) }
-        ensures place { OnOk result (PlaceRule A.CAPACITY (max new_len (tiny_len self.old)) self.old self.new) }
-        ensures slot_rule { TinySlotRule A.Item.is_default self.old self.new }
-        ensures room { RoomGrows GrowsFor A.CAPACITY new_len self.old self.new result }
-
-        // If there is room it allocates nothing.
-        ensures succeeds { new_len ≤ tiny_capacity A.CAPACITY self.old → IsOk result }
-        ensures full { OnErr result (tiny_capacity A.CAPACITY self.old < new_len) }
-        ensures refused { OnErr result (Unchanged self.old self.new) }
+        ensures room { MakesRoom GrowsFor A.Item.is_default A.CAPACITY new_len self.old self.new result }
     {
         let len = self.len();
         if new_len > len {
@@ -407,9 +377,7 @@ impl<A: Array> TinyVec<A> {
         ensures items { AppendsResults F.step (tiny_items self.old) (tiny_items self.new) f.old }
         ensures len { tiny_len self.new ≡ n }
         ensures spare { tiny_spare self.new ≡ drop (n - tiny_len self.old) (tiny_spare self.old) }
-        ensures place { is_inline self.new ≡ is_inline self.old }
-        ensures capacity { tiny_capacity A.CAPACITY self.new ≡ tiny_capacity A.CAPACITY self.old }
-        ensures fits { tiny_len self.new ≤ tiny_capacity A.CAPACITY self.new }
+        ensures frame { StaysInPlace A.Item.is_default A.CAPACITY self.old self.new }
     {
         while self.len() < n {
             self.push_reserved(f());

@@ -1,7 +1,7 @@
 //! Comparisons, hashes, texts, writers, indexing and iteration.
-ghost use Rattle.std.specs.Prelude.{◌≡◌, ◌<◌, slice_index_or, ◌^◌, List, length, true, false, ◌+◌, ◌++◌, ◌≤◌, Some, IfOk, IfErr, IsOk, OnOk, OnErr};
+ghost use Rattle.std.specs.Prelude.{◌≡◌, ◌<◌, slice_index_or, ◌^◌, List, length, true, false, ◌+◌, ◌++◌, ◌≤◌, Some, IfOk, IfErr, IsOk, OnErr};
 ghost use Rattle.std.specs.Borrow.{sem};
-ghost use Rattle.tinyvec.specs.TinyVec.{tiny_items, tiny_len, tiny_capacity, PlaceRule, TinySlotRule, Unchanged};
+ghost use Rattle.tinyvec.specs.TinyVec.{tiny_items, tiny_len, tiny_capacity, Unchanged};
 ghost use Rattle.std.specs.Slice.Iter.{iter_rest, iter_mut_rest, iter_steps, iter_mut_steps};
 ghost use Rattle.std.specs.Iterator.Runs.{EveryRun, ItemsMapTo, YieldsInOrder, YieldsInReverse};
 ghost use Rattle.tinyvec_array.specs.IntoIter.{GivesFirst, GivesLast, GivesFromEnds, IteratesOver};
@@ -27,7 +27,7 @@ use std::ops::{DerefSlice, DerefSliceMut, Index, IndexMut};
 use std::{fmt, io, slice};
 use tinyvec_array::Array;
 use tinyvec_slots::{
-    InBinary, InHex, InOctal, InUpperHex, Plain, cmp_slices, eq_slices, hash_items,
+    InBinary, InHex, InOctal, InUpperHex, Plain, cmp_slices, eq_slices, hash_items, into_items,
     partial_cmp_slices, write_items,
 };
 
@@ -129,7 +129,7 @@ impl<A: Array> IntoIterator for TinyVec<A> {
         ensures both_ends { GivesFromEnds result }
         ensures into_iter_gives { IteratesOver (tiny_items self) result }
     {
-        TinyVecIterator::over(self)
+        into_items(self)
     }
 }
 
@@ -302,10 +302,8 @@ impl<A: Array<Item = u8>> io::Write for TinyVec<A> {
         ensures bound { WritesAtMost result buf.now }
         ensures bytes { WriteAppends (Some (tiny_items self.old)) (Some (tiny_items self.new)) result buf.now }
         ensures count { IfOk result (λ n. n ≡ length buf.now) }
-        ensures place { OnOk result (PlaceRule A.CAPACITY (tiny_len self.old + length buf.now) self.old self.new) }
-        ensures slot_rule { OnOk result (TinySlotRule ⟦<u8 as Default>⟧.is_default self.old self.new) }
         ensures succeeds { tiny_len self.old + length buf.now ≤ tiny_capacity A.CAPACITY self.old → IsOk result }
-        ensures room { RoomGrows GrowsFor A.CAPACITY (tiny_len self.old + length buf.now) self.old self.new result }
+        ensures room { RoomGrows GrowsFor ⟦<u8 as Default>⟧.is_default A.CAPACITY (tiny_len self.old + length buf.now) self.old self.new result }
         ensures refused { OnErr result (Unchanged self.old self.new) }
         ensures kind { IfErr result (λ e. error_kind e ≡ OutOfMemory) }
     {

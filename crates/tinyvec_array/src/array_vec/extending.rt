@@ -215,7 +215,8 @@ impl<A: Array> ArrayVec<A> {
         }
     }
 
-    /// Truncates the list to `new_len` items, or fills it up with clones of `value`. Only clones allocate.
+    /// Truncates the list to `new_len` items, or fills it up with clones of `value`. On failure `value` is returned. Only
+    /// clones allocate.
     pub fn resize(&mut self, new_len: usize, value: A::Item) -> Result<(), NoMemory<A::Item>>
     where
         A::Item: Clone,

@@ -8,8 +8,7 @@ ghost use Rattle.tinyvec_slots.specs.Slots.{items, items_len, Shortens};
 use crate::{Array, ArrayVec};
 
 impl<A: Array> ArrayVec<A> {
-    /// Calls `f` on each item in turn, and keeps those for which it returns `true`. A kept item is moved by at most one
-    /// swap; items of up to 16 bytes are all moved, with no branch.
+    /// Calls `f` on each item in turn, and keeps those for which it returns `true`. A kept item is moved at most once.
     pub fn retain<F: FnMut(&A::Item) -> bool>(&mut self, mut f: F)
         requires { F.IsAlwaysCallable f }
         ensures filtered { IsFiltered (CalledAt F.FnMut) f (items self.old) (items self.new) }
@@ -19,8 +18,8 @@ impl<A: Array> ArrayVec<A> {
         tinyvec_slots::retain(self, &mut f);
     }
 
-    /// Calls `f` on each item in turn, and keeps those for which it returns `true`, as it left them. A kept item is
-    /// moved by at most one swap; items of up to 16 bytes are all moved, with no branch.
+    /// Calls `f` on each item in turn, and keeps those for which it returns `true`, as it left them. A kept item is moved
+    /// at most once.
     pub fn retain_mut<F: FnMut(&mut A::Item) -> bool>(&mut self, mut f: F)
         requires { F.IsAlwaysCallable f }
         ensures filtered { RetainsInTurn (CalledAtMut F.FnMut) f (items self.old) (items self.new) }
@@ -30,7 +29,7 @@ impl<A: Array> ArrayVec<A> {
         tinyvec_slots::retain_mut(self, &mut f);
     }
 
-    /// Removes each item that equals the last one kept. A kept item is moved by at most one swap.
+    /// Removes each item that equals the last one kept. A kept item is moved at most once.
     pub fn dedup(&mut self)
     where
         A::Item: PartialEq,
@@ -41,8 +40,8 @@ impl<A: Array> ArrayVec<A> {
         self.dedup_by(|current, last| *current == *last);
     }
 
-    /// Calls `same` on each item after the first and the last one kept, in this order, and removes the item if it
-    /// returns `true`. A kept item is moved by at most one swap.
+    /// Calls `same` on each item after the first and the last one kept, in this order, and removes the item if it returns
+    /// `true`. A kept item is moved at most once.
     pub fn dedup_by<F: FnMut(&mut A::Item, &mut A::Item) -> bool>(&mut self, mut same: F)
         requires { F.IsAlwaysCallable same }
         ensures filtered { IsDeduped (CalledAtPairMut F.FnMut) same (items self.old) (items self.new) }
@@ -52,8 +51,8 @@ impl<A: Array> ArrayVec<A> {
         tinyvec_slots::dedup_by(self, &mut same);
     }
 
-    /// Removes each item whose key equals that of the last one kept. The item's own key is computed first. A kept item
-    /// is moved by at most one swap.
+    /// Removes each item whose key equals that of the last one kept. The item's own key is computed first. A kept item is
+    /// moved at most once.
     pub fn dedup_by_key<K: PartialEq + Drop, F: FnMut(&mut A::Item) -> K>(&mut self, mut key: F)
         requires { F.IsAlwaysCallable key }
         ensures filtered { IsDeduped (ComparesKeys F.FnMut K.eq) key (items self.old) (items self.new) }
@@ -63,8 +62,8 @@ impl<A: Array> ArrayVec<A> {
         tinyvec_slots::dedup_by_key(self, &mut key);
     }
 
-    /// Calls `predicate` on the last item, and takes the item if it returns `true`. Otherwise the item stays, as `predicate`
-    /// left it. Calls nothing if the list is empty.
+    /// Calls `predicate` on the last item, and removes and returns the item if it returns `true`. Otherwise the item
+    /// stays, as `predicate` left it. Calls nothing if the list is empty.
     pub fn pop_if<F: FnOnce(&mut A::Item) -> bool>(&mut self, predicate: F) -> Option<A::Item>
         requires { (x : A.Item) → slice_get (items self.old) (items_len self.old - 1) ≡ Some x
             → FnOnceTakesAtMut F.FnOnce predicate x }

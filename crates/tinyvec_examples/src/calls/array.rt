@@ -20,7 +20,7 @@ pub fn too_long() -> bool
     ArrayVec::try_from_array_len([7, 8], 3).is_err()
 }
 
-/// Numbers of a slice, which fails exactly where they do not fit.
+/// Numbers of a slice, which fails exactly if they do not fit.
 pub fn of_slice(numbers: &[u32]) -> Result<ArrayVec<[u32; 4]>, TryFromSliceError>
     ensures items { IfOk result (λ v. items v ≡ numbers.now) }
     ensures fits { IsOk result ↔ (length numbers.now ≤ 4) }
@@ -90,7 +90,7 @@ pub fn put_first<A: Array>(v: &mut ArrayVec<A>, x: A::Item) -> Option<A::Item>
     v.try_insert(0, x)
 }
 
-/// Both lists in the first vector where they fit there, else each as it was.
+/// Both lists in the first vector if they fit there, else each as it was.
 pub fn joined<A: Array>(v: &mut ArrayVec<A>, other: &mut ArrayVec<A>) -> bool
     ensures joined { IsTrue result → items v.new ≡ items v.old ++ items other.old }
     ensures fits { IsTrue result ↔ (items_len v.old + items_len other.old ≤ A.CAPACITY) }
@@ -348,7 +348,7 @@ pub fn repeated() -> ArrayVec<[i32; 6]>
     }
 }
 
-/// Numbers appended where all of them fit. Else nothing changes.
+/// Numbers appended if all of them fit. Else nothing changes.
 pub fn append_all(v: &mut ArrayVec<[u32; 4]>, numbers: &[u32]) -> Result<(), TryFromSliceError>
     ensures fits { IsOk result ↔ (items_len v.old + length numbers.now ≤ 4) }
     ensures items { items v.new ≡ (if is_ok result then items v.old ++ numbers.now else items v.old) }

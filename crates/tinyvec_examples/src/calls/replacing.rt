@@ -8,7 +8,7 @@ use std::iter::{Copied, Fuse};
 use std::slice;
 use tinyvec::{Array, ArrayVec, CapacityError, SpliceRest, TinyVec};
 
-/// A word in the place of the first two bytes, where there is room for it.
+/// A word in the place of the first two bytes, if there is room for it.
 pub fn spelled(v: &mut ArrayVec<[u8; 16]>, word: &[u8]) -> Result<(), CapacityError>
     requires { 2 ≤ items_len v.old }
     ensures items { OnOk result (items v.new ≡ word.now ++ drop 2 (items v.old)) }
@@ -17,7 +17,7 @@ pub fn spelled(v: &mut ArrayVec<[u8; 16]>, word: &[u8]) -> Result<(), CapacityEr
     v.replace_range(..2, word)
 }
 
-/// A word at a place of a list. Where memory is refused, nothing changes.
+/// A word at a place of a list. If memory is refused, nothing changes.
 pub fn word_put_in(v: &mut TinyVec<[u8; 16]>, at: usize, word: &[u8]) -> Result<(), AllocError>
     requires { at ≤ tiny_len v.old }
     ensures items { OnOk result (tiny_items v.new ≡ take at (tiny_items v.old) ++ word.now ++ drop at (tiny_items v.old)) }

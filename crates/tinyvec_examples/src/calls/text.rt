@@ -2,6 +2,7 @@
 ghost use Rattle.std.specs.Prelude.{◌≡◌, ◌+◌, ◌≤◌, ◌++◌, ◌∷◌, [], ◌↔◌, length, drop, IsTrue, IfOk, IsOk, IfErr, OnOk, IsUtf8, encode_utf8};
 ghost use Rattle.std.specs.String.{string_bytes};
 ghost use Rattle.tinyvec.specs.TinyVec.{tiny_items};
+ghost use Rattle.tinyvec.specs.View.{lies_inline, capacity_in};
 ghost use Rattle.tinyvec_text.specs.InlineText.{text_chars, text_len, IsBoundary};
 
 use std::alloc::{AllocError, Global};
@@ -13,7 +14,7 @@ use tinyvec_text::{FromUtf8Error, InlineText};
 /// No characters, in the value.
 pub fn empty(alloc: Global) -> InlineText<8>
     ensures text { text_chars result ≡ [] }
-    ensures place { IsTrue result.inline }
+    ensures place { IsTrue (lies_inline result.place) }
 {
     InlineText::new(alloc)
 }
@@ -25,7 +26,7 @@ pub fn room(text: &InlineText<8>) -> usize {
 
 /// Whether the text is in the value.
 pub fn is_in_value(text: &InlineText<8>) -> bool
-    ensures { result ≡ text.now.inline }
+    ensures { result ≡ lies_inline text.now.place }
 {
     text.is_inline()
 }
@@ -49,7 +50,7 @@ pub fn starts_with(text: &InlineText<8>, front: &str) -> bool {
     text.as_str().starts_with(front)
 }
 
-/// The text up to the byte `at`, where a character ends there.
+/// The text up to the byte `at`, if a character ends there.
 pub fn cut_if_whole(text: &mut InlineText<8>, at: usize) -> bool
     ensures { IsTrue result → length text.new.bytes ≡ at }
 {
@@ -83,22 +84,22 @@ pub fn with_room(text: &mut InlineText<8>) -> Result<(), AllocError>
     text.reserve(20)
 }
 
-/// The same text once more, in the value where this one is.
+/// The same text once more, in the value if this one is.
 pub fn twice(text: &InlineText<8>) -> Result<InlineText<8>, AllocError>
     ensures text { IfOk result (λ t. text_chars t ≡ text_chars text.now) }
-    ensures succeeds { IsTrue text.now.inline → IsOk result }
+    ensures succeeds { IsTrue (lies_inline text.now.place) → IsOk result }
 {
     text.clone()
 }
 
 /// No characters, and room for a line of a terminal, so that as many bytes take no further memory.
 pub fn line(alloc: Global) -> Result<InlineText<8>, AllocError>
-    ensures { IfOk result (λ text. (text.bytes ≡ []) × (text.room ≡ 80)) }
+    ensures { IfOk result (λ text. (text.bytes ≡ []) × (capacity_in 8 text.place ≡ 80)) }
 {
     InlineText::with_capacity(alloc, 80)
 }
 
-/// The text of bytes from outside, or the bytes again where they are no UTF-8.
+/// The text of bytes from outside, or the bytes again if they are no UTF-8.
 pub fn from_outside(bytes: TinyVec<[u8; 8]>) -> Result<InlineText<8>, FromUtf8Error<8>>
     ensures text { IfOk result (λ text. text.bytes ≡ tiny_items bytes) }
     ensures kept { IfErr result (λ refused. refused.bytes ≡ bytes) }
@@ -142,7 +143,7 @@ pub fn initials(alloc: Global, first: char, last: char) -> InlineText<8>
 
 /// A separator after the text, for which the caller has reserved room.
 pub fn separated(text: &mut InlineText<8>, separator: &str)
-    requires { text_len text.old + length separator.now ≤ text.old.room }
+    requires { text_len text.old + length separator.now ≤ capacity_in 8 text.old.place }
     ensures { text.new.bytes ≡ text.old.bytes ++ separator.now }
 {
     text.push_str_reserved(separator);
@@ -175,7 +176,7 @@ pub fn without_blanks(text: &mut InlineText<8>) {
     text.retain(|c| c != ' ');
 }
 
-/// The first `n` bytes replaced, where a character ends there.
+/// The first `n` bytes replaced, if a character ends there.
 pub fn with_front(text: &mut InlineText<8>, n: usize, front: &str) -> Result<bool, AllocError>
     ensures { IfOk result (λ done. IsTrue done → text.new.bytes ≡ front.now ++ drop n text.old.bytes) }
 {
@@ -194,9 +195,9 @@ pub fn cut_off(text: &mut InlineText<8>, at: usize) -> Result<InlineText<8>, All
     text.split_off(at)
 }
 
-/// The text in the value again, where it fits there.
+/// The text in the value again, if it fits there.
 pub fn packed(text: &mut InlineText<8>)
-    ensures { IsTrue text.new.inline ↔ (text_len text.old ≤ 8) }
+    ensures { IsTrue (lies_inline text.new.place) ↔ (text_len text.old ≤ 8) }
 {
     text.shrink_to_fit();
 }
@@ -211,7 +212,7 @@ pub fn add_words(text: &mut InlineText<8>, words: &[&str]) -> Result<(), AllocEr
     text.extend(words.iter().copied())
 }
 
-/// The characters of a `str`, in the value where they fit.
+/// The characters of a `str`, in the value if they fit.
 pub fn gathered(alloc: Global, s: &str) -> Result<InlineText<8>, AllocError> {
     s.chars().collect(alloc)
 }

@@ -48,7 +48,7 @@ pub fn counted(alloc: Global, end: u8) -> TinyVec<[u8; 4]> {
     }
 }
 
-/// Room for `n` items, on the heap where the array has less.
+/// Room for `n` items, on the heap if the array has less.
 pub fn with_room(alloc: Global, n: usize) -> Result<TinyVec<[u8; 4]>, AllocError>
     ensures room { IfOk result (λ v. n ≤ tiny_capacity 4 v) }
     ensures place { IfOk result (λ v. IsInline v ↔ (n ≤ 4)) }
@@ -77,7 +77,7 @@ pub fn is_somewhere<A: Array>(v: &TinyVec<A>) -> bool
     v.is_inline() || v.is_heap()
 }
 
-/// Appends an item where there is room, which allocates nothing.
+/// Appends an item if there is room, which allocates nothing.
 pub fn push_if_room<A: Array>(v: &mut TinyVec<A>, x: A::Item)
     ensures room { tiny_len v.old < tiny_capacity A.CAPACITY v.old → tiny_items v.new ≡ tiny_items v.old ++ x ∷ [] }
     ensures place { is_inline v.new ≡ is_inline v.old }
@@ -118,7 +118,7 @@ pub fn first_swapped(alloc: Global) -> (i32, TinyVec<[i32; 4]>)
     (first, v)
 }
 
-/// Bytes after the list, which allocates nothing where there is room for them.
+/// Bytes after the list, which allocates nothing if there is room for them.
 pub fn with_bytes(v: &mut TinyVec<[u8; 16]>, bytes: &[u8]) -> Result<(), AllocError>
     ensures items { OnOk result (tiny_items v.new ≡ tiny_items v.old ++ bytes.now) }
     ensures succeeds { tiny_len v.old + length bytes.now ≤ tiny_capacity 16 v.old → IsOk result }
@@ -126,7 +126,7 @@ pub fn with_bytes(v: &mut TinyVec<[u8; 16]>, bytes: &[u8]) -> Result<(), AllocEr
     v.extend_from_slice(bytes)
 }
 
-/// Copies of numbers after the list. Where memory is refused, nothing changes.
+/// Copies of numbers after the list. If memory is refused, nothing changes.
 pub fn with_copies(v: &mut TinyVec<[u32; 8]>, numbers: &[u32]) -> Result<(), AllocError>
     ensures items { OnOk result (tiny_items v.new ≡ tiny_items v.old ++ numbers.now) }
     ensures place { OnOk result (IsInline v.new → tiny_len v.new ≤ 8) }
@@ -243,7 +243,7 @@ pub fn moved_into<A: Array>(v: &mut TinyVec<A>, alloc: Global) -> Result<Vec<A::
     Ok(out)
 }
 
-/// Room for `n` more items, and for no more than that where the list moves.
+/// Room for `n` more items, and for no more than that if the list moves.
 pub fn with_exact_room<A: Array>(v: &mut TinyVec<A>, n: usize) -> Result<(), AllocError>
     ensures { OnOk result (tiny_len v.old + n ≤ tiny_capacity A.CAPACITY v.new) }
 {
@@ -289,7 +289,7 @@ pub fn try_on_heap_with_room<A: Array>(v: &mut TinyVec<A>, n: usize) -> Result<(
     v.try_move_to_the_heap_and_reserve(n)
 }
 
-/// The list as a `Vec`. Where memory is refused for it, the vector is dropped.
+/// The list as a `Vec`. If memory is refused for it, the vector is dropped.
 pub fn as_vec<A: Array>(v: TinyVec<A>) -> Result<Vec<A::Item>, AllocError>
     ensures { IfOk result (λ out. out.items ≡ tiny_items v) }
 {

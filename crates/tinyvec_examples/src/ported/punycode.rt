@@ -3,7 +3,7 @@ ghost use Rattle.std.specs.Prelude.{◌≡◌, ◌+◌, ◌*◌, ◌^◌, ◌<�
 ghost use Rattle.tinyvec_examples.specs.Punycode as spec;
 
 use std::alloc::{AllocError, Global};
-use tinyvec::{FromIterRest, TinyVec};
+use tinyvec::TinyVec;
 use tinyvec_text::InlineText;
 
 const BASE: u64 = 36;
@@ -45,16 +45,6 @@ impl From<AllocError> for EncodeError {
     }
 }
 
-impl<V: Drop, T: Drop, I: Drop> From<FromIterRest<V, T, I>> for EncodeError {
-    ghost use Rattle.tinyvec_examples.specs.declared.ported.punycode.EncodeError.TheVariants.{Memory};
-
-    ghost from_gives = { λ _ e. e ≡ Memory };
-
-    fn from(_refused: FromIterRest<V, T, I>) -> Self {
-        EncodeError::Memory
-    }
-}
-
 /// Encodes a text. A label of a domain name has at most 63 bytes, so it needs no heap.
 pub fn encode_str(alloc: Global, input: &str) -> Result<InlineText<64>, EncodeError>
     ensures ok { IfOk result (λ text. text.bytes ≡ spec.encode (chars input.now)) }
@@ -63,7 +53,7 @@ pub fn encode_str(alloc: Global, input: &str) -> Result<InlineText<64>, EncodeEr
     if input.len() > MAX_LEN {
         return Err(EncodeError::TooLong);
     }
-    let points = TinyVec::<[char; 64]>::from_iter(alloc, input.chars())?;
+    let points: TinyVec<[char; 64]> = input.chars().collect(alloc)?;
     Ok(encode(alloc, points.as_slice())?)
 }
 

@@ -2,7 +2,7 @@
 use std::alloc::{AllocError, Global};
 use tinyvec::TinyVec;
 
-/// A message with one question, or an error where memory is refused for more than 64 bytes.
+/// A message with one question, or an error if memory is refused for more than 64 bytes.
 pub fn question(
     alloc: Global,
     id: u16,

@@ -6,7 +6,7 @@ ghost use Rattle.tinyvec.specs.TinyVec.{tiny_items};
 use std::alloc::AllocError;
 use tinyvec::{ArrayVec, TinyVec};
 
-/// Pushes the numbers until the vector is full. True where all found room.
+/// Pushes the numbers until the vector is full. True if all found room.
 pub fn push_while_room(v: &mut ArrayVec<[u32; 8]>, numbers: &[u32]) -> bool
     ensures all { IsTrue result ↔ (length numbers.now ≤ 8 - items_len v.old) }
     ensures items { items v.new ≡ items v.old ++ take (8 - items_len v.old) numbers.now }

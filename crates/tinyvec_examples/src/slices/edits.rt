@@ -98,7 +98,7 @@ pub fn cleared() -> [i32; 3]
     array
 }
 
-/// Where only the border moves, the owner sees no change.
+/// If only the border moves, the owner sees no change.
 pub fn border_moved(slots: &mut [u8], n: usize)
     requires { n ≤ length slots.old }
     ensures { slots.new ≡ slots.old }

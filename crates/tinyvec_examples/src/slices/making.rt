@@ -3,7 +3,7 @@ ghost use Rattle.std.specs.Prelude.{◌≡◌, ◌<◌, ◌≤◌, ◌∷◌, []
 
 use tinyvec_slice::SliceVec;
 
-/// Where there are fewer slots, no vector is made.
+/// If there are fewer slots, no vector is made.
 pub fn refused(slots: &mut [i32]) -> bool
     ensures { result ≡ true → length slots.old < 3 }
 {
@@ -29,7 +29,7 @@ pub fn array_written() -> [i32; 3]
     array
 }
 
-/// Where there are fewer slots, the owner knows that none was written.
+/// If there are fewer slots, the owner knows that none was written.
 pub fn written_if_there(slots: &mut [u8])
     ensures short { length slots.old < 3 → slots.new ≡ slots.old }
     ensures long { 3 ≤ length slots.old → slots.new ≡ slice_set slots.old 2 7 }

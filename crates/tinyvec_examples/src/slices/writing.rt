@@ -8,7 +8,7 @@ use std::fmt;
 use std::fmt::Write;
 use tinyvec_slice::{GenericSliceVec, Lent, SliceVec};
 
-/// Two numbers and text between them, after the list of any vector of bytes. Where not all of it fits, the caller of
+/// Two numbers and text between them, after the list of any vector of bytes. If not all of it fits, the caller of
 /// `write!` knows nothing of the vector.
 pub fn write_pair<B: Lent<Item = u8>>(v: &mut GenericSliceVec<B>, x: u32, y: u32) -> fmt::Result
     ensures same_reference { OnOk result (name_of B.Lent v.new ≡ name_of B.Lent v.old) }

@@ -1,7 +1,7 @@
 //! A driven splice of a `TinyVec`.
 ghost use Rattle.std.specs.Prelude.{◌≡◌, ◌+◌, ◌<◌, ◌≤◌, IfOk, IfErr, OnErr, vec_len};
 ghost use Rattle.std.specs.Iterator.Adapters.{fuse_steps};
-ghost use Rattle.tinyvec.specs.TinyVec.{tiny_items, tiny_len, tiny_capacity};
+ghost use Rattle.tinyvec.specs.TinyVec.{tiny_view, tiny_items, tiny_len, tiny_capacity};
 ghost use Rattle.tinyvec_script.specs.Driving.{TinySplices, SpliceComputes};
 
 use crate::End;
@@ -11,7 +11,7 @@ use std::iter::Fuse;
 use tinyvec::{Array, NoMemory, TinyVec, TinyVecSplice};
 
 /// Replaces the items from `start` up to `end`. Before that it takes an item from each end that the word names. Allocates
-/// both result lists first; if that fails, returns the replacement and changes nothing. Items find no room where the
+/// both result lists first; if that fails, returns the replacement and changes nothing. Items find no room if the
 /// allocator refuses to grow the vector.
 pub fn drive_tiny_splice<A: Array>(
     alloc: Global,
@@ -23,8 +23,8 @@ pub fn drive_tiny_splice<A: Array>(
 ) -> Result<Driven<A::Item>, NoMemory<Vec<A::Item>>>
     requires start_le_end { start ≤ end }
     requires in_bounds { end ≤ tiny_len vec.old }
-    ensures splices { IfOk result (λ driven. TinySplices A.Item.is_default A.CAPACITY vec.old start end word.now
-        replacement.items driven.yields.items driven.rest.items vec.new) }
+    ensures splices { IfOk result (λ driven. TinySplices A.Item.is_default A.CAPACITY (tiny_view vec.old)
+        start end word.now replacement.items driven.yields.items driven.rest.items (tiny_view vec.new)) }
     ensures computed { IfOk result (λ driven. SpliceComputes (tiny_capacity A.CAPACITY vec.new) (tiny_items vec.old)
         start end word.now replacement.items driven.yields.items driven.rest.items (tiny_items vec.new)) }
     ensures no_memory { IfErr result (λ refused. refused.0 ≡ replacement) }

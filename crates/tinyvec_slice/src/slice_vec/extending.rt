@@ -100,8 +100,8 @@ impl<B: Lent> GenericSliceVec<B> {
         }
     }
 
-    /// Truncates the list to `new_len` items, or fills it up with clones of `value`. The slots that a cut vacates are filled
-    /// with clones of `value` too, the last slot first. Only clones allocate.
+    /// Truncates the list to `new_len` items, or fills it up with clones of `value`. On failure `value` is returned. Only
+    /// clones allocate. The slots that a cut vacates are filled with clones of `value` too, the last slot first.
     pub fn resize(&mut self, new_len: usize, value: B::Item) -> Result<(), NoMemory<B::Item>>
     where
         B::Item: Clone,
@@ -189,8 +189,8 @@ impl<B: Lent> GenericSliceVec<B> {
         Ok(())
     }
 
-    /// Truncates the list to `new_len` items, or fills it up with what `f` returns. The slots that a cut vacates are filled
-    /// with what `f` returns too, the last slot first.
+    /// Truncates the list to `new_len` items, or fills it up with what `f` returns. The slots that a cut vacates are
+    /// filled with what `f` returns too, the last slot first. Calls `f` once for each of these slots.
     pub fn resize_with<F: FnMut() -> B::Item>(&mut self, new_len: usize, mut f: F)
         requires room { new_len ≤ length (slots_of B.Lent self.old) }
         requires callable { F.IsAlwaysCallable f }

@@ -11,8 +11,8 @@ impl<B: Lent> GenericSliceVec<B>
 where
     B::Item: Default,
 {
-    /// Calls `f` on each item in turn, and keeps those for which it returns `true`. The vacated slots precede the old
-    /// spare slots. A kept item is moved by at most one swap; items of up to 16 bytes are all moved, with no branch.
+    /// Calls `f` on each item in turn, and keeps those for which it returns `true`. A kept item is moved at most once. The
+    /// vacated slots precede the old spare slots.
     pub fn retain<F: FnMut(&B::Item) -> bool>(&mut self, mut f: F)
         requires { F.IsAlwaysCallable f }
         ensures lender { SameLender B.Lent self.old self.new }
@@ -22,8 +22,8 @@ where
         tinyvec_slots::retain(self, &mut f);
     }
 
-    /// Calls `predicate` on the last item, and takes the item if it returns `true`. Otherwise the item stays, as `predicate`
-    /// left it. Calls nothing if the list is empty.
+    /// Calls `predicate` on the last item, and removes and returns the item if it returns `true`. Otherwise the item
+    /// stays, as `predicate` left it. Calls nothing if the list is empty.
     pub fn pop_if<F: FnOnce(&mut B::Item) -> bool>(&mut self, predicate: F) -> Option<B::Item>
         requires { (x : B.Item) → slice_get (items_of B.Lent self.old) (len_of B.Lent self.old - 1) ≡ Some x
             → FnOnceTakesAtMut F.FnOnce predicate x }

@@ -3,6 +3,7 @@ ghost use Rattle.std.specs.Prelude.{◌≡◌, ℕ, ◌+◌, ◌*◌, ◌<◌, �
 ghost use Rattle.std.specs.List.{flat_map};
 ghost use Rattle.std.specs.Iterator.{IsFinite, HoldsAlong, DrainsIf, ExtendsWithItems};
 ghost use Rattle.tinyvec_slots.specs.Filling.{IntoIterYields};
+ghost use Rattle.tinyvec.specs.View.{lies_inline, capacity_in};
 ghost use Rattle.tinyvec_text.specs.InlineText.{text_len, TextExtends};
 
 use super::InlineText;
@@ -21,7 +22,7 @@ impl<const N: usize> Extend<char> for InlineText<N> {
 
         // If known characters fit, it allocates nothing.
         ensures known { (cs : List ℕ) → IntoIterYields U.into_iter_gives U.IntoIter.next_gives iter cs
-            → text_len self.old + length (encode_utf8_all cs) ≤ self.old.room → IsOk result }
+            → text_len self.old + length (encode_utf8_all cs) ≤ capacity_in N self.old.place → IsOk result }
     {
         // Shows the proof that the text fits.
         let _room = self.capacity();
@@ -46,7 +47,7 @@ impl<'a, const N: usize> Extend<&'a str> for InlineText<N> {
 
         // If known texts fit, it allocates nothing.
         ensures known { (xs : _) → IntoIterYields U.into_iter_gives U.IntoIter.next_gives iter xs
-            → text_len self.old + length (flat_map (λ x. x.now) xs) ≤ self.old.room → IsOk result }
+            → text_len self.old + length (flat_map (λ x. x.now) xs) ≤ capacity_in N self.old.place → IsOk result }
     {
         // Shows the proof that the text fits.
         let _room = self.capacity();
@@ -72,8 +73,8 @@ impl<const N: usize> FromIterator<char> for InlineText<N> {
             → U.IntoIter.can_next it × IsFinite (U.IntoIter.remaining it) × HoldsAlong U.IntoIter.next_gives it (λ _. ⊤) }
         ensures ran { IfOk result (λ t. (it : U.IntoIter) × (xs : List ℕ) × U.into_iter_gives iter it
             × DrainsIf U.IntoIter.next_gives ⊤ it xs × (t.bytes ≡ encode_utf8_all xs)) }
-        ensures place { IfOk result (λ t. IsTrue t.inline ↔ (text_len t ≤ N)) }
-        ensures grown { IfOk result (λ t. N < t.room → t.room < 2 * text_len t) }
+        ensures place { IfOk result (λ t. IsTrue (lies_inline t.place) ↔ (text_len t ≤ N)) }
+        ensures grown { IfOk result (λ t. N < capacity_in N t.place → capacity_in N t.place < 2 * text_len t) }
 
         // If known items fit the array, it allocates nothing.
         ensures known { (xs : List ℕ) → IntoIterYields U.into_iter_gives U.IntoIter.next_gives iter xs
@@ -99,8 +100,8 @@ impl<'a, const N: usize> FromIterator<&'a str> for InlineText<N> {
             → U.IntoIter.can_next it × IsFinite (U.IntoIter.remaining it) × HoldsAlong U.IntoIter.next_gives it (λ _. ⊤) }
         ensures ran { IfOk result (λ t. (it : U.IntoIter) × (xs : _) × U.into_iter_gives iter it
             × DrainsIf U.IntoIter.next_gives ⊤ it xs × (t.bytes ≡ flat_map (λ x. x.now) xs)) }
-        ensures place { IfOk result (λ t. IsTrue t.inline ↔ (text_len t ≤ N)) }
-        ensures grown { IfOk result (λ t. N < t.room → t.room < 2 * text_len t) }
+        ensures place { IfOk result (λ t. IsTrue (lies_inline t.place) ↔ (text_len t ≤ N)) }
+        ensures grown { IfOk result (λ t. N < capacity_in N t.place → capacity_in N t.place < 2 * text_len t) }
 
         // If known items fit the array, it allocates nothing.
         ensures known { (xs : _) → IntoIterYields U.into_iter_gives U.IntoIter.next_gives iter xs

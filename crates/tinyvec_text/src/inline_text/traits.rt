@@ -1,5 +1,6 @@
 //! Clones, comparisons, hashes, printing and writing.
 ghost use Rattle.std.specs.Prelude.{◌≡◌, false, IsTrue, IsOk, IfOk, MatchResult, Some, nat_eq, refl, ◌+◌, ◌++◌, length, OnOk, chars};
+ghost use Rattle.tinyvec.specs.View.{lies_inline, capacity_in};
 ghost use Rattle.tinyvec_text.specs.InlineText.{text_chars, text_len, MakesRoom};
 ghost use Rattle.std.specs.Ordering.{nat_cmp};
 ghost use Rattle.std.specs.Cmp.{on_equiv, on_total, on_po, on_per, partial_equiv_from_equiv};
@@ -19,14 +20,13 @@ use std::ops::DerefStr;
 impl<const N: usize> Clone for InlineText<N> {
     ghost is_clone = { λ t u. u.bytes ≡ t.bytes };
 
-    ghost is_infallible = { λ t. IsTrue t.inline };
+    ghost is_infallible = { λ t. IsTrue (lies_inline t.place) };
 
     /// The same text, inline exactly if this one is. A text on the heap is copied into an allocation of its length.
     fn clone(&self) -> Result<Self, AllocError>
-        ensures cases { MatchResult result (λ t. t.bytes ≡ self.now.bytes) (λ _. ¬ (IsTrue self.now.inline)) }
-        ensures text { IfOk result (λ t. text_chars t ≡ text_chars self.now) }
-        ensures place { IfOk result (λ t. t.inline ≡ self.now.inline) }
-        ensures room { IfOk result (λ t. t.inline ≡ false → t.room ≡ text_len self.now) }
+        ensures cases { MatchResult result (λ t. t.bytes ≡ self.now.bytes) (λ _. ¬ (IsTrue (lies_inline self.now.place))) }
+        ensures place { IfOk result (λ t. lies_inline t.place ≡ lies_inline self.now.place) }
+        ensures room { IfOk result (λ t. lies_inline t.place ≡ false → capacity_in N t.place ≡ text_len self.now) }
     {
         let list = self.list.clone()?;
         Ok(InlineText { list })
@@ -114,7 +114,7 @@ impl<const N: usize> fmt::Write for InlineText<N> {
     fn write_str(&mut self, s: &str) -> fmt::Result
         ensures ok { IsOk result → self.new.bytes ≡ self.old.bytes ++ s.now }
         ensures text { OnOk result (text_chars self.new ≡ text_chars self.old ++ chars s.now) }
-        ensures room { MakesRoom self.old.inline N (text_len self.old + length s.now) self.old self.new result }
+        ensures room { MakesRoom (lies_inline self.old.place) N (text_len self.old + length s.now) self.old self.new result }
     {
         match self.push_str(s) {
             Ok(()) => Ok(()),

@@ -1,7 +1,7 @@
 use Rattle.std.proofs.Common.{sym, subst, arith}
 use Rattle.std.proofs.lemmas.Fmt.{decimal_digit}
 use Rattle.tinyvec_script.specs.Writes.{Gathers}
-use Rattle.tinyvec_script.proofs.Written.{Gathers-then}
+use Rattle.tinyvec_script.proofs.Written.{gathers_then}
 use Rattle.tinyvec_script.proofs.Numbers.{decimal_two, decimal_pair}
 use Rattle.tinyvec_script.proofs.answers.+write_decimal.Goals as goal
 
@@ -13,5 +13,4 @@ returns-then-number-lt100 g t c = subst (Gathers _ _ c.args.gathered.now _ _) (s
 
 pub returns : goal.returns
 returns g t c =
-    let both = Gathers-then _ _ _ _ c.args.gathered.now _ _ _ _ c.write_decimal.ensures c.write_pair-2.ensures in
-    subst (Gathers _ _ c.args.gathered.now _ _) (sym (decimal_pair c.args.number c.if-number-lt100.false (omega arith))) both
+    subst (Gathers _ _ c.args.gathered.now _ _) (sym (decimal_pair c.args.number c.if-number-lt100.false (omega arith))) (gathers_then c.write_decimal.ensures c.write_pair-2.ensures)

@@ -1,13 +1,11 @@
-use Rattle.std.proofs.Common.{◌≡◌, ℕ, ◌<◌, ◌≤◌, List, ◌++◌, length, true, false, nat_lt, codes, refl, sym, ap, ◌∙◌, subst, arith}
+use Rattle.std.proofs.Common.{◌≡◌, ℕ, ◌<◌, ◌≤◌, List, ◌++◌, length, true, false, nat_lt, codes, Some, refl, sym, ap, ◌∙◌, subst, arith}
 use Rattle.std.proofs.lemmas.Bool.Decides.{nat_tests}
-use Rattle.tinyvec_script.specs.Text.{answer_text, inline_text_text}
 use Rattle.tinyvec_script.specs.Spelled.{Spells}
 use Rattle.tinyvec_script.specs.Reason.{reason, short_reason}
-use Rattle.tinyvec_script.specs.Script.{text_of}
 use Rattle.tinyvec_script.specs.Script.Answered.{done, memory, text_done, bad}
-use Rattle.tinyvec_script.specs.State.{state_of}
 use Rattle.tinyvec_script.specs.TextCalls.{call_of}
-use Rattle.tinyvec_script.specs.declared.command.Command.TheVariants as commands
+use Rattle.tinyvec_script.specs.declared.command.Command.{Command}
+use Rattle.tinyvec_script.specs.History.{kept}
 use Rattle.tinyvec_script.proofs.HistoryLemmas.{kept_is, too_long_kept}
 use Rattle.tinyvec_script.proofs.script.answer_line.Goals as goal
 
@@ -29,47 +27,39 @@ returns-in_default g c = (
       bad (λ name call h. omega (arith, long, h.short)) (λ call h. omega (arith, long, h.short)) (ap (λ r. codes "bad: " ++ r) (long_reason rest long)) refl,
 )
 
+-- what the line spells that is kept
+spells : (line : List ℕ) (made command : Command) → made ≡ command → Spells line made → (rest : List ℕ) → Some line ≡ kept rest → Spells rest command
+spells line made command is h rest k = subst (λ l. Spells l command) (kept_is rest line k).0 (subst (Spells line) is h)
+
 pub returns-in-Vector : goal.returns-in-Vector
-returns-in-Vector g c =
-    let line = c.in-Some.text.now in
-    let name = c.in-Vector.name in
-    let call = c.in-Vector.call in
-    let answer = c.answer-answered.result in
-    let spelled = subst (Spells line) c.in-Vector.is c.parse_line.ensures in (
-      answer_text answer ++ codes " " ++ text_of name (state_of g.B.Lent c.answer-answered.new.self),
-      c.write_line.ensures,
-      λ rest k. done name call answer (subst (λ l. Spells l (commands.Vector name call)) (kept_is rest line (sym c.in-Some.ensures ∙ k)).0 spelled) c.answer-answered.ensures refl,
-    )
+returns-in-Vector g c = (
+  _,
+  c.write_line.ensures,
+  λ rest k. done c.in-Vector.name c.in-Vector.call c.answer-answered.result (spells _ _ _ c.in-Vector.is c.parse_line.ensures rest (sym c.in-Some.ensures ∙ k))
+      c.answer-answered.ensures refl,
+)
 
 pub returns-in-Text : goal.returns-in-Text
-returns-in-Text g c =
-    let line = c.in-Some.text.now in
-    let call = c.in-Text.call in
-    let answer = c.answer_text-answered.result in
-    let spelled = subst (Spells line) c.in-Text.is c.parse_line.ensures in (
-      answer_text answer ++ codes " " ++ inline_text_text c.answer_text-answered.new.self.x,
-      c.write_text_line.ensures,
-      λ rest k. text_done (call_of call) answer (subst (λ l. Spells l (commands.Text call)) (kept_is rest line (sym c.in-Some.ensures ∙ k)).0 spelled) c.answer_text-answered.ensures refl,
-    )
+returns-in-Text g c = (
+  _,
+  c.write_text_line.ensures,
+  λ rest k. text_done (call_of c.in-Text.call) c.answer_text-answered.result (spells _ _ _ c.in-Text.is c.parse_line.ensures rest (sym c.in-Some.ensures ∙ k))
+      c.answer_text-answered.ensures refl,
+)
 
 pub returns-in-Bad : goal.returns-in-Bad
-returns-in-Bad g c =
-    let line = c.in-Some.text.now in
-    let spelled = subst (Spells line) c.in-Bad.is c.parse_line.ensures in (
-      codes "bad: " ++ short_reason line,
-      c.write_reason.ensures,
-      λ rest k.
-          let is = kept_is rest line (sym c.in-Some.ensures ∙ k) in
-          let none = subst (λ l. Spells l commands.Bad) is.0 spelled in
-          bad none.0 none.1 (ap (λ r. codes "bad: " ++ r) (ap short_reason is.0 ∙ reason_of_short rest is.1)) refl,
-    )
+returns-in-Bad g c = (
+  _,
+  c.write_reason.ensures,
+  λ rest k.
+      let is = kept_is rest c.in-Some.text.now (sym c.in-Some.ensures ∙ k) in
+      let none = spells _ _ _ c.in-Bad.is c.parse_line.ensures rest (sym c.in-Some.ensures ∙ k) in
+      bad none.0 none.1 (ap (λ r. codes "bad: " ++ r) (ap short_reason is.0 ∙ reason_of_short rest is.1)) refl,
+)
 
 pub returns-in-Memory : goal.returns-in-Memory
-returns-in-Memory g c =
-    let line = c.in-Some.text.now in
-    let name = c.in-Memory.name in
-    let spelled = subst (Spells line) c.in-Memory.is c.parse_line.ensures in (
-      codes "memory" ++ codes " " ++ text_of name (state_of g.B.Lent c.args.vectors.now),
-      c.write_line-in-Memory.ensures,
-      λ rest k. memory name (subst (λ l. Spells l (commands.Memory name)) (kept_is rest line (sym c.in-Some.ensures ∙ k)).0 spelled) refl refl,
-    )
+returns-in-Memory g c = (
+  _,
+  c.write_line-in-Memory.ensures,
+  λ rest k. memory c.in-Memory.name (spells _ _ _ c.in-Memory.is c.parse_line.ensures rest (sym c.in-Some.ensures ∙ k)) refl refl,
+)

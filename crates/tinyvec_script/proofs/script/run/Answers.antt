@@ -1,16 +1,19 @@
-use Rattle.std.proofs.Common.{◌≡◌, ◌++◌, List, ℕ, [], Some, take, replicate, pos, sym, ap, ◌∙◌, arith, le_refl, le_trans, append-nil, inl, inr}
+use Rattle.std.proofs.Common.{refl, ◌≡◌, ◌++◌, List, ℕ, [], take, pos, sym, ap, ◌∙◌, arith, le_refl, le_trans, append-nil, inl, inr, IsTrue}
 use Rattle.tinyvec_slots.specs.Slots.{spare, split_at}
 use Rattle.tinyvec_slots.proofs.SlotsLemmas.{defaults_are}
 use Rattle.tinyvec_script.specs.Script.{start, zeros, State, IsZero}
 use Rattle.tinyvec_slice.specs.SliceVec.{view}
-use Rattle.tinyvec_script.specs.Place.{tiny_of}
-use Rattle.tinyvec_script.proofs.PlaceLemmas.{tiny_of-begins}
-use Rattle.tinyvec_script.specs.State.{held}
+use Rattle.tinyvec.specs.TinyVec.{tiny_view}
+use Rattle.tinyvec.specs.View.{Place, in_array, on_heap, lies_inline}
 use Rattle.std.proofs.KnownBytes.{Appends-nil, Appends-trans, Consumes-nil, Consumes-trans, Consumes-kept}
 use Rattle.tinyvec_script.proofs.HistoryLemmas.{feeds_nothing, feeds_then, complete_lines, whole_script, chunk_longer}
 use Rattle.tinyvec_io.proofs.Pieces.{AppendsFront-then}
 use Rattle.tinyvec_script.proofs.Written.{reported_since}
 use Rattle.tinyvec_script.proofs.script.run.Goals as goal
+
+is_in_array : (p : Place) → IsTrue (lies_inline p) → p ≡ in_array
+is_in_array in_array h = refl
+is_in_array (on_heap n) h = absurd (let no = h in cc)
 
 pub loop-piece-init : goal.loop-piece-init
 loop-piece-init g c =
@@ -21,13 +24,13 @@ loop-piece-init g c =
     let s_begins : view c.from_slice_len.result ≡ zeros = c.from_slice_len.ensures.value in
     let tiny = c.new-2 in
     let tiny_spare = defaults_are IsZero (pos 0) (λ x h. h) 4 _ tiny.ensures.spare in
-    let t_begins : tiny_of tiny.result ≡ start.t = tiny_of-begins tiny.result (replicate 4 (pos 0)) tiny.ensures.items tiny_spare tiny.ensures.place in
+    let t_begins : tiny_view tiny.result ≡ start.t = λ t. record { items = tiny.ensures.items t; spare = tiny_spare t; place = is_in_array _ tiny.ensures.place t } in
     let text = c.new-3 in
     let x_begins : text.result ≡ start.x = λ t. record { bytes = text.ensures.bytes t; inline = text.ensures.place t; room = text.ensures.room t } in
-    let state : State = record { a = array; s = view c.from_slice_len.result; t = tiny_of tiny.result; x = text.result } in
+    let state : State = record { a = array; s = view c.from_slice_len.result; t = tiny_view tiny.result; x = text.result } in
     let begins : state ≡ start = λ t. record { a = a_begins t; s = s_begins t; t = t_begins t; x = x_begins t } in
     record {
-      so_far = ([], [], Consumes-nil _, Appends-nil _, rw (begins, c.new-line.ensures) (feeds_nothing start (Some [])), le_refl 0);
+      so_far = ([], [], Consumes-nil _, Appends-nil _, rw (begins, c.new-line.ensures) feeds_nothing, le_refl 0);
       empty = c.new-gathered.ensures;
       read_grows = le_refl _;
       write_grows = le_refl _;
@@ -36,7 +39,7 @@ loop-piece-init g c =
 pub returns-in-Err-clause-read : goal.returns-in-Err-clause-read
 returns-in-Err-clause-read g c =
     let s = c.loop-piece.invariant.so_far in
-    λ _ _. (s.0, s.1, Consumes-kept _ _ _ s.0 s.2 c.in-Err.ensures.err, s.3, complete_lines s.0 s.1 (held c.loop-piece.vectors) c.loop-piece.line s.4)
+    λ _ _. (s.0, s.1, Consumes-kept _ _ _ s.0 s.2 c.in-Err.ensures.err, s.3, complete_lines s.4)
 
 pub returns-in-Err-clause-read_fault : goal.returns-in-Err-clause-read_fault
 returns-in-Err-clause-read_fault g c = λ _ _. reported_since _ _ _ c.loop-piece.invariant.read_grows c.in-Err.ensures.fault
@@ -50,15 +53,14 @@ returns-in-Err-finish-clause-write g c =
     let f = c.in-Err-finish.ensures in
     let none : c.in-Ok.count ≡ 0 = c.if-count-eq0.true in
     let last = rw none at c.in-Ok.ensures.bytes in
-    λ _ _. (s.0, s.1 ++ f.0, rw append-nil at (Consumes-trans _ _ _ s.0 [] s.2 last), AppendsFront-then _ _ _ s.1 f.0 s.3 f.1.err, inr (whole_script s.0 s.1 f.0 (held c.loop-piece.vectors) c.loop-piece.line s.4 f.2))
+    λ _ _. (s.0, s.1 ++ f.0, rw append-nil at (Consumes-trans _ _ _ s.0 [] s.2 last), AppendsFront-then _ _ _ s.1 f.0 s.3 f.1.err, inr (whole_script s.4 f.2))
 
 pub returns-in-Err-answer_chunk-clause-write : goal.returns-in-Err-answer_chunk-clause-write
 returns-in-Err-answer_chunk-clause-write g c =
     let s = c.loop-piece.invariant.so_far in
     let f = c.in-Err-answer_chunk.ensures.writes in
     let bytes : List ℕ = take c.in-Ok.count c.read_some.new.buf in
-    let fed = feeds_then _ (held c.loop-piece.vectors) (held c.answer_chunk.new.vectors) (Some []) c.loop-piece.line c.answer_chunk.new.line s.0 bytes s.1 f.0 s.4 f.2 in
-    λ _ _. (s.0 ++ bytes, s.1 ++ f.0, Consumes-trans _ _ _ s.0 bytes s.2 c.in-Ok.ensures.bytes, AppendsFront-then _ _ _ s.1 f.0 s.3 f.1.err, inl (complete_lines _ _ (held c.answer_chunk.new.vectors) c.answer_chunk.new.line fed))
+    λ _ _. (s.0 ++ bytes, s.1 ++ f.0, Consumes-trans _ _ _ s.0 bytes s.2 c.in-Ok.ensures.bytes, AppendsFront-then _ _ _ s.1 f.0 s.3 f.1.err, inl (complete_lines (feeds_then s.4 f.2)))
 
 pub returns-in-Err-answer_chunk-clause-write_fault : goal.returns-in-Err-answer_chunk-clause-write_fault
 returns-in-Err-answer_chunk-clause-write_fault g c = λ _ _. reported_since _ _ _ c.loop-piece.invariant.write_grows c.in-Err-answer_chunk.ensures.writes.1.fault
@@ -69,7 +71,7 @@ returns-in-Ok-finish-clause-ok g c =
     let f = c.in-Ok-finish.ensures in
     let none : c.in-Ok.count ≡ 0 = c.if-count-eq0.true in
     let last = rw none at c.in-Ok.ensures.bytes in
-    (s.0, s.1 ++ f.0, rw append-nil at (Consumes-trans _ _ _ s.0 [] s.2 last), c.in-Ok.ensures.end none, Appends-trans _ _ _ s.1 f.0 s.3 f.1.ok, whole_script s.0 s.1 f.0 (held c.loop-piece.vectors) c.loop-piece.line s.4 f.2)
+    (s.0, s.1 ++ f.0, rw append-nil at (Consumes-trans _ _ _ s.0 [] s.2 last), c.in-Ok.ensures.end none, Appends-trans _ _ _ s.1 f.0 s.3 f.1.ok, whole_script s.4 f.2)
 
 pub loop-piece-preserved : goal.loop-piece-preserved
 loop-piece-preserved g c =
@@ -83,7 +85,7 @@ loop-piece-preserved g c =
         s.1 ++ f.0,
         Consumes-trans _ _ _ s.0 bytes s.2 c.in-Ok.ensures.bytes,
         Appends-trans _ _ _ s.1 f.0 s.3 f.1.ok,
-        feeds_then _ (held c.loop-piece.vectors) (held c.answer_chunk.new.vectors) (Some []) c.loop-piece.line c.answer_chunk.new.line s.0 bytes s.1 f.0 s.4 f.2,
+        feeds_then s.4 f.2,
         longer,
       );
       empty = c.in-Ok-answer_chunk.ensures.gathered;
@@ -94,4 +96,4 @@ loop-piece-preserved g c =
 pub returns-clause-too_long : goal.returns-clause-too_long
 returns-clause-too_long g c =
     let s = c.loop-piece.invariant.so_far in
-    λ _. (s.0, s.1, s.2, omega arith, s.3, complete_lines s.0 s.1 (held c.loop-piece.vectors) c.loop-piece.line s.4)
+    λ _. (s.0, s.1, s.2, omega arith, s.3, complete_lines s.4)

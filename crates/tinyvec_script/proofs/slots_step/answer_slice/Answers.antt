@@ -1,11 +1,13 @@
-use Rattle.std.proofs.Common.{◌<◌, ◌≤◌, ◌++◌, length, ap, ◌∙◌, arith, rules, length-append}
+use Rattle.std.proofs.Common.{refl, ◌<◌, ◌≤◌, ◌++◌, length, ap, ◌∙◌, arith, rules, length-append}
 use Rattle.std.proofs.lemmas.Grind.{common_steps}
 use Rattle.std.specs.declared.ops.Bound.TheVariants.{Included, Excluded}
 use Rattle.tinyvec_slots.specs.Slots.{items, spare, items_len, all_slots}
 use Rattle.tinyvec_slots.specs.Ranges.{removed}
 use Rattle.tinyvec_slots.proofs.SlotsLemmas.{slots_are}
 use Rattle.tinyvec_slice.specs.SliceVec.{view_of}
-use Rattle.tinyvec_script.proofs.StepLemmas.{pushes, inserts, removes, swap_removes, truncates, drains}
+use Rattle.tinyvec.proofs.TinyLemmas.{slots_pushed, slots_inserted, slots_removed}
+use Rattle.std.proofs.lemmas.Option.{slice_get_read}
+use Rattle.tinyvec_script.proofs.StepLemmas.{swap_removes, truncates, drains}
 use Rattle.tinyvec_script.proofs.slots_step.answer_slice.Goals as goal
 
 pub returns-in-Push-clause-step : goal.returns-in-Push-clause-step
@@ -14,8 +16,7 @@ returns-in-Push-clause-step g c =
     let some : 0 < length (spare old) = search rules in
     let whole = ap length (slots_are old) ∙ length-append (items old) (spare old) in
     let made = c.push.ensures in
-    rw c.in-Push.is (pushes g.B.Item.Default.is_default (length (all_slots old)) old (view_of g.B.Lent c.push.new.self) c.in-Push.x
-    (omega (arith, some, whole)) made.items made.spare)
+    rw c.in-Push.is (omega (arith, some, whole), made.items, slots_pushed g.B.Item.Default.is_default old (view_of g.B.Lent c.push.new.self) c.in-Push.x made.items made.spare)
 
 pub returns-in-Insert-clause-step : goal.returns-in-Insert-clause-step
 returns-in-Insert-clause-step g c =
@@ -23,15 +24,15 @@ returns-in-Insert-clause-step g c =
     let some : 0 < length (spare old) = search rules in
     let whole = ap length (slots_are old) ∙ length-append (items old) (spare old) in
     let made = c.insert.ensures in
-    rw c.in-Insert.is (inserts g.B.Item.Default.is_default (length (all_slots old)) old (view_of g.B.Lent c.insert.new.self) c.in-Insert.i
-    c.in-Insert.x (omega (arith, c.len.ensures.value)) (omega (arith, some, whole)) made.items made.spare)
+    let in_list : c.in-Insert.i ≤ items_len old = omega (arith, c.len.ensures.value) in
+    rw c.in-Insert.is (in_list, omega (arith, some, whole), made.items, slots_inserted g.B.Item.Default.is_default old (view_of g.B.Lent c.insert.new.self) c.in-Insert.i c.in-Insert.x in_list made.items made.spare)
 
 pub returns-in-Remove-clause-step : goal.returns-in-Remove-clause-step
 returns-in-Remove-clause-step g c =
     let old = view_of g.B.Lent c.args.vec.now in
     let made = c.remove.ensures in
-    rw c.in-Remove.is (removes g.B.Item.Default.is_default (length (all_slots old)) old (view_of g.B.Lent c.remove.new.self) c.in-Remove.i
-    c.remove.result (omega (arith, c.len-in-Remove.ensures.value)) made.value made.items made.spare)
+    let in_list : c.in-Remove.i < items_len old = omega (arith, c.len-in-Remove.ensures.value) in
+    rw c.in-Remove.is (slice_get_read (items old) _ c.in-Remove.i _ refl in_list made.value, made.items, slots_removed g.B.Item.Default.is_default old (view_of g.B.Lent c.remove.new.self) c.in-Remove.i in_list made.items made.spare)
 
 pub returns-in-SwapRemove-clause-step : goal.returns-in-SwapRemove-clause-step
 returns-in-SwapRemove-clause-step g c =
@@ -49,11 +50,8 @@ returns-in-Drain-clause-step g c =
     let in_order : i ≤ j = omega arith in
     let in_list : j ≤ items_len old = omega arith in
     let taken = left.moved ∙ ap (λ xs. xs ++ removed (items old) (Included i) (Excluded j)) c.in-Ok.ensures.items in
-    rw c.in-Drain.is (
-      (in_order, in_list),
-      drains g.B.Item.Default.is_default (length (all_slots old)) old (view_of g.B.Lent c.drain_into.new.self) i j
-          c.drain_into.new.out.items in_order in_list taken left.items left.spare,
-    )
+    let made = drains g.B.Item.Default.is_default (length (all_slots old)) old (view_of g.B.Lent c.drain_into.new.self) i j c.drain_into.new.out.items in_order in_list taken left.items left.spare in
+    rw c.in-Drain.is ((in_order, in_list), made.0, made.1)
 
 pub returns-then-is_full-clause-step : goal.returns-then-is_full-clause-step
 returns-then-is_full-clause-step g c = grind (arith, common_steps)

@@ -1,8 +1,9 @@
-use Rattle.std.proofs.Common.{◌<◌, ◌∷◌, ◌++◌, [], length, take, drop, sym, ap, ◌∙◌, arith, append_assoc, length-set}
+use Rattle.std.proofs.Common.{◌≡◌, ◌<◌, ◌∷◌, ◌++◌, [], length, take, drop, sym, ap, ◌∙◌, arith, append_assoc, length-append, length-take-le, length-set}
 use Rattle.std.proofs.lemmas.List.{drop-drop, take_all, take_more_set}
 use Rattle.std.proofs.lemmas.List.Elements.{All-push, All-same}
 use Rattle.tinyvec_slots.proofs.FillingLemmas.{one_taken, rest_after_one}
 use Rattle.tinyvec.specs.TinyVec.{tiny_items}
+use Rattle.tinyvec.proofs.FrameLemmas.{taken_stays}
 use Rattle.tinyvec.proofs.tiny_vec.TinyVec.append_slots.Goals as goal
 
 pub loop-i-preserved : goal.loop-i-preserved
@@ -26,6 +27,14 @@ loop-i-preserved g c =
       untaken = rest_after_one at.from first i d inv.untaken;
       defaults = All-same D _ _ (take_more_set at.from i d long) (All-push D (take i at.from) d inv.defaults c.take.ensures.after);
     }
+
+pub returns-clause-frame : goal.returns-clause-frame
+returns-clause-frame g c =
+    let inv = c.loop-i.invariant in
+    let first = c.args.from.now in
+    let long = ap length inv.items ∙ length-append (tiny_items c.args.self.now) (take c.loop-i.i first) in
+    let all : c.loop-i.i ≡ length first = omega (arith, inv.slots) in
+    taken_stays _ _ _ _ c.loop-i.i (omega (arith, long, length-take-le c.loop-i.i first (omega (arith, all)))) (omega (arith, all, c.requires)) inv.spare inv.place inv.capacity
 
 pub returns-clause-left : goal.returns-clause-left
 returns-clause-left g c =

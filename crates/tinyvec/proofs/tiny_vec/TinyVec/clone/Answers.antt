@@ -10,23 +10,14 @@ use Rattle.tinyvec.proofs.TinyLemmas.{never_if_ok}
 use Rattle.tinyvec.proofs.CloneLemmas.{appends_alone, spare_cloned}
 use Rattle.tinyvec.proofs.tiny_vec.TinyVec.clone.Goals as goal
 
-pub returns-in_err-copy-in-Inline-clause-items : goal.returns-in_err-copy-in-Inline-clause-items
-returns-in_err-copy-in-Inline-clause-items g c = never_if_ok _ c.from_residual.result c.from_residual.ensures.0
-
-pub returns-in_err-copy-in-Inline-clause-spare : goal.returns-in_err-copy-in-Inline-clause-spare
-returns-in_err-copy-in-Inline-clause-spare g c = never_if_ok _ c.from_residual.result c.from_residual.ensures.0
+pub returns-in_err-copy-in-Inline-clause-copied : goal.returns-in_err-copy-in-Inline-clause-copied
+returns-in_err-copy-in-Inline-clause-copied g c = never_if_ok _ c.from_residual.result c.from_residual.ensures.0
 
 pub returns-in_err-copy-in-Inline-clause-len : goal.returns-in_err-copy-in-Inline-clause-len
 returns-in_err-copy-in-Inline-clause-len g c = never_if_ok _ c.from_residual.result c.from_residual.ensures.0
 
 pub returns-in_err-copy-in-Inline-clause-if_clones_equal : goal.returns-in_err-copy-in-Inline-clause-if_clones_equal
 returns-in_err-copy-in-Inline-clause-if_clones_equal g c = never_if_ok _ c.from_residual.result c.from_residual.ensures.0
-
-pub returns-in_err-copy-in-Inline-clause-place : goal.returns-in_err-copy-in-Inline-clause-place
-returns-in_err-copy-in-Inline-clause-place g c = never_if_ok _ c.from_residual.result c.from_residual.ensures.0
-
-pub returns-in_err-copy-in-Inline-clause-room : goal.returns-in_err-copy-in-Inline-clause-room
-returns-in_err-copy-in-Inline-clause-room g c = never_if_ok _ c.from_residual.result c.from_residual.ensures.0
 
 pub returns-in_err-copy-in-Inline-clause-refused : goal.returns-in_err-copy-in-Inline-clause-refused
 returns-in_err-copy-in-Inline-clause-refused g c =
@@ -41,15 +32,14 @@ returns-in_err-copy-in-Inline-clause-succeeds g c = λ inline all.
     let same : all_slots v ≡ tiny_items c.args.self.now ++ tiny_spare c.args.self.now = slots_are v ∙ sym (ap (λ w. tiny_items w ++ tiny_spare w) c.in-Inline.is) in
     absurd (false≢true (c.in_err-copy-in-Inline.ensures.succeeds (subst (All g.A.Item.Clone.is_infallible) (sym same) all)))
 
-pub returns-in-Inline-clause-spare : goal.returns-in-Inline-clause-spare
-returns-in-Inline-clause-spare g c =
-    let v = c.in-Inline.v in
-    let w = c.in_ok-copy-in-Inline.copy in
-    let made = c.in_ok-copy-in-Inline.ensures in
-    rw c.in-Inline.is (spare_cloned g.A.Item.Clone.is_clone v w made.len made.slots)
-
-pub returns-in-Inline-clause-items : goal.returns-in-Inline-clause-items
-returns-in-Inline-clause-items g c = rw c.in-Inline.is c.in_ok-copy-in-Inline.ensures.items
+pub returns-in-Inline-clause-copied : goal.returns-in-Inline-clause-copied
+returns-in-Inline-clause-copied g c =
+    let made = c.in_ok-copy-in-Inline.ensures in record {
+      items = rw c.in-Inline.is made.items;
+      spare = rw c.in-Inline.is (spare_cloned g.A.Item.Clone.is_clone c.in-Inline.v c.in_ok-copy-in-Inline.copy made.len made.slots);
+      place = sym (ap is_inline c.in-Inline.is);
+      room = λ heap. absurd (false≢true (sym heap));
+    }
 
 pub returns-in-Inline-clause-len : goal.returns-in-Inline-clause-len
 returns-in-Inline-clause-len g c = rw c.in-Inline.is c.in_ok-copy-in-Inline.ensures.len
@@ -58,12 +48,6 @@ pub returns-in-Inline-clause-if_clones_equal : goal.returns-in-Inline-clause-if_
 returns-in-Inline-clause-if_clones_equal g c = λ rule.
     let same = c.in_ok-copy-in-Inline.ensures.if_clones_equal rule in
     rw c.in-Inline.is (ap (λ w. items w) same, ap (λ w. spare w) same)
-
-pub returns-in-Inline-clause-place : goal.returns-in-Inline-clause-place
-returns-in-Inline-clause-place g c = sym (ap is_inline c.in-Inline.is)
-
-pub returns-in-Inline-clause-room : goal.returns-in-Inline-clause-room
-returns-in-Inline-clause-room g c = λ heap. absurd (false≢true (sym heap))
 
 pub returns-in-Inline-clause-refused : goal.returns-in-Inline-clause-refused
 returns-in-Inline-clause-refused g c = tt
@@ -76,12 +60,9 @@ returns-in_err-copy g c =
     let answer = c.from_residual-in_err-copy.result in
     let err = c.from_residual-in_err-copy.ensures.0 in
     let outside = sym (ap is_inline c.in-Heap.is) in record {
-      items = never_if_ok _ answer err;
-      spare = never_if_ok _ answer err;
+      copied = never_if_ok _ answer err;
       len = never_if_ok _ answer err;
       if_clones_equal = never_if_ok _ answer err;
-      place = never_if_ok _ answer err;
-      room = never_if_ok _ answer err;
       refused = on_err answer (λ inline. absurd (false≢true (outside ∙ inline)));
       succeeds = λ inline _. absurd (false≢true (outside ∙ inline));
       succeeds_empty = λ _ empty. absurd (false≢true (c.in_err-copy.ensures.succeeds (omega (arith, c.len.ensures, c.in-Heap.v.ok.0, ap tiny_len c.in-Heap.is, empty))));
@@ -92,12 +73,9 @@ returns-in_err-push_clones g c =
     let answer = c.from_residual-in_err-push_clones.result in
     let err = c.from_residual-in_err-push_clones.ensures.0 in
     let outside = sym (ap is_inline c.in-Heap.is) in record {
-      items = never_if_ok _ answer err;
-      spare = never_if_ok _ answer err;
+      copied = never_if_ok _ answer err;
       len = never_if_ok _ answer err;
       if_clones_equal = never_if_ok _ answer err;
-      place = never_if_ok _ answer err;
-      room = never_if_ok _ answer err;
       refused = on_err answer (λ inline. absurd (false≢true (outside ∙ inline)));
       succeeds = λ inline _. absurd (false≢true (outside ∙ inline));
       succeeds_empty = λ _ empty. absurd (omega (arith, c.in_err-push_clones.ensures.refused.1.0, c.as_slice.ensures.len, c.in-Heap.v.ok.0, ap tiny_len c.in-Heap.is, empty));
@@ -108,26 +86,21 @@ push_clones-requires g c =
     let made = c.in_ok-copy.ensures in
     record { room = omega (arith, made.len, made.capacity, c.len.ensures, c.as_slice.ensures.len) }
 
-pub returns-clause-items : goal.returns-clause-items
-returns-clause-items g c =
-    let copied = c.in_ok-push_clones.ensures.items in
-    rw (c.in-Heap.is, ← c.as_slice.ensures.value) (appends_alone g.A.Item.Clone.is_clone c.in_ok-copy.copy.items c.push_clones.new.heap.items c.as_slice.result.now c.in_ok-copy.ensures.items copied)
-
-pub returns-clause-spare : goal.returns-clause-spare
-returns-clause-spare g c = rw c.in-Heap.is tt
+pub returns-clause-copied : goal.returns-clause-copied
+returns-clause-copied g c =
+    let made = c.push_clones.ensures in record {
+      items = rw (c.in-Heap.is, ← c.as_slice.ensures.value) (appends_alone g.A.Item.Clone.is_clone c.in_ok-copy.copy.items c.push_clones.new.heap.items c.as_slice.result.now c.in_ok-copy.ensures.items c.in_ok-push_clones.ensures.items);
+      spare = rw c.in-Heap.is tt;
+      place = sym (ap is_inline c.in-Heap.is);
+      room = λ _. rw c.in-Heap.is (made.capacity ∙ c.in_ok-copy.ensures.exact ∙ c.len.ensures ∙ c.in-Heap.v.ok.0);
+    }
 
 pub returns-clause-len : goal.returns-clause-len
-returns-clause-len g c = sym (length_all_zip g.A.Item.Clone.is_clone (tiny_items c.args.self.now) c.push_clones.new.heap.items (returns-clause-items g c))
+returns-clause-len g c = sym (length_all_zip g.A.Item.Clone.is_clone (tiny_items c.args.self.now) c.push_clones.new.heap.items (returns-clause-copied g c).items)
 
 pub returns-clause-if_clones_equal : goal.returns-clause-if_clones_equal
 returns-clause-if_clones_equal g c = λ rule.
-    (same_from_all_zip g.A.Item.Clone.is_clone (tiny_items c.args.self.now) c.push_clones.new.heap.items (returns-clause-items g c) rule, rw c.in-Heap.is refl)
-
-pub returns-clause-place : goal.returns-clause-place
-returns-clause-place g c = sym (ap is_inline c.in-Heap.is)
-
-pub returns-clause-room : goal.returns-clause-room
-returns-clause-room g c = λ _. rw c.in-Heap.is (c.push_clones.ensures.capacity ∙ c.in_ok-copy.ensures.exact ∙ c.len.ensures ∙ c.in-Heap.v.ok.0)
+    (same_from_all_zip g.A.Item.Clone.is_clone (tiny_items c.args.self.now) c.push_clones.new.heap.items (returns-clause-copied g c).items rule, rw c.in-Heap.is refl)
 
 pub returns-clause-refused : goal.returns-clause-refused
 returns-clause-refused g c = tt

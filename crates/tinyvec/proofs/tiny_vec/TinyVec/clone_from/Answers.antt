@@ -10,7 +10,7 @@ use Rattle.tinyvec.specs.TinyVec.{tiny_items, tiny_len, tiny_capacity}
 use Rattle.tinyvec.proofs.TinyLemmas.{tiny_slots_grown, tiny_slots_then_framed, on_ok_two, on_err_two, never_ok}
 use Rattle.tinyvec.proofs.FrameLemmas.{room_kept, room_refused, room_made}
 use Rattle.tinyvec.proofs.CloneLemmas.{appends_len, appends_rest}
-use Rattle.tinyvec.proofs.RefusedLemmas.{refused_in_front, refused_behind, partly_over, partly_behind, cut_freed, none_freed, spare_kept, place_kept, place_then, granted_before, granted_then}
+use Rattle.tinyvec.proofs.RefusedLemmas.{refused_in_front, refused_behind, partly_over, partly_behind, cut_freed, none_freed, spare_kept, place_kept, granted_before, granted_then}
 use Rattle.tinyvec.proofs.tiny_vec.TinyVec.clone_from.Goals as goal
 
 pub overwrite-requires : goal.overwrite-requires
@@ -33,27 +33,17 @@ returns-then-count-len-clause-if_clones_equal g c =
     let new = tiny_items c.overwrite.new.self in
     on_ok_weaker c.overwrite.result (λ clones rule. same_from_all_zip g.A.Item.Clone.is_clone xs new clones rule) (returns-then-count-len-clause-items g c)
 
-pub returns-then-count-len-clause-place : goal.returns-then-count-len-clause-place
-returns-then-count-len-clause-place g c =
-    let is_count = c.len-count.ensures.value in
-    let le = c.if-count-len.true in
-    on_ok_weaker c.overwrite.result
-    (λ _. place_kept _ _ c.args.self.now c.overwrite.new.self (c.overwrite.ensures.frame.place ∙ c.truncate.ensures.frame.place) (omega (arith, c.len-len.ensures.fits)))
-    c.overwrite.ensures.ok
-
-pub returns-then-count-len-clause-slot_rule : goal.returns-then-count-len-clause-slot_rule
-returns-then-count-len-clause-slot_rule g c =
-    on_ok_weaker c.overwrite.result
-    (λ _. tiny_slots_then_framed g.A.Item.Default.is_default c.args.self.now c.truncate.new.self c.overwrite.new.self c.truncate.ensures.frame.slot_rule c.overwrite.ensures.frame)
-    c.overwrite.ensures.ok
-
 pub returns-then-count-len-clause-room : goal.returns-then-count-len-clause-room
 returns-then-count-len-clause-room g c =
     let frame = c.overwrite.ensures.frame in
     let cut = c.truncate.ensures.frame in
     let room : tiny_len c.args.source.now ≤ tiny_capacity g.A.Array.CAPACITY c.args.self.now =
     omega (arith, c.len-count.ensures.value, c.if-count-len.true, c.len-len.ensures.value, c.len-len.ensures.fits) in
-    room_kept _ _ c.args.self.now _ c.overwrite.result room (frame.capacity g.A.Array.CAPACITY ∙ cut.capacity) (omega (arith, frame.len, frame.capacity g.A.Array.CAPACITY, cut.fits))
+    room_kept g.A.Item.Default.is_default _ _ c.args.self.now _ c.overwrite.result
+    (on_ok_weaker c.overwrite.result (λ _. place_kept _ _ c.args.self.now c.overwrite.new.self (frame.place ∙ cut.place) room) c.overwrite.ensures.ok)
+    (on_ok_weaker c.overwrite.result
+    (λ _. tiny_slots_then_framed g.A.Item.Default.is_default c.args.self.now c.truncate.new.self c.overwrite.new.self cut.slot_rule frame) c.overwrite.ensures.ok)
+    room (frame.capacity g.A.Array.CAPACITY ∙ cut.capacity) (omega (arith, frame.len, frame.capacity g.A.Array.CAPACITY, cut.fits))
 
 pub returns-then-count-len-clause-succeeds : goal.returns-then-count-len-clause-succeeds
 returns-then-count-len-clause-succeeds g c = λ fits all. c.overwrite.ensures.succeeds (rw c.as_slice.ensures all)
@@ -93,9 +83,7 @@ returns-in_err-reserve g c =
       items = never_ok _ answer err;
       len = never_ok _ answer err;
       if_clones_equal = never_ok _ answer err;
-      place = never_ok _ answer err;
-      slot_rule = never_ok _ answer err;
-      room = room_refused _ _ _ _ answer err (grown.refused.capacity g.A.Array.CAPACITY) grown.fits;
+      room = room_refused _ _ _ _ _ answer err (grown.refused.capacity g.A.Array.CAPACITY) grown.fits;
       succeeds = λ fits _. absurd (false≢true (grown.succeeds (omega (arith, fits))));
       refused = on_err answer (inl (omega (arith, grown.full), grown.refused));
     }
@@ -116,18 +104,13 @@ returns-in_err-overwrite-clause-len g c = never_ok _ c.from_residual-in_err-over
 pub returns-in_err-overwrite-clause-if_clones_equal : goal.returns-in_err-overwrite-clause-if_clones_equal
 returns-in_err-overwrite-clause-if_clones_equal g c = never_ok _ c.from_residual-in_err-overwrite.result c.from_residual-in_err-overwrite.ensures.0
 
-pub returns-in_err-overwrite-clause-place : goal.returns-in_err-overwrite-clause-place
-returns-in_err-overwrite-clause-place g c = never_ok _ c.from_residual-in_err-overwrite.result c.from_residual-in_err-overwrite.ensures.0
-
-pub returns-in_err-overwrite-clause-slot_rule : goal.returns-in_err-overwrite-clause-slot_rule
-returns-in_err-overwrite-clause-slot_rule g c = never_ok _ c.from_residual-in_err-overwrite.result c.from_residual-in_err-overwrite.ensures.0
-
 pub returns-in_err-overwrite-clause-room : goal.returns-in_err-overwrite-clause-room
 returns-in_err-overwrite-clause-room g c =
     let frame = c.overwrite-2.ensures.frame in
     let same = frame.capacity g.A.Array.CAPACITY in
-    room_made _ _ c.args.self.now _ c.from_residual-in_err-overwrite.result g.A.Item.Default.is_default _ c.reserve.new.self _
-    (omega (arith, c.len-len.ensures.value, c.len-count.ensures.value, c.if-count-len.false)) c.in_ok-reserve.ensures same (omega (arith, c.reserve.ensures.fits, frame.len, same))
+    room_made g.A.Item.Default.is_default _ _ c.args.self.now _ c.from_residual-in_err-overwrite.result _ c.reserve.new.self _
+    (omega (arith, c.len-len.ensures.value, c.len-count.ensures.value, c.if-count-len.false)) frame.place c.in_ok-reserve.ensures same
+    (omega (arith, c.reserve.ensures.fits, frame.len, same)) (never_ok _ c.from_residual-in_err-overwrite.result c.from_residual-in_err-overwrite.ensures.0)
 
 pub returns-in_err-overwrite-clause-refused : goal.returns-in_err-overwrite-clause-refused
 returns-in_err-overwrite-clause-refused g c =
@@ -196,33 +179,22 @@ returns-clause-if_clones_equal g c =
     let new = tiny_items c.extend_reserved.new.self in
     on_ok_weaker c.extend_reserved.result (λ clones rule. same_from_all_zip g.A.Item.Clone.is_clone xs new clones rule) (returns-clause-items g c)
 
-pub returns-clause-place : goal.returns-clause-place
-returns-clause-place g c =
-    let made = c.extend_reserved.ensures in
-    on_ok_weaker c.extend_reserved.result
-    (λ _. place_then _ _ c.args.self.now c.reserve.new.self c.extend_reserved.new.self _ (omega (arith, c.len-len.ensures.value, c.len-count.ensures.value, c.if-count-len.false))
-    (made.place ∙ c.overwrite-2.ensures.frame.place) c.in_ok-reserve.ensures.place)
-    made.items
-
 pub returns-clause-room : goal.returns-clause-room
 returns-clause-room g c =
-    let made = c.extend_reserved.ensures in
-    room_made _ _ c.args.self.now _ c.extend_reserved.result g.A.Item.Default.is_default _ c.reserve.new.self _
-    (omega (arith, c.len-len.ensures.value, c.len-count.ensures.value, c.if-count-len.false)) c.in_ok-reserve.ensures
-    (made.capacity ∙ c.overwrite-2.ensures.frame.capacity g.A.Array.CAPACITY) made.fits
-
-pub returns-clause-slot_rule : goal.returns-clause-slot_rule
-returns-clause-slot_rule g c =
     let mid = c.overwrite-2.new.self in
     let new = c.extend_reserved.new.self in
     let made = c.extend_reserved.ensures in
     let frame = c.overwrite-2.ensures.frame in
     let xs = c.as_slice-3.result.now in
     let ys = take (length xs - c.len-len.result) (drop c.len-len.result xs) in
-    on_ok_two c.extend_reserved.result made.items made.spare (λ items spare.
+    let place = made.place ∙ frame.place in
+    room_made g.A.Item.Default.is_default _ _ c.args.self.now _ c.extend_reserved.result _ c.reserve.new.self _
+    (omega (arith, c.len-len.ensures.value, c.len-count.ensures.value, c.if-count-len.false)) place c.in_ok-reserve.ensures
+    (made.capacity ∙ frame.capacity g.A.Array.CAPACITY) made.fits
+    (on_ok_two c.extend_reserved.result made.items made.spare (λ items spare.
     let long = appends_len g.A.Item.Clone.is_clone (tiny_items mid) (tiny_items new) ys items in
     tiny_slots_grown g.A.Item.Default.is_default c.args.self.now c.reserve.new.self new (length ys)
-    c.reserve.ensures.stays (made.place ∙ frame.place) (omega (arith, frame.len)) (spare ∙ ap (drop (length ys)) frame.spare))
+    c.reserve.ensures.stays place (omega (arith, frame.len)) (spare ∙ ap (drop (length ys)) frame.spare)))
 
 pub returns-clause-refused : goal.returns-clause-refused
 returns-clause-refused g c =

@@ -39,23 +39,18 @@ returns-in-Inline-clause-if_clones_equal g c =
     let made = c.extend_from_slice.ensures.clones in
     rw c.in-Inline.is (λ rule. chosen c.extend_from_slice.result _ _ (on_ok_weaker c.extend_from_slice.result (λ h. h rule) made.if_clones_equal) made.kept)
 
-pub returns-in-Inline-clause-place : goal.returns-in-Inline-clause-place
-returns-in-Inline-clause-place g c = on_ok_weaker c.extend_from_slice.result (λ _. (inline_granted g c).0) c.extend_from_slice.ensures.clones.len
-
-pub returns-in-Inline-clause-slot_rule : goal.returns-in-Inline-clause-slot_rule
-returns-in-Inline-clause-slot_rule g c =
-    let made = c.extend_from_slice.ensures.clones in
-    on_ok_two c.extend_from_slice.result made.len made.spare (λ long behind.
-    rw c.in-Inline.is (λ _ _. slots_used g.A.Item.Default.is_default c.in-Inline.v c.extend_from_slice.new.self (length c.args.other.now) long behind))
-
 pub returns-in-Inline-clause-room : goal.returns-in-Inline-clause-room
 returns-in-Inline-clause-room g c =
     let room : items_len c.in-Inline.v + length c.args.other.now ≤ g.A.Array.CAPACITY =
     omega (arith, c.if-other-capacity.true, c.capacity.ensures.value, c.capacity.ensures.fits, c.len.ensures.value) in
     let need = items_len c.in-Inline.v + length c.args.other.now in
     let alloc = c.in-Inline.field-1 in
-    rw c.in-Inline.is (room_kept g.A.Array.CAPACITY need (Inline c.in-Inline.v alloc) (Inline c.extend_from_slice.new.self alloc) c.extend_from_slice.result room refl
-    c.extend_from_slice.ensures.fits)
+    let made = c.extend_from_slice.ensures.clones in
+    rw c.in-Inline.is (room_kept g.A.Item.Default.is_default g.A.Array.CAPACITY need (Inline c.in-Inline.v alloc) (Inline c.extend_from_slice.new.self alloc) c.extend_from_slice.result
+    (on_ok_weaker c.extend_from_slice.result (λ _. rw c.in-Inline.is at (inline_granted g c).0) made.len)
+    (on_ok_two c.extend_from_slice.result made.len made.spare (λ long behind _ _.
+    slots_used g.A.Item.Default.is_default c.in-Inline.v c.extend_from_slice.new.self (length c.args.other.now) long behind))
+    room refl c.extend_from_slice.ensures.fits)
 
 pub returns-in-Inline-clause-succeeds : goal.returns-in-Inline-clause-succeeds
 returns-in-Inline-clause-succeeds g c = λ _. c.extend_from_slice.ensures.clones.succeeds
@@ -97,20 +92,17 @@ returns-in-Heap-clause-if_clones_equal g c =
     (on_ok_weaker answer (λ h. h.1 ∙ ap (λ l. c.in-Heap.v.items ++ l) (same_from_all_zip g.A.Item.Clone.is_clone c.args.other.now h.0 h.2 rule)) made.items)
     made.kept)
 
-pub returns-in-Heap-clause-place : goal.returns-in-Heap-clause-place
-returns-in-Heap-clause-place g c = on_ok_weaker c.push_clones.result (λ _. (heap_granted g c).0) c.push_clones.ensures.items
-
-pub returns-in-Heap-clause-slot_rule : goal.returns-in-Heap-clause-slot_rule
-returns-in-Heap-clause-slot_rule g c = on_ok_weaker c.push_clones.result (λ _. rw c.in-Heap.is (λ i _. absurd (false≢true i))) c.push_clones.ensures.items
-
 pub returns-in-Heap-clause-room : goal.returns-in-Heap-clause-room
 returns-in-Heap-clause-room g c =
     let ok = c.push_clones.new.heap.ok in
     let room : length c.in-Heap.v.items + length c.args.other.now ≤ vec_capacity c.in-Heap.v =
     omega (arith, c.in-Heap.v.ok.0, c.in-Heap.v.ok.1) in
     let need = length c.in-Heap.v.items + length c.args.other.now in
-    rw c.in-Heap.is (room_kept g.A.Array.CAPACITY need (Heap c.in-Heap.v) (Heap c.push_clones.new.heap) c.push_clones.result room c.push_clones.ensures.capacity
-    (omega (arith, ok.0, ok.1)))
+    let made = c.push_clones.ensures in
+    rw c.in-Heap.is (room_kept g.A.Item.Default.is_default g.A.Array.CAPACITY need (Heap c.in-Heap.v) (Heap c.push_clones.new.heap) c.push_clones.result
+    (on_ok_weaker c.push_clones.result (λ _. rw c.in-Heap.is at (heap_granted g c).0) made.items)
+    (on_ok_weaker c.push_clones.result (λ _ i _. absurd (false≢true i)) made.items)
+    room made.capacity (omega (arith, ok.0, ok.1)))
 
 pub returns-in-Heap-clause-succeeds : goal.returns-in-Heap-clause-succeeds
 returns-in-Heap-clause-succeeds g c = λ _. c.push_clones.ensures.succeeds
@@ -137,9 +129,7 @@ returns-in_err-grow-in_default g c =
       items = never_ok _ answer err;
       len = chosen answer _ _ (never_ok _ answer err) (on_err answer (ap length grown.refused.items));
       if_clones_equal = λ _. chosen answer _ _ (never_ok _ answer err) (on_err answer grown.refused.items);
-      place = never_ok _ answer err;
-      slot_rule = never_ok _ answer err;
-      room = room_refused _ _ _ _ answer err (grown.refused.capacity g.A.Array.CAPACITY) grown.fits;
+      room = room_refused _ _ _ _ _ answer err (grown.refused.capacity g.A.Array.CAPACITY) grown.fits;
       succeeds = λ fits _. absurd (false≢true (grown.succeeds fits));
       kept = on_err answer grown.refused.items;
       refused = on_err answer (inl (grown.full, grown.refused));
@@ -166,10 +156,9 @@ returns-in_ok-grow-in_default g c =
       if_clones_equal =
           λ rule. chosen answer _ _ (on_ok_weaker answer (λ h. h.1 ∙ ap (λ l. l ++ h.0) grown.items ∙ ap (λ l. tiny_items old ++ l) (same_from_all_zip C ys h.0 h.2 rule)) made.items)
           (on_err_weaker answer (λ h. h ∙ grown.items) made.kept);
-      place = on_ok_weaker answer (λ _. granted.0) made.items;
-      slot_rule = on_ok_two answer made.items made.spare (λ h spare.
-          tiny_slots_grown g.A.Item.Default.is_default old mid new (length ys) grown.stays made.place (appends_len C (tiny_items mid) (tiny_items new) ys h) spare);
-      room = room_made _ _ old new answer g.A.Item.Default.is_default _ mid _ refl grown made.capacity made.fits;
+      room = room_made g.A.Item.Default.is_default _ _ old new answer _ mid _ refl made.place grown made.capacity made.fits
+          (on_ok_two answer made.items made.spare (λ h spare.
+          tiny_slots_grown g.A.Item.Default.is_default old mid new (length ys) grown.stays made.place (appends_len C (tiny_items mid) (tiny_items new) ys h) spare));
       succeeds = λ _. made.succeeds;
       kept = rw (← grown.items) made.kept;
       refused = on_err_weaker answer (λ h. inr (granted, (h.0, h.1, λ i. rw (spare_kept old mid new grown.stays made.place i) at h.2 i))) made.refused;

@@ -58,7 +58,7 @@ loop-item-preserved g c =
       );
       longer = omega (arith, long, one);
       grows = grows_pushed g.A.Item.Default.is_default g.A.Array.CAPACITY first mid new _ long one c.in-Err.ensures.full
-          (filled g (goal.at.loop-item-preserved g c).After-fill_room) made.place c.push.ensures.slot_rule made.room;
+          (filled g (goal.at.loop-item-preserved g c).After-fill_room) made.room;
     }
 
 pub returns-in-Err-push-clause-ran : goal.returns-in-Err-push-clause-ran
@@ -73,14 +73,14 @@ returns-in-Err-push-clause-ran g c =
     let olds = tiny_items c.args.self.now in (
       placed.0 ++ ran.0,
       subst (λ y. YieldsThen steps c.args.iter (placed.0 ++ ran.0) (Some y) rest) (sym refusal.value_returned) all,
-      refusal.refused.items ∙ ran.2 ∙ ap (λ l. l ++ ran.0) placed.2 ∙ append_assoc olds placed.0 ran.0,
+      refusal.room.refused.items ∙ ran.2 ∙ ap (λ l. l ++ ran.0) placed.2 ∙ append_assoc olds placed.0 ran.0,
     )
 
 pub returns-in-Err-push-clause-grows : goal.returns-in-Err-push-clause-grows
 returns-in-Err-push-clause-grows g c =
     let run = c.fill_room.ensures in
     let mid = c.fill_room.new.self in
-    let refused = c.in-Err-push.ensures.refused in
+    let refused = c.in-Err-push.ensures.room.refused in
     let same = ap length refused.items in
     grows_stays g.A.Item.Default.is_default g.A.Array.CAPACITY c.args.self.now mid c.push.new.self
     (omega (arith, c.loop-item.invariant.longer, run.longer)) (omega (arith, same)) (filled g (goal.at.returns-in-Err-push-clause-grows g c).After-fill_room)

@@ -1,14 +1,14 @@
-use Rattle.std.proofs.Common.{◌≤◌, length, ap, ◌∙◌, rules}
+use Rattle.std.proofs.Common.{◌≤◌, length, refl, ap, ◌∙◌, rules}
 use Rattle.std.proofs.lemmas.Bool.{false≢true}
 use Rattle.std.proofs.lemmas.List.Edits.{length-insert}
 use Rattle.tinyvec_slots.specs.Slots.{items_len}
-use Rattle.tinyvec.specs.TinyVec.{tiny_items}
+use Rattle.tinyvec.specs.TinyVec.{tiny_items, TinySlotRule}
 use Rattle.tinyvec.proofs.TinyLemmas.{slots_inserted}
 use Rattle.tinyvec.proofs.tiny_vec.TinyVec.insert.Goals as goal
 use Rattle.tinyvec.proofs.tiny_vec.TinyVec.insert.Goals.{in-Inline, in-Heap, in_default+else-is_err}
 
-pub returns-clause-slot_rule : goal.returns-clause-slot_rule
-returns-clause-slot_rule g c = elim c.match-self.branch [
+slot_rule : (g : _) (c : goal.Joined-self g) → TinySlotRule g.A.Item.Default.is_default c.args.self.now c.match-self.self
+slot_rule g c = elim c.match-self.branch as (λ _. TinySlotRule g.A.Item.Default.is_default c.args.self.now c.match-self.self) [
   | in-Inline w ↦
       let v = w.in-Inline.v in
       let put = w.insert.ensures in
@@ -17,6 +17,19 @@ returns-clause-slot_rule g c = elim c.match-self.branch [
   | in-Heap w ↦ rw w.in-Heap.is (λ i _. absurd (false≢true i))
   | in_default+else-is_err w ↦ search rules
 ]
+
+pub returns-clause-room : goal.returns-clause-room
+returns-clause-room g c = record {
+  place = search rules;
+  slot_rule = slot_rule g c;
+  capacity = search rules;
+  same_room = search rules;
+  grown = search rules;
+  fits = search rules;
+  succeeds = λ _. refl;
+  full = tt;
+  refused = tt;
+}
 
 pub returns-clause-items : goal.returns-clause-items
 returns-clause-items g c = search rules

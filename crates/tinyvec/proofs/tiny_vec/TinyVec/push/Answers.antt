@@ -106,12 +106,18 @@ returns g c =
     let long : tiny_len c.match-self.self ≡ tiny_len c.args.self.now + 1 = omega (arith, simp length-append at (ap length made.items_are)) in record {
       items = made.items_are;
       len = long;
-      place = made.place;
-      slot_rule = made.slot_rule;
-      room = record { capacity = made.capacity; same_room = made.same_room; grown = made.doubles; fits = made.fits };
-      succeeds = λ _. refl;
+      room = record {
+        place = made.place;
+        slot_rule = made.slot_rule;
+        capacity = made.capacity;
+        same_room = made.same_room;
+        grown = made.doubles;
+        fits = made.fits;
+        succeeds = λ _. refl;
+        full = tt;
+        refused = tt;
+      };
       succeeds_inline = λ _ _. refl;
       full = tt;
-      refused = tt;
       value_returned = tt;
     }

@@ -4,6 +4,7 @@ use Rattle.std.proofs.SliceLists.{chained_more}
 use Rattle.std.proofs.iter.Next.{called}
 use Rattle.std.proofs.lemmas.List.{length_push, drop-drop}
 use Rattle.tinyvec.specs.TinyVec.{tiny_items, tiny_len, tiny_spare}
+use Rattle.tinyvec.proofs.FrameLemmas.{taken_stays}
 use Rattle.tinyvec.proofs.tiny_vec.TinyVec.push_answers.Goals as goal
 
 pub loop-self-preserved : goal.loop-self-preserved
@@ -31,6 +32,12 @@ loop-self-preserved g c =
       place = put.frame.place ∙ at.invariant.place;
       capacity = put.frame.capacity ∙ at.invariant.capacity;
     }
+
+pub returns-clause-frame : goal.returns-clause-frame
+returns-clause-frame g c =
+    let inv = c.loop-self.invariant in
+    taken_stays _ _ _ _ (tiny_len c.loop-self.self - tiny_len c.args.self.now) (omega (arith, inv.longer)) (omega (arith, inv.longer, inv.at_most_n, c.requires.room)) inv.spare
+    inv.place inv.capacity
 
 pub returns-clause-items : goal.returns-clause-items
 returns-clause-items g c = let run = c.loop-self.invariant.called in (run.0, c.loop-self.f, run.1, run.2)

@@ -2,7 +2,7 @@ use Rattle.std.proofs.Common.{◌≡◌, ◌++◌, take, drop, length, ap, subst
 use Rattle.tinyvec_slots.specs.Ranges.{range_end}
 use Rattle.tinyvec_slots.proofs.ReplacingLemmas.{placed_at}
 use Rattle.tinyvec.specs.TinyVec.{tiny_items}
-use Rattle.tinyvec.proofs.ReplacingLemmas.{replaced_place, replaced_room}
+use Rattle.tinyvec.proofs.ReplacingLemmas.{replaced_room}
 use Rattle.tinyvec.proofs.tiny_vec.TinyVec.replace_range.Goals as goal
 
 pub returns-clause-items : goal.returns-clause-items
@@ -12,16 +12,6 @@ returns-clause-items g c =
     let list = subst (λ xs. tiny_items c.replace_reserved.new.self ≡ take part.start xs ++ new ++ drop part.end xs) c.reserve.ensures.items c.replace_reserved.ensures.items in
     placed_at _ (tiny_items c.args.self.now) new _ _ _ _ list c.resolve_range-part.ensures.start
     (c.resolve_range-part.ensures.end ∙ ap (range_end (g.R.RangeBounds.end_bound c.args.range)) c.len.ensures.value)
-
-pub returns-clause-place : goal.returns-clause-place
-returns-clause-place g c =
-    let end = c.resolve_range-part.ensures.end ∙ ap (range_end (g.R.RangeBounds.end_bound c.args.range)) c.len.ensures.value in
-    let inside = c.requires.in_list.1 in
-    let long = c.replace_reserved.ensures.len in
-    let same = ap length c.reserve.ensures.items in
-    let more = c.saturating_sub-more.ensures in
-    replaced_place _ _ _ _ _ (omega (arith, c.len.ensures.fits, c.len.ensures.value)) (omega (arith, long, same, more, end, inside)) (λ some. omega (arith, long, same, more, end, inside, some))
-    c.in_ok-reserve.ensures.place c.replace_reserved.ensures.frame.place
 
 pub returns-clause-room : goal.returns-clause-room
 returns-clause-room g c =

@@ -1,4 +1,4 @@
-use Rattle.std.proofs.Common.{◌≡◌, ◌∙◌, ◌+◌, ◌≤◌, inr, length, max, arith, rules}
+use Rattle.std.proofs.Common.{◌≡◌, ◌∙◌, ◌+◌, ◌≤◌, inr, length, arith, rules}
 use Rattle.tinyvec.specs.TinyVec.{tiny_items, tiny_len}
 use Rattle.tinyvec.specs.Lends.{tiny_with_items}
 use Rattle.tinyvec.proofs.TinyLemmas.{tiny_framed-with, tiny_items-with, tiny_slots_then_framed}
@@ -12,8 +12,8 @@ returns-clause-place g c =
     let mid = c.resize_with.new.self in
     let same : length c.read_items.new.slots ≡ tiny_len mid = search rules in
     let framed = tiny_framed-with mid c.read_items.new.slots same in
-    let long : tiny_len mid ≡ max (tiny_len mid) (tiny_len c.args.v.now) = search rules in
-    on-ok c.read_items.result (λ _. place-framed g.A.Array.CAPACITY _ c.args.v.now mid (tiny_with_items mid c.read_items.new.slots) (search rules) framed.place (framed.len ∙ long)) c.read_items.ensures.ok
+    let made = c.in-Ok.ensures in
+    on-ok c.read_items.result (λ _. place-framed g.A.Array.CAPACITY _ c.args.v.now mid (tiny_with_items mid c.read_items.new.slots) made.room.place framed.place (framed.len ∙ made.len)) c.read_items.ensures.ok
 
 pub returns-clause-ok : goal.returns-clause-ok
 returns-clause-ok g c =
@@ -40,7 +40,7 @@ pub returns-clause-slot_rule : goal.returns-clause-slot_rule
 returns-clause-slot_rule g c =
     let mid = c.resize_with.new.self in
     let same : length c.read_items.new.slots ≡ tiny_len mid = search rules in
-    on-ok c.read_items.result (λ _. tiny_slots_then_framed g.A.Item.Default.is_default c.args.v.now mid (tiny_with_items mid c.read_items.new.slots) c.resize_with.ensures.slot_rule (tiny_framed-with mid c.read_items.new.slots same)) c.read_items.ensures.ok
+    on-ok c.read_items.result (λ _. tiny_slots_then_framed g.A.Item.Default.is_default c.args.v.now mid (tiny_with_items mid c.read_items.new.slots) c.resize_with.ensures.room.slot_rule (tiny_framed-with mid c.read_items.new.slots same)) c.read_items.ensures.ok
 
 pub returns-clause-room : goal.returns-clause-room
 returns-clause-room g c =

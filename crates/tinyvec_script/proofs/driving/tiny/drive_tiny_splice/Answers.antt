@@ -9,13 +9,12 @@ use Rattle.tinyvec_slots.specs.AnySplice.{FinishesWith}
 use Rattle.tinyvec_slots.specs.SplicedByWord.{SplicedByWord}
 use Rattle.tinyvec_slots.proofs.Fused.{fused_ends}
 use Rattle.tinyvec_slots.proofs.Lists.{length-slice_range}
-use Rattle.tinyvec.specs.TinyVec.{tiny_items, tiny_len, tiny_capacity, SameFrame}
-use Rattle.tinyvec.proofs.TinyLemmas.{tiny_slots_framed}
+use Rattle.tinyvec.specs.TinyVec.{tiny_view, tiny_items, tiny_capacity, SameFrame}
 use Rattle.tinyvec.specs.TinyVecSplice.{splice_view, splice_left, splice_replacement, splice_vec, SpliceKeeps, SpliceSteps, SpliceStepsBack}
 use Rattle.tinyvec.specs.declared.splice.TinyVecSplice.{TinyVecSplice}
 use Rattle.tinyvec.proofs.SpliceLemmas.{RunsWord-splices, RunsWord-takes_removed}
 use Rattle.tinyvec_script.specs.Driving.{refused_items, TinySplices}
-use Rattle.tinyvec_script.proofs.DrivingLemmas.{into_iter_ends, given_within, place_framed, room_framed, grown_framed, capacity_framed, splices_finished, refused_over, rest_within, splice_computes}
+use Rattle.tinyvec_script.proofs.DrivingLemmas.{into_iter_ends, given_within, grows_framed, splices_finished, refused_over, rest_within, splice_computes}
 use Rattle.tinyvec_script.proofs.driving.tiny.drive_tiny_splice.Goals.{After-finish}
 use Rattle.tinyvec_script.proofs.driving.tiny.drive_tiny_splice.Goals as goal
 
@@ -89,23 +88,16 @@ returns-clause-splices g c =
     let list = splices_finished splice_view SpliceKeeps (fused_rest into_iter_items) _ _ word asks.0 (along _ _ asks.0 _ asks.1) (takes _ _ asks.0 _ asks.1) (tiny_capacity slots v)
     (tiny_items c.args.vec.now) (tiny_items v) c.args.start c.args.end P
     c.requires.start_le_end c.requires.in_bounds made.front made.left made.back (whole g d) c.finish.result (finished g d) in
-    let fact : TinySplices D slots c.args.vec.now c.args.start c.args.end word P c.take_word.new.yields.items c.keep_refused.new.list.items v = record {
+    let fact : TinySplices D slots (tiny_view old) c.args.start c.args.end word P c.take_word.new.yields.items c.keep_refused.new.list.items (tiny_view v) = record {
       list = rw (yields, rest) list;
-      grows = record {
-        place = place_framed slots (tiny_len v) old mid v frame c.finish.ensures.grows.place;
-        slot_rule = tiny_slots_framed D old mid v frame c.finish.ensures.grows.slot_rule;
-        capacity = capacity_framed slots (tiny_len v) old mid v frame c.finish.ensures.grows.capacity;
-        same_room = room_framed slots (tiny_len v) old mid v frame c.finish.ensures.grows.same_room;
-        grown = grown_framed slots (tiny_len v) old mid v frame c.finish.ensures.grows.grown;
-        fits = c.finish.ensures.grows.fits;
-      };
+      grows = grows_framed D slots old mid v frame c.finish.ensures.grows;
       no_shorter = λ over. rw (sym frame.len) (refused_over splice_view SpliceKeeps (fused_rest into_iter_items) _ _ word asks.0 (along _ _ asks.0 _ asks.1) (takes _ _ asks.0 _ asks.1)
           (tiny_capacity slots v) (tiny_items c.args.vec.now) (tiny_items v) c.args.start c.args.end P
           c.requires.start_le_end c.requires.in_bounds made.front made.left made.back (whole g d) c.finish.result (finished g d) c.finish.ensures.no_shorter over);
     } in
     let same = made.same_reference in
     let lender = kept.same_reference in
-    subst (TinySplices D slots c.args.vec.now c.args.start c.args.end word P c.take_word.new.yields.items c.keep_refused.new.list.items) (search rules) fact
+    subst (λ w. TinySplices D slots (tiny_view old) c.args.start c.args.end word P c.take_word.new.yields.items c.keep_refused.new.list.items (tiny_view w)) (search rules) fact
 
 pub returns-clause-computed : goal.returns-clause-computed
 returns-clause-computed g c =

@@ -1,4 +1,3 @@
-use Rattle.tinyvec_script.proofs.PlaceLemmas.{place_of-inline}
 use Rattle.tinyvec_script.proofs.vectors.Vectors.write_vector.Goals as goal
 
 pub returns-in-A : goal.returns-in-A
@@ -8,4 +7,4 @@ pub returns-in-S : goal.returns-in-S
 returns-in-S g c = rw c.in-S.is (rw (c.as_slice-in-S.ensures, c.grab_spare_slice-in-S.ensures) at c.write_state-in-S.ensures)
 
 pub returns-in-T : goal.returns-in-T
-returns-in-T g c = rw (c.in-T.is, place_of-inline c.args.self.now.t) (rw (c.as_slice-in-T.ensures, c.is_inline.ensures) at c.write_place_state.ensures)
+returns-in-T g c = rw c.in-T.is (rw (c.as_slice-in-T.ensures, c.is_inline.ensures) at c.write_place_state.ensures)

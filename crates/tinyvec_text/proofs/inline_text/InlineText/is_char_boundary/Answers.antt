@@ -11,5 +11,5 @@ returns g c =
       λ yes. subst (λ (t : Text). IsBoundary (text_chars t) i) c.self.view_is
           (boundary_from_split _ utf8 i (rw c.as_slice.ensures at (c.is_split_point.ensures.0 yes))),
       λ cut. c.is_split_point.ensures.1 (rw (← c.as_slice.ensures) at
-          (text_cut g.row.N c.self.inside.list c.args.self.now c.self.view_is c.self.invariant i cut)),
+          (text_cut c.self.inside.list c.args.self.now c.self.view_is c.self.invariant i cut)),
     )

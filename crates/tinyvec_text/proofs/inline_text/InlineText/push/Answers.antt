@@ -8,13 +8,13 @@ use Rattle.tinyvec_text.proofs.Lists.{text_utf8, text_kept, text_same}
 use Rattle.tinyvec_text.proofs.inline_text.InlineText.push.Goals as goal
 
 pub invariant_of-self : goal.invariant_of-self
-invariant_of-self g c = text_same c.self.inside.list c.push.new.self c.in_err-push.ensures.refused c.self.invariant
+invariant_of-self g c = text_same c.self.inside.list c.push.new.self c.in_err-push.ensures.room.refused c.self.invariant
 
 pub invariant_of-self-then-is_ascii : goal.invariant_of-self-then-is_ascii
 invariant_of-self-then-is_ascii g c =
     let joined : tiny_items c.push.new.self ≡ tiny_items c.self.inside.list ++ c.args.ch ∷ [] = search rules in
     let ascii = IsUtf8-from_ascii (c.args.ch ∷ []) (search rules) in
-    text_kept c.self.inside.list c.push.new.self (λ i. (c.in_ok-push.ensures.place.0 i).0) c.in_ok-push.ensures.slot_rule c.self.invariant
+    text_kept c.self.inside.list c.push.new.self (λ i. (c.in_ok-push.ensures.room.place.0 i).0) c.in_ok-push.ensures.room.slot_rule c.self.invariant
     (subst IsUtf8 (sym joined) (IsUtf8-append _ _ (text_utf8 c.self.inside.list c.self.invariant) ascii))
 
 pub returns-then-is_ascii-clause-text : goal.returns-then-is_ascii-clause-text

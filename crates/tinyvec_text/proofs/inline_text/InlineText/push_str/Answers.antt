@@ -11,8 +11,8 @@ invariant_of-self g c = text_same c.self.inside.list c.extend_from_slice.new.sel
 pub invariant_of-self-2 : goal.invariant_of-self-2
 invariant_of-self-2 g c =
     let joined : tiny_items c.extend_from_slice.new.self ≡ tiny_items c.self.inside.list ++ c.args.string.now = search rules in
-    text_kept c.self.inside.list c.extend_from_slice.new.self (λ i. (c.in_ok-extend_from_slice.ensures.place.0 i).0)
-    c.in_ok-extend_from_slice.ensures.slot_rule c.self.invariant
+    text_kept c.self.inside.list c.extend_from_slice.new.self (λ i. (c.in_ok-extend_from_slice.ensures.room.place.0 i).0)
+    c.in_ok-extend_from_slice.ensures.room.slot_rule c.self.invariant
     (subst IsUtf8 (sym joined) (IsUtf8-append _ _ (text_utf8 c.self.inside.list c.self.invariant) c.utf8.string))
 
 pub returns-clause-text : goal.returns-clause-text

@@ -1,6 +1,6 @@
 use Rattle.std.proofs.Common.{◌≡◌, ◌+◌, ◌≤◌, ◌++◌, IsUtf8, ap, sym, subst, ◌∙◌, chars, length, rules}
 use Rattle.std.proofs.lemmas.Str.{IsUtf8-append, chars-append}
-use Rattle.tinyvec.proofs.TinyLemmas.{capacity_inline}
+use Rattle.tinyvec.specs.View.{lies_inline}
 use Rattle.tinyvec.specs.TinyVec.{tiny_items, tiny_len, tiny_capacity}
 use Rattle.tinyvec_text.specs.InlineText.{Text, text_of, text_chars}
 use Rattle.tinyvec_text.proofs.Lists.{text_utf8, text_kept, place_stays}
@@ -16,7 +16,7 @@ pub invariant_of-self : goal.invariant_of-self
 invariant_of-self g c =
     let list = c.self.inside.list in
     let joined : tiny_items c.extend_from_slice.new.self ≡ tiny_items list ++ c.args.string.now = search rules in
-    text_kept list c.extend_from_slice.new.self (λ i. (c.in-Ok.ensures.place.0 i).0) c.in-Ok.ensures.slot_rule c.self.invariant
+    text_kept list c.extend_from_slice.new.self (λ i. (c.in-Ok.ensures.room.place.0 i).0) c.in-Ok.ensures.room.slot_rule c.self.invariant
     (subst IsUtf8 (sym joined) (IsUtf8-append _ _ (text_utf8 list c.self.invariant) c.utf8.string))
 
 pub returns-clause-text : goal.returns-clause-text
@@ -31,7 +31,7 @@ returns-clause-frame g c =
     let new = c.extend_from_slice.new.self in
     let enough : tiny_len list + length c.as_bytes.result.now ≤ tiny_capacity g.row.N list = search rules in
     record {
-      place = place_stays g.row.N _ (text_of g.row.N list) (text_of g.row.N new) (capacity_inline g.row.N list) enough c.in-Ok.ensures.place ∙ ap (λ (t : Text). t.inline) c.self.view_is;
+      place = place_stays g.row.N _ (text_of list) (text_of new) enough c.in-Ok.ensures.room.place ∙ ap (λ (t : Text). lies_inline t.place) c.self.view_is;
       room = search rules;
       fits = search rules;
     }

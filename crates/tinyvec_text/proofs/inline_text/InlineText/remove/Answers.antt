@@ -1,5 +1,6 @@
 use Rattle.std.proofs.Common.{◌≡◌, ◌+◌, ◌-◌, ◌++◌, ◌∷◌, IsUtf8, IsTrue, encode_utf8, ap, sym, subst, ◌∙◌, chars, length, take, drop, take_all, le_of_eq, length-drop, length-take-le, length-append, arith}
 use Rattle.std.proofs.CharBoundary.{IsUtf8-take-drop}
+use Rattle.tinyvec.specs.View.{lies_inline, capacity_in}
 use Rattle.tinyvec.specs.TinyVec.{tiny_items, tiny_len}
 use Rattle.tinyvec.proofs.DrainLemmas.{DrainKeeps-refl, tiny_drained}
 use Rattle.tinyvec_text.specs.InlineText.{Text, text_chars}
@@ -12,7 +13,7 @@ first_char-c-requires-clause-utf8 g c =
     let list = c.self.inside.list in
     let i = c.args.index in
     let sl = c.as_slice.result.now in
-    let cut = text_cut g.row.N list c.args.self.now c.self.view_is c.self.invariant i c.requires.boundary in
+    let cut = text_cut list c.args.self.now c.self.view_is c.self.invariant i c.requires.boundary in
     let tail : take (length sl - i) (drop i sl) ≡ drop i (tiny_items list) = take_all _ _ (le_of_eq (length-drop i sl)) ∙ ap (drop i) c.as_slice.ensures in
     subst IsUtf8 (sym tail) (IsUtf8-take-drop (tiny_items list) (text_utf8 list c.self.invariant) i cut).1
 
@@ -25,7 +26,7 @@ invariant_of-self g c =
     let x = c.first_char-c.result.0 in
     let sl = c.as_slice.result.now in
     let utf8 = text_utf8 list c.self.invariant in
-    let cut = text_cut g.row.N list c.args.self.now c.self.view_is c.self.invariant i c.requires.boundary in
+    let cut = text_cut list c.args.self.now c.self.view_is c.self.invariant i c.requires.boundary in
     let tail : take (length sl - i) (drop i sl) ≡ drop i bs = take_all _ _ (le_of_eq (length-drop i sl)) ∙ ap (drop i) c.as_slice.ensures in
     let own : take n (drop i bs) ≡ encode_utf8 x = subst (λ xs. take n xs ≡ encode_utf8 x) tail c.first_char-c.ensures.encoded in
     let rest : IsUtf8 (drop n (drop i bs)) = subst (λ xs. IsUtf8 (drop n xs)) tail c.first_char-c.ensures.rest in
@@ -44,7 +45,7 @@ returns-clause-text g c =
     let x = c.first_char-c.result.0 in
     let sl = c.as_slice.result.now in
     let utf8 = text_utf8 list c.self.invariant in
-    let cut = text_cut g.row.N list c.args.self.now c.self.view_is c.self.invariant i c.requires.boundary in
+    let cut = text_cut list c.args.self.now c.self.view_is c.self.invariant i c.requires.boundary in
     let tail : take (length sl - i) (drop i sl) ≡ drop i bs = take_all _ _ (le_of_eq (length-drop i sl)) ∙ ap (drop i) c.as_slice.ensures in
     let own : take n (drop i bs) ≡ encode_utf8 x = subst (λ xs. take n xs ≡ encode_utf8 x) tail c.first_char-c.ensures.encoded in
     let rest : IsUtf8 (drop n (drop i bs)) = subst (λ xs. IsUtf8 (drop n xs)) tail c.first_char-c.ensures.rest in
@@ -63,7 +64,7 @@ returns-clause-frame g c =
     let bs = tiny_items list in
     let i = c.args.index in
     let n = c.first_char-c.result.1 in
-    let cut = text_cut g.row.N list c.args.self.now c.self.view_is c.self.invariant i c.requires.boundary in
+    let cut = text_cut list c.args.self.now c.self.view_is c.self.invariant i c.requires.boundary in
     let d = c.drain.result in
     let left = tiny_drained (λ b. b ≡ 0) list d d c.drop.new.self.0 c.drain.ensures.frame (DrainKeeps-refl d) c.drop.ensures in
     let size : tiny_len c.drop.new.self.0 ≡ length (take i bs) + length (drop (i + n) bs) = ap length (left.items ∙ c.drain.ensures.kept) ∙ length-append (take i bs) (drop (i + n) bs) in
@@ -73,7 +74,7 @@ returns-clause-frame g c =
     let value = c.len-len.ensures.value in
     let room = left.capacity g.row.N in
     record {
-      place = left.place ∙ ap (λ (t : Text). t.inline) c.self.view_is;
-      room = room ∙ ap (λ (t : Text). t.room) c.self.view_is;
+      place = left.place ∙ ap (λ (t : Text). lies_inline t.place) c.self.view_is;
+      room = room ∙ ap (λ (t : Text). capacity_in g.row.N t.place) c.self.view_is;
       fits = omega (arith, size, front, behind, fits, value, room, cut.0);
     }

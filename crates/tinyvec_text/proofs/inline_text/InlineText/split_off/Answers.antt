@@ -7,7 +7,7 @@ use Rattle.tinyvec_text.proofs.Lists.{text_utf8, text_cut, text_stays, text_made
 use Rattle.tinyvec_text.proofs.inline_text.InlineText.split_off.Goals as goal
 
 pub split_off-requires : goal.split_off-requires
-split_off-requires g c = (text_cut g.row.N c.self.inside.list c.args.self.now c.self.view_is c.self.invariant c.args.at c.requires).0
+split_off-requires g c = (text_cut c.self.inside.list c.args.self.now c.self.view_is c.self.invariant c.args.at c.requires).0
 
 pub invariant_of-self : goal.invariant_of-self
 invariant_of-self g c = subst IsText (sym c.in_err-list.ensures.refused) c.self.invariant
@@ -15,7 +15,7 @@ invariant_of-self g c = subst IsText (sym c.in_err-list.ensures.refused) c.self.
 pub invariant_of-result : goal.invariant_of-result
 invariant_of-result g c =
     let list = c.self.inside.list in
-    let cut = text_cut g.row.N list c.args.self.now c.self.view_is c.self.invariant c.args.at c.requires in
+    let cut = text_cut list c.args.self.now c.self.view_is c.self.invariant c.args.at c.requires in
     let back = (IsUtf8-take-drop (tiny_items list) (text_utf8 list c.self.invariant) c.args.at cut).1 in
     let told = c.in_ok-list.ensures in
     text_made _ c.in_ok-list.list (subst IsUtf8 (sym told.tail) back) told.tail_spare
@@ -23,7 +23,7 @@ invariant_of-result g c =
 pub invariant_of-self-2 : goal.invariant_of-self-2
 invariant_of-self-2 g c =
     let list = c.self.inside.list in
-    let cut = text_cut g.row.N list c.args.self.now c.self.view_is c.self.invariant c.args.at c.requires in
+    let cut = text_cut list c.args.self.now c.self.view_is c.self.invariant c.args.at c.requires in
     let front = (IsUtf8-take-drop (tiny_items list) (text_utf8 list c.self.invariant) c.args.at cut).0 in
     let told = c.in_ok-list.ensures in
     text_stays g.row.N list c.split_off.new.self told.frame c.self.invariant (subst IsUtf8 (sym told.items) front)
@@ -31,7 +31,7 @@ invariant_of-self-2 g c =
 pub returns-clause-text : goal.returns-clause-text
 returns-clause-text g c =
     let list = c.self.inside.list in
-    let cut = text_cut g.row.N list c.args.self.now c.self.view_is c.self.invariant c.args.at c.requires in
+    let cut = text_cut list c.args.self.now c.self.view_is c.self.invariant c.args.at c.requires in
     let told = c.in_ok-list.ensures in
     sym (ap text_chars c.self.view_is) ∙ chars_cut (tiny_items list) (text_utf8 list c.self.invariant) c.args.at cut
     ∙ sym (λ i. chars (told.items i) ++ chars (told.tail i))

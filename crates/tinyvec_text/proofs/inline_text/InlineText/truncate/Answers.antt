@@ -9,19 +9,19 @@ use Rattle.tinyvec_text.proofs.inline_text.InlineText.truncate.Goals as goal
 pub invariant_of-self : goal.invariant_of-self
 invariant_of-self g c =
     let list = c.self.inside.list in
-    let cut = text_cut g.row.N list c.args.self.now c.self.view_is c.self.invariant c.args.new_len c.requires in
+    let cut = text_cut list c.args.self.now c.self.view_is c.self.invariant c.args.new_len c.requires in
     let front = (IsUtf8-take-drop (tiny_items list) (text_utf8 list c.self.invariant) c.args.new_len cut).0 in
     text_stays g.row.N c.self.inside.list c.truncate.new.self c.truncate.ensures.frame c.self.invariant (subst IsUtf8 (sym c.truncate.ensures.items) front)
 
 pub returns-clause-text : goal.returns-clause-text
 returns-clause-text g c =
     let list = c.self.inside.list in
-    let cut = text_cut g.row.N list c.args.self.now c.self.view_is c.self.invariant c.args.new_len c.requires in
+    let cut = text_cut list c.args.self.now c.self.view_is c.self.invariant c.args.new_len c.requires in
     let rest = chars (drop c.args.new_len (tiny_items list)) in
     (rest, sym (ap text_chars c.self.view_is) ∙ chars_cut (tiny_items list) (text_utf8 list c.self.invariant) c.args.new_len cut ∙ ap (λ xs. chars xs ++ rest) (sym c.truncate.ensures.items))
 
 pub returns-clause-len : goal.returns-clause-len
 returns-clause-len g c =
     let list = c.self.inside.list in
-    let cut = text_cut g.row.N list c.args.self.now c.self.view_is c.self.invariant c.args.new_len c.requires in
+    let cut = text_cut list c.args.self.now c.self.view_is c.self.invariant c.args.new_len c.requires in
     ap length c.truncate.ensures.items ∙ length-take-le c.args.new_len (tiny_items list) cut.0

@@ -8,7 +8,7 @@ pub returns-clause-runs_back : goal.returns-clause-runs_back
 returns-clause-runs_back g c = gives_runs_back
 
 pub returns-clause-both_ends : goal.returns-clause-both_ends
-returns-clause-both_ends g c = gives_from_ends c.over.result
+returns-clause-both_ends g c = gives_from_ends c.into_items.result
 
 pub returns-clause-into_iter_gives : goal.returns-clause-into_iter_gives
-returns-clause-into_iter_gives g c = (c.over.ensures.items, c.over.ensures.bound, gives_runs, gives_runs_back)
+returns-clause-into_iter_gives g c = (c.into_items.ensures.items, c.into_items.ensures.bound, gives_runs, gives_runs_back)
