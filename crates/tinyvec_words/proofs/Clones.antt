@@ -18,7 +18,7 @@ example-ClonesOver = record {
   written = refl;
 }
 
-pub example-AddsClones : AddsClones {E = ℕ} (record { is_clone = C; is_infallible = I }) (7 ∷ 8 ∷ []) (Ok tt) (over (1 ∷ []) (0 ∷ 0 ∷ 3 ∷ [])) (over (1 ∷ 7 ∷ 8 ∷ []) (3 ∷ []))
+pub example-AddsClones : AddsClones {R = ℕ} {E = ℕ} (record { is_clone = C; is_infallible = I }) (7 ∷ 8 ∷ []) (Ok 0) (over (1 ∷ []) (0 ∷ 0 ∷ 3 ∷ [])) (over (1 ∷ 7 ∷ 8 ∷ []) (3 ∷ []))
 example-AddsClones = record {
   items = (7 ∷ 8 ∷ [], refl, (refl, (refl, tt)));
   len = refl;

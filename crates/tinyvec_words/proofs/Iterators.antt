@@ -27,7 +27,7 @@ example-IntoIterYields = search rules
 pub example-Fills : Fills {U = List ℕ} (λ xs it. it ≡ xs) GivesFirst (1 ∷ 2 ∷ 3 ∷ []) 2 (λ xs. xs ≡ 1 ∷ 2 ∷ []) (3 ∷ [])
 example-Fills = fills_by _ _ _ _ _ (1 ∷ 2 ∷ 3 ∷ []) (1 ∷ 2 ∷ []) refl refl (3 ∷ []) (search rules)
 
-pub example-Extends : Extends {U = List ℕ} {R = ℕ} (λ xs it. it ≡ xs) GivesFirst (1 ∷ 2 ∷ 3 ∷ []) 2 (λ xs. xs ≡ 1 ∷ 2 ∷ []) (Err (record { item = 3; rest = [] }))
+pub example-Extends : Extends {U = List ℕ} (λ xs it. it ≡ xs) GivesFirst (1 ∷ 2 ∷ 3 ∷ []) 2 (λ xs. xs ≡ 1 ∷ 2 ∷ []) {R = ℕ} (Err (record { item = 3; rest = [] }))
 example-Extends = extends_full _ _ _ _ _ (1 ∷ 2 ∷ 3 ∷ []) (1 ∷ 2 ∷ []) refl refl [] 3 refl (search rules)
 
 pub example-fused_rest : (s : Fuse (List ℕ)) → fuse_done s ≡ true → fused_rest (λ left. left) s ≡ []
