@@ -1,7 +1,7 @@
 -- Lemmas on lists of clones. C is the `is_clone` of an item's `Clone`.
-use Rattle.std.proofs.Common.{◌≡◌, ℕ, Result, Ok, Err, ◌+◌, ◌-◌, ◌<◌, List, [], ◌∷◌, ◌++◌, length, take, drop, get_or, replicate, refl, sym, ap, subst, ◌∙◌, append_assoc, arith, length-append, length-drop, drop_at, take_all, take-append-drop}
+use Rattle.std.proofs.Common.{◌≡◌, ℕ, Result, Ok, Err, ◌+◌, ◌-◌, ◌<◌, ◌≤◌, List, [], ◌∷◌, ◌++◌, length, take, drop, slice_range, get_or, replicate, refl, sym, ap, subst, ◌∙◌, append_assoc, arith, length-append, length-drop, length-take-le, drop_at, take_all, take-append-drop}
 use Rattle.std.proofs.Math.Seq.{take-add}
-use Rattle.std.proofs.lemmas.List.{take_more, take_rest, replicate_more, get_or_default}
+use Rattle.std.proofs.lemmas.List.{take_more, take_rest, replicate_more, get_or_default, get_or_append_left, get_or-take, get_or-drop}
 use Rattle.std.proofs.lemmas.List.Elements.{AllZip-push, length_all_zip}
 use Rattle.std.specs.Prelude.{OnOk, OnErr, if◌then◌else◌, is_ok}
 use Rattle.std.specs.List.{AllZip, AppendsClones}
@@ -60,6 +60,31 @@ module _ {T : Type 0} (C : T → T → Type 0) where
 -- the clone of the element at i was refused
 pub refused_at : {T : Type 0} (I : T → Type 0) (from : List T) (i : ℕ) (x : T) → i < length from → x ≡ get_or from i x → (I x → ⊥) → (j : ℕ) × RefusedAt I from j
 refused_at I from i x lt is refused = (i, (lt, λ d sure. refused (subst I (get_or_default from i d x lt ∙ sym is) sure)))
+
+-- Clones of the items of `old` from `start` up to i were appended, one by one.
+module _ {T : Type 0} (C : T → T → Type 0) (old new : List T) (start i : ℕ) (le : start ≤ i) (h : AppendsClones C old new (slice_range old start i)) where
+  pub within_len : i ≤ length old → length new ≡ length old + (i - start)
+  within_len last =
+      appends_len C old new (slice_range old start i) h
+      ∙ ap (λ n. length old + n) (length-take-le (i - start) (drop start old) (omega (arith, length-drop start old, le, last)))
+
+  module _ (x : T) (lt : i < length old) (is : x ≡ get_or new i x) where
+    within_read : x ≡ get_or (drop start old) (i - start) x
+    within_read =
+        let at : start + (i - start) ≡ i = omega (arith, le) in
+        is ∙ ap (λ l. get_or l i x) h.1 ∙ get_or_append_left old h.0 x i lt ∙ sym (get_or-drop start old (i - start) x ∙ ap (λ k. get_or old k x) at)
+
+    pub within_next : (y : T) → C x y → AppendsClones C old (new ++ y ∷ []) (slice_range old start (i + 1))
+    within_next y clone =
+        appends_of_next C old new (drop start old) (i - start) (i + 1 - start) x y (omega (arith, length-drop start old, le, lt)) (omega (arith, le)) within_read clone h
+
+    pub within_refused : (I : T → Type 0) (end : ℕ) → i < end → end ≤ length old → (I x → ⊥) → (j : ℕ) × RefusedAt I (slice_range old start end) j
+    within_refused I end before last refused =
+        let n = end - start in
+        let few : i - start < n = omega (arith, le, before) in
+        let long = length-take-le n (drop start old) (omega (arith, length-drop start old, last, le, before)) in
+        refused_at I (slice_range old start end) (i - start) x (omega (arith, long, few))
+        (within_read ∙ sym (get_or-take n (drop start old) (i - start) x few)) refused
 
 -- what a value is after each outcome of a call, said at once
 pub chosen : {T E A : Type 0} (r : Result T E) {x : A} (y z : A) → OnOk r (x ≡ y) → OnErr r (x ≡ z) → x ≡ (if is_ok r then y else z)

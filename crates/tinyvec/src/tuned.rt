@@ -2,7 +2,7 @@
 //!
 //! Each loop works on a local variable, whose length and pointer LLVM keeps in registers. Through a reference it cannot,
 //! since the items might overlap the vector.
-ghost use Rattle.std.specs.Prelude.{◌≡◌, ◌+◌, ◌<◌, ◌≤◌, ◌++◌, ℕ, All, length, take, replicate, IsOk, OnOk, OnErr, vec_len, vec_capacity};
+ghost use Rattle.std.specs.Prelude.{◌≡◌, ◌+◌, ◌-◌, ◌<◌, ◌≤◌, ◌++◌, ℕ, All, length, take, slice_range, replicate, IsOk, OnOk, OnErr, vec_len, vec_capacity};
 ghost use Rattle.std.specs.List.{AppendsClones};
 ghost use Rattle.tinyvec_slots.specs.Clones.{RefusedAt};
 
@@ -68,6 +68,36 @@ fn push_until_refused<T: Clone>(vec: &mut Vec<T>, from: &[T]) -> usize
         vec.push_reserved(x);
     }
     from.len()
+}
+
+// Appends clones of the items from `start` up to `end`, if there is room.
+pub(crate) fn push_clones_within<T: Clone>(
+    heap: &mut Vec<T>,
+    start: usize,
+    end: usize,
+) -> Result<(), AllocError>
+    requires in_list { (start ≤ end) × (end ≤ vec_len heap.old) }
+    requires room { vec_len heap.old + (end - start) ≤ vec_capacity heap.old }
+    ensures items { OnOk result (AppendsClones T.is_clone heap.old.items heap.new.items (slice_range heap.old.items start end)) }
+    ensures kept { OnErr result (heap.new.items ≡ heap.old.items) }
+    ensures refused { OnErr result ((j : ℕ) × RefusedAt T.is_infallible (slice_range heap.old.items start end) j) }
+    ensures capacity { vec_capacity heap.new ≡ vec_capacity heap.old }
+    ensures succeeds { All T.is_infallible (slice_range heap.old.items start end) → IsOk result }
+{
+    let mut vec = mem::replace(heap, Vec::new(*heap.allocator()));
+    let len = vec.len();
+    for i in start..end {
+        match vec.as_slice()[i].clone() {
+            Ok(x) => vec.push_reserved(x),
+            Err(error) => {
+                vec.truncate(len);
+                *heap = vec;
+                return Err(error);
+            }
+        }
+    }
+    *heap = vec;
+    Ok(())
 }
 
 // Appends `n` clones of `x`, if there is room.

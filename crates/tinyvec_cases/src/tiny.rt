@@ -140,6 +140,13 @@ impl<T: Item, A: Array<Item = T>> Vector for TinyVec<A> {
         done(out, self.extend_from_slice(with))
     }
 
+    fn extend_from_within(&mut self, n: usize, out: &mut String) -> Result<(), Wrong> {
+        if n > self.len() {
+            return Err(Wrong::Place);
+        }
+        done(out, self.extend_from_within(..n))
+    }
+
     fn resize(&mut self, n: usize, x: T, out: &mut String) -> Result<(), Wrong> {
         done(out, self.resize(n, x))
     }

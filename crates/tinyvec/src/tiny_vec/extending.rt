@@ -1,5 +1,5 @@
 //! Growing by other lists, by clones, by iterators and by closures.
-ghost use Rattle.std.specs.Prelude.{◌≡◌, ◌+◌, ◌≤◌, ◌++◌, ℕ, All, length, take, drop, IsOk, OnOk, OnErr, if◌then◌else◌, is_ok, ◌<◌, [], ◌-◌, ◌*◌, ◌↔◌, ◌∷◌, List, Some, MatchResult, IfOk, IfErr, vec_len, vec_capacity, max, replicate};
+ghost use Rattle.std.specs.Prelude.{◌≡◌, ◌+◌, ◌≤◌, ◌++◌, ℕ, All, length, take, drop, slice_range, IsOk, OnOk, OnErr, if◌then◌else◌, is_ok, ◌<◌, [], ◌-◌, ◌*◌, ◌↔◌, ◌∷◌, List, Some, MatchResult, IfOk, IfErr, vec_len, vec_capacity, max, replicate};
 ghost use Rattle.std.specs.List.{AppendsClones, AppendsResults};
 ghost use Rattle.tinyvec_slots.specs.Clones.{RefusedAt, ClonesAreEqual};
 ghost use Rattle.tinyvec.specs.TinyVec.{tiny_items, tiny_len, tiny_spare, is_inline, tiny_capacity, TinySlotRule, IsInline, StaysInPlace};
@@ -7,14 +7,17 @@ ghost use Rattle.tinyvec.specs.Refused.{RefusedFor, ClonesBehind};
 ghost use Rattle.tinyvec.specs.Room.{GrowsFor, RoomGrows, MakesRoom, Grows};
 ghost use Rattle.tinyvec_slots.specs.Slots.{AreDefaults, items, spare, items_len};
 ghost use Rattle.std.specs.Iterator.{IsFinite, Drains, YieldsThen};
+ghost use Rattle.tinyvec_slots.specs.Ranges.{IsRangeOf, removed};
 ghost use Rattle.tinyvec_slots.specs.Filling.{ShowsItems, IntoIterYields};
 ghost use Rattle.tinyvec.specs.Following.{Follows};
 
 use crate::TinyVec;
-use crate::tuned::{push_clones, push_clones_of, push_copies};
+use crate::tuned::{push_clones, push_clones_of, push_clones_within, push_copies};
 use std::alloc::{AllocError, Global};
 use std::mem;
+use std::ops::RangeBounds;
 use tinyvec_array::{Array, ArrayVec, FromIterRest, NoMemory, NoRoom};
+use tinyvec_slots::resolve_range;
 
 impl<A: Array> TinyVec<A> {
     // `extend_from_slice` of a list that has room.
@@ -76,6 +79,69 @@ impl<A: Array> TinyVec<A> {
                 self.grow(other.len())?;
                 self.extend_reserved(other)
             }
+        }
+    }
+
+    /// Appends clones of the items of the range. Room for all is allocated once, before any is cloned.
+    ///
+    /// `not_exhausted` fails only for a `RangeInclusive` that was iterated to its end.
+    pub fn extend_from_within<R: RangeBounds<usize>>(&mut self, range: R) -> Result<(), AllocError>
+    where
+        A::Item: Clone,
+        requires not_exhausted { R.has_bounds range }
+        requires in_list { IsRangeOf (tiny_items self.old) (R.start_bound range) (R.end_bound range) }
+        ensures items { OnOk result (AppendsClones A.Item.is_clone (tiny_items self.old) (tiny_items self.new)
+            (removed (tiny_items self.old) (R.start_bound range) (R.end_bound range))) }
+        ensures len { OnOk result (tiny_len self.new ≡ tiny_len self.old
+            + length (removed (tiny_items self.old) (R.start_bound range) (R.end_bound range))) }
+        ensures if_clones_equal { OnOk result (ClonesAreEqual A.Item.is_clone → tiny_items self.new
+            ≡ tiny_items self.old ++ removed (tiny_items self.old) (R.start_bound range) (R.end_bound range)) }
+        ensures room { RoomGrows GrowsFor A.Item.is_default A.CAPACITY (tiny_len self.old
+            + length (removed (tiny_items self.old) (R.start_bound range) (R.end_bound range))) self.old self.new result }
+
+        // If there is room only clones allocate.
+        ensures succeeds { tiny_len self.old
+            + length (removed (tiny_items self.old) (R.start_bound range) (R.end_bound range))
+            ≤ tiny_capacity A.CAPACITY self.old
+            → All A.Item.is_infallible (removed (tiny_items self.old) (R.start_bound range) (R.end_bound range)) → IsOk result }
+
+        // What a failure leaves is as by `extend_from_slice`.
+        ensures kept { OnErr result (tiny_items self.new ≡ tiny_items self.old) }
+        ensures refused { OnErr result (RefusedFor A.CAPACITY (tiny_len self.old
+            + length (removed (tiny_items self.old) (R.start_bound range) (R.end_bound range)))
+            ((j : ℕ) × RefusedAt A.Item.is_infallible
+            (removed (tiny_items self.old) (R.start_bound range) (R.end_bound range)) j
+            × ClonesBehind A.Item.is_clone
+            (take j (removed (tiny_items self.old) (R.start_bound range) (R.end_bound range))) j self.old self.new)
+            self.old self.new) }
+    {
+        let part = resolve_range(range, self.len());
+        self.reserve(part.end - part.start)?;
+        self.clone_reserved(part.start, part.end)
+    }
+
+    // `extend_from_within` of a list that has room.
+    fn clone_reserved(&mut self, start: usize, end: usize) -> Result<(), AllocError>
+    where
+        A::Item: Clone,
+        requires in_list { (start ≤ end) × (end ≤ tiny_len self.old) }
+        requires room { tiny_len self.old + length (slice_range (tiny_items self.old) start end)
+            ≤ tiny_capacity A.CAPACITY self.old }
+        ensures items { OnOk result (AppendsClones A.Item.is_clone
+            (tiny_items self.old) (tiny_items self.new) (slice_range (tiny_items self.old) start end)) }
+        ensures spare { OnOk result (tiny_spare self.new
+            ≡ drop (length (slice_range (tiny_items self.old) start end)) (tiny_spare self.old)) }
+        ensures place { is_inline self.new ≡ is_inline self.old }
+        ensures capacity { tiny_capacity A.CAPACITY self.new ≡ tiny_capacity A.CAPACITY self.old }
+        ensures fits { tiny_len self.new ≤ tiny_capacity A.CAPACITY self.new }
+        ensures kept { OnErr result (tiny_items self.new ≡ tiny_items self.old) }
+        ensures refused { OnErr result ((j : ℕ) × RefusedAt A.Item.is_infallible (slice_range (tiny_items self.old) start end) j
+            × ClonesBehind A.Item.is_clone (take j (slice_range (tiny_items self.old) start end)) j self.old self.new) }
+        ensures succeeds { All A.Item.is_infallible (slice_range (tiny_items self.old) start end) → IsOk result }
+    {
+        match self {
+            TinyVec::Inline(v, _) => v.extend_from_within(start..end),
+            TinyVec::Heap(v) => push_clones_within(v, start, end),
         }
     }
 

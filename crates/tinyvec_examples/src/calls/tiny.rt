@@ -126,6 +126,16 @@ pub fn with_bytes(v: &mut TinyVec<[u8; 16]>, bytes: &[u8]) -> Result<(), AllocEr
     v.extend_from_slice(bytes)
 }
 
+/// The items from `n` on, once more.
+pub fn repeat_from<A: Array>(v: &mut TinyVec<A>, n: usize) -> Result<(), AllocError>
+where
+    A::Item: Clone,
+    requires { n ≤ tiny_len v.old }
+    ensures { OnOk result (tiny_len v.new ≡ tiny_len v.old + (tiny_len v.old - n)) }
+{
+    v.extend_from_within(n..)
+}
+
 /// Copies of numbers after the list. If memory is refused, nothing changes.
 pub fn with_copies(v: &mut TinyVec<[u32; 8]>, numbers: &[u32]) -> Result<(), AllocError>
     ensures items { OnOk result (tiny_items v.new ≡ tiny_items v.old ++ numbers.now) }
