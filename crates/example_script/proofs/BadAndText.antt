@@ -2,6 +2,7 @@
 use Rattle.std.proofs.Common.{◌≡◌, ℕ, List, ◌∷◌, ◌++◌, drop, true, ℤ, codes, IsUtf8, refl, sym, ap, subst, ◌∙◌, arith, rules}
 use Rattle.std.specs.List.{AllByRecursion}
 use Rattle.std.proofs.lemmas.Str.{IsUtf8-from_ascii}
+use Rattle.tinyvec.specs.View.{lies_inline}
 use Rattle.tinyvec_text.specs.InlineText.{Text}
 use Rattle.tinyvec_io.specs.Lines.{ended}
 use Rattle.tinyvec_script.specs.Command.{name_text}
@@ -43,7 +44,7 @@ says (add text) is = ap add (sym (ap (drop 6) is.spelled))
 says (cut index) is = differ 2 _ _ is.spelled refl
 
 added : (new : Text) (answer : Answer ℤ) → TextStep 4 start.x (add (codes "hi")) answer new
-    → (answer ≡ answers.Done) × (new.bytes ≡ codes "hi") × (new.inline ≡ true)
+    → (answer ≡ answers.Done) × (new.bytes ≡ codes "hi") × (lies_inline new.place ≡ true)
 added new answers.Done step = (refl, step.bytes_are, step.room.place.1 (refl, omega arith))
 added new answers.Memory step = absurd (let small = step.0 in omega arith)
 added new answer step = absurd step
@@ -59,8 +60,8 @@ text_line new text h = elim h [
   | Answered.text_done said answer command steps e ↦
       (let step = subst (λ call. TextStep 4 start.x call answer new.x) (says said command) steps.0 in
       let made = added new.x answer step in
-      e ∙ ap (λ a. answer_text a ++ codes " " ++ text_state_text new.x.bytes new.x.inline) made.0
-      ∙ ap (λ bytes. codes "ok" ++ codes " " ++ text_state_text bytes new.x.inline) made.1
+      e ∙ ap (λ a. answer_text a ++ codes " " ++ text_state_text new.x.bytes (lies_inline new.x.place)) made.0
+      ∙ ap (λ bytes. codes "ok" ++ codes " " ++ text_state_text bytes (lies_inline new.x.place)) made.1
       ∙ ap (λ inline. codes "ok" ++ codes " " ++ text_state_text (codes "hi") inline) made.2
       ∙ shown)
   | Answered.bad none no_text e same ↦

@@ -1,5 +1,5 @@
 -- The script as a relation of whole texts: what is read, and what is written.
-use Rattle.std.specs.Prelude.{◌≡◌, ℕ, List, [], ◌∷◌, ◌++◌, ℤ, pos, true, codes, replicate}
+use Rattle.std.specs.Prelude.{◌≡◌, ℕ, List, [], ◌∷◌, ◌++◌, ℤ, pos, codes, replicate}
 use Rattle.tinyvec_io.specs.Lines.{Splits, last_line}
 use Rattle.tinyvec_slots.specs.Slots.{Slots, split_at}
 use Rattle.tinyvec_text.specs.InlineText.{Text}
@@ -33,7 +33,7 @@ start = record {
   a = zeros;
   s = zeros;
   t = record { items = []; spare = replicate 4 (pos 0); place = in_array };
-  x = record { bytes = []; inline = true; room = 4 };
+  x = record { bytes = []; place = in_array };
 }
 
 -- the text of the vector of a name

@@ -56,4 +56,4 @@ text_state_text bytes inline = codes "[" ++ bytes ++ codes "] " ++ place_text in
 
 -- a text and its place
 abbrev pub inline_text_text : Text → List ℕ
-inline_text_text x = text_state_text x.bytes x.inline
+inline_text_text x = text_state_text x.bytes (lies_inline x.place)

@@ -2,6 +2,7 @@
 use Rattle.std.specs.Prelude.{◌≡◌, ℕ, ℤ, ◌+◌, ◌<◌, ◌≤◌, ◌^◌, List, ◌++◌, length, take, codes, chars, IsUtf8, Ok}
 use Rattle.std.specs.Fmt.{decimal}
 use Rattle.std.specs.declared.alloc.AllocError.{AllocError}
+use Rattle.tinyvec.specs.View.{lies_inline, capacity_in}
 use Rattle.tinyvec_text.specs.InlineText.{Text, text_chars, text_len, MakesRoom, StaysInPlace, IsBoundary}
 use Rattle.tinyvec_script.specs.declared.call.Answer.{Answer}
 use Rattle.tinyvec_script.specs.declared.call.Answer.TheVariants as answers
@@ -38,22 +39,22 @@ pub record IsTextCommand (line : List ℕ) (call : TextCall) : Type 0 where
 pub record Added (slots : ℕ) (old : Text) (text : List ℕ) (new : Text) : Type 0 where
   pub chars_are : text_chars new ≡ text_chars old ++ chars text
   pub bytes_are : new.bytes ≡ old.bytes ++ text
-  pub room : MakesRoom {X = Unit {0}} {E = AllocError} old.inline slots (text_len old + length text) old new (Ok tt)
+  pub room : MakesRoom {X = Unit {0}} {E = AllocError} (lies_inline old.place) slots (text_len old + length text) old new (Ok tt)
 
 -- the first characters were kept, whose bytes are `index`, in their place
-pub record CutAt (old : Text) (index : ℕ) (new : Text) : Type 0 where
+pub record CutAt (slots : ℕ) (old : Text) (index : ℕ) (new : Text) : Type 0 where
   pub boundary : IsBoundary (text_chars old) index
   pub chars_are : (rest : List ℕ) × (text_chars old ≡ text_chars new ++ rest)
   pub bytes_are : new.bytes ≡ take index old.bytes
   pub len : text_len new ≡ index
-  pub frame : StaysInPlace old new
+  pub frame : StaysInPlace slots old new
 
 -- From the old text the call may have this answer, and leave the new one. A refused allocation is a case of its own: `Memory`
 -- only if the joined text does not fit the room of the old one. It changes nothing, and neither does `Range`.
 abbrev pub TextStep : ℕ → Text → TextCall → Answer ℤ → Text → Type 0
 TextStep slots old (add text) answers.Done new = Added slots old text new
-TextStep slots old (add text) answers.Memory new = (old.room < text_len old + length text) × (new ≡ old)
-TextStep slots old (cut index) answers.Done new = CutAt old index new
+TextStep slots old (add text) answers.Memory new = (capacity_in slots old.place < text_len old + length text) × (new ≡ old)
+TextStep slots old (cut index) answers.Done new = CutAt slots old index new
 TextStep slots old (cut index) answers.Range new = (IsBoundary (text_chars old) index → ⊥) × (new ≡ old)
 -- no other answer is given
 TextStep slots old call answer new = ⊥

@@ -4,7 +4,7 @@ ghost use Rattle.std.specs.Str.{valid_up_to, error_len};
 ghost use Rattle.std.specs.Str.Lossy.{utf8_valid_len, utf8_error_len};
 ghost use Rattle.std.specs.String.{string_bytes, string_capacity};
 ghost use Rattle.std.specs.Str.{all_scalars};
-ghost use Rattle.tinyvec.specs.View.{in_array, lies_inline, capacity_in};
+ghost use Rattle.tinyvec.specs.View.{lies_inline, capacity_in};
 ghost use Rattle.tinyvec.specs.TinyVec.{tiny_items, tiny_spare};
 ghost use Rattle.tinyvec_text.specs.InlineText.{text_of, text_chars, text_len};
 
@@ -42,7 +42,7 @@ impl<const N: usize> InlineText<N> {
     pub fn new(alloc: Global) -> Self
         ensures bytes { result.bytes ≡ [] }
         ensures text { text_chars result ≡ [] }
-        ensures place { result.place ≡ in_array }
+        ensures place { IsTrue (lies_inline result.place) }
     {
         InlineText {
             list: TinyVec::new(alloc),

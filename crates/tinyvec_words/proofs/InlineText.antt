@@ -1,10 +1,10 @@
 -- Examples of a text in the value, with room for four bytes, as `ab`.
-use Rattle.std.proofs.Common.{◌≡◌, ℕ, List, [], ◌∷◌, Ok, Result, true, refl, rules}
+use Rattle.std.proofs.Common.{◌≡◌, ℕ, List, [], ◌∷◌, Ok, Result, false, true, refl, rules}
 use Rattle.std.specs.Prelude.{All, chars}
 use Rattle.tinyvec.specs.declared.tiny_vec.TinyVec.{TinyVec}
-use Rattle.tinyvec.specs.View.{in_array}
+use Rattle.tinyvec.specs.View.{in_array, on_heap, lies_inline, capacity_in}
 use Rattle.tinyvec.specs.TinyVec.{tiny_items, tiny_spare}
-use Rattle.tinyvec_text.specs.InlineText.{Text, text_of, text_view, text_chars, text_len, IsText, StaysInPlace, MakesRoom, TextExtends, IsBoundary}
+use Rattle.tinyvec_text.specs.InlineText.{Text, text_of, text_chars, text_len, IsText, StaysInPlace, MakesRoom, TextExtends, IsBoundary}
 
 -- these bytes, in the value
 abbrev pub inline : List ℕ → Text
@@ -19,8 +19,11 @@ example-Text = refl
 pub example-text_of : {A : Type 0} (v : TinyVec A ℕ) → tiny_items v ≡ 97 ∷ 98 ∷ [] → (text_of v).bytes ≡ 97 ∷ 98 ∷ []
 example-text_of v list = list
 
-pub example-text_view : (text_view (inline (97 ∷ []))).items ≡ 97 ∷ []
-example-text_view = refl
+pub example-lies_inline : lies_inline (on_heap 8) ≡ false
+example-lies_inline = refl
+
+pub example-capacity_in : capacity_in 4 in_array ≡ 4
+example-capacity_in = refl
 
 pub example-text_len : text_len (inline (97 ∷ 98 ∷ [])) ≡ 2
 example-text_len = refl

@@ -26,7 +26,7 @@ loop-piece-init g c =
     let tiny_spare = defaults_are IsZero (pos 0) (λ x h. h) 4 _ tiny.ensures.spare in
     let t_begins : tiny_view tiny.result ≡ start.t = λ t. record { items = tiny.ensures.items t; spare = tiny_spare t; place = is_in_array _ tiny.ensures.place t } in
     let text = c.new-3 in
-    let x_begins : text.result ≡ start.x = λ t. record { bytes = text.ensures.bytes t; inline = text.ensures.place t; room = text.ensures.room t } in
+    let x_begins : text.result ≡ start.x = λ t. record { bytes = text.ensures.bytes t; place = is_in_array _ text.ensures.place t } in
     let state : State = record { a = array; s = view c.from_slice_len.result; t = tiny_view tiny.result; x = text.result } in
     let begins : state ≡ start = λ t. record { a = a_begins t; s = s_begins t; t = t_begins t; x = x_begins t } in
     record {
