@@ -2,7 +2,7 @@
 use Rattle.std.specs.Prelude.{◌≡◌, ℕ, ◌+◌, ◌-◌, ◌<◌, ◌≤◌, List, [], ◌∷◌, ◌++◌, length, map, take, drop, slice_range, Option, Bool, nat_lt, if◌then◌else◌, Result, Ok, Err}
 use Rattle.std.specs.declared.ops.Bound.TheVariants.{Included, Excluded}
 use Rattle.tinyvec_slots.specs.Slots.{Slots, items, SlotRule}
-use Rattle.tinyvec_slots.specs.Ranges.{before, removed, after}
+use Rattle.tinyvec_slots.specs.Ranges.{IsRangeOf, before, removed, after}
 use Rattle.tinyvec_slots.specs.Ends.{front, back, RunsWord, GivenByWord, taken}
 use Rattle.tinyvec_slots.specs.Ends as ends
 use Rattle.tinyvec_slots.specs.SplicedByWord.{IsSpliceRefused, placed_back}
@@ -72,6 +72,10 @@ SpliceAnswers capacity len start end replacement Same Splices (answers.Items giv
 SpliceAnswers capacity len start end replacement Same Splices (answers.Spliced given rest) =
     (capacity < start + length replacement + (len - end)) × Splices given.items rest.items
 SpliceAnswers capacity len start end replacement Same Splices answer = ⊥
+
+-- the items from start up to end are in the list
+abbrev pub IsRange : {T : Type 0} → List T → ℕ → ℕ → Type 0
+IsRange xs start end = IsRangeOf xs (Included start) (Excluded end)
 
 -- the items from start up to end were taken out
 pub record ListDrains {T : Type 0} (old : List T) (start end : ℕ) (given new : List T) : Type 0 where

@@ -20,11 +20,11 @@ words_after (byte ∷ bytes) = if is_blank byte then bytes else words_after byte
 abbrev pub wanted_of_list : List ℕ → Wanted
 wanted_of_list word =
     if bytes_eq word (codes "push") then Number else
-    if bytes_eq word (codes "pop") then Nothing else
-    if bytes_eq word (codes "insert") then TwoNumbers else
     if bytes_eq word (codes "remove") then Number else
     if bytes_eq word (codes "swap") then Number else
     if bytes_eq word (codes "truncate") then Number else
+    if bytes_eq word (codes "pop") then Nothing else
+    if bytes_eq word (codes "insert") then TwoNumbers else
     if bytes_eq word (codes "drain") then TwoNumbers else NoCall
 
 abbrev pub wanted_of_slots : List ℕ → Wanted

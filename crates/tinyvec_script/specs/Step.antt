@@ -1,10 +1,8 @@
 -- What a call may be answered, and what it then leaves: steps, and runs of them.
 use Rattle.std.specs.Prelude.{◌≡◌, ℕ, ◌+◌, ◌<◌, ◌≤◌, List, [], ◌∷◌, ◌++◌, length, take, insert, remove, slice_get, Some}
 use Rattle.std.specs.List.{swap_remove}
-use Rattle.std.specs.declared.ops.Bound.TheVariants.{Included, Excluded}
 use Rattle.tinyvec_slots.specs.Slots.{Slots, items, items_len, all_slots, split_at, SlotRule}
-use Rattle.tinyvec_slots.specs.Ranges.{IsRangeOf}
-use Rattle.tinyvec_script.specs.Driving.{ArraySplices, SpliceAnswers, ListDrains}
+use Rattle.tinyvec_script.specs.Driving.{IsRange, ArraySplices, SpliceAnswers, ListDrains}
 use Rattle.tinyvec_script.specs.declared.call.Call.{Call}
 use Rattle.tinyvec_script.specs.declared.call.Call.TheVariants.{Push, Pop, Insert, Remove, SwapRemove, Truncate, Drain, Splice, SetLen, Reserve, Heap, Shrink}
 use Rattle.tinyvec_script.specs.declared.call.Answer.{Answer}
@@ -29,17 +27,14 @@ module _ {T : Type 0} (D : T → Type 0) where
       × (items new ≡ swap_remove (items old) i x) × SlotRule D old new
   ArrayStep capacity old (SwapRemove i) answers.Range new = (items_len old ≤ i) × (new ≡ old)
   ArrayStep capacity old (Truncate n) answers.Done new = (items new ≡ take n (items old)) × SlotRule D old new
-  ArrayStep capacity old (Drain start end) answers.Range new =
-      (IsRangeOf (items old) (Included start) (Excluded end) → ⊥) × (new ≡ old)
-  ArrayStep capacity old (Drain start end) answers.Memory new = IsRangeOf (items old) (Included start) (Excluded end)
-      × (start < end) × (new ≡ old)
+  ArrayStep capacity old (Drain start end) answers.Range new = (IsRange (items old) start end → ⊥) × (new ≡ old)
+  ArrayStep capacity old (Drain start end) answers.Memory new = IsRange (items old) start end × (start < end) × (new ≡ old)
   ArrayStep capacity old (Drain start end) (answers.Items given) new =
-      IsRangeOf (items old) (Included start) (Excluded end) × ListDrains (items old) start end given.items (items new)
+      IsRange (items old) start end × ListDrains (items old) start end given.items (items new)
       × SlotRule D old new
   ArrayStep capacity old (Splice start end word replacement) answers.Range new =
-      (IsRangeOf (items old) (Included start) (Excluded end) → ⊥) × (new ≡ old)
-  ArrayStep capacity old (Splice start end word replacement) answer new =
-      IsRangeOf (items old) (Included start) (Excluded end)
+      (IsRange (items old) start end → ⊥) × (new ≡ old)
+  ArrayStep capacity old (Splice start end word replacement) answer new = IsRange (items old) start end
       × SpliceAnswers capacity (items_len old) start end replacement.items (new ≡ old)
       (λ yields rest. ArraySplices D capacity old start end word.items replacement.items yields rest new) answer
   ArrayStep capacity old (SetLen n) answers.Done new = (n ≤ capacity) × (new ≡ split_at n (all_slots old))

@@ -1,11 +1,9 @@
 -- What a call of a `TinyVec` may be answered, and what it then leaves.
 use Rattle.std.specs.Prelude.{◌≡◌, ℕ, ◌+◌, ◌-◌, ◌<◌, ◌≤◌, ◌↔◌, [], ◌∷◌, ◌++◌, take, insert, remove, slice_get, Some, false}
 use Rattle.std.specs.List.{swap_remove}
-use Rattle.std.specs.declared.ops.Bound.TheVariants.{Included, Excluded}
 use Rattle.tinyvec_slots.specs.Slots.{AreDefaults}
-use Rattle.tinyvec_slots.specs.Ranges.{IsRangeOf}
 use Rattle.tinyvec.specs.View.{TinyView, lies_inline, view_len, view_capacity, ViewInline, ViewPlaceRule, ViewSlotRule, ViewKeepsRoom, ViewDoubles, ViewGrowsFor, ViewStays}
-use Rattle.tinyvec_script.specs.Driving.{ListDrains, TinySplices, SpliceAnswers}
+use Rattle.tinyvec_script.specs.Driving.{IsRange, ListDrains, TinySplices, SpliceAnswers}
 use Rattle.tinyvec_script.specs.declared.call.Call.{Call}
 use Rattle.tinyvec_script.specs.declared.call.Call.TheVariants.{Push, Pop, Insert, Remove, SwapRemove, Truncate, Drain, Splice, SetLen, Reserve, Heap, Shrink}
 use Rattle.tinyvec_script.specs.declared.call.Answer.{Answer}
@@ -53,15 +51,12 @@ module _ {T : Type 0} (D : T → Type 0) (slots : ℕ) where
       × (new.items ≡ swap_remove old.items i x) × ViewStays D slots old new
   TinyAnswers old (SwapRemove i) answers.Range new = (view_len old ≤ i) × (new ≡ old)
   TinyAnswers old (Truncate n) answers.Done new = (new.items ≡ take n old.items) × ViewStays D slots old new
-  TinyAnswers old (Drain start end) answers.Range new = (IsRangeOf old.items (Included start) (Excluded end) → ⊥)
-      × (new ≡ old)
-  TinyAnswers old (Drain start end) answers.Memory new = IsRangeOf old.items (Included start) (Excluded end)
-      × (start < end) × (new ≡ old)
-  TinyAnswers old (Drain start end) (answers.Items given) new = IsRangeOf old.items (Included start) (Excluded end)
+  TinyAnswers old (Drain start end) answers.Range new = (IsRange old.items start end → ⊥) × (new ≡ old)
+  TinyAnswers old (Drain start end) answers.Memory new = IsRange old.items start end × (start < end) × (new ≡ old)
+  TinyAnswers old (Drain start end) (answers.Items given) new = IsRange old.items start end
       × ListDrains old.items start end given.items new.items × ViewStays D slots old new
-  TinyAnswers old (Splice start end word replacement) answers.Range new = (IsRangeOf old.items (Included start) (Excluded end) → ⊥)
-      × (new ≡ old)
-  TinyAnswers old (Splice start end word replacement) answer new = IsRangeOf old.items (Included start) (Excluded end)
+  TinyAnswers old (Splice start end word replacement) answers.Range new = (IsRange old.items start end → ⊥) × (new ≡ old)
+  TinyAnswers old (Splice start end word replacement) answer new = IsRange old.items start end
       × SpliceAnswers (view_capacity slots new) (view_len old) start end replacement.items (new ≡ old)
       (λ yields rest. TinySplices D slots old start end word.items replacement.items yields rest new) answer
   TinyAnswers old (Reserve n) answers.Done new = (new.items ≡ old.items) × (view_len old + n ≤ view_capacity slots new)

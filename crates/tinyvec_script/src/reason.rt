@@ -91,10 +91,7 @@ fn wanted_of_tiny(word: &[u8]) -> Wanted
     if word == b"reserve".as_slice() {
         return Wanted::Number;
     }
-    if word == b"heap".as_slice() {
-        return Wanted::Nothing;
-    }
-    if word == b"shrink".as_slice() {
+    if word == b"heap".as_slice() || word == b"shrink".as_slice() {
         return Wanted::Nothing;
     }
     wanted_of_list(word)
@@ -103,25 +100,17 @@ fn wanted_of_tiny(word: &[u8]) -> Wanted
 fn wanted_of_list(word: &[u8]) -> Wanted
     ensures { result ≡ wanted_of_list word.now }
 {
-    if word == b"push".as_slice() {
+    if word == b"push".as_slice()
+        || word == b"remove".as_slice()
+        || word == b"swap".as_slice()
+        || word == b"truncate".as_slice()
+    {
         return Wanted::Number;
     }
     if word == b"pop".as_slice() {
         return Wanted::Nothing;
     }
-    if word == b"insert".as_slice() {
-        return Wanted::TwoNumbers;
-    }
-    if word == b"remove".as_slice() {
-        return Wanted::Number;
-    }
-    if word == b"swap".as_slice() {
-        return Wanted::Number;
-    }
-    if word == b"truncate".as_slice() {
-        return Wanted::Number;
-    }
-    if word == b"drain".as_slice() {
+    if word == b"insert".as_slice() || word == b"drain".as_slice() {
         return Wanted::TwoNumbers;
     }
     Wanted::NoCall
