@@ -1,16 +1,17 @@
 -- A front of a stream is its first records, and then no byte, or a record that is cut.
-use Rattle.std.proofs.Common.{◌≡◌, ◌∙◌, ap, sym, subst, ℕ, ◌^◌, ◌-◌, ◌<◌, ◌⊎◌, inl, inr, List, [], ◌++◌, length, refl, Option, Some, Result, Ok, Err, append-nil, append_assoc}
+use Rattle.std.proofs.Common.{◌≡◌, ◌∙◌, ap, sym, subst, ℕ, ◌^◌, ◌-◌, ◌<◌, ◌⊎◌, inl, inr, List, [], ◌++◌, refl, Option, Some, Result, Ok, Err, append-nil, append_assoc}
 use Rattle.std.specs.List.{AllByRecursion}
 use Rattle.std.specs.Result.{IsErrOf}
 use Rattle.tinyvec_io.specs.Counted.{Reported}
-use Rattle.tinyvec_borsh.specs.Both.{BothFit, InEither, SpellsBoth}
+use Rattle.tinyvec_borsh.specs.Both.{BothFit, SpellsBoth}
 use Rattle.tinyvec_borsh.specs.Fronts.{FrontsAreCut}
-use Rattle.tinyvec_borsh.specs.Number.{SpellsNumber}
+use Rattle.tinyvec_borsh.specs.Number.{SpellsNumber, TooFewBytes}
+use Rattle.tinyvec_borsh.specs.declared.borsh_error.BorshError.TheVariants.{Ended}
 use Rattle.tinyvec_borsh.specs.Reading.{MayBe}
 use Rattle.tinyvec_borsh.specs.Tagged.{IsTagged}
 use Rattle.tinyvec_borsh.proofs.Fronts.{HasFirst, both-fronts, items-fronts, list-fronts, number-fronts}
 use Rattle.tinyvec_borsh.proofs.Tagged.{tagged-fronts}
-use Rattle.example_records.specs.Readings.{AreSamplesCut, IsNoteCut, IsReadingCut, IsStationCut, NoteFits, ReadingFits, Said, SamplesFit, SpellsNote, SpellsReading, SpellsSamples, StationFits}
+use Rattle.example_records.specs.Readings.{IsReadingCut, ListsReason, NoteFits, NoteReason, ReadingFits, Said, SamplesFit, SamplesReason, SpellsNote, SpellsReading, SpellsSamples, StationFits}
 use Rattle.example_records.specs.Stream.{AreFirst, BeginsWith, Gives, GivesCut, SpellsFrame, SpellsStream, StandsBehind, tag}
 use Rattle.example_records.specs.declared.stream_error.StreamError.{StreamError}
 use Rattle.example_records.specs.declared.stream_error.StreamError.TheVariants.{Cut, Io, Memory, TooManySamples, WrongTag}
@@ -18,10 +19,10 @@ use Rattle.example_records.proofs.WholeStreams.{gives-all}
 
 reading-fronts : FrontsAreCut SpellsReading ReadingFits IsReadingCut
 reading-fronts =
-    let samples = list-fronts (SpellsNumber 2) (λ n. n < 2 ^ 16) (λ input. length input < 2) (number-fronts 2 (λ n. n < 2 ^ 16)) 8 in
-    let note = list-fronts (SpellsNumber 1) (λ n. n < 2 ^ 8) (λ input. length input < 1) (number-fronts 1 (λ n. n < 2 ^ 8)) (2 ^ 64 - 1) in
-    both-fronts (SpellsNumber 4) (SpellsBoth SpellsSamples SpellsNote) StationFits (BothFit SamplesFit NoteFits) IsStationCut (InEither SpellsSamples SamplesFit AreSamplesCut IsNoteCut) (number-fronts 4 StationFits)
-    (both-fronts SpellsSamples SpellsNote SamplesFit NoteFits AreSamplesCut IsNoteCut samples note)
+    let samples = list-fronts (SpellsNumber 2) (λ n. n < 2 ^ 16) (TooFewBytes 2 Ended) (number-fronts 2 (λ n. n < 2 ^ 16)) 8 in
+    let note = list-fronts (SpellsNumber 1) (λ n. n < 2 ^ 8) (TooFewBytes 1 Ended) (number-fronts 1 (λ n. n < 2 ^ 8)) (2 ^ 64 - 1) in
+    both-fronts (SpellsNumber 4) (SpellsBoth SpellsSamples SpellsNote) StationFits (BothFit SamplesFit NoteFits) (TooFewBytes 4) ListsReason (number-fronts 4 StationFits)
+    (both-fronts SpellsSamples SpellsNote SamplesFit NoteFits SamplesReason NoteReason samples note)
 
 -- no byte, or a record that is cut behind its tag
 abbrev IsFrameFront : List ℕ → Type 0

@@ -1,5 +1,7 @@
 -- Records behind their tags are a code, and what ends a stream is no record, and no other end.
 use Rattle.std.proofs.Common.{◌≡◌, ◌≢◌, ◌∙◌, ap, sym, subst, ℕ, inl, inr, List, [], ◌∷◌, ◌++◌, length, refl, arith, Result, Ok, Err, length-append}
+use Rattle.tinyvec_borsh.specs.declared.borsh_error.BorshError.TheVariants.{Ended, InvalidLength}
+use Rattle.tinyvec_borsh.proofs.AtFaults.{length_is_no_end}
 use Rattle.tinyvec_borsh.specs.Code.{IsCode}
 use Rattle.tinyvec_borsh.specs.TwoParts.{rest-so}
 use Rattle.tinyvec_borsh.proofs.Tagged.{same-tagged, tagged-code}
@@ -24,7 +26,7 @@ no-frame (Err Cut) c frame rest tail is fits p e =
 no-frame (Err WrongTag) c frame rest tail is fits p e = is.other ((same-tagged is.byte tag is.rest (p.0 ++ rest) (sym is.whole ∙ e ∙ ap (λ l. l ++ rest) p.2)).0)
 no-frame (Err TooManySamples) c frame rest tail is fits p e =
     let t = same-tagged tag tag is.0 (p.0 ++ rest) (sym is.1 ∙ e ∙ ap (λ l. l ++ rest) p.2) in
-    reading_apart.fits_or_too_long c p.0 rest fits p.1 (subst IsReadingTooLong t.1 (long is.0 is.2))
+    reading_apart.fits_or_refused InvalidLength tt c p.0 rest fits p.1 (subst IsReadingTooLong t.1 (long is.0 is.2))
 no-frame (Err Io) c frame rest tail is fits p e = is
 no-frame (Err Memory) c frame rest tail is fits p e = is
 
@@ -32,7 +34,7 @@ some-byte : (n : ℕ) (x tail : List ℕ) → tail ≡ [] → tail ≡ n ∷ x �
 some-byte n x tail none some = omega (arith, ap length (sym none ∙ some))
 
 cut-or-too-many : (tail x y : List ℕ) → tail ≡ tag ∷ x → tail ≡ tag ∷ y → IsReadingCut x → HasTooManySamples y → ⊥
-cut-or-too-many tail x y p q cut many = reading_apart.cut_or_too_long y (subst IsReadingCut (same-tagged tag tag x y (sym p ∙ q)).1 cut) (long y many)
+cut-or-too-many tail x y p q cut many = length_is_no_end (reading_apart.one_reason InvalidLength Ended tt tt y (long y many) (subst IsReadingCut (same-tagged tag tag x y (sym p ∙ q)).1 cut))
 
 other-tag : (n : ℕ) (tail x y : List ℕ) → n ≢ tag → tail ≡ n ∷ x → tail ≡ tag ∷ y → ⊥
 other-tag n tail x y other p q = other ((same-tagged n tag x y (sym p ∙ q)).0)

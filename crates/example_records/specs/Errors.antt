@@ -11,6 +11,7 @@ use Rattle.example_records.specs.declared.stream_error.StreamError.TheVariants.{
 abbrev pub stream_error : BorshError → StreamError
 stream_error borsh.Ended = Cut
 stream_error borsh.InvalidLength = TooManySamples
+stream_error borsh.InvalidUtf8 = WrongTag
 stream_error borsh.Io = Io
 stream_error borsh.Memory = Memory
 

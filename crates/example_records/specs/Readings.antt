@@ -1,13 +1,15 @@
 -- A reading: the number of a station, up to eight samples, and a note, one after the other in the Borsh form.
-use Rattle.std.specs.Prelude.{ℕ, ◌-◌, ◌^◌, ◌<◌, ◌⊎◌, List, length}
+use Rattle.std.specs.Prelude.{ℕ, ◌-◌, ◌^◌, ◌<◌, List}
 use Rattle.std.proofs.Common.{lit<}
 use Rattle.tinyvec_slots.specs.Slots.{items}
 use Rattle.tinyvec.specs.TinyVec.{tiny_items}
+use Rattle.tinyvec_borsh.specs.declared.borsh_error.BorshError.{BorshError}
+use Rattle.tinyvec_borsh.specs.declared.borsh_error.BorshError.TheVariants.{Ended, InvalidLength}
 use Rattle.tinyvec_borsh.specs.Code.{IsCode}
 use Rattle.tinyvec_borsh.specs.Apart.{AreApart}
-use Rattle.tinyvec_borsh.specs.Number.{SpellsNumber}
+use Rattle.tinyvec_borsh.specs.Number.{SpellsNumber, TooFewBytes}
 use Rattle.tinyvec_borsh.specs.NumberLaws.{number_apart, number_code, number_spelled}
-use Rattle.tinyvec_borsh.specs.Items.{CountsAbove, InItem, IsListCut, IsListTooLong, ListFits, SpellsList}
+use Rattle.tinyvec_borsh.specs.Items.{CountsAbove, ListFits, ListReason, SpellsList}
 use Rattle.tinyvec_borsh.specs.ItemsLaws.{list_apart, list_code, list_spelled}
 use Rattle.tinyvec_borsh.specs.Both.{SpellsBoth, BothFit, InEither}
 use Rattle.tinyvec_borsh.specs.BothLaws.{both_apart, both_code, both_spelled}
@@ -49,48 +51,34 @@ ReadingFits = BothFit StationFits (BothFit SamplesFit NoteFits)
 
 -- ---- what an input is that is no reading
 
--- The input ends before the last byte of a station.
-abbrev pub IsStationCut : List ℕ → Type 0
-IsStationCut input = length input < 4
+abbrev pub SamplesReason : BorshError → List ℕ → Type 0
+SamplesReason = ListReason (SpellsNumber 2) (λ n. n < 2 ^ 16) (TooFewBytes 2) (λ _. ⊥) 8
 
-abbrev pub AreSamplesCut : List ℕ → Type 0
-AreSamplesCut = IsListCut (SpellsNumber 2) (λ n. n < 2 ^ 16) (λ input. length input < 2) 8
+-- memory is needed for a note of more than sixteen bytes
+abbrev pub NoteReason : BorshError → List ℕ → Type 0
+NoteReason = ListReason (SpellsNumber 1) (λ n. n < 2 ^ 8) (TooFewBytes 1) (CountsAbove 16) (2 ^ 64 - 1)
 
-abbrev pub AreSamplesTooMany : List ℕ → Type 0
-AreSamplesTooMany = IsListTooLong (SpellsNumber 2) (λ n. n < 2 ^ 16) (λ _. ⊥) 8
+abbrev pub ListsReason : BorshError → List ℕ → Type 0
+ListsReason = InEither SpellsSamples SamplesFit SamplesReason NoteReason
 
-abbrev pub SamplesAsk : List ℕ → Type 0
-SamplesAsk = InItem (SpellsNumber 2) (λ n. n < 2 ^ 16) (λ _. ⊥) 8
-
-abbrev pub IsNoteCut : List ℕ → Type 0
-IsNoteCut = IsListCut (SpellsNumber 1) (λ n. n < 2 ^ 8) (λ input. length input < 1) (2 ^ 64 - 1)
-
-abbrev pub IsNoteTooLong : List ℕ → Type 0
-IsNoteTooLong = IsListTooLong (SpellsNumber 1) (λ n. n < 2 ^ 8) (λ _. ⊥) (2 ^ 64 - 1)
-
--- a note of more than sixteen bytes
-abbrev pub NoteAsks : List ℕ → Type 0
-NoteAsks input = CountsAbove 16 input ⊎ InItem (SpellsNumber 1) (λ n. n < 2 ^ 8) (λ _. ⊥) (2 ^ 64 - 1) input
+abbrev pub ReadingReason : BorshError → List ℕ → Type 0
+ReadingReason = InEither (SpellsNumber 4) StationFits (TooFewBytes 4) ListsReason
 
 -- The input ends before the last byte of the reading that it begins.
 abbrev pub IsReadingCut : List ℕ → Type 0
-IsReadingCut = InEither (SpellsNumber 4) StationFits IsStationCut (InEither SpellsSamples SamplesFit AreSamplesCut IsNoteCut)
+IsReadingCut = ReadingReason Ended
 
 -- There are nine samples or more.
 abbrev pub IsReadingTooLong : List ℕ → Type 0
-IsReadingTooLong = InEither (SpellsNumber 4) StationFits (λ _. ⊥) (InEither SpellsSamples SamplesFit AreSamplesTooMany IsNoteTooLong)
-
--- memory may be asked for
-abbrev pub ReadingAsks : List ℕ → Type 0
-ReadingAsks = InEither (SpellsNumber 4) StationFits (λ _. ⊥) (InEither SpellsSamples SamplesFit SamplesAsk NoteAsks)
+IsReadingTooLong = ReadingReason InvalidLength
 
 -- ---- the laws, from those of the fields
 
 pub samples_code : IsCode SpellsSamples
 samples_code = list_code (SpellsNumber 2) (number_code 2 (lit< tt))
 
-samples_apart : AreApart SpellsSamples SamplesFit AreSamplesCut AreSamplesTooMany
-samples_apart = list_apart (SpellsNumber 2) (number_code 2 (lit< tt)) (λ n. n < 2 ^ 16) (λ input. length input < 2) (λ _. ⊥) (number_apart 2 (λ n. n < 2 ^ 16)) 8
+samples_apart : AreApart SpellsSamples SamplesFit SamplesReason
+samples_apart = list_apart (SpellsNumber 2) (number_code 2 (lit< tt)) (λ n. n < 2 ^ 16) (TooFewBytes 2) (number_apart 2 (λ n. n < 2 ^ 16)) (λ _. ⊥) 8
 
 samples_spelled : (c : List ℕ) → SamplesFit c → (bytes : List ℕ) × SpellsSamples c bytes
 samples_spelled = list_spelled (SpellsNumber 2) (λ n. n < 2 ^ 16) (number_spelled 2) 8
@@ -98,8 +86,8 @@ samples_spelled = list_spelled (SpellsNumber 2) (λ n. n < 2 ^ 16) (number_spell
 note_code : IsCode SpellsNote
 note_code = list_code (SpellsNumber 1) (number_code 1 (lit< tt))
 
-note_apart : AreApart SpellsNote NoteFits IsNoteCut IsNoteTooLong
-note_apart = list_apart (SpellsNumber 1) (number_code 1 (lit< tt)) (λ n. n < 2 ^ 8) (λ input. length input < 1) (λ _. ⊥) (number_apart 1 (λ n. n < 2 ^ 8)) (2 ^ 64 - 1)
+note_apart : AreApart SpellsNote NoteFits NoteReason
+note_apart = list_apart (SpellsNumber 1) (number_code 1 (lit< tt)) (λ n. n < 2 ^ 8) (TooFewBytes 1) (number_apart 1 (λ n. n < 2 ^ 8)) (CountsAbove 16) (2 ^ 64 - 1)
 
 note_spelled : (c : List ℕ) → NoteFits c → (bytes : List ℕ) × SpellsNote c bytes
 note_spelled = list_spelled (SpellsNumber 1) (λ n. n < 2 ^ 8) (number_spelled 1) (2 ^ 64 - 1)
@@ -107,7 +95,7 @@ note_spelled = list_spelled (SpellsNumber 1) (λ n. n < 2 ^ 8) (number_spelled 1
 pub reading_code : IsCode SpellsReading
 reading_code = both_code (number_code 4 (lit< tt)) (both_code samples_code note_code)
 
-pub reading_apart : AreApart SpellsReading ReadingFits IsReadingCut IsReadingTooLong
+pub reading_apart : AreApart SpellsReading ReadingFits ReadingReason
 reading_apart = both_apart (number_code 4 (lit< tt)) (number_apart 4 StationFits) (both_apart samples_code samples_apart note_apart)
 
 pub reading_spelled : (c : Said) → ReadingFits c → (bytes : List ℕ) × SpellsReading c bytes

@@ -1,6 +1,5 @@
 //! `Reading`, and its Borsh form.
-ghost use Rattle.example_records.specs.Readings.{IsReadingCut, IsReadingTooLong, ReadingAsks, ReadingFits};
-ghost use Rattle.example_records.specs.Readings.{Said, SpellsReading, reading_apart, reading_code, reading_spelled, said};
+ghost use Rattle.example_records.specs.Readings.{ReadingFits, ReadingReason, Said, SpellsReading, reading_apart, reading_code, reading_spelled, said};
 
 use std::alloc::Global;
 use std::io::{Read, Write};
@@ -42,11 +41,7 @@ impl BorshSerialize for Reading {
 }
 
 impl BorshDeserialize for Reading {
-    ghost IsCut = { IsReadingCut };
-
-    ghost IsTooLong = { IsReadingTooLong };
-
-    ghost MayAllocate = { ReadingAsks };
+    ghost Reason = { ReadingReason };
 
     ghost apart = { reading_apart };
 

@@ -58,6 +58,8 @@ impl From<BorshError> for StreamError {
         match error {
             BorshError::Ended => StreamError::Cut,
             BorshError::InvalidLength => StreamError::TooManySamples,
+            // No field is a text.
+            BorshError::InvalidUtf8 => StreamError::WrongTag,
             BorshError::Io => StreamError::Io,
             BorshError::Memory => StreamError::Memory,
         }

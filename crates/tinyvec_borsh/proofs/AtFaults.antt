@@ -7,7 +7,7 @@ use Rattle.std.proofs.KnownBytes.{Consumes-trans}
 use Rattle.tinyvec_io.specs.Counted.{AppendsFront}
 use Rattle.tinyvec_io.proofs.Pieces.{AppendsFront-then, AppendsFront-longer}
 use Rattle.tinyvec_borsh.specs.declared.borsh_error.BorshError.{BorshError}
-use Rattle.tinyvec_borsh.specs.declared.borsh_error.BorshError.TheVariants.{Ended, InvalidLength, Memory}
+use Rattle.tinyvec_borsh.specs.declared.borsh_error.BorshError.TheVariants.{Ended, InvalidLength, InvalidUtf8, Memory}
 use Rattle.tinyvec_borsh.specs.Code.{IsCode}
 use Rattle.tinyvec_borsh.specs.Items.{IsCount, SpellsItems, SpellsList}
 use Rattle.tinyvec_borsh.specs.ItemsLaws.{one-items}
@@ -92,6 +92,9 @@ some-all old new bytes e other taken = record { bytes = bytes; taken = taken; en
 
 pub length_is_no_end : InvalidLength ≢ Ended
 length_is_no_end e = cc
+
+pub utf8_is_no_end : InvalidUtf8 ≢ Ended
+utf8_is_no_end e = cc
 
 pub memory_is_no_end : Memory ≢ Ended
 memory_is_no_end e = cc

@@ -6,7 +6,7 @@ use Rattle.std.proofs.lemmas.Slice.{take-put_mid}
 use borrow.Rule.Slice.PartMut.{put_mid}
 use Rattle.tinyvec_borsh.specs.declared.borsh_error.BorshError.{BorshError}
 use Rattle.tinyvec_borsh.specs.Items.{SpellsItems, AfterItems}
-use Rattle.tinyvec_borsh.specs.Reading.{MayBe, ReadsSpelling, Fails}
+use Rattle.tinyvec_borsh.specs.Reading.{ReadsSpelling, Fails}
 use Rattle.tinyvec_borsh.proofs.ItemByItem.{fails-so, fit-join, maybe-behind, maybe-so, one-item, takes-items, takes-so}
 
 module _ {C : Type 0} (Spells : C → List ℕ → Type 0) (Fits : C → Type 0) where
@@ -25,24 +25,16 @@ module _ {C : Type 0} (Spells : C → List ℕ → Type 0) (Fits : C → Type 0)
       took-block (map content (take i xs)) (content x ∷ []) _ old mid new (ap (map content) (take_more_set xs i x within) ∙ map-append content (take i xs) (x ∷ [])) w (takes-so mid new (one-item Spells (content x)) t) (f, tt)
 
   -- an item was not read, and the input is so from it on
-  behind-items : (P : List ℕ → Type 0) (n : ℕ) (cs : List C) (old mid : Option (List ℕ)) → TookItems cs old mid → length cs < n → MayBe mid P → MayBe old (AfterItems Spells Fits P n)
-  behind-items P n cs old mid w fewer may = maybe-behind old mid P _ w.taken (λ input p. record { items = cs; fewer = fewer; fit = w.fit; parts = p }) may
-
-  pub fails-behind : (IsCut IsTooLong MayAllocate : List ℕ → Type 0) (n : ℕ) (cs : List C) (old mid : Option (List ℕ)) (before between after : ℕ) (e : BorshError) → TookItems cs old mid → length cs < n → before ≤ between
-      → Fails IsCut IsTooLong MayAllocate mid between after e → Fails (AfterItems Spells Fits IsCut n) (AfterItems Spells Fits IsTooLong n) (AfterItems Spells Fits MayAllocate n) old before after e
-  fails-behind IsCut IsTooLong MayAllocate n cs old mid before between after e w fewer grows f =
-      fails-so _ _ _ _ _ _ old mid before between after e grows f (behind-items IsCut n cs old mid w fewer) (behind-items IsTooLong n cs old mid w fewer) (behind-items MayAllocate n cs old mid w fewer)
-
-module _ {C : Type 0} (Spells : C → List ℕ → Type 0) (Fits : C → Type 0) where
-  of-more : (P : List ℕ → Type 0) (k n : ℕ) → k ≤ n → (input : List ℕ) → AfterItems Spells Fits P k input → AfterItems Spells Fits P n input
-  of-more P k n fewer input t = record { items = t.items; fewer = omega (arith, t.fewer, fewer); fit = t.fit; parts = t.parts }
+  pub fails-behind : (Reason : BorshError → List ℕ → Type 0) (n : ℕ) (cs : List C) (old mid : Option (List ℕ)) (before between after : ℕ) (e : BorshError) → TookItems cs old mid → length cs < n → before ≤ between
+      → Fails Reason mid between after e → Fails (AfterItems Spells Fits Reason n) old before after e
+  fails-behind Reason n cs old mid before between after e w fewer grows f = fails-so Reason (AfterItems Spells Fits Reason n) old mid before between after e grows f
+      (λ f why. maybe-behind old mid (Reason f) (AfterItems Spells Fits Reason n f) w.taken (λ input p. record { items = cs; fewer = fewer; fit = w.fit; parts = p }) why)
 
   -- what is wrong with the next items is wrong with all that are to come
-  pub fails-of-more : (IsCut IsTooLong MayAllocate : List ℕ → Type 0) (k n : ℕ) (old : Option (List ℕ)) (before after : ℕ) (e : BorshError) → k ≤ n
-      → Fails (AfterItems Spells Fits IsCut k) (AfterItems Spells Fits IsTooLong k) (AfterItems Spells Fits MayAllocate k) old before after e
-      → Fails (AfterItems Spells Fits IsCut n) (AfterItems Spells Fits IsTooLong n) (AfterItems Spells Fits MayAllocate n) old before after e
-  fails-of-more IsCut IsTooLong MayAllocate k n old before after e fewer f =
-      fails-so _ _ _ _ _ _ old old before before after e (omega arith) f (maybe-so old _ _ (of-more IsCut k n fewer)) (maybe-so old _ _ (of-more IsTooLong k n fewer)) (maybe-so old _ _ (of-more MayAllocate k n fewer))
+  pub fails-of-more : (Reason : BorshError → List ℕ → Type 0) (k n : ℕ) (old : Option (List ℕ)) (before after : ℕ) (e : BorshError) → k ≤ n
+      → Fails (AfterItems Spells Fits Reason k) old before after e → Fails (AfterItems Spells Fits Reason n) old before after e
+  fails-of-more Reason k n old before after e fewer f = fails-so (AfterItems Spells Fits Reason k) (AfterItems Spells Fits Reason n) old old before before after e (omega arith) f
+      (λ f why. maybe-so old (AfterItems Spells Fits Reason k f) (AfterItems Spells Fits Reason n f) (λ input t. record { items = t.items; fewer = omega (arith, t.fewer, fewer); fit = t.fit; parts = t.parts }) why)
 
 -- a list was made longer, and what was added was written
 pub grown : {T : Type 0} (start end : ℕ) (old more mid ws xs : List T) → length old ≡ start → start ≤ end → mid ≡ take end old ++ more → length ws ≡ end → take end ws ≡ take start mid ++ xs → ws ≡ old ++ xs

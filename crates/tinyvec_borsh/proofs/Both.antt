@@ -2,7 +2,7 @@
 use Rattle.std.proofs.Common.{ℕ, ◌≤◌, inl, inr, List, ◌++◌, Option, Result, Ok, Err, OnOk, arith}
 use Rattle.std.proofs.KnownBytes.{Appends-trans}
 use Rattle.tinyvec_borsh.specs.declared.borsh_error.BorshError.{BorshError}
-use Rattle.tinyvec_borsh.specs.Reading.{Fails, MayBe, ReadsSpelling}
+use Rattle.tinyvec_borsh.specs.Reading.{Fails, ReadsSpelling}
 use Rattle.tinyvec_borsh.specs.Writing.{WritesSpelling}
 use Rattle.tinyvec_borsh.proofs.ItemByItem.{fails-so, maybe-behind, maybe-so, takes-then}
 use Rattle.tinyvec_borsh.specs.Both.{SpellsBoth, InEither}
@@ -20,18 +20,11 @@ module _ {A B : Type 0} (SpellsA : A → List ℕ → Type 0) (SpellsB : B → L
   pub takes-both : (a : A) (b : B) (old mid new : Option (List ℕ)) → ReadsSpelling (SpellsA a) old mid → ReadsSpelling (SpellsB b) mid new → ReadsSpelling (SpellsBoth SpellsA SpellsB (a, b)) old new
   takes-both a b old mid new p q = takes-then old mid new p q
 
-module _ {A : Type 0} (Spells : A → List ℕ → Type 0) (Fits : A → Type 0) where
-  pub in-first : (P Q : List ℕ → Type 0) (old : Option (List ℕ)) → MayBe old P → MayBe old (InEither Spells Fits P Q)
-  in-first P Q old may = maybe-so old P (InEither Spells Fits P Q) (λ input is. inl is) may
+module _ {A : Type 0} (Spells : A → List ℕ → Type 0) (Fits : A → Type 0) (ReasonA ReasonB : BorshError → List ℕ → Type 0) where
+  pub fails-first : (old : Option (List ℕ)) (before after : ℕ) (e : BorshError) → Fails ReasonA old before after e → Fails (InEither Spells Fits ReasonA ReasonB) old before after e
+  fails-first old before after e f = fails-so ReasonA (InEither Spells Fits ReasonA ReasonB) old old before before after e (omega arith) f (λ f why. maybe-so old (ReasonA f) (InEither Spells Fits ReasonA ReasonB f) (λ input is. inl is) why)
 
-  pub in-second : (P Q : List ℕ → Type 0) (c : A) (old mid : Option (List ℕ)) → ReadsSpelling (Spells c) old mid → Fits c → MayBe mid Q → MayBe old (InEither Spells Fits P Q)
-  in-second P Q c old mid t fits may = maybe-behind old mid Q (InEither Spells Fits P Q) t (λ input p. inr (record { content = c; fits = fits; parts = p })) may
-
-  module _ (CutA LongA AskA CutB LongB AskB : List ℕ → Type 0) where
-    pub fails-first : (old : Option (List ℕ)) (before after : ℕ) (e : BorshError) → Fails CutA LongA AskA old before after e
-        → Fails (InEither Spells Fits CutA CutB) (InEither Spells Fits LongA LongB) (InEither Spells Fits AskA AskB) old before after e
-    fails-first old before after e f = fails-so _ _ _ _ _ _ old old before before after e (omega arith) f (in-first CutA CutB old) (in-first LongA LongB old) (in-first AskA AskB old)
-
-    pub fails-second : (c : A) (old mid : Option (List ℕ)) (before between after : ℕ) (e : BorshError) → ReadsSpelling (Spells c) old mid → Fits c → before ≤ between → Fails CutB LongB AskB mid between after e
-        → Fails (InEither Spells Fits CutA CutB) (InEither Spells Fits LongA LongB) (InEither Spells Fits AskA AskB) old before after e
-    fails-second c old mid before between after e t fits grows f = fails-so _ _ _ _ _ _ old mid before between after e grows f (in-second CutA CutB c old mid t fits) (in-second LongA LongB c old mid t fits) (in-second AskA AskB c old mid t fits)
+  pub fails-second : (c : A) (old mid : Option (List ℕ)) (before between after : ℕ) (e : BorshError) → ReadsSpelling (Spells c) old mid → Fits c → before ≤ between → Fails ReasonB mid between after e
+      → Fails (InEither Spells Fits ReasonA ReasonB) old before after e
+  fails-second c old mid before between after e t fits grows f = fails-so ReasonB (InEither Spells Fits ReasonA ReasonB) old mid before between after e grows f
+      (λ f why. maybe-behind old mid (ReasonB f) (InEither Spells Fits ReasonA ReasonB f) t (λ input p. inr (record { content = c; fits = fits; parts = p })) why)

@@ -1,6 +1,8 @@
 -- What a count can be.
 use Rattle.std.proofs.Common.{ℕ, ◌-◌, ◌^◌, ◌<◌, inl, inr, List, arith}
-use Rattle.tinyvec_borsh.specs.Items.{HasTooMany, IsCount, IsListTooLong}
+use Rattle.tinyvec_borsh.specs.Items.{HasTooMany, IsCount, ListReason}
+use Rattle.tinyvec_borsh.specs.declared.borsh_error.BorshError.{BorshError}
+use Rattle.tinyvec_borsh.specs.declared.borsh_error.BorshError.TheVariants.{InvalidLength}
 use Rattle.tinyvec_borsh.specs.NumberLaws.{number-below}
 
 pub count-below : (n : ℕ) (count : List ℕ) → IsCount n count → n < 2 ^ 64
@@ -11,5 +13,5 @@ module _ {C : Type 0} (Spells : C → List ℕ → Type 0) (Fits : C → Type 0)
   pub never-too-many : (input : List ℕ) → HasTooMany Spells Fits (2 ^ 64 - 1) input → ⊥
   never-too-many input m = omega (arith, m.above, count-below m.len m.count m.counted)
 
-  pub never-too-long : (input : List ℕ) → IsListTooLong Spells Fits (λ _. ⊥) (2 ^ 64 - 1) input → ⊥
-  never-too-long input long = elim long [ inl many ↦ never-too-many input many | inr item ↦ item.left ]
+  pub never-too-long : (Reason : BorshError → List ℕ → Type 0) (Allocates : List ℕ → Type 0) → ((input : List ℕ) → Reason InvalidLength input → ⊥) → (input : List ℕ) → ListReason Spells Fits Reason Allocates (2 ^ 64 - 1) InvalidLength input → ⊥
+  never-too-long Reason Allocates none input long = elim long [ inl many ↦ never-too-many input many | inr item ↦ none item.tail item.left ]

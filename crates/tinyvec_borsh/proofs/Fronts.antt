@@ -3,8 +3,10 @@ use Rattle.std.proofs.Common.{◌≡◌, ◌∙◌, ap, sym, subst, ℕ, ◌<◌
 use Rattle.std.specs.List.{AllByRecursion}
 use Rattle.tinyvec_borsh.specs.Both.{BothFit, InEither, SpellsBoth}
 use Rattle.tinyvec_borsh.specs.Fronts.{FrontsAreCut}
-use Rattle.tinyvec_borsh.specs.Items.{IsListCut, ListFits, SpellsItems, SpellsList}
-use Rattle.tinyvec_borsh.specs.Number.{SpellsNumber}
+use Rattle.tinyvec_borsh.specs.Items.{InItem, ListFits, SpellsItems, SpellsList}
+use Rattle.tinyvec_borsh.specs.Number.{SpellsNumber, TooFewBytes}
+use Rattle.tinyvec_borsh.specs.declared.borsh_error.BorshError.{BorshError}
+use Rattle.tinyvec_borsh.specs.declared.borsh_error.BorshError.TheVariants.{Ended}
 use Rattle.tinyvec_borsh.specs.TwoParts.{HasParts, group-first, joined}
 
 -- a list of two parts is cut in its first part, or in its second
@@ -19,13 +21,13 @@ cut-place (u ∷ x) y (v ∷ a) b e =
       | inr p ↦ inr (p.0, (λ i. sym head i ∷ p.1 i), p.2)
     ]
 
-pub number-fronts : (width : ℕ) (Fits : ℕ → Type 0) → FrontsAreCut (SpellsNumber width) Fits (λ input. length input < width)
-number-fronts width Fits c front back some fits p = omega (arith, some, p.many, length-append front back)
+pub number-fronts : (width : ℕ) (Fits : ℕ → Type 0) → FrontsAreCut (SpellsNumber width) Fits (TooFewBytes width Ended)
+number-fronts width Fits c front back some fits p = (refl, omega (arith, some, p.many, length-append front back))
 
 -- the first, or the second behind it
-pub both-fronts : {A B : Type 0} (SpellsA : A → List ℕ → Type 0) (SpellsB : B → List ℕ → Type 0) (FitsA : A → Type 0) (FitsB : B → Type 0) (CutA CutB : List ℕ → Type 0)
-    → FrontsAreCut SpellsA FitsA CutA → FrontsAreCut SpellsB FitsB CutB → FrontsAreCut (SpellsBoth SpellsA SpellsB) (BothFit FitsA FitsB) (InEither SpellsA FitsA CutA CutB)
-both-fronts SpellsA SpellsB FitsA FitsB CutA CutB fronts_a fronts_b c front back some fits p = elim (cut-place p.first p.rest front back (sym p.whole)) [
+pub both-fronts : {A B : Type 0} (SpellsA : A → List ℕ → Type 0) (SpellsB : B → List ℕ → Type 0) (FitsA : A → Type 0) (FitsB : B → Type 0) (ReasonA ReasonB : BorshError → List ℕ → Type 0)
+    → FrontsAreCut SpellsA FitsA (ReasonA Ended) → FrontsAreCut SpellsB FitsB (ReasonB Ended) → FrontsAreCut (SpellsBoth SpellsA SpellsB) (BothFit FitsA FitsB) (InEither SpellsA FitsA ReasonA ReasonB Ended)
+both-fronts SpellsA SpellsB FitsA FitsB ReasonA ReasonB fronts_a fronts_b c front back some fits p = elim (cut-place p.first p.rest front back (sym p.whole)) [
   | inl f ↦ inl (fronts_a c.0 front f.0 f.2 fits.0 (subst (SpellsA c.0) f.1 p.is_first))
   | inr s ↦ inr (record {
     content = c.0;
@@ -90,7 +92,7 @@ module _ {C : Type 0} (Spells : C → List ℕ → Type 0) (Fits : C → Type 0)
     items-fronts none cs front (byte ∷ back) fit p = (cut-items cs front (byte ∷ back) (omega arith) fit p).0
 
     -- the count, or an item
-    pub list-fronts : (room : ℕ) → FrontsAreCut (SpellsList Spells) (ListFits Spells Fits room) (IsListCut Spells Fits P room)
+    pub list-fronts : (room : ℕ) → FrontsAreCut (SpellsList Spells) (ListFits Spells Fits room) (λ input. (length input < 8) ⊎ InItem Spells Fits P room input)
     list-fronts room cs front back some fits p = elim (cut-place p.first p.rest front back (sym p.whole)) [
       | inl f ↦ inl (omega (arith, f.2, p.is_first.many, ap length f.1, length-append front f.0))
       | inr s ↦

@@ -5,8 +5,8 @@ use Rattle.std.specs.Io.KnownBytes.{Appends}
 use Rattle.std.proofs.KnownBytes.{Appends-trans, Consumes-trans}
 use Rattle.std.specs.List.{AllByRecursion}
 use Rattle.tinyvec_borsh.specs.declared.borsh_error.BorshError.{BorshError}
-use Rattle.tinyvec_borsh.specs.declared.borsh_error.BorshError.TheVariants.{Ended, InvalidLength, Io, Memory}
-use Rattle.tinyvec_borsh.specs.Items.{AfterItems, IsCount, SpellsItems, SpellsList, HasItems, InItem, HasTooMany, CountsAbove, IsListCut, IsListTooLong}
+use Rattle.tinyvec_borsh.specs.declared.borsh_error.BorshError.TheVariants.{Ended, InvalidLength, InvalidUtf8, Io, Memory}
+use Rattle.tinyvec_borsh.specs.Items.{AfterItems, IsCount, SpellsItems, SpellsList, HasItems, InItem, HasTooMany, CountsAbove, ListReason}
 use Rattle.tinyvec_borsh.specs.TwoParts.{HasParts, first-so, group-first, group-rest, joined, rest-so, with-tail}
 use Rattle.tinyvec_borsh.specs.Reading.{MayBe, ReadsSpelling, Fails, LeavesRest}
 
@@ -34,12 +34,13 @@ maybe-any None = ([], tt)
 maybe-any (Some x) = tt
 
 -- what is wrong with the rest of an input is wrong with the input
-pub fails-so : (Cut Long Ask CutAll LongAll AskAll : List ℕ → Type 0) (old mid : Option (List ℕ)) (before between after : ℕ) (e : BorshError) → before ≤ between → Fails Cut Long Ask mid between after e
-    → (MayBe mid Cut → MayBe old CutAll) → (MayBe mid Long → MayBe old LongAll) → (MayBe mid Ask → MayBe old AskAll) → Fails CutAll LongAll AskAll old before after e
-fails-so Cut Long Ask CutAll LongAll AskAll old mid before between after Ended grows f cut long ask = cut f
-fails-so Cut Long Ask CutAll LongAll AskAll old mid before between after InvalidLength grows f cut long ask = long f
-fails-so Cut Long Ask CutAll LongAll AskAll old mid before between after Io grows f cut long ask = elim f [ inl less ↦ inl (omega (arith, less, grows)) | inr full ↦ inr full ]
-fails-so Cut Long Ask CutAll LongAll AskAll old mid before between after Memory grows f cut long ask = ask f
+pub fails-so : (Reason All : BorshError → List ℕ → Type 0) (old mid : Option (List ℕ)) (before between after : ℕ) (e : BorshError) → before ≤ between → Fails Reason mid between after e
+    → ((f : BorshError) → MayBe mid (Reason f) → MayBe old (All f)) → Fails All old before after e
+fails-so Reason All old mid before between after Io grows f so = elim f [ inl less ↦ inl (omega (arith, less, grows)) | inr full ↦ inr full ]
+fails-so Reason All old mid before between after Ended grows f so = so Ended f
+fails-so Reason All old mid before between after InvalidLength grows f so = so InvalidLength f
+fails-so Reason All old mid before between after InvalidUtf8 grows f so = so InvalidUtf8 f
+fails-so Reason All old mid before between after Memory grows f so = so Memory f
 
 module _ {C : Type 0} (Fits : C → Type 0) where
   pub fit-join : (cs ds : List C) → AllByRecursion Fits cs → AllByRecursion Fits ds → AllByRecursion Fits (cs ++ ds)
@@ -135,11 +136,11 @@ module _ {C : Type 0} (Spells : C → List ℕ → Type 0) where
         maybe-behind old mid P _ w.taken (λ input p. record { has = has-items n cs input w.fit p; fewer = fewer; few = few; left = p.is_rest }) may
 
     -- of a block of k items one was not read
-    in-block : (P : List ℕ → Type 0) (room n k : ℕ) (cs : List C) (old mid : Option (List ℕ)) → WasRead n cs old mid → length cs + k ≤ n → length cs + k ≤ room + 1 → MayBe mid (AfterItems Spells Fits P k) → MayBe old (InItem Spells Fits P room)
-    in-block P room n k cs old mid w more few may = maybe-behind old mid (AfterItems Spells Fits P k) _ w.taken (λ input p.
+    in-block : (Reason : BorshError → List ℕ → Type 0) (e : BorshError) (room n k : ℕ) (cs : List C) (old mid : Option (List ℕ)) → WasRead n cs old mid → length cs + k ≤ n → length cs + k ≤ room + 1 → MayBe mid (AfterItems Spells Fits Reason k e) → MayBe old (InItem Spells Fits (Reason e) room)
+    in-block Reason e room n k cs old mid w more few may = maybe-behind old mid (AfterItems Spells Fits Reason k e) _ w.taken (λ input p.
         let so = p.is_rest in
-        let q : HasParts (HasParts (HasParts (IsCount n) (SpellsItems Spells cs)) (SpellsItems Spells so.items)) P input = group-first (rest-so p so.parts) in
-        let list : HasParts (HasParts (IsCount n) (SpellsItems Spells (cs ++ so.items))) P input = first-so q (list-join n cs so.items q.first q.is_first) in
+        let q : HasParts (HasParts (HasParts (IsCount n) (SpellsItems Spells cs)) (SpellsItems Spells so.items)) (Reason e) input = group-first (rest-so p so.parts) in
+        let list : HasParts (HasParts (IsCount n) (SpellsItems Spells (cs ++ so.items))) (Reason e) input = first-so q (list-join n cs so.items q.first q.is_first) in
         record {
           has = has-items n (cs ++ so.items) input (fit-join Fits cs so.items w.fit so.fit) list;
           fewer = omega (arith, length-append cs so.items, so.fewer, more);
@@ -158,33 +159,26 @@ module _ {C : Type 0} (Spells : C → List ℕ → Type 0) where
         let q : HasParts (IsCount n) (HasParts (SpellsItems Spells cs) (λ _. Unit {0})) input = group-rest p in
         (n, above, rest-so q tt)) (maybe-any new)
 
-    module _ (IsCut IsTooLong MayAllocate Asks : List ℕ → Type 0) (room : ℕ) where
+    module _ (Reason : BorshError → List ℕ → Type 0) (Allocates : List ℕ → Type 0) (room : ℕ) where
       -- an item was not read
       pub fails-item : (n : ℕ) (cs : List C) (old mid : Option (List ℕ)) (before between after : ℕ) (e : BorshError) → WasRead n cs old mid → length cs < n → length cs ≤ room → before ≤ between
-          → ((input : List ℕ) → InItem Spells Fits MayAllocate room input → Asks input) → Fails IsCut IsTooLong MayAllocate mid between after e
-          → Fails (IsListCut Spells Fits IsCut room) (IsListTooLong Spells Fits IsTooLong room) Asks old before after e
-      fails-item n cs old mid before between after e w more few grows asks f = fails-so _ _ _ _ _ _ old mid before between after e grows f
-          (λ cut. maybe-so old _ _ (λ input cut. inr cut) (in-item IsCut room n cs old mid w more few cut))
-          (λ long. maybe-so old _ _ (λ input long. inr long) (in-item IsTooLong room n cs old mid w more few long))
-          (λ ask. maybe-so old _ _ asks (in-item MayAllocate room n cs old mid w more few ask))
+          → Fails Reason mid between after e → Fails (ListReason Spells Fits Reason Allocates room) old before after e
+      fails-item n cs old mid before between after e w more few grows f =
+          fails-so Reason (ListReason Spells Fits Reason Allocates room) old mid before between after e grows f (λ f why. maybe-so old (InItem Spells Fits (Reason f) room) (ListReason Spells Fits Reason Allocates room f) (λ input item. inr item) (in-item (Reason f) room n cs old mid w more few why))
 
       -- a block was not read
       pub fails-block : (n k : ℕ) (cs : List C) (old mid : Option (List ℕ)) (before between after : ℕ) (e : BorshError) → WasRead n cs old mid → length cs + k ≤ n → length cs + k ≤ room + 1 → before ≤ between
-          → ((input : List ℕ) → InItem Spells Fits MayAllocate room input → Asks input) → Fails (AfterItems Spells Fits IsCut k) (AfterItems Spells Fits IsTooLong k) (AfterItems Spells Fits MayAllocate k) mid between after e
-          → Fails (IsListCut Spells Fits IsCut room) (IsListTooLong Spells Fits IsTooLong room) Asks old before after e
-      fails-block n k cs old mid before between after e w more few grows asks f = fails-so _ _ _ _ _ _ old mid before between after e grows f
-          (λ cut. maybe-so old _ _ (λ input cut. inr cut) (in-block IsCut room n k cs old mid w more few cut))
-          (λ long. maybe-so old _ _ (λ input long. inr long) (in-block IsTooLong room n k cs old mid w more few long))
-          (λ ask. maybe-so old _ _ asks (in-block MayAllocate room n k cs old mid w more few ask))
+          → Fails (AfterItems Spells Fits Reason k) mid between after e → Fails (ListReason Spells Fits Reason Allocates room) old before after e
+      fails-block n k cs old mid before between after e w more few grows f =
+          fails-so (AfterItems Spells Fits Reason k) (ListReason Spells Fits Reason Allocates room) old mid before between after e grows f (λ f why. maybe-so old (InItem Spells Fits (Reason f) room) (ListReason Spells Fits Reason Allocates room f) (λ input item. inr item) (in-block Reason f room n k cs old mid w more few why))
 
       -- nor was it where memory was wanting
       pub fails-wanting : (Wanting : Type 0) (n k : ℕ) (cs : List C) (old mid : Option (List ℕ)) (before between after : ℕ) (e : BorshError) → WasRead n cs old mid → length cs + k ≤ n → length cs + k ≤ room + 1 → before ≤ between
-          → (Wanting → MayBe old Asks) → ((input : List ℕ) → InItem Spells Fits MayAllocate room input → Asks input)
-          → ((e ≡ Memory) × Wanting) ⊎ Fails (AfterItems Spells Fits IsCut k) (AfterItems Spells Fits IsTooLong k) (AfterItems Spells Fits MayAllocate k) mid between after e
-          → Fails (IsListCut Spells Fits IsCut room) (IsListTooLong Spells Fits IsTooLong room) Asks old before after e
-      fails-wanting Wanting n k cs old mid before between after e w more few grows wants asks f = elim f [
-        | inl wanting ↦ subst (Fails (IsListCut Spells Fits IsCut room) (IsListTooLong Spells Fits IsTooLong room) Asks old before after) (sym wanting.0) (wants wanting.1)
-        | inr failed ↦ fails-block n k cs old mid before between after e w more few grows asks failed
+          → (Wanting → MayBe old Allocates) → ((e ≡ Memory) × Wanting) ⊎ Fails (AfterItems Spells Fits Reason k) mid between after e
+          → Fails (ListReason Spells Fits Reason Allocates room) old before after e
+      fails-wanting Wanting n k cs old mid before between after e w more few grows wants f = elim f [
+        | inl wanting ↦ subst (Fails (ListReason Spells Fits Reason Allocates room) old before after) (sym wanting.0) (maybe-so old Allocates (ListReason Spells Fits Reason Allocates room Memory) (λ input is. inl is) (wants wanting.1))
+        | inr failed ↦ fails-block n k cs old mid before between after e w more few grows failed
       ]
 
     pub rest-many : (IsTooLong : List ℕ → Type 0) (room n : ℕ) (cs : List C) (old new : Option (List ℕ)) → WasRead n cs old new → length cs ≡ room + 1 → room < n → LeavesRest Spells IsTooLong room old new InvalidLength

@@ -12,3 +12,4 @@ pub mod Place
 pub mod ReadBack
 pub mod ReadItems
 pub mod Tagged
+pub mod Texts

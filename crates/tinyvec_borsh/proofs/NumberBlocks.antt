@@ -7,9 +7,9 @@ use Rattle.std.specs.List.{AllByRecursion}
 use Rattle.std.specs.Io.KnownBytes.{Appends}
 use Rattle.std.proofs.KnownBytes.{Appends-trans}
 use Rattle.tinyvec_borsh.specs.declared.borsh_error.BorshError.{BorshError}
-use Rattle.tinyvec_borsh.specs.declared.borsh_error.BorshError.TheVariants.{Ended, InvalidLength, Io, Memory}
+use Rattle.tinyvec_borsh.specs.declared.borsh_error.BorshError.TheVariants.{Ended, InvalidLength, InvalidUtf8, Io, Memory}
 use Rattle.tinyvec_borsh.specs.Items.{SpellsItems, AfterItems}
-use Rattle.tinyvec_borsh.specs.Number.{SpellsNumber}
+use Rattle.tinyvec_borsh.specs.Number.{SpellsNumber, TooFewBytes}
 use Rattle.tinyvec_borsh.specs.TwoParts.{HasParts, first-so, group-first, joined, rest-so}
 use Rattle.tinyvec_borsh.specs.Reading.{Fails, IsFewBytes, MayBe}
 use Rattle.tinyvec_borsh.proofs.Blocks.{TookItems}
@@ -93,30 +93,26 @@ module _ {C : Type 0} (Spells : C → List ℕ → Type 0) (Fits : C → Type 0)
   pub fit-block : (xs ys zs : List C) → zs ≡ xs ++ ys → AllByRecursion Fits xs → AllByRecursion Fits ys → AllByRecursion Fits zs
   fit-block xs ys zs both p q = subst (AllByRecursion Fits) (sym both) (fit-join Fits xs ys p q)
 
-  behind-block : (P : List ℕ → Type 0) (k n : ℕ) (cs : List C) (old mid : Option (List ℕ)) → TookItems Spells Fits cs old mid → length cs + k ≤ n → MayBe mid (AfterItems Spells Fits P k) → MayBe old (AfterItems Spells Fits P n)
-  behind-block P k n cs old mid w fewer may = maybe-behind old mid (AfterItems Spells Fits P k) _ w.taken (λ input p.
+  -- an item of the block was not read, and the input is so from it on
+  pub fails-behind-block : (Reason : BorshError → List ℕ → Type 0) (k n : ℕ) (cs : List C) (old mid : Option (List ℕ)) (before between after : ℕ) (e : BorshError) → TookItems Spells Fits cs old mid → length cs + k ≤ n → before ≤ between
+      → Fails (AfterItems Spells Fits Reason k) mid between after e → Fails (AfterItems Spells Fits Reason n) old before after e
+  fails-behind-block Reason k n cs old mid before between after e w fewer grows f = fails-so (AfterItems Spells Fits Reason k) (AfterItems Spells Fits Reason n) old mid before between after e grows f
+      (λ f why. maybe-behind old mid (AfterItems Spells Fits Reason k f) (AfterItems Spells Fits Reason n f) w.taken (λ input p.
       let so = p.is_rest in
-      let q : HasParts (HasParts (SpellsItems Spells cs) (SpellsItems Spells so.items)) P input = group-first (rest-so p so.parts) in
+      let q : HasParts (HasParts (SpellsItems Spells cs) (SpellsItems Spells so.items)) (Reason f) input = group-first (rest-so p so.parts) in
       record {
         items = cs ++ so.items;
         fewer = omega (arith, length-append cs so.items, so.fewer, fewer);
         fit = fit-join Fits cs so.items w.fit so.fit;
         parts = first-so q (items-join Spells cs so.items q.first q.is_first);
-      }) may
-
-  -- an item of the block was not read, and the input is so from it on
-  pub fails-behind-block : (IsCut IsTooLong MayAllocate : List ℕ → Type 0) (k n : ℕ) (cs : List C) (old mid : Option (List ℕ)) (before between after : ℕ) (e : BorshError) → TookItems Spells Fits cs old mid → length cs + k ≤ n → before ≤ between
-      → Fails (AfterItems Spells Fits IsCut k) (AfterItems Spells Fits IsTooLong k) (AfterItems Spells Fits MayAllocate k) mid between after e
-      → Fails (AfterItems Spells Fits IsCut n) (AfterItems Spells Fits IsTooLong n) (AfterItems Spells Fits MayAllocate n) old before after e
-  fails-behind-block IsCut IsTooLong MayAllocate k n cs old mid before between after e w fewer grows f =
-      fails-so _ _ _ _ _ _ old mid before between after e grows f (behind-block IsCut k n cs old mid w fewer) (behind-block IsTooLong k n cs old mid w fewer) (behind-block MayAllocate k n cs old mid w fewer)
+      }) why)
 
   module _ (width : ℕ) (of_bytes : List ℕ → C) (read : (bytes : List ℕ) → length bytes ≡ width → AllByRecursion (λ byte. byte < 256) bytes → Spells (of_bytes bytes) bytes × Fits (of_bytes bytes)) where
     -- of fewer bytes than so many numbers have, the last number that begins is cut
-    few-numbers : (n : ℕ) (input : List ℕ) → IsFewBytes (n * width) input → AfterItems Spells Fits (λ rest. length rest < width) n input
+    few-numbers : (n : ℕ) (input : List ℕ) → IsFewBytes (n * width) input → AfterItems Spells Fits (TooFewBytes width) n Ended input
     few-numbers zero input few = absurd (omega (arith, few.1))
     few-numbers (suc n) input few = elim (cases_lt (length input) width) [
-      | inl cut ↦ record { items = []; fewer = omega arith; fit = tt; parts = joined [] input refl cut }
+      | inl cut ↦ record { items = []; fewer = omega arith; fit = tt; parts = joined [] input refl (refl, cut) }
       | inr enough ↦
           let long = length-take-le width input enough in
           let one = read (take width input) long (small-take width input few.0) in
@@ -130,9 +126,10 @@ module _ {C : Type 0} (Spells : C → List ℕ → Type 0) (Fits : C → Type 0)
     ]
 
     -- so many numbers have `many` bytes, which were not all there
-    pub fails-numbers : (n many : ℕ) → many ≡ n * width → (old : Option (List ℕ)) (before after : ℕ) (e : BorshError) → (e ≡ Ended → MayBe old (IsFewBytes many)) → Fails (λ input. length input < many) (λ _. ⊥) (λ _. ⊥) old before after e
-        → Fails (AfterItems Spells Fits (λ input. length input < width) n) (AfterItems Spells Fits (λ _. ⊥) n) (AfterItems Spells Fits (λ _. ⊥) n) old before after e
+    pub fails-numbers : (n many : ℕ) → many ≡ n * width → (old : Option (List ℕ)) (before after : ℕ) (e : BorshError) → (e ≡ Ended → MayBe old (IsFewBytes many)) → Fails (TooFewBytes many) old before after e
+        → Fails (AfterItems Spells Fits (TooFewBytes width) n) old before after e
     fails-numbers n many is old before after Ended few f = maybe-so old _ _ (few-numbers n) (subst (λ m. MayBe old (IsFewBytes m)) is (few refl))
-    fails-numbers n many is old before after InvalidLength few f = maybe-so old _ _ (λ input no. absurd no) f
+    fails-numbers n many is old before after InvalidLength few f = maybe-so old _ _ (λ input no. cc) f
+    fails-numbers n many is old before after InvalidUtf8 few f = maybe-so old _ _ (λ input no. cc) f
     fails-numbers n many is old before after Io few f = f
-    fails-numbers n many is old before after Memory few f = maybe-so old _ _ (λ input no. absurd no) f
+    fails-numbers n many is old before after Memory few f = maybe-so old _ _ (λ input no. cc) f

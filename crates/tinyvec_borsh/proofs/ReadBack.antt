@@ -2,7 +2,7 @@
 use Rattle.std.proofs.Common.{◌≡◌, ◌∙◌, ap, sym, subst, ℕ, ◌⊎◌, inl, inr, List, [], ◌∷◌, ◌++◌, map, refl, Option, None, Some, Result, Ok, Err, IfOk, IfErr, append-nil}
 use Rattle.std.proofs.lemmas.Simd.{map-map}
 use Rattle.tinyvec_borsh.specs.declared.borsh_error.BorshError.{BorshError}
-use Rattle.tinyvec_borsh.specs.declared.borsh_error.BorshError.TheVariants.{Ended, InvalidLength, Io, Memory}
+use Rattle.tinyvec_borsh.specs.declared.borsh_error.BorshError.TheVariants.{Ended, InvalidLength, InvalidUtf8, Io, Memory}
 use Rattle.tinyvec_borsh.specs.Apart.{AreApart}
 use Rattle.tinyvec_borsh.specs.Code.{IsCode, TellsApart}
 use Rattle.tinyvec_borsh.specs.ItemsLaws.{same-item}
@@ -14,29 +14,31 @@ module _ {T C : Type 0} (content : T → C) (Spells : C → List ℕ → Type 0)
   takes-it c d bytes rest None p t = absurd t.2
   takes-it c d bytes rest (Some y) p t = let same = same-item Spells code d c t.0 bytes y rest t.1 p (sym t.2) in (same.0, ap Some same.2)
 
-  pub reads-back : (Fits : C → Type 0) (IsCut IsTooLong MayAllocate : List ℕ → Type 0) → AreApart Spells Fits IsCut IsTooLong → (old new : Option (List ℕ)) (before after : ℕ) (r : Result T BorshError)
-      → IfOk r (λ v. ReadsSpelling (Spells (content v)) old new) → IfErr r (Fails IsCut IsTooLong MayAllocate old before after)
-      → (c : C) (bytes rest : List ℕ) → Fits c → Spells c bytes → old ≡ Some (bytes ++ rest) → ReadsBack content MayAllocate c (bytes ++ rest) rest new before after r
-  reads-back Fits IsCut IsTooLong MayAllocate apart old new before after (Ok v) ok err c bytes rest f p is = takes-it c (content v) bytes rest new p (subst (λ o. ReadsSpelling (Spells (content v)) o new) is ok)
-  reads-back Fits IsCut IsTooLong MayAllocate apart old new before after (Err Ended) ok err c bytes rest f p is = apart.spelled_or_cut c bytes rest p (subst (λ o. MayBe o IsCut) is err)
-  reads-back Fits IsCut IsTooLong MayAllocate apart old new before after (Err InvalidLength) ok err c bytes rest f p is = apart.fits_or_too_long c bytes rest f p (subst (λ o. MayBe o IsTooLong) is err)
-  reads-back Fits IsCut IsTooLong MayAllocate apart old new before after (Err Io) ok err c bytes rest f p is = err
-  reads-back Fits IsCut IsTooLong MayAllocate apart old new before after (Err Memory) ok err c bytes rest f p is = subst (λ o. MayBe o MayAllocate) is err
+  pub reads-back : (Fits : C → Type 0) (Reason : BorshError → List ℕ → Type 0) → AreApart Spells Fits Reason → (old new : Option (List ℕ)) (before after : ℕ) (r : Result T BorshError)
+      → IfOk r (λ v. ReadsSpelling (Spells (content v)) old new) → IfErr r (Fails Reason old before after)
+      → (c : C) (bytes rest : List ℕ) → Fits c → Spells c bytes → old ≡ Some (bytes ++ rest) → ReadsBack content (Reason Memory) c (bytes ++ rest) rest new before after r
+  reads-back Fits Reason apart old new before after (Ok v) ok err c bytes rest f p is = takes-it c (content v) bytes rest new p (subst (λ o. ReadsSpelling (Spells (content v)) o new) is ok)
+  reads-back Fits Reason apart old new before after (Err Ended) ok err c bytes rest f p is = apart.spelled_or_cut c bytes rest p (subst (λ o. MayBe o (Reason Ended)) is err)
+  reads-back Fits Reason apart old new before after (Err InvalidLength) ok err c bytes rest f p is = apart.fits_or_refused InvalidLength tt c bytes rest f p (subst (λ o. MayBe o (Reason InvalidLength)) is err)
+  reads-back Fits Reason apart old new before after (Err InvalidUtf8) ok err c bytes rest f p is = apart.fits_or_refused InvalidUtf8 tt c bytes rest f p (subst (λ o. MayBe o (Reason InvalidUtf8)) is err)
+  reads-back Fits Reason apart old new before after (Err Io) ok err c bytes rest f p is = err
+  reads-back Fits Reason apart old new before after (Err Memory) ok err c bytes rest f p is = subst (λ o. MayBe o (Reason Memory)) is err
 
   outcome : (MayAllocate : List ℕ → Type 0) (c : C) (input rest : List ℕ) (new : Option (List ℕ)) (before after : ℕ) (r : Result T BorshError) → ReadsBack content MayAllocate c input rest new before after r
       → IfOk r (λ v. content v ≡ c) × IfErr r (λ e. (e ≡ Io) ⊎ (e ≡ Memory))
   outcome MayAllocate c input rest new before after (Ok v) back = (back.0, tt)
   outcome MayAllocate c input rest new before after (Err Ended) back = absurd back
   outcome MayAllocate c input rest new before after (Err InvalidLength) back = absurd back
+  outcome MayAllocate c input rest new before after (Err InvalidUtf8) back = absurd back
   outcome MayAllocate c input rest new before after (Err Io) back = (tt, inl refl)
   outcome MayAllocate c input rest new before after (Err Memory) back = (tt, inr refl)
 
   -- what was written is read again, faults and want of memory aside
-  pub reads-written : (Fits : C → Type 0) (IsCut IsTooLong MayAllocate : List ℕ → Type 0) → AreApart Spells Fits IsCut IsTooLong → (old new : Option (List ℕ)) (before after : ℕ) (r : Result T BorshError)
-      → IfOk r (λ v. ReadsSpelling (Spells (content v)) old new) → IfErr r (Fails IsCut IsTooLong MayAllocate old before after)
+  pub reads-written : (Fits : C → Type 0) (Reason : BorshError → List ℕ → Type 0) → AreApart Spells Fits Reason → (old new : Option (List ℕ)) (before after : ℕ) (r : Result T BorshError)
+      → IfOk r (λ v. ReadsSpelling (Spells (content v)) old new) → IfErr r (Fails Reason old before after)
       → (c : C) (bytes : List ℕ) → Fits c → Spells c bytes → old ≡ Some bytes → IfOk r (λ v. content v ≡ c) × IfErr r (λ e. (e ≡ Io) ⊎ (e ≡ Memory))
-  reads-written Fits IsCut IsTooLong MayAllocate apart old new before after r ok err c bytes f p is =
-      outcome MayAllocate c (bytes ++ []) [] new before after r (reads-back Fits IsCut IsTooLong MayAllocate apart old new before after r ok err c bytes [] f p (is ∙ ap Some (sym (append-nil bytes))))
+  reads-written Fits Reason apart old new before after r ok err c bytes f p is =
+      outcome (Reason Memory) c (bytes ++ []) [] new before after r (reads-back Fits Reason apart old new before after r ok err c bytes [] f p (is ∙ ap Some (sym (append-nil bytes))))
 
 -- Of items that differ only where their contents do, the lists are equal where their contents are.
 pub same-list : {T C : Type 0} (content : T → C) → TellsApart content → (xs ys : List T) → map content xs ≡ map content ys → xs ≡ ys

@@ -1,6 +1,7 @@
 -- Two contents, spelled one after the other: what a struct is, field by field.
 use Rattle.std.specs.Prelude.{ℕ, ◌⊎◌, List}
 use Rattle.tinyvec_borsh.specs.TwoParts.{HasParts}
+use Rattle.tinyvec_borsh.specs.declared.borsh_error.BorshError.{BorshError}
 
 -- the spelling of the first, and then that of the second
 abbrev pub SpellsBoth : {A B : Type 0} → (A → List ℕ → Type 0) → (B → List ℕ → Type 0) → A × B → List ℕ → Type 0
@@ -18,5 +19,5 @@ pub record IsBehind {A : Type 0} (Spells : A → List ℕ → Type 0) (Fits : A 
   pub open parts use *
 
 -- The input is so in the first, or after the first in the second.
-abbrev pub InEither : {A : Type 0} → (A → List ℕ → Type 0) → (A → Type 0) → (InFirst InSecond : List ℕ → Type 0) → List ℕ → Type 0
-InEither Spells Fits InFirst InSecond input = InFirst input ⊎ IsBehind Spells Fits InSecond input
+abbrev pub InEither : {A : Type 0} → (A → List ℕ → Type 0) → (A → Type 0) → (InFirst InSecond : BorshError → List ℕ → Type 0) → BorshError → List ℕ → Type 0
+InEither Spells Fits InFirst InSecond error input = InFirst error input ⊎ IsBehind Spells Fits (InSecond error) input

@@ -1,9 +1,11 @@
--- If two spellings are codes, so is the one after the other, and no input is two of fitting, cut and too long.
+-- If two spellings are codes, so is the one after the other, and no input is two of fitting and refused for a reason.
 use Rattle.std.proofs.Common.{◌≡◌, ◌∙◌, sym, subst, ℕ, inl, inr, List, ◌++◌, arith}
 use Rattle.tinyvec_borsh.specs.Code.{IsCode}
 use Rattle.tinyvec_borsh.specs.Apart.{AreApart}
 use Rattle.tinyvec_borsh.specs.ItemsLaws.{same-item}
 use Rattle.tinyvec_borsh.specs.Both.{SpellsBoth, BothFit, IsBehind, InEither}
+use Rattle.tinyvec_borsh.specs.declared.borsh_error.BorshError.{BorshError}
+use Rattle.tinyvec_borsh.specs.declared.borsh_error.BorshError.TheVariants.{Ended}
 use Rattle.tinyvec_borsh.specs.TwoParts.{joined, parts-length, with-tail}
 
 module _ {A B : Type 0} (SpellsA : A → List ℕ → Type 0) (SpellsB : B → List ℕ → Type 0) (code_a : IsCode SpellsA) where
@@ -24,28 +26,27 @@ module _ {A B : Type 0} {SpellsA : A → List ℕ → Type 0} {SpellsB : B → L
         λ i. (t.0 i, u i);
   }
 
-  module _ {FitsA : A → Type 0} {FitsB : B → Type 0} {CutA LongA CutB LongB : List ℕ → Type 0} where
-    pub both_apart : AreApart SpellsA FitsA CutA LongA → AreApart SpellsB FitsB CutB LongB
-        → AreApart (SpellsBoth SpellsA SpellsB) (BothFit FitsA FitsB) (InEither SpellsA FitsA CutA CutB) (InEither SpellsA FitsA LongA LongB)
+  module _ {FitsA : A → Type 0} {FitsB : B → Type 0} {ReasonA ReasonB : BorshError → List ℕ → Type 0} where
+    pub both_apart : AreApart SpellsA FitsA ReasonA → AreApart SpellsB FitsB ReasonB → AreApart (SpellsBoth SpellsA SpellsB) (BothFit FitsA FitsB) (InEither SpellsA FitsA ReasonA ReasonB)
     both_apart apart_a apart_b = record {
       spelled_or_cut = λ c bytes rest p cut. elim cut [
-        | inl f ↦ apart_a.spelled_or_cut c.0 p.first (p.rest ++ rest) p.is_first (subst CutA (with-tail p rest) f)
-        | inr s ↦ apart_b.spelled_or_cut c.1 p.rest rest p.is_rest (second-stands SpellsA SpellsB code_a CutB FitsA c bytes rest p s)
+        | inl f ↦ apart_a.spelled_or_cut c.0 p.first (p.rest ++ rest) p.is_first (subst (ReasonA Ended) (with-tail p rest) f)
+        | inr s ↦ apart_b.spelled_or_cut c.1 p.rest rest p.is_rest (second-stands SpellsA SpellsB code_a (ReasonB Ended) FitsA c bytes rest p s)
       ];
-      fits_or_too_long = λ c bytes rest fits p long. elim long [
-        | inl f ↦ apart_a.fits_or_too_long c.0 p.first (p.rest ++ rest) fits.0 p.is_first (subst LongA (with-tail p rest) f)
-        | inr s ↦ apart_b.fits_or_too_long c.1 p.rest rest fits.1 p.is_rest (second-stands SpellsA SpellsB code_a LongB FitsA c bytes rest p s)
+      fits_or_refused = λ e of c bytes rest fits p refused. elim refused [
+        | inl f ↦ apart_a.fits_or_refused e of c.0 p.first (p.rest ++ rest) fits.0 p.is_first (subst (ReasonA e) (with-tail p rest) f)
+        | inr s ↦ apart_b.fits_or_refused e of c.1 p.rest rest fits.1 p.is_rest (second-stands SpellsA SpellsB code_a (ReasonB e) FitsA c bytes rest p s)
       ];
-      cut_or_too_long = λ input cut long. elim cut [
-        | inl f ↦ elim long [
-          | inl g ↦ apart_a.cut_or_too_long input f g
-          | inr t ↦ apart_a.spelled_or_cut t.content t.first t.rest t.is_first (subst CutA t.whole f)
+      one_reason = λ e f of_e of_f input r s. elim r [
+        | inl r ↦ elim s [
+          | inl s ↦ apart_a.one_reason e f of_e of_f input r s
+          | inr s ↦ absurd (apart_a.fits_or_refused e of_e s.content s.first s.rest s.fits s.is_first (subst (ReasonA e) s.whole r))
         ]
-        | inr s ↦ elim long [
-          | inl g ↦ apart_a.fits_or_too_long s.content s.first s.rest s.fits s.is_first (subst LongA s.whole g)
-          | inr t ↦
-              let same = same-item SpellsA code_a s.content t.content s.first t.first s.rest t.rest s.is_first t.is_first (sym s.whole ∙ t.whole) in
-              apart_b.cut_or_too_long t.rest (subst CutB same.2 s.is_rest) t.is_rest
+        | inr r ↦ elim s [
+          | inl s ↦ absurd (apart_a.fits_or_refused f of_f r.content r.first r.rest r.fits r.is_first (subst (ReasonA f) r.whole s))
+          | inr s ↦
+              let same = same-item SpellsA code_a r.content s.content r.first s.first r.rest s.rest r.is_first s.is_first (sym r.whole ∙ s.whole) in
+              apart_b.one_reason e f of_e of_f s.rest (subst (ReasonB e) same.2 r.is_rest) s.is_rest
         ]
       ];
     }

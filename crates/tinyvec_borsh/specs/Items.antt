@@ -3,6 +3,8 @@ use Rattle.std.specs.Prelude.{◌≡◌, ℕ, ◌+◌, ◌^◌, ◌<◌, ◌≤�
 use Rattle.std.specs.List.{AllByRecursion}
 use Rattle.tinyvec_borsh.specs.Number.{SpellsNumber}
 use Rattle.tinyvec_borsh.specs.TwoParts.{HasParts}
+use Rattle.tinyvec_borsh.specs.declared.borsh_error.BorshError.{BorshError}
+use Rattle.tinyvec_borsh.specs.declared.borsh_error.BorshError.TheVariants.{Ended, InvalidLength, Memory}
 
 -- eight bytes whose value, least first, is the count
 abbrev pub IsCount : ℕ → List ℕ → Type 0
@@ -49,12 +51,12 @@ module _ {C : Type 0} (Spells : C → List ℕ → Type 0) (Fits : C → Type 0)
     pub few : length items ≤ room
     pub left : P tail
 
-  -- The input has items, fewer than n, which fit, and is so after them.
-  pub record AfterItems (P : List ℕ → Type 0) (n : ℕ) (input : List ℕ) : Type 0 where
+  -- The input has items, fewer than n, which fit, and the reason is that of an item after them.
+  pub record AfterItems (Reason : BorshError → List ℕ → Type 0) (n : ℕ) (error : BorshError) (input : List ℕ) : Type 0 where
     pub items : List C
     pub fewer : length items < n
     pub fit : AllByRecursion Fits items
-    pub parts : HasParts (SpellsItems Spells items) P input
+    pub parts : HasParts (SpellsItems Spells items) (Reason error) input
     pub open parts use *
 
   -- The count is above the room, and one item more than the room was spelled.
@@ -64,13 +66,16 @@ module _ {C : Type 0} (Spells : C → List ℕ → Type 0) (Fits : C → Type 0)
     pub over : length items ≡ room + 1
     pub above : room < len
 
-  -- The input ends before the last byte of the count, or of an item that is to be read.
-  abbrev pub IsListCut : (IsCut : List ℕ → Type 0) (room : ℕ) → List ℕ → Type 0
-  IsListCut IsCut room input = (length input < 8) ⊎ InItem IsCut room input
+  -- The input ends before the last byte of the count. The list is too long. Room for the items is to be allocated.
+  abbrev pub OfList : (Allocates : List ℕ → Type 0) (room : ℕ) → BorshError → List ℕ → Type 0
+  OfList Allocates room Ended input = length input < 8
+  OfList Allocates room InvalidLength input = HasTooMany room input
+  OfList Allocates room Memory input = Allocates input
+  OfList Allocates room error input = ⊥
 
-  -- The list is too long, or an inner one.
-  abbrev pub IsListTooLong : (IsTooLong : List ℕ → Type 0) (room : ℕ) → List ℕ → Type 0
-  IsListTooLong IsTooLong room input = HasTooMany room input ⊎ InItem IsTooLong room input
+  -- The reason is the list's, or that of an item that is to be read.
+  abbrev pub ListReason : (Reason : BorshError → List ℕ → Type 0) (Allocates : List ℕ → Type 0) (room : ℕ) → BorshError → List ℕ → Type 0
+  ListReason Reason Allocates room error input = OfList Allocates room error input ⊎ InItem (Reason error) room input
 
 -- the count is above this
 abbrev pub CountsAbove : ℕ → List ℕ → Type 0

@@ -1,13 +1,15 @@
--- If the items' spelling is a code, so is that of lists, and no input is two of fitting, cut and too long.
+-- If the items' spelling is a code, so is that of lists, and no input is two of fitting and refused for a reason.
 use Rattle.std.proofs.Common.{◌≡◌, ◌∙◌, ap, sym, subst, ℕ, ◌<◌, ◌⊎◌, inl, inr, List, [], ◌∷◌, ◌++◌, length, refl, arith, append-nil, length-append, lit<}
 use Rattle.std.specs.List.{AllByRecursion}
 use Rattle.std.proofs.lemmas.Bool.{cases_lt}
 use Rattle.std.proofs.lemmas.List.{nil_from_length}
 use Rattle.tinyvec_borsh.specs.Code.{IsCode}
-use Rattle.tinyvec_borsh.specs.Apart.{AreApart}
+use Rattle.tinyvec_borsh.specs.Apart.{AreApart, IsOfInput}
+use Rattle.tinyvec_borsh.specs.declared.borsh_error.BorshError.{BorshError}
+use Rattle.tinyvec_borsh.specs.declared.borsh_error.BorshError.TheVariants.{Ended, InvalidLength, InvalidUtf8, Io, Memory}
 use Rattle.tinyvec_borsh.specs.Number.{SpellsNumber}
 use Rattle.tinyvec_borsh.specs.NumberLaws.{number_code, number_spelled}
-use Rattle.tinyvec_borsh.specs.Items.{HasItems, IsCount, SpellsItems, SpellsList, ListFits, IsListCut, IsListTooLong}
+use Rattle.tinyvec_borsh.specs.Items.{HasItems, IsCount, SpellsItems, SpellsList, InItem, ListFits, ListReason, OfList}
 use Rattle.tinyvec_borsh.specs.TwoParts.{HasParts, joined, parts-length, with-tail}
 
 -- of two fronts of one list, one begins the other
@@ -89,54 +91,86 @@ module _ {C : Type 0} (Spells : C → List ℕ → Type 0) (code : IsCode Spells
         (same-items cs ds p.rest q.rest rest [] t.0 p.is_rest q.is_rest (t.1 ∙ sym (append-nil q.rest))).0;
   }
 
-  module _ (Fits : C → Type 0) (IsCut IsTooLong : List ℕ → Type 0) (apart : AreApart Spells Fits IsCut IsTooLong) where
+  module _ (Fits : C → Type 0) (Reason : BorshError → List ℕ → Type 0) (apart : AreApart Spells Fits Reason) where
     not-short : (input : List ℕ) → HasItems Spells Fits input → length input < 8 → ⊥
     not-short input has few = omega (arith, has.counted.many, ap length has.whole, length-append has.count (has.bytes ++ has.tail))
 
-    cut-at-items : (cs ds : List C) (x y : List ℕ) (a b : List ℕ) → a ++ x ≡ b ++ y → SpellsItems Spells cs a → SpellsItems Spells ds b → length cs < length ds → IsCut x → ⊥
+    cut-at-items : (cs ds : List C) (x y : List ℕ) (a b : List ℕ) → a ++ x ≡ b ++ y → SpellsItems Spells cs a → SpellsItems Spells ds b → length cs < length ds → Reason Ended x → ⊥
     cut-at-items cs ds x y a b e p q few cut =
         let next = next-item Fits cs ds a b x y few p q e in
-        apart.spelled_or_cut next.0 next.1.first next.1.rest next.1.is_first (subst IsCut next.1.whole cut)
+        apart.spelled_or_cut next.0 next.1.first next.1.rest next.1.is_first (subst (Reason Ended) next.1.whole cut)
 
-    too-long-at-items : (cs ds : List C) (x y : List ℕ) (a b : List ℕ) → a ++ x ≡ b ++ y → SpellsItems Spells cs a → SpellsItems Spells ds b → length cs < length ds → AllByRecursion Fits ds → IsTooLong x → ⊥
-    too-long-at-items cs ds x y a b e p q few fit long =
+    refused-at-items : (error : BorshError) → IsOfInput error → (cs ds : List C) (x y : List ℕ) (a b : List ℕ) → a ++ x ≡ b ++ y → SpellsItems Spells cs a → SpellsItems Spells ds b → length cs < length ds → AllByRecursion Fits ds → Reason error x → ⊥
+    refused-at-items error of cs ds x y a b e p q few fit refused =
         let next = next-item Fits cs ds a b x y few p q e in
-        apart.fits_or_too_long next.0 next.1.first next.1.rest (next.2 fit) next.1.is_first (subst IsTooLong next.1.whole long)
+        apart.fits_or_refused error of next.0 next.1.first next.1.rest (next.2 fit) next.1.is_first (subst (Reason error) next.1.whole refused)
 
-    pub list_apart : (room : ℕ) → AreApart (SpellsList Spells) (ListFits Spells Fits room) (IsListCut Spells Fits IsCut room) (IsListTooLong Spells Fits IsTooLong room)
-    list_apart room = record {
-      spelled_or_cut = λ cs bytes rest p cut. elim cut [
-        | inl few ↦ omega (arith, few, p.is_first.many, parts-length p, length-append bytes rest)
-        | inr c ↦
-            let t = list-begins cs bytes rest c.len c.count (c.bytes ++ c.tail) p c.counted c.whole in
-            cut-at-items c.items cs c.tail rest c.bytes p.rest (sym t.1) c.spelled p.is_rest (subst (λ n. length c.items < n) (sym t.0) c.fewer) c.left
-      ];
-      fits_or_too_long = λ cs bytes rest fits p long. elim long [
-        | inl l ↦
-            let t = list-begins cs bytes rest l.len l.count (l.bytes ++ l.tail) p l.counted l.whole in
-            omega (arith, l.above, t.0, fits.few)
-        | inr l ↦
-            let t = list-begins cs bytes rest l.len l.count (l.bytes ++ l.tail) p l.counted l.whole in
-            too-long-at-items l.items cs l.tail rest l.bytes p.rest (sym t.1) l.spelled p.is_rest (subst (λ n. length l.items < n) (sym t.0) l.fewer) fits.items l.left
-      ];
-      cut_or_too_long = λ input cut long. elim cut [
-        | inl few ↦ elim long [ inl l ↦ not-short input l.has few | inr l ↦ not-short input l.has few ]
-        | inr c ↦ elim long [
-          | inl l ↦
-              let t = same-count c.len l.len c.count l.count (c.bytes ++ c.tail) (l.bytes ++ l.tail) c.counted l.counted (sym c.whole ∙ l.whole) in
-              cut-at-items c.items l.items c.tail l.tail c.bytes l.bytes t.2 c.spelled l.spelled (omega (arith, l.over, c.few)) c.left
+    -- two that have the same count
+    has-items-same : (input : List ℕ) (r s : HasItems Spells Fits input) → r.bytes ++ r.tail ≡ s.bytes ++ s.tail
+    has-items-same input r s = (same-count r.len s.len r.count s.count (r.bytes ++ r.tail) (s.bytes ++ s.tail) r.counted s.counted (sym r.whole ∙ s.whole)).2
+
+    module _ (Allocates : List ℕ → Type 0) (room : ℕ) where
+      -- no list that fits is refused for itself
+      list-fits : (e : BorshError) → IsOfInput e → (cs : List C) (bytes rest : List ℕ) → ListFits Spells Fits room cs → SpellsList Spells cs bytes → OfList Spells Fits Allocates room e (bytes ++ rest) → ⊥
+      list-fits Ended of cs bytes rest fits p few = omega (arith, few, p.is_first.many, parts-length p, length-append bytes rest)
+      list-fits InvalidLength of cs bytes rest fits p l =
+          let t = list-begins cs bytes rest l.len l.count (l.bytes ++ l.tail) p l.counted l.whole in
+          omega (arith, l.above, t.0, fits.few)
+      list-fits InvalidUtf8 of cs bytes rest fits p none = none
+      list-fits Io of cs bytes rest fits p none = of
+      list-fits Memory of cs bytes rest fits p none = of
+
+      -- for one reason, as an item is for one
+      one-of-list : (e f : BorshError) → IsOfInput e → IsOfInput f → (input : List ℕ) → OfList Spells Fits Allocates room e input → OfList Spells Fits Allocates room f input → e ≡ f
+      one-of-list Ended Ended of_e of_f input r s = refl
+      one-of-list Ended InvalidLength of_e of_f input r s = absurd (not-short input s.has r)
+      one-of-list InvalidLength Ended of_e of_f input r s = absurd (not-short input r.has s)
+      one-of-list InvalidLength InvalidLength of_e of_f input r s = refl
+      one-of-list InvalidUtf8 f of_e of_f input r s = absurd r
+      one-of-list Io f of_e of_f input r s = absurd of_e
+      one-of-list Memory f of_e of_f input r s = absurd of_e
+      one-of-list e InvalidUtf8 of_e of_f input r s = absurd s
+      one-of-list e Io of_e of_f input r s = absurd of_f
+      one-of-list e Memory of_e of_f input r s = absurd of_f
+
+      list-or-item : (e f : BorshError) → IsOfInput e → IsOfInput f → (input : List ℕ) → OfList Spells Fits Allocates room e input → InItem Spells Fits (Reason f) room input → ⊥
+      list-or-item Ended f of_e of_f input r s = not-short input s.has r
+      list-or-item InvalidLength f of_e of_f input r s =
+          refused-at-items f of_f s.items r.items s.tail r.tail s.bytes r.bytes (has-items-same input s.has r.has) s.spelled r.spelled (omega (arith, r.over, s.few)) r.fit s.left
+      list-or-item InvalidUtf8 f of_e of_f input r s = r
+      list-or-item Io f of_e of_f input r s = of_e
+      list-or-item Memory f of_e of_f input r s = of_e
+
+      one-item-reason : (e f : BorshError) → IsOfInput e → IsOfInput f → (input : List ℕ) → InItem Spells Fits (Reason e) room input → InItem Spells Fits (Reason f) room input → e ≡ f
+      one-item-reason e f of_e of_f input r s =
+          let same = has-items-same input r.has s.has in
+          elim (cases_lt (length r.items) (length s.items)) [
+            | inl less ↦ absurd (refused-at-items e of_e r.items s.items r.tail s.tail r.bytes s.bytes same r.spelled s.spelled less s.fit r.left)
+            | inr at_least ↦ elim (cases_lt (length s.items) (length r.items)) [
+              | inl more ↦ absurd (refused-at-items f of_f s.items r.items s.tail r.tail s.bytes r.bytes (sym same) s.spelled r.spelled more r.fit s.left)
+              | inr equal ↦ apart.one_reason e f of_e of_f s.tail (subst (Reason e) (same-items r.items s.items r.bytes s.bytes r.tail s.tail (omega (arith, at_least, equal)) r.spelled s.spelled same).1 r.left) s.left
+            ]
+          ]
+
+      pub list_apart : AreApart (SpellsList Spells) (ListFits Spells Fits room) (ListReason Spells Fits Reason Allocates room)
+      list_apart = record {
+        spelled_or_cut = λ cs bytes rest p cut. elim cut [
+          | inl few ↦ omega (arith, few, p.is_first.many, parts-length p, length-append bytes rest)
+          | inr c ↦
+              let t = list-begins cs bytes rest c.len c.count (c.bytes ++ c.tail) p c.counted c.whole in
+              cut-at-items c.items cs c.tail rest c.bytes p.rest (sym t.1) c.spelled p.is_rest (subst (λ n. length c.items < n) (sym t.0) c.fewer) c.left
+        ];
+        fits_or_refused = λ e of cs bytes rest fits p refused. elim refused [
+          | inl l ↦ list-fits e of cs bytes rest fits p l
           | inr l ↦
-              let t = same-count c.len l.len c.count l.count (c.bytes ++ c.tail) (l.bytes ++ l.tail) c.counted l.counted (sym c.whole ∙ l.whole) in
-              elim (cases_lt (length c.items) (length l.items)) [
-                | inl less ↦ cut-at-items c.items l.items c.tail l.tail c.bytes l.bytes t.2 c.spelled l.spelled less c.left
-                | inr at_least ↦ elim (cases_lt (length l.items) (length c.items)) [
-                  | inl more ↦ too-long-at-items l.items c.items l.tail c.tail l.bytes c.bytes (sym t.2) l.spelled c.spelled more c.fit l.left
-                  | inr same ↦ apart.cut_or_too_long l.tail (subst IsCut (same-items c.items l.items c.bytes l.bytes c.tail l.tail (omega (arith, at_least, same)) c.spelled l.spelled t.2).1 c.left) l.left
-                ]
-              ]
-        ]
-      ];
-    }
+              let t = list-begins cs bytes rest l.len l.count (l.bytes ++ l.tail) p l.counted l.whole in
+              refused-at-items e of l.items cs l.tail rest l.bytes p.rest (sym t.1) l.spelled p.is_rest (subst (λ n. length l.items < n) (sym t.0) l.fewer) fits.items l.left
+        ];
+        one_reason = λ e f of_e of_f input r s. elim r [
+          | inl r ↦ elim s [ inl s ↦ one-of-list e f of_e of_f input r s | inr s ↦ absurd (list-or-item e f of_e of_f input r s) ]
+          | inr r ↦ elim s [ inl s ↦ absurd (list-or-item f e of_f of_e input s r) | inr s ↦ one-item-reason e f of_e of_f input r s ]
+        ];
+      }
 
 module _ {C : Type 0} (Spells : C → List ℕ → Type 0) (Fits : C → Type 0) (spelled : (c : C) → Fits c → (bytes : List ℕ) × Spells c bytes) where
   items-spelled : (cs : List C) → AllByRecursion Fits cs → (bytes : List ℕ) × SpellsItems Spells cs bytes

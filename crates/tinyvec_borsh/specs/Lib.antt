@@ -10,4 +10,6 @@ pub mod NumberLaws
 pub mod TwoParts
 pub mod Reading
 pub mod Tagged
+pub mod Text
+pub mod TextLaws
 pub mod Writing

@@ -11,7 +11,7 @@ use Rattle.std.specs.Int.{Width, w8, w16, w32, w64, w128, byte_at, byte_len, byt
 use mir.Val.{bits, Fits}
 use Rattle.std.proofs.Math.Facts.{Fits-of_z, sfits_to_z}
 use Rattle.std.proofs.lemmas.Int.{of_z-to_z, to_z-of_z}
-use Rattle.tinyvec_borsh.specs.Number.{NumberForm, SpellsNumber, SpellsSigned, number_of}
+use Rattle.tinyvec_borsh.specs.Number.{NumberForm, SpellsNumber, SpellsSigned, TooFewBytes, number_of}
 
 number-injective : (a b : List ℕ) → length a ≡ length b → AllByRecursion (λ byte. byte < 256) a → AllByRecursion (λ byte. byte < 256) b → number_of a ≡ number_of b → a ≡ b
 number-injective [] [] same small_a small_b value = refl
@@ -31,15 +31,15 @@ number_code width some = record {
       sym p.value ∙ ap number_of (sym (append-nil a) ∙ ap (λ l. a ++ l) (sym none)) ∙ q.value;
 }
 
--- If each spelling has so many bytes, an input with fewer is cut, and none is too long.
-pub apart_by_length : {C : Type 0} (width : ℕ) (Spells : C → List ℕ → Type 0) (Fits : C → Type 0) → ((c : C) (bytes : List ℕ) → Spells c bytes → length bytes ≡ width) → AreApart Spells Fits (λ input. length input < width) (λ _. ⊥)
+-- If each spelling has so many bytes, an input with fewer is cut, and refused for no other reason.
+pub apart_by_length : {C : Type 0} (width : ℕ) (Spells : C → List ℕ → Type 0) (Fits : C → Type 0) → ((c : C) (bytes : List ℕ) → Spells c bytes → length bytes ≡ width) → AreApart Spells Fits (TooFewBytes width)
 apart_by_length width Spells Fits many = record {
-  spelled_or_cut = λ c bytes rest p cut. omega (arith, many c bytes p, length-append bytes rest);
-  fits_or_too_long = λ c bytes rest fits p long. long;
-  cut_or_too_long = λ input cut long. long;
+  spelled_or_cut = λ c bytes rest p cut. omega (arith, cut.1, many c bytes p, length-append bytes rest);
+  fits_or_refused = λ e of c bytes rest fits p cut. omega (arith, cut.1, many c bytes p, length-append bytes rest);
+  one_reason = λ e f of_e of_f input r s. r.0 ∙ sym s.0;
 }
 
-pub number_apart : (width : ℕ) (Fits : ℕ → Type 0) → AreApart (SpellsNumber width) Fits (λ input. length input < width) (λ _. ⊥)
+pub number_apart : (width : ℕ) (Fits : ℕ → Type 0) → AreApart (SpellsNumber width) Fits (TooFewBytes width)
 number_apart width Fits = apart_by_length width (SpellsNumber width) Fits (λ c bytes p. p.many)
 
 same-signed : (w : Width) (y z : ℤ) → FitsSigned w y → FitsSigned w z → cast_unsigned w y ≡ cast_unsigned w z → y ≡ z

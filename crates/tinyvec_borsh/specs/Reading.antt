@@ -27,13 +27,12 @@ pub record TakesSome (old new : Option (List ℕ)) (error : BorshError) : Type 0
   pub taken : Consumes old new bytes
   pub end : error ≡ Ended → IsAtEnd new
 
--- Why nothing was read. `Ended` comes only if the input is cut, `InvalidLength` only if it is too long, `Memory` only
--- if memory may be asked for, and `Io` only if the reader reported a fault.
-abbrev pub Fails : (IsCut IsTooLong MayAllocate : List ℕ → Type 0) → Option (List ℕ) → ℕ → ℕ → BorshError → Type 0
-Fails IsCut IsTooLong MayAllocate input old_faults new_faults Ended = MayBe input IsCut
-Fails IsCut IsTooLong MayAllocate input old_faults new_faults InvalidLength = MayBe input IsTooLong
-Fails IsCut IsTooLong MayAllocate input old_faults new_faults Io = Reported old_faults new_faults
-Fails IsCut IsTooLong MayAllocate input old_faults new_faults Memory = MayBe input MayAllocate
+-- Why nothing was read. `Io` comes only if the reader reported a fault, and another error only if the input is a reason for
+-- it: cut for `Ended`, too long for `InvalidLength`, a text that is not UTF-8 for `InvalidUtf8`. For `Memory` it is one of
+-- which reading may allocate.
+abbrev pub Fails : (Reason : BorshError → List ℕ → Type 0) → Option (List ℕ) → ℕ → ℕ → BorshError → Type 0
+Fails Reason input old_faults new_faults Io = Reported old_faults new_faults
+Fails Reason input old_faults new_faults error = MayBe input (Reason error)
 
 -- A value of the content was read, and what follows stays unread; or the reader reported a fault, or memory was refused that
 -- may be asked for to read this input.
@@ -41,8 +40,7 @@ abbrev pub ReadsBack : {T C : Type 0} → (T → C) → (List ℕ → Type 0) �
 ReadsBack content MayAllocate c input rest new old_faults new_faults (Ok v) = (content v ≡ c) × (new ≡ Some rest)
 ReadsBack content MayAllocate c input rest new old_faults new_faults (Err Io) = Reported old_faults new_faults
 ReadsBack content MayAllocate c input rest new old_faults new_faults (Err Memory) = MayAllocate input
-ReadsBack content MayAllocate c input rest new old_faults new_faults (Err Ended) = ⊥
-ReadsBack content MayAllocate c input rest new old_faults new_faults (Err InvalidLength) = ⊥
+ReadsBack content MayAllocate c input rest new old_faults new_faults (Err error) = ⊥
 
 -- Just a count, above the room, and one item more than the room were taken.
 pub record TakesTooMany {C : Type 0} (Spells : C → List ℕ → Type 0) (room : ℕ) (old new : Option (List ℕ)) : Type 0 where
@@ -56,6 +54,4 @@ pub record TakesTooMany {C : Type 0} (Spells : C → List ℕ → Type 0) (room 
 -- errors tell nothing.
 abbrev pub LeavesRest : {C : Type 0} → (C → List ℕ → Type 0) → (IsTooLong : List ℕ → Type 0) → (room : ℕ) → (old new : Option (List ℕ)) → BorshError → Type 0
 LeavesRest Spells IsTooLong room old new InvalidLength = TakesTooMany Spells room old new ⊎ ((input : List ℕ) × IsTooLong input)
-LeavesRest Spells IsTooLong room old new Ended = Unit {0}
-LeavesRest Spells IsTooLong room old new Io = Unit {0}
-LeavesRest Spells IsTooLong room old new Memory = Unit {0}
+LeavesRest Spells IsTooLong room old new error = Unit {0}

@@ -3,6 +3,7 @@ ghost use Rattle.std.specs.Prelude.{◌≡◌, ◌<◌, ◌≤◌, length, IfErr
 ghost use Rattle.std.specs.Io.KnownBytes.{Appends, Consumes};
 ghost use Rattle.std.specs.List.{AllByRecursion};
 ghost use Rattle.tinyvec_io.specs.Counted.{AppendsFront, Reported};
+ghost use Rattle.tinyvec_borsh.specs.Number.{TooFewBytes};
 ghost use Rattle.tinyvec_borsh.specs.Reading.{Fails, IsFewBytes, MayBe, TakesSome};
 
 use crate::BorshError;
@@ -13,7 +14,7 @@ use tinyvec_io::Counted;
 pub(crate) fn read_bytes<R: Read>(reader: &mut Counted<R>, buf: &mut [u8]) -> Result<(), BorshError>
     ensures ok { OnOk result (Consumes (R.remaining reader.old.inner) (R.remaining reader.new.inner) buf.new) }
     ensures small { OnOk result (AllByRecursion (λ byte. byte < 256) buf.new) }
-    ensures err { IfErr result (Fails (λ input. length input < length buf.old) (λ _. ⊥) (λ _. ⊥)
+    ensures err { IfErr result (Fails (TooFewBytes (length buf.old))
         (R.remaining reader.old.inner) reader.old.faults reader.new.faults) }
     ensures taken { IfErr result (TakesSome (R.remaining reader.old.inner) (R.remaining reader.new.inner)) }
     ensures ended { IfErr result (λ e. e ≡ BorshError.Ended

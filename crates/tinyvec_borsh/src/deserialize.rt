@@ -4,6 +4,7 @@ ghost use Rattle.std.specs.List.{AllByRecursion};
 ghost use Rattle.tinyvec_borsh.specs.Items.{AfterItems, SpellsItems};
 ghost use Rattle.tinyvec_borsh.specs.Reading.{Fails, ReadsSpelling, TakesSome};
 ghost use Rattle.tinyvec_borsh.specs.Apart.{AreApart};
+ghost use Rattle.tinyvec_borsh.specs.declared.borsh_error.BorshError.{BorshError};
 
 use crate::{BorshError, BorshForm};
 use std::alloc::Global;
@@ -12,14 +13,9 @@ use tinyvec_io::Counted;
 
 /// What can be read.
 pub trait BorshDeserialize: BorshForm + Sized {
-    // The input is too short.
-    ghost IsCut: { List ℕ → Type 0 };
-
-    // The input has a list with more items than there is room for.
-    ghost IsTooLong: { List ℕ → Type 0 };
-
-    // Reading this input may allocate.
-    ghost MayAllocate: { List ℕ → Type 0 };
+    // What an input is if reading it fails with an error other than `Io`: too short, or a list with more items than there is
+    // room for, or a text that is not UTF-8, or one that may need an allocation.
+    ghost Reason: { BorshError → List ℕ → Type 0 };
 
     /// Reads the value at the start of the input, and leaves the rest unread. A whole number is read by one call, and a
     /// list of whole numbers in blocks. Allocates only if a `TinyVec` moves to the heap.
@@ -30,7 +26,7 @@ pub trait BorshDeserialize: BorshForm + Sized {
         ensures ok { IfOk result (λ v. ReadsSpelling (Self.Spells (Self.content_of v))
             (R.remaining reader.old.inner) (R.remaining reader.new.inner)) }
         ensures fits { IfOk result (λ v. Self.Fits (Self.content_of v)) }
-        ensures err { IfErr result (Fails IsCut IsTooLong MayAllocate
+        ensures err { IfErr result (Fails Reason
             (R.remaining reader.old.inner) reader.old.faults reader.new.faults) }
         ensures taken { IfErr result (TakesSome (R.remaining reader.old.inner) (R.remaining reader.new.inner)) }
         ensures faults_grow { reader.old.faults ≤ reader.new.faults };
@@ -46,9 +42,7 @@ pub trait BorshDeserialize: BorshForm + Sized {
         ensures ok { OnOk result (ReadsSpelling (SpellsItems Self.Spells (map Self.content_of slots.new))
             (R.remaining reader.old.inner) (R.remaining reader.new.inner)) }
         ensures fits { OnOk result (AllByRecursion Self.Fits (map Self.content_of slots.new)) }
-        ensures err { IfErr result (Fails (AfterItems Self.Spells Self.Fits IsCut (length slots.old))
-            (AfterItems Self.Spells Self.Fits IsTooLong (length slots.old))
-            (AfterItems Self.Spells Self.Fits MayAllocate (length slots.old))
+        ensures err { IfErr result (Fails (AfterItems Self.Spells Self.Fits Reason (length slots.old))
             (R.remaining reader.old.inner) reader.old.faults reader.new.faults) }
         ensures taken { IfErr result (TakesSome (R.remaining reader.old.inner) (R.remaining reader.new.inner)) }
         ensures faults_grow { reader.old.faults ≤ reader.new.faults }
@@ -60,5 +54,5 @@ pub trait BorshDeserialize: BorshForm + Sized {
     }
 
     // By these, which of the answers it is follows from the input, faults and want of memory aside.
-    ghost apart: { AreApart Self.Spells Self.Fits IsCut IsTooLong };
+    ghost apart: { AreApart Self.Spells Self.Fits Reason };
 }

@@ -1,7 +1,7 @@
-//! Numbers and vectors written and read in the Borsh form.
+//! Numbers, vectors and texts written and read in the Borsh form.
 //!
-//! A whole number is its bytes, least significant first. A list is a count of eight bytes, then its items. What is
-//! written is read again, whatever follows it, and any input is read or refused with a reason.
+//! A whole number is its bytes, least significant first. A list is a count of eight bytes, then its items; a text is the
+//! list of its bytes. What is written is read again, whatever follows it, and any input is read or refused with a reason.
 #![tactic(auto)]
 
 mod borsh_error;

@@ -1,6 +1,6 @@
 //! Whole numbers: their bytes, least significant first.
-ghost use Rattle.std.specs.Prelude.{◌<◌, length};
 ghost use Rattle.std.specs.Int.{byte_len};
+ghost use Rattle.tinyvec_borsh.specs.Number.{TooFewBytes};
 ghost use Rattle.tinyvec_borsh.specs.NumberLaws.{apart_by_length};
 
 mod number;
@@ -42,11 +42,7 @@ impl<T: Number> BorshSerialize for T {
 }
 
 impl<T: Number> BorshDeserialize for T {
-    ghost IsCut = { λ input. length input < byte_len T.form.width };
-
-    ghost IsTooLong = { λ _. ⊥ };
-
-    ghost MayAllocate = { λ _. ⊥ };
+    ghost Reason = { TooFewBytes (byte_len T.form.width) };
 
     ghost apart = { apart_by_length (byte_len T.form.width) T.form.Spells T.form.Fits T.form.many };
 

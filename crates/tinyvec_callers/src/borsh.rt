@@ -11,6 +11,7 @@ use std::test::Fail;
 use tinyvec::{Array, ArrayVec, TinyVec};
 use tinyvec_borsh::{BorshDeserialize, BorshError, BorshSerialize};
 use tinyvec_io::Counted;
+use tinyvec_text::InlineText;
 
 /// Where the input begins with the spelling of a content that fits, a value of that content is read, and what follows
 /// stays unread, faults and want of memory aside.
@@ -20,7 +21,7 @@ pub fn read_back<T: BorshDeserialize, R: Read>(
 ) -> Result<T, BorshError>
     ensures { (c : T.Content) (bytes rest : List ℕ) → T.Fits c → T.Spells c bytes
         → R.remaining reader.old.inner ≡ Some (bytes ++ rest)
-        → ReadsBack T.content_of T.MayAllocate c (bytes ++ rest) rest
+        → ReadsBack T.content_of (T.Reason BorshError.Memory) c (bytes ++ rest) rest
         (R.remaining reader.new.inner) reader.old.faults reader.new.faults result }
 {
     T::deserialize_reader(alloc, reader)
@@ -74,6 +75,17 @@ where
     copied(alloc, v)
 }
 
+/// A text that was written is read again.
+pub fn copied_text<const N: usize>(
+    alloc: Global,
+    t: &InlineText<N>,
+) -> Result<InlineText<N>, BorshError>
+    ensures same { IfOk result (λ u. u.bytes ≡ t.now.bytes) }
+    ensures err { IfErr result (λ e. (e ≡ BorshError.Io) ⊎ (e ≡ BorshError.Memory)) }
+{
+    copied(alloc, t)
+}
+
 /// Of whole numbers that holds, since they are their own contents.
 pub fn copied_numbers(
     alloc: Global,
@@ -109,6 +121,11 @@ fn memory_that_is_there_is_granted(rt: HostRuntime) -> Result<(), Fail> {
     let lists = TinyVec::from_array(alloc, [ArrayVec::from_array([1, 2, 3, 4]), ArrayVec::new()]);
     assert!(rt;
         copied_lists_of_numbers(alloc, &lists).is_ok_and(|v| v == lists),
+        "memory was granted"
+    );
+    let text = InlineText::<4>::from_str(alloc, "größer")?;
+    assert!(rt;
+        copied_text(alloc, &text).is_ok_and(|t| t == text),
         "memory was granted"
     );
     let mut reader = Counted::new([2, 1, 9].as_slice());

@@ -22,5 +22,8 @@ fn texts_of_bytes(rt: HostRuntime) -> Result<(), Fail> {
             shown & is_debugged(&error, DEBUGGED)
         }
     };
-    all_steps(&[is_text, is_refused])
+    let fine = InlineText::from_utf8_or_none(TinyVec::from_array(rt.alloc(), [b'o', b'k']));
+    let broken = InlineText::from_utf8_or_none(TinyVec::from_array(rt.alloc(), [b'o', 255]));
+    let same = fine.is_some_and(|text| text.starts_with("ok")) & broken.is_none();
+    all_steps(&[is_text, is_refused, same])
 }

@@ -1,5 +1,5 @@
 //! `InlineText`.
-ghost use Rattle.std.specs.Prelude.{◌≡◌, ◌≤◌, ◌==◌, ◌↔◌, [], drop, max, All, true, false, IsTrue, IsOk, IfOk, IfErr, MatchResult, encode_utf8_all, IsUtf8};
+ghost use Rattle.std.specs.Prelude.{◌≡◌, ◌≤◌, ◌==◌, ◌↔◌, [], drop, max, All, true, false, IsTrue, IsOk, IsSome, IfOk, IfErr, IfSome, MatchResult, encode_utf8_all, IsUtf8};
 ghost use Rattle.std.specs.Str.{valid_up_to, error_len};
 ghost use Rattle.std.specs.Str.Lossy.{utf8_valid_len, utf8_error_len};
 ghost use Rattle.std.specs.String.{string_bytes, string_capacity};
@@ -79,6 +79,20 @@ impl<const N: usize> InlineText<N> {
         Ok(InlineText { list })
     }
 
+    /// The text of these bytes, as by `from_utf8`, or `None` if they are not UTF-8, and then they are dropped.
+    // A caller for every N can't prove that a `FromUtf8Error<N>` is small enough to be a value.
+    pub fn from_utf8_or_none(bytes: TinyVec<[u8; N]>) -> Option<Self>
+        ensures variant { IsSome result ↔ IsUtf8 (tiny_items bytes.entry) }
+        ensures value { IfSome result (λ t. t ≡ text_of bytes.entry) }
+    {
+        if let Err(_) = str::from_utf8(bytes.as_slice()) {
+            return None;
+        }
+        let mut list = bytes;
+        clear_spare(&mut list);
+        Some(InlineText { list })
+    }
+
     /// The length in bytes.
     pub fn len(&self) -> usize
         ensures value { result ≡ text_len self.now }
@@ -124,7 +138,8 @@ impl<const N: usize> InlineText<N> {
 
     /// The bytes of the text.
     pub fn as_bytes(&self) -> &[u8]
-        ensures { result.now ≡ self.now.bytes }
+        ensures value { result.now ≡ self.now.bytes }
+        ensures utf8 { IsUtf8 result.now }
     {
         self.list.as_slice()
     }

@@ -6,6 +6,7 @@ use std::str::FromStr;
 use tinyvec::{Array, ArrayVec, TinyVec};
 use tinyvec_borsh::{BorshDeserialize, BorshError, BorshSerialize};
 use tinyvec_rows::{Words, Wrong, window};
+use tinyvec_text::InlineText;
 
 // What is to be done with a value: it is written as the word says, or else read. The request for memory of that number is
 // refused.
@@ -73,6 +74,8 @@ fn answer(name: &str, case: &mut Case<'_, '_>) -> Result<(), Wrong> {
         "i64" => of_number::<i64>(case),
         "u128" => of_number::<u128>(case),
         "i128" => of_number::<i128>(case),
+        "InlineText<0>" => of_text::<0>(case),
+        "InlineText<4>" => of_text::<4>(case),
         "ArrayVec<[u8;0]>" => of_array::<[u8; 0]>(numbers(case.alloc, case.word)?, case),
         "ArrayVec<[u8;1]>" => of_array::<[u8; 1]>(numbers(case.alloc, case.word)?, case),
         "ArrayVec<[u8;2]>" => of_array::<[u8; 2]>(numbers(case.alloc, case.word)?, case),
@@ -185,6 +188,27 @@ where
                 write!(case.out, "heap {room} ")?;
             }
             write_items(case.out, v.as_slice())?;
+        }
+        Err(error) => write!(case.out, "{error}")?,
+    }
+    Ok(())
+}
+
+// Of a text that was read the answer has its place and its room too.
+fn of_text<const N: usize>(case: &mut Case<'_, '_>) -> Result<(), Wrong> {
+    if case.is_put {
+        let text = Words::new(case.alloc, case.word).text()?;
+        return write_value(case, &InlineText::<N>::from_str(case.alloc, text.as_str())?);
+    }
+    match read_value::<InlineText<N>>(case.alloc, case.refused, case.streams) {
+        Ok(text) => {
+            let room = text.capacity();
+            if text.is_inline() {
+                case.out.push_str("inline ")?;
+            } else {
+                write!(case.out, "heap {room} ")?;
+            }
+            write!(case.out, "{text:?}")?;
         }
         Err(error) => write!(case.out, "{error}")?,
     }

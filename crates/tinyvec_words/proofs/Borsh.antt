@@ -1,9 +1,14 @@
--- Examples of the Borsh form, of contents that are bytes: each spells itself. Inputs are cut if they have no byte.
+-- Examples of the Borsh form, of contents that are bytes: each spells itself, and an input without a byte is cut.
 use Rattle.std.proofs.Common.{◌≡◌, ℕ, ◌<◌, List, [], ◌∷◌, Some, None, inl, refl, rules, arith}
-use Rattle.tinyvec_borsh.specs.Items.{SpellsItems, SpellsList, ListFits, InItem, AfterItems, IsListCut, IsListTooLong, CountsAbove}
+use Rattle.std.specs.Prelude.{false, true}
+use Rattle.std.proofs.lemmas.Str.{is_utf8-from_IsUtf8}
+use Rattle.tinyvec_borsh.specs.Items.{SpellsItems, SpellsList, ListFits, AfterItems, ListReason, CountsAbove}
 use Rattle.tinyvec_borsh.specs.Reading.{ReadsSpelling, TakesSome, Fails, LeavesRest}
 use Rattle.tinyvec_borsh.specs.Writing.{WritesSpelling, AddsFront}
 use Rattle.tinyvec_borsh.specs.declared.borsh_error.BorshError.TheVariants.{Ended}
+use Rattle.tinyvec_borsh.specs.declared.borsh_error.BorshError.{BorshError}
+use Rattle.tinyvec_borsh.specs.Number.{TooFewBytes}
+use Rattle.tinyvec_borsh.specs.Text.{AreNoText, SpellsText, TextFits, TextReason}
 
 -- a byte spells itself
 abbrev pub Spells : ℕ → List ℕ → Type 0
@@ -13,11 +18,14 @@ Spells c bytes = bytes ≡ c ∷ []
 abbrev pub Fits : ℕ → Type 0
 Fits c = c < 256
 
-abbrev pub IsCut : List ℕ → Type 0
-IsCut input = input ≡ []
+abbrev pub Reason : BorshError → List ℕ → Type 0
+Reason = TooFewBytes 1
 
 abbrev pub IsNever : List ℕ → Type 0
 IsNever input = ⊥
+
+pub example-TooFewBytes : TooFewBytes 1 Ended []
+example-TooFewBytes = (refl, omega arith)
 
 pub example-SpellsItems : SpellsItems Spells (7 ∷ 8 ∷ []) (7 ∷ 8 ∷ [])
 example-SpellsItems = record { first = 7 ∷ []; rest = 8 ∷ []; is_first = refl; is_rest = record { first = 8 ∷ []; rest = []; is_first = refl; is_rest = refl; whole = refl }; whole = refl }
@@ -34,31 +42,16 @@ example-SpellsList = record {
 pub example-ListFits : ListFits Spells Fits 4 (7 ∷ 8 ∷ [])
 example-ListFits = search rules
 
-pub example-AfterItems : AfterItems Spells Fits IsCut 2 (7 ∷ [])
+pub example-AfterItems : AfterItems Spells Fits Reason 2 Ended (7 ∷ [])
 example-AfterItems = record {
   items = 7 ∷ [];
   fewer = omega arith;
   fit = search rules;
-  parts = record { first = 7 ∷ []; rest = []; is_first = record { first = 7 ∷ []; rest = []; is_first = refl; is_rest = refl; whole = refl }; is_rest = refl; whole = refl };
+  parts = record { first = 7 ∷ []; rest = []; is_first = record { first = 7 ∷ []; rest = []; is_first = refl; is_rest = refl; whole = refl }; is_rest = example-TooFewBytes; whole = refl };
 }
 
-pub example-InItem : InItem Spells Fits IsCut 4 (1 ∷ 0 ∷ 0 ∷ 0 ∷ 0 ∷ 0 ∷ 0 ∷ 0 ∷ [])
-example-InItem = record {
-  has = record { len = 1; items = []; count = 1 ∷ 0 ∷ 0 ∷ 0 ∷ 0 ∷ 0 ∷ 0 ∷ 0 ∷ []; bytes = []; tail = []; counted = search rules; spelled = refl; fit = search rules; whole = refl };
-  fewer = omega arith;
-  few = omega arith;
-  left = refl;
-}
-
-pub example-IsListCut : IsListCut Spells Fits IsCut 4 (1 ∷ 0 ∷ [])
-example-IsListCut = search rules
-
-pub example-IsListTooLong : IsListTooLong Spells Fits IsNever 0 (1 ∷ 0 ∷ 0 ∷ 0 ∷ 0 ∷ 0 ∷ 0 ∷ 0 ∷ 7 ∷ [])
-example-IsListTooLong = inl record {
-  has = record { len = 1; items = 7 ∷ []; count = 1 ∷ 0 ∷ 0 ∷ 0 ∷ 0 ∷ 0 ∷ 0 ∷ 0 ∷ []; bytes = 7 ∷ []; tail = []; counted = search rules; spelled = record { first = 7 ∷ []; rest = []; is_first = refl; is_rest = refl; whole = refl }; fit = search rules; whole = refl };
-  over = refl;
-  above = omega arith;
-}
+pub example-ListReason : ListReason Spells Fits Reason IsNever 4 Ended (1 ∷ 0 ∷ [])
+example-ListReason = inl (omega arith)
 
 pub example-CountsAbove : CountsAbove 4 (5 ∷ 0 ∷ 0 ∷ 0 ∷ 0 ∷ 0 ∷ 0 ∷ 0 ∷ 7 ∷ [])
 example-CountsAbove = (5, omega arith, record { first = 5 ∷ 0 ∷ 0 ∷ 0 ∷ 0 ∷ 0 ∷ 0 ∷ 0 ∷ []; rest = 7 ∷ []; is_first = search rules; is_rest = _; whole = refl })
@@ -69,8 +62,26 @@ example-ReadsSpelling = (7 ∷ [], refl, search rules)
 pub example-TakesSome : TakesSome (Some (7 ∷ [])) (Some []) Ended
 example-TakesSome = record { bytes = 7 ∷ []; taken = search rules; end = λ _. refl }
 
-pub example-Fails : Fails IsCut IsNever IsNever (Some []) 0 0 Ended
-example-Fails = refl
+pub example-Fails : Fails Reason (Some []) 0 0 Ended
+example-Fails = example-TooFewBytes
+
+pub example-SpellsText : SpellsText (104 ∷ []) (1 ∷ 0 ∷ 0 ∷ 0 ∷ 0 ∷ 0 ∷ 0 ∷ 0 ∷ 104 ∷ [])
+example-SpellsText = record {
+  first = 1 ∷ 0 ∷ 0 ∷ 0 ∷ 0 ∷ 0 ∷ 0 ∷ 0 ∷ [];
+  rest = 104 ∷ [];
+  is_first = search rules;
+  is_rest = record { first = 104 ∷ []; rest = []; is_first = search rules; is_rest = refl; whole = refl };
+  whole = refl;
+}
+
+pub example-TextFits : TextFits (104 ∷ [])
+example-TextFits = (search rules, (104 ∷ [], refl, refl))
+
+pub example-AreNoText : AreNoText (255 ∷ [])
+example-AreNoText = (search rules, λ utf8. let is : false ≡ true = is_utf8-from_IsUtf8 (255 ∷ []) utf8 in cc)
+
+pub example-TextReason : TextReason 4 Ended (1 ∷ 0 ∷ [])
+example-TextReason = inl (omega arith)
 
 pub example-LeavesRest : LeavesRest Spells IsNever 4 None None Ended
 example-LeavesRest = _

@@ -1,11 +1,11 @@
 //! An `ArrayVec` of what can be written and read.
 ghost use Rattle.std.specs.Prelude.{◌<◌, ◌≤◌, ◌-◌, List, map, IfOk, IfErr};
 ghost use Rattle.tinyvec_slots.specs.Slots.{items, items_len, spare, AreDefaults};
-ghost use Rattle.tinyvec_borsh.specs.Items.{SpellsList, ListFits, InItem, IsListCut, IsListTooLong};
+ghost use Rattle.tinyvec_borsh.specs.Items.{SpellsList, ListFits, ListReason};
 ghost use Rattle.tinyvec_borsh.specs.Reading.{Fails, LeavesRest, ReadsSpelling, TakesSome};
 ghost use Rattle.tinyvec_borsh.specs.ItemsLaws.{list_code, list_apart, list_spelled};
 
-use super::read_items;
+use super::{read_items, write_list};
 use crate::{BorshDeserialize, BorshError, BorshForm, BorshSerialize};
 use std::alloc::Global;
 use std::io::{Read, Write};
@@ -34,8 +34,7 @@ where
     A::Item: BorshSerialize,
 {
     fn serialize<W: Write>(&self, writer: &mut Counted<W>) -> Result<(), BorshError> {
-        (self.len() as u64).serialize(writer)?;
-        A::Item::serialize_items(self.as_slice(), writer)
+        write_list(self.len(), self.as_slice(), writer)
     }
 }
 
@@ -43,14 +42,9 @@ impl<A: Array> BorshDeserialize for ArrayVec<A>
 where
     A::Item: BorshDeserialize,
 {
-    ghost IsCut = { IsListCut A.Item.Spells A.Item.Fits A.Item.IsCut A.CAPACITY };
+    ghost Reason = { ListReason A.Item.Spells A.Item.Fits A.Item.Reason (λ _. ⊥) A.CAPACITY };
 
-    ghost IsTooLong = { IsListTooLong A.Item.Spells A.Item.Fits A.Item.IsTooLong A.CAPACITY };
-
-    ghost MayAllocate = { InItem A.Item.Spells A.Item.Fits A.Item.MayAllocate A.CAPACITY };
-
-    ghost apart = { list_apart A.Item.Spells A.Item.code A.Item.Fits A.Item.IsCut A.Item.IsTooLong A.Item.apart
-        A.CAPACITY };
+    ghost apart = { list_apart A.Item.Spells A.Item.code A.Item.Fits A.Item.Reason A.Item.apart (λ _. ⊥) A.CAPACITY };
 
     fn deserialize_reader<R: Read>(
         alloc: Global,
@@ -60,14 +54,12 @@ where
             (R.remaining reader.old.inner) (R.remaining reader.new.inner)) }
         ensures fits { IfOk result (λ v. ListFits A.Item.Spells A.Item.Fits A.CAPACITY
             (map A.Item.content_of (items v))) }
-        ensures err { IfErr result (Fails (IsListCut A.Item.Spells A.Item.Fits A.Item.IsCut A.CAPACITY)
-            (IsListTooLong A.Item.Spells A.Item.Fits A.Item.IsTooLong A.CAPACITY)
-            (InItem A.Item.Spells A.Item.Fits A.Item.MayAllocate A.CAPACITY)
+        ensures err { IfErr result (Fails (ListReason A.Item.Spells A.Item.Fits A.Item.Reason (λ _. ⊥) A.CAPACITY)
             (R.remaining reader.old.inner) reader.old.faults reader.new.faults) }
         ensures taken { IfErr result (TakesSome (R.remaining reader.old.inner) (R.remaining reader.new.inner)) }
         ensures faults_grow { reader.old.faults ≤ reader.new.faults }
         ensures spare { IfOk result (λ v. AreDefaults A.Item.is_default (A.CAPACITY - items_len v) (spare v)) }
-        ensures rest { IfErr result (LeavesRest A.Item.Spells A.Item.IsTooLong A.CAPACITY
+        ensures rest { IfErr result (LeavesRest A.Item.Spells (A.Item.Reason BorshError.InvalidLength) A.CAPACITY
             (R.remaining reader.old.inner) (R.remaining reader.new.inner)) }
     {
         let count = u64::deserialize_reader(alloc, reader)?;

@@ -3,12 +3,12 @@ ghost use Rattle.std.specs.Prelude.{◌≡◌, ◌<◌, ◌≤◌, ◌^◌, ◌-
 ghost use Rattle.std.specs.List.{AllByRecursion};
 ghost use Rattle.tinyvec_slots.specs.Slots.{AreDefaults};
 ghost use Rattle.tinyvec.specs.TinyVec.{IsInline, PlaceRule, TinySlotRule, tiny_capacity, tiny_items, tiny_len, tiny_spare};
-ghost use Rattle.tinyvec_borsh.specs.Items.{AfterItems, CountsAbove, InItem, IsListCut, IsListTooLong, ListFits};
+ghost use Rattle.tinyvec_borsh.specs.Items.{AfterItems, CountsAbove, ListFits, ListReason};
 ghost use Rattle.tinyvec_borsh.specs.Items.{SpellsItems, SpellsList};
 ghost use Rattle.tinyvec_borsh.specs.ItemsLaws.{list_apart, list_code, list_spelled};
 ghost use Rattle.tinyvec_borsh.specs.Reading.{Fails, ReadsSpelling, TakesSome};
 
-use super::read_items;
+use super::{read_items, write_list};
 use crate::{BorshDeserialize, BorshError, BorshForm, BorshSerialize};
 use std::alloc::Global;
 use std::io::{Read, Write};
@@ -58,8 +58,7 @@ where
     A::Item: BorshSerialize,
 {
     fn serialize<W: Write>(&self, writer: &mut Counted<W>) -> Result<(), BorshError> {
-        (self.len() as u64).serialize(writer)?;
-        A::Item::serialize_items(self.as_slice(), writer)
+        write_list(self.len(), self.as_slice(), writer)
     }
 }
 
@@ -67,15 +66,10 @@ impl<A: Array> BorshDeserialize for TinyVec<A>
 where
     A::Item: BorshDeserialize,
 {
-    ghost IsCut = { IsListCut A.Item.Spells A.Item.Fits A.Item.IsCut (2 ^ 64 - 1) };
+    ghost Reason = { ListReason A.Item.Spells A.Item.Fits A.Item.Reason (CountsAbove A.CAPACITY) (2 ^ 64 - 1) };
 
-    ghost IsTooLong = { IsListTooLong A.Item.Spells A.Item.Fits A.Item.IsTooLong (2 ^ 64 - 1) };
-
-    ghost MayAllocate = { λ input. CountsAbove A.CAPACITY input
-        ⊎ InItem A.Item.Spells A.Item.Fits A.Item.MayAllocate (2 ^ 64 - 1) input };
-
-    ghost apart = { list_apart A.Item.Spells A.Item.code A.Item.Fits A.Item.IsCut A.Item.IsTooLong A.Item.apart
-        (2 ^ 64 - 1) };
+    ghost apart = { list_apart A.Item.Spells A.Item.code A.Item.Fits A.Item.Reason A.Item.apart
+        (CountsAbove A.CAPACITY) (2 ^ 64 - 1) };
 
     fn deserialize_reader<R: Read>(
         alloc: Global,
@@ -85,9 +79,7 @@ where
             (R.remaining reader.old.inner) (R.remaining reader.new.inner)) }
         ensures fits { IfOk result (λ v. ListFits A.Item.Spells A.Item.Fits (2 ^ 64 - 1)
             (map A.Item.content_of (tiny_items v))) }
-        ensures err { IfErr result (Fails (IsListCut A.Item.Spells A.Item.Fits A.Item.IsCut (2 ^ 64 - 1))
-            (IsListTooLong A.Item.Spells A.Item.Fits A.Item.IsTooLong (2 ^ 64 - 1))
-            (λ input. CountsAbove A.CAPACITY input ⊎ InItem A.Item.Spells A.Item.Fits A.Item.MayAllocate (2 ^ 64 - 1) input)
+        ensures err { IfErr result (Fails (ListReason A.Item.Spells A.Item.Fits A.Item.Reason (CountsAbove A.CAPACITY) (2 ^ 64 - 1))
             (R.remaining reader.old.inner) reader.old.faults reader.new.faults) }
         ensures taken { IfErr result (TakesSome (R.remaining reader.old.inner) (R.remaining reader.new.inner)) }
         ensures faults_grow { reader.old.faults ≤ reader.new.faults }
@@ -126,9 +118,7 @@ where
     ensures slot_rule { OnOk result (TinySlotRule A.Item.is_default v.old v.new) }
     ensures room { OnOk result (tiny_capacity A.CAPACITY v.new ≤ max (tiny_capacity A.CAPACITY v.old) (2 * count)) }
     ensures err { IfErr result (λ e. ((e ≡ BorshError.Memory) × (tiny_capacity A.CAPACITY v.old < count))
-        ⊎ Fails (AfterItems A.Item.Spells A.Item.Fits A.Item.IsCut (count - tiny_len v.old))
-        (AfterItems A.Item.Spells A.Item.Fits A.Item.IsTooLong (count - tiny_len v.old))
-        (AfterItems A.Item.Spells A.Item.Fits A.Item.MayAllocate (count - tiny_len v.old))
+        ⊎ Fails (AfterItems A.Item.Spells A.Item.Fits A.Item.Reason (count - tiny_len v.old))
         (R.remaining reader.old.inner) reader.old.faults reader.new.faults e) }
     ensures taken { IfErr result (TakesSome (R.remaining reader.old.inner) (R.remaining reader.new.inner)) }
     ensures faults_grow { reader.old.faults ≤ reader.new.faults }

@@ -1,10 +1,10 @@
 //! Numbers as bytes, one and a block of them.
-ghost use Rattle.std.specs.Prelude.{◌≡◌, ◌*◌, ◌<◌, ◌≤◌, length, take, IfErr, OnErr, OnOk};
+ghost use Rattle.std.specs.Prelude.{◌≡◌, ◌*◌, ◌≤◌, length, take, IfErr, OnErr, OnOk};
 ghost use Rattle.std.specs.Int.{byte_len, from_le_bytes, to_le_bytes};
 ghost use Rattle.std.specs.List.{AllByRecursion};
 ghost use Rattle.tinyvec_io.specs.Counted.{Reported};
 ghost use Rattle.tinyvec_borsh.specs.Items.{AfterItems, SpellsItems};
-ghost use Rattle.tinyvec_borsh.specs.Number.{NumberForm};
+ghost use Rattle.tinyvec_borsh.specs.Number.{NumberForm, TooFewBytes};
 ghost use Rattle.tinyvec_borsh.specs.Reading.{Fails, ReadsSpelling, TakesSome};
 ghost use Rattle.tinyvec_borsh.specs.Writing.{WritesSpelling, AddsFront};
 
@@ -62,9 +62,7 @@ pub(crate) trait Number: FixedWidth {
             (R.remaining reader.old.inner) (R.remaining reader.new.inner)) }
         ensures fits { OnOk result (AllByRecursion Self.form.Fits slots.new) }
         ensures err { IfErr result (Fails
-            (AfterItems Self.form.Spells Self.form.Fits (λ input. length input < byte_len Self.form.width) (length slots.old))
-            (AfterItems Self.form.Spells Self.form.Fits (λ _. ⊥) (length slots.old))
-            (AfterItems Self.form.Spells Self.form.Fits (λ _. ⊥) (length slots.old))
+            (AfterItems Self.form.Spells Self.form.Fits (TooFewBytes (byte_len Self.form.width)) (length slots.old))
             (R.remaining reader.old.inner) reader.old.faults reader.new.faults) }
         ensures taken { IfErr result (TakesSome (R.remaining reader.old.inner) (R.remaining reader.new.inner)) }
         ensures faults_grow { reader.old.faults ≤ reader.new.faults }

@@ -1,5 +1,5 @@
 //! Callers of an `InlineText`.
-ghost use Rattle.std.specs.Prelude.{◌≡◌, ◌+◌, ◌≤◌, ◌++◌, ◌∷◌, [], ◌↔◌, length, drop, IsTrue, IfOk, IsOk, IfErr, OnOk, IsUtf8, encode_utf8};
+ghost use Rattle.std.specs.Prelude.{◌≡◌, ◌+◌, ◌≤◌, ◌++◌, ◌∷◌, [], ◌↔◌, length, drop, IsTrue, IfOk, IsOk, IfErr, IfSome, OnOk, IsUtf8, encode_utf8};
 ghost use Rattle.std.specs.String.{string_bytes};
 ghost use Rattle.tinyvec.specs.TinyVec.{tiny_items};
 ghost use Rattle.tinyvec.specs.View.{lies_inline, capacity_in};
@@ -106,6 +106,13 @@ pub fn from_outside(bytes: TinyVec<[u8; 8]>) -> Result<InlineText<8>, FromUtf8Er
     ensures succeeds { IsUtf8 (tiny_items bytes) → IsOk result }
 {
     InlineText::from_utf8(bytes)
+}
+
+/// The text of such bytes, for arrays of every length.
+pub fn if_utf8<const N: usize>(bytes: TinyVec<[u8; N]>) -> Option<InlineText<N>>
+    ensures { IfSome result (λ text. text.bytes ≡ tiny_items bytes) }
+{
+    InlineText::from_utf8_or_none(bytes)
 }
 
 /// The bytes of a text and back, which allocates nothing.

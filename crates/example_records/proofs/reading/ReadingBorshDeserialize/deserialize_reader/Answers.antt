@@ -3,25 +3,30 @@ use Rattle.std.proofs.lemmas.Result.{err_from_is_err_and}
 use Rattle.std.proofs.lemmas.List.{map-id}
 use Rattle.tinyvec_slots.specs.Slots.{items}
 use Rattle.tinyvec.specs.TinyVec.{tiny_items}
-use Rattle.tinyvec_borsh.specs.Number.{SpellsNumber}
-use Rattle.example_records.specs.Readings.{SamplesFit, SpellsNote, SpellsSamples}
+use Rattle.tinyvec_borsh.specs.Number.{SpellsNumber, TooFewBytes}
+use Rattle.example_records.specs.Readings.{ListsReason, NoteReason, SamplesFit, SamplesReason, SpellsNote, SpellsSamples, StationFits}
 use Rattle.tinyvec_borsh.specs.Both.{SpellsBoth}
 use Rattle.tinyvec_borsh.proofs.Both.{fails-first, fails-second, takes-both}
 use Rattle.tinyvec_borsh.proofs.AtFaults.{some-then}
 use Rattle.example_records.proofs.reading.ReadingBorshDeserialize.deserialize_reader.Goals as goal
 
+pub returns-in_err-station-clause-err : goal.returns-in_err-station-clause-err
+returns-in_err-station-clause-err g c =
+    let p = err_from_is_err_and c.from_residual.result c.from_residual.ensures.1 in
+    rw (p.1, p.2) (fails-first (SpellsNumber 4) StationFits (TooFewBytes 4) ListsReason _ _ _ _ c.in_err-station.ensures.err)
+
 pub returns-in_err-samples-clause-err : goal.returns-in_err-samples-clause-err
 returns-in_err-samples-clause-err g c =
     let p = err_from_is_err_and c.from_residual-in_err-samples.result c.from_residual-in_err-samples.ensures.1 in
-    rw (p.1, p.2) (fails-second _ _ _ _ _ _ _ _ _ _ _ _ _ _ _ c.in_ok-station.ensures.ok c.in_ok-station.ensures.fits c.in_ok-station.ensures.faults_grow
-    (fails-first _ _ _ _ _ _ _ _ _ _ _ _ c.in_err-samples.ensures.err))
+    rw (p.1, p.2) (fails-second (SpellsNumber 4) StationFits (TooFewBytes 4) ListsReason _ _ _ _ _ _ _ c.in_ok-station.ensures.ok c.in_ok-station.ensures.fits c.in_ok-station.ensures.faults_grow
+    (fails-first SpellsSamples SamplesFit SamplesReason NoteReason _ _ _ _ c.in_err-samples.ensures.err))
 
 pub returns-in_err-note-clause-err : goal.returns-in_err-note-clause-err
 returns-in_err-note-clause-err g c =
     let p = err_from_is_err_and c.from_residual-in_err-note.result c.from_residual-in_err-note.ensures.1 in
     let samples = map-id (items c.in_ok-samples.samples) in
-    rw (p.1, p.2) (fails-second _ _ _ _ _ _ _ _ _ _ _ _ _ _ _ c.in_ok-station.ensures.ok c.in_ok-station.ensures.fits c.in_ok-station.ensures.faults_grow
-    (fails-second _ _ _ _ _ _ _ _ _ _ _ _ _ _ _ (rw samples at c.in_ok-samples.ensures.ok) (subst SamplesFit samples c.in_ok-samples.ensures.fits) c.in_ok-samples.ensures.faults_grow c.in_err-note.ensures.err))
+    rw (p.1, p.2) (fails-second (SpellsNumber 4) StationFits (TooFewBytes 4) ListsReason _ _ _ _ _ _ _ c.in_ok-station.ensures.ok c.in_ok-station.ensures.fits c.in_ok-station.ensures.faults_grow
+    (fails-second SpellsSamples SamplesFit SamplesReason NoteReason _ _ _ _ _ _ _ (rw samples at c.in_ok-samples.ensures.ok) (subst SamplesFit samples c.in_ok-samples.ensures.fits) c.in_ok-samples.ensures.faults_grow c.in_err-note.ensures.err))
 
 pub returns-clause-ok : goal.returns-clause-ok
 returns-clause-ok g c =

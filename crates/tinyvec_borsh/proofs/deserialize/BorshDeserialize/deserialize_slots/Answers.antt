@@ -8,7 +8,7 @@ pub returns-in_err-slots-clause-err : goal.returns-in_err-slots-clause-err
 returns-in_err-slots-clause-err g c =
     let p = err_from_is_err_and c.from_residual.result c.from_residual.ensures.1 in
     let many = length-mapped g.Self.BorshForm.content_of c.loop-i.slots c.loop-i.i (omega arith) in
-    rw (p.1, p.2) (fails-behind g.Self.BorshForm.Spells g.Self.BorshForm.Fits g.Self.BorshDeserialize.IsCut g.Self.BorshDeserialize.IsTooLong g.Self.BorshDeserialize.MayAllocate
+    rw (p.1, p.2) (fails-behind g.Self.BorshForm.Spells g.Self.BorshForm.Fits g.Self.BorshDeserialize.Reason
     _ _ _ _ _ _ _ _ c.loop-i.invariant.read (omega (arith, many)) c.loop-i.invariant.grows c.in_err-slots.ensures.err)
 
 pub loop-i-preserved : goal.loop-i-preserved

@@ -34,7 +34,7 @@ returns-clause-ok g c =
 
 pub returns-clause-err : goal.returns-clause-err
 returns-clause-err g c =
-    err-so c.read_items.result (λ e f. inr (fails-of-more g.A.Item.BorshForm.Spells g.A.Item.BorshForm.Fits g.A.Item.BorshDeserialize.IsCut g.A.Item.BorshDeserialize.IsTooLong g.A.Item.BorshDeserialize.MayAllocate _ _ _ _ _ e (search rules) f)) c.read_items.ensures.err
+    err-so c.read_items.result (λ e f. inr (fails-of-more g.A.Item.BorshForm.Spells g.A.Item.BorshForm.Fits g.A.Item.BorshDeserialize.Reason _ _ _ _ _ e (search rules) f)) c.read_items.ensures.err
 
 pub returns-clause-slot_rule : goal.returns-clause-slot_rule
 returns-clause-slot_rule g c =

@@ -2,6 +2,7 @@ use Rattle.std.proofs.Common.{◌≡◌, ◌∙◌, ◌≤◌, ap, take, inl, ar
 use Rattle.std.proofs.lemmas.List.{length-map}
 use Rattle.std.proofs.lemmas.Result.{err_from_is_err_and}
 use Rattle.tinyvec_slots.specs.Slots.{items}
+use Rattle.tinyvec_borsh.specs.declared.borsh_error.BorshError.TheVariants.{InvalidLength}
 use Rattle.tinyvec_borsh.proofs.ItemByItem.{fails-block, fails-item, maybe-so, read-all, read-block, read-first, read-more, rest-many, too-many}
 use Rattle.tinyvec_borsh.proofs.AtFaults.{length_is_no_end, some-all, some-then}
 use Rattle.tinyvec_borsh.proofs.lists.array_vec.ArrayVecBorshDeserialize.deserialize_reader.Goals as goal
@@ -9,8 +10,8 @@ use Rattle.tinyvec_borsh.proofs.lists.array_vec.ArrayVecBorshDeserialize.deseria
 pub returns-in_err-read_items-clause-err : goal.returns-in_err-read_items-clause-err
 returns-in_err-read_items-clause-err g c =
     let p = err_from_is_err_and c.from_residual-in_err-read_items.result c.from_residual-in_err-read_items.ensures.1 in
-    rw (p.1, p.2) (fails-block g.A.Item.BorshForm.Spells g.A.Item.BorshForm.Fits g.A.Item.BorshDeserialize.IsCut g.A.Item.BorshDeserialize.IsTooLong g.A.Item.BorshDeserialize.MayAllocate _ g.A.Array.CAPACITY
-    c.in_ok-count.count _ [] _ _ _ _ _ _ (read-first g.A.Item.BorshForm.Spells g.A.Item.BorshForm.Fits _ _ _ c.in_ok-count.ensures.ok) (search rules) (search rules) c.in_ok-count.ensures.faults_grow (λ input asks. asks) c.in_err-read_items.ensures.err)
+    rw (p.1, p.2) (fails-block g.A.Item.BorshForm.Spells g.A.Item.BorshForm.Fits g.A.Item.BorshDeserialize.Reason _ g.A.Array.CAPACITY
+    c.in_ok-count.count _ [] _ _ _ _ _ _ (read-first g.A.Item.BorshForm.Spells g.A.Item.BorshForm.Fits _ _ _ c.in_ok-count.ensures.ok) (search rules) (search rules) c.in_ok-count.ensures.faults_grow c.in_err-read_items.ensures.err)
 
 pub returns-in_err-deserialize_reader-clause-err : goal.returns-in_err-deserialize_reader-clause-err
 returns-in_err-deserialize_reader-clause-err g c =
@@ -19,9 +20,9 @@ returns-in_err-deserialize_reader-clause-err g c =
     let long = length-map t.0 g.A.Item.BorshForm.content_of in
     let full : length t.0 ≡ min c.in_ok-count.count g.A.Array.CAPACITY = search rules in
     let above : min c.in_ok-count.count g.A.Array.CAPACITY + 1 ≤ c.in_ok-count.count = search rules in
-    rw (p.1, p.2) (fails-item g.A.Item.BorshForm.Spells g.A.Item.BorshForm.Fits g.A.Item.BorshDeserialize.IsCut g.A.Item.BorshDeserialize.IsTooLong g.A.Item.BorshDeserialize.MayAllocate _ g.A.Array.CAPACITY
+    rw (p.1, p.2) (fails-item g.A.Item.BorshForm.Spells g.A.Item.BorshForm.Fits g.A.Item.BorshDeserialize.Reason _ g.A.Array.CAPACITY
     _ _ _ _ _ _ _ _ (read-block g.A.Item.BorshForm.Spells g.A.Item.BorshForm.Fits _ [] _ _ _ _ (read-first g.A.Item.BorshForm.Spells g.A.Item.BorshForm.Fits _ _ _ c.in_ok-count.ensures.ok) t.4 t.3)
-    (omega (arith, long, full, above)) (omega (arith, long, full, above)) (search rules) (λ input asks. asks) c.in_err-deserialize_reader.ensures.err)
+    (omega (arith, long, full, above)) (omega (arith, long, full, above)) (search rules) c.in_err-deserialize_reader.ensures.err)
 
 pub returns-then-len-count-clause-err : goal.returns-then-len-count-clause-err
 returns-then-len-count-clause-err g c =
@@ -42,7 +43,7 @@ returns-then-len-count-clause-rest g c =
     let full : length t.0 ≡ min c.in_ok-count.count g.A.Array.CAPACITY = search rules in
     let above : min c.in_ok-count.count g.A.Array.CAPACITY + 1 ≤ c.in_ok-count.count = search rules in
     let one_more = length-append (map g.A.Item.BorshForm.content_of t.0) (g.A.Item.BorshForm.content_of c.in_ok-deserialize_reader.field-0 ∷ []) in
-    rest-many g.A.Item.BorshForm.Spells g.A.Item.BorshForm.Fits g.A.Item.BorshDeserialize.IsTooLong g.A.Array.CAPACITY _ _ _ _
+    rest-many g.A.Item.BorshForm.Spells g.A.Item.BorshForm.Fits (g.A.Item.BorshDeserialize.Reason InvalidLength) g.A.Array.CAPACITY _ _ _ _
     (read-more g.A.Item.BorshForm.Spells g.A.Item.BorshForm.Fits _ _ _ _ _ _ (read-block g.A.Item.BorshForm.Spells g.A.Item.BorshForm.Fits _ [] _ _ _ _ (read-first g.A.Item.BorshForm.Spells g.A.Item.BorshForm.Fits _ _ _ c.in_ok-count.ensures.ok) t.4 t.3)
     c.in_ok-deserialize_reader.ensures.ok c.in_ok-deserialize_reader.ensures.fits)
     (omega (arith, one_more, long, full, above)) (omega (arith, above))

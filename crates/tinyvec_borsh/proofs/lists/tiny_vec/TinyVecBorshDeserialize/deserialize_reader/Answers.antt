@@ -1,4 +1,4 @@
-use Rattle.std.proofs.Common.{inl, inr, ap, length, length-append, arith}
+use Rattle.std.proofs.Common.{inl, ap, length, length-append, arith}
 use Rattle.tinyvec.specs.TinyVec.{tiny_items}
 use Rattle.std.proofs.lemmas.List.{length-map}
 use Rattle.std.proofs.lemmas.Result.{err_from_is_err_and}
@@ -30,11 +30,11 @@ pub returns-in_err-read_more-clause-err : goal.returns-in_err-read_more-clause-e
 returns-in_err-read_more-clause-err g c =
     let p = err_from_is_err_and c.from_residual-in_err-read_more.result c.from_residual-in_err-read_more.ensures.1 in
     let long = length-map (tiny_items c.loop-alloc.v) g.A.Item.BorshForm.content_of in
-    rw (p.1, p.2) (fails-wanting g.A.Item.BorshForm.Spells g.A.Item.BorshForm.Fits g.A.Item.BorshDeserialize.IsCut g.A.Item.BorshDeserialize.IsTooLong g.A.Item.BorshDeserialize.MayAllocate _ _
+    rw (p.1, p.2) (fails-wanting g.A.Item.BorshForm.Spells g.A.Item.BorshForm.Fits g.A.Item.BorshDeserialize.Reason _ _
     _ c.in_ok-count.count _ _ _ _ _ _ _ _ c.loop-alloc.invariant.read (omega (arith, long, c.loop-alloc.invariant.few)) (omega (arith, long, c.loop-alloc.invariant.few, c.in_ok-count.ensures.fits)) c.loop-alloc.invariant.grows
-    (λ wanting. maybe-so _ _ _ (λ input above. inl above) (counts-above g.A.Item.BorshForm.Spells g.A.Item.BorshForm.Fits g.A.Array.CAPACITY _ _ _ _ c.loop-alloc.invariant.read
-    (wanting-above g.A.Array.CAPACITY c.in_ok-count.count c.loop-alloc.v wanting c.loop-alloc.invariant.place)))
-    (λ input asks. inr asks) c.in_err-read_more.ensures.err)
+    (λ wanting. counts-above g.A.Item.BorshForm.Spells g.A.Item.BorshForm.Fits g.A.Array.CAPACITY _ _ _ _ c.loop-alloc.invariant.read
+    (wanting-above g.A.Array.CAPACITY c.in_ok-count.count c.loop-alloc.v wanting c.loop-alloc.invariant.place))
+    c.in_err-read_more.ensures.err)
 
 pub returns-in_default-clause-taken : goal.returns-in_default-clause-taken
 returns-in_default-clause-taken g c = some-all _ _ c.in_ok-count.ensures.ok.0 _ memory_is_no_end c.in_ok-count.ensures.ok.2

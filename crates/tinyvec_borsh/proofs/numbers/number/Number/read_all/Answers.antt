@@ -16,7 +16,7 @@ returns-in_err-read_bytes-clause-err g c =
     let fits = block_within count c.CAPACITY-width.result (omega arith) in
     let many = length-take-le (count * c.CAPACITY-width.result) c.loop-start.room (omega (arith, fits)) ∙ ap (λ width. count * width) (c.CAPACITY-width.ensures ∙ g.met.Self.FixedWidth.sized) in
     let before = length-take-le c.loop-start.start c.loop-start.slots (omega arith) in
-    rw (p.1, p.2) (fails-behind-block g.Self.FixedWidth.form.Spells g.Self.FixedWidth.form.Fits _ _ _ count (length c.args.slots.now) _ _ _ _ _ _ _ c.loop-start.invariant.read (omega (arith, before)) c.loop-start.invariant.grows
+    rw (p.1, p.2) (fails-behind-block g.Self.FixedWidth.form.Spells g.Self.FixedWidth.form.Fits _ count (length c.args.slots.now) _ _ _ _ _ _ _ c.loop-start.invariant.read (omega (arith, before)) c.loop-start.invariant.grows
     (fails-numbers g.Self.FixedWidth.form.Spells g.Self.FixedWidth.form.Fits (byte_len g.Self.FixedWidth.form.width) _ g.Self.FixedWidth.form.read count _ many _ _ _ _ c.in_err-read_bytes.ensures.ended c.in_err-read_bytes.ensures.err))
 
 pub loop-start-preserved : goal.loop-start-preserved

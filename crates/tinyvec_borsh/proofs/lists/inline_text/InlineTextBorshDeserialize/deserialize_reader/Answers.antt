@@ -1,0 +1,49 @@
+use Rattle.std.proofs.Common.{◌∙◌, IsUtf8, refl, subst, sym}
+use Rattle.std.proofs.lemmas.List.{map-id}
+use Rattle.std.proofs.lemmas.Result.{err_from_is_err_and}
+use Rattle.tinyvec.specs.TinyVec.{tiny_items}
+use Rattle.tinyvec_borsh.specs.Reading.{ReadsSpelling}
+use Rattle.tinyvec_borsh.specs.Text.{AreBytes, SpellsText}
+use Rattle.tinyvec_borsh.proofs.AtFaults.{some-all, utf8_is_no_end}
+use Rattle.tinyvec_borsh.proofs.Texts.{bytes-other, no-text, text-fails}
+use Rattle.tinyvec_borsh.proofs.lists.inline_text.InlineTextBorshDeserialize.deserialize_reader.Goals as goal
+
+pub returns-in_err-bytes-clause-err : goal.returns-in_err-bytes-clause-err
+returns-in_err-bytes-clause-err g c =
+    let p = err_from_is_err_and c.from_residual.result c.from_residual.ensures.1 in
+    rw (p.1, p.2) (text-fails g.row.N _ _ _ _ c.in_err-bytes.ensures.err)
+
+pub returns-in_err-bytes-clause-taken : goal.returns-in_err-bytes-clause-taken
+returns-in_err-bytes-clause-taken g c =
+    let p = err_from_is_err_and c.from_residual.result c.from_residual.ensures.1 in
+    rw (p.1, p.2) c.in_err-bytes.ensures.taken
+
+pub returns-in_err-bytes-clause-rest : goal.returns-in_err-bytes-clause-rest
+returns-in_err-bytes-clause-rest g c =
+    let p = err_from_is_err_and c.from_residual.result c.from_residual.ensures.1 in
+    rw (p.1, p.2) (λ is. absurd (bytes-other g.row.N _ _ _ _ c.in_err-bytes.ensures.err is))
+
+pub returns-in-Some-clause-ok : goal.returns-in-Some-clause-ok
+returns-in-Some-clause-ok g c =
+    subst (λ xs. ReadsSpelling (SpellsText xs) (g.R.Read.remaining c.args.reader.now.inner) (g.R.Read.remaining c.deserialize_reader.new.reader.inner)) (map-id (tiny_items c.in_ok-bytes.bytes) ∙ sym c.in-Some.ensures.bytes) c.in_ok-bytes.ensures.ok
+
+pub returns-in-Some-clause-fits : goal.returns-in-Some-clause-fits
+returns-in-Some-clause-fits g c = (
+  subst AreBytes (map-id (tiny_items c.in_ok-bytes.bytes) ∙ sym c.in-Some.ensures.bytes) c.in_ok-bytes.ensures.fits,
+  subst IsUtf8 (sym c.in-Some.ensures.bytes) (c.in-Some.ensures.variant.0 refl),
+)
+
+pub returns-in-None-clause-err : goal.returns-in-None-clause-err
+returns-in-None-clause-err g c =
+    let bytes = map-id (tiny_items c.in_ok-bytes.bytes) in
+    no-text (tiny_items c.in_ok-bytes.bytes) _ _ (subst AreBytes bytes c.in_ok-bytes.ensures.fits, λ utf8. let is = c.in-None.ensures.variant.1 utf8 in cc) (subst (λ xs. ReadsSpelling (SpellsText xs) (g.R.Read.remaining c.args.reader.now.inner) (g.R.Read.remaining c.deserialize_reader.new.reader.inner)) bytes c.in_ok-bytes.ensures.ok)
+
+pub returns-in-None-clause-taken : goal.returns-in-None-clause-taken
+returns-in-None-clause-taken g c =
+    let taken = c.in_ok-bytes.ensures.ok in
+    some-all _ _ taken.0 _ utf8_is_no_end taken.2
+
+pub returns-in-None-clause-rest : goal.returns-in-None-clause-rest
+returns-in-None-clause-rest g c =
+    let bytes = map-id (tiny_items c.in_ok-bytes.bytes) in
+    λ is. (tiny_items c.in_ok-bytes.bytes, (subst AreBytes bytes c.in_ok-bytes.ensures.fits, λ utf8. let is = c.in-None.ensures.variant.1 utf8 in cc), subst (λ xs. ReadsSpelling (SpellsText xs) (g.R.Read.remaining c.args.reader.now.inner) (g.R.Read.remaining c.deserialize_reader.new.reader.inner)) bytes c.in_ok-bytes.ensures.ok)
