@@ -99,8 +99,8 @@ def run(program, lines, is_tried=False, refusing=None):
     """What the program answers to each line: the parts of its calls. With a library that refuses memory also the number of
     requests of each window that the program opened."""
     folder = TOP / "crates" / program
-    # So many rows take more steps than the interpreter has, so `rt try` need not begin by it.
-    words = ["rt", "try", "--steps", "1"] if is_tried else [folder / "out" / program]
+    # So many rows take more steps than the interpreter has, and on a busy machine more than a minute.
+    words = ["rt", "try", "--steps", "1", "--seconds", "300"] if is_tried else [folder / "out" / program]
     given = "".join(f"{it}\n" for it in lines).encode()
     environment = {**os.environ, "LD_PRELOAD": refusing.library} if refusing else None
     ran = subprocess.run(words, cwd=folder, env=environment, input=given, capture_output=True)

@@ -13,9 +13,9 @@ KEPT = "out/incremental"
 VERDICT = re.compile(r"^fn (\S+): (.*)$", re.M)
 # The last line of a check of a whole crate, and of some functions.
 PROVED = re.compile(r"^(?:logic=proved\b|only=(\d+) proved=\1$)", re.M)
-# What a check says of the written proof of a function: its folder, and the error. Some errors only follow from others, and
-# some say that a name is gone which the proof has of the code.
-ERROR = re.compile(r"^(?:\./)?proofs/(\S+)/\w+\.antt:\d+:\d+: error: (.*)$", re.M)
+# What a check says of the written proof of a function: its folder, and the error, which goes on in indented lines. Some errors
+# only follow from others, and some say that a name is gone which the proof has of the code.
+ERROR = re.compile(r"^(?:\./)?proofs/(\S+)/\w+\.antt:\d+:\d+: error: (.*(?:\n  .*)*)$", re.M)
 FOLLOWS = re.compile(r"which (?:was|were) rejected, (?:was|were) not checked")
 GONE = re.compile(r"has no field|is not in scope|has no `|was not admitted")
 JUDGED = re.compile(r"^(?:logic=(?:not-)?proved\b|only=\d+ proved=\d+$)", re.M)
@@ -38,7 +38,8 @@ class Said:
     def refuses_by_name(self, path):
         """Whether the function is refused only since its written proof names what is not there: its contract may be met."""
         folder = "/".join(path.split("::")[1:])
-        told = [error for at, error in ERROR.findall(self.text) if at == folder and not FOLLOWS.search(error)]
+        errors = [(at, " ".join(error.split())) for at, error in ERROR.findall(self.text)]
+        told = [error for at, error in errors if at == folder and not FOLLOWS.search(error)]
         return self.verdicts[path].startswith("not proved") and bool(told) and all(GONE.search(it) for it in told)
 
     def hides(self, path):
