@@ -3,17 +3,16 @@ ghost use Rattle.tinyvec_array.specs.Drain.{DrainCanStep};
 ghost use Rattle.tinyvec_array.specs.Splice.{SpliceCanStep};
 
 use crate::held::Copies;
+use crate::steps::iterated;
 use crate::vector::Vector;
 use std::alloc::AllocError;
 use std::fmt::Write;
 use std::iter::Fuse;
 use std::{mem, vec};
-use tinyvec::{
-    Array, ArrayVec, ArrayVecDrain, ArrayVecIterator, ArrayVecSplice, FromIterRest, NoRoom,
-};
+use tinyvec::{Array, ArrayVec, ArrayVecDrain, ArrayVecSplice, FromIterRest, NoRoom};
 use tinyvec_rows::{
-    Item, Read, Span, Words, Wrong, counted, done, is_within, say, say_all, say_left, say_refused,
-    say_rest, say_slots, say_text,
+    Item, Read, Span, Words, Wrong, done, is_within, say, say_all, say_left, say_refused, say_rest,
+    say_slots, say_text,
 };
 
 /// The vector of a list and the slots after it.
@@ -363,31 +362,47 @@ fn remade<T: Item, A: Array<Item = T>>(
         "from" => Ok(ArrayVec::from(old.into_inner())),
         "from_array" => Ok(ArrayVec::from_array(old.into_inner())),
         "from_array_empty" => Ok(ArrayVec::from_array_empty(old.into_inner())),
-        "try_from_array_len" => match ArrayVec::try_from_array_len(
-            old.into_inner(),
-            words.index()?,
-        ) {
-            Ok(v) => Ok(v),
-            Err(array) => {
-                say_text(out, "refused")?;
-                Ok(ArrayVec::from_array_empty(array))
-            }
-        },
-        "try_from_slice" => match ArrayVec::try_from_slice(words.items()?.as_slice()) {
-            Ok(v) => Ok(v),
-            Err(error) => {
-                say(out, &error)?;
-                Ok(old)
-            }
-        },
-        "from_iter" => match ArrayVec::from_iter(words.items()?) {
-            Ok(v) => Ok(v),
-            Err(FromIterRest { vec, item, rest }) => {
-                say_rest(out, &item, rest)?;
-                Ok(vec)
-            }
-        },
+        "try_from_array_len" => with_len(old.into_inner(), words.index()?, out),
+        "try_from_slice" => of_slice(old, words.items()?.as_slice(), out),
+        "from_iter" => of_items(words.items()?, out),
         _ => Err(Wrong::Call),
+    }
+}
+
+fn with_len<A: Array>(array: A, len: usize, out: &mut String) -> Result<ArrayVec<A>, Wrong> {
+    match ArrayVec::try_from_array_len(array, len) {
+        Ok(v) => Ok(v),
+        Err(array) => {
+            say_text(out, "refused")?;
+            Ok(ArrayVec::from_array_empty(array))
+        }
+    }
+}
+
+fn of_slice<T: Item, A: Array<Item = T>>(
+    old: ArrayVec<A>,
+    list: &[T],
+    out: &mut String,
+) -> Result<ArrayVec<A>, Wrong> {
+    match ArrayVec::try_from_slice(list) {
+        Ok(v) => Ok(v),
+        Err(error) => {
+            say(out, &error)?;
+            Ok(old)
+        }
+    }
+}
+
+fn of_items<T: Item, A: Array<Item = T>>(
+    items: Vec<T>,
+    out: &mut String,
+) -> Result<ArrayVec<A>, Wrong> {
+    match ArrayVec::from_iter(items) {
+        Ok(v) => Ok(v),
+        Err(FromIterRest { vec, item, rest }) => {
+            say_rest(out, &item, rest)?;
+            Ok(vec)
+        }
     }
 }
 
@@ -417,15 +432,26 @@ fn drained<T: Item, A: Array<Item = T>>(
     requires { DrainCanStep drain.old }
 {
     for step in steps {
-        match *step {
-            "next" => say(out, &drain.next())?,
-            "back" => say(out, &drain.next_back())?,
-            "left" => say_left(out, drain)?,
-            "debug" => say(out, drain)?,
-            _ => return Err(Wrong::Value),
-        }
+        drain_step(drain, *step, out)?;
     }
     Ok(())
+}
+
+fn drain_step<T: Item, A: Array<Item = T>>(
+    drain: &mut ArrayVecDrain<'_, A>,
+    step: &str,
+    out: &mut String,
+) -> Result<(), Wrong>
+    requires { DrainCanStep drain.old }
+    ensures { DrainCanStep drain.new }
+{
+    match step {
+        "next" => say(out, &drain.next()),
+        "back" => say(out, &drain.next_back()),
+        "left" => say_left(out, drain),
+        "debug" => say(out, drain),
+        _ => Err(Wrong::Value),
+    }
 }
 
 // The same at a splice. Its value must not be dropped here.
@@ -438,51 +464,25 @@ fn spliced<T: Item, A: Array<Item = T>>(
     ensures { SpliceCanStep splice.new }
 {
     for step in steps {
-        match *step {
-            "next" => say(out, &splice.next())?,
-            "back" => say(out, &splice.next_back())?,
-            "left" => say(out, &((*splice).len(), (*splice).size_hint()))?,
-            "touches" => say(out, &(*splice).touches())?,
-            "debug" => write!(out, "{splice:?} ")?,
-            _ => return Err(Wrong::Value),
-        }
+        splice_step(splice, *step, out)?;
     }
     Ok(())
 }
 
-// The same at an iterator of the items.
-fn iterated<T: Item, A: Array<Item = T>>(
-    mut it: ArrayVecIterator<A>,
-    steps: &[&str],
-    out: &mut String,
-) -> Result<(), Wrong> {
-    for step in steps {
-        match *step {
-            "last" => return say(out, &it.last()),
-            "count" => return say(out, &it.count()),
-            step => stepped(&mut it, step, out)?,
-        }
-    }
-    Ok(())
-}
-
-// One step, after which there may be others.
-fn stepped<T: Item, A: Array<Item = T>>(
-    it: &mut ArrayVecIterator<A>,
+fn splice_step<T: Item, A: Array<Item = T>>(
+    splice: &mut ArrayVecSplice<'_, A, Fuse<vec::IntoIter<T>>>,
     step: &str,
     out: &mut String,
-) -> Result<(), Wrong> {
+) -> Result<(), Wrong>
+    requires { SpliceCanStep splice.old }
+    ensures { SpliceCanStep splice.new }
+{
     match step {
-        "next" => say(out, &it.next()),
-        "back" => say(out, &it.next_back()),
-        "left" => say_left(out, &*it),
-        "debug" => say(out, &*it),
-        "slice" => say_slots(out, it.as_slice(), &[]),
-        "clone" => say(out, &(*it).clone()?),
-        step => match counted(step)? {
-            ("nth", count) => say(out, &it.nth(count)),
-            ("nth_back", count) => say(out, &it.nth_back(count)),
-            _ => Err(Wrong::Value),
-        },
+        "next" => say(out, &splice.next()),
+        "back" => say(out, &splice.next_back()),
+        "left" => say(out, &((*splice).len(), (*splice).size_hint())),
+        "touches" => say(out, &(*splice).touches()),
+        "debug" => Ok(write!(out, "{splice:?} ")?),
+        _ => Err(Wrong::Value),
     }
 }

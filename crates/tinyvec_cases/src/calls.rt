@@ -2,7 +2,7 @@
 use crate::held::Held;
 use crate::vector::Vector;
 use std::alloc::Global;
-use tinyvec_rows::{Closure, Counter, Item, Words, Wrong, say, say_slots, window};
+use tinyvec_rows::{Closure, Counter, Item, Span, Words, Wrong, say, say_slots, window};
 
 /// Does the calls of a row one after the other, and writes of each what it answers and leaves. `pair` tells whether the row
 /// names the other vector.
@@ -114,32 +114,50 @@ fn cut<V: Vector>(
 ) -> Result<(), Wrong> {
     match name {
         "drain" => v.drain(words.span()?, words.rest()?.as_slice(), out),
-        "drain_into" => {
-            let range = words.span()?;
-            let mut to = words.items()?;
-            v.drain_into(range, &mut to)?;
-            say_slots(out, to.as_slice(), &[])
-        }
+        "drain_into" => drain_into(v, words.span()?, words.items()?, out),
         "splice" => v.splice(words.span()?, words.items()?, words.rest()?.as_slice(), out),
         "splice_all" => v.splice_all(words.span()?, words.items()?, out),
         "iter_mut" => {
-            let more = words.number()?;
-            for x in v.items_mut() {
-                x.add(more);
-            }
+            add_to_each(v, words.number()?);
             Ok(())
         }
         "retain" | "retain_mut" | "dedup" | "dedup_by" | "dedup_by_key" => filter(
             v, name, words, out,
         ),
-        "resize_with" => {
-            let n = words.index()?;
-            let mut counter = Counter::new(words.alloc, words.number()?);
-            v.resize_with(n, || counter.next(), out)?;
-            say(out, &counter.calls())
-        }
+        "resize_with" => resize_with(
+            v,
+            words.index()?,
+            Counter::new(words.alloc, words.number()?),
+            out,
+        ),
         _ => v.own(name, words, out),
     }
+}
+
+fn drain_into<V: Vector>(
+    v: &mut V,
+    range: Span,
+    mut to: Vec<V::Item>,
+    out: &mut String,
+) -> Result<(), Wrong> {
+    v.drain_into(range, &mut to)?;
+    say_slots(out, to.as_slice(), &[])
+}
+
+fn add_to_each<V: Vector>(v: &mut V, more: i32) {
+    for x in v.items_mut() {
+        x.add(more);
+    }
+}
+
+fn resize_with<V: Vector>(
+    v: &mut V,
+    n: usize,
+    mut counter: Counter,
+    out: &mut String,
+) -> Result<(), Wrong> {
+    v.resize_with(n, || counter.next(), out)?;
+    say(out, &counter.calls())
 }
 
 fn filter<V: Vector>(

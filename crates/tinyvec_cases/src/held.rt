@@ -1,6 +1,7 @@
 //! Calls that vectors have by what they hold.
 use crate::compare::{InBases, say_based, say_compared, say_shown};
 use crate::vector::Vector;
+use std::alloc::Global;
 use std::fmt::Write as _;
 use std::hash::Hash;
 use std::io::Write as _;
@@ -66,16 +67,22 @@ where
 {
     match name {
         "compare" => say_compared(v, other, v.items(), out),
-        "show" => {
-            let form = words.word();
-            match say_shown(words.alloc, v, form, out) {
-                Err(Wrong::Call) => say_based(words.alloc, v, form, out),
-                shown => shown,
-            }
-        }
+        "show" => show(words.alloc, v, words.word(), out),
         "extend_from_slice_copy" => v.extend_from_slice_copy(words.items()?.as_slice(), out),
         "replace_range" => v.replace_range(words.span()?, words.items()?.as_slice(), out),
         _ => Err(Wrong::Call),
+    }
+}
+
+fn show<V: fmt::Display + fmt::Debug + InBases>(
+    alloc: Global,
+    v: &V,
+    form: &str,
+    out: &mut String,
+) -> Result<(), Wrong> {
+    match say_shown(alloc, v, form, out) {
+        Err(Wrong::Call) => say_based(alloc, v, form, out),
+        shown => shown,
     }
 }
 

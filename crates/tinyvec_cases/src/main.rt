@@ -7,6 +7,7 @@ mod compare;
 mod held;
 mod slice;
 mod starts;
+mod steps;
 mod tiny;
 mod vector;
 

@@ -2,6 +2,8 @@
 use crate::held::Held;
 use crate::{array, calls, compare, tiny};
 use std::alloc::Global;
+use std::fmt;
+use std::hash::Hash;
 use tinyvec::{Array, ArrayVec, SliceVec, TinyVec};
 use tinyvec_rows::{Read, Words, Wrong, say_text};
 
@@ -98,32 +100,31 @@ fn compared_array(
     out: &mut String,
 ) -> Result<(), Wrong> {
     match held {
-        "[u64;200]" => {
-            let (v, w, _) = arrays::<u64, [u64; 200]>(words)?;
-            compare::say_compared(&v, &w, v.as_slice(), out)
-        }
-        "[u128;100]" => {
-            let (v, w, _) = arrays::<u128, [u128; 100]>(words)?;
-            compare::say_compared(&v, &w, v.as_slice(), out)
-        }
-        "[Wide;20]" => {
-            let (v, w, _) = arrays::<Wide, [Wide; 20]>(words)?;
-            compare::say_compared(&v, &w, v.as_slice(), out)
-        }
-        "[f64;2]" => {
-            let (v, w, _) = arrays::<f64, [f64; 2]>(words)?;
-            compare::answer(words.alloc, &v, &w, calls, out)
-        }
-        "[f64;70]" => {
-            let (v, w, _) = arrays::<f64, [f64; 70]>(words)?;
-            compare::answer(words.alloc, &v, &w, calls, out)
-        }
-        "[char;3]" => {
-            let (v, w, _) = arrays::<char, [char; 3]>(words)?;
-            compare::answer(words.alloc, &v, &w, calls, out)
-        }
+        "[u64;200]" => compare_arrays::<u64, [u64; 200]>(words, out),
+        "[u128;100]" => compare_arrays::<u128, [u128; 100]>(words, out),
+        "[Wide;20]" => compare_arrays::<Wide, [Wide; 20]>(words, out),
+        "[f64;2]" => show_array::<f64, [f64; 2]>(words, calls, out),
+        "[f64;70]" => show_array::<f64, [f64; 70]>(words, calls, out),
+        "[char;3]" => show_array::<char, [char; 3]>(words, calls, out),
         _ => Err(Wrong::Vector),
     }
+}
+
+fn compare_arrays<T: Read + Ord + Hash, A: Array<Item = T>>(
+    words: &mut Words<'_>,
+    out: &mut String,
+) -> Result<(), Wrong> {
+    let (v, w, _) = arrays::<T, A>(words)?;
+    compare::say_compared(&v, &w, v.as_slice(), out)
+}
+
+fn show_array<T: Read + PartialOrd + fmt::Display + fmt::Debug, A: Array<Item = T>>(
+    words: &mut Words<'_>,
+    calls: &str,
+    out: &mut String,
+) -> Result<(), Wrong> {
+    let (v, w, _) = arrays::<T, A>(words)?;
+    compare::answer(words.alloc, &v, &w, calls, out)
 }
 
 // A type parameter `T` would have to hold for each lifetime of a lent slice.
@@ -242,16 +243,19 @@ fn others_in_tiny(
         "[();2]" => of_tiny::<(), [(); 2]>(words, calls, out),
         "[Box;4]" => of_tiny::<Boxed, [Boxed; 4]>(words, calls, out),
         "[Box;21]" => of_tiny::<Boxed, [Boxed; 21]>(words, calls, out),
-        "[f64;2]" => {
-            let (v, w, _) = tinies::<f64, [f64; 2]>(words)?;
-            compare::answer(words.alloc, &v, &w, calls, out)
-        }
-        "[char;3]" => {
-            let (v, w, _) = tinies::<char, [char; 3]>(words)?;
-            compare::answer(words.alloc, &v, &w, calls, out)
-        }
+        "[f64;2]" => show_tiny::<f64, [f64; 2]>(words, calls, out),
+        "[char;3]" => show_tiny::<char, [char; 3]>(words, calls, out),
         _ => Err(Wrong::Vector),
     }
+}
+
+fn show_tiny<T: Read + PartialOrd + fmt::Display + fmt::Debug, A: Array<Item = T>>(
+    words: &mut Words<'_>,
+    calls: &str,
+    out: &mut String,
+) -> Result<(), Wrong> {
+    let (v, w, _) = tinies::<T, A>(words)?;
+    compare::answer(words.alloc, &v, &w, calls, out)
 }
 
 fn of_array<T: Held<ArrayVec<A>>, A: Array<Item = T>>(

@@ -4,16 +4,15 @@ ghost use Rattle.tinyvec.specs.TinyVecSplice.{SpliceCanStep};
 
 use crate::array;
 use crate::held::Copies;
+use crate::steps::iterated;
 use crate::vector::Vector;
 use std::alloc::{AllocError, Global};
 use std::fmt::Write;
 use std::iter::Fuse;
 use std::{mem, vec};
-use tinyvec::{
-    Array, ArrayVec, FromIterRest, NoRoom, TinyVec, TinyVecDrain, TinyVecIterator, TinyVecSplice,
-};
+use tinyvec::{Array, ArrayVec, FromIterRest, NoRoom, TinyVec, TinyVecDrain, TinyVecSplice};
 use tinyvec_rows::{
-    Item, Read, Span, Words, Wrong, counted, done, is_within, say, say_left, say_refused, say_rest,
+    Item, Read, Span, Words, Wrong, done, is_within, say, say_left, say_refused, say_rest,
     say_slots, say_text,
 };
 
@@ -265,26 +264,34 @@ impl<T: Item, A: Array<Item = T>> Vector for TinyVec<A> {
             Ok(Err(error)) => return say(out, &error),
             Err(wrong) => return Err(wrong),
         }
-        let n = words.index().unwrap_or(0);
         match name {
-            "reserve" => done(out, self.reserve(n)),
-            "reserve_exact" => done(out, self.reserve_exact(n)),
-            "try_reserve" => done(out, self.try_reserve(n)),
-            "try_reserve_exact" => done(out, self.try_reserve_exact(n)),
             "move_to_the_heap" => done(out, self.move_to_the_heap()),
             "try_move_to_the_heap" => done(out, self.try_move_to_the_heap()),
-            "move_to_the_heap_and_reserve" => done(out, self.move_to_the_heap_and_reserve(n)),
-            "try_move_to_the_heap_and_reserve" => done(
-                out,
-                self.try_move_to_the_heap_and_reserve(n),
-            ),
-            "has_room" => say(out, &(self.capacity() - self.len() >= n)),
             "shrink_to_fit" => {
                 self.shrink_to_fit();
                 Ok(())
             }
-            _ => Err(Wrong::Call),
+            _ => with_room(self, name, words.index().unwrap_or(0), out),
         }
+    }
+}
+
+// Calls that are given how many more items there is to be room for.
+fn with_room<T: Item, A: Array<Item = T>>(
+    v: &mut TinyVec<A>,
+    name: &str,
+    n: usize,
+    out: &mut String,
+) -> Result<(), Wrong> {
+    match name {
+        "reserve" => done(out, v.reserve(n)),
+        "reserve_exact" => done(out, v.reserve_exact(n)),
+        "try_reserve" => done(out, v.try_reserve(n)),
+        "try_reserve_exact" => done(out, v.try_reserve_exact(n)),
+        "move_to_the_heap_and_reserve" => done(out, v.move_to_the_heap_and_reserve(n)),
+        "try_move_to_the_heap_and_reserve" => done(out, v.try_move_to_the_heap_and_reserve(n)),
+        "has_room" => say(out, &(v.capacity() - v.len() >= n)),
+        _ => Err(Wrong::Call),
     }
 }
 
@@ -301,27 +308,40 @@ fn made_of<T: Item, A: Array<Item = T>>(
         "with_initial_len" => TinyVec::with_initial_len(alloc, words.index()?),
         "from_slice" => TinyVec::from_slice(alloc, words.items()?.as_slice()),
         "from_array" => Ok(TinyVec::from_array(alloc, array_of(words)?)),
-        "try_from_array_len" => match TinyVec::try_from_array_len(
-            alloc,
-            array_of(words)?,
-            words.index()?,
-        ) {
-            Ok(v) => Ok(v),
-            Err(array) => {
-                say_text(out, "refused")?;
-                Ok(TinyVec::from_array(alloc, array))
-            }
-        },
-        "from_iter" => match TinyVec::from_iter(alloc, words.items()?) {
-            Ok(v) => Ok(v),
-            Err(FromIterRest { vec, item, rest }) => {
-                say_rest(out, &item, rest)?;
-                Ok(vec)
-            }
-        },
+        "try_from_array_len" => Ok(with_len(alloc, array_of(words)?, words.index()?, out)?),
+        "from_iter" => Ok(of_items(alloc, words.items()?, out)?),
         _ => return Err(Wrong::Call),
     };
     Ok(made)
+}
+
+fn with_len<A: Array>(
+    alloc: Global,
+    array: A,
+    len: usize,
+    out: &mut String,
+) -> Result<TinyVec<A>, Wrong> {
+    match TinyVec::try_from_array_len(alloc, array, len) {
+        Ok(v) => Ok(v),
+        Err(array) => {
+            say_text(out, "refused")?;
+            Ok(TinyVec::from_array(alloc, array))
+        }
+    }
+}
+
+fn of_items<T: Item, A: Array<Item = T>>(
+    alloc: Global,
+    items: Vec<T>,
+    out: &mut String,
+) -> Result<TinyVec<A>, Wrong> {
+    match TinyVec::from_iter(alloc, items) {
+        Ok(v) => Ok(v),
+        Err(FromIterRest { vec, item, rest }) => {
+            say_rest(out, &item, rest)?;
+            Ok(vec)
+        }
+    }
 }
 
 // The array of a list of its items.
@@ -351,15 +371,26 @@ fn drained<T: Item, A: Array<Item = T>>(
     requires { DrainCanStep drain.old }
 {
     for step in steps {
-        match *step {
-            "next" => say(out, &drain.next())?,
-            "back" => say(out, &drain.next_back())?,
-            "left" => say_left(out, drain)?,
-            "debug" => say(out, drain)?,
-            _ => return Err(Wrong::Value),
-        }
+        drain_step(drain, *step, out)?;
     }
     Ok(())
+}
+
+fn drain_step<T: Item, A: Array<Item = T>>(
+    drain: &mut TinyVecDrain<'_, A>,
+    step: &str,
+    out: &mut String,
+) -> Result<(), Wrong>
+    requires { DrainCanStep drain.old }
+    ensures { DrainCanStep drain.new }
+{
+    match step {
+        "next" => say(out, &drain.next()),
+        "back" => say(out, &drain.next_back()),
+        "left" => say_left(out, drain),
+        "debug" => say(out, drain),
+        _ => Err(Wrong::Value),
+    }
 }
 
 // The same at a splice. Its value must not be dropped here.
@@ -372,51 +403,25 @@ fn spliced<T: Item, A: Array<Item = T>>(
     ensures { SpliceCanStep splice.new }
 {
     for step in steps {
-        match *step {
-            "next" => say(out, &splice.next())?,
-            "back" => say(out, &splice.next_back())?,
-            "left" => say(out, &((*splice).len(), (*splice).size_hint()))?,
-            "touches" => say(out, &(*splice).touches())?,
-            "debug" => write!(out, "{splice:?} ")?,
-            _ => return Err(Wrong::Value),
-        }
+        splice_step(splice, *step, out)?;
     }
     Ok(())
 }
 
-// The same at an iterator of the items.
-fn iterated<T: Item, A: Array<Item = T>>(
-    mut it: TinyVecIterator<A>,
-    steps: &[&str],
-    out: &mut String,
-) -> Result<(), Wrong> {
-    for step in steps {
-        match *step {
-            "last" => return say(out, &it.last()),
-            "count" => return say(out, &it.count()),
-            step => stepped(&mut it, step, out)?,
-        }
-    }
-    Ok(())
-}
-
-// One step, after which there may be others.
-fn stepped<T: Item, A: Array<Item = T>>(
-    it: &mut TinyVecIterator<A>,
+fn splice_step<T: Item, A: Array<Item = T>>(
+    splice: &mut TinyVecSplice<'_, A, Fuse<vec::IntoIter<T>>>,
     step: &str,
     out: &mut String,
-) -> Result<(), Wrong> {
+) -> Result<(), Wrong>
+    requires { SpliceCanStep splice.old }
+    ensures { SpliceCanStep splice.new }
+{
     match step {
-        "next" => say(out, &it.next()),
-        "back" => say(out, &it.next_back()),
-        "left" => say_left(out, &*it),
-        "debug" => say(out, &*it),
-        "slice" => say_slots(out, it.as_slice(), &[]),
-        "clone" => say(out, &(*it).clone()?),
-        step => match counted(step)? {
-            ("nth", count) => say(out, &it.nth(count)),
-            ("nth_back", count) => say(out, &it.nth_back(count)),
-            _ => Err(Wrong::Value),
-        },
+        "next" => say(out, &splice.next()),
+        "back" => say(out, &splice.next_back()),
+        "left" => say(out, &((*splice).len(), (*splice).size_hint())),
+        "touches" => say(out, &(*splice).touches()),
+        "debug" => Ok(write!(out, "{splice:?} ")?),
+        _ => Err(Wrong::Value),
     }
 }

@@ -1,5 +1,5 @@
 //! Calls of an `InlineText`.
-use std::alloc::Global;
+use std::alloc::{AllocError, Global};
 use std::cmp::Ordering;
 use std::convert::{AsSlice, AsStr};
 use std::fmt::Write;
@@ -106,89 +106,156 @@ fn call<const N: usize>(
     other: &InlineText<N>,
     out: &mut String,
 ) -> Result<(), Wrong> {
-    let (n, s) = (arguments.number, arguments.text.as_str());
-    let c = s.chars().next().unwrap_or('?');
     match name {
-        "new" => *t = InlineText::new(alloc),
-        "from_str" => match InlineText::from_str(alloc, s) {
-            Ok(made) => *t = made,
-            Err(error) => say(out, &error)?,
+        "cmp" => say(out, &order(&*t, other)),
+        "len" | "is_char_boundary" | "as_bytes" | "as_slice" | "as_str" | "is_hashed_as_str" =>
+            look(t, name, arguments.number, out),
+        "show" | "show_to_four" | "show_one" | "debug" => show(t, name, out),
+        "clone" | "split_off" | "into_bytes" | "into_string" => part(
+            t,
+            alloc,
+            name,
+            arguments.number,
+            out,
+        ),
+        "new" | "from_str" | "with_capacity" | "collect" => match made_of(alloc, name, arguments) {
+            Ok(made) => Ok(*t = made),
+            Err(error) => say(out, &error),
         },
-        "push" => done(out, t.push(c))?,
-        "push_str" => done(out, t.push_str(s))?,
-        "write_str" => done(out, t.write_str(s))?,
-        "write_pair" => done(out, write!(t, "{n}, {s}"))?,
-        "pop" => say(out, &t.pop())?,
-        "truncate" if t.is_char_boundary(n) => t.truncate(n),
-        "truncate" => return Err(Wrong::Place),
-        "clear" => t.clear(),
-        "reserve" => done(out, t.reserve(n))?,
-        "len" => say(out, &(t.len(), t.is_empty(), t.capacity()))?,
-        "is_char_boundary" => say(out, &t.is_char_boundary(n))?,
-        "as_bytes" => say(out, &t.as_bytes())?,
-        "as_slice" => say(out, &AsSlice::as_slice(&*t))?,
-        "as_str" => say(out, &AsStr::as_str(&*t))?,
-        "into_bytes" => {
-            let bytes = mem::replace(t, InlineText::new(alloc)).into_bytes();
-            say_text(out, if bytes.is_inline() { "inline" } else { "heap" })?;
-            say(out, &bytes)?;
-        }
-        "clone" => match t.clone() {
-            Ok(copy) => state(out, &copy)?,
-            Err(error) => say(out, &error)?,
-        },
-        "cmp" => say(out, &order(&*t, other))?,
-        "is_hashed_as_str" => say(out, &(hash_of(&*t) == hash_of(&t.as_str())))?,
-        "show" => write!(out, "{t} ")?,
-        "show_to_four" => write!(out, "{t:>4} ")?,
-        "show_one" => write!(out, "{t:.1} ")?,
-        "debug" => say(out, &*t)?,
-        _ => edit(t, alloc, name, arguments, out)?,
+        _ => append(t, name, arguments, out),
     }
-    Ok(())
 }
 
-// Calls that put characters in the middle, take them out, or turn the text into something else.
-fn edit<const N: usize>(
+fn look<const N: usize>(
+    t: &InlineText<N>,
+    name: &str,
+    n: usize,
+    out: &mut String,
+) -> Result<(), Wrong> {
+    match name {
+        "len" => say(out, &(t.len(), t.is_empty(), t.capacity())),
+        "is_char_boundary" => say(out, &t.is_char_boundary(n)),
+        "as_bytes" => say(out, &t.as_bytes()),
+        "as_slice" => say(out, &AsSlice::as_slice(t)),
+        "as_str" => say(out, &AsStr::as_str(t)),
+        _ => say(out, &(hash_of(t) == hash_of(&t.as_str()))),
+    }
+}
+
+fn show<const N: usize>(t: &InlineText<N>, name: &str, out: &mut String) -> Result<(), Wrong> {
+    match name {
+        "show" => Ok(write!(out, "{t} ")?),
+        "show_to_four" => Ok(write!(out, "{t:>4} ")?),
+        "show_one" => Ok(write!(out, "{t:.1} ")?),
+        _ => say(out, t),
+    }
+}
+
+fn made_of<const N: usize>(
+    alloc: Global,
+    name: &str,
+    arguments: &Arguments,
+) -> Result<InlineText<N>, AllocError> {
+    let s = arguments.text.as_str();
+    match name {
+        "from_str" => InlineText::from_str(alloc, s),
+        "with_capacity" => InlineText::with_capacity(alloc, arguments.number),
+        "collect" => s.chars().collect::<InlineText<N>>(alloc),
+        _ => Ok(InlineText::new(alloc)),
+    }
+}
+
+// Calls that make something else of a text or of its end.
+fn part<const N: usize>(
     t: &mut InlineText<N>,
     alloc: Global,
+    name: &str,
+    n: usize,
+    out: &mut String,
+) -> Result<(), Wrong> {
+    match name {
+        "clone" => tell(t.clone(), out),
+        "split_off" if t.is_char_boundary(n) => tell(t.split_off(n), out),
+        "split_off" => Err(Wrong::Place),
+        "into_bytes" => into_bytes(mem::replace(t, InlineText::new(alloc)), out),
+        _ => match mem::replace(t, InlineText::new(alloc)).into_string() {
+            Ok(text) => say(out, &(text.capacity(), text)),
+            Err(NoMemory(back)) => Ok(*t = back),
+        },
+    }
+}
+
+fn tell<const N: usize>(
+    made: Result<InlineText<N>, AllocError>,
+    out: &mut String,
+) -> Result<(), Wrong> {
+    match made {
+        Ok(text) => state(out, &text),
+        Err(error) => say(out, &error),
+    }
+}
+
+fn into_bytes<const N: usize>(t: InlineText<N>, out: &mut String) -> Result<(), Wrong> {
+    let bytes = t.into_bytes();
+    say_text(out, if bytes.is_inline() { "inline" } else { "heap" })?;
+    say(out, &bytes)
+}
+
+fn append<const N: usize>(
+    t: &mut InlineText<N>,
     name: &str,
     arguments: &Arguments,
     out: &mut String,
 ) -> Result<(), Wrong> {
     let (n, s) = (arguments.number, arguments.text.as_str());
-    let c = s.chars().next().unwrap_or('?');
     match name {
-        "with_capacity" => match InlineText::with_capacity(alloc, n) {
-            Ok(made) => *t = made,
-            Err(error) => say(out, &error)?,
-        },
-        "insert" if t.is_char_boundary(n) => done(out, t.insert(n, c))?,
-        "insert_str" if t.is_char_boundary(n) => done(out, t.insert_str(n, s))?,
-        "remove" if t.is_char_boundary(n) && n < t.len() => say(out, &t.remove(n))?,
-        "replace_range" => replace(t, arguments.span, s, out)?,
-        "split_off" if t.is_char_boundary(n) => match t.split_off(n) {
-            Ok(tail) => state(out, &tail)?,
-            Err(error) => say(out, &error)?,
-        },
-        "insert" | "insert_str" | "remove" | "split_off" => return Err(Wrong::Place),
-        "push_reserved" if c.len_utf8() <= t.capacity() - t.len() => t.push_reserved(c),
-        "push_str_reserved" if s.len() <= t.capacity() - t.len() => t.push_str_reserved(s),
-        "shrink_to_fit" => t.shrink_to_fit(),
-        "retain_not" => t.retain(|x| x != c),
-        "extend_chars" => done(out, t.extend(s.chars()))?,
-        "extend_words" => done(out, t.extend(s.split(' ')))?,
-        "collect" => match s.chars().collect::<InlineText<N>>(alloc) {
-            Ok(made) => *t = made,
-            Err(error) => say(out, &error)?,
-        },
-        "into_string" => match mem::replace(t, InlineText::new(alloc)).into_string() {
-            Ok(text) => say(out, &(text.capacity(), text))?,
-            Err(NoMemory(back)) => *t = back,
-        },
-        _ => return Err(Wrong::Call),
+        "push" => done(out, t.push(first(s))),
+        "push_str" => done(out, t.push_str(s)),
+        "write_str" => done(out, t.write_str(s)),
+        "write_pair" => done(out, write!(t, "{n}, {s}")),
+        "extend_chars" => done(out, t.extend(s.chars())),
+        "extend_words" => done(out, t.extend(s.split(' '))),
+        "reserve" => done(out, t.reserve(n)),
+        "pop" => say(out, &t.pop()),
+        _ => edit(t, name, arguments, out),
     }
-    Ok(())
+}
+
+// Calls that put characters in the middle, take them out, or need room.
+fn edit<const N: usize>(
+    t: &mut InlineText<N>,
+    name: &str,
+    arguments: &Arguments,
+    out: &mut String,
+) -> Result<(), Wrong> {
+    let (n, s) = (arguments.number, arguments.text.as_str());
+    match name {
+        "replace_range" => replace(t, arguments.span, s, out),
+        "insert" if t.is_char_boundary(n) => done(out, t.insert(n, first(s))),
+        "insert_str" if t.is_char_boundary(n) => done(out, t.insert_str(n, s)),
+        "remove" if t.is_char_boundary(n) && n < t.len() => say(out, &t.remove(n)),
+        "truncate" if t.is_char_boundary(n) => Ok(t.truncate(n)),
+        "insert" | "insert_str" | "remove" | "truncate" => Err(Wrong::Place),
+        _ => keep(t, name, s),
+    }
+}
+
+// Calls that always succeed.
+fn keep<const N: usize>(t: &mut InlineText<N>, name: &str, s: &str) -> Result<(), Wrong> {
+    let (c, room) = (first(s), t.capacity() - t.len());
+    match name {
+        "clear" => Ok(t.clear()),
+        "push_reserved" if c.len_utf8() <= room => Ok(t.push_reserved(c)),
+        "push_str_reserved" if s.len() <= room => Ok(t.push_str_reserved(s)),
+        "shrink_to_fit" => Ok(t.shrink_to_fit()),
+        "retain_not" => Ok(t.retain(|x| x != c)),
+        _ => Err(Wrong::Call),
+    }
+}
+
+// The first character, or `?` if there is none.
+fn first(s: &str) -> char {
+    s.chars().next().unwrap_or('?')
 }
 
 // Puts a text in the place of a range, whose ends are tested first.

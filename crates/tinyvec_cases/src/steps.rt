@@ -1,0 +1,48 @@
+//! Steps of the iterators that own their items.
+use tinyvec_rows::{Item, Wrong, counted, say, say_left, say_slots};
+use tinyvec_slots::{OwnedItems, OwnsItems};
+
+/// Does steps at an iterator, and writes what each answers.
+pub fn iterated<V: OwnsItems>(
+    mut it: OwnedItems<V>,
+    steps: &[&str],
+    out: &mut String,
+) -> Result<(), Wrong>
+where
+    V::Item: Item,
+{
+    for step in steps {
+        match *step {
+            "last" => return say(out, &it.last()),
+            "count" => return say(out, &it.count()),
+            step => iterate(&mut it, step, out)?,
+        }
+    }
+    Ok(())
+}
+
+fn iterate<V: OwnsItems>(it: &mut OwnedItems<V>, step: &str, out: &mut String) -> Result<(), Wrong>
+where
+    V::Item: Item,
+{
+    match step {
+        "next" => say(out, &it.next()),
+        "back" => say(out, &it.next_back()),
+        "left" => say_left(out, it),
+        "debug" => say(out, it),
+        "slice" => say_slots(out, it.as_slice(), &[]),
+        "clone" => say(out, &it.clone()?),
+        step => skip(it, step, out),
+    }
+}
+
+fn skip<V: OwnsItems>(it: &mut OwnedItems<V>, step: &str, out: &mut String) -> Result<(), Wrong>
+where
+    V::Item: Item,
+{
+    match counted(step)? {
+        ("nth", count) => say(out, &it.nth(count)),
+        ("nth_back", count) => say(out, &it.nth_back(count)),
+        _ => Err(Wrong::Value),
+    }
+}
