@@ -1,5 +1,6 @@
 //! An `InlineText`: the list of its bytes.
 ghost use Rattle.std.specs.Prelude.{◌≡◌, ◌*◌, ◌≤◌, ◌↔◌, ℕ, List, max, IsTrue, IfErr, IfOk};
+ghost use Rattle.tinyvec.specs.View.{lies_inline, capacity_in};
 ghost use Rattle.tinyvec_text.specs.InlineText.{text_len};
 ghost use Rattle.tinyvec_borsh.specs.Reading.{Fails, ReadsSpelling, TakesSome};
 ghost use Rattle.tinyvec_borsh.specs.Text.{AreNoText, SpellsText, TextFits, TextReason};
@@ -49,8 +50,8 @@ impl<const N: usize> BorshDeserialize for InlineText<N> {
             (R.remaining reader.old.inner) reader.old.faults reader.new.faults) }
         ensures taken { IfErr result (TakesSome (R.remaining reader.old.inner) (R.remaining reader.new.inner)) }
         ensures faults_grow { reader.old.faults ≤ reader.new.faults }
-        ensures place { IfOk result (λ t. IsTrue t.inline ↔ (text_len t ≤ N)) }
-        ensures room { IfOk result (λ t. t.room ≤ max N (2 * text_len t)) }
+        ensures place { IfOk result (λ t. IsTrue (lies_inline t.place) ↔ (text_len t ≤ N)) }
+        ensures room { IfOk result (λ t. capacity_in N t.place ≤ max N (2 * text_len t)) }
 
         // Of what is no text just its bytes were taken.
         ensures rest { IfErr result (λ e. e ≡ BorshError.InvalidUtf8 → (bytes : List ℕ) × AreNoText bytes

@@ -6,7 +6,9 @@ ghost use Rattle.std.specs.List.{swap_remove, SwappedAt};
 
 use crate::{GenericSliceVec, Lent, SliceVec};
 use std::mem;
-use tinyvec_slots::{fill_default, insert_shifting, last_to, prefers_shifting, remove_shifting, slot_of};
+use tinyvec_slots::{
+    fill_default, insert_shifting, last_to, prefers_shifting, remove_shifting, slot_of,
+};
 
 impl<B: Lent> GenericSliceVec<B> {
     /// Appends `value`.

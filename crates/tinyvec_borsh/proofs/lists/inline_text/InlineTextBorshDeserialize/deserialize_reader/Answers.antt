@@ -1,7 +1,8 @@
-use Rattle.std.proofs.Common.{◌∙◌, IsUtf8, refl, subst, sym}
+use Rattle.std.proofs.Common.{◌∙◌, IsUtf8, ap, refl, subst, sym}
 use Rattle.std.proofs.lemmas.List.{map-id}
 use Rattle.std.proofs.lemmas.Result.{err_from_is_err_and}
 use Rattle.tinyvec.specs.TinyVec.{tiny_items}
+use Rattle.tinyvec_text.specs.InlineText.{Text}
 use Rattle.tinyvec_borsh.specs.Reading.{ReadsSpelling}
 use Rattle.tinyvec_borsh.specs.Text.{AreBytes, SpellsText}
 use Rattle.tinyvec_borsh.proofs.AtFaults.{some-all, utf8_is_no_end}
@@ -25,12 +26,12 @@ returns-in_err-bytes-clause-rest g c =
 
 pub returns-in-Some-clause-ok : goal.returns-in-Some-clause-ok
 returns-in-Some-clause-ok g c =
-    subst (λ xs. ReadsSpelling (SpellsText xs) (g.R.Read.remaining c.args.reader.now.inner) (g.R.Read.remaining c.deserialize_reader.new.reader.inner)) (map-id (tiny_items c.in_ok-bytes.bytes) ∙ sym c.in-Some.ensures.bytes) c.in_ok-bytes.ensures.ok
+    subst (λ xs. ReadsSpelling (SpellsText xs) (g.R.Read.remaining c.args.reader.now.inner) (g.R.Read.remaining c.deserialize_reader.new.reader.inner)) (map-id (tiny_items c.in_ok-bytes.bytes) ∙ sym (ap (λ (t : Text). t.bytes) c.in-Some.ensures.value)) c.in_ok-bytes.ensures.ok
 
 pub returns-in-Some-clause-fits : goal.returns-in-Some-clause-fits
 returns-in-Some-clause-fits g c = (
-  subst AreBytes (map-id (tiny_items c.in_ok-bytes.bytes) ∙ sym c.in-Some.ensures.bytes) c.in_ok-bytes.ensures.fits,
-  subst IsUtf8 (sym c.in-Some.ensures.bytes) (c.in-Some.ensures.variant.0 refl),
+  subst AreBytes (map-id (tiny_items c.in_ok-bytes.bytes) ∙ sym (ap (λ (t : Text). t.bytes) c.in-Some.ensures.value)) c.in_ok-bytes.ensures.fits,
+  subst IsUtf8 (sym (ap (λ (t : Text). t.bytes) c.in-Some.ensures.value)) (c.in-Some.ensures.variant.0 refl),
 )
 
 pub returns-in-None-clause-err : goal.returns-in-None-clause-err
