@@ -3,7 +3,7 @@ use Rattle.std.proofs.Common.{◌≡◌, ℕ, ◌+◌, ◌-◌, ◌≤◌, List,
 use Rattle.std.proofs.lemmas.List.{get_or-take, get_or-drop}
 use Rattle.std.specs.Prelude.{IsTrue}
 use Rattle.std.proofs.lemmas.List.Elements.{All-nil}
-use Rattle.tinyvec_slots.specs.Slots.{AreDefaults, spare}
+use Rattle.tinyvec_slots.specs.Slots.{AreDefaults}
 use Rattle.std.specs.List.{AllZip}
 use Rattle.tinyvec_slots.specs.Clones.{RefusedAt, ClonesOver, ClonesInPart}
 use Rattle.tinyvec_slots.proofs.CloneLemmas.{drop_within}

@@ -1,7 +1,8 @@
 -- What a failed call leaves.
-use Rattle.std.specs.Prelude.{ℕ, ◌<◌, ◌⊎◌, List}
-use Rattle.tinyvec_slots.specs.Clones.{ClonesOver}
-use Rattle.tinyvec.specs.TinyVec.{tiny_spare, tiny_capacity, IsInline, PlaceRule, Unchanged}
+use Rattle.std.specs.Prelude.{◌≡◌, ℕ, ◌<◌, ◌≤◌, ◌⊎◌, List, length, take, drop, All, Result, IsOk, OnOk, OnErr}
+use Rattle.std.specs.List.{AppendsClones}
+use Rattle.tinyvec_slots.specs.Clones.{RefusedAt, ClonesOver}
+use Rattle.tinyvec.specs.TinyVec.{tiny_items, tiny_len, tiny_spare, is_inline, tiny_capacity, IsInline, PlaceRule, Unchanged}
 use Rattle.tinyvec.specs.Room.{GrowsFor}
 use Rattle.tinyvec.specs.declared.tiny_vec.TinyVec.{TinyVec}
 
@@ -18,3 +19,15 @@ RefusedFor slots need P old new =
 -- if the list is inline, its first n spare slots hold clones of xs
 abbrev pub ClonesBehind : {A T : Type 0} → (T → T → Type 0) → List T → ℕ → TinyVec A T → TinyVec A T → Type 0
 ClonesBehind C xs n old new = IsInline new → ClonesOver C xs n (tiny_spare old) (tiny_spare new)
+
+-- clones of xs were appended, with this result, to a list that has room for them
+pub record ClonesInRoom {A T X E : Type 0} (I : T → Type 0) (C : T → T → Type 0) (slots : ℕ) (xs : List T) (old new : TinyVec A T)
+    (result : Result X E) : Type 0 where
+  pub items : OnOk result (AppendsClones C (tiny_items old) (tiny_items new) xs)
+  pub spare : OnOk result (tiny_spare new ≡ drop (length xs) (tiny_spare old))
+  pub place : is_inline new ≡ is_inline old
+  pub capacity : tiny_capacity slots new ≡ tiny_capacity slots old
+  pub fits : tiny_len new ≤ tiny_capacity slots new
+  pub kept : OnErr result (tiny_items new ≡ tiny_items old)
+  pub refused : OnErr result ((j : ℕ) × RefusedAt I xs j × ClonesBehind C (take j xs) j old new)
+  pub succeeds : All I xs → IsOk result

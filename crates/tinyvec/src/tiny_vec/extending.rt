@@ -3,7 +3,7 @@ ghost use Rattle.std.specs.Prelude.{◌≡◌, ◌+◌, ◌≤◌, ◌++◌, ℕ
 ghost use Rattle.std.specs.List.{AppendsClones, AppendsResults};
 ghost use Rattle.tinyvec_slots.specs.Clones.{RefusedAt, ClonesAreEqual};
 ghost use Rattle.tinyvec.specs.TinyVec.{tiny_items, tiny_len, tiny_spare, is_inline, tiny_capacity, TinySlotRule, IsInline, StaysInPlace};
-ghost use Rattle.tinyvec.specs.Refused.{RefusedFor, ClonesBehind};
+ghost use Rattle.tinyvec.specs.Refused.{RefusedFor, ClonesBehind, ClonesInRoom};
 ghost use Rattle.tinyvec.specs.Room.{GrowsFor, RoomGrows, MakesRoom, Grows};
 ghost use Rattle.tinyvec_slots.specs.Slots.{AreDefaults, items, spare, items_len};
 ghost use Rattle.std.specs.Iterator.{IsFinite, Drains, YieldsThen};
@@ -25,18 +25,7 @@ impl<A: Array> TinyVec<A> {
     where
         A::Item: Clone,
         requires room { tiny_len self.old + length other.now ≤ tiny_capacity A.CAPACITY self.old }
-        ensures items { OnOk result (AppendsClones A.Item.is_clone
-            (tiny_items self.old) (tiny_items self.new) other.now) }
-        ensures spare { OnOk result (tiny_spare self.new ≡ drop (length other.now) (tiny_spare self.old)) }
-        ensures place { is_inline self.new ≡ is_inline self.old }
-        ensures capacity { tiny_capacity A.CAPACITY self.new ≡ tiny_capacity A.CAPACITY self.old }
-        ensures fits { tiny_len self.new ≤ tiny_capacity A.CAPACITY self.new }
-        ensures kept { OnErr result (tiny_items self.new ≡ tiny_items self.old) }
-
-        // Inline, the first j spare slots hold the clones made.
-        ensures refused { OnErr result ((j : ℕ) × RefusedAt A.Item.is_infallible other.now j
-            × ClonesBehind A.Item.is_clone (take j other.now) j self.old self.new) }
-        ensures succeeds { All A.Item.is_infallible other.now → IsOk result }
+        ensures { ClonesInRoom A.Item.is_infallible A.Item.is_clone A.CAPACITY other.now self.old self.new result }
     {
         match self {
             TinyVec::Inline(v, _) => v.extend_from_slice(other),
@@ -127,17 +116,8 @@ impl<A: Array> TinyVec<A> {
         requires in_list { (start ≤ end) × (end ≤ tiny_len self.old) }
         requires room { tiny_len self.old + length (slice_range (tiny_items self.old) start end)
             ≤ tiny_capacity A.CAPACITY self.old }
-        ensures items { OnOk result (AppendsClones A.Item.is_clone
-            (tiny_items self.old) (tiny_items self.new) (slice_range (tiny_items self.old) start end)) }
-        ensures spare { OnOk result (tiny_spare self.new
-            ≡ drop (length (slice_range (tiny_items self.old) start end)) (tiny_spare self.old)) }
-        ensures place { is_inline self.new ≡ is_inline self.old }
-        ensures capacity { tiny_capacity A.CAPACITY self.new ≡ tiny_capacity A.CAPACITY self.old }
-        ensures fits { tiny_len self.new ≤ tiny_capacity A.CAPACITY self.new }
-        ensures kept { OnErr result (tiny_items self.new ≡ tiny_items self.old) }
-        ensures refused { OnErr result ((j : ℕ) × RefusedAt A.Item.is_infallible (slice_range (tiny_items self.old) start end) j
-            × ClonesBehind A.Item.is_clone (take j (slice_range (tiny_items self.old) start end)) j self.old self.new) }
-        ensures succeeds { All A.Item.is_infallible (slice_range (tiny_items self.old) start end) → IsOk result }
+        ensures { ClonesInRoom A.Item.is_infallible A.Item.is_clone A.CAPACITY
+            (slice_range (tiny_items self.old) start end) self.old self.new result }
     {
         match self {
             TinyVec::Inline(v, _) => v.extend_from_within(start..end),

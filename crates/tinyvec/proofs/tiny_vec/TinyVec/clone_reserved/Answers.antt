@@ -1,8 +1,7 @@
-use Rattle.std.proofs.Common.{◌-◌, length, refl, sym, ap, arith, rules, slice_range}
+use Rattle.std.proofs.Common.{length, refl, sym, ap, arith, rules, slice_range}
 use Rattle.std.proofs.Math.Seq.{drop-nil}
 use Rattle.std.proofs.lemmas.Bool.{false≢true}
 use Rattle.std.proofs.lemmas.Result.{on_ok_weaker, on_err_weaker}
-use Rattle.tinyvec_slots.specs.Slots.{items}
 use Rattle.tinyvec_slots.proofs.Lists.{length-slice_range}
 use Rattle.tinyvec.specs.TinyVec.{is_inline}
 use Rattle.tinyvec.proofs.tiny_vec.TinyVec.clone_reserved.Goals as goal
