@@ -67,14 +67,14 @@ def read(crate, file, path):
     """The edits of a file. Each is a line `edit: NAME` or `named: NAME`, and then pairs of `old: TEXT` and `new: TEXT`.
 
     A line `file: PATH` says that the pairs after it are of another file. A line `in: TEXT`, which the file has once, says
-    that the old text of the next pair is the first after it.
+    that the old text of the next pair is the first after it. A line `# TEXT` says why an edit is as it is.
     """
     if path.suffix != ".edits":
         raise BadEdit("its name does not end in .edits")
     found = []
     for block in path.read_text(encoding="utf-8").split("\n\n"):
         changed, after, old, changes = file, "", None, []
-        first, *lines = block.strip("\n").split("\n")
+        first, *lines = [it for it in block.strip("\n").split("\n") if not it.startswith("# ")] or [""]
         kind, _, name = first.partition(": ")
         if kind not in ("edit", "named"):
             raise BadEdit(f"an edit begins with `edit: NAME` or `named: NAME`, and not so: {first}")
