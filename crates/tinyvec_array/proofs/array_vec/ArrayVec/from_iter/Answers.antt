@@ -18,15 +18,6 @@ returns-in-Ok-clause-ran g c =
     let ran = c.in-Ok.ensures.items.ran in
     (ran.0, ran.1, ran.2, (ran.3, ran.4 ∙ ap (λ l. l ++ ran.1) c.new-vec.ensures.items))
 
-pub returns-in-Ok-clause-full : goal.returns-in-Ok-clause-full
-returns-in-Ok-clause-full g c = tt
-
-pub returns-in-Ok-clause-fits : goal.returns-in-Ok-clause-fits
-returns-in-Ok-clause-fits g c = c.in-Ok.ensures.fits
-
-pub returns-in-Ok-clause-goes_on : goal.returns-in-Ok-clause-goes_on
-returns-in-Ok-clause-goes_on g c = tt
-
 pub returns-in-Ok-clause-known : goal.returns-in-Ok-clause-known
 returns-in-Ok-clause-known g c = λ xs yields le.
     let room = all_free g (goal.at.returns-in-Ok-clause-known g c).After-extend in
@@ -37,15 +28,6 @@ pub returns-in-Err-clause-ran : goal.returns-in-Err-clause-ran
 returns-in-Err-clause-ran g c =
     let ran = c.in-Err.ensures.items.ran in
     (ran.0, ran.1, ran.2, (ran.3, ran.4 ∙ ap (λ l. l ++ ran.1) c.new-vec.ensures.items))
-
-pub returns-in-Err-clause-spare : goal.returns-in-Err-clause-spare
-returns-in-Err-clause-spare g c = tt
-
-pub returns-in-Err-clause-fits : goal.returns-in-Err-clause-fits
-returns-in-Err-clause-fits g c = tt
-
-pub returns-in-Err-clause-goes_on : goal.returns-in-Err-clause-goes_on
-returns-in-Err-clause-goes_on g c = c.in-Err.ensures.goes_on
 
 pub returns-in-Err-clause-known : goal.returns-in-Err-clause-known
 returns-in-Err-clause-known g c = λ xs yields le.
