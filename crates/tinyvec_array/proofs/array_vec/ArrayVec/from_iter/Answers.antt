@@ -5,9 +5,6 @@ use Rattle.tinyvec_slots.specs.Slots.{spare, items_len}
 use Rattle.tinyvec_array.proofs.array_vec.ArrayVec.from_iter.Goals.{After-extend}
 use Rattle.tinyvec_array.proofs.array_vec.ArrayVec.from_iter.Goals as goal
 
-pub extend-requires : goal.extend-requires
-extend-requires g c = c.requires
-
 -- the vector was empty
 module _ (g : _) (c : After-extend g) where
   all_free : g.A.Array.CAPACITY - items_len c.new-vec.result ≡ g.A.Array.CAPACITY
