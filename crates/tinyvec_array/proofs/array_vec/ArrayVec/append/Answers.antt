@@ -1,4 +1,4 @@
-use Rattle.std.proofs.Common.{◌++◌, length, drop, ap, ◌∙◌, arith}
+use Rattle.std.proofs.Common.{◌++◌, length, drop, ap, ◌∙◌}
 use Rattle.tinyvec_slots.specs.Slots.{items, spare}
 use Rattle.tinyvec_array.proofs.DrainEndLemmas.{moved_out}
 use Rattle.tinyvec_array.proofs.array_vec.ArrayVec.append.Goals as goal
