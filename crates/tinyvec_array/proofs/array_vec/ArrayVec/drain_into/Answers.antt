@@ -6,12 +6,6 @@ use Rattle.tinyvec_array.specs.Drain.{DrainKeeps, DrainLeaves, drain_items}
 use Rattle.tinyvec_array.proofs.DrainLemmas.{DrainKeeps-refl, DrainKeeps-then}
 use Rattle.tinyvec_array.proofs.array_vec.ArrayVec.drain_into.Goals as goal
 
-pub drain-x-items-requires-clause-not_exhausted : goal.drain-x-items-requires-clause-not_exhausted
-drain-x-items-requires-clause-not_exhausted g c = c.requires.not_exhausted
-
-pub drain-x-items-requires-clause-in_list : goal.drain-x-items-requires-clause-in_list
-drain-x-items-requires-clause-in_list g c = c.requires.in_list
-
 pub loop-x-init : goal.loop-x-init
 loop-x-init g c = record {
   can = rw c.into_iter-x-iterator.ensures.into_iter_gives c.drain-x-items.ensures.ready;
@@ -20,9 +14,6 @@ loop-x-init g c = record {
   moved = refl;
   room = refl;
 }
-
-pub next-requires : goal.next-requires
-next-requires g c = c.loop-x.invariant.can
 
 pub push_reserved-requires : goal.push_reserved-requires
 push_reserved-requires g c =
@@ -37,9 +28,6 @@ push_reserved-requires g c =
     let kept = inv.room in
     let room = c.requires.room in
     omega arith
-
-pub loop-x-smaller : goal.loop-x-smaller
-loop-x-smaller g c = (c.in-Some.ensures.goes.on tt).2
 
 pub loop-x-preserved : goal.loop-x-preserved
 loop-x-preserved g c =
@@ -90,6 +78,3 @@ returns-clause-moved g c =
     let out = c.loop-x.out.items in
     let begun = ap drain_items c.into_iter-x-iterator.ensures.into_iter_gives ∙ c.drain-x-items.ensures.rest in
     sym (append-nil out) ∙ ap (λ l. out ++ l) (sym c.in-None.ensures.steps.0) ∙ c.loop-x.invariant.moved ∙ ap (λ l. c.args.out.now.items ++ l) begun
-
-pub returns-clause-capacity : goal.returns-clause-capacity
-returns-clause-capacity g c = c.loop-x.invariant.room

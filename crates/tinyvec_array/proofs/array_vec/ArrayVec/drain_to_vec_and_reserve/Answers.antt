@@ -40,9 +40,6 @@ take_all-requires g c =
     let made = c.in_ok-vec.ensures in
     omega (arith, long, made.len, made.exact, c.len-len.ensures.value)
 
-pub set_len-requires : goal.set_len-requires
-set_len-requires g c = omega arith
-
 pub returns : goal.returns
 returns g c =
     let shown = c.as_mut_slice.ensures.value in

@@ -5,9 +5,6 @@ use Rattle.tinyvec_slots.specs.Slots.{spare, items_len}
 use Rattle.tinyvec_array.proofs.array_vec.ArrayVec.from_iter.Goals.{After-extend}
 use Rattle.tinyvec_array.proofs.array_vec.ArrayVec.from_iter.Goals as goal
 
-pub extend-requires : goal.extend-requires
-extend-requires g c = c.requires
-
 -- the vector was empty
 module _ (g : _) (c : After-extend g) where
   all_free : g.A.Array.CAPACITY - items_len c.new-vec.result ≡ g.A.Array.CAPACITY
@@ -17,15 +14,6 @@ pub returns-in-Ok-clause-ran : goal.returns-in-Ok-clause-ran
 returns-in-Ok-clause-ran g c =
     let ran = c.in-Ok.ensures.items.ran in
     (ran.0, ran.1, ran.2, (ran.3, ran.4 ∙ ap (λ l. l ++ ran.1) c.new-vec.ensures.items))
-
-pub returns-in-Ok-clause-full : goal.returns-in-Ok-clause-full
-returns-in-Ok-clause-full g c = tt
-
-pub returns-in-Ok-clause-fits : goal.returns-in-Ok-clause-fits
-returns-in-Ok-clause-fits g c = c.in-Ok.ensures.fits
-
-pub returns-in-Ok-clause-goes_on : goal.returns-in-Ok-clause-goes_on
-returns-in-Ok-clause-goes_on g c = tt
 
 pub returns-in-Ok-clause-known : goal.returns-in-Ok-clause-known
 returns-in-Ok-clause-known g c = λ xs yields le.
@@ -37,15 +25,6 @@ pub returns-in-Err-clause-ran : goal.returns-in-Err-clause-ran
 returns-in-Err-clause-ran g c =
     let ran = c.in-Err.ensures.items.ran in
     (ran.0, ran.1, ran.2, (ran.3, ran.4 ∙ ap (λ l. l ++ ran.1) c.new-vec.ensures.items))
-
-pub returns-in-Err-clause-spare : goal.returns-in-Err-clause-spare
-returns-in-Err-clause-spare g c = tt
-
-pub returns-in-Err-clause-fits : goal.returns-in-Err-clause-fits
-returns-in-Err-clause-fits g c = tt
-
-pub returns-in-Err-clause-goes_on : goal.returns-in-Err-clause-goes_on
-returns-in-Err-clause-goes_on g c = c.in-Err.ensures.goes_on
 
 pub returns-in-Err-clause-known : goal.returns-in-Err-clause-known
 returns-in-Err-clause-known g c = λ xs yields le.
