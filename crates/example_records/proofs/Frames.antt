@@ -31,7 +31,7 @@ too-many input long = elim long [
 
 -- no field is a text
 no-text : (input : List ℕ) → ReadingReason InvalidUtf8 input → ⊥
-no-text input no = elim no [
+no-text input given = elim given [
   | inl none ↦ utf8_is_no_end none.0
   | inr s ↦ elim s.is_rest [
     | inl samples ↦ elim samples [ inl none ↦ none | inr item ↦ utf8_is_no_end item.left.0 ]
@@ -47,7 +47,7 @@ module _ (n : ℕ) (old mid : Option (List ℕ)) (byte : ReadsSpelling (SpellsNu
   pub record-fails : n ≡ tag → (before after : ℕ) (e : BorshError) → Fails ReadingReason mid before after e → MayBe old (StandsBehind (Err (stream_error e)))
   record-fails is before after Ended f = behind-tag n old mid byte tag is IsReadingCut f
   record-fails is before after InvalidLength f = behind-tag n old mid byte tag is HasTooManySamples (maybe-so mid IsReadingTooLong HasTooManySamples too-many f)
-  record-fails is before after InvalidUtf8 f = behind-byte n old mid byte (ReadingReason InvalidUtf8) (StandsBehind (Err stream.WrongTag)) (λ input tail whole no. absurd (no-text tail no)) f
+  record-fails is before after InvalidUtf8 f = behind-byte n old mid byte (ReadingReason InvalidUtf8) (StandsBehind (Err stream.WrongTag)) (λ input tail whole so. absurd (no-text tail so)) f
   record-fails is before after Io f = maybe-any old
   record-fails is before after Memory f = behind-tag n old mid byte tag is (λ rest. Unit {0}) (maybe-any mid)
 

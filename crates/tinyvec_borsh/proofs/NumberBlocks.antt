@@ -26,10 +26,10 @@ next_within i n width within =
     omega (arith, more, one-more i width)
 
 -- a block fits the room
-pub block_within : (count width : ℕ) → count ≤ 256 / width → count * width ≤ 256
-block_within count width few =
-    let most : count * width ≤ 256 / width * width = mul-le-mul_right width few in
-    omega (arith, most, div-mul-le_self 256 width)
+pub block_within : (room count width : ℕ) → count ≤ room / width → count * width ≤ room
+block_within room count width few =
+    let most : count * width ≤ room / width * width = mul-le-mul_right width few in
+    omega (arith, most, div-mul-le_self room width)
 
 pub small_bytes : (bytes : List ℕ) → ((i : ℕ) → get_or bytes i 0 < 256) → AllByRecursion (λ byte. byte < 256) bytes
 small_bytes [] small = tt

@@ -17,6 +17,9 @@ use tinyvec_io::Counted;
 /// So many bytes are read or written at once.
 const ROOM: usize = 256;
 
+/// So many are read at once of a list that takes more than `ROOM`.
+const LONG_ROOM: usize = 1024;
+
 /// A whole number, whose spelling is its bytes, least first.
 pub(crate) trait FixedWidth: Copy {
     /// An array of them.
@@ -67,18 +70,41 @@ pub(crate) trait Number: FixedWidth {
         ensures taken { IfErr result (TakesSome (R.remaining reader.old.inner) (R.remaining reader.new.inner)) }
         ensures faults_grow { reader.old.faults ≤ reader.new.faults }
     {
-        let width = Self::Bytes::CAPACITY;
-        let mut room = [0; ROOM];
-        let mut start = 0;
-        while start < slots.len() {
-            let count = (slots.len() - start).min(ROOM / width);
-            let bytes = &mut room[..count * width];
-            read_bytes(reader, bytes)?;
-            decode(&mut slots[start..start + count], bytes);
-            start += count;
+        if slots.len() <= ROOM / Self::Bytes::CAPACITY {
+            return read_blocks::<Self, R, ROOM>(slots, reader);
         }
-        Ok(())
+        read_blocks::<Self, R, LONG_ROOM>(slots, reader)
     }
+}
+
+// Reads the numbers in blocks of at most `MOST` bytes.
+#[inline(always)]
+fn read_blocks<T: FixedWidth, R: Read, const MOST: usize>(
+    slots: &mut [T],
+    reader: &mut Counted<R>,
+) -> Result<(), BorshError>
+    requires some { 16 ≤ MOST }
+    requires few { MOST ≤ LONG_ROOM }
+    ensures ok { OnOk result (ReadsSpelling (SpellsItems T.form.Spells slots.new)
+        (R.remaining reader.old.inner) (R.remaining reader.new.inner)) }
+    ensures fits { OnOk result (AllByRecursion T.form.Fits slots.new) }
+    ensures err { IfErr result (Fails
+        (AfterItems T.form.Spells T.form.Fits (TooFewBytes (byte_len T.form.width)) (length slots.old))
+        (R.remaining reader.old.inner) reader.old.faults reader.new.faults) }
+    ensures taken { IfErr result (TakesSome (R.remaining reader.old.inner) (R.remaining reader.new.inner)) }
+    ensures faults_grow { reader.old.faults ≤ reader.new.faults }
+{
+    let width = T::Bytes::CAPACITY;
+    let mut room = [0; MOST];
+    let mut start = 0;
+    while start < slots.len() {
+        let count = (slots.len() - start).min(MOST / width);
+        let bytes = &mut room[..count * width];
+        read_bytes(reader, bytes)?;
+        decode(&mut slots[start..start + count], bytes);
+        start += count;
+    }
+    Ok(())
 }
 
 // The number that the bytes spell.

@@ -7,28 +7,28 @@ use Rattle.tinyvec_borsh.specs.Items.{SpellsItems}
 use Rattle.tinyvec_borsh.proofs.Blocks.{take-block, took-block}
 use Rattle.tinyvec_borsh.proofs.NumberBlocks.{block_within, fails-behind-block, fails-numbers}
 use Rattle.tinyvec_borsh.proofs.AtFaults.{some-then}
-use Rattle.tinyvec_borsh.proofs.numbers.number.Number.read_all.Goals as goal
+use Rattle.tinyvec_borsh.proofs.numbers.number.read_blocks.Goals as goal
 
 pub returns-in_err-read_bytes-clause-err : goal.returns-in_err-read_bytes-clause-err
 returns-in_err-read_bytes-clause-err g c =
     let p = err_from_is_err_and c.from_residual.result c.from_residual.ensures.1 in
     let count = c.min-count.result in
-    let fits = block_within count c.CAPACITY-width.result (omega arith) in
-    let many = length-take-le (count * c.CAPACITY-width.result) c.loop-start.room (omega (arith, fits)) ∙ ap (λ width. count * width) (c.CAPACITY-width.ensures ∙ g.met.Self.FixedWidth.sized) in
+    let fits = block_within g.row.MOST count c.CAPACITY-width.result (omega arith) in
+    let many = length-take-le (count * c.CAPACITY-width.result) c.loop-start.room (omega (arith, fits)) ∙ ap (λ width. count * width) (c.CAPACITY-width.ensures ∙ g.met.T.FixedWidth.sized) in
     let before = length-take-le c.loop-start.start c.loop-start.slots (omega arith) in
-    rw (p.1, p.2) (fails-behind-block g.Self.FixedWidth.form.Spells g.Self.FixedWidth.form.Fits _ count (length c.args.slots.now) _ _ _ _ _ _ _ c.loop-start.invariant.read (omega (arith, before)) c.loop-start.invariant.grows
-    (fails-numbers g.Self.FixedWidth.form.Spells g.Self.FixedWidth.form.Fits (byte_len g.Self.FixedWidth.form.width) _ g.Self.FixedWidth.form.read count _ many _ _ _ _ c.in_err-read_bytes.ensures.ended c.in_err-read_bytes.ensures.err))
+    rw (p.1, p.2) (fails-behind-block g.T.FixedWidth.form.Spells g.T.FixedWidth.form.Fits _ count (length c.args.slots.now) _ _ _ _ _ _ _ c.loop-start.invariant.read (omega (arith, before)) c.loop-start.invariant.grows
+    (fails-numbers g.T.FixedWidth.form.Spells g.T.FixedWidth.form.Fits (byte_len g.T.FixedWidth.form.width) _ g.T.FixedWidth.form.read count _ many _ _ _ _ c.in_err-read_bytes.ensures.ended c.in_err-read_bytes.ensures.err))
 
 pub loop-start-preserved : goal.loop-start-preserved
 loop-start-preserved g c =
     let end = c.loop-start.start + c.min-count.result in
     let n = c.min-count.result * c.CAPACITY-width.result in
-    let fits = block_within c.min-count.result c.CAPACITY-width.result (omega arith) in
+    let fits = block_within g.row.MOST c.min-count.result c.CAPACITY-width.result (omega arith) in
     let long = length-take-le n c.loop-start.room (omega (arith, fits)) in
-    let room : length (c.read_bytes.new.buf ++ drop n c.loop-start.room) ≡ 256 = omega (arith, long, fits, c.read_bytes.auto.buf, length-append c.read_bytes.new.buf (drop n c.loop-start.room), length-drop n c.loop-start.room) in
+    let room : length (c.read_bytes.new.buf ++ drop n c.loop-start.room) ≡ g.row.MOST = omega (arith, long, fits, c.read_bytes.auto.buf, length-append c.read_bytes.new.buf (drop n c.loop-start.room), length-drop n c.loop-start.room) in
     let joined = take-block c.loop-start.start end c.loop-start.slots c.decode.new.slots (omega arith) (omega arith) (search rules) in
     record {
-      read = took-block g.Self.FixedWidth.form.Spells g.Self.FixedWidth.form.Fits _ _ _ _ _ _ joined c.loop-start.invariant.read (c.read_bytes.new.buf, c.decode.ensures.spelled, c.in_ok-read_bytes.ensures.ok) c.decode.ensures.fits;
+      read = took-block g.T.FixedWidth.form.Spells g.T.FixedWidth.form.Fits _ _ _ _ _ _ joined c.loop-start.invariant.read (c.read_bytes.new.buf, c.decode.ensures.spelled, c.in_ok-read_bytes.ensures.ok) c.decode.ensures.fits;
       room = room;
       many = search rules;
       within = search rules;
@@ -39,13 +39,16 @@ pub returns-clause-ok : goal.returns-clause-ok
 returns-clause-ok g c =
     let taken = c.loop-start.invariant.read.taken in
     let all = take_all c.loop-start.start c.loop-start.slots (omega arith) in
-    (taken.0, subst (λ xs. SpellsItems g.Self.FixedWidth.form.Spells xs taken.0) all taken.1, taken.2)
+    (taken.0, subst (λ xs. SpellsItems g.T.FixedWidth.form.Spells xs taken.0) all taken.1, taken.2)
 
 pub returns-clause-fits : goal.returns-clause-fits
-returns-clause-fits g c = subst (AllByRecursion g.Self.FixedWidth.form.Fits) (take_all c.loop-start.start c.loop-start.slots (omega arith)) c.loop-start.invariant.read.fit
+returns-clause-fits g c = subst (AllByRecursion g.T.FixedWidth.form.Fits) (take_all c.loop-start.start c.loop-start.slots (omega arith)) c.loop-start.invariant.read.fit
 
 pub returns-in_err-read_bytes-clause-taken : goal.returns-in_err-read_bytes-clause-taken
 returns-in_err-read_bytes-clause-taken g c =
     let p = err_from_is_err_and c.from_residual.result c.from_residual.ensures.1 in
     let before = c.loop-start.invariant.read.taken in
     rw (p.1, p.2) (some-then _ _ _ before.0 _ before.2 c.in_err-read_bytes.ensures.taken)
+
+pub whole_as_front-bytes : goal.whole_as_front-bytes
+whole_as_front-bytes g c = (block_within g.row.MOST c.min-count.result c.CAPACITY-width.result (omega arith), omega (arith, c.requires.few))
