@@ -11,12 +11,12 @@ abbrev pub IsCount : ℕ → List ℕ → Type 0
 IsCount n bytes = SpellsNumber 8 n bytes
 
 module _ {C : Type 0} (Spells : C → List ℕ → Type 0) where
-  -- No item and no byte. Or an item's spelling, and then that of the further items.
+  -- the spellings of the items, one after another
   abbrev pub SpellsItems : List C → List ℕ → Type 0
   SpellsItems [] bytes = bytes ≡ []
   SpellsItems (c ∷ cs) bytes = HasParts (Spells c) (SpellsItems cs) bytes
 
-  -- The input begins with these items, and is so after them.
+  -- The input is these items, and then bytes of which P holds.
   abbrev pub BeginsWithItems : List C → (List ℕ → Type 0) → List ℕ → Type 0
   BeginsWithItems cs P input = HasParts (SpellsItems cs) P input
 
@@ -37,13 +37,13 @@ module _ {C : Type 0} (Spells : C → List ℕ → Type 0) (Fits : C → Type 0)
     pub fit : AllByRecursion Fits items
     pub whole : input ≡ count ++ (bytes ++ tail)
 
-  -- A value with this room has the list.
+  -- The list has at most `room` items, each of which fits.
   pub record ListFits (room : ℕ) (cs : List C) : Type 0 where
     pub few : length cs ≤ room
     pub counted : length cs < 2 ^ 64
     pub items : AllByRecursion Fits cs
 
-  -- The input is so from an item on that is to be read: the one after the room is, too.
+  -- The input is a count, at most `room` items, fewer than the count, and then bytes of which P holds.
   pub record InItem (P : List ℕ → Type 0) (room : ℕ) (input : List ℕ) : Type 0 where
     pub has : HasItems input
     pub open has use *
@@ -77,6 +77,6 @@ module _ {C : Type 0} (Spells : C → List ℕ → Type 0) (Fits : C → Type 0)
   abbrev pub ListReason : (Reason : BorshError → List ℕ → Type 0) (Allocates : List ℕ → Type 0) (room : ℕ) → BorshError → List ℕ → Type 0
   ListReason Reason Allocates room error input = OfList Allocates room error input ⊎ InItem (Reason error) room input
 
--- the count is above this
+-- the count is more than `most`
 abbrev pub CountsAbove : ℕ → List ℕ → Type 0
 CountsAbove most input = (n : ℕ) × (most < n) × HasParts (IsCount n) (λ _. Unit {0}) input

@@ -31,7 +31,7 @@ number_code width some = record {
       sym p.value ∙ ap number_of (sym (append-nil a) ∙ ap (λ l. a ++ l) (sym none)) ∙ q.value;
 }
 
--- If each spelling has so many bytes, an input with fewer is cut, and refused for no other reason.
+-- If each spelling has `width` bytes, an input with fewer is cut, and refused for no other reason.
 pub apart_by_length : {C : Type 0} (width : ℕ) (Spells : C → List ℕ → Type 0) (Fits : C → Type 0) → ((c : C) (bytes : List ℕ) → Spells c bytes → length bytes ≡ width) → AreApart Spells Fits (TooFewBytes width)
 apart_by_length width Spells Fits many = record {
   spelled_or_cut = λ c bytes rest p cut. omega (arith, cut.1, many c bytes p, length-append bytes rest);
@@ -58,7 +58,7 @@ number_spelled (suc width) n below =
     let rest = number_spelled width (n / 256) (omega (arith, below)) in
     (n % 256 ∷ rest.0, record { many = omega (arith, rest.1.many); small = (omega arith, rest.1.small); value = omega (arith, rest.1.value) })
 
--- so many bytes are a number below 256 to that power
+-- `width` bytes are a number below 256 to that power
 pub number-below : (bytes : List ℕ) (width : ℕ) → length bytes ≡ width → AllByRecursion (λ byte. byte < 256) bytes → number_of bytes < 256 ^ width
 number-below [] zero long small = omega arith
 number-below [] (suc width) long small = absurd (omega arith)

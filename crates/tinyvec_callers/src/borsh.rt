@@ -13,7 +13,7 @@ use tinyvec_borsh::{BorshDeserialize, BorshError, BorshSerialize};
 use tinyvec_io::Counted;
 use tinyvec_text::InlineText;
 
-/// Where the input begins with the spelling of a content that fits, a value of that content is read, and what follows
+/// If the input begins with the spelling of a content that fits, a value of that content is read, and what follows
 /// stays unread, faults and want of memory aside.
 pub fn read_back<T: BorshDeserialize, R: Read>(
     alloc: Global,
@@ -86,7 +86,7 @@ pub fn copied_text<const N: usize>(
     copied(alloc, t)
 }
 
-/// Of whole numbers that holds, since they are their own contents.
+/// That holds of whole numbers, since they are their own contents.
 pub fn copied_numbers(
     alloc: Global,
     unsigned: &TinyVec<[u16; 4]>,

@@ -49,14 +49,13 @@ pub record ListSplices {T : Type 0} (capacity : ℕ) (old : List T) (start end :
       → IsSpliceRefused (word_of word) (end - start) (before old (Included start)) (after old (Excluded end))
       replacement new rest × (length new ≡ capacity)
 
--- so an `ArrayVec` was changed
+-- a splice that is driven by the word took an `ArrayVec` from `old` to `new`
 pub record ArraySplices {T : Type 0} (D : T → Type 0) (capacity : ℕ) (old : Slots T) (start end : ℕ) (word : List End)
     (replacement yields rest : List T) (new : Slots T) : Type 0 where
   pub list : ListSplices capacity (items old) start end word replacement yields rest (items new)
   pub slot_rule : SlotRule D old new
 
--- And so a `TinyVec`, which has the room that it has then, and grew as when items are pushed. There is no less than before, so
--- if the old room holds the list nothing is refused.
+-- The same of a `TinyVec`, which grows as when items are pushed. If its old room holds the list, nothing is refused.
 pub record TinySplices {T : Type 0} (D : T → Type 0) (slots : ℕ) (old : TinyView T) (start end : ℕ) (word : List End)
     (replacement yields rest : List T) (new : TinyView T) : Type 0 where
   pub list : ListSplices (view_capacity slots new) old.items start end word replacement yields rest new.items
@@ -111,7 +110,7 @@ module _ {T : Type 0} (capacity : ℕ) (xs : List T) (start end : ℕ) (word : L
       ++ after xs (Excluded end)
       else before xs (Included start) ++ replacement ++ after xs (Excluded end)
 
-  -- these are what was yielded, what was not placed and what the list is
+  -- what the splice yielded, what it did not place, and the new list, as computed
   pub record SpliceComputes (yields rest list : List T) : Type 0 where
     pub yields_are : yields ≡ yields_of
     pub rest_is : rest ≡ rest_of

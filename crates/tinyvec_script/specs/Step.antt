@@ -9,7 +9,7 @@ use Rattle.tinyvec_script.specs.declared.call.Answer.{Answer}
 use Rattle.tinyvec_script.specs.declared.call.Answer.TheVariants as answers
 
 module _ {T : Type 0} (D : T → Type 0) where
-  -- From the old value the call may have this answer, and leave the new value. A refused allocation is a case of its own.
+  -- The call may have this answer, and take `old` to `new`. A refused allocation is a case of its own.
   abbrev pub ArrayStep : ℕ → Slots T → Call T → Answer T → Slots T → Type 0
   ArrayStep capacity old (Push x) answers.Done new = (items_len old < capacity) × (items new ≡ items old ++ x ∷ [])
       × SlotRule D old new

@@ -17,7 +17,7 @@ module _ {T : Type 0} (D : T → Type 0) (slots : ℕ) where
     pub same_room : ViewKeepsRoom slots need old new
     pub grown : G slots need old new
 
-  -- A move to the heap left the list there, with room for no more. A list that lay there stays as it is.
+  -- A move to the heap left the list there, with room for no more. A list on the heap stays as it is.
   pub record Moved (old new : TinyView T) : Type 0 where
     pub items_are : new.items ≡ old.items
     pub place_is : lies_inline new.place ≡ false
@@ -70,8 +70,7 @@ module _ {T : Type 0} (D : T → Type 0) (slots : ℕ) where
   -- no other answer is given
   TinyAnswers old call answer new = ⊥
 
-  -- A step: the call may have this answer, and the list that it leaves fits its place. Otherwise a list could be longer than
-  -- its room, and a push after a pop be refused.
+  -- The call may have this answer, and take `old` to `new`, whose list fits its place.
   pub record TinyStep (old : TinyView T) (call : Call T) (answer : Answer T) (new : TinyView T) : Type 0 where
     pub answered : TinyAnswers old call answer new
     pub fits : view_len new ≤ view_capacity slots new

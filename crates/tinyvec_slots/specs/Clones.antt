@@ -33,7 +33,7 @@ pub record WritesClones {T R E : Type 0} (g : Clone.Ghosts T) (Written : List T 
   pub refused : OnErr r ((j : ℕ) × RefusedAt g.is_infallible xs j × Written (take j xs) j)
   pub succeeds : All g.is_infallible xs → IsOk r
 
--- The same of a call that was to append them to the list `old`, over the spare slots behind it.
+-- A call that was to append clones of xs, over the spare slots behind the list, returned r and took `old` to `new`.
 pub record AddsClones {T R E : Type 0} (g : Clone.Ghosts T) (xs : List T) (r : Result R E) (old new : Slots T) : Type 0 where
   pub items : OnOk r (AppendsClones g.is_clone (list_of old) (list_of new) xs)
   pub len : OnOk r (items_len new ≡ items_len old + length xs)

@@ -24,12 +24,12 @@ push_clones_within-requires g c =
 
 pub returns-in-Inline : goal.returns-in-Inline
 returns-in-Inline g c =
-    let made = c.extend_from_within.ensures in record {
+    let made = c.extend_from_within.ensures.clones in record {
       items = rw c.in-Inline.is made.items;
       spare = rw c.in-Inline.is made.spare;
       place = sym (ap is_inline c.in-Inline.is);
       capacity = rw c.in-Inline.is refl;
-      fits = made.fits;
+      fits = c.extend_from_within.ensures.fits;
       kept = rw c.in-Inline.is made.kept;
       refused = on_err_weaker c.extend_from_within.result (λ h. (h.0, rw c.in-Inline.is h.1, λ _. rw c.in-Inline.is h.2)) made.refused;
       succeeds = rw c.in-Inline.is made.succeeds;

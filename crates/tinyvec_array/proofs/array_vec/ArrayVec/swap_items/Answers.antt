@@ -1,6 +1,6 @@
 use Rattle.std.proofs.Common.{◌≡◌, length, ap, ◌∙◌}
 use Rattle.tinyvec_slots.specs.Slots.{items_len}
-use Rattle.tinyvec_slots.proofs.SlotsLemmas.{items-with_items, spare-with_items}
+use Rattle.tinyvec_slots.proofs.SlotsLemmas.{items-with_items}
 use Rattle.tinyvec_array.proofs.array_vec.ArrayVec.swap_items.Goals as goal
 
 pub returns-clause-swapped : goal.returns-clause-swapped
@@ -9,17 +9,3 @@ returns-clause-swapped g c =
     let ws = c.swap.new.self in
     let long : length ws ≡ items_len old = c.swap.ensures.len ∙ ap length c.as_mut_slice.ensures.value in
     rw (items-with_items old ws long, ← c.as_mut_slice.ensures.value) c.swap.ensures.by_index
-
-pub returns-clause-len : goal.returns-clause-len
-returns-clause-len g c =
-    let old = c.args.self.now in
-    let ws = c.swap.new.self in
-    let long : length ws ≡ items_len old = c.swap.ensures.len ∙ ap length c.as_mut_slice.ensures.value in
-    ap length (items-with_items old ws long) ∙ long
-
-pub returns-clause-spare : goal.returns-clause-spare
-returns-clause-spare g c =
-    let old = c.args.self.now in
-    let ws = c.swap.new.self in
-    let long : length ws ≡ items_len old = c.swap.ensures.len ∙ ap length c.as_mut_slice.ensures.value in
-    spare-with_items old ws long
