@@ -1,7 +1,6 @@
 -- Examples of the Borsh form, of contents that are bytes: each spells itself, and an input without a byte is cut.
 use Rattle.std.proofs.Common.{◌≡◌, ℕ, ◌<◌, List, [], ◌∷◌, Some, None, inl, refl, rules, arith}
-use Rattle.std.specs.Prelude.{false, true}
-use Rattle.std.proofs.lemmas.Str.{is_utf8-from_IsUtf8}
+use Rattle.std.specs.Prelude.{IsUtf8}
 use Rattle.tinyvec_borsh.specs.Items.{SpellsItems, SpellsList, ListFits, AfterItems, ListReason, CountsAbove}
 use Rattle.tinyvec_borsh.specs.Reading.{ReadsSpelling, TakesSome, Fails, LeavesRest}
 use Rattle.tinyvec_borsh.specs.Writing.{WritesSpelling, AddsFront}
@@ -75,10 +74,11 @@ example-SpellsText = record {
 }
 
 pub example-TextFits : TextFits (104 ∷ [])
-example-TextFits = (search rules, (104 ∷ [], refl, refl))
+unfolding lib.Utf8.encode
+example-TextFits = (search rules, (104 ∷ [], (refl, refl)))
 
-pub example-AreNoText : AreNoText (255 ∷ [])
-example-AreNoText = (search rules, λ utf8. let is : false ≡ true = is_utf8-from_IsUtf8 (255 ∷ []) utf8 in cc)
+pub example-AreNoText : (IsUtf8 (255 ∷ []) → ⊥) → AreNoText (255 ∷ [])
+example-AreNoText other = (search rules, other)
 
 pub example-TextReason : TextReason 4 Ended (1 ∷ 0 ∷ [])
 example-TextReason = inl (omega arith)
