@@ -443,7 +443,11 @@ fn iterated<T: Item, A: Array<Item = T>>(
     for step in steps {
         match *step {
             "last" => return say(out, &it.last()),
-            "count" => return say(out, &it.count()),
+            "count" => {
+                // Shows the proof that the count fits.
+                let _left = it.len();
+                return say(out, &it.count());
+            }
             step => stepped(&mut it, step, out)?,
         }
     }
