@@ -385,31 +385,20 @@ fn iterated<T: Item, A: Array<Item = T>>(
 ) -> Result<(), Wrong> {
     for step in steps {
         match *step {
+            "next" => say(out, &it.next())?,
+            "back" => say(out, &it.next_back())?,
+            "left" => say_left(out, &it)?,
+            "debug" => say(out, &it)?,
+            "slice" => say_slots(out, it.as_slice(), &[])?,
+            "clone" => say(out, &it.clone()?)?,
             "last" => return say(out, &it.last()),
             "count" => return say(out, &it.count()),
-            step => stepped(&mut it, step, out)?,
+            step => match counted(step)? {
+                ("nth", count) => say(out, &it.nth(count))?,
+                ("nth_back", count) => say(out, &it.nth_back(count))?,
+                _ => return Err(Wrong::Value),
+            },
         }
     }
     Ok(())
-}
-
-// One step, after which there may be others.
-fn stepped<T: Item, A: Array<Item = T>>(
-    it: &mut TinyVecIterator<A>,
-    step: &str,
-    out: &mut String,
-) -> Result<(), Wrong> {
-    match step {
-        "next" => say(out, &it.next()),
-        "back" => say(out, &it.next_back()),
-        "left" => say_left(out, &*it),
-        "debug" => say(out, &*it),
-        "slice" => say_slots(out, it.as_slice(), &[]),
-        "clone" => say(out, &(*it).clone()?),
-        step => match counted(step)? {
-            ("nth", count) => say(out, &it.nth(count)),
-            ("nth_back", count) => say(out, &it.nth_back(count)),
-            _ => Err(Wrong::Value),
-        },
-    }
 }
