@@ -29,60 +29,24 @@ fn answer_array(
     calls: &str,
     out: &mut String,
 ) -> Result<(), Wrong> {
-    let (item, count) = held.split_once(';').unwrap_or((held, ""));
-    match item {
-        "[i32" => numbers_in_array(count, words, calls, out),
-        "[u8" => bytes_in_array(count, words, calls, out),
-        _ => others_in_array(held, words, calls, out),
-    }
-}
-
-fn numbers_in_array(
-    count: &str,
-    words: &mut Words<'_>,
-    calls: &str,
-    out: &mut String,
-) -> Result<(), Wrong> {
-    match count {
-        "0]" => of_array::<i32, [i32; 0]>(words, calls, out),
-        "1]" => of_array::<i32, [i32; 1]>(words, calls, out),
-        "2]" => of_array::<i32, [i32; 2]>(words, calls, out),
-        "3]" => of_array::<i32, [i32; 3]>(words, calls, out),
-        "4]" => of_array::<i32, [i32; 4]>(words, calls, out),
-        "5]" => of_array::<i32, [i32; 5]>(words, calls, out),
-        "6]" => of_array::<i32, [i32; 6]>(words, calls, out),
-        "7]" => of_array::<i32, [i32; 7]>(words, calls, out),
-        "8]" => of_array::<i32, [i32; 8]>(words, calls, out),
-        "10]" => of_array::<i32, [i32; 10]>(words, calls, out),
-        _ => Err(Wrong::Vector),
-    }
-}
-
-fn bytes_in_array(
-    count: &str,
-    words: &mut Words<'_>,
-    calls: &str,
-    out: &mut String,
-) -> Result<(), Wrong> {
-    match count {
-        "0]" => of_array::<u8, [u8; 0]>(words, calls, out),
-        "3]" => of_array::<u8, [u8; 3]>(words, calls, out),
-        "4]" => of_array::<u8, [u8; 4]>(words, calls, out),
-        "5]" => of_array::<u8, [u8; 5]>(words, calls, out),
-        "6]" => of_array::<u8, [u8; 6]>(words, calls, out),
-        "10]" => of_array::<u8, [u8; 10]>(words, calls, out),
-        "100]" => of_array::<u8, [u8; 100]>(words, calls, out),
-        _ => Err(Wrong::Vector),
-    }
-}
-
-fn others_in_array(
-    held: &str,
-    words: &mut Words<'_>,
-    calls: &str,
-    out: &mut String,
-) -> Result<(), Wrong> {
     match held {
+        "[i32;0]" => of_array::<i32, [i32; 0]>(words, calls, out),
+        "[i32;1]" => of_array::<i32, [i32; 1]>(words, calls, out),
+        "[i32;2]" => of_array::<i32, [i32; 2]>(words, calls, out),
+        "[i32;3]" => of_array::<i32, [i32; 3]>(words, calls, out),
+        "[i32;4]" => of_array::<i32, [i32; 4]>(words, calls, out),
+        "[i32;5]" => of_array::<i32, [i32; 5]>(words, calls, out),
+        "[i32;6]" => of_array::<i32, [i32; 6]>(words, calls, out),
+        "[i32;7]" => of_array::<i32, [i32; 7]>(words, calls, out),
+        "[i32;8]" => of_array::<i32, [i32; 8]>(words, calls, out),
+        "[i32;10]" => of_array::<i32, [i32; 10]>(words, calls, out),
+        "[u8;0]" => of_array::<u8, [u8; 0]>(words, calls, out),
+        "[u8;3]" => of_array::<u8, [u8; 3]>(words, calls, out),
+        "[u8;4]" => of_array::<u8, [u8; 4]>(words, calls, out),
+        "[u8;5]" => of_array::<u8, [u8; 5]>(words, calls, out),
+        "[u8;6]" => of_array::<u8, [u8; 6]>(words, calls, out),
+        "[u8;10]" => of_array::<u8, [u8; 10]>(words, calls, out),
+        "[u8;100]" => of_array::<u8, [u8; 100]>(words, calls, out),
         "[();4]" => of_array::<(), [(); 4]>(words, calls, out),
         "[Box;4]" => of_array::<Boxed, [Boxed; 4]>(words, calls, out),
         "[Box;21]" => of_array::<Boxed, [Boxed; 21]>(words, calls, out),
@@ -140,22 +104,6 @@ macro_rules! lend {
     }};
 }
 
-fn lend_numbers(words: &mut Words<'_>, calls: &str, out: &mut String) -> Result<(), Wrong> {
-    lend!(i32, words, calls, out)
-}
-
-fn lend_bytes(words: &mut Words<'_>, calls: &str, out: &mut String) -> Result<(), Wrong> {
-    lend!(u8, words, calls, out)
-}
-
-fn lend_units(words: &mut Words<'_>, calls: &str, out: &mut String) -> Result<(), Wrong> {
-    lend!((), words, calls, out)
-}
-
-fn lend_boxes(words: &mut Words<'_>, calls: &str, out: &mut String) -> Result<(), Wrong> {
-    lend!(Boxed, words, calls, out)
-}
-
 fn answer_slice(
     held: &str,
     words: &mut Words<'_>,
@@ -163,21 +111,19 @@ fn answer_slice(
     out: &mut String,
 ) -> Result<(), Wrong> {
     match held {
-        "i32" => lend_numbers(words, calls, out),
-        "u8" => lend_bytes(words, calls, out),
-        "()" => lend_units(words, calls, out),
-        "Box" => lend_boxes(words, calls, out),
-        "f64" => compared_slice(words, calls, out),
+        "i32" => lend!(i32, words, calls, out),
+        "u8" => lend!(u8, words, calls, out),
+        "()" => lend!((), words, calls, out),
+        "Box" => lend!(Boxed, words, calls, out),
+        "f64" => {
+            let (mut one, len) = lent::<f64>(words)?;
+            let (mut two, other_len, _) = lent_after_and::<f64>(words)?;
+            let v = SliceVec::from_slice_at_most(one.as_mut_slice(), len);
+            let w = SliceVec::from_slice_at_most(two.as_mut_slice(), other_len);
+            compare::answer(words.alloc, &v, &w, calls, out)
+        }
         _ => Err(Wrong::Vector),
     }
-}
-
-fn compared_slice(words: &mut Words<'_>, calls: &str, out: &mut String) -> Result<(), Wrong> {
-    let (mut one, len) = lent::<f64>(words)?;
-    let (mut two, other_len, _) = lent_after_and::<f64>(words)?;
-    let v = SliceVec::from_slice_at_most(one.as_mut_slice(), len);
-    let w = SliceVec::from_slice_at_most(two.as_mut_slice(), other_len);
-    compare::answer(words.alloc, &v, &w, calls, out)
 }
 
 fn answer_tiny(
@@ -186,59 +132,23 @@ fn answer_tiny(
     calls: &str,
     out: &mut String,
 ) -> Result<(), Wrong> {
-    let (item, count) = held.split_once(';').unwrap_or((held, ""));
-    match item {
-        "[i32" => numbers_in_tiny(count, words, calls, out),
-        "[u8" => bytes_in_tiny(count, words, calls, out),
-        _ => others_in_tiny(held, words, calls, out),
-    }
-}
-
-fn numbers_in_tiny(
-    count: &str,
-    words: &mut Words<'_>,
-    calls: &str,
-    out: &mut String,
-) -> Result<(), Wrong> {
-    match count {
-        "0]" => of_tiny::<i32, [i32; 0]>(words, calls, out),
-        "1]" => of_tiny::<i32, [i32; 1]>(words, calls, out),
-        "2]" => of_tiny::<i32, [i32; 2]>(words, calls, out),
-        "3]" => of_tiny::<i32, [i32; 3]>(words, calls, out),
-        "4]" => of_tiny::<i32, [i32; 4]>(words, calls, out),
-        "5]" => of_tiny::<i32, [i32; 5]>(words, calls, out),
-        "8]" => of_tiny::<i32, [i32; 8]>(words, calls, out),
-        "10]" => of_tiny::<i32, [i32; 10]>(words, calls, out),
-        "70]" => of_tiny::<i32, [i32; 70]>(words, calls, out),
-        _ => Err(Wrong::Vector),
-    }
-}
-
-fn bytes_in_tiny(
-    count: &str,
-    words: &mut Words<'_>,
-    calls: &str,
-    out: &mut String,
-) -> Result<(), Wrong> {
-    match count {
-        "0]" => of_tiny::<u8, [u8; 0]>(words, calls, out),
-        "2]" => of_tiny::<u8, [u8; 2]>(words, calls, out),
-        "3]" => of_tiny::<u8, [u8; 3]>(words, calls, out),
-        "4]" => of_tiny::<u8, [u8; 4]>(words, calls, out),
-        "5]" => of_tiny::<u8, [u8; 5]>(words, calls, out),
-        "6]" => of_tiny::<u8, [u8; 6]>(words, calls, out),
-        "10]" => of_tiny::<u8, [u8; 10]>(words, calls, out),
-        _ => Err(Wrong::Vector),
-    }
-}
-
-fn others_in_tiny(
-    held: &str,
-    words: &mut Words<'_>,
-    calls: &str,
-    out: &mut String,
-) -> Result<(), Wrong> {
     match held {
+        "[i32;0]" => of_tiny::<i32, [i32; 0]>(words, calls, out),
+        "[i32;1]" => of_tiny::<i32, [i32; 1]>(words, calls, out),
+        "[i32;2]" => of_tiny::<i32, [i32; 2]>(words, calls, out),
+        "[i32;3]" => of_tiny::<i32, [i32; 3]>(words, calls, out),
+        "[i32;4]" => of_tiny::<i32, [i32; 4]>(words, calls, out),
+        "[i32;5]" => of_tiny::<i32, [i32; 5]>(words, calls, out),
+        "[i32;8]" => of_tiny::<i32, [i32; 8]>(words, calls, out),
+        "[i32;10]" => of_tiny::<i32, [i32; 10]>(words, calls, out),
+        "[i32;70]" => of_tiny::<i32, [i32; 70]>(words, calls, out),
+        "[u8;0]" => of_tiny::<u8, [u8; 0]>(words, calls, out),
+        "[u8;2]" => of_tiny::<u8, [u8; 2]>(words, calls, out),
+        "[u8;3]" => of_tiny::<u8, [u8; 3]>(words, calls, out),
+        "[u8;4]" => of_tiny::<u8, [u8; 4]>(words, calls, out),
+        "[u8;5]" => of_tiny::<u8, [u8; 5]>(words, calls, out),
+        "[u8;6]" => of_tiny::<u8, [u8; 6]>(words, calls, out),
+        "[u8;10]" => of_tiny::<u8, [u8; 10]>(words, calls, out),
         "[();2]" => of_tiny::<(), [(); 2]>(words, calls, out),
         "[Box;4]" => of_tiny::<Boxed, [Boxed; 4]>(words, calls, out),
         "[Box;21]" => of_tiny::<Boxed, [Boxed; 21]>(words, calls, out),
