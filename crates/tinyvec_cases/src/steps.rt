@@ -14,11 +14,24 @@ where
     for step in steps {
         match *step {
             "last" => return say(out, &it.last()),
-            "count" => return say(out, &it.count()),
+            "count" => return say_count(it, out),
             step => iterate(&mut it, step, out)?,
         }
     }
     Ok(())
+}
+
+// Writes by `count` how many items are left, if `len` says so too.
+fn say_count<V: OwnsItems>(it: OwnedItems<V>, out: &mut String) -> Result<(), Wrong>
+where
+    V::Item: Item,
+{
+    let len = it.len();
+    let count = it.count();
+    if count != len {
+        return Err(Wrong::Value);
+    }
+    say(out, &count)
 }
 
 fn iterate<V: OwnsItems>(it: &mut OwnedItems<V>, step: &str, out: &mut String) -> Result<(), Wrong>
