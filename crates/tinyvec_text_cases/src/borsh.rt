@@ -63,6 +63,18 @@ pub(crate) fn put(
 }
 
 fn answer(name: &str, case: &mut Case<'_, '_>) -> Result<(), Wrong> {
+    if name.contains(">;") {
+        return nested(name, case);
+    }
+    match name.split_once('<') {
+        Some(("ArrayVec", _)) => array(name, case),
+        Some(("TinyVec", _)) => tiny(name, case),
+        Some(_) => text(name, case),
+        None => number(name, case),
+    }
+}
+
+fn number(name: &str, case: &mut Case<'_, '_>) -> Result<(), Wrong> {
     match name {
         "u8" => of_number::<u8>(case),
         "i8" => of_number::<i8>(case),
@@ -74,63 +86,108 @@ fn answer(name: &str, case: &mut Case<'_, '_>) -> Result<(), Wrong> {
         "i64" => of_number::<i64>(case),
         "u128" => of_number::<u128>(case),
         "i128" => of_number::<i128>(case),
-        "InlineText<0>" => of_text::<0>(case),
-        "InlineText<4>" => of_text::<4>(case),
-        "ArrayVec<[u8;0]>" => of_array::<[u8; 0]>(numbers(case.alloc, case.word)?, case),
-        "ArrayVec<[u8;1]>" => of_array::<[u8; 1]>(numbers(case.alloc, case.word)?, case),
-        "ArrayVec<[u8;2]>" => of_array::<[u8; 2]>(numbers(case.alloc, case.word)?, case),
-        "ArrayVec<[u8;4]>" => of_array::<[u8; 4]>(numbers(case.alloc, case.word)?, case),
-        "ArrayVec<[u8;64]>" => of_array::<[u8; 64]>(numbers(case.alloc, case.word)?, case),
-        "ArrayVec<[u8;5000]>" => of_array::<[u8; 5000]>(numbers(case.alloc, case.word)?, case),
-        "ArrayVec<[u8;65536]>" => of_array::<[u8; 65536]>(numbers(case.alloc, case.word)?, case),
-        "ArrayVec<[i8;65]>" => of_array::<[i8; 65]>(numbers(case.alloc, case.word)?, case),
-        "ArrayVec<[i16;2]>" => of_array::<[i16; 2]>(numbers(case.alloc, case.word)?, case),
-        "ArrayVec<[i16;129]>" => of_array::<[i16; 129]>(numbers(case.alloc, case.word)?, case),
-        "ArrayVec<[i32;0]>" => of_array::<[i32; 0]>(numbers(case.alloc, case.word)?, case),
-        "ArrayVec<[i32;4]>" => of_array::<[i32; 4]>(numbers(case.alloc, case.word)?, case),
-        "ArrayVec<[u32;64]>" => of_array::<[u32; 64]>(numbers(case.alloc, case.word)?, case),
-        "ArrayVec<[u32;65]>" => of_array::<[u32; 65]>(numbers(case.alloc, case.word)?, case),
-        "TinyVec<[u8;0]>" => of_tiny::<[u8; 0]>(numbers(case.alloc, case.word)?, case),
-        "TinyVec<[u8;1]>" => of_tiny::<[u8; 1]>(numbers(case.alloc, case.word)?, case),
-        "TinyVec<[u8;2]>" => of_tiny::<[u8; 2]>(numbers(case.alloc, case.word)?, case),
-        "TinyVec<[u8;3]>" => of_tiny::<[u8; 3]>(numbers(case.alloc, case.word)?, case),
-        "TinyVec<[u8;4]>" => of_tiny::<[u8; 4]>(numbers(case.alloc, case.word)?, case),
-        "TinyVec<[u8;64]>" => of_tiny::<[u8; 64]>(numbers(case.alloc, case.word)?, case),
-        "TinyVec<[u8;1100]>" => of_tiny::<[u8; 1100]>(numbers(case.alloc, case.word)?, case),
-        "TinyVec<[i16;4]>" => of_tiny::<[i16; 4]>(numbers(case.alloc, case.word)?, case),
-        "TinyVec<[i32;0]>" => of_tiny::<[i32; 0]>(numbers(case.alloc, case.word)?, case),
-        "TinyVec<[i32;1]>" => of_tiny::<[i32; 1]>(numbers(case.alloc, case.word)?, case),
-        "TinyVec<[i32;4]>" => of_tiny::<[i32; 4]>(numbers(case.alloc, case.word)?, case),
-        "TinyVec<[u32;2]>" => of_tiny::<[u32; 2]>(numbers(case.alloc, case.word)?, case),
-        "TinyVec<[u32;4]>" => of_tiny::<[u32; 4]>(numbers(case.alloc, case.word)?, case),
-        "TinyVec<[i128;4]>" => of_tiny::<[i128; 4]>(numbers(case.alloc, case.word)?, case),
-        "TinyVec<[i128;33]>" => of_tiny::<[i128; 33]>(numbers(case.alloc, case.word)?, case),
-        "ArrayVec<[ArrayVec<[u8;1]>;1]>" => of_array::<[ArrayVec<[u8; 1]>; 1]>(
-            lists(case.alloc, case.word)?,
-            case,
-        ),
-        "ArrayVec<[ArrayVec<[u8;2]>;2]>" => of_array::<[ArrayVec<[u8; 2]>; 2]>(
-            lists(case.alloc, case.word)?,
-            case,
-        ),
-        "TinyVec<[ArrayVec<[u8;2]>;1]>" => of_tiny::<[ArrayVec<[u8; 2]>; 1]>(
-            lists(case.alloc, case.word)?,
-            case,
-        ),
-        "TinyVec<[ArrayVec<[u8;2]>;2]>" => of_tiny::<[ArrayVec<[u8; 2]>; 2]>(
-            lists(case.alloc, case.word)?,
-            case,
-        ),
-        "TinyVec<[ArrayVec<[u8;2040]>;3]>" => of_tiny::<[ArrayVec<[u8; 2040]>; 3]>(
-            lists(case.alloc, case.word)?,
-            case,
-        ),
-        "TinyVec<[ArrayVec<[u8;65536]>;1]>" => of_tiny::<[ArrayVec<[u8; 65536]>; 1]>(
-            lists(case.alloc, case.word)?,
-            case,
-        ),
         _ => Err(Wrong::Value),
     }
+}
+
+fn text(name: &str, case: &mut Case<'_, '_>) -> Result<(), Wrong> {
+    match name {
+        "InlineText<0>" => of_text::<0>(case),
+        "InlineText<4>" => of_text::<4>(case),
+        _ => Err(Wrong::Value),
+    }
+}
+
+fn array(name: &str, case: &mut Case<'_, '_>) -> Result<(), Wrong> {
+    match name {
+        "ArrayVec<[u8;0]>" => in_array::<[u8; 0]>(case),
+        "ArrayVec<[u8;1]>" => in_array::<[u8; 1]>(case),
+        "ArrayVec<[u8;2]>" => in_array::<[u8; 2]>(case),
+        "ArrayVec<[u8;4]>" => in_array::<[u8; 4]>(case),
+        "ArrayVec<[u8;64]>" => in_array::<[u8; 64]>(case),
+        "ArrayVec<[u8;5000]>" => in_array::<[u8; 5000]>(case),
+        "ArrayVec<[u8;65536]>" => in_array::<[u8; 65536]>(case),
+        "ArrayVec<[i8;65]>" => in_array::<[i8; 65]>(case),
+        "ArrayVec<[i16;2]>" => in_array::<[i16; 2]>(case),
+        "ArrayVec<[i16;129]>" => in_array::<[i16; 129]>(case),
+        "ArrayVec<[i32;0]>" => in_array::<[i32; 0]>(case),
+        "ArrayVec<[i32;4]>" => in_array::<[i32; 4]>(case),
+        "ArrayVec<[u32;64]>" => in_array::<[u32; 64]>(case),
+        "ArrayVec<[u32;65]>" => in_array::<[u32; 65]>(case),
+        _ => Err(Wrong::Value),
+    }
+}
+
+fn tiny(name: &str, case: &mut Case<'_, '_>) -> Result<(), Wrong> {
+    match name {
+        "TinyVec<[u8;0]>" => in_tiny::<[u8; 0]>(case),
+        "TinyVec<[u8;1]>" => in_tiny::<[u8; 1]>(case),
+        "TinyVec<[u8;2]>" => in_tiny::<[u8; 2]>(case),
+        "TinyVec<[u8;3]>" => in_tiny::<[u8; 3]>(case),
+        "TinyVec<[u8;4]>" => in_tiny::<[u8; 4]>(case),
+        "TinyVec<[u8;64]>" => in_tiny::<[u8; 64]>(case),
+        "TinyVec<[u8;1100]>" => in_tiny::<[u8; 1100]>(case),
+        "TinyVec<[i16;4]>" => in_tiny::<[i16; 4]>(case),
+        "TinyVec<[i32;0]>" => in_tiny::<[i32; 0]>(case),
+        "TinyVec<[i32;1]>" => in_tiny::<[i32; 1]>(case),
+        "TinyVec<[i32;4]>" => in_tiny::<[i32; 4]>(case),
+        "TinyVec<[u32;2]>" => in_tiny::<[u32; 2]>(case),
+        "TinyVec<[u32;4]>" => in_tiny::<[u32; 4]>(case),
+        "TinyVec<[i128;4]>" => in_tiny::<[i128; 4]>(case),
+        "TinyVec<[i128;33]>" => in_tiny::<[i128; 33]>(case),
+        _ => Err(Wrong::Value),
+    }
+}
+
+// Lists of lists.
+fn nested(name: &str, case: &mut Case<'_, '_>) -> Result<(), Wrong> {
+    match name {
+        "ArrayVec<[ArrayVec<[u8;1]>;1]>" => nested_in_array::<[u8; 1], [ArrayVec<[u8; 1]>; 1]>(
+            case,
+        ),
+        "ArrayVec<[ArrayVec<[u8;2]>;2]>" => nested_in_array::<[u8; 2], [ArrayVec<[u8; 2]>; 2]>(
+            case,
+        ),
+        "TinyVec<[ArrayVec<[u8;2]>;1]>" => nested_in_tiny::<[u8; 2], [ArrayVec<[u8; 2]>; 1]>(case),
+        "TinyVec<[ArrayVec<[u8;2]>;2]>" => nested_in_tiny::<[u8; 2], [ArrayVec<[u8; 2]>; 2]>(case),
+        "TinyVec<[ArrayVec<[u8;2040]>;3]>" => nested_in_tiny::<
+            [u8; 2040],
+            [ArrayVec<[u8; 2040]>; 3],
+        >(case),
+        "TinyVec<[ArrayVec<[u8;65536]>;1]>" => nested_in_tiny::<
+            [u8; 65536],
+            [ArrayVec<[u8; 65536]>; 1],
+        >(case),
+        _ => Err(Wrong::Value),
+    }
+}
+
+fn nested_in_array<B: Array<Item = u8>, A: Array<Item = ArrayVec<B>>>(
+    case: &mut Case<'_, '_>,
+) -> Result<(), Wrong> {
+    of_array::<A>(lists(case.alloc, case.word)?, case)
+}
+
+fn nested_in_tiny<B: Array<Item = u8>, A: Array<Item = ArrayVec<B>>>(
+    case: &mut Case<'_, '_>,
+) -> Result<(), Wrong> {
+    of_tiny::<A>(lists(case.alloc, case.word)?, case)
+}
+
+fn in_array<A: Array>(case: &mut Case<'_, '_>) -> Result<(), Wrong>
+where
+    A::Item: BorshSerialize + BorshDeserialize + FromStr + Display,
+    <A::Item as FromStr>::Err: Drop,
+{
+    of_array::<A>(numbers(case.alloc, case.word)?, case)
+}
+
+fn in_tiny<A: Array>(case: &mut Case<'_, '_>) -> Result<(), Wrong>
+where
+    A::Item: BorshSerialize + BorshDeserialize + FromStr + Display,
+    <A::Item as FromStr>::Err: Drop,
+{
+    of_tiny::<A>(numbers(case.alloc, case.word)?, case)
 }
 
 fn of_number<T: BorshSerialize + BorshDeserialize + FromStr + Default + Display + Drop>(
@@ -140,7 +197,7 @@ where
     T::Err: Drop,
 {
     if case.is_put {
-        return write_value(case, &number::<T>(case.word));
+        return write_value(case, &parsed::<T>(case.word));
     }
     match read_value::<T>(case.alloc, case.refused, case.streams) {
         Ok(value) => write!(case.out, "{value}")?,
@@ -237,7 +294,7 @@ fn write_value<T: BorshSerialize>(case: &mut Case<'_, '_>, value: &T) -> Result<
     Ok(())
 }
 
-fn number<T: FromStr + Default + Drop>(word: &str) -> T
+fn parsed<T: FromStr + Default + Drop>(word: &str) -> T
 where
     T::Err: Drop,
 {
@@ -252,7 +309,7 @@ where
     let mut items = Vec::new(alloc);
     for part in inner(word).split(',') {
         if !part.is_empty() {
-            items.push(number::<T>(part))?;
+            items.push(parsed::<T>(part))?;
         }
     }
     Ok(items)

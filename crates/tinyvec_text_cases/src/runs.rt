@@ -19,33 +19,39 @@ pub(crate) fn in_array<A: Array<Item = i32>>(
     let _rest = v.fill(list.iter().chain(spare.iter()).copied());
     v.set_len(list.len().min(v.capacity()));
     for call in calls.split('\t') {
-        let (refused, mut words) = window::read(alloc, call)?;
-        match splice(v.len(), &mut words)? {
-            Some(
-                Driving {
-                    start,
-                    end,
-                    ends,
-                    items,
-                },
-            ) => {
-                window::open(alloc, refused);
-                let driven = drive_array_splice(alloc, &mut v, start, end, items, ends.as_slice());
-                window::close(alloc);
-                say(out, &driven)?;
-            }
-            None => {
-                let calls = read_calls(&mut words)?;
-                window::open(alloc, refused);
-                let answers = run_array(alloc, &mut v, calls);
-                window::close(alloc);
-                say(out, &answers)?;
-            }
-        }
+        call_array(&mut v, call, out)?;
         say_slots(out, v.as_slice(), v.grab_spare_slice())?;
         out.push('\t')?;
     }
     Ok(())
+}
+
+fn call_array<A: Array<Item = i32>>(
+    v: &mut ArrayVec<A>,
+    call: &str,
+    out: &mut String,
+) -> Result<(), Wrong> {
+    let alloc = *out.allocator();
+    let (refused, mut words) = window::read(alloc, call)?;
+    if let Some(
+        Driving {
+            start,
+            end,
+            ends,
+            items,
+        },
+    ) = splice(v.len(), &mut words)?
+    {
+        window::open(alloc, refused);
+        let driven = drive_array_splice(alloc, v, start, end, items, ends.as_slice());
+        window::close(alloc);
+        return say(out, &driven);
+    }
+    let calls = read_calls(&mut words)?;
+    window::open(alloc, refused);
+    let answers = run_array(alloc, v, calls);
+    window::close(alloc);
+    say(out, &answers)
 }
 
 /// The same of a `TinyVec`, made of a list.
@@ -57,39 +63,49 @@ pub(crate) fn in_tiny<A: Array<Item = i32>>(
     let (alloc, list) = (words.alloc, words.items::<i32>()?);
     let mut v = TinyVec::<A>::from_slice(alloc, list.as_slice())?;
     for call in calls.split('\t') {
-        let (refused, mut words) = window::read(alloc, call)?;
-        match splice(v.len(), &mut words)? {
-            Some(
-                Driving {
-                    start,
-                    end,
-                    ends,
-                    items,
-                },
-            ) => {
-                window::open(alloc, refused);
-                let driven = drive_tiny_splice(alloc, &mut v, start, end, items, ends.as_slice());
-                window::close(alloc);
-                say(out, &driven)?;
-            }
-            None => {
-                let calls = read_calls(&mut words)?;
-                window::open(alloc, refused);
-                let answers = run_tiny(alloc, &mut v, calls);
-                window::close(alloc);
-                say(out, &answers)?;
-            }
-        }
-        let room = v.capacity();
-        if v.is_inline() {
-            out.push_str("inline ")?;
-        } else {
-            write!(out, "heap {room} ")?;
-        }
-        say(out, &v.as_slice())?;
+        call_tiny(&mut v, call, out)?;
+        say_tiny(&v, out)?;
         out.push('\t')?;
     }
     Ok(())
+}
+
+fn call_tiny<A: Array<Item = i32>>(
+    v: &mut TinyVec<A>,
+    call: &str,
+    out: &mut String,
+) -> Result<(), Wrong> {
+    let alloc = *out.allocator();
+    let (refused, mut words) = window::read(alloc, call)?;
+    if let Some(
+        Driving {
+            start,
+            end,
+            ends,
+            items,
+        },
+    ) = splice(v.len(), &mut words)?
+    {
+        window::open(alloc, refused);
+        let driven = drive_tiny_splice(alloc, v, start, end, items, ends.as_slice());
+        window::close(alloc);
+        return say(out, &driven);
+    }
+    let calls = read_calls(&mut words)?;
+    window::open(alloc, refused);
+    let answers = run_tiny(alloc, v, calls);
+    window::close(alloc);
+    say(out, &answers)
+}
+
+fn say_tiny<A: Array<Item = i32>>(v: &TinyVec<A>, out: &mut String) -> Result<(), Wrong> {
+    let room = v.capacity();
+    if v.is_inline() {
+        out.push_str("inline ")?;
+    } else {
+        write!(out, "heap {room} ")?;
+    }
+    say(out, &v.as_slice())
 }
 
 /// Answers `run` and calls of a vector over slots.
@@ -162,25 +178,39 @@ fn read_ends(words: &mut Words<'_>) -> Result<Vec<End>, Wrong> {
 fn read_calls(words: &mut Words<'_>) -> Result<Vec<Call<i32>>, Wrong> {
     let mut calls = Vec::new(words.alloc);
     for _call in 0..words.rest()?.len() {
-        let call = match words.word() {
-            "push" => Call::Push(words.number()?),
-            "pop" => Call::Pop,
-            "insert" => Call::Insert(words.index()?, words.number()?),
-            "remove" => Call::Remove(words.index()?),
-            "swap" => Call::SwapRemove(words.index()?),
-            "truncate" => Call::Truncate(words.index()?),
-            "drain" => Call::Drain(words.index()?, words.index()?),
-            "splice" => {
-                let (start, end) = (words.index()?, words.index()?);
-                Call::Splice(start, end, read_ends(words)?, words.items::<i32>()?)
-            }
-            "setlen" => Call::SetLen(words.index()?),
-            "reserve" => Call::Reserve(words.index()?),
-            "heap" => Call::Heap,
-            "shrink" => Call::Shrink,
-            _ => return Ok(calls),
-        };
-        calls.push(call)?;
+        match words.word() {
+            "" => return Ok(calls),
+            name => calls.push(read_call(name, words)?)?,
+        }
     }
     Ok(calls)
+}
+
+fn read_call(name: &str, words: &mut Words<'_>) -> Result<Call<i32>, Wrong> {
+    match name {
+        "push" => Ok(Call::Push(words.number()?)),
+        "pop" => Ok(Call::Pop),
+        "heap" => Ok(Call::Heap),
+        "shrink" => Ok(Call::Shrink),
+        "splice" => read_splice(words),
+        "insert" => Ok(Call::Insert(words.index()?, words.number()?)),
+        "drain" => Ok(Call::Drain(words.index()?, words.index()?)),
+        _ => call_with(name, words.index()?),
+    }
+}
+
+fn call_with(name: &str, n: usize) -> Result<Call<i32>, Wrong> {
+    match name {
+        "remove" => Ok(Call::Remove(n)),
+        "swap" => Ok(Call::SwapRemove(n)),
+        "truncate" => Ok(Call::Truncate(n)),
+        "setlen" => Ok(Call::SetLen(n)),
+        "reserve" => Ok(Call::Reserve(n)),
+        _ => Err(Wrong::Call),
+    }
+}
+
+fn read_splice(words: &mut Words<'_>) -> Result<Call<i32>, Wrong> {
+    let (start, end) = (words.index()?, words.index()?);
+    Ok(Call::Splice(start, end, read_ends(words)?, words.items::<i32>()?))
 }

@@ -59,22 +59,19 @@ impl Trace {
         let Ok(mut calls) = self.calls.try_borrow_mut() else {
             return Ok(());
         };
-        for ((name, count, moved), times) in calls.as_slice() {
-            write!(out, " {name}")?;
-            if *name != 'f' {
-                write!(out, "{count}")?;
-            }
-            match *moved {
-                None => out.push('!')?,
-                Some(moved) if *name == 'r' || moved != *count => write!(out, ":{moved}")?,
-                Some(_) => {}
-            }
+        for (call, times) in calls.as_slice() {
+            tell_call(*call, out)?;
             if *times > 1 {
                 write!(out, "*{times}")?;
             }
         }
         calls.clear();
         Ok(())
+    }
+
+    fn tell_left(&self, out: &mut String) -> Result<(), Wrong> {
+        let left = self.left.get();
+        Ok(write!(out, "{left} left")?)
     }
 
     // Writes what was written since the last time: as a text, as digits, or of much how much it is.
@@ -90,6 +87,19 @@ impl Trace {
         }
         written.clear();
         Ok(())
+    }
+}
+
+fn tell_call(call: Call, out: &mut String) -> Result<(), Wrong> {
+    let (name, count, moved) = call;
+    write!(out, " {name}")?;
+    if name != 'f' {
+        write!(out, "{count}")?;
+    }
+    match moved {
+        None => Ok(out.push('!')?),
+        Some(moved) if name == 'r' || moved != count => Ok(write!(out, ":{moved}")?),
+        Some(_) => Ok(()),
     }
 }
 
@@ -173,26 +183,34 @@ pub(crate) fn answer(words: &mut Words<'_>, calls: &str, out: &mut String) -> Re
         }),
     };
     for call in calls.split('\t') {
-        let (refused, mut words) = window::read(alloc, call)?;
-        let name = words.word();
-        make(name, refused, &mut streams, &mut words, out)?;
-        let faults = streams
-            .reader
-            .faults()
-            .saturating_add(streams.writer.faults());
-        write!(out, ", {faults} faults /")?;
-        trace.tell_calls(out)?;
-        out.push_str(" / ")?;
-        match name {
-            "read" | "read_some" | "fill" | "get" => {
-                let left = trace.left.get();
-                write!(out, "{left} left")?;
-            }
-            _ => trace.tell_written(out, name != "put")?,
-        }
+        answer_call(call, &trace, &mut streams, out)?;
         out.push('\t')?;
     }
     Ok(())
+}
+
+fn answer_call(
+    call: &str,
+    trace: &Trace,
+    streams: &mut Streams<'_>,
+    out: &mut String,
+) -> Result<(), Wrong> {
+    let (refused, mut words) = window::read(*out.allocator(), call)?;
+    let name = words.word();
+    make(name, refused, streams, &mut words, out)?;
+    tell_faults(streams, out)?;
+    trace.tell_calls(out)?;
+    out.push_str(" / ")?;
+    match name {
+        "read" | "read_some" | "fill" | "get" => trace.tell_left(out),
+        _ => trace.tell_written(out, name != "put"),
+    }
+}
+
+fn tell_faults(streams: &Streams<'_>, out: &mut String) -> Result<(), Wrong> {
+    let (reads, writes) = (streams.reader.faults(), streams.writer.faults());
+    let faults = reads.saturating_add(writes);
+    Ok(write!(out, ", {faults} faults /")?)
 }
 
 /// Answers the lines of a script, each of which is a call. The request of the number that the start has is refused.
@@ -206,26 +224,34 @@ pub(crate) fn answer_lines(
         "refused" => words.word().parse::<u16>().unwrap_or(0),
         _ => 0,
     };
-    let mut input = Vec::new(alloc);
-    for call in calls.split('\t') {
-        input.extend_from_slice(call.as_bytes())?;
-        input.push(b'\n')?;
-    }
+    let input = lines_of(alloc, calls)?;
     let mut reader = Counted::new(input.as_slice());
     let mut writer = Counted::new(Vec::with_capacity(alloc, 1 << 15)?);
     window::open(alloc, refused);
     let ended = run(alloc, &mut reader, &mut writer);
     window::close(alloc);
     let output = writer.into_inner();
-    for line in str::from_utf8(output.as_slice())
-        .unwrap_or("no text")
-        .split('\n')
-    {
+    tell_lines(output.as_slice(), out)?;
+    match ended {
+        Ok(()) => Ok(()),
+        Err(error) => Ok(write!(out, "{error}")?),
+    }
+}
+
+fn lines_of(alloc: Global, calls: &str) -> Result<Vec<u8>, Wrong> {
+    let mut input = Vec::new(alloc);
+    for call in calls.split('\t') {
+        input.extend_from_slice(call.as_bytes())?;
+        input.push(b'\n')?;
+    }
+    Ok(input)
+}
+
+fn tell_lines(output: &[u8], out: &mut String) -> Result<(), Wrong> {
+    let text = str::from_utf8(output).unwrap_or("no text");
+    for line in text.split('\n') {
         out.push_str(line)?;
         out.push('\t')?;
-    }
-    if let Err(error) = ended {
-        write!(out, "{error}")?;
     }
     Ok(())
 }
@@ -241,29 +267,40 @@ fn make(
     match name {
         "get" => borsh::get(refused, streams, words, out),
         "put" => borsh::put(refused, streams, words, out),
-        "script" => {
-            window::open(words.alloc, refused);
-            let ended = run(words.alloc, &mut streams.reader, &mut streams.writer);
-            window::close(words.alloc);
-            match ended {
-                Ok(()) => out.push_str("ok")?,
-                Err(error) => write!(out, "{error}")?,
-            }
-            Ok(())
-        }
-        _ => {
-            let text = if name.starts_with("write") {
-                words.text()?
-            } else {
-                String::new(words.alloc)
-            };
-            out.reserve(4096)?;
-            window::open(words.alloc, refused);
-            let made = move_bytes(name, streams, text.as_bytes(), out);
-            window::close(words.alloc);
-            made
-        }
+        "script" => run_script(words.alloc, refused, streams, out),
+        "write" | "write_all" => move_in_window(name, refused, streams, words.text()?, out),
+        _ => move_in_window(name, refused, streams, String::new(words.alloc), out),
     }
+}
+
+fn run_script(
+    alloc: Global,
+    refused: u16,
+    streams: &mut Streams<'_>,
+    out: &mut String,
+) -> Result<(), Wrong> {
+    window::open(alloc, refused);
+    let ended = run(alloc, &mut streams.reader, &mut streams.writer);
+    window::close(alloc);
+    match ended {
+        Ok(()) => Ok(out.push_str("ok")?),
+        Err(error) => Ok(write!(out, "{error}")?),
+    }
+}
+
+fn move_in_window(
+    name: &str,
+    refused: u16,
+    streams: &mut Streams<'_>,
+    text: String,
+    out: &mut String,
+) -> Result<(), Wrong> {
+    let alloc = *out.allocator();
+    out.reserve(4096)?;
+    window::open(alloc, refused);
+    let made = move_bytes(name, streams, text.as_bytes(), out);
+    window::close(alloc);
+    made
 }
 
 fn move_bytes(
