@@ -90,10 +90,33 @@ fn number(name: &str, case: &mut Case<'_, '_>) -> Result<(), Wrong> {
     }
 }
 
+// A function of a text of every N can't prove that a `Result` of one is small enough to be a value.
+macro_rules! of_text {
+    ($text:ty, $case:ident) => {{
+        if $case.is_put {
+            let text = Words::new($case.alloc, $case.word).text()?;
+            let made: Result<$text, AllocError> = InlineText::from_str($case.alloc, text.as_str());
+            return write_text(made, $case);
+        }
+        match read_value::<$text>($case.alloc, $case.refused, $case.streams) {
+            Ok(text) => say_text(text.as_str(), text.is_inline(), text.capacity(), $case.out),
+            Err(error) => Ok(write!($case.out, "{error}")?),
+        }
+    }};
+}
+
+fn text_in_none(case: &mut Case<'_, '_>) -> Result<(), Wrong> {
+    of_text!(InlineText<0>, case)
+}
+
+fn text_in_four(case: &mut Case<'_, '_>) -> Result<(), Wrong> {
+    of_text!(InlineText<4>, case)
+}
+
 fn text(name: &str, case: &mut Case<'_, '_>) -> Result<(), Wrong> {
     match name {
-        "InlineText<0>" => of_text::<0>(case),
-        "InlineText<4>" => of_text::<4>(case),
+        "InlineText<0>" => text_in_none(case),
+        "InlineText<4>" => text_in_four(case),
         _ => Err(Wrong::Value),
     }
 }
@@ -251,25 +274,24 @@ where
     Ok(())
 }
 
+fn write_text<T: BorshSerialize + Drop, E: Drop>(
+    text: Result<T, E>,
+    case: &mut Case<'_, '_>,
+) -> Result<(), Wrong> {
+    match text {
+        Ok(text) => write_value(case, &text),
+        Err(_) => Err(Wrong::Memory),
+    }
+}
+
 // Of a text that was read the answer has its place and its room too.
-fn of_text<const N: usize>(case: &mut Case<'_, '_>) -> Result<(), Wrong> {
-    if case.is_put {
-        let text = Words::new(case.alloc, case.word).text()?;
-        return write_value(case, &InlineText::<N>::from_str(case.alloc, text.as_str())?);
+fn say_text(text: &str, is_inline: bool, room: usize, out: &mut String) -> Result<(), Wrong> {
+    if is_inline {
+        out.push_str("inline ")?;
+    } else {
+        write!(out, "heap {room} ")?;
     }
-    match read_value::<InlineText<N>>(case.alloc, case.refused, case.streams) {
-        Ok(text) => {
-            let room = text.capacity();
-            if text.is_inline() {
-                case.out.push_str("inline ")?;
-            } else {
-                write!(case.out, "heap {room} ")?;
-            }
-            write!(case.out, "{text:?}")?;
-        }
-        Err(error) => write!(case.out, "{error}")?,
-    }
-    Ok(())
+    Ok(write!(out, "{text:?}")?)
 }
 
 fn read_value<T: BorshDeserialize>(
