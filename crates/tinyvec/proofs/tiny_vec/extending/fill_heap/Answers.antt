@@ -6,7 +6,7 @@ pub loop-item-init : goal.loop-item-init
 loop-item-init g c = record {
   can = c.requires.0;
   ends = c.requires.1;
-  counted = omega arith;
+  no_longer = omega arith;
   filled = sym (append-nil c.replace-vec.result.items);
   capacity = refl;
 }
@@ -23,7 +23,7 @@ loop-item-preserved g c =
     let put = c.push_reserved.ensures in record {
       can = went.0;
       ends = went.1;
-      counted = omega (arith, went.2, inv.counted, length_push at.yielded c.in-Some.item);
+      no_longer = omega (arith, went.2, inv.no_longer, length_push at.yielded c.in-Some.item);
       filled = put.items ∙ ap (λ l. l ++ one) inv.filled ∙ append_assoc c.replace-vec.result.items at.yielded one;
       capacity = put.capacity ∙ inv.capacity;
     }
@@ -45,7 +45,7 @@ returns-then-len-capacity-clause-goes_on g c =
     let went = c.in-Some.ensures.goes.on inv.ends in
     let v = c.loop-item.vec in
     let first = c.replace-vec.result in
-    (went.0, went.1, omega (arith, went.2, inv.counted, v.ok.0, first.ok.0, ap vec_len c.replace-vec.ensures.value, ap length inv.filled, length-append first.items c.loop-item.yielded))
+    (went.0, went.1, omega (arith, went.2, inv.no_longer, v.ok.0, first.ok.0, ap vec_len c.replace-vec.ensures.value, ap length inv.filled, length-append first.items c.loop-item.yielded))
 
 pub returns-clause-ran : goal.returns-clause-ran
 returns-clause-ran g c =
@@ -62,4 +62,4 @@ pub returns-clause-goes_on : goal.returns-clause-goes_on
 returns-clause-goes_on g c =
     let inv = c.loop-item.invariant in
     let first = c.replace-vec.result in
-    omega (arith, inv.counted, c.loop-item.vec.ok.0, first.ok.0, ap vec_len c.replace-vec.ensures.value, ap length inv.filled, length-append first.items c.loop-item.yielded)
+    omega (arith, inv.no_longer, c.loop-item.vec.ok.0, first.ok.0, ap vec_len c.replace-vec.ensures.value, ap length inv.filled, length-append first.items c.loop-item.yielded)

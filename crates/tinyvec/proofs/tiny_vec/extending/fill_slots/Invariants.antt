@@ -6,7 +6,7 @@ abbrev pub invariant-loop-item : goal.invariant-loop-item
 invariant-loop-item g l = record {
   can : (goal.iterator-loop-item g).can_next l.iter;
   ends : (goal.iterator-loop-item g).is_finite l.iter;
-  counted : l.count + size (g.I.Iterator.remaining l.iter) ≤ size (g.I.Iterator.remaining l.initial.iter);
+  no_longer : l.count + size (g.I.Iterator.remaining l.iter) ≤ size (g.I.Iterator.remaining l.initial.iter);
   count : length l.yielded ≡ l.count;
   in_bounds : l.count ≤ length l.initial.slots;
   filled : l.slots ≡ l.yielded ++ drop l.count l.initial.slots;
