@@ -271,6 +271,7 @@ impl<T: Item, A: Array<Item = T>> Vector for TinyVec<A> {
                 self.shrink_to_fit();
                 Ok(())
             }
+            "extend_exact_size" => done(out, self.extend_exact_size(words.items()?)),
             _ => with_room(self, name, words.index().unwrap_or(0), out),
         }
     }

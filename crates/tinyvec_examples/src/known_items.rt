@@ -1,5 +1,5 @@
 //! Items that are known beforehand, and fit: `extend` succeeds, and the list is known.
-ghost use Rattle.std.specs.Prelude.{◌≡◌, ◌+◌, ◌-◌, ◌≤◌, ◌++◌, length, vec_len, IsOk};
+ghost use Rattle.std.specs.Prelude.{◌≡◌, ◌+◌, ◌-◌, ◌≤◌, ◌++◌, length, vec_len, IsOk, OnOk};
 ghost use Rattle.std.specs.List.{range_with_len};
 ghost use Rattle.tinyvec.specs.Slots.{items, items_len};
 ghost use Rattle.tinyvec.specs.TinyVec.{tiny_items, tiny_len, tiny_capacity};
@@ -9,7 +9,7 @@ use std::alloc::Global;
 use std::iter::Copied;
 use std::ops::Range;
 use std::{slice, vec};
-use tinyvec::{Array, ArrayVec, NoRoom, SliceVec, TinyVec};
+use tinyvec::{Array, ArrayVec, NoMemory, NoRoom, SliceVec, TinyVec};
 
 /// The items of a `Vec`.
 pub fn by_vec<A: Array>(
@@ -66,4 +66,14 @@ pub fn into_room<A: Array>(
     ensures { IsOk result × (tiny_items v.new ≡ tiny_items v.old ++ more.items) }
 {
     v.extend(more)
+}
+
+/// The items of a `Vec`, whose number is known: room for all is allocated once.
+pub fn by_length<A: Array>(
+    v: &mut TinyVec<A>,
+    more: Vec<A::Item>,
+) -> Result<(), NoMemory<vec::IntoIter<A::Item, Global>>>
+    ensures { OnOk result (tiny_items v.new ≡ tiny_items v.old ++ more.items) }
+{
+    v.extend_exact_size(more)
 }

@@ -6,7 +6,7 @@ ghost use Rattle.tinyvec.specs.TinyVec.{tiny_items, tiny_len, tiny_spare, is_inl
 ghost use Rattle.tinyvec.specs.Refused.{RefusedFor, ClonesBehind, ClonesInRoom};
 ghost use Rattle.tinyvec.specs.Room.{GrowsFor, RoomGrows, MakesRoom, Grows};
 ghost use Rattle.tinyvec_slots.specs.Slots.{AreDefaults, items, spare, items_len};
-ghost use Rattle.std.specs.Iterator.{IsFinite, Drains, YieldsThen};
+ghost use Rattle.std.specs.Iterator.{IsFinite, Drains, YieldsThen, size};
 ghost use Rattle.tinyvec_slots.specs.Ranges.{IsRangeOf, removed};
 ghost use Rattle.tinyvec_slots.specs.Filling.{ShowsItems, IntoIterYields};
 ghost use Rattle.tinyvec.specs.Following.{Follows};
@@ -14,6 +14,7 @@ ghost use Rattle.tinyvec.specs.Following.{Follows};
 use crate::TinyVec;
 use crate::tuned::{push_clones, push_clones_of, push_clones_within, push_copies};
 use std::alloc::{AllocError, Global};
+use std::iter::ExactSizeIterator;
 use std::mem;
 use std::ops::RangeBounds;
 use tinyvec_array::{Array, ArrayVec, FromIterRest, NoMemory, NoRoom};
@@ -236,6 +237,44 @@ impl<A: Array> TinyVec<A> {
         self.extend_runs(iter.into_iter())
     }
 
+    /// Appends the items of an iterator that knows their number. Room for all is allocated once, before any is asked for. If
+    /// the allocator refuses, returns the iterator, of which no item was asked.
+    #[inline(always)]
+    pub fn extend_exact_size<I: IntoIterator<Item = A::Item>>(
+        &mut self,
+        iter: I,
+    ) -> Result<(), NoMemory<I::IntoIter>>
+    where
+        I::IntoIter: ExactSizeIterator,
+        requires { (it : I.IntoIter) → I.into_iter_gives iter it → I.IntoIter.can_next it }
+
+        // It yields no more items than `len` says. If it yields fewer, the room stays.
+        ensures ran { (it : I.IntoIter) × I.into_iter_gives iter it
+            × MatchResult result (λ _. (xs : List A.Item) × Drains I.IntoIter.next_gives it xs
+            × (length xs ≤ size (I.IntoIter.remaining it)) × (tiny_items self.new ≡ tiny_items self.old ++ xs))
+            (λ refused. refused.0 ≡ it)
+            × MakesRoom GrowsFor A.Item.is_default A.CAPACITY (tiny_len self.old + size (I.IntoIter.remaining it))
+            self.old self.new result }
+
+        // For an iterator of which `rest` shows the remaining items.
+        ensures listed { (rest : I.IntoIter → List A.Item) → ShowsItems I.IntoIter.next_gives rest
+            → (it : I.IntoIter) × I.into_iter_gives iter it
+            × OnOk result (tiny_items self.new ≡ tiny_items self.old ++ rest it) }
+
+        // For items that are known, as those of a `Vec`, a range or a slice.
+        ensures known { (xs : List A.Item) → IntoIterYields I.into_iter_gives I.IntoIter.next_gives iter xs
+            → OnOk result (tiny_items self.new ≡ tiny_items self.old ++ xs) }
+    {
+        let items = iter.into_iter();
+        if self.reserve(items.len()).is_err() {
+            return Err(NoMemory(items));
+        }
+        match self.fill_room(items) {
+            Ok(()) => Ok(()),
+            Err(_) => unreachable!(),
+        }
+    }
+
     // Appends a run of items wherever there is room, and pushes the one after it.
     #[inline(always)]
     fn extend_runs<I: Iterator<Item = A::Item>>(
@@ -274,7 +313,7 @@ impl<A: Array> TinyVec<A> {
         ensures frame { StaysInPlace A.Item.is_default A.CAPACITY self.old self.new }
         ensures longer { tiny_len self.old ≤ tiny_len self.new }
         ensures full { OnErr result (tiny_len self.new ≡ tiny_capacity A.CAPACITY self.new) }
-        ensures goes_on { IfErr result (λ refused. Follows I.can_next I.remaining iter refused.rest) }
+        ensures goes_on { Follows I.can_next I.remaining iter (tiny_len self.old) (tiny_len self.new) result }
     {
         match self {
             TinyVec::Inline(v, _) => fill_array(v, iter),
@@ -444,7 +483,7 @@ fn fill_array<A: Array, I: Iterator<Item = A::Item>>(
     ensures longer { items_len vec.old ≤ items_len vec.new }
     ensures fits { items_len vec.new ≤ A.CAPACITY }
     ensures full { OnErr result (items_len vec.new ≡ A.CAPACITY) }
-    ensures goes_on { IfErr result (λ refused. Follows I.can_next I.remaining iter refused.rest) }
+    ensures goes_on { Follows I.can_next I.remaining iter (items_len vec.old) (items_len vec.new) result }
 {
     let len = vec.len();
     match fill_slots(vec.grab_spare_slice_mut(), iter) {
@@ -468,8 +507,8 @@ fn fill_slots<T: Drop, I: Iterator<Item = T>>(
     requires { I.can_next iter × IsFinite (I.remaining iter) }
     ensures ran { (xs : List T) × MatchResult result (λ n. Drains I.next_gives iter xs × (n ≡ length xs))
         (λ refused. YieldsThen I.next_gives iter xs (Some refused.item) refused.rest × (length xs ≡ length slots.old))
-        × (length xs ≤ length slots.old) × (slots.new ≡ xs ++ drop (length xs) slots.old) }
-    ensures goes_on { IfErr result (λ refused. Follows I.can_next I.remaining iter refused.rest) }
+        × (length xs ≤ length slots.old) × (slots.new ≡ xs ++ drop (length xs) slots.old)
+        × Follows I.can_next I.remaining iter 0 (length xs) result }
 {
     let mut count = 0;
     while let Some(item) = iter.next() {
@@ -493,7 +532,7 @@ fn fill_heap<T: Drop, I: Iterator<Item = T>>(
         × (heap.new.items ≡ heap.old.items ++ xs) }
     ensures capacity { vec_capacity heap.new ≡ vec_capacity heap.old }
     ensures full { OnErr result (vec_len heap.new ≡ vec_capacity heap.new) }
-    ensures goes_on { IfErr result (λ refused. Follows I.can_next I.remaining iter refused.rest) }
+    ensures goes_on { Follows I.can_next I.remaining iter (vec_len heap.old) (vec_len heap.new) result }
 {
     let mut vec = mem::replace(heap, Vec::new(*heap.allocator()));
     while let Some(item) = iter.next() {

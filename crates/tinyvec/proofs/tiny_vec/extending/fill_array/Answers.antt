@@ -70,7 +70,9 @@ pub returns-in-Ok-clause-full : goal.returns-in-Ok-clause-full
 returns-in-Ok-clause-full g c = tt
 
 pub returns-in-Ok-clause-goes_on : goal.returns-in-Ok-clause-goes_on
-returns-in-Ok-clause-goes_on g c = tt
+returns-in-Ok-clause-goes_on g c =
+    let made = c.in-Ok.ensures.ran in
+    omega (arith, made.4, made.1.1, c.len-len.ensures.value, c.set_len.ensures.fits)
 
 pub returns-in-Err-clause-ran : goal.returns-in-Err-clause-ran
 returns-in-Err-clause-ran g c =
@@ -107,4 +109,6 @@ pub returns-in-Err-clause-full : goal.returns-in-Err-clause-full
 returns-in-Err-clause-full g c = c.set_len-in-Err.ensures.fits ∙ c.CAPACITY.ensures
 
 pub returns-in-Err-clause-goes_on : goal.returns-in-Err-clause-goes_on
-returns-in-Err-clause-goes_on g c = c.in-Err.ensures.goes_on
+returns-in-Err-clause-goes_on g c =
+    let made = c.in-Err.ensures.ran in
+    (made.4.0, made.4.1, omega (arith, made.4.2, all_filled g c, c.set_len-in-Err.ensures.fits))

@@ -1,11 +1,12 @@
-use Rattle.std.proofs.Common.{[], ◌∷◌, ◌++◌, refl, sym, ap, ◌∙◌, le_refl, append-nil, append_assoc, arith, vec_capacity}
+use Rattle.std.proofs.Common.{[], ◌∷◌, ◌++◌, refl, sym, ap, ◌∙◌, append-nil, append_assoc, arith, length, length-append, vec_len, vec_capacity}
+use Rattle.std.proofs.lemmas.List.{length_push}
 use Rattle.tinyvec.proofs.tiny_vec.extending.fill_heap.Goals as goal
 
 pub loop-item-init : goal.loop-item-init
 loop-item-init g c = record {
   can = c.requires.0;
   ends = c.requires.1;
-  no_longer = le_refl _;
+  no_longer = omega arith;
   filled = sym (append-nil c.replace-vec.result.items);
   capacity = refl;
 }
@@ -22,7 +23,7 @@ loop-item-preserved g c =
     let put = c.push_reserved.ensures in record {
       can = went.0;
       ends = went.1;
-      no_longer = omega (arith, went.2, inv.no_longer);
+      no_longer = omega (arith, went.2, inv.no_longer, length_push at.yielded c.in-Some.item);
       filled = put.items ∙ ap (λ l. l ++ one) inv.filled ∙ append_assoc c.replace-vec.result.items at.yielded one;
       capacity = put.capacity ∙ inv.capacity;
     }
@@ -42,7 +43,9 @@ pub returns-then-len-capacity-clause-goes_on : goal.returns-then-len-capacity-cl
 returns-then-len-capacity-clause-goes_on g c =
     let inv = c.loop-item.invariant in
     let went = c.in-Some.ensures.goes.on inv.ends in
-    (went.0, went.1, omega (arith, went.2, inv.no_longer))
+    let v = c.loop-item.vec in
+    let first = c.replace-vec.result in
+    (went.0, went.1, omega (arith, went.2, inv.no_longer, v.ok.0, first.ok.0, ap vec_len c.replace-vec.ensures.value, ap length inv.filled, length-append first.items c.loop-item.yielded))
 
 pub returns-clause-ran : goal.returns-clause-ran
 returns-clause-ran g c =
@@ -56,4 +59,7 @@ pub returns-clause-full : goal.returns-clause-full
 returns-clause-full g c = tt
 
 pub returns-clause-goes_on : goal.returns-clause-goes_on
-returns-clause-goes_on g c = tt
+returns-clause-goes_on g c =
+    let inv = c.loop-item.invariant in
+    let first = c.replace-vec.result in
+    omega (arith, inv.no_longer, c.loop-item.vec.ok.0, first.ok.0, ap vec_len c.replace-vec.ensures.value, ap length inv.filled, length-append first.items c.loop-item.yielded)
