@@ -110,7 +110,7 @@ pub fn from_outside(bytes: TinyVec<[u8; 8]>) -> Result<InlineText<8>, FromUtf8Er
 
 /// The text of such bytes, for arrays of every length.
 pub fn if_utf8<const N: usize>(bytes: TinyVec<[u8; N]>) -> Option<InlineText<N>>
-    ensures { IfSome result (λ text. text.bytes ≡ tiny_items bytes) }
+    ensures { IfSome result (λ text. text.bytes ≡ tiny_items bytes.entry) }
 {
     InlineText::from_utf8_or_none(bytes)
 }
