@@ -1,4 +1,5 @@
 """Rows of calls: how they are read, given to the program that does them, and compared with what it answers."""
+import concurrent.futures
 import os
 import pathlib
 import re
@@ -12,6 +13,8 @@ OPEN, CLOSE = "[(<", "])>"
 TIMES = re.compile(r"(?<=[\[,|])([^\[\],|*]+)\*(\d+)(?=[\],|])")
 UP_TO = re.compile(r"(?<=[\[,|])(-?\d+)\.\.(-?\d+)(?=[\],|])")
 WINDOW = re.compile(rb"^window (\d+)$", re.M)
+# More lines than this may answer with more than the mebibyte that `rt try` keeps.
+MOST_TRIED = 4000
 ESCAPES = {"n": "\n", "t": "\t", "r": "\r", "0": "\0"}
 
 
@@ -98,6 +101,11 @@ def unquoted(text):
 def run(program, lines, is_tried=False, refusing=None):
     """What the program answers to each line: the parts of its calls. With a library that refuses memory also the number of
     requests of each window that the program opened."""
+    if is_tried and len(lines) > MOST_TRIED:
+        answers = [None] * len(lines)
+        with concurrent.futures.ThreadPoolExecutor() as pool:
+            answers[::2], answers[1::2] = pool.map(lambda it: run(program, it, True), [lines[::2], lines[1::2]])
+        return answers
     folder = TOP / "crates" / program
     # So many rows take more steps than the interpreter has, and on a busy machine more than a minute.
     words = ["rt", "try", "--steps", "1", "--seconds", "300"] if is_tried else [folder / "out" / program]
