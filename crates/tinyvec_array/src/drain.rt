@@ -4,7 +4,7 @@ ghost use Rattle.std.specs.Fmt.{debug_list, debug_variant};
 ghost use Rattle.std.specs.Iterator.{at_most, UpTo};
 ghost use Rattle.std.specs.Iterator.SizeHint.{IsWithinCount};
 ghost use Rattle.std.specs.Iterator.Runs.{YieldsInOrder, YieldsInReverse};
-ghost use Rattle.tinyvec_slots.specs.Slots.{items, spare, items_len, Vacates};
+ghost use Rattle.tinyvec_slots.specs.Slots.{items, spare, items_len, Loses};
 ghost use Rattle.tinyvec_slots.specs.Ranges.{IsRangeOf, before, removed, after};
 ghost use Rattle.tinyvec_array.specs.ToVec.{DrainsToVec};
 
@@ -74,11 +74,9 @@ impl<A: Array> ArrayVec<A> {
         requires in_list { IsRangeOf (items self.old) (R.start_bound range) (R.end_bound range) }
         requires room { vec_len out.old + length (removed (items self.old) (R.start_bound range) (R.end_bound range))
             ≤ vec_capacity out.old }
-        ensures items { items self.new
-            ≡ before (items self.old) (R.start_bound range) ++ after (items self.old) (R.end_bound range) }
-        ensures spare { Vacates A.Item.is_default (length (removed (items self.old) (R.start_bound range) (R.end_bound range)))
-            self.old self.new }
-        ensures fits { items_len self.new ≤ A.CAPACITY }
+        ensures becomes { Loses A.Item.is_default A.CAPACITY
+            (length (removed (items self.old) (R.start_bound range) (R.end_bound range))) self.old self.new
+            (before (items self.old) (R.start_bound range) ++ after (items self.old) (R.end_bound range)) }
         ensures moved { out.new.items
             ≡ out.old.items ++ removed (items self.old) (R.start_bound range) (R.end_bound range) }
         ensures capacity { vec_capacity out.new ≡ vec_capacity out.old }

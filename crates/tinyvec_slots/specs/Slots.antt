@@ -1,5 +1,5 @@
 -- The list and the spare slots, what is a default, and what a change of the list does to the spare slots.
-use Rattle.std.specs.Prelude.{◌≡◌, ℕ, ◌-◌, ◌≤◌, List, ◌++◌, length, take, drop, slice_set, All, refl}
+use Rattle.std.specs.Prelude.{◌≡◌, ℕ, ◌+◌, ◌-◌, ◌≤◌, List, ◌++◌, length, take, drop, slice_set, All, refl}
 use Rattle.std.specs.List.{refill}
 use Rattle.std.specs.Coded.{Coded, code_by, coded×, coded_list, coded_ℕ}
 
@@ -47,6 +47,20 @@ module _ {T : Type 0} where
   abbrev pub SlotRule : (T → Type 0) → Slots T → Slots T → Type 0
   SlotRule D old new = (ds : List T) × AreDefaults D (items_len old - items_len new) ds
       × (spare new ≡ ds ++ drop (items_len new - items_len old) (spare old))
+
+  -- A call that added n items took `old` to `new`, whose list is xs: they use up the first n spare slots, and the list fits in
+  -- the slots.
+  pub record Gains (slots n : ℕ) (old new : Slots T) (xs : List T) : Type 0 where
+    pub items : items new ≡ xs
+    pub spare : spare new ≡ drop n (spare old)
+    pub fits : items_len new ≤ slots
+
+  -- A call that removed n items took `old` to `new`, whose list is xs: n defaults precede the old spare slots, and the list
+  -- with the n items fits in the slots.
+  pub record Loses (D : T → Type 0) (slots n : ℕ) (old new : Slots T) (xs : List T) : Type 0 where
+    pub items : items new ≡ xs
+    pub spare : Vacates D n old new
+    pub fits : items_len new + n ≤ slots
 
   -- A call that only removes items took `old` to `new`: the vacated slots hold defaults, and precede the old spare slots.
   pub record Shortens (D : T → Type 0) (old new : Slots T) : Type 0 where

@@ -1,6 +1,6 @@
 -- Examples of lists and spare slots.
 use Rattle.std.proofs.Common.{◌≡◌, [], ◌∷◌, refl, rules}
-use Rattle.tinyvec_slots.specs.Slots.{items, spare, items_len, all_slots, split_at, AreDefaults, Vacates, SlotRule, with_items, Shortens}
+use Rattle.tinyvec_slots.specs.Slots.{items, spare, items_len, all_slots, split_at, AreDefaults, SlotRule, with_items, Gains, Loses, Shortens}
 use Rattle.tinyvec_words.proofs.Shown.{D, nums, over}
 
 -- of tinyvec_slots.specs.Slots
@@ -25,11 +25,14 @@ example-split_at = refl
 pub example-AreDefaults : AreDefaults D 2 (0 ∷ 0 ∷ [])
 example-AreDefaults = search rules
 
-pub example-Vacates : Vacates D 2 (over (1 ∷ 2 ∷ 3 ∷ []) (7 ∷ [])) (over (1 ∷ []) (0 ∷ 0 ∷ 7 ∷ []))
-example-Vacates = (0 ∷ 0 ∷ [], example-AreDefaults, refl)
+pub example-Gains : Gains 3 1 (over (1 ∷ []) (7 ∷ 8 ∷ [])) (over (1 ∷ 5 ∷ []) (8 ∷ [])) (1 ∷ 5 ∷ [])
+example-Gains = record { items = refl; spare = refl; fits = search rules }
+
+pub example-Loses : Loses D 4 2 (over (1 ∷ 2 ∷ 3 ∷ []) (7 ∷ [])) (over (1 ∷ []) (0 ∷ 0 ∷ 7 ∷ [])) (1 ∷ [])
+example-Loses = record { items = refl; spare = (0 ∷ 0 ∷ [], example-AreDefaults, refl); fits = search rules }
 
 pub example-Shortens : Shortens D (over (1 ∷ 2 ∷ 3 ∷ []) (7 ∷ [])) (over (1 ∷ []) (0 ∷ 0 ∷ 7 ∷ []))
-example-Shortens = record { bound = search rules; spare = example-Vacates }
+example-Shortens = record { bound = search rules; spare = (0 ∷ 0 ∷ [], example-AreDefaults, refl) }
 
 pub example-SlotRule : SlotRule D (over (1 ∷ []) (7 ∷ 8 ∷ [])) (over (1 ∷ 5 ∷ []) (8 ∷ []))
 example-SlotRule = search rules

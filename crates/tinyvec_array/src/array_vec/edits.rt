@@ -1,6 +1,6 @@
 //! Items that are pushed, popped, inserted, removed and cut off.
 ghost use Rattle.std.specs.Prelude.{◌≡◌, ◌-◌, ◌<◌, ◌≤◌, ◌↔◌, [], ◌∷◌, ◌++◌, take, drop, slice_get, slice_index_or, IsSome, OnSome, IfNone, IfSome, ◌+◌, remove, insert, ℕ, All, length, if◌then◌else◌, is_ok, IsOk, OnOk, OnErr, Err};
-ghost use Rattle.tinyvec_slots.specs.Slots.{items, spare, items_len, Vacates, AreDefaults};
+ghost use Rattle.tinyvec_slots.specs.Slots.{items, spare, items_len, AreDefaults, Gains, Loses};
 ghost use Rattle.std.specs.Borrow.{sem};
 ghost use Rattle.std.specs.List.{swap_remove, SwappedAt, AppendsClones};
 ghost use Rattle.tinyvec_slots.specs.Clones.{RefusedAt, ClonesAreEqual, ClonesOver};
@@ -14,9 +14,7 @@ impl<A: Array> ArrayVec<A> {
     /// Appends `value`.
     pub fn push(&mut self, value: A::Item)
         requires { items_len self.old < A.CAPACITY }
-        ensures items { items self.new ≡ items self.old ++ value ∷ [] }
-        ensures spare { spare self.new ≡ drop 1 (spare self.old) }
-        ensures fits { items_len self.new ≤ A.CAPACITY }
+        ensures { Gains A.CAPACITY 1 self.old self.new (items self.old ++ value ∷ []) }
     {
         let len = self.len();
         let slots = self.array.as_slice_mut();
@@ -29,9 +27,7 @@ impl<A: Array> ArrayVec<A> {
     pub fn try_push(&mut self, value: A::Item) -> Option<A::Item>
         ensures variant { IsSome result ↔ (items_len self.old ≡ A.CAPACITY) }
         ensures refused { IfSome result (λ y. (y ≡ value) × (self.new ≡ self.old)) }
-        ensures items { IfNone result (items self.new ≡ items self.old ++ value ∷ []) }
-        ensures spare { IfNone result (spare self.new ≡ drop 1 (spare self.old)) }
-        ensures fits { items_len self.new ≤ A.CAPACITY }
+        ensures becomes { IfNone result (Gains A.CAPACITY 1 self.old self.new (items self.old ++ value ∷ [])) }
     {
         if self.is_full() {
             return Some(value);
@@ -74,11 +70,9 @@ impl<A: Array> ArrayVec<A> {
         ensures variant { IsSome result ↔ (0 < items_len self.old) }
         ensures some { IfSome result (λ x. items self.old ≡ items self.new ++ x ∷ []) }
         ensures value { result ≡ slice_get (items self.old) (items_len self.old - 1) }
-        ensures items { items self.new ≡ take (items_len self.old - 1) (items self.old) }
-        ensures spare { OnSome result (Vacates A.Item.is_default 1 self.old self.new) }
+        ensures becomes { OnSome result (Loses A.Item.is_default A.CAPACITY 1 self.old self.new
+            (take (items_len self.old - 1) (items self.old))) }
         ensures none { IfNone result (self.new ≡ self.old) }
-        ensures fits { items_len self.new ≤ A.CAPACITY }
-        ensures room { OnSome result (items_len self.new < A.CAPACITY) }
     {
         if self.is_empty() {
             return None;
@@ -90,10 +84,9 @@ impl<A: Array> ArrayVec<A> {
     pub(crate) fn take_last(&mut self) -> A::Item
         requires { 0 < items_len self.old }
         ensures items { items self.old ≡ items self.new ++ result ∷ [] }
-        ensures rest { items self.new ≡ take (items_len self.old - 1) (items self.old) }
         ensures value { result ≡ slice_index_or (items self.old) (items_len self.old - 1) result }
-        ensures spare { Vacates A.Item.is_default 1 self.old self.new }
-        ensures fits { items_len self.new < A.CAPACITY }
+        ensures becomes { Loses A.Item.is_default A.CAPACITY 1 self.old self.new
+            (take (items_len self.old - 1) (items self.old)) }
     {
         let last = self.len() - 1;
         let slots = self.slots_mut();
@@ -108,9 +101,7 @@ impl<A: Array> ArrayVec<A> {
     pub fn insert(&mut self, index: usize, element: A::Item)
         requires in_list { index ≤ items_len self.old }
         requires room { items_len self.old < A.CAPACITY }
-        ensures items { items self.new ≡ insert (items self.old) index element }
-        ensures spare { spare self.new ≡ drop 1 (spare self.old) }
-        ensures fits { items_len self.new ≤ A.CAPACITY }
+        ensures { Gains A.CAPACITY 1 self.old self.new (insert (items self.old) index element) }
     {
         let len = self.len();
         if prefers_shifting_in(&self.array, index, len) {
@@ -128,9 +119,7 @@ impl<A: Array> ArrayVec<A> {
         requires { index ≤ items_len self.old }
         ensures variant { IsSome result ↔ (items_len self.old ≡ A.CAPACITY) }
         ensures refused { IfSome result (λ y. (y ≡ element) × (self.new ≡ self.old)) }
-        ensures items { IfNone result (items self.new ≡ insert (items self.old) index element) }
-        ensures spare { IfNone result (spare self.new ≡ drop 1 (spare self.old)) }
-        ensures fits { items_len self.new ≤ A.CAPACITY }
+        ensures becomes { IfNone result (Gains A.CAPACITY 1 self.old self.new (insert (items self.old) index element)) }
     {
         if self.is_full() {
             return Some(element);
@@ -143,9 +132,7 @@ impl<A: Array> ArrayVec<A> {
     pub fn remove(&mut self, index: usize) -> A::Item
         requires { index < items_len self.old }
         ensures value { result ≡ slice_index_or (items self.old) index result }
-        ensures items { items self.new ≡ remove (items self.old) index }
-        ensures spare { Vacates A.Item.is_default 1 self.old self.new }
-        ensures fits { items_len self.new < A.CAPACITY }
+        ensures becomes { Loses A.Item.is_default A.CAPACITY 1 self.old self.new (remove (items self.old) index) }
     {
         let len = self.len();
         if prefers_shifting_in(&self.array, index, len) {
@@ -161,9 +148,8 @@ impl<A: Array> ArrayVec<A> {
     pub fn swap_remove(&mut self, index: usize) -> A::Item
         requires { index < items_len self.old }
         ensures value { result ≡ slice_index_or (items self.old) index result }
-        ensures items { items self.new ≡ swap_remove (items self.old) index result }
-        ensures spare { Vacates A.Item.is_default 1 self.old self.new }
-        ensures fits { items_len self.new < A.CAPACITY }
+        ensures becomes { Loses A.Item.is_default A.CAPACITY 1 self.old self.new
+            (swap_remove (items self.old) index result) }
     {
         let last = self.len() - 1;
         self.swap_items(index, last);
@@ -183,9 +169,8 @@ impl<A: Array> ArrayVec<A> {
 
     /// Keeps the first `new_len` items, or all if there are no more. Each vacated slot is reset to a default.
     pub fn truncate(&mut self, new_len: usize)
-        ensures items { items self.new ≡ take new_len (items self.old) }
-        ensures spare { Vacates A.Item.is_default (items_len self.old - new_len) self.old self.new }
-        ensures fits { items_len self.new ≤ A.CAPACITY }
+        ensures { Loses A.Item.is_default A.CAPACITY (items_len self.old - new_len) self.old self.new
+            (take new_len (items self.old)) }
     {
         let len = self.len();
         if new_len < len {
@@ -196,9 +181,7 @@ impl<A: Array> ArrayVec<A> {
 
     /// Empties the list. Each vacated slot is reset to a default.
     pub fn clear(&mut self)
-        ensures items { items self.new ≡ [] }
-        ensures spare { Vacates A.Item.is_default (items_len self.old) self.old self.new }
-        ensures fits { items_len self.new ≤ A.CAPACITY }
+        ensures { Loses A.Item.is_default A.CAPACITY (items_len self.old) self.old self.new [] }
     {
         self.truncate(0);
     }
@@ -206,11 +189,10 @@ impl<A: Array> ArrayVec<A> {
     /// Splits the list at `at` and returns the items from `at` on. They are moved one by one.
     pub fn split_off(&mut self, at: usize) -> Self
         requires { at ≤ items_len self.old }
-        ensures items { items self.new ≡ take at (items self.old) }
-        ensures spare { Vacates A.Item.is_default (items_len self.old - at) self.old self.new }
+        ensures becomes { Loses A.Item.is_default A.CAPACITY (items_len self.old - at) self.old self.new
+            (take at (items self.old)) }
         ensures tail { items result ≡ drop at (items self.old) }
         ensures tail_spare { AreDefaults A.Item.is_default (A.CAPACITY - (items_len self.old - at)) (spare result) }
-        ensures fits { items_len self.old ≤ A.CAPACITY }
     {
         let mut back = ArrayVec::new();
         for x in self.drain(at..) {
@@ -223,8 +205,8 @@ impl<A: Array> ArrayVec<A> {
     pub fn pop_at(&mut self, index: usize) -> Option<A::Item>
         ensures variant { IsSome result ↔ (index < items_len self.old) }
         ensures value { result ≡ slice_get (items self.old) index }
-        ensures items { OnSome result (items self.new ≡ remove (items self.old) index) }
-        ensures spare { OnSome result (Vacates A.Item.is_default 1 self.old self.new) }
+        ensures becomes { OnSome result (Loses A.Item.is_default A.CAPACITY 1 self.old self.new
+            (remove (items self.old) index)) }
         ensures none { IfNone result (self.new ≡ self.old) }
         ensures fits { items_len self.new ≤ A.CAPACITY }
     {

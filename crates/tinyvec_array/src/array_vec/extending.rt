@@ -1,7 +1,7 @@
 //! Growing by other lists, by clones, by iterators and by closures.
 ghost use Rattle.std.specs.Prelude.{◌≡◌, ◌+◌, ◌-◌, ◌≤◌, ◌++◌, ℕ, length, take, drop, IsOk, OnOk, OnErr, ◌<◌, ◌↔◌, [], IsSome, IfSome, IfNone, IfOk, IfErr, MatchResult, ◌∷◌, List, Some, replicate};
 ghost use Rattle.std.specs.List.{AppendsClones, AppendsResults};
-ghost use Rattle.tinyvec_slots.specs.Slots.{items, spare, items_len, AreDefaults, Vacates, SlotRule};
+ghost use Rattle.tinyvec_slots.specs.Slots.{items, spare, items_len, AreDefaults, SlotRule, Gains, Loses};
 ghost use Rattle.tinyvec_slots.specs.Clones.{ClonesAreEqual, ClonesOver, AddsClones};
 ghost use Rattle.tinyvec_slots.specs.Ranges.{IsRangeOf, removed};
 ghost use Rattle.std.specs.Iterator.{Drains, YieldsThen};
@@ -33,9 +33,7 @@ impl<A: Array> ArrayVec<A> {
     where
         A::Item: Copy,
         requires room { length other.now ≤ A.CAPACITY - items_len self.old }
-        ensures items { items self.new ≡ items self.old ++ other.now }
-        ensures spare { spare self.new ≡ drop (length other.now) (spare self.old) }
-        ensures fits { items_len self.new ≤ A.CAPACITY }
+        ensures { Gains A.CAPACITY (length other.now) self.old self.new (items self.old ++ other.now) }
     {
         let len = self.len();
         let end = len + other.len();
@@ -67,10 +65,8 @@ impl<A: Array> ArrayVec<A> {
     // Moves the items of `from` to the end, and leaves defaults there.
     fn append_slots(&mut self, from: &mut [A::Item])
         requires { length from.old ≤ A.CAPACITY - items_len self.old }
-        ensures items { items self.new ≡ items self.old ++ from.old }
-        ensures spare { spare self.new ≡ drop (length from.old) (spare self.old) }
+        ensures becomes { Gains A.CAPACITY (length from.old) self.old self.new (items self.old ++ from.old) }
         ensures left { AreDefaults A.Item.is_default (length from.old) from.new }
-        ensures fits { items_len self.new ≤ A.CAPACITY }
     {
         // For the proof: the list fits, also if nothing is pushed.
         let _len = self.len();
@@ -82,11 +78,8 @@ impl<A: Array> ArrayVec<A> {
     /// Moves the items of `other` to the end, and leaves `other` empty. Each item moves once.
     pub fn append(&mut self, other: &mut Self)
         requires { items_len other.old ≤ A.CAPACITY - items_len self.old }
-        ensures items { items self.new ≡ items self.old ++ items other.old }
-        ensures spare { spare self.new ≡ drop (items_len other.old) (spare self.old) }
-        ensures other_items { items other.new ≡ [] }
-        ensures other_spare { Vacates A.Item.is_default (items_len other.old) other.old other.new }
-        ensures fits { items_len self.new ≤ A.CAPACITY }
+        ensures becomes { Gains A.CAPACITY (items_len other.old) self.old self.new (items self.old ++ items other.old) }
+        ensures emptied { Loses A.Item.is_default A.CAPACITY (items_len other.old) other.old other.new [] }
     {
         self.append_slots(other.as_mut_slice());
         other.set_len(0);
@@ -96,11 +89,10 @@ impl<A: Array> ArrayVec<A> {
     /// `Err`.
     pub fn append_if_fits<'o>(&mut self, other: &'o mut Self) -> Result<&'o mut Self, &'o mut Self>
         ensures variant { IsOk result ↔ (items_len self.old + items_len other.old ≤ A.CAPACITY) }
-        ensures items { OnOk result (items self.new ≡ items self.old ++ items other.old) }
-        ensures spare { OnOk result (spare self.new ≡ drop (items_len other.old) (spare self.old)) }
-        ensures other_items { IfOk result (λ emptied. items emptied.now ≡ []) }
-        ensures other_spare { IfOk result
-            (λ emptied. Vacates A.Item.is_default (items_len other.old) other.old emptied.now) }
+        ensures becomes { OnOk result
+            (Gains A.CAPACITY (items_len other.old) self.old self.new (items self.old ++ items other.old)) }
+        ensures emptied { IfOk result
+            (λ emptied. Loses A.Item.is_default A.CAPACITY (items_len other.old) other.old emptied.now []) }
         ensures refused { IfErr result (λ back. (self.new ≡ self.old) × (back.now ≡ other.old)) }
         ensures fits { items_len self.new ≤ A.CAPACITY }
         ensures same_reference { MatchResult result (λ emptied. emptied.ghost_name ≡ other.entry.ghost_name)
@@ -121,8 +113,8 @@ impl<A: Array> ArrayVec<A> {
         ensures variant { IsSome result ↔ (A.CAPACITY < items_len self.old + items_len other.old) }
         ensures refused { IfSome result (λ back. (back.now ≡ other.old) × (self.new ≡ self.old)) }
         ensures same_reference { IfSome result (λ back. back.ghost_name ≡ other.entry.ghost_name) }
-        ensures items { IfNone result (items self.new ≡ items self.old ++ items other.old) }
-        ensures spare { IfNone result (spare self.new ≡ drop (items_len other.old) (spare self.old)) }
+        ensures becomes { IfNone result
+            (Gains A.CAPACITY (items_len other.old) self.old self.new (items self.old ++ items other.old)) }
         ensures fits { items_len self.new ≤ A.CAPACITY }
     {
         match self.append_if_fits(other) {

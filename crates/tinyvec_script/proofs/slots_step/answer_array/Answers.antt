@@ -27,13 +27,13 @@ returns-in-Remove g c =
     let made = c.remove.ensures in
     let old = c.args.vec.now in
     let in_list : c.in-Remove.i < items_len old = omega arith in
-    rw c.in-Remove.is (slice_get_read (items old) _ c.in-Remove.i _ refl in_list made.value, made.items, slots_removed g.A.Item.Default.is_default old c.remove.new.self c.in-Remove.i in_list made.items made.spare)
+    rw c.in-Remove.is (slice_get_read (items old) _ c.in-Remove.i _ refl in_list made.value, made.becomes.items, slots_removed g.A.Item.Default.is_default old c.remove.new.self c.in-Remove.i in_list made.becomes.items made.becomes.spare)
 
 pub returns-in-SwapRemove : goal.returns-in-SwapRemove
 returns-in-SwapRemove g c =
     let made = c.swap_remove.ensures in
     rw c.in-SwapRemove.is (swap_removes g.A.Item.Default.is_default g.A.Array.CAPACITY c.args.vec.now c.swap_remove.new.self c.in-SwapRemove.i
-    c.swap_remove.result (omega arith) made.value made.items made.spare)
+    c.swap_remove.result (omega arith) made.value made.becomes.items made.becomes.spare)
 
 pub returns-in-Truncate : goal.returns-in-Truncate
 returns-in-Truncate g c =
@@ -49,7 +49,7 @@ returns-in-Drain g c =
     let in_order : i ≤ j = omega arith in
     let in_list : j ≤ items_len old = omega arith in
     let taken = left.moved ∙ ap (λ xs. xs ++ removed (items old) (Included i) (Excluded j)) c.in-Ok.ensures.items in
-    let made = drains g.A.Item.Default.is_default g.A.Array.CAPACITY old c.drain_into.new.self i j c.drain_into.new.out.items in_order in_list taken left.items left.spare in
+    let made = drains g.A.Item.Default.is_default g.A.Array.CAPACITY old c.drain_into.new.self i j c.drain_into.new.out.items in_order in_list taken left.becomes.items left.becomes.spare in
     rw c.in-Drain.is ((in_order, in_list), made.0, made.1)
 
 pub returns-in-Ok-drive_array_splice : goal.returns-in-Ok-drive_array_splice

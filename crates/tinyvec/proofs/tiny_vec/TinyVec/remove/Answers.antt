@@ -6,7 +6,7 @@ use Rattle.tinyvec.proofs.tiny_vec.TinyVec.remove.Goals as goal
 
 pub returns-in-Inline-clause-frame : goal.returns-in-Inline-clause-frame
 returns-in-Inline-clause-frame g c =
-    let taken = c.remove.ensures in
+    let taken = c.remove.ensures.becomes in
     let in_list : c.args.index < items_len c.in-Inline.v = rw c.in-Inline.is at c.requires in
     rw c.in-Inline.is (inline_stays g.A.Item.Default.is_default g.A.Array.CAPACITY c.in-Inline.v c.remove.new.self
     (slots_removed g.A.Item.Default.is_default c.in-Inline.v c.remove.new.self c.args.index in_list taken.items taken.spare) (omega (arith, taken.fits)))

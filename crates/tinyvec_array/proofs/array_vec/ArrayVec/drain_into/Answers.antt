@@ -1,7 +1,8 @@
 use Rattle.std.proofs.Common.{◌++◌, ◌∷◌, [], arith, rules, refl, sym, ◌∙◌, ap, length, length-append, append_assoc, append-nil}
+use Rattle.std.proofs.lemmas.Grind.{common_steps}
 use Rattle.tinyvec_slots.specs.Slots.{items}
 use Rattle.tinyvec_slots.specs.Ranges.{range_start, range_end}
-use Rattle.tinyvec_slots.proofs.Lists.{length-remove_range}
+use Rattle.tinyvec_slots.proofs.Lists.{length-remove_range, length-slice_range}
 use Rattle.tinyvec_array.specs.Drain.{DrainKeeps, DrainLeaves, drain_items}
 use Rattle.tinyvec_array.proofs.DrainLemmas.{DrainKeeps-refl, DrainKeeps-then}
 use Rattle.tinyvec_array.proofs.array_vec.ArrayVec.drain_into.Goals as goal
@@ -50,28 +51,25 @@ module _ (g : _) (c : goal.After-self-1 g) where
   left : DrainLeaves g.A.Item.Default.is_default c.next.new.self c.drop-x-iterator.new.self.0
   left = c.drop-x-iterator.ensures (rw c.in-None.ensures.steps.1 c.loop-x.invariant.can)
 
-pub returns-clause-items : goal.returns-clause-items
-returns-clause-items g c =
-    let same = (keeps g c).same_reference in
-    let listed = (left g c).0 ∙ (keeps g c).kept ∙ c.drain-x-items.ensures.kept in
-    search rules
-
-pub returns-clause-spare : goal.returns-clause-spare
-returns-clause-spare g c =
+pub returns-clause-becomes : goal.returns-clause-becomes
+returns-clause-becomes g c =
     let drain = c.drain-x-items.ensures in
+    let kept = keeps g c in
     let ds = (left g c).1 in
-    let same = (keeps g c).same_reference in
-    let behind = ds.2 ∙ ap (λ l. ds.0 ++ l) ((keeps g c).spare ∙ drain.spare) in
-    (ds.0, (ds.1.0 ∙ (keeps g c).count ∙ drain.count ∙ ap length drain.rest, ds.1.1), search rules)
-
-pub returns-clause-fits : goal.returns-clause-fits
-returns-clause-fits g c =
+    let same = kept.same_reference in
+    let listed = (left g c).0 ∙ kept.kept ∙ drain.kept in
+    let behind = ds.2 ∙ ap (λ l. ds.0 ++ l) (kept.spare ∙ drain.spare) in
     let xs = items c.args.self.now in
     let i = range_start (g.R.RangeBounds.start_bound c.args.range) in
     let j = range_end (g.R.RangeBounds.end_bound c.args.range) (length xs) in
-    let fewer = ap length (returns-clause-items g c) ∙ length-remove_range xs i j c.requires.in_list.0 c.requires.in_list.1 in
-    let most = c.drain-x-items.ensures.fits in
-    rw fewer (omega (arith, most))
+    let within = c.requires.in_list in
+    let fewer = ap length listed ∙ length-remove_range xs i j within.0 within.1 in
+    let gone = length-slice_range xs i j within.0 within.1 in
+    record {
+      items = search rules;
+      spare = (ds.0, (ds.1.0 ∙ kept.count ∙ drain.count ∙ ap length drain.rest, ds.1.1), search rules);
+      fits = grind (arith, common_steps);
+    }
 
 pub returns-clause-moved : goal.returns-clause-moved
 returns-clause-moved g c =

@@ -1,4 +1,5 @@
 use Rattle.std.proofs.Common.{◌∷◌, ◌++◌, [], length, ap, ◌∙◌, sym, subst, take, drop, ◌-◌, le_refl, arith, rules, take_all, append-nil, append_assoc, length-append, length-drop, length-take}
+use Rattle.std.proofs.lemmas.Grind.{common_steps}
 use Rattle.std.proofs.lemmas.List.{length_push, drop_all}
 use Rattle.std.proofs.lemmas.List.Elements.{All-drop}
 use Rattle.std.specs.declared.ops.Bound.TheVariants.{Included, Unbounded}
@@ -19,26 +20,23 @@ module _ (g : _) (c : goal.After-self-1 g) where
   left : DrainLeaves g.A.Item.Default.is_default c.next.new.self c.drop-x-iterator.new.self.0
   left = c.drop-x-iterator.ensures (keeps.ready c.drain-x-items.ensures.ready)
 
-pub returns-clause-items : goal.returns-clause-items
-returns-clause-items g c =
-    let L = items c.args.self.now in
-    let kept = keeps g c in
-    let same = kept.same_reference in
-    let listed = (left g c).0 ∙ kept.kept ∙ c.drain-x-items.ensures.kept
-    ∙ ap (λ l. take c.args.at L ++ l) (drop_all (length L) L (le_refl _)) ∙ append-nil (take c.args.at L) in
-    search rules
-
-pub returns-clause-spare : goal.returns-clause-spare
-returns-clause-spare g c =
+pub returns-clause-becomes : goal.returns-clause-becomes
+returns-clause-becomes g c =
     let D = g.A.Item.Default.is_default in
     let old = c.args.self.now in
+    let L = items old in
     let made = c.drain-x-items.ensures in
-    let in_list : IsRangeOf (items old) (Included c.args.at) Unbounded = (c.requires, le_refl _) in
+    let in_list : IsRangeOf L (Included c.args.at) Unbounded = (c.requires, le_refl _) in
     let kept = keeps g c in
+    let listed = (left g c).0 ∙ kept.kept ∙ made.kept ∙ ap (λ l. take c.args.at L ++ l) (drop_all (length L) L (le_refl _)) ∙ append-nil (take c.args.at L) in
+    let short = ap length listed ∙ length-take c.args.at L in
     let frees = drained_frees D c.drain-x-items.result c.next.new.self old c.drop-x-iterator.new.self.0 (Included c.args.at) Unbounded in_list made.rest made.count made.kept made.spare kept (left g c) in
     let same = kept.same_reference in
-    let is = frees.2 in
-    (frees.0, frees.1, search rules)
+    let is = frees.2 in record {
+      items = search rules;
+      spare = (frees.0, frees.1, search rules);
+      fits = grind (arith, common_steps);
+    }
 
 pub returns-clause-tail : goal.returns-clause-tail
 returns-clause-tail g c =
