@@ -7,7 +7,7 @@ use Rattle.std.specs.Borrow.{MutBor}
 use Rattle.std.specs.Fn.{CalledAtMut, Mut}
 use Rattle.std.specs.Iterator.{Yields}
 use Rattle.std.specs.List.Retain.{ExtractsNext, IsChosenBy}
-use Rattle.tinyvec_slots.specs.Extracting.{EachIsChosen, ExtractSteps, ExtractKeeps}
+use Rattle.tinyvec_slots.specs.Extracting.{extract_closure, extract_vec, extract_front, extract_rest, extract_back, EachIsChosen, ExtractKeeps, ExtractLeaves, ExtractLies, ExtractSteps}
 use Rattle.tinyvec_slots.specs.declared.extracting.ExtractIf.{ExtractIf}
 use Rattle.tinyvec_slots.proofs.Lists.{slice_range_first}
 use Rattle.tinyvec_slots.proofs.FiltersLemmas.{item_at}
@@ -139,20 +139,8 @@ module _ {V T F : Type 0} (items : V → List T) (Truncated : V → V → Type 0
       let R = CalledAtMut g in
       each p (IsChosenBy R) (along R (ExtractSteps items Truncated g) (λ d x e h. chosen R _ _ x _ h.kept _ h.asked) p.items p.from (took p).0 (took p).1)
 
-  -- an iterator leaves the vector as it was until it goes on
-  pub ExtractKeeps-refl : (e : ExtractIf V F T) → ExtractKeeps items Truncated e e
-  ExtractKeeps-refl e = record { same_reference = refl; back = refl; lies = λ h. h; cut = λ v h. h }
-
-  pub ExtractKeeps-then : (d e f : ExtractIf V F T) → ExtractKeeps items Truncated d e → ExtractKeeps items Truncated e f → ExtractKeeps items Truncated d f
-  ExtractKeeps-then d e f h k = record {
-    same_reference = k.same_reference ∙ h.same_reference;
-    back = k.back ∙ h.back;
-    lies = λ lies. k.lies (h.lies lies);
-    cut = λ v cut. h.cut v (k.cut v cut);
-  }
-
 -- after `None` no item of the range is left
-pub extracts_all : {S X : Type 0} (R : S → X → Bool → S → X → Type 0) (s : S) (xs : List X) (t : S) (kept rest : List X) → ExtractsNext R s xs None t kept rest → rest ≡ []
+extracts_all : {S X : Type 0} (R : S → X → Bool → S → X → Type 0) (s : S) (xs : List X) (t : S) (kept rest : List X) → ExtractsNext R s xs None t kept rest → rest ≡ []
 extracts_all R s [] t kept rest h = h.3
 extracts_all R s (x ∷ xs) t kept rest (true, u, y, asked, found) = absurd (none-some y found.0)
 extracts_all R s (x ∷ xs) t kept rest (false, u, y, asked, later) = extracts_all R u xs t later.0 rest later.1
@@ -161,12 +149,12 @@ extracts_all R s (x ∷ xs) t kept rest (false, u, y, asked, later) = extracts_a
 module _ {F X : Type 0} (R : F → X → Bool → F → X → Type 0) (test : X → Bool) (f : F)
     (h : (x : X) (b : Bool) (f' : F) (y : X) → R f x b f' y → (b ≡ test x) × (f' ≡ f) × (y ≡ x)) where
   -- what a call makes of the items that are still to be yielded, and of those that stay
-  pub record Splits (xs : List X) (r : Option X) (t : F) (kept rest : List X) : Type 0 where
-    pub same : t ≡ f
-    pub yielded : filter test xs ≡ option_to_list r ++ filter test rest
-    pub others : filter (λ x. not (test x)) xs ≡ kept ++ filter (λ x. not (test x)) rest
+  record Splits (xs : List X) (r : Option X) (t : F) (kept rest : List X) : Type 0 where
+    same : t ≡ f
+    yielded : filter test xs ≡ option_to_list r ++ filter test rest
+    others : filter (λ x. not (test x)) xs ≡ kept ++ filter (λ x. not (test x)) rest
 
-  pub extracts_splits : (xs : List X) (r : Option X) (t : F) (kept rest : List X) → ExtractsNext R f xs r t kept rest → Splits xs r t kept rest
+  extracts_splits : (xs : List X) (r : Option X) (t : F) (kept rest : List X) → ExtractsNext R f xs r t kept rest → Splits xs r t kept rest
   extracts_splits [] r t kept rest e = record {
     same = e.1;
     yielded = rw (e.0, e.3) refl;
@@ -189,3 +177,79 @@ module _ {F X : Type 0} (R : F → X → Bool → F → X → Type 0) (test : X 
         others = ap (λ a. cond (not a) (x ∷ others) others) (sym one.0) ∙ ap (λ l. x ∷ l) on.others
             ∙ ap (λ z. z ∷ (later.0 ++ filter (λ x. not (test x)) rest)) (sym one.2) ∙ ap (λ l. l ++ filter (λ x. not (test x)) rest) (sym later.2);
       }
+
+-- a loop over an iterator `first`, by a closure that returns `test` of each item
+module _ {V F T : Type 0} (items : V → List T) (Truncated : V → V → Type 0) (test : T → Bool) (first : ExtractIf V F T) where
+  -- the items that are not chosen
+  abbrev others : List T → List T
+  others = filter (λ x. not (test x))
+
+  -- it has yielded `out`, and is now `now`
+  pub record Sifted (out : List T) (now : ExtractIf V F T) : Type 0 where
+    pub same : extract_closure now ≡ extract_closure first
+    pub yielded : out ++ filter test (extract_rest items now) ≡ filter test (extract_rest items first)
+    pub stays : extract_front items now ++ others (extract_rest items now) ≡ extract_front items first ++ others (extract_rest items first)
+    pub keeps : ExtractKeeps items Truncated first now
+
+  pub sifted_none : Sifted [] first
+  sifted_none = record {
+    same = refl;
+    yielded = refl;
+    stays = refl;
+    keeps = record { same_reference = refl; back = refl; lies = λ lies. lies; cut = λ v cut. cut };
+  }
+
+  module _ (g : Mut F (MutBor T × Unit {0}) (Bool × (MutBor T × Unit {0})))
+      (h : (x : T) (b : Bool) (f' : F) (y : T) → CalledAtMut g (extract_closure first) x b f' y → (b ≡ test x) × (f' ≡ extract_closure first) × (y ≡ x))
+      (out : List T) (now next : ExtractIf V F T) (so_far : Sifted out now) where
+    abbrev Steps : Option T → Type 0
+    Steps item = ExtractSteps items Truncated g now item next
+
+    split : (item : Option T) (step : Steps item) → Splits (CalledAtMut g) test (extract_closure first) h (extract_rest items now) item (extract_closure next) step.kept (extract_rest items next)
+    split item step =
+        extracts_splits (CalledAtMut g) test (extract_closure first) h _ item _ step.kept _
+        (subst (λ f. ExtractsNext (CalledAtMut g) f (extract_rest items now) item (extract_closure next) step.kept (extract_rest items next)) so_far.same step.asked)
+
+    on : (item : Option T) (step : Steps item) → ExtractKeeps items Truncated first next
+    on item step = record {
+      same_reference = step.keeps.same_reference ∙ so_far.keeps.same_reference;
+      back = step.keeps.back ∙ so_far.keeps.back;
+      lies = λ lies. step.keeps.lies (so_far.keeps.lies lies);
+      cut = λ v cut. so_far.keeps.cut v (step.keeps.cut v cut);
+    }
+
+    front_on : (item : Option T) (step : Steps item) → extract_front items next ++ others (extract_rest items next) ≡ extract_front items first ++ others (extract_rest items first)
+    front_on item step =
+        ap (λ l. l ++ others (extract_rest items next)) step.front ∙ append_assoc (extract_front items now) step.kept _
+        ∙ ap (λ l. extract_front items now ++ l) (sym (split item step).others) ∙ so_far.stays
+
+    -- it yields one more
+    pub sifted_more : (x : T) → Steps (Some x) → Sifted (out ++ x ∷ []) next
+    sifted_more x step = record {
+      same = (split (Some x) step).same;
+      yielded = append_assoc out (x ∷ []) _ ∙ ap (λ l. out ++ l) (sym (split (Some x) step).yielded) ∙ so_far.yielded;
+      stays = front_on (Some x) step;
+      keeps = on (Some x) step;
+    }
+
+    -- it ends, and leaves v
+    module _ (step : Steps None) where
+      none_left : extract_rest items next ≡ []
+      none_left = extracts_all (CalledAtMut g) _ _ _ step.kept _ step.asked
+
+      pub sifted_yielded : out ≡ filter test (extract_rest items first)
+      sifted_yielded =
+          let last : filter test (extract_rest items now) ≡ [] = (split None step).yielded ∙ ap (filter test) none_left in
+          sym (append-nil out) ∙ ap (λ l. out ++ l) (sym last) ∙ so_far.yielded
+
+      module _ (room : V → ℕ) (v : V) (lies : ExtractLies items first) (left : ExtractLies items next → ExtractLeaves items room Truncated next v) where
+        leaves : ExtractLeaves items room Truncated next v
+        leaves = left ((on None step).lies lies)
+
+        pub sifted_left : items v ≡ extract_front items first ++ others (extract_rest items first) ++ extract_back items first
+        sifted_left =
+            leaves.items_are ∙ ap (λ l. extract_front items next ++ l ++ extract_back items next) (none_left ∙ ap others (sym none_left))
+            ∙ ap (λ l. l ++ extract_back items next) (front_on None step) ∙ ap (λ l. extract_front items first ++ others (extract_rest items first) ++ l) (on None step).back
+
+        pub sifted_cut : Truncated (extract_vec first) v
+        sifted_cut = (on None step).cut v leaves.cut

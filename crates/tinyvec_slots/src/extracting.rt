@@ -1,4 +1,4 @@
-//! `extract_if` of each vector: the items of a range that a closure chooses are removed and yielded.
+//! `extract_if` of each vector, over `CanCut`: an iterator over the items of a range that a closure chooses.
 ghost use Rattle.std.specs.Prelude.{◌≡◌, ◌+◌, ◌≤◌, ◌++◌, List, length, take, drop, slice_range, IfSome, Some};
 ghost use Rattle.std.specs.Fn.{CalledAtMut};
 ghost use Rattle.std.specs.Iterator.{at_most, UpTo};
