@@ -4,6 +4,7 @@ pub use Rattle.tinyvec_slots.specs.Ranges
 pub use Rattle.tinyvec_slots.specs.Ends
 pub use Rattle.tinyvec_slots.specs.Filling
 pub use Rattle.tinyvec_slots.specs.Filters
+pub use Rattle.tinyvec_slots.specs.Extracting
 pub use Rattle.tinyvec_slots.specs.Clones
 pub use Rattle.tinyvec_slots.specs.Texts
 pub use Rattle.tinyvec_slots.specs.Fused

@@ -13,7 +13,8 @@ pub use into_iter::TinyVecIterator;
 pub use splice::TinyVecSplice;
 pub use tiny_vec::TinyVec;
 pub use tinyvec_array::{
-    Array, ArrayVec, ArrayVecDrain, ArrayVecIterator, ArrayVecSplice, CapacityError, FromIterRest,
+    Array, ArrayVec, ArrayVecDrain, ArrayVecIterator, ArrayVecSplice, CapacityError, ExtractIf,
+    FromIterRest,
     NoMemory, NoRoom, SpliceRest, TryFromSliceError, array_vec,
 };
 pub use tinyvec_slice::{GenericSliceVec, GenericSliceVecDrain, Lent, SliceVec, SliceVecDrain};

@@ -17,5 +17,5 @@ pub use capacity_error::CapacityError;
 pub use drain::ArrayVecDrain;
 pub use into_iter::ArrayVecIterator;
 pub use splice::ArrayVecSplice;
-pub use tinyvec_slots::{FromIterRest, NoMemory, NoRoom, SpliceRest};
+pub use tinyvec_slots::{ExtractIf, FromIterRest, NoMemory, NoRoom, SpliceRest};
 pub use try_from_slice_error::TryFromSliceError;

@@ -3,7 +3,7 @@ ghost use Rattle.tinyvec_array.specs.Drain.{DrainCanStep};
 ghost use Rattle.tinyvec_array.specs.Splice.{SpliceCanStep};
 
 use crate::held::Copies;
-use crate::steps::iterated;
+use crate::steps::{extracted, iterated};
 use crate::vector::Vector;
 use std::alloc::AllocError;
 use std::fmt::Write;
@@ -214,6 +214,19 @@ impl<T: Item, A: Array<Item = T>> Vector for ArrayVec<A> {
 
     fn pop_at(&mut self, i: usize, out: &mut String) -> Result<(), Wrong> {
         say(out, &self.pop_at(i))
+    }
+
+    fn extract_if<F: FnMut(&mut T) -> bool>(
+        &mut self,
+        range: Span,
+        f: F,
+        steps: &[&str],
+        out: &mut String,
+    ) -> Result<(), Wrong> {
+        if !is_within(range, self.len()) {
+            return Err(Wrong::Place);
+        }
+        extracted(self.extract_if(range, f), steps, out)
     }
 
     fn drain(&mut self, range: Span, steps: &[&str], out: &mut String) -> Result<(), Wrong> {

@@ -114,6 +114,7 @@ fn cut<V: Vector>(
 ) -> Result<(), Wrong> {
     match name {
         "drain" => v.drain(words.span()?, words.rest()?.as_slice(), out),
+        "extract_if" => extract_if(v, words, out),
         "drain_into" => drain_into(v, words.span()?, words.items()?, out),
         "splice" => v.splice(words.span()?, words.items()?, words.rest()?.as_slice(), out),
         "splice_all" => v.splice_all(words.span()?, words.items()?, out),
@@ -148,6 +149,24 @@ fn add_to_each<V: Vector>(v: &mut V, more: i32) {
     for x in v.items_mut() {
         x.add(more);
     }
+}
+
+fn extract_if<V: Vector>(
+    v: &mut V,
+    words: &mut Words<'_>,
+    out: &mut String,
+) -> Result<(), Wrong> {
+    let range = words.span()?;
+    let mut closure = Closure::new(words.alloc, words.word());
+    let more = words.number()?;
+    let steps = words.rest()?;
+    v.extract_if(
+        range,
+        |x| closure.asks_and_adds(x, more),
+        steps.as_slice(),
+        out,
+    )?;
+    closure.say(out)
 }
 
 fn resize_with<V: Vector>(

@@ -2,6 +2,7 @@
 ghost use Rattle.tinyvec_slice.specs.Drain.{DrainCanStep};
 
 use crate::held::Copies;
+use crate::steps::extracted;
 use crate::vector::Vector;
 use tinyvec::{GenericSliceVecDrain, Lent, NoRoom, SliceVec};
 use tinyvec_rows::{
@@ -165,6 +166,19 @@ impl<'s, T: Item> Vector for SliceVec<'s, T> {
             return Err(Wrong::Place);
         }
         self.split_off(at).say_state(out)
+    }
+
+    fn extract_if<F: FnMut(&mut T) -> bool>(
+        &mut self,
+        range: Span,
+        f: F,
+        steps: &[&str],
+        out: &mut String,
+    ) -> Result<(), Wrong> {
+        if !is_within(range, self.len()) {
+            return Err(Wrong::Place);
+        }
+        extracted(self.extract_if(range, f), steps, out)
     }
 
     fn drain(&mut self, range: Span, steps: &[&str], out: &mut String) -> Result<(), Wrong> {

@@ -1,6 +1,8 @@
-//! Steps of the iterators that own their items.
-use tinyvec_rows::{Item, Wrong, counted, say, say_left, say_slots};
-use tinyvec_slots::{OwnedItems, OwnsItems};
+//! Steps of the iterators of all vectors: those that own their items, and those that extract items.
+ghost use Rattle.tinyvec_slots.specs.Extracting.{extract_closure, ExtractLies};
+
+use tinyvec_rows::{Item, Wrong, counted, say, say_hint, say_left, say_slots};
+use tinyvec_slots::{CanCut, ExtractIf, OwnedItems, OwnsItems};
 
 /// Does steps at an iterator, and writes what each answers.
 pub fn iterated<V: OwnsItems>(
@@ -58,4 +60,44 @@ where
         ("nth_back", count) => say(out, &it.nth_back(count)),
         _ => Err(Wrong::Value),
     }
+}
+
+/// Does steps at an iterator that extracts items, and writes what each answers. `None` and `rest` end them.
+pub fn extracted<V: CanCut, F: FnMut(&mut V::Item) -> bool>(
+    mut it: ExtractIf<'_, V, F>,
+    steps: &[&str],
+    out: &mut String,
+) -> Result<(), Wrong>
+where
+    V::Item: Item,
+    requires lies { ExtractLies V.items it }
+    requires callable { F.IsAlwaysCallable (extract_closure it) }
+{
+    for step in steps {
+        match *step {
+            "hint" => say_hint(out, &it)?,
+            "rest" => return say_rest(it, out),
+            "next" => match it.next() {
+                Some(x) => say(out, &Some(x))?,
+                None => return say(out, &None::<i32>),
+            },
+            _ => return Err(Wrong::Value),
+        }
+    }
+    Ok(())
+}
+
+fn say_rest<V: CanCut, F: FnMut(&mut V::Item) -> bool>(
+    it: ExtractIf<'_, V, F>,
+    out: &mut String,
+) -> Result<(), Wrong>
+where
+    V::Item: Item,
+    requires lies { ExtractLies V.items it }
+    requires callable { F.IsAlwaysCallable (extract_closure it) }
+{
+    for x in it {
+        say(out, &x)?;
+    }
+    Ok(())
 }

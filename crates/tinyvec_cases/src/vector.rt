@@ -81,6 +81,16 @@ pub trait Vector {
 
     fn drain(&mut self, range: Span, steps: &[&str], out: &mut String) -> Result<(), Wrong>;
 
+    /// Extracts from the range, and writes what the steps yield.
+    fn extract_if<F: FnMut(&mut Self::Item) -> bool>(
+        &mut self,
+        range: Span,
+        f: F,
+        steps: &[&str],
+        out: &mut String,
+    ) -> Result<(), Wrong>
+        requires { F.IsAlwaysCallable f };
+
     fn drain_into(&mut self, range: Span, to: &mut Vec<Self::Item>) -> Result<(), Wrong>;
 
     fn splice(

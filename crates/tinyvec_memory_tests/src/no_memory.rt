@@ -43,12 +43,14 @@ fn taken_apart_and_joined(rt: HostRuntime) -> Result<(), Fail> {
     let is_cut = makes(v.split_off(2), &[3]);
     let is_joined = v.append(&mut other).is_ok() & lies(&v, &[1, 2, 4], true);
     let is_drained = v.drain(..1).next() == Some(1);
+    let is_extracted = v.extract_if(.., |item| *item == 4).next() == Some(4);
     v.retain(|item| *item != 2);
     v.dedup();
     all_steps(&[
         is_cut,
         is_joined,
         is_drained,
+        is_extracted,
         v.splice(.., 5..=7).finish().is_ok(),
         v.into_iter().next() == Some(5),
     ])

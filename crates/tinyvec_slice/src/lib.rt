@@ -10,3 +10,4 @@ mod slice_vec;
 pub use drain::{GenericSliceVecDrain, SliceVecDrain};
 pub use lent::Lent;
 pub use slice_vec::{GenericSliceVec, SliceVec};
+pub use tinyvec_slots::ExtractIf;

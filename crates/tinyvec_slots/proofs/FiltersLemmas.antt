@@ -29,7 +29,7 @@ module _ {X : Type 0} (ys : List X) (k i : ℕ) (x : X) (le : k ≤ i) (lt : i <
       ap (drop (i + 1)) (sym (swap_is ys k i x (omega arith) lt)) ∙ drop-set-lt (i + 1) (set ys k (get_or ys i x)) i (get_or ys k x) (omega arith)
       ∙ drop-set-lt (i + 1) ys k (get_or ys i x) (omega arith)
 
-  item_at : take 1 (drop i ys) ≡ x ∷ []
+  pub item_at : take 1 (drop i ys) ≡ x ∷ []
   item_at = ap (take 1) (drop_more ys i x lt) ∙ ap (λ y. y ∷ []) (sym is)
 
 module _ {S X : Type 0} (R : S → X → Bool → S → X → Type 0) where

@@ -21,3 +21,4 @@ pub mod TextLemmas
 pub mod ReplacingLemmas
 pub mod KnownItems
 pub mod PopLemmas
+pub mod ExtractingLemmas

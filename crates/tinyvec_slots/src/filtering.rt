@@ -123,7 +123,7 @@ fn retain_mut_in_front<T: Default + Drop, F: FnMut(&mut T) -> bool>(
 
 // Moves the item at `i` to `kept` if it stays. An item of up to 16 bytes moves in any case, since that takes no branch.
 #[inline(always)]
-fn move_down<T: Default + Drop>(items: &mut [T], kept: usize, i: usize, stays: bool)
+pub(crate) fn move_down<T: Default + Drop>(items: &mut [T], kept: usize, i: usize, stays: bool)
     requires order { kept ≤ i }
     requires in_bounds { i < length items.old }
     ensures behind { drop (i + 1) items.new ≡ drop (i + 1) items.old }

@@ -3,6 +3,7 @@
 
 mod can_cut;
 mod can_splice;
+mod extracting;
 mod filtering;
 mod gap;
 mod in_slots;
@@ -18,6 +19,7 @@ mod tuned;
 
 pub use can_cut::CanCut;
 pub use can_splice::CanSplice;
+pub use extracting::{ExtractIf, extract_if};
 pub use filtering::{dedup_by, dedup_by_key, pop_if, retain, retain_mut};
 pub use gap::Gap;
 pub use in_slots::InSlots;

@@ -3,10 +3,14 @@ ghost use Rattle.std.specs.Prelude.{◌≡◌, ◌-◌, ◌≤◌, slice_get, So
 ghost use Rattle.std.specs.Fn.{FnOnceTakesAtMut, CalledAt, CalledAtMut, CalledAtPairMut, ComparesKeys};
 ghost use Rattle.std.specs.List.{dedup as dedup_list};
 ghost use Rattle.std.specs.List.Retain.{IsFiltered, RetainsInTurn, IsDeduped, PopsIf};
+ghost use Rattle.tinyvec_slots.specs.Ranges.{range_start, range_end, IsRangeOf};
+ghost use Rattle.tinyvec_slots.specs.Extracting.{Extracts};
 ghost use Rattle.tinyvec.specs.TinyVec.{tiny_items, tiny_len, StaysInPlace};
 
 use crate::TinyVec;
+use std::ops::RangeBounds;
 use tinyvec_array::Array;
+use tinyvec_slots::{ExtractIf, resolve_range};
 
 impl<A: Array> TinyVec<A> {
     /// Calls `f` on each item in turn, and keeps those for which it returns `true`. A kept item is moved at most once.
@@ -85,5 +89,24 @@ impl<A: Array> TinyVec<A> {
         ensures frame { StaysInPlace A.Item.is_default A.CAPACITY self.old self.new }
     {
         tinyvec_slots::pop_if(self, predicate)
+    }
+
+    /// Calls `pred` with the items of the range in turn, as far as the iterator is driven, and removes and yields those for
+    /// which it returns `true`. The others stay in order, as `pred` left them, and those after the range move down when the
+    /// iterator is dropped.
+    ///
+    /// `not_exhausted` fails only for a `RangeInclusive` that was iterated to its end.
+    pub fn extract_if<R: RangeBounds<usize>, F: FnMut(&mut A::Item) -> bool>(
+        &mut self,
+        range: R,
+        pred: F,
+    ) -> ExtractIf<'_, TinyVec<A>, F>
+        requires not_exhausted { R.has_bounds range }
+        requires in_list { IsRangeOf (tiny_items self.old) (R.start_bound range) (R.end_bound range) }
+        ensures { Extracts tiny_items (StaysInPlace A.Item.is_default A.CAPACITY) F.FnMut self.entry
+            (range_start (R.start_bound range)) (range_end (R.end_bound range) (tiny_len self.old)) pred result }
+    {
+        let part = resolve_range(range, self.len());
+        tinyvec_slots::extract_if(self, part.start, part.end, pred)
     }
 }

@@ -3,9 +3,14 @@ ghost use Rattle.std.specs.Prelude.{◌≡◌, ◌-◌, slice_get, Some};
 ghost use Rattle.std.specs.Fn.{CalledAt, FnOnceTakesAtMut};
 ghost use Rattle.std.specs.List.Retain.{IsFiltered, PopsIf};
 ghost use Rattle.tinyvec_slots.specs.Slots.{Shortens};
+ghost use Rattle.tinyvec_slots.specs.Ranges.{range_start, range_end, IsRangeOf};
+ghost use Rattle.tinyvec_slots.specs.Extracting.{Extracts};
 ghost use Rattle.tinyvec_slice.specs.SliceVec.{view_of, items_of, len_of, SameLender};
+ghost use Rattle.tinyvec_slice.specs.CutLaws.{CutOf};
 
 use crate::{GenericSliceVec, Lent};
+use std::ops::RangeBounds;
+use tinyvec_slots::{ExtractIf, resolve_range};
 
 impl<B: Lent> GenericSliceVec<B>
 where
@@ -32,5 +37,25 @@ where
         ensures shorter { Shortens B.Item.is_default (view_of B.Lent self.old) (view_of B.Lent self.new) }
     {
         tinyvec_slots::pop_if(self, predicate)
+    }
+
+    /// Calls `pred` with the items of the range in turn, as far as the iterator is driven, and removes and yields those for
+    /// which it returns `true`. The others stay in order, as `pred` left them, and those after the range move down when the
+    /// iterator is dropped. A caller that is generic over `Lent` knows what the vector holds afterwards; one that names
+    /// `SliceVec` does not.
+    ///
+    /// `not_exhausted` fails only for a `RangeInclusive` that was iterated to its end.
+    pub fn extract_if<R: RangeBounds<usize>, F: FnMut(&mut B::Item) -> bool>(
+        &mut self,
+        range: R,
+        pred: F,
+    ) -> ExtractIf<'_, GenericSliceVec<B>, F>
+        requires not_exhausted { R.has_bounds range }
+        requires in_list { IsRangeOf (items_of B.Lent self.old) (R.start_bound range) (R.end_bound range) }
+        ensures { Extracts (items_of B.Lent) (CutOf B.Lent B.Item.is_default) F.FnMut self.entry
+            (range_start (R.start_bound range)) (range_end (R.end_bound range) (len_of B.Lent self.old)) pred result }
+    {
+        let part = resolve_range(range, self.len());
+        tinyvec_slots::extract_if(self, part.start, part.end, pred)
     }
 }

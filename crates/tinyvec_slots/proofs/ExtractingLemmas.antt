@@ -1,0 +1,255 @@
+-- The turns of the loop under `extract_if`, and what its steps make of a list.
+use Rattle.std.proofs.Common.{◌≡◌, ℕ, ◌+◌, ◌-◌, ◌<◌, ◌≤◌, Bool, true, false, cond, not, List, [], ◌∷◌, ◌++◌, length, get_or, set, take, drop, slice_range, filter, option_to_list, Option, Some, None, refl, sym, ap, ◌∙◌, subst, arith, append-nil, append_assoc, drop-set-lt, length-set, take-append-drop}
+use Rattle.std.proofs.lemmas.List.{take-set-le, get_or-set_same, drop-drop}
+use Rattle.std.proofs.iter.runs.Lists.{Everywhere, one_more, none-some, same_Some}
+use Rattle.std.proofs.iter.runs.Made.{took, each}
+use Rattle.std.specs.Borrow.{MutBor}
+use Rattle.std.specs.Fn.{CalledAtMut, Mut}
+use Rattle.std.specs.Iterator.{Yields}
+use Rattle.std.specs.List.Retain.{ExtractsNext, IsChosenBy}
+use Rattle.tinyvec_slots.specs.Extracting.{extract_closure, extract_vec, extract_front, extract_rest, extract_back, EachIsChosen, ExtractKeeps, ExtractLeaves, ExtractLies, ExtractSteps}
+use Rattle.tinyvec_slots.specs.declared.extracting.ExtractIf.{ExtractIf}
+use Rattle.tinyvec_slots.proofs.Lists.{slice_range_first}
+use Rattle.tinyvec_slots.proofs.FiltersLemmas.{item_at}
+
+pub drop_range : {X : Type 0} (xs : List X) (i j : ℕ) → i ≤ j → drop i xs ≡ slice_range xs i j ++ drop j xs
+drop_range xs i j le =
+    let on : i + (j - i) ≡ j = omega arith in
+    sym (take-append-drop (j - i) (drop i xs)) ∙ ap (λ l. take (j - i) (drop i xs) ++ l) (drop-drop (j - i) i xs ∙ ap (λ n. drop n xs) on)
+
+-- from j on the lists are one if they are so behind an i before it
+module _ {X : Type 0} (xs ys : List X) (i j : ℕ) (lt : i < j) (behind : drop (i + 1) ys ≡ drop (i + 1) xs) where
+  same_back : drop j ys ≡ drop j xs
+  same_back =
+      let on : i + 1 + (j - (i + 1)) ≡ j = omega arith in
+      ap (λ n. drop n ys) (sym on) ∙ sym (drop-drop (j - (i + 1)) (i + 1) ys) ∙ ap (drop (j - (i + 1))) behind
+      ∙ drop-drop (j - (i + 1)) (i + 1) xs ∙ ap (λ n. drop n xs) on
+
+module _ {S X : Type 0} (R : S → X → Bool → S → X → Type 0) (s : S) (xs : List X) where
+  -- R turned down the items of xs before ys, and left them as ks. It goes on at t.
+  pub Passed : List X → S → List X → Type 0
+  Passed ks t ys = (r : Option X) (u : S) (kept rest : List X) → ExtractsNext R t ys r u kept rest → ExtractsNext R s xs r u (ks ++ kept) rest
+
+  pub none_passed : Passed [] s xs
+  unfolding Passed
+  none_passed r u kept rest h = h
+
+  module _ (ks : List X) (t : S) (ys : List X) (passed : Passed ks t ys) where
+    passed_more : (y z : X) (zs : List X) (u : S) → ys ≡ y ∷ zs → R t y false u z → Passed (ks ++ z ∷ []) u zs
+    unfolding Passed
+    passed_more y z zs u is asked r v kept rest h =
+        subst (λ l. ExtractsNext R s xs r v l rest) (sym (append_assoc ks (z ∷ []) kept))
+        (passed r v (z ∷ kept) rest (subst (λ l. ExtractsNext R t l r v (z ∷ kept) rest) (sym is) (false, u, z, asked, (kept, h, refl))))
+
+    passed_to : (y z : X) (zs : List X) (u : S) → ys ≡ y ∷ zs → R t y true u z → ExtractsNext R s xs (Some z) u ks zs
+    unfolding Passed
+    passed_to y z zs u is asked =
+        subst (λ l. ExtractsNext R s xs (Some z) u l zs) (append-nil ks)
+        (passed (Some z) u [] zs (subst (λ l. ExtractsNext R t l (Some z) u [] zs) (sym is) (true, u, z, asked, (refl, refl, refl, refl))))
+
+    passed_all : ys ≡ [] → ExtractsNext R s xs None t ks []
+    unfolding Passed
+    passed_all none = subst (λ l. ExtractsNext R s xs None t l []) (append-nil ks) (passed None t [] [] (subst (λ l. ExtractsNext R t l None t [] []) (sym none) (refl, refl, refl, refl)))
+
+module _ {S X : Type 0} (R : S → X → Bool → S → X → Type 0) (s : S) (xs : List X) (front gap end : ℕ) where
+  -- R turned down the items of xs from `front + gap` up to i, which moved down over the gap. It goes on at t.
+  pub record TurnedDown (t : S) (ys : List X) (i : ℕ) : Type 0 where
+    pub kept : List X
+    pub passed : Passed R s (slice_range xs (front + gap) end) kept t (slice_range ys i end)
+    pub front_is : take (i - gap) ys ≡ take front xs ++ kept
+    pub back : drop end ys ≡ drop end xs
+
+  pub turned_none : TurnedDown s xs (front + gap)
+  turned_none =
+      let same : front + gap - gap ≡ front = omega arith in record {
+        kept = [];
+        passed = none_passed R s (slice_range xs (front + gap) end);
+        front_is = ap (λ n. take n xs) same ∙ sym (append-nil (take front xs));
+        back = refl;
+      }
+
+  -- what the calls found and left, as `take_chosen` says it
+  abbrev pub Found : Option X → S → List X → ℕ → ℕ → Type 0
+  Found r t ys to from = (kept : List X) × ExtractsNext R s (slice_range xs (front + gap) end) r t kept (slice_range ys from end) × (take to ys ≡ take front xs ++ kept)
+
+  -- at the end
+  pub found_none : (t : S) (ys : List X) (i from : ℕ) → i ≡ end → from ≡ end → TurnedDown t ys i → Found None t ys (end - gap) from
+  found_none t ys i from last same h =
+      let none : (n : ℕ) → n ≡ end → slice_range ys n end ≡ [] = λ n e. let zero : end - n ≡ 0 = omega arith in ap (λ k. take k (drop n ys)) zero in (
+        h.kept,
+        subst (λ l. ExtractsNext R s (slice_range xs (front + gap) end) None t h.kept l) (sym (none from same)) (passed_all R s _ h.kept t _ h.passed (none i last)),
+        ap (λ n. take (n - gap) ys) (sym last) ∙ h.front_is,
+      )
+
+  -- a turn at i, where the question left y
+  module _ (t u : S) (ys : List X) (i : ℕ) (x y : X) (low : gap ≤ i) (lt : i < end) (le : end ≤ length ys) (is : x ≡ get_or ys i x) (h : TurnedDown t ys i) where
+    seen : slice_range ys i end ≡ x ∷ slice_range (set ys i y) (i + 1) end
+    seen = slice_range_first ys i end x y lt le is
+
+    ahead : take (i - gap) (set ys i y) ≡ take front xs ++ h.kept
+    ahead = take-set-le (i - gap) ys i y (omega arith) ∙ h.front_is
+
+    pub found_back : (d : X) → drop end (set (set ys i y) i d) ≡ drop end xs
+    found_back d = drop-set-lt end (set ys i y) i d lt ∙ drop-set-lt end ys i y lt ∙ h.back
+
+    -- the item stays, and was moved down
+    module _ (zs : List X) (asked : R t x false u y) (behind : drop (i + 1) zs ≡ drop (i + 1) (set ys i y))
+        (moved : take (i - gap + 1) zs ≡ take (i - gap) (set ys i y) ++ take 1 (drop i (set ys i y))) where
+      pub turned_more : TurnedDown u zs (i + 1)
+      turned_more =
+          let on : i + 1 - gap ≡ i - gap + 1 = omega arith in
+          let long = length-set ys i y in
+          let here = item_at (set ys i y) i i y (omega arith) (omega arith) (sym (get_or-set_same ys i y y (omega arith))) in record {
+            kept = h.kept ++ y ∷ [];
+            passed = subst (Passed R s (slice_range xs (front + gap) end) (h.kept ++ y ∷ []) u) (ap (take (end - (i + 1))) (sym behind))
+                (passed_more R s _ h.kept t _ h.passed x y _ u seen asked);
+            front_is = ap (λ n. take n zs) on ∙ moved ∙ ap (λ l. take (i - gap) (set ys i y) ++ l) here ∙ ap (λ l. l ++ y ∷ []) ahead ∙ append_assoc _ h.kept (y ∷ []);
+            back = same_back (set ys i y) zs i end lt behind ∙ drop-set-lt end ys i y lt ∙ h.back;
+          }
+
+    -- the item is taken, and leaves d
+    module _ (d r : X) (asked : R t x true u y) (same : r ≡ y) (from : ℕ) (next : from ≡ i + 1) where
+      pub found_some : Found (Some r) u (set (set ys i y) i d) (i - gap) from
+      found_some =
+          let rest : slice_range (set ys i y) (i + 1) end ≡ slice_range (set (set ys i y) i d) from end =
+          ap (take (end - (i + 1))) (sym (drop-set-lt (i + 1) (set ys i y) i d (omega arith))) ∙ ap (λ n. slice_range (set (set ys i y) i d) n end) (sym next) in (
+            h.kept,
+            subst (λ l. ExtractsNext R s (slice_range xs (front + gap) end) (Some r) u h.kept l) rest
+                (subst (λ z. ExtractsNext R s (slice_range xs (front + gap) end) (Some z) u h.kept (slice_range (set ys i y) (i + 1) end)) (sym same)
+                (passed_to R s _ h.kept t _ h.passed x y _ u seen asked)),
+            take-set-le (i - gap) (set ys i y) i d (omega arith) ∙ ahead,
+          )
+
+module _ {S X : Type 0} (R : S → X → Bool → S → X → Type 0) where
+  -- an item that a call yields is one that R chose
+  chosen : (s : S) (xs : List X) (x : X) (t : S) (kept rest : List X) → ExtractsNext R s xs (Some x) t kept rest → IsChosenBy R x
+  chosen s [] x t kept rest h = absurd (none-some x (sym h.0))
+  chosen s (z ∷ xs) x t kept rest (true, u, y, asked, found) =
+      (s, z, u, subst (R s z true u) (same_Some y x (sym found.0)) asked)
+  chosen s (z ∷ xs) x t kept rest (false, u, y, asked, later) = chosen u xs x t later.0 rest later.1
+
+  along : {E : Type 0} (steps : E → Option X → E → Type 0) (says : (d : E) (x : X) (e : E) → steps d (Some x) e → IsChosenBy R x)
+      → (xs : List X) (d e : E) → Yields steps d xs e → Everywhere xs (IsChosenBy R)
+  along steps says [] d e y = λ k. tt
+  along steps says (x ∷ xs) d e y = one_more (IsChosenBy R) x xs (says d x y.0 y.1) (along steps says xs y.0 e y.2)
+
+module _ {V T F : Type 0} (items : V → List T) (Truncated : V → V → Type 0) (g : Mut F (MutBor T × Unit {0}) (Bool × (MutBor T × Unit {0}))) where
+  pub each_is_chosen : EachIsChosen items Truncated g
+  each_is_chosen p _ =
+      let R = CalledAtMut g in
+      each p (IsChosenBy R) (along R (ExtractSteps items Truncated g) (λ d x e h. chosen R _ _ x _ h.kept _ h.asked) p.items p.from (took p).0 (took p).1)
+
+-- after `None` no item of the range is left
+extracts_all : {S X : Type 0} (R : S → X → Bool → S → X → Type 0) (s : S) (xs : List X) (t : S) (kept rest : List X) → ExtractsNext R s xs None t kept rest → rest ≡ []
+extracts_all R s [] t kept rest h = h.3
+extracts_all R s (x ∷ xs) t kept rest (true, u, y, asked, found) = absurd (none-some y found.0)
+extracts_all R s (x ∷ xs) t kept rest (false, u, y, asked, later) = extracts_all R u xs t later.0 rest later.1
+
+-- R is a test, by a closure f that changes neither itself nor the items
+module _ {F X : Type 0} (R : F → X → Bool → F → X → Type 0) (test : X → Bool) (f : F)
+    (h : (x : X) (b : Bool) (f' : F) (y : X) → R f x b f' y → (b ≡ test x) × (f' ≡ f) × (y ≡ x)) where
+  -- what a call makes of the items that are still to be yielded, and of those that stay
+  record Splits (xs : List X) (r : Option X) (t : F) (kept rest : List X) : Type 0 where
+    same : t ≡ f
+    yielded : filter test xs ≡ option_to_list r ++ filter test rest
+    others : filter (λ x. not (test x)) xs ≡ kept ++ filter (λ x. not (test x)) rest
+
+  extracts_splits : (xs : List X) (r : Option X) (t : F) (kept rest : List X) → ExtractsNext R f xs r t kept rest → Splits xs r t kept rest
+  extracts_splits [] r t kept rest e = record {
+    same = e.1;
+    yielded = rw (e.0, e.3) refl;
+    others = rw (e.2, e.3) refl;
+  }
+  extracts_splits (x ∷ xs) r t kept rest (true, u, y, asked, found) =
+      let one = h x true u y asked in
+      let others = filter (λ x. not (test x)) xs in record {
+        same = found.1 ∙ one.1;
+        yielded = ap (λ a. cond a (x ∷ filter test xs) (filter test xs)) (sym one.0) ∙ ap (λ z. z ∷ filter test xs) (sym one.2)
+            ∙ (λ i. option_to_list (sym found.0 i) ++ filter test (sym found.3 i));
+        others = ap (λ a. cond (not a) (x ∷ others) others) (sym one.0) ∙ (λ i. sym found.2 i ++ filter (λ x. not (test x)) (sym found.3 i));
+      }
+  extracts_splits (x ∷ xs) r t kept rest (false, u, y, asked, later) =
+      let one = h x false u y asked in
+      let others = filter (λ x. not (test x)) xs in
+      let on = extracts_splits xs r t later.0 rest (subst (λ v. ExtractsNext R v xs r t later.0 rest) one.1 later.1) in record {
+        same = on.same;
+        yielded = ap (λ a. cond a (x ∷ filter test xs) (filter test xs)) (sym one.0) ∙ on.yielded;
+        others = ap (λ a. cond (not a) (x ∷ others) others) (sym one.0) ∙ ap (λ l. x ∷ l) on.others
+            ∙ ap (λ z. z ∷ (later.0 ++ filter (λ x. not (test x)) rest)) (sym one.2) ∙ ap (λ l. l ++ filter (λ x. not (test x)) rest) (sym later.2);
+      }
+
+-- a loop over an iterator `first`, by a closure that returns `test` of each item
+module _ {V F T : Type 0} (items : V → List T) (Truncated : V → V → Type 0) (test : T → Bool) (first : ExtractIf V F T) where
+  -- the items that are not chosen
+  abbrev others : List T → List T
+  others = filter (λ x. not (test x))
+
+  -- it has yielded `out`, and is now `now`
+  pub record Sifted (out : List T) (now : ExtractIf V F T) : Type 0 where
+    pub same : extract_closure now ≡ extract_closure first
+    pub yielded : out ++ filter test (extract_rest items now) ≡ filter test (extract_rest items first)
+    pub stays : extract_front items now ++ others (extract_rest items now) ≡ extract_front items first ++ others (extract_rest items first)
+    pub keeps : ExtractKeeps items Truncated first now
+
+  pub sifted_none : Sifted [] first
+  sifted_none = record {
+    same = refl;
+    yielded = refl;
+    stays = refl;
+    keeps = record { same_reference = refl; back = refl; lies = λ lies. lies; cut = λ v cut. cut };
+  }
+
+  module _ (g : Mut F (MutBor T × Unit {0}) (Bool × (MutBor T × Unit {0})))
+      (h : (x : T) (b : Bool) (f' : F) (y : T) → CalledAtMut g (extract_closure first) x b f' y → (b ≡ test x) × (f' ≡ extract_closure first) × (y ≡ x))
+      (out : List T) (now next : ExtractIf V F T) (so_far : Sifted out now) where
+    abbrev Steps : Option T → Type 0
+    Steps item = ExtractSteps items Truncated g now item next
+
+    split : (item : Option T) (step : Steps item) → Splits (CalledAtMut g) test (extract_closure first) h (extract_rest items now) item (extract_closure next) step.kept (extract_rest items next)
+    split item step =
+        extracts_splits (CalledAtMut g) test (extract_closure first) h _ item _ step.kept _
+        (subst (λ f. ExtractsNext (CalledAtMut g) f (extract_rest items now) item (extract_closure next) step.kept (extract_rest items next)) so_far.same step.asked)
+
+    on : (item : Option T) (step : Steps item) → ExtractKeeps items Truncated first next
+    on item step = record {
+      same_reference = step.keeps.same_reference ∙ so_far.keeps.same_reference;
+      back = step.keeps.back ∙ so_far.keeps.back;
+      lies = λ lies. step.keeps.lies (so_far.keeps.lies lies);
+      cut = λ v cut. so_far.keeps.cut v (step.keeps.cut v cut);
+    }
+
+    front_on : (item : Option T) (step : Steps item) → extract_front items next ++ others (extract_rest items next) ≡ extract_front items first ++ others (extract_rest items first)
+    front_on item step =
+        ap (λ l. l ++ others (extract_rest items next)) step.front ∙ append_assoc (extract_front items now) step.kept _
+        ∙ ap (λ l. extract_front items now ++ l) (sym (split item step).others) ∙ so_far.stays
+
+    -- it yields one more
+    pub sifted_more : (x : T) → Steps (Some x) → Sifted (out ++ x ∷ []) next
+    sifted_more x step = record {
+      same = (split (Some x) step).same;
+      yielded = append_assoc out (x ∷ []) _ ∙ ap (λ l. out ++ l) (sym (split (Some x) step).yielded) ∙ so_far.yielded;
+      stays = front_on (Some x) step;
+      keeps = on (Some x) step;
+    }
+
+    -- it ends, and leaves v
+    module _ (step : Steps None) where
+      none_left : extract_rest items next ≡ []
+      none_left = extracts_all (CalledAtMut g) _ _ _ step.kept _ step.asked
+
+      pub sifted_yielded : out ≡ filter test (extract_rest items first)
+      sifted_yielded =
+          let last : filter test (extract_rest items now) ≡ [] = (split None step).yielded ∙ ap (filter test) none_left in
+          sym (append-nil out) ∙ ap (λ l. out ++ l) (sym last) ∙ so_far.yielded
+
+      module _ (room : V → ℕ) (v : V) (lies : ExtractLies items first) (left : ExtractLies items next → ExtractLeaves items room Truncated next v) where
+        leaves : ExtractLeaves items room Truncated next v
+        leaves = left ((on None step).lies lies)
+
+        pub sifted_left : items v ≡ extract_front items first ++ others (extract_rest items first) ++ extract_back items first
+        sifted_left =
+            leaves.items_are ∙ ap (λ l. extract_front items next ++ l ++ extract_back items next) (none_left ∙ ap others (sym none_left))
+            ∙ ap (λ l. l ++ extract_back items next) (front_on None step) ∙ ap (λ l. extract_front items first ++ others (extract_rest items first) ++ l) (on None step).back
+
+        pub sifted_cut : Truncated (extract_vec first) v
+        sifted_cut = (on None step).cut v leaves.cut
