@@ -10,7 +10,9 @@ use std::alloc::{AllocError, Global};
 use std::fmt::Write;
 use std::iter::Fuse;
 use std::{mem, vec};
-use tinyvec::{Array, ArrayVec, FromIterRest, NoMemory, NoRoom, TinyVec, TinyVecDrain, TinyVecSplice};
+use tinyvec::{
+    Array, ArrayVec, FromIterRest, NoMemory, NoRoom, TinyVec, TinyVecDrain, TinyVecSplice,
+};
 use tinyvec_rows::{
     Item, Read, Span, Words, Wrong, done, is_within, say, say_left, say_refused, say_rest,
     say_slots, say_text,
