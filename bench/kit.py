@@ -28,6 +28,7 @@ INLINE = CLEARED | {
     r"( +)(self\.(?:pop\(\)|remove\(i\)|swap_remove\(i\))\n)": r"\1let _len = self.len();\n\1\2",
     r"\btinyvec_array::": "arrayvec::",
     r"(capacity\(\) (&&|\|\|) \w+\.)extend_from_slice": r"\1try_extend_from_slice",
+    r"\.extend_exact_size\(": ".extend(",
     r"\btinyvec::": "smallvec::",
     r"vec\.move_to_the_heap\(\)": "vec.reserve(1)",
     r"\bTinyVec\b": "SmallVec",
@@ -47,6 +48,7 @@ STD = CLEARED | {
     r"vec\.move_to_the_heap\(\)\?": "{}",
     r"TinyVec::": "Vec::",
     r"\.finish\(\)(\.is_(ok|err)\(\))": r"\1",
+    r"\.extend_exact_size\(": ".extend(",
     r"alloc, Place::Inline\b": "alloc, Place::Heap",
     r"InlineText<\w+>|InlineText": "String",
 }

@@ -146,6 +146,7 @@ pub fn of_spilling<V: Growing<u64, N>, const N: usize>(report: &Report) {
     report.row("extend_from_slice", N, |x| spilling::extend_from_slice::<V, N>(&source, x));
     report.row("extend_from_range", N, |x| spilling::extend_from_range::<V, N>(2 * count, x));
     report.row("reserve_and_extend", N, |x| spilling::reserve_and_extend::<V, N>(2 * N, x));
+    report.row("extend_exact_size", N, |x| spilling::extend_exact_size::<V, N>(2 * N, x));
     report.row("append", N, |x| spilling::append(&mut other, &source, x));
     report.row("insert_front", N, |x| spilling::insert::<V, N>(&source, 0, x));
     report.row("insert_middle", N, |x| spilling::insert::<V, N>(&source, N / 2, x));

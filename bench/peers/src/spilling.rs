@@ -50,6 +50,15 @@ pub fn reserve_and_extend<V: Growing<u64, N>, const N: usize>(count: usize, x: u
     look_at(vec.as_slice(), x)
 }
 
+/// The same, by an iterator that knows their number.
+#[inline(never)]
+pub fn extend_exact_size<V: Growing<u64, N>, const N: usize>(count: usize, x: u64) -> u64 {
+    let mut vec = V::empty();
+    let start = (x % 65536) as usize;
+    vec.extend((start..start.saturating_add(count)).map(|k| k as u64));
+    look_at(vec.as_slice(), x)
+}
+
 /// Moves a list of as many items behind a full one.
 #[inline(never)]
 pub fn append<V: Growing<u64, N>, const N: usize>(other: &mut V, source: &[u64; N], x: u64) -> u64 {

@@ -3,9 +3,9 @@ use Rattle.std.proofs.Common.{◌≡◌, ℕ, ◌≤◌, ◌+◌, ◌*◌, max, 
 use Rattle.std.specs.Prelude.{OnOk, IsErr}
 use Rattle.std.proofs.lemmas.Bool.{false≢true}
 use Rattle.tinyvec_slots.specs.Slots.{Slots, SlotRule, items, items_len, spare}
-use Rattle.tinyvec.specs.TinyVec.{tiny_view, tiny_len, tiny_spare, is_inline, tiny_capacity, IsInline, PlaceRule, TinySlotRule, StaysInPlace, Unchanged}
+use Rattle.tinyvec.specs.TinyVec.{tiny_view, tiny_len, tiny_spare, is_inline, tiny_capacity, IsInline, PlaceRule, TinySlotRule, SameFrame, StaysInPlace, Unchanged}
 use Rattle.tinyvec.specs.Room.{Doubles, GrowsFor, Grows, Reserves, RoomGrows, MakesRoom}
-use Rattle.tinyvec.proofs.TinyLemmas.{slots_taken, tiny_slots_then, never_ok}
+use Rattle.tinyvec.proofs.TinyLemmas.{slots_taken, tiny_slots_then, tiny_slots_then_framed, never_ok}
 use Rattle.tinyvec.proofs.RefusedLemmas.{place_then}
 use Rattle.tinyvec.specs.View.{in_array, ViewStays}
 use Rattle.tinyvec.specs.FrameLaws.{view_unchanged}
@@ -75,6 +75,19 @@ module _ {A T : Type 0} (D : T → Type 0) (slots : ℕ) where
     grown = λ _. let doubled = room.grown (omega arith) in omega (arith, doubled, full, one);
     fits = room.fits;
   }
+
+  -- a list that made room, and of which items were written then
+  pub room_then_framed : {X Y E : Type 0} (need : ℕ) (u v w : TinyVec A T) (x : X) (y : Y) → MakesRoom {E = E} Doubles D slots need u v (Ok x)
+      → SameFrame v w → RoomGrows {E = E} Doubles D slots need u w (Ok y)
+  room_then_framed need u v w x y room frame =
+      let same = frame.capacity slots in record {
+        place = (λ i. room.place.0 (sym frame.place ∙ i), λ both. frame.place ∙ room.place.1 both);
+        slot_rule = tiny_slots_then_framed D u v w room.slot_rule frame;
+        capacity = let more = room.capacity in omega (arith, same, more);
+        same_room = λ fits. same ∙ room.same_room fits;
+        grown = λ less. same ∙ room.grown less;
+        fits = let fits = room.fits in let len = frame.len in omega (arith, same, len, fits);
+      }
 
   same_place : (need : ℕ) (v w : TinyVec A T) → need ≤ tiny_capacity slots v → PlaceRule slots need v w → is_inline w ≡ is_inline v
   same_place need (Inline v a) (Inline w b) le rule = refl

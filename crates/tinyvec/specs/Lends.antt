@@ -1,10 +1,12 @@
 -- What a `TinyVec` is after a borrow of its items.
-use Rattle.std.specs.Prelude.{ℕ, List}
-use Rattle.std.specs.Borrow.{Lends, Fml, RattleType, MutBor, Array}
+use Rattle.std.specs.Prelude.{◌≡◌, ℕ, List, ◌+◌, Result}
+use Rattle.std.specs.Borrow.{Lends, LendsSoOk, Fml, RattleType, MutBor, Array}
 use Rattle.std.specs.declared.default.Default as Default
 use Rattle.std.specs.Vec as vec
 use Rattle.tinyvec_array.specs.declared.array.Array as Slots
 use Rattle.tinyvec_slots.specs.Slots as inline
+use Rattle.tinyvec.specs.TinyVec.{tiny_items, tiny_len, Unchanged}
+use Rattle.tinyvec.specs.Room.{Doubles, RoomGrows}
 use Rattle.tinyvec.specs.declared.tiny_vec.TinyVec.{TinyVec}
 use Rattle.tinyvec.specs.declared.tiny_vec.TinyVec.TheVariants.{Inline, Heap}
 use Rattle.tinyvec.specs.contracts.tiny_vec.TinyVec.{the_row}
@@ -27,3 +29,10 @@ module _ (A I : RattleType) (a : Slots.Ghosts A.Denot I.Denot) (d : Default.Ghos
   -- once the borrow r ends, item i is what r shows last
   abbrev pub lends_item : ℕ → MutBor I.Denot → Fml
   lends_item i r = Lends (the_row A I a d) I v r (tiny_with_item v.now i)
+
+  -- r is a new item: once its borrow ends, the list is `with` of what r shows last, and room was made as by `push`. At `Err` nothing
+  -- changes.
+  abbrev pub lends_added : {E : Type 0} → (I.Denot → List I.Denot) → Result (MutBor I.Denot) E → Fml
+  lends_added with r = LendsSoOk (the_row A I a d) I v r
+      (λ n x. (tiny_items n ≡ with x) × RoomGrows Doubles d.is_default a.CAPACITY (tiny_len v.now + 1) v.now n r)
+      (Unchanged v.now)

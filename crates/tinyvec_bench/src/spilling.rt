@@ -14,6 +14,7 @@ pub enum Spill {
     ExtendFromSlice,
     ExtendFromRange,
     ReserveAndExtend,
+    ExtendExactSize,
     Append,
     InsertFront,
     InsertMiddle,
@@ -39,6 +40,9 @@ impl<const N: usize> Bench<Spill> for SpillBench<N> {
             Spill::ExtendFromRange => extend_from_range::<N>(self.alloc, &self.other, twice, x),
             Spill::ReserveAndExtend => {
                 reserve_and_extend::<N>(self.alloc, &self.other, N.saturating_add(N), x)
+            }
+            Spill::ExtendExactSize => {
+                extend_exact_size::<N>(self.alloc, &self.other, N.saturating_add(N), x)
             }
             Spill::Append => append(self.alloc, &mut self.other, &self.source, x),
             Spill::InsertFront => insert(self.alloc, &self.other, &self.source, 0, x),
@@ -68,6 +72,7 @@ pub fn of_spilling<R: Runtime, const N: usize>(report: &mut Report<'_, R>, alloc
     report.run("extend_from_slice", N, Spill::ExtendFromSlice, &mut list);
     report.run("extend_from_range", N, Spill::ExtendFromRange, &mut list);
     report.run("reserve_and_extend", N, Spill::ReserveAndExtend, &mut list);
+    report.run("extend_exact_size", N, Spill::ExtendExactSize, &mut list);
     report.run("append", N, Spill::Append, &mut list);
     report.run("insert_front", N, Spill::InsertFront, &mut list);
     report.run("insert_middle", N, Spill::InsertMiddle, &mut list);
@@ -152,6 +157,22 @@ fn reserve_and_extend<const N: usize>(
     }
     let start = x % 65536;
     match vec.extend(start..start.saturating_add(count as u64)) {
+        Ok(()) => look_at(vec.as_slice(), x),
+        Err(_) => 0,
+    }
+}
+
+// The same, by an iterator that knows their number.
+#[inline(never)]
+fn extend_exact_size<const N: usize>(
+    alloc: Global,
+    _like: &TinyVec<[u64; N]>,
+    count: usize,
+    x: u64,
+) -> u64 {
+    let mut vec = TinyVec::<[u64; N]>::new(alloc);
+    let start = (x % 65536) as usize;
+    match vec.extend_exact_size((start..start.saturating_add(count)).map(|k| k as u64)) {
         Ok(()) => look_at(vec.as_slice(), x),
         Err(_) => 0,
     }

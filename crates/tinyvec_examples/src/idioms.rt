@@ -180,6 +180,21 @@ pub fn has_repeat(v: &TinyVec<[u32; 4]>) -> bool {
     false
 }
 
+/// `v.first_chunk::<2>()`.
+pub fn first_two(v: &TinyVec<[u8; 4]>) -> Option<&[u8; 2]> {
+    v.first_chunk::<2>()
+}
+
+/// `v.as_chunks::<2>()`.
+pub fn pairs(v: &ArrayVec<[u8; 4]>) -> (&[[u8; 2]], &[u8]) {
+    v.as_chunks::<2>()
+}
+
+/// `v.chunk_by(..)`.
+pub fn number_of_runs(v: &TinyVec<[u8; 4]>) -> usize {
+    v.chunk_by(|x, y| *x == *y).count()
+}
+
 /// `v.starts_with(b"ab")`.
 pub fn starts_with(v: &TinyVec<[u8; 4]>) -> bool {
     v.starts_with(b"ab")

@@ -1,12 +1,12 @@
 //! Callers of a `TinyVec`: one list, and where it is.
-ghost use Rattle.std.specs.Prelude.{◌≡◌, ◌+◌, ◌-◌, ◌<◌, ◌≤◌, ◌++◌, ◌∷◌, [], pos, slice_get, slice_set, false, IsTrue, OnOk, OnErr};
+ghost use Rattle.std.specs.Prelude.{◌≡◌, ◌+◌, ◌-◌, ◌<◌, ◌≤◌, ◌++◌, ◌∷◌, [], pos, slice_get, slice_set, false, IsTrue, IsOk, OnOk, OnErr};
 ghost use Rattle.tinyvec.specs.Ranges.{IsRangeOf, before, removed, after};
 ghost use Rattle.tinyvec.specs.TinyVec.{tiny_items, tiny_len, tiny_spare, is_inline, tiny_capacity, IsInline, TinySlotRule, Unchanged};
 
 use crate::making::count;
 use std::alloc::{AllocError, Global};
 use std::ops::RangeBounds;
-use tinyvec::{Array, NoRoom, TinyVec, TinyVecIterator};
+use tinyvec::{Array, NoMemory, NoRoom, TinyVec, TinyVecIterator};
 
 /// Pushes that have room take no memory, so they need no test.
 pub fn three(alloc: Global) -> TinyVec<[i32; 4]>
@@ -45,6 +45,29 @@ pub fn two_more<A: Array>(v: &mut TinyVec<A>, x: A::Item, y: A::Item) -> Result<
     v.reserve(2)?;
     let _first = v.push(x);
     let _second = v.push(y);
+    Ok(())
+}
+
+/// Pushes `x`, and writes `y` to it, in any vector.
+pub fn push_then_write<A: Array>(
+    v: &mut TinyVec<A>,
+    x: A::Item,
+    y: A::Item,
+) -> Result<(), NoMemory<A::Item>>
+    ensures items { OnOk result (tiny_items v.new ≡ tiny_items v.old ++ y ∷ []) }
+    ensures kept { OnErr result (Unchanged v.old v.new) }
+{
+    *v.push_mut(x)? = y;
+    Ok(())
+}
+
+/// Inserts `x` in front, and writes `y` to it. A list that has room in its array stays there.
+pub fn insert_then_write(v: &mut TinyVec<[u8; 4]>, x: u8, y: u8) -> Result<(), NoMemory<u8>>
+    requires { tiny_len v.old < 4 }
+    ensures items { OnOk result (tiny_items v.new ≡ y ∷ tiny_items v.old) }
+    ensures place { IsInline v.old → IsOk result × IsInline v.new }
+{
+    *v.insert_mut(0, x)? = y;
     Ok(())
 }
 

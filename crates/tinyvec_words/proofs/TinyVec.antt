@@ -1,5 +1,5 @@
 -- Examples of a `TinyVec` whose array has four slots. `inline xs ys` has the list xs in the array, and the spare slots ys.
-use Rattle.std.proofs.Common.{◌≡◌, ℕ, List, [], ◌∷◌, Ok, Result, true, false, refl, rules, arith}
+use Rattle.std.proofs.Common.{◌≡◌, ℕ, List, [], ◌∷◌, ◌++◌, Ok, Result, true, false, refl, rules, arith}
 use Rattle.std.specs.Global.{Global}
 use Rattle.tinyvec.specs.declared.tiny_vec.TinyVec.{TinyVec}
 use Rattle.tinyvec.specs.declared.tiny_vec.TinyVec.TheVariants.{Inline}
@@ -76,6 +76,11 @@ module _ (A : Type 0) (alloc : Global) where
   -- of tinyvec.specs.Lends
   pub example-lends_item : tiny_with_item (inline (1 ∷ 2 ∷ []) (0 ∷ 0 ∷ [])) 1 7 ≡ inline (1 ∷ 7 ∷ []) (0 ∷ 0 ∷ [])
   example-lends_item = refl
+
+  -- of tinyvec.specs.Lends
+  pub example-lends_added : (tiny_items (inline (1 ∷ 5 ∷ []) (8 ∷ 0 ∷ [])) ≡ (1 ∷ []) ++ 5 ∷ [])
+      × RoomGrows Doubles D 4 2 (inline (1 ∷ []) (7 ∷ 8 ∷ 0 ∷ [])) (inline (1 ∷ 5 ∷ []) (8 ∷ 0 ∷ [])) done
+  example-lends_added = search rules
 
   pub example-Grows : Grows D 4 (inline (1 ∷ []) (7 ∷ 8 ∷ 0 ∷ [])) (inline (1 ∷ 5 ∷ []) (8 ∷ 0 ∷ []))
   example-Grows = search rules

@@ -4,6 +4,7 @@ ghost use Rattle.tinyvec.specs.TinyVec.{tiny_items, tiny_len, tiny_spare, tiny_c
 ghost use Rattle.tinyvec.specs.Room.{Doubles, MakesRoom};
 ghost use Rattle.std.specs.List.{swap_remove};
 ghost use Rattle.tinyvec_slots.specs.Slots.{AreDefaults};
+ghost use Rattle.std.specs.Borrow.{sem};
 
 use crate::TinyVec;
 use std::alloc::AllocError;
@@ -47,6 +48,26 @@ impl<A: Array> TinyVec<A> {
             }
         }
         Ok(())
+    }
+
+    ghost use Rattle.tinyvec.specs.Lends.{lends_added};
+
+    /// Appends `value`, and returns it for writing. A full list grows as by `push`. If the allocator refuses, nothing changes and
+    /// `value` is returned.
+    pub fn push_mut(&mut self, value: A::Item) -> Result<&mut A::Item, NoMemory<A::Item>>
+        ensures* writes_back { sem 𝓛 (lends_added A.row A.Item.row A.Array A.Item.Default self.entry
+            (λ x. tiny_items self.old ++ x ∷ []) result) }
+        ensures value { IfOk result (λ x. x.now ≡ value) }
+        ensures succeeds { tiny_len self.old < tiny_capacity A.CAPACITY self.old → IsOk result }
+        ensures succeeds_inline { IsInline self.old → tiny_len self.old < A.CAPACITY → IsOk result }
+        ensures full { OnErr result (tiny_len self.old ≡ tiny_capacity A.CAPACITY self.old) }
+        ensures value_returned { IfErr result (λ refused. refused.0 ≡ value) }
+    {
+        let at = self.len();
+        if let Err(refused) = self.push(value) {
+            return Err(refused);
+        }
+        Ok(&mut self[at])
     }
 
     /// Removes the last item and returns it. Its slot is reset to a default if the list is inline.
@@ -105,6 +126,28 @@ impl<A: Array> TinyVec<A> {
             }
         }
         Ok(())
+    }
+
+    /// Inserts `element` at `index`, moves the later items up, and returns the new item for writing. A full list grows as by
+    /// `insert`. If the allocator refuses, nothing changes and `element` is returned.
+    pub fn insert_mut(
+        &mut self,
+        index: usize,
+        element: A::Item,
+    ) -> Result<&mut A::Item, NoMemory<A::Item>>
+        requires { index ≤ tiny_len self.old }
+        ensures* writes_back { sem 𝓛 (lends_added A.row A.Item.row A.Array A.Item.Default self.entry
+            (insert (tiny_items self.old) index) result) }
+        ensures value { IfOk result (λ x. x.now ≡ element) }
+        ensures succeeds { tiny_len self.old < tiny_capacity A.CAPACITY self.old → IsOk result }
+        ensures succeeds_inline { IsInline self.old → tiny_len self.old < A.CAPACITY → IsOk result }
+        ensures full { OnErr result (tiny_len self.old ≡ tiny_capacity A.CAPACITY self.old) }
+        ensures value_returned { IfErr result (λ refused. refused.0 ≡ element) }
+    {
+        if let Err(refused) = self.insert(index, element) {
+            return Err(refused);
+        }
+        Ok(&mut self[index])
     }
 
     /// Removes the item at `index` and returns it. The later ones move down.
