@@ -189,15 +189,25 @@ impl<'s, T: Item> Vector for SliceVec<'s, T> {
     }
 
     fn own(&mut self, name: &str, words: &mut Words<'_>, _out: &mut String) -> Result<(), Wrong> {
-        if name != "push_mut" {
-            return Err(Wrong::Call);
+        match name {
+            "push_mut" => {
+                let (x, y) = (words.item()?, words.item()?);
+                if self.is_full() {
+                    return Err(Wrong::Place);
+                }
+                *self.push_mut(x) = y;
+                Ok(())
+            }
+            "insert_mut" => {
+                let (i, x, y) = (words.index()?, words.item()?, words.item()?);
+                if i > self.len() || self.is_full() {
+                    return Err(Wrong::Place);
+                }
+                *self.insert_mut(i, x) = y;
+                Ok(())
+            }
+            _ => Err(Wrong::Call),
         }
-        let (x, y) = (words.item()?, words.item()?);
-        if self.is_full() {
-            return Err(Wrong::Place);
-        }
-        *self.push_mut(x) = y;
-        Ok(())
     }
 }
 

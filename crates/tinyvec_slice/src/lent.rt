@@ -21,6 +21,9 @@ pub trait Lent: Drop + IsSlice {
     // What was written is what the slots hold.
     ghost slots_written: { (lent : Self) (xs : List Self.Item) → slots (with_slots lent xs) ≡ xs };
 
+    // Of two writes the last remains.
+    ghost rewritten: { (lent : Self) (xs ys : List Self.Item) → with_slots (with_slots lent xs) ys ≡ with_slots lent ys };
+
     // A write does not change which slots are lent.
     ghost name_kept: { (lent : Self) (xs : List Self.Item) → name (with_slots lent xs) ≡ name lent };
 
@@ -44,6 +47,8 @@ impl<'s, T: Drop> Lent for &'s mut [T] {
     ghost with_slots = { λ lent xs. record lent { now = xs } };
 
     ghost slots_written = { λ lent xs. refl };
+
+    ghost rewritten = { λ lent xs ys. refl };
 
     ghost name_kept = { λ lent xs. refl };
 

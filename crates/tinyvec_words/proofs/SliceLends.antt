@@ -1,5 +1,5 @@
 -- What a `SliceVec` in the slots `[1, 2, 0]`, whose list is `[1, 2]`, is once a loan ended: its slots, or those of its owner.
-use Rattle.std.proofs.Common.{◌≡◌, ℕ, List, [], ◌∷◌, slice_set, refl}
+use Rattle.std.proofs.Common.{◌≡◌, ℕ, List, [], ◌∷◌, ◌++◌, drop, insert, slice_set, refl}
 use Rattle.tinyvec_slice.specs.SliceParts.{with_front, with_back}
 use Rattle.tinyvec_slice.specs.Lends.{at_slots}
 use Rattle.tinyvec_slice.specs.SliceVec.{slots_of}
@@ -26,6 +26,10 @@ example-lends_item = refl
 -- of tinyvec_slice.specs.Lends
 pub example-lends_pushed : slice_set (nums (1 ∷ 2 ∷ 0 ∷ [])) 2 7 ≡ 1 ∷ 2 ∷ 7 ∷ []
 example-lends_pushed = refl
+
+-- of tinyvec_slice.specs.Lends
+pub example-lends_inserted : insert (nums (1 ∷ 2 ∷ [])) 1 7 ++ drop 1 (0 ∷ []) ≡ 1 ∷ 7 ∷ 2 ∷ []
+example-lends_inserted = refl
 
 -- of tinyvec_slice.specs.Making
 pub example-lends_array : nums (3 ∷ 4 ∷ []) ≡ 3 ∷ 4 ∷ []

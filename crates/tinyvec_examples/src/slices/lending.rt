@@ -1,6 +1,6 @@
 //! Writes through what the vector lends. The owner sees each of them.
-ghost use Rattle.std.specs.Prelude.{◌≡◌, ◌<◌, ◌≤◌, ◌∷◌, [], ◌++◌, length, drop, slice_set};
-ghost use Rattle.tinyvec_slice.specs.SliceVec.{items, slots, name, view, items_of, name_of};
+ghost use Rattle.std.specs.Prelude.{◌≡◌, ◌<◌, ◌≤◌, ◌∷◌, [], ◌++◌, length, take, drop, insert, slice_set};
+ghost use Rattle.tinyvec_slice.specs.SliceVec.{items, slots, name, view, items_of, spare_of, name_of};
 
 use tinyvec_slice::{GenericSliceVec, Lent, SliceVec};
 
@@ -45,7 +45,26 @@ pub fn pushed_written(xs: &mut [u8])
     *v.push_mut(7) = 8;
 }
 
+/// The item that was inserted.
+pub fn inserted_written(xs: &mut [u8])
+    requires { 3 ≤ length xs.old }
+    ensures { xs.new ≡ insert (take 2 xs.old) 1 8 ++ drop 3 xs.old }
+{
+    let mut v = SliceVec::from_slice_len(xs, 2);
+    *v.insert_mut(1, 7) = 8;
+}
+
 /// The same of any vector in lent slots.
+pub fn insert_then_write<B: Lent>(v: &mut GenericSliceVec<B>, i: usize, x: B::Item, y: B::Item)
+    requires in_list { i ≤ length (items_of B.Lent v.old) }
+    requires room { 0 < length (spare_of B.Lent v.old) }
+    ensures items { items_of B.Lent v.new ≡ insert (items_of B.Lent v.old) i y }
+    ensures spare { spare_of B.Lent v.new ≡ drop 1 (spare_of B.Lent v.old) }
+{
+    *v.insert_mut(i, x) = y;
+}
+
+/// One item, by its index, in any vector in lent slots.
 pub fn write_any<B: Lent>(v: &mut GenericSliceVec<B>, i: usize, x: B::Item)
     requires { i < length (items_of B.Lent v.old) }
     ensures same_reference { name_of B.Lent v.new ≡ name_of B.Lent v.old }

@@ -46,15 +46,38 @@ impl<B: Lent> GenericSliceVec<B> {
         ensures items { items_of B.Lent self.new ≡ insert (items_of B.Lent self.old) index element }
         ensures spare { spare_of B.Lent self.new ≡ drop 1 (spare_of B.Lent self.old) }
     {
+        self.put_in(index, element);
+    }
+
+    ghost use Rattle.tinyvec_slice.specs.Lends.{lends_inserted, inserted_at};
+
+    /// Inserts `element` at `index`, moves the later items up, and returns the new item for writing.
+    pub fn insert_mut(&mut self, index: usize, element: B::Item) -> &mut B::Item
+        requires in_list { index ≤ len_of B.Lent self.old }
+        requires room { 0 < length (spare_of B.Lent self.old) }
+        ensures* writes_back { sem 𝓛 (lends_inserted B.row B.Item.row B.Lent self.entry index result) }
+        ensures value { result.now ≡ element }
+    {
+        self.put_in(index, element);
+        slot_of(self, index)
+    }
+
+    // Inserts `element` at `index`, by one write of the slots.
+    fn put_in(&mut self, index: usize, element: B::Item)
+        requires in_list { index ≤ len_of B.Lent self.old }
+        requires room { 0 < length (spare_of B.Lent self.old) }
+        ensures { self.new ≡ inserted_at B.Lent self.old index element }
+    {
         let len = self.len();
-        if prefers_shifting(&self.as_slice()[index..]) {
-            insert_shifting(self.lent.all_mut(), index, len, element);
-            self.len = len + 1;
+        let are_few = prefers_shifting(&self.as_slice()[index..]);
+        self.len = len + 1;
+        let slots = self.lent.all_mut();
+        if are_few {
+            insert_shifting(slots, index, len, element);
             return;
         }
-        self.push(element);
-        let len = self.len();
-        last_to(self.lent.all_mut(), index, len);
+        slots[len] = element;
+        last_to(slots, index, len + 1);
     }
 
     // Swaps the items at `i` and `j`.
