@@ -1,4 +1,4 @@
-use Rattle.std.proofs.Common.{arith, refl, rules, ◌≡◌, ◌∙◌, length}
+use Rattle.std.proofs.Common.{refl, rules}
 use Rattle.std.proofs.lemmas.Result.{err_from_is_err_and}
 use Rattle.tinyvec_borsh.proofs.AtFaults.{some-so}
 use Rattle.tinyvec_borsh.proofs.numbers.AnyBorshDeserialize.deserialize_reader.Goals as goal
