@@ -3,11 +3,12 @@ use Rattle.std.proofs.Common.{◌≡◌, ◌≢◌, ◌∙◌, ap, sym, subst, �
 use Rattle.std.proofs.lemmas.List.{map-append, take-append-drop}
 use Rattle.std.proofs.Math.Seq.{drop-cons}
 use Rattle.std.specs.Io.KnownBytes.{Consumes}
+use Rattle.std.specs.List.{AllByRecursion}
 use Rattle.std.proofs.KnownBytes.{Consumes-trans}
 use Rattle.tinyvec_io.specs.Counted.{AppendsFront}
 use Rattle.tinyvec_io.proofs.Pieces.{AppendsFront-then, AppendsFront-longer}
 use Rattle.tinyvec_borsh.specs.declared.borsh_error.BorshError.{BorshError}
-use Rattle.tinyvec_borsh.specs.declared.borsh_error.BorshError.TheVariants.{Ended, InvalidLength, InvalidUtf8, Memory}
+use Rattle.tinyvec_borsh.specs.declared.borsh_error.BorshError.TheVariants.{Ended, InvalidLength, InvalidUtf8, Io, Memory}
 use Rattle.tinyvec_borsh.specs.Code.{IsCode}
 use Rattle.tinyvec_borsh.specs.Items.{IsCount, SpellsItems, SpellsList}
 use Rattle.tinyvec_borsh.specs.ItemsLaws.{one-items}
@@ -82,19 +83,32 @@ module _ {C : Type 0} (Spells : C → List ℕ → Type 0) (code : IsCode Spells
   front-list n cs old mid new long wrote front =
       front-second old mid new ((number_code 8 (lit< tt)).one_spelling (length cs)) (wrote.0, subst (λ m. IsCount m wrote.0) long wrote.1, wrote.2) front
 
--- what was taken before is taken too
-pub some-then : (old mid new : Option (List ℕ)) (bytes : List ℕ) (e : BorshError) → Consumes old mid bytes → TakesSome mid new e → TakesSome old new e
-some-then old mid new bytes e before t = record { bytes = bytes ++ t.bytes; taken = Consumes-trans old mid new bytes t.bytes before t.taken; end = t.end }
+module _ {IsCut All : List ℕ → Type 0} where
+  -- what was taken before is taken too
+  pub some-then : (old mid new : Option (List ℕ)) (bytes : List ℕ) (e : BorshError) → Consumes old mid bytes → ((rest : List ℕ) → IsCut rest → All (bytes ++ rest)) → TakesSome IsCut mid new e → TakesSome All old new e
+  some-then old mid new bytes e before cut t = record { bytes = bytes ++ t.bytes; taken = Consumes-trans old mid new bytes t.bytes before t.taken; end = t.end; short = λ is. cut t.bytes (t.short is) }
 
--- all of it was taken, and the call fails for another reason than the end
-pub some-all : (old new : Option (List ℕ)) (bytes : List ℕ) (e : BorshError) → e ≢ Ended → Consumes old new bytes → TakesSome old new e
-some-all old new bytes e other taken = record { bytes = bytes; taken = taken; end = λ is. absurd (other is) }
+  pub some-so : (old new : Option (List ℕ)) (e : BorshError) → ((bytes : List ℕ) → IsCut bytes → All bytes) → TakesSome IsCut old new e → TakesSome All old new e
+  some-so old new e cut t = record { bytes = t.bytes; taken = t.taken; end = t.end; short = λ is. cut t.bytes (t.short is) }
 
-pub length_is_no_end : InvalidLength ≢ Ended
-length_is_no_end e = cc
+-- it is an error of what was read
+abbrev pub IsOfContent : BorshError → Type 0
+IsOfContent e = (e ≢ Ended) × (e ≢ Io)
 
-pub utf8_is_no_end : InvalidUtf8 ≢ Ended
-utf8_is_no_end e = cc
+-- all of it was taken, and the call fails for another reason than the end or a fault
+pub some-all : {IsCut : List ℕ → Type 0} (old new : Option (List ℕ)) (bytes : List ℕ) (e : BorshError) → IsOfContent e → Consumes old new bytes → TakesSome IsCut old new e
+some-all old new bytes e other taken = record { bytes = bytes; taken = taken; end = λ is. absurd (other.0 is); short = λ is. absurd (other.1 is) }
 
-pub memory_is_no_end : Memory ≢ Ended
-memory_is_no_end e = cc
+pub length_is_other : IsOfContent InvalidLength
+length_is_other = (λ e. cc, λ e. cc)
+
+pub utf8_is_other : IsOfContent InvalidUtf8
+utf8_is_other = (λ e. cc, λ e. cc)
+
+pub memory_is_other : IsOfContent Memory
+memory_is_other = (λ e. cc, λ e. cc)
+
+-- the bytes at the front of a buffer
+pub small-first : (front rest : List ℕ) → AllByRecursion (λ byte. byte < 256) (front ++ rest) → AllByRecursion (λ byte. byte < 256) front
+small-first [] rest small = tt
+small-first (x ∷ front) rest small = (small.0, small-first front rest small.1)

@@ -7,6 +7,7 @@ use Rattle.std.specs.List.{AllByRecursion}
 use Rattle.tinyvec_borsh.specs.declared.borsh_error.BorshError.{BorshError}
 use Rattle.tinyvec_borsh.specs.declared.borsh_error.BorshError.TheVariants.{Ended, InvalidLength, InvalidUtf8, Io, Memory}
 use Rattle.tinyvec_borsh.specs.Items.{AfterItems, IsCount, SpellsItems, SpellsList, HasItems, InItem, HasTooMany, CountsAbove, ListReason}
+use Rattle.tinyvec_borsh.specs.Number.{TooFewBytes}
 use Rattle.tinyvec_borsh.specs.TwoParts.{HasParts, first-so, group-first, group-rest, joined, rest-so, with-tail}
 use Rattle.tinyvec_borsh.specs.Reading.{MayBe, ReadsSpelling, Fails, LeavesRest}
 
@@ -160,6 +161,11 @@ module _ {C : Type 0} (Spells : C → List ℕ → Type 0) where
         (n, above, rest-so q tt)) (maybe-any new)
 
     module _ (Reason : BorshError → List ℕ → Type 0) (Allocates : List ℕ → Type 0) (room : ℕ) where
+      -- the count was not read
+      pub fails-count : (old : Option (List ℕ)) (before after : ℕ) (e : BorshError) → Fails (TooFewBytes 8) old before after e → Fails (ListReason Spells Fits Reason Allocates room) old before after e
+      fails-count old before after e f = fails-so (TooFewBytes 8) (ListReason Spells Fits Reason Allocates room) old old before before after e (omega arith) f
+          (λ f why. maybe-so old (TooFewBytes 8 f) (ListReason Spells Fits Reason Allocates room f) (λ input few. subst (λ f. ListReason Spells Fits Reason Allocates room f input) (sym few.0) (inl few.1)) why)
+
       -- an item was not read
       pub fails-item : (n : ℕ) (cs : List C) (old mid : Option (List ℕ)) (before between after : ℕ) (e : BorshError) → WasRead n cs old mid → length cs < n → length cs ≤ room → before ≤ between
           → Fails Reason mid between after e → Fails (ListReason Spells Fits Reason Allocates room) old before after e

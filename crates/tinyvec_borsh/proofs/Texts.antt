@@ -7,7 +7,7 @@ use Rattle.tinyvec_borsh.specs.Items.{CountsAbove, ListReason}
 use Rattle.tinyvec_borsh.specs.Number.{SpellsNumber, TooFewBytes}
 use Rattle.tinyvec_borsh.specs.Reading.{Fails, MayBe, ReadsSpelling}
 use Rattle.tinyvec_borsh.specs.Text.{AreNoText, SpellsText, TextReason}
-use Rattle.tinyvec_borsh.proofs.AtFaults.{utf8_is_no_end}
+use Rattle.tinyvec_borsh.proofs.AtFaults.{utf8_is_other}
 use Rattle.tinyvec_borsh.proofs.ItemByItem.{maybe-any, maybe-behind}
 
 -- why a list of bytes is not read
@@ -15,7 +15,7 @@ abbrev pub BytesReason : ℕ → BorshError → List ℕ → Type 0
 BytesReason slots = ListReason (SpellsNumber 1) (λ n. n < 2 ^ 8) (TooFewBytes 1) (CountsAbove slots) (2 ^ 64 - 1)
 
 never-text : (slots : ℕ) (input : List ℕ) → BytesReason slots InvalidUtf8 input → ⊥
-never-text slots input given = elim given [ inl none ↦ none | inr item ↦ utf8_is_no_end item.left.0 ]
+never-text slots input given = elim given [ inl none ↦ none | inr item ↦ utf8_is_other.0 item.left.0 ]
 
 -- the bytes were not read
 pub bytes-other : (slots : ℕ) (old : Option (List ℕ)) (before after : ℕ) (e : BorshError) → Fails (BytesReason slots) old before after e → e ≢ InvalidUtf8

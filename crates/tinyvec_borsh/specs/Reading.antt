@@ -21,11 +21,13 @@ IsFewBytes n input = AllByRecursion (λ byte. byte < 256) input × (length input
 abbrev pub ReadsSpelling : (List ℕ → Type 0) → Option (List ℕ) → Option (List ℕ) → Type 0
 ReadsSpelling SpellsIt old new = (bytes : List ℕ) × SpellsIt bytes × Consumes old new bytes
 
--- Some bytes were taken from the front of the input; all of it, if the error is `Ended`.
-pub record TakesSome (old new : Option (List ℕ)) (error : BorshError) : Type 0 where
+-- Some bytes were taken from the front of the input: all of it, if the error is `Ended`; at `Io` they are cut, so no whole
+-- spelling was taken.
+pub record TakesSome (IsCut : List ℕ → Type 0) (old new : Option (List ℕ)) (error : BorshError) : Type 0 where
   pub bytes : List ℕ
   pub taken : Consumes old new bytes
   pub end : error ≡ Ended → IsAtEnd new
+  pub short : error ≡ Io → IsCut bytes
 
 -- Why nothing was read. `Io` comes only if the reader reported a fault, and another error only if the input is a reason for
 -- it: cut for `Ended`, too long for `InvalidLength`, a text that is not UTF-8 for `InvalidUtf8`. For `Memory` it is one of

@@ -16,7 +16,8 @@ pub(crate) fn read_bytes<R: Read>(reader: &mut Counted<R>, buf: &mut [u8]) -> Re
     ensures small { OnOk result (AllByRecursion (λ byte. byte < 256) buf.new) }
     ensures err { IfErr result (Fails (TooFewBytes (length buf.old))
         (R.remaining reader.old.inner) reader.old.faults reader.new.faults) }
-    ensures taken { IfErr result (TakesSome (R.remaining reader.old.inner) (R.remaining reader.new.inner)) }
+    ensures taken { IfErr result (TakesSome (IsFewBytes (length buf.old))
+        (R.remaining reader.old.inner) (R.remaining reader.new.inner)) }
     ensures ended { IfErr result (λ e. e ≡ BorshError.Ended
         → MayBe (R.remaining reader.old.inner) (IsFewBytes (length buf.old))) }
     ensures faults_grow { reader.old.faults ≤ reader.new.faults }

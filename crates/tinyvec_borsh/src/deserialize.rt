@@ -28,7 +28,8 @@ pub trait BorshDeserialize: BorshForm + Sized {
         ensures fits { IfOk result (λ v. Self.Fits (Self.content_of v)) }
         ensures err { IfErr result (Fails Reason
             (R.remaining reader.old.inner) reader.old.faults reader.new.faults) }
-        ensures taken { IfErr result (TakesSome (R.remaining reader.old.inner) (R.remaining reader.new.inner)) }
+        ensures taken { IfErr result (TakesSome (Reason BorshError.Ended)
+            (R.remaining reader.old.inner) (R.remaining reader.new.inner)) }
         ensures faults_grow { reader.old.faults ≤ reader.new.faults };
 
     /// Reads a value into each slot, one after the other.
@@ -44,7 +45,8 @@ pub trait BorshDeserialize: BorshForm + Sized {
         ensures fits { OnOk result (AllByRecursion Self.Fits (map Self.content_of slots.new)) }
         ensures err { IfErr result (Fails (AfterItems Self.Spells Self.Fits Reason (length slots.old))
             (R.remaining reader.old.inner) reader.old.faults reader.new.faults) }
-        ensures taken { IfErr result (TakesSome (R.remaining reader.old.inner) (R.remaining reader.new.inner)) }
+        ensures taken { IfErr result (TakesSome (AfterItems Self.Spells Self.Fits Reason (length slots.old) BorshError.Ended)
+            (R.remaining reader.old.inner) (R.remaining reader.new.inner)) }
         ensures faults_grow { reader.old.faults ≤ reader.new.faults }
     {
         for i in 0..slots.len() {

@@ -51,7 +51,8 @@ fn read_items<T: BorshDeserialize + Drop, R: Read>(
     ensures behind { drop end slots.new ≡ drop end slots.old }
     ensures err { IfErr result (Fails (AfterItems T.Spells T.Fits T.Reason (end - start))
         (R.remaining reader.old.inner) reader.old.faults reader.new.faults) }
-    ensures taken { IfErr result (TakesSome (R.remaining reader.old.inner) (R.remaining reader.new.inner)) }
+    ensures taken { IfErr result (TakesSome (AfterItems T.Spells T.Fits T.Reason (end - start) BorshError.Ended)
+        (R.remaining reader.old.inner) (R.remaining reader.new.inner)) }
     ensures faults_grow { reader.old.faults ≤ reader.new.faults }
 {
     T::deserialize_slots(alloc, &mut slots[start..end], reader)

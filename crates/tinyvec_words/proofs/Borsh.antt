@@ -4,7 +4,7 @@ use Rattle.std.specs.Prelude.{IsUtf8}
 use Rattle.tinyvec_borsh.specs.Items.{SpellsItems, SpellsList, ListFits, AfterItems, ListReason, CountsAbove}
 use Rattle.tinyvec_borsh.specs.Reading.{ReadsSpelling, TakesSome, Fails, LeavesRest}
 use Rattle.tinyvec_borsh.specs.Writing.{WritesSpelling, AddsFront}
-use Rattle.tinyvec_borsh.specs.declared.borsh_error.BorshError.TheVariants.{Ended}
+use Rattle.tinyvec_borsh.specs.declared.borsh_error.BorshError.TheVariants.{Ended, Io}
 use Rattle.tinyvec_borsh.specs.declared.borsh_error.BorshError.{BorshError}
 use Rattle.tinyvec_borsh.specs.Number.{TooFewBytes}
 use Rattle.tinyvec_borsh.specs.Text.{AreNoText, SpellsText, TextFits, TextReason}
@@ -58,8 +58,8 @@ example-CountsAbove = (5, omega arith, record { first = 5 ∷ 0 ∷ 0 ∷ 0 ∷ 
 pub example-ReadsSpelling : ReadsSpelling (λ bytes. bytes ≡ 7 ∷ []) (Some (7 ∷ 8 ∷ [])) (Some (8 ∷ []))
 example-ReadsSpelling = (7 ∷ [], refl, search rules)
 
-pub example-TakesSome : TakesSome (Some (7 ∷ [])) (Some []) Ended
-example-TakesSome = record { bytes = 7 ∷ []; taken = search rules; end = λ _. refl }
+pub example-TakesSome : TakesSome (TooFewBytes 2 Ended) (Some (7 ∷ 8 ∷ [])) (Some (8 ∷ [])) Io
+example-TakesSome = record { bytes = 7 ∷ []; taken = search rules; end = λ is. cc; short = λ _. (refl, omega arith) }
 
 pub example-Fails : Fails Reason (Some []) 0 0 Ended
 example-Fails = example-TooFewBytes

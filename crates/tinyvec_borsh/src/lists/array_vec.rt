@@ -56,7 +56,8 @@ where
             (map A.Item.content_of (items v))) }
         ensures err { IfErr result (Fails (ListReason A.Item.Spells A.Item.Fits A.Item.Reason (λ _. ⊥) A.CAPACITY)
             (R.remaining reader.old.inner) reader.old.faults reader.new.faults) }
-        ensures taken { IfErr result (TakesSome (R.remaining reader.old.inner) (R.remaining reader.new.inner)) }
+        ensures taken { IfErr result (TakesSome (ListReason A.Item.Spells A.Item.Fits A.Item.Reason (λ _. ⊥) A.CAPACITY BorshError.Ended)
+            (R.remaining reader.old.inner) (R.remaining reader.new.inner)) }
         ensures faults_grow { reader.old.faults ≤ reader.new.faults }
         ensures spare { IfOk result (λ v. AreDefaults A.Item.is_default (A.CAPACITY - items_len v) (spare v)) }
         ensures rest { IfErr result (LeavesRest A.Item.Spells (A.Item.Reason BorshError.InvalidLength) A.CAPACITY

@@ -48,7 +48,8 @@ impl<const N: usize> BorshDeserialize for InlineText<N> {
         ensures fits { IfOk result (λ t. TextFits t.bytes) }
         ensures err { IfErr result (Fails (TextReason N)
             (R.remaining reader.old.inner) reader.old.faults reader.new.faults) }
-        ensures taken { IfErr result (TakesSome (R.remaining reader.old.inner) (R.remaining reader.new.inner)) }
+        ensures taken { IfErr result (TakesSome (TextReason N BorshError.Ended)
+            (R.remaining reader.old.inner) (R.remaining reader.new.inner)) }
         ensures faults_grow { reader.old.faults ≤ reader.new.faults }
         ensures place { IfOk result (λ t. IsTrue (lies_inline t.place) ↔ (text_len t ≤ N)) }
         ensures room { IfOk result (λ t. capacity_in N t.place ≤ max N (2 * text_len t)) }

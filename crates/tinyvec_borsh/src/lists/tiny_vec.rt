@@ -81,7 +81,8 @@ where
             (map A.Item.content_of (tiny_items v))) }
         ensures err { IfErr result (Fails (ListReason A.Item.Spells A.Item.Fits A.Item.Reason (CountsAbove A.CAPACITY) (2 ^ 64 - 1))
             (R.remaining reader.old.inner) reader.old.faults reader.new.faults) }
-        ensures taken { IfErr result (TakesSome (R.remaining reader.old.inner) (R.remaining reader.new.inner)) }
+        ensures taken { IfErr result (TakesSome (ListReason A.Item.Spells A.Item.Fits A.Item.Reason (CountsAbove A.CAPACITY) (2 ^ 64 - 1) BorshError.Ended)
+            (R.remaining reader.old.inner) (R.remaining reader.new.inner)) }
         ensures faults_grow { reader.old.faults ≤ reader.new.faults }
         ensures place { IfOk result (λ v. IsInline v ↔ (tiny_len v ≤ A.CAPACITY)) }
         ensures spare { IfOk result (λ v. IsInline v
@@ -120,7 +121,8 @@ where
     ensures err { IfErr result (λ e. ((e ≡ BorshError.Memory) × (tiny_capacity A.CAPACITY v.old < count))
         ⊎ Fails (AfterItems A.Item.Spells A.Item.Fits A.Item.Reason (count - tiny_len v.old))
         (R.remaining reader.old.inner) reader.old.faults reader.new.faults e) }
-    ensures taken { IfErr result (TakesSome (R.remaining reader.old.inner) (R.remaining reader.new.inner)) }
+    ensures taken { IfErr result (TakesSome (AfterItems A.Item.Spells A.Item.Fits A.Item.Reason (count - tiny_len v.old) BorshError.Ended)
+        (R.remaining reader.old.inner) (R.remaining reader.new.inner)) }
     ensures faults_grow { reader.old.faults ≤ reader.new.faults }
 {
     let start = v.len();

@@ -67,7 +67,9 @@ pub(crate) trait Number: FixedWidth {
         ensures err { IfErr result (Fails
             (AfterItems Self.form.Spells Self.form.Fits (TooFewBytes (byte_len Self.form.width)) (length slots.old))
             (R.remaining reader.old.inner) reader.old.faults reader.new.faults) }
-        ensures taken { IfErr result (TakesSome (R.remaining reader.old.inner) (R.remaining reader.new.inner)) }
+        ensures taken { IfErr result (TakesSome (AfterItems Self.form.Spells Self.form.Fits
+            (TooFewBytes (byte_len Self.form.width)) (length slots.old) BorshError.Ended)
+            (R.remaining reader.old.inner) (R.remaining reader.new.inner)) }
         ensures faults_grow { reader.old.faults ≤ reader.new.faults }
     {
         if slots.len() <= ROOM / Self::Bytes::CAPACITY {
@@ -91,7 +93,9 @@ fn read_blocks<T: FixedWidth, R: Read, const MOST: usize>(
     ensures err { IfErr result (Fails
         (AfterItems T.form.Spells T.form.Fits (TooFewBytes (byte_len T.form.width)) (length slots.old))
         (R.remaining reader.old.inner) reader.old.faults reader.new.faults) }
-    ensures taken { IfErr result (TakesSome (R.remaining reader.old.inner) (R.remaining reader.new.inner)) }
+    ensures taken { IfErr result (TakesSome (AfterItems T.form.Spells T.form.Fits
+        (TooFewBytes (byte_len T.form.width)) (length slots.old) BorshError.Ended)
+        (R.remaining reader.old.inner) (R.remaining reader.new.inner)) }
     ensures faults_grow { reader.old.faults ≤ reader.new.faults }
 {
     let width = T::Bytes::CAPACITY;

@@ -1,7 +1,9 @@
-use Rattle.std.proofs.Common.{◌≡◌, ◌∙◌, ◌+◌, ◌≤◌, inr, length, arith, rules}
+use Rattle.std.proofs.Common.{◌≡◌, ◌∙◌, ◌+◌, ◌≤◌, inr, length, arith, rules, Some}
 use Rattle.tinyvec.specs.TinyVec.{tiny_items, tiny_len}
 use Rattle.tinyvec.specs.Lends.{tiny_with_items}
 use Rattle.tinyvec.proofs.TinyLemmas.{tiny_framed-with, tiny_items-with, tiny_slots_then_framed}
+use Rattle.tinyvec_borsh.specs.declared.borsh_error.BorshError.TheVariants.{Ended}
+use Rattle.tinyvec_borsh.proofs.AtFaults.{some-so}
 use Rattle.tinyvec_borsh.proofs.Blocks.{fails-of-more, grown}
 use Rattle.tinyvec_borsh.proofs.Outcomes.{err-so, on-ok}
 use Rattle.tinyvec_borsh.proofs.Place.{place-framed, room-grown}
@@ -51,3 +53,7 @@ returns-clause-room g c =
     let few : c.len-start.result + c.min.result ≤ c.args.count = search rules in
     let grown = room-grown slots (c.len-start.result + c.min.result) c.args.count c.args.v.now mid c.resize_with.ensures.room.same_room c.in-Ok.ensures.room.grown few in
     on-ok c.read_items.result (λ _. omega (arith, framed.capacity slots, grown)) c.read_items.ensures.ok
+
+pub returns-clause-taken : goal.returns-clause-taken
+returns-clause-taken g c =
+    err-so c.read_items.result (λ e. some-so _ _ e (λ bytes cut. fails-of-more g.A.Item.BorshForm.Spells g.A.Item.BorshForm.Fits g.A.Item.BorshDeserialize.Reason _ _ (Some bytes) 0 0 Ended (search rules) cut)) c.read_items.ensures.taken

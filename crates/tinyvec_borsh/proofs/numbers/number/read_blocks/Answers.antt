@@ -1,8 +1,9 @@
-use Rattle.std.proofs.Common.{◌≡◌, ◌∙◌, ◌+◌, ◌*◌, ◌++◌, ap, arith, drop, length, length-append, length-drop, length-take-le, rules, subst}
+use Rattle.std.proofs.Common.{◌≡◌, ◌∙◌, ◌+◌, ◌*◌, ◌++◌, ap, arith, drop, length, length-append, length-drop, length-take-le, refl, rules, subst, Some}
 use Rattle.std.specs.Int.{byte_len}
 use Rattle.std.specs.List.{AllByRecursion}
 use Rattle.std.proofs.lemmas.List.{take_all}
 use Rattle.std.proofs.lemmas.Result.{err_from_is_err_and}
+use Rattle.tinyvec_borsh.specs.declared.borsh_error.BorshError.TheVariants.{Ended}
 use Rattle.tinyvec_borsh.specs.Items.{SpellsItems}
 use Rattle.tinyvec_borsh.proofs.Blocks.{take-block, took-block}
 use Rattle.tinyvec_borsh.proofs.NumberBlocks.{block_within, fails-behind-block, fails-numbers}
@@ -47,8 +48,15 @@ returns-clause-fits g c = subst (AllByRecursion g.T.FixedWidth.form.Fits) (take_
 pub returns-in_err-read_bytes-clause-taken : goal.returns-in_err-read_bytes-clause-taken
 returns-in_err-read_bytes-clause-taken g c =
     let p = err_from_is_err_and c.from_residual.result c.from_residual.ensures.1 in
-    let before = c.loop-start.invariant.read.taken in
-    rw (p.1, p.2) (some-then _ _ _ before.0 _ before.2 c.in_err-read_bytes.ensures.taken)
+    let read = c.loop-start.invariant.read in
+    let taken = read.taken in
+    let count = c.min-count.result in
+    let fits = block_within g.row.MOST count c.CAPACITY-width.result (omega arith) in
+    let many = length-take-le (count * c.CAPACITY-width.result) c.loop-start.room (omega (arith, fits)) ∙ ap (λ width. count * width) (c.CAPACITY-width.ensures ∙ g.met.T.FixedWidth.sized) in
+    let before = length-take-le c.loop-start.start c.loop-start.slots (omega arith) in
+    rw (p.1, p.2) (some-then _ _ _ taken.0 _ taken.2 (λ rest few. fails-behind-block g.T.FixedWidth.form.Spells g.T.FixedWidth.form.Fits _ count (length c.args.slots.now) _
+    (Some (taken.0 ++ rest)) (Some rest) 0 0 0 Ended (record { fit = read.fit; taken = (taken.0, taken.1, refl) }) (omega (arith, before)) (omega arith)
+    (fails-numbers g.T.FixedWidth.form.Spells g.T.FixedWidth.form.Fits (byte_len g.T.FixedWidth.form.width) _ g.T.FixedWidth.form.read count _ many (Some rest) 0 0 Ended (λ _. few) (refl, few.1))) c.in_err-read_bytes.ensures.taken)
 
 pub whole_as_front-bytes : goal.whole_as_front-bytes
 whole_as_front-bytes g c = (block_within g.row.MOST c.min-count.result c.CAPACITY-width.result (omega arith), omega (arith, c.requires.few))

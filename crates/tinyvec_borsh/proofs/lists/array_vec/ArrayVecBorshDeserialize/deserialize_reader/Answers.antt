@@ -1,10 +1,11 @@
-use Rattle.std.proofs.Common.{◌≡◌, ◌∙◌, ◌≤◌, ap, take, inl, arith, rules, min, ◌+◌, ◌∷◌, [], map, length, length-append}
+use Rattle.std.proofs.Common.{◌≡◌, ◌∙◌, ◌≤◌, ap, take, inl, arith, refl, rules, min, ◌+◌, ◌-◌, ◌∷◌, ◌++◌, [], map, length, length-append, append_assoc, Some}
+use Rattle.std.proofs.KnownBytes.{Consumes-trans}
 use Rattle.std.proofs.lemmas.List.{length-map}
 use Rattle.std.proofs.lemmas.Result.{err_from_is_err_and}
 use Rattle.tinyvec_slots.specs.Slots.{items}
-use Rattle.tinyvec_borsh.specs.declared.borsh_error.BorshError.TheVariants.{InvalidLength}
-use Rattle.tinyvec_borsh.proofs.ItemByItem.{fails-block, fails-item, maybe-so, read-all, read-block, read-first, read-more, rest-many, too-many}
-use Rattle.tinyvec_borsh.proofs.AtFaults.{length_is_no_end, some-all, some-then}
+use Rattle.tinyvec_borsh.specs.declared.borsh_error.BorshError.TheVariants.{Ended, InvalidLength}
+use Rattle.tinyvec_borsh.proofs.ItemByItem.{fails-block, fails-count, fails-item, maybe-so, read-all, read-block, read-first, read-more, rest-many, too-many}
+use Rattle.tinyvec_borsh.proofs.AtFaults.{length_is_other, some-all, some-so, some-then}
 use Rattle.tinyvec_borsh.proofs.lists.array_vec.ArrayVecBorshDeserialize.deserialize_reader.Goals as goal
 
 pub returns-in_err-read_items-clause-err : goal.returns-in_err-read_items-clause-err
@@ -66,22 +67,42 @@ returns-clause-fits g c =
     let full : length t.0 ≡ min c.in_ok-count.count g.A.Array.CAPACITY = search rules in
     rw same (record { few = omega (arith, long, full); counted = omega (arith, long, full, c.in_ok-count.ensures.fits); items = t.3 })
 
+pub returns-in_err-count-clause-err : goal.returns-in_err-count-clause-err
+returns-in_err-count-clause-err g c =
+    let p = err_from_is_err_and c.from_residual.result c.from_residual.ensures.1 in
+    rw (p.1, p.2) (fails-count g.A.Item.BorshForm.Spells g.A.Item.BorshForm.Fits g.A.Item.BorshDeserialize.Reason (λ _. ⊥) g.A.Array.CAPACITY _ _ _ _ c.in_err-count.ensures.err)
+
+pub returns-in_err-count-clause-taken : goal.returns-in_err-count-clause-taken
+returns-in_err-count-clause-taken g c =
+    let p = err_from_is_err_and c.from_residual.result c.from_residual.ensures.1 in
+    rw (p.1, p.2) (some-so _ _ _ (λ bytes few. inl few.1) c.in_err-count.ensures.taken)
+
 pub returns-in_err-read_items-clause-taken : goal.returns-in_err-read_items-clause-taken
 returns-in_err-read_items-clause-taken g c =
     let p = err_from_is_err_and c.from_residual-in_err-read_items.result c.from_residual-in_err-read_items.ensures.1 in
     let count = c.in_ok-count.ensures.ok in
-    rw (p.1, p.2) (some-then _ _ _ count.0 _ count.2 c.in_err-read_items.ensures.taken)
+    let below : c.min-len.result ≤ c.in_ok-count.count = search rules in
+    let fits : c.min-len.result ≤ g.A.Array.CAPACITY = search rules in
+    rw (p.1, p.2) (some-then _ _ _ count.0 _ count.2 (λ rest cut. fails-block g.A.Item.BorshForm.Spells g.A.Item.BorshForm.Fits g.A.Item.BorshDeserialize.Reason (λ _. ⊥) g.A.Array.CAPACITY
+    c.in_ok-count.count (c.min-len.result - 0) [] (Some (count.0 ++ rest)) (Some rest) 0 0 0 Ended (read-first g.A.Item.BorshForm.Spells g.A.Item.BorshForm.Fits _ _ _ (count.0, count.1, refl)) (omega (arith, below)) (omega (arith, fits)) (omega arith) cut) c.in_err-read_items.ensures.taken)
 
 pub returns-in_err-deserialize_reader-clause-taken : goal.returns-in_err-deserialize_reader-clause-taken
 returns-in_err-deserialize_reader-clause-taken g c =
     let p = err_from_is_err_and c.from_residual-in_err-deserialize_reader.result c.from_residual-in_err-deserialize_reader.ensures.1 in
     let count = c.in_ok-count.ensures.ok in
-    let items = c.in_ok-read_items.ensures.ok.4 in
-    rw (p.1, p.2) (some-then _ _ _ count.0 _ count.2 (some-then _ _ _ items.0 _ items.2 c.in_err-deserialize_reader.ensures.taken))
+    let t = c.in_ok-read_items.ensures.ok in
+    let items = t.4 in
+    let long = length-map t.0 g.A.Item.BorshForm.content_of in
+    let full : length t.0 ≡ min c.in_ok-count.count g.A.Array.CAPACITY = search rules in
+    let above : min c.in_ok-count.count g.A.Array.CAPACITY + 1 ≤ c.in_ok-count.count = search rules in
+    rw (p.1, p.2) (some-then _ _ _ (count.0 ++ items.0) _ (Consumes-trans _ _ _ count.0 items.0 count.2 items.2) (λ rest cut. fails-item g.A.Item.BorshForm.Spells g.A.Item.BorshForm.Fits g.A.Item.BorshDeserialize.Reason (λ _. ⊥) g.A.Array.CAPACITY
+    c.in_ok-count.count (map g.A.Item.BorshForm.content_of t.0) (Some ((count.0 ++ items.0) ++ rest)) (Some rest) 0 0 0 Ended
+    (read-block g.A.Item.BorshForm.Spells g.A.Item.BorshForm.Fits _ [] _ _ (Some (items.0 ++ rest)) _ (read-first g.A.Item.BorshForm.Spells g.A.Item.BorshForm.Fits _ _ _ (count.0, count.1, append_assoc count.0 items.0 rest)) (items.0, items.1, refl) t.3)
+    (omega (arith, long, full, above)) (omega (arith, long, full, above)) (omega arith) cut) c.in_err-deserialize_reader.ensures.taken)
 
 pub returns-then-len-count-clause-taken : goal.returns-then-len-count-clause-taken
 returns-then-len-count-clause-taken g c =
     let count = c.in_ok-count.ensures.ok in
     let items = c.in_ok-read_items.ensures.ok.4 in
     let last = c.in_ok-deserialize_reader.ensures.ok in
-    some-then _ _ _ count.0 _ count.2 (some-then _ _ _ items.0 _ items.2 (some-all _ _ last.0 _ length_is_no_end last.2))
+    some-all _ _ _ _ length_is_other (Consumes-trans _ _ _ count.0 (items.0 ++ last.0) count.2 (Consumes-trans _ _ _ items.0 last.0 items.2 last.2))

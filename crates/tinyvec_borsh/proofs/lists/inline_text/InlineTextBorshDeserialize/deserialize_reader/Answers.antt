@@ -5,7 +5,7 @@ use Rattle.tinyvec.specs.TinyVec.{tiny_items}
 use Rattle.tinyvec_text.specs.InlineText.{Text}
 use Rattle.tinyvec_borsh.specs.Reading.{ReadsSpelling}
 use Rattle.tinyvec_borsh.specs.Text.{AreBytes, SpellsText}
-use Rattle.tinyvec_borsh.proofs.AtFaults.{some-all, utf8_is_no_end}
+use Rattle.tinyvec_borsh.proofs.AtFaults.{some-all, some-so, utf8_is_other}
 use Rattle.tinyvec_borsh.proofs.Texts.{bytes-other, no-text, text-fails}
 use Rattle.tinyvec_borsh.proofs.lists.inline_text.InlineTextBorshDeserialize.deserialize_reader.Goals as goal
 
@@ -17,7 +17,7 @@ returns-in_err-bytes-clause-err g c =
 pub returns-in_err-bytes-clause-taken : goal.returns-in_err-bytes-clause-taken
 returns-in_err-bytes-clause-taken g c =
     let p = err_from_is_err_and c.from_residual.result c.from_residual.ensures.1 in
-    rw (p.1, p.2) c.in_err-bytes.ensures.taken
+    rw (p.1, p.2) (some-so _ _ _ (λ bytes cut. cut) c.in_err-bytes.ensures.taken)
 
 pub returns-in_err-bytes-clause-rest : goal.returns-in_err-bytes-clause-rest
 returns-in_err-bytes-clause-rest g c =
@@ -42,7 +42,7 @@ returns-in-None-clause-err g c =
 pub returns-in-None-clause-taken : goal.returns-in-None-clause-taken
 returns-in-None-clause-taken g c =
     let taken = c.in_ok-bytes.ensures.ok in
-    some-all _ _ taken.0 _ utf8_is_no_end taken.2
+    some-all _ _ taken.0 _ utf8_is_other taken.2
 
 pub returns-in-None-clause-rest : goal.returns-in-None-clause-rest
 returns-in-None-clause-rest g c =

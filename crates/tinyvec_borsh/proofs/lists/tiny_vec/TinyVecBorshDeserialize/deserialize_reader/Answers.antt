@@ -1,10 +1,12 @@
-use Rattle.std.proofs.Common.{inl, ap, length, length-append, arith}
+use Rattle.std.proofs.Common.{inl, ap, length, length-append, arith, map, refl, ◌++◌, ◌-◌, ◌^◌, Some}
 use Rattle.tinyvec.specs.TinyVec.{tiny_items}
 use Rattle.std.proofs.lemmas.List.{length-map}
 use Rattle.std.proofs.lemmas.Result.{err_from_is_err_and}
+use Rattle.tinyvec_borsh.specs.declared.borsh_error.BorshError.TheVariants.{Ended}
+use Rattle.tinyvec_borsh.specs.Items.{CountsAbove}
 use Rattle.tinyvec_borsh.proofs.Place.{placed-longer, spare-longer, refused-above, wanting-above}
-use Rattle.tinyvec_borsh.proofs.ItemByItem.{counts-above, fails-wanting, maybe-so, read-appended, read-first}
-use Rattle.tinyvec_borsh.proofs.AtFaults.{memory_is_no_end, some-all, some-then}
+use Rattle.tinyvec_borsh.proofs.ItemByItem.{counts-above, fails-block, fails-count, fails-wanting, maybe-so, read-appended, read-first}
+use Rattle.tinyvec_borsh.proofs.AtFaults.{memory_is_other, some-all, some-so, some-then}
 use Rattle.tinyvec_borsh.proofs.lists.tiny_vec.TinyVecBorshDeserialize.deserialize_reader.Goals as goal
 
 pub returns-in_default-clause-err : goal.returns-in_default-clause-err
@@ -37,10 +39,24 @@ returns-in_err-read_more-clause-err g c =
     c.in_err-read_more.ensures.err)
 
 pub returns-in_default-clause-taken : goal.returns-in_default-clause-taken
-returns-in_default-clause-taken g c = some-all _ _ c.in_ok-count.ensures.ok.0 _ memory_is_no_end c.in_ok-count.ensures.ok.2
+returns-in_default-clause-taken g c = some-all _ _ c.in_ok-count.ensures.ok.0 _ memory_is_other c.in_ok-count.ensures.ok.2
+
+pub returns-in_err-count-clause-err : goal.returns-in_err-count-clause-err
+returns-in_err-count-clause-err g c =
+    let p = err_from_is_err_and c.from_residual.result c.from_residual.ensures.1 in
+    rw (p.1, p.2) (fails-count g.A.Item.BorshForm.Spells g.A.Item.BorshForm.Fits g.A.Item.BorshDeserialize.Reason (CountsAbove g.A.Array.CAPACITY) (2 ^ 64 - 1) _ _ _ _ c.in_err-count.ensures.err)
+
+pub returns-in_err-count-clause-taken : goal.returns-in_err-count-clause-taken
+returns-in_err-count-clause-taken g c =
+    let p = err_from_is_err_and c.from_residual.result c.from_residual.ensures.1 in
+    rw (p.1, p.2) (some-so _ _ _ (λ bytes few. inl few.1) c.in_err-count.ensures.taken)
 
 pub returns-in_err-read_more-clause-taken : goal.returns-in_err-read_more-clause-taken
 returns-in_err-read_more-clause-taken g c =
     let p = err_from_is_err_and c.from_residual-in_err-read_more.result c.from_residual-in_err-read_more.ensures.1 in
-    let before = c.loop-alloc.invariant.read.taken in
-    rw (p.1, p.2) (some-then _ _ _ before.0 _ before.2 c.in_err-read_more.ensures.taken)
+    let read = c.loop-alloc.invariant.read in
+    let before = read.taken in
+    let long = length-map (tiny_items c.loop-alloc.v) g.A.Item.BorshForm.content_of in
+    rw (p.1, p.2) (some-then _ _ _ before.0 _ before.2 (λ rest cut. fails-block g.A.Item.BorshForm.Spells g.A.Item.BorshForm.Fits g.A.Item.BorshDeserialize.Reason (CountsAbove g.A.Array.CAPACITY) (2 ^ 64 - 1)
+    c.in_ok-count.count _ (map g.A.Item.BorshForm.content_of (tiny_items c.loop-alloc.v)) (Some (before.0 ++ rest)) (Some rest) 0 0 0 Ended (record { fit = read.fit; taken = (before.0, before.1, refl) })
+    (omega (arith, long, c.loop-alloc.invariant.few)) (omega (arith, long, c.loop-alloc.invariant.few, c.in_ok-count.ensures.fits)) (omega arith) cut) c.in_err-read_more.ensures.taken)
