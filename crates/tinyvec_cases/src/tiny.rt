@@ -10,9 +10,7 @@ use std::alloc::{AllocError, Global};
 use std::fmt::Write;
 use std::iter::Fuse;
 use std::{mem, vec};
-use tinyvec::{
-    Array, ArrayVec, FromIterRest, NoMemory, NoRoom, TinyVec, TinyVecDrain, TinyVecSplice,
-};
+use tinyvec::{Array, ArrayVec, FromIterRest, NoRoom, TinyVec, TinyVecDrain, TinyVecSplice};
 use tinyvec_rows::{
     Item, Read, Span, Words, Wrong, done, is_within, say, say_left, say_refused, say_rest,
     say_slots, say_text,
@@ -287,29 +285,40 @@ impl<T: Item, A: Array<Item = T>> Vector for TinyVec<A> {
                 Ok(())
             }
             "extend_exact_size" => done(out, self.extend_exact_size(words.items()?)),
-            "push_mut" => {
-                let (x, y) = (words.item()?, words.item()?);
-                written(self.push_mut(x), y, out)
-            }
-            "insert_mut" => {
-                let (i, x, y) = (words.index()?, words.item()?, words.item()?);
-                if i > self.len() {
-                    return Err(Wrong::Place);
-                }
-                written(self.insert_mut(i, x), y, out)
-            }
+            "push_mut" => push_mut(self, words.item()?, words.item()?, out),
+            "insert_mut" => insert_mut(self, words.index()?, (words.item()?, words.item()?), out),
             _ => with_room(self, name, words.index().unwrap_or(0), out),
         }
     }
 }
 
-// Writes the new item, if there was room for it.
-fn written<T: Item>(
-    made: Result<&mut T, NoMemory<T>>,
+// Pushes, and writes to the new item if there was room for it.
+fn push_mut<T: Item, A: Array<Item = T>>(
+    v: &mut TinyVec<A>,
+    x: T,
     y: T,
     out: &mut String,
 ) -> Result<(), Wrong> {
-    match made {
+    match v.push_mut(x) {
+        Ok(item) => {
+            *item = y;
+            Ok(())
+        }
+        Err(refused) => say(out, &refused),
+    }
+}
+
+// Inserts, and does so too.
+fn insert_mut<T: Item, A: Array<Item = T>>(
+    v: &mut TinyVec<A>,
+    i: usize,
+    (x, y): (T, T),
+    out: &mut String,
+) -> Result<(), Wrong> {
+    if i > v.len() {
+        return Err(Wrong::Place);
+    }
+    match v.insert_mut(i, x) {
         Ok(item) => {
             *item = y;
             Ok(())

@@ -80,7 +80,7 @@ module _ (A : Type 0) (alloc : Global) where
   -- of tinyvec.specs.Lends
   pub example-lends_added : (tiny_items (inline (1 ∷ 5 ∷ []) (8 ∷ 0 ∷ [])) ≡ (1 ∷ []) ++ 5 ∷ [])
       × RoomGrows Doubles D 4 2 (inline (1 ∷ []) (7 ∷ 8 ∷ 0 ∷ [])) (inline (1 ∷ 5 ∷ []) (8 ∷ 0 ∷ [])) done
-  example-lends_added = search rules
+  example-lends_added = (refl, search rules)
 
   pub example-Grows : Grows D 4 (inline (1 ∷ []) (7 ∷ 8 ∷ 0 ∷ [])) (inline (1 ∷ 5 ∷ []) (8 ∷ 0 ∷ []))
   example-Grows = search rules
