@@ -220,13 +220,13 @@ impl<T: Item, A: Array<Item = T>> Vector for ArrayVec<A> {
         &mut self,
         range: Span,
         f: F,
-        steps: &[&str],
+        count: usize,
         out: &mut String,
     ) -> Result<(), Wrong> {
         if !is_within(range, self.len()) {
             return Err(Wrong::Place);
         }
-        extracted(self.extract_if(range, f), steps, out)
+        extracted(self.extract_if(range, f), count, out)
     }
 
     fn drain(&mut self, range: Span, steps: &[&str], out: &mut String) -> Result<(), Wrong> {

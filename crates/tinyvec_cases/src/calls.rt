@@ -159,11 +159,11 @@ fn extract_if<V: Vector>(
     let range = words.span()?;
     let mut closure = Closure::new(words.alloc, words.word());
     let more = words.number()?;
-    let steps = words.rest()?;
+    let count = words.index()?;
     v.extract_if(
         range,
         |x| closure.asks_and_adds(x, more),
-        steps.as_slice(),
+        count,
         out,
     )?;
     closure.say(out)

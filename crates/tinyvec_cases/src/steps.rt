@@ -62,33 +62,10 @@ where
     }
 }
 
-/// Does steps at an iterator that extracts items, and writes what each answers. `None` and `rest` end them.
+/// Writes the hint of an iterator that extracts items, and the first of them, at most this many.
 pub fn extracted<V: CanCut, F: FnMut(&mut V::Item) -> bool>(
-    mut it: ExtractIf<'_, V, F>,
-    steps: &[&str],
-    out: &mut String,
-) -> Result<(), Wrong>
-where
-    V::Item: Item,
-    requires lies { ExtractLies V.items it }
-    requires callable { F.IsAlwaysCallable (extract_closure it) }
-{
-    for step in steps {
-        match *step {
-            "hint" => say_hint(out, &it)?,
-            "rest" => return say_rest(it, out),
-            "next" => match it.next() {
-                Some(x) => say(out, &Some(x))?,
-                None => return say(out, &None::<i32>),
-            },
-            _ => return Err(Wrong::Value),
-        }
-    }
-    Ok(())
-}
-
-fn say_rest<V: CanCut, F: FnMut(&mut V::Item) -> bool>(
     it: ExtractIf<'_, V, F>,
+    count: usize,
     out: &mut String,
 ) -> Result<(), Wrong>
 where
@@ -96,8 +73,17 @@ where
     requires lies { ExtractLies V.items it }
     requires callable { F.IsAlwaysCallable (extract_closure it) }
 {
+    say_hint(out, &it)?;
+    if count == 0 {
+        return Ok(());
+    }
+    let mut left = count;
     for x in it {
         say(out, &x)?;
+        left = left.saturating_sub(1);
+        if left == 0 {
+            return Ok(());
+        }
     }
     Ok(())
 }

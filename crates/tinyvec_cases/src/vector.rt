@@ -81,12 +81,12 @@ pub trait Vector {
 
     fn drain(&mut self, range: Span, steps: &[&str], out: &mut String) -> Result<(), Wrong>;
 
-    /// Extracts from the range, and writes what the steps yield.
+    /// Writes the first items that `f` chooses in the range, at most this many.
     fn extract_if<F: FnMut(&mut Self::Item) -> bool>(
         &mut self,
         range: Span,
         f: F,
-        steps: &[&str],
+        count: usize,
         out: &mut String,
     ) -> Result<(), Wrong>
         requires { F.IsAlwaysCallable f };

@@ -19,8 +19,10 @@ pub fn take_first<A: Array, F: FnMut(&mut A::Item) -> bool>(
         × ExtractsNext (CalledAtMut F.FnMut) f (items v.old) result t kept rest × (items v.new ≡ kept ++ rest) }
     ensures shorter { Shortens A.Item.is_default v.old v.new }
 {
-    let mut chosen = v.extract_if(.., f);
-    chosen.next()
+    for x in v.extract_if(.., f) {
+        return Some(x);
+    }
+    None
 }
 
 /// The same in slots that are lent.
@@ -36,8 +38,10 @@ where
         × ExtractsNext (CalledAtMut F.FnMut) f (items_of B.Lent v.old) result t kept rest
         × (items_of B.Lent v.new ≡ kept ++ rest) }
 {
-    let mut chosen = v.extract_if(.., f);
-    chosen.next()
+    for x in v.extract_if(.., f) {
+        return Some(x);
+    }
+    None
 }
 
 /// Moves the even numbers after those of `out`, which has room for them.
