@@ -1,7 +1,7 @@
 -- Lemmas on lists of clones. C is the `is_clone` of an item's `Clone`.
-use Rattle.std.proofs.Common.{◌≡◌, ℕ, Result, Ok, Err, ◌+◌, ◌-◌, ◌<◌, ◌≤◌, List, [], ◌∷◌, ◌++◌, length, take, drop, slice_range, get_or, replicate, refl, sym, ap, subst, ◌∙◌, append_assoc, arith, length-append, length-drop, length-take-le, drop_at, take_all, take-append-drop}
+use Rattle.std.proofs.Common.{◌≡◌, ℕ, Result, Ok, Err, ◌+◌, ◌-◌, ◌<◌, ◌≤◌, List, [], ◌∷◌, ◌++◌, length, take, drop, slice_range, get_or, replicate, refl, sym, ap, subst, ◌∙◌, append_assoc, arith, length-append, length-drop, length-take-le, append-nil, take_at, drop_at, take_all, take-append-drop}
 use Rattle.std.proofs.Math.Seq.{take-add}
-use Rattle.std.proofs.lemmas.List.{take_more, take_rest, replicate_more, get_or_default, get_or_append_left, get_or-take, get_or-drop}
+use Rattle.std.proofs.lemmas.List.{take_more, take_rest, drop_all, replicate_more, get_or_default, get_or_append_left, get_or-take, get_or-drop}
 use Rattle.std.proofs.lemmas.List.Elements.{AllZip-push, length_all_zip}
 use Rattle.std.specs.Prelude.{OnOk, OnErr, if◌then◌else◌, is_ok}
 use Rattle.std.specs.List.{AllZip, AppendsClones}
@@ -9,6 +9,7 @@ use Rattle.tinyvec_slots.specs.Clones.{RefusedAt}
 use Rattle.tinyvec_slots.specs.Slots.{Slots, items, items_len, spare, all_slots}
 use Rattle.tinyvec_slots.proofs.SlotsLemmas.{slots_are}
 use Rattle.tinyvec_slots.proofs.ClonesOverLemmas.{AllZip-drop, AllZip-join}
+use borrow.Rule.Slice.PartMut.{post_of}
 
 module _ {T : Type 0} (C : T → T → Type 0) where
   -- one more
@@ -30,6 +31,14 @@ module _ {T : Type 0} (C : T → T → Type 0) where
   pub appends_copy : (old new : List T) (i : ℕ) (x y : T) → C x y
       → AppendsClones C old new (replicate i x) → AppendsClones C old (new ++ y ∷ []) (replicate (i + 1) x)
   appends_copy old new i x y = appends_next old new (replicate i x) (replicate (i + 1) x) x y (replicate_more i x)
+
+  -- more behind those
+  pub appends_join : (old mid new xs ys zs : List T) → xs ++ ys ≡ zs → AppendsClones C old mid xs → AppendsClones C mid new ys → AppendsClones C old new zs
+  appends_join old mid new xs ys zs is h k = (
+    h.0 ++ k.0,
+    k.1 ∙ ap (λ l. l ++ k.0) h.1 ∙ append_assoc old h.0 k.0,
+    subst (λ l. AllZip C l (h.0 ++ k.0)) is (AllZip-join C xs h.0 ys k.0 h.2 k.2),
+  )
 
   pub appends_len : (old new more : List T) → AppendsClones C old new more → length new ≡ length old + length more
   appends_len old new more h =
@@ -96,3 +105,21 @@ pub appended_further : {T : Type 0} (old mid new from : List T) (a n : ℕ) → 
 appended_further old mid new from a n first next =
     let more = take n (drop a from) in
     next ∙ ap (λ l. mid ++ take n l) (take_rest from a) ∙ ap (λ l. l ++ more) first ∙ append_assoc old (take a from) more ∙ ap (λ l. old ++ l) (sym (take-add a n from))
+
+-- A block was written over the last n elements, which lie behind `old`.
+module _ {T : Type 0} (old ys block now new items : List T) (at n m : ℕ) where
+  abbrev written : List T
+  written = take at now ++ (new ++ post_of at (length now - at) now)
+
+  pub written_last : now ≡ old ++ ys → length old ≡ at → length ys ≡ n → length block ≡ n → m ≡ length now
+      → new ≡ block ++ drop n (take (length now - at) (drop at now)) → take m (written ++ drop (length written) items) ≡ old ++ block
+  written_last is long behind whole all made =
+      let front : take at now ≡ old = ap (take at) is ∙ take_at old ys at long in
+      let back : drop at now ≡ ys = ap (drop at) is ∙ drop_at old ys at long in
+      let part : take (length now - at) (drop at now) ≡ ys = take_rest now at ∙ back in
+      let none : drop n ys ≡ [] = drop_all n ys (omega (arith, behind)) in
+      let over : new ≡ block = made ∙ ap (λ l. block ++ drop n l) part ∙ ap (λ l. block ++ l) none ∙ append-nil block in
+      let left : post_of at (length now - at) now ≡ [] = drop_all (length now - at) (drop at now) (omega (arith, length-drop at now)) in
+      let same : written ≡ old ++ block = ap (λ l. take at now ++ (new ++ l)) left ∙ ap (λ l. take at now ++ l) (append-nil new ∙ over) ∙ ap (λ l. l ++ block) front in
+      let sum : length (old ++ block) ≡ m = omega (arith, length-append old block, ap length is, length-append old ys, behind, whole, all) in
+      ap (λ l. take m (l ++ drop (length l) items)) same ∙ take_at (old ++ block) (drop (length (old ++ block)) items) m sum

@@ -2,13 +2,13 @@
 //!
 //! Each loop works on a local variable, whose length and pointer LLVM keeps in registers. Through a reference it cannot,
 //! since the items might overlap the vector.
-ghost use Rattle.std.specs.Prelude.{◌≡◌, ◌+◌, ◌-◌, ◌<◌, ◌≤◌, ◌++◌, ℕ, All, length, take, slice_range, replicate, IsOk, OnOk, OnErr, vec_len, vec_capacity};
-ghost use Rattle.std.specs.List.{AppendsClones};
+ghost use Rattle.std.specs.Prelude.{◌≡◌, ◌+◌, ◌-◌, ◌<◌, ◌≤◌, ◌++◌, ℕ, All, length, take, drop, slice_range, replicate, IsOk, IfOk, OnOk, OnErr, vec_len, vec_capacity};
+ghost use Rattle.std.specs.List.{AllZip, AppendsClones};
 ghost use Rattle.tinyvec_slots.specs.Clones.{RefusedAt};
 
 use std::alloc::AllocError;
 use std::mem;
-use tinyvec_slots::fit_registers;
+use tinyvec_slots::{clone_each, fit_registers};
 
 // Appends clones of `from`, if there is room.
 pub(crate) fn push_clones<T: Clone>(heap: &mut Vec<T>, from: &[T]) -> Result<(), AllocError>
@@ -68,6 +68,102 @@ fn push_until_refused<T: Clone>(vec: &mut Vec<T>, from: &[T]) -> usize
         vec.push_reserved(x);
     }
     from.len()
+}
+
+// `push_clones` of a list that may be long. Items that fit registers go by blocks, of which one is worth its call from 512
+// items on.
+#[inline(always)]
+pub(crate) fn push_many_clones<T: Clone + Default + Drop>(
+    heap: &mut Vec<T>,
+    from: &[T],
+) -> Result<(), AllocError>
+    requires room { vec_len heap.old + length from.now ≤ vec_capacity heap.old }
+    ensures items { OnOk result (AppendsClones T.is_clone heap.old.items heap.new.items from.now) }
+    ensures kept { OnErr result (heap.new.items ≡ heap.old.items) }
+    ensures refused { OnErr result ((j : ℕ) × RefusedAt T.is_infallible from.now j) }
+    ensures capacity { vec_capacity heap.new ≡ vec_capacity heap.old }
+    ensures succeeds { All T.is_infallible from.now → IsOk result }
+{
+    if 512 <= from.len() && fit_registers(from) {
+        return push_clones_by_blocks::<T, 512>(heap, from);
+    }
+    push_clones(heap, from)
+}
+
+// `push_clones`, in blocks of N while N items are left. Not inlined, since a block is on the stack.
+#[inline(never)]
+fn push_clones_by_blocks<T: Clone + Default + Drop, const N: usize>(
+    heap: &mut Vec<T>,
+    from: &[T],
+) -> Result<(), AllocError>
+    requires some { 0 < N }
+    requires room { vec_len heap.old + length from.now ≤ vec_capacity heap.old }
+    ensures items { OnOk result (AppendsClones T.is_clone heap.old.items heap.new.items from.now) }
+    ensures kept { OnErr result (heap.new.items ≡ heap.old.items) }
+    ensures refused { OnErr result ((j : ℕ) × RefusedAt T.is_infallible from.now j) }
+    ensures capacity { vec_capacity heap.new ≡ vec_capacity heap.old }
+    ensures succeeds { All T.is_infallible from.now → IsOk result }
+{
+    let mut vec = mem::replace(heap, Vec::new(*heap.allocator()));
+    let len = vec.len();
+    let mut done = 0;
+    while N <= from.len() - done {
+        let Ok(block) = clone_block::<T, N>(&from[done..]) else {
+            vec.truncate(len);
+            *heap = vec;
+            return Err(AllocError);
+        };
+        push_whole(&mut vec, block);
+        done += N;
+    }
+    *heap = vec;
+    let Ok(()) = push_clones(heap, &from[done..]) else {
+        heap.truncate(len);
+        return Err(AllocError);
+    };
+    Ok(())
+}
+
+// Clones the first N items.
+#[inline(always)]
+fn clone_block<T: Clone + Default + Drop, const N: usize>(from: &[T]) -> Result<[T; N], AllocError>
+    requires enough { N ≤ length from.now }
+    ensures cloned { IfOk result (AllZip T.is_clone (take N from.now)) }
+    ensures len { IfOk result (λ block. length block ≡ N) }
+    ensures refused { OnErr result ((j : ℕ) × RefusedAt T.is_infallible from.now j) }
+{
+    // Tells the proof that the items fit in memory.
+    let _bytes = from.len() * mem::size_of::<T>();
+    let mut block: [T; N] = Default::default();
+    clone_each(&mut block, &from[..N])?;
+    Ok(block)
+}
+
+// Appends the items of the block. LLVM writes the defaults by one `memset`, and the block by one `memcpy`.
+#[inline(always)]
+fn push_whole<T: Default + Drop, const N: usize>(vec: &mut Vec<T>, block: [T; N])
+    requires len { length block ≡ N }
+    requires room { vec_len vec.old + N ≤ vec_capacity vec.old }
+    ensures items { vec.new.items ≡ vec.old.items ++ block }
+    ensures capacity { vec_capacity vec.new ≡ vec_capacity vec.old }
+{
+    let len = vec.len();
+    for _i in 0..N {
+        vec.push_reserved(T::default());
+    }
+    write_front(&mut vec.as_mut_slice()[len..], block);
+}
+
+// Writes the block over the first items.
+#[inline(always)]
+fn write_front<T: Drop, const N: usize>(to: &mut [T], block: [T; N])
+    requires { N ≤ length to.old }
+    ensures { to.new ≡ block ++ drop N to.old }
+{
+    let Some(place) = to.first_chunk_mut::<N>() else {
+        unreachable!();
+    };
+    *place = block;
 }
 
 // Appends clones of the items from `start` up to `end`, if there is room.

@@ -12,7 +12,7 @@ ghost use Rattle.tinyvec_slots.specs.Filling.{ShowsItems, IntoIterYields};
 ghost use Rattle.tinyvec.specs.Following.{Follows};
 
 use crate::TinyVec;
-use crate::tuned::{push_clones, push_clones_of, push_clones_within, push_copies};
+use crate::tuned::{push_clones_of, push_clones_within, push_copies, push_many_clones};
 use std::alloc::{AllocError, Global};
 use std::iter::ExactSizeIterator;
 use std::mem;
@@ -30,7 +30,7 @@ impl<A: Array> TinyVec<A> {
     {
         match self {
             TinyVec::Inline(v, _) => v.extend_from_slice(other),
-            TinyVec::Heap(v) => push_clones(v, other),
+            TinyVec::Heap(v) => push_many_clones(v, other),
         }
     }
 
@@ -64,7 +64,7 @@ impl<A: Array> TinyVec<A> {
             TinyVec::Inline(v, _) if other.len() <= v.capacity() - v.len() => v.extend_from_slice(
                 other,
             ),
-            TinyVec::Heap(v) if other.len() <= v.capacity() - v.len() => push_clones(v, other),
+            TinyVec::Heap(v) if other.len() <= v.capacity() - v.len() => push_many_clones(v, other),
             _ => {
                 self.grow(other.len())?;
                 self.extend_reserved(other)

@@ -62,57 +62,57 @@ pub returns-in-Inline-clause-refused : goal.returns-in-Inline-clause-refused
 returns-in-Inline-clause-refused g c =
     on_err_weaker c.extend_from_slice.result (λ h. inr (inline_granted g c, (h.0, h.1, λ _. rw c.in-Inline.is h.2))) c.extend_from_slice.ensures.clones.refused
 
-pub push_clones-requires : goal.push_clones-requires
-push_clones-requires g c = record { room = omega arith }
+pub push_many_clones-requires : goal.push_many_clones-requires
+push_many_clones-requires g c = record { room = omega arith }
 
 -- a heap with room
-module _ (g : _) (c : goal.After-push_clones g) where
-  heap_granted : RoomGranted g.A.Array.CAPACITY (tiny_len c.args.self.now + length c.args.other.now) c.args.self.now (Heap c.push_clones.new.heap)
+module _ (g : _) (c : goal.After-push_many_clones g) where
+  heap_granted : RoomGranted g.A.Array.CAPACITY (tiny_len c.args.self.now + length c.args.other.now) c.args.self.now (Heap c.push_many_clones.new.heap)
   heap_granted =
       let room : length c.in-Heap.v.items + length c.args.other.now ≤ vec_capacity c.in-Heap.v =
       omega (arith, c.in-Heap.v.ok.0, c.in-Heap.v.ok.1) in
-      granted_before g.A.Array.CAPACITY _ c.args.self.now (Heap c.push_clones.new.heap) (sym (ap is_inline c.in-Heap.is)) (rw c.in-Heap.is room)
+      granted_before g.A.Array.CAPACITY _ c.args.self.now (Heap c.push_many_clones.new.heap) (sym (ap is_inline c.in-Heap.is)) (rw c.in-Heap.is room)
 
 pub returns-in-Heap-clause-items : goal.returns-in-Heap-clause-items
-returns-in-Heap-clause-items g c = rw c.in-Heap.is c.push_clones.ensures.items
+returns-in-Heap-clause-items g c = rw c.in-Heap.is c.push_many_clones.ensures.items
 
 pub returns-in-Heap-clause-len : goal.returns-in-Heap-clause-len
 returns-in-Heap-clause-len g c =
-    let answer = c.push_clones.result in
-    let made = c.push_clones.ensures in
+    let answer = c.push_many_clones.result in
+    let made = c.push_many_clones.ensures in
     rw c.in-Heap.is (chosen answer _ _
-    (on_ok_weaker answer (λ h. appends_len g.A.Item.Clone.is_clone c.in-Heap.v.items c.push_clones.new.heap.items c.args.other.now h) made.items)
+    (on_ok_weaker answer (λ h. appends_len g.A.Item.Clone.is_clone c.in-Heap.v.items c.push_many_clones.new.heap.items c.args.other.now h) made.items)
     (on_err_weaker answer (λ h. ap length h) made.kept))
 
 pub returns-in-Heap-clause-if_clones_equal : goal.returns-in-Heap-clause-if_clones_equal
 returns-in-Heap-clause-if_clones_equal g c =
-    let answer = c.push_clones.result in
-    let made = c.push_clones.ensures in
+    let answer = c.push_many_clones.result in
+    let made = c.push_many_clones.ensures in
     rw c.in-Heap.is (λ rule. chosen answer _ _
     (on_ok_weaker answer (λ h. h.1 ∙ ap (λ l. c.in-Heap.v.items ++ l) (same_from_all_zip g.A.Item.Clone.is_clone c.args.other.now h.0 h.2 rule)) made.items)
     made.kept)
 
 pub returns-in-Heap-clause-room : goal.returns-in-Heap-clause-room
 returns-in-Heap-clause-room g c =
-    let ok = c.push_clones.new.heap.ok in
+    let ok = c.push_many_clones.new.heap.ok in
     let room : length c.in-Heap.v.items + length c.args.other.now ≤ vec_capacity c.in-Heap.v =
     omega (arith, c.in-Heap.v.ok.0, c.in-Heap.v.ok.1) in
     let need = length c.in-Heap.v.items + length c.args.other.now in
-    let made = c.push_clones.ensures in
-    rw c.in-Heap.is (room_kept g.A.Item.Default.is_default g.A.Array.CAPACITY need (Heap c.in-Heap.v) (Heap c.push_clones.new.heap) c.push_clones.result
-    (on_ok_weaker c.push_clones.result (λ _. rw c.in-Heap.is at (heap_granted g c).0) made.items)
-    (on_ok_weaker c.push_clones.result (λ _ i _. absurd (false≢true i)) made.items)
+    let made = c.push_many_clones.ensures in
+    rw c.in-Heap.is (room_kept g.A.Item.Default.is_default g.A.Array.CAPACITY need (Heap c.in-Heap.v) (Heap c.push_many_clones.new.heap) c.push_many_clones.result
+    (on_ok_weaker c.push_many_clones.result (λ _. rw c.in-Heap.is at (heap_granted g c).0) made.items)
+    (on_ok_weaker c.push_many_clones.result (λ _ i _. absurd (false≢true i)) made.items)
     room made.capacity (omega (arith, ok.0, ok.1)))
 
 pub returns-in-Heap-clause-succeeds : goal.returns-in-Heap-clause-succeeds
-returns-in-Heap-clause-succeeds g c = λ _. c.push_clones.ensures.succeeds
+returns-in-Heap-clause-succeeds g c = λ _. c.push_many_clones.ensures.succeeds
 
 pub returns-in-Heap-clause-kept : goal.returns-in-Heap-clause-kept
-returns-in-Heap-clause-kept g c = rw c.in-Heap.is c.push_clones.ensures.kept
+returns-in-Heap-clause-kept g c = rw c.in-Heap.is c.push_many_clones.ensures.kept
 
 pub returns-in-Heap-clause-refused : goal.returns-in-Heap-clause-refused
 returns-in-Heap-clause-refused g c =
-    on_err_weaker c.push_clones.result (λ h. inr (heap_granted g c, (h.0, h.1, λ i. absurd (false≢true i)))) c.push_clones.ensures.refused
+    on_err_weaker c.push_many_clones.result (λ h. inr (heap_granted g c, (h.0, h.1, λ i. absurd (false≢true i)))) c.push_many_clones.ensures.refused
 
 -- a list that had no room is as it was before it grows
 same : (g : _) (c : In_default g) → c.in_default.self ≡ c.args.self.now

@@ -10,8 +10,8 @@ extend_from_slice-requires g c =
     let room = rw c.in-Inline.is at c.requires.room in
     record { room = omega (arith, room) }
 
-pub push_clones-requires : goal.push_clones-requires
-push_clones-requires g c =
+pub push_many_clones-requires : goal.push_many_clones-requires
+push_many_clones-requires g c =
     let room = rw c.in-Heap.is at c.requires.room in
     record { room = omega (arith, room, c.in-Heap.v.ok.0) }
 
@@ -30,14 +30,14 @@ returns-in-Inline g c =
 
 pub returns-in-Heap : goal.returns-in-Heap
 returns-in-Heap g c =
-    let made = c.push_clones.ensures in
-    let ok = c.push_clones.new.heap.ok in record {
+    let made = c.push_many_clones.ensures in
+    let ok = c.push_many_clones.new.heap.ok in record {
       items = rw c.in-Heap.is made.items;
-      spare = on_ok_weaker c.push_clones.result (λ _. rw c.in-Heap.is (sym (drop-nil (length c.args.other.now)))) made.items;
+      spare = on_ok_weaker c.push_many_clones.result (λ _. rw c.in-Heap.is (sym (drop-nil (length c.args.other.now)))) made.items;
       place = sym (ap is_inline c.in-Heap.is);
       capacity = rw c.in-Heap.is made.capacity;
       fits = omega (arith, ok.0, ok.1);
       kept = rw c.in-Heap.is made.kept;
-      refused = on_err_weaker c.push_clones.result (λ h. (h.0, h.1, λ i. absurd (false≢true i))) made.refused;
+      refused = on_err_weaker c.push_many_clones.result (λ h. (h.0, h.1, λ i. absurd (false≢true i))) made.refused;
       succeeds = made.succeeds;
     }
