@@ -218,9 +218,7 @@ impl<A: Array> ArrayVec<A> {
     /// An empty vector, whose spare slots are the array.
     #[inline(always)]
     pub fn from_array_empty(array: A) -> Self
-        ensures value { result ≡ split_at 0 (A.slots array) }
-        ensures items { items result ≡ [] }
-        ensures spare { spare result ≡ A.slots array }
+        ensures { result ≡ split_at 0 (A.slots array) }
     {
         ArrayVec { len: 0, array }
     }

@@ -250,7 +250,6 @@ impl<A: Array> ArrayVec<A> {
         ensures items { AppendsResults F.step (take new_len (items self.old)) (items self.new) f }
         ensures len { items_len self.new ≡ new_len }
         ensures slot_rule { SlotRule A.Item.is_default self.old self.new }
-        ensures fits { items_len self.new ≤ A.CAPACITY }
     {
         self.truncate(new_len);
         while self.len() < new_len {
