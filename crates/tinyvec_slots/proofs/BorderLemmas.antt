@@ -1,5 +1,5 @@
 -- Lemmas on calls that write slots and then move the border between the items and the spare slots.
-use Rattle.std.proofs.Common.{◌≡◌, ℕ, ◌+◌, ◌-◌, ◌<◌, ◌≤◌, List, ◌∷◌, ◌++◌, length, take, drop, set, insert, remove, slice_range, true≢false, refl, sym, ap, subst, ◌∙◌, arith, rules, take_at, drop_at, length-append, append_assoc, length-take-le}
+use Rattle.std.proofs.Common.{◌≡◌, ℕ, ◌+◌, ◌-◌, ◌<◌, ◌≤◌, List, ◌∷◌, ◌++◌, length, take, drop, set, remove, slice_range, true≢false, refl, sym, ap, subst, ◌∙◌, arith, rules, take_at, drop_at, length-append, append_assoc, length-take-le}
 use Rattle.std.proofs.lemmas.List.{same_lists, places, drop-drop, drop-set-add}
 use Rattle.std.proofs.lemmas.List.Elements.{same_from_all_zip}
 use Rattle.std.specs.List.{AppendsClones}
@@ -11,7 +11,7 @@ use Rattle.tinyvec_slots.specs.Slots.{Slots, items, items_len, spare, split_at}
 use Rattle.tinyvec_slots.specs.Clones.{RefusedAt, ClonesAreEqual, ClonesOver, ClonesOverFrom, AddsClones}
 use Rattle.tinyvec_slots.proofs.CloneLemmas.{range_before}
 use Rattle.tinyvec_slots.proofs.ClonesOverLemmas.{all_granted}
-use Rattle.tinyvec_slots.proofs.Lists.{length-slice_range, drop-put, drop-vacated, take-inserted, drop-inserted, take-removed, drop-removed}
+use Rattle.tinyvec_slots.proofs.Lists.{length-slice_range, drop-put, drop-vacated, take-removed, drop-removed}
 
 -- A vector's `len` may be more than there are slots. Then its list is all of them, and n below is how long the list is.
 module _ {X : Type 0} (k : ℕ) (xs : List X) (n : ℕ) (is : n ≡ length (take k xs)) where
@@ -40,17 +40,7 @@ module _ {X : Type 0} (k : ℕ) (xs : List X) (n : ℕ) (is : n ≡ length (take
   pub drop-popped : (d : X) → 0 < n → drop (n - 1) (set xs (n - 1) d) ≡ d ∷ drop k xs
   drop-popped d pos = drop-vacated xs n d pos within ∙ ap (λ l. d ∷ l) spare_from
 
-  -- behind the list into which an item was put lie the spare slots but for the first
-  pub drop-put_in : (i : ℕ) (x : X) → i ≤ n → 0 < length (drop k xs)
-      → drop (n + 1) (insert (take n xs) i x ++ drop (n + 1) xs) ≡ drop 1 (drop k xs)
-  drop-put_in i x le room =
-      drop-inserted xs i n x le (beyond room) ∙ ap (drop 1) spare_from
-
-  -- the list into which an item was put, and the one that lost an item
-  pub take-put_in : (i : ℕ) (x : X) → i ≤ n → 0 < length (drop k xs)
-      → take (n + 1) (insert (take n xs) i x ++ drop (n + 1) xs) ≡ insert (take k xs) i x
-  take-put_in i x le room = take-inserted xs i n x le (beyond room) ∙ ap (λ l. insert l i x) list_to
-
+  -- the list that lost an item
   pub take-taken : (i : ℕ) (d : X) → i < n → take (n - 1) (remove (take n xs) i ++ d ∷ drop n xs) ≡ remove (take k xs) i
   take-taken i d lt = take-removed xs i n d lt within ∙ ap (λ l. remove l i) list_to
 

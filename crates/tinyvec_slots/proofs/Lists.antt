@@ -200,13 +200,6 @@ insert_over xs ys i n x y le lt is =
     let long-ys : length ys ≡ n + 1 = omega (arith, ap length all, length-append ys (y ∷ []), length-append (insert (take n xs) i x) (z ∷ []), long-new) in
     sym (take_at ys (y ∷ []) (n + 1) long-ys) ∙ ap (take (n + 1)) all ∙ take_at (insert (take n xs) i x) (z ∷ []) (n + 1) long-new
 
--- the first n and one that was put in among them
-pub take-inserted : {X : Type 0} (xs : List X) (i n : ℕ) (x : X) → i ≤ n → n < length xs
-    → take (n + 1) (insert (take n xs) i x ++ drop (n + 1) xs) ≡ insert (take n xs) i x
-take-inserted xs i n x le lt =
-    let long : length (take n xs) ≡ n = length-take-le n xs (omega (arith, lt)) in
-    take_at (insert (take n xs) i x) (drop (n + 1) xs) (n + 1) (search (rules, places, long))
-
 -- behind the first n and one that was put in among them lie the others but for the first
 pub drop-inserted : {X : Type 0} (xs : List X) (i n : ℕ) (x : X) → i ≤ n → n < length xs
     → drop (n + 1) (insert (take n xs) i x ++ drop (n + 1) xs) ≡ drop 1 (drop n xs)
