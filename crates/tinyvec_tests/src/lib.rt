@@ -9,3 +9,7 @@ mod iterators;
 mod macros;
 #[cfg(test)]
 mod many_slots;
+#[cfg(test)]
+mod no_memory;
+#[cfg(test)]
+mod refusals;
