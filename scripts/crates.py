@@ -129,7 +129,8 @@ class Crate:
 
     def verdict(self):
         """What out/good holds where the crate was found good with these very files, over what stands below it."""
-        tested = [it.files for it in self.uses if self.name == f"{it.name}_tests"]
+        is_tests = any(self.name == f"{it.name}_tests" for it in self.uses)
+        tested = [it.files for it in self.uses if is_tests]
         return sum_of(kit(), self.row, self.files, tested, [it.statements() for it in self.below])
 
     def is_good(self):

@@ -5,6 +5,9 @@ import pathlib
 import re
 import subprocess
 
+import crates
+import trying
+
 TOP = pathlib.Path(__file__).resolve().parent.parent
 
 # A text in quotes, or what is no part of one.
@@ -13,8 +16,9 @@ OPEN, CLOSE = "[(<", "])>"
 TIMES = re.compile(r"(?<=[\[,|])([^\[\],|*]+)\*(\d+)(?=[\],|])")
 UP_TO = re.compile(r"(?<=[\[,|])(-?\d+)\.\.(-?\d+)(?=[\],|])")
 WINDOW = re.compile(rb"^window (\d+)$", re.M)
-# More lines than this may answer with more than the mebibyte that `rt try` keeps.
-MOST_TRIED = 4000
+# A program that was compiled with checks is slow, so it answers as many lines side by side, in as many seconds: an edit that
+# `tests/found` tries may run for ever.
+MOST_TRIED, LIMIT = 1000, 300
 ESCAPES = {"n": "\n", "t": "\t", "r": "\r", "0": "\0"}
 
 
@@ -101,21 +105,25 @@ def unquoted(text):
 def run(program, lines, is_tried=False, refusing=None):
     """What the program answers to each line: the parts of its calls. With a library that refuses memory also the number of
     requests of each window that the program opened."""
-    if is_tried and len(lines) > MOST_TRIED:
-        answers = [None] * len(lines)
-        with concurrent.futures.ThreadPoolExecutor() as pool:
-            answers[::2], answers[1::2] = pool.map(lambda it: run(program, it, True), [lines[::2], lines[1::2]])
-        return answers
-    folder = TOP / "crates" / program
-    # So many rows take more steps than the interpreter has, and on a busy machine more than a minute.
-    words = ["rt", "try", "--steps", "1", "--seconds", "300"] if is_tried else [folder / "out" / program]
-    given = "".join(f"{it}\n" for it in lines).encode()
-    environment = {**os.environ, "LD_PRELOAD": refusing.library} if refusing else None
-    ran = subprocess.run(words, cwd=folder, env=environment, input=given, capture_output=True)
+    crate = crates.read_crates()[program]
+    how = {"env": {**os.environ, "LD_PRELOAD": refusing.library}} if refusing else {"timeout": LIMIT} if is_tried else {}
+    try:
+        path = trying.program_of(crate) if is_tried else crate.out / program
+        if is_tried and len(lines) > MOST_TRIED:
+            answers = [None] * len(lines)
+            with concurrent.futures.ThreadPoolExecutor() as pool:
+                answers[::2], answers[1::2] = pool.map(lambda it: run(program, it, True), [lines[::2], lines[1::2]])
+            return answers
+        given = "".join(f"{it}\n" for it in lines).encode()
+        ran = subprocess.run([path], input=given, capture_output=True, **how)
+    except (trying.NotCompiled, subprocess.TimeoutExpired) as why:
+        raise BadRow(f"no answer: {why}")
     said = ran.stdout.decode(errors="replace").split("\n")[:-1]
     if ran.returncode != 0 or len(said) != len(lines):
+        # Where a check stopped the program, only `rt try` names the place.
+        told = trying.run(crate, [], given)[2] if is_tried else ran.stderr
         raise BadRow(
-            f"{program}: status {ran.returncode}, {len(said)} of {len(lines)} rows are answered\n{ran.stderr.decode(errors='replace')[-2000:]}"
+            f"{program}: status {ran.returncode}, {len(said)} of {len(lines)} rows are answered\n{told.decode(errors='replace')[-2000:]}"
         )
     answers = [it.split("\t") for it in said]
     return (answers, [int(it) for it in WINDOW.findall(ran.stderr)]) if refusing else answers

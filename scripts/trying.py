@@ -113,6 +113,19 @@ def tell(crate, text):
     crates.say(f"{crate.name}: {text}")
 
 
+class NotCompiled(Exception):
+    pass
+
+
+def program_of(crate):
+    """The program that `rt try` compiles from the sources as they stand."""
+    if not is_kept(crate):
+        _, _, said = run(crate, [])
+        if not is_kept(crate):
+            raise NotCompiled(f"{crate.name}: `rt try` compiles no program that is kept\n{said.decode(errors='replace')[-2000:]}")
+    return program_kept(crate)
+
+
 def is_kept(crate):
     """Whether there is a program that `rt try` compiled from the sources as they stand."""
     return program_kept(crate).exists() and crates.text_of(crate.out / "tried/sum") == crate.sum
@@ -127,26 +140,32 @@ def try_on(crate, arguments, read):
     if is_kept(crate):
         answer_by_kept(crate, arguments, read)
     read.seek(0)
-    pipes = {"stdin": read, "stdout": subprocess.PIPE, "stderr": subprocess.PIPE}
+    status, answers, said = run(crate, arguments, read.read())
+    if ENDED.search(said):
+        write(crate.name, answers)
+        sys.exit(status)
+    if status in WRONG:
+        sys.stderr.write(said.decode(errors="replace"))
+        sys.exit(f"{crate.name}: the sources are refused, so nothing is answered; the lines above are rt's")
+    reasons = NO_ANSWER.findall(said)
+    return reasons[-1].decode(errors="replace") if reasons else f"`rt try` ended with status {status}"
+
+
+def run(crate, arguments, given=b""):
+    """The status of `rt try`, what the program wrote and what rt said. Where the program ended, it is kept."""
+    pipes = {"stdin": subprocess.PIPE, "stdout": subprocess.PIPE, "stderr": subprocess.PIPE}
     # Ctrl-C is for this process alone, which ends rt once, so that rt removes its files.
     with keeping_kit(crate) as (rt, program):
         words = [rt, "try", *(["--", *arguments] if arguments else [])]
         with subprocess.Popen(words, cwd=crate.folder, start_new_session=True, **pipes) as ran:
             try:
-                answers, said = ran.communicate()
+                answers, said = ran.communicate(given)
             except BaseException:
                 ran.terminate()
                 raise
-        if ENDED.search(said):
-            if program and program.exists():
-                keep(crate, program)
-            write(crate.name, answers)
-            sys.exit(ran.returncode)
-    if ran.returncode in WRONG:
-        sys.stderr.write(said.decode(errors="replace"))
-        sys.exit(f"{crate.name}: the sources are refused, so nothing is answered; the lines above are rt's")
-    reasons = NO_ANSWER.findall(said)
-    return reasons[-1].decode(errors="replace") if reasons else f"`rt try` ended with status {ran.returncode}"
+        if ENDED.search(said) and program and program.exists():
+            keep(crate, program)
+    return ran.returncode, answers, said
 
 
 def answer_by_kept(crate, arguments, read):
@@ -173,7 +192,8 @@ def keep(crate, program):
 @contextlib.contextmanager
 def keeping_kit(crate):
     """The command `rt` of a kit that is made of links, but for a linker that leaves the program in a file, and that file.
-    It is rt itself and no file where the kit has no such linker."""
+    It is rt itself and no file where the kit has no such linker. Nothing stands in the place of the kit's prover: `rt try` has
+    it read all sources for a hint that is not needed here, which takes a third of the time."""
     kit = pathlib.Path(shutil.which("rt")).resolve().parent.parent
     own = ("bin", "toolchain", "toolchain/bin")
     linker = kit / "toolchain/bin/ld.lld"
@@ -189,13 +209,14 @@ def keeping_kit(crate):
                 if str(it.relative_to(kit)) not in own:
                     (copy / folder / it.name).symlink_to(it)
         # Python finds the kit by where its own files are.
-        for it in ("bin/rt", "bin/rtlib.py", "toolchain/bin/ld.lld"):
+        for it in ("bin/rt", "bin/rtlib.py", "bin/rattle", "toolchain/bin/ld.lld"):
             (copy / it).unlink()
         for it in ("bin/rt", "bin/rtlib.py"):
             shutil.copy(kit / it, copy / it)
         words = {"linker": shlex.quote(str(linker)), "program": shlex.quote(str(program))}
-        (copy / "toolchain/bin/ld.lld").write_text(LINKER.format(**words), encoding="utf-8")
-        (copy / "toolchain/bin/ld.lld").chmod(0o755)
+        for it, text in (("toolchain/bin/ld.lld", LINKER.format(**words)), ("bin/rattle", "#!/bin/sh\n")):
+            (copy / it).write_text(text, encoding="utf-8")
+            (copy / it).chmod(0o755)
         yield copy / "bin/rt", program
 
 

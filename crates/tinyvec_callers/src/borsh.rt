@@ -7,7 +7,6 @@ ghost use Rattle.tinyvec_borsh.specs.Reading.{ReadsBack};
 
 use std::alloc::Global;
 use std::io::Read;
-use std::test::Fail;
 use tinyvec::{Array, ArrayVec, TinyVec};
 use tinyvec_borsh::{BorshDeserialize, BorshError, BorshSerialize};
 use tinyvec_io::Counted;
@@ -106,29 +105,4 @@ pub fn copied_lists_of_numbers(
     ensures { IfOk result (λ w. map items (tiny_items w) ≡ map items (tiny_items v.now)) }
 {
     copied_lists(alloc, v)
-}
-
-#[test]
-fn memory_that_is_there_is_granted(rt: HostRuntime) -> Result<(), Fail> {
-    let alloc = rt.alloc();
-    let signed = ArrayVec::from_array_len([-1, 2, 0, 0], 2);
-    let unsigned = TinyVec::<[u16; 4]>::from_slice(alloc, &[1, 2, 3, 4, 5])?;
-    let numbers = copied_numbers(alloc, &unsigned, &signed);
-    assert!(rt;
-        numbers.is_ok_and(|(v, w)| v == unsigned && w == signed),
-        "memory was granted"
-    );
-    let lists = TinyVec::from_array(alloc, [ArrayVec::from_array([1, 2, 3, 4]), ArrayVec::new()]);
-    assert!(rt;
-        copied_lists_of_numbers(alloc, &lists).is_ok_and(|v| v == lists),
-        "memory was granted"
-    );
-    let text = InlineText::<4>::from_str(alloc, "größer")?;
-    assert!(rt;
-        copied_text(alloc, &text).is_ok_and(|t| t == text),
-        "memory was granted"
-    );
-    let mut reader = Counted::new([2, 1, 9].as_slice());
-    assert!(rt; read_back::<u16, _>(alloc, &mut reader) == Ok(258));
-    Ok(())
 }

@@ -5,7 +5,6 @@ ghost use Rattle.std.specs.Io.{StartsWith};
 use std::alloc::Global;
 use std::io;
 use std::io::Write;
-use std::test::Fail;
 use tinyvec_io::Counted;
 
 /// Copies at most four bytes from the start of a text.
@@ -18,11 +17,4 @@ pub fn copied_front(alloc: Global, text: &[u8]) -> io::Result<Vec<u8>>
     let mut writer = Counted::new(Vec::new(alloc));
     writer.write_all(&buf[..count])?;
     Ok(writer.into_inner())
-}
-
-#[test]
-fn memory_that_is_there_is_granted(rt: HostRuntime) -> Result<(), Fail> {
-    assert!(rt; copied_front(rt.alloc(), b"tinyvec")?.as_slice() == b"tiny".as_slice());
-    assert!(rt; copied_front(rt.alloc(), b"")?.is_empty());
-    Ok(())
 }

@@ -1,5 +1,4 @@
-//! Callers of the Borsh form, of driven splices and of `Counted`. The check would pass if each of them were refused memory:
-//! their tests show that it is granted.
+//! Callers of the Borsh form, of driven splices and of `Counted`.
 #![tactic(auto)]
 
 pub mod borsh;

@@ -3,7 +3,6 @@ ghost use Rattle.std.specs.Prelude.{◌≡◌, [], ◌∷◌, pos, IfOk};
 ghost use Rattle.tinyvec.specs.Slots.{items};
 
 use std::alloc::{AllocError, Global};
-use std::test::Fail;
 use tinyvec::ArrayVec;
 use tinyvec_script::{Driven, End, drive_array_splice};
 
@@ -38,11 +37,4 @@ pub fn four_for_two(alloc: Global) -> Result<Spliced, AllocError>
     let word = [End::Front, End::Back];
     let driven = drive_array_splice(alloc, &mut vec, 1, 3, replacement, &word)?;
     Ok(Spliced { driven, vec })
-}
-
-#[test]
-fn memory_that_is_there_is_granted(rt: HostRuntime) -> Result<(), Fail> {
-    assert!(rt; one_for_two(rt.alloc())?.vec.as_slice() == [1, 7, 4].as_slice());
-    assert!(rt; four_for_two(rt.alloc())?.vec.as_slice() == [1, 6, 9, 4].as_slice());
-    Ok(())
 }

@@ -48,12 +48,9 @@ fn numbers_in_array(
     match count {
         "0]" => of_array::<i32, [i32; 0]>(words, calls, out),
         "1]" => of_array::<i32, [i32; 1]>(words, calls, out),
-        "2]" => of_array::<i32, [i32; 2]>(words, calls, out),
         "3]" => of_array::<i32, [i32; 3]>(words, calls, out),
         "4]" => of_array::<i32, [i32; 4]>(words, calls, out),
         "5]" => of_array::<i32, [i32; 5]>(words, calls, out),
-        "6]" => of_array::<i32, [i32; 6]>(words, calls, out),
-        "7]" => of_array::<i32, [i32; 7]>(words, calls, out),
         "8]" => of_array::<i32, [i32; 8]>(words, calls, out),
         "10]" => of_array::<i32, [i32; 10]>(words, calls, out),
         _ => Err(Wrong::Vector),
@@ -68,10 +65,7 @@ fn bytes_in_array(
 ) -> Result<(), Wrong> {
     match count {
         "0]" => of_array::<u8, [u8; 0]>(words, calls, out),
-        "3]" => of_array::<u8, [u8; 3]>(words, calls, out),
         "4]" => of_array::<u8, [u8; 4]>(words, calls, out),
-        "5]" => of_array::<u8, [u8; 5]>(words, calls, out),
-        "6]" => of_array::<u8, [u8; 6]>(words, calls, out),
         "10]" => of_array::<u8, [u8; 10]>(words, calls, out),
         "100]" => of_array::<u8, [u8; 100]>(words, calls, out),
         _ => Err(Wrong::Vector),
@@ -208,7 +202,6 @@ fn numbers_in_tiny(
         "3]" => of_tiny::<i32, [i32; 3]>(words, calls, out),
         "4]" => of_tiny::<i32, [i32; 4]>(words, calls, out),
         "5]" => of_tiny::<i32, [i32; 5]>(words, calls, out),
-        "8]" => of_tiny::<i32, [i32; 8]>(words, calls, out),
         "10]" => of_tiny::<i32, [i32; 10]>(words, calls, out),
         "70]" => of_tiny::<i32, [i32; 70]>(words, calls, out),
         _ => Err(Wrong::Vector),
@@ -223,11 +216,7 @@ fn bytes_in_tiny(
 ) -> Result<(), Wrong> {
     match count {
         "0]" => of_tiny::<u8, [u8; 0]>(words, calls, out),
-        "2]" => of_tiny::<u8, [u8; 2]>(words, calls, out),
-        "3]" => of_tiny::<u8, [u8; 3]>(words, calls, out),
         "4]" => of_tiny::<u8, [u8; 4]>(words, calls, out),
-        "5]" => of_tiny::<u8, [u8; 5]>(words, calls, out),
-        "6]" => of_tiny::<u8, [u8; 6]>(words, calls, out),
         "10]" => of_tiny::<u8, [u8; 10]>(words, calls, out),
         _ => Err(Wrong::Vector),
     }

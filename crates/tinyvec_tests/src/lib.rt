@@ -1,11 +1,9 @@
-//! The tests of a `TinyVec` that no row of `tests/cases` can say.
+//! The tests of each vector that no row of `tests/cases` can say.
 #![tactic(auto)]
 
 #[cfg(test)]
-mod draining;
+mod array;
 #[cfg(test)]
-mod iterators;
+mod slice;
 #[cfg(test)]
-mod macros;
-#[cfg(test)]
-mod many_slots;
+mod tiny;

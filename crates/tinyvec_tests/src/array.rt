@@ -1,0 +1,7 @@
+//! An `ArrayVec`.
+
+mod draining;
+mod errors;
+mod iterators;
+mod macros;
+mod many_slots;
