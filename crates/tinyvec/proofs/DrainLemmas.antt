@@ -1,15 +1,16 @@
 -- What calls of `next` and `next_back` give, for a drain, and what the vector is once it ended.
-use Rattle.std.proofs.Common.{◌≡◌, ℕ, ◌+◌, List, length, take, Option, refl, ap, ◌∙◌}
+use Rattle.std.proofs.Common.{◌≡◌, ℕ, ◌+◌, List, length, take, Option, refl, ap, subst, ◌∙◌}
 use Rattle.std.specs.List.{remove_range}
 use Rattle.std.specs.Iterator.{SkipsThenYields}
 use Rattle.std.specs.Iterator.Runs.{YieldsInOrder, YieldsInReverse}
 use Rattle.tinyvec_slots.proofs.AnyDrainLemmas.{runs_in_order, runs_in_reverse, step_keeps, step_back_keeps, nth_keeps, takes_any_word}
-use Rattle.tinyvec.specs.TinyVec.{tiny_items, SameFrame, StaysInPlace}
+use Rattle.tinyvec.specs.TinyVec.{tiny_items, SameFrame, Becomes}
 use Rattle.tinyvec.specs.Lends.{tiny_with_items}
-use Rattle.tinyvec.specs.Drain.{drain_items, drain_vec, drain_kept, Drained, DrainSteps, DrainStepsBack, DrainKeeps, DrainLeaves, DrainsFromEnds}
+use Rattle.tinyvec.specs.SpliceLaws.{frame_becomes}
+use Rattle.tinyvec.specs.Drain.{drain_items, drain_vec, drain_kept, DrainSteps, DrainStepsBack, DrainKeeps, DrainLeaves, DrainsFromEnds}
 use Rattle.tinyvec.specs.declared.tiny_vec.TinyVec.{TinyVec}
 use Rattle.tinyvec.specs.declared.drain.TinyVecDrain.{TinyVecDrain}
-use Rattle.tinyvec.proofs.TinyLemmas.{SameFrame-refl, SameFrame-then, tiny_items-with, tiny_framed-with, tiny_slots_framed, capacity_stays}
+use Rattle.tinyvec.proofs.TinyLemmas.{SameFrame-refl, SameFrame-then, tiny_items-with, tiny_framed-with}
 
 module _ {A T : Type 0} where
   pub drain_runs : YieldsInOrder (DrainSteps {A = A} {T = T}) drain_items
@@ -44,26 +45,19 @@ module _ {A T : Type 0} where
   -- what d leaves once its gap was closed: xs were the items, then ws, and the first `kept` of those stayed
   pub drain_left : (D : T → Type 0) (slots : ℕ) (d : TinyVecDrain A T) (xs ws : List T) (kept : ℕ) (new : TinyVec A T)
       → xs ≡ tiny_items (drain_vec d) → length ws ≡ length xs → take kept ws ≡ remove_range xs d.start (d.start + d.gap)
-      → tiny_items new ≡ take kept (tiny_items (tiny_with_items (drain_vec d) ws))
-      → StaysInPlace D slots (tiny_with_items (drain_vec d) ws) new → DrainLeaves D d new
-  drain_left D slots d xs ws kept new same long is cut stays =
-      let mid = tiny_with_items (drain_vec d) ws in
+      → Becomes D slots (tiny_with_items (drain_vec d) ws) new (take kept (tiny_items (tiny_with_items (drain_vec d) ws)))
+      → DrainLeaves D slots d new
+  drain_left D slots d xs ws kept new same long is cut =
       let all = long ∙ ap length same in
-      let frame = tiny_framed-with (drain_vec d) ws all in record {
-        items = cut ∙ ap (take kept) (tiny_items-with (drain_vec d) ws all) ∙ is ∙ ap (λ l. remove_range l d.start (d.start + d.gap)) same;
-        place = stays.place ∙ frame.place;
-        slot_rule = tiny_slots_framed D (drain_vec d) mid new frame stays.slot_rule;
-        capacity = λ n. capacity_stays slots mid new stays.place stays.capacity n ∙ frame.capacity n;
-      }
+      let frame = tiny_framed-with (drain_vec d) ws all in
+      subst (Becomes D slots (drain_vec d) new)
+      (ap (take kept) (tiny_items-with (drain_vec d) ws all) ∙ is ∙ ap (λ l. remove_range l d.start (d.start + d.gap)) same)
+      (frame_becomes D slots (drain_vec d) (tiny_with_items (drain_vec d) ws) new _ frame cut)
 
   -- What a vector is once a drain of it ended. The premises are what `drain` ensures of `first`, what calls keep up to
   -- `last`, and what the end of `last` leaves.
-  pub tiny_drained : (D : T → Type 0) (old : TinyVec A T) (first last : TinyVecDrain A T) (new : TinyVec A T)
-      → SameFrame old (drain_vec first) → DrainKeeps first last → DrainLeaves D last new → Drained D (drain_kept first) old new
-  tiny_drained D old first last new frame kept left =
-      let all = SameFrame-then old (drain_vec first) (drain_vec last) frame kept.frame in record {
-        items = left.items ∙ kept.kept;
-        place = left.place ∙ all.place;
-        slot_rule = tiny_slots_framed D old (drain_vec last) new all left.slot_rule;
-        capacity = λ slots. left.capacity slots ∙ all.capacity slots;
-      }
+  pub tiny_drained : (D : T → Type 0) (slots : ℕ) (old : TinyVec A T) (first last : TinyVecDrain A T) (new : TinyVec A T)
+      → SameFrame old (drain_vec first) → DrainKeeps first last → DrainLeaves D slots last new → Becomes D slots old new (drain_kept first)
+  tiny_drained D slots old first last new frame kept left =
+      let all = SameFrame-then old (drain_vec first) (drain_vec last) frame kept.frame in
+      subst (Becomes D slots old new) kept.kept (frame_becomes D slots old (drain_vec last) new _ all left)

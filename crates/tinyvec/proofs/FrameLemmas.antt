@@ -1,14 +1,14 @@
 -- Lemmas on what a call leaves of place and capacity.
-use Rattle.std.proofs.Common.{◌≡◌, ℕ, ◌≤◌, ◌+◌, ◌*◌, max, Result, Ok, Err, drop, refl, sym, ap, subst, ◌∙◌, arith}
+use Rattle.std.proofs.Common.{◌≡◌, ℕ, ◌≤◌, ◌+◌, ◌*◌, max, Result, Ok, Err, List, length, drop, refl, sym, ap, subst, ◌∙◌, arith}
 use Rattle.std.specs.Prelude.{OnOk, IsErr}
+use Rattle.std.proofs.Math.Seq.{drop-nil}
 use Rattle.std.proofs.lemmas.Bool.{false≢true}
 use Rattle.tinyvec_slots.specs.Slots.{Slots, SlotRule, items, items_len, spare}
-use Rattle.tinyvec.specs.TinyVec.{tiny_view, tiny_len, tiny_spare, is_inline, tiny_capacity, IsInline, PlaceRule, TinySlotRule, SameFrame, StaysInPlace, Unchanged}
+use Rattle.tinyvec.specs.TinyVec.{tiny_view, tiny_len, tiny_spare, is_inline, tiny_capacity, IsInline, PlaceRule, TinySlotRule, SameFrame, Becomes, StaysInPlace, Unchanged}
 use Rattle.tinyvec.specs.Room.{Doubles, GrowsFor, Grows, Reserves, RoomGrows, MakesRoom}
-use Rattle.tinyvec.proofs.TinyLemmas.{slots_taken, tiny_slots_then, tiny_slots_then_framed, never_ok}
+use Rattle.tinyvec.proofs.TinyLemmas.{view_unchanged, slots_taken, taken, tiny_slots_then, tiny_slots_then_framed, never_ok}
 use Rattle.tinyvec.proofs.RefusedLemmas.{place_then}
-use Rattle.tinyvec.specs.View.{in_array, ViewStays}
-use Rattle.tinyvec.specs.FrameLaws.{view_unchanged}
+use Rattle.tinyvec.specs.View.{in_array, ViewBecomes}
 use Rattle.tinyvec.specs.declared.tiny_vec.TinyVec.{TinyVec}
 use Rattle.tinyvec.specs.declared.tiny_vec.TinyVec.TheVariants.{Inline, Heap}
 
@@ -17,27 +17,37 @@ on_ok (Ok x) p = p
 on_ok (Err e) p = tt
 
 -- an array whose slots follow the slot rule
-pub inline_stays : {T : Type 0} (D : T → Type 0) (slots : ℕ) (v w : Slots T) → SlotRule D v w → items_len w ≤ slots
-    → ViewStays D slots (record { items = items v; spare = spare v; place = in_array }) (record { items = items w; spare = spare w; place = in_array })
-inline_stays D slots v w rule fits = record { place = refl; slot_rule = λ _ _. rule; capacity = refl; fits = fits }
+pub inline_becomes : {T : Type 0} (D : T → Type 0) (slots : ℕ) (v w : Slots T) (xs : List T) → items w ≡ xs → SlotRule D v w → items_len w ≤ slots
+    → ViewBecomes D slots (record { items = items v; spare = spare v; place = in_array }) (record { items = items w; spare = spare w; place = in_array }) xs
+inline_becomes D slots v w xs is rule fits = record { items = is; place = refl; slot_rule = λ _ _. rule; capacity = refl; fits = fits }
 
 module _ {A T : Type 0} (D : T → Type 0) (slots : ℕ) where
   -- a list that is as it was
   pub stays_same : (v : TinyVec A T) → tiny_len v ≤ tiny_capacity slots v → StaysInPlace D slots v v
-  stays_same v fits = record { place = refl; slot_rule = slots_taken D v v 0 (omega arith) refl; capacity = refl; fits = fits }
+  stays_same v fits = record { items = refl; place = refl; slot_rule = slots_taken D v v 0 (omega arith) refl; capacity = refl; fits = fits }
 
   pub unchanged_stays : (v w : TinyVec A T) → tiny_len v ≤ tiny_capacity slots v → Unchanged v w → StaysInPlace D slots v w
-  unchanged_stays v w fits h = subst (ViewStays D slots (tiny_view v)) (sym (view_unchanged v w h)) (stays_same v fits)
+  unchanged_stays v w fits h = subst (λ u. ViewBecomes D slots (tiny_view v) u u.items) (sym (view_unchanged v w h)) (stays_same v fits)
 
   -- a list that used up k spare slots in its place
   pub taken_stays : (v w : TinyVec A T) (k : ℕ) → tiny_len w ≡ tiny_len v + k → tiny_len v + k ≤ tiny_capacity slots v → tiny_spare w ≡ drop k (tiny_spare v)
       → is_inline w ≡ is_inline v → tiny_capacity slots w ≡ tiny_capacity slots v → StaysInPlace D slots v w
   taken_stays v w k len room behind place same = record {
+    items = refl;
     place = place;
     slot_rule = slots_taken D v w k len behind;
     capacity = same;
     fits = omega (arith, len, room, same);
   }
+
+  -- the spare slots that a list used up in its place, by as many items as it got longer
+  pub spare_used : (v w : TinyVec A T) (xs : List T) (k : ℕ) → length xs ≡ tiny_len v + k → Becomes D slots v w xs → tiny_spare w ≡ drop k (tiny_spare v)
+  spare_used (Inline v a) (Inline w b) xs k long h =
+      let len = ap length h.items ∙ long in
+      taken {A = A} D (Inline v a) (Inline w b) (omega (arith, len)) h.slot_rule refl refl ∙ ap (λ n. drop n (spare v)) (omega (arith, len))
+  spare_used (Inline v a) (Heap w) xs k long h = absurd (false≢true h.place)
+  spare_used (Heap v) (Inline w b) xs k long h = absurd (false≢true (sym h.place))
+  spare_used (Heap v) (Heap w) xs k long h = sym (drop-nil k)
 
   -- an inline list that fits the slots
   pub inline_fits : (v : TinyVec A T) → IsInline v → tiny_len v ≤ tiny_capacity slots v → tiny_len v ≤ slots
@@ -97,7 +107,7 @@ module _ {A T : Type 0} (D : T → Type 0) (slots : ℕ) where
 
   -- a list that grew, and fits the room that it had
   pub grows_in_room : (v w : TinyVec A T) → tiny_len w ≤ tiny_capacity slots v → Grows D slots v w → StaysInPlace D slots v w
-  grows_in_room v w le h = record { place = same_place (tiny_len w) v w le h.place; slot_rule = h.slot_rule; capacity = h.same_room le; fits = h.fits }
+  grows_in_room v w le h = record { items = refl; place = same_place (tiny_len w) v w le h.place; slot_rule = h.slot_rule; capacity = h.same_room le; fits = h.fits }
 
 module _ {A T X E : Type 0} (D : T → Type 0) (slots need : ℕ) (old new : TinyVec A T) (r : Result X E) where
   -- there was room

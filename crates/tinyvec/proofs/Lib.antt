@@ -4,5 +4,6 @@ pub mod CloneLemmas
 pub mod RefusedLemmas
 pub mod SpliceLemmas
 pub mod FillingLemmas
+pub mod ExtendingLemmas
 pub mod FrameLemmas
 pub mod ReplacingLemmas

@@ -2,25 +2,26 @@
 use Rattle.std.proofs.Common.{◌≡◌, ◌∙◌, ℕ, ◌+◌, ◌-◌, ◌*◌, ◌<◌, ◌≤◌, max, List, ◌++◌, take, drop, length, length-append, length-drop, length-take-le, Result, Ok, inl, inr, sym, ap, subst, arith}
 use Rattle.std.proofs.lemmas.Bool.{cases_lt}
 use Rattle.tinyvec_slots.specs.Replacing.{PutsBetween}
-use Rattle.tinyvec.specs.TinyVec.{tiny_len, is_inline, tiny_capacity, PlaceRule, TinySlotRule, StaysInPlace}
+use Rattle.tinyvec.specs.TinyVec.{tiny_len, is_inline, tiny_capacity, PlaceRule, TinySlotRule, Becomes}
 use Rattle.tinyvec.specs.Room.{GrowsFor, RoomGrows, Reserves}
 use Rattle.tinyvec.specs.declared.tiny_vec.TinyVec.{TinyVec}
 use Rattle.tinyvec.proofs.TinyLemmas.{capacity_inline}
 use Rattle.tinyvec.proofs.FrameLemmas.{on_ok}
 
--- a list with a range of it replaced
-pub record Replaced {T : Type 0} (start end : ℕ) (put old new : List T) : Type 0 where
-  pub items : new ≡ take start old ++ put ++ drop end old
-  pub len : length new ≡ length old - (end - start) + length put
+-- the length of a list with a range of it replaced
+pub length-replaced : {T : Type 0} (start end : ℕ) (put old : List T) → start ≤ end → end ≤ length old
+    → length (take start old ++ put ++ drop end old) ≡ length old - (end - start) + length put
+length-replaced start end put old le inside =
+    let ahead = length-take-le start old (omega (arith, le, inside)) in
+    omega (arith, length-append (take start old ++ put) (drop end old), length-append (take start old) put, ahead, length-drop end old, le, inside)
 
+-- and that list, put where there is room for it
 pub replaced : {T X E : Type 0} (room start end : ℕ) (put old new : List T) (result : Result X E) → start ≤ end → end ≤ length old
-    → length old - (end - start) + length put ≤ room → PutsBetween room (take start old) put (drop end old) result new → Replaced start end put old new
+    → length old - (end - start) + length put ≤ room → PutsBetween room (take start old) put (drop end old) result new
+    → new ≡ take start old ++ put ++ drop end old
 replaced room start end put old new result le inside fits puts =
     let ahead = length-take-le start old (omega (arith, le, inside)) in
-    let behind = length-drop end old in
-    let list = (puts.1 (omega (arith, ahead, behind, le, inside, fits))).1 in
-    let sum = ap length list ∙ length-append (take start old ++ put) (drop end old) in
-    record { items = list; len = omega (arith, sum, length-append (take start old) put, ahead, behind, le, inside) }
+    (puts.1 (omega (arith, ahead, length-drop end old, le, inside, fits))).1
 
 module _ {A T : Type 0} (slots n : ℕ) (old mid new : TinyVec A T) (fits : tiny_len old ≤ tiny_capacity slots old)
     (long : tiny_len new ≤ tiny_len old + n) (exact : 0 < n → tiny_len new ≡ tiny_len old + n) where
@@ -38,8 +39,8 @@ module _ {A T : Type 0} (slots n : ℕ) (old mid new : TinyVec A T) (fits : tiny
     λ h. same ∙ first.1 (h.0, as_many slots (omega (arith, fits, capacity_inline slots old h.0)) h.1),
   )
 
-  pub replaced_room : {X E Y F : Type 0} (D : T → Type 0) (r : Result X E) (y : Y)
-      → Reserves {E = F} D slots n (max (2 * tiny_capacity slots old) (tiny_len old + n)) old mid (Ok y) → StaysInPlace D slots mid new
+  pub replaced_room : {X E Y F : Type 0} {xs : List T} (D : T → Type 0) (r : Result X E) (y : Y)
+      → Reserves {E = F} D slots n (max (2 * tiny_capacity slots old) (tiny_len old + n)) old mid (Ok y) → Becomes D slots mid new xs
       → RoomGrows GrowsFor D slots (tiny_len new) old new r
   replaced_room D r y made stays = record {
     place = on_ok r (replaced_place made.place stays.place);

@@ -6,7 +6,7 @@ use Rattle.tinyvec_slots.specs.Fused.{HasTwoEnds}
 use Rattle.tinyvec_slots.specs.SplicedByWord.{SplicedByWord}
 use Rattle.tinyvec_slots.proofs.AnySpliceLemmas as all
 use Rattle.tinyvec.specs.TinyVecSplice.{splice_view, splice_left, splice_vec, SpliceKeeps, SpliceSteps, SpliceStepsBack}
-use Rattle.tinyvec.specs.FrameLaws.{SameFrame-refl, SameFrame-then}
+use Rattle.tinyvec.proofs.TinyLemmas.{SameFrame-refl, SameFrame-then}
 use Rattle.tinyvec.specs.declared.splice.TinyVecSplice.{TinyVecSplice}
 
 module _ {A I T : Type 0} where

@@ -6,20 +6,33 @@ use Rattle.std.proofs.lemmas.List.Edits.{length-insert, length-remove}
 use Rattle.std.proofs.lemmas.List.Elements.{All-drop, All-nil}
 use Rattle.tinyvec_slots.specs.Slots.{Slots, AreDefaults, Vacates, SlotRule, items, items_len, spare}
 use Rattle.tinyvec_slots.proofs.SlotsLemmas.{slots_used, slots_freed, defaults_are, items-with_slot, spare-with_slot}
-use Rattle.tinyvec.specs.View.{capacity_in}
-use Rattle.tinyvec.specs.FrameLaws.{same_place}
-use Rattle.tinyvec.specs.TinyVec.{place_of, tiny_items, tiny_len, tiny_spare, is_inline, tiny_capacity, IsInline, TinySlotRule, SameFrame}
+use Rattle.tinyvec.specs.View.{Place, in_array, on_heap, lies_inline, capacity_in}
+use Rattle.tinyvec.specs.TinyVec.{tiny_view, place_of, tiny_items, tiny_len, tiny_spare, is_inline, IsInline, TinySlotRule, SameFrame, Unchanged}
 use Rattle.tinyvec.specs.Lends.{tiny_with_item}
-pub use Rattle.tinyvec.specs.FrameLaws.{capacity_inline, SameFrame-refl, SameFrame-then, tiny_items-with, tiny_framed-with, tiny_slots_framed, tiny_slots_then_framed}
+pub use Rattle.tinyvec.specs.FrameLaws.{capacity_inline, SameFrame-refl, tiny_items-with, tiny_framed-with, tiny_slots_framed, tiny_slots_then_framed}
 use Rattle.tinyvec.specs.declared.tiny_vec.TinyVec.{TinyVec}
 use Rattle.tinyvec.specs.declared.tiny_vec.TinyVec.TheVariants.{Inline, Heap}
 
--- a list that stayed in its place with its capacity, for any number of slots
-pub capacity_stays : {A T : Type 0} (n : ℕ) (old new : TinyVec A T) → is_inline new ≡ is_inline old → tiny_capacity n new ≡ tiny_capacity n old
-    → (slots : ℕ) → tiny_capacity slots new ≡ tiny_capacity slots old
-capacity_stays n old new place same slots = ap (capacity_in slots) (same_place n (place_of old) (place_of new) place same)
+-- two places that are both in the array, or both on the heap with one capacity
+pub same_place : (slots : ℕ) (p q : Place) → lies_inline q ≡ lies_inline p → capacity_in slots q ≡ capacity_in slots p → q ≡ p
+same_place slots in_array in_array same room = refl
+same_place slots in_array (on_heap n) same room = absurd (let no = same in cc)
+same_place slots (on_heap m) in_array same room = absurd (let no = same in cc)
+same_place slots (on_heap m) (on_heap n) same room = ap on_heap room
+
+-- what did not change looks the same
+pub view_unchanged : {A T : Type 0} (old new : TinyVec A T) → Unchanged old new → tiny_view new ≡ tiny_view old
+view_unchanged old new h i = record { items = h.items i; spare = h.spare i; place = same_place 0 (place_of old) (place_of new) h.place (h.capacity 0) i }
 
 module _ {A T : Type 0} where
+  pub SameFrame-then : (u v w : TinyVec A T) → SameFrame u v → SameFrame v w → SameFrame u w
+  SameFrame-then u v w h k = record {
+    len = k.len ∙ h.len;
+    spare = k.spare ∙ h.spare;
+    place = k.place ∙ h.place;
+    capacity = λ slots. k.capacity slots ∙ h.capacity slots;
+  }
+
   -- a write of one item writes that item
   pub tiny_items-with_item : (v : TinyVec A T) (i : ℕ) (x : T) → i < tiny_len v → tiny_items (tiny_with_item v i x) ≡ slice_set (tiny_items v) i x
   tiny_items-with_item (Inline v alloc) i x h = items-with_slot v i x h
@@ -55,7 +68,7 @@ module _ {A T : Type 0} (D : T → Type 0) where
       ([], (sym none, All-nil D), behind ∙ ap (λ n. drop n (tiny_spare old)) (sym more))
 
   -- and what a list that got no shorter used up
-  taken : (old new : TinyVec A T) → tiny_len old ≤ tiny_len new → TinySlotRule D old new → IsInline old → IsInline new
+  pub taken : (old new : TinyVec A T) → tiny_len old ≤ tiny_len new → TinySlotRule D old new → IsInline old → IsInline new
       → tiny_spare new ≡ drop (tiny_len new - tiny_len old) (tiny_spare old)
   taken old new le rule i j =
       let h = rule i j in

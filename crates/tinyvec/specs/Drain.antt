@@ -3,7 +3,7 @@ use Rattle.std.specs.Prelude.{◌≡◌, ℕ, ◌+◌, ◌-◌, ◌≤◌, List,
 use Rattle.std.specs.Borrow.{GName}
 use Rattle.std.specs.List.{remove_range}
 use Rattle.tinyvec_slots.specs.AnyDrain.{Steps, StepsBack, TakesAnyWord}
-use Rattle.tinyvec.specs.TinyVec.{tiny_items, tiny_len, is_inline, tiny_capacity, TinySlotRule, SameFrame}
+use Rattle.tinyvec.specs.TinyVec.{tiny_items, tiny_len, Becomes, SameFrame}
 use Rattle.tinyvec.specs.declared.tiny_vec.TinyVec.{TinyVec}
 use Rattle.tinyvec.specs.declared.drain.TinyVecDrain.{TinyVecDrain}
 
@@ -32,16 +32,9 @@ module _ {A T : Type 0} where
   abbrev pub DrainCanStep : TinyVecDrain A T → Type 0
   DrainCanStep d = (d.start ≤ d.front) × (d.back ≤ d.start + d.gap) × (d.start + d.gap ≤ tiny_len d.vec.now)
 
-  -- a drain of `old` left `new`: the items that stay, in their place, with the same capacity, by the slot rule
-  pub record Drained (D : T → Type 0) (kept : List T) (old new : TinyVec A T) : Type 0 where
-    pub items : tiny_items new ≡ kept
-    pub place : is_inline new ≡ is_inline old
-    pub slot_rule : TinySlotRule D old new
-    pub capacity : (slots : ℕ) → tiny_capacity slots new ≡ tiny_capacity slots old
-
   -- what d leaves when it is dropped
-  abbrev pub DrainLeaves : (T → Type 0) → TinyVecDrain A T → TinyVec A T → Type 0
-  DrainLeaves D d = Drained D (drain_kept d) (drain_vec d)
+  abbrev pub DrainLeaves : (T → Type 0) → ℕ → TinyVecDrain A T → TinyVec A T → Type 0
+  DrainLeaves D slots d new = Becomes D slots (drain_vec d) new (drain_kept d)
 
   -- old and new borrow the same vector, and leave it the same
   pub record DrainKeeps (old new : TinyVecDrain A T) : Type 0 where

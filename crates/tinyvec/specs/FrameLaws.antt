@@ -1,8 +1,7 @@
 -- What has the same frame: the same vector, and one whose items were written. The slot rule reads no more of a vector.
 use Rattle.std.proofs.Common.{◌≡◌, ◌≤◌, ℕ, List, length, drop, refl, sym, ap, ◌∙◌, subst, take_at}
 use Rattle.tinyvec_slots.proofs.SlotsLemmas.{items-with_items, spare-with_items}
-use Rattle.tinyvec.specs.View.{Place, in_array, on_heap, lies_inline, capacity_in}
-use Rattle.tinyvec.specs.TinyVec.{tiny_view, place_of, tiny_items, tiny_len, is_inline, IsInline, tiny_capacity, PlaceRule, TinySlotRule, SameFrame, Unchanged}
+use Rattle.tinyvec.specs.TinyVec.{tiny_items, tiny_len, is_inline, IsInline, tiny_capacity, PlaceRule, TinySlotRule, SameFrame}
 use Rattle.tinyvec.specs.Lends.{tiny_with_items}
 use Rattle.tinyvec.specs.declared.tiny_vec.TinyVec.{TinyVec}
 use Rattle.tinyvec.specs.declared.tiny_vec.TinyVec.TheVariants.{Inline, Heap}
@@ -10,14 +9,6 @@ use Rattle.tinyvec.specs.declared.tiny_vec.TinyVec.TheVariants.{Inline, Heap}
 module _ {A T : Type 0} where
   pub SameFrame-refl : (v : TinyVec A T) → SameFrame v v
   SameFrame-refl v = record { len = refl; spare = refl; place = refl; capacity = λ slots. refl }
-
-  pub SameFrame-then : (u v w : TinyVec A T) → SameFrame u v → SameFrame v w → SameFrame u w
-  SameFrame-then u v w h k = record {
-    len = k.len ∙ h.len;
-    spare = k.spare ∙ h.spare;
-    place = k.place ∙ h.place;
-    capacity = λ slots. k.capacity slots ∙ h.capacity slots;
-  }
 
   -- a write through the slice of the items, which keeps its length, leaves what the slice shows
   pub tiny_items-with : (v : TinyVec A T) (ws : List T) → length ws ≡ tiny_len v → tiny_items (tiny_with_items v ws) ≡ ws
@@ -54,14 +45,3 @@ place_kept slots need old new same le = (
   λ i. let was = sym same ∙ i in (was, subst (λ n. need ≤ n) (capacity_inline slots old was) le),
   λ h. same ∙ h.0,
 )
-
--- two places that are both in the array, or both on the heap with one capacity
-pub same_place : (slots : ℕ) (p q : Place) → lies_inline q ≡ lies_inline p → capacity_in slots q ≡ capacity_in slots p → q ≡ p
-same_place slots in_array in_array same room = refl
-same_place slots in_array (on_heap n) same room = absurd (let no = same in cc)
-same_place slots (on_heap m) in_array same room = absurd (let no = same in cc)
-same_place slots (on_heap m) (on_heap n) same room = ap on_heap room
-
--- what did not change looks the same
-pub view_unchanged : {A T : Type 0} (old new : TinyVec A T) → Unchanged old new → tiny_view new ≡ tiny_view old
-view_unchanged old new h i = record { items = h.items i; spare = h.spare i; place = same_place 0 (place_of old) (place_of new) h.place (h.capacity 0) i }

@@ -1,9 +1,10 @@
 -- What a failed call leaves.
-use Rattle.std.specs.Prelude.{◌≡◌, ℕ, ◌<◌, ◌≤◌, ◌⊎◌, List, length, take, drop, All, Result, IsOk, OnOk, OnErr}
+use Rattle.std.specs.Prelude.{◌≡◌, ℕ, ◌+◌, ◌<◌, ◌≤◌, ◌⊎◌, List, ◌++◌, length, take, drop, All, Result, IsOk, OnOk, OnErr, if◌then◌else◌, is_ok}
 use Rattle.std.specs.List.{AppendsClones}
-use Rattle.tinyvec_slots.specs.Clones.{RefusedAt, ClonesOver}
+use Rattle.std.specs.declared.clone.Clone as Clone
+use Rattle.tinyvec_slots.specs.Clones.{RefusedAt, ClonesAreEqual, ClonesOver}
 use Rattle.tinyvec.specs.TinyVec.{tiny_items, tiny_len, tiny_spare, is_inline, tiny_capacity, IsInline, PlaceRule, Unchanged}
-use Rattle.tinyvec.specs.Room.{GrowsFor}
+use Rattle.tinyvec.specs.Room.{GrowsFor, RoomGrows}
 use Rattle.tinyvec.specs.declared.tiny_vec.TinyVec.{TinyVec}
 
 -- a call that needs room for `need` items had it, or allocated it
@@ -21,13 +22,28 @@ abbrev pub ClonesBehind : {A T : Type 0} → (T → T → Type 0) → List T →
 ClonesBehind C xs n old new = IsInline new → ClonesOver C xs n (tiny_spare old) (tiny_spare new)
 
 -- clones of xs were appended, with this result, to a list that has room for them
-pub record ClonesInRoom {A T X E : Type 0} (I : T → Type 0) (C : T → T → Type 0) (slots : ℕ) (xs : List T) (old new : TinyVec A T)
+pub record ClonesInRoom {A T X E : Type 0} (g : Clone.Ghosts T) (slots : ℕ) (xs : List T) (old new : TinyVec A T)
     (result : Result X E) : Type 0 where
-  pub items : OnOk result (AppendsClones C (tiny_items old) (tiny_items new) xs)
+  pub items : OnOk result (AppendsClones g.is_clone (tiny_items old) (tiny_items new) xs)
   pub spare : OnOk result (tiny_spare new ≡ drop (length xs) (tiny_spare old))
   pub place : is_inline new ≡ is_inline old
   pub capacity : tiny_capacity slots new ≡ tiny_capacity slots old
   pub fits : tiny_len new ≤ tiny_capacity slots new
   pub kept : OnErr result (tiny_items new ≡ tiny_items old)
-  pub refused : OnErr result ((j : ℕ) × RefusedAt I xs j × ClonesBehind C (take j xs) j old new)
-  pub succeeds : All I xs → IsOk result
+  pub refused : OnErr result ((j : ℕ) × RefusedAt g.is_infallible xs j × ClonesBehind g.is_clone (take j xs) j old new)
+  pub succeeds : All g.is_infallible xs → IsOk result
+
+-- clones of xs were appended, with this result; room for all was made first
+pub record ExtendsByClones {A T X E : Type 0} (D : T → Type 0) (g : Clone.Ghosts T) (slots : ℕ) (xs : List T) (old new : TinyVec A T)
+    (result : Result X E) : Type 0 where
+  pub items : OnOk result (AppendsClones g.is_clone (tiny_items old) (tiny_items new) xs)
+  pub len : tiny_len new ≡ (if is_ok result then tiny_len old + length xs else tiny_len old)
+  pub if_clones_equal : ClonesAreEqual g.is_clone → tiny_items new ≡ (if is_ok result then tiny_items old ++ xs else tiny_items old)
+  pub room : RoomGrows GrowsFor D slots (tiny_len old + length xs) old new result
+  -- if there is room only clones allocate
+  pub succeeds : tiny_len old + length xs ≤ tiny_capacity slots old → All g.is_infallible xs → IsOk result
+  -- On failure the list is unchanged. If only a clone failed, the reservation stays, and an inline list's first j spare slots
+  -- hold the clones made.
+  pub kept : OnErr result (tiny_items new ≡ tiny_items old)
+  pub refused : OnErr result (RefusedFor slots (tiny_len old + length xs)
+      ((j : ℕ) × RefusedAt g.is_infallible xs j × ClonesBehind g.is_clone (take j xs) j old new) old new)

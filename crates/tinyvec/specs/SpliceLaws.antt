@@ -1,6 +1,6 @@
 -- The laws of a splice of a `TinyVec`: what its calls leave of spare slots, place and room.
 use Rattle.std.proofs.Common.{◌≡◌, ℕ, ◌≤◌, List, length, refl, sym, ap, ◌∙◌, arith}
-use Rattle.tinyvec.specs.TinyVec.{tiny_items, tiny_len, is_inline, tiny_capacity, StaysInPlace, SameFrame}
+use Rattle.tinyvec.specs.TinyVec.{tiny_items, tiny_len, is_inline, tiny_capacity, Becomes, StaysInPlace, SameFrame}
 use Rattle.tinyvec.specs.Lends.{tiny_with_items}
 use Rattle.tinyvec.specs.Room.{Grows}
 use Rattle.tinyvec.specs.TinyVecSplice.{items_moved}
@@ -18,8 +18,9 @@ module _ {A T : Type 0} where
   frame_moved slots u v w x k j = ap (λ b. items_moved slots b (is_inline w)) k.place ∙ ap (items_moved slots (is_inline u)) (sym j.place)
 
   module _ (D : T → Type 0) (slots : ℕ) where
-    pub frame_stays : (u v w : TinyVec A T) → SameFrame u v → StaysInPlace D slots v w → StaysInPlace D slots u w
-    frame_stays u v w k h = record {
+    pub frame_becomes : (u v w : TinyVec A T) (xs : List T) → SameFrame u v → Becomes D slots v w xs → Becomes D slots u w xs
+    frame_becomes u v w xs k h = record {
+      items = h.items;
       place = h.place ∙ k.place;
       slot_rule = tiny_slots_framed D u v w k h.slot_rule;
       capacity = h.capacity ∙ k.capacity slots;

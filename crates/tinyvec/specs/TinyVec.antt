@@ -1,10 +1,10 @@
 -- What a contract sees of a `TinyVec`: its list, its spare slots, its place, and its capacity.
-use Rattle.std.specs.Prelude.{◌≡◌, ℕ, List, [], length, Bool, false, IsTrue, ◌⊎◌, ◌++◌, All, vec_capacity}
+use Rattle.std.specs.Prelude.{◌≡◌, ℕ, ◌≤◌, ◌-◌, List, [], length, drop, Bool, false, IsTrue, ◌⊎◌, ◌++◌, All, vec_capacity}
 use Rattle.std.specs.List.{AllZip}
 use Rattle.std.specs.Global.{Global}
 use Rattle.std.specs.Vec.{vec_allocator}
-use Rattle.tinyvec_slots.specs.Slots.{items, spare}
-use Rattle.tinyvec.specs.View.{Place, in_array, on_heap, lies_inline, capacity_in, TinyView, ViewPlaceRule, ViewSlotRule, ViewStays}
+use Rattle.tinyvec_slots.specs.Slots.{AreDefaults, items, spare}
+use Rattle.tinyvec.specs.View.{Place, in_array, on_heap, lies_inline, capacity_in, TinyView, ViewPlaceRule, ViewSlotRule, ViewBecomes}
 use Rattle.tinyvec.specs.declared.tiny_vec.TinyVec.{TinyVec}
 use Rattle.tinyvec.specs.declared.tiny_vec.TinyVec.TheVariants.{Inline, Heap}
 
@@ -71,9 +71,21 @@ module _ {A T : Type 0} where
     pub place : is_inline new ≡ is_inline old
     pub capacity : (slots : ℕ) → tiny_capacity slots new ≡ tiny_capacity slots old
 
-  -- a call that allocates nothing took `old` to `new`: place and capacity are unchanged, and inline the slot rule holds
+  -- a call that allocates nothing took `old` to `new`, whose list is xs: place and capacity are unchanged, and inline the slot rule holds
+  abbrev pub Becomes : (T → Type 0) → ℕ → TinyVec A T → TinyVec A T → List T → Type 0
+  Becomes D slots old new = ViewBecomes D slots (tiny_view old) (tiny_view new)
+
+  -- the same of any list
   abbrev pub StaysInPlace : (T → Type 0) → ℕ → TinyVec A T → TinyVec A T → Type 0
-  StaysInPlace D slots old new = ViewStays D slots (tiny_view old) (tiny_view new)
+  StaysInPlace D slots old new = Becomes D slots old new (tiny_items new)
+
+  -- v is the list of old from i on, in the place of old: inline before defaults, on the heap with a capacity of its length
+  pub record IsTail (D : T → Type 0) (slots i : ℕ) (old v : TinyVec A T) : Type 0 where
+    pub items : tiny_items v ≡ drop i (tiny_items old)
+    pub place : is_inline v ≡ is_inline old
+    pub spare : IsInline v → AreDefaults D (slots - tiny_len v) (tiny_spare v)
+    pub room : is_inline v ≡ false → tiny_capacity slots v ≡ tiny_len v
+    pub fits : tiny_len v ≤ tiny_capacity slots v
 
   -- list, spare slots, place and capacity are unchanged
   pub record Unchanged (old new : TinyVec A T) : Type 0 where

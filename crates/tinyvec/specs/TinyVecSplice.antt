@@ -1,12 +1,16 @@
 -- What a contract sees of a `TinyVecSplice`, and what its calls do to it.
-use Rattle.std.specs.Prelude.{◌≡◌, ℕ, Bool, if◌then◌else◌, List, Option}
+use Rattle.std.specs.Prelude.{◌≡◌, ℕ, ◌+◌, ◌≤◌, Bool, if◌then◌else◌, List, length, Option, Result, IsOk, OnErr, IfErr}
 use Rattle.std.specs.Borrow.{GName}
 use Rattle.std.specs.declared.iter.Fuse.{Fuse}
-use Rattle.std.specs.Iterator.Adapters.{fuse_done}
-use Rattle.tinyvec_slots.specs.Fused.{FusedCan}
+use Rattle.std.specs.Iterator.Adapters.{fuse_done, fuse_steps}
+use Rattle.tinyvec_slots.specs.Fused.{FusedCan, fused_rest}
 use Rattle.tinyvec_slots.specs.Gap.{gap_len, gap_view, GapCanStep}
-use Rattle.tinyvec_slots.specs.AnySplice.{SpliceView, Splices, SplicesBack}
-use Rattle.tinyvec.specs.TinyVec.{tiny_items, tiny_len, SameFrame}
+use Rattle.tinyvec_slots.specs.AnySplice.{SpliceView, Splices, SplicesBack, Finishes, FinishesWith}
+use Rattle.tinyvec_slots.specs.Filling.{ShowsItems}
+use Rattle.tinyvec_slots.specs.Replacing.{FusedYields, PutsBetween}
+use Rattle.tinyvec_slots.specs.declared.no_room.SpliceRest.{SpliceRest}
+use Rattle.tinyvec.specs.TinyVec.{tiny_items, tiny_len, tiny_capacity, SameFrame}
+use Rattle.tinyvec.specs.Room.{Grows}
 use Rattle.tinyvec.specs.declared.tiny_vec.TinyVec.{TinyVec}
 use Rattle.tinyvec.specs.declared.splice.TinyVecSplice.{TinyVecSplice}
 
@@ -72,6 +76,24 @@ module _ {A I T : Type 0} where
     -- replacement at the back
     abbrev pub SpliceStepsBack : TinyVecSplice A (Fuse I) T → Option T → TinyVecSplice A (Fuse I) T → Type 0
     SpliceStepsBack = SplicesBack splice_view SpliceKeeps gives
+
+-- `finish` of s returned the result and left `new`
+pub record FinishesVec {A I T : Type 0} (D : T → Type 0) (slots : ℕ) (can : I → Type 0) (gives : I → Option T → I → Type 0)
+    (s : TinyVecSplice A (Fuse I) T) (result : Result Unit (SpliceRest T (Fuse I))) (new : TinyVec A T) : Type 0 where
+  pub finished : Finishes (fuse_steps gives) (tiny_capacity slots new) (splice_view s) result (tiny_items new)
+  pub grows : Grows D slots (splice_vec s) new
+  pub no_shorter : OnErr result (tiny_len (splice_vec s) ≤ tiny_len new)
+  -- the returned replacement can be iterated further
+  pub goes_on : IfErr result (λ refused. FusedCan can refused.rest)
+  -- The same of a replacement that shows its items, and of one whose items are known, as those of a `Vec`, a range or a slice. If
+  -- there is room for them it allocates nothing.
+  pub listed : (rest : I → List T) → ShowsItems gives rest
+      → FinishesWith (fused_rest rest) (tiny_capacity slots new) (splice_view s) result (tiny_items new)
+  pub succeeds : (rest : I → List T) → ShowsItems gives rest
+      → length (splice_front s) + length (fused_rest rest (splice_replacement s)) + length (splice_back s)
+      ≤ tiny_capacity slots (splice_vec s) → IsOk result
+  pub known : (xs : List T) → FusedYields gives (splice_replacement s) xs
+      → PutsBetween (tiny_capacity slots (splice_vec s)) (splice_front s) xs (splice_back s) result (tiny_items new)
 
 -- the number of items that moved to the heap: only a full array moves
 abbrev pub items_moved : ℕ → Bool → Bool → ℕ

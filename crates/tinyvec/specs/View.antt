@@ -71,8 +71,9 @@ module _ {T : Type 0} where
   ViewGrowsInSteps slots old new = view_capacity slots old < view_capacity slots new → view_capacity slots new < 2 * view_len new
 
   module _ (D : T → Type 0) (slots : ℕ) (old new : TinyView T) where
-    -- a call that allocates nothing: place and capacity are unchanged, and inline the slot rule holds
-    pub record ViewStays : Type 0 where
+    -- a call that allocates nothing, and leaves the items xs: place and capacity are unchanged, and inline the slot rule holds
+    pub record ViewBecomes (xs : List T) : Type 0 where
+      pub items : new.items ≡ xs
       pub place : lies_inline new.place ≡ lies_inline old.place
       pub slot_rule : ViewSlotRule D old new
       pub capacity : view_capacity slots new ≡ view_capacity slots old

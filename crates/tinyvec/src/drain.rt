@@ -5,7 +5,7 @@ ghost use Rattle.std.specs.Iterator.{at_most, UpTo};
 ghost use Rattle.std.specs.Iterator.SizeHint.{IsWithinCount};
 ghost use Rattle.std.specs.Iterator.Runs.{YieldsInOrder, YieldsInReverse};
 ghost use Rattle.tinyvec_slots.specs.Ranges.{IsRangeOf, before, removed, after};
-ghost use Rattle.tinyvec.specs.TinyVec.{tiny_items, SameFrame, is_inline, tiny_capacity, TinySlotRule};
+ghost use Rattle.tinyvec.specs.TinyVec.{tiny_items, SameFrame, Becomes};
 
 use crate::TinyVec;
 use std::fmt;
@@ -69,11 +69,8 @@ impl<A: Array> TinyVec<A> {
         requires in_list { IsRangeOf (tiny_items self.old) (R.start_bound range) (R.end_bound range) }
         requires room { vec_len out.old
             + length (removed (tiny_items self.old) (R.start_bound range) (R.end_bound range)) ≤ vec_capacity out.old }
-        ensures items { tiny_items self.new
-            ≡ before (tiny_items self.old) (R.start_bound range) ++ after (tiny_items self.old) (R.end_bound range) }
-        ensures place { is_inline self.new ≡ is_inline self.old }
-        ensures slot_rule { TinySlotRule A.Item.is_default self.old self.new }
-        ensures capacity { tiny_capacity A.CAPACITY self.new ≡ tiny_capacity A.CAPACITY self.old }
+        ensures becomes { Becomes A.Item.is_default A.CAPACITY self.old self.new
+            (before (tiny_items self.old) (R.start_bound range) ++ after (tiny_items self.old) (R.end_bound range)) }
         ensures moved { out.new.items
             ≡ out.old.items ++ removed (tiny_items self.old) (R.start_bound range) (R.end_bound range) }
         ensures out_capacity { vec_capacity out.new ≡ vec_capacity out.old }
@@ -89,7 +86,7 @@ impl<'a, A: Array> Drop for TinyVecDrain<'a, A> {
 
     #[inline(always)]
     fn drop(self)
-        ensures { DrainLeaves A.Item.is_default self.entry self.exit.0.now }
+        ensures { DrainLeaves A.Item.is_default A.CAPACITY self.entry self.exit.0.now }
     {
         let TinyVecDrain {
             vec,

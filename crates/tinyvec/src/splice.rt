@@ -4,12 +4,12 @@ ghost use Rattle.std.specs.Fmt.{debug_list, debug_variant};
 ghost use Rattle.std.specs.Iterator.{UpTo, MakesProgress, at_most, IsFinite, Drains, YieldsThen};
 ghost use Rattle.std.specs.Iterator.Adapters.{fuse_done, fuse_source, fuse_steps};
 ghost use Rattle.std.specs.Iterator.SizeHint.{IsWithinCount};
-ghost use Rattle.tinyvec_slots.specs.Fused.{FusedFinite, FusedCan, fused_rest};
+ghost use Rattle.tinyvec_slots.specs.Fused.{FusedFinite, FusedCan};
 ghost use Rattle.tinyvec_slots.specs.Ranges.{IsRangeOf, before, removed, after};
-ghost use Rattle.tinyvec.specs.TinyVec.{tiny_items, tiny_len, is_inline, tiny_capacity, StaysInPlace, Unchanged};
-ghost use Rattle.tinyvec_slots.specs.Filling.{ShowsItems, IntoIterYields};
-ghost use Rattle.tinyvec_slots.specs.Replacing.{FusedYields, PutsBetween};
-ghost use Rattle.tinyvec_slots.specs.AnySplice.{finish_placed, finish_bound, Finishes, FinishesWith};
+ghost use Rattle.tinyvec.specs.TinyVec.{tiny_items, tiny_len, is_inline, tiny_capacity, StaysInPlace, Becomes, Unchanged};
+ghost use Rattle.tinyvec_slots.specs.Filling.{IntoIterYields};
+ghost use Rattle.tinyvec_slots.specs.Replacing.{PutsBetween};
+ghost use Rattle.tinyvec_slots.specs.AnySplice.{finish_placed, finish_bound};
 ghost use Rattle.tinyvec.specs.Room.{Grows, GrowsFor, RoomGrows};
 ghost use Rattle.tinyvec.specs.TinyVecSplice.{items_moved};
 
@@ -156,10 +156,8 @@ impl<A: Array> TinyVec<A> {
         requires in_list { part.end ≤ tiny_len self.old }
         requires room { tiny_len self.old - (part.end - part.start) + length replacement.now
             ≤ tiny_capacity A.CAPACITY self.old }
-        ensures items { tiny_items self.new
-            ≡ take part.start (tiny_items self.old) ++ replacement.now ++ drop part.end (tiny_items self.old) }
-        ensures len { tiny_len self.new ≡ tiny_len self.old - (part.end - part.start) + length replacement.now }
-        ensures frame { StaysInPlace A.Item.is_default A.CAPACITY self.old self.new }
+        ensures { Becomes A.Item.is_default A.CAPACITY self.old self.new
+            (take part.start (tiny_items self.old) ++ replacement.now ++ drop part.end (tiny_items self.old)) }
     {
         let _all_fit = self.splice_all(part, replacement.iter().copied());
     }
@@ -242,7 +240,7 @@ where
 }
 
 impl<'a, A: Array, I: Iterator<Item = A::Item>> TinyVecSplice<'a, A, Fuse<I>> {
-    ghost use Rattle.tinyvec.specs.TinyVecSplice.{splice_view, splice_front, splice_back, splice_replacement, splice_vec, splice_touches, SpliceCanStep, SpliceCanNext};
+    ghost use Rattle.tinyvec.specs.TinyVecSplice.{splice_view, splice_front, splice_back, splice_replacement, splice_vec, splice_touches, SpliceCanStep, SpliceCanNext, FinishesVec};
 
     /// The number of touches since `splice`. A touch takes the item of one slot, which may leave a default there, places
     /// one item, or swaps two slots. An item that moves to the heap is a touch too.
@@ -258,26 +256,7 @@ impl<'a, A: Array, I: Iterator<Item = A::Item>> TinyVecSplice<'a, A, Fuse<I>> {
     pub fn finish(self) -> Result<(), SpliceRest<A::Item, Fuse<I>>>
         requires can { SpliceCanNext I.can_next self }
         requires finite { FusedFinite I.remaining (splice_replacement self) }
-        ensures finished { Finishes (fuse_steps I.next_gives) (tiny_capacity A.CAPACITY self.exit.0.now)
-            (splice_view self.entry) result (tiny_items self.exit.0.now) }
-
-        ensures grows { Grows A.Item.is_default A.CAPACITY (splice_vec self.entry) self.exit.0.now }
-        ensures no_shorter { OnErr result (tiny_len (splice_vec self.entry) ≤ tiny_len self.exit.0.now) }
-
-        // The returned replacement can be iterated further.
-        ensures goes_on { IfErr result (λ refused. FusedCan I.can_next refused.rest) }
-
-        // The same of a replacement that shows its items, and of one whose items are known, as those of a `Vec`, a range or a
-        // slice. If there is room for them it allocates nothing.
-        ensures listed { (rest : I → List A.Item) → ShowsItems I.next_gives rest
-            → FinishesWith (fused_rest rest) (tiny_capacity A.CAPACITY self.exit.0.now)
-            (splice_view self.entry) result (tiny_items self.exit.0.now) }
-        ensures succeeds { (rest : I → List A.Item) → ShowsItems I.next_gives rest
-            → length (splice_front self.entry) + length (fused_rest rest (splice_replacement self.entry))
-            + length (splice_back self.entry) ≤ tiny_capacity A.CAPACITY (splice_vec self.entry) → IsOk result }
-        ensures known { (xs : List A.Item) → FusedYields I.next_gives (splice_replacement self.entry) xs
-            → PutsBetween (tiny_capacity A.CAPACITY (splice_vec self.entry))
-            (splice_front self.entry) xs (splice_back self.entry) result (tiny_items self.exit.0.now) }
+        ensures { FinishesVec A.Item.is_default A.CAPACITY I.can_next I.next_gives self.entry result self.exit.0.now }
     {
         let (finished, _touches) = self.finish_counted();
         finished
@@ -303,17 +282,7 @@ impl<'a, A: Array, I: Iterator<Item = A::Item>> TinyVecSplice<'a, A, Fuse<I>> {
         ensures at_most { result.1 ≤ splice_touches self.entry
             + finish_bound (splice_view self.entry) (tiny_len (splice_vec self.entry)) (tiny_items self.exit.0.now)
             + items_moved A.CAPACITY (is_inline (splice_vec self.entry)) (is_inline self.exit.0.now) }
-        ensures finished { Finishes (fuse_steps I.next_gives) (tiny_capacity A.CAPACITY self.exit.0.now)
-            (splice_view self.entry) result.0 (tiny_items self.exit.0.now) }
-        ensures grows { Grows A.Item.is_default A.CAPACITY (splice_vec self.entry) self.exit.0.now }
-        ensures no_shorter { OnErr result.0 (tiny_len (splice_vec self.entry) ≤ tiny_len self.exit.0.now) }
-        ensures goes_on { IfErr result.0 (λ refused. FusedCan I.can_next refused.rest) }
-        ensures listed { (rest : I → List A.Item) → ShowsItems I.next_gives rest
-            → FinishesWith (fused_rest rest) (tiny_capacity A.CAPACITY self.exit.0.now)
-            (splice_view self.entry) result.0 (tiny_items self.exit.0.now) }
-        ensures succeeds { (rest : I → List A.Item) → ShowsItems I.next_gives rest
-            → length (splice_front self.entry) + length (fused_rest rest (splice_replacement self.entry))
-            + length (splice_back self.entry) ≤ tiny_capacity A.CAPACITY (splice_vec self.entry) → IsOk result.0 }
+        ensures finishes { FinishesVec A.Item.is_default A.CAPACITY I.can_next I.next_gives self.entry result.0 self.exit.0.now }
     {
         let TinyVecSplice {
             vec,
@@ -329,8 +298,8 @@ impl<'a, A: Array, I: Iterator<Item = A::Item>> TinyVecSplice<'a, A, Fuse<I>> {
     pub fn stop(self) -> Fuse<I>
         requires { SpliceCanStep self }
         ensures rest { result ≡ splice_replacement self.entry }
-        ensures items { tiny_items self.exit.0.now ≡ splice_front self.entry ++ splice_back self.entry }
-        ensures frame { StaysInPlace A.Item.is_default A.CAPACITY (splice_vec self.entry) self.exit.0.now }
+        ensures becomes { Becomes A.Item.is_default A.CAPACITY (splice_vec self.entry) self.exit.0.now
+            (splice_front self.entry ++ splice_back self.entry) }
     {
         let TinyVecSplice {
             vec,
@@ -400,7 +369,7 @@ fn count_move<A: Array>(was_inline: bool, is_inline: bool) -> usize
 impl<A: Array> CanCut for TinyVec<A> {
     ghost use Rattle.tinyvec.specs.TinyVec.{SameFrame};
     ghost use Rattle.tinyvec.specs.Lends.{tiny_with_items};
-    ghost use Rattle.tinyvec.specs.SpliceLaws.{tiny_written, frame_stays};
+    ghost use Rattle.tinyvec.specs.SpliceLaws.{tiny_written, frame_becomes};
 
     type Item = A::Item;
 
@@ -426,5 +395,5 @@ impl<A: Array> CanCut for TinyVec<A> {
 
     ghost written = { tiny_written };
 
-    ghost kept_cut = { frame_stays A.Item.is_default A.CAPACITY };
+    ghost kept_cut = { λ u v w. frame_becomes A.Item.is_default A.CAPACITY u v w (tiny_items w) };
 }

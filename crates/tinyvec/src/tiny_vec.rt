@@ -1,7 +1,8 @@
 //! `TinyVec`.
-ghost use Rattle.std.specs.Prelude.{◌≡◌, ◌+◌, ◌<◌, ◌≤◌, ◌==◌, not, length, slice_index_or, slice_set, ◌-◌, ◌↔◌, ℕ, All, max, [], take, drop, IsOk, IsErr, IfOk, IfErr, OnErr, vec_capacity, ◌^◌, List};
+ghost use Rattle.std.specs.Prelude.{◌≡◌, ◌+◌, ◌<◌, ◌≤◌, ◌==◌, not, length, slice_index_or, slice_set, ◌-◌, ◌↔◌, ℕ, All, [], take, drop, IsOk, IsErr, IfOk, IfErr, OnErr, vec_capacity, ◌^◌, List};
 ghost use Rattle.std.specs.List.{AllZip};
 ghost use Rattle.tinyvec.specs.TinyVec.{tiny_items, tiny_len, tiny_spare, is_inline, tiny_capacity, IsInline, HoldsInline, SameFrame, tiny_allocator};
+ghost use Rattle.tinyvec.specs.Room.{MadeFor};
 ghost use Rattle.tinyvec_slots.specs.Slots.{AreDefaults, items, spare};
 ghost use Rattle.tinyvec_slots.specs.Clones.{RefusedAt, ClonesAreEqual};
 ghost use Rattle.std.specs.Borrow.{sem};
@@ -116,10 +117,7 @@ impl<A: Array> TinyVec<A> {
     /// An empty vector with room for `capacity` items, inline if the array has that room. Otherwise allocates it.
     pub fn with_capacity(alloc: Global, capacity: usize) -> Result<Self, AllocError>
         ensures items { IfOk result (λ v. tiny_items v ≡ []) }
-        ensures spare { IfOk result (λ v. IsInline v → AreDefaults A.Item.is_default A.CAPACITY (tiny_spare v)) }
-        ensures place { IfOk result (λ v. IsInline v ↔ (capacity ≤ A.CAPACITY)) }
-        ensures room { IfOk result (λ v. capacity ≤ tiny_capacity A.CAPACITY v) }
-        ensures exact { IfOk result (λ v. tiny_capacity A.CAPACITY v ≡ max capacity A.CAPACITY) }
+        ensures made { IfOk result (MadeFor A.Item.is_default A.CAPACITY capacity 0) }
         ensures succeeds { capacity ≤ A.CAPACITY → IsOk result }
     {
         if capacity <= A::CAPACITY {
@@ -132,9 +130,7 @@ impl<A: Array> TinyVec<A> {
     /// A vector of `len` defaults, inline if they fit the array. Otherwise room for all is allocated once.
     pub fn with_initial_len(alloc: Global, len: usize) -> Result<Self, AllocError>
         ensures items { IfOk result (λ v. AreDefaults A.Item.is_default len (tiny_items v)) }
-        ensures room { IfOk result (λ v. tiny_capacity A.CAPACITY v ≡ max len A.CAPACITY) }
-        ensures spare { IfOk result (λ v. IsInline v → AreDefaults A.Item.is_default (A.CAPACITY - len) (tiny_spare v)) }
-        ensures place { IfOk result (λ v. IsInline v ↔ (len ≤ A.CAPACITY)) }
+        ensures made { IfOk result (MadeFor A.Item.is_default A.CAPACITY len len) }
         ensures succeeds { len ≤ A.CAPACITY → IsOk result }
     {
         if len <= A::CAPACITY {
@@ -189,10 +185,7 @@ impl<A: Array> TinyVec<A> {
         ensures items { IfOk result (λ v. AllZip A.Item.is_clone slice.now (tiny_items v)) }
         ensures len { IfOk result (λ v. tiny_len v ≡ length slice.now) }
         ensures if_clones_equal { IfOk result (λ v. ClonesAreEqual A.Item.is_clone → tiny_items v ≡ slice.now) }
-        ensures spare { IfOk result (λ v. IsInline v
-            → AreDefaults A.Item.is_default (A.CAPACITY - length slice.now) (tiny_spare v)) }
-        ensures place { IfOk result (λ v. IsInline v ↔ (length slice.now ≤ A.CAPACITY)) }
-        ensures room { IfOk result (λ v. tiny_capacity A.CAPACITY v ≡ max (length slice.now) A.CAPACITY) }
+        ensures made { IfOk result (MadeFor A.Item.is_default A.CAPACITY (length slice.now) (length slice.now)) }
         ensures refused { OnErr result (length slice.now ≤ A.CAPACITY
             → (j : ℕ) × RefusedAt A.Item.is_infallible slice.now j) }
         ensures succeeds { length slice.now ≤ A.CAPACITY → All A.Item.is_infallible slice.now → IsOk result }

@@ -1,7 +1,7 @@
 //! Callers of a `TinyVec`: one list, and where it is.
 ghost use Rattle.std.specs.Prelude.{◌≡◌, ◌+◌, ◌-◌, ◌<◌, ◌≤◌, ◌++◌, ◌∷◌, [], pos, slice_get, slice_set, false, IsTrue, IsOk, OnOk, OnErr};
 ghost use Rattle.tinyvec.specs.Ranges.{IsRangeOf, before, removed, after};
-ghost use Rattle.tinyvec.specs.TinyVec.{tiny_items, tiny_len, tiny_spare, is_inline, tiny_capacity, IsInline, TinySlotRule, Unchanged};
+ghost use Rattle.tinyvec.specs.TinyVec.{tiny_items, tiny_len, tiny_spare, is_inline, IsInline, Becomes, Unchanged};
 
 use crate::making::count;
 use std::alloc::{AllocError, Global};
@@ -97,11 +97,8 @@ pub fn set<A: Array>(v: &mut TinyVec<A>, i: usize, x: A::Item)
 pub fn cut<A: Array, R: RangeBounds<usize>>(v: &mut TinyVec<A>, range: R)
     requires not_exhausted { R.has_bounds range }
     requires in_list { IsRangeOf (tiny_items v.old) (R.start_bound range) (R.end_bound range) }
-    ensures items { tiny_items v.new
-        ≡ before (tiny_items v.old) (R.start_bound range) ++ after (tiny_items v.old) (R.end_bound range) }
-    ensures place { is_inline v.new ≡ is_inline v.old }
-    ensures slot_rule { TinySlotRule A.Item.is_default v.old v.new }
-    ensures capacity { tiny_capacity A.CAPACITY v.new ≡ tiny_capacity A.CAPACITY v.old }
+    ensures { Becomes A.Item.is_default A.CAPACITY v.old v.new
+        (before (tiny_items v.old) (R.start_bound range) ++ after (tiny_items v.old) (R.end_bound range)) }
 {
     drop(v.drain(range));
 }
@@ -115,11 +112,8 @@ pub fn nth_of<A: Array, R: RangeBounds<usize>>(
     requires not_exhausted { R.has_bounds range }
     requires in_list { IsRangeOf (tiny_items v.old) (R.start_bound range) (R.end_bound range) }
     ensures item { result ≡ slice_get (removed (tiny_items v.old) (R.start_bound range) (R.end_bound range)) n }
-    ensures left { tiny_items v.new
-        ≡ before (tiny_items v.old) (R.start_bound range) ++ after (tiny_items v.old) (R.end_bound range) }
-    ensures place { is_inline v.new ≡ is_inline v.old }
-    ensures slot_rule { TinySlotRule A.Item.is_default v.old v.new }
-    ensures capacity { tiny_capacity A.CAPACITY v.new ≡ tiny_capacity A.CAPACITY v.old }
+    ensures left { Becomes A.Item.is_default A.CAPACITY v.old v.new
+        (before (tiny_items v.old) (R.start_bound range) ++ after (tiny_items v.old) (R.end_bound range)) }
 {
     let mut d = v.drain(range);
     d.nth(n)

@@ -2,7 +2,7 @@
 use Rattle.std.specs.Prelude.{◌≡◌, ℕ, ◌+◌, ◌-◌, ◌<◌, ◌≤◌, ◌↔◌, [], ◌∷◌, ◌++◌, take, insert, remove, slice_get, Some, false}
 use Rattle.std.specs.List.{swap_remove}
 use Rattle.tinyvec_slots.specs.Slots.{AreDefaults}
-use Rattle.tinyvec.specs.View.{TinyView, lies_inline, view_len, view_capacity, ViewInline, ViewPlaceRule, ViewSlotRule, ViewKeepsRoom, ViewDoubles, ViewGrowsFor, ViewStays}
+use Rattle.tinyvec.specs.View.{TinyView, lies_inline, view_len, view_capacity, ViewInline, ViewPlaceRule, ViewSlotRule, ViewKeepsRoom, ViewDoubles, ViewGrowsFor, ViewBecomes}
 use Rattle.tinyvec_script.specs.Driving.{IsRange, ListDrains, TinySplices, SpliceAnswers}
 use Rattle.tinyvec_script.specs.declared.call.Call.{Call}
 use Rattle.tinyvec_script.specs.declared.call.Call.TheVariants.{Push, Pop, Insert, Remove, SwapRemove, Truncate, Drain, Splice, SetLen, Reserve, Heap, Shrink}
@@ -38,23 +38,23 @@ module _ {T : Type 0} (D : T → Type 0) (slots : ℕ) where
   abbrev pub TinyAnswers : TinyView T → Call T → Answer T → TinyView T → Type 0
   TinyAnswers old (Push x) answers.Done new = (new.items ≡ old.items ++ x ∷ []) × NeedsRoom ViewDoubles (view_len old + 1) old new
   TinyAnswers old (Push x) answers.Memory new = (view_len old ≡ view_capacity slots old) × (new ≡ old)
-  TinyAnswers old Pop (answers.Some x) new = (old.items ≡ new.items ++ x ∷ []) × ViewStays D slots old new
+  TinyAnswers old Pop (answers.Some x) new = (old.items ≡ new.items ++ x ∷ []) × ViewBecomes D slots old new (take (view_len old - 1) old.items)
   TinyAnswers old Pop answers.None new = (old.items ≡ []) × (new ≡ old)
   TinyAnswers old (Insert i x) answers.Done new = (i ≤ view_len old) × (new.items ≡ insert old.items i x)
       × NeedsRoom ViewDoubles (view_len old + 1) old new
   TinyAnswers old (Insert i x) answers.Range new = (view_len old < i) × (new ≡ old)
   TinyAnswers old (Insert i x) answers.Memory new = (i ≤ view_len old) × (view_len old ≡ view_capacity slots old) × (new ≡ old)
   TinyAnswers old (Remove i) (answers.Some x) new = (slice_get old.items i ≡ Some x)
-      × (new.items ≡ remove old.items i) × ViewStays D slots old new
+      × ViewBecomes D slots old new (remove old.items i)
   TinyAnswers old (Remove i) answers.Range new = (view_len old ≤ i) × (new ≡ old)
   TinyAnswers old (SwapRemove i) (answers.Some x) new = (slice_get old.items i ≡ Some x)
-      × (new.items ≡ swap_remove old.items i x) × ViewStays D slots old new
+      × ViewBecomes D slots old new (swap_remove old.items i x)
   TinyAnswers old (SwapRemove i) answers.Range new = (view_len old ≤ i) × (new ≡ old)
-  TinyAnswers old (Truncate n) answers.Done new = (new.items ≡ take n old.items) × ViewStays D slots old new
+  TinyAnswers old (Truncate n) answers.Done new = ViewBecomes D slots old new (take n old.items)
   TinyAnswers old (Drain start end) answers.Range new = (IsRange old.items start end → ⊥) × (new ≡ old)
   TinyAnswers old (Drain start end) answers.Memory new = IsRange old.items start end × (start < end) × (new ≡ old)
   TinyAnswers old (Drain start end) (answers.Items given) new = IsRange old.items start end
-      × ListDrains old.items start end given.items new.items × ViewStays D slots old new
+      × ListDrains old.items start end given.items new.items × ViewBecomes D slots old new new.items
   TinyAnswers old (Splice start end word replacement) answers.Range new = (IsRange old.items start end → ⊥) × (new ≡ old)
   TinyAnswers old (Splice start end word replacement) answer new = IsRange old.items start end
       × SpliceAnswers (view_capacity slots new) (view_len old) start end replacement.items (new ≡ old)

@@ -6,15 +6,15 @@ use Rattle.std.proofs.lemmas.List.Elements.{All-append, All-drop}
 use Rattle.std.proofs.lemmas.Str.{IsUtf8-had}
 use Rattle.tinyvec_slots.specs.Clones.{RefusedAt}
 use Rattle.tinyvec_slots.specs.Slots.{AreDefaults}
-use Rattle.tinyvec.proofs.TinyLemmas.{tiny_slots_framed}
-use Rattle.tinyvec.specs.TinyVec.{place_of, tiny_items, tiny_len, tiny_spare, tiny_capacity, is_inline, IsInline, TinySlotRule, SameFrame, StaysInPlace, Unchanged}
+use Rattle.tinyvec.specs.SpliceLaws.{frame_becomes}
+use Rattle.tinyvec.specs.TinyVec.{place_of, tiny_items, tiny_len, tiny_spare, tiny_capacity, is_inline, IsInline, TinySlotRule, SameFrame, Becomes, Unchanged}
 use Rattle.tinyvec.specs.Refused.{RefusedFor}
 use Rattle.tinyvec.specs.Room.{GrowsFor, RoomGrows}
 use Rattle.tinyvec.specs.declared.tiny_vec.TinyVec.{TinyVec}
 use Rattle.tinyvec.specs.declared.tiny_vec.TinyVec.TheVariants.{Inline, Heap}
 use Rattle.std.specs.String.Boundary.{IsSplitPoint}
 use Rattle.tinyvec.specs.View.{Place, in_array, on_heap, lies_inline, capacity_in, ViewPlaceRule}
-use Rattle.tinyvec.specs.FrameLaws.{same_place}
+use Rattle.tinyvec.proofs.TinyLemmas.{same_place}
 use Rattle.tinyvec_text.specs.InlineText.{Text, IsText, text_of, text_view, text_chars, text_len, MakesRoom, IsBoundary}
 use Rattle.tinyvec_text.proofs.Boundaries.{split_from_boundary}
 
@@ -93,15 +93,13 @@ module _ {A : Type 0} where
       → IsText old → IsUtf8 (tiny_items new) → IsText new
   text_kept old new place rule h utf8 = (∣ utf8 ∣₁, zero_spare old new place rule h.1)
 
-  pub text_stays : (slots : ℕ) (old new : TinyVec A ℕ) → StaysInPlace (λ b. b ≡ 0) slots old new
-      → IsText old → IsUtf8 (tiny_items new) → IsText new
-  text_stays slots old new frame = text_kept old new (λ i. subst IsTrue frame.place i) frame.slot_rule
+  pub text_stays : (slots : ℕ) (old new : TinyVec A ℕ) (bs : List ℕ) → Becomes (λ b. b ≡ 0) slots old new bs → IsText old → IsUtf8 bs → IsText new
+  text_stays slots old new bs made is utf8 = text_kept old new (λ i. subst IsTrue made.place i) made.slot_rule is (subst IsUtf8 (sym made.items) utf8)
 
   -- the same of a call that first wrote over the bytes
-  pub text_rewritten : (slots : ℕ) (old mid new : TinyVec A ℕ) → SameFrame old mid → StaysInPlace (λ b. b ≡ 0) slots mid new
-      → IsText old → IsUtf8 (tiny_items new) → IsText new
-  text_rewritten slots old mid new frame stays =
-      text_kept old new (λ i. subst IsTrue (stays.place ∙ frame.place) i) (tiny_slots_framed (λ b. b ≡ 0) old mid new frame stays.slot_rule)
+  pub text_rewritten : (slots : ℕ) (old mid new : TinyVec A ℕ) (bs : List ℕ) → SameFrame old mid → Becomes (λ b. b ≡ 0) slots mid new bs
+      → IsText old → IsUtf8 bs → IsText new
+  text_rewritten slots old mid new bs frame made = text_stays slots old new bs (frame_becomes (λ b. b ≡ 0) slots old mid new bs frame made)
 
   pub text_same : (old new : TinyVec A ℕ) → Unchanged old new → IsText old → IsText new
   text_same old new h is = (subst (λ bs. ∥ IsUtf8 bs ∥₁) (sym h.items) is.0, subst (All (λ b. b ≡ 0)) (sym h.spare) is.1)

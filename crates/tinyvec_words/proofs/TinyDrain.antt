@@ -26,7 +26,7 @@ module _ (A : Type 0) (d e : TinyVecDrain A ℕ) (vec : tiny_items d.vec.now ≡
   pub example-DrainCanStep : DrainCanStep d
   example-DrainCanStep = search rules
 
-  pub example-DrainLeaves : (v : TinyVec A ℕ) → DrainLeaves D d v → tiny_items v ≡ 1 ∷ 4 ∷ []
+  pub example-DrainLeaves : (v : TinyVec A ℕ) → DrainLeaves D 4 d v → tiny_items v ≡ 1 ∷ 4 ∷ []
   example-DrainLeaves v h = h.items ∙ example-drain_kept
 
   pub example-DrainSteps : DrainSteps d (Some 2) e → drain_items d ≡ 2 ∷ drain_items e

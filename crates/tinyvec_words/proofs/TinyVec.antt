@@ -1,18 +1,22 @@
 -- Examples of a `TinyVec` whose array has four slots. `inline xs ys` has the list xs in the array, and the spare slots ys.
 use Rattle.std.proofs.Common.{◌≡◌, ℕ, List, [], ◌∷◌, ◌++◌, Ok, Result, true, false, refl, rules, arith}
 use Rattle.std.specs.Global.{Global}
+use Rattle.tinyvec_slots.specs.declared.no_memory.NoMemory.{NoMemory}
 use Rattle.tinyvec.specs.declared.tiny_vec.TinyVec.{TinyVec}
 use Rattle.tinyvec.specs.declared.tiny_vec.TinyVec.TheVariants.{Inline}
-use Rattle.tinyvec.specs.TinyVec.{tiny_items, tiny_len, tiny_spare, is_inline, IsInline, HoldsInline, tiny_capacity, tiny_allocator, TinySlotRule, SameFrame, StaysInPlace, Unchanged, IsTinyClone, IsTinyInfallible, tiny_view}
-use Rattle.tinyvec.specs.Room.{Collects, Doubles, GrowsFor, Grows, RoomGrows, MakesRoom, Reserves, MovesToHeap, MovesToHeapWithRoom}
+use Rattle.tinyvec.specs.TinyVec.{tiny_items, tiny_len, tiny_spare, is_inline, IsInline, HoldsInline, tiny_capacity, tiny_allocator, SameFrame, Becomes, StaysInPlace, IsTail, Unchanged, IsTinyClone, IsTinyInfallible, tiny_view}
+use Rattle.tinyvec.specs.Room.{Collects, Doubles, GrowsFor, Grows, RoomGrows, MadeFor, MakesRoom, TakesIn, ShrinksToFit, Reserves, MovesToHeap, MovesToHeapWithRoom}
 use Rattle.tinyvec.specs.View.{in_array}
-use Rattle.tinyvec.specs.Refused.{RefusedFor, ClonesBehind}
+use Rattle.tinyvec.specs.Refused.{RefusedFor, ClonesBehind, ExtendsByClones}
 use Rattle.tinyvec.specs.Lends.{tiny_with_items, tiny_with_item}
 use Rattle.tinyvec.specs.TinyVecSplice.{items_moved}
 use Rattle.tinyvec_words.proofs.Shown.{D, C, I, over}
 
 abbrev pub done : Result Unit Unit
 done = Ok _
+
+abbrev pub taken_in : Result Unit (NoMemory ℕ)
+taken_in = Ok _
 
 module _ (A : Type 0) (alloc : Global) where
   abbrev pub inline : List ℕ → List ℕ → TinyVec A ℕ
@@ -45,17 +49,27 @@ module _ (A : Type 0) (alloc : Global) where
   pub example-tiny_allocator : tiny_allocator (inline (1 ∷ 2 ∷ []) (0 ∷ 0 ∷ [])) ≡ alloc
   example-tiny_allocator = refl
 
-  pub example-TinySlotRule : TinySlotRule D (inline (1 ∷ []) (7 ∷ 8 ∷ 0 ∷ [])) (inline (1 ∷ 5 ∷ []) (8 ∷ 0 ∷ []))
-  example-TinySlotRule = search rules
-
   pub example-SameFrame : SameFrame (inline (1 ∷ 2 ∷ []) (0 ∷ 0 ∷ [])) (inline (2 ∷ 1 ∷ []) (0 ∷ 0 ∷ []))
   example-SameFrame = search rules
 
-  pub example-StaysInPlace : StaysInPlace D 4 (inline (1 ∷ 2 ∷ []) (7 ∷ 8 ∷ [])) (inline (1 ∷ []) (0 ∷ 7 ∷ 8 ∷ []))
-  example-StaysInPlace = record {
+  pub example-Becomes : Becomes D 4 (inline (1 ∷ 2 ∷ []) (7 ∷ 8 ∷ [])) (inline (1 ∷ []) (0 ∷ 7 ∷ 8 ∷ [])) (1 ∷ [])
+  example-Becomes = record {
+    items = refl;
     place = refl;
     slot_rule = λ _ _. (0 ∷ [], search rules, refl);
     capacity = refl;
+    fits = omega arith;
+  }
+
+  pub example-StaysInPlace : StaysInPlace D 4 (inline (1 ∷ 2 ∷ []) (7 ∷ 8 ∷ [])) (inline (1 ∷ []) (0 ∷ 7 ∷ 8 ∷ []))
+  example-StaysInPlace = example-Becomes
+
+  pub example-IsTail : IsTail D 4 1 (inline (1 ∷ 2 ∷ []) (7 ∷ 8 ∷ [])) (inline (2 ∷ []) (0 ∷ 0 ∷ 0 ∷ []))
+  example-IsTail = record {
+    items = refl;
+    place = refl;
+    spare = search rules;
+    room = λ outside. absurd (let no = outside in cc);
     fits = omega arith;
   }
 
@@ -91,6 +105,15 @@ module _ (A : Type 0) (alloc : Global) where
   pub example-MakesRoom : MakesRoom Doubles D 4 2 (inline (1 ∷ []) (7 ∷ 8 ∷ 0 ∷ [])) (inline (1 ∷ 5 ∷ []) (8 ∷ 0 ∷ [])) done
   example-MakesRoom = search rules
 
+  pub example-TakesIn : TakesIn D 4 5 (1 ∷ 5 ∷ []) (inline (1 ∷ []) (7 ∷ 8 ∷ 0 ∷ [])) (inline (1 ∷ 5 ∷ []) (8 ∷ 0 ∷ [])) taken_in
+  example-TakesIn = search rules
+
+  pub example-MadeFor : MadeFor D 4 2 1 (inline (1 ∷ []) (0 ∷ 0 ∷ 0 ∷ []))
+  example-MadeFor = search rules
+
+  pub example-ShrinksToFit : (v : TinyVec A ℕ) → ShrinksToFit D 4 (inline (1 ∷ []) (7 ∷ 8 ∷ 0 ∷ [])) v → tiny_items v ≡ 1 ∷ []
+  example-ShrinksToFit v h = h.items
+
   pub example-Reserves : Reserves D 4 2 8 (inline (1 ∷ []) (0 ∷ 0 ∷ 0 ∷ [])) (inline (1 ∷ []) (0 ∷ 0 ∷ 0 ∷ [])) done
   example-Reserves = search rules
 
@@ -108,6 +131,17 @@ module _ (A : Type 0) (alloc : Global) where
     written = refl;
   }
 
+  pub example-ExtendsByClones : ExtendsByClones D (record { is_clone = C; is_infallible = I }) 4 (5 ∷ []) (inline (1 ∷ []) (7 ∷ 8 ∷ 0 ∷ [])) (inline (1 ∷ 5 ∷ []) (8 ∷ 0 ∷ [])) done
+  example-ExtendsByClones = record {
+    items = (5 ∷ [], refl, refl, tt);
+    len = refl;
+    if_clones_equal = λ _. refl;
+    room = search rules;
+    succeeds = λ _ _. refl;
+    kept = tt;
+    refused = tt;
+  }
+
   pub example-RefusedFor : RefusedFor 4 5 ⊥ (inline (1 ∷ 2 ∷ 3 ∷ 4 ∷ []) []) (inline (1 ∷ 2 ∷ 3 ∷ 4 ∷ []) [])
   example-RefusedFor = search rules
 
@@ -122,9 +156,6 @@ module _ (A : Type 0) (alloc : Global) where
 
 -- two vectors that have room for four and for eight items
 module _ {A : Type 0} (v w : TinyVec A ℕ) (small : tiny_capacity 4 v ≡ 4) (large : tiny_capacity 4 w ≡ 8) where
-  pub example-Doubles : Doubles 4 5 v w
-  example-Doubles = search rules
-
   pub example-GrowsFor : is_inline v ≡ false → GrowsFor 4 5 v w
   example-GrowsFor outside = search rules
 

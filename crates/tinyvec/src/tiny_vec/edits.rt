@@ -1,9 +1,8 @@
 //! Items that are pushed, popped, inserted, removed and cut off.
-ghost use Rattle.std.specs.Prelude.{◌≡◌, ◌+◌, ◌-◌, ◌<◌, ◌↔◌, [], ◌∷◌, ◌++◌, take, drop, slice_get, IsSome, IfSome, IsOk, OnOk, OnErr, IfErr, ◌≤◌, if◌then◌else◌, is_ok, false, insert, remove, slice_index_or, vec_len, vec_capacity, IfOk, OnSome, IfNone};
-ghost use Rattle.tinyvec.specs.TinyVec.{tiny_items, tiny_len, tiny_spare, tiny_capacity, StaysInPlace, Unchanged, is_inline, IsInline};
-ghost use Rattle.tinyvec.specs.Room.{Doubles, MakesRoom};
+ghost use Rattle.std.specs.Prelude.{◌≡◌, ◌+◌, ◌-◌, ◌<◌, ◌↔◌, [], ◌∷◌, ◌++◌, take, slice_get, IsSome, IfSome, IsOk, OnErr, ◌≤◌, if◌then◌else◌, is_ok, insert, remove, slice_index_or, vec_len, vec_capacity, IfOk, IfNone};
+ghost use Rattle.tinyvec.specs.TinyVec.{tiny_items, tiny_len, tiny_capacity, IsTail, Becomes, Unchanged, IsInline};
+ghost use Rattle.tinyvec.specs.Room.{TakesIn};
 ghost use Rattle.std.specs.List.{swap_remove};
-ghost use Rattle.tinyvec_slots.specs.Slots.{AreDefaults};
 ghost use Rattle.std.specs.Borrow.{sem};
 
 use crate::TinyVec;
@@ -15,9 +14,7 @@ impl<A: Array> TinyVec<A> {
     /// Appends `value` to a list that has room. It allocates nothing, so it cannot fail.
     pub fn push_reserved(&mut self, value: A::Item)
         requires { tiny_len self.old < tiny_capacity A.CAPACITY self.old }
-        ensures items { tiny_items self.new ≡ tiny_items self.old ++ value ∷ [] }
-        ensures spare { tiny_spare self.new ≡ drop 1 (tiny_spare self.old) }
-        ensures frame { StaysInPlace A.Item.is_default A.CAPACITY self.old self.new }
+        ensures { Becomes A.Item.is_default A.CAPACITY self.old self.new (tiny_items self.old ++ value ∷ []) }
     {
         match self {
             TinyVec::Inline(v, _) => v.push(value),
@@ -28,13 +25,7 @@ impl<A: Array> TinyVec<A> {
     /// Appends `value`. A full list first doubles its capacity, which moves an inline one to the heap. If the allocator refuses,
     /// nothing changes and `value` is returned.
     pub fn push(&mut self, value: A::Item) -> Result<(), NoMemory<A::Item>>
-        ensures items { tiny_items self.new
-            ≡ (if is_ok result then tiny_items self.old ++ value ∷ [] else tiny_items self.old) }
-        ensures len { tiny_len self.new ≡ (if is_ok result then tiny_len self.old + 1 else tiny_len self.old) }
-        ensures room { MakesRoom Doubles A.Item.is_default A.CAPACITY (tiny_len self.old + 1) self.old self.new result }
-        ensures succeeds_inline { IsInline self.old → tiny_len self.old < A.CAPACITY → IsOk result }
-        ensures full { OnErr result (tiny_len self.old ≡ tiny_capacity A.CAPACITY self.old) }
-        ensures value_returned { IfErr result (λ refused. refused.0 ≡ value) }
+        ensures { TakesIn A.Item.is_default A.CAPACITY value (tiny_items self.old ++ value ∷ []) self.old self.new result }
     {
         // One test of the variant; growing is kept out of the usual path.
         match self {
@@ -74,9 +65,8 @@ impl<A: Array> TinyVec<A> {
     pub fn pop(&mut self) -> Option<A::Item>
         ensures variant { IsSome result ↔ (0 < tiny_len self.old) }
         ensures some { IfSome result (λ x. tiny_items self.old ≡ tiny_items self.new ++ x ∷ []) }
-        ensures items { tiny_items self.new ≡ take (tiny_len self.old - 1) (tiny_items self.old) }
         ensures value { result ≡ slice_get (tiny_items self.old) (tiny_len self.old - 1) }
-        ensures frame { StaysInPlace A.Item.is_default A.CAPACITY self.old self.new }
+        ensures becomes { Becomes A.Item.is_default A.CAPACITY self.old self.new (take (tiny_len self.old - 1) (tiny_items self.old)) }
     {
         match self {
             TinyVec::Inline(v, _) => v.pop(),
@@ -88,8 +78,7 @@ impl<A: Array> TinyVec<A> {
     fn insert_reserved(&mut self, index: usize, element: A::Item)
         requires in_list { index ≤ tiny_len self.old }
         requires room { tiny_len self.old < tiny_capacity A.CAPACITY self.old }
-        ensures items { tiny_items self.new ≡ insert (tiny_items self.old) index element }
-        ensures frame { StaysInPlace A.Item.is_default A.CAPACITY self.old self.new }
+        ensures { Becomes A.Item.is_default A.CAPACITY self.old self.new (insert (tiny_items self.old) index element) }
     {
         match self {
             TinyVec::Inline(v, _) => v.insert(index, element),
@@ -105,13 +94,7 @@ impl<A: Array> TinyVec<A> {
     #[inline(always)]
     pub fn insert(&mut self, index: usize, element: A::Item) -> Result<(), NoMemory<A::Item>>
         requires { index ≤ tiny_len self.old }
-        ensures items { tiny_items self.new
-            ≡ (if is_ok result then insert (tiny_items self.old) index element else tiny_items self.old) }
-        ensures len { tiny_len self.new ≡ (if is_ok result then tiny_len self.old + 1 else tiny_len self.old) }
-        ensures room { MakesRoom Doubles A.Item.is_default A.CAPACITY (tiny_len self.old + 1) self.old self.new result }
-        ensures succeeds_inline { IsInline self.old → tiny_len self.old < A.CAPACITY → IsOk result }
-        ensures full { OnErr result (tiny_len self.old ≡ tiny_capacity A.CAPACITY self.old) }
-        ensures value_returned { IfErr result (λ refused. refused.0 ≡ element) }
+        ensures { TakesIn A.Item.is_default A.CAPACITY element (insert (tiny_items self.old) index element) self.old self.new result }
     {
         match self {
             TinyVec::Inline(v, _) if !v.is_full() => v.insert(index, element),
@@ -156,8 +139,7 @@ impl<A: Array> TinyVec<A> {
     pub fn remove(&mut self, index: usize) -> A::Item
         requires { index < tiny_len self.old }
         ensures value { result ≡ slice_index_or (tiny_items self.old) index result }
-        ensures items { tiny_items self.new ≡ remove (tiny_items self.old) index }
-        ensures frame { StaysInPlace A.Item.is_default A.CAPACITY self.old self.new }
+        ensures becomes { Becomes A.Item.is_default A.CAPACITY self.old self.new (remove (tiny_items self.old) index) }
     {
         match self {
             TinyVec::Inline(v, _) => v.remove(index),
@@ -169,8 +151,7 @@ impl<A: Array> TinyVec<A> {
     pub fn swap_remove(&mut self, index: usize) -> A::Item
         requires { index < tiny_len self.old }
         ensures value { result ≡ slice_index_or (tiny_items self.old) index result }
-        ensures items { tiny_items self.new ≡ swap_remove (tiny_items self.old) index result }
-        ensures frame { StaysInPlace A.Item.is_default A.CAPACITY self.old self.new }
+        ensures becomes { Becomes A.Item.is_default A.CAPACITY self.old self.new (swap_remove (tiny_items self.old) index result) }
     {
         match self {
             TinyVec::Inline(v, _) => v.swap_remove(index),
@@ -182,8 +163,7 @@ impl<A: Array> TinyVec<A> {
     /// is inline.
     #[inline(always)]
     pub fn truncate(&mut self, new_len: usize)
-        ensures items { tiny_items self.new ≡ take new_len (tiny_items self.old) }
-        ensures frame { StaysInPlace A.Item.is_default A.CAPACITY self.old self.new }
+        ensures { Becomes A.Item.is_default A.CAPACITY self.old self.new (take new_len (tiny_items self.old)) }
     {
         match self {
             TinyVec::Inline(v, _) => v.truncate(new_len),
@@ -193,8 +173,7 @@ impl<A: Array> TinyVec<A> {
 
     /// Empties the list. Each vacated slot is reset to a default if the list is inline.
     pub fn clear(&mut self)
-        ensures items { tiny_items self.new ≡ [] }
-        ensures frame { StaysInPlace A.Item.is_default A.CAPACITY self.old self.new }
+        ensures { Becomes A.Item.is_default A.CAPACITY self.old self.new [] }
     {
         match self {
             TinyVec::Inline(v, _) => {
@@ -213,14 +192,9 @@ impl<A: Array> TinyVec<A> {
     /// allocates nothing; one on the heap allocates room for those items.
     pub fn split_off(&mut self, at: usize) -> Result<Self, AllocError>
         requires { at ≤ tiny_len self.old }
-        ensures items { OnOk result (tiny_items self.new ≡ take at (tiny_items self.old)) }
-        ensures tail { IfOk result (λ v. tiny_items v ≡ drop at (tiny_items self.old)) }
-        ensures frame { StaysInPlace A.Item.is_default A.CAPACITY self.old self.new }
-        ensures tail_place { IfOk result (λ v. is_inline v ≡ is_inline self.old) }
-        ensures tail_spare { IfOk result (λ v. IsInline v
-            → AreDefaults A.Item.is_default (A.CAPACITY - (tiny_len self.old - at)) (tiny_spare v)) }
-        ensures tail_room { IfOk result (λ v. is_inline v ≡ false → tiny_capacity A.CAPACITY v ≡ tiny_len v) }
-        ensures tail_fits { IfOk result (λ v. tiny_len v ≤ tiny_capacity A.CAPACITY v) }
+        ensures becomes { Becomes A.Item.is_default A.CAPACITY self.old self.new
+            (if is_ok result then take at (tiny_items self.old) else tiny_items self.old) }
+        ensures tail { IfOk result (IsTail A.Item.is_default A.CAPACITY at self.old) }
         ensures succeeds { IsInline self.old → IsOk result }
         ensures succeeds_at_the_end { at ≡ tiny_len self.old → IsOk result }
         ensures refused { OnErr result (self.new ≡ self.old) }
@@ -240,9 +214,8 @@ impl<A: Array> TinyVec<A> {
     pub fn pop_at(&mut self, index: usize) -> Option<A::Item>
         ensures variant { IsSome result ↔ (index < tiny_len self.old) }
         ensures value { result ≡ slice_get (tiny_items self.old) index }
-        ensures items { OnSome result (tiny_items self.new ≡ remove (tiny_items self.old) index) }
         ensures none { IfNone result (Unchanged self.old self.new) }
-        ensures frame { StaysInPlace A.Item.is_default A.CAPACITY self.old self.new }
+        ensures becomes { Becomes A.Item.is_default A.CAPACITY self.old self.new (remove (tiny_items self.old) index) }
     {
         if index >= self.len() {
             return None;

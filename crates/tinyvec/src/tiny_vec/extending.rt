@@ -1,10 +1,10 @@
 //! Growing by other lists, by clones, by iterators and by closures.
-ghost use Rattle.std.specs.Prelude.{◌≡◌, ◌+◌, ◌≤◌, ◌++◌, ℕ, All, length, take, drop, slice_range, IsOk, OnOk, OnErr, if◌then◌else◌, is_ok, ◌<◌, [], ◌-◌, ◌*◌, ◌↔◌, ◌∷◌, List, Some, MatchResult, IfOk, IfErr, vec_len, vec_capacity, max, replicate};
+ghost use Rattle.std.specs.Prelude.{◌≡◌, ◌+◌, ◌≤◌, ◌++◌, ℕ, length, take, drop, slice_range, IsOk, OnOk, OnErr, if◌then◌else◌, is_ok, ◌<◌, [], ◌-◌, ◌*◌, ◌↔◌, ◌∷◌, List, Some, MatchResult, IfOk, IfErr, vec_len, vec_capacity, max, replicate};
 ghost use Rattle.std.specs.List.{AppendsClones, AppendsResults};
-ghost use Rattle.tinyvec_slots.specs.Clones.{RefusedAt, ClonesAreEqual};
-ghost use Rattle.tinyvec.specs.TinyVec.{tiny_items, tiny_len, tiny_spare, is_inline, tiny_capacity, TinySlotRule, IsInline, StaysInPlace};
-ghost use Rattle.tinyvec.specs.Refused.{RefusedFor, ClonesBehind, ClonesInRoom};
-ghost use Rattle.tinyvec.specs.Room.{GrowsFor, RoomGrows, MakesRoom, Grows};
+ghost use Rattle.tinyvec_slots.specs.Clones.{ClonesAreEqual};
+ghost use Rattle.tinyvec.specs.TinyVec.{tiny_items, tiny_len, is_inline, tiny_capacity, TinySlotRule, IsInline, StaysInPlace, Becomes};
+ghost use Rattle.tinyvec.specs.Refused.{RefusedFor, ClonesBehind, ClonesInRoom, ExtendsByClones};
+ghost use Rattle.tinyvec.specs.Room.{GrowsFor, RoomGrows, MakesRoom, Grows, Collects};
 ghost use Rattle.tinyvec_slots.specs.Slots.{AreDefaults, items, spare, items_len};
 ghost use Rattle.std.specs.Iterator.{IsFinite, Drains, YieldsThen, size};
 ghost use Rattle.tinyvec_slots.specs.Ranges.{IsRangeOf, removed};
@@ -26,7 +26,7 @@ impl<A: Array> TinyVec<A> {
     where
         A::Item: Clone,
         requires room { tiny_len self.old + length other.now ≤ tiny_capacity A.CAPACITY self.old }
-        ensures { ClonesInRoom A.Item.is_infallible A.Item.is_clone A.CAPACITY other.now self.old self.new result }
+        ensures { ClonesInRoom A.Item.Clone A.CAPACITY other.now self.old self.new result }
     {
         match self {
             TinyVec::Inline(v, _) => v.extend_from_slice(other),
@@ -40,25 +40,7 @@ impl<A: Array> TinyVec<A> {
     pub fn extend_from_slice(&mut self, other: &[A::Item]) -> Result<(), AllocError>
     where
         A::Item: Clone,
-        ensures items { OnOk result (AppendsClones A.Item.is_clone
-            (tiny_items self.old) (tiny_items self.new) other.now) }
-        ensures len { tiny_len self.new
-            ≡ (if is_ok result then tiny_len self.old + length other.now else tiny_len self.old) }
-        ensures if_clones_equal { ClonesAreEqual A.Item.is_clone → tiny_items self.new
-            ≡ (if is_ok result then tiny_items self.old ++ other.now else tiny_items self.old) }
-        ensures room { RoomGrows GrowsFor A.Item.is_default A.CAPACITY (tiny_len self.old + length other.now) self.old self.new result }
-
-        // If there is room only clones allocate.
-        ensures succeeds { tiny_len self.old + length other.now ≤ tiny_capacity A.CAPACITY self.old
-            → All A.Item.is_infallible other.now → IsOk result }
-
-        // On failure the list is unchanged. If only a clone failed, the reservation stays, and an inline list's first j
-        // spare slots hold the clones made.
-        ensures kept { OnErr result (tiny_items self.new ≡ tiny_items self.old) }
-        ensures refused { OnErr result (RefusedFor A.CAPACITY (tiny_len self.old + length other.now)
-            ((j : ℕ) × RefusedAt A.Item.is_infallible other.now j
-            × ClonesBehind A.Item.is_clone (take j other.now) j self.old self.new)
-            self.old self.new) }
+        ensures { ExtendsByClones A.Item.is_default A.Item.Clone A.CAPACITY other.now self.old self.new result }
     {
         match self {
             TinyVec::Inline(v, _) if other.len() <= v.capacity() - v.len() => v.extend_from_slice(
@@ -80,30 +62,8 @@ impl<A: Array> TinyVec<A> {
         A::Item: Clone,
         requires not_exhausted { R.has_bounds range }
         requires in_list { IsRangeOf (tiny_items self.old) (R.start_bound range) (R.end_bound range) }
-        ensures items { OnOk result (AppendsClones A.Item.is_clone (tiny_items self.old) (tiny_items self.new)
-            (removed (tiny_items self.old) (R.start_bound range) (R.end_bound range))) }
-        ensures len { OnOk result (tiny_len self.new ≡ tiny_len self.old
-            + length (removed (tiny_items self.old) (R.start_bound range) (R.end_bound range))) }
-        ensures if_clones_equal { OnOk result (ClonesAreEqual A.Item.is_clone → tiny_items self.new
-            ≡ tiny_items self.old ++ removed (tiny_items self.old) (R.start_bound range) (R.end_bound range)) }
-        ensures room { RoomGrows GrowsFor A.Item.is_default A.CAPACITY (tiny_len self.old
-            + length (removed (tiny_items self.old) (R.start_bound range) (R.end_bound range))) self.old self.new result }
-
-        // If there is room only clones allocate.
-        ensures succeeds { tiny_len self.old
-            + length (removed (tiny_items self.old) (R.start_bound range) (R.end_bound range))
-            ≤ tiny_capacity A.CAPACITY self.old
-            → All A.Item.is_infallible (removed (tiny_items self.old) (R.start_bound range) (R.end_bound range)) → IsOk result }
-
-        // What a failure leaves is as by `extend_from_slice`.
-        ensures kept { OnErr result (tiny_items self.new ≡ tiny_items self.old) }
-        ensures refused { OnErr result (RefusedFor A.CAPACITY (tiny_len self.old
-            + length (removed (tiny_items self.old) (R.start_bound range) (R.end_bound range)))
-            ((j : ℕ) × RefusedAt A.Item.is_infallible
-            (removed (tiny_items self.old) (R.start_bound range) (R.end_bound range)) j
-            × ClonesBehind A.Item.is_clone
-            (take j (removed (tiny_items self.old) (R.start_bound range) (R.end_bound range))) j self.old self.new)
-            self.old self.new) }
+        ensures { ExtendsByClones A.Item.is_default A.Item.Clone A.CAPACITY
+            (removed (tiny_items self.old) (R.start_bound range) (R.end_bound range)) self.old self.new result }
     {
         let part = resolve_range(range, self.len());
         self.reserve(part.end - part.start)?;
@@ -117,7 +77,7 @@ impl<A: Array> TinyVec<A> {
         requires in_list { (start ≤ end) × (end ≤ tiny_len self.old) }
         requires room { tiny_len self.old + length (slice_range (tiny_items self.old) start end)
             ≤ tiny_capacity A.CAPACITY self.old }
-        ensures { ClonesInRoom A.Item.is_infallible A.Item.is_clone A.CAPACITY
+        ensures { ClonesInRoom A.Item.Clone A.CAPACITY
             (slice_range (tiny_items self.old) start end) self.old self.new result }
     {
         match self {
@@ -132,9 +92,7 @@ impl<A: Array> TinyVec<A> {
     where
         A::Item: Copy,
         requires room { tiny_len self.old + length other.now ≤ tiny_capacity A.CAPACITY self.old }
-        ensures items { tiny_items self.new ≡ tiny_items self.old ++ other.now }
-        ensures spare { tiny_spare self.new ≡ drop (length other.now) (tiny_spare self.old) }
-        ensures frame { StaysInPlace A.Item.is_default A.CAPACITY self.old self.new }
+        ensures { Becomes A.Item.is_default A.CAPACITY self.old self.new (tiny_items self.old ++ other.now) }
     {
         match self {
             TinyVec::Inline(v, _) => v.extend_from_slice_copy(other),
@@ -150,8 +108,6 @@ impl<A: Array> TinyVec<A> {
         A::Item: Copy,
         ensures items { tiny_items self.new
             ≡ (if is_ok result then tiny_items self.old ++ other.now else tiny_items self.old) }
-        ensures len { tiny_len self.new
-            ≡ (if is_ok result then tiny_len self.old + length other.now else tiny_len self.old) }
         ensures room { MakesRoom GrowsFor A.Item.is_default A.CAPACITY (tiny_len self.old + length other.now) self.old self.new result }
     {
         self.reserve(other.len())?;
@@ -162,9 +118,7 @@ impl<A: Array> TinyVec<A> {
     // Moves the items of `from` to a list that has room, and leaves defaults.
     pub(crate) fn append_slots(&mut self, from: &mut [A::Item])
         requires { tiny_len self.old + length from.old ≤ tiny_capacity A.CAPACITY self.old }
-        ensures items { tiny_items self.new ≡ tiny_items self.old ++ from.old }
-        ensures spare { tiny_spare self.new ≡ drop (length from.old) (tiny_spare self.old) }
-        ensures frame { StaysInPlace A.Item.is_default A.CAPACITY self.old self.new }
+        ensures becomes { Becomes A.Item.is_default A.CAPACITY self.old self.new (tiny_items self.old ++ from.old) }
         ensures left { AreDefaults A.Item.is_default (length from.old) from.new }
     {
         for i in 0..from.len() {
@@ -175,11 +129,8 @@ impl<A: Array> TinyVec<A> {
     // `append` to a list that has room.
     fn append_reserved(&mut self, other: &mut Self)
         requires { tiny_len self.old + tiny_len other.old ≤ tiny_capacity A.CAPACITY self.old }
-        ensures items { tiny_items self.new ≡ tiny_items self.old ++ tiny_items other.old }
-        ensures spare { tiny_spare self.new ≡ drop (tiny_len other.old) (tiny_spare self.old) }
-        ensures frame { StaysInPlace A.Item.is_default A.CAPACITY self.old self.new }
-        ensures other_items { tiny_items other.new ≡ [] }
-        ensures other_frame { StaysInPlace A.Item.is_default A.CAPACITY other.old other.new }
+        ensures becomes { Becomes A.Item.is_default A.CAPACITY self.old self.new (tiny_items self.old ++ tiny_items other.old) }
+        ensures other { Becomes A.Item.is_default A.CAPACITY other.old other.new [] }
     {
         self.append_slots(other.as_mut_slice());
         other.clear();
@@ -191,8 +142,8 @@ impl<A: Array> TinyVec<A> {
         ensures items { OnOk result (tiny_items self.new ≡ tiny_items self.old ++ tiny_items other.old) }
         ensures room { MakesRoom GrowsFor A.Item.is_default A.CAPACITY (tiny_len self.old + tiny_len other.old)
             self.old self.new result }
-        ensures other_items { OnOk result (tiny_items other.new ≡ []) }
-        ensures other_frame { StaysInPlace A.Item.is_default A.CAPACITY other.old other.new }
+        ensures other { Becomes A.Item.is_default A.CAPACITY other.old other.new
+            (if is_ok result then [] else tiny_items other.old) }
         ensures other_kept { OnErr result (other.new ≡ other.old) }
     {
         self.reserve(other.len())?;
@@ -333,12 +284,7 @@ impl<A: Array> TinyVec<A> {
             × MatchResult result (λ v. Drains I.IntoIter.next_gives it xs × (tiny_items v ≡ xs))
             (λ refused. YieldsThen I.IntoIter.next_gives it xs (Some refused.item) refused.rest
             × (tiny_items refused.vec ≡ xs)) }
-        ensures place { IfOk result (λ v. IsInline v ↔ (tiny_len v ≤ A.CAPACITY)) }
-        ensures spare { IfOk result (λ v. IsInline v
-            → AreDefaults A.Item.is_default (A.CAPACITY - tiny_len v) (tiny_spare v)) }
-        ensures grown { IfOk result (λ v. A.CAPACITY < tiny_capacity A.CAPACITY v
-            → tiny_capacity A.CAPACITY v < 2 * tiny_len v) }
-        ensures fits { IfOk result (λ v. tiny_len v ≤ tiny_capacity A.CAPACITY v) }
+        ensures collected { IfOk result (λ v. Collects A.Item.is_default A.CAPACITY (tiny_items v) v) }
 
         // It fails only if there is no room.
         ensures full { IfErr result (λ refused. (tiny_len refused.vec ≡ tiny_capacity A.CAPACITY refused.vec)
@@ -461,7 +407,6 @@ impl<A: Array> TinyVec<A> {
         requires callable { F.IsAlwaysCallable f.old }
         ensures items { AppendsResults F.step (tiny_items self.old) (tiny_items self.new) f.old }
         ensures len { tiny_len self.new ≡ n }
-        ensures spare { tiny_spare self.new ≡ drop (n - tiny_len self.old) (tiny_spare self.old) }
         ensures frame { StaysInPlace A.Item.is_default A.CAPACITY self.old self.new }
     {
         while self.len() < n {

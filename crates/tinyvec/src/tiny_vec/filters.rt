@@ -5,7 +5,7 @@ ghost use Rattle.std.specs.List.{dedup as dedup_list};
 ghost use Rattle.std.specs.List.Retain.{IsFiltered, RetainsInTurn, IsDeduped, PopsIf};
 ghost use Rattle.tinyvec_slots.specs.Ranges.{range_start, range_end, IsRangeOf};
 ghost use Rattle.tinyvec_slots.specs.Extracting.{Extracts};
-ghost use Rattle.tinyvec.specs.TinyVec.{tiny_items, tiny_len, StaysInPlace};
+ghost use Rattle.tinyvec.specs.TinyVec.{tiny_items, tiny_len, StaysInPlace, Becomes};
 
 use crate::TinyVec;
 use std::ops::RangeBounds;
@@ -44,9 +44,7 @@ impl<A: Array> TinyVec<A> {
     pub fn dedup(&mut self)
     where
         A::Item: PartialEq,
-        ensures items { tiny_items self.new ≡ dedup_list A.Item.eq (tiny_items self.old) }
-        ensures bound { tiny_len self.new ≤ tiny_len self.old }
-        ensures frame { StaysInPlace A.Item.is_default A.CAPACITY self.old self.new }
+        ensures { Becomes A.Item.is_default A.CAPACITY self.old self.new (dedup_list A.Item.eq (tiny_items self.old)) }
     {
         self.dedup_by(|current, last| *current == *last);
     }

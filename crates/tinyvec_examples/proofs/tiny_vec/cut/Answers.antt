@@ -1,10 +1,16 @@
-use Rattle.std.proofs.Common.{rules}
+use Rattle.std.proofs.Common.{◌++◌, subst, rules}
+use Rattle.tinyvec_slots.specs.Ranges.{before, after}
+use Rattle.tinyvec.specs.TinyVec.{tiny_items, Becomes}
 use Rattle.tinyvec.proofs.DrainLemmas.{DrainKeeps-refl, tiny_drained}
 use Rattle.tinyvec_examples.proofs.tiny_vec.cut.Goals as goal
 
-pub returns-clause-slot_rule : goal.returns-clause-slot_rule
-returns-clause-slot_rule g c =
+pub returns : goal.returns
+returns g c =
+    let old = c.args.v.now in
+    let new = c.drop.new.self.0 in
     let d = c.drain.result in
-    let left = tiny_drained g.A.Item.Default.is_default c.args.v.now d d c.drop.new.self.0 c.drain.ensures.frame (DrainKeeps-refl d) c.drop.ensures in
-    let ruled = left.slot_rule in
+    let D = g.A.Item.Default.is_default in
+    let slots = g.A.Array.CAPACITY in
+    let left : Becomes D slots old new (before (tiny_items old) (g.R.RangeBounds.start_bound c.args.range) ++ after (tiny_items old) (g.R.RangeBounds.end_bound c.args.range)) =
+    subst (Becomes D slots old new) c.drain.ensures.kept (tiny_drained D slots old d d new c.drain.ensures.frame (DrainKeeps-refl d) c.drop.ensures) in
     search rules

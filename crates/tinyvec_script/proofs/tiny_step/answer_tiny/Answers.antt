@@ -35,12 +35,12 @@ returns-in-Pop-clause-answered g c = grind (arith, common_steps)
 pub returns-in-Remove-clause-answered : goal.returns-in-Remove-clause-answered
 returns-in-Remove-clause-answered g c =
     let made = c.remove.ensures in
-    rw c.in-Remove.is (slice_get_read (tiny_items c.args.vec.now) _ c.in-Remove.i _ refl (omega arith) made.value, made.items, made.frame)
+    rw c.in-Remove.is (slice_get_read (tiny_items c.args.vec.now) _ c.in-Remove.i _ refl (omega arith) made.value, made.becomes)
 
 pub returns-in-SwapRemove-clause-answered : goal.returns-in-SwapRemove-clause-answered
 returns-in-SwapRemove-clause-answered g c =
     let made = c.swap_remove.ensures in
-    rw c.in-SwapRemove.is (slice_get_read (tiny_items c.args.vec.now) _ c.in-SwapRemove.i _ refl (omega arith) made.value, made.items, made.frame)
+    rw c.in-SwapRemove.is (slice_get_read (tiny_items c.args.vec.now) _ c.in-SwapRemove.i _ refl (omega arith) made.value, made.becomes)
 
 pub drain_into-requires-clause-room : goal.drain_into-requires-clause-room
 drain_into-requires-clause-room g c = grind (arith, common_steps)

@@ -36,7 +36,7 @@ returns-then-count-len-clause-if_clones_equal g c =
 pub returns-then-count-len-clause-room : goal.returns-then-count-len-clause-room
 returns-then-count-len-clause-room g c =
     let frame = c.overwrite.ensures.frame in
-    let cut = c.truncate.ensures.frame in
+    let cut = c.truncate.ensures in
     let room : tiny_len c.args.source.now ≤ tiny_capacity g.A.Array.CAPACITY c.args.self.now =
     omega (arith, c.len-count.ensures.value, c.if-count-len.true, c.len-len.ensures.value, c.len-len.ensures.fits) in
     room_kept g.A.Item.Default.is_default _ _ c.args.self.now _ c.overwrite.result
@@ -65,10 +65,10 @@ returns-then-count-len-clause-refused g c =
     let below : h.0 < length xs = rw c.as_slice.ensures at h.1.0 in
     let early : h.0 ≤ m = omega arith in
     inr (
-      granted_before _ _ _ _ (c.overwrite.ensures.frame.place ∙ c.truncate.ensures.frame.place) (omega (arith, c.len-len.ensures.fits)),
+      granted_before _ _ _ _ (c.overwrite.ensures.frame.place ∙ c.truncate.ensures.place) (omega (arith, c.len-len.ensures.fits)),
       partly_over g.A.Item.Default.is_default g.A.Item.Clone.is_infallible g.A.Item.Clone.is_clone xs c.args.self.now new m h.0 early
           (rw c.as_slice.ensures at h.1) (rw (c.as_slice.ensures, cut) at h.2)
-          (cut_freed g.A.Item.Default.is_default c.args.self.now left new m c.overwrite.ensures.frame c.truncate.ensures.frame.place c.truncate.ensures.frame.slot_rule cut within),
+          (cut_freed g.A.Item.Default.is_default c.args.self.now left new m c.overwrite.ensures.frame c.truncate.ensures.place c.truncate.ensures.slot_rule cut within),
     ))
     c.overwrite.ensures.refused
 

@@ -1,7 +1,9 @@
-use Rattle.std.proofs.Common.{rules}
+use Rattle.std.proofs.Common.{subst, rules}
 use Rattle.std.proofs.lemmas.Fn.{dedup_same}
+use Rattle.tinyvec.specs.TinyVec.{Becomes}
 use Rattle.tinyvec.proofs.tiny_vec.TinyVec.dedup.Goals as goal
 
-pub returns-clause-items : goal.returns-clause-items
-returns-clause-items g c =
-    dedup_same _ _ _ (λ x y b f' x' y' k. search rules) _ _ c.dedup_by.ensures.filtered
+pub returns : goal.returns
+returns g c =
+    subst (Becomes g.A.Item.Default.is_default g.A.Array.CAPACITY c.args.self.now c.dedup_by.new.self)
+    (dedup_same _ _ _ (λ x y b f' x' y' k. search rules) _ _ c.dedup_by.ensures.filtered) c.dedup_by.ensures.frame

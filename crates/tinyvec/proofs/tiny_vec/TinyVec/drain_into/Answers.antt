@@ -33,14 +33,14 @@ loop-x-preserved g c =
       room = rw c.push_reserved.ensures.capacity inv.room;
     }
 
-pub returns-clause-items : goal.returns-clause-items
-returns-clause-items g c = search rules
-
-pub returns-clause-slot_rule : goal.returns-clause-slot_rule
-returns-clause-slot_rule g c = search rules
+pub returns-clause-becomes : goal.returns-clause-becomes
+returns-clause-becomes g c = record {
+  items = search rules;
+  place = search rules;
+  slot_rule = search rules;
+  capacity = search rules;
+  fits = search rules;
+}
 
 pub returns-clause-moved : goal.returns-clause-moved
 returns-clause-moved g c = search rules
-
-pub returns-clause-capacity : goal.returns-clause-capacity
-returns-clause-capacity g c = search rules

@@ -1,4 +1,4 @@
-use Rattle.std.proofs.Common.{◌++◌, ◌∷◌, refl, sym, ap, ◌∙◌}
+use Rattle.std.proofs.Common.{◌++◌, ◌∷◌, refl, sym, ap, ◌∙◌, rules}
 use Rattle.tinyvec.proofs.TinyLemmas.{defaults_left}
 use Rattle.tinyvec.proofs.tiny_vec.TinyVec.from_iter.Goals as goal
 
@@ -18,7 +18,12 @@ returns-in-Ok-clause-known g c = λ xs yields.
     let h = c.in-Ok.ensures.known xs yields in
     (h.0 ∙ ap (λ l. l ++ xs) c.new-vec.ensures.items, λ _. refl)
 
-pub returns-in-Ok-clause-spare : goal.returns-in-Ok-clause-spare
-returns-in-Ok-clause-spare g c =
-    let made = c.new-vec.ensures in
-    defaults_left g.A.Item.Default.is_default g.A.Array.CAPACITY c.new-vec.result c.extend.new.self made.items made.place made.spare c.in-Ok.ensures.grows.slot_rule
+pub returns-in-Ok-clause-collected : goal.returns-in-Ok-clause-collected
+returns-in-Ok-clause-collected g c =
+    let made = c.new-vec.ensures in record {
+      items = refl;
+      place = search rules;
+      spare = defaults_left g.A.Item.Default.is_default g.A.Array.CAPACITY c.new-vec.result c.extend.new.self made.items made.place made.spare c.in-Ok.ensures.grows.slot_rule;
+      grown = search rules;
+      fits = search rules;
+    }

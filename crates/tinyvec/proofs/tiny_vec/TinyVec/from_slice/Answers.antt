@@ -1,4 +1,4 @@
-use Rattle.std.proofs.Common.{◌-◌, ◌++◌, length, All, arith, sym, ap, subst, ◌∙◌, length-drop}
+use Rattle.std.proofs.Common.{◌-◌, ◌++◌, length, All, arith, sym, ap, subst, ◌∙◌, length-drop, rules}
 use Rattle.std.proofs.lemmas.List.Elements.{same_from_all_zip, All-drop}
 use Rattle.std.specs.Prelude.{IsTrue}
 use Rattle.tinyvec_slots.proofs.CloneLemmas.{on_err}
@@ -23,12 +23,17 @@ returns-clause-if_clones_equal g c = λ rule.
     let h = c.in_ok-extend_reserved.ensures.items in
     h.1 ∙ ap (λ l. l ++ h.0) c.in_ok-vec.ensures.items ∙ same_from_all_zip g.A.Item.Clone.is_clone c.args.slice.now h.0 h.2 rule
 
-pub returns-clause-spare : goal.returns-clause-spare
-returns-clause-spare g c = λ inline.
+pub returns-clause-made : goal.returns-clause-made
+returns-clause-made g c =
     let n = length c.args.slice.now in
-    let defaults = c.in_ok-vec.ensures.spare (subst IsTrue c.extend_reserved.ensures.place inline) in
     let behind = c.in_ok-extend_reserved.ensures.spare in
-    let spare = tiny_spare c.in_ok-vec.vec in (
-      ap length behind ∙ length-drop n spare ∙ ap (λ k. k - n) defaults.0,
-      subst (All g.A.Item.Default.is_default) (sym behind) (All-drop g.A.Item.Default.is_default n spare defaults.1),
-    )
+    let spare = tiny_spare c.in_ok-vec.vec in record {
+      spare = λ inline.
+          let defaults = c.in_ok-vec.ensures.made.spare (subst IsTrue c.extend_reserved.ensures.place inline) in (
+            omega (arith, ap length behind, length-drop n spare, defaults.0),
+            subst (All g.A.Item.Default.is_default) (sym behind) (All-drop g.A.Item.Default.is_default n spare defaults.1),
+          );
+      place = search rules;
+      room = search rules;
+      exact = search rules;
+    }

@@ -4,7 +4,7 @@ use Rattle.std.proofs.SliceLists.{chained_more}
 use Rattle.std.proofs.iter.Next.{called}
 use Rattle.std.proofs.lemmas.List.{length_push, drop-drop}
 use Rattle.tinyvec.specs.TinyVec.{tiny_items, tiny_len, tiny_spare}
-use Rattle.tinyvec.proofs.FrameLemmas.{taken_stays}
+use Rattle.tinyvec.proofs.FrameLemmas.{taken_stays, spare_used}
 use Rattle.tinyvec.proofs.tiny_vec.TinyVec.push_answers.Goals as goal
 
 pub loop-self-preserved : goal.loop-self-preserved
@@ -21,7 +21,7 @@ loop-self-preserved g c =
     let used : tiny_len at.self - first + 1 ≡ tiny_len c.push_reserved.new.self - first = omega (arith, grown, at.invariant.longer) in record {
       at_most_n = omega (arith, grown);
       longer = omega (arith, grown, at.invariant.longer);
-      spare = put.spare ∙ ap (drop 1) at.invariant.spare ∙ drop-drop 1 (tiny_len at.self - first) (tiny_spare c.args.self.now)
+      spare = spare_used g.A.Item.Default.is_default g.A.Array.CAPACITY at.self c.push_reserved.new.self _ 1 (length_push (tiny_items at.self) y) put ∙ ap (drop 1) at.invariant.spare ∙ drop-drop 1 (tiny_len at.self - first) (tiny_spare c.args.self.now)
           ∙ ap (λ k. drop k (tiny_spare c.args.self.now)) used;
       called = (
         run.0 ++ y ∷ [],
@@ -29,8 +29,8 @@ loop-self-preserved g c =
         chained_more (λ f y f'. Called g.F.FnMut f tt y f') _ run.0 at.f y _ run.2 (called g.F.FnMut c.f.ensures refl),
       );
       callable = search of_calls;
-      place = put.frame.place ∙ at.invariant.place;
-      capacity = put.frame.capacity ∙ at.invariant.capacity;
+      place = put.place ∙ at.invariant.place;
+      capacity = put.capacity ∙ at.invariant.capacity;
     }
 
 pub returns-clause-frame : goal.returns-clause-frame

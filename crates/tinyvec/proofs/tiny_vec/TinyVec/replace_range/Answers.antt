@@ -1,8 +1,8 @@
-use Rattle.std.proofs.Common.{◌≡◌, ◌++◌, take, drop, length, ap, subst, ◌∙◌, arith}
+use Rattle.std.proofs.Common.{◌≡◌, ◌≤◌, ◌++◌, take, drop, length, ap, subst, ◌∙◌, arith}
 use Rattle.tinyvec_slots.specs.Ranges.{range_end}
 use Rattle.tinyvec_slots.proofs.ReplacingLemmas.{placed_at}
 use Rattle.tinyvec.specs.TinyVec.{tiny_items}
-use Rattle.tinyvec.proofs.ReplacingLemmas.{replaced_room}
+use Rattle.tinyvec.proofs.ReplacingLemmas.{length-replaced, replaced_room}
 use Rattle.tinyvec.proofs.tiny_vec.TinyVec.replace_range.Goals as goal
 
 pub returns-clause-items : goal.returns-clause-items
@@ -17,8 +17,11 @@ pub returns-clause-room : goal.returns-clause-room
 returns-clause-room g c =
     let end = c.resolve_range-part.ensures.end ∙ ap (range_end (g.R.RangeBounds.end_bound c.args.range)) c.len.ensures.value in
     let inside = c.requires.in_list.1 in
-    let long = c.replace_reserved.ensures.len in
     let same = ap length c.reserve.ensures.items in
+    let part = c.resolve_range-part.result in
+    let order : part.start ≤ part.end = omega (arith, c.resolve_range-part.ensures.start, end, c.requires.in_list.0) in
+    let long = ap length c.replace_reserved.ensures.items
+    ∙ length-replaced _ _ c.args.replacement.now (tiny_items c.reserve.new.self) order (omega (arith, end, inside, same)) in
     let more = c.saturating_sub-more.ensures in
     replaced_room _ _ _ _ _ (omega (arith, c.len.ensures.fits, c.len.ensures.value)) (omega (arith, long, same, more, end, inside)) (λ some. omega (arith, long, same, more, end, inside, some))
-    _ _ _ c.in_ok-reserve.ensures c.replace_reserved.ensures.frame
+    _ _ _ c.in_ok-reserve.ensures c.replace_reserved.ensures

@@ -1,4 +1,4 @@
-use Rattle.std.proofs.Common.{IsUtf8, sym, subst, ap, ◌∙◌, chars}
+use Rattle.std.proofs.Common.{ap, ◌∙◌, chars}
 use Rattle.std.proofs.lemmas.Str.{chars-nil, IsUtf8-nil}
 use Rattle.tinyvec_text.proofs.Lists.{text_stays}
 use Rattle.tinyvec_text.proofs.inline_text.InlineText.clear.Goals as goal
@@ -8,4 +8,4 @@ returns-clause-text g c = ap chars c.clear.ensures.items ∙ chars-nil
 
 pub invariant_of-self : goal.invariant_of-self
 invariant_of-self g c =
-    text_stays g.row.N c.self.inside.list c.clear.new.self c.clear.ensures.frame c.self.invariant (subst IsUtf8 (sym c.clear.ensures.items) IsUtf8-nil)
+    text_stays g.row.N c.self.inside.list c.clear.new.self _ c.clear.ensures c.self.invariant IsUtf8-nil

@@ -1,4 +1,4 @@
-use Rattle.std.proofs.Common.{◌≡◌, ◌++◌, ◌∷◌, [], IsUtf8, encode_utf8, take, ap, sym, subst, ◌∙◌, chars, refl, rules}
+use Rattle.std.proofs.Common.{◌≡◌, ◌++◌, ◌∷◌, [], IsUtf8, encode_utf8, take, ap, sym, ◌∙◌, chars, refl, rules}
 use Rattle.std.specs.Char.{IsScalar}
 use Rattle.std.proofs.lemmas.Str.{IsUtf8-encode, chars-append}
 use Rattle.tinyvec.specs.TinyVec.{tiny_items}
@@ -13,7 +13,7 @@ last_char-c-requires-clause-utf8 g c = rw (← c.as_slice-bytes.ensures) at (tex
 pub invariant_of-self : goal.invariant_of-self
 invariant_of-self g c =
     let front = rw c.as_slice-bytes.ensures at c.last_char-c.ensures.front in
-    text_stays g.row.N c.self.inside.list c.truncate.new.self c.truncate.ensures.frame c.self.invariant (subst IsUtf8 (sym c.truncate.ensures.items) front)
+    text_stays g.row.N c.self.inside.list c.truncate.new.self _ c.truncate.ensures c.self.invariant front
 
 pub returns-clause-text : goal.returns-clause-text
 returns-clause-text g c =

@@ -1,4 +1,4 @@
-use Rattle.std.proofs.Common.{◌≡◌, ◌++◌, ◌∷◌, [], IsUtf8, ap, sym, subst, ◌∙◌, chars, rules}
+use Rattle.std.proofs.Common.{◌≡◌, ◌++◌, ◌∷◌, [], ap, sym, ◌∙◌, chars, rules}
 use Rattle.std.proofs.lemmas.Str.{IsUtf8-append, IsUtf8-from_ascii, chars-append, encode_ascii}
 use Rattle.std.specs.Prelude.{encode_utf8}
 use Rattle.tinyvec.specs.TinyVec.{tiny_items}
@@ -10,9 +10,8 @@ use Rattle.tinyvec_text.proofs.inline_text.InlineText.push_reserved.Goals as goa
 pub invariant_of-self : goal.invariant_of-self
 invariant_of-self g c =
     let ascii = IsUtf8-from_ascii (c.args.ch ∷ []) (search rules) in
-    let told = c.push_reserved.ensures in
-    text_stays g.row.N c.self.inside.list c.push_reserved.new.self told.frame c.self.invariant
-    (subst IsUtf8 (sym told.items) (IsUtf8-append _ _ (text_utf8 c.self.inside.list c.self.invariant) ascii))
+    text_stays g.row.N c.self.inside.list c.push_reserved.new.self _ c.push_reserved.ensures c.self.invariant
+    (IsUtf8-append _ _ (text_utf8 c.self.inside.list c.self.invariant) ascii)
 
 pub returns-then-is_ascii-clause-text : goal.returns-then-is_ascii-clause-text
 returns-then-is_ascii-clause-text g c =

@@ -1,11 +1,11 @@
-use Rattle.std.proofs.Common.{◌≡◌, ◌+◌, ◌-◌, ◌++◌, ◌∷◌, IsUtf8, IsTrue, encode_utf8, ap, sym, subst, ◌∙◌, chars, length, take, drop, take_all, le_of_eq, length-drop, length-take-le, length-append, arith}
+use Rattle.std.proofs.Common.{◌≡◌, ◌+◌, ◌-◌, ◌++◌, ◌∷◌, IsUtf8, encode_utf8, ap, sym, subst, ◌∙◌, chars, length, take, drop, take_all, le_of_eq, length-drop}
 use Rattle.std.proofs.CharBoundary.{IsUtf8-take-drop}
 use Rattle.tinyvec.specs.View.{lies_inline, capacity_in}
-use Rattle.tinyvec.specs.TinyVec.{tiny_items, tiny_len}
+use Rattle.tinyvec.specs.TinyVec.{tiny_items}
 use Rattle.tinyvec.proofs.DrainLemmas.{DrainKeeps-refl, tiny_drained}
 use Rattle.tinyvec_text.specs.InlineText.{Text, text_chars}
 use Rattle.tinyvec_text.proofs.Boundaries.{chars_here, utf8_gap, chars_gap}
-use Rattle.tinyvec_text.proofs.Lists.{text_utf8, text_cut, text_kept}
+use Rattle.tinyvec_text.proofs.Lists.{text_utf8, text_cut, text_stays}
 use Rattle.tinyvec_text.proofs.inline_text.InlineText.remove.Goals as goal
 
 pub first_char-c-requires-clause-utf8 : goal.first_char-c-requires-clause-utf8
@@ -31,10 +31,8 @@ invariant_of-self g c =
     let own : take n (drop i bs) ≡ encode_utf8 x = subst (λ xs. take n xs ≡ encode_utf8 x) tail c.first_char-c.ensures.encoded in
     let rest : IsUtf8 (drop n (drop i bs)) = subst (λ xs. IsUtf8 (drop n xs)) tail c.first_char-c.ensures.rest in
     let d = c.drain.result in
-    let left = tiny_drained (λ b. b ≡ 0) list d d c.drop.new.self.0 c.drain.ensures.frame (DrainKeeps-refl d) c.drop.ensures in
-    let is : tiny_items c.drop.new.self.0 ≡ take i bs ++ drop (i + n) bs = left.items ∙ c.drain.ensures.kept in
-    text_kept list c.drop.new.self.0 (λ k. subst IsTrue left.place k) left.slot_rule c.self.invariant
-    (subst IsUtf8 (sym is) (utf8_gap bs utf8 i cut n x own rest))
+    let left = tiny_drained (λ b. b ≡ 0) g.row.N list d d c.drop.new.self.0 c.drain.ensures.frame (DrainKeeps-refl d) c.drop.ensures in
+    text_stays g.row.N list c.drop.new.self.0 _ left c.self.invariant (subst IsUtf8 (sym c.drain.ensures.kept) (utf8_gap bs utf8 i cut n x own rest))
 
 pub returns-clause-text : goal.returns-clause-text
 returns-clause-text g c =
@@ -50,7 +48,7 @@ returns-clause-text g c =
     let own : take n (drop i bs) ≡ encode_utf8 x = subst (λ xs. take n xs ≡ encode_utf8 x) tail c.first_char-c.ensures.encoded in
     let rest : IsUtf8 (drop n (drop i bs)) = subst (λ xs. IsUtf8 (drop n xs)) tail c.first_char-c.ensures.rest in
     let d = c.drain.result in
-    let left = tiny_drained (λ b. b ≡ 0) list d d c.drop.new.self.0 c.drain.ensures.frame (DrainKeeps-refl d) c.drop.ensures in
+    let left = tiny_drained (λ b. b ≡ 0) g.row.N list d d c.drop.new.self.0 c.drain.ensures.frame (DrainKeeps-refl d) c.drop.ensures in
     let is : tiny_items c.drop.new.self.0 ≡ take i bs ++ drop (i + n) bs = left.items ∙ c.drain.ensures.kept in
     let behind = chars (drop (i + n) bs) in (
       behind,
@@ -60,21 +58,9 @@ returns-clause-text g c =
 
 pub returns-clause-frame : goal.returns-clause-frame
 returns-clause-frame g c =
-    let list = c.self.inside.list in
-    let bs = tiny_items list in
-    let i = c.args.index in
-    let n = c.first_char-c.result.1 in
-    let cut = text_cut list c.args.self.now c.self.view_is c.self.invariant i c.requires.boundary in
     let d = c.drain.result in
-    let left = tiny_drained (λ b. b ≡ 0) list d d c.drop.new.self.0 c.drain.ensures.frame (DrainKeeps-refl d) c.drop.ensures in
-    let size : tiny_len c.drop.new.self.0 ≡ length (take i bs) + length (drop (i + n) bs) = ap length (left.items ∙ c.drain.ensures.kept) ∙ length-append (take i bs) (drop (i + n) bs) in
-    let front = length-take-le i bs cut.0 in
-    let behind = length-drop (i + n) bs in
-    let fits = c.len-len.ensures.fits in
-    let value = c.len-len.ensures.value in
-    let room = left.capacity g.row.N in
-    record {
+    let left = tiny_drained (λ b. b ≡ 0) g.row.N c.self.inside.list d d c.drop.new.self.0 c.drain.ensures.frame (DrainKeeps-refl d) c.drop.ensures in record {
       place = left.place ∙ ap (λ (t : Text). lies_inline t.place) c.self.view_is;
-      room = room ∙ ap (λ (t : Text). capacity_in g.row.N t.place) c.self.view_is;
-      fits = omega (arith, size, front, behind, fits, value, room, cut.0);
+      room = left.capacity ∙ ap (λ (t : Text). capacity_in g.row.N t.place) c.self.view_is;
+      fits = left.fits;
     }

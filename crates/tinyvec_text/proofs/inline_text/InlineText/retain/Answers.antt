@@ -13,6 +13,5 @@ invariant_of-self g c =
     let kept = c.move_kept_to_front-kept in
     let bytes = kept.new.bytes in
     let long = kept.auto.bytes ∙ ap length c.as_mut_slice.ensures.value in
-    let is = c.truncate.ensures.items ∙ ap (take kept.result) (tiny_items-with list bytes long) in
-    text_rewritten g.row.N list (tiny_with_items list bytes) c.truncate.new.self (tiny_framed-with list bytes long) c.truncate.ensures.frame c.self.invariant
-    (subst IsUtf8 (sym is) kept.ensures.utf8)
+    text_rewritten g.row.N list (tiny_with_items list bytes) c.truncate.new.self _ (tiny_framed-with list bytes long) c.truncate.ensures c.self.invariant
+    (subst (λ bs. IsUtf8 (take kept.result bs)) (sym (tiny_items-with list bytes long)) kept.ensures.utf8)

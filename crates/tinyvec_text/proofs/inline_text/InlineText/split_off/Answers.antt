@@ -18,15 +18,14 @@ invariant_of-result g c =
     let cut = text_cut list c.args.self.now c.self.view_is c.self.invariant c.args.at c.requires in
     let back = (IsUtf8-take-drop (tiny_items list) (text_utf8 list c.self.invariant) c.args.at cut).1 in
     let told = c.in_ok-list.ensures in
-    text_made _ c.in_ok-list.list (subst IsUtf8 (sym told.tail) back) told.tail_spare
+    text_made _ c.in_ok-list.list (subst IsUtf8 (sym told.tail.items) back) told.tail.spare
 
 pub invariant_of-self-2 : goal.invariant_of-self-2
 invariant_of-self-2 g c =
     let list = c.self.inside.list in
     let cut = text_cut list c.args.self.now c.self.view_is c.self.invariant c.args.at c.requires in
     let front = (IsUtf8-take-drop (tiny_items list) (text_utf8 list c.self.invariant) c.args.at cut).0 in
-    let told = c.in_ok-list.ensures in
-    text_stays g.row.N list c.split_off.new.self told.frame c.self.invariant (subst IsUtf8 (sym told.items) front)
+    text_stays g.row.N list c.split_off.new.self _ c.in_ok-list.ensures.becomes c.self.invariant front
 
 pub returns-clause-text : goal.returns-clause-text
 returns-clause-text g c =
@@ -34,4 +33,4 @@ returns-clause-text g c =
     let cut = text_cut list c.args.self.now c.self.view_is c.self.invariant c.args.at c.requires in
     let told = c.in_ok-list.ensures in
     sym (ap text_chars c.self.view_is) ∙ chars_cut (tiny_items list) (text_utf8 list c.self.invariant) c.args.at cut
-    ∙ sym (λ i. chars (told.items i) ++ chars (told.tail i))
+    ∙ sym (λ i. chars (told.becomes.items i) ++ chars (told.tail.items i))

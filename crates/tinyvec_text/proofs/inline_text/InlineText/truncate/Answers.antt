@@ -1,4 +1,4 @@
-use Rattle.std.proofs.Common.{◌++◌, IsUtf8, ap, sym, subst, ◌∙◌, chars, length, drop, length-take-le}
+use Rattle.std.proofs.Common.{◌++◌, ap, sym, ◌∙◌, chars, length, drop, length-take-le}
 use Rattle.std.proofs.CharBoundary.{IsUtf8-take-drop}
 use Rattle.tinyvec.specs.TinyVec.{tiny_items}
 use Rattle.tinyvec_text.specs.InlineText.{text_chars}
@@ -11,7 +11,7 @@ invariant_of-self g c =
     let list = c.self.inside.list in
     let cut = text_cut list c.args.self.now c.self.view_is c.self.invariant c.args.new_len c.requires in
     let front = (IsUtf8-take-drop (tiny_items list) (text_utf8 list c.self.invariant) c.args.new_len cut).0 in
-    text_stays g.row.N c.self.inside.list c.truncate.new.self c.truncate.ensures.frame c.self.invariant (subst IsUtf8 (sym c.truncate.ensures.items) front)
+    text_stays g.row.N c.self.inside.list c.truncate.new.self _ c.truncate.ensures c.self.invariant front
 
 pub returns-clause-text : goal.returns-clause-text
 returns-clause-text g c =
