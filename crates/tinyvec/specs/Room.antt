@@ -1,7 +1,6 @@
 -- Growth, reserving room, and moves to the heap. A call and its `try_` form have one word.
-use Rattle.std.specs.Prelude.{◌≡◌, ℕ, ◌+◌, ◌-◌, ◌*◌, ◌<◌, ◌≤◌, ◌↔◌, max, List, length, false, Result, IsOk, OnOk, OnErr, IfErr, if◌then◌else◌, is_ok}
+use Rattle.std.specs.Prelude.{◌≡◌, ℕ, ◌+◌, ◌-◌, ◌*◌, ◌<◌, ◌≤◌, ◌↔◌, max, List, length, false, Result, IsOk, OnOk, OnErr}
 use Rattle.tinyvec_slots.specs.Slots.{AreDefaults}
-use Rattle.tinyvec_slots.specs.declared.no_memory.NoMemory.{NoMemory}
 use Rattle.tinyvec.specs.View.{ViewKeepsRoom, ViewDoubles, ViewGrowsTo, ViewGrowsFor, ViewGrows}
 use Rattle.tinyvec.specs.TinyVec.{tiny_view, tiny_items, tiny_len, tiny_spare, is_inline, tiny_capacity, IsInline, PlaceRule, TinySlotRule, Unchanged}
 use Rattle.tinyvec.specs.declared.tiny_vec.TinyVec.{TinyVec}
@@ -35,16 +34,6 @@ module _ {A T : Type 0} where
     pub place : IsInline v ↔ (n ≤ slots)
     pub room : n ≤ tiny_capacity slots v
     pub exact : tiny_capacity slots v ≡ max n slots
-
-  -- a list on the heap moved into the array, if it fits, or its allocation shrank
-  pub record ShrinksToFit (D : T → Type 0) (slots : ℕ) (old new : TinyVec A T) : Type 0 where
-    pub items : tiny_items new ≡ tiny_items old
-    pub place : IsInline new ↔ (tiny_len old ≤ slots)
-    pub spare : is_inline old ≡ false → IsInline new → AreDefaults D (slots - tiny_len old) (tiny_spare new)
-    pub kept : IsInline old → new ≡ old
-    pub slot_rule : TinySlotRule D old new
-    pub capacity : is_inline new ≡ false → tiny_capacity slots new ≤ tiny_capacity slots old
-    pub fits : tiny_len new ≤ tiny_capacity slots new
 
   -- `v` is what collecting `xs` makes: inline if they fit the array, before defaults; on the heap its capacity is less than
   -- twice the length
@@ -127,13 +116,3 @@ module _ {A T X E : Type 0} where
     pub succeeds_empty : tiny_len old + n ≡ 0 → IsOk result
     pub full : is_inline old ≡ false → OnErr result (tiny_capacity slots old < tiny_len old + n)
     pub refused : OnErr result (Unchanged old new)
-
--- A call that takes in the item x took `old` to `new`, with this result. If it succeeded, the list is xs, one longer. A full list
--- first doubles its capacity.
-pub record TakesIn {A T X : Type 0} (D : T → Type 0) (slots : ℕ) (x : T) (xs : List T) (old new : TinyVec A T) (result : Result X (NoMemory T)) : Type 0 where
-  pub items : tiny_items new ≡ (if is_ok result then xs else tiny_items old)
-  pub len : tiny_len new ≡ (if is_ok result then tiny_len old + 1 else tiny_len old)
-  pub room : MakesRoom Doubles D slots (tiny_len old + 1) old new result
-  pub succeeds_inline : IsInline old → tiny_len old < slots → IsOk result
-  pub full : OnErr result (tiny_len old ≡ tiny_capacity slots old)
-  pub value_returned : IfErr result (λ refused. refused.0 ≡ x)

@@ -1,11 +1,10 @@
 -- Examples of a `TinyVec` whose array has four slots. `inline xs ys` has the list xs in the array, and the spare slots ys.
 use Rattle.std.proofs.Common.{◌≡◌, ℕ, List, [], ◌∷◌, ◌++◌, Ok, Result, true, false, refl, rules, arith}
 use Rattle.std.specs.Global.{Global}
-use Rattle.tinyvec_slots.specs.declared.no_memory.NoMemory.{NoMemory}
 use Rattle.tinyvec.specs.declared.tiny_vec.TinyVec.{TinyVec}
 use Rattle.tinyvec.specs.declared.tiny_vec.TinyVec.TheVariants.{Inline}
 use Rattle.tinyvec.specs.TinyVec.{tiny_items, tiny_len, tiny_spare, is_inline, IsInline, HoldsInline, tiny_capacity, tiny_allocator, SameFrame, Becomes, StaysInPlace, IsTail, Unchanged, IsTinyClone, IsTinyInfallible, tiny_view}
-use Rattle.tinyvec.specs.Room.{Collects, Doubles, GrowsFor, Grows, RoomGrows, MadeFor, MakesRoom, TakesIn, ShrinksToFit, Reserves, MovesToHeap, MovesToHeapWithRoom}
+use Rattle.tinyvec.specs.Room.{Collects, Doubles, GrowsFor, Grows, RoomGrows, MadeFor, MakesRoom, Reserves, MovesToHeap, MovesToHeapWithRoom}
 use Rattle.tinyvec.specs.View.{in_array}
 use Rattle.tinyvec.specs.Refused.{RefusedFor, ClonesBehind, ExtendsByClones}
 use Rattle.tinyvec.specs.Lends.{tiny_with_items, tiny_with_item}
@@ -14,9 +13,6 @@ use Rattle.tinyvec_words.proofs.Shown.{D, C, I, over}
 
 abbrev pub done : Result Unit Unit
 done = Ok _
-
-abbrev pub taken_in : Result Unit (NoMemory ℕ)
-taken_in = Ok _
 
 module _ (A : Type 0) (alloc : Global) where
   abbrev pub inline : List ℕ → List ℕ → TinyVec A ℕ
@@ -105,14 +101,8 @@ module _ (A : Type 0) (alloc : Global) where
   pub example-MakesRoom : MakesRoom Doubles D 4 2 (inline (1 ∷ []) (7 ∷ 8 ∷ 0 ∷ [])) (inline (1 ∷ 5 ∷ []) (8 ∷ 0 ∷ [])) done
   example-MakesRoom = search rules
 
-  pub example-TakesIn : TakesIn D 4 5 (1 ∷ 5 ∷ []) (inline (1 ∷ []) (7 ∷ 8 ∷ 0 ∷ [])) (inline (1 ∷ 5 ∷ []) (8 ∷ 0 ∷ [])) taken_in
-  example-TakesIn = search rules
-
   pub example-MadeFor : MadeFor D 4 2 1 (inline (1 ∷ []) (0 ∷ 0 ∷ 0 ∷ []))
   example-MadeFor = search rules
-
-  pub example-ShrinksToFit : (v : TinyVec A ℕ) → ShrinksToFit D 4 (inline (1 ∷ []) (7 ∷ 8 ∷ 0 ∷ [])) v → tiny_items v ≡ 1 ∷ []
-  example-ShrinksToFit v h = h.items
 
   pub example-Reserves : Reserves D 4 2 8 (inline (1 ∷ []) (0 ∷ 0 ∷ 0 ∷ [])) (inline (1 ∷ []) (0 ∷ 0 ∷ 0 ∷ [])) done
   example-Reserves = search rules

@@ -1,7 +1,7 @@
 //! Room on the heap, and moves between the array and the heap.
-ghost use Rattle.std.specs.Prelude.{◌≡◌, ◌+◌, ◌*◌, ◌<◌, ◌≤◌, max, false, OnOk, OnErr, vec_len, vec_capacity, ◌-◌, IsOk, IfOk, IfErr};
-ghost use Rattle.tinyvec.specs.TinyVec.{tiny_items, tiny_len, is_inline, tiny_capacity, Unchanged, IsInline};
-ghost use Rattle.tinyvec.specs.Room.{Doubles, Reserves, MovesToHeap, MovesToHeapWithRoom, ShrinksToFit};
+ghost use Rattle.std.specs.Prelude.{◌≡◌, ◌+◌, ◌*◌, ◌<◌, ◌≤◌, max, false, OnOk, OnErr, vec_len, vec_capacity, ◌-◌, ◌↔◌, IsOk, IfOk, IfErr};
+ghost use Rattle.tinyvec.specs.TinyVec.{tiny_items, tiny_len, is_inline, tiny_capacity, Unchanged, tiny_spare, IsInline, TinySlotRule};
+ghost use Rattle.tinyvec.specs.Room.{Doubles, Reserves, MovesToHeap, MovesToHeapWithRoom};
 ghost use Rattle.std.specs.Box.{boxed_slice_items};
 ghost use Rattle.tinyvec_slots.specs.Slots.{AreDefaults, items, spare};
 
@@ -153,7 +153,15 @@ impl<A: Array> TinyVec<A> {
     /// Moves a list on the heap into the array if it fits, which allocates nothing. Otherwise shrinks the allocation; if
     /// the allocator refuses, nothing changes and no error is returned.
     pub fn shrink_to_fit(&mut self)
-        ensures { ShrinksToFit A.Item.is_default A.CAPACITY self.old self.new }
+        ensures items { tiny_items self.new ≡ tiny_items self.old }
+        ensures place { IsInline self.new ↔ (tiny_len self.old ≤ A.CAPACITY) }
+        ensures spare { is_inline self.old ≡ false → IsInline self.new
+            → AreDefaults A.Item.is_default (A.CAPACITY - tiny_len self.old) (tiny_spare self.new) }
+        ensures kept { IsInline self.old → self.new ≡ self.old }
+        ensures slot_rule { TinySlotRule A.Item.is_default self.old self.new }
+        ensures capacity { is_inline self.new ≡ false
+            → tiny_capacity A.CAPACITY self.new ≤ tiny_capacity A.CAPACITY self.old }
+        ensures fits { tiny_len self.new ≤ tiny_capacity A.CAPACITY self.new }
     {
         let len = self.len();
         if let TinyVec::Heap(v) = self {

@@ -1,7 +1,7 @@
 //! Items that are pushed, popped, inserted, removed and cut off.
-ghost use Rattle.std.specs.Prelude.{◌≡◌, ◌+◌, ◌-◌, ◌<◌, ◌↔◌, [], ◌∷◌, ◌++◌, take, slice_get, IsSome, IfSome, IsOk, OnErr, ◌≤◌, if◌then◌else◌, is_ok, insert, remove, slice_index_or, vec_len, vec_capacity, IfOk, IfNone};
+ghost use Rattle.std.specs.Prelude.{◌≡◌, ◌+◌, ◌-◌, ◌<◌, ◌↔◌, [], ◌∷◌, ◌++◌, take, slice_get, IsSome, IfSome, IsOk, OnErr, IfErr, ◌≤◌, if◌then◌else◌, is_ok, insert, remove, slice_index_or, vec_len, vec_capacity, IfOk, IfNone};
 ghost use Rattle.tinyvec.specs.TinyVec.{tiny_items, tiny_len, tiny_capacity, IsTail, Becomes, Unchanged, IsInline};
-ghost use Rattle.tinyvec.specs.Room.{TakesIn};
+ghost use Rattle.tinyvec.specs.Room.{Doubles, MakesRoom};
 ghost use Rattle.std.specs.List.{swap_remove};
 ghost use Rattle.std.specs.Borrow.{sem};
 
@@ -25,7 +25,13 @@ impl<A: Array> TinyVec<A> {
     /// Appends `value`. A full list first doubles its capacity, which moves an inline one to the heap. If the allocator refuses,
     /// nothing changes and `value` is returned.
     pub fn push(&mut self, value: A::Item) -> Result<(), NoMemory<A::Item>>
-        ensures { TakesIn A.Item.is_default A.CAPACITY value (tiny_items self.old ++ value ∷ []) self.old self.new result }
+        ensures items { tiny_items self.new
+            ≡ (if is_ok result then tiny_items self.old ++ value ∷ [] else tiny_items self.old) }
+        ensures len { tiny_len self.new ≡ (if is_ok result then tiny_len self.old + 1 else tiny_len self.old) }
+        ensures room { MakesRoom Doubles A.Item.is_default A.CAPACITY (tiny_len self.old + 1) self.old self.new result }
+        ensures succeeds_inline { IsInline self.old → tiny_len self.old < A.CAPACITY → IsOk result }
+        ensures full { OnErr result (tiny_len self.old ≡ tiny_capacity A.CAPACITY self.old) }
+        ensures value_returned { IfErr result (λ refused. refused.0 ≡ value) }
     {
         // One test of the variant; growing is kept out of the usual path.
         match self {
@@ -94,7 +100,13 @@ impl<A: Array> TinyVec<A> {
     #[inline(always)]
     pub fn insert(&mut self, index: usize, element: A::Item) -> Result<(), NoMemory<A::Item>>
         requires { index ≤ tiny_len self.old }
-        ensures { TakesIn A.Item.is_default A.CAPACITY element (insert (tiny_items self.old) index element) self.old self.new result }
+        ensures items { tiny_items self.new
+            ≡ (if is_ok result then insert (tiny_items self.old) index element else tiny_items self.old) }
+        ensures len { tiny_len self.new ≡ (if is_ok result then tiny_len self.old + 1 else tiny_len self.old) }
+        ensures room { MakesRoom Doubles A.Item.is_default A.CAPACITY (tiny_len self.old + 1) self.old self.new result }
+        ensures succeeds_inline { IsInline self.old → tiny_len self.old < A.CAPACITY → IsOk result }
+        ensures full { OnErr result (tiny_len self.old ≡ tiny_capacity A.CAPACITY self.old) }
+        ensures value_returned { IfErr result (λ refused. refused.0 ≡ element) }
     {
         match self {
             TinyVec::Inline(v, _) if !v.is_full() => v.insert(index, element),

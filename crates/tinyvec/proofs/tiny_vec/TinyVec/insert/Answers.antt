@@ -1,4 +1,4 @@
-use Rattle.std.proofs.Common.{◌≡◌, ◌≤◌, insert, length, refl, ap, ◌∙◌, rules}
+use Rattle.std.proofs.Common.{◌≤◌, length, refl, ap, ◌∙◌, rules}
 use Rattle.std.proofs.lemmas.Bool.{false≢true}
 use Rattle.std.proofs.lemmas.List.Edits.{length-insert}
 use Rattle.tinyvec_slots.specs.Slots.{items_len}
@@ -18,23 +18,21 @@ slot_rule g c = elim c.match-self.branch as (λ _. TinySlotRule g.A.Item.Default
   | in_default+else-is_err w ↦ search rules
 ]
 
-pub returns : goal.returns
-returns g c =
-    let list : tiny_items c.match-self.self ≡ insert (tiny_items c.args.self.now) c.args.index c.args.element = search rules in record {
-      items = list;
-      len = ap length list ∙ length-insert (tiny_items c.args.self.now) c.args.index c.args.element c.requires;
-      room = record {
-        place = search rules;
-        slot_rule = slot_rule g c;
-        capacity = search rules;
-        same_room = search rules;
-        grown = search rules;
-        fits = search rules;
-        succeeds = λ _. refl;
-        full = tt;
-        refused = tt;
-      };
-      succeeds_inline = λ _ _. refl;
-      full = tt;
-      value_returned = tt;
-    }
+pub returns-clause-room : goal.returns-clause-room
+returns-clause-room g c = record {
+  place = search rules;
+  slot_rule = slot_rule g c;
+  capacity = search rules;
+  same_room = search rules;
+  grown = search rules;
+  fits = search rules;
+  succeeds = λ _. refl;
+  full = tt;
+  refused = tt;
+}
+
+pub returns-clause-items : goal.returns-clause-items
+returns-clause-items g c = search rules
+
+pub returns-clause-len : goal.returns-clause-len
+returns-clause-len g c = ap length (returns-clause-items g c) ∙ length-insert (tiny_items c.args.self.now) c.args.index c.args.element c.requires
