@@ -23,10 +23,11 @@ module _ {B T : Type 0} (g : Lent.Ghosts B T) where
   abbrev pub with_items_of : GenericSliceVec B T → List T → GenericSliceVec B T
   with_items_of v ws = at_slots g v (with_front (g.slots v.lent) (length (items_of g v)) ws)
 
-  -- the same slots are lent, and a write of the list or a cut of its tail left the spare slots so
+  -- the same slots are lent, and a write of the list left the spare slots as they were
   abbrev pub KeptOf : GenericSliceVec B T → GenericSliceVec B T → Type 0
   KeptOf old new = (name_of g new ≡ name_of g old) × SameSpare (view_of g old) (view_of g new)
 
+  -- the same slots are lent, and the list lost items, by the slot rule
   abbrev pub CutOf : (T → Type 0) → GenericSliceVec B T → GenericSliceVec B T → Type 0
   CutOf D old new = (name_of g new ≡ name_of g old) × Shortens D (view_of g old) (view_of g new)
 

@@ -6,6 +6,7 @@ pub mod Iterators
 pub mod Splices
 pub mod ArrayDrain
 pub mod SliceVec
+pub mod Extracting
 pub mod SliceDrain
 pub mod TinyVec
 pub mod ArraySplice

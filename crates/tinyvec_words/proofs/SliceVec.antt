@@ -5,6 +5,7 @@ use Rattle.std.specs.Borrow.{MutBor}
 use Rattle.tinyvec_slice.specs.declared.lent.Lent as Lent
 use Rattle.tinyvec_slice.specs.declared.slice_vec.GenericSliceVec.{GenericSliceVec}
 use Rattle.tinyvec_slice.specs.SliceVec.{view, items, spare, name, view_of, items_of, spare_of, len_of, slots_of, name_of, SameLender, VacatesOf}
+use Rattle.tinyvec_slice.specs.CutLaws.{CutOf}
 use Rattle.tinyvec_words.proofs.Shown.{D, over}
 
 module _ (v : GenericSliceVec (MutBor (List ℕ)) ℕ) (lent : v.lent.now ≡ 1 ∷ 2 ∷ 0 ∷ []) (len : v.len ≡ 2) where
@@ -44,3 +45,6 @@ module _ {B : Type 0} (g : Lent.Ghosts B ℕ) (v : GenericSliceVec B ℕ) (lent 
 
   pub example-VacatesOf : (w : GenericSliceVec B ℕ) → view_of g w ≡ over (1 ∷ []) (0 ∷ 0 ∷ []) → VacatesOf g D 1 v w
   example-VacatesOf w after = (0 ∷ [], search rules, ap spare_in after ∙ ap (λ xs. 0 ∷ xs) (sym example-spare_of))
+
+  pub example-CutOf : (w : GenericSliceVec B ℕ) → CutOf g D v w → name_of g w ≡ name_of g v
+  example-CutOf w h = h.0
