@@ -1,15 +1,7 @@
-//! The tests at the limits: many slots, items of no bytes and of pages, and the greatest numbers.
+//! The tests of hostile use and at the limits.
 #![tactic(auto)]
 
 #[cfg(test)]
-mod asked;
+mod hostile;
 #[cfg(test)]
-mod greatest;
-#[cfg(test)]
-mod many;
-#[cfg(test)]
-mod no_memory;
-#[cfg(test)]
-mod pages;
-#[cfg(test)]
-mod units;
+mod limits;
