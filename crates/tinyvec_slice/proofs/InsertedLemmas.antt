@@ -3,7 +3,7 @@ use Rattle.std.proofs.Common.{◌≡◌, ℕ, ◌+◌, ◌<◌, ◌≤◌, List,
 use Rattle.std.proofs.lemmas.List.{set_at, places, drop-drop}
 use Rattle.std.proofs.lemmas.List.Edits.{length-insert}
 use Rattle.tinyvec_slots.proofs.BorderLemmas.{list_to, spare_from}
-use Rattle.tinyvec_slice.specs.SliceVec.{items_of, spare_of, SameLender}
+use Rattle.tinyvec_slice.specs.SliceVec.{items_of, spare_of, Gains}
 use Rattle.tinyvec_slice.specs.Lends.{at_slots, inserted_at}
 use Rattle.tinyvec_slice.specs.declared.lent.Lent as Lent
 use Rattle.tinyvec_slice.specs.declared.slice_vec.GenericSliceVec.{GenericSliceVec}
@@ -23,18 +23,19 @@ module _ {B T : Type 0} (g : Lent.Ghosts B T) (v : GenericSliceVec B T) (i : ℕ
   long : length (insert (items_of g v) i x) ≡ length (items_of g v) + 1
   long = length-insert (items_of g v) i x le
 
-  pub items_of-inserted : items_of g (inserted_at g v i x) ≡ insert (items_of g v) i x
-  items_of-inserted = ap (take (length (items_of g v) + 1)) holds ∙ take_at (insert (items_of g v) i x) (drop 1 (spare_of g v)) (length (items_of g v) + 1) long
-
-  pub spare_of-inserted : spare_of g (inserted_at g v i x) ≡ drop 1 (spare_of g v)
-  spare_of-inserted = ap (drop (length (items_of g v) + 1)) holds ∙ drop_at (insert (items_of g v) i x) (drop 1 (spare_of g v)) (length (items_of g v) + 1) long
-
-  pub SameLender-inserted : 0 < length (spare_of g v) → SameLender g v (inserted_at g v i x)
-  SameLender-inserted room =
-      let count = ap length holds ∙ length-append (insert (items_of g v) i x) (drop 1 (spare_of g v)) in
+  pub Gains-inserted : 0 < length (spare_of g v) → Gains g 1 v (inserted_at g v i x) (insert (items_of g v) i x)
+  Gains-inserted room =
+      let n = length (items_of g v) + 1 in
+      let list = insert (items_of g v) i x in
+      let behind = drop 1 (spare_of g v) in
+      let count = ap length holds ∙ length-append list behind in
       record {
-        same_reference = g.name_kept v.lent (insert (items_of g v) i x ++ drop 1 (spare_of g v));
-        slot_count = omega (arith, count, long, length-drop 1 (spare_of g v), parts_of g v, room);
+        lender = record {
+          same_reference = g.name_kept v.lent (list ++ behind);
+          slot_count = omega (arith, count, long, length-drop 1 (spare_of g v), parts_of g v, room);
+        };
+        items = ap (take n) holds ∙ take_at list behind n long;
+        spare = ap (drop n) holds ∙ drop_at list behind n long;
       }
 
   -- the item that was put in is written

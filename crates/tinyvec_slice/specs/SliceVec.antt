@@ -1,5 +1,5 @@
 -- What a contract sees of a vector in lent slots.
-use Rattle.std.specs.Prelude.{◌≡◌, ℕ, List, length}
+use Rattle.std.specs.Prelude.{◌≡◌, ℕ, List, length, drop}
 use Rattle.std.specs.Borrow.{GName, MutBor}
 use Rattle.tinyvec_slots.specs.Slots.{Slots, Vacates, items as items_in, spare as spare_in}
 use Rattle.tinyvec_slice.specs.declared.lent.Lent as Lent
@@ -39,6 +39,18 @@ module _ {B T : Type 0} (g : Lent.Ghosts B T) where
   -- the n vacated slots hold defaults, and precede the old spare slots
   abbrev pub VacatesOf : (T → Type 0) → ℕ → GenericSliceVec B T → GenericSliceVec B T → Type 0
   VacatesOf D n old new = Vacates D n (view_of old) (view_of new)
+
+  -- new is over the slots of old, its list is xs, and the first n of the old spare slots are used up
+  pub record Gains (n : ℕ) (old new : GenericSliceVec B T) (xs : List T) : Type 0 where
+    pub lender : SameLender old new
+    pub items : items_of new ≡ xs
+    pub spare : spare_of new ≡ drop n (spare_of old)
+
+  -- new is over the slots of old, its list is xs, and n vacated slots precede the old spare slots
+  pub record Loses (D : T → Type 0) (n : ℕ) (old new : GenericSliceVec B T) (xs : List T) : Type 0 where
+    pub lender : SameLender old new
+    pub items : items_of new ≡ xs
+    pub spare : VacatesOf D n old new
 
 -- The same words of a vector in a lent slice.
 module _ {T : Type 0} where

@@ -6,7 +6,7 @@ ghost use Rattle.std.specs.Iterator.SizeHint.{IsWithinCount};
 ghost use Rattle.std.specs.Iterator.Runs.{YieldsInOrder};
 ghost use Rattle.tinyvec_slots.specs.Ranges.{IsRangeOf, before, removed, after};
 ghost use Rattle.std.specs.List.{FoldsTo};
-ghost use Rattle.tinyvec_slice.specs.SliceVec.{items_of, spare_of, name_of, VacatesOf, SameLender};
+ghost use Rattle.tinyvec_slice.specs.SliceVec.{items_of, spare_of, name_of, Loses};
 
 use crate::{GenericSliceVec, Lent};
 use std::fmt;
@@ -158,11 +158,9 @@ where
         requires not_exhausted { R.has_bounds range }
         requires in_list { IsRangeOf (items_of B.Lent self.old) (R.start_bound range) (R.end_bound range) }
         requires callable { F.IsAlwaysCallable f.old }
-        ensures lender { SameLender B.Lent self.old self.new }
-        ensures items { items_of B.Lent self.new ≡ before (items_of B.Lent self.old) (R.start_bound range)
-            ++ after (items_of B.Lent self.old) (R.end_bound range) }
-        ensures spare { VacatesOf B.Lent B.Item.is_default
-            (length (removed (items_of B.Lent self.old) (R.start_bound range) (R.end_bound range))) self.old self.new }
+        ensures becomes { Loses B.Lent B.Item.is_default
+            (length (removed (items_of B.Lent self.old) (R.start_bound range) (R.end_bound range))) self.old self.new
+            (before (items_of B.Lent self.old) (R.start_bound range) ++ after (items_of B.Lent self.old) (R.end_bound range)) }
 
         // One call an item, and no more.
         ensures given { FoldsTo (λ p x q. F.step p x tt q) f.old
@@ -183,11 +181,9 @@ where
         requires in_list { IsRangeOf (items_of B.Lent self.old) (R.start_bound range) (R.end_bound range) }
         requires room { vec_len out.old
             + length (removed (items_of B.Lent self.old) (R.start_bound range) (R.end_bound range)) ≤ vec_capacity out.old }
-        ensures lender { SameLender B.Lent self.old self.new }
-        ensures items { items_of B.Lent self.new ≡ before (items_of B.Lent self.old) (R.start_bound range)
-            ++ after (items_of B.Lent self.old) (R.end_bound range) }
-        ensures spare { VacatesOf B.Lent B.Item.is_default
-            (length (removed (items_of B.Lent self.old) (R.start_bound range) (R.end_bound range))) self.old self.new }
+        ensures becomes { Loses B.Lent B.Item.is_default
+            (length (removed (items_of B.Lent self.old) (R.start_bound range) (R.end_bound range))) self.old self.new
+            (before (items_of B.Lent self.old) (R.start_bound range) ++ after (items_of B.Lent self.old) (R.end_bound range)) }
         ensures moved { out.new.items ≡ out.old.items
             ++ removed (items_of B.Lent self.old) (R.start_bound range) (R.end_bound range) }
         ensures capacity { vec_capacity out.new ≡ vec_capacity out.old }

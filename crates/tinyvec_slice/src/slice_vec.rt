@@ -5,7 +5,7 @@ ghost use Rattle.tinyvec_slots.specs.Slots.{AreDefaults, split_at};
 ghost use Rattle.tinyvec_slots.specs.Ranges.{Within};
 ghost use Rattle.std.specs.Borrow.{sem};
 ghost use Rattle.tinyvec_slice.specs.Making.{lends_array};
-ghost use Rattle.tinyvec_slice.specs.SliceVec.{view, items, spare, name, view_of, items_of, spare_of, slots_of, len_of, SameLender};
+ghost use Rattle.tinyvec_slice.specs.SliceVec.{view, items, spare, name, view_of, items_of, spare_of, slots_of, len_of, SameLender, Gains};
 ghost use Rattle.tinyvec_slice.specs.Lends.{lends_items, lends_inner, lends_spare};
 ghost use Rattle.std.specs.Slice.Iter.{iter_rest, iter_mut_rest, iter_mut_steps, iter_mut_steps_back};
 ghost use Rattle.std.specs.Iterator.Adapters.{IterYieldsInOrder, IterYieldsInReverse};
@@ -110,10 +110,8 @@ impl<B: Lent> GenericSliceVec<B> {
     // Moves the items from `start` up to `end` after the others.
     pub(crate) fn move_to_end(&mut self, start: usize, end: usize)
         requires { Within start end (len_of B.Lent self.old) }
-        ensures lender { SameLender B.Lent self.old self.new }
-        ensures items { items_of B.Lent self.new ≡ remove_range (items_of B.Lent self.old) start end
-            ++ slice_range (items_of B.Lent self.old) start end }
-        ensures spare { spare_of B.Lent self.new ≡ spare_of B.Lent self.old }
+        ensures { Gains B.Lent 0 self.old self.new
+            (remove_range (items_of B.Lent self.old) start end ++ slice_range (items_of B.Lent self.old) start end) }
     {
         let len = self.len();
         move_to_end_below(self.lent.all_mut(), start, end, len);

@@ -1,10 +1,10 @@
 -- Examples of a `SliceVec` v over the slots `[1, 2, 0]`, whose list is `[1, 2]`, and of a generic one.
-use Rattle.std.proofs.Common.{◌≡◌, ℕ, List, [], ◌∷◌, refl, rules, ◌∙◌, sym, ap}
-use Rattle.tinyvec_slots.specs.Slots.{spare as spare_in}
+use Rattle.std.proofs.Common.{◌≡◌, ℕ, List, [], ◌∷◌, drop, refl, rules, ◌∙◌, sym, ap}
+use Rattle.tinyvec_slots.specs.Slots.{items as items_in, spare as spare_in}
 use Rattle.std.specs.Borrow.{MutBor}
 use Rattle.tinyvec_slice.specs.declared.lent.Lent as Lent
 use Rattle.tinyvec_slice.specs.declared.slice_vec.GenericSliceVec.{GenericSliceVec}
-use Rattle.tinyvec_slice.specs.SliceVec.{view, items, spare, name, view_of, items_of, spare_of, len_of, slots_of, name_of, SameLender, VacatesOf}
+use Rattle.tinyvec_slice.specs.SliceVec.{view, items, spare, name, view_of, items_of, spare_of, len_of, slots_of, name_of, SameLender, Gains, Loses}
 use Rattle.tinyvec_slice.specs.CutLaws.{CutOf}
 use Rattle.tinyvec_words.proofs.Shown.{D, over}
 
@@ -43,8 +43,11 @@ module _ {B : Type 0} (g : Lent.Ghosts B ℕ) (v : GenericSliceVec B ℕ) (lent 
   pub example-SameLender : SameLender g v v
   example-SameLender = record { same_reference = refl; slot_count = refl }
 
-  pub example-VacatesOf : (w : GenericSliceVec B ℕ) → view_of g w ≡ over (1 ∷ []) (0 ∷ 0 ∷ []) → VacatesOf g D 1 v w
-  example-VacatesOf w after = (0 ∷ [], search rules, ap spare_in after ∙ ap (λ xs. 0 ∷ xs) (sym example-spare_of))
+  pub example-Gains : (w : GenericSliceVec B ℕ) → SameLender g v w → view_of g w ≡ over (1 ∷ 2 ∷ 7 ∷ []) [] → Gains g 1 v w (1 ∷ 2 ∷ 7 ∷ [])
+  example-Gains w same after = record { lender = same; items = ap items_in after; spare = ap spare_in after ∙ ap (drop 1) (sym example-spare_of) }
+
+  pub example-Loses : (w : GenericSliceVec B ℕ) → SameLender g v w → view_of g w ≡ over (1 ∷ []) (0 ∷ 0 ∷ []) → Loses g D 1 v w (1 ∷ [])
+  example-Loses w same after = record { lender = same; items = ap items_in after; spare = (0 ∷ [], search rules, ap spare_in after ∙ ap (λ xs. 0 ∷ xs) (sym example-spare_of)) }
 
   pub example-CutOf : (w : GenericSliceVec B ℕ) → CutOf g D v w → name_of g w ≡ name_of g v
   example-CutOf w h = h.0

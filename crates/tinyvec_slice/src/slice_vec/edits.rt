@@ -1,6 +1,6 @@
 //! Items that are pushed, popped, inserted, removed and cut off.
 ghost use Rattle.std.specs.Prelude.{◌≡◌, ◌-◌, ◌<◌, ◌↔◌, [], ◌∷◌, ◌++◌, length, take, drop, slice_get, slice_index_or, IsSome, OnSome, IfNone, IfSome, ◌≤◌, remove, insert};
-ghost use Rattle.tinyvec_slice.specs.SliceVec.{items_of, spare_of, len_of, VacatesOf, items, spare, SameLender};
+ghost use Rattle.tinyvec_slice.specs.SliceVec.{items_of, spare_of, len_of, items, spare, SameLender, Gains, Loses};
 ghost use Rattle.std.specs.Borrow.{sem};
 ghost use Rattle.std.specs.List.{swap_remove, SwappedAt};
 
@@ -14,9 +14,7 @@ impl<B: Lent> GenericSliceVec<B> {
     /// Appends `value`.
     pub fn push(&mut self, value: B::Item)
         requires { 0 < length (spare_of B.Lent self.old) }
-        ensures lender { SameLender B.Lent self.old self.new }
-        ensures items { items_of B.Lent self.new ≡ items_of B.Lent self.old ++ value ∷ [] }
-        ensures spare { spare_of B.Lent self.new ≡ drop 1 (spare_of B.Lent self.old) }
+        ensures { Gains B.Lent 1 self.old self.new (items_of B.Lent self.old ++ value ∷ []) }
     {
         let len = self.len();
         self.lent.all_mut()[len] = value;
@@ -42,9 +40,7 @@ impl<B: Lent> GenericSliceVec<B> {
     pub fn insert(&mut self, index: usize, element: B::Item)
         requires in_list { index ≤ len_of B.Lent self.old }
         requires room { 0 < length (spare_of B.Lent self.old) }
-        ensures lender { SameLender B.Lent self.old self.new }
-        ensures items { items_of B.Lent self.new ≡ insert (items_of B.Lent self.old) index element }
-        ensures spare { spare_of B.Lent self.new ≡ drop 1 (spare_of B.Lent self.old) }
+        ensures { Gains B.Lent 1 self.old self.new (insert (items_of B.Lent self.old) index element) }
     {
         self.put_in(index, element);
     }
@@ -99,12 +95,11 @@ where
 {
     /// Removes the last item and returns it. Its slot is reset to a default.
     pub fn pop(&mut self) -> Option<B::Item>
-        ensures lender { SameLender B.Lent self.old self.new }
         ensures variant { IsSome result ↔ (0 < len_of B.Lent self.old) }
+        ensures becomes { OnSome result (Loses B.Lent B.Item.is_default 1 self.old self.new
+            (take (len_of B.Lent self.old - 1) (items_of B.Lent self.old))) }
         ensures some { IfSome result (λ x. items_of B.Lent self.old ≡ items_of B.Lent self.new ++ x ∷ []) }
         ensures value { result ≡ slice_get (items_of B.Lent self.old) (len_of B.Lent self.old - 1) }
-        ensures items { items_of B.Lent self.new ≡ take (len_of B.Lent self.old - 1) (items_of B.Lent self.old) }
-        ensures spare { OnSome result (VacatesOf B.Lent B.Item.is_default 1 self.old self.new) }
         ensures none { IfNone result (self.new ≡ self.old) }
     {
         if self.is_empty() {
@@ -116,11 +111,10 @@ where
     // Takes the last item.
     pub(crate) fn take_last(&mut self) -> B::Item
         requires { 0 < len_of B.Lent self.old }
-        ensures lender { SameLender B.Lent self.old self.new }
-        ensures items { items_of B.Lent self.old ≡ items_of B.Lent self.new ++ result ∷ [] }
-        ensures rest { items_of B.Lent self.new ≡ take (len_of B.Lent self.old - 1) (items_of B.Lent self.old) }
+        ensures becomes { Loses B.Lent B.Item.is_default 1 self.old self.new
+            (take (len_of B.Lent self.old - 1) (items_of B.Lent self.old)) }
+        ensures last { items_of B.Lent self.old ≡ items_of B.Lent self.new ++ result ∷ [] }
         ensures value { result ≡ slice_index_or (items_of B.Lent self.old) (len_of B.Lent self.old - 1) result }
-        ensures spare { VacatesOf B.Lent B.Item.is_default 1 self.old self.new }
     {
         let last = self.len() - 1;
         self.len = last;
@@ -135,10 +129,8 @@ where
     /// Removes the item at `index` and returns it. The later ones move down.
     pub fn remove(&mut self, index: usize) -> B::Item
         requires { index < len_of B.Lent self.old }
-        ensures lender { SameLender B.Lent self.old self.new }
         ensures value { result ≡ slice_index_or (items_of B.Lent self.old) index result }
-        ensures items { items_of B.Lent self.new ≡ remove (items_of B.Lent self.old) index }
-        ensures spare { VacatesOf B.Lent B.Item.is_default 1 self.old self.new }
+        ensures becomes { Loses B.Lent B.Item.is_default 1 self.old self.new (remove (items_of B.Lent self.old) index) }
     {
         let len = self.len();
         if prefers_shifting(&self.as_slice()[index..]) {
@@ -153,10 +145,9 @@ where
     /// Removes the item at `index` and returns it. The last one takes its place.
     pub fn swap_remove(&mut self, index: usize) -> B::Item
         requires { index < len_of B.Lent self.old }
-        ensures lender { SameLender B.Lent self.old self.new }
         ensures value { result ≡ slice_index_or (items_of B.Lent self.old) index result }
-        ensures items { items_of B.Lent self.new ≡ swap_remove (items_of B.Lent self.old) index result }
-        ensures spare { VacatesOf B.Lent B.Item.is_default 1 self.old self.new }
+        ensures becomes { Loses B.Lent B.Item.is_default 1 self.old self.new
+            (swap_remove (items_of B.Lent self.old) index result) }
     {
         let last = self.len() - 1;
         self.swap_items(index, last);
@@ -170,9 +161,8 @@ where
 {
     /// Keeps the first `new_len` items, or all if there are no more. Each vacated slot is reset to a default.
     pub fn truncate(&mut self, new_len: usize)
-        ensures lender { SameLender B.Lent self.old self.new }
-        ensures items { items_of B.Lent self.new ≡ take new_len (items_of B.Lent self.old) }
-        ensures spare { VacatesOf B.Lent B.Item.is_default (len_of B.Lent self.old - new_len) self.old self.new }
+        ensures { Loses B.Lent B.Item.is_default (len_of B.Lent self.old - new_len) self.old self.new
+            (take new_len (items_of B.Lent self.old)) }
     {
         let len = self.len();
         if new_len < len {
@@ -183,9 +173,7 @@ where
 
     /// Empties the list. Each vacated slot is reset to a default.
     pub fn clear(&mut self)
-        ensures lender { SameLender B.Lent self.old self.new }
-        ensures items { items_of B.Lent self.new ≡ [] }
-        ensures spare { VacatesOf B.Lent B.Item.is_default (len_of B.Lent self.old) self.old self.new }
+        ensures { Loses B.Lent B.Item.is_default (len_of B.Lent self.old) self.old self.new [] }
     {
         self.truncate(0);
     }

@@ -2,7 +2,7 @@
 ghost use Rattle.std.specs.Prelude.{◌≡◌, ◌+◌, ◌≤◌, ◌++◌, ℕ, length, take, drop, IsOk, OnOk, OnErr, [], ◌-◌, ◌∷◌, List, IfErr, Some, ◌<◌, replicate, reverse};
 ghost use Rattle.std.specs.List.{AppendsClones, AppendsResults};
 ghost use Rattle.tinyvec_slots.specs.Clones.{ClonesAreEqual, ClonesOver, ClonesBefore, AddsClones};
-ghost use Rattle.tinyvec_slice.specs.SliceVec.{items_of, spare_of, name_of, len_of, VacatesOf, slots_of, view_of, SameLender};
+ghost use Rattle.tinyvec_slice.specs.SliceVec.{items_of, spare_of, len_of, slots_of, view_of, SameLender, Gains, Loses};
 ghost use Rattle.tinyvec_slots.specs.Slots.{AreDefaults};
 ghost use Rattle.tinyvec_slots.specs.Ranges.{IsRangeOf, removed};
 ghost use Rattle.tinyvec_slots.specs.Filling.{Fills, Extends};
@@ -260,9 +260,7 @@ where
     // Moves the items of `from` to the end, and leaves defaults there.
     fn append_slots(&mut self, from: &mut [B::Item])
         requires { length from.old ≤ length (spare_of B.Lent self.old) }
-        ensures lender { SameLender B.Lent self.old self.new }
-        ensures items { items_of B.Lent self.new ≡ items_of B.Lent self.old ++ from.old }
-        ensures spare { spare_of B.Lent self.new ≡ drop (length from.old) (spare_of B.Lent self.old) }
+        ensures becomes { Gains B.Lent (length from.old) self.old self.new (items_of B.Lent self.old ++ from.old) }
         ensures left { AreDefaults B.Item.is_default (length from.old) from.new }
     {
         for i in 0..from.len() {
@@ -273,12 +271,9 @@ where
     /// Moves the items of `other` to the end, and leaves `other` empty. Each item moves once.
     pub fn append(&mut self, other: &mut Self)
         requires { len_of B.Lent other.old ≤ length (spare_of B.Lent self.old) }
-        ensures lender { SameLender B.Lent self.old self.new }
-        ensures items { items_of B.Lent self.new ≡ items_of B.Lent self.old ++ items_of B.Lent other.old }
-        ensures spare { spare_of B.Lent self.new ≡ drop (len_of B.Lent other.old) (spare_of B.Lent self.old) }
-        ensures other_reference { name_of B.Lent other.new ≡ name_of B.Lent other.old }
-        ensures other_items { items_of B.Lent other.new ≡ [] }
-        ensures other_spare { VacatesOf B.Lent B.Item.is_default (len_of B.Lent other.old) other.old other.new }
+        ensures becomes { Gains B.Lent (len_of B.Lent other.old) self.old self.new
+            (items_of B.Lent self.old ++ items_of B.Lent other.old) }
+        ensures emptied { Loses B.Lent B.Item.is_default (len_of B.Lent other.old) other.old other.new [] }
     {
         self.append_slots(other.as_mut_slice());
         other.set_len(0);

@@ -32,14 +32,14 @@ returns-in-Remove-clause-step g c =
     let old = view_of g.B.Lent c.args.vec.now in
     let made = c.remove.ensures in
     let in_list : c.in-Remove.i < items_len old = omega (arith, c.len-in-Remove.ensures.value) in
-    rw c.in-Remove.is (slice_get_read (items old) _ c.in-Remove.i _ refl in_list made.value, made.items, slots_removed g.B.Item.Default.is_default old (view_of g.B.Lent c.remove.new.self) c.in-Remove.i in_list made.items made.spare)
+    rw c.in-Remove.is (slice_get_read (items old) _ c.in-Remove.i _ refl in_list made.value, made.becomes.items, slots_removed g.B.Item.Default.is_default old (view_of g.B.Lent c.remove.new.self) c.in-Remove.i in_list made.becomes.items made.becomes.spare)
 
 pub returns-in-SwapRemove-clause-step : goal.returns-in-SwapRemove-clause-step
 returns-in-SwapRemove-clause-step g c =
     let old = view_of g.B.Lent c.args.vec.now in
     let made = c.swap_remove.ensures in
     rw c.in-SwapRemove.is (swap_removes g.B.Item.Default.is_default (length (all_slots old)) old (view_of g.B.Lent c.swap_remove.new.self)
-    c.in-SwapRemove.i c.swap_remove.result (omega (arith, c.len-in-SwapRemove.ensures.value)) made.value made.items made.spare)
+    c.in-SwapRemove.i c.swap_remove.result (omega (arith, c.len-in-SwapRemove.ensures.value)) made.value made.becomes.items made.becomes.spare)
 
 pub returns-in-Drain-clause-step : goal.returns-in-Drain-clause-step
 returns-in-Drain-clause-step g c =
@@ -50,7 +50,7 @@ returns-in-Drain-clause-step g c =
     let in_order : i ≤ j = omega arith in
     let in_list : j ≤ items_len old = omega arith in
     let taken = left.moved ∙ ap (λ xs. xs ++ removed (items old) (Included i) (Excluded j)) c.in-Ok.ensures.items in
-    let made = drains g.B.Item.Default.is_default (length (all_slots old)) old (view_of g.B.Lent c.drain_into.new.self) i j c.drain_into.new.out.items in_order in_list taken left.items left.spare in
+    let made = drains g.B.Item.Default.is_default (length (all_slots old)) old (view_of g.B.Lent c.drain_into.new.self) i j c.drain_into.new.out.items in_order in_list taken left.becomes.items left.becomes.spare in
     rw c.in-Drain.is ((in_order, in_list), made.0, made.1)
 
 pub returns-then-is_full-clause-step : goal.returns-then-is_full-clause-step

@@ -8,5 +8,5 @@ pub returns-clause-spare : goal.returns-clause-spare
 returns-clause-spare c =
     let v = c.args.v.now in
     let count : length (slice_range (items v) 1 3) ≡ 2 = search (rules, places) in
-    freed _ (pos 0) (λ x h. h) (length (slice_range (items v) 1 3)) (view v) (view c.drain_each.new.self) c.drain_each.ensures.spare
+    freed _ (pos 0) (λ x h. h) (length (slice_range (items v) 1 3)) (view v) (view c.drain_each.new.self) c.drain_each.ensures.becomes.spare
     ∙ ap (λ n. replicate n (pos 0) ++ spare v) count

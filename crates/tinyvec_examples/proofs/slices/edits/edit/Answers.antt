@@ -8,5 +8,5 @@ returns-clause-spare c =
     let v = c.args.v.now in
     let one = freed _ (pos 0) (λ x h. h) (length (items v) - 3) (view v) (view c.truncate.new.self) c.truncate.ensures.spare
     ∙ ap (λ n. replicate (n - 3) (pos 0) ++ spare v) c.requires in
-    let two = freed _ (pos 0) (λ x h. h) 1 (view c.truncate.new.self) (view c.remove-second.new.self) c.remove-second.ensures.spare in
+    let two = freed _ (pos 0) (λ x h. h) 1 (view c.truncate.new.self) (view c.remove-second.new.self) c.remove-second.ensures.becomes.spare in
     c.insert.ensures.spare ∙ ap (drop 1) (two ∙ ap (λ xs. pos 0 ∷ xs) one)

@@ -36,21 +36,8 @@ module _ (g : _) (c : goal.After-self-1 g) where
   left : DrainLeaves g.B.Lent g.B.Item.Default.is_default c.next.new.self c.drop-x-iterator.new.self.0
   left = c.drop-x-iterator.ensures (rw c.in-None.ensures.steps.1 c.loop-x.invariant.can)
 
-pub returns-clause-items : goal.returns-clause-items
-returns-clause-items g c =
-    let same = (keeps g c).same_reference in
-    let listed = (left g c).1 ∙ (keeps g c).kept ∙ c.drain-x-items.ensures.kept in
-    search rules
-
-pub returns-clause-spare : goal.returns-clause-spare
-returns-clause-spare g c =
-    let drain = c.drain-x-items.ensures in
-    let same = (keeps g c).same_reference in
-    let frees = drain_frees g.B.Lent g.B.Item.Default.is_default _ c.args.self.now c.drop-x-iterator.new.self.0 c.drain-x-items.result c.next.new.self (keeps g c) (drain.count ∙ ap length drain.rest) drain.spare (left g c) in
-    search rules
-
-pub returns-clause-lender : goal.returns-clause-lender
-returns-clause-lender g c =
+pub returns-clause-becomes : goal.returns-clause-becomes
+returns-clause-becomes g c =
     let drain = c.drain-x-items.ensures in
     let same = (keeps g c).same_reference in
     let list = items_of g.B.Lent c.args.self.now in
@@ -60,4 +47,4 @@ returns-clause-lender g c =
     let frees = drain_frees g.B.Lent g.B.Item.Default.is_default _ c.args.self.now new c.drain-x-items.result c.next.new.self (keeps g c) (drain.count ∙ ap length drain.rest) drain.spare (left g c) in
     let count = cut_count g.B.Lent g.B.Item.Default.is_default c.args.self.now new (range_start (g.R.RangeBounds.start_bound c.args.range)) (range_end (g.R.RangeBounds.end_bound c.args.range) (length list))
     c.requires.in_list.0 c.requires.in_list.1 listed frees in
-    record { same_reference = search rules; slot_count = search rules }
+    record { lender = record { same_reference = search rules; slot_count = search rules }; items = search rules; spare = search rules }
