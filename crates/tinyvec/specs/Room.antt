@@ -27,8 +27,8 @@ module _ {A T : Type 0} where
   abbrev pub Grows : (T → Type 0) → ℕ → TinyVec A T → TinyVec A T → Type 0
   Grows D slots old new = ViewGrows D slots (tiny_view old) (tiny_view new)
 
-  -- `v` was made for n items: inline if they fit the array, with defaults behind the `used` ones of its list; on the heap with room
-  -- for just them
+  -- `v` was made for n items. It is inline if they fit the array, and defaults follow the `used` items of its list. On the heap it
+  -- has room for exactly n.
   pub record MadeFor (D : T → Type 0) (slots n used : ℕ) (v : TinyVec A T) : Type 0 where
     pub spare : IsInline v → AreDefaults D (slots - used) (tiny_spare v)
     pub place : IsInline v ↔ (n ≤ slots)

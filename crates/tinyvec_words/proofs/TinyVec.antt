@@ -3,7 +3,7 @@ use Rattle.std.proofs.Common.{◌≡◌, ℕ, List, [], ◌∷◌, ◌++◌, Ok,
 use Rattle.std.specs.Global.{Global}
 use Rattle.tinyvec.specs.declared.tiny_vec.TinyVec.{TinyVec}
 use Rattle.tinyvec.specs.declared.tiny_vec.TinyVec.TheVariants.{Inline}
-use Rattle.tinyvec.specs.TinyVec.{tiny_items, tiny_len, tiny_spare, is_inline, IsInline, HoldsInline, tiny_capacity, tiny_allocator, SameFrame, Becomes, StaysInPlace, IsTail, Unchanged, IsTinyClone, IsTinyInfallible, tiny_view}
+use Rattle.tinyvec.specs.TinyVec.{tiny_items, tiny_len, tiny_spare, is_inline, IsInline, HoldsInline, tiny_capacity, tiny_allocator, TinySlotRule, SameFrame, Becomes, StaysInPlace, IsTail, Unchanged, IsTinyClone, IsTinyInfallible, tiny_view}
 use Rattle.tinyvec.specs.Room.{Collects, Doubles, GrowsFor, Grows, RoomGrows, MadeFor, MakesRoom, Reserves, MovesToHeap, MovesToHeapWithRoom}
 use Rattle.tinyvec.specs.View.{in_array}
 use Rattle.tinyvec.specs.Refused.{RefusedFor, ClonesBehind, ExtendsByClones}
@@ -44,6 +44,9 @@ module _ (A : Type 0) (alloc : Global) where
 
   pub example-tiny_allocator : tiny_allocator (inline (1 ∷ 2 ∷ []) (0 ∷ 0 ∷ [])) ≡ alloc
   example-tiny_allocator = refl
+
+  pub example-TinySlotRule : TinySlotRule D (inline (1 ∷ []) (7 ∷ 8 ∷ 0 ∷ [])) (inline (1 ∷ 5 ∷ []) (8 ∷ 0 ∷ []))
+  example-TinySlotRule = search rules
 
   pub example-SameFrame : SameFrame (inline (1 ∷ 2 ∷ []) (0 ∷ 0 ∷ [])) (inline (2 ∷ 1 ∷ []) (0 ∷ 0 ∷ []))
   example-SameFrame = search rules
@@ -146,6 +149,9 @@ module _ (A : Type 0) (alloc : Global) where
 
 -- two vectors that have room for four and for eight items
 module _ {A : Type 0} (v w : TinyVec A ℕ) (small : tiny_capacity 4 v ≡ 4) (large : tiny_capacity 4 w ≡ 8) where
+  pub example-Doubles : Doubles 4 5 v w
+  example-Doubles = search rules
+
   pub example-GrowsFor : is_inline v ≡ false → GrowsFor 4 5 v w
   example-GrowsFor outside = search rules
 
