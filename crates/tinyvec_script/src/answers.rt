@@ -1,5 +1,5 @@
 //! The text of answers and of vectors, written in pieces. It allocates nothing.
-ghost use Rattle.std.specs.Prelude.{◌<◌, ◌++◌, ◌∷◌, [], codes};
+ghost use Rattle.std.specs.Prelude.{◌<◌, ◌/◌, ◌%◌, ◌++◌, ◌∷◌, [], codes};
 ghost use Rattle.std.specs.List.{flat_map};
 ghost use Rattle.std.specs.Fmt.{decimal, signed_decimal};
 ghost use Rattle.tinyvec_script.specs.Writes.{Gathers};
@@ -146,7 +146,7 @@ fn write_number<W: Write>(gathered: &mut Gathered, writer: &mut Counted<W>, numb
     write_decimal(gathered, writer, number.unsigned_abs());
 }
 
-// Writes the digits of the number, two at a time if it has more than one.
+// Writes the digits of the number: the last two or four at once, after the others.
 fn write_decimal<W: Write>(gathered: &mut Gathered, writer: &mut Counted<W>, number: u32)
     ensures { Gathers W.contents writer.old gathered.old writer.new gathered.new (decimal number) }
 {
@@ -158,8 +158,13 @@ fn write_decimal<W: Write>(gathered: &mut Gathered, writer: &mut Counted<W>, num
         write_pair(gathered, writer, number);
         return;
     }
-    write_decimal(gathered, writer, number / 100);
-    write_pair(gathered, writer, number % 100);
+    if number < 10000 {
+        write_decimal(gathered, writer, number / 100);
+        write_pair(gathered, writer, number % 100);
+        return;
+    }
+    write_decimal(gathered, writer, number / 10000);
+    write_four(gathered, writer, number % 10000);
 }
 
 // Writes two digits.
@@ -171,5 +176,25 @@ fn write_pair<W: Write>(gathered: &mut Gathered, writer: &mut Counted<W>, pair: 
     gathered.put(
         writer,
         &[b'0' + (pair / 10) as u8, b'0' + (pair % 10) as u8],
+    );
+}
+
+// Writes four digits.
+#[inline(always)]
+fn write_four<W: Write>(gathered: &mut Gathered, writer: &mut Counted<W>, four: u32)
+    requires { four < 10000 }
+    ensures { Gathers W.contents writer.old gathered.old writer.new gathered.new
+        (digit_pair (four / 100) ++ digit_pair (four % 100)) }
+{
+    let front = four / 100;
+    let back = four % 100;
+    gathered.put(
+        writer,
+        &[
+            b'0' + (front / 10) as u8,
+            b'0' + (front % 10) as u8,
+            b'0' + (back / 10) as u8,
+            b'0' + (back % 10) as u8,
+        ],
     );
 }
