@@ -4,7 +4,7 @@ ghost use Rattle.tinyvec_slice.specs.Drain.{DrainCanStep};
 use crate::held::Copies;
 use crate::steps::extracted;
 use crate::vector::Vector;
-use tinyvec::{GenericSliceVecDrain, Lent, NoRoom, SliceVec};
+use tinyvec::{GenericSliceVec, GenericSliceVecDrain, Lent, NoRoom, SliceVec};
 use tinyvec_rows::{
     Item, Span, Words, Wrong, done, is_within, say, say_all, say_hint, say_rest, say_slots,
 };
@@ -175,10 +175,7 @@ impl<'s, T: Item> Vector for SliceVec<'s, T> {
         count: usize,
         out: &mut String,
     ) -> Result<(), Wrong> {
-        if !is_within(range, self.len()) {
-            return Err(Wrong::Place);
-        }
-        extracted(self.extract_if(range, f), count, out)
+        extracted_lent(self, range, f, count, out)
     }
 
     fn drain(&mut self, range: Span, steps: &[&str], out: &mut String) -> Result<(), Wrong> {
@@ -212,6 +209,22 @@ impl<'s, T: Item> Vector for SliceVec<'s, T> {
 }
 
 impl<'s, T: Item + Copy> Copies for SliceVec<'s, T> {}
+
+// Generic over what is lent, as the borrow checker needs.
+fn extracted_lent<T: Item, B: Lent<Item = T>, F: FnMut(&mut T) -> bool>(
+    v: &mut GenericSliceVec<B>,
+    range: Span,
+    f: F,
+    count: usize,
+    out: &mut String,
+) -> Result<(), Wrong>
+    requires { F.IsAlwaysCallable f }
+{
+    if !is_within(range, v.len()) {
+        return Err(Wrong::Place);
+    }
+    extracted(v.extract_if(range, f), count, out)
+}
 
 /// Does steps at a drain, and writes what each answers.
 fn drained<T: Item, B: Lent<Item = T>>(

@@ -1,5 +1,5 @@
--- The turns of the loop under `extract_if`, and what its steps make of a list.
-use Rattle.std.proofs.Common.{◌≡◌, ℕ, ◌+◌, ◌-◌, ◌<◌, ◌≤◌, Bool, true, false, cond, not, List, [], ◌∷◌, ◌++◌, length, get_or, set, take, drop, slice_range, filter, option_to_list, Option, Some, None, refl, sym, ap, ◌∙◌, subst, arith, append-nil, append_assoc, drop-set-lt, length-set, take-append-drop}
+-- The turns of the loop under `extract_if`, and what its steps yield.
+use Rattle.std.proofs.Common.{◌≡◌, ℕ, ◌+◌, ◌-◌, ◌<◌, ◌≤◌, Bool, true, false, List, [], ◌∷◌, ◌++◌, length, get_or, set, take, drop, slice_range, Option, Some, None, refl, sym, ap, ◌∙◌, subst, arith, append-nil, append_assoc, drop-set-lt, length-set, take-append-drop}
 use Rattle.std.proofs.lemmas.List.{take-set-le, get_or-set_same, drop-drop}
 use Rattle.std.proofs.iter.runs.Lists.{Everywhere, one_more, none-some, same_Some}
 use Rattle.std.proofs.iter.runs.Made.{took, each}
@@ -7,8 +7,7 @@ use Rattle.std.specs.Borrow.{MutBor}
 use Rattle.std.specs.Fn.{CalledAtMut, Mut}
 use Rattle.std.specs.Iterator.{Yields}
 use Rattle.std.specs.List.Retain.{ExtractsNext, IsChosenBy}
-use Rattle.tinyvec_slots.specs.Extracting.{extract_closure, extract_vec, extract_front, extract_rest, extract_back, EachIsChosen, ExtractKeeps, ExtractLeaves, ExtractLies, ExtractSteps}
-use Rattle.tinyvec_slots.specs.declared.extracting.ExtractIf.{ExtractIf}
+use Rattle.tinyvec_slots.specs.Extracting.{EachIsChosen, ExtractSteps}
 use Rattle.tinyvec_slots.proofs.Lists.{slice_range_first}
 use Rattle.tinyvec_slots.proofs.FiltersLemmas.{item_at}
 
@@ -138,118 +137,3 @@ module _ {V T F : Type 0} (items : V → List T) (Truncated : V → V → Type 0
   each_is_chosen p _ =
       let R = CalledAtMut g in
       each p (IsChosenBy R) (along R (ExtractSteps items Truncated g) (λ d x e h. chosen R _ _ x _ h.kept _ h.asked) p.items p.from (took p).0 (took p).1)
-
--- after `None` no item of the range is left
-extracts_all : {S X : Type 0} (R : S → X → Bool → S → X → Type 0) (s : S) (xs : List X) (t : S) (kept rest : List X) → ExtractsNext R s xs None t kept rest → rest ≡ []
-extracts_all R s [] t kept rest h = h.3
-extracts_all R s (x ∷ xs) t kept rest (true, u, y, asked, found) = absurd (none-some y found.0)
-extracts_all R s (x ∷ xs) t kept rest (false, u, y, asked, later) = extracts_all R u xs t later.0 rest later.1
-
--- R is a test, by a closure f that changes neither itself nor the items
-module _ {F X : Type 0} (R : F → X → Bool → F → X → Type 0) (test : X → Bool) (f : F)
-    (h : (x : X) (b : Bool) (f' : F) (y : X) → R f x b f' y → (b ≡ test x) × (f' ≡ f) × (y ≡ x)) where
-  -- what a call makes of the items that are still to be yielded, and of those that stay
-  record Splits (xs : List X) (r : Option X) (t : F) (kept rest : List X) : Type 0 where
-    same : t ≡ f
-    yielded : filter test xs ≡ option_to_list r ++ filter test rest
-    others : filter (λ x. not (test x)) xs ≡ kept ++ filter (λ x. not (test x)) rest
-
-  extracts_splits : (xs : List X) (r : Option X) (t : F) (kept rest : List X) → ExtractsNext R f xs r t kept rest → Splits xs r t kept rest
-  extracts_splits [] r t kept rest e = record {
-    same = e.1;
-    yielded = rw (e.0, e.3) refl;
-    others = rw (e.2, e.3) refl;
-  }
-  extracts_splits (x ∷ xs) r t kept rest (true, u, y, asked, found) =
-      let one = h x true u y asked in
-      let others = filter (λ x. not (test x)) xs in record {
-        same = found.1 ∙ one.1;
-        yielded = ap (λ a. cond a (x ∷ filter test xs) (filter test xs)) (sym one.0) ∙ ap (λ z. z ∷ filter test xs) (sym one.2)
-            ∙ (λ i. option_to_list (sym found.0 i) ++ filter test (sym found.3 i));
-        others = ap (λ a. cond (not a) (x ∷ others) others) (sym one.0) ∙ (λ i. sym found.2 i ++ filter (λ x. not (test x)) (sym found.3 i));
-      }
-  extracts_splits (x ∷ xs) r t kept rest (false, u, y, asked, later) =
-      let one = h x false u y asked in
-      let others = filter (λ x. not (test x)) xs in
-      let on = extracts_splits xs r t later.0 rest (subst (λ v. ExtractsNext R v xs r t later.0 rest) one.1 later.1) in record {
-        same = on.same;
-        yielded = ap (λ a. cond a (x ∷ filter test xs) (filter test xs)) (sym one.0) ∙ on.yielded;
-        others = ap (λ a. cond (not a) (x ∷ others) others) (sym one.0) ∙ ap (λ l. x ∷ l) on.others
-            ∙ ap (λ z. z ∷ (later.0 ++ filter (λ x. not (test x)) rest)) (sym one.2) ∙ ap (λ l. l ++ filter (λ x. not (test x)) rest) (sym later.2);
-      }
-
--- a loop over an iterator `first`, by a closure that returns `test` of each item
-module _ {V F T : Type 0} (items : V → List T) (Truncated : V → V → Type 0) (test : T → Bool) (first : ExtractIf V F T) where
-  -- the items that are not chosen
-  abbrev others : List T → List T
-  others = filter (λ x. not (test x))
-
-  -- it has yielded `out`, and is now `now`
-  pub record Sifted (out : List T) (now : ExtractIf V F T) : Type 0 where
-    pub same : extract_closure now ≡ extract_closure first
-    pub yielded : out ++ filter test (extract_rest items now) ≡ filter test (extract_rest items first)
-    pub stays : extract_front items now ++ others (extract_rest items now) ≡ extract_front items first ++ others (extract_rest items first)
-    pub keeps : ExtractKeeps items Truncated first now
-
-  pub sifted_none : Sifted [] first
-  sifted_none = record {
-    same = refl;
-    yielded = refl;
-    stays = refl;
-    keeps = record { same_reference = refl; back = refl; lies = λ lies. lies; cut = λ v cut. cut };
-  }
-
-  module _ (g : Mut F (MutBor T × Unit {0}) (Bool × (MutBor T × Unit {0})))
-      (h : (x : T) (b : Bool) (f' : F) (y : T) → CalledAtMut g (extract_closure first) x b f' y → (b ≡ test x) × (f' ≡ extract_closure first) × (y ≡ x))
-      (out : List T) (now next : ExtractIf V F T) (so_far : Sifted out now) where
-    abbrev Steps : Option T → Type 0
-    Steps item = ExtractSteps items Truncated g now item next
-
-    split : (item : Option T) (step : Steps item) → Splits (CalledAtMut g) test (extract_closure first) h (extract_rest items now) item (extract_closure next) step.kept (extract_rest items next)
-    split item step =
-        extracts_splits (CalledAtMut g) test (extract_closure first) h _ item _ step.kept _
-        (subst (λ f. ExtractsNext (CalledAtMut g) f (extract_rest items now) item (extract_closure next) step.kept (extract_rest items next)) so_far.same step.asked)
-
-    on : (item : Option T) (step : Steps item) → ExtractKeeps items Truncated first next
-    on item step = record {
-      same_reference = step.keeps.same_reference ∙ so_far.keeps.same_reference;
-      back = step.keeps.back ∙ so_far.keeps.back;
-      lies = λ lies. step.keeps.lies (so_far.keeps.lies lies);
-      cut = λ v cut. so_far.keeps.cut v (step.keeps.cut v cut);
-    }
-
-    front_on : (item : Option T) (step : Steps item) → extract_front items next ++ others (extract_rest items next) ≡ extract_front items first ++ others (extract_rest items first)
-    front_on item step =
-        ap (λ l. l ++ others (extract_rest items next)) step.front ∙ append_assoc (extract_front items now) step.kept _
-        ∙ ap (λ l. extract_front items now ++ l) (sym (split item step).others) ∙ so_far.stays
-
-    -- it yields one more
-    pub sifted_more : (x : T) → Steps (Some x) → Sifted (out ++ x ∷ []) next
-    sifted_more x step = record {
-      same = (split (Some x) step).same;
-      yielded = append_assoc out (x ∷ []) _ ∙ ap (λ l. out ++ l) (sym (split (Some x) step).yielded) ∙ so_far.yielded;
-      stays = front_on (Some x) step;
-      keeps = on (Some x) step;
-    }
-
-    -- it ends, and leaves v
-    module _ (step : Steps None) where
-      none_left : extract_rest items next ≡ []
-      none_left = extracts_all (CalledAtMut g) _ _ _ step.kept _ step.asked
-
-      pub sifted_yielded : out ≡ filter test (extract_rest items first)
-      sifted_yielded =
-          let last : filter test (extract_rest items now) ≡ [] = (split None step).yielded ∙ ap (filter test) none_left in
-          sym (append-nil out) ∙ ap (λ l. out ++ l) (sym last) ∙ so_far.yielded
-
-      module _ (room : V → ℕ) (v : V) (lies : ExtractLies items first) (left : ExtractLies items next → ExtractLeaves items room Truncated next v) where
-        leaves : ExtractLeaves items room Truncated next v
-        leaves = left ((on None step).lies lies)
-
-        pub sifted_left : items v ≡ extract_front items first ++ others (extract_rest items first) ++ extract_back items first
-        sifted_left =
-            leaves.items_are ∙ ap (λ l. extract_front items next ++ l ++ extract_back items next) (none_left ∙ ap others (sym none_left))
-            ∙ ap (λ l. l ++ extract_back items next) (front_on None step) ∙ ap (λ l. extract_front items first ++ others (extract_rest items first) ++ l) (on None step).back
-
-        pub sifted_cut : Truncated (extract_vec first) v
-        sifted_cut = (on None step).cut v leaves.cut

@@ -41,8 +41,8 @@ where
 
     /// Calls `pred` with the items of the range in turn, as far as the iterator is driven, and removes and yields those for
     /// which it returns `true`. The others stay in order, as `pred` left them, and those after the range move down when the
-    /// iterator is dropped. A caller that is generic over `Lent` knows what the vector holds afterwards; one that names
-    /// `SliceVec` does not.
+    /// iterator is dropped. Call it in a function that is generic over `Lent`: the borrow checker does not cover a call that
+    /// names `SliceVec`.
     ///
     /// `not_exhausted` fails only for a `RangeInclusive` that was iterated to its end.
     pub fn extract_if<R: RangeBounds<usize>, F: FnMut(&mut B::Item) -> bool>(
