@@ -2,7 +2,7 @@
 ghost use Rattle.std.specs.Prelude.{◌≡◌, ◌≢◌, ◌+◌, ◌-◌, ◌<◌, ◌≤◌, ◌∷◌, [], ◌++◌, ◌↔◌, length, take, insert, remove, pos, false, IsTrue, IsSome, IsOk, OnOk, OnErr, IfOk, IfSome, IfNone};
 ghost use Rattle.std.specs.Box.{boxed_slice_items};
 ghost use Rattle.tinyvec_array.specs.Slots.{items};
-ghost use Rattle.tinyvec.specs.TinyVec.{tiny_items, tiny_len, tiny_capacity, is_inline, IsInline, Unchanged};
+ghost use Rattle.tinyvec.specs.TinyVec.{tiny_items, tiny_len, tiny_capacity, is_inline, IsInline, StaysInPlace, Unchanged};
 
 use std::alloc::{AllocError, Global};
 use std::boxed::BoxedSlice;
@@ -375,4 +375,19 @@ pub fn both(
 ) -> Result<(TinyVecIterator<[u32; 4]>, TinyVecIterator<[u32; 4]>), AllocError> {
     let copy = items.clone()?;
     Ok((items, copy))
+}
+
+/// An `extract_if` that is dropped before it is driven leaves the list of any vector as it was.
+pub fn undriven<A: Array, F: FnMut(&mut A::Item) -> bool>(v: &mut TinyVec<A>, f: F)
+    ensures { tiny_items v.new ≡ tiny_items v.old }
+{
+    let _chosen = v.extract_if(.., f);
+}
+
+/// The first number above a limit, taken out. The list stays where it lies.
+pub fn first_above(v: &mut TinyVec<[u32; 4]>, limit: u32) -> Option<u32>
+    ensures { StaysInPlace (λ x. x ≡ 0) 4 v.old v.new }
+{
+    let mut chosen = v.extract_if(.., move |x| *x > limit);
+    chosen.next()
 }
