@@ -14,7 +14,6 @@ pub use splice::TinyVecSplice;
 pub use tiny_vec::TinyVec;
 pub use tinyvec_array::{
     Array, ArrayVec, ArrayVecDrain, ArrayVecIterator, ArrayVecSplice, CapacityError, ExtractIf,
-    FromIterRest,
-    NoMemory, NoRoom, SpliceRest, TryFromSliceError, array_vec,
+    FromIterRest, NoMemory, NoRoom, SpliceRest, TryFromSliceError, array_vec,
 };
 pub use tinyvec_slice::{GenericSliceVec, GenericSliceVecDrain, Lent, SliceVec, SliceVecDrain};

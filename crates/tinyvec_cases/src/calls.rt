@@ -151,21 +151,12 @@ fn add_to_each<V: Vector>(v: &mut V, more: i32) {
     }
 }
 
-fn extract_if<V: Vector>(
-    v: &mut V,
-    words: &mut Words<'_>,
-    out: &mut String,
-) -> Result<(), Wrong> {
+fn extract_if<V: Vector>(v: &mut V, words: &mut Words<'_>, out: &mut String) -> Result<(), Wrong> {
     let range = words.span()?;
     let mut closure = Closure::new(words.alloc, words.word());
     let more = words.number()?;
     let count = words.index()?;
-    v.extract_if(
-        range,
-        |x| closure.asks_and_adds(x, more),
-        count,
-        out,
-    )?;
+    v.extract_if(range, |x| closure.asks_and_adds(x, more), count, out)?;
     closure.say(out)
 }
 
