@@ -4,7 +4,7 @@ import pathlib
 import re
 
 FUNCTION = re.compile(r"^( *)(?:pub(?:\([a-z]+\))? )?(?:const )?fn (\w+)", re.M)
-IMPL = re.compile(r"^impl\b(?:<(?:[^<>{]|<[^<>]*>)*>)? (?:(?P<trait>[^{]*?) for )?(?P<type>[^{]*?)(?:\s+where\b[^{]*)?\s*\{", re.M)
+IMPL = re.compile(r"^impl\b(?:<(?:->|[^<>{]|<[^<>]*>)*>)? (?:(?P<trait>[^{]*?) for )?(?P<type>[^{]*?)(?:\s+where\b[^{]*)?\s*\{", re.M)
 TRAIT = re.compile(r"^(?:pub(?:\([a-z]+\))? )?(?P<trait>)trait (?P<type>\w+)", re.M)
 COMMENT = re.compile(r"//[^\n]*")
 # A call: of a method, of what stands in a type or module, or of a plain name.
