@@ -126,7 +126,7 @@ module _ (A : Type 0) (alloc : Global) where
 
   pub example-ExtendsByClones : ExtendsByClones D (record { is_clone = C; is_infallible = I }) 4 (5 ∷ []) (inline (1 ∷ []) (7 ∷ 8 ∷ 0 ∷ [])) (inline (1 ∷ 5 ∷ []) (8 ∷ 0 ∷ [])) done
   example-ExtendsByClones = record {
-    items = (5 ∷ [], refl, refl, tt);
+    items = (5 ∷ [], refl, (refl, tt));
     len = refl;
     if_clones_equal = λ _. refl;
     room = search rules;
