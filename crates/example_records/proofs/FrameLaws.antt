@@ -1,7 +1,7 @@
 -- Records behind their tags are a code, and what ends a stream is no record, and no other end.
 use Rattle.std.proofs.Common.{◌≡◌, ◌≢◌, ◌∙◌, ap, sym, subst, ℕ, inl, inr, List, [], ◌∷◌, ◌++◌, length, refl, arith, Result, Ok, Err, length-append}
 use Rattle.tinyvec_borsh.specs.declared.borsh_error.BorshError.TheVariants.{Ended, InvalidLength}
-use Rattle.tinyvec_borsh.proofs.AtFaults.{length_is_no_end}
+use Rattle.tinyvec_borsh.proofs.AtFaults.{length_is_other}
 use Rattle.tinyvec_borsh.specs.Code.{IsCode}
 use Rattle.tinyvec_borsh.specs.TwoParts.{rest-so}
 use Rattle.tinyvec_borsh.proofs.Tagged.{same-tagged, tagged-code}
@@ -34,7 +34,7 @@ some-byte : (n : ℕ) (x tail : List ℕ) → tail ≡ [] → tail ≡ n ∷ x �
 some-byte n x tail none some = omega (arith, ap length (sym none ∙ some))
 
 cut-or-too-many : (tail x y : List ℕ) → tail ≡ tag ∷ x → tail ≡ tag ∷ y → IsReadingCut x → HasTooManySamples y → ⊥
-cut-or-too-many tail x y p q cut many = length_is_no_end (reading_apart.one_reason InvalidLength Ended tt tt y (long y many) (subst IsReadingCut (same-tagged tag tag x y (sym p ∙ q)).1 cut))
+cut-or-too-many tail x y p q cut many = length_is_other.0 (reading_apart.one_reason InvalidLength Ended tt tt y (long y many) (subst IsReadingCut (same-tagged tag tag x y (sym p ∙ q)).1 cut))
 
 other-tag : (n : ℕ) (tail x y : List ℕ) → n ≢ tag → tail ≡ n ∷ x → tail ≡ tag ∷ y → ⊥
 other-tag n tail x y other p q = other ((same-tagged n tag x y (sym p ∙ q)).0)

@@ -6,7 +6,7 @@ use Rattle.tinyvec_borsh.specs.Number.{SpellsNumber, TooFewBytes}
 use Rattle.tinyvec_borsh.specs.TwoParts.{rest-so}
 use Rattle.tinyvec_borsh.specs.Reading.{Fails, MayBe, ReadsSpelling}
 use Rattle.tinyvec_borsh.specs.Items.{CountsAbove}
-use Rattle.tinyvec_borsh.proofs.AtFaults.{length_is_no_end, utf8_is_no_end}
+use Rattle.tinyvec_borsh.proofs.AtFaults.{length_is_other, utf8_is_other}
 use Rattle.tinyvec_borsh.proofs.Counts.{never-too-long}
 use Rattle.tinyvec_borsh.proofs.ItemByItem.{maybe-any, maybe-behind, maybe-so}
 use Rattle.tinyvec_borsh.proofs.Tagged.{behind-byte, behind-tag}
@@ -19,23 +19,23 @@ use Rattle.example_records.specs.declared.stream_error.StreamError.TheVariants a
 -- no further samples can be too many than those of the record, since no count is above that of a note
 too-many : (input : List ℕ) → IsReadingTooLong input → HasTooManySamples input
 too-many input long = elim long [
-  | inl none ↦ absurd (length_is_no_end none.0)
+  | inl none ↦ absurd (length_is_other.0 none.0)
   | inr s ↦ elim s.is_rest [
     | inl samples ↦ elim samples [
       | inl many ↦ record { content = s.content; fits = s.fits; parts = rest-so s.parts many }
-      | inr item ↦ absurd (length_is_no_end item.left.0)
+      | inr item ↦ absurd (length_is_other.0 item.left.0)
     ]
-    | inr t ↦ absurd (never-too-long (SpellsNumber 1) (λ n. n < 2 ^ 8) (TooFewBytes 1) (CountsAbove 16) (λ input none. length_is_no_end none.0) t.rest t.is_rest)
+    | inr t ↦ absurd (never-too-long (SpellsNumber 1) (λ n. n < 2 ^ 8) (TooFewBytes 1) (CountsAbove 16) (λ input none. length_is_other.0 none.0) t.rest t.is_rest)
   ]
 ]
 
 -- no field is a text
 no-text : (input : List ℕ) → ReadingReason InvalidUtf8 input → ⊥
 no-text input given = elim given [
-  | inl none ↦ utf8_is_no_end none.0
+  | inl none ↦ utf8_is_other.0 none.0
   | inr s ↦ elim s.is_rest [
-    | inl samples ↦ elim samples [ inl none ↦ none | inr item ↦ utf8_is_no_end item.left.0 ]
-    | inr t ↦ elim t.is_rest [ inl none ↦ none | inr item ↦ utf8_is_no_end item.left.0 ]
+    | inl samples ↦ elim samples [ inl none ↦ none | inr item ↦ utf8_is_other.0 item.left.0 ]
+    | inr t ↦ elim t.is_rest [ inl none ↦ none | inr item ↦ utf8_is_other.0 item.left.0 ]
   ]
 ]
 
