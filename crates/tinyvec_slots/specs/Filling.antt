@@ -1,6 +1,10 @@
--- Items asked of an iterator, as long as there is room.
-use Rattle.std.specs.Prelude.{◌≡◌, ℕ, ◌<◌, ◌≤◌, ◌↔◌, List, ◌∷◌, length, take, drop, Option, Some, None, Result, IsOk, IfErr, MatchResult}
+-- Items asked of an iterator, as long as there is room, and what the iterators of a list yield.
+use Rattle.std.specs.Prelude.{◌≡◌, ℕ, ◌^◌, ◌<◌, ◌≤◌, ◌↔◌, List, ◌∷◌, length, take, drop, Option, Some, None, Result, IsOk, IfErr, MatchResult}
 use Rattle.std.specs.Iterator.{Yields, YieldsThen, YieldsFirst, AlwaysYields, Drains}
+use Rattle.std.specs.Iterator.Adapters.{IterYieldsInOrder, IterYieldsInReverse, IterMutYieldsInOrder, IterMutYieldsInReverse}
+use Rattle.std.specs.Slice.Iter.{iter_rest, iter_mut_rest}
+use Rattle.std.specs.declared.slice.Iter.{Iter}
+use Rattle.std.specs.declared.slice.IterMut.{IterMut}
 use Rattle.tinyvec_slots.specs.declared.no_room.NoRoom.{NoRoom}
 
 -- Calls of `next` from s yielded xs and left u. They stopped at n items, or at `None` if fewer came.
@@ -34,3 +38,19 @@ module _ {U S A : Type 0} (becomes : U → S → Type 0) (steps : S → Option A
         → (it : S) × becomes iter it × (IsOk r ↔ (length (rest it) ≤ n)) × Adds (take n (rest it))
         × IfErr r (λ refused. drop n (rest it) ≡ refused.item ∷ rest refused.rest)
     pub known : (xs : List A) → IntoIterYields becomes steps iter xs → length xs ≤ n → IsOk r × Adds xs
+
+-- the items that an iterator has left are xs, whose number fits a `usize`, and each run yields them, in order or in reverse
+pub record Iterates {T : Type 0} (xs : List T) (it : Iter T) : Type 0 where
+  pub rest : iter_rest it ≡ xs
+  pub len : length (iter_rest it) ≡ length xs
+  pub bound : length (iter_rest it) < 2 ^ 64
+  pub runs : IterYieldsInOrder T
+  pub runs_back : IterYieldsInReverse T
+
+-- the same of an iterator for writing
+pub record IteratesMut {T : Type 0} (xs : List T) (it : IterMut T) : Type 0 where
+  pub rest : iter_mut_rest it ≡ xs
+  pub len : length (iter_mut_rest it) ≡ length xs
+  pub bound : length (iter_mut_rest it) < 2 ^ 64
+  pub runs : IterMutYieldsInOrder T
+  pub runs_back : IterMutYieldsInReverse T

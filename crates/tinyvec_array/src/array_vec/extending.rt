@@ -1,8 +1,8 @@
 //! Growing by other lists, by clones, by iterators and by closures.
 ghost use Rattle.std.specs.Prelude.{◌≡◌, ◌+◌, ◌-◌, ◌≤◌, ◌++◌, ℕ, length, take, drop, IsOk, OnOk, OnErr, ◌<◌, ◌↔◌, [], IsSome, IfSome, IfNone, IfOk, IfErr, MatchResult, ◌∷◌, List, Some, replicate};
-ghost use Rattle.std.specs.List.{AppendsClones, AppendsResults};
-ghost use Rattle.tinyvec_slots.specs.Slots.{items, spare, items_len, AreDefaults, SlotRule, Gains, Loses};
-ghost use Rattle.tinyvec_slots.specs.Clones.{ClonesAreEqual, ClonesOver, AddsClones};
+ghost use Rattle.std.specs.List.{AppendsResults};
+ghost use Rattle.tinyvec_slots.specs.Slots.{items, spare, items_len, AreDefaults, SlotRule, Gains, Loses, Grows};
+ghost use Rattle.tinyvec_slots.specs.Clones.{AddsClones, ResizesByClones};
 ghost use Rattle.tinyvec_slots.specs.Ranges.{IsRangeOf, removed};
 ghost use Rattle.std.specs.Iterator.{Drains, YieldsThen};
 ghost use Rattle.tinyvec_slots.specs.Filling.{ShowsItems, IntoIterYields, Fills, Extends};
@@ -129,8 +129,7 @@ impl<A: Array> ArrayVec<A> {
         requires { (it : I.IntoIter) → I.into_iter_gives iter it → I.IntoIter.can_next it }
         ensures items { Fills I.into_iter_gives I.IntoIter.next_gives iter (A.CAPACITY - items_len self.old)
             (λ xs. items self.new ≡ items self.old ++ xs) result }
-        ensures spare { spare self.new ≡ drop (items_len self.new - items_len self.old) (spare self.old) }
-        ensures fits { items_len self.new ≤ A.CAPACITY }
+        ensures grows { Grows A.CAPACITY self.old self.new }
 
         // An iterator that stopped at a full vector can be iterated further.
         ensures goes_on { items_len self.new ≡ A.CAPACITY → I.IntoIter.can_next result }
@@ -155,8 +154,7 @@ impl<A: Array> ArrayVec<A> {
         ensures items { Extends I.into_iter_gives I.IntoIter.next_gives iter (A.CAPACITY - items_len self.old)
             (λ xs. items self.new ≡ items self.old ++ xs) result }
         ensures full { OnErr result (items_len self.new ≡ A.CAPACITY) }
-        ensures spare { spare self.new ≡ drop (items_len self.new - items_len self.old) (spare self.old) }
-        ensures fits { items_len self.new ≤ A.CAPACITY }
+        ensures grows { Grows A.CAPACITY self.old self.new }
 
         // The returned iterator can be iterated further.
         ensures goes_on { IfErr result (λ refused. I.IntoIter.can_next refused.rest) }
@@ -213,21 +211,11 @@ impl<A: Array> ArrayVec<A> {
     where
         A::Item: Clone,
         requires room { new_len ≤ A.CAPACITY }
-        ensures items { OnOk result (AppendsClones A.Item.is_clone (take new_len (items self.old)) (items self.new)
-            (replicate (new_len - items_len self.old) value)) }
-        ensures len { OnOk result (items_len self.new ≡ new_len) }
-        ensures if_clones_equal { OnOk result (ClonesAreEqual A.Item.is_clone
-            → items self.new ≡ take new_len (items self.old) ++ replicate (new_len - items_len self.old) value) }
+        ensures resized { ResizesByClones A.Item.Clone new_len value result self.old self.new }
         ensures slot_rule { OnOk result (SlotRule A.Item.is_default self.old self.new) }
         ensures value_returned { IfErr result (λ refused. refused.0 ≡ value) }
-        ensures kept { OnErr result (items self.new ≡ items self.old) }
-
-        // The first `j` spare slots hold the clones made.
-        ensures refused { OnErr result ((j : ℕ) × (j < new_len - items_len self.old) × ¬ (A.Item.is_infallible value)
-            × ClonesOver A.Item.is_clone (replicate j value) j (spare self.old) (spare self.new)) }
         ensures fits { items_len self.new ≤ A.CAPACITY }
         ensures cuts { new_len ≤ items_len self.old → IsOk result }
-        ensures succeeds { A.Item.is_infallible value → IsOk result }
     {
         let len = self.len();
         if new_len <= len {

@@ -55,7 +55,7 @@ returns-in-Ok-clause-spare g c =
     let n = items_len c.extend.new.self - items_len c.new-vec.result in
     let none = ap length c.new-vec.ensures.items in
     let long = length-drop n (spare c.new-vec.result) in
-    rw c.in-Ok.ensures.spare (omega (arith, none, long, made.0), All-drop g.A.Item.Default.is_default n (spare c.new-vec.result) made.1)
+    rw c.in-Ok.ensures.grows.spare (omega (arith, none, long, made.0), All-drop g.A.Item.Default.is_default n (spare c.new-vec.result) made.1)
 
 pub returns-in-Err-clause-full : goal.returns-in-Err-clause-full
 returns-in-Err-clause-full g c =
@@ -63,4 +63,4 @@ returns-in-Err-clause-full g c =
     let n = items_len c.extend.new.self - items_len c.new-vec.result in
     let none = ap length c.new-vec.ensures.items in
     let full = c.in-Err.ensures.full in
-    (full, c.in-Err.ensures.spare ∙ drop_all n (spare c.new-vec.result) (omega (arith, none, full, made.0)))
+    (full, c.in-Err.ensures.grows.spare ∙ drop_all n (spare c.new-vec.result) (omega (arith, none, full, made.0)))
