@@ -1,15 +1,14 @@
 //! The splice: what replaces a range of items by those of an iterator.
-ghost use Rattle.std.specs.Prelude.{◌≡◌, length, false, codes, Some, IfSome, ◌+◌, ◌-◌, ◌*◌, ◌<◌, ◌≤◌, ◌++◌, List, IfErr, ◌↔◌, MatchResult, IsOk, OnOk, OnErr, refl};
+ghost use Rattle.std.specs.Prelude.{◌≡◌, length, false, codes, Some, IfSome, ◌+◌, ◌-◌, ◌<◌, ◌≤◌, ◌++◌, List, IfErr, ◌↔◌, MatchResult, IsOk, OnOk, OnErr, refl};
 ghost use Rattle.std.specs.Fmt.{debug_list, debug_variant};
 ghost use Rattle.std.specs.Iterator.{UpTo, MakesProgress, at_most, Drains, YieldsThen};
 ghost use Rattle.std.specs.Iterator.Adapters.{fuse_done, fuse_source, fuse_steps};
 ghost use Rattle.std.specs.Iterator.SizeHint.{IsWithinCount};
 ghost use Rattle.tinyvec_slots.specs.Slots.{items, items_len, SlotRule, Changes};
 ghost use Rattle.tinyvec_slots.specs.Ranges.{IsRangeOf, before, removed, after};
-ghost use Rattle.tinyvec_slots.specs.Filling.{ShowsItems, IntoIterYields};
-ghost use Rattle.tinyvec_slots.specs.Fused.{FusedCan, fused_rest};
-ghost use Rattle.tinyvec_slots.specs.Replacing.{FusedYields, PutsBetween};
-ghost use Rattle.tinyvec_slots.specs.AnySplice.{finish_placed, finish_bound, Finishes, FinishesWith};
+ghost use Rattle.tinyvec_slots.specs.Filling.{IntoIterYields};
+ghost use Rattle.tinyvec_slots.specs.Fused.{FusedCan};
+ghost use Rattle.tinyvec_slots.specs.Replacing.{PutsBetween};
 ghost use Rattle.std.proofs.Common.{le_refl};
 
 use crate::{Array, ArrayVec, CapacityError, NoRoom, SpliceRest};

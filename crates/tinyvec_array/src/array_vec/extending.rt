@@ -1,5 +1,5 @@
 //! Growing by other lists, by clones, by iterators and by closures.
-ghost use Rattle.std.specs.Prelude.{◌≡◌, ◌+◌, ◌-◌, ◌≤◌, ◌++◌, ℕ, length, take, drop, IsOk, OnOk, OnErr, ◌<◌, ◌↔◌, [], IsSome, IfSome, IfNone, IfOk, IfErr, MatchResult, ◌∷◌, List, Some, replicate};
+ghost use Rattle.std.specs.Prelude.{◌≡◌, ◌+◌, ◌-◌, ◌≤◌, ◌++◌, length, take, drop, IsOk, OnOk, OnErr, ◌<◌, ◌↔◌, [], IsSome, IfSome, IfNone, IfOk, IfErr, MatchResult, ◌∷◌, List, Some};
 ghost use Rattle.std.specs.List.{AppendsResults};
 ghost use Rattle.tinyvec_slots.specs.Slots.{items, spare, items_len, AreDefaults, SlotRule, Gains, Loses, Grows};
 ghost use Rattle.tinyvec_slots.specs.Clones.{AddsClones, ResizesByClones};

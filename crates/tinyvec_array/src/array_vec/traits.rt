@@ -1,5 +1,5 @@
 //! Comparisons, hashes, texts, writers, indexing and iteration.
-ghost use Rattle.std.specs.Prelude.{◌≡◌, ◌<◌, slice_index_or, ◌^◌, List, length, true, false, ◌+◌, ◌-◌, ◌≤◌, ◌↔◌, ◌++◌, drop, IsOk, OnOk, OnErr};
+ghost use Rattle.std.specs.Prelude.{◌≡◌, ◌<◌, slice_index_or, List, length, true, false, ◌+◌, ◌-◌, ◌≤◌, ◌↔◌, ◌++◌, drop, IsOk, OnOk, OnErr};
 ghost use Rattle.std.specs.Borrow.{sem};
 ghost use Rattle.tinyvec_slots.specs.Slots.{items, spare, items_len, with_items};
 ghost use Rattle.tinyvec_slots.specs.Filling.{Iterates, IteratesMut};

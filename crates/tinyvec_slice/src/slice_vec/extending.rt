@@ -1,5 +1,5 @@
 //! Growing by other lists, by clones, by iterators and by closures.
-ghost use Rattle.std.specs.Prelude.{◌≡◌, ◌+◌, ◌≤◌, ◌++◌, ℕ, length, take, drop, IsOk, OnOk, OnErr, [], ◌-◌, ◌∷◌, List, IfErr, Some, ◌<◌, replicate, reverse};
+ghost use Rattle.std.specs.Prelude.{◌≡◌, ◌+◌, ◌≤◌, ◌++◌, length, take, drop, IsOk, OnOk, OnErr, [], ◌-◌, ◌∷◌, List, IfErr, Some, ◌<◌, reverse};
 ghost use Rattle.std.specs.List.{AppendsResults};
 ghost use Rattle.tinyvec_slots.specs.Clones.{AddsClones, ResizesByClones, CutsToClones};
 ghost use Rattle.tinyvec_slice.specs.SliceVec.{items_of, spare_of, len_of, slots_of, view_of, SameLender, Gains, Loses, Grows};
@@ -103,11 +103,13 @@ impl<B: Lent> GenericSliceVec<B> {
         B::Item: Clone,
         requires room { new_len ≤ length (slots_of B.Lent self.old) }
         ensures lender { SameLender B.Lent self.old self.new }
+        ensures len { OnOk result (len_of B.Lent self.new ≡ new_len) }
         ensures grown { len_of B.Lent self.old < new_len
             → ResizesByClones B.Item.Clone new_len value result (view_of B.Lent self.old) (view_of B.Lent self.new) }
         ensures cut { new_len ≤ len_of B.Lent self.old
             → CutsToClones B.Item.Clone new_len value result (view_of B.Lent self.old) (view_of B.Lent self.new) }
         ensures value_returned { IfErr result (λ refused. refused.0 ≡ value) }
+        ensures succeeds { B.Item.is_infallible value → IsOk result }
     {
         let len = self.len();
         if new_len <= len {

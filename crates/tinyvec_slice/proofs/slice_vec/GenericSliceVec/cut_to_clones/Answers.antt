@@ -1,4 +1,4 @@
-use Rattle.std.proofs.Common.{[], ◌-◌, ◌<◌, ◌≡◌, length, take, replicate, refl, sym, ap, subst, ◌∙◌, le_refl, arith, take_all}
+use Rattle.std.proofs.Common.{[], ◌-◌, ◌<◌, ◌≡◌, length, take, replicate, refl, sym, ap, subst, ◌∙◌, le_refl, arith, take_all, rules}
 use Rattle.std.specs.List.{AllZip}
 use Rattle.tinyvec_slots.proofs.CloneLemmas.{on_err}
 use Rattle.tinyvec_slots.specs.Clones.{ClonesBefore}
