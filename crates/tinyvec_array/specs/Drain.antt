@@ -60,8 +60,8 @@ module _ {A T : Type 0} where
   abbrev pub DrainsFromEnds : ArrayVecDrain A T → Type 0
   DrainsFromEnds = TakesAnyWord drain_items DrainKeeps
 
-  -- d took xs out of the list of v, which is in so many slots, and left `others`. It yields xs from both ends. Once it is dropped,
-  -- the vacated slots precede the old spare slots.
+  -- d took xs out of the list of v, and left `others`. It yields xs from both ends. Once it is dropped, the vacated slots precede
+  -- the old spare slots. The old list fits in the slots.
   pub record DrainBegins (slots : ℕ) (v : MutBor (Slots T)) (xs others : List T) (d : ArrayVecDrain A T) : Type 0 where
     pub rest : drain_items d ≡ xs
     pub len : drain_len d ≡ length (drain_items d)

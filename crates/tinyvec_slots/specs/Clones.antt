@@ -68,8 +68,8 @@ pub record AddsAllOrNone {T R E : Type 0} (C : T → T → Type 0) (xs : List T)
   pub spare : OnOk r (spare_of new ≡ drop (length xs) (spare_of old))
   pub kept : OnErr r (list_of new ≡ list_of old)
 
--- A call that was to cut the list to n items, or to fill it up to n with clones of x, over the spare slots behind it, returned r
--- and took `old` to `new`.
+-- A call that was to make the list n items long returned r and took `old` to `new`. It cuts the list, or writes clones of x over
+-- the spare slots behind it.
 pub record ResizesByClones {T R E : Type 0} (g : Clone.Ghosts T) (n : ℕ) (x : T) (r : Result R E) (old new : Slots T) : Type 0 where
   pub items : OnOk r (AppendsClones g.is_clone (take n (list_of old)) (list_of new) (replicate (n - items_len old) x))
   pub len : OnOk r (items_len new ≡ n)

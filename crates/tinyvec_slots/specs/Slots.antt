@@ -67,7 +67,7 @@ module _ {T : Type 0} where
     pub bound : items_len new ≤ items_len old
     pub spare : Vacates D (items_len old - items_len new) old new
 
-  -- The same in so many slots, in which the list fits.
+  -- A call that only removes items took `old` to `new` as `Shortens` says, and the list fits in the slots.
   pub record ShortensIn (D : T → Type 0) (slots : ℕ) (old new : Slots T) : Type 0 where
     pub bound : items_len new ≤ items_len old
     pub spare : Vacates D (items_len old - items_len new) old new

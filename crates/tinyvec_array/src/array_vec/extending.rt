@@ -1,11 +1,10 @@
 //! Growing by other lists, by clones, by iterators and by closures.
-ghost use Rattle.std.specs.Prelude.{◌≡◌, ◌+◌, ◌-◌, ◌≤◌, ◌++◌, length, take, drop, IsOk, OnOk, OnErr, ◌<◌, ◌↔◌, [], IsSome, IfSome, IfNone, IfOk, IfErr, MatchResult, ◌∷◌, List, Some};
+ghost use Rattle.std.specs.Prelude.{◌≡◌, ◌+◌, ◌-◌, ◌≤◌, ◌++◌, length, take, IsOk, OnOk, OnErr, ◌<◌, ◌↔◌, [], IsSome, IfSome, IfNone, IfOk, IfErr, MatchResult, Some};
 ghost use Rattle.std.specs.List.{AppendsResults};
 ghost use Rattle.tinyvec_slots.specs.Slots.{items, spare, items_len, AreDefaults, SlotRule, Gains, Loses, Grows};
 ghost use Rattle.tinyvec_slots.specs.Clones.{AddsClones, ResizesByClones};
 ghost use Rattle.tinyvec_slots.specs.Ranges.{IsRangeOf, removed};
-ghost use Rattle.std.specs.Iterator.{Drains, YieldsThen};
-ghost use Rattle.tinyvec_slots.specs.Filling.{ShowsItems, IntoIterYields, Fills, Extends};
+ghost use Rattle.tinyvec_slots.specs.Filling.{Fills, Extends, Collects};
 
 use crate::{Array, ArrayVec, FromIterRest, NoMemory, NoRoom};
 use std::alloc::AllocError;
@@ -175,28 +174,13 @@ impl<A: Array> ArrayVec<A> {
         iter: I,
     ) -> Result<Self, FromIterRest<Self, A::Item, I::IntoIter>>
         requires { (it : I.IntoIter) → I.into_iter_gives iter it → I.IntoIter.can_next it }
-        ensures ran { (it : I.IntoIter) × (xs : List A.Item) × I.into_iter_gives iter it
-            × MatchResult result (λ v. Drains I.IntoIter.next_gives it xs × (items v ≡ xs))
-            (λ refused. YieldsThen I.IntoIter.next_gives it xs (Some refused.item) refused.rest
-            × (items refused.vec ≡ xs)) }
+        ensures items { Collects I.into_iter_gives I.IntoIter.next_gives iter A.CAPACITY (λ v xs. items v ≡ xs) result }
         ensures full { IfErr result (λ refused. (items_len refused.vec ≡ A.CAPACITY) × (spare refused.vec ≡ [])) }
         ensures spare { IfOk result (λ v. AreDefaults A.Item.is_default (A.CAPACITY - items_len v) (spare v)) }
         ensures fits { IfOk result (λ v. items_len v ≤ A.CAPACITY) }
 
         // The returned iterator can be iterated further.
         ensures goes_on { IfErr result (λ refused. I.IntoIter.can_next refused.rest) }
-
-        // The same for an iterator of which `rest` shows the remaining items.
-        ensures listed { (rest : I.IntoIter → List A.Item) → ShowsItems I.IntoIter.next_gives rest
-            → (it : I.IntoIter) × I.into_iter_gives iter it
-            × (IsOk result ↔ (length (rest it) ≤ A.CAPACITY))
-            × MatchResult result (λ v. items v ≡ rest it)
-            (λ refused. (items refused.vec ≡ take A.CAPACITY (rest it))
-            × (drop A.CAPACITY (rest it) ≡ refused.item ∷ rest refused.rest)) }
-
-        // For items that are known, and that fit.
-        ensures known { (xs : List A.Item) → IntoIterYields I.into_iter_gives I.IntoIter.next_gives iter xs
-            → length xs ≤ A.CAPACITY → IsOk result × IfOk result (λ v. items v ≡ xs) }
     {
         let mut vec = ArrayVec::new();
         match vec.extend(iter) {
