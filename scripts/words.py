@@ -1,5 +1,6 @@
 #!/usr/bin/env -S python3 -B
-"""Writes docs/reference/WORDS.md: each word that a contract of the reference cites, what it means, and an example.
+"""Writes docs/reference/WORDS.md: each word that a contract of the reference cites, what it means, and an example. A word that
+the definition of such a word cites is told too, if it has an example.
 
 usage: scripts/words.py
 
@@ -53,17 +54,25 @@ class Words:
     def __init__(self):
         found = [it for entries in reference.Library().pages.values() for it in entries if not it.is_part]
         self.cited = dict.fromkeys(word for it in found for word in it.words())
-        self.files = sorted({path for path, _ in self.cited if not path.startswith("std.")}, key=lambda it: (exports.LIBRARIES.index(it.split(".")[0]), it))
-        self.defined = {(path, it.name): it for path in self.files for it in words_of(source_of(path))}
         self.examples = {}
         for file in sorted((TOP / EXAMPLES).glob("*.antt")):
             text = file.read_text(encoding="utf-8")
             known = exports.imported(text)
             of = lambda path, name: (path, name) if path else known.get(name, (file.stem, name))
             self.examples.update({of(path, name): (file, plain(shown)) for path, name, shown in EXAMPLE.findall(text)})
+        self.define()
+        for path, name in [it for it in self.cited if it in self.defined]:
+            known = exports.imported(source_of(path).read_text(encoding="utf-8"))
+            named = [known.get(it, (path, it)) for it in re.findall(r"\w+", self.defined[path, name].text)]
+            self.cited.update(dict.fromkeys(it for it in named if it in self.examples))
+        self.define()
         self.above = PAGE.read_text(encoding="utf-8").partition(MARK)[0]
         # The first word whose row says this.
         self.first = {}
+
+    def define(self):
+        self.files = sorted({path for path, _ in self.cited if not path.startswith("std.")}, key=lambda it: (exports.LIBRARIES.index(it.split(".")[0]), it))
+        self.defined = {(path, it.name): it for path in self.files for it in words_of(source_of(path))}
 
     def page(self):
         return self.above + MARK + "".join(self.section(it) for it in self.files) + "\n"
@@ -133,6 +142,7 @@ class Word:
     def __init__(self, found, comment, lines):
         """`lines` are those after the word's first, up to the next word."""
         self.name, self.kind = found["name"], found["kind"]
+        self.text = "\n".join([found["rest"], *lines])
         self.comment = comment.strip().rstrip(".")
         body = [it for it in lines if len(it) - len(it.lstrip()) > len(found["indent"])]
         head = found["rest"]

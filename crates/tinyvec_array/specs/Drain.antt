@@ -1,7 +1,8 @@
 -- What a contract sees of an `ArrayVecDrain`.
 use Rattle.std.specs.Prelude.{◌≡◌, ℕ, ◌-◌, ◌≤◌, List, ◌++◌, length, drop, slice_range, Option}
-use Rattle.std.specs.Borrow.{GName}
-use Rattle.tinyvec_slots.specs.Slots.{Slots, AreDefaults, items, spare}
+use Rattle.std.specs.Borrow.{GName, MutBor}
+use Rattle.std.specs.Iterator.Runs.{YieldsInOrder, YieldsInReverse}
+use Rattle.tinyvec_slots.specs.Slots.{Slots, AreDefaults, items, spare, items_len}
 use Rattle.tinyvec_slots.specs.AnyDrain.{Steps, StepsBack, TakesAnyWord}
 use Rattle.tinyvec_array.specs.declared.drain.ArrayVecDrain.{ArrayVecDrain}
 
@@ -58,3 +59,18 @@ module _ {A T : Type 0} where
   -- any calls of `next` and `next_back` take from the two ends of the remaining items
   abbrev pub DrainsFromEnds : ArrayVecDrain A T → Type 0
   DrainsFromEnds = TakesAnyWord drain_items DrainKeeps
+
+  -- d took xs out of the list of v, and left `others`. It yields xs from both ends. Once it is dropped, the vacated slots precede
+  -- the old spare slots. The old list fits in the slots.
+  pub record DrainBegins (slots : ℕ) (v : MutBor (Slots T)) (xs others : List T) (d : ArrayVecDrain A T) : Type 0 where
+    pub rest : drain_items d ≡ xs
+    pub len : drain_len d ≡ length (drain_items d)
+    pub ready : DrainCanStep d
+    pub runs : YieldsInOrder DrainSteps drain_items
+    pub runs_back : YieldsInReverse DrainStepsBack drain_items
+    pub both_ends : DrainsFromEnds d
+    pub fits : items_len v.now ≤ slots
+    pub same_reference : drain_lender d ≡ v.ghost_name
+    pub kept : drain_kept d ≡ others
+    pub count : drain_count d ≡ length (drain_items d)
+    pub spare : drain_spare d ≡ spare v.now

@@ -19,6 +19,9 @@ module _ {T : Type 0} where
       → RunsWord GivesFirst GivesLast left word answers later → TakesFromEnds left word answers later
 
   -- the items that are left are xs, whose number fits a `usize`, and each run yields them, in order or in reverse
-  abbrev pub IteratesOver : List T → List T → Type 0
-  IteratesOver xs left = (left ≡ xs) × (length left < 2 ^ 64)
-      × YieldsInOrder GivesFirst (λ left. left) × YieldsInReverse GivesLast (λ left. left)
+  pub record IteratesOver (xs left : List T) : Type 0 where
+    pub rest : left ≡ xs
+    pub bound : length left < 2 ^ 64
+    pub runs : YieldsInOrder GivesFirst (λ left. left)
+    pub runs_back : YieldsInReverse GivesLast (λ left. left)
+    pub both_ends : GivesFromEnds left

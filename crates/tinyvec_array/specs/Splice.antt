@@ -1,12 +1,16 @@
 -- What a contract sees of an `ArrayVecSplice`, and what its calls do to it.
-use Rattle.std.specs.Prelude.{◌≡◌, ℕ, List, Option}
-use Rattle.std.specs.Borrow.{GName}
+use Rattle.std.specs.Prelude.{◌≡◌, ℕ, ◌+◌, ◌-◌, ◌*◌, ◌<◌, ◌≤◌, false, List, length, Option, Result, IfErr}
+use Rattle.std.specs.Borrow.{GName, MutBor}
 use Rattle.std.specs.declared.iter.Fuse.{Fuse}
-use Rattle.std.specs.Iterator.Adapters.{fuse_done}
-use Rattle.tinyvec_slots.specs.Fused.{FusedCan}
+use Rattle.std.specs.declared.iter.Iterator as Iterator
+use Rattle.std.specs.Iterator.Adapters.{fuse_done, fuse_source, fuse_steps}
+use Rattle.tinyvec_slots.specs.Filling.{ShowsItems}
+use Rattle.tinyvec_slots.specs.Fused.{FusedCan, fused_rest}
+use Rattle.tinyvec_slots.specs.Replacing.{FusedYields, PutsBetween}
+use Rattle.tinyvec_slots.specs.declared.no_room.SpliceRest.{SpliceRest}
 use Rattle.tinyvec_slots.specs.Gap.{gap_len, gap_view, GapCanStep}
-use Rattle.tinyvec_slots.specs.Slots.{Slots, items, spare, items_len}
-use Rattle.tinyvec_slots.specs.AnySplice.{SpliceView, Splices, SplicesBack}
+use Rattle.tinyvec_slots.specs.Slots.{Slots, SlotRule, items, spare, items_len}
+use Rattle.tinyvec_slots.specs.AnySplice.{SpliceView, Splices, SplicesBack, Finishes, FinishesWith, finish_placed, finish_bound}
 use Rattle.tinyvec_array.specs.declared.splice.ArrayVecSplice.{ArrayVecSplice}
 
 module _ {A I T : Type 0} where
@@ -53,6 +57,39 @@ SpliceCanStep s = GapCanStep s.gap (fuse_done s.replacement) (items_len (splice_
 -- the removed items that are left are in the list, and `next` of the replacement may be called
 abbrev pub SpliceCanNext : {A I T : Type 0} → (I → Type 0) → ArrayVecSplice A (Fuse I) T → Type 0
 SpliceCanNext can s = SpliceCanStep s × FusedCan can s.replacement
+
+-- s replaces the items `gone` of the list of v, which are between `ahead` and `behind`, by what `iter` becomes
+pub record SpliceBegins {A U I T : Type 0} (becomes : U → I → Type 0) (v : MutBor (Slots T)) (ahead gone behind : List T) (iter : U) (s : ArrayVecSplice A (Fuse I) T) : Type 0 where
+  pub front : splice_front s ≡ ahead
+  pub left : splice_left s ≡ gone
+  pub len : splice_len s ≡ length (splice_left s)
+  pub back : splice_back s ≡ behind
+  pub replacement : becomes iter (fuse_source (splice_replacement s))
+  pub unasked : fuse_done (splice_replacement s) ≡ false
+  pub touches : splice_touches s ≡ 0
+  pub slots : splice_slots s ≡ v.now
+  pub same_reference : splice_lender s ≡ v.ghost_name
+  pub ready : SpliceCanStep s
+
+-- `finish` of s returned the result, and left v. The last two are of a replacement that shows its items, and of one whose items
+-- are known, as those of a `Vec`, a range or a slice.
+pub record SpliceEnds {A I T : Type 0} (D : T → Type 0) (slots : ℕ) (iter : Iterator.Ghosts I T) (s : ArrayVecSplice A (Fuse I) T) (result : Result Unit (SpliceRest T (Fuse I))) (v : Slots T) : Type 0 where
+  pub finished : Finishes (fuse_steps iter.next_gives) slots (splice_view s) result (items v)
+  pub slot_rule : SlotRule D (splice_slots s) v
+  -- the returned replacement can be iterated further
+  pub goes_on : IfErr result (λ refused. FusedCan iter.can_next refused.rest)
+  pub listed : (rest : I → List T) → ShowsItems iter.next_gives rest → FinishesWith (fused_rest rest) slots (splice_view s) result (items v)
+  pub known : (xs : List T) → FusedYields iter.next_gives (splice_replacement s) xs
+      → PutsBetween slots (splice_front s) xs (splice_back s) result (items v)
+
+-- `finish` of s left this list, and there were n touches since `splice`. Exact for a list that did not grow: two touches for each
+-- item placed in a filled gap, and one more for each slot after a closed one.
+pub record CountsTouches {A I T : Type 0} (s : ArrayVecSplice A I T) (list : List T) (n : ℕ) : Type 0 where
+  pub filled : length list ≡ items_len (splice_slots s) → n ≡ splice_touches s + 2 * finish_placed (splice_view s) list
+  pub closed : length list < items_len (splice_slots s)
+      → n ≡ splice_touches s + finish_placed (splice_view s) list + (items_len (splice_slots s) - length (splice_front s))
+  pub at_least : splice_touches s + finish_placed (splice_view s) list ≤ n
+  pub at_most : n ≤ splice_touches s + finish_bound (splice_view s) (items_len (splice_slots s)) list
 
 module _ {A I T : Type 0} where
   -- old and new borrow the same vector. Its list in the array is as long, and its spare slots are the same.

@@ -1,13 +1,11 @@
 //! `ArrayVec`.
 ghost use Rattle.std.specs.Prelude.{◌≡◌, ◌+◌, ◌<◌, ◌≤◌, ◌^◌, ◌==◌, length, List, slice_index_or, slice_set, slice_range, ◌++◌, ◌-◌, drop, ◌↔◌, [], ℕ, All, IfOk, IfErr, IsErr, IsOk};
-ghost use Rattle.std.specs.List.{remove_range, AllZip};
+ghost use Rattle.std.specs.List.{remove_range};
 ghost use Rattle.tinyvec_slots.specs.Slots.{items, spare, items_len, all_slots, split_at, AreDefaults, with_items};
-ghost use Rattle.tinyvec_slots.specs.Clones.{RefusedAt, ClonesAreEqual};
+ghost use Rattle.tinyvec_slots.specs.Clones.{RefusedAt, AreClones};
 ghost use Rattle.tinyvec_slots.specs.Ranges.{Within};
 ghost use Rattle.std.specs.Borrow.{sem};
-ghost use Rattle.std.specs.Slice.Iter.{iter_rest, iter_mut_rest, iter_mut_steps, iter_mut_steps_back};
-ghost use Rattle.std.specs.Iterator.Adapters.{IterYieldsInOrder, IterYieldsInReverse};
-ghost use Rattle.std.specs.Iterator.Runs.{EveryRun, ItemsMapTo, ItemsMapToReversed};
+ghost use Rattle.tinyvec_slots.specs.Filling.{Iterates, IteratesMut};
 
 mod clones;
 mod edits;
@@ -241,9 +239,7 @@ impl<A: Array> ArrayVec<A> {
     pub fn try_from_slice(slice: &[A::Item]) -> Result<Self, TryFromSliceError>
     where
         A::Item: Clone,
-        ensures items { IfOk result (λ v. AllZip A.Item.is_clone slice.now (items v)) }
-        ensures len { IfOk result (λ v. items_len v ≡ length slice.now) }
-        ensures if_clones_equal { IfOk result (λ v. ClonesAreEqual A.Item.is_clone → items v ≡ slice.now) }
+        ensures items { IfOk result (λ v. AreClones A.Item.is_clone slice.now (items v)) }
         ensures spare { IfOk result (λ v. AreDefaults A.Item.is_default (A.CAPACITY - length slice.now) (spare v)) }
         ensures too_long { (result ≡ Err TryFromSliceError.TooLong) ↔ (A.CAPACITY < length slice.now) }
         ensures memory { result ≡ Err TryFromSliceError.Memory → (j : ℕ) × RefusedAt A.Item.is_infallible slice.now j }
@@ -292,11 +288,7 @@ impl<A: Array> ArrayVec<A> {
 
     /// Iterates over the items, in order or from the back.
     pub fn iter(&self) -> slice::Iter<'_, A::Item>
-        ensures rest { iter_rest result ≡ items self.now }
-        ensures len { length (iter_rest result) ≡ items_len self.now }
-        ensures bound { length (iter_rest result) < 2 ^ 64 }
-        ensures runs { IterYieldsInOrder A.Item }
-        ensures runs_back { IterYieldsInReverse A.Item }
+        ensures { Iterates (items self.now) result }
     {
         self.as_slice().iter()
     }
@@ -305,17 +297,10 @@ impl<A: Array> ArrayVec<A> {
     /// spare slots, and after one over `as_mut_slice().iter_mut()` the items too.
     pub fn iter_mut(&mut self) -> slice::IterMut<'_, A::Item>
         ensures* writes_back { sem 𝓛 (lends_iter A.row A.Item.row A.Array A.Item.Default self.entry result) }
-        ensures rest { iter_mut_rest result ≡ items self.old }
-        ensures len { length (iter_mut_rest result) ≡ items_len self.old }
-        ensures bound { length (iter_mut_rest result) < 2 ^ 64 }
+        ensures yields { IteratesMut (items self.old) result }
 
         // Whatever is written, the list is as long as it was.
         ensures keeps_len { (ws : List A.Item) → items_len (with_items self.old ws) ≡ items_len self.old }
-
-        // It lends the items in order, or from the back.
-        ensures runs { EveryRun (iter_mut_steps {A = A.Item}) (λ p. ItemsMapTo p (λ x. x.now) (iter_mut_rest p.from)) }
-        ensures runs_back { EveryRun (iter_mut_steps_back {A = A.Item})
-            (λ p. ItemsMapToReversed p (λ x. x.now) (iter_mut_rest p.from)) }
     {
         // For the proof: the list is within the slots.
         let _len = self.len();

@@ -3,8 +3,7 @@ ghost use Rattle.std.specs.Prelude.{◌≡◌, ◌<◌, ◌≤◌, ◌++◌, len
 ghost use Rattle.std.specs.Fmt.{debug_list, debug_variant};
 ghost use Rattle.std.specs.Iterator.{at_most, UpTo};
 ghost use Rattle.std.specs.Iterator.SizeHint.{IsWithinCount};
-ghost use Rattle.std.specs.Iterator.Runs.{YieldsInOrder, YieldsInReverse};
-ghost use Rattle.tinyvec_slots.specs.Slots.{items, spare, items_len, Loses};
+ghost use Rattle.tinyvec_slots.specs.Slots.{items, Loses};
 ghost use Rattle.tinyvec_slots.specs.Ranges.{IsRangeOf, before, removed, after};
 ghost use Rattle.tinyvec_array.specs.ToVec.{DrainsToVec};
 
@@ -26,7 +25,7 @@ pub struct ArrayVecDrain<'a, A: Array> {
 }
 
 impl<A: Array> ArrayVec<A> {
-    ghost use Rattle.tinyvec_array.specs.Drain.{drain_items, drain_len, drain_lender, drain_kept, drain_count, drain_spare, DrainCanStep, DrainSteps, DrainStepsBack, DrainsFromEnds};
+    ghost use Rattle.tinyvec_array.specs.Drain.{DrainBegins};
 
     /// Removes the range, and yields its items from both ends. The items after the range move down at the call.
     ///
@@ -34,23 +33,8 @@ impl<A: Array> ArrayVec<A> {
     pub fn drain<R: RangeBounds<usize>>(&mut self, range: R) -> ArrayVecDrain<'_, A>
         requires not_exhausted { R.has_bounds range }
         requires in_list { IsRangeOf (items self.old) (R.start_bound range) (R.end_bound range) }
-
-        // The iterator yields the items of the range.
-        ensures rest { drain_items result ≡ removed (items self.old) (R.start_bound range) (R.end_bound range) }
-        ensures len { drain_len result ≡ length (drain_items result) }
-        ensures ready { DrainCanStep result }
-        ensures runs { YieldsInOrder (DrainSteps {A = A} {T = A.Item}) drain_items }
-        ensures runs_back { YieldsInReverse (DrainStepsBack {A = A} {T = A.Item}) drain_items }
-        ensures both_ends { DrainsFromEnds result }
-
-        // The list is what precedes and follows the range. Once the drain is dropped, the vacated slots precede the old spare
-        // slots.
-        ensures fits { items_len self.old ≤ A.CAPACITY }
-        ensures same_reference { drain_lender result ≡ self.entry.ghost_name }
-        ensures kept { drain_kept result
-            ≡ before (items self.old) (R.start_bound range) ++ after (items self.old) (R.end_bound range) }
-        ensures count { drain_count result ≡ length (drain_items result) }
-        ensures spare { drain_spare result ≡ spare self.old }
+        ensures { DrainBegins A.CAPACITY self.entry (removed (items self.old) (R.start_bound range) (R.end_bound range))
+            (before (items self.old) (R.start_bound range) ++ after (items self.old) (R.end_bound range)) result }
     {
         let len = self.len();
         let part = resolve_range(range, len);

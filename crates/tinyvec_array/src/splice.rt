@@ -1,15 +1,14 @@
 //! The splice: what replaces a range of items by those of an iterator.
-ghost use Rattle.std.specs.Prelude.{◌≡◌, length, false, codes, Some, IfSome, ◌+◌, ◌-◌, ◌*◌, ◌<◌, ◌≤◌, ◌++◌, List, IfErr, ◌↔◌, MatchResult, IsOk, OnOk, OnErr, refl};
+ghost use Rattle.std.specs.Prelude.{◌≡◌, length, false, codes, Some, IfSome, ◌+◌, ◌-◌, ◌<◌, ◌≤◌, ◌++◌, List, IfErr, ◌↔◌, MatchResult, IsOk, OnOk, OnErr, refl};
 ghost use Rattle.std.specs.Fmt.{debug_list, debug_variant};
 ghost use Rattle.std.specs.Iterator.{UpTo, MakesProgress, at_most, Drains, YieldsThen};
 ghost use Rattle.std.specs.Iterator.Adapters.{fuse_done, fuse_source, fuse_steps};
 ghost use Rattle.std.specs.Iterator.SizeHint.{IsWithinCount};
-ghost use Rattle.tinyvec_slots.specs.Slots.{items, items_len, SlotRule};
+ghost use Rattle.tinyvec_slots.specs.Slots.{items, items_len, SlotRule, Changes};
 ghost use Rattle.tinyvec_slots.specs.Ranges.{IsRangeOf, before, removed, after};
-ghost use Rattle.tinyvec_slots.specs.Filling.{ShowsItems, IntoIterYields};
-ghost use Rattle.tinyvec_slots.specs.Fused.{FusedCan, fused_rest};
-ghost use Rattle.tinyvec_slots.specs.Replacing.{FusedYields, PutsBetween};
-ghost use Rattle.tinyvec_slots.specs.AnySplice.{finish_placed, finish_bound, Finishes, FinishesWith};
+ghost use Rattle.tinyvec_slots.specs.Filling.{IntoIterYields};
+ghost use Rattle.tinyvec_slots.specs.Fused.{FusedCan};
+ghost use Rattle.tinyvec_slots.specs.Replacing.{PutsBetween};
 ghost use Rattle.std.proofs.Common.{le_refl};
 
 use crate::{Array, ArrayVec, CapacityError, NoRoom, SpliceRest};
@@ -46,7 +45,7 @@ impl<'a, A: Array, I: Drop> Drop for ArrayVecSplice<'a, A, I> {
 }
 
 impl<A: Array> ArrayVec<A> {
-    ghost use Rattle.tinyvec_array.specs.Splice.{splice_front, splice_left, splice_len, splice_back, splice_replacement, splice_touches, splice_slots, splice_lender, SpliceCanStep};
+    ghost use Rattle.tinyvec_array.specs.Splice.{SpliceBegins};
 
     /// Removes the range, yields its items from both ends, and puts those of `replacement` in their place.
     ///
@@ -58,16 +57,9 @@ impl<A: Array> ArrayVec<A> {
     ) -> ArrayVecSplice<'_, A, Fuse<I::IntoIter>>
         requires not_exhausted { R.has_bounds range }
         requires in_list { IsRangeOf (items self.old) (R.start_bound range) (R.end_bound range) }
-        ensures front { splice_front result ≡ before (items self.old) (R.start_bound range) }
-        ensures left { splice_left result ≡ removed (items self.old) (R.start_bound range) (R.end_bound range) }
-        ensures len { splice_len result ≡ length (splice_left result) }
-        ensures back { splice_back result ≡ after (items self.old) (R.end_bound range) }
-        ensures replacement { I.into_iter_gives replacement (fuse_source (splice_replacement result)) }
-        ensures unasked { fuse_done (splice_replacement result) ≡ false }
-        ensures touches { splice_touches result ≡ 0 }
-        ensures slots { splice_slots result ≡ self.old }
-        ensures same_reference { splice_lender result ≡ self.entry.ghost_name }
-        ensures ready { SpliceCanStep result }
+        ensures { SpliceBegins I.into_iter_gives self.entry (before (items self.old) (R.start_bound range))
+            (removed (items self.old) (R.start_bound range) (R.end_bound range))
+            (after (items self.old) (R.end_bound range)) replacement result }
     {
         let part = resolve_range(range, self.len());
         ArrayVecSplice {
@@ -97,8 +89,7 @@ impl<A: Array> ArrayVec<A> {
             × (items self.new
             ≡ before (items self.old) (R.start_bound range) ++ xs ++ after (items self.old) (R.end_bound range)) }
         ensures full { OnErr result (items_len self.new ≡ A.CAPACITY) }
-        ensures slot_rule { SlotRule A.Item.is_default self.old self.new }
-        ensures fits { items_len self.new ≤ A.CAPACITY }
+        ensures changes { Changes A.Item.is_default A.CAPACITY self.old self.new }
 
         // The returned iterator can be iterated further.
         ensures goes_on { IfErr result (λ refused. FusedCan I.IntoIter.can_next refused.rest) }
@@ -128,9 +119,8 @@ impl<A: Array> ArrayVec<A> {
         ensures items { OnOk result (items self.new
             ≡ before (items self.old) (R.start_bound range) ++ replacement.now
             ++ after (items self.old) (R.end_bound range)) }
-        ensures slot_rule { SlotRule A.Item.is_default self.old self.new }
+        ensures changes { Changes A.Item.is_default A.CAPACITY self.old self.new }
         ensures refused { OnErr result (self.new ≡ self.old) }
-        ensures fits { items_len self.new ≤ A.CAPACITY }
     {
         let part = resolve_range(range, self.len());
         let kept = self.len() - (part.end - part.start);
@@ -215,7 +205,7 @@ where
 }
 
 impl<'a, A: Array, I: Iterator<Item = A::Item>> ArrayVecSplice<'a, A, Fuse<I>> {
-    ghost use Rattle.tinyvec_array.specs.Splice.{splice_view, splice_front, splice_back, splice_replacement, splice_slots, splice_touches, SpliceCanStep, SpliceCanNext};
+    ghost use Rattle.tinyvec_array.specs.Splice.{splice_front, splice_back, splice_replacement, splice_slots, splice_touches, SpliceCanStep, SpliceCanNext, SpliceEnds, CountsTouches};
 
     /// The number of touches since `splice`. A touch takes the item of one slot, which may leave a default there, places
     /// one item, or swaps two slots.
@@ -229,20 +219,7 @@ impl<'a, A: Array, I: Iterator<Item = A::Item>> ArrayVecSplice<'a, A, Fuse<I>> {
     /// On overflow, returns the first item that did not fit and the rest of the replacement, which may be infinite.
     pub fn finish(self) -> Result<(), SpliceRest<A::Item, Fuse<I>>>
         requires { SpliceCanNext I.can_next self }
-        ensures finished { Finishes (fuse_steps I.next_gives) A.CAPACITY
-            (splice_view self.entry) result (items self.exit.0.now) }
-        ensures slot_rule { SlotRule A.Item.is_default (splice_slots self.entry) self.exit.0.now }
-
-        // The returned replacement can be iterated further.
-        ensures goes_on { IfErr result (λ refused. FusedCan I.can_next refused.rest) }
-
-        // The same of a replacement that shows its items, and of one whose items are known, as those of a `Vec`, a range or a
-        // slice.
-        ensures listed { (rest : I → List A.Item) → ShowsItems I.next_gives rest
-            → FinishesWith (fused_rest rest) A.CAPACITY (splice_view self.entry) result (items self.exit.0.now) }
-        ensures known { (xs : List A.Item) → FusedYields I.next_gives (splice_replacement self.entry) xs
-            → PutsBetween A.CAPACITY (splice_front self.entry) xs (splice_back self.entry) result
-            (items self.exit.0.now) }
+        ensures { SpliceEnds A.Item.is_default A.CAPACITY I.Iterator self.entry result self.exit.0.now }
     {
         let (finished, _touches) = self.finish_counted();
         finished
@@ -252,24 +229,8 @@ impl<'a, A: Array, I: Iterator<Item = A::Item>> ArrayVecSplice<'a, A, Fuse<I>> {
     #[inline(always)]
     pub fn finish_counted(self) -> (Result<(), SpliceRest<A::Item, Fuse<I>>>, u128)
         requires { SpliceCanNext I.can_next self }
-        // Exact for a list that did not grow: two touches for each item placed in a filled gap, and one more for each
-        // slot after a closed one.
-        ensures filled { items_len self.exit.0.now ≡ items_len (splice_slots self.entry)
-            → result.1 ≡ splice_touches self.entry
-            + 2 * finish_placed (splice_view self.entry) (items self.exit.0.now) }
-        ensures closed { items_len self.exit.0.now < items_len (splice_slots self.entry)
-            → result.1 ≡ splice_touches self.entry + finish_placed (splice_view self.entry) (items self.exit.0.now)
-            + (items_len (splice_slots self.entry) - length (splice_front self.entry)) }
-        ensures at_least { splice_touches self.entry + finish_placed (splice_view self.entry) (items self.exit.0.now)
-            ≤ result.1 }
-        ensures at_most { result.1 ≤ splice_touches self.entry
-            + finish_bound (splice_view self.entry) (items_len (splice_slots self.entry)) (items self.exit.0.now) }
-        ensures finished { Finishes (fuse_steps I.next_gives) A.CAPACITY
-            (splice_view self.entry) result.0 (items self.exit.0.now) }
-        ensures slot_rule { SlotRule A.Item.is_default (splice_slots self.entry) self.exit.0.now }
-        ensures goes_on { IfErr result.0 (λ refused. FusedCan I.can_next refused.rest) }
-        ensures listed { (rest : I → List A.Item) → ShowsItems I.next_gives rest
-            → FinishesWith (fused_rest rest) A.CAPACITY (splice_view self.entry) result.0 (items self.exit.0.now) }
+        ensures finish { SpliceEnds A.Item.is_default A.CAPACITY I.Iterator self.entry result.0 self.exit.0.now }
+        ensures touches { CountsTouches self.entry (items self.exit.0.now) result.1 }
     {
         let ArrayVecSplice {
             vec,
@@ -286,8 +247,7 @@ impl<'a, A: Array, I: Iterator<Item = A::Item>> ArrayVecSplice<'a, A, Fuse<I>> {
         requires { SpliceCanStep self }
         ensures rest { result ≡ splice_replacement self.entry }
         ensures items { items self.exit.0.now ≡ splice_front self.entry ++ splice_back self.entry }
-        ensures slot_rule { SlotRule A.Item.is_default (splice_slots self.entry) self.exit.0.now }
-        ensures fits { items_len self.exit.0.now ≤ A.CAPACITY }
+        ensures changes { Changes A.Item.is_default A.CAPACITY (splice_slots self.entry) self.exit.0.now }
     {
         let ArrayVecSplice {
             vec,

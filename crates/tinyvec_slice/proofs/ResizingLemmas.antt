@@ -2,7 +2,7 @@
 use Rattle.std.proofs.Common.{◌≡◌, ℕ, suc, ◌-◌, ◌<◌, ◌≤◌, List, ◌∷◌, ◌++◌, length, take, replicate, sym, ap, subst, ◌∙◌, arith, length-take-le}
 use Rattle.std.proofs.lemmas.List.{take-take}
 use Rattle.std.proofs.lemmas.List.Elements.{same_from_all_zip}
-use Rattle.std.specs.List.{AllZip, AppendsClones}
+use Rattle.std.specs.List.{AllZip}
 use Rattle.tinyvec_slots.specs.Clones.{ClonesAreEqual}
 use Rattle.tinyvec_slots.specs.Clones.{ClonesBefore}
 
@@ -36,8 +36,5 @@ left_after xs k le =
 
 -- where clones equal their originals
 module _ {X : Type 0} (C : X → X → Type 0) (rule : ClonesAreEqual C) where
-  pub appends_equal : (old new more : List X) → AppendsClones C old new more → new ≡ old ++ more
-  appends_equal old new more h = h.1 ∙ ap (λ l. old ++ l) (same_from_all_zip C more h.0 h.2 rule)
-
   pub before_equal : (xs old new : List X) → ClonesBefore C xs old new → new ≡ xs ++ old
   before_equal xs old new h = h.2 ∙ ap (λ l. l ++ old) (same_from_all_zip C xs h.0 h.1 rule)

@@ -1,6 +1,7 @@
 -- What a contract sees of the drain of a vector in lent slots.
 use Rattle.std.specs.Prelude.{◌≡◌, ℕ, ◌-◌, ◌≤◌, List, ◌++◌, length, drop, slice_range, Option}
-use Rattle.std.specs.Borrow.{GName}
+use Rattle.std.specs.Borrow.{GName, MutBor}
+use Rattle.std.specs.Iterator.Runs.{YieldsInOrder}
 use Rattle.tinyvec_slots.specs.Slots.{AreDefaults}
 use Rattle.tinyvec_slots.specs.AnyDrain.{Steps}
 use Rattle.tinyvec_slice.specs.SliceVec.{items_of, spare_of, name_of}
@@ -59,3 +60,15 @@ module _ {B T : Type 0} (g : Lent.Ghosts B T) where
   -- `next` took old to new, and returned the first item
   abbrev pub DrainSteps : GenericSliceVecDrain B T → Option T → GenericSliceVecDrain B T → Type 0
   DrainSteps = Steps drain_items DrainKeeps
+
+  -- d took xs out of the list of v, and left `others`. It yields xs in order. Once it is dropped, the vacated slots precede the
+  -- old spare slots. `same_reference` is of the reference to the vector; `same_slots` is what other calls name `same_reference`.
+  pub record DrainBegins (v : MutBor (GenericSliceVec B T)) (xs others : List T) (d : GenericSliceVecDrain B T) : Type 0 where
+    pub rest : drain_items d ≡ xs
+    pub ready : DrainCanStep d
+    pub runs : YieldsInOrder DrainSteps drain_items
+    pub same_reference : drain_lender d ≡ v.ghost_name
+    pub same_slots : drain_name d ≡ name_of g v.now
+    pub kept : drain_kept d ≡ others
+    pub count : drain_count d ≡ length (drain_items d)
+    pub spare : drain_spare d ≡ spare_of g v.now

@@ -1,5 +1,5 @@
 -- What a contract sees of a vector in lent slots.
-use Rattle.std.specs.Prelude.{◌≡◌, ℕ, List, length, drop}
+use Rattle.std.specs.Prelude.{◌≡◌, ℕ, ◌-◌, ◌≤◌, List, length, drop}
 use Rattle.std.specs.Borrow.{GName, MutBor}
 use Rattle.tinyvec_slots.specs.Slots.{Slots, Vacates, items as items_in, spare as spare_in}
 use Rattle.tinyvec_slice.specs.declared.lent.Lent as Lent
@@ -51,6 +51,17 @@ module _ {B T : Type 0} (g : Lent.Ghosts B T) where
     pub lender : SameLender old new
     pub items : items_of new ≡ xs
     pub spare : VacatesOf D n old new
+
+  -- new is over the slots of old, and its list is longer by items that use up the first of the old spare slots
+  pub record Grows (old new : GenericSliceVec B T) : Type 0 where
+    pub lender : SameLender old new
+    pub spare : spare_of new ≡ drop (len_of new - len_of old) (spare_of old)
+
+  -- new is over the slots of old, its list is no longer, and the vacated slots precede the old spare slots
+  pub record Shortens (D : T → Type 0) (old new : GenericSliceVec B T) : Type 0 where
+    pub lender : SameLender old new
+    pub bound : len_of new ≤ len_of old
+    pub spare : VacatesOf D (len_of old - len_of new) old new
 
 -- The same words of a vector in a lent slice.
 module _ {T : Type 0} where

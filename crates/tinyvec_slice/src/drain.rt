@@ -3,10 +3,9 @@ ghost use Rattle.std.specs.Prelude.{◌≡◌, ◌++◌, length, codes, None, If
 ghost use Rattle.std.specs.Fmt.{debug_list, debug_variant};
 ghost use Rattle.std.specs.Iterator.{at_most, UpTo};
 ghost use Rattle.std.specs.Iterator.SizeHint.{IsWithinCount};
-ghost use Rattle.std.specs.Iterator.Runs.{YieldsInOrder};
 ghost use Rattle.tinyvec_slots.specs.Ranges.{IsRangeOf, before, removed, after};
 ghost use Rattle.std.specs.List.{FoldsTo};
-ghost use Rattle.tinyvec_slice.specs.SliceVec.{items_of, spare_of, name_of, Loses};
+ghost use Rattle.tinyvec_slice.specs.SliceVec.{items_of, Loses};
 
 use crate::{GenericSliceVec, Lent};
 use std::fmt;
@@ -32,7 +31,7 @@ impl<B: Lent> GenericSliceVec<B>
 where
     B::Item: Default,
 {
-    ghost use Rattle.tinyvec_slice.specs.Drain.{drain_items, drain_lender, drain_name, drain_kept, drain_count, drain_spare, DrainCanStep, DrainSteps};
+    ghost use Rattle.tinyvec_slice.specs.Drain.{DrainBegins};
 
     /// Removes the range, and yields its items in order. The items after the range move down at the call. A caller that is
     /// generic over `Lent` knows what the vector holds afterwards; one that names `SliceVec` does not, and uses
@@ -42,21 +41,10 @@ where
     pub fn drain<R: RangeBounds<usize>>(&mut self, range: R) -> GenericSliceVecDrain<'_, B>
         requires not_exhausted { R.has_bounds range }
         requires in_list { IsRangeOf (items_of B.Lent self.old) (R.start_bound range) (R.end_bound range) }
-
-        // The iterator yields the items of the range.
-        ensures rest { drain_items B.Lent result
-            ≡ removed (items_of B.Lent self.old) (R.start_bound range) (R.end_bound range) }
-        ensures ready { DrainCanStep B.Lent result }
-        ensures runs { YieldsInOrder (DrainSteps B.Lent) (drain_items B.Lent) }
-
-        // The list is what precedes and follows the range. Once the drain is dropped, the vacated slots precede the old spare
-        // slots. `same_reference` is of the reference to the vector; `same_slots` is what other calls name `same_reference`.
-        ensures same_reference { drain_lender result ≡ self.entry.ghost_name }
-        ensures same_slots { drain_name B.Lent result ≡ name_of B.Lent self.old }
-        ensures kept { drain_kept B.Lent result ≡ before (items_of B.Lent self.old) (R.start_bound range)
-            ++ after (items_of B.Lent self.old) (R.end_bound range) }
-        ensures count { drain_count result ≡ length (drain_items B.Lent result) }
-        ensures spare { drain_spare B.Lent result ≡ spare_of B.Lent self.old }
+        ensures { DrainBegins B.Lent self.entry
+            (removed (items_of B.Lent self.old) (R.start_bound range) (R.end_bound range))
+            (before (items_of B.Lent self.old) (R.start_bound range) ++ after (items_of B.Lent self.old) (R.end_bound range))
+            result }
     {
         let len = self.len();
         let part = resolve_range(range, len);

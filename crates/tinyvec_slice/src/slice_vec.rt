@@ -7,9 +7,7 @@ ghost use Rattle.std.specs.Borrow.{sem};
 ghost use Rattle.tinyvec_slice.specs.Making.{lends_array};
 ghost use Rattle.tinyvec_slice.specs.SliceVec.{view, items, spare, name, view_of, items_of, spare_of, slots_of, len_of, SameLender, Gains};
 ghost use Rattle.tinyvec_slice.specs.Lends.{lends_items, lends_inner, lends_spare};
-ghost use Rattle.std.specs.Slice.Iter.{iter_rest, iter_mut_rest, iter_mut_steps, iter_mut_steps_back};
-ghost use Rattle.std.specs.Iterator.Adapters.{IterYieldsInOrder, IterYieldsInReverse};
-ghost use Rattle.std.specs.Iterator.Runs.{EveryRun, ItemsMapTo, ItemsMapToReversed};
+ghost use Rattle.tinyvec_slots.specs.Filling.{Iterates, IteratesMut};
 
 mod edits;
 mod extending;
@@ -148,11 +146,7 @@ impl<B: Lent> GenericSliceVec<B> {
 
     /// Iterates over the items, in order or from the back.
     pub fn iter(&self) -> slice::Iter<'_, B::Item>
-        ensures rest { iter_rest result ≡ items_of B.Lent self.now }
-        ensures len { length (iter_rest result) ≡ len_of B.Lent self.now }
-        ensures bound { length (iter_rest result) < 2 ^ 64 }
-        ensures runs { IterYieldsInOrder B.Item }
-        ensures runs_back { IterYieldsInReverse B.Item }
+        ensures { Iterates (items_of B.Lent self.now) result }
     {
         self.as_slice().iter()
     }
@@ -160,14 +154,7 @@ impl<B: Lent> GenericSliceVec<B> {
     /// Iterates over the items for writing, in order or from the back.
     pub fn iter_mut(&mut self) -> slice::IterMut<'_, B::Item>
         ensures* writes_back { sem 𝓛 (lends_iter B.row B.Item.row B.Lent self.entry result) }
-        ensures rest { iter_mut_rest result ≡ items_of B.Lent self.old }
-        ensures len { length (iter_mut_rest result) ≡ len_of B.Lent self.old }
-        ensures bound { length (iter_mut_rest result) < 2 ^ 64 }
-
-        // It lends the items in order, or from the back.
-        ensures runs { EveryRun (iter_mut_steps {A = B.Item}) (λ p. ItemsMapTo p (λ x. x.now) (iter_mut_rest p.from)) }
-        ensures runs_back { EveryRun (iter_mut_steps_back {A = B.Item})
-            (λ p. ItemsMapToReversed p (λ x. x.now) (iter_mut_rest p.from)) }
+        ensures yields { IteratesMut (items_of B.Lent self.old) result }
     {
         self.as_mut_slice().iter_mut()
     }

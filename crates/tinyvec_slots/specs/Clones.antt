@@ -1,5 +1,7 @@
 -- Lists of clones, and what a call that clones leaves if a clone was refused. C is the `is_clone` of an item's `Clone`.
-use Rattle.std.specs.Prelude.{◌≡◌, ℕ, ◌+◌, ◌-◌, ◌<◌, ◌≤◌, List, ◌++◌, All, length, take, drop, slice_range, Result, IsOk, OnOk, OnErr}
+use Rattle.std.specs.Prelude.{◌≡◌, ℕ, ◌+◌, ◌-◌, ◌<◌, ◌≤◌, List, ◌++◌, All, length, take, drop, replicate, slice_range, if◌then◌else◌, is_ok, Result, IsOk, OnOk, OnErr}
+use Rattle.std.proofs.Common.{sym}
+use Rattle.std.proofs.lemmas.List.Elements.{same_from_all_zip, length_all_zip}
 use Rattle.std.specs.declared.clone.Clone as Clone
 use Rattle.std.specs.List.{HoldsAt, AllZip, AppendsClones}
 use Rattle.tinyvec_slots.specs.Slots.{Slots, AreDefaults, items as list_of, spare as spare_of, items_len}
@@ -7,6 +9,20 @@ use Rattle.tinyvec_slots.specs.Slots.{Slots, AreDefaults, items as list_of, spar
 -- a clone equals its original, as that of a number does
 abbrev pub ClonesAreEqual : {T : Type 0} → (T → T → Type 0) → Type 0
 ClonesAreEqual {T} C = (x y : T) → C x y → y ≡ x
+
+-- ys are clones of the elements of xs, in order
+pub record AreClones {T : Type 0} (C : T → T → Type 0) (xs ys : List T) : Type 0 where
+  pub each : AllZip C xs ys
+  pub len : length ys ≡ length xs
+  pub if_clones_equal : ClonesAreEqual C → ys ≡ xs
+
+-- from the first part follow the others
+pub are_clones : {T : Type 0} (C : T → T → Type 0) (xs ys : List T) → AllZip C xs ys → AreClones C xs ys
+are_clones C xs ys h = record {
+  each = h;
+  len = sym (length_all_zip C xs ys h);
+  if_clones_equal = same_from_all_zip C xs ys h;
+}
 
 -- xs has an element k, and I does not hold of it: with the `is_infallible` of an item's `Clone`, its clone can be refused
 abbrev pub RefusedAt : {T : Type 0} → (T → Type 0) → List T → ℕ → Type 0
@@ -44,9 +60,40 @@ pub record AddsClones {T R E : Type 0} (g : Clone.Ghosts T) (xs : List T) (r : R
   pub refused : OnErr r ((j : ℕ) × RefusedAt g.is_infallible xs j × ClonesOver g.is_clone (take j xs) j (spare_of old) (spare_of new))
   pub succeeds : All g.is_infallible xs → IsOk r
 
+-- A call that was to append clones of xs, all or none, returned r and took `old` to `new`.
+pub record AddsAllOrNone {T R E : Type 0} (C : T → T → Type 0) (xs : List T) (r : Result R E) (old new : Slots T) : Type 0 where
+  pub items : OnOk r (AppendsClones C (list_of old) (list_of new) xs)
+  pub len : items_len new ≡ (if is_ok r then items_len old + length xs else items_len old)
+  pub if_clones_equal : ClonesAreEqual C → list_of new ≡ (if is_ok r then list_of old ++ xs else list_of old)
+  pub spare : OnOk r (spare_of new ≡ drop (length xs) (spare_of old))
+  pub kept : OnErr r (list_of new ≡ list_of old)
+
+-- A call that was to make the list n items long returned r and took `old` to `new`. It cuts the list, or writes clones of x over
+-- the spare slots behind it.
+pub record ResizesByClones {T R E : Type 0} (g : Clone.Ghosts T) (n : ℕ) (x : T) (r : Result R E) (old new : Slots T) : Type 0 where
+  pub items : OnOk r (AppendsClones g.is_clone (take n (list_of old)) (list_of new) (replicate (n - items_len old) x))
+  pub len : OnOk r (items_len new ≡ n)
+  pub if_clones_equal : OnOk r (ClonesAreEqual g.is_clone → list_of new ≡ take n (list_of old) ++ replicate (n - items_len old) x)
+  pub spare : OnOk r (items_len old ≤ n → spare_of new ≡ drop (n - items_len old) (spare_of old))
+  pub kept : OnErr r (list_of new ≡ list_of old)
+  -- the first `j` spare slots hold the clones made
+  pub refused : OnErr r ((j : ℕ) × (j < n - items_len old) × ¬ (g.is_infallible x) × ClonesOver g.is_clone (replicate j x) j (spare_of old) (spare_of new))
+  pub succeeds : g.is_infallible x → IsOk r
+
 -- new is clones of xs, followed by `old`
 abbrev pub ClonesBefore : {T : Type 0} → (T → T → Type 0) → List T → List T → List T → Type 0
 ClonesBefore {T} C xs old new = (ys : List T) × AllZip C xs ys × (new ≡ ys ++ old)
+
+-- A call that was to cut the list to n items, and to write clones of x into the vacated slots, the last slot first, returned r
+-- and took `old` to `new`.
+pub record CutsToClones {T R E : Type 0} (g : Clone.Ghosts T) (n : ℕ) (x : T) (r : Result R E) (old new : Slots T) : Type 0 where
+  pub items : OnOk r (list_of new ≡ take n (list_of old))
+  pub spare : OnOk r (ClonesBefore g.is_clone (replicate (items_len old - n) x) (spare_of old) (spare_of new))
+  pub if_clones_equal : OnOk r (ClonesAreEqual g.is_clone → spare_of new ≡ replicate (items_len old - n) x ++ spare_of old)
+  -- the list is shorter by the j slots that hold the clones made
+  pub refused : OnErr r ((j : ℕ) × (j < items_len old - n) × ¬ (g.is_infallible x) × (list_of new ≡ take (items_len old - j) (list_of old))
+      × ClonesBefore g.is_clone (replicate j x) (spare_of old) (spare_of new))
+  pub succeeds : g.is_infallible x → IsOk r
 
 -- A `clone_from` that was refused a clone took the list `olds` to `news`, which is cut to m items, the lesser of the two
 -- lengths. `made`, k of these, are clones. If the list is in slots, `more`, j further clones, follow the defaults in the

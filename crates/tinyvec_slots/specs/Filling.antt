@@ -1,7 +1,12 @@
--- Items asked of an iterator, as long as there is room.
-use Rattle.std.specs.Prelude.{◌≡◌, ℕ, ◌<◌, ◌≤◌, ◌↔◌, List, ◌∷◌, length, take, drop, Option, Some, None, Result, IsOk, IfErr, MatchResult}
+-- Items asked of an iterator, as long as there is room, and what the iterators of a list yield.
+use Rattle.std.specs.Prelude.{◌≡◌, ℕ, ◌^◌, ◌<◌, ◌≤◌, ◌↔◌, List, ◌∷◌, length, take, drop, Option, Some, None, Result, IsOk, IfOk, IfErr, MatchResult}
 use Rattle.std.specs.Iterator.{Yields, YieldsThen, YieldsFirst, AlwaysYields, Drains}
+use Rattle.std.specs.Iterator.Adapters.{IterYieldsInOrder, IterYieldsInReverse, IterMutYieldsInOrder, IterMutYieldsInReverse}
+use Rattle.std.specs.Slice.Iter.{iter_rest, iter_mut_rest}
+use Rattle.std.specs.declared.slice.Iter.{Iter}
+use Rattle.std.specs.declared.slice.IterMut.{IterMut}
 use Rattle.tinyvec_slots.specs.declared.no_room.NoRoom.{NoRoom}
+use Rattle.tinyvec_slots.specs.declared.no_room.FromIterRest.{FromIterRest}
 
 -- Calls of `next` from s yielded xs and left u. They stopped at n items, or at `None` if fewer came.
 pub record YieldsUpTo {S A : Type 0} (steps : S → Option A → S → Type 0) (n : ℕ) (s : S) (xs : List A) (u : S) : Type 0 where
@@ -34,3 +39,33 @@ module _ {U S A : Type 0} (becomes : U → S → Type 0) (steps : S → Option A
         → (it : S) × becomes iter it × (IsOk r ↔ (length (rest it) ≤ n)) × Adds (take n (rest it))
         × IfErr r (λ refused. drop n (rest it) ≡ refused.item ∷ rest refused.rest)
     pub known : (xs : List A) → IntoIterYields becomes steps iter xs → length xs ≤ n → IsOk r × Adds xs
+
+-- A call made a vector of the items of `iter`, of which n fit, and returned it if no more came, else with the rest of the iterator.
+-- `Lists v xs` says that xs is the list of v.
+module _ {U S A V : Type 0} (becomes : U → S → Type 0) (steps : S → Option A → S → Type 0) (iter : U) (n : ℕ) (Lists : V → List A → Type 0) where
+  -- `listed` is for an iterator of which `rest` shows the remaining items, `known` for items that are known, and that fit.
+  pub record Collects (r : Result V (FromIterRest V A S)) : Type 0 where
+    pub ran : (it : S) × (xs : List A) × becomes iter it
+        × MatchResult r (λ v. Drains steps it xs × Lists v xs)
+        (λ refused. YieldsThen steps it xs (Some refused.item) refused.rest × Lists refused.vec xs)
+    pub listed : (rest : S → List A) → ShowsItems steps rest
+        → (it : S) × becomes iter it × (IsOk r ↔ (length (rest it) ≤ n))
+        × MatchResult r (λ v. Lists v (rest it))
+        (λ refused. Lists refused.vec (take n (rest it)) × (drop n (rest it) ≡ refused.item ∷ rest refused.rest))
+    pub known : (xs : List A) → IntoIterYields becomes steps iter xs → length xs ≤ n → IsOk r × IfOk r (λ v. Lists v xs)
+
+-- the items that an iterator has left are xs, whose number fits a `usize`, and each run yields them, in order or in reverse
+pub record Iterates {T : Type 0} (xs : List T) (it : Iter T) : Type 0 where
+  pub rest : iter_rest it ≡ xs
+  pub len : length (iter_rest it) ≡ length xs
+  pub bound : length (iter_rest it) < 2 ^ 64
+  pub runs : IterYieldsInOrder T
+  pub runs_back : IterYieldsInReverse T
+
+-- the same of an iterator for writing
+pub record IteratesMut {T : Type 0} (xs : List T) (it : IterMut T) : Type 0 where
+  pub rest : iter_mut_rest it ≡ xs
+  pub len : length (iter_mut_rest it) ≡ length xs
+  pub bound : length (iter_mut_rest it) < 2 ^ 64
+  pub runs : IterMutYieldsInOrder T
+  pub runs_back : IterMutYieldsInReverse T

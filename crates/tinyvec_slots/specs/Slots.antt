@@ -67,6 +67,22 @@ module _ {T : Type 0} where
     pub bound : items_len new ≤ items_len old
     pub spare : Vacates D (items_len old - items_len new) old new
 
+  -- A call that only removes items took `old` to `new` as `Shortens` says, and the list fits in the slots.
+  pub record ShortensIn (D : T → Type 0) (slots : ℕ) (old new : Slots T) : Type 0 where
+    pub bound : items_len new ≤ items_len old
+    pub spare : Vacates D (items_len old - items_len new) old new
+    pub fits : items_len new ≤ slots
+
+  -- A call that only adds items took `old` to `new`: they use up the first spare slots, and the list fits in the slots.
+  pub record Grows (slots : ℕ) (old new : Slots T) : Type 0 where
+    pub spare : spare new ≡ drop (items_len new - items_len old) (spare old)
+    pub fits : items_len new ≤ slots
+
+  -- A call that adds or removes items took `old` to `new`: the slot rule holds, and the list fits in the slots.
+  pub record Changes (D : T → Type 0) (slots : ℕ) (old new : Slots T) : Type 0 where
+    pub slot_rule : SlotRule D old new
+    pub fits : items_len new ≤ slots
+
   -- the list is as long, and the spare slots are the same
   abbrev pub SameSpare : Slots T → Slots T → Type 0
   SameSpare old new = (spare new ≡ spare old) × (items_len new ≡ items_len old)

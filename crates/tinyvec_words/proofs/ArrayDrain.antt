@@ -1,8 +1,10 @@
 -- Examples of a drain of `[1, 2, 3, 4] [0]` over 1..3, from which nothing was taken.
 use Rattle.std.proofs.Common.{◌≡◌, ℕ, [], ◌∷◌, ◌++◌, Some, refl, rules}
+use Rattle.std.specs.Borrow.{MutBor}
+use Rattle.tinyvec_slots.specs.Slots.{Slots}
 use Rattle.tinyvec_slots.specs.Ends.{RunsWord, TakesFromEnds, front, back}
 use Rattle.tinyvec_array.specs.declared.drain.ArrayVecDrain.{ArrayVecDrain}
-use Rattle.tinyvec_array.specs.Drain.{drain_items, drain_len, drain_kept, drain_count, drain_spare, drain_lender, DrainCanStep, DrainLeaves, DrainSteps, DrainStepsBack, DrainsFromEnds}
+use Rattle.tinyvec_array.specs.Drain.{drain_items, drain_len, drain_kept, drain_count, drain_spare, drain_lender, DrainCanStep, DrainLeaves, DrainSteps, DrainStepsBack, DrainsFromEnds, DrainBegins}
 use Rattle.tinyvec_words.proofs.Shown.{D, over}
 
 module _ {A : Type 0} (d e : ArrayVecDrain A ℕ) (vec : d.vec.now ≡ over (1 ∷ 4 ∷ []) (2 ∷ 3 ∷ 0 ∷ [])) (count : d.count ≡ 2) (first : d.front ≡ 0) (last : d.back ≡ 2) where
@@ -38,3 +40,6 @@ module _ {A : Type 0} (d e : ArrayVecDrain A ℕ) (vec : d.vec.now ≡ over (1 �
 
   pub example-DrainsFromEnds : DrainsFromEnds d → RunsWord DrainSteps DrainStepsBack d (front ∷ back ∷ []) (Some 2 ∷ Some 3 ∷ []) e → TakesFromEnds (drain_items d) (front ∷ back ∷ []) (Some 2 ∷ Some 3 ∷ []) (drain_items e)
   example-DrainsFromEnds h asked = (h _ _ _ asked).0
+
+  pub example-DrainBegins : (v : MutBor (Slots ℕ)) → DrainBegins 5 v (2 ∷ 3 ∷ []) (1 ∷ 4 ∷ []) d → drain_items d ≡ 2 ∷ 3 ∷ []
+  example-DrainBegins v h = h.rest

@@ -1,11 +1,14 @@
 -- Examples of clones, one of which was refused.
 use Rattle.std.proofs.Common.{[], ◌∷◌, refl, rules, arith}
 use Rattle.std.specs.Prelude.{⊤, ℕ, Ok}
-use Rattle.tinyvec_slots.specs.Clones.{ClonesAreEqual, RefusedAt, ClonesOver, AddsClones, ClonesBefore, ClonesInPart}
+use Rattle.tinyvec_slots.specs.Clones.{ClonesAreEqual, AreClones, RefusedAt, ClonesOver, AddsClones, AddsAllOrNone, ResizesByClones, ClonesBefore, CutsToClones, ClonesInPart}
 use Rattle.tinyvec_words.proofs.Shown.{D, C, I, over}
 
 pub example-ClonesAreEqual : ClonesAreEqual C
 example-ClonesAreEqual = λ x y h. h
+
+pub example-AreClones : AreClones C (7 ∷ 8 ∷ []) (7 ∷ 8 ∷ [])
+example-AreClones = record { each = (refl, (refl, tt)); len = refl; if_clones_equal = λ _. refl }
 
 pub example-RefusedAt : RefusedAt I (7 ∷ 9 ∷ []) 1
 example-RefusedAt = (omega arith, λ d h. h refl)
@@ -25,6 +28,29 @@ example-AddsClones = record {
   if_clones_equal = λ _. refl;
   spare = refl;
   kept = tt;
+  refused = tt;
+  succeeds = λ _. refl;
+}
+
+pub example-AddsAllOrNone : AddsAllOrNone {R = ℕ} {E = ℕ} C (7 ∷ []) (Ok 0) (over (1 ∷ []) (0 ∷ [])) (over (1 ∷ 7 ∷ []) [])
+example-AddsAllOrNone = record { items = (7 ∷ [], refl, (refl, tt)); len = refl; if_clones_equal = λ _. refl; spare = refl; kept = tt }
+
+pub example-ResizesByClones : ResizesByClones {R = ℕ} {E = ℕ} (record { is_clone = C; is_infallible = I }) 3 7 (Ok 0) (over (1 ∷ []) (0 ∷ 0 ∷ 3 ∷ [])) (over (1 ∷ 7 ∷ 7 ∷ []) (3 ∷ []))
+example-ResizesByClones = record {
+  items = (7 ∷ 7 ∷ [], refl, (refl, (refl, tt)));
+  len = refl;
+  if_clones_equal = λ _. refl;
+  spare = λ _. refl;
+  kept = tt;
+  refused = tt;
+  succeeds = λ _. refl;
+}
+
+pub example-CutsToClones : CutsToClones {R = ℕ} {E = ℕ} (record { is_clone = C; is_infallible = I }) 1 7 (Ok 0) (over (1 ∷ 2 ∷ []) (3 ∷ [])) (over (1 ∷ []) (7 ∷ 3 ∷ []))
+example-CutsToClones = record {
+  items = refl;
+  spare = (7 ∷ [], (refl, tt), refl);
+  if_clones_equal = λ _. refl;
   refused = tt;
   succeeds = λ _. refl;
 }

@@ -1,10 +1,11 @@
 -- Examples of a drain of a vector whose list is `[1]` then, and whose slots after it hold `[2, 3, 0]`: a drain of two items.
 use Rattle.std.proofs.Common.{◌≡◌, ℕ, [], ◌∷◌, Some, refl, ◌∙◌, rules}
+use Rattle.std.specs.Borrow.{MutBor}
 use Rattle.tinyvec_slice.specs.declared.lent.Lent as Lent
 use Rattle.tinyvec_slice.specs.declared.slice_vec.GenericSliceVec.{GenericSliceVec}
 use Rattle.tinyvec_slice.specs.declared.drain.GenericSliceVecDrain.{GenericSliceVecDrain}
 use Rattle.tinyvec_slice.specs.SliceVec.{items_of, spare_of, name_of}
-use Rattle.tinyvec_slice.specs.Drain.{drain_left, drain_count, drain_lender, drain_items, drain_kept, drain_spare, drain_name, DrainCanStep, DrainLeaves, DrainSteps}
+use Rattle.tinyvec_slice.specs.Drain.{drain_left, drain_count, drain_lender, drain_items, drain_kept, drain_spare, drain_name, DrainCanStep, DrainLeaves, DrainSteps, DrainBegins}
 use Rattle.tinyvec_words.proofs.Shown.{D}
 
 module _ {B : Type 0} (g : Lent.Ghosts B ℕ) (d e : GenericSliceVecDrain B ℕ) (list : items_of g d.vec.now ≡ 1 ∷ []) (after : spare_of g d.vec.now ≡ 2 ∷ 3 ∷ 0 ∷ []) (count : d.count ≡ 2) (first : d.front ≡ 0) where
@@ -37,3 +38,6 @@ module _ {B : Type 0} (g : Lent.Ghosts B ℕ) (d e : GenericSliceVecDrain B ℕ)
 
   pub example-DrainSteps : DrainSteps g d (Some 2) e → drain_items g d ≡ 2 ∷ drain_items g e
   example-DrainSteps h = h.0
+
+  pub example-DrainBegins : (v : MutBor (GenericSliceVec B ℕ)) → DrainBegins g v (2 ∷ 3 ∷ []) (1 ∷ []) d → drain_items g d ≡ 2 ∷ 3 ∷ []
+  example-DrainBegins v h = h.rest

@@ -4,7 +4,7 @@ use Rattle.tinyvec_slots.specs.Slots.{items as items_in, spare as spare_in}
 use Rattle.std.specs.Borrow.{MutBor}
 use Rattle.tinyvec_slice.specs.declared.lent.Lent as Lent
 use Rattle.tinyvec_slice.specs.declared.slice_vec.GenericSliceVec.{GenericSliceVec}
-use Rattle.tinyvec_slice.specs.SliceVec.{view, items, spare, name, view_of, items_of, spare_of, len_of, slots_of, name_of, SameLender, Gains, Loses}
+use Rattle.tinyvec_slice.specs.SliceVec.{view, items, spare, name, view_of, items_of, spare_of, len_of, slots_of, name_of, SameLender, Gains, Loses, Grows, Shortens}
 use Rattle.tinyvec_slice.specs.CutLaws.{CutOf}
 use Rattle.tinyvec_words.proofs.Shown.{D, over}
 
@@ -48,6 +48,12 @@ module _ {B : Type 0} (g : Lent.Ghosts B ℕ) (v : GenericSliceVec B ℕ) (lent 
 
   pub example-Loses : (w : GenericSliceVec B ℕ) → SameLender g v w → view_of g w ≡ over (1 ∷ []) (0 ∷ 0 ∷ []) → Loses g D 1 v w (1 ∷ [])
   example-Loses w same after = record { lender = same; items = ap items_in after; spare = (0 ∷ [], search rules, ap spare_in after ∙ ap (λ xs. 0 ∷ xs) (sym example-spare_of)) }
+
+  pub example-Grows : (w : GenericSliceVec B ℕ) → Grows g v w → SameLender g v w
+  example-Grows w h = h.lender
+
+  pub example-Shortens : (w : GenericSliceVec B ℕ) → Shortens g D v w → SameLender g v w
+  example-Shortens w h = h.lender
 
   pub example-CutOf : (w : GenericSliceVec B ℕ) → CutOf g D v w → name_of g w ≡ name_of g v
   example-CutOf w h = h.0

@@ -1,6 +1,6 @@
 -- Examples of lists and spare slots.
 use Rattle.std.proofs.Common.{◌≡◌, [], ◌∷◌, refl, rules}
-use Rattle.tinyvec_slots.specs.Slots.{items, spare, items_len, all_slots, split_at, AreDefaults, SlotRule, with_items, Gains, Loses, Shortens}
+use Rattle.tinyvec_slots.specs.Slots.{items, spare, items_len, all_slots, split_at, AreDefaults, SlotRule, with_items, Gains, Loses, Shortens, ShortensIn, Grows, Changes}
 use Rattle.tinyvec_words.proofs.Shown.{D, nums, over}
 
 -- of tinyvec_slots.specs.Slots
@@ -33,6 +33,15 @@ example-Loses = record { items = refl; spare = (0 ∷ 0 ∷ [], example-AreDefau
 
 pub example-Shortens : Shortens D (over (1 ∷ 2 ∷ 3 ∷ []) (7 ∷ [])) (over (1 ∷ []) (0 ∷ 0 ∷ 7 ∷ []))
 example-Shortens = record { bound = search rules; spare = (0 ∷ 0 ∷ [], example-AreDefaults, refl) }
+
+pub example-ShortensIn : ShortensIn D 4 (over (1 ∷ 2 ∷ 3 ∷ []) (7 ∷ [])) (over (1 ∷ []) (0 ∷ 0 ∷ 7 ∷ []))
+example-ShortensIn = record { bound = search rules; spare = (0 ∷ 0 ∷ [], example-AreDefaults, refl); fits = search rules }
+
+pub example-Grows : Grows 3 (over (1 ∷ []) (7 ∷ 8 ∷ [])) (over (1 ∷ 5 ∷ []) (8 ∷ []))
+example-Grows = record { spare = refl; fits = search rules }
+
+pub example-Changes : Changes D 3 (over (1 ∷ []) (7 ∷ 8 ∷ [])) (over (1 ∷ 5 ∷ []) (8 ∷ []))
+example-Changes = record { slot_rule = search rules; fits = search rules }
 
 pub example-SlotRule : SlotRule D (over (1 ∷ []) (7 ∷ 8 ∷ [])) (over (1 ∷ 5 ∷ []) (8 ∷ []))
 example-SlotRule = search rules

@@ -2,7 +2,7 @@
 ghost use Rattle.std.specs.Prelude.{◌≡◌, ◌≤◌, ℕ, All, min, IfOk, OnOk, OnErr, IsOk, ⊤};
 ghost use Rattle.tinyvec_slots.specs.Slots.{items, spare, items_len, all_slots, SlotRule};
 ghost use Rattle.std.specs.List.{AllZip};
-ghost use Rattle.tinyvec_slots.specs.Clones.{RefusedAt, ClonesAreEqual, ClonesInPart};
+ghost use Rattle.tinyvec_slots.specs.Clones.{RefusedAt, ClonesAreEqual, AreClones, ClonesInPart};
 
 use crate::{Array, ArrayVec};
 use std::alloc::AllocError;
@@ -27,9 +27,8 @@ impl<A: Array> ArrayVec<A> {
     pub fn clone(&self) -> Result<Self, AllocError>
     where
         A::Item: Clone,
-        ensures items { IfOk result (λ v. AllZip A.Item.is_clone (items self.now) (items v)) }
-        ensures slots { IfOk result (λ v. AllZip A.Item.is_clone (all_slots self.now) (all_slots v)) }
-        ensures len { IfOk result (λ v. items_len v ≡ items_len self.now) }
+        ensures items { IfOk result (λ v. AreClones A.Item.is_clone (items self.now) (items v)) }
+        ensures slots { IfOk result (λ v. AreClones A.Item.is_clone (all_slots self.now) (all_slots v)) }
         ensures if_clones_equal { IfOk result (λ v. ClonesAreEqual A.Item.is_clone → v ≡ self.now) }
         ensures refused { OnErr result ((j : ℕ) × RefusedAt A.Item.is_infallible (all_slots self.now) j) }
         ensures succeeds { All A.Item.is_infallible (all_slots self.now) → IsOk result }
@@ -44,9 +43,7 @@ impl<A: Array> ArrayVec<A> {
     pub fn clone_from(&mut self, source: &Self) -> Result<(), AllocError>
     where
         A::Item: Clone,
-        ensures items { OnOk result (AllZip A.Item.is_clone (items source.now) (items self.new)) }
-        ensures len { OnOk result (items_len self.new ≡ items_len source.now) }
-        ensures if_clones_equal { OnOk result (ClonesAreEqual A.Item.is_clone → items self.new ≡ items source.now) }
+        ensures items { OnOk result (AreClones A.Item.is_clone (items source.now) (items self.new)) }
         ensures slot_rule { OnOk result (SlotRule A.Item.is_default self.old self.new) }
         ensures fits { items_len self.new ≤ A.CAPACITY }
         ensures refused { OnErr result (ClonesInPart A.Item.is_default A.Item.is_infallible A.Item.is_clone

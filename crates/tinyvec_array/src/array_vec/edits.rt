@@ -1,9 +1,9 @@
 //! Items that are pushed, popped, inserted, removed and cut off.
-ghost use Rattle.std.specs.Prelude.{◌≡◌, ◌-◌, ◌<◌, ◌≤◌, ◌↔◌, [], ◌∷◌, ◌++◌, take, drop, slice_get, slice_index_or, IsSome, OnSome, IfNone, IfSome, ◌+◌, remove, insert, ℕ, All, length, if◌then◌else◌, is_ok, IsOk, OnOk, OnErr, Err};
-ghost use Rattle.tinyvec_slots.specs.Slots.{items, spare, items_len, AreDefaults, Gains, Loses};
+ghost use Rattle.std.specs.Prelude.{◌≡◌, ◌-◌, ◌<◌, ◌≤◌, ◌↔◌, [], ◌∷◌, ◌++◌, take, drop, slice_get, slice_index_or, IsSome, OnSome, IfNone, IfSome, ◌+◌, remove, insert, ℕ, All, length, IsOk, Err};
+ghost use Rattle.tinyvec_slots.specs.Slots.{items, spare, items_len, AreDefaults, Gains, Loses, SameSpare};
 ghost use Rattle.std.specs.Borrow.{sem};
-ghost use Rattle.std.specs.List.{swap_remove, SwappedAt, AppendsClones};
-ghost use Rattle.tinyvec_slots.specs.Clones.{RefusedAt, ClonesAreEqual, ClonesOver};
+ghost use Rattle.std.specs.List.{swap_remove, SwappedAt};
+ghost use Rattle.tinyvec_slots.specs.Clones.{RefusedAt, ClonesOver, AddsAllOrNone};
 
 use crate::slots::{bounded_index, prefers_shifting_in};
 use crate::{Array, ArrayVec, TryFromSliceError};
@@ -161,8 +161,7 @@ impl<A: Array> ArrayVec<A> {
         requires first { i < items_len self.old }
         requires second { j < items_len self.old }
         ensures swapped { SwappedAt (items self.old) (items self.new) i j }
-        ensures len { items_len self.new ≡ items_len self.old }
-        ensures spare { spare self.new ≡ spare self.old }
+        ensures kept { SameSpare self.old self.new }
     {
         self.as_mut_slice().swap(i, j);
     }
@@ -224,13 +223,7 @@ impl<A: Array> ArrayVec<A> {
         ensures too_long { (result ≡ Err TryFromSliceError.TooLong)
             ↔ (A.CAPACITY < items_len self.old + length other.now) }
         ensures unchanged { result ≡ Err TryFromSliceError.TooLong → self.new ≡ self.old }
-        ensures items { OnOk result (AppendsClones A.Item.is_clone (items self.old) (items self.new) other.now) }
-        ensures len { items_len self.new
-            ≡ (if is_ok result then items_len self.old + length other.now else items_len self.old) }
-        ensures if_clones_equal { ClonesAreEqual A.Item.is_clone → items self.new
-            ≡ (if is_ok result then items self.old ++ other.now else items self.old) }
-        ensures spare { OnOk result (spare self.new ≡ drop (length other.now) (spare self.old)) }
-        ensures kept { OnErr result (items self.new ≡ items self.old) }
+        ensures added { AddsAllOrNone A.Item.is_clone other.now result self.old self.new }
         ensures fits { items_len self.new ≤ A.CAPACITY }
 
         // The first `j` spare slots hold the clones made.

@@ -1,11 +1,10 @@
 //! Growing by other lists, by clones, by iterators and by closures.
-ghost use Rattle.std.specs.Prelude.{◌≡◌, ◌+◌, ◌-◌, ◌≤◌, ◌++◌, ℕ, length, take, drop, IsOk, OnOk, OnErr, ◌<◌, ◌↔◌, [], IsSome, IfSome, IfNone, IfOk, IfErr, MatchResult, ◌∷◌, List, Some, replicate};
-ghost use Rattle.std.specs.List.{AppendsClones, AppendsResults};
-ghost use Rattle.tinyvec_slots.specs.Slots.{items, spare, items_len, AreDefaults, SlotRule, Gains, Loses};
-ghost use Rattle.tinyvec_slots.specs.Clones.{ClonesAreEqual, ClonesOver, AddsClones};
+ghost use Rattle.std.specs.Prelude.{◌≡◌, ◌+◌, ◌-◌, ◌≤◌, ◌++◌, length, take, IsOk, OnOk, OnErr, ◌<◌, ◌↔◌, [], IsSome, IfSome, IfNone, IfOk, IfErr, MatchResult, Some};
+ghost use Rattle.std.specs.List.{AppendsResults};
+ghost use Rattle.tinyvec_slots.specs.Slots.{items, spare, items_len, AreDefaults, SlotRule, Gains, Loses, Grows};
+ghost use Rattle.tinyvec_slots.specs.Clones.{AddsClones, ResizesByClones};
 ghost use Rattle.tinyvec_slots.specs.Ranges.{IsRangeOf, removed};
-ghost use Rattle.std.specs.Iterator.{Drains, YieldsThen};
-ghost use Rattle.tinyvec_slots.specs.Filling.{ShowsItems, IntoIterYields, Fills, Extends};
+ghost use Rattle.tinyvec_slots.specs.Filling.{Fills, Extends, Collects};
 
 use crate::{Array, ArrayVec, FromIterRest, NoMemory, NoRoom};
 use std::alloc::AllocError;
@@ -129,8 +128,7 @@ impl<A: Array> ArrayVec<A> {
         requires { (it : I.IntoIter) → I.into_iter_gives iter it → I.IntoIter.can_next it }
         ensures items { Fills I.into_iter_gives I.IntoIter.next_gives iter (A.CAPACITY - items_len self.old)
             (λ xs. items self.new ≡ items self.old ++ xs) result }
-        ensures spare { spare self.new ≡ drop (items_len self.new - items_len self.old) (spare self.old) }
-        ensures fits { items_len self.new ≤ A.CAPACITY }
+        ensures grows { Grows A.CAPACITY self.old self.new }
 
         // An iterator that stopped at a full vector can be iterated further.
         ensures goes_on { items_len self.new ≡ A.CAPACITY → I.IntoIter.can_next result }
@@ -155,8 +153,7 @@ impl<A: Array> ArrayVec<A> {
         ensures items { Extends I.into_iter_gives I.IntoIter.next_gives iter (A.CAPACITY - items_len self.old)
             (λ xs. items self.new ≡ items self.old ++ xs) result }
         ensures full { OnErr result (items_len self.new ≡ A.CAPACITY) }
-        ensures spare { spare self.new ≡ drop (items_len self.new - items_len self.old) (spare self.old) }
-        ensures fits { items_len self.new ≤ A.CAPACITY }
+        ensures grows { Grows A.CAPACITY self.old self.new }
 
         // The returned iterator can be iterated further.
         ensures goes_on { IfErr result (λ refused. I.IntoIter.can_next refused.rest) }
@@ -177,28 +174,13 @@ impl<A: Array> ArrayVec<A> {
         iter: I,
     ) -> Result<Self, FromIterRest<Self, A::Item, I::IntoIter>>
         requires { (it : I.IntoIter) → I.into_iter_gives iter it → I.IntoIter.can_next it }
-        ensures ran { (it : I.IntoIter) × (xs : List A.Item) × I.into_iter_gives iter it
-            × MatchResult result (λ v. Drains I.IntoIter.next_gives it xs × (items v ≡ xs))
-            (λ refused. YieldsThen I.IntoIter.next_gives it xs (Some refused.item) refused.rest
-            × (items refused.vec ≡ xs)) }
+        ensures items { Collects I.into_iter_gives I.IntoIter.next_gives iter A.CAPACITY (λ v xs. items v ≡ xs) result }
         ensures full { IfErr result (λ refused. (items_len refused.vec ≡ A.CAPACITY) × (spare refused.vec ≡ [])) }
         ensures spare { IfOk result (λ v. AreDefaults A.Item.is_default (A.CAPACITY - items_len v) (spare v)) }
         ensures fits { IfOk result (λ v. items_len v ≤ A.CAPACITY) }
 
         // The returned iterator can be iterated further.
         ensures goes_on { IfErr result (λ refused. I.IntoIter.can_next refused.rest) }
-
-        // The same for an iterator of which `rest` shows the remaining items.
-        ensures listed { (rest : I.IntoIter → List A.Item) → ShowsItems I.IntoIter.next_gives rest
-            → (it : I.IntoIter) × I.into_iter_gives iter it
-            × (IsOk result ↔ (length (rest it) ≤ A.CAPACITY))
-            × MatchResult result (λ v. items v ≡ rest it)
-            (λ refused. (items refused.vec ≡ take A.CAPACITY (rest it))
-            × (drop A.CAPACITY (rest it) ≡ refused.item ∷ rest refused.rest)) }
-
-        // For items that are known, and that fit.
-        ensures known { (xs : List A.Item) → IntoIterYields I.into_iter_gives I.IntoIter.next_gives iter xs
-            → length xs ≤ A.CAPACITY → IsOk result × IfOk result (λ v. items v ≡ xs) }
     {
         let mut vec = ArrayVec::new();
         match vec.extend(iter) {
@@ -213,21 +195,11 @@ impl<A: Array> ArrayVec<A> {
     where
         A::Item: Clone,
         requires room { new_len ≤ A.CAPACITY }
-        ensures items { OnOk result (AppendsClones A.Item.is_clone (take new_len (items self.old)) (items self.new)
-            (replicate (new_len - items_len self.old) value)) }
-        ensures len { OnOk result (items_len self.new ≡ new_len) }
-        ensures if_clones_equal { OnOk result (ClonesAreEqual A.Item.is_clone
-            → items self.new ≡ take new_len (items self.old) ++ replicate (new_len - items_len self.old) value) }
+        ensures resized { ResizesByClones A.Item.Clone new_len value result self.old self.new }
         ensures slot_rule { OnOk result (SlotRule A.Item.is_default self.old self.new) }
         ensures value_returned { IfErr result (λ refused. refused.0 ≡ value) }
-        ensures kept { OnErr result (items self.new ≡ items self.old) }
-
-        // The first `j` spare slots hold the clones made.
-        ensures refused { OnErr result ((j : ℕ) × (j < new_len - items_len self.old) × ¬ (A.Item.is_infallible value)
-            × ClonesOver A.Item.is_clone (replicate j value) j (spare self.old) (spare self.new)) }
         ensures fits { items_len self.new ≤ A.CAPACITY }
         ensures cuts { new_len ≤ items_len self.old → IsOk result }
-        ensures succeeds { A.Item.is_infallible value → IsOk result }
     {
         let len = self.len();
         if new_len <= len {

@@ -1,9 +1,9 @@
 //! Keeping some of the items. The loops are in `tinyvec_slots`, over `CanCut`, implemented in `splice.rt`.
-ghost use Rattle.std.specs.Prelude.{◌≡◌, ◌-◌, ◌≤◌, slice_get, Some};
+ghost use Rattle.std.specs.Prelude.{◌≡◌, ◌-◌, slice_get, Some};
 ghost use Rattle.std.specs.Fn.{FnOnceTakesAtMut, CalledAt, CalledAtMut, CalledAtPairMut, ComparesKeys};
 ghost use Rattle.std.specs.List.{dedup as dedup_list};
 ghost use Rattle.std.specs.List.Retain.{IsFiltered, RetainsInTurn, IsDeduped, PopsIf};
-ghost use Rattle.tinyvec_slots.specs.Slots.{items, items_len, Shortens};
+ghost use Rattle.tinyvec_slots.specs.Slots.{items, items_len, Shortens, ShortensIn};
 ghost use Rattle.tinyvec_slots.specs.Ranges.{range_start, range_end, IsRangeOf};
 ghost use Rattle.tinyvec_slots.specs.Extracting.{Extracts};
 
@@ -16,8 +16,7 @@ impl<A: Array> ArrayVec<A> {
     pub fn retain<F: FnMut(&A::Item) -> bool>(&mut self, mut f: F)
         requires { F.IsAlwaysCallable f }
         ensures filtered { IsFiltered (CalledAt F.FnMut) f (items self.old) (items self.new) }
-        ensures shorter { Shortens A.Item.is_default self.old self.new }
-        ensures fits { items_len self.new ≤ A.CAPACITY }
+        ensures shorter { ShortensIn A.Item.is_default A.CAPACITY self.old self.new }
     {
         tinyvec_slots::retain(self, &mut f);
     }
@@ -27,8 +26,7 @@ impl<A: Array> ArrayVec<A> {
     pub fn retain_mut<F: FnMut(&mut A::Item) -> bool>(&mut self, mut f: F)
         requires { F.IsAlwaysCallable f }
         ensures filtered { RetainsInTurn (CalledAtMut F.FnMut) f (items self.old) (items self.new) }
-        ensures shorter { Shortens A.Item.is_default self.old self.new }
-        ensures fits { items_len self.new ≤ A.CAPACITY }
+        ensures shorter { ShortensIn A.Item.is_default A.CAPACITY self.old self.new }
     {
         tinyvec_slots::retain_mut(self, &mut f);
     }
@@ -38,8 +36,7 @@ impl<A: Array> ArrayVec<A> {
     where
         A::Item: PartialEq,
         ensures items { items self.new ≡ dedup_list A.Item.eq (items self.old) }
-        ensures shorter { Shortens A.Item.is_default self.old self.new }
-        ensures fits { items_len self.new ≤ A.CAPACITY }
+        ensures shorter { ShortensIn A.Item.is_default A.CAPACITY self.old self.new }
     {
         self.dedup_by(|current, last| *current == *last);
     }
@@ -49,8 +46,7 @@ impl<A: Array> ArrayVec<A> {
     pub fn dedup_by<F: FnMut(&mut A::Item, &mut A::Item) -> bool>(&mut self, mut same: F)
         requires { F.IsAlwaysCallable same }
         ensures filtered { IsDeduped (CalledAtPairMut F.FnMut) same (items self.old) (items self.new) }
-        ensures shorter { Shortens A.Item.is_default self.old self.new }
-        ensures fits { items_len self.new ≤ A.CAPACITY }
+        ensures shorter { ShortensIn A.Item.is_default A.CAPACITY self.old self.new }
     {
         tinyvec_slots::dedup_by(self, &mut same);
     }
@@ -60,8 +56,7 @@ impl<A: Array> ArrayVec<A> {
     pub fn dedup_by_key<K: PartialEq + Drop, F: FnMut(&mut A::Item) -> K>(&mut self, mut key: F)
         requires { F.IsAlwaysCallable key }
         ensures filtered { IsDeduped (ComparesKeys F.FnMut K.eq) key (items self.old) (items self.new) }
-        ensures shorter { Shortens A.Item.is_default self.old self.new }
-        ensures fits { items_len self.new ≤ A.CAPACITY }
+        ensures shorter { ShortensIn A.Item.is_default A.CAPACITY self.old self.new }
     {
         tinyvec_slots::dedup_by_key(self, &mut key);
     }
@@ -72,8 +67,7 @@ impl<A: Array> ArrayVec<A> {
         requires { (x : A.Item) → slice_get (items self.old) (items_len self.old - 1) ≡ Some x
             → FnOnceTakesAtMut F.FnOnce predicate x }
         ensures popped { PopsIf F.FnOnce (items self.old) (items self.new) predicate result }
-        ensures shorter { Shortens A.Item.is_default self.old self.new }
-        ensures fits { items_len self.new ≤ A.CAPACITY }
+        ensures shorter { ShortensIn A.Item.is_default A.CAPACITY self.old self.new }
     {
         tinyvec_slots::pop_if(self, predicate)
     }

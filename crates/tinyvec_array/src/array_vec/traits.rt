@@ -1,10 +1,9 @@
 //! Comparisons, hashes, texts, writers, indexing and iteration.
-ghost use Rattle.std.specs.Prelude.{◌≡◌, ◌<◌, slice_index_or, ◌^◌, List, length, true, false, ◌+◌, ◌-◌, ◌≤◌, ◌↔◌, ◌++◌, drop, IsOk, OnOk, OnErr};
+ghost use Rattle.std.specs.Prelude.{◌≡◌, ◌<◌, slice_index_or, List, length, true, false, ◌+◌, ◌-◌, ◌≤◌, ◌↔◌, ◌++◌, drop, IsOk, OnOk, OnErr};
 ghost use Rattle.std.specs.Borrow.{sem};
 ghost use Rattle.tinyvec_slots.specs.Slots.{items, spare, items_len, with_items};
-ghost use Rattle.std.specs.Slice.Iter.{iter_rest, iter_mut_rest, iter_steps, iter_mut_steps};
-ghost use Rattle.std.specs.Iterator.Runs.{EveryRun, ItemsMapTo, YieldsInOrder, YieldsInReverse};
-ghost use Rattle.tinyvec_array.specs.IntoIter.{GivesFirst, GivesLast, GivesFromEnds, IteratesOver};
+ghost use Rattle.tinyvec_slots.specs.Filling.{Iterates, IteratesMut};
+ghost use Rattle.tinyvec_array.specs.IntoIter.{IteratesOver};
 ghost use Rattle.std.specs.Cmp.{on_equiv, on_total, on_po, on_per};
 ghost use Rattle.std.specs.Cmp.Lexicographic.{pointwise, slice_cmp, slice_partial_cmp, lists_per, lists_equiv, lists_po, lists_total, lists_agrees, lists_ties};
 ghost use Rattle.std.specs.Hash.{on_Alike, items_Alike};
@@ -75,8 +74,7 @@ impl<'a, T: Default + Drop + 'a, A: Array<Item = T>> IntoIterator for &'a ArrayV
 
     type IntoIter = slice::Iter<'a, T>;
 
-    ghost into_iter_gives = { λ v it. (iter_rest it ≡ items v.now) × (length (iter_rest it) < 2 ^ 64)
-        × EveryRun (iter_steps {A = T}) (λ p. ItemsMapTo p (λ x. x.now) (iter_rest p.from)) };
+    ghost into_iter_gives = { λ v it. Iterates (items v.now) it };
 
     fn into_iter(self) -> slice::Iter<'a, T> {
         self.iter()
@@ -90,13 +88,11 @@ impl<'a, T: Default + Drop + 'a, A: Array<Item = T>> IntoIterator for &'a mut Ar
 
     type IntoIter = slice::IterMut<'a, T>;
 
-    ghost into_iter_gives = { λ v it. (iter_mut_rest it ≡ items v.now) × (length (iter_mut_rest it) < 2 ^ 64)
-        × EveryRun (iter_mut_steps {A = T}) (λ p. ItemsMapTo p (λ x. x.now) (iter_mut_rest p.from)) };
+    ghost into_iter_gives = { λ v it. IteratesMut (items v.now) it };
 
     fn into_iter(self) -> slice::IterMut<'a, T>
         ensures* writes_back { sem 𝓛 (lends_iter A.row T.row A.Array T.Default self.entry result) }
-        ensures into_iter_gives { (iter_mut_rest result ≡ items self.old) × (length (iter_mut_rest result) < 2 ^ 64)
-            × EveryRun (iter_mut_steps {A = T}) (λ p. ItemsMapTo p (λ x. x.now) (iter_mut_rest p.from)) }
+        ensures into_iter_gives { IteratesMut (items self.old) result }
         ensures keeps_len { (ws : List T) → items_len (with_items self.old ws) ≡ items_len self.old }
     {
         self.iter_mut()
@@ -110,14 +106,7 @@ impl<A: Array> IntoIterator for ArrayVec<A> {
 
     ghost into_iter_gives = { λ v it. IteratesOver (items v) it };
 
-    fn into_iter(self) -> ArrayVecIterator<A>
-        ensures rest { result ≡ items self }
-        ensures bound { length result < 2 ^ 64 }
-        ensures runs { YieldsInOrder (GivesFirst {T = A.Item}) (λ left. left) }
-        ensures runs_back { YieldsInReverse (GivesLast {T = A.Item}) (λ left. left) }
-        ensures both_ends { GivesFromEnds result }
-        ensures into_iter_gives { IteratesOver (items self) result }
-    {
+    fn into_iter(self) -> ArrayVecIterator<A> {
         into_items(self)
     }
 }

@@ -1,8 +1,8 @@
 //! Growing by other lists, by clones, by iterators and by closures.
-ghost use Rattle.std.specs.Prelude.{◌≡◌, ◌+◌, ◌≤◌, ◌++◌, ℕ, length, take, drop, IsOk, OnOk, OnErr, [], ◌-◌, ◌∷◌, List, IfErr, Some, ◌<◌, replicate, reverse};
-ghost use Rattle.std.specs.List.{AppendsClones, AppendsResults};
-ghost use Rattle.tinyvec_slots.specs.Clones.{ClonesAreEqual, ClonesOver, ClonesBefore, AddsClones};
-ghost use Rattle.tinyvec_slice.specs.SliceVec.{items_of, spare_of, len_of, slots_of, view_of, SameLender, Gains, Loses};
+ghost use Rattle.std.specs.Prelude.{◌≡◌, ◌+◌, ◌≤◌, ◌++◌, length, take, drop, IsOk, OnOk, OnErr, [], ◌-◌, ◌∷◌, List, IfErr, Some, ◌<◌, reverse};
+ghost use Rattle.std.specs.List.{AppendsResults};
+ghost use Rattle.tinyvec_slots.specs.Clones.{AddsClones, ResizesByClones, CutsToClones};
+ghost use Rattle.tinyvec_slice.specs.SliceVec.{items_of, spare_of, len_of, slots_of, view_of, SameLender, Gains, Loses, Grows};
 ghost use Rattle.tinyvec_slots.specs.Slots.{AreDefaults};
 ghost use Rattle.tinyvec_slots.specs.Ranges.{IsRangeOf, removed};
 ghost use Rattle.tinyvec_slots.specs.Filling.{Fills, Extends};
@@ -54,11 +54,9 @@ impl<B: Lent> GenericSliceVec<B> {
     /// called on a full vector, so `iter` may be infinite.
     pub fn fill<I: IntoIterator<Item = B::Item>>(&mut self, iter: I) -> I::IntoIter
         requires { (it : I.IntoIter) → I.into_iter_gives iter it → I.IntoIter.can_next it }
-        ensures lender { SameLender B.Lent self.old self.new }
         ensures items { Fills I.into_iter_gives I.IntoIter.next_gives iter (length (spare_of B.Lent self.old))
             (λ xs. items_of B.Lent self.new ≡ items_of B.Lent self.old ++ xs) result }
-        ensures spare { spare_of B.Lent self.new
-            ≡ drop (len_of B.Lent self.new - len_of B.Lent self.old) (spare_of B.Lent self.old) }
+        ensures grows { Grows B.Lent self.old self.new }
 
         // An iterator that stopped at a full vector can be iterated further.
         ensures goes_on { length (spare_of B.Lent self.new) ≡ 0 → I.IntoIter.can_next result }
@@ -80,12 +78,10 @@ impl<B: Lent> GenericSliceVec<B> {
         iter: I,
     ) -> Result<(), NoRoom<B::Item, I::IntoIter>>
         requires { (it : I.IntoIter) → I.into_iter_gives iter it → I.IntoIter.can_next it }
-        ensures lender { SameLender B.Lent self.old self.new }
         ensures items { Extends I.into_iter_gives I.IntoIter.next_gives iter (length (spare_of B.Lent self.old))
             (λ xs. items_of B.Lent self.new ≡ items_of B.Lent self.old ++ xs) result }
         ensures full { OnErr result (spare_of B.Lent self.new ≡ []) }
-        ensures spare { spare_of B.Lent self.new
-            ≡ drop (len_of B.Lent self.new - len_of B.Lent self.old) (spare_of B.Lent self.old) }
+        ensures grows { Grows B.Lent self.old self.new }
 
         // The returned iterator can be iterated further.
         ensures goes_on { IfErr result (λ refused. I.IntoIter.can_next refused.rest) }
@@ -107,29 +103,12 @@ impl<B: Lent> GenericSliceVec<B> {
         B::Item: Clone,
         requires room { new_len ≤ length (slots_of B.Lent self.old) }
         ensures lender { SameLender B.Lent self.old self.new }
-        ensures items { OnOk result (AppendsClones B.Item.is_clone (take new_len (items_of B.Lent self.old))
-            (items_of B.Lent self.new) (replicate (new_len - len_of B.Lent self.old) value)) }
         ensures len { OnOk result (len_of B.Lent self.new ≡ new_len) }
-        ensures if_clones_equal { OnOk result (ClonesAreEqual B.Item.is_clone
-            → items_of B.Lent self.new
-            ≡ take new_len (items_of B.Lent self.old) ++ replicate (new_len - len_of B.Lent self.old) value) }
-        ensures spare { OnOk result (ClonesBefore B.Item.is_clone (replicate (len_of B.Lent self.old - new_len) value)
-            (drop (new_len - len_of B.Lent self.old) (spare_of B.Lent self.old)) (spare_of B.Lent self.new)) }
-        ensures spare_if_clones_equal { OnOk result (ClonesAreEqual B.Item.is_clone
-            → spare_of B.Lent self.new ≡ replicate (len_of B.Lent self.old - new_len) value
-            ++ drop (new_len - len_of B.Lent self.old) (spare_of B.Lent self.old)) }
+        ensures grown { len_of B.Lent self.old < new_len
+            → ResizesByClones B.Item.Clone new_len value result (view_of B.Lent self.old) (view_of B.Lent self.new) }
+        ensures cut { new_len ≤ len_of B.Lent self.old
+            → CutsToClones B.Item.Clone new_len value result (view_of B.Lent self.old) (view_of B.Lent self.new) }
         ensures value_returned { IfErr result (λ refused. refused.0 ≡ value) }
-
-        // A list that was to grow is as it was, and the first j spare slots hold the clones that were made.
-        ensures refused_growing { OnErr result (len_of B.Lent self.old ≤ new_len → (j : ℕ) × (j < new_len - len_of B.Lent self.old)
-            × ¬ (B.Item.is_infallible value) × (items_of B.Lent self.new ≡ items_of B.Lent self.old)
-            × ClonesOver B.Item.is_clone (replicate j value) j (spare_of B.Lent self.old) (spare_of B.Lent self.new)) }
-
-        // A list that was to be cut is shorter by the j slots that hold the clones that were made.
-        ensures refused_cutting { OnErr result (new_len ≤ len_of B.Lent self.old → (j : ℕ) × (j < len_of B.Lent self.old - new_len)
-            × ¬ (B.Item.is_infallible value)
-            × (items_of B.Lent self.new ≡ take (len_of B.Lent self.old - j) (items_of B.Lent self.old))
-            × ClonesBefore B.Item.is_clone (replicate j value) (spare_of B.Lent self.old) (spare_of B.Lent self.new)) }
         ensures succeeds { B.Item.is_infallible value → IsOk result }
     {
         let len = self.len();
@@ -152,15 +131,7 @@ impl<B: Lent> GenericSliceVec<B> {
         requires longer { len_of B.Lent self.old ≤ n }
         requires in_bounds { n ≤ length (slots_of B.Lent self.old) }
         ensures lender { SameLender B.Lent self.old self.new }
-        ensures items { OnOk result (AppendsClones B.Item.is_clone (items_of B.Lent self.old) (items_of B.Lent self.new)
-            (replicate (n - len_of B.Lent self.old) x.now)) }
-        ensures len { OnOk result (len_of B.Lent self.new ≡ n) }
-        ensures spare { OnOk result (spare_of B.Lent self.new
-            ≡ drop (n - len_of B.Lent self.old) (spare_of B.Lent self.old)) }
-        ensures kept { OnErr result (items_of B.Lent self.new ≡ items_of B.Lent self.old) }
-        ensures refused { OnErr result ((j : ℕ) × (j < n - len_of B.Lent self.old) × ¬ (B.Item.is_infallible x.now)
-            × ClonesOver B.Item.is_clone (replicate j x.now) j (spare_of B.Lent self.old) (spare_of B.Lent self.new)) }
-        ensures succeeds { B.Item.is_infallible x.now → IsOk result }
+        ensures grown { ResizesByClones B.Item.Clone n x.now result (view_of B.Lent self.old) (view_of B.Lent self.new) }
     {
         let len = self.len();
         fill_clones(self.lent.all_mut(), len, n, x)?;
@@ -174,13 +145,7 @@ impl<B: Lent> GenericSliceVec<B> {
         B::Item: Clone,
         requires shorter { n ≤ len_of B.Lent self.old }
         ensures lender { SameLender B.Lent self.old self.new }
-        ensures items { OnOk result (items_of B.Lent self.new ≡ take n (items_of B.Lent self.old)) }
-        ensures spare { OnOk result (ClonesBefore B.Item.is_clone (replicate (len_of B.Lent self.old - n) x.now)
-            (spare_of B.Lent self.old) (spare_of B.Lent self.new)) }
-        ensures refused { OnErr result ((j : ℕ) × (j < len_of B.Lent self.old - n) × ¬ (B.Item.is_infallible x.now)
-            × (items_of B.Lent self.new ≡ take (len_of B.Lent self.old - j) (items_of B.Lent self.old))
-            × ClonesBefore B.Item.is_clone (replicate j x.now) (spare_of B.Lent self.old) (spare_of B.Lent self.new)) }
-        ensures succeeds { B.Item.is_infallible x.now → IsOk result }
+        ensures cut { CutsToClones B.Item.Clone n x.now result (view_of B.Lent self.old) (view_of B.Lent self.new) }
     {
         while self.len() > n {
             let filling = x.clone()?;

@@ -2,10 +2,9 @@
 ghost use Rattle.std.specs.Prelude.{◌≡◌, ◌-◌, slice_get, Some};
 ghost use Rattle.std.specs.Fn.{CalledAt, FnOnceTakesAtMut};
 ghost use Rattle.std.specs.List.Retain.{IsFiltered, PopsIf};
-ghost use Rattle.tinyvec_slots.specs.Slots.{Shortens};
 ghost use Rattle.tinyvec_slots.specs.Ranges.{range_start, range_end, IsRangeOf};
 ghost use Rattle.tinyvec_slots.specs.Extracting.{Extracts};
-ghost use Rattle.tinyvec_slice.specs.SliceVec.{view_of, items_of, len_of, SameLender};
+ghost use Rattle.tinyvec_slice.specs.SliceVec.{items_of, len_of, Shortens};
 ghost use Rattle.tinyvec_slice.specs.CutLaws.{CutOf};
 
 use crate::{GenericSliceVec, Lent};
@@ -20,9 +19,8 @@ where
     /// vacated slots precede the old spare slots.
     pub fn retain<F: FnMut(&B::Item) -> bool>(&mut self, mut f: F)
         requires { F.IsAlwaysCallable f }
-        ensures lender { SameLender B.Lent self.old self.new }
         ensures filtered { IsFiltered (CalledAt F.FnMut) f (items_of B.Lent self.old) (items_of B.Lent self.new) }
-        ensures shorter { Shortens B.Item.is_default (view_of B.Lent self.old) (view_of B.Lent self.new) }
+        ensures shorter { Shortens B.Lent B.Item.is_default self.old self.new }
     {
         tinyvec_slots::retain(self, &mut f);
     }
@@ -32,9 +30,8 @@ where
     pub fn pop_if<F: FnOnce(&mut B::Item) -> bool>(&mut self, predicate: F) -> Option<B::Item>
         requires { (x : B.Item) → slice_get (items_of B.Lent self.old) (len_of B.Lent self.old - 1) ≡ Some x
             → FnOnceTakesAtMut F.FnOnce predicate x }
-        ensures lender { SameLender B.Lent self.old self.new }
         ensures popped { PopsIf F.FnOnce (items_of B.Lent self.old) (items_of B.Lent self.new) predicate result }
-        ensures shorter { Shortens B.Item.is_default (view_of B.Lent self.old) (view_of B.Lent self.new) }
+        ensures shorter { Shortens B.Lent B.Item.is_default self.old self.new }
     {
         tinyvec_slots::pop_if(self, predicate)
     }

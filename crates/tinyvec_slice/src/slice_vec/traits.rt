@@ -1,10 +1,9 @@
 //! Comparisons, hashes, texts, writers, indexing and iteration.
-ghost use Rattle.std.specs.Prelude.{◌≡◌, ◌<◌, length, slice_index_or, ◌^◌, true, false, ◌+◌, ◌≤◌, ◌↔◌, ◌++◌, drop, IsOk, OnErr};
+ghost use Rattle.std.specs.Prelude.{◌≡◌, ◌<◌, length, slice_index_or, true, false, ◌+◌, ◌≤◌, ◌↔◌, ◌++◌, drop, IsOk, OnErr};
 ghost use Rattle.std.specs.Borrow.{sem};
 ghost use Rattle.tinyvec_slice.specs.SliceVec.{items_of, spare_of, slots_of, name_of, len_of, items};
 ghost use Rattle.tinyvec_slice.specs.Lends.{lends_items, lends_item};
-ghost use Rattle.std.specs.Slice.Iter.{iter_mut_rest, iter_mut_steps};
-ghost use Rattle.std.specs.Iterator.Runs.{EveryRun, ItemsMapTo};
+ghost use Rattle.tinyvec_slots.specs.Filling.{IteratesMut};
 ghost use Rattle.std.specs.Cmp.{on_equiv, on_total, on_po, on_per};
 ghost use Rattle.std.specs.Cmp.Lexicographic.{pointwise, slice_cmp, slice_partial_cmp, lists_per, lists_equiv, lists_po, lists_total, lists_agrees, lists_ties};
 ghost use Rattle.std.specs.Hash.{on_Alike, items_Alike};
@@ -50,8 +49,7 @@ impl<'s, T: Drop> IntoIterator for GenericSliceVec<&'s mut [T]> {
 
     type IntoIter = slice::IterMut<'s, T>;
 
-    ghost into_iter_gives = { λ v it. (iter_mut_rest it ≡ items v) × (length (iter_mut_rest it) < 2 ^ 64)
-        × EveryRun (iter_mut_steps {A = T}) (λ p. ItemsMapTo p (λ x. x.now) (iter_mut_rest p.from)) };
+    ghost into_iter_gives = { λ v it. IteratesMut (items v) it };
 
     /// The items of the list for writing, without the spare slots. Limitation: the owner's proof does not learn what is
     /// written; loop over `as_mut_slice().iter_mut()` instead.

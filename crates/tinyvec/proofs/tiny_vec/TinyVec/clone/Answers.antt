@@ -35,14 +35,14 @@ returns-in_err-copy-in-Inline-clause-succeeds g c = λ inline all.
 pub returns-in-Inline-clause-copied : goal.returns-in-Inline-clause-copied
 returns-in-Inline-clause-copied g c =
     let made = c.in_ok-copy-in-Inline.ensures in record {
-      items = rw c.in-Inline.is made.items;
-      spare = rw c.in-Inline.is (spare_cloned g.A.Item.Clone.is_clone c.in-Inline.v c.in_ok-copy-in-Inline.copy made.len made.slots);
+      items = rw c.in-Inline.is made.items.each;
+      spare = rw c.in-Inline.is (spare_cloned g.A.Item.Clone.is_clone c.in-Inline.v c.in_ok-copy-in-Inline.copy made.items.len made.slots.each);
       place = sym (ap is_inline c.in-Inline.is);
       room = λ heap. absurd (false≢true (sym heap));
     }
 
 pub returns-in-Inline-clause-len : goal.returns-in-Inline-clause-len
-returns-in-Inline-clause-len g c = rw c.in-Inline.is c.in_ok-copy-in-Inline.ensures.len
+returns-in-Inline-clause-len g c = rw c.in-Inline.is c.in_ok-copy-in-Inline.ensures.items.len
 
 pub returns-in-Inline-clause-if_clones_equal : goal.returns-in-Inline-clause-if_clones_equal
 returns-in-Inline-clause-if_clones_equal g c = λ rule.

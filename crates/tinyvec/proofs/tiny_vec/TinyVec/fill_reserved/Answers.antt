@@ -14,4 +14,4 @@ returns-in-Inline-clause-items g c =
     let len = c.len.ensures.value in
     let whole : take n olds ≡ olds = take_all n olds (omega arith) in
     let more : n - items_len c.in-Inline.v ≡ c.args.n = omega arith in
-    rw c.in-Inline.is (rw (whole, more) at c.resize.ensures.items)
+    rw c.in-Inline.is (rw (whole, more) at c.resize.ensures.resized.items)

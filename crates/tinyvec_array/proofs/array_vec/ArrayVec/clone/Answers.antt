@@ -1,7 +1,8 @@
-use Rattle.std.proofs.Common.{◌≡◌, refl, sym, ap, ◌∙◌}
+use Rattle.std.proofs.Common.{◌≡◌, refl, ap, ◌∙◌}
 use Rattle.std.specs.List.{AllZip}
-use Rattle.std.proofs.lemmas.List.Elements.{same_from_all_zip, length_all_zip}
+use Rattle.std.proofs.lemmas.List.Elements.{same_from_all_zip}
 use Rattle.tinyvec_slots.specs.Slots.{all_slots, split_at}
+use Rattle.tinyvec_slots.specs.Clones.{are_clones}
 use Rattle.tinyvec_slots.proofs.ClonesOverLemmas.{AllZip-take}
 use Rattle.tinyvec_array.proofs.array_vec.ArrayVec.clone.Goals as goal
 
@@ -14,9 +15,8 @@ returns g c =
     let items = AllZip-take C v.len (all_slots v) new slots in
     let after : c.from_array_len.result ≡ split_at v.len new = c.from_array_len.ensures ∙ ap (λ n. split_at n new) c.len-len.ensures.field in
     record {
-      items = rw after items;
-      slots = rw after slots;
-      len = rw after (sym (length_all_zip C _ _ items));
+      items = rw after (are_clones C _ _ items);
+      slots = rw after (are_clones C _ _ slots);
       if_clones_equal = λ rule. after ∙ ap (split_at v.len) (same_from_all_zip C (all_slots v) new slots rule);
       refused = tt;
       succeeds = λ _. refl;

@@ -1,6 +1,6 @@
 use Rattle.std.proofs.Common.{◌≡◌, ◌+◌, ◌≤◌, ◌++◌, length, take, drop, refl, sym, ap, ◌∙◌, arith, take_at, drop_at}
-use Rattle.std.proofs.lemmas.List.Elements.{same_from_all_zip}
 use Rattle.tinyvec_slots.specs.Slots.{items, spare, all_slots, split_at}
+use Rattle.tinyvec_slots.specs.Clones.{are_clones}
 use Rattle.tinyvec_slots.proofs.CloneLemmas.{on_err}
 use Rattle.tinyvec_slots.proofs.CloneFromLemmas.{clones_in_part, all_cloned}
 use Rattle.tinyvec_array.proofs.array_vec.ArrayVec.clone_from.Goals as goal
@@ -37,9 +37,7 @@ returns g c =
     let listed : items new ≡ over.made = ap (take n) written ∙ take_at over.made (drop (length source) slots) n count in
     let behind : spare new ≡ drop (length source) slots = ap (drop n) written ∙ drop_at over.made (drop (length source) slots) n count in
     record {
-      items = rw (← c.as_slice.ensures, c.set_len.ensures.value, listed) (over.clones);
-      len = rw (c.set_len.ensures.value) (ap length listed ∙ over.count ∙ ap length c.as_slice.ensures);
-      if_clones_equal = λ rule. rw (c.set_len.ensures.value) (listed ∙ same_from_all_zip g.A.Item.Clone.is_clone source over.made over.clones rule ∙ c.as_slice.ensures);
+      items = rw (← c.as_slice.ensures, c.set_len.ensures.value, listed) (are_clones g.A.Item.Clone.is_clone source over.made over.clones);
       slot_rule = rw (c.set_len.ensures.value) (all_cloned g.A.Item.Default.is_default g.A.Item.Clone.is_infallible g.A.Item.Clone.is_clone c.args.self.now cut cut source n
           refl long fits c.truncate.ensures.items c.truncate.ensures.spare new (ap length listed ∙ over.count) behind);
       fits = rw (c.set_len.ensures.fits) c.len-len.ensures.fits;

@@ -10,11 +10,13 @@ returns g c =
       search rules,
       record {
         writes_back = tt;
-        rest = search rules;
-        len = search rules;
-        bound = c.iter_mut.ensures.bound;
+        yields = record {
+          rest = search rules;
+          len = search rules;
+          bound = c.iter_mut.ensures.bound;
+          runs = c.iter_mut.ensures.runs;
+          runs_back = c.iter_mut.ensures.runs_back;
+        };
         keeps_len = λ ws. items_len-with_items v ws within;
-        runs = c.iter_mut.ensures.runs;
-        runs_back = c.iter_mut.ensures.runs_back;
       },
     )

@@ -18,30 +18,34 @@ returns-in-Ok g c =
     let written = rw sum at (clones_written fits made) in
     let after = c.set_len.ensures.value in
     record {
-      items = rw (after, all, long) (written.0);
-      len = c.set_len.ensures.fits;
-      if_clones_equal = rw (after, all, long) (written.2);
+      resized = record {
+        items = rw (after, all, long) (written.0);
+        len = c.set_len.ensures.fits;
+        if_clones_equal = rw (after, all, long) (written.2);
+        spare = λ _. rw (after, long) (written.3);
+        kept = tt;
+        refused = tt;
+        succeeds = λ _. refl;
+      };
       slot_rule = rw after (slots_used g.A.Item.Default.is_default v (split_at n new) (n - v.len) written.1 written.3);
       value_returned = tt;
-      kept = tt;
-      refused = tt;
       fits = rw (c.set_len.ensures.fits) c.requires.room;
       cuts = λ _. refl;
-      succeeds = λ _. refl;
     }
 
-pub returns-in-Err-clause-kept : goal.returns-in-Err-clause-kept
-returns-in-Err-clause-kept g c =
-    let v = c.args.self.now in
-    let made = rw (c.slots_mut.ensures.value, c.len-len.ensures.field) at c.in-Err.ensures.refused.3 in
-    let fits : v.len ≤ length (all_slots v) = omega (arith, c.len-len.ensures) in
-    kept_in_front fits made
-
-pub returns-in-Err-clause-refused : goal.returns-in-Err-clause-refused
-returns-in-Err-clause-refused g c =
+pub returns-in-Err-clause-resized : goal.returns-in-Err-clause-resized
+returns-in-Err-clause-resized g c =
     let v = c.args.self.now in
     let h = c.in-Err.ensures.refused in
     let few = rw c.len-len.ensures.value at h.1 in
     let made = rw (c.slots_mut.ensures.value, c.len-len.ensures.field) at h.3 in
     let fits : v.len ≤ length (all_slots v) = omega (arith, c.len-len.ensures) in
-    (h.0, few, h.2, clones_behind fits made)
+    record {
+      items = tt;
+      len = tt;
+      if_clones_equal = tt;
+      spare = tt;
+      kept = kept_in_front fits made;
+      refused = (h.0, few, h.2, clones_behind fits made);
+      succeeds = λ fine. absurd (h.2 fine);
+    }

@@ -20,8 +20,8 @@ returns-clause-known g c = λ xs yields.
     let known = c.finish.ensures.known xs (made.unasked, yields _ made.replacement) in
     search rules
 
-pub returns-clause-slot_rule : goal.returns-clause-slot_rule
-returns-clause-slot_rule g c =
+pub returns-clause-changes : goal.returns-clause-changes
+returns-clause-changes g c =
     let made = c.splice-splice.ensures in
     let lender = made.same_reference in
     let ruled : SlotRule g.A.Item.Default.is_default c.args.self.now c.finish.new.self.0 = subst (λ v. SlotRule g.A.Item.Default.is_default v c.finish.new.self.0) made.slots c.finish.ensures.slot_rule in

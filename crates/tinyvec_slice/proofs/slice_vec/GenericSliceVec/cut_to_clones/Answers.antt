@@ -1,9 +1,9 @@
-use Rattle.std.proofs.Common.{[], ◌-◌, ◌<◌, ◌≡◌, length, take, replicate, refl, sym, ap, subst, ◌∙◌, le_refl, arith, take_all}
+use Rattle.std.proofs.Common.{[], ◌-◌, ◌<◌, ◌≡◌, length, take, replicate, refl, sym, ap, subst, ◌∙◌, le_refl, arith, take_all, rules}
 use Rattle.std.specs.List.{AllZip}
 use Rattle.tinyvec_slots.proofs.CloneLemmas.{on_err}
 use Rattle.tinyvec_slots.specs.Clones.{ClonesBefore}
 use Rattle.tinyvec_slice.specs.SliceVec.{items_of, spare_of}
-use Rattle.tinyvec_slice.proofs.ResizingLemmas.{one_less, first_items, clone_before, left_after}
+use Rattle.tinyvec_slice.proofs.ResizingLemmas.{one_less, first_items, clone_before, left_after, before_equal}
 use Rattle.tinyvec_slice.proofs.ViewLemmas.{same_lender, SameLender-then}
 use Rattle.tinyvec_slice.proofs.slice_vec.GenericSliceVec.cut_to_clones.Goals as goal
 
@@ -40,30 +40,35 @@ loop-n-preserved g c =
       lender = SameLender-then g.B.Lent _ _ _ inv.lender put.lender;
     }
 
-pub returns-in_err-filling-clause-refused : goal.returns-in_err-filling-clause-refused
-returns-in_err-filling-clause-refused g c =
+pub returns-in_err-filling-clause-cut : goal.returns-in_err-filling-clause-cut
+returns-in_err-filling-clause-cut g c =
     let at = c.loop-n in
     let inv = at.invariant in
     let whole = items_of g.B.Lent c.args.self.now in
     let k = length (items_of g.B.Lent at.self) in
     let len = c.len.ensures.value in
     let more = c.loop-n-test.true in
-    on_err c.from_residual.result (length whole - k, omega (arith, inv.shorter, len, more), c.in_err-filling.ensures.cases, inv.kept ∙ left_after whole k inv.shorter, inv.cloned)
+    record {
+      items = search rules;
+      spare = search rules;
+      if_clones_equal = search rules;
+      refused = on_err c.from_residual.result (length whole - k, omega (arith, inv.shorter, len, more), c.in_err-filling.ensures.cases, inv.kept ∙ left_after whole k inv.shorter, inv.cloned);
+      succeeds = λ fine. absurd (c.in_err-filling.ensures.cases fine);
+    }
 
-pub returns-clause-items : goal.returns-clause-items
-returns-clause-items g c =
-    let at = c.loop-n in
-    let len = c.len.ensures.value in
-    let done = c.loop-n-test.false in
-    let ends : length (items_of g.B.Lent at.self) ≡ c.args.n = omega (arith, at.invariant.enough) in
-    at.invariant.kept ∙ ap (λ n. take n (items_of g.B.Lent c.args.self.now)) ends
-
-pub returns-clause-spare : goal.returns-clause-spare
-returns-clause-spare g c =
+pub returns-clause-cut : goal.returns-clause-cut
+returns-clause-cut g c =
     let at = c.loop-n in
     let len = c.len.ensures.value in
     let done = c.loop-n-test.false in
     let ends : length (items_of g.B.Lent at.self) ≡ c.args.n = omega (arith, at.invariant.enough) in
     let old = c.args.self.now in
     let base = spare_of g.B.Lent old in
-    subst (λ n. ClonesBefore g.B.Item.Clone.is_clone (replicate (length (items_of g.B.Lent old) - n) c.args.x.now) base (spare_of g.B.Lent at.self)) ends at.invariant.cloned
+    let behind = subst (λ n. ClonesBefore g.B.Item.Clone.is_clone (replicate (length (items_of g.B.Lent old) - n) c.args.x.now) base (spare_of g.B.Lent at.self)) ends at.invariant.cloned in
+    record {
+      items = at.invariant.kept ∙ ap (λ n. take n (items_of g.B.Lent old)) ends;
+      spare = behind;
+      if_clones_equal = λ rule. before_equal g.B.Item.Clone.is_clone rule _ _ _ behind;
+      refused = tt;
+      succeeds = λ _. refl;
+    }

@@ -12,7 +12,7 @@ returns-then-not-is_full-clause-items g c =
     let S = spare_of g.B.Lent c.args.self.now in
     let new = c.fill-items.new.self in
     let grown = ap length is ∙ length-append L xs in
-    let left = ap length c.fill-items.ensures.spare ∙ length-drop (length (items_of g.B.Lent new) - length L) S in
+    let left = ap length c.fill-items.ensures.grows.spare ∙ length-drop (length (items_of g.B.Lent new) - length L) S in
     let room : 0 < length (spare_of g.B.Lent new) = grind (arith, common_steps) in
     extends_all _ _ _ _ _ it xs begun is c.fill-items.result _ run.at_most_n (run.ended (omega (arith, grown, left, room)))
 
@@ -23,7 +23,7 @@ returns-in-Some-clause-items g c =
     let S = spare_of g.B.Lent c.args.self.now in
     let new = c.fill-items.new.self in
     let grown = ap length is ∙ length-append L xs in
-    let left = ap length c.fill-items.ensures.spare ∙ length-drop (length (items_of g.B.Lent new) - length L) S in
+    let left = ap length c.fill-items.ensures.grows.spare ∙ length-drop (length (items_of g.B.Lent new) - length L) S in
     let none : length (spare_of g.B.Lent new) ≡ 0 = grind (arith, common_steps) in
     let full : length xs ≡ length S = omega (arith, grown, left, none, run.at_most_n) in
     extends_full _ _ _ _ _ it xs begun is c.next.new.self c.in-Some.item full (c.fill-items.result, run.stopped full, c.in-Some.ensures.steps)
@@ -38,7 +38,7 @@ returns-in-None-clause-items g c =
     let S = spare_of g.B.Lent c.args.self.now in
     let new = c.fill-items.new.self in
     let grown = ap length is ∙ length-append L xs in
-    let left = ap length c.fill-items.ensures.spare ∙ length-drop (length (items_of g.B.Lent new) - length L) S in
+    let left = ap length c.fill-items.ensures.grows.spare ∙ length-drop (length (items_of g.B.Lent new) - length L) S in
     let none : length (spare_of g.B.Lent new) ≡ 0 = grind (arith, common_steps) in
     let full : length xs ≡ length S = omega (arith, grown, left, none, run.at_most_n) in
     extends_all _ _ _ _ _ it xs begun is c.next.new.self _ run.at_most_n (c.fill-items.result, run.stopped full, c.in-None.ensures.steps)

@@ -1,4 +1,4 @@
-use Rattle.std.proofs.Common.{◌≡◌, ◌<◌, ◌≤◌, ◌+◌, ◌-◌, length, drop, sym, ap, ◌∙◌, arith, rules}
+use Rattle.std.proofs.Common.{◌≡◌, ◌<◌, ◌≤◌, ◌+◌, ◌-◌, length, take, take_all, drop, refl, sym, ap, ◌∙◌, arith, rules}
 use Rattle.tinyvec_slots.proofs.CloneLemmas.{on_err}
 use Rattle.tinyvec_slots.proofs.BorderLemmas.{kept_in_front, clones_behind, clones_written, border, within, list_to, spare_from}
 use Rattle.tinyvec_slice.specs.SliceVec.{spare_of}
@@ -20,20 +20,21 @@ module _ (g : _) (c : goal.After-from_residual g) where
   le : c.args.self.now.len ≤ length (g.B.Lent.slots c.args.self.now.lent)
   le = rw (← same) (within c.args.self.now.len (g.B.Lent.slots c.args.self.now.lent) c.len-len.result c.len-len.ensures.value)
 
-pub returns-in_err-fill_clones-clause-kept : goal.returns-in_err-fill_clones-clause-kept
-returns-in_err-fill_clones-clause-kept g c =
-    let v = c.args.self.now in
-    let h = c.in_err-fill_clones.ensures.refused in
-    let made = rw (c.all_mut.ensures.value, ← g.B.Lent.slots_written v.lent c.fill_clones.new.to, same g c) at h.3 in
-    on_err c.from_residual.result (kept_in_front (le g c) made)
-
-pub returns-in_err-fill_clones-clause-refused : goal.returns-in_err-fill_clones-clause-refused
-returns-in_err-fill_clones-clause-refused g c =
+pub returns-in_err-fill_clones-clause-grown : goal.returns-in_err-fill_clones-clause-grown
+returns-in_err-fill_clones-clause-grown g c =
     let v = c.args.self.now in
     let h = c.in_err-fill_clones.ensures.refused in
     let made = rw (c.all_mut.ensures.value, ← g.B.Lent.slots_written v.lent c.fill_clones.new.to, same g c) at h.3 in
     let few = rw c.len-len.ensures.value at h.1 in
-    on_err c.from_residual.result (h.0, few, h.2, clones_behind (le g c) made)
+    record {
+      items = search rules;
+      len = search rules;
+      if_clones_equal = search rules;
+      spare = search rules;
+      kept = on_err c.from_residual.result (kept_in_front (le g c) made);
+      refused = on_err c.from_residual.result (h.0, few, h.2, clones_behind (le g c) made);
+      succeeds = λ fine. absurd (h.2 fine);
+    }
 
 pub returns : goal.returns
 returns g c =
@@ -46,12 +47,16 @@ returns g c =
     let made = rw (c.all_mut.ensures.value, ← g.B.Lent.slots_written v.lent c.fill_clones.new.to) at c.in_ok-fill_clones.ensures.ok in
     let written = rw sum at (clones_written (within v.len slots len long) made) in
     let list = list_to v.len slots len long in
+    let all : take n (take v.len slots) ≡ take v.len slots = take_all n (take v.len slots) (omega (arith, long, c.requires.longer)) in
     record {
       lender = record { same_reference = search rules; slot_count = ap length (g.B.Lent.slots_written v.lent c.fill_clones.new.to) ∙ c.fill_clones.auto.to ∙ ap length c.all_mut.ensures.value };
-      items = rw (← long, ← list) (written.0);
-      len = written.1 ∙ ap (λ l. length l + (n - len)) list ∙ ap (λ k. k + (n - len)) (sym long) ∙ sum;
-      spare = rw (← long) (written.3 ∙ ap (drop (n - len)) (spare_from v.len slots len long));
-      kept = search rules;
-      refused = search rules;
-      succeeds = search rules;
+      grown = record {
+        items = rw (all, ← long, ← list) (written.0);
+        len = written.1 ∙ ap (λ l. length l + (n - len)) list ∙ ap (λ k. k + (n - len)) (sym long) ∙ sum;
+        if_clones_equal = rw (all, ← long, ← list) (written.2);
+        spare = λ _. rw (← long) (written.3 ∙ ap (drop (n - len)) (spare_from v.len slots len long));
+        kept = tt;
+        refused = tt;
+        succeeds = λ _. refl;
+      };
     }

@@ -1,14 +1,5 @@
-use Rattle.tinyvec_array.proofs.IntoIterLemmas.{gives_runs, gives_runs_back, gives_from_ends}
+use Rattle.tinyvec_array.proofs.IntoIterLemmas.{iterates_over}
 use Rattle.tinyvec_array.proofs.array_vec.traits.ArrayVecIntoIterator.into_iter.Goals as goal
 
-pub returns-clause-runs : goal.returns-clause-runs
-returns-clause-runs g c = gives_runs
-
-pub returns-clause-runs_back : goal.returns-clause-runs_back
-returns-clause-runs_back g c = gives_runs_back
-
-pub returns-clause-both_ends : goal.returns-clause-both_ends
-returns-clause-both_ends g c = gives_from_ends c.into_items.result
-
-pub returns-clause-into_iter_gives : goal.returns-clause-into_iter_gives
-returns-clause-into_iter_gives g c = (c.into_items.ensures.items, c.into_items.ensures.bound, gives_runs, gives_runs_back)
+pub returns : goal.returns
+returns g c = record { into_iter_gives = iterates_over _ _ c.into_items.ensures.items c.into_items.ensures.bound }
