@@ -1,5 +1,5 @@
 //! The calls of every splice, over its parts: the list, the gap in it and the replacement.
-ghost use Rattle.std.specs.Prelude.{◌≡◌, ◌+◌, ◌-◌, ◌*◌, ◌<◌, ◌≤◌, ◌++◌, ⊤, List, Some, length, take, drop, IsOk, OnErr, IfErr, MatchResult};
+ghost use Rattle.std.specs.Prelude.{◌≡◌, ◌+◌, ◌-◌, ◌<◌, ◌≤◌, ◌++◌, ⊤, List, Some, length, take, drop, IsOk, OnErr, IfErr, MatchResult};
 ghost use Rattle.std.specs.Bool.{MatchBool};
 ghost use Rattle.std.specs.Iterator.{Drains, YieldsThen, IsFinite};
 ghost use Rattle.std.specs.Iterator.Adapters.{fuse_done, fuse_steps};
@@ -8,7 +8,7 @@ ghost use Rattle.tinyvec_slots.specs.Filling.{ShowsItems};
 ghost use Rattle.tinyvec_slots.specs.Fused.{FusedCan, FusedFinite, fused_rest};
 ghost use Rattle.tinyvec_slots.specs.Gap.{gap_len, gap_front, gap_back, gap_touches, gap_view, GapCanStep, GapSteps};
 ghost use Rattle.tinyvec_slots.specs.Touches.{FitsBits};
-ghost use Rattle.tinyvec_slots.specs.AnySplice.{GivesFromFront, GivesFromBack, finish_placed, finish_bound, Finishes, FinishesWith};
+ghost use Rattle.tinyvec_slots.specs.AnySplice.{GivesFromFront, GivesFromBack, FinishTouches, Finishes, FinishesWith};
 
 use crate::{CanSplice, Gap, SpliceRest};
 use std::iter::Fuse;
@@ -86,17 +86,8 @@ pub fn splice_finish<V: CanSplice, I: Iterator<Item = V::Item>>(
     requires ready { GapCanStep gap (fuse_done replacement) (length (V.items vec.old)) }
     requires can { FusedCan I.can_next replacement }
     requires finite { MatchBool V.must_end (FusedFinite I.remaining replacement) ⊤ }
-    ensures filled { length (V.items vec.new) ≡ length (V.items vec.old)
-        → result.1 ≡ gap_touches gap
-        + 2 * finish_placed (gap_view gap replacement (V.items vec.old)) (V.items vec.new) }
-    ensures closed { length (V.items vec.new) < length (V.items vec.old)
-        → result.1 ≡ gap_touches gap + finish_placed (gap_view gap replacement (V.items vec.old)) (V.items vec.new)
-        + (length (V.items vec.old) - length (take (gap_front gap) (V.items vec.old))) }
-    ensures at_least { gap_touches gap + finish_placed (gap_view gap replacement (V.items vec.old)) (V.items vec.new)
-        ≤ result.1 }
-    ensures at_most { result.1 ≤ gap_touches gap
-        + finish_bound (gap_view gap replacement (V.items vec.old)) (length (V.items vec.old)) (V.items vec.new)
-        + V.moved vec.old vec.new }
+    ensures touches { FinishTouches (gap_view gap replacement (V.items vec.old)) (length (V.items vec.old))
+        (V.moved vec.old vec.new) (V.items vec.new) result.1 }
     ensures finished { Finishes (fuse_steps I.next_gives) (V.room vec.new)
         (gap_view gap replacement (V.items vec.old)) result.0 (V.items vec.new) }
     ensures grown { V.Grown vec.old vec.new }
