@@ -117,18 +117,14 @@ fn append_in<V: CanSplice, I: Iterator<Item = V::Item>>(
     gap: &mut Gap,
     replacement: I,
 ) -> Result<(), SpliceRest<V::Item, I>>
+    requires filled { gap_front gap.old ≡ gap_back gap.old }
     requires in_bounds { gap_front gap.old ≤ length (V.items vec.old) }
     requires few { FitsBits 70 (gap_touches gap.old) }
     requires can { I.can_next replacement }
     requires finite { MatchBool V.must_end (IsFinite (I.remaining replacement)) ⊤ }
-    ensures ran { (placed : List V.Item) × MatchResult result (λ _. Drains I.next_gives replacement placed)
-        (λ refused. YieldsThen I.next_gives replacement placed (Some refused.item) refused.rest)
-        × (V.items vec.new ≡ take (gap_front gap.old) (V.items vec.old) ++ placed
-        ++ drop (gap_front gap.old) (V.items vec.old)) }
-    ensures full { OnErr result (length (V.items vec.new) ≡ V.room vec.new) }
-    ensures longer { length (V.items vec.old) ≤ length (V.items vec.new) }
+    ensures finished { Finishes I.next_gives (V.room vec.new) (gap_view gap.old replacement (V.items vec.old))
+        result (V.items vec.new) }
     ensures grown { V.Grown vec.old vec.new }
-    ensures fits { length (V.items vec.new) ≤ V.room vec.new }
     ensures goes_on { IfErr result (λ refused. I.can_next refused.rest) }
     ensures none { length (V.items vec.new) ≡ length (V.items vec.old) → gap_touches gap.new ≡ gap_touches gap.old }
     ensures at_least { gap_touches gap.old + (length (V.items vec.new) - length (V.items vec.old)) ≤ gap_touches gap.new }
