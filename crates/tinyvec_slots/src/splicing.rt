@@ -1,10 +1,11 @@
 //! The calls of every splice, over its parts: the list, the gap in it and the replacement.
-ghost use Rattle.std.specs.Prelude.{◌≡◌, ◌+◌, ◌-◌, ◌<◌, ◌≤◌, ◌++◌, ⊤, List, Some, length, take, drop, IsOk, OnErr, IfErr, MatchResult};
+ghost use Rattle.std.specs.Prelude.{◌≡◌, ◌+◌, ◌-◌, ◌<◌, ◌≤◌, ◌++◌, ⊤, List, Some, length, take, drop, IsOk, OnErr, IfErr};
 ghost use Rattle.std.specs.Bool.{MatchBool};
-ghost use Rattle.std.specs.Iterator.{Drains, YieldsThen, IsFinite};
+ghost use Rattle.std.specs.Iterator.{IsFinite};
 ghost use Rattle.std.specs.Iterator.Adapters.{fuse_done, fuse_steps};
 ghost use Rattle.tinyvec_slots.specs.Ranges.{Within};
 ghost use Rattle.tinyvec_slots.specs.Filling.{ShowsItems};
+ghost use Rattle.tinyvec_slots.specs.Filters.{Shortened};
 ghost use Rattle.tinyvec_slots.specs.Fused.{FusedCan, FusedFinite, fused_rest};
 ghost use Rattle.tinyvec_slots.specs.Gap.{gap_len, gap_front, gap_back, gap_touches, gap_view, GapCanStep, GapSteps};
 ghost use Rattle.tinyvec_slots.specs.Touches.{FitsBits};
@@ -67,8 +68,7 @@ pub fn splice_stop<V: CanSplice>(vec: &mut V, gap: &mut Gap)
     ensures items { V.items vec.new
         ≡ take (gap_front gap.old) (V.items vec.old) ++ drop (gap_back gap.old) (V.items vec.old) }
     ensures len { length (V.items vec.old) ≡ length (V.items vec.new) + (gap_back gap.old - gap_front gap.old) }
-    ensures cut { V.Truncated vec.old vec.new }
-    ensures fits { length (V.items vec.new) ≤ V.room vec.new }
+    ensures shorter { Shortened V.items V.room V.Truncated vec.old vec.new }
     ensures touches { gap_touches gap.new ≡ gap_touches gap.old + (length (V.items vec.old) - gap_front gap.old) }
 {
     let keep = gap.close(vec.as_mut_slice());
