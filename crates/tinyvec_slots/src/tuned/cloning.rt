@@ -110,8 +110,8 @@ fn clone_block_and_rest<T: Clone + Default, const N: usize>(
 {
     clone_block::<T, N>(to, from)?;
     // The borrow checker covers no range that begins at a const parameter.
-    let done = N;
-    clone_each(&mut to[done..], &from[done..])
+    let block = N;
+    clone_each(&mut to[block..], &from[block..])
 }
 
 // Like `clone_over`, in blocks of 16, and then item by item.
