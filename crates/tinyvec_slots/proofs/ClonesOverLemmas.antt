@@ -183,3 +183,10 @@ module _ {X R E : Type 0} (g : Clone.Ghosts X) (r : Result R E) where
     refused = on_err_weaker r (clones_in_part g.is_clone from old to part a fits long within done g.is_infallible) h.refused;
     succeeds = λ all. h.succeeds (All-take g.is_infallible (length from - a) (drop a from) (All-drop g.is_infallible a from all));
   }
+
+  -- a call that wrote clones over the slots from `start` on, seen from all of them
+  pub writes_from : (start : ℕ) (xs slots new : List X) → start + length xs ≤ length slots
+      → WritesClones g (λ ys n. ClonesOver g.is_clone ys n (take (length slots - start) (drop start slots)) new) xs r
+      → WritesClones g (λ ys n. ClonesOverFrom g.is_clone start ys n slots (take start slots ++ (new ++ post_of start (length slots - start) slots))) xs r
+  writes_from start xs slots new fits =
+      writes_weaker _ _ xs (λ ys n le. clones_from g.is_clone start (length slots - start) n ys slots new (omega (arith, fits)) (omega (arith, fits, le)))

@@ -1,5 +1,5 @@
 -- Lemmas on the end of a splice.
-use Rattle.std.proofs.Common.{◌≡◌, ◌+◌, ◌≤◌, ℕ, true, false, List, ◌∷◌, ◌++◌, length, take, drop, Option, Some, None, Result, Ok, Err, MatchResult, OnErr, refl, sym, ap, ◌∙◌, append_assoc, arith, length-append}
+use Rattle.std.proofs.Common.{◌≡◌, ◌+◌, ◌≤◌, ℕ, true, false, List, ◌∷◌, ◌++◌, length, Option, Some, None, Result, Ok, Err, MatchResult, refl, sym, ap, ◌∙◌, append_assoc, arith, length-append}
 use Rattle.std.proofs.lemmas.Result.{MatchResult-weaker}
 use Rattle.std.specs.Iterator.{Drains, Yields, YieldsThen}
 use Rattle.tinyvec_slots.specs.Filling.{ShowsItems}
@@ -47,29 +47,28 @@ ran_on gives s t xs ys result run ran =
     MatchResult-weaker result ran (λ u h. (h.0, YieldsThen-join gives s xs t ys None h.0 run h.1))
     (λ back h. YieldsThen-join gives s xs t ys (Some back.item) back.rest run h)
 
--- how a splice ended that filled its gap with `placed`, up to f, and behind which stands what lies from b on
-module _ {I T : Type 0} (gives : I → Option T → I → Type 0) (capacity : ℕ) (s : SpliceView I T) (placed : List T)
-    (f b : ℕ) (mid : List T) (front_is : take f mid ≡ s.front ++ placed) (back_is : drop b mid ≡ s.back) where
+-- how a splice ended that filled its gap with `placed`, which left `mid`
+module _ {I T : Type 0} (gives : I → Option T → I → Type 0) (capacity : ℕ) (s mid : SpliceView I T) (placed : List T)
+    (front_is : mid.front ≡ s.front ++ placed) (back_is : mid.back ≡ s.back) where
   -- the replacement ended there, and the gap was closed
-  pub finishes_closed : (u : Unit) (list : List T) → Drains gives s.replacement placed → list ≡ take f mid ++ drop b mid → length list ≤ capacity
+  pub finishes_closed : (u : Unit) (list : List T) → Drains gives s.replacement placed → list ≡ mid.front ++ mid.back → length list ≤ capacity
       → Finishes gives capacity s (Ok u) list
   finishes_closed u list ran is fits = record {
     placed = placed;
     ran = ran;
-    list_is = is ∙ ap (λ l. l ++ drop b mid) front_is ∙ ap (λ l. s.front ++ placed ++ l) back_is;
+    list_is = is ∙ ap (λ l. l ++ mid.back) front_is ∙ ap (λ l. s.front ++ placed ++ l) back_is;
     full = tt;
     fits = fits;
   }
 
-  -- the gap was filled, and more was brought in there
-  pub finishes_appended : (t : I) (more : List T) (result : Result Unit (SpliceRest T I)) (list : List T) → f ≡ b
-      → Yields gives s.replacement placed t → Ran gives t more result → list ≡ take f mid ++ more ++ drop f mid
-      → OnErr result (length list ≡ capacity) → length list ≤ capacity → Finishes gives capacity s result list
-  finishes_appended t more result list filled run ran is full fits = record {
-    placed = placed ++ more;
-    ran = ran_on gives s.replacement t placed more result run ran;
-    list_is = is ∙ ap (λ l. l ++ more ++ drop f mid) front_is ∙ ap (λ l. l ++ drop f mid) (append_assoc s.front placed more)
-        ∙ ap (λ l. s.front ++ (placed ++ more) ++ l) (ap (λ k. drop k mid) filled ∙ back_is);
-    full = full;
-    fits = fits;
+  -- more was brought in there
+  pub finishes_appended : (result : Result Unit (SpliceRest T I)) (list : List T) → Yields gives s.replacement placed mid.replacement
+      → Finishes gives capacity mid result list → Finishes gives capacity s result list
+  finishes_appended result list run h = record {
+    placed = placed ++ h.placed;
+    ran = ran_on gives s.replacement mid.replacement placed h.placed result run h.ran;
+    list_is = h.list_is ∙ ap (λ l. l ++ h.placed ++ mid.back) front_is ∙ ap (λ l. l ++ mid.back) (append_assoc s.front placed h.placed)
+        ∙ ap (λ l. s.front ++ (placed ++ h.placed) ++ l) back_is;
+    full = h.full;
+    fits = h.fits;
   }

@@ -1,5 +1,5 @@
 -- What all splices do: a splice shows a view of itself, and `keeps` says what its calls leave as it was.
-use Rattle.std.specs.Prelude.{◌≡◌, ℕ, ◌+◌, ◌-◌, ◌≤◌, List, [], ◌∷◌, ◌++◌, length, Option, Some, MatchOption, Result, MatchResult, max, IsOk, OnOk, OnErr, IfErr, ◌↔◌}
+use Rattle.std.specs.Prelude.{◌≡◌, ℕ, ◌+◌, ◌-◌, ◌*◌, ◌<◌, ◌≤◌, List, [], ◌∷◌, ◌++◌, length, Option, Some, MatchOption, Result, MatchResult, max, IsOk, OnOk, OnErr, IfErr, ◌↔◌}
 use Rattle.std.specs.Option.{option_to_list}
 use Rattle.std.specs.Iterator.{Drains, YieldsThen}
 use Rattle.tinyvec_slots.specs.declared.no_room.SpliceRest.{SpliceRest}
@@ -56,6 +56,15 @@ module _ {I T : Type 0} where
   -- `slots` slots held the list
   abbrev pub finish_bound : SpliceView I T → ℕ → List T → ℕ
   finish_bound s slots list = length s.left + finish_placed s list + max slots (length list)
+
+  -- `finish` of s, whose list was in `slots` slots, left `list`, and n touches since `splice`. `moved` items moved elsewhere.
+  -- The number is exact if the list got no longer: two touches for each item placed in a filled gap, and in a closed one a
+  -- further touch for each slot after those.
+  pub record FinishTouches (s : SpliceView I T) (slots moved : ℕ) (list : List T) (n : ℕ) : Type 0 where
+    pub filled : length list ≡ slots → n ≡ s.touches + 2 * finish_placed s list
+    pub closed : length list < slots → n ≡ s.touches + finish_placed s list + (slots - length s.front)
+    pub at_least : s.touches + finish_placed s list ≤ n
+    pub at_most : n ≤ s.touches + finish_bound s slots list + moved
 
 module _ {I T : Type 0} (gives : I → Option T → I → Type 0) (capacity : ℕ) where
   -- `finish` of s returned the result. It placed what the replacement still yielded, as far as there was room, between the

@@ -1,14 +1,15 @@
 //! The calls of every splice, over its parts: the list, the gap in it and the replacement.
-ghost use Rattle.std.specs.Prelude.{◌≡◌, ◌+◌, ◌-◌, ◌*◌, ◌<◌, ◌≤◌, ◌++◌, ⊤, List, Some, length, take, drop, IsOk, OnErr, IfErr, MatchResult};
+ghost use Rattle.std.specs.Prelude.{◌≡◌, ◌+◌, ◌-◌, ◌<◌, ◌≤◌, ◌++◌, ⊤, List, Some, length, take, drop, IsOk, OnErr, IfErr};
 ghost use Rattle.std.specs.Bool.{MatchBool};
-ghost use Rattle.std.specs.Iterator.{Drains, YieldsThen, IsFinite};
+ghost use Rattle.std.specs.Iterator.{IsFinite};
 ghost use Rattle.std.specs.Iterator.Adapters.{fuse_done, fuse_steps};
 ghost use Rattle.tinyvec_slots.specs.Ranges.{Within};
 ghost use Rattle.tinyvec_slots.specs.Filling.{ShowsItems};
+ghost use Rattle.tinyvec_slots.specs.Filters.{Shortened};
 ghost use Rattle.tinyvec_slots.specs.Fused.{FusedCan, FusedFinite, fused_rest};
 ghost use Rattle.tinyvec_slots.specs.Gap.{gap_len, gap_front, gap_back, gap_touches, gap_view, GapCanStep, GapSteps};
 ghost use Rattle.tinyvec_slots.specs.Touches.{FitsBits};
-ghost use Rattle.tinyvec_slots.specs.AnySplice.{GivesFromFront, GivesFromBack, finish_placed, finish_bound, Finishes, FinishesWith};
+ghost use Rattle.tinyvec_slots.specs.AnySplice.{GivesFromFront, GivesFromBack, FinishTouches, Finishes, FinishesWith};
 
 use crate::{CanSplice, Gap, SpliceRest};
 use std::iter::Fuse;
@@ -67,8 +68,7 @@ pub fn splice_stop<V: CanSplice>(vec: &mut V, gap: &mut Gap)
     ensures items { V.items vec.new
         ≡ take (gap_front gap.old) (V.items vec.old) ++ drop (gap_back gap.old) (V.items vec.old) }
     ensures len { length (V.items vec.old) ≡ length (V.items vec.new) + (gap_back gap.old - gap_front gap.old) }
-    ensures cut { V.Truncated vec.old vec.new }
-    ensures fits { length (V.items vec.new) ≤ V.room vec.new }
+    ensures shorter { Shortened V.items V.room V.Truncated vec.old vec.new }
     ensures touches { gap_touches gap.new ≡ gap_touches gap.old + (length (V.items vec.old) - gap_front gap.old) }
 {
     let keep = gap.close(vec.as_mut_slice());
@@ -86,17 +86,8 @@ pub fn splice_finish<V: CanSplice, I: Iterator<Item = V::Item>>(
     requires ready { GapCanStep gap (fuse_done replacement) (length (V.items vec.old)) }
     requires can { FusedCan I.can_next replacement }
     requires finite { MatchBool V.must_end (FusedFinite I.remaining replacement) ⊤ }
-    ensures filled { length (V.items vec.new) ≡ length (V.items vec.old)
-        → result.1 ≡ gap_touches gap
-        + 2 * finish_placed (gap_view gap replacement (V.items vec.old)) (V.items vec.new) }
-    ensures closed { length (V.items vec.new) < length (V.items vec.old)
-        → result.1 ≡ gap_touches gap + finish_placed (gap_view gap replacement (V.items vec.old)) (V.items vec.new)
-        + (length (V.items vec.old) - length (take (gap_front gap) (V.items vec.old))) }
-    ensures at_least { gap_touches gap + finish_placed (gap_view gap replacement (V.items vec.old)) (V.items vec.new)
-        ≤ result.1 }
-    ensures at_most { result.1 ≤ gap_touches gap
-        + finish_bound (gap_view gap replacement (V.items vec.old)) (length (V.items vec.old)) (V.items vec.new)
-        + V.moved vec.old vec.new }
+    ensures touches { FinishTouches (gap_view gap replacement (V.items vec.old)) (length (V.items vec.old))
+        (V.moved vec.old vec.new) (V.items vec.new) result.1 }
     ensures finished { Finishes (fuse_steps I.next_gives) (V.room vec.new)
         (gap_view gap replacement (V.items vec.old)) result.0 (V.items vec.new) }
     ensures grown { V.Grown vec.old vec.new }
@@ -126,18 +117,14 @@ fn append_in<V: CanSplice, I: Iterator<Item = V::Item>>(
     gap: &mut Gap,
     replacement: I,
 ) -> Result<(), SpliceRest<V::Item, I>>
+    requires filled { gap_front gap.old ≡ gap_back gap.old }
     requires in_bounds { gap_front gap.old ≤ length (V.items vec.old) }
     requires few { FitsBits 70 (gap_touches gap.old) }
     requires can { I.can_next replacement }
     requires finite { MatchBool V.must_end (IsFinite (I.remaining replacement)) ⊤ }
-    ensures ran { (placed : List V.Item) × MatchResult result (λ _. Drains I.next_gives replacement placed)
-        (λ refused. YieldsThen I.next_gives replacement placed (Some refused.item) refused.rest)
-        × (V.items vec.new ≡ take (gap_front gap.old) (V.items vec.old) ++ placed
-        ++ drop (gap_front gap.old) (V.items vec.old)) }
-    ensures full { OnErr result (length (V.items vec.new) ≡ V.room vec.new) }
-    ensures longer { length (V.items vec.old) ≤ length (V.items vec.new) }
+    ensures finished { Finishes I.next_gives (V.room vec.new) (gap_view gap.old replacement (V.items vec.old))
+        result (V.items vec.new) }
     ensures grown { V.Grown vec.old vec.new }
-    ensures fits { length (V.items vec.new) ≤ V.room vec.new }
     ensures goes_on { IfErr result (λ refused. I.can_next refused.rest) }
     ensures none { length (V.items vec.new) ≡ length (V.items vec.old) → gap_touches gap.new ≡ gap_touches gap.old }
     ensures at_least { gap_touches gap.old + (length (V.items vec.new) - length (V.items vec.old)) ≤ gap_touches gap.new }

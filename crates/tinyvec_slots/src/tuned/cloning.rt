@@ -18,6 +18,10 @@ pub fn clone_over_from<T: Clone + Default>(
 {
     // The minimum is the length. It lets the compiler drop the blocks of more items than there are slots.
     let count = from.len().min(slots.len());
+    // If the number of slots is a constant, as an array's, only one of the two is compiled.
+    if slots.len() < 8 && !are_large(slots) {
+        return clone_few(&mut slots[start..], &from[..count]);
+    }
     clone_over(&mut slots[start..], &from[..count])
 }
 
@@ -76,6 +80,38 @@ pub fn clone_over<T: Clone + Default>(to: &mut [T], from: &[T]) -> Result<(), Al
     }
     let done = clone_blocks::<T, 512>(to, from)?;
     clone_rest(&mut to[done..], &from[done..])
+}
+
+// Like `clone_over`, for fewer than 8 items.
+#[inline(always)]
+fn clone_few<T: Clone + Default>(to: &mut [T], from: &[T]) -> Result<(), AllocError>
+    requires fits { length from.now ≤ length to.old }
+    ensures { WritesClones T.Clone (λ ys n. ClonesOver T.is_clone ys n to.old to.new) from.now result }
+{
+    if 4 <= from.len() {
+        return clone_block_and_rest::<T, 4>(to, from);
+    }
+    // Without this block the compiler makes a loop, which costs a few items more.
+    if 2 <= from.len() {
+        return clone_block_and_rest::<T, 2>(to, from);
+    }
+    clone_each(to, from)
+}
+
+// Like `clone_over`, in a block of N, and then item by item.
+#[inline(always)]
+fn clone_block_and_rest<T: Clone + Default, const N: usize>(
+    to: &mut [T],
+    from: &[T],
+) -> Result<(), AllocError>
+    requires enough { N ≤ length from.now }
+    requires fits { length from.now ≤ length to.old }
+    ensures { WritesClones T.Clone (λ ys n. ClonesOver T.is_clone ys n to.old to.new) from.now result }
+{
+    clone_block::<T, N>(to, from)?;
+    // The borrow checker covers no range that begins at a const parameter.
+    let block = N;
+    clone_each(&mut to[block..], &from[block..])
 }
 
 // Like `clone_over`, in blocks of 16, and then item by item.

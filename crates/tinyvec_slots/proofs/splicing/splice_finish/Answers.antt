@@ -1,80 +1,96 @@
-use Rattle.std.proofs.Common.{◌≡◌, ◌++◌, take, drop, length, Ok, ap, ◌∙◌, arith}
+use Rattle.std.proofs.Common.{◌≡◌, ◌≤◌, ◌++◌, take, drop, length, length-take, length-drop, Ok, ap, ◌∙◌, arith, rules}
+use Rattle.std.specs.declared.iter.Fuse.{Fuse}
 use Rattle.std.specs.Iterator.Adapters.{fuse_steps}
 use Rattle.tinyvec_slots.specs.Fused.{fused_rest}
 use Rattle.tinyvec_slots.specs.Gap.{gap_front, gap_back, gap_view}
-use Rattle.tinyvec_slots.specs.AnySplice.{Finishes}
+use Rattle.tinyvec_slots.specs.AnySplice.{SpliceView, Finishes}
 use Rattle.tinyvec_slots.proofs.Fused.{fused_first}
-use Rattle.tinyvec_slots.proofs.FinishLemmas.{finishes_with, finishes_closed, finishes_appended}
+use Rattle.tinyvec_slots.proofs.FinishLemmas.{finished_len, finishes_with, finishes_closed, finishes_appended}
 use Rattle.tinyvec_slots.proofs.splicing.splice_finish.Goals.{After-fill}
 use Rattle.tinyvec_slots.proofs.splicing.splice_finish.Goals as goal
 
 -- the gap, as it was filled
 module _ (g : _) (c : After-fill g) where
+  abbrev refilled : g.row.V.Denot
+  refilled = g.V.CanCut.with_items c.args.vec.now c.fill.new.slots
+
   same : length c.fill.new.slots ≡ length (g.V.CanCut.items c.args.vec.now)
   same = c.fill.auto.slots ∙ ap length c.as_mut_slice.ensures.value
 
-  mid_is : g.V.CanCut.items (g.V.CanCut.with_items c.args.vec.now c.fill.new.slots) ≡ c.fill.new.slots
-  mid_is = (g.met.V.CanCut.written c.args.vec.now c.fill.new.slots same).0
+  is_written : (g.V.CanCut.items refilled ≡ c.fill.new.slots) × g.V.CanCut.Kept c.args.vec.now refilled
+  is_written = g.met.V.CanCut.written c.args.vec.now c.fill.new.slots same
 
-  kept : g.V.CanCut.Kept c.args.vec.now (g.V.CanCut.with_items c.args.vec.now c.fill.new.slots)
-  kept = (g.met.V.CanCut.written c.args.vec.now c.fill.new.slots same).1
+  same_len : length (g.V.CanCut.items refilled) ≡ length (g.V.CanCut.items c.args.vec.now)
+  same_len = ap length is_written.0 ∙ same
 
-  front_is : take (gap_front c.fill.new.self) c.fill.new.slots ≡ take (gap_front c.args.gap) (g.V.CanCut.items c.args.vec.now) ++ c.fill.ensures.placed.0
-  front_is = c.fill.ensures.placed.1 ∙ ap (λ l. take (gap_front c.args.gap) l ++ c.fill.ensures.placed.0) c.as_mut_slice.ensures.value
+  abbrev old : SpliceView (Fuse g.row.I.Denot) g.row.V-Item.Denot
+  old = gap_view c.args.gap c.args.replacement (g.V.CanCut.items c.args.vec.now)
 
-  back_is : drop (gap_back c.args.gap) c.fill.new.slots ≡ drop (gap_back c.args.gap) (g.V.CanCut.items c.args.vec.now)
-  back_is = c.fill.ensures.behind ∙ ap (drop (gap_back c.args.gap)) c.as_mut_slice.ensures.value
+  abbrev mid : SpliceView (Fuse g.row.I.Denot) g.row.V-Item.Denot
+  mid = gap_view c.fill.new.self c.fill.new.replacement (g.V.CanCut.items refilled)
+
+  front_is : mid.front ≡ old.front ++ c.fill.ensures.placed.0
+  front_is =
+      ap (take (gap_front c.fill.new.self)) is_written.0 ∙ c.fill.ensures.placed.1
+      ∙ ap (λ l. take (gap_front c.args.gap) l ++ c.fill.ensures.placed.0) c.as_mut_slice.ensures.value
+
+  back_is : mid.back ≡ old.back
+  back_is =
+      ap (drop (gap_back c.fill.new.self)) is_written.0 ∙ ap (λ k. drop k c.fill.new.slots) c.fill.ensures.back
+      ∙ c.fill.ensures.behind ∙ ap (drop (gap_back c.args.gap)) c.as_mut_slice.ensures.value
 
 -- the replacement ended in the gap
 module _ (g : _) (c : goal.After-drop-replacement g) where
   abbrev filled : After-fill g
   filled = (goal.at.returns-then-not-fill-clause-listed g c).After-fill
 
-  closed : Finishes (fuse_steps g.I.Iterator.next_gives) (g.V.CanCut.room c.splice_stop.new.vec) (gap_view c.args.gap c.args.replacement (g.V.CanCut.items c.args.vec.now)) (Ok tt) (g.V.CanCut.items c.splice_stop.new.vec)
+  closed : Finishes (fuse_steps g.I.Iterator.next_gives) (g.V.CanCut.room c.splice_stop.new.vec) (old g filled) (Ok tt) (g.V.CanCut.items c.splice_stop.new.vec)
   closed =
-      let at = gap_front c.fill.new.self in
-      let is = c.splice_stop.ensures.items ∙ ap (λ l. take at l ++ drop (gap_back c.fill.new.self) l) (mid_is g filled)
-      ∙ ap (λ k. take at c.fill.new.slots ++ drop k c.fill.new.slots) c.fill.ensures.back in
-      finishes_closed (fuse_steps g.I.Iterator.next_gives) (g.V.CanCut.room c.splice_stop.new.vec) (gap_view c.args.gap c.args.replacement (g.V.CanCut.items c.args.vec.now)) c.fill.ensures.placed.0 at
-      (gap_back c.args.gap) c.fill.new.slots (front_is g filled) (back_is g filled) tt (g.V.CanCut.items c.splice_stop.new.vec)
-      (rw c.if-not-fill.true at c.fill.ensures.placed.3) is c.splice_stop.ensures.fits
+      finishes_closed (fuse_steps g.I.Iterator.next_gives) (g.V.CanCut.room c.splice_stop.new.vec) (old g filled) (mid g filled) c.fill.ensures.placed.0 (front_is g filled) (back_is g filled)
+      tt (g.V.CanCut.items c.splice_stop.new.vec) (rw c.if-not-fill.true at c.fill.ensures.placed.3) c.splice_stop.ensures.items c.splice_stop.ensures.shorter.fits
 
 pub returns-then-not-fill-clause-listed : goal.returns-then-not-fill-clause-listed
 returns-then-not-fill-clause-listed g c = λ rest shows.
     let gives = g.I.Iterator.next_gives in
-    finishes_with (fuse_steps gives) _ (gap_view c.args.gap c.args.replacement (g.V.CanCut.items c.args.vec.now)) (g.V.CanCut.items c.splice_stop.new.vec) (fused_rest rest) (fused_first gives rest shows) (Ok tt) (closed g c)
+    finishes_with (fuse_steps gives) _ (old g (filled g c)) (g.V.CanCut.items c.splice_stop.new.vec) (fused_rest rest) (fused_first gives rest shows) (Ok tt) (closed g c)
 
 -- more was appended
 module _ (g : _) (c : goal.After-touches-2 g) where
   abbrev filled-2 : After-fill g
   filled-2 = (goal.at.returns-clause-finished g c).After-fill
 
-  appended : Finishes (fuse_steps g.I.Iterator.next_gives) (g.V.CanCut.room c.append_in-finished.new.vec) (gap_view c.args.gap c.args.replacement (g.V.CanCut.items c.args.vec.now)) c.append_in-finished.result
-      (g.V.CanCut.items c.append_in-finished.new.vec)
+  appended : Finishes (fuse_steps g.I.Iterator.next_gives) (g.V.CanCut.room c.append_in-finished.new.vec) (old g filled-2) c.append_in-finished.result (g.V.CanCut.items c.append_in-finished.new.vec)
   appended =
-      let fill = c.fill.ensures in
-      let more = c.append_in-finished.ensures in
-      let at = gap_front c.fill.new.self in
-      let is = more.ran.2 ∙ ap (λ l. take at l ++ more.ran.0 ++ drop at l) (mid_is g filled-2) in
-      finishes_appended (fuse_steps g.I.Iterator.next_gives) (g.V.CanCut.room c.append_in-finished.new.vec) (gap_view c.args.gap c.args.replacement (g.V.CanCut.items c.args.vec.now)) fill.placed.0 at
-      (gap_back c.args.gap) c.fill.new.slots (front_is g filled-2) (back_is g filled-2) c.fill.new.replacement more.ran.0 c.append_in-finished.result (g.V.CanCut.items c.append_in-finished.new.vec)
-      (rw c.if-not-fill.false at fill.filled).0 (rw c.if-not-fill.false at fill.placed.3) more.ran.1 is more.full more.fits
+      finishes_appended (fuse_steps g.I.Iterator.next_gives) (g.V.CanCut.room c.append_in-finished.new.vec) (old g filled-2) (mid g filled-2) c.fill.ensures.placed.0 (front_is g filled-2) (back_is g filled-2)
+      c.append_in-finished.result (g.V.CanCut.items c.append_in-finished.new.vec) (rw c.if-not-fill.false at c.fill.ensures.placed.3) c.append_in-finished.ensures.finished
 
 pub returns-clause-finished : goal.returns-clause-finished
 returns-clause-finished = appended
 
+pub returns-clause-touches : goal.returns-clause-touches
+returns-clause-touches g c =
+    let xs = g.V.CanCut.items (refilled g (filled-2 g c)) in
+    let long = finished_len (fuse_steps g.I.Iterator.next_gives) _ (mid g (filled-2 g c)) _ _ c.append_in-finished.ensures.finished in
+    let front = length-take (gap_front c.fill.new.self) xs in
+    let back = length-drop (gap_back c.fill.new.self) xs in
+    let same = same_len g (filled-2 g c) in
+    let filled = (rw c.if-not-fill.false at c.fill.ensures.filled).0 in
+    let longer : length (g.V.CanCut.items c.args.vec.now) ≤ length (g.V.CanCut.items c.append_in-finished.new.vec) = omega (arith, c.fill.ensures.back) in record {
+      filled = search rules;
+      closed = search rules;
+      at_least = search rules;
+      at_most = search rules;
+    }
+
 pub returns-clause-listed : goal.returns-clause-listed
 returns-clause-listed g c = λ rest shows.
     let gives = g.I.Iterator.next_gives in
-    finishes_with (fuse_steps gives) _ (gap_view c.args.gap c.args.replacement (g.V.CanCut.items c.args.vec.now)) (g.V.CanCut.items c.append_in-finished.new.vec) (fused_rest rest) (fused_first gives rest shows)
-    c.append_in-finished.result (appended g c)
+    finishes_with (fuse_steps gives) _ (old g (filled-2 g c)) (g.V.CanCut.items c.append_in-finished.new.vec) (fused_rest rest) (fused_first gives rest shows) c.append_in-finished.result (appended g c)
 
 pub returns-clause-succeeds : goal.returns-clause-succeeds
 returns-clause-succeeds g c = λ rest shows within.
     let filled = (goal.at.returns-clause-succeeds g c).After-fill in
-    let old = c.args.vec.now in
-    let mid = g.V.CanCut.with_items old c.fill.new.slots in
     let listed = returns-clause-listed g c rest shows in
-    let same_room = g.met.V.CanSplice.kept_room old mid (kept g filled) in
-    let more_room = g.met.V.CanSplice.grown_room mid c.append_in-finished.new.vec c.append_in-finished.ensures.grown in
+    let same_room = g.met.V.CanSplice.kept_room c.args.vec.now (refilled g filled) (is_written g filled).1 in
+    let more_room = g.met.V.CanSplice.grown_room (refilled g filled) c.append_in-finished.new.vec c.append_in-finished.ensures.grown in
     listed.fits.1 (omega (arith, within, more_room, same_room))
