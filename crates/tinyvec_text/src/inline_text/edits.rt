@@ -26,7 +26,8 @@ impl<const N: usize> InlineText<N> {
     #[inline(always)]
     pub fn push_str_reserved(&mut self, string: &str)
         requires { text_len self.old + length string.now ≤ capacity_in N self.old.place }
-        ensures { TextBecomes N self.old self.new (self.old.bytes ++ string.now) (text_chars self.old ++ chars string.now) }
+        ensures { TextBecomes N self.old self.new
+            (self.old.bytes ++ string.now) (text_chars self.old ++ chars string.now) }
     {
         let Ok(()) = self.list.extend_from_slice(string.as_bytes()) else {
             unreachable!();
@@ -37,7 +38,8 @@ impl<const N: usize> InlineText<N> {
     #[inline(always)]
     pub fn push_reserved(&mut self, ch: char)
         requires { text_len self.old + length (encode_utf8 ch) ≤ capacity_in N self.old.place }
-        ensures becomes { TextBecomes N self.old self.new (self.old.bytes ++ encode_utf8 ch) (text_chars self.old ++ ch ∷ []) }
+        ensures becomes { TextBecomes N self.old self.new
+            (self.old.bytes ++ encode_utf8 ch) (text_chars self.old ++ ch ∷ []) }
         ensures ascii { ch < 128 → self.new.bytes ≡ self.old.bytes ++ ch ∷ [] }
     {
         if ch.is_ascii() {
@@ -53,7 +55,8 @@ impl<const N: usize> InlineText<N> {
     pub fn push_str(&mut self, string: &str) -> Result<(), AllocError>
         ensures bytes { self.new.bytes ≡ (if is_ok result then self.old.bytes ++ string.now else self.old.bytes) }
         ensures text { OnOk result (text_chars self.new ≡ text_chars self.old ++ chars string.now) }
-        ensures room { TextMakesRoom (lies_inline self.old.place) N (text_len self.old + length string.now) self.old self.new result }
+        ensures room { TextMakesRoom (lies_inline self.old.place) N (text_len self.old + length string.now)
+            self.old self.new result }
     {
         self.list.extend_from_slice(string.as_bytes())?;
         Ok(())
@@ -137,7 +140,8 @@ impl<const N: usize> InlineText<N> {
             ≡ (if is_ok result then take index self.old.bytes ++ encode_utf8 ch ++ drop index self.old.bytes else self.old.bytes) }
         ensures text { OnOk result (text_chars self.new
             ≡ chars (take index self.old.bytes) ++ ch ∷ [] ++ chars (drop index self.old.bytes)) }
-        ensures room { TextMakesRoom (lies_inline self.old.place) N (text_len self.old + length (encode_utf8 ch)) self.old self.new result }
+        ensures room { TextMakesRoom (lies_inline self.old.place) N (text_len self.old + length (encode_utf8 ch))
+            self.old self.new result }
     {
         let mut buffer = [0; 4];
         self.insert_str(index, ch.encode_utf8(&mut buffer))
@@ -150,7 +154,8 @@ impl<const N: usize> InlineText<N> {
             ≡ (if is_ok result then take index self.old.bytes ++ string.now ++ drop index self.old.bytes else self.old.bytes) }
         ensures text { OnOk result (text_chars self.new
             ≡ chars (take index self.old.bytes) ++ chars string.now ++ chars (drop index self.old.bytes)) }
-        ensures room { TextMakesRoom (lies_inline self.old.place) N (text_len self.old + length string.now) self.old self.new result }
+        ensures room { TextMakesRoom (lies_inline self.old.place) N (text_len self.old + length string.now)
+            self.old self.new result }
     {
         self.replace_range(index..index, string)
     }

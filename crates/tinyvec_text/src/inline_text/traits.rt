@@ -114,7 +114,8 @@ impl<const N: usize> fmt::Write for InlineText<N> {
     fn write_str(&mut self, s: &str) -> fmt::Result
         ensures ok { IsOk result → self.new.bytes ≡ self.old.bytes ++ s.now }
         ensures text { OnOk result (text_chars self.new ≡ text_chars self.old ++ chars s.now) }
-        ensures room { TextMakesRoom (lies_inline self.old.place) N (text_len self.old + length s.now) self.old self.new result }
+        ensures room { TextMakesRoom (lies_inline self.old.place) N (text_len self.old + length s.now)
+            self.old self.new result }
     {
         match self.push_str(s) {
             Ok(()) => Ok(()),
