@@ -1,9 +1,10 @@
 -- Examples of the Borsh form, of contents that are bytes: each spells itself, and an input without a byte is cut.
-use Rattle.std.proofs.Common.{◌≡◌, ℕ, ◌<◌, List, [], ◌∷◌, Some, None, inl, refl, rules, arith}
+use Rattle.std.proofs.Common.{◌≡◌, ℕ, ◌<◌, List, [], ◌∷◌, Option, Some, None, Ok, Err, inl, refl, rules, arith}
 use Rattle.std.specs.Prelude.{IsUtf8}
 use Rattle.tinyvec_borsh.specs.Items.{SpellsItems, SpellsList, ListFits, AfterItems, ListReason, CountsAbove}
-use Rattle.tinyvec_borsh.specs.Reading.{ReadsSpelling, TakesSome, Fails, LeavesRest}
-use Rattle.tinyvec_borsh.specs.Writing.{WritesSpelling, AddsFront}
+use Rattle.tinyvec_borsh.specs.Reading.{ReadsSpelling, TakesSome, Fails, FailsFor, LeavesRest}
+use Rattle.tinyvec_borsh.specs.Writing.{WritesSpelling, WritesValue, AddsFront}
+use Rattle.tinyvec_io.specs.Counted.{CountedView}
 use Rattle.tinyvec_borsh.specs.declared.borsh_error.BorshError.TheVariants.{Ended, Io}
 use Rattle.tinyvec_borsh.specs.declared.borsh_error.BorshError.{BorshError}
 use Rattle.tinyvec_borsh.specs.Number.{TooFewBytes}
@@ -64,6 +65,16 @@ example-TakesSome = record { bytes = 7 ∷ []; taken = search rules; end = λ is
 pub example-Fails : Fails Reason (Some []) 0 0 Ended
 example-Fails = example-TooFewBytes
 
+-- a reader with these bytes left, or a writer that has taken them, without a fault
+abbrev pub holding : List ℕ → CountedView (List ℕ)
+holding bytes = record { inner = bytes; faults = 0 }
+
+abbrev pub known : List ℕ → Option (List ℕ)
+known bytes = Some bytes
+
+pub example-FailsFor : FailsFor {T = ℕ} known Reason (holding []) (holding []) (Err Ended)
+example-FailsFor = record { err = example-TooFewBytes; taken = record { bytes = []; taken = search rules; end = λ is. refl; short = λ is. cc }; grows = omega arith }
+
 pub example-SpellsText : SpellsText (104 ∷ []) (1 ∷ 0 ∷ 0 ∷ 0 ∷ 0 ∷ 0 ∷ 0 ∷ 0 ∷ 104 ∷ [])
 example-SpellsText = record {
   first = 1 ∷ 0 ∷ 0 ∷ 0 ∷ 0 ∷ 0 ∷ 0 ∷ 0 ∷ [];
@@ -88,6 +99,9 @@ example-LeavesRest = _
 
 pub example-WritesSpelling : WritesSpelling (λ bytes. bytes ≡ 7 ∷ []) (Some (1 ∷ [])) (Some (1 ∷ 7 ∷ []))
 example-WritesSpelling = (7 ∷ [], refl, search rules)
+
+pub example-WritesValue : WritesValue {T = ℕ} known (λ bytes. bytes ≡ 7 ∷ []) (holding (1 ∷ [])) (holding (1 ∷ 7 ∷ [])) (Ok 0)
+example-WritesValue = record { ok = example-WritesSpelling; err = tt; front = tt; grows = omega arith }
 
 pub example-AddsFront : AddsFront (λ bytes. bytes ≡ 7 ∷ 8 ∷ []) (Some (1 ∷ [])) (Some (1 ∷ 7 ∷ []))
 example-AddsFront bytes spelled = (7 ∷ [], 8 ∷ [], spelled, search rules)
