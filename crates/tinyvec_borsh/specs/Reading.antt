@@ -36,9 +36,11 @@ abbrev pub Fails : (Reason : BorshError → List ℕ → Type 0) → Option (Lis
 Fails Reason input old_faults new_faults Io = Reported old_faults new_faults
 Fails Reason input old_faults new_faults error = MayBe input (Reason error)
 
--- A reading took the reader from `old` to `new`, with this result. It fails only for a reason, and then some of the input was taken.
+-- A reading took the reader from `old` to `new`, with this result. `Io` comes only if the reader reported a fault, and another error
+-- only if the input is a reason for it.
 pub record FailsFor {R T : Type 0} (remaining : R → Option (List ℕ)) (Reason : BorshError → List ℕ → Type 0) (old new : CountedView R) (result : Result T BorshError) : Type 0 where
   pub err : IfErr result (Fails Reason (remaining old.inner) old.faults new.faults)
+  -- some bytes were taken: all, if the error is `Ended`; at `Io` no whole spelling
   pub taken : IfErr result (TakesSome (Reason Ended) (remaining old.inner) (remaining new.inner))
   pub grows : old.faults ≤ new.faults
 

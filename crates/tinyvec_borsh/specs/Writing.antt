@@ -13,7 +13,8 @@ WritesSpelling SpellsIt old new = (bytes : List ℕ) × SpellsIt bytes × Append
 abbrev pub AddsFront : (List ℕ → Type 0) → Option (List ℕ) → Option (List ℕ) → Type 0
 AddsFront SpellsIt old new = (bytes : List ℕ) → SpellsIt bytes → AppendsFront old new bytes
 
--- A writing of the value took the writer from `old` to `new`, with this result. It fails only if the writer reported a fault.
+-- A writing of the value took the writer from `old` to `new`, with this result. A spelling was added; or the writer reported a
+-- fault, and a prefix of each spelling was.
 pub record WritesValue {W T : Type 0} (contents : W → Option (List ℕ)) (SpellsIt : List ℕ → Type 0) (old new : CountedView W) (result : Result T BorshError) : Type 0 where
   pub ok : OnOk result (WritesSpelling SpellsIt (contents old.inner) (contents new.inner))
   pub err : IfErr result (λ e. (e ≡ Io) × Reported old.faults new.faults)

@@ -21,7 +21,8 @@ fn write_list<T: BorshSerialize, W: Write>(
     writer: &mut Counted<W>,
 ) -> Result<(), BorshError>
     requires { len ≡ length items.now }
-    ensures writes { WritesValue W.contents (SpellsList T.Spells (map T.content_of items.now)) writer.old writer.new result }
+    ensures writes { WritesValue W.contents (SpellsList T.Spells (map T.content_of items.now))
+        writer.old writer.new result }
     ensures fit { OnOk result (AllByRecursion T.Fits (map T.content_of items.now)) }
 {
     (len as u64).serialize(writer)?;
@@ -43,7 +44,8 @@ fn read_items<T: BorshDeserialize + Drop, R: Read>(
         × ReadsSpelling (SpellsItems T.Spells (map T.content_of xs))
         (R.remaining reader.old.inner) (R.remaining reader.new.inner)) }
     ensures behind { drop end slots.new ≡ drop end slots.old }
-    ensures fails { FailsFor R.remaining (AfterItems T.Spells T.Fits T.Reason (end - start)) reader.old reader.new result }
+    ensures fails { FailsFor R.remaining (AfterItems T.Spells T.Fits T.Reason (end - start))
+        reader.old reader.new result }
 {
     T::deserialize_slots(alloc, &mut slots[start..end], reader)
 }

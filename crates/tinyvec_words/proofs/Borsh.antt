@@ -2,10 +2,10 @@
 use Rattle.std.proofs.Common.{◌≡◌, ℕ, ◌<◌, List, [], ◌∷◌, Option, Some, None, Ok, Err, inl, refl, rules, arith}
 use Rattle.std.specs.Prelude.{IsUtf8}
 use Rattle.tinyvec_borsh.specs.Items.{SpellsItems, SpellsList, ListFits, AfterItems, ListReason, CountsAbove}
-use Rattle.tinyvec_borsh.specs.Reading.{ReadsSpelling, TakesSome, Fails, FailsFor, LeavesRest}
-use Rattle.tinyvec_borsh.specs.Writing.{WritesSpelling, WritesValue, AddsFront}
+use Rattle.tinyvec_borsh.specs.Reading.{ReadsSpelling, FailsFor, LeavesRest}
+use Rattle.tinyvec_borsh.specs.Writing.{WritesValue}
 use Rattle.tinyvec_io.specs.Counted.{CountedView}
-use Rattle.tinyvec_borsh.specs.declared.borsh_error.BorshError.TheVariants.{Ended, Io}
+use Rattle.tinyvec_borsh.specs.declared.borsh_error.BorshError.TheVariants.{Ended}
 use Rattle.tinyvec_borsh.specs.declared.borsh_error.BorshError.{BorshError}
 use Rattle.tinyvec_borsh.specs.Number.{TooFewBytes}
 use Rattle.tinyvec_borsh.specs.Text.{AreNoText, SpellsText, TextFits, TextReason}
@@ -59,12 +59,6 @@ example-CountsAbove = (5, omega arith, record { first = 5 ∷ 0 ∷ 0 ∷ 0 ∷ 
 pub example-ReadsSpelling : ReadsSpelling (λ bytes. bytes ≡ 7 ∷ []) (Some (7 ∷ 8 ∷ [])) (Some (8 ∷ []))
 example-ReadsSpelling = (7 ∷ [], refl, search rules)
 
-pub example-TakesSome : TakesSome (TooFewBytes 2 Ended) (Some (7 ∷ 8 ∷ [])) (Some (8 ∷ [])) Io
-example-TakesSome = record { bytes = 7 ∷ []; taken = search rules; end = λ is. cc; short = λ _. (refl, omega arith) }
-
-pub example-Fails : Fails Reason (Some []) 0 0 Ended
-example-Fails = example-TooFewBytes
-
 -- a reader with these bytes left, or a writer that has taken them, without a fault
 abbrev pub holding : List ℕ → CountedView (List ℕ)
 holding bytes = record { inner = bytes; faults = 0 }
@@ -97,11 +91,5 @@ example-TextReason = inl (omega arith)
 pub example-LeavesRest : LeavesRest Spells IsNever 4 None None Ended
 example-LeavesRest = _
 
-pub example-WritesSpelling : WritesSpelling (λ bytes. bytes ≡ 7 ∷ []) (Some (1 ∷ [])) (Some (1 ∷ 7 ∷ []))
-example-WritesSpelling = (7 ∷ [], refl, search rules)
-
 pub example-WritesValue : WritesValue {T = ℕ} known (λ bytes. bytes ≡ 7 ∷ []) (holding (1 ∷ [])) (holding (1 ∷ 7 ∷ [])) (Ok 0)
-example-WritesValue = record { ok = example-WritesSpelling; err = tt; front = tt; grows = omega arith }
-
-pub example-AddsFront : AddsFront (λ bytes. bytes ≡ 7 ∷ 8 ∷ []) (Some (1 ∷ [])) (Some (1 ∷ 7 ∷ []))
-example-AddsFront bytes spelled = (7 ∷ [], 8 ∷ [], spelled, search rules)
+example-WritesValue = record { ok = (7 ∷ [], refl, search rules); err = tt; front = tt; grows = omega arith }

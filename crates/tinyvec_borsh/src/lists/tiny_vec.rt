@@ -79,7 +79,8 @@ where
             (R.remaining reader.old.inner) (R.remaining reader.new.inner)) }
         ensures fits { IfOk result (λ v. ListFits A.Item.Spells A.Item.Fits (2 ^ 64 - 1)
             (map A.Item.content_of (tiny_items v))) }
-        ensures fails { FailsFor R.remaining (ListReason A.Item.Spells A.Item.Fits A.Item.Reason (CountsAbove A.CAPACITY) (2 ^ 64 - 1))
+        ensures fails { FailsFor R.remaining
+            (ListReason A.Item.Spells A.Item.Fits A.Item.Reason (CountsAbove A.CAPACITY) (2 ^ 64 - 1))
             reader.old reader.new result }
         ensures place { IfOk result (λ v. IsInline v ↔ (tiny_len v ≤ A.CAPACITY)) }
         ensures spare { IfOk result (λ v. IsInline v
@@ -115,7 +116,8 @@ where
     ensures place { OnOk result (PlaceRule A.CAPACITY (tiny_len v.new) v.old v.new) }
     ensures slot_rule { OnOk result (TinySlotRule A.Item.is_default v.old v.new) }
     ensures room { OnOk result (tiny_capacity A.CAPACITY v.new ≤ max (tiny_capacity A.CAPACITY v.old) (2 * count)) }
-    ensures fails { FailsFor R.remaining (λ e input. AfterItems A.Item.Spells A.Item.Fits A.Item.Reason (count - tiny_len v.old) e input
+    ensures fails { FailsFor R.remaining
+        (λ e input. AfterItems A.Item.Spells A.Item.Fits A.Item.Reason (count - tiny_len v.old) e input
         ⊎ ((e ≡ BorshError.Memory) × (tiny_capacity A.CAPACITY v.old < count))) reader.old reader.new result }
 {
     let start = v.len();
