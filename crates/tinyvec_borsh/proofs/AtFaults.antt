@@ -1,26 +1,29 @@
 -- What was written or read where a call fails.
-use Rattle.std.proofs.Common.{◌≡◌, ◌≢◌, ◌∙◌, ap, sym, subst, ℕ, suc, ◌*◌, ◌<◌, List, [], ◌∷◌, ◌++◌, length, map, take, drop, get_or, append_assoc, refl, lit<, Option, Result, Ok, Err, OnErr}
+use Rattle.std.proofs.Common.{◌≡◌, ◌≢◌, ◌∙◌, ap, sym, subst, ℕ, suc, ◌*◌, ◌<◌, ◌≤◌, arith, List, [], ◌∷◌, ◌++◌, length, map, take, drop, get_or, append_assoc, refl, Option, Result, Ok, Err, OnErr}
 use Rattle.std.proofs.lemmas.List.{map-append, take-append-drop}
 use Rattle.std.proofs.Math.Seq.{drop-cons}
 use Rattle.std.specs.Io.KnownBytes.{Consumes}
 use Rattle.std.specs.List.{AllByRecursion}
-use Rattle.std.proofs.KnownBytes.{Consumes-trans}
-use Rattle.tinyvec_io.specs.Counted.{AppendsFront}
+use Rattle.std.proofs.KnownBytes.{Appends-trans}
+use Rattle.tinyvec_io.specs.Counted.{AppendsFront, CountedView, Reported}
 use Rattle.tinyvec_io.proofs.Pieces.{AppendsFront-then, AppendsFront-longer}
 use Rattle.tinyvec_borsh.specs.declared.borsh_error.BorshError.{BorshError}
 use Rattle.tinyvec_borsh.specs.declared.borsh_error.BorshError.TheVariants.{Ended, InvalidLength, InvalidUtf8, Io, Memory}
 use Rattle.tinyvec_borsh.specs.Code.{IsCode}
-use Rattle.tinyvec_borsh.specs.Items.{IsCount, SpellsItems, SpellsList}
+use Rattle.tinyvec_borsh.specs.Items.{SpellsItems}
 use Rattle.tinyvec_borsh.specs.ItemsLaws.{one-items}
-use Rattle.tinyvec_borsh.specs.NumberLaws.{number_code}
 use Rattle.tinyvec_borsh.specs.TwoParts.{HasParts, joined}
 use Rattle.tinyvec_borsh.specs.Reading.{TakesSome}
-use Rattle.tinyvec_borsh.specs.Writing.{WritesSpelling, AddsFront}
+use Rattle.tinyvec_borsh.specs.Writing.{WritesSpelling, WritesValue, AddsFront}
 use Rattle.tinyvec_borsh.proofs.ItemByItem.{WroteItems}
 
 pub on-err : {T E P Q : Type 0} (r : Result T E) → (P → Q) → OnErr r P → OnErr r Q
 on-err (Ok x) f p = tt
 on-err (Err e) f p = f p
+
+-- a fault that was reported since a later state was reported since an earlier one
+pub fault-since : {f g h : ℕ} {e : BorshError} → f ≤ g → (e ≡ Io) × Reported g h → (e ≡ Io) × Reported f h
+fault-since le (is, fault) = (is, grind arith)
 
 -- a front of a first part is one of the whole
 pub front-first : {P Q : List ℕ → Type 0} (old new : Option (List ℕ)) → AddsFront P old new → AddsFront (HasParts P Q) old new
@@ -41,8 +44,26 @@ parts_at content xs i x within is =
 pub parts_around : {T : Type 0} (xs : List T) (i k : ℕ) → xs ≡ take i xs ++ (take k (drop i xs) ++ drop k (drop i xs))
 parts_around xs i k = sym (take-append-drop i xs) ∙ ap (λ l. take i xs ++ l) (sym (take-append-drop k (drop i xs)))
 
-pub front-count : {C : Type 0} (Spells : C → List ℕ → Type 0) (n : ℕ) (cs : List C) (old new : Option (List ℕ)) → n ≡ length cs → AddsFront (IsCount n) old new → AddsFront (SpellsList Spells cs) old new
-front-count Spells n cs old new long front = front-first old new (subst (λ m. AddsFront (IsCount m) old new) long front)
+module _ {W S T : Type 0} {contents : W → Option (List ℕ)} {P Q : List ℕ → Type 0} where
+  -- the first part was not written
+  pub writes-first : {old new : CountedView W} {e : BorshError} → WritesValue {T = S} contents P old new (Err e) → WritesValue {T = T} contents (HasParts P Q) old new (Err e)
+  writes-first failed = record { ok = tt; err = failed.err; front = front-first _ _ failed.front; grows = failed.grows }
+
+  -- it was, and then the rest, or a front of it
+  pub writes-both : {old mid new : CountedView W} (r : Result T BorshError) {x : S} → ((a b : List ℕ) → P a → P b → a ≡ b) → WritesValue contents P old mid (Ok x) → WritesValue contents Q mid new r
+      → WritesValue contents (HasParts P Q) old new r
+  writes-both (Ok y) one p q = record {
+    ok = (p.ok.0 ++ q.ok.0, joined p.ok.0 q.ok.0 p.ok.1 q.ok.1, Appends-trans _ _ _ p.ok.0 q.ok.0 p.ok.2 q.ok.2);
+    err = tt;
+    front = tt;
+    grows = omega (arith, p.grows, q.grows);
+  }
+  writes-both (Err e) one p q = record {
+    ok = tt;
+    err = fault-since p.grows q.err;
+    front = front-second _ _ _ one p.ok q.front;
+    grows = omega (arith, p.grows, q.grows);
+  }
 
 module _ {C : Type 0} (Spells : C → List ℕ → Type 0) (code : IsCode Spells) where
   items-part : (cs ds : List C) (bytes : List ℕ) → SpellsItems Spells (cs ++ ds) bytes → HasParts (SpellsItems Spells cs) (SpellsItems Spells ds) bytes
@@ -76,20 +97,6 @@ module _ {C : Type 0} (Spells : C → List ℕ → Type 0) (code : IsCode Spells
   front-next-block width n xs ys more all bytes room old mid new whole is many w spelled front =
       front-items xs (ys ++ more) all old mid new whole w
       (front-block ys more mid new bytes (subst (SpellsItems Spells ys) (sym (is ∙ ap (λ m. take (m * width) room) many)) spelled) front)
-
-  -- the count was written, and then a front of the items
-  pub front-list : (n : ℕ) (cs : List C) (old mid new : Option (List ℕ)) → n ≡ length cs → WritesSpelling (IsCount n) old mid → AddsFront (SpellsItems Spells cs) mid new
-      → AddsFront (SpellsList Spells cs) old new
-  front-list n cs old mid new long wrote front =
-      front-second old mid new ((number_code 8 (lit< tt)).one_spelling (length cs)) (wrote.0, subst (λ m. IsCount m wrote.0) long wrote.1, wrote.2) front
-
-module _ {IsCut All : List ℕ → Type 0} where
-  -- what was taken before is taken too
-  pub some-then : (old mid new : Option (List ℕ)) (bytes : List ℕ) (e : BorshError) → Consumes old mid bytes → ((rest : List ℕ) → IsCut rest → All (bytes ++ rest)) → TakesSome IsCut mid new e → TakesSome All old new e
-  some-then old mid new bytes e before cut t = record { bytes = bytes ++ t.bytes; taken = Consumes-trans old mid new bytes t.bytes before t.taken; end = t.end; short = λ is. cut t.bytes (t.short is) }
-
-  pub some-so : (old new : Option (List ℕ)) (e : BorshError) → ((bytes : List ℕ) → IsCut bytes → All bytes) → TakesSome IsCut old new e → TakesSome All old new e
-  some-so old new e cut t = record { bytes = t.bytes; taken = t.taken; end = t.end; short = λ is. cut t.bytes (t.short is) }
 
 -- it is an error of what was read
 abbrev pub IsOfContent : BorshError → Type 0

@@ -1,13 +1,14 @@
 -- Items that are read into slots, a block at a time.
-use Rattle.std.proofs.Common.{◌≡◌, ◌∙◌, ap, sym, subst, ℕ, ◌+◌, ◌-◌, ◌<◌, ◌≤◌, List, [], ◌∷◌, ◌++◌, length, arith, Option, map, take, slice_set, length-take-le, take_at}
+use Rattle.std.proofs.Common.{◌≡◌, ◌∙◌, ap, sym, subst, ℕ, ◌+◌, ◌-◌, ◌<◌, ◌≤◌, List, [], ◌∷◌, ◌++◌, length, arith, Option, Err, map, take, slice_set, length-take-le, take_at}
 use Rattle.std.proofs.lemmas.List.{length-map, map-append, take_all, take_more_set}
 use Rattle.std.specs.List.{AllByRecursion}
 use Rattle.std.proofs.lemmas.Slice.{take-put_mid}
 use borrow.Rule.Slice.PartMut.{put_mid}
 use Rattle.tinyvec_borsh.specs.declared.borsh_error.BorshError.{BorshError}
 use Rattle.tinyvec_borsh.specs.Items.{SpellsItems, AfterItems}
-use Rattle.tinyvec_borsh.specs.Reading.{ReadsSpelling, Fails}
-use Rattle.tinyvec_borsh.proofs.ItemByItem.{fails-so, fit-join, maybe-behind, maybe-so, one-item, takes-items, takes-so}
+use Rattle.tinyvec_borsh.specs.Reading.{FailsFor, ReadsSpelling}
+use Rattle.tinyvec_io.specs.Counted.{CountedView}
+use Rattle.tinyvec_borsh.proofs.ItemByItem.{fails-after, fit-join, one-item, takes-items, takes-so}
 
 module _ {C : Type 0} (Spells : C → List ℕ → Type 0) (Fits : C → Type 0) where
   -- these items were read
@@ -25,16 +26,15 @@ module _ {C : Type 0} (Spells : C → List ℕ → Type 0) (Fits : C → Type 0)
       took-block (map content (take i xs)) (content x ∷ []) _ old mid new (ap (map content) (take_more_set xs i x within) ∙ map-append content (take i xs) (x ∷ [])) w (takes-so mid new (one-item Spells (content x)) t) (f, tt)
 
   -- an item was not read, and the input is so from it on
-  pub fails-behind : (Reason : BorshError → List ℕ → Type 0) (n : ℕ) (cs : List C) (old mid : Option (List ℕ)) (before between after : ℕ) (e : BorshError) → TookItems cs old mid → length cs < n → before ≤ between
-      → Fails Reason mid between after e → Fails (AfterItems Spells Fits Reason n) old before after e
-  fails-behind Reason n cs old mid before between after e w fewer grows f = fails-so Reason (AfterItems Spells Fits Reason n) old mid before between after e grows f
-      (λ f why. maybe-behind old mid (Reason f) (AfterItems Spells Fits Reason n f) w.taken (λ input p. record { items = cs; fewer = fewer; fit = w.fit; parts = p }) why)
+  pub fails-behind : {R T U : Type 0} {remaining : R → Option (List ℕ)} {old mid new : CountedView R} {e : BorshError} (Reason : BorshError → List ℕ → Type 0) (n : ℕ) (cs : List C)
+      → TookItems cs (remaining old.inner) (remaining mid.inner) → length cs < n → old.faults ≤ mid.faults
+      → FailsFor {T = T} remaining Reason mid new (Err e) → FailsFor {T = U} remaining (AfterItems Spells Fits Reason n) old new (Err e)
+  fails-behind Reason n cs w fewer grows failed =
+      fails-after (SpellsItems Spells cs) w.taken grows (λ f input p. record { items = cs; fewer = fewer; fit = w.fit; parts = p }) failed
 
   -- what is wrong with the next items is wrong with all that are to come
-  pub fails-of-more : (Reason : BorshError → List ℕ → Type 0) (k n : ℕ) (old : Option (List ℕ)) (before after : ℕ) (e : BorshError) → k ≤ n
-      → Fails (AfterItems Spells Fits Reason k) old before after e → Fails (AfterItems Spells Fits Reason n) old before after e
-  fails-of-more Reason k n old before after e fewer f = fails-so (AfterItems Spells Fits Reason k) (AfterItems Spells Fits Reason n) old old before before after e (omega arith) f
-      (λ f why. maybe-so old (AfterItems Spells Fits Reason k f) (AfterItems Spells Fits Reason n f) (λ input t. record { items = t.items; fewer = omega (arith, t.fewer, fewer); fit = t.fit; parts = t.parts }) why)
+  pub of-more : (Reason : BorshError → List ℕ → Type 0) (k n : ℕ) → k ≤ n → (e : BorshError) (input : List ℕ) → AfterItems Spells Fits Reason k e input → AfterItems Spells Fits Reason n e input
+  of-more Reason k n fewer e input t = record { items = t.items; fewer = omega (arith, t.fewer, fewer); fit = t.fit; parts = t.parts }
 
 -- a list was made longer, and what was added was written
 pub grown : {T : Type 0} (start end : ℕ) (old more mid ws xs : List T) → length old ≡ start → start ≤ end → mid ≡ take end old ++ more → length ws ≡ end → take end ws ≡ take start mid ++ xs → ws ≡ old ++ xs

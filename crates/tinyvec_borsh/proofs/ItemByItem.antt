@@ -1,7 +1,7 @@
 -- Lists that are written and read item after item.
-use Rattle.std.proofs.Common.{◌≡◌, ◌∙◌, ap, sym, subst, ℕ, ◌+◌, ◌<◌, ◌≤◌, ◌⊎◌, inl, inr, List, [], ◌∷◌, ◌++◌, length, refl, arith, append-nil, length-append, Option, None, Some, map, take, get_or}
+use Rattle.std.proofs.Common.{◌≡◌, ◌∙◌, ap, sym, subst, ℕ, ◌+◌, ◌<◌, ◌≤◌, ◌⊎◌, inl, inr, List, [], ◌∷◌, ◌++◌, length, refl, arith, append-nil, length-append, Option, None, Some, Result, Ok, Err, le_refl, map, take, get_or}
 use Rattle.std.proofs.lemmas.List.{map-append, take_more}
-use Rattle.std.specs.Io.KnownBytes.{Appends}
+use Rattle.std.specs.Io.KnownBytes.{Appends, Consumes}
 use Rattle.std.proofs.KnownBytes.{Appends-trans, Consumes-trans}
 use Rattle.std.specs.List.{AllByRecursion}
 use Rattle.tinyvec_borsh.specs.declared.borsh_error.BorshError.{BorshError}
@@ -9,7 +9,8 @@ use Rattle.tinyvec_borsh.specs.declared.borsh_error.BorshError.TheVariants.{Ende
 use Rattle.tinyvec_borsh.specs.Items.{AfterItems, IsCount, SpellsItems, SpellsList, HasItems, InItem, HasTooMany, CountsAbove, ListReason}
 use Rattle.tinyvec_borsh.specs.Number.{TooFewBytes}
 use Rattle.tinyvec_borsh.specs.TwoParts.{HasParts, first-so, group-first, group-rest, joined, rest-so, with-tail}
-use Rattle.tinyvec_borsh.specs.Reading.{MayBe, ReadsSpelling, Fails, LeavesRest}
+use Rattle.tinyvec_borsh.specs.Reading.{MayBe, ReadsSpelling, Fails, FailsFor, LeavesRest, TakesSome}
+use Rattle.tinyvec_io.specs.Counted.{CountedView}
 
 -- what was taken is so, as it was
 pub takes-so : {P Q : List ℕ → Type 0} (old new : Option (List ℕ)) → ((bytes : List ℕ) → P bytes → Q bytes) → ReadsSpelling P old new → ReadsSpelling Q old new
@@ -42,6 +43,41 @@ fails-so Reason All old mid before between after Ended grows f so = so Ended f
 fails-so Reason All old mid before between after InvalidLength grows f so = so InvalidLength f
 fails-so Reason All old mid before between after InvalidUtf8 grows f so = so InvalidUtf8 f
 fails-so Reason All old mid before between after Memory grows f so = so Memory f
+
+module _ {IsCut All : List ℕ → Type 0} where
+  -- what was taken before is taken too
+  some-then : (old mid new : Option (List ℕ)) (bytes : List ℕ) (e : BorshError) → Consumes old mid bytes → ((rest : List ℕ) → IsCut rest → All (bytes ++ rest)) → TakesSome IsCut mid new e → TakesSome All old new e
+  some-then old mid new bytes e before cut t = record { bytes = bytes ++ t.bytes; taken = Consumes-trans old mid new bytes t.bytes before t.taken; end = t.end; short = λ is. cut t.bytes (t.short is) }
+
+  some-so : (old new : Option (List ℕ)) (e : BorshError) → ((bytes : List ℕ) → IsCut bytes → All bytes) → TakesSome IsCut old new e → TakesSome All old new e
+  some-so old new e cut t = record { bytes = t.bytes; taken = t.taken; end = t.end; short = λ is. cut t.bytes (t.short is) }
+
+module _ {R T U : Type 0} {remaining : R → Option (List ℕ)} {Inner Outer : BorshError → List ℕ → Type 0} {old mid new : CountedView R} {e : BorshError} where
+  -- a reading failed behind what was read
+  pub fails-after : (S : List ℕ → Type 0) → ReadsSpelling S (remaining old.inner) (remaining mid.inner) → old.faults ≤ mid.faults
+      → ((f : BorshError) (input : List ℕ) → HasParts S (Inner f) input → Outer f input)
+      → FailsFor {T = T} remaining Inner mid new (Err e) → FailsFor {T = U} remaining Outer old new (Err e)
+  fails-after S t grows so failed = record {
+    err = fails-so Inner Outer _ _ _ _ _ e grows failed.err (λ f may. maybe-behind _ _ (Inner f) (Outer f) t (so f) may);
+    taken = some-then _ _ _ t.0 e t.2 (λ rest cut. so Ended (t.0 ++ rest) (joined t.0 rest t.1 cut)) failed.taken;
+    grows = omega (arith, grows, failed.grows);
+  }
+
+module _ {R T U : Type 0} {remaining : R → Option (List ℕ)} {Inner Outer : BorshError → List ℕ → Type 0} {old new : CountedView R} {e : BorshError} where
+  -- what is a reason for one reading is one for another
+  pub fails-as : ((f : BorshError) (input : List ℕ) → Inner f input → Outer f input)
+      → FailsFor {T = T} remaining Inner old new (Err e) → FailsFor {T = U} remaining Outer old new (Err e)
+  fails-as so failed = record {
+    err = fails-so Inner Outer _ _ _ _ _ e (le_refl _) failed.err (λ f may. maybe-so _ (Inner f) (Outer f) (so f) may);
+    taken = some-so _ _ e (so Ended) failed.taken;
+    grows = failed.grows;
+  }
+
+module _ {R T : Type 0} {remaining : R → Option (List ℕ)} {Inner Outer : BorshError → List ℕ → Type 0} {old new : CountedView R} where
+  -- the same of a last call, whose result is returned
+  pub fails-like : (r : Result T BorshError) → ((f : BorshError) (input : List ℕ) → Inner f input → Outer f input) → FailsFor remaining Inner old new r → FailsFor remaining Outer old new r
+  fails-like (Ok x) so told = record { err = tt; taken = tt; grows = told.grows }
+  fails-like (Err e) so told = fails-as so told
 
 module _ {C : Type 0} (Fits : C → Type 0) where
   pub fit-join : (cs ds : List C) → AllByRecursion Fits cs → AllByRecursion Fits ds → AllByRecursion Fits (cs ++ ds)
@@ -82,12 +118,6 @@ module _ {C : Type 0} (Spells : C → List ℕ → Type 0) where
         spelled = items-more (map content (take i xs)) (content x) w.bytes t.0 w.spelled t.1;
         appended = Appends-trans old mid new w.bytes t.0 w.appended t.2;
       })
-
-  -- the count was written, and then the items
-  pub wrote-list : (n : ℕ) (cs : List C) (old mid new : Option (List ℕ)) → n ≡ length cs → (count : List ℕ) × IsCount n count × Appends old mid count
-      → (bytes : List ℕ) × SpellsItems Spells cs bytes × Appends mid new bytes → (bytes : List ℕ) × SpellsList Spells cs bytes × Appends old new bytes
-  wrote-list n cs old mid new long c w =
-      (c.0 ++ w.0, joined c.0 w.0 (subst (λ m. IsCount m c.0) long c.1) w.1, Appends-trans old mid new c.0 w.0 c.2 w.2)
 
   module _ (Fits : C → Type 0) where
     -- the count and these items were read
@@ -132,22 +162,18 @@ module _ {C : Type 0} (Spells : C → List ℕ → Type 0) where
     }
 
     -- an item was not read, and the input is so from it on
-    in-item : (P : List ℕ → Type 0) (room n : ℕ) (cs : List C) (old mid : Option (List ℕ)) → WasRead n cs old mid → length cs < n → length cs ≤ room → MayBe mid P → MayBe old (InItem Spells Fits P room)
-    in-item P room n cs old mid w fewer few may =
-        maybe-behind old mid P _ w.taken (λ input p. record { has = has-items n cs input w.fit p; fewer = fewer; few = few; left = p.is_rest }) may
+    in-item : (P : List ℕ → Type 0) (room n : ℕ) (cs : List C) → AllByRecursion Fits cs → length cs < n → length cs ≤ room
+        → (input : List ℕ) → HasParts (HasParts (IsCount n) (SpellsItems Spells cs)) P input → InItem Spells Fits P room input
+    in-item P room n cs fit fewer few input p = record { has = has-items n cs input fit p; fewer = fewer; few = few; left = p.is_rest }
 
     -- of a block of k items one was not read
-    in-block : (Reason : BorshError → List ℕ → Type 0) (e : BorshError) (room n k : ℕ) (cs : List C) (old mid : Option (List ℕ)) → WasRead n cs old mid → length cs + k ≤ n → length cs + k ≤ room + 1 → MayBe mid (AfterItems Spells Fits Reason k e) → MayBe old (InItem Spells Fits (Reason e) room)
-    in-block Reason e room n k cs old mid w more few may = maybe-behind old mid (AfterItems Spells Fits Reason k e) _ w.taken (λ input p.
+    in-block : (Reason : BorshError → List ℕ → Type 0) (e : BorshError) (room n k : ℕ) (cs : List C) → AllByRecursion Fits cs → length cs + k ≤ n → length cs + k ≤ room + 1
+        → (input : List ℕ) → HasParts (HasParts (IsCount n) (SpellsItems Spells cs)) (AfterItems Spells Fits Reason k e) input → InItem Spells Fits (Reason e) room input
+    in-block Reason e room n k cs fit more few input p =
         let so = p.is_rest in
         let q : HasParts (HasParts (HasParts (IsCount n) (SpellsItems Spells cs)) (SpellsItems Spells so.items)) (Reason e) input = group-first (rest-so p so.parts) in
-        let list : HasParts (HasParts (IsCount n) (SpellsItems Spells (cs ++ so.items))) (Reason e) input = first-so q (list-join n cs so.items q.first q.is_first) in
-        record {
-          has = has-items n (cs ++ so.items) input (fit-join Fits cs so.items w.fit so.fit) list;
-          fewer = omega (arith, length-append cs so.items, so.fewer, more);
-          few = omega (arith, length-append cs so.items, so.fewer, few);
-          left = list.is_rest;
-        }) may
+        in-item (Reason e) room n (cs ++ so.items) (fit-join Fits cs so.items fit so.fit) (omega (arith, length-append cs so.items, so.fewer, more))
+        (omega (arith, length-append cs so.items, so.fewer, few)) input (first-so q (list-join n cs so.items q.first q.is_first))
 
     -- one item more than the room was read
     pub too-many : (room n : ℕ) (cs : List C) (old new : Option (List ℕ)) → WasRead n cs old new → length cs ≡ room + 1 → room < n → MayBe old (HasTooMany Spells Fits room)
@@ -155,37 +181,43 @@ module _ {C : Type 0} (Spells : C → List ℕ → Type 0) where
         maybe-behind old new (λ _. Unit {0}) _ w.taken (λ input p. record { has = has-items n cs input w.fit p; over = over; above = above }) (maybe-any new)
 
     -- the count was above this
-    pub counts-above : (most n : ℕ) (cs : List C) (old new : Option (List ℕ)) → WasRead n cs old new → most < n → MayBe old (CountsAbove most)
-    counts-above most n cs old new w above = maybe-behind old new (λ _. Unit {0}) _ w.taken (λ input p.
+    above-count : (most n : ℕ) (cs : List C) → most < n → (input : List ℕ) → HasParts (HasParts (IsCount n) (SpellsItems Spells cs)) (λ _. Unit {0}) input → CountsAbove most input
+    above-count most n cs above input p =
         let q : HasParts (IsCount n) (HasParts (SpellsItems Spells cs) (λ _. Unit {0})) input = group-rest p in
-        (n, above, rest-so q tt)) (maybe-any new)
+        (n, above, rest-so q tt)
 
-    module _ (Reason : BorshError → List ℕ → Type 0) (Allocates : List ℕ → Type 0) (room : ℕ) where
+    pub counts-above : (most n : ℕ) (cs : List C) (old new : Option (List ℕ)) → WasRead n cs old new → most < n → MayBe old (CountsAbove most)
+    counts-above most n cs old new w above = maybe-behind old new (λ _. Unit {0}) _ w.taken (above-count most n cs above) (maybe-any new)
+
+    module _ (Reason : BorshError → List ℕ → Type 0) (Allocates : List ℕ → Type 0) (room : ℕ) {R T U : Type 0} {remaining : R → Option (List ℕ)} {e : BorshError} where
       -- the count was not read
-      pub fails-count : (old : Option (List ℕ)) (before after : ℕ) (e : BorshError) → Fails (TooFewBytes 8) old before after e → Fails (ListReason Spells Fits Reason Allocates room) old before after e
-      fails-count old before after e f = fails-so (TooFewBytes 8) (ListReason Spells Fits Reason Allocates room) old old before before after e (omega arith) f
-          (λ f why. maybe-so old (TooFewBytes 8 f) (ListReason Spells Fits Reason Allocates room f) (λ input few. subst (λ f. ListReason Spells Fits Reason Allocates room f input) (sym few.0) (inl few.1)) why)
+      pub fails-count : {old new : CountedView R} → FailsFor {T = T} remaining (TooFewBytes 8) old new (Err e)
+          → FailsFor {T = U} remaining (ListReason Spells Fits Reason Allocates room) old new (Err e)
+      fails-count failed = fails-as (λ f input few. subst (λ f. ListReason Spells Fits Reason Allocates room f input) (sym few.0) (inl few.1)) failed
 
-      -- an item was not read
-      pub fails-item : (n : ℕ) (cs : List C) (old mid : Option (List ℕ)) (before between after : ℕ) (e : BorshError) → WasRead n cs old mid → length cs < n → length cs ≤ room → before ≤ between
-          → Fails Reason mid between after e → Fails (ListReason Spells Fits Reason Allocates room) old before after e
-      fails-item n cs old mid before between after e w more few grows f =
-          fails-so Reason (ListReason Spells Fits Reason Allocates room) old mid before between after e grows f (λ f why. maybe-so old (InItem Spells Fits (Reason f) room) (ListReason Spells Fits Reason Allocates room f) (λ input item. inr item) (in-item (Reason f) room n cs old mid w more few why))
+      module _ (n : ℕ) (cs : List C) {old mid new : CountedView R} (w : WasRead n cs (remaining old.inner) (remaining mid.inner)) where
+        -- an item was not read
+        pub fails-item : length cs < n → length cs ≤ room → old.faults ≤ mid.faults
+            → FailsFor {T = T} remaining Reason mid new (Err e) → FailsFor {T = U} remaining (ListReason Spells Fits Reason Allocates room) old new (Err e)
+        fails-item more few grows failed =
+            fails-after (HasParts (IsCount n) (SpellsItems Spells cs)) w.taken grows (λ f input p. inr (in-item (Reason f) room n cs w.fit more few input p)) failed
 
-      -- a block was not read
-      pub fails-block : (n k : ℕ) (cs : List C) (old mid : Option (List ℕ)) (before between after : ℕ) (e : BorshError) → WasRead n cs old mid → length cs + k ≤ n → length cs + k ≤ room + 1 → before ≤ between
-          → Fails (AfterItems Spells Fits Reason k) mid between after e → Fails (ListReason Spells Fits Reason Allocates room) old before after e
-      fails-block n k cs old mid before between after e w more few grows f =
-          fails-so (AfterItems Spells Fits Reason k) (ListReason Spells Fits Reason Allocates room) old mid before between after e grows f (λ f why. maybe-so old (InItem Spells Fits (Reason f) room) (ListReason Spells Fits Reason Allocates room f) (λ input item. inr item) (in-block Reason f room n k cs old mid w more few why))
+        -- a block was not read
+        pub fails-block : (k : ℕ) → length cs + k ≤ n → length cs + k ≤ room + 1 → old.faults ≤ mid.faults
+            → FailsFor {T = T} remaining (AfterItems Spells Fits Reason k) mid new (Err e) → FailsFor {T = U} remaining (ListReason Spells Fits Reason Allocates room) old new (Err e)
+        fails-block k more few grows failed =
+            fails-after (HasParts (IsCount n) (SpellsItems Spells cs)) w.taken grows (λ f input p. inr (in-block Reason f room n k cs w.fit more few input p)) failed
 
-      -- nor was it where memory was wanting
-      pub fails-wanting : (Wanting : Type 0) (n k : ℕ) (cs : List C) (old mid : Option (List ℕ)) (before between after : ℕ) (e : BorshError) → WasRead n cs old mid → length cs + k ≤ n → length cs + k ≤ room + 1 → before ≤ between
-          → (Wanting → MayBe old Allocates) → ((e ≡ Memory) × Wanting) ⊎ Fails (AfterItems Spells Fits Reason k) mid between after e
-          → Fails (ListReason Spells Fits Reason Allocates room) old before after e
-      fails-wanting Wanting n k cs old mid before between after e w more few grows wants f = elim f [
-        | inl wanting ↦ subst (Fails (ListReason Spells Fits Reason Allocates room) old before after) (sym wanting.0) (maybe-so old Allocates (ListReason Spells Fits Reason Allocates room Memory) (λ input is. inl is) (wants wanting.1))
-        | inr failed ↦ fails-block n k cs old mid before between after e w more few grows failed
-      ]
+    module _ (Reason : BorshError → List ℕ → Type 0) (most room n k : ℕ) (cs : List C) (Wanting : Type 0) {R T U : Type 0} {remaining : R → Option (List ℕ)} {old mid new : CountedView R} {e : BorshError} where
+      -- a block was not read, or memory for it was wanting, since the count is above this
+      pub fails-wanting : WasRead n cs (remaining old.inner) (remaining mid.inner) → length cs + k ≤ n → length cs + k ≤ room + 1 → old.faults ≤ mid.faults → (Wanting → most < n)
+          → FailsFor {T = T} remaining (λ f input. AfterItems Spells Fits Reason k f input ⊎ ((f ≡ Memory) × Wanting)) mid new (Err e)
+          → FailsFor {T = U} remaining (ListReason Spells Fits Reason (CountsAbove most) room) old new (Err e)
+      fails-wanting w more few grows above failed =
+          fails-after (HasParts (IsCount n) (SpellsItems Spells cs)) w.taken grows (λ f input p. elim p.is_rest [
+            | inl so ↦ inr (in-block Reason f room n k cs w.fit more few input (rest-so p so))
+            | inr wanting ↦ subst (λ f. ListReason Spells Fits Reason (CountsAbove most) room f input) (sym wanting.0) (inl (above-count most n cs (above wanting.1) input (rest-so p tt)))
+          ]) failed
 
     pub rest-many : (IsTooLong : List ℕ → Type 0) (room n : ℕ) (cs : List C) (old new : Option (List ℕ)) → WasRead n cs old new → length cs ≡ room + 1 → room < n → LeavesRest Spells IsTooLong room old new InvalidLength
     rest-many IsTooLong room n cs old new w over above = inl (record { len = n; items = cs; over = over; above = above; taken = w.taken })

@@ -1,5 +1,5 @@
 -- Numbers that are written and read in blocks.
-use Rattle.std.proofs.Common.{◌≡◌, ◌∙◌, ap, sym, subst, ℕ, ◌+◌, ◌-◌, ◌*◌, ◌/◌, ◌<◌, ◌≤◌, zero, suc, inl, inr, List, [], ◌∷◌, ◌++◌, length, refl, arith, length-append, Option, take, drop, get_or, slice_set, take-append-drop, length-take-le, length-drop, take-add}
+use Rattle.std.proofs.Common.{◌≡◌, ◌∙◌, ap, sym, subst, ℕ, ◌+◌, ◌-◌, ◌*◌, ◌/◌, ◌<◌, ◌≤◌, zero, suc, inl, inr, List, [], ◌∷◌, ◌++◌, length, refl, arith, length-append, Option, Err, take, drop, get_or, slice_set, take-append-drop, length-take-le, length-drop, take-add}
 use Rattle.std.proofs.Math.Nat.{div-mul-le_self, mul-le-mul_right}
 use Rattle.std.proofs.lemmas.Bool.{cases_lt}
 use Rattle.std.proofs.lemmas.List.{take_more, take_more_set}
@@ -7,13 +7,14 @@ use Rattle.std.specs.List.{AllByRecursion}
 use Rattle.std.specs.Io.KnownBytes.{Appends}
 use Rattle.std.proofs.KnownBytes.{Appends-trans}
 use Rattle.tinyvec_borsh.specs.declared.borsh_error.BorshError.{BorshError}
-use Rattle.tinyvec_borsh.specs.declared.borsh_error.BorshError.TheVariants.{Ended, InvalidLength, InvalidUtf8, Io, Memory}
+use Rattle.tinyvec_borsh.specs.declared.borsh_error.BorshError.TheVariants.{Ended}
 use Rattle.tinyvec_borsh.specs.Items.{SpellsItems, AfterItems}
 use Rattle.tinyvec_borsh.specs.Number.{SpellsNumber, TooFewBytes}
 use Rattle.tinyvec_borsh.specs.TwoParts.{HasParts, first-so, group-first, joined, rest-so}
-use Rattle.tinyvec_borsh.specs.Reading.{Fails, IsFewBytes, MayBe}
+use Rattle.tinyvec_borsh.specs.Reading.{FailsFor, FewBytes}
+use Rattle.tinyvec_io.specs.Counted.{CountedView}
 use Rattle.tinyvec_borsh.proofs.Blocks.{TookItems}
-use Rattle.tinyvec_borsh.proofs.ItemByItem.{WroteItems, fails-so, fit-join, fit-more, items-join, items-more, maybe-behind, maybe-so}
+use Rattle.tinyvec_borsh.proofs.ItemByItem.{WroteItems, fails-after, fit-join, fit-more, items-join, items-more}
 
 -- a number more takes as many bytes more
 one-more : (i width : ℕ) → (i + 1) * width ≡ i * width + width
@@ -94,10 +95,10 @@ module _ {C : Type 0} (Spells : C → List ℕ → Type 0) (Fits : C → Type 0)
   fit-block xs ys zs both p q = subst (AllByRecursion Fits) (sym both) (fit-join Fits xs ys p q)
 
   -- an item of the block was not read, and the input is so from it on
-  pub fails-behind-block : (Reason : BorshError → List ℕ → Type 0) (k n : ℕ) (cs : List C) (old mid : Option (List ℕ)) (before between after : ℕ) (e : BorshError) → TookItems Spells Fits cs old mid → length cs + k ≤ n → before ≤ between
-      → Fails (AfterItems Spells Fits Reason k) mid between after e → Fails (AfterItems Spells Fits Reason n) old before after e
-  fails-behind-block Reason k n cs old mid before between after e w fewer grows f = fails-so (AfterItems Spells Fits Reason k) (AfterItems Spells Fits Reason n) old mid before between after e grows f
-      (λ f why. maybe-behind old mid (AfterItems Spells Fits Reason k f) (AfterItems Spells Fits Reason n f) w.taken (λ input p.
+  pub fails-behind-block : {R T U : Type 0} {remaining : R → Option (List ℕ)} {old mid new : CountedView R} {e : BorshError} (Reason : BorshError → List ℕ → Type 0) (k n : ℕ) (cs : List C)
+      → TookItems Spells Fits cs (remaining old.inner) (remaining mid.inner) → length cs + k ≤ n → old.faults ≤ mid.faults
+      → FailsFor {T = T} remaining (AfterItems Spells Fits Reason k) mid new (Err e) → FailsFor {T = U} remaining (AfterItems Spells Fits Reason n) old new (Err e)
+  fails-behind-block Reason k n cs w fewer grows failed = fails-after (SpellsItems Spells cs) w.taken grows (λ f input p.
       let so = p.is_rest in
       let q : HasParts (HasParts (SpellsItems Spells cs) (SpellsItems Spells so.items)) (Reason f) input = group-first (rest-so p so.parts) in
       record {
@@ -105,18 +106,18 @@ module _ {C : Type 0} (Spells : C → List ℕ → Type 0) (Fits : C → Type 0)
         fewer = omega (arith, length-append cs so.items, so.fewer, fewer);
         fit = fit-join Fits cs so.items w.fit so.fit;
         parts = first-so q (items-join Spells cs so.items q.first q.is_first);
-      }) why)
+      }) failed
 
   module _ (width : ℕ) (of_bytes : List ℕ → C) (read : (bytes : List ℕ) → length bytes ≡ width → AllByRecursion (λ byte. byte < 256) bytes → Spells (of_bytes bytes) bytes × Fits (of_bytes bytes)) where
     -- of fewer bytes than so many numbers have, the last number that begins is cut
-    few-numbers : (n : ℕ) (input : List ℕ) → IsFewBytes (n * width) input → AfterItems Spells Fits (TooFewBytes width) n Ended input
-    few-numbers zero input few = absurd (omega (arith, few.1))
-    few-numbers (suc n) input few = elim (cases_lt (length input) width) [
+    few-numbers : (n : ℕ) (input : List ℕ) → AllByRecursion (λ byte. byte < 256) input → length input < n * width → AfterItems Spells Fits (TooFewBytes width) n Ended input
+    few-numbers zero input small few = absurd (omega (arith, few))
+    few-numbers (suc n) input small few = elim (cases_lt (length input) width) [
       | inl cut ↦ record { items = []; fewer = omega arith; fit = tt; parts = joined [] input refl (refl, cut) }
       | inr enough ↦
           let long = length-take-le width input enough in
-          let one = read (take width input) long (small-take width input few.0) in
-          let rest = few-numbers n (drop width input) (small-drop width input few.0, omega (arith, length-drop width input, few.1, enough)) in
+          let one = read (take width input) long (small-take width input small) in
+          let rest = few-numbers n (drop width input) (small-drop width input small) (omega (arith, length-drop width input, few, enough)) in
           record {
             items = of_bytes (take width input) ∷ rest.items;
             fewer = omega (arith, rest.fewer);
@@ -126,10 +127,6 @@ module _ {C : Type 0} (Spells : C → List ℕ → Type 0) (Fits : C → Type 0)
     ]
 
     -- so many numbers have `many` bytes, which were not all there
-    pub fails-numbers : (n many : ℕ) → many ≡ n * width → (old : Option (List ℕ)) (before after : ℕ) (e : BorshError) → (e ≡ Ended → MayBe old (IsFewBytes many)) → Fails (TooFewBytes many) old before after e
-        → Fails (AfterItems Spells Fits (TooFewBytes width) n) old before after e
-    fails-numbers n many is old before after Ended few f = maybe-so old _ _ (few-numbers n) (subst (λ m. MayBe old (IsFewBytes m)) is (few refl))
-    fails-numbers n many is old before after InvalidLength few f = maybe-so old _ _ (λ input no. cc) f
-    fails-numbers n many is old before after InvalidUtf8 few f = maybe-so old _ _ (λ input no. cc) f
-    fails-numbers n many is old before after Io few f = f
-    fails-numbers n many is old before after Memory few f = maybe-so old _ _ (λ input no. cc) f
+    pub few-bytes : (n many : ℕ) → many ≡ n * width → (e : BorshError) (input : List ℕ) → FewBytes many e input → AfterItems Spells Fits (TooFewBytes width) n e input
+    few-bytes n many is e input few =
+        subst (λ f. AfterItems Spells Fits (TooFewBytes width) n f input) (sym few.0) (few-numbers n input few.1 (omega (arith, few.2, is)))

@@ -1,5 +1,5 @@
 -- Bytes that are read as a text.
-use Rattle.std.proofs.Common.{◌≢◌, ℕ, ◌-◌, ◌^◌, ◌<◌, inl, inr, List, Option, None, Some, refl}
+use Rattle.std.proofs.Common.{◌≢◌, ℕ, ◌-◌, ◌^◌, ◌<◌, inl, inr, List, Option, None, Some}
 use Rattle.tinyvec_borsh.specs.declared.borsh_error.BorshError.{BorshError}
 use Rattle.tinyvec_borsh.specs.declared.borsh_error.BorshError.TheVariants.{Ended, InvalidLength, InvalidUtf8, Io, Memory}
 use Rattle.tinyvec_borsh.specs.Both.{IsBehind}
@@ -26,12 +26,12 @@ bytes-other slots (Some input) before after InvalidUtf8 f is = never-text slots 
 bytes-other slots old before after Io f is = cc
 bytes-other slots old before after Memory f is = cc
 
-pub text-fails : (slots : ℕ) (old : Option (List ℕ)) (before after : ℕ) (e : BorshError) → Fails (BytesReason slots) old before after e → Fails (TextReason slots) old before after e
-text-fails slots old before after Ended f = f
-text-fails slots old before after InvalidLength f = f
-text-fails slots old before after InvalidUtf8 f = absurd (bytes-other slots old before after InvalidUtf8 f refl)
-text-fails slots old before after Io f = f
-text-fails slots old before after Memory f = f
+pub text-reason : (slots : ℕ) (e : BorshError) (input : List ℕ) → BytesReason slots e input → TextReason slots e input
+text-reason slots Ended input why = why
+text-reason slots InvalidLength input why = why
+text-reason slots InvalidUtf8 input why = absurd (never-text slots input why)
+text-reason slots Io input why = why
+text-reason slots Memory input why = why
 
 -- they were read, and are no text
 pub no-text : (bytes : List ℕ) (old new : Option (List ℕ)) → AreNoText bytes → ReadsSpelling (SpellsText bytes) old new → MayBe old (IsBehind SpellsText AreNoText (λ rest. Unit {0}))

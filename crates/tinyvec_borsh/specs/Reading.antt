@@ -1,8 +1,8 @@
 -- What a reading answers, by what the input is.
-use Rattle.std.specs.Prelude.{◌≡◌, ℕ, ◌+◌, ◌<◌, ◌⊎◌, List, length, None, Some, Option, Ok, Err, Result}
+use Rattle.std.specs.Prelude.{◌≡◌, ℕ, ◌+◌, ◌<◌, ◌≤◌, ◌⊎◌, List, length, None, Some, Option, Ok, Err, Result, IfErr}
 use Rattle.std.specs.List.{AllByRecursion}
 use Rattle.std.specs.Io.KnownBytes.{Consumes, IsAtEnd}
-use Rattle.tinyvec_io.specs.Counted.{Reported}
+use Rattle.tinyvec_io.specs.Counted.{CountedView, Reported}
 use Rattle.tinyvec_borsh.specs.Items.{IsCount, SpellsItems}
 use Rattle.tinyvec_borsh.specs.TwoParts.{HasParts}
 use Rattle.tinyvec_borsh.specs.declared.borsh_error.BorshError.{BorshError}
@@ -13,9 +13,9 @@ abbrev pub MayBe : Option (List ℕ) → (List ℕ → Type 0) → Type 0
 MayBe None P = (input : List ℕ) × P input
 MayBe (Some input) P = P input
 
--- the whole input is bytes, fewer than this
-abbrev pub IsFewBytes : ℕ → List ℕ → Type 0
-IsFewBytes n input = AllByRecursion (λ byte. byte < 256) input × (length input < n)
+-- The whole input is bytes, fewer than this, and ends before the last.
+abbrev pub FewBytes : ℕ → BorshError → List ℕ → Type 0
+FewBytes n error input = (error ≡ Ended) × AllByRecursion (λ byte. byte < 256) input × (length input < n)
 
 -- Bytes that spell the value were taken from the front of the input.
 abbrev pub ReadsSpelling : (List ℕ → Type 0) → Option (List ℕ) → Option (List ℕ) → Type 0
@@ -35,6 +35,14 @@ pub record TakesSome (IsCut : List ℕ → Type 0) (old new : Option (List ℕ))
 abbrev pub Fails : (Reason : BorshError → List ℕ → Type 0) → Option (List ℕ) → ℕ → ℕ → BorshError → Type 0
 Fails Reason input old_faults new_faults Io = Reported old_faults new_faults
 Fails Reason input old_faults new_faults error = MayBe input (Reason error)
+
+-- A reading took the reader from `old` to `new`, with this result. `Io` comes only if the reader reported a fault, and another error
+-- only if the input is a reason for it.
+pub record FailsFor {R T : Type 0} (remaining : R → Option (List ℕ)) (Reason : BorshError → List ℕ → Type 0) (old new : CountedView R) (result : Result T BorshError) : Type 0 where
+  pub err : IfErr result (Fails Reason (remaining old.inner) old.faults new.faults)
+  -- some bytes were taken: all, if the error is `Ended`; at `Io` no whole spelling
+  pub taken : IfErr result (TakesSome (Reason Ended) (remaining old.inner) (remaining new.inner))
+  pub grows : old.faults ≤ new.faults
 
 -- A value of the content was read, and what follows stays unread; or the reader reported a fault, or memory was refused that
 -- may be asked for to read this input.

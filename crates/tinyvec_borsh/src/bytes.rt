@@ -3,8 +3,7 @@ ghost use Rattle.std.specs.Prelude.{◌≡◌, ◌<◌, ◌≤◌, length, IfErr
 ghost use Rattle.std.specs.Io.KnownBytes.{Appends, Consumes};
 ghost use Rattle.std.specs.List.{AllByRecursion};
 ghost use Rattle.tinyvec_io.specs.Counted.{AppendsFront, Reported};
-ghost use Rattle.tinyvec_borsh.specs.Number.{TooFewBytes};
-ghost use Rattle.tinyvec_borsh.specs.Reading.{Fails, IsFewBytes, MayBe, TakesSome};
+ghost use Rattle.tinyvec_borsh.specs.Reading.{FailsFor, FewBytes};
 
 use crate::BorshError;
 use std::io::{Read, Write};
@@ -14,13 +13,7 @@ use tinyvec_io::Counted;
 pub(crate) fn read_bytes<R: Read>(reader: &mut Counted<R>, buf: &mut [u8]) -> Result<(), BorshError>
     ensures ok { OnOk result (Consumes (R.remaining reader.old.inner) (R.remaining reader.new.inner) buf.new) }
     ensures small { OnOk result (AllByRecursion (λ byte. byte < 256) buf.new) }
-    ensures err { IfErr result (Fails (TooFewBytes (length buf.old))
-        (R.remaining reader.old.inner) reader.old.faults reader.new.faults) }
-    ensures taken { IfErr result (TakesSome (IsFewBytes (length buf.old))
-        (R.remaining reader.old.inner) (R.remaining reader.new.inner)) }
-    ensures ended { IfErr result (λ e. e ≡ BorshError.Ended
-        → MayBe (R.remaining reader.old.inner) (IsFewBytes (length buf.old))) }
-    ensures faults_grow { reader.old.faults ≤ reader.new.faults }
+    ensures fails { FailsFor R.remaining (FewBytes (length buf.old)) reader.old reader.new result }
 {
     match reader.fill(buf) {
         Ok(count) if count < buf.len() => Err(BorshError::Ended),

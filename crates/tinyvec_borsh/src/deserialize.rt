@@ -1,8 +1,8 @@
 //! Reading.
-ghost use Rattle.std.specs.Prelude.{◌≤◌, ℕ, List, length, map, IfErr, IfOk, OnOk};
+ghost use Rattle.std.specs.Prelude.{ℕ, List, length, map, IfOk, OnOk};
 ghost use Rattle.std.specs.List.{AllByRecursion};
 ghost use Rattle.tinyvec_borsh.specs.Items.{AfterItems, SpellsItems};
-ghost use Rattle.tinyvec_borsh.specs.Reading.{Fails, ReadsSpelling, TakesSome};
+ghost use Rattle.tinyvec_borsh.specs.Reading.{FailsFor, ReadsSpelling};
 ghost use Rattle.tinyvec_borsh.specs.Apart.{AreApart};
 ghost use Rattle.tinyvec_borsh.specs.declared.borsh_error.BorshError.{BorshError};
 
@@ -26,11 +26,7 @@ pub trait BorshDeserialize: BorshForm + Sized {
         ensures ok { IfOk result (λ v. ReadsSpelling (Self.Spells (Self.content_of v))
             (R.remaining reader.old.inner) (R.remaining reader.new.inner)) }
         ensures fits { IfOk result (λ v. Self.Fits (Self.content_of v)) }
-        ensures err { IfErr result (Fails Reason
-            (R.remaining reader.old.inner) reader.old.faults reader.new.faults) }
-        ensures taken { IfErr result (TakesSome (Reason BorshError.Ended)
-            (R.remaining reader.old.inner) (R.remaining reader.new.inner)) }
-        ensures faults_grow { reader.old.faults ≤ reader.new.faults };
+        ensures fails { FailsFor R.remaining Reason reader.old reader.new result };
 
     /// Reads a value into each slot, one after the other.
     fn deserialize_slots<R: Read>(
@@ -43,11 +39,8 @@ pub trait BorshDeserialize: BorshForm + Sized {
         ensures ok { OnOk result (ReadsSpelling (SpellsItems Self.Spells (map Self.content_of slots.new))
             (R.remaining reader.old.inner) (R.remaining reader.new.inner)) }
         ensures fits { OnOk result (AllByRecursion Self.Fits (map Self.content_of slots.new)) }
-        ensures err { IfErr result (Fails (AfterItems Self.Spells Self.Fits Reason (length slots.old))
-            (R.remaining reader.old.inner) reader.old.faults reader.new.faults) }
-        ensures taken { IfErr result (TakesSome (AfterItems Self.Spells Self.Fits Reason (length slots.old) BorshError.Ended)
-            (R.remaining reader.old.inner) (R.remaining reader.new.inner)) }
-        ensures faults_grow { reader.old.faults ≤ reader.new.faults }
+        ensures fails { FailsFor R.remaining (AfterItems Self.Spells Self.Fits Reason (length slots.old))
+            reader.old reader.new result }
     {
         for i in 0..slots.len() {
             slots[i] = Self::deserialize_reader(alloc, reader)?;

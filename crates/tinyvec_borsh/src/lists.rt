@@ -1,10 +1,9 @@
 //! Lists and texts: the count, and then the items.
-ghost use Rattle.std.specs.Prelude.{◌≡◌, ◌-◌, ◌≤◌, ◌++◌, List, length, map, take, drop, IfErr, OnErr, OnOk};
+ghost use Rattle.std.specs.Prelude.{◌≡◌, ◌-◌, ◌≤◌, ◌++◌, List, length, map, take, drop, OnOk};
 ghost use Rattle.std.specs.List.{AllByRecursion};
 ghost use Rattle.tinyvec_borsh.specs.Items.{AfterItems, SpellsItems, SpellsList};
-ghost use Rattle.tinyvec_borsh.specs.Reading.{Fails, ReadsSpelling, TakesSome};
-ghost use Rattle.tinyvec_borsh.specs.Writing.{AddsFront, WritesSpelling};
-ghost use Rattle.tinyvec_io.specs.Counted.{Reported};
+ghost use Rattle.tinyvec_borsh.specs.Reading.{FailsFor, ReadsSpelling};
+ghost use Rattle.tinyvec_borsh.specs.Writing.{WritesValue};
 
 mod array_vec;
 mod inline_text;
@@ -22,13 +21,9 @@ fn write_list<T: BorshSerialize, W: Write>(
     writer: &mut Counted<W>,
 ) -> Result<(), BorshError>
     requires { len ≡ length items.now }
-    ensures ok { OnOk result (WritesSpelling (SpellsList T.Spells (map T.content_of items.now))
-        (W.contents writer.old.inner) (W.contents writer.new.inner)) }
+    ensures writes { WritesValue W.contents (SpellsList T.Spells (map T.content_of items.now))
+        writer.old writer.new result }
     ensures fit { OnOk result (AllByRecursion T.Fits (map T.content_of items.now)) }
-    ensures err { IfErr result (λ e. (e ≡ BorshError.Io) × Reported writer.old.faults writer.new.faults) }
-    ensures front { OnErr result (AddsFront (SpellsList T.Spells (map T.content_of items.now))
-        (W.contents writer.old.inner) (W.contents writer.new.inner)) }
-    ensures faults_grow { writer.old.faults ≤ writer.new.faults }
 {
     (len as u64).serialize(writer)?;
     T::serialize_items(items, writer)
@@ -49,11 +44,8 @@ fn read_items<T: BorshDeserialize + Drop, R: Read>(
         × ReadsSpelling (SpellsItems T.Spells (map T.content_of xs))
         (R.remaining reader.old.inner) (R.remaining reader.new.inner)) }
     ensures behind { drop end slots.new ≡ drop end slots.old }
-    ensures err { IfErr result (Fails (AfterItems T.Spells T.Fits T.Reason (end - start))
-        (R.remaining reader.old.inner) reader.old.faults reader.new.faults) }
-    ensures taken { IfErr result (TakesSome (AfterItems T.Spells T.Fits T.Reason (end - start) BorshError.Ended)
-        (R.remaining reader.old.inner) (R.remaining reader.new.inner)) }
-    ensures faults_grow { reader.old.faults ≤ reader.new.faults }
+    ensures fails { FailsFor R.remaining (AfterItems T.Spells T.Fits T.Reason (end - start))
+        reader.old reader.new result }
 {
     T::deserialize_slots(alloc, &mut slots[start..end], reader)
 }

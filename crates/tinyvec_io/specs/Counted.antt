@@ -1,5 +1,8 @@
 -- What a contract sees of a `Counted`, and how the results of its calls change the number of faults.
-use Rattle.std.specs.Prelude.{◌≡◌, ℕ, ◌+◌, ◌-◌, ◌^◌, ◌<◌, ◌⊎◌, min, zero, suc, List, [], ◌∷◌, ◌++◌, length, Option, Ok, Err, Result}
+use Rattle.std.specs.Prelude.{◌≡◌, ◌≢◌, ℕ, ◌+◌, ◌-◌, ◌^◌, ◌<◌, ◌≤◌, ◌⊎◌, min, zero, suc, Bool, true, false, if◌then◌else◌, List, [], ◌∷◌, ◌++◌, length, Option, Ok, Err, Result, OnErr, IfErr}
+use Rattle.std.specs.IoError.{error_kind}
+use Rattle.std.specs.declared.io.Error.{Error}
+use Rattle.std.specs.declared.io.ErrorKind.TheVariants.{Interrupted}
 use Rattle.std.specs.Io.KnownBytes.{Appends, Consumes}
 
 -- the reader or writer, and the number of its faults
@@ -11,21 +14,28 @@ pub record CountedView (E : Type 0) : Type 0 where
 abbrev pub one_more_fault : ℕ → ℕ
 one_more_fault faults = min (faults + 1) (2 ^ 64 - 1)
 
--- the faults after a read or a flush with this result
-abbrev pub faults_after : {T E : Type 0} → ℕ → Result T E → ℕ
-faults_after faults (Ok answer) = faults
-faults_after faults (Err error) = one_more_fault faults
+-- A call took the number from `old` to `new`: one more if the call is a fault.
+pub record CountsFault (is_fault : Bool) (old new : ℕ) : Type 0 where
+  pub exact : new ≡ (if is_fault then one_more_fault old else old)
+  pub grows : old ≤ new
 
--- the faults after a write of these bytes with this result
-abbrev pub faults_after_write : {E : Type 0} → ℕ → Result ℕ E → List ℕ → ℕ
-faults_after_write faults (Ok zero) (byte ∷ bytes) = one_more_fault faults
-faults_after_write faults (Ok zero) [] = faults
-faults_after_write faults (Ok (suc count)) bytes = faults
-faults_after_write faults (Err error) bytes = one_more_fault faults
+-- a write of these bytes with this result is a fault
+abbrev pub is_write_fault : {E : Type 0} → Result ℕ E → List ℕ → Bool
+is_write_fault (Ok zero) (byte ∷ bytes) = true
+is_write_fault (Ok zero) [] = false
+is_write_fault (Ok (suc count)) bytes = false
+is_write_fault (Err error) bytes = true
 
 -- the number rose during the call, or is `u64::MAX`, which cannot rise
 abbrev pub Reported : ℕ → ℕ → Type 0
 Reported old new = (old < new) ⊎ (new ≡ 2 ^ 64 - 1)
+
+-- A call that retries after an interruption took the number from `old` to `new`. If it failed, the error is no interruption, and is
+-- counted.
+pub record Retries {T : Type 0} (old new : ℕ) (result : Result T Error) : Type 0 where
+  pub grows : old ≤ new
+  pub fault : OnErr result (Reported old new)
+  pub retried : IfErr result (λ e. error_kind e ≢ Interrupted)
 
 -- the known bytes grow by a prefix of these bytes
 abbrev pub AppendsFront : Option (List ℕ) → Option (List ℕ) → List ℕ → Type 0

@@ -1,6 +1,6 @@
 //! `Counted`.
-ghost use Rattle.std.specs.Prelude.{◌≡◌, ◌≤◌};
-ghost use Rattle.tinyvec_io.specs.Counted.{CountedView, one_more_fault};
+ghost use Rattle.std.specs.Prelude.{◌≡◌, true};
+ghost use Rattle.tinyvec_io.specs.Counted.{CountedView, CountsFault};
 
 mod reading;
 mod writing;
@@ -50,8 +50,7 @@ impl<E> Counted<E> {
 
     fn count_fault(&mut self)
         ensures inner { self.new.inner ≡ self.old.inner }
-        ensures faults { self.new.faults ≡ one_more_fault self.old.faults }
-        ensures faults_grow { self.old.faults ≤ self.new.faults }
+        ensures faults { CountsFault true self.old.faults self.new.faults }
     {
         self.faults = self.faults.saturating_add(1);
     }

@@ -1,11 +1,11 @@
 -- What was gathered is written.
-use Rattle.std.proofs.Common.{◌≡◌, ℕ, ◌+◌, ◌-◌, ◌<◌, ◌≤◌, length, take, get_or, ◌∷◌, inl, inr, List, [], ◌++◌, Option, None, Some, ap, sym, refl, subst, ◌∙◌, append-nil, append_assoc, arith, le_refl, le_trans, Result, Ok, Err, IsErr, true≢false, is_err}
+use Rattle.std.proofs.Common.{◌≡◌, ℕ, ◌+◌, ◌-◌, ◌<◌, ◌≤◌, length, take, get_or, ◌∷◌, inl, inr, List, [], ◌++◌, Option, None, Some, ap, sym, refl, subst, ◌∙◌, append-nil, append_assoc, arith, le_refl, le_trans, Result, Ok, Err, IsErr, true, true≢false, is_err}
 use Rattle.std.specs.List.{flat_map}
 use Rattle.std.proofs.lemmas.List.{take_more}
 use Rattle.std.proofs.lemmas.Grind.{flat_map-append}
 use Rattle.std.specs.Io.KnownBytes.{Appends, Keeps}
 use Rattle.std.proofs.KnownBytes.{Appends-nil, Appends-trans, Appends-kept}
-use Rattle.tinyvec_io.specs.Counted.{CountedView, AppendsFront, Reported, faults_after, one_more_fault}
+use Rattle.tinyvec_io.specs.Counted.{CountedView, CountsFault, AppendsFront, Reported}
 use Rattle.tinyvec_script.specs.Writes.{gathered_of, Writes, Gathers, Sends}
 
 -- a fault that was reported since then was reported since before, and one up to then was up to later
@@ -17,8 +17,8 @@ reported_since f g h le (inr most) = inr most
 pub flat_map_more : {X : Type 0} (f : X → List ℕ) (xs : List X) (i : ℕ) (d : X) → i < length xs → flat_map f (take (i + 1) xs) ≡ flat_map f (take i xs) ++ f (get_or xs i d)
 flat_map_more f xs i d within = ap (flat_map f) (take_more xs i d within) ∙ flat_map-append f (take i xs) (get_or xs i d ∷ []) ∙ ap (λ l. flat_map f (take i xs) ++ l) (append-nil (f (get_or xs i d)))
 
-one_fault : (f g : ℕ) → g ≡ one_more_fault f → Reported f g
-one_fault f g e = grind arith
+one_fault : (f g : ℕ) → CountsFault true f g → Reported f g
+one_fault f g counted = grind (arith, counted.exact)
 
 module _ {W : Type 0} {contents : W → Option (List ℕ)} where
   -- nothing was put
@@ -162,13 +162,13 @@ module _ {W : Type 0} {contents : W → Option (List ℕ)} where
 
   -- it was flushed after that
   pub writes_flushed : {T F E : Type 0} {old mid new : CountedView W} {sent : Result T F} (r : Result T E) {x : T} {text : List ℕ} → sent ≡ Ok x
-      → Writes contents old mid sent text → Keeps (contents mid.inner) (contents new.inner) → new.faults ≡ faults_after mid.faults r
-      → mid.faults ≤ new.faults → Writes contents old new r text
-  writes_flushed (Ok y) was p kept counted grows =
-      record { ok = Appends-kept _ _ _ _ (rw was at p.ok) kept; err = tt; grows = le_trans p.grows grows; fault = tt }
-  writes_flushed (Err e) was p kept counted grows = record {
+      → Writes contents old mid sent text → Keeps (contents mid.inner) (contents new.inner) → CountsFault (is_err r) mid.faults new.faults
+      → Writes contents old new r text
+  writes_flushed (Ok y) was p kept counted =
+      record { ok = Appends-kept _ _ _ _ (rw was at p.ok) kept; err = tt; grows = le_trans p.grows counted.grows; fault = tt }
+  writes_flushed (Err e) was p kept counted = record {
     ok = tt;
     err = (_, [], sym (append-nil _), Appends-kept _ _ _ _ (rw was at p.ok) kept);
-    grows = le_trans p.grows grows;
+    grows = le_trans p.grows counted.grows;
     fault = reported_since _ _ _ p.grows (one_fault _ _ counted);
   }

@@ -3,7 +3,7 @@ use Rattle.std.specs.Prelude.{◌≡◌, ℕ, ℤ, ◌+◌, ◌<◌, ◌≤◌, 
 use Rattle.std.specs.Fmt.{decimal}
 use Rattle.std.specs.declared.alloc.AllocError.{AllocError}
 use Rattle.tinyvec.specs.View.{lies_inline, capacity_in}
-use Rattle.tinyvec_text.specs.InlineText.{Text, text_chars, text_len, MakesRoom, StaysInPlace, IsBoundary}
+use Rattle.tinyvec_text.specs.InlineText.{Text, text_chars, text_len, TextMakesRoom, TextStaysInPlace, IsBoundary}
 use Rattle.tinyvec_script.specs.declared.call.Answer.{Answer}
 use Rattle.tinyvec_script.specs.declared.call.Answer.TheVariants as answers
 use Rattle.tinyvec_script.specs.declared.text_command.TextCall.{TextCall as Said}
@@ -39,7 +39,7 @@ pub record IsTextCommand (line : List ℕ) (call : TextCall) : Type 0 where
 pub record Added (slots : ℕ) (old : Text) (text : List ℕ) (new : Text) : Type 0 where
   pub chars_are : text_chars new ≡ text_chars old ++ chars text
   pub bytes_are : new.bytes ≡ old.bytes ++ text
-  pub room : MakesRoom {X = Unit {0}} {E = AllocError} (lies_inline old.place) slots (text_len old + length text) old new (Ok tt)
+  pub room : TextMakesRoom {X = Unit {0}} {E = AllocError} (lies_inline old.place) slots (text_len old + length text) old new (Ok tt)
 
 -- the first characters were kept, whose bytes are `index`, in their place
 pub record CutAt (slots : ℕ) (old : Text) (index : ℕ) (new : Text) : Type 0 where
@@ -47,7 +47,7 @@ pub record CutAt (slots : ℕ) (old : Text) (index : ℕ) (new : Text) : Type 0 
   pub chars_are : (rest : List ℕ) × (text_chars old ≡ text_chars new ++ rest)
   pub bytes_are : new.bytes ≡ take index old.bytes
   pub len : text_len new ≡ index
-  pub frame : StaysInPlace slots old new
+  pub frame : TextStaysInPlace slots old new
 
 -- From the old text the call may have this answer, and leave the new one. A refused allocation is a case of its own: `Memory`
 -- only if the joined text does not fit the room of the old one. It changes nothing, and neither does `Range`.

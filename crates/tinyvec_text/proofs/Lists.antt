@@ -15,7 +15,7 @@ use Rattle.tinyvec.specs.declared.tiny_vec.TinyVec.TheVariants.{Inline, Heap}
 use Rattle.std.specs.String.Boundary.{IsSplitPoint}
 use Rattle.tinyvec.specs.View.{Place, in_array, on_heap, lies_inline, capacity_in, ViewPlaceRule}
 use Rattle.tinyvec.proofs.TinyLemmas.{same_place}
-use Rattle.tinyvec_text.specs.InlineText.{Text, IsText, text_of, text_view, text_chars, text_len, MakesRoom, IsBoundary}
+use Rattle.tinyvec_text.specs.InlineText.{Text, IsText, text_of, text_view, text_chars, text_len, TextMakesRoom, IsBoundary}
 use Rattle.tinyvec_text.proofs.Boundaries.{split_from_boundary}
 
 -- a and b are boundaries of the bytes, in this order
@@ -37,7 +37,7 @@ room_inline slots (on_heap n) is = absurd (let no = is in cc)
 
 -- a refused call that needs room for more bytes than fit changes nothing
 refused_text : {X E : Type 0} (moves : Bool) (slots need : ℕ) (t : Text) (r : Result X E) → IsErr r → text_len t ≤ capacity_in slots t.place
-    → capacity_in slots t.place < need → MakesRoom moves slots need t t r
+    → capacity_in slots t.place < need → TextMakesRoom moves slots need t t r
 refused_text moves slots need t (Ok x) err fits few = search rules
 refused_text moves slots need t (Err e) err fits few = record {
   place = tt;
@@ -64,10 +64,10 @@ module _ {A : Type 0} where
   -- the same, seen from the list
   pub refused_room : {X E : Type 0} (moves : Bool) (slots need : ℕ) (old new : TinyVec A ℕ) (t : Text) (r : Result X E) → IsErr r
       → text_of old ≡ t → tiny_len new ≤ tiny_capacity slots new → tiny_capacity slots old < need → Unchanged old new
-      → MakesRoom moves slots need t (text_of new) r
+      → TextMakesRoom moves slots need t (text_of new) r
   refused_room moves slots need old new t r err same fits few h =
       let is : text_of new ≡ t = text_unchanged old new h ∙ same in
-      subst (λ (u : Text). MakesRoom moves slots need t u r) (sym is)
+      subst (λ (u : Text). TextMakesRoom moves slots need t u r) (sym is)
       (refused_text moves slots need t r err (subst (λ (u : Text). text_len u ≤ capacity_in slots u.place) is fits)
       (subst (λ (u : Text). capacity_in slots u.place < need) same few))
 
@@ -129,10 +129,10 @@ module _ {A : Type 0} where
   -- a call that made the room that it needs
   pub made_room : {X E : Type 0} (slots need : ℕ) (old new : TinyVec A ℕ) (t : Text) (x : X) → text_of old ≡ t → tiny_len new ≡ need
       → RoomGrows {X = X} {E = E} GrowsFor (λ b. b ≡ 0) slots (tiny_len new) old new (Ok x)
-      → MakesRoom {X = X} {E = E} (lies_inline t.place) slots need t (text_of new) (Ok x)
+      → TextMakesRoom {X = X} {E = E} (lies_inline t.place) slots need t (text_of new) (Ok x)
   made_room {X} {E} slots need old new t x same len room =
-      subst (λ (u : Text). MakesRoom {X = X} {E = E} (lies_inline u.place) slots need u (text_of new) (Ok x)) same
-      (subst (λ n. MakesRoom {X = X} {E = E} (is_inline old) slots n (text_of old) (text_of new) (Ok x)) len record {
+      subst (λ (u : Text). TextMakesRoom {X = X} {E = E} (lies_inline u.place) slots need u (text_of new) (Ok x)) same
+      (subst (λ n. TextMakesRoom {X = X} {E = E} (is_inline old) slots n (text_of old) (text_of new) (Ok x)) len record {
         place = room.place;
         capacity = room.capacity;
         same_room = room.same_room;

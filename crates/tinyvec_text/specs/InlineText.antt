@@ -1,5 +1,6 @@
 -- What a contract sees of an `InlineText`: its bytes, and where they are.
-use Rattle.std.specs.Prelude.{◌≡◌, ℕ, ◌*◌, ◌<◌, ◌≤◌, if◌then◌else◌, max, List, [], ◌++◌, length, All, Bool, IsTrue, Result, IsOk, OnOk, OnErr, chars, encode_utf8_all, IsUtf8}
+use Rattle.std.specs.Prelude.{◌≡◌, ℕ, ◌+◌, ◌*◌, ◌<◌, ◌≤◌, ◌↔◌, if◌then◌else◌, max, List, [], ◌++◌, length, take, drop, All, Bool, IsTrue, Result, IsOk, OnOk, OnErr, chars, encode_utf8, encode_utf8_all, IsUtf8}
+use Rattle.std.specs.Char.{IsScalar}
 use Rattle.tinyvec.specs.View.{Place, lies_inline, capacity_in, TinyView, ViewPlaceRule, ViewKeepsRoom, ViewGrowsInSteps}
 use Rattle.tinyvec.specs.TinyVec.{tiny_items, tiny_spare, place_of}
 use Rattle.tinyvec.specs.declared.tiny_vec.TinyVec.{TinyVec}
@@ -31,7 +32,7 @@ text_len t = length t.bytes
 
 -- A call that needs room for `need` bytes took `old` to `new`, with this result. If there was less, a text got just that room if
 -- `moves` holds, else twice the old room, or `need` if that is more.
-pub record MakesRoom {X E : Type 0} (moves : Bool) (slots need : ℕ) (old new : Text) (result : Result X E) : Type 0 where
+pub record TextMakesRoom {X E : Type 0} (moves : Bool) (slots need : ℕ) (old new : Text) (result : Result X E) : Type 0 where
   pub place : OnOk result (ViewPlaceRule slots need (text_view old) (text_view new))
   pub capacity : capacity_in slots old.place ≤ capacity_in slots new.place
   pub same_room : ViewKeepsRoom slots need (text_view old) (text_view new)
@@ -54,11 +55,63 @@ pub record TextExtends (slots : ℕ) (old new : Text) : Type 0 where
   pub grown : ViewGrowsInSteps slots (text_view old) (text_view new)
   pub fits : text_len new ≤ capacity_in slots new.place
 
+-- a call that made room for n more bytes took `old` to `new`, with this result
+pub record TextReserves {X E : Type 0} (slots n : ℕ) (old new : Text) (result : Result X E) : Type 0 where
+  pub bytes : new.bytes ≡ old.bytes
+  pub room : TextMakesRoom (lies_inline old.place) slots (text_len old + n) old new result
+  pub enough : OnOk result (text_len old + n ≤ capacity_in slots new.place)
+  pub kept : text_len old + n ≤ capacity_in slots old.place → new ≡ old
+
+-- a call that gave up room took `old` to `new`: the text is inline if it fits the array, and an inline one is unchanged
+pub record TextShrinks (slots : ℕ) (old new : Text) : Type 0 where
+  pub bytes : new.bytes ≡ old.bytes
+  pub place : IsTrue (lies_inline new.place) ↔ (text_len old ≤ slots)
+  pub room : capacity_in slots new.place ≤ max (capacity_in slots old.place) slots
+  pub fits : text_len new ≤ capacity_in slots new.place
+  pub kept : IsTrue (lies_inline old.place) → new ≡ old
+
 -- a call that allocates nothing took `old` to `new`: place and room are unchanged
-pub record StaysInPlace (slots : ℕ) (old new : Text) : Type 0 where
+pub record TextStaysInPlace (slots : ℕ) (old new : Text) : Type 0 where
   pub place : lies_inline new.place ≡ lies_inline old.place
   pub room : capacity_in slots new.place ≡ capacity_in slots old.place
   pub fits : text_len new ≤ capacity_in slots new.place
+
+-- a call that allocates nothing, and leaves these bytes, which spell these characters
+pub record TextBecomes (slots : ℕ) (old new : Text) (bs cs : List ℕ) : Type 0 where
+  pub bytes : new.bytes ≡ bs
+  pub text : text_chars new ≡ cs
+  pub frame : TextStaysInPlace slots old new
+
+-- a call that allocates nothing, and leaves the characters whose bytes are the first n
+pub record TextKeepsFront (slots n : ℕ) (old new : Text) : Type 0 where
+  pub bytes : new.bytes ≡ take n old.bytes
+  pub text : (rest : List ℕ) × (text_chars old ≡ text_chars new ++ rest)
+  pub len : text_len new ≡ n
+  pub frame : TextStaysInPlace slots old new
+
+-- a text was made with room for `need` bytes, inline if they fit the array
+pub record TextMadeFor (slots need : ℕ) (t : Text) : Type 0 where
+  pub place : IsTrue (lies_inline t.place) ↔ (need ≤ slots)
+  pub room : capacity_in slots t.place ≡ max need slots
+
+-- a text was collected, inline if its bytes fit the array; on the heap its room is less than twice as many
+pub record TextCollects (slots : ℕ) (t : Text) : Type 0 where
+  pub place : IsTrue (lies_inline t.place) ↔ (text_len t ≤ slots)
+  pub grown : slots < capacity_in slots t.place → capacity_in slots t.place < 2 * text_len t
+
+-- the text has the bytes of `old` from i on, in the same kind of place
+pub record IsTextTail (slots i : ℕ) (old t : Text) : Type 0 where
+  pub bytes : t.bytes ≡ drop i old.bytes
+  pub place : lies_inline t.place ≡ lies_inline old.place
+  pub fits : text_len t ≤ capacity_in slots t.place
+
+-- the bytes begin with those of c, which are n, and UTF-8 follows
+pub record IsFirstChar (bytes : List ℕ) (c n : ℕ) : Type 0 where
+  pub encoded : take n bytes ≡ encode_utf8 c
+  pub rest : IsUtf8 (drop n bytes)
+  pub scalar : IsScalar c
+  pub positive : 0 < n
+  pub in_bounds : n ≤ length bytes
 
 -- i is the length of the bytes of some first characters
 abbrev pub IsBoundary : List ℕ → ℕ → Type 0

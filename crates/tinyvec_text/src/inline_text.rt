@@ -1,12 +1,12 @@
 //! `InlineText`.
-ghost use Rattle.std.specs.Prelude.{◌≡◌, ◌≤◌, ◌==◌, ◌↔◌, [], drop, max, All, true, false, IsTrue, IsOk, IsSome, IfOk, IfErr, IfSome, MatchResult, encode_utf8_all, IsUtf8};
+ghost use Rattle.std.specs.Prelude.{◌≡◌, ◌≤◌, ◌==◌, ◌↔◌, [], drop, All, true, false, IsTrue, IsOk, IsSome, IfOk, IfErr, IfSome, MatchResult, encode_utf8_all, IsUtf8};
 ghost use Rattle.std.specs.Str.{valid_up_to, error_len};
 ghost use Rattle.std.specs.Str.Lossy.{utf8_valid_len, utf8_error_len};
 ghost use Rattle.std.specs.String.{string_bytes, string_capacity};
 ghost use Rattle.std.specs.Str.{all_scalars};
 ghost use Rattle.tinyvec.specs.View.{lies_inline, capacity_in};
 ghost use Rattle.tinyvec.specs.TinyVec.{tiny_items, tiny_spare};
-ghost use Rattle.tinyvec_text.specs.InlineText.{text_of, text_chars, text_len};
+ghost use Rattle.tinyvec_text.specs.InlineText.{text_of, text_chars, text_len, TextMadeFor};
 
 mod edits;
 mod extending;
@@ -53,8 +53,7 @@ impl<const N: usize> InlineText<N> {
     pub fn with_capacity(alloc: Global, capacity: usize) -> Result<Self, AllocError>
         ensures bytes { IfOk result (λ t. t.bytes ≡ []) }
         ensures text { IfOk result (λ t. text_chars t ≡ []) }
-        ensures place { IfOk result (λ t. IsTrue (lies_inline t.place) ↔ (capacity ≤ N)) }
-        ensures room { IfOk result (λ t. capacity_in N t.place ≡ max capacity N) }
+        ensures made { IfOk result (TextMadeFor N capacity) }
         ensures succeeds { capacity ≤ N → IsOk result }
     {
         let list = TinyVec::with_capacity(alloc, capacity)?;

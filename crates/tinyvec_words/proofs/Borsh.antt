@@ -1,10 +1,11 @@
 -- Examples of the Borsh form, of contents that are bytes: each spells itself, and an input without a byte is cut.
-use Rattle.std.proofs.Common.{◌≡◌, ℕ, ◌<◌, List, [], ◌∷◌, Some, None, inl, refl, rules, arith}
+use Rattle.std.proofs.Common.{◌≡◌, ℕ, ◌<◌, List, [], ◌∷◌, Option, Some, None, Ok, Err, inl, refl, rules, arith}
 use Rattle.std.specs.Prelude.{IsUtf8}
 use Rattle.tinyvec_borsh.specs.Items.{SpellsItems, SpellsList, ListFits, AfterItems, ListReason, CountsAbove}
-use Rattle.tinyvec_borsh.specs.Reading.{ReadsSpelling, TakesSome, Fails, LeavesRest}
-use Rattle.tinyvec_borsh.specs.Writing.{WritesSpelling, AddsFront}
-use Rattle.tinyvec_borsh.specs.declared.borsh_error.BorshError.TheVariants.{Ended, Io}
+use Rattle.tinyvec_borsh.specs.Reading.{ReadsSpelling, FailsFor, LeavesRest}
+use Rattle.tinyvec_borsh.specs.Writing.{WritesValue}
+use Rattle.tinyvec_io.specs.Counted.{CountedView}
+use Rattle.tinyvec_borsh.specs.declared.borsh_error.BorshError.TheVariants.{Ended}
 use Rattle.tinyvec_borsh.specs.declared.borsh_error.BorshError.{BorshError}
 use Rattle.tinyvec_borsh.specs.Number.{TooFewBytes}
 use Rattle.tinyvec_borsh.specs.Text.{AreNoText, SpellsText, TextFits, TextReason}
@@ -58,11 +59,15 @@ example-CountsAbove = (5, omega arith, record { first = 5 ∷ 0 ∷ 0 ∷ 0 ∷ 
 pub example-ReadsSpelling : ReadsSpelling (λ bytes. bytes ≡ 7 ∷ []) (Some (7 ∷ 8 ∷ [])) (Some (8 ∷ []))
 example-ReadsSpelling = (7 ∷ [], refl, search rules)
 
-pub example-TakesSome : TakesSome (TooFewBytes 2 Ended) (Some (7 ∷ 8 ∷ [])) (Some (8 ∷ [])) Io
-example-TakesSome = record { bytes = 7 ∷ []; taken = search rules; end = λ is. cc; short = λ _. (refl, omega arith) }
+-- a reader with these bytes left, or a writer that has taken them, without a fault
+abbrev pub holding : List ℕ → CountedView (List ℕ)
+holding bytes = record { inner = bytes; faults = 0 }
 
-pub example-Fails : Fails Reason (Some []) 0 0 Ended
-example-Fails = example-TooFewBytes
+abbrev pub known : List ℕ → Option (List ℕ)
+known bytes = Some bytes
+
+pub example-FailsFor : FailsFor {T = ℕ} known Reason (holding []) (holding []) (Err Ended)
+example-FailsFor = record { err = example-TooFewBytes; taken = record { bytes = []; taken = search rules; end = λ is. refl; short = λ is. cc }; grows = omega arith }
 
 pub example-SpellsText : SpellsText (104 ∷ []) (1 ∷ 0 ∷ 0 ∷ 0 ∷ 0 ∷ 0 ∷ 0 ∷ 0 ∷ 104 ∷ [])
 example-SpellsText = record {
@@ -86,8 +91,5 @@ example-TextReason = inl (omega arith)
 pub example-LeavesRest : LeavesRest Spells IsNever 4 None None Ended
 example-LeavesRest = _
 
-pub example-WritesSpelling : WritesSpelling (λ bytes. bytes ≡ 7 ∷ []) (Some (1 ∷ [])) (Some (1 ∷ 7 ∷ []))
-example-WritesSpelling = (7 ∷ [], refl, search rules)
-
-pub example-AddsFront : AddsFront (λ bytes. bytes ≡ 7 ∷ 8 ∷ []) (Some (1 ∷ [])) (Some (1 ∷ 7 ∷ []))
-example-AddsFront bytes spelled = (7 ∷ [], 8 ∷ [], spelled, search rules)
+pub example-WritesValue : WritesValue {T = ℕ} known (λ bytes. bytes ≡ 7 ∷ []) (holding (1 ∷ [])) (holding (1 ∷ 7 ∷ [])) (Ok 0)
+example-WritesValue = record { ok = (7 ∷ [], refl, search rules); err = tt; front = tt; grows = omega arith }

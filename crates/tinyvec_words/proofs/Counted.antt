@@ -1,6 +1,6 @@
 -- Examples of counted faults.
 use Rattle.std.proofs.Common.{◌≡◌, ℕ, [], ◌∷◌, Some, Ok, Err, Result, refl, rules, arith}
-use Rattle.tinyvec_io.specs.Counted.{CountedView, Reported, faults_after, faults_after_write, AppendsFront, ConsumesFront}
+use Rattle.tinyvec_io.specs.Counted.{CountedView, CountsFault, Reported, Retries, is_write_fault, AppendsFront, ConsumesFront}
 
 abbrev pub failed : Result ℕ Unit
 failed = Err _
@@ -18,11 +18,14 @@ example-CountedView reader = refl
 pub example-Reported : Reported 2 3
 example-Reported = search rules
 
-pub example-faults_after : faults_after 2 failed ≡ 3
-example-faults_after = refl
+pub example-CountsFault : CountsFault true 2 3
+example-CountsFault = record { exact = refl; grows = omega arith }
 
-pub example-faults_after_write : faults_after_write 2 (wrote 0) (7 ∷ []) ≡ 3
-example-faults_after_write = refl
+pub example-is_write_fault : is_write_fault (wrote 0) (7 ∷ []) ≡ true
+example-is_write_fault = refl
+
+pub example-Retries : Retries 2 3 (wrote 0)
+example-Retries = record { grows = omega arith; fault = tt; retried = tt }
 
 pub example-AppendsFront : AppendsFront (Some (1 ∷ [])) (Some (1 ∷ 2 ∷ [])) (2 ∷ 3 ∷ [])
 example-AppendsFront = (2 ∷ [], 3 ∷ [], refl, search rules)

@@ -1,10 +1,11 @@
 -- Examples of a text in the value, with room for four bytes, as `ab`.
-use Rattle.std.proofs.Common.{◌≡◌, ℕ, List, [], ◌∷◌, Ok, Result, false, true, refl, rules}
+use Rattle.std.proofs.Common.{◌≡◌, ℕ, List, [], ◌∷◌, ◌++◌, Ok, Result, false, true, ap, sym, refl, rules}
+use Rattle.std.proofs.lemmas.Str.{chars-nil}
 use Rattle.std.specs.Prelude.{All, chars}
 use Rattle.tinyvec.specs.declared.tiny_vec.TinyVec.{TinyVec}
 use Rattle.tinyvec.specs.View.{in_array, on_heap, lies_inline, capacity_in}
 use Rattle.tinyvec.specs.TinyVec.{tiny_items, tiny_spare}
-use Rattle.tinyvec_text.specs.InlineText.{Text, text_of, text_chars, text_len, IsText, StaysInPlace, MakesRoom, TextExtends, IsBoundary}
+use Rattle.tinyvec_text.specs.InlineText.{Text, text_of, text_chars, text_len, IsText, TextStaysInPlace, TextBecomes, TextKeepsFront, TextMakesRoom, TextReserves, TextShrinks, TextExtends, TextMadeFor, TextCollects, IsTextTail, IsBoundary}
 
 -- these bytes, in the value
 abbrev pub inline : List ℕ → Text
@@ -37,11 +38,32 @@ example-IsBoundary = ([], 97 ∷ 98 ∷ [], refl, search rules)
 pub example-IsText : {A : Type 0} (v : TinyVec A ℕ) → IsText v → All (λ b. b ≡ 0) (tiny_spare v)
 example-IsText v h = h.1
 
-pub example-StaysInPlace : StaysInPlace 4 (inline (97 ∷ 98 ∷ [])) (inline (97 ∷ []))
-example-StaysInPlace = search rules
+pub example-TextStaysInPlace : TextStaysInPlace 4 (inline (97 ∷ 98 ∷ [])) (inline (97 ∷ []))
+example-TextStaysInPlace = search rules
 
-pub example-MakesRoom : MakesRoom true 4 4 (inline (97 ∷ 98 ∷ [])) (inline (97 ∷ 98 ∷ [])) done
-example-MakesRoom = search rules
+pub example-TextBecomes : TextBecomes 4 (inline (97 ∷ 98 ∷ [])) (inline (97 ∷ [])) (97 ∷ []) (chars (97 ∷ []))
+example-TextBecomes = record { bytes = refl; text = refl; frame = example-TextStaysInPlace }
+
+pub example-TextKeepsFront : TextKeepsFront 4 0 (inline (97 ∷ 98 ∷ [])) (inline [])
+example-TextKeepsFront = record { bytes = refl; text = (chars (97 ∷ 98 ∷ []), ap (λ cs. cs ++ chars (97 ∷ 98 ∷ [])) (sym chars-nil)); len = refl; frame = search rules }
+
+pub example-TextReserves : TextReserves 4 2 (inline (97 ∷ 98 ∷ [])) (inline (97 ∷ 98 ∷ [])) done
+example-TextReserves = search rules
+
+pub example-TextShrinks : TextShrinks 4 (inline (97 ∷ 98 ∷ [])) (inline (97 ∷ 98 ∷ []))
+example-TextShrinks = search rules
+
+pub example-TextMadeFor : TextMadeFor 4 2 (inline [])
+example-TextMadeFor = search rules
+
+pub example-TextCollects : TextCollects 4 (inline (97 ∷ 98 ∷ []))
+example-TextCollects = search rules
+
+pub example-IsTextTail : IsTextTail 4 1 (inline (97 ∷ 98 ∷ [])) (inline (98 ∷ []))
+example-IsTextTail = search rules
+
+pub example-TextMakesRoom : TextMakesRoom true 4 4 (inline (97 ∷ 98 ∷ [])) (inline (97 ∷ 98 ∷ [])) done
+example-TextMakesRoom = search rules
 
 pub example-TextExtends : TextExtends 4 (inline (97 ∷ [])) (inline (97 ∷ 98 ∷ []))
 example-TextExtends = search rules

@@ -1,8 +1,8 @@
 //! An `ArrayVec` of what can be written and read.
-ghost use Rattle.std.specs.Prelude.{◌<◌, ◌≤◌, ◌-◌, List, map, IfOk, IfErr};
+ghost use Rattle.std.specs.Prelude.{◌<◌, ◌-◌, List, map, IfOk, IfErr};
 ghost use Rattle.tinyvec_slots.specs.Slots.{items, items_len, spare, AreDefaults};
 ghost use Rattle.tinyvec_borsh.specs.Items.{SpellsList, ListFits, ListReason};
-ghost use Rattle.tinyvec_borsh.specs.Reading.{Fails, LeavesRest, ReadsSpelling, TakesSome};
+ghost use Rattle.tinyvec_borsh.specs.Reading.{FailsFor, LeavesRest, ReadsSpelling};
 ghost use Rattle.tinyvec_borsh.specs.ItemsLaws.{list_code, list_apart, list_spelled};
 
 use super::{read_items, write_list};
@@ -54,11 +54,8 @@ where
             (R.remaining reader.old.inner) (R.remaining reader.new.inner)) }
         ensures fits { IfOk result (λ v. ListFits A.Item.Spells A.Item.Fits A.CAPACITY
             (map A.Item.content_of (items v))) }
-        ensures err { IfErr result (Fails (ListReason A.Item.Spells A.Item.Fits A.Item.Reason (λ _. ⊥) A.CAPACITY)
-            (R.remaining reader.old.inner) reader.old.faults reader.new.faults) }
-        ensures taken { IfErr result (TakesSome (ListReason A.Item.Spells A.Item.Fits A.Item.Reason (λ _. ⊥) A.CAPACITY BorshError.Ended)
-            (R.remaining reader.old.inner) (R.remaining reader.new.inner)) }
-        ensures faults_grow { reader.old.faults ≤ reader.new.faults }
+        ensures fails { FailsFor R.remaining (ListReason A.Item.Spells A.Item.Fits A.Item.Reason (λ _. ⊥) A.CAPACITY)
+            reader.old reader.new result }
         ensures spare { IfOk result (λ v. AreDefaults A.Item.is_default (A.CAPACITY - items_len v) (spare v)) }
         ensures rest { IfErr result (LeavesRest A.Item.Spells (A.Item.Reason BorshError.InvalidLength) A.CAPACITY
             (R.remaining reader.old.inner) (R.remaining reader.new.inner)) }

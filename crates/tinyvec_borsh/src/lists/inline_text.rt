@@ -2,7 +2,7 @@
 ghost use Rattle.std.specs.Prelude.{◌≡◌, ◌*◌, ◌≤◌, ◌↔◌, ℕ, List, max, IsTrue, IfErr, IfOk};
 ghost use Rattle.tinyvec.specs.View.{lies_inline, capacity_in};
 ghost use Rattle.tinyvec_text.specs.InlineText.{text_len};
-ghost use Rattle.tinyvec_borsh.specs.Reading.{Fails, ReadsSpelling, TakesSome};
+ghost use Rattle.tinyvec_borsh.specs.Reading.{FailsFor, ReadsSpelling};
 ghost use Rattle.tinyvec_borsh.specs.Text.{AreNoText, SpellsText, TextFits, TextReason};
 ghost use Rattle.tinyvec_borsh.specs.TextLaws.{text_apart, text_code, text_spelled};
 
@@ -46,11 +46,7 @@ impl<const N: usize> BorshDeserialize for InlineText<N> {
         ensures ok { IfOk result (λ t. ReadsSpelling (SpellsText t.bytes)
             (R.remaining reader.old.inner) (R.remaining reader.new.inner)) }
         ensures fits { IfOk result (λ t. TextFits t.bytes) }
-        ensures err { IfErr result (Fails (TextReason N)
-            (R.remaining reader.old.inner) reader.old.faults reader.new.faults) }
-        ensures taken { IfErr result (TakesSome (TextReason N BorshError.Ended)
-            (R.remaining reader.old.inner) (R.remaining reader.new.inner)) }
-        ensures faults_grow { reader.old.faults ≤ reader.new.faults }
+        ensures fails { FailsFor R.remaining (TextReason N) reader.old reader.new result }
         ensures place { IfOk result (λ t. IsTrue (lies_inline t.place) ↔ (text_len t ≤ N)) }
         ensures room { IfOk result (λ t. capacity_in N t.place ≤ max N (2 * text_len t)) }
 

@@ -1,12 +1,12 @@
 //! A `TinyVec` of what can be written and read.
-ghost use Rattle.std.specs.Prelude.{◌≡◌, ◌<◌, ◌≤◌, ◌^◌, ◌-◌, ◌*◌, ◌++◌, ◌⊎◌, ◌↔◌, List, length, map, max, IfOk, IfErr, OnOk};
+ghost use Rattle.std.specs.Prelude.{◌≡◌, ◌<◌, ◌≤◌, ◌^◌, ◌-◌, ◌*◌, ◌++◌, ◌⊎◌, ◌↔◌, List, length, map, max, IfOk, OnOk};
 ghost use Rattle.std.specs.List.{AllByRecursion};
 ghost use Rattle.tinyvec_slots.specs.Slots.{AreDefaults};
 ghost use Rattle.tinyvec.specs.TinyVec.{IsInline, PlaceRule, TinySlotRule, tiny_capacity, tiny_items, tiny_len, tiny_spare};
 ghost use Rattle.tinyvec_borsh.specs.Items.{AfterItems, CountsAbove, ListFits, ListReason};
 ghost use Rattle.tinyvec_borsh.specs.Items.{SpellsItems, SpellsList};
 ghost use Rattle.tinyvec_borsh.specs.ItemsLaws.{list_apart, list_code, list_spelled};
-ghost use Rattle.tinyvec_borsh.specs.Reading.{Fails, ReadsSpelling, TakesSome};
+ghost use Rattle.tinyvec_borsh.specs.Reading.{FailsFor, ReadsSpelling};
 
 use super::{read_items, write_list};
 use crate::{BorshDeserialize, BorshError, BorshForm, BorshSerialize};
@@ -79,11 +79,9 @@ where
             (R.remaining reader.old.inner) (R.remaining reader.new.inner)) }
         ensures fits { IfOk result (λ v. ListFits A.Item.Spells A.Item.Fits (2 ^ 64 - 1)
             (map A.Item.content_of (tiny_items v))) }
-        ensures err { IfErr result (Fails (ListReason A.Item.Spells A.Item.Fits A.Item.Reason (CountsAbove A.CAPACITY) (2 ^ 64 - 1))
-            (R.remaining reader.old.inner) reader.old.faults reader.new.faults) }
-        ensures taken { IfErr result (TakesSome (ListReason A.Item.Spells A.Item.Fits A.Item.Reason (CountsAbove A.CAPACITY) (2 ^ 64 - 1) BorshError.Ended)
-            (R.remaining reader.old.inner) (R.remaining reader.new.inner)) }
-        ensures faults_grow { reader.old.faults ≤ reader.new.faults }
+        ensures fails { FailsFor R.remaining
+            (ListReason A.Item.Spells A.Item.Fits A.Item.Reason (CountsAbove A.CAPACITY) (2 ^ 64 - 1))
+            reader.old reader.new result }
         ensures place { IfOk result (λ v. IsInline v ↔ (tiny_len v ≤ A.CAPACITY)) }
         ensures spare { IfOk result (λ v. IsInline v
             → AreDefaults A.Item.is_default (A.CAPACITY - tiny_len v) (tiny_spare v)) }
@@ -118,12 +116,9 @@ where
     ensures place { OnOk result (PlaceRule A.CAPACITY (tiny_len v.new) v.old v.new) }
     ensures slot_rule { OnOk result (TinySlotRule A.Item.is_default v.old v.new) }
     ensures room { OnOk result (tiny_capacity A.CAPACITY v.new ≤ max (tiny_capacity A.CAPACITY v.old) (2 * count)) }
-    ensures err { IfErr result (λ e. ((e ≡ BorshError.Memory) × (tiny_capacity A.CAPACITY v.old < count))
-        ⊎ Fails (AfterItems A.Item.Spells A.Item.Fits A.Item.Reason (count - tiny_len v.old))
-        (R.remaining reader.old.inner) reader.old.faults reader.new.faults e) }
-    ensures taken { IfErr result (TakesSome (AfterItems A.Item.Spells A.Item.Fits A.Item.Reason (count - tiny_len v.old) BorshError.Ended)
-        (R.remaining reader.old.inner) (R.remaining reader.new.inner)) }
-    ensures faults_grow { reader.old.faults ≤ reader.new.faults }
+    ensures fails { FailsFor R.remaining
+        (λ e input. AfterItems A.Item.Spells A.Item.Fits A.Item.Reason (count - tiny_len v.old) e input
+        ⊎ ((e ≡ BorshError.Memory) × (tiny_capacity A.CAPACITY v.old < count))) reader.old reader.new result }
 {
     let start = v.len();
     let end = start + (count - start as u64).min(items_ahead::<A::Item>() as u64) as usize;

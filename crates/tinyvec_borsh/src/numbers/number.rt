@@ -1,12 +1,11 @@
 //! Numbers as bytes, one and a block of them.
-ghost use Rattle.std.specs.Prelude.{◌≡◌, ◌*◌, ◌≤◌, length, take, IfErr, OnErr, OnOk};
+ghost use Rattle.std.specs.Prelude.{◌≡◌, ◌*◌, ◌≤◌, length, take, OnOk};
 ghost use Rattle.std.specs.Int.{byte_len, from_le_bytes, to_le_bytes};
 ghost use Rattle.std.specs.List.{AllByRecursion};
-ghost use Rattle.tinyvec_io.specs.Counted.{Reported};
 ghost use Rattle.tinyvec_borsh.specs.Items.{AfterItems, SpellsItems};
 ghost use Rattle.tinyvec_borsh.specs.Number.{NumberForm, TooFewBytes};
-ghost use Rattle.tinyvec_borsh.specs.Reading.{Fails, ReadsSpelling, TakesSome};
-ghost use Rattle.tinyvec_borsh.specs.Writing.{WritesSpelling, AddsFront};
+ghost use Rattle.tinyvec_borsh.specs.Reading.{FailsFor, ReadsSpelling};
+ghost use Rattle.tinyvec_borsh.specs.Writing.{WritesValue};
 
 use crate::BorshError;
 use crate::bytes::{read_bytes, write_bytes};
@@ -40,13 +39,8 @@ pub(crate) trait FixedWidth: Copy {
 /// How a list of such numbers is written and read: in blocks, if its type does not say otherwise.
 pub(crate) trait Number: FixedWidth {
     fn write_all<W: Write>(items: &[Self], writer: &mut Counted<W>) -> Result<(), BorshError>
-        ensures ok { OnOk result (WritesSpelling (SpellsItems Self.form.Spells items.now)
-            (W.contents writer.old.inner) (W.contents writer.new.inner)) }
+        ensures writes { WritesValue W.contents (SpellsItems Self.form.Spells items.now) writer.old writer.new result }
         ensures fits { OnOk result (AllByRecursion Self.form.Fits items.now) }
-        ensures err { IfErr result (λ e. (e ≡ BorshError.Io) × Reported writer.old.faults writer.new.faults) }
-        ensures front { OnErr result (AddsFront (SpellsItems Self.form.Spells items.now)
-            (W.contents writer.old.inner) (W.contents writer.new.inner)) }
-        ensures faults_grow { writer.old.faults ≤ writer.new.faults }
     {
         let width = Self::Bytes::CAPACITY;
         let mut room = [0; ROOM];
@@ -64,13 +58,9 @@ pub(crate) trait Number: FixedWidth {
         ensures ok { OnOk result (ReadsSpelling (SpellsItems Self.form.Spells slots.new)
             (R.remaining reader.old.inner) (R.remaining reader.new.inner)) }
         ensures fits { OnOk result (AllByRecursion Self.form.Fits slots.new) }
-        ensures err { IfErr result (Fails
+        ensures fails { FailsFor R.remaining
             (AfterItems Self.form.Spells Self.form.Fits (TooFewBytes (byte_len Self.form.width)) (length slots.old))
-            (R.remaining reader.old.inner) reader.old.faults reader.new.faults) }
-        ensures taken { IfErr result (TakesSome (AfterItems Self.form.Spells Self.form.Fits
-            (TooFewBytes (byte_len Self.form.width)) (length slots.old) BorshError.Ended)
-            (R.remaining reader.old.inner) (R.remaining reader.new.inner)) }
-        ensures faults_grow { reader.old.faults ≤ reader.new.faults }
+            reader.old reader.new result }
     {
         if slots.len() <= ROOM / Self::Bytes::CAPACITY {
             return read_blocks::<Self, R, ROOM>(slots, reader);
@@ -90,13 +80,9 @@ fn read_blocks<T: FixedWidth, R: Read, const MOST: usize>(
     ensures ok { OnOk result (ReadsSpelling (SpellsItems T.form.Spells slots.new)
         (R.remaining reader.old.inner) (R.remaining reader.new.inner)) }
     ensures fits { OnOk result (AllByRecursion T.form.Fits slots.new) }
-    ensures err { IfErr result (Fails
+    ensures fails { FailsFor R.remaining
         (AfterItems T.form.Spells T.form.Fits (TooFewBytes (byte_len T.form.width)) (length slots.old))
-        (R.remaining reader.old.inner) reader.old.faults reader.new.faults) }
-    ensures taken { IfErr result (TakesSome (AfterItems T.form.Spells T.form.Fits
-        (TooFewBytes (byte_len T.form.width)) (length slots.old) BorshError.Ended)
-        (R.remaining reader.old.inner) (R.remaining reader.new.inner)) }
-    ensures faults_grow { reader.old.faults ≤ reader.new.faults }
+        reader.old reader.new result }
 {
     let width = T::Bytes::CAPACITY;
     let mut room = [0; MOST];

@@ -1,7 +1,7 @@
 //! The date of a mail or of an HTTP header, as `Sat, 13 Jul 2024 15:09:59`.
 ghost use Rattle.std.specs.Prelude.{◌≡◌, ◌+◌, ◌<◌, ◌≤◌, ◌++◌, ◌∷◌, [], length};
 ghost use Rattle.tinyvec.specs.View.{capacity_in};
-ghost use Rattle.tinyvec_text.specs.InlineText.{text_len, StaysInPlace};
+ghost use Rattle.tinyvec_text.specs.InlineText.{text_len, TextStaysInPlace};
 ghost use Rattle.tinyvec_examples.specs.Date as spec;
 
 use tinyvec_text::InlineText;
@@ -25,7 +25,7 @@ pub fn write_date_and_time<const N: usize>(dt: DateTime, pad_day: bool, out: &mu
     requires room { text_len out.old + 25 ≤ capacity_in N out.old.place }
     ensures text { out.new.bytes ≡ out.old.bytes ++ spec.date_and_time_text pad_day dt }
     ensures len { text_len out.new ≤ text_len out.old + 25 }
-    ensures frame { StaysInPlace N out.old out.new }
+    ensures frame { TextStaysInPlace N out.old out.new }
 {
     out.push_str_reserved(weekday_name(dt.weekday));
     out.push_str_reserved(", ");
@@ -47,7 +47,7 @@ fn write_day<const N: usize>(out: &mut InlineText<N>, day: u8, pad_day: bool)
     requires room { text_len out.old + 2 ≤ capacity_in N out.old.place }
     ensures text { out.new.bytes ≡ out.old.bytes ++ spec.day_text pad_day day }
     ensures len { text_len out.new ≤ text_len out.old + 2 }
-    ensures frame { StaysInPlace N out.old out.new }
+    ensures frame { TextStaysInPlace N out.old out.new }
 {
     if pad_day || day >= 10 {
         write_two_digits(out, day);
@@ -61,7 +61,7 @@ fn write_four_digits<const N: usize>(out: &mut InlineText<N>, n: u16)
     requires room { text_len out.old + 4 ≤ capacity_in N out.old.place }
     ensures text { out.new.bytes ≡ out.old.bytes ++ spec.four_digits n }
     ensures len { text_len out.new ≡ text_len out.old + 4 }
-    ensures frame { StaysInPlace N out.old out.new }
+    ensures frame { TextStaysInPlace N out.old out.new }
 {
     write_two_digits(out, (n / 100) as u8);
     write_two_digits(out, (n % 100) as u8);
@@ -72,7 +72,7 @@ fn write_two_digits<const N: usize>(out: &mut InlineText<N>, n: u8)
     requires room { text_len out.old + 2 ≤ capacity_in N out.old.place }
     ensures text { out.new.bytes ≡ out.old.bytes ++ spec.two_digits n }
     ensures len { text_len out.new ≡ text_len out.old + 2 }
-    ensures frame { StaysInPlace N out.old out.new }
+    ensures frame { TextStaysInPlace N out.old out.new }
 {
     write_ascii(out, b'0' + n / 10);
     write_ascii(out, b'0' + n % 10);
@@ -83,7 +83,7 @@ fn write_ascii<const N: usize>(out: &mut InlineText<N>, byte: u8)
     requires room { text_len out.old < capacity_in N out.old.place }
     ensures text { out.new.bytes ≡ out.old.bytes ++ byte ∷ [] }
     ensures len { text_len out.new ≡ text_len out.old + 1 }
-    ensures frame { StaysInPlace N out.old out.new }
+    ensures frame { TextStaysInPlace N out.old out.new }
 {
     out.push_reserved(byte as char);
 }

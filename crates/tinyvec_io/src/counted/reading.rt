@@ -1,10 +1,9 @@
 //! `Counted` as a reader.
-ghost use Rattle.std.specs.Prelude.{◌≡◌, ◌≢◌, ◌<◌, ◌≤◌, OnErr, IfOk, IfErr, length, take};
+ghost use Rattle.std.specs.Prelude.{◌≡◌, ◌<◌, OnErr, IfOk, is_err, length, take};
 ghost use Rattle.std.specs.List.{AllByRecursion};
 ghost use Rattle.std.specs.Io.{ReadsAtMost};
 ghost use Rattle.std.specs.Io.KnownBytes.{Keeps, Consumes, IsAtEnd, ReadConsumes};
-ghost use Rattle.std.specs.IoError.{error_kind};
-ghost use Rattle.tinyvec_io.specs.Counted.{ConsumesFront, faults_after, Reported};
+ghost use Rattle.tinyvec_io.specs.Counted.{ConsumesFront, CountsFault, Retries};
 
 use super::Counted;
 use std::io;
@@ -17,8 +16,7 @@ impl<R: Read> Read for Counted<R> {
         ensures bound { ReadsAtMost result buf.new }
         ensures bytes { ReadConsumes (R.remaining self.old.inner) (R.remaining self.new.inner)
             result buf.new }
-        ensures faults { self.new.faults ≡ faults_after self.old.faults result }
-        ensures faults_grow { self.old.faults ≤ self.new.faults }
+        ensures faults { CountsFault (is_err result) self.old.faults self.new.faults }
     {
         let result = self.inner.read(buf);
         if result.is_err() {
@@ -39,9 +37,7 @@ impl<R: Read> Counted<R> {
             (R.remaining self.new.inner) (take n buf.new)) }
         ensures end { IfOk result (λ n. n ≡ 0 → IsAtEnd (R.remaining self.new.inner)) }
         ensures err { OnErr result (Keeps (R.remaining self.old.inner) (R.remaining self.new.inner)) }
-        ensures retried { IfErr result (λ e. error_kind e ≢ ErrorKind.Interrupted) }
-        ensures faults_grow { self.old.faults ≤ self.new.faults }
-        ensures fault { OnErr result (Reported self.old.faults self.new.faults) }
+        ensures faults { Retries self.old.faults self.new.faults result }
     {
         for _tries in 0..u64::MAX {
             match self.read(buf) {
@@ -62,10 +58,8 @@ impl<R: Read> Counted<R> {
         ensures end { IfOk result (λ n. n < length buf.new → IsAtEnd (R.remaining self.new.inner)) }
         ensures err { OnErr result (ConsumesFront (R.remaining self.old.inner)
             (R.remaining self.new.inner) buf.new) }
-        ensures retried { IfErr result (λ e. error_kind e ≢ ErrorKind.Interrupted) }
         ensures small { IfOk result (λ n. AllByRecursion (λ byte. byte < 256) (take n buf.new)) }
-        ensures faults_grow { self.old.faults ≤ self.new.faults }
-        ensures fault { OnErr result (Reported self.old.faults self.new.faults) }
+        ensures faults { Retries self.old.faults self.new.faults result }
     {
         let mut filled = 0;
         while filled < buf.len() {

@@ -1,9 +1,8 @@
 //! `Counted` as a writer.
-ghost use Rattle.std.specs.Prelude.{◌≡◌, ◌≢◌, ◌<◌, ◌≤◌, OnOk, OnErr, IfOk, IfErr, length};
+ghost use Rattle.std.specs.Prelude.{◌<◌, OnOk, OnErr, IfOk, is_err, length};
 ghost use Rattle.std.specs.Io.{WritesAtMost};
 ghost use Rattle.std.specs.Io.KnownBytes.{Keeps, Appends, WriteAppends};
-ghost use Rattle.std.specs.IoError.{error_kind};
-ghost use Rattle.tinyvec_io.specs.Counted.{AppendsFront, faults_after, faults_after_write, Reported};
+ghost use Rattle.tinyvec_io.specs.Counted.{AppendsFront, CountsFault, Retries, is_write_fault};
 
 use super::Counted;
 use std::io;
@@ -16,8 +15,7 @@ impl<W: Write> Write for Counted<W> {
         ensures bound { WritesAtMost result buf.now }
         ensures bytes { WriteAppends (W.contents self.old.inner) (W.contents self.new.inner)
             result buf.now }
-        ensures faults { self.new.faults ≡ faults_after_write self.old.faults result buf.now }
-        ensures faults_grow { self.old.faults ≤ self.new.faults }
+        ensures faults { CountsFault (is_write_fault result buf.now) self.old.faults self.new.faults }
     {
         let result = self.inner.write(buf);
         let is_fault = match &result {
@@ -32,8 +30,7 @@ impl<W: Write> Write for Counted<W> {
 
     fn flush(&mut self) -> io::Result<()>
         ensures bytes { Keeps (W.contents self.old.inner) (W.contents self.new.inner) }
-        ensures faults { self.new.faults ≡ faults_after self.old.faults result }
-        ensures faults_grow { self.old.faults ≤ self.new.faults }
+        ensures faults { CountsFault (is_err result) self.old.faults self.new.faults }
     {
         let result = self.inner.flush();
         if result.is_err() {
@@ -51,9 +48,7 @@ impl<W: Write> Write for Counted<W> {
             buf.now) }
         ensures err { OnErr result (AppendsFront (W.contents self.old.inner)
             (W.contents self.new.inner) buf.now) }
-        ensures retried { IfErr result (λ e. error_kind e ≢ ErrorKind.Interrupted) }
-        ensures faults_grow { self.old.faults ≤ self.new.faults }
-        ensures fault { OnErr result (Reported self.old.faults self.new.faults) }
+        ensures faults { Retries self.old.faults self.new.faults result }
     {
         let mut rest = buf;
         while !rest.is_empty() {
@@ -72,9 +67,7 @@ impl<W: Write> Counted<W> {
         ensures bound { WritesAtMost result buf.now }
         ensures bytes { WriteAppends (W.contents self.old.inner) (W.contents self.new.inner)
             result buf.now }
-        ensures retried { IfErr result (λ e. error_kind e ≢ ErrorKind.Interrupted) }
-        ensures faults_grow { self.old.faults ≤ self.new.faults }
-        ensures fault { OnErr result (Reported self.old.faults self.new.faults) }
+        ensures faults { Retries self.old.faults self.new.faults result }
     {
         for _tries in 0..u64::MAX {
             match self.write(buf) {

@@ -1,10 +1,9 @@
 //! Text that is pushed, popped, inserted, removed, replaced and cut off.
-ghost use Rattle.std.specs.Prelude.{◌≡◌, ◌+◌, ◌-◌, ◌<◌, ◌≤◌, ◌++◌, ◌∷◌, [], ◌↔◌, length, max, if◌then◌else◌, is_ok, IsTrue, IsOk, IfOk, OnOk, OnErr, chars, encode_utf8, ◌&&◌, nat_le, ℕ, List, take, drop, IsSome, IfSome, IfNone, IsUtf8};
+ghost use Rattle.std.specs.Prelude.{◌≡◌, ◌+◌, ◌-◌, ◌<◌, ◌≤◌, ◌++◌, ◌∷◌, [], ◌↔◌, length, if◌then◌else◌, is_ok, IsTrue, IsOk, IfOk, OnOk, OnErr, chars, encode_utf8, ◌&&◌, nat_le, ℕ, List, take, drop, IsSome, IfSome, IfNone, IsUtf8};
 ghost use Rattle.tinyvec.specs.View.{lies_inline, capacity_in};
-ghost use Rattle.tinyvec_text.specs.InlineText.{text_chars, text_len, MakesRoom, StaysInPlace, IsBoundary};
+ghost use Rattle.tinyvec_text.specs.InlineText.{text_chars, text_len, TextMakesRoom, TextReserves, TextShrinks, TextStaysInPlace, TextBecomes, TextKeepsFront, TextMadeFor, IsTextTail, IsFirstChar, IsBoundary};
 ghost use Rattle.tinyvec_slots.specs.Ranges.{range_start, range_end, before, after};
 ghost use Rattle.std.specs.String.Boundary.{IsSplitPoint};
-ghost use Rattle.std.specs.Char.{IsScalar};
 
 use super::InlineText;
 use std::alloc::{AllocError, Global};
@@ -15,8 +14,7 @@ impl<const N: usize> InlineText<N> {
     /// A copy of `s`, inline if its bytes fit the array. Otherwise allocates once.
     pub fn from_str(alloc: Global, s: &str) -> Result<Self, AllocError>
         ensures bytes { IfOk result (λ t. t.bytes ≡ s.now) }
-        ensures place { IfOk result (λ t. IsTrue (lies_inline t.place) ↔ (length s.now ≤ N)) }
-        ensures room { IfOk result (λ t. capacity_in N t.place ≡ max (length s.now) N) }
+        ensures made { IfOk result (TextMadeFor N (length s.now)) }
         ensures succeeds { length s.now ≤ N → IsOk result }
     {
         let mut text = Self::new(alloc);
@@ -28,9 +26,8 @@ impl<const N: usize> InlineText<N> {
     #[inline(always)]
     pub fn push_str_reserved(&mut self, string: &str)
         requires { text_len self.old + length string.now ≤ capacity_in N self.old.place }
-        ensures bytes { self.new.bytes ≡ self.old.bytes ++ string.now }
-        ensures text { text_chars self.new ≡ text_chars self.old ++ chars string.now }
-        ensures frame { StaysInPlace N self.old self.new }
+        ensures { TextBecomes N self.old self.new
+            (self.old.bytes ++ string.now) (text_chars self.old ++ chars string.now) }
     {
         let Ok(()) = self.list.extend_from_slice(string.as_bytes()) else {
             unreachable!();
@@ -41,10 +38,9 @@ impl<const N: usize> InlineText<N> {
     #[inline(always)]
     pub fn push_reserved(&mut self, ch: char)
         requires { text_len self.old + length (encode_utf8 ch) ≤ capacity_in N self.old.place }
-        ensures bytes { self.new.bytes ≡ self.old.bytes ++ encode_utf8 ch }
+        ensures becomes { TextBecomes N self.old self.new
+            (self.old.bytes ++ encode_utf8 ch) (text_chars self.old ++ ch ∷ []) }
         ensures ascii { ch < 128 → self.new.bytes ≡ self.old.bytes ++ ch ∷ [] }
-        ensures text { text_chars self.new ≡ text_chars self.old ++ ch ∷ [] }
-        ensures frame { StaysInPlace N self.old self.new }
     {
         if ch.is_ascii() {
             self.list.push_reserved(ch as u8);
@@ -59,7 +55,8 @@ impl<const N: usize> InlineText<N> {
     pub fn push_str(&mut self, string: &str) -> Result<(), AllocError>
         ensures bytes { self.new.bytes ≡ (if is_ok result then self.old.bytes ++ string.now else self.old.bytes) }
         ensures text { OnOk result (text_chars self.new ≡ text_chars self.old ++ chars string.now) }
-        ensures room { MakesRoom (lies_inline self.old.place) N (text_len self.old + length string.now) self.old self.new result }
+        ensures room { TextMakesRoom (lies_inline self.old.place) N (text_len self.old + length string.now)
+            self.old self.new result }
     {
         self.list.extend_from_slice(string.as_bytes())?;
         Ok(())
@@ -72,7 +69,7 @@ impl<const N: usize> InlineText<N> {
             ≡ (if is_ok result then self.old.bytes ++ encode_utf8 ch else self.old.bytes) }
         ensures ascii { ch < 128 → OnOk result (self.new.bytes ≡ self.old.bytes ++ ch ∷ []) }
         ensures text { OnOk result (text_chars self.new ≡ text_chars self.old ++ ch ∷ []) }
-        ensures room { MakesRoom (lies_inline self.old.place && nat_le 128 ch) N (text_len self.old + length (encode_utf8 ch))
+        ensures room { TextMakesRoom (lies_inline self.old.place && nat_le 128 ch) N (text_len self.old + length (encode_utf8 ch))
             self.old self.new result }
     {
         // Most characters are ASCII, and take a byte.
@@ -90,7 +87,7 @@ impl<const N: usize> InlineText<N> {
         ensures bytes { self.new.bytes
             ≡ (if is_ok result then self.old.bytes ++ encode_utf8 c else self.old.bytes) }
         ensures text { OnOk result (text_chars self.new ≡ text_chars self.old ++ c ∷ []) }
-        ensures room { MakesRoom (lies_inline self.old.place && nat_le 128 c) N (text_len self.old + length (encode_utf8 c))
+        ensures room { TextMakesRoom (lies_inline self.old.place && nat_le 128 c) N (text_len self.old + length (encode_utf8 c))
             self.old self.new result }
     {
         let mut buffer = [0; 4];
@@ -100,10 +97,7 @@ impl<const N: usize> InlineText<N> {
 
     /// Makes room for `additional` more bytes. An inline text moves to the heap if they don't fit the array.
     pub fn reserve(&mut self, additional: usize) -> Result<(), AllocError>
-        ensures bytes { self.new.bytes ≡ self.old.bytes }
-        ensures room { MakesRoom (lies_inline self.old.place) N (text_len self.old + additional) self.old self.new result }
-        ensures enough { OnOk result (text_len self.old + additional ≤ capacity_in N self.new.place) }
-        ensures kept { text_len self.old + additional ≤ capacity_in N self.old.place → self.new ≡ self.old }
+        ensures { TextReserves N additional self.old self.new result }
     {
         self.list.reserve(additional)?;
         Ok(())
@@ -112,11 +106,7 @@ impl<const N: usize> InlineText<N> {
     /// Moves a text on the heap into the array if it fits, which allocates nothing. Otherwise shrinks the allocation; if
     /// the allocator refuses, nothing changes and no error is returned.
     pub fn shrink_to_fit(&mut self)
-        ensures bytes { self.new.bytes ≡ self.old.bytes }
-        ensures place { IsTrue (lies_inline self.new.place) ↔ (text_len self.old ≤ N) }
-        ensures room { capacity_in N self.new.place ≤ max (capacity_in N self.old.place) N }
-        ensures fits { text_len self.new ≤ capacity_in N self.new.place }
-        ensures kept { IsTrue (lies_inline self.old.place) → self.new ≡ self.old }
+        ensures { TextShrinks N self.old self.new }
     {
         self.list.shrink_to_fit();
     }
@@ -131,19 +121,14 @@ impl<const N: usize> InlineText<N> {
     /// Keeps the first `new_len` bytes, which end at a character. Does not allocate, and the text stays in its place.
     pub fn truncate(&mut self, new_len: usize)
         requires { IsBoundary (text_chars self.old) new_len }
-        ensures bytes { self.new.bytes ≡ take new_len self.old.bytes }
-        ensures text { (rest : List ℕ) × (text_chars self.old ≡ text_chars self.new ++ rest) }
-        ensures len { text_len self.new ≡ new_len }
-        ensures frame { StaysInPlace N self.old self.new }
+        ensures { TextKeepsFront N new_len self.old self.new }
     {
         self.list.truncate(new_len);
     }
 
     /// Empties the text. Does not allocate, and the text stays in its place.
     pub fn clear(&mut self)
-        ensures bytes { self.new.bytes ≡ [] }
-        ensures text { text_chars self.new ≡ [] }
-        ensures frame { StaysInPlace N self.old self.new }
+        ensures { TextBecomes N self.old self.new [] [] }
     {
         self.list.clear();
     }
@@ -155,7 +140,8 @@ impl<const N: usize> InlineText<N> {
             ≡ (if is_ok result then take index self.old.bytes ++ encode_utf8 ch ++ drop index self.old.bytes else self.old.bytes) }
         ensures text { OnOk result (text_chars self.new
             ≡ chars (take index self.old.bytes) ++ ch ∷ [] ++ chars (drop index self.old.bytes)) }
-        ensures room { MakesRoom (lies_inline self.old.place) N (text_len self.old + length (encode_utf8 ch)) self.old self.new result }
+        ensures room { TextMakesRoom (lies_inline self.old.place) N (text_len self.old + length (encode_utf8 ch))
+            self.old self.new result }
     {
         let mut buffer = [0; 4];
         self.insert_str(index, ch.encode_utf8(&mut buffer))
@@ -168,7 +154,8 @@ impl<const N: usize> InlineText<N> {
             ≡ (if is_ok result then take index self.old.bytes ++ string.now ++ drop index self.old.bytes else self.old.bytes) }
         ensures text { OnOk result (text_chars self.new
             ≡ chars (take index self.old.bytes) ++ chars string.now ++ chars (drop index self.old.bytes)) }
-        ensures room { MakesRoom (lies_inline self.old.place) N (text_len self.old + length string.now) self.old self.new result }
+        ensures room { TextMakesRoom (lies_inline self.old.place) N (text_len self.old + length string.now)
+            self.old self.new result }
     {
         self.replace_range(index..index, string)
     }
@@ -188,7 +175,7 @@ impl<const N: usize> InlineText<N> {
             else self.old.bytes) }
         ensures text { OnOk result (text_chars self.new ≡ chars (before self.old.bytes (R.start_bound range))
             ++ chars replace_with.now ++ chars (after self.old.bytes (R.end_bound range))) }
-        ensures room { MakesRoom (lies_inline self.old.place) N (text_len self.old
+        ensures room { TextMakesRoom (lies_inline self.old.place) N (text_len self.old
             - (range_end (R.end_bound range) (text_len self.old) - range_start (R.start_bound range)) + length replace_with.now)
             self.old self.new result }
     {
@@ -204,7 +191,7 @@ impl<const N: usize> InlineText<N> {
             × (self.new.bytes ≡ take index self.old.bytes ++ rest) }
         ensures text { (rest : List ℕ) × (text_chars self.old ≡ chars (take index self.old.bytes) ++ result ∷ rest)
             × (text_chars self.new ≡ chars (take index self.old.bytes) ++ rest) }
-        ensures frame { StaysInPlace N self.old self.new }
+        ensures frame { TextStaysInPlace N self.old self.new }
     {
         let (c, width) = first_char(&self.list.as_slice()[index..]);
         // Shows the proof that the list fits.
@@ -218,11 +205,9 @@ impl<const N: usize> InlineText<N> {
     pub fn split_off(&mut self, at: usize) -> Result<Self, AllocError>
         requires { IsBoundary (text_chars self.old) at }
         ensures bytes { OnOk result (self.new.bytes ≡ take at self.old.bytes) }
-        ensures tail { IfOk result (λ t. t.bytes ≡ drop at self.old.bytes) }
+        ensures tail { IfOk result (IsTextTail N at self.old) }
         ensures text { IfOk result (λ t. text_chars self.old ≡ text_chars self.new ++ text_chars t) }
-        ensures frame { StaysInPlace N self.old self.new }
-        ensures tail_place { IfOk result (λ t. lies_inline t.place ≡ lies_inline self.old.place) }
-        ensures tail_fits { IfOk result (λ t. text_len t ≤ capacity_in N t.place) }
+        ensures frame { TextStaysInPlace N self.old self.new }
         ensures succeeds { IsTrue (lies_inline self.old.place) → IsOk result }
         ensures succeeds_at_the_end { at ≡ text_len self.old → IsOk result }
         ensures refused { OnErr result (self.new ≡ self.old) }
@@ -237,7 +222,7 @@ impl<const N: usize> InlineText<N> {
         ensures bytes { IfSome result (λ c. self.old.bytes ≡ self.new.bytes ++ encode_utf8 c) }
         ensures text { IfSome result (λ c. text_chars self.old ≡ text_chars self.new ++ c ∷ []) }
         ensures none { IfNone result (self.new ≡ self.old) }
-        ensures frame { StaysInPlace N self.old self.new }
+        ensures frame { TextStaysInPlace N self.old self.new }
     {
         let bytes = self.list.as_slice();
         if bytes.is_empty() {
@@ -266,11 +251,7 @@ fn is_split_point(bytes: &[u8], i: usize) -> bool
 pub(crate) fn first_char(bytes: &[u8]) -> (char, usize)
     requires some { 0 < length bytes.now }
     requires utf8 { IsUtf8 bytes.now }
-    ensures encoded { take result.1 bytes.now ≡ encode_utf8 result.0 }
-    ensures rest { IsUtf8 (drop result.1 bytes.now) }
-    ensures scalar { IsScalar result.0 }
-    ensures positive { 0 < result.1 }
-    ensures in_bounds { result.1 ≤ length bytes.now }
+    ensures { IsFirstChar bytes.now result.0 result.1 }
 {
     let end = first_char_end(bytes);
     let Ok(first) = str::from_utf8(&bytes[..end]) else {

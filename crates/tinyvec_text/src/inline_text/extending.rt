@@ -1,10 +1,10 @@
 //! The characters and texts of an iterator.
-ghost use Rattle.std.specs.Prelude.{◌≡◌, ℕ, ◌+◌, ◌*◌, ◌<◌, ◌≤◌, ◌↔◌, ◌++◌, List, length, ⊤, IsTrue, IsOk, IfOk, encode_utf8_all};
+ghost use Rattle.std.specs.Prelude.{◌≡◌, ℕ, ◌+◌, ◌<◌, ◌≤◌, ◌++◌, List, length, ⊤, IsOk, IfOk, encode_utf8_all};
 ghost use Rattle.std.specs.List.{flat_map};
 ghost use Rattle.std.specs.Iterator.{IsFinite, HoldsAlong, DrainsIf, ExtendsWithItems};
 ghost use Rattle.tinyvec_slots.specs.Filling.{IntoIterYields};
-ghost use Rattle.tinyvec.specs.View.{lies_inline, capacity_in};
-ghost use Rattle.tinyvec_text.specs.InlineText.{text_len, TextExtends};
+ghost use Rattle.tinyvec.specs.View.{capacity_in};
+ghost use Rattle.tinyvec_text.specs.InlineText.{text_len, TextCollects, TextExtends};
 
 use super::InlineText;
 use std::alloc::{AllocError, Global};
@@ -73,8 +73,7 @@ impl<const N: usize> FromIterator<char> for InlineText<N> {
             → U.IntoIter.can_next it × IsFinite (U.IntoIter.remaining it) × HoldsAlong U.IntoIter.next_gives it (λ _. ⊤) }
         ensures ran { IfOk result (λ t. (it : U.IntoIter) × (xs : List ℕ) × U.into_iter_gives iter it
             × DrainsIf U.IntoIter.next_gives ⊤ it xs × (t.bytes ≡ encode_utf8_all xs)) }
-        ensures place { IfOk result (λ t. IsTrue (lies_inline t.place) ↔ (text_len t ≤ N)) }
-        ensures grown { IfOk result (λ t. N < capacity_in N t.place → capacity_in N t.place < 2 * text_len t) }
+        ensures collects { IfOk result (TextCollects N) }
 
         // If known items fit the array, it allocates nothing.
         ensures known { (xs : List ℕ) → IntoIterYields U.into_iter_gives U.IntoIter.next_gives iter xs
@@ -100,8 +99,7 @@ impl<'a, const N: usize> FromIterator<&'a str> for InlineText<N> {
             → U.IntoIter.can_next it × IsFinite (U.IntoIter.remaining it) × HoldsAlong U.IntoIter.next_gives it (λ _. ⊤) }
         ensures ran { IfOk result (λ t. (it : U.IntoIter) × (xs : _) × U.into_iter_gives iter it
             × DrainsIf U.IntoIter.next_gives ⊤ it xs × (t.bytes ≡ flat_map (λ x. x.now) xs)) }
-        ensures place { IfOk result (λ t. IsTrue (lies_inline t.place) ↔ (text_len t ≤ N)) }
-        ensures grown { IfOk result (λ t. N < capacity_in N t.place → capacity_in N t.place < 2 * text_len t) }
+        ensures collects { IfOk result (TextCollects N) }
 
         // If known items fit the array, it allocates nothing.
         ensures known { (xs : _) → IntoIterYields U.into_iter_gives U.IntoIter.next_gives iter xs

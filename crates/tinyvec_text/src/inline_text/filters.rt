@@ -1,7 +1,7 @@
 //! Keeping some of the characters.
 ghost use Rattle.std.specs.Prelude.{◌≡◌, ◌+◌, ◌≤◌, ◌++◌, length, take, drop, IsUtf8};
 ghost use Rattle.std.specs.String.{RetainsChars};
-ghost use Rattle.tinyvec_text.specs.InlineText.{StaysInPlace};
+ghost use Rattle.tinyvec_text.specs.InlineText.{TextStaysInPlace};
 
 use super::InlineText;
 use super::edits::first_char;
@@ -12,7 +12,7 @@ impl<const N: usize> InlineText<N> {
     pub fn retain<F: FnMut(char) -> bool>(&mut self, f: F)
         requires { F.IsAlwaysCallable f }
         ensures filtered { RetainsChars F.FnMut f self.old.bytes self.new.bytes }
-        ensures frame { StaysInPlace N self.old self.new }
+        ensures frame { TextStaysInPlace N self.old self.new }
     {
         let kept = move_kept_to_front(self.list.as_mut_slice(), f);
         self.list.truncate(kept);

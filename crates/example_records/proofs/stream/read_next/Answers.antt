@@ -12,7 +12,7 @@ returns-then-tag-ne-TAG-clause-next g c = wrong-tag c.in-Ok.tag _ _ c.in-Ok.ensu
 pub returns-in_err-reading-clause-next : goal.returns-in_err-reading-clause-next
 returns-in_err-reading-clause-next g c =
     let p = err_from_is_err_and c.from_residual.result c.from_residual.ensures.1 in
-    rw (p.1, p.2) (record-fails c.in-Ok.tag _ _ c.in-Ok.ensures.ok (search rules) _ _ _ c.in_err-reading.ensures.err)
+    rw (p.1, p.2) (record-fails c.in-Ok.tag _ _ c.in-Ok.ensures.ok (search rules) _ _ _ c.in_err-reading.ensures.fails.err)
 
 pub returns-clause-next : goal.returns-clause-next
 returns-clause-next g c = (takes-tagged c.in-Ok.tag _ _ c.in-Ok.ensures.ok tag (search rules) SpellsReading _ _ c.in_ok-reading.ensures.ok, c.in_ok-reading.ensures.fits)

@@ -113,6 +113,6 @@ loop-piece-preserved g c =
       );
       line_room = omega (arith, c.loop-piece.invariant.line_room, c.in_ok-tidy_chunk.ensures.line_room);
       chunk = search rules;
-      read_grows = omega (arith, c.in-Ok.ensures.faults_grow);
+      read_grows = omega (arith, c.in-Ok.ensures.faults.grows);
       write_grows = omega (arith, c.in_ok-tidy_chunk.ensures.faults_grow);
     }

@@ -42,7 +42,7 @@ returns-in-Err-clause-read g c =
     λ _ _. (s.0, s.1, Consumes-kept _ _ _ s.0 s.2 c.in-Err.ensures.err, s.3, complete_lines s.4)
 
 pub returns-in-Err-clause-read_fault : goal.returns-in-Err-clause-read_fault
-returns-in-Err-clause-read_fault g c = λ _ _. reported_since _ _ _ c.loop-piece.invariant.read_grows c.in-Err.ensures.fault
+returns-in-Err-clause-read_fault g c = λ _ _. reported_since _ _ _ c.loop-piece.invariant.read_grows c.in-Err.ensures.faults.fault
 
 pub returns-in-Err-finish-clause-write_fault : goal.returns-in-Err-finish-clause-write_fault
 returns-in-Err-finish-clause-write_fault g c = λ _ _. reported_since _ _ _ c.loop-piece.invariant.write_grows c.in-Err-finish.ensures.1.fault
@@ -89,7 +89,7 @@ loop-piece-preserved g c =
         longer,
       );
       empty = c.in-Ok-answer_chunk.ensures.gathered;
-      read_grows = le_trans c.loop-piece.invariant.read_grows c.in-Ok.ensures.faults_grow;
+      read_grows = le_trans c.loop-piece.invariant.read_grows c.in-Ok.ensures.faults.grows;
       write_grows = le_trans c.loop-piece.invariant.write_grows c.in-Ok-answer_chunk.ensures.writes.1.grows;
     }
 

@@ -1,11 +1,12 @@
-use Rattle.std.proofs.Common.{◌≡◌, ◌∙◌, ◌+◌, ◌≤◌, inr, length, arith, rules, Some}
+use Rattle.std.proofs.Common.{◌≡◌, ◌∙◌, ◌+◌, ◌≤◌, [], inl, inr, length, arith, le_refl, refl, rules}
 use Rattle.tinyvec.specs.TinyVec.{tiny_items, tiny_len}
 use Rattle.tinyvec.specs.Lends.{tiny_with_items}
 use Rattle.tinyvec.proofs.TinyLemmas.{tiny_framed-with, tiny_items-with, tiny_slots_then_framed}
-use Rattle.tinyvec_borsh.specs.declared.borsh_error.BorshError.TheVariants.{Ended}
-use Rattle.tinyvec_borsh.proofs.AtFaults.{some-so}
-use Rattle.tinyvec_borsh.proofs.Blocks.{fails-of-more, grown}
-use Rattle.tinyvec_borsh.proofs.Outcomes.{err-so, on-ok}
+use Rattle.tinyvec_borsh.proofs.AtFaults.{memory_is_other, some-all}
+use Rattle.tinyvec_borsh.proofs.ItemByItem.{fails-like, maybe-any, maybe-so}
+use Rattle.std.proofs.KnownBytes.{Consumes-nil}
+use Rattle.tinyvec_borsh.proofs.Blocks.{grown, of-more}
+use Rattle.tinyvec_borsh.proofs.Outcomes.{on-ok}
 use Rattle.tinyvec_borsh.proofs.Place.{place-framed, room-grown}
 use Rattle.tinyvec_borsh.proofs.lists.tiny_vec.read_more.Goals as goal
 
@@ -34,10 +35,6 @@ returns-clause-ok g c =
       t.4,
     )) c.read_items.ensures.ok
 
-pub returns-clause-err : goal.returns-clause-err
-returns-clause-err g c =
-    err-so c.read_items.result (λ e f. inr (fails-of-more g.A.Item.BorshForm.Spells g.A.Item.BorshForm.Fits g.A.Item.BorshDeserialize.Reason _ _ _ _ _ e (search rules) f)) c.read_items.ensures.err
-
 pub returns-clause-slot_rule : goal.returns-clause-slot_rule
 returns-clause-slot_rule g c =
     let mid = c.resize_with.new.self in
@@ -54,6 +51,14 @@ returns-clause-room g c =
     let grown = room-grown slots (c.len-start.result + c.min.result) c.args.count c.args.v.now mid c.resize_with.ensures.room.same_room c.in-Ok.ensures.room.grown few in
     on-ok c.read_items.result (λ _. omega (arith, framed.capacity slots, grown)) c.read_items.ensures.ok
 
-pub returns-clause-taken : goal.returns-clause-taken
-returns-clause-taken g c =
-    err-so c.read_items.result (λ e. some-so _ _ e (λ bytes cut. fails-of-more g.A.Item.BorshForm.Spells g.A.Item.BorshForm.Fits g.A.Item.BorshDeserialize.Reason _ _ (Some bytes) 0 0 Ended (search rules) cut)) c.read_items.ensures.taken
+pub returns-clause-fails : goal.returns-clause-fails
+returns-clause-fails g c =
+    let so = of-more g.A.Item.BorshForm.Spells g.A.Item.BorshForm.Fits g.A.Item.BorshDeserialize.Reason _ _ (search rules) in
+    fails-like c.read_items.result (λ e input why. inl (so e input why)) c.read_items.ensures.fails
+
+pub returns-in_default-clause-fails : goal.returns-in_default-clause-fails
+returns-in_default-clause-fails g c = record {
+  err = maybe-so _ _ _ (λ input _. inr (refl, search rules)) (maybe-any _);
+  taken = some-all _ _ [] _ memory_is_other (Consumes-nil _);
+  grows = le_refl _;
+}

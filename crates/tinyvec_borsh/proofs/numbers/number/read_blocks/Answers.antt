@@ -1,24 +1,13 @@
-use Rattle.std.proofs.Common.{◌≡◌, ◌∙◌, ◌+◌, ◌*◌, ◌++◌, ap, arith, drop, length, length-append, length-drop, length-take-le, refl, rules, subst, Some}
+use Rattle.std.proofs.Common.{◌≡◌, ◌∙◌, ◌+◌, ◌*◌, ◌++◌, ap, arith, drop, length, length-append, length-drop, length-take-le, rules, subst}
 use Rattle.std.specs.Int.{byte_len}
 use Rattle.std.specs.List.{AllByRecursion}
 use Rattle.std.proofs.lemmas.List.{take_all}
 use Rattle.std.proofs.lemmas.Result.{err_from_is_err_and}
-use Rattle.tinyvec_borsh.specs.declared.borsh_error.BorshError.TheVariants.{Ended}
 use Rattle.tinyvec_borsh.specs.Items.{SpellsItems}
 use Rattle.tinyvec_borsh.proofs.Blocks.{take-block, took-block}
-use Rattle.tinyvec_borsh.proofs.NumberBlocks.{block_within, fails-behind-block, fails-numbers}
-use Rattle.tinyvec_borsh.proofs.AtFaults.{some-then}
+use Rattle.tinyvec_borsh.proofs.NumberBlocks.{block_within, fails-behind-block, few-bytes}
+use Rattle.tinyvec_borsh.proofs.ItemByItem.{fails-as}
 use Rattle.tinyvec_borsh.proofs.numbers.number.read_blocks.Goals as goal
-
-pub returns-in_err-read_bytes-clause-err : goal.returns-in_err-read_bytes-clause-err
-returns-in_err-read_bytes-clause-err g c =
-    let p = err_from_is_err_and c.from_residual.result c.from_residual.ensures.1 in
-    let count = c.min-count.result in
-    let fits = block_within g.row.MOST count c.CAPACITY-width.result (omega arith) in
-    let many = length-take-le (count * c.CAPACITY-width.result) c.loop-start.room (omega (arith, fits)) ∙ ap (λ width. count * width) (c.CAPACITY-width.ensures ∙ g.met.T.FixedWidth.sized) in
-    let before = length-take-le c.loop-start.start c.loop-start.slots (omega arith) in
-    rw (p.1, p.2) (fails-behind-block g.T.FixedWidth.form.Spells g.T.FixedWidth.form.Fits _ count (length c.args.slots.now) _ _ _ _ _ _ _ c.loop-start.invariant.read (omega (arith, before)) c.loop-start.invariant.grows
-    (fails-numbers g.T.FixedWidth.form.Spells g.T.FixedWidth.form.Fits (byte_len g.T.FixedWidth.form.width) _ g.T.FixedWidth.form.read count _ many _ _ _ _ c.in_err-read_bytes.ensures.ended c.in_err-read_bytes.ensures.err))
 
 pub loop-start-preserved : goal.loop-start-preserved
 loop-start-preserved g c =
@@ -45,18 +34,15 @@ returns-clause-ok g c =
 pub returns-clause-fits : goal.returns-clause-fits
 returns-clause-fits g c = subst (AllByRecursion g.T.FixedWidth.form.Fits) (take_all c.loop-start.start c.loop-start.slots (omega arith)) c.loop-start.invariant.read.fit
 
-pub returns-in_err-read_bytes-clause-taken : goal.returns-in_err-read_bytes-clause-taken
-returns-in_err-read_bytes-clause-taken g c =
+pub returns-in_err-read_bytes-clause-fails : goal.returns-in_err-read_bytes-clause-fails
+returns-in_err-read_bytes-clause-fails g c =
     let p = err_from_is_err_and c.from_residual.result c.from_residual.ensures.1 in
-    let read = c.loop-start.invariant.read in
-    let taken = read.taken in
     let count = c.min-count.result in
     let fits = block_within g.row.MOST count c.CAPACITY-width.result (omega arith) in
     let many = length-take-le (count * c.CAPACITY-width.result) c.loop-start.room (omega (arith, fits)) ∙ ap (λ width. count * width) (c.CAPACITY-width.ensures ∙ g.met.T.FixedWidth.sized) in
     let before = length-take-le c.loop-start.start c.loop-start.slots (omega arith) in
-    rw (p.1, p.2) (some-then _ _ _ taken.0 _ taken.2 (λ rest few. fails-behind-block g.T.FixedWidth.form.Spells g.T.FixedWidth.form.Fits _ count (length c.args.slots.now) _
-    (Some (taken.0 ++ rest)) (Some rest) 0 0 0 Ended (record { fit = read.fit; taken = (taken.0, taken.1, refl) }) (omega (arith, before)) (omega arith)
-    (fails-numbers g.T.FixedWidth.form.Spells g.T.FixedWidth.form.Fits (byte_len g.T.FixedWidth.form.width) _ g.T.FixedWidth.form.read count _ many (Some rest) 0 0 Ended (λ _. few) (refl, few.1))) c.in_err-read_bytes.ensures.taken)
+    rw (p.1, p.2) (fails-behind-block g.T.FixedWidth.form.Spells g.T.FixedWidth.form.Fits {T = Unit {0}} _ count (length c.args.slots.now) _ c.loop-start.invariant.read (omega (arith, before)) c.loop-start.invariant.grows
+    (fails-as (few-bytes g.T.FixedWidth.form.Spells g.T.FixedWidth.form.Fits (byte_len g.T.FixedWidth.form.width) _ g.T.FixedWidth.form.read count _ many) c.in_err-read_bytes.ensures.fails))
 
 pub whole_as_front-bytes : goal.whole_as_front-bytes
 whole_as_front-bytes g c = (block_within g.row.MOST c.min-count.result c.CAPACITY-width.result (omega arith), omega (arith, c.requires.few))

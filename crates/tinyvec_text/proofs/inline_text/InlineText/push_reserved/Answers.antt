@@ -13,14 +13,21 @@ invariant_of-self g c =
     text_stays g.row.N c.self.inside.list c.push_reserved.new.self _ c.push_reserved.ensures c.self.invariant
     (IsUtf8-append _ _ (text_utf8 c.self.inside.list c.self.invariant) ascii)
 
-pub returns-then-is_ascii-clause-text : goal.returns-then-is_ascii-clause-text
-returns-then-is_ascii-clause-text g c =
+pub returns-then-is_ascii-clause-becomes : goal.returns-then-is_ascii-clause-becomes
+returns-then-is_ascii-clause-becomes g c =
     let list = c.self.inside.list in
     let ascii = IsUtf8-from_ascii (c.args.ch ∷ []) (search rules) in
     let own : encode_utf8 c.args.ch ≡ c.args.ch ∷ [] = encode_ascii c.args.ch (search rules) in
-    ap chars c.push_reserved.ensures.items ∙ chars-append _ _ (text_utf8 list c.self.invariant)
-    ∙ ap (λ cs. chars (tiny_items list) ++ cs) (chars_of_one _ c.args.ch ascii (sym own)) ∙ ap (λ (t : Text). text_chars t ++ c.args.ch ∷ []) c.self.view_is
+    record {
+      bytes = search rules;
+      text = ap chars c.push_reserved.ensures.items ∙ chars-append _ _ (text_utf8 list c.self.invariant)
+          ∙ ap (λ cs. chars (tiny_items list) ++ cs) (chars_of_one _ c.args.ch ascii (sym own)) ∙ ap (λ (t : Text). text_chars t ++ c.args.ch ∷ []) c.self.view_is;
+      frame = search rules;
+    }
 
-pub returns-clause-text : goal.returns-clause-text
-returns-clause-text g c =
-    c.push_str_reserved.ensures.text ∙ ap (λ cs. text_chars c.args.self.now ++ cs) (chars_of_one _ c.args.ch c.encode_utf8.utf8 c.encode_utf8.ensures.value)
+pub returns-clause-becomes : goal.returns-clause-becomes
+returns-clause-becomes g c = record {
+  bytes = search rules;
+  text = c.push_str_reserved.ensures.text ∙ ap (λ cs. text_chars c.args.self.now ++ cs) (chars_of_one _ c.args.ch c.encode_utf8.utf8 c.encode_utf8.ensures.value);
+  frame = c.push_str_reserved.ensures.frame;
+}

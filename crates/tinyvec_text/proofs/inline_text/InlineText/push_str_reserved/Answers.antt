@@ -19,19 +19,18 @@ invariant_of-self g c =
     text_kept list c.extend_from_slice.new.self (λ i. (c.in-Ok.ensures.room.place.0 i).0) c.in-Ok.ensures.room.slot_rule c.self.invariant
     (subst IsUtf8 (sym joined) (IsUtf8-append _ _ (text_utf8 list c.self.invariant) c.utf8.string))
 
-pub returns-clause-text : goal.returns-clause-text
-returns-clause-text g c =
-    let list = c.self.inside.list in
-    let joined : tiny_items c.extend_from_slice.new.self ≡ tiny_items list ++ c.args.string.now = search rules in
-    ap chars joined ∙ chars-append _ _ (text_utf8 list c.self.invariant) ∙ ap (λ (t : Text). text_chars t ++ chars c.args.string.now) c.self.view_is
-
-pub returns-clause-frame : goal.returns-clause-frame
-returns-clause-frame g c =
+pub returns : goal.returns
+returns g c =
     let list = c.self.inside.list in
     let new = c.extend_from_slice.new.self in
+    let joined : tiny_items new ≡ tiny_items list ++ c.args.string.now = search rules in
     let enough : tiny_len list + length c.as_bytes.result.now ≤ tiny_capacity g.row.N list = search rules in
     record {
-      place = place_stays g.row.N _ (text_of list) (text_of new) enough c.in-Ok.ensures.room.place ∙ ap (λ (t : Text). lies_inline t.place) c.self.view_is;
-      room = search rules;
-      fits = search rules;
+      bytes = search rules;
+      text = ap chars joined ∙ chars-append _ _ (text_utf8 list c.self.invariant) ∙ ap (λ (t : Text). text_chars t ++ chars c.args.string.now) c.self.view_is;
+      frame = record {
+        place = place_stays g.row.N _ (text_of list) (text_of new) enough c.in-Ok.ensures.room.place ∙ ap (λ (t : Text). lies_inline t.place) c.self.view_is;
+        room = search rules;
+        fits = search rules;
+      };
     }

@@ -1,4 +1,4 @@
-use Rattle.std.proofs.Common.{◌++◌, ap, sym, ◌∙◌, chars, length, drop, length-take-le}
+use Rattle.std.proofs.Common.{◌++◌, ap, sym, ◌∙◌, chars, length, drop, length-take-le, rules}
 use Rattle.std.proofs.CharBoundary.{IsUtf8-take-drop}
 use Rattle.tinyvec.specs.TinyVec.{tiny_items}
 use Rattle.tinyvec_text.specs.InlineText.{text_chars}
@@ -13,15 +13,14 @@ invariant_of-self g c =
     let front = (IsUtf8-take-drop (tiny_items list) (text_utf8 list c.self.invariant) c.args.new_len cut).0 in
     text_stays g.row.N c.self.inside.list c.truncate.new.self _ c.truncate.ensures c.self.invariant front
 
-pub returns-clause-text : goal.returns-clause-text
-returns-clause-text g c =
+pub returns : goal.returns
+returns g c =
     let list = c.self.inside.list in
     let cut = text_cut list c.args.self.now c.self.view_is c.self.invariant c.args.new_len c.requires in
     let rest = chars (drop c.args.new_len (tiny_items list)) in
-    (rest, sym (ap text_chars c.self.view_is) ∙ chars_cut (tiny_items list) (text_utf8 list c.self.invariant) c.args.new_len cut ∙ ap (λ xs. chars xs ++ rest) (sym c.truncate.ensures.items))
-
-pub returns-clause-len : goal.returns-clause-len
-returns-clause-len g c =
-    let list = c.self.inside.list in
-    let cut = text_cut list c.args.self.now c.self.view_is c.self.invariant c.args.new_len c.requires in
-    ap length c.truncate.ensures.items ∙ length-take-le c.args.new_len (tiny_items list) cut.0
+    record {
+      bytes = search rules;
+      text = (rest, sym (ap text_chars c.self.view_is) ∙ chars_cut (tiny_items list) (text_utf8 list c.self.invariant) c.args.new_len cut ∙ ap (λ xs. chars xs ++ rest) (sym c.truncate.ensures.items));
+      len = ap length c.truncate.ensures.items ∙ length-take-le c.args.new_len (tiny_items list) cut.0;
+      frame = search rules;
+    }

@@ -1,41 +1,54 @@
-use Rattle.std.proofs.Common.{◌≡◌, ◌∙◌, ◌≤◌, ap, take, inl, arith, refl, rules, min, ◌+◌, ◌-◌, ◌∷◌, ◌++◌, [], map, length, length-append, append_assoc, Some}
+use Rattle.std.proofs.Common.{◌≡◌, ◌∙◌, ◌≤◌, ap, take, inl, arith, rules, min, ◌+◌, ◌-◌, ◌∷◌, ◌++◌, [], map, length, length-append}
 use Rattle.std.proofs.KnownBytes.{Consumes-trans}
 use Rattle.std.proofs.lemmas.List.{length-map}
 use Rattle.std.proofs.lemmas.Result.{err_from_is_err_and}
 use Rattle.tinyvec_slots.specs.Slots.{items}
-use Rattle.tinyvec_borsh.specs.declared.borsh_error.BorshError.TheVariants.{Ended, InvalidLength}
+use Rattle.tinyvec_borsh.specs.declared.borsh_error.BorshError.TheVariants.{InvalidLength}
 use Rattle.tinyvec_borsh.proofs.ItemByItem.{fails-block, fails-count, fails-item, maybe-so, read-all, read-block, read-first, read-more, rest-many, too-many}
-use Rattle.tinyvec_borsh.proofs.AtFaults.{length_is_other, some-all, some-so, some-then}
+use Rattle.tinyvec_borsh.proofs.AtFaults.{length_is_other, some-all}
 use Rattle.tinyvec_borsh.proofs.lists.array_vec.ArrayVecBorshDeserialize.deserialize_reader.Goals as goal
 
-pub returns-in_err-read_items-clause-err : goal.returns-in_err-read_items-clause-err
-returns-in_err-read_items-clause-err g c =
-    let p = err_from_is_err_and c.from_residual-in_err-read_items.result c.from_residual-in_err-read_items.ensures.1 in
-    rw (p.1, p.2) (fails-block g.A.Item.BorshForm.Spells g.A.Item.BorshForm.Fits g.A.Item.BorshDeserialize.Reason _ g.A.Array.CAPACITY
-    c.in_ok-count.count _ [] _ _ _ _ _ _ (read-first g.A.Item.BorshForm.Spells g.A.Item.BorshForm.Fits _ _ _ c.in_ok-count.ensures.ok) (search rules) (search rules) c.in_ok-count.ensures.faults_grow c.in_err-read_items.ensures.err)
+pub returns-in_err-count-clause-fails : goal.returns-in_err-count-clause-fails
+returns-in_err-count-clause-fails g c =
+    let p = err_from_is_err_and c.from_residual.result c.from_residual.ensures.1 in
+    rw (p.1, p.2) (fails-count g.A.Item.BorshForm.Spells g.A.Item.BorshForm.Fits g.A.Item.BorshDeserialize.Reason (λ _. ⊥) g.A.Array.CAPACITY c.in_err-count.ensures.fails)
 
-pub returns-in_err-deserialize_reader-clause-err : goal.returns-in_err-deserialize_reader-clause-err
-returns-in_err-deserialize_reader-clause-err g c =
+pub returns-in_err-read_items-clause-fails : goal.returns-in_err-read_items-clause-fails
+returns-in_err-read_items-clause-fails g c =
+    let p = err_from_is_err_and c.from_residual-in_err-read_items.result c.from_residual-in_err-read_items.ensures.1 in
+    let below : c.min-len.result ≤ c.in_ok-count.count = search rules in
+    let fits : c.min-len.result ≤ g.A.Array.CAPACITY = search rules in
+    rw (p.1, p.2) (fails-block g.A.Item.BorshForm.Spells g.A.Item.BorshForm.Fits g.A.Item.BorshDeserialize.Reason (λ _. ⊥) g.A.Array.CAPACITY
+    c.in_ok-count.count [] (read-first g.A.Item.BorshForm.Spells g.A.Item.BorshForm.Fits _ _ _ c.in_ok-count.ensures.ok) (c.min-len.result - 0)
+    (omega (arith, below)) (omega (arith, fits)) c.in_ok-count.ensures.fails.grows c.in_err-read_items.ensures.fails)
+
+pub returns-in_err-deserialize_reader-clause-fails : goal.returns-in_err-deserialize_reader-clause-fails
+returns-in_err-deserialize_reader-clause-fails g c =
     let p = err_from_is_err_and c.from_residual-in_err-deserialize_reader.result c.from_residual-in_err-deserialize_reader.ensures.1 in
     let t = c.in_ok-read_items.ensures.ok in
     let long = length-map t.0 g.A.Item.BorshForm.content_of in
     let full : length t.0 ≡ min c.in_ok-count.count g.A.Array.CAPACITY = search rules in
     let above : min c.in_ok-count.count g.A.Array.CAPACITY + 1 ≤ c.in_ok-count.count = search rules in
-    rw (p.1, p.2) (fails-item g.A.Item.BorshForm.Spells g.A.Item.BorshForm.Fits g.A.Item.BorshDeserialize.Reason _ g.A.Array.CAPACITY
-    _ _ _ _ _ _ _ _ (read-block g.A.Item.BorshForm.Spells g.A.Item.BorshForm.Fits _ [] _ _ _ _ (read-first g.A.Item.BorshForm.Spells g.A.Item.BorshForm.Fits _ _ _ c.in_ok-count.ensures.ok) t.4 t.3)
-    (omega (arith, long, full, above)) (omega (arith, long, full, above)) (search rules) c.in_err-deserialize_reader.ensures.err)
+    rw (p.1, p.2) (fails-item g.A.Item.BorshForm.Spells g.A.Item.BorshForm.Fits g.A.Item.BorshDeserialize.Reason (λ _. ⊥) g.A.Array.CAPACITY
+    _ _ (read-block g.A.Item.BorshForm.Spells g.A.Item.BorshForm.Fits _ [] _ _ _ _ (read-first g.A.Item.BorshForm.Spells g.A.Item.BorshForm.Fits _ _ _ c.in_ok-count.ensures.ok) t.4 t.3)
+    (omega (arith, long, full, above)) (omega (arith, long, full, above)) (search rules) c.in_err-deserialize_reader.ensures.fails)
 
-pub returns-then-len-count-clause-err : goal.returns-then-len-count-clause-err
-returns-then-len-count-clause-err g c =
+pub returns-then-len-count-clause-fails : goal.returns-then-len-count-clause-fails
+returns-then-len-count-clause-fails g c =
+    let count = c.in_ok-count.ensures.ok in
     let t = c.in_ok-read_items.ensures.ok in
+    let last = c.in_ok-deserialize_reader.ensures in
     let long = length-map t.0 g.A.Item.BorshForm.content_of in
     let full : length t.0 ≡ min c.in_ok-count.count g.A.Array.CAPACITY = search rules in
     let above : min c.in_ok-count.count g.A.Array.CAPACITY + 1 ≤ c.in_ok-count.count = search rules in
     let one_more = length-append (map g.A.Item.BorshForm.content_of t.0) (g.A.Item.BorshForm.content_of c.in_ok-deserialize_reader.field-0 ∷ []) in
-    maybe-so _ _ _ (λ input many. inl many) (too-many g.A.Item.BorshForm.Spells g.A.Item.BorshForm.Fits g.A.Array.CAPACITY _ _ _ _
-    (read-more g.A.Item.BorshForm.Spells g.A.Item.BorshForm.Fits _ _ _ _ _ _ (read-block g.A.Item.BorshForm.Spells g.A.Item.BorshForm.Fits _ [] _ _ _ _ (read-first g.A.Item.BorshForm.Spells g.A.Item.BorshForm.Fits _ _ _ c.in_ok-count.ensures.ok) t.4 t.3)
-    c.in_ok-deserialize_reader.ensures.ok c.in_ok-deserialize_reader.ensures.fits)
-    (omega (arith, one_more, long, full, above)) (omega (arith, above)))
+    record {
+      err = maybe-so _ _ _ (λ input many. inl many) (too-many g.A.Item.BorshForm.Spells g.A.Item.BorshForm.Fits g.A.Array.CAPACITY _ _ _ _
+          (read-more g.A.Item.BorshForm.Spells g.A.Item.BorshForm.Fits _ _ _ _ _ _ (read-block g.A.Item.BorshForm.Spells g.A.Item.BorshForm.Fits _ [] _ _ _ _ (read-first g.A.Item.BorshForm.Spells g.A.Item.BorshForm.Fits _ _ _ count) t.4 t.3)
+          last.ok last.fits) (omega (arith, one_more, long, full, above)) (omega (arith, above)));
+      taken = some-all _ _ _ _ length_is_other (Consumes-trans _ _ _ count.0 (t.4.0 ++ last.ok.0) count.2 (Consumes-trans _ _ _ t.4.0 last.ok.0 t.4.2 last.ok.2));
+      grows = omega arith;
+    }
 
 pub returns-then-len-count-clause-rest : goal.returns-then-len-count-clause-rest
 returns-then-len-count-clause-rest g c =
@@ -66,43 +79,3 @@ returns-clause-fits g c =
     let long = length-map t.0 g.A.Item.BorshForm.content_of in
     let full : length t.0 ≡ min c.in_ok-count.count g.A.Array.CAPACITY = search rules in
     rw same (record { few = omega (arith, long, full); counted = omega (arith, long, full, c.in_ok-count.ensures.fits); items = t.3 })
-
-pub returns-in_err-count-clause-err : goal.returns-in_err-count-clause-err
-returns-in_err-count-clause-err g c =
-    let p = err_from_is_err_and c.from_residual.result c.from_residual.ensures.1 in
-    rw (p.1, p.2) (fails-count g.A.Item.BorshForm.Spells g.A.Item.BorshForm.Fits g.A.Item.BorshDeserialize.Reason (λ _. ⊥) g.A.Array.CAPACITY _ _ _ _ c.in_err-count.ensures.err)
-
-pub returns-in_err-count-clause-taken : goal.returns-in_err-count-clause-taken
-returns-in_err-count-clause-taken g c =
-    let p = err_from_is_err_and c.from_residual.result c.from_residual.ensures.1 in
-    rw (p.1, p.2) (some-so _ _ _ (λ bytes few. inl few.1) c.in_err-count.ensures.taken)
-
-pub returns-in_err-read_items-clause-taken : goal.returns-in_err-read_items-clause-taken
-returns-in_err-read_items-clause-taken g c =
-    let p = err_from_is_err_and c.from_residual-in_err-read_items.result c.from_residual-in_err-read_items.ensures.1 in
-    let count = c.in_ok-count.ensures.ok in
-    let below : c.min-len.result ≤ c.in_ok-count.count = search rules in
-    let fits : c.min-len.result ≤ g.A.Array.CAPACITY = search rules in
-    rw (p.1, p.2) (some-then _ _ _ count.0 _ count.2 (λ rest cut. fails-block g.A.Item.BorshForm.Spells g.A.Item.BorshForm.Fits g.A.Item.BorshDeserialize.Reason (λ _. ⊥) g.A.Array.CAPACITY
-    c.in_ok-count.count (c.min-len.result - 0) [] (Some (count.0 ++ rest)) (Some rest) 0 0 0 Ended (read-first g.A.Item.BorshForm.Spells g.A.Item.BorshForm.Fits _ _ _ (count.0, count.1, refl)) (omega (arith, below)) (omega (arith, fits)) (omega arith) cut) c.in_err-read_items.ensures.taken)
-
-pub returns-in_err-deserialize_reader-clause-taken : goal.returns-in_err-deserialize_reader-clause-taken
-returns-in_err-deserialize_reader-clause-taken g c =
-    let p = err_from_is_err_and c.from_residual-in_err-deserialize_reader.result c.from_residual-in_err-deserialize_reader.ensures.1 in
-    let count = c.in_ok-count.ensures.ok in
-    let t = c.in_ok-read_items.ensures.ok in
-    let items = t.4 in
-    let long = length-map t.0 g.A.Item.BorshForm.content_of in
-    let full : length t.0 ≡ min c.in_ok-count.count g.A.Array.CAPACITY = search rules in
-    let above : min c.in_ok-count.count g.A.Array.CAPACITY + 1 ≤ c.in_ok-count.count = search rules in
-    rw (p.1, p.2) (some-then _ _ _ (count.0 ++ items.0) _ (Consumes-trans _ _ _ count.0 items.0 count.2 items.2) (λ rest cut. fails-item g.A.Item.BorshForm.Spells g.A.Item.BorshForm.Fits g.A.Item.BorshDeserialize.Reason (λ _. ⊥) g.A.Array.CAPACITY
-    c.in_ok-count.count (map g.A.Item.BorshForm.content_of t.0) (Some ((count.0 ++ items.0) ++ rest)) (Some rest) 0 0 0 Ended
-    (read-block g.A.Item.BorshForm.Spells g.A.Item.BorshForm.Fits _ [] _ _ (Some (items.0 ++ rest)) _ (read-first g.A.Item.BorshForm.Spells g.A.Item.BorshForm.Fits _ _ _ (count.0, count.1, append_assoc count.0 items.0 rest)) (items.0, items.1, refl) t.3)
-    (omega (arith, long, full, above)) (omega (arith, long, full, above)) (omega arith) cut) c.in_err-deserialize_reader.ensures.taken)
-
-pub returns-then-len-count-clause-taken : goal.returns-then-len-count-clause-taken
-returns-then-len-count-clause-taken g c =
-    let count = c.in_ok-count.ensures.ok in
-    let items = c.in_ok-read_items.ensures.ok.4 in
-    let last = c.in_ok-deserialize_reader.ensures.ok in
-    some-all _ _ _ _ length_is_other (Consumes-trans _ _ _ count.0 (items.0 ++ last.0) count.2 (Consumes-trans _ _ _ items.0 last.0 items.2 last.2))

@@ -4,13 +4,10 @@ use Rattle.tinyvec_slots.specs.Slots.{items}
 use Rattle.tinyvec_borsh.proofs.Outcomes.{on-ok}
 use Rattle.tinyvec_borsh.proofs.lists.array_vec.ArrayVecBorshSerialize.serialize.Goals as goal
 
-pub returns-clause-ok : goal.returns-clause-ok
-returns-clause-ok g c = rw c.as_slice.ensures at c.write_list.ensures.ok
+pub returns-clause-writes : goal.returns-clause-writes
+returns-clause-writes g c = rw c.as_slice.ensures at c.write_list.ensures.writes
 
 pub returns-clause-fits : goal.returns-clause-fits
 returns-clause-fits g c =
     let long = length-map (items c.args.self.now) g.A.Item.BorshForm.content_of in
     on-ok c.write_list.result (λ fit. record { few = omega (arith, long, c.len.ensures.value, c.len.ensures.fits); counted = omega (arith, long, c.len.ensures.value, c.len.type_inv); items = fit }) (rw c.as_slice.ensures at c.write_list.ensures.fit)
-
-pub returns-clause-front : goal.returns-clause-front
-returns-clause-front g c = rw c.as_slice.ensures at c.write_list.ensures.front

@@ -5,24 +5,20 @@ use Rattle.tinyvec.specs.TinyVec.{tiny_items}
 use Rattle.tinyvec_text.specs.InlineText.{Text}
 use Rattle.tinyvec_borsh.specs.Reading.{ReadsSpelling}
 use Rattle.tinyvec_borsh.specs.Text.{AreBytes, SpellsText}
-use Rattle.tinyvec_borsh.proofs.AtFaults.{some-all, some-so, utf8_is_other}
-use Rattle.tinyvec_borsh.proofs.Texts.{bytes-other, no-text, text-fails}
+use Rattle.tinyvec_borsh.proofs.AtFaults.{some-all, utf8_is_other}
+use Rattle.tinyvec_borsh.proofs.ItemByItem.{fails-as}
+use Rattle.tinyvec_borsh.proofs.Texts.{bytes-other, no-text, text-reason}
 use Rattle.tinyvec_borsh.proofs.lists.inline_text.InlineTextBorshDeserialize.deserialize_reader.Goals as goal
 
-pub returns-in_err-bytes-clause-err : goal.returns-in_err-bytes-clause-err
-returns-in_err-bytes-clause-err g c =
+pub returns-in_err-bytes-clause-fails : goal.returns-in_err-bytes-clause-fails
+returns-in_err-bytes-clause-fails g c =
     let p = err_from_is_err_and c.from_residual.result c.from_residual.ensures.1 in
-    rw (p.1, p.2) (text-fails g.row.N _ _ _ _ c.in_err-bytes.ensures.err)
-
-pub returns-in_err-bytes-clause-taken : goal.returns-in_err-bytes-clause-taken
-returns-in_err-bytes-clause-taken g c =
-    let p = err_from_is_err_and c.from_residual.result c.from_residual.ensures.1 in
-    rw (p.1, p.2) (some-so _ _ _ (λ bytes cut. cut) c.in_err-bytes.ensures.taken)
+    rw (p.1, p.2) (fails-as (text-reason g.row.N) c.in_err-bytes.ensures.fails)
 
 pub returns-in_err-bytes-clause-rest : goal.returns-in_err-bytes-clause-rest
 returns-in_err-bytes-clause-rest g c =
     let p = err_from_is_err_and c.from_residual.result c.from_residual.ensures.1 in
-    rw (p.1, p.2) (λ is. absurd (bytes-other g.row.N _ _ _ _ c.in_err-bytes.ensures.err is))
+    rw (p.1, p.2) (λ is. absurd (bytes-other g.row.N _ _ _ _ c.in_err-bytes.ensures.fails.err is))
 
 pub returns-in-Some-clause-ok : goal.returns-in-Some-clause-ok
 returns-in-Some-clause-ok g c =
@@ -34,15 +30,15 @@ returns-in-Some-clause-fits g c = (
   subst IsUtf8 (sym (ap (λ (t : Text). t.bytes) c.in-Some.ensures.value)) (c.in-Some.ensures.variant.0 refl),
 )
 
-pub returns-in-None-clause-err : goal.returns-in-None-clause-err
-returns-in-None-clause-err g c =
+pub returns-in-None-clause-fails : goal.returns-in-None-clause-fails
+returns-in-None-clause-fails g c =
+    let read = c.in_ok-bytes.ensures in
     let bytes = map-id (tiny_items c.in_ok-bytes.bytes) in
-    no-text (tiny_items c.in_ok-bytes.bytes) _ _ (subst AreBytes bytes c.in_ok-bytes.ensures.fits, λ utf8. let is = c.in-None.ensures.variant.1 utf8 in cc) (subst (λ xs. ReadsSpelling (SpellsText xs) (g.R.Read.remaining c.args.reader.now.inner) (g.R.Read.remaining c.deserialize_reader.new.reader.inner)) bytes c.in_ok-bytes.ensures.ok)
-
-pub returns-in-None-clause-taken : goal.returns-in-None-clause-taken
-returns-in-None-clause-taken g c =
-    let taken = c.in_ok-bytes.ensures.ok in
-    some-all _ _ taken.0 _ utf8_is_other taken.2
+    record {
+      err = no-text (tiny_items c.in_ok-bytes.bytes) _ _ (subst AreBytes bytes read.fits, λ utf8. let is = c.in-None.ensures.variant.1 utf8 in cc) (subst (λ xs. ReadsSpelling (SpellsText xs) (g.R.Read.remaining c.args.reader.now.inner) (g.R.Read.remaining c.deserialize_reader.new.reader.inner)) bytes read.ok);
+      taken = some-all _ _ read.ok.0 _ utf8_is_other read.ok.2;
+      grows = read.fails.grows;
+    }
 
 pub returns-in-None-clause-rest : goal.returns-in-None-clause-rest
 returns-in-None-clause-rest g c =

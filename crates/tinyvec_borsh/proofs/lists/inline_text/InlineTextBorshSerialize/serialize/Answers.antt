@@ -3,8 +3,8 @@ use Rattle.std.proofs.lemmas.List.{map-id}
 use Rattle.tinyvec_borsh.proofs.Outcomes.{on-ok}
 use Rattle.tinyvec_borsh.proofs.lists.inline_text.InlineTextBorshSerialize.serialize.Goals as goal
 
-pub returns-clause-ok : goal.returns-clause-ok
-returns-clause-ok g c = rw (map-id c.as_bytes.result.now, c.as_bytes.ensures.value) at c.write_list.ensures.ok
+pub returns-clause-writes : goal.returns-clause-writes
+returns-clause-writes g c = rw (map-id c.as_bytes.result.now, c.as_bytes.ensures.value) at c.write_list.ensures.writes
 
 pub returns-clause-fits : goal.returns-clause-fits
 returns-clause-fits g c =
@@ -12,6 +12,3 @@ returns-clause-fits g c =
       record { few = omega (arith, c.len.ensures.value, c.len.type_inv); counted = omega (arith, c.len.ensures.value, c.len.type_inv); items = fit },
       subst IsUtf8 c.as_bytes.ensures.value c.as_bytes.ensures.utf8,
     )) (rw (map-id c.as_bytes.result.now, c.as_bytes.ensures.value) at c.write_list.ensures.fit)
-
-pub returns-clause-front : goal.returns-clause-front
-returns-clause-front g c = rw (map-id c.as_bytes.result.now, c.as_bytes.ensures.value) at c.write_list.ensures.front

@@ -4,7 +4,7 @@ use Rattle.std.specs.List.{AllByRecursion}
 use Rattle.tinyvec_borsh.specs.Items.{SpellsItems}
 use Rattle.tinyvec_borsh.proofs.NumberBlocks.{fit-block, until-end, wrote-block}
 use Rattle.std.proofs.lemmas.Result.{err_from_is_err_and}
-use Rattle.tinyvec_borsh.proofs.AtFaults.{front-next-block, parts_around}
+use Rattle.tinyvec_borsh.proofs.AtFaults.{fault-since, front-next-block, parts_around}
 use Rattle.tinyvec_borsh.proofs.numbers.number.Number.write_all.Goals as goal
 
 pub loop-start-preserved : goal.loop-start-preserved
@@ -22,21 +22,32 @@ loop-start-preserved g c =
       grows = omega arith;
     }
 
-pub returns-clause-ok : goal.returns-clause-ok
-returns-clause-ok g c =
+pub returns-clause-writes : goal.returns-clause-writes
+returns-clause-writes g c =
     let wrote = c.loop-start.invariant.wrote in
     let all = take_all c.loop-start.start c.args.items.now (omega arith) in
-    (wrote.bytes, subst (λ xs. SpellsItems g.Self.FixedWidth.form.Spells xs wrote.bytes) all wrote.spelled, wrote.appended)
+    record {
+      ok = (wrote.bytes, subst (λ xs. SpellsItems g.Self.FixedWidth.form.Spells xs wrote.bytes) all wrote.spelled, wrote.appended);
+      err = tt;
+      front = tt;
+      grows = c.loop-start.invariant.grows;
+    }
 
 pub returns-clause-fits : goal.returns-clause-fits
 returns-clause-fits g c = subst (AllByRecursion g.Self.FixedWidth.form.Fits) (take_all c.loop-start.start c.args.items.now (omega arith)) c.loop-start.invariant.fit
 
-pub returns-in_err-write_bytes-clause-front : goal.returns-in_err-write_bytes-clause-front
-returns-in_err-write_bytes-clause-front g c =
+pub returns-in_err-write_bytes-clause-writes : goal.returns-in_err-write_bytes-clause-writes
+returns-in_err-write_bytes-clause-writes g c =
     let p = err_from_is_err_and c.from_residual.result c.from_residual.ensures.1 in
     let start = c.loop-start.start in
     let count = c.min-count.result in
     let some = length-drop start c.args.items.now in
     let many = length-take-le (start + count - start) (drop start c.args.items.now) (omega (arith, some)) in
-    rw p.1 (front-next-block g.Self.FixedWidth.form.Spells g.Self.FixedWidth.form.code g.Self.Bytes.Array.CAPACITY count (take start c.args.items.now) (take (start + count - start) (drop start c.args.items.now)) _ c.args.items.now _ c.encode.new.room _ _ _
-    (parts_around c.args.items.now start (start + count - start)) (ap (λ m. take (count * m) c.encode.new.room) c.CAPACITY-width.ensures) (omega (arith, many)) c.loop-start.invariant.wrote c.encode.ensures.spelled c.in_err-write_bytes.ensures.front)
+    let failed = c.in_err-write_bytes.ensures in
+    rw (p.1, p.2) (record {
+      ok = tt;
+      err = fault-since c.loop-start.invariant.grows failed.err;
+      front = front-next-block g.Self.FixedWidth.form.Spells g.Self.FixedWidth.form.code g.Self.Bytes.Array.CAPACITY count (take start c.args.items.now) (take (start + count - start) (drop start c.args.items.now)) _ c.args.items.now _ c.encode.new.room _ _ _
+          (parts_around c.args.items.now start (start + count - start)) (ap (λ m. take (count * m) c.encode.new.room) c.CAPACITY-width.ensures) (omega (arith, many)) c.loop-start.invariant.wrote c.encode.ensures.spelled failed.front;
+      grows = omega arith;
+    })

@@ -1,11 +1,10 @@
-use Rattle.std.proofs.Common.{◌^◌, ◌<◌, arith, length, refl, Some}
+use Rattle.std.proofs.Common.{◌^◌, ◌<◌, arith, length}
 use Rattle.std.specs.Int.{w8}
 use Rattle.tinyvec_borsh.specs.Number.{SpellsNumber}
 use Rattle.tinyvec_borsh.specs.NumberLaws.{unsigned}
-use Rattle.tinyvec_borsh.specs.declared.borsh_error.BorshError.TheVariants.{Ended}
-use Rattle.tinyvec_borsh.proofs.AtFaults.{some-so}
-use Rattle.tinyvec_borsh.proofs.NumberBlocks.{fails-numbers, spells-bytes}
-use Rattle.tinyvec_borsh.proofs.Outcomes.{err-both, err-so, on-both}
+use Rattle.tinyvec_borsh.proofs.ItemByItem.{fails-like}
+use Rattle.tinyvec_borsh.proofs.NumberBlocks.{few-bytes, spells-bytes}
+use Rattle.tinyvec_borsh.proofs.Outcomes.{on-both}
 use Rattle.tinyvec_borsh.proofs.numbers.widths.U8Number.read_all.Goals as goal
 
 pub returns-clause-ok : goal.returns-clause-ok
@@ -14,12 +13,7 @@ returns-clause-ok g c = on-both c.read_bytes.result (λ small taken. (c.read_byt
 pub returns-clause-fits : goal.returns-clause-fits
 returns-clause-fits g c = c.read_bytes.ensures.small
 
-pub returns-clause-err : goal.returns-clause-err
-returns-clause-err g c =
+pub returns-clause-fails : goal.returns-clause-fails
+returns-clause-fails g c =
     let many = length c.args.slots.now in
-    err-both c.read_bytes.result (fails-numbers (SpellsNumber 1) (λ n. n < 2 ^ 8) 1 _ (unsigned w8).read many many (omega arith) _ _ _) c.read_bytes.ensures.ended c.read_bytes.ensures.err
-
-pub returns-clause-taken : goal.returns-clause-taken
-returns-clause-taken g c =
-    let many = length c.args.slots.now in
-    err-so c.read_bytes.result (λ e. some-so _ _ e (λ bytes few. fails-numbers (SpellsNumber 1) (λ n. n < 2 ^ 8) 1 _ (unsigned w8).read many many (omega arith) (Some bytes) 0 0 Ended (λ _. few) (refl, few.1))) c.read_bytes.ensures.taken
+    fails-like c.read_bytes.result (few-bytes (SpellsNumber 1) (λ n. n < 2 ^ 8) 1 _ (unsigned w8).read many many (omega arith)) c.read_bytes.ensures.fails

@@ -9,16 +9,17 @@ use Rattle.tinyvec_borsh.specs.NumberLaws.{unsigned}
 use Rattle.tinyvec_borsh.proofs.AtFaults.{on-err}
 use Rattle.tinyvec_borsh.proofs.numbers.widths.U8Number.write_all.Goals as goal
 
-pub returns-clause-ok : goal.returns-clause-ok
-returns-clause-ok g c =
-    let small = small_bytes c.args.items.now (λ i. omega (arith, c.type_inv.items i)) in
-    on-ok c.write_bytes.result (λ h. (c.args.items.now, spells-bytes c.args.items.now small, h)) c.write_bytes.ensures.ok
+pub returns-clause-writes : goal.returns-clause-writes
+returns-clause-writes g c =
+    let items = c.args.items.now in
+    let spelled = spells-bytes items (small_bytes items (λ i. omega (arith, c.type_inv.items i))) in
+    let told = c.write_bytes.ensures in
+    record {
+      ok = on-ok c.write_bytes.result (λ h. (items, spelled, h)) told.ok;
+      err = told.err;
+      front = on-err c.write_bytes.result (λ h bytes p. subst (AppendsFront _ _) (one-items (unsigned w8).Spells (unsigned w8).code items items bytes spelled p) h) told.front;
+      grows = told.faults_grow;
+    }
 
 pub returns-clause-fits : goal.returns-clause-fits
 returns-clause-fits g c = on-ok c.write_bytes.result (λ _. small_bytes c.args.items.now (λ i. omega (arith, c.type_inv.items i))) c.write_bytes.ensures.ok
-
-pub returns-clause-front : goal.returns-clause-front
-returns-clause-front g c =
-    let items = c.args.items.now in
-    let small = small_bytes items (λ i. omega (arith, c.type_inv.items i)) in
-    on-err c.write_bytes.result (λ h bytes p. subst (AppendsFront _ _) (one-items (unsigned w8).Spells (unsigned w8).code items items bytes (spells-bytes items small) p) h) c.write_bytes.ensures.front
