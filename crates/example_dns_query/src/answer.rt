@@ -1,5 +1,5 @@
 //! The answer to a line.
-ghost use Rattle.std.specs.Prelude.{◌≡◌, ◌<◌, ◌∷◌, [], IfOk, encode_utf8, string_bytes};
+ghost use Rattle.std.specs.Prelude.{◌≡◌, ◌<◌, ◌++◌, ◌∷◌, [], IfOk, string_bytes};
 ghost use Rattle.example_dns_query.specs.Answer.{digit_of, hex_of};
 
 use crate::line::answer_line;
@@ -18,36 +18,33 @@ impl Answer for Encoder {
     fn answer(&mut self, alloc: Global, line: &[u8]) -> Result<String, AllocError> {
         let mut slice = [0; 512];
         match answer_line(&mut slice, line) {
-            Ok(len) => {
-                let mut text = hex_text(alloc, &slice[..len])?;
-                text.push('\n')?;
-                Ok(text)
-            }
+            Ok(len) => hex_line(alloc, &slice[..len]),
             Err(error) => format!(in alloc; "error: {error}\n"),
         }
     }
 }
 
-// Two digits for each byte, with room for a line feed.
-fn hex_text(alloc: Global, bytes: &[u8]) -> Result<String, AllocError>
-    ensures { IfOk result (λ text. string_bytes text ≡ hex_of bytes.now) }
+// Two digits for each byte, and a line feed.
+fn hex_line(alloc: Global, bytes: &[u8]) -> Result<String, AllocError>
+    ensures { IfOk result (λ text. string_bytes text ≡ hex_of bytes.now ++ 10 ∷ []) }
 {
-    let mut text = String::with_capacity(alloc, 2 * bytes.len() + 1)?;
+    let mut text = Vec::with_capacity(alloc, 2 * bytes.len() + 1)?;
     for byte in bytes {
-        text.push(hex_digit(*byte / 16))?;
-        text.push(hex_digit(*byte % 16))?;
+        text.push_reserved(hex_digit(*byte / 16));
+        text.push_reserved(hex_digit(*byte % 16));
     }
-    Ok(text)
+    text.push_reserved(b'\n');
+    Ok(String::from_utf8(text).unwrap())
 }
 
 // The hexadecimal digit of a number below 16.
-fn hex_digit(number: u8) -> char
+fn hex_digit(number: u8) -> u8
     requires { number < 16 }
-    ensures { encode_utf8 result ≡ digit_of number ∷ [] }
+    ensures { result ≡ digit_of number }
 {
     if number < 10 {
-        char::from(b'0' + number)
+        b'0' + number
     } else {
-        char::from(b'a' - 10 + number)
+        b'a' - 10 + number
     }
 }

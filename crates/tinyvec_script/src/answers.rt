@@ -146,8 +146,36 @@ fn write_number<W: Write>(gathered: &mut Gathered, writer: &mut Counted<W>, numb
     write_decimal(gathered, writer, number.unsigned_abs());
 }
 
-// Writes the digits of the number: the last two or four at once, after the others.
+// Writes the digits of the number, four at once after the first ones.
 fn write_decimal<W: Write>(gathered: &mut Gathered, writer: &mut Counted<W>, number: u32)
+    ensures { Gathers W.contents writer.old gathered.old writer.new gathered.new (decimal number) }
+{
+    if number < 10000 {
+        write_up_to_four(gathered, writer, number);
+        return;
+    }
+    write_up_to_eight(gathered, writer, number / 10000);
+    write_four(gathered, writer, number % 10000);
+}
+
+// Writes the digits of a number that has at most eight.
+#[inline(always)]
+fn write_up_to_eight<W: Write>(gathered: &mut Gathered, writer: &mut Counted<W>, number: u32)
+    requires { number < 100000000 }
+    ensures { Gathers W.contents writer.old gathered.old writer.new gathered.new (decimal number) }
+{
+    if number < 10000 {
+        write_up_to_four(gathered, writer, number);
+        return;
+    }
+    write_up_to_four(gathered, writer, number / 10000);
+    write_four(gathered, writer, number % 10000);
+}
+
+// Writes the digits of a number that has at most four.
+#[inline(always)]
+fn write_up_to_four<W: Write>(gathered: &mut Gathered, writer: &mut Counted<W>, number: u32)
+    requires { number < 10000 }
     ensures { Gathers W.contents writer.old gathered.old writer.new gathered.new (decimal number) }
 {
     if number < 10 {
@@ -158,13 +186,12 @@ fn write_decimal<W: Write>(gathered: &mut Gathered, writer: &mut Counted<W>, num
         write_pair(gathered, writer, number);
         return;
     }
-    if number < 10000 {
-        write_decimal(gathered, writer, number / 100);
+    if number < 1000 {
+        gathered.put(writer, &[b'0' + (number / 100) as u8]);
         write_pair(gathered, writer, number % 100);
         return;
     }
-    write_decimal(gathered, writer, number / 10000);
-    write_four(gathered, writer, number % 10000);
+    write_four(gathered, writer, number);
 }
 
 // Writes two digits.

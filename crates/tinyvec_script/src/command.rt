@@ -1,5 +1,5 @@
 //! The command that a line spells.
-ghost use Rattle.std.specs.Prelude.{◌≡◌, ◌≢◌, ◌<◌, ◌≤◌, ◌^◌, ◌++◌, ◌∷◌, List, ℕ, ℤ, length, codes, IfSome, IfNone, All};
+ghost use Rattle.std.specs.Prelude.{◌≡◌, ◌≢◌, ◌<◌, ◌≤◌, ◌^◌, ◌++◌, ◌∷◌, List, ℕ, ℤ, length, codes, MatchOption, IfSome, IfNone, All};
 ghost use Rattle.std.specs.Fmt.{decimal};
 ghost use Rattle.tinyvec_script.specs.Command.{IsCall, IsNoSplice, Has, HasSplice};
 ghost use Rattle.tinyvec_script.specs.Spelled.{Spells, SpellsFor};
@@ -107,9 +107,8 @@ fn parse_splice_call(alloc: Global, name: Name, rest: &[u8]) -> Command<'_>
 
 // The call of `A` or `S` that the text after the vector's name spells, unless it is a splice.
 fn parse_slots_call(text: &[u8]) -> Option<Call<i32>>
-    ensures some { IfSome result (IsCall text.now) }
-    ensures has { IfSome result (Has S) }
-    ensures none { IfNone result ((call : Call ℤ) → Has S call → IsCall text.now call → ⊥) }
+    ensures { MatchOption result ((call : Call ℤ) → Has S call → IsCall text.now call → ⊥)
+        (λ call. IsCall text.now call × Has S call) }
 {
     if let Some(index) = text.strip_prefix(b"setlen ") {
         return Some(Call::SetLen(parse_index(index)?));
@@ -119,9 +118,8 @@ fn parse_slots_call(text: &[u8]) -> Option<Call<i32>>
 
 // The call of `T` that the text after the vector's name spells, unless it is a splice.
 fn parse_tiny_call(text: &[u8]) -> Option<Call<i32>>
-    ensures some { IfSome result (IsCall text.now) }
-    ensures has { IfSome result (Has T) }
-    ensures none { IfNone result ((call : Call ℤ) → Has T call → IsNoSplice call → IsCall text.now call → ⊥) }
+    ensures { MatchOption result ((call : Call ℤ) → Has T call → IsNoSplice call → IsCall text.now call → ⊥)
+        (λ call. IsCall text.now call × Has T call) }
 {
     if text == b"heap".as_slice() {
         return Some(Call::Heap);
@@ -137,9 +135,8 @@ fn parse_tiny_call(text: &[u8]) -> Option<Call<i32>>
 
 // The call that the text spells after the name of any vector.
 fn parse_call(text: &[u8]) -> Option<Call<i32>>
-    ensures some { IfSome result (IsCall text.now) }
-    ensures has { IfSome result (λ call. Has S call × Has T call) }
-    ensures none { IfNone result ((call : Call ℤ) → Has S call → Has T call → IsCall text.now call → ⊥) }
+    ensures { MatchOption result ((call : Call ℤ) → Has S call → Has T call → IsCall text.now call → ⊥)
+        (λ call. IsCall text.now call × Has S call × Has T call) }
 {
     if text == b"pop".as_slice() {
         return Some(Call::Pop);
@@ -166,8 +163,8 @@ fn parse_call(text: &[u8]) -> Option<Call<i32>>
 
 // The index that the text begins with, before a blank, and the text after that.
 pub(crate) fn parse_first_index(text: &[u8]) -> Option<(usize, &[u8])>
-    ensures some { IfSome result (λ parts. text.now ≡ decimal parts.0 ++ 32 ∷ parts.1.now) }
-    ensures none { IfNone result ((index : ℕ) (rest : List ℕ) → index < 2 ^ 64 → text.now ≢ decimal index ++ 32 ∷ rest) }
+    ensures { MatchOption result ((index : ℕ) (rest : List ℕ) → index < 2 ^ 64 → text.now ≢ decimal index ++ 32 ∷ rest)
+        (λ parts. text.now ≡ decimal parts.0 ++ 32 ∷ parts.1.now) }
 {
     let (index, rest) = split_at_byte(text, b' ')?;
     Some((parse_index(index)?, rest))

@@ -1,13 +1,13 @@
 //! Numbers, read in the one form that they are printed in.
-ghost use Rattle.std.specs.Prelude.{◌≡◌, ◌≢◌, ◌<◌, ◌≤◌, ◌^◌, ℕ, ℤ, IfSome, IfNone, FitsSigned};
+ghost use Rattle.std.specs.Prelude.{◌≡◌, ◌≢◌, ◌<◌, ◌≤◌, ◌^◌, ℕ, ℤ, MatchOption, FitsSigned};
 ghost use Rattle.std.specs.Int.{w32};
 ghost use Rattle.std.specs.Fmt.{decimal, signed_decimal};
 ghost use Rattle.std.specs.Str.Parse.{AllDigits, digits_value};
 
 // The number that the bytes spell.
 pub(crate) fn parse_number(bytes: &[u8]) -> Option<i32>
-    ensures some { IfSome result (λ number. bytes.now ≡ signed_decimal number) }
-    ensures none { IfNone result ((number : ℤ) → FitsSigned w32 number → bytes.now ≢ signed_decimal number) }
+    ensures { MatchOption result ((number : ℤ) → FitsSigned w32 number → bytes.now ≢ signed_decimal number)
+        (λ number. bytes.now ≡ signed_decimal number) }
 {
     let Some(digits) = bytes.strip_prefix(b"-") else {
         let size = parse_index(bytes)?;
@@ -25,8 +25,8 @@ pub(crate) fn parse_number(bytes: &[u8]) -> Option<i32>
 
 // The index that the bytes spell.
 pub(crate) fn parse_index(bytes: &[u8]) -> Option<usize>
-    ensures some { IfSome result (λ index. bytes.now ≡ decimal index) }
-    ensures none { IfNone result ((index : ℕ) → index < 2 ^ 64 → bytes.now ≢ decimal index) }
+    ensures { MatchOption result ((index : ℕ) → index < 2 ^ 64 → bytes.now ≢ decimal index)
+        (λ index. bytes.now ≡ decimal index) }
 {
     if bytes.is_empty() {
         return None;
@@ -39,8 +39,8 @@ pub(crate) fn parse_index(bytes: &[u8]) -> Option<usize>
 
 // The value of the digits.
 fn parse_digits(bytes: &[u8]) -> Option<usize>
-    ensures some { IfSome result (λ value. AllDigits 10 bytes.now × (digits_value 10 bytes.now ≡ value)) }
-    ensures none { IfNone result (AllDigits 10 bytes.now → 2 ^ 64 ≤ digits_value 10 bytes.now) }
+    ensures { MatchOption result (AllDigits 10 bytes.now → 2 ^ 64 ≤ digits_value 10 bytes.now)
+        (λ value. AllDigits 10 bytes.now × (digits_value 10 bytes.now ≡ value)) }
 {
     let mut value: usize = 0;
     for byte in bytes {

@@ -1,5 +1,5 @@
 //! Lists of calls, each with its answer.
-ghost use Rattle.std.specs.Prelude.{◌≡◌, [], IsOk, IfOk, IfErr};
+ghost use Rattle.std.specs.Prelude.{◌≡◌, ◌≢◌, [], IfOk, IfErr};
 ghost use Rattle.tinyvec_slice.specs.SliceVec.{view_of, name_of};
 ghost use Rattle.tinyvec_script.specs.Step.{ArrayStep, SliceStep, Run};
 ghost use Rattle.tinyvec.specs.TinyVec.{tiny_view};
@@ -74,8 +74,7 @@ pub fn run_array<A: Array>(
 ) -> Result<Vec<Answer<A::Item>>, NoMemory<Vec<Call<A::Item>>>>
     ensures run { IfOk result (λ answers. Run (ArrayStep A.Item.is_default A.CAPACITY)
         vec.old calls.items answers.items vec.new) }
-    ensures refused { IfErr result (λ refused. (refused.0 ≡ calls) × (vec.new ≡ vec.old)) }
-    ensures none { calls.items ≡ [] → IsOk result }
+    ensures refused { IfErr result (λ refused. (refused.0 ≡ calls) × (vec.new ≡ vec.old) × (calls.items ≢ [])) }
 {
     run_calls(alloc, vec, calls)
 }
@@ -91,9 +90,8 @@ where
     B::Item: Default,
     ensures run { IfOk result (λ answers. Run (SliceStep B.Item.is_default)
         (view_of B.Lent vec.old) calls.items answers.items (view_of B.Lent vec.new)) }
-    ensures refused { IfErr result (λ refused. (refused.0 ≡ calls) × (vec.new ≡ vec.old)) }
+    ensures refused { IfErr result (λ refused. (refused.0 ≡ calls) × (vec.new ≡ vec.old) × (calls.items ≢ [])) }
     ensures same_slots { name_of B.Lent vec.new ≡ name_of B.Lent vec.old }
-    ensures none { calls.items ≡ [] → IsOk result }
 {
     run_calls(alloc, vec, calls)
 }
@@ -107,8 +105,7 @@ pub fn run_tiny<A: Array>(
 ) -> Result<Vec<Answer<A::Item>>, NoMemory<Vec<Call<A::Item>>>>
     ensures run { IfOk result (λ answers. Run (TinyStep A.Item.is_default A.CAPACITY)
         (tiny_view vec.old) calls.items answers.items (tiny_view vec.new)) }
-    ensures refused { IfErr result (λ refused. (refused.0 ≡ calls) × (vec.new ≡ vec.old)) }
-    ensures none { calls.items ≡ [] → IsOk result }
+    ensures refused { IfErr result (λ refused. (refused.0 ≡ calls) × (vec.new ≡ vec.old) × (calls.items ≢ [])) }
 {
     run_calls(alloc, vec, calls)
 }
@@ -119,8 +116,7 @@ fn run_calls<V: AnswersCalls>(
     calls: Vec<Call<V::Item>>,
 ) -> Result<Vec<Answer<V::Item>>, NoMemory<Vec<Call<V::Item>>>>
     ensures run { IfOk result (λ answers. Run V.step vec.old calls.items answers.items vec.new) }
-    ensures refused { IfErr result (λ refused. (refused.0 ≡ calls) × (vec.new ≡ vec.old)) }
-    ensures none { calls.items ≡ [] → IsOk result }
+    ensures refused { IfErr result (λ refused. (refused.0 ≡ calls) × (vec.new ≡ vec.old) × (calls.items ≢ [])) }
 {
     let Ok(mut answers) = Vec::with_capacity(alloc, calls.len()) else {
         return Err(NoMemory(calls));

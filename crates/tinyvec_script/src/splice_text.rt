@@ -1,5 +1,5 @@
 //! The text of a splice.
-ghost use Rattle.std.specs.Prelude.{◌≡◌, ◌≢◌, ◌+◌, ◌*◌, ◌<◌, ◌≤◌, ◌^◌, ◌++◌, [], List, ℕ, ℤ, All, length, false, IsTrue, IfSome, IfNone, IfOk, OnErr, FitsSigned};
+ghost use Rattle.std.specs.Prelude.{◌≡◌, ◌≢◌, ◌+◌, ◌*◌, ◌<◌, ◌≤◌, ◌^◌, ◌++◌, [], List, ℕ, ℤ, All, length, false, IsTrue, MatchOption, IfOk, OnErr, FitsSigned};
 ghost use Rattle.std.specs.Int.{w32};
 ghost use Rattle.tinyvec_slots.specs.Slots.{items, items_len};
 ghost use Rattle.tinyvec_script.specs.Command.{letter_code, word_text, numbers_text, splice_text};
@@ -22,11 +22,10 @@ pub(crate) fn parse_splice<'a>(
 ) -> Option<(usize, usize, &'a [u8])>
     requires short { length text.now ≤ 128 }
     requires empty { items numbers.old ≡ [] }
-    ensures some { IfSome result (λ parts. (word : List End) × (parts.2.now ≡ word_text word)
-        × (text.now ≡ splice_text parts.0 parts.1 word (items numbers.new))
-        × All (FitsSigned w32) (items numbers.new)) }
-    ensures none { IfNone result ((start end : ℕ) (word : List End) (ns : List ℤ) → start < 2 ^ 64 → end < 2 ^ 64
-        → All (FitsSigned w32) ns → text.now ≢ splice_text start end word ns) }
+    ensures { MatchOption result ((start end : ℕ) (word : List End) (ns : List ℤ) → start < 2 ^ 64 → end < 2 ^ 64
+        → All (FitsSigned w32) ns → text.now ≢ splice_text start end word ns)
+        (λ parts. (word : List End) × (parts.2.now ≡ word_text word)
+        × (text.now ≡ splice_text parts.0 parts.1 word (items numbers.new)) × All (FitsSigned w32) (items numbers.new)) }
 {
     let (start, rest) = parse_first_index(text)?;
     let (end, rest) = parse_first_index(rest)?;

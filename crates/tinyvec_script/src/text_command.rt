@@ -1,5 +1,5 @@
 //! The call of the text that a line spells.
-ghost use Rattle.std.specs.Prelude.{◌≡◌, ◌<◌, ◌≤◌, length, IfSome, IfNone, IsUtf8};
+ghost use Rattle.std.specs.Prelude.{◌≡◌, ◌<◌, ◌≤◌, length, MatchOption, IsUtf8};
 ghost use Rattle.tinyvec_script.specs.TextCalls.{IsTextCommand, call_of};
 ghost use Rattle.tinyvec_script.specs.TextCalls as calls;
 
@@ -18,8 +18,8 @@ pub(crate) enum TextCall<'a> {
 // The call of the text that the line spells.
 pub(crate) fn parse_text_line(line: &[u8]) -> Option<TextCall<'_>>
     requires { length line.now ≤ 128 }
-    ensures some { IfSome result (λ call. IsTextCommand line.now (call_of call)) }
-    ensures none { IfNone result ((call : calls.TextCall) → IsTextCommand line.now call → ⊥) }
+    ensures { MatchOption result ((call : calls.TextCall) → IsTextCommand line.now call → ⊥)
+        (λ call. IsTextCommand line.now (call_of call)) }
 {
     let Some(text) = line.strip_prefix(b"X ") else {
         return None;
@@ -41,9 +41,8 @@ pub(crate) fn parse_text_line(line: &[u8]) -> Option<TextCall<'_>>
 
 // The characters of these bytes, one at least.
 fn parse_characters(bytes: &[u8]) -> Option<&str>
-    ensures same { IfSome result (λ text. text.now ≡ bytes.now) }
-    ensures some { IfSome result (λ text. (0 < length text.now) × IsUtf8 text.now) }
-    ensures none { IfNone result (0 < length bytes.now → IsUtf8 bytes.now → ⊥) }
+    ensures { MatchOption result (0 < length bytes.now → IsUtf8 bytes.now → ⊥)
+        (λ text. (text.now ≡ bytes.now) × (0 < length text.now) × IsUtf8 text.now) }
 {
     if bytes.is_empty() {
         return None;

@@ -1,5 +1,5 @@
 //! A driven splice of an `ArrayVec`.
-ghost use Rattle.std.specs.Prelude.{◌≡◌, ◌+◌, ◌<◌, ◌≤◌, IfOk, IfErr, OnErr, vec_len};
+ghost use Rattle.std.specs.Prelude.{◌≡◌, ◌+◌, ◌<◌, ◌≤◌, IfOk, IfErr, vec_len};
 ghost use Rattle.std.specs.Iterator.Adapters.{fuse_steps};
 ghost use Rattle.tinyvec_slots.specs.Slots.{items, items_len};
 ghost use Rattle.tinyvec_script.specs.Driving.{ArraySplices, SpliceComputes};
@@ -26,9 +26,8 @@ pub fn drive_array_splice<A: Array>(
         replacement.items driven.yields.items driven.rest.items vec.new) }
     ensures computed { IfOk result (λ driven. SpliceComputes A.CAPACITY (items vec.old) start end word.now
         replacement.items driven.yields.items driven.rest.items (items vec.new)) }
-    ensures no_memory { IfErr result (λ refused. refused.0 ≡ replacement) }
-    ensures needed { OnErr result (start < end + vec_len replacement) }
-    ensures unchanged { OnErr result (vec.new ≡ vec.old) }
+    ensures refused { IfErr result (λ refused. (refused.0 ≡ replacement) × (vec.new ≡ vec.old)
+        × (start < end + vec_len replacement)) }
 {
     let Ok(mut driven) = with_room(alloc, end - start, replacement.len()) else {
         return Err(NoMemory(replacement));

@@ -1,5 +1,5 @@
 //! A driven splice of a `TinyVec`.
-ghost use Rattle.std.specs.Prelude.{◌≡◌, ◌+◌, ◌<◌, ◌≤◌, IfOk, IfErr, OnErr, vec_len};
+ghost use Rattle.std.specs.Prelude.{◌≡◌, ◌+◌, ◌<◌, ◌≤◌, IfOk, IfErr, vec_len};
 ghost use Rattle.std.specs.Iterator.Adapters.{fuse_steps};
 ghost use Rattle.tinyvec.specs.TinyVec.{tiny_view, tiny_items, tiny_len, tiny_capacity};
 ghost use Rattle.tinyvec_script.specs.Driving.{TinySplices, SpliceComputes};
@@ -27,9 +27,8 @@ pub fn drive_tiny_splice<A: Array>(
         start end word.now replacement.items driven.yields.items driven.rest.items (tiny_view vec.new)) }
     ensures computed { IfOk result (λ driven. SpliceComputes (tiny_capacity A.CAPACITY vec.new) (tiny_items vec.old)
         start end word.now replacement.items driven.yields.items driven.rest.items (tiny_items vec.new)) }
-    ensures no_memory { IfErr result (λ refused. refused.0 ≡ replacement) }
-    ensures needed { OnErr result (start < end + vec_len replacement) }
-    ensures unchanged { OnErr result (vec.new ≡ vec.old) }
+    ensures refused { IfErr result (λ refused. (refused.0 ≡ replacement) × (vec.new ≡ vec.old)
+        × (start < end + vec_len replacement)) }
 {
     let Ok(mut driven) = with_room(alloc, end - start, replacement.len()) else {
         return Err(NoMemory(replacement));

@@ -22,7 +22,7 @@ returns-in_default-parse_number-clause-no t c = λ _ ns fits e.
     let begins = strip_prefix_is Decides-eqb text (codes " ") (Some c.in-Some.rest) c.in-Some.ensures.cases in
     let is : text ≡ 32 ∷ (c.until_blank.result.0.now ++ c.until_blank.result.1.now) = begins ∙ ap (λ l. 32 ∷ l) parts.whole in
     let first = numbers_parted text c.until_blank.result.0.now c.until_blank.result.1.now parts.word parts.rest is ns fits e in
-    c.in_default-parse_number.ensures.none first.0 first.2 first.4
+    c.in_default-parse_number.ensures first.0 first.2 first.4
 
 pub parse_numbers-requires : goal.parse_numbers-requires
 parse_numbers-requires t c =
@@ -33,7 +33,7 @@ parse_numbers-requires t c =
     let number = c.in-Some-parse_number.number in
     let fits : FitsSigned w32 number = search rules in
     let some : 0 < length (signed_decimal number) = number_some number fits in
-    let count = ap length c.in-Some-parse_number.ensures.some in
+    let count = ap length c.in-Some-parse_number.ensures in
     let more = ap length c.push.ensures.items ∙ length_push (items c.args.numbers.now) _ in
     (omega (arith, long, parts), omega (arith, long, parts, some, count, more, c.requires))
 

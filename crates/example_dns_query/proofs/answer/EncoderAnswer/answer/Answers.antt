@@ -7,12 +7,11 @@ use Rattle.example_dns_query.specs.Line.{HasLineFault}
 use Rattle.example_dns_query.proofs.LineFaults.{tells_line_fault}
 use Rattle.example_dns_query.proofs.answer.EncoderAnswer.answer.Goals as goal
 
-pub returns-in_ok-push-in-Ok : goal.returns-in_ok-push-in-Ok
-unfolding lib.Utf8.encode
-returns-in_ok-push-in-Ok c =
+pub returns-in-Ok : goal.returns-in-Ok
+returns-in-Ok c =
     let told = c.in-Ok.ensures.answers in
     let message : take c.in-Ok.len c.answer_line.new.slice ≡ told.message = ap (take c.in-Ok.len) told.written ∙ take_at told.message _ c.in-Ok.len (sym told.long) in
-    inl (told.message, told.asked, c.in_ok-push-in-Ok.ensures.bytes ∙ ap (λ text. text ++ 10 ∷ []) (c.in_ok-text-in-Ok.ensures ∙ ap hex_of message))
+    IfOk-weaker c.hex_line.result _ _ (λ text same. inl (told.message, told.asked, same ∙ ap (λ bytes. hex_of bytes ++ 10 ∷ []) message)) c.hex_line.ensures
 
 pub returns-in-Err : goal.returns-in-Err
 returns-in-Err c =
