@@ -337,7 +337,7 @@ where
     v.extend_from_within(n..)
 }
 
-/// The second and third number once more, which takes no memory.
+/// The second and third number once more, which allocates nothing.
 pub fn repeated() -> ArrayVec<[i32; 6]>
     ensures { items result ≡ pos 1 ∷ pos 2 ∷ pos 3 ∷ pos 4 ∷ pos 2 ∷ pos 3 ∷ [] }
 {
