@@ -17,7 +17,7 @@ frame_code = tagged-code tag SpellsReading reading_code
 long : (input : List ℕ) → HasTooManySamples input → IsReadingTooLong input
 long input s = inr (record { content = s.content; fits = s.fits; parts = rest-so s.parts (inl (inl s.is_rest)) })
 
--- no record stands where the stream ends
+-- no record begins where the stream ends
 pub no-frame : (end : Result (Unit {0}) StreamError) (c : Said) (frame rest tail : List ℕ) → IsEnd end tail → ReadingFits c → SpellsFrame c frame → tail ≡ frame ++ rest → ⊥
 no-frame (Ok done) c frame rest tail is fits p e = omega (arith, ap length (sym is ∙ e), ap length p.2, length-append frame rest)
 no-frame (Err Cut) c frame rest tail is fits p e =

@@ -1,4 +1,4 @@
--- Records that stand at the front of an input are those that are read.
+-- The records at the front of an input are those that are read.
 use Rattle.std.proofs.Common.{◌≡◌, sym, subst, ℕ, List, ◌++◌, refl, Option, Some, Result, Ok, Err}
 use Rattle.std.specs.List.{AllByRecursion}
 use Rattle.std.specs.Result.{IsErrOf}
@@ -11,7 +11,7 @@ use Rattle.example_records.specs.declared.stream_error.StreamError.{StreamError}
 use Rattle.example_records.specs.declared.stream_error.StreamError.TheVariants.{Cut, Io, Memory, TooManySamples, WrongTag}
 use Rattle.example_records.proofs.FrameLaws.{frame_code, no-frame, one-end}
 
--- no record stands where the stream ends
+-- no record begins where the stream ends
 none-further : (end : Result (Unit {0}) StreamError) (tail : List ℕ) → IsEnd end tail → BeginsNone SpellsFrame frame_code ReadingFits tail
 none-further end tail is c frame rest fits p e = no-frame end c frame rest tail is fits p e
 

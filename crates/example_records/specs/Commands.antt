@@ -122,7 +122,7 @@ abbrev pub IsOutOfMemory : (old new : List ℕ) → Answer → Type 0
 IsOutOfMemory old new answer = (answer ≡ Err Memory) × (new ≡ old)
 
 -- The records that are at the front of the stream were read, in order, and after them is what the end says.
--- If such records are there, just these were read, and their end was told, as `Gives` has it of a reader with these faults.
+-- If such records are there, just these were read, and their end was reported, as `Gives` says of a reader with these faults.
 pub record IsRead (stream : List ℕ) (read : List Said) (end : Result (Unit {0}) StreamError) : Type 0 where
   pub stands : BeginsWith read (StandsBehind end) stream
   pub fit : AllByRecursion ReadingFits read

@@ -65,7 +65,7 @@ NextIs old new (Err error) = MayBe old (StandsBehind (Err error))
 abbrev pub AreFirst : (read cs : List Said) → Type 0
 AreFirst read cs = (more : List Said) × (cs ≡ read ++ more)
 
--- Just these records were read, and this end was told; or the reader reported a fault, or memory was refused, and the first
+-- Just these records were read, and this end was reported; or the reader reported a fault, or memory was refused, and the first
 -- ones were read.
 abbrev pub Gives : List Said → Result (Unit {0}) StreamError → (before after : ℕ) → List Said → Result (Unit {0}) StreamError → Type 0
 Gives cs end before after read (Err Io) = AreFirst read cs × Reported before after

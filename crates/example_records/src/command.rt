@@ -42,7 +42,8 @@ pub fn run(
 
 /// The records, a line each, and then where they end, and why no more were read.
 pub fn shown(alloc: Global, recovered: &Recovered) -> Result<String, AllocError>
-    ensures { IfOk result (λ text. IsShown (map said recovered.now.records.items) recovered.now.end (string_bytes text)) }
+    ensures { IfOk result (λ text.
+        IsShown (map said recovered.now.records.items) recovered.now.end (string_bytes text)) }
 {
     let mut text = String::new(alloc);
     for reading in &recovered.records {
@@ -208,7 +209,7 @@ fn copy(alloc: Global, rest: &str, stream: &[u8]) -> Result<Option<Recovered>, C
     if !rest.is_empty() {
         return Err(CommandError::Words);
     }
-    // Without a tag at its start a stream has no record, so its copy is empty, and takes no memory.
+    // Without a tag at its start a stream has no record, so its copy is empty, and allocates nothing.
     if !has_tag(stream) {
         return Ok(Some(Recovered {
             records: Vec::new(alloc),

@@ -6,7 +6,7 @@ ghost use Rattle.example_records.specs.declared.command_error.CommandError.TheVa
 use crate::command_error::CommandError;
 use std::alloc::Global;
 
-/// The bytes that pairs of digits spell, in either case. Memory is asked for as soon as there is a pair.
+/// The bytes that pairs of digits spell, in either case. Allocates as soon as there is a pair.
 pub fn bytes_of_hex(alloc: Global, text: &[u8]) -> Result<Vec<u8>, CommandError>
     ensures ok { IfOk result (λ bytes. bytes_of text.now ≡ Some bytes.items) }
     ensures err { IfErr result (λ e. ((e ≡ Memory) × HasByte text.now) ⊎ ((e ≡ Hex) × (bytes_of text.now ≡ None))) }

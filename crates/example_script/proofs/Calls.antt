@@ -72,7 +72,7 @@ pub spare_is : (old new : Slots ℤ) → SlotRule IsZero old new
 spare_is old new rule =
     rule.2 ∙ ap (λ zeros. zeros ++ drop (items_len new - items_len old) (spare old)) (defaults_are IsZero (pos 0) (λ x h. h) _ rule.0 rule.1)
 
--- a command of `A` is none of the text, and asks for memory only if it is a splice
+-- a command of `A` is none of the text, and allocates only if it is a splice
 module _ (rest : List ℕ) where
   no_push_asks : (other : Name) → NeedsMemory (codes "A push " ++ rest) other → ⊥
   no_push_asks A asks = differ 3 _ _ (asks.named ∙ ap (λ text. codes "A " ++ text) asks.spelled.spelled) refl

@@ -6,7 +6,7 @@ use Rattle.tinyvec_io.specs.Lines.{IsLine, ended, last_line, Splits}
 use Rattle.tinyvec_script.specs.Script.{State, start, Answers, Script}
 use Rattle.tinyvec_script.proofs.Words.{Lacks, no_mark_in, cut_once}
 
--- no line feed stands in it
+-- it has no line feed
 abbrev pub IsWhole : List ℕ → Type 0
 IsWhole = Lacks 10
 

@@ -30,7 +30,7 @@ low_same (byte ∷ bytes) low =
     ap (λ first. first ∷ map to_ascii_lowercase bytes) (All-head IsLow byte bytes low)
     ∙ ap (λ rest. byte ∷ rest) (low_same bytes (All-tail IsLow byte bytes low))
 
--- what holds of every byte of a part that no blank stands in holds of every byte of the normal words
+-- what holds of every byte of a part with no blank holds of every byte of the normal words
 All-normal : (Q : ℕ → Type 0) (line : List ℕ) → All (λ byte. IsPlain byte → Q byte) (map to_ascii_lowercase line) → All (All Q) (normal_words line)
 All-normal Q line each =
     All-dedup bytes_eq (All Q) _ (All-filter has_bytes (All Q) _ (All-split is_ascii_whitespace Q _ each))

@@ -89,8 +89,10 @@ pub fn tidy<R: Read, W: Write>(
         × (2 ^ 64 - 1 ≤ length input)
         × Appends (W.contents writer.old.inner) (W.contents writer.new.inner) output
         × TidiedUpTo input output line }
-    ensures read_fault { (error : IoError) → IsErrOf result (TidyError.Read error) → Reported reader.old.faults reader.new.faults }
-    ensures write_fault { (error : IoError) → IsErrOf result (TidyError.Write error) → Reported writer.old.faults writer.new.faults }
+    ensures read_fault { (error : IoError) → IsErrOf result (TidyError.Read error)
+        → Reported reader.old.faults reader.new.faults }
+    ensures write_fault { (error : IoError) → IsErrOf result (TidyError.Write error)
+        → Reported writer.old.faults writer.new.faults }
 {
     let mut line = TinyVec::new(alloc);
     let mut chunk = [0; CHUNK];
@@ -126,7 +128,8 @@ fn tidy_chunk<W: Write>(
     ensures no_read { (error : IoError) → IsErrOf result (TidyError.Read error) → ⊥ }
     ensures not_long { IsErrOf result TidyError.TooLong → ⊥ }
     ensures faults_grow { writer.old.faults ≤ writer.new.faults }
-    ensures write_fault { (error : IoError) → IsErrOf result (TidyError.Write error) → Reported writer.old.faults writer.new.faults }
+    ensures write_fault { (error : IoError) → IsErrOf result (TidyError.Write error)
+        → Reported writer.old.faults writer.new.faults }
 {
     let mut output = TinyVec::new(alloc);
     // No more is said than has come, so that a short line after a long one needs no memory.
@@ -157,7 +160,8 @@ fn finish<W: Write>(alloc: Global, line: &[u8], writer: &mut Counted<W>) -> Resu
     ensures no_read { (error : IoError) → IsErrOf result (TidyError.Read error) → ⊥ }
     ensures not_long { IsErrOf result TidyError.TooLong → ⊥ }
     ensures faults_grow { writer.old.faults ≤ writer.new.faults }
-    ensures write_fault { (error : IoError) → IsErrOf result (TidyError.Write error) → Reported writer.old.faults writer.new.faults }
+    ensures write_fault { (error : IoError) → IsErrOf result (TidyError.Write error)
+        → Reported writer.old.faults writer.new.faults }
 {
     let mut output = TinyVec::new(alloc);
     let Ok(()) = end_text(alloc, line, &mut output) else {

@@ -59,7 +59,8 @@ fn feed_byte(
     ensures room { tiny_capacity 4096 output.old ≤ tiny_capacity 4096 output.new }
     ensures succeeds { (byte ≢ 10 → tiny_len line.old < tiny_capacity 80 line.old)
         → (byte ≡ 10 → IsShort (tiny_items line.old)
-        × (tiny_len output.old + length (normal_line (tiny_items line.old)) < tiny_capacity 4096 output.old)) → IsOk result }
+        × (tiny_len output.old + length (normal_line (tiny_items line.old)) < tiny_capacity 4096 output.old))
+        → IsOk result }
 {
     if byte == b'\n' {
         end_line(alloc, line.as_slice(), output)?;

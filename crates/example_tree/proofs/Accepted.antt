@@ -94,7 +94,7 @@ letter_opens nothing byte = tt
 letter_opens (digits n) byte = tt
 letter_opens (letters bytes) byte = tt
 
--- an operand that is open is accepted only where no operand stands before it
+-- an operand that is open is accepted only where no operand precedes it
 operand_first : (last : Open) (ws : List Word) (s : State) → IsOpen last → Accepts (open_words last ++ ws) s → s.operand ≡ false
 operand_first nothing ws s is_open accepts = absurd is_open
 operand_first (digits n) ws s is_open accepts = accepts.0
@@ -142,7 +142,7 @@ digit_only s nothing byte none = inl (ap before_fault none)
 digit_only s (digits n) byte none = fits_or_not (nat_lt (n * 10 + (byte - 48)) (2 ^ 64))
 digit_only s (letters bytes) byte none = inl refl
 
--- after a letter no number is open, since no operator would stand between
+-- after a letter no number is open, since no operator would be between
 after_letter : (s : State) (last : Open) (byte : ℕ) (bytes : List ℕ) → Accepts (before_letter last ++ words_on (with_letter last byte) bytes) (byte_state s nothing)
     → (letter_fault last (byte_state s last).operand ≡ None) × (with_last (byte_state s last) (with_letter last byte) ≡ byte_state s (with_letter last byte))
     × Accepts (words_on (with_letter last byte) bytes) (byte_state s nothing)
@@ -175,7 +175,7 @@ sign_state plus s = refl
 sign_state times s = refl
 sign_state other s = refl
 
--- where there is no fault, what is wrong stands behind
+-- where there is no fault, what is wrong follows
 behind : (at place : ℕ) (found : Fault) (now : Option Fault) (rest : Outcome) → now ≡ None → unless at now rest ≡ wrong place found → rest ≡ wrong place found
 behind at place found now rest none is = ap (λ n. unless at n rest) (sym none) ∙ is
 

@@ -20,7 +20,7 @@ closes (g ∷ outer) inner last at =
     let more = closes outer s.inner nothing (suc at) in
     (41 ∷ more.0, more.1)
 
--- from each state a text can go on. Where an operand is missing, a blank and a one stand first.
+-- from each state a text can go on, with a blank and a one first if an operand is missing
 completes : (outer : List Group) (inner : Group) (operand : Bool) (last : Open) (at : ℕ) → (rest : List ℕ) × GoesOn record { outer = outer; inner = inner; operand = operand; last = last } at rest
 completes outer inner true last at = closes outer inner last at
 completes outer inner false last at =

@@ -10,7 +10,7 @@ use Rattle.example_tree.specs.Outcome.{right, Group, State, next, fault, unless,
 use Rattle.example_tree.specs.declared.parse_error.Fault.TheVariants.{Number}
 use Rattle.example_tree.proofs.Steps.{next_digit, fault_digit, next_letter, fault_letter}
 
--- from this state the rest of a text is read as this tree, wherever it stands
+-- from this state the rest of a text is read as this tree, wherever it is
 abbrev pub Leads : State → List ℕ → Tree → Type 0
 Leads s rest t = (at : ℕ) → outcome_on s at rest ≡ right t
 

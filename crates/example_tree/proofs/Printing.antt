@@ -45,7 +45,7 @@ module _ (nodes : List Node) where
     inside = puts.inside;
   }
 
--- the text of a child, by whether it stands in brackets
+-- the text of a child, by whether it is in brackets
 plain_part : (operation : Operation) (tree : ℕ → Tree) (f : Form) (text : List ℕ) → is_bracketed operation f ≡ false → part_text operation (tree_of tree f) text ≡ text
 plain_part Sum tree f text not = refl
 plain_part Product tree (leaf_form l) text not = refl

@@ -1,4 +1,4 @@
--- A reading gives each node something that is told by what it gives the node's children. It is the only such one.
+-- A reading gives each node something that follows from what it gives the node's children. It is the only such one.
 use Rattle.std.proofs.Common.{◌≡◌, ◌∙◌, ℕ, zero, suc, ◌<◌, List, [], ◌∷◌, map, All, refl, sym, ap, arith}
 use Rattle.std.proofs.lemmas.List.Elements.{All-head, All-tail, All-weaker}
 use Rattle.example_tree.specs.Tree.{Leaf, Tree, leaf, sum, product, more}
@@ -27,7 +27,7 @@ levels fs ordered (suc n) zero id below under = absurd (omega arith)
 levels fs ordered (suc n) (suc m) id below under =
     tree_same (tree_to fs n) (tree_to fs m) (form_at fs id) (All-weaker (λ child. child < id) (λ child. tree_to fs n child ≡ tree_to fs m child) (λ child less. levels fs ordered n m child (omega arith) (omega arith)) (children (form_at fs id)) (ordered id))
 
--- the tree of a node is told by those of its children
+-- the tree of a node follows from those of its children
 pub tree_is : (fs : List Form) → IsOrdered fs → (id : ℕ) → tree_to fs (suc id) id ≡ tree_of (λ child. tree_to fs (suc child) child) (form_at fs id)
 tree_is fs ordered id =
     tree_same (tree_to fs id) (λ child. tree_to fs (suc child) child) (form_at fs id)

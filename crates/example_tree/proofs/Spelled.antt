@@ -54,7 +54,7 @@ plus_trees : (s : Sum) (p : Product) → and (sum_terms s) (joined product_node 
 plus_trees (term q) p = refl
 plus_trees (added q s) p = ap (more (joined product_node (product_factors q))) (plus_trees s p)
 
--- what stands before an operand in its brackets: the terms before the last plus, and the factors behind that
+-- what precedes an operand in its brackets: the terms before the last plus, and the factors behind that
 record Before : Type 0 where
   terms : Option Sum
   factors : Option Product
@@ -81,7 +81,7 @@ outer_words (b ∷ bs) = outer_words bs ++ (before_words b ++ mark opening ∷ [
 abbrev so_far : List Before → Before → Option Part → List Word
 so_far outer b part = outer_words outer ++ (before_words b ++ last_words part)
 
--- the operand goes with what stands before it
+-- the operand goes with what precedes it
 abbrev product_of : Option Product → Part → Product
 product_of None t = factor t
 product_of (Some p) t = times_part p t

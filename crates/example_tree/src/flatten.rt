@@ -9,11 +9,11 @@ use crate::node::{Node, NodeId, Operation};
 use std::alloc::{AllocError, Global};
 use tinyvec::TinyVec;
 
-/// Writes each sum in a sum out, in the tree of one node and in each tree that is no sum. If memory is refused, some sums are
-/// not written out.
+/// Writes each sum in a sum out, in the tree of one node and in each tree that is no sum. If memory is refused, some
+/// sums are not written out.
 ///
-/// A sum that is a child of a sum, and no part of these trees, stays as it is: written out, such sums take memory that grows with
-/// the square of their depth.
+/// A sum that is a child of a sum, and no part of these trees, stays as it is: written out, such sums take memory that
+/// grows with the square of their depth.
 pub fn flatten(alloc: Global, nodes: &mut [Node], root: NodeId) -> Result<(), AllocError>
     requires ordered { IsOrdered (forms nodes.old) }
     requires root { root < length nodes.old }
@@ -113,7 +113,8 @@ fn replace_child(
 ) -> Result<(), AllocError>
     requires { at < tiny_len children.old }
     ensures ok { OnOk result
-        (tiny_items children.new ≡ take at (tiny_items children.old) ++ (terms.now ++ drop (suc at) (tiny_items children.old))) }
+        (tiny_items children.new
+        ≡ take at (tiny_items children.old) ++ (terms.now ++ drop (suc at) (tiny_items children.old))) }
     ensures refused { OnErr result (tiny_items children.new ≡ tiny_items children.old) }
 {
     // A vector that was lent is not known to fit until a call says so.

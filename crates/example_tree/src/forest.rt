@@ -12,7 +12,8 @@ use tinyvec::TinyVec;
 pub fn add(nodes: &mut Vec<Node>, node: Node) -> Result<NodeId, AllocError>
     requires ordered { IsOrdered (forms nodes.old.items) }
     requires children { All (λ child. child < length nodes.old.items) (children (form node)) }
-    ensures { IfOk result (λ id. Adds nodes.old.items nodes.new.items id (tree_of (tree_at nodes.old.items) (form node))) }
+    ensures { IfOk result (λ id.
+        Adds nodes.old.items nodes.new.items id (tree_of (tree_at nodes.old.items) (form node))) }
 {
     let id = nodes.len();
     nodes.push(node)?;

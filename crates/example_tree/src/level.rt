@@ -44,7 +44,8 @@ impl Level {
         requires within { IsWithin nodes.old.items self.old }
         ensures keeps { OnOk result (Keeps nodes.old.items nodes.new.items) }
         ensures within { OnOk result (IsWithin nodes.new.items self.new) }
-        ensures group { OnOk result (group_of nodes.new.items self.new ≡ with_term (group_of nodes.old.items self.old)) }
+        ensures group { OnOk result (group_of nodes.new.items self.new
+            ≡ with_term (group_of nodes.old.items self.old)) }
     {
         let factors = replace(&mut self.factors, TinyVec::new(alloc));
         let term = joined(nodes, Operation::Product, factors)?;
@@ -55,7 +56,8 @@ impl Level {
     pub fn end(mut self, alloc: Global, nodes: &mut Vec<Node>) -> Result<NodeId, AllocError>
         requires ordered { IsOrdered (forms nodes.old.items) }
         requires within { IsWithin nodes.old.items self }
-        ensures { IfOk result (λ id. Adds nodes.old.items nodes.new.items id (group_tree (group_of nodes.old.items self))) }
+        ensures { IfOk result (λ id.
+            Adds nodes.old.items nodes.new.items id (group_tree (group_of nodes.old.items self))) }
     {
         self.end_term(alloc, nodes)?;
         joined(nodes, Operation::Sum, self.terms)

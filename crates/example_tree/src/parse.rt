@@ -77,7 +77,8 @@ impl Parser {
     // Reads a digit or a letter.
     fn word(&mut self, alloc: Global, byte: u8, at: usize) -> Result<(), ParseError>
         requires { IsSound self.old }
-        ensures { Answers result self.old self.new at (λ s. byte_fault s.last s.operand byte) (λ s. with_last s (with_byte s.last byte)) }
+        ensures { Answers result self.old self.new at (λ s. byte_fault s.last s.operand byte)
+            (λ s. with_last s (with_byte s.last byte)) }
     {
         if let Some(leaf) = &mut self.reading {
             lengthen(leaf, byte, at)?;

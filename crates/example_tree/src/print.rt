@@ -17,8 +17,8 @@ pub enum Piece {
     ClosingBracket,
 }
 
-/// The text of a tree of a list of nodes, with room for `room` bytes at first. A sum or a product that is a factor is in
-/// brackets.
+/// The text of a tree of a list of nodes, with room for `room` bytes at first. Brackets enclose a sum or a product
+/// that is a factor.
 pub fn printed(
     alloc: Global,
     nodes: &[Node],
@@ -49,7 +49,8 @@ fn write_piece(
 ) -> Result<(), AllocError>
     requires ordered { IsOrdered (forms nodes.now) }
     requires piece { IsPieceOf nodes.now piece }
-    ensures { OnOk result (Writes nodes.now piece (string_bytes text.old) pieces.old.items (string_bytes text.new) pieces.new.items) }
+    ensures { OnOk result
+        (Writes nodes.now piece (string_bytes text.old) pieces.old.items (string_bytes text.new) pieces.new.items) }
 {
     match piece {
         Piece::Tree(id) => match &nodes[id] {

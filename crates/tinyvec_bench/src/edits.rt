@@ -5,7 +5,7 @@ use crate::report::Bench;
 use crate::vector::{Place, Vector};
 use std::alloc::Global;
 
-/// The vector, one that differs from it, and what it is filled with: the array itself, whose size is then known to the proof.
+/// The vector, one that differs from it, and what it is filled with: the array itself, whose size the proof then knows.
 #[derive(Drop)]
 pub struct ListBench<'a, T: Number, V: Vector<T, N>, const N: usize> {
     pub alloc: Global,

@@ -36,7 +36,8 @@ impl<V: PartialOrd + Hash + fmt::Debug> Bench<Look> for LookBench<'_, '_, V> {
     }
 }
 
-/// Compares `vec` to an equal one, to one that is higher at its end, and, where one is given, to one that is higher at its start.
+/// Compares `vec` to an equal one, to one that is higher at its end, and, if one is given, to one that is higher at its
+/// start.
 pub fn looks<'v, R: Runtime, V: PartialOrd + Hash + fmt::Debug>(
     report: &mut Report<'_, R>,
     n: usize,

@@ -1,5 +1,5 @@
 //! Benchmarks of the vectors. Without arguments, or with `rows`, each runs for few rounds and prints a checksum. With
-//! `rows ROUNDS` each prints its name, capacity, rounds, nanoseconds and checksum. With `growth` in the place of `rows` the
+//! `rows ROUNDS` each prints its name, capacity, rounds, nanoseconds and checksum. With `growth` in place of `rows` the
 //! same calls run at many lengths.
 #![tactic(auto)]
 
@@ -47,7 +47,7 @@ fn main(rt: HostRuntime) -> io::Result<()> {
     report.finish()
 }
 
-// Whether the rows of `growth` are asked for, or else all others.
+// Whether to run the rows of `growth`, or else all others.
 fn is_growth(command: Option<String>) -> io::Result<bool> {
     let Some(word) = command else {
         return Ok(false);

@@ -1,4 +1,4 @@
-//! What the benchmarks' vectors hold, and what is asked of it.
+//! What the benchmarks' vectors hold, and its bounds.
 
 use std::fmt::Debug;
 use std::hash::Hash;

@@ -4,8 +4,9 @@ use std::io;
 use std::rt::Runtime;
 use std::time::Instant;
 
-/// What the rows of one kind work on. A row names its benchmark by a constant and both functions are inlined, so each round
-/// calls the benchmark's function. One loop serves all rows: a loop or a closure for each would be proved for each.
+/// What the rows of one kind work on. A row names its benchmark by a constant and both functions are inlined, so each
+/// round calls the benchmark's function. One loop serves all rows, since a loop or a closure for each would be proved
+/// for each.
 pub trait Bench<B: Copy> {
     /// Runs the benchmark once, with the number of the round.
     fn round(&mut self, benchmark: B, x: u64) -> u64;
@@ -72,8 +73,8 @@ impl<'r, R: Runtime> Report<'r, R> {
         self.end_rounds(name, capacity, begun, sum);
     }
 
-    /// Begins a row. If the time is taken, long lists have fewer rounds. It is not inlined, and neither is `end_rounds`,
-    /// so that the instructions between the two can be counted.
+    /// Begins a row. If the time is taken, long lists have fewer rounds. Neither it nor `end_rounds` is inlined, so
+    /// that the instructions between the two can be counted.
     #[inline(never)]
     fn begin_rounds(&mut self, capacity: usize) -> Begun {
         if !self.is_timed {

@@ -91,8 +91,8 @@ pub fn push<const N: usize>(alloc: Global, _like: &TinyVec<[u64; N]>, count: u64
     look_at(vec.as_slice(), x)
 }
 
-// Puts a number in at `i`, where the array is full. `_like`, here and below, tells the proof of the same row over another
-// vector that such a list fits in memory.
+// Inserts a number at `i`, where the array is full. By `_like`, here and below, the proof of the same row over another
+// vector knows that such a list fits in memory.
 #[inline(never)]
 fn insert<const N: usize>(
     alloc: Global,

@@ -34,8 +34,8 @@ pub trait Vector<T: Number, const N: usize>: AsSlice<T> + Debug + Drop + Hash + 
         ensures value { result ≡ length (Self.items self.now) }
         ensures room { result < N → has_room self.now };
 
-    /// Empties the list for a row that fills it anew. The border moves, and no slot is written, so that the row measures
-    /// its own call.
+    /// Empties the list for a row that fills it anew. The border moves, and no slot is written, so the row measures its
+    /// own call.
     fn empty(&mut self)
         ensures { length (Self.items self.new) ≡ 0 };
 

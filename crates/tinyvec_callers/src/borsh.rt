@@ -13,7 +13,7 @@ use tinyvec_io::Counted;
 use tinyvec_text::InlineText;
 
 /// If the input begins with the spelling of a content that fits, a value of that content is read, and what follows
-/// stays unread, faults and want of memory aside.
+/// stays unread, unless the reader faults or memory is refused.
 pub fn read_back<T: BorshDeserialize, R: Read>(
     alloc: Global,
     reader: &mut Counted<R>,
@@ -26,7 +26,7 @@ pub fn read_back<T: BorshDeserialize, R: Read>(
     T::deserialize_reader(alloc, reader)
 }
 
-/// What was written is read again, with the same content, faults and want of memory aside.
+/// What was written is read again, with the same content, unless the reader faults or memory is refused.
 pub fn copied<T: BorshSerialize + BorshDeserialize>(alloc: Global, v: &T) -> Result<T, BorshError>
     ensures same { IfOk result (λ w. T.content_of w ≡ T.content_of v.now) }
     ensures err { IfErr result (λ e. (e ≡ BorshError.Io) ⊎ (e ≡ BorshError.Memory)) }

@@ -6,7 +6,7 @@ ghost use Rattle.tinyvec_array.specs.Ranges.{IsRangeOf, before, removed, after};
 use std::ops::{Bound, RangeBounds};
 use tinyvec_array::{Array, ArrayVec};
 
-/// Given up before any item was asked for.
+/// Dropped before it yields an item.
 pub fn dropped() -> [i32; 4]
     ensures { result ≡ pos 1 ∷ pos 4 ∷ pos 0 ∷ pos 0 ∷ [] }
 {
@@ -16,7 +16,7 @@ pub fn dropped() -> [i32; 4]
     v.into_inner()
 }
 
-/// Let go at the end of its scope.
+/// Dropped at the end of its scope.
 pub fn out_of_scope() -> [i32; 4]
     ensures { result ≡ pos 1 ∷ pos 4 ∷ pos 0 ∷ pos 0 ∷ [] }
 {
@@ -36,7 +36,7 @@ pub fn run_to_its_end() -> [i32; 4]
     v.into_inner()
 }
 
-/// Given up after one item.
+/// Dropped after one item.
 pub fn after_next() -> (Option<i32>, [i32; 4])
     ensures item { result.0 ≡ Some (pos 2) }
     ensures left { result.1 ≡ pos 1 ∷ pos 4 ∷ pos 0 ∷ pos 0 ∷ [] }
@@ -48,7 +48,7 @@ pub fn after_next() -> (Option<i32>, [i32; 4])
     (x, v.into_inner())
 }
 
-/// Given up after an item from the back.
+/// Dropped after an item from the back.
 pub fn after_next_back() -> (Option<i32>, [i32; 4])
     ensures item { result.0 ≡ Some (pos 3) }
     ensures left { result.1 ≡ pos 1 ∷ pos 4 ∷ pos 0 ∷ pos 0 ∷ [] }
@@ -60,7 +60,7 @@ pub fn after_next_back() -> (Option<i32>, [i32; 4])
     (x, v.into_inner())
 }
 
-/// Given up after an item was passed over.
+/// Dropped after an item was passed over.
 pub fn after_nth() -> (Option<i32>, [i32; 4])
     ensures item { result.0 ≡ Some (pos 3) }
     ensures left { result.1 ≡ pos 1 ∷ pos 4 ∷ pos 0 ∷ pos 0 ∷ [] }
@@ -72,7 +72,7 @@ pub fn after_nth() -> (Option<i32>, [i32; 4])
     (x, v.into_inner())
 }
 
-/// One item from each end, and one that was never asked for.
+/// One item from each end, and one that it does not yield.
 pub fn from_both_ends() -> (Option<i32>, Option<i32>, [i32; 4])
     ensures first { result.0 ≡ Some (pos 2) }
     ensures last { result.1 ≡ Some (pos 4) }
@@ -142,7 +142,7 @@ pub fn cut<A: Array, R: RangeBounds<usize>>(v: &mut ArrayVec<A>, range: R)
     drop(v.drain(range));
 }
 
-/// The item at `n` of any range of any vector. What was passed over and what was never asked for are gone too.
+/// The item at `n` of any range of any vector. Those before it and those after it are gone too.
 pub fn nth_of<A: Array, R: RangeBounds<usize>>(
     v: &mut ArrayVec<A>,
     range: R,

@@ -4,7 +4,7 @@ ghost use Rattle.tinyvec_array.specs.Slots.{items, items_len};
 
 use tinyvec_array::{Array, ArrayVec};
 
-/// A push with room answers nothing, and what was pushed is popped.
+/// A push with room returns nothing, and what was pushed is popped.
 pub fn try_push_then_pop<A: Array>(
     v: &mut ArrayVec<A>,
     x: A::Item,

@@ -124,7 +124,7 @@ pub fn collected(xs: &[u32]) -> Option<ArrayVec<[u32; 4]>> {
     }
 }
 
-/// `v.extend(xs.iter().copied())`, which tells whether all found room.
+/// `v.extend(xs.iter().copied())`, which returns whether all found room.
 pub fn extend(v: &mut ArrayVec<[u32; 4]>, xs: &[u32]) -> bool {
     v.extend(xs.iter().copied()).is_ok()
 }

@@ -7,6 +7,7 @@ pub mod comparing;
 pub mod draining;
 pub mod edits;
 pub mod ends;
+pub mod extracting;
 pub mod idioms;
 pub mod known_items;
 pub mod lending;

@@ -27,7 +27,7 @@ pub fn array_named() -> ArrayVec<[i32; 4]>
     array_vec!([i32; 4])
 }
 
-/// The items alone, each evaluated in its turn: the type of the result tells the array.
+/// The items alone, each evaluated in its turn: the type of the result names the array.
 pub fn evaluated(x: u8) -> ArrayVec<[u8; 3]>
     requires { x < 9 }
     ensures { items result ≡ (x + 1) ∷ x ∷ x ∷ [] }

@@ -1,5 +1,5 @@
-//! Code as programs over Rust's `tinyvec` have it, ported. Each file is proved with no file of proof, but for `punycode`,
-//! which states what it writes, as `date` does.
+//! Code as programs over Rust's `tinyvec` have it, ported. No file needs a file of proof but `punycode`, which
+//! states what it writes, as `date` does.
 pub mod date;
 pub mod marks;
 pub mod own_error;

@@ -63,8 +63,8 @@ pub fn replace<A: Array, I: DoubleEndedIterator<Item = A::Item>>(
     splice.finish()
 }
 
-/// How often slots are touched if a range of any vector is replaced so. Nothing is asked of the replacement but two
-/// ends.
+/// How often slots are touched if a range of any vector is replaced so. The replacement may be any
+/// iterator with two ends.
 pub fn touches_of_replace<A: Array, I: DoubleEndedIterator<Item = A::Item>>(
     vec: &mut ArrayVec<A>,
     start: usize,

@@ -8,7 +8,7 @@ use std::alloc::{AllocError, Global};
 use std::ops::RangeBounds;
 use tinyvec::{Array, NoMemory, NoRoom, TinyVec, TinyVecIterator};
 
-/// Pushes that have room take no memory, so they need no test.
+/// Pushes that have room allocate nothing, so they need no test.
 pub fn three(alloc: Global) -> TinyVec<[i32; 4]>
     ensures items { tiny_items result ≡ pos 1 ∷ pos 2 ∷ pos 3 ∷ [] }
     ensures place { IsInline result }
@@ -27,7 +27,7 @@ pub fn lent_items<A: Array>(v: &TinyVec<A>) -> usize
     count(v)
 }
 
-/// A full inline list goes to the heap if memory is granted, and else nothing changes.
+/// A full inline list moves to the heap, or nothing changes if memory is refused.
 pub fn one_too_many<A: Array>(v: &mut TinyVec<A>, x: A::Item) -> bool
     requires { tiny_len v.old ≡ A.CAPACITY }
     ensures heap { IsTrue result → is_inline v.new ≡ false }
@@ -103,7 +103,7 @@ pub fn cut<A: Array, R: RangeBounds<usize>>(v: &mut TinyVec<A>, range: R)
     drop(v.drain(range));
 }
 
-/// The item at `n` of any range of any vector. What was passed over and what was never asked for are gone too.
+/// The item at `n` of any range of any vector. Those before it and those after it are gone too.
 pub fn nth_of<A: Array, R: RangeBounds<usize>>(
     v: &mut TinyVec<A>,
     range: R,

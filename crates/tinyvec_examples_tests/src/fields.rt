@@ -1,5 +1,5 @@
-//! A definition of the fields of a line that has the same mistake as the code would pass the check. They were written down
-//! by hand.
+//! A definition of the fields of a line that has the same mistake as the code would pass the check. Those here were
+//! written down by hand.
 use example_fields::{key_and_value, split};
 use std::test::Fail;
 

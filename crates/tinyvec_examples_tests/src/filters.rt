@@ -1,4 +1,5 @@
-//! A filter whose clause and body both keep what it is to drop would pass the check. The tutorial quotes the first test.
+//! A filter whose clause and body both keep what it is to drop would pass the check. The tutorial quotes the first
+//! test.
 use std::test::Fail;
 use tinyvec::{array_vec, tiny_vec};
 use tinyvec_examples::readme::filters::*;

@@ -1,5 +1,5 @@
-//! A call that is refused memory, or a writer's room, which is there would pass the check: what these answer is stated for a
-//! success alone.
+//! A call that is refused memory, or a writer's room, which is there would pass the check: what these return is stated
+//! for a success alone.
 use std::test::Fail;
 use tinyvec::{ArrayVec, TinyVec};
 use tinyvec_examples::readme::texts::progress;

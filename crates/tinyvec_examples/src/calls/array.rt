@@ -1,6 +1,6 @@
 //! Callers of an `ArrayVec`.
 ghost use Rattle.std.specs.Prelude.{◌≡◌, ◌≢◌, ◌+◌, ◌<◌, ◌≤◌, ◌∷◌, [], ◌++◌, ◌↔◌, ◌==◌, length, take, pos, IsTrue, IsOk, IsSome, OnOk, OnErr, IfOk, IfSome, IfNone, All, true, ◌-◌, if◌then◌else◌, is_ok};
-ghost use Rattle.tinyvec_array.specs.Slots.{items, spare, items_len, Shortens};
+ghost use Rattle.tinyvec_array.specs.Slots.{items, spare, items_len};
 
 use std::alloc::{AllocError, Global};
 use tinyvec_array::{Array, ArrayVec, ArrayVecIterator, TryFromSliceError};
@@ -337,7 +337,7 @@ where
     v.extend_from_within(n..)
 }
 
-/// The second and third number once more, which takes no memory.
+/// The second and third number once more, which allocates nothing.
 pub fn repeated() -> ArrayVec<[i32; 6]>
     ensures { items result ≡ pos 1 ∷ pos 2 ∷ pos 3 ∷ pos 4 ∷ pos 2 ∷ pos 3 ∷ [] }
 {
@@ -369,12 +369,4 @@ pub fn undriven<A: Array, F: FnMut(&mut A::Item) -> bool>(v: &mut ArrayVec<A>, f
     ensures { items v.new ≡ items v.old }
 {
     let _chosen = v.extract_if(.., f);
-}
-
-/// The first number above a limit, taken out.
-pub fn first_above(v: &mut ArrayVec<[u32; 8]>, limit: u32) -> Option<u32>
-    ensures { Shortens (λ x. x ≡ 0) v.old v.new }
-{
-    let mut chosen = v.extract_if(.., move |x| *x > limit);
-    chosen.next()
 }

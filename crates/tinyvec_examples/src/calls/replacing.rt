@@ -20,7 +20,8 @@ pub fn spelled(v: &mut ArrayVec<[u8; 16]>, word: &[u8]) -> Result<(), CapacityEr
 /// A word at a place of a list. If memory is refused, nothing changes.
 pub fn word_put_in(v: &mut TinyVec<[u8; 16]>, at: usize, word: &[u8]) -> Result<(), AllocError>
     requires { at ≤ tiny_len v.old }
-    ensures items { OnOk result (tiny_items v.new ≡ take at (tiny_items v.old) ++ word.now ++ drop at (tiny_items v.old)) }
+    ensures items { OnOk result (tiny_items v.new
+        ≡ take at (tiny_items v.old) ++ word.now ++ drop at (tiny_items v.old)) }
     ensures refused { OnErr result (Unchanged v.old v.new) }
 {
     v.replace_range(at..at, word)
@@ -38,12 +39,12 @@ pub fn copies_put_in<'a, T: Copy + Default + Drop + 'a, A: Array<Item = T>>(
     v.splice_all(at..at, more.iter().copied())
 }
 
-/// The characters of a text before the others: whether memory was granted for all.
+/// The characters of a text before the others. True unless memory is refused for one.
 pub fn spelled_before(v: &mut TinyVec<[char; 4]>, text: &str) -> bool {
     v.splice_all(0..0, text.chars()).is_ok()
 }
 
-/// Bytes at a place of a list: whether memory was granted for all.
+/// Bytes at a place of a list. True unless memory is refused for one.
 pub fn bytes_put_in(v: &mut TinyVec<[u8; 16]>, at: usize, bytes: &[u8]) -> bool
     requires { at ≤ tiny_len v.old }
 {

@@ -2,7 +2,7 @@
 ghost use Rattle.std.specs.Prelude.{◌≡◌, ◌≢◌, ◌+◌, ◌-◌, ◌<◌, ◌≤◌, ◌∷◌, [], ◌++◌, ◌↔◌, length, take, insert, remove, pos, false, IsTrue, IsSome, IsOk, OnOk, OnErr, IfOk, IfSome, IfNone};
 ghost use Rattle.std.specs.Box.{boxed_slice_items};
 ghost use Rattle.tinyvec_array.specs.Slots.{items};
-ghost use Rattle.tinyvec.specs.TinyVec.{tiny_items, tiny_len, tiny_capacity, is_inline, IsInline, StaysInPlace, Unchanged};
+ghost use Rattle.tinyvec.specs.TinyVec.{tiny_items, tiny_len, tiny_capacity, is_inline, IsInline, Unchanged};
 
 use std::alloc::{AllocError, Global};
 use std::boxed::BoxedSlice;
@@ -382,12 +382,4 @@ pub fn undriven<A: Array, F: FnMut(&mut A::Item) -> bool>(v: &mut TinyVec<A>, f:
     ensures { tiny_items v.new ≡ tiny_items v.old }
 {
     let _chosen = v.extract_if(.., f);
-}
-
-/// The first number above a limit, taken out. The list stays where it lies.
-pub fn first_above(v: &mut TinyVec<[u32; 4]>, limit: u32) -> Option<u32>
-    ensures { StaysInPlace (λ x. x ≡ 0) 4 v.old v.new }
-{
-    let mut chosen = v.extract_if(.., move |x| *x > limit);
-    chosen.next()
 }

@@ -19,7 +19,8 @@ pub struct DateTime {
     pub second: u8,
 }
 
-/// Appends the date and the time to a text that has room for them, so it cannot fail. With `pad_day` the day has two digits.
+/// Appends the date and the time to a text that has room for them, so it cannot fail. With `pad_day` the day has two
+/// digits.
 pub fn write_date_and_time<const N: usize>(dt: DateTime, pad_day: bool, out: &mut InlineText<N>)
     requires fits { spec.HasFewDigits dt }
     requires room { text_len out.old + 25 ≤ capacity_in N out.old.place }

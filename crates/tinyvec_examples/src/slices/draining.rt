@@ -9,7 +9,7 @@ ghost use Rattle.tinyvec_slice.specs.SliceVec.{items_of, name_of, view_of, items
 use std::ops::RangeBounds;
 use tinyvec_slice::{GenericSliceVec, Lent, SliceVec};
 
-/// Left at the end of its scope, after one item of two.
+/// Dropped at the end of its scope, after one item of two.
 pub fn drain_one<B: Lent>(v: &mut GenericSliceVec<B>) -> Option<B::Item>
 where
     B::Item: Default,

@@ -11,6 +11,6 @@ invariant-loop-reading g l = record {
   grows : l.fn.reader.faults ≤ l.reader.faults;
 }
 
--- no vector has so many items
+-- no vector has 2 ^ 64 items
 abbrev pub decreases-loop-reading : goal.decreases-loop-reading
 decreases-loop-reading g l = 2 ^ 64 - length l.records.items

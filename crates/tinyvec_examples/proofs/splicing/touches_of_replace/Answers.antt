@@ -15,7 +15,7 @@ module _ (g : _) (c : Joined-finished g) where
   counts =
       array_counted (fuse_steps g.I.Iterator.next_gives) (fuse_steps g.I.DoubleEndedIterator.next_back_gives) c.splice-splice.result (front ∷ back ∷ []) _ c.one_from_each_end-first.new.splice c.one_from_each_end-first.ensures.asked
 
-  -- what stands around the range, and in it
+  -- what is around the range, and in it
   around : length (splice_front c.splice-splice.result) + length (splice_back c.splice-splice.result) ≡ items_len c.args.vec.now - (c.args.end - c.args.start)
   around =
       let xs = items c.args.vec.now in
