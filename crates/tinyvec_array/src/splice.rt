@@ -1,5 +1,5 @@
 //! The splice: what replaces a range of items by those of an iterator.
-ghost use Rattle.std.specs.Prelude.{◌≡◌, length, false, codes, Some, IfSome, ◌+◌, ◌-◌, ◌*◌, ◌<◌, ◌≤◌, ◌++◌, List, IfErr, ◌↔◌, MatchResult, IsOk, OnOk, OnErr, refl};
+ghost use Rattle.std.specs.Prelude.{◌≡◌, length, false, codes, Some, IfSome, ◌+◌, ◌-◌, ◌<◌, ◌≤◌, ◌++◌, List, IfErr, ◌↔◌, MatchResult, IsOk, OnOk, OnErr, refl};
 ghost use Rattle.std.specs.Fmt.{debug_list, debug_variant};
 ghost use Rattle.std.specs.Iterator.{UpTo, MakesProgress, at_most, Drains, YieldsThen};
 ghost use Rattle.std.specs.Iterator.Adapters.{fuse_done, fuse_source, fuse_steps};
@@ -9,7 +9,7 @@ ghost use Rattle.tinyvec_slots.specs.Ranges.{IsRangeOf, before, removed, after};
 ghost use Rattle.tinyvec_slots.specs.Filling.{ShowsItems, IntoIterYields};
 ghost use Rattle.tinyvec_slots.specs.Fused.{FusedCan, fused_rest};
 ghost use Rattle.tinyvec_slots.specs.Replacing.{FusedYields, PutsBetween};
-ghost use Rattle.tinyvec_slots.specs.AnySplice.{finish_placed, finish_bound, Finishes, FinishesWith};
+ghost use Rattle.tinyvec_slots.specs.AnySplice.{FinishTouches, Finishes, FinishesWith};
 ghost use Rattle.std.proofs.Common.{le_refl};
 
 use crate::{Array, ArrayVec, CapacityError, NoRoom, SpliceRest};
@@ -252,18 +252,8 @@ impl<'a, A: Array, I: Iterator<Item = A::Item>> ArrayVecSplice<'a, A, Fuse<I>> {
     #[inline(always)]
     pub fn finish_counted(self) -> (Result<(), SpliceRest<A::Item, Fuse<I>>>, u128)
         requires { SpliceCanNext I.can_next self }
-        // Exact for a list that did not grow: two touches for each item placed in a filled gap, and one more for each
-        // slot after a closed one.
-        ensures filled { items_len self.exit.0.now ≡ items_len (splice_slots self.entry)
-            → result.1 ≡ splice_touches self.entry
-            + 2 * finish_placed (splice_view self.entry) (items self.exit.0.now) }
-        ensures closed { items_len self.exit.0.now < items_len (splice_slots self.entry)
-            → result.1 ≡ splice_touches self.entry + finish_placed (splice_view self.entry) (items self.exit.0.now)
-            + (items_len (splice_slots self.entry) - length (splice_front self.entry)) }
-        ensures at_least { splice_touches self.entry + finish_placed (splice_view self.entry) (items self.exit.0.now)
-            ≤ result.1 }
-        ensures at_most { result.1 ≤ splice_touches self.entry
-            + finish_bound (splice_view self.entry) (items_len (splice_slots self.entry)) (items self.exit.0.now) }
+        ensures touches { FinishTouches (splice_view self.entry) (items_len (splice_slots self.entry)) 0
+            (items self.exit.0.now) result.1 }
         ensures finished { Finishes (fuse_steps I.next_gives) A.CAPACITY
             (splice_view self.entry) result.0 (items self.exit.0.now) }
         ensures slot_rule { SlotRule A.Item.is_default (splice_slots self.entry) self.exit.0.now }
