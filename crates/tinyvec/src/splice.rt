@@ -1,5 +1,5 @@
 //! The splice: what replaces a range of items by those of an iterator.
-ghost use Rattle.std.specs.Prelude.{◌≡◌, length, false, codes, Some, IfSome, ◌+◌, ◌-◌, ◌*◌, ◌<◌, ◌≤◌, ◌++◌, List, take, drop, IsOk, OnErr, IfErr, MatchResult, OnOk, true};
+ghost use Rattle.std.specs.Prelude.{◌≡◌, length, false, codes, Some, IfSome, ◌+◌, ◌-◌, ◌<◌, ◌≤◌, ◌++◌, List, take, drop, IsOk, OnErr, IfErr, MatchResult, OnOk, true};
 ghost use Rattle.std.specs.Fmt.{debug_list, debug_variant};
 ghost use Rattle.std.specs.Iterator.{UpTo, MakesProgress, at_most, IsFinite, Drains, YieldsThen};
 ghost use Rattle.std.specs.Iterator.Adapters.{fuse_done, fuse_source, fuse_steps};
@@ -9,7 +9,7 @@ ghost use Rattle.tinyvec_slots.specs.Ranges.{IsRangeOf, before, removed, after};
 ghost use Rattle.tinyvec.specs.TinyVec.{tiny_items, tiny_len, is_inline, tiny_capacity, StaysInPlace, Becomes, Unchanged};
 ghost use Rattle.tinyvec_slots.specs.Filling.{IntoIterYields};
 ghost use Rattle.tinyvec_slots.specs.Replacing.{PutsBetween};
-ghost use Rattle.tinyvec_slots.specs.AnySplice.{finish_placed, finish_bound};
+ghost use Rattle.tinyvec_slots.specs.AnySplice.{FinishTouches};
 ghost use Rattle.tinyvec.specs.Room.{Grows, GrowsFor, RoomGrows};
 ghost use Rattle.tinyvec.specs.TinyVecSplice.{items_moved};
 
@@ -267,21 +267,9 @@ impl<'a, A: Array, I: Iterator<Item = A::Item>> TinyVecSplice<'a, A, Fuse<I>> {
     pub fn finish_counted(self) -> (Result<(), SpliceRest<A::Item, Fuse<I>>>, u128)
         requires can { SpliceCanNext I.can_next self }
         requires finite { FusedFinite I.remaining (splice_replacement self) }
-
-        // If the list got no longer the number is exact: two touches for each item placed in a filled gap, and in a
-        // closed one a further touch for each slot after those.
-        ensures filled { tiny_len self.exit.0.now ≡ tiny_len (splice_vec self.entry)
-            → result.1 ≡ splice_touches self.entry
-            + 2 * finish_placed (splice_view self.entry) (tiny_items self.exit.0.now) }
-        ensures closed { tiny_len self.exit.0.now < tiny_len (splice_vec self.entry)
-            → result.1 ≡ splice_touches self.entry
-            + finish_placed (splice_view self.entry) (tiny_items self.exit.0.now)
-            + (tiny_len (splice_vec self.entry) - length (splice_front self.entry)) }
-        ensures at_least { splice_touches self.entry + finish_placed (splice_view self.entry) (tiny_items self.exit.0.now)
-            ≤ result.1 }
-        ensures at_most { result.1 ≤ splice_touches self.entry
-            + finish_bound (splice_view self.entry) (tiny_len (splice_vec self.entry)) (tiny_items self.exit.0.now)
-            + items_moved A.CAPACITY (is_inline (splice_vec self.entry)) (is_inline self.exit.0.now) }
+        ensures touches { FinishTouches (splice_view self.entry) (tiny_len (splice_vec self.entry))
+            (items_moved A.CAPACITY (is_inline (splice_vec self.entry)) (is_inline self.exit.0.now))
+            (tiny_items self.exit.0.now) result.1 }
         ensures finishes { FinishesVec A.Item.is_default A.CAPACITY I.can_next I.next_gives self.entry result.0 self.exit.0.now }
     {
         let TinyVecSplice {

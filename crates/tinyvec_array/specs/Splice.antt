@@ -1,5 +1,5 @@
 -- What a contract sees of an `ArrayVecSplice`, and what its calls do to it.
-use Rattle.std.specs.Prelude.{◌≡◌, ℕ, ◌+◌, ◌-◌, ◌*◌, ◌<◌, ◌≤◌, false, List, length, Option, Result, IfErr}
+use Rattle.std.specs.Prelude.{◌≡◌, ℕ, false, List, length, Option, Result, IfErr}
 use Rattle.std.specs.Borrow.{GName, MutBor}
 use Rattle.std.specs.declared.iter.Fuse.{Fuse}
 use Rattle.std.specs.declared.iter.Iterator as Iterator
@@ -10,7 +10,7 @@ use Rattle.tinyvec_slots.specs.Replacing.{FusedYields, PutsBetween}
 use Rattle.tinyvec_slots.specs.declared.no_room.SpliceRest.{SpliceRest}
 use Rattle.tinyvec_slots.specs.Gap.{gap_len, gap_view, GapCanStep}
 use Rattle.tinyvec_slots.specs.Slots.{Slots, SlotRule, items, spare, items_len}
-use Rattle.tinyvec_slots.specs.AnySplice.{SpliceView, Splices, SplicesBack, Finishes, FinishesWith, finish_placed, finish_bound}
+use Rattle.tinyvec_slots.specs.AnySplice.{SpliceView, Splices, SplicesBack, Finishes, FinishesWith}
 use Rattle.tinyvec_array.specs.declared.splice.ArrayVecSplice.{ArrayVecSplice}
 
 module _ {A I T : Type 0} where
@@ -81,15 +81,6 @@ pub record SpliceEnds {A I T : Type 0} (D : T → Type 0) (slots : ℕ) (iter : 
   pub listed : (rest : I → List T) → ShowsItems iter.next_gives rest → FinishesWith (fused_rest rest) slots (splice_view s) result (items v)
   pub known : (xs : List T) → FusedYields iter.next_gives (splice_replacement s) xs
       → PutsBetween slots (splice_front s) xs (splice_back s) result (items v)
-
--- `finish` of s left this list, and there were n touches since `splice`. Exact for a list that did not grow: two touches for each
--- item placed in a filled gap, and one more for each slot after a closed one.
-pub record CountsTouches {A I T : Type 0} (s : ArrayVecSplice A I T) (list : List T) (n : ℕ) : Type 0 where
-  pub filled : length list ≡ items_len (splice_slots s) → n ≡ splice_touches s + 2 * finish_placed (splice_view s) list
-  pub closed : length list < items_len (splice_slots s)
-      → n ≡ splice_touches s + finish_placed (splice_view s) list + (items_len (splice_slots s) - length (splice_front s))
-  pub at_least : splice_touches s + finish_placed (splice_view s) list ≤ n
-  pub at_most : n ≤ splice_touches s + finish_bound (splice_view s) (items_len (splice_slots s)) list
 
 module _ {A I T : Type 0} where
   -- old and new borrow the same vector. Its list in the array is as long, and its spare slots are the same.

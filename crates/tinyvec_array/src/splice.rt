@@ -9,6 +9,7 @@ ghost use Rattle.tinyvec_slots.specs.Ranges.{IsRangeOf, before, removed, after};
 ghost use Rattle.tinyvec_slots.specs.Filling.{IntoIterYields};
 ghost use Rattle.tinyvec_slots.specs.Fused.{FusedCan};
 ghost use Rattle.tinyvec_slots.specs.Replacing.{PutsBetween};
+ghost use Rattle.tinyvec_slots.specs.AnySplice.{FinishTouches};
 ghost use Rattle.std.proofs.Common.{le_refl};
 
 use crate::{Array, ArrayVec, CapacityError, NoRoom, SpliceRest};
@@ -205,7 +206,7 @@ where
 }
 
 impl<'a, A: Array, I: Iterator<Item = A::Item>> ArrayVecSplice<'a, A, Fuse<I>> {
-    ghost use Rattle.tinyvec_array.specs.Splice.{splice_front, splice_back, splice_replacement, splice_slots, splice_touches, SpliceCanStep, SpliceCanNext, SpliceEnds, CountsTouches};
+    ghost use Rattle.tinyvec_array.specs.Splice.{splice_view, splice_front, splice_back, splice_replacement, splice_slots, splice_touches, SpliceCanStep, SpliceCanNext, SpliceEnds};
 
     /// The number of touches since `splice`. A touch takes the item of one slot, which may leave a default there, places
     /// one item, or swaps two slots.
@@ -230,7 +231,8 @@ impl<'a, A: Array, I: Iterator<Item = A::Item>> ArrayVecSplice<'a, A, Fuse<I>> {
     pub fn finish_counted(self) -> (Result<(), SpliceRest<A::Item, Fuse<I>>>, u128)
         requires { SpliceCanNext I.can_next self }
         ensures finish { SpliceEnds A.Item.is_default A.CAPACITY I.Iterator self.entry result.0 self.exit.0.now }
-        ensures touches { CountsTouches self.entry (items self.exit.0.now) result.1 }
+        ensures touches { FinishTouches (splice_view self.entry) (items_len (splice_slots self.entry)) 0
+            (items self.exit.0.now) result.1 }
     {
         let ArrayVecSplice {
             vec,

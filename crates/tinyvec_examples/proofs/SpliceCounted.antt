@@ -4,7 +4,7 @@ use Rattle.std.proofs.lemmas.List.{length_push}
 use Rattle.std.specs.Option.{option_to_list}
 use Rattle.std.specs.declared.iter.Fuse.{Fuse}
 use Rattle.tinyvec_slots.specs.Ends.{End, front, back, RunsWord, given_items}
-use Rattle.tinyvec_slots.specs.AnySplice.{SpliceView, Splices, SplicesBack, finish_placed, finish_bound}
+use Rattle.tinyvec_slots.specs.AnySplice.{SpliceView, Splices, SplicesBack, FinishTouches}
 use Rattle.tinyvec_array.specs.Splice.{splice_view, SpliceKeeps, SpliceSteps, SpliceStepsBack}
 use Rattle.tinyvec_array.specs.declared.splice.ArrayVecSplice.{ArrayVecSplice}
 use Rattle.tinyvec.specs.TinyVecSplice as tiny
@@ -95,10 +95,10 @@ module _ {S I T : Type 0} {view : S → SpliceView I T} {keeps : S → S → Typ
   pub kept_around : length (view s).front + length (view s).back ≤ length list
   kept_around = omega (arith, counts.borders)
 
-  pub touched_at_least : (touches : ℕ) → (view t).touches + finish_placed (view t) list ≤ touches
+  pub touched_at_least : (touches slots : ℕ) → FinishTouches (view t) slots 0 list touches
       → length (given_items answers) + (length list - (length (view s).front + length (view s).back)) ≤ touches
-  touched_at_least touches le = omega (arith, counts.borders, counts.touches)
+  touched_at_least touches slots h = omega (arith, h.at_least, counts.borders, counts.touches)
 
-  pub touched_at_most : (touches slots : ℕ) → touches ≤ (view t).touches + finish_bound (view t) slots list
+  pub touched_at_most : (touches slots : ℕ) → FinishTouches (view t) slots 0 list touches
       → touches ≤ length (view s).left + (length list - (length (view s).front + length (view s).back)) + max slots (length list)
-  touched_at_most touches slots le = omega (arith, counts.borders, counts.touches, counts.given)
+  touched_at_most touches slots h = omega (arith, h.at_most, counts.borders, counts.touches, counts.given)

@@ -7,7 +7,7 @@ use Rattle.std.specs.Borrow.{MutBor}
 use Rattle.tinyvec_slots.specs.Slots.{Slots, SlotRule}
 use Rattle.tinyvec_slots.specs.Touches.{touch_count}
 use Rattle.tinyvec_array.specs.declared.splice.ArrayVecSplice.{ArrayVecSplice}
-use Rattle.tinyvec_array.specs.Splice.{splice_view, splice_front, splice_left, splice_len, splice_back, splice_replacement, splice_touches, splice_slots, splice_lender, SpliceCanStep, SpliceCanNext, SpliceSteps, SpliceStepsBack, SpliceBegins, SpliceEnds, CountsTouches}
+use Rattle.tinyvec_array.specs.Splice.{splice_view, splice_front, splice_left, splice_len, splice_back, splice_replacement, splice_touches, splice_slots, splice_lender, SpliceCanStep, SpliceCanNext, SpliceSteps, SpliceStepsBack, SpliceBegins, SpliceEnds}
 use Rattle.tinyvec_words.proofs.Shown.{D, over}
 
 module _ (A : Type 0) (s t : ArrayVecSplice A (Fuse (List ℕ)) ℕ) (vec : s.vec.now ≡ over (1 ∷ 2 ∷ 3 ∷ 4 ∷ []) (0 ∷ [])) (front : s.gap.front ≡ 1) (next : s.gap.next ≡ 1) (end : s.gap.end ≡ 3) (back : s.gap.back ≡ 3) (touches : touch_count s.gap.touches ≡ 0) where
@@ -55,6 +55,3 @@ module _ (A : Type 0) (s t : ArrayVecSplice A (Fuse (List ℕ)) ℕ) (vec : s.ve
 
   pub example-SpliceEnds : (iter : Iterator.Ghosts (List ℕ) ℕ) → SpliceEnds D 5 iter s (Ok tt) (over (1 ∷ 7 ∷ 4 ∷ []) (0 ∷ 0 ∷ [])) → SlotRule D (splice_slots s) (over (1 ∷ 7 ∷ 4 ∷ []) (0 ∷ 0 ∷ []))
   example-SpliceEnds iter h = h.slot_rule
-
-  pub example-CountsTouches : (n : ℕ) → CountsTouches s (1 ∷ 7 ∷ 4 ∷ []) n → 1 ≤ n
-  example-CountsTouches n h = rw (touches, vec, front, back) at h.at_least

@@ -2,7 +2,7 @@
 use Rattle.std.proofs.Common.{◌≡◌, ℕ, List, [], ◌∷◌, ◌++◌, Some, Ok, Result, false, codes, refl, rules, arith}
 use Rattle.std.specs.Fmt.{radix_digits}
 use Rattle.tinyvec_slots.specs.declared.no_room.SpliceRest.{SpliceRest}
-use Rattle.tinyvec_slots.specs.AnySplice.{SpliceView, finish_placed, finish_bound, Finishes, FinishesWith}
+use Rattle.tinyvec_slots.specs.AnySplice.{SpliceView, FinishTouches, Finishes, FinishesWith}
 use Rattle.tinyvec_slots.specs.Replacing.{PutsBetween}
 use Rattle.tinyvec_slots.specs.Texts.{list_in_radix}
 use Rattle.tinyvec_array.specs.IntoIter.{GivesFirst}
@@ -21,11 +21,9 @@ s replacement = record {
 abbrev pub done : Result Unit (SpliceRest ℕ (List ℕ))
 done = Ok _
 
-pub example-finish_placed : finish_placed (s (7 ∷ [])) (1 ∷ 7 ∷ 4 ∷ []) ≡ 1
-example-finish_placed = refl
-
-pub example-finish_bound : finish_bound (s (7 ∷ [])) 4 (1 ∷ 7 ∷ 4 ∷ []) ≡ 7
-example-finish_bound = refl
+-- one item is placed and one slot closed, over which the last item moves
+pub example-FinishTouches : FinishTouches (s (7 ∷ [])) 4 0 (1 ∷ 7 ∷ 4 ∷ []) 4
+example-FinishTouches = search rules
 
 pub example-Finishes : Finishes GivesFirst 8 (s (7 ∷ [])) done (1 ∷ 7 ∷ 4 ∷ [])
 example-Finishes = record {

@@ -46,7 +46,7 @@ returns-clause-at_least g c =
     let same = (counts g c).kept.same_reference in
     let lender = c.splice-splice.ensures.same_reference in
     let v = c.finish_counted-finished.new.self.0 in
-    let least = touched_at_least c.splice-splice.result c.one_from_each_end-first.new.splice _ (items v) (counts g c) c.splice-splice.ensures.touches (within g c) c.finish_counted-finished.result.1 c.finish_counted-finished.ensures.touches.at_least in
+    let least = touched_at_least c.splice-splice.result c.one_from_each_end-first.new.splice _ (items v) (counts g c) c.splice-splice.ensures.touches (within g c) c.finish_counted-finished.result.1 _ c.finish_counted-finished.ensures.touches in
     let given = length (given_items (c.one_from_each_end-first.result.0 ∷ c.one_from_each_end-first.result.1 ∷ [])) in
     let fact : given + (items_len v - (items_len c.args.vec.now - (c.args.end - c.args.start))) ≤ c.finish_counted-finished.result.1 =
     subst (λ n. given + (items_len v - n) ≤ c.finish_counted-finished.result.1) (around g c) least in
@@ -59,7 +59,7 @@ returns-clause-at_most g c =
     let v = c.finish_counted-finished.new.self.0 in
     let old = c.args.vec.now in
     let touches = c.finish_counted-finished.result.1 in
-    let most = touched_at_most c.splice-splice.result c.one_from_each_end-first.new.splice _ (items v) (counts g c) c.splice-splice.ensures.touches (within g c) touches _ c.finish_counted-finished.ensures.touches.at_most in
+    let most = touched_at_most c.splice-splice.result c.one_from_each_end-first.new.splice _ (items v) (counts g c) c.splice-splice.ensures.touches (within g c) touches _ c.finish_counted-finished.ensures.touches in
     let is = around g c in
     let all = inside g c in
     let slots = (counts g c).kept.len ∙ ap items_len c.splice-splice.ensures.slots in
