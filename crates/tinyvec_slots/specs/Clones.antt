@@ -42,14 +42,14 @@ pub record ClonesOverFrom {T : Type 0} (C : T → T → Type 0) (start : ℕ) (x
   pub count : length made ≡ n
   pub written : new ≡ take start old ++ made ++ drop (start + n) old
 
--- A call that was to write clones of xs returned r, if `Written ys n` says that the n clones of ys are written. The first clone
--- that was refused, of element j, ended it.
+-- A call that writes clones of xs returned r. `Written ys n` says that the n clones of ys are written. The first refused clone, of
+-- element j, ended it.
 pub record WritesClones {T R E : Type 0} (g : Clone.Ghosts T) (Written : List T → ℕ → Type 0) (xs : List T) (r : Result R E) : Type 0 where
   pub ok : OnOk r (Written xs (length xs))
   pub refused : OnErr r ((j : ℕ) × RefusedAt g.is_infallible xs j × Written (take j xs) j)
   pub succeeds : All g.is_infallible xs → IsOk r
 
--- A call that was to append clones of xs, over the spare slots behind the list, returned r and took `old` to `new`.
+-- A call that appends clones of xs, over the first spare slots, took `old` to `new` and returned r.
 pub record AddsClones {T R E : Type 0} (g : Clone.Ghosts T) (xs : List T) (r : Result R E) (old new : Slots T) : Type 0 where
   pub items : OnOk r (AppendsClones g.is_clone (list_of old) (list_of new) xs)
   pub len : OnOk r (items_len new ≡ items_len old + length xs)
@@ -60,16 +60,15 @@ pub record AddsClones {T R E : Type 0} (g : Clone.Ghosts T) (xs : List T) (r : R
   pub refused : OnErr r ((j : ℕ) × RefusedAt g.is_infallible xs j × ClonesOver g.is_clone (take j xs) j (spare_of old) (spare_of new))
   pub succeeds : All g.is_infallible xs → IsOk r
 
--- A call that was to append clones of xs, all or none, returned r and took `old` to `new`.
-pub record AddsAllOrNone {T R E : Type 0} (C : T → T → Type 0) (xs : List T) (r : Result R E) (old new : Slots T) : Type 0 where
-  pub items : OnOk r (AppendsClones C (list_of old) (list_of new) xs)
-  pub len : items_len new ≡ (if is_ok r then items_len old + length xs else items_len old)
-  pub if_clones_equal : ClonesAreEqual C → list_of new ≡ (if is_ok r then list_of old ++ xs else list_of old)
-  pub spare : OnOk r (spare_of new ≡ drop (length xs) (spare_of old))
-  pub kept : OnErr r (list_of new ≡ list_of old)
+-- A call that appends clones of xs, or nothing, took the list `old` to `new` and returned r.
+pub record AppendsAllOrNone {T R E : Type 0} (C : T → T → Type 0) (xs : List T) (r : Result R E) (old new : List T) : Type 0 where
+  pub items : OnOk r (AppendsClones C old new xs)
+  pub len : length new ≡ (if is_ok r then length old + length xs else length old)
+  pub if_clones_equal : ClonesAreEqual C → new ≡ (if is_ok r then old ++ xs else old)
+  pub kept : OnErr r (new ≡ old)
 
--- A call that was to make the list n items long returned r and took `old` to `new`. It cuts the list, or writes clones of x over
--- the spare slots behind it.
+-- A call that makes the list n items long took `old` to `new` and returned r. It truncates the list, or fills it up with clones
+-- of x.
 pub record ResizesByClones {T R E : Type 0} (g : Clone.Ghosts T) (n : ℕ) (x : T) (r : Result R E) (old new : Slots T) : Type 0 where
   pub items : OnOk r (AppendsClones g.is_clone (take n (list_of old)) (list_of new) (replicate (n - items_len old) x))
   pub len : OnOk r (items_len new ≡ n)
@@ -84,8 +83,8 @@ pub record ResizesByClones {T R E : Type 0} (g : Clone.Ghosts T) (n : ℕ) (x : 
 abbrev pub ClonesBefore : {T : Type 0} → (T → T → Type 0) → List T → List T → List T → Type 0
 ClonesBefore {T} C xs old new = (ys : List T) × AllZip C xs ys × (new ≡ ys ++ old)
 
--- A call that was to cut the list to n items, and to write clones of x into the vacated slots, the last slot first, returned r
--- and took `old` to `new`.
+-- A call that truncates the list to n items, and writes clones of x into the vacated slots from the last on, took `old` to `new`
+-- and returned r.
 pub record CutsToClones {T R E : Type 0} (g : Clone.Ghosts T) (n : ℕ) (x : T) (r : Result R E) (old new : Slots T) : Type 0 where
   pub items : OnOk r (list_of new ≡ take n (list_of old))
   pub spare : OnOk r (ClonesBefore g.is_clone (replicate (items_len old - n) x) (spare_of old) (spare_of new))

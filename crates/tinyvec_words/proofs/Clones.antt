@@ -1,7 +1,7 @@
 -- Examples of clones, one of which was refused.
 use Rattle.std.proofs.Common.{[], ◌∷◌, refl, rules, arith}
 use Rattle.std.specs.Prelude.{⊤, ℕ, Ok}
-use Rattle.tinyvec_slots.specs.Clones.{ClonesAreEqual, AreClones, RefusedAt, ClonesOver, AddsClones, AddsAllOrNone, ResizesByClones, ClonesBefore, CutsToClones, ClonesInPart}
+use Rattle.tinyvec_slots.specs.Clones.{ClonesAreEqual, AreClones, RefusedAt, ClonesOver, AddsClones, AppendsAllOrNone, ResizesByClones, ClonesBefore, CutsToClones, ClonesInPart}
 use Rattle.tinyvec_words.proofs.Shown.{D, C, I, over}
 
 pub example-ClonesAreEqual : ClonesAreEqual C
@@ -32,8 +32,8 @@ example-AddsClones = record {
   succeeds = λ _. refl;
 }
 
-pub example-AddsAllOrNone : AddsAllOrNone {R = ℕ} {E = ℕ} C (7 ∷ []) (Ok 0) (over (1 ∷ []) (0 ∷ [])) (over (1 ∷ 7 ∷ []) [])
-example-AddsAllOrNone = record { items = (7 ∷ [], refl, (refl, tt)); len = refl; if_clones_equal = λ _. refl; spare = refl; kept = tt }
+pub example-AppendsAllOrNone : AppendsAllOrNone {R = ℕ} {E = ℕ} C (7 ∷ []) (Ok 0) (1 ∷ []) (1 ∷ 7 ∷ [])
+example-AppendsAllOrNone = record { items = (7 ∷ [], refl, (refl, tt)); len = refl; if_clones_equal = λ _. refl; kept = tt }
 
 pub example-ResizesByClones : ResizesByClones {R = ℕ} {E = ℕ} (record { is_clone = C; is_infallible = I }) 3 7 (Ok 0) (over (1 ∷ []) (0 ∷ 0 ∷ 3 ∷ [])) (over (1 ∷ 7 ∷ 7 ∷ []) (3 ∷ []))
 example-ResizesByClones = record {

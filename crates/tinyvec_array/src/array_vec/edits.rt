@@ -3,7 +3,7 @@ ghost use Rattle.std.specs.Prelude.{◌≡◌, ◌-◌, ◌<◌, ◌≤◌, ◌�
 ghost use Rattle.tinyvec_slots.specs.Slots.{items, spare, items_len, AreDefaults, Gains, Loses, SameSpare};
 ghost use Rattle.std.specs.Borrow.{sem};
 ghost use Rattle.std.specs.List.{swap_remove, SwappedAt};
-ghost use Rattle.tinyvec_slots.specs.Clones.{RefusedAt, ClonesOver, AddsAllOrNone};
+ghost use Rattle.tinyvec_slots.specs.Clones.{RefusedAt, ClonesOver, AppendsAllOrNone};
 
 use crate::slots::{bounded_index, prefers_shifting_in};
 use crate::{Array, ArrayVec, TryFromSliceError};
@@ -223,7 +223,8 @@ impl<A: Array> ArrayVec<A> {
         ensures too_long { (result ≡ Err TryFromSliceError.TooLong)
             ↔ (A.CAPACITY < items_len self.old + length other.now) }
         ensures unchanged { result ≡ Err TryFromSliceError.TooLong → self.new ≡ self.old }
-        ensures added { AddsAllOrNone A.Item.is_clone other.now result self.old self.new }
+        ensures added { AppendsAllOrNone A.Item.is_clone other.now result (items self.old) (items self.new) }
+        ensures spare { OnOk result (spare self.new ≡ drop (length other.now) (spare self.old)) }
         ensures fits { items_len self.new ≤ A.CAPACITY }
 
         // The first `j` spare slots hold the clones made.
