@@ -9,7 +9,6 @@ use Rattle.std.specs.Iterator.{endless}
 use Rattle.std.specs.Iterator.Adapters.{fuse_done, fuse_source}
 use Rattle.tinyvec_slots.specs.Ends.{RunsWord, TakesFromEnds, back}
 use Rattle.tinyvec_slots.specs.Filling.{IntoIterYields, ShowsItems, Fills, Extends, Collects, Iterates, IteratesMut}
-use Rattle.tinyvec_slots.specs.declared.no_room.FromIterRest.{FromIterRest}
 use Rattle.tinyvec_slots.specs.Fused.{FusedCan, FusedFinite, fused_rest}
 use Rattle.tinyvec_slots.specs.Replacing.{FusedYields}
 use Rattle.tinyvec_array.specs.IntoIter.{GivesFirst, GivesLast, GivesFromEnds, IteratesOver}
@@ -34,7 +33,7 @@ example-Fills = fills_by _ _ _ _ _ (1 ∷ 2 ∷ 3 ∷ []) (1 ∷ 2 ∷ []) refl 
 pub example-Extends : Extends {U = List ℕ} (λ xs it. it ≡ xs) GivesFirst (1 ∷ 2 ∷ 3 ∷ []) 2 (λ xs. xs ≡ 1 ∷ 2 ∷ []) {R = ℕ} (Err (record { item = 3; rest = [] }))
 example-Extends = extends_full _ _ _ _ _ (1 ∷ 2 ∷ 3 ∷ []) (1 ∷ 2 ∷ []) refl refl [] 3 refl (search rules)
 
-pub example-Collects : (v : List ℕ) → Collects {U = List ℕ} (λ xs it. it ≡ xs) GivesFirst (1 ∷ []) 2 (λ v xs. v ≡ xs) (Ok {E = FromIterRest (List ℕ) ℕ (List ℕ)} v) → v ≡ 1 ∷ []
+pub example-Collects : (v : List ℕ) → Collects {U = List ℕ} (λ xs it. it ≡ xs) GivesFirst (1 ∷ []) 2 (λ v xs. v ≡ xs) (Ok v) → v ≡ 1 ∷ []
 example-Collects v h = (h.known (1 ∷ []) (search rules) (search rules)).1
 
 pub example-fused_rest : (s : Fuse (List ℕ)) → fuse_done s ≡ true → fused_rest (λ left. left) s ≡ []
