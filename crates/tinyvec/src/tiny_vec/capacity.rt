@@ -12,8 +12,7 @@ use tinyvec_array::{Array, ArrayVec, NoMemory};
 
 impl<A: Array> TinyVec<A> {
     // Doubles the capacity of a full list.
-    #[cold]
-    #[inline(never)]
+    #[inline(always)]
     pub(crate) fn grow_one(&mut self) -> Result<(), AllocError>
         requires { tiny_capacity A.CAPACITY self.old ≤ tiny_len self.old }
         ensures items { tiny_items self.new ≡ tiny_items self.old }
