@@ -11,9 +11,8 @@ use std::boxed::BoxedSlice;
 use tinyvec_array::{Array, ArrayVec, NoMemory};
 
 impl<A: Array> TinyVec<A> {
-    // Doubles the capacity of a full list.
-    #[cold]
-    #[inline(never)]
+    // Doubles the capacity of a full list. Inlined, since `grow` is a call of its own.
+    #[inline(always)]
     pub(crate) fn grow_one(&mut self) -> Result<(), AllocError>
         requires { tiny_capacity A.CAPACITY self.old ≤ tiny_len self.old }
         ensures items { tiny_items self.new ≡ tiny_items self.old }

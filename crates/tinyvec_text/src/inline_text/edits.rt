@@ -72,7 +72,25 @@ impl<const N: usize> InlineText<N> {
         ensures room { TextMakesRoom (lies_inline self.old.place && nat_le 128 ch) N (text_len self.old + length (encode_utf8 ch))
             self.old self.new result }
     {
-        // Most characters are ASCII, and take a byte.
+        // Most characters are ASCII, and have room.
+        if ch.is_ascii() && self.len() < self.capacity() {
+            self.push_reserved(ch);
+            return Ok(());
+        }
+        self.push_slow(ch)
+    }
+
+    // `push` of any character. A call of its own, so that in a row of pushes LLVM keeps length and place in registers.
+    #[cold]
+    #[inline(never)]
+    fn push_slow(&mut self, ch: char) -> Result<(), AllocError>
+        ensures bytes { self.new.bytes
+            ≡ (if is_ok result then self.old.bytes ++ encode_utf8 ch else self.old.bytes) }
+        ensures ascii { ch < 128 → OnOk result (self.new.bytes ≡ self.old.bytes ++ ch ∷ []) }
+        ensures text { OnOk result (text_chars self.new ≡ text_chars self.old ++ ch ∷ []) }
+        ensures room { MakesRoom (lies_inline self.old.place && nat_le 128 ch) N (text_len self.old + length (encode_utf8 ch))
+            self.old self.new result }
+    {
         if ch.is_ascii() {
             self.list.push(ch as u8)?;
             return Ok(());
@@ -80,7 +98,7 @@ impl<const N: usize> InlineText<N> {
         self.push_wide(ch)
     }
 
-    // `push` of a character that takes more than a byte. A call of its own, so that `push` is short enough to inline.
+    // `push` of a character that takes more than a byte.
     #[inline(never)]
     fn push_wide(&mut self, c: char) -> Result<(), AllocError>
         requires { 128 ≤ c }

@@ -5,7 +5,7 @@ use Rattle.tinyvec.specs.TinyVec.{tiny_items}
 use Rattle.tinyvec_text.specs.InlineText.{Text, text_chars}
 use Rattle.tinyvec_text.proofs.Boundaries.{chars_of_one}
 use Rattle.tinyvec_text.proofs.Lists.{text_utf8, text_kept, text_same}
-use Rattle.tinyvec_text.proofs.inline_text.InlineText.push.Goals as goal
+use Rattle.tinyvec_text.proofs.inline_text.InlineText.push_slow.Goals as goal
 
 pub invariant_of-self : goal.invariant_of-self
 invariant_of-self g c = text_same c.self.inside.list c.push.new.self c.in_err-push.ensures.room.refused c.self.invariant
