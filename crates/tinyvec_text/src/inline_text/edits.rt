@@ -88,7 +88,7 @@ impl<const N: usize> InlineText<N> {
             ≡ (if is_ok result then self.old.bytes ++ encode_utf8 ch else self.old.bytes) }
         ensures ascii { ch < 128 → OnOk result (self.new.bytes ≡ self.old.bytes ++ ch ∷ []) }
         ensures text { OnOk result (text_chars self.new ≡ text_chars self.old ++ ch ∷ []) }
-        ensures room { MakesRoom (lies_inline self.old.place && nat_le 128 ch) N (text_len self.old + length (encode_utf8 ch))
+        ensures room { TextMakesRoom (lies_inline self.old.place && nat_le 128 ch) N (text_len self.old + length (encode_utf8 ch))
             self.old self.new result }
     {
         if ch.is_ascii() {
