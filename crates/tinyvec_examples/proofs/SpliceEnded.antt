@@ -97,7 +97,3 @@ module _ {S T : Type 0} (rest : S → List T) (s t : S) where
   pub next_is : (r : Option T) (x : T) (xs : List T) → YieldsFirst rest s r t → rest s ≡ x ∷ xs → r ≡ Some x
   next_is None x xs h is = absurd (let no : x ∷ xs ≡ [] = sym is ∙ h.0 in cc)
   next_is (Some y) x xs h is = let same : y ∷ rest t ≡ x ∷ xs = sym h ∙ is in cc
-
-  pub next_is_none : (r : Option T) → YieldsFirst rest s r t → rest s ≡ [] → r ≡ None
-  next_is_none None h is = refl
-  next_is_none (Some y) h is = absurd (let no : y ∷ rest t ≡ [] = sym h ∙ is in cc)

@@ -1,5 +1,5 @@
 //! Callers of a splice.
-ghost use Rattle.std.specs.Prelude.{◌≡◌, ◌≤◌, ◌+◌, ◌-◌, ◌++◌, ◌∷◌, [], List, pos, Some, None, length, take, drop, max, IsOk, OnOk, OnErr, IfErr, ◌↔◌};
+ghost use Rattle.std.specs.Prelude.{◌≡◌, ◌≤◌, ◌+◌, ◌-◌, ◌++◌, ◌∷◌, [], List, pos, Some, length, take, drop, max, IsOk, OnOk, OnErr, IfErr, ◌↔◌};
 ghost use Rattle.std.specs.Iterator.Adapters.{fuse_steps};
 ghost use Rattle.tinyvec_array.specs.Slots.{items, items_len, SlotRule};
 ghost use Rattle.tinyvec_array.specs.Ends.{front, back, given_items, RunsWord, TakesFromEnds};
@@ -123,21 +123,6 @@ pub fn refused() -> (i32, Option<i32>, [i32; 4])
     let mut v = ArrayVec::from_array_len([1, 2, 3, 0], 3);
     let mut splice = v.splice(1..2, [7, 8, 9, 10]);
     let _two = splice.next();
-    match splice.finish() {
-        Ok(()) => unreachable!(),
-        Err(SpliceRest { item, mut rest }) => (item, rest.next(), v.into_inner()),
-    }
-}
-
-/// The same of an item placed from the back.
-pub fn refused_before_the_back() -> (i32, Option<i32>, [i32; 4])
-    ensures item { result.0 ≡ pos 8 }
-    ensures rest { result.1 ≡ None }
-    ensures left { result.2 ≡ pos 1 ∷ pos 7 ∷ pos 9 ∷ pos 3 ∷ [] }
-{
-    let mut v = ArrayVec::from_array_len([1, 2, 3, 0], 3);
-    let mut splice = v.splice(1..2, [7, 8, 9]);
-    let _two = splice.next_back();
     match splice.finish() {
         Ok(()) => unreachable!(),
         Err(SpliceRest { item, mut rest }) => (item, rest.next(), v.into_inner()),
