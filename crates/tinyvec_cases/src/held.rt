@@ -1,24 +1,17 @@
 //! Calls that vectors have by what they hold.
 use crate::compare::{InBases, say_based, say_compared, say_shown};
-use crate::vector::Vector;
-use std::alloc::Global;
+use crate::vector::{Call, Vector};
 use std::fmt::Write as _;
 use std::hash::Hash;
 use std::io::Write as _;
 use std::{fmt, io};
 use tinyvec::{Array, ArrayVec, SliceVec, TinyVec};
-use tinyvec_rows::{Item, Span, Words, Wrong, done, say};
+use tinyvec_rows::{Item, Wrong, done, say};
 
 /// What vectors hold.
 pub trait Held<V>: Item {
     /// Does a call that only vectors of such items have, and fails by `Wrong::Call` at another.
-    fn call(
-        _v: &mut V,
-        _other: &mut V,
-        _name: &str,
-        _words: &mut Words<'_>,
-        _out: &mut String,
-    ) -> Result<(), Wrong> {
+    fn call(_v: &mut V, _other: &mut V, _call: &mut Call<'_>) -> Result<(), Wrong> {
         Err(Wrong::Call)
     }
 }
@@ -28,28 +21,16 @@ impl<V> Held<V> for () {}
 impl<V> Held<V> for Option<Box<i32>> {}
 
 impl<V: Copies<Item = i32> + Ord + Hash + fmt::Display + fmt::Debug + InBases> Held<V> for i32 {
-    fn call(
-        v: &mut V,
-        other: &mut V,
-        name: &str,
-        words: &mut Words<'_>,
-        out: &mut String,
-    ) -> Result<(), Wrong> {
-        numbers(v, other, name, words, out)
+    fn call(v: &mut V, other: &mut V, call: &mut Call<'_>) -> Result<(), Wrong> {
+        numbers(v, other, call)
     }
 }
 
 impl<V: Copies<Item = u8> + Ord + Hash + fmt::Display + fmt::Debug + InBases + Writes> Held<V>
     for u8 {
-    fn call(
-        v: &mut V,
-        other: &mut V,
-        name: &str,
-        words: &mut Words<'_>,
-        out: &mut String,
-    ) -> Result<(), Wrong> {
-        match v.write(name, words, out) {
-            Err(Wrong::Call) => numbers(v, other, name, words, out),
+    fn call(v: &mut V, other: &mut V, call: &mut Call<'_>) -> Result<(), Wrong> {
+        match v.write(call) {
+            Err(Wrong::Call) => numbers(v, other, call),
             answered => answered,
         }
     }
@@ -58,105 +39,80 @@ impl<V: Copies<Item = u8> + Ord + Hash + fmt::Display + fmt::Debug + InBases + W
 fn numbers<V: Copies + Ord + Hash + fmt::Display + fmt::Debug + InBases>(
     v: &mut V,
     other: &mut V,
-    name: &str,
-    words: &mut Words<'_>,
-    out: &mut String,
+    call: &mut Call<'_>,
 ) -> Result<(), Wrong>
 where
     V::Item: Hash,
 {
-    match name {
-        "compare" => say_compared(v, other, v.items(), out),
-        "show" => show(words.alloc, v, words.word(), out),
-        "extend_from_slice_copy" => v.extend_from_slice_copy(words.items()?.as_slice(), out),
-        "replace_range" => v.replace_range(words.span()?, words.items()?.as_slice(), out),
-        _ => Err(Wrong::Call),
+    match call.name {
+        "compare" => say_compared(v, other, v.items(), call.out),
+        "show" => show(v, call),
+        _ => v.copy_call(call),
     }
 }
 
-fn show<V: fmt::Display + fmt::Debug + InBases>(
-    alloc: Global,
-    v: &V,
-    form: &str,
-    out: &mut String,
-) -> Result<(), Wrong> {
-    match say_shown(alloc, v, form, out) {
-        Err(Wrong::Call) => say_based(alloc, v, form, out),
+fn show<V: fmt::Display + fmt::Debug + InBases>(v: &V, call: &mut Call<'_>) -> Result<(), Wrong> {
+    let (alloc, form) = (call.words.alloc, call.words.word());
+    match say_shown(alloc, v, form, call.out) {
+        Err(Wrong::Call) => say_based(alloc, v, form, call.out),
         shown => shown,
     }
 }
 
 /// A vector whose items are copied.
 pub trait Copies: Vector {
-    fn extend_from_slice_copy(
-        &mut self,
-        _with: &[Self::Item],
-        _out: &mut String,
-    ) -> Result<(), Wrong> {
-        Err(Wrong::Call)
-    }
-
-    fn replace_range(
-        &mut self,
-        _range: Span,
-        _with: &[Self::Item],
-        _out: &mut String,
-    ) -> Result<(), Wrong> {
+    /// Does a call that only vectors of such items have.
+    fn copy_call(&mut self, _call: &mut Call<'_>) -> Result<(), Wrong> {
         Err(Wrong::Call)
     }
 }
 
 /// A vector of bytes that texts or bytes are written to.
 pub trait Writes {
-    fn write(&mut self, name: &str, words: &mut Words<'_>, out: &mut String) -> Result<(), Wrong>;
+    fn write(&mut self, call: &mut Call<'_>) -> Result<(), Wrong>;
 }
 
 impl<A: Array<Item = u8>> Writes for ArrayVec<A> {
-    fn write(&mut self, name: &str, words: &mut Words<'_>, out: &mut String) -> Result<(), Wrong> {
-        write_text(self, name, words, out)
+    fn write(&mut self, call: &mut Call<'_>) -> Result<(), Wrong> {
+        write_text(self, call)
     }
 }
 
 impl<'s> Writes for SliceVec<'s, u8> {
-    fn write(&mut self, name: &str, words: &mut Words<'_>, out: &mut String) -> Result<(), Wrong> {
-        write_text(self, name, words, out)
+    fn write(&mut self, call: &mut Call<'_>) -> Result<(), Wrong> {
+        write_text(self, call)
     }
 }
 
-fn write_text<V: fmt::Write>(
-    v: &mut V,
-    name: &str,
-    words: &mut Words<'_>,
-    out: &mut String,
-) -> Result<(), Wrong> {
-    let written = match name {
-        "write_str" => v.write_str(words.text()?.as_str()),
-        "write_char" => match words.text()?.as_str().chars().next() {
+fn write_text<V: fmt::Write>(v: &mut V, call: &mut Call<'_>) -> Result<(), Wrong> {
+    let written = match call.name {
+        "write_str" => v.write_str(call.words.text()?.as_str()),
+        "write_char" => match call.words.text()?.as_str().chars().next() {
             Some(letter) => v.write_char(letter),
             None => return Err(Wrong::Value),
         },
         "write_numbers" => {
-            let (x, y) = (words.number()?, words.number()?);
+            let (x, y) = (call.words.number()?, call.words.number()?);
             write!(v, "{x}, {y}")
         }
         _ => return Err(Wrong::Call),
     };
-    done(out, written)
+    done(call.out, written)
 }
 
 impl<A: Array<Item = u8>> Writes for TinyVec<A> {
-    fn write(&mut self, name: &str, words: &mut Words<'_>, out: &mut String) -> Result<(), Wrong> {
-        let written = match name {
+    fn write(&mut self, call: &mut Call<'_>) -> Result<(), Wrong> {
+        let written = match call.name {
             "write" => {
-                let bytes = words.bytes()?;
+                let bytes = call.words.bytes()?;
                 match io::Write::write(self, bytes.as_slice()) {
-                    Ok(count) => return say(out, &count),
+                    Ok(count) => return say(call.out, &count),
                     Err(error) => Err(error),
                 }
             }
-            "write_all" => self.write_all(words.bytes()?.as_slice()),
+            "write_all" => self.write_all(call.words.bytes()?.as_slice()),
             "write_numbers" => {
-                let (x, y) = (words.number()?, words.number()?);
+                let (x, y) = (call.words.number()?, call.words.number()?);
                 write!(self, "{x}, {y}")
             }
             "flush" => self.flush(),
@@ -164,7 +120,7 @@ impl<A: Array<Item = u8>> Writes for TinyVec<A> {
         };
         match written {
             Ok(()) => Ok(()),
-            Err(error) => say(out, &error.kind()),
+            Err(error) => say(call.out, &error.kind()),
         }
     }
 }

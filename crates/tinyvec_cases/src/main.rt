@@ -11,6 +11,7 @@ mod steps;
 mod tiny;
 mod vector;
 
+use starts::Row;
 use std::alloc::Global;
 use std::io;
 use std::io::{BufRead, BufReader};
@@ -18,7 +19,8 @@ use tinyvec_rows::{Words, Wrong};
 
 fn answer_row(alloc: Global, row: &str, out: &mut String) -> Result<(), Wrong> {
     let (start, calls) = row.split_once('\t').unwrap_or((row, ""));
-    starts::answer(&mut Words::new(alloc, start), calls, out)
+    let words = Words::new(alloc, start);
+    starts::answer(&mut Row { words, calls, out })
 }
 
 fn main(rt: HostRuntime) -> io::Result<()> {

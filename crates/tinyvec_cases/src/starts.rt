@@ -1,7 +1,6 @@
 //! The vectors that rows begin with.
 use crate::held::Held;
 use crate::{array, calls, compare, tiny};
-use std::alloc::Global;
 use std::fmt;
 use std::hash::Hash;
 use tinyvec::{Array, ArrayVec, SliceVec, TinyVec};
@@ -11,249 +10,168 @@ type Boxed = Option<Box<i32>>;
 
 type Wide = (u64, u64, u64);
 
+/// A row: the words of its start, its calls, and the text that the answers are added to.
+#[derive(Drop)]
+pub struct Row<'r> {
+    pub words: Words<'r>,
+    pub calls: &'r str,
+    pub out: &'r mut String,
+}
+
 /// Makes the vectors of a row, and answers its calls.
-pub fn answer(words: &mut Words<'_>, calls: &str, out: &mut String) -> Result<(), Wrong> {
-    let Some((kind, held)) = words.word().split_once('<') else {
+pub fn answer(row: &mut Row<'_>) -> Result<(), Wrong> {
+    let Some((kind, held)) = row.words.word().split_once('<') else {
         return Err(Wrong::Vector);
     };
-    let held = held.strip_suffix('>').unwrap_or("");
-    match kind {
-        "ArrayVec" => answer_array(held, words, calls, out),
-        "SliceVec" => answer_slice(held, words, calls, out),
-        "TinyVec" => answer_tiny(held, words, calls, out),
-        _ => Err(Wrong::Vector),
-    }
-}
-
-fn answer_array(
-    held: &str,
-    words: &mut Words<'_>,
-    calls: &str,
-    out: &mut String,
-) -> Result<(), Wrong> {
     let (item, count) = held.split_once(';').unwrap_or((held, ""));
+    let count = count
+        .strip_suffix("]>")
+        .unwrap_or("")
+        .parse::<usize>()
+        .unwrap_or(usize::MAX);
+    match kind {
+        "ArrayVec" => answer_array(item, count, row),
+        "SliceVec" => answer_slice(item, row),
+        "TinyVec" => answer_tiny(item, count, row),
+        _ => Err(Wrong::Vector),
+    }
+}
+
+// Calls a function for vectors of an array of this many items, if it is one of the numbers.
+macro_rules! sized {
+    ($answer:ident, $item:ty, $count:ident, $row:ident, $($n:literal)*) => {
+        match $count {
+            $($n => $answer::<$item, [$item; $n]>($row),)*
+            _ => Err(Wrong::Vector),
+        }
+    };
+}
+
+fn answer_array(item: &str, count: usize, row: &mut Row<'_>) -> Result<(), Wrong> {
     match item {
-        "[i32" => numbers_in_array(count, words, calls, out),
-        "[u8" => bytes_in_array(count, words, calls, out),
-        _ => others_in_array(held, words, calls, out),
-    }
-}
-
-fn numbers_in_array(
-    count: &str,
-    words: &mut Words<'_>,
-    calls: &str,
-    out: &mut String,
-) -> Result<(), Wrong> {
-    match count {
-        "0]" => of_array::<i32, [i32; 0]>(words, calls, out),
-        "1]" => of_array::<i32, [i32; 1]>(words, calls, out),
-        "3]" => of_array::<i32, [i32; 3]>(words, calls, out),
-        "4]" => of_array::<i32, [i32; 4]>(words, calls, out),
-        "5]" => of_array::<i32, [i32; 5]>(words, calls, out),
-        "8]" => of_array::<i32, [i32; 8]>(words, calls, out),
-        "10]" => of_array::<i32, [i32; 10]>(words, calls, out),
-        _ => Err(Wrong::Vector),
-    }
-}
-
-fn bytes_in_array(
-    count: &str,
-    words: &mut Words<'_>,
-    calls: &str,
-    out: &mut String,
-) -> Result<(), Wrong> {
-    match count {
-        "0]" => of_array::<u8, [u8; 0]>(words, calls, out),
-        "4]" => of_array::<u8, [u8; 4]>(words, calls, out),
-        "10]" => of_array::<u8, [u8; 10]>(words, calls, out),
-        "100]" => of_array::<u8, [u8; 100]>(words, calls, out),
-        _ => Err(Wrong::Vector),
-    }
-}
-
-fn others_in_array(
-    held: &str,
-    words: &mut Words<'_>,
-    calls: &str,
-    out: &mut String,
-) -> Result<(), Wrong> {
-    match held {
-        "[();4]" => of_array::<(), [(); 4]>(words, calls, out),
-        "[Box;4]" => of_array::<Boxed, [Boxed; 4]>(words, calls, out),
-        "[Box;21]" => of_array::<Boxed, [Boxed; 21]>(words, calls, out),
-        _ => compared_array(held, words, calls, out),
+        "[i32" => sized!(of_array, i32, count, row, 0 1 3 4 5 8 10),
+        "[u8" => sized!(of_array, u8, count, row, 0 4 10 100),
+        "[()" => sized!(of_array, (), count, row, 4),
+        "[Box" => sized!(of_array, Boxed, count, row, 4 21),
+        _ => compared_array(item, count, row),
     }
 }
 
 // Items that are only compared and shown.
-fn compared_array(
-    held: &str,
-    words: &mut Words<'_>,
-    calls: &str,
-    out: &mut String,
-) -> Result<(), Wrong> {
-    match held {
-        "[u64;200]" => compare_arrays::<u64, [u64; 200]>(words, out),
-        "[u128;100]" => compare_arrays::<u128, [u128; 100]>(words, out),
-        "[Wide;20]" => compare_arrays::<Wide, [Wide; 20]>(words, out),
-        "[f64;2]" => show_array::<f64, [f64; 2]>(words, calls, out),
-        "[f64;70]" => show_array::<f64, [f64; 70]>(words, calls, out),
-        "[char;3]" => show_array::<char, [char; 3]>(words, calls, out),
+fn compared_array(item: &str, count: usize, row: &mut Row<'_>) -> Result<(), Wrong> {
+    match item {
+        "[u64" => sized!(compare_arrays, u64, count, row, 200),
+        "[u128" => sized!(compare_arrays, u128, count, row, 100),
+        "[Wide" => sized!(compare_arrays, Wide, count, row, 20),
+        "[f64" => sized!(show_array, f64, count, row, 2 70),
+        "[char" => sized!(show_array, char, count, row, 3),
+        _ => Err(Wrong::Vector),
+    }
+}
+
+fn answer_tiny(item: &str, count: usize, row: &mut Row<'_>) -> Result<(), Wrong> {
+    match item {
+        "[i32" => sized!(of_tiny, i32, count, row, 0 1 2 3 4 5 10 70),
+        "[u8" => sized!(of_tiny, u8, count, row, 0 4 10),
+        "[()" => sized!(of_tiny, (), count, row, 2),
+        "[Box" => sized!(of_tiny, Boxed, count, row, 4 21),
+        "[f64" => sized!(show_tiny, f64, count, row, 2),
+        "[char" => sized!(show_tiny, char, count, row, 3),
         _ => Err(Wrong::Vector),
     }
 }
 
 fn compare_arrays<T: Read + Ord + Hash, A: Array<Item = T>>(
-    words: &mut Words<'_>,
-    out: &mut String,
+    row: &mut Row<'_>,
 ) -> Result<(), Wrong> {
-    let (v, w, _) = arrays::<T, A>(words)?;
-    compare::say_compared(&v, &w, v.as_slice(), out)
+    let (v, w, _) = arrays::<T, A>(&mut row.words)?;
+    compare::say_compared(&v, &w, v.as_slice(), row.out)
 }
 
 fn show_array<T: Read + PartialOrd + fmt::Display + fmt::Debug, A: Array<Item = T>>(
-    words: &mut Words<'_>,
-    calls: &str,
-    out: &mut String,
+    row: &mut Row<'_>,
 ) -> Result<(), Wrong> {
-    let (v, w, _) = arrays::<T, A>(words)?;
-    compare::answer(words.alloc, &v, &w, calls, out)
+    let (v, w, _) = arrays::<T, A>(&mut row.words)?;
+    compare::answer(row.words.alloc, &v, &w, row.calls, row.out)
+}
+
+fn show_tiny<T: Read + PartialOrd + fmt::Display + fmt::Debug, A: Array<Item = T>>(
+    row: &mut Row<'_>,
+) -> Result<(), Wrong> {
+    let (v, w, _) = tinies::<T, A>(&mut row.words)?;
+    compare::answer(row.words.alloc, &v, &w, row.calls, row.out)
 }
 
 // A type parameter `T` would have to hold for each lifetime of a lent slice.
 macro_rules! lend {
-    ($item:ty, $words:ident, $calls:ident, $out:ident) => {{
-        let (mut slots, len) = lent::<$item>($words)?;
-        let (mut others, other_len, pair) = lent_after_and::<$item>($words)?;
+    ($item:ty, $row:ident) => {{
+        let (mut slots, len) = lent::<$item>(&mut $row.words)?;
+        let (mut others, other_len, pair) = lent_after_and::<$item>(&mut $row.words)?;
         let (one, two) = ((slots.as_mut_slice(), len), (others.as_mut_slice(), other_len));
-        let shown = of_slices::<$item>($words.alloc, one, two, pair, $calls, $out)?;
+        let shown = of_slices::<$item>(one, two, pair, $row)?;
         if !slots.starts_with(shown.as_slice()) {
-            say_text($out, "but the owner of the slots sees others")?;
+            say_text($row.out, "but the owner of the slots sees others")?;
         }
         Ok(())
     }};
 }
 
-fn lend_numbers(words: &mut Words<'_>, calls: &str, out: &mut String) -> Result<(), Wrong> {
-    lend!(i32, words, calls, out)
+fn lend_numbers(row: &mut Row<'_>) -> Result<(), Wrong> {
+    lend!(i32, row)
 }
 
-fn lend_bytes(words: &mut Words<'_>, calls: &str, out: &mut String) -> Result<(), Wrong> {
-    lend!(u8, words, calls, out)
+fn lend_bytes(row: &mut Row<'_>) -> Result<(), Wrong> {
+    lend!(u8, row)
 }
 
-fn lend_units(words: &mut Words<'_>, calls: &str, out: &mut String) -> Result<(), Wrong> {
-    lend!((), words, calls, out)
+fn lend_units(row: &mut Row<'_>) -> Result<(), Wrong> {
+    lend!((), row)
 }
 
-fn lend_boxes(words: &mut Words<'_>, calls: &str, out: &mut String) -> Result<(), Wrong> {
-    lend!(Boxed, words, calls, out)
+fn lend_boxes(row: &mut Row<'_>) -> Result<(), Wrong> {
+    lend!(Boxed, row)
 }
 
-fn answer_slice(
-    held: &str,
-    words: &mut Words<'_>,
-    calls: &str,
-    out: &mut String,
-) -> Result<(), Wrong> {
-    match held {
-        "i32" => lend_numbers(words, calls, out),
-        "u8" => lend_bytes(words, calls, out),
-        "()" => lend_units(words, calls, out),
-        "Box" => lend_boxes(words, calls, out),
-        "f64" => compared_slice(words, calls, out),
+fn answer_slice(item: &str, row: &mut Row<'_>) -> Result<(), Wrong> {
+    match item {
+        "i32>" => lend_numbers(row),
+        "u8>" => lend_bytes(row),
+        "()>" => lend_units(row),
+        "Box>" => lend_boxes(row),
+        "f64>" => compared_slice(row),
         _ => Err(Wrong::Vector),
     }
 }
 
-fn compared_slice(words: &mut Words<'_>, calls: &str, out: &mut String) -> Result<(), Wrong> {
-    let (mut one, len) = lent::<f64>(words)?;
-    let (mut two, other_len, _) = lent_after_and::<f64>(words)?;
+fn compared_slice(row: &mut Row<'_>) -> Result<(), Wrong> {
+    let (mut one, len) = lent::<f64>(&mut row.words)?;
+    let (mut two, other_len, _) = lent_after_and::<f64>(&mut row.words)?;
     let v = SliceVec::from_slice_at_most(one.as_mut_slice(), len);
     let w = SliceVec::from_slice_at_most(two.as_mut_slice(), other_len);
-    compare::answer(words.alloc, &v, &w, calls, out)
+    compare::answer(row.words.alloc, &v, &w, row.calls, row.out)
 }
 
-fn answer_tiny(
-    held: &str,
-    words: &mut Words<'_>,
-    calls: &str,
-    out: &mut String,
-) -> Result<(), Wrong> {
-    let (item, count) = held.split_once(';').unwrap_or((held, ""));
-    match item {
-        "[i32" => numbers_in_tiny(count, words, calls, out),
-        "[u8" => bytes_in_tiny(count, words, calls, out),
-        _ => others_in_tiny(held, words, calls, out),
-    }
+fn of_array<T: Held<ArrayVec<A>>, A: Array<Item = T>>(row: &mut Row<'_>) -> Result<(), Wrong> {
+    let (mut v, mut other, pair) = arrays::<T, A>(&mut row.words)?;
+    calls::answer(&mut v, &mut other, pair, row)
 }
 
-fn numbers_in_tiny(
-    count: &str,
-    words: &mut Words<'_>,
-    calls: &str,
-    out: &mut String,
-) -> Result<(), Wrong> {
-    match count {
-        "0]" => of_tiny::<i32, [i32; 0]>(words, calls, out),
-        "1]" => of_tiny::<i32, [i32; 1]>(words, calls, out),
-        "2]" => of_tiny::<i32, [i32; 2]>(words, calls, out),
-        "3]" => of_tiny::<i32, [i32; 3]>(words, calls, out),
-        "4]" => of_tiny::<i32, [i32; 4]>(words, calls, out),
-        "5]" => of_tiny::<i32, [i32; 5]>(words, calls, out),
-        "10]" => of_tiny::<i32, [i32; 10]>(words, calls, out),
-        "70]" => of_tiny::<i32, [i32; 70]>(words, calls, out),
-        _ => Err(Wrong::Vector),
-    }
+fn of_tiny<T: Held<TinyVec<A>>, A: Array<Item = T>>(row: &mut Row<'_>) -> Result<(), Wrong> {
+    let (mut v, mut other, pair) = tinies::<T, A>(&mut row.words)?;
+    calls::answer(&mut v, &mut other, pair, row)
 }
 
-fn bytes_in_tiny(
-    count: &str,
-    words: &mut Words<'_>,
-    calls: &str,
-    out: &mut String,
-) -> Result<(), Wrong> {
-    match count {
-        "0]" => of_tiny::<u8, [u8; 0]>(words, calls, out),
-        "4]" => of_tiny::<u8, [u8; 4]>(words, calls, out),
-        "10]" => of_tiny::<u8, [u8; 10]>(words, calls, out),
-        _ => Err(Wrong::Vector),
-    }
-}
-
-fn others_in_tiny(
-    held: &str,
-    words: &mut Words<'_>,
-    calls: &str,
-    out: &mut String,
-) -> Result<(), Wrong> {
-    match held {
-        "[();2]" => of_tiny::<(), [(); 2]>(words, calls, out),
-        "[Box;4]" => of_tiny::<Boxed, [Boxed; 4]>(words, calls, out),
-        "[Box;21]" => of_tiny::<Boxed, [Boxed; 21]>(words, calls, out),
-        "[f64;2]" => show_tiny::<f64, [f64; 2]>(words, calls, out),
-        "[char;3]" => show_tiny::<char, [char; 3]>(words, calls, out),
-        _ => Err(Wrong::Vector),
-    }
-}
-
-fn show_tiny<T: Read + PartialOrd + fmt::Display + fmt::Debug, A: Array<Item = T>>(
-    words: &mut Words<'_>,
-    calls: &str,
-    out: &mut String,
-) -> Result<(), Wrong> {
-    let (v, w, _) = tinies::<T, A>(words)?;
-    compare::answer(words.alloc, &v, &w, calls, out)
-}
-
-fn of_array<T: Held<ArrayVec<A>>, A: Array<Item = T>>(
-    words: &mut Words<'_>,
-    calls: &str,
-    out: &mut String,
-) -> Result<(), Wrong> {
-    let (mut v, mut other, pair) = arrays::<T, A>(words)?;
-    calls::answer(words.alloc, &mut v, &mut other, pair, calls, out)
+// Lends the slots of a row to its vectors. What they show of them, their owner has to see.
+fn of_slices<'s, T: Held<SliceVec<'s, T>>>(
+    slots: (&'s mut [T], usize),
+    others: (&'s mut [T], usize),
+    pair: bool,
+    row: &mut Row<'_>,
+) -> Result<Vec<T>, Wrong> {
+    let mut v = SliceVec::from_slice_at_most(slots.0, slots.1);
+    let mut other = SliceVec::from_slice_at_most(others.0, others.1);
+    calls::answer(&mut v, &mut other, pair, row)?;
+    Ok(v.as_inner().to_vec(row.words.alloc)?)
 }
 
 // Both vectors of a row, and whether it names the second.
@@ -265,21 +183,6 @@ fn arrays<T: Read, A: Array<Item = T>>(
         return Ok((v, array::made::<T, A>(words.slots()?)?, true));
     }
     Ok((v, ArrayVec::new(), false))
-}
-
-// Lends the slots of a row to its vectors. What they show of them, their owner has to see.
-fn of_slices<'s, T: Held<SliceVec<'s, T>>>(
-    alloc: Global,
-    slots: (&'s mut [T], usize),
-    others: (&'s mut [T], usize),
-    pair: bool,
-    calls: &str,
-    out: &mut String,
-) -> Result<Vec<T>, Wrong> {
-    let mut v = SliceVec::from_slice_at_most(slots.0, slots.1);
-    let mut other = SliceVec::from_slice_at_most(others.0, others.1);
-    calls::answer(alloc, &mut v, &mut other, pair, calls, out)?;
-    Ok(v.as_inner().to_vec(alloc)?)
 }
 
 // All slots, and how many of them are the list.
@@ -299,15 +202,6 @@ fn lent_after_and<T: Read>(words: &mut Words<'_>) -> Result<(Vec<T>, usize, bool
         return Ok((slots, len, true));
     }
     Ok((Vec::new(words.alloc), 0, false))
-}
-
-fn of_tiny<T: Held<TinyVec<A>>, A: Array<Item = T>>(
-    words: &mut Words<'_>,
-    calls: &str,
-    out: &mut String,
-) -> Result<(), Wrong> {
-    let (mut v, mut other, pair) = tinies::<T, A>(words)?;
-    calls::answer(words.alloc, &mut v, &mut other, pair, calls, out)
 }
 
 fn tinies<T: Read, A: Array<Item = T>>(

@@ -1,8 +1,44 @@
-//! Steps of the iterators of all vectors: those that own their items, and those that extract items.
+//! Steps of the iterators of vectors, which rows name.
 ghost use Rattle.tinyvec_slots.specs.Extracting.{extract_closure, ExtractLies};
 
-use tinyvec_rows::{Item, Wrong, counted, say, say_hint, say_left, say_slots};
+use tinyvec_rows::{Item, Wrong, counted, say, say_hint, say_slots};
 use tinyvec_slots::{CanCut, ExtractIf, OwnedItems, OwnsItems};
+
+/// An iterator that rows step. A splice is not dropped where a step fails.
+pub trait Steps {
+    // Whether it can be stepped.
+    ghost Ready: { Self → Type 0 };
+
+    /// Does a step, and writes what it answers.
+    fn step(&mut self, step: &str, out: &mut String) -> Result<(), Wrong>
+        requires { Ready self.old }
+        ensures { Ready self.new };
+}
+
+/// Does steps one after the other.
+pub fn stepped<I: Steps>(it: &mut I, steps: &[&str], out: &mut String) -> Result<(), Wrong>
+    requires { I.Ready it.old }
+    ensures { I.Ready it.new }
+{
+    for step in steps {
+        it.step(*step, out)?;
+    }
+    Ok(())
+}
+
+// Steps of an iterator with two ends and a length, before those that only it has.
+macro_rules! step_at_ends {
+    ($it:ident, $step:ident, $out:ident, $($arm:tt)*) => {
+        match $step {
+            "next" => tinyvec_rows::say($out, &$it.next()),
+            "back" => tinyvec_rows::say($out, &$it.next_back()),
+            "left" => tinyvec_rows::say($out, &((*$it).len(), (*$it).size_hint())),
+            $($arm)*
+        }
+    };
+}
+
+pub(crate) use step_at_ends;
 
 /// Does steps at an iterator, and writes what each answers.
 pub fn iterated<V: OwnsItems>(
@@ -40,15 +76,12 @@ fn iterate<V: OwnsItems>(it: &mut OwnedItems<V>, step: &str, out: &mut String) -
 where
     V::Item: Item,
 {
-    match step {
-        "next" => say(out, &it.next()),
-        "back" => say(out, &it.next_back()),
-        "left" => say_left(out, it),
+    step_at_ends!(it, step, out,
         "debug" => say(out, it),
         "slice" => say_slots(out, it.as_slice(), &[]),
         "clone" => say(out, &it.clone()?),
         step => skip(it, step, out),
-    }
+    )
 }
 
 fn skip<V: OwnsItems>(it: &mut OwnedItems<V>, step: &str, out: &mut String) -> Result<(), Wrong>

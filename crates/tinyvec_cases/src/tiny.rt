@@ -1,19 +1,16 @@
 //! Rows of a `TinyVec`.
-ghost use Rattle.tinyvec.specs.Drain.{DrainCanStep};
-ghost use Rattle.tinyvec.specs.TinyVecSplice.{SpliceCanStep};
-
 use crate::array;
+use crate::calls::{any_call, copy_into_range, filter_call, needs, owner_call, range_call};
 use crate::held::Copies;
-use crate::steps::{extracted, iterated};
-use crate::vector::Vector;
+use crate::steps::{Steps, extracted, step_at_ends};
+use crate::vector::{Call, Vector};
 use std::alloc::{AllocError, Global};
 use std::fmt::Write;
 use std::iter::Fuse;
-use std::{mem, vec};
-use tinyvec::{Array, ArrayVec, FromIterRest, NoRoom, TinyVec, TinyVecDrain, TinyVecSplice};
+use std::vec;
+use tinyvec::{Array, ArrayVec, FromIterRest, TinyVec, TinyVecDrain, TinyVecSplice};
 use tinyvec_rows::{
-    Item, Read, Span, Words, Wrong, done, is_within, say, say_left, say_refused, say_rest,
-    say_slots, say_text,
+    Counter, Item, Read, Span, Words, Wrong, done, is_within, say, say_rest, say_slots, say_text,
 };
 
 /// A list inline, before the slots after it.
@@ -37,6 +34,10 @@ pub fn heap<T: Read, A: Array<Item = T>>(
 impl<T: Item, A: Array<Item = T>> Vector for TinyVec<A> {
     type Item = T;
 
+    fn items(&self) -> &[T] {
+        self.as_slice()
+    }
+
     fn say_state(&self, out: &mut String) -> Result<(), Wrong> {
         match self {
             TinyVec::Inline(array, _) => {
@@ -50,280 +51,147 @@ impl<T: Item, A: Array<Item = T>> Vector for TinyVec<A> {
         }
     }
 
-    fn say_size(&self, out: &mut String) -> Result<(), Wrong> {
-        say(out, &(self.len(), self.capacity()))?;
-        say(out, &(self.is_empty(), self.is_inline()))
+    fn call(&mut self, other: &mut TinyVec<A>, call: &mut Call<'_>) -> Result<(), Wrong> {
+        any_call!(self, call, is_inline, _ => growing(self, other, call))
     }
 
-    fn items(&self) -> &[T] {
-        self.as_slice()
-    }
-
-    fn items_mut(&mut self) -> &mut [T] {
-        self.as_mut_slice()
-    }
-
-    fn pop(&mut self) -> Option<T> {
-        self.pop()
-    }
-
-    fn pop_if_even(&mut self, more: i32) -> Option<T> {
-        self.pop_if(|x| {
-            x.add(more);
-            x.number() % 2 == 0
-        })
-    }
-
-    fn remove(&mut self, i: usize, out: &mut String) -> Result<(), Wrong> {
-        if i >= self.len() {
-            return Err(Wrong::Place);
-        }
-        say(out, &self.remove(i))
-    }
-
-    fn swap_remove(&mut self, i: usize, out: &mut String) -> Result<(), Wrong> {
-        if i >= self.len() {
-            return Err(Wrong::Place);
-        }
-        say(out, &self.swap_remove(i))
-    }
-
-    fn truncate(&mut self, n: usize) {
-        self.truncate(n)
-    }
-
-    fn clear(&mut self) {
-        self.clear()
-    }
-
-    fn set(&mut self, i: usize, x: T) -> Result<(), Wrong> {
-        if i >= self.len() {
-            return Err(Wrong::Place);
-        }
-        self[i] = x;
-        Ok(())
-    }
-
-    fn retain<F: FnMut(&T) -> bool>(&mut self, f: F) {
-        self.retain(f)
-    }
-
-    fn drain_into(&mut self, range: Span, to: &mut Vec<T>) -> Result<(), Wrong> {
-        if !is_within(range, self.len()) {
-            return Err(Wrong::Place);
-        }
-        to.reserve(self.len())?;
-        self.drain_into(range, to);
-        Ok(())
-    }
-
-    fn extend(&mut self, with: Vec<T>, out: &mut String) -> Result<(), Wrong> {
-        match self.extend(with) {
-            Ok(()) => Ok(()),
-            Err(NoRoom { item, rest }) => say_rest(out, &item, rest),
-        }
-    }
-
-    fn push(&mut self, x: T, out: &mut String) -> Result<(), Wrong> {
-        done(out, self.push(x))
-    }
-
-    fn insert(&mut self, i: usize, x: T, out: &mut String) -> Result<(), Wrong> {
-        if i > self.len() {
-            return Err(Wrong::Place);
-        }
-        done(out, self.insert(i, x))
-    }
-
-    fn extend_from_slice(&mut self, with: &[T], out: &mut String) -> Result<(), Wrong> {
-        done(out, self.extend_from_slice(with))
-    }
-
-    fn extend_from_within(&mut self, n: usize, out: &mut String) -> Result<(), Wrong> {
-        if n > self.len() {
-            return Err(Wrong::Place);
-        }
-        done(out, self.extend_from_within(..n))
-    }
-
-    fn resize(&mut self, n: usize, x: T, out: &mut String) -> Result<(), Wrong> {
-        done(out, self.resize(n, x))
-    }
-
-    fn resize_with<F: FnMut() -> T>(
-        &mut self,
-        n: usize,
-        f: F,
-        out: &mut String,
-    ) -> Result<(), Wrong> {
-        done(out, self.resize_with(n, f))
-    }
-
-    fn append(&mut self, other: &mut TinyVec<A>, out: &mut String) -> Result<(), Wrong> {
-        done(out, self.append(other))
-    }
-
-    fn split_off(&mut self, at: usize, out: &mut String) -> Result<(), Wrong> {
-        if at > self.len() {
-            return Err(Wrong::Place);
-        }
-        match self.split_off(at) {
-            Ok(tail) => tail.say_state(out),
-            Err(error) => say(out, &error),
-        }
-    }
-
-    fn retain_mut<F: FnMut(&mut T) -> bool>(&mut self, f: F) -> Result<(), Wrong> {
-        self.retain_mut(f);
-        Ok(())
-    }
-
-    fn dedup(&mut self) -> Result<(), Wrong> {
-        self.dedup();
-        Ok(())
-    }
-
-    fn dedup_by<F: FnMut(&mut T, &mut T) -> bool>(&mut self, f: F) -> Result<(), Wrong> {
-        self.dedup_by(f);
-        Ok(())
-    }
-
-    fn dedup_by_key<F: FnMut(&mut T) -> i32>(&mut self, f: F) -> Result<(), Wrong> {
-        self.dedup_by_key(f);
-        Ok(())
-    }
-
-    fn pop_at(&mut self, i: usize, out: &mut String) -> Result<(), Wrong> {
-        say(out, &self.pop_at(i))
-    }
-
-    fn extract_if<F: FnMut(&mut T) -> bool>(
+    fn extract<F: FnMut(&mut T) -> bool>(
         &mut self,
         range: Span,
         f: F,
         count: usize,
         out: &mut String,
     ) -> Result<(), Wrong> {
-        if !is_within(range, self.len()) {
-            return Err(Wrong::Place);
-        }
+        needs!(is_within(range, self.len()));
         extracted(self.extract_if(range, f), count, out)
     }
+}
 
-    fn drain(&mut self, range: Span, steps: &[&str], out: &mut String) -> Result<(), Wrong> {
-        if !is_within(range, self.len()) {
-            return Err(Wrong::Place);
-        }
-        drained(&mut self.drain(range), steps, out)
-    }
-
-    fn splice(
-        &mut self,
-        range: Span,
-        with: Vec<T>,
-        steps: &[&str],
-        out: &mut String,
-    ) -> Result<(), Wrong> {
-        if !is_within(range, self.len()) {
-            return Err(Wrong::Place);
-        }
-        let mut splice = self.splice(range, with);
-        let stepped = spliced(&mut splice, steps, out);
-        let (finished, touches) = splice.finish_counted();
-        stepped?;
-        match finished {
-            Ok(()) => say(out, &touches),
-            Err(refused) => say_refused(out, &refused.item),
-        }
-    }
-
-    fn splice_all(&mut self, range: Span, with: Vec<T>, out: &mut String) -> Result<(), Wrong> {
-        if !is_within(range, self.len()) {
-            return Err(Wrong::Place);
-        }
-        match self.splice_all(range, with) {
-            Ok(()) => Ok(()),
-            Err(refused) => say_refused(out, &refused.item),
-        }
-    }
-
-    fn clone_from(&mut self, other: &TinyVec<A>, out: &mut String) -> Result<(), Wrong> {
-        done(out, self.clone_from(other))
-    }
-
-    fn copy(&self, out: &mut String) -> Result<(), Wrong> {
-        match self.clone() {
-            Ok(copy) => copy.say_state(out),
-            Err(error) => say(out, &error),
-        }
-    }
-
-    fn into_iter(&mut self, steps: &[&str], out: &mut String) -> Result<(), Wrong> {
-        let alloc = *self.allocator();
-        iterated(
-            mem::replace(self, TinyVec::new(alloc)).into_iter(),
-            steps,
-            out,
-        )
-    }
-
-    fn own(&mut self, name: &str, words: &mut Words<'_>, out: &mut String) -> Result<(), Wrong> {
-        match made_of(name, words, out) {
-            Err(Wrong::Call) => {}
-            Ok(Ok(made)) => {
-                *self = made;
-                return Ok(());
+// Calls that may find no memory.
+fn growing<T: Item, A: Array<Item = T>>(
+    v: &mut TinyVec<A>,
+    other: &mut TinyVec<A>,
+    call: &mut Call<'_>,
+) -> Result<(), Wrong> {
+    match call.name {
+        "push" => done(call.out, v.push(call.words.item()?)),
+        "push_all" => {
+            for x in call.words.items()? {
+                done(call.out, v.push(x))?;
             }
-            Ok(Err(error)) => return say(out, &error),
-            Err(wrong) => return Err(wrong),
+            Ok(())
         }
-        match name {
-            "move_to_the_heap" => done(out, self.move_to_the_heap()),
-            "try_move_to_the_heap" => done(out, self.try_move_to_the_heap()),
-            "shrink_to_fit" => {
-                self.shrink_to_fit();
-                Ok(())
+        "push_mut" => push_mut(v, call),
+        "insert" => {
+            let (i, x) = (call.words.index()?, call.words.item()?);
+            needs!(i <= v.len());
+            done(call.out, v.insert(i, x))
+        }
+        "insert_mut" => insert_mut(v, call),
+        "extend_from_slice" => {
+            let with = call.words.items()?;
+            done(call.out, v.extend_from_slice(with.as_slice()))
+        }
+        "extend_from_within" => {
+            let n = call.words.index()?;
+            needs!(n <= v.len());
+            done(call.out, v.extend_from_within(..n))
+        }
+        "resize" => done(call.out, v.resize(call.words.index()?, call.words.item()?)),
+        "resize_with" => {
+            let n = call.words.index()?;
+            let mut counter = Counter::new(call.words.alloc, call.words.number()?);
+            done(call.out, v.resize_with(n, || counter.next()))?;
+            say(call.out, &counter.calls())
+        }
+        "append" => done(call.out, v.append(other)),
+        "split_off" => {
+            let at = call.words.index()?;
+            needs!(at <= v.len());
+            match v.split_off(at) {
+                Ok(tail) => tail.say_state(call.out),
+                Err(error) => say(call.out, &error),
             }
-            "extend_exact_size" => done(out, self.extend_exact_size(words.items()?)),
-            "push_mut" => push_mut(self, words.item()?, words.item()?, out),
-            "insert_mut" => insert_mut(self, words.index()?, (words.item()?, words.item()?), out),
-            _ => with_room(self, name, words.index().unwrap_or(0), out),
         }
+        _ => owner(v, other, call),
+    }
+}
+
+fn owner<T: Item, A: Array<Item = T>>(
+    v: &mut TinyVec<A>,
+    other: &mut TinyVec<A>,
+    call: &mut Call<'_>,
+) -> Result<(), Wrong> {
+    let alloc = call.words.alloc;
+    owner_call!(v, other, call, TinyVec::new(alloc), _ => range(v, call))
+}
+
+fn range<T: Item, A: Array<Item = T>>(
+    v: &mut TinyVec<A>,
+    call: &mut Call<'_>,
+) -> Result<(), Wrong> {
+    range_call!(v, call, _ => own(v, call))
+}
+
+fn filter<T: Item, A: Array<Item = T>>(
+    v: &mut TinyVec<A>,
+    call: &mut Call<'_>,
+) -> Result<(), Wrong> {
+    filter_call!(v, call)
+}
+
+// Calls that only this vector has.
+fn own<T: Item, A: Array<Item = T>>(v: &mut TinyVec<A>, call: &mut Call<'_>) -> Result<(), Wrong> {
+    match made_of(call.name, &mut call.words, call.out) {
+        Err(Wrong::Call) => {}
+        Ok(Ok(made)) => {
+            *v = made;
+            return Ok(());
+        }
+        Ok(Err(error)) => return say(call.out, &error),
+        Err(wrong) => return Err(wrong),
+    }
+    match call.name {
+        "retain_mut" | "dedup" | "dedup_by" | "dedup_by_key" => filter(v, call),
+        "move_to_the_heap" => done(call.out, v.move_to_the_heap()),
+        "try_move_to_the_heap" => done(call.out, v.try_move_to_the_heap()),
+        "shrink_to_fit" => {
+            v.shrink_to_fit();
+            Ok(())
+        }
+        "extend_exact_size" => done(call.out, v.extend_exact_size(call.words.items()?)),
+        name => with_room(v, name, call.words.index().unwrap_or(0), call.out),
     }
 }
 
 // Pushes, and writes to the new item if there was room for it.
 fn push_mut<T: Item, A: Array<Item = T>>(
     v: &mut TinyVec<A>,
-    x: T,
-    y: T,
-    out: &mut String,
+    call: &mut Call<'_>,
 ) -> Result<(), Wrong> {
+    let (x, y) = (call.words.item()?, call.words.item()?);
     match v.push_mut(x) {
         Ok(item) => {
             *item = y;
             Ok(())
         }
-        Err(refused) => say(out, &refused),
+        Err(refused) => say(call.out, &refused),
     }
 }
 
 // Inserts, and does so too.
 fn insert_mut<T: Item, A: Array<Item = T>>(
     v: &mut TinyVec<A>,
-    i: usize,
-    (x, y): (T, T),
-    out: &mut String,
+    call: &mut Call<'_>,
 ) -> Result<(), Wrong> {
-    if i > v.len() {
-        return Err(Wrong::Place);
-    }
+    let (i, x, y) = (call.words.index()?, call.words.item()?, call.words.item()?);
+    needs!(i <= v.len());
     match v.insert_mut(i, x) {
         Ok(item) => {
             *item = y;
             Ok(())
         }
-        Err(refused) => say(out, &refused),
+        Err(refused) => say(call.out, &refused),
     }
 }
 
@@ -401,78 +269,40 @@ fn array_of<T: Item, A: Array<Item = T>>(words: &mut Words<'_>) -> Result<A, Wro
 }
 
 impl<T: Item + Copy, A: Array<Item = T>> Copies for TinyVec<A> {
-    fn extend_from_slice_copy(&mut self, with: &[T], out: &mut String) -> Result<(), Wrong> {
-        done(out, self.extend_from_slice_copy(with))
-    }
-
-    fn replace_range(&mut self, range: Span, with: &[T], out: &mut String) -> Result<(), Wrong> {
-        if !is_within(range, self.len()) {
-            return Err(Wrong::Place);
+    fn copy_call(&mut self, call: &mut Call<'_>) -> Result<(), Wrong> {
+        match call.name {
+            "extend_from_slice_copy" => {
+                let with = call.words.items()?;
+                done(call.out, self.extend_from_slice_copy(with.as_slice()))
+            }
+            _ => copy_into_range!(self, call),
         }
-        done(out, self.replace_range(range, with))
     }
 }
 
-/// Does steps at a drain, and writes what each answers.
-fn drained<T: Item, A: Array<Item = T>>(
-    drain: &mut TinyVecDrain<'_, A>,
-    steps: &[&str],
-    out: &mut String,
-) -> Result<(), Wrong>
-    requires { DrainCanStep drain.old }
-{
-    for step in steps {
-        drain_step(drain, *step, out)?;
-    }
-    Ok(())
-}
+impl<'a, T: Item, A: Array<Item = T>> Steps for TinyVecDrain<'a, A> {
+    ghost use Rattle.tinyvec.specs.Drain.{DrainCanStep};
 
-fn drain_step<T: Item, A: Array<Item = T>>(
-    drain: &mut TinyVecDrain<'_, A>,
-    step: &str,
-    out: &mut String,
-) -> Result<(), Wrong>
-    requires { DrainCanStep drain.old }
-    ensures { DrainCanStep drain.new }
-{
-    match step {
-        "next" => say(out, &drain.next()),
-        "back" => say(out, &drain.next_back()),
-        "left" => say_left(out, drain),
-        "debug" => say(out, drain),
-        _ => Err(Wrong::Value),
+    ghost Ready = { DrainCanStep };
+
+    fn step(&mut self, step: &str, out: &mut String) -> Result<(), Wrong> {
+        step_at_ends!(self, step, out,
+            "debug" => say(out, self),
+            _ => Err(Wrong::Value),
+        )
     }
 }
 
-// The same at a splice. Its value must not be dropped here.
-fn spliced<T: Item, A: Array<Item = T>>(
-    splice: &mut TinyVecSplice<'_, A, Fuse<vec::IntoIter<T>>>,
-    steps: &[&str],
-    out: &mut String,
-) -> Result<(), Wrong>
-    requires { SpliceCanStep splice.old }
-    ensures { SpliceCanStep splice.new }
-{
-    for step in steps {
-        splice_step(splice, *step, out)?;
-    }
-    Ok(())
-}
+impl<'a, T: Item, A: Array<Item = T>> Steps for TinyVecSplice<'a, A, Fuse<vec::IntoIter<T>>> {
+    ghost use Rattle.tinyvec.specs.TinyVecSplice.{SpliceCanStep};
 
-fn splice_step<T: Item, A: Array<Item = T>>(
-    splice: &mut TinyVecSplice<'_, A, Fuse<vec::IntoIter<T>>>,
-    step: &str,
-    out: &mut String,
-) -> Result<(), Wrong>
-    requires { SpliceCanStep splice.old }
-    ensures { SpliceCanStep splice.new }
-{
-    match step {
-        "next" => say(out, &splice.next()),
-        "back" => say(out, &splice.next_back()),
-        "left" => say(out, &((*splice).len(), (*splice).size_hint())),
-        "touches" => say(out, &(*splice).touches()),
-        "debug" => Ok(write!(out, "{splice:?} ")?),
-        _ => Err(Wrong::Value),
+    ghost Ready = { SpliceCanStep };
+
+    fn step(&mut self, step: &str, out: &mut String) -> Result<(), Wrong> {
+        step_at_ends!(self, step, out,
+            "debug" => Ok(write!(out, "{self:?} ")?),
+            "touches" => say(out, &(*self).touches()),
+            _ => Err(Wrong::Value),
+        )
     }
 }
