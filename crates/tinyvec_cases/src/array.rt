@@ -1,7 +1,6 @@
 //! Rows of an `ArrayVec`.
 use crate::calls::{
-    any_call, copy_into_range, filter_call, needs, owner_call,
-    range_call, slots_call,
+    any_call, copy_into_range, filter_call, needs, owner_call, range_call, slots_call,
 };
 use crate::held::Copies;
 use crate::steps::{Steps, extracted, step_at_ends};
@@ -12,8 +11,7 @@ use std::iter::Fuse;
 use std::{mem, vec};
 use tinyvec::{Array, ArrayVec, ArrayVecDrain, ArrayVecSplice, FromIterRest};
 use tinyvec_rows::{
-    Item, Read, Span, Words, Wrong, done, is_within, say,
-    say_rest, say_slots, say_text,
+    Item, Read, Span, Words, Wrong, done, is_within, say, say_rest, say_slots, say_text,
 };
 
 /// The vector of a list and the slots after it.

@@ -4,8 +4,8 @@ use crate::starts::Row;
 use crate::vector::{Call, Vector};
 use tinyvec_rows::{Closure, Item, Wrong, window};
 
-/// Does the calls of a row one after the other, and writes of each what it answers and leaves. `pair` tells whether the row
-/// names the other vector.
+/// Does the calls of a row one after the other, and writes of each what it answers and leaves. `pair` tells whether the
+/// row names the other vector.
 pub fn answer<V: Vector>(
     v: &mut V,
     other: &mut V,

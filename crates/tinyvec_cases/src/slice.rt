@@ -4,10 +4,7 @@ use crate::held::Copies;
 use crate::steps::{Steps, extracted};
 use crate::vector::{Call, Vector};
 use tinyvec::{GenericSliceVec, GenericSliceVecDrain, Lent, SliceVec};
-use tinyvec_rows::{
-    Item, Span, Wrong, is_within, say, say_hint,
-    say_slots,
-};
+use tinyvec_rows::{Item, Span, Wrong, is_within, say, say_hint, say_slots};
 
 impl<'s, T: Item> Vector for SliceVec<'s, T> {
     type Item = T;

@@ -1,9 +1,6 @@
 //! Rows of a `TinyVec`.
 use crate::array;
-use crate::calls::{
-    any_call, copy_into_range, filter_call, needs, owner_call,
-    range_call,
-};
+use crate::calls::{any_call, copy_into_range, filter_call, needs, owner_call, range_call};
 use crate::held::Copies;
 use crate::steps::{Steps, extracted, step_at_ends};
 use crate::vector::{Call, Vector};
@@ -13,8 +10,7 @@ use std::iter::Fuse;
 use std::vec;
 use tinyvec::{Array, ArrayVec, FromIterRest, TinyVec, TinyVecDrain, TinyVecSplice};
 use tinyvec_rows::{
-    Counter, Item, Read, Span, Words, Wrong, done, is_within, say, say_rest,
-    say_slots, say_text,
+    Counter, Item, Read, Span, Words, Wrong, done, is_within, say, say_rest, say_slots, say_text,
 };
 
 /// A list inline, before the slots after it.
