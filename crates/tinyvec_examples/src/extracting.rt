@@ -5,7 +5,7 @@ ghost use Rattle.std.specs.List.{filter, find, before_first, after_first};
 ghost use Rattle.tinyvec_array.specs.Slots.{items, Shortens};
 ghost use Rattle.tinyvec_slice.specs.SliceVec.{items_of, items as slice_items};
 ghost use Rattle.tinyvec.specs.TinyVec.{tiny_items, StaysInPlace};
-ghost use Rattle.tinyvec_slots.specs.Extracted.{ExtractsAll};
+ghost use Rattle.tinyvec_slots.specs.Extracting.{ExtractsAll};
 
 use tinyvec::{ArrayVec, GenericSliceVec, Lent, NoMemory, SliceVec, TinyVec};
 

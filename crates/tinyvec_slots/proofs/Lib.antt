@@ -21,5 +21,5 @@ pub mod TextLemmas
 pub mod ReplacingLemmas
 pub mod KnownItems
 pub mod PopLemmas
-pub mod Extracted
+pub mod WholeExtracts
 pub mod ExtractingLemmas

@@ -4,7 +4,6 @@ pub mod Ranges
 pub mod Ends
 pub mod AnyDrain
 pub mod Filters
-pub mod Extracted
 pub mod Extracting
 pub mod Clones
 pub mod Filling

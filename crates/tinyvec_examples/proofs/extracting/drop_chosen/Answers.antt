@@ -1,5 +1,5 @@
 use Rattle.std.proofs.Common.{rules, refl}
-use Rattle.tinyvec_slots.proofs.Extracted.{extracted_all}
+use Rattle.tinyvec_slots.proofs.WholeExtracts.{extracted_all}
 use Rattle.tinyvec_examples.proofs.extracting.drop_chosen.Goals as goal
 
 pub returns : goal.returns

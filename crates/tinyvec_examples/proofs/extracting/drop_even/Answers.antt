@@ -1,5 +1,5 @@
 use Rattle.std.proofs.Common.{rules, refl, ◌%◌, ◌==◌}
-use Rattle.tinyvec_slots.proofs.Extracted.{extracted_all, split_by_test}
+use Rattle.tinyvec_slots.proofs.WholeExtracts.{extracted_all, split_by_test}
 use Rattle.tinyvec_examples.proofs.extracting.drop_even.Goals as goal
 
 pub returns : goal.returns

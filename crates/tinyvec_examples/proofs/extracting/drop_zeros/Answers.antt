@@ -1,5 +1,5 @@
 use Rattle.std.proofs.Common.{rules, ◌==◌}
-use Rattle.tinyvec_slots.proofs.Extracted.{split_by_test}
+use Rattle.tinyvec_slots.proofs.WholeExtracts.{split_by_test}
 use Rattle.tinyvec_examples.proofs.extracting.drop_zeros.Goals as goal
 
 pub returns : goal.returns

@@ -1,5 +1,5 @@
 use Rattle.std.proofs.Common.{rules, refl, nat_lt, ◌∙◌, ◌++◌}
-use Rattle.tinyvec_slots.proofs.Extracted.{extracted_once, find_by_test}
+use Rattle.tinyvec_slots.proofs.WholeExtracts.{extracted_once, find_by_test}
 use Rattle.tinyvec_examples.proofs.extracting.first_above.Goals as goal
 
 pub returns : goal.returns

@@ -1,6 +1,6 @@
 use Rattle.std.proofs.Common.{rules, refl, ap, ◌∙◌, ◌++◌, ◌%◌, ◌==◌}
 use Rattle.tinyvec.specs.TinyVec.{tiny_items}
-use Rattle.tinyvec_slots.proofs.Extracted.{extracted_all, split_by_test}
+use Rattle.tinyvec_slots.proofs.WholeExtracts.{extracted_all, split_by_test}
 use Rattle.tinyvec_examples.proofs.extracting.move_even.Goals as goal
 
 pub returns : goal.returns

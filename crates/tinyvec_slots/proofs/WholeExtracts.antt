@@ -7,9 +7,8 @@ use Rattle.std.specs.Fn.{CalledAtMut, Mut}
 use Rattle.std.specs.Iterator.{Yields}
 use Rattle.std.specs.List.{filter, find, position_or_len, before_first, after_first}
 use Rattle.std.specs.List.Retain.{ExtractsNext}
-use Rattle.tinyvec_slots.specs.Extracting.{Extracts, ExtractSteps, ExtractLies, ExtractLeaves, extract_vec, extract_lender, extract_rest, extract_closure, extract_front, extract_back}
+use Rattle.tinyvec_slots.specs.Extracting.{Extracts, ExtractsAll, TestsBy, ExtractSteps, ExtractLies, ExtractLeaves, extract_vec, extract_lender, extract_rest, extract_closure, extract_front, extract_back}
 use Rattle.tinyvec_slots.specs.declared.extracting.ExtractIf.{ExtractIf}
-use Rattle.tinyvec_slots.specs.Extracted.{ExtractsAll, TestsBy}
 
 module _ {S X : Type 0} (R : S → X → Bool → S → X → Type 0) where
   -- a call that finds no more
