@@ -1,12 +1,6 @@
 use Rattle.tinyvec_array.proofs.IntoIterLemmas.{gives_runs, gives_runs_back, gives_from_ends}
 use Rattle.tinyvec.proofs.tiny_vec.traits.TinyVecIntoIterator.into_iter.Goals as goal
 
-pub returns-clause-runs : goal.returns-clause-runs
-returns-clause-runs g c = gives_runs
-
-pub returns-clause-runs_back : goal.returns-clause-runs_back
-returns-clause-runs_back g c = gives_runs_back
-
 pub returns-clause-both_ends : goal.returns-clause-both_ends
 returns-clause-both_ends g c = gives_from_ends c.into_items.result
 
