@@ -70,15 +70,21 @@ impl<A: Array> TinyVec<A> {
         A::Item: Clone,
         requires not_exhausted { R.has_bounds range }
         requires in_list { IsRangeOf (tiny_items self.old) (R.start_bound range) (R.end_bound range) }
-        ensures clones { AppendsAllOrNone A.Item.is_clone (removed (tiny_items self.old) (R.start_bound range) (R.end_bound range))
+        ensures clones { AppendsAllOrNone A.Item.is_clone
+            (removed (tiny_items self.old) (R.start_bound range) (R.end_bound range))
             result (tiny_items self.old) (tiny_items self.new) }
-        ensures room { RoomGrows GrowsFor A.Item.is_default A.CAPACITY (tiny_len self.old + length (removed (tiny_items self.old) (R.start_bound range) (R.end_bound range)))
+        ensures room { RoomGrows GrowsFor A.Item.is_default A.CAPACITY
+            (tiny_len self.old + length (removed (tiny_items self.old) (R.start_bound range) (R.end_bound range)))
             self.old self.new result }
 
         // If there is room only clones allocate.
-        ensures succeeds { tiny_len self.old + length (removed (tiny_items self.old) (R.start_bound range) (R.end_bound range)) ≤ tiny_capacity A.CAPACITY self.old
-            → All A.Item.is_infallible (removed (tiny_items self.old) (R.start_bound range) (R.end_bound range)) → IsOk result }
-        ensures refused { OnErr result (ClonesRefused A.Item.Clone A.CAPACITY (removed (tiny_items self.old) (R.start_bound range) (R.end_bound range)) self.old self.new) }
+        ensures succeeds { tiny_len self.old
+            + length (removed (tiny_items self.old) (R.start_bound range) (R.end_bound range))
+            ≤ tiny_capacity A.CAPACITY self.old
+            → All A.Item.is_infallible (removed (tiny_items self.old) (R.start_bound range) (R.end_bound range))
+            → IsOk result }
+        ensures refused { OnErr result (ClonesRefused A.Item.Clone A.CAPACITY
+            (removed (tiny_items self.old) (R.start_bound range) (R.end_bound range)) self.old self.new) }
     {
         let part = resolve_range(range, self.len());
         self.reserve(part.end - part.start)?;
@@ -234,7 +240,8 @@ impl<A: Array> TinyVec<A> {
         iter: I,
     ) -> Result<(), NoRoom<A::Item, I>>
         requires { I.can_next iter × IsFinite (I.remaining iter) }
-        ensures fills { FillsRoom I.Iterator iter (tiny_capacity A.CAPACITY self.new) result (tiny_items self.old) (tiny_items self.new) }
+        ensures fills { FillsRoom I.Iterator iter (tiny_capacity A.CAPACITY self.new) result
+            (tiny_items self.old) (tiny_items self.new) }
         ensures grows { Grows A.Item.is_default A.CAPACITY self.old self.new }
     {
         // Shows the proof that an empty iterator leaves a list that fits.
@@ -255,7 +262,8 @@ impl<A: Array> TinyVec<A> {
     #[inline(always)]
     fn fill_room<I: Iterator<Item = A::Item>>(&mut self, iter: I) -> Result<(), NoRoom<A::Item, I>>
         requires { I.can_next iter × IsFinite (I.remaining iter) }
-        ensures fills { FillsRoom I.Iterator iter (tiny_capacity A.CAPACITY self.new) result (tiny_items self.old) (tiny_items self.new) }
+        ensures fills { FillsRoom I.Iterator iter (tiny_capacity A.CAPACITY self.new) result
+            (tiny_items self.old) (tiny_items self.new) }
         ensures frame { StaysInPlace A.Item.is_default A.CAPACITY self.old self.new }
     {
         match self {
