@@ -1,14 +1,14 @@
 -- Lemmas on lists of clones. C is the `is_clone` of an item's `Clone`.
 use Rattle.std.proofs.Common.{◌≡◌, ℕ, Result, Ok, Err, ◌+◌, ◌-◌, ◌<◌, ◌≤◌, List, [], ◌∷◌, ◌++◌, length, take, drop, slice_range, get_or, replicate, refl, sym, ap, subst, ◌∙◌, append_assoc, arith, length-append, length-drop, length-take-le, append-nil, take_at, drop_at, take_all, take-append-drop}
 use Rattle.std.proofs.Math.Seq.{take-add}
-use Rattle.std.proofs.lemmas.List.{take_more, take_rest, drop_all, replicate_more, get_or_default, get_or_append_left, get_or-take, get_or-drop}
+use Rattle.std.proofs.lemmas.List.{take_more, take_rest, drop_all, replicate_more, length-replicate, get_or-replicate, get_or_default, get_or_append_left, get_or-take, get_or-drop}
 use Rattle.std.proofs.lemmas.List.Elements.{AllZip-push, length_all_zip}
-use Rattle.std.specs.Prelude.{OnOk, OnErr, if◌then◌else◌, is_ok}
+use Rattle.std.specs.Prelude.{All, OnOk, OnErr, IsOk, if◌then◌else◌, is_ok}
 use Rattle.std.specs.List.{AllZip, AppendsClones}
 use Rattle.tinyvec_slots.specs.Clones.{RefusedAt}
 use Rattle.tinyvec_slots.specs.Slots.{Slots, items, items_len, spare, all_slots}
 use Rattle.tinyvec_slots.proofs.SlotsLemmas.{slots_are}
-use Rattle.tinyvec_slots.proofs.ClonesOverLemmas.{AllZip-drop, AllZip-join}
+use Rattle.tinyvec_slots.proofs.ClonesOverLemmas.{AllZip-drop, AllZip-join, all_granted}
 use borrow.Rule.Slice.PartMut.{post_of}
 
 module _ {T : Type 0} (C : T → T → Type 0) where
@@ -69,6 +69,15 @@ module _ {T : Type 0} (C : T → T → Type 0) where
 -- the clone of the element at i was refused
 pub refused_at : {T : Type 0} (I : T → Type 0) (from : List T) (i : ℕ) (x : T) → i < length from → x ≡ get_or from i x → (I x → ⊥) → (j : ℕ) × RefusedAt I from j
 refused_at I from i x lt is refused = (i, (lt, λ d sure. refused (subst I (get_or_default from i d x lt ∙ sym is) sure)))
+
+-- and that of one of n copies
+pub copy_refused : {T : Type 0} (I : T → Type 0) (n i : ℕ) (x : T) → i < n → (I x → ⊥) → RefusedAt I (replicate n x) i
+copy_refused I n i x lt refused = (omega (arith, lt, length-replicate n x), λ d sure. refused (subst I (get_or-replicate n i x d lt) sure))
+
+-- a call fails only if a clone was refused
+pub none_refused : {T X E : Type 0} (I : T → Type 0) (xs : List T) (r : Result X E) → OnErr r ((j : ℕ) × RefusedAt I xs j) → All I xs → IsOk r
+none_refused I xs (Ok x) refused all = refl
+none_refused I xs (Err e) refused all = absurd (all_granted I xs refused.0 all refused.1)
 
 -- Clones of the items of `old` from `start` up to i were appended, one by one.
 module _ {T : Type 0} (C : T → T → Type 0) (old new : List T) (start i : ℕ) (le : start ≤ i) (h : AppendsClones C old new (slice_range old start i)) where

@@ -2,9 +2,12 @@
 use Rattle.std.proofs.Common.{◌≡◌, ℕ, ◌+◌, ◌<◌, ◌≤◌, List, [], ◌∷◌, ◌++◌, Option, Some, Result, Ok, Err, length, take, drop, slice_set, take_at, length-append, length-drop, append_assoc, refl, sym, ap, subst, ◌∙◌, arith, rules}
 use Rattle.std.proofs.lemmas.List.{same_lists, places, drop_at, get_or-set_same}
 use Rattle.std.proofs.lemmas.Bool.{cases_eq}
-use Rattle.std.specs.Prelude.{MatchResult, IsOk, OnOk, OnErr}
-use Rattle.std.specs.Iterator.{Yields, YieldsThen, Drains, AlwaysYields}
+use Rattle.std.specs.Prelude.{MatchResult, IsOk, IfErr, OnOk, OnErr}
+use Rattle.std.specs.declared.iter.Iterator as Iterator
+use Rattle.std.specs.Iterator.{Count, Yields, YieldsThen, Drains, AlwaysYields}
 use Rattle.tinyvec_slots.specs.Filling.{ShowsItems}
+use Rattle.tinyvec_slots.specs.declared.no_room.NoRoom.{NoRoom}
+use Rattle.tinyvec.specs.Following.{Follows, FillsRoom}
 use Rattle.tinyvec_slots.specs.Slots.{Slots, items, items_len, spare, all_slots, with_spare}
 use Rattle.tinyvec_slots.proofs.FillingLemmas.{drained, refused, drained_all, refused_early}
 
@@ -38,6 +41,16 @@ module _ {S A : Type 0} (steps : S → Option A → S → Type 0) where
         let fewer = refused_early steps all s yields xs (back e) (item e) ran in
         let long = ap length is ∙ length-append old xs in
         (tt, λ fits. absurd (omega (arith, fewer, long, full, le, fits)))
+
+-- a call that filled room leaves no fewer items
+pub no_fewer : {S A X : Type 0} {g : Iterator.Ghosts S A} {s : S} {n : ℕ} {r : Result X (NoRoom A S)} (old new : List A) → FillsRoom g s n r old new → length old ≤ length new
+no_fewer old new h = omega (arith, ap length h.ran.2, length-append old h.ran.0)
+
+-- what it returns can be iterated further
+pub can_go_on : {S A X : Type 0} (can : S → Type 0) (left : S → Count) (s : S) (old new : ℕ) (r : Result X (NoRoom A S))
+    → Follows can left s old new r → IfErr r (λ refused. can refused.rest)
+can_go_on can left s old new (Ok _) h = tt
+can_go_on can left s old new (Err e) h = h.0
 
 -- The spare slots were written, and xs stands over the first of them. The border was moved behind xs.
 module _ {T : Type 0} (v : Slots T) (xs ws : List T) (len : ℕ) (few : length xs ≤ length (spare v))

@@ -1,9 +1,10 @@
 -- Lemmas on what a call leaves of place and capacity.
-use Rattle.std.proofs.Common.{◌≡◌, ℕ, ◌≤◌, ◌+◌, ◌*◌, max, Result, Ok, Err, List, length, drop, refl, sym, ap, subst, ◌∙◌, arith}
+use Rattle.std.proofs.Common.{◌≡◌, ℕ, ◌<◌, ◌≤◌, ◌+◌, ◌*◌, max, Result, Ok, Err, List, length, drop, refl, sym, ap, subst, ◌∙◌, arith}
 use Rattle.std.specs.Prelude.{OnOk, IsErr}
 use Rattle.std.proofs.Math.Seq.{drop-nil}
 use Rattle.std.proofs.lemmas.Bool.{false≢true}
 use Rattle.tinyvec_slots.specs.Slots.{Slots, SlotRule, items, items_len, spare}
+use Rattle.tinyvec_slots.proofs.CloneLemmas.{on_err}
 use Rattle.tinyvec.specs.TinyVec.{tiny_view, tiny_len, tiny_spare, is_inline, tiny_capacity, IsInline, PlaceRule, TinySlotRule, SameFrame, Becomes, StaysInPlace, Unchanged}
 use Rattle.tinyvec.specs.Room.{Doubles, GrowsFor, Grows, Reserves, RoomGrows, MakesRoom}
 use Rattle.tinyvec.proofs.TinyLemmas.{view_unchanged, slots_taken, taken, tiny_slots_then, tiny_slots_then_framed, never_ok}
@@ -133,6 +134,22 @@ module _ {A T X E : Type 0} (D : T → Type 0) (slots need : ℕ) (old new : Tin
     grown = never_ok _ r err;
     fits = fits;
   }
+
+  -- and nothing changed
+  pub room_not_made : {G : ℕ → ℕ → TinyVec A T → TinyVec A T → Type 0} → IsErr r → tiny_capacity slots old < need → Unchanged old new → tiny_len new ≤ tiny_capacity slots new
+      → MakesRoom G D slots need old new r
+  room_not_made err less h fits =
+      let same = h.capacity slots in record {
+        place = never_ok _ r err;
+        slot_rule = slots_taken D old new 0 (omega (arith, ap length h.items)) h.spare;
+        capacity = omega (arith, same);
+        same_room = λ _. same;
+        grown = never_ok _ r err;
+        fits = fits;
+        succeeds = λ room. absurd (omega (arith, room, less));
+        full = on_err r less;
+        refused = on_err r h;
+      }
 
   -- room was granted first, and kept
   pub room_made : {Y F : Type 0} (n : ℕ) (mid : TinyVec A T) (y : Y) → tiny_len old + n ≡ need → is_inline new ≡ is_inline mid

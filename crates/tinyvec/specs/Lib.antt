@@ -19,6 +19,7 @@ pub mod TinyVec
 pub mod Lends
 pub mod Drain
 pub mod Refused
+pub mod OnHeap
 pub mod Room
 pub mod IterMut
 pub mod TinyVecSplice

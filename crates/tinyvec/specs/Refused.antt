@@ -1,10 +1,10 @@
--- What a failed call leaves.
-use Rattle.std.specs.Prelude.{◌≡◌, ℕ, ◌+◌, ◌<◌, ◌≤◌, ◌⊎◌, List, ◌++◌, length, take, drop, All, Result, IsOk, OnOk, OnErr, if◌then◌else◌, is_ok}
+-- What a failed call leaves. C is the `is_clone` of an item's `Clone`.
+use Rattle.std.specs.Prelude.{◌≡◌, ℕ, ◌+◌, ◌<◌, ◌≤◌, ◌⊎◌, List, length, take, drop, All, Result, IsOk, OnOk, OnErr}
 use Rattle.std.specs.List.{AppendsClones}
 use Rattle.std.specs.declared.clone.Clone as Clone
-use Rattle.tinyvec_slots.specs.Clones.{RefusedAt, ClonesAreEqual, ClonesOver}
+use Rattle.tinyvec_slots.specs.Clones.{RefusedAt, ClonesOver}
 use Rattle.tinyvec.specs.TinyVec.{tiny_items, tiny_len, tiny_spare, is_inline, tiny_capacity, IsInline, PlaceRule, Unchanged}
-use Rattle.tinyvec.specs.Room.{GrowsFor, RoomGrows}
+use Rattle.tinyvec.specs.Room.{GrowsFor}
 use Rattle.tinyvec.specs.declared.tiny_vec.TinyVec.{TinyVec}
 
 -- a call that needs room for `need` items had it, or allocated it
@@ -33,17 +33,8 @@ pub record ClonesInRoom {A T X E : Type 0} (g : Clone.Ghosts T) (slots : ℕ) (x
   pub refused : OnErr result ((j : ℕ) × RefusedAt g.is_infallible xs j × ClonesBehind g.is_clone (take j xs) j old new)
   pub succeeds : All g.is_infallible xs → IsOk result
 
--- clones of xs were appended, with this result; room for all was made first
-pub record ExtendsByClones {A T X E : Type 0} (D : T → Type 0) (g : Clone.Ghosts T) (slots : ℕ) (xs : List T) (old new : TinyVec A T)
-    (result : Result X E) : Type 0 where
-  pub items : OnOk result (AppendsClones g.is_clone (tiny_items old) (tiny_items new) xs)
-  pub len : tiny_len new ≡ (if is_ok result then tiny_len old + length xs else tiny_len old)
-  pub if_clones_equal : ClonesAreEqual g.is_clone → tiny_items new ≡ (if is_ok result then tiny_items old ++ xs else tiny_items old)
-  pub room : RoomGrows GrowsFor D slots (tiny_len old + length xs) old new result
-  -- if there is room only clones allocate
-  pub succeeds : tiny_len old + length xs ≤ tiny_capacity slots old → All g.is_infallible xs → IsOk result
-  -- On failure the list is unchanged. If only a clone failed, the reservation stays, and an inline list's first j spare slots
-  -- hold the clones made.
-  pub kept : OnErr result (tiny_items new ≡ tiny_items old)
-  pub refused : OnErr result (RefusedFor slots (tiny_len old + length xs)
-      ((j : ℕ) × RefusedAt g.is_infallible xs j × ClonesBehind g.is_clone (take j xs) j old new) old new)
+-- Appending clones of xs failed. If only a clone was refused, the reservation stays, and an inline list's first j spare slots hold
+-- the clones made.
+abbrev pub ClonesRefused : {A T : Type 0} → Clone.Ghosts T → ℕ → List T → TinyVec A T → TinyVec A T → Type 0
+ClonesRefused g slots xs old new = RefusedFor slots (tiny_len old + length xs)
+    ((j : ℕ) × RefusedAt g.is_infallible xs j × ClonesBehind g.is_clone (take j xs) j old new) old new

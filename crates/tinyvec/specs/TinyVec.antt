@@ -4,6 +4,7 @@ use Rattle.std.specs.List.{AllZip}
 use Rattle.std.specs.Global.{Global}
 use Rattle.std.specs.Vec.{vec_allocator}
 use Rattle.tinyvec_slots.specs.Slots.{AreDefaults, items, spare}
+use Rattle.tinyvec_slots.specs.Clones.{ClonesAreEqual}
 use Rattle.tinyvec.specs.View.{Place, in_array, on_heap, lies_inline, capacity_in, TinyView, ViewPlaceRule, ViewSlotRule, ViewBecomes}
 use Rattle.tinyvec.specs.declared.tiny_vec.TinyVec.{TinyVec}
 use Rattle.tinyvec.specs.declared.tiny_vec.TinyVec.TheVariants.{Inline, Heap}
@@ -79,6 +80,14 @@ module _ {A T : Type 0} where
   abbrev pub StaysInPlace : (T → Type 0) → ℕ → TinyVec A T → TinyVec A T → Type 0
   StaysInPlace D slots old new = Becomes D slots old new (tiny_items new)
 
+  -- a call that only removes items, and allocates nothing, took `old` to `new`
+  pub record ShortensInPlace (D : T → Type 0) (slots : ℕ) (old new : TinyVec A T) : Type 0 where
+    pub bound : tiny_len new ≤ tiny_len old
+    pub place : is_inline new ≡ is_inline old
+    pub slot_rule : TinySlotRule D old new
+    pub capacity : tiny_capacity slots new ≡ tiny_capacity slots old
+    pub fits : tiny_len new ≤ tiny_capacity slots new
+
   -- v is the list of old from i on, in the place of old: inline before defaults, on the heap with a capacity of its length
   pub record IsTail (D : T → Type 0) (slots i : ℕ) (old v : TinyVec A T) : Type 0 where
     pub items : tiny_items v ≡ drop i (tiny_items old)
@@ -98,7 +107,9 @@ module _ {A T : Type 0} where
   -- the length; C is the `is_clone` of the item
   pub record IsTinyClone (C : T → T → Type 0) (slots : ℕ) (v w : TinyVec A T) : Type 0 where
     pub items : AllZip C (tiny_items v) (tiny_items w)
+    pub len : tiny_len w ≡ tiny_len v
     pub spare : AllZip C (tiny_spare v) (tiny_spare w)
+    pub if_clones_equal : ClonesAreEqual C → (tiny_items w ≡ tiny_items v) × (tiny_spare w ≡ tiny_spare v)
     pub place : is_inline w ≡ is_inline v
     pub room : is_inline w ≡ false → tiny_capacity slots w ≡ tiny_len v
 

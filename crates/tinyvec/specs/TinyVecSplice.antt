@@ -51,6 +51,14 @@ module _ {A I T : Type 0} where
   abbrev pub splice_lender : TinyVecSplice A I T → GName
   splice_lender s = s.vec.ghost_name
 
+-- s has placed no item yet: these items precede, are left in, and follow the range
+pub record SpliceBegins {A I T : Type 0} (ahead inside behind : List T) (s : TinyVecSplice A I T) : Type 0 where
+  pub front : splice_front s ≡ ahead
+  pub left : splice_left s ≡ inside
+  pub len : splice_len s ≡ length (splice_left s)
+  pub back : splice_back s ≡ behind
+  pub touches : splice_touches s ≡ 0
+
 -- the removed items that are left are in the list
 abbrev pub SpliceCanStep : {A I T : Type 0} → TinyVecSplice A (Fuse I) T → Type 0
 SpliceCanStep s = GapCanStep s.gap (fuse_done s.replacement) (tiny_len (splice_vec s))

@@ -48,7 +48,7 @@ impl<'a, A: Array, I: Drop> Drop for TinyVecSplice<'a, A, I> {
 }
 
 impl<A: Array> TinyVec<A> {
-    ghost use Rattle.tinyvec.specs.TinyVecSplice.{splice_front, splice_left, splice_len, splice_back, splice_replacement, splice_touches, splice_vec, splice_lender, SpliceCanStep};
+    ghost use Rattle.tinyvec.specs.TinyVecSplice.{splice_replacement, splice_vec, splice_lender, SpliceBegins, SpliceCanStep};
 
     /// Removes the range, yields its items from both ends, and puts those of `replacement` in their place.
     ///
@@ -60,13 +60,11 @@ impl<A: Array> TinyVec<A> {
     ) -> TinyVecSplice<'_, A, Fuse<I::IntoIter>>
         requires not_exhausted { R.has_bounds range }
         requires in_list { IsRangeOf (tiny_items self.old) (R.start_bound range) (R.end_bound range) }
-        ensures front { splice_front result ≡ before (tiny_items self.old) (R.start_bound range) }
-        ensures left { splice_left result ≡ removed (tiny_items self.old) (R.start_bound range) (R.end_bound range) }
-        ensures len { splice_len result ≡ length (splice_left result) }
-        ensures back { splice_back result ≡ after (tiny_items self.old) (R.end_bound range) }
+        ensures begins { SpliceBegins (before (tiny_items self.old) (R.start_bound range))
+            (removed (tiny_items self.old) (R.start_bound range) (R.end_bound range))
+            (after (tiny_items self.old) (R.end_bound range)) result }
         ensures replacement { I.into_iter_gives replacement (fuse_source (splice_replacement result)) }
         ensures unasked { fuse_done (splice_replacement result) ≡ false }
-        ensures touches { splice_touches result ≡ 0 }
         ensures vec { splice_vec result ≡ self.old }
         ensures same_reference { splice_lender result ≡ self.entry.ghost_name }
         ensures ready { SpliceCanStep result }

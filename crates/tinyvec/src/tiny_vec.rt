@@ -1,10 +1,9 @@
 //! `TinyVec`.
 ghost use Rattle.std.specs.Prelude.{◌≡◌, ◌+◌, ◌<◌, ◌≤◌, ◌==◌, not, length, slice_index_or, slice_set, ◌-◌, ◌↔◌, ℕ, All, [], take, drop, IsOk, IsErr, IfOk, IfErr, OnErr, vec_capacity, ◌^◌, List};
-ghost use Rattle.std.specs.List.{AllZip};
 ghost use Rattle.tinyvec.specs.TinyVec.{tiny_items, tiny_len, tiny_spare, is_inline, tiny_capacity, IsInline, HoldsInline, SameFrame, tiny_allocator};
 ghost use Rattle.tinyvec.specs.Room.{MadeFor};
 ghost use Rattle.tinyvec_slots.specs.Slots.{AreDefaults, items, spare};
-ghost use Rattle.tinyvec_slots.specs.Clones.{RefusedAt, ClonesAreEqual};
+ghost use Rattle.tinyvec_slots.specs.Clones.{RefusedAt, AreClones};
 ghost use Rattle.std.specs.Borrow.{sem};
 ghost use Rattle.std.specs.Slice.Iter.{iter_rest, iter_mut_rest, iter_mut_steps, iter_mut_steps_back};
 ghost use Rattle.std.specs.Iterator.Adapters.{IterYieldsInOrder, IterYieldsInReverse};
@@ -182,9 +181,7 @@ impl<A: Array> TinyVec<A> {
     pub fn from_slice(alloc: Global, slice: &[A::Item]) -> Result<Self, AllocError>
     where
         A::Item: Clone,
-        ensures items { IfOk result (λ v. AllZip A.Item.is_clone slice.now (tiny_items v)) }
-        ensures len { IfOk result (λ v. tiny_len v ≡ length slice.now) }
-        ensures if_clones_equal { IfOk result (λ v. ClonesAreEqual A.Item.is_clone → tiny_items v ≡ slice.now) }
+        ensures items { IfOk result (λ v. AreClones A.Item.is_clone slice.now (tiny_items v)) }
         ensures made { IfOk result (MadeFor A.Item.is_default A.CAPACITY (length slice.now) (length slice.now)) }
         ensures refused { OnErr result (length slice.now ≤ A.CAPACITY
             → (j : ℕ) × RefusedAt A.Item.is_infallible slice.now j) }

@@ -2,9 +2,10 @@
 //!
 //! Each loop works on a local variable, whose length and pointer LLVM keeps in registers. Through a reference it cannot,
 //! since the items might overlap the vector.
-ghost use Rattle.std.specs.Prelude.{◌≡◌, ◌+◌, ◌-◌, ◌<◌, ◌≤◌, ◌++◌, ℕ, All, length, take, drop, slice_range, replicate, IsOk, IfOk, OnOk, OnErr, vec_len, vec_capacity};
+ghost use Rattle.std.specs.Prelude.{◌≡◌, ◌+◌, ◌-◌, ◌<◌, ◌≤◌, ◌++◌, ℕ, length, take, drop, slice_range, replicate, IfOk, OnErr, vec_len, vec_capacity};
 ghost use Rattle.std.specs.List.{AllZip, AppendsClones};
 ghost use Rattle.tinyvec_slots.specs.Clones.{RefusedAt};
+ghost use Rattle.tinyvec.specs.OnHeap.{HeapBecomes, PushesClones};
 
 use std::alloc::AllocError;
 use std::mem;
@@ -13,11 +14,7 @@ use tinyvec_slots::{clone_each, fit_registers};
 // Appends clones of `from`, if there is room.
 pub(crate) fn push_clones<T: Clone>(heap: &mut Vec<T>, from: &[T]) -> Result<(), AllocError>
     requires room { vec_len heap.old + length from.now ≤ vec_capacity heap.old }
-    ensures items { OnOk result (AppendsClones T.is_clone heap.old.items heap.new.items from.now) }
-    ensures kept { OnErr result (heap.new.items ≡ heap.old.items) }
-    ensures refused { OnErr result ((j : ℕ) × RefusedAt T.is_infallible from.now j) }
-    ensures capacity { vec_capacity heap.new ≡ vec_capacity heap.old }
-    ensures succeeds { All T.is_infallible from.now → IsOk result }
+    ensures { PushesClones T.Clone from.now result heap.old heap.new }
 {
     let mut vec = mem::replace(heap, Vec::new(*heap.allocator()));
     let len = vec.len();
@@ -78,11 +75,7 @@ pub(crate) fn push_many_clones<T: Clone + Default + Drop>(
     from: &[T],
 ) -> Result<(), AllocError>
     requires room { vec_len heap.old + length from.now ≤ vec_capacity heap.old }
-    ensures items { OnOk result (AppendsClones T.is_clone heap.old.items heap.new.items from.now) }
-    ensures kept { OnErr result (heap.new.items ≡ heap.old.items) }
-    ensures refused { OnErr result ((j : ℕ) × RefusedAt T.is_infallible from.now j) }
-    ensures capacity { vec_capacity heap.new ≡ vec_capacity heap.old }
-    ensures succeeds { All T.is_infallible from.now → IsOk result }
+    ensures { PushesClones T.Clone from.now result heap.old heap.new }
 {
     if 512 <= from.len() && fit_registers(from) {
         return push_clones_by_blocks::<T, 512>(heap, from);
@@ -98,11 +91,7 @@ fn push_clones_by_blocks<T: Clone + Default + Drop, const N: usize>(
 ) -> Result<(), AllocError>
     requires some { 0 < N }
     requires room { vec_len heap.old + length from.now ≤ vec_capacity heap.old }
-    ensures items { OnOk result (AppendsClones T.is_clone heap.old.items heap.new.items from.now) }
-    ensures kept { OnErr result (heap.new.items ≡ heap.old.items) }
-    ensures refused { OnErr result ((j : ℕ) × RefusedAt T.is_infallible from.now j) }
-    ensures capacity { vec_capacity heap.new ≡ vec_capacity heap.old }
-    ensures succeeds { All T.is_infallible from.now → IsOk result }
+    ensures { PushesClones T.Clone from.now result heap.old heap.new }
 {
     let mut vec = mem::replace(heap, Vec::new(*heap.allocator()));
     let len = vec.len();
@@ -144,8 +133,7 @@ fn clone_block<T: Clone + Default + Drop, const N: usize>(from: &[T]) -> Result<
 fn push_whole<T: Default + Drop, const N: usize>(vec: &mut Vec<T>, block: [T; N])
     requires len { length block ≡ N }
     requires room { vec_len vec.old + N ≤ vec_capacity vec.old }
-    ensures items { vec.new.items ≡ vec.old.items ++ block }
-    ensures capacity { vec_capacity vec.new ≡ vec_capacity vec.old }
+    ensures { HeapBecomes vec.old vec.new (vec.old.items ++ block) }
 {
     let len = vec.len();
     for _i in 0..N {
@@ -174,11 +162,7 @@ pub(crate) fn push_clones_within<T: Clone>(
 ) -> Result<(), AllocError>
     requires in_list { (start ≤ end) × (end ≤ vec_len heap.old) }
     requires room { vec_len heap.old + (end - start) ≤ vec_capacity heap.old }
-    ensures items { OnOk result (AppendsClones T.is_clone heap.old.items heap.new.items (slice_range heap.old.items start end)) }
-    ensures kept { OnErr result (heap.new.items ≡ heap.old.items) }
-    ensures refused { OnErr result ((j : ℕ) × RefusedAt T.is_infallible (slice_range heap.old.items start end) j) }
-    ensures capacity { vec_capacity heap.new ≡ vec_capacity heap.old }
-    ensures succeeds { All T.is_infallible (slice_range heap.old.items start end) → IsOk result }
+    ensures { PushesClones T.Clone (slice_range heap.old.items start end) result heap.old heap.new }
 {
     let mut vec = mem::replace(heap, Vec::new(*heap.allocator()));
     let len = vec.len();
@@ -199,11 +183,7 @@ pub(crate) fn push_clones_within<T: Clone>(
 // Appends `n` clones of `x`, if there is room.
 pub(crate) fn push_clones_of<T: Clone>(heap: &mut Vec<T>, n: usize, x: &T) -> Result<(), AllocError>
     requires room { vec_len heap.old + n ≤ vec_capacity heap.old }
-    ensures items { OnOk result (AppendsClones T.is_clone heap.old.items heap.new.items (replicate n x.now)) }
-    ensures kept { OnErr result (heap.new.items ≡ heap.old.items) }
-    ensures refused { OnErr result ((j : ℕ) × (j < n) × ¬ (T.is_infallible x.now)) }
-    ensures capacity { vec_capacity heap.new ≡ vec_capacity heap.old }
-    ensures succeeds { T.is_infallible x.now → IsOk result }
+    ensures { PushesClones T.Clone (replicate n x.now) result heap.old heap.new }
 {
     let mut vec = mem::replace(heap, Vec::new(*heap.allocator()));
     let len = vec.len();
@@ -224,8 +204,7 @@ pub(crate) fn push_clones_of<T: Clone>(heap: &mut Vec<T>, n: usize, x: &T) -> Re
 // Appends copies of `from`, if there is room. `Vec::extend_from_slice` does not say that a capacity which suffices stays.
 pub(crate) fn push_copies<T: Copy>(heap: &mut Vec<T>, from: &[T])
     requires room { vec_len heap.old + length from.now ≤ vec_capacity heap.old }
-    ensures items { heap.new.items ≡ heap.old.items ++ from.now }
-    ensures capacity { vec_capacity heap.new ≡ vec_capacity heap.old }
+    ensures { HeapBecomes heap.old heap.new (heap.old.items ++ from.now) }
 {
     let mut vec = mem::replace(heap, Vec::new(*heap.allocator()));
     let most = push_blocks::<T, 16>(&mut vec, from);
@@ -241,9 +220,8 @@ pub(crate) fn push_copies<T: Copy>(heap: &mut Vec<T>, from: &[T])
 fn push_blocks<T: Copy, const N: usize>(vec: &mut Vec<T>, from: &[T]) -> usize
     requires some { 0 < N }
     requires room { vec_len vec.old + length from.now ≤ vec_capacity vec.old }
-    ensures items { vec.new.items ≡ vec.old.items ++ take result from.now }
     ensures within { result ≤ length from.now }
-    ensures capacity { vec_capacity vec.new ≡ vec_capacity vec.old }
+    ensures becomes { HeapBecomes vec.old vec.new (vec.old.items ++ take result from.now) }
 {
     let mut done = 0;
     while N <= from.len() - done {
@@ -258,8 +236,7 @@ fn push_blocks<T: Copy, const N: usize>(vec: &mut Vec<T>, from: &[T]) -> usize
 fn push_block<T: Copy, const N: usize>(vec: &mut Vec<T>, from: &[T])
     requires enough { N ≤ length from.now }
     requires room { vec_len vec.old + N ≤ vec_capacity vec.old }
-    ensures items { vec.new.items ≡ vec.old.items ++ take N from.now }
-    ensures capacity { vec_capacity vec.new ≡ vec_capacity vec.old }
+    ensures { HeapBecomes vec.old vec.new (vec.old.items ++ take N from.now) }
 {
     // Tells the proof that the items fit in memory.
     let _bytes = from.len() * mem::size_of::<T>();

@@ -3,7 +3,7 @@ use Rattle.std.proofs.Common.{◌≡◌, ℕ, ◌≤◌, List, [], ◌∷◌, �
 use Rattle.std.specs.declared.iter.Fuse.{Fuse}
 use Rattle.tinyvec_slots.specs.Touches.{touch_count}
 use Rattle.tinyvec.specs.declared.splice.TinyVecSplice.{TinyVecSplice}
-use Rattle.tinyvec.specs.TinyVecSplice.{splice_view, splice_front, splice_left, splice_len, splice_back, splice_replacement, splice_touches, splice_vec, splice_lender, SpliceCanStep, SpliceCanNext, SpliceSteps, SpliceStepsBack, FinishesVec}
+use Rattle.tinyvec.specs.TinyVecSplice.{splice_view, splice_front, splice_left, splice_len, splice_back, splice_replacement, splice_touches, splice_vec, splice_lender, SpliceBegins, SpliceCanStep, SpliceCanNext, SpliceSteps, SpliceStepsBack, FinishesVec}
 use Rattle.tinyvec.specs.TinyVec.{tiny_items, tiny_len, tiny_capacity}
 use Rattle.tinyvec_words.proofs.Shown.{D}
 use Rattle.tinyvec.specs.declared.tiny_vec.TinyVec.{TinyVec}
@@ -36,6 +36,15 @@ module _ (A : Type 0) (s t : TinyVecSplice A (Fuse (List ℕ)) ℕ) (vec : tiny_
 
   pub example-splice_lender : splice_lender s ≡ s.vec.ghost_name
   example-splice_lender = refl
+
+  pub example-SpliceBegins : SpliceBegins (1 ∷ []) (2 ∷ 3 ∷ []) (4 ∷ []) s
+  example-SpliceBegins = record {
+    front = example-splice_front;
+    left = example-splice_left;
+    len = rw (vec, next, end) refl;
+    back = example-splice_back;
+    touches = example-splice_touches;
+  }
 
   pub example-SpliceCanStep : SpliceCanStep s → splice_len s ≤ 4
   example-SpliceCanStep h = search rules

@@ -1,12 +1,15 @@
 -- Examples of a `TinyVec` whose array has four slots. `inline xs ys` has the list xs in the array, and the spare slots ys.
-use Rattle.std.proofs.Common.{◌≡◌, ℕ, List, [], ◌∷◌, ◌++◌, Ok, Result, true, false, refl, rules, arith}
+use Rattle.std.proofs.Common.{◌≡◌, ℕ, List, [], ◌∷◌, ◌++◌, Ok, Option, Result, true, false, refl, rules, arith}
 use Rattle.std.specs.Global.{Global}
 use Rattle.tinyvec.specs.declared.tiny_vec.TinyVec.{TinyVec}
 use Rattle.tinyvec.specs.declared.tiny_vec.TinyVec.TheVariants.{Inline}
-use Rattle.tinyvec.specs.TinyVec.{tiny_items, tiny_len, tiny_spare, is_inline, IsInline, HoldsInline, tiny_capacity, tiny_allocator, TinySlotRule, SameFrame, Becomes, StaysInPlace, IsTail, Unchanged, IsTinyClone, IsTinyInfallible, tiny_view}
+use Rattle.tinyvec.specs.TinyVec.{tiny_items, tiny_len, tiny_spare, is_inline, IsInline, HoldsInline, tiny_capacity, tiny_allocator, SameFrame, Becomes, StaysInPlace, ShortensInPlace, IsTail, Unchanged, IsTinyClone, IsTinyInfallible, tiny_view}
 use Rattle.tinyvec.specs.Room.{Collects, Doubles, GrowsFor, Grows, RoomGrows, MadeFor, MakesRoom, Reserves, MovesToHeap, MovesToHeapWithRoom}
 use Rattle.tinyvec.specs.View.{in_array}
-use Rattle.tinyvec.specs.Refused.{RefusedFor, ClonesBehind, ExtendsByClones}
+use Rattle.tinyvec.specs.Refused.{RefusedFor, ClonesBehind, ClonesRefused}
+use Rattle.tinyvec.specs.Following.{PushesItems}
+use Rattle.tinyvec_slots.specs.Filling.{IntoIterYields}
+use Rattle.tinyvec_slots.specs.declared.no_room.NoRoom.{NoRoom}
 use Rattle.tinyvec.specs.Lends.{tiny_with_items, tiny_with_item}
 use Rattle.tinyvec.specs.TinyVecSplice.{items_moved}
 use Rattle.tinyvec_words.proofs.Shown.{D, C, I, over}
@@ -45,9 +48,6 @@ module _ (A : Type 0) (alloc : Global) where
   pub example-tiny_allocator : tiny_allocator (inline (1 ∷ 2 ∷ []) (0 ∷ 0 ∷ [])) ≡ alloc
   example-tiny_allocator = refl
 
-  pub example-TinySlotRule : TinySlotRule D (inline (1 ∷ []) (7 ∷ 8 ∷ 0 ∷ [])) (inline (1 ∷ 5 ∷ []) (8 ∷ 0 ∷ []))
-  example-TinySlotRule = search rules
-
   pub example-SameFrame : SameFrame (inline (1 ∷ 2 ∷ []) (0 ∷ 0 ∷ [])) (inline (2 ∷ 1 ∷ []) (0 ∷ 0 ∷ []))
   example-SameFrame = search rules
 
@@ -62,6 +62,15 @@ module _ (A : Type 0) (alloc : Global) where
 
   pub example-StaysInPlace : StaysInPlace D 4 (inline (1 ∷ 2 ∷ []) (7 ∷ 8 ∷ [])) (inline (1 ∷ []) (0 ∷ 7 ∷ 8 ∷ []))
   example-StaysInPlace = example-Becomes
+
+  pub example-ShortensInPlace : ShortensInPlace D 4 (inline (1 ∷ 2 ∷ []) (7 ∷ 8 ∷ [])) (inline (2 ∷ []) (0 ∷ 7 ∷ 8 ∷ []))
+  example-ShortensInPlace = record {
+    bound = omega arith;
+    place = refl;
+    slot_rule = λ _ _. (0 ∷ [], search rules, refl);
+    capacity = refl;
+    fits = omega arith;
+  }
 
   pub example-IsTail : IsTail D 4 1 (inline (1 ∷ 2 ∷ []) (7 ∷ 8 ∷ [])) (inline (2 ∷ []) (0 ∷ 0 ∷ 0 ∷ []))
   example-IsTail = record {
@@ -124,22 +133,21 @@ module _ (A : Type 0) (alloc : Global) where
     written = refl;
   }
 
-  pub example-ExtendsByClones : ExtendsByClones D (record { is_clone = C; is_infallible = I }) 4 (5 ∷ []) (inline (1 ∷ []) (7 ∷ 8 ∷ 0 ∷ [])) (inline (1 ∷ 5 ∷ []) (8 ∷ 0 ∷ [])) done
-  example-ExtendsByClones = record {
-    items = (5 ∷ [], refl, (refl, tt));
-    len = refl;
-    if_clones_equal = λ _. refl;
-    room = search rules;
-    succeeds = λ _ _. refl;
-    kept = tt;
-    refused = tt;
-  }
-
   pub example-RefusedFor : RefusedFor 4 5 ⊥ (inline (1 ∷ 2 ∷ 3 ∷ 4 ∷ []) []) (inline (1 ∷ 2 ∷ 3 ∷ 4 ∷ []) [])
   example-RefusedFor = search rules
 
+  pub example-ClonesRefused : ClonesRefused (record { is_clone = C; is_infallible = I }) 4 (5 ∷ []) (inline (1 ∷ 2 ∷ 3 ∷ 4 ∷ []) []) (inline (1 ∷ 2 ∷ 3 ∷ 4 ∷ []) [])
+  example-ClonesRefused = search rules
+
   pub example-IsTinyClone : IsTinyClone C 4 (inline (1 ∷ []) (0 ∷ 0 ∷ 0 ∷ [])) (inline (1 ∷ []) (0 ∷ 0 ∷ 0 ∷ []))
-  example-IsTinyClone = search rules
+  example-IsTinyClone = record {
+    items = (refl, tt);
+    len = refl;
+    spare = (refl, (refl, (refl, tt)));
+    if_clones_equal = λ _. (refl, refl);
+    place = refl;
+    room = search rules;
+  }
 
   pub example-IsTinyInfallible : IsTinyInfallible I (inline (1 ∷ []) (0 ∷ 0 ∷ 0 ∷ []))
   example-IsTinyInfallible = search rules
@@ -157,3 +165,7 @@ module _ {A : Type 0} (v w : TinyVec A ℕ) (small : tiny_capacity 4 v ≡ 4) (l
 
 pub example-items_moved : items_moved 4 true false ≡ 4
 example-items_moved = refl
+
+pub example-PushesItems : (becomes : List ℕ → List ℕ → Type 0) (steps : List ℕ → Option ℕ → List ℕ → Type 0) (r : Result Unit (NoRoom ℕ (List ℕ))) (new : List ℕ)
+    → IntoIterYields becomes steps (5 ∷ []) (5 ∷ []) → PushesItems becomes steps (5 ∷ []) 4 r (1 ∷ []) new → new ≡ 1 ∷ 5 ∷ []
+example-PushesItems becomes steps r new yields h = ((h.known (5 ∷ []) yields).1 (omega arith)).1

@@ -1,7 +1,7 @@
 //! Room on the heap, and moves between the array and the heap.
 ghost use Rattle.std.specs.Prelude.{◌≡◌, ◌+◌, ◌*◌, ◌<◌, ◌≤◌, max, false, OnOk, OnErr, vec_len, vec_capacity, ◌-◌, ◌↔◌, IsOk, IfOk, IfErr};
-ghost use Rattle.tinyvec.specs.TinyVec.{tiny_items, tiny_len, is_inline, tiny_capacity, Unchanged, tiny_spare, IsInline, TinySlotRule};
-ghost use Rattle.tinyvec.specs.Room.{Doubles, Reserves, MovesToHeap, MovesToHeapWithRoom};
+ghost use Rattle.tinyvec.specs.TinyVec.{tiny_items, tiny_len, is_inline, tiny_capacity, tiny_spare, IsInline};
+ghost use Rattle.tinyvec.specs.Room.{Doubles, MakesRoom, Reserves, MovesToHeap, MovesToHeapWithRoom};
 ghost use Rattle.std.specs.Box.{boxed_slice_items};
 ghost use Rattle.tinyvec_slots.specs.Slots.{AreDefaults, items, spare};
 
@@ -17,10 +17,7 @@ impl<A: Array> TinyVec<A> {
         requires { tiny_capacity A.CAPACITY self.old ≤ tiny_len self.old }
         ensures items { tiny_items self.new ≡ tiny_items self.old }
         ensures place { OnOk result (is_inline self.new ≡ false) }
-        ensures room { OnOk result (Doubles A.CAPACITY (tiny_len self.old + 1) self.old self.new) }
-        ensures capacity { tiny_capacity A.CAPACITY self.old ≤ tiny_capacity A.CAPACITY self.new }
-        ensures fits { tiny_len self.new ≤ tiny_capacity A.CAPACITY self.new }
-        ensures refused { OnErr result (Unchanged self.old self.new) }
+        ensures room { MakesRoom Doubles A.Item.is_default A.CAPACITY (tiny_len self.old + 1) self.old self.new result }
     {
         let len = self.len();
         self.grow(len.max(1))
@@ -157,7 +154,6 @@ impl<A: Array> TinyVec<A> {
         ensures spare { is_inline self.old ≡ false → IsInline self.new
             → AreDefaults A.Item.is_default (A.CAPACITY - tiny_len self.old) (tiny_spare self.new) }
         ensures kept { IsInline self.old → self.new ≡ self.old }
-        ensures slot_rule { TinySlotRule A.Item.is_default self.old self.new }
         ensures capacity { is_inline self.new ≡ false
             → tiny_capacity A.CAPACITY self.new ≤ tiny_capacity A.CAPACITY self.old }
         ensures fits { tiny_len self.new ≤ tiny_capacity A.CAPACITY self.new }

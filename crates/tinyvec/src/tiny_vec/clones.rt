@@ -1,7 +1,7 @@
 //! Clones.
 ghost use Rattle.std.specs.Prelude.{◌≡◌, ◌≤◌, ◌++◌, ℕ, All, min, false, length, take, IfOk, OnOk, OnErr, IsOk};
 ghost use Rattle.std.specs.List.{AllZip};
-ghost use Rattle.tinyvec_slots.specs.Clones.{RefusedAt, ClonesAreEqual, ClonesOver, ClonesInPart};
+ghost use Rattle.tinyvec_slots.specs.Clones.{RefusedAt, AreClones, ClonesOver, ClonesInPart};
 ghost use Rattle.tinyvec.specs.TinyVec.{tiny_items, tiny_len, tiny_spare, is_inline, tiny_capacity, IsInline, SameFrame, IsTinyClone, IsTinyInfallible};
 ghost use Rattle.tinyvec.specs.Refused.{RefusedFor};
 ghost use Rattle.tinyvec.specs.Room.{GrowsFor, RoomGrows};
@@ -20,9 +20,6 @@ impl<A: Array> TinyVec<A> {
     where
         A::Item: Clone,
         ensures copied { IfOk result (IsTinyClone A.Item.is_clone A.CAPACITY self.now) }
-        ensures len { IfOk result (λ v. tiny_len v ≡ tiny_len self.now) }
-        ensures if_clones_equal { IfOk result (λ v. ClonesAreEqual A.Item.is_clone
-            → (tiny_items v ≡ tiny_items self.now) × (tiny_spare v ≡ tiny_spare self.now)) }
         ensures refused { OnErr result (IsInline self.now
             → (j : ℕ) × RefusedAt A.Item.is_infallible (tiny_items self.now ++ tiny_spare self.now) j) }
         ensures succeeds { IsInline self.now
@@ -59,10 +56,7 @@ impl<A: Array> TinyVec<A> {
     pub fn clone_from(&mut self, source: &Self) -> Result<(), AllocError>
     where
         A::Item: Clone,
-        ensures items { OnOk result (AllZip A.Item.is_clone (tiny_items source.now) (tiny_items self.new)) }
-        ensures len { OnOk result (tiny_len self.new ≡ tiny_len source.now) }
-        ensures if_clones_equal { OnOk result (ClonesAreEqual A.Item.is_clone
-            → tiny_items self.new ≡ tiny_items source.now) }
+        ensures items { OnOk result (AreClones A.Item.is_clone (tiny_items source.now) (tiny_items self.new)) }
         ensures room { RoomGrows GrowsFor A.Item.is_default A.CAPACITY (tiny_len source.now) self.old self.new result }
 
         // If there is room only clones allocate.

@@ -1,7 +1,8 @@
 //! Items that are pushed, popped, inserted, removed and cut off.
-ghost use Rattle.std.specs.Prelude.{◌≡◌, ◌+◌, ◌-◌, ◌<◌, ◌↔◌, [], ◌∷◌, ◌++◌, take, slice_get, IsSome, IfSome, IsOk, OnErr, IfErr, ◌≤◌, if◌then◌else◌, is_ok, insert, remove, slice_index_or, vec_len, vec_capacity, IfOk, IfNone};
+ghost use Rattle.std.specs.Prelude.{◌≡◌, ◌+◌, ◌-◌, ◌<◌, ◌↔◌, [], ◌∷◌, ◌++◌, take, slice_get, IsSome, IfSome, IsOk, OnErr, IfErr, ◌≤◌, if◌then◌else◌, is_ok, insert, remove, slice_index_or, vec_len, IfOk, IfNone};
 ghost use Rattle.tinyvec.specs.TinyVec.{tiny_items, tiny_len, tiny_capacity, IsTail, Becomes, Unchanged, IsInline};
 ghost use Rattle.tinyvec.specs.Room.{Doubles, MakesRoom};
+ghost use Rattle.tinyvec.specs.OnHeap.{HeapBecomes};
 ghost use Rattle.std.specs.List.{swap_remove};
 ghost use Rattle.std.specs.Borrow.{sem};
 
@@ -244,8 +245,7 @@ const FEW: usize = 16;
 fn remove_on_heap<T: Default + Drop>(heap: &mut Vec<T>, i: usize) -> T
     requires { i < vec_len heap.old }
     ensures value { result ≡ slice_index_or heap.old.items i result }
-    ensures items { heap.new.items ≡ remove heap.old.items i }
-    ensures capacity { vec_capacity heap.new ≡ vec_capacity heap.old }
+    ensures becomes { HeapBecomes heap.old heap.new (remove heap.old.items i) }
 {
     let len = heap.len();
     if len - i > FEW {

@@ -1,15 +1,15 @@
 //! Growing by other lists, by clones, by iterators and by closures.
-ghost use Rattle.std.specs.Prelude.{◌≡◌, ◌+◌, ◌≤◌, ◌++◌, ℕ, length, take, drop, slice_range, IsOk, OnOk, OnErr, if◌then◌else◌, is_ok, ◌<◌, [], ◌-◌, ◌*◌, ◌↔◌, ◌∷◌, List, Some, MatchResult, IfOk, IfErr, vec_len, vec_capacity, max, replicate};
+ghost use Rattle.std.specs.Prelude.{◌≡◌, ◌+◌, ◌≤◌, ◌++◌, ℕ, All, length, take, drop, slice_range, IsOk, OnOk, OnErr, if◌then◌else◌, is_ok, ◌<◌, [], ◌-◌, ◌*◌, ◌↔◌, ◌∷◌, List, Some, MatchResult, IfOk, IfErr, vec_capacity, max, replicate};
 ghost use Rattle.std.specs.List.{AppendsClones, AppendsResults};
-ghost use Rattle.tinyvec_slots.specs.Clones.{ClonesAreEqual};
-ghost use Rattle.tinyvec.specs.TinyVec.{tiny_items, tiny_len, is_inline, tiny_capacity, TinySlotRule, IsInline, StaysInPlace, Becomes};
-ghost use Rattle.tinyvec.specs.Refused.{RefusedFor, ClonesBehind, ClonesInRoom, ExtendsByClones};
+ghost use Rattle.tinyvec_slots.specs.Clones.{ClonesAreEqual, AppendsAllOrNone};
+ghost use Rattle.tinyvec.specs.TinyVec.{tiny_items, tiny_len, tiny_capacity, IsInline, StaysInPlace, Becomes};
+ghost use Rattle.tinyvec.specs.Refused.{RefusedFor, ClonesBehind, ClonesInRoom, ClonesRefused};
 ghost use Rattle.tinyvec.specs.Room.{GrowsFor, RoomGrows, MakesRoom, Grows, Collects};
-ghost use Rattle.tinyvec_slots.specs.Slots.{AreDefaults, items, spare, items_len};
+ghost use Rattle.tinyvec_slots.specs.Slots.{AreDefaults, Gains, items, items_len};
 ghost use Rattle.std.specs.Iterator.{IsFinite, Drains, YieldsThen, size};
 ghost use Rattle.tinyvec_slots.specs.Ranges.{IsRangeOf, removed};
 ghost use Rattle.tinyvec_slots.specs.Filling.{ShowsItems, IntoIterYields};
-ghost use Rattle.tinyvec.specs.Following.{Follows};
+ghost use Rattle.tinyvec.specs.Following.{Follows, FillsRoom, PushesItems};
 
 use crate::TinyVec;
 use crate::tuned::{push_clones_of, push_clones_within, push_copies, push_many_clones};
@@ -40,7 +40,15 @@ impl<A: Array> TinyVec<A> {
     pub fn extend_from_slice(&mut self, other: &[A::Item]) -> Result<(), AllocError>
     where
         A::Item: Clone,
-        ensures { ExtendsByClones A.Item.is_default A.Item.Clone A.CAPACITY other.now self.old self.new result }
+        ensures clones { AppendsAllOrNone A.Item.is_clone other.now
+            result (tiny_items self.old) (tiny_items self.new) }
+        ensures room { RoomGrows GrowsFor A.Item.is_default A.CAPACITY (tiny_len self.old + length other.now)
+            self.old self.new result }
+
+        // If there is room only clones allocate.
+        ensures succeeds { tiny_len self.old + length other.now ≤ tiny_capacity A.CAPACITY self.old
+            → All A.Item.is_infallible other.now → IsOk result }
+        ensures refused { OnErr result (ClonesRefused A.Item.Clone A.CAPACITY other.now self.old self.new) }
     {
         match self {
             TinyVec::Inline(v, _) if other.len() <= v.capacity() - v.len() => v.extend_from_slice(
@@ -62,8 +70,21 @@ impl<A: Array> TinyVec<A> {
         A::Item: Clone,
         requires not_exhausted { R.has_bounds range }
         requires in_list { IsRangeOf (tiny_items self.old) (R.start_bound range) (R.end_bound range) }
-        ensures { ExtendsByClones A.Item.is_default A.Item.Clone A.CAPACITY
-            (removed (tiny_items self.old) (R.start_bound range) (R.end_bound range)) self.old self.new result }
+        ensures clones { AppendsAllOrNone A.Item.is_clone
+            (removed (tiny_items self.old) (R.start_bound range) (R.end_bound range))
+            result (tiny_items self.old) (tiny_items self.new) }
+        ensures room { RoomGrows GrowsFor A.Item.is_default A.CAPACITY
+            (tiny_len self.old + length (removed (tiny_items self.old) (R.start_bound range) (R.end_bound range)))
+            self.old self.new result }
+
+        // If there is room only clones allocate.
+        ensures succeeds { tiny_len self.old
+            + length (removed (tiny_items self.old) (R.start_bound range) (R.end_bound range))
+            ≤ tiny_capacity A.CAPACITY self.old
+            → All A.Item.is_infallible (removed (tiny_items self.old) (R.start_bound range) (R.end_bound range))
+            → IsOk result }
+        ensures refused { OnErr result (ClonesRefused A.Item.Clone A.CAPACITY
+            (removed (tiny_items self.old) (R.start_bound range) (R.end_bound range)) self.old self.new) }
     {
         let part = resolve_range(range, self.len());
         self.reserve(part.end - part.start)?;
@@ -161,10 +182,8 @@ impl<A: Array> TinyVec<A> {
     ) -> Result<(), NoRoom<A::Item, I::IntoIter>>
         requires { (it : I.IntoIter) → I.into_iter_gives iter it
             → I.IntoIter.can_next it × IsFinite (I.IntoIter.remaining it) }
-        ensures ran { (it : I.IntoIter) × (xs : List A.Item) × I.into_iter_gives iter it
-            × MatchResult result (λ _. Drains I.IntoIter.next_gives it xs)
-            (λ refused. YieldsThen I.IntoIter.next_gives it xs (Some refused.item) refused.rest)
-            × (tiny_items self.new ≡ tiny_items self.old ++ xs) }
+        ensures items { PushesItems I.into_iter_gives I.IntoIter.next_gives iter (tiny_capacity A.CAPACITY self.old)
+            result (tiny_items self.old) (tiny_items self.new) }
         ensures grows { Grows A.Item.is_default A.CAPACITY self.old self.new }
 
         // It fails only if there is no room.
@@ -172,18 +191,6 @@ impl<A: Array> TinyVec<A> {
 
         // The returned iterator can be iterated further.
         ensures goes_on { IfErr result (λ refused. I.IntoIter.can_next refused.rest) }
-
-        // For an iterator of which `rest` shows the remaining items.
-        ensures listed { (rest : I.IntoIter → List A.Item) → ShowsItems I.IntoIter.next_gives rest
-            → (it : I.IntoIter) × (xs : List A.Item) × I.into_iter_gives iter it
-            × MatchResult result (λ _. rest it ≡ xs) (λ refused. rest it ≡ xs ++ refused.item ∷ rest refused.rest)
-            × (tiny_items self.new ≡ tiny_items self.old ++ xs) }
-
-        // For items that are known, as those of a `Vec`, a range or a slice. If they fit, it allocates nothing.
-        ensures known { (xs : List A.Item) → IntoIterYields I.into_iter_gives I.IntoIter.next_gives iter xs
-            → OnOk result (tiny_items self.new ≡ tiny_items self.old ++ xs)
-            × (tiny_len self.old + length xs ≤ tiny_capacity A.CAPACITY self.old
-            → IsOk result × (tiny_items self.new ≡ tiny_items self.old ++ xs)) }
     {
         self.extend_runs(iter.into_iter())
     }
@@ -233,12 +240,9 @@ impl<A: Array> TinyVec<A> {
         iter: I,
     ) -> Result<(), NoRoom<A::Item, I>>
         requires { I.can_next iter × IsFinite (I.remaining iter) }
-        ensures ran { (xs : List A.Item) × MatchResult result (λ _. Drains I.next_gives iter xs)
-            (λ refused. YieldsThen I.next_gives iter xs (Some refused.item) refused.rest)
-            × (tiny_items self.new ≡ tiny_items self.old ++ xs) }
+        ensures fills { FillsRoom I.Iterator iter (tiny_capacity A.CAPACITY self.new) result
+            (tiny_items self.old) (tiny_items self.new) }
         ensures grows { Grows A.Item.is_default A.CAPACITY self.old self.new }
-        ensures full { OnErr result (tiny_len self.new ≡ tiny_capacity A.CAPACITY self.new) }
-        ensures goes_on { IfErr result (λ refused. I.can_next refused.rest) }
     {
         // Shows the proof that an empty iterator leaves a list that fits.
         let _len = self.len();
@@ -258,13 +262,9 @@ impl<A: Array> TinyVec<A> {
     #[inline(always)]
     fn fill_room<I: Iterator<Item = A::Item>>(&mut self, iter: I) -> Result<(), NoRoom<A::Item, I>>
         requires { I.can_next iter × IsFinite (I.remaining iter) }
-        ensures ran { (xs : List A.Item) × MatchResult result (λ _. Drains I.next_gives iter xs)
-            (λ refused. YieldsThen I.next_gives iter xs (Some refused.item) refused.rest)
-            × (tiny_items self.new ≡ tiny_items self.old ++ xs) }
+        ensures fills { FillsRoom I.Iterator iter (tiny_capacity A.CAPACITY self.new) result
+            (tiny_items self.old) (tiny_items self.new) }
         ensures frame { StaysInPlace A.Item.is_default A.CAPACITY self.old self.new }
-        ensures longer { tiny_len self.old ≤ tiny_len self.new }
-        ensures full { OnErr result (tiny_len self.new ≡ tiny_capacity A.CAPACITY self.new) }
-        ensures goes_on { Follows I.can_next I.remaining iter (tiny_len self.old) (tiny_len self.new) result }
     {
         match self {
             TinyVec::Inline(v, _) => fill_array(v, iter),
@@ -288,8 +288,7 @@ impl<A: Array> TinyVec<A> {
 
         // It fails only if there is no room.
         ensures full { IfErr result (λ refused. (tiny_len refused.vec ≡ tiny_capacity A.CAPACITY refused.vec)
-            × (A.CAPACITY ≤ tiny_len refused.vec)) }
-        ensures refused_place { IfErr result (λ refused. IsInline refused.vec ↔ (tiny_len refused.vec ≤ A.CAPACITY)) }
+            × (A.CAPACITY ≤ tiny_len refused.vec) × (IsInline refused.vec ↔ (tiny_len refused.vec ≤ A.CAPACITY))) }
 
         // The returned iterator can be iterated further.
         ensures goes_on { IfErr result (λ refused. I.IntoIter.can_next refused.rest) }
@@ -341,9 +340,9 @@ impl<A: Array> TinyVec<A> {
             self.truncate(new_len);
             return Ok(());
         }
-        if self.reserve(new_len - len).is_err() {
+        let Ok(()) = self.reserve(new_len - len) else {
             return Err(NoMemory(value));
-        }
+        };
         self.fill_reserved(new_len - len, value)
     }
 
@@ -352,19 +351,8 @@ impl<A: Array> TinyVec<A> {
     where
         A::Item: Clone,
         requires room { tiny_len self.old + n ≤ tiny_capacity A.CAPACITY self.old }
-        ensures items { OnOk result (AppendsClones A.Item.is_clone
-            (tiny_items self.old) (tiny_items self.new) (replicate n x)) }
-        ensures slot_rule { OnOk result (TinySlotRule A.Item.is_default self.old self.new) }
-        ensures place { is_inline self.new ≡ is_inline self.old }
-        ensures capacity { tiny_capacity A.CAPACITY self.new ≡ tiny_capacity A.CAPACITY self.old }
-        ensures fits { tiny_len self.new ≤ tiny_capacity A.CAPACITY self.new }
+        ensures clones { ClonesInRoom A.Item.Clone A.CAPACITY (replicate n x) self.old self.new result }
         ensures value_returned { IfErr result (λ refused. refused.0 ≡ x) }
-        ensures kept { OnErr result (tiny_items self.new ≡ tiny_items self.old) }
-
-        // Inline, the first j spare slots hold the clones made.
-        ensures refused { OnErr result ((j : ℕ) × (j < n) × ¬ (A.Item.is_infallible x)
-            × ClonesBehind A.Item.is_clone (replicate j x) j self.old self.new) }
-        ensures succeeds { A.Item.is_infallible x → IsOk result }
     {
         match self {
             TinyVec::Inline(v, _) => {
@@ -421,14 +409,8 @@ fn fill_array<A: Array, I: Iterator<Item = A::Item>>(
     mut iter: I,
 ) -> Result<(), NoRoom<A::Item, I>>
     requires { I.can_next iter × IsFinite (I.remaining iter) }
-    ensures ran { (xs : List A.Item) × MatchResult result (λ _. Drains I.next_gives iter xs)
-        (λ refused. YieldsThen I.next_gives iter xs (Some refused.item) refused.rest)
-        × (items vec.new ≡ items vec.old ++ xs) }
-    ensures spare { spare vec.new ≡ drop (items_len vec.new - items_len vec.old) (spare vec.old) }
-    ensures longer { items_len vec.old ≤ items_len vec.new }
-    ensures fits { items_len vec.new ≤ A.CAPACITY }
-    ensures full { OnErr result (items_len vec.new ≡ A.CAPACITY) }
-    ensures goes_on { Follows I.can_next I.remaining iter (items_len vec.old) (items_len vec.new) result }
+    ensures fills { FillsRoom I.Iterator iter A.CAPACITY result (items vec.old) (items vec.new) }
+    ensures gains { Gains A.CAPACITY (items_len vec.new - items_len vec.old) vec.old vec.new (items vec.new) }
 {
     let len = vec.len();
     match fill_slots(vec.grab_spare_slice_mut(), iter) {
@@ -472,12 +454,8 @@ fn fill_heap<T: Drop, I: Iterator<Item = T>>(
     mut iter: I,
 ) -> Result<(), NoRoom<T, I>>
     requires { I.can_next iter × IsFinite (I.remaining iter) }
-    ensures ran { (xs : List T) × MatchResult result (λ _. Drains I.next_gives iter xs)
-        (λ refused. YieldsThen I.next_gives iter xs (Some refused.item) refused.rest)
-        × (heap.new.items ≡ heap.old.items ++ xs) }
+    ensures fills { FillsRoom I.Iterator iter (vec_capacity heap.new) result heap.old.items heap.new.items }
     ensures capacity { vec_capacity heap.new ≡ vec_capacity heap.old }
-    ensures full { OnErr result (vec_len heap.new ≡ vec_capacity heap.new) }
-    ensures goes_on { Follows I.can_next I.remaining iter (vec_len heap.old) (vec_len heap.new) result }
 {
     let mut vec = mem::replace(heap, Vec::new(*heap.allocator()));
     while let Some(item) = iter.next() {

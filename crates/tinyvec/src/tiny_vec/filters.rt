@@ -1,11 +1,11 @@
 //! Keeping some of the items, by the filters of the array or of the `Vec`.
-ghost use Rattle.std.specs.Prelude.{◌≡◌, ◌-◌, ◌≤◌, slice_get, Some};
+ghost use Rattle.std.specs.Prelude.{◌≡◌, ◌-◌, slice_get, Some};
 ghost use Rattle.std.specs.Fn.{FnOnceTakesAtMut, CalledAt, CalledAtMut, CalledAtPairMut, ComparesKeys};
 ghost use Rattle.std.specs.List.{dedup as dedup_list};
 ghost use Rattle.std.specs.List.Retain.{IsFiltered, RetainsInTurn, IsDeduped, PopsIf};
 ghost use Rattle.tinyvec_slots.specs.Ranges.{range_start, range_end, IsRangeOf};
 ghost use Rattle.tinyvec_slots.specs.Extracting.{Extracts};
-ghost use Rattle.tinyvec.specs.TinyVec.{tiny_items, tiny_len, StaysInPlace, Becomes};
+ghost use Rattle.tinyvec.specs.TinyVec.{tiny_items, tiny_len, StaysInPlace, ShortensInPlace, Becomes};
 
 use crate::TinyVec;
 use std::ops::RangeBounds;
@@ -17,8 +17,7 @@ impl<A: Array> TinyVec<A> {
     pub fn retain<F: FnMut(&A::Item) -> bool>(&mut self, f: F)
         requires { F.IsAlwaysCallable f }
         ensures filtered { IsFiltered (CalledAt F.FnMut) f (tiny_items self.old) (tiny_items self.new) }
-        ensures bound { tiny_len self.new ≤ tiny_len self.old }
-        ensures frame { StaysInPlace A.Item.is_default A.CAPACITY self.old self.new }
+        ensures shortens { ShortensInPlace A.Item.is_default A.CAPACITY self.old self.new }
     {
         match self {
             TinyVec::Inline(v, _) => v.retain(f),
@@ -31,8 +30,7 @@ impl<A: Array> TinyVec<A> {
     pub fn retain_mut<F: FnMut(&mut A::Item) -> bool>(&mut self, f: F)
         requires { F.IsAlwaysCallable f }
         ensures filtered { RetainsInTurn (CalledAtMut F.FnMut) f (tiny_items self.old) (tiny_items self.new) }
-        ensures bound { tiny_len self.new ≤ tiny_len self.old }
-        ensures frame { StaysInPlace A.Item.is_default A.CAPACITY self.old self.new }
+        ensures shortens { ShortensInPlace A.Item.is_default A.CAPACITY self.old self.new }
     {
         match self {
             TinyVec::Inline(v, _) => v.retain_mut(f),
@@ -54,8 +52,7 @@ impl<A: Array> TinyVec<A> {
     pub fn dedup_by<F: FnMut(&mut A::Item, &mut A::Item) -> bool>(&mut self, same: F)
         requires { F.IsAlwaysCallable same }
         ensures filtered { IsDeduped (CalledAtPairMut F.FnMut) same (tiny_items self.old) (tiny_items self.new) }
-        ensures bound { tiny_len self.new ≤ tiny_len self.old }
-        ensures frame { StaysInPlace A.Item.is_default A.CAPACITY self.old self.new }
+        ensures shortens { ShortensInPlace A.Item.is_default A.CAPACITY self.old self.new }
     {
         match self {
             TinyVec::Inline(v, _) => v.dedup_by(same),
@@ -68,8 +65,7 @@ impl<A: Array> TinyVec<A> {
     pub fn dedup_by_key<K: PartialEq + Drop, F: FnMut(&mut A::Item) -> K>(&mut self, key: F)
         requires { F.IsAlwaysCallable key }
         ensures filtered { IsDeduped (ComparesKeys F.FnMut K.eq) key (tiny_items self.old) (tiny_items self.new) }
-        ensures bound { tiny_len self.new ≤ tiny_len self.old }
-        ensures frame { StaysInPlace A.Item.is_default A.CAPACITY self.old self.new }
+        ensures shortens { ShortensInPlace A.Item.is_default A.CAPACITY self.old self.new }
     {
         match self {
             TinyVec::Inline(v, _) => v.dedup_by_key(key),
@@ -83,8 +79,7 @@ impl<A: Array> TinyVec<A> {
         requires { (x : A.Item) → slice_get (tiny_items self.old) (tiny_len self.old - 1) ≡ Some x
             → FnOnceTakesAtMut F.FnOnce predicate x }
         ensures popped { PopsIf F.FnOnce (tiny_items self.old) (tiny_items self.new) predicate result }
-        ensures bound { tiny_len self.new ≤ tiny_len self.old }
-        ensures frame { StaysInPlace A.Item.is_default A.CAPACITY self.old self.new }
+        ensures shortens { ShortensInPlace A.Item.is_default A.CAPACITY self.old self.new }
     {
         tinyvec_slots::pop_if(self, predicate)
     }

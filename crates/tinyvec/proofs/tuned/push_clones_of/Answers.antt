@@ -1,6 +1,6 @@
 use Rattle.std.proofs.Common.{[], ◌≡◌, replicate, refl, sym, ap, ◌∙◌, arith, take, take_at, append-nil, vec_len, vec_capacity}
 use Rattle.std.proofs.lemmas.List.{length-replicate}
-use Rattle.tinyvec.proofs.CloneLemmas.{appends_copy, appends_len}
+use Rattle.tinyvec.proofs.CloneLemmas.{appends_copy, appends_len, copy_refused}
 use Rattle.tinyvec.proofs.tuned.push_clones_of.Goals as goal
 
 pub loop-i-init : goal.loop-i-init
@@ -25,38 +25,22 @@ loop-i-preserved g c =
       rw put.capacity at.invariant.1,
     )
 
-pub returns-in-Err-clause-items : goal.returns-in-Err-clause-items
-returns-in-Err-clause-items g c = tt
-
-pub returns-in-Err-clause-kept : goal.returns-in-Err-clause-kept
-returns-in-Err-clause-kept g c =
+pub returns-in-Err : goal.returns-in-Err
+returns-in-Err g c =
     let first = c.replace-vec.result in
     let made = c.loop-i.invariant.0 in
-    let long = sym (c.len-len.ensures ∙ first.ok.0) in
-    rw (← c.replace-vec.ensures.value) (c.truncate.ensures.items ∙ ap (take c.len-len.result) made.1 ∙ take_at first.items made.0 c.len-len.result long)
+    let long = sym (c.len-len.ensures ∙ first.ok.0) in record {
+      items = tt;
+      kept = rw (← c.replace-vec.ensures.value) (c.truncate.ensures.items ∙ ap (take c.len-len.result) made.1 ∙ take_at first.items made.0 c.len-len.result long);
+      refused = (c.loop-i._i, copy_refused g.T.Clone.is_infallible c.args.n c.loop-i._i c.args.x.now c.loop-i-test.true c.in-Err.ensures.cases);
+      capacity = c.truncate.ensures.capacity ∙ c.loop-i.invariant.1 ∙ ap vec_capacity c.replace-vec.ensures.value;
+    }
 
-pub returns-in-Err-clause-refused : goal.returns-in-Err-clause-refused
-returns-in-Err-clause-refused g c = (c.loop-i._i, c.loop-i-test.true, c.in-Err.ensures.cases)
-
-pub returns-in-Err-clause-capacity : goal.returns-in-Err-clause-capacity
-returns-in-Err-clause-capacity g c = c.truncate.ensures.capacity ∙ c.loop-i.invariant.1 ∙ ap vec_capacity c.replace-vec.ensures.value
-
-pub returns-in-Err-clause-succeeds : goal.returns-in-Err-clause-succeeds
-returns-in-Err-clause-succeeds g c = λ sure. absurd (c.in-Err.ensures.cases sure)
-
-pub returns-clause-items : goal.returns-clause-items
-returns-clause-items g c =
-    let all : c.args.n ≡ c.loop-i._i = omega (arith, c.loop-i-test.false, c.loop-i.auto._i-end) in
-    rw (← c.replace-vec.ensures.value, all) c.loop-i.invariant.0
-
-pub returns-clause-kept : goal.returns-clause-kept
-returns-clause-kept g c = tt
-
-pub returns-clause-refused : goal.returns-clause-refused
-returns-clause-refused g c = tt
-
-pub returns-clause-capacity : goal.returns-clause-capacity
-returns-clause-capacity g c = c.loop-i.invariant.1 ∙ ap vec_capacity c.replace-vec.ensures.value
-
-pub returns-clause-succeeds : goal.returns-clause-succeeds
-returns-clause-succeeds g c = λ _. refl
+pub returns : goal.returns
+returns g c =
+    let all : c.args.n ≡ c.loop-i._i = omega (arith, c.loop-i-test.false, c.loop-i.auto._i-end) in record {
+      items = rw (← c.replace-vec.ensures.value, all) c.loop-i.invariant.0;
+      kept = tt;
+      refused = tt;
+      capacity = c.loop-i.invariant.1 ∙ ap vec_capacity c.replace-vec.ensures.value;
+    }

@@ -1,8 +1,6 @@
-use Rattle.std.proofs.Common.{◌≡◌, ◌-◌, ◌<◌, ◌+◌, [], drop, get_or, length, refl, sym, ap, subst, ◌∙◌, arith, slice_range, take, take_at, append-nil, vec_len, vec_capacity}
-use Rattle.tinyvec_slots.specs.Clones.{RefusedAt}
-use Rattle.tinyvec_slots.proofs.ClonesOverLemmas.{all_granted}
+use Rattle.std.proofs.Common.{◌≡◌, ◌-◌, ◌<◌, ◌+◌, [], drop, get_or, length, refl, sym, ap, subst, ◌∙◌, arith, slice_range, take, take_at, append-nil, vec_len, vec_capacity, rules}
 use Rattle.tinyvec.proofs.CloneLemmas.{within_len, within_next, within_refused}
-use Rattle.tinyvec.proofs.tuned.push_clones_within.Goals.{After-as_slice, In-Err}
+use Rattle.tinyvec.proofs.tuned.push_clones_within.Goals.{After-as_slice}
 use Rattle.tinyvec.proofs.tuned.push_clones_within.Goals as goal
 
 pub loop-i-init : goal.loop-i-init
@@ -44,34 +42,27 @@ loop-i-preserved g c =
       rw put.capacity at.invariant.1,
     )
 
--- a clone was refused
-refused : (g : _) (c : In-Err g) → (j : _) × RefusedAt g.T.Clone.is_infallible (slice_range c.args.heap.now.items c.args.start c.args.end) j
-refused g c =
+pub returns-in-Err : goal.returns-in-Err
+returns-in-Err g c =
     let at = c.loop-i in
     let x = c.index-as_slice-i.result in
     let same = c.replace-vec.ensures.value in
     let first = c.replace-vec.result in
-    rw (← same) (within_refused g.T.Clone.is_clone first.items at.vec.items c.args.start at.i at.auto.i at.invariant.0 x
-    (omega (arith, c.loop-i-test.true, c.requires.in_list.1, first.ok.0, ap vec_len same))
-    (subst (λ l. x ≡ get_or l at.i x) c.as_slice.ensures.value c.index-as_slice-i.is) g.T.Clone.is_infallible c.args.end c.loop-i-test.true
-    (omega (arith, c.requires.in_list.1, first.ok.0, ap vec_len same)) c.in-Err.ensures.cases)
+    let all = sym (c.len-len.ensures ∙ first.ok.0) in record {
+      items = tt;
+      kept = rw (← same) (c.truncate.ensures.items ∙ ap (take c.len-len.result) at.invariant.0.1 ∙ take_at first.items at.invariant.0.0 c.len-len.result all);
+      refused = rw (← same) (within_refused g.T.Clone.is_clone first.items at.vec.items c.args.start at.i at.auto.i at.invariant.0 x
+          (omega (arith, c.loop-i-test.true, c.requires.in_list.1, first.ok.0, ap vec_len same))
+          (subst (λ l. x ≡ get_or l at.i x) c.as_slice.ensures.value c.index-as_slice-i.is) g.T.Clone.is_infallible c.args.end c.loop-i-test.true
+          (omega (arith, c.requires.in_list.1, first.ok.0, ap vec_len same)) c.in-Err.ensures.cases);
+      capacity = search rules;
+    }
 
-pub returns-in-Err-clause-kept : goal.returns-in-Err-clause-kept
-returns-in-Err-clause-kept g c =
-    let first = c.replace-vec.result in
-    let made = c.loop-i.invariant.0 in
-    let all = sym (c.len-len.ensures ∙ first.ok.0) in
-    rw (← c.replace-vec.ensures.value) (c.truncate.ensures.items ∙ ap (take c.len-len.result) made.1 ∙ take_at first.items made.0 c.len-len.result all)
-
-pub returns-in-Err-clause-refused : goal.returns-in-Err-clause-refused
-returns-in-Err-clause-refused g c = refused g (goal.at.returns-in-Err-clause-refused g c).In-Err
-
-pub returns-in-Err-clause-succeeds : goal.returns-in-Err-clause-succeeds
-returns-in-Err-clause-succeeds g c = λ sure.
-    let at = refused g (goal.at.returns-in-Err-clause-succeeds g c).In-Err in
-    absurd (all_granted g.T.Clone.is_infallible _ at.0 sure at.1)
-
-pub returns-clause-items : goal.returns-clause-items
-returns-clause-items g c =
-    let all : c.args.end ≡ c.loop-i.i = omega (arith, c.loop-i-test.false, c.loop-i.auto.i-end c.requires.in_list.0) in
-    rw (← c.replace-vec.ensures.value, all) c.loop-i.invariant.0
+pub returns : goal.returns
+returns g c =
+    let all : c.args.end ≡ c.loop-i.i = omega (arith, c.loop-i-test.false, c.loop-i.auto.i-end c.requires.in_list.0) in record {
+      items = rw (← c.replace-vec.ensures.value, all) c.loop-i.invariant.0;
+      kept = tt;
+      refused = tt;
+      capacity = search rules;
+    }

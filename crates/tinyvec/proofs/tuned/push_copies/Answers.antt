@@ -11,7 +11,7 @@ push_blocks-requires-clause-room g c =
     let rest = drop most.result from in
     omega (
       arith,
-      ap length most.ensures.items,
+      ap length most.ensures.becomes.items,
       length-append c.replace-vec.result.items (take most.result from),
       length-take most.result from,
       length-take (length from - most.result) rest,
@@ -26,8 +26,8 @@ loop-i-init g c =
     let most = c.push_blocks-most in
     let more = c.push_blocks in
     let same = c.replace-vec.ensures.value in (
-      appended_further c.args.heap.now.items most.new.vec.items more.new.vec.items from most.result more.result (most.ensures.items ∙ ap (λ v. v.items ++ take most.result from) same) more.ensures.items,
-      more.ensures.capacity ∙ most.ensures.capacity ∙ ap vec_capacity same,
+      appended_further c.args.heap.now.items most.new.vec.items more.new.vec.items from most.result more.result (most.ensures.becomes.items ∙ ap (λ v. v.items ++ take most.result from) same) more.ensures.becomes.items,
+      more.ensures.becomes.capacity ∙ most.ensures.becomes.capacity ∙ ap vec_capacity same,
     )
 
 pub push_reserved-requires : goal.push_reserved-requires
@@ -48,5 +48,8 @@ loop-i-preserved g c =
       put.capacity ∙ at.invariant.1,
     )
 
-pub returns-clause-items : goal.returns-clause-items
-returns-clause-items g c = c.loop-i.invariant.0 ∙ ap (λ l. c.args.heap.now.items ++ l) (take_all c.loop-i.i c.args.from.now (omega arith))
+pub returns : goal.returns
+returns g c = record {
+  items = c.loop-i.invariant.0 ∙ ap (λ l. c.args.heap.now.items ++ l) (take_all c.loop-i.i c.args.from.now (omega arith));
+  capacity = c.loop-i.invariant.1;
+}

@@ -7,4 +7,4 @@ pub returns : goal.returns
 returns g c =
     let xs = c.args.more.items in
     let fits : tiny_len c.args.v.now + length xs ≤ tiny_capacity g.A.Array.CAPACITY c.args.v.now = search rules in
-    (c.extend.ensures.known xs (λ it h. (YieldsList-from_vec xs h.0 (search rules)).runs)).1 fits
+    (c.extend.ensures.items.known xs (λ it h. (YieldsList-from_vec xs h.0 (search rules)).runs)).1 fits

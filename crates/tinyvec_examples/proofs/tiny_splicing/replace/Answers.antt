@@ -26,8 +26,8 @@ returns-clause-list g c = λ rest ends.
     let finished = c.finish.ensures.listed rest ends.first in
     let n = length-slice_range xs c.args.start c.args.end c.requires.start_le_end c.requires.in_bounds in
     let list : OnOk result (tiny_items v ≡ take c.args.start xs ++ P ++ drop c.args.end xs) =
-    ended_list R (tiny_capacity g.A.Array.CAPACITY v) s t (front ∷ back ∷ []) (tiny_items v) _ _ _ P along made.front made.left made.back whole result finished in
-    let unplaced = ended_refused R (tiny_capacity g.A.Array.CAPACITY v) s t (front ∷ back ∷ []) (tiny_items v) _ _ _ P along made.front made.left made.back whole result finished in
+    ended_list R (tiny_capacity g.A.Array.CAPACITY v) s t (front ∷ back ∷ []) (tiny_items v) _ _ _ P along made.begins.front made.begins.left made.begins.back whole result finished in
+    let unplaced = ended_refused R (tiny_capacity g.A.Array.CAPACITY v) s t (front ∷ back ∷ []) (tiny_items v) _ _ _ P along made.begins.front made.begins.left made.begins.back whole result finished in
     let counted_out = subst (λ k. IfErr result (λ refused. IsSpliceRefused (front ∷ back ∷ []) k (take c.args.start xs) (drop c.args.end xs) P (tiny_items v) (refused.item ∷ R refused.rest))) n unplaced in
     let same = along.kept.same_reference in
     let lender = made.same_reference in (
@@ -46,7 +46,7 @@ returns-clause-succeeds g c = λ rest ends room.
     let whole : fused_rest rest (splice_replacement s) ≡ P = rw made.unasked (rw made.replacement refl) in
     let one = length-take-le c.args.start xs (omega (arith, c.requires.start_le_end, c.requires.in_bounds)) in
     let two = length-drop c.args.end xs in
-    let sum = spliced_len splice_view SpliceKeeps (fused_rest rest) s t (front ∷ back ∷ []) xs _ _ _ P along made.front made.left made.back whole in
+    let sum = spliced_len splice_view SpliceKeeps (fused_rest rest) s t (front ∷ back ∷ []) xs _ _ _ P along made.begins.front made.begins.left made.begins.back whole in
     let capacity : tiny_capacity g.A.Array.CAPACITY (splice_vec t) ≡ tiny_capacity g.A.Array.CAPACITY c.args.vec.now =
     along.kept.frame.capacity g.A.Array.CAPACITY ∙ ap (tiny_capacity g.A.Array.CAPACITY) made.vec in
     c.finish.ensures.succeeds rest ends.first (omega (arith, room, one, two, sum, capacity))

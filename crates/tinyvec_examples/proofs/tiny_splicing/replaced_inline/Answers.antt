@@ -20,9 +20,9 @@ returns c =
     let v = c.finish-finished.new.self.0 in
     let made = c.splice-splice.ensures in
     let start = c.three-v.ensures in
-    let ahead : splice_front s ≡ pos 1 ∷ [] = made.front ∙ rw start.items (refl {a = pos 1 ∷ []}) in
-    let left : splice_left s ≡ pos 2 ∷ [] = made.left ∙ rw start.items (refl {a = pos 2 ∷ []}) in
-    let behind : splice_back s ≡ pos 3 ∷ [] = made.back ∙ rw start.items (refl {a = pos 3 ∷ []}) in
+    let ahead : splice_front s ≡ pos 1 ∷ [] = made.begins.front ∙ rw start.items (refl {a = pos 1 ∷ []}) in
+    let left : splice_left s ≡ pos 2 ∷ [] = made.begins.left ∙ rw start.items (refl {a = pos 2 ∷ []}) in
+    let behind : splice_back s ≡ pos 3 ∷ [] = made.begins.back ∙ rw start.items (refl {a = pos 3 ∷ []}) in
     let whole : R (splice_replacement s) ≡ pos 7 ∷ pos 8 ∷ [] = rw made.unasked made.replacement.0 in
     let first = first_taken splice_view SpliceKeeps _ s t _ (pos 2) [] c.next-first.ensures.steps left in
     let along = RunsWord-splices R _ _ (fused_ends _ _ _ array_ends) s (front ∷ []) (c.next-first.result ∷ []) t (t, c.next-first.ensures.steps, refl) in

@@ -1,10 +1,10 @@
 use Rattle.std.proofs.Common.{All, inl, ◌≡◌, ◌-◌, ◌<◌, ◌≤◌, inr, min, length, take, drop, sym, ap, subst, ◌∙◌, arith, length-take, length-drop, take_all}
 use Rattle.std.proofs.lemmas.Bool.{false≢true}
 use Rattle.std.proofs.lemmas.List.{take-take}
-use Rattle.std.proofs.lemmas.List.Elements.{same_from_all_zip, length_all_zip, All-take, All-drop}
+use Rattle.std.proofs.lemmas.List.Elements.{All-take, All-drop}
 use Rattle.std.proofs.lemmas.Result.{on_ok_weaker, on_err_weaker}
 use Rattle.std.specs.List.{AllZip}
-use Rattle.tinyvec_slots.specs.Clones.{RefusedAt}
+use Rattle.tinyvec_slots.specs.Clones.{RefusedAt, are_clones}
 use Rattle.tinyvec_slots.proofs.CloneLemmas.{on_err}
 use Rattle.tinyvec.specs.TinyVec.{tiny_items, tiny_len, tiny_capacity}
 use Rattle.tinyvec.proofs.TinyLemmas.{tiny_slots_grown, tiny_slots_then_framed, on_ok_two, on_err_two, never_ok}
@@ -19,19 +19,8 @@ overwrite-requires g c =
     record { same_len = omega (arith, ap length c.as_slice.ensures, cut, c.len-count.ensures.value, c.len-len.ensures.value, c.if-count-len.true) }
 
 pub returns-then-count-len-clause-items : goal.returns-then-count-len-clause-items
-returns-then-count-len-clause-items g c = rw c.as_slice.ensures at c.overwrite.ensures.ok
-
-pub returns-then-count-len-clause-len : goal.returns-then-count-len-clause-len
-returns-then-count-len-clause-len g c =
-    let xs = tiny_items c.args.source.now in
-    let new = tiny_items c.overwrite.new.self in
-    on_ok_weaker c.overwrite.result (λ clones. sym (length_all_zip g.A.Item.Clone.is_clone xs new clones)) (returns-then-count-len-clause-items g c)
-
-pub returns-then-count-len-clause-if_clones_equal : goal.returns-then-count-len-clause-if_clones_equal
-returns-then-count-len-clause-if_clones_equal g c =
-    let xs = tiny_items c.args.source.now in
-    let new = tiny_items c.overwrite.new.self in
-    on_ok_weaker c.overwrite.result (λ clones rule. same_from_all_zip g.A.Item.Clone.is_clone xs new clones rule) (returns-then-count-len-clause-items g c)
+returns-then-count-len-clause-items g c =
+    on_ok_weaker c.overwrite.result (are_clones g.A.Item.Clone.is_clone (tiny_items c.args.source.now) (tiny_items c.overwrite.new.self)) (rw c.as_slice.ensures at c.overwrite.ensures.ok)
 
 pub returns-then-count-len-clause-room : goal.returns-then-count-len-clause-room
 returns-then-count-len-clause-room g c =
@@ -80,9 +69,7 @@ returns-in_err-reserve g c =
     let is_len = c.len-len.ensures.value in
     let is_count = c.len-count.ensures.value in
     let more = c.if-count-len.false in record {
-      items = never_ok _ answer err;
-      len = never_ok _ answer err;
-      if_clones_equal = never_ok _ answer err;
+      clones = never_ok _ answer err;
       room = room_refused _ _ _ _ _ answer err (grown.refused.capacity g.A.Array.CAPACITY) grown.fits;
       succeeds = λ fits _. absurd (false≢true (grown.succeeds (omega (arith, fits))));
       refused = on_err answer (inl (omega (arith, grown.full), grown.refused));
@@ -97,12 +84,6 @@ overwrite-requires-2 g c =
 
 pub returns-in_err-overwrite-clause-items : goal.returns-in_err-overwrite-clause-items
 returns-in_err-overwrite-clause-items g c = never_ok _ c.from_residual-in_err-overwrite.result c.from_residual-in_err-overwrite.ensures.0
-
-pub returns-in_err-overwrite-clause-len : goal.returns-in_err-overwrite-clause-len
-returns-in_err-overwrite-clause-len g c = never_ok _ c.from_residual-in_err-overwrite.result c.from_residual-in_err-overwrite.ensures.0
-
-pub returns-in_err-overwrite-clause-if_clones_equal : goal.returns-in_err-overwrite-clause-if_clones_equal
-returns-in_err-overwrite-clause-if_clones_equal g c = never_ok _ c.from_residual-in_err-overwrite.result c.from_residual-in_err-overwrite.ensures.0
 
 pub returns-in_err-overwrite-clause-room : goal.returns-in_err-overwrite-clause-room
 returns-in_err-overwrite-clause-room g c =
@@ -162,22 +143,13 @@ extend_reserved-requires g c =
 
 pub returns-clause-items : goal.returns-clause-items
 returns-clause-items g c =
+    let C = g.A.Item.Clone.is_clone in
+    let xs = tiny_items c.args.source.now in
+    let new = tiny_items c.extend_reserved.new.self in
     on_ok_weaker c.extend_reserved.result
-    (appends_rest g.A.Item.Clone.is_clone (tiny_items c.overwrite-2.new.self) (tiny_items c.extend_reserved.new.self) (tiny_items c.args.source.now) c.as_slice-2.result.now
-    c.as_slice-3.result.now c.len-len.result c.as_slice-2.ensures c.as_slice-3.ensures c.in_ok-overwrite.ensures.ok)
+    (λ h. are_clones C xs new (appends_rest C (tiny_items c.overwrite-2.new.self) new xs c.as_slice-2.result.now
+    c.as_slice-3.result.now c.len-len.result c.as_slice-2.ensures c.as_slice-3.ensures c.in_ok-overwrite.ensures.ok h))
     c.extend_reserved.ensures.items
-
-pub returns-clause-len : goal.returns-clause-len
-returns-clause-len g c =
-    let xs = tiny_items c.args.source.now in
-    let new = tiny_items c.extend_reserved.new.self in
-    on_ok_weaker c.extend_reserved.result (λ clones. sym (length_all_zip g.A.Item.Clone.is_clone xs new clones)) (returns-clause-items g c)
-
-pub returns-clause-if_clones_equal : goal.returns-clause-if_clones_equal
-returns-clause-if_clones_equal g c =
-    let xs = tiny_items c.args.source.now in
-    let new = tiny_items c.extend_reserved.new.self in
-    on_ok_weaker c.extend_reserved.result (λ clones rule. same_from_all_zip g.A.Item.Clone.is_clone xs new clones rule) (returns-clause-items g c)
 
 pub returns-clause-room : goal.returns-clause-room
 returns-clause-room g c =

@@ -25,6 +25,4 @@ returns-in-Inline g c =
     c.extend_from_within.ensures.clones c.extend_from_within.ensures.fits)
 
 pub returns-in-Heap : goal.returns-in-Heap
-returns-in-Heap g c =
-    let made = c.push_clones_within.ensures in
-    rw c.in-Heap.is (heap_clones g.A.Item.Clone _ _ _ c.in-Heap.v c.push_clones_within.new.heap made.items made.kept made.refused made.capacity made.succeeds)
+returns-in-Heap g c = rw c.in-Heap.is (heap_clones g.A.Item.Clone _ _ _ c.in-Heap.v c.push_clones_within.new.heap c.push_clones_within.ensures)

@@ -6,7 +6,7 @@ use Rattle.tinyvec.proofs.tiny_vec.TinyVec.extend_exact_size.Goals as goal
 pub returns-clause-listed : goal.returns-clause-listed
 returns-clause-listed g c = λ rest shows.
     let it = c.into_iter-items.result in
-    let ran = c.in-Ok.ensures.ran in
+    let ran = c.in-Ok.ensures.fills.ran in
     let olds = tiny_items c.args.self.now in (
       it,
       c.into_iter-items.ensures.into_iter_gives,
@@ -17,7 +17,7 @@ returns-clause-listed g c = λ rest shows.
 pub returns-clause-known : goal.returns-clause-known
 returns-clause-known g c = λ xs yields.
     let it = c.into_iter-items.result in
-    let ran = c.in-Ok.ensures.ran in
+    let ran = c.in-Ok.ensures.fills.ran in
     let olds = tiny_items c.args.self.now in
     ran.2 ∙ ap (λ l. l ++ ran.0) c.reserve.ensures.items
     ∙ ap (λ l. olds ++ l) (drained_all g.I.IntoIter.Iterator.next_gives xs it (yields it c.into_iter-items.ensures.into_iter_gives) ran.0 ran.1.0 ran.1.1)

@@ -12,8 +12,10 @@ returns-in-Inline g c =
     let v = c.in-Inline.v in
     let room : items_len v + length c.args.other.now ≤ g.A.Array.CAPACITY =
     omega (arith, c.if-other-capacity.true, c.capacity.ensures.value, c.capacity.ensures.fits, c.len.ensures.value) in
-    rw c.in-Inline.is (extended_in_room g.A.Item.Clone _ _ _ _ _ _
-    (inline_clones g.A.Item.Clone _ _ _ v c.extend_from_slice.new.self c.in-Inline.field-1 c.extend_from_slice.ensures.clones c.extend_from_slice.ensures.fits) room)
+    rw c.in-Inline.is
+    (let made = extended_in_room g.A.Item.Clone _ _ _ g.A.Item.Default.is_default _ _
+    (inline_clones g.A.Item.Clone _ _ _ v c.extend_from_slice.new.self c.in-Inline.field-1 c.extend_from_slice.ensures.clones c.extend_from_slice.ensures.fits) room in
+    record { clones = made.clones; room = made.room; succeeds = made.succeeds; refused = made.refused })
 
 pub push_many_clones-requires : goal.push_many_clones-requires
 push_many_clones-requires g c = record { room = omega arith }
@@ -21,10 +23,11 @@ push_many_clones-requires g c = record { room = omega arith }
 pub returns-in-Heap : goal.returns-in-Heap
 returns-in-Heap g c =
     let v = c.in-Heap.v in
-    let made = c.push_many_clones.ensures in
     let room : length v.items + length c.args.other.now ≤ vec_capacity v = omega (arith, v.ok.0, v.ok.1) in
-    rw c.in-Heap.is (extended_in_room g.A.Item.Clone _ _ _ _ _ _
-    (heap_clones g.A.Item.Clone _ _ _ v c.push_many_clones.new.heap made.items made.kept made.refused made.capacity made.succeeds) room)
+    rw c.in-Heap.is
+    (let made = extended_in_room g.A.Item.Clone _ _ _ g.A.Item.Default.is_default _ _
+    (heap_clones g.A.Item.Clone _ _ _ v c.push_many_clones.new.heap c.push_many_clones.ensures) room in
+    record { clones = made.clones; room = made.room; succeeds = made.succeeds; refused = made.refused })
 
 -- a list that had no room is as it was before it grows
 same : (g : _) (c : In_default g) → c.in_default.self ≡ c.args.self.now
@@ -35,8 +38,9 @@ same g c = elim c.in_default.branch as (λ _. c.in_default.self ≡ c.args.self.
 
 pub returns-in_err-grow-in_default : goal.returns-in_err-grow-in_default
 returns-in_err-grow-in_default g c =
-    extended_refused g.A.Item.Clone _ _ _ _ _ _ _ _ refl c.from_residual.ensures.0
-    (rw (same g (goal.at.returns-in_err-grow-in_default g c).In_default) at c.in_err-grow-in_default.ensures)
+    let made = extended_refused g.A.Item.Clone _ _ _ _ c.args.self.now _ _ _ refl c.from_residual.ensures.0
+    (rw (same g (goal.at.returns-in_err-grow-in_default g c).In_default) at c.in_err-grow-in_default.ensures) in
+    record { clones = made.clones; room = made.room; succeeds = made.succeeds; refused = made.refused }
 
 pub extend_reserved-requires : goal.extend_reserved-requires
 extend_reserved-requires g c = record { room = omega (arith, ap length c.grow.ensures.items, c.in_ok-grow-in_default.ensures.room) }
@@ -44,5 +48,6 @@ extend_reserved-requires g c = record { room = omega (arith, ap length c.grow.en
 -- what grew has room
 pub returns-in_ok-grow-in_default : goal.returns-in_ok-grow-in_default
 returns-in_ok-grow-in_default g c =
-    extended_grown g.A.Item.Clone _ _ _ _ _ _ _ _ _ refl
-    (rw (same g (goal.at.returns-in_ok-grow-in_default g c).In_default) at c.in_ok-grow-in_default.ensures) c.extend_reserved.ensures
+    let made = extended_grown g.A.Item.Clone _ _ _ _ c.args.self.now _ _ _ _ refl
+    (rw (same g (goal.at.returns-in_ok-grow-in_default g c).In_default) at c.in_ok-grow-in_default.ensures) c.extend_reserved.ensures in
+    record { clones = made.clones; room = made.room; succeeds = made.succeeds; refused = made.refused }

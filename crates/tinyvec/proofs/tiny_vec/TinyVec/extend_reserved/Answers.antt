@@ -18,6 +18,4 @@ returns-in-Inline g c =
     c.extend_from_slice.ensures.clones c.extend_from_slice.ensures.fits)
 
 pub returns-in-Heap : goal.returns-in-Heap
-returns-in-Heap g c =
-    let made = c.push_many_clones.ensures in
-    rw c.in-Heap.is (heap_clones g.A.Item.Clone _ _ _ c.in-Heap.v c.push_many_clones.new.heap made.items made.kept made.refused made.capacity made.succeeds)
+returns-in-Heap g c = rw c.in-Heap.is (heap_clones g.A.Item.Clone _ _ _ c.in-Heap.v c.push_many_clones.new.heap c.push_many_clones.ensures)

@@ -4,18 +4,18 @@ use Rattle.tinyvec.proofs.tiny_vec.TinyVec.from_iter.Goals as goal
 
 pub returns-in-Err-clause-listed : goal.returns-in-Err-clause-listed
 returns-in-Err-clause-listed g c = λ rest shows.
-    let h = c.in-Err.ensures.listed rest shows in
+    let h = c.in-Err.ensures.items.listed rest shows in
     let refused = c.in-Err.field-0 in
     (h.0, h.2, h.3 ∙ ap (λ l. l ++ refused.item ∷ rest refused.rest) (sym (h.4 ∙ ap (λ l. l ++ h.1) c.new-vec.ensures.items)))
 
 pub returns-in-Ok-clause-listed : goal.returns-in-Ok-clause-listed
 returns-in-Ok-clause-listed g c = λ rest shows.
-    let h = c.in-Ok.ensures.listed rest shows in
+    let h = c.in-Ok.ensures.items.listed rest shows in
     (h.0, h.2, h.3 ∙ sym (h.4 ∙ ap (λ l. l ++ h.1) c.new-vec.ensures.items))
 
 pub returns-in-Ok-clause-known : goal.returns-in-Ok-clause-known
 returns-in-Ok-clause-known g c = λ xs yields.
-    let h = c.in-Ok.ensures.known xs yields in
+    let h = c.in-Ok.ensures.items.known xs yields in
     (h.0 ∙ ap (λ l. l ++ xs) c.new-vec.ensures.items, λ _. refl)
 
 pub returns-in-Ok-clause-collected : goal.returns-in-Ok-clause-collected

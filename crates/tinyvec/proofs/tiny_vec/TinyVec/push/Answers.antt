@@ -97,7 +97,7 @@ pushed g c = elim c.match-self.branch as (λ _. Pushed g.A.Item.Default.is_defau
       let ok = w.if-is_err.ensures.value in
       let put = w.push_reserved-in_default.ensures in
       rw w.self-is (grown g.A.Item.Default.is_default g.A.Array.CAPACITY c.args.value old w.grow_one.new.self w.push_reserved-in_default.new.self was.1
-      room.items (when_ok w.grow_one.result ok room.place) (when_ok w.grow_one.result ok room.room) room.capacity put.items put.place put.capacity put.fits)
+      room.items (when_ok w.grow_one.result ok room.place) (when_ok w.grow_one.result ok room.room.grown) room.room.capacity put.items put.place put.capacity put.fits)
 ]
 
 pub returns : goal.returns

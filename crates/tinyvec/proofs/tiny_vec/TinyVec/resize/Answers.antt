@@ -1,39 +1,45 @@
-use Rattle.std.proofs.Common.{◌≡◌, ◌-◌, ◌++◌, length, take, replicate, take_all, sym, ap, subst, ◌∙◌, arith}
+use Rattle.std.proofs.Common.{◌≡◌, ◌+◌, ◌-◌, ◌++◌, max, length, take, replicate, take_all, sym, ap, subst, ◌∙◌, arith}
 use Rattle.std.proofs.lemmas.List.{length-replicate}
-use Rattle.std.proofs.lemmas.List.Elements.{same_from_all_zip}
-use Rattle.std.proofs.lemmas.Result.{on_ok_weaker}
-use Rattle.std.specs.List.{AllZip}
+use Rattle.std.proofs.lemmas.List.Elements.{same_from_all_zip, All-replicate}
+use Rattle.std.proofs.lemmas.Result.{on_ok_weaker, on_err_weaker}
+use Rattle.std.specs.Prelude.{OnOk}
+use Rattle.std.specs.List.{AppendsClones}
 use Rattle.tinyvec.specs.TinyVec.{tiny_items, tiny_len}
+use Rattle.tinyvec.specs.Refused.{ClonesInRoom}
+use Rattle.tinyvec.specs.Room.{GrowsFor, RoomGrows}
 use Rattle.tinyvec.proofs.CloneLemmas.{appends_len}
+use Rattle.tinyvec.proofs.ExtendingLemmas.{extended_grown, copies_refused}
 use Rattle.tinyvec.proofs.tiny_vec.TinyVec.resize.Goals as goal
 
-pub returns-clause-items : goal.returns-clause-items
-returns-clause-items g c =
-    let olds = tiny_items c.args.self.now in
-    let n = c.args.new_len in
-    let len = c.len-len.ensures.value in
-    let longer = c.if-new_len-len.false in
-    let front : tiny_items c.reserve.new.self ≡ take n olds = c.reserve.ensures.items ∙ sym (take_all n olds (omega arith)) in
-    on_ok_weaker c.fill_reserved.result
-    (λ h. (h.0, h.1 ∙ ap (λ l. l ++ h.0) front, subst (λ k. AllZip g.A.Item.Clone.is_clone (replicate (n - k) c.args.value) h.0) len h.2))
-    c.fill_reserved.ensures.items
-
-pub returns-clause-len : goal.returns-clause-len
-returns-clause-len g c =
+pub returns : goal.returns
+returns g c =
+    let C = g.A.Item.Clone.is_clone in
+    let D = g.A.Item.Default.is_default in
+    let slots = g.A.Array.CAPACITY in
+    let old = c.args.self.now in
+    let olds = tiny_items old in
     let mid = c.reserve.new.self in
-    let more = c.args.new_len - c.len-len.result in
+    let new = c.fill_reserved.new.self in
+    let news = tiny_items new in
+    let r = c.fill_reserved.result in
+    let x = c.args.value in
+    let n = c.args.new_len - tiny_len old in
+    let xs = replicate n x in
     let len = c.len-len.ensures.value in
     let longer = c.if-new_len-len.false in
-    on_ok_weaker c.fill_reserved.result
-    (λ h.
-    let grown = appends_len g.A.Item.Clone.is_clone (tiny_items mid) (tiny_items c.fill_reserved.new.self) (replicate more c.args.value) h in
-    omega (arith, grown, length-replicate more c.args.value, ap length c.reserve.ensures.items))
-    c.fill_reserved.ensures.items
-
-pub returns-clause-if_clones_equal : goal.returns-clause-if_clones_equal
-returns-clause-if_clones_equal g c =
-    let front = take c.args.new_len (tiny_items c.args.self.now) in
-    let copies = replicate (c.args.new_len - tiny_len c.args.self.now) c.args.value in
-    on_ok_weaker c.fill_reserved.result
-    (λ h rule. h.1 ∙ ap (λ l. front ++ l) (same_from_all_zip g.A.Item.Clone.is_clone copies h.0 h.2 rule))
-    (returns-clause-items g c)
+    let missing : c.args.new_len - c.len-len.result ≡ n = omega (arith, len) in
+    let put = subst (λ k. ClonesInRoom g.A.Item.Clone slots (replicate k x) mid new r) missing c.fill_reserved.ensures.clones in
+    let made = extended_grown g.A.Item.Clone slots xs r D old new (c.args.new_len - c.len-len.result) mid _ (omega (arith, missing, length-replicate n x)) c.in-Ok.ensures put in
+    let need : tiny_len old + length xs ≡ c.args.new_len = omega (arith, len, longer, length-replicate n x) in
+    let front : olds ≡ take c.args.new_len olds = sym (take_all c.args.new_len olds (omega (arith, len, longer))) in
+    let items = subst (λ l. OnOk r (AppendsClones C l news xs)) front made.clones.items in record {
+      items = items;
+      len = on_ok_weaker r (λ h. omega (arith, appends_len C olds news xs h, need)) made.clones.items;
+      if_clones_equal = on_ok_weaker r (λ h rule. h.1 ∙ ap (λ l. take c.args.new_len olds ++ l) (same_from_all_zip C xs h.0 h.2 rule)) items;
+      room = subst (λ k. RoomGrows GrowsFor D slots k old new r) need made.room;
+      cuts = λ less. absurd (omega (arith, less, len, longer));
+      succeeds = λ _ sure. put.succeeds (All-replicate g.A.Item.Clone.is_infallible n x sure);
+      value_returned = c.fill_reserved.ensures.value_returned;
+      kept = made.clones.kept;
+      refused = on_err_weaker r (copies_refused g.A.Item.Clone slots n (max c.args.new_len (tiny_len old)) x old new (omega (arith, len, longer))) made.refused;
+    }

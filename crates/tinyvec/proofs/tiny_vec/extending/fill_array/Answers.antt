@@ -1,4 +1,4 @@
-use Rattle.std.proofs.Common.{◌≡◌, ◌+◌, ◌-◌, ◌≤◌, ◌++◌, length, drop, ap, ◌∙◌, arith, length-drop}
+use Rattle.std.proofs.Common.{◌≡◌, ◌+◌, ◌-◌, ◌≤◌, ◌++◌, length, drop, refl, ap, ◌∙◌, arith, length-drop}
 use Rattle.tinyvec_slots.specs.Slots.{items, items_len, spare}
 use Rattle.tinyvec.proofs.FillingLemmas.{items_filled, spare_filled}
 use Rattle.tinyvec.proofs.tiny_vec.extending.fill_array.Goals.{In-Ok, After-set_len-in-Err}
@@ -32,83 +32,68 @@ set_len-requires g c = room g (goal.at.set_len-requires g c).In-Ok
 pub set_len-requires-in-Err : goal.set_len-requires-in-Err
 set_len-requires-in-Err g c = omega (arith, c.CAPACITY.ensures)
 
-pub returns-in-Ok-clause-ran : goal.returns-in-Ok-clause-ran
-returns-in-Ok-clause-ran g c =
+pub returns-in-Ok-clause-fills : goal.returns-in-Ok-clause-fills
+returns-in-Ok-clause-fills g c =
     let v = c.args.vec.now in
     let shown = c.grab_spare_slice_mut.ensures.value in
     let made = c.in-Ok.ensures.ran in
-    let len = c.len-len.result + c.in-Ok.count in
     let few : length made.0 ≤ length (spare v) = omega (arith, made.2, ap length shown) in
-    let more : len ≡ items_len v + length made.0 = omega (arith, c.len-len.ensures.value, made.1.1) in (
-      made.0,
-      made.1.0,
-      ap (λ w. items w) c.set_len.ensures.value
-          ∙ items_filled v made.0 c.fill_slots.new.slots len few (made.3 ∙ ap (λ l. made.0 ++ drop (length made.0) l) shown) more,
-    )
+    let more : c.len-len.result + c.in-Ok.count ≡ items_len v + length made.0 = omega (arith, c.len-len.ensures.value, made.1.1) in record {
+      ran = (
+        made.0,
+        made.1.0,
+        ap (λ w. items w) c.set_len.ensures.value
+            ∙ items_filled v made.0 c.fill_slots.new.slots (c.len-len.result + c.in-Ok.count) few (made.3 ∙ ap (λ l. made.0 ++ drop (length made.0) l) shown) more,
+      );
+      full = tt;
+      goes_on = omega (arith, made.4, made.1.1, c.len-len.ensures.value, c.set_len.ensures.fits);
+    }
 
-pub returns-in-Ok-clause-spare : goal.returns-in-Ok-clause-spare
-returns-in-Ok-clause-spare g c =
+pub returns-in-Ok-clause-gains : goal.returns-in-Ok-clause-gains
+returns-in-Ok-clause-gains g c =
     let v = c.args.vec.now in
     let new = c.set_len.new.self in
     let shown = c.grab_spare_slice_mut.ensures.value in
     let made = c.in-Ok.ensures.ran in
-    let len = c.len-len.result + c.in-Ok.count in
     let few : length made.0 ≤ length (spare v) = omega (arith, made.2, ap length shown) in
-    let more : len ≡ items_len v + length made.0 = omega (arith, c.len-len.ensures.value, made.1.1) in
-    let used : length made.0 ≡ items_len new - items_len v = omega (arith, more, c.set_len.ensures.fits) in
-    ap (λ w. spare w) c.set_len.ensures.value
-    ∙ spare_filled v made.0 c.fill_slots.new.slots len few (made.3 ∙ ap (λ l. made.0 ++ drop (length made.0) l) shown) more
-    ∙ ap (λ k. drop k (spare v)) used
+    let more : c.len-len.result + c.in-Ok.count ≡ items_len v + length made.0 = omega (arith, c.len-len.ensures.value, made.1.1) in
+    let used : length made.0 ≡ items_len new - items_len v = omega (arith, more, c.set_len.ensures.fits) in record {
+      items = refl;
+      spare = ap (λ w. spare w) c.set_len.ensures.value
+          ∙ spare_filled v made.0 c.fill_slots.new.slots (c.len-len.result + c.in-Ok.count) few (made.3 ∙ ap (λ l. made.0 ++ drop (length made.0) l) shown) more
+          ∙ ap (λ k. drop k (spare v)) used;
+      fits = omega (arith, room g (goal.at.returns-in-Ok-clause-gains g c).In-Ok, c.set_len.ensures.fits);
+    }
 
-pub returns-in-Ok-clause-longer : goal.returns-in-Ok-clause-longer
-returns-in-Ok-clause-longer g c = omega (arith, c.len-len.ensures.value, c.set_len.ensures.fits)
-
-pub returns-in-Ok-clause-fits : goal.returns-in-Ok-clause-fits
-returns-in-Ok-clause-fits g c = omega (arith, room g (goal.at.returns-in-Ok-clause-fits g c).In-Ok, c.set_len.ensures.fits)
-
-pub returns-in-Ok-clause-full : goal.returns-in-Ok-clause-full
-returns-in-Ok-clause-full g c = tt
-
-pub returns-in-Ok-clause-goes_on : goal.returns-in-Ok-clause-goes_on
-returns-in-Ok-clause-goes_on g c =
-    let made = c.in-Ok.ensures.ran in
-    omega (arith, made.4, made.1.1, c.len-len.ensures.value, c.set_len.ensures.fits)
-
-pub returns-in-Err-clause-ran : goal.returns-in-Err-clause-ran
-returns-in-Err-clause-ran g c =
+pub returns-in-Err-clause-fills : goal.returns-in-Err-clause-fills
+returns-in-Err-clause-fills g c =
     let v = c.args.vec.now in
     let shown = c.grab_spare_slice_mut.ensures.value in
     let made = c.in-Err.ensures.ran in
-    let few : length made.0 ≤ length (spare v) = omega (arith, made.2, ap length shown) in (
-      made.0,
-      made.1.0,
-      ap (λ w. items w) c.set_len-in-Err.ensures.value
-          ∙ items_filled v made.0 c.fill_slots.new.slots c.CAPACITY.result few (made.3 ∙ ap (λ l. made.0 ++ drop (length made.0) l) shown) (all_filled g c),
-    )
+    let few : length made.0 ≤ length (spare v) = omega (arith, made.2, ap length shown) in
+    let more : c.CAPACITY.result ≡ items_len v + length made.0 = all_filled g c in record {
+      ran = (
+        made.0,
+        made.1.0,
+        ap (λ w. items w) c.set_len-in-Err.ensures.value
+            ∙ items_filled v made.0 c.fill_slots.new.slots c.CAPACITY.result few (made.3 ∙ ap (λ l. made.0 ++ drop (length made.0) l) shown) more,
+      );
+      full = c.set_len-in-Err.ensures.fits ∙ c.CAPACITY.ensures;
+      goes_on = (made.4.0, made.4.1, omega (arith, made.4.2, more, c.set_len-in-Err.ensures.fits));
+    }
 
-pub returns-in-Err-clause-spare : goal.returns-in-Err-clause-spare
-returns-in-Err-clause-spare g c =
+pub returns-in-Err-clause-gains : goal.returns-in-Err-clause-gains
+returns-in-Err-clause-gains g c =
     let v = c.args.vec.now in
     let new = c.set_len-in-Err.new.self in
     let shown = c.grab_spare_slice_mut.ensures.value in
     let made = c.in-Err.ensures.ran in
-    let more = all_filled g c in
     let few : length made.0 ≤ length (spare v) = omega (arith, made.2, ap length shown) in
-    let used : length made.0 ≡ items_len new - items_len v = omega (arith, more, c.set_len-in-Err.ensures.fits) in
-    ap (λ w. spare w) c.set_len-in-Err.ensures.value
-    ∙ spare_filled v made.0 c.fill_slots.new.slots c.CAPACITY.result few (made.3 ∙ ap (λ l. made.0 ++ drop (length made.0) l) shown) more
-    ∙ ap (λ k. drop k (spare v)) used
-
-pub returns-in-Err-clause-longer : goal.returns-in-Err-clause-longer
-returns-in-Err-clause-longer g c = omega (arith, c.len-len.ensures, c.CAPACITY.ensures, c.set_len-in-Err.ensures.fits)
-
-pub returns-in-Err-clause-fits : goal.returns-in-Err-clause-fits
-returns-in-Err-clause-fits g c = omega (arith, c.CAPACITY.ensures, c.set_len-in-Err.ensures.fits)
-
-pub returns-in-Err-clause-full : goal.returns-in-Err-clause-full
-returns-in-Err-clause-full g c = c.set_len-in-Err.ensures.fits ∙ c.CAPACITY.ensures
-
-pub returns-in-Err-clause-goes_on : goal.returns-in-Err-clause-goes_on
-returns-in-Err-clause-goes_on g c =
-    let made = c.in-Err.ensures.ran in
-    (made.4.0, made.4.1, omega (arith, made.4.2, all_filled g c, c.set_len-in-Err.ensures.fits))
+    let more : c.CAPACITY.result ≡ items_len v + length made.0 = all_filled g c in
+    let used : length made.0 ≡ items_len new - items_len v = omega (arith, more, c.set_len-in-Err.ensures.fits) in record {
+      items = refl;
+      spare = ap (λ w. spare w) c.set_len-in-Err.ensures.value
+          ∙ spare_filled v made.0 c.fill_slots.new.slots c.CAPACITY.result few (made.3 ∙ ap (λ l. made.0 ++ drop (length made.0) l) shown) more
+          ∙ ap (λ k. drop k (spare v)) used;
+      fits = omega (arith, c.CAPACITY.ensures, c.set_len-in-Err.ensures.fits);
+    }

@@ -1,4 +1,4 @@
-use Rattle.std.proofs.Common.{[], ◌∷◌, ◌++◌, refl, sym, ap, ◌∙◌, append-nil, append_assoc, arith, length, length-append, vec_len, vec_capacity}
+use Rattle.std.proofs.Common.{[], ◌∷◌, ◌++◌, refl, sym, ap, ◌∙◌, append-nil, append_assoc, arith, length, length-append, vec_capacity}
 use Rattle.std.proofs.lemmas.List.{length_push}
 use Rattle.tinyvec.proofs.tiny_vec.extending.fill_heap.Goals as goal
 
@@ -28,38 +28,28 @@ loop-item-preserved g c =
       capacity = put.capacity ∙ inv.capacity;
     }
 
-pub returns-then-len-capacity-clause-ran : goal.returns-then-len-capacity-clause-ran
-returns-then-len-capacity-clause-ran g c =
-    let at = c.loop-item in
-    (at.yielded, (at.iter, at.yielded_by, c.in-Some.ensures.steps), rw (← c.replace-vec.ensures.value) at.invariant.filled)
-
 pub returns-then-len-capacity-clause-capacity : goal.returns-then-len-capacity-clause-capacity
 returns-then-len-capacity-clause-capacity g c = c.loop-item.invariant.capacity ∙ ap vec_capacity c.replace-vec.ensures.value
 
-pub returns-then-len-capacity-clause-full : goal.returns-then-len-capacity-clause-full
-returns-then-len-capacity-clause-full g c = sym c.len.ensures ∙ c.if-len-capacity.true ∙ c.capacity.ensures
-
-pub returns-then-len-capacity-clause-goes_on : goal.returns-then-len-capacity-clause-goes_on
-returns-then-len-capacity-clause-goes_on g c =
-    let inv = c.loop-item.invariant in
-    let went = c.in-Some.ensures.goes.on inv.ends in
-    let v = c.loop-item.vec in
-    let first = c.replace-vec.result in
-    (went.0, went.1, omega (arith, went.2, inv.no_longer, v.ok.0, first.ok.0, ap vec_len c.replace-vec.ensures.value, ap length inv.filled, length-append first.items c.loop-item.yielded))
-
-pub returns-clause-ran : goal.returns-clause-ran
-returns-clause-ran g c =
+pub returns-then-len-capacity-clause-fills : goal.returns-then-len-capacity-clause-fills
+returns-then-len-capacity-clause-fills g c =
     let at = c.loop-item in
-    (at.yielded, (c.next.new.self, (at.iter, at.yielded_by, c.in_default.ensures.steps)), rw (← c.replace-vec.ensures.value) at.invariant.filled)
+    let inv = at.invariant in
+    let went = c.in-Some.ensures.goes.on inv.ends in
+    let filled = rw c.replace-vec.ensures.value at inv.filled in record {
+      ran = (at.yielded, (at.iter, at.yielded_by, c.in-Some.ensures.steps), filled);
+      full = omega (arith, c.len.ensures, c.if-len-capacity.true, c.capacity.ensures, at.vec.ok.0);
+      goes_on = (went.0, went.1, omega (arith, went.2, inv.no_longer, ap length filled, length-append c.args.heap.now.items at.yielded));
+    }
 
 pub returns-clause-capacity : goal.returns-clause-capacity
 returns-clause-capacity g c = c.loop-item.invariant.capacity ∙ ap vec_capacity c.replace-vec.ensures.value
 
-pub returns-clause-full : goal.returns-clause-full
-returns-clause-full g c = tt
-
-pub returns-clause-goes_on : goal.returns-clause-goes_on
-returns-clause-goes_on g c =
-    let inv = c.loop-item.invariant in
-    let first = c.replace-vec.result in
-    omega (arith, inv.no_longer, c.loop-item.vec.ok.0, first.ok.0, ap vec_len c.replace-vec.ensures.value, ap length inv.filled, length-append first.items c.loop-item.yielded)
+pub returns-clause-fills : goal.returns-clause-fills
+returns-clause-fills g c =
+    let at = c.loop-item in
+    let filled = rw c.replace-vec.ensures.value at at.invariant.filled in record {
+      ran = (at.yielded, (c.next.new.self, (at.iter, at.yielded_by, c.in_default.ensures.steps)), filled);
+      full = tt;
+      goes_on = omega (arith, at.invariant.no_longer, ap length filled, length-append c.args.heap.now.items at.yielded);
+    }

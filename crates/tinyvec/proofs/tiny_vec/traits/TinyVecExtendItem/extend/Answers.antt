@@ -9,5 +9,5 @@ by_err P (Err e) err q = q
 pub returns-in_err-extend : goal.returns-in_err-extend
 returns-in_err-extend g c =
     let made = c.in_err-extend.ensures in
-    let ran = made.ran in
+    let ran = made.items.ran in
     record { ran = (ran.0, ran.1, ran.2, (ran.4, made.grows), by_err _ c.from_residual.result c.from_residual.ensures.0 (ran.3.0, ran.3.1)) }
