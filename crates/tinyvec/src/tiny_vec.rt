@@ -1,13 +1,11 @@
 //! `TinyVec`.
-ghost use Rattle.std.specs.Prelude.{◌≡◌, ◌+◌, ◌<◌, ◌≤◌, ◌==◌, not, length, slice_index_or, slice_set, ◌-◌, ◌↔◌, ℕ, All, [], take, drop, IsOk, IsErr, IfOk, IfErr, OnErr, vec_capacity, ◌^◌, List};
+ghost use Rattle.std.specs.Prelude.{◌≡◌, ◌+◌, ◌<◌, ◌≤◌, ◌==◌, not, length, slice_index_or, slice_set, ◌-◌, ◌↔◌, ℕ, All, [], take, drop, IsOk, IsErr, IfOk, IfErr, OnErr, vec_capacity, List};
 ghost use Rattle.tinyvec.specs.TinyVec.{tiny_items, tiny_len, tiny_spare, is_inline, tiny_capacity, IsInline, HoldsInline, SameFrame, tiny_allocator};
 ghost use Rattle.tinyvec.specs.Room.{MadeFor};
 ghost use Rattle.tinyvec_slots.specs.Slots.{AreDefaults, items, spare};
 ghost use Rattle.tinyvec_slots.specs.Clones.{RefusedAt, AreClones};
 ghost use Rattle.std.specs.Borrow.{sem};
-ghost use Rattle.std.specs.Slice.Iter.{iter_rest, iter_mut_rest, iter_mut_steps, iter_mut_steps_back};
-ghost use Rattle.std.specs.Iterator.Adapters.{IterYieldsInOrder, IterYieldsInReverse};
-ghost use Rattle.std.specs.Iterator.Runs.{EveryRun, ItemsMapTo, ItemsMapToReversed};
+ghost use Rattle.tinyvec_slots.specs.Filling.{Iterates, IteratesMut};
 ghost use Rattle.tinyvec.specs.Lends.{tiny_with_items};
 
 mod capacity;
@@ -209,11 +207,7 @@ impl<A: Array> TinyVec<A> {
 
     /// Iterates over the items, in order or from the back.
     pub fn iter(&self) -> slice::Iter<'_, A::Item>
-        ensures rest { iter_rest result ≡ tiny_items self.now }
-        ensures len { length (iter_rest result) ≡ tiny_len self.now }
-        ensures bound { length (iter_rest result) < 2 ^ 64 }
-        ensures runs { IterYieldsInOrder A.Item }
-        ensures runs_back { IterYieldsInReverse A.Item }
+        ensures { Iterates (tiny_items self.now) result }
     {
         self.as_slice().iter()
     }
@@ -222,17 +216,10 @@ impl<A: Array> TinyVec<A> {
     /// spare slots and the place, and after one over `as_mut_slice().iter_mut()` the items too.
     pub fn iter_mut(&mut self) -> slice::IterMut<'_, A::Item>
         ensures* writes_back { sem 𝓛 (lends_iter A.row A.Item.row A.Array A.Item.Default self.entry result) }
-        ensures rest { iter_mut_rest result ≡ tiny_items self.old }
-        ensures len { length (iter_mut_rest result) ≡ tiny_len self.old }
-        ensures bound { length (iter_mut_rest result) < 2 ^ 64 }
+        ensures yields { IteratesMut (tiny_items self.old) result }
 
         // No write changes the length.
         ensures keeps_len { (ws : List A.Item) → tiny_len (tiny_with_items self.old ws) ≡ tiny_len self.old }
-
-        // It lends the items in order, or from the back.
-        ensures runs { EveryRun (iter_mut_steps {A = A.Item}) (λ p. ItemsMapTo p (λ x. x.now) (iter_mut_rest p.from)) }
-        ensures runs_back { EveryRun (iter_mut_steps_back {A = A.Item})
-            (λ p. ItemsMapToReversed p (λ x. x.now) (iter_mut_rest p.from)) }
     {
         match self {
             TinyVec::Inline(v, _) => v.iter_mut(),

@@ -62,7 +62,7 @@ pub record TextReserves {X E : Type 0} (slots n : ℕ) (old new : Text) (result 
   pub enough : OnOk result (text_len old + n ≤ capacity_in slots new.place)
   pub kept : text_len old + n ≤ capacity_in slots old.place → new ≡ old
 
--- a call that gave up room took `old` to `new`: the text is inline if it fits the array, and an inline one is unchanged
+-- a call that shrinks the allocation took `old` to `new`: the text is inline if it fits the array, and an inline one is unchanged
 pub record TextShrinks (slots : ℕ) (old new : Text) : Type 0 where
   pub bytes : new.bytes ≡ old.bytes
   pub place : IsTrue (lies_inline new.place) ↔ (text_len old ≤ slots)

@@ -1,9 +1,8 @@
 //! Comparisons, hashes, texts, writers, indexing and iteration.
-ghost use Rattle.std.specs.Prelude.{◌≡◌, ◌<◌, slice_index_or, ◌^◌, List, length, true, false, ◌+◌, ◌++◌, Some, IfOk, IfErr, IsOk};
+ghost use Rattle.std.specs.Prelude.{◌≡◌, ◌<◌, slice_index_or, List, length, true, false, ◌+◌, ◌++◌, Some, IfOk, IfErr, IsOk};
 ghost use Rattle.std.specs.Borrow.{sem};
 ghost use Rattle.tinyvec.specs.TinyVec.{tiny_items, tiny_len};
-ghost use Rattle.std.specs.Slice.Iter.{iter_rest, iter_mut_rest, iter_steps, iter_mut_steps};
-ghost use Rattle.std.specs.Iterator.Runs.{EveryRun, ItemsMapTo};
+ghost use Rattle.tinyvec_slots.specs.Filling.{Iterates, IteratesMut};
 ghost use Rattle.tinyvec_array.specs.IntoIter.{IteratesOver};
 ghost use Rattle.tinyvec.specs.Lends.{tiny_with_items};
 ghost use Rattle.std.specs.Cmp.{on_equiv, on_total, on_po, on_per};
@@ -85,8 +84,7 @@ impl<'a, T: Default + Drop + 'a, A: Array<Item = T>> IntoIterator for &'a TinyVe
 
     type IntoIter = slice::Iter<'a, T>;
 
-    ghost into_iter_gives = { λ v it. (iter_rest it ≡ tiny_items v.now) × (length (iter_rest it) < 2 ^ 64)
-        × EveryRun (iter_steps {A = T}) (λ p. ItemsMapTo p (λ x. x.now) (iter_rest p.from)) };
+    ghost into_iter_gives = { λ v it. Iterates (tiny_items v.now) it };
 
     fn into_iter(self) -> slice::Iter<'a, T> {
         self.iter()
@@ -100,14 +98,11 @@ impl<'a, T: Default + Drop + 'a, A: Array<Item = T>> IntoIterator for &'a mut Ti
 
     type IntoIter = slice::IterMut<'a, T>;
 
-    ghost into_iter_gives = { λ v it. (iter_mut_rest it ≡ tiny_items v.now) × (length (iter_mut_rest it) < 2 ^ 64)
-        × EveryRun (iter_mut_steps {A = T}) (λ p. ItemsMapTo p (λ x. x.now) (iter_mut_rest p.from)) };
+    ghost into_iter_gives = { λ v it. IteratesMut (tiny_items v.now) it };
 
     fn into_iter(self) -> slice::IterMut<'a, T>
         ensures* writes_back { sem 𝓛 (lends_iter A.row T.row A.Array T.Default self.entry result) }
-        ensures into_iter_gives { (iter_mut_rest result ≡ tiny_items self.old)
-            × (length (iter_mut_rest result) < 2 ^ 64)
-            × EveryRun (iter_mut_steps {A = T}) (λ p. ItemsMapTo p (λ x. x.now) (iter_mut_rest p.from)) }
+        ensures into_iter_gives { IteratesMut (tiny_items self.old) result }
         ensures keeps_len { (ws : List T) → tiny_len (tiny_with_items self.old ws) ≡ tiny_len self.old }
     {
         self.iter_mut()
@@ -295,7 +290,8 @@ impl<A: Array<Item = u8>> io::Write for TinyVec<A> {
         ensures bound { WritesAtMost result buf.now }
         ensures bytes { WriteAppends (Some (tiny_items self.old)) (Some (tiny_items self.new)) result buf.now }
         ensures count { IfOk result (λ n. n ≡ length buf.now) }
-        ensures room { MakesRoom GrowsFor ⟦<u8 as Default>⟧.is_default A.CAPACITY (tiny_len self.old + length buf.now) self.old self.new result }
+        ensures room { MakesRoom GrowsFor ⟦<u8 as Default>⟧.is_default A.CAPACITY (tiny_len self.old + length buf.now)
+            self.old self.new result }
         ensures kind { IfErr result (λ e. error_kind e ≡ OutOfMemory) }
     {
         self.extend_from_slice(buf)?;

@@ -69,8 +69,8 @@ impl<const N: usize> InlineText<N> {
             ≡ (if is_ok result then self.old.bytes ++ encode_utf8 ch else self.old.bytes) }
         ensures ascii { ch < 128 → OnOk result (self.new.bytes ≡ self.old.bytes ++ ch ∷ []) }
         ensures text { OnOk result (text_chars self.new ≡ text_chars self.old ++ ch ∷ []) }
-        ensures room { TextMakesRoom (lies_inline self.old.place && nat_le 128 ch) N (text_len self.old + length (encode_utf8 ch))
-            self.old self.new result }
+        ensures room { TextMakesRoom (lies_inline self.old.place && nat_le 128 ch) N
+            (text_len self.old + length (encode_utf8 ch)) self.old self.new result }
     {
         // Most characters are ASCII, and have room.
         if ch.is_ascii() && self.len() < self.capacity() {
@@ -88,8 +88,8 @@ impl<const N: usize> InlineText<N> {
             ≡ (if is_ok result then self.old.bytes ++ encode_utf8 ch else self.old.bytes) }
         ensures ascii { ch < 128 → OnOk result (self.new.bytes ≡ self.old.bytes ++ ch ∷ []) }
         ensures text { OnOk result (text_chars self.new ≡ text_chars self.old ++ ch ∷ []) }
-        ensures room { TextMakesRoom (lies_inline self.old.place && nat_le 128 ch) N (text_len self.old + length (encode_utf8 ch))
-            self.old self.new result }
+        ensures room { TextMakesRoom (lies_inline self.old.place && nat_le 128 ch) N
+            (text_len self.old + length (encode_utf8 ch)) self.old self.new result }
     {
         if ch.is_ascii() {
             self.list.push(ch as u8)?;
@@ -105,8 +105,8 @@ impl<const N: usize> InlineText<N> {
         ensures bytes { self.new.bytes
             ≡ (if is_ok result then self.old.bytes ++ encode_utf8 c else self.old.bytes) }
         ensures text { OnOk result (text_chars self.new ≡ text_chars self.old ++ c ∷ []) }
-        ensures room { TextMakesRoom (lies_inline self.old.place && nat_le 128 c) N (text_len self.old + length (encode_utf8 c))
-            self.old self.new result }
+        ensures room { TextMakesRoom (lies_inline self.old.place && nat_le 128 c) N
+            (text_len self.old + length (encode_utf8 c)) self.old self.new result }
     {
         let mut buffer = [0; 4];
         self.push_str(c.encode_utf8(&mut buffer))?;
