@@ -22,7 +22,7 @@ TextFits bytes = AreBytes bytes × IsUtf8 bytes
 abbrev pub AreNoText : List ℕ → Type 0
 AreNoText bytes = AreBytes bytes × (IsUtf8 bytes → ⊥)
 
--- The input begins with bytes that are not UTF-8. Any other reason is that of a list of bytes, with an array of so many slots.
+-- The input begins with bytes that are not UTF-8. The other reasons are those of a list of bytes, with an array of that many slots.
 abbrev pub TextReason : (slots : ℕ) → BorshError → List ℕ → Type 0
 TextReason slots InvalidUtf8 input = IsBehind SpellsText AreNoText (λ rest. Unit {0}) input
 TextReason slots error input = ListReason (SpellsNumber 1) (λ n. n < 2 ^ 8) (TooFewBytes 1) (CountsAbove slots) (2 ^ 64 - 1) error input
