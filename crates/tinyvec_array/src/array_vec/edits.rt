@@ -1,5 +1,5 @@
 //! Items that are pushed, popped, inserted, removed and cut off.
-ghost use Rattle.std.specs.Prelude.{◌≡◌, ◌-◌, ◌<◌, ◌≤◌, ◌↔◌, [], ◌∷◌, ◌++◌, take, drop, slice_get, slice_index_or, IsSome, OnSome, IfNone, IfSome, ◌+◌, remove, insert, ℕ, All, length, IsOk, Err};
+ghost use Rattle.std.specs.Prelude.{◌≡◌, ◌-◌, ◌<◌, ◌≤◌, ◌↔◌, [], ◌∷◌, ◌++◌, take, drop, slice_get, slice_index_or, IsSome, OnSome, IfNone, IfSome, OnOk, ◌+◌, remove, insert, ℕ, All, length, IsOk, Err};
 ghost use Rattle.tinyvec_slots.specs.Slots.{items, spare, items_len, AreDefaults, Gains, Loses, SameSpare};
 ghost use Rattle.std.specs.Borrow.{sem};
 ghost use Rattle.std.specs.List.{swap_remove, SwappedAt};
