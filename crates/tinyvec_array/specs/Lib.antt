@@ -16,6 +16,5 @@ pub mod Lends
 pub mod Drain
 pub mod IntoIter
 pub mod IterMut
-pub mod ToVec
 pub mod Splice
 pub mod SpliceLaws

@@ -1,9 +1,9 @@
 -- What a contract sees of an `ArrayVecSplice`, and what its calls do to it.
-use Rattle.std.specs.Prelude.{◌≡◌, ℕ, false, List, length, Option, Result, IfErr}
-use Rattle.std.specs.Borrow.{GName, MutBor}
+use Rattle.std.specs.Prelude.{◌≡◌, ℕ, List, length, Option, Result, IfErr}
+use Rattle.std.specs.Borrow.{GName}
 use Rattle.std.specs.declared.iter.Fuse.{Fuse}
 use Rattle.std.specs.declared.iter.Iterator as Iterator
-use Rattle.std.specs.Iterator.Adapters.{fuse_done, fuse_source, fuse_steps}
+use Rattle.std.specs.Iterator.Adapters.{fuse_done, fuse_steps}
 use Rattle.tinyvec_slots.specs.Filling.{ShowsItems}
 use Rattle.tinyvec_slots.specs.Fused.{FusedCan, fused_rest}
 use Rattle.tinyvec_slots.specs.Replacing.{FusedYields, PutsBetween}
@@ -58,18 +58,13 @@ SpliceCanStep s = GapCanStep s.gap (fuse_done s.replacement) (items_len (splice_
 abbrev pub SpliceCanNext : {A I T : Type 0} → (I → Type 0) → ArrayVecSplice A (Fuse I) T → Type 0
 SpliceCanNext can s = SpliceCanStep s × FusedCan can s.replacement
 
--- s replaces the items `gone` of the list of v, which are between `ahead` and `behind`, by what `iter` becomes
-pub record SpliceBegins {A U I T : Type 0} (becomes : U → I → Type 0) (v : MutBor (Slots T)) (ahead gone behind : List T) (iter : U) (s : ArrayVecSplice A (Fuse I) T) : Type 0 where
+-- s has placed no item yet: these items precede, are left in, and follow the range
+pub record SpliceBegins {A I T : Type 0} (ahead inside behind : List T) (s : ArrayVecSplice A I T) : Type 0 where
   pub front : splice_front s ≡ ahead
-  pub left : splice_left s ≡ gone
+  pub left : splice_left s ≡ inside
   pub len : splice_len s ≡ length (splice_left s)
   pub back : splice_back s ≡ behind
-  pub replacement : becomes iter (fuse_source (splice_replacement s))
-  pub unasked : fuse_done (splice_replacement s) ≡ false
   pub touches : splice_touches s ≡ 0
-  pub slots : splice_slots s ≡ v.now
-  pub same_reference : splice_lender s ≡ v.ghost_name
-  pub ready : SpliceCanStep s
 
 -- `finish` of s returned the result, and left v. The last two are of a replacement that shows its items, and of one whose items
 -- are known, as those of a `Vec`, a range or a slice.

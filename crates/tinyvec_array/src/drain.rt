@@ -1,11 +1,10 @@
 //! What moves a range of items out of a vector.
-ghost use Rattle.std.specs.Prelude.{◌≡◌, ◌<◌, ◌≤◌, ◌++◌, length, drop, codes, Some, IfSome, ◌+◌, vec_len, vec_capacity};
+ghost use Rattle.std.specs.Prelude.{◌≡◌, ◌<◌, ◌≤◌, ◌++◌, ◌^◌, [], length, drop, codes, Some, IfSome, IsOk, IsErr, IfOk, OnOk, OnErr, ◌+◌, vec_len, vec_items, vec_capacity};
 ghost use Rattle.std.specs.Fmt.{debug_list, debug_variant};
 ghost use Rattle.std.specs.Iterator.{at_most, UpTo};
 ghost use Rattle.std.specs.Iterator.SizeHint.{IsWithinCount};
-ghost use Rattle.tinyvec_slots.specs.Slots.{items, Loses};
+ghost use Rattle.tinyvec_slots.specs.Slots.{items, items_len, Loses};
 ghost use Rattle.tinyvec_slots.specs.Ranges.{IsRangeOf, before, removed, after};
-ghost use Rattle.tinyvec_array.specs.ToVec.{DrainsToVec};
 
 use crate::slots::bounded_index;
 use crate::{Array, ArrayVec};
@@ -72,14 +71,24 @@ impl<A: Array> ArrayVec<A> {
 
     /// Moves the list into a `Vec` that has room for it, and for no more.
     pub fn drain_to_vec(&mut self, alloc: Global) -> Result<Vec<A::Item>, AllocError>
-        ensures { DrainsToVec A.Item.is_default A.CAPACITY 0 self.old self.new result }
+        ensures moved { IfOk result (λ v. vec_items v ≡ items self.old) }
+        ensures exact { IfOk result (λ v. vec_capacity v ≡ items_len self.old) }
+        ensures emptied { OnOk result (Loses A.Item.is_default A.CAPACITY (items_len self.old) self.old self.new []) }
+        ensures fits { items_len self.new ≤ A.CAPACITY }
+        ensures refused { OnErr result (self.new ≡ self.old) }
+        ensures succeeds_empty { items_len self.old ≡ 0 → IsOk result }
     {
         self.drain_to_vec_and_reserve(alloc, 0)
     }
 
     /// The same as `drain_to_vec`.
     pub fn try_drain_to_vec(&mut self, alloc: Global) -> Result<Vec<A::Item>, AllocError>
-        ensures { DrainsToVec A.Item.is_default A.CAPACITY 0 self.old self.new result }
+        ensures moved { IfOk result (λ v. vec_items v ≡ items self.old) }
+        ensures exact { IfOk result (λ v. vec_capacity v ≡ items_len self.old) }
+        ensures emptied { OnOk result (Loses A.Item.is_default A.CAPACITY (items_len self.old) self.old self.new []) }
+        ensures fits { items_len self.new ≤ A.CAPACITY }
+        ensures refused { OnErr result (self.new ≡ self.old) }
+        ensures succeeds_empty { items_len self.old ≡ 0 → IsOk result }
     {
         self.drain_to_vec(alloc)
     }
@@ -92,7 +101,13 @@ impl<A: Array> ArrayVec<A> {
         alloc: Global,
         additional: usize,
     ) -> Result<Vec<A::Item>, AllocError>
-        ensures { DrainsToVec A.Item.is_default A.CAPACITY additional self.old self.new result }
+        ensures moved { IfOk result (λ v. vec_items v ≡ items self.old) }
+        ensures exact { IfOk result (λ v. vec_capacity v ≡ items_len self.old + additional) }
+        ensures emptied { OnOk result (Loses A.Item.is_default A.CAPACITY (items_len self.old) self.old self.new []) }
+        ensures fits { items_len self.new ≤ A.CAPACITY }
+        ensures refused { OnErr result (self.new ≡ self.old) }
+        ensures too_long { 2 ^ 64 ≤ items_len self.old + additional → IsErr result }
+        ensures succeeds_empty { items_len self.old + additional ≡ 0 → IsOk result }
     {
         let len = self.len();
         if additional > usize::MAX - len {
@@ -110,7 +125,13 @@ impl<A: Array> ArrayVec<A> {
         alloc: Global,
         additional: usize,
     ) -> Result<Vec<A::Item>, AllocError>
-        ensures { DrainsToVec A.Item.is_default A.CAPACITY additional self.old self.new result }
+        ensures moved { IfOk result (λ v. vec_items v ≡ items self.old) }
+        ensures exact { IfOk result (λ v. vec_capacity v ≡ items_len self.old + additional) }
+        ensures emptied { OnOk result (Loses A.Item.is_default A.CAPACITY (items_len self.old) self.old self.new []) }
+        ensures fits { items_len self.new ≤ A.CAPACITY }
+        ensures refused { OnErr result (self.new ≡ self.old) }
+        ensures too_long { 2 ^ 64 ≤ items_len self.old + additional → IsErr result }
+        ensures succeeds_empty { items_len self.old + additional ≡ 0 → IsOk result }
     {
         self.drain_to_vec_and_reserve(alloc, additional)
     }

@@ -46,7 +46,7 @@ impl<'a, A: Array, I: Drop> Drop for ArrayVecSplice<'a, A, I> {
 }
 
 impl<A: Array> ArrayVec<A> {
-    ghost use Rattle.tinyvec_array.specs.Splice.{SpliceBegins};
+    ghost use Rattle.tinyvec_array.specs.Splice.{splice_replacement, splice_slots, splice_lender, SpliceBegins, SpliceCanStep};
 
     /// Removes the range, yields its items from both ends, and puts those of `replacement` in their place.
     ///
@@ -58,9 +58,14 @@ impl<A: Array> ArrayVec<A> {
     ) -> ArrayVecSplice<'_, A, Fuse<I::IntoIter>>
         requires not_exhausted { R.has_bounds range }
         requires in_list { IsRangeOf (items self.old) (R.start_bound range) (R.end_bound range) }
-        ensures { SpliceBegins I.into_iter_gives self.entry (before (items self.old) (R.start_bound range))
+        ensures begins { SpliceBegins (before (items self.old) (R.start_bound range))
             (removed (items self.old) (R.start_bound range) (R.end_bound range))
-            (after (items self.old) (R.end_bound range)) replacement result }
+            (after (items self.old) (R.end_bound range)) result }
+        ensures replacement { I.into_iter_gives replacement (fuse_source (splice_replacement result)) }
+        ensures unasked { fuse_done (splice_replacement result) ≡ false }
+        ensures slots { splice_slots result ≡ self.old }
+        ensures same_reference { splice_lender result ≡ self.entry.ghost_name }
+        ensures ready { SpliceCanStep result }
     {
         let part = resolve_range(range, self.len());
         ArrayVecSplice {

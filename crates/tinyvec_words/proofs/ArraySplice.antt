@@ -3,8 +3,7 @@ use Rattle.std.proofs.Common.{◌≡◌, ℕ, ◌≤◌, List, [], ◌∷◌, �
 use Rattle.std.specs.declared.iter.Fuse.{Fuse}
 use Rattle.std.specs.declared.iter.Iterator as Iterator
 use Rattle.std.specs.Prelude.{Ok}
-use Rattle.std.specs.Borrow.{MutBor}
-use Rattle.tinyvec_slots.specs.Slots.{Slots, SlotRule}
+use Rattle.tinyvec_slots.specs.Slots.{SlotRule}
 use Rattle.tinyvec_slots.specs.Touches.{touch_count}
 use Rattle.tinyvec_array.specs.declared.splice.ArrayVecSplice.{ArrayVecSplice}
 use Rattle.tinyvec_array.specs.Splice.{splice_view, splice_front, splice_left, splice_len, splice_back, splice_replacement, splice_touches, splice_slots, splice_lender, SpliceCanStep, SpliceCanNext, SpliceSteps, SpliceStepsBack, SpliceBegins, SpliceEnds}
@@ -50,8 +49,14 @@ module _ (A : Type 0) (s t : ArrayVecSplice A (Fuse (List ℕ)) ℕ) (vec : s.ve
   pub example-SpliceStepsBack : (gives : Fuse (List ℕ) → Option ℕ → Fuse (List ℕ) → Type 0) → SpliceStepsBack gives s (Some 3) t → splice_left s ≡ splice_left t ++ 3 ∷ []
   example-SpliceStepsBack gives h = h.0.left
 
-  pub example-SpliceBegins : (v : MutBor (Slots ℕ)) → SpliceBegins (λ xs it. it ≡ xs) v (1 ∷ []) (2 ∷ 3 ∷ []) (4 ∷ []) (7 ∷ []) s → splice_left s ≡ 2 ∷ 3 ∷ []
-  example-SpliceBegins v h = h.left
+  pub example-SpliceBegins : SpliceBegins (1 ∷ []) (2 ∷ 3 ∷ []) (4 ∷ []) s
+  example-SpliceBegins = record {
+    front = example-splice_front;
+    left = example-splice_left;
+    len = rw (next, end, vec) refl;
+    back = example-splice_back;
+    touches = touches;
+  }
 
   pub example-SpliceEnds : (iter : Iterator.Ghosts (List ℕ) ℕ) → SpliceEnds D 5 iter s (Ok tt) (over (1 ∷ 7 ∷ 4 ∷ []) (0 ∷ 0 ∷ [])) → SlotRule D (splice_slots s) (over (1 ∷ 7 ∷ 4 ∷ []) (0 ∷ 0 ∷ []))
   example-SpliceEnds iter h = h.slot_rule

@@ -14,7 +14,6 @@ pub mod TinySplice
 pub mod TinyDrain
 pub mod Lends
 pub mod SliceLends
-pub mod ToVec
 pub mod InlineText
 pub mod Counted
 pub mod Script

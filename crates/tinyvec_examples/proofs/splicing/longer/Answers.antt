@@ -18,9 +18,9 @@ returns c =
     let v = c.finish-all_fit.new.self.0 in
     let old = c.from_array_len-v.result in
     let made = c.splice-splice.ensures in
-    let ahead : splice_front s ≡ pos 1 ∷ [] = made.front ∙ rw c.from_array_len-v.ensures (refl {a = pos 1 ∷ []}) in
-    let left : splice_left s ≡ pos 2 ∷ pos 3 ∷ [] = made.left ∙ rw c.from_array_len-v.ensures (refl {a = pos 2 ∷ pos 3 ∷ []}) in
-    let behind : splice_back s ≡ pos 4 ∷ [] = made.back ∙ rw c.from_array_len-v.ensures (refl {a = pos 4 ∷ []}) in
+    let ahead : splice_front s ≡ pos 1 ∷ [] = made.begins.front ∙ rw c.from_array_len-v.ensures (refl {a = pos 1 ∷ []}) in
+    let left : splice_left s ≡ pos 2 ∷ pos 3 ∷ [] = made.begins.left ∙ rw c.from_array_len-v.ensures (refl {a = pos 2 ∷ pos 3 ∷ []}) in
+    let behind : splice_back s ≡ pos 4 ∷ [] = made.begins.back ∙ rw c.from_array_len-v.ensures (refl {a = pos 4 ∷ []}) in
     let whole : fused_rest array_into_iter_items (splice_replacement s) ≡ pos 7 ∷ pos 8 ∷ pos 9 ∷ [] = rw made.unasked made.replacement.0 in
     let last = last_taken splice_view SpliceKeeps _ s mid _ (pos 3) (pos 2 ∷ []) c.next_back-last.ensures.steps left in
     let first = first_taken splice_view SpliceKeeps _ mid t _ (pos 2) [] c.next-first.ensures.steps last.1 in

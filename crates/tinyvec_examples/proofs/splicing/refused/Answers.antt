@@ -19,12 +19,12 @@ unreachable-requires c =
     let s = c.splice-splice.result in
     let t = c.next-two.new.self in
     let made = c.splice-splice.ensures in
-    let ahead : splice_front s ≡ pos 1 ∷ [] = made.front ∙ rw c.from_array_len-v.ensures (refl {a = pos 1 ∷ []}) in
-    let behind : splice_back s ≡ pos 3 ∷ [] = made.back ∙ rw c.from_array_len-v.ensures (refl {a = pos 3 ∷ []}) in
+    let ahead : splice_front s ≡ pos 1 ∷ [] = made.begins.front ∙ rw c.from_array_len-v.ensures (refl {a = pos 1 ∷ []}) in
+    let behind : splice_back s ≡ pos 3 ∷ [] = made.begins.back ∙ rw c.from_array_len-v.ensures (refl {a = pos 3 ∷ []}) in
     let whole : R (splice_replacement s) ≡ pos 7 ∷ pos 8 ∷ pos 9 ∷ pos 10 ∷ [] = rw made.unasked made.replacement.0 in
     let along = RunsWord-splices R _ _ (fused_ends _ _ _ array_ends) s (front ∷ []) (c.next-two.result ∷ []) t (t, c.next-two.ensures.steps, refl) in
     let ended = subst (λ r. FinishesWith R 4 (splice_view t) r (items c.finish.new.self.0)) c.in-Ok.is (c.finish.ensures.listed array_into_iter_items array_ends.first) in
-    let le = ended_no_room R 4 s t (front ∷ []) (items c.finish.new.self.0) _ _ _ _ along ahead made.left behind whole c.in-Ok.field-0 ended in
+    let le = ended_no_room R 4 s t (front ∷ []) (items c.finish.new.self.0) _ _ _ _ along ahead made.begins.left behind whole c.in-Ok.field-0 ended in
     omega (arith, le)
 
 module _ (c : After-drop-rest) where
@@ -34,13 +34,13 @@ module _ (c : After-drop-rest) where
       (c.next-two.new.self, c.next-two.ensures.steps, refl)
 
   ahead : splice_front c.splice-splice.result ≡ pos 1 ∷ []
-  ahead = c.splice-splice.ensures.front ∙ rw c.from_array_len-v.ensures (refl {a = pos 1 ∷ []})
+  ahead = c.splice-splice.ensures.begins.front ∙ rw c.from_array_len-v.ensures (refl {a = pos 1 ∷ []})
 
   left : splice_left c.splice-splice.result ≡ pos 2 ∷ []
-  left = c.splice-splice.ensures.left ∙ rw c.from_array_len-v.ensures (refl {a = pos 2 ∷ []})
+  left = c.splice-splice.ensures.begins.left ∙ rw c.from_array_len-v.ensures (refl {a = pos 2 ∷ []})
 
   behind : splice_back c.splice-splice.result ≡ pos 3 ∷ []
-  behind = c.splice-splice.ensures.back ∙ rw c.from_array_len-v.ensures (refl {a = pos 3 ∷ []})
+  behind = c.splice-splice.ensures.begins.back ∙ rw c.from_array_len-v.ensures (refl {a = pos 3 ∷ []})
 
   whole : fused_rest array_into_iter_items (splice_replacement c.splice-splice.result) ≡ pos 7 ∷ pos 8 ∷ pos 9 ∷ pos 10 ∷ []
   whole = rw c.splice-splice.ensures.unasked c.splice-splice.ensures.replacement.0

@@ -27,10 +27,10 @@ returns-clause-list g c = λ rest ends.
     let one = length-take-le c.args.start xs (omega (arith, c.requires.start_le_end, c.requires.in_bounds)) in
     let two = length-drop c.args.end xs in
     let n = length-slice_range xs c.args.start c.args.end c.requires.start_le_end c.requires.in_bounds in
-    let fits = ended_fits R g.A.Array.CAPACITY s t (front ∷ back ∷ []) (items v) _ _ _ P along made.front made.left made.back whole result finished in
+    let fits = ended_fits R g.A.Array.CAPACITY s t (front ∷ back ∷ []) (items v) _ _ _ P along made.begins.front made.begins.left made.begins.back whole result finished in
     let list : OnOk result (items v ≡ take c.args.start xs ++ P ++ drop c.args.end xs) =
-    ended_list R g.A.Array.CAPACITY s t (front ∷ back ∷ []) (items v) _ _ _ P along made.front made.left made.back whole result finished in
-    let unplaced = ended_refused R g.A.Array.CAPACITY s t (front ∷ back ∷ []) (items v) _ _ _ P along made.front made.left made.back whole result finished in
+    ended_list R g.A.Array.CAPACITY s t (front ∷ back ∷ []) (items v) _ _ _ P along made.begins.front made.begins.left made.begins.back whole result finished in
+    let unplaced = ended_refused R g.A.Array.CAPACITY s t (front ∷ back ∷ []) (items v) _ _ _ P along made.begins.front made.begins.left made.begins.back whole result finished in
     let counted_out = subst (λ k. IfErr result (λ refused. IsSpliceRefused (front ∷ back ∷ []) k (take c.args.start xs) (drop c.args.end xs) P (items v) (refused.item ∷ R refused.rest))) n unplaced in
     let same = along.kept.same_reference in
     let lender = made.same_reference in (

@@ -20,12 +20,12 @@ module _ (g : _) (c : Joined-finished g) where
   around =
       let xs = items c.args.vec.now in
       let made = c.splice-splice.ensures in
-      let one = ap length made.front ∙ length-take-le c.args.start xs (omega (arith, c.requires.start_le_end, c.requires.in_bounds)) in
-      let two = ap length made.back ∙ length-drop c.args.end xs in
+      let one = ap length made.begins.front ∙ length-take-le c.args.start xs (omega (arith, c.requires.start_le_end, c.requires.in_bounds)) in
+      let two = ap length made.begins.back ∙ length-drop c.args.end xs in
       omega (arith, c.requires.start_le_end, c.requires.in_bounds)
 
   inside : length (splice_left c.splice-splice.result) ≡ c.args.end - c.args.start
-  inside = ap length c.splice-splice.ensures.left ∙ length-slice_range (items c.args.vec.now) c.args.start c.args.end c.requires.start_le_end c.requires.in_bounds
+  inside = ap length c.splice-splice.ensures.begins.left ∙ length-slice_range (items c.args.vec.now) c.args.start c.args.end c.requires.start_le_end c.requires.in_bounds
 
   within : length (splice_front c.one_from_each_end-first.new.splice) + length (splice_back c.one_from_each_end-first.new.splice) ≤ items_len c.finish_counted-finished.new.self.0
   within =
@@ -36,7 +36,7 @@ pub returns-clause-kept : goal.returns-clause-kept
 returns-clause-kept g c =
     let same = (counts g c).kept.same_reference in
     let lender = c.splice-splice.ensures.same_reference in
-    let kept = kept_around c.splice-splice.result c.one_from_each_end-first.new.splice _ (items c.finish_counted-finished.new.self.0) (counts g c) c.splice-splice.ensures.touches (within g c) in
+    let kept = kept_around c.splice-splice.result c.one_from_each_end-first.new.splice _ (items c.finish_counted-finished.new.self.0) (counts g c) c.splice-splice.ensures.begins.touches (within g c) in
     let is = around g c in
     let fact : items_len c.args.vec.now - (c.args.end - c.args.start) ≤ items_len c.finish_counted-finished.new.self.0 = omega arith in
     subst (λ w. items_len c.args.vec.now - (c.args.end - c.args.start) ≤ items_len w) (search rules) fact
@@ -46,7 +46,7 @@ returns-clause-at_least g c =
     let same = (counts g c).kept.same_reference in
     let lender = c.splice-splice.ensures.same_reference in
     let v = c.finish_counted-finished.new.self.0 in
-    let least = touched_at_least c.splice-splice.result c.one_from_each_end-first.new.splice _ (items v) (counts g c) c.splice-splice.ensures.touches (within g c) c.finish_counted-finished.result.1 _ c.finish_counted-finished.ensures.touches in
+    let least = touched_at_least c.splice-splice.result c.one_from_each_end-first.new.splice _ (items v) (counts g c) c.splice-splice.ensures.begins.touches (within g c) c.finish_counted-finished.result.1 _ c.finish_counted-finished.ensures.touches in
     let given = length (given_items (c.one_from_each_end-first.result.0 ∷ c.one_from_each_end-first.result.1 ∷ [])) in
     let fact : given + (items_len v - (items_len c.args.vec.now - (c.args.end - c.args.start))) ≤ c.finish_counted-finished.result.1 =
     subst (λ n. given + (items_len v - n) ≤ c.finish_counted-finished.result.1) (around g c) least in
@@ -59,7 +59,7 @@ returns-clause-at_most g c =
     let v = c.finish_counted-finished.new.self.0 in
     let old = c.args.vec.now in
     let touches = c.finish_counted-finished.result.1 in
-    let most = touched_at_most c.splice-splice.result c.one_from_each_end-first.new.splice _ (items v) (counts g c) c.splice-splice.ensures.touches (within g c) touches _ c.finish_counted-finished.ensures.touches in
+    let most = touched_at_most c.splice-splice.result c.one_from_each_end-first.new.splice _ (items v) (counts g c) c.splice-splice.ensures.begins.touches (within g c) touches _ c.finish_counted-finished.ensures.touches in
     let is = around g c in
     let all = inside g c in
     let slots = (counts g c).kept.len ∙ ap items_len c.splice-splice.ensures.slots in

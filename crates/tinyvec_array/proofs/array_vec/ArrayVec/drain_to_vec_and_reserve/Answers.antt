@@ -11,13 +11,12 @@ returns-then-additional-len g c =
     let many = c.if-additional-len.true in
     let value = c.len-len.ensures.value in record {
       moved = tt;
-      room = tt;
+      exact = tt;
       emptied = tt;
-      spare = tt;
       fits = rw (← value) c.len-len.ensures.fits;
       refused = refl;
       too_long = λ _. refl;
-      succeeds = λ empty none. absurd (omega (arith, many, value, empty, none));
+      succeeds_empty = λ none. absurd (omega (arith, many, value, none));
     }
 
 pub returns-in_err-vec : goal.returns-in_err-vec
@@ -25,13 +24,12 @@ returns-in_err-vec g c =
     let is = (err_from_is_err_and c.from_residual.result c.from_residual.ensures.1).1 in
     let value = c.len-len.ensures.value in record {
       moved = rw is tt;
-      room = rw is tt;
+      exact = rw is tt;
       emptied = rw is tt;
-      spare = rw is tt;
       fits = rw (← value) c.len-len.ensures.fits;
       refused = on_err c.from_residual.result refl;
       too_long = λ _. rw is refl;
-      succeeds = λ empty none. absurd (false≢true (c.in_err-vec.ensures.succeeds (omega (arith, value, empty, none))));
+      succeeds_empty = λ none. absurd (false≢true (c.in_err-vec.ensures.succeeds (omega (arith, value, none))));
     }
 
 pub take_all-requires : goal.take_all-requires
@@ -47,14 +45,18 @@ returns g c =
     let made = c.in_ok-vec.ensures in
     let few = c.if-additional-len.false in
     let value = c.len-len.ensures.value in
-    let small = c.len-len.type_inv in record {
+    let small = c.len-len.type_inv in
+    let empty = ap items c.set_len.ensures.value in record {
       moved = taken.items ∙ ap (λ l. l ++ c.as_mut_slice.result.now) made.items ∙ shown;
-      room = taken.capacity ∙ made.exact ∙ ap (λ k. k + c.args.additional) value;
-      emptied = ap items c.set_len.ensures.value;
-      spare = moved_out g.A.Item.Default.is_default c.args.self.now c.set_len.new.self c.take_all.new.slots
-          (taken.emptied.0 ∙ ap length shown, taken.emptied.1) c.set_len.ensures.value;
+      exact = taken.capacity ∙ made.exact ∙ ap (λ k. k + c.args.additional) value;
+      emptied = record {
+        items = empty;
+        spare = moved_out g.A.Item.Default.is_default c.args.self.now c.set_len.new.self c.take_all.new.slots
+            (taken.emptied.0 ∙ ap length shown, taken.emptied.1) c.set_len.ensures.value;
+        fits = omega (arith, ap length empty, c.len-len.ensures.fits, value);
+      };
       fits = rw c.set_len.ensures.fits (omega arith);
       refused = tt;
       too_long = λ long. absurd (omega (arith, long, few, value, small));
-      succeeds = λ _ _. refl;
+      succeeds_empty = λ _. refl;
     }

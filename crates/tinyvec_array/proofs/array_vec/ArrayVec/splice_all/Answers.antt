@@ -10,7 +10,7 @@ returns-clause-ran g c =
     let made = c.splice-splice.ensures in
     let done = c.finish.ensures.finished in
     let lender = made.same_reference in
-    let list = between _ _ done.placed _ _ _ done.list_is made.front made.back in
+    let list = between _ _ done.placed _ _ _ done.list_is made.begins.front made.begins.back in
     (splice_replacement s, done.placed, made.replacement, made.unasked, done.ran, search rules)
 
 pub returns-clause-known : goal.returns-clause-known

@@ -10,9 +10,9 @@ returns c =
     let xs = items c.args.v.now in
     let pair = pos 7 ∷ pos 8 ∷ [] in
     let known = c.finish-all_fit.ensures.known pair (made.unasked, array_yields pair _ made.replacement.0) in
-    let front = ap length made.front ∙ length-take-le c.args.at xs (omega (arith, c.requires)) in
-    let back = ap length made.back ∙ length-drop (c.args.at + 2) xs in
+    let front = ap length made.begins.front ∙ length-take-le c.args.at xs (omega (arith, c.requires)) in
+    let back = ap length made.begins.back ∙ length-drop (c.args.at + 2) xs in
     let fits = known.1 (omega (arith, front, back, c.requires, c.len-len.ensures.value, c.len-len.ensures.fits)) in
-    let list = between _ _ pair _ _ _ fits.1 made.front made.back in
+    let list = between _ _ pair _ _ _ fits.1 made.begins.front made.begins.back in
     let lender = made.same_reference in
     search rules

@@ -36,7 +36,7 @@ pub take_word-requires-clause-room : goal.take_word-requires-clause-room
 take_word-requires-clause-room g c word answers t asks =
     let old = items c.args.vec.now in
     let within = given_within _ word answers _ (takes c.splice-splice.result word answers t asks) in
-    let count = ap length c.splice-splice.ensures.left ∙ length-slice_range old c.args.start c.args.end c.requires.start_le_end c.requires.in_bounds in
+    let count = ap length c.splice-splice.ensures.begins.left ∙ length-slice_range old c.args.start c.args.end c.requires.start_le_end c.requires.in_bounds in
     let none = ap length c.in-Ok.ensures.empty.0 in
     let held = c.in-Ok.driven.yields.ok.0 in
     omega (arith, within, count, none, held, c.in-Ok.ensures.room.0)
@@ -61,7 +61,7 @@ keep_refused-requires g c =
     let asks = c.take_word.ensures.asks in
     let within = rest_within splice_view SpliceKeeps (fused_rest into_iter_items) _ _ c.args.word.now asks.0 (along _ _ asks.0 _ asks.1) (takes _ _ asks.0 _ asks.1) g.A.Array.CAPACITY
     (items c.args.vec.now) (items c.finish.new.self.0) c.args.start c.args.end c.args.replacement.items
-    c.requires.start_le_end c.requires.in_bounds made.front made.left made.back (whole g d) c.finish.result (finished g d) in
+    c.requires.start_le_end c.requires.in_bounds made.begins.front made.begins.left made.begins.back (whole g d) c.finish.result (finished g d) in
     let none = ap length c.in-Ok.ensures.empty.1 in
     let held = c.in-Ok.driven.rest.ok.0 in
     let size = c.args.replacement.ok.0 in
@@ -84,7 +84,7 @@ returns-clause-splices g c =
     c.keep_refused.ensures ∙ ap (λ l. l ++ refused_items (fused_rest into_iter_items) c.finish.result) c.in-Ok.ensures.empty.1 in
     let list = splices_finished splice_view SpliceKeeps (fused_rest into_iter_items) _ _ word asks.0 (along _ _ asks.0 _ asks.1) (takes _ _ asks.0 _ asks.1) capacity
     (items c.args.vec.now) (items v) c.args.start c.args.end P
-    c.requires.start_le_end c.requires.in_bounds made.front made.left made.back (whole g d) c.finish.result (finished g d) in
+    c.requires.start_le_end c.requires.in_bounds made.begins.front made.begins.left made.begins.back (whole g d) c.finish.result (finished g d) in
     let fact : ArraySplices D capacity c.args.vec.now c.args.start c.args.end word P c.take_word.new.yields.items c.keep_refused.new.list.items v = record {
       list = rw (yields, rest) list;
       slot_rule = slots_framed D c.args.vec.now (splice_slots c.take_word.new.splice) v (kept.len ∙ ap items_len made.slots) (kept.spare ∙ ap spare made.slots) c.finish.ensures.slot_rule;
