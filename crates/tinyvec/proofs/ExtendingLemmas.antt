@@ -1,5 +1,5 @@
 -- Lemmas on clones that were appended: to an array or on the heap, where there was room or it was made first.
-use Rattle.std.proofs.Common.{◌≡◌, ◌∙◌, ℕ, ◌+◌, ◌-◌, ◌*◌, ◌<◌, ◌≤◌, max, List, ◌++◌, length, drop, replicate, Vec, Global, Result, Ok, Err, inl, inr, refl, sym, ap, subst, arith}
+use Rattle.std.proofs.Common.{◌≡◌, ◌∙◌, ℕ, ◌+◌, ◌-◌, ◌<◌, ◌≤◌, List, ◌++◌, length, drop, replicate, Vec, Global, Result, Ok, Err, inl, inr, refl, sym, ap, subst, arith}
 use Rattle.std.proofs.Math.Seq.{drop-nil}
 use Rattle.std.specs.Prelude.{All, IsErr, IsOk, OnOk, OnErr}
 use Rattle.std.specs.List.{AppendsClones}
@@ -12,7 +12,7 @@ use Rattle.tinyvec_slots.specs.Slots.{Slots, SlotRule, items, items_len, spare}
 use Rattle.tinyvec_slots.specs.Clones.{ClonesOver, AddsClones, AppendsAllOrNone}
 use Rattle.tinyvec_slots.proofs.CloneLemmas.{on_err}
 use Rattle.tinyvec.specs.TinyVec.{tiny_items, tiny_len, tiny_spare, tiny_capacity}
-use Rattle.tinyvec.specs.Room.{GrowsFor, RoomGrows, Reserves}
+use Rattle.tinyvec.specs.Room.{GrowsFor, RoomGrows, MakesRoom}
 use Rattle.tinyvec.specs.Refused.{RefusedFor, ClonesBehind, ClonesInRoom, ClonesRefused}
 use Rattle.tinyvec.specs.OnHeap.{PushesClones}
 use Rattle.tinyvec.specs.declared.tiny_vec.TinyVec.{TinyVec}
@@ -80,25 +80,25 @@ module _ {A T X E : Type 0} (g : Clone.Ghosts T) (slots : ℕ) (xs : List T) (r 
 
     -- room for n more was made first
     pub extended_grown : {Y F : Type 0} (n : ℕ) (mid : TinyVec A T) (y : Y) → n ≡ length xs
-        → Reserves {E = F} D slots n (max (2 * tiny_capacity slots old) (tiny_len old + n)) old mid (Ok y)
+        → tiny_items mid ≡ tiny_items old → (IsInline mid → mid ≡ old) → MakesRoom {E = F} GrowsFor D slots (tiny_len old + n) old mid (Ok y)
         → ClonesInRoom g slots xs mid new r → Extended D old new
-    extended_grown n mid y many grown made =
+    extended_grown n mid y many items stays grown made =
         let is : tiny_len old + n ≡ tiny_len old + length xs = ap (λ k. tiny_len old + k) many in record {
           clones = all_or_none g.is_clone xs r (tiny_items old) (tiny_items new)
-              (on_ok_weaker r (subst (λ l. AppendsClones g.is_clone l (tiny_items new) xs) grown.items) made.items) (on_err_weaker r (λ h. h ∙ grown.items) made.kept);
+              (on_ok_weaker r (subst (λ l. AppendsClones g.is_clone l (tiny_items new) xs) items) made.items) (on_err_weaker r (λ h. h ∙ items) made.kept);
           room = room_made D slots _ old new r n mid y is made.place grown made.capacity made.fits
               (on_ok_two r made.items made.spare (λ h spare.
-              tiny_slots_grown D old mid new (length xs) grown.stays made.place (appends_len g.is_clone (tiny_items mid) (tiny_items new) xs h) spare));
+              tiny_slots_grown D old mid new (length xs) stays made.place (appends_len g.is_clone (tiny_items mid) (tiny_items new) xs h) spare));
           succeeds = λ _. made.succeeds;
           refused = on_err_weaker r (λ h. inr (
             granted_then slots _ old mid new _ is made.place made.capacity grown.place grown.grown,
-            (h.0, h.1, λ i. rw (spare_kept old mid new grown.stays made.place i) at h.2 i),
+            (h.0, h.1, λ i. rw (spare_kept old mid new stays made.place i) at h.2 i),
           )) made.refused;
         }
 
   -- room for them was refused
   pub extended_refused : {Y F : Type 0} (D : T → Type 0) (old new : TinyVec A T) (n : ℕ) (e : F) → n ≡ length xs → IsErr r
-      → Reserves {X = Y} D slots n (max (2 * tiny_capacity slots old) (tiny_len old + n)) old new (Err e) → Extended D old new
+      → MakesRoom {X = Y} GrowsFor D slots (tiny_len old + n) old new (Err e) → Extended D old new
   extended_refused D old new n e many err grown = record {
     clones = all_or_none g.is_clone xs r (tiny_items old) (tiny_items new) (never_ok _ r err) (on_err r grown.refused.items);
     room = room_refused D slots _ old new r err (grown.refused.capacity slots) grown.fits;

@@ -1,12 +1,12 @@
 -- Lemmas on what a call leaves of place and capacity.
-use Rattle.std.proofs.Common.{◌≡◌, ℕ, ◌<◌, ◌≤◌, ◌+◌, ◌*◌, max, Result, Ok, Err, List, length, drop, refl, sym, ap, subst, ◌∙◌, arith}
+use Rattle.std.proofs.Common.{◌≡◌, ℕ, ◌<◌, ◌≤◌, ◌+◌, Result, Ok, Err, List, length, drop, refl, sym, ap, subst, ◌∙◌, arith}
 use Rattle.std.specs.Prelude.{OnOk, IsErr}
 use Rattle.std.proofs.Math.Seq.{drop-nil}
 use Rattle.std.proofs.lemmas.Bool.{false≢true}
 use Rattle.tinyvec_slots.specs.Slots.{Slots, SlotRule, items, items_len, spare}
 use Rattle.tinyvec_slots.proofs.CloneLemmas.{on_err}
 use Rattle.tinyvec.specs.TinyVec.{tiny_view, tiny_len, tiny_spare, is_inline, tiny_capacity, IsInline, PlaceRule, TinySlotRule, SameFrame, Becomes, StaysInPlace, Unchanged}
-use Rattle.tinyvec.specs.Room.{Doubles, GrowsFor, Grows, Reserves, RoomGrows, MakesRoom}
+use Rattle.tinyvec.specs.Room.{Doubles, GrowsFor, Grows, RoomGrows, MakesRoom}
 use Rattle.tinyvec.proofs.TinyLemmas.{view_unchanged, slots_taken, taken, tiny_slots_then, tiny_slots_then_framed, never_ok}
 use Rattle.tinyvec.proofs.RefusedLemmas.{place_then}
 use Rattle.tinyvec.specs.View.{in_array, ViewBecomes}
@@ -153,14 +153,14 @@ module _ {A T X E : Type 0} (D : T → Type 0) (slots need : ℕ) (old new : Tin
 
   -- room was granted first, and kept
   pub room_made : {Y F : Type 0} (n : ℕ) (mid : TinyVec A T) (y : Y) → tiny_len old + n ≡ need → is_inline new ≡ is_inline mid
-      → Reserves {E = F} D slots n (max (2 * tiny_capacity slots old) (tiny_len old + n)) old mid (Ok y)
+      → MakesRoom {E = F} GrowsFor D slots (tiny_len old + n) old mid (Ok y)
       → tiny_capacity slots new ≡ tiny_capacity slots mid → tiny_len new ≤ tiny_capacity slots new → OnOk r (TinySlotRule D old new)
       → RoomGrows GrowsFor D slots need old new r
   room_made n mid y is stays made same fits rule = record {
     place = on_ok r (place_then slots need old mid new _ is stays made.place);
     slot_rule = rule;
     capacity = let more = made.capacity in omega (arith, same, more);
-    same_room = λ room. same ∙ ap (tiny_capacity slots) (made.kept (omega (arith, is, room)));
+    same_room = λ room. same ∙ made.same_room (omega (arith, is, room));
     grown = on_ok r (rw (same, sym is) made.grown);
     fits = fits;
   }

@@ -1,9 +1,9 @@
 -- Lemmas on a range that was replaced: where there is room, and of a list that was granted room for n more items first.
-use Rattle.std.proofs.Common.{◌≡◌, ◌∙◌, ℕ, ◌+◌, ◌-◌, ◌*◌, ◌<◌, ◌≤◌, max, List, ◌++◌, take, drop, length, length-append, length-drop, length-take-le, Result, Ok, inl, inr, sym, ap, subst, arith}
+use Rattle.std.proofs.Common.{◌≡◌, ◌∙◌, ℕ, ◌+◌, ◌-◌, ◌<◌, ◌≤◌, List, ◌++◌, take, drop, length, length-append, length-drop, length-take-le, Result, Ok, inl, inr, sym, subst, arith}
 use Rattle.std.proofs.lemmas.Bool.{cases_lt}
 use Rattle.tinyvec_slots.specs.Replacing.{PutsBetween}
 use Rattle.tinyvec.specs.TinyVec.{tiny_len, is_inline, tiny_capacity, PlaceRule, TinySlotRule, Becomes}
-use Rattle.tinyvec.specs.Room.{GrowsFor, RoomGrows, Reserves}
+use Rattle.tinyvec.specs.Room.{GrowsFor, RoomGrows, MakesRoom}
 use Rattle.tinyvec.specs.declared.tiny_vec.TinyVec.{TinyVec}
 use Rattle.tinyvec.proofs.TinyLemmas.{capacity_inline}
 use Rattle.tinyvec.proofs.FrameLemmas.{on_ok}
@@ -40,13 +40,13 @@ module _ {A T : Type 0} (slots n : ℕ) (old mid new : TinyVec A T) (fits : tiny
   )
 
   pub replaced_room : {X E Y F : Type 0} {xs : List T} (D : T → Type 0) (r : Result X E) (y : Y)
-      → Reserves {E = F} D slots n (max (2 * tiny_capacity slots old) (tiny_len old + n)) old mid (Ok y) → Becomes D slots mid new xs
+      → (IsInline mid → mid ≡ old) → MakesRoom {E = F} GrowsFor D slots (tiny_len old + n) old mid (Ok y) → Becomes D slots mid new xs
       → RoomGrows GrowsFor D slots (tiny_len new) old new r
-  replaced_room D r y made stays = record {
+  replaced_room D r y kept made stays = record {
     place = on_ok r (replaced_place made.place stays.place);
-    slot_rule = on_ok r (λ i j. subst (λ v. TinySlotRule D v new) (made.stays (sym stays.place ∙ j)) stays.slot_rule i j);
+    slot_rule = on_ok r (λ i j. subst (λ v. TinySlotRule D v new) (kept (sym stays.place ∙ j)) stays.slot_rule i j);
     capacity = omega (arith, made.capacity, stays.capacity);
-    same_room = λ le. stays.capacity ∙ ap (tiny_capacity slots) (made.kept (as_many (tiny_capacity slots old) fits le));
+    same_room = λ le. stays.capacity ∙ made.same_room (as_many (tiny_capacity slots old) fits le);
     grown = on_ok r (λ less. stays.capacity ∙ subst (λ k. GrowsFor slots k old mid) (sym (exact (omega (arith, less, long, fits)))) made.grown less);
     fits = stays.fits;
   }

@@ -23,6 +23,10 @@ module _ {A T : Type 0} where
   abbrev pub GrowsFor : ℕ → ℕ → TinyVec A T → TinyVec A T → Type 0
   GrowsFor slots need old new = ViewGrowsFor slots need (tiny_view old) (tiny_view new)
 
+  -- if there was less room than `need`, the capacity became `need`
+  abbrev pub GrowsExactly : ℕ → ℕ → TinyVec A T → TinyVec A T → Type 0
+  GrowsExactly slots need = GrowsTo slots need need
+
   -- a call that pushes item by item took `old` to `new`: the list moves only if it outgrows the array
   abbrev pub Grows : (T → Type 0) → ℕ → TinyVec A T → TinyVec A T → Type 0
   Grows D slots old new = ViewGrows D slots (tiny_view old) (tiny_view new)
@@ -69,22 +73,6 @@ module _ {A T X E : Type 0} where
       pub succeeds : need ≤ tiny_capacity slots old → IsOk result
       pub full : OnErr result (tiny_capacity slots old < need)
       pub refused : OnErr result (Unchanged old new)
-
-  -- reserving room for n more items took `old` to `new`, with this result; a list on the heap that grows gets a capacity of `heap`
-  pub record Reserves (D : T → Type 0) (slots n heap : ℕ) (old new : TinyVec A T) (result : Result X E) : Type 0 where
-    pub items : tiny_items new ≡ tiny_items old
-    pub place : OnOk result (PlaceRule slots (tiny_len old + n) old new)
-    pub slot_rule : TinySlotRule D old new
-    pub stays : IsInline new → new ≡ old
-    pub room : OnOk result (tiny_len old + n ≤ tiny_capacity slots new)
-    pub capacity : tiny_capacity slots old ≤ tiny_capacity slots new
-    pub fits : tiny_len new ≤ tiny_capacity slots new
-    pub grown : OnOk result (GrowsTo slots (tiny_len old + n) heap old new)
-    -- if there is room it allocates nothing, and nothing changes; nor does it on failure
-    pub kept : tiny_len old + n ≤ tiny_capacity slots old → new ≡ old
-    pub succeeds : tiny_len old + n ≤ tiny_capacity slots old → IsOk result
-    pub full : OnErr result (tiny_capacity slots old < tiny_len old + n)
-    pub refused : OnErr result (Unchanged old new)
 
   -- a move to the heap took `old` to `new`, with this result
   pub record MovesToHeap (slots : ℕ) (old new : TinyVec A T) (result : Result X E) : Type 0 where

@@ -1,7 +1,7 @@
 //! Room on the heap, and moves between the array and the heap.
 ghost use Rattle.std.specs.Prelude.{◌≡◌, ◌+◌, ◌*◌, ◌<◌, ◌≤◌, max, false, OnOk, OnErr, vec_len, vec_capacity, ◌-◌, ◌↔◌, IsOk, IfOk, IfErr};
 ghost use Rattle.tinyvec.specs.TinyVec.{tiny_items, tiny_len, is_inline, tiny_capacity, tiny_spare, IsInline};
-ghost use Rattle.tinyvec.specs.Room.{Doubles, MakesRoom, Reserves, MovesToHeap, MovesToHeapWithRoom};
+ghost use Rattle.tinyvec.specs.Room.{Doubles, GrowsFor, GrowsExactly, MakesRoom, MovesToHeap, MovesToHeapWithRoom};
 ghost use Rattle.std.specs.Box.{boxed_slice_items};
 ghost use Rattle.tinyvec_slots.specs.Slots.{AreDefaults, items, spare};
 
@@ -27,8 +27,14 @@ impl<A: Array> TinyVec<A> {
     /// already, it allocates nothing.
     #[inline(always)]
     pub fn reserve(&mut self, additional: usize) -> Result<(), AllocError>
-        ensures { Reserves A.Item.is_default A.CAPACITY additional
-            (max (2 * tiny_capacity A.CAPACITY self.old) (tiny_len self.old + additional)) self.old self.new result }
+        ensures items { tiny_items self.new ≡ tiny_items self.old }
+        ensures room { MakesRoom GrowsFor A.Item.is_default A.CAPACITY (tiny_len self.old + additional)
+            self.old self.new result }
+        ensures enough { OnOk result (tiny_len self.old + additional ≤ tiny_capacity A.CAPACITY self.new) }
+
+        // A list that has room, or is inline after the call, is unchanged.
+        ensures kept { tiny_len self.old + additional ≤ tiny_capacity A.CAPACITY self.old → self.new ≡ self.old }
+        ensures stays { IsInline self.new → self.new ≡ self.old }
     {
         if additional <= self.capacity() - self.len() {
             return Ok(());
@@ -41,8 +47,14 @@ impl<A: Array> TinyVec<A> {
     #[inline(never)]
     pub(crate) fn grow(&mut self, n: usize) -> Result<(), AllocError>
         requires { tiny_capacity A.CAPACITY self.old < tiny_len self.old + n }
-        ensures { Reserves A.Item.is_default A.CAPACITY n
-            (max (2 * tiny_capacity A.CAPACITY self.old) (tiny_len self.old + n)) self.old self.new result }
+        ensures items { tiny_items self.new ≡ tiny_items self.old }
+        ensures room { MakesRoom GrowsFor A.Item.is_default A.CAPACITY (tiny_len self.old + n)
+            self.old self.new result }
+        ensures enough { OnOk result (tiny_len self.old + n ≤ tiny_capacity A.CAPACITY self.new) }
+
+        // A list that has room, or is inline after the call, is unchanged.
+        ensures kept { tiny_len self.old + n ≤ tiny_capacity A.CAPACITY self.old → self.new ≡ self.old }
+        ensures stays { IsInline self.new → self.new ≡ self.old }
     {
         // Shows the proof that the list fits.
         let _len = self.len();
@@ -67,15 +79,28 @@ impl<A: Array> TinyVec<A> {
 
     /// The same as `reserve`.
     pub fn try_reserve(&mut self, additional: usize) -> Result<(), AllocError>
-        ensures { Reserves A.Item.is_default A.CAPACITY additional
-            (max (2 * tiny_capacity A.CAPACITY self.old) (tiny_len self.old + additional)) self.old self.new result }
+        ensures items { tiny_items self.new ≡ tiny_items self.old }
+        ensures room { MakesRoom GrowsFor A.Item.is_default A.CAPACITY (tiny_len self.old + additional)
+            self.old self.new result }
+        ensures enough { OnOk result (tiny_len self.old + additional ≤ tiny_capacity A.CAPACITY self.new) }
+
+        // A list that has room, or is inline after the call, is unchanged.
+        ensures kept { tiny_len self.old + additional ≤ tiny_capacity A.CAPACITY self.old → self.new ≡ self.old }
+        ensures stays { IsInline self.new → self.new ≡ self.old }
     {
         self.reserve(additional)
     }
 
     /// Reserves room for `additional` items more, and on the heap for no further ones.
     pub fn reserve_exact(&mut self, additional: usize) -> Result<(), AllocError>
-        ensures reserves { Reserves A.Item.is_default A.CAPACITY additional (tiny_len self.old + additional) self.old self.new result }
+        ensures items { tiny_items self.new ≡ tiny_items self.old }
+        ensures room { MakesRoom GrowsExactly A.Item.is_default A.CAPACITY (tiny_len self.old + additional)
+            self.old self.new result }
+        ensures enough { OnOk result (tiny_len self.old + additional ≤ tiny_capacity A.CAPACITY self.new) }
+
+        // A list that has room, or is inline after the call, is unchanged.
+        ensures kept { tiny_len self.old + additional ≤ tiny_capacity A.CAPACITY self.old → self.new ≡ self.old }
+        ensures stays { IsInline self.new → self.new ≡ self.old }
         ensures exact { OnOk result (tiny_capacity A.CAPACITY self.new
             ≡ max (tiny_capacity A.CAPACITY self.old) (tiny_len self.old + additional)) }
     {
@@ -92,7 +117,14 @@ impl<A: Array> TinyVec<A> {
 
     /// The same as `reserve_exact`.
     pub fn try_reserve_exact(&mut self, additional: usize) -> Result<(), AllocError>
-        ensures reserves { Reserves A.Item.is_default A.CAPACITY additional (tiny_len self.old + additional) self.old self.new result }
+        ensures items { tiny_items self.new ≡ tiny_items self.old }
+        ensures room { MakesRoom GrowsExactly A.Item.is_default A.CAPACITY (tiny_len self.old + additional)
+            self.old self.new result }
+        ensures enough { OnOk result (tiny_len self.old + additional ≤ tiny_capacity A.CAPACITY self.new) }
+
+        // A list that has room, or is inline after the call, is unchanged.
+        ensures kept { tiny_len self.old + additional ≤ tiny_capacity A.CAPACITY self.old → self.new ≡ self.old }
+        ensures stays { IsInline self.new → self.new ≡ self.old }
         ensures exact { OnOk result (tiny_capacity A.CAPACITY self.new
             ≡ max (tiny_capacity A.CAPACITY self.old) (tiny_len self.old + additional)) }
     {

@@ -65,11 +65,11 @@ pub returns-in_err-reserve : goal.returns-in_err-reserve
 returns-in_err-reserve g c =
     let answer = c.from_residual.result in
     let err = c.from_residual.ensures.0 in
-    let grown = c.in_err-reserve.ensures in
+    let grown = c.in_err-reserve.ensures.room in
     let is_len = c.len-len.ensures.value in
     let is_count = c.len-count.ensures.value in
     let more = c.if-count-len.false in record {
-      clones = never_ok _ answer err;
+      items = never_ok _ answer err;
       room = room_refused _ _ _ _ _ answer err (grown.refused.capacity g.A.Array.CAPACITY) grown.fits;
       succeeds = λ fits _. absurd (false≢true (grown.succeeds (omega (arith, fits))));
       refused = on_err answer (inl (omega (arith, grown.full), grown.refused));
@@ -90,8 +90,8 @@ returns-in_err-overwrite-clause-room g c =
     let frame = c.overwrite-2.ensures.frame in
     let same = frame.capacity g.A.Array.CAPACITY in
     room_made g.A.Item.Default.is_default _ _ c.args.self.now _ c.from_residual-in_err-overwrite.result _ c.reserve.new.self _
-    (omega (arith, c.len-len.ensures.value, c.len-count.ensures.value, c.if-count-len.false)) frame.place c.in_ok-reserve.ensures same
-    (omega (arith, c.reserve.ensures.fits, frame.len, same)) (never_ok _ c.from_residual-in_err-overwrite.result c.from_residual-in_err-overwrite.ensures.0)
+    (omega (arith, c.len-len.ensures.value, c.len-count.ensures.value, c.if-count-len.false)) frame.place c.in_ok-reserve.ensures.room same
+    (omega (arith, c.reserve.ensures.room.fits, frame.len, same)) (never_ok _ c.from_residual-in_err-overwrite.result c.from_residual-in_err-overwrite.ensures.0)
 
 pub returns-in_err-overwrite-clause-refused : goal.returns-in_err-overwrite-clause-refused
 returns-in_err-overwrite-clause-refused g c =
@@ -112,7 +112,7 @@ returns-in_err-overwrite-clause-refused g c =
     let frame = c.overwrite-2.ensures.frame in
     let long : m ≡ length olds = omega arith in
     on_err c.from_residual-in_err-overwrite.result (inr (
-      granted_then _ _ _ mid _ _ (omega arith) frame.place (frame.capacity g.A.Array.CAPACITY) c.in_ok-reserve.ensures.place c.in_ok-reserve.ensures.grown,
+      granted_then _ _ _ mid _ _ (omega arith) frame.place (frame.capacity g.A.Array.CAPACITY) c.in_ok-reserve.ensures.room.place c.in_ok-reserve.ensures.room.grown,
       partly_over g.A.Item.Default.is_default g.A.Item.Clone.is_infallible g.A.Item.Clone.is_clone xs c.args.self.now new m h.0 (omega arith)
           (refused_in_front g.A.Item.Clone.is_infallible xs n h.0 h.1) (rw (take-take h.0 n xs early, c.reserve.ensures.items ∙ sym all) at h.2)
           (λ i. none_freed g.A.Item.Default.is_default c.args.self.now new m long
@@ -133,7 +133,7 @@ extend_reserved-requires g c =
         ap length c.as_slice-3.ensures,
         frame.len,
         frame.capacity g.A.Array.CAPACITY,
-        c.in_ok-reserve.ensures.room,
+        c.in_ok-reserve.ensures.enough,
         ap length c.reserve.ensures.items,
         c.len-len.ensures.value,
         c.len-count.ensures.value,
@@ -161,7 +161,7 @@ returns-clause-room g c =
     let ys = take (length xs - c.len-len.result) (drop c.len-len.result xs) in
     let place = made.place ∙ frame.place in
     room_made g.A.Item.Default.is_default _ _ c.args.self.now _ c.extend_reserved.result _ c.reserve.new.self _
-    (omega (arith, c.len-len.ensures.value, c.len-count.ensures.value, c.if-count-len.false)) place c.in_ok-reserve.ensures
+    (omega (arith, c.len-len.ensures.value, c.len-count.ensures.value, c.if-count-len.false)) place c.in_ok-reserve.ensures.room
     (made.capacity ∙ frame.capacity g.A.Array.CAPACITY) made.fits
     (on_ok_two c.extend_reserved.result made.items made.spare (λ items spare.
     let long = appends_len g.A.Item.Clone.is_clone (tiny_items mid) (tiny_items new) ys items in
@@ -186,7 +186,7 @@ returns-clause-refused g c =
     let first : AllZip g.A.Item.Clone.is_clone (take n xs) (tiny_items mid) = rw c.as_slice-2.ensures at c.in_ok-overwrite.ensures.ok in
     on_err_two c.extend_reserved.result made.refused made.kept (λ h kept. inr (
       granted_then _ _ _ c.reserve.new.self _ _ (omega arith) (made.place ∙ frame.place) (made.capacity ∙ frame.capacity g.A.Array.CAPACITY)
-          c.in_ok-reserve.ensures.place c.in_ok-reserve.ensures.grown,
+          c.in_ok-reserve.ensures.room.place c.in_ok-reserve.ensures.room.grown,
       rw (← least) (partly_behind g.A.Item.Default.is_default g.A.Item.Clone.is_infallible g.A.Item.Clone.is_clone xs c.args.self.now new n h.0 is_len
           (refused_behind g.A.Item.Clone.is_infallible xs n h.0 (subst (λ l. RefusedAt g.A.Item.Clone.is_infallible l h.0) others h.1))
           (subst (AllZip g.A.Item.Clone.is_clone (take n xs)) (sym kept) first)

@@ -39,15 +39,17 @@ same g c = elim c.in_default.branch as (λ _. c.in_default.self ≡ c.args.self.
 pub returns-in_err-grow-in_default : goal.returns-in_err-grow-in_default
 returns-in_err-grow-in_default g c =
     let made = extended_refused g.A.Item.Clone _ _ _ _ c.args.self.now _ _ _ refl c.from_residual.ensures.0
-    (rw (same g (goal.at.returns-in_err-grow-in_default g c).In_default) at c.in_err-grow-in_default.ensures) in
+    (rw (same g (goal.at.returns-in_err-grow-in_default g c).In_default) at c.in_err-grow-in_default.ensures.room) in
     record { clones = made.clones; room = made.room; succeeds = made.succeeds; refused = made.refused }
 
 pub extend_reserved-requires : goal.extend_reserved-requires
-extend_reserved-requires g c = record { room = omega (arith, ap length c.grow.ensures.items, c.in_ok-grow-in_default.ensures.room) }
+extend_reserved-requires g c = record { room = omega (arith, ap length c.grow.ensures.items, c.in_ok-grow-in_default.ensures.enough) }
 
 -- what grew has room
 pub returns-in_ok-grow-in_default : goal.returns-in_ok-grow-in_default
 returns-in_ok-grow-in_default g c =
+    let before = same g (goal.at.returns-in_ok-grow-in_default g c).In_default in
+    let grown = c.in_ok-grow-in_default.ensures in
     let made = extended_grown g.A.Item.Clone _ _ _ _ c.args.self.now _ _ _ _ refl
-    (rw (same g (goal.at.returns-in_ok-grow-in_default g c).In_default) at c.in_ok-grow-in_default.ensures) c.extend_reserved.ensures in
+    (rw before at grown.items) (rw before at grown.stays) (rw before at grown.room) c.extend_reserved.ensures in
     record { clones = made.clones; room = made.room; succeeds = made.succeeds; refused = made.refused }

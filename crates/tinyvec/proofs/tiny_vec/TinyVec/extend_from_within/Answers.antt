@@ -33,7 +33,7 @@ module _ (g : _) (c : After-resolve_range-part g) where
 pub returns-in_err-reserve : goal.returns-in_err-reserve
 returns-in_err-reserve g c =
     let made = extended_refused g.A.Item.Clone _ _ _ _ _ _ _ _ (sym (many g (goal.at.returns-in_err-reserve g c).After-resolve_range-part)) c.from_residual.ensures.0
-    c.in_err-reserve.ensures in
+    c.in_err-reserve.ensures.room in
     record { clones = made.clones; room = made.room; succeeds = made.succeeds; refused = made.refused }
 
 pub clone_reserved-requires : goal.clone_reserved-requires
@@ -45,7 +45,7 @@ clone_reserved-requires g c =
     let inside : part.end ≤ length mid = omega (arith, last g at, same) in
     record {
       in_list = (order g at, inside);
-      room = omega (arith, c.in_ok-reserve.ensures.room, same, length-slice_range mid part.start part.end (order g at) inside);
+      room = omega (arith, c.in_ok-reserve.ensures.enough, same, length-slice_range mid part.start part.end (order g at) inside);
     }
 
 pub returns : goal.returns
@@ -56,5 +56,5 @@ returns g c =
     let same : slice_range (tiny_items c.reserve.new.self) cut.start cut.end
     ≡ removed (tiny_items c.args.self.now) (g.R.RangeBounds.start_bound c.args.range) (g.R.RangeBounds.end_bound c.args.range) =
     ap (λ l. slice_range l cut.start cut.end) grown.items ∙ part g at in
-    let made = extended_grown g.A.Item.Clone _ _ _ _ _ _ _ _ _ (sym (many g at)) grown (rw same at c.clone_reserved.ensures) in
+    let made = extended_grown g.A.Item.Clone _ _ _ _ _ _ _ _ _ (sym (many g at)) grown.items grown.stays grown.room (rw same at c.clone_reserved.ensures) in
     record { clones = made.clones; room = made.room; succeeds = made.succeeds; refused = made.refused }

@@ -14,7 +14,7 @@ pub returns-clause-place : goal.returns-clause-place
 returns-clause-place g c =
     let full = c.requires in
     on_ok_weaker c.grow.result (λ rule. false_from_ne_true (is_inline c.grow.new.self) (λ j. let both = rule.0 j in
-    omega (arith, full, c.len-len.ensures.value, both.1, capacity_inline g.A.Array.CAPACITY c.args.self.now both.0))) c.grow.ensures.place
+    omega (arith, full, c.len-len.ensures.value, both.1, capacity_inline g.A.Array.CAPACITY c.args.self.now both.0))) c.grow.ensures.room.place
 
 pub returns-clause-room : goal.returns-clause-room
 returns-clause-room g c =
@@ -22,7 +22,7 @@ returns-clause-room g c =
     let len = c.len-len.ensures in
     let slots = g.A.Array.CAPACITY in
     let old = c.args.self.now in
-    let grown = c.grow.ensures in record {
+    let grown = c.grow.ensures.room in record {
       place = on_ok_weaker c.grow.result (λ out. (λ i. absurd (false≢true (sym out ∙ i)), λ h. absurd (omega (arith, full, h.1, capacity_inline slots old h.0))))
           (returns-clause-place g c);
       slot_rule = grown.slot_rule;

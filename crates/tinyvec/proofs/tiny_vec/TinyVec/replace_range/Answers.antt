@@ -24,4 +24,4 @@ returns-clause-room g c =
     ∙ length-replaced _ _ c.args.replacement.now (tiny_items c.reserve.new.self) order (omega (arith, end, inside, same)) in
     let more = c.saturating_sub-more.ensures in
     replaced_room _ _ _ _ _ (omega (arith, c.len.ensures.fits, c.len.ensures.value)) (omega (arith, long, same, more, end, inside)) (λ some. omega (arith, long, same, more, end, inside, some))
-    _ _ _ c.in_ok-reserve.ensures c.replace_reserved.ensures
+    _ _ _ c.in_ok-reserve.ensures.stays c.in_ok-reserve.ensures.room c.replace_reserved.ensures

@@ -3,9 +3,9 @@ use Rattle.tinyvec_text.proofs.Lists.{text_utf8, text_kept, text_same}
 use Rattle.tinyvec_text.proofs.inline_text.InlineText.reserve.Goals as goal
 
 pub invariant_of-self : goal.invariant_of-self
-invariant_of-self g c = text_same c.self.inside.list c.reserve.new.self c.in_err-reserve.ensures.refused c.self.invariant
+invariant_of-self g c = text_same c.self.inside.list c.reserve.new.self c.in_err-reserve.ensures.room.refused c.self.invariant
 
 pub invariant_of-self-2 : goal.invariant_of-self-2
 invariant_of-self-2 g c =
     let told = c.in_ok-reserve.ensures in
-    text_kept c.self.inside.list c.reserve.new.self (λ i. (told.place.0 i).0) told.slot_rule c.self.invariant (subst IsUtf8 (sym told.items) (text_utf8 c.self.inside.list c.self.invariant))
+    text_kept c.self.inside.list c.reserve.new.self (λ i. (told.room.place.0 i).0) told.room.slot_rule c.self.invariant (subst IsUtf8 (sym told.items) (text_utf8 c.self.inside.list c.self.invariant))
