@@ -2,6 +2,7 @@
 use Rattle.std.specs.Prelude.{◌≡◌, ℕ, ◌+◌, ◌≤◌, Bool, if◌then◌else◌, List, length, Option, Result, IsOk, OnErr, IfErr}
 use Rattle.std.specs.Borrow.{GName}
 use Rattle.std.specs.declared.iter.Fuse.{Fuse}
+use Rattle.std.specs.declared.iter.Iterator as Iterator
 use Rattle.std.specs.Iterator.Adapters.{fuse_done, fuse_steps}
 use Rattle.tinyvec_slots.specs.Fused.{FusedCan, fused_rest}
 use Rattle.tinyvec_slots.specs.Gap.{gap_len, gap_view, GapCanStep}
@@ -86,21 +87,21 @@ module _ {A I T : Type 0} where
     SpliceStepsBack = SplicesBack splice_view SpliceKeeps gives
 
 -- `finish` of s returned the result and left `new`
-pub record FinishesVec {A I T : Type 0} (D : T → Type 0) (slots : ℕ) (can : I → Type 0) (gives : I → Option T → I → Type 0)
+pub record SpliceEnds {A I T : Type 0} (D : T → Type 0) (slots : ℕ) (iter : Iterator.Ghosts I T)
     (s : TinyVecSplice A (Fuse I) T) (result : Result Unit (SpliceRest T (Fuse I))) (new : TinyVec A T) : Type 0 where
-  pub finished : Finishes (fuse_steps gives) (tiny_capacity slots new) (splice_view s) result (tiny_items new)
+  pub finished : Finishes (fuse_steps iter.next_gives) (tiny_capacity slots new) (splice_view s) result (tiny_items new)
   pub grows : Grows D slots (splice_vec s) new
   pub no_shorter : OnErr result (tiny_len (splice_vec s) ≤ tiny_len new)
   -- the returned replacement can be iterated further
-  pub goes_on : IfErr result (λ refused. FusedCan can refused.rest)
+  pub goes_on : IfErr result (λ refused. FusedCan iter.can_next refused.rest)
   -- The same of a replacement that shows its items, and of one whose items are known, as those of a `Vec`, a range or a slice. If
   -- there is room for them it allocates nothing.
-  pub listed : (rest : I → List T) → ShowsItems gives rest
+  pub listed : (rest : I → List T) → ShowsItems iter.next_gives rest
       → FinishesWith (fused_rest rest) (tiny_capacity slots new) (splice_view s) result (tiny_items new)
-  pub succeeds : (rest : I → List T) → ShowsItems gives rest
+  pub succeeds : (rest : I → List T) → ShowsItems iter.next_gives rest
       → length (splice_front s) + length (fused_rest rest (splice_replacement s)) + length (splice_back s)
       ≤ tiny_capacity slots (splice_vec s) → IsOk result
-  pub known : (xs : List T) → FusedYields gives (splice_replacement s) xs
+  pub known : (xs : List T) → FusedYields iter.next_gives (splice_replacement s) xs
       → PutsBetween (tiny_capacity slots (splice_vec s)) (splice_front s) xs (splice_back s) result (tiny_items new)
 
 -- the number of items that moved to the heap: only a full array moves

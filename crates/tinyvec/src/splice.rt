@@ -238,7 +238,7 @@ where
 }
 
 impl<'a, A: Array, I: Iterator<Item = A::Item>> TinyVecSplice<'a, A, Fuse<I>> {
-    ghost use Rattle.tinyvec.specs.TinyVecSplice.{splice_view, splice_front, splice_back, splice_replacement, splice_vec, splice_touches, SpliceCanStep, SpliceCanNext, FinishesVec};
+    ghost use Rattle.tinyvec.specs.TinyVecSplice.{splice_view, splice_front, splice_back, splice_replacement, splice_vec, splice_touches, SpliceCanStep, SpliceCanNext, SpliceEnds};
 
     /// The number of touches since `splice`. A touch takes the item of one slot, which may leave a default there, places
     /// one item, or swaps two slots. An item that moves to the heap is a touch too.
@@ -254,7 +254,7 @@ impl<'a, A: Array, I: Iterator<Item = A::Item>> TinyVecSplice<'a, A, Fuse<I>> {
     pub fn finish(self) -> Result<(), SpliceRest<A::Item, Fuse<I>>>
         requires can { SpliceCanNext I.can_next self }
         requires finite { FusedFinite I.remaining (splice_replacement self) }
-        ensures { FinishesVec A.Item.is_default A.CAPACITY I.can_next I.next_gives self.entry result self.exit.0.now }
+        ensures { SpliceEnds A.Item.is_default A.CAPACITY I.Iterator self.entry result self.exit.0.now }
     {
         let (finished, _touches) = self.finish_counted();
         finished
@@ -268,7 +268,7 @@ impl<'a, A: Array, I: Iterator<Item = A::Item>> TinyVecSplice<'a, A, Fuse<I>> {
         ensures touches { FinishTouches (splice_view self.entry) (tiny_len (splice_vec self.entry))
             (items_moved A.CAPACITY (is_inline (splice_vec self.entry)) (is_inline self.exit.0.now))
             (tiny_items self.exit.0.now) result.1 }
-        ensures finishes { FinishesVec A.Item.is_default A.CAPACITY I.can_next I.next_gives self.entry result.0 self.exit.0.now }
+        ensures finish { SpliceEnds A.Item.is_default A.CAPACITY I.Iterator self.entry result.0 self.exit.0.now }
     {
         let TinyVecSplice {
             vec,

@@ -1,9 +1,10 @@
 -- Examples of a splice s of `[1, 2, 3, 4]` over 1..3, from which nothing was taken, and of one t that a call leaves.
 use Rattle.std.proofs.Common.{◌≡◌, ℕ, ◌≤◌, List, [], ◌∷◌, ◌++◌, Option, Some, Result, refl, rules}
 use Rattle.std.specs.declared.iter.Fuse.{Fuse}
+use Rattle.std.specs.declared.iter.Iterator as Iterator
 use Rattle.tinyvec_slots.specs.Touches.{touch_count}
 use Rattle.tinyvec.specs.declared.splice.TinyVecSplice.{TinyVecSplice}
-use Rattle.tinyvec.specs.TinyVecSplice.{splice_view, splice_front, splice_left, splice_len, splice_back, splice_replacement, splice_touches, splice_vec, splice_lender, SpliceBegins, SpliceCanStep, SpliceCanNext, SpliceSteps, SpliceStepsBack, FinishesVec}
+use Rattle.tinyvec.specs.TinyVecSplice.{splice_view, splice_front, splice_left, splice_len, splice_back, splice_replacement, splice_touches, splice_vec, splice_lender, SpliceBegins, SpliceCanStep, SpliceCanNext, SpliceSteps, SpliceStepsBack, SpliceEnds}
 use Rattle.tinyvec.specs.TinyVec.{tiny_items, tiny_len, tiny_capacity}
 use Rattle.tinyvec_words.proofs.Shown.{D}
 use Rattle.tinyvec.specs.declared.tiny_vec.TinyVec.{TinyVec}
@@ -52,9 +53,9 @@ module _ (A : Type 0) (s t : TinyVecSplice A (Fuse (List ℕ)) ℕ) (vec : tiny_
   pub example-SpliceCanNext : (can : List ℕ → Type 0) → SpliceCanNext can s → SpliceCanStep s
   example-SpliceCanNext can h = h.0
 
-  pub example-FinishesVec : (can : List ℕ → Type 0) (gives : List ℕ → Option ℕ → List ℕ → Type 0) (r : Result Unit (SpliceRest ℕ (Fuse (List ℕ)))) (v : TinyVec A ℕ)
-      → FinishesVec D 4 can gives s r v → tiny_len v ≤ tiny_capacity 4 v
-  example-FinishesVec can gives r v h = h.finished.fits
+  pub example-SpliceEnds : (iter : Iterator.Ghosts (List ℕ) ℕ) (r : Result Unit (SpliceRest ℕ (Fuse (List ℕ)))) (v : TinyVec A ℕ)
+      → SpliceEnds D 4 iter s r v → tiny_len v ≤ tiny_capacity 4 v
+  example-SpliceEnds iter r v h = h.finished.fits
 
   pub example-SpliceSteps : (gives : Fuse (List ℕ) → Option ℕ → Fuse (List ℕ) → Type 0) → SpliceSteps gives s (Some 2) t → splice_left s ≡ 2 ∷ splice_left t
   example-SpliceSteps gives h = h.0.left

@@ -2,8 +2,8 @@ use Rattle.std.proofs.Common.{rules}
 use Rattle.tinyvec_slots.proofs.ReplacingLemmas.{finished_known}
 use Rattle.tinyvec.proofs.splice.TinyVecSplice+A+Fuse+I.finish_counted.Goals as goal
 
-pub returns-clause-finishes : goal.returns-clause-finishes
-returns-clause-finishes g c =
+pub returns-clause-finish : goal.returns-clause-finish
+returns-clause-finish g c =
     let done = c.splice_finish.ensures in record {
       finished = search rules;
       grows = search rules;
