@@ -11,7 +11,7 @@ use Rattle.std.proofs.lemmas.Result.{on_ok_weaker, on_err_weaker}
 use Rattle.tinyvec_slots.specs.Slots.{Slots, SlotRule, items, items_len, spare}
 use Rattle.tinyvec_slots.specs.Clones.{ClonesOver, AddsClones, AppendsAllOrNone}
 use Rattle.tinyvec_slots.proofs.CloneLemmas.{on_err}
-use Rattle.tinyvec.specs.TinyVec.{tiny_items, tiny_len, tiny_spare, tiny_capacity}
+use Rattle.tinyvec.specs.TinyVec.{tiny_items, tiny_len, tiny_spare, tiny_capacity, IsInline}
 use Rattle.tinyvec.specs.Room.{GrowsFor, RoomGrows, MakesRoom}
 use Rattle.tinyvec.specs.Refused.{RefusedFor, ClonesBehind, ClonesInRoom, ClonesRefused}
 use Rattle.tinyvec.specs.OnHeap.{PushesClones}

@@ -2,7 +2,7 @@
 use Rattle.std.proofs.Common.{◌≡◌, ◌∙◌, ℕ, ◌+◌, ◌-◌, ◌<◌, ◌≤◌, List, ◌++◌, take, drop, length, length-append, length-drop, length-take-le, Result, Ok, inl, inr, sym, subst, arith}
 use Rattle.std.proofs.lemmas.Bool.{cases_lt}
 use Rattle.tinyvec_slots.specs.Replacing.{PutsBetween}
-use Rattle.tinyvec.specs.TinyVec.{tiny_len, is_inline, tiny_capacity, PlaceRule, TinySlotRule, Becomes}
+use Rattle.tinyvec.specs.TinyVec.{tiny_len, is_inline, tiny_capacity, PlaceRule, TinySlotRule, Becomes, IsInline}
 use Rattle.tinyvec.specs.Room.{GrowsFor, RoomGrows, MakesRoom}
 use Rattle.tinyvec.specs.declared.tiny_vec.TinyVec.{TinyVec}
 use Rattle.tinyvec.proofs.TinyLemmas.{capacity_inline}
