@@ -10,4 +10,4 @@ on_success Q (Err e) h f = tt
 pub returns : goal.returns
 returns g c =
     let h = c.extend.ensures.items.listed (λ left. left) (λ s r t step. step) in
-    on_success _ c.extend.result h.3 (λ all. h.4 ∙ ap (λ l. l ++ h.1) c.requires ∙ sym all ∙ h.2.0)
+    on_success _ c.extend.result h.3 (λ all. h.4 ∙ ap (λ l. l ++ h.1) c.requires ∙ sym all ∙ h.2.rest)
