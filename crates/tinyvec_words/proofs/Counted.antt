@@ -1,9 +1,6 @@
 -- Examples of counted faults.
-use Rattle.std.proofs.Common.{◌≡◌, ℕ, [], ◌∷◌, Some, Ok, Err, Result, refl, rules, arith}
+use Rattle.std.proofs.Common.{◌≡◌, ℕ, [], ◌∷◌, Some, Ok, Result, refl, rules, arith}
 use Rattle.tinyvec_io.specs.Counted.{CountedView, CountsFault, Reported, Retries, is_write_fault, AppendsFront, ConsumesFront}
-
-abbrev pub failed : Result ℕ Unit
-failed = Err _
 
 abbrev pub wrote : ℕ → Result ℕ Unit
 wrote count = Ok count
@@ -24,7 +21,7 @@ example-CountsFault = record { exact = refl; grows = omega arith }
 pub example-is_write_fault : is_write_fault (wrote 0) (7 ∷ []) ≡ true
 example-is_write_fault = refl
 
-pub example-Retries : Retries 2 3 (wrote 0)
+pub example-Retries : Retries {T = ℕ} 2 3 (Ok 0)
 example-Retries = record { grows = omega arith; fault = tt; retried = tt }
 
 pub example-AppendsFront : AppendsFront (Some (1 ∷ [])) (Some (1 ∷ 2 ∷ [])) (2 ∷ 3 ∷ [])
