@@ -1,5 +1,5 @@
 -- Examples of counted faults.
-use Rattle.std.proofs.Common.{◌≡◌, ℕ, [], ◌∷◌, Some, Ok, Result, refl, rules, arith}
+use Rattle.std.proofs.Common.{◌≡◌, ℕ, true, [], ◌∷◌, Some, Ok, Result, refl, rules, arith}
 use Rattle.tinyvec_io.specs.Counted.{CountedView, CountsFault, Reported, Retries, is_write_fault, AppendsFront, ConsumesFront}
 
 abbrev pub wrote : ℕ → Result ℕ Unit
