@@ -136,8 +136,8 @@ fn clone_of<T: Number, const N: usize>(
     x: u64,
 ) -> ArrayVec<[T; N]> {
     let vec = if x % 2 == 0 { even } else { odd };
-    match vec.clone() {
-        Ok(copy) => copy,
-        Err(_) => ArrayVec::new(),
-    }
+    let Ok(copy) = vec.clone() else {
+        return ArrayVec::new();
+    };
+    copy
 }

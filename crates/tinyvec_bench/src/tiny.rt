@@ -161,8 +161,8 @@ fn clone_of<T: Number, const N: usize>(
     x: u64,
 ) -> TinyVec<[T; N]> {
     let vec = if x % 2 == 0 { even } else { odd };
-    match vec.clone() {
-        Ok(copy) => copy,
-        Err(_) => TinyVec::new(alloc),
-    }
+    let Ok(copy) = vec.clone() else {
+        return TinyVec::new(alloc);
+    };
+    copy
 }
