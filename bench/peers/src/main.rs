@@ -5,6 +5,7 @@
 
 mod benchmarks;
 mod comparing;
+mod dates;
 mod dns_query;
 mod fnv;
 mod form;

@@ -2,7 +2,7 @@
 
 use crate::growth::{of_arrays, of_lists};
 use crate::report::Report;
-use crate::rows::{of_bytes, of_forms, of_heap, of_inline, of_slices, of_spilling, of_texts, of_words};
+use crate::rows::{of_bytes, of_dates, of_forms, of_heap, of_inline, of_slices, of_spilling, of_texts, of_words};
 
 /// The lengths of a list that grows.
 const LENGTHS: [usize; 10] = [4, 16, 64, 256, 1024, 4096, 16384, 65536, 262144, 1048576];
@@ -87,18 +87,24 @@ pub fn rows_of(peer: Option<&str>, report: Report) -> bool {
             growing!(report, tinyvec_tiny);
             of_forms::<16>(&report);
             of_forms::<1024>(&report);
+            of_dates::<tinyvec::TinyVec<[u8; 64]>>(&report);
         }
         Some("smallvec") => {
             fixed!(report, smallvec);
             growing!(report, smallvec);
+            of_dates::<smallvec::SmallVec<[u8; 64]>>(&report);
         }
-        Some("arrayvec") => fixed!(report, arrayvec),
+        Some("arrayvec") => {
+            fixed!(report, arrayvec);
+            of_dates::<arrayvec::ArrayString<64>>(&report);
+        }
         Some("vec") => {
             fixed!(report, vec_of);
             growing!(report, vec_of);
             of_texts(&report, 4);
             of_texts(&report, 16);
             of_texts(&report, 64);
+            of_dates::<String>(&report);
         }
         _ => return false,
     }

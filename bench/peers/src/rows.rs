@@ -2,6 +2,7 @@
 
 use crate::benchmarks::*;
 use crate::comparing::{compare, equal, hash};
+use crate::dates::{text_iso_date, text_mail_date, Letters};
 use crate::form::{borsh_read, borsh_write};
 use crate::growing::Growing;
 use crate::printing::{debug_print, Text};
@@ -179,4 +180,11 @@ pub fn of_texts(report: &Report, count: usize) {
     report.row("text_push_str_spilled", count, |x| text_push_str(&mut made, text, x));
     report.row("text_push", count, |x| text_push(&mut made, text, x));
     report.row("text_push_spilled", count, |x| text_push(&mut made, text, x));
+}
+
+/// Dates in a text with room for 64 bytes.
+pub fn of_dates<L: Letters>(report: &Report) {
+    let mut made = L::default();
+    report.row("text_mail_date", 64, |x| text_mail_date(&mut made, x));
+    report.row("text_iso_date", 64, |x| text_iso_date(&mut made, x));
 }

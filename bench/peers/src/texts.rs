@@ -18,8 +18,8 @@ pub fn text_push(made: &mut String, text: &str, x: u64) -> u64 {
     look_at(made.as_bytes(), x)
 }
 
-// How many bytes there are, one of them and `x`, added up.
-fn look_at(bytes: &[u8], x: u64) -> u64 {
+/// How many bytes there are, one of them and `x`, added up.
+pub fn look_at(bytes: &[u8], x: u64) -> u64 {
     let byte = bytes.get((x % 64) as usize).map_or(0, |b| *b as u64);
     x.wrapping_add(byte).wrapping_add(bytes.len() as u64)
 }

@@ -1,5 +1,6 @@
 //! Every row at every capacity, one call a line: `bench/kit.py` leaves out the lines of rows that other vectors lack.
 
+use crate::dates::of_dates;
 use crate::form::of_forms;
 use crate::growth::{of_arrays, of_lists};
 use crate::report::Report;
@@ -57,6 +58,7 @@ pub fn all_rows<R: Runtime>(report: &mut Report<'_, R>, alloc: Global) -> io::Re
     of_texts::<R, 2>(report, InlineText::new(alloc), alloc, 4);
     of_texts::<R, 8>(report, InlineText::new(alloc), alloc, 16);
     of_texts::<R, 32>(report, InlineText::new(alloc), alloc, 64);
+    of_dates::<R, 64>(report, InlineText::new(alloc), alloc);
     Ok(())
 }
 

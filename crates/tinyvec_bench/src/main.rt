@@ -7,6 +7,7 @@ mod all;
 mod arrays;
 mod comparing;
 mod cutting;
+mod dates;
 mod edits;
 mod fnv;
 mod form;

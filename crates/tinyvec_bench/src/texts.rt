@@ -82,8 +82,8 @@ fn text_push<const N: usize>(alloc: Global, made: &mut InlineText<N>, text: &str
     look_at(made.as_bytes(), x)
 }
 
-// How many bytes there are, one of them and `x`, added up.
-fn look_at(bytes: &[u8], x: u64) -> u64 {
+/// How many bytes there are, one of them and `x`, added up.
+pub fn look_at(bytes: &[u8], x: u64) -> u64 {
     let byte = match bytes.get((x % 64) as usize) {
         Some(b) => *b as u64,
         None => 0,
