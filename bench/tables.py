@@ -23,6 +23,7 @@ GROUPS = {
 # Peers that have another name than their program's, in all groups or in one.
 NAMES = {
     "inline": "smallvec", ("inline", "`ArrayVec`"): "arrayvec", ("inline", "`InlineText`"): "ArrayString",
+    ("arrayvec", "`InlineText`"): "ArrayString",
     "std": "Vec", ("std", "`InlineText`"): "String", "vec": "Vec", ("vec", "`InlineText`"): "String",
 }
 
