@@ -52,17 +52,17 @@ fn text_mail_date<const N: usize>(alloc: Global, made: &mut InlineText<N>, x: u6
 // Not inlined, as a printer that has several callers. If a text refused a piece, the checksum would differ.
 #[inline(never)]
 fn push_mail_date<const N: usize>(made: &mut InlineText<N>, n: u8) {
-    let _weekday = made.push_str(weekday(n));
-    let _comma = made.push_str(", ");
+    let _ = made.push_str(weekday(n));
+    let _ = made.push_str(", ");
     push_two::<N>(made, n);
-    let _space = made.push(' ');
-    let _month = made.push_str(month(n));
-    let _space = made.push(' ');
+    let _ = made.push(' ');
+    let _ = made.push_str(month(n));
+    let _ = made.push(' ');
     push_two::<N>(made, 20);
     push_two::<N>(made, n);
-    let _space = made.push(' ');
+    let _ = made.push(' ');
     push_time::<N>(made, n);
-    let _zone = made.push_str(" +0000");
+    let _ = made.push_str(" +0000");
 }
 
 // Makes a new text, and prints a date as `2024-07-13T15:09:59Z`.
@@ -77,27 +77,27 @@ fn text_iso_date<const N: usize>(alloc: Global, made: &mut InlineText<N>, x: u64
 fn push_iso_date<const N: usize>(made: &mut InlineText<N>, n: u8) {
     push_two::<N>(made, 20);
     push_two::<N>(made, n);
-    let _dash = made.push('-');
+    let _ = made.push('-');
     push_two::<N>(made, n);
-    let _dash = made.push('-');
+    let _ = made.push('-');
     push_two::<N>(made, n);
-    let _t = made.push('T');
+    let _ = made.push('T');
     push_time::<N>(made, n);
-    let _z = made.push('Z');
+    let _ = made.push('Z');
 }
 
 fn push_time<const N: usize>(made: &mut InlineText<N>, n: u8) {
     push_two::<N>(made, n);
-    let _colon = made.push(':');
+    let _ = made.push(':');
     push_two::<N>(made, n);
-    let _colon = made.push(':');
+    let _ = made.push(':');
     push_two::<N>(made, n);
 }
 
 // The last two digits of `n`.
 fn push_two<const N: usize>(made: &mut InlineText<N>, n: u8) {
-    let _tens = made.push((b'0' + n / 10 % 10) as char);
-    let _ones = made.push((b'0' + n % 10) as char);
+    let _ = made.push((b'0' + n / 10 % 10) as char);
+    let _ = made.push((b'0' + n % 10) as char);
 }
 
 fn weekday(n: u8) -> &'static str {

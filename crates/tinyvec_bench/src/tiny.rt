@@ -132,8 +132,8 @@ fn two_pushes<T: Number, const N: usize>(
     x: u64,
 ) -> TinyVec<[T; N]> {
     let mut vec = TinyVec::new(alloc);
-    let _first = vec.push(T::of(x));
-    let _second = vec.push(T::of(x));
+    let _ = vec.push(T::of(x));
+    let _ = vec.push(T::of(x));
     vec
 }
 
@@ -147,8 +147,8 @@ fn two_pushes_on_heap<T: Number, const N: usize>(
     let Ok(mut vec) = TinyVec::with_capacity(alloc, N.saturating_add(1)) else {
         return TinyVec::new(alloc);
     };
-    let _first = vec.push(T::of(x));
-    let _second = vec.push(T::of(x));
+    let _ = vec.push(T::of(x));
+    let _ = vec.push(T::of(x));
     vec
 }
 
