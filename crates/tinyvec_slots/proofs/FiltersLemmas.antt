@@ -3,10 +3,9 @@ use Rattle.std.proofs.Common.{cond, ◌⊎◌, inl, inr, ◌≡◌, ℕ, zero, s
 use Rattle.std.proofs.lemmas.List.{drop_more, get_or-set_same, set-get_or, take-set-le, take-set, take-take, take_more_set, get_or-take, set_comm}
 use Rattle.std.proofs.lemmas.List.Edits.{swap_is}
 use Rattle.std.proofs.lemmas.Bool.{cases_lt}
-use Rattle.std.proofs.RetainMut.{RetainMutInvariant, sift_on, DedupInvariant, merge_on}
+use Rattle.tinyvec_slots.proofs.LastStateLemmas.{RetainMutInvariant, sift_on, DedupInvariant, merge_on}
 use Rattle.std.specs.List.{items_where_true}
-use Rattle.std.specs.List.Retain.{RetainsInTurn, IsFiltered}
-use Rattle.tinyvec_slots.specs.Filters.{AsksPair}
+use Rattle.tinyvec_slots.specs.Filters.{AsksPair, RetainsTo, IsFilteredTo}
 
 -- after a swap of k and i, what stood at i stands behind the first k items, and those past i are the same
 module _ {X : Type 0} (ys : List X) (k i : ℕ) (x : X) (le : k ≤ i) (lt : i < length ys) (is : x ≡ get_or ys i x) where
@@ -32,15 +31,15 @@ module _ {X : Type 0} (ys : List X) (k i : ℕ) (x : X) (le : k ≤ i) (lt : i <
   pub item_at : take 1 (drop i ys) ≡ x ∷ []
   item_at = ap (take 1) (drop_more ys i x lt) ∙ ap (λ y. y ∷ []) (sym is)
 
-module _ {S X : Type 0} (R : S → X → Bool → S → X → Type 0) where
+module _ {S X : Type 0} (R : S → X → Bool → S → X → Type 0) (last : S) where
   -- the invariant reads the first k items and those from i on
   retain_moved : (s₀ : S) (xs : List X) (s : S) (ys zs : List X) (k i : ℕ) → drop i zs ≡ drop i ys → take k zs ≡ take k ys
-      → RetainMutInvariant R s₀ xs s ys k i → RetainMutInvariant R s₀ xs s zs k i
+      → RetainMutInvariant R last s₀ xs s ys k i → RetainMutInvariant R last s₀ xs s zs k i
   retain_moved s₀ xs s ys zs k i tail front h = (tail ∙ h.0, λ rest g. rw front (h.1 rest g))
 
   -- a turn of `retain_mut` at i, with k items kept so far, where the question left y, and the list was then moved to zs
   module _ (s₀ : S) (xs : List X) (s t : S) (ys zs : List X) (k i : ℕ) (x y : X) (le : k ≤ i) (lt : i < length ys)
-      (is : x ≡ get_or ys i x) (h : RetainMutInvariant R s₀ xs s ys k i)
+      (is : x ≡ get_or ys i x) (h : RetainMutInvariant R last s₀ xs s ys k i)
       (behind : drop (i + 1) zs ≡ drop (i + 1) (set ys i y)) (before : take k zs ≡ take k (set ys i y)) where
     here : y ≡ get_or (set ys i y) i y
     here = sym (get_or-set_same ys i y y lt)
@@ -51,16 +50,16 @@ module _ {S X : Type 0} (R : S → X → Bool → S → X → Type 0) where
     same_behind : drop (i + 1) zs ≡ drop (i + 1) (set (set ys i y) k y)
     same_behind = behind ∙ sym (drop-set-lt (i + 1) (set ys i y) k y (omega arith))
 
-    pub keeps_item : take (k + 1) zs ≡ take k (set ys i y) ++ take 1 (drop i (set ys i y)) → R s x true t y → RetainMutInvariant R s₀ xs t zs (k + 1) (i + 1)
+    pub keeps_item : take (k + 1) zs ≡ take k (set ys i y) ++ take 1 (drop i (set ys i y)) → R s x true t y → RetainMutInvariant R last s₀ xs t zs (k + 1) (i + 1)
     keeps_item moved asked =
         retain_moved s₀ xs t (set (set ys i y) k y) zs (k + 1) (i + 1) same_behind
         (moved ∙ ap (λ l. take k (set ys i y) ++ l) (item_at (set ys i y) k i y le within here) ∙ sym (take_more_set (set ys i y) k y (omega (arith, within))))
-        (sift_on R s₀ xs s t ys k i x y le lt is h true asked)
+        (sift_on R last s₀ xs s t ys k i x y le lt is h true asked)
 
-    pub drops_item : R s x false t y → RetainMutInvariant R s₀ xs t zs k (i + 1)
+    pub drops_item : R s x false t y → RetainMutInvariant R last s₀ xs t zs k (i + 1)
     drops_item asked =
         retain_moved s₀ xs t (set (set ys i y) k y) zs k (i + 1) same_behind (before ∙ sym (take-set (set ys i y) k y))
-        (sift_on R s₀ xs s t ys k i x y le lt is h false asked)
+        (sift_on R last s₀ xs s t ys k i x y le lt is h false asked)
 
 module _ {S X : Type 0} (R : S → X → Bool → S → Type 0) where
   -- a question that leaves the item as it was
@@ -73,37 +72,36 @@ module _ {S X : Type 0} (R : S → X → Bool → S → Type 0) where
   chosen false bs x y xs ys zs is same rest = is ∙ rest
 
   -- then what stays is the items that were answered with `true`
-  pub filtered : (s : S) (xs ys : List X) → RetainsInTurn OnlyAsks s xs ys → IsFiltered R s xs ys
-  filtered s [] ys h = ([], s, refl, refl, h)
-  filtered s (x ∷ xs) ys h =
-      let rest = filtered h.1 xs h.4 h.5 in (
+  pub filtered_to : (last s : S) (xs ys : List X) → RetainsTo OnlyAsks s xs ys last → IsFilteredTo R s xs ys last
+  filtered_to last s [] ys h = ([], refl, sym h.1, h.0)
+  filtered_to last s (x ∷ xs) ys h =
+      let rest = filtered_to last h.1 xs h.4 h.5 in (
         h.0 ∷ rest.0,
-        rest.1,
-        ap suc rest.2,
-        (h.1, h.3.0, rest.3),
-        chosen h.0 rest.0 x h.2 xs ys h.4 h.6 h.3.1 rest.4,
+        ap suc rest.1,
+        (h.1, h.3.0, rest.2),
+        chosen h.0 rest.0 x h.2 xs ys h.4 h.6 h.3.1 rest.3,
       )
 
   -- a turn of `retain` at i
-  module _ (s₀ : S) (xs : List X) (s t : S) (ys zs : List X) (k i : ℕ) (x : X) (le : k ≤ i) (lt : i < length ys)
-      (is : x ≡ get_or ys i x) (h : RetainMutInvariant OnlyAsks s₀ xs s ys k i)
+  module _ (last s₀ : S) (xs : List X) (s t : S) (ys zs : List X) (k i : ℕ) (x : X) (le : k ≤ i) (lt : i < length ys)
+      (is : x ≡ get_or ys i x) (h : RetainMutInvariant OnlyAsks last s₀ xs s ys k i)
       (behind : drop (i + 1) zs ≡ drop (i + 1) ys) (before : take k zs ≡ take k ys) where
     unchanged : ys ≡ set ys i x
     unchanged = sym (ap (set ys i) is ∙ set-get_or ys i x)
 
-    pub keeps_shown : take (k + 1) zs ≡ take k ys ++ take 1 (drop i ys) → R s x true t → RetainMutInvariant OnlyAsks s₀ xs t zs (k + 1) (i + 1)
+    pub keeps_shown : take (k + 1) zs ≡ take k ys ++ take 1 (drop i ys) → R s x true t → RetainMutInvariant OnlyAsks last s₀ xs t zs (k + 1) (i + 1)
     keeps_shown moved asked =
-        keeps_item OnlyAsks s₀ xs s t ys zs k i x x le lt is h (behind ∙ ap (drop (i + 1)) unchanged) (before ∙ ap (take k) unchanged)
+        keeps_item OnlyAsks last s₀ xs s t ys zs k i x x le lt is h (behind ∙ ap (drop (i + 1)) unchanged) (before ∙ ap (take k) unchanged)
         (moved ∙ ap (λ l. take k l ++ take 1 (drop i l)) unchanged) (asked, refl)
 
-    pub drops_shown : R s x false t → RetainMutInvariant OnlyAsks s₀ xs t zs k (i + 1)
+    pub drops_shown : R s x false t → RetainMutInvariant OnlyAsks last s₀ xs t zs k (i + 1)
     drops_shown asked =
-        drops_item OnlyAsks s₀ xs s t ys zs k i x x le lt is h (behind ∙ ap (drop (i + 1)) unchanged) (before ∙ ap (take k) unchanged) (asked, refl)
+        drops_item OnlyAsks last s₀ xs s t ys zs k i x x le lt is h (behind ∙ ap (drop (i + 1)) unchanged) (before ∙ ap (take k) unchanged) (asked, refl)
 
-module _ {S X : Type 0} (R : S → X → X → Bool → S → X → X → Type 0) where
+module _ {S X : Type 0} (R : S → X → X → Bool → S → X → X → Type 0) (last : S) where
   -- the invariant reads the first k items and those from i on
   dedup_moved : (s₀ : S) (xs : List X) (s : S) (ys zs : List X) (k i : ℕ) → 0 < k → drop i zs ≡ drop i ys → take k zs ≡ take k ys
-      → DedupInvariant R s₀ xs s ys k i → DedupInvariant R s₀ xs s zs k i
+      → DedupInvariant R last s₀ xs s ys k i → DedupInvariant R last s₀ xs s zs k i
   dedup_moved s₀ xs s ys zs k i pos tail front h =
       let less = sym (take-take (k - 1) k zs (omega arith)) ∙ ap (take (k - 1)) front ∙ take-take (k - 1) k ys (omega arith) in (
         tail ∙ h.0,
@@ -112,20 +110,20 @@ module _ {S X : Type 0} (R : S → X → X → Bool → S → X → X → Type 0
 
   -- a turn of `dedup_by` at i, with k items kept so far, where the question left zs
   module _ (s₀ : S) (xs : List X) (s t : S) (ys zs : List X) (k i : ℕ) (pos : 0 < k) (le : k ≤ i) (lt : i < length ys)
-      (h : DedupInvariant R s₀ xs s ys k i) where
+      (h : DedupInvariant R last s₀ xs s ys k i) where
     apart : (left beside : X) → zs ≡ set (set ys i left) (k - 1) beside → zs ≡ set (set ys (k - 1) beside) i left
     apart left beside after = after ∙ set_comm ys i (k - 1) left beside (λ e. absurd (omega arith))
 
-    pub drops_repeat : AsksPair R s ys i (k - 1) true t zs → DedupInvariant R s₀ xs t zs k (i + 1)
+    pub drops_repeat : AsksPair R s ys i (k - 1) true t zs → DedupInvariant R last s₀ xs t zs k (i + 1)
     drops_repeat a =
         let written = set ys (k - 1) a.left_beside in
         let is = apart a.left a.left_beside a.after in
         dedup_moved s₀ xs t written zs k (i + 1) pos
         (ap (drop (i + 1)) is ∙ drop-set-lt (i + 1) written i a.left (omega arith))
         (ap (take k) is ∙ take-set-le k written i a.left le)
-        (merge_on R s₀ xs s t ys k i a.shown a.beside a.left a.left_beside pos le lt a.shows.0 a.shows.1 h true a.asked).1
+        (merge_on R last s₀ xs s t ys k i a.shown a.beside a.left a.left_beside pos le lt a.shows.0 a.shows.1 h true a.asked).1
 
-    pub keeps_other : AsksPair R s ys i (k - 1) false t zs → DedupInvariant R s₀ xs t (swap zs k i) (k + 1) (i + 1)
+    pub keeps_other : AsksPair R s ys i (k - 1) false t zs → DedupInvariant R last s₀ xs t (swap zs k i) (k + 1) (i + 1)
     keeps_other a =
         let written = set ys (k - 1) a.left_beside in
         let is = apart a.left a.left_beside a.after in
@@ -137,7 +135,7 @@ module _ {S X : Type 0} (R : S → X → X → Bool → S → X → X → Type 0
         ∙ sym (drop-set-lt (i + 1) written k a.left (omega arith)))
         (swapped_front zs k i a.left le (omega arith) here ∙ ap (λ l. l ++ a.left ∷ []) (ap (take k) is ∙ take-set-le k written i a.left le)
         ∙ sym (take_more_set written k a.left (omega arith)))
-        (merge_on R s₀ xs s t ys k i a.shown a.beside a.left a.left_beside pos le lt a.shows.0 a.shows.1 h false a.asked).1
+        (merge_on R last s₀ xs s t ys k i a.shown a.beside a.left a.left_beside pos le lt a.shows.0 a.shows.1 h false a.asked).1
 
 module _ {X : Type 0} where
   write_behind : (xs : List X) (i : ℕ) (x : X) → take i xs ++ set (drop i xs) 0 x ≡ set xs i x

@@ -4,6 +4,7 @@ pub mod BorderLemmas
 pub mod EndsLemmas
 pub mod AnyDrainLemmas
 mod EmptiedLemmas
+mod LastStateLemmas
 pub mod FiltersLemmas
 pub mod CloneLemmas
 pub mod ClonesOverLemmas

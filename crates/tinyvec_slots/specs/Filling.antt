@@ -1,5 +1,6 @@
--- Items asked of an iterator, as long as there is room, and what the iterators of a list yield.
-use Rattle.std.specs.Prelude.{◌≡◌, ℕ, ◌^◌, ◌<◌, ◌≤◌, ◌↔◌, List, ◌∷◌, length, take, drop, Option, Some, None, Result, IsOk, IfOk, IfErr, MatchResult}
+-- Items asked of a closure, or of an iterator as long as there is room, and what the iterators of a list yield.
+use Rattle.std.specs.Prelude.{◌≡◌, ℕ, ◌^◌, ◌<◌, ◌≤◌, ◌↔◌, List, ◌∷◌, ◌++◌, length, take, drop, Option, Some, None, Result, IsOk, IfOk, IfErr, MatchResult}
+use Rattle.std.specs.List.{FoldsTo}
 use Rattle.std.specs.Iterator.{Yields, YieldsThen, YieldsFirst, AlwaysYields, Drains}
 use Rattle.std.specs.Iterator.Adapters.{IterYieldsInOrder, IterYieldsInReverse, IterMutYieldsInOrder, IterMutYieldsInReverse}
 use Rattle.std.specs.Slice.Iter.{iter_rest, iter_mut_rest}
@@ -53,6 +54,10 @@ module _ {U S A V : Type 0} (becomes : U → S → Type 0) (steps : S → Option
         × MatchResult r (λ v. Lists v (rest it))
         (λ refused. Lists refused.vec (take n (rest it)) × (drop n (rest it) ≡ refused.item ∷ rest refused.rest))
     pub known : (xs : List A) → IntoIterYields becomes steps iter xs → length xs ≤ n → IsOk r × IfOk r (λ v. Lists v xs)
+
+-- new is old, followed by what calls of f returned, one after another, the last of which left `last`: `AppendsResults`, with the last state
+abbrev pub AppendsResultsTo : {F X : Type 0} → (F → X → F → Type 0) → List X → List X → F → F → Type 0
+AppendsResultsTo {F} {X} step old new f last = (ys : List X) × (new ≡ old ++ ys) × FoldsTo step f ys last
 
 -- the items that an iterator has left are xs, whose number fits a `usize`, and each run yields them, in order or in reverse
 pub record Iterates {T : Type 0} (xs : List T) (it : Iter T) : Type 0 where

@@ -2,7 +2,7 @@
 ghost use Rattle.std.specs.Prelude.{◌≡◌, ◌+◌, ◌-◌, ◌<◌, ◌≤◌, ◌++◌, Some, slice_get, true, length, take, drop};
 ghost use Rattle.std.specs.Fn.{FnOnceTakesAtMut, CalledAt, CalledAtMut, CalledAtPairMut, ComparesKeys};
 ghost use Rattle.std.specs.List.Retain.{IsFiltered, RetainsInTurn, IsDeduped, PopsIf};
-ghost use Rattle.tinyvec_slots.specs.Filters.{AsksPair, Shortened};
+ghost use Rattle.tinyvec_slots.specs.Filters.{AsksPair, Shortened, RetainsTo, IsFilteredTo, IsDedupedTo};
 
 use crate::CanCut;
 use crate::tuned::sizes::are_small;
@@ -12,6 +12,7 @@ use std::mem;
 pub fn retain<V: CanCut, F: FnMut(&V::Item) -> bool>(vec: &mut V, f: &mut F)
     requires { F.IsAlwaysCallable f.old }
     ensures filtered { IsFiltered (CalledAt F.FnMut) f.old (V.items vec.old) (V.items vec.new) }
+    ensures asked { IsFilteredTo (CalledAt F.FnMut) f.old (V.items vec.old) (V.items vec.new) f.new }
     ensures shorter { Shortened V.items V.room V.Truncated vec.old vec.new }
 {
     let kept = retain_in_front(vec.as_mut_slice(), f);
@@ -22,6 +23,7 @@ pub fn retain<V: CanCut, F: FnMut(&V::Item) -> bool>(vec: &mut V, f: &mut F)
 pub fn retain_mut<V: CanCut, F: FnMut(&mut V::Item) -> bool>(vec: &mut V, f: &mut F)
     requires { F.IsAlwaysCallable f.old }
     ensures filtered { RetainsInTurn (CalledAtMut F.FnMut) f.old (V.items vec.old) (V.items vec.new) }
+    ensures asked { RetainsTo (CalledAtMut F.FnMut) f.old (V.items vec.old) (V.items vec.new) f.new }
     ensures shorter { Shortened V.items V.room V.Truncated vec.old vec.new }
 {
     let kept = retain_mut_in_front(vec.as_mut_slice(), f);
@@ -33,6 +35,7 @@ pub fn retain_mut<V: CanCut, F: FnMut(&mut V::Item) -> bool>(vec: &mut V, f: &mu
 pub fn dedup_by<V: CanCut, F: FnMut(&mut V::Item, &mut V::Item) -> bool>(vec: &mut V, same: &mut F)
     requires { F.IsAlwaysCallable same.old }
     ensures filtered { IsDeduped (CalledAtPairMut F.FnMut) same.old (V.items vec.old) (V.items vec.new) }
+    ensures asked { IsDedupedTo (CalledAtPairMut F.FnMut) same.old (V.items vec.old) (V.items vec.new) same.new }
     ensures shorter { Shortened V.items V.room V.Truncated vec.old vec.new }
 {
     let kept = dedup_in_front(vec.as_mut_slice(), same);
@@ -46,6 +49,7 @@ pub fn dedup_by_key<V: CanCut, K: PartialEq + Drop, F: FnMut(&mut V::Item) -> K>
 )
     requires { F.IsAlwaysCallable key.old }
     ensures filtered { IsDeduped (ComparesKeys F.FnMut K.eq) key.old (V.items vec.old) (V.items vec.new) }
+    ensures asked { IsDedupedTo (ComparesKeys F.FnMut K.eq) key.old (V.items vec.old) (V.items vec.new) key.new }
     ensures shorter { Shortened V.items V.room V.Truncated vec.old vec.new }
 {
     let kept = dedup_keys_in_front(vec.as_mut_slice(), key);
@@ -88,6 +92,7 @@ fn take_last_if<T: Default + Drop, F: FnOnce(&mut T) -> bool>(
 fn retain_in_front<T: Default + Drop, F: FnMut(&T) -> bool>(items: &mut [T], f: &mut F) -> usize
     requires { F.IsAlwaysCallable f.old }
     ensures filtered { IsFiltered (CalledAt F.FnMut) f.old items.old (take result items.new) }
+    ensures asked { IsFilteredTo (CalledAt F.FnMut) f.old items.old (take result items.new) f.new }
     ensures bound { result ≤ length items.old }
 {
     let mut kept = 0;
@@ -108,6 +113,7 @@ fn retain_mut_in_front<T: Default + Drop, F: FnMut(&mut T) -> bool>(
 ) -> usize
     requires { F.IsAlwaysCallable f.old }
     ensures filtered { RetainsInTurn (CalledAtMut F.FnMut) f.old items.old (take result items.new) }
+    ensures asked { RetainsTo (CalledAtMut F.FnMut) f.old items.old (take result items.new) f.new }
     ensures bound { result ≤ length items.old }
 {
     let mut kept = 0;
@@ -144,6 +150,7 @@ pub(crate) fn move_down<T: Default + Drop>(items: &mut [T], kept: usize, i: usiz
 fn dedup_in_front<T, F: FnMut(&mut T, &mut T) -> bool>(items: &mut [T], same: &mut F) -> usize
     requires { F.IsAlwaysCallable same.old }
     ensures filtered { IsDeduped (CalledAtPairMut F.FnMut) same.old items.old (take result items.new) }
+    ensures asked { IsDedupedTo (CalledAtPairMut F.FnMut) same.old items.old (take result items.new) same.new }
     ensures bound { result ≤ length items.old }
 {
     let count = items.len();
@@ -167,6 +174,7 @@ fn dedup_keys_in_front<T, F: FnMut(&mut T) -> K, K: PartialEq + Drop>(
 ) -> usize
     requires { F.IsAlwaysCallable key.old }
     ensures filtered { IsDeduped (ComparesKeys F.FnMut K.eq) key.old items.old (take result items.new) }
+    ensures asked { IsDedupedTo (ComparesKeys F.FnMut K.eq) key.old items.old (take result items.new) key.new }
     ensures bound { result ≤ length items.old }
 {
     let count = items.len();

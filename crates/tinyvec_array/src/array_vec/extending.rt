@@ -4,7 +4,7 @@ ghost use Rattle.std.specs.List.{AppendsResults};
 ghost use Rattle.tinyvec_slots.specs.Slots.{items, spare, items_len, AreDefaults, SlotRule, Gains, Loses, Grows};
 ghost use Rattle.tinyvec_slots.specs.Clones.{AddsClones, ResizesByClones};
 ghost use Rattle.tinyvec_slots.specs.Ranges.{IsRangeOf, removed};
-ghost use Rattle.tinyvec_slots.specs.Filling.{Fills, Extends, Collects};
+ghost use Rattle.tinyvec_slots.specs.Filling.{Fills, Extends, Collects, AppendsResultsTo};
 
 use crate::{Array, ArrayVec, FromIterRest, NoMemory, NoRoom};
 use std::alloc::AllocError;
@@ -223,8 +223,19 @@ impl<A: Array> ArrayVec<A> {
         ensures len { items_len self.new ≡ new_len }
         ensures slot_rule { SlotRule A.Item.is_default self.old self.new }
     {
-        self.truncate(new_len);
-        while self.len() < new_len {
+        self.resize_by_answers(new_len, &mut f);
+    }
+
+    // `resize_with`, which also says in which state the last call leaves `f`.
+    fn resize_by_answers<F: FnMut() -> A::Item>(&mut self, n: usize, f: &mut F)
+        requires room { n ≤ A.CAPACITY }
+        requires callable { F.IsAlwaysCallable f.old }
+        ensures items { AppendsResultsTo F.step (take n (items self.old)) (items self.new) f.old f.new }
+        ensures len { items_len self.new ≡ n }
+        ensures slot_rule { SlotRule A.Item.is_default self.old self.new }
+    {
+        self.truncate(n);
+        while self.len() < n {
             self.push(f());
         }
     }

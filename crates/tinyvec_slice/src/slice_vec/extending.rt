@@ -5,7 +5,7 @@ ghost use Rattle.tinyvec_slots.specs.Clones.{AddsClones, ResizesByClones, CutsTo
 ghost use Rattle.tinyvec_slice.specs.SliceVec.{items_of, spare_of, len_of, slots_of, view_of, SameLender, Gains, Loses, Grows};
 ghost use Rattle.tinyvec_slots.specs.Slots.{AreDefaults};
 ghost use Rattle.tinyvec_slots.specs.Ranges.{IsRangeOf, removed};
-ghost use Rattle.tinyvec_slots.specs.Filling.{Fills, Extends};
+ghost use Rattle.tinyvec_slots.specs.Filling.{Fills, Extends, AppendsResultsTo};
 
 use crate::{GenericSliceVec, Lent};
 use std::alloc::AllocError;
@@ -168,11 +168,27 @@ impl<B: Lent> GenericSliceVec<B> {
             × ((ys : List B.Item) × AppendsResults F.step [] ys f × (length ys ≡ len_of B.Lent self.old - new_len)
             × (spare_of B.Lent self.new ≡ reverse ys ++ spare_of B.Lent self.old)) }
     {
-        if new_len <= self.len() {
-            self.cut_to_answers(new_len, &mut f);
+        self.resize_by_answers(new_len, &mut f);
+    }
+
+    // `resize_with`, which also says in which state the last call leaves `f`.
+    fn resize_by_answers<F: FnMut() -> B::Item>(&mut self, n: usize, f: &mut F)
+        requires room { n ≤ length (slots_of B.Lent self.old) }
+        requires callable { F.IsAlwaysCallable f.old }
+        ensures lender { SameLender B.Lent self.old self.new }
+        ensures len { len_of B.Lent self.new ≡ n }
+        ensures grown { len_of B.Lent self.old ≤ n
+            → AppendsResultsTo F.step (items_of B.Lent self.old) (items_of B.Lent self.new) f.old f.new
+            × (spare_of B.Lent self.new ≡ drop (n - len_of B.Lent self.old) (spare_of B.Lent self.old)) }
+        ensures cut { n ≤ len_of B.Lent self.old → (items_of B.Lent self.new ≡ take n (items_of B.Lent self.old))
+            × ((ys : List B.Item) × AppendsResultsTo F.step [] ys f.old f.new × (length ys ≡ len_of B.Lent self.old - n)
+            × (spare_of B.Lent self.new ≡ reverse ys ++ spare_of B.Lent self.old)) }
+    {
+        if n <= self.len() {
+            self.cut_to_answers(n, f);
             return;
         }
-        self.grow_by_answers(new_len, &mut f);
+        self.grow_by_answers(n, f);
     }
 
     // Fills the list up to `n` items with what `f` returns.
@@ -182,7 +198,7 @@ impl<B: Lent> GenericSliceVec<B> {
         requires callable { F.IsAlwaysCallable f.old }
         ensures lender { SameLender B.Lent self.old self.new }
         ensures len { len_of B.Lent self.new ≡ n }
-        ensures items { AppendsResults F.step (items_of B.Lent self.old) (items_of B.Lent self.new) f.old }
+        ensures items { AppendsResultsTo F.step (items_of B.Lent self.old) (items_of B.Lent self.new) f.old f.new }
         ensures spare { spare_of B.Lent self.new ≡ drop (n - len_of B.Lent self.old) (spare_of B.Lent self.old) }
     {
         while self.len() < n {
@@ -196,7 +212,7 @@ impl<B: Lent> GenericSliceVec<B> {
         requires callable { F.IsAlwaysCallable f.old }
         ensures lender { SameLender B.Lent self.old self.new }
         ensures items { items_of B.Lent self.new ≡ take n (items_of B.Lent self.old) }
-        ensures spare { (ys : List B.Item) × AppendsResults F.step [] ys f.old
+        ensures spare { (ys : List B.Item) × AppendsResultsTo F.step [] ys f.old f.new
             × (length ys ≡ len_of B.Lent self.old - n)
             × (spare_of B.Lent self.new ≡ reverse ys ++ spare_of B.Lent self.old) }
     {

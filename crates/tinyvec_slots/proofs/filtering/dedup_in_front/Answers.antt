@@ -1,6 +1,6 @@
-use Rattle.std.proofs.Common.{◌<◌, length, arith}
+use Rattle.std.proofs.Common.{◌<◌, length, arith, refl}
 use Rattle.std.specs.Fn.{CalledAtPairMut}
-use Rattle.std.proofs.RetainMut.{dedup_end}
+use Rattle.tinyvec_slots.proofs.LastStateLemmas.{dedup_end, IsDedupedTo-deduped}
 use Rattle.tinyvec_slots.proofs.FiltersLemmas.{drops_repeat, keeps_other}
 use Rattle.tinyvec_slots.proofs.filtering.dedup_in_front.Goals.{then-not-ask_pair, else-not-ask_pair}
 use Rattle.tinyvec_slots.proofs.filtering.dedup_in_front.Goals as goal
@@ -17,20 +17,23 @@ loop-i-preserved g c =
         some = omega arith;
         order = omega arith;
         callable = again;
-        so_far = keeps_other R c.args.same.now c.args.items.now at.same _ at.items _ at.kept at.i at.invariant.some at.invariant.order within
-            at.invariant.so_far (rw w.if-not-ask_pair.true at asked);
+        so_far = λ last. keeps_other R last c.args.same.now c.args.items.now at.same _ at.items _ at.kept at.i at.invariant.some at.invariant.order within
+            (at.invariant.so_far last) (rw w.if-not-ask_pair.true at asked);
       })
       | else-not-ask_pair w ↦ rw (w.items-is, w.kept-is) (record {
         some = at.invariant.some;
         order = omega arith;
         callable = again;
-        so_far = drops_repeat R c.args.same.now c.args.items.now at.same _ at.items _ at.kept at.i at.invariant.some at.invariant.order within
-            at.invariant.so_far (rw w.if-not-ask_pair.false at asked);
+        so_far = λ last. drops_repeat R last c.args.same.now c.args.items.now at.same _ at.items _ at.kept at.i at.invariant.some at.invariant.order within
+            (at.invariant.so_far last) (rw w.if-not-ask_pair.false at asked);
       })
     ]
 
-pub returns-clause-filtered : goal.returns-clause-filtered
-returns-clause-filtered g c =
+pub returns-clause-asked : goal.returns-clause-asked
+returns-clause-asked g c =
     let at = c.loop-i in
-    dedup_end (CalledAtPairMut g.F.FnMut) c.args.same.now c.args.items.now at.same at.items at.kept at.i at.invariant.some
-    (omega arith) (omega arith) at.invariant.so_far
+    dedup_end (CalledAtPairMut g.F.FnMut) at.same c.args.same.now c.args.items.now at.same at.items at.kept at.i at.invariant.some
+    (omega arith) (omega arith) refl (at.invariant.so_far at.same)
+
+pub returns-clause-filtered : goal.returns-clause-filtered
+returns-clause-filtered g c = IsDedupedTo-deduped _ _ _ _ _ (returns-clause-asked g c)

@@ -1,7 +1,8 @@
-use Rattle.std.proofs.Common.{◌<◌, length, arith, of_calls}
+use Rattle.std.proofs.Common.{◌<◌, length, arith, of_calls, refl}
 use Rattle.std.specs.Fn.{CalledAtMut}
 use Rattle.std.proofs.lemmas.List.{get_or_default}
-use Rattle.std.proofs.RetainMut.{Called-Mut, retain_mut_end}
+use Rattle.std.proofs.RetainMut.{Called-Mut}
+use Rattle.tinyvec_slots.proofs.LastStateLemmas.{retain_mut_end, RetainsTo-in_turn}
 use Rattle.tinyvec_slots.proofs.FiltersLemmas.{keeps_item, drops_item}
 use Rattle.tinyvec_slots.proofs.filtering.retain_mut_in_front.Goals.{then-stays, else-stays}
 use Rattle.tinyvec_slots.proofs.filtering.retain_mut_in_front.Goals as goal
@@ -18,21 +19,24 @@ loop-i-preserved g c =
         order = omega arith;
         callable = search of_calls;
         so_far = rw w.kept-is
-            (keeps_item R c.args.f.now c.args.items.now at.f _ at.items moved.new.items at.kept at.i _ _ at.invariant.order within
-            (get_or_default at.items at.i _ _ within) at.invariant.so_far moved.ensures.behind moved.ensures.before
+            (λ last. keeps_item R last c.args.f.now c.args.items.now at.f _ at.items moved.new.items at.kept at.i _ _ at.invariant.order within
+            (get_or_default at.items at.i _ _ within) (at.invariant.so_far last) moved.ensures.behind moved.ensures.before
             (moved.ensures.moved w.if-stays.true) (rw w.if-stays.true at called));
       }
       | else-stays w ↦ record {
         order = omega arith;
         callable = search of_calls;
         so_far = rw w.kept-is
-            (drops_item R c.args.f.now c.args.items.now at.f _ at.items moved.new.items at.kept at.i _ _ at.invariant.order within
-            (get_or_default at.items at.i _ _ within) at.invariant.so_far moved.ensures.behind moved.ensures.before
+            (λ last. drops_item R last c.args.f.now c.args.items.now at.f _ at.items moved.new.items at.kept at.i _ _ at.invariant.order within
+            (get_or_default at.items at.i _ _ within) (at.invariant.so_far last) moved.ensures.behind moved.ensures.before
             (rw w.if-stays.false at called));
       }
     ]
 
-pub returns-clause-filtered : goal.returns-clause-filtered
-returns-clause-filtered g c =
+pub returns-clause-asked : goal.returns-clause-asked
+returns-clause-asked g c =
     let at = c.loop-i in
-    retain_mut_end (CalledAtMut g.F.FnMut) _ _ at.f at.items at.kept at.i (omega arith) at.invariant.so_far
+    retain_mut_end (CalledAtMut g.F.FnMut) at.f _ _ at.f at.items at.kept at.i (omega arith) refl (at.invariant.so_far at.f)
+
+pub returns-clause-filtered : goal.returns-clause-filtered
+returns-clause-filtered g c = RetainsTo-in_turn _ _ _ _ _ (returns-clause-asked g c)

@@ -63,4 +63,4 @@ returns-clause-spare g c =
     let len = c.len.ensures.value in
     let done = c.loop-self-test.false in
     let ends : length (items_of g.B.Lent at.self) ≡ c.args.n = omega (arith, at.invariant.enough) in
-    (run.0, (run.0, at.f, refl, run.3), run.1 ∙ ap (λ n. length (items_of g.B.Lent c.args.self.now) - n) ends, run.2)
+    (run.0, (run.0, refl, run.3), run.1 ∙ ap (λ n. length (items_of g.B.Lent c.args.self.now) - n) ends, run.2)
