@@ -1,8 +1,9 @@
 -- Lemmas on what a call leaves of place and capacity.
-use Rattle.std.proofs.Common.{◌≡◌, ℕ, ◌<◌, ◌≤◌, ◌+◌, Result, Ok, Err, List, length, drop, refl, sym, ap, subst, ◌∙◌, arith}
+use Rattle.std.proofs.Common.{◌≡◌, ◌⊎◌, inl, inr, ℕ, zero, suc, ◌<◌, ◌≤◌, ◌+◌, ◌*◌, ◌^◌, max, Result, Ok, Err, List, length, drop, refl, sym, ap, subst, ◌∙◌, arith}
 use Rattle.std.specs.Prelude.{OnOk, IsErr}
 use Rattle.std.proofs.Math.Seq.{drop-nil}
-use Rattle.std.proofs.lemmas.Bool.{false≢true}
+use Rattle.std.proofs.Math.Nat.{mul_assoc, pow-succ'}
+use Rattle.std.proofs.lemmas.Bool.{false≢true, cases_lt}
 use Rattle.tinyvec_slots.specs.Slots.{Slots, SlotRule, items, items_len, spare}
 use Rattle.tinyvec_slots.proofs.CloneLemmas.{on_err}
 use Rattle.tinyvec.specs.TinyVec.{tiny_view, tiny_len, tiny_spare, is_inline, tiny_capacity, IsInline, PlaceRule, TinySlotRule, SameFrame, Becomes, StaysInPlace, Unchanged}
@@ -21,6 +22,19 @@ on_ok (Err e) p = tt
 pub inline_becomes : {T : Type 0} (D : T → Type 0) (slots : ℕ) (v w : Slots T) (xs : List T) → items w ≡ xs → SlotRule D v w → items_len w ≤ slots
     → ViewBecomes D slots (record { items = items v; spare = spare v; place = in_array }) (record { items = items w; spare = spare w; place = in_array }) xs
 inline_becomes D slots v w xs is rule fits = record { items = is; place = refl; slot_rule = λ _ _. rule; capacity = refl; fits = fits }
+
+-- a capacity that doubled some number of times, and then doubled again
+doubled_once : (first last : ℕ) → last ≡ max (2 * first) (first + 1) → (k : ℕ) × (last ≡ 2 ^ k * max 1 first)
+doubled_once zero last is = (0, is)
+doubled_once (suc n) last is = (1, omega (arith, is))
+
+doubled_more : (m k mid last : ℕ) → mid ≡ 2 ^ k * m → last ≡ 2 * mid → last ≡ 2 ^ (suc k) * m
+doubled_more m k mid last once again = again ∙ ap (λ n. 2 * n) once ∙ sym (mul_assoc 2 (2 ^ k) m) ∙ ap (λ n. n * m) (sym (pow-succ' 2 k))
+
+doubled_again : (first mid last : ℕ) → (first < mid) ⊎ (mid ≤ first) → first ≤ mid → last ≡ max (2 * mid) (mid + 1)
+    → (first < mid → (k : ℕ) × (mid ≡ 2 ^ k * max 1 first)) → (k : ℕ) × (last ≡ 2 ^ k * max 1 first)
+doubled_again first mid last (inl more) le is h = let before = h more in (suc before.0, doubled_more (max 1 first) before.0 mid last before.1 (omega (arith, more, is)))
+doubled_again first mid last (inr least) le is h = doubled_once first last (subst (λ n. last ≡ max (2 * n) (n + 1)) (omega (arith, le, least)) is)
 
 module _ {A T : Type 0} (D : T → Type 0) (slots : ℕ) where
   -- a list that is as it was
@@ -69,6 +83,7 @@ module _ {A T : Type 0} (D : T → Type 0) (slots : ℕ) where
         capacity = let c = h.capacity in omega arith;
         same_room = λ fits. same ∙ h.same_room (omega arith);
         grown = λ higher. let less = h.grown (omega (arith, same, higher)) in omega (arith, same, less, more);
+        doubled = rw same h.doubled;
         fits = k.fits;
       }
 
@@ -84,6 +99,7 @@ module _ {A T : Type 0} (D : T → Type 0) (slots : ℕ) where
     capacity = let first = h.capacity in let then = room.capacity in omega arith;
     same_room = λ fits. let same = h.same_room (omega arith) in room.same_room (omega arith) ∙ same;
     grown = λ _. let doubled = room.grown (omega arith) in omega (arith, doubled, full, one);
+    doubled = λ _. doubled_again (tiny_capacity slots u) (tiny_capacity slots v) (tiny_capacity slots w) (cases_lt _ _) h.capacity (room.grown (omega arith) ∙ ap (λ n. max (2 * tiny_capacity slots v) (n + 1)) full) h.doubled;
     fits = room.fits;
   }
 

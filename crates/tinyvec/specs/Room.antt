@@ -1,5 +1,5 @@
 -- Growth, reserving room, and moves to the heap. A call and its `try_` form have one word.
-use Rattle.std.specs.Prelude.{◌≡◌, ℕ, ◌+◌, ◌-◌, ◌*◌, ◌<◌, ◌≤◌, ◌↔◌, max, List, length, false, Result, IsOk, OnOk, OnErr}
+use Rattle.std.specs.Prelude.{◌≡◌, ℕ, ◌+◌, ◌-◌, ◌*◌, ◌^◌, ◌<◌, ◌≤◌, ◌↔◌, max, List, length, false, Result, IsOk, OnOk, OnErr}
 use Rattle.tinyvec_slots.specs.Slots.{AreDefaults}
 use Rattle.tinyvec.specs.View.{ViewKeepsRoom, ViewDoubles, ViewGrowsTo, ViewGrowsFor, ViewGrows}
 use Rattle.tinyvec.specs.TinyVec.{tiny_view, tiny_items, tiny_len, tiny_spare, is_inline, tiny_capacity, IsInline, PlaceRule, TinySlotRule, Unchanged}
@@ -39,13 +39,14 @@ module _ {A T : Type 0} where
     pub room : n ≤ tiny_capacity slots v
     pub exact : tiny_capacity slots v ≡ max n slots
 
-  -- `v` is what collecting `xs` makes: inline if they fit the array, before defaults; on the heap its capacity is less than
-  -- twice the length
+  -- `v` is what collecting `xs` makes: inline if they fit the array, before defaults; on the heap its capacity doubled some number of
+  -- times, and is less than twice the length
   pub record Collects (D : T → Type 0) (slots : ℕ) (xs : List T) (v : TinyVec A T) : Type 0 where
     pub items : tiny_items v ≡ xs
     pub place : IsInline v ↔ (length xs ≤ slots)
     pub spare : IsInline v → AreDefaults D (slots - length xs) (tiny_spare v)
     pub grown : slots < tiny_capacity slots v → tiny_capacity slots v < 2 * length xs
+    pub doubled : slots < tiny_capacity slots v → (k : ℕ) × (tiny_capacity slots v ≡ 2 ^ k * max 1 slots)
     pub fits : length xs ≤ tiny_capacity slots v
 
 module _ {A T X E : Type 0} where

@@ -33,6 +33,7 @@ module _ {A T : Type 0} where
       slot_rule = tiny_slots_then_framed D u w x (tiny_slots_framed D u v w k h.slot_rule) j;
       capacity = let c = h.capacity in let a = k.capacity slots in let b = j.capacity slots in omega arith;
       same_room = λ fits. j.capacity slots ∙ h.same_room (let a = k.capacity slots in let b = j.len in omega arith) ∙ k.capacity slots;
+      doubled = rw (j.capacity slots, sym (k.capacity slots)) h.doubled;
       grown = λ more. let a = k.capacity slots in let b = j.capacity slots in let c = j.len in let less = h.grown (omega (arith, a, b, more)) in omega (arith, b, c, less);
       fits = let fits = h.fits in let b = j.capacity slots in let c = j.len in omega (arith, b, c, fits);
     }
@@ -44,6 +45,7 @@ module _ {A T : Type 0} where
       capacity = let c = h.capacity in omega arith;
       same_room = λ _. h.capacity;
       grown = λ more. absurd (let c = h.capacity in omega (arith, c, more));
+      doubled = λ more. absurd (let c = h.capacity in omega (arith, c, more));
       fits = fits;
     }
 

@@ -1,6 +1,6 @@
 -- What all contracts see of a `TinyVec`: its list, the spare slots after it, and its place, which has its capacity; and what calls do to
 -- these. The words on vectors in `TinyVec` and `Room` are these relations of their views.
-use Rattle.std.specs.Prelude.{◌≡◌, ℕ, ◌-◌, ◌*◌, ◌<◌, ◌≤◌, max, List, ◌++◌, length, drop, Bool, true, false, IsTrue, if◌then◌else◌, ◌↔◌}
+use Rattle.std.specs.Prelude.{◌≡◌, ℕ, ◌-◌, ◌*◌, ◌^◌, ◌<◌, ◌≤◌, max, List, ◌++◌, length, drop, Bool, true, false, IsTrue, if◌then◌else◌, ◌↔◌}
 use Rattle.tinyvec_slots.specs.Slots.{AreDefaults}
 
 -- the place of a list: in the array, or on the heap with this capacity
@@ -70,6 +70,11 @@ module _ {T : Type 0} where
   abbrev pub ViewGrowsInSteps : ℕ → TinyView T → TinyView T → Type 0
   ViewGrowsInSteps slots old new = view_capacity slots old < view_capacity slots new → view_capacity slots new < 2 * view_len new
 
+  -- a capacity that grew item by item doubled some number of times, from one at least: as many times as pushes double it
+  abbrev pub ViewDoublesInSteps : ℕ → TinyView T → TinyView T → Type 0
+  ViewDoublesInSteps slots old new = view_capacity slots old < view_capacity slots new
+      → (k : ℕ) × (view_capacity slots new ≡ 2 ^ k * max 1 (view_capacity slots old))
+
   module _ (D : T → Type 0) (slots : ℕ) (old new : TinyView T) where
     -- a call that allocates nothing, and leaves the items xs: place and capacity are unchanged, and inline the slot rule holds
     pub record ViewBecomes (xs : List T) : Type 0 where
@@ -86,4 +91,5 @@ module _ {T : Type 0} where
       pub capacity : view_capacity slots old ≤ view_capacity slots new
       pub same_room : ViewKeepsRoom slots (view_len new) old new
       pub grown : ViewGrowsInSteps slots old new
+      pub doubled : ViewDoublesInSteps slots old new
       pub fits : view_len new ≤ view_capacity slots new

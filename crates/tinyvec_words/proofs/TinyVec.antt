@@ -3,7 +3,7 @@ use Rattle.std.proofs.Common.{◌≡◌, ℕ, List, [], ◌∷◌, ◌++◌, Ok,
 use Rattle.std.specs.Global.{Global}
 use Rattle.tinyvec.specs.declared.tiny_vec.TinyVec.{TinyVec}
 use Rattle.tinyvec.specs.declared.tiny_vec.TinyVec.TheVariants.{Inline}
-use Rattle.tinyvec.specs.TinyVec.{tiny_items, tiny_len, tiny_spare, is_inline, IsInline, HoldsInline, tiny_capacity, tiny_allocator, SameFrame, Becomes, StaysInPlace, ShortensInPlace, IsTail, Unchanged, IsTinyClone, IsTinyInfallible, tiny_view}
+use Rattle.tinyvec.specs.TinyVec.{tiny_items, tiny_len, tiny_spare, is_inline, IsInline, HoldsInline, tiny_capacity, tiny_allocator, SameFrame, Becomes, StaysInPlace, ShortensInPlace, IsTail, Unchanged, IsTinyClone, IsTinyInfallible, PlaceRule, tiny_view}
 use Rattle.tinyvec.specs.Room.{Collects, Doubles, GrowsFor, Grows, RoomGrows, MadeFor, GrowsExactly, MakesRoom, MovesToHeap, MovesToHeapWithRoom}
 use Rattle.tinyvec.specs.View.{in_array}
 use Rattle.tinyvec.specs.Refused.{RefusedFor, ClonesBehind, ClonesRefused}
@@ -115,6 +115,9 @@ module _ (A : Type 0) (alloc : Global) where
 
   pub example-MadeFor : MadeFor D 4 2 1 (inline (1 ∷ []) (0 ∷ 0 ∷ 0 ∷ []))
   example-MadeFor = search rules
+
+  pub example-PlaceRule : PlaceRule 4 2 (inline (1 ∷ []) (7 ∷ 8 ∷ 0 ∷ [])) (inline (1 ∷ 5 ∷ []) (8 ∷ 0 ∷ []))
+  example-PlaceRule = search rules
 
   pub example-GrowsExactly : (v : TinyVec A ℕ) → GrowsExactly 4 9 (inline (1 ∷ []) (0 ∷ 0 ∷ 0 ∷ [])) v → tiny_capacity 4 v ≡ 9
   example-GrowsExactly v h = search rules

@@ -221,16 +221,14 @@ impl<A: Array> TinyVec<A> {
         }
     }
 
-    /// Converts to a boxed slice. If the allocator refuses, the items are dropped.
-    pub fn into_boxed_slice(self) -> Result<BoxedSlice<A::Item>, AllocError>
+    /// Converts to a boxed slice. If the allocator refuses, the vector is returned.
+    pub fn into_boxed_slice(self) -> Result<BoxedSlice<A::Item>, NoMemory<Self>>
         ensures items { IfOk result (λ b. boxed_slice_items b ≡ tiny_items self) }
         ensures succeeds { is_inline self ≡ false → IsOk result }
         ensures succeeds_empty { tiny_len self ≡ 0 → IsOk result }
+        ensures value_returned { IfErr result (λ refused. refused.0 ≡ self) }
     {
-        match self.into_vec() {
-            Ok(heap) => Ok(heap.into_boxed_slice()),
-            Err(_) => Err(AllocError),
-        }
+        Ok(self.into_vec()?.into_boxed_slice())
     }
 }
 

@@ -2,13 +2,13 @@
 ghost use Rattle.std.specs.Prelude.{◌≡◌, ◌+◌, ◌≤◌, ◌++◌, ℕ, All, length, take, drop, slice_range, IsOk, OnOk, OnErr, if◌then◌else◌, is_ok, ◌<◌, [], ◌-◌, ◌*◌, ◌↔◌, ◌∷◌, List, Some, MatchResult, IfOk, IfErr, vec_capacity, max, replicate};
 ghost use Rattle.std.specs.List.{AppendsClones, AppendsResults};
 ghost use Rattle.tinyvec_slots.specs.Clones.{ClonesAreEqual, AppendsAllOrNone};
-ghost use Rattle.tinyvec.specs.TinyVec.{tiny_items, tiny_len, tiny_capacity, IsInline, StaysInPlace, Becomes};
+ghost use Rattle.tinyvec.specs.TinyVec.{tiny_items, tiny_len, tiny_capacity, IsInline, PlaceRule, StaysInPlace, Becomes};
 ghost use Rattle.tinyvec.specs.Refused.{RefusedFor, ClonesBehind, ClonesInRoom, ClonesRefused};
 ghost use Rattle.tinyvec.specs.Room.{GrowsFor, RoomGrows, MakesRoom, Grows, Collects};
 ghost use Rattle.tinyvec_slots.specs.Slots.{AreDefaults, Gains, items, items_len};
 ghost use Rattle.std.specs.Iterator.{IsFinite, Drains, YieldsThen, size};
 ghost use Rattle.tinyvec_slots.specs.Ranges.{IsRangeOf, removed};
-ghost use Rattle.tinyvec_slots.specs.Filling.{ShowsItems, IntoIterYields};
+ghost use Rattle.tinyvec_slots.specs.Filling.{ShowsItems, IntoIterYields, AppendsResultsTo};
 ghost use Rattle.tinyvec.specs.Following.{Follows, FillsRoom, PushesItems};
 
 use crate::TinyVec;
@@ -321,6 +321,7 @@ impl<A: Array> TinyVec<A> {
         ensures if_clones_equal { OnOk result (ClonesAreEqual A.Item.is_clone
             → tiny_items self.new ≡ take new_len (tiny_items self.old) ++ replicate (new_len - tiny_len self.old) value) }
         ensures room { RoomGrows GrowsFor A.Item.is_default A.CAPACITY new_len self.old self.new result }
+        ensures place { OnOk result (PlaceRule A.CAPACITY (max new_len (tiny_len self.old)) self.old self.new) }
 
         // If there is room only clones allocate.
         ensures cuts { new_len ≤ tiny_len self.old → IsOk result }
@@ -377,14 +378,32 @@ impl<A: Array> TinyVec<A> {
         ensures items { OnOk result (AppendsResults F.step (take new_len (tiny_items self.old)) (tiny_items self.new) f) }
         ensures len { OnOk result (tiny_len self.new ≡ new_len) }
         ensures room { MakesRoom GrowsFor A.Item.is_default A.CAPACITY new_len self.old self.new result }
+        ensures place { OnOk result (PlaceRule A.CAPACITY (max new_len (tiny_len self.old)) self.old self.new) }
+    {
+        self.resize_by_answers(new_len, &mut f)
+    }
+
+    // `resize_with`, which also says in which state the last call leaves `f`. It is not called on failure.
+    fn resize_by_answers<F: FnMut() -> A::Item>(
+        &mut self,
+        n: usize,
+        f: &mut F,
+    ) -> Result<(), AllocError>
+        requires { F.IsAlwaysCallable f.old }
+        ensures items { OnOk result (AppendsResultsTo F.step
+            (take n (tiny_items self.old)) (tiny_items self.new) f.old f.new) }
+        ensures unasked { OnErr result (f.new ≡ f.old) }
+        ensures len { OnOk result (tiny_len self.new ≡ n) }
+        ensures room { MakesRoom GrowsFor A.Item.is_default A.CAPACITY n self.old self.new result }
+        ensures place { OnOk result (PlaceRule A.CAPACITY (max n (tiny_len self.old)) self.old self.new) }
     {
         let len = self.len();
-        if new_len > len {
-            self.reserve(new_len - len)?;
-            self.push_answers(new_len, &mut f);
+        if n > len {
+            self.reserve(n - len)?;
+            self.push_answers(n, f);
             return Ok(());
         }
-        self.truncate(new_len);
+        self.truncate(n);
         Ok(())
     }
 
@@ -393,7 +412,7 @@ impl<A: Array> TinyVec<A> {
         requires longer { tiny_len self.old ≤ n }
         requires room { n ≤ tiny_capacity A.CAPACITY self.old }
         requires callable { F.IsAlwaysCallable f.old }
-        ensures items { AppendsResults F.step (tiny_items self.old) (tiny_items self.new) f.old }
+        ensures items { AppendsResultsTo F.step (tiny_items self.old) (tiny_items self.new) f.old f.new }
         ensures len { tiny_len self.new ≡ n }
         ensures frame { StaysInPlace A.Item.is_default A.CAPACITY self.old self.new }
     {

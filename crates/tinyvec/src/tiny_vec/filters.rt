@@ -1,5 +1,5 @@
 //! Keeping some of the items, by the filters of the array or of the `Vec`.
-ghost use Rattle.std.specs.Prelude.{◌≡◌, ◌-◌, slice_get, Some};
+ghost use Rattle.std.specs.Prelude.{◌≡◌, ◌-◌, ◌≤◌, slice_get, Some};
 ghost use Rattle.std.specs.Fn.{FnOnceTakesAtMut, CalledAt, CalledAtMut, CalledAtPairMut, ComparesKeys};
 ghost use Rattle.std.specs.List.{dedup as dedup_list};
 ghost use Rattle.std.specs.List.Retain.{IsFiltered, RetainsInTurn, IsDeduped, PopsIf};
@@ -42,7 +42,8 @@ impl<A: Array> TinyVec<A> {
     pub fn dedup(&mut self)
     where
         A::Item: PartialEq,
-        ensures { Becomes A.Item.is_default A.CAPACITY self.old self.new (dedup_list A.Item.eq (tiny_items self.old)) }
+        ensures becomes { Becomes A.Item.is_default A.CAPACITY self.old self.new (dedup_list A.Item.eq (tiny_items self.old)) }
+        ensures bound { tiny_len self.new ≤ tiny_len self.old }
     {
         self.dedup_by(|current, last| *current == *last);
     }

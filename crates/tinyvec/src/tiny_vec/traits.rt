@@ -1,8 +1,9 @@
 //! Comparisons, hashes, texts, writers, indexing and iteration.
-ghost use Rattle.std.specs.Prelude.{◌≡◌, ◌<◌, slice_index_or, List, length, true, false, ◌+◌, ◌++◌, Some, IfOk, IfErr, IsOk};
+ghost use Rattle.std.specs.Prelude.{◌≡◌, ◌<◌, ◌≤◌, slice_index_or, List, length, true, false, ◌+◌, ◌++◌, Some, IfOk, IfErr, IsOk, OnErr, ⊤};
 ghost use Rattle.std.specs.Borrow.{sem};
-ghost use Rattle.tinyvec.specs.TinyVec.{tiny_items, tiny_len};
-ghost use Rattle.tinyvec_slots.specs.Filling.{Iterates, IteratesMut};
+ghost use Rattle.tinyvec.specs.TinyVec.{tiny_items, tiny_len, tiny_capacity};
+ghost use Rattle.std.specs.Iterator.{IsFinite, HoldsAlong, DrainsIf, YieldsThen, ExtendsWithItems};
+ghost use Rattle.tinyvec_slots.specs.Filling.{Iterates, IteratesMut, IntoIterYields};
 ghost use Rattle.tinyvec_array.specs.IntoIter.{IteratesOver};
 ghost use Rattle.tinyvec.specs.Lends.{tiny_with_items};
 ghost use Rattle.std.specs.Cmp.{on_equiv, on_total, on_po, on_per};
@@ -130,7 +131,20 @@ impl<A: Array> FromIterator<A::Item> for TinyVec<A> {
     fn from_iter<I: IntoIterator<Item = A::Item>>(
         alloc: Global,
         iter: I,
-    ) -> Result<Self, AllocError> {
+    ) -> Result<Self, AllocError>
+        requires { (it : I.IntoIter) → I.into_iter_gives iter it
+            → I.IntoIter.can_next it × IsFinite (I.IntoIter.remaining it) × HoldsAlong I.IntoIter.next_gives it (λ _. ⊤) }
+        ensures ran { IfOk result (λ v. (it : I.IntoIter) × (xs : List A.Item) × I.into_iter_gives iter it
+            × DrainsIf I.IntoIter.next_gives ⊤ it xs × Collects A.Item.is_default A.CAPACITY xs v) }
+
+        // It fails only at an item that neither the array nor the room on the heap has a place for.
+        ensures full { OnErr result ((it : I.IntoIter) × (xs : List A.Item) × (x : A.Item) × (rest : I.IntoIter)
+            × I.into_iter_gives iter it × YieldsThen I.IntoIter.next_gives it xs (Some x) rest × (A.CAPACITY ≤ length xs)) }
+
+        // If known items fit the array, it allocates nothing.
+        ensures known { (xs : List A.Item) → IntoIterYields I.into_iter_gives I.IntoIter.next_gives iter xs
+            → length xs ≤ A.CAPACITY → IsOk result }
+    {
         match Self::from_iter(alloc, iter) {
             Ok(vec) => Ok(vec),
             Err(_) => Err(AllocError),
@@ -143,7 +157,20 @@ impl<A: Array> Extend<A::Item> for TinyVec<A> {
         × Grows A.Item.is_default A.CAPACITY v w };
 
     /// `TinyVec::extend`, which drops what found no room and the rest of the iterator: for `try_collect` and `partition`.
-    fn extend<I: IntoIterator<Item = A::Item>>(&mut self, iter: I) -> Result<(), AllocError> {
+    fn extend<I: IntoIterator<Item = A::Item>>(&mut self, iter: I) -> Result<(), AllocError>
+        requires { (it : I.IntoIter) → I.into_iter_gives iter it
+            → I.IntoIter.can_next it × IsFinite (I.IntoIter.remaining it) × HoldsAlong I.IntoIter.next_gives it (λ _. ⊤) }
+        ensures ran { ExtendsWithItems I.into_iter_gives I.IntoIter.next_gives
+            (λ v xs w. (tiny_items w ≡ tiny_items v ++ xs) × Grows A.Item.is_default A.CAPACITY v w)
+            iter self.old self.new result }
+
+        // It fails only if there is no room.
+        ensures full { OnErr result (tiny_len self.new ≡ tiny_capacity A.CAPACITY self.new) }
+
+        // If known items fit, it allocates nothing.
+        ensures known { (xs : List A.Item) → IntoIterYields I.into_iter_gives I.IntoIter.next_gives iter xs
+            → tiny_len self.old + length xs ≤ tiny_capacity A.CAPACITY self.old → IsOk result }
+    {
         self.extend(iter)?;
         Ok(())
     }

@@ -306,11 +306,11 @@ pub fn as_vec<A: Array>(v: TinyVec<A>) -> Result<Vec<A::Item>, AllocError>
     Ok(v.into_vec()?)
 }
 
-/// The list as a slice of its own.
+/// The list as a slice of its own. If memory is refused for it, the vector is dropped.
 pub fn boxed<A: Array>(v: TinyVec<A>) -> Result<BoxedSlice<A::Item>, AllocError>
     ensures { IfOk result (λ out. boxed_slice_items out ≡ tiny_items v) }
 {
-    v.into_boxed_slice()
+    Ok(v.into_boxed_slice()?)
 }
 
 /// A splice that is stopped at once has taken its range out.

@@ -25,5 +25,6 @@ returns-in-Ok-clause-collected g c =
       place = search rules;
       spare = defaults_left g.A.Item.Default.is_default g.A.Array.CAPACITY c.new-vec.result c.extend.new.self made.items made.place made.spare c.in-Ok.ensures.grows.slot_rule;
       grown = search rules;
+      doubled = search rules;
       fits = search rules;
     }

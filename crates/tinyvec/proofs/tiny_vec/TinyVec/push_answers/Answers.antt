@@ -40,4 +40,4 @@ returns-clause-frame g c =
     inv.place inv.capacity
 
 pub returns-clause-items : goal.returns-clause-items
-returns-clause-items g c = let run = c.loop-self.invariant.called in (run.0, c.loop-self.f, run.1, run.2)
+returns-clause-items g c = c.loop-self.invariant.called

@@ -4,7 +4,7 @@ use Rattle.std.proofs.lemmas.List.Elements.{same_from_all_zip, All-replicate}
 use Rattle.std.proofs.lemmas.Result.{on_ok_weaker, on_err_weaker}
 use Rattle.std.specs.Prelude.{OnOk}
 use Rattle.std.specs.List.{AppendsClones}
-use Rattle.tinyvec.specs.TinyVec.{tiny_items, tiny_len}
+use Rattle.tinyvec.specs.TinyVec.{tiny_items, tiny_len, PlaceRule}
 use Rattle.tinyvec.specs.Refused.{ClonesInRoom}
 use Rattle.tinyvec.specs.Room.{GrowsFor, RoomGrows}
 use Rattle.tinyvec.proofs.CloneLemmas.{appends_len}
@@ -31,12 +31,15 @@ returns g c =
     let put = subst (λ k. ClonesInRoom g.A.Item.Clone slots (replicate k x) mid new r) missing c.fill_reserved.ensures.clones in
     let made = extended_grown g.A.Item.Clone slots xs r D old new (c.args.new_len - c.len-len.result) mid _ (omega (arith, missing, length-replicate n x)) c.in-Ok.ensures.items c.in-Ok.ensures.stays c.in-Ok.ensures.room put in
     let need : tiny_len old + length xs ≡ c.args.new_len = omega (arith, len, longer, length-replicate n x) in
+    let room = subst (λ k. RoomGrows GrowsFor D slots k old new r) need made.room in
+    let most : c.args.new_len ≡ max c.args.new_len (tiny_len old) = omega (arith, len, longer) in
     let front : olds ≡ take c.args.new_len olds = sym (take_all c.args.new_len olds (omega (arith, len, longer))) in
     let items = subst (λ l. OnOk r (AppendsClones C l news xs)) front made.clones.items in record {
       items = items;
       len = on_ok_weaker r (λ h. omega (arith, appends_len C olds news xs h, need)) made.clones.items;
       if_clones_equal = on_ok_weaker r (λ h rule. h.1 ∙ ap (λ l. take c.args.new_len olds ++ l) (same_from_all_zip C xs h.0 h.2 rule)) items;
-      room = subst (λ k. RoomGrows GrowsFor D slots k old new r) need made.room;
+      room = room;
+      place = subst (λ k. OnOk r (PlaceRule slots k old new)) most room.place;
       cuts = λ less. absurd (omega (arith, less, len, longer));
       succeeds = λ _ sure. put.succeeds (All-replicate g.A.Item.Clone.is_infallible n x sure);
       value_returned = c.fill_reserved.ensures.value_returned;

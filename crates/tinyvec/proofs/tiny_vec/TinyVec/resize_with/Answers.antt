@@ -1,12 +1,5 @@
-use Rattle.std.proofs.Common.{◌≡◌, ◌<◌, ◌++◌, take, take_all, sym, ap, ◌∙◌, arith}
-use Rattle.tinyvec.specs.TinyVec.{tiny_items, tiny_len}
+use Rattle.std.proofs.lemmas.Result.{on_ok_weaker}
 use Rattle.tinyvec.proofs.tiny_vec.TinyVec.resize_with.Goals as goal
 
-pub returns-then-new_len-len-clause-items : goal.returns-then-new_len-len-clause-items
-returns-then-new_len-len-clause-items g c =
-    let olds = tiny_items c.args.self.now in
-    let n = c.args.new_len in
-    let longer : tiny_len c.args.self.now < n = omega (arith, c.len-len.ensures.value) in
-    let front : tiny_items c.reserve.new.self ≡ take n olds = c.reserve.ensures.items ∙ sym (take_all n olds (omega arith)) in
-    let h = c.push_answers.ensures.items in
-    (h.0, h.1, h.2 ∙ ap (λ l. l ++ h.0) front, h.3)
+pub returns-clause-items : goal.returns-clause-items
+returns-clause-items g c = on_ok_weaker c.resize_by_answers.result (λ h. (h.0, c.resize_by_answers.new.f, h.1, h.2)) c.resize_by_answers.ensures.items

@@ -6,8 +6,8 @@ by_err : {X E Q : Type 0} (P : X → Type 0) (r : Result X E) → IsErr r → Q 
 by_err P (Ok x) err q = search rules
 by_err P (Err e) err q = q
 
-pub returns-in_err-extend : goal.returns-in_err-extend
-returns-in_err-extend g c =
+pub returns-in_err-extend-clause-ran : goal.returns-in_err-extend-clause-ran
+returns-in_err-extend-clause-ran g c =
     let made = c.in_err-extend.ensures in
     let ran = made.items.ran in
-    record { ran = (ran.0, ran.1, ran.2, (ran.4, made.grows), by_err _ c.from_residual.result c.from_residual.ensures.0 (ran.3.0, ran.3.1)) }
+    (ran.0, ran.1, ran.2, (ran.4, made.grows), by_err _ c.from_residual.result c.from_residual.ensures.0 (ran.3.0, ran.3.1))
