@@ -56,10 +56,6 @@ module _ {S X : Type 0} (R : S → X → X → Bool → S → X → X → Type 0
   abbrev pub DedupInvariant : List X → S → List X → ℕ → ℕ → Type 0
   DedupInvariant xs s ys k i = (drop i ys ≡ drop i xs) × ((w : X) (zs : List X) → w ≡ get_or ys (k - 1) w → DedupsFromTo R s w (drop i xs) zs last → IsDedupedTo R s₀ xs (take (k - 1) ys ++ zs) last)
 
-  pub dedup_start : (xs : List X) → 0 < length xs → DedupInvariant xs s₀ xs 1 1
-  dedup_start [] p = absurd (omega arith)
-  dedup_start (x ∷ xs) p = (refl, λ w zs is h. record { deduped = subst (λ v. DedupsFromTo R s₀ v xs zs last) is h })
-
   module _ (xs : List X) (s t : S) (ys : List X) (k i : ℕ) (x w x' w' : X) (pos : 0 < k) (le : k ≤ i) (lt : i < length ys) (is : x ≡ get_or ys i x) (was : w ≡ get_or ys (k - 1) w) (h : DedupInvariant xs s ys k i) where
     abbrev written : List X
     written = set ys (k - 1) w'
@@ -101,10 +97,6 @@ module _ {S X : Type 0} (R : S → X → X → Bool → S → X → X → Type 0
       let more : suc (k - 1) ≡ k = omega arith in
       subst (λ l. IsDedupedTo R s₀ xs l last) (sym (take-suc ys (k - 1) d (omega arith)) ∙ ap (λ j. take j ys) more)
       (h.1 w (w ∷ []) (get_or_default ys (k - 1) d w (omega arith)) (subst (λ l. DedupsFromTo R s w l (w ∷ []) last) (sym (drop_of_length-le xs ended)) (refl, at)))
-
-  pub dedup_empty : (xs : List X) → length xs ≡ 0 → last ≡ s₀ → IsDedupedTo R s₀ xs xs last
-  dedup_empty [] e at = record { deduped = (refl, at) }
-  dedup_empty (x ∷ xs) e at = absurd (omega arith)
 
 -- what is said with the last state holds without it
 pub RetainsTo-in_turn : {S X : Type 0} (R : S → X → Bool → S → X → Type 0) (last s : S) (xs ys : List X) → RetainsTo R s xs ys last → RetainsInTurn R s xs ys
