@@ -72,6 +72,7 @@ grows_framed D slots old mid new frame h = record {
   capacity = rw (sym (frame.capacity slots)) h.capacity;
   same_room = rw (sym (frame.capacity slots)) h.same_room;
   grown = rw (sym (frame.capacity slots)) h.grown;
+  doubled = rw (sym (frame.capacity slots)) h.doubled;
   fits = h.fits;
 }
 
