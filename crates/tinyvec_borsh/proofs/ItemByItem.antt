@@ -219,8 +219,31 @@ module _ {C : Type 0} (Spells : C → List ℕ → Type 0) where
             | inr wanting ↦ subst (λ f. ListReason Spells Fits Reason (CountsAbove most) room f input) (sym wanting.0) (inl (above-count most n cs (above wanting.1) input (rest-so p tt)))
           ]) failed
 
-    pub rest-many : (IsTooLong : List ℕ → Type 0) (room n : ℕ) (cs : List C) (old new : Option (List ℕ)) → WasRead n cs old new → length cs ≡ room + 1 → room < n → LeavesRest Spells IsTooLong room old new InvalidLength
-    rest-many IsTooLong room n cs old new w over above = inl (record { len = n; items = cs; over = over; above = above; taken = w.taken })
+    module _ (room n : ℕ) (cs : List C) (old : Option (List ℕ)) where
+      -- what is left of the input once one item more than the room was read
+      pub rest-many : (HasLongItem : List ℕ → Type 0) (new : Option (List ℕ)) → WasRead n cs old new → length cs ≡ room + 1 → room < n
+          → LeavesRest Spells HasLongItem room old new InvalidLength
+      rest-many HasLongItem new w over above = inl (record { len = n; items = cs; over = over; above = above; taken = w.taken })
+
+      module _ (Reason : BorshError → List ℕ → Type 0) (mid new : Option (List ℕ)) (f g : ℕ) (w : WasRead n cs old mid) where
+        -- and where an item was not read
+        pub rest-item : (e : BorshError) → length cs < n → length cs ≤ room → Fails Reason mid f g e
+            → LeavesRest Spells (InItem Spells Fits (Reason InvalidLength) room) room old new e
+        rest-item InvalidLength more few may = inr (maybe-behind old mid (Reason InvalidLength) _ w.taken (in-item (Reason InvalidLength) room n cs w.fit more few) may)
+        rest-item Ended more few may = tt
+        rest-item InvalidUtf8 more few may = tt
+        rest-item Io more few may = tt
+        rest-item Memory more few may = tt
+
+        -- or a block of k items
+        pub rest-block : (e : BorshError) (k : ℕ) → length cs + k ≤ n → length cs + k ≤ room + 1 → Fails (AfterItems Spells Fits Reason k) mid f g e
+            → LeavesRest Spells (InItem Spells Fits (Reason InvalidLength) room) room old new e
+        rest-block InvalidLength k more few may =
+            inr (maybe-behind old mid (AfterItems Spells Fits Reason k InvalidLength) _ w.taken (in-block Reason InvalidLength room n k cs w.fit more few) may)
+        rest-block Ended k more few may = tt
+        rest-block InvalidUtf8 k more few may = tt
+        rest-block Io k more few may = tt
+        rest-block Memory k more few may = tt
 
 pub fit-next : {T C : Type 0} (content : T → C) (Fits : C → Type 0) (xs : List T) (i : ℕ) (x : T) → i < length xs → x ≡ get_or xs i x → AllByRecursion Fits (map content (take i xs)) → Fits (content x)
     → AllByRecursion Fits (map content (take (i + 1) xs))

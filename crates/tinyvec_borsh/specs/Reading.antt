@@ -60,8 +60,8 @@ pub record TakesTooMany {C : Type 0} (Spells : C → List ℕ → Type 0) (room 
   pub above : room < len
   pub taken : ReadsSpelling (HasParts (IsCount len) (SpellsItems Spells items)) old new
 
--- After `InvalidLength` the count and one item more than the room were taken, or a list in the list is too long. Other
+-- After `InvalidLength` the count and one item more than the room were taken, or the input has an item that is too long. Other
 -- errors tell nothing.
-abbrev pub LeavesRest : {C : Type 0} → (C → List ℕ → Type 0) → (IsTooLong : List ℕ → Type 0) → (room : ℕ) → (old new : Option (List ℕ)) → BorshError → Type 0
-LeavesRest Spells IsTooLong room old new InvalidLength = TakesTooMany Spells room old new ⊎ ((input : List ℕ) × IsTooLong input)
-LeavesRest Spells IsTooLong room old new error = Unit {0}
+abbrev pub LeavesRest : {C : Type 0} → (C → List ℕ → Type 0) → (HasLongItem : List ℕ → Type 0) → (room : ℕ) → (old new : Option (List ℕ)) → BorshError → Type 0
+LeavesRest Spells HasLongItem room old new InvalidLength = TakesTooMany Spells room old new ⊎ MayBe old HasLongItem
+LeavesRest Spells HasLongItem room old new error = Unit {0}

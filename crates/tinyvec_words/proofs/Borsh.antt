@@ -1,7 +1,7 @@
 -- Examples of the Borsh form, of contents that are bytes: each spells itself, and an input without a byte is cut.
 use Rattle.std.proofs.Common.{◌≡◌, ℕ, ◌<◌, List, [], ◌∷◌, Option, Some, None, Ok, Err, inl, refl, rules, arith}
 use Rattle.std.specs.Prelude.{IsUtf8}
-use Rattle.tinyvec_borsh.specs.Items.{SpellsItems, SpellsList, ListFits, AfterItems, ListReason, CountsAbove}
+use Rattle.tinyvec_borsh.specs.Items.{SpellsItems, SpellsList, ListFits, AfterItems, InItem, ListReason, CountsAbove}
 use Rattle.tinyvec_borsh.specs.Reading.{ReadsSpelling, FailsFor, LeavesRest}
 use Rattle.tinyvec_borsh.specs.Writing.{WritesValue}
 use Rattle.tinyvec_io.specs.Counted.{CountedView}
@@ -48,6 +48,24 @@ example-AfterItems = record {
   fewer = omega arith;
   fit = search rules;
   parts = record { first = 7 ∷ []; rest = []; is_first = record { first = 7 ∷ []; rest = []; is_first = refl; is_rest = refl; whole = refl }; is_rest = example-TooFewBytes; whole = refl };
+}
+
+pub example-InItem : InItem Spells Fits (Reason Ended) 4 (2 ∷ 0 ∷ 0 ∷ 0 ∷ 0 ∷ 0 ∷ 0 ∷ 0 ∷ 7 ∷ [])
+example-InItem = record {
+  has = record {
+    len = 2;
+    items = 7 ∷ [];
+    count = 2 ∷ 0 ∷ 0 ∷ 0 ∷ 0 ∷ 0 ∷ 0 ∷ 0 ∷ [];
+    bytes = 7 ∷ [];
+    tail = [];
+    counted = search rules;
+    spelled = record { first = 7 ∷ []; rest = []; is_first = refl; is_rest = refl; whole = refl };
+    fit = search rules;
+    whole = refl;
+  };
+  fewer = omega arith;
+  few = omega arith;
+  left = example-TooFewBytes;
 }
 
 pub example-ListReason : ListReason Spells Fits Reason IsNever 4 Ended (1 ∷ 0 ∷ [])

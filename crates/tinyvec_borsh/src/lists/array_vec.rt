@@ -1,7 +1,7 @@
 //! An `ArrayVec` of what can be written and read.
 ghost use Rattle.std.specs.Prelude.{◌<◌, ◌-◌, List, map, IfOk, IfErr};
 ghost use Rattle.tinyvec_slots.specs.Slots.{items, items_len, spare, AreDefaults};
-ghost use Rattle.tinyvec_borsh.specs.Items.{SpellsList, ListFits, ListReason};
+ghost use Rattle.tinyvec_borsh.specs.Items.{SpellsList, ListFits, ListReason, InItem};
 ghost use Rattle.tinyvec_borsh.specs.Reading.{FailsFor, LeavesRest, ReadsSpelling};
 ghost use Rattle.tinyvec_borsh.specs.ItemsLaws.{list_code, list_apart, list_spelled};
 
@@ -57,7 +57,8 @@ where
         ensures fails { FailsFor R.remaining (ListReason A.Item.Spells A.Item.Fits A.Item.Reason (λ _. ⊥) A.CAPACITY)
             reader.old reader.new result }
         ensures spare { IfOk result (λ v. AreDefaults A.Item.is_default (A.CAPACITY - items_len v) (spare v)) }
-        ensures rest { IfErr result (LeavesRest A.Item.Spells (A.Item.Reason BorshError.InvalidLength) A.CAPACITY
+        ensures rest { IfErr result (LeavesRest A.Item.Spells
+            (InItem A.Item.Spells A.Item.Fits (A.Item.Reason BorshError.InvalidLength) A.CAPACITY) A.CAPACITY
             (R.remaining reader.old.inner) (R.remaining reader.new.inner)) }
     {
         let count = u64::deserialize_reader(alloc, reader)?;

@@ -4,7 +4,7 @@ use Rattle.std.proofs.lemmas.List.{length-map}
 use Rattle.std.proofs.lemmas.Result.{err_from_is_err_and}
 use Rattle.tinyvec_slots.specs.Slots.{items}
 use Rattle.tinyvec_borsh.specs.declared.borsh_error.BorshError.TheVariants.{InvalidLength}
-use Rattle.tinyvec_borsh.proofs.ItemByItem.{fails-block, fails-count, fails-item, maybe-so, read-all, read-block, read-first, read-more, rest-many, too-many}
+use Rattle.tinyvec_borsh.proofs.ItemByItem.{fails-block, fails-count, fails-item, maybe-so, read-all, read-block, read-first, read-more, rest-block, rest-item, rest-many, too-many}
 use Rattle.tinyvec_borsh.proofs.AtFaults.{length_is_other, some-all}
 use Rattle.tinyvec_borsh.proofs.lists.array_vec.ArrayVecBorshDeserialize.deserialize_reader.Goals as goal
 
@@ -50,6 +50,26 @@ returns-then-len-count-clause-fails g c =
       grows = omega arith;
     }
 
+pub returns-in_err-read_items-clause-rest : goal.returns-in_err-read_items-clause-rest
+returns-in_err-read_items-clause-rest g c =
+    let p = err_from_is_err_and c.from_residual-in_err-read_items.result c.from_residual-in_err-read_items.ensures.1 in
+    let below : c.min-len.result ≤ c.in_ok-count.count = search rules in
+    let fits : c.min-len.result ≤ g.A.Array.CAPACITY = search rules in
+    rw (p.1, p.2) (rest-block g.A.Item.BorshForm.Spells g.A.Item.BorshForm.Fits g.A.Array.CAPACITY c.in_ok-count.count [] _ g.A.Item.BorshDeserialize.Reason _ _ _ _
+    (read-first g.A.Item.BorshForm.Spells g.A.Item.BorshForm.Fits _ _ _ c.in_ok-count.ensures.ok) _ (c.min-len.result - 0) (omega (arith, below)) (omega (arith, fits))
+    c.in_err-read_items.ensures.fails.err)
+
+pub returns-in_err-deserialize_reader-clause-rest : goal.returns-in_err-deserialize_reader-clause-rest
+returns-in_err-deserialize_reader-clause-rest g c =
+    let p = err_from_is_err_and c.from_residual-in_err-deserialize_reader.result c.from_residual-in_err-deserialize_reader.ensures.1 in
+    let t = c.in_ok-read_items.ensures.ok in
+    let long = length-map t.0 g.A.Item.BorshForm.content_of in
+    let full : length t.0 ≡ min c.in_ok-count.count g.A.Array.CAPACITY = search rules in
+    let above : min c.in_ok-count.count g.A.Array.CAPACITY + 1 ≤ c.in_ok-count.count = search rules in
+    rw (p.1, p.2) (rest-item g.A.Item.BorshForm.Spells g.A.Item.BorshForm.Fits g.A.Array.CAPACITY c.in_ok-count.count _ _ g.A.Item.BorshDeserialize.Reason _ _ _ _
+    (read-block g.A.Item.BorshForm.Spells g.A.Item.BorshForm.Fits _ [] _ _ _ _ (read-first g.A.Item.BorshForm.Spells g.A.Item.BorshForm.Fits _ _ _ c.in_ok-count.ensures.ok) t.4 t.3)
+    _ (omega (arith, long, full, above)) (omega (arith, long, full, above)) c.in_err-deserialize_reader.ensures.fails.err)
+
 pub returns-then-len-count-clause-rest : goal.returns-then-len-count-clause-rest
 returns-then-len-count-clause-rest g c =
     let t = c.in_ok-read_items.ensures.ok in
@@ -57,7 +77,7 @@ returns-then-len-count-clause-rest g c =
     let full : length t.0 ≡ min c.in_ok-count.count g.A.Array.CAPACITY = search rules in
     let above : min c.in_ok-count.count g.A.Array.CAPACITY + 1 ≤ c.in_ok-count.count = search rules in
     let one_more = length-append (map g.A.Item.BorshForm.content_of t.0) (g.A.Item.BorshForm.content_of c.in_ok-deserialize_reader.field-0 ∷ []) in
-    rest-many g.A.Item.BorshForm.Spells g.A.Item.BorshForm.Fits (g.A.Item.BorshDeserialize.Reason InvalidLength) g.A.Array.CAPACITY _ _ _ _
+    rest-many g.A.Item.BorshForm.Spells g.A.Item.BorshForm.Fits g.A.Array.CAPACITY _ _ _ _ _
     (read-more g.A.Item.BorshForm.Spells g.A.Item.BorshForm.Fits _ _ _ _ _ _ (read-block g.A.Item.BorshForm.Spells g.A.Item.BorshForm.Fits _ [] _ _ _ _ (read-first g.A.Item.BorshForm.Spells g.A.Item.BorshForm.Fits _ _ _ c.in_ok-count.ensures.ok) t.4 t.3)
     c.in_ok-deserialize_reader.ensures.ok c.in_ok-deserialize_reader.ensures.fits)
     (omega (arith, one_more, long, full, above)) (omega (arith, above))
