@@ -3,7 +3,6 @@ use Rattle.std.proofs.KnownBytes.{Consumes-trans}
 use Rattle.std.proofs.lemmas.List.{length-map}
 use Rattle.std.proofs.lemmas.Result.{err_from_is_err_and}
 use Rattle.tinyvec_slots.specs.Slots.{items}
-use Rattle.tinyvec_borsh.specs.declared.borsh_error.BorshError.TheVariants.{InvalidLength}
 use Rattle.tinyvec_borsh.proofs.ItemByItem.{fails-block, fails-count, fails-item, maybe-so, read-all, read-block, read-first, read-more, rest-block, rest-item, rest-many, too-many}
 use Rattle.tinyvec_borsh.proofs.AtFaults.{length_is_other, some-all}
 use Rattle.tinyvec_borsh.proofs.lists.array_vec.ArrayVecBorshDeserialize.deserialize_reader.Goals as goal
