@@ -9,12 +9,12 @@ use Rattle.tinyvec_slots.specs.Slots.{AreDefaults}
 use Rattle.tinyvec.specs.SpliceLaws.{frame_becomes}
 use Rattle.tinyvec.specs.TinyVec.{place_of, tiny_items, tiny_len, tiny_spare, tiny_capacity, is_inline, IsInline, TinySlotRule, SameFrame, Becomes, Unchanged}
 use Rattle.tinyvec.specs.Refused.{RefusedFor}
-use Rattle.tinyvec.specs.Room.{GrowsFor, RoomGrows}
+use Rattle.tinyvec.specs.Room.{GrowsFor, RoomGrows, MakesRoom}
 use Rattle.tinyvec.specs.declared.tiny_vec.TinyVec.{TinyVec}
 use Rattle.tinyvec.specs.declared.tiny_vec.TinyVec.TheVariants.{Inline, Heap}
 use Rattle.std.specs.String.Boundary.{IsSplitPoint}
 use Rattle.tinyvec.specs.View.{Place, in_array, on_heap, lies_inline, capacity_in, ViewPlaceRule}
-use Rattle.tinyvec.proofs.TinyLemmas.{same_place}
+use Rattle.tinyvec.proofs.TinyLemmas.{same_place, tiny_slots_then_framed}
 use Rattle.tinyvec_text.specs.InlineText.{Text, IsText, text_of, text_view, text_chars, text_len, TextMakesRoom, IsBoundary}
 use Rattle.tinyvec_text.proofs.Boundaries.{split_from_boundary}
 
@@ -149,3 +149,15 @@ pub place_stays : (slots need : ℕ) (old new : Text) → need ≤ capacity_in s
     → ViewPlaceRule slots need (text_view old) (text_view new) → lies_inline new.place ≡ lies_inline old.place
 place_stays slots need old new enough rule =
     same_truth (lies_inline new.place) (lies_inline old.place) (λ is. (rule.0 is).0) (λ is. rule.1 (is, omega (arith, enough, room_inline slots old.place is)))
+
+-- a call that had room, after which items were written
+pub room_rewritten : {A X E : Type 0} {G : ℕ → ℕ → TinyVec A ℕ → TinyVec A ℕ → Type 0} (slots need : ℕ) (old mid new : TinyVec A ℕ) (x : X) → need ≤ tiny_capacity slots old
+    → MakesRoom {X = X} {E = E} G (λ b. b ≡ 0) slots need old mid (Ok x) → SameFrame mid new → Becomes (λ b. b ≡ 0) slots old new (tiny_items new)
+room_rewritten slots need old mid new x enough made frame =
+    let same = frame.capacity slots in record {
+      items = refl;
+      place = frame.place ∙ place_stays slots need (text_of old) (text_of mid) enough made.place;
+      slot_rule = tiny_slots_then_framed (λ b. b ≡ 0) old mid new made.slot_rule frame;
+      capacity = same ∙ made.same_room enough;
+      fits = let fits = made.fits in let len = frame.len in omega (arith, same, len, fits);
+    }

@@ -8,6 +8,7 @@ ghost use Rattle.tinyvec.specs.View.{lies_inline, capacity_in};
 ghost use Rattle.tinyvec.specs.TinyVec.{tiny_items, tiny_spare};
 ghost use Rattle.tinyvec_text.specs.InlineText.{text_of, text_chars, text_len, TextMadeFor};
 
+mod bytes;
 mod edits;
 mod extending;
 mod filters;

@@ -6,9 +6,11 @@ ghost use Rattle.tinyvec_slots.specs.Ranges.{range_start, range_end, before, aft
 ghost use Rattle.std.specs.String.Boundary.{IsSplitPoint};
 
 use super::InlineText;
+use super::bytes::{remove_bytes, replace_bytes};
 use std::alloc::{AllocError, Global};
 use std::ops::RangeBounds;
 use std::str;
+use tinyvec_slots::resolve_range;
 
 impl<const N: usize> InlineText<N> {
     /// A copy of `s`, inline if its bytes fit the array. Otherwise allocates once.
@@ -161,8 +163,26 @@ impl<const N: usize> InlineText<N> {
         ensures room { TextMakesRoom (lies_inline self.old.place) N (text_len self.old + length (encode_utf8 ch))
             self.old self.new result }
     {
+        // Most characters are ASCII, and have room.
+        if ch.is_ascii() && self.len() < self.capacity() {
+            self.insert_ascii(index, ch);
+            return Ok(());
+        }
         let mut buffer = [0; 4];
         self.insert_str(index, ch.encode_utf8(&mut buffer))
+    }
+
+    // `insert` of an ASCII character that has room.
+    fn insert_ascii(&mut self, index: usize, ch: char)
+        requires boundary { IsBoundary (text_chars self.old) index }
+        requires ascii { ch < 128 }
+        requires room { text_len self.old < capacity_in N self.old.place }
+        ensures { TextBecomes N self.old self.new (take index self.old.bytes ++ encode_utf8 ch ++ drop index self.old.bytes)
+            (chars (take index self.old.bytes) ++ ch ∷ [] ++ chars (drop index self.old.bytes)) }
+    {
+        let Ok(()) = self.list.insert(index, ch as u8) else {
+            unreachable!();
+        };
     }
 
     /// Puts `string` at the byte `index`, where a character begins or the text ends. Allocates only if the bytes don't fit.
@@ -197,7 +217,11 @@ impl<const N: usize> InlineText<N> {
             - (range_end (R.end_bound range) (text_len self.old) - range_start (R.start_bound range)) + length replace_with.now)
             self.old self.new result }
     {
-        self.list.replace_range(range, replace_with.as_bytes())?;
+        let part = resolve_range(range, self.list.len());
+        let bytes = replace_with.as_bytes();
+        let more = bytes.len().saturating_sub(part.end - part.start);
+        self.list.reserve(more)?;
+        replace_bytes(&mut self.list, part.start, part.end, bytes);
         Ok(())
     }
 
@@ -212,9 +236,7 @@ impl<const N: usize> InlineText<N> {
         ensures frame { TextStaysInPlace N self.old self.new }
     {
         let (c, width) = first_char(&self.list.as_slice()[index..]);
-        // Shows the proof that the list fits.
-        let _len = self.list.len();
-        drop(self.list.drain(index..index + width));
+        remove_bytes(&mut self.list, index, index + width);
         c
     }
 
@@ -235,6 +257,7 @@ impl<const N: usize> InlineText<N> {
     }
 
     /// Removes and returns the last character, if any. Does not allocate, and the text stays in its place.
+    #[inline(always)]
     pub fn pop(&mut self) -> Option<char>
         ensures variant { IsSome result ↔ (0 < text_len self.old) }
         ensures bytes { IfSome result (λ c. self.old.bytes ≡ self.new.bytes ++ encode_utf8 c) }
@@ -242,13 +265,28 @@ impl<const N: usize> InlineText<N> {
         ensures none { IfNone result (self.new ≡ self.old) }
         ensures frame { TextStaysInPlace N self.old self.new }
     {
-        let bytes = self.list.as_slice();
-        if bytes.is_empty() {
+        let Some(last) = self.list.as_slice().last() else {
             return None;
+        };
+        let byte = *last;
+        if byte < 0x80 {
+            self.list.pop();
+            return Some(byte as char);
         }
-        let (c, start) = last_char(bytes);
+        Some(self.pop_wide())
+    }
+
+    // `pop` of any character. A call of its own, since most are ASCII.
+    #[inline(never)]
+    fn pop_wide(&mut self) -> char
+        requires { 0 < text_len self.old }
+        ensures bytes { self.old.bytes ≡ self.new.bytes ++ encode_utf8 result }
+        ensures text { text_chars self.old ≡ text_chars self.new ++ result ∷ [] }
+        ensures frame { TextStaysInPlace N self.old self.new }
+    {
+        let (c, start) = last_char(self.list.as_slice());
         self.list.truncate(start);
-        Some(c)
+        c
     }
 }
 
@@ -266,7 +304,22 @@ fn is_split_point(bytes: &[u8], i: usize) -> bool
 }
 
 // The first character, and how many bytes it takes. No more than its own bytes are read.
+#[inline(always)]
 pub(crate) fn first_char(bytes: &[u8]) -> (char, usize)
+    requires some { 0 < length bytes.now }
+    requires utf8 { IsUtf8 bytes.now }
+    ensures { IsFirstChar bytes.now result.0 result.1 }
+{
+    let byte = bytes[0];
+    if byte < 0x80 {
+        return (byte as char, 1);
+    }
+    first_wide(bytes)
+}
+
+// `first_char` of any character. A call of its own, since most are ASCII.
+#[inline(never)]
+fn first_wide(bytes: &[u8]) -> (char, usize)
     requires some { 0 < length bytes.now }
     requires utf8 { IsUtf8 bytes.now }
     ensures { IsFirstChar bytes.now result.0 result.1 }

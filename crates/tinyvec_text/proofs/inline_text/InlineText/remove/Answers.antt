@@ -1,8 +1,6 @@
 use Rattle.std.proofs.Common.{◌≡◌, ◌+◌, ◌-◌, ◌++◌, ◌∷◌, IsUtf8, encode_utf8, ap, sym, subst, ◌∙◌, chars, length, take, drop, take_all, le_of_eq, length-drop}
 use Rattle.std.proofs.CharBoundary.{IsUtf8-take-drop}
-use Rattle.tinyvec.specs.View.{lies_inline, capacity_in}
 use Rattle.tinyvec.specs.TinyVec.{tiny_items}
-use Rattle.tinyvec.proofs.DrainLemmas.{DrainKeeps-refl, tiny_drained}
 use Rattle.tinyvec_text.specs.InlineText.{Text, text_chars}
 use Rattle.tinyvec_text.proofs.Boundaries.{chars_here, utf8_gap, chars_gap}
 use Rattle.tinyvec_text.proofs.Lists.{text_utf8, text_cut, text_stays}
@@ -30,9 +28,7 @@ invariant_of-self g c =
     let tail : take (length sl - i) (drop i sl) ≡ drop i bs = take_all _ _ (le_of_eq (length-drop i sl)) ∙ ap (drop i) c.as_slice.ensures in
     let own : take n (drop i bs) ≡ encode_utf8 x = subst (λ xs. take n xs ≡ encode_utf8 x) tail c.first_char-c.ensures.encoded in
     let rest : IsUtf8 (drop n (drop i bs)) = subst (λ xs. IsUtf8 (drop n xs)) tail c.first_char-c.ensures.rest in
-    let d = c.drain.result in
-    let left = tiny_drained (λ b. b ≡ 0) g.row.N list d d c.drop.new.self.0 c.drain.ensures.frame (DrainKeeps-refl d) c.drop.ensures in
-    text_stays g.row.N list c.drop.new.self.0 _ left c.self.invariant (subst IsUtf8 (sym c.drain.ensures.kept) (utf8_gap bs utf8 i cut n x own rest))
+    text_stays g.row.N list c.remove_bytes.new.list _ c.remove_bytes.ensures c.self.invariant (utf8_gap bs utf8 i cut n x own rest)
 
 pub returns-clause-text : goal.returns-clause-text
 returns-clause-text g c =
@@ -47,20 +43,9 @@ returns-clause-text g c =
     let tail : take (length sl - i) (drop i sl) ≡ drop i bs = take_all _ _ (le_of_eq (length-drop i sl)) ∙ ap (drop i) c.as_slice.ensures in
     let own : take n (drop i bs) ≡ encode_utf8 x = subst (λ xs. take n xs ≡ encode_utf8 x) tail c.first_char-c.ensures.encoded in
     let rest : IsUtf8 (drop n (drop i bs)) = subst (λ xs. IsUtf8 (drop n xs)) tail c.first_char-c.ensures.rest in
-    let d = c.drain.result in
-    let left = tiny_drained (λ b. b ≡ 0) g.row.N list d d c.drop.new.self.0 c.drain.ensures.frame (DrainKeeps-refl d) c.drop.ensures in
-    let is : tiny_items c.drop.new.self.0 ≡ take i bs ++ drop (i + n) bs = left.items ∙ c.drain.ensures.kept in
+    let is : tiny_items c.remove_bytes.new.list ≡ take i bs ++ drop (i + n) bs = c.remove_bytes.ensures.items in
     let behind = chars (drop (i + n) bs) in (
       behind,
       sym (ap text_chars c.self.view_is) ∙ chars_here bs utf8 i cut n x own rest ∙ ap (λ (t : Text). chars (take i t.bytes) ++ x ∷ behind) c.self.view_is,
       ap chars is ∙ chars_gap bs utf8 i cut n x own rest ∙ ap (λ (t : Text). chars (take i t.bytes) ++ behind) c.self.view_is,
     )
-
-pub returns-clause-frame : goal.returns-clause-frame
-returns-clause-frame g c =
-    let d = c.drain.result in
-    let left = tiny_drained (λ b. b ≡ 0) g.row.N c.self.inside.list d d c.drop.new.self.0 c.drain.ensures.frame (DrainKeeps-refl d) c.drop.ensures in record {
-      place = left.place ∙ ap (λ (t : Text). lies_inline t.place) c.self.view_is;
-      room = left.capacity ∙ ap (λ (t : Text). capacity_in g.row.N t.place) c.self.view_is;
-      fits = left.fits;
-    }

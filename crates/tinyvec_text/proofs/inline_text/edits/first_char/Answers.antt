@@ -1,24 +1,16 @@
-use Rattle.std.proofs.Common.{◌++◌, IsUtf8, encode_utf8, ap, sym, subst, ◌∙◌, drop, rules}
-use Rattle.std.proofs.CharBoundary.{IsUtf8-take-drop}
-use Rattle.std.proofs.lemmas.Str.{IsUtf8-append}
-use Rattle.tinyvec_text.proofs.Boundaries.{take_first, drop_first}
+use Rattle.std.proofs.Common.{sym, ◌∙◌, rules}
+use Rattle.std.proofs.Math.Seq.{take-suc}
+use Rattle.std.proofs.lemmas.Str.{IsUtf8-drop, IsCharBoundary-after_ascii, encode_ascii}
 use Rattle.tinyvec_text.proofs.inline_text.edits.first_char.Goals as goal
 
-pub unreachable-requires : goal.unreachable-requires
-unreachable-requires c =
-    let end = c.first_char_end-end in
-    c.in_default.ensures.cases.0 (IsUtf8-take-drop c.args.bytes.now c.requires.utf8 end.result end.ensures.split).0
-
-pub returns : goal.returns
-returns c =
+pub returns-then-byte-lt128 : goal.returns-then-byte-lt128
+returns-then-byte-lt128 c =
     let bs = c.args.bytes.now in
-    let end = c.first_char_end-end in
-    let rest = c.as_str.result.now in
-    let parts = sym (c.chars-rest.ensures.rest ∙ c.in-Ok.ensures.cases.0) ∙ c.in-Some.ensures.steps.0 ∙ ap (λ xs. encode_utf8 c.in-Some.c ++ xs) (sym c.as_str.ensures) in
+    let some = c.requires.some in
+    let utf8 = c.requires.utf8 in
     record {
-      encoded = take_first bs rest end.result c.in-Some.c parts end.ensures.split.0;
-      rest = subst IsUtf8 (sym (drop_first bs rest end.result c.in-Some.c parts end.ensures.split.0))
-          (IsUtf8-append rest (drop end.result bs) c.as_str.utf8 (IsUtf8-take-drop bs c.requires.utf8 end.result end.ensures.split).1);
+      encoded = take-suc bs 0 0 some ∙ sym (encode_ascii _ c.if-byte-lt128.true);
+      rest = IsUtf8-drop bs 1 utf8 (IsCharBoundary-after_ascii bs 0 utf8 some c.if-byte-lt128.true);
       scalar = search rules;
       positive = search rules;
       in_bounds = search rules;

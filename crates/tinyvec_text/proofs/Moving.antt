@@ -1,0 +1,68 @@
+-- Bytes that are moved within a list, block by block.
+use Rattle.std.proofs.Common.{◌≡◌, ℕ, ◌+◌, ◌-◌, ◌≤◌, List, ◌++◌, length, take, drop, refl, sym, ap, ◌∙◌, arith, append_assoc, take-append-drop, take-add, length-take-le, length-drop, take_at, drop_at, take_all}
+use Rattle.std.proofs.Math.Seq.{take-take, take-append-le, drop-append-le}
+use Rattle.std.proofs.lemmas.List.{drop-drop, drop-take, drop_all}
+use Rattle.tinyvec_text.proofs.Filters.{CopiedDown}
+
+-- a block of k bytes was copied from one place of `bs` to another
+module _ (bs cs : List ℕ) (from to k : ℕ) where
+  pub record CopiedBlock : Type 0 where
+    pub len : length cs ≡ length bs
+    pub front : take (to + k) cs ≡ take to bs ++ take k (drop from bs)
+    pub rest : drop (to + k) cs ≡ drop (to + k) bs
+
+pub copied_block : (xs bs cs : List ℕ) (to from i k : ℕ) → to ≤ from → CopiedDown xs bs to from i → CopiedBlock bs cs (from + i) (to + i) k
+    → CopiedDown xs cs to from (i + k)
+copied_block xs bs cs to from i k down h b =
+    let up : to + (i + k) ≡ to + i + k = omega arith in
+    let past : from + (i + k) ≡ to + i + k + (from - to) = omega (arith, down) in
+    let on : to + i + k + (from - to) ≡ from + i + k = omega (arith, down) in
+    let both : from + i + k ≡ from + (i + k) = omega arith in record {
+      len = b.len ∙ h.len;
+      front =
+          ap (λ n. take n cs) up ∙ b.front ∙ (λ j. h.front j ++ take k (h.rest j)) ∙ append_assoc (take to xs) (take i (drop from xs)) (take k (drop (from + i) xs))
+          ∙ ap (λ l. take to xs ++ l) (ap (λ l. take i (drop from xs) ++ take k l) (sym (drop-drop i from xs)) ∙ sym (take-add i k (drop from xs)));
+      rest =
+          ap (λ n. drop n cs) past ∙ sym (drop-drop (from - to) (to + i + k) cs) ∙ ap (drop (from - to)) b.rest ∙ drop-drop (from - to) (to + i + k) bs
+          ∙ ap (λ n. drop n bs) on ∙ sym (drop-drop k (from + i) bs) ∙ ap (drop k) h.rest ∙ drop-drop k (from + i) xs ∙ ap (λ n. drop n xs) both;
+    }
+
+-- bs is xs, with all but the first `left` of the `count` bytes at `from` copied to the end, which begins at `to`
+pub record CopiedUp (xs bs : List ℕ) (from to count left : ℕ) : Type 0 where
+  pub len : length bs ≡ length xs
+  pub same : take (from + left) bs ≡ take (from + left) xs
+  pub back : drop (to + left) bs ≡ drop left (take count (drop from xs))
+
+pub copied_block_up : (xs bs cs : List ℕ) (from to count l k : ℕ) → from ≤ to → l + k ≤ count → to + count ≡ length xs
+    → CopiedUp xs bs from to count (l + k) → CopiedBlock bs cs (from + l) (to + l) k → CopiedUp xs cs from to count l
+copied_block_up xs bs cs from to count l k up within ends h b =
+    let m = take count (drop from xs) in
+    let long = h.len in
+    let inside : length (take (to + l) bs) ≡ to + l = length-take-le (to + l) bs (omega (arith, long, ends, within)) in
+    let low : from + l ≤ to + l = omega (arith, up) in
+    let joined : from + l + k ≡ from + (l + k) = omega arith in
+    let past : to + l + k ≡ to + (l + k) = omega arith in
+    let moved : take k (drop (to + l) cs) ≡ take k (drop l m) =
+    sym (drop-take (to + l) k cs) ∙ ap (drop (to + l)) b.front ∙ drop_at (take (to + l) bs) (take k (drop (from + l) bs)) (to + l) inside
+    ∙ sym (drop-take (from + l) k bs) ∙ ap (λ n. drop (from + l) (take n bs)) joined ∙ ap (drop (from + l)) h.same
+    ∙ ap (λ n. drop (from + l) (take n xs)) (sym joined) ∙ drop-take (from + l) k xs ∙ ap (take k) (sym (drop-drop l from xs))
+    ∙ sym (drop-take l k (drop from xs)) ∙ ap (drop l) (sym (take-take (l + k) count (drop from xs) within)) ∙ drop-take l k m in
+    let stayed : drop k (drop (to + l) cs) ≡ drop k (drop l m) =
+    drop-drop k (to + l) cs ∙ b.rest ∙ ap (λ n. drop n bs) past ∙ h.back ∙ sym (drop-drop k l m) in
+    record {
+      len = b.len ∙ long;
+      same =
+          sym (take-take (from + l) (to + l + k) cs (omega (arith, up))) ∙ ap (take (from + l)) b.front
+          ∙ take-append-le (from + l) (take (to + l) bs) (take k (drop (from + l) bs)) (omega (arith, inside, low))
+          ∙ take-take (from + l) (to + l) bs low ∙ sym (take-take (from + l) (from + (l + k)) bs (omega arith))
+          ∙ ap (take (from + l)) h.same ∙ take-take (from + l) (from + (l + k)) xs (omega arith);
+      back = sym (take-append-drop k (drop (to + l) cs)) ∙ (λ j. moved j ++ stayed j) ∙ take-append-drop k (drop l m);
+    }
+
+-- bs was appended to xs, and then moved to i
+pub inserted : (xs bs ys : List ℕ) (i n : ℕ) → i ≤ length xs → n ≡ length xs - i → ys ≡ xs ++ bs → take i ys ++ bs ++ take n (drop i ys) ≡ take i xs ++ bs ++ drop i xs
+inserted xs bs ys i n le e is =
+    let size : length (drop i xs) ≡ n = length-drop i xs ∙ sym e in
+    let front : take i ys ≡ take i xs = ap (take i) is ∙ take-append-le i xs bs le in
+    let back : take n (drop i ys) ≡ drop i xs = ap (λ l. take n (drop i l)) is ∙ ap (take n) (drop-append-le i xs bs le) ∙ take_at (drop i xs) bs n size in
+    λ j. front j ++ bs ++ back j

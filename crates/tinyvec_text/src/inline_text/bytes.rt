@@ -1,0 +1,113 @@
+//! Bytes of a list that are replaced by others, by moves of memory.
+ghost use Rattle.std.specs.Prelude.{◌≡◌, ◌+◌, ◌-◌, ◌≤◌, ◌++◌, length, take, drop};
+ghost use Rattle.tinyvec.specs.TinyVec.{tiny_items, tiny_len, tiny_capacity, Becomes};
+
+use tinyvec::TinyVec;
+
+// So many bytes are moved at a time.
+const BLOCK: usize = 4096;
+
+/// Puts `bytes` in the place of those from `start` up to `end`, in a list that has room.
+pub fn replace_bytes<const N: usize>(
+    list: &mut TinyVec<[u8; N]>,
+    start: usize,
+    end: usize,
+    bytes: &[u8],
+)
+    requires start_le_end { start ≤ end }
+    requires in_list { end ≤ tiny_len list.old }
+    requires room { tiny_len list.old - (end - start) + length bytes.now ≤ tiny_capacity N list.old }
+    ensures { Becomes (λ b. b ≡ 0) N list.old list.new
+        (take start (tiny_items list.old) ++ bytes.now ++ drop end (tiny_items list.old)) }
+{
+    let gap = end - start;
+    if bytes.len() <= gap {
+        let end_of_new = start + bytes.len();
+        list.as_mut_slice()[start..end_of_new].copy_from_slice(bytes);
+        remove_bytes(list, end_of_new, end);
+        return;
+    }
+    let (front, more) = bytes.split_at(gap);
+    list.as_mut_slice()[start..end].copy_from_slice(front);
+    insert_bytes(list, end, more);
+}
+
+/// Removes the bytes from `start` up to `end`.
+pub fn remove_bytes<const N: usize>(list: &mut TinyVec<[u8; N]>, start: usize, end: usize)
+    requires start_le_end { start ≤ end }
+    requires in_list { end ≤ tiny_len list.old }
+    ensures { Becomes (λ b. b ≡ 0) N list.old list.new
+        (take start (tiny_items list.old) ++ drop end (tiny_items list.old)) }
+{
+    let left = list.len() - (end - start);
+    move_down(list.as_mut_slice(), end, start);
+    list.truncate(left);
+}
+
+// Inserts `bytes` at `index` into a list that has room.
+fn insert_bytes<const N: usize>(list: &mut TinyVec<[u8; N]>, index: usize, bytes: &[u8])
+    requires in_list { index ≤ tiny_len list.old }
+    requires room { tiny_len list.old + length bytes.now ≤ tiny_capacity N list.old }
+    ensures { Becomes (λ b. b ≡ 0) N list.old list.new
+        (take index (tiny_items list.old) ++ bytes.now ++ drop index (tiny_items list.old)) }
+{
+    let behind = list.len() - index;
+    let Ok(()) = list.extend_from_slice_copy(bytes) else {
+        unreachable!();
+    };
+    put_before(list.as_mut_slice(), index, behind, bytes);
+}
+
+// Moves the `behind` items at `index` to the end, and writes `bytes` in front of them.
+fn put_before(items: &mut [u8], index: usize, behind: usize, bytes: &[u8])
+    requires { index + length bytes.now + behind ≡ length items.old }
+    ensures { items.new ≡ take index items.old ++ bytes.now ++ take behind (drop index items.old) }
+{
+    let end = index + bytes.len();
+    move_up(items, index, end, behind);
+    items[index..end].copy_from_slice(bytes);
+}
+
+// Moves the bytes from `from` on down to `to`. As many as they moved by are left at the end.
+fn move_down(bytes: &mut [u8], from: usize, to: usize)
+    requires downward { to ≤ from }
+    requires in_bounds { from ≤ length bytes.old }
+    ensures { take (length bytes.old - (from - to)) bytes.new ≡ take to bytes.old ++ drop from bytes.old }
+{
+    let count = bytes.len() - from;
+    let mut done = 0;
+    while done < count {
+        let some = BLOCK.min(count - done);
+        move_block(bytes, from + done, to + done, some);
+        done += some;
+    }
+}
+
+// Moves the `count` bytes at `from` up to `to`, where they end the slice.
+fn move_up(bytes: &mut [u8], from: usize, to: usize, count: usize)
+    requires upward { from ≤ to }
+    requires ends { to + count ≡ length bytes.old }
+    ensures front { take from bytes.new ≡ take from bytes.old }
+    ensures back { drop to bytes.new ≡ take count (drop from bytes.old) }
+{
+    let mut left = count;
+    while 0 < left {
+        let some = BLOCK.min(left);
+        left -= some;
+        move_block(bytes, from + left, to + left, some);
+    }
+}
+
+// Copies the `count` bytes at `from` to `to`. LLVM makes one `memmove` of it, and no block.
+#[inline(always)]
+fn move_block(bytes: &mut [u8], from: usize, to: usize, count: usize)
+    requires few { count ≤ 4096 }
+    requires from_in_bounds { from + count ≤ length bytes.old }
+    requires to_in_bounds { to + count ≤ length bytes.old }
+    ensures front { take (to + count) bytes.new ≡ take to bytes.old ++ take count (drop from bytes.old) }
+    ensures rest { drop (to + count) bytes.new ≡ drop (to + count) bytes.old }
+{
+    let mut block = [0; BLOCK];
+    block[..count].copy_from_slice(&bytes[from..from + count]);
+    bytes[to..to + count].copy_from_slice(&block[..count]);
+}
