@@ -1,7 +1,7 @@
 -- Bytes that are moved within a list, block by block.
-use Rattle.std.proofs.Common.{◌≡◌, ℕ, ◌+◌, ◌-◌, ◌≤◌, List, ◌++◌, length, take, drop, refl, sym, ap, ◌∙◌, arith, append_assoc, take-append-drop, take-add, length-take-le, length-drop, take_at, drop_at, take_all}
+use Rattle.std.proofs.Common.{◌≡◌, ℕ, ◌+◌, ◌-◌, ◌≤◌, List, ◌++◌, length, take, drop, sym, ap, ◌∙◌, arith, append_assoc, take-append-drop, take-add, length-take-le, length-drop, take_at, drop_at}
 use Rattle.std.proofs.Math.Seq.{take-take, take-append-le, drop-append-le}
-use Rattle.std.proofs.lemmas.List.{drop-drop, drop-take, drop_all}
+use Rattle.std.proofs.lemmas.List.{drop-drop, drop-take}
 use Rattle.tinyvec_text.proofs.Filters.{CopiedDown}
 
 -- a block of k bytes was copied from one place of `bs` to another

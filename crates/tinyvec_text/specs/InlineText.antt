@@ -1,5 +1,5 @@
 -- What a contract sees of an `InlineText`: its bytes, and where they are.
-use Rattle.std.specs.Prelude.{◌≡◌, ℕ, ◌+◌, ◌*◌, ◌<◌, ◌≤◌, ◌↔◌, if◌then◌else◌, max, List, [], ◌++◌, length, take, drop, All, Bool, IsTrue, Result, IsOk, OnOk, OnErr, chars, encode_utf8, encode_utf8_all, IsUtf8}
+use Rattle.std.specs.Prelude.{◌≡◌, ℕ, ◌+◌, ◌*◌, ◌<◌, ◌≤◌, ◌↔◌, if◌then◌else◌, max, List, [], ◌++◌, length, take, drop, All, Bool, false, IsTrue, Result, IsOk, OnOk, OnErr, chars, encode_utf8, encode_utf8_all, IsUtf8}
 use Rattle.std.specs.Char.{IsScalar}
 use Rattle.tinyvec.specs.View.{Place, lies_inline, capacity_in, TinyView, ViewPlaceRule, ViewKeepsRoom, ViewGrowsInSteps}
 use Rattle.tinyvec.specs.TinyVec.{tiny_items, tiny_spare, place_of}
@@ -46,13 +46,15 @@ pub record TextMakesRoom {X E : Type 0} (moves : Bool) (slots need : ℕ) (old n
   pub refused : OnErr result (new ≡ old)
 
 -- A call that appends piece by piece took `old` to `new`: the text moves only if it outgrows the array, and grows to less
--- than twice its bytes.
+-- than twice its bytes; one on the heap that grew at least doubled its room.
 pub record TextExtends (slots : ℕ) (old new : Text) : Type 0 where
   pub longer : text_len old ≤ text_len new
   pub place : ViewPlaceRule slots (text_len new) (text_view old) (text_view new)
   pub capacity : capacity_in slots old.place ≤ capacity_in slots new.place
   pub same_room : ViewKeepsRoom slots (text_len new) (text_view old) (text_view new)
   pub grown : ViewGrowsInSteps slots (text_view old) (text_view new)
+  pub doubled : lies_inline old.place ≡ false → capacity_in slots old.place < capacity_in slots new.place
+      → 2 * capacity_in slots old.place ≤ capacity_in slots new.place
   pub fits : text_len new ≤ capacity_in slots new.place
 
 -- a call that made room for n more bytes took `old` to `new`, with this result
@@ -99,10 +101,11 @@ pub record TextCollects (slots : ℕ) (t : Text) : Type 0 where
   pub place : IsTrue (lies_inline t.place) ↔ (text_len t ≤ slots)
   pub grown : slots < capacity_in slots t.place → capacity_in slots t.place < 2 * text_len t
 
--- the text has the bytes of `old` from i on, in the same kind of place
+-- the text has the bytes of `old` from i on, in the same kind of place; on the heap its room is its length
 pub record IsTextTail (slots i : ℕ) (old t : Text) : Type 0 where
   pub bytes : t.bytes ≡ drop i old.bytes
   pub place : lies_inline t.place ≡ lies_inline old.place
+  pub room : lies_inline t.place ≡ false → capacity_in slots t.place ≡ text_len t
   pub fits : text_len t ≤ capacity_in slots t.place
 
 -- the bytes begin with those of c, which are n, and UTF-8 follows

@@ -1,5 +1,5 @@
 //! `InlineText`.
-ghost use Rattle.std.specs.Prelude.{◌≡◌, ◌≤◌, ◌==◌, ◌↔◌, [], drop, All, true, false, IsTrue, IsOk, IsSome, IfOk, IfErr, IfSome, MatchResult, encode_utf8_all, IsUtf8};
+ghost use Rattle.std.specs.Prelude.{◌≡◌, ◌<◌, ◌≤◌, ◌==◌, ◌↔◌, [], drop, All, true, false, IsTrue, IsOk, IsSome, IfOk, IfErr, IfSome, MatchResult, encode_utf8_all, IsUtf8};
 ghost use Rattle.std.specs.Str.{valid_up_to, error_len};
 ghost use Rattle.std.specs.Str.Lossy.{utf8_valid_len, utf8_error_len};
 ghost use Rattle.std.specs.String.{string_bytes, string_capacity};
@@ -179,7 +179,10 @@ impl<const N: usize> InlineText<N> {
 impl<const N: usize> TryFrom<InlineText<N>> for String {
     type Error = NoMemory<InlineText<N>>;
 
-    ghost try_from_gives = { λ t r. MatchResult r (λ s. string_bytes s ≡ t.bytes) (λ refused. refused.0 ≡ t) };
+    // It fails only for an inline text that has a character.
+    ghost try_from_gives = { λ t r. MatchResult r
+        (λ s. (string_bytes s ≡ t.bytes) × (string_capacity s ≡ capacity_in (text_len t) t.place))
+        (λ refused. (refused.0 ≡ t) × IsTrue (lies_inline t.place) × (0 < text_len t)) };
 
     fn try_from(text: InlineText<N>) -> Result<String, NoMemory<InlineText<N>>> {
         text.into_string()

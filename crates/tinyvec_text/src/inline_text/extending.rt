@@ -63,7 +63,7 @@ impl<'a, const N: usize> Extend<&'a str> for InlineText<N> {
 impl<const N: usize> FromIterator<char> for InlineText<N> {
     type Alloc = Global;
 
-    ghost from_iter_gives = { λ cs t. t.bytes ≡ encode_utf8_all cs };
+    ghost from_iter_gives = { λ cs t. (t.bytes ≡ encode_utf8_all cs) × TextCollects N t };
 
     fn from_iter<U: IntoIterator<Item = char>>(
         alloc: Global,
@@ -72,7 +72,7 @@ impl<const N: usize> FromIterator<char> for InlineText<N> {
         requires { (it : U.IntoIter) → U.into_iter_gives iter it
             → U.IntoIter.can_next it × IsFinite (U.IntoIter.remaining it) × HoldsAlong U.IntoIter.next_gives it (λ _. ⊤) }
         ensures ran { IfOk result (λ t. (it : U.IntoIter) × (xs : List ℕ) × U.into_iter_gives iter it
-            × DrainsIf U.IntoIter.next_gives ⊤ it xs × (t.bytes ≡ encode_utf8_all xs)) }
+            × DrainsIf U.IntoIter.next_gives ⊤ it xs × ((t.bytes ≡ encode_utf8_all xs) × TextCollects N t)) }
         ensures collects { IfOk result (TextCollects N) }
 
         // If known items fit the array, it allocates nothing.
@@ -89,7 +89,7 @@ impl<const N: usize> FromIterator<char> for InlineText<N> {
 impl<'a, const N: usize> FromIterator<&'a str> for InlineText<N> {
     type Alloc = Global;
 
-    ghost from_iter_gives = { λ xs t. t.bytes ≡ flat_map (λ x. x.now) xs };
+    ghost from_iter_gives = { λ xs t. (t.bytes ≡ flat_map (λ x. x.now) xs) × TextCollects N t };
 
     fn from_iter<U: IntoIterator<Item = &'a str>>(
         alloc: Global,
@@ -98,7 +98,7 @@ impl<'a, const N: usize> FromIterator<&'a str> for InlineText<N> {
         requires { (it : U.IntoIter) → U.into_iter_gives iter it
             → U.IntoIter.can_next it × IsFinite (U.IntoIter.remaining it) × HoldsAlong U.IntoIter.next_gives it (λ _. ⊤) }
         ensures ran { IfOk result (λ t. (it : U.IntoIter) × (xs : _) × U.into_iter_gives iter it
-            × DrainsIf U.IntoIter.next_gives ⊤ it xs × (t.bytes ≡ flat_map (λ x. x.now) xs)) }
+            × DrainsIf U.IntoIter.next_gives ⊤ it xs × ((t.bytes ≡ flat_map (λ x. x.now) xs) × TextCollects N t)) }
         ensures collects { IfOk result (TextCollects N) }
 
         // If known items fit the array, it allocates nothing.

@@ -47,6 +47,11 @@ fn copy_down(bytes: &mut [u8], to: usize, from: usize, n: usize)
     ensures front { take (to + n) bytes.new ≡ take to bytes.old ++ take n (drop from bytes.old) }
     ensures rest { drop (from + n) bytes.new ≡ drop (from + n) bytes.old }
 {
+    // Most characters are ASCII.
+    if n == 1 {
+        bytes[to] = bytes[from];
+        return;
+    }
     for i in 0..n {
         bytes[to + i] = bytes[from + i];
     }

@@ -1,5 +1,5 @@
 use Rattle.std.proofs.Common.{◌≡◌, ◌-◌, ◌+◌, ◌++◌, IsUtf8, ap, sym, subst, ◌∙◌, chars, length, take, drop, arith, rules}
-use Rattle.tinyvec.specs.TinyVec.{tiny_items, tiny_len}
+use Rattle.tinyvec.specs.TinyVec.{tiny_items}
 use Rattle.tinyvec.proofs.ReplacingLemmas.{replaced_room}
 use Rattle.tinyvec_slots.specs.Ranges.{range_start, range_end, before, after}
 use Rattle.tinyvec_text.proofs.Boundaries.{replaced_len, utf8_put, chars_put}

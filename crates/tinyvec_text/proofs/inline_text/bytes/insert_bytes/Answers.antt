@@ -1,6 +1,6 @@
-use Rattle.std.proofs.Common.{◌≡◌, ◌+◌, ◌-◌, ◌≤◌, ◌++◌, length, take, drop, sym, ap, subst, ◌∙◌, rules}
+use Rattle.std.proofs.Common.{◌≡◌, ◌+◌, ◌-◌, length, sym, ap, subst, ◌∙◌}
 use Rattle.tinyvec.specs.Lends.{tiny_with_items}
-use Rattle.tinyvec.specs.TinyVec.{tiny_items, tiny_len, tiny_capacity, Becomes}
+use Rattle.tinyvec.specs.TinyVec.{tiny_items, tiny_len, Becomes}
 use Rattle.tinyvec.proofs.TinyLemmas.{tiny_items-with, tiny_framed-with}
 use Rattle.tinyvec_text.proofs.Lists.{room_rewritten}
 use Rattle.tinyvec_text.proofs.Moving.{inserted}
