@@ -1,11 +1,11 @@
 //! `example_dns_query` over `tinyvec`: the DNS query that each line asks for, built in a lent slice.
 
 use crate::unbuffered;
-use std::io::{self, BufWriter, Read, Write};
+use std::io::{self, Write};
 use tinyvec::SliceVec;
 
-/// How many bytes are read at a time.
-const CHUNK: usize = 4096;
+/// The longest message.
+const ROOM: usize = 512;
 
 /// Recursion is desired. There is one question, and no record in the three other sections.
 const FLAGS_AND_COUNTS: [u8; 10] = [1, 0, 0, 1, 0, 0, 0, 0, 0, 0];
@@ -139,12 +139,15 @@ fn hex_digit(number: u8) -> u8 {
 
 /// Writes the message in hexadecimal, or why there is none, and a line feed.
 fn write_answer(writer: &mut impl Write, line: &[u8]) -> io::Result<()> {
-    let mut slice = [0; 512];
+    let mut slice = [0; ROOM];
     match answer_line(&mut slice, line.strip_suffix(b"\r").unwrap_or(line)) {
         Ok(len) => {
-            for byte in &slice[..len] {
-                writer.write_all(&[hex_digit(byte / 16), hex_digit(byte % 16)])?;
+            let mut text = [0; 2 * ROOM];
+            for (pair, byte) in text.chunks_exact_mut(2).zip(&slice[..len]) {
+                pair[0] = hex_digit(byte / 16);
+                pair[1] = hex_digit(byte % 16);
             }
+            writer.write_all(&text[..2 * len])?;
         }
         Err(fault) => {
             writer.write_all(b"error: ")?;
@@ -156,26 +159,5 @@ fn write_answer(writer: &mut impl Write, line: &[u8]) -> io::Result<()> {
 
 /// Answers each line of standard input on standard output.
 pub fn run() -> io::Result<()> {
-    let mut reader = unbuffered::stdin()?;
-    let mut writer = BufWriter::new(unbuffered::stdout()?);
-    let mut line = Vec::new();
-    let mut chunk = [0; CHUNK];
-    loop {
-        writer.flush()?;
-        let count = reader.read(&mut chunk)?;
-        if count == 0 {
-            if !line.is_empty() {
-                write_answer(&mut writer, &line)?;
-            }
-            return writer.flush();
-        }
-        for &byte in &chunk[..count] {
-            if byte == b'\n' {
-                write_answer(&mut writer, &line)?;
-                line.clear();
-            } else {
-                line.push(byte);
-            }
-        }
-    }
+    unbuffered::answer_lines(|writer, line| write_answer(writer, line))
 }

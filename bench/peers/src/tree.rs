@@ -1,7 +1,8 @@
 //! `example_tree` over `tinyvec`: sums and products, a line each, read as trees and printed with no sum in a sum.
 
-use std::fmt;
-use std::io::{self, BufRead, Write};
+use crate::unbuffered;
+use std::fmt::{self, Write as _};
+use std::io::{self, Write};
 use std::mem;
 use tinyvec::TinyVec;
 
@@ -245,15 +246,15 @@ enum Piece {
     ClosingBracket,
 }
 
-/// The text of a tree. A sum or a product that is a factor is in brackets.
-fn printed(nodes: &[Node], root: usize) -> String {
-    let mut text = String::new();
+/// The text of a tree, with room for so many bytes. A sum or a product that is a factor is in brackets.
+fn printed(nodes: &[Node], root: usize, room: usize) -> String {
+    let mut text = String::with_capacity(room);
     // The last piece is written first.
     let mut pieces = vec![Piece::Tree(root)];
     while let Some(piece) = pieces.pop() {
         match piece {
             Piece::Tree(id) => match &nodes[id] {
-                Node::Leaf(Leaf::Number(number)) => text.push_str(&number.to_string()),
+                Node::Leaf(Leaf::Number(number)) => push_number(&mut text, *number),
                 Node::Leaf(Leaf::Name(name)) => text.push_str(&String::from_utf8_lossy(name)),
                 Node::Joined(operation, children) => push_children(&mut pieces, *operation, children, nodes),
             },
@@ -264,6 +265,11 @@ fn printed(nodes: &[Node], root: usize) -> String {
         }
     }
     text
+}
+
+fn push_number(text: &mut String, number: u64) {
+    // A `String` takes any text.
+    let _ = write!(text, "{number}");
 }
 
 /// The children of a sum or a product, with a sign between.
@@ -293,7 +299,7 @@ fn answer(line: &[u8]) -> String {
     match parse(line.strip_suffix(b"\r").unwrap_or(line)) {
         Ok((mut nodes, root)) => {
             flatten(&mut nodes, root);
-            let mut text = printed(&nodes, root);
+            let mut text = printed(&nodes, root, line.len() + 1);
             text.push('\n');
             text
         }
@@ -303,9 +309,5 @@ fn answer(line: &[u8]) -> String {
 
 /// Answers each line of standard input on standard output.
 pub fn run() -> io::Result<()> {
-    let mut output = io::stdout().lock();
-    for line in io::stdin().lock().split(b'\n') {
-        output.write_all(answer(&line?).as_bytes())?;
-    }
-    output.flush()
+    unbuffered::answer_lines(|writer, line| writer.write_all(answer(line).as_bytes()))
 }

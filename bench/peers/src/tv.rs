@@ -184,21 +184,67 @@ fn parse_tiny_call(text: &[u8]) -> Option<Call> {
 }
 
 fn write_number(output: &mut Vec<u8>, number: i32) {
-    let mut digits = [0; 10];
-    let mut start = digits.len();
-    let mut left = number.unsigned_abs();
-    loop {
-        start -= 1;
-        digits[start] = b'0' + (left % 10) as u8;
-        left /= 10;
-        if left == 0 {
-            break;
-        }
+    if number >= 0 {
+        write_decimal(output, number as u32);
+        return;
     }
-    if number < 0 {
-        output.push(b'-');
+    output.push(b'-');
+    write_decimal(output, number.unsigned_abs());
+}
+
+// Four digits at a time.
+fn write_decimal(output: &mut Vec<u8>, number: u32) {
+    if number < 10000 {
+        write_up_to_four(output, number);
+        return;
     }
-    output.extend_from_slice(&digits[start..]);
+    write_up_to_eight(output, number / 10000);
+    write_four(output, number % 10000);
+}
+
+#[inline(always)]
+fn write_up_to_eight(output: &mut Vec<u8>, number: u32) {
+    if number < 10000 {
+        write_up_to_four(output, number);
+        return;
+    }
+    write_up_to_four(output, number / 10000);
+    write_four(output, number % 10000);
+}
+
+#[inline(always)]
+fn write_up_to_four(output: &mut Vec<u8>, number: u32) {
+    if number < 10 {
+        output.push(b'0' + number as u8);
+        return;
+    }
+    if number < 100 {
+        write_pair(output, number);
+        return;
+    }
+    if number < 1000 {
+        output.push(b'0' + (number / 100) as u8);
+        write_pair(output, number % 100);
+        return;
+    }
+    write_four(output, number);
+}
+
+#[inline(always)]
+fn write_pair(output: &mut Vec<u8>, pair: u32) {
+    output.extend_from_slice(&[b'0' + (pair / 10) as u8, b'0' + (pair % 10) as u8]);
+}
+
+#[inline(always)]
+fn write_four(output: &mut Vec<u8>, four: u32) {
+    let front = four / 100;
+    let back = four % 100;
+    output.extend_from_slice(&[
+        b'0' + (front / 10) as u8,
+        b'0' + (front % 10) as u8,
+        b'0' + (back / 10) as u8,
+        b'0' + (back % 10) as u8,
+    ]);
 }
 
 fn write_list(output: &mut Vec<u8>, numbers: &[i32]) {
