@@ -239,7 +239,9 @@ def locked(crates):
 
 
 def say(text):
-    print(text, file=sys.stderr, flush=True)
+    # Where standard error is closed, nobody is told.
+    with contextlib.suppress(AttributeError, OSError):
+        sys.stderr.write(f"{text}\n")
 
 
 def write_files(folder, files):
