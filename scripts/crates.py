@@ -372,12 +372,12 @@ class Run:
             raise Stopped
         return ran.returncode
 
-    def start(self, words, folder, **how):
+    def start(self, words, cwd, **how):
         """Starts a command that ends where this process is told to end."""
         with self.guard:
             if self.is_stopped:
                 raise Stopped
-            ran = subprocess.Popen(words, cwd=folder, **how)
+            ran = subprocess.Popen(words, cwd=cwd, **how)
             self.started.append(ran)
             return ran
 

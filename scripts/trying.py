@@ -1,7 +1,6 @@
 """Has `rt try` compile programs with checks, before any proof, and keeps what it compiled as long as the sources are the same."""
 import contextlib
 import pathlib
-import re
 import shlex
 import shutil
 import subprocess
@@ -9,15 +8,13 @@ import tempfile
 
 import crates
 
-# The last line of `rt try` where the program ended.
-ENDED = re.compile(rb"^run=ended status=\d+ .*\n\Z", re.M)
-
-# A linker that also leaves the program in a file. It gets no environment.
+# A linker that also leaves the program in a file, and then fails, so that `rt try` does not run it. It gets no environment.
 LINKER = """#!/bin/sh
 {linker} "$@" && while [ $# -gt 1 ]; do
-    if [ "$1" = -o ]; then exec cp "$2" {program}; fi
+    if [ "$1" = -o ]; then cp "$2" {program}; fi
     shift
 done
+exit 1
 """
 
 
@@ -25,46 +22,47 @@ class NotCompiled(Exception):
     pass
 
 
-def program_of(crate):
-    """The program that `rt try` compiles from the sources as they stand."""
-    if not is_kept(crate):
-        _, _, said = run(crate, [])
-        if not is_kept(crate):
-            raise NotCompiled(f"{said.decode(errors='replace')[-5000:]}{crate.name}: `rt try` does not compile it")
-    return program_kept(crate)
+def program_of(crate, *words, start=subprocess.Popen):
+    """The program that `rt try` with these words compiles from the sources as they stand."""
+    if not is_kept(crate, *words):
+        with keeping_kit(crate) as (rt, program):
+            _, _, said = run(crate, words, rt=rt, start=start)
+            if not program.exists():
+                raise NotCompiled(f"{said.decode(errors='replace')[-5000:]}{crate.name}: `rt try` does not compile it")
+            keep(crate, program, kept(crate, *words))
+    return kept(crate, *words)
 
 
-def is_kept(crate):
-    return program_kept(crate).exists() and crates.text_of(crate.out / "tried/sum") == crate.sum
-
-
-def program_kept(crate):
-    return crate.out / "tried" / crate.name
-
-
-def run(crate, words, given=b"", start=subprocess.Popen):
-    """The status of `rt try`, what the program wrote and what rt said. A program that ended is kept."""
+def run(crate, words, given=b"", rt="rt", start=subprocess.Popen):
+    """The status of `rt try`, what the program wrote and what rt said."""
     pipes = {"stdin": subprocess.PIPE, "stdout": subprocess.PIPE, "stderr": subprocess.PIPE}
-    with keeping_kit(crate) as (rt, program):
-        # Ctrl-C is for this process alone, which ends rt once, so that rt removes its files.
-        with start([rt, "try", *words], cwd=crate.folder, start_new_session=True, **pipes) as ran:
-            try:
-                wrote, said = ran.communicate(given)
-            except BaseException:
-                ran.terminate()
-                raise
-        if ENDED.search(said) and "--test" not in words:
-            keep(crate, program)
+    # Ctrl-C is for this process alone, which ends rt once, so that rt removes its files.
+    with start([rt, "try", *words], cwd=crate.folder, start_new_session=True, **pipes) as ran:
+        try:
+            wrote, said = ran.communicate(given)
+        except BaseException:
+            ran.terminate()
+            raise
     return ran.returncode, wrote, said
 
 
-def keep(crate, program):
-    """Keeps a program beside a sum of the sources, unless they were changed meanwhile."""
+def kept(crate, *words):
+    """The file of a program that is kept."""
+    return crate.out / "tried" / (crate.tests.name if "--test" in words else crate.name)
+
+
+def is_kept(crate, *words):
+    program = kept(crate, *words)
+    return crates.text_of(program.with_suffix(".sum")) == crate.sum and program.exists()
+
+
+def keep(crate, program, to):
+    """Keeps a program, with a sum of the sources unless they were changed meanwhile."""
+    to.parent.mkdir(exist_ok=True)
+    to.with_suffix(".sum").unlink(missing_ok=True)
+    program.replace(to)
     if crates.read_crates()[crate.name].sum == crate.sum:
-        (crate.out / "tried").mkdir(exist_ok=True)
-        (crate.out / "tried/sum").unlink(missing_ok=True)
-        program.replace(program_kept(crate))
-        (crate.out / "tried/sum").write_text(crate.sum, encoding="utf-8")
+        to.with_suffix(".sum").write_text(crate.sum, encoding="utf-8")
 
 
 @contextlib.contextmanager
