@@ -32,6 +32,8 @@ class Refusing:
             ran = subprocess.run(words, input=given, env=environment, capture_output=True, timeout=LIMIT)
         except subprocess.TimeoutExpired:
             return Ran(None, b"", b"it had not ended after %d seconds\n" % LIMIT)
+        if ran.returncode >= 0 and not TOLD.search(ran.stderr):
+            return Ran(None, ran.stdout, ran.stderr + b"the library that refuses memory was not loaded\n")
         return Ran(ran.returncode, ran.stdout, ran.stderr)
 
 
