@@ -61,7 +61,8 @@ def keep(crate, program, to):
     to.parent.mkdir(exist_ok=True)
     to.with_suffix(".sum").unlink(missing_ok=True)
     program.replace(to)
-    if crates.read_crates()[crate.name].sum == crate.sum:
+    now = crates.read_crates()
+    if all(now[it.name].sum == it.sum for it in crates.with_below([crate]) if it.name in now):
         to.with_suffix(".sum").write_text(crate.sum, encoding="utf-8")
 
 
