@@ -388,14 +388,14 @@ class Run:
             for ran in self.started:
                 ran.terminate()
 
-    def do(self, steps):
-        """Does the steps, each after those that it waits for and else side by side, until one raises an error."""
+    def do(self, steps, most=CORES):
+        """Does the steps, each after those that it waits for and else as many side by side, until one raises an error."""
         waiting, running, ended = list(steps), {}, set()
         with concurrent.futures.ThreadPoolExecutor(CORES) as pool:
             try:
                 while waiting or running:
                     ready = [it for it in waiting if ended.issuperset(it.after)]
-                    ready = sorted(ready, key=lambda it: it.is_last)[: CORES - len(running)]
+                    ready = sorted(ready, key=lambda it: it.is_last)[: most - len(running)]
                     beside = [*ready, *running.values()]
                     for step in ready:
                         waiting.remove(step)
