@@ -1,4 +1,4 @@
-"""Has `rt try` compile programs with checks, before any proof, and keeps what it compiled as long as the sources are the same."""
+"""Has `rt try` compile programs with checks, before any proof, and keeps them as long as the sources are the same."""
 import contextlib
 import pathlib
 import shlex
