@@ -17,7 +17,7 @@ TIMES = re.compile(r"(?<=[\[,|])([^\[\],|*]+)\*(\d+)(?=[\],|])")
 UP_TO = re.compile(r"(?<=[\[,|])(-?\d+)\.\.(-?\d+)(?=[\],|])")
 WINDOW = re.compile(rb"^window (\d+)$", re.M)
 # A program that was compiled with checks is slow, so it answers as many lines side by side, in as many seconds: an edit that
-# `tests/found` tries may run for ever.
+# `tests/mutants --tests` tries may run for ever.
 MOST_TRIED, LIMIT = 1000, 300
 ESCAPES = {"n": "\n", "t": "\t", "r": "\r", "0": "\0"}
 

@@ -1,5 +1,6 @@
 """Edits that plant a bug: read from tests/mutations/CRATE, applied to the texts of a crate's files."""
 import dataclasses
+import os
 import pathlib
 
 
@@ -71,64 +72,75 @@ def read(crate, file, path):
     """
     if path.suffix != ".edits":
         raise BadEdit("its name does not end in .edits")
-    found = []
+    found, place = [], f"{crate}/{pathlib.PurePosixPath(file).relative_to('src').with_suffix('.edits')}"
     for block in path.read_text(encoding="utf-8").split("\n\n"):
-        changed, after, old, changes = file, "", None, []
         first, *lines = [it for it in block.strip("\n").split("\n") if not it.startswith("# ")] or [""]
         kind, _, name = first.partition(": ")
         if kind not in ("edit", "named"):
             raise BadEdit(f"an edit begins with `edit: NAME` or `named: NAME`, and not so: {first}")
+        given, changes = {"file": file}, []
         for line in lines:
             word, _, text = line.partition(":")
-            text = text.removeprefix(" ")
-            if word == "file":
-                changed = text
-            elif word == "in":
-                after = text
-            elif word == "old":
-                old = text
-            elif word == "new" and old is not None:
-                changes.append(Change(changed, old, text, after))
-                after, old = "", None
-            else:
+            if word not in ("file", "in", "old", "new") or word == "new" and "old" not in given:
                 raise BadEdit(f"this line of {name} is none of file, in, old and new in their order: {line}")
-        if not changes or old is not None:
+            given[word] = text.removeprefix(" ")
+            if word == "new":
+                changes.append(Change(given["file"], given.pop("old"), given["new"], given.pop("in", "")))
+        if not changes or "old" in given:
             raise BadEdit(f"{name} has no pair of old and new, or half of one")
-        found.append(Edit(crate, name, tuple(changes), kind == "named", f"{crate}/{path_in(file)}"))
+        found.append(Edit(crate, name, tuple(changes), kind == "named", place))
     return found
 
 
-def path_in(file):
-    """Where the edits of a source file are, below their crate's folder."""
-    return pathlib.PurePosixPath(file).relative_to("src").with_suffix(".edits")
-
-
-def apply(edit, texts):
-    """The texts of the files that the edit changes, where `texts` gives a file's text by its path."""
-    changed = {}
+def applied(edit, texts):
+    """Where the edit changes which file, and the texts that it makes, where `texts` gives a file's text by its path. Later
+    pairs of one file apply to what earlier ones made."""
+    places, changed = [], {}
     for change in edit.changes:
         text = changed.get(change.file) or texts(change.file)
+        places.append((change.file, change.at(text)))
         changed[change.file] = change.made(text)
-    return changed
+    return places, changed
+
+
+def merged(edits, texts):
+    """The texts of the files that some edits change, with all their changes. One that overlaps another is left out."""
+    found = {}
+    for edit in edits:
+        for file, new in applied(edit, texts)[1].items():
+            found.setdefault(file, []).append(changed_range(texts(file), new))
+    return {file: spliced(texts(file), ranges) for file, ranges in found.items()}
+
+
+def changed_range(text, new):
+    """Where a changed text differs from what it was, up to where, and what stands there."""
+    start = len(os.path.commonprefix([text, new]))
+    same = len(os.path.commonprefix([text[start:][::-1], new[start:][::-1]]))
+    return start, len(text) - same, new[start : len(new) - same]
+
+
+def spliced(text, ranges):
+    parts, at = [], 0
+    for start, end, new in sorted(ranges):
+        if start >= at:
+            parts += [text[at:start], new]
+            at = end
+    return "".join([*parts, text[at:]])
 
 
 def misfit(edit, texts):
     """Why an edit cannot be applied, or None."""
     try:
-        apply(edit, texts)
+        applied(edit, texts)
     except BadEdit as why:
         return str(why)
     return None
 
 
-def places(edit, texts):
-    """Where the edit changes which file, as paths and offsets. Later pairs of one file apply to what earlier ones made."""
-    found, changed = [], {}
-    for change in edit.changes:
-        text = changed.get(change.file) or texts(change.file)
-        found.append((change.file, change.at(text)))
-        changed[change.file] = change.made(text)
-    return found
+def owners(edit, functions, texts):
+    """The functions that the edit changes."""
+    places, _ = applied(edit, texts)
+    return [it for it in functions if any(it.is_at(*place) for place in places)]
 
 
 def reader(folder):

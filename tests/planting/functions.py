@@ -1,4 +1,4 @@
-"""The functions of a crate's sources: where each stands, how a check names it, and which others its body may reach."""
+"""The functions of a crate's sources: where each stands, and how a check names it."""
 import dataclasses
 import pathlib
 import re
@@ -6,68 +6,51 @@ import re
 FUNCTION = re.compile(r"^( *)(?:pub(?:\([a-z]+\))? )?(?:const )?fn (\w+)", re.M)
 IMPL = re.compile(r"^impl\b(?:<(?:->|[^<>{]|<[^<>]*>)*>)? (?:(?P<trait>[^{]*?) for )?(?P<type>[^{]*?)(?:\s+where\b[^{]*)?\s*\{", re.M)
 TRAIT = re.compile(r"^(?:pub(?:\([a-z]+\))? )?(?P<trait>)trait (?P<type>\w+)", re.M)
+MACRO = re.compile(r"^macro_rules! (\w+)", re.M)
 COMMENT = re.compile(r"//[^\n]*")
-# A call: of a method, of what stands in a type or module, or of a plain name.
-CALL = re.compile(r"(?P<before>\.\s*|\b\w+(?:::<[^;{}()]*>)?::|(?<![\w.:]))(?P<name>[a-z_]\w*)\s*(?:::<[^;{}()]*>)?\(")
-# What the language calls where a body only says `for`, or holds a guard to the end.
-CALLED_BY_FOR = ("into_iter", "next")
-GUARDS = ("drain", "splice")
 
 
 @dataclasses.dataclass(frozen=True)
 class Function:
-    """A function of a file, from `start` up to `end`, in a block for `type` and of `trait` where there are such. The type of
-    a function that a trait itself has is the trait."""
+    """A function of a file, from `start` up to `end`, its body from `body` on, in a block for `type` and of `trait` where there
+    are such. The type of a function that a trait itself has is the trait. `macros` are where the macros stand that it calls."""
 
     file: str
     name: str
     type: str
     trait: str
     start: int
+    body: int
     end: int
-    calls: frozenset[tuple[str, str]]
-    # All words of the file, by which is told which types it can know.
-    words: frozenset[str]
-
-    def owner(self):
-        """How the names of its edits begin."""
-        return f"{plain_name(self.type)}_{self.name}" if self.type else self.name
+    macros: tuple[tuple[int, int], ...]
 
     def is_at(self, file, offset):
-        return file == self.file and self.start <= offset < self.end
+        ranges = ((self.start, self.end), *self.macros)
+        return file == self.file and any(start <= offset < end for start, end in ranges)
 
     def path(self):
         """How a check is asked for this function: the end of its name there, which no other has."""
         if not self.type:
             return "::".join([*modules_of(self.file), self.name])
-        if self.trait not in ("", "Drop"):
+        if self.is_of_trait():
             return "::".join([*modules_of(self.file), flat(self.type) + flat(self.trait), self.name])
         if has_plain_parameters(self.type):
             return f"{plain_name(self.type)}::{self.name}"
         return "::".join([*modules_of(self.file), "+".join(words_of(self.type)), self.name])
 
-    def proof(self):
-        """The folder of its written proof, below the crate's proofs/."""
-        own = flat(self.type) + flat(self.trait) if self.trait not in ("", "Drop") else plain_name(self.type)
-        return "/".join([*modules_of(self.file), *([own] if self.type else []), self.name])
+    def is_of_trait(self):
+        return self.trait not in ("", "Drop")
 
-    def is_named(self, path):
-        """Whether a check means this function by the path, as in `a_crate::a_module::ATypeATrait::a_name`."""
+    def is_meant(self, path):
+        """Whether a check means this function by the path, as in `a_crate::a_module::ATypeATrait::a_name`, or a closure in it,
+        as in `a_crate::a_module::fn::AType::a_name::..`."""
         _, *modules, name = path.split("::")
-        if name != self.name or "fn" in modules:
-            return False
-        if not self.type:
-            return modules == modules_of(self.file)
-        own = modules.pop()
-        if self.trait in ("", "Drop"):
-            return own.split("+")[0] == plain_name(self.type)
-        return modules == modules_of(self.file) and own == flat(self.type) + flat(self.trait)
-
-    def has_closure(self, path):
-        """Whether a check means a closure in this function by the path, as in `a_crate::a_module::fn::AType::a_name::..`."""
-        _, _, inside = path.partition("::fn::")
-        owners = [plain_name(self.type), self.name] if self.type else [self.name]
-        return inside.split("::")[: len(owners)] == owners
+        if "fn" in modules:
+            own = [plain_name(self.type), self.name] if self.type else [self.name]
+            return [*modules, name][modules.index("fn") + 1 :][: len(own)] == own
+        if self.type and not self.is_of_trait():
+            return name == self.name and modules[-1].split("+")[0] == plain_name(self.type)
+        return [*modules, name] == self.path().split("::")
 
 
 def of_crate(folder):
@@ -79,7 +62,8 @@ def of_crate(folder):
 def of_file(file, text):
     code = COMMENT.sub(lambda it: " " * len(it[0]), text)
     blocks = [(it, item_end(code, it.start(), "")) for it in (*IMPL.finditer(code), *TRAIT.finditer(code))]
-    words, found = frozenset(re.findall(r"\w+", code)), []
+    macros = {it[1]: (it.start(), item_end(code, it.start(), "")) for it in MACRO.finditer(code)}
+    found = []
     for it in FUNCTION.finditer(code):
         body = body_start(code, it)
         if body is None:
@@ -87,7 +71,8 @@ def of_file(file, text):
         end = item_end(code, it.start(), it[1])
         block = next((block for block, stop in blocks if block.start() < it.start() < stop), None)
         of_type, of_trait = (block["type"], block["trait"] or "") if block else ("", "")
-        found.append(Function(file, it[2], of_type, of_trait, it.start(), end, called(code[body:end]), words))
+        called = tuple(place for name, place in macros.items() if re.search(rf"\b{name}!", code[body:end]))
+        found.append(Function(file, it[2], of_type, of_trait, it.start(), body, end, called))
     return found
 
 
@@ -113,16 +98,6 @@ def body_start(code, function):
             return None
         at += len(line)
     return None
-
-
-def called(body):
-    """The calls of a body, as pairs of what stands before the name and the name: `.`, a type or module, `any` or nothing."""
-    found = {(it["before"].rstrip().split("::")[0], it["name"]) for it in CALL.finditer(body)}
-    if re.search(r"\bfor\b", body):
-        found |= {("any", it) for it in CALLED_BY_FOR}
-    if any(name in GUARDS for _, name in found):
-        found.add(("any", "drop"))
-    return frozenset(found)
 
 
 def modules_of(file):
@@ -156,35 +131,3 @@ def flat(text):
     text = re.sub(r"\[[^\[\]]*\]", " Slice ", text)
     words = [it for it in re.findall(r"\w+", text) if not re.fullmatch(r"[A-Z]|_", it)]
     return "".join(it[0].upper() + it[1:] for it in words) or "Any"
-
-
-def reached(functions):
-    """By each function, the functions that its body may reach, as far as names tell: rather one too many."""
-    named = {}
-    for it in functions:
-        named.setdefault(it.name, []).append(it)
-    direct = {it: {to for call in it.calls for to in targets(it, call, named.get(call[1], []))} for it in functions}
-    found = {}
-    for it in functions:
-        below, left = set(), [it]
-        while left:
-            fresh = direct[left.pop()] - below
-            below |= fresh
-            left += fresh
-        found[it] = below - {it}
-    return found
-
-
-def targets(caller, call, namesakes):
-    """Which functions of the name a call may mean."""
-    before, _ = call
-    if before == "any":
-        return namesakes
-    if before == ".":
-        return [it for it in namesakes if it.type and plain_name(it.type) in caller.words]
-    if before == "Self":
-        return [it for it in namesakes if plain_name(it.type) == plain_name(caller.type)]
-    if before[:1].isupper():
-        return [it for it in namesakes if it.type and plain_name(it.type) == before]
-    free = [it for it in namesakes if not it.type]
-    return [it for it in free if it.file == caller.file] or free

@@ -1,0 +1,174 @@
+"""Which tests find an edit, with no proof. Many edits are compiled into one program, and the variable PLANTED chooses one."""
+import concurrent.futures
+import functools
+import os
+import shutil
+import subprocess
+import time
+import types
+
+import crates
+import trying
+from . import checking, edits, functions
+
+# Of a hundred edits so many are to be found.
+FLOOR = 90
+# How many times as long as without an edit a test may run, and how many seconds more.
+SLOWER, MORE = 5, 30
+
+CHOICE = """//! Which edit counts.
+
+unsafe extern "C" {
+    safe fn planted() -> u32;
+}
+
+pub(crate) fn is(number: u32) -> bool {
+    planted() == number
+}
+"""
+# Each crate has it, and of all in a program one is linked.
+CHOICE_IN_C = """#include <stdlib.h>
+
+__attribute__((weak)) unsigned planted(void)
+{
+    static int number = -1;
+    return number < 0 ? (number = atoi(getenv("PLANTED"))) : number;
+}
+"""
+
+
+def find(found, room, jobs):
+    """Tells which test finds which edit, and returns the status to end with."""
+    known = crates.read_crates()
+    numbered, others = bodies(found, known)
+    lay(room, numbered)
+    left = dict(enumerate((edit for edit, *_ in numbered), 1))
+    with concurrent.futures.ThreadPoolExecutor(jobs) as pool:
+        for name, tested, made in tests_of(room, known):
+            fit = [it for it in left if left[it].crate in tested]
+            faults = pool.map(timed(name, made()), fit) if fit else ()
+            for number, fault in zip(fit, faults):
+                if fault is not None:
+                    print(f"{left.pop(number)}: found by {name}: {fault[:200]}", flush=True)
+    for it in left.values():
+        print(f"not found: {it}")
+    for it in others:
+        print(f"left out, since it changes more than the body of one function: {it}")
+    count = len(numbered) - len(left)
+    print(f"mutants: tests find {count} of {len(numbered)} edits")
+    return 1 if 100 * count < FLOOR * len(numbered) or not numbered else 0
+
+
+def bodies(found, known):
+    """The edits that change one body, each with its function and the new body, and the others."""
+    numbered, others = [], []
+    for crate in dict.fromkeys(it.crate for it in found):
+        inside, texts = functions.of_crate(known[crate].folder), edits.reader(known[crate].folder)
+        for edit in (it for it in found if it.crate == crate):
+            owners = edits.owners(edit, inside, texts)
+            body = len(owners) == 1 and new_body(edit, owners[0], texts)
+            if body:
+                numbered.append((edit, owners[0], body))
+            else:
+                others.append(edit)
+    return numbered, others
+
+
+def new_body(edit, owner, texts):
+    """The edited body of the function, or None where the edit changes anything else."""
+    text, changed = texts(owner.file), edits.applied(edit, texts)[1]
+    new, after = changed.pop(owner.file), text[owner.end :]
+    if changed or new[: owner.body] != text[: owner.body] or not new.endswith(after):
+        return None
+    return new[owner.body : len(new) - len(after)]
+
+
+def lay(top, numbered):
+    """Copies the repository. In the copy each function that has edits does as the one does that is chosen."""
+    for name in ("crates", "scripts", "tests"):
+        shutil.copytree(crates.TOP / name, top / name, ignore=shutil.ignore_patterns("out", "proofs"))
+    shutil.copy(crates.TOP / "crates.txt", top)
+    arms = {}
+    for number, (edit, owner, body) in enumerate(numbered, 1):
+        arms.setdefault((edit.crate, owner), []).append(f"if crate::planted::is({number}) {body} else ")
+    # The last function of a file first, so that the places of the others stay.
+    for (crate, owner), tried in sorted(arms.items(), key=lambda it: -it[0][1].start):
+        path = top / "crates" / crate / owner.file
+        text = path.read_text(encoding="utf-8")
+        parts = text[: owner.body], "{ ", *tried, text[owner.body : owner.end], " }", text[owner.end :]
+        path.write_text("".join(parts), encoding="utf-8")
+    for folder in {top / "crates" / crate for crate, _ in arms}:
+        root = next(it for it in (folder / "src/lib.rt", folder / "src/main.rt") if it.exists())
+        with open(root, "a", encoding="utf-8") as written:
+            written.write("\nmod planted;\n")
+        crates.write_files(folder, {"src/planted.rt": CHOICE.encode(), "c/planted.c": CHOICE_IN_C.encode()})
+
+
+def tests_of(top, known):
+    """The tests, those first that find most in least time: the name of each, the crates whose code it runs, and what makes a
+    function that says what the test finds, given what runs a command where an edit counts."""
+    below = {it: {one.name for one in (*it.below, it)} for it in known.values()}
+    answering = set().union(*(below[it] for it in below if it.name.endswith("_cases")))
+    yield "random calls", answering | {"tv", "example_dns_query"}, lambda: command(top / "tests/random")
+    yield "rows", answering, lambda: command(top / "tests/answers")
+    for it in below:
+        if it.is_program and it.files.get("stdout"):
+            yield it.name, below[it], lambda it=it: program(it, top / "crates" / it.name)
+    for it in below:
+        if it.has_tests():
+            yield it.name, below[it], lambda it=it: rattle_tests(it, top / "crates" / it.name)
+
+
+def timed(name, said):
+    """What a test says of the edit of a number, where it passes if none counts. It has some times as long as then."""
+    began = time.monotonic()
+    fault = said(functools.partial(run, 0, None))
+    if fault is not None:
+        raise SystemExit(f"mutants: {name} fails where no edit counts: {fault}")
+    limit = MORE + SLOWER * (time.monotonic() - began)
+    return lambda number: said(functools.partial(run, number, limit))
+
+
+def run(number, limit, words, folder, given=b"", **how):
+    """The status and the output of a command where the edit of this number counts, or no status if it does not end."""
+    env = {**os.environ, "RT_ALLOW_C": "1", "PLANTED": str(number)}
+    return checking.run(words, folder, given, limit, env=env, **how)
+
+
+def command(path):
+    def said(do):
+        status, wrote = do([path, "--try"], path.parent)
+        return None if status == 0 else wrote.strip().split("\n")[0]
+
+    # It compiles the programs, which are kept.
+    said(functools.partial(run, 0, None))
+    return said
+
+
+def program(crate, folder):
+    made = compiled(crate.name, folder)
+    given = lambda name: crate.files.get(name, b"")
+
+    def said(do):
+        status, wrote = do([made, *given("args").decode().splitlines()], folder, given("stdin"), stderr=subprocess.DEVNULL)
+        is_right = wrote.encode() == given("stdout") and status == int(given("status") or 0)
+        return None if is_right else f"status {status}, and what it writes"
+
+    return said
+
+
+def rattle_tests(crate, folder):
+    made = compiled(crate.name, folder, "--test")
+    _, listed = run(0, None, [made, "--list"], folder)
+    names = [it.removesuffix(": test") for it in listed.splitlines() if it.endswith(": test")]
+    return lambda do: next((it for it in names if do([made, it], folder)[0] != 0), None)
+
+
+def compiled(name, folder, *words):
+    """The program that `rt try` compiles of a crate or its tests."""
+    out = folder / "out"
+    with trying.keeping_kit(types.SimpleNamespace(name=name, out=out)) as (rt, made):
+        _, wrote = run(0, None, [rt, "try", "--seconds", "1", *words], folder)
+        if not made.exists():
+            raise SystemExit(f"mutants: {name} is not compiled: {wrote[-2000:]}")
+        return made.replace(out / "planted")

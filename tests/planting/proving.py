@@ -1,0 +1,166 @@
+"""Which edits the prover refuses. One check tries many: it judges each function by the contracts of those that it calls, so
+an edit of a body hides none of another function."""
+import concurrent.futures
+import random
+import threading
+import time
+
+from . import checking, edits, functions
+
+# How many edits one check tries: more would leave cores idle at the end.
+MOST = 24
+
+
+class Run:
+    """The edits that are tried, and what became of them."""
+
+    def __init__(self, room, known, jobs, broken):
+        self.room, self.crates, self.jobs = room, known, jobs
+        self.broken = [f"{name}: {why}" for name, why in broken]
+        self.refused = {it: [] for it in checking.KINDS}
+        self.survived, self.unseen, self.left = [], [], []
+        self.rounds, self.owners, self.desks = [], {}, {}
+        self.libraries = checking.Libraries(room)
+        # Only one crate or library is made ready at a time, with all jobs: more would need too much memory.
+        self.guard, self.began, self.ended = threading.Lock(), time.monotonic(), 0
+
+    def plan(self, found):
+        """Puts the edits into rounds, the named ones first. One outside every function can only be tried alone."""
+        numbered = []
+        for crate in dict.fromkeys(it.crate for it in found):
+            inside, texts = functions.of_crate(self.crates[crate].folder), self.texts(crate)
+            for edit in (it for it in found if it.crate == crate):
+                try:
+                    self.owners[edit] = edits.owners(edit, inside, texts)
+                except edits.BadEdit as why:
+                    self.broken.append(f"{edit}: {why}")
+            fit = [it for it in self.owners if it.crate == crate]
+            self.unseen += [it for it in fit if not self.owners[it]]
+            numbered += enumerate(self.grouped(sorted(fit, key=lambda it: not it.is_named)))
+        # The crates take turns, so that one is made ready while edits of another are tried.
+        self.rounds = [it for _, it in sorted(numbered, key=lambda it: it[0])]
+
+    def texts(self, crate):
+        return edits.reader(self.crates[crate].folder)
+
+    def grouped(self, fit):
+        """As few rounds as come of a greedy choice, in none of which two edits change one function."""
+        rounds = []
+        for edit in (it for it in fit if self.owners[it]):
+            taken = lambda it: {owner for one in it for owner in self.owners[one]}
+            home = next((it for it in rounds if len(it) < MOST and not taken(it) & set(self.owners[edit])), None)
+            if home is None:
+                rounds.append(home := [])
+            home.append(edit)
+        return rounds
+
+    def go(self, minutes, seed):
+        """Tries the rounds that begin in so many minutes, and then alone what they did not show."""
+        until = float("inf") if minutes is None else self.began + 60 * minutes
+        if minutes is not None:
+            random.Random(seed).shuffle(self.rounds)
+        self.rounds.sort(key=lambda it: not it[0].is_named)
+        self.side_by_side(self.try_round, self.rounds, until)
+        hidden, self.unseen = self.unseen, []
+        self.side_by_side(self.try_alone, [[it] for it in hidden], until)
+
+    def side_by_side(self, do, batches, until):
+        def begin(batch):
+            if time.monotonic() > until:
+                self.left += batch
+            else:
+                do(batch)
+
+        with concurrent.futures.ThreadPoolExecutor(self.jobs) as pool:
+            try:
+                for it in [pool.submit(begin, batch) for batch in batches]:
+                    it.result()
+            except BaseException:
+                checking.running.stop()
+                pool.shutdown(cancel_futures=True)
+                raise
+
+    def desk(self, crate):
+        """The crate's desk, where all that its edits change is proved as it stands."""
+        if crate not in self.desks:
+            with self.guard:
+                if crate not in self.desks:
+                    self.desks[crate] = self.made_ready(crate)
+        return self.desks[crate]
+
+    def made_ready(self, crate):
+        for one in self.crates[crate].below:
+            self.require(one.name, self.libraries.add(one))
+        desk = checking.Desk(self.crates[crate], self.libraries, self.room)
+        said = desk.check({}, self.paths(it for it in self.owners if it.crate == crate), self.jobs, keeps=True)
+        self.require(crate, None if said.is_proved else said)
+        return desk
+
+    def require(self, crate, wrong):
+        if wrong:
+            raise SystemExit(f"mutants: {crate} is not proved as it stands: {wrong.first_error()}")
+
+    def paths(self, batch):
+        return sorted({it.path() for edit in batch for it in self.owners[edit]})
+
+    def check(self, batch, is_whole=False):
+        """Checks the functions that these edits of a crate change, or all of the crate."""
+        crate = batch[0].crate
+        return self.desk(crate).check(edits.merged(batch, self.texts(crate)), [] if is_whole else self.paths(batch), 1)
+
+    def try_round(self, batch):
+        started = time.monotonic()
+        unseen = self.settle(batch)
+        self.unseen += unseen
+        self.ended += 1
+        print(
+            f"round {self.ended} of {len(self.rounds)}, {batch[0].crate}: {len(batch)} edits, {len(unseen)} of them to be tried "
+            f"alone, {time.monotonic() - started:.0f} s",
+            flush=True,
+        )
+
+    def settle(self, batch):
+        """Checks a round, and returns what was not refused at its own function. One that gives no verdict is cut in two
+        until it is known which edit is to be tried alone."""
+        said = self.check(batch)
+        if said.is_judged:
+            return [it for it in batch if not self.takes_refusal(it, said)]
+        if len(batch) == 1:
+            return batch
+        half = len(batch) // 2
+        return self.settle(batch[:half]) + self.settle(batch[half:])
+
+    def takes_refusal(self, edit, said):
+        """Notes how the edit is refused at a function that it changes, or at a closure in it, where it is."""
+        own = {path for path in said.verdicts for it in self.owners[edit] if it.is_meant(path)}
+        kinds = [it for it in map(said.refusal, own) if it]
+        if not self.owners[edit] and said.is_judged and not said.is_proved:
+            kinds = checking.KINDS
+        if kinds:
+            self.refused[min(kinds, key=checking.KINDS.index)].append(edit)
+        return bool(kinds)
+
+    def try_alone(self, batch):
+        """Tries an edit by a check of what it changes, and where that does not refuse it by one of the whole crate."""
+        started, edit = time.monotonic(), batch[0]
+        said = self.check(batch, not self.owners[edit])
+        is_refused = self.takes_refusal(edit, said)
+        if said.is_judged and self.owners[edit] and not is_refused:
+            said = self.check(batch, True)
+            is_refused = self.takes_refusal(edit, said)
+        if not said.is_judged:
+            self.broken.append(f"{edit}: it does not compile: {said.first_error()}")
+        elif not is_refused:
+            self.survived.append(edit)
+        print(f"alone, {edit}: {time.monotonic() - started:.0f} s", flush=True)
+
+    def report(self):
+        """Says what survived, what is broken and what shows nothing, and returns the status to end with."""
+        shown, *rest = checking.KINDS
+        told = {"survived": self.survived, "broken": self.broken} | {it: self.refused[it] for it in rest}
+        for how, those in told.items():
+            for it in those:
+                print(f"{how}: {it}")
+        counts = {shown: self.refused[shown], "survived": self.survived, "left": self.left} | {it: told[it] for it in rest}
+        print("mutants: " + ", ".join(f"{len(those)} {how}" for how, those in counts.items()))
+        return 1 if self.survived or self.broken else 0
