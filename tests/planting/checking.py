@@ -118,12 +118,12 @@ def link(source, target):
 running = crates.Run([])
 
 
-def run(words, folder, given=b"", limit=None, **how):
+def run(words, folder, limit=None, env=None):
     """The status of a command, or none if it did not end in so many seconds, and what it says."""
-    pipes = {"stdin": subprocess.PIPE, "stdout": subprocess.PIPE, "stderr": subprocess.STDOUT, "start_new_session": True}
-    with running.start(words, folder, **(pipes | how)) as ran:
+    pipes = {"stdin": subprocess.DEVNULL, "stdout": subprocess.PIPE, "stderr": subprocess.STDOUT}
+    with running.start(words, folder, env=env, start_new_session=True, **pipes) as ran:
         try:
-            said, status = ran.communicate(given, limit)[0], ran.returncode
+            said, status = ran.communicate(timeout=limit)[0], ran.returncode
         except subprocess.TimeoutExpired:
             # Also what the command has started.
             os.killpg(ran.pid, signal.SIGKILL)

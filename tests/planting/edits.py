@@ -29,10 +29,6 @@ class Change:
             raise BadEdit(f"its old text is not in {self.file} after {self.after}")
         return found
 
-    def made(self, text):
-        at = self.at(text)
-        return text[:at] + self.new + text[at + len(self.old) :]
-
 
 @dataclasses.dataclass(frozen=True)
 class Edit:
@@ -98,8 +94,9 @@ def applied(edit, texts):
     places, changed = [], {}
     for change in edit.changes:
         text = changed.get(change.file) or texts(change.file)
-        places.append((change.file, change.at(text)))
-        changed[change.file] = change.made(text)
+        at = change.at(text)
+        places.append((change.file, at))
+        changed[change.file] = text[:at] + change.new + text[at + len(change.old) :]
     return places, changed
 
 

@@ -1,14 +1,10 @@
 """Which tests find an edit, with no proof. Many edits are compiled into one program, and the variable PLANTED chooses one."""
 import concurrent.futures
-import functools
 import os
 import shutil
-import subprocess
 import time
-import types
 
 import crates
-import trying
 from . import checking, edits, functions
 
 # Of a hundred edits so many are to be found.
@@ -44,12 +40,12 @@ def find(found, room, jobs):
     lay(room, numbered)
     left = dict(enumerate((edit for edit, *_ in numbered), 1))
     with concurrent.futures.ThreadPoolExecutor(jobs) as pool:
-        for name, tested, made in tests_of(room, known):
+        for name, tested, words in tests_of(room, known):
             fit = [it for it in left if left[it].crate in tested]
-            faults = pool.map(timed(name, made()), fit) if fit else ()
+            faults = pool.map(finder(name, words), fit) if fit else ()
             for number, fault in zip(fit, faults):
                 if fault is not None:
-                    print(f"{left.pop(number)}: found by {name}: {fault[:200]}", flush=True)
+                    print(f"{left.pop(number)}: found by {name}: {fault}", flush=True)
     for it in left.values():
         print(f"not found: {it}")
     for it in others:
@@ -105,70 +101,32 @@ def lay(top, numbered):
 
 
 def tests_of(top, known):
-    """The tests, those first that find most in least time: the name of each, the crates whose code it runs, and what makes a
-    function that says what the test finds, given what runs a command where an edit counts."""
+    """The tests, those first that find most in least time: the name of each, the crates whose code it runs, and its command."""
     below = {it: {one.name for one in (*it.below, it)} for it in known.values()}
     answering = set().union(*(below[it] for it in below if it.name.endswith("_cases")))
-    yield "random calls", answering | {"tv", "example_dns_query"}, lambda: command(top / "tests/random")
-    yield "rows", answering, lambda: command(top / "tests/answers")
-    for it in below:
-        if it.is_program and it.files.get("stdout"):
-            yield it.name, below[it], lambda it=it: program(it, top / "crates" / it.name)
-    for it in below:
-        if it.has_tests():
-            yield it.name, below[it], lambda it=it: rattle_tests(it, top / "crates" / it.name)
+    yield "random calls", answering | {"tv", "example_dns_query"}, [top / "tests/random", "--try"]
+    yield "rows", answering, [top / "tests/answers", "--try"]
+    for it in sorted(below, key=crates.Crate.has_tests):
+        if it.has_tests() or it.files.get("stdout"):
+            yield it.name, below[it], [top / "tests/quick", it.name]
 
 
-def timed(name, said):
-    """What a test says of the edit of a number, where it passes if none counts. It has some times as long as then."""
+def finder(name, words):
+    """What a test finds of the edit of a number. It compiles what it needs at first, and has some times as long as it takes
+    where no edit counts."""
+    run(words, 0, None)
     began = time.monotonic()
-    fault = said(functools.partial(run, 0, None))
+    fault = run(words, 0, None)
     if fault is not None:
         raise SystemExit(f"mutants: {name} fails where no edit counts: {fault}")
     limit = MORE + SLOWER * (time.monotonic() - began)
-    return lambda number: said(functools.partial(run, number, limit))
+    return lambda number: run(words, number, limit)
 
 
-def run(number, limit, words, folder, given=b"", **how):
-    """The status and the output of a command where the edit of this number counts, or no status if it does not end."""
+def run(words, number, limit):
+    """What a command says of the edit of this number, or None where it does not find it."""
     env = {**os.environ, "RT_ALLOW_C": "1", "PLANTED": str(number)}
-    return checking.run(words, folder, given, limit, env=env, **how)
-
-
-def command(path):
-    def said(do):
-        status, wrote = do([path, "--try"], path.parent)
-        return None if status == 0 else wrote.strip().split("\n")[0]
-
-    # It compiles the programs, which are kept.
-    said(functools.partial(run, 0, None))
-    return said
-
-
-def program(crate, folder):
-    made = compiled(crate.name, folder)
-    given = lambda name: crate.files.get(name, b"")
-
-    def said(do):
-        status, wrote = do([made, *given("args").decode().splitlines()], folder, given("stdin"), stderr=subprocess.DEVNULL)
-        is_right = wrote.encode() == given("stdout") and status == int(given("status") or 0)
-        return None if is_right else f"status {status}, and what it writes"
-
-    return said
-
-
-def rattle_tests(crate, folder):
-    made = compiled(crate.name, folder, "--test")
-    _, listed = run(0, None, [made, "--list"], folder)
-    names = [it.removesuffix(": test") for it in listed.splitlines() if it.endswith(": test")]
-    return lambda do: next((it for it in names if do([made, it], folder)[0] != 0), None)
-
-
-def compiled(name, folder, *words):
-    """The program that `rt try` compiles of a crate or its tests."""
-    out = folder / "out"
-    with trying.keeping_kit(types.SimpleNamespace(name=name, out=out)) as (rt, made):
-        _, wrote = run(0, None, [rt, "try", "--seconds", "1", *words], folder)
-        if not made.exists():
-            raise SystemExit(f"mutants: {name} is not compiled: {wrote[-2000:]}")
-        return made.replace(out / "planted")
+    status, wrote = checking.run(words, words[0].parent, limit, env)
+    lines = wrote.strip().splitlines() or ["it says nothing"]
+    first = next((at for at, it in enumerate(lines) if ": FAILED" in it), 0)
+    return None if status == 0 else " ".join(lines[first : first + 2])[:250]
