@@ -4,9 +4,10 @@ the definition of such a word cites is told too, if it has an example.
 
 usage: scripts/words.py
 
-A meaning is the comment above the definition in crates/*/specs. An example is the statement of a lemma `example-WORD` in
-crates/tinyvec_words/proofs, in a file that imports the word. What precedes the line MARK of the page is written by hand, and
-stays: there std's words have a line each. `tests/docs` names the words that lack one of these.
+A meaning is the comment above the definition in crates/*/specs, after that of its module. An example is the statement of a
+lemma `example-WORD` in crates/tinyvec_words/proofs, in a file that imports the word. What precedes the line MARK of the page is
+written by hand, and stays: there std's words have a line each. `tests/docs` names the words that lack one of these, examples
+that do not contain their word, and comments that do not end.
 """
 import pathlib
 import re
@@ -21,11 +22,11 @@ EXAMPLES = "crates/tinyvec_words/proofs"
 
 COMMENT = re.compile(r" *-- (.*)")
 WORD = re.compile(r"(?P<indent> *)(?:(?:abbrev|unfoldable) )?pub (?:(?P<kind>record|data) )?(?P<name>[^\s:]+)(?P<rest>.*)")
-FIELD = re.compile(r" +(?:pub )?([^\s:]+) : .*")
-# What a record or a data type is given, without its types.
+FIELD = re.compile(r" +(?:pub )?([^\s:]+) : (.*)")
+# What a module, a record or a data type is given, without its types.
 GIVEN = re.compile(r"\(((?:\w+ )+): ")
 # A comment `of PATH` above a lemma names the file of a word that the statement itself does not have.
-EXAMPLE = re.compile(r"^(?: *-- of (\S+)\n)? *pub example-(\S+) : (.*)$", re.M)
+EXAMPLE = re.compile(r"^(?: *-- of (\S+)\n)?( *)pub example-(\S+) : (.*(?:\n\2 +.*)*)$", re.M)
 
 
 def main():
@@ -59,7 +60,7 @@ class Words:
             text = file.read_text(encoding="utf-8")
             known = exports.imported(text)
             of = lambda path, name: (path, name) if path else known.get(name, (file.stem, name))
-            self.examples.update({of(path, name): (file, plain(shown)) for path, name, shown in EXAMPLE.findall(text)})
+            self.examples.update({of(path, name): (file, plain(" ".join(shown.split()))) for path, _, name, shown in EXAMPLE.findall(text)})
         self.define()
         for path, name in [it for it in self.cited if it in self.defined]:
             known = exports.imported(source_of(path).read_text(encoding="utf-8"))
@@ -139,8 +140,8 @@ def closing(text):
 
 
 class Word:
-    def __init__(self, found, comment, lines):
-        """`lines` are those after the word's first, up to the next word."""
+    def __init__(self, found, comment, given, lines):
+        """`given` is what its module is given, and `lines` are those after the word's first, up to the next word."""
         self.name, self.kind = found["name"], found["kind"]
         self.text = "\n".join([found["rest"], *lines])
         self.comment = comment.strip().rstrip(".")
@@ -150,21 +151,23 @@ class Word:
             head += body.pop(0)
         equation = next((it.strip() for it in lines if re.match(rf" *{re.escape(self.name)} .*=( |$)", it)), "")
         left = re.sub(r"\{\w+\} ", "", equation).partition(" =")[0]
-        given = GIVEN.findall(head) if self.kind else [left.removeprefix(self.name)] * bool(re.fullmatch(r"[\w ]+", left))
-        self.shown = code(" ".join(" ".join([self.name, *given]).split()))
+        own = given_by(head) if self.kind else [left.removeprefix(self.name)] * bool(re.fullmatch(r"[\w ]+", left))
+        self.shown = code(" ".join(" ".join([self.name, *given, *own]).split()))
         parts = self.parts(body) if self.kind else ""
         self.meaning = self.comment + f". {'It has' if self.kind == 'record' else 'One of'} {parts}" * bool(parts)
 
     def parts(self, body):
-        """The fields of a record, or the variants of a data type, with their comments."""
+        """The fields of a record with their statements, or the variants of a data type, each with its comment."""
         shown, said = [], ""
         for line in body:
             if found := COMMENT.match(line):
                 said = f"{said} {found[1]}".strip()
             elif found := FIELD.match(line):
-                shown.append(code(found[1]) + f" ({said})" * bool(said))
+                shown.append([found[1], found[2], said])
                 said = ""
-        return "; ".join(shown)
+            elif shown:
+                shown[-1][1] += f" {line.strip()}"
+        return "; ".join(code(f"{name} : {text}" if self.kind == "record" else name) + f" ({said})" * bool(said) for name, text, said in shown)
 
 
 def code(text):
@@ -172,28 +175,44 @@ def code(text):
 
 
 def words_of(file):
-    """Each public word of a file. The fields of records are told with their record."""
+    """Each public word of a file, whose comment follows that of its module. The fields of records are told with their record."""
     lines = file.read_text(encoding="utf-8").splitlines()
-    depth, comment, is_module, starts = None, [], False, []
+    depth, comment, module, given, starts = None, [], [], [], []
     for at, line in enumerate(lines):
         if not line.strip():
             comment = []
         elif found := COMMENT.match(line):
-            comment = [*([] if is_module else comment), found[1]]
-            is_module = False
+            comment.append(found[1])
         else:
             indent = len(line) - len(line.lstrip())
             if depth is not None and indent <= depth:
                 depth = None
+            if line.startswith("module"):
+                module, given = comment, given_by(line)
+            elif indent == 0:
+                module, given = [], []
             found = WORD.match(line)
             if found and depth is None and not re.match(r" *pub (?:mod|use) ", line):
-                starts.append((at, found, " ".join(comment).rstrip(".")))
+                starts.append((at, found, sentences(module, comment), given))
                 depth = indent if found["kind"] else None
-            # The comment of a module is that of its first word, unless this has one.
-            is_module = line.startswith("module")
-            comment = comment if is_module else []
-    for (at, found, said), (end, *_) in zip(starts, [*starts[1:], (len(lines),)]):
-        yield Word(found, said, lines[at + 1 : end])
+            comment = []
+    for (at, found, said, given), (end, *_) in zip(starts, [*starts[1:], (len(lines),)]):
+        yield Word(found, said, given, lines[at + 1 : end])
+
+
+def given_by(head):
+    """What a declaration is given in parentheses, but for what their types are given."""
+    found, at = [], 0
+    while at < len(head):
+        inner = GIVEN.match(head, at)
+        found += [inner[1]] if inner else []
+        at += closing(head[at:]) if head[at] in "({" else 1
+    return found
+
+
+def sentences(*comments):
+    """The comments one after another, each ended by a full stop where another follows."""
+    return ". ".join(" ".join(it).strip().rstrip(".") for it in comments if it)
 
 
 if __name__ == "__main__":
