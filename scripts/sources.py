@@ -1,9 +1,6 @@
-#!/usr/bin/env -S python3 -B
-"""Finds what was left behind in the sources, and edits that can no longer be applied. It proves nothing, and takes seconds.
+"""Finds what was left behind in the sources, and edits that can no longer be applied.
 
-usage: tests/sources [CRATE..]
-
-Of each crate, or of those that are named, it tells
+Of a crate it tells
 - a definition of specs/ or proofs/ that nothing reaches from the contracts, the answers to goals and the documents;
 - a name that a file imports and does not use, or that an item imports and its file has at its top already;
 - a header, the first line `//!` of a file, with a name in backticks that is nowhere; in a library also one that says
@@ -19,8 +16,9 @@ import pathlib
 import re
 import sys
 
-sys.path.insert(0, str(pathlib.Path(__file__).resolve().parent.parent / "scripts"))
 import crates
+
+sys.path.append(str(crates.TOP / "tests"))
 from planting import edits
 
 EDITS = crates.TOP / "tests" / "mutations"
@@ -75,20 +73,15 @@ PLANTED = (
 AMBIGUOUS = edits.Edit("planted", "ambiguous", (edits.Change("src/a.rt", "x", "y"),), False, "")
 
 
-def main():
+def faults(asked=()):
+    """What was left behind in these crates, or in all."""
     known = crates.read_crates()
-    asked = sys.argv[1:] or list(known)
-    if not set(asked) <= set(known):
-        print(__doc__)
-        return 2
-    missed = list(untold())
+    asked = asked or list(known)
+    yield from untold()
     sources = [Source(it.name, path, text.decode()) for it in known.values() for path, text in it.sources.items()]
-    workspace = Workspace(sources, documents())
-    faults = [f"crates/{source.crate}/{source.path}: {what}" for source, what in workspace.faults() if source.crate in asked]
-    faults += misfits([it for it in asked if (EDITS / it).is_dir()], known)
-    print("".join(f"{it}\n" for it in [*missed, *sorted(faults)]), end="")
-    print(f"sources: {len(workspace.sources)} files, {len(faults) + len(missed)} faults")
-    return 1 if faults or missed else 0
+    found = (it for it in Workspace(sources, documents()).faults() if it[0].crate in asked)
+    yield from sorted(f"crates/{source.crate}/{source.path}: {what}" for source, what in found)
+    yield from sorted(misfits([it for it in asked if (EDITS / it).is_dir()], known))
 
 
 def untold():
@@ -276,7 +269,3 @@ def misfits(names, known):
     texts = {name: edits.reader(known[name].folder) for name in names}
     broken += [(str(it), why) for it in found for why in [edits.misfit(it, texts[it.crate])] if why]
     return [f"tests/mutations: {name}: {why}" for name, why in broken]
-
-
-if __name__ == "__main__":
-    sys.exit(main())
