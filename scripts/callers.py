@@ -1,5 +1,6 @@
 """Which functions call which, by the type that a call is made on, as far as a function's own lines tell it."""
 import re
+import textwrap
 
 import exports
 
@@ -26,7 +27,8 @@ class Caller:
     """A public function of a caller's crate, and the calls that it makes: `TinyVec::push`, `run`, `array_vec!`."""
 
     def __init__(self, source, item, known):
-        self.path, self.name, self.text = source.path, item.name, "\n".join([*(f"/// {it}".rstrip() for it in item.comment), *item.lines])
+        self.path, self.name, self.lines, self.at = source.path, item.name, item.lines, item.at
+        self.text = "\n".join([*(f"/// {it}".rstrip() for it in item.comment), *item.lines])
         self.known = known
         head = item.signature()
         inside = exports.split_angles(head[head.index(item.name) + len(item.name) :])[1]
@@ -34,16 +36,25 @@ class Caller:
         body = without_turbofish(exports.OPAQUE.sub('""', "\n".join(item.lines[len(item.head()) :])))
         for found in BOUND.finditer(body):
             self.types[found[1]] = known.type_named(found[2]) if found[2] else self.type_of(found[3])
-        self.calls = set(self.calls_in(body))
+        # By each call, the line that makes it last.
+        self.calls = {call: len(item.head()) + body.count("\n", 0, at) for call, at in self.calls_in(body)}
 
     def calls_in(self, body):
         for found in CALLED.finditer(body):
             of = self.type_of(body[receiver_start(body, found.start()) : found.start()])
             if of:
-                yield f"{of}::{found[1]}"
+                yield f"{of}::{found[1]}", found.start()
         for found in NAMED.finditer(body):
             of = self.known.type_named(found[1].removesuffix("::").split("::")[-1])
-            yield f"{of}::{found[2]}" if found[1] and of in self.known.types else found[2]
+            yield f"{of}::{found[2]}" if found[1] and of in self.known.types else found[2], found.start()
+
+    def around(self, call):
+        """The line that makes a call, between its neighbours."""
+        at = min(max(self.calls[call], 1), len(self.lines) - 2)
+        return textwrap.dedent("\n".join(self.lines[max(at - 1, 0) : at + 2]))
+
+    def link(self):
+        return f"[`{self.path}`](../../{self.path}#L{self.at}-L{self.at + len(self.lines) - 1})"
 
     def type_of(self, text):
         """The type of an expression, where it is a variable or a chain of calls whose types are known."""

@@ -32,11 +32,10 @@ PAGES = {
 INDEX = "README"
 COLUMNS = ("ARRAY_VEC", "SLICE_VEC", "TINY_VEC", "INLINE_TEXT")
 
-# A caller of more lines than this, or whose body is one line, is named, and not shown.
+# Of a caller of more lines than this, and of one that the page has shown, only the line of the call is shown, between its neighbours.
 LONGEST = 8
-ONE_LINE = re.compile(r"\{\n[^\n]*\n\}$")
 
-# A caller of a call that several types have, and a note, are shown on the first of their pages in this order.
+# A note is shown on the first of its pages in this order.
 ORDER = ("TINY_VEC", "ARRAY_VEC", "SLICE_VEC", "INLINE_TEXT", "BORSH", "COUNTED", "SCRIPT", "SLOTS")
 
 # What a reader looks for first. Other files follow by name, and traits and further types at the end.
@@ -63,6 +62,8 @@ PROOFS = re.compile(
     r"ghost (?:use\b|(?:coded|inverse|inverse_ok|laws|total|matches_\w+|respects_eq|kept_\w+|grown_\w+|cut_grown|moved|written"
     r"|part_written|slots_written|name_kept|slots_of_slots|of_slots_slots|code|spelled|apart)\b)"
 )
+# What precedes the clauses of a declaration, or the functions of an impl.
+CONTRACT = re.compile(r"(?:\n +(?:requires|ensures\*?|ghost|fn)\b| (?=(?:requires|ensures\*?) (?:\w+ )?\{))")
 NO_WORDS = re.compile(r"\.declared\.|\.proofs\.|^std\.specs\.Prelude$")
 NAMES = re.compile(r"(\w+)(::|: )(\{[^}]*\}|\w+!?)")
 
@@ -148,8 +149,8 @@ class Library:
                 self.callers[it] = min(self.callers.get(it, caller), caller, key=lambda one: len(one.text))
         self.uncalled = {it for it in self.keys if is_call(it)} - self.callers.keys()
         self.notes = notes()
-        # Where a note is shown, and the page that shows a caller of a call, by its name.
-        self.noted, self.exemplified = {}, {}
+        # Where a note is shown.
+        self.noted = {}
 
     def is_part(self, entry):
         """Whether an export is what vectors are written with, and nothing for their users."""
@@ -321,7 +322,7 @@ class Page:
     """What a page has: a table of its sections, and each section with its entries."""
 
     def __init__(self, library, name):
-        self.library, self.name, self.entries, self.shown = library, name, library.pages[name], {}
+        self.library, self.name, self.entries, self.shown = library, name, library.pages[name], set()
         self.codes, self.told = {}, set()
         self.main = main_of(name)
         self.sections = {}
@@ -369,27 +370,29 @@ class Page:
         yield from ["\n| Impl | Defines |\n|---|---|\n", *rows] if rows else ()
 
     def entry(self, it):
+        """What it is called as, what it does, a caller, and its contract, which is folded."""
         yield f"\n### {it.heading(self.main)}\n"
+        code, twin, instead = it.code(), *self.twin(it)
+        head = CONTRACT.split(code, maxsplit=1)[0]
+        yield f"\n```\n{head}\n```\n"
         yield from (f"\n{said}\n" for said in it.prose() if self.is_new(said))
-        twin, instead = self.twin(it)
-        if twin is it:
-            yield f"\n```\n{it.code()}\n```\n"
-        else:
-            yield f"\nIts contract is that of [`{twin.trait or twin.name}`](#{twin.anchor(self.main)}){instead}.\n"
         notes = self.notes(it) if twin is it or it.kind == "impl" else ()
         yield from (f"\n{note}\n" for note in notes)
-        caller = self.library.callers.get(it.key()) if is_call(it.key()) else None
+        yield from self.caller(it) if is_call(it.key()) else ()
+        if twin is not it:
+            yield f"\nIts contract is that of [`{twin.trait or twin.name}`](#{twin.anchor(self.main)}){instead}.\n"
+        elif head != code:
+            yield f"\n<details><summary>Contract</summary>\n\n```\n{code}\n```\n\n</details>\n"
+
+    def caller(self, it):
+        caller = self.library.callers.get(it.key())
         if not caller:
             return
-        elsewhere = self.library.exemplified.get(it.name, self.name) != self.name
-        if first := self.shown.get(caller.text):
-            yield f"\nA caller: `{caller.name}`, at [`{first.name}`](#{first.anchor(self.main)}).\n"
-        elif elsewhere or caller.text.count("\n") > LONGEST or ONE_LINE.search(caller.text):
-            yield f"\nA caller: `{caller.name}`, in [`{caller.path}`](../../{caller.path}).\n"
+        if caller.text.count("\n") > LONGEST or caller.text in self.shown:
+            yield f"\nA caller, `{caller.name}` in {caller.link()}:\n\n```\n{caller.around(it.key())}\n```\n"
         else:
-            self.shown[caller.text] = it
-            self.library.exemplified[it.name] = self.name
-            yield f"\nA caller, in [`{caller.path}`](../../{caller.path}):\n\n```\n{caller.text}\n```\n"
+            self.shown.add(caller.text)
+            yield f"\nA caller, in {caller.link()}:\n\n```\n{caller.text}\n```\n"
 
     def is_new(self, said):
         """Whether a paragraph is on no line above. One that begins with the label of a clause is told once."""
