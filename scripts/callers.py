@@ -85,7 +85,7 @@ class Known:
     def __init__(self, crates):
         self.returns, self.types, self.functions, self.aliases = {}, set(), {}, {}
         for crate in crates:
-            self.aliases.update({of: alias for alias, of in crate.aliases.items() if alias in crate.names})
+            self.aliases.update({of: alias for alias, of in crate.aliases.items() if alias in crate.names and of in crate.declared})
         for crate in crates:
             for it in crate.exports():
                 self.add(it)

@@ -28,10 +28,11 @@ BEGINS = re.compile(r"^(?:    )?(?:pub (?:const )?(?:fn|trait|struct|enum|type)\
 
 
 class Item:
-    """A declaration: its comment, its attributes, its lines, and the line of the file that it begins at."""
+    """A declaration: its comment, and what is no part of that, its attributes, its lines, and the line of the file that it begins
+    at."""
 
-    def __init__(self, comment, attributes, lines, at):
-        self.comment, self.attributes, self.lines, self.at = comment, attributes, lines, at
+    def __init__(self, comment, note, attributes, lines, at):
+        self.comment, self.note, self.attributes, self.lines, self.at = comment, note, attributes, lines, at
         found = DECLARED.match(lines[0])
         self.kind = found["kind"] if found else ""
         self.name = found["name"] if found else None
@@ -60,23 +61,25 @@ class Item:
 
 def items_in(lines, first):
     """The items that lines declare, each of which begins at the left edge. `first` is the number of the first line."""
-    comment, attributes, body, depth = [], [], [], 0
+    comment, note, attributes, body, depth = [], [], [], [], 0
     for at, line in enumerate(lines, first):
         if not body:
             if not line.strip():
-                comment, attributes = [], []
+                comment, note, attributes = [], [], []
             elif line.startswith("///"):
                 comment.append(line.removeprefix("///").strip())
+            elif line.startswith("//"):
+                note.append(line)
             elif line.startswith("#["):
                 attributes.append(line)
-            elif not line.startswith(("//", "#!")):
+            elif not line.startswith("#!"):
                 body, begins, depth = [line], at, balance(line)
         else:
             body.append(line)
             depth += balance(line)
         if body and depth == 0 and (line.startswith("}") or line.endswith((";", "{}")) or is_braced(line, body)):
-            yield Item(comment, attributes, body, begins)
-            comment, attributes, body = [], [], []
+            yield Item(comment, note, attributes, body, begins)
+            comment, note, attributes, body = [], [], [], []
 
 
 def is_braced(line, body):

@@ -138,6 +138,7 @@ class Library:
         self.crates = [exports.Crate(it) for it in exports.LIBRARIES]
         # What a vector's crate passes on is for its users, all else of `tinyvec_slots` for those who write vectors.
         self.passed_on = {it for crate in self.crates for it in crate.passed_on}
+        self.passed_on |= {(self.crates[0].name, it) for crate in self.crates for it in crate.aliases.values()}
         by_crate = {it.name: [Entry(export) for export in it.exports()] for it in self.crates}
         self.pages = {page: by_crate[crate] for page, (crate, _) in PAGES.items()}
         self.keys = {it.key() for found in self.pages.values() for it in found}
@@ -280,8 +281,8 @@ class Entry(exports.Export):
         if item.kind in ("impl", "trait"):
             lines = [*item.head()]
             for it in item.members():
-                if it.kind == "ghost" and not PROOFS.match(it.lines[0]):
-                    lines += indented(it.lines)
+                if it.kind == "ghost" and (item.kind == "trait" or not PROOFS.match(it.lines[0])):
+                    lines += indented([*it.note, *it.lines])
                 elif it.kind in ("type", "const") and item.kind == "trait" or it.kind == "fn" and has_contract(it):
                     lines += indented(it.head())
             return "\n".join(it for it in lines if it.strip())
