@@ -7,6 +7,8 @@ use Rattle.tinyvec_borsh.specs.Writing.{WritesValue}
 use Rattle.tinyvec_io.specs.Counted.{CountedView}
 use Rattle.tinyvec_borsh.specs.declared.borsh_error.BorshError.TheVariants.{Ended}
 use Rattle.tinyvec_borsh.specs.declared.borsh_error.BorshError.{BorshError}
+use Rattle.tinyvec_borsh.specs.Apart.{AreApart}
+use Rattle.tinyvec_borsh.specs.Code.{IsCode}
 use Rattle.tinyvec_borsh.specs.Number.{TooFewBytes}
 use Rattle.tinyvec_borsh.specs.Text.{AreNoText, SpellsText, TextFits, TextReason}
 
@@ -26,6 +28,13 @@ IsNever input = ⊥
 
 pub example-TooFewBytes : TooFewBytes 1 Ended []
 example-TooFewBytes = (refl, omega arith)
+
+pub example-IsCode : (spells : ℕ → List ℕ → Type 0) (bytes : List ℕ) → IsCode spells → spells 7 (1 ∷ []) → spells 7 bytes → bytes ≡ 1 ∷ []
+example-IsCode spells bytes code one other = code.one_spelling 7 bytes (1 ∷ []) other one
+
+pub example-AreApart : (spells : ℕ → List ℕ → Type 0) (fits : ℕ → Type 0) (reason : BorshError → List ℕ → Type 0)
+    → AreApart spells fits reason → spells 7 (1 ∷ []) → reason Ended (1 ∷ 2 ∷ []) → ⊥
+example-AreApart spells fits reason apart one cut = apart.spelled_or_cut 7 (1 ∷ []) (2 ∷ []) one cut
 
 pub example-SpellsItems : SpellsItems Spells (7 ∷ 8 ∷ []) (7 ∷ 8 ∷ [])
 example-SpellsItems = record { first = 7 ∷ []; rest = 8 ∷ []; is_first = refl; is_rest = record { first = 8 ∷ []; rest = []; is_first = refl; is_rest = refl; whole = refl }; whole = refl }
