@@ -170,9 +170,7 @@ def edits_by_function():
         texts = edits.reader(TOP / "crates" / crate)
         yield from ((f"edits {crate} {it.path()}", None) for it in known)
         for edit in (it for it in all_edits if it.crate == crate and not edits.misfit(it, texts)):
-            places = edits.places(edit, texts)
-            owners = {it.path() for it in known if any(it.is_at(*place) for place in places)}
-            yield from ((f"edits {crate} {it}", edit) for it in owners)
+            yield from ((f"edits {crate} {it}", edit) for it in {one.path() for one in edits.owners(edit, known, texts)})
 
 
 if __name__ == "__main__":
