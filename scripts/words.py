@@ -5,9 +5,8 @@ the definition of such a word cites is told too, if it has an example.
 usage: scripts/words.py
 
 A meaning is the comment above the definition in crates/*/specs, after that of its module. An example is the statement of a
-lemma `example-WORD` in crates/tinyvec_words/proofs, in a file that imports the word. What precedes the line MARK of the page is
-written by hand, and stays: there std's words have a line each. `tests/docs` names the words that lack one of these, examples
-that do not contain their word, and comments that do not end.
+lemma `example-WORD` in crates/tinyvec_examples/proofs/words, in a file that imports the word. What precedes the line MARK of the
+page is written by hand, and stays: there std's words have a line each. `tests/docs` names the words that lack one of these.
 """
 import pathlib
 import re
@@ -18,7 +17,7 @@ import reference
 TOP = exports.TOP
 PAGE = TOP / "docs/reference/WORDS.md"
 MARK = "<!-- scripts/words.py writes what follows -->"
-EXAMPLES = "crates/tinyvec_words/proofs"
+EXAMPLES = "crates/tinyvec_examples/proofs/words"
 
 COMMENT = re.compile(r" *-- (.*)")
 WORD = re.compile(r"(?P<indent> *)(?:(?:abbrev|unfoldable) )?pub (?:(?P<kind>record|data) )?(?P<name>[^\s:]+)(?P<rest>.*)")

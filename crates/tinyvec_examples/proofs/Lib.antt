@@ -1,5 +1,5 @@
-pub mod BothEnds
 pub mod DrainEnded
 pub mod Punycode
 pub mod SpliceCounted
 pub mod SpliceEnded
+pub mod words

@@ -7,15 +7,6 @@ ghost use Rattle.tinyvec.specs.TinyVec.{tiny_items, tiny_len};
 use std::alloc::AllocError;
 use tinyvec::{Array, ArrayVec, TinyVec};
 
-/// Items that own memory: a clone is as long.
-pub fn cloned(
-    v: &ArrayVec<[Option<Vec<u8>>; 4]>,
-) -> Result<ArrayVec<[Option<Vec<u8>>; 4]>, AllocError>
-    ensures { IfOk result (λ w. items_len w ≡ items_len v.now) }
-{
-    v.clone()
-}
-
 /// Clones of any items are appended.
 pub fn appended<A: Array>(v: &mut ArrayVec<A>, more: &[A::Item]) -> Result<(), AllocError>
 where
@@ -30,15 +21,6 @@ where
 /// Numbers equal their clones.
 pub fn same(v: &ArrayVec<[i32; 4]>) -> Result<ArrayVec<[i32; 4]>, AllocError>
     ensures { IfOk result (λ w. w ≡ v.now) }
-{
-    v.clone()
-}
-
-/// The same of a `TinyVec`.
-pub fn texts_cloned(
-    v: &TinyVec<[Option<Vec<u8>>; 2]>,
-) -> Result<TinyVec<[Option<Vec<u8>>; 2]>, AllocError>
-    ensures { IfOk result (λ w. tiny_len w ≡ tiny_len v.now) }
 {
     v.clone()
 }

@@ -1,42 +1,16 @@
 //! Vectors compared and hashed: the list counts, and neither the spare slots nor where it is.
 ghost use Rattle.std.specs.Prelude.{◌≡◌, true, Some, IsTrue, IfOk};
-ghost use Rattle.tinyvec.specs.Slots.{items};
-ghost use Rattle.tinyvec.specs.TinyVec.{tiny_items};
 
 use std::alloc::{AllocError, Global};
 use std::cmp::Ordering;
 use std::hash::{Hash, Hasher};
 use tinyvec::{Array, ArrayVec, TinyVec};
 
-/// Spare slots do not count.
-pub fn spare_slots_do_not_count() -> bool
-    ensures { IsTrue result }
-{
-    ArrayVec::from_array_len([1, 2, 0, 0], 2) == ArrayVec::from_array_len([1, 2, 9, 9], 2)
-}
-
-/// `[1, 2]` is less than `[1, 2, 0]`, whatever the spare slot holds.
-pub fn shorter_is_less() -> bool
-    ensures { IsTrue result }
-{
-    ArrayVec::from_array_len([1, 2, 0], 2) < ArrayVec::from_array_len([1, 2, 0], 3)
-}
-
 /// `[1, 3]` is greater than `[1, 2, 9]`: the first item that differs decides.
 pub fn second_item_decides() -> Ordering
     ensures { result ≡ Ordering.Greater }
 {
     ArrayVec::from_array_len([1, 3, 0], 2).cmp(&ArrayVec::from_array_len([1, 2, 9], 3))
-}
-
-/// Vectors of one list are equal, of any items.
-pub fn equal_lists<A: Array>(v: &ArrayVec<A>, w: &ArrayVec<A>) -> bool
-where
-    A::Item: Eq,
-    requires { items v.now ≡ items w.now }
-    ensures { IsTrue result }
-{
-    *v == *w
 }
 
 /// A list inline and the same list on the heap are equal.
@@ -56,16 +30,6 @@ pub fn shorter_is_less_on_the_heap(alloc: Global) -> Result<Option<Ordering>, Al
     let mut moved = TinyVec::from_array_len(alloc, [1, 2, 9, 9], 2);
     moved.move_to_the_heap()?;
     Ok(moved.partial_cmp(&TinyVec::from_array_len(alloc, [1, 2, 0, 0], 3)))
-}
-
-/// Vectors of one list are equal, of any items, wherever each of them is.
-pub fn equal_lists_anywhere<A: Array>(v: &TinyVec<A>, w: &TinyVec<A>) -> bool
-where
-    A::Item: Eq,
-    requires { tiny_items v.now ≡ tiny_items w.now }
-    ensures { IsTrue result }
-{
-    *v == *w
 }
 
 /// Hashes two vectors and compares them. If they are equal, hashers that were alike are so again.

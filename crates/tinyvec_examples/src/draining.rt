@@ -1,31 +1,10 @@
 //! Callers of a drain.
-ghost use Rattle.std.specs.Prelude.{◌≡◌, ◌≤◌, ◌-◌, ◌++◌, ◌∷◌, [], pos, Some, slice_get};
-ghost use Rattle.tinyvec_array.specs.Slots.{items, items_len, SlotRule};
+ghost use Rattle.std.specs.Prelude.{◌≡◌, ◌-◌, ◌++◌, ◌∷◌, [], pos, Some, slice_get};
+ghost use Rattle.tinyvec_array.specs.Slots.{items, SlotRule};
 ghost use Rattle.tinyvec_array.specs.Ranges.{IsRangeOf, before, removed, after};
 
-use std::ops::{Bound, RangeBounds};
+use std::ops::RangeBounds;
 use tinyvec_array::{Array, ArrayVec};
-
-/// Dropped before it yields an item.
-pub fn dropped() -> [i32; 4]
-    ensures { result ≡ pos 1 ∷ pos 4 ∷ pos 0 ∷ pos 0 ∷ [] }
-{
-    let mut v = ArrayVec::from_array_len([1, 2, 3, 4], 4);
-    let d = v.drain(1..3);
-    drop(d);
-    v.into_inner()
-}
-
-/// Dropped at the end of its scope.
-pub fn out_of_scope() -> [i32; 4]
-    ensures { result ≡ pos 1 ∷ pos 4 ∷ pos 0 ∷ pos 0 ∷ [] }
-{
-    let mut v = ArrayVec::from_array_len([1, 2, 3, 4], 4);
-    {
-        let _d = v.drain(1..3);
-    }
-    v.into_inner()
-}
 
 /// Run to its end by a `for`.
 pub fn run_to_its_end() -> [i32; 4]
@@ -60,32 +39,6 @@ pub fn after_next_back() -> (Option<i32>, [i32; 4])
     (x, v.into_inner())
 }
 
-/// Dropped after an item was passed over.
-pub fn after_nth() -> (Option<i32>, [i32; 4])
-    ensures item { result.0 ≡ Some (pos 3) }
-    ensures left { result.1 ≡ pos 1 ∷ pos 4 ∷ pos 0 ∷ pos 0 ∷ [] }
-{
-    let mut v = ArrayVec::from_array_len([1, 2, 3, 4], 4);
-    let mut d = v.drain(1..3);
-    let x = d.nth(1);
-    drop(d);
-    (x, v.into_inner())
-}
-
-/// One item from each end, and one that it does not yield.
-pub fn from_both_ends() -> (Option<i32>, Option<i32>, [i32; 4])
-    ensures first { result.0 ≡ Some (pos 2) }
-    ensures last { result.1 ≡ Some (pos 4) }
-    ensures left { result.2 ≡ pos 1 ∷ pos 0 ∷ pos 0 ∷ pos 0 ∷ [] }
-{
-    let mut v = ArrayVec::from_array_len([1, 2, 3, 4], 4);
-    let mut d = v.drain(1..);
-    let first = d.next();
-    let last = d.next_back();
-    drop(d);
-    (first, last, v.into_inner())
-}
-
 /// The last item of all.
 pub fn last_drained() -> Option<i32>
     ensures { result ≡ Some (pos 3) }
@@ -103,32 +56,6 @@ pub fn counted() -> (usize, (usize, Option<usize>))
     let mut d = v.drain(1..3);
     let _first = d.next();
     (d.len(), d.size_hint())
-}
-
-/// A range with its last index.
-pub fn inclusive() -> Option<i32>
-    ensures { result ≡ Some (pos 2) }
-{
-    let mut v = ArrayVec::from_array_len([1, 2, 3], 3);
-    let mut d = v.drain(..=1);
-    d.next_back()
-}
-
-/// A range that starts after an index.
-pub fn from_behind() -> Option<i32>
-    ensures { result ≡ Some (pos 3) }
-{
-    let mut v = ArrayVec::from_array_len([1, 2, 3], 3);
-    let mut d = v.drain((Bound::Excluded(0), Bound::Included(2)));
-    d.nth(1)
-}
-
-/// The whole list, of any vector.
-pub fn drain_all<A: Array>(v: &mut ArrayVec<A>)
-    ensures items { items v.new ≡ [] }
-    ensures slot_rule { SlotRule A.Item.is_default v.old v.new }
-{
-    drop(v.drain(..));
 }
 
 /// Any range of any vector: what preceded and followed it is left.
@@ -156,25 +83,6 @@ pub fn nth_of<A: Array, R: RangeBounds<usize>>(
 {
     let mut d = v.drain(range);
     d.nth(n)
-}
-
-/// The last item, of any vector.
-pub fn last_of<A: Array>(v: &mut ArrayVec<A>) -> Option<A::Item>
-    ensures { result ≡ slice_get (items v.old) (items_len v.old - 1) }
-{
-    v.drain(..).last()
-}
-
-/// The first item and the last, of any list of two or more.
-pub fn ends_of<A: Array>(v: &mut ArrayVec<A>) -> (Option<A::Item>, Option<A::Item>)
-    requires { 2 ≤ items_len v.old }
-    ensures first { result.0 ≡ slice_get (items v.old) 0 }
-    ensures last { result.1 ≡ slice_get (items v.old) (items_len v.old - 1) }
-{
-    let mut d = v.drain(..);
-    let first = d.next();
-    let last = d.next_back();
-    (first, last)
 }
 
 /// Moves all items to an empty vector.

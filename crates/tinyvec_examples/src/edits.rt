@@ -14,16 +14,6 @@ pub fn edited() -> [i32; 4]
     v.into_inner()
 }
 
-/// An item moved to another place, in any vector.
-pub fn moved<A: Array>(v: &mut ArrayVec<A>, from: usize, to: usize)
-    requires from { from < items_len v.old }
-    requires to { to < items_len v.old }
-    ensures { (x : A.Item) × (items v.new ≡ insert (remove (items v.old) from) to x) }
-{
-    let x = v.remove(from);
-    v.insert(to, x);
-}
-
 /// The list cut in two and joined again is the same list.
 pub fn cut_and_joined<A: Array>(v: &mut ArrayVec<A>, at: usize)
     requires { at ≤ items_len v.old }

@@ -3,11 +3,11 @@ ghost use Rattle.std.specs.Prelude.{◌≡◌, ◌++◌, ◌%◌, ◌==◌, List
 ghost use Rattle.std.specs.Fn.{CalledAtMut};
 ghost use Rattle.std.specs.List.{filter, find, before_first, after_first};
 ghost use Rattle.tinyvec_array.specs.Slots.{items, Shortens};
-ghost use Rattle.tinyvec_slice.specs.SliceVec.{items_of, items as slice_items};
+ghost use Rattle.tinyvec_slice.specs.SliceVec.{items_of};
 ghost use Rattle.tinyvec.specs.TinyVec.{tiny_items, StaysInPlace};
 ghost use Rattle.tinyvec_slots.specs.Extracting.{ExtractsAll};
 
-use tinyvec::{ArrayVec, GenericSliceVec, Lent, NoMemory, SliceVec, TinyVec};
+use tinyvec::{ArrayVec, GenericSliceVec, Lent, NoMemory, TinyVec};
 
 /// Drops the even numbers.
 pub fn drop_even(v: &mut ArrayVec<[u32; 8]>)
@@ -51,11 +51,4 @@ where
         × ExtractsAll (CalledAtMut F.FnMut) f (items_of B.Lent v.old) chosen (items_of B.Lent v.new) }
 {
     for _ in v.extract_if(.., f) {}
-}
-
-/// Drops the zeros.
-pub fn drop_zeros(v: &mut SliceVec<'_, u8>)
-    ensures { slice_items v.new ≡ filter (λ x. not (x == 0)) (slice_items v.old) }
-{
-    drop_chosen(v, |x| *x == 0);
 }

@@ -2,7 +2,7 @@
 ghost use Rattle.std.specs.Prelude.{◌≡◌, ◌+◌, ◌-◌, ◌≤◌, ◌++◌, length, vec_len, IsOk, OnOk};
 ghost use Rattle.std.specs.List.{range_with_len};
 ghost use Rattle.tinyvec.specs.Slots.{items, items_len};
-ghost use Rattle.tinyvec.specs.TinyVec.{tiny_items, tiny_len, tiny_capacity};
+ghost use Rattle.tinyvec.specs.TinyVec.{tiny_items};
 ghost use Rattle.tinyvec.specs.SliceVec.{items as slice_items, spare as slice_spare, name};
 
 use std::alloc::Global;
@@ -53,17 +53,6 @@ pub fn into_slots(
     requires { vec_len more ≤ length (slice_spare v.old) }
     ensures items { IsOk result × (slice_items v.new ≡ slice_items v.old ++ more.items) }
     ensures same_slots { name v.new ≡ name v.old }
-{
-    v.extend(more)
-}
-
-/// The items of a `Vec`, if there is room for them, inline or on the heap: nothing is allocated.
-pub fn into_room<A: Array>(
-    v: &mut TinyVec<A>,
-    more: Vec<A::Item>,
-) -> Result<(), NoRoom<A::Item, vec::IntoIter<A::Item, Global>>>
-    requires { tiny_len v.old + vec_len more ≤ tiny_capacity A.CAPACITY v.old }
-    ensures { IsOk result × (tiny_items v.new ≡ tiny_items v.old ++ more.items) }
 {
     v.extend(more)
 }

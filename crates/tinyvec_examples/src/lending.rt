@@ -1,5 +1,5 @@
 //! Callers that write through what a vector lends.
-ghost use Rattle.std.specs.Prelude.{◌≡◌, ◌<◌, ◌∷◌, [], pos, take, drop, insert, slice_set};
+ghost use Rattle.std.specs.Prelude.{◌≡◌, ◌<◌, ◌∷◌, [], pos, slice_set};
 ghost use Rattle.tinyvec_array.specs.Slots.{items, spare, items_len};
 
 use tinyvec_array::{Array, ArrayVec};
@@ -13,15 +13,6 @@ pub fn first_written() -> [i32; 4]
     v.into_inner()
 }
 
-/// One item is written, by its index.
-pub fn second_written() -> [i32; 4]
-    ensures { result ≡ pos 1 ∷ pos 7 ∷ pos 3 ∷ pos 4 ∷ [] }
-{
-    let mut v = ArrayVec::from_array_len([1, 2, 3, 4], 3);
-    v[1] = 7;
-    v.into_inner()
-}
-
 /// The new item is written, after a push and after an insertion.
 pub fn new_written() -> [i32; 4]
     ensures { result ≡ pos 5 ∷ pos 1 ∷ pos 8 ∷ pos 4 ∷ [] }
@@ -30,15 +21,6 @@ pub fn new_written() -> [i32; 4]
     *v.push_mut(7) = 8;
     *v.insert_mut(0, 6) = 5;
     v.into_inner()
-}
-
-/// Pushes `x`, and returns it for writing, in any vector.
-pub fn push_then_write<A: Array>(v: &mut ArrayVec<A>, x: A::Item, y: A::Item)
-    requires { items_len v.old < A.CAPACITY }
-    ensures items { items v.new ≡ insert (items v.old) (items_len v.old) y }
-    ensures spare { spare v.new ≡ drop 1 (spare v.old) }
-{
-    *v.push_mut(x) = y;
 }
 
 /// A spare slot is written, through the array.
@@ -61,14 +43,6 @@ pub fn grabbed() -> [i32; 4]
     v.into_inner()
 }
 
-/// The whole array is written: the length stays, and so does the border.
-pub fn replaced<T: Default + Drop, const N: usize>(v: &mut ArrayVec<[T; N]>, array: [T; N])
-    ensures items { items v.new ≡ take v.old.len array }
-    ensures spare { spare v.new ≡ drop v.old.len array }
-{
-    *v.as_mut_inner() = array;
-}
-
 /// One item of any vector: that item, and nothing else.
 pub fn set<A: Array>(v: &mut ArrayVec<A>, i: usize, x: A::Item)
     requires { i < items_len v.old }
@@ -76,15 +50,4 @@ pub fn set<A: Array>(v: &mut ArrayVec<A>, i: usize, x: A::Item)
     ensures spare { spare v.new ≡ spare v.old }
 {
     v[i] = x;
-}
-
-/// A copy and its original go on by themselves.
-pub fn copied() -> ([i32; 2], [i32; 2])
-    ensures one { result.0 ≡ pos 1 ∷ pos 0 ∷ [] }
-    ensures two { result.1 ≡ pos 1 ∷ pos 2 ∷ [] }
-{
-    let v = ArrayVec::from_array_len([1, 0], 1);
-    let mut w = v;
-    w.push(2);
-    (v.into_inner(), w.into_inner())
 }

@@ -1,6 +1,7 @@
 //! What a caller of the vectors can prove.
 #![tactic(auto)]
 
+pub mod borsh;
 pub mod calls;
 pub mod clones;
 pub mod comparing;

@@ -13,20 +13,6 @@ pub fn listed() -> ArrayVec<[i32; 4]>
     array_vec!([i32; 4] => 1, 2,)
 }
 
-/// No items listed.
-pub fn none_listed() -> ArrayVec<[i32; 4]>
-    ensures { items result ≡ [] }
-{
-    array_vec!([i32; 4] =>)
-}
-
-/// The array alone.
-pub fn array_named() -> ArrayVec<[i32; 4]>
-    ensures { items result ≡ [] }
-{
-    array_vec!([i32; 4])
-}
-
 /// The items alone, each evaluated in its turn: the type of the result names the array.
 pub fn evaluated(x: u8) -> ArrayVec<[u8; 3]>
     requires { x < 9 }
@@ -41,13 +27,6 @@ pub fn repeated() -> ArrayVec<[i32; 3]>
     ensures full { spare result ≡ [] }
 {
     array_vec!(5; 3)
-}
-
-/// Nothing at all.
-pub fn empty() -> ArrayVec<[i32; 4]>
-    ensures { items result ≡ [] }
-{
-    array_vec!()
 }
 
 /// A list that fits the array is in it.
@@ -66,31 +45,6 @@ pub fn too_long(alloc: Global) -> Result<TinyVec<[i32; 2]>, AllocError>
     tiny_vec!(alloc; [i32; 2] => 1, 2, 3,)
 }
 
-/// No items listed.
-pub fn none_listed_inline(alloc: Global) -> Result<TinyVec<[i32; 2]>, AllocError>
-    ensures items { IfOk result (λ v. tiny_items v ≡ []) }
-    ensures place { IfOk result (λ v. IsInline v) }
-{
-    tiny_vec!(alloc; [i32; 2] =>)
-}
-
-/// The array alone.
-pub fn array_named_inline(alloc: Global) -> Result<TinyVec<[i32; 2]>, AllocError>
-    ensures items { IfOk result (λ v. tiny_items v ≡ []) }
-    ensures place { IfOk result (λ v. IsInline v) }
-{
-    tiny_vec!(alloc; [i32; 2])
-}
-
-/// The items alone: three over an array of two.
-pub fn evaluated_on_the_heap(alloc: Global, x: u8) -> Result<TinyVec<[u8; 2]>, AllocError>
-    requires { x < 9 }
-    ensures items { IfOk result (λ v. tiny_items v ≡ (x + 1) ∷ x ∷ x ∷ []) }
-    ensures place { IfOk result (λ v. ¬ (IsInline v)) }
-{
-    tiny_vec!(alloc; next_number(x), (x), [x][0])
-}
-
 /// One item again and again: the array is full.
 pub fn repeated_inline(alloc: Global) -> Result<TinyVec<[u8; 4]>, AllocError>
     ensures items { IfOk result (λ v. tiny_items v ≡ 7 ∷ 7 ∷ 7 ∷ 7 ∷ []) }
@@ -98,14 +52,6 @@ pub fn repeated_inline(alloc: Global) -> Result<TinyVec<[u8; 4]>, AllocError>
     ensures full { IfOk result (λ v. tiny_spare v ≡ []) }
 {
     tiny_vec!(alloc; 7; 4)
-}
-
-/// Nothing at all.
-pub fn empty_inline(alloc: Global) -> Result<TinyVec<[i32; 4]>, AllocError>
-    ensures items { IfOk result (λ v. tiny_items v ≡ []) }
-    ensures place { IfOk result (λ v. IsInline v) }
-{
-    tiny_vec!(alloc;)
 }
 
 fn next_number(x: u8) -> u8

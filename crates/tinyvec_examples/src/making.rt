@@ -1,18 +1,10 @@
 //! Vectors made of arrays, and given back.
-ghost use Rattle.std.specs.Prelude.{◌≡◌, ◌≤◌, length, []};
+ghost use Rattle.std.specs.Prelude.{◌≡◌, length, []};
 ghost use Rattle.tinyvec_array.specs.Slots.{items, spare, items_len, AreDefaults};
 
 use std::convert::AsSlice;
 use std::mem;
 use tinyvec_array::{Array, ArrayVec};
-
-/// The array comes back as it was, however many of its slots were the list.
-pub fn there_and_back<A: Array>(array: A, len: usize) -> A
-    requires { len ≤ A.CAPACITY }
-    ensures { result ≡ array }
-{
-    ArrayVec::from_array_len(array, len).into_inner()
-}
 
 /// Any conversion, by its trait.
 pub fn converted<S, T: From<S>>(source: S) -> T

@@ -11,14 +11,6 @@ use std::fmt;
 use std::fmt::HasDigits;
 use tinyvec::{Array, ArrayVec, TinyVec};
 
-/// The list, and no spare slot.
-pub fn displayed(alloc: Global) -> Result<String, AllocError>
-    ensures { IfOk result (λ s. string_bytes s ≡ codes "[10, 11, 12]") }
-{
-    let v = ArrayVec::from_array_len([10u8, 11, 12, 13], 3);
-    format!(in alloc; "{v}")
-}
-
 /// The list, with text before it.
 pub fn debugged(alloc: Global) -> Result<String, AllocError>
     ensures { IfOk result (λ s. string_bytes s ≡ codes "v: [10, -11, 12]") }

@@ -5,5 +5,6 @@ pub mod below;
 pub mod filters;
 pub mod inline_text;
 pub mod loops;
+pub mod numbers;
 pub mod slice;
 pub mod texts;

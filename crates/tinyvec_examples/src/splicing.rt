@@ -1,5 +1,5 @@
 //! Callers of a splice.
-ghost use Rattle.std.specs.Prelude.{◌≡◌, ◌≤◌, ◌+◌, ◌-◌, ◌++◌, ◌∷◌, [], List, pos, Some, length, take, drop, max, IsOk, OnOk, OnErr, IfErr, ◌↔◌};
+ghost use Rattle.std.specs.Prelude.{◌≡◌, ◌≤◌, ◌+◌, ◌-◌, ◌++◌, ◌∷◌, [], List, length, take, drop, max, IsOk, OnOk, OnErr, IfErr, ◌↔◌};
 ghost use Rattle.std.specs.Iterator.Adapters.{fuse_steps};
 ghost use Rattle.tinyvec_array.specs.Slots.{items, items_len, SlotRule};
 ghost use Rattle.tinyvec_array.specs.Ends.{front, back, given_items, RunsWord, TakesFromEnds};
@@ -84,47 +84,4 @@ pub fn touches_of_replace<A: Array, I: DoubleEndedIterator<Item = A::Item>>(
     let (first, last) = one_from_each_end(&mut splice);
     let (_finished, touches) = splice.finish_counted();
     (first, last, touches)
-}
-
-/// As many items as were removed, and one more, from both ends.
-pub fn longer() -> (Option<i32>, Option<i32>, [i32; 6])
-    ensures last { result.0 ≡ Some (pos 3) }
-    ensures first { result.1 ≡ Some (pos 2) }
-    ensures left { result.2 ≡ pos 1 ∷ pos 7 ∷ pos 8 ∷ pos 9 ∷ pos 4 ∷ pos 6 ∷ [] }
-{
-    let mut v = ArrayVec::from_array_len([1, 2, 3, 4, 5, 6], 4);
-    let mut splice = v.splice(1..3, [7, 8, 9]);
-    let last = splice.next_back();
-    let first = splice.next();
-    let _all_fit = splice.finish();
-    (last, first, v.into_inner())
-}
-
-/// Fewer items than were removed: the vacated slots hold 0.
-pub fn shorter() -> (Option<i32>, Option<i32>, [i32; 6])
-    ensures last { result.0 ≡ Some (pos 4) }
-    ensures first { result.1 ≡ Some (pos 2) }
-    ensures left { result.2 ≡ pos 1 ∷ pos 7 ∷ pos 0 ∷ pos 0 ∷ pos 5 ∷ pos 6 ∷ [] }
-{
-    let mut v = ArrayVec::from_array_len([1, 2, 3, 4, 5, 6], 4);
-    let mut splice = v.splice(1..4, [7]);
-    let last = splice.next_back();
-    let first = splice.next();
-    let _all_fit = splice.finish();
-    (last, first, v.into_inner())
-}
-
-/// More items than there is room for, one of them placed from the front.
-pub fn refused() -> (i32, Option<i32>, [i32; 4])
-    ensures item { result.0 ≡ pos 9 }
-    ensures rest { result.1 ≡ Some (pos 10) }
-    ensures left { result.2 ≡ pos 1 ∷ pos 7 ∷ pos 8 ∷ pos 3 ∷ [] }
-{
-    let mut v = ArrayVec::from_array_len([1, 2, 3, 0], 3);
-    let mut splice = v.splice(1..2, [7, 8, 9, 10]);
-    let _two = splice.next();
-    match splice.finish() {
-        Ok(()) => unreachable!(),
-        Err(SpliceRest { item, mut rest }) => (item, rest.next(), v.into_inner()),
-    }
 }

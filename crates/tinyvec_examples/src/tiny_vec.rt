@@ -3,7 +3,6 @@ ghost use Rattle.std.specs.Prelude.{◌≡◌, ◌+◌, ◌-◌, ◌<◌, ◌≤
 ghost use Rattle.tinyvec.specs.Ranges.{IsRangeOf, before, removed, after};
 ghost use Rattle.tinyvec.specs.TinyVec.{tiny_items, tiny_len, tiny_spare, is_inline, IsInline, Becomes, Unchanged};
 
-use crate::making::count;
 use std::alloc::{AllocError, Global};
 use std::ops::RangeBounds;
 use tinyvec::{Array, NoMemory, NoRoom, TinyVec, TinyVecIterator};
@@ -18,13 +17,6 @@ pub fn three(alloc: Global) -> TinyVec<[i32; 4]>
     let _two = v.push(2);
     let _three = v.push(3);
     v
-}
-
-/// A vector lends its items.
-pub fn lent_items<A: Array>(v: &TinyVec<A>) -> usize
-    ensures { result ≡ tiny_len v.now }
-{
-    count(v)
 }
 
 /// A full inline list moves to the heap, or nothing changes if memory is refused.
@@ -117,13 +109,6 @@ pub fn nth_of<A: Array, R: RangeBounds<usize>>(
 {
     let mut d = v.drain(range);
     d.nth(n)
-}
-
-/// The last item, of any drain.
-pub fn last_of<A: Array>(v: &mut TinyVec<A>) -> Option<A::Item>
-    ensures { result ≡ slice_get (tiny_items v.old) (tiny_len v.old - 1) }
-{
-    v.drain(..).last()
 }
 
 /// The middle of four, drained: two zeros follow what is left.

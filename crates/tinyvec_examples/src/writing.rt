@@ -1,7 +1,7 @@
 //! Texts and bytes written into vectors of bytes.
-ghost use Rattle.std.specs.Prelude.{◌≡◌, ◌+◌, ◌≤◌, ◌++◌, ◌↔◌, length, drop, codes, false, IsTrue, OnOk};
+ghost use Rattle.std.specs.Prelude.{◌≡◌, ◌+◌, ◌≤◌, ◌++◌, ◌↔◌, length, codes, false, IsTrue, OnOk};
 ghost use Rattle.std.specs.Fmt.{decimal};
-ghost use Rattle.tinyvec.specs.Slots.{items, spare, items_len};
+ghost use Rattle.tinyvec.specs.Slots.{items, items_len};
 ghost use Rattle.tinyvec.specs.TinyVec.{tiny_items};
 
 use std::fmt::Write as _;
@@ -14,15 +14,6 @@ pub fn pair_written<A: Array<Item = u8>>(v: &mut ArrayVec<A>, x: u32, y: u32) ->
     ensures { OnOk result (items v.new ≡ items v.old ++ (decimal x ++ (codes ", " ++ decimal y))) }
 {
     write!(v, "{x}, {y}")
-}
-
-/// A text that fits is appended.
-pub fn text_written<A: Array<Item = u8>>(v: &mut ArrayVec<A>, s: &str)
-    requires { items_len v.old + length s.now ≤ A.CAPACITY }
-    ensures items { items v.new ≡ items v.old ++ s.now }
-    ensures spare { spare v.new ≡ drop (length s.now) (spare v.old) }
-{
-    let _written = v.write_str(s);
 }
 
 /// A text that does not fit is refused, and nothing of it is written.

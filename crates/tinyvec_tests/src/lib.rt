@@ -1,9 +1,41 @@
-//! The tests of each vector that no row of `tests/cases` can say.
+//! The tests of what neither a contract nor a row of `tests/cases` can say.
 #![tactic(auto)]
 
 #[cfg(test)]
-mod array;
+mod aliases;
 #[cfg(test)]
-mod slice;
+mod asked;
 #[cfg(test)]
-mod tiny;
+mod clones;
+#[cfg(test)]
+mod endless;
+#[cfg(test)]
+mod errors;
+#[cfg(test)]
+mod fields;
+#[cfg(test)]
+mod forgotten;
+#[cfg(test)]
+mod greatest;
+#[cfg(test)]
+mod lent;
+#[cfg(test)]
+mod lists;
+#[cfg(test)]
+mod loops;
+#[cfg(test)]
+mod macros;
+#[cfg(test)]
+mod many;
+#[cfg(test)]
+mod no_memory;
+#[cfg(test)]
+mod ordered;
+#[cfg(test)]
+mod pages;
+#[cfg(test)]
+mod refusals;
+#[cfg(test)]
+mod steps;
+#[cfg(test)]
+mod unequal;

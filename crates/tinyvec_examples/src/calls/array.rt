@@ -1,5 +1,5 @@
 //! Callers of an `ArrayVec`.
-ghost use Rattle.std.specs.Prelude.{◌≡◌, ◌≢◌, ◌+◌, ◌<◌, ◌≤◌, ◌∷◌, [], ◌++◌, ◌↔◌, ◌==◌, length, take, pos, IsTrue, IsOk, IsSome, OnOk, OnErr, IfOk, IfSome, IfNone, All, true, ◌-◌, if◌then◌else◌, is_ok};
+ghost use Rattle.std.specs.Prelude.{◌≡◌, ◌≢◌, ◌+◌, ◌<◌, ◌≤◌, ◌∷◌, [], ◌++◌, ◌↔◌, ◌==◌, length, take, pos, IsTrue, IsOk, IsSome, OnOk, OnErr, IfOk, IfSome, IfNone, true, ◌-◌, if◌then◌else◌, is_ok};
 ghost use Rattle.tinyvec_array.specs.Slots.{items, spare, items_len};
 
 use std::alloc::{AllocError, Global};
@@ -26,16 +26,6 @@ pub fn of_slice(numbers: &[u32]) -> Result<ArrayVec<[u32; 4]>, TryFromSliceError
     ensures fits { IsOk result ↔ (length numbers.now ≤ 4) }
 {
     ArrayVec::try_from_slice(numbers)
-}
-
-/// The numbers from 0 up to `end`, or those that fit.
-pub fn counted(end: u8) -> ArrayVec<[u8; 4]>
-    ensures { items_len result ≤ 4 }
-{
-    match ArrayVec::from_iter(0..end) {
-        Ok(v) => v,
-        Err(refused) => refused.vec,
-    }
 }
 
 /// The number of items that still fit.
@@ -196,15 +186,6 @@ pub fn first_four(numbers: ArrayVec<[u32; 8]>) -> ArrayVec<[u32; 4]>
     v
 }
 
-/// How many items are left once the first was taken.
-pub fn left_after_one<A: Array>(v: ArrayVec<A>) -> usize
-    ensures { result ≡ items_len v - 1 }
-{
-    let mut left = v.into_iter();
-    let _first = left.next();
-    left.as_slice().len()
-}
-
 /// A list of four, the new items 9.
 pub fn filled_up(v: &mut ArrayVec<[u8; 4]>)
     ensures { items_len v.new ≡ 4 }
@@ -305,18 +286,6 @@ pub fn taken_at(v: &mut ArrayVec<[u32; 4]>, i: usize) -> Option<u32>
     v.pop_at(i)
 }
 
-/// The last counter lowered by one, and taken out once it is 0. The closure may subtract, since no counter is 0.
-pub fn count_down(v: &mut ArrayVec<[u32; 4]>) -> Option<u32>
-    requires { All (λ x. 0 < x) (items v.old) }
-    ensures taken { IfSome result (λ x. (x ≡ 0) × (items v.old ≡ items v.new ++ 1 ∷ [])) }
-    ensures kept { All (λ x. 0 < x) (items v.new) }
-{
-    v.pop_if(|count| {
-        *count -= 1;
-        *count == 0
-    })
-}
-
 /// The last item of any vector, taken out if it equals `x`.
 pub fn pop_equal<A: Array>(v: &mut ArrayVec<A>, x: &A::Item) -> Option<A::Item>
 where
@@ -324,17 +293,6 @@ where
     ensures { IfSome result (λ y. (items v.old ≡ items v.new ++ y ∷ []) × (A.Item.eq y x.now ≡ true)) }
 {
     v.pop_if(|y| *y == *x)
-}
-
-/// The items of any vector from `n` on, cloned to its end.
-pub fn repeat_from<A: Array>(v: &mut ArrayVec<A>, n: usize) -> Result<(), AllocError>
-where
-    A::Item: Clone,
-    requires in_list { n ≤ items_len v.old }
-    requires room { items_len v.old - n ≤ A.CAPACITY - items_len v.old }
-    ensures { OnOk result (items_len v.new ≡ items_len v.old + (items_len v.old - n)) }
-{
-    v.extend_from_within(n..)
 }
 
 /// The second and third number once more, which allocates nothing.
@@ -362,11 +320,4 @@ pub fn both(
 ) -> Result<(ArrayVecIterator<[u32; 4]>, ArrayVecIterator<[u32; 4]>), AllocError> {
     let copy = items.clone()?;
     Ok((items, copy))
-}
-
-/// An `extract_if` that is dropped before it is driven leaves the list of any vector as it was.
-pub fn undriven<A: Array, F: FnMut(&mut A::Item) -> bool>(v: &mut ArrayVec<A>, f: F)
-    ensures { items v.new ≡ items v.old }
-{
-    let _chosen = v.extract_if(.., f);
 }

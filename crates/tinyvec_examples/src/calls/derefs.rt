@@ -1,41 +1,10 @@
 //! Callers of slice methods, which an `ArrayVec` and a `TinyVec` have as slices do.
-ghost use Rattle.std.specs.Prelude.{◌≡◌, ◌+◌, ◌<◌, ◌≤◌, ◌++◌, ◌∷◌, [], length, take, drop, swap, IsPermutation};
+ghost use Rattle.std.specs.Prelude.{◌≡◌, ◌+◌, ◌<◌, ◌≤◌, ◌++◌, ◌∷◌, [], take, drop, swap, IsPermutation};
 ghost use Rattle.std.specs.List.Sorted.{IsNonDecreasing};
 ghost use Rattle.tinyvec.specs.Slots.{items, items_len, spare};
 ghost use Rattle.tinyvec.specs.TinyVec.{tiny_items, tiny_len, is_inline};
 
 use tinyvec::{ArrayVec, TinyVec};
-
-/// The first item, and the last.
-pub fn both_ends(v: &ArrayVec<[u32; 4]>) -> (Option<u32>, Option<u32>) {
-    (v.first().copied(), v.last().copied())
-}
-
-/// Whether the list has a number.
-pub fn has(v: &TinyVec<[u32; 4]>, x: u32) -> bool {
-    v.contains(&x)
-}
-
-/// How many items follow the first.
-pub fn after_first(v: &TinyVec<[u32; 4]>) -> usize
-    requires { 0 < tiny_len v.now }
-    ensures { result + 1 ≡ tiny_len v.now }
-{
-    v[1..].len()
-}
-
-/// A function of slices takes a vector.
-pub fn count(v: &ArrayVec<[u32; 4]>) -> usize
-    ensures { result ≡ items_len v.now }
-{
-    len_of(v)
-}
-
-fn len_of(numbers: &[u32]) -> usize
-    ensures { result ≡ length numbers.now }
-{
-    numbers.len()
-}
 
 /// The first two items in each other's place. The spare slots stay.
 pub fn swap_first_two(v: &mut ArrayVec<[u32; 4]>)

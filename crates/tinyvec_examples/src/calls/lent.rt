@@ -69,20 +69,6 @@ pub fn left(v: &SliceVec<'_, u8>) -> usize
     v.remaining_capacity()
 }
 
-/// The last item, as of a slice.
-pub fn last(v: &SliceVec<'_, u8>) -> Option<u8> {
-    v.last().copied()
-}
-
-/// Two numbers appended. As many slots are lent as before.
-pub fn push_two(v: &mut SliceVec<'_, u8>, a: u8, b: u8)
-    requires { 1 < length (spare v.old) }
-    ensures { length (slots v.new) ≡ length (slots v.old) }
-{
-    v.push(a);
-    v.push(b);
-}
-
 /// The last number, taken out if it is below a limit.
 pub fn popped_below(v: &mut SliceVec<'_, u8>, limit: u8) -> Option<u8>
     ensures taken { IfSome result (λ x. (items v.old ≡ items v.new ++ x ∷ []) × (x < limit)) }

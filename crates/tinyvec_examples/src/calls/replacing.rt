@@ -44,13 +44,6 @@ pub fn spelled_before(v: &mut TinyVec<[char; 4]>, text: &str) -> bool {
     v.splice_all(0..0, text.chars()).is_ok()
 }
 
-/// Bytes at a place of a list. True unless memory is refused for one.
-pub fn bytes_put_in(v: &mut TinyVec<[u8; 16]>, at: usize, bytes: &[u8]) -> bool
-    requires { at ≤ tiny_len v.old }
-{
-    v.splice_all(at..at, bytes.iter().copied()).is_ok()
-}
-
 /// An array's items in the place of a range, by `splice` and `finish`.
 pub fn pair_put_in(v: &mut ArrayVec<[i32; 8]>, at: usize)
     requires { at + 2 ≤ items_len v.old }

@@ -1,5 +1,6 @@
 //! Callers of lists of calls, and of splices that a word of ends drives.
-ghost use Rattle.std.specs.Prelude.{◌≡◌, OnErr};
+ghost use Rattle.std.specs.Prelude.{◌≡◌, [], ◌∷◌, pos, IfOk, OnErr};
+ghost use Rattle.tinyvec.specs.Slots.{items};
 ghost use Rattle.tinyvec_slice.specs.SliceVec.{name};
 
 use std::alloc::{AllocError, Global};
@@ -43,20 +44,20 @@ pub fn answers_of_tiny(
     Ok(run_tiny(alloc, v, calls)?)
 }
 
-/// Puts the bytes in the place of the list, after the items at these ends were taken.
-pub fn replaced_in_array(
-    alloc: Global,
-    v: &mut ArrayVec<[u8; 4]>,
-    bytes: Vec<u8>,
-    word: &[End],
-) -> Result<Driven<u8>, AllocError>
-    ensures { OnErr result (v.new ≡ v.old) }
+/// Takes one of two items at each end, and puts one number in their place.
+pub fn one_for_two(alloc: Global) -> Result<(Driven<i32>, ArrayVec<[i32; 4]>), AllocError>
+    ensures yields { IfOk result (λ r. r.0.yields.items ≡ pos 2 ∷ pos 3 ∷ []) }
+    ensures rest { IfOk result (λ r. r.0.rest.items ≡ []) }
+    ensures list { IfOk result (λ r. items r.1 ≡ pos 1 ∷ pos 7 ∷ pos 4 ∷ []) }
 {
-    let len = v.len();
-    Ok(drive_array_splice(alloc, v, 0, len, bytes, word)?)
+    let mut vec = ArrayVec::from_array([1, 2, 3, 4]);
+    let replacement = Vec::from_array(alloc, [7])?;
+    let word = [End::Front, End::Back];
+    let driven = drive_array_splice(alloc, &mut vec, 1, 3, replacement, &word)?;
+    Ok((driven, vec))
 }
 
-/// The same of a vector that may move to the heap.
+/// Puts the bytes in the place of the list of a vector that may move to the heap, after the items at these ends were taken.
 pub fn replaced_in_tiny(
     alloc: Global,
     v: &mut TinyVec<[u8; 4]>,

@@ -38,13 +38,6 @@ pub fn bytes(text: &InlineText<8>) -> &[u8]
     text.as_bytes()
 }
 
-/// The same bytes, as a vector.
-pub fn into_bytes(text: InlineText<8>) -> TinyVec<[u8; 8]>
-    ensures { tiny_items result ≡ text.bytes }
-{
-    text.into_bytes()
-}
-
 /// Whether the text begins with `front`, as of a `str`.
 pub fn starts_with(text: &InlineText<8>, front: &str) -> bool {
     text.as_str().starts_with(front)

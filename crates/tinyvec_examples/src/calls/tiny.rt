@@ -313,15 +313,6 @@ pub fn boxed<A: Array>(v: TinyVec<A>) -> Result<BoxedSlice<A::Item>, AllocError>
     Ok(v.into_boxed_slice()?)
 }
 
-/// A splice that is stopped at once has taken its range out.
-pub fn taken_out<A: Array>(v: &mut TinyVec<A>, n: usize)
-    requires { n ≤ tiny_len v.old }
-    ensures items { tiny_items v.new ≡ take n (tiny_items v.old) }
-    ensures place { is_inline v.new ≡ is_inline v.old }
-{
-    let _rest = v.splice(n.., None).stop();
-}
-
 /// A splice that has only begun has touched nothing.
 pub fn untouched<A: Array>(v: &mut TinyVec<A>) -> u128
     ensures { result ≡ 0 }
@@ -360,13 +351,6 @@ pub fn popped_below(v: &mut TinyVec<[u32; 4]>, limit: u32) -> Option<u32>
     ensures kept { IfNone result (tiny_items v.new ≡ tiny_items v.old) }
 {
     v.pop_if(|x| *x < limit)
-}
-
-/// The last item of any vector, taken out whatever it is.
-pub fn popped<A: Array>(v: &mut TinyVec<A>) -> Option<A::Item>
-    ensures { IsSome result ↔ (0 < tiny_len v.old) }
-{
-    v.pop_if(|_| true)
 }
 
 /// An iterator, and its clone over the same items.

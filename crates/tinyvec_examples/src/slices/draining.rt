@@ -80,18 +80,6 @@ pub fn drop_two(v: &mut SliceVec<'_, i32>)
     v.drain_each(1..3, &mut |_x| {});
 }
 
-/// What the owner sees after that.
-pub fn two_dropped() -> [i32; 5]
-    ensures { result ≡ pos 1 ∷ pos 4 ∷ pos 0 ∷ pos 0 ∷ pos 9 ∷ [] }
-{
-    let mut array = [1, 2, 3, 4, 9];
-    {
-        let mut v = SliceVec::from_slice_len(&mut array, 4);
-        drop_two(&mut v);
-    }
-    array
-}
-
 /// The closure is called once for each item.
 pub fn counted(slots: &mut [i32]) -> u64
     requires { 4 ≤ length slots.old }
@@ -117,18 +105,4 @@ pub fn move_tail(v: &mut SliceVec<'_, i32>, out: &mut Vec<i32>)
     ensures moved { out.new.items ≡ out.old.items ++ drop 1 (items v.old) }
 {
     v.drain_into(1.., out);
-}
-
-/// A push, and then a drain, of a vector in a lent slice.
-pub fn push_then_drain(v: &mut SliceVec<'_, i32>, out: &mut Vec<i32>)
-    requires list { 1 ≤ length (items v.old) }
-    requires spare { 1 ≤ length (spare v.old) }
-    requires room { vec_len out.old + 2 ≤ vec_capacity out.old }
-    ensures same_reference { name v.new ≡ name v.old }
-    ensures items { items v.new ≡ remove_range (items v.old ++ pos 5 ∷ []) 0 2 }
-    ensures spare { spare v.new ≡ pos 0 ∷ pos 0 ∷ drop 1 (spare v.old) }
-    ensures moved { out.new.items ≡ out.old.items ++ slice_range (items v.old ++ pos 5 ∷ []) 0 2 }
-{
-    v.push(5);
-    drain_into(v, 0, 2, out);
 }

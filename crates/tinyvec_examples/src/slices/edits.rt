@@ -4,17 +4,6 @@ ghost use Rattle.tinyvec_slice.specs.SliceVec.{items, spare, name};
 
 use tinyvec_slice::SliceVec;
 
-/// A push writes the slot after the list, in an array.
-pub fn pushed_in_array() -> [i32; 4]
-    ensures { result ≡ pos 1 ∷ pos 2 ∷ pos 7 ∷ pos 8 ∷ [] }
-{
-    let mut array = [1, 2, 3, 4];
-    let mut v = SliceVec::from_slice_len(&mut array, 2);
-    v.push(7);
-    v.push(8);
-    array
-}
-
 /// Pushes in a loop.
 pub fn push_fives(v: &mut SliceVec<'_, i32>, n: usize)
     requires { n ≤ length (spare v.old) }
@@ -26,16 +15,6 @@ pub fn push_fives(v: &mut SliceVec<'_, i32>, n: usize)
     for _i in 0..n {
         v.push(5);
     }
-}
-
-/// What the owner sees after that loop.
-pub fn fives_pushed(slots: &mut [i32])
-    requires { 4 ≤ length slots.old }
-    ensures list { take 2 slots.new ≡ take 2 slots.old }
-    ensures spare { drop 4 slots.new ≡ drop 4 slots.old }
-{
-    let mut v = SliceVec::from_slice_len(slots, 2);
-    push_fives(&mut v, 2);
 }
 
 /// A list of four is cut to three, loses its second item and is given another.

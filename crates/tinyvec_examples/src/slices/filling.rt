@@ -1,21 +1,8 @@
 //! What the owner sees after items came from elsewhere, and after some were kept.
-ghost use Rattle.std.specs.Prelude.{◌≡◌, ◌∷◌, [], pos, Some};
+ghost use Rattle.std.specs.Prelude.{◌≡◌, ◌∷◌, [], pos};
 
-use tinyvec_array::{ArrayVec, NoRoom};
+use tinyvec_array::ArrayVec;
 use tinyvec_slice::SliceVec;
-
-/// Four items for two slots: the third finds no room.
-pub fn extended() -> ([i32; 2], Option<i32>)
-    ensures slots { result.0 ≡ pos 1 ∷ pos 2 ∷ [] }
-    ensures refused { result.1 ≡ Some (pos 3) }
-{
-    let mut array = [0, 0];
-    let mut v = SliceVec::from_slice_len(&mut array, 0);
-    match v.extend(ArrayVec::from_array([1, 2, 3, 4])) {
-        Ok(()) => (array, None),
-        Err(NoRoom { item, rest: _ }) => (array, Some(item)),
-    }
-}
 
 /// As many items as there is room for.
 pub fn filled() -> [i32; 3]

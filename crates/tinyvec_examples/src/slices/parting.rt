@@ -1,7 +1,6 @@
 //! What is lent, parted in the caller's own body. Its owner sees what was done to both parts, which no caller of
 //! `split_off` can know.
 ghost use Rattle.std.specs.Prelude.{◌≡◌, ◌≤◌, length, slice_set};
-ghost use Rattle.tinyvec_slice.specs.SliceVec.{items, slots, name, view};
 
 use tinyvec_slice::SliceVec;
 
@@ -16,27 +15,4 @@ pub fn both_parts(xs: &mut [u8])
     let mut second = SliceVec::from_slice_len(back, 2);
     first[0] = 7;
     second.push(6);
-}
-
-/// The same in a function that is lent the vector, which keeps its length.
-pub fn part(v: &mut SliceVec<'_, u8>)
-    requires { 3 ≤ length (items v.old) }
-    ensures same_reference { name v.new ≡ name v.old }
-    ensures len { (view v.new).len ≡ (view v.old).len }
-    ensures slots { slots v.new ≡ slice_set (slice_set (slots v.old) 0 7) 1 6 }
-{
-    let (front, back) = v.as_mut_inner().split_at_mut(1);
-    let mut first = SliceVec::from_slice_len(front, 1);
-    let mut second = SliceVec::from_slice_len(back, 2);
-    first[0] = 7;
-    second[0] = 6;
-}
-
-/// What the owner sees after that function.
-pub fn parted(xs: &mut [u8])
-    requires { 5 ≤ length xs.old }
-    ensures { xs.new ≡ slice_set (slice_set xs.old 0 7) 1 6 }
-{
-    let mut v = SliceVec::from_slice_len(xs, 3);
-    part(&mut v);
 }

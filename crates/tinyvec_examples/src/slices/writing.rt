@@ -1,8 +1,8 @@
 //! Text written into a vector of bytes, and what the owner of the bytes sees.
-ghost use Rattle.std.specs.Prelude.{◌≡◌, ◌≤◌, ◌↔◌, ◌++◌, ◌∷◌, [], length, drop, codes, OnOk, IsTrue};
+ghost use Rattle.std.specs.Prelude.{◌≡◌, ◌≤◌, ◌↔◌, ◌++◌, length, drop, codes, OnOk, IsTrue};
 ghost use Rattle.std.specs.Bool.{OnTrue, OnFalse};
 ghost use Rattle.std.specs.Fmt.{decimal};
-ghost use Rattle.tinyvec_slice.specs.SliceVec.{items_of, spare_of, name_of, items, spare, name};
+ghost use Rattle.tinyvec_slice.specs.SliceVec.{items_of, spare_of, name_of, items, spare};
 
 use std::fmt;
 use std::fmt::Write;
@@ -18,18 +18,6 @@ pub fn write_pair<B: Lent<Item = u8>>(v: &mut GenericSliceVec<B>, x: u32, y: u32
         ≡ drop (length (decimal x ++ (codes ", " ++ decimal y))) (spare_of B.Lent v.old)) }
 {
     write!(v, "{x}, {y}")
-}
-
-/// A caller by name: the same, and a line feed.
-pub fn write_line(v: &mut SliceVec<'_, u8>, x: u32, y: u32) -> fmt::Result
-    ensures same_reference { OnOk result (name v.new ≡ name v.old) }
-    ensures items { OnOk result
-        (items v.new ≡ items v.old ++ (decimal x ++ (codes ", " ++ decimal y)) ++ codes "\n") }
-    ensures spare { OnOk result
-        (spare v.new ≡ drop 1 (drop (length (decimal x ++ (codes ", " ++ decimal y))) (spare v.old))) }
-{
-    write_pair(v, x, y)?;
-    v.write_str("\n")
 }
 
 /// What the owner sees: the text before the other bytes, which are as they were.
@@ -60,17 +48,4 @@ pub fn text_into(bytes: &mut [u8], s: &str) -> bool
 {
     let mut v = SliceVec::from_slice_len(bytes, 0);
     write_text(&mut v, s)
-}
-
-/// The owner of an array sees the first text alone. The second is longer than the spare slots.
-pub fn one_of_two() -> [u8; 5]
-    ensures { result ≡ 1 ∷ 97 ∷ 98 ∷ 99 ∷ 9 ∷ [] }
-{
-    let mut array = [1, 9, 9, 9, 9];
-    {
-        let mut v = SliceVec::from_slice_len(&mut array, 1);
-        let _written = v.write_str("abc");
-        let _refused = v.write_str("de");
-    }
-    array
 }

@@ -1,0 +1,43 @@
+-- Examples of calls as values, of runs and of scripts.
+use Rattle.std.proofs.Common.{◌≡◌, ℕ, List, [], ◌∷◌, rules, arith}
+use Rattle.tinyvec_slots.specs.Slots.{Slots}
+use Rattle.tinyvec.specs.View.{TinyView, in_array, view_len, ViewPlaceRule}
+use Rattle.tinyvec_script.specs.declared.call.Call.TheVariants.{Push, Pop}
+use Rattle.tinyvec_script.specs.declared.call.Answer.TheVariants as answers
+use Rattle.tinyvec_script.specs.declared.call.End.TheVariants.{Front}
+use Rattle.tinyvec_script.specs.Step.{ArrayStep, SliceStep, Run}
+use Rattle.tinyvec_script.specs.TinyCalls.{TinyStep}
+use Rattle.tinyvec_script.specs.Driving.{ArraySplices, TinySplices, SpliceComputes}
+use Rattle.tinyvec_script.specs.Script.{Script, CompleteLines}
+use Rattle.tinyvec_examples.proofs.words.Shown.{D, nums, over}
+
+-- a list in an array of four slots, and the spare slots after it
+abbrev pub inline : List ℕ → List ℕ → TinyView ℕ
+inline xs ys = record { items = xs; spare = ys; place = in_array }
+
+pub example-ArrayStep : ArrayStep D 4 (over (1 ∷ []) (0 ∷ 0 ∷ 0 ∷ [])) (Push 2) answers.Done (over (1 ∷ 2 ∷ []) (0 ∷ 0 ∷ []))
+example-ArrayStep = search rules
+
+pub example-SliceStep : SliceStep D (over [] (0 ∷ 0 ∷ [])) Pop answers.None (over [] (0 ∷ 0 ∷ []))
+example-SliceStep = search rules
+
+pub example-TinyStep : TinyStep D 4 (inline [] (0 ∷ 0 ∷ 0 ∷ 0 ∷ [])) Pop answers.None (inline [] (0 ∷ 0 ∷ 0 ∷ 0 ∷ []))
+example-TinyStep = search rules
+
+pub example-Run : Run (ArrayStep D 2) (over [] (0 ∷ 0 ∷ [])) (Pop ∷ Pop ∷ []) (answers.None ∷ answers.None ∷ []) (over [] (0 ∷ 0 ∷ []))
+example-Run = search rules
+
+pub example-SpliceComputes : SpliceComputes 8 (nums (1 ∷ 2 ∷ 3 ∷ 4 ∷ [])) 1 3 (Front ∷ []) (7 ∷ []) (2 ∷ []) [] (1 ∷ 7 ∷ 4 ∷ [])
+example-SpliceComputes = search rules
+
+pub example-ArraySplices : (yields rest : List ℕ) (new : Slots ℕ) → ArraySplices D 8 (over (1 ∷ 2 ∷ 3 ∷ 4 ∷ []) (0 ∷ [])) 1 3 (Front ∷ []) (7 ∷ []) yields rest new → rest ≡ []
+example-ArraySplices yields rest new h = (h.list.placed (omega arith)).0
+
+pub example-TinySplices : (yields rest : List ℕ) (old new : TinyView ℕ) → TinySplices D 4 old 1 3 (Front ∷ []) (7 ∷ []) yields rest new → ViewPlaceRule 4 (view_len new) old new
+example-TinySplices yields rest old new h = h.grows.place
+
+pub example-Script : Script [] []
+example-Script = search rules
+
+pub example-CompleteLines : CompleteLines [] []
+example-CompleteLines = search rules

@@ -1,0 +1,59 @@
+-- Examples of a `SliceVec` v over the slots `[1, 2, 0]`, whose list is `[1, 2]`, and of a generic one.
+use Rattle.std.proofs.Common.{◌≡◌, ℕ, List, [], ◌∷◌, drop, refl, rules, ◌∙◌, sym, ap}
+use Rattle.tinyvec_slots.specs.Slots.{items as items_in, spare as spare_in}
+use Rattle.std.specs.Borrow.{MutBor}
+use Rattle.tinyvec_slice.specs.declared.lent.Lent as Lent
+use Rattle.tinyvec_slice.specs.declared.slice_vec.GenericSliceVec.{GenericSliceVec}
+use Rattle.tinyvec_slice.specs.SliceVec.{view, items, spare, name, view_of, items_of, spare_of, len_of, slots_of, name_of, SameLender, Gains, Loses, Grows, Shortens}
+use Rattle.tinyvec_slice.specs.CutLaws.{CutOf}
+use Rattle.tinyvec_examples.proofs.words.Shown.{D, over}
+
+module _ (v : GenericSliceVec (MutBor (List ℕ)) ℕ) (lent : v.lent.now ≡ 1 ∷ 2 ∷ 0 ∷ []) (len : v.len ≡ 2) where
+  pub example-view : view v ≡ over (1 ∷ 2 ∷ []) (0 ∷ [])
+  example-view = rw (lent, len) refl
+
+  pub example-items : items v ≡ 1 ∷ 2 ∷ []
+  example-items = rw (lent, len) refl
+
+  pub example-spare : spare v ≡ 0 ∷ []
+  example-spare = rw (lent, len) refl
+
+  pub example-name : name v ≡ v.lent.ghost_name
+  example-name = refl
+
+module _ {B : Type 0} (g : Lent.Ghosts B ℕ) (v : GenericSliceVec B ℕ) (lent : g.slots v.lent ≡ 1 ∷ 2 ∷ 0 ∷ []) (len : v.len ≡ 2) where
+  pub example-view_of : view_of g v ≡ over (1 ∷ 2 ∷ []) (0 ∷ [])
+  example-view_of = rw (lent, len) refl
+
+  pub example-items_of : items_of g v ≡ 1 ∷ 2 ∷ []
+  example-items_of = rw (lent, len) refl
+
+  pub example-spare_of : spare_of g v ≡ 0 ∷ []
+  example-spare_of = rw (lent, len) refl
+
+  pub example-len_of : len_of g v ≡ 2
+  example-len_of = rw (lent, len) refl
+
+  pub example-slots_of : slots_of g v ≡ 1 ∷ 2 ∷ 0 ∷ []
+  example-slots_of = lent
+
+  pub example-name_of : name_of g v ≡ g.name v.lent
+  example-name_of = refl
+
+  pub example-SameLender : SameLender g v v
+  example-SameLender = record { same_reference = refl; slot_count = refl }
+
+  pub example-Gains : (w : GenericSliceVec B ℕ) → SameLender g v w → view_of g w ≡ over (1 ∷ 2 ∷ 7 ∷ []) [] → Gains g 1 v w (1 ∷ 2 ∷ 7 ∷ [])
+  example-Gains w same after = record { lender = same; items = ap items_in after; spare = ap spare_in after ∙ ap (drop 1) (sym example-spare_of) }
+
+  pub example-Loses : (w : GenericSliceVec B ℕ) → SameLender g v w → view_of g w ≡ over (1 ∷ []) (0 ∷ 0 ∷ []) → Loses g D 1 v w (1 ∷ [])
+  example-Loses w same after = record { lender = same; items = ap items_in after; spare = (0 ∷ [], search rules, ap spare_in after ∙ ap (λ xs. 0 ∷ xs) (sym example-spare_of)) }
+
+  pub example-Grows : (w : GenericSliceVec B ℕ) → Grows g v w → SameLender g v w
+  example-Grows w h = h.lender
+
+  pub example-Shortens : (w : GenericSliceVec B ℕ) → Shortens g D v w → SameLender g v w
+  example-Shortens w h = h.lender
+
+  pub example-CutOf : (w : GenericSliceVec B ℕ) → CutOf g D v w → name_of g w ≡ name_of g v
+  example-CutOf w h = h.0

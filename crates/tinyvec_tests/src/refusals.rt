@@ -1,0 +1,146 @@
+//! A block that is lost where a request is refused, a call that stays refused once memory is there again, and an item that a
+//! macro evaluates too early would pass the check. `tests/refuse` refuses each request in turn, and counts the blocks.
+use crate::steps::{all_right, counted, first};
+use std::alloc::{AllocError, Global};
+use std::cell::Cell;
+use std::io::Write;
+use std::test::Fail;
+use tinyvec::{ArrayVec, TinyVec, tiny_vec};
+
+// An item that owns memory, as a clone of it does.
+type Owned = Option<Box<i32>>;
+
+type Boxes = TinyVec<[Owned; 2]>;
+
+// Calls that may allocate, and to which items are passed that own memory, as those of the list do.
+#[derive(Clone, Copy)]
+enum Call {
+    Append,
+    CloneFrom,
+    Extend,
+    FromIter,
+    Insert,
+    IntoVec,
+    Splice,
+    SplitOff,
+}
+
+const CALLS: [Call; 8] = [
+    Call::Append,
+    Call::CloneFrom,
+    Call::Extend,
+    Call::FromIter,
+    Call::Insert,
+    Call::IntoVec,
+    Call::Splice,
+    Call::SplitOff,
+];
+
+fn owned(alloc: Global, number: i32) -> Result<Owned, AllocError> {
+    Ok(Some(Box::new(alloc, number)?))
+}
+
+// A full array.
+fn two(alloc: Global) -> Result<ArrayVec<[Owned; 2]>, AllocError> {
+    Ok(ArrayVec::from_array([owned(alloc, 1)?, owned(alloc, 2)?]))
+}
+
+impl Call {
+    // Whether the call is granted memory.
+    fn is_granted(self, alloc: Global, v: &mut Boxes) -> Result<bool, AllocError> {
+        let mut other = TinyVec::Inline(two(alloc)?, alloc);
+        Ok(match self {
+            Call::Append => v.append(&mut other).is_ok(),
+            Call::CloneFrom => v.clone_from(&other).is_ok(),
+            Call::Extend => v.extend(other).is_ok(),
+            Call::FromIter => TinyVec::<[Owned; 1]>::from_iter(alloc, other).is_ok(),
+            Call::Insert => v.insert(0, other.pop().flatten()).is_ok(),
+            Call::IntoVec => other.into_vec().is_ok(),
+            Call::Splice => v.splice(..0, other).finish().is_ok(),
+            Call::SplitOff => v.split_off(0).is_ok(),
+        })
+    }
+}
+
+// Ends a test. The script asks each test here to say that it met a refusal.
+fn told(rt: &impl Print, is_refused: bool, wrong: u32) -> Result<(), Fail> {
+    if is_refused {
+        println!(rt; "refused")?;
+    }
+    all_right(wrong)
+}
+
+// Whether a call was refused, and the first one that was refused again, or 0.
+fn refused_once(alloc: Global, inline: bool) -> Result<(bool, u32), AllocError> {
+    let mut is_refused = false;
+    let mut wrong = 0;
+    let mut step = 0_u32;
+    for call in CALLS {
+        let mut v = TinyVec::Inline(two(alloc)?, alloc);
+        if !inline {
+            v.move_to_the_heap()?;
+        }
+        step = step.wrapping_add(1);
+        if !call.is_granted(alloc, &mut v)? {
+            is_refused = true;
+            wrong = first(wrong, step, call.is_granted(alloc, &mut v)?);
+        }
+    }
+    Ok((is_refused, wrong))
+}
+
+#[test]
+fn of_an_inline_list(rt: HostRuntime) -> Result<(), Fail> {
+    let (is_refused, wrong) = refused_once(rt.alloc(), true)?;
+    told(&rt, is_refused, wrong)
+}
+
+#[test]
+fn of_a_list_on_the_heap(rt: HostRuntime) -> Result<(), Fail> {
+    let (is_refused, wrong) = refused_once(rt.alloc(), false)?;
+    told(&rt, is_refused, wrong)
+}
+
+// How many bytes are written, or none where memory for them is refused.
+fn written(v: &mut TinyVec<[u8; 3]>) -> usize {
+    v.write(&[5; 100]).unwrap_or(0)
+}
+
+// A write that is refused memory says so by an error, and not by a count.
+#[test]
+fn of_bytes_that_are_written(rt: HostRuntime) -> Result<(), Fail> {
+    let mut v = TinyVec::from_array_len(rt.alloc(), [1, 2, 9], 2);
+    let mut is_refused = false;
+    let mut wrong = 0;
+    for len in [102, 202] {
+        let before = v.len();
+        if written(&mut v) == 0 {
+            is_refused = true;
+            wrong = first(wrong, 1, v.len() == before);
+            wrong = first(wrong, 2, written(&mut v) == 100);
+        }
+        wrong = first(wrong, 3, v.len() == len);
+    }
+    told(&rt, is_refused, wrong)
+}
+
+fn listed(alloc: Global, count: &Cell<i32>) -> Result<TinyVec<[i32; 3]>, AllocError> {
+    tiny_vec!(alloc; [i32; 3] => counted(count), counted(count), 3, 4)
+}
+
+fn listed_by_its_place(alloc: Global, count: &Cell<i32>) -> Result<TinyVec<[i32; 1]>, AllocError> {
+    tiny_vec!(alloc; counted(count), counted(count))
+}
+
+// No item is evaluated before there is room for all, and each is evaluated once.
+#[test]
+fn of_items_that_a_macro_lists(rt: HostRuntime) -> Result<(), Fail> {
+    let count = Cell::new(0);
+    let is_refused = listed(rt.alloc(), &count).is_err();
+    let wanted = if is_refused { 0 } else { 2_i32 };
+    let mut wrong = first(0, 1, count.get() == wanted);
+    let is_placed = listed_by_its_place(rt.alloc(), &count).is_ok();
+    let more = if is_placed { 2 } else { 0_i32 };
+    wrong = first(wrong, 2, count.get() == more.wrapping_add(wanted));
+    told(&rt, is_refused | !is_placed, wrong)
+}

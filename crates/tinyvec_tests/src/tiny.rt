@@ -1,8 +1,0 @@
-//! A `TinyVec`.
-
-mod draining;
-mod iterators;
-mod macros;
-mod many_slots;
-mod no_memory;
-mod refusals;
