@@ -96,13 +96,3 @@ pub fn copied_numbers(
 {
     Ok((copied_tiny(alloc, unsigned)?, copied_array(alloc, signed)?))
 }
-
-/// And of lists of them.
-pub fn copied_lists_of_numbers(
-    alloc: Global,
-    v: &TinyVec<[ArrayVec<[u8; 4]>; 2]>,
-) -> Result<TinyVec<[ArrayVec<[u8; 4]>; 2]>, BorshError>
-    ensures { IfOk result (λ w. map items (tiny_items w) ≡ map items (tiny_items v.now)) }
-{
-    copied_lists(alloc, v)
-}

@@ -3,7 +3,6 @@ ghost use Rattle.std.specs.Prelude.{◌≡◌, ◌-◌, ◌≤◌, length};
 ghost use Rattle.tinyvec.specs.TinyVec.{tiny_len};
 
 use std::alloc::{AllocError, Global};
-use std::str;
 use tinyvec::{ArrayVec, TinyVec};
 
 /// `&v[1..]`.
@@ -63,11 +62,6 @@ pub fn equals_slice(v: &TinyVec<[u32; 4]>, xs: &[u32]) -> bool {
     v.as_slice() == xs
 }
 
-/// `v == [1, 2]`: both sides are slices.
-pub fn equals_array(v: &TinyVec<[u32; 4]>) -> bool {
-    v.as_slice() == [1, 2].as_slice()
-}
-
 /// `xs.iter().copied().collect()`.
 pub fn collected(xs: &[u32]) -> Option<ArrayVec<[u32; 4]>> {
     let mut v = ArrayVec::new();
@@ -89,16 +83,6 @@ pub fn swap(v: &mut TinyVec<[u32; 4]>)
     v.swap(0, 1);
 }
 
-/// `v.windows(2)`.
-pub fn has_repeat(v: &TinyVec<[u32; 4]>) -> bool {
-    for pair in v.windows(2) {
-        if pair[0] == pair[1] {
-            return true;
-        }
-    }
-    false
-}
-
 /// `v.first_chunk::<2>()`.
 pub fn first_two(v: &TinyVec<[u8; 4]>) -> Option<&[u8; 2]> {
     v.first_chunk::<2>()
@@ -117,19 +101,6 @@ pub fn number_of_runs(v: &TinyVec<[u8; 4]>) -> usize {
 /// `v.drain(..).collect()`.
 pub fn drained(alloc: Global, v: &mut TinyVec<[u8; 4]>) -> Result<Vec<u8>, AllocError> {
     v.drain(..).collect(alloc)
-}
-
-/// A pattern of a slice.
-pub fn begins_with_a(v: &TinyVec<[u8; 4]>) -> bool {
-    match v.as_slice() {
-        [65, ..] => true,
-        _ => false,
-    }
-}
-
-/// `str::from_utf8(&v).ok()`.
-pub fn text(v: &TinyVec<[u8; 4]>) -> Option<&str> {
-    str::from_utf8(v.as_slice()).ok()
 }
 
 /// `ArrayVec::try_from(xs)`.

@@ -19,15 +19,6 @@ pub fn debugged(alloc: Global) -> Result<String, AllocError>
     format!(in alloc; "v: {v:?}")
 }
 
-/// What is left to an iterator, with its name.
-pub fn iterator_debugged(alloc: Global) -> Result<String, AllocError>
-    ensures { IfOk result (λ s. string_bytes s ≡ codes "ArrayVecIterator([2, 3])") }
-{
-    let mut left = ArrayVec::from_array([1u8, 2, 3]).into_iter();
-    let _one = left.next();
-    format!(in alloc; "{left:?}")
-}
-
 /// A list whose items' texts are known: these, joined by a comma and a blank, in brackets.
 pub fn displayed_items<A: Array>(alloc: Global, v: &ArrayVec<A>) -> Result<String, AllocError>
 where

@@ -9,7 +9,7 @@ use crate::steps::{all_steps, counted};
 use std::alloc::{AllocError, Global};
 use std::cell::Cell;
 use std::fmt;
-use std::fmt::{Debug, Display, Write};
+use std::fmt::{Display, Write};
 use std::ops::{Bound, RangeBounds};
 use std::test::Fail;
 use tinyvec::{ArrayVec, SliceVec, TinyVec};
@@ -279,18 +279,6 @@ fn is_written<V: Display>(v: &V, items: usize) -> bool {
     is_right
 }
 
-// The same of a value's `{:?}`, in as many pieces as it takes.
-fn is_debugged<V: Debug>(v: &V) -> bool {
-    let mut all = Pieces::failing_at(0);
-    let mut is_right = write!(all, "{v:?}").is_ok() & !all.has_empty;
-    for before in 0..all.asked {
-        let number = before.saturating_add(1);
-        let mut some = Pieces::failing_at(number);
-        is_right &= write!(some, "{v:?}").is_err() & (some.asked == number);
-    }
-    is_right
-}
-
 #[test]
 fn pieces_of_texts(rt: HostRuntime) -> Result<(), Fail> {
     let mut v = ArrayVec::<[Mark; 3]>::new();
@@ -303,7 +291,5 @@ fn pieces_of_texts(rt: HostRuntime) -> Result<(), Fail> {
         is_written(&TinyVec::Inline(v, rt.alloc()), 3),
         is_written(&heap, 3),
         is_written(&SliceVec::from_slice(v.as_mut_slice()), 3),
-        is_debugged(&v),
-        is_debugged(&v.into_iter()),
     ])
 }

@@ -2,7 +2,7 @@
 //! are counted and refused, of items that are cloned in blocks of 512 and 16, and of those that are left.
 ghost use Rattle.std.specs.Prelude.{◌≡◌};
 
-use crate::steps::{all_right, all_steps, granted};
+use crate::steps::{all_right, granted};
 use std::alloc::{AllocError, Global};
 use std::cell::Cell;
 use std::test::Fail;
@@ -74,21 +74,20 @@ impl<'a, 'n> Small<'a, 'n> {
     }
 }
 
-type Slots<'a, 'n> = [Small<'a, 'n>; 599];
+const SLOTS: usize = 599;
 
-type List<'a, 'n> = ArrayVec<Slots<'a, 'n>>;
+type List<'a, 'n> = ArrayVec<[Small<'a, 'n>; SLOTS]>;
 
 // A list of this many items, before spare slots. All slots have this origin.
 fn list<'a, 'n>(origin: &'a Origin<'n>, len: usize) -> List<'a, 'n> {
     let mut v = ArrayVec::new();
-    for _slot in 0..599 {
+    for _slot in 0..SLOTS {
         let _full = v.try_push(Small(Some(origin)));
     }
     v.set_len(len.min(v.capacity()));
     v
 }
 
-// The vector, with a list of `len` items.
 #[derive(Clone, Copy)]
 enum Vector {
     Array,
@@ -114,45 +113,48 @@ enum Call {
 
 use Call::{CloneFrom, Extend, FromSlice, Resize};
 
-// What the call asks for, and leaves in the slots that are seen.
+// A call with its number, of a vector with a list of this length. The clone of the last number is refused, or none for 0.
 #[derive(Clone, Copy)]
-struct Wanted {
-    is_granted: bool,
-    asked: usize,
-    left: usize,
+struct Case {
+    vector: Vector,
+    call: Call,
+    len: usize,
+    count: usize,
+    refused: usize,
 }
 
-impl Wanted {
-    // Where the clone of this number is refused, or none for 0.
-    fn of(vector: Vector, call: Call, len: usize, count: usize, refused: usize) -> Wanted {
-        let needed = match (call, vector) {
-            (Call::Clone, Vector::Heap) => len,
-            (Call::Clone, _) => 599,
-            (CloneFrom | Extend | FromSlice, _) => count,
-            (Resize, Vector::Slice) => count.abs_diff(len),
-            (Resize, _) => count.saturating_sub(len),
-        };
-        let is_granted = refused == 0 || refused > needed;
-        let made = if is_granted {
-            needed
-        } else {
-            refused.saturating_sub(1)
-        };
-        let left = match (call, vector) {
-            (Call::Clone | FromSlice, _) => 0,
-            (CloneFrom, Vector::Heap) if !is_granted => made.min(len),
-            // Behind its list nothing is seen.
-            (_, Vector::Heap) if !is_granted => 0,
-            _ => made,
-        };
-        let asked = if is_granted { needed } else { refused };
-        Wanted {
-            is_granted,
-            asked,
-            left,
+impl Case {
+    // How many clones the call needs.
+    fn needed(&self) -> usize {
+        match (self.call, self.vector) {
+            (Call::Clone, Vector::Heap) => self.len,
+            (Call::Clone, _) => SLOTS,
+            (CloneFrom | Extend | FromSlice, _) => self.count,
+            (Resize, Vector::Slice) => self.count.abs_diff(self.len),
+            (Resize, _) => self.count.saturating_sub(self.len),
         }
     }
 
+    fn is_granted(&self) -> bool {
+        self.refused == 0 || self.refused > self.needed()
+    }
+
+    // How many clones are made, and are in the slots that are seen afterwards.
+    fn left(&self) -> usize {
+        let made = match self.is_granted() {
+            true => self.needed(),
+            false => self.refused.saturating_sub(1),
+        };
+        match (self.call, self.vector) {
+            (Call::Clone | FromSlice, _) => 0,
+            (CloneFrom, Vector::Heap) if !self.is_granted() => made.min(self.len),
+            // Behind its list nothing is seen.
+            (_, Vector::Heap) if !self.is_granted() => 0,
+            _ => made,
+        }
+    }
+
+    // Whether a call asked for so many clones, was granted them, and left them in these slots.
     fn is(
         &self,
         clones: &Clones,
@@ -160,112 +162,96 @@ impl Wanted {
         items: &[Small<'_, '_>],
         spare: &[Small<'_, '_>],
     ) -> bool {
-        let left = items
-            .iter()
-            .chain(spare)
-            .filter(|slot| slot.is_copy())
-            .count();
-        (clones.asked.get() == self.asked) & (is_granted == self.is_granted) & (left == self.left)
+        let asked = match self.is_granted() {
+            true => self.needed(),
+            false => self.refused,
+        };
+        let copies = items.iter().chain(spare).filter(|slot| slot.is_copy());
+        (clones.asked.get() == asked)
+            & (is_granted == self.is_granted())
+            & (copies.count() == self.left())
     }
-}
 
-fn array(call: Call, len: usize, count: usize, refused: usize) -> bool {
-    let clones = Clones::refusing(refused);
-    let (origin, own) = (clones.of_source(), clones.of_slots());
-    let source = list(&origin, count);
-    let mut v = list(&own, len);
-    let one = Small(Some(&origin));
-    let is_granted = match call {
-        Call::Clone => v.clone().is_ok(),
-        CloneFrom => v.clone_from(&source).is_ok(),
-        Extend if source.len() <= v.capacity() - v.len() => {
-            v.extend_from_slice(source.as_slice()).is_ok()
-        }
-        Resize if count <= v.capacity() => v.resize(count, one).is_ok(),
-        FromSlice => List::try_from_slice(source.as_slice()).is_ok(),
-        _ => return false,
-    };
-    let wanted = Wanted::of(Vector::Array, call, len, count, refused);
-    wanted.is(&clones, is_granted, v.as_slice(), v.grab_spare_slice())
-}
-
-fn slice(call: Call, len: usize, count: usize, refused: usize) -> bool {
-    let clones = Clones::refusing(refused);
-    let (origin, own) = (clones.of_source(), clones.of_slots());
-    let source = list(&origin, count);
-    let mut room = list(&own, 599);
-    let mut v = SliceVec::from_slice_at_most(room.as_mut_slice(), len);
-    let one = Small(Some(&origin));
-    let is_granted = match call {
-        Extend if source.len() <= v.capacity() - v.len() => {
-            v.extend_from_slice(source.as_slice()).is_ok()
-        }
-        Resize if count <= v.capacity() => v.resize(count, one).is_ok(),
-        _ => return false,
-    };
-    let wanted = Wanted::of(Vector::Slice, call, len, count, refused);
-    wanted.is(&clones, is_granted, v.as_slice(), v.grab_spare_slice())
-}
-
-// A list on the heap has room for 599 items more. `None` says that memory for the vector itself was refused.
-fn tiny(
-    alloc: Global,
-    call: Call,
-    len: usize,
-    count: usize,
-    refused: usize,
-    inline: bool,
-) -> Option<bool> {
-    let clones = Clones::refusing(refused);
-    let (origin, own) = (clones.of_source(), clones.of_slots());
-    let source = list(&origin, count);
-    let mut v = TinyVec::Inline(list(&own, len), alloc);
-    if !inline && v.move_to_the_heap_and_reserve(599).is_err() {
-        return None;
+    fn of_an_array(&self) -> bool {
+        let clones = Clones::refusing(self.refused);
+        let (origin, own) = (clones.of_source(), clones.of_slots());
+        let source = list(&origin, self.count);
+        let mut v = list(&own, self.len);
+        let one = Small(Some(&origin));
+        let is_granted = match self.call {
+            Call::Clone => v.clone().is_ok(),
+            CloneFrom => v.clone_from(&source).is_ok(),
+            Extend if source.len() <= v.capacity() - v.len() => {
+                v.extend_from_slice(source.as_slice()).is_ok()
+            }
+            Resize if self.count <= v.capacity() => v.resize(self.count, one).is_ok(),
+            FromSlice => List::try_from_slice(source.as_slice()).is_ok(),
+            _ => return false,
+        };
+        self.is(&clones, is_granted, v.as_slice(), v.grab_spare_slice())
     }
-    let one = Small(Some(&origin));
-    let is_granted = match call {
-        Call::Clone => v.clone().is_ok(),
-        CloneFrom => v.clone_from(&TinyVec::Inline(source, alloc)).is_ok(),
-        Extend => v.extend_from_slice(source.as_slice()).is_ok(),
-        Resize => v.resize(count, one).is_ok(),
-        FromSlice if inline => {
-            TinyVec::<Slots<'_, '_>>::from_slice(alloc, source.as_slice()).is_ok()
-        }
-        FromSlice => TinyVec::<[Small; 1]>::from_slice(alloc, source.as_slice()).is_ok(),
-    };
-    let vector = if inline { Vector::Inline } else { Vector::Heap };
-    let wanted = Wanted::of(vector, call, len, count, refused);
-    if !is_granted && clones.asked.get() == 0 && wanted.asked != 0 {
-        return None;
-    }
-    let is_right = match &v {
-        TinyVec::Inline(list, _) => {
-            wanted.is(
-                &clones,
-                is_granted,
-                list.as_slice(),
-                list.grab_spare_slice(),
-            )
-        }
-        TinyVec::Heap(list) => wanted.is(&clones, is_granted, list.as_slice(), &[]),
-    };
-    Some(is_right & (v.is_inline() == inline))
-}
 
-fn is_so(
-    alloc: Global,
-    vector: Vector,
-    call: Call,
-    len: usize,
-    count: usize,
-    refused: usize,
-) -> Option<bool> {
-    match vector {
-        Vector::Array => Some(array(call, len, count, refused)),
-        Vector::Slice => Some(slice(call, len, count, refused)),
-        Vector::Inline => tiny(alloc, call, len, count, refused, true),
-        Vector::Heap => tiny(alloc, call, len, count, refused, false),
+    fn of_a_slice(&self) -> bool {
+        let clones = Clones::refusing(self.refused);
+        let (origin, own) = (clones.of_source(), clones.of_slots());
+        let source = list(&origin, self.count);
+        let mut room = list(&own, SLOTS);
+        let mut v = SliceVec::from_slice_at_most(room.as_mut_slice(), self.len);
+        let one = Small(Some(&origin));
+        let is_granted = match self.call {
+            Extend if source.len() <= v.capacity() - v.len() => {
+                v.extend_from_slice(source.as_slice()).is_ok()
+            }
+            Resize if self.count <= v.capacity() => v.resize(self.count, one).is_ok(),
+            _ => return false,
+        };
+        self.is(&clones, is_granted, v.as_slice(), v.grab_spare_slice())
+    }
+
+    // A list on the heap has room for as many items more. `None` says that memory for the vector itself was refused.
+    fn of_a_tiny_vec(&self, alloc: Global, inline: bool) -> Option<bool> {
+        let clones = Clones::refusing(self.refused);
+        let (origin, own) = (clones.of_source(), clones.of_slots());
+        let source = list(&origin, self.count);
+        let mut v = TinyVec::Inline(list(&own, self.len), alloc);
+        if !inline && v.move_to_the_heap_and_reserve(SLOTS).is_err() {
+            return None;
+        }
+        let one = Small(Some(&origin));
+        let is_granted = match self.call {
+            Call::Clone => v.clone().is_ok(),
+            CloneFrom => v.clone_from(&TinyVec::Inline(source, alloc)).is_ok(),
+            Extend => v.extend_from_slice(source.as_slice()).is_ok(),
+            Resize => v.resize(self.count, one).is_ok(),
+            FromSlice if inline => {
+                TinyVec::<[Small; SLOTS]>::from_slice(alloc, source.as_slice()).is_ok()
+            }
+            FromSlice => TinyVec::<[Small; 1]>::from_slice(alloc, source.as_slice()).is_ok(),
+        };
+        if !is_granted && clones.asked.get() == 0 && self.needed() != 0 {
+            return None;
+        }
+        let is_right = match &v {
+            TinyVec::Inline(list, _) => {
+                self.is(
+                    &clones,
+                    is_granted,
+                    list.as_slice(),
+                    list.grab_spare_slice(),
+                )
+            }
+            TinyVec::Heap(list) => self.is(&clones, is_granted, list.as_slice(), &[]),
+        };
+        Some(is_right & (v.is_inline() == inline))
+    }
+
+    fn is_right(&self, alloc: Global) -> Option<bool> {
+        match self.vector {
+            Vector::Array => Some(self.of_an_array()),
+            Vector::Slice => Some(self.of_a_slice()),
+            Vector::Inline => self.of_a_tiny_vec(alloc, true),
+            Vector::Heap => self.of_a_tiny_vec(alloc, false),
+        }
     }
 }
 
@@ -282,8 +268,14 @@ fn first_wrong(
     for call in calls {
         for (len, count) in lengths {
             for number in refused {
-                let is_right = is_so(alloc, vector, *call, *len, *count, *number);
-                wrong = granted(wrong, step, is_right);
+                let case = Case {
+                    vector,
+                    call: *call,
+                    len: *len,
+                    count: *count,
+                    refused: *number,
+                };
+                wrong = granted(wrong, step, case.is_right(alloc));
                 step = step.wrapping_add(1);
             }
         }
@@ -341,19 +333,4 @@ fn of_a_tiny_vec_on_the_heap(rt: HostRuntime) -> Result<(), Fail> {
     let lengths = &[(0, 4), (3, 5), (5, 3), (21, 21), (550, 540)];
     let refused = &[0, 1, 2, 4, 5, 21, 514];
     all_right(first_wrong(rt.alloc(), Vector::Heap, CALLS, lengths, refused))
-}
-
-// What finds no room is refused before anything is cloned.
-#[test]
-fn refused_before_any_clone(rt: HostRuntime) -> Result<(), Fail> {
-    let clones = Clones::refusing(0);
-    let origin = clones.of_source();
-    let source = list(&origin, 5);
-    let mut v: TinyVec<[Small; 4]> = TinyVec::new(rt.alloc());
-    let one = Small(Some(&origin));
-    all_steps(&[
-        ArrayVec::<[Small; 4]>::try_from_slice(source.as_slice()).is_err(),
-        v.resize(usize::MAX, one).is_err(),
-        clones.asked.get() == 0,
-    ])
 }

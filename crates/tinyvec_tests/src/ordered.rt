@@ -7,7 +7,7 @@ ghost use Rattle.std.specs.Cmp.Rules.{comparing};
 ghost use Rattle.std.specs.Option.{option_to_list};
 ghost use Rattle.std.specs.Ordering.{as_partial_cmp, nat_cmp, on};
 
-use crate::steps::{all_right, all_steps, first, granted};
+use crate::steps::{all_right, first, granted};
 use std::alloc::{AllocError, Global};
 use std::cell::Cell;
 use std::cmp::Ordering;
@@ -198,16 +198,4 @@ fn each_pair_once(rt: HostRuntime) -> Result<(), Fail> {
         wrong = first(wrong, step, step == 0);
     }
     all_right(wrong)
-}
-
-// Each item after the first is asked about once.
-#[test]
-fn repeats(rt: HostRuntime) -> Result<(), Fail> {
-    let questions = Questions::default();
-    let mut v = listed(9, 4, &questions);
-    let mut tiny = TinyVec::Inline(listed(9, 4, &questions), rt.alloc());
-    v.dedup();
-    let is_right = (v.len() == 3) & (taken(&questions) == (8, 0));
-    tiny.dedup();
-    all_steps(&[is_right, (tiny.len() == 3) & (taken(&questions) == (8, 0))])
 }

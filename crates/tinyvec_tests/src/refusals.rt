@@ -3,7 +3,6 @@
 use crate::steps::{all_right, counted, first};
 use std::alloc::{AllocError, Global};
 use std::cell::Cell;
-use std::io::Write;
 use std::test::Fail;
 use tinyvec::{ArrayVec, TinyVec, tiny_vec};
 
@@ -98,29 +97,6 @@ fn of_an_inline_list(rt: HostRuntime) -> Result<(), Fail> {
 #[test]
 fn of_a_list_on_the_heap(rt: HostRuntime) -> Result<(), Fail> {
     let (is_refused, wrong) = refused_once(rt.alloc(), false)?;
-    told(&rt, is_refused, wrong)
-}
-
-// How many bytes are written, or none where memory for them is refused.
-fn written(v: &mut TinyVec<[u8; 3]>) -> usize {
-    v.write(&[5; 100]).unwrap_or(0)
-}
-
-// A write that is refused memory says so by an error, and not by a count.
-#[test]
-fn of_bytes_that_are_written(rt: HostRuntime) -> Result<(), Fail> {
-    let mut v = TinyVec::from_array_len(rt.alloc(), [1, 2, 9], 2);
-    let mut is_refused = false;
-    let mut wrong = 0;
-    for len in [102, 202] {
-        let before = v.len();
-        if written(&mut v) == 0 {
-            is_refused = true;
-            wrong = first(wrong, 1, v.len() == before);
-            wrong = first(wrong, 2, written(&mut v) == 100);
-        }
-        wrong = first(wrong, 3, v.len() == len);
-    }
     told(&rt, is_refused, wrong)
 }
 

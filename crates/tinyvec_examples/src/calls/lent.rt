@@ -1,9 +1,9 @@
 //! Callers of a `SliceVec`.
 ghost use Rattle.std.specs.Prelude.{◌≡◌, ◌+◌, ◌-◌, ◌<◌, ◌≤◌, ◌↔◌, ◌∷◌, [], ◌++◌, length, IsTrue, IsSome, IfSome, OnOk};
-ghost use Rattle.tinyvec_slice.specs.SliceVec.{items, items_of, spare, slots};
+ghost use Rattle.tinyvec_slice.specs.SliceVec.{items, spare, slots};
 
 use std::alloc::AllocError;
-use tinyvec_slice::{GenericSliceVec, Lent, SliceVec};
+use tinyvec_slice::SliceVec;
 
 /// The first item.
 pub fn first(v: &SliceVec<'_, u8>) -> Option<u8>
@@ -84,13 +84,4 @@ pub fn repeat_from(v: &mut SliceVec<'_, u8>, n: usize) -> Result<(), AllocError>
     ensures { OnOk result (length (items v.new) ≡ length (items v.old) + (length (items v.old) - n)) }
 {
     v.extend_from_within(n..)
-}
-
-/// An `extract_if` that is dropped before it is driven leaves the list as it was, whatever is lent.
-pub fn undriven<B: Lent, F: FnMut(&mut B::Item) -> bool>(v: &mut GenericSliceVec<B>, f: F)
-where
-    B::Item: Default,
-    ensures { items_of B.Lent v.new ≡ items_of B.Lent v.old }
-{
-    let _chosen = v.extract_if(.., f);
 }

@@ -8,14 +8,6 @@ use std::alloc::{AllocError, Global};
 use std::boxed::BoxedSlice;
 use tinyvec::{Array, ArrayVec, TinyVec, TinyVecIterator};
 
-/// The whole array is the list.
-pub fn of_array(alloc: Global) -> TinyVec<[i32; 3]>
-    ensures items { tiny_items result ≡ pos 1 ∷ pos 2 ∷ pos 3 ∷ [] }
-    ensures place { IsInline result }
-{
-    TinyVec::from_array(alloc, [1, 2, 3])
-}
-
 /// The list of an `ArrayVec`, which may grow now.
 pub fn of_array_vec<A: Array>(alloc: Global, v: ArrayVec<A>) -> TinyVec<A>
     ensures items { tiny_items result ≡ items v }
@@ -38,22 +30,6 @@ pub fn of_slice(alloc: Global, numbers: &[u32]) -> Result<TinyVec<[u32; 4]>, All
     ensures succeeds { length numbers.now ≤ 4 → IsOk result }
 {
     TinyVec::from_slice(alloc, numbers)
-}
-
-/// The numbers from 0 up to `end`, or those before the one that memory was refused for.
-pub fn counted(alloc: Global, end: u8) -> TinyVec<[u8; 4]> {
-    match TinyVec::from_iter(alloc, 0..end) {
-        Ok(v) => v,
-        Err(refused) => refused.vec,
-    }
-}
-
-/// Room for `n` items, on the heap if the array has less.
-pub fn with_room(alloc: Global, n: usize) -> Result<TinyVec<[u8; 4]>, AllocError>
-    ensures room { IfOk result (λ v. n ≤ tiny_capacity 4 v) }
-    ensures place { IfOk result (λ v. IsInline v ↔ (n ≤ 4)) }
-{
-    TinyVec::with_capacity(alloc, n)
 }
 
 /// `n` zeros.
@@ -116,14 +92,6 @@ pub fn first_swapped(alloc: Global) -> (i32, TinyVec<[i32; 4]>)
     let mut v = TinyVec::from_array(alloc, [1, 2, 3, 4]);
     let first = v.swap_remove(0);
     (first, v)
-}
-
-/// Bytes after the list, which allocates nothing if there is room for them.
-pub fn with_bytes(v: &mut TinyVec<[u8; 16]>, bytes: &[u8]) -> Result<(), AllocError>
-    ensures items { OnOk result (tiny_items v.new ≡ tiny_items v.old ++ bytes.now) }
-    ensures succeeds { tiny_len v.old + length bytes.now ≤ tiny_capacity 16 v.old → IsOk result }
-{
-    v.extend_from_slice(bytes)
 }
 
 /// The items from `n` on, once more.
@@ -359,11 +327,4 @@ pub fn both(
 ) -> Result<(TinyVecIterator<[u32; 4]>, TinyVecIterator<[u32; 4]>), AllocError> {
     let copy = items.clone()?;
     Ok((items, copy))
-}
-
-/// An `extract_if` that is dropped before it is driven leaves the list of any vector as it was.
-pub fn undriven<A: Array, F: FnMut(&mut A::Item) -> bool>(v: &mut TinyVec<A>, f: F)
-    ensures { tiny_items v.new ≡ tiny_items v.old }
-{
-    let _chosen = v.extract_if(.., f);
 }
