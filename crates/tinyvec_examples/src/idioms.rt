@@ -76,13 +76,6 @@ pub fn extend(v: &mut ArrayVec<[u32; 4]>, xs: &[u32]) -> bool {
     v.extend(xs.iter().copied()).is_ok()
 }
 
-/// `v.swap(0, 1)`.
-pub fn swap(v: &mut TinyVec<[u32; 4]>)
-    requires { 2 ≤ tiny_len v.old }
-{
-    v.swap(0, 1);
-}
-
 /// `v.first_chunk::<2>()`.
 pub fn first_two(v: &TinyVec<[u8; 4]>) -> Option<&[u8; 2]> {
     v.first_chunk::<2>()
@@ -101,18 +94,6 @@ pub fn number_of_runs(v: &TinyVec<[u8; 4]>) -> usize {
 /// `v.drain(..).collect()`.
 pub fn drained(alloc: Global, v: &mut TinyVec<[u8; 4]>) -> Result<Vec<u8>, AllocError> {
     v.drain(..).collect(alloc)
-}
-
-/// `ArrayVec::try_from(xs)`.
-pub fn fits(xs: &[u8]) -> bool {
-    ArrayVec::<[u8; 4]>::try_from_slice(xs).is_ok()
-}
-
-/// `v.get_mut(0)`.
-pub fn set_first(v: &mut ArrayVec<[u8; 4]>) {
-    if let Some(x) = v.get_mut(0) {
-        *x = 1;
-    }
 }
 
 /// `v.to_vec()`.

@@ -32,6 +32,14 @@ pub fn of_slice(alloc: Global, numbers: &[u32]) -> Result<TinyVec<[u32; 4]>, All
     TinyVec::from_slice(alloc, numbers)
 }
 
+/// Room for `n` items, on the heap if the array has less.
+pub fn with_room(alloc: Global, n: usize) -> Result<TinyVec<[u8; 4]>, AllocError>
+    ensures room { IfOk result (λ v. n ≤ tiny_capacity 4 v) }
+    ensures place { IfOk result (λ v. IsInline v ↔ (n ≤ 4)) }
+{
+    TinyVec::with_capacity(alloc, n)
+}
+
 /// `n` zeros.
 pub fn zeros(alloc: Global, n: usize) -> Result<TinyVec<[u8; 4]>, AllocError>
     ensures { IfOk result (λ v. tiny_len v ≡ n) }
@@ -92,6 +100,14 @@ pub fn first_swapped(alloc: Global) -> (i32, TinyVec<[i32; 4]>)
     let mut v = TinyVec::from_array(alloc, [1, 2, 3, 4]);
     let first = v.swap_remove(0);
     (first, v)
+}
+
+/// Bytes after the list, which allocates nothing if there is room for them.
+pub fn with_bytes(v: &mut TinyVec<[u8; 16]>, bytes: &[u8]) -> Result<(), AllocError>
+    ensures items { OnOk result (tiny_items v.new ≡ tiny_items v.old ++ bytes.now) }
+    ensures succeeds { tiny_len v.old + length bytes.now ≤ tiny_capacity 16 v.old → IsOk result }
+{
+    v.extend_from_slice(bytes)
 }
 
 /// The items from `n` on, once more.
