@@ -11,29 +11,16 @@ type Owned = Option<Box<i32>>;
 
 type Boxes = TinyVec<[Owned; 2]>;
 
-// Calls that may allocate, and to which items are passed that own memory, as those of the list do.
+// Calls that may allocate, and that would lose items of two vectors.
 #[derive(Clone, Copy)]
 enum Call {
     Append,
-    CloneFrom,
     Extend,
-    FromIter,
-    Insert,
     IntoVec,
     Splice,
-    SplitOff,
 }
 
-const CALLS: [Call; 8] = [
-    Call::Append,
-    Call::CloneFrom,
-    Call::Extend,
-    Call::FromIter,
-    Call::Insert,
-    Call::IntoVec,
-    Call::Splice,
-    Call::SplitOff,
-];
+const CALLS: [Call; 4] = [Call::Append, Call::Extend, Call::IntoVec, Call::Splice];
 
 fn owned(alloc: Global, number: i32) -> Result<Owned, AllocError> {
     Ok(Some(Box::new(alloc, number)?))
@@ -50,13 +37,9 @@ impl Call {
         let mut other = TinyVec::Inline(two(alloc)?, alloc);
         Ok(match self {
             Call::Append => v.append(&mut other).is_ok(),
-            Call::CloneFrom => v.clone_from(&other).is_ok(),
             Call::Extend => v.extend(other).is_ok(),
-            Call::FromIter => TinyVec::<[Owned; 1]>::from_iter(alloc, other).is_ok(),
-            Call::Insert => v.insert(0, other.pop().flatten()).is_ok(),
             Call::IntoVec => other.into_vec().is_ok(),
             Call::Splice => v.splice(..0, other).finish().is_ok(),
-            Call::SplitOff => v.split_off(0).is_ok(),
         })
     }
 }
