@@ -85,7 +85,9 @@ class Known:
     def __init__(self, crates):
         self.returns, self.types, self.functions, self.aliases = {}, set(), {}, {}
         for crate in crates:
-            self.aliases.update({of: alias for alias, of in crate.aliases.items() if alias in crate.names and of in crate.declared})
+            # A type is known by the alias that its crate gives it, and one of another crate by its own name.
+            pairs = ((of, alias) if of in crate.declared else (alias, of) for alias, of in crate.aliases.items() if alias in crate.names)
+            self.aliases.update(pairs)
         for crate in crates:
             for it in crate.exports():
                 self.add(it)
