@@ -91,6 +91,7 @@ def faults():
             places = [name for name, text in written.items() for _ in range(text.count(marks[name]))]
             yield from [f"{it.source.path}: {it.key()} is on {len(places)} pages of docs/reference: {', '.join(places)}"] * (len(places) != 1)
             yield from (f"{it.source.path}: not on {page}: {line}" for line in it.said() if line not in shown)
+            yield from (f"{it.source.path}: {it.key()}: a sentence without its end: {said[-60:]}" for said in it.prose() if not said.endswith((".", ":")))
             if it.kind != "impl" and not it.item.comment:
                 yield f"{it.source.path}: {it.key()} has no `///`"
             if it.key() in library.uncalled and not it.is_part:

@@ -44,7 +44,7 @@ def faults():
             yield f"{path}: no definition of `{name}` was found"
         else:
             yield from [f"{path}: `{name}` has no comment"] * (not words.defined[path, name].comment)
-            yield from [f"{EXAMPLES}: no `example-{name}` of {path}"] * ((path, name) not in words.examples)
+            yield from [f"{EXAMPLES}: no `example-{name}` of {path}, or an empty one"] * (not words.example((path, name)).strip("`"))
     yield from (f"{EXAMPLES}: no contract of the reference cites `{name}` of {path}" for path, name in words.examples if (path, name) not in words.cited)
 
 
