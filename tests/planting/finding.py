@@ -9,8 +9,8 @@ from . import checking, edits, functions
 
 # Of a hundred edits so many are to be found.
 FLOOR = 90
-# How many times as long as without an edit a test may run, and how many seconds more.
-SLOWER, MORE = 5, 30
+# How many times as long as without an edit a test may run, and how many seconds more: it may compile again to name a fault.
+SLOWER, MORE = 5, 300
 
 CHOICE = """//! Which edit counts.
 
@@ -127,6 +127,8 @@ def run(words, number, limit):
     """What a command says of the edit of this number, or None where it does not find it."""
     env = {**os.environ, "RT_ALLOW_C": "1", "PLANTED": str(number)}
     status, wrote = checking.run(words, words[0].parent, limit, env)
-    lines = wrote.strip().splitlines() or ["it says nothing"]
+    if status == 0:
+        return None
+    lines = wrote.strip().splitlines() if status else ["it does not end"]
     first = next((at for at, it in enumerate(lines) if ": FAILED" in it), 0)
-    return None if status == 0 else " ".join(lines[first : first + 2])[:250]
+    return " ".join(lines[first : first + 2])[:250]
