@@ -1,0 +1,71 @@
+"""Whether tests/requests.txt names each public call of the libraries, and rows or tests show which never request memory.
+
+The rows themselves are run, and their requests counted, by `tests/answers`."""
+import re
+
+import exports
+import rows
+
+TABLE = exports.TOP / "tests/requests.txt"
+# The types of these hold no allocator, so only a call that is passed one may request memory.
+WITHOUT_ALLOCATOR = ("tinyvec_slots", "tinyvec_array", "tinyvec_slice")
+# The forms of numbers and lists are those of the traits.
+FORMS = ("BorshSerialize", "BorshDeserialize")
+
+
+def faults():
+    table = Table()
+    yield from table.faults
+    found = {it for crate in exports.LIBRARIES for it in calls_of(crate)}
+    yield from (f"{'::'.join(it)} is in no line of tests/requests.txt" for it in sorted(found - table.named))
+    yield from (f"tests/requests.txt: {'::'.join(it)} is no public call" for it in sorted(table.named - found))
+    lacking = sorted(table.walks - shown_by_rows())
+    yield from (f"no row of tests/cases wants `0 requests` of {call} of a {kind}" for kind, call in lacking)
+    tests = "".join(it.read_text(encoding="utf-8") for it in (exports.TOP / "crates").glob("*_tests/src/**/no_memory.rt"))
+    lacking = sorted(it for it in table.texts if it not in re.sub(r"\s", "", tests))
+    yield from (f"no test in a module no_memory has {it}" for it in lacking)
+
+
+class Table:
+    """The calls that tests/requests.txt names, and those that rows and tests have to show."""
+
+    def __init__(self):
+        self.named, self.walks, self.texts, self.faults = set(), set(), set(), []
+        for line in TABLE.read_text(encoding="utf-8").splitlines():
+            if line and not line.startswith("#"):
+                self.add(*line.partition(" by ")[::2])
+
+    def add(self, calls, by):
+        kind, what, *names = calls.split()
+        self.faults += [f"tests/requests.txt: {kind}::{it} is there twice" for it in names if (kind, it) in self.named]
+        self.named |= {(kind, it) for it in names}
+        if what == "never":
+            self.walks |= {(kind, it) for it in by.split() or names}
+        elif what == "tested":
+            self.texts |= set(by.split() or (f"{it}(" for it in names))
+
+
+def calls_of(crate):
+    """The public calls that may hold or be passed an allocator, each with its type, or its crate if it is a function."""
+    for it in exports.Crate(crate).exports():
+        members = [it.item] if it.item.kind == "fn" else exports.item_members(it.item)
+        for one in members:
+            if one.kind == "fn" and (crate not in WITHOUT_ALLOCATOR or "alloc: " in one.signature()):
+                yield owner(it, crate), one.name
+
+
+def owner(export, crate):
+    if export.trait:
+        form = exports.head_of(export.trait)
+        return form if form in FORMS else exports.head_of(exports.impl_of(export.item)[1])
+    return export.of or (export.name if export.kind == "trait" else crate)
+
+
+def shown_by_rows():
+    shown = set()
+    for path in (exports.TOP / "tests/cases").glob("*.txt"):
+        for chain in rows.read_file(path):
+            kind = re.split(r"[<\[ ]", chain.kind)[0]
+            names = {call.split(" ")[0] for _, call, wanted in chain.calls if wanted.endswith("; 0 requests")}
+            shown |= {(it, name) for it in {"streams": ("Counted", "BorshSerialize")}.get(kind, (kind,)) for name in names}
+    return shown
