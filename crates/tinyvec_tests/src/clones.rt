@@ -23,18 +23,17 @@ impl Clones {
         }
     }
 
-    fn of_source(&self) -> Origin<'_> {
-        Origin {
+    // Of what is cloned, and of the slots of the vector.
+    fn origins(&self) -> [Origin<'_>; 2] {
+        let source = Origin {
             clones: self,
             is_source: true,
-        }
-    }
-
-    fn of_slots(&self) -> Origin<'_> {
-        Origin {
+        };
+        let own = Origin {
             clones: self,
             is_source: false,
-        }
+        };
+        [source, own]
     }
 }
 
@@ -78,11 +77,15 @@ const SLOTS: usize = 599;
 
 type List<'a, 'n> = ArrayVec<[Small<'a, 'n>; SLOTS]>;
 
-// A list of this many items, before spare slots. All slots have this origin.
-fn list<'a, 'n>(origin: &'a Origin<'n>, len: usize) -> List<'a, 'n> {
+const SOURCE: usize = 0;
+
+const OWN: usize = 1;
+
+// A list of this many items, before spare slots. All slots have the origin at this index.
+fn list<'a, 'n>(origins: &'a [Origin<'n>; 2], at: usize, len: usize) -> List<'a, 'n> {
     let mut v = ArrayVec::new();
     for _slot in 0..SLOTS {
-        let _full = v.try_push(Small(Some(origin)));
+        let _full = v.try_push(Small(origins.get(at)));
     }
     v.set_len(len.min(v.capacity()));
     v
@@ -174,10 +177,10 @@ impl Case {
 
     fn of_an_array(&self) -> bool {
         let clones = Clones::refusing(self.refused);
-        let (origin, own) = (clones.of_source(), clones.of_slots());
-        let source = list(&origin, self.count);
-        let mut v = list(&own, self.len);
-        let one = Small(Some(&origin));
+        let origins = clones.origins();
+        let source = list(&origins, SOURCE, self.count);
+        let mut v = list(&origins, OWN, self.len);
+        let one = Small(origins.first());
         let is_granted = match self.call {
             Call::Clone => v.clone().is_ok(),
             CloneFrom => v.clone_from(&source).is_ok(),
@@ -193,11 +196,11 @@ impl Case {
 
     fn of_a_slice(&self) -> bool {
         let clones = Clones::refusing(self.refused);
-        let (origin, own) = (clones.of_source(), clones.of_slots());
-        let source = list(&origin, self.count);
-        let mut room = list(&own, SLOTS);
+        let origins = clones.origins();
+        let source = list(&origins, SOURCE, self.count);
+        let mut room = list(&origins, OWN, SLOTS);
         let mut v = SliceVec::from_slice_at_most(room.as_mut_slice(), self.len);
-        let one = Small(Some(&origin));
+        let one = Small(origins.first());
         let is_granted = match self.call {
             Extend if source.len() <= v.capacity() - v.len() => {
                 v.extend_from_slice(source.as_slice()).is_ok()
@@ -211,13 +214,13 @@ impl Case {
     // A list on the heap has room for as many items more. `None` says that memory for the vector itself was refused.
     fn of_a_tiny_vec(&self, alloc: Global, inline: bool) -> Option<bool> {
         let clones = Clones::refusing(self.refused);
-        let (origin, own) = (clones.of_source(), clones.of_slots());
-        let source = list(&origin, self.count);
-        let mut v = TinyVec::Inline(list(&own, self.len), alloc);
+        let origins = clones.origins();
+        let source = list(&origins, SOURCE, self.count);
+        let mut v = TinyVec::Inline(list(&origins, OWN, self.len), alloc);
         if !inline && v.move_to_the_heap_and_reserve(SLOTS).is_err() {
             return None;
         }
-        let one = Small(Some(&origin));
+        let one = Small(origins.first());
         let is_granted = match self.call {
             Call::Clone => v.clone().is_ok(),
             CloneFrom => v.clone_from(&TinyVec::Inline(source, alloc)).is_ok(),

@@ -1,4 +1,4 @@
-//! What vectors hold. There is no branch, which would be one more case of each later step of a test's proof.
+//! What vectors hold. The first three have no branch, which would be one more case of each later step of a test's proof.
 use std::alloc::AllocError;
 use tinyvec::{Array, ArrayVec, SliceVec, TinyVec};
 

@@ -133,13 +133,16 @@ fn compare<V: Ord>(v: &V, w: &V, questions: &Questions, row: &Row) -> bool {
     is_right & is_ordered & is_partial
 }
 
+fn slices<T: Ord + Drop>(v: &mut [T], w: &mut [T], questions: &Questions, row: &Row) -> bool {
+    let v = SliceVec::from_slice(v);
+    let w = SliceVec::from_slice(w);
+    compare(&v, &w, questions, row)
+}
+
 fn arrays_and_slices(questions: &Questions, row: &Row) -> bool {
     let mut v = listed(row.0, row.2, questions);
     let mut w = listed(row.1, SAME, questions);
-    let is_right = compare(&v, &w, questions, row);
-    let v = SliceVec::from_slice(v.as_mut_slice());
-    let w = SliceVec::from_slice(w.as_mut_slice());
-    is_right & compare(&v, &w, questions, row)
+    compare(&v, &w, questions, row) & slices(v.as_mut_slice(), w.as_mut_slice(), questions, row)
 }
 
 // The same of a `TinyVec` in the array, and on the heap.
