@@ -124,20 +124,24 @@ fn drains_from_both_ends(rt: HostRuntime) -> Result<(), Fail> {
 fn splices_and_iterators_from_both_ends(rt: HostRuntime) -> Result<(), Fail> {
     let mut v = TinyVec::from_array(rt.alloc(), [1, 2, 3, 4]);
     let mut splice = v.splice(.., [7, 8]);
-    let is_left = (splice.size_hint() == (4, Some(4))) & (splice.touches() == 0);
+    let is_left = (splice.size_hint() == (4, Some(4)))
+        & (splice.len() == 4)
+        & (splice.touches() == 0);
     let is_front = splice.next() == Some(1);
-    let is_shown = is_debugged(&splice, "TinyVecSplice([2, 3, 4])");
-    let is_stopped = splice.stop().count() == 1;
+    let is_back = splice.next_back() == Some(4);
+    let is_shown = is_debugged(&splice, "TinyVecSplice([2, 3])");
+    let is_stopped = splice.stop().count() == 0;
     let mut items = v.into_iter();
     all_steps(&[
         is_left,
         is_front,
+        is_back,
         is_shown,
         is_stopped,
-        (items.len() == 1) & (items.as_slice() == [7].as_slice()),
-        (items.size_hint() == (1, Some(1))) & is_debugged(&items, "TinyVecIterator([7])"),
-        items.next_back() == Some(7),
-        items.next() == None,
+        (items.len() == 2) & (items.as_slice() == [7, 8].as_slice()),
+        (items.size_hint() == (2, Some(2))) & is_debugged(&items, "TinyVecIterator([7, 8])"),
+        items.next_back() == Some(8),
+        items.next() == Some(7),
     ])
 }
 
