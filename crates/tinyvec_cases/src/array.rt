@@ -1,35 +1,39 @@
 //! Rows of an `ArrayVec`.
-use crate::calls::{
-    any_call, copy_into_range, filter_call, needs, owner_call, range_call, slots_call,
-};
+use crate::calls::{cut, extend_slots, filter, lend_slots, put_in_slots, ranged};
 use crate::held::Copies;
-use crate::steps::{Steps, extracted, step_at_ends};
-use crate::vector::{Call, Vector};
+use crate::steps::{Steps, iterated, step_at_ends, stepped};
+use crate::vector::Vector;
 use std::alloc::AllocError;
 use std::fmt::Write;
 use std::iter::Fuse;
 use std::{mem, vec};
 use tinyvec::{Array, ArrayVec, ArrayVecDrain, ArrayVecSplice, FromIterRest};
+use tinyvec_rows::call::{
+    Call, Cut, Drained, Extend, Filter, Lend, Make, Pair, Put, Ranged, Slots,
+};
 use tinyvec_rows::{
-    Item, Read, Span, Words, Wrong, done, is_within, say, say_rest, say_slots, say_text,
+    Item, Read, Span, Step, Wrong, done, has_at_most, is_within, say, say_and_set, say_list,
+    say_rest, say_slots, say_word,
 };
 
-/// The vector of a list and the slots after it.
-pub fn made<T: Read, A: Array<Item = T>>(slots: (Vec<T>, Vec<T>)) -> Result<ArrayVec<A>, Wrong> {
+/// The array whose slots are a list and those after it.
+pub fn array_of<T: Read, A: Array<Item = T>>(slots: Slots<T>) -> Result<A, Wrong> {
     let (list, spare) = slots;
-    let len = list.len();
     let mut array = A::default();
     let mut left = list.into_iter().chain(spare);
     for slot in array.as_slice_mut() {
-        match left.next() {
-            Some(x) => *slot = x,
-            None => return Err(Wrong::Value),
-        }
+        *slot = left.next().ok_or(Wrong::Value)?;
     }
-    if left.next().is_some() || len > A::CAPACITY {
+    if left.next().is_some() {
         return Err(Wrong::Value);
     }
-    Ok(ArrayVec::from_array_len(array, len))
+    Ok(array)
+}
+
+/// The vector of a list and the slots after it.
+pub fn made<T: Read, A: Array<Item = T>>(slots: Slots<T>) -> Result<ArrayVec<A>, Wrong> {
+    let len = slots.0.len();
+    ArrayVec::try_from_array_len(array_of(slots)?, len).map_err(|_| Wrong::Value)
 }
 
 impl<T: Item, A: Array<Item = T>> Vector for ArrayVec<A> {
@@ -43,134 +47,160 @@ impl<T: Item, A: Array<Item = T>> Vector for ArrayVec<A> {
         say_slots(out, self.as_slice(), self.grab_spare_slice())
     }
 
-    fn call(&mut self, other: &mut ArrayVec<A>, call: &mut Call<'_>) -> Result<(), Wrong> {
-        any_call!(self, call, is_full, _ => in_slots(self, other, call))
+    fn call(
+        &mut self,
+        other: &mut ArrayVec<A>,
+        call: Call<T>,
+        out: &mut String,
+    ) -> Result<(), Wrong> {
+        match call {
+            Call::Cut(cut) => take_out(self, cut, out),
+            Call::Lend(lend) => lend_slots!(self, lend, out),
+            Call::Put(put) => put_in(self, put, out),
+            Call::Extend(extend) => append(self, extend, out),
+            Call::Filter(filter) => filter!(self, filter, out),
+            Call::Ranged(ranged) => ranged!(self, ranged, out),
+            Call::Pair(pair) => both(self, other, pair, out),
+            Call::Drained(drained) => drain_all(self, drained, out),
+            Call::Make(make) => remake(self, make, out),
+            _ => Err(Wrong::Call),
+        }
     }
 
     fn extract<F: FnMut(&mut T) -> bool>(
         &mut self,
         range: Span,
         f: F,
-        count: usize,
+        steps: &[Step],
         out: &mut String,
     ) -> Result<(), Wrong> {
-        needs!(is_within(range, self.len()));
-        extracted(self.extract_if(range, f), count, out)
+        if !is_within(range, self.len()) {
+            return Err(Wrong::Place);
+        }
+        stepped(&mut self.extract_if(range, f), steps, out)
     }
 }
 
-fn in_slots<T: Item, A: Array<Item = T>>(
+fn take_out<T: Item, A: Array<Item = T>>(
+    v: &mut ArrayVec<A>,
+    cut: Cut,
+    out: &mut String,
+) -> Result<(), Wrong> {
+    cut!(v, cut, out,
+        Cut::PopAt(i) => say(out, &v.pop_at(i)),
+    )
+}
+
+fn put_in<T: Item, A: Array<Item = T>>(
+    v: &mut ArrayVec<A>,
+    put: Put<T>,
+    out: &mut String,
+) -> Result<(), Wrong> {
+    put_in_slots!(v, put, out,
+        Put::TryPush(x) => say(out, &v.try_push(x)),
+        Put::TryInsert(i, x) if i <= v.len() => say(out, &v.try_insert(i, x)),
+        _ => Err(Wrong::Place),
+    )
+}
+
+fn append<T: Item, A: Array<Item = T>>(
+    v: &mut ArrayVec<A>,
+    extend: Extend<T>,
+    out: &mut String,
+) -> Result<(), Wrong> {
+    extend_slots!(v, extend, out,
+        Extend::TryFromSlice(items) => done(out, v.try_extend_from_slice(items.as_slice())),
+        Extend::ExactSize(_) => Err(Wrong::Call),
+        _ => Err(Wrong::Place),
+    )
+}
+
+fn both<T: Item, A: Array<Item = T>>(
     v: &mut ArrayVec<A>,
     other: &mut ArrayVec<A>,
-    call: &mut Call<'_>,
+    pair: Pair,
+    out: &mut String,
 ) -> Result<(), Wrong> {
-    slots_call!(v, other, call, _ => owner(v, other, call))
-}
-
-fn owner<T: Item, A: Array<Item = T>>(
-    v: &mut ArrayVec<A>,
-    other: &mut ArrayVec<A>,
-    call: &mut Call<'_>,
-) -> Result<(), Wrong> {
-    owner_call!(v, other, call, ArrayVec::new(), _ => try_call(v, other, call))
-}
-
-fn range<T: Item, A: Array<Item = T>>(
-    v: &mut ArrayVec<A>,
-    call: &mut Call<'_>,
-) -> Result<(), Wrong> {
-    range_call!(v, call, _ => own(v, call))
-}
-
-fn filter<T: Item, A: Array<Item = T>>(
-    v: &mut ArrayVec<A>,
-    call: &mut Call<'_>,
-) -> Result<(), Wrong> {
-    filter_call!(v, call)
-}
-
-// Calls that fail where others have a condition.
-fn try_call<T: Item, A: Array<Item = T>>(
-    v: &mut ArrayVec<A>,
-    other: &mut ArrayVec<A>,
-    call: &mut Call<'_>,
-) -> Result<(), Wrong> {
-    match call.name {
-        "try_push" => say(call.out, &v.try_push(call.words.item()?)),
-        "try_insert" => {
-            let (i, x) = (call.words.index()?, call.words.item()?);
-            needs!(i <= v.len());
-            say(call.out, &v.try_insert(i, x))
-        }
-        "try_extend_from_slice" => {
-            let with = call.words.items()?;
-            done(call.out, v.try_extend_from_slice(with.as_slice()))
-        }
-        "try_append" => match v.try_append(other) {
-            Some(back) => back.say_state(call.out),
+    match pair {
+        Pair::Append if other.len() <= v.remaining_capacity() => Ok(v.append(other)),
+        Pair::TryAppend => match v.try_append(other) {
+            Some(back) => back.say_state(out),
             None => Ok(()),
         },
-        "append_if_fits" => match v.append_if_fits(other) {
-            Ok(emptied) => emptied.say_state(call.out),
-            Err(back) => back.say_state(call.out),
+        Pair::AppendIfFits => match v.append_if_fits(other) {
+            Ok(emptied) => emptied.say_state(out),
+            Err(back) => back.say_state(out),
         },
-        _ => range(v, call),
+        Pair::SplitOff(at) if at <= v.len() => v.split_off(at).say_state(out),
+        Pair::CloneFrom => done(out, v.clone_from(other)),
+        Pair::Clone => match v.clone() {
+            Ok(copy) => copy.say_state(out),
+            Err(error) => say(out, &error),
+        },
+        _ => Err(Wrong::Place),
     }
 }
 
-// Calls that move the items out, and those that make a vector.
-fn own<T: Item, A: Array<Item = T>>(v: &mut ArrayVec<A>, call: &mut Call<'_>) -> Result<(), Wrong> {
-    let alloc = call.words.alloc;
-    match call.name {
-        "retain_mut" | "dedup" | "dedup_by" | "dedup_by_key" => filter(v, call),
-        "drain_to_vec" => say_drained(v.drain_to_vec(alloc), call.out),
-        "try_drain_to_vec" => say_drained(v.try_drain_to_vec(alloc), call.out),
-        "drain_to_vec_and_reserve" => {
-            let more = call.words.index()?;
-            say_drained(v.drain_to_vec_and_reserve(alloc, more), call.out)
+fn drain_all<T: Item, A: Array<Item = T>>(
+    v: &mut ArrayVec<A>,
+    drained: Drained,
+    out: &mut String,
+) -> Result<(), Wrong> {
+    let alloc = *out.allocator();
+    match drained {
+        Drained::IntoIter(steps) => {
+            let owned = mem::replace(v, ArrayVec::new());
+            iterated(owned.into_iter(), steps.as_slice(), out)
         }
-        "try_drain_to_vec_and_reserve" => {
-            let more = call.words.index()?;
-            say_drained(v.try_drain_to_vec_and_reserve(alloc, more), call.out)
-        }
-        _ => {
-            let old = mem::replace(v, ArrayVec::new());
-            *v = remade(old, call.name, &mut call.words, call.out)?;
-            Ok(())
-        }
+        Drained::ToVec => say_drained(v.drain_to_vec(alloc), out),
+        Drained::ToVecAndReserve(more) => say_drained(v.drain_to_vec_and_reserve(alloc, more), out),
+        _ => Err(Wrong::Call),
     }
 }
 
-// Writes the items that came out, and how much room they have.
 fn say_drained<T: Item>(
     drained: Result<Vec<T>, AllocError>,
     out: &mut String,
 ) -> Result<(), Wrong> {
     match drained {
-        Ok(vec) => {
-            say_slots(out, vec.as_slice(), &[])?;
-            say(out, &vec.capacity())
-        }
+        Ok(vec) => say_vec(&vec, out),
         Err(error) => say(out, &error),
     }
 }
 
-// A vector that is made of the slots of another, or of items.
-fn remade<T: Item, A: Array<Item = T>>(
-    old: ArrayVec<A>,
-    name: &str,
-    words: &mut Words<'_>,
+/// Writes the items that came out, and how much room they have.
+pub fn say_vec<T: Item>(vec: &Vec<T>, out: &mut String) -> Result<(), Wrong> {
+    say_list(out, vec.as_slice())?;
+    say(out, &vec.capacity())
+}
+
+fn remake<T: Item, A: Array<Item = T>>(
+    v: &mut ArrayVec<A>,
+    make: Make<T>,
+    out: &mut String,
+) -> Result<(), Wrong> {
+    match make {
+        Make::TryFromSlice(items) => match ArrayVec::try_from_slice(items.as_slice()) {
+            Ok(made) => Ok(*v = made),
+            Err(error) => say(out, &error),
+        },
+        make => Ok(*v = made_of(make, out)?),
+    }
+}
+
+// A vector that is made of slots, or of items.
+fn made_of<T: Item, A: Array<Item = T>>(
+    make: Make<T>,
     out: &mut String,
 ) -> Result<ArrayVec<A>, Wrong> {
-    match name {
-        "new" => Ok(ArrayVec::new()),
-        "default" => Ok(ArrayVec::default()),
-        "from" => Ok(ArrayVec::from(old.into_inner())),
-        "from_array" => Ok(ArrayVec::from_array(old.into_inner())),
-        "from_array_empty" => Ok(ArrayVec::from_array_empty(old.into_inner())),
-        "try_from_array_len" => with_len(old.into_inner(), words.index()?, out),
-        "try_from_slice" => of_slice(old, words.items()?.as_slice(), out),
-        "from_iter" => of_items(words.items()?, out),
+    match make {
+        Make::New => Ok(ArrayVec::new()),
+        Make::Default => Ok(ArrayVec::default()),
+        Make::From(slots) => Ok(ArrayVec::from(array_of::<T, A>(slots)?)),
+        Make::FromArray(slots) => Ok(ArrayVec::from_array(array_of(slots)?)),
+        Make::FromArrayEmpty(slots) => Ok(ArrayVec::from_array_empty(array_of(slots)?)),
+        Make::TryFromArrayLen(slots, len) => with_len(array_of(slots)?, len, out),
+        Make::FromIter(items) => of_items(items, out),
         _ => Err(Wrong::Call),
     }
 }
@@ -179,22 +209,8 @@ fn with_len<A: Array>(array: A, len: usize, out: &mut String) -> Result<ArrayVec
     match ArrayVec::try_from_array_len(array, len) {
         Ok(v) => Ok(v),
         Err(array) => {
-            say_text(out, "refused")?;
+            say_word(out, "refused")?;
             Ok(ArrayVec::from_array_empty(array))
-        }
-    }
-}
-
-fn of_slice<T: Item, A: Array<Item = T>>(
-    old: ArrayVec<A>,
-    list: &[T],
-    out: &mut String,
-) -> Result<ArrayVec<A>, Wrong> {
-    match ArrayVec::try_from_slice(list) {
-        Ok(v) => Ok(v),
-        Err(error) => {
-            say(out, &error)?;
-            Ok(old)
         }
     }
 }
@@ -213,16 +229,18 @@ fn of_items<T: Item, A: Array<Item = T>>(
 }
 
 impl<T: Item + Copy, A: Array<Item = T>> Copies for ArrayVec<A> {
-    fn copy_call(&mut self, call: &mut Call<'_>) -> Result<(), Wrong> {
-        match call.name {
-            "extend_from_slice_copy" => {
-                let with = call.words.items()?;
-                needs!(with.len() <= self.remaining_capacity());
-                self.extend_from_slice_copy(with.as_slice());
-                Ok(())
-            }
-            _ => copy_into_range!(self, call),
+    fn extend_copies(&mut self, items: &[T], _out: &mut String) -> Result<(), Wrong> {
+        if items.len() > self.remaining_capacity() {
+            return Err(Wrong::Place);
         }
+        Ok(self.extend_from_slice_copy(items))
+    }
+
+    fn replace(&mut self, range: Span, items: &[T], out: &mut String) -> Result<(), Wrong> {
+        if !is_within(range, self.len()) {
+            return Err(Wrong::Place);
+        }
+        done(out, self.replace_range(range, items))
     }
 }
 
@@ -231,9 +249,9 @@ impl<'a, T: Item, A: Array<Item = T>> Steps for ArrayVecDrain<'a, A> {
 
     ghost Ready = { DrainCanStep };
 
-    fn step(&mut self, step: &str, out: &mut String) -> Result<(), Wrong> {
+    fn step(&mut self, step: Step, out: &mut String) -> Result<(), Wrong> {
         step_at_ends!(self, step, out,
-            "debug" => say(out, self),
+            Step::Debug => say(out, self),
             _ => Err(Wrong::Value),
         )
     }
@@ -244,10 +262,10 @@ impl<'a, T: Item, A: Array<Item = T>> Steps for ArrayVecSplice<'a, A, Fuse<vec::
 
     ghost Ready = { SpliceCanStep };
 
-    fn step(&mut self, step: &str, out: &mut String) -> Result<(), Wrong> {
+    fn step(&mut self, step: Step, out: &mut String) -> Result<(), Wrong> {
         step_at_ends!(self, step, out,
-            "debug" => Ok(write!(out, "{self:?} ")?),
-            "touches" => say(out, &(*self).touches()),
+            Step::Debug => Ok(write!(out, "{self:?} ")?),
+            Step::Touches => say(out, &(*self).touches()),
             _ => Err(Wrong::Value),
         )
     }

@@ -1,38 +1,51 @@
-//! Answers the rows of vectors on standard input, a line each.
+//! Answers the rows on standard input, a line each. `tests/cases/README.md` has their form.
 #![tactic(auto)]
 
 mod array;
+mod borsh;
 mod calls;
 mod compare;
 mod held;
+mod plan;
+mod runs;
 mod slice;
 mod starts;
 mod steps;
+mod streams;
+mod text;
+mod text_call;
 mod tiny;
 mod vector;
 
-use starts::Row;
-use std::alloc::Global;
 use std::io;
 use std::io::{BufRead, BufReader};
 use tinyvec_rows::{Words, Wrong};
-
-fn answer_row(alloc: Global, row: &str, out: &mut String) -> Result<(), Wrong> {
-    let (start, calls) = row.split_once('\t').unwrap_or((row, ""));
-    let words = Words::new(alloc, start);
-    starts::answer(&mut Row { words, calls, out })
-}
+use vector::Calls;
 
 fn main(rt: HostRuntime) -> io::Result<()> {
     let alloc = rt.alloc();
     for line in BufReader::new(alloc, rt.reader())?.lines(alloc) {
         let line = line?;
         let mut out = String::new(alloc);
-        match answer_row(alloc, line.as_str(), &mut out) {
-            Ok(()) => {}
-            Err(wrong) => out.push_str(wrong.text())?,
+        if let Err(wrong) = answer(line.as_str(), &mut out) {
+            out.push_str(wrong.text())?;
         }
         println!(rt; "{out}")?;
     }
     Ok(())
+}
+
+// What a line is answered: a kind and a start, and after each tab a call.
+fn answer(line: &str, out: &mut String) -> Result<(), Wrong> {
+    let (start, text) = line.split_once('\t').unwrap_or((line, ""));
+    let mut words = Words::new(*out.allocator(), start);
+    let kind = words.word()?;
+    let calls = &mut Calls { text, out };
+    match kind {
+        "streams" => streams::answer(&mut words, calls),
+        "script" => streams::answer_lines(&mut words, calls),
+        _ if kind.starts_with("InlineText<") => text::answer(kind, &mut words, calls),
+        _ if kind.starts_with("Run<") => runs::answer(kind, &mut words, calls),
+        _ => starts::answer(kind, &mut words, calls),
+    }
 }

@@ -1,10 +1,13 @@
 //! Rows of a `SliceVec`.
-use crate::calls::{any_call, needs, range_call, slots_call};
+use crate::calls::{cut, drain, extend_slots, lend_slots, put_in_slots};
 use crate::held::Copies;
-use crate::steps::{Steps, extracted};
-use crate::vector::{Call, Vector};
+use crate::steps::{Steps, stepped};
+use crate::vector::Vector;
 use tinyvec::{GenericSliceVec, GenericSliceVecDrain, Lent, SliceVec};
-use tinyvec_rows::{Item, Span, Wrong, is_within, say, say_hint, say_slots};
+use tinyvec_rows::call::{Call, Cut, Extend, Filter, Lend, Pair, Put, Ranged};
+use tinyvec_rows::{
+    Item, Span, Step, Wrong, done, has_at_most, is_within, say, say_and_set, say_list, say_slots,
+};
 
 impl<'s, T: Item> Vector for SliceVec<'s, T> {
     type Item = T;
@@ -17,48 +20,124 @@ impl<'s, T: Item> Vector for SliceVec<'s, T> {
         say_slots(out, self.as_slice(), self.grab_spare_slice())
     }
 
-    fn call(&mut self, other: &mut SliceVec<'s, T>, call: &mut Call<'_>) -> Result<(), Wrong> {
-        any_call!(self, call, is_full, _ => in_slots(self, other, call))
+    fn call(
+        &mut self,
+        other: &mut SliceVec<'s, T>,
+        call: Call<T>,
+        out: &mut String,
+    ) -> Result<(), Wrong> {
+        match call {
+            Call::Pair(pair) => both(self, other, pair, out),
+            call => one(self, call, out),
+        }
     }
 
     fn extract<F: FnMut(&mut T) -> bool>(
         &mut self,
         range: Span,
         f: F,
-        count: usize,
+        steps: &[Step],
         out: &mut String,
     ) -> Result<(), Wrong> {
-        extract_lent(self, range, f, count, out)
+        extract_lent(self, range, f, steps, out)
     }
 }
 
-fn in_slots<'s, T: Item>(
+fn both<'s, T: Item>(
     v: &mut SliceVec<'s, T>,
     other: &mut SliceVec<'s, T>,
-    call: &mut Call<'_>,
+    pair: Pair,
+    out: &mut String,
 ) -> Result<(), Wrong> {
-    slots_call!(v, other, call, _ => range(v, call))
+    match pair {
+        Pair::Append if other.len() <= v.remaining_capacity() => Ok(v.append(other)),
+        Pair::SplitOff(at) if at <= v.len() => v.split_off(at).say_state(out),
+        Pair::Append | Pair::SplitOff(_) => Err(Wrong::Place),
+        _ => Err(Wrong::Call),
+    }
 }
 
 // Generic over what is lent, as the borrow checker needs.
-fn range<T: Item, B: Lent<Item = T>>(
+fn one<T: Item, B: Lent<Item = T>>(
     v: &mut GenericSliceVec<B>,
-    call: &mut Call<'_>,
+    call: Call<T>,
+    out: &mut String,
 ) -> Result<(), Wrong> {
-    range_call!(v, call, _ => Err(Wrong::Call))
+    match call {
+        Call::Cut(cut) => take_out(v, cut, out),
+        Call::Lend(lend) => lend_slots!(v, lend, out),
+        Call::Put(put) => put_in(v, put, out),
+        Call::Extend(extend) => append(v, extend, out),
+        Call::Ranged(ranged) => drain_part(v, ranged, out),
+        Call::Filter(Filter::Retain(mut closure)) => {
+            v.retain(|x| closure.asks(x));
+            closure.say(out)
+        }
+        _ => Err(Wrong::Call),
+    }
+}
+
+fn take_out<T: Item, B: Lent<Item = T>>(
+    v: &mut GenericSliceVec<B>,
+    cut: Cut,
+    out: &mut String,
+) -> Result<(), Wrong> {
+    cut!(v, cut, out,
+        Cut::PopAt(_) => Err(Wrong::Call),
+    )
+}
+
+fn put_in<T: Item, B: Lent<Item = T>>(
+    v: &mut GenericSliceVec<B>,
+    put: Put<T>,
+    out: &mut String,
+) -> Result<(), Wrong> {
+    put_in_slots!(v, put, out,
+        Put::TryPush(_) | Put::TryInsert(_, _) => Err(Wrong::Call),
+        _ => Err(Wrong::Place),
+    )
+}
+
+fn append<T: Item, B: Lent<Item = T>>(
+    v: &mut GenericSliceVec<B>,
+    extend: Extend<T>,
+    out: &mut String,
+) -> Result<(), Wrong> {
+    extend_slots!(v, extend, out,
+        Extend::TryFromSlice(_) | Extend::ExactSize(_) => Err(Wrong::Call),
+        _ => Err(Wrong::Place),
+    )
+}
+
+fn drain_part<T: Item, B: Lent<Item = T>>(
+    v: &mut GenericSliceVec<B>,
+    ranged: Ranged<T>,
+    out: &mut String,
+) -> Result<(), Wrong> {
+    drain!(v, ranged, out,
+        Ranged::DrainEach(range, mut given)
+            if is_within(range, v.len()) && v.len() <= given.capacity() - given.len() => {
+            v.drain_each(range, &mut |x| given.push(x).unwrap_or(()));
+            say_list(out, given.as_slice())
+        }
+        Ranged::Splice(_, _, _) | Ranged::SpliceAll(_, _) => Err(Wrong::Call),
+        _ => Err(Wrong::Place),
+    )
 }
 
 fn extract_lent<T: Item, B: Lent<Item = T>, F: FnMut(&mut T) -> bool>(
     v: &mut GenericSliceVec<B>,
     range: Span,
     f: F,
-    count: usize,
+    steps: &[Step],
     out: &mut String,
 ) -> Result<(), Wrong>
     requires { F.IsAlwaysCallable f }
 {
-    needs!(is_within(range, v.len()));
-    extracted(v.extract_if(range, f), count, out)
+    if !is_within(range, v.len()) {
+        return Err(Wrong::Place);
+    }
+    stepped(&mut v.extract_if(range, f), steps, out)
 }
 
 impl<'s, T: Item + Copy> Copies for SliceVec<'s, T> {}
@@ -68,11 +147,11 @@ impl<'a, T: Item, B: Lent<Item = T>> Steps for GenericSliceVecDrain<'a, B> {
 
     ghost Ready = { DrainCanStep B.Lent };
 
-    fn step(&mut self, step: &str, out: &mut String) -> Result<(), Wrong> {
+    fn step(&mut self, step: Step, out: &mut String) -> Result<(), Wrong> {
         match step {
-            "next" => say(out, &self.next()),
-            "hint" => say_hint(out, self),
-            "debug" => say(out, self),
+            Step::Next => say(out, &self.next()),
+            Step::Hint => say(out, &self.size_hint()),
+            Step::Debug => say(out, self),
             _ => Err(Wrong::Value),
         }
     }

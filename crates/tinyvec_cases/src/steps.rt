@@ -1,7 +1,5 @@
 //! Steps of the iterators of vectors, which rows name.
-ghost use Rattle.tinyvec_slots.specs.Extracting.{extract_closure, ExtractLies};
-
-use tinyvec_rows::{Item, Wrong, counted, say, say_hint, say_slots};
+use tinyvec_rows::{Item, Step, Wrong, say, say_list};
 use tinyvec_slots::{CanCut, ExtractIf, OwnedItems, OwnsItems};
 
 /// An iterator that rows step. A splice is not dropped where a step fails.
@@ -10,13 +8,13 @@ pub trait Steps {
     ghost Ready: { Self → Type 0 };
 
     /// Does a step, and writes what it answers.
-    fn step(&mut self, step: &str, out: &mut String) -> Result<(), Wrong>
+    fn step(&mut self, step: Step, out: &mut String) -> Result<(), Wrong>
         requires { Ready self.old }
         ensures { Ready self.new };
 }
 
 /// Does steps one after the other.
-pub fn stepped<I: Steps>(it: &mut I, steps: &[&str], out: &mut String) -> Result<(), Wrong>
+pub fn stepped<I: Steps>(it: &mut I, steps: &[Step], out: &mut String) -> Result<(), Wrong>
     requires { I.Ready it.old }
     ensures { I.Ready it.new }
 {
@@ -30,9 +28,9 @@ pub fn stepped<I: Steps>(it: &mut I, steps: &[&str], out: &mut String) -> Result
 macro_rules! step_at_ends {
     ($it:ident, $step:ident, $out:ident, $($arm:tt)*) => {
         match $step {
-            "next" => tinyvec_rows::say($out, &$it.next()),
-            "back" => tinyvec_rows::say($out, &$it.next_back()),
-            "left" => tinyvec_rows::say($out, &((*$it).len(), (*$it).size_hint())),
+            tinyvec_rows::Step::Next => tinyvec_rows::say($out, &$it.next()),
+            tinyvec_rows::Step::Back => tinyvec_rows::say($out, &$it.next_back()),
+            tinyvec_rows::Step::Left => tinyvec_rows::say_left($out, &*$it),
             $($arm)*
         }
     };
@@ -40,10 +38,27 @@ macro_rules! step_at_ends {
 
 pub(crate) use step_at_ends;
 
+impl<'a, V: CanCut, F: FnMut(&mut V::Item) -> bool> Steps for ExtractIf<'a, V, F>
+where
+    V::Item: Item,
+{
+    ghost use Rattle.tinyvec_slots.specs.Extracting.{extract_closure, ExtractLies};
+
+    ghost Ready = { λ it. ExtractLies V.items it × F.IsAlwaysCallable (extract_closure it) };
+
+    fn step(&mut self, step: Step, out: &mut String) -> Result<(), Wrong> {
+        match step {
+            Step::Next => say(out, &self.next()),
+            Step::Hint => say(out, &self.size_hint()),
+            _ => Err(Wrong::Value),
+        }
+    }
+}
+
 /// Does steps at an iterator, and writes what each answers.
 pub fn iterated<V: OwnsItems>(
     mut it: OwnedItems<V>,
-    steps: &[&str],
+    steps: &[Step],
     out: &mut String,
 ) -> Result<(), Wrong>
 where
@@ -51,8 +66,8 @@ where
 {
     for step in steps {
         match *step {
-            "last" => return say(out, &it.last()),
-            "count" => return say_count(it, out),
+            Step::Last => return say(out, &it.last()),
+            Step::Count => return say_count(it, out),
             step => iterate(&mut it, step, out)?,
         }
     }
@@ -72,51 +87,16 @@ where
     say(out, &count)
 }
 
-fn iterate<V: OwnsItems>(it: &mut OwnedItems<V>, step: &str, out: &mut String) -> Result<(), Wrong>
+fn iterate<V: OwnsItems>(it: &mut OwnedItems<V>, step: Step, out: &mut String) -> Result<(), Wrong>
 where
     V::Item: Item,
 {
     step_at_ends!(it, step, out,
-        "debug" => say(out, it),
-        "slice" => say_slots(out, it.as_slice(), &[]),
-        "clone" => say(out, &it.clone()?),
-        step => skip(it, step, out),
-    )
-}
-
-fn skip<V: OwnsItems>(it: &mut OwnedItems<V>, step: &str, out: &mut String) -> Result<(), Wrong>
-where
-    V::Item: Item,
-{
-    match counted(step)? {
-        ("nth", count) => say(out, &it.nth(count)),
-        ("nth_back", count) => say(out, &it.nth_back(count)),
+        Step::Debug => say(out, it),
+        Step::Slice => say_list(out, it.as_slice()),
+        Step::Clone => say(out, &it.clone()?),
+        Step::Nth(count) => say(out, &it.nth(count)),
+        Step::NthBack(count) => say(out, &it.nth_back(count)),
         _ => Err(Wrong::Value),
-    }
-}
-
-/// Writes the hint of an iterator that extracts items, and the first of them, at most this many.
-pub fn extracted<V: CanCut, F: FnMut(&mut V::Item) -> bool>(
-    it: ExtractIf<'_, V, F>,
-    count: usize,
-    out: &mut String,
-) -> Result<(), Wrong>
-where
-    V::Item: Item,
-    requires lies { ExtractLies V.items it }
-    requires callable { F.IsAlwaysCallable (extract_closure it) }
-{
-    say_hint(out, &it)?;
-    if count == 0 {
-        return Ok(());
-    }
-    let mut left = count;
-    for x in it {
-        say(out, &x)?;
-        left = left.saturating_sub(1);
-        if left == 0 {
-            return Ok(());
-        }
-    }
-    Ok(())
+    )
 }

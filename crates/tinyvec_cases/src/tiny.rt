@@ -1,21 +1,28 @@
 //! Rows of a `TinyVec`.
-use crate::array;
-use crate::calls::{any_call, copy_into_range, filter_call, needs, owner_call, range_call};
+use crate::array::{array_of, made, say_vec};
+use crate::calls::{cut, filter, lend, ranged};
 use crate::held::Copies;
-use crate::steps::{Steps, extracted, step_at_ends};
-use crate::vector::{Call, Vector};
+use crate::steps::{Steps, iterated, step_at_ends, stepped};
+use crate::vector::Vector;
 use std::alloc::{AllocError, Global};
 use std::fmt::Write;
 use std::iter::Fuse;
-use std::vec;
-use tinyvec::{Array, ArrayVec, FromIterRest, TinyVec, TinyVecDrain, TinyVecSplice};
+use std::{mem, vec};
+use tinyvec::{Array, FromIterRest, NoMemory, NoRoom, TinyVec, TinyVecDrain, TinyVecSplice};
+use tinyvec_rows::call::{
+    Call, Cut, Drained, Extend, Filter, Lend, Make, Pair, Put, Ranged, Room, Slots,
+};
 use tinyvec_rows::{
-    Counter, Item, Read, Span, Words, Wrong, done, is_within, say, say_rest, say_slots, say_text,
+    Item, Read, Span, Step, Wrong, done, is_within, say, say_and_set, say_list, say_rest,
+    say_slots, say_word,
 };
 
 /// A list inline, before the slots after it.
-pub fn inline<A: Array>(alloc: Global, array: ArrayVec<A>) -> TinyVec<A> {
-    TinyVec::from_array_vec(alloc, array)
+pub fn inline<T: Read, A: Array<Item = T>>(
+    alloc: Global,
+    slots: Slots<T>,
+) -> Result<TinyVec<A>, Wrong> {
+    Ok(TinyVec::from_array_vec(alloc, made(slots)?))
 }
 
 /// A list on the heap, with room for this many items or for all of them.
@@ -41,220 +48,234 @@ impl<T: Item, A: Array<Item = T>> Vector for TinyVec<A> {
     fn say_state(&self, out: &mut String) -> Result<(), Wrong> {
         match self {
             TinyVec::Inline(array, _) => {
-                say_text(out, "inline")?;
+                say_word(out, "inline")?;
                 say_slots(out, array.as_slice(), array.grab_spare_slice())
             }
             TinyVec::Heap(vec) => {
-                say_text(out, "heap")?;
-                say_slots(out, vec.as_slice(), &[])
+                say_word(out, "heap")?;
+                say_list(out, vec.as_slice())
             }
         }
     }
 
-    fn call(&mut self, other: &mut TinyVec<A>, call: &mut Call<'_>) -> Result<(), Wrong> {
-        any_call!(self, call, is_inline, _ => growing(self, other, call))
+    fn call(
+        &mut self,
+        other: &mut TinyVec<A>,
+        call: Call<T>,
+        out: &mut String,
+    ) -> Result<(), Wrong> {
+        match call {
+            Call::Cut(cut) => take_out(self, cut, out),
+            Call::Lend(lend) => look(self, lend, out),
+            Call::Put(put) => put_in(self, put, out),
+            Call::Extend(extend) => append(self, extend, out),
+            Call::Filter(filter) => filter!(self, filter, out),
+            Call::Ranged(ranged) => ranged!(self, ranged, out),
+            Call::Pair(pair) => both(self, other, pair, out),
+            Call::Drained(drained) => drain_all(self, drained, out),
+            Call::Make(make) => remake(self, make, out),
+            Call::Room(room) => with_room(self, room, out),
+            _ => Err(Wrong::Call),
+        }
     }
 
     fn extract<F: FnMut(&mut T) -> bool>(
         &mut self,
         range: Span,
         f: F,
-        count: usize,
+        steps: &[Step],
         out: &mut String,
     ) -> Result<(), Wrong> {
-        needs!(is_within(range, self.len()));
-        extracted(self.extract_if(range, f), count, out)
+        if !is_within(range, self.len()) {
+            return Err(Wrong::Place);
+        }
+        stepped(&mut self.extract_if(range, f), steps, out)
     }
 }
 
-// Calls that may find no memory.
-fn growing<T: Item, A: Array<Item = T>>(
+fn take_out<T: Item, A: Array<Item = T>>(
     v: &mut TinyVec<A>,
-    other: &mut TinyVec<A>,
-    call: &mut Call<'_>,
-) -> Result<(), Wrong> {
-    match call.name {
-        "push" => done(call.out, v.push(call.words.item()?)),
-        "push_all" => {
-            for x in call.words.items()? {
-                done(call.out, v.push(x))?;
-            }
-            Ok(())
-        }
-        "push_mut" => push_mut(v, call),
-        "insert" => {
-            let (i, x) = (call.words.index()?, call.words.item()?);
-            needs!(i <= v.len());
-            done(call.out, v.insert(i, x))
-        }
-        "insert_mut" => insert_mut(v, call),
-        "extend_from_slice" => {
-            let with = call.words.items()?;
-            done(call.out, v.extend_from_slice(with.as_slice()))
-        }
-        "extend_from_within" => {
-            let n = call.words.index()?;
-            needs!(n <= v.len());
-            done(call.out, v.extend_from_within(..n))
-        }
-        "resize" => done(call.out, v.resize(call.words.index()?, call.words.item()?)),
-        "resize_with" => {
-            let n = call.words.index()?;
-            let mut counter = Counter::new(call.words.alloc, call.words.number()?);
-            done(call.out, v.resize_with(n, || counter.next()))?;
-            say(call.out, &counter.calls())
-        }
-        "append" => done(call.out, v.append(other)),
-        "split_off" => {
-            let at = call.words.index()?;
-            needs!(at <= v.len());
-            match v.split_off(at) {
-                Ok(tail) => tail.say_state(call.out),
-                Err(error) => say(call.out, &error),
-            }
-        }
-        _ => owner(v, other, call),
-    }
-}
-
-fn owner<T: Item, A: Array<Item = T>>(
-    v: &mut TinyVec<A>,
-    other: &mut TinyVec<A>,
-    call: &mut Call<'_>,
-) -> Result<(), Wrong> {
-    let alloc = call.words.alloc;
-    owner_call!(v, other, call, TinyVec::new(alloc), _ => range(v, call))
-}
-
-fn range<T: Item, A: Array<Item = T>>(
-    v: &mut TinyVec<A>,
-    call: &mut Call<'_>,
-) -> Result<(), Wrong> {
-    range_call!(v, call, _ => own(v, call))
-}
-
-fn filter<T: Item, A: Array<Item = T>>(
-    v: &mut TinyVec<A>,
-    call: &mut Call<'_>,
-) -> Result<(), Wrong> {
-    filter_call!(v, call)
-}
-
-// Calls that only this vector has.
-fn own<T: Item, A: Array<Item = T>>(v: &mut TinyVec<A>, call: &mut Call<'_>) -> Result<(), Wrong> {
-    match made_of(call.name, &mut call.words, call.out) {
-        Err(Wrong::Call) => {}
-        Ok(Ok(made)) => {
-            *v = made;
-            return Ok(());
-        }
-        Ok(Err(error)) => return say(call.out, &error),
-        Err(wrong) => return Err(wrong),
-    }
-    match call.name {
-        "retain_mut" | "dedup" | "dedup_by" | "dedup_by_key" => filter(v, call),
-        "move_to_the_heap" => done(call.out, v.move_to_the_heap()),
-        "try_move_to_the_heap" => done(call.out, v.try_move_to_the_heap()),
-        "shrink_to_fit" => {
-            v.shrink_to_fit();
-            Ok(())
-        }
-        "extend_exact_size" => done(call.out, v.extend_exact_size(call.words.items()?)),
-        name => with_room(v, name, call.words.index().unwrap_or(0), call.out),
-    }
-}
-
-// Pushes, and writes to the new item if there was room for it.
-fn push_mut<T: Item, A: Array<Item = T>>(
-    v: &mut TinyVec<A>,
-    call: &mut Call<'_>,
-) -> Result<(), Wrong> {
-    let (x, y) = (call.words.item()?, call.words.item()?);
-    match v.push_mut(x) {
-        Ok(item) => {
-            *item = y;
-            Ok(())
-        }
-        Err(refused) => say(call.out, &refused),
-    }
-}
-
-// Inserts, and does so too.
-fn insert_mut<T: Item, A: Array<Item = T>>(
-    v: &mut TinyVec<A>,
-    call: &mut Call<'_>,
-) -> Result<(), Wrong> {
-    let (i, x, y) = (call.words.index()?, call.words.item()?, call.words.item()?);
-    needs!(i <= v.len());
-    match v.insert_mut(i, x) {
-        Ok(item) => {
-            *item = y;
-            Ok(())
-        }
-        Err(refused) => say(call.out, &refused),
-    }
-}
-
-// Calls that are given how many more items there is to be room for.
-fn with_room<T: Item, A: Array<Item = T>>(
-    v: &mut TinyVec<A>,
-    name: &str,
-    n: usize,
+    cut: Cut,
     out: &mut String,
 ) -> Result<(), Wrong> {
-    match name {
-        "reserve" => done(out, v.reserve(n)),
-        "reserve_exact" => done(out, v.reserve_exact(n)),
-        "try_reserve" => done(out, v.try_reserve(n)),
-        "try_reserve_exact" => done(out, v.try_reserve_exact(n)),
-        "move_to_the_heap_and_reserve" => done(out, v.move_to_the_heap_and_reserve(n)),
-        "try_move_to_the_heap_and_reserve" => done(out, v.try_move_to_the_heap_and_reserve(n)),
-        "has_room" => say(out, &(v.capacity() - v.len() >= n)),
+    cut!(v, cut, out,
+        Cut::PopAt(i) => say(out, &v.pop_at(i)),
+    )
+}
+
+fn look<T: Item, A: Array<Item = T>>(
+    v: &mut TinyVec<A>,
+    lend: Lend<T>,
+    out: &mut String,
+) -> Result<(), Wrong> {
+    lend!(v, lend, is_inline, out,
+        Lend::Set(_, _) => Err(Wrong::Place),
+        Lend::SetLen(_) | Lend::WriteSpare(_) => Err(Wrong::Call),
+    )
+}
+
+fn put_in<T: Item, A: Array<Item = T>>(
+    v: &mut TinyVec<A>,
+    put: Put<T>,
+    out: &mut String,
+) -> Result<(), Wrong> {
+    match put {
+        Put::Push(x) => done(out, v.push(x)),
+        Put::PushMut(x, y) => say_lent(v.push_mut(x), y, out),
+        Put::Insert(i, x) if i <= v.len() => done(out, v.insert(i, x)),
+        Put::InsertMut(i, x, y) if i <= v.len() => say_lent(v.insert_mut(i, x), y, out),
+        Put::TryPush(_) | Put::TryInsert(_, _) => Err(Wrong::Call),
+        _ => Err(Wrong::Place),
+    }
+}
+
+// Writes to the item that was put in, if there was room for it.
+fn say_lent<T: Item>(
+    lent: Result<&mut T, NoMemory<T>>,
+    x: T,
+    out: &mut String,
+) -> Result<(), Wrong> {
+    match lent {
+        Ok(lent) => say_and_set(out, lent, x),
+        Err(refused) => say(out, &refused),
+    }
+}
+
+fn append<T: Item, A: Array<Item = T>>(
+    v: &mut TinyVec<A>,
+    extend: Extend<T>,
+    out: &mut String,
+) -> Result<(), Wrong> {
+    match extend {
+        Extend::Extend(items) => match v.extend(items) {
+            Ok(()) => Ok(()),
+            Err(NoRoom { item, rest }) => say_rest(out, &item, rest),
+        },
+        Extend::FromSlice(items) => done(out, v.extend_from_slice(items.as_slice())),
+        Extend::ExactSize(items) => done(out, v.extend_exact_size(items)),
+        Extend::FromWithin(range) if is_within(range, v.len()) => done(
+            out,
+            v.extend_from_within(range),
+        ),
+        Extend::FromWithin(_) => Err(Wrong::Place),
+        Extend::Resize(n, x) => done(out, v.resize(n, x)),
+        Extend::ResizeWith(n, mut counter) => {
+            done(out, v.resize_with(n, || counter.next()))?;
+            say(out, &counter.calls())
+        }
+        Extend::Fill(_) | Extend::TryFromSlice(_) => Err(Wrong::Call),
+    }
+}
+
+fn both<T: Item, A: Array<Item = T>>(
+    v: &mut TinyVec<A>,
+    other: &mut TinyVec<A>,
+    pair: Pair,
+    out: &mut String,
+) -> Result<(), Wrong> {
+    match pair {
+        Pair::Append => done(out, v.append(other)),
+        Pair::CloneFrom => done(out, v.clone_from(other)),
+        Pair::Clone => say_made(v.clone(), out),
+        Pair::SplitOff(at) if at <= v.len() => say_made(v.split_off(at), out),
+        Pair::SplitOff(_) => Err(Wrong::Place),
+        Pair::TryAppend | Pair::AppendIfFits => Err(Wrong::Call),
+    }
+}
+
+fn say_made<T: Item, A: Array<Item = T>>(
+    made: Result<TinyVec<A>, AllocError>,
+    out: &mut String,
+) -> Result<(), Wrong> {
+    match made {
+        Ok(v) => v.say_state(out),
+        Err(error) => say(out, &error),
+    }
+}
+
+fn drain_all<T: Item, A: Array<Item = T>>(
+    v: &mut TinyVec<A>,
+    drained: Drained,
+    out: &mut String,
+) -> Result<(), Wrong> {
+    let owned = mem::replace(v, TinyVec::new(*out.allocator()));
+    match drained {
+        Drained::IntoIter(steps) => iterated(owned.into_iter(), steps.as_slice(), out),
+        Drained::IntoVec => match owned.into_vec() {
+            Ok(vec) => say_vec(&vec, out),
+            Err(NoMemory(back)) => {
+                *v = back;
+                say_word(out, "NoMemory")
+            }
+        },
+        Drained::IntoBoxedSlice => match owned.into_boxed_slice() {
+            Ok(items) => say_list(out, &items),
+            Err(error) => say(out, &error),
+        },
         _ => Err(Wrong::Call),
     }
 }
 
-// A vector that is made of items, or of how many there are or find room.
-fn made_of<T: Item, A: Array<Item = T>>(
-    name: &str,
-    words: &mut Words<'_>,
+fn with_room<T: Item, A: Array<Item = T>>(
+    v: &mut TinyVec<A>,
+    room: Room,
     out: &mut String,
-) -> Result<Result<TinyVec<A>, AllocError>, Wrong> {
-    let alloc = words.alloc;
-    let made = match name {
-        "new" => Ok(TinyVec::new(alloc)),
-        "with_capacity" => TinyVec::with_capacity(alloc, words.index()?),
-        "with_initial_len" => TinyVec::with_initial_len(alloc, words.index()?),
-        "from_slice" => TinyVec::from_slice(alloc, words.items()?.as_slice()),
-        "from_array" => Ok(TinyVec::from_array(alloc, array_of(words)?)),
-        "try_from_array_len" => Ok(with_len(alloc, array_of(words)?, words.index()?, out)?),
-        "from_iter" => Ok(of_items(alloc, words.items()?, out)?),
-        _ => return Err(Wrong::Call),
-    };
-    Ok(made)
+) -> Result<(), Wrong> {
+    match room {
+        Room::Reserve(n) => done(out, v.reserve(n)),
+        Room::ReserveExact(n) => done(out, v.reserve_exact(n)),
+        Room::MoveToTheHeap => done(out, v.move_to_the_heap()),
+        Room::MoveToTheHeapAndReserve(n) => done(out, v.move_to_the_heap_and_reserve(n)),
+        Room::ShrinkToFit => Ok(v.shrink_to_fit()),
+        Room::HasRoom(n) => say(out, &(v.capacity() - v.len() >= n)),
+    }
 }
 
-fn with_len<A: Array>(
-    alloc: Global,
-    array: A,
-    len: usize,
+fn remake<T: Item, A: Array<Item = T>>(
+    v: &mut TinyVec<A>,
+    make: Make<T>,
     out: &mut String,
-) -> Result<TinyVec<A>, Wrong> {
+) -> Result<(), Wrong> {
+    match made_of(make, out)? {
+        Ok(made) => Ok(*v = made),
+        Err(error) => say(out, &error),
+    }
+}
+
+// A vector that is made of slots, of items, or of how many there are or find room.
+fn made_of<T: Item, A: Array<Item = T>>(
+    make: Make<T>,
+    out: &mut String,
+) -> Result<Result<TinyVec<A>, AllocError>, Wrong> {
+    let alloc = *out.allocator();
+    match make {
+        Make::New => Ok(Ok(TinyVec::new(alloc))),
+        Make::WithCapacity(room) => Ok(TinyVec::with_capacity(alloc, room)),
+        Make::WithInitialLen(len) => Ok(TinyVec::with_initial_len(alloc, len)),
+        Make::FromSlice(items) => Ok(TinyVec::from_slice(alloc, items.as_slice())),
+        Make::FromArray(slots) => Ok(Ok(TinyVec::from_array(alloc, array_of(slots)?))),
+        Make::TryFromArrayLen(slots, len) => Ok(Ok(with_len(array_of(slots)?, len, out)?)),
+        Make::FromIter(items) => Ok(Ok(of_items(items, out)?)),
+        _ => Err(Wrong::Call),
+    }
+}
+
+fn with_len<A: Array>(array: A, len: usize, out: &mut String) -> Result<TinyVec<A>, Wrong> {
+    let alloc = *out.allocator();
     match TinyVec::try_from_array_len(alloc, array, len) {
         Ok(v) => Ok(v),
         Err(array) => {
-            say_text(out, "refused")?;
+            say_word(out, "refused")?;
             Ok(TinyVec::from_array(alloc, array))
         }
     }
 }
 
 fn of_items<T: Item, A: Array<Item = T>>(
-    alloc: Global,
     items: Vec<T>,
     out: &mut String,
 ) -> Result<TinyVec<A>, Wrong> {
-    match TinyVec::from_iter(alloc, items) {
+    match TinyVec::from_iter(*out.allocator(), items) {
         Ok(v) => Ok(v),
         Err(FromIterRest { vec, item, rest }) => {
             say_rest(out, &item, rest)?;
@@ -263,20 +284,16 @@ fn of_items<T: Item, A: Array<Item = T>>(
     }
 }
 
-// The array of a list of its items.
-fn array_of<T: Item, A: Array<Item = T>>(words: &mut Words<'_>) -> Result<A, Wrong> {
-    Ok(array::made::<T, A>(words.slots()?)?.into_inner())
-}
-
 impl<T: Item + Copy, A: Array<Item = T>> Copies for TinyVec<A> {
-    fn copy_call(&mut self, call: &mut Call<'_>) -> Result<(), Wrong> {
-        match call.name {
-            "extend_from_slice_copy" => {
-                let with = call.words.items()?;
-                done(call.out, self.extend_from_slice_copy(with.as_slice()))
-            }
-            _ => copy_into_range!(self, call),
+    fn extend_copies(&mut self, items: &[T], out: &mut String) -> Result<(), Wrong> {
+        done(out, self.extend_from_slice_copy(items))
+    }
+
+    fn replace(&mut self, range: Span, items: &[T], out: &mut String) -> Result<(), Wrong> {
+        if !is_within(range, self.len()) {
+            return Err(Wrong::Place);
         }
+        done(out, self.replace_range(range, items))
     }
 }
 
@@ -285,9 +302,9 @@ impl<'a, T: Item, A: Array<Item = T>> Steps for TinyVecDrain<'a, A> {
 
     ghost Ready = { DrainCanStep };
 
-    fn step(&mut self, step: &str, out: &mut String) -> Result<(), Wrong> {
+    fn step(&mut self, step: Step, out: &mut String) -> Result<(), Wrong> {
         step_at_ends!(self, step, out,
-            "debug" => say(out, self),
+            Step::Debug => say(out, self),
             _ => Err(Wrong::Value),
         )
     }
@@ -298,10 +315,10 @@ impl<'a, T: Item, A: Array<Item = T>> Steps for TinyVecSplice<'a, A, Fuse<vec::I
 
     ghost Ready = { SpliceCanStep };
 
-    fn step(&mut self, step: &str, out: &mut String) -> Result<(), Wrong> {
+    fn step(&mut self, step: Step, out: &mut String) -> Result<(), Wrong> {
         step_at_ends!(self, step, out,
-            "debug" => Ok(write!(out, "{self:?} ")?),
-            "touches" => say(out, &(*self).touches()),
+            Step::Debug => Ok(write!(out, "{self:?} ")?),
+            Step::Touches => say(out, &(*self).touches()),
             _ => Err(Wrong::Value),
         )
     }

@@ -18,42 +18,69 @@ pub fn done<E: fmt::Debug + Drop>(out: &mut String, answer: Result<(), E>) -> Re
     }
 }
 
-/// Writes a text as it stands.
-pub fn say_text(out: &mut String, text: &str) -> Result<(), Wrong> {
-    out.push_str(text)?;
+/// Writes a word as it stands.
+pub fn say_word(out: &mut String, word: &str) -> Result<(), Wrong> {
+    out.push_str(word)?;
     out.push(' ')?;
     Ok(())
 }
 
-/// Writes a list and the slots after it.
+/// The inside of a text in quotes, which is written piece by piece, with escapes as those of `{:?}`.
+#[derive(Drop)]
+pub struct Quoted<'o>(pub &'o mut String);
+
+impl<'o> Write for Quoted<'o> {
+    fn write_str(&mut self, text: &str) -> fmt::Result {
+        for letter in text.chars() {
+            if letter == '\'' {
+                write!(self.0, "'")?;
+            } else {
+                write!(self.0, "{}", letter.escape_debug())?;
+            }
+        }
+        Ok(())
+    }
+}
+
+/// Writes a list and the slots after it, as `[1, 2 | 0, 0]`.
 pub fn say_slots<T: Item>(out: &mut String, list: &[T], spare: &[T]) -> Result<(), Wrong> {
     out.push('[')?;
-    for x in list {
-        write!(out, "{x:?}, ")?;
-    }
+    push_items(out, list)?;
     if !spare.is_empty() {
-        out.push_str("| ")?;
-        for x in spare {
-            write!(out, "{x:?}, ")?;
-        }
+        out.push_str(if list.is_empty() { "| " } else { " | " })?;
+        push_items(out, spare)?;
     }
-    out.push_str("] ")?;
+    say_word(out, "]")
+}
+
+/// Writes a list.
+pub fn say_list<T: Item>(out: &mut String, list: &[T]) -> Result<(), Wrong> {
+    say_slots(out, list, &[])
+}
+
+fn push_items<T: Item>(out: &mut String, items: &[T]) -> Result<(), Wrong> {
+    let mut mark = "";
+    for x in items {
+        write!(out, "{mark}{x:?}")?;
+        mark = ", ";
+    }
     Ok(())
 }
 
-/// Writes the items that an iterator still yields.
-pub fn say_all<T: Item>(out: &mut String, rest: vec::IntoIter<T>) -> Result<(), Wrong> {
+/// Writes the items that an iterator still yields, as a list.
+pub fn say_all<T: Item, I: Iterator<Item = T>>(out: &mut String, rest: I) -> Result<(), Wrong> {
     out.push('[')?;
+    let mut mark = "";
     for x in rest {
-        write!(out, "{x:?}, ")?;
+        write!(out, "{mark}{x:?}")?;
+        mark = ", ";
     }
-    out.push_str("] ")?;
-    Ok(())
+    say_word(out, "]")
 }
 
 /// Writes an item that found no room.
 pub fn say_refused<T: Item>(out: &mut String, x: &T) -> Result<(), Wrong> {
-    say_text(out, "refused")?;
+    say_word(out, "refused")?;
     say(out, x)
 }
 
@@ -63,12 +90,26 @@ pub fn say_rest<T: Item>(out: &mut String, x: &T, rest: vec::IntoIter<T>) -> Res
     say_all(out, rest)
 }
 
+/// Writes the number of an item that was lent, and another item to it.
+pub fn say_and_set<T: Item>(out: &mut String, lent: &mut T, x: T) -> Result<(), Wrong> {
+    say(out, &lent.number())?;
+    *lent = x;
+    Ok(())
+}
+
+/// Writes how many spare slots were lent, and items over the first of them.
+pub fn write_spare<T: Item>(lent: &mut [T], items: Vec<T>, out: &mut String) -> Result<(), Wrong> {
+    say(out, &lent.len())?;
+    if items.len() > lent.len() {
+        return Err(Wrong::Place);
+    }
+    for (slot, x) in lent.iter_mut().zip(items) {
+        *slot = x;
+    }
+    Ok(())
+}
+
 /// Writes how many items an iterator has left, by its length and its hint.
 pub fn say_left<I: ExactSizeIterator>(out: &mut String, it: &I) -> Result<(), Wrong> {
     say(out, &(it.len(), it.size_hint()))
-}
-
-/// Writes the hint of an iterator.
-pub fn say_hint<I: Iterator>(out: &mut String, it: &I) -> Result<(), Wrong> {
-    say(out, &it.size_hint())
 }

@@ -1,43 +1,49 @@
 //! Closures that rows name.
-use crate::{Item, Wrong};
-use std::alloc::Global;
+use crate::{Item, Words, Wrong};
+use std::alloc::{AllocError, Global};
 use std::fmt::Write;
 
+/// A closure, and what it was asked about.
+#[derive(Drop)]
+pub struct Closure<K> {
+    kind: K,
+    asked: String,
+}
+
+/// What a closure answers about an item.
 #[derive(Clone, Copy, Drop)]
-enum Name {
+pub enum Choice {
     Yes,
     No,
     Even,
     Odd,
-    OneMore,
-    Tens,
     // Each answer in turn, from the lowest bit on.
     Turns(u64),
 }
 
-/// A closure, and what it was asked about.
-#[derive(Drop)]
-pub struct Closure {
-    name: Name,
-    asked: String,
+/// What a closure answers about two items.
+#[derive(Clone, Copy, Drop)]
+pub enum Pairing {
+    Yes,
+    No,
+    OneMore,
+    Tens,
+    Turns(u64),
 }
 
-impl Closure {
-    /// `yes`, `no`, `even`, `odd`, `one_more`, `tens`, or the answers in turn, each by a letter `y` or `n`.
-    pub fn new(alloc: Global, name: &str) -> Closure {
-        let name = match name {
-            "yes" => Name::Yes,
-            "no" => Name::No,
-            "even" => Name::Even,
-            "odd" => Name::Odd,
-            "one_more" => Name::OneMore,
-            "tens" => Name::Tens,
-            turns => Name::Turns(bits(turns)),
-        };
-        Closure {
-            name,
-            asked: String::new(alloc),
-        }
+/// The key of an item that a closure makes.
+#[derive(Clone, Copy, Drop)]
+pub enum Key {
+    One,
+    Number,
+    Tens,
+}
+
+impl<K: Drop> Closure<K> {
+    // Has room for what it records, so that no request falls into a call.
+    fn new(alloc: Global, kind: K) -> Result<Closure<K>, AllocError> {
+        let asked = String::with_capacity(alloc, 1 << 14)?;
+        Ok(Closure { kind, asked })
     }
 
     /// Writes the numbers of the items that it was asked about.
@@ -45,22 +51,34 @@ impl Closure {
         out.push_str(self.asked.as_str())?;
         Ok(())
     }
+}
 
-    fn in_turn(&mut self, turns: u64) -> bool {
-        self.name = Name::Turns(turns / 2);
-        turns % 2 == 1
+impl Closure<Choice> {
+    /// `yes`, `no`, `even`, `odd`, or the answers in turn, each by a letter `y` or `n`.
+    pub fn read(words: &mut Words<'_>) -> Result<Closure<Choice>, Wrong> {
+        let choice = match words.word()? {
+            "yes" => Choice::Yes,
+            "no" => Choice::No,
+            "even" => Choice::Even,
+            "odd" => Choice::Odd,
+            turns => Choice::Turns(bits(turns)?),
+        };
+        Ok(Closure::new(words.alloc, choice)?)
     }
 
     /// The answer about an item.
     pub fn asks<T: Item>(&mut self, x: &T) -> bool {
         let number = x.number();
         let _ = write!(self.asked, "{number} ");
-        match self.name {
-            Name::Yes => true,
-            Name::No => false,
-            Name::Even => number % 2 == 0,
-            Name::Turns(turns) => self.in_turn(turns),
-            _ => number % 2 != 0,
+        match self.kind {
+            Choice::Yes => true,
+            Choice::No => false,
+            Choice::Even => number % 2 == 0,
+            Choice::Odd => number % 2 != 0,
+            Choice::Turns(turns) => {
+                self.kind = Choice::Turns(turns / 2);
+                turns % 2 == 1
+            }
         }
     }
 
@@ -70,29 +88,59 @@ impl Closure {
         x.add(more);
         answer
     }
+}
+
+impl Closure<Pairing> {
+    /// `yes`, `no`, `one_more`, `tens`, or the answers in turn.
+    pub fn read_pairing(words: &mut Words<'_>) -> Result<Closure<Pairing>, Wrong> {
+        let pairing = match words.word()? {
+            "yes" => Pairing::Yes,
+            "no" => Pairing::No,
+            "one_more" => Pairing::OneMore,
+            "tens" => Pairing::Tens,
+            turns => Pairing::Turns(bits(turns)?),
+        };
+        Ok(Closure::new(words.alloc, pairing)?)
+    }
 
     /// The answer about an item and the last one kept. `one_more` compares the numbers. `tens` compares them without their
     /// last digits, and then adds 1 to the last one kept, or 2 to the item.
     pub fn asks_both<T: Item>(&mut self, x: &mut T, kept: &mut T) -> bool {
         let (number, last) = (x.number(), kept.number());
         let _ = write!(self.asked, "{number}~{last} ");
-        match self.name {
-            Name::Yes => true,
-            Name::No => false,
-            Name::Turns(turns) => self.in_turn(turns),
-            Name::Tens => adds_to_one(x, kept, number / 10 == last / 10),
-            _ => number == last.wrapping_add(1),
+        match self.kind {
+            Pairing::Yes => true,
+            Pairing::No => false,
+            Pairing::OneMore => number == last.wrapping_add(1),
+            Pairing::Tens => adds_to_one(x, kept, number / 10 == last / 10),
+            Pairing::Turns(turns) => {
+                self.kind = Pairing::Turns(turns / 2);
+                turns % 2 == 1
+            }
         }
     }
+}
 
-    /// The key of an item: its number, with `tens` without the last digit, with `yes` 1.
+impl Closure<Key> {
+    /// `yes`, `number` or `tens`.
+    pub fn read_key(words: &mut Words<'_>) -> Result<Closure<Key>, Wrong> {
+        let key = match words.word()? {
+            "yes" => Key::One,
+            "number" => Key::Number,
+            "tens" => Key::Tens,
+            _ => return Err(Wrong::Value),
+        };
+        Ok(Closure::new(words.alloc, key)?)
+    }
+
+    /// The key of an item: its number, that without the last digit, or 1.
     pub fn key<T: Item>(&mut self, x: &T) -> i32 {
         let number = x.number();
         let _ = write!(self.asked, "{number} ");
-        match self.name {
-            Name::Tens => number / 10,
-            Name::Yes => 1,
-            _ => number,
+        match self.kind {
+            Key::One => 1,
+            Key::Number => number,
+            Key::Tens => number / 10,
         }
     }
 }
@@ -106,16 +154,18 @@ fn adds_to_one<T: Item>(x: &mut T, kept: &mut T, is_same: bool) -> bool {
     is_same
 }
 
-fn bits(turns: &str) -> u64 {
+fn bits(turns: &str) -> Result<u64, Wrong> {
     let mut bits = 0_u64;
     let mut bit = 1_u64;
     for letter in turns.as_bytes() {
-        if *letter == b'y' {
-            bits |= bit;
+        match *letter {
+            b'y' if bit != 0 => bits |= bit,
+            b'n' if bit != 0 => {}
+            _ => return Err(Wrong::Value),
         }
         bit = bit.wrapping_mul(2);
     }
-    bits
+    Ok(bits)
 }
 
 /// A closure that makes items of numbers, from one on.

@@ -20,16 +20,9 @@ pub trait Item: Read + Default + Clone + PartialEq + fmt::Debug {
     fn add(&mut self, more: i32);
 }
 
-fn number(word: &str) -> Result<i32, Wrong> {
-    match word.parse::<i32>() {
-        Ok(number) => Ok(number),
-        Err(_) => Err(Wrong::Value),
-    }
-}
-
 impl Read for i32 {
     fn read(_alloc: Global, word: &str) -> Result<i32, Wrong> {
-        number(word)
+        word.parse::<i32>().map_err(|_| Wrong::Value)
     }
 }
 
@@ -49,13 +42,13 @@ impl Item for i32 {
 
 impl Read for u8 {
     fn read(_alloc: Global, word: &str) -> Result<u8, Wrong> {
-        byte(number(word)?)
+        word.parse::<u8>().map_err(|_| Wrong::Value)
     }
 }
 
 impl Item for u8 {
     fn of(_alloc: Global, number: i32) -> Result<u8, Wrong> {
-        byte(number)
+        Ok(byte(number))
     }
 
     fn number(&self) -> i32 {
@@ -63,21 +56,29 @@ impl Item for u8 {
     }
 
     fn add(&mut self, more: i32) {
-        *self = self.wrapping_add(u8::try_from(more).unwrap_or(0));
+        *self = self.wrapping_add(byte(more));
     }
 }
 
-fn byte(number: i32) -> Result<u8, Wrong> {
-    match u8::try_from(number) {
-        Ok(byte) => Ok(byte),
-        Err(_) => Err(Wrong::Value),
+// The number modulo 256, so that all count on.
+fn byte(number: i32) -> u8 {
+    u8::try_from(number.rem_euclid(256)).unwrap_or(0)
+}
+
+impl Read for u16 {
+    fn read(_alloc: Global, word: &str) -> Result<u16, Wrong> {
+        word.parse::<u16>().map_err(|_| Wrong::Value)
     }
 }
 
 // An item of no size.
 impl Read for () {
-    fn read(_alloc: Global, _word: &str) -> Result<(), Wrong> {
-        Ok(())
+    fn read(_alloc: Global, word: &str) -> Result<(), Wrong> {
+        if word == "()" {
+            Ok(())
+        } else {
+            Err(Wrong::Value)
+        }
     }
 }
 
@@ -99,7 +100,7 @@ impl Read for Option<Box<i32>> {
         if word == "None" {
             return Ok(None);
         }
-        Self::of(alloc, number(word)?)
+        Self::of(alloc, i32::read(alloc, word)?)
     }
 }
 
@@ -125,19 +126,13 @@ impl Item for Option<Box<i32>> {
 // Items that are only compared and shown.
 impl Read for u64 {
     fn read(_alloc: Global, word: &str) -> Result<u64, Wrong> {
-        match word.parse::<u64>() {
-            Ok(number) => Ok(number),
-            Err(_) => Err(Wrong::Value),
-        }
+        word.parse::<u64>().map_err(|_| Wrong::Value)
     }
 }
 
 impl Read for u128 {
     fn read(_alloc: Global, word: &str) -> Result<u128, Wrong> {
-        match word.parse::<u128>() {
-            Ok(number) => Ok(number),
-            Err(_) => Err(Wrong::Value),
-        }
+        word.parse::<u128>().map_err(|_| Wrong::Value)
     }
 }
 
@@ -150,15 +145,6 @@ impl Read for (u64, u64, u64) {
 
 impl Read for f64 {
     fn read(_alloc: Global, word: &str) -> Result<f64, Wrong> {
-        match word.parse::<f64>() {
-            Ok(number) => Ok(number),
-            Err(_) => Err(Wrong::Value),
-        }
-    }
-}
-
-impl Read for char {
-    fn read(_alloc: Global, word: &str) -> Result<char, Wrong> {
-        word.chars().next().ok_or(Wrong::Value)
+        word.parse::<f64>().map_err(|_| Wrong::Value)
     }
 }

@@ -2,16 +2,20 @@
 #![tactic(auto)]
 
 mod answers;
+pub mod call;
 mod closure;
 mod item;
 mod span;
+mod step;
 pub mod window;
 mod words;
 
 pub use answers::{
-    done, say, say_all, say_hint, say_left, say_refused, say_rest, say_slots, say_text,
+    Quoted, done, say, say_all, say_and_set, say_left, say_list, say_refused, say_rest, say_slots,
+    say_word, write_spare,
 };
-pub use closure::{Closure, Counter};
+pub use closure::{Choice, Closure, Counter, Key, Pairing};
 pub use item::{Item, Read};
-pub use span::{Span, is_within};
-pub use words::{Words, Wrong, counted};
+pub use span::{Span, has_at_most, is_within};
+pub use step::Step;
+pub use words::{Words, Wrong, index_of};

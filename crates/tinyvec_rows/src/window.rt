@@ -21,14 +21,12 @@ fn mark(alloc: Global, number: u16) {
     let _refused = asked.is_err();
 }
 
-/// The words of a call, and before them the number of the request that a call refuses which begins as `refused 1 `.
+/// The number of the request that a call refuses which begins as `refused 1 `, or 0; and the words of the call.
 pub fn read(alloc: Global, call: &str) -> Result<(u16, Words<'_>), Wrong> {
-    let Some(rest) = call.strip_prefix("refused ") else {
-        return Ok((0, Words::new(alloc, call)));
-    };
-    let (number, call) = rest.split_once(' ').unwrap_or((rest, ""));
-    match number.parse::<u16>() {
-        Ok(number) => Ok((number, Words::new(alloc, call))),
-        Err(_) => Err(Wrong::Value),
+    let mut words = Words::new(alloc, call);
+    if !call.starts_with("refused ") {
+        return Ok((0, words));
     }
+    let _refused = words.word()?;
+    Ok((words.item::<u16>()?, words))
 }

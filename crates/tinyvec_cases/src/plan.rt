@@ -1,7 +1,7 @@
 //! What the calls of a reader and a writer do, as a case says.
 use std::alloc::Global;
 use std::io::ErrorKind;
-use tinyvec_rows::{Words, Wrong};
+use tinyvec_rows::{Words, Wrong, index_of};
 
 /// What calls do: move at most so many bytes in all, or fail so many times. A call that may move none moves none.
 #[derive(Clone, Copy)]
@@ -22,26 +22,31 @@ impl Plan {
     /// Reads the words after `reads`: bytes in hexadecimal, or `-` where a call moves none, or failures; and after `takes`:
     /// numbers, or failures.
     pub(crate) fn read(words: &mut Words<'_>) -> Result<Plan, Wrong> {
+        let alloc = words.alloc;
         let mut plan = Plan {
-            input: Vec::new(words.alloc),
-            reads: Vec::new(words.alloc),
-            writes: Vec::new(words.alloc),
+            input: Vec::new(alloc),
+            reads: Vec::new(alloc),
+            writes: Vec::new(alloc),
         };
         let mut is_read = true;
         for word in words.rest()? {
-            match (word, failure(word)) {
-                ("reads" | "takes" | "", _) => is_read = word == "reads",
-                (_, Some(step)) if is_read => plan.reads.push(step)?,
-                (_, Some(step)) => plan.writes.push(step)?,
-                (_, None) if is_read => plan.push_bytes(words.alloc, word)?,
-                (_, None) => plan
-                    .writes
-                    .push(Step::Moves(Words::new(words.alloc, word).index()?))?,
+            match word {
+                "reads" | "takes" => is_read = word == "reads",
+                _ if word.starts_with('!') => plan.push(is_read, failure(word)?)?,
+                _ if is_read => plan.push_bytes(alloc, word)?,
+                _ => plan.push(false, Step::Moves(index_of(word)?))?,
             }
         }
         plan.reads.reverse();
         plan.writes.reverse();
         Ok(plan)
+    }
+
+    fn push(&mut self, is_read: bool, step: Step) -> Result<(), Wrong> {
+        if is_read {
+            return Ok(self.reads.push(step)?);
+        }
+        Ok(self.writes.push(step)?)
     }
 
     // Appends the bytes of a word to the input, as often as a number after a `*` says.
@@ -50,25 +55,25 @@ impl Plan {
         let (bytes, times) = word.split_once('*').unwrap_or((word, "1"));
         if bytes != "-" {
             let bytes = Words::new(alloc, bytes).bytes()?;
-            for _time in 0..Words::new(alloc, times).index()? {
+            for _time in 0..index_of(times)? {
                 self.input.extend_from_slice(bytes.as_slice())?;
             }
         }
         let count = self.input.len().saturating_sub(before);
-        Ok(self.reads.push(Step::Moves(count))?)
+        self.push(true, Step::Moves(count))
     }
 }
 
 // A failure, as `!Other` or `!Interrupted*3`.
-fn failure(word: &str) -> Option<Step> {
-    let mut parts = word.strip_prefix('!')?.split('*');
-    let kind = match parts.next().unwrap_or("") {
-        "Interrupted" => ErrorKind::Interrupted,
-        "BrokenPipe" => ErrorKind::BrokenPipe,
-        "IsADirectory" => ErrorKind::IsADirectory,
-        "StorageFull" => ErrorKind::StorageFull,
-        _ => ErrorKind::Other,
+fn failure(word: &str) -> Result<Step, Wrong> {
+    let (name, times) = word.split_once('*').unwrap_or((word, "1"));
+    let kind = match name {
+        "!Interrupted" => ErrorKind::Interrupted,
+        "!BrokenPipe" => ErrorKind::BrokenPipe,
+        "!IsADirectory" => ErrorKind::IsADirectory,
+        "!StorageFull" => ErrorKind::StorageFull,
+        "!Other" => ErrorKind::Other,
+        _ => return Err(Wrong::Value),
     };
-    let times = parts.next().unwrap_or("1").parse::<usize>().unwrap_or(1);
-    Some(Step::Fails(kind, times))
+    Ok(Step::Fails(kind, index_of(times)?))
 }

@@ -1,6 +1,7 @@
 //! A reader and a writer that follow a plan and record their calls, and calls over them.
 use crate::borsh;
 use crate::plan::{Plan, Step};
+use crate::vector::Calls;
 use std::alloc::{AllocError, Global};
 use std::cell::{Cell, RefCell};
 use std::fmt::{Debug, Write as _};
@@ -166,7 +167,7 @@ pub(crate) struct Streams<'a> {
 
 /// Answers calls, one after the other. After what a call returns are the faults so far, the calls of the reader and the
 /// writer, and what was written, or of a call that reads how many bytes are left.
-pub(crate) fn answer(words: &mut Words<'_>, calls: &str, out: &mut String) -> Result<(), Wrong> {
+pub(crate) fn answer(words: &mut Words<'_>, calls: &mut Calls<'_>) -> Result<(), Wrong> {
     let (alloc, plan) = (words.alloc, Plan::read(words)?);
     let trace = Trace::new(alloc)?;
     trace.left.set(plan.input.len());
@@ -182,9 +183,9 @@ pub(crate) fn answer(words: &mut Words<'_>, calls: &str, out: &mut String) -> Re
             trace: &trace,
         }),
     };
-    for call in calls.split('\t') {
-        answer_call(call, &trace, &mut streams, out)?;
-        out.push('\t')?;
+    for call in calls.text.split('\t') {
+        answer_call(call, &trace, &mut streams, calls.out)?;
+        calls.out.push('\t')?;
     }
     Ok(())
 }
@@ -196,7 +197,7 @@ fn answer_call(
     out: &mut String,
 ) -> Result<(), Wrong> {
     let (refused, mut words) = window::read(*out.allocator(), call)?;
-    let name = words.word();
+    let name = words.word()?;
     make(name, refused, streams, &mut words, out)?;
     tell_faults(streams, out)?;
     trace.tell_calls(out)?;
@@ -214,27 +215,24 @@ fn tell_faults(streams: &Streams<'_>, out: &mut String) -> Result<(), Wrong> {
 }
 
 /// Answers the lines of a script, each of which is a call. The request of the number that the start has is refused.
-pub(crate) fn answer_lines(
-    words: &mut Words<'_>,
-    calls: &str,
-    out: &mut String,
-) -> Result<(), Wrong> {
+pub(crate) fn answer_lines(words: &mut Words<'_>, calls: &mut Calls<'_>) -> Result<(), Wrong> {
     let alloc = words.alloc;
-    let refused = match words.word() {
-        "refused" => words.word().parse::<u16>().unwrap_or(0),
-        _ => 0,
+    let refused = match words.goes_on("refused")? {
+        true => words.item::<u16>()?,
+        false => 0,
     };
-    let input = lines_of(alloc, calls)?;
+    words.end()?;
+    let input = lines_of(alloc, calls.text)?;
     let mut reader = Counted::new(input.as_slice());
     let mut writer = Counted::new(Vec::with_capacity(alloc, 1 << 15)?);
     window::open(alloc, refused);
     let ended = run(alloc, &mut reader, &mut writer);
     window::close(alloc);
     let output = writer.into_inner();
-    tell_lines(output.as_slice(), out)?;
+    tell_lines(output.as_slice(), calls.out)?;
     match ended {
         Ok(()) => Ok(()),
-        Err(error) => Ok(write!(out, "{error}")?),
+        Err(error) => Ok(write!(calls.out, "{error}")?),
     }
 }
 
@@ -264,12 +262,17 @@ fn make(
     words: &mut Words<'_>,
     out: &mut String,
 ) -> Result<(), Wrong> {
+    if name == "get" || name == "put" {
+        return borsh::answer(name == "put", refused, streams, words, out);
+    }
+    let text = match name {
+        "write" | "write_all" => words.text()?,
+        _ => String::new(words.alloc),
+    };
+    words.end()?;
     match name {
-        "get" => borsh::get(refused, streams, words, out),
-        "put" => borsh::put(refused, streams, words, out),
         "script" => run_script(words.alloc, refused, streams, out),
-        "write" | "write_all" => move_in_window(name, refused, streams, words.text()?, out),
-        _ => move_in_window(name, refused, streams, String::new(words.alloc), out),
+        _ => move_in_window(name, refused, streams, text, out),
     }
 }
 

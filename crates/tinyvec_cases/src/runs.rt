@@ -1,6 +1,8 @@
 //! Runs of calls, and driven splices.
 ghost use Rattle.std.specs.Prelude.{◌≤◌, IfOk, IfSome};
 
+use crate::array;
+use crate::vector::Calls;
 use std::fmt::Write as _;
 use tinyvec::{Array, ArrayVec, SliceVec, TinyVec};
 use tinyvec_rows::{Words, Wrong, say, say_slots, window};
@@ -8,20 +10,31 @@ use tinyvec_script::{
     Call, End, drive_array_splice, drive_tiny_splice, run_array, run_slice, run_tiny,
 };
 
-/// Answers `run` and calls, or `drive` and a splice, of the array that the words name.
-pub(crate) fn in_array<A: Array<Item = i32>>(
+/// Answers the calls of a row: `run` and calls, or `drive` and a splice, of the vector that `kind` names.
+pub(crate) fn answer(
+    kind: &str,
     words: &mut Words<'_>,
-    calls: &str,
-    out: &mut String,
+    calls: &mut Calls<'_>,
 ) -> Result<(), Wrong> {
-    let (alloc, (list, spare)) = (words.alloc, words.slots::<i32>()?);
-    let mut v = ArrayVec::<A>::new();
-    let _rest = v.fill(list.iter().chain(spare.iter()).copied());
-    v.set_len(list.len().min(v.capacity()));
-    for call in calls.split('\t') {
-        call_array(&mut v, call, out)?;
-        say_slots(out, v.as_slice(), v.grab_spare_slice())?;
-        out.push('\t')?;
+    match kind {
+        "Run<ArrayVec<[i32;4]>>" => in_array::<[i32; 4]>(words, calls),
+        "Run<SliceVec<i32>>" => over_slice(words, calls),
+        "Run<TinyVec<[i32;2]>>" => in_tiny::<[i32; 2]>(words, calls),
+        "Run<TinyVec<[i32;4]>>" => in_tiny::<[i32; 4]>(words, calls),
+        _ => Err(Wrong::Vector),
+    }
+}
+
+fn in_array<A: Array<Item = i32>>(
+    words: &mut Words<'_>,
+    calls: &mut Calls<'_>,
+) -> Result<(), Wrong> {
+    let mut v = array::made::<i32, A>(words.slots()?)?;
+    words.end()?;
+    for call in calls.text.split('\t') {
+        call_array(&mut v, call, calls.out)?;
+        say_slots(calls.out, v.as_slice(), v.grab_spare_slice())?;
+        calls.out.push('\t')?;
     }
     Ok(())
 }
@@ -54,18 +67,17 @@ fn call_array<A: Array<Item = i32>>(
     say(out, &answers)
 }
 
-/// The same of a `TinyVec`, made of a list.
-pub(crate) fn in_tiny<A: Array<Item = i32>>(
+// The vector is made of a list.
+fn in_tiny<A: Array<Item = i32>>(
     words: &mut Words<'_>,
-    calls: &str,
-    out: &mut String,
+    calls: &mut Calls<'_>,
 ) -> Result<(), Wrong> {
-    let (alloc, list) = (words.alloc, words.items::<i32>()?);
-    let mut v = TinyVec::<A>::from_slice(alloc, list.as_slice())?;
-    for call in calls.split('\t') {
-        call_tiny(&mut v, call, out)?;
-        say_tiny(&v, out)?;
-        out.push('\t')?;
+    let mut v = TinyVec::<A>::from_slice(words.alloc, words.items::<i32>()?.as_slice())?;
+    words.end()?;
+    for call in calls.text.split('\t') {
+        call_tiny(&mut v, call, calls.out)?;
+        say_tiny(&v, calls.out)?;
+        calls.out.push('\t')?;
     }
     Ok(())
 }
@@ -108,26 +120,24 @@ fn say_tiny<A: Array<Item = i32>>(v: &TinyVec<A>, out: &mut String) -> Result<()
     say(out, &v.as_slice())
 }
 
-/// Answers `run` and calls of a vector over slots.
-pub(crate) fn over_slice(
-    words: &mut Words<'_>,
-    calls: &str,
-    out: &mut String,
-) -> Result<(), Wrong> {
-    let (alloc, (list, spare)) = (words.alloc, words.slots::<i32>()?);
-    let mut slots = list.clone()?;
+fn over_slice(words: &mut Words<'_>, calls: &mut Calls<'_>) -> Result<(), Wrong> {
+    let (alloc, (mut slots, spare)) = (words.alloc, words.slots::<i32>()?);
+    words.end()?;
+    let len = slots.len();
     slots.extend_from_slice(spare.as_slice())?;
-    let mut v = SliceVec::from_slice_at_most(slots.as_mut_slice(), list.len());
-    for call in calls.split('\t') {
+    let mut v = SliceVec::from_slice_at_most(slots.as_mut_slice(), len);
+    for call in calls.text.split('\t') {
         let (refused, mut words) = window::read(alloc, call)?;
-        let _run = words.word();
-        let calls = read_calls(&mut words)?;
+        if words.word()? != "run" {
+            return Err(Wrong::Call);
+        }
+        let read = read_calls(&mut words)?;
         window::open(alloc, refused);
-        let answers = run_slice(alloc, &mut v, calls);
+        let answers = run_slice(alloc, &mut v, read);
         window::close(alloc);
-        say(out, &answers)?;
-        say_slots(out, v.as_slice(), v.grab_spare_slice())?;
-        out.push('\t')?;
+        say(calls.out, &answers)?;
+        say_slots(calls.out, v.as_slice(), v.grab_spare_slice())?;
+        calls.out.push('\t')?;
     }
     Ok(())
 }
@@ -142,15 +152,18 @@ struct Driving {
 }
 
 // The splice that words after `drive` name: a range, which a list of this length has, a word of ends, and items. Of other
-// words the first is read.
+// words the first, which is `run`, is read.
 fn splice(len: usize, words: &mut Words<'_>) -> Result<Option<Driving>, Wrong>
     ensures { IfOk result (λ found. IfSome found (λ s. (s.start ≤ s.end) × (s.end ≤ len))) }
 {
-    if words.word() != "drive" {
-        return Ok(None);
+    match words.word()? {
+        "drive" => {}
+        "run" => return Ok(None),
+        _ => return Err(Wrong::Call),
     }
     let (start, end) = (words.index()?, words.index()?);
     let (ends, items) = (read_ends(words)?, words.items::<i32>()?);
+    words.end()?;
     if start > end || end > len {
         return Err(Wrong::Place);
     }
@@ -165,11 +178,15 @@ fn splice(len: usize, words: &mut Words<'_>) -> Result<Option<Driving>, Wrong>
 // The letters `f` and `b`, or `-` where there is none.
 fn read_ends(words: &mut Words<'_>) -> Result<Vec<End>, Wrong> {
     let mut ends = Vec::new(words.alloc);
-    for letter in words.word().as_bytes() {
+    let word = words.word()?;
+    if word == "-" {
+        return Ok(ends);
+    }
+    for letter in word.as_bytes() {
         match *letter {
             b'f' => ends.push(End::Front)?,
             b'b' => ends.push(End::Back)?,
-            _ => {}
+            _ => return Err(Wrong::Value),
         }
     }
     Ok(ends)
@@ -177,11 +194,12 @@ fn read_ends(words: &mut Words<'_>) -> Result<Vec<End>, Wrong> {
 
 fn read_calls(words: &mut Words<'_>) -> Result<Vec<Call<i32>>, Wrong> {
     let mut calls = Vec::new(words.alloc);
-    for _call in 0..words.rest()?.len() {
-        match words.word() {
-            "" => return Ok(calls),
-            name => calls.push(read_call(name, words)?)?,
+    // Each call has a word at least.
+    for _word in 0..words.count() {
+        if words.end().is_ok() {
+            return Ok(calls);
         }
+        calls.push(read_call(words.word()?, words)?)?;
     }
     Ok(calls)
 }

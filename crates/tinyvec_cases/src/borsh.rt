@@ -8,68 +8,39 @@ use tinyvec_borsh::{BorshDeserialize, BorshError, BorshSerialize};
 use tinyvec_rows::{Words, Wrong, window};
 use tinyvec_text::InlineText;
 
-// What is to be done with a value: it is written as the word says, or else read. The request for memory of that number is
-// refused.
+// A value that is written, or read if there is no word of it. The request for memory of that number is refused.
 #[derive(Drop)]
 struct Case<'c, 's> {
     alloc: Global,
     refused: u16,
-    is_put: bool,
-    word: &'c str,
+    value: Option<&'c str>,
     streams: &'c mut Streams<'s>,
     out: &'c mut String,
 }
 
-/// Reads a value of the type that the next word names, and writes it.
-pub(crate) fn get(
+/// Writes or reads a value of the type that the next word names.
+pub(crate) fn answer(
+    is_put: bool,
     refused: u16,
     streams: &mut Streams<'_>,
     words: &mut Words<'_>,
     out: &mut String,
 ) -> Result<(), Wrong> {
-    let name = words.word();
-    answer(
-        name,
-        &mut Case {
-            alloc: words.alloc,
-            refused,
-            is_put: false,
-            word: "",
-            streams,
-            out,
-        },
-    )
-}
-
-/// Writes a value of the type that the next word names in the Borsh form.
-pub(crate) fn put(
-    refused: u16,
-    streams: &mut Streams<'_>,
-    words: &mut Words<'_>,
-    out: &mut String,
-) -> Result<(), Wrong> {
-    let name = words.word();
-    answer(
-        name,
-        &mut Case {
-            alloc: words.alloc,
-            refused,
-            is_put: true,
-            word: words.word(),
-            streams,
-            out,
-        },
-    )
-}
-
-fn answer(name: &str, case: &mut Case<'_, '_>) -> Result<(), Wrong> {
+    let name = words.word()?;
+    let value = if is_put { Some(words.word()?) } else { None };
+    words.end()?;
+    let case = &mut Case {
+        alloc: words.alloc,
+        refused,
+        value,
+        streams,
+        out,
+    };
     if name.contains(">;") {
         return nested(name, case);
     }
     match name.split_once('<') {
-        Some(("ArrayVec", _)) => array(name, case),
-        Some(("TinyVec", _)) => tiny(name, case),
-        Some(_) => text(name, case),
+        Some((kind, held)) => list(kind, held, case),
         None => number(name, case),
     }
 }
@@ -86,15 +57,15 @@ fn number(name: &str, case: &mut Case<'_, '_>) -> Result<(), Wrong> {
         "i64" => of_number::<i64>(case),
         "u128" => of_number::<u128>(case),
         "i128" => of_number::<i128>(case),
-        _ => Err(Wrong::Value),
+        _ => Err(Wrong::Vector),
     }
 }
 
 // A function of a text of every N can't prove that a `Result` of one is small enough to be a value.
 macro_rules! of_text {
     ($text:ty, $case:ident) => {{
-        if $case.is_put {
-            let text = Words::new($case.alloc, $case.word).text()?;
+        if let Some(word) = $case.value {
+            let text = Words::new($case.alloc, word).text()?;
             let made: Result<$text, AllocError> = InlineText::from_str($case.alloc, text.as_str());
             return write_text(made, $case);
         }
@@ -113,52 +84,53 @@ fn text_in_four(case: &mut Case<'_, '_>) -> Result<(), Wrong> {
     of_text!(InlineText<4>, case)
 }
 
-fn text(name: &str, case: &mut Case<'_, '_>) -> Result<(), Wrong> {
-    match name {
-        "InlineText<0>" => text_in_none(case),
-        "InlineText<4>" => text_in_four(case),
-        _ => Err(Wrong::Value),
+// Calls a function for an array of this many items, if it is one of the numbers.
+macro_rules! sized {
+    ($answer:ident, $item:ty, $count:ident, $case:ident, $($n:literal)*) => {
+        match $count {
+            $($n => $answer::<[$item; $n]>($case),)*
+            _ => Err(Wrong::Vector),
+        }
+    };
+}
+
+fn list(kind: &str, held: &str, case: &mut Case<'_, '_>) -> Result<(), Wrong> {
+    if kind == "InlineText" {
+        return match held {
+            "0>" => text_in_none(case),
+            "4>" => text_in_four(case),
+            _ => Err(Wrong::Vector),
+        };
+    }
+    let (item, count) = held.split_once(';').ok_or(Wrong::Vector)?;
+    let count = count.strip_suffix("]>").unwrap_or("");
+    let count = count.parse::<usize>().map_err(|_| Wrong::Vector)?;
+    match kind {
+        "ArrayVec" => array(item, count, case),
+        "TinyVec" => tiny(item, count, case),
+        _ => Err(Wrong::Vector),
     }
 }
 
-fn array(name: &str, case: &mut Case<'_, '_>) -> Result<(), Wrong> {
-    match name {
-        "ArrayVec<[u8;0]>" => in_array::<[u8; 0]>(case),
-        "ArrayVec<[u8;1]>" => in_array::<[u8; 1]>(case),
-        "ArrayVec<[u8;2]>" => in_array::<[u8; 2]>(case),
-        "ArrayVec<[u8;4]>" => in_array::<[u8; 4]>(case),
-        "ArrayVec<[u8;64]>" => in_array::<[u8; 64]>(case),
-        "ArrayVec<[u8;5000]>" => in_array::<[u8; 5000]>(case),
-        "ArrayVec<[u8;65536]>" => in_array::<[u8; 65536]>(case),
-        "ArrayVec<[i8;65]>" => in_array::<[i8; 65]>(case),
-        "ArrayVec<[i16;2]>" => in_array::<[i16; 2]>(case),
-        "ArrayVec<[i16;129]>" => in_array::<[i16; 129]>(case),
-        "ArrayVec<[i32;0]>" => in_array::<[i32; 0]>(case),
-        "ArrayVec<[i32;4]>" => in_array::<[i32; 4]>(case),
-        "ArrayVec<[u32;64]>" => in_array::<[u32; 64]>(case),
-        "ArrayVec<[u32;65]>" => in_array::<[u32; 65]>(case),
-        _ => Err(Wrong::Value),
+fn array(item: &str, count: usize, case: &mut Case<'_, '_>) -> Result<(), Wrong> {
+    match item {
+        "[u8" => sized!(in_array, u8, count, case, 0 1 2 4 64 5000 65536),
+        "[i8" => sized!(in_array, i8, count, case, 65),
+        "[i16" => sized!(in_array, i16, count, case, 2 129),
+        "[i32" => sized!(in_array, i32, count, case, 0 4),
+        "[u32" => sized!(in_array, u32, count, case, 64 65),
+        _ => Err(Wrong::Vector),
     }
 }
 
-fn tiny(name: &str, case: &mut Case<'_, '_>) -> Result<(), Wrong> {
-    match name {
-        "TinyVec<[u8;0]>" => in_tiny::<[u8; 0]>(case),
-        "TinyVec<[u8;1]>" => in_tiny::<[u8; 1]>(case),
-        "TinyVec<[u8;2]>" => in_tiny::<[u8; 2]>(case),
-        "TinyVec<[u8;3]>" => in_tiny::<[u8; 3]>(case),
-        "TinyVec<[u8;4]>" => in_tiny::<[u8; 4]>(case),
-        "TinyVec<[u8;64]>" => in_tiny::<[u8; 64]>(case),
-        "TinyVec<[u8;1100]>" => in_tiny::<[u8; 1100]>(case),
-        "TinyVec<[i16;4]>" => in_tiny::<[i16; 4]>(case),
-        "TinyVec<[i32;0]>" => in_tiny::<[i32; 0]>(case),
-        "TinyVec<[i32;1]>" => in_tiny::<[i32; 1]>(case),
-        "TinyVec<[i32;4]>" => in_tiny::<[i32; 4]>(case),
-        "TinyVec<[u32;2]>" => in_tiny::<[u32; 2]>(case),
-        "TinyVec<[u32;4]>" => in_tiny::<[u32; 4]>(case),
-        "TinyVec<[i128;4]>" => in_tiny::<[i128; 4]>(case),
-        "TinyVec<[i128;33]>" => in_tiny::<[i128; 33]>(case),
-        _ => Err(Wrong::Value),
+fn tiny(item: &str, count: usize, case: &mut Case<'_, '_>) -> Result<(), Wrong> {
+    match item {
+        "[u8" => sized!(in_tiny, u8, count, case, 0 1 2 3 4 64 1100),
+        "[i16" => sized!(in_tiny, i16, count, case, 4),
+        "[i32" => sized!(in_tiny, i32, count, case, 0 1 4),
+        "[u32" => sized!(in_tiny, u32, count, case, 2 4),
+        "[i128" => sized!(in_tiny, i128, count, case, 4 33),
+        _ => Err(Wrong::Vector),
     }
 }
 
@@ -181,20 +153,20 @@ fn nested(name: &str, case: &mut Case<'_, '_>) -> Result<(), Wrong> {
             [u8; 65536],
             [ArrayVec<[u8; 65536]>; 1],
         >(case),
-        _ => Err(Wrong::Value),
+        _ => Err(Wrong::Vector),
     }
 }
 
 fn nested_in_array<B: Array<Item = u8>, A: Array<Item = ArrayVec<B>>>(
     case: &mut Case<'_, '_>,
 ) -> Result<(), Wrong> {
-    of_array::<A>(lists(case.alloc, case.word)?, case)
+    of_array::<A>(lists(case)?, case)
 }
 
 fn nested_in_tiny<B: Array<Item = u8>, A: Array<Item = ArrayVec<B>>>(
     case: &mut Case<'_, '_>,
 ) -> Result<(), Wrong> {
-    of_tiny::<A>(lists(case.alloc, case.word)?, case)
+    of_tiny::<A>(lists(case)?, case)
 }
 
 fn in_array<A: Array>(case: &mut Case<'_, '_>) -> Result<(), Wrong>
@@ -202,7 +174,7 @@ where
     A::Item: BorshSerialize + BorshDeserialize + FromStr + Display,
     <A::Item as FromStr>::Err: Drop,
 {
-    of_array::<A>(numbers(case.alloc, case.word)?, case)
+    of_array::<A>(numbers(case)?, case)
 }
 
 fn in_tiny<A: Array>(case: &mut Case<'_, '_>) -> Result<(), Wrong>
@@ -210,17 +182,17 @@ where
     A::Item: BorshSerialize + BorshDeserialize + FromStr + Display,
     <A::Item as FromStr>::Err: Drop,
 {
-    of_tiny::<A>(numbers(case.alloc, case.word)?, case)
+    of_tiny::<A>(numbers(case)?, case)
 }
 
-fn of_number<T: BorshSerialize + BorshDeserialize + FromStr + Default + Display + Drop>(
+fn of_number<T: BorshSerialize + BorshDeserialize + FromStr + Display + Drop>(
     case: &mut Case<'_, '_>,
 ) -> Result<(), Wrong>
 where
     T::Err: Drop,
 {
-    if case.is_put {
-        return write_value(case, &parsed::<T>(case.word));
+    if let Some(word) = case.value {
+        return write_value(case, &parsed::<T>(word)?);
     }
     match read_value::<T>(case.alloc, case.refused, case.streams) {
         Ok(value) => write!(case.out, "{value}")?,
@@ -233,10 +205,8 @@ fn of_array<A: Array>(items: Vec<A::Item>, case: &mut Case<'_, '_>) -> Result<()
 where
     A::Item: BorshSerialize + BorshDeserialize + Display,
 {
-    if case.is_put {
-        let mut v = ArrayVec::<A>::new();
-        let _rest = v.fill(items);
-        return write_value(case, &v);
+    if case.value.is_some() {
+        return write_value(case, &array_vec_of::<A>(items)?);
     }
     match read_value::<ArrayVec<A>>(case.alloc, case.refused, case.streams) {
         Ok(v) => write_items(case.out, v.as_slice())?,
@@ -250,7 +220,7 @@ fn of_tiny<A: Array>(items: Vec<A::Item>, case: &mut Case<'_, '_>) -> Result<(),
 where
     A::Item: BorshSerialize + BorshDeserialize + Display,
 {
-    if case.is_put {
+    if case.value.is_some() {
         let mut v = TinyVec::<A>::new(case.alloc);
         for item in items {
             if v.push(item).is_err() {
@@ -316,44 +286,58 @@ fn write_value<T: BorshSerialize>(case: &mut Case<'_, '_>, value: &T) -> Result<
     Ok(())
 }
 
-fn parsed<T: FromStr + Default + Drop>(word: &str) -> T
+// The vector of these items, which find room.
+fn array_vec_of<A: Array>(items: Vec<A::Item>) -> Result<ArrayVec<A>, Wrong> {
+    ArrayVec::from_iter(items).map_err(|_| Wrong::Place)
+}
+
+fn parsed<T: FromStr + Drop>(word: &str) -> Result<T, Wrong>
 where
     T::Err: Drop,
 {
-    word.parse::<T>().unwrap_or_default()
+    word.parse::<T>().map_err(|_| Wrong::Value)
 }
 
-// The numbers of a word as `[1,2]`.
-fn numbers<T: FromStr + Default + Drop>(alloc: Global, word: &str) -> Result<Vec<T>, AllocError>
+// The numbers of a word as `[1,2]`, or none of a value that is read.
+fn numbers<T: FromStr + Drop>(case: &Case<'_, '_>) -> Result<Vec<T>, Wrong>
+where
+    T::Err: Drop,
+{
+    match case.value {
+        Some(word) => numbers_of(case.alloc, inside(word)?),
+        None => Ok(Vec::new(case.alloc)),
+    }
+}
+
+fn numbers_of<T: FromStr + Drop>(alloc: Global, text: &str) -> Result<Vec<T>, Wrong>
 where
     T::Err: Drop,
 {
     let mut items = Vec::new(alloc);
-    for part in inner(word).split(',') {
-        if !part.is_empty() {
-            items.push(parsed::<T>(part))?;
+    if !text.is_empty() {
+        for part in text.split(',') {
+            items.push(parsed::<T>(part)?)?;
         }
     }
     Ok(items)
 }
 
-// The lists of a word as `[[1];[]]`.
-fn lists<A: Array<Item = u8>>(alloc: Global, word: &str) -> Result<Vec<ArrayVec<A>>, AllocError> {
-    let mut items = Vec::new(alloc);
-    for part in inner(word).split(';') {
-        if !part.is_empty() {
-            let mut list = ArrayVec::new();
-            let _rest = list.fill(numbers::<u8>(alloc, part)?);
-            items.push(list)?;
+// The lists of a word as `[[1];[]]`, or none of a value that is read.
+fn lists<A: Array<Item = u8>>(case: &Case<'_, '_>) -> Result<Vec<ArrayVec<A>>, Wrong> {
+    let mut items = Vec::new(case.alloc);
+    let text = inside(case.value.unwrap_or("[]"))?;
+    if !text.is_empty() {
+        for part in text.split(';') {
+            items.push(array_vec_of(numbers_of::<u8>(case.alloc, inside(part)?)?)?)?;
         }
     }
     Ok(items)
 }
 
 // What is in the brackets around a word.
-fn inner(word: &str) -> &str {
-    let word = word.strip_prefix('[').unwrap_or(word);
-    word.strip_suffix(']').unwrap_or(word)
+fn inside(word: &str) -> Result<&str, Wrong> {
+    let word = word.strip_prefix('[').ok_or(Wrong::Value)?;
+    word.strip_suffix(']').ok_or(Wrong::Value)
 }
 
 fn write_items<T: Display>(out: &mut String, items: &[T]) -> Result<(), Wrong> {
