@@ -12,7 +12,7 @@ use tinyvec_rows::call::{
     Call, Cut, Drained, Extend, Filter, Lend, Make, Pair, Put, Ranged, Slots,
 };
 use tinyvec_rows::{
-    Item, Read, Span, Step, Wrong, done, has_at_most, is_within, say, say_and_set, say_list,
+    Item, Read, Said, Span, Step, Wrong, done, has_at_most, is_within, say, say_and_set, say_list,
     say_rest, say_slots, say_word,
 };
 
@@ -43,16 +43,11 @@ impl<T: Item, A: Array<Item = T>> Vector for ArrayVec<A> {
         self.as_slice()
     }
 
-    fn say_state(&self, out: &mut String) -> Result<(), Wrong> {
+    fn say_state(&self, out: &mut String) -> Said {
         say_slots(out, self.as_slice(), self.grab_spare_slice())
     }
 
-    fn call(
-        &mut self,
-        other: &mut ArrayVec<A>,
-        call: Call<T>,
-        out: &mut String,
-    ) -> Result<(), Wrong> {
+    fn call(&mut self, other: &mut ArrayVec<A>, call: Call<T>, out: &mut String) -> Said {
         match call {
             Call::Cut(cut) => take_out(self, cut, out),
             Call::Lend(lend) => lend_slots!(self, lend, out),
@@ -73,7 +68,7 @@ impl<T: Item, A: Array<Item = T>> Vector for ArrayVec<A> {
         f: F,
         steps: &[Step],
         out: &mut String,
-    ) -> Result<(), Wrong> {
+    ) -> Said {
         if !is_within(range, self.len()) {
             return Err(Wrong::Place);
         }
@@ -81,21 +76,13 @@ impl<T: Item, A: Array<Item = T>> Vector for ArrayVec<A> {
     }
 }
 
-fn take_out<T: Item, A: Array<Item = T>>(
-    v: &mut ArrayVec<A>,
-    cut: Cut,
-    out: &mut String,
-) -> Result<(), Wrong> {
+fn take_out<T: Item, A: Array<Item = T>>(v: &mut ArrayVec<A>, cut: Cut, out: &mut String) -> Said {
     cut!(v, cut, out,
         Cut::PopAt(i) => say(out, &v.pop_at(i)),
     )
 }
 
-fn put_in<T: Item, A: Array<Item = T>>(
-    v: &mut ArrayVec<A>,
-    put: Put<T>,
-    out: &mut String,
-) -> Result<(), Wrong> {
+fn put_in<T: Item, A: Array<Item = T>>(v: &mut ArrayVec<A>, put: Put<T>, out: &mut String) -> Said {
     put_in_slots!(v, put, out,
         Put::TryPush(x) => say(out, &v.try_push(x)),
         Put::TryInsert(i, x) if i <= v.len() => say(out, &v.try_insert(i, x)),
@@ -107,7 +94,7 @@ fn append<T: Item, A: Array<Item = T>>(
     v: &mut ArrayVec<A>,
     extend: Extend<T>,
     out: &mut String,
-) -> Result<(), Wrong> {
+) -> Said {
     extend_slots!(v, extend, out,
         Extend::TryFromSlice(items) => done(out, v.try_extend_from_slice(items.as_slice())),
         Extend::ExactSize(_) => Err(Wrong::Call),
@@ -120,7 +107,7 @@ fn both<T: Item, A: Array<Item = T>>(
     other: &mut ArrayVec<A>,
     pair: Pair,
     out: &mut String,
-) -> Result<(), Wrong> {
+) -> Said {
     match pair {
         Pair::Append if other.len() <= v.remaining_capacity() => Ok(v.append(other)),
         Pair::TryAppend => match v.try_append(other) {
@@ -145,7 +132,7 @@ fn drain_all<T: Item, A: Array<Item = T>>(
     v: &mut ArrayVec<A>,
     drained: Drained,
     out: &mut String,
-) -> Result<(), Wrong> {
+) -> Said {
     let alloc = *out.allocator();
     match drained {
         Drained::IntoIter(steps) => {
@@ -158,10 +145,7 @@ fn drain_all<T: Item, A: Array<Item = T>>(
     }
 }
 
-fn say_drained<T: Item>(
-    drained: Result<Vec<T>, AllocError>,
-    out: &mut String,
-) -> Result<(), Wrong> {
+fn say_drained<T: Item>(drained: Result<Vec<T>, AllocError>, out: &mut String) -> Said {
     match drained {
         Ok(vec) => say_vec(&vec, out),
         Err(error) => say(out, &error),
@@ -169,7 +153,7 @@ fn say_drained<T: Item>(
 }
 
 /// Writes the items that came out, and how much room they have.
-pub fn say_vec<T: Item>(vec: &Vec<T>, out: &mut String) -> Result<(), Wrong> {
+pub fn say_vec<T: Item>(vec: &Vec<T>, out: &mut String) -> Said {
     say_list(out, vec.as_slice())?;
     say(out, &vec.capacity())
 }
@@ -178,7 +162,7 @@ fn remake<T: Item, A: Array<Item = T>>(
     v: &mut ArrayVec<A>,
     make: Make<T>,
     out: &mut String,
-) -> Result<(), Wrong> {
+) -> Said {
     match make {
         Make::TryFromSlice(items) => match ArrayVec::try_from_slice(items.as_slice()) {
             Ok(made) => Ok(*v = made),
@@ -229,14 +213,14 @@ fn of_items<T: Item, A: Array<Item = T>>(
 }
 
 impl<T: Item + Copy, A: Array<Item = T>> Copies for ArrayVec<A> {
-    fn extend_copies(&mut self, items: &[T], _out: &mut String) -> Result<(), Wrong> {
+    fn extend_copies(&mut self, items: &[T], _out: &mut String) -> Said {
         if items.len() > self.remaining_capacity() {
             return Err(Wrong::Place);
         }
         Ok(self.extend_from_slice_copy(items))
     }
 
-    fn replace(&mut self, range: Span, items: &[T], out: &mut String) -> Result<(), Wrong> {
+    fn replace(&mut self, range: Span, items: &[T], out: &mut String) -> Said {
         if !is_within(range, self.len()) {
             return Err(Wrong::Place);
         }
@@ -249,7 +233,7 @@ impl<'a, T: Item, A: Array<Item = T>> Steps for ArrayVecDrain<'a, A> {
 
     ghost Ready = { DrainCanStep };
 
-    fn step(&mut self, step: Step, out: &mut String) -> Result<(), Wrong> {
+    fn step(&mut self, step: Step, out: &mut String) -> Said {
         step_at_ends!(self, step, out,
             Step::Debug => say(out, self),
             _ => Err(Wrong::Value),
@@ -262,7 +246,7 @@ impl<'a, T: Item, A: Array<Item = T>> Steps for ArrayVecSplice<'a, A, Fuse<vec::
 
     ghost Ready = { SpliceCanStep };
 
-    fn step(&mut self, step: Step, out: &mut String) -> Result<(), Wrong> {
+    fn step(&mut self, step: Step, out: &mut String) -> Said {
         step_at_ends!(self, step, out,
             Step::Debug => Ok(write!(out, "{self:?} ")?),
             Step::Touches => say(out, &(*self).touches()),

@@ -5,7 +5,7 @@ use std::fmt::{Display, Write as _};
 use std::str::FromStr;
 use tinyvec::{Array, ArrayVec, TinyVec};
 use tinyvec_borsh::{BorshDeserialize, BorshError, BorshSerialize};
-use tinyvec_rows::{Words, Wrong, window};
+use tinyvec_rows::{Said, Words, Wrong, say_place, window};
 use tinyvec_text::InlineText;
 
 // A value that is written, or read if there is no word of it. The request for memory of that number is refused.
@@ -25,7 +25,7 @@ pub(crate) fn answer(
     streams: &mut Streams<'_>,
     words: &mut Words<'_>,
     out: &mut String,
-) -> Result<(), Wrong> {
+) -> Said {
     let name = words.word()?;
     let value = if is_put { Some(words.word()?) } else { None };
     words.end()?;
@@ -45,7 +45,7 @@ pub(crate) fn answer(
     }
 }
 
-fn number(name: &str, case: &mut Case<'_, '_>) -> Result<(), Wrong> {
+fn number(name: &str, case: &mut Case<'_, '_>) -> Said {
     match name {
         "u8" => of_number::<u8>(case),
         "i8" => of_number::<i8>(case),
@@ -70,17 +70,21 @@ macro_rules! of_text {
             return write_text(made, $case);
         }
         match read_value::<$text>($case.alloc, $case.refused, $case.streams) {
-            Ok(text) => say_text(text.as_str(), text.is_inline(), text.capacity(), $case.out),
+            Ok(text) => {
+                say_place($case.out, text.is_inline(), text.capacity())?;
+                let text = text.as_str();
+                Ok(write!($case.out, "{text:?}")?)
+            }
             Err(error) => Ok(write!($case.out, "{error}")?),
         }
     }};
 }
 
-fn text_in_none(case: &mut Case<'_, '_>) -> Result<(), Wrong> {
+fn text_in_none(case: &mut Case<'_, '_>) -> Said {
     of_text!(InlineText<0>, case)
 }
 
-fn text_in_four(case: &mut Case<'_, '_>) -> Result<(), Wrong> {
+fn text_in_four(case: &mut Case<'_, '_>) -> Said {
     of_text!(InlineText<4>, case)
 }
 
@@ -94,7 +98,7 @@ macro_rules! sized {
     };
 }
 
-fn list(kind: &str, held: &str, case: &mut Case<'_, '_>) -> Result<(), Wrong> {
+fn list(kind: &str, held: &str, case: &mut Case<'_, '_>) -> Said {
     if kind == "InlineText" {
         return match held {
             "0>" => text_in_none(case),
@@ -112,7 +116,7 @@ fn list(kind: &str, held: &str, case: &mut Case<'_, '_>) -> Result<(), Wrong> {
     }
 }
 
-fn array(item: &str, count: usize, case: &mut Case<'_, '_>) -> Result<(), Wrong> {
+fn array(item: &str, count: usize, case: &mut Case<'_, '_>) -> Said {
     match item {
         "[u8" => sized!(in_array, u8, count, case, 0 1 2 4 64 5000 65536),
         "[i8" => sized!(in_array, i8, count, case, 65),
@@ -123,7 +127,7 @@ fn array(item: &str, count: usize, case: &mut Case<'_, '_>) -> Result<(), Wrong>
     }
 }
 
-fn tiny(item: &str, count: usize, case: &mut Case<'_, '_>) -> Result<(), Wrong> {
+fn tiny(item: &str, count: usize, case: &mut Case<'_, '_>) -> Said {
     match item {
         "[u8" => sized!(in_tiny, u8, count, case, 0 1 2 3 4 64 1100),
         "[i16" => sized!(in_tiny, i16, count, case, 4),
@@ -134,42 +138,39 @@ fn tiny(item: &str, count: usize, case: &mut Case<'_, '_>) -> Result<(), Wrong> 
     }
 }
 
+// Calls a function for so many lists, of at most so many bytes each.
+macro_rules! nested {
+    ($answer:ident, $case:ident, $bytes:literal, $lists:literal) => {
+        $answer::<[u8; $bytes], [ArrayVec<[u8; $bytes]>; $lists]>($case)
+    };
+}
+
 // Lists of lists.
-fn nested(name: &str, case: &mut Case<'_, '_>) -> Result<(), Wrong> {
+fn nested(name: &str, case: &mut Case<'_, '_>) -> Said {
     match name {
-        "ArrayVec<[ArrayVec<[u8;1]>;1]>" => nested_in_array::<[u8; 1], [ArrayVec<[u8; 1]>; 1]>(
-            case,
-        ),
-        "ArrayVec<[ArrayVec<[u8;2]>;2]>" => nested_in_array::<[u8; 2], [ArrayVec<[u8; 2]>; 2]>(
-            case,
-        ),
-        "TinyVec<[ArrayVec<[u8;2]>;1]>" => nested_in_tiny::<[u8; 2], [ArrayVec<[u8; 2]>; 1]>(case),
-        "TinyVec<[ArrayVec<[u8;2]>;2]>" => nested_in_tiny::<[u8; 2], [ArrayVec<[u8; 2]>; 2]>(case),
-        "TinyVec<[ArrayVec<[u8;2040]>;3]>" => nested_in_tiny::<
-            [u8; 2040],
-            [ArrayVec<[u8; 2040]>; 3],
-        >(case),
-        "TinyVec<[ArrayVec<[u8;65536]>;1]>" => nested_in_tiny::<
-            [u8; 65536],
-            [ArrayVec<[u8; 65536]>; 1],
-        >(case),
+        "ArrayVec<[ArrayVec<[u8;1]>;1]>" => nested!(nested_in_array, case, 1, 1),
+        "ArrayVec<[ArrayVec<[u8;2]>;2]>" => nested!(nested_in_array, case, 2, 2),
+        "TinyVec<[ArrayVec<[u8;2]>;1]>" => nested!(nested_in_tiny, case, 2, 1),
+        "TinyVec<[ArrayVec<[u8;2]>;2]>" => nested!(nested_in_tiny, case, 2, 2),
+        "TinyVec<[ArrayVec<[u8;2040]>;3]>" => nested!(nested_in_tiny, case, 2040, 3),
+        "TinyVec<[ArrayVec<[u8;65536]>;1]>" => nested!(nested_in_tiny, case, 65536, 1),
         _ => Err(Wrong::Vector),
     }
 }
 
 fn nested_in_array<B: Array<Item = u8>, A: Array<Item = ArrayVec<B>>>(
     case: &mut Case<'_, '_>,
-) -> Result<(), Wrong> {
+) -> Said {
     of_array::<A>(lists(case)?, case)
 }
 
 fn nested_in_tiny<B: Array<Item = u8>, A: Array<Item = ArrayVec<B>>>(
     case: &mut Case<'_, '_>,
-) -> Result<(), Wrong> {
+) -> Said {
     of_tiny::<A>(lists(case)?, case)
 }
 
-fn in_array<A: Array>(case: &mut Case<'_, '_>) -> Result<(), Wrong>
+fn in_array<A: Array>(case: &mut Case<'_, '_>) -> Said
 where
     A::Item: BorshSerialize + BorshDeserialize + FromStr + Display,
     <A::Item as FromStr>::Err: Drop,
@@ -177,7 +178,7 @@ where
     of_array::<A>(numbers(case)?, case)
 }
 
-fn in_tiny<A: Array>(case: &mut Case<'_, '_>) -> Result<(), Wrong>
+fn in_tiny<A: Array>(case: &mut Case<'_, '_>) -> Said
 where
     A::Item: BorshSerialize + BorshDeserialize + FromStr + Display,
     <A::Item as FromStr>::Err: Drop,
@@ -187,7 +188,7 @@ where
 
 fn of_number<T: BorshSerialize + BorshDeserialize + FromStr + Display + Drop>(
     case: &mut Case<'_, '_>,
-) -> Result<(), Wrong>
+) -> Said
 where
     T::Err: Drop,
 {
@@ -201,7 +202,7 @@ where
     Ok(())
 }
 
-fn of_array<A: Array>(items: Vec<A::Item>, case: &mut Case<'_, '_>) -> Result<(), Wrong>
+fn of_array<A: Array>(items: Vec<A::Item>, case: &mut Case<'_, '_>) -> Said
 where
     A::Item: BorshSerialize + BorshDeserialize + Display,
 {
@@ -216,7 +217,7 @@ where
 }
 
 // Of a list that was read the answer has its place and its room too.
-fn of_tiny<A: Array>(items: Vec<A::Item>, case: &mut Case<'_, '_>) -> Result<(), Wrong>
+fn of_tiny<A: Array>(items: Vec<A::Item>, case: &mut Case<'_, '_>) -> Said
 where
     A::Item: BorshSerialize + BorshDeserialize + Display,
 {
@@ -231,12 +232,7 @@ where
     }
     match read_value::<TinyVec<A>>(case.alloc, case.refused, case.streams) {
         Ok(v) => {
-            let room = v.capacity();
-            if v.is_inline() {
-                case.out.push_str("inline ")?;
-            } else {
-                write!(case.out, "heap {room} ")?;
-            }
+            say_place(case.out, v.is_inline(), v.capacity())?;
             write_items(case.out, v.as_slice())?;
         }
         Err(error) => write!(case.out, "{error}")?,
@@ -247,21 +243,11 @@ where
 fn write_text<T: BorshSerialize + Drop, E: Drop>(
     text: Result<T, E>,
     case: &mut Case<'_, '_>,
-) -> Result<(), Wrong> {
+) -> Said {
     match text {
         Ok(text) => write_value(case, &text),
         Err(_) => Err(Wrong::Memory),
     }
-}
-
-// Of a text that was read the answer has its place and its room too.
-fn say_text(text: &str, is_inline: bool, room: usize, out: &mut String) -> Result<(), Wrong> {
-    if is_inline {
-        out.push_str("inline ")?;
-    } else {
-        write!(out, "heap {room} ")?;
-    }
-    Ok(write!(out, "{text:?}")?)
 }
 
 fn read_value<T: BorshDeserialize>(
@@ -275,7 +261,7 @@ fn read_value<T: BorshDeserialize>(
     value
 }
 
-fn write_value<T: BorshSerialize>(case: &mut Case<'_, '_>, value: &T) -> Result<(), Wrong> {
+fn write_value<T: BorshSerialize>(case: &mut Case<'_, '_>, value: &T) -> Said {
     window::open(case.alloc, case.refused);
     let written = value.serialize(&mut case.streams.writer);
     window::close(case.alloc);
@@ -340,7 +326,7 @@ fn inside(word: &str) -> Result<&str, Wrong> {
     word.strip_suffix(']').ok_or(Wrong::Value)
 }
 
-fn write_items<T: Display>(out: &mut String, items: &[T]) -> Result<(), Wrong> {
+fn write_items<T: Display>(out: &mut String, items: &[T]) -> Said {
     out.push('[')?;
     for item in items {
         write!(out, "{item}, ")?;

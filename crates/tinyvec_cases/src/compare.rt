@@ -4,10 +4,10 @@ use std::fmt;
 use std::fmt::Write;
 use std::hash::{DefaultHasher, Hash, Hasher};
 use tinyvec_rows::call::Form;
-use tinyvec_rows::{Quoted, Words, Wrong, say, say_word};
+use tinyvec_rows::{Quoted, Said, Words, Wrong, say, say_word};
 
 /// Writes how two lists compare, either way round.
-pub fn say_orders<V: PartialOrd>(v: &V, w: &V, out: &mut String) -> Result<(), Wrong> {
+pub fn say_orders<V: PartialOrd>(v: &V, w: &V, out: &mut String) -> Said {
     say(out, &v.partial_cmp(w))?;
     say(out, &w.partial_cmp(v))?;
     if !operators_agree(v, w) || !operators_agree(w, v) {
@@ -27,12 +27,7 @@ pub fn operators_agree<V: PartialOrd>(v: &V, w: &V) -> bool {
 }
 
 /// The same, and whether the hashes are equal. `list` is that of the first.
-pub fn say_compared<V: Ord + Hash, T: Hash>(
-    v: &V,
-    w: &V,
-    list: &[T],
-    out: &mut String,
-) -> Result<(), Wrong> {
+pub fn say_compared<V: Ord + Hash, T: Hash>(v: &V, w: &V, list: &[T], out: &mut String) -> Said {
     say_orders(v, w, out)?;
     say(out, &(hash_of(v) == hash_of(w)))?;
     if Some(v.cmp(w)) != v.partial_cmp(w) || Some(w.cmp(v)) != w.partial_cmp(v) {
@@ -56,7 +51,7 @@ pub fn answer<V: PartialOrd + fmt::Display + fmt::Debug>(
     w: &V,
     call: &str,
     out: &mut String,
-) -> Result<(), Wrong> {
+) -> Said {
     let mut words = Words::new(*out.allocator(), call);
     let name = words.word()?;
     let form = match name {
@@ -72,11 +67,7 @@ pub fn answer<V: PartialOrd + fmt::Display + fmt::Debug>(
 }
 
 // Writes the text of a list by `{}`, `{:?}`, `{:#?}` or `{:4}`, in quotes.
-fn say_plain<V: fmt::Display + fmt::Debug>(
-    v: &V,
-    form: Form,
-    out: &mut String,
-) -> Result<(), Wrong> {
+fn say_plain<V: fmt::Display + fmt::Debug>(v: &V, form: Form, out: &mut String) -> Said {
     out.push('"')?;
     let mut text = Quoted(&mut *out);
     match form {
@@ -99,7 +90,7 @@ pub fn say_shown<V: fmt::Display + fmt::Debug + InBases>(
     v: &V,
     form: Form,
     out: &mut String,
-) -> Result<(), Wrong> {
+) -> Said {
     match form {
         Form::LowerHex | Form::UpperHex | Form::Octal | Form::Binary => {
             let based = Based(v, form);

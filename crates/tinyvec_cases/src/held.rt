@@ -7,12 +7,12 @@ use std::io::Write as _;
 use std::{fmt, io};
 use tinyvec::{Array, ArrayVec, SliceVec, TinyVec};
 use tinyvec_rows::call::{Held, Writing};
-use tinyvec_rows::{Item, Span, Wrong, done, say};
+use tinyvec_rows::{Item, Said, Span, Wrong, done, say};
 
 /// What a vector holds.
 pub trait HeldBy<V>: Item {
     /// Makes a call that only vectors of such items have.
-    fn call(_v: &mut V, _other: &mut V, _held: Held<Self>, _out: &mut String) -> Result<(), Wrong> {
+    fn call(_v: &mut V, _other: &mut V, _held: Held<Self>, _out: &mut String) -> Said {
         Err(Wrong::Call)
     }
 }
@@ -22,14 +22,14 @@ impl<V> HeldBy<V> for () {}
 impl<V> HeldBy<V> for Option<Box<i32>> {}
 
 impl<V: Copies<Item = i32> + Ord + Hash + fmt::Display + fmt::Debug + InBases> HeldBy<V> for i32 {
-    fn call(v: &mut V, other: &mut V, held: Held<i32>, out: &mut String) -> Result<(), Wrong> {
+    fn call(v: &mut V, other: &mut V, held: Held<i32>, out: &mut String) -> Said {
         numbers(v, other, held, out)
     }
 }
 
 impl<V: Copies<Item = u8> + Ord + Hash + fmt::Display + fmt::Debug + InBases + Writes> HeldBy<V>
     for u8 {
-    fn call(v: &mut V, other: &mut V, held: Held<u8>, out: &mut String) -> Result<(), Wrong> {
+    fn call(v: &mut V, other: &mut V, held: Held<u8>, out: &mut String) -> Said {
         match held {
             Held::Write(writing) => v.write(writing, out),
             held => numbers(v, other, held, out),
@@ -42,7 +42,7 @@ fn numbers<V: Copies + Ord + Hash + fmt::Display + fmt::Debug + InBases>(
     other: &mut V,
     held: Held<V::Item>,
     out: &mut String,
-) -> Result<(), Wrong>
+) -> Said
 where
     V::Item: Hash,
 {
@@ -58,39 +58,34 @@ where
 /// A vector whose items are copied.
 pub trait Copies: Vector {
     /// Makes the call `extend_from_slice_copy`.
-    fn extend_copies(&mut self, _items: &[Self::Item], _out: &mut String) -> Result<(), Wrong> {
+    fn extend_copies(&mut self, _items: &[Self::Item], _out: &mut String) -> Said {
         Err(Wrong::Call)
     }
 
     /// Makes the call `replace_range`.
-    fn replace(
-        &mut self,
-        _range: Span,
-        _items: &[Self::Item],
-        _out: &mut String,
-    ) -> Result<(), Wrong> {
+    fn replace(&mut self, _range: Span, _items: &[Self::Item], _out: &mut String) -> Said {
         Err(Wrong::Call)
     }
 }
 
 /// A vector of bytes that texts or bytes are written to.
 pub trait Writes {
-    fn write(&mut self, writing: Writing, out: &mut String) -> Result<(), Wrong>;
+    fn write(&mut self, writing: Writing, out: &mut String) -> Said;
 }
 
 impl<A: Array<Item = u8>> Writes for ArrayVec<A> {
-    fn write(&mut self, writing: Writing, out: &mut String) -> Result<(), Wrong> {
+    fn write(&mut self, writing: Writing, out: &mut String) -> Said {
         write_text(self, writing, out)
     }
 }
 
 impl<'s> Writes for SliceVec<'s, u8> {
-    fn write(&mut self, writing: Writing, out: &mut String) -> Result<(), Wrong> {
+    fn write(&mut self, writing: Writing, out: &mut String) -> Said {
         write_text(self, writing, out)
     }
 }
 
-fn write_text<V: fmt::Write>(v: &mut V, writing: Writing, out: &mut String) -> Result<(), Wrong> {
+fn write_text<V: fmt::Write>(v: &mut V, writing: Writing, out: &mut String) -> Said {
     match writing {
         Writing::Text(text) => done(out, v.write_str(text.as_str())),
         Writing::Letter(letter) => done(out, v.write_char(letter)),
@@ -100,7 +95,7 @@ fn write_text<V: fmt::Write>(v: &mut V, writing: Writing, out: &mut String) -> R
 }
 
 impl<A: Array<Item = u8>> Writes for TinyVec<A> {
-    fn write(&mut self, writing: Writing, out: &mut String) -> Result<(), Wrong> {
+    fn write(&mut self, writing: Writing, out: &mut String) -> Said {
         let written = match writing {
             Writing::Bytes(bytes) => match io::Write::write(self, bytes.as_slice()) {
                 Ok(count) => return say(out, &count),

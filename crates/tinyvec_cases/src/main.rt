@@ -19,7 +19,7 @@ mod vector;
 
 use std::io;
 use std::io::{BufRead, BufReader};
-use tinyvec_rows::{Words, Wrong};
+use tinyvec_rows::{Said, Words};
 use vector::Calls;
 
 fn main(rt: HostRuntime) -> io::Result<()> {
@@ -36,7 +36,7 @@ fn main(rt: HostRuntime) -> io::Result<()> {
 }
 
 // What a line is answered: a kind and a start, and after each tab a call.
-fn answer(line: &str, out: &mut String) -> Result<(), Wrong> {
+fn answer(line: &str, out: &mut String) -> Said {
     let (start, text) = line.split_once('\t').unwrap_or((line, ""));
     let mut words = Words::new(*out.allocator(), start);
     let kind = words.word()?;

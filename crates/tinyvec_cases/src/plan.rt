@@ -1,7 +1,7 @@
 //! What the calls of a reader and a writer do, as a case says.
 use std::alloc::Global;
 use std::io::ErrorKind;
-use tinyvec_rows::{Words, Wrong, index_of};
+use tinyvec_rows::{Said, Words, Wrong, index_of};
 
 /// What calls do: move at most so many bytes in all, or fail so many times. A call that may move none moves none.
 #[derive(Clone, Copy)]
@@ -42,7 +42,7 @@ impl Plan {
         Ok(plan)
     }
 
-    fn push(&mut self, is_read: bool, step: Step) -> Result<(), Wrong> {
+    fn push(&mut self, is_read: bool, step: Step) -> Said {
         if is_read {
             return Ok(self.reads.push(step)?);
         }
@@ -50,7 +50,7 @@ impl Plan {
     }
 
     // Appends the bytes of a word to the input, as often as a number after a `*` says.
-    fn push_bytes(&mut self, alloc: Global, word: &str) -> Result<(), Wrong> {
+    fn push_bytes(&mut self, alloc: Global, word: &str) -> Said {
         let before = self.input.len();
         let (bytes, times) = word.split_once('*').unwrap_or((word, "1"));
         if bytes != "-" {

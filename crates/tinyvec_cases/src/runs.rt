@@ -3,19 +3,14 @@ ghost use Rattle.std.specs.Prelude.{◌≤◌, IfOk, IfSome};
 
 use crate::array;
 use crate::vector::Calls;
-use std::fmt::Write as _;
 use tinyvec::{Array, ArrayVec, SliceVec, TinyVec};
-use tinyvec_rows::{Words, Wrong, say, say_slots, window};
+use tinyvec_rows::{Said, Words, Wrong, say, say_place, say_slots, window};
 use tinyvec_script::{
     Call, End, drive_array_splice, drive_tiny_splice, run_array, run_slice, run_tiny,
 };
 
 /// Answers the calls of a row: `run` and calls, or `drive` and a splice, of the vector that `kind` names.
-pub(crate) fn answer(
-    kind: &str,
-    words: &mut Words<'_>,
-    calls: &mut Calls<'_>,
-) -> Result<(), Wrong> {
+pub(crate) fn answer(kind: &str, words: &mut Words<'_>, calls: &mut Calls<'_>) -> Said {
     match kind {
         "Run<ArrayVec<[i32;4]>>" => in_array::<[i32; 4]>(words, calls),
         "Run<SliceVec<i32>>" => over_slice(words, calls),
@@ -25,10 +20,7 @@ pub(crate) fn answer(
     }
 }
 
-fn in_array<A: Array<Item = i32>>(
-    words: &mut Words<'_>,
-    calls: &mut Calls<'_>,
-) -> Result<(), Wrong> {
+fn in_array<A: Array<Item = i32>>(words: &mut Words<'_>, calls: &mut Calls<'_>) -> Said {
     let mut v = array::made::<i32, A>(words.slots()?)?;
     words.end()?;
     for call in calls.text.split('\t') {
@@ -39,39 +31,37 @@ fn in_array<A: Array<Item = i32>>(
     Ok(())
 }
 
-fn call_array<A: Array<Item = i32>>(
-    v: &mut ArrayVec<A>,
-    call: &str,
-    out: &mut String,
-) -> Result<(), Wrong> {
-    let alloc = *out.allocator();
-    let (refused, mut words) = window::read(alloc, call)?;
-    if let Some(
-        Driving {
-            start,
-            end,
-            ends,
-            items,
-        },
-    ) = splice(v.len(), &mut words)?
-    {
+// Drives a splice, or runs calls, in a window.
+macro_rules! answer_call {
+    ($v:ident, $call:ident, $out:ident, $drive:ident, $run:ident) => {{
+        let alloc = *$out.allocator();
+        let (refused, mut words) = window::read(alloc, $call)?;
+        if let Some(driving) = splice($v.len(), &mut words)? {
+            let Driving {
+                start,
+                end,
+                ends,
+                items,
+            } = driving;
+            window::open(alloc, refused);
+            let driven = $drive(alloc, $v, start, end, items, ends.as_slice());
+            window::close(alloc);
+            return say($out, &driven);
+        }
+        let calls = read_calls(&mut words)?;
         window::open(alloc, refused);
-        let driven = drive_array_splice(alloc, v, start, end, items, ends.as_slice());
+        let answers = $run(alloc, $v, calls);
         window::close(alloc);
-        return say(out, &driven);
-    }
-    let calls = read_calls(&mut words)?;
-    window::open(alloc, refused);
-    let answers = run_array(alloc, v, calls);
-    window::close(alloc);
-    say(out, &answers)
+        say($out, &answers)
+    }};
+}
+
+fn call_array<A: Array<Item = i32>>(v: &mut ArrayVec<A>, call: &str, out: &mut String) -> Said {
+    answer_call!(v, call, out, drive_array_splice, run_array)
 }
 
 // The vector is made of a list.
-fn in_tiny<A: Array<Item = i32>>(
-    words: &mut Words<'_>,
-    calls: &mut Calls<'_>,
-) -> Result<(), Wrong> {
+fn in_tiny<A: Array<Item = i32>>(words: &mut Words<'_>, calls: &mut Calls<'_>) -> Said {
     let mut v = TinyVec::<A>::from_slice(words.alloc, words.items::<i32>()?.as_slice())?;
     words.end()?;
     for call in calls.text.split('\t') {
@@ -82,45 +72,16 @@ fn in_tiny<A: Array<Item = i32>>(
     Ok(())
 }
 
-fn call_tiny<A: Array<Item = i32>>(
-    v: &mut TinyVec<A>,
-    call: &str,
-    out: &mut String,
-) -> Result<(), Wrong> {
-    let alloc = *out.allocator();
-    let (refused, mut words) = window::read(alloc, call)?;
-    if let Some(
-        Driving {
-            start,
-            end,
-            ends,
-            items,
-        },
-    ) = splice(v.len(), &mut words)?
-    {
-        window::open(alloc, refused);
-        let driven = drive_tiny_splice(alloc, v, start, end, items, ends.as_slice());
-        window::close(alloc);
-        return say(out, &driven);
-    }
-    let calls = read_calls(&mut words)?;
-    window::open(alloc, refused);
-    let answers = run_tiny(alloc, v, calls);
-    window::close(alloc);
-    say(out, &answers)
+fn call_tiny<A: Array<Item = i32>>(v: &mut TinyVec<A>, call: &str, out: &mut String) -> Said {
+    answer_call!(v, call, out, drive_tiny_splice, run_tiny)
 }
 
-fn say_tiny<A: Array<Item = i32>>(v: &TinyVec<A>, out: &mut String) -> Result<(), Wrong> {
-    let room = v.capacity();
-    if v.is_inline() {
-        out.push_str("inline ")?;
-    } else {
-        write!(out, "heap {room} ")?;
-    }
+fn say_tiny<A: Array<Item = i32>>(v: &TinyVec<A>, out: &mut String) -> Said {
+    say_place(out, v.is_inline(), v.capacity())?;
     say(out, &v.as_slice())
 }
 
-fn over_slice(words: &mut Words<'_>, calls: &mut Calls<'_>) -> Result<(), Wrong> {
+fn over_slice(words: &mut Words<'_>, calls: &mut Calls<'_>) -> Said {
     let (alloc, (mut slots, spare)) = (words.alloc, words.slots::<i32>()?);
     words.end()?;
     let len = slots.len();

@@ -6,7 +6,8 @@ use crate::vector::Vector;
 use tinyvec::{GenericSliceVec, GenericSliceVecDrain, Lent, SliceVec};
 use tinyvec_rows::call::{Call, Cut, Extend, Filter, Lend, Pair, Put, Ranged};
 use tinyvec_rows::{
-    Item, Span, Step, Wrong, done, has_at_most, is_within, say, say_and_set, say_list, say_slots,
+    Item, Said, Span, Step, Wrong, done, has_at_most, is_within, say, say_and_set, say_list,
+    say_slots,
 };
 
 impl<'s, T: Item> Vector for SliceVec<'s, T> {
@@ -16,16 +17,11 @@ impl<'s, T: Item> Vector for SliceVec<'s, T> {
         self.as_slice()
     }
 
-    fn say_state(&self, out: &mut String) -> Result<(), Wrong> {
+    fn say_state(&self, out: &mut String) -> Said {
         say_slots(out, self.as_slice(), self.grab_spare_slice())
     }
 
-    fn call(
-        &mut self,
-        other: &mut SliceVec<'s, T>,
-        call: Call<T>,
-        out: &mut String,
-    ) -> Result<(), Wrong> {
+    fn call(&mut self, other: &mut SliceVec<'s, T>, call: Call<T>, out: &mut String) -> Said {
         match call {
             Call::Pair(pair) => both(self, other, pair, out),
             call => one(self, call, out),
@@ -38,7 +34,7 @@ impl<'s, T: Item> Vector for SliceVec<'s, T> {
         f: F,
         steps: &[Step],
         out: &mut String,
-    ) -> Result<(), Wrong> {
+    ) -> Said {
         extract_lent(self, range, f, steps, out)
     }
 }
@@ -48,7 +44,7 @@ fn both<'s, T: Item>(
     other: &mut SliceVec<'s, T>,
     pair: Pair,
     out: &mut String,
-) -> Result<(), Wrong> {
+) -> Said {
     match pair {
         Pair::Append if other.len() <= v.remaining_capacity() => Ok(v.append(other)),
         Pair::SplitOff(at) if at <= v.len() => v.split_off(at).say_state(out),
@@ -62,7 +58,7 @@ fn one<T: Item, B: Lent<Item = T>>(
     v: &mut GenericSliceVec<B>,
     call: Call<T>,
     out: &mut String,
-) -> Result<(), Wrong> {
+) -> Said {
     match call {
         Call::Cut(cut) => take_out(v, cut, out),
         Call::Lend(lend) => lend_slots!(v, lend, out),
@@ -81,7 +77,7 @@ fn take_out<T: Item, B: Lent<Item = T>>(
     v: &mut GenericSliceVec<B>,
     cut: Cut,
     out: &mut String,
-) -> Result<(), Wrong> {
+) -> Said {
     cut!(v, cut, out,
         Cut::PopAt(_) => Err(Wrong::Call),
     )
@@ -91,7 +87,7 @@ fn put_in<T: Item, B: Lent<Item = T>>(
     v: &mut GenericSliceVec<B>,
     put: Put<T>,
     out: &mut String,
-) -> Result<(), Wrong> {
+) -> Said {
     put_in_slots!(v, put, out,
         Put::TryPush(_) | Put::TryInsert(_, _) => Err(Wrong::Call),
         _ => Err(Wrong::Place),
@@ -102,7 +98,7 @@ fn append<T: Item, B: Lent<Item = T>>(
     v: &mut GenericSliceVec<B>,
     extend: Extend<T>,
     out: &mut String,
-) -> Result<(), Wrong> {
+) -> Said {
     extend_slots!(v, extend, out,
         Extend::TryFromSlice(_) | Extend::ExactSize(_) => Err(Wrong::Call),
         _ => Err(Wrong::Place),
@@ -113,7 +109,7 @@ fn drain_part<T: Item, B: Lent<Item = T>>(
     v: &mut GenericSliceVec<B>,
     ranged: Ranged<T>,
     out: &mut String,
-) -> Result<(), Wrong> {
+) -> Said {
     drain!(v, ranged, out,
         Ranged::DrainEach(range, mut given)
             if is_within(range, v.len()) && v.len() <= given.capacity() - given.len() => {
@@ -131,7 +127,7 @@ fn extract_lent<T: Item, B: Lent<Item = T>, F: FnMut(&mut T) -> bool>(
     f: F,
     steps: &[Step],
     out: &mut String,
-) -> Result<(), Wrong>
+) -> Said
     requires { F.IsAlwaysCallable f }
 {
     if !is_within(range, v.len()) {
@@ -147,7 +143,7 @@ impl<'a, T: Item, B: Lent<Item = T>> Steps for GenericSliceVecDrain<'a, B> {
 
     ghost Ready = { DrainCanStep B.Lent };
 
-    fn step(&mut self, step: Step, out: &mut String) -> Result<(), Wrong> {
+    fn step(&mut self, step: Step, out: &mut String) -> Said {
         match step {
             Step::Next => say(out, &self.next()),
             Step::Hint => say(out, &self.size_hint()),

@@ -5,14 +5,14 @@ use crate::{array, compare, tiny, vector};
 use std::fmt;
 use std::hash::Hash;
 use tinyvec::{Array, ArrayVec, SliceVec, TinyVec};
-use tinyvec_rows::{Read, Words, Wrong, say_word};
+use tinyvec_rows::{Read, Said, Words, Wrong, say_word};
 
 type Boxed = Option<Box<i32>>;
 
 type Wide = (u64, u64, u64);
 
 /// Makes the vectors of a row, and answers its calls.
-pub fn answer(kind: &str, words: &mut Words<'_>, calls: &mut Calls<'_>) -> Result<(), Wrong> {
+pub fn answer(kind: &str, words: &mut Words<'_>, calls: &mut Calls<'_>) -> Said {
     let (kind, held) = kind.split_once('<').ok_or(Wrong::Vector)?;
     if kind == "SliceVec" {
         return answer_slice(held, words, calls);
@@ -37,12 +37,7 @@ macro_rules! sized {
     };
 }
 
-fn answer_array(
-    item: &str,
-    count: usize,
-    words: &mut Words<'_>,
-    calls: &mut Calls<'_>,
-) -> Result<(), Wrong> {
+fn answer_array(item: &str, count: usize, words: &mut Words<'_>, calls: &mut Calls<'_>) -> Said {
     match item {
         "[i32" => sized!(of_array, i32, count, words, calls, 0 3 4 8 10 600),
         "[u8" => sized!(of_array, u8, count, words, calls, 10 600),
@@ -56,12 +51,7 @@ fn answer_array(
     }
 }
 
-fn answer_tiny(
-    item: &str,
-    count: usize,
-    words: &mut Words<'_>,
-    calls: &mut Calls<'_>,
-) -> Result<(), Wrong> {
+fn answer_tiny(item: &str, count: usize, words: &mut Words<'_>, calls: &mut Calls<'_>) -> Said {
     match item {
         "[i32" => sized!(of_tiny, i32, count, words, calls, 0 1 2 3 4 10 600),
         "[u8" => sized!(of_tiny, u8, count, words, calls, 4 600),
@@ -75,7 +65,7 @@ fn answer_tiny(
 fn compare_arrays<T: Read + Ord + Hash, A: Array<Item = T>>(
     words: &mut Words<'_>,
     calls: &mut Calls<'_>,
-) -> Result<(), Wrong> {
+) -> Said {
     let (v, w, _) = arrays::<T, A>(words)?;
     if calls.text != "compare" {
         return Err(Wrong::Call);
@@ -86,7 +76,7 @@ fn compare_arrays<T: Read + Ord + Hash, A: Array<Item = T>>(
 fn show_array<T: Read + PartialOrd + fmt::Display + fmt::Debug, A: Array<Item = T>>(
     words: &mut Words<'_>,
     calls: &mut Calls<'_>,
-) -> Result<(), Wrong> {
+) -> Said {
     let (v, w, _) = arrays::<T, A>(words)?;
     compare::answer(&v, &w, calls.text, calls.out)
 }
@@ -94,7 +84,7 @@ fn show_array<T: Read + PartialOrd + fmt::Display + fmt::Debug, A: Array<Item = 
 fn show_tiny<T: Read + PartialOrd + fmt::Display + fmt::Debug, A: Array<Item = T>>(
     words: &mut Words<'_>,
     calls: &mut Calls<'_>,
-) -> Result<(), Wrong> {
+) -> Said {
     let (v, w, _) = tinies::<T, A>(words)?;
     compare::answer(&v, &w, calls.text, calls.out)
 }
@@ -112,23 +102,23 @@ macro_rules! lend {
     }};
 }
 
-fn lend_numbers(words: &mut Words<'_>, calls: &mut Calls<'_>) -> Result<(), Wrong> {
+fn lend_numbers(words: &mut Words<'_>, calls: &mut Calls<'_>) -> Said {
     lend!(i32, words, calls)
 }
 
-fn lend_bytes(words: &mut Words<'_>, calls: &mut Calls<'_>) -> Result<(), Wrong> {
+fn lend_bytes(words: &mut Words<'_>, calls: &mut Calls<'_>) -> Said {
     lend!(u8, words, calls)
 }
 
-fn lend_units(words: &mut Words<'_>, calls: &mut Calls<'_>) -> Result<(), Wrong> {
+fn lend_units(words: &mut Words<'_>, calls: &mut Calls<'_>) -> Said {
     lend!((), words, calls)
 }
 
-fn lend_boxes(words: &mut Words<'_>, calls: &mut Calls<'_>) -> Result<(), Wrong> {
+fn lend_boxes(words: &mut Words<'_>, calls: &mut Calls<'_>) -> Said {
     lend!(Boxed, words, calls)
 }
 
-fn answer_slice(item: &str, words: &mut Words<'_>, calls: &mut Calls<'_>) -> Result<(), Wrong> {
+fn answer_slice(item: &str, words: &mut Words<'_>, calls: &mut Calls<'_>) -> Said {
     match item {
         "i32>" => lend_numbers(words, calls),
         "u8>" => lend_bytes(words, calls),
@@ -139,7 +129,7 @@ fn answer_slice(item: &str, words: &mut Words<'_>, calls: &mut Calls<'_>) -> Res
     }
 }
 
-fn show_slice(words: &mut Words<'_>, calls: &mut Calls<'_>) -> Result<(), Wrong> {
+fn show_slice(words: &mut Words<'_>, calls: &mut Calls<'_>) -> Said {
     let (mut one, len, mut two, other_len, _) = lent::<f64>(words)?;
     let v = SliceVec::from_slice_at_most(one.as_mut_slice(), len);
     let w = SliceVec::from_slice_at_most(two.as_mut_slice(), other_len);
@@ -149,7 +139,7 @@ fn show_slice(words: &mut Words<'_>, calls: &mut Calls<'_>) -> Result<(), Wrong>
 fn of_array<T: HeldBy<ArrayVec<A>>, A: Array<Item = T>>(
     words: &mut Words<'_>,
     calls: &mut Calls<'_>,
-) -> Result<(), Wrong> {
+) -> Said {
     let (mut v, mut other, pair) = arrays::<T, A>(words)?;
     vector::answer(&mut v, &mut other, pair, calls)
 }
@@ -157,7 +147,7 @@ fn of_array<T: HeldBy<ArrayVec<A>>, A: Array<Item = T>>(
 fn of_tiny<T: HeldBy<TinyVec<A>>, A: Array<Item = T>>(
     words: &mut Words<'_>,
     calls: &mut Calls<'_>,
-) -> Result<(), Wrong> {
+) -> Said {
     let (mut v, mut other, pair) = tinies::<T, A>(words)?;
     vector::answer(&mut v, &mut other, pair, calls)
 }

@@ -1,5 +1,5 @@
 //! Steps of the iterators of vectors, which rows name.
-use tinyvec_rows::{Item, Step, Wrong, say, say_list};
+use tinyvec_rows::{Item, Said, Step, Wrong, say, say_list};
 use tinyvec_slots::{CanCut, ExtractIf, OwnedItems, OwnsItems};
 
 /// An iterator that rows step. A splice is not dropped where a step fails.
@@ -8,13 +8,13 @@ pub trait Steps {
     ghost Ready: { Self → Type 0 };
 
     /// Does a step, and writes what it answers.
-    fn step(&mut self, step: Step, out: &mut String) -> Result<(), Wrong>
+    fn step(&mut self, step: Step, out: &mut String) -> Said
         requires { Ready self.old }
         ensures { Ready self.new };
 }
 
 /// Does steps one after the other.
-pub fn stepped<I: Steps>(it: &mut I, steps: &[Step], out: &mut String) -> Result<(), Wrong>
+pub fn stepped<I: Steps>(it: &mut I, steps: &[Step], out: &mut String) -> Said
     requires { I.Ready it.old }
     ensures { I.Ready it.new }
 {
@@ -46,7 +46,7 @@ where
 
     ghost Ready = { λ it. ExtractLies V.items it × F.IsAlwaysCallable (extract_closure it) };
 
-    fn step(&mut self, step: Step, out: &mut String) -> Result<(), Wrong> {
+    fn step(&mut self, step: Step, out: &mut String) -> Said {
         match step {
             Step::Next => say(out, &self.next()),
             Step::Hint => say(out, &self.size_hint()),
@@ -56,11 +56,7 @@ where
 }
 
 /// Does steps at an iterator, and writes what each answers.
-pub fn iterated<V: OwnsItems>(
-    mut it: OwnedItems<V>,
-    steps: &[Step],
-    out: &mut String,
-) -> Result<(), Wrong>
+pub fn iterated<V: OwnsItems>(mut it: OwnedItems<V>, steps: &[Step], out: &mut String) -> Said
 where
     V::Item: Item,
 {
@@ -75,7 +71,7 @@ where
 }
 
 // Writes by `count` how many items are left, if `len` says so too.
-fn say_count<V: OwnsItems>(it: OwnedItems<V>, out: &mut String) -> Result<(), Wrong>
+fn say_count<V: OwnsItems>(it: OwnedItems<V>, out: &mut String) -> Said
 where
     V::Item: Item,
 {
@@ -87,7 +83,7 @@ where
     say(out, &count)
 }
 
-fn iterate<V: OwnsItems>(it: &mut OwnedItems<V>, step: Step, out: &mut String) -> Result<(), Wrong>
+fn iterate<V: OwnsItems>(it: &mut OwnedItems<V>, step: Step, out: &mut String) -> Said
 where
     V::Item: Item,
 {

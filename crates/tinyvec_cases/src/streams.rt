@@ -8,7 +8,7 @@ use std::fmt::{Debug, Write as _};
 use std::io::{Read, Write};
 use std::{io, str};
 use tinyvec_io::Counted;
-use tinyvec_rows::{Words, Wrong, window};
+use tinyvec_rows::{Said, Words, Wrong, window};
 use tinyvec_script::run;
 
 // A call: its letter, how many bytes it was given room for or passed, and how many it moved, or none where it failed.
@@ -56,7 +56,7 @@ impl Trace {
 
     // Writes the calls since the last time, as `r4096:6 w21 f`: a read of 6 bytes into 4096, a write of all of 21, and a
     // flush. A call that failed has a `!`, and one that was made several times in a row a `*` and how often.
-    fn tell_calls(&self, out: &mut String) -> Result<(), Wrong> {
+    fn tell_calls(&self, out: &mut String) -> Said {
         let Ok(mut calls) = self.calls.try_borrow_mut() else {
             return Ok(());
         };
@@ -70,13 +70,13 @@ impl Trace {
         Ok(())
     }
 
-    fn tell_left(&self, out: &mut String) -> Result<(), Wrong> {
+    fn tell_left(&self, out: &mut String) -> Said {
         let left = self.left.get();
         Ok(write!(out, "{left} left")?)
     }
 
     // Writes what was written since the last time: as a text, as digits, or of much how much it is.
-    fn tell_written(&self, out: &mut String, is_text: bool) -> Result<(), Wrong> {
+    fn tell_written(&self, out: &mut String, is_text: bool) -> Said {
         let Ok(mut written) = self.written.try_borrow_mut() else {
             return Ok(());
         };
@@ -91,7 +91,7 @@ impl Trace {
     }
 }
 
-fn tell_call(call: Call, out: &mut String) -> Result<(), Wrong> {
+fn tell_call(call: Call, out: &mut String) -> Said {
     let (name, count, moved) = call;
     write!(out, " {name}")?;
     if name != 'f' {
@@ -167,7 +167,7 @@ pub(crate) struct Streams<'a> {
 
 /// Answers calls, one after the other. After what a call returns are the faults so far, the calls of the reader and the
 /// writer, and what was written, or of a call that reads how many bytes are left.
-pub(crate) fn answer(words: &mut Words<'_>, calls: &mut Calls<'_>) -> Result<(), Wrong> {
+pub(crate) fn answer(words: &mut Words<'_>, calls: &mut Calls<'_>) -> Said {
     let (alloc, plan) = (words.alloc, Plan::read(words)?);
     let trace = Trace::new(alloc)?;
     trace.left.set(plan.input.len());
@@ -190,12 +190,7 @@ pub(crate) fn answer(words: &mut Words<'_>, calls: &mut Calls<'_>) -> Result<(),
     Ok(())
 }
 
-fn answer_call(
-    call: &str,
-    trace: &Trace,
-    streams: &mut Streams<'_>,
-    out: &mut String,
-) -> Result<(), Wrong> {
+fn answer_call(call: &str, trace: &Trace, streams: &mut Streams<'_>, out: &mut String) -> Said {
     let (refused, mut words) = window::read(*out.allocator(), call)?;
     let name = words.word()?;
     make(name, refused, streams, &mut words, out)?;
@@ -208,14 +203,14 @@ fn answer_call(
     }
 }
 
-fn tell_faults(streams: &Streams<'_>, out: &mut String) -> Result<(), Wrong> {
+fn tell_faults(streams: &Streams<'_>, out: &mut String) -> Said {
     let (reads, writes) = (streams.reader.faults(), streams.writer.faults());
     let faults = reads.saturating_add(writes);
     Ok(write!(out, ", {faults} faults /")?)
 }
 
 /// Answers the lines of a script, each of which is a call. The request of the number that the start has is refused.
-pub(crate) fn answer_lines(words: &mut Words<'_>, calls: &mut Calls<'_>) -> Result<(), Wrong> {
+pub(crate) fn answer_lines(words: &mut Words<'_>, calls: &mut Calls<'_>) -> Said {
     let alloc = words.alloc;
     let refused = match words.goes_on("refused")? {
         true => words.item::<u16>()?,
@@ -245,7 +240,7 @@ fn lines_of(alloc: Global, calls: &str) -> Result<Vec<u8>, Wrong> {
     Ok(input)
 }
 
-fn tell_lines(output: &[u8], out: &mut String) -> Result<(), Wrong> {
+fn tell_lines(output: &[u8], out: &mut String) -> Said {
     let text = str::from_utf8(output).unwrap_or("no text");
     for line in text.split('\n') {
         out.push_str(line)?;
@@ -261,7 +256,7 @@ fn make(
     streams: &mut Streams<'_>,
     words: &mut Words<'_>,
     out: &mut String,
-) -> Result<(), Wrong> {
+) -> Said {
     if name == "get" || name == "put" {
         return borsh::answer(name == "put", refused, streams, words, out);
     }
@@ -272,16 +267,12 @@ fn make(
     words.end()?;
     match name {
         "script" => run_script(words.alloc, refused, streams, out),
+        "faults" => count_none(words.alloc, refused, out),
         _ => move_in_window(name, refused, streams, text, out),
     }
 }
 
-fn run_script(
-    alloc: Global,
-    refused: u16,
-    streams: &mut Streams<'_>,
-    out: &mut String,
-) -> Result<(), Wrong> {
+fn run_script(alloc: Global, refused: u16, streams: &mut Streams<'_>, out: &mut String) -> Said {
     window::open(alloc, refused);
     let ended = run(alloc, &mut streams.reader, &mut streams.writer);
     window::close(alloc);
@@ -291,13 +282,24 @@ fn run_script(
     }
 }
 
+// Counts the faults of a reader of which nothing is read, and takes it out again.
+fn count_none(alloc: Global, refused: u16, out: &mut String) -> Said {
+    let input: &[u8] = &[];
+    window::open(alloc, refused);
+    let counted = Counted::new(input);
+    let faults = counted.faults();
+    let input = counted.into_inner();
+    window::close(alloc);
+    Ok(write!(out, "{faults} of {input:?}")?)
+}
+
 fn move_in_window(
     name: &str,
     refused: u16,
     streams: &mut Streams<'_>,
     text: String,
     out: &mut String,
-) -> Result<(), Wrong> {
+) -> Said {
     let alloc = *out.allocator();
     out.reserve(4096)?;
     window::open(alloc, refused);
@@ -306,12 +308,7 @@ fn move_in_window(
     made
 }
 
-fn move_bytes(
-    name: &str,
-    streams: &mut Streams<'_>,
-    bytes: &[u8],
-    out: &mut String,
-) -> Result<(), Wrong> {
+fn move_bytes(name: &str, streams: &mut Streams<'_>, bytes: &[u8], out: &mut String) -> Said {
     let mut buf = [b'.'; 4];
     let read = match name {
         "read" => streams.reader.read(&mut buf),
@@ -329,7 +326,7 @@ fn move_bytes(
 }
 
 // Writes what a call returned.
-fn tell<T: Debug + Drop>(out: &mut String, returned: io::Result<T>) -> Result<(), Wrong> {
+fn tell<T: Debug + Drop>(out: &mut String, returned: io::Result<T>) -> Said {
     match returned {
         Ok(value) => write!(out, "{value:?}")?,
         Err(error) => write!(out, "{error}")?,
@@ -338,7 +335,7 @@ fn tell<T: Debug + Drop>(out: &mut String, returned: io::Result<T>) -> Result<()
 }
 
 /// Writes bytes in hexadecimal.
-fn write_hex(out: &mut String, bytes: &[u8]) -> Result<(), Wrong> {
+fn write_hex(out: &mut String, bytes: &[u8]) -> Said {
     for byte in bytes {
         let (high, low) = (*byte / 16, *byte % 16);
         write!(out, "{high:x}{low:x}")?;

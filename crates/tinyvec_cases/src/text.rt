@@ -9,15 +9,13 @@ use std::fmt::Write;
 use std::mem;
 use std::ops::Bound;
 use tinyvec::{NoMemory, TinyVec};
-use tinyvec_rows::{Quoted, Span, Words, Wrong, done, say, say_slots, say_word, window};
+use tinyvec_rows::{
+    Quoted, Said, Span, Words, Wrong, done, say, say_place, say_slots, say_word, window,
+};
 use tinyvec_text::InlineText;
 
 /// Answers the calls of a row of texts.
-pub(crate) fn answer(
-    kind: &str,
-    words: &mut Words<'_>,
-    calls: &mut Calls<'_>,
-) -> Result<(), Wrong> {
+pub(crate) fn answer(kind: &str, words: &mut Words<'_>, calls: &mut Calls<'_>) -> Said {
     match kind {
         "InlineText<0>" => answer_calls(made::<0>(words)?, words, calls),
         "InlineText<4>" if words.follows("utf8") => answer_calls(decoded(words)?, words, calls),
@@ -31,7 +29,7 @@ fn answer_calls<const N: usize>(
     mut t: InlineText<N>,
     words: &mut Words<'_>,
     calls: &mut Calls<'_>,
-) -> Result<(), Wrong> {
+) -> Said {
     words.end()?;
     let out = &mut *calls.out;
     for call in calls.text.split('\t') {
@@ -64,14 +62,9 @@ fn decoded(words: &mut Words<'_>) -> Result<InlineText<4>, Wrong> {
 }
 
 // Writes the place, on the heap the capacity, and the text.
-fn say_state<const N: usize>(out: &mut String, t: &InlineText<N>) -> Result<(), Wrong> {
-    let (text, room) = (t.as_str(), t.capacity());
-    if t.is_inline() {
-        write!(out, "inline {text:?} ")?;
-    } else {
-        write!(out, "heap {room} {text:?} ")?;
-    }
-    Ok(())
+fn say_state<const N: usize>(out: &mut String, t: &InlineText<N>) -> Said {
+    say_place(out, t.is_inline(), t.capacity())?;
+    say(out, &t.as_str())
 }
 
 // Makes a call, whose requests for memory are in a window, and writes what it returns. A condition is tested first.
@@ -80,7 +73,7 @@ fn answer_call<const N: usize>(
     refused: u16,
     words: &mut Words<'_>,
     out: &mut String,
-) -> Result<(), Wrong> {
+) -> Said {
     let alloc = words.alloc;
     let name = words.word()?;
     if name == "cmp" {
@@ -100,11 +93,7 @@ fn answer_call<const N: usize>(
     answered
 }
 
-fn make<const N: usize>(
-    t: &mut InlineText<N>,
-    call: TextCall,
-    out: &mut String,
-) -> Result<(), Wrong> {
+fn make<const N: usize>(t: &mut InlineText<N>, call: TextCall, out: &mut String) -> Said {
     match call {
         TextCall::Look(call) => look(t, call, out),
         TextCall::Show(call) => show(t, call, out),
@@ -115,9 +104,10 @@ fn make<const N: usize>(
     }
 }
 
-fn look<const N: usize>(t: &InlineText<N>, call: Look, out: &mut String) -> Result<(), Wrong> {
+fn look<const N: usize>(t: &InlineText<N>, call: Look, out: &mut String) -> Said {
     match call {
         Look::Len => say(out, &(t.len(), t.is_empty(), t.capacity())),
+        Look::IsInline => say(out, &t.is_inline()),
         Look::IsCharBoundary(n) => say(out, &t.is_char_boundary(n)),
         Look::AsBytes => say(out, &t.as_bytes()),
         Look::AsSlice => say(out, &AsSlice::as_slice(t)),
@@ -126,7 +116,7 @@ fn look<const N: usize>(t: &InlineText<N>, call: Look, out: &mut String) -> Resu
     }
 }
 
-fn show<const N: usize>(t: &InlineText<N>, call: Show, out: &mut String) -> Result<(), Wrong> {
+fn show<const N: usize>(t: &InlineText<N>, call: Show, out: &mut String) -> Said {
     out.push('"')?;
     match call {
         Show::Plain => write!(Quoted(&mut *out), "{t}")?,
@@ -137,7 +127,7 @@ fn show<const N: usize>(t: &InlineText<N>, call: Show, out: &mut String) -> Resu
     say_word(out, "\"")
 }
 
-fn part<const N: usize>(t: &mut InlineText<N>, call: Part, out: &mut String) -> Result<(), Wrong> {
+fn part<const N: usize>(t: &mut InlineText<N>, call: Part, out: &mut String) -> Said {
     match call {
         Part::Clone => say_made(t.clone(), out),
         Part::SplitOff(n) if t.is_char_boundary(n) => say_made(t.split_off(n), out),
@@ -154,17 +144,14 @@ fn taken<const N: usize>(t: &mut InlineText<N>, out: &String) -> InlineText<N> {
     mem::replace(t, InlineText::new(*out.allocator()))
 }
 
-fn say_made<const N: usize>(
-    made: Result<InlineText<N>, AllocError>,
-    out: &mut String,
-) -> Result<(), Wrong> {
+fn say_made<const N: usize>(made: Result<InlineText<N>, AllocError>, out: &mut String) -> Said {
     match made {
         Ok(text) => say_state(out, &text),
         Err(error) => say(out, &error),
     }
 }
 
-fn say_bytes<const N: usize>(bytes: TinyVec<[u8; N]>, out: &mut String) -> Result<(), Wrong> {
+fn say_bytes<const N: usize>(bytes: TinyVec<[u8; N]>, out: &mut String) -> Said {
     match &bytes {
         TinyVec::Inline(array, _) => {
             say_word(out, "inline")?;
@@ -177,11 +164,7 @@ fn say_bytes<const N: usize>(bytes: TinyVec<[u8; N]>, out: &mut String) -> Resul
     }
 }
 
-fn remake<const N: usize>(
-    t: &mut InlineText<N>,
-    call: Make,
-    out: &mut String,
-) -> Result<(), Wrong> {
+fn remake<const N: usize>(t: &mut InlineText<N>, call: Make, out: &mut String) -> Said {
     let alloc = *out.allocator();
     let made = match call {
         Make::New => Ok(InlineText::new(alloc)),
@@ -199,11 +182,7 @@ fn remake<const N: usize>(
     }
 }
 
-fn append<const N: usize>(
-    t: &mut InlineText<N>,
-    call: Append,
-    out: &mut String,
-) -> Result<(), Wrong> {
+fn append<const N: usize>(t: &mut InlineText<N>, call: Append, out: &mut String) -> Said {
     let room = t.capacity() - t.len();
     match call {
         Append::Push(c) => done(out, t.push(c)),
@@ -219,7 +198,7 @@ fn append<const N: usize>(
     }
 }
 
-fn edit<const N: usize>(t: &mut InlineText<N>, call: Edit, out: &mut String) -> Result<(), Wrong> {
+fn edit<const N: usize>(t: &mut InlineText<N>, call: Edit, out: &mut String) -> Said {
     match call {
         Edit::Pop => say(out, &t.pop()),
         Edit::Clear => Ok(t.clear()),
@@ -235,12 +214,7 @@ fn edit<const N: usize>(t: &mut InlineText<N>, call: Edit, out: &mut String) -> 
 }
 
 // Puts a text in the place of a range, whose ends are tested first.
-fn replace<const N: usize>(
-    t: &mut InlineText<N>,
-    span: Span,
-    s: &str,
-    out: &mut String,
-) -> Result<(), Wrong> {
+fn replace<const N: usize>(t: &mut InlineText<N>, span: Span, s: &str, out: &mut String) -> Said {
     let (start, end) = match span {
         (Bound::Unbounded, Bound::Unbounded) => (0, t.len()),
         (Bound::Included(start), Bound::Unbounded) => (start, t.len()),
@@ -254,7 +228,7 @@ fn replace<const N: usize>(
 }
 
 // Writes the order of two texts, or that not all comparisons agree on it.
-fn say_order<T: Ord>(t: &T, u: &T, out: &mut String) -> Result<(), Wrong> {
+fn say_order<T: Ord>(t: &T, u: &T, out: &mut String) -> Said {
     let order = t.cmp(u);
     let agree = operators_agree(t, u) & operators_agree(u, t);
     if !agree || t.partial_cmp(u) != Some(order) || u.cmp(t) != order.reverse() {

@@ -39,6 +39,7 @@ impl TextCall {
 #[derive(Clone, Copy, Drop)]
 pub(crate) enum Look {
     Len,
+    IsInline,
     IsCharBoundary(usize),
     AsBytes,
     AsSlice,
@@ -50,6 +51,7 @@ impl Look {
     fn read(name: &str, words: &mut Words<'_>) -> Result<Option<Look>, Wrong> {
         Ok(Some(match name {
             "len" => Look::Len,
+            "is_inline" => Look::IsInline,
             "is_char_boundary" => Look::IsCharBoundary(words.index()?),
             "as_bytes" => Look::AsBytes,
             "as_slice" => Look::AsSlice,

@@ -13,7 +13,7 @@ use tinyvec_rows::call::{
     Call, Cut, Drained, Extend, Filter, Lend, Make, Pair, Put, Ranged, Room, Slots,
 };
 use tinyvec_rows::{
-    Item, Read, Span, Step, Wrong, done, is_within, say, say_and_set, say_list, say_rest,
+    Item, Read, Said, Span, Step, Wrong, done, is_within, say, say_and_set, say_list, say_rest,
     say_slots, say_word,
 };
 
@@ -45,7 +45,7 @@ impl<T: Item, A: Array<Item = T>> Vector for TinyVec<A> {
         self.as_slice()
     }
 
-    fn say_state(&self, out: &mut String) -> Result<(), Wrong> {
+    fn say_state(&self, out: &mut String) -> Said {
         match self {
             TinyVec::Inline(array, _) => {
                 say_word(out, "inline")?;
@@ -58,12 +58,7 @@ impl<T: Item, A: Array<Item = T>> Vector for TinyVec<A> {
         }
     }
 
-    fn call(
-        &mut self,
-        other: &mut TinyVec<A>,
-        call: Call<T>,
-        out: &mut String,
-    ) -> Result<(), Wrong> {
+    fn call(&mut self, other: &mut TinyVec<A>, call: Call<T>, out: &mut String) -> Said {
         match call {
             Call::Cut(cut) => take_out(self, cut, out),
             Call::Lend(lend) => look(self, lend, out),
@@ -85,7 +80,7 @@ impl<T: Item, A: Array<Item = T>> Vector for TinyVec<A> {
         f: F,
         steps: &[Step],
         out: &mut String,
-    ) -> Result<(), Wrong> {
+    ) -> Said {
         if !is_within(range, self.len()) {
             return Err(Wrong::Place);
         }
@@ -93,32 +88,20 @@ impl<T: Item, A: Array<Item = T>> Vector for TinyVec<A> {
     }
 }
 
-fn take_out<T: Item, A: Array<Item = T>>(
-    v: &mut TinyVec<A>,
-    cut: Cut,
-    out: &mut String,
-) -> Result<(), Wrong> {
+fn take_out<T: Item, A: Array<Item = T>>(v: &mut TinyVec<A>, cut: Cut, out: &mut String) -> Said {
     cut!(v, cut, out,
         Cut::PopAt(i) => say(out, &v.pop_at(i)),
     )
 }
 
-fn look<T: Item, A: Array<Item = T>>(
-    v: &mut TinyVec<A>,
-    lend: Lend<T>,
-    out: &mut String,
-) -> Result<(), Wrong> {
+fn look<T: Item, A: Array<Item = T>>(v: &mut TinyVec<A>, lend: Lend<T>, out: &mut String) -> Said {
     lend!(v, lend, is_inline, out,
         Lend::Set(_, _) => Err(Wrong::Place),
         Lend::SetLen(_) | Lend::WriteSpare(_) => Err(Wrong::Call),
     )
 }
 
-fn put_in<T: Item, A: Array<Item = T>>(
-    v: &mut TinyVec<A>,
-    put: Put<T>,
-    out: &mut String,
-) -> Result<(), Wrong> {
+fn put_in<T: Item, A: Array<Item = T>>(v: &mut TinyVec<A>, put: Put<T>, out: &mut String) -> Said {
     match put {
         Put::Push(x) => done(out, v.push(x)),
         Put::PushMut(x, y) => say_lent(v.push_mut(x), y, out),
@@ -130,11 +113,7 @@ fn put_in<T: Item, A: Array<Item = T>>(
 }
 
 // Writes to the item that was put in, if there was room for it.
-fn say_lent<T: Item>(
-    lent: Result<&mut T, NoMemory<T>>,
-    x: T,
-    out: &mut String,
-) -> Result<(), Wrong> {
+fn say_lent<T: Item>(lent: Result<&mut T, NoMemory<T>>, x: T, out: &mut String) -> Said {
     match lent {
         Ok(lent) => say_and_set(out, lent, x),
         Err(refused) => say(out, &refused),
@@ -145,7 +124,7 @@ fn append<T: Item, A: Array<Item = T>>(
     v: &mut TinyVec<A>,
     extend: Extend<T>,
     out: &mut String,
-) -> Result<(), Wrong> {
+) -> Said {
     match extend {
         Extend::Extend(items) => match v.extend(items) {
             Ok(()) => Ok(()),
@@ -172,7 +151,7 @@ fn both<T: Item, A: Array<Item = T>>(
     other: &mut TinyVec<A>,
     pair: Pair,
     out: &mut String,
-) -> Result<(), Wrong> {
+) -> Said {
     match pair {
         Pair::Append => done(out, v.append(other)),
         Pair::CloneFrom => done(out, v.clone_from(other)),
@@ -186,7 +165,7 @@ fn both<T: Item, A: Array<Item = T>>(
 fn say_made<T: Item, A: Array<Item = T>>(
     made: Result<TinyVec<A>, AllocError>,
     out: &mut String,
-) -> Result<(), Wrong> {
+) -> Said {
     match made {
         Ok(v) => v.say_state(out),
         Err(error) => say(out, &error),
@@ -197,7 +176,7 @@ fn drain_all<T: Item, A: Array<Item = T>>(
     v: &mut TinyVec<A>,
     drained: Drained,
     out: &mut String,
-) -> Result<(), Wrong> {
+) -> Said {
     let owned = mem::replace(v, TinyVec::new(*out.allocator()));
     match drained {
         Drained::IntoIter(steps) => iterated(owned.into_iter(), steps.as_slice(), out),
@@ -220,7 +199,7 @@ fn with_room<T: Item, A: Array<Item = T>>(
     v: &mut TinyVec<A>,
     room: Room,
     out: &mut String,
-) -> Result<(), Wrong> {
+) -> Said {
     match room {
         Room::Reserve(n) => done(out, v.reserve(n)),
         Room::ReserveExact(n) => done(out, v.reserve_exact(n)),
@@ -235,7 +214,7 @@ fn remake<T: Item, A: Array<Item = T>>(
     v: &mut TinyVec<A>,
     make: Make<T>,
     out: &mut String,
-) -> Result<(), Wrong> {
+) -> Said {
     match made_of(make, out)? {
         Ok(made) => Ok(*v = made),
         Err(error) => say(out, &error),
@@ -285,11 +264,11 @@ fn of_items<T: Item, A: Array<Item = T>>(
 }
 
 impl<T: Item + Copy, A: Array<Item = T>> Copies for TinyVec<A> {
-    fn extend_copies(&mut self, items: &[T], out: &mut String) -> Result<(), Wrong> {
+    fn extend_copies(&mut self, items: &[T], out: &mut String) -> Said {
         done(out, self.extend_from_slice_copy(items))
     }
 
-    fn replace(&mut self, range: Span, items: &[T], out: &mut String) -> Result<(), Wrong> {
+    fn replace(&mut self, range: Span, items: &[T], out: &mut String) -> Said {
         if !is_within(range, self.len()) {
             return Err(Wrong::Place);
         }
@@ -302,7 +281,7 @@ impl<'a, T: Item, A: Array<Item = T>> Steps for TinyVecDrain<'a, A> {
 
     ghost Ready = { DrainCanStep };
 
-    fn step(&mut self, step: Step, out: &mut String) -> Result<(), Wrong> {
+    fn step(&mut self, step: Step, out: &mut String) -> Said {
         step_at_ends!(self, step, out,
             Step::Debug => say(out, self),
             _ => Err(Wrong::Value),
@@ -315,7 +294,7 @@ impl<'a, T: Item, A: Array<Item = T>> Steps for TinyVecSplice<'a, A, Fuse<vec::I
 
     ghost Ready = { SpliceCanStep };
 
-    fn step(&mut self, step: Step, out: &mut String) -> Result<(), Wrong> {
+    fn step(&mut self, step: Step, out: &mut String) -> Said {
         step_at_ends!(self, step, out,
             Step::Debug => Ok(write!(out, "{self:?} ")?),
             Step::Touches => say(out, &(*self).touches()),

@@ -1,7 +1,7 @@
 //! The trait of the vectors that rows call, and what answers their calls.
 use crate::held::HeldBy;
 use tinyvec_rows::call::{Call, Extract};
-use tinyvec_rows::{Item, Span, Step, Words, Wrong, window};
+use tinyvec_rows::{Item, Said, Span, Step, Words, window};
 
 /// A vector that rows call.
 pub trait Vector {
@@ -10,15 +10,10 @@ pub trait Vector {
     fn items(&self) -> &[Self::Item];
 
     /// Writes the list, and what else the vector shows of itself.
-    fn say_state(&self, out: &mut String) -> Result<(), Wrong>;
+    fn say_state(&self, out: &mut String) -> Said;
 
     /// Makes a call and writes what it answers. One whose condition does not hold is not made.
-    fn call(
-        &mut self,
-        other: &mut Self,
-        call: Call<Self::Item>,
-        out: &mut String,
-    ) -> Result<(), Wrong>;
+    fn call(&mut self, other: &mut Self, call: Call<Self::Item>, out: &mut String) -> Said;
 
     /// Does steps of `extract_if`.
     fn extract<F: FnMut(&mut Self::Item) -> bool>(
@@ -27,7 +22,7 @@ pub trait Vector {
         f: F,
         steps: &[Step],
         out: &mut String,
-    ) -> Result<(), Wrong>
+    ) -> Said
         requires { F.IsAlwaysCallable f };
 }
 
@@ -40,12 +35,7 @@ pub struct Calls<'r> {
 
 /// Answers the calls of a row one after the other: what each answers and leaves. `pair` tells whether the row names the
 /// other vector.
-pub fn answer<V: Vector>(
-    v: &mut V,
-    other: &mut V,
-    pair: bool,
-    calls: &mut Calls<'_>,
-) -> Result<(), Wrong>
+pub fn answer<V: Vector>(v: &mut V, other: &mut V, pair: bool, calls: &mut Calls<'_>) -> Said
 where
     V::Item: HeldBy<V>,
 {
@@ -62,12 +52,7 @@ where
     Ok(())
 }
 
-fn answer_call<V: Vector>(
-    v: &mut V,
-    other: &mut V,
-    call: &str,
-    out: &mut String,
-) -> Result<(), Wrong>
+fn answer_call<V: Vector>(v: &mut V, other: &mut V, call: &str, out: &mut String) -> Said
 where
     V::Item: HeldBy<V>,
 {
@@ -82,12 +67,7 @@ where
     answered
 }
 
-fn made<V: Vector>(
-    v: &mut V,
-    other: &mut V,
-    call: Call<V::Item>,
-    out: &mut String,
-) -> Result<(), Wrong>
+fn made<V: Vector>(v: &mut V, other: &mut V, call: Call<V::Item>, out: &mut String) -> Said
 where
     V::Item: HeldBy<V>,
 {
@@ -99,7 +79,7 @@ where
 }
 
 // The closure borrows, so a vector takes it where it is of a type parameter.
-fn extracted<V: Vector>(v: &mut V, extract: Extract, out: &mut String) -> Result<(), Wrong> {
+fn extracted<V: Vector>(v: &mut V, extract: Extract, out: &mut String) -> Said {
     let Extract {
         range,
         mut closure,

@@ -1,17 +1,17 @@
 //! What calls answer, as text. A space follows each answer.
-use crate::{Item, Wrong};
+use crate::{Item, Said, Wrong};
 use std::fmt::Write;
 use std::iter::ExactSizeIterator;
 use std::{fmt, vec};
 
 /// Writes an answer by `{:?}`.
-pub fn say<T: fmt::Debug>(out: &mut String, answer: &T) -> Result<(), Wrong> {
+pub fn say<T: fmt::Debug>(out: &mut String, answer: &T) -> Said {
     write!(out, "{answer:?} ")?;
     Ok(())
 }
 
 /// Writes why a call failed, and nothing if it did not.
-pub fn done<E: fmt::Debug + Drop>(out: &mut String, answer: Result<(), E>) -> Result<(), Wrong> {
+pub fn done<E: fmt::Debug + Drop>(out: &mut String, answer: Result<(), E>) -> Said {
     match answer {
         Ok(()) => Ok(()),
         Err(error) => say(out, &error),
@@ -19,7 +19,7 @@ pub fn done<E: fmt::Debug + Drop>(out: &mut String, answer: Result<(), E>) -> Re
 }
 
 /// Writes a word as it stands.
-pub fn say_word(out: &mut String, word: &str) -> Result<(), Wrong> {
+pub fn say_word(out: &mut String, word: &str) -> Said {
     out.push_str(word)?;
     out.push(' ')?;
     Ok(())
@@ -42,23 +42,39 @@ impl<'o> Write for Quoted<'o> {
     }
 }
 
+/// Writes where a list lies: `inline`, or `heap` and its capacity.
+pub fn say_place(out: &mut String, is_inline: bool, room: usize) -> Said {
+    if is_inline {
+        return say_word(out, "inline");
+    }
+    write!(out, "heap {room} ")?;
+    Ok(())
+}
+
 /// Writes a list and the slots after it, as `[1, 2 | 0, 0]`.
-pub fn say_slots<T: Item>(out: &mut String, list: &[T], spare: &[T]) -> Result<(), Wrong> {
+pub fn say_slots<T: Item>(out: &mut String, list: &[T], spare: &[T]) -> Said {
     out.push('[')?;
-    push_items(out, list)?;
+    push_items(out, list.iter())?;
     if !spare.is_empty() {
         out.push_str(if list.is_empty() { "| " } else { " | " })?;
-        push_items(out, spare)?;
+        push_items(out, spare.iter())?;
     }
     say_word(out, "]")
 }
 
 /// Writes a list.
-pub fn say_list<T: Item>(out: &mut String, list: &[T]) -> Result<(), Wrong> {
+pub fn say_list<T: Item>(out: &mut String, list: &[T]) -> Said {
     say_slots(out, list, &[])
 }
 
-fn push_items<T: Item>(out: &mut String, items: &[T]) -> Result<(), Wrong> {
+/// Writes the items that an iterator still yields, as a list.
+pub fn say_all<T: Item, I: Iterator<Item = T>>(out: &mut String, rest: I) -> Said {
+    out.push('[')?;
+    push_items(out, rest)?;
+    say_word(out, "]")
+}
+
+fn push_items<T: fmt::Debug + Drop, I: Iterator<Item = T>>(out: &mut String, items: I) -> Said {
     let mut mark = "";
     for x in items {
         write!(out, "{mark}{x:?}")?;
@@ -67,38 +83,27 @@ fn push_items<T: Item>(out: &mut String, items: &[T]) -> Result<(), Wrong> {
     Ok(())
 }
 
-/// Writes the items that an iterator still yields, as a list.
-pub fn say_all<T: Item, I: Iterator<Item = T>>(out: &mut String, rest: I) -> Result<(), Wrong> {
-    out.push('[')?;
-    let mut mark = "";
-    for x in rest {
-        write!(out, "{mark}{x:?}")?;
-        mark = ", ";
-    }
-    say_word(out, "]")
-}
-
 /// Writes an item that found no room.
-pub fn say_refused<T: Item>(out: &mut String, x: &T) -> Result<(), Wrong> {
+pub fn say_refused<T: Item>(out: &mut String, x: &T) -> Said {
     say_word(out, "refused")?;
     say(out, x)
 }
 
 /// Writes an item that found no room, and those that follow it.
-pub fn say_rest<T: Item>(out: &mut String, x: &T, rest: vec::IntoIter<T>) -> Result<(), Wrong> {
+pub fn say_rest<T: Item>(out: &mut String, x: &T, rest: vec::IntoIter<T>) -> Said {
     say_refused(out, x)?;
     say_all(out, rest)
 }
 
 /// Writes the number of an item that was lent, and another item to it.
-pub fn say_and_set<T: Item>(out: &mut String, lent: &mut T, x: T) -> Result<(), Wrong> {
+pub fn say_and_set<T: Item>(out: &mut String, lent: &mut T, x: T) -> Said {
     say(out, &lent.number())?;
     *lent = x;
     Ok(())
 }
 
 /// Writes how many spare slots were lent, and items over the first of them.
-pub fn write_spare<T: Item>(lent: &mut [T], items: Vec<T>, out: &mut String) -> Result<(), Wrong> {
+pub fn write_spare<T: Item>(lent: &mut [T], items: Vec<T>, out: &mut String) -> Said {
     say(out, &lent.len())?;
     if items.len() > lent.len() {
         return Err(Wrong::Place);
@@ -110,6 +115,6 @@ pub fn write_spare<T: Item>(lent: &mut [T], items: Vec<T>, out: &mut String) -> 
 }
 
 /// Writes how many items an iterator has left, by its length and its hint.
-pub fn say_left<I: ExactSizeIterator>(out: &mut String, it: &I) -> Result<(), Wrong> {
+pub fn say_left<I: ExactSizeIterator>(out: &mut String, it: &I) -> Said {
     say(out, &(it.len(), it.size_hint()))
 }

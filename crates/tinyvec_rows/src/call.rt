@@ -19,60 +19,38 @@ pub enum Call<T> {
     Held(Held<T>),
 }
 
+// A call of that name, whose words were read, or none.
+type Found<C> = Result<Option<C>, Wrong>;
+
+// Returns the call of the first kind that has one of that name.
+macro_rules! first_of {
+    ($name:ident, $words:ident, $($kind:ident)*) => {
+        $(if let Some(call) = $kind::read($name, $words)? {
+            return Ok(Some(Call::$kind(call)));
+        })*
+    };
+}
+
 impl<T: Item> Call<T> {
     /// Reads a call: its name, and then no more words than it has.
     pub fn read(words: &mut Words<'_>) -> Result<Call<T>, Wrong> {
         let name = words.word()?;
         let call = match Call::of_items(name, words)? {
             Some(call) => call,
-            None => Call::of_lists(name, words)?,
+            None => Call::of_lists(name, words)?.ok_or(Wrong::Call)?,
         };
         words.end()?;
         Ok(call)
     }
 
-    fn of_items(name: &str, words: &mut Words<'_>) -> Result<Option<Call<T>>, Wrong> {
-        if let Some(cut) = Cut::read(name, words)? {
-            return Ok(Some(Call::Cut(cut)));
-        }
-        if let Some(lend) = Lend::read(name, words)? {
-            return Ok(Some(Call::Lend(lend)));
-        }
-        if let Some(put) = Put::read(name, words)? {
-            return Ok(Some(Call::Put(put)));
-        }
-        if let Some(extend) = Extend::read(name, words)? {
-            return Ok(Some(Call::Extend(extend)));
-        }
-        if let Some(filter) = Filter::read(name, words)? {
-            return Ok(Some(Call::Filter(filter)));
-        }
+    fn of_items(name: &str, words: &mut Words<'_>) -> Found<Call<T>> {
+        first_of!(name, words, Cut Lend Put Extend Filter);
         Ok(None)
     }
 
-    fn of_lists(name: &str, words: &mut Words<'_>) -> Result<Call<T>, Wrong> {
-        if let Some(ranged) = Ranged::read(name, words)? {
-            return Ok(Call::Ranged(ranged));
-        }
-        if let Some(pair) = Pair::read(name, words)? {
-            return Ok(Call::Pair(pair));
-        }
-        if let Some(drained) = Drained::read(name, words)? {
-            return Ok(Call::Drained(drained));
-        }
-        if let Some(make) = Make::read(name, words)? {
-            return Ok(Call::Make(make));
-        }
-        if let Some(room) = Room::read(name, words)? {
-            return Ok(Call::Room(room));
-        }
-        if let Some(held) = Held::read(name, words)? {
-            return Ok(Call::Held(held));
-        }
-        match name {
-            "extract_if" => Ok(Call::Extract(Extract::read(words)?)),
-            _ => Err(Wrong::Call),
-        }
+    fn of_lists(name: &str, words: &mut Words<'_>) -> Found<Call<T>> {
+        first_of!(name, words, Ranged Extract Pair Drained Make Room Held);
+        Ok(None)
     }
 }
 
@@ -89,7 +67,7 @@ pub enum Cut {
 }
 
 impl Cut {
-    fn read(name: &str, words: &mut Words<'_>) -> Result<Option<Cut>, Wrong> {
+    fn read(name: &str, words: &mut Words<'_>) -> Found<Cut> {
         Ok(Some(match name {
             "pop" => Cut::Pop,
             "pop_at" => Cut::PopAt(words.index()?),
@@ -115,7 +93,7 @@ pub enum Lend<T> {
 }
 
 impl<T: Item> Lend<T> {
-    fn read(name: &str, words: &mut Words<'_>) -> Result<Option<Lend<T>>, Wrong> {
+    fn read(name: &str, words: &mut Words<'_>) -> Found<Lend<T>> {
         Ok(Some(match name {
             "size" => Lend::Size,
             "set" => Lend::Set(words.index()?, words.item()?),
@@ -140,7 +118,7 @@ pub enum Put<T> {
 }
 
 impl<T: Item> Put<T> {
-    fn read(name: &str, words: &mut Words<'_>) -> Result<Option<Put<T>>, Wrong> {
+    fn read(name: &str, words: &mut Words<'_>) -> Found<Put<T>> {
         Ok(Some(match name {
             "push" => Put::Push(words.item()?),
             "push_mut" => Put::PushMut(words.item()?, words.item()?),
@@ -167,7 +145,7 @@ pub enum Extend<T> {
 }
 
 impl<T: Item> Extend<T> {
-    fn read(name: &str, words: &mut Words<'_>) -> Result<Option<Extend<T>>, Wrong> {
+    fn read(name: &str, words: &mut Words<'_>) -> Found<Extend<T>> {
         Ok(Some(match name {
             "extend" => Extend::Extend(words.items()?),
             "fill" => Extend::Fill(words.items()?),
@@ -196,7 +174,7 @@ pub enum Filter {
 }
 
 impl Filter {
-    fn read(name: &str, words: &mut Words<'_>) -> Result<Option<Filter>, Wrong> {
+    fn read(name: &str, words: &mut Words<'_>) -> Found<Filter> {
         Ok(Some(match name {
             "retain" => Filter::Retain(Closure::read(words)?),
             "retain_mut" => Filter::RetainMut(Closure::read(words)?, words.number()?),
@@ -219,7 +197,7 @@ pub enum Ranged<T> {
 }
 
 impl<T: Item> Ranged<T> {
-    fn read(name: &str, words: &mut Words<'_>) -> Result<Option<Ranged<T>>, Wrong> {
+    fn read(name: &str, words: &mut Words<'_>) -> Found<Ranged<T>> {
         Ok(Some(match name {
             "drain" => Ranged::Drain(words.span()?, words.steps()?),
             "drain_into" => Ranged::DrainInto(words.span()?, with_room(words.items()?)?),
@@ -247,13 +225,16 @@ pub struct Extract {
 }
 
 impl Extract {
-    fn read(words: &mut Words<'_>) -> Result<Extract, Wrong> {
-        Ok(Extract {
+    fn read(name: &str, words: &mut Words<'_>) -> Found<Extract> {
+        if name != "extract_if" {
+            return Ok(None);
+        }
+        Ok(Some(Extract {
             range: words.span()?,
             closure: Closure::read(words)?,
             more: words.number()?,
             steps: words.steps()?,
-        })
+        }))
     }
 }
 
@@ -269,7 +250,7 @@ pub enum Pair {
 }
 
 impl Pair {
-    fn read(name: &str, words: &mut Words<'_>) -> Result<Option<Pair>, Wrong> {
+    fn read(name: &str, words: &mut Words<'_>) -> Found<Pair> {
         Ok(Some(match name {
             "append" => Pair::Append,
             "try_append" => Pair::TryAppend,
@@ -293,7 +274,7 @@ pub enum Drained {
 }
 
 impl Drained {
-    fn read(name: &str, words: &mut Words<'_>) -> Result<Option<Drained>, Wrong> {
+    fn read(name: &str, words: &mut Words<'_>) -> Found<Drained> {
         Ok(Some(match name {
             "into_iter" => Drained::IntoIter(words.steps()?),
             "drain_to_vec" => Drained::ToVec,
@@ -325,7 +306,7 @@ pub enum Make<T> {
 }
 
 impl<T: Item> Make<T> {
-    fn read(name: &str, words: &mut Words<'_>) -> Result<Option<Make<T>>, Wrong> {
+    fn read(name: &str, words: &mut Words<'_>) -> Found<Make<T>> {
         Ok(Some(match name {
             "new" => Make::New,
             "default" => Make::Default,
@@ -337,7 +318,7 @@ impl<T: Item> Make<T> {
         }))
     }
 
-    fn read_items(name: &str, words: &mut Words<'_>) -> Result<Option<Make<T>>, Wrong> {
+    fn read_items(name: &str, words: &mut Words<'_>) -> Found<Make<T>> {
         Ok(Some(match name {
             "try_from_slice" => Make::TryFromSlice(words.items()?),
             "from_slice" => Make::FromSlice(words.items()?),
@@ -361,7 +342,7 @@ pub enum Room {
 }
 
 impl Room {
-    fn read(name: &str, words: &mut Words<'_>) -> Result<Option<Room>, Wrong> {
+    fn read(name: &str, words: &mut Words<'_>) -> Found<Room> {
         Ok(Some(match name {
             "reserve" => Room::Reserve(words.index()?),
             "reserve_exact" => Room::ReserveExact(words.index()?),
@@ -385,7 +366,7 @@ pub enum Held<T> {
 }
 
 impl<T: Item> Held<T> {
-    fn read(name: &str, words: &mut Words<'_>) -> Result<Option<Held<T>>, Wrong> {
+    fn read(name: &str, words: &mut Words<'_>) -> Found<Held<T>> {
         Ok(Some(match name {
             "compare" => Held::Compare,
             "show" => Held::Show(Form::read(words)?),
@@ -440,7 +421,7 @@ pub enum Writing {
 }
 
 impl Writing {
-    fn read(name: &str, words: &mut Words<'_>) -> Result<Option<Writing>, Wrong> {
+    fn read(name: &str, words: &mut Words<'_>) -> Found<Writing> {
         Ok(Some(match name {
             "write_str" => Writing::Text(words.text()?),
             "write_char" => Writing::Letter(words.letter()?),

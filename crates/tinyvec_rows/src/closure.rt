@@ -1,5 +1,5 @@
 //! Closures that rows name.
-use crate::{Item, Words, Wrong};
+use crate::{Item, Said, Words, Wrong};
 use std::alloc::{AllocError, Global};
 use std::fmt::Write;
 
@@ -47,7 +47,7 @@ impl<K: Drop> Closure<K> {
     }
 
     /// Writes the numbers of the items that it was asked about.
-    pub fn say(&self, out: &mut String) -> Result<(), Wrong> {
+    pub fn say(&self, out: &mut String) -> Said {
         out.push_str(self.asked.as_str())?;
         Ok(())
     }

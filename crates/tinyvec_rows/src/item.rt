@@ -1,5 +1,5 @@
 //! What the vectors of rows hold.
-use crate::Wrong;
+use crate::{Said, Wrong};
 use std::alloc::Global;
 use std::fmt;
 
@@ -73,7 +73,7 @@ impl Read for u16 {
 
 // An item of no size.
 impl Read for () {
-    fn read(_alloc: Global, word: &str) -> Result<(), Wrong> {
+    fn read(_alloc: Global, word: &str) -> Said {
         if word == "()" {
             Ok(())
         } else {
@@ -83,7 +83,7 @@ impl Read for () {
 }
 
 impl Item for () {
-    fn of(_alloc: Global, _number: i32) -> Result<(), Wrong> {
+    fn of(_alloc: Global, _number: i32) -> Said {
         Ok(())
     }
 

@@ -11,11 +11,11 @@ pub mod window;
 mod words;
 
 pub use answers::{
-    Quoted, done, say, say_all, say_and_set, say_left, say_list, say_refused, say_rest, say_slots,
-    say_word, write_spare,
+    Quoted, done, say, say_all, say_and_set, say_left, say_list, say_place, say_refused, say_rest,
+    say_slots, say_word, write_spare,
 };
 pub use closure::{Choice, Closure, Counter, Key, Pairing};
 pub use item::{Item, Read};
 pub use span::{Span, has_at_most, is_within};
 pub use step::Step;
-pub use words::{Words, Wrong, index_of};
+pub use words::{Said, Words, Wrong, index_of};

@@ -19,6 +19,9 @@ pub enum Wrong {
     Place,
 }
 
+/// Whether an answer was written, or why the row has none.
+pub type Said = Result<(), Wrong>;
+
 impl Wrong {
     pub fn text(self) -> &'static str {
         match self {
@@ -72,7 +75,7 @@ impl<'a> Words<'a> {
     }
 
     /// Fails if a word is left.
-    pub fn end(&self) -> Result<(), Wrong> {
+    pub fn end(&self) -> Said {
         if self.left.is_empty() {
             return Ok(());
         }
