@@ -328,8 +328,10 @@ fn inside(word: &str) -> Result<&str, Wrong> {
 
 fn write_items<T: Display>(out: &mut String, items: &[T]) -> Said {
     out.push('[')?;
+    let mut mark = "";
     for item in items {
-        write!(out, "{item}, ")?;
+        write!(out, "{mark}{item}")?;
+        mark = ", ";
     }
     Ok(out.push(']')?)
 }

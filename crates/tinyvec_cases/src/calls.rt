@@ -36,6 +36,7 @@ macro_rules! lend {
                 say($out, &($v.len(), $v.capacity()))?;
                 say($out, &($v.is_empty(), $v.$also()))
             }
+            Lend::Index(i) if i < $v.len() => say($out, &$v[i]),
             Lend::Set(i, x) if i < $v.len() => Ok($v[i] = x),
             Lend::IterMut(more) => Ok($crate::calls::add_to_each($v.iter_mut(), more)),
             Lend::AsMutSlice(more) => Ok($crate::calls::add_to_each($v.as_mut_slice().iter_mut(), more)),

@@ -7,7 +7,7 @@ use std::io::Write as _;
 use std::{fmt, io};
 use tinyvec::{Array, ArrayVec, SliceVec, TinyVec};
 use tinyvec_rows::call::{Held, Writing};
-use tinyvec_rows::{Item, Said, Span, Wrong, done, say};
+use tinyvec_rows::{Item, Said, Span, Wide, Wrong, done, say};
 
 /// What a vector holds.
 pub trait HeldBy<V>: Item {
@@ -20,6 +20,15 @@ pub trait HeldBy<V>: Item {
 impl<V> HeldBy<V> for () {}
 
 impl<V> HeldBy<V> for Option<Box<i32>> {}
+
+impl<V: Vector<Item = Wide> + Ord + Hash> HeldBy<V> for Wide {
+    fn call(v: &mut V, other: &mut V, held: Held<Wide>, out: &mut String) -> Said {
+        match held {
+            Held::Compare => say_compared(v, other, v.items(), out),
+            _ => Err(Wrong::Call),
+        }
+    }
+}
 
 impl<V: Copies<Item = i32> + Ord + Hash + fmt::Display + fmt::Debug + InBases> HeldBy<V> for i32 {
     fn call(v: &mut V, other: &mut V, held: Held<i32>, out: &mut String) -> Said {

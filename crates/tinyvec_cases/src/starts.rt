@@ -5,11 +5,9 @@ use crate::{array, compare, tiny, vector};
 use std::fmt;
 use std::hash::Hash;
 use tinyvec::{Array, ArrayVec, SliceVec, TinyVec};
-use tinyvec_rows::{Read, Said, Words, Wrong, say_word};
+use tinyvec_rows::{Read, Said, Wide, Words, Wrong, say_word};
 
 type Boxed = Option<Box<i32>>;
-
-type Wide = (u64, u64, u64);
 
 /// Makes the vectors of a row, and answers its calls.
 pub fn answer(kind: &str, words: &mut Words<'_>, calls: &mut Calls<'_>) -> Said {
@@ -43,9 +41,9 @@ fn answer_array(item: &str, count: usize, words: &mut Words<'_>, calls: &mut Cal
         "[u8" => sized!(of_array, u8, count, words, calls, 10 600),
         "[()" => sized!(of_array, (), count, words, calls, 4),
         "[Box" => sized!(of_array, Boxed, count, words, calls, 4),
+        "[Wide" => sized!(of_array, Wide, count, words, calls, 20),
         // Items that are only compared and shown.
         "[u128" => sized!(compare_arrays, u128, count, words, calls, 100),
-        "[Wide" => sized!(compare_arrays, Wide, count, words, calls, 20),
         "[f64" => sized!(show_array, f64, count, words, calls, 70),
         _ => Err(Wrong::Vector),
     }

@@ -76,6 +76,8 @@ fn answer_call<const N: usize>(
 ) -> Said {
     let alloc = words.alloc;
     let name = words.word()?;
+    // No request of the row's own falls into the window.
+    out.reserve(1 << 12)?;
     if name == "cmp" {
         let other = made::<N>(words)?;
         words.end()?;
@@ -86,7 +88,6 @@ fn answer_call<const N: usize>(
     }
     let call = TextCall::read(name, words)?;
     words.end()?;
-    out.reserve(1 << 12)?;
     window::open(alloc, refused);
     let answered = make(t, call, out);
     window::close(alloc);
@@ -117,12 +118,14 @@ fn look<const N: usize>(t: &InlineText<N>, call: Look, out: &mut String) -> Said
 }
 
 fn show<const N: usize>(t: &InlineText<N>, call: Show, out: &mut String) -> Said {
+    if let Show::Debug = call {
+        return say(out, t);
+    }
     out.push('"')?;
     match call {
-        Show::Plain => write!(Quoted(&mut *out), "{t}")?,
         Show::ToFour => write!(Quoted(&mut *out), "{t:>4}")?,
         Show::One => write!(Quoted(&mut *out), "{t:.1}")?,
-        Show::Debug => write!(Quoted(&mut *out), "{t:?}")?,
+        _ => write!(Quoted(&mut *out), "{t}")?,
     }
     say_word(out, "\"")
 }
@@ -227,12 +230,11 @@ fn replace<const N: usize>(t: &mut InlineText<N>, span: Span, s: &str, out: &mut
     done(out, t.replace_range(start..end, s))
 }
 
-// Writes the order of two texts, or that not all comparisons agree on it.
+// Writes the order of two texts, on which all comparisons agree.
 fn say_order<T: Ord>(t: &T, u: &T, out: &mut String) -> Said {
     let order = t.cmp(u);
-    let agree = operators_agree(t, u) & operators_agree(u, t);
-    if !agree || t.partial_cmp(u) != Some(order) || u.cmp(t) != order.reverse() {
+    if !operators_agree(t, u) || t.partial_cmp(u) != Some(order) || u.cmp(t) != order.reverse() {
         return say_word(out, "not by each operator");
     }
-    say(out, &order)
+    say(out, &Some(order))
 }

@@ -96,7 +96,7 @@ fn take_out<T: Item, A: Array<Item = T>>(v: &mut TinyVec<A>, cut: Cut, out: &mut
 
 fn look<T: Item, A: Array<Item = T>>(v: &mut TinyVec<A>, lend: Lend<T>, out: &mut String) -> Said {
     lend!(v, lend, is_inline, out,
-        Lend::Set(_, _) => Err(Wrong::Place),
+        Lend::Index(_) | Lend::Set(_, _) => Err(Wrong::Place),
         Lend::SetLen(_) | Lend::WriteSpare(_) => Err(Wrong::Call),
     )
 }

@@ -85,6 +85,7 @@ impl Cut {
 #[derive(Drop)]
 pub enum Lend<T> {
     Size,
+    Index(usize),
     Set(usize, T),
     IterMut(i32),
     AsMutSlice(i32),
@@ -96,6 +97,7 @@ impl<T: Item> Lend<T> {
     fn read(name: &str, words: &mut Words<'_>) -> Found<Lend<T>> {
         Ok(Some(match name {
             "size" => Lend::Size,
+            "index" => Lend::Index(words.index()?),
             "set" => Lend::Set(words.index()?, words.item()?),
             "iter_mut" => Lend::IterMut(words.number()?),
             "as_mut_slice" => Lend::AsMutSlice(words.number()?),

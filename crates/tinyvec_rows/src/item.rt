@@ -123,23 +123,33 @@ impl Item for Option<Box<i32>> {
     }
 }
 
-// Items that are only compared and shown.
-impl Read for u64 {
-    fn read(_alloc: Global, word: &str) -> Result<u64, Wrong> {
-        word.parse::<u64>().map_err(|_| Wrong::Value)
+/// An item of 24 bytes: 1, 2, and its number.
+pub type Wide = (u64, u64, i32);
+
+impl Read for Wide {
+    fn read(alloc: Global, word: &str) -> Result<Wide, Wrong> {
+        Self::of(alloc, i32::read(alloc, word)?)
     }
 }
 
+impl Item for Wide {
+    fn of(_alloc: Global, number: i32) -> Result<Wide, Wrong> {
+        Ok((1, 2, number))
+    }
+
+    fn number(&self) -> i32 {
+        self.2
+    }
+
+    fn add(&mut self, more: i32) {
+        self.2 = self.2.wrapping_add(more);
+    }
+}
+
+// Items that are only compared and shown.
 impl Read for u128 {
     fn read(_alloc: Global, word: &str) -> Result<u128, Wrong> {
         word.parse::<u128>().map_err(|_| Wrong::Value)
-    }
-}
-
-// 24 bytes: 1, 2, and the number.
-impl Read for (u64, u64, u64) {
-    fn read(alloc: Global, word: &str) -> Result<(u64, u64, u64), Wrong> {
-        Ok((1, 2, u64::read(alloc, word)?))
     }
 }
 

@@ -15,7 +15,7 @@ pub use answers::{
     say_slots, say_word, write_spare,
 };
 pub use closure::{Choice, Closure, Counter, Key, Pairing};
-pub use item::{Item, Read};
+pub use item::{Item, Read, Wide};
 pub use span::{Span, has_at_most, is_within};
 pub use step::Step;
 pub use words::{Said, Words, Wrong, index_of};
