@@ -328,10 +328,13 @@ fn inside(word: &str) -> Result<&str, Wrong> {
 
 fn write_items<T: Display>(out: &mut String, items: &[T]) -> Said {
     out.push('[')?;
-    let mut mark = "";
+    let mut is_first = true;
     for item in items {
-        write!(out, "{mark}{item}")?;
-        mark = ", ";
+        if !is_first {
+            out.push_str(", ")?;
+        }
+        write!(out, "{item}")?;
+        is_first = false;
     }
     Ok(out.push(']')?)
 }

@@ -79,7 +79,7 @@ macro_rules! extend_slots {
                 Ok(()) => Ok(()),
                 Err(tinyvec::NoRoom { item, rest }) => tinyvec_rows::say_rest($out, &item, rest),
             },
-            Extend::Fill(items) => tinyvec_rows::say_all($out, $v.fill(items)),
+            Extend::Fill(items) => tinyvec_rows::say_all($out, $v.fill(items).fuse()),
             Extend::FromSlice(items) if items.len() <= $v.remaining_capacity() => {
                 done($out, $v.extend_from_slice(items.as_slice()))
             }

@@ -1,7 +1,7 @@
 //! What calls answer, as text. A space follows each answer.
 use crate::{Item, Said, Wrong};
 use std::fmt::Write;
-use std::iter::ExactSizeIterator;
+use std::iter::{ExactSizeIterator, Fuse};
 use std::{fmt, vec};
 
 /// Writes an answer by `{:?}`.
@@ -54,10 +54,10 @@ pub fn say_place(out: &mut String, is_inline: bool, room: usize) -> Said {
 /// Writes a list and the slots after it, as `[1, 2 | 0, 0]`.
 pub fn say_slots<T: Item>(out: &mut String, list: &[T], spare: &[T]) -> Said {
     out.push('[')?;
-    push_items(out, list.iter())?;
+    push_items(out, list)?;
     if !spare.is_empty() {
         out.push_str(if list.is_empty() { "| " } else { " | " })?;
-        push_items(out, spare.iter())?;
+        push_items(out, spare)?;
     }
     say_word(out, "]")
 }
@@ -68,18 +68,30 @@ pub fn say_list<T: Item>(out: &mut String, list: &[T]) -> Said {
 }
 
 /// Writes the items that an iterator still yields, as a list.
-pub fn say_all<T: Item, I: Iterator<Item = T>>(out: &mut String, rest: I) -> Said {
+pub fn say_all<T: Item>(out: &mut String, rest: Fuse<vec::IntoIter<T>>) -> Said {
     out.push('[')?;
-    push_items(out, rest)?;
+    let mut is_first = true;
+    for x in rest {
+        push_item(out, &x, is_first)?;
+        is_first = false;
+    }
     say_word(out, "]")
 }
 
-fn push_items<T: fmt::Debug + Drop, I: Iterator<Item = T>>(out: &mut String, items: I) -> Said {
-    let mut mark = "";
+fn push_items<T: Item>(out: &mut String, items: &[T]) -> Said {
+    let mut is_first = true;
     for x in items {
-        write!(out, "{mark}{x:?}")?;
-        mark = ", ";
+        push_item(out, x, is_first)?;
+        is_first = false;
     }
+    Ok(())
+}
+
+fn push_item<T: Item>(out: &mut String, x: &T, is_first: bool) -> Said {
+    if !is_first {
+        out.push_str(", ")?;
+    }
+    write!(out, "{x:?}")?;
     Ok(())
 }
 
@@ -92,7 +104,7 @@ pub fn say_refused<T: Item>(out: &mut String, x: &T) -> Said {
 /// Writes an item that found no room, and those that follow it.
 pub fn say_rest<T: Item>(out: &mut String, x: &T, rest: vec::IntoIter<T>) -> Said {
     say_refused(out, x)?;
-    say_all(out, rest)
+    say_all(out, rest.fuse())
 }
 
 /// Writes the number of an item that was lent, and another item to it.
