@@ -1,4 +1,4 @@
-"""Rows of calls: how they are read, given to the program that does them, and compared with what it answers."""
+"""Rows of calls: how they are read, given to the program that does them, and written as it writes what it answers."""
 import concurrent.futures
 import os
 import pathlib
@@ -9,16 +9,28 @@ import crates
 import trying
 
 TOP = pathlib.Path(__file__).resolve().parent.parent
+PROGRAM = "tinyvec_cases"
 
 # A text in quotes, or what is no part of one.
-PIECES = re.compile(r'"(?:[^"\\]|\\.)*"|[^"]+|"')
+QUOTED = re.compile(r'"(?:[^"\\]|\\.)*"')
+PIECES = re.compile(QUOTED.pattern + r'|[^"]+|"')
 OPEN, CLOSE = "[(<", "])>"
-TIMES = re.compile(r"(?<=[\[,|])([^\[\],|*]+)\*(\d+)(?=[\],|])")
-UP_TO = re.compile(r"(?<=[\[,|])(-?\d+)\.\.(-?\d+)(?=[\],|])")
+LIST = re.compile(r"\[([^\[\]]*)\]")
+TIMES = re.compile(r"(.+)\*(\d+)")
+COMMA = re.compile(r",(?![^()]*\))")
+UP_TO = re.compile(r"(.*?)(-?\d+)\.\.(-?\d+)(.*)")
+WORD_UP_TO = re.compile(r"(?<!\S)([^\s\[\]]*?)(-?\d+)\.\.(-?\d+)([^\s\[\]]*) ")
+# After what a refused call answers and leaves: what it does when it is made again.
+AGAIN = ", then "
+# Marks of a start, formulas of letters, and the place that a heading gives to the lists of a row, whose state is at its end.
+EACH = re.compile(r"each ([a-z]) (\([^)]*\)|\S+)\s*")
+FORMULA = re.compile(r"\{([a-z0-9 +*-]+)\}")
+HEADING = re.compile(r"(?:(inline|heap) )?(.+)")
+STATE = re.compile(r"\[[^\[\]]*\](?: and \[[^\[\]]*\])?(?=(?:; \d+ requests?)?$)")
+SPARE_ON_THE_HEAP = re.compile(r"(\b(?:heap|room \d+) \[[^\[\]|]*)\|[^\[\]]*")
 WINDOW = re.compile(rb"^window (\d+)$", re.M)
-# A program that was compiled with checks is slow, so it answers as many lines side by side, in as many seconds: an edit that
-# `tests/mutants --tests` tries may run for ever.
-MOST_TRIED, LIMIT = 1000, 300
+# Seconds of a program that was compiled with checks: an edit that `tests/mutants --tests` tries may run for ever.
+LIMIT = 900
 ESCAPES = {"n": "\n", "t": "\t", "r": "\r", "0": "\0"}
 
 
@@ -29,29 +41,40 @@ class BadRow(Exception):
 class Chain:
     """A start, and the calls that follow it, each with its line and what it should answer and leave."""
 
-    def __init__(self, path, kind, start):
-        self.path, self.kind, self.start, self.calls = path, kind, start, []
+    def __init__(self, path, kind, start, calls=()):
+        self.path, self.kind, self.start, self.calls = path, kind, start, list(calls)
 
     def line(self):
-        """The line that the program reads."""
-        calls = "\t".join(sent(call) for _, call, _ in self.calls)
-        return f"{canonical(self.kind).replace(' ', '')} {sent(self.start)}\t{calls}".replace(" \t", "\t")
+        """The line that the program reads. The lines of a script are calls as they are."""
+        start = f"{canonical(self.kind).replace(' ', '')} {sent(self.start)}".rstrip()
+        return "\t".join([start, *(it[1] if self.kind == "script" else sent(it[1]) for it in self.calls)])
+
+    def each(self):
+        """The chain of each vector of its heading, and of each value of the letters in its start."""
+        for place, kind in HEADING.findall(self.kind.replace(", ", "\n")):
+            for start, values in assignments(self.start, {"vector": kind.partition("<")[0]}):
+                new = lambda text, lists=None: placed(filled(text, values), lists, place)
+                note = "".join(f", {name} {value}" for name, value in values.items() if len(name) == 1)
+                calls = [(f"{where}{note}", new(call), new(wanted, STATE)) for where, call, wanted in self.calls]
+                yield Chain(self.path, kind, new(start, LIST), calls)
 
 
 def read_file(path):
-    """The program that a file names, and its chains."""
-    program, kind, chains = None, None, []
-    for number, text in enumerate(path.read_text(encoding="utf-8").split("\n"), 1):
-        where = f"{path.relative_to(TOP) if path.is_relative_to(TOP) else path}:{number}"
+    """The chains of a file."""
+    return chains_of(path.relative_to(TOP) if path.is_relative_to(TOP) else path, path.read_text(encoding="utf-8"))
+
+
+def chains_of(path, rows):
+    kind, chains = None, []
+    for number, text in enumerate(rows.split("\n"), 1):
+        where = f"{path}:{number}"
         line = text.strip()
         if not line or line.startswith("#"):
             continue
-        if line.startswith("program "):
-            program = line.removeprefix("program ")
-        elif line.startswith("== "):
+        if line.startswith("== "):
             kind = line.removeprefix("== ")
-        elif kind is None or program is None:
-            raise BadRow(f"{where}: before the first row a line `program NAME` and a line `== VECTOR` are missing")
+        elif kind is None:
+            raise BadRow(f"{where}: before the first row a line `== VECTOR` is missing")
         else:
             left, wanted = cut_at(line, " -> ", where)
             if not text[0].isspace():
@@ -59,8 +82,14 @@ def read_file(path):
                 chains.append(Chain(where, kind, start))
             elif not chains or chains[-1].kind != kind:
                 raise BadRow(f"{where}: an indented row has no row to go on from")
-            chains[-1].calls.append((where, left.strip(), wanted.strip()))
-    return program, chains
+            wanted, _, again = wanted.partition(AGAIN)
+            chains[-1].calls.append((where, left if kind == "script" else left.strip(), wanted.strip()))
+            if again:
+                chains[-1].calls.append((where, left.strip().split(" ", 2)[2], again.strip()))
+    made = [(it, list(it.each())) for it in chains]
+    for chain in (it for it, cases in made if not cases):
+        raise BadRow(f"{chain.path}: its letters have no value")
+    return [new for _, cases in made for new in cases]
 
 
 def cut_at(line, mark, where):
@@ -72,6 +101,78 @@ def cut_at(line, mark, where):
             return line[:cut], line[cut + len(mark) :]
         at += len(piece)
     raise BadRow(f"{where}: `{mark.strip()}` is missing")
+
+
+def assignments(start, values):
+    """The start behind its marks, and each assignment of values to their letters."""
+    mark = EACH.match(start)
+    if not mark:
+        yield start, values
+        return
+    spelled = filled(mark[2], values)
+    words = spelled[1:-1].split(", " if ", " in spelled else None)
+    for value in words if spelled.startswith("(") else items_of(spelled):
+        yield from assignments(start[mark.end() :], {**values, mark[1]: value})
+
+
+def filled(text, values):
+    """The text with the value of each formula in braces whose letters have one."""
+
+    def value(found):
+        names = set(re.findall("[a-z]+", found[1]))
+        if not names or not names <= set(values):
+            return found[0]
+        # Sums and products of numbers, since a formula has no other signs.
+        return values.get(found[1]) or str(eval(found[1], {it: int(values[it]) for it in names}))
+
+    return FORMULA.sub(value, text)
+
+
+def placed(text, lists, place):
+    """The text with these lists in a place. A list on the heap has no spare slots."""
+    if lists and place:
+        text = lists.sub(lambda it: it[0].replace("[", f"{place} ["), text)
+    return SPARE_ON_THE_HEAP.sub(r"\1", text)
+
+
+def items_of(text):
+    """The items of a list, one by one."""
+    for item in filter(None, map(str.strip, COMMA.split(text))):
+        if times := TIMES.fullmatch(item):
+            yield from [times[1]] * int(times[2])
+        elif span := UP_TO.fullmatch(item):
+            yield from numbered(span)
+        else:
+            yield item
+
+
+def numbered(span):
+    first, end = int(span[2]), int(span[3])
+    if first > end:
+        raise BadRow(f"{span[0]} ends before it begins")
+    return (f"{span[1]}{it}{span[4]}" for it in range(first, end))
+
+
+def in_full(text, comma, bar):
+    """The text with its lists in full, but for what is in quotes."""
+
+    def listed(found):
+        items, _, spare = (comma.join(items_of(it)) for it in found[1].partition("|"))
+        return f"[{items}{bar if items else bar.lstrip()}{spare}]" if spare else f"[{items}]"
+
+    return outside_quotes(lambda it: LIST.sub(listed, it), text)
+
+
+def outside_quotes(change, text):
+    return "".join(it if it.startswith('"') else change(it) for it in PIECES.findall(text))
+
+
+def written(text, kind):
+    """What a row wants as the program writes it. Behind an answer and behind what is left is a space, but in streams."""
+    if kind == "script":
+        return text
+    words = lambda piece: WORD_UP_TO.sub(lambda it: "".join(f"{new} " for new in numbered(it)), piece)
+    return outside_quotes(words, in_full(text, ", ", " | ")) + " " * (kind != "streams")
 
 
 def canonical(text):
@@ -87,14 +188,12 @@ def canonical(text):
                 out.append(letter)
             elif depth == 0 and out and out[-1] != " ":
                 out.append(" ")
-    plain = re.sub(r",(?=[\]|)])", "", "".join(out)).strip()
-    plain = TIMES.sub(lambda it: ",".join([it[1]] * int(it[2])), plain)
-    return UP_TO.sub(lambda it: ",".join(str(n) for n in range(int(it[1]), int(it[2]))), plain)
+    return in_full("".join(out).strip(), ",", "|")
 
 
 def sent(text):
     """The text as the program reads it: a text in quotes as its bytes, in hexadecimal."""
-    return re.sub(r'"(?:[^"\\]|\\.)*"', lambda it: f"<{unquoted(it[0]).encode().hex()}>", canonical(text))
+    return QUOTED.sub(lambda it: f"<{unquoted(it[0]).encode().hex()}>", canonical(text))
 
 
 def unquoted(text):
@@ -102,28 +201,36 @@ def unquoted(text):
     return re.sub(r"\\(.)", lambda it: ESCAPES.get(it[1], it[1]), text)
 
 
-def run(program, lines, is_tried=False, refusing=None):
+def run(lines, is_tried=False, refusing=None):
     """What the program answers to each line: the parts of its calls. With a library that refuses memory also the number of
     requests of each window that the program opened."""
-    crate = crates.read_crates()[program]
-    how = {"env": {**os.environ, "LD_PRELOAD": refusing.library}} if refusing else {"timeout": LIMIT} if is_tried else {}
+    crate = crates.read_crates()[PROGRAM]
+    if not is_tried:
+        env = {**os.environ, "LD_PRELOAD": refusing.library} if refusing else None
+        answers, told = answered(crate, crate.out / PROGRAM, lines, env=env)
+        return (answers, [int(it) for it in WINDOW.findall(told)]) if refusing else answers
     try:
-        path = trying.program_of(crate) if is_tried else crate.out / program
-        if is_tried and len(lines) > MOST_TRIED:
-            answers = [None] * len(lines)
-            with concurrent.futures.ThreadPoolExecutor() as pool:
-                answers[::2], answers[1::2] = pool.map(lambda it: run(program, it, True), [lines[::2], lines[1::2]])
-            return answers
-        given = "".join(f"{it}\n" for it in lines).encode()
-        ran = subprocess.run([path], input=given, capture_output=True, **how)
+        path = trying.program_of(crate)
+        # It was compiled with checks, and is slow.
+        parts = [lines[it :: crates.CORES] for it in range(crates.CORES)]
+        with concurrent.futures.ThreadPoolExecutor() as pool:
+            said = list(pool.map(lambda it: answered(crate, path, it, is_tried)[0], parts))
     except (trying.NotCompiled, subprocess.TimeoutExpired) as why:
         raise BadRow(f"no answer: {why}")
+    return [said[it % crates.CORES][it // crates.CORES] for it in range(len(lines))]
+
+
+def answered(crate, path, lines, is_tried=False, env=None):
+    """The parts of the answer to each line, and what the program writes to standard error."""
+    given = "".join(f"{it}\n" for it in lines).encode()
+    try:
+        ran = subprocess.run([path], input=given, capture_output=True, env=env, timeout=LIMIT if is_tried else None)
+    except FileNotFoundError:
+        raise BadRow(f"{PROGRAM} is not built: scripts/build {PROGRAM} builds it, or --try runs the sources")
     said = ran.stdout.decode(errors="replace").split("\n")[:-1]
     if ran.returncode != 0 or len(said) != len(lines):
         # Where a check stopped the program, only `rt try` names the place.
         told = trying.run(crate, [], given)[2] if is_tried else ran.stderr
-        raise BadRow(
-            f"{program}: status {ran.returncode}, {len(said)} of {len(lines)} rows are answered\n{told.decode(errors='replace')[-2000:]}"
-        )
-    answers = [it.split("\t") for it in said]
-    return (answers, [int(it) for it in WINDOW.findall(ran.stderr)]) if refusing else answers
+        counts = f"{len(said)} of {len(lines)} rows are answered"
+        raise BadRow(f"{PROGRAM}: status {ran.returncode}, {counts}\n{told.decode(errors='replace')[-2000:]}")
+    return [it.split("\t") for it in said], ran.stderr
