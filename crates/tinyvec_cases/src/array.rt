@@ -12,8 +12,8 @@ use tinyvec_rows::call::{
     Call, Cut, Drained, Extend, Filter, Lend, Make, Pair, Put, Ranged, Slots,
 };
 use tinyvec_rows::{
-    Item, Read, Said, Span, Step, Wrong, done, has_at_most, is_within, say, say_and_set, say_list,
-    say_rest, say_slots, say_word,
+    Item, Read, Said, Span, Step, Wrong, done, is_within, say, say_list, say_rest, say_slots,
+    say_word,
 };
 
 /// The array whose slots are a list and those after it.

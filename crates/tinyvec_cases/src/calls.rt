@@ -61,10 +61,10 @@ macro_rules! put_in_slots {
     ($v:ident, $put:ident, $out:ident, $($arm:tt)*) => {
         match $put {
             Put::Push(x) if !$v.is_full() => Ok($v.push(x)),
-            Put::PushMut(x, y) if !$v.is_full() => say_and_set($out, $v.push_mut(x), y),
+            Put::PushMut(x, y) if !$v.is_full() => tinyvec_rows::say_and_set($out, $v.push_mut(x), y),
             Put::Insert(i, x) if i <= $v.len() && !$v.is_full() => Ok($v.insert(i, x)),
             Put::InsertMut(i, x, y) if i <= $v.len() && !$v.is_full() => {
-                say_and_set($out, $v.insert_mut(i, x), y)
+                tinyvec_rows::say_and_set($out, $v.insert_mut(i, x), y)
             }
             $($arm)*
         }
@@ -81,13 +81,13 @@ macro_rules! extend_slots {
             },
             Extend::Fill(items) => tinyvec_rows::say_all($out, $v.fill(items).fuse()),
             Extend::FromSlice(items) if items.len() <= $v.remaining_capacity() => {
-                done($out, $v.extend_from_slice(items.as_slice()))
+                tinyvec_rows::done($out, $v.extend_from_slice(items.as_slice()))
             }
             Extend::FromWithin(range)
-                if is_within(range, $v.len()) && has_at_most(range, $v.len(), $v.remaining_capacity()) => {
-                done($out, $v.extend_from_within(range))
+                if is_within(range, $v.len()) && tinyvec_rows::has_at_most(range, $v.len(), $v.remaining_capacity()) => {
+                tinyvec_rows::done($out, $v.extend_from_within(range))
             }
-            Extend::Resize(n, x) if n <= $v.capacity() => done($out, $v.resize(n, x)),
+            Extend::Resize(n, x) if n <= $v.capacity() => tinyvec_rows::done($out, $v.resize(n, x)),
             Extend::ResizeWith(n, mut counter) if n <= $v.capacity() => {
                 $v.resize_with(n, || counter.next());
                 say($out, &counter.calls())

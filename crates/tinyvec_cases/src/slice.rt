@@ -5,10 +5,7 @@ use crate::steps::{Steps, stepped};
 use crate::vector::Vector;
 use tinyvec::{GenericSliceVec, GenericSliceVecDrain, Lent, SliceVec};
 use tinyvec_rows::call::{Call, Cut, Extend, Filter, Lend, Pair, Put, Ranged};
-use tinyvec_rows::{
-    Item, Said, Span, Step, Wrong, done, has_at_most, is_within, say, say_and_set, say_list,
-    say_slots,
-};
+use tinyvec_rows::{Item, Said, Span, Step, Wrong, is_within, say, say_list, say_slots};
 
 impl<'s, T: Item> Vector for SliceVec<'s, T> {
     type Item = T;

@@ -1,7 +1,7 @@
 //! The trait of the vectors that rows call, and what answers their calls.
 use crate::held::HeldBy;
 use tinyvec_rows::call::{Call, Extract};
-use tinyvec_rows::{Item, Said, Span, Step, Words, window};
+use tinyvec_rows::{Item, Said, Span, Step, window};
 
 /// A vector that rows call.
 pub trait Vector {
