@@ -1,0 +1,223 @@
+"""Scripts of `tv` as their description has them, with lines of each kind, one in ten spoiled.
+
+Memory is granted, but for sizes that no allocator grants. If one request is refused, one line may say so: `memory`, and
+nothing is changed, or of a splice the items that found no room. Each line after it is answered by what it left, and each
+block is freed.
+"""
+import copy
+import math
+import re
+
+from commands import COMMANDS, INDEX, NUMBER, bad
+from models.iterators import Splice, removed
+from models.texts import Text
+from models.vector_calls import move_to_the_heap, put, shrink_to_fit, swap_remove, take, with_len
+from models.vectors import Vector
+
+SLOTS = 4
+LONGEST_LINE = 128
+# Room that is asked for is for fewer items, or for as many, which no allocator grants.
+REFUSED = 2**62
+
+
+def compared(draw, count, lines, run, is_refused):
+    """Runs so many scripts of up to so many lines, also with each request refused. What is said, and how many are wrong."""
+    wrong = runs = told = 0
+    for _ in range(count):
+        script = drawn_script(draw, lines)
+        granted = run(script, 0)
+        for number in range(1 + granted.requests * is_refused):
+            fault, is_told = tried(script, run(script, number) if number else granted, number)
+            wrong, runs, told = wrong + bool(fault), runs + 1, told + is_told
+            print(f"request {number} refused: {fault}\n" if fault else "", end="")
+    refused = f", {runs - count} runs with a request refused, {told} of them told" if is_refused else ""
+    return f"{count} scripts of up to {lines} lines{refused}", wrong
+
+
+def tried(script, ran, number):
+    """What is wrong with a run in which the request of that number was refused, and whether an answer told so."""
+    lines, given = split_lines(script), split_lines(ran.out)
+    model, is_told = Model(), False
+    for line, answer in zip(lines, given):
+        before = copy.deepcopy(model) if number and not is_told else None
+        wanted = model.answer(line)
+        if answer != wanted:
+            left = [it for it, refused in before.refused(line) if refused == answer] if before else []
+            if not left:
+                return f"{line} is answered {answer}, and not {wanted}", is_told
+            model, is_told = left[0], True
+    if ran.status != 0 or len(given) != len(lines) or ran.error or ran.blocks:
+        return f"status {ran.status}, {len(given)} of {len(lines)} lines, {ran.error}, {ran.blocks} blocks kept", is_told
+    return None, is_told
+
+
+def split_lines(text):
+    lines = text.split(b"\n")
+    return lines if lines[-1] else lines[:-1]
+
+
+class Model:
+    """The vectors of a script, and its text."""
+
+    def __init__(self):
+        self.held = {name: Vector(kind, "i32", SLOTS) for name, kind in zip("AST", ("ArrayVec", "SliceVec", "TinyVec"))}
+        self.held["X"] = Text(SLOTS)
+
+    def answer(self, line):
+        if len(line) > LONGEST_LINE:
+            return b"bad: a line has at most 128 bytes"
+        name, blank, rest = line.partition(b" ")
+        name, text = name.decode("latin-1"), rest.decode("latin-1")
+        word = text.split(" ")[0]
+        if name == "X" and blank:
+            answer = self.answer_text(rest)
+        else:
+            names, pattern = COMMANDS.get(word, ("", ""))
+            found = blank and name in self.held and name in names and re.fullmatch(pattern, text)
+            numbers = read(word, found) if found else None
+            answer = None if numbers is None else CALLS[word](self.held[name], *numbers)
+        return bad(name, text) if answer is None else f"{answer} {self.state(name)}".encode()
+
+    def state(self, name):
+        v = self.held[name]
+        place = v.shown(v.spare) if name in "AS" else "inline" if v.is_inline else "heap"
+        return f"{f'[{v.text()}]' if name == 'X' else v.shown(v.list)} {place}"
+
+    def answer_text(self, rest):
+        t, index = self.held["X"], re.fullmatch(rb"cut " + INDEX.encode(), rest)
+        if rest.startswith(b"add ") and len(rest) > 4:
+            try:
+                return "memory" if t.adds([rest[4:].decode("utf-8")]) is None else "ok"
+            except UnicodeDecodeError:
+                return None
+        if index and int(index[1]) < 2**64:
+            return t.becomes(t.list[: int(index[1])]) or "ok" if int(index[1]) in t.boundaries() else "range"
+        return None
+
+    def refused(self, line):
+        """What may be answered where memory is refused: `memory`, and nothing is changed, or what a splice has no room for. With
+        each answer how it leaves the vectors."""
+        name, _, text = line.decode("latin-1").partition(" ")
+        if text.startswith(("drain", "splice")):
+            yield self, f"memory {self.state(name)}".encode()
+        for granted in range(6 if name in self.held else 0):
+            left = copy.deepcopy(self)
+            left.held[name].asked, left.held[name].granted = 0, granted
+            answer = left.answer(line)
+            left.held[name].granted = math.inf
+            yield left, answer
+
+
+def insert(v, i, x):
+    if i > len(v.list):
+        return "range"
+    full = "memory" if v.kind == "TinyVec" else "full"
+    return full if put(v, i, x) is None else "ok"
+
+
+def remove(v, i):
+    return f"some {take(v, i)[0]}" if i < len(v.list) else "range"
+
+
+def drain(v, start, end):
+    return f"items {v.shown(removed(v, (start, end)))}" if start <= end <= len(v.list) else "range"
+
+
+def splice(v, start, end, letters, *new):
+    if not start <= end <= len(v.list):
+        return "range"
+    driven = Splice(v, (start, end), list(new))
+    taken = [x for it in letters.strip("-") for x in driven.step("next" if it == "f" else "back")]
+    rest = driven.finish()
+    return f"items {v.shown(taken)}{f' rest {v.shown(rest)}' if rest else ''}"
+
+
+def reserve(v, more):
+    return "memory" if more >= REFUSED or not v.makes_room(len(v.list) + more) else "ok"
+
+
+CALLS = {
+    "push": lambda v, x: insert(v, len(v.list), x),
+    "pop": lambda v: remove(v, len(v.list) - 1) if v.list else "none",
+    "insert": insert,
+    "remove": remove,
+    "swap": lambda v, i: f"some {swap_remove(v, i)}" if i < len(v.list) else "range",
+    "truncate": lambda v, n: v.becomes(v.list[:n]) or "ok",
+    "drain": drain,
+    "splice": splice,
+    "setlen": lambda v, n: "range" if with_len(v, n) is None else "ok",
+    "reserve": reserve,
+    "heap": lambda v: "memory" if move_to_the_heap(v) is None else "ok",
+    "shrink": lambda v: shrink_to_fit(v) or "ok",
+}
+
+
+def read(word, found):
+    """The numbers of a call, and the letters of a splice; none where an index is no `usize`, or a number no `i32`."""
+    words = found[0].split(" ")[1:]
+    of_items = {"push": 0, "insert": 1, "splice": 3}.get(word, len(words))
+    numbers = [it if it.strip("fb-") == "" else int(it) for it in words]
+    are_right = all(
+        isinstance(it, str) or (-(2**31) <= it < 2**31 if i >= of_items else it < 2**64) for i, it in enumerate(numbers)
+    )
+    return numbers if are_right else None
+
+
+def drawn_script(draw, count):
+    lines = [drawn_line(draw) for _ in range(draw.randrange(count + 1))]
+    return b"\n".join(lines) + draw.choice([b"", b"\n", b"\n\n"])
+
+
+def drawn_line(draw):
+    name = draw.choice("AASTTX")
+    line = f"{name} {drawn_text_call(draw) if name == 'X' else drawn_call(draw, name)}".encode()
+    # A part of a great number may be one that an allocator grants.
+    is_great = line.startswith(b"T reserve") and len(line) > 20
+    return spoiled(draw, line) if draw.random() < 0.1 and not is_great else line
+
+
+def drawn_call(draw, name):
+    word = draw.choice([it for it, (names, _) in COMMANDS.items() if name in names] + ["push", "push", "insert"])
+    start = draw.choice([0, 0, 1, 2])
+    if word == "splice":
+        letters = "".join(draw.choices("fb", k=draw.randrange(7))) or "-"
+        numbers = "".join(f" {drawn_number(draw)}" for _ in range(draw.choice([0, 1, 2, 3, 5, 9])))
+        return f"splice {start} {start + drawn_index(draw)} {letters}{numbers}"
+    if word == "drain":
+        return f"drain {start} {start + draw.randrange(4)}"
+    if word == "reserve":
+        return f"reserve {draw.choice([0, 1, 2, 3, 5, 50, REFUSED, 2**64 - 1, 2**64])}"
+    operands = COMMANDS[word][1].replace(INDEX, "{0}").replace(NUMBER, "{1}")
+    return operands.format(drawn_index(draw), drawn_number(draw))
+
+
+def drawn_text_call(draw):
+    if draw.random() < 0.5:
+        return f"cut {draw.choice([0, 1, 2, 3, 4, 5, 7, draw.randrange(150), 2**64 - 1, 2**64])}"
+    characters = "a b!é\u0080\u07ff\u0800\ud7ff\ue000\uffff\U00010000\U0010ffff\r\0"
+    return "add " + "".join(draw.choices(characters, k=draw.choice([0, 1, 1, 2, 3, 4, 30])))
+
+
+def drawn_index(draw):
+    return draw.choice([0, 0, 1, 1, 2, 3, 4, 5, 9, 2**64 - 1, 2**64])
+
+
+def drawn_number(draw):
+    """Mostly of a few digits, also one with all nines or zeros behind the first, or out of range."""
+    most = 10 ** draw.randrange(1, 10)
+    near = [0, 7, most, -most, most - 1, 1 - most, draw.randrange(-most, most)]
+    return draw.choice([*near, 2**31 - 1, -(2**31), 2**31, -(2**31) - 1])
+
+
+def spoiled(draw, line):
+    at = draw.randrange(len(line) + 1)
+    kind = draw.randrange(5)
+    if kind == 0:
+        return line[:at]
+    if kind == 1:
+        return line[:at] + draw.choice([b" ", b"0", b"-", b"+", b"\r", b"\x80", b"\xff"]) + line[at:]
+    if kind == 2:
+        return line[:at] + line[at + 1 :]
+    if kind == 3:
+        return b"X add " + draw.choice([b"\xc3", b"\xed\xa0\x80", b"\xc0\xaf", b"\xf4\x90\x80\x80", b"\xe0\x80\xaf"])
+    return line[:6] + b"1" * (draw.choice([LONGEST_LINE, LONGEST_LINE + 1]) - len(line[:6]))

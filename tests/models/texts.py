@@ -1,0 +1,189 @@
+"""A text as its contracts have it: the bytes of its characters, inline or on the heap; and what calls answer and leave."""
+import swept
+from models.calls import Calls, listed, spelled
+from models.vector_calls import into_vec, shrink_to_fit
+from models.vectors import DOUBLES, FOR, Vector, word
+
+SLOTS = (0, 4, 20)
+# Characters of one to four bytes.
+LETTERS = "ab \u00e9\u07ff\u20ac\U0001f600"
+
+
+class Text(Vector):
+    def __init__(self, slots):
+        super().__init__("TinyVec", "u8", slots)
+
+    def start(self):
+        return f"{self.place()} {hexed(self.text())}"
+
+    def state(self):
+        return f"{self.place()} {told(self.text())}"
+
+    def place(self):
+        return "inline" if self.is_inline else f"heap {self.on_heap}"
+
+    def text(self):
+        return bytes(self.list).decode()
+
+    def boundaries(self):
+        """The places between characters, in bytes."""
+        return [i for i in range(len(self.list)) if self.list[i] & 0xC0 != 0x80] + [len(self.list)]
+
+    def adds(self, pieces, are_pushed=False):
+        """Appends the pieces one by one, as by `push`, which doubles the room for an ASCII letter, or as by `push_str`."""
+        for it in pieces:
+            if self.gains(list(it.encode()), DOUBLES if are_pushed and it.isascii() else FOR) is None:
+                return None
+        return ""
+
+    def puts(self, start, end, text):
+        """The text in place of a range."""
+        new = [*self.list[:start], *text.encode(), *self.list[end:]]
+        return self.becomes(new) if self.makes_room(len(new)) else None
+
+
+def told(text):
+    return swept.told(text.encode())
+
+
+def hexed(text):
+    return f"<{text.encode().hex()}>"
+
+
+def given(text):
+    return hexed(text), text
+
+
+def drawn(draw):
+    t = Text(draw.choice(SLOTS))
+    t.list = list(drawn_text(draw).encode())
+    t.is_inline = len(t.list) <= t.slots and draw.random() < 0.6
+    t.spare = t.defaults(t.slots - len(t.list)) if t.is_inline else []
+    # Just the room for a text that is longer than the slots, or at least twice as much.
+    count, more = len(t.list), draw.randint(0, 5)
+    t.on_heap = draw.choice([count, 2 * count + more]) if count > t.slots else t.slots + 1 + more
+    return t
+
+
+def drawn_text(draw):
+    return "".join(draw.choices(LETTERS, k=draw.choice([0, 1, 2, 3, 5, 9, draw.randint(0, 99)])))
+
+
+def drawn_range(draw, t):
+    start, end = sorted(draw.choices(t.boundaries(), k=2))
+    return f"{start}..{end}", (start, end)
+
+
+def drawn_slots(draw, t):
+    """Bytes that the slots hold, mostly those of a text, and spare slots of any value."""
+    new = drawn_text(draw).encode()
+    new = new[: draw.randint(0, len(new))] if draw.random() < 0.3 else new
+    spare = [str(draw.randrange(256)) for _ in range(t.slots - len(new))]
+    return (listed(map(str, new), spare).replace(" ", ""), new) if len(new) <= t.slots else None
+
+
+def drawn_other(draw, t):
+    """The same text or another, on the heap."""
+    text = draw.choice([t.text(), drawn_text(draw)])
+    return f"heap {2 * len(text.encode()) + t.slots + 1} {hexed(text)}", text
+
+
+OPERANDS = {
+    "B": lambda draw, t: word(draw.choice(t.boundaries())),
+    "R": drawn_range,
+    "N": lambda draw, _t: word(draw.randint(0, 30)),
+    "C": lambda draw, _t: given(draw.choice(LETTERS)),
+    "T": lambda draw, _t: given(drawn_text(draw)),
+    "OTHER": drawn_other,
+    "SLOTS": drawn_slots,
+}
+
+
+def refusal(name, _t, _operands):
+    return {"into_string": "", "write_str": "Error", "write_pair": "Error"}.get(name, "AllocError")
+
+
+calls = Calls(OPERANDS, refusal, uncounted=["shrink_to_fit", "cmp"])
+
+
+def reserved(t, text):
+    return t.adds([text]) if len(t.list) + len(text.encode()) <= t.capacity() else None
+
+
+def part(t, start, end=None):
+    """The text from `start` on, in the same place; on the heap it has no more room than it needs. The first `end` bytes stay."""
+    text = bytes(t.list[start:])
+    if t.asks(not t.is_inline and len(text) > 0):
+        t.becomes(t.list[:end])
+        return f"{'inline' if t.is_inline else f'heap {len(text)}'} {swept.told(text)}"
+
+
+def without(t, i):
+    """Removes the character at `i`, and tells it."""
+    letter = bytes(t.list[i:]).decode()[0]
+    return t.puts(i, i + len(letter.encode()), "") or f"'{letter}'"
+
+
+def from_utf8(t, new):
+    try:
+        return t.made(list(new.decode().encode()))
+    except UnicodeDecodeError:
+        return "None"
+
+
+def collected(t, text):
+    new = Text(t.slots)
+    new.asked, new.granted = t.asked, t.granted
+    return None if new.adds(text, are_pushed=True) is None else t.is_now(new)
+
+
+def compared(t, other):
+    ours, theirs = bytes(t.list), other.encode()
+    return f"Some({'Less' if ours < theirs else 'Greater' if ours > theirs else 'Equal'})"
+
+
+# What makes a text.
+calls("new")(lambda t: t.made([]))
+calls("from_str T")(lambda t, text: t.made(list(text.encode())))
+calls("from_utf8_or_none SLOTS")(from_utf8)
+calls("with_capacity N")(lambda t, n: t.made([], room=n))
+calls("collect T")(collected)
+
+# What appends to it.
+calls("push C")(lambda t, letter: t.adds([letter], are_pushed=True))
+calls("push_str T")(lambda t, text: t.adds([text]))
+calls("write_str T")(lambda t, text: t.adds([text]))
+calls("write_pair N T")(lambda t, n, text: t.adds([str(n), ", ", text]))
+calls("extend_chars T")(lambda t, text: t.adds(text, are_pushed=True))
+calls("extend_words T")(lambda t, text: t.adds(text.split(" ")))
+calls("push_reserved C")(reserved)
+calls("push_str_reserved T")(reserved)
+calls("reserve N")(lambda t, n: "" if t.makes_room(len(t.list) + n) else None)
+
+# What changes it elsewhere, or moves it.
+calls("pop")(lambda t: f"Some({without(t, t.boundaries()[-2])})" if t.list else "None")
+calls("remove B")(lambda t, i: without(t, i) if i < len(t.list) else None)
+calls("clear")(lambda t: t.becomes([]))
+calls("truncate B")(lambda t, i: t.becomes(t.list[:i]))
+calls("insert B C")(lambda t, i, letter: t.puts(i, i, letter))
+calls("insert_str B T")(lambda t, i, text: t.puts(i, i, text))
+calls("replace_range R T")(lambda t, span, text: t.puts(*span, text))
+calls("retain_not C")(lambda t, letter: t.becomes(list(t.text().replace(letter, "").encode())))
+calls("split_off B")(lambda t, i: part(t, i, i))
+calls("clone")(lambda t: part(t, 0))
+calls("shrink_to_fit")(shrink_to_fit)
+calls("into_bytes")(lambda t: Vector.state(t) + t.made([]))
+calls("into_string")(lambda t: into_vec(t, lambda t, room: f"({room}, {told(t.text())})"))
+
+# What looks at it.
+calls("len")(lambda t: f"({len(t.list)}, {spelled(not t.list)}, {t.capacity()})")
+calls("is_inline")(lambda t: spelled(t.is_inline))
+calls("is_char_boundary N")(lambda t, n: spelled(n in t.boundaries()))
+calls("show_to_four")(lambda t: told(t.text().rjust(4)))
+calls("show_one")(lambda t: told(t.text()[:1]))
+calls("is_hashed_as_str")(lambda t: "true")
+calls("cmp OTHER")(compared)
+for name in ("as_bytes", "as_slice"):
+    calls(name)(lambda t: t.shown(t.list))
+for name in ("as_str", "debug", "show"):
+    calls(name)(lambda t: told(t.text()))
