@@ -37,7 +37,7 @@ macro_rules! sized {
 
 fn answer_array(item: &str, count: usize, words: &mut Words<'_>, calls: &mut Calls<'_>) -> Said {
     match item {
-        "[i32" => sized!(of_array, i32, count, words, calls, 0 3 4 8 10 600),
+        "[i32" => sized!(of_array, i32, count, words, calls, 0 3 4 7 8 10 600),
         "[u8" => sized!(of_array, u8, count, words, calls, 10 600),
         "[()" => sized!(of_array, (), count, words, calls, 4),
         "[Box" => sized!(of_array, Boxed, count, words, calls, 4),
