@@ -53,8 +53,8 @@ impl<T: Item, A: Array<Item = T>> Vector for ArrayVec<A> {
             Call::Lend(lend) => lend_slots!(self, lend, out),
             Call::Put(put) => put_in(self, put, out),
             Call::Extend(extend) => append(self, extend, out),
-            Call::Filter(filter) => filter!(self, filter, out),
-            Call::Ranged(ranged) => ranged!(self, ranged, out),
+            Call::Filter(filter) => keep(self, filter, out),
+            Call::Ranged(ranged) => replace(self, ranged, out),
             Call::Pair(pair) => both(self, other, pair, out),
             Call::Drained(drained) => drain_all(self, drained, out),
             Call::Make(make) => remake(self, make, out),
@@ -100,6 +100,22 @@ fn append<T: Item, A: Array<Item = T>>(
         Extend::ExactSize(_) => Err(Wrong::Call),
         _ => Err(Wrong::Place),
     )
+}
+
+fn keep<T: Item, A: Array<Item = T>>(
+    v: &mut ArrayVec<A>,
+    filter: Filter,
+    out: &mut String,
+) -> Said {
+    filter!(v, filter, out)
+}
+
+fn replace<T: Item, A: Array<Item = T>>(
+    v: &mut ArrayVec<A>,
+    ranged: Ranged<T>,
+    out: &mut String,
+) -> Said {
+    ranged!(v, ranged, out)
 }
 
 fn both<T: Item, A: Array<Item = T>>(

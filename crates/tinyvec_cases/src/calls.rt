@@ -9,6 +9,15 @@ pub fn add_to_each<T: Item>(items: slice::IterMut<'_, T>, more: i32) {
     }
 }
 
+// Ends a call whose condition does not hold. A guard can't read what its arm moves.
+macro_rules! needs {
+    ($condition:expr) => {
+        if !$condition {
+            return Err(tinyvec_rows::Wrong::Place);
+        }
+    };
+}
+
 // Calls that take items out of any vector.
 macro_rules! cut {
     ($v:ident, $cut:ident, $out:ident, $($arm:tt)*) => {
@@ -79,8 +88,12 @@ macro_rules! extend_slots {
                 Ok(()) => Ok(()),
                 Err(tinyvec::NoRoom { item, rest }) => tinyvec_rows::say_rest($out, &item, rest),
             },
-            Extend::Fill(items) => tinyvec_rows::say_all($out, $v.fill(items).fuse()),
-            Extend::FromSlice(items) if items.len() <= $v.remaining_capacity() => {
+            Extend::Fill(items) => {
+                let rest = $v.fill(items);
+                tinyvec_rows::say_all($out, rest.fuse())
+            }
+            Extend::FromSlice(items) => {
+                $crate::calls::needs!(items.len() <= $v.remaining_capacity());
                 tinyvec_rows::done($out, $v.extend_from_slice(items.as_slice()))
             }
             Extend::FromWithin(range)
@@ -88,7 +101,8 @@ macro_rules! extend_slots {
                 tinyvec_rows::done($out, $v.extend_from_within(range))
             }
             Extend::Resize(n, x) if n <= $v.capacity() => tinyvec_rows::done($out, $v.resize(n, x)),
-            Extend::ResizeWith(n, mut counter) if n <= $v.capacity() => {
+            Extend::ResizeWith(n, mut counter) => {
+                $crate::calls::needs!(n <= $v.capacity());
                 $v.resize_with(n, || counter.next());
                 say($out, &counter.calls())
             }
@@ -126,11 +140,12 @@ macro_rules! filter {
 macro_rules! drain {
     ($v:ident, $ranged:ident, $out:ident, $($arm:tt)*) => {
         match $ranged {
-            Ranged::Drain(range, steps) if is_within(range, $v.len()) => {
+            Ranged::Drain(range, steps) => {
+                $crate::calls::needs!(is_within(range, $v.len()));
                 $crate::steps::stepped(&mut $v.drain(range), steps.as_slice(), $out)
             }
-            Ranged::DrainInto(range, mut to)
-                if is_within(range, $v.len()) && $v.len() <= to.capacity() - to.len() => {
+            Ranged::DrainInto(range, mut to) => {
+                $crate::calls::needs!(is_within(range, $v.len()) && $v.len() <= to.capacity() - to.len());
                 $v.drain_into(range, &mut to);
                 tinyvec_rows::say_list($out, to.as_slice())
             }
@@ -143,15 +158,18 @@ macro_rules! drain {
 macro_rules! ranged {
     ($v:ident, $ranged:ident, $out:ident) => {
         $crate::calls::drain!($v, $ranged, $out,
-            Ranged::Splice(range, items, mut steps) if is_within(range, $v.len()) => {
+            Ranged::Splice(range, items, mut steps) => {
+                $crate::calls::needs!(is_within(range, $v.len()));
                 $crate::calls::splice!($v.splice(range, items), steps, $out)
             }
-            Ranged::SpliceAll(range, items) if is_within(range, $v.len()) => match $v.splice_all(range, items) {
-                Ok(()) => Ok(()),
-                Err(refused) => tinyvec_rows::say_refused($out, &refused.item),
-            },
+            Ranged::SpliceAll(range, items) => {
+                $crate::calls::needs!(is_within(range, $v.len()));
+                match $v.splice_all(range, items) {
+                    Ok(()) => Ok(()),
+                    Err(refused) => tinyvec_rows::say_refused($out, &refused.item),
+                }
+            }
             Ranged::DrainEach(_, _) => Err(Wrong::Call),
-            _ => Err(Wrong::Place),
         )
     };
 }
@@ -185,6 +203,7 @@ pub(crate) use extend_slots;
 pub(crate) use filter;
 pub(crate) use lend;
 pub(crate) use lend_slots;
+pub(crate) use needs;
 pub(crate) use put_in_slots;
 pub(crate) use ranged;
 pub(crate) use splice;

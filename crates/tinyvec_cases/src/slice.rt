@@ -1,11 +1,11 @@
 //! Rows of a `SliceVec`.
-use crate::calls::{cut, drain, extend_slots, lend_slots, put_in_slots};
+use crate::calls::{cut, drain, extend_slots, lend_slots, needs, put_in_slots};
 use crate::held::Copies;
 use crate::steps::{Steps, stepped};
 use crate::vector::Vector;
 use tinyvec::{GenericSliceVec, GenericSliceVecDrain, Lent, SliceVec};
 use tinyvec_rows::call::{Call, Cut, Extend, Filter, Lend, Pair, Put, Ranged};
-use tinyvec_rows::{Item, Said, Span, Step, Wrong, is_within, say, say_list, say_slots};
+use tinyvec_rows::{Item, Said, Span, Step, Wrong, is_within, say, say_hint, say_list, say_slots};
 
 impl<'s, T: Item> Vector for SliceVec<'s, T> {
     type Item = T;
@@ -108,13 +108,12 @@ fn drain_part<T: Item, B: Lent<Item = T>>(
     out: &mut String,
 ) -> Said {
     drain!(v, ranged, out,
-        Ranged::DrainEach(range, mut given)
-            if is_within(range, v.len()) && v.len() <= given.capacity() - given.len() => {
+        Ranged::DrainEach(range, mut given) => {
+            needs!(is_within(range, v.len()) && v.len() <= given.capacity() - given.len());
             v.drain_each(range, &mut |x| given.push(x).unwrap_or(()));
             say_list(out, given.as_slice())
         }
         Ranged::Splice(_, _, _) | Ranged::SpliceAll(_, _) => Err(Wrong::Call),
-        _ => Err(Wrong::Place),
     )
 }
 
@@ -143,7 +142,7 @@ impl<'a, T: Item, B: Lent<Item = T>> Steps for GenericSliceVecDrain<'a, B> {
     fn step(&mut self, step: Step, out: &mut String) -> Said {
         match step {
             Step::Next => say(out, &self.next()),
-            Step::Hint => say(out, &self.size_hint()),
+            Step::Hint => say_hint(out, self),
             Step::Debug => say(out, self),
             _ => Err(Wrong::Value),
         }

@@ -1,5 +1,5 @@
 //! Steps of the iterators of vectors, which rows name.
-use tinyvec_rows::{Item, Said, Step, Wrong, say, say_list};
+use tinyvec_rows::{Item, Said, Step, Wrong, say, say_hint, say_list};
 use tinyvec_slots::{CanCut, ExtractIf, OwnedItems, OwnsItems};
 
 /// An iterator that rows step. A splice is not dropped where a step fails.
@@ -30,7 +30,7 @@ macro_rules! step_at_ends {
         match $step {
             tinyvec_rows::Step::Next => tinyvec_rows::say($out, &$it.next()),
             tinyvec_rows::Step::Back => tinyvec_rows::say($out, &$it.next_back()),
-            tinyvec_rows::Step::Left => tinyvec_rows::say_left($out, &*$it),
+            tinyvec_rows::Step::Left => tinyvec_rows::say($out, &((*$it).len(), (*$it).size_hint())),
             $($arm)*
         }
     };
@@ -49,7 +49,7 @@ where
     fn step(&mut self, step: Step, out: &mut String) -> Said {
         match step {
             Step::Next => say(out, &self.next()),
-            Step::Hint => say(out, &self.size_hint()),
+            Step::Hint => say_hint(out, self),
             _ => Err(Wrong::Value),
         }
     }

@@ -1,6 +1,6 @@
 //! Rows of a `TinyVec`.
 use crate::array::{array_of, made, say_vec};
-use crate::calls::{cut, filter, lend, ranged};
+use crate::calls::{cut, filter, lend, needs, ranged};
 use crate::held::Copies;
 use crate::steps::{Steps, iterated, step_at_ends, stepped};
 use crate::vector::Vector;
@@ -64,8 +64,8 @@ impl<T: Item, A: Array<Item = T>> Vector for TinyVec<A> {
             Call::Lend(lend) => look(self, lend, out),
             Call::Put(put) => put_in(self, put, out),
             Call::Extend(extend) => append(self, extend, out),
-            Call::Filter(filter) => filter!(self, filter, out),
-            Call::Ranged(ranged) => ranged!(self, ranged, out),
+            Call::Filter(filter) => keep(self, filter, out),
+            Call::Ranged(ranged) => replace(self, ranged, out),
             Call::Pair(pair) => both(self, other, pair, out),
             Call::Drained(drained) => drain_all(self, drained, out),
             Call::Make(make) => remake(self, make, out),
@@ -104,18 +104,36 @@ fn look<T: Item, A: Array<Item = T>>(v: &mut TinyVec<A>, lend: Lend<T>, out: &mu
 fn put_in<T: Item, A: Array<Item = T>>(v: &mut TinyVec<A>, put: Put<T>, out: &mut String) -> Said {
     match put {
         Put::Push(x) => done(out, v.push(x)),
-        Put::PushMut(x, y) => say_lent(v.push_mut(x), y, out),
+        Put::PushMut(x, y) => push_and_set(v, x, y, out),
         Put::Insert(i, x) if i <= v.len() => done(out, v.insert(i, x)),
-        Put::InsertMut(i, x, y) if i <= v.len() => say_lent(v.insert_mut(i, x), y, out),
+        Put::InsertMut(i, x, y) => insert_and_set(v, i, (x, y), out),
         Put::TryPush(_) | Put::TryInsert(_, _) => Err(Wrong::Call),
         _ => Err(Wrong::Place),
     }
 }
 
 // Writes to the item that was put in, if there was room for it.
-fn say_lent<T: Item>(lent: Result<&mut T, NoMemory<T>>, x: T, out: &mut String) -> Said {
-    match lent {
-        Ok(lent) => say_and_set(out, lent, x),
+fn push_and_set<T: Item, A: Array<Item = T>>(
+    v: &mut TinyVec<A>,
+    x: T,
+    y: T,
+    out: &mut String,
+) -> Said {
+    match v.push_mut(x) {
+        Ok(lent) => say_and_set(out, lent, y),
+        Err(refused) => say(out, &refused),
+    }
+}
+
+fn insert_and_set<T: Item, A: Array<Item = T>>(
+    v: &mut TinyVec<A>,
+    i: usize,
+    items: (T, T),
+    out: &mut String,
+) -> Said {
+    needs!(i <= v.len());
+    match v.insert_mut(i, items.0) {
+        Ok(lent) => say_and_set(out, lent, items.1),
         Err(refused) => say(out, &refused),
     }
 }
@@ -144,6 +162,18 @@ fn append<T: Item, A: Array<Item = T>>(
         }
         Extend::Fill(_) | Extend::TryFromSlice(_) => Err(Wrong::Call),
     }
+}
+
+fn keep<T: Item, A: Array<Item = T>>(v: &mut TinyVec<A>, filter: Filter, out: &mut String) -> Said {
+    filter!(v, filter, out)
+}
+
+fn replace<T: Item, A: Array<Item = T>>(
+    v: &mut TinyVec<A>,
+    ranged: Ranged<T>,
+    out: &mut String,
+) -> Said {
+    ranged!(v, ranged, out)
 }
 
 fn both<T: Item, A: Array<Item = T>>(

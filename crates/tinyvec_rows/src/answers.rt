@@ -126,7 +126,7 @@ pub fn write_spare<T: Item>(lent: &mut [T], items: Vec<T>, out: &mut String) -> 
     Ok(())
 }
 
-/// Writes how many items an iterator has left, by its length and its hint.
-pub fn say_left<I: ExactSizeIterator>(out: &mut String, it: &I) -> Said {
-    say(out, &(it.len(), it.size_hint()))
+/// Writes the hint of an iterator.
+pub fn say_hint<I: Iterator>(out: &mut String, it: &I) -> Said {
+    say(out, &it.size_hint())
 }

@@ -11,7 +11,7 @@ pub mod window;
 mod words;
 
 pub use answers::{
-    Quoted, done, say, say_all, say_and_set, say_left, say_list, say_place, say_refused, say_rest,
+    Quoted, done, say, say_all, say_and_set, say_hint, say_list, say_place, say_refused, say_rest,
     say_slots, say_word, write_spare,
 };
 pub use closure::{Choice, Closure, Counter, Key, Pairing};
