@@ -124,7 +124,7 @@ fn extract_lent<T: Item, B: Lent<Item = T>, F: FnMut(&mut T) -> bool>(
     steps: &[Step],
     out: &mut String,
 ) -> Said
-    requires { F.IsAlwaysCallable f }
+    requires { (g : F) → F.IsAlwaysCallable g }
 {
     if !is_within(range, v.len()) {
         return Err(Wrong::Place);

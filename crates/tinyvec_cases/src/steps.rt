@@ -42,9 +42,9 @@ impl<'a, V: CanCut, F: FnMut(&mut V::Item) -> bool> Steps for ExtractIf<'a, V, F
 where
     V::Item: Item,
 {
-    ghost use Rattle.tinyvec_slots.specs.Extracting.{extract_closure, ExtractLies};
+    ghost use Rattle.tinyvec_slots.specs.Extracting.{ExtractLies};
 
-    ghost Ready = { λ it. ExtractLies V.items it × F.IsAlwaysCallable (extract_closure it) };
+    ghost Ready = { λ it. ExtractLies V.items it × ((g : F) → F.IsAlwaysCallable g) };
 
     fn step(&mut self, step: Step, out: &mut String) -> Said {
         match step {

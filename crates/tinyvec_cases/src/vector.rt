@@ -23,7 +23,7 @@ pub trait Vector {
         steps: &[Step],
         out: &mut String,
     ) -> Said
-        requires { F.IsAlwaysCallable f };
+        requires { (g : F) → F.IsAlwaysCallable g };
 }
 
 /// The text of a row's calls, and that to which the answers are added.
