@@ -1,7 +1,7 @@
 //! What calls answer, as text. A space follows each answer.
 use crate::{Item, Said, Wrong};
 use std::fmt::Write;
-use std::iter::{ExactSizeIterator, Fuse};
+use std::iter::Fuse;
 use std::{fmt, vec};
 
 /// Writes an answer by `{:?}`.
