@@ -10,7 +10,9 @@ import pathlib
 import re
 
 import callers
+import costs
 import exports
+import outcomes
 
 TOP = exports.TOP
 FOLDER = TOP / "docs/reference"
@@ -38,8 +40,14 @@ LONGEST = 8
 # A note is shown on the first of its pages in this order.
 ORDER = ("TINY_VEC", "ARRAY_VEC", "SLICE_VEC", "INLINE_TEXT", "BORSH", "COUNTED", "SCRIPT", "SLOTS")
 
-# What a reader looks for first. Other files follow by name, and traits and further types at the end.
-FIRST = ("making", "edits", "extending", "drain", "splice", "filters", "capacity", "reading", "writing", "taking")
+# The sections of all pages, in the order of std's pages: what makes a value, its capacity, what reads it, what changes it, what
+# takes it apart, the types that calls return, errors, traits.
+SECTIONS = (
+    *("form", "serialize", "deserialize", "making", "capacity", "reading", "writing", "edits", "extending", "drain", "splice"),
+    *("filters", "extracting", "clones", "taking", "call", "command", "runs", "driving", "array", "tiny", "lent", "script"),
+    *("into_iter", "owned", "no_room", "no_memory", "capacity_error", "try_from_slice_error", "from_utf8_error", "borsh_error"),
+    *("array_vec", "tiny_vec", "inline_text", "numbers", "traits", "parts"),
+)
 TITLES = {
     "making": "Making one",
     "edits": "Pushing, inserting, removing",
@@ -96,6 +104,11 @@ def faults():
                 yield f"{it.source.path}: {it.key()} has no `///`"
             if it.key() in library.uncalled and not it.is_part:
                 yield f"docs/reference/{page}.md: no caller of {it.key()}: write one in crates/tinyvec_examples/src"
+    yield from costs.faults(library.calls)
+    sections = {it.section(main_of(page)) for page, found in library.pages.items() for it in found}
+    yield from (f"scripts/reference.py: in which place is the section {it}?" for it in sorted(sections - set(SECTIONS)))
+    short = (it for it in library.calls if it in library.callers and len(library.callers[it].lines) < 3)
+    yield from (f"{library.callers[it].path}: the caller of {it} has fewer than three lines" for it in sorted(short))
     yield from (f"docs/DIFFERENCES.md: no such call: {it}" for it in library.notes if it not in library.keys)
     for cells in differences():
         bare = [it for it in re.findall(r"`([^`]*)`", cells[2]) if not NAMES.fullmatch(it)]
@@ -150,6 +163,8 @@ class Library:
             for it in caller.calls:
                 self.callers[it] = min(self.callers.get(it, caller), caller, key=lambda one: len(one.text))
         self.uncalled = {it for it in self.keys if is_call(it)} - self.callers.keys()
+        self.calls = {it.key() for found in self.pages.values() for it in found if is_call(it.key()) and not it.is_part}
+        self.costs = costs.by_call(costs.costs())
         self.notes = notes()
         # Where a note is shown.
         self.noted = {}
@@ -258,6 +273,12 @@ class Entry(exports.Export):
         signature = self.item.signature()
         return "reading" if "&self" in signature else "writing" if "&mut self" in signature else "taking"
 
+    def functions(self):
+        """The functions whose clauses tell when it fails. What prints fails if its writer does."""
+        if self.kind == "impl":
+            return [it for it in self.item.members() if it.kind == "fn" and it.name != "fmt" and has_contract(it)]
+        return [self.item] if self.kind in ("fn", "method") else []
+
     def words(self):
         """The words that its contract cites, with the path that defines each, but for operators, variants, proofs and std's prelude."""
         known = exports.imported(self.source.file.read_text(encoding="utf-8"))
@@ -333,9 +354,7 @@ class Page:
         for found in self.sections.values():
             # The calls of the page's type, then what they return.
             found.sort(key=self.place)
-        last = ("traits", "parts")
-        place = lambda it: (FIRST.index(it) if it in FIRST else len(FIRST) + (last.index(it) + 1 if it in last else 0), it)
-        self.order = sorted(self.sections, key=place)
+        self.order = sorted(self.sections, key=SECTIONS.index)
 
     def place(self, it):
         is_own = it.kind == "method" and it.of == self.main
@@ -358,7 +377,18 @@ class Page:
             links = ", ".join(f"[`{name}`](WORDS.md#{exports.word_anchor(path, name)})" for path, name in sorted(set(words), key=lambda it: it[1].lower()))
             below += [f"\nWords: {links}.\n"] if words else []
             below += self.parts(found) if section == "parts" else self.section(found)
-        return "\n\n| | |\n|---|---|\n" + "".join(rows + below)
+        return f"\n\n{self.costs()}| | |\n|---|---|\n" + "".join(rows + below)
+
+    def costs(self):
+        """A table of what the calls cost, those of the page's type first."""
+        calls = {it.key(): it for it in self.entries if it.key() in self.library.costs}
+        rows = {}
+        for key, cost in self.library.costs.items():
+            if key in calls:
+                it = calls[key]
+                rows.setdefault(cost, []).append(f"[`{it.heading(self.main).strip('`')}`](#{it.anchor(self.main)})")
+        lines = [f"| {', '.join(links)} | {cost.time} | {cost.allocates} |\n" for cost, links in rows.items()]
+        return "| Calls | Time for | Allocate |\n|---|---|---|\n" + "".join(lines) + "\n## Contents\n\n" if lines else ""
 
     def parts(self, found):
         yield "\nVectors are written with these; their contracts are in the sources.\n\n"
@@ -380,11 +410,23 @@ class Page:
         yield from (f"\n{said}\n" for said in it.prose() if self.is_new(said))
         notes = self.notes(it) if twin is it or it.kind == "impl" else ()
         yield from (f"\n{note}\n" for note in notes)
+        yield from self.facts(it)
         yield from self.caller(it) if is_call(it.key()) else ()
         if twin is not it:
             yield f"\nIts contract is that of [`{twin.trait or twin.name}`](#{twin.anchor(self.main)}){instead}.\n"
         elif head != code:
             yield f"\n<details><summary>Contract</summary>\n\n```\n{code}\n```\n\n</details>\n"
+
+    def facts(self, it):
+        """What a call requires, when it fails and when it cannot, and what it costs."""
+        lines = []
+        for item in it.functions():
+            found = outcomes.Outcomes(item, exports.imported(it.source.file.read_text(encoding="utf-8")))
+            own = [found.conditions(), found.fails(), found.cannot_fail() if it.kind != "impl" or found.can_fail() else ""]
+            lines += [line.replace("* ", f"* (`{item.name}`) ", 1) if it.kind == "impl" else line for line in own if line]
+        if cost := self.library.costs.get(it.key()):
+            lines.append(f"- *Cost*: {cost.said()}\n")
+        yield from ["\n", *lines] if lines else ()
 
     def caller(self, it):
         caller = self.library.callers.get(it.key())

@@ -13,19 +13,16 @@ import re
 
 import exports
 import reference
+from definitions import COMMENT, closing, code, source_of, words_of
 
 TOP = exports.TOP
 PAGE = TOP / "docs/reference/WORDS.md"
 MARK = "<!-- scripts/words.py writes what follows -->"
 EXAMPLES = "crates/tinyvec_examples/proofs/words"
 
-COMMENT = re.compile(r" *-- (.*)")
-WORD = re.compile(r"(?P<indent> *)(?:(?:abbrev|unfoldable) )?pub (?:(?P<kind>record|data) )?(?P<name>[^\s:]+)(?P<rest>.*)")
-FIELD = re.compile(r" +(?:pub )?([^\s:]+) : (.*)")
-# What a module, a record or a data type is given, without its types.
-GIVEN = re.compile(r"\(((?:\w+ )+): ")
-# A comment `of PATH` above a lemma names the file of a word that the statement itself does not have.
-EXAMPLE = re.compile(r"^(?: *-- of (\S+)\n)?( *)pub example-(\S+) : (.*(?:\n\2 +.*)*)$", re.M)
+# A comment above a lemma is shown before it: of what is lent, say, whose word is no part of a fact. It may begin with `of PATH:`,
+# the file of a word that the statement itself does not have.
+EXAMPLE = re.compile(r"^(?: *-- (?:of (\S+): )?(.*)\n)?( *)pub example-(\S+) : (.*(?:\n\3 +.*)*)$", re.M)
 
 
 def main():
@@ -44,7 +41,10 @@ def faults():
             yield f"{path}: no definition of `{name}` was found"
         else:
             yield from [f"{path}: `{name}` has no comment"] * (not words.defined[path, name].comment)
-            yield from [f"{EXAMPLES}: no `example-{name}` of {path}, or an empty one"] * (not words.example((path, name)).strip("`"))
+            example = words.example((path, name))
+            yield from [f"{EXAMPLES}: no `example-{name}` of {path}, or an empty one"] * (not example)
+            is_named = re.search(rf"(?<![\w.-]){re.escape(name)}(?![\w-])", example)
+            yield from [f"{EXAMPLES}: `example-{name}` of {path} does not show {name}"] * bool(example and not is_named)
     yield from (f"{EXAMPLES}: no contract of the reference cites `{name}` of {path}" for path, name in words.examples if (path, name) not in words.cited)
 
 
@@ -59,7 +59,8 @@ class Words:
             text = file.read_text(encoding="utf-8")
             known = exports.imported(text)
             of = lambda path, name: (path, name) if path else known.get(name, (file.stem, name))
-            self.examples.update({of(path, name): (file, plain(" ".join(shown.split()))) for path, _, name, shown in EXAMPLE.findall(text)})
+            for path, said, _, name, shown in EXAMPLE.findall(text):
+                self.examples[of(path, name)] = (file, said and f"{said}: ", plain(" ".join(shown.split())))
         self.define()
         for path, name in [it for it in self.cited if it in self.defined]:
             known = exports.imported(source_of(path).read_text(encoding="utf-8"))
@@ -105,16 +106,13 @@ class Words:
         return self.defined[word].shown, self.defined[word].meaning, self.example(word)
 
     def example(self, word):
-        return code(self.examples[word][1]) if word in self.examples else ""
+        """The example of a word as it is shown."""
+        _, said, statement = self.examples.get(word, ("", "", ""))
+        return said + code(statement) if statement else ""
 
     def row(self, word):
         found = self.defined[word]
         return f'| <a id="{exports.word_anchor(*word)}"></a>{found.shown} | {found.meaning} | {self.example(word)} |'
-
-
-def source_of(path):
-    crate, _, stem = path.partition(".specs.")
-    return TOP / "crates" / crate / f"specs/{stem}.antt"
 
 
 def plain(statement):
@@ -127,91 +125,6 @@ def plain(statement):
     statement = re.sub(r"\((\[[^]]*\])\)", r"\1", statement)
     statement = re.sub(r"\(nums (\[[^]]*\])\)|\bnums (\[[^]]*\])", lambda it: it[1] or it[2], statement)
     return re.sub(r"\(over (\[[^]]*\]) (\[[^]]*\])\)|\bover (\[[^]]*\]) (\[[^]]*\])", lambda it: f"({it[1] or it[3]} {it[2] or it[4]})", statement)
-
-
-def closing(text):
-    depth = 0
-    for at, letter in enumerate(text):
-        depth += (letter in "({") - (letter in ")}")
-        if depth == 0:
-            return at + 1
-    return len(text)
-
-
-class Word:
-    def __init__(self, found, comment, given, lines):
-        """`given` is what its module is given, and `lines` are those after the word's first, up to the next word."""
-        self.name, self.kind = found["name"], found["kind"]
-        self.text = "\n".join([found["rest"], *lines])
-        self.comment = comment.strip().rstrip(".")
-        body = [it for it in lines if len(it) - len(it.lstrip()) > len(found["indent"])]
-        head = found["rest"]
-        while self.kind and body and not head.endswith("where"):
-            head += body.pop(0)
-        equation = next((it.strip() for it in lines if re.match(rf" *{re.escape(self.name)} .*=( |$)", it)), "")
-        left = re.sub(r"\{\w+\} ", "", equation).partition(" =")[0]
-        own = given_by(head) if self.kind else [left.removeprefix(self.name)] * bool(re.fullmatch(r"[\w ]+", left))
-        self.shown = code(" ".join(" ".join([self.name, *given, *own]).split()))
-        parts = self.parts(body) if self.kind else ""
-        self.meaning = self.comment + f". {'It has' if self.kind == 'record' else 'One of'} {parts}" * bool(parts)
-
-    def parts(self, body):
-        """The fields of a record with their statements, or the variants of a data type, each with its comment."""
-        shown, said = [], ""
-        for line in body:
-            if found := COMMENT.match(line):
-                said = f"{said} {found[1]}".strip()
-            elif found := FIELD.match(line):
-                shown.append([found[1], found[2], said])
-                said = ""
-            elif shown:
-                shown[-1][1] += f" {line.strip()}"
-        return "; ".join(code(f"{name} : {text}" if self.kind == "record" else name) + f" ({said})" * bool(said) for name, text, said in shown)
-
-
-def code(text):
-    return "`" + text.replace("|", "\\|") + "`"
-
-
-def words_of(file):
-    """Each public word of a file, whose comment follows that of its module. The fields of records are told with their record."""
-    lines = file.read_text(encoding="utf-8").splitlines()
-    depth, comment, module, given, starts = None, [], [], [], []
-    for at, line in enumerate(lines):
-        if not line.strip():
-            comment = []
-        elif found := COMMENT.match(line):
-            comment.append(found[1])
-        else:
-            indent = len(line) - len(line.lstrip())
-            if depth is not None and indent <= depth:
-                depth = None
-            if line.startswith("module"):
-                module, given = comment, given_by(line)
-            elif indent == 0:
-                module, given = [], []
-            found = WORD.match(line)
-            if found and depth is None and not re.match(r" *pub (?:mod|use) ", line):
-                starts.append((at, found, sentences(module, comment), given))
-                depth = indent if found["kind"] else None
-            comment = []
-    for (at, found, said, given), (end, *_) in zip(starts, [*starts[1:], (len(lines),)]):
-        yield Word(found, said, given, lines[at + 1 : end])
-
-
-def given_by(head):
-    """What a declaration is given in parentheses, but for what their types are given."""
-    found, at = [], 0
-    while at < len(head):
-        inner = GIVEN.match(head, at)
-        found += [inner[1]] if inner else []
-        at += closing(head[at:]) if head[at] in "({" else 1
-    return found
-
-
-def sentences(*comments):
-    """The comments one after another, each ended by a full stop where another follows."""
-    return ". ".join(" ".join(it).strip().rstrip(".") for it in comments if it)
 
 
 if __name__ == "__main__":

@@ -1,0 +1,111 @@
+"""The words that the `specs/` of the crates define: what each is given, what it says, and its comment."""
+import functools
+import re
+
+import exports
+
+COMMENT = re.compile(r" *-- (.*)")
+WORD = re.compile(r"(?P<indent> *)(?:(?:abbrev|unfoldable) )?pub (?:(?P<kind>record|data) )?(?P<name>[^\s:]+)(?P<rest>.*)")
+FIELD = re.compile(r" +(?:pub )?([^\s:]+) : (.*)")
+# What a module, a record or a data type is given, without its types.
+GIVEN = re.compile(r"\(((?:\w+ )+): ")
+
+
+def source_of(path):
+    crate, _, stem = path.partition(".specs.")
+    return exports.TOP / "crates" / crate / f"specs/{stem}.antt"
+
+
+def closing(text):
+    depth = 0
+    for at, letter in enumerate(text):
+        depth += (letter in "({") - (letter in ")}")
+        if depth == 0:
+            return at + 1
+    return len(text)
+
+
+class Word:
+    def __init__(self, found, comment, given, lines):
+        """`given` is what its module is given, and `lines` are those after the word's first, up to the next word."""
+        self.name, self.kind = found["name"], found["kind"]
+        self.text = "\n".join([found["rest"], *lines])
+        self.comment = comment.strip().rstrip(".")
+        body = [it for it in lines if len(it) - len(it.lstrip()) > len(found["indent"])]
+        head = found["rest"]
+        while self.kind and body and not head.endswith("where"):
+            head += body.pop(0)
+        equation = next((it.strip() for it in lines if re.match(rf" *{re.escape(self.name)} .*=( |$)", it)), "")
+        left = re.sub(r"\{\w+\} ", "", equation).partition(" =")[0]
+        own = given_by(head) if self.kind else [left.removeprefix(self.name)] * bool(re.fullmatch(r"[\w ]+", left))
+        # What it is given, by name, and the fields of a record with their statements.
+        self.given = " ".join([*given, *own]).split()
+        self.shown = code(" ".join([self.name, *self.given]))
+        found = self.read_parts(body) if self.kind else []
+        self.fields = [(name, text) for name, text, _ in found] if self.kind == "record" else []
+        parts = "; ".join(code(f"{name} : {text}" if self.kind == "record" else name) + f" ({said})" * bool(said) for name, text, said in found)
+        self.meaning = self.comment + f". {'It has' if self.kind == 'record' else 'One of'} {parts}" * bool(parts)
+
+    def read_parts(self, body):
+        """The fields of a record, or the variants of a data type, each with its statement and its comment."""
+        shown, said = [], ""
+        for line in body:
+            if found := COMMENT.match(line):
+                said = f"{said} {found[1]}".strip()
+            elif found := FIELD.match(line):
+                shown.append([found[1], found[2], said])
+                said = ""
+            elif shown:
+                shown[-1][1] += f" {line.strip()}"
+        return shown
+
+
+def code(text):
+    return "`" + text.replace("|", "\\|") + "`"
+
+
+@functools.cache
+def words_of(file):
+    """The public words of a file. The fields of records are told with their record."""
+    return [*read_words(file.read_text(encoding="utf-8").splitlines())]
+
+
+def read_words(lines):
+    """Each public word of these lines, whose comment follows that of its module, with what its modules are given."""
+    depth, comment, modules, starts = None, [], [], []
+    for at, line in enumerate(lines):
+        if not line.strip():
+            comment = []
+        elif found := COMMENT.match(line):
+            comment.append(found[1])
+        else:
+            indent = len(line) - len(line.lstrip())
+            if depth is not None and indent <= depth:
+                depth = None
+            # A module is over where a line is no deeper than its own.
+            modules = [it for it in modules if it[0] < indent]
+            if line.lstrip().startswith("module"):
+                modules.append((indent, comment, given_by(line)))
+            found = WORD.match(line)
+            if found and depth is None and not re.match(r" *pub (?:mod|use) ", line):
+                said = sentences(*(it for _, it, _ in modules), comment)
+                starts.append((at, found, said, [name for _, _, names in modules for name in names]))
+                depth = indent if found["kind"] else None
+            comment = []
+    for (at, found, said, given), (end, *_) in zip(starts, [*starts[1:], (len(lines),)]):
+        yield Word(found, said, given, lines[at + 1 : end])
+
+
+def given_by(head):
+    """What a declaration is given in parentheses, but for what their types are given."""
+    found, at = [], 0
+    while at < len(head):
+        inner = GIVEN.match(head, at)
+        found += [inner[1]] if inner else []
+        at += closing(head[at:]) if head[at] in "({" else 1
+    return found
+
+
+def sentences(*comments):
+    """The comments one after another, each ended by a full stop where another follows."""
+    return ". ".join(" ".join(it).strip().rstrip(".") for it in comments if it)

@@ -1,0 +1,252 @@
+"""What a function's clauses tell of its results: what it requires, when it fails, what holds then, and when it cannot fail."""
+import re
+
+import contracts
+import definitions
+import exports
+
+CLAUSE = re.compile(r"(requires|ensures\*?) ?(\w*) ?\{ (.*) \}$")
+BINDER = re.compile(r"\((?:\w+ )+: .*\)")
+IS = re.compile(r"\(?(IsErr|IsOk|IsSome|IsNone) (?:result(?:\.0)?)\)?")
+IS_ERROR = re.compile(r"\(?result ≡ Err (?:\w+\.)?(\w+)\)?")
+ON = re.compile(r"(OnErr|IfErr|IfSome) result(?:\.0)? (\(.*\))")
+MATCH = re.compile(r"MatchResult result (\(.*\))")
+ERROR = re.compile(r"\w*(?:Error|Rest|NoMemory|NoRoom)")
+# What holds after the call, and is no condition of a failure.
+AFTER = re.compile(r"\.new\b|\.exit\b|^λ (?!_\.)")
+# A statement of more letters is left to its clause.
+LONGEST = 130
+
+# Facts as English says them.
+PHRASES = [
+    (re.compile(pattern), english)
+    for pattern, english in (
+        (r"(?:self|vec)\.new ≡ (?:self|vec)\.old|Unchanged self\.old self\.new", "nothing changes"),
+        (r"other\.new ≡ other\.old", "`other` is unchanged"),
+        (r"(?:tiny_)?items self\.new ≡ (?:tiny_)?items self\.old", "the list is unchanged"),
+        (r"list_of (\(?.*)self\.new\)? ≡ list_of \1self\.old\)?", "the list is unchanged"),
+        (r"items_len self\.(?:old|new) ≡ A\.CAPACITY", "the list is full"),
+        (r"spare_of B\.Lent self\.new ≡ \[\]", "the list is full"),
+        (r"tiny_len self\.(old|new) ≡ tiny_capacity A\.CAPACITY self\.\1", "the list is full"),
+        (r"(?:items|tiny)_len self(?:\.old|\.now)? ≡ 0", "the list is empty"),
+        (r"text_len self\.entry ≡ 0", "the text is empty"),
+        (r"IsInline self(?:\.old|\.now)?", "the list is inline"),
+        (r"is_inline self(?:\.old|\.now)? ≡ false", "the list is on the heap"),
+        (r"IsTrue \(lies_inline self\.\w+\.place\)", "the text is inline"),
+        (r"lies_inline self\.\w+\.place ≡ false|¬ \(IsTrue \(lies_inline self\.\w+\.place\)\)", "the text is on the heap"),
+        (r"All [\w.]+\.is_infallible (\S+|\(.*\))", "no clone of an item of `{}` can fail"),
+        (r"[\w.]+\.is_infallible (\w+)", "no clone of `{}` can fail"),
+        (r"\(j : ℕ\) × RefusedAt [\w.]+\.is_infallible (\S+|\(.*\)) j", "a clone of an item of `{}` can fail"),
+        (r"IntoIterYields \S+ \S+ (\w+) (\w+)", "`{}` is known to yield `{}`"),
+        (r"R\.has_bounds range", "`range` has bounds"),
+        (r"IsRangeOf \(.*self\.old\) \(R\.start_bound range\) \(R\.end_bound range\)", "`range` is in the list"),
+        (r"\w+\.IsAlwaysCallable (\w+)(?:\.old)?", "`{}` may be called with each argument, again and again"),
+        (r"\(it : (\w+)\.IntoIter\) → \1\.into_iter_gives (\w+) it → \1\.IntoIter\.can_next it", "`{1}` may be iterated"),
+        (
+            r"\(it : (\w+)\.IntoIter\) → \1\.into_iter_gives (\w+) it → \1\.IntoIter\.can_next it × IsFinite \(\1\.IntoIter\.remaining it\)"
+            r"( × HoldsAlong \1\.IntoIter\.next_gives it \(λ _\. ⊤\))?",
+            "`{1}` may be iterated, and ends",
+        ),
+    )
+]
+
+
+class Outcomes:
+    """What the clauses of one function tell, each fact with the path of its clause."""
+
+    def __init__(self, item, known):
+        """`known` are the words that the function's file imports."""
+        signature, clauses, _, _ = contracts.function(contracts.without_comments("\n".join(item.head())))
+        self.returned, self.known = returned(signature, item.name), known
+        self.of = exports.head_of(self.returned.removeprefix("("))
+        self.requires, self.exact, self.only, self.then, self.never = [], [], [], [], []
+        # The clause that says that it always succeeds.
+        self.always = ""
+        for kind, label, fact in (CLAUSE.match(it).groups() for it in clauses.values()):
+            if kind == "requires":
+                self.requires.append((label, [], fact))
+            else:
+                self.read(label, [], fact)
+
+    def read(self, path, premises, fact):
+        *before, fact = top_split(bare(fact), " → ")
+        premises = [*premises, *(it for it in before if not BINDER.fullmatch(it))]
+        sides = top_split(fact, " ↔ ")
+        head, *values = top_split(fact, " ")
+        if fact == "IsOk result" and not premises:
+            self.always = path
+        elif len(sides) == 2 and not premises and (found := IS.fullmatch(sides[0])):
+            self.exact.append((path, found[1], sides[1]))
+        elif len(sides) == 2 and not premises and (found := IS_ERROR.fullmatch(sides[0])):
+            self.exact.append((path, found[1], sides[1]))
+        elif premises and (found := IS_ERROR.fullmatch(premises[0])):
+            (self.then if AFTER.search(fact) else self.only).append((path, found[1], fact))
+        elif found := ON.fullmatch(fact):
+            self.read_failure(path, premises, found[1], bare(found[2]))
+        elif premises and (found := IS.match(fact)) and found[1] in ("IsOk", "IsErr"):
+            (self.never if found[1] == "IsOk" else self.exact).append((path, "if", " → ".join(premises)))
+        elif found := MATCH.fullmatch(fact):
+            failed = bare(top_split(found[1], " ")[-1])
+            if failed.startswith("λ _. ") and not AFTER.search(failed[5:]):
+                self.only.append((path, "", failed[5:]))
+        elif word := self.word(head, len(values)):
+            for field, text in word.fields:
+                self.read(".".join(filter(None, (path, field))), premises, filled(text, dict(zip(word.given, values))))
+
+    def read_failure(self, path, premises, form, said):
+        """A clause on what is returned if the call fails: in an `Option`, by which a call fails only if the clause says so."""
+        if form == "IfSome" and path != "refused":
+            return
+        known = self.then if AFTER.search(said) else self.only
+        known.append((path, "", " → ".join([*premises, said])))
+
+    def word(self, name, count):
+        """The record of a name that is given so many values."""
+        path, name = self.known.get(name, ("", name))
+        if ".specs." not in path or path.startswith("std."):
+            return None
+        found = next((it for it in definitions.words_of(definitions.source_of(path)) if it.name == name), None)
+        return found if found and found.fields and len(found.given) == count else None
+
+    def can_fail(self):
+        return self.of == "Result" and not self.always
+
+    def fails(self):
+        """When it fails, or returns `Some`, and what holds then."""
+        if self.of == "Option":
+            cases = [f"`{kind[2:]}` exactly if {condition(fact, path)}" for path, kind, fact in self.exact if kind in ("IsSome", "IsNone")]
+            return f"- *Returns* {' and '.join(cases)}.{self.left()}\n" if cases else ""
+        if not self.can_fail():
+            return ""
+        is_own = {path for path, _, _ in self.only if "." not in path}
+        only = [it for it in self.only if not (it[0].partition(".")[2] in is_own)]
+        cases = [*map(self.case, self.exact), *map(self.needs, only)]
+        parts = exports.split_top(self.returned[self.returned.find("<") + 1 : -1], ", ")
+        error = exports.head_of(parts[2]) if parts[1] else self.returned.replace("Result", "Error").partition("<")[0]
+        name = f" with {article(error)} `{error.removeprefix('(')}`" if ERROR.fullmatch(exports.head_of(error)) else ""
+        return f"- *Fails*{name}{',' * bool(name and cases)}{' ' * bool(cases)}{', '.join(cases)}.{self.left()}\n"
+
+    def case(self, fact):
+        path, kind, text = fact
+        if kind == "IsOk":
+            sides = top_split(bare(text), " ≤ ")
+            return f"exactly if {condition(f'{sides[1]} < {sides[0]}', path)}" if len(sides) == 2 else f"exactly unless {condition(text, path)}"
+        return {"IsErr": "exactly if ", "if": "if "}.get(kind, f"with `{kind}` exactly if ") + condition(text, path)
+
+    def needs(self, fact):
+        path, kind, text = fact
+        *premises, last = top_split(text, " → ")
+        of = (f"with `{kind}` " if kind else "") + (f"if {condition(' → '.join(premises), path)}, " if premises else "")
+        return f"{of}only if {condition(last, path)}"
+
+    def left(self):
+        """What holds after a failure, as one sentence, and the clauses that say more."""
+        found, more = [], []
+        for path, kind, fact in self.then:
+            said = outcome(fact)
+            found += [said + f" after `{kind}`" * bool(kind)] if said else []
+            more += [] if said else [path]
+        more = [f"`{it}`" for it in more if not it.endswith("same_reference")]
+        then = f" Then {' and '.join(dict.fromkeys(found))}." if found else ""
+        return then + (f" {listed(more)} {'says' if len(more) == 1 else 'say'} more." if more else "")
+
+    def cannot_fail(self):
+        """When it cannot fail: of what returns no `Result`, whatever the values."""
+        if self.of == "Option":
+            return ""
+        if not self.can_fail():
+            return f"- *Cannot fail*: {f'the clause `{self.always}` says so' if self.always else 'it returns no `Result`'}.\n"
+        premises = [frozenset(top_split(text, " → ")) for _, _, text in self.never]
+        kept = [it for it, own in zip(self.never, premises) if not any(other < own for other in premises)]
+        cases = dict.fromkeys(f"if {condition(text, path)}" for path, _, text in kept)
+        return f"- *Cannot fail* {', or '.join(cases)}.\n" if cases else ""
+
+    def conditions(self):
+        """What a caller proves."""
+        cases = [f"{english(text)}" + f" (`{label}`)" * bool(label) for label, _, text in self.requires]
+        return f"- *Requires* {', '.join(cases)}.\n" if cases else ""
+
+
+def returned(signature, name):
+    """The type that a function returns."""
+    head = re.sub(r"\bwhere\b.*", "", " ".join(signature.split()))
+    inside = exports.split_angles(head[head.index(name) + len(name) :])[1]
+    return inside[end_of(inside) :].strip().removeprefix("-> ").strip()
+
+
+def condition(fact, path):
+    """Premises, or a name of their clause where they are long."""
+    parts = [english(bare(it)) for it in top_split(fact, " → ")]
+    return " and ".join(parts) if sum(map(len, parts)) <= 200 else f"what the clause `{path}` says holds"
+
+
+def outcome(fact):
+    """What holds after a failure, if English or few letters say it."""
+    if found := re.fullmatch(r"λ (\w+)\. (.*)", fact):
+        name = found[1]
+        parts = [bare(it) for it in top_split(found[2], " × ")]
+        said = [f"`{it[1]}` is returned" if (it := re.fullmatch(rf"{name}(?:\.\w+)? ≡ (\w+)(?:\.entry|\.old)?", part)) else english(part) for part in parts]
+        return " and ".join(said) if not any(re.search(rf"\b{name}\b", it) for it in said) else ""
+    parts = [english(bare(it)) for it in top_split(fact, " → ")]
+    if sum(map(len, parts)) > LONGEST:
+        return ""
+    return parts[-1] + f", if {' and '.join(parts[:-1])}," * (len(parts) > 1)
+
+
+def english(fact):
+    fact = tidy(fact)
+    for pattern, said in PHRASES:
+        if found := pattern.fullmatch(fact):
+            return said.format(*(bare(it or "") for it in found.groups()))
+    return f"`{fact}`"
+
+
+def listed(names):
+    return ", ".join(names[:-1]) + " and " * (len(names) > 1) + names[-1]
+
+
+def article(name):
+    return "an" if name[:1] in "AEIOaeio" else "a"
+
+
+def tidy(fact):
+    """A comparison without parentheses around a whole side."""
+    for sign in (" ≤ ", " < ", " ≡ "):
+        sides = top_split(fact, sign)
+        if len(sides) == 2:
+            return sign.join(bare(it) for it in sides)
+    return fact
+
+
+def filled(text, values):
+    """A statement with values for its variables."""
+    return re.sub(r"(?<![\w.])\w+(?![\w-])", lambda it: values.get(it[0], it[0]), text)
+
+
+def bare(text):
+    """A statement without parentheses around the whole."""
+    text = text.strip()
+    while text.startswith("(") and end_of(text) == len(text):
+        text = text[1:-1].strip()
+    return text
+
+
+def end_of(text):
+    """Where the bracket that begins a text ends."""
+    depth = 0
+    for at, letter in enumerate(text):
+        depth += (letter in "([{⟦") - (letter in ")]}⟧")
+        if depth == 0:
+            return at + 1
+    return len(text)
+
+
+def top_split(text, separator):
+    """A text split at each separator that is in no brackets."""
+    parts, depth, start = [], 0, 0
+    for at, letter in enumerate(text):
+        depth += (letter in "([{⟦") - (letter in ")]}⟧")
+        if depth == 0 and at >= start and text.startswith(separator, at):
+            parts.append(text[start:at].strip())
+            start = at + len(separator)
+    return [*parts, text[start:].strip()]
