@@ -9,6 +9,7 @@ wrote count = Ok count
 abbrev pub seen : {E : Type 0} → E → CountedView E
 seen reader = record { inner = reader; faults = 2 }
 
+-- a `CountedView` of two faults
 pub example-CountedView : {E : Type 0} (reader : E) → (seen reader).faults ≡ 2
 example-CountedView reader = refl
 

@@ -14,6 +14,7 @@ inline bytes = record { bytes = bytes; place = in_array }
 abbrev pub done : Result Unit Unit
 done = Ok _
 
+-- a `Text` in its array
 pub example-Text : (inline (97 ∷ 98 ∷ [])).place ≡ in_array
 example-Text = refl
 

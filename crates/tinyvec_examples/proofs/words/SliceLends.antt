@@ -7,34 +7,34 @@ use Rattle.tinyvec_slice.specs.declared.lent.Lent as Lent
 use Rattle.tinyvec_slice.specs.declared.slice_vec.GenericSliceVec.{GenericSliceVec}
 use Rattle.tinyvec_examples.proofs.words.Shown.{nums}
 
--- of tinyvec_slice.specs.Lends
+-- of tinyvec_slice.specs.Lends: `[1, 2, 0]` lent by `lends_items`, by a reference that shows `[3, 4]` last
 pub example-lends_items : with_front (nums (1 ∷ 2 ∷ 0 ∷ [])) 2 (3 ∷ 4 ∷ []) ≡ 3 ∷ 4 ∷ 0 ∷ []
 example-lends_items = refl
 
--- of tinyvec_slice.specs.IterMut
+-- of tinyvec_slice.specs.IterMut: `[1, 2, 0]` lent by `lends_iter`, to a loop that leaves `[3, 4]`
 pub example-lends_iter : with_front (nums (1 ∷ 2 ∷ 0 ∷ [])) 2 (3 ∷ 4 ∷ []) ≡ 3 ∷ 4 ∷ 0 ∷ []
 example-lends_iter = refl
 
--- of tinyvec_slice.specs.Lends
+-- of tinyvec_slice.specs.Lends: `[1, 2, 0]` lent by `lends_spare`, by a reference that shows `[7]` last
 pub example-lends_spare : with_back (nums (1 ∷ 2 ∷ 0 ∷ [])) 2 (7 ∷ []) ≡ 1 ∷ 2 ∷ 7 ∷ []
 example-lends_spare = refl
 
--- of tinyvec_slice.specs.Lends
+-- of tinyvec_slice.specs.Lends: `[1, 2, 0]` lent by `lends_item` at 1, by a reference that shows 7 last
 pub example-lends_item : slice_set (nums (1 ∷ 2 ∷ 0 ∷ [])) 1 7 ≡ 1 ∷ 7 ∷ 0 ∷ []
 example-lends_item = refl
 
--- of tinyvec_slice.specs.Lends
+-- of tinyvec_slice.specs.Lends: `[1, 2, 0]` lent by `lends_pushed`, by a reference that shows 7 last
 pub example-lends_pushed : slice_set (nums (1 ∷ 2 ∷ 0 ∷ [])) 2 7 ≡ 1 ∷ 2 ∷ 7 ∷ []
 example-lends_pushed = refl
 
--- of tinyvec_slice.specs.Lends
+-- of tinyvec_slice.specs.Lends: `[1, 2, 0]` lent by `lends_inserted` at 1, by a reference that shows 7 last
 pub example-lends_inserted : insert (nums (1 ∷ 2 ∷ [])) 1 7 ++ drop 1 (0 ∷ []) ≡ 1 ∷ 7 ∷ 2 ∷ []
 example-lends_inserted = refl
 
--- of tinyvec_slice.specs.Making
+-- of tinyvec_slice.specs.Making: an array lent by `lends_array`, to a vector that shows `[3, 4]` last
 pub example-lends_array : nums (3 ∷ 4 ∷ []) ≡ 3 ∷ 4 ∷ []
 example-lends_array = refl
 
--- of tinyvec_slice.specs.Lends
+-- of tinyvec_slice.specs.Lends: a vector lent by `lends_inner`, by slots that show `ws` last
 pub example-lends_inner : {B : Type 0} (g : Lent.Ghosts B ℕ) (v : GenericSliceVec B ℕ) (ws : List ℕ) → slots_of g (at_slots g v ws) ≡ g.slots (g.with_slots v.lent ws)
 example-lends_inner g v ws = refl

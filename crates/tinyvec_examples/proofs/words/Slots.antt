@@ -3,7 +3,7 @@ use Rattle.std.proofs.Common.{◌≡◌, [], ◌∷◌, refl, rules}
 use Rattle.tinyvec_slots.specs.Slots.{items, spare, items_len, all_slots, split_at, AreDefaults, SlotRule, with_items, Gains, Loses, Shortens, ShortensIn, Grows, Changes}
 use Rattle.tinyvec_examples.proofs.words.Shown.{D, nums, over}
 
--- of tinyvec_slots.specs.Slots
+-- of tinyvec_slots.specs.Slots: a `Slots` of two items and one spare slot
 pub example-Slots : (over (1 ∷ 2 ∷ []) (0 ∷ [])).slots ≡ 1 ∷ 2 ∷ 0 ∷ []
 example-Slots = refl
 

@@ -87,19 +87,19 @@ module _ (A : Type 0) (alloc : Global) where
   pub example-tiny_with_items : tiny_with_items (inline (1 ∷ 2 ∷ []) (0 ∷ 0 ∷ [])) (3 ∷ 4 ∷ []) ≡ inline (3 ∷ 4 ∷ []) (0 ∷ 0 ∷ [])
   example-tiny_with_items = refl
 
-  -- of tinyvec.specs.Lends
+  -- of tinyvec.specs.Lends: `inline [1, 2] [0, 0]` lent by `lends_items`, by a reference that shows `[3, 4]` last
   pub example-lends_items : tiny_with_items (inline (1 ∷ 2 ∷ []) (0 ∷ 0 ∷ [])) (3 ∷ 4 ∷ []) ≡ inline (3 ∷ 4 ∷ []) (0 ∷ 0 ∷ [])
   example-lends_items = refl
 
-  -- of tinyvec.specs.IterMut
+  -- of tinyvec.specs.IterMut: `inline [1, 2] [0, 0]` lent by `lends_iter`, to a loop that leaves `[3, 4]`
   pub example-lends_iter : tiny_with_items (inline (1 ∷ 2 ∷ []) (0 ∷ 0 ∷ [])) (3 ∷ 4 ∷ []) ≡ inline (3 ∷ 4 ∷ []) (0 ∷ 0 ∷ [])
   example-lends_iter = refl
 
-  -- of tinyvec.specs.Lends
+  -- of tinyvec.specs.Lends: `inline [1, 2] [0, 0]` lent by `lends_item` at 1, by a reference that shows 7 last
   pub example-lends_item : tiny_with_item (inline (1 ∷ 2 ∷ []) (0 ∷ 0 ∷ [])) 1 7 ≡ inline (1 ∷ 7 ∷ []) (0 ∷ 0 ∷ [])
   example-lends_item = refl
 
-  -- of tinyvec.specs.Lends
+  -- of tinyvec.specs.Lends: `inline [1] [7, 8, 0]` lent by `lends_added` at the end, by a reference that shows 5 last
   pub example-lends_added : (tiny_items (inline (1 ∷ 5 ∷ []) (8 ∷ 0 ∷ [])) ≡ (1 ∷ []) ++ 5 ∷ [])
       × RoomGrows Doubles D 4 2 (inline (1 ∷ []) (7 ∷ 8 ∷ 0 ∷ [])) (inline (1 ∷ 5 ∷ []) (8 ∷ 0 ∷ [])) done
   example-lends_added = (refl, search rules)
