@@ -39,3 +39,5 @@ mod refusals;
 mod steps;
 #[cfg(test)]
 mod unequal;
+#[cfg(test)]
+mod values;
