@@ -62,6 +62,10 @@ TITLES = {
     "writing": "Lending it for writing",
     "taking": "Taking it apart",
     "traits": "The type and its traits",
+    "extracting": "Removing what a closure chooses",
+    "owned": "The iterator that owns its items",
+    "no_room": "What an item without room is returned in",
+    "no_memory": "What an item without memory is returned in",
     "parts": "For those who write vectors",
 }
 
@@ -190,7 +194,20 @@ class Library:
         for title, rows in (("Call", calls), ("Trait", traits)):
             lines.append(f"\n\n| {title} | {heads} |\n|{'---|' * (len(COLUMNS) + 1)}")
             lines += [f"\n| `{name}` | {' | '.join(rows[name].get(it, '') for it in COLUMNS)} |" for name in sorted(rows)]
+        lines.append("\n\n| Also on | Calls, types and traits |\n|---|---|")
+        lines += [f"\n| [{page_title(page)}]({page}.md) | {', '.join(links)} |" for page, links in self.others() if links]
         return "".join(lines) + "\n"
+
+    def others(self):
+        """What each page has that is no call and no trait of the four types."""
+        for page, found in self.pages.items():
+            main = main_of(page)
+            others = (it for it in found if not it.is_part and it.kind != "impl" and not (page in COLUMNS and it.of == main) and it.name != main)
+            yield page, [f"[`{it.heading(main).strip('`')}`]({page}.md#{it.anchor(main)})" for it in others]
+
+
+def page_title(page):
+    return (FOLDER / f"{page}.md").read_text(encoding="utf-8").partition("\n")[0].removeprefix("# ")
 
 
 def is_call(key):
