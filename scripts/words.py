@@ -5,7 +5,7 @@ the definition of such a word cites is told too, if it has an example.
 usage: scripts/words.py
 
 A meaning is the comment above the definition in crates/*/specs, after that of its module. An example is the statement of a
-lemma `example-WORD` in crates/tinyvec_examples/proofs/words, in a file that imports the word. What precedes the line MARK of the
+lemma `example-WORD` in crates/*/proofs/words, in a file that imports the word. What precedes the line MARK of the
 page is written by hand, and stays: there std's words have a line each. `tests/docs` names the words that lack one of these.
 """
 import pathlib
@@ -18,7 +18,7 @@ from definitions import COMMENT, closing, code, source_of, words_of
 TOP = exports.TOP
 PAGE = TOP / "docs/reference/WORDS.md"
 MARK = "<!-- scripts/words.py writes what follows -->"
-EXAMPLES = "crates/tinyvec_examples/proofs/words"
+EXAMPLES = "crates/*/proofs/words"
 
 # A comment above a lemma is shown before it: of what is lent, say, whose word is no part of a fact. It may begin with `of PATH:`,
 # the file of a word that the statement itself does not have.
@@ -55,7 +55,7 @@ class Words:
         found = [it for entries in reference.Library().pages.values() for it in entries if not it.is_part]
         self.cited = dict.fromkeys(word for it in found for word in it.words())
         self.examples = {}
-        for file in sorted((TOP / EXAMPLES).glob("*.antt")):
+        for file in sorted(TOP.glob(f"{EXAMPLES}/*.antt")):
             text = file.read_text(encoding="utf-8")
             known = exports.imported(text)
             of = lambda path, name: (path, name) if path else known.get(name, (file.stem, name))

@@ -3,3 +3,4 @@ pub mod Calls
 pub mod ThreeLines
 pub mod BadAndText
 pub mod Spliced
+pub mod words

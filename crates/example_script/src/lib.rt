@@ -1,6 +1,8 @@
 //! What scripts write, from the theorem of `run` alone.
 #![tactic(auto)]
 
+pub mod runs;
+
 ghost use Rattle.std.specs.Prelude.{◌≡◌, ◌⊎◌, IfOk};
 ghost use Rattle.tinyvec_io.specs.Lines.{ended};
 ghost use Rattle.tinyvec_script.specs.Script.{Script};

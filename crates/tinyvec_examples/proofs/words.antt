@@ -16,5 +16,4 @@ pub mod Lends
 pub mod SliceLends
 pub mod InlineText
 pub mod Counted
-pub mod Script
 pub mod Borsh

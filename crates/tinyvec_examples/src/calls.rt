@@ -4,6 +4,5 @@ pub mod counted;
 pub mod derefs;
 pub mod lent;
 pub mod replacing;
-pub mod runs;
 pub mod text;
 pub mod tiny;

@@ -1,6 +1,6 @@
 -- Examples of calls as values, of runs and of scripts.
-use Rattle.std.proofs.Common.{◌≡◌, ℕ, List, [], ◌∷◌, rules, arith}
-use Rattle.tinyvec_slots.specs.Slots.{Slots}
+use Rattle.std.proofs.Common.{◌≡◌, ℕ, List, [], ◌∷◌, ◌++◌, length, rules, arith}
+use Rattle.tinyvec_slots.specs.Slots.{Slots, split_at}
 use Rattle.tinyvec.specs.View.{TinyView, in_array, view_len, ViewPlaceRule}
 use Rattle.tinyvec_script.specs.declared.call.Call.TheVariants.{Push, Pop}
 use Rattle.tinyvec_script.specs.declared.call.Answer.TheVariants as answers
@@ -9,9 +9,16 @@ use Rattle.tinyvec_script.specs.Step.{ArrayStep, SliceStep, Run}
 use Rattle.tinyvec_script.specs.TinyCalls.{TinyStep}
 use Rattle.tinyvec_script.specs.Driving.{ArraySplices, TinySplices, SpliceComputes}
 use Rattle.tinyvec_script.specs.Script.{Script, CompleteLines}
-use Rattle.tinyvec_examples.proofs.words.Shown.{D, nums, over}
 
--- a list in an array of four slots, and the spare slots after it
+-- the items are numbers, whose default is 0
+abbrev pub D : ℕ → Type 0
+D x = x ≡ 0
+
+-- a list and the spare slots after it
+abbrev pub over : List ℕ → List ℕ → Slots ℕ
+over xs ys = split_at (length xs) (xs ++ ys)
+
+-- the same in an array of four slots
 abbrev pub inline : List ℕ → List ℕ → TinyView ℕ
 inline xs ys = record { items = xs; spare = ys; place = in_array }
 
@@ -27,7 +34,7 @@ example-TinyStep = search rules
 pub example-Run : Run (ArrayStep D 2) (over [] (0 ∷ 0 ∷ [])) (Pop ∷ Pop ∷ []) (answers.None ∷ answers.None ∷ []) (over [] (0 ∷ 0 ∷ []))
 example-Run = search rules
 
-pub example-SpliceComputes : SpliceComputes 8 (nums (1 ∷ 2 ∷ 3 ∷ 4 ∷ [])) 1 3 (Front ∷ []) (7 ∷ []) (2 ∷ []) [] (1 ∷ 7 ∷ 4 ∷ [])
+pub example-SpliceComputes : SpliceComputes {T = ℕ} 8 (1 ∷ 2 ∷ 3 ∷ 4 ∷ []) 1 3 (Front ∷ []) (7 ∷ []) (2 ∷ []) [] (1 ∷ 7 ∷ 4 ∷ [])
 example-SpliceComputes = search rules
 
 pub example-ArraySplices : (yields rest : List ℕ) (new : Slots ℕ) → ArraySplices D 8 (over (1 ∷ 2 ∷ 3 ∷ 4 ∷ []) (0 ∷ [])) 1 3 (Front ∷ []) (7 ∷ []) yields rest new → rest ≡ []
