@@ -1,26 +1,18 @@
 //! Answers the rows on standard input, a line each. `tests/cases/README.md` has their form.
 #![tactic(auto)]
 
-mod array;
 mod borsh;
-mod calls;
-mod compare;
-mod held;
 mod plan;
 mod runs;
-mod slice;
-mod starts;
-mod steps;
 mod streams;
 mod text;
 mod text_call;
-mod tiny;
-mod vector;
 
 use std::io;
 use std::io::{BufRead, BufReader};
 use tinyvec_rows::{Said, Words};
-use vector::Calls;
+use tinyvec_vector_cases::starts;
+use tinyvec_vector_cases::vector::Calls;
 
 fn main(rt: HostRuntime) -> io::Result<()> {
     let alloc = rt.alloc();

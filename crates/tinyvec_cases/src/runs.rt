@@ -1,13 +1,13 @@
 //! Runs of calls, and driven splices.
 ghost use Rattle.std.specs.Prelude.{◌≤◌, IfOk, IfSome};
 
-use crate::array;
-use crate::vector::Calls;
 use tinyvec::{Array, ArrayVec, SliceVec, TinyVec};
 use tinyvec_rows::{Said, Words, Wrong, say, say_place, say_slots, window};
 use tinyvec_script::{
     Call, End, drive_array_splice, drive_tiny_splice, run_array, run_slice, run_tiny,
 };
+use tinyvec_vector_cases::array;
+use tinyvec_vector_cases::vector::Calls;
 
 /// Answers the calls of a row: `run` and calls, or `drive` and a splice, of the vector that `kind` names.
 pub(crate) fn answer(kind: &str, words: &mut Words<'_>, calls: &mut Calls<'_>) -> Said {

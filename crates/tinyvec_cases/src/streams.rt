@@ -1,7 +1,6 @@
 //! A reader and a writer that follow a plan and record their calls, and calls over them.
 use crate::borsh;
 use crate::plan::{Plan, Step};
-use crate::vector::Calls;
 use std::alloc::{AllocError, Global};
 use std::cell::{Cell, RefCell};
 use std::fmt::{Debug, Write as _};
@@ -10,6 +9,7 @@ use std::{io, str};
 use tinyvec_io::Counted;
 use tinyvec_rows::{Said, Words, Wrong, window};
 use tinyvec_script::run;
+use tinyvec_vector_cases::vector::Calls;
 
 // A call: its letter, how many bytes it was given room for or passed, and how many it moved, or none where it failed.
 type Call = (char, usize, Option<usize>);

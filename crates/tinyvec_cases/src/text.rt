@@ -1,8 +1,5 @@
 //! Calls of an `InlineText`.
-use crate::compare::{hash_of, operators_agree};
 use crate::text_call::{Append, Edit, Look, Make, Part, Show, TextCall};
-use crate::tiny::inline;
-use crate::vector::Calls;
 use std::alloc::AllocError;
 use std::convert::{AsSlice, AsStr};
 use std::fmt::Write;
@@ -13,6 +10,9 @@ use tinyvec_rows::{
     Quoted, Said, Span, Words, Wrong, done, say, say_place, say_slots, say_word, window,
 };
 use tinyvec_text::InlineText;
+use tinyvec_vector_cases::compare::{hash_of, operators_agree};
+use tinyvec_vector_cases::tiny::inline;
+use tinyvec_vector_cases::vector::Calls;
 
 /// Answers the calls of a row of texts.
 pub(crate) fn answer(kind: &str, words: &mut Words<'_>, calls: &mut Calls<'_>) -> Said {

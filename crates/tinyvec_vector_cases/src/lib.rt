@@ -1,0 +1,12 @@
+//! Makes the calls of rows on the three vectors.
+#![tactic(auto)]
+
+pub mod array;
+mod calls;
+pub mod compare;
+pub mod held;
+mod slice;
+pub mod starts;
+mod steps;
+pub mod tiny;
+pub mod vector;
