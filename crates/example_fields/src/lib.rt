@@ -14,7 +14,7 @@ pub struct Field {
     pub end: usize,
 }
 
-/// Splits a line at each separator, or answers `None` if it has more than eight fields.
+/// Splits a line at each separator, or returns `None` if it has more than eight fields.
 pub fn split(line: &[u8], separator: u8) -> Option<ArrayVec<[Field; 8]>>
     ensures fields { IfSome result (λ fields. map (bytes_of line.now) (items fields) ≡ parts separator line.now) }
     ensures in_line { IfSome result (λ fields. All (IsIn line.now) (items fields)) }
