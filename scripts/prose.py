@@ -7,7 +7,7 @@ usage: scripts/prose.py [DOCUMENT..]
 The sentences of all documents together have at most MOST words. Code, tables, CHANGELOG, bench/*.md and what scripts write
 (docs/reference, bench/results) are left out. A sentence or a cell of a table is named if it has more than LONGEST words, or one
 of the words of ODD; code is left out of that. `--comments` names such sentences of the comments in crates/*/src and
-crates/*/specs, which the pages of docs/reference show.
+crates/*/specs, which the pages of docs/reference show. At the end it counts what Rust says otherwise (RUST).
 """
 import pathlib
 import re
@@ -25,6 +25,15 @@ ODD = re.compile(
     r"(?:^Of (?!course)|^Where (?!Rust|it is)|\btakes? it where\b)|\b(of so many|so many as|so many (?:slots|items|bytes)|(?:is|are) told|giv(?:es?|ing) up|gave up|lies?|lay|stands?(?! for\b)|stood(?! for\b)|behind"
     r"|hand(?:s|ed)? back|ask(?:s|ed)? for (?:memory|room)|(?:inner|counted|standard) ends?|the end that it holds|it is so)\b"
 )
+# What Rust's documentation says otherwise. The counts say which documents to read again; no number is wrong by itself.
+RUST = {
+    "is refused": r"\brefus(?:ed|al|als)\b",
+    "answers": r"\banswer(?:s|ed)?\b",
+    "room": r"\broom\b",
+    "in the value": r"\bin the value\b",
+    "lent": r"\blent\b",
+}
+TICKED = re.compile(r"`[^`]*`")
 CODE = re.compile(r"^( *)```.*?^\1```$", re.M | re.S)
 TABLE = re.compile(r"^ *\|.*$", re.M)
 MARK = {".rt": r" *//[/!]? ?", ".antt": r" *-- ?"}
@@ -46,6 +55,8 @@ def main():
         found = hard(text)
         show(f"{name}: {words_in(text)} words, {len(found)} hard sentences", found if arguments else [])
     words = total()
+    for name, count in others(arguments or documents()):
+        print(f"{name}: {count}")
     print(f"prose: {len(documents())} documents, {words} words of {MOST}")
     sys.exit(words > MOST)
 
@@ -72,6 +83,26 @@ def words_in(text):
     return len(TABLE.sub("", CODE.sub("", text)).split())
 
 
+def others(names):
+    """How often documents say what Rust says otherwise: the sum, and the documents that say it most."""
+    for said, pattern in RUST.items():
+        found = {it: len(re.findall(pattern, TICKED.sub("", CODE.sub("", read(it))))) for it in names if it not in UNCOUNTED}
+        most = sorted((it for it in found if found[it]), key=found.get, reverse=True)[:3]
+        yield said, f"{sum(found.values())} times" + f", most in {', '.join(f'{it} ({found[it]})' for it in most)}" * bool(most)
+
+
+def unended():
+    """Paragraphs of documents without their end, and those with two ends side by side."""
+    for name in documents():
+        text = re.sub(r"^#.*$|^!\[.*$|^<!--.*$", "", TABLE.sub("", CODE.sub("\n", read(name))), flags=re.M)
+        for paragraph in re.split(r"\n\s*\n|\n(?=- |\d+\. )", text):
+            said = TICKED.sub("`..`", " ".join(paragraph.split()))
+            # An item of a list may end as a clause does.
+            ends = r"[.:!?;]" if paragraph.startswith("- ") else r"[.:!?]"
+            if said and not re.search(ends + r"[\"*)]*$", said) or re.search(r"\.[,;]|[,;]\.(?!\.)", said):
+                yield f"{name}: a sentence without its end, or with two: {said[-60:]}"
+
+
 def named():
     """The hard sentences of the documents and of the pages that show the comments of the sources."""
     pages = [str(it.relative_to(TOP)) for it in sorted(TOP.glob("docs/reference/*.md"))]
@@ -82,6 +113,7 @@ def faults():
     """What tests/docs refuses: more words than a maintainer reads in an hour."""
     if (words := total()) > MOST:
         yield f"the documents have {words} words, and {MOST} at most: scripts/prose.py counts them"
+    yield from unended()
 
 
 def hard(text):
