@@ -8,7 +8,7 @@ pub enum TryFromSliceError {
     /// The slice is longer than the array.
     #[error("could not convert slice to ArrayVec")]
     TooLong,
-    /// A clone of an item was refused.
+    /// A clone of an item failed.
     #[error("could not convert slice to ArrayVec")]
     Memory,
 }

@@ -39,7 +39,7 @@ impl<A: Array> ArrayVec<A> {
         Ok(Self::from_array_len(array, len))
     }
 
-    /// Replaces the list by clones of `source`'s items. If a clone is refused, the list is cut to the shorter length first.
+    /// Replaces the list by clones of `source`'s items. If a clone fails, the list is cut to the shorter length first.
     pub fn clone_from(&mut self, source: &Self) -> Result<(), AllocError>
     where
         A::Item: Clone,

@@ -215,7 +215,7 @@ impl<A: Array> ArrayVec<A> {
         Some(self.remove(index))
     }
 
-    /// Appends clones of the slice's items. If they do not all fit, or a clone is refused, fails and appends nothing. Only
+    /// Appends clones of the slice's items. If they do not all fit, or a clone fails, it fails and appends nothing. Only
     /// clones of items allocate.
     pub fn try_extend_from_slice(&mut self, other: &[A::Item]) -> Result<(), TryFromSliceError>
     where

@@ -84,8 +84,8 @@ impl<A: Array> ArrayVec<A> {
         other.set_len(0);
     }
 
-    /// `append` if the items fit; otherwise nothing changes. Returns `other` either way: emptied in `Ok`, refused in
-    /// `Err`.
+    /// `append` if the items fit; otherwise nothing changes. Returns `other` either way: emptied in `Ok`, as it was
+    /// in `Err`.
     pub fn append_if_fits<'o>(&mut self, other: &'o mut Self) -> Result<&'o mut Self, &'o mut Self>
         ensures variant { IsOk result ↔ (items_len self.old + items_len other.old ≤ A.CAPACITY) }
         ensures becomes { OnOk result
