@@ -107,7 +107,7 @@ impl<const N: usize> fmt::Display for InlineText<N> {
     }
 }
 
-/// `write_str` appends the whole text. If memory is refused, it fails and changes nothing.
+/// `write_str` appends the whole text. If the allocator refuses, it fails and changes nothing.
 impl<const N: usize> fmt::Write for InlineText<N> {
     ghost write_str_gives = { λ old bytes new. new.bytes ≡ old.bytes ++ bytes };
 
