@@ -425,6 +425,7 @@ class Page:
         head = CONTRACT.split(code, maxsplit=1)[0]
         yield f"\n```\n{head}\n```\n"
         yield from (f"\n{said}\n" for said in it.prose() if self.is_new(said))
+        yield from self.aliased(it) if it.kind == "type" else ()
         notes = self.notes(it) if twin is it or it.kind == "impl" else ()
         yield from (f"\n{note}\n" for note in notes)
         yield from self.facts(it)
@@ -433,6 +434,16 @@ class Page:
             yield f"\nIts contract is that of [`{twin.trait or twin.name}`](#{twin.anchor(self.main)}){instead}.\n"
         elif head != code:
             yield f"\n<details><summary>Contract</summary>\n\n```\n{code}\n```\n\n</details>\n"
+
+    def aliased(self, it):
+        """The calls and traits of the type that an alias names."""
+        of = exports.head_of(re.search(r"= (.*);", it.item.signature())[1])
+        links = []
+        for page, found in self.library.pages.items():
+            main = main_of(page)
+            place = "" if page == self.name else f"{page}.md"
+            links += [f"[`{one.trait or one.name}`]({place}#{one.anchor(main)})" for one in found if not one.is_part and of in (one.of, one.name)]
+        yield from [f"\nIts type, calls and traits: {', '.join(links)}.\n"] if links else ()
 
     def facts(self, it):
         """What a call requires, when it fails and when it cannot, and what it costs."""
