@@ -113,10 +113,27 @@ def faults():
     yield from (f"scripts/reference.py: in which place is the section {it}?" for it in sorted(sections - set(SECTIONS)))
     short = (it for it in library.calls if it in library.callers and len(library.callers[it].lines) < 3)
     yield from (f"{library.callers[it].path}: the caller of {it} has fewer than three lines" for it in sorted(short))
+    yield from wrong_errors(library)
     yield from (f"docs/DIFFERENCES.md: no such call: {it}" for it in library.notes if it not in library.keys)
     for cells in differences():
         bare = [it for it in re.findall(r"`([^`]*)`", cells[2]) if not NAMES.fullmatch(it)]
         yield from (f"docs/DIFFERENCES.md: a call without its type: {it}" for it in bare)
+
+
+def wrong_errors(library):
+    """Where the table of errors names other calls than those whose signature has the error."""
+    rows = re.findall(r"^\| `(\w+)(?:<[^`]*)?` \| (.*?) \|", pages_above(INDEX), re.M)
+    types = {it.name for found in library.pages.values() for it in found if it.kind in ("struct", "enum")} & {name for name, _ in rows}
+    made = [it for found in library.pages.values() for it in found if it.kind in ("fn", "method") and not it.is_part]
+    for error, cell in rows:
+        returning = {it.name for it in made if re.search(rf"-> .*\b{error}\b", it.item.signature())}
+        named = set(re.findall(r"`([a-z]\w+)`", cell))
+        yield from (f"docs/reference/{INDEX}.md: {error}: {it}" for it in sorted(returning ^ named) if error in types)
+
+
+def pages_above(name):
+    """What is written by hand on a page."""
+    return (FOLDER / f"{name}.md").read_text(encoding="utf-8").partition(MARK)[0]
 
 
 # Calls of one name that do different things.
