@@ -1,6 +1,8 @@
 //! No clause speaks of sizes, nor of what crosses threads: a field more, or one that may not be sent, would pass the check.
 use std::mem::size_of;
-use tinyvec::{ArrayVec, ArrayVecDrain, ArrayVecIterator, SliceVec, TinyVec, TinyVecDrain, TinyVecIterator};
+use tinyvec::{
+    ArrayVec, ArrayVecDrain, ArrayVecIterator, SliceVec, TinyVec, TinyVecDrain, TinyVecIterator,
+};
 use tinyvec_text::InlineText;
 
 #[test]
