@@ -40,6 +40,9 @@ PHRASES = [
         (r"IntoIterYields \S+ \S+ (\w+) (\w+)", "`{}` is known to yield `{}`"),
         (r"R\.has_bounds range", "`range` has bounds"),
         (r"IsRangeOf \(.*self\.old\) \(R\.start_bound range\) \(R\.end_bound range\)", "`range` is in the list"),
+        (r"\(x : \S+\) → slice_get .* ≡ Some x → FnOnceTakesAtMut F\.FnOnce (\w+) x", "`{}` may be called with the last item, if there is one"),
+        (r"SpliceCanNext I\.can_next(?:_back)? self(?:\.old)?", "the replacement may be iterated"),
+        (r"FusedFinite I\.remaining \(splice_replacement self\)", "the replacement ends"),
         (r"\w+\.IsAlwaysCallable (\w+)(?:\.old)?", "`{}` may be called with each argument, again and again"),
         (r"\(it : (\w+)\.IntoIter\) → \1\.into_iter_gives (\w+) it → \1\.IntoIter\.can_next it", "`{1}` may be iterated"),
         (
@@ -71,6 +74,12 @@ class Outcomes:
     def read(self, path, premises, fact):
         *before, fact = top_split(bare(fact), " → ")
         premises = [*premises, *(it for it in before if not BINDER.fullmatch(it))]
+        facts = top_split(bare(fact), " × ")
+        # Several facts, unless they are of something that is only said to exist.
+        if len(facts) > 1 and not any(BINDER.fullmatch(it) for it in facts):
+            for it in facts:
+                self.read(path, premises, it)
+            return
         sides = top_split(fact, " ↔ ")
         head, *values = top_split(fact, " ")
         if fact == "IsOk result" and not premises:
@@ -159,7 +168,10 @@ class Outcomes:
         premises = [frozenset(top_split(text, " → ")) for _, _, text in self.never]
         kept = [it for it, own in zip(self.never, premises) if not any(other < own for other in premises)]
         cases = dict.fromkeys(f"if {condition(text, path)}" for path, _, text in kept)
-        return f"- *Cannot fail* {', or '.join(cases)}.\n" if cases else ""
+        if cases:
+            return f"- *Cannot fail* {', or '.join(cases)}.\n"
+        is_exact = any(kind in ("IsErr", "IsOk") for _, kind, _ in self.exact)
+        return f"- *Cannot fail*{' otherwise' if is_exact else ': see the contract'}.\n"
 
     def conditions(self):
         """What a caller proves."""
@@ -175,9 +187,9 @@ def returned(signature, name):
 
 
 def condition(fact, path):
-    """Premises, or a name of their clause where they are long."""
+    """Premises, or the name of their clause where they are long."""
     parts = [english(bare(it)) for it in top_split(fact, " → ")]
-    return " and ".join(parts) if sum(map(len, parts)) <= 200 else f"what the clause `{path}` says holds"
+    return " and ".join(parts) if sum(map(len, parts)) <= 200 else f"the condition of `{path}` holds"
 
 
 def outcome(fact):
