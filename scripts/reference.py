@@ -1,6 +1,9 @@
 #!/usr/bin/env -S python3 -B
 """Writes the reference, docs/reference/*.md: all that the library crates export, with contracts, callers and what differs in Rust.
 
+An entry has a signature, the `///`, what it requires, when it fails, when it cannot and what holds then (read off the clauses by
+scripts/outcomes.py), what it costs (docs/reference/costs.txt), a caller, and the contract.
+
 usage: scripts/reference.py
 
 `tests/docs` names the pages that differ from what this would write, exports that are on no page or on two, comments that are
