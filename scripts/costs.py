@@ -14,26 +14,22 @@ class Cost:
 
 
 def costs():
-    """The costs of the calls of each type, in the order of the file."""
-    found, of = {}, None
+    """Each call with its cost, in the order of the file: `TinyVec::push`, `tiny_vec!`, `run`."""
+    of = ""
     for line in FILE.read_text(encoding="utf-8").splitlines():
-        if "|" in line and not line.startswith("#"):
-            found[of].append(Cost(line))
-        elif line.strip() and not line.startswith("#"):
+        if line.startswith("#") or not line.strip():
+            continue
+        if "|" not in line:
             of = line.strip()
-            found[of] = []
-    return found
-
-
-def by_call(found):
-    """Each cost by the call that has it: `TinyVec::push`, `run`."""
-    is_type = lambda of, name: not name.endswith("!") and not of.isupper()
-    return {(f"{of}::{name}" if is_type(of, name) else name): cost for of, some in found.items() for cost in some for name in cost.names}
+            continue
+        cost = Cost(line)
+        # A macro is of no type, nor are the functions of a page, whose name is in capitals.
+        yield from (((name if name.endswith("!") or of.isupper() else f"{of}::{name}"), cost) for name in cost.names)
 
 
 def faults(calls):
     """What the file lacks of these calls, and what it says of no call or twice."""
-    named = [f"{of}::{name}" if not name.endswith("!") and not of.isupper() else name for of, some in costs().items() for it in some for name in it.names]
+    named = [it for it, _ in costs()]
     where = FILE.relative_to(exports.TOP)
     yield from (f"{where}: what does {it} cost?" for it in sorted(calls - set(named)))
     yield from (f"{where}: no such call: {it}" for it in dict.fromkeys(named) if it not in calls)

@@ -188,7 +188,7 @@ class Library:
                 self.callers[it] = min(self.callers.get(it, caller), caller, key=lambda one: len(one.text))
         self.uncalled = {it for it in self.keys if is_call(it)} - self.callers.keys()
         self.calls = {it.key() for found in self.pages.values() for it in found if is_call(it.key()) and not it.is_part}
-        self.costs = costs.by_call(costs.costs())
+        self.costs = dict(costs.costs())
         self.notes = notes()
         # Where a note is shown.
         self.noted = {}
