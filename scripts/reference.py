@@ -391,7 +391,7 @@ class Page:
         for found in self.sections.values():
             # The calls of the page's type, then what they return.
             found.sort(key=self.place)
-        self.order = sorted(self.sections, key=SECTIONS.index)
+        self.order = sorted(self.sections, key=lambda it: SECTIONS.index(it) if it in SECTIONS else len(SECTIONS))
 
     def place(self, it):
         is_own = it.kind == "method" and it.of == self.main
