@@ -114,8 +114,11 @@ def faults():
     yield from costs.faults(library.calls)
     sections = {it.section(main_of(page)) for page, found in library.pages.items() for it in found}
     yield from (f"scripts/reference.py: in which place is the section {it}?" for it in sorted(sections - set(SECTIONS)))
-    short = (it for it in library.calls if it in library.callers and len(library.callers[it].lines) < 3)
-    yield from (f"{library.callers[it].path}: the caller of {it} has fewer than three lines" for it in sorted(short))
+    for page, found in library.pages.items():
+        for it in (it for it in found if it.key() in library.calls - library.uncalled):
+            entry = written[page].partition(it.mark(main_of(page)))[2].partition("\n##")[0]
+            shown = re.search(r"\nA caller,.*\n\n```\n(.*?)\n```\n", entry, re.S)
+            yield from [f"docs/reference/{page}.md: {it.key()} shows fewer than three lines of a caller"] * (not shown or shown[1].count("\n") < 2)
     yield from wrong_errors(library)
     yield from (f"docs/DIFFERENCES.md: no such call: {it}" for it in library.notes if it not in library.keys)
     for cells in differences():
