@@ -1,4 +1,5 @@
 """Which functions call which, by the type that a call is made on, as far as a function's own lines tell it."""
+import itertools
 import re
 import textwrap
 
@@ -49,9 +50,13 @@ class Caller:
             yield f"{of}::{found[2]}" if found[1] and of in self.known.types else found[2], found.start()
 
     def around(self, call):
-        """The line that makes a call, between its neighbours."""
-        at = min(max(self.calls[call], 1), len(self.lines) - 2)
-        return textwrap.dedent("\n".join(self.lines[max(at - 1, 0) : at + 2]))
+        """The line that makes a call, between its neighbours in the body, or of a shorter body the whole without its clauses."""
+        first = self.lines.index("{") + 1 if "{" in self.lines else 1
+        if len(self.lines) - first <= 3:
+            signature = itertools.takewhile(lambda it: not it.lstrip().startswith(("requires", "ensures")), self.lines[: first - 1])
+            return "\n".join([*signature, *self.lines[first - 1 :]])
+        at = min(max(self.calls[call], first + 1), len(self.lines) - 3)
+        return textwrap.dedent("\n".join(self.lines[at - 1 : at + 2]))
 
     def link(self):
         return f"[`{self.path}`](../../{self.path}#L{self.at}-L{self.at + len(self.lines) - 1})"

@@ -117,7 +117,7 @@ def faults():
     for page, found in library.pages.items():
         for it in (it for it in found if it.key() in library.calls - library.uncalled):
             entry = written[page].partition(it.mark(main_of(page)))[2].partition("\n##")[0]
-            shown = re.search(r"\nA caller,.*\n\n```\n(.*?)\n```\n", entry, re.S)
+            shown = re.search(r"\nA caller,[^\n]*\n\n```\n(.*?)\n```\n", entry, re.S)
             yield from [f"docs/reference/{page}.md: {it.key()} shows fewer than three lines of a caller"] * (not shown or shown[1].count("\n") < 2)
     yield from wrong_errors(library)
     yield from (f"docs/DIFFERENCES.md: no such call: {it}" for it in library.notes if it not in library.keys)
