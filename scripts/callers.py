@@ -50,11 +50,11 @@ class Caller:
             yield f"{of}::{found[2]}" if found[1] and of in self.known.types else found[2], found.start()
 
     def around(self, call):
-        """The line that makes a call, between its neighbours in the body, or of a shorter body the whole without its clauses."""
+        """The line that makes a call, between its neighbours in the body, or all of a shorter function but its clauses."""
         first = self.lines.index("{") + 1 if "{" in self.lines else 1
         if len(self.lines) - first <= 3:
-            signature = itertools.takewhile(lambda it: not it.lstrip().startswith(("requires", "ensures")), self.lines[: first - 1])
-            return "\n".join([*signature, *self.lines[first - 1 :]])
+            is_signature = lambda it: not it.lstrip().startswith(("requires", "ensures"))
+            return "\n".join([*itertools.takewhile(is_signature, self.lines[: first - 1]), *self.lines[first - 1 :]])
         at = min(max(self.calls[call], first + 1), len(self.lines) - 3)
         return textwrap.dedent("\n".join(self.lines[at - 1 : at + 2]))
 

@@ -43,7 +43,8 @@ class Word:
         self.shown = code(" ".join([self.name, *self.given]))
         found = self.read_parts(body) if self.kind else []
         self.fields = [(name, text) for name, text, _ in found] if self.kind == "record" else []
-        parts = "; ".join(code(f"{name} : {text}" if self.kind == "record" else name) + f" ({said})" * bool(said) for name, text, said in found)
+        shown = [(code(f"{name} : {text}" if self.kind == "record" else name), said) for name, text, said in found]
+        parts = "; ".join(part + f" ({said})" * bool(said) for part, said in shown)
         self.meaning = self.comment + f". {'It has' if self.kind == 'record' else 'One of'} {parts}" * bool(parts)
 
     def read_parts(self, body):

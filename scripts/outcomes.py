@@ -1,4 +1,4 @@
-"""What a function's clauses tell of its results: what it requires, when it fails, what holds then, and when it cannot fail."""
+"""What the clauses of a function tell: what it requires, when it fails, what holds then, and when it cannot fail."""
 import re
 
 import contracts
@@ -40,14 +40,17 @@ PHRASES = [
         (r"IntoIterYields \S+ \S+ (\w+) (\w+)", "`{}` is known to yield `{}`"),
         (r"R\.has_bounds range", "`range` has bounds"),
         (r"IsRangeOf \(.*self\.old\) \(R\.start_bound range\) \(R\.end_bound range\)", "`range` is in the list"),
-        (r"\(x : \S+\) → slice_get .* ≡ Some x → FnOnceTakesAtMut F\.FnOnce (\w+) x", "`{}` may be called with the last item, if there is one"),
+        (
+            r"\(x : \S+\) → slice_get .* ≡ Some x → FnOnceTakesAtMut F\.FnOnce (\w+) x",
+            "`{}` may be called with the last item, if there is one",
+        ),
         (r"SpliceCanNext I\.can_next(?:_back)? self(?:\.old)?", "the replacement may be iterated"),
         (r"FusedFinite I\.remaining \(splice_replacement self\)", "the replacement ends"),
         (r"\w+\.IsAlwaysCallable (\w+)(?:\.old)?", "`{}` may be called with each argument, again and again"),
         (r"\(it : (\w+)\.IntoIter\) → \1\.into_iter_gives (\w+) it → \1\.IntoIter\.can_next it", "`{1}` may be iterated"),
         (
-            r"\(it : (\w+)\.IntoIter\) → \1\.into_iter_gives (\w+) it → \1\.IntoIter\.can_next it × IsFinite \(\1\.IntoIter\.remaining it\)"
-            r"( × HoldsAlong \1\.IntoIter\.next_gives it \(λ _\. ⊤\))?",
+            r"\(it : (\w+)\.IntoIter\) → \1\.into_iter_gives (\w+) it → \1\.IntoIter\.can_next it"
+            r" × IsFinite \(\1\.IntoIter\.remaining it\)( × HoldsAlong \1\.IntoIter\.next_gives it \(λ _\. ⊤\))?",
             "`{1}` may be iterated, and ends",
         ),
     )
@@ -103,7 +106,7 @@ class Outcomes:
                 self.read(".".join(filter(None, (path, field))), premises, filled(text, dict(zip(word.given, values))))
 
     def read_failure(self, path, premises, form, said):
-        """A clause on what is returned if the call fails: in an `Option`, by which a call fails only if the clause says so."""
+        """A clause on what is returned if the call fails. A `Some` is a failure only if the clause says so."""
         if form == "IfSome" and path != "refused":
             return
         known = self.then if AFTER.search(said) else self.only
@@ -123,7 +126,8 @@ class Outcomes:
     def fails(self):
         """When it fails, or returns `Some`, and what holds then."""
         if self.of == "Option":
-            cases = [f"`{kind[2:]}` exactly if {condition(fact, path)}" for path, kind, fact in self.exact if kind in ("IsSome", "IsNone")]
+            exact = [it for it in self.exact if it[1] in ("IsSome", "IsNone")]
+            cases = [f"`{kind[2:]}` exactly if {condition(fact, path)}" for path, kind, fact in exact]
             return f"- *Returns* {' and '.join(cases)}.{self.left()}\n" if cases else ""
         if not self.can_fail():
             return ""
@@ -139,7 +143,9 @@ class Outcomes:
         path, kind, text = fact
         if kind == "IsOk":
             sides = top_split(bare(text), " ≤ ")
-            return f"exactly if {condition(f'{sides[1]} < {sides[0]}', path)}" if len(sides) == 2 else f"exactly unless {condition(text, path)}"
+            if len(sides) == 2:
+                return f"exactly if {condition(f'{sides[1]} < {sides[0]}', path)}"
+            return f"exactly unless {condition(text, path)}"
         return {"IsErr": "exactly if ", "if": "if "}.get(kind, f"with `{kind}` exactly if ") + condition(text, path)
 
     def needs(self, fact):
@@ -164,7 +170,8 @@ class Outcomes:
         if self.of == "Option":
             return ""
         if not self.can_fail():
-            return f"- *Cannot fail*: {f'the clause `{self.always}` says so' if self.always else 'it returns no `Result`'}.\n"
+            reason = f"the clause `{self.always}` says so" if self.always else "it returns no `Result`"
+            return f"- *Cannot fail*: {reason}.\n"
         premises = [frozenset(top_split(text, " → ")) for _, _, text in self.never]
         kept = [it for it, own in zip(self.never, premises) if not any(other < own for other in premises)]
         cases = dict.fromkeys(f"if {condition(text, path)}" for path, _, text in kept)
@@ -196,8 +203,9 @@ def outcome(fact):
     """What holds after a failure, if English or few letters say it."""
     if found := re.fullmatch(r"λ (\w+)\. (.*)", fact):
         name = found[1]
+        passed_in = re.compile(rf"{name}(?:\.\w+)? ≡ (\w+)(?:\.entry|\.old)?")
         parts = [bare(it) for it in top_split(found[2], " × ")]
-        said = [f"`{it[1]}` is returned" if (it := re.fullmatch(rf"{name}(?:\.\w+)? ≡ (\w+)(?:\.entry|\.old)?", part)) else english(part) for part in parts]
+        said = [f"`{it[1]}` is returned" if (it := passed_in.fullmatch(part)) else english(part) for part in parts]
         return " and ".join(said) if not any(re.search(rf"\b{name}\b", it) for it in said) else ""
     parts = [english(bare(it)) for it in top_split(fact, " → ")]
     if sum(map(len, parts)) > LONGEST:

@@ -88,7 +88,8 @@ def others(names):
     for said, pattern in RUST.items():
         found = {it: len(re.findall(pattern, TICKED.sub("", CODE.sub("", read(it))))) for it in names if it not in UNCOUNTED}
         most = sorted((it for it in found if found[it]), key=found.get, reverse=True)[:3]
-        yield said, f"{sum(found.values())} times" + f", most in {', '.join(f'{it} ({found[it]})' for it in most)}" * bool(most)
+        where = ", ".join(f"{it} ({found[it]})" for it in most)
+        yield said, f"{sum(found.values())} times" + f", most in {where}" * bool(most)
 
 
 def unended():

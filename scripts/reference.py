@@ -1,8 +1,8 @@
 #!/usr/bin/env -S python3 -B
 """Writes the reference, docs/reference/*.md: all that the library crates export, with contracts, callers and what differs in Rust.
 
-An entry has a signature, the `///`, what it requires, when it fails, when it cannot and what holds then (read off the clauses by
-scripts/outcomes.py), what it costs (docs/reference/costs.txt), a caller, and the contract.
+An entry has a signature, the `///`, what it requires, when it fails, when it cannot and what holds then (read off the clauses
+by scripts/outcomes.py), what it costs (docs/reference/costs.txt), a caller, and the contract.
 
 usage: scripts/reference.py
 
@@ -43,12 +43,13 @@ LONGEST = 8
 # A note is shown on the first of its pages in this order.
 ORDER = ("TINY_VEC", "ARRAY_VEC", "SLICE_VEC", "INLINE_TEXT", "BORSH", "COUNTED", "SCRIPT", "SLOTS")
 
-# The sections of all pages, in the order of std's pages: what makes a value, its capacity, what reads it, what changes it, what
-# takes it apart, the types that calls return, errors, traits.
+# The sections of all pages, in the order of std's pages: what makes a value, its capacity, what reads it, what changes it,
+# what takes it apart, the types that calls return, errors, traits.
 SECTIONS = (
-    *("form", "serialize", "deserialize", "making", "capacity", "reading", "writing", "edits", "extending", "drain", "splice"),
-    *("filters", "extracting", "clones", "taking", "call", "command", "runs", "driving", "array", "tiny", "lent", "script"),
-    *("into_iter", "owned", "no_room", "no_memory", "capacity_error", "try_from_slice_error", "from_utf8_error", "borsh_error"),
+    *("form", "serialize", "deserialize", "making", "capacity", "reading", "writing", "edits", "extending", "drain"),
+    *("splice", "filters", "extracting", "clones", "taking", "call", "command", "runs", "driving", "array", "tiny", "lent"),
+    *("script", "into_iter", "owned", "no_room", "no_memory", "capacity_error", "try_from_slice_error", "from_utf8_error"),
+    "borsh_error",
     *("array_vec", "tiny_vec", "inline_text", "numbers", "traits", "parts"),
 )
 TITLES = {
@@ -118,7 +119,8 @@ def faults():
         for it in (it for it in found if it.key() in library.calls - library.uncalled):
             entry = written[page].partition(it.mark(main_of(page)))[2].partition("\n##")[0]
             shown = re.search(r"\nA caller,[^\n]*\n\n```\n(.*?)\n```\n", entry, re.S)
-            yield from [f"docs/reference/{page}.md: {it.key()} shows fewer than three lines of a caller"] * (not shown or shown[1].count("\n") < 2)
+            is_short = not shown or shown[1].count("\n") < 2
+            yield from [f"docs/reference/{page}.md: {it.key()} shows fewer than three lines of a caller"] * is_short
     yield from wrong_errors(library)
     yield from (f"docs/DIFFERENCES.md: no such call: {it}" for it in library.notes if it not in library.keys)
     for cells in differences():
@@ -129,12 +131,13 @@ def faults():
 def wrong_errors(library):
     """Where the table of errors names other calls than those whose signature has the error."""
     rows = re.findall(r"^\| `(\w+)(?:<[^`]*)?` \| (.*?) \|", pages_above(INDEX), re.M)
-    types = {it.name for found in library.pages.values() for it in found if it.kind in ("struct", "enum")} & {name for name, _ in rows}
-    made = [it for found in library.pages.values() for it in found if it.kind in ("fn", "method") and not it.is_part]
-    for error, cell in rows:
+    entries = [it for found in library.pages.values() for it in found]
+    types = {it.name for it in entries if it.kind in ("struct", "enum")}
+    made = [it for it in entries if it.kind in ("fn", "method") and not it.is_part]
+    for error, cell in (it for it in rows if it[0] in types):
         returning = {it.name for it in made if re.search(rf"-> .*\b{error}\b", it.item.signature())}
         named = set(re.findall(r"`([a-z]\w+)`", cell))
-        yield from (f"docs/reference/{INDEX}.md: {error}: {it}" for it in sorted(returning ^ named) if error in types)
+        yield from (f"docs/reference/{INDEX}.md: {error}: {it}" for it in sorted(returning ^ named))
 
 
 def pages_above(name):
@@ -225,7 +228,8 @@ class Library:
         """What each page has that is no call and no trait of the four types."""
         for page, found in self.pages.items():
             main = main_of(page)
-            others = (it for it in found if not it.is_part and it.kind != "impl" and not (page in COLUMNS and it.of == main) and it.name != main)
+            is_listed = lambda it: it.is_part or it.kind == "impl" or it.name == main or page in COLUMNS and it.of == main
+            others = (it for it in found if not is_listed(it))
             yield page, [f"[`{it.heading(main).strip('`')}`]({page}.md#{it.anchor(main)})" for it in others]
 
 
@@ -465,7 +469,8 @@ class Page:
         for page, found in self.library.pages.items():
             main = main_of(page)
             place = "" if page == self.name else f"{page}.md"
-            links += [f"[`{one.trait or one.name}`]({place}#{one.anchor(main)})" for one in found if not one.is_part and of in (one.of, one.name)]
+            its = (one for one in found if not one.is_part and of in (one.of, one.name))
+            links += [f"[`{one.trait or one.name}`]({place}#{one.anchor(main)})" for one in its]
         yield from [f"\nIts type, calls and traits: {', '.join(links)}.\n"] if links else ()
 
     def facts(self, it):

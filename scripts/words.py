@@ -20,8 +20,8 @@ PAGE = TOP / "docs/reference/WORDS.md"
 MARK = "<!-- scripts/words.py writes what follows -->"
 EXAMPLES = "crates/*/proofs/words"
 
-# A comment above a lemma is shown before it: of what is lent, say, whose word is no part of a fact. It may begin with `of PATH:`,
-# the file of a word that the statement itself does not have.
+# A comment above a lemma is shown before it: of what is lent, say, whose word is no part of a fact. It may begin with
+# `of PATH:`, the file of a word that the statement itself does not have.
 EXAMPLE = re.compile(r"^(?: *-- (?:of (\S+): )?(.*)\n)?( *)pub example-(\S+) : (.*(?:\n\3 +.*)*)$", re.M)
 
 
