@@ -1,28 +1,17 @@
 -- A front of a stream is its first records, and then no byte, or a record that is cut.
-use Rattle.std.proofs.Common.{◌≡◌, ◌∙◌, ap, sym, subst, ℕ, ◌^◌, ◌-◌, ◌<◌, ◌⊎◌, inl, inr, List, [], ◌++◌, refl, Option, Some, Result, Ok, Err, append-nil, append_assoc}
+use Rattle.std.proofs.Common.{◌≡◌, ◌∙◌, ap, sym, subst, ℕ, ◌⊎◌, inl, inr, List, [], ◌++◌, refl, Option, Some, Result, Ok, Err, append-nil, append_assoc}
 use Rattle.std.specs.List.{AllByRecursion}
 use Rattle.std.specs.Result.{IsErrOf}
 use Rattle.tinyvec_io.specs.Counted.{Reported}
-use Rattle.tinyvec_borsh.specs.Both.{BothFit, SpellsBoth}
-use Rattle.tinyvec_borsh.specs.Fronts.{FrontsAreCut}
-use Rattle.tinyvec_borsh.specs.Number.{SpellsNumber, TooFewBytes}
-use Rattle.tinyvec_borsh.specs.declared.borsh_error.BorshError.TheVariants.{Ended}
 use Rattle.tinyvec_borsh.specs.Reading.{MayBe}
 use Rattle.tinyvec_borsh.specs.Tagged.{IsTagged}
-use Rattle.tinyvec_borsh.proofs.Fronts.{HasFirst, both-fronts, items-fronts, list-fronts, number-fronts}
+use Rattle.tinyvec_borsh.specs.FrontsLaws.{HasFirst, items-fronts}
 use Rattle.tinyvec_borsh.proofs.Tagged.{tagged-fronts}
-use Rattle.example_records.specs.Readings.{IsReadingCut, ListsReason, NoteFits, NoteReason, ReadingFits, Said, SamplesFit, SamplesReason, SpellsNote, SpellsReading, SpellsSamples, StationFits}
+use Rattle.example_records.specs.Readings.{IsReadingCut, ReadingFits, Said, SpellsReading, reading_apart}
 use Rattle.example_records.specs.Stream.{AreFirst, BeginsWith, Gives, GivesCut, SpellsFrame, SpellsStream, StandsBehind, tag}
 use Rattle.example_records.specs.declared.stream_error.StreamError.{StreamError}
 use Rattle.example_records.specs.declared.stream_error.StreamError.TheVariants.{Cut, Io, Memory, TooManySamples, WrongTag}
 use Rattle.example_records.proofs.WholeStreams.{gives-all}
-
-reading-fronts : FrontsAreCut SpellsReading ReadingFits IsReadingCut
-reading-fronts =
-    let samples = list-fronts (SpellsNumber 2) (λ n. n < 2 ^ 16) (TooFewBytes 2 Ended) (number-fronts 2 (λ n. n < 2 ^ 16)) 8 in
-    let note = list-fronts (SpellsNumber 1) (λ n. n < 2 ^ 8) (TooFewBytes 1 Ended) (number-fronts 1 (λ n. n < 2 ^ 8)) (2 ^ 64 - 1) in
-    both-fronts (SpellsNumber 4) (SpellsBoth SpellsSamples SpellsNote) StationFits (BothFit SamplesFit NoteFits) (TooFewBytes 4) ListsReason (number-fronts 4 StationFits)
-    (both-fronts SpellsSamples SpellsNote SamplesFit NoteFits SamplesReason NoteReason samples note)
 
 -- no byte, or a record that is cut behind its tag
 abbrev IsFrameFront : List ℕ → Type 0
@@ -30,7 +19,7 @@ IsFrameFront tail = (tail ≡ []) ⊎ IsTagged tag IsReadingCut tail
 
 -- a front of a stream, the whole of it too
 stream-fronts : (cs : List Said) (front back : List ℕ) → AllByRecursion ReadingFits cs → SpellsStream cs (front ++ back) → HasFirst SpellsFrame ReadingFits IsFrameFront cs front
-stream-fronts = items-fronts SpellsFrame ReadingFits IsFrameFront (tagged-fronts tag SpellsReading ReadingFits IsReadingCut reading-fronts) (inl refl)
+stream-fronts = items-fronts SpellsFrame ReadingFits IsFrameFront (tagged-fronts tag SpellsReading ReadingFits IsReadingCut reading_apart.front_is_cut) (inl refl)
 
 first-of-first : (read first cs more : List Said) → cs ≡ first ++ more → AreFirst read first → AreFirst read cs
 first-of-first read first cs more all f = (f.0 ++ more, all ∙ ap (λ l. l ++ more) f.1 ∙ append_assoc read f.0 more)

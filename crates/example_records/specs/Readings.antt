@@ -77,8 +77,8 @@ IsReadingTooLong = ReadingReason InvalidLength
 pub samples_code : IsCode SpellsSamples
 samples_code = list_code (SpellsNumber 2) (number_code 2 (lit< tt))
 
-samples_apart : AreApart SpellsSamples SamplesFit SamplesReason
-samples_apart = list_apart (SpellsNumber 2) (number_code 2 (lit< tt)) (λ n. n < 2 ^ 16) (TooFewBytes 2) (number_apart 2 (λ n. n < 2 ^ 16)) (λ _. ⊥) 8
+pub samples_apart : AreApart SpellsSamples SamplesFit SamplesReason
+samples_apart = list_apart (SpellsNumber 2) (number_code 2 (lit< tt)) (λ n. n < 2 ^ 16) (TooFewBytes 2) (number_apart 2 (lit< tt) (λ n. n < 2 ^ 16)) (λ _. ⊥) 8
 
 samples_spelled : (c : List ℕ) → SamplesFit c → (bytes : List ℕ) × SpellsSamples c bytes
 samples_spelled = list_spelled (SpellsNumber 2) (λ n. n < 2 ^ 16) (number_spelled 2) 8
@@ -87,7 +87,7 @@ note_code : IsCode SpellsNote
 note_code = list_code (SpellsNumber 1) (number_code 1 (lit< tt))
 
 note_apart : AreApart SpellsNote NoteFits NoteReason
-note_apart = list_apart (SpellsNumber 1) (number_code 1 (lit< tt)) (λ n. n < 2 ^ 8) (TooFewBytes 1) (number_apart 1 (λ n. n < 2 ^ 8)) (CountsAbove 16) (2 ^ 64 - 1)
+note_apart = list_apart (SpellsNumber 1) (number_code 1 (lit< tt)) (λ n. n < 2 ^ 8) (TooFewBytes 1) (number_apart 1 (lit< tt) (λ n. n < 2 ^ 8)) (CountsAbove 16) (2 ^ 64 - 1)
 
 note_spelled : (c : List ℕ) → NoteFits c → (bytes : List ℕ) × SpellsNote c bytes
 note_spelled = list_spelled (SpellsNumber 1) (λ n. n < 2 ^ 8) (number_spelled 1) (2 ^ 64 - 1)
@@ -96,7 +96,7 @@ pub reading_code : IsCode SpellsReading
 reading_code = both_code (number_code 4 (lit< tt)) (both_code samples_code note_code)
 
 pub reading_apart : AreApart SpellsReading ReadingFits ReadingReason
-reading_apart = both_apart (number_code 4 (lit< tt)) (number_apart 4 StationFits) (both_apart samples_code samples_apart note_apart)
+reading_apart = both_apart (number_code 4 (lit< tt)) (number_apart 4 (lit< tt) StationFits) (both_apart samples_code samples_apart note_apart)
 
 pub reading_spelled : (c : Said) → ReadingFits c → (bytes : List ℕ) × SpellsReading c bytes
 reading_spelled = both_spelled (number_spelled 4) (both_spelled samples_spelled note_spelled)

@@ -1,5 +1,5 @@
 -- What was written or read where a call fails.
-use Rattle.std.proofs.Common.{◌≡◌, ◌≢◌, ◌∙◌, ap, sym, subst, ℕ, suc, ◌*◌, ◌<◌, ◌≤◌, arith, List, [], ◌∷◌, ◌++◌, length, map, take, drop, get_or, append_assoc, refl, Option, Result, Ok, Err, OnErr}
+use Rattle.std.proofs.Common.{◌≡◌, ◌≢◌, ◌∙◌, ap, sym, subst, ℕ, suc, ◌*◌, ◌<◌, ◌≤◌, arith, List, [], ◌∷◌, ◌++◌, length, length-append, map, take, drop, get_or, append_assoc, refl, Option, Result, Ok, Err, OnErr}
 use Rattle.std.proofs.lemmas.List.{map-append, take-append-drop}
 use Rattle.std.proofs.Math.Seq.{drop-cons}
 use Rattle.std.specs.Io.KnownBytes.{Consumes}
@@ -9,11 +9,12 @@ use Rattle.tinyvec_io.specs.Counted.{AppendsFront, CountedView, Reported}
 use Rattle.tinyvec_io.proofs.Pieces.{AppendsFront-then, AppendsFront-longer}
 use Rattle.tinyvec_borsh.specs.declared.borsh_error.BorshError.{BorshError}
 use Rattle.tinyvec_borsh.specs.declared.borsh_error.BorshError.TheVariants.{Ended, InvalidLength, InvalidUtf8, Io, Memory}
+use Rattle.tinyvec_borsh.specs.Apart.{IsOfInput}
 use Rattle.tinyvec_borsh.specs.Code.{IsCode}
 use Rattle.tinyvec_borsh.specs.Items.{SpellsItems}
 use Rattle.tinyvec_borsh.specs.ItemsLaws.{one-items}
 use Rattle.tinyvec_borsh.specs.TwoParts.{HasParts, joined}
-use Rattle.tinyvec_borsh.specs.Reading.{TakesSome}
+use Rattle.tinyvec_borsh.specs.Reading.{FewBytes, TakesSome}
 use Rattle.tinyvec_borsh.specs.Writing.{WritesSpelling, WritesValue, AddsFront}
 use Rattle.tinyvec_borsh.proofs.ItemByItem.{WroteItems}
 
@@ -100,22 +101,28 @@ module _ {C : Type 0} (Spells : C → List ℕ → Type 0) (code : IsCode Spells
 
 -- it is an error of what was read
 abbrev pub IsOfContent : BorshError → Type 0
-IsOfContent e = (e ≢ Ended) × (e ≢ Io)
+IsOfContent e = (e ≢ Ended) × IsOfInput e
 
--- all of it was taken, and the call fails for another reason than the end or a fault
-pub some-all : {IsCut : List ℕ → Type 0} (old new : Option (List ℕ)) (bytes : List ℕ) (e : BorshError) → IsOfContent e → Consumes old new bytes → TakesSome IsCut old new e
-some-all old new bytes e other taken = record { bytes = bytes; taken = taken; end = λ is. absurd (other.0 is); short = λ is. absurd (other.1 is) }
+module _ {IsCut : List ℕ → Type 0} (old new : Option (List ℕ)) (bytes : List ℕ) (taken : Consumes old new bytes) (needed : (front back : List ℕ) → 0 < length back → bytes ≡ front ++ back → IsCut front) where
+  -- these were taken, and the call fails for what they are
+  pub some-all : (e : BorshError) → IsOfContent e → TakesSome IsCut old new e
+  some-all e other = record { bytes = bytes; taken = taken; end = λ is. absurd (other.0 is); needed = needed; short = λ no. absurd (no other.1) }
+
+  -- or for want of memory
+  pub some-cut : IsCut bytes → TakesSome IsCut old new Memory
+  some-cut cut = record { bytes = bytes; taken = taken; end = λ is. cc; needed = needed; short = λ _. cut }
 
 pub length_is_other : IsOfContent InvalidLength
-length_is_other = (λ e. cc, λ e. cc)
+length_is_other = (λ e. cc, tt)
 
 pub utf8_is_other : IsOfContent InvalidUtf8
-utf8_is_other = (λ e. cc, λ e. cc)
-
-pub memory_is_other : IsOfContent Memory
-memory_is_other = (λ e. cc, λ e. cc)
+utf8_is_other = (λ e. cc, tt)
 
 -- the bytes at the front of a buffer
 pub small-first : (front rest : List ℕ) → AllByRecursion (λ byte. byte < 256) (front ++ rest) → AllByRecursion (λ byte. byte < 256) front
 small-first [] rest small = tt
 small-first (x ∷ front) rest small = (small.0, small-first front rest small.1)
+
+-- a front of too few bytes has too few
+pub few-front : {n : ℕ} {bytes : List ℕ} → AllByRecursion (λ byte. byte < 256) bytes → length bytes < n → (front back : List ℕ) → 0 < length back → bytes ≡ front ++ back → FewBytes n Ended front
+few-front small few front back some is = (refl, small-first front back (subst (AllByRecursion (λ byte. byte < 256)) is small), omega (arith, few, some, ap length is, length-append front back))

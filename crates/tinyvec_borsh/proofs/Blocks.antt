@@ -1,10 +1,13 @@
 -- Items that are read into slots, a block at a time.
-use Rattle.std.proofs.Common.{◌≡◌, ◌∙◌, ap, sym, subst, ℕ, ◌+◌, ◌-◌, ◌<◌, ◌≤◌, List, [], ◌∷◌, ◌++◌, length, arith, Option, Err, map, take, slice_set, length-take-le, take_at}
+use Rattle.std.proofs.Common.{◌≡◌, ◌∙◌, ap, sym, subst, ℕ, ◌+◌, ◌-◌, ◌<◌, ◌≤◌, List, [], ◌∷◌, ◌++◌, length, length-append, arith, Option, Err, map, take, slice_set, length-take-le, take_at}
 use Rattle.std.proofs.lemmas.List.{length-map, map-append, take_all, take_more_set}
 use Rattle.std.specs.List.{AllByRecursion}
 use Rattle.std.proofs.lemmas.Slice.{take-put_mid}
 use borrow.Rule.Slice.PartMut.{put_mid}
 use Rattle.tinyvec_borsh.specs.declared.borsh_error.BorshError.{BorshError}
+use Rattle.tinyvec_borsh.specs.declared.borsh_error.BorshError.TheVariants.{Ended}
+use Rattle.tinyvec_borsh.specs.Fronts.{FrontsAreCut}
+use Rattle.tinyvec_borsh.specs.FrontsLaws.{cut-items}
 use Rattle.tinyvec_borsh.specs.Items.{SpellsItems, AfterItems}
 use Rattle.tinyvec_borsh.specs.Reading.{FailsFor, ReadsSpelling}
 use Rattle.tinyvec_io.specs.Counted.{CountedView}
@@ -25,12 +28,19 @@ module _ {C : Type 0} (Spells : C → List ℕ → Type 0) (Fits : C → Type 0)
   took-slot content xs i x old mid new within w t f =
       took-block (map content (take i xs)) (content x ∷ []) _ old mid new (ap (map content) (take_more_set xs i x within) ∙ map-append content (take i xs) (x ∷ [])) w (takes-so mid new (one-item Spells (content x)) t) (f, tt)
 
+  -- a front of items is cut in one of them
+  pub after-fronts : (Reason : BorshError → List ℕ → Type 0) → FrontsAreCut Spells Fits (Reason Ended) → (n : ℕ) (cs : List C) → length cs ≤ n → AllByRecursion Fits cs
+      → (front back : List ℕ) → 0 < length back → SpellsItems Spells cs (front ++ back) → AfterItems Spells Fits Reason n Ended front
+  after-fronts Reason fronts n cs few fit front back some p =
+      let t = cut-items Spells Fits (Reason Ended) fronts cs front back some fit p in
+      record { items = t.0.first; fewer = omega (arith, few, t.1, ap length t.0.all, length-append t.0.first t.0.more); fit = t.0.fit; parts = t.0.parts }
+
   -- an item was not read, and the input is so from it on
-  pub fails-behind : {R T U : Type 0} {remaining : R → Option (List ℕ)} {old mid new : CountedView R} {e : BorshError} (Reason : BorshError → List ℕ → Type 0) (n : ℕ) (cs : List C)
+  pub fails-behind : {R T U : Type 0} {remaining : R → Option (List ℕ)} {old mid new : CountedView R} {e : BorshError} (Reason : BorshError → List ℕ → Type 0) → FrontsAreCut Spells Fits (Reason Ended) → (n : ℕ) (cs : List C)
       → TookItems cs (remaining old.inner) (remaining mid.inner) → length cs < n → old.faults ≤ mid.faults
       → FailsFor {T = T} remaining Reason mid new (Err e) → FailsFor {T = U} remaining (AfterItems Spells Fits Reason n) old new (Err e)
-  fails-behind Reason n cs w fewer grows failed =
-      fails-after (SpellsItems Spells cs) w.taken grows (λ f input p. record { items = cs; fewer = fewer; fit = w.fit; parts = p }) failed
+  fails-behind Reason fronts n cs w fewer grows failed =
+      fails-after (SpellsItems Spells cs) w.taken grows (after-fronts Reason fronts n cs (omega (arith, fewer)) w.fit) (λ f input p. record { items = cs; fewer = fewer; fit = w.fit; parts = p }) failed
 
   -- what is wrong with the next items is wrong with all that are to come
   pub of-more : (Reason : BorshError → List ℕ → Type 0) (k n : ℕ) → k ≤ n → (e : BorshError) (input : List ℕ) → AfterItems Spells Fits Reason k e input → AfterItems Spells Fits Reason n e input

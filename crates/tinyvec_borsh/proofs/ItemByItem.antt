@@ -7,6 +7,8 @@ use Rattle.std.specs.List.{AllByRecursion}
 use Rattle.tinyvec_borsh.specs.declared.borsh_error.BorshError.{BorshError}
 use Rattle.tinyvec_borsh.specs.declared.borsh_error.BorshError.TheVariants.{Ended, InvalidLength, InvalidUtf8, Io, Memory}
 use Rattle.tinyvec_borsh.specs.Items.{AfterItems, IsCount, SpellsItems, SpellsList, HasItems, InItem, HasTooMany, CountsAbove, ListReason}
+use Rattle.tinyvec_borsh.specs.Fronts.{FrontsAreCut}
+use Rattle.tinyvec_borsh.specs.FrontsLaws.{counted-fronts, cut-place}
 use Rattle.tinyvec_borsh.specs.Number.{TooFewBytes}
 use Rattle.tinyvec_borsh.specs.TwoParts.{HasParts, first-so, group-first, group-rest, joined, rest-so, with-tail}
 use Rattle.tinyvec_borsh.specs.Reading.{MayBe, ReadsSpelling, Fails, FailsFor, LeavesRest, TakesSome}
@@ -46,20 +48,31 @@ fails-so Reason All old mid before between after Memory grows f so = so Memory f
 
 module _ {IsCut All : List ℕ → Type 0} where
   -- what was taken before is taken too
-  some-then : (old mid new : Option (List ℕ)) (bytes : List ℕ) (e : BorshError) → Consumes old mid bytes → ((rest : List ℕ) → IsCut rest → All (bytes ++ rest)) → TakesSome IsCut mid new e → TakesSome All old new e
-  some-then old mid new bytes e before cut t = record { bytes = bytes ++ t.bytes; taken = Consumes-trans old mid new bytes t.bytes before t.taken; end = t.end; short = λ is. cut t.bytes (t.short is) }
+  some-then : (old mid new : Option (List ℕ)) (bytes : List ℕ) (e : BorshError) → Consumes old mid bytes → ((front back : List ℕ) → 0 < length back → bytes ≡ front ++ back → All front)
+      → ((rest : List ℕ) → IsCut rest → All (bytes ++ rest)) → TakesSome IsCut mid new e → TakesSome All old new e
+  some-then old mid new bytes e before firsts cut t = record {
+    bytes = bytes ++ t.bytes;
+    taken = Consumes-trans old mid new bytes t.bytes before t.taken;
+    end = t.end;
+    needed = λ front back some is. elim (cut-place bytes t.bytes front back is) [
+      | inl f ↦ firsts front f.0 f.2 f.1
+      | inr s ↦ subst All (sym s.1) (cut s.0 (t.needed s.0 back some s.2))
+    ];
+    short = λ no. cut t.bytes (t.short no);
+  }
 
   some-so : (old new : Option (List ℕ)) (e : BorshError) → ((bytes : List ℕ) → IsCut bytes → All bytes) → TakesSome IsCut old new e → TakesSome All old new e
-  some-so old new e cut t = record { bytes = t.bytes; taken = t.taken; end = t.end; short = λ is. cut t.bytes (t.short is) }
+  some-so old new e cut t = record { bytes = t.bytes; taken = t.taken; end = t.end; needed = λ front back some is. cut front (t.needed front back some is); short = λ no. cut t.bytes (t.short no) }
 
 module _ {R T U : Type 0} {remaining : R → Option (List ℕ)} {Inner Outer : BorshError → List ℕ → Type 0} {old mid new : CountedView R} {e : BorshError} where
   -- a reading failed behind what was read
   pub fails-after : (S : List ℕ → Type 0) → ReadsSpelling S (remaining old.inner) (remaining mid.inner) → old.faults ≤ mid.faults
+      → ((front back : List ℕ) → 0 < length back → S (front ++ back) → Outer Ended front)
       → ((f : BorshError) (input : List ℕ) → HasParts S (Inner f) input → Outer f input)
       → FailsFor {T = T} remaining Inner mid new (Err e) → FailsFor {T = U} remaining Outer old new (Err e)
-  fails-after S t grows so failed = record {
+  fails-after S t grows firsts so failed = record {
     err = fails-so Inner Outer _ _ _ _ _ e grows failed.err (λ f may. maybe-behind _ _ (Inner f) (Outer f) t (so f) may);
-    taken = some-then _ _ _ t.0 e t.2 (λ rest cut. so Ended (t.0 ++ rest) (joined t.0 rest t.1 cut)) failed.taken;
+    taken = some-then _ _ _ t.0 e t.2 (λ front back some is. firsts front back some (subst S is t.1)) (λ rest cut. so Ended (t.0 ++ rest) (joined t.0 rest t.1 cut)) failed.taken;
     grows = omega (arith, grows, failed.grows);
   }
 
@@ -166,6 +179,12 @@ module _ {C : Type 0} (Spells : C → List ℕ → Type 0) where
         → (input : List ℕ) → HasParts (HasParts (IsCount n) (SpellsItems Spells cs)) P input → InItem Spells Fits P room input
     in-item P room n cs fit fewer few input p = record { has = has-items n cs input fit p; fewer = fewer; few = few; left = p.is_rest }
 
+    -- an input that ends after its count is cut
+    pub cut-after-count : (Reason : BorshError → List ℕ → Type 0) → Reason Ended [] → (room n : ℕ) (bytes : List ℕ) → 0 < n → IsCount n bytes → InItem Spells Fits (Reason Ended) room bytes
+    cut-after-count Reason none room n bytes some counted =
+        let count : HasParts (IsCount n) (SpellsItems Spells []) bytes = record { first = bytes; rest = []; is_first = counted; is_rest = refl; whole = sym (append-nil bytes) } in
+        in-item (Reason Ended) room n [] tt some (omega arith) bytes (record { first = bytes; rest = []; is_first = count; is_rest = none; whole = sym (append-nil bytes) })
+
     -- of a block of k items one was not read
     in-block : (Reason : BorshError → List ℕ → Type 0) (e : BorshError) (room n k : ℕ) (cs : List C) → AllByRecursion Fits cs → length cs + k ≤ n → length cs + k ≤ room + 1
         → (input : List ℕ) → HasParts (HasParts (IsCount n) (SpellsItems Spells cs)) (AfterItems Spells Fits Reason k e) input → InItem Spells Fits (Reason e) room input
@@ -195,26 +214,26 @@ module _ {C : Type 0} (Spells : C → List ℕ → Type 0) where
           → FailsFor {T = U} remaining (ListReason Spells Fits Reason Allocates room) old new (Err e)
       fails-count failed = fails-as (λ f input few. subst (λ f. ListReason Spells Fits Reason Allocates room f input) (sym few.0) (inl few.1)) failed
 
-      module _ (n : ℕ) (cs : List C) {old mid new : CountedView R} (w : WasRead n cs (remaining old.inner) (remaining mid.inner)) where
+      module _ (fronts : FrontsAreCut Spells Fits (Reason Ended)) (n : ℕ) (cs : List C) {old mid new : CountedView R} (w : WasRead n cs (remaining old.inner) (remaining mid.inner)) where
         -- an item was not read
         pub fails-item : length cs < n → length cs ≤ room → old.faults ≤ mid.faults
             → FailsFor {T = T} remaining Reason mid new (Err e) → FailsFor {T = U} remaining (ListReason Spells Fits Reason Allocates room) old new (Err e)
         fails-item more few grows failed =
-            fails-after (HasParts (IsCount n) (SpellsItems Spells cs)) w.taken grows (λ f input p. inr (in-item (Reason f) room n cs w.fit more few input p)) failed
+            fails-after (HasParts (IsCount n) (SpellsItems Spells cs)) w.taken grows (counted-fronts Spells Fits (Reason Ended) fronts room n cs (omega (arith, more)) (omega (arith, few)) w.fit) (λ f input p. inr (in-item (Reason f) room n cs w.fit more few input p)) failed
 
         -- a block was not read
         pub fails-block : (k : ℕ) → length cs + k ≤ n → length cs + k ≤ room + 1 → old.faults ≤ mid.faults
             → FailsFor {T = T} remaining (AfterItems Spells Fits Reason k) mid new (Err e) → FailsFor {T = U} remaining (ListReason Spells Fits Reason Allocates room) old new (Err e)
         fails-block k more few grows failed =
-            fails-after (HasParts (IsCount n) (SpellsItems Spells cs)) w.taken grows (λ f input p. inr (in-block Reason f room n k cs w.fit more few input p)) failed
+            fails-after (HasParts (IsCount n) (SpellsItems Spells cs)) w.taken grows (counted-fronts Spells Fits (Reason Ended) fronts room n cs (omega (arith, more)) (omega (arith, few)) w.fit) (λ f input p. inr (in-block Reason f room n k cs w.fit more few input p)) failed
 
-    module _ (Reason : BorshError → List ℕ → Type 0) (most room n k : ℕ) (cs : List C) (Wanting : Type 0) {R T U : Type 0} {remaining : R → Option (List ℕ)} {old mid new : CountedView R} {e : BorshError} where
+    module _ (Reason : BorshError → List ℕ → Type 0) (fronts : FrontsAreCut Spells Fits (Reason Ended)) (most room n k : ℕ) (cs : List C) (Wanting : Type 0) {R T U : Type 0} {remaining : R → Option (List ℕ)} {old mid new : CountedView R} {e : BorshError} where
       -- a block was not read, or memory for it was wanting, since the count is above this
       pub fails-wanting : WasRead n cs (remaining old.inner) (remaining mid.inner) → length cs + k ≤ n → length cs + k ≤ room + 1 → old.faults ≤ mid.faults → (Wanting → most < n)
           → FailsFor {T = T} remaining (λ f input. AfterItems Spells Fits Reason k f input ⊎ ((f ≡ Memory) × Wanting)) mid new (Err e)
           → FailsFor {T = U} remaining (ListReason Spells Fits Reason (CountsAbove most) room) old new (Err e)
       fails-wanting w more few grows above failed =
-          fails-after (HasParts (IsCount n) (SpellsItems Spells cs)) w.taken grows (λ f input p. elim p.is_rest [
+          fails-after (HasParts (IsCount n) (SpellsItems Spells cs)) w.taken grows (counted-fronts Spells Fits (Reason Ended) fronts room n cs (omega (arith, more)) (omega (arith, few)) w.fit) (λ f input p. elim p.is_rest [
             | inl so ↦ inr (in-block Reason f room n k cs w.fit more few input (rest-so p so))
             | inr wanting ↦ subst (λ f. ListReason Spells Fits Reason (CountsAbove most) room f input) (sym wanting.0) (inl (above-count most n cs (above wanting.1) input (rest-so p tt)))
           ]) failed

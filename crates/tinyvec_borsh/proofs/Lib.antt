@@ -2,7 +2,6 @@ pub mod AtFaults
 pub mod Blocks
 pub mod Both
 pub mod Counts
-pub mod Fronts
 pub mod ItemByItem
 pub mod ItemsInFront
 pub mod Lengths

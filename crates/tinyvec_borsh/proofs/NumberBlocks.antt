@@ -13,7 +13,8 @@ use Rattle.tinyvec_borsh.specs.Number.{SpellsNumber, TooFewBytes}
 use Rattle.tinyvec_borsh.specs.TwoParts.{HasParts, first-so, group-first, joined, rest-so}
 use Rattle.tinyvec_borsh.specs.Reading.{FailsFor, FewBytes}
 use Rattle.tinyvec_io.specs.Counted.{CountedView}
-use Rattle.tinyvec_borsh.proofs.Blocks.{TookItems}
+use Rattle.tinyvec_borsh.specs.Fronts.{FrontsAreCut}
+use Rattle.tinyvec_borsh.proofs.Blocks.{TookItems, after-fronts}
 use Rattle.tinyvec_borsh.proofs.ItemByItem.{WroteItems, fails-after, fit-join, fit-more, items-join, items-more}
 
 -- a number more takes as many bytes more
@@ -95,10 +96,10 @@ module _ {C : Type 0} (Spells : C → List ℕ → Type 0) (Fits : C → Type 0)
   fit-block xs ys zs both p q = subst (AllByRecursion Fits) (sym both) (fit-join Fits xs ys p q)
 
   -- an item of the block was not read, and the input is so from it on
-  pub fails-behind-block : {R T U : Type 0} {remaining : R → Option (List ℕ)} {old mid new : CountedView R} {e : BorshError} (Reason : BorshError → List ℕ → Type 0) (k n : ℕ) (cs : List C)
+  pub fails-behind-block : {R T U : Type 0} {remaining : R → Option (List ℕ)} {old mid new : CountedView R} {e : BorshError} (Reason : BorshError → List ℕ → Type 0) → FrontsAreCut Spells Fits (Reason Ended) → (k n : ℕ) (cs : List C)
       → TookItems Spells Fits cs (remaining old.inner) (remaining mid.inner) → length cs + k ≤ n → old.faults ≤ mid.faults
       → FailsFor {T = T} remaining (AfterItems Spells Fits Reason k) mid new (Err e) → FailsFor {T = U} remaining (AfterItems Spells Fits Reason n) old new (Err e)
-  fails-behind-block Reason k n cs w fewer grows failed = fails-after (SpellsItems Spells cs) w.taken grows (λ f input p.
+  fails-behind-block Reason fronts k n cs w fewer grows failed = fails-after (SpellsItems Spells cs) w.taken grows (after-fronts Spells Fits Reason fronts n cs (omega (arith, fewer)) w.fit) (λ f input p.
       let so = p.is_rest in
       let q : HasParts (HasParts (SpellsItems Spells cs) (SpellsItems Spells so.items)) (Reason f) input = group-first (rest-so p so.parts) in
       record {

@@ -3,6 +3,7 @@ use Rattle.std.proofs.Common.{◌≡◌, ◌∙◌, sym, subst, ℕ, inl, inr, L
 use Rattle.tinyvec_borsh.specs.Code.{IsCode}
 use Rattle.tinyvec_borsh.specs.Apart.{AreApart}
 use Rattle.tinyvec_borsh.specs.ItemsLaws.{same-item}
+use Rattle.tinyvec_borsh.specs.FrontsLaws.{both-fronts}
 use Rattle.tinyvec_borsh.specs.Both.{SpellsBoth, BothFit, IsBehind, InEither}
 use Rattle.tinyvec_borsh.specs.declared.borsh_error.BorshError.{BorshError}
 use Rattle.tinyvec_borsh.specs.declared.borsh_error.BorshError.TheVariants.{Ended}
@@ -49,6 +50,8 @@ module _ {A B : Type 0} {SpellsA : A → List ℕ → Type 0} {SpellsB : B → L
               apart_b.one_reason e f of_e of_f s.rest (subst (ReasonB e) same.2 r.is_rest) s.is_rest
         ]
       ];
+      front_is_cut = both-fronts SpellsA SpellsB FitsA FitsB ReasonA ReasonB apart_a.front_is_cut apart_b.front_is_cut;
+      none_is_cut = inl apart_a.none_is_cut;
     }
 
 module _ {A B : Type 0} {SpellsA : A → List ℕ → Type 0} {SpellsB : B → List ℕ → Type 0} {FitsA : A → Type 0} {FitsB : B → Type 0} where

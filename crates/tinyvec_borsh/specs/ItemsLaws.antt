@@ -8,6 +8,7 @@ use Rattle.tinyvec_borsh.specs.Apart.{AreApart, IsOfInput}
 use Rattle.tinyvec_borsh.specs.declared.borsh_error.BorshError.{BorshError}
 use Rattle.tinyvec_borsh.specs.declared.borsh_error.BorshError.TheVariants.{Ended, InvalidLength, InvalidUtf8, Io, Memory}
 use Rattle.tinyvec_borsh.specs.Number.{SpellsNumber}
+use Rattle.tinyvec_borsh.specs.FrontsLaws.{list-fronts}
 use Rattle.tinyvec_borsh.specs.NumberLaws.{number_code, number_spelled}
 use Rattle.tinyvec_borsh.specs.Items.{HasItems, IsCount, SpellsItems, SpellsList, InItem, ListFits, ListReason, OfList}
 use Rattle.tinyvec_borsh.specs.TwoParts.{HasParts, joined, parts-length, with-tail}
@@ -170,6 +171,8 @@ module _ {C : Type 0} (Spells : C → List ℕ → Type 0) (code : IsCode Spells
           | inl r ↦ elim s [ inl s ↦ one-of-list e f of_e of_f input r s | inr s ↦ absurd (list-or-item e f of_e of_f input r s) ]
           | inr r ↦ elim s [ inl s ↦ absurd (list-or-item f e of_f of_e input s r) | inr s ↦ one-item-reason e f of_e of_f input r s ]
         ];
+        front_is_cut = list-fronts Spells Fits (Reason Ended) apart.front_is_cut room;
+        none_is_cut = inl (omega arith);
       }
 
 module _ {C : Type 0} (Spells : C → List ℕ → Type 0) (Fits : C → Type 0) (spelled : (c : C) → Fits c → (bytes : List ℕ) × Spells c bytes) where

@@ -3,6 +3,7 @@ pub mod Both
 pub mod BothLaws
 pub mod Code
 pub mod Fronts
+pub mod FrontsLaws
 pub mod Items
 pub mod ItemsLaws
 pub mod Number

@@ -32,15 +32,17 @@ number_code width some = record {
 }
 
 -- If each spelling has `width` bytes, an input with fewer is cut, and refused for no other reason.
-pub apart_by_length : {C : Type 0} (width : ℕ) (Spells : C → List ℕ → Type 0) (Fits : C → Type 0) → ((c : C) (bytes : List ℕ) → Spells c bytes → length bytes ≡ width) → AreApart Spells Fits (TooFewBytes width)
-apart_by_length width Spells Fits many = record {
+pub apart_by_length : {C : Type 0} (width : ℕ) → 0 < width → (Spells : C → List ℕ → Type 0) (Fits : C → Type 0) → ((c : C) (bytes : List ℕ) → Spells c bytes → length bytes ≡ width) → AreApart Spells Fits (TooFewBytes width)
+apart_by_length width some Spells Fits many = record {
   spelled_or_cut = λ c bytes rest p cut. omega (arith, cut.1, many c bytes p, length-append bytes rest);
   fits_or_refused = λ e of c bytes rest fits p cut. omega (arith, cut.1, many c bytes p, length-append bytes rest);
   one_reason = λ e f of_e of_f input r s. r.0 ∙ sym s.0;
+  front_is_cut = λ c front back short fits p. (refl, omega (arith, short, many c (front ++ back) p, length-append front back));
+  none_is_cut = (refl, some);
 }
 
-pub number_apart : (width : ℕ) (Fits : ℕ → Type 0) → AreApart (SpellsNumber width) Fits (TooFewBytes width)
-number_apart width Fits = apart_by_length width (SpellsNumber width) Fits (λ c bytes p. p.many)
+pub number_apart : (width : ℕ) → 0 < width → (Fits : ℕ → Type 0) → AreApart (SpellsNumber width) Fits (TooFewBytes width)
+number_apart width some Fits = apart_by_length width some (SpellsNumber width) Fits (λ c bytes p. p.many)
 
 same-signed : (w : Width) (y z : ℤ) → FitsSigned w y → FitsSigned w z → cast_unsigned w y ≡ cast_unsigned w z → y ≡ z
 same-signed w y z p q same = sym (to_z-of_z w y p) ∙ ap (cast_signed w) same ∙ to_z-of_z w z q

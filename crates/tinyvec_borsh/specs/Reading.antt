@@ -1,8 +1,9 @@
 -- What a reading answers, by what the input is.
-use Rattle.std.specs.Prelude.{◌≡◌, ℕ, ◌+◌, ◌<◌, ◌≤◌, ◌⊎◌, List, length, None, Some, Option, Ok, Err, Result, IfErr}
+use Rattle.std.specs.Prelude.{◌≡◌, ℕ, ◌+◌, ◌<◌, ◌≤◌, ◌⊎◌, List, ◌++◌, length, None, Some, Option, Ok, Err, Result, IfErr}
 use Rattle.std.specs.List.{AllByRecursion}
 use Rattle.std.specs.Io.KnownBytes.{Consumes, IsAtEnd}
 use Rattle.tinyvec_io.specs.Counted.{CountedView, Reported}
+use Rattle.tinyvec_borsh.specs.Apart.{IsOfInput}
 use Rattle.tinyvec_borsh.specs.Items.{IsCount, SpellsItems}
 use Rattle.tinyvec_borsh.specs.TwoParts.{HasParts}
 use Rattle.tinyvec_borsh.specs.declared.borsh_error.BorshError.{BorshError}
@@ -21,13 +22,14 @@ FewBytes n error input = (error ≡ Ended) × AllByRecursion (λ byte. byte < 25
 abbrev pub ReadsSpelling : (List ℕ → Type 0) → Option (List ℕ) → Option (List ℕ) → Type 0
 ReadsSpelling SpellsIt old new = (bytes : List ℕ) × SpellsIt bytes × Consumes old new bytes
 
--- Some bytes were taken from the front of the input: all of it, if the error is `Ended`; at `Io` they are cut, so no whole
--- spelling was taken.
+-- Some bytes were taken from the front of the input: all of it, if the error is `Ended`. No byte more was than shows the error: a
+-- front of them, some byte short, is cut. At `Io` and `Memory`, which do not come of the input, all of them are.
 pub record TakesSome (IsCut : List ℕ → Type 0) (old new : Option (List ℕ)) (error : BorshError) : Type 0 where
   pub bytes : List ℕ
   pub taken : Consumes old new bytes
   pub end : error ≡ Ended → IsAtEnd new
-  pub short : error ≡ Io → IsCut bytes
+  pub needed : (front back : List ℕ) → 0 < length back → bytes ≡ front ++ back → IsCut front
+  pub short : ¬ (IsOfInput error) → IsCut bytes
 
 -- Why nothing was read. `Io` comes only if the reader reported a fault, and another error only if the input is a reason for
 -- it: cut for `Ended`, too long for `InvalidLength`, a text that is not UTF-8 for `InvalidUtf8`. For `Memory` it is one of
@@ -40,7 +42,7 @@ Fails Reason input old_faults new_faults error = MayBe input (Reason error)
 -- only if the input is a reason for it.
 pub record FailsFor {R T : Type 0} (remaining : R → Option (List ℕ)) (Reason : BorshError → List ℕ → Type 0) (old new : CountedView R) (result : Result T BorshError) : Type 0 where
   pub err : IfErr result (Fails Reason (remaining old.inner) old.faults new.faults)
-  -- some bytes were taken: all, if the error is `Ended`; at `Io` no whole spelling
+  -- some bytes were taken, and no more than shows the error: all, if it is `Ended`; at `Io` and `Memory` no whole spelling
   pub taken : IfErr result (TakesSome (Reason Ended) (remaining old.inner) (remaining new.inner))
   pub grows : old.faults ≤ new.faults
 

@@ -18,8 +18,8 @@ pub text_spelled : (c : List ℕ) → TextFits c → (bytes : List ℕ) × Spell
 text_spelled c fits = list_spelled (SpellsNumber 1) (λ n. n < 2 ^ 8) (number_spelled 1) (2 ^ 64 - 1) c fits.0
 
 module _ (slots : ℕ) where
-  bytes_apart : AreApart SpellsText AreBytes (ListReason (SpellsNumber 1) (λ n. n < 2 ^ 8) (TooFewBytes 1) (CountsAbove slots) (2 ^ 64 - 1))
-  bytes_apart = list_apart (SpellsNumber 1) (number_code 1 (lit< tt)) (λ n. n < 2 ^ 8) (TooFewBytes 1) (number_apart 1 (λ n. n < 2 ^ 8)) (CountsAbove slots) (2 ^ 64 - 1)
+  pub bytes_apart : AreApart SpellsText AreBytes (ListReason (SpellsNumber 1) (λ n. n < 2 ^ 8) (TooFewBytes 1) (CountsAbove slots) (2 ^ 64 - 1))
+  bytes_apart = list_apart (SpellsNumber 1) (number_code 1 (lit< tt)) (λ n. n < 2 ^ 8) (TooFewBytes 1) (number_apart 1 (lit< tt) (λ n. n < 2 ^ 8)) (CountsAbove slots) (2 ^ 64 - 1)
 
   fits-or-refused : (e : BorshError) → IsOfInput e → (c : List ℕ) (bytes rest : List ℕ) → TextFits c → SpellsText c bytes → TextReason slots e (bytes ++ rest) → ⊥
   fits-or-refused Ended of c bytes rest fits p refused = bytes_apart.fits_or_refused Ended of c bytes rest fits.0 p refused
@@ -50,4 +50,10 @@ module _ (slots : ℕ) where
   one-reason e Memory of_e of_f input r s = absurd of_f
 
   pub text_apart : AreApart SpellsText TextFits (TextReason slots)
-  text_apart = record { spelled_or_cut = bytes_apart.spelled_or_cut; fits_or_refused = fits-or-refused; one_reason = one-reason }
+  text_apart = record {
+    spelled_or_cut = bytes_apart.spelled_or_cut;
+    fits_or_refused = fits-or-refused;
+    one_reason = one-reason;
+    front_is_cut = λ c front back some fits p. bytes_apart.front_is_cut c front back some fits.0 p;
+    none_is_cut = bytes_apart.none_is_cut;
+  }

@@ -1,7 +1,7 @@
 //! Whole numbers: their bytes, least significant first.
 ghost use Rattle.std.specs.Int.{byte_len};
 ghost use Rattle.tinyvec_borsh.specs.Number.{TooFewBytes};
-ghost use Rattle.tinyvec_borsh.specs.NumberLaws.{apart_by_length};
+ghost use Rattle.tinyvec_borsh.specs.NumberLaws.{apart_by_length, bytes-of};
 
 mod number;
 mod widths;
@@ -44,7 +44,8 @@ impl<T: Number> BorshSerialize for T {
 impl<T: Number> BorshDeserialize for T {
     ghost Reason = { TooFewBytes (byte_len T.form.width) };
 
-    ghost apart = { apart_by_length (byte_len T.form.width) T.form.Spells T.form.Fits T.form.many };
+    ghost apart = { apart_by_length (byte_len T.form.width) (bytes-of T.form.width).1
+        T.form.Spells T.form.Fits T.form.many };
 
     fn deserialize_reader<R: Read>(
         _alloc: Global,

@@ -1,10 +1,11 @@
-use Rattle.std.proofs.Common.{subst}
+use Rattle.std.proofs.Common.{lit<, subst}
 use Rattle.std.proofs.lemmas.Result.{err_from_is_err_and}
 use Rattle.std.proofs.lemmas.List.{map-id}
 use Rattle.tinyvec_slots.specs.Slots.{items}
 use Rattle.tinyvec.specs.TinyVec.{tiny_items}
 use Rattle.tinyvec_borsh.specs.Number.{SpellsNumber, TooFewBytes}
-use Rattle.example_records.specs.Readings.{ListsReason, NoteReason, SamplesFit, SamplesReason, SpellsNote, SpellsSamples, StationFits}
+use Rattle.tinyvec_borsh.specs.NumberLaws.{number_apart}
+use Rattle.example_records.specs.Readings.{ListsReason, NoteReason, SamplesFit, SamplesReason, SpellsNote, SpellsSamples, StationFits, samples_apart}
 use Rattle.tinyvec_borsh.specs.Both.{SpellsBoth}
 use Rattle.tinyvec_borsh.proofs.Both.{fails-first, fails-second, takes-both}
 use Rattle.example_records.proofs.reading.ReadingBorshDeserialize.deserialize_reader.Goals as goal
@@ -18,7 +19,7 @@ pub returns-in_err-samples-clause-fails : goal.returns-in_err-samples-clause-fai
 returns-in_err-samples-clause-fails g c =
     let p = err_from_is_err_and c.from_residual-in_err-samples.result c.from_residual-in_err-samples.ensures.1 in
     let station = c.in_ok-station.ensures in
-    rw (p.1, p.2) (fails-second (SpellsNumber 4) StationFits (TooFewBytes 4) ListsReason _ station.ok station.fits station.fails.grows
+    rw (p.1, p.2) (fails-second (SpellsNumber 4) StationFits (TooFewBytes 4) ListsReason (number_apart 4 (lit< tt) StationFits).front_is_cut _ station.ok station.fits station.fails.grows
     (fails-first SpellsSamples SamplesFit SamplesReason NoteReason {U = Unit {0}} c.in_err-samples.ensures.fails))
 
 pub returns-in_err-note-clause-fails : goal.returns-in_err-note-clause-fails
@@ -27,8 +28,8 @@ returns-in_err-note-clause-fails g c =
     let station = c.in_ok-station.ensures in
     let samples = c.in_ok-samples.ensures in
     let same = map-id (items c.in_ok-samples.samples) in
-    rw (p.1, p.2) (fails-second (SpellsNumber 4) StationFits (TooFewBytes 4) ListsReason _ station.ok station.fits station.fails.grows
-    (fails-second SpellsSamples SamplesFit SamplesReason NoteReason {U = Unit {0}} _ (rw same at samples.ok) (subst SamplesFit same samples.fits) samples.fails.grows c.in_err-note.ensures.fails))
+    rw (p.1, p.2) (fails-second (SpellsNumber 4) StationFits (TooFewBytes 4) ListsReason (number_apart 4 (lit< tt) StationFits).front_is_cut _ station.ok station.fits station.fails.grows
+    (fails-second SpellsSamples SamplesFit SamplesReason NoteReason {U = Unit {0}} samples_apart.front_is_cut _ (rw same at samples.ok) (subst SamplesFit same samples.fits) samples.fails.grows c.in_err-note.ensures.fails))
 
 pub returns-clause-ok : goal.returns-clause-ok
 returns-clause-ok g c =

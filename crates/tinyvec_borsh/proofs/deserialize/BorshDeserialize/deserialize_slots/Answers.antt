@@ -14,5 +14,5 @@ pub returns-in_err-slots-clause-fails : goal.returns-in_err-slots-clause-fails
 returns-in_err-slots-clause-fails g c =
     let p = err_from_is_err_and c.from_residual.result c.from_residual.ensures.1 in
     let many = length-mapped g.Self.BorshForm.content_of c.loop-i.slots c.loop-i.i (omega arith) in
-    rw (p.1, p.2) (fails-behind g.Self.BorshForm.Spells g.Self.BorshForm.Fits g.Self.BorshDeserialize.Reason
+    rw (p.1, p.2) (fails-behind g.Self.BorshForm.Spells g.Self.BorshForm.Fits g.Self.BorshDeserialize.Reason g.met.Self.BorshDeserialize.apart.front_is_cut
     _ _ c.loop-i.invariant.read (omega (arith, many)) c.loop-i.invariant.grows c.in_err-slots.ensures.fails)

@@ -1,8 +1,9 @@
-use Rattle.std.proofs.Common.{◌≡◌, ◌∙◌, ◌+◌, ◌≤◌, [], inl, inr, length, arith, le_refl, refl, rules}
+use Rattle.std.proofs.Common.{◌≡◌, ◌∙◌, ◌+◌, ◌≤◌, [], ap, inl, inr, length, length-append, arith, le_refl, refl, rules}
 use Rattle.tinyvec.specs.TinyVec.{tiny_items, tiny_len}
 use Rattle.tinyvec.specs.Lends.{tiny_with_items}
 use Rattle.tinyvec.proofs.TinyLemmas.{tiny_framed-with, tiny_items-with, tiny_slots_then_framed}
-use Rattle.tinyvec_borsh.proofs.AtFaults.{memory_is_other, some-all}
+use Rattle.tinyvec_borsh.specs.TwoParts.{joined}
+use Rattle.tinyvec_borsh.proofs.AtFaults.{some-cut}
 use Rattle.tinyvec_borsh.proofs.ItemByItem.{fails-like, maybe-any, maybe-so}
 use Rattle.std.proofs.KnownBytes.{Consumes-nil}
 use Rattle.tinyvec_borsh.proofs.Blocks.{grown, of-more}
@@ -59,6 +60,7 @@ returns-clause-fails g c =
 pub returns-in_default-clause-fails : goal.returns-in_default-clause-fails
 returns-in_default-clause-fails g c = record {
   err = maybe-so _ _ _ (λ input _. inr (refl, search rules)) (maybe-any _);
-  taken = some-all _ _ [] _ memory_is_other (Consumes-nil _);
+  taken = some-cut _ _ [] (Consumes-nil _) (λ front back some is. absurd (omega (arith, some, ap length is, length-append front back)))
+      (inl (record { items = []; fewer = search rules; fit = tt; parts = joined [] [] refl g.met.A.Item.BorshDeserialize.apart.none_is_cut }));
   grows = le_refl _;
 }

@@ -4,6 +4,7 @@ use Rattle.std.specs.List.{AllByRecursion}
 use Rattle.std.proofs.lemmas.List.{take_all}
 use Rattle.std.proofs.lemmas.Result.{err_from_is_err_and}
 use Rattle.tinyvec_borsh.specs.Items.{SpellsItems}
+use Rattle.tinyvec_borsh.specs.NumberLaws.{apart_by_length, bytes-of}
 use Rattle.tinyvec_borsh.proofs.Blocks.{take-block, took-block}
 use Rattle.tinyvec_borsh.proofs.NumberBlocks.{block_within, fails-behind-block, few-bytes}
 use Rattle.tinyvec_borsh.proofs.ItemByItem.{fails-as}
@@ -41,7 +42,8 @@ returns-in_err-read_bytes-clause-fails g c =
     let fits = block_within g.row.MOST count c.CAPACITY-width.result (omega arith) in
     let many = length-take-le (count * c.CAPACITY-width.result) c.loop-start.room (omega (arith, fits)) ∙ ap (λ width. count * width) (c.CAPACITY-width.ensures ∙ g.met.T.FixedWidth.sized) in
     let before = length-take-le c.loop-start.start c.loop-start.slots (omega arith) in
-    rw (p.1, p.2) (fails-behind-block g.T.FixedWidth.form.Spells g.T.FixedWidth.form.Fits {T = Unit {0}} _ count (length c.args.slots.now) _ c.loop-start.invariant.read (omega (arith, before)) c.loop-start.invariant.grows
+    rw (p.1, p.2) (fails-behind-block g.T.FixedWidth.form.Spells g.T.FixedWidth.form.Fits {T = Unit {0}} _
+    (apart_by_length (byte_len g.T.FixedWidth.form.width) (bytes-of g.T.FixedWidth.form.width).1 g.T.FixedWidth.form.Spells g.T.FixedWidth.form.Fits g.T.FixedWidth.form.many).front_is_cut count (length c.args.slots.now) _ c.loop-start.invariant.read (omega (arith, before)) c.loop-start.invariant.grows
     (fails-as (few-bytes g.T.FixedWidth.form.Spells g.T.FixedWidth.form.Fits (byte_len g.T.FixedWidth.form.width) _ g.T.FixedWidth.form.read count _ many) c.in_err-read_bytes.ensures.fails))
 
 pub whole_as_front-bytes : goal.whole_as_front-bytes

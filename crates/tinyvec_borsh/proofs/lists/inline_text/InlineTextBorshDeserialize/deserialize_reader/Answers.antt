@@ -5,6 +5,7 @@ use Rattle.tinyvec.specs.TinyVec.{tiny_items}
 use Rattle.tinyvec_text.specs.InlineText.{Text}
 use Rattle.tinyvec_borsh.specs.Reading.{ReadsSpelling}
 use Rattle.tinyvec_borsh.specs.Text.{AreBytes, SpellsText}
+use Rattle.tinyvec_borsh.specs.TextLaws.{bytes_apart}
 use Rattle.tinyvec_borsh.proofs.AtFaults.{some-all, utf8_is_other}
 use Rattle.tinyvec_borsh.proofs.ItemByItem.{fails-as}
 use Rattle.tinyvec_borsh.proofs.Texts.{bytes-other, no-text, text-reason}
@@ -34,9 +35,11 @@ pub returns-in-None-clause-fails : goal.returns-in-None-clause-fails
 returns-in-None-clause-fails g c =
     let read = c.in_ok-bytes.ensures in
     let bytes = map-id (tiny_items c.in_ok-bytes.bytes) in
+    let fits = subst AreBytes bytes read.fits in
+    let ok = subst (λ xs. ReadsSpelling (SpellsText xs) (g.R.Read.remaining c.args.reader.now.inner) (g.R.Read.remaining c.deserialize_reader.new.reader.inner)) bytes read.ok in
     record {
-      err = no-text (tiny_items c.in_ok-bytes.bytes) _ _ (subst AreBytes bytes read.fits, λ utf8. let is = c.in-None.ensures.variant.1 utf8 in cc) (subst (λ xs. ReadsSpelling (SpellsText xs) (g.R.Read.remaining c.args.reader.now.inner) (g.R.Read.remaining c.deserialize_reader.new.reader.inner)) bytes read.ok);
-      taken = some-all _ _ read.ok.0 _ utf8_is_other read.ok.2;
+      err = no-text (tiny_items c.in_ok-bytes.bytes) _ _ (fits, λ utf8. let is = c.in-None.ensures.variant.1 utf8 in cc) ok;
+      taken = some-all _ _ ok.0 ok.2 (λ front back some is. (bytes_apart g.row.N).front_is_cut (tiny_items c.in_ok-bytes.bytes) front back some fits (subst (SpellsText (tiny_items c.in_ok-bytes.bytes)) is ok.1)) _ utf8_is_other;
       grows = read.fails.grows;
     }
 

@@ -1,11 +1,11 @@
-use Rattle.std.proofs.Common.{inl, ap, length, length-append, arith, ◌-◌, ◌^◌}
+use Rattle.std.proofs.Common.{inl, inr, ap, length, length-append, arith, ◌-◌, ◌^◌}
 use Rattle.tinyvec.specs.TinyVec.{tiny_items}
 use Rattle.std.proofs.lemmas.List.{length-map}
 use Rattle.std.proofs.lemmas.Result.{err_from_is_err_and}
 use Rattle.tinyvec_borsh.specs.Items.{CountsAbove}
 use Rattle.tinyvec_borsh.proofs.Place.{placed-longer, spare-longer, refused-above, wanting-above}
-use Rattle.tinyvec_borsh.proofs.ItemByItem.{counts-above, fails-count, fails-wanting, maybe-so, read-appended, read-first}
-use Rattle.tinyvec_borsh.proofs.AtFaults.{memory_is_other, some-all}
+use Rattle.tinyvec_borsh.proofs.ItemByItem.{counts-above, cut-after-count, fails-count, fails-wanting, maybe-so, read-appended, read-first}
+use Rattle.tinyvec_borsh.proofs.AtFaults.{some-cut}
 use Rattle.tinyvec_borsh.proofs.lists.tiny_vec.TinyVecBorshDeserialize.deserialize_reader.Goals as goal
 
 pub returns-in_err-count-clause-fails : goal.returns-in_err-count-clause-fails
@@ -16,12 +16,14 @@ returns-in_err-count-clause-fails g c =
 pub returns-in_default-clause-fails : goal.returns-in_default-clause-fails
 returns-in_default-clause-fails g c =
     let count = c.in_ok-count.ensures in
+    let above = refused-above g.A.Array.CAPACITY c.in_ok-count.count _ c.with_capacity.result c.in_default.field-0 c.in_default.is (omega (arith, c.min-ahead.ensures)) c.with_capacity.ensures.succeeds in
     record {
       err = maybe-so _ _ _ (λ input above. inl above)
           (counts-above g.A.Item.BorshForm.Spells g.A.Item.BorshForm.Fits g.A.Array.CAPACITY _ _ _ _
-          (read-first g.A.Item.BorshForm.Spells g.A.Item.BorshForm.Fits _ _ _ count.ok)
-          (refused-above g.A.Array.CAPACITY c.in_ok-count.count _ c.with_capacity.result c.in_default.field-0 c.in_default.is (omega (arith, c.min-ahead.ensures)) c.with_capacity.ensures.succeeds));
-      taken = some-all _ _ count.ok.0 _ memory_is_other count.ok.2;
+          (read-first g.A.Item.BorshForm.Spells g.A.Item.BorshForm.Fits _ _ _ count.ok) above);
+      taken = some-cut _ _ count.ok.0 count.ok.2 (λ front back some is. inl (omega (arith, some, ap length is, length-append front back, count.ok.1.many)))
+          (inr (cut-after-count g.A.Item.BorshForm.Spells g.A.Item.BorshForm.Fits g.A.Item.BorshDeserialize.Reason
+          g.met.A.Item.BorshDeserialize.apart.none_is_cut (2 ^ 64 - 1) c.in_ok-count.count count.ok.0 (omega (arith, above)) count.ok.1));
       grows = count.fails.grows;
     }
 
@@ -41,6 +43,6 @@ pub returns-in_err-read_more-clause-fails : goal.returns-in_err-read_more-clause
 returns-in_err-read_more-clause-fails g c =
     let p = err_from_is_err_and c.from_residual-in_err-read_more.result c.from_residual-in_err-read_more.ensures.1 in
     let long = length-map (tiny_items c.loop-alloc.v) g.A.Item.BorshForm.content_of in
-    rw (p.1, p.2) (fails-wanting g.A.Item.BorshForm.Spells g.A.Item.BorshForm.Fits g.A.Item.BorshDeserialize.Reason g.A.Array.CAPACITY (2 ^ 64 - 1) c.in_ok-count.count _
+    rw (p.1, p.2) (fails-wanting g.A.Item.BorshForm.Spells g.A.Item.BorshForm.Fits g.A.Item.BorshDeserialize.Reason g.met.A.Item.BorshDeserialize.apart.front_is_cut g.A.Array.CAPACITY (2 ^ 64 - 1) c.in_ok-count.count _
     _ _ c.loop-alloc.invariant.read (omega (arith, long, c.loop-alloc.invariant.few)) (omega (arith, long, c.loop-alloc.invariant.few, c.in_ok-count.ensures.fits)) c.loop-alloc.invariant.grows
     (λ wanting. wanting-above g.A.Array.CAPACITY c.in_ok-count.count c.loop-alloc.v wanting c.loop-alloc.invariant.place) c.in_err-read_more.ensures.fails)
