@@ -1,13 +1,13 @@
 //! The splice: what replaces a range of items by those of an iterator.
-ghost use Rattle.std.specs.Prelude.{◌≡◌, length, false, codes, Some, IfSome, ◌+◌, ◌-◌, ◌<◌, ◌≤◌, ◌++◌, List, IfErr, ◌↔◌, MatchResult, IsOk, OnOk, OnErr, refl};
+ghost use Rattle.std.specs.Prelude.{◌≡◌, length, false, codes, Some, IfSome, ◌+◌, ◌-◌, ◌<◌, ◌≤◌, ◌∷◌, ◌++◌, List, IfErr, ◌↔◌, MatchResult, IsOk, OnOk, OnErr, refl};
 ghost use Rattle.std.specs.Fmt.{debug_list, debug_variant};
 ghost use Rattle.std.specs.Iterator.{UpTo, MakesProgress, at_most, Drains, YieldsThen};
 ghost use Rattle.std.specs.Iterator.Adapters.{fuse_done, fuse_source, fuse_steps};
 ghost use Rattle.std.specs.Iterator.SizeHint.{IsWithinCount};
 ghost use Rattle.tinyvec_slots.specs.Slots.{items, items_len, SlotRule, Changes};
 ghost use Rattle.tinyvec_slots.specs.Ranges.{IsRangeOf, before, removed, after};
-ghost use Rattle.tinyvec_slots.specs.Filling.{IntoIterYields};
-ghost use Rattle.tinyvec_slots.specs.Fused.{FusedCan};
+ghost use Rattle.tinyvec_slots.specs.Filling.{IntoIterYields, ShowsItems};
+ghost use Rattle.tinyvec_slots.specs.Fused.{FusedCan, fused_rest};
 ghost use Rattle.tinyvec_slots.specs.Replacing.{PutsBetween};
 ghost use Rattle.tinyvec_slots.specs.AnySplice.{FinishTouches};
 ghost use Rattle.std.proofs.Common.{le_refl};
@@ -100,7 +100,18 @@ impl<A: Array> ArrayVec<A> {
         // The returned iterator can be iterated further.
         ensures goes_on { IfErr result (λ refused. FusedCan I.IntoIter.can_next refused.rest) }
 
-        // The same of items that are known, as those of a `Vec`, a range or a slice.
+        // For an iterator of which `rest` shows the remaining items.
+        ensures listed { (rest : I.IntoIter → List A.Item) → ShowsItems I.IntoIter.next_gives rest
+            → (it : I.IntoIter) × I.into_iter_gives replacement it
+            × (IsOk result ↔ (length (before (items self.old) (R.start_bound range)) + length (rest it)
+            + length (after (items self.old) (R.end_bound range)) ≤ A.CAPACITY))
+            × OnOk result (items self.new
+            ≡ before (items self.old) (R.start_bound range) ++ rest it ++ after (items self.old) (R.end_bound range))
+            × IfErr result (λ refused. (placed : List A.Item) × (rest it ≡ placed ++ refused.item ∷ fused_rest rest refused.rest)
+            × (items self.new
+            ≡ before (items self.old) (R.start_bound range) ++ placed ++ after (items self.old) (R.end_bound range))) }
+
+        // For items that are known, as those of a `Vec`, a range or a slice.
         ensures known { (xs : List A.Item) → IntoIterYields I.into_iter_gives I.IntoIter.next_gives replacement xs
             → PutsBetween A.CAPACITY (before (items self.old) (R.start_bound range)) xs
             (after (items self.old) (R.end_bound range)) result (items self.new) }
