@@ -1,5 +1,5 @@
 -- Where the bytes of a text may be cut, and which characters stand on each side.
-use Rattle.std.proofs.Common.{◌≡◌, ℕ, ◌+◌, ◌-◌, ◌≤◌, List, [], ◌∷◌, ◌++◌, length, take, drop, true, refl, sym, ap, ◌∙◌, take-append-drop, length-append, length-take-le, length-drop, take_at, drop_at, subst, arith, append-nil, append_assoc, encode_utf8, IsUtf8}
+use Rattle.std.proofs.Common.{◌≡◌, ℕ, ◌+◌, ◌-◌, ◌≤◌, List, [], ◌∷◌, ◌++◌, length, take, drop, true, refl, sym, ap, ◌∙◌, take-append-drop, length-append, length-take-le, length-drop, subst, arith, append-nil, encode_utf8, IsUtf8}
 use Rattle.std.specs.Str.{chars, encode_utf8_all, all_scalars}
 use Rattle.std.specs.String.Boundary.{IsSplitPoint}
 use Rattle.std.proofs.CharBoundary.{IsUtf8-take-drop}
@@ -75,30 +75,6 @@ module _ (bs : List ℕ) (u : IsUtf8 bs) (i : ℕ) (p : IsSplitPoint bs i) (n c 
   pub chars_gap : chars (take i bs ++ drop (i + n) bs) ≡ chars (take i bs) ++ chars (drop (i + n) bs)
   chars_gap = chars-append (take i bs) (drop (i + n) bs) (IsUtf8-take-drop bs u i p).0
 
--- the first character of the first n bytes, of which rest is left
-module _ (bs rest : List ℕ) (n c : ℕ) (parts : take n bs ≡ encode_utf8 c ++ rest) (within : n ≤ length bs) where
-  whole : bs ≡ encode_utf8 c ++ (rest ++ drop n bs)
-  whole = sym (take-append-drop n bs) ∙ ap (λ xs. xs ++ drop n bs) parts ∙ append_assoc (encode_utf8 c) rest (drop n bs)
-
-  size : length (encode_utf8 c) ≡ n - length rest
-  size = let all = sym (length-take-le n bs within) ∙ ap length parts ∙ length-append (encode_utf8 c) rest in omega (arith, all)
-
-  pub take_first : take (n - length rest) bs ≡ encode_utf8 c
-  take_first = ap (take (n - length rest)) whole ∙ take_at (encode_utf8 c) (rest ++ drop n bs) (n - length rest) size
-
-  pub drop_first : drop (n - length rest) bs ≡ rest ++ drop n bs
-  drop_first = ap (drop (n - length rest)) whole ∙ drop_at (encode_utf8 c) (rest ++ drop n bs) (n - length rest) size
-
 -- the one character of its bytes
 pub chars_of_one : (bs : List ℕ) (c : ℕ) → IsUtf8 bs → bs ≡ encode_utf8 c → chars bs ≡ c ∷ []
 chars_of_one bs c u e = chars_past_char bs [] c u (e ∙ sym (append-nil (encode_utf8 c))) ∙ ap (λ cs. c ∷ cs) chars-nil
-
--- a text whose end is rest and then last, up to where last begins
-module _ (bs rest last : List ℕ) (start : ℕ) (parts : drop start bs ≡ rest ++ last) (inside : start ≤ length bs) where
-  pub joined : bs ≡ take start bs ++ rest ++ last
-  joined = sym (take-append-drop start bs) ∙ ap (λ xs. take start bs ++ xs) parts ∙ sym (append_assoc (take start bs) rest last)
-
-  pub before_last : take (start + length rest) bs ≡ take start bs ++ rest
-  before_last =
-      let size : length (take start bs ++ rest) ≡ start + length rest = length-append (take start bs) rest ∙ ap (λ n. n + length rest) (length-take-le start bs inside) in
-      ap (take (start + length rest)) joined ∙ take_at (take start bs ++ rest) last (start + length rest) size

@@ -3,3 +3,4 @@ pub mod Extending
 pub mod Filters
 pub mod Lists
 pub mod Moving
+pub mod Wide

@@ -89,6 +89,10 @@ module _ {A : Type 0} where
   zero_spare old (Heap w) place rule zero = λ k d few. absurd (omega (arith, few))
   zero_spare (Heap v) (Inline w b) place rule zero = absurd (let no = place refl in cc)
 
+  pub zero_becomes : (slots : ℕ) (old new : TinyVec A ℕ) (bs : List ℕ) → Becomes (λ b. b ≡ 0) slots old new bs
+      → All (λ b. b ≡ 0) (tiny_spare old) → All (λ b. b ≡ 0) (tiny_spare new)
+  zero_becomes slots old new bs made = zero_spare old new (λ i. subst IsTrue made.place i) made.slot_rule
+
   pub text_kept : (old new : TinyVec A ℕ) → (IsInline new → IsInline old) → TinySlotRule (λ b. b ≡ 0) old new
       → IsText old → IsUtf8 (tiny_items new) → IsText new
   text_kept old new place rule h utf8 = (∣ utf8 ∣₁, zero_spare old new place rule h.1)

@@ -1,6 +1,9 @@
 //! Text that is pushed, popped, inserted, removed, replaced and cut off.
-ghost use Rattle.std.specs.Prelude.{◌≡◌, ◌+◌, ◌-◌, ◌<◌, ◌≤◌, ◌++◌, ◌∷◌, [], ◌↔◌, length, if◌then◌else◌, is_ok, IsTrue, IsOk, IfOk, OnOk, OnErr, chars, encode_utf8, ◌&&◌, nat_le, ℕ, List, take, drop, IsSome, IfSome, IfNone, IsUtf8};
+ghost use Rattle.std.specs.Prelude.{◌≡◌, ◌+◌, ◌-◌, ◌%◌, ◌<◌, ◌≤◌, ◌++◌, ◌∷◌, [], ◌↔◌, length, if◌then◌else◌, is_ok, min, max, false, IsTrue, IsOk, IfOk, OnOk, OnErr, chars, encode_utf8, ◌&&◌, nat_le, ℕ, List, take, drop, All, IsSome, IfSome, IfNone, IsUtf8, slice_index};
+ghost use Rattle.std.specs.Char.{IsScalar};
 ghost use Rattle.tinyvec.specs.View.{lies_inline, capacity_in};
+ghost use Rattle.tinyvec.specs.TinyVec.{tiny_items, tiny_len, tiny_spare, tiny_capacity, is_inline, IsInline};
+ghost use Rattle.tinyvec_slots.specs.Slots.{AreDefaults};
 ghost use Rattle.tinyvec_text.specs.InlineText.{text_chars, text_len, TextMakesRoom, TextReserves, TextShrinks, TextStaysInPlace, TextBecomes, TextKeepsFront, TextMadeFor, IsTextTail, IsFirstChar, IsBoundary};
 ghost use Rattle.tinyvec_slots.specs.Ranges.{range_start, range_end, before, after};
 ghost use Rattle.std.specs.String.Boundary.{IsSplitPoint};
@@ -9,7 +12,7 @@ use super::InlineText;
 use super::bytes::{remove_bytes, replace_bytes};
 use std::alloc::{AllocError, Global};
 use std::ops::RangeBounds;
-use std::str;
+use tinyvec::TinyVec;
 use tinyvec_slots::resolve_range;
 
 impl<const N: usize> InlineText<N> {
@@ -110,8 +113,30 @@ impl<const N: usize> InlineText<N> {
         ensures room { TextMakesRoom (lies_inline self.old.place && nat_le 128 c) N
             (text_len self.old + length (encode_utf8 c)) self.old self.new result }
     {
-        let mut buffer = [0; 4];
-        self.push_str(c.encode_utf8(&mut buffer))?;
+        let code = c as u32;
+        if code < 0x800 {
+            return self.push_spelled(c, &[(0xC0 + code / 0x40) as u8, next_byte(code)]);
+        }
+        let third = next_byte(code / 0x40);
+        let fourth = next_byte(code);
+        if code < 0x1_0000 {
+            return self.push_spelled(c, &[(0xE0 + code / 0x1000) as u8, third, fourth]);
+        }
+        let second = next_byte(code / 0x1000);
+        self.push_spelled(c, &[(0xF0 + code / 0x4_0000) as u8, second, third, fourth])
+    }
+
+    // `push` of the character that has these bytes. Inlined, so that LLVM knows how many they are.
+    #[inline(always)]
+    fn push_spelled(&mut self, c: char, bytes: &[u8]) -> Result<(), AllocError>
+        requires { encode_utf8 c ≡ bytes.now }
+        ensures bytes { self.new.bytes
+            ≡ (if is_ok result then self.old.bytes ++ encode_utf8 c else self.old.bytes) }
+        ensures text { OnOk result (text_chars self.new ≡ text_chars self.old ++ c ∷ []) }
+        ensures room { TextMakesRoom (lies_inline self.old.place) N (text_len self.old + length (encode_utf8 c))
+            self.old self.new result }
+    {
+        self.list.extend_from_slice_copy(bytes)?;
         Ok(())
     }
 
@@ -129,6 +154,20 @@ impl<const N: usize> InlineText<N> {
         ensures { TextShrinks N self.old self.new }
     {
         self.list.shrink_to_fit();
+    }
+
+    /// As `shrink_to_fit`, but keeps room for `min_capacity` bytes, if there was that room.
+    pub fn shrink_to(&mut self, min_capacity: usize)
+        ensures bytes { self.new.bytes ≡ self.old.bytes }
+        ensures place { lies_inline self.old.place ≡ false
+            → (IsTrue (lies_inline self.new.place) ↔ (max (text_len self.old) min_capacity ≤ N)) }
+        ensures kept { IsTrue (lies_inline self.old.place) → self.new ≡ self.old }
+        ensures capacity { lies_inline self.new.place ≡ false
+            → capacity_in N self.new.place ≤ capacity_in N self.old.place }
+        ensures lower_bound { min min_capacity (capacity_in N self.old.place) ≤ capacity_in N self.new.place }
+        ensures fits { text_len self.new ≤ capacity_in N self.new.place }
+    {
+        shrink_list(&mut self.list, min_capacity);
     }
 
     /// Whether the bytes before `index` are those of some first characters.
@@ -265,29 +304,83 @@ impl<const N: usize> InlineText<N> {
         ensures none { IfNone result (self.new ≡ self.old) }
         ensures frame { TextStaysInPlace N self.old self.new }
     {
-        let Some(last) = self.list.as_slice().last() else {
+        let Some(last) = self.list.pop() else {
             return None;
         };
-        let byte = *last;
-        if byte < 0x80 {
-            self.list.pop();
-            return Some(byte as char);
+        if last < 0x80 {
+            return Some(last as char);
         }
-        Some(self.pop_wide())
+        Some(pop_wide(&mut self.list, last))
     }
+}
 
-    // `pop` of any character. A call of its own, since most are ASCII.
-    #[inline(never)]
-    fn pop_wide(&mut self) -> char
-        requires { 0 < text_len self.old }
-        ensures bytes { self.old.bytes ≡ self.new.bytes ++ encode_utf8 result }
-        ensures text { text_chars self.old ≡ text_chars self.new ++ result ∷ [] }
-        ensures frame { TextStaysInPlace N self.old self.new }
-    {
-        let (c, start) = last_char(self.list.as_slice());
-        self.list.truncate(start);
-        c
+// Shrinks the allocation of a list on the heap, or moves the list into the array if that has the room.
+fn shrink_list<const N: usize>(list: &mut TinyVec<[u8; N]>, min_capacity: usize)
+    ensures items { tiny_items list.new ≡ tiny_items list.old }
+    ensures place { is_inline list.old ≡ false → (IsInline list.new ↔ (max (tiny_len list.old) min_capacity ≤ N)) }
+    ensures spare { is_inline list.old ≡ false → IsInline list.new
+        → AreDefaults (λ b. b ≡ 0) (N - tiny_len list.old) (tiny_spare list.new) }
+    ensures kept { IsInline list.old → list.new ≡ list.old }
+    ensures capacity { is_inline list.new ≡ false → tiny_capacity N list.new ≤ tiny_capacity N list.old }
+    ensures lower_bound { min min_capacity (tiny_capacity N list.old) ≤ tiny_capacity N list.new }
+    ensures fits { tiny_len list.new ≤ tiny_capacity N list.new }
+{
+    if list.len().max(min_capacity) <= N {
+        list.shrink_to_fit();
+        return;
     }
+    if let TinyVec::Heap(v) = list {
+        v.shrink_to(min_capacity);
+    }
+}
+
+// Pops the other bytes of a character, of which `last` was popped. A call of its own, since most are ASCII.
+#[inline(never)]
+fn pop_wide<const N: usize>(list: &mut TinyVec<[u8; N]>, last: u8) -> char
+    requires wide { 128 ≤ last }
+    requires utf8 { IsUtf8 (tiny_items list.old ++ last ∷ []) }
+    ensures parts { tiny_items list.old ++ last ∷ [] ≡ tiny_items list.new ++ encode_utf8 result }
+    ensures front { IsUtf8 (tiny_items list.new) }
+    ensures place { is_inline list.new ≡ is_inline list.old }
+    ensures capacity { tiny_capacity N list.new ≡ tiny_capacity N list.old }
+    ensures spare { All (λ b. b ≡ 0) (tiny_spare list.old) → All (λ b. b ≡ 0) (tiny_spare list.new) }
+{
+    let Some(third) = list.pop() else {
+        unreachable!();
+    };
+    if third >= 0xC0 {
+        return char_of(third as u32 % 0x20 * 0x40 + last as u32 % 0x40);
+    }
+    let end = third as u32 % 0x40 * 0x40 + last as u32 % 0x40;
+    let Some(second) = list.pop() else {
+        unreachable!();
+    };
+    if second >= 0xC0 {
+        return char_of(second as u32 % 0x10 * 0x1000 + end);
+    }
+    let Some(first) = list.pop() else {
+        unreachable!();
+    };
+    char_of(first as u32 % 8 * 0x4_0000 + second as u32 % 0x40 * 0x1000 + end)
+}
+
+// The character with this code.
+#[inline(always)]
+fn char_of(code: u32) -> char
+    requires { IsScalar code }
+    ensures { result ≡ code }
+{
+    let Some(c) = char::from_u32(code) else {
+        unreachable!();
+    };
+    c
+}
+
+// A byte of a character behind its first one, with the low six bits.
+fn next_byte(bits: u32) -> u8
+    ensures { result ≡ 128 + bits % 64 }
+{
+    (0x80 + bits % 0x40) as u8
 }
 
 // Whether a character begins at `i`, or the bytes end there.
@@ -317,64 +410,26 @@ pub(crate) fn first_char(bytes: &[u8]) -> (char, usize)
     first_wide(bytes)
 }
 
-// `first_char` of any character. A call of its own, since most are ASCII.
+// `first_char` of a character that is not ASCII. A call of its own, since most are.
 #[inline(never)]
 fn first_wide(bytes: &[u8]) -> (char, usize)
     requires some { 0 < length bytes.now }
     requires utf8 { IsUtf8 bytes.now }
+    requires wide { 128 ≤ slice_index bytes.now 0 }
     ensures { IsFirstChar bytes.now result.0 result.1 }
 {
-    let end = first_char_end(bytes);
-    let Ok(first) = str::from_utf8(&bytes[..end]) else {
-        unreachable!();
-    };
-    let mut rest = first.chars();
-    let Some(c) = rest.next() else {
-        unreachable!();
-    };
-    (c, end - rest.as_str().len())
-}
-
-// The index of the second character, or the number of bytes.
-fn first_char_end(bytes: &[u8]) -> usize
-    requires { 0 < length bytes.now }
-    ensures positive { 0 < result }
-    ensures split { IsSplitPoint bytes.now result }
-{
-    let mut end = 1;
-    while !is_split_point(bytes, end) {
-        end += 1;
+    let lead = bytes[0] as u32;
+    let second = bytes[1] as u32 % 0x40;
+    if lead < 0xE0 {
+        return (char_of(lead % 0x20 * 0x40 + second), 2);
     }
-    end
-}
-
-// The last character, and where it begins. No more than its own bytes are read.
-fn last_char(bytes: &[u8]) -> (char, usize)
-    requires some { 0 < length bytes.now }
-    requires utf8 { IsUtf8 bytes.now }
-    ensures parts { bytes.now ≡ take result.1 bytes.now ++ encode_utf8 result.0 }
-    ensures front { IsUtf8 (take result.1 bytes.now) }
-{
-    let start = last_char_start(bytes);
-    let Ok(last) = str::from_utf8(&bytes[start..]) else {
-        unreachable!();
-    };
-    let mut rest = last.chars();
-    let Some(c) = rest.next_back() else {
-        unreachable!();
-    };
-    (c, start + rest.as_str().len())
-}
-
-// The index of the last character.
-fn last_char_start(bytes: &[u8]) -> usize
-    requires { 0 < length bytes.now }
-    ensures in_bounds { result < length bytes.now }
-    ensures start { IsSplitPoint bytes.now result }
-{
-    let mut start = bytes.len() - 1;
-    while !is_split_point(bytes, start) {
-        start -= 1;
+    let third = bytes[2] as u32 % 0x40;
+    if lead < 0xF0 {
+        return (char_of(lead % 0x10 * 0x1000 + (second * 0x40 + third)), 3);
     }
-    start
+    let fourth = bytes[3] as u32 % 0x40;
+    (
+        char_of(lead % 8 * 0x4_0000 + second * 0x1000 + (third * 0x40 + fourth)),
+        4,
+    )
 }

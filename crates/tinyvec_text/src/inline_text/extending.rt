@@ -1,7 +1,7 @@
 //! The characters and texts of an iterator.
-ghost use Rattle.std.specs.Prelude.{◌≡◌, ℕ, ◌+◌, ◌<◌, ◌≤◌, ◌++◌, List, length, ⊤, IsOk, IfOk, encode_utf8_all};
+ghost use Rattle.std.specs.Prelude.{◌≡◌, ℕ, ◌+◌, ◌<◌, ◌≤◌, ◌++◌, List, length, ⊤, IsOk, IfOk, OnErr, Some, encode_utf8, encode_utf8_all};
 ghost use Rattle.std.specs.List.{flat_map};
-ghost use Rattle.std.specs.Iterator.{IsFinite, HoldsAlong, DrainsIf, ExtendsWithItems};
+ghost use Rattle.std.specs.Iterator.{IsFinite, HoldsAlong, YieldsThen, DrainsIf, ExtendsWithItems};
 ghost use Rattle.tinyvec_slots.specs.Filling.{IntoIterYields};
 ghost use Rattle.tinyvec.specs.View.{capacity_in};
 ghost use Rattle.tinyvec_text.specs.InlineText.{text_len, TextCollects, TextExtends};
@@ -19,6 +19,12 @@ impl<const N: usize> Extend<char> for InlineText<N> {
         ensures ran { ExtendsWithItems U.into_iter_gives U.IntoIter.next_gives
             (λ t cs u. u.bytes ≡ t.bytes ++ encode_utf8_all cs) iter self.old self.new result }
         ensures grows { TextExtends N self.old self.new }
+
+        // It fails only at a character that finds no room.
+        ensures full { OnErr result ((it : U.IntoIter) × (cs : List ℕ) × (c : ℕ) × (rest : U.IntoIter)
+            × U.into_iter_gives iter it × YieldsThen U.IntoIter.next_gives it cs (Some c) rest
+            × (self.new.bytes ≡ self.old.bytes ++ encode_utf8_all cs)
+            × (capacity_in N self.new.place < text_len self.new + length (encode_utf8 c))) }
 
         // If known characters fit, it allocates nothing.
         ensures known { (cs : List ℕ) → IntoIterYields U.into_iter_gives U.IntoIter.next_gives iter cs
@@ -44,6 +50,12 @@ impl<'a, const N: usize> Extend<&'a str> for InlineText<N> {
         ensures ran { ExtendsWithItems U.into_iter_gives U.IntoIter.next_gives
             (λ t xs u. u.bytes ≡ t.bytes ++ flat_map (λ x. x.now) xs) iter self.old self.new result }
         ensures grows { TextExtends N self.old self.new }
+
+        // It fails only at a text that finds no room.
+        ensures full { OnErr result ((it : U.IntoIter) × (xs : _) × (x : _) × (rest : U.IntoIter)
+            × U.into_iter_gives iter it × YieldsThen U.IntoIter.next_gives it xs (Some x) rest
+            × (self.new.bytes ≡ self.old.bytes ++ flat_map (λ y. y.now) xs)
+            × (capacity_in N self.new.place < text_len self.new + length x.now)) }
 
         // If known texts fit, it allocates nothing.
         ensures known { (xs : _) → IntoIterYields U.into_iter_gives U.IntoIter.next_gives iter xs
@@ -75,6 +87,11 @@ impl<const N: usize> FromIterator<char> for InlineText<N> {
             × DrainsIf U.IntoIter.next_gives ⊤ it xs × ((t.bytes ≡ encode_utf8_all xs) × TextCollects N t)) }
         ensures collects { IfOk result (TextCollects N) }
 
+        // It fails only at a character that neither the array nor the room on the heap has a place for.
+        ensures full { OnErr result ((it : U.IntoIter) × (cs : List ℕ) × (c : ℕ) × (rest : U.IntoIter)
+            × U.into_iter_gives iter it × YieldsThen U.IntoIter.next_gives it cs (Some c) rest
+            × (N < length (encode_utf8_all cs) + length (encode_utf8 c))) }
+
         // If known items fit the array, it allocates nothing.
         ensures known { (xs : List ℕ) → IntoIterYields U.into_iter_gives U.IntoIter.next_gives iter xs
             → length (encode_utf8_all xs) ≤ N → IsOk result }
@@ -100,6 +117,11 @@ impl<'a, const N: usize> FromIterator<&'a str> for InlineText<N> {
         ensures ran { IfOk result (λ t. (it : U.IntoIter) × (xs : _) × U.into_iter_gives iter it
             × DrainsIf U.IntoIter.next_gives ⊤ it xs × ((t.bytes ≡ flat_map (λ x. x.now) xs) × TextCollects N t)) }
         ensures collects { IfOk result (TextCollects N) }
+
+        // It fails only at a text that neither the array nor the room on the heap has a place for.
+        ensures full { OnErr result ((it : U.IntoIter) × (xs : _) × (x : _) × (rest : U.IntoIter)
+            × U.into_iter_gives iter it × YieldsThen U.IntoIter.next_gives it xs (Some x) rest
+            × (N < length (flat_map (λ y. y.now) xs) + length x.now)) }
 
         // If known items fit the array, it allocates nothing.
         ensures known { (xs : _) → IntoIterYields U.into_iter_gives U.IntoIter.next_gives iter xs

@@ -1,5 +1,5 @@
-//! Clones, comparisons, hashes, printing and writing.
-ghost use Rattle.std.specs.Prelude.{◌≡◌, false, IsTrue, IsOk, IfOk, MatchResult, Some, nat_eq, refl, ◌+◌, ◌++◌, length, OnOk, chars};
+//! Empty texts, clones, comparisons, hashes, printing and writing.
+ghost use Rattle.std.specs.Prelude.{◌≡◌, [], false, IsTrue, IsOk, IfOk, MatchResult, Some, nat_eq, refl, ◌+◌, ◌++◌, length, OnOk, chars};
 ghost use Rattle.tinyvec.specs.View.{lies_inline, capacity_in};
 ghost use Rattle.tinyvec_text.specs.InlineText.{text_chars, text_len, TextMakesRoom};
 ghost use Rattle.std.specs.Ordering.{nat_cmp};
@@ -11,11 +11,33 @@ ghost use Rattle.std.specs.Fmt.{debug_str};
 ghost use Rattle.std.specs.Hash as fed;
 
 use super::InlineText;
-use std::alloc::AllocError;
+use std::alloc::{AllocError, Global};
 use std::cmp::Ordering;
+use std::default::{Emptied, MadeWith};
 use std::fmt;
 use std::hash::{Hash, Hasher};
 use std::ops::DerefStr;
+
+/// So that `map.entry(k)?.or_default()` makes an empty text, as `new` does.
+impl<const N: usize> MadeWith<Global> for InlineText<N> {
+    ghost is_made_with = { λ t. (t.bytes ≡ []) × IsTrue (lies_inline t.place) };
+
+    fn made_with(alloc: Global) -> Self {
+        Self::new(alloc)
+    }
+}
+
+/// So that `mem::try_take` moves a text out. What it leaves is empty and inline, and has the same allocator.
+impl<const N: usize> Emptied for InlineText<N> {
+    ghost is_emptied = { λ t. (t.bytes ≡ []) × IsTrue (lies_inline t.place) };
+
+    fn emptied(like: &Self) -> Result<Self, AllocError>
+        ensures empty { IfOk result (λ t. (t.bytes ≡ []) × IsTrue (lies_inline t.place)) }
+        ensures succeeds { IsOk result }
+    {
+        Ok(Self::new(*like.list.allocator()))
+    }
+}
 
 impl<const N: usize> Clone for InlineText<N> {
     ghost is_clone = { λ t u. u.bytes ≡ t.bytes };

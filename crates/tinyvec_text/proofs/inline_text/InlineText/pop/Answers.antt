@@ -1,28 +1,51 @@
-use Rattle.std.proofs.Common.{◌≡◌, ◌-◌, ◌++◌, ◌∷◌, [], ap, sym, ◌∙◌, length, chars, rules}
-use Rattle.std.specs.Str.{IsCharBoundary}
-use Rattle.std.proofs.lemmas.Str.{IsUtf8-take, IsUtf8-from_ascii, chars-append, encode_ascii}
+use Rattle.std.proofs.Common.{◌≡◌, ◌++◌, ◌∷◌, [], IsUtf8, encode_utf8, ap, sym, subst, ◌∙◌, chars, refl, arith, rules}
+use Rattle.std.specs.Char.{IsScalar}
+use Rattle.std.proofs.lemmas.Str.{IsUtf8-take, IsUtf8-from_ascii, IsUtf8-encode, chars-append, encode_ascii}
 use Rattle.tinyvec.specs.TinyVec.{tiny_items}
 use Rattle.tinyvec_text.specs.InlineText.{text_chars}
 use Rattle.tinyvec_text.proofs.Boundaries.{chars_of_one}
-use Rattle.tinyvec_text.proofs.Lists.{text_utf8, text_stays}
+use Rattle.tinyvec_text.proofs.Lists.{text_utf8, text_stays, zero_becomes}
+use Rattle.tinyvec_text.proofs.Wide.{popped_ascii}
 use Rattle.tinyvec_text.proofs.inline_text.InlineText.pop.Goals as goal
 
 pub invariant_of-self : goal.invariant_of-self
 invariant_of-self g c =
     let list = c.self.inside.list in
-    let bs = tiny_items list in
-    let cut : IsCharBoundary bs (length bs - 1) = search rules in
-    text_stays g.row.N list c.pop.new.self _ c.pop.ensures.becomes c.self.invariant (IsUtf8-take bs (length bs - 1) (text_utf8 list c.self.invariant) cut)
+    text_stays g.row.N list c.pop.new.self _ c.pop.ensures.becomes c.self.invariant
+    (IsUtf8-take (tiny_items list) _ (text_utf8 list c.self.invariant) (search rules))
 
-pub returns-then-byte-lt128-clause-text : goal.returns-then-byte-lt128-clause-text
-returns-then-byte-lt128-clause-text g c =
+pub invariant_of-self-then-last-lt128 : goal.invariant_of-self-then-last-lt128
+invariant_of-self-then-last-lt128 g c =
     let list = c.self.inside.list in
-    let bs = tiny_items list in
-    let x = c.in-Some.last.now in
-    let cut : IsCharBoundary bs (length bs - 1) = search rules in
-    let front = IsUtf8-take bs (length bs - 1) (text_utf8 list c.self.invariant) cut in
+    let made = c.pop.ensures.becomes in
+    let front = popped_ascii _ c.in-Some.last c.if-last-lt128.true (subst IsUtf8 c.in-Some.ensures.some (text_utf8 list c.self.invariant)) in
+    text_stays g.row.N list c.pop.new.self _ made c.self.invariant (subst IsUtf8 made.items front)
+
+pub returns-then-last-lt128-clause-text : goal.returns-then-last-lt128-clause-text
+returns-then-last-lt128-clause-text g c =
+    let list = c.self.inside.list in
+    let x = c.in-Some.last in
+    let low = c.if-last-lt128.true in
     let left = tiny_items c.pop.new.self in
-    let parts : bs ≡ left ++ x ∷ [] = search rules in
-    let ascii = IsUtf8-from_ascii (x ∷ []) (search rules) in
-    sym (ap text_chars c.self.view_is) ∙ ap chars parts ∙ ap (λ l. chars (l ++ x ∷ [])) c.pop.ensures.becomes.items ∙ chars-append _ (x ∷ []) front
-    ∙ (λ i. chars (sym c.pop.ensures.becomes.items i) ++ chars_of_one (x ∷ []) x ascii (sym (encode_ascii x c.if-byte-lt128.true)) i)
+    let parts = c.in-Some.ensures.some in
+    let front = popped_ascii left x low (subst IsUtf8 parts (text_utf8 list c.self.invariant)) in
+    sym (ap text_chars c.self.view_is) ∙ ap chars parts ∙ chars-append left (x ∷ []) front
+    ∙ ap (λ cs. chars left ++ cs) (chars_of_one (x ∷ []) x (IsUtf8-from_ascii (x ∷ []) (search rules)) (sym (encode_ascii x low)))
+
+pub pop_wide-requires : goal.pop_wide-requires
+pop_wide-requires g c =
+    (search rules, (omega (arith, c.if-last-lt128.false), subst IsUtf8 c.in-Some.ensures.some (text_utf8 c.self.inside.list c.self.invariant)))
+
+pub invariant_of-self-2 : goal.invariant_of-self-2
+invariant_of-self-2 g c =
+    (∣ c.pop_wide.ensures.front ∣₁, c.pop_wide.ensures.spare (zero_becomes g.row.N c.self.inside.list c.pop.new.self _ c.pop.ensures.becomes c.self.invariant.1))
+
+pub returns-clause-text : goal.returns-clause-text
+returns-clause-text g c =
+    let bs = tiny_items c.self.inside.list in
+    let x = c.pop_wide.result in
+    let left = tiny_items c.pop_wide.new.list in
+    let parts : bs ≡ left ++ encode_utf8 x = c.in-Some.ensures.some ∙ c.pop_wide.ensures.parts in
+    let scalar : IsScalar x = search rules in
+    let one = chars_of_one (encode_utf8 x) x (IsUtf8-encode x scalar) refl in
+    sym (ap text_chars c.self.view_is) ∙ ap chars parts ∙ chars-append left (encode_utf8 x) c.pop_wide.ensures.front ∙ ap (λ cs. chars left ++ cs) one

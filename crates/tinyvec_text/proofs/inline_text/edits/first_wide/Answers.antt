@@ -1,25 +1,39 @@
-use Rattle.std.proofs.Common.{◌++◌, IsUtf8, encode_utf8, ap, sym, subst, ◌∙◌, drop, rules}
-use Rattle.std.proofs.CharBoundary.{IsUtf8-take-drop}
-use Rattle.std.proofs.lemmas.Str.{IsUtf8-append}
-use Rattle.tinyvec_text.proofs.Boundaries.{take_first, drop_first}
+use Rattle.std.proofs.Common.{subst, sym, arith}
+use Rattle.tinyvec_text.specs.InlineText.{IsFirstChar}
+use Rattle.tinyvec_text.proofs.Wide.{longer, first_two, first_three, first_four}
 use Rattle.tinyvec_text.proofs.inline_text.edits.first_wide.Goals as goal
 
-pub unreachable-requires : goal.unreachable-requires
-unreachable-requires c =
-    let end = c.first_char_end-end in
-    c.in_default.ensures.cases.0 (IsUtf8-take-drop c.args.bytes.now c.requires.utf8 end.result end.ensures.split).0
+pub bounds-bytes-1 : goal.bounds-bytes-1
+bounds-bytes-1 c = (longer c.args.bytes.now c.requires.utf8 c.requires.some c.requires.wide).0
+
+pub returns-then-lead-lt224 : goal.returns-then-lead-lt224
+returns-then-lead-lt224 c =
+    let bs = c.args.bytes.now in
+    subst (λ code. IsFirstChar bs code 2) (sym c.char_of.ensures)
+    (first_two bs c.requires.utf8 c.requires.some c.requires.wide c.if-lead-lt224.true)
+
+pub bounds-bytes-2 : goal.bounds-bytes-2
+bounds-bytes-2 c = (longer c.args.bytes.now c.requires.utf8 c.requires.some c.requires.wide).1 (omega (arith, c.if-lead-lt224.false))
+
+pub char_of-requires-then-lead-lt240 : goal.char_of-requires-then-lead-lt240
+char_of-requires-then-lead-lt240 c =
+    (first_three c.args.bytes.now c.requires.utf8 c.requires.some c.requires.wide (omega (arith, c.if-lead-lt224.false)) c.if-lead-lt240.true).scalar
+
+pub returns-then-lead-lt240 : goal.returns-then-lead-lt240
+returns-then-lead-lt240 c =
+    let bs = c.args.bytes.now in
+    subst (λ code. IsFirstChar bs code 3) (sym c.char_of-then-lead-lt240.ensures)
+    (first_three bs c.requires.utf8 c.requires.some c.requires.wide (omega (arith, c.if-lead-lt224.false)) c.if-lead-lt240.true)
+
+pub bounds-bytes-3 : goal.bounds-bytes-3
+bounds-bytes-3 c = (longer c.args.bytes.now c.requires.utf8 c.requires.some c.requires.wide).2 (omega (arith, c.if-lead-lt240.false))
+
+pub char_of-requires-2 : goal.char_of-requires-2
+char_of-requires-2 c =
+    (first_four c.args.bytes.now c.requires.utf8 c.requires.some c.requires.wide (omega (arith, c.if-lead-lt240.false))).scalar
 
 pub returns : goal.returns
 returns c =
     let bs = c.args.bytes.now in
-    let end = c.first_char_end-end in
-    let rest = c.as_str.result.now in
-    let parts = sym (c.chars-rest.ensures.rest ∙ c.in-Ok.ensures.cases.0) ∙ c.in-Some.ensures.steps.0 ∙ ap (λ xs. encode_utf8 c.in-Some.c ++ xs) (sym c.as_str.ensures) in
-    record {
-      encoded = take_first bs rest end.result c.in-Some.c parts end.ensures.split.0;
-      rest = subst IsUtf8 (sym (drop_first bs rest end.result c.in-Some.c parts end.ensures.split.0))
-          (IsUtf8-append rest (drop end.result bs) c.as_str.utf8 (IsUtf8-take-drop bs c.requires.utf8 end.result end.ensures.split).1);
-      scalar = search rules;
-      positive = search rules;
-      in_bounds = search rules;
-    }
+    subst (λ code. IsFirstChar bs code 4) (sym c.char_of-2.ensures)
+    (first_four bs c.requires.utf8 c.requires.some c.requires.wide (omega (arith, c.if-lead-lt240.false)))

@@ -1,6 +1,8 @@
-use Rattle.std.proofs.Common.{length, length-append, encode_utf8, ap, ◌∙◌, arith}
+use Rattle.std.proofs.Common.{◌+◌, ◌<◌, ◌++◌, length, length-append, encode_utf8, ap, sym, subst, ◌∙◌, arith}
 use Rattle.std.specs.List.{flat_map}
-use Rattle.tinyvec_text.proofs.Extending.{flat_encodes, no_more}
+use Rattle.tinyvec.specs.View.{capacity_in}
+use Rattle.tinyvec_text.specs.InlineText.{text_len}
+use Rattle.tinyvec_text.proofs.Extending.{on_err, flat_encodes, no_more}
 use Rattle.tinyvec_text.proofs.inline_text.extending.InlineTextExtendChar.extend.Goals as goal
 
 pub returns-in_err-push-clause-known : goal.returns-in_err-push-clause-known
@@ -13,3 +15,18 @@ returns-in_err-push-clause-known g c = λ all yields enough.
     let full = c.in_err-push.ensures.room.full in
     let spelled = ap length (flat_encodes all) in
     absurd (omega (arith, begun, len, room, full, enough, spelled))
+
+pub returns-in_err-push-clause-full : goal.returns-in_err-push-clause-full
+returns-in_err-push-clause-full g c =
+    let at = c.loop-c in
+    let kept = c.in_err-push.ensures.room.refused in
+    on_err _ c.from_residual.result (
+      c.into_iter-rest.result,
+      at.yielded,
+      c.in-Some.c,
+      _,
+      c.into_iter-rest.ensures.into_iter_gives,
+      (at.rest, at.yielded_by, c.in-Some.ensures.steps),
+      ap (λ t. t.bytes) kept ∙ at.invariant.bytes ∙ ap (λ bs. c.args.self.now.bytes ++ bs) (flat_encodes at.yielded),
+      subst (λ t. capacity_in g.row.N t.place < text_len t + length (encode_utf8 c.in-Some.c)) (sym kept) c.in_err-push.ensures.room.full,
+    )

@@ -1,6 +1,8 @@
-use Rattle.std.proofs.Common.{length, length-append, ap, ◌∙◌, arith}
+use Rattle.std.proofs.Common.{◌+◌, ◌<◌, length, length-append, ap, sym, subst, ◌∙◌, arith}
 use Rattle.std.specs.List.{flat_map}
-use Rattle.tinyvec_text.proofs.Extending.{no_more}
+use Rattle.tinyvec.specs.View.{capacity_in}
+use Rattle.tinyvec_text.specs.InlineText.{text_len}
+use Rattle.tinyvec_text.proofs.Extending.{on_err, no_more}
 use Rattle.tinyvec_text.proofs.inline_text.extending.InlineTextExtendRefStr.extend.Goals as goal
 
 pub returns-in_err-push_str-clause-known : goal.returns-in_err-push_str-clause-known
@@ -12,3 +14,18 @@ returns-in_err-push_str-clause-known g c = λ all yields enough.
     let room = at.invariant.grows.capacity in
     let full = c.in_err-push_str.ensures.room.full in
     absurd (omega (arith, begun, len, room, full, enough))
+
+pub returns-in_err-push_str-clause-full : goal.returns-in_err-push_str-clause-full
+returns-in_err-push_str-clause-full g c =
+    let at = c.loop-s in
+    let kept = c.in_err-push_str.ensures.room.refused in
+    on_err _ c.from_residual.result (
+      c.into_iter-rest.result,
+      at.yielded,
+      c.in-Some.s,
+      _,
+      c.into_iter-rest.ensures.into_iter_gives,
+      (at.rest, at.yielded_by, c.in-Some.ensures.steps),
+      ap (λ t. t.bytes) kept ∙ at.invariant.bytes,
+      subst (λ t. capacity_in g.row.N t.place < text_len t + length c.in-Some.s.now) (sym kept) c.in_err-push_str.ensures.room.full,
+    )

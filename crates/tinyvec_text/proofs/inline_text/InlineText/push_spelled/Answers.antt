@@ -1,0 +1,30 @@
+use Rattle.std.proofs.Common.{◌≡◌, ◌++◌, ◌∷◌, [], IsUtf8, ap, sym, subst, ◌∙◌, chars, rules}
+use Rattle.std.specs.Char.{IsScalar}
+use Rattle.std.proofs.lemmas.Str.{IsUtf8-append, IsUtf8-encode, chars-append}
+use Rattle.tinyvec.specs.TinyVec.{tiny_items}
+use Rattle.tinyvec_text.specs.InlineText.{Text, text_chars}
+use Rattle.tinyvec_text.proofs.Boundaries.{chars_of_one}
+use Rattle.tinyvec_text.proofs.Lists.{text_utf8, text_kept, text_same}
+use Rattle.tinyvec_text.proofs.inline_text.InlineText.push_spelled.Goals as goal
+
+pub invariant_of-self : goal.invariant_of-self
+invariant_of-self g c = text_same c.self.inside.list c.extend_from_slice_copy.new.self c.in_err-extend_from_slice_copy.ensures.room.refused c.self.invariant
+
+pub invariant_of-self-2 : goal.invariant_of-self-2
+invariant_of-self-2 g c =
+    let list = c.self.inside.list in
+    let joined : tiny_items c.extend_from_slice_copy.new.self ≡ tiny_items list ++ c.args.bytes.now = search rules in
+    let scalar : IsScalar c.args.c = search rules in
+    let put = subst IsUtf8 c.requires (IsUtf8-encode c.args.c scalar) in
+    let room = c.in_ok-extend_from_slice_copy.ensures.room in
+    text_kept list c.extend_from_slice_copy.new.self (λ i. (room.place.0 i).0) room.slot_rule c.self.invariant
+    (subst IsUtf8 (sym joined) (IsUtf8-append _ _ (text_utf8 list c.self.invariant) put))
+
+pub returns-clause-text : goal.returns-clause-text
+returns-clause-text g c =
+    let list = c.self.inside.list in
+    let joined : tiny_items c.extend_from_slice_copy.new.self ≡ tiny_items list ++ c.args.bytes.now = search rules in
+    let scalar : IsScalar c.args.c = search rules in
+    let put = subst IsUtf8 c.requires (IsUtf8-encode c.args.c scalar) in
+    ap chars joined ∙ chars-append _ _ (text_utf8 list c.self.invariant)
+    ∙ ap (λ cs. chars (tiny_items list) ++ cs) (chars_of_one _ c.args.c put (sym c.requires)) ∙ ap (λ (t : Text). text_chars t ++ c.args.c ∷ []) c.self.view_is
