@@ -1,13 +1,13 @@
 //! The splice: what replaces a range of items by those of an iterator.
-ghost use Rattle.std.specs.Prelude.{◌≡◌, length, false, codes, Some, IfSome, ◌+◌, ◌-◌, ◌<◌, ◌≤◌, ◌++◌, List, take, drop, IsOk, OnErr, IfErr, MatchResult, OnOk, true};
+ghost use Rattle.std.specs.Prelude.{◌≡◌, length, false, codes, Some, IfSome, ◌+◌, ◌-◌, ◌<◌, ◌≤◌, ◌∷◌, ◌++◌, List, take, drop, IsOk, OnErr, IfErr, MatchResult, OnOk, true};
 ghost use Rattle.std.specs.Fmt.{debug_list, debug_variant};
 ghost use Rattle.std.specs.Iterator.{UpTo, MakesProgress, at_most, IsFinite, Drains, YieldsThen};
 ghost use Rattle.std.specs.Iterator.Adapters.{fuse_done, fuse_source, fuse_steps};
 ghost use Rattle.std.specs.Iterator.SizeHint.{IsWithinCount};
-ghost use Rattle.tinyvec_slots.specs.Fused.{FusedFinite, FusedCan};
+ghost use Rattle.tinyvec_slots.specs.Fused.{FusedFinite, FusedCan, fused_rest};
 ghost use Rattle.tinyvec_slots.specs.Ranges.{IsRangeOf, before, removed, after};
 ghost use Rattle.tinyvec.specs.TinyVec.{tiny_items, tiny_len, is_inline, tiny_capacity, StaysInPlace, Becomes, Unchanged};
-ghost use Rattle.tinyvec_slots.specs.Filling.{IntoIterYields};
+ghost use Rattle.tinyvec_slots.specs.Filling.{IntoIterYields, ShowsItems};
 ghost use Rattle.tinyvec_slots.specs.Replacing.{PutsBetween};
 ghost use Rattle.tinyvec_slots.specs.AnySplice.{FinishTouches};
 ghost use Rattle.tinyvec.specs.Room.{Grows, GrowsFor, RoomGrows};
@@ -107,8 +107,18 @@ impl<A: Array> TinyVec<A> {
         // The returned iterator can be iterated further.
         ensures goes_on { IfErr result (λ refused. FusedCan I.IntoIter.can_next refused.rest) }
 
-        // The same of items that are known, as those of a `Vec`, a range or a slice. If there is room for them it
-        // allocates nothing.
+        // For an iterator of which `rest` shows the remaining items. If there is room for them it allocates nothing.
+        ensures listed { (rest : I.IntoIter → List A.Item) → ShowsItems I.IntoIter.next_gives rest
+            → (it : I.IntoIter) × I.into_iter_gives replacement it
+            × (length (before (tiny_items self.old) (R.start_bound range)) + length (rest it)
+            + length (after (tiny_items self.old) (R.end_bound range)) ≤ tiny_capacity A.CAPACITY self.old → IsOk result)
+            × OnOk result (tiny_items self.new ≡ before (tiny_items self.old) (R.start_bound range) ++ rest it
+            ++ after (tiny_items self.old) (R.end_bound range))
+            × IfErr result (λ refused. (placed : List A.Item) × (rest it ≡ placed ++ refused.item ∷ fused_rest rest refused.rest)
+            × (tiny_items self.new ≡ before (tiny_items self.old) (R.start_bound range) ++ placed
+            ++ after (tiny_items self.old) (R.end_bound range))) }
+
+        // For items that are known, as those of a `Vec`, a range or a slice. If there is room for them it allocates nothing.
         ensures known { (xs : List A.Item) → IntoIterYields I.into_iter_gives I.IntoIter.next_gives replacement xs
             → PutsBetween (tiny_capacity A.CAPACITY self.old) (before (tiny_items self.old) (R.start_bound range)) xs
             (after (tiny_items self.old) (R.end_bound range)) result (tiny_items self.new) }

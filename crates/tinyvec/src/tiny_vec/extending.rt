@@ -219,6 +219,10 @@ impl<A: Array> TinyVec<A> {
             → (it : I.IntoIter) × I.into_iter_gives iter it
             × OnOk result (tiny_items self.new ≡ tiny_items self.old ++ rest it) }
 
+        // If there is room for as many as it says, it allocates nothing.
+        ensures succeeds { ((it : I.IntoIter) → I.into_iter_gives iter it
+            → tiny_len self.old + size (I.IntoIter.remaining it) ≤ tiny_capacity A.CAPACITY self.old) → IsOk result }
+
         // For items that are known, as those of a `Vec`, a range or a slice.
         ensures known { (xs : List A.Item) → IntoIterYields I.into_iter_gives I.IntoIter.next_gives iter xs
             → OnOk result (tiny_items self.new ≡ tiny_items self.old ++ xs) }
@@ -285,6 +289,10 @@ impl<A: Array> TinyVec<A> {
             (λ refused. YieldsThen I.IntoIter.next_gives it xs (Some refused.item) refused.rest
             × (tiny_items refused.vec ≡ xs)) }
         ensures collected { IfOk result (λ v. Collects A.Item.is_default A.CAPACITY (tiny_items v) v) }
+
+        // What a failure returns is collected in the same way.
+        ensures collected_so_far { IfErr result (λ refused.
+            Collects A.Item.is_default A.CAPACITY (tiny_items refused.vec) refused.vec) }
 
         // It fails only if there is no room.
         ensures full { IfErr result (λ refused. (tiny_len refused.vec ≡ tiny_capacity A.CAPACITY refused.vec)

@@ -28,3 +28,14 @@ returns-in-Ok-clause-collected g c =
       doubled = search rules;
       fits = search rules;
     }
+
+pub returns-in-Err-clause-collected_so_far : goal.returns-in-Err-clause-collected_so_far
+returns-in-Err-clause-collected_so_far g c =
+    let made = c.new-vec.ensures in record {
+      items = refl;
+      place = search rules;
+      spare = defaults_left g.A.Item.Default.is_default g.A.Array.CAPACITY c.new-vec.result c.extend.new.self made.items made.place made.spare c.in-Err.ensures.grows.slot_rule;
+      grown = search rules;
+      doubled = search rules;
+      fits = search rules;
+    }
