@@ -22,7 +22,7 @@ def refusal(name, v, operands):
 
 
 # How many requests these make no contract says.
-calls = Calls(OPERANDS, refusal, uncounted=["shrink_to_fit", "into_boxed_slice", "OWNED"])
+calls = Calls(OPERANDS, refusal, uncounted=["shrink_to_fit", "shrink_to", "into_boxed_slice", "OWNED"])
 
 
 def put(v, i, x):
@@ -174,6 +174,13 @@ def of_array(v, array, n):
     return with_len(v, n)
 
 
+def of_vec(v, new):
+    """The `Vec` has room for no more items."""
+    made = v.empty()
+    made.list, made.spare, made.is_inline, made.on_heap = new, [], False, len(new)
+    return v.is_now(made)
+
+
 def split_off(v, at):
     tail = v.list[at:]
     if not v.asks(not v.is_inline and bool(tail)):
@@ -194,6 +201,7 @@ calls("try_from_array_len ARRAY N", OWNERS)(of_array)
 calls("new", TINY)(lambda v: v.made([]))
 calls("with_capacity N", TINY)(lambda v, n: v.made([], room=n))
 calls("with_initial_len N", TINY)(lambda v, n: v.made(v.defaults(n)))
+calls("from_vec L", TINY)(of_vec)
 calls("from_slice L", TINY)(lambda v, new: v.made(new) if v.clones(new) else None)
 calls("try_from_slice L", ARRAY)(lambda v, new: v.made(new) if len(new) <= v.slots and v.clones(new) else "TooLong")
 calls("from_iter L", OWNERS)(lambda v, new: v.refused(v.made([]) or v.pushes(new)))
@@ -225,11 +233,17 @@ def move_to_the_heap(v, more=0):
         return ""
 
 
-def shrink_to_fit(v):
+def shrink_to(v, kept):
+    """A list on the heap moves into the array if that has the room that is kept, and else keeps no more."""
     if not v.is_inline:
-        v.is_inline, v.on_heap = len(v.list) <= v.slots, len(v.list)
+        room = max(len(v.list), kept)
+        v.is_inline, v.on_heap = room <= v.slots, min(v.on_heap, room)
         v.spare = v.defaults(v.slots - len(v.list)) if v.is_inline else []
     return ""
+
+
+def shrink_to_fit(v):
+    return shrink_to(v, 0)
 
 
 def into_vec(v, tell=lambda v, room: f"{v.shown(v.list)} {room}"):
@@ -249,6 +263,7 @@ calls("into_vec", TINY)(into_vec)
 calls("into_boxed_slice", TINY)(lambda v: into_vec(v, lambda v, _room: v.shown(v.list)))
 calls("has_room N", TINY)(lambda v, n: spelled(v.capacity() - len(v.list) >= n))
 calls("shrink_to_fit", TINY)(shrink_to_fit)
+calls("shrink_to N", TINY)(shrink_to)
 
 
 # What looks at it, or writes to it as text.

@@ -47,6 +47,12 @@ module _ {A T : Type 0} where
     pub spare : tiny_spare v ≡ ys
     pub place : IsInline v
 
+  -- v is as `new` makes it: empty and inline, and all its slots hold defaults
+  pub record IsNew (D : T → Type 0) (slots : ℕ) (v : TinyVec A T) : Type 0 where
+    pub items : tiny_items v ≡ []
+    pub spare : AreDefaults D slots (tiny_spare v)
+    pub place : IsInline v
+
   -- `v.capacity()`, if an array has this many slots
   abbrev pub tiny_capacity : ℕ → TinyVec A T → ℕ
   tiny_capacity slots v = capacity_in slots (place_of v)

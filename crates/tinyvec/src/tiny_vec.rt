@@ -1,5 +1,5 @@
 //! `TinyVec`.
-ghost use Rattle.std.specs.Prelude.{◌≡◌, ◌+◌, ◌<◌, ◌≤◌, ◌==◌, not, length, slice_index_or, slice_set, ◌-◌, ◌↔◌, ℕ, All, [], take, drop, IsOk, IsErr, IfOk, IfErr, OnErr, vec_capacity, List};
+ghost use Rattle.std.specs.Prelude.{◌≡◌, ◌+◌, ◌<◌, ◌≤◌, ◌==◌, not, length, slice_index_or, slice_set, ◌-◌, ◌↔◌, ℕ, All, [], take, drop, IsOk, IsErr, IfOk, IfErr, OnErr, vec_capacity, List, false};
 ghost use Rattle.tinyvec.specs.TinyVec.{tiny_items, tiny_len, tiny_spare, is_inline, tiny_capacity, IsInline, HoldsInline, SameFrame, tiny_allocator};
 ghost use Rattle.tinyvec.specs.Room.{MadeFor};
 ghost use Rattle.tinyvec_slots.specs.Slots.{AreDefaults, items, spare};
@@ -62,6 +62,14 @@ impl<A: Array> TinyVec<A> {
             TinyVec::Inline(v, _) => v.capacity(),
             TinyVec::Heap(v) => v.capacity(),
         }
+    }
+
+    /// How many more items fit.
+    pub fn remaining_capacity(&self) -> usize
+        ensures value { result ≡ tiny_capacity A.CAPACITY self.now - tiny_len self.now }
+        ensures sum { tiny_len self.now + result ≡ tiny_capacity A.CAPACITY self.now }
+    {
+        self.capacity() - self.len()
     }
 
     /// Whether the list is in the array.
@@ -150,6 +158,15 @@ impl<A: Array> TinyVec<A> {
         ensures { HoldsInline (items vec) (spare vec) result }
     {
         TinyVec::Inline(vec, alloc)
+    }
+
+    /// The list of a `Vec`, on the heap, with its allocation. Allocates nothing and moves no item.
+    pub fn from_vec(vec: Vec<A::Item>) -> Self
+        ensures items { tiny_items result ≡ vec.items }
+        ensures place { is_inline result ≡ false }
+        ensures capacity { tiny_capacity A.CAPACITY result ≡ vec_capacity vec }
+    {
+        TinyVec::Heap(vec)
     }
 
     /// A vector whose list is the first `len` slots of the array. The others are its spare slots. It is inline.

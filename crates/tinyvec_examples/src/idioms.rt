@@ -3,6 +3,7 @@ ghost use Rattle.std.specs.Prelude.{◌≡◌, ◌-◌, ◌≤◌, length};
 ghost use Rattle.tinyvec.specs.TinyVec.{tiny_len};
 
 use std::alloc::{AllocError, Global};
+use std::collections::BTreeMap;
 use tinyvec::{ArrayVec, TinyVec};
 
 /// `&v[1..]`.
@@ -55,6 +56,16 @@ pub fn set_all(v: &mut TinyVec<[u32; 4]>) {
     for x in v {
         *x = 1;
     }
+}
+
+/// `map.entry(k).or_default().push(x)`.
+pub fn grouped(
+    groups: &mut BTreeMap<u32, TinyVec<[u32; 4]>>,
+    key: u32,
+    value: u32,
+) -> Result<(), AllocError> {
+    groups.entry(key)?.or_default().push(value)?;
+    Ok(())
 }
 
 /// `v == xs`: both sides are slices.

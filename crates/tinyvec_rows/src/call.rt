@@ -217,6 +217,15 @@ fn with_room<T: Item>(mut items: Vec<T>) -> Result<Vec<T>, Wrong> {
     Ok(items)
 }
 
+// A list with room for no more items.
+fn with_just_room<T: Item>(items: Vec<T>) -> Result<Vec<T>, Wrong> {
+    let mut exact = Vec::with_capacity(*items.allocator(), items.len())?;
+    for x in items {
+        exact.push(x)?;
+    }
+    Ok(exact)
+}
+
 /// Takes the items of a range out that a closure chooses, after each of which it adds to the item.
 #[derive(Drop)]
 pub struct Extract {
@@ -302,6 +311,7 @@ pub enum Make<T> {
     TryFromArrayLen(Slots<T>, usize),
     TryFromSlice(Vec<T>),
     FromSlice(Vec<T>),
+    FromVec(Vec<T>),
     FromIter(Vec<T>),
     WithCapacity(usize),
     WithInitialLen(usize),
@@ -324,6 +334,7 @@ impl<T: Item> Make<T> {
         Ok(Some(match name {
             "try_from_slice" => Make::TryFromSlice(words.items()?),
             "from_slice" => Make::FromSlice(words.items()?),
+            "from_vec" => Make::FromVec(with_just_room(words.items()?)?),
             "from_iter" => Make::FromIter(words.items()?),
             "with_capacity" => Make::WithCapacity(words.index()?),
             "with_initial_len" => Make::WithInitialLen(words.index()?),
@@ -340,6 +351,7 @@ pub enum Room {
     MoveToTheHeap,
     MoveToTheHeapAndReserve(usize),
     ShrinkToFit,
+    ShrinkTo(usize),
     HasRoom(usize),
 }
 
@@ -351,6 +363,7 @@ impl Room {
             "move_to_the_heap" => Room::MoveToTheHeap,
             "move_to_the_heap_and_reserve" => Room::MoveToTheHeapAndReserve(words.index()?),
             "shrink_to_fit" => Room::ShrinkToFit,
+            "shrink_to" => Room::ShrinkTo(words.index()?),
             "has_room" => Room::HasRoom(words.index()?),
             _ => return Ok(None),
         }))

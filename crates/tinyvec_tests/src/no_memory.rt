@@ -2,8 +2,10 @@
 use crate::lists::lies;
 use crate::steps::{all_steps, is_debugged, is_shown};
 use std::cmp::Ordering;
+use std::default::MadeWith;
 use std::hash::{DefaultHasher, Hash, Hasher};
 use std::io::Write;
+use std::mem;
 use std::test::Fail;
 use tinyvec::{ArrayVec, TinyVec};
 use tinyvec_text::InlineText;
@@ -55,6 +57,18 @@ fn taken_apart_and_joined(rt: HostRuntime) -> Result<(), Fail> {
         v.splice(.., 5..=7).finish().is_ok(),
         v.into_iter().next() == Some(5),
     ])
+}
+
+// What a map makes, and what is left of a list that is taken out, are empty.
+#[test]
+fn made_and_emptied(rt: HostRuntime) -> Result<(), Fail> {
+    let mut v: Three = MadeWith::made_with(rt.alloc());
+    let is_made = lies(&v, &[], true);
+    if v.len() < v.capacity() {
+        v.push_reserved(1);
+    }
+    let taken = mem::try_take(&mut v)?;
+    all_steps(&[is_made, lies(&taken, &[1], true), lies(&v, &[], true)])
 }
 
 #[test]

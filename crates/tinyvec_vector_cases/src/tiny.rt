@@ -35,7 +35,7 @@ pub fn heap<T: Read, A: Array<Item = T>>(
     for x in list {
         vec.push(x)?;
     }
-    Ok(TinyVec::Heap(vec))
+    Ok(TinyVec::from_vec(vec))
 }
 
 impl<T: Item, A: Array<Item = T>> Vector for TinyVec<A> {
@@ -236,7 +236,8 @@ fn with_room<T: Item, A: Array<Item = T>>(
         Room::MoveToTheHeap => done(out, v.move_to_the_heap()),
         Room::MoveToTheHeapAndReserve(n) => done(out, v.move_to_the_heap_and_reserve(n)),
         Room::ShrinkToFit => Ok(v.shrink_to_fit()),
-        Room::HasRoom(n) => say(out, &(v.capacity() - v.len() >= n)),
+        Room::ShrinkTo(n) => Ok(v.shrink_to(n)),
+        Room::HasRoom(n) => say(out, &(v.remaining_capacity() >= n)),
     }
 }
 
@@ -262,6 +263,7 @@ fn made_of<T: Item, A: Array<Item = T>>(
         Make::WithCapacity(room) => Ok(TinyVec::with_capacity(alloc, room)),
         Make::WithInitialLen(len) => Ok(TinyVec::with_initial_len(alloc, len)),
         Make::FromSlice(items) => Ok(TinyVec::from_slice(alloc, items.as_slice())),
+        Make::FromVec(items) => Ok(Ok(TinyVec::from_vec(items))),
         Make::FromArray(slots) => Ok(Ok(TinyVec::from_array(alloc, array_of(slots)?))),
         Make::TryFromArrayLen(slots, len) => Ok(Ok(with_len(array_of(slots)?, len, out)?)),
         Make::FromIter(items) => Ok(Ok(of_items(items, out)?)),

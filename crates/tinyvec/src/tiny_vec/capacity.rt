@@ -1,5 +1,5 @@
 //! Room on the heap, and moves between the array and the heap.
-ghost use Rattle.std.specs.Prelude.{◌≡◌, ◌+◌, ◌*◌, ◌<◌, ◌≤◌, max, false, OnOk, OnErr, vec_len, vec_capacity, ◌-◌, ◌↔◌, IsOk, IfOk, IfErr};
+ghost use Rattle.std.specs.Prelude.{◌≡◌, ◌+◌, ◌*◌, ◌<◌, ◌≤◌, max, min, false, OnOk, OnErr, vec_len, vec_capacity, ◌-◌, ◌↔◌, IsOk, IfOk, IfErr};
 ghost use Rattle.tinyvec.specs.TinyVec.{tiny_items, tiny_len, is_inline, tiny_capacity, tiny_spare, IsInline};
 ghost use Rattle.tinyvec.specs.Room.{Doubles, GrowsFor, GrowsExactly, MakesRoom, MovesToHeap, MovesToHeapWithRoom};
 ghost use Rattle.std.specs.Box.{boxed_slice_items};
@@ -190,14 +190,30 @@ impl<A: Array> TinyVec<A> {
             → tiny_capacity A.CAPACITY self.new ≤ tiny_capacity A.CAPACITY self.old }
         ensures fits { tiny_len self.new ≤ tiny_capacity A.CAPACITY self.new }
     {
-        let len = self.len();
+        self.shrink_to(0);
+    }
+
+    /// As `shrink_to_fit`, but keeps room for `min_capacity` items, if there was that room.
+    pub fn shrink_to(&mut self, min_capacity: usize)
+        ensures items { tiny_items self.new ≡ tiny_items self.old }
+        ensures place { is_inline self.old ≡ false
+            → (IsInline self.new ↔ (max (tiny_len self.old) min_capacity ≤ A.CAPACITY)) }
+        ensures spare { is_inline self.old ≡ false → IsInline self.new
+            → AreDefaults A.Item.is_default (A.CAPACITY - tiny_len self.old) (tiny_spare self.new) }
+        ensures kept { IsInline self.old → self.new ≡ self.old }
+        ensures capacity { is_inline self.new ≡ false
+            → tiny_capacity A.CAPACITY self.new ≤ tiny_capacity A.CAPACITY self.old }
+        ensures lower_bound { min min_capacity (tiny_capacity A.CAPACITY self.old) ≤ tiny_capacity A.CAPACITY self.new }
+        ensures fits { tiny_len self.new ≤ tiny_capacity A.CAPACITY self.new }
+    {
+        let wanted = self.len().max(min_capacity);
         if let TinyVec::Heap(v) = self {
-            if len <= A::CAPACITY {
+            if wanted <= A::CAPACITY {
                 let alloc = *v.allocator();
                 let inline = Self::to_inline(v);
                 *self = TinyVec::Inline(inline, alloc);
             } else {
-                v.shrink_to_fit();
+                v.shrink_to(min_capacity);
             }
         }
     }

@@ -1,7 +1,7 @@
 //! Comparisons, hashes, texts, writers, indexing and iteration.
 ghost use Rattle.std.specs.Prelude.{◌≡◌, ◌<◌, ◌≤◌, slice_index_or, List, length, true, false, ◌+◌, ◌++◌, Some, IfOk, IfErr, IsOk, OnErr, ⊤};
 ghost use Rattle.std.specs.Borrow.{sem};
-ghost use Rattle.tinyvec.specs.TinyVec.{tiny_items, tiny_len, tiny_capacity};
+ghost use Rattle.tinyvec.specs.TinyVec.{tiny_items, tiny_len, tiny_capacity, IsNew};
 ghost use Rattle.std.specs.Iterator.{IsFinite, HoldsAlong, DrainsIf, YieldsThen, ExtendsWithItems};
 ghost use Rattle.tinyvec_slots.specs.Filling.{Iterates, IteratesMut, IntoIterYields};
 ghost use Rattle.tinyvec_array.specs.IntoIter.{IteratesOver};
@@ -21,6 +21,7 @@ ghost use Rattle.std.specs.Hash as fed;
 use crate::{TinyVec, TinyVecIterator};
 use std::alloc::{AllocError, Global};
 use std::cmp::Ordering;
+use std::default::{Emptied, MadeWith};
 use std::fmt::HasDigits;
 use std::hash::{Hash, Hasher};
 use std::ops::{DerefSlice, DerefSliceMut, Index, IndexMut};
@@ -30,6 +31,27 @@ use tinyvec_slots::{
     InBinary, InHex, InOctal, InUpperHex, Plain, cmp_slices, eq_slices, hash_items, into_items,
     partial_cmp_slices, write_items,
 };
+
+/// So that `map.entry(k)?.or_default()` makes an empty vector. It is as `new` makes it.
+impl<A: Array> MadeWith<Global> for TinyVec<A> {
+    ghost is_made_with = { IsNew A.Item.is_default A.CAPACITY };
+
+    fn made_with(alloc: Global) -> Self {
+        Self::new(alloc)
+    }
+}
+
+/// So that `mem::try_take` moves a vector out. What it leaves is as `new` makes it, with the same allocator.
+impl<A: Array> Emptied for TinyVec<A> {
+    ghost is_emptied = { IsNew A.Item.is_default A.CAPACITY };
+
+    fn emptied(like: &Self) -> Result<Self, AllocError>
+        ensures empty { IfOk result (IsNew A.Item.is_default A.CAPACITY) }
+        ensures succeeds { IsOk result }
+    {
+        Ok(Self::new(*like.allocator()))
+    }
+}
 
 impl<A: Array> Index<usize> for TinyVec<A> {
     type Output = A::Item;

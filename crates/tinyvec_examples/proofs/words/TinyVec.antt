@@ -3,7 +3,7 @@ use Rattle.std.proofs.Common.{◌≡◌, ℕ, List, [], ◌∷◌, ◌++◌, Ok,
 use Rattle.std.specs.Global.{Global}
 use Rattle.tinyvec.specs.declared.tiny_vec.TinyVec.{TinyVec}
 use Rattle.tinyvec.specs.declared.tiny_vec.TinyVec.TheVariants.{Inline}
-use Rattle.tinyvec.specs.TinyVec.{tiny_items, tiny_len, tiny_spare, is_inline, IsInline, HoldsInline, tiny_capacity, tiny_allocator, SameFrame, Becomes, StaysInPlace, ShortensInPlace, IsTail, Unchanged, IsTinyClone, IsTinyInfallible, PlaceRule, tiny_view}
+use Rattle.tinyvec.specs.TinyVec.{tiny_items, tiny_len, tiny_spare, is_inline, IsInline, HoldsInline, IsNew, tiny_capacity, tiny_allocator, SameFrame, Becomes, StaysInPlace, ShortensInPlace, IsTail, Unchanged, IsTinyClone, IsTinyInfallible, PlaceRule, tiny_view}
 use Rattle.tinyvec.specs.Room.{Collects, Doubles, GrowsFor, Grows, RoomGrows, MadeFor, GrowsExactly, MakesRoom, MovesToHeap, MovesToHeapWithRoom}
 use Rattle.tinyvec.specs.View.{in_array}
 use Rattle.tinyvec.specs.Refused.{RefusedFor, ClonesBehind, ClonesRefused}
@@ -41,6 +41,9 @@ module _ (A : Type 0) (alloc : Global) where
 
   pub example-HoldsInline : HoldsInline (1 ∷ 2 ∷ []) (0 ∷ 0 ∷ []) (inline (1 ∷ 2 ∷ []) (0 ∷ 0 ∷ []))
   example-HoldsInline = search rules
+
+  pub example-IsNew : IsNew D 2 (inline [] (0 ∷ 0 ∷ []))
+  example-IsNew = record { items = refl; spare = search rules; place = search rules }
 
   pub example-tiny_capacity : tiny_capacity 4 (inline (1 ∷ 2 ∷ []) (0 ∷ 0 ∷ [])) ≡ 4
   example-tiny_capacity = refl

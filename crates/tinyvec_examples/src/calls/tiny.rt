@@ -6,6 +6,8 @@ ghost use Rattle.tinyvec.specs.TinyVec.{tiny_items, tiny_len, tiny_capacity, is_
 
 use std::alloc::{AllocError, Global};
 use std::boxed::BoxedSlice;
+use std::default::MadeWith;
+use std::mem;
 use tinyvec::{Array, ArrayVec, TinyVec, TinyVecIterator};
 
 /// The list of an `ArrayVec`, which may grow now.
@@ -257,6 +259,53 @@ pub fn with_some_room<A: Array>(v: &mut TinyVec<A>, n: usize) -> Result<(), Allo
     ensures refused { OnErr result (Unchanged v.old v.new) }
 {
     v.try_reserve(n)
+}
+
+/// How many more items fit where the list is.
+pub fn left<A: Array>(v: &TinyVec<A>) -> usize
+    ensures { tiny_len v.now + result ≡ tiny_capacity A.CAPACITY v.now }
+{
+    v.remaining_capacity()
+}
+
+/// The items of a `Vec`, which stay where they are.
+pub fn of_vec(numbers: Vec<u32>) -> TinyVec<[u32; 4]>
+    ensures items { tiny_items result ≡ numbers.items }
+    ensures place { is_inline result ≡ false }
+{
+    TinyVec::from_vec(numbers)
+}
+
+/// The list, taken out. What is left is empty and inline.
+pub fn taken<A: Array>(v: &mut TinyVec<A>) -> Result<TinyVec<A>, AllocError>
+    ensures taken { IfOk result (λ out. out ≡ v.old) }
+    ensures left { OnOk result ((tiny_items v.new ≡ []) × IsInline v.new) }
+{
+    mem::try_take(v)
+}
+
+/// An empty vector, by the trait that `or_default` of a map calls.
+pub fn made<A: Array>(alloc: Global) -> TinyVec<A>
+    ensures { tiny_items result ≡ [] }
+{
+    MadeWith::made_with(alloc)
+}
+
+/// Room for `n` items, or for the list, is kept, and other room given back.
+pub fn with_less_room<A: Array>(v: &mut TinyVec<A>, n: usize)
+    ensures items { tiny_items v.new ≡ tiny_items v.old }
+    ensures room { n ≤ tiny_capacity A.CAPACITY v.old → n ≤ tiny_capacity A.CAPACITY v.new }
+{
+    v.shrink_to(n);
+}
+
+/// An emptied list is inline again, where the array has the room that is to be kept.
+pub fn emptied_inline(v: &mut TinyVec<[u8; 16]>)
+    ensures items { tiny_items v.new ≡ [] }
+    ensures place { IsInline v.new }
+{
+    v.clear();
+    v.shrink_to(16);
 }
 
 /// The list on the heap.
