@@ -11,6 +11,7 @@ pub mod ends;
 pub mod extracting;
 pub mod idioms;
 pub mod known_items;
+pub mod largest;
 pub mod lending;
 pub mod macros;
 pub mod making;
