@@ -3,7 +3,6 @@
 
 mod array;
 mod array_vec;
-mod capacity_error;
 mod drain;
 mod into_iter;
 mod macros;
@@ -13,9 +12,8 @@ mod try_from_slice_error;
 
 pub use array::Array;
 pub use array_vec::ArrayVec;
-pub use capacity_error::CapacityError;
 pub use drain::ArrayVecDrain;
 pub use into_iter::ArrayVecIterator;
 pub use splice::ArrayVecSplice;
-pub use tinyvec_slots::{ExtractIf, FromIterRest, NoMemory, NoRoom, SpliceRest};
+pub use tinyvec_slots::{CapacityError, ExtractIf, FromIterRest, NoMemory, NoRoom, SpliceRest};
 pub use try_from_slice_error::TryFromSliceError;

@@ -14,3 +14,4 @@ pub mod Drain
 pub mod Making
 pub mod Appends
 pub mod CutLaws
+pub mod SpliceLaws

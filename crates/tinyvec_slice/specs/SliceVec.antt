@@ -1,7 +1,7 @@
 -- What a contract sees of a vector in lent slots.
 use Rattle.std.specs.Prelude.{◌≡◌, ℕ, ◌-◌, ◌≤◌, List, length, drop}
 use Rattle.std.specs.Borrow.{GName, MutBor}
-use Rattle.tinyvec_slots.specs.Slots.{Slots, Vacates, items as items_in, spare as spare_in}
+use Rattle.tinyvec_slots.specs.Slots.{Slots, Vacates, SlotRule, items as items_in, spare as spare_in}
 use Rattle.tinyvec_slice.specs.declared.lent.Lent as Lent
 use Rattle.tinyvec_slice.specs.declared.slice_vec.GenericSliceVec.{GenericSliceVec}
 
@@ -62,6 +62,11 @@ module _ {B T : Type 0} (g : Lent.Ghosts B T) where
     pub lender : SameLender old new
     pub bound : len_of new ≤ len_of old
     pub spare : VacatesOf D (len_of old - len_of new) old new
+
+  -- new is over the slots of old, and the slot rule holds: the list lost items, or gained some, or neither
+  pub record Changes (D : T → Type 0) (old new : GenericSliceVec B T) : Type 0 where
+    pub lender : SameLender old new
+    pub slot_rule : SlotRule D (view_of old) (view_of new)
 
 -- The same words of a vector in a lent slice.
 module _ {T : Type 0} where

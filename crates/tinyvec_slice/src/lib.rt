@@ -2,6 +2,7 @@
 #![tactic(auto)]
 
 mod can_cut;
+mod can_splice;
 mod drain;
 mod lent;
 mod sealed;
@@ -10,4 +11,4 @@ mod slice_vec;
 pub use drain::{GenericSliceVecDrain, SliceVecDrain};
 pub use lent::Lent;
 pub use slice_vec::{GenericSliceVec, SliceVec};
-pub use tinyvec_slots::ExtractIf;
+pub use tinyvec_slots::{CapacityError, ExtractIf};

@@ -3,6 +3,7 @@
 
 mod can_cut;
 mod can_splice;
+mod capacity_error;
 mod extracting;
 mod filtering;
 mod gap;
@@ -19,6 +20,7 @@ mod tuned;
 
 pub use can_cut::CanCut;
 pub use can_splice::CanSplice;
+pub use capacity_error::CapacityError;
 pub use extracting::{ExtractIf, extract_if};
 pub use filtering::{dedup_by, dedup_by_key, pop_if, retain, retain_mut};
 pub use gap::Gap;

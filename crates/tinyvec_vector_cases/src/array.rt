@@ -77,17 +77,11 @@ impl<T: Item, A: Array<Item = T>> Vector for ArrayVec<A> {
 }
 
 fn take_out<T: Item, A: Array<Item = T>>(v: &mut ArrayVec<A>, cut: Cut, out: &mut String) -> Said {
-    cut!(v, cut, out,
-        Cut::PopAt(i) => say(out, &v.pop_at(i)),
-    )
+    cut!(v, cut, out)
 }
 
 fn put_in<T: Item, A: Array<Item = T>>(v: &mut ArrayVec<A>, put: Put<T>, out: &mut String) -> Said {
-    put_in_slots!(v, put, out,
-        Put::TryPush(x) => say(out, &v.try_push(x)),
-        Put::TryInsert(i, x) if i <= v.len() => say(out, &v.try_insert(i, x)),
-        _ => Err(Wrong::Place),
-    )
+    put_in_slots!(v, put, out)
 }
 
 fn append<T: Item, A: Array<Item = T>>(

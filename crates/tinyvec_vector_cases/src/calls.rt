@@ -20,9 +20,10 @@ macro_rules! needs {
 
 // Calls that take items out of any vector.
 macro_rules! cut {
-    ($v:ident, $cut:ident, $out:ident, $($arm:tt)*) => {
+    ($v:ident, $cut:ident, $out:ident) => {
         match $cut {
             Cut::Pop => say($out, &$v.pop()),
+            Cut::PopAt(i) => say($out, &$v.pop_at(i)),
             Cut::PopIf(mut closure, more) => {
                 say($out, &$v.pop_if(|x| closure.asks_and_adds(x, more)))?;
                 closure.say($out)
@@ -31,7 +32,6 @@ macro_rules! cut {
             Cut::SwapRemove(i) if i < $v.len() => say($out, &$v.swap_remove(i)),
             Cut::Truncate(n) => Ok($v.truncate(n)),
             Cut::Clear => Ok($v.clear()),
-            $($arm)*
             Cut::Remove(_) | Cut::SwapRemove(_) => Err(Wrong::Place),
         }
     };
@@ -67,7 +67,7 @@ macro_rules! lend_slots {
 
 // Calls that put an item into a vector in slots.
 macro_rules! put_in_slots {
-    ($v:ident, $put:ident, $out:ident, $($arm:tt)*) => {
+    ($v:ident, $put:ident, $out:ident) => {
         match $put {
             Put::Push(x) if !$v.is_full() => Ok($v.push(x)),
             Put::PushMut(x, y) if !$v.is_full() => tinyvec_rows::say_and_set($out, $v.push_mut(x), y),
@@ -75,7 +75,9 @@ macro_rules! put_in_slots {
             Put::InsertMut(i, x, y) if i <= $v.len() && !$v.is_full() => {
                 tinyvec_rows::say_and_set($out, $v.insert_mut(i, x), y)
             }
-            $($arm)*
+            Put::TryPush(x) => say($out, &$v.try_push(x)),
+            Put::TryInsert(i, x) if i <= $v.len() => say($out, &$v.try_insert(i, x)),
+            _ => Err(Wrong::Place),
         }
     };
 }
@@ -111,7 +113,7 @@ macro_rules! extend_slots {
     };
 }
 
-// Calls with a closure that keep items of a vector that owns them.
+// Calls that keep items of any vector.
 macro_rules! filter {
     ($v:ident, $filter:ident, $out:ident) => {
         match $filter {

@@ -1,11 +1,13 @@
 //! Rows of a `SliceVec`.
-use crate::calls::{cut, drain, extend_slots, lend_slots, needs, put_in_slots};
+use crate::calls::{cut, drain, extend_slots, filter, lend_slots, needs, put_in_slots};
 use crate::held::Copies;
 use crate::steps::{Steps, stepped};
 use crate::vector::Vector;
 use tinyvec::{GenericSliceVec, GenericSliceVecDrain, Lent, SliceVec};
 use tinyvec_rows::call::{Call, Cut, Extend, Filter, Lend, Pair, Put, Ranged};
-use tinyvec_rows::{Item, Said, Span, Step, Wrong, is_within, say, say_hint, say_list, say_slots};
+use tinyvec_rows::{
+    Item, Said, Span, Step, Wrong, done, is_within, say, say_hint, say_list, say_slots,
+};
 
 impl<'s, T: Item> Vector for SliceVec<'s, T> {
     type Item = T;
@@ -62,10 +64,7 @@ fn one<T: Item, B: Lent<Item = T>>(
         Call::Put(put) => put_in(v, put, out),
         Call::Extend(extend) => append(v, extend, out),
         Call::Ranged(ranged) => drain_part(v, ranged, out),
-        Call::Filter(Filter::Retain(mut closure)) => {
-            v.retain(|x| closure.asks(x));
-            closure.say(out)
-        }
+        Call::Filter(filter) => filter!(v, filter, out),
         _ => Err(Wrong::Call),
     }
 }
@@ -75,9 +74,7 @@ fn take_out<T: Item, B: Lent<Item = T>>(
     cut: Cut,
     out: &mut String,
 ) -> Said {
-    cut!(v, cut, out,
-        Cut::PopAt(_) => Err(Wrong::Call),
-    )
+    cut!(v, cut, out)
 }
 
 fn put_in<T: Item, B: Lent<Item = T>>(
@@ -85,10 +82,7 @@ fn put_in<T: Item, B: Lent<Item = T>>(
     put: Put<T>,
     out: &mut String,
 ) -> Said {
-    put_in_slots!(v, put, out,
-        Put::TryPush(_) | Put::TryInsert(_, _) => Err(Wrong::Call),
-        _ => Err(Wrong::Place),
-    )
+    put_in_slots!(v, put, out)
 }
 
 fn append<T: Item, B: Lent<Item = T>>(
@@ -132,7 +126,14 @@ fn extract_lent<T: Item, B: Lent<Item = T>, F: FnMut(&mut T) -> bool>(
     stepped(&mut v.extract_if(range, f), steps, out)
 }
 
-impl<'s, T: Item + Copy> Copies for SliceVec<'s, T> {}
+impl<'s, T: Item + Copy> Copies for SliceVec<'s, T> {
+    fn replace(&mut self, range: Span, items: &[T], out: &mut String) -> Said {
+        if !is_within(range, self.len()) {
+            return Err(Wrong::Place);
+        }
+        done(out, self.replace_range(range, items))
+    }
+}
 
 impl<'a, T: Item, B: Lent<Item = T>> Steps for GenericSliceVecDrain<'a, B> {
     ghost use Rattle.tinyvec_slice.specs.Drain.{DrainCanStep};

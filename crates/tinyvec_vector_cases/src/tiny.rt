@@ -89,9 +89,7 @@ impl<T: Item, A: Array<Item = T>> Vector for TinyVec<A> {
 }
 
 fn take_out<T: Item, A: Array<Item = T>>(v: &mut TinyVec<A>, cut: Cut, out: &mut String) -> Said {
-    cut!(v, cut, out,
-        Cut::PopAt(i) => say(out, &v.pop_at(i)),
-    )
+    cut!(v, cut, out)
 }
 
 fn look<T: Item, A: Array<Item = T>>(v: &mut TinyVec<A>, lend: Lend<T>, out: &mut String) -> Said {

@@ -4,7 +4,7 @@ use Rattle.tinyvec_slots.specs.Slots.{items as items_in, spare as spare_in}
 use Rattle.std.specs.Borrow.{MutBor}
 use Rattle.tinyvec_slice.specs.declared.lent.Lent as Lent
 use Rattle.tinyvec_slice.specs.declared.slice_vec.GenericSliceVec.{GenericSliceVec}
-use Rattle.tinyvec_slice.specs.SliceVec.{view, items, spare, name, view_of, items_of, spare_of, len_of, slots_of, name_of, SameLender, Gains, Loses, Grows, Shortens}
+use Rattle.tinyvec_slice.specs.SliceVec.{view, items, spare, name, view_of, items_of, spare_of, len_of, slots_of, name_of, SameLender, Gains, Loses, Grows, Shortens, Changes}
 use Rattle.tinyvec_slice.specs.CutLaws.{CutOf}
 use Rattle.tinyvec_examples.proofs.words.Shown.{D, over}
 
@@ -54,6 +54,9 @@ module _ {B : Type 0} (g : Lent.Ghosts B ℕ) (v : GenericSliceVec B ℕ) (lent 
 
   pub example-Shortens : (w : GenericSliceVec B ℕ) → Shortens g D v w → SameLender g v w
   example-Shortens w h = h.lender
+
+  pub example-Changes : (w : GenericSliceVec B ℕ) → Changes g D v w → SameLender g v w
+  example-Changes w h = h.lender
 
   pub example-CutOf : (w : GenericSliceVec B ℕ) → CutOf g D v w → name_of g w ≡ name_of g v
   example-CutOf w h = h.0

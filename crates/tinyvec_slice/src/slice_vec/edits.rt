@@ -1,13 +1,16 @@
 //! Items that are pushed, popped, inserted, removed and cut off.
-ghost use Rattle.std.specs.Prelude.{◌≡◌, ◌-◌, ◌<◌, ◌↔◌, [], ◌∷◌, ◌++◌, length, take, drop, slice_get, slice_index_or, IsSome, OnSome, IfNone, IfSome, ◌≤◌, remove, insert};
-ghost use Rattle.tinyvec_slice.specs.SliceVec.{items_of, spare_of, len_of, items, spare, SameLender, Gains, Loses};
+ghost use Rattle.std.specs.Prelude.{◌≡◌, ◌-◌, ◌<◌, ◌↔◌, [], ◌∷◌, ◌++◌, length, take, drop, slice_get, slice_index_or, IsSome, OnSome, IfNone, IfSome, ◌≤◌, ◌+◌, remove, insert, IsOk, OnOk, OnErr};
+ghost use Rattle.tinyvec_slice.specs.SliceVec.{items_of, spare_of, slots_of, len_of, items, spare, SameLender, Gains, Loses, Changes};
+ghost use Rattle.tinyvec_slots.specs.Ranges.{IsRangeOf, Within, before, after};
 ghost use Rattle.std.specs.Borrow.{sem};
 ghost use Rattle.std.specs.List.{swap_remove, SwappedAt};
 
-use crate::{GenericSliceVec, Lent, SliceVec};
+use crate::{CapacityError, GenericSliceVec, Lent, SliceVec};
 use std::mem;
+use std::ops::{Range, RangeBounds};
 use tinyvec_slots::{
-    fill_default, insert_shifting, last_to, prefers_shifting, remove_shifting, slot_of,
+    Gap, fill_default, insert_shifting, last_to, prefers_shifting, remove_shifting, resolve_range,
+    slot_of, splice_finish,
 };
 
 impl<B: Lent> GenericSliceVec<B> {
@@ -19,6 +22,19 @@ impl<B: Lent> GenericSliceVec<B> {
         let len = self.len();
         self.lent.all_mut()[len] = value;
         self.len = len + 1;
+    }
+
+    /// Appends `value`, or returns it if the vector is full.
+    pub fn try_push(&mut self, value: B::Item) -> Option<B::Item>
+        ensures variant { IsSome result ↔ (length (spare_of B.Lent self.old) ≡ 0) }
+        ensures refused { IfSome result (λ y. (y ≡ value) × (self.new ≡ self.old)) }
+        ensures becomes { IfNone result (Gains B.Lent 1 self.old self.new (items_of B.Lent self.old ++ value ∷ [])) }
+    {
+        if self.is_full() {
+            return Some(value);
+        }
+        self.push(value);
+        None
     }
 
     ghost use Rattle.tinyvec_slice.specs.Lends.{lends_pushed};
@@ -43,6 +59,20 @@ impl<B: Lent> GenericSliceVec<B> {
         ensures { Gains B.Lent 1 self.old self.new (insert (items_of B.Lent self.old) index element) }
     {
         self.put_in(index, element);
+    }
+
+    /// Inserts `element` at `index`, or returns it if the vector is full.
+    pub fn try_insert(&mut self, index: usize, element: B::Item) -> Option<B::Item>
+        requires { index ≤ len_of B.Lent self.old }
+        ensures variant { IsSome result ↔ (length (spare_of B.Lent self.old) ≡ 0) }
+        ensures refused { IfSome result (λ y. (y ≡ element) × (self.new ≡ self.old)) }
+        ensures becomes { IfNone result (Gains B.Lent 1 self.old self.new (insert (items_of B.Lent self.old) index element)) }
+    {
+        if self.is_full() {
+            return Some(element);
+        }
+        self.insert(index, element);
+        None
     }
 
     ghost use Rattle.tinyvec_slice.specs.Lends.{lends_inserted, inserted_at};
@@ -142,6 +172,20 @@ where
         self.take_last()
     }
 
+    /// Removes the item at `index` and returns it, or returns `None` if the list has no such item. The later ones move down.
+    pub fn pop_at(&mut self, index: usize) -> Option<B::Item>
+        ensures variant { IsSome result ↔ (index < len_of B.Lent self.old) }
+        ensures value { result ≡ slice_get (items_of B.Lent self.old) index }
+        ensures becomes { OnSome result (Loses B.Lent B.Item.is_default 1 self.old self.new
+            (remove (items_of B.Lent self.old) index)) }
+        ensures none { IfNone result (self.new ≡ self.old) }
+    {
+        if index >= self.len() {
+            return None;
+        }
+        Some(self.remove(index))
+    }
+
     /// Removes the item at `index` and returns it. The last one takes its place.
     pub fn swap_remove(&mut self, index: usize) -> B::Item
         requires { index < len_of B.Lent self.old }
@@ -176,6 +220,57 @@ where
         ensures { Loses B.Lent B.Item.is_default (len_of B.Lent self.old) self.old self.new [] }
     {
         self.truncate(0);
+    }
+}
+
+impl<B: Lent> GenericSliceVec<B>
+where
+    B::Item: Default,
+{
+    /// Puts copies of the slice's items in the place of the range, whose items it drops. If they don't fit, fails and
+    /// changes nothing.
+    ///
+    /// `not_exhausted` fails only for a `RangeInclusive` that was iterated to its end.
+    pub fn replace_range<R: RangeBounds<usize>>(
+        &mut self,
+        range: R,
+        replacement: &[B::Item],
+    ) -> Result<(), CapacityError>
+    where
+        B::Item: Copy,
+        requires not_exhausted { R.has_bounds range }
+        requires in_list { IsRangeOf (items_of B.Lent self.old) (R.start_bound range) (R.end_bound range) }
+        ensures variant { IsOk result ↔ (length (before (items_of B.Lent self.old) (R.start_bound range))
+            + length replacement.now + length (after (items_of B.Lent self.old) (R.end_bound range))
+            ≤ length (slots_of B.Lent self.old)) }
+        ensures items { OnOk result (items_of B.Lent self.new
+            ≡ before (items_of B.Lent self.old) (R.start_bound range) ++ replacement.now
+            ++ after (items_of B.Lent self.old) (R.end_bound range)) }
+        ensures changes { Changes B.Lent B.Item.is_default self.old self.new }
+        ensures refused { OnErr result (self.new ≡ self.old) }
+    {
+        let part = resolve_range(range, self.len());
+        let kept = self.len() - (part.end - part.start);
+        if replacement.len() > self.capacity() - kept {
+            return Err(CapacityError);
+        }
+        self.replace_part(part, replacement);
+        Ok(())
+    }
+
+    // `replace_range` of a list that has room.
+    fn replace_part(&mut self, part: Range<usize>, replacement: &[B::Item])
+    where
+        B::Item: Copy,
+        requires in_list { Within part.start part.end (len_of B.Lent self.old) }
+        requires room { length (take part.start (items_of B.Lent self.old)) + length replacement.now
+            + length (drop part.end (items_of B.Lent self.old)) ≤ length (slots_of B.Lent self.old) }
+        ensures items { items_of B.Lent self.new ≡ take part.start (items_of B.Lent self.old) ++ replacement.now
+            ++ drop part.end (items_of B.Lent self.old) }
+        ensures changes { Changes B.Lent B.Item.is_default self.old self.new }
+    {
+        let copies = replacement.iter().copied().fuse();
+        let (_all_fit, _touches) = splice_finish(self, Gap::new(part.start, part.end), copies);
     }
 }
 

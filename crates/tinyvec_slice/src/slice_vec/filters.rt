@@ -1,7 +1,8 @@
 //! Keeping some of the items. The loops are in `tinyvec_slots`, over `CanCut`, implemented in `can_cut.rt`.
 ghost use Rattle.std.specs.Prelude.{◌≡◌, ◌-◌, slice_get, Some};
-ghost use Rattle.std.specs.Fn.{CalledAt, FnOnceTakesAtMut};
-ghost use Rattle.std.specs.List.Retain.{IsFiltered, PopsIf};
+ghost use Rattle.std.specs.Fn.{FnOnceTakesAtMut, CalledAt, CalledAtMut, CalledAtPairMut, ComparesKeys};
+ghost use Rattle.std.specs.List.{dedup as dedup_list};
+ghost use Rattle.std.specs.List.Retain.{IsFiltered, RetainsInTurn, IsDeduped, PopsIf};
 ghost use Rattle.tinyvec_slots.specs.Ranges.{range_start, range_end, IsRangeOf};
 ghost use Rattle.tinyvec_slots.specs.Extracting.{Extracts};
 ghost use Rattle.tinyvec_slice.specs.SliceVec.{items_of, len_of, Shortens};
@@ -23,6 +24,46 @@ where
         ensures shorter { Shortens B.Lent B.Item.is_default self.old self.new }
     {
         tinyvec_slots::retain(self, &mut f);
+    }
+
+    /// Calls `f` on each item in turn, and keeps those for which it returns `true`, as it left them. A kept item is moved
+    /// at most once. The vacated slots precede the old spare slots.
+    pub fn retain_mut<F: FnMut(&mut B::Item) -> bool>(&mut self, mut f: F)
+        requires { F.IsAlwaysCallable f }
+        ensures filtered { RetainsInTurn (CalledAtMut F.FnMut) f (items_of B.Lent self.old) (items_of B.Lent self.new) }
+        ensures shorter { Shortens B.Lent B.Item.is_default self.old self.new }
+    {
+        tinyvec_slots::retain_mut(self, &mut f);
+    }
+
+    /// Removes each item that equals the last one kept. A kept item is moved at most once.
+    pub fn dedup(&mut self)
+    where
+        B::Item: PartialEq,
+        ensures items { items_of B.Lent self.new ≡ dedup_list B.Item.eq (items_of B.Lent self.old) }
+        ensures shorter { Shortens B.Lent B.Item.is_default self.old self.new }
+    {
+        self.dedup_by(|current, last| *current == *last);
+    }
+
+    /// Calls `same` on each item after the first and the last one kept, in this order, and removes the item if it returns
+    /// `true`. A kept item is moved at most once.
+    pub fn dedup_by<F: FnMut(&mut B::Item, &mut B::Item) -> bool>(&mut self, mut same: F)
+        requires { F.IsAlwaysCallable same }
+        ensures filtered { IsDeduped (CalledAtPairMut F.FnMut) same (items_of B.Lent self.old) (items_of B.Lent self.new) }
+        ensures shorter { Shortens B.Lent B.Item.is_default self.old self.new }
+    {
+        tinyvec_slots::dedup_by(self, &mut same);
+    }
+
+    /// Removes each item whose key equals that of the last one kept. The item's own key is computed first. A kept item is
+    /// moved at most once.
+    pub fn dedup_by_key<K: PartialEq + Drop, F: FnMut(&mut B::Item) -> K>(&mut self, mut key: F)
+        requires { F.IsAlwaysCallable key }
+        ensures filtered { IsDeduped (ComparesKeys F.FnMut K.eq) key (items_of B.Lent self.old) (items_of B.Lent self.new) }
+        ensures shorter { Shortens B.Lent B.Item.is_default self.old self.new }
+    {
+        tinyvec_slots::dedup_by_key(self, &mut key);
     }
 
     /// Calls `predicate` on the last item, and removes and returns the item if it returns `true`. Otherwise the item

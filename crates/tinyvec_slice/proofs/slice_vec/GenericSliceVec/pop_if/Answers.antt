@@ -1,15 +1,5 @@
-use Rattle.std.proofs.Common.{◌-◌, length, arith, rules}
-use Rattle.tinyvec_slice.specs.SliceVec.{items_of}
-use Rattle.tinyvec_slice.proofs.ViewLemmas.{vacated_count}
+use Rattle.tinyvec_slice.proofs.ViewLemmas.{shortened}
 use Rattle.tinyvec_slice.proofs.slice_vec.GenericSliceVec.pop_if.Goals as goal
 
 pub returns-clause-shorter : goal.returns-clause-shorter
-returns-clause-shorter g c =
-    let old = c.args.self.now in
-    let new = c.pop_if.new.vec in
-    let count = vacated_count g.B.Lent g.B.Item.Default.is_default old new (length (items_of g.B.Lent old) - length (items_of g.B.Lent new)) (omega (arith, c.pop_if.ensures.shorter.bound)) c.pop_if.ensures.shorter.cut.1.spare in
-    record {
-      lender = record { same_reference = search rules; slot_count = count };
-      bound = c.pop_if.ensures.shorter.bound;
-      spare = c.pop_if.ensures.shorter.cut.1.spare;
-    }
+returns-clause-shorter g c = shortened _ _ _ _ c.pop_if.ensures.shorter
