@@ -3,7 +3,7 @@ ghost use Rattle.std.specs.Prelude.{◌≡◌};
 ghost use Rattle.std.specs.IoError.{error_kind};
 ghost use Rattle.std.specs.declared.io.ErrorKind.TheVariants.{OutOfMemory};
 
-use std::alloc::AllocError;
+use std::alloc::{AllocError, AllocFailed};
 use std::io::Error;
 
 /// The allocator refused. The argument is returned.
@@ -23,5 +23,23 @@ impl<T: Drop> From<NoMemory<T>> for Error {
 
     fn from(_refused: NoMemory<T>) -> Self {
         Error::from(AllocError)
+    }
+}
+
+/// Keeps the argument.
+impl<T> From<NoMemory<T>> for AllocFailed<T> {
+    ghost from_gives = { λ refused failed. failed.value ≡ refused.0 };
+
+    fn from(refused: NoMemory<T>) -> Self {
+        AllocFailed { value: refused.0 }
+    }
+}
+
+/// Keeps the argument.
+impl<T> From<AllocFailed<T>> for NoMemory<T> {
+    ghost from_gives = { λ failed refused. refused.0 ≡ failed.value };
+
+    fn from(failed: AllocFailed<T>) -> Self {
+        NoMemory(failed.value)
     }
 }

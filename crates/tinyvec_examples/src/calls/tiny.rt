@@ -1,14 +1,14 @@
 //! Callers of a `TinyVec`.
-ghost use Rattle.std.specs.Prelude.{◌≡◌, ◌≢◌, ◌+◌, ◌-◌, ◌<◌, ◌≤◌, ◌∷◌, [], ◌++◌, ◌↔◌, length, take, insert, remove, pos, false, IsTrue, IsSome, IsOk, OnOk, OnErr, IfOk, IfSome, IfNone};
+ghost use Rattle.std.specs.Prelude.{◌≡◌, ◌≢◌, ◌+◌, ◌-◌, ◌<◌, ◌≤◌, ◌∷◌, [], ◌++◌, ◌↔◌, length, take, insert, remove, pos, false, IsTrue, IsSome, IsOk, OnOk, OnErr, IfOk, IfErr, IfSome, IfNone};
 ghost use Rattle.std.specs.Box.{boxed_slice_items};
 ghost use Rattle.tinyvec_array.specs.Slots.{items};
 ghost use Rattle.tinyvec.specs.TinyVec.{tiny_items, tiny_len, tiny_capacity, is_inline, IsInline, Unchanged};
 
-use std::alloc::{AllocError, Global};
+use std::alloc::{AllocError, AllocFailed, Global};
 use std::boxed::BoxedSlice;
 use std::default::MadeWith;
 use std::mem;
-use tinyvec::{Array, ArrayVec, TinyVec, TinyVecIterator};
+use tinyvec::{Array, ArrayVec, NoMemory, TinyVec, TinyVecIterator};
 
 /// The list of an `ArrayVec`, which may grow now.
 pub fn of_array_vec<A: Array>(alloc: Global, v: ArrayVec<A>) -> TinyVec<A>
@@ -289,6 +289,22 @@ pub fn made<A: Array>(alloc: Global) -> TinyVec<A>
     ensures { tiny_items result ≡ [] }
 {
     MadeWith::made_with(alloc)
+}
+
+/// The item that found no memory, as a `Vec` returns it.
+pub fn push_like_vec(v: &mut TinyVec<[u32; 4]>, x: u32) -> Result<(), AllocFailed<u32>>
+    ensures items { OnOk result (tiny_items v.new ≡ tiny_items v.old ++ x ∷ []) }
+    ensures value_returned { IfErr result (λ failed. failed.value ≡ x) }
+{
+    v.push(x)?;
+    Ok(())
+}
+
+/// A refused box, as a `TinyVec` returns an item.
+pub fn boxed(alloc: Global, x: u32) -> Result<Box<u32>, NoMemory<u32>>
+    ensures { IfErr result (λ refused. refused.0 ≡ x) }
+{
+    Ok(Box::new(alloc, x)?)
 }
 
 /// Room for `n` items, or for the list, is kept, and other room given back.
