@@ -23,4 +23,5 @@ pub mod splicing;
 pub mod tabs;
 pub mod tiny_splicing;
 pub mod tiny_vec;
+pub mod trees;
 pub mod writing;
