@@ -103,7 +103,7 @@ def refusal(name, _t, _operands):
     return {"into_string": "", "write_str": "Error", "write_pair": "Error"}.get(name, "AllocError")
 
 
-calls = Calls(OPERANDS, refusal, uncounted=["shrink_to_fit", "cmp"])
+calls = Calls(OPERANDS, refusal, uncounted=["shrink_to_fit", "shrink_to", "cmp"])
 
 
 def reserved(t, text):
@@ -122,6 +122,19 @@ def without(t, i):
     """Removes the character at `i`, and tells it."""
     letter = bytes(t.list[i:]).decode()[0]
     return t.puts(i, i + len(letter.encode()), "") or f"'{letter}'"
+
+
+def shrink_to(t, room):
+    wanted = max(len(t.list), room)
+    if t.is_inline or wanted <= t.slots:
+        return shrink_to_fit(t)
+    t.on_heap = min(t.on_heap, wanted)
+    return ""
+
+
+def taken(t):
+    """The text and its place, which are moved out."""
+    return f"{'inline' if t.is_inline else f'heap {t.on_heap}'} {told(t.text())}{t.made([])}"
 
 
 def from_utf8(t, new):
@@ -143,7 +156,8 @@ def compared(t, other):
 
 
 # What makes a text.
-calls("new")(lambda t: t.made([]))
+for name in ("new", "made_with"):
+    calls(name)(lambda t: t.made([]))
 calls("from_str T")(lambda t, text: t.made(list(text.encode())))
 calls("from_utf8_or_none SLOTS")(from_utf8)
 calls("with_capacity N")(lambda t, n: t.made([], room=n))
@@ -172,6 +186,8 @@ calls("retain_not C")(lambda t, letter: t.becomes(list(t.text().replace(letter, 
 calls("split_off B")(lambda t, i: part(t, i, i))
 calls("clone")(lambda t: part(t, 0))
 calls("shrink_to_fit")(shrink_to_fit)
+calls("shrink_to N")(shrink_to)
+calls("take")(taken)
 calls("into_bytes")(lambda t: Vector.state(t) + t.made([]))
 calls("into_string")(lambda t: into_vec(t, lambda t, room: f"({room}, {told(t.text())})"))
 

@@ -2,6 +2,7 @@
 use crate::text_call::{Append, Edit, Look, Make, Part, Show, TextCall};
 use std::alloc::AllocError;
 use std::convert::{AsSlice, AsStr};
+use std::default::MadeWith;
 use std::fmt::Write;
 use std::mem;
 use std::ops::Bound;
@@ -135,6 +136,7 @@ fn part<const N: usize>(t: &mut InlineText<N>, call: Part, out: &mut String) -> 
         Part::Clone => say_made(t.clone(), out),
         Part::SplitOff(n) if t.is_char_boundary(n) => say_made(t.split_off(n), out),
         Part::SplitOff(_) => Err(Wrong::Place),
+        Part::Take => say_made(mem::try_take(t), out),
         Part::IntoBytes => say_bytes(taken(t, out).into_bytes(), out),
         Part::IntoString => match taken(t, out).into_string() {
             Ok(text) => say(out, &(text.capacity(), text)),
@@ -171,6 +173,7 @@ fn remake<const N: usize>(t: &mut InlineText<N>, call: Make, out: &mut String) -
     let alloc = *out.allocator();
     let made = match call {
         Make::New => Ok(InlineText::new(alloc)),
+        Make::MadeWith => Ok(InlineText::made_with(alloc)),
         Make::FromStr(text) => InlineText::from_str(alloc, text.as_str()),
         Make::WithCapacity(room) => InlineText::with_capacity(alloc, room),
         Make::Collect(text) => text.as_str().chars().collect::<InlineText<N>>(alloc),
@@ -206,6 +209,7 @@ fn edit<const N: usize>(t: &mut InlineText<N>, call: Edit, out: &mut String) -> 
         Edit::Pop => say(out, &t.pop()),
         Edit::Clear => Ok(t.clear()),
         Edit::ShrinkToFit => Ok(t.shrink_to_fit()),
+        Edit::ShrinkTo(n) => Ok(t.shrink_to(n)),
         Edit::RetainNot(c) => Ok(t.retain(|x| x != c)),
         Edit::ReplaceRange(span, s) => replace(t, span, s.as_str(), out),
         Edit::Truncate(n) if t.is_char_boundary(n) => Ok(t.truncate(n)),

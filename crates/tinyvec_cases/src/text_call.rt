@@ -90,6 +90,7 @@ pub(crate) enum Part {
     SplitOff(usize),
     IntoBytes,
     IntoString,
+    Take,
 }
 
 impl Part {
@@ -99,6 +100,7 @@ impl Part {
             "split_off" => Part::SplitOff(words.index()?),
             "into_bytes" => Part::IntoBytes,
             "into_string" => Part::IntoString,
+            "take" => Part::Take,
             _ => return Ok(None),
         }))
     }
@@ -108,6 +110,7 @@ impl Part {
 #[derive(Drop)]
 pub(crate) enum Make {
     New,
+    MadeWith,
     FromStr(String),
     FromUtf8OrNone(Slots<u8>),
     WithCapacity(usize),
@@ -118,6 +121,7 @@ impl Make {
     fn read(name: &str, words: &mut Words<'_>) -> Result<Option<Make>, Wrong> {
         Ok(Some(match name {
             "new" => Make::New,
+            "made_with" => Make::MadeWith,
             "from_str" => Make::FromStr(words.text()?),
             "from_utf8_or_none" => Make::FromUtf8OrNone(words.slots()?),
             "with_capacity" => Make::WithCapacity(words.index()?),
@@ -164,6 +168,7 @@ pub(crate) enum Edit {
     Pop,
     Clear,
     ShrinkToFit,
+    ShrinkTo(usize),
     Truncate(usize),
     Remove(usize),
     Insert(usize, char),
@@ -178,6 +183,7 @@ impl Edit {
             "pop" => Ok(Edit::Pop),
             "clear" => Ok(Edit::Clear),
             "shrink_to_fit" => Ok(Edit::ShrinkToFit),
+            "shrink_to" => Ok(Edit::ShrinkTo(words.index()?)),
             "truncate" => Ok(Edit::Truncate(words.index()?)),
             "remove" => Ok(Edit::Remove(words.index()?)),
             "insert" => Ok(Edit::Insert(words.index()?, words.letter()?)),

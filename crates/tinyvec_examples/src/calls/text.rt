@@ -6,8 +6,9 @@ ghost use Rattle.tinyvec.specs.View.{lies_inline, capacity_in};
 ghost use Rattle.tinyvec_text.specs.InlineText.{text_chars, text_len, IsBoundary};
 
 use std::alloc::{AllocError, Global};
-use std::fmt;
+use std::default::MadeWith;
 use std::fmt::Write;
+use std::{fmt, mem};
 use tinyvec::{NoMemory, TinyVec};
 use tinyvec_text::{FromUtf8Error, InlineText};
 
@@ -200,6 +201,29 @@ pub fn packed(text: &mut InlineText<8>)
     ensures { IsTrue (lies_inline text.new.place) ↔ (text_len text.old ≤ 8) }
 {
     text.shrink_to_fit();
+}
+
+/// Room for `n` bytes, or for the text, is kept, and other room given back.
+pub fn with_less_room(text: &mut InlineText<8>, n: usize)
+    ensures text { text_chars text.new ≡ text_chars text.old }
+    ensures room { n ≤ capacity_in 8 text.old.place → n ≤ capacity_in 8 text.new.place }
+{
+    text.shrink_to(n);
+}
+
+/// The text, taken out. What is left is empty and in the value.
+pub fn taken(text: &mut InlineText<8>) -> Result<InlineText<8>, AllocError>
+    ensures taken { IfOk result (λ out. out ≡ text.old) }
+    ensures left { OnOk result ((text.new.bytes ≡ []) × IsTrue (lies_inline text.new.place)) }
+{
+    mem::try_take(text)
+}
+
+/// An empty text, by the trait that `or_default` of a map calls.
+pub fn made(alloc: Global) -> InlineText<8>
+    ensures { result.bytes ≡ [] }
+{
+    MadeWith::made_with(alloc)
 }
 
 /// The two sides of the first equals sign, as those of a `str`.
