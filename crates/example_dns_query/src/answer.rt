@@ -1,10 +1,11 @@
 //! The answer to a line.
-ghost use Rattle.std.specs.Prelude.{◌≡◌, ◌<◌, ◌++◌, ◌∷◌, [], IfOk, string_bytes};
-ghost use Rattle.example_dns_query.specs.Answer.{digit_of, hex_of};
+ghost use Rattle.std.specs.Prelude.{◌≡◌, ◌<◌, ◌++◌, ◌∷◌, [], OnOk, codes};
+ghost use Rattle.example_dns_query.specs.Answer.{digit_of, hex_of, line_error_text};
 
-use crate::line::answer_line;
+use crate::line::{LineError, answer_line};
 use example_lines::Answer;
 use std::alloc::{AllocError, Global};
+use std::mem;
 
 /// Answers each line by the query that it asks for, in hexadecimal, or says why there is none.
 #[derive(Clone, Copy)]
@@ -15,26 +16,39 @@ impl Answer for Encoder {
 
     ghost IsAnswer = { λ _ line text _. AnswersLine line text };
 
-    fn answer(&mut self, alloc: Global, line: &[u8]) -> Result<String, AllocError> {
+    fn answer(&mut self, alloc: Global, line: &[u8], text: &mut Vec<u8>) -> Result<(), AllocError> {
         let mut slice = [0; 512];
         match answer_line(&mut slice, line) {
-            Ok(len) => hex_line(alloc, &slice[..len]),
-            Err(error) => format!(in alloc; "error: {error}\n"),
+            Ok(len) => push_hex(alloc, text, &slice[..len]),
+            Err(error) => push_error(text, error),
         }
     }
 }
 
-// Two digits for each byte, and a line feed.
-fn hex_line(alloc: Global, bytes: &[u8]) -> Result<String, AllocError>
-    ensures { IfOk result (λ text. string_bytes text ≡ hex_of bytes.now ++ 10 ∷ []) }
+// Appends two digits for each byte, and a line feed.
+fn push_hex(alloc: Global, text: &mut Vec<u8>, bytes: &[u8]) -> Result<(), AllocError>
+    ensures { OnOk result (text.new.items ≡ text.old.items ++ (hex_of bytes.now ++ 10 ∷ [])) }
 {
-    let mut text = Vec::with_capacity(alloc, 2 * bytes.len() + 1)?;
+    text.reserve(2 * bytes.len() + 1)?;
+    // The length of a vector that is not lent stays in a register.
+    let mut digits = mem::replace(text, Vec::new(alloc));
     for byte in bytes {
-        text.push_reserved(hex_digit(*byte / 16));
-        text.push_reserved(hex_digit(*byte % 16));
+        digits.push_reserved(hex_digit(*byte / 16));
+        digits.push_reserved(hex_digit(*byte % 16));
     }
-    text.push_reserved(b'\n');
-    Ok(String::from_utf8(text).unwrap())
+    digits.push_reserved(b'\n');
+    *text = digits;
+    Ok(())
+}
+
+// Appends what is wrong with a line, and a line feed.
+fn push_error(text: &mut Vec<u8>, error: LineError) -> Result<(), AllocError>
+    ensures { OnOk result
+        (text.new.items ≡ text.old.items ++ (codes "error: " ++ (line_error_text error ++ 10 ∷ []))) }
+{
+    text.extend_from_slice(b"error: ")?;
+    text.extend_from_slice(error.text().as_bytes())?;
+    Ok(text.push(b'\n')?)
 }
 
 // The hexadecimal digit of a number below 16.

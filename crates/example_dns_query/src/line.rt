@@ -10,7 +10,7 @@ ghost use Rattle.example_dns_query.specs.declared.line.LineError.TheVariants.{Wo
 use crate::parts::first_part;
 use crate::query::{QueryError, write_query};
 use crate::record_type::RecordType;
-use std::{fmt, str};
+use std::str;
 
 /// Why there is no query for a line.
 #[derive(Clone, Copy, PartialEq, Debug)]
@@ -40,17 +40,6 @@ impl LineError {
             }
             LineError::Query(error) => error.text(),
         }
-    }
-}
-
-impl fmt::Display for LineError {
-    ghost use Rattle.std.specs.Prelude.{Some};
-    ghost use Rattle.example_dns_query.specs.Answer.{line_error_text};
-
-    ghost output = { λ error. Some (line_error_text error) };
-
-    fn fmt<W: fmt::Write>(&self, f: &mut fmt::Formatter<W>) -> fmt::Result {
-        f.write_str(self.text())
     }
 }
 

@@ -10,7 +10,6 @@ ghost use Rattle.example_dns_query.specs.declared.query.QueryError.TheVariants.{
 
 use crate::parts::first_part;
 use crate::record_type::{RecordType, code};
-use std::fmt;
 use tinyvec_slice::SliceVec;
 
 // Recursion is desired. There is one question, and no record in the three other sections.
@@ -51,16 +50,6 @@ impl QueryError {
             QueryError::LongName => "the name has more than 255 bytes on the wire",
             QueryError::Full => "the message does not fit the slice",
         }
-    }
-}
-
-impl fmt::Display for QueryError {
-    ghost use Rattle.example_dns_query.specs.Answer.{query_error_text};
-
-    ghost output = { λ error. Some (query_error_text error) };
-
-    fn fmt<W: fmt::Write>(&self, f: &mut fmt::Formatter<W>) -> fmt::Result {
-        f.write_str(self.text())
     }
 }
 
@@ -124,7 +113,12 @@ fn body_of(name: &[u8]) -> Option<&[u8]>
 fn are_printed(name: &[u8]) -> bool
     ensures { IsTrue result ↔ All IsPrinted name.now }
 {
-    name.iter().all(|byte| *byte >= 33 && *byte <= 126)
+    for byte in name {
+        if *byte < 33 || *byte > 126 {
+            return false;
+        }
+    }
+    true
 }
 
 // What is wrong with the first label that has no byte or more than 63.

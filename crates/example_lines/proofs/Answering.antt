@@ -1,12 +1,12 @@
 -- A text that is read and answered line by line.
-use Rattle.std.proofs.Common.{◌≡◌, ◌≢◌, ◌∙◌, ℕ, ◌<◌, List, [], ◌∷◌, ◌++◌, map, length, take, drop, get_or, suc, take-append-drop, drop-cons, Option, Result, Ok, Err, OnOk, ap, refl, sym, subst, arith, append_assoc, append-nil}
+use Rattle.std.proofs.Common.{◌≡◌, ◌≢◌, ◌∙◌, ℕ, ◌<◌, List, [], ◌∷◌, ◌++◌, map, length, Option, Result, Ok, Err, OnOk, ap, refl, sym, subst, arith, append_assoc, append-nil}
 use Rattle.std.specs.Str.Lines.{strip_carriage_return}
 use Rattle.std.proofs.lemmas.List.{map-append}
 use Rattle.std.proofs.lemmas.List.Elements.{All-nil}
 use Rattle.std.specs.Io.KnownBytes.{Appends}
 use Rattle.tinyvec_io.specs.Counted.{AppendsFront}
-use Rattle.tinyvec_io.specs.Lines.{last_line, Splits}
-use Rattle.tinyvec_io.proofs.LineLemmas.{Splits-line, Splits-byte, Splits-ended}
+use Rattle.tinyvec_io.specs.Lines.{IsLine, last_line, Splits}
+use Rattle.tinyvec_io.proofs.LineLemmas.{Splits-line, Splits-piece, Splits-ended}
 use Rattle.example_lines.specs.Answers.{Advances, AnswersEach, AnswersUpTo, IsAnswered}
 
 pub always_ok : {X E P : Type 0} (r : Result X E) → P → OnOk r P
@@ -17,11 +17,10 @@ always_ok (Err e) p = tt
 pub front_whole : (old new : Option (List ℕ)) (bytes : List ℕ) → Appends old new bytes → AppendsFront old new bytes
 front_whole old new bytes all = (bytes, [], sym (append-nil bytes), all)
 
--- bytes, around one of them
-pub around : (bytes : List ℕ) (i : ℕ) → i < length bytes → bytes ≡ (take i bytes ++ get_or bytes i 0 ∷ []) ++ drop (suc i) bytes
-around bytes i inside =
-    sym (take-append-drop i bytes) ∙ ap (λ rest. take i bytes ++ rest) (drop-cons bytes i 0 inside)
-    ∙ sym (append_assoc (take i bytes) (get_or bytes i 0 ∷ []) (drop (suc i) bytes))
+-- a line behind what was taken
+pub one_line_more : (bytes taken front after rest : List ℕ) → bytes ≡ taken ++ rest → rest ≡ front ++ 10 ∷ after → bytes ≡ (taken ++ (front ++ 10 ∷ [])) ++ after
+one_line_more bytes taken front after rest whole is =
+    whole ∙ ap (λ l. taken ++ l) (is ∙ sym (append_assoc front (10 ∷ []) after)) ∙ sym (append_assoc taken (front ++ 10 ∷ []) after)
 
 module _ {S : Type 0} (IsAnswer : S → List ℕ → List ℕ → S → Type 0) where
   answers_then : (a b c : S) (lines more : List (List ℕ)) (x y : List ℕ) → AnswersEach IsAnswer a lines x b → AnswersEach IsAnswer b more y c → AnswersEach IsAnswer a (lines ++ more) (x ++ y) c
@@ -59,13 +58,18 @@ module _ {S : Type 0} (IsAnswer : S → List ℕ → List ℕ → S → Type 0) 
       (subst (λ text. AnswersUpTo IsAnswer start ((input ++ bytes) ++ more) text z c) (append_assoc output said next)
       (second start (input ++ bytes) (output ++ said) (first start input output so_far)))
 
-  -- a byte that ends no line
-  pub advances_byte : (a : S) (line grown : List ℕ) (byte : ℕ) → byte ≢ 10 → grown ≡ line ++ byte ∷ [] → Advances IsAnswer a line (byte ∷ []) [] grown a
-  advances_byte a line grown byte inner is start input output so_far = record {
+  -- bytes that end no line
+  pub advances_piece : (a : S) (line piece grown : List ℕ) → IsLine piece → grown ≡ line ++ piece → Advances IsAnswer a line piece [] grown a
+  advances_piece a line piece grown inner is start input output so_far = record {
     all = so_far.all;
-    split = subst (Splits (input ++ byte ∷ []) so_far.all) (sym is) (Splits-byte input so_far.all line byte inner so_far.split);
+    split = subst (Splits (input ++ piece) so_far.all) (sym is) (Splits-piece input so_far.all line piece inner so_far.split);
     answers = subst (λ text. AnswersEach IsAnswer start (map strip_carriage_return so_far.all) text a) (sym (append-nil output)) so_far.answers;
   }
+
+  -- a piece, and the line feed that ends the line
+  pub advances_whole : (a b : S) (line grown front said next : List ℕ) → IsLine front → grown ≡ line ++ front → Advances IsAnswer a grown (10 ∷ []) said next b
+      → Advances IsAnswer a line (front ++ 10 ∷ []) said next b
+  advances_whole a b line grown front said next inner is ended = advances_then a a b line grown next front (10 ∷ []) [] said (advances_piece a line front grown inner is) ended
 
   -- a line feed
   pub advances_line : (a b : S) (line said next : List ℕ) → IsAnswer a (strip_carriage_return line) said b → next ≡ [] → Advances IsAnswer a line (10 ∷ []) said next b

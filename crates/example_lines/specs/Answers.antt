@@ -5,6 +5,10 @@ use Rattle.tinyvec_io.specs.Lines.{Splits, last_line}
 
 -- what answers, before and after a line, and the text of the answer
 module _ {S : Type 0} (IsAnswer : S → List ℕ → List ℕ → S → Type 0) where
+  -- the answer to the line follows what the text was before
+  abbrev pub AppendsAnswer : S → List ℕ → S → List ℕ → List ℕ → Type 0
+  AppendsAnswer before line after old new = (said : List ℕ) × (new ≡ old ++ said) × IsAnswer before line said after
+
   -- the text is an answer for each line, in order
   abbrev pub AnswersEach : S → List (List ℕ) → List ℕ → S → Type 0
   AnswersEach old [] text new = (text ≡ []) × (new ≡ old)

@@ -1,10 +1,10 @@
 //! A text that is answered line by line.
-ghost use Rattle.std.specs.Prelude.{◌≡◌, ◌⊎◌, ◌≤◌, ◌-◌, ◌^◌, ◌++◌, ◌∷◌, [], List, ℕ, length, IfOk, OnOk, IsErrOf, map, string_bytes};
+ghost use Rattle.std.specs.Prelude.{◌≡◌, ◌⊎◌, ◌≤◌, ◌-◌, ◌^◌, ◌++◌, ◌∷◌, [], List, ℕ, length, Err, IfSome, IfNone, OnOk, OnErr, IsErrOf, map};
 ghost use Rattle.std.specs.Io.KnownBytes.{Appends, Consumes, IsAtEnd, Keeps};
 ghost use Rattle.std.specs.Str.Lines.{strip_carriage_return};
 ghost use Rattle.tinyvec_io.specs.Counted.{AppendsFront, Reported};
-ghost use Rattle.tinyvec_io.specs.Lines.{last_line};
-ghost use Rattle.example_lines.specs.Answers.{Advances, AdvancesSome, AnsweredSome, AnswersEach, AnswersUpTo, IsAnswered};
+ghost use Rattle.tinyvec_io.specs.Lines.{IsLine, last_line};
+ghost use Rattle.example_lines.specs.Answers.{Advances, AdvancesSome, AnsweredSome, AnswersEach, AnswersUpTo, AppendsAnswer, IsAnswered};
 ghost use Rattle.std.specs.declared.io.Error.{Error as IoError};
 
 use crate::failure::Failure;
@@ -20,9 +20,9 @@ pub trait Answer {
     // What it is before a line, the line, the answer, and what it is after it.
     ghost IsAnswer: { Self → List ℕ → List ℕ → Self → Type 0 };
 
-    /// The answer to a line. The one error is that memory was refused.
-    fn answer(&mut self, alloc: Global, line: &[u8]) -> Result<String, AllocError>
-        ensures { IfOk result (λ text. IsAnswer self.old line.now (string_bytes text) self.new) };
+    /// Appends the answer to a line. The one error is that memory was refused.
+    fn answer(&mut self, alloc: Global, line: &[u8], text: &mut Vec<u8>) -> Result<(), AllocError>
+        ensures { OnOk result (AppendsAnswer IsAnswer self.old line.now self.new text.old.items text.new.items) };
 }
 
 /// Answers each line of the input. The answers to the lines that have come are written before more is waited for.
@@ -70,6 +70,7 @@ pub fn answer_lines<A: Answer, R: Read, W: Write>(
         × AnswersUpTo A.IsAnswer program.old input output line program.new }
 {
     let mut line = Vec::new(alloc);
+    let mut text = Vec::new(alloc);
     let mut chunk = [0; CHUNK];
     for _piece in 0..u64::MAX {
         flush(writer)?;
@@ -78,19 +79,27 @@ pub fn answer_lines<A: Answer, R: Read, W: Write>(
             Err(error) => return Err(Failure::Input(error)),
         };
         if count == 0 {
-            return finish(alloc, program, line.as_slice(), writer);
+            return finish(alloc, program, line.as_slice(), &mut text, writer);
         }
-        answer_chunk(alloc, program, &mut line, &chunk[..count], writer)?;
+        answer_chunk(
+            alloc,
+            program,
+            &mut line,
+            &chunk[..count],
+            &mut text,
+            writer,
+        )?;
     }
     Err(Failure::TooLong)
 }
 
-// Takes bytes of the input, and answers the lines that they end.
+// Takes bytes of the input, and answers the lines that they end. The memory of `text` is used for each answer.
 fn answer_chunk<A: Answer, W: Write>(
     alloc: Global,
     program: &mut A,
     line: &mut Vec<u8>,
     bytes: &[u8],
+    text: &mut Vec<u8>,
     writer: &mut Counted<W>,
 ) -> Result<(), Failure>
     ensures ok { OnOk result ((said : List ℕ) × Appends (W.contents writer.old.inner) (W.contents writer.new.inner) said
@@ -108,17 +117,38 @@ fn answer_chunk<A: Answer, W: Write>(
     ensures output_fault { (error : IoError) → IsErrOf result (Failure.Output error)
         → Reported writer.old.faults writer.new.faults }
 {
-    for byte in bytes {
+    let mut rest = bytes;
+    while let Some((front, after)) = split_line(rest) {
+        extend_line(line, front)?;
+        end_line(alloc, program, line, text, writer)?;
+        rest = after;
+    }
+    extend_line(line, rest)
+}
+
+// The bytes before the first line feed, and those after it.
+fn split_line(bytes: &[u8]) -> Option<(&[u8], &[u8])>
+    ensures whole { IfSome result (λ parts. bytes.now ≡ parts.0.now ++ 10 ∷ parts.1.now) }
+    ensures line { IfSome result (λ parts. IsLine parts.0.now) }
+    ensures none { IfNone result (IsLine bytes.now) }
+{
+    for (index, byte) in bytes.iter().enumerate() {
         if *byte == b'\n' {
-            end_line(alloc, program, line, writer)?;
-            continue;
-        }
-        match line.push(*byte) {
-            Ok(()) => {}
-            Err(_) => return Err(Failure::Memory),
+            return Some((&bytes[..index], &bytes[index + 1..]));
         }
     }
-    Ok(())
+    None
+}
+
+// Takes bytes of a line.
+fn extend_line(line: &mut Vec<u8>, piece: &[u8]) -> Result<(), Failure>
+    ensures ok { OnOk result (line.new.items ≡ line.old.items ++ piece.now) }
+    ensures memory { OnErr result (result ≡ Err Failure.Memory) }
+{
+    match line.extend_from_slice(piece) {
+        Ok(()) => Ok(()),
+        Err(_) => Err(Failure::Memory),
+    }
 }
 
 // Answers the line that a line feed ends, and begins the next. If memory is refused, nothing was written.
@@ -126,6 +156,7 @@ fn end_line<A: Answer, W: Write>(
     alloc: Global,
     program: &mut A,
     line: &mut Vec<u8>,
+    text: &mut Vec<u8>,
     writer: &mut Counted<W>,
 ) -> Result<(), Failure>
     ensures ok { OnOk result ((said : List ℕ) × Appends (W.contents writer.old.inner) (W.contents writer.new.inner) said
@@ -140,7 +171,7 @@ fn end_line<A: Answer, W: Write>(
     ensures output_fault { (error : IoError) → IsErrOf result (Failure.Output error)
         → Reported writer.old.faults writer.new.faults }
 {
-    match answer_line(alloc, program, line.as_slice(), writer) {
+    match answer_line(alloc, program, line.as_slice(), text, writer) {
         Ok(()) => {
             line.clear();
             Ok(())
@@ -154,24 +185,26 @@ fn answer_line<A: Answer, W: Write>(
     alloc: Global,
     program: &mut A,
     line: &[u8],
+    text: &mut Vec<u8>,
     writer: &mut Counted<W>,
 ) -> Result<(), Failure>
-    ensures ok { OnOk result ((text : List ℕ) × Appends (W.contents writer.old.inner) (W.contents writer.new.inner) text
-        × A.IsAnswer program.old (strip_carriage_return line.now) text program.new) }
+    ensures ok { OnOk result ((said : List ℕ) × Appends (W.contents writer.old.inner) (W.contents writer.new.inner) said
+        × A.IsAnswer program.old (strip_carriage_return line.now) said program.new) }
     ensures memory { IsErrOf result Failure.Memory → Keeps (W.contents writer.old.inner) (W.contents writer.new.inner) }
-    ensures output { (error : IoError) → IsErrOf result (Failure.Output error) → (text : List ℕ)
-        × AppendsFront (W.contents writer.old.inner) (W.contents writer.new.inner) text
-        × A.IsAnswer program.old (strip_carriage_return line.now) text program.new }
+    ensures output { (error : IoError) → IsErrOf result (Failure.Output error) → (said : List ℕ)
+        × AppendsFront (W.contents writer.old.inner) (W.contents writer.new.inner) said
+        × A.IsAnswer program.old (strip_carriage_return line.now) said program.new }
     ensures no_input { (error : IoError) → IsErrOf result (Failure.Input error) → ⊥ }
     ensures not_long { IsErrOf result Failure.TooLong → ⊥ }
     ensures faults_grow { writer.old.faults ≤ writer.new.faults }
     ensures output_fault { (error : IoError) → IsErrOf result (Failure.Output error)
         → Reported writer.old.faults writer.new.faults }
 {
-    let Ok(text) = program.answer(alloc, strip_return(line)) else {
+    text.clear();
+    let Ok(()) = program.answer(alloc, strip_return(line), text) else {
         return Err(Failure::Memory);
     };
-    match writer.write_all(text.as_bytes()) {
+    match writer.write_all(text.as_slice()) {
         Ok(()) => Ok(()),
         Err(error) => Err(Failure::Output(error)),
     }
@@ -192,6 +225,7 @@ fn finish<A: Answer, W: Write>(
     alloc: Global,
     program: &mut A,
     line: &[u8],
+    text: &mut Vec<u8>,
     writer: &mut Counted<W>,
 ) -> Result<(), Failure>
     ensures ok { OnOk result ((output : List ℕ) × Appends (W.contents writer.old.inner) (W.contents writer.new.inner) output
@@ -209,7 +243,7 @@ fn finish<A: Answer, W: Write>(
     if line.is_empty() {
         return flush(writer);
     }
-    match answer_line(alloc, program, line, writer) {
+    match answer_line(alloc, program, line, text, writer) {
         Ok(()) => flush(writer),
         Err(failure) => Err(failure),
     }

@@ -1,8 +1,8 @@
-use Rattle.std.proofs.Common.{◌≡◌, ◌∙◌, List, ℕ, [], ◌∷◌, ◌++◌, inl, inr, ap, sym, subst, take, length, rules}
-use Rattle.std.specs.Prelude.{replicate}
+use Rattle.std.proofs.Common.{◌≡◌, ◌∙◌, List, ℕ, [], ◌∷◌, ◌++◌, inl, inr, ap, refl, sym, subst, take, length, rules}
+use Rattle.std.specs.Prelude.{replicate, codes}
 use Rattle.std.proofs.lemmas.List.{take_at}
-use Rattle.std.proofs.lemmas.Result.{IfOk-weaker}
-use Rattle.example_dns_query.specs.Answer.{hex_of}
+use Rattle.std.proofs.lemmas.Result.{on_ok_weaker}
+use Rattle.example_dns_query.specs.Answer.{hex_of, line_error_text}
 use Rattle.example_dns_query.specs.Line.{HasLineFault}
 use Rattle.example_dns_query.proofs.LineFaults.{tells_line_fault}
 use Rattle.example_dns_query.proofs.answer.EncoderAnswer.answer.Goals as goal
@@ -11,7 +11,7 @@ pub returns-in-Ok : goal.returns-in-Ok
 returns-in-Ok c =
     let told = c.in-Ok.ensures.answers in
     let message : take c.in-Ok.len c.answer_line.new.slice ≡ told.message = ap (take c.in-Ok.len) told.written ∙ take_at told.message _ c.in-Ok.len (sym told.long) in
-    IfOk-weaker c.hex_line.result _ _ (λ text same. inl (told.message, told.asked, same ∙ ap (λ bytes. hex_of bytes ++ 10 ∷ []) message)) c.hex_line.ensures
+    on_ok_weaker c.push_hex.result (λ same. (_, same, inl (told.message, told.asked, ap (λ bytes. hex_of bytes ++ 10 ∷ []) message))) c.push_hex.ensures
 
 pub returns-in-Err : goal.returns-in-Err
 returns-in-Err c =
@@ -21,4 +21,4 @@ returns-in-Err c =
     let slots : List ℕ = replicate 512 0 in
     let room : length slots ≡ 512 = search rules in
     let fault = tells_line_fault line (length slots) c.answer_line.result told.query told.words told.number told.unknown_type error c.in-Err.is in
-    IfOk-weaker c.format.result _ _ (λ text same. inr (error, subst (λ n. HasLineFault line n error) room fault, same)) c.format.ensures.ok
+    on_ok_weaker c.push_error.result (λ same. (codes "error: " ++ (line_error_text error ++ 10 ∷ []), same, inr (error, subst (λ n. HasLineFault line n error) room fault, refl))) c.push_error.ensures

@@ -1,0 +1,7 @@
+use Rattle.std.proofs.Common.{take}
+use Rattle.std.specs.List.{All}
+use Rattle.example_dns_query.specs.Name.{IsPrinted}
+use Rattle.example_dns_query.proofs.query.are_printed.Given as goal
+
+abbrev pub invariant-loop-byte : goal.invariant-loop-byte
+invariant-loop-byte l = All IsPrinted (take l.byte-index l.name)
