@@ -48,8 +48,8 @@ INLINE = COPIED | {
     r"\bmade\.as_bytes\(\)": "made.as_str().as_bytes()",
 }
 NOT_INLINE = (
-    r"mod (extracting|form|growth|nodes|slices|splicing);|\bof_(arrays|extracts|forms|lists|nodes|slices|\w*splices)\b"
-    r"|of_texts::<R, (2|8|32)>"
+    r"mod (extracting|form|growth|nodes|slices|splicing|text_calls);"
+    r"|\bof_(arrays|extracts|forms|lists|nodes|slices|text_calls|\w*splices)\b|of_texts::<R, (2|8|32)>"
 )
 
 # std's `Vec` and `String`. What the others do in an array, they do on the heap.

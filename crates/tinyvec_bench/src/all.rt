@@ -10,6 +10,7 @@ use crate::rows::{of_bytes, of_copies, of_dedup, of_edits, of_few};
 use crate::slices::of_slices;
 use crate::spilling::{of_long, of_spilling};
 use crate::splicing::{of_spilling_splices, of_splices};
+use crate::text_calls::of_text_calls;
 use crate::texts::of_texts;
 use crate::vector::Place;
 use std::alloc::Global;
@@ -85,6 +86,8 @@ pub fn all_rows<R: Runtime>(report: &mut Report<'_, R>, alloc: Global) -> io::Re
     of_texts::<R, 8>(report, InlineText::new(alloc), alloc, 16);
     of_texts::<R, 32>(report, InlineText::new(alloc), alloc, 64);
     of_dates::<R, 64>(report, InlineText::new(alloc), alloc);
+    of_text_calls::<R, 128>(report, alloc, 64)?;
+    of_text_calls::<R, 16>(report, alloc, 1024)?;
     Ok(())
 }
 

@@ -23,6 +23,7 @@ mod slices;
 mod sources;
 mod spilling;
 mod splicing;
+mod text_calls;
 mod texts;
 mod tiny;
 mod vector;
