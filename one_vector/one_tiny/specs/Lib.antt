@@ -1,0 +1,2 @@
+pub mod TinyVec
+pub mod Lends
