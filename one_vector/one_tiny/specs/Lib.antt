@@ -1,2 +1,0 @@
-pub mod TinyVec
-pub mod Lends
