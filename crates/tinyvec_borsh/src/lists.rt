@@ -14,7 +14,8 @@ use std::alloc::Global;
 use std::io::{Read, Write};
 use tinyvec_io::Counted;
 
-// Writes the count of the items, and then the items.
+// Writes the count of the items, and then the items. Inlined, so that LLVM knows how many a vector holds at most.
+#[inline(always)]
 fn write_list<T: BorshSerialize, W: Write>(
     len: usize,
     items: &[T],
