@@ -11,7 +11,6 @@ mod fnv;
 mod form;
 mod growing;
 mod growth;
-mod nodes;
 mod number;
 mod peers;
 mod printing;

@@ -1,16 +1,13 @@
 //! Every row at every capacity, one call a line: `bench/kit.py` leaves out the lines of rows that other vectors lack.
 
 use crate::dates::of_dates;
-use crate::extracting::of_extracts;
 use crate::form::of_forms;
 use crate::growth::{of_arrays, of_lists};
-use crate::nodes::{Node, of_nodes};
 use crate::report::Report;
-use crate::rows::{of_bytes, of_copies, of_dedup, of_edits, of_few};
+use crate::rows::{of_bytes, of_copies, of_dedup, of_edits};
 use crate::slices::of_slices;
-use crate::spilling::{of_long, of_spilling};
+use crate::spilling::of_spilling;
 use crate::splicing::{of_spilling_splices, of_splices};
-use crate::text_calls::of_text_calls;
 use crate::texts::of_texts;
 use crate::vector::Place;
 use std::alloc::Global;
@@ -30,25 +27,10 @@ macro_rules! at_each_capacity {
     };
 }
 
-// Those of a list that fills a quarter of the slots. No other row has arrays of these lengths: LLVM may inline a function
-// otherwise if more rows call it.
-macro_rules! a_quarter_full {
-    ($report:expr, $alloc:expr, $vec:ident) => {
-        of_few::<R, $vec<[u64; 8]>, 8>($report, $alloc)?;
-        of_few::<R, $vec<[u64; 32]>, 32>($report, $alloc)?;
-    };
-}
-
 pub fn all_rows<R: Runtime>(report: &mut Report<'_, R>, alloc: Global) -> io::Result<()> {
     at_each_capacity!(report, alloc, Place::Inline, ArrayVec: of_edits[u64] of_copies[u64]);
     at_each_capacity!(report, alloc, Place::Inline, ArrayVec: of_bytes[u8]);
     at_each_capacity!(report, alloc, Place::Inline, ArrayVec: of_dedup[u64] of_splices[u64]);
-    at_each_capacity!(report, alloc, Place::Inline, ArrayVec: of_extracts[u64]);
-    report.set_prefix("few_");
-    a_quarter_full!(report, alloc, ArrayVec);
-    report.set_prefix("nodes_");
-    of_nodes::<R, ArrayVec<[Node; 4]>, 4>(report, alloc)?;
-    of_nodes::<R, ArrayVec<[Node; 16]>, 16>(report, alloc)?;
     report.set_prefix("slice_");
     of_slices::<R, 4>(report);
     of_slices::<R, 16>(report);
@@ -56,11 +38,6 @@ pub fn all_rows<R: Runtime>(report: &mut Report<'_, R>, alloc: Global) -> io::Re
     of_slices::<R, 1024>(report);
     report.set_prefix("tiny_");
     at_place(report, alloc, Place::Inline)?;
-    report.set_prefix("tiny_few_");
-    a_quarter_full!(report, alloc, TinyVec);
-    report.set_prefix("tiny_nodes_");
-    of_nodes::<R, TinyVec<[Node; 4]>, 4>(report, alloc)?;
-    of_nodes::<R, TinyVec<[Node; 16]>, 16>(report, alloc)?;
     report.set_prefix("tiny_heap_");
     at_place(report, alloc, Place::Heap)?;
     report.set_prefix("tiny_spill_");
@@ -72,10 +49,6 @@ pub fn all_rows<R: Runtime>(report: &mut Report<'_, R>, alloc: Global) -> io::Re
     of_spilling_splices::<R, 16>(report, alloc);
     of_spilling_splices::<R, 64>(report, alloc);
     of_spilling_splices::<R, 1024>(report, alloc);
-    report.set_prefix("tiny_long_");
-    of_long(report, alloc, 16);
-    of_long(report, alloc, 64);
-    of_long(report, alloc, 1024);
     report.set_prefix("");
     of_forms::<R, 16>(report, alloc);
     of_forms::<R, 1024>(report, alloc);
@@ -86,8 +59,6 @@ pub fn all_rows<R: Runtime>(report: &mut Report<'_, R>, alloc: Global) -> io::Re
     of_texts::<R, 8>(report, InlineText::new(alloc), alloc, 16);
     of_texts::<R, 32>(report, InlineText::new(alloc), alloc, 64);
     of_dates::<R, 64>(report, InlineText::new(alloc), alloc);
-    of_text_calls::<R, 128>(report, alloc, 64)?;
-    of_text_calls::<R, 16>(report, alloc, 1024)?;
     Ok(())
 }
 
@@ -96,7 +67,6 @@ fn at_place<R: Runtime>(report: &mut Report<'_, R>, alloc: Global, place: Place)
         report, alloc, place, TinyVec: of_edits[u64] of_dedup[u64] of_copies[u64] of_bytes[u8]
     );
     at_each_capacity!(report, alloc, place, TinyVec: of_splices[u64]);
-    at_each_capacity!(report, alloc, place, TinyVec: of_extracts[u64]);
     Ok(())
 }
 

@@ -1,6 +1,6 @@
 //! What the rows of a vector work on, and those of lists of any number.
 
-use crate::number::{Item, Number};
+use crate::number::Number;
 use crate::report::Bench;
 use crate::vector::{Place, Vector};
 use std::alloc::Global;
@@ -25,7 +25,7 @@ impl<V: Vector<u64, N>, const N: usize> Bench<Place> for ListBench<'_, u64, V, N
 /// What is done with lists of `u64`.
 #[derive(Clone, Copy)]
 pub enum Edit {
-    FillAndEmpty,
+    PushAndPop,
     InsertFront,
     InsertMiddle,
     RemoveFront,
@@ -34,7 +34,6 @@ pub enum Edit {
     TruncateAndRefill,
     ExtendFromSlice,
     Clone,
-    CloneByMatch,
     Sum,
 }
 
@@ -43,7 +42,7 @@ impl<V: Vector<u64, N>, const N: usize> Bench<Edit> for ListBench<'_, u64, V, N>
     fn round(&mut self, benchmark: Edit, x: u64) -> u64 {
         let source = &self.source;
         match benchmark {
-            Edit::FillAndEmpty => fill_and_empty(self.vec, x),
+            Edit::PushAndPop => push_and_pop(self.vec, x),
             Edit::InsertFront => insert_front(self.vec, x),
             Edit::InsertMiddle => insert_middle(self.vec, x),
             Edit::RemoveFront => remove_front(self.vec, x),
@@ -52,7 +51,6 @@ impl<V: Vector<u64, N>, const N: usize> Bench<Edit> for ListBench<'_, u64, V, N>
             Edit::TruncateAndRefill => truncate_and_refill(self.vec, x),
             Edit::ExtendFromSlice => extend_from_slice(self.vec, source, x),
             Edit::Clone => self.vec.last_of_clone(self.alloc, self.odd, x),
-            Edit::CloneByMatch => self.vec.last_of_match(self.alloc, self.odd, x),
             Edit::Sum => sum(self.vec, x),
         }
     }
@@ -61,7 +59,7 @@ impl<V: Vector<u64, N>, const N: usize> Bench<Edit> for ListBench<'_, u64, V, N>
 /// What is done with lists of `u8`, where the size of an item matters.
 #[derive(Clone, Copy)]
 pub enum ByteEdit {
-    FillAndEmpty,
+    PushAndPop,
     InsertFront,
     RemoveFront,
     ExtendFromSlice,
@@ -73,7 +71,7 @@ impl<V: Vector<u8, N>, const N: usize> Bench<ByteEdit> for ListBench<'_, u8, V, 
     #[inline(always)]
     fn round(&mut self, benchmark: ByteEdit, x: u64) -> u64 {
         match benchmark {
-            ByteEdit::FillAndEmpty => fill_and_empty(self.vec, x),
+            ByteEdit::PushAndPop => push_and_pop(self.vec, x),
             ByteEdit::InsertFront => insert_front(self.vec, x),
             ByteEdit::RemoveFront => remove_front(self.vec, x),
             ByteEdit::ExtendFromSlice => extend_from_slice(self.vec, &self.source, x),
@@ -83,30 +81,30 @@ impl<V: Vector<u8, N>, const N: usize> Bench<ByteEdit> for ListBench<'_, u8, V, 
     }
 }
 
-/// Pushes until there are `N` items, and pops until the vector is empty. In one function LLVM would see that the second
-/// takes back what the first did.
-#[inline(always)]
-pub fn fill_and_empty<T: Item, V: Vector<T, N>, const N: usize>(vec: &mut V, x: u64) -> u64 {
-    push_all(vec, x);
-    pop_all(vec)
+// Pushes until there are `N` items, and pops until the vector is empty.
+#[inline(never)]
+fn push_and_pop<T: Number, V: Vector<T, N>, const N: usize>(vec: &mut V, x: u64) -> u64 {
+    vec.empty();
+    push_until_full(vec, x);
+    pop_until_empty(vec)
 }
 
 /// Pushes from none until there are `N` items.
 #[inline(never)]
-pub fn push_all<T: Item, V: Vector<T, N>, const N: usize>(vec: &mut V, x: u64) -> u64 {
+pub fn push_all<T: Number, V: Vector<T, N>, const N: usize>(vec: &mut V, x: u64) -> u64 {
     vec.empty();
     push_until_full(vec, x)
 }
 
-/// Cuts the list to its first half, and pushes until there are `N` items.
+// Cuts the list to its first half, and pushes until there are `N` items.
 #[inline(never)]
-pub fn truncate_and_refill<T: Item, V: Vector<T, N>, const N: usize>(vec: &mut V, x: u64) -> u64 {
+fn truncate_and_refill<T: Number, V: Vector<T, N>, const N: usize>(vec: &mut V, x: u64) -> u64 {
     vec.truncate(N / 2);
     push_until_full(vec, x)
 }
 
 // Answers the number that would have come next.
-fn push_until_full<T: Item, V: Vector<T, N>, const N: usize>(vec: &mut V, x: u64) -> u64 {
+fn push_until_full<T: Number, V: Vector<T, N>, const N: usize>(vec: &mut V, x: u64) -> u64 {
     let mut next = x;
     while vec.len() < N {
         if !vec.push(T::of(next)) {
@@ -117,9 +115,8 @@ fn push_until_full<T: Item, V: Vector<T, N>, const N: usize>(vec: &mut V, x: u64
     next
 }
 
-// Pops until the vector is empty, and answers the sum.
-#[inline(never)]
-fn pop_all<T: Item, V: Vector<T, N>, const N: usize>(vec: &mut V) -> u64 {
+// Answers the sum.
+fn pop_until_empty<T: Number, V: Vector<T, N>, const N: usize>(vec: &mut V) -> u64 {
     let mut sum: u64 = 0;
     while let Some(y) = vec.pop() {
         sum = sum.wrapping_add(y.value());
@@ -127,9 +124,9 @@ fn pop_all<T: Item, V: Vector<T, N>, const N: usize>(vec: &mut V) -> u64 {
     sum
 }
 
-/// Pops an item, and inserts one in front.
+// Pops an item, and inserts one in front.
 #[inline(never)]
-pub fn insert_front<T: Item, V: Vector<T, N>, const N: usize>(vec: &mut V, x: u64) -> u64 {
+fn insert_front<T: Number, V: Vector<T, N>, const N: usize>(vec: &mut V, x: u64) -> u64 {
     let Some(last) = vec.pop() else {
         return 0;
     };
@@ -141,7 +138,7 @@ pub fn insert_front<T: Item, V: Vector<T, N>, const N: usize>(vec: &mut V, x: u6
 
 // Pops an item, and inserts one in the middle.
 #[inline(never)]
-fn insert_middle<T: Item, V: Vector<T, N>, const N: usize>(vec: &mut V, x: u64) -> u64 {
+fn insert_middle<T: Number, V: Vector<T, N>, const N: usize>(vec: &mut V, x: u64) -> u64 {
     let Some(last) = vec.pop() else {
         return 0;
     };
@@ -152,9 +149,9 @@ fn insert_middle<T: Item, V: Vector<T, N>, const N: usize>(vec: &mut V, x: u64) 
     last.value()
 }
 
-/// Removes the first item, and pushes one.
+// Removes the first item, and pushes one.
 #[inline(never)]
-pub fn remove_front<T: Item, V: Vector<T, N>, const N: usize>(vec: &mut V, x: u64) -> u64 {
+fn remove_front<T: Number, V: Vector<T, N>, const N: usize>(vec: &mut V, x: u64) -> u64 {
     if vec.len() == 0 {
         return 0;
     }
@@ -167,7 +164,7 @@ pub fn remove_front<T: Item, V: Vector<T, N>, const N: usize>(vec: &mut V, x: u6
 
 // Removes the item in the middle, and pushes one.
 #[inline(never)]
-fn remove_middle<T: Item, V: Vector<T, N>, const N: usize>(vec: &mut V, x: u64) -> u64 {
+fn remove_middle<T: Number, V: Vector<T, N>, const N: usize>(vec: &mut V, x: u64) -> u64 {
     if vec.len() == 0 {
         return 0;
     }
@@ -181,7 +178,7 @@ fn remove_middle<T: Item, V: Vector<T, N>, const N: usize>(vec: &mut V, x: u64) 
 
 // Swaps the item in the middle out, and pushes one.
 #[inline(never)]
-fn swap_remove<T: Item, V: Vector<T, N>, const N: usize>(vec: &mut V, x: u64) -> u64 {
+fn swap_remove<T: Number, V: Vector<T, N>, const N: usize>(vec: &mut V, x: u64) -> u64 {
     if vec.len() == 0 {
         return 0;
     }
@@ -195,7 +192,7 @@ fn swap_remove<T: Item, V: Vector<T, N>, const N: usize>(vec: &mut V, x: u64) ->
 
 /// Makes the list the items of `source`, by one copy.
 #[inline(never)]
-pub fn extend_from_slice<T: Item, V: Vector<T, N>, const N: usize>(
+pub fn extend_from_slice<T: Number, V: Vector<T, N>, const N: usize>(
     vec: &mut V,
     source: &[T],
     x: u64,
@@ -209,10 +206,10 @@ pub fn extend_from_slice<T: Item, V: Vector<T, N>, const N: usize>(
 
 // The sum of the items and `x`.
 #[inline(never)]
-fn sum<T: Item, V: Vector<T, N>, const N: usize>(vec: &V, x: u64) -> u64 {
+fn sum<T: Number, V: Vector<T, N>, const N: usize>(vec: &V, x: u64) -> u64 {
     let mut sum = x;
     for y in vec.as_slice() {
-        sum = sum.wrapping_add(y.value());
+        sum = sum.wrapping_add((*y).value());
     }
     sum
 }

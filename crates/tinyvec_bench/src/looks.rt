@@ -1,6 +1,6 @@
 //! The rows of vectors that are looked at as a whole, whichever they are.
 
-use crate::comparing::{compare, equal, hash, hash_key};
+use crate::comparing::{compare, equal, hash};
 use crate::printing::{Text, debug_print};
 use crate::report::{Bench, Report};
 use std::fmt;
@@ -13,7 +13,6 @@ pub enum Look {
     Equal,
     Compare,
     Hash,
-    HashKey,
     DebugPrint,
 }
 
@@ -32,7 +31,6 @@ impl<V: PartialOrd + Hash + fmt::Debug> Bench<Look> for LookBench<'_, '_, V> {
             Look::Equal => equal(self.vec, self.other, x),
             Look::Compare => compare(self.vec, self.other, x),
             Look::Hash => hash(self.vec, x),
-            Look::HashKey => hash_key(self.vec, x),
             Look::DebugPrint => debug_print(self.vec, self.text, x),
         }
     }

@@ -102,7 +102,6 @@ pub fn of_bytes<R: Runtime, V: Vector<u8, N>, const N: usize>(
         text: &mut text,
     };
     report.run("bytes_equal", N, Look::Equal, &mut look);
-    report.run("bytes_hash", N, Look::HashKey, &mut look);
     report.run("bytes_sum", N, ByteEdit::Sum, &mut list);
     Ok(())
 }
@@ -115,8 +114,11 @@ fn edits<R: Runtime, S: Bench<Cut> + Bench<Edit> + Bench<Place>>(
     place: Place,
     list: &mut S,
 ) {
-    made(report, n, place, list);
-    report.run("fill_and_empty", n, Edit::FillAndEmpty, list);
+    match place {
+        Place::Inline => report.run("two_pushes", n, Place::Inline, list),
+        Place::Heap => report.run("two_pushes", n, Place::Heap, list),
+    }
+    report.run("push_and_pop", n, Edit::PushAndPop, list);
     list.round(Edit::ExtendFromSlice, 0);
     report.run("insert_front", n, Edit::InsertFront, list);
     report.run("insert_middle", n, Edit::InsertMiddle, list);
@@ -130,28 +132,13 @@ fn edits<R: Runtime, S: Bench<Cut> + Bench<Edit> + Bench<Place>>(
     report.run("drain_dropped", n, Cut::DrainDropped, list);
 }
 
-// Of an array of 64 slots or more, most of the time goes into its defaults, and into the moves of the vector.
-fn made<R: Runtime, S: Bench<Place>>(
-    report: &mut Report<'_, R>,
-    n: usize,
-    place: Place,
-    list: &mut S,
-) {
-    let name = if n < 64 { "two_pushes" } else { "returned" };
-    match place {
-        Place::Inline => report.run(name, n, Place::Inline, list),
-        Place::Heap => report.run(name, n, Place::Heap, list),
-    }
-}
-
 fn copies<R: Runtime, S: Bench<Edit>>(report: &mut Report<'_, R>, n: usize, list: &mut S) {
     report.run("clone", n, Edit::Clone, list);
-    report.run("clone_by_match", n, Edit::CloneByMatch, list);
     report.run("sum", n, Edit::Sum, list);
 }
 
 fn byte_edits<R: Runtime, S: Bench<ByteEdit>>(report: &mut Report<'_, R>, n: usize, list: &mut S) {
-    report.run("bytes_fill_and_empty", n, ByteEdit::FillAndEmpty, list);
+    report.run("bytes_push_and_pop", n, ByteEdit::PushAndPop, list);
     list.round(ByteEdit::ExtendFromSlice, 0);
     report.run("bytes_insert_front", n, ByteEdit::InsertFront, list);
     report.run("bytes_remove_front", n, ByteEdit::RemoveFront, list);
@@ -162,36 +149,4 @@ fn byte_edits<R: Runtime, S: Bench<ByteEdit>>(report: &mut Report<'_, R>, n: usi
         list,
     );
     report.run("bytes_clone", n, ByteEdit::Clone, list);
-}
-
-/// The lists of `u64` that fill a quarter of the slots.
-pub fn of_few<R: Runtime, V: Words<N>, const N: usize>(
-    report: &mut Report<'_, R>,
-    alloc: Global,
-) -> io::Result<()>
-    requires { N * 64 < 2 ^ 63 }
-{
-    let source = scattered::<u64, N>();
-    let few = &source[..N / 4];
-    let mut list = ListBench {
-        alloc,
-        vec: &mut V::placed(alloc, Place::Inline, few)?,
-        odd: &V::placed(alloc, Place::Inline, &pairs::<N>()[..N / 4])?,
-        source,
-    };
-    few_edits(report, N, &mut list);
-    let vec = V::placed(alloc, Place::Inline, few)?;
-    let same = V::placed(alloc, Place::Inline, few)?;
-    let higher = higher_at(source, (N / 4).saturating_sub(1));
-    let last_higher = V::placed(alloc, Place::Inline, &higher[..N / 4])?;
-    looks(report, N, &vec, &same, &last_higher, None);
-    Ok(())
-}
-
-fn few_edits<R: Runtime, S: Bench<Edit>>(report: &mut Report<'_, R>, n: usize, list: &mut S) {
-    report.run("insert_front", n, Edit::InsertFront, list);
-    report.run("insert_middle", n, Edit::InsertMiddle, list);
-    report.run("remove_front", n, Edit::RemoveFront, list);
-    report.run("swap_remove", n, Edit::SwapRemove, list);
-    copies(report, n, list);
 }

@@ -3,7 +3,6 @@ ghost use Rattle.std.specs.Prelude.{◌*◌, ◌^◌, ◌<◌};
 
 use crate::report::{Bench, Report};
 use crate::sources::scattered;
-use crate::vector::Vector;
 use std::alloc::{AllocError, Global};
 use std::rt::Runtime;
 use tinyvec::TinyVec;
@@ -16,20 +15,16 @@ pub enum Spill {
     ExtendFromRange,
     ReserveAndExtend,
     ExtendExactSize,
-    FromIter,
-    Collect,
-    Clone,
     Append,
     InsertFront,
     InsertMiddle,
     Resize,
 }
 
-/// How many numbers the lists get, what they are filled with, and one that is appended or cloned.
+/// What the lists are filled with, and one that is appended.
 #[derive(Drop)]
 pub struct SpillBench<const N: usize> {
     pub alloc: Global,
-    pub count: usize,
     pub other: TinyVec<[u64; N]>,
     pub source: [u64; N],
 }
@@ -37,30 +32,28 @@ pub struct SpillBench<const N: usize> {
 impl<const N: usize> Bench<Spill> for SpillBench<N> {
     #[inline(always)]
     fn round(&mut self, benchmark: Spill, x: u64) -> u64 {
-        let count = self.count;
+        let count = N as u64;
+        let twice = count.saturating_add(count);
         match benchmark {
-            Spill::Push => push::<N>(self.alloc, &self.other, count as u64, x),
+            Spill::Push => push::<N>(self.alloc, &self.other, twice, x),
             Spill::ExtendFromSlice => extend_from_slice(self.alloc, &self.other, &self.source, x),
-            Spill::ExtendFromRange => extend_from_range::<N>(
-                self.alloc,
-                &self.other,
-                count as u64,
-                x,
-            ),
-            Spill::ReserveAndExtend => reserve_and_extend::<N>(self.alloc, &self.other, count, x),
-            Spill::ExtendExactSize => extend_exact_size::<N>(self.alloc, &self.other, count, x),
-            Spill::FromIter => from_iter::<N>(self.alloc, &self.other, count as u64, x),
-            Spill::Collect => collect::<N>(self.alloc, &self.other, count as u64, x),
-            Spill::Clone => Vector::<u64, N>::last_of_clone(
-                &self.other,
-                self.alloc,
-                &self.other,
-                x,
-            ),
+            Spill::ExtendFromRange => extend_from_range::<N>(self.alloc, &self.other, twice, x),
+            Spill::ReserveAndExtend => {
+                reserve_and_extend::<N>(self.alloc, &self.other, N.saturating_add(N), x)
+            }
+            Spill::ExtendExactSize => {
+                extend_exact_size::<N>(self.alloc, &self.other, N.saturating_add(N), x)
+            }
             Spill::Append => append(self.alloc, &mut self.other, &self.source, x),
             Spill::InsertFront => insert(self.alloc, &self.other, &self.source, 0, x),
             Spill::InsertMiddle => insert(self.alloc, &self.other, &self.source, N / 2, x),
-            Spill::Resize => resize(self.alloc, &self.other, &self.source, count, x),
+            Spill::Resize => resize(
+                self.alloc,
+                &self.other,
+                &self.source,
+                N.saturating_add(N),
+                x,
+            ),
         }
     }
 }
@@ -72,39 +65,18 @@ pub fn of_spilling<R: Runtime, const N: usize>(report: &mut Report<'_, R>, alloc
     let source = scattered::<u64, N>();
     let mut list = SpillBench {
         alloc,
-        count: N.saturating_add(N),
         other: TinyVec::new(alloc),
         source,
     };
-    grown(report, N, &mut list);
+    report.run("push", N, Spill::Push, &mut list);
     report.run("extend_from_slice", N, Spill::ExtendFromSlice, &mut list);
+    report.run("extend_from_range", N, Spill::ExtendFromRange, &mut list);
+    report.run("reserve_and_extend", N, Spill::ReserveAndExtend, &mut list);
+    report.run("extend_exact_size", N, Spill::ExtendExactSize, &mut list);
     report.run("append", N, Spill::Append, &mut list);
     report.run("insert_front", N, Spill::InsertFront, &mut list);
     report.run("insert_middle", N, Spill::InsertMiddle, &mut list);
     report.run("resize", N, Spill::Resize, &mut list);
-}
-
-/// Lists of this many numbers out of four slots.
-pub fn of_long<R: Runtime>(report: &mut Report<'_, R>, alloc: Global, n: usize) {
-    let mut list = SpillBench::<4> {
-        alloc,
-        count: n,
-        other: TinyVec::new(alloc),
-        source: [0; 4],
-    };
-    grown(report, n, &mut list);
-    if list.other.extend(0..n as u64).is_ok() {
-        report.run("clone", n, Spill::Clone, &mut list);
-    }
-}
-
-fn grown<R: Runtime, S: Bench<Spill>>(report: &mut Report<'_, R>, n: usize, list: &mut S) {
-    report.run("push", n, Spill::Push, list);
-    report.run("extend_from_range", n, Spill::ExtendFromRange, list);
-    report.run("reserve_and_extend", n, Spill::ReserveAndExtend, list);
-    report.run("extend_exact_size", n, Spill::ExtendExactSize, list);
-    report.run("from_iter", n, Spill::FromIter, list);
-    report.run("collect", n, Spill::Collect, list);
 }
 
 /// Pushes `count` numbers to a list over as many slots as `_like`.
@@ -202,26 +174,6 @@ fn extend_exact_size<const N: usize>(
     let start = (x % 65536) as usize;
     match vec.extend_exact_size((start..start.saturating_add(count)).map(|k| k as u64)) {
         Ok(()) => look_at(vec.as_slice(), x),
-        Err(_) => 0,
-    }
-}
-
-// The same numbers, by the call of the list.
-#[inline(never)]
-fn from_iter<const N: usize>(alloc: Global, _like: &TinyVec<[u64; N]>, count: u64, x: u64) -> u64 {
-    let start = x % 65536;
-    match TinyVec::<[u64; N]>::from_iter(alloc, start..start.saturating_add(count)) {
-        Ok(vec) => look_at(vec.as_slice(), x),
-        Err(_) => 0,
-    }
-}
-
-// The same numbers, by that of the iterator.
-#[inline(never)]
-fn collect<const N: usize>(alloc: Global, _like: &TinyVec<[u64; N]>, count: u64, x: u64) -> u64 {
-    let start = x % 65536;
-    match (start..start.saturating_add(count)).collect::<TinyVec<[u64; N]>>(alloc) {
-        Ok(vec) => look_at(vec.as_slice(), x),
         Err(_) => 0,
     }
 }

@@ -17,8 +17,6 @@ enum Share {
     AsMany,
     Fewer,
     More,
-    /// More numbers of a slice, by `replace_range`.
-    Slice,
 }
 
 impl<V: Words<N>, const N: usize> Bench<Share> for ListBench<'_, u64, V, N> {
@@ -29,7 +27,6 @@ impl<V: Words<N>, const N: usize> Bench<Share> for ListBench<'_, u64, V, N> {
             Share::AsMany => splice(self.vec, source, N as u64 / 4, x),
             Share::Fewer => splice(self.vec, source, N as u64 / 8, x),
             Share::More => splice(self.vec, source, N as u64 / 2, x),
-            Share::Slice => replace_range(self.vec, source, x),
         }
     }
 }
@@ -64,7 +61,6 @@ pub fn of_splices<R: Runtime, V: Words<N>, const N: usize>(
     report.run("splice_as_many", N, Share::AsMany, &mut list);
     report.run("splice_fewer", N, Share::Fewer, &mut list);
     report.run("splice_more", N, Share::More, &mut list);
-    report.run("replace_range", N, Share::Slice, &mut list);
     Ok(())
 }
 
@@ -75,7 +71,6 @@ pub fn of_spilling_splices<R: Runtime, const N: usize>(report: &mut Report<'_, R
     let source = scattered::<u64, N>();
     let mut list = SpillBench {
         alloc,
-        count: N,
         other: TinyVec::new(alloc),
         source,
     };
@@ -88,21 +83,6 @@ pub fn splice<V: Words<N>, const N: usize>(vec: &mut V, source: &[u64], count: u
     let quarter = source.len() / 4;
     extend_from_slice(vec, &source[..3 * quarter], x);
     if vec.len() < 2 * quarter || !vec.splice(quarter, 2 * quarter, count) {
-        return 0;
-    }
-    x.wrapping_add(vec.len() as u64)
-}
-
-// The same, by the numbers of the second half of `source`.
-#[inline(never)]
-fn replace_range<V: Words<N>, const N: usize>(vec: &mut V, source: &[u64], x: u64) -> u64 {
-    let quarter = source.len() / 4;
-    extend_from_slice(vec, &source[..3 * quarter], x);
-    if vec.len() < 2 * quarter {
-        return 0;
-    }
-    let numbers = &source[2 * quarter..];
-    if !vec.replace_range(quarter, 2 * quarter, numbers) {
         return 0;
     }
     x.wrapping_add(vec.len() as u64)

@@ -1,13 +1,13 @@
 //! The calls of a `TinyVec`.
 ghost use Rattle.std.specs.Prelude.{⊤};
 
-use crate::number::{Item, is_odd, last};
+use crate::number::{Number, is_odd, last};
 use crate::vector::{Place, Vector, Words};
 use std::alloc::{AllocError, Global};
 use std::ops::Range;
 use tinyvec::TinyVec;
 
-impl<T: Item, const N: usize> Vector<T, N> for TinyVec<[T; N]> {
+impl<T: Number, const N: usize> Vector<T, N> for TinyVec<[T; N]> {
     ghost has_room = { λ _. ⊤ };
 
     #[inline(always)]
@@ -15,7 +15,7 @@ impl<T: Item, const N: usize> Vector<T, N> for TinyVec<[T; N]> {
         let mut vec = TinyVec::new(alloc);
         vec.reserve(items.len())?;
         for item in items {
-            if vec.push(T::of(item.value())).is_err() {
+            if vec.push(*item).is_err() {
                 return Err(AllocError);
             }
         }
@@ -37,11 +37,6 @@ impl<T: Item, const N: usize> Vector<T, N> for TinyVec<[T; N]> {
     #[inline(always)]
     fn last_of_clone(&self, alloc: Global, odd: &Self, x: u64) -> u64 {
         last(clone_of::<T, N>(alloc, self, odd, x).as_slice())
-    }
-
-    #[inline(always)]
-    fn last_of_match(&self, alloc: Global, odd: &Self, x: u64) -> u64 {
-        last(match_of::<T, N>(alloc, self, odd, x).as_slice())
     }
 
     #[inline(always)]
@@ -127,16 +122,11 @@ impl<const N: usize> Words<N> for TinyVec<[u64; N]> {
     fn splice(&mut self, start: usize, end: usize, count: u64) -> bool {
         self.splice(start..end, 0..count).finish().is_ok()
     }
-
-    #[inline(always)]
-    fn replace_range(&mut self, start: usize, end: usize, numbers: &[u64]) -> bool {
-        self.replace_range(start..end, numbers).is_ok()
-    }
 }
 
 // A new vector as long as `_like`, and two pushes.
 #[inline(never)]
-fn two_pushes<T: Item, const N: usize>(
+fn two_pushes<T: Number, const N: usize>(
     alloc: Global,
     _like: &TinyVec<[T; N]>,
     x: u64,
@@ -149,7 +139,7 @@ fn two_pushes<T: Item, const N: usize>(
 
 // A new vector as long as `_like` with room on the heap, and two pushes.
 #[inline(never)]
-fn two_pushes_on_heap<T: Item, const N: usize>(
+fn two_pushes_on_heap<T: Number, const N: usize>(
     alloc: Global,
     _like: &TinyVec<[T; N]>,
     x: u64,
@@ -164,7 +154,7 @@ fn two_pushes_on_heap<T: Item, const N: usize>(
 
 // A clone of the one or the other, as `x` is even or odd.
 #[inline(never)]
-fn clone_of<T: Item, const N: usize>(
+fn clone_of<T: Number, const N: usize>(
     alloc: Global,
     even: &TinyVec<[T; N]>,
     odd: &TinyVec<[T; N]>,
@@ -175,19 +165,4 @@ fn clone_of<T: Item, const N: usize>(
         return TinyVec::new(alloc);
     };
     copy
-}
-
-// The same, by a `match` of both results.
-#[inline(never)]
-fn match_of<T: Item, const N: usize>(
-    alloc: Global,
-    even: &TinyVec<[T; N]>,
-    odd: &TinyVec<[T; N]>,
-    x: u64,
-) -> TinyVec<[T; N]> {
-    let vec = if x % 2 == 0 { even } else { odd };
-    match vec.clone() {
-        Ok(copy) => copy,
-        Err(_) => TinyVec::new(alloc),
-    }
 }

@@ -2,7 +2,7 @@
 ghost use Rattle.std.specs.Prelude.{◌≡◌, ◌+◌, ◌<◌, ◌≤◌, length, OnSome};
 ghost use Rattle.std.specs.Bool.{OnTrue};
 
-use crate::number::Item;
+use crate::number::Number;
 use std::alloc::{AllocError, Global};
 use std::convert::AsSlice;
 use std::fmt::Debug;
@@ -17,21 +17,18 @@ pub enum Place {
 }
 
 /// The calls of a vector over `N` slots.
-pub trait Vector<T: Item, const N: usize>: AsSlice<T> + Debug + Drop + Hash + PartialOrd {
+pub trait Vector<T: Number, const N: usize>: AsSlice<T> + Debug + Drop + Hash + PartialOrd {
     /// Whether an item may be pushed. A vector that grows always has room.
     ghost has_room: { Self → Type 0 };
 
     /// A vector of the items, at this place. An array must have a slot for each.
     fn placed(alloc: Global, place: Place, items: &[T]) -> Result<Self, AllocError>;
 
-    /// The last number of the vector that the rows `two_pushes` and `returned` make. A generic row would copy that vector.
+    /// The last number of the vector that the row `two_pushes` makes. A generic row would copy that vector.
     fn last_of_two_pushes(&self, alloc: Global, place: Place, x: u64) -> u64;
 
     /// That of the vector that the row `clone` makes.
     fn last_of_clone(&self, alloc: Global, odd: &Self, x: u64) -> u64;
-
-    /// That of the vector that the row `clone_by_match` makes.
-    fn last_of_match(&self, alloc: Global, odd: &Self, x: u64) -> u64;
 
     fn len(&self) -> usize
         ensures value { result ≡ length (Self.items self.now) }
@@ -89,11 +86,6 @@ pub trait Words<const N: usize>: Vector<u64, N> {
 
     /// Puts `count` numbers in the place of a part.
     fn splice(&mut self, start: usize, end: usize, count: u64) -> bool
-        requires start_le_end { start ≤ end }
-        requires in_bounds { end ≤ length (Self.items self.old) };
-
-    /// Puts the numbers in the place of a part.
-    fn replace_range(&mut self, start: usize, end: usize, numbers: &[u64]) -> bool
         requires start_le_end { start ≤ end }
         requires in_bounds { end ≤ length (Self.items self.old) };
 }
