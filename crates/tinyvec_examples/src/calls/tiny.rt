@@ -301,7 +301,7 @@ pub fn push_like_vec(v: &mut TinyVec<[u32; 4]>, x: u32) -> Result<(), AllocFaile
 }
 
 /// A refused box, as a `TinyVec` returns an item.
-pub fn boxed(alloc: Global, x: u32) -> Result<Box<u32>, NoMemory<u32>>
+pub fn in_a_box(alloc: Global, x: u32) -> Result<Box<u32>, NoMemory<u32>>
     ensures { IfErr result (λ refused. refused.0 ≡ x) }
 {
     Ok(Box::new(alloc, x)?)
