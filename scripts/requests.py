@@ -67,5 +67,5 @@ def shown_by_rows():
         for chain in rows.read_file(path):
             kind = re.split(r"[<\[ ]", chain.kind)[0]
             names = {call.split(" ")[0] for _, call, wanted in chain.calls if wanted.endswith("; 0 requests")}
-            shown |= {(it, name) for it in {"streams": ("Counted", "BorshSerialize")}.get(kind, (kind,)) for name in names}
+            shown |= {(it, name) for it in {"streams": ("Counted", "BorshSerialize", "BorshError")}.get(kind, (kind,)) for name in names}
     return shown

@@ -15,9 +15,10 @@ use crate::gathered::Gathered;
 use crate::line::Line;
 use crate::vectors::Vectors;
 use std::alloc::Global;
+use std::error;
+use std::fmt;
 use std::io;
 use std::io::{Read, Write};
-use thiserror::Error;
 use tinyvec::{ArrayVec, Lent, SliceVec, TinyVec};
 use tinyvec_io::Counted;
 use tinyvec_text::InlineText;
@@ -26,18 +27,27 @@ use tinyvec_text::InlineText;
 const CHUNK: usize = 4096;
 
 /// Why a script ended before its input.
-#[derive(Debug, Error, Drop)]
+#[derive(Debug, Drop)]
 pub enum RunError {
     /// The reader failed.
-    #[error("cannot read input: {0}")]
     Read(io::Error),
     /// The writer failed.
-    #[error("cannot write output: {0}")]
     Write(io::Error),
     /// `u64::MAX` bytes were read, and the input goes on.
-    #[error("cannot read input: input too long")]
     TooLong,
 }
+
+impl fmt::Display for RunError {
+    fn fmt<W: fmt::Write>(&self, f: &mut fmt::Formatter<W>) -> fmt::Result {
+        match self {
+            RunError::Read(error) => write!(f, "cannot read input: {error}"),
+            RunError::Write(error) => write!(f, "cannot write output: {error}"),
+            RunError::TooLong => f.write_str("cannot read input: input too long"),
+        }
+    }
+}
+
+impl error::Error for RunError {}
 
 /// Reads lines, and writes an answer line to each. The answers to all lines read so far are written before more is read, and
 /// the writer is flushed once, at the end of the input. Only the calls of the vectors and of the text allocate.
