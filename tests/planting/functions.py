@@ -1,13 +1,10 @@
 """The functions of a crate's sources: where each stands, and how a check names it."""
 import dataclasses
+import itertools
 import pathlib
 import re
 
-FUNCTION = re.compile(r"^( *)(?:pub(?:\([a-z]+\))? )?(?:const )?fn (\w+)", re.M)
-IMPL = re.compile(r"^impl\b(?:<(?:->|[^<>{]|<[^<>]*>)*>)? (?:(?P<trait>[^{]*?) for )?(?P<type>[^{]*?)(?:\s+where\b[^{]*)?\s*\{", re.M)
-TRAIT = re.compile(r"^(?:pub(?:\([a-z]+\))? )?(?P<trait>)trait (?P<type>\w+)", re.M)
-MACRO = re.compile(r"^macro_rules! (\w+)", re.M)
-COMMENT = re.compile(r"//[^\n]*")
+import exports
 
 
 @dataclasses.dataclass(frozen=True)
@@ -60,44 +57,32 @@ def of_crate(folder):
 
 
 def of_file(file, text):
-    code = COMMENT.sub(lambda it: " " * len(it[0]), text)
-    blocks = [(it, item_end(code, it.start(), "")) for it in (*IMPL.finditer(code), *TRAIT.finditer(code))]
-    macros = {it[1]: (it.start(), item_end(code, it.start(), "")) for it in MACRO.finditer(code)}
+    starts = [0, *itertools.accumulate(map(len, text.splitlines(keepends=True)))]
+    items = list(exports.items_in(text.splitlines(), 1))
+    macros = {it.name: span(it, starts) for it in items if it.kind == "macro_rules!"}
     found = []
-    for it in FUNCTION.finditer(code):
-        body = body_start(code, it)
-        if body is None:
-            continue
-        end = item_end(code, it.start(), it[1])
-        block = next((block for block, stop in blocks if block.start() < it.start() < stop), None)
-        of_type, of_trait = (block["type"], block["trait"] or "") if block else ("", "")
-        called = tuple(place for name, place in macros.items() if re.search(rf"\b{name}!", code[body:end]))
-        found.append(Function(file, it[2], of_type, of_trait, it.start(), body, end, called))
+    for block in items:
+        trait, type_ = of_block(block)
+        for it in [block] if block.kind == "fn" else exports.item_members(block):
+            if it.kind == "fn" and not it.lines[-1].endswith(";"):
+                start, end = span(it, starts)
+                head = len(it.head())
+                at = it.at - 1 + head - (it.lines[head:][:1] != ["{"])
+                body = text.rindex("{", starts[at], starts[at + 1])
+                called = tuple(place for name, place in macros.items() if re.search(rf"\b{name}!", text[body:end]))
+                found.append(Function(file, it.name, type_, trait, start, body, end, called))
     return found
 
 
-def item_end(code, start, indent):
-    """The end of the item that starts there: its own line where that closes it, else the next brace, or pair of them, at the
-    same indent."""
-    line_end = code.find("\n", start)
-    if code[start:line_end].rstrip().endswith("}"):
-        return line_end
-    found = re.compile(rf"^{indent}(?:\{{)?\}}", re.M).search(code, start)
-    return found.end() if found else len(code)
+def of_block(item):
+    """The trait and the type of an impl. A trait is the type of its own functions."""
+    trait, type_, _ = exports.impl_of(item) if item.kind == "impl" else ("", item.name if item.kind == "trait" else "", "")
+    return trait or "", type_
 
 
-def body_start(code, function):
-    """Where the body begins, behind the clauses, or none where a trait only declares the function."""
-    at = function.start()
-    for line in code[at:].splitlines(keepends=True):
-        end = line.rstrip()
-        is_head = at == function.start() or end.startswith(function[1] + ")")
-        if end == function[1] + "{" or is_head and end.endswith(("{", "}")):
-            return at + line.index("{")
-        if end.endswith(";"):
-            return None
-        at += len(line)
-    return None
+def span(item, starts):
+    """From the first letter of an item up to the end of its last line."""
+    return starts[item.at - 1], starts[item.at - 1 + len(item.lines)] - 1
 
 
 def modules_of(file):
