@@ -3,6 +3,7 @@ import itertools
 import re
 import textwrap
 
+import contracts
 import exports
 
 # Whose functions are shown as callers, the shortest first.
@@ -71,14 +72,14 @@ class Caller:
         if text[at : at + 1] == "(":
             path = found[1].removesuffix("::").split("::")[-1]
             made = self.known.answers(self.known.type_named(path), name) if path else self.known.functions.get(name)
-            of, at = MADE_BY.get(name, made), closing(text, at)
+            of, at = MADE_BY.get(name, made), contracts.end_of(text, at)
         else:
             of = self.types.get(name)
         while of and at < len(text):
             if text[at] == "?":
                 at += 1
             elif found := re.compile(r"\s*\.(\w+)\(").match(text, at):
-                of, at = self.known.answers(of, found[1]), closing(text, found.end() - 1)
+                of, at = self.known.answers(of, found[1]), contracts.end_of(text, found.end() - 1)
             else:
                 return None if text[at:].strip(") \n") else of
         return of
@@ -128,21 +129,11 @@ class Known:
 
 def parameters(text):
     """The parameters of a function, whose list begins the text, each with its type."""
-    inside = text[1 : closing(text, 0) - 1]
+    inside = text[1 : contracts.end_of(text, 0) - 1]
     while inside.strip():
         one, _, inside = exports.split_top(inside, ",")
         name, _, of = one.strip().partition(": ")
         yield name.removeprefix("mut "), of.strip()
-
-
-def closing(text, at):
-    """Where the bracket at a place ends."""
-    depth = 0
-    for end in range(at, len(text)):
-        depth += (text[end] in "([{") - (text[end] in ")]}")
-        if depth == 0:
-            return end + 1
-    return len(text)
 
 
 def receiver_start(text, at):

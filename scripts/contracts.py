@@ -25,17 +25,19 @@ def function(text):
     at = SIGNATURE_END.search(text).start()
     signature, clauses = text[:at], {}
     while found := CLAUSE.match(text, at):
-        at = end_of_braces(text, found.end())
+        at = end_of(text, found.end() - 1)
         clauses[squeezed(text[found.start(1) : at])] = " ".join(text[found.start(1) : at].split())
     return signature, clauses, text[at:].strip(), is_short
 
 
-def end_of_braces(text, at):
-    depth = 1
-    while depth and at < len(text):
-        depth += {"{": 1, "}": -1}.get(text[at], 0)
-        at += 1
-    return at
+def end_of(text, at=0):
+    """Where the bracket ends that is there in a text."""
+    depth = 0
+    for end in range(at, len(text)):
+        depth += (text[end] in "([{⟦") - (text[end] in ")]}⟧")
+        if depth == 0:
+            return end + 1
+    return len(text)
 
 
 def squeezed(text):

@@ -2,6 +2,7 @@
 import functools
 import re
 
+import contracts
 import exports
 
 COMMENT = re.compile(r" *-- (.*)")
@@ -14,15 +15,6 @@ GIVEN = re.compile(r"\(((?:\w+ )+): ")
 def source_of(path):
     crate, _, stem = path.partition(".specs.")
     return exports.TOP / "crates" / crate / f"specs/{stem}.antt"
-
-
-def closing(text):
-    depth = 0
-    for at, letter in enumerate(text):
-        depth += (letter in "({") - (letter in ")}")
-        if depth == 0:
-            return at + 1
-    return len(text)
 
 
 class Word:
@@ -103,7 +95,7 @@ def given_by(head):
     while at < len(head):
         inner = GIVEN.match(head, at)
         found += [inner[1]] if inner else []
-        at += closing(head[at:]) if head[at] in "({" else 1
+        at += contracts.end_of(head[at:]) if head[at] in "({" else 1
     return found
 
 

@@ -190,7 +190,7 @@ def returned(signature, name):
     """The type that a function returns."""
     head = re.sub(r"\bwhere\b.*", "", " ".join(signature.split()))
     inside = exports.split_angles(head[head.index(name) + len(name) :])[1]
-    return inside[end_of(inside) :].strip().removeprefix("-> ").strip()
+    return inside[contracts.end_of(inside) :].strip().removeprefix("-> ").strip()
 
 
 def condition(fact, path):
@@ -246,19 +246,9 @@ def filled(text, values):
 def bare(text):
     """A statement without parentheses around the whole."""
     text = text.strip()
-    while text.startswith("(") and end_of(text) == len(text):
+    while text.startswith("(") and contracts.end_of(text) == len(text):
         text = text[1:-1].strip()
     return text
-
-
-def end_of(text):
-    """Where the bracket that begins a text ends."""
-    depth = 0
-    for at, letter in enumerate(text):
-        depth += (letter in "([{⟦") - (letter in ")]}⟧")
-        if depth == 0:
-            return at + 1
-    return len(text)
 
 
 def top_split(text, separator):

@@ -11,9 +11,10 @@ page is written by hand, and stays: there std's words have a line each. `tests/d
 import pathlib
 import re
 
+import contracts
 import exports
 import reference
-from definitions import COMMENT, closing, code, source_of, words_of
+from definitions import COMMENT, code, source_of, words_of
 
 TOP = exports.TOP
 PAGE = TOP / "docs/reference/WORDS.md"
@@ -118,7 +119,7 @@ class Words:
 def plain(statement):
     """A statement as it is read: lists in brackets, without the types of variables and what only helps the prover."""
     while bound := re.match(r"[({]\w[\w ]* : ", statement):
-        end = closing(statement)
+        end = contracts.end_of(statement)
         statement = re.sub(r"^ *→ ", "", statement[end:]).lstrip()
     statement = re.sub(r" \{\w+ = [^}]*\}", "", statement)
     statement = re.sub(r"(?:[\w.]+ ∷ )+\[\]", lambda it: f"[{', '.join(it[0].split(' ∷ ')[:-1])}]", statement)
