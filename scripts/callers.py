@@ -22,7 +22,6 @@ MADE_BY = {"array_vec!": "ArrayVec", "tiny_vec!": "TinyVec"}
 CALLED = re.compile(r"\.(\w+)\(")
 NAMED = re.compile(r"(?<![\w.])((?:\w+::)*)(\w+!?)\(")
 BOUND = re.compile(r"\b(?:let|if let|while let) (?:(?:Ok|Some|Err)\()?(?:mut )?(\w+)\)?(?:: ([^=;]+?))? = ([^;]*?)(?:;| else \{| \{\n)")
-INDEXED = re.compile(r"\w+")
 
 
 class Caller:

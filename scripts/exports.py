@@ -21,7 +21,6 @@ DECLARED = re.compile(
     r"(?P<kind>macro_rules!|(?:fn|struct|enum|trait|type|impl|mod|use|ghost|const|static)\b) ?(?P<name>\w+)?"
 )
 USED = re.compile(r"pub use ([\w:]+?)(?:::(\{[^}]*\}|\w+|\*))?;", re.S)
-DERIVED = re.compile(r"#\[derive\((.*)\)\]")
 
 # A line that begins something that may be exported. Each has to be one that `Source` reads, so no layout escapes it.
 BEGINS = re.compile(r"^(?:    )?(?:pub (?:const )?(?:fn|trait|struct|enum|type)\b|macro_rules!|impl\b)")

@@ -9,7 +9,6 @@ usage: scripts/reference.py
 `tests/docs` names the pages that differ from what this would write, exports that are on no page or on two, comments that are
 missing, and calls without a caller. What precedes the line MARK of a page is written by hand, and stays.
 """
-import pathlib
 import re
 
 import callers

@@ -8,7 +8,6 @@ A meaning is the comment above the definition in crates/*/specs, after that of i
 lemma `example-WORD` in crates/*/proofs/words, in a file that imports the word. What precedes the line MARK of the
 page is written by hand, and stays: there std's words have a line each. `tests/docs` names the words that lack one of these.
 """
-import pathlib
 import re
 
 import contracts
