@@ -8,8 +8,8 @@ toolchain's and Rust's, and prints a table of each. With none of the four words 
 --instructions  instructions a round, as callgrind counts them, and where they and the times disagree
 --growth        the time an item against the number of items, and that of tv against the number of lines
 --quick         fewer and shorter runs
---results       writes what is printed into bench/results, the programs and the means into docs/PERFORMANCE.md, and what
-                --growth measured into docs/pictures
+--results       writes what is printed into bench/results, the programs and the means into docs/PERFORMANCE.md, the numbers
+                that documents quote, and what --growth measured into docs/pictures
 """
 import contextlib
 import io
@@ -20,6 +20,7 @@ import growth
 import instructions
 import kit
 import plots
+import quotes
 import tables
 import times
 import whole
@@ -63,6 +64,8 @@ def main():
     if "--growth" in parts:
         with result("growth", is_kept):
             measure_growth(effort, is_kept)
+    if is_kept:
+        quotes.put()
 
 
 @contextlib.contextmanager

@@ -207,5 +207,8 @@ def read(file):
 
 
 if __name__ == "__main__":
+    import quotes
+
     for name in RESULTS.glob("*.md"):
         name.write_text(explained(read(name)), encoding="utf-8")
+    quotes.put()

@@ -71,7 +71,8 @@ def documents():
 
 
 def read(name):
-    return (TOP / name).read_text(encoding="utf-8")
+    """The text, without comments behind a number."""
+    return re.sub(r"(?<=\d)<!--.*?-->", "", (TOP / name).read_text(encoding="utf-8"))
 
 
 def total():

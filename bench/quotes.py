@@ -1,0 +1,50 @@
+"""Numbers of bench/results that documents quote, each before a comment that names its cell: a row, its capacity and the
+peer, as 3.7<!-- rust tiny_long_push 64 tinyvec -->, or a line of means and a capacity, as
+0.6<!-- rust ArrayVec over tinyvec 4 -->. There `least` and `most` stand for those over all capacities."""
+import functools
+import re
+
+import tables
+
+DOCUMENTS = ("README.md", "docs/PERFORMANCE.md")
+QUOTED = re.compile(r"(\d+(?:\.(\d+))?)<!-- (\w+) (.+?) -->")
+MEANS = re.compile(r"\| Instructions of \| (.*) \| cells above .*\n.*\n((?:\|.*\n)+)")
+
+
+@functools.lru_cache(maxsize=None)
+def cells(name):
+    """What the tables of instructions in the file of this name have, by the words of a comment."""
+    text, found = tables.read(tables.RESULTS / f"{name}.md"), {}
+    for head, lines in MEANS.findall(text):
+        for label, *means, _ in map(tables.cells_of, lines.replace("`", "").splitlines()):
+            known = {capacity: it for capacity, it in zip(head.split(" | "), means) if it != tables.NOTHING}
+            known |= {"least": min(known.values()), "most": max(known.values())}
+            found |= {f"{label} {capacity}": it for capacity, it in known.items()}
+    for table in tables.TABLE.finditer(text):
+        _, *capacities, _ = tables.cells_of(table[1].splitlines()[2])
+        for row, *ratios, _ in map(tables.cells_of, table[3].splitlines()):
+            for capacity, it in zip(capacities, ratios):
+                found |= {f"{row} {capacity} {peer}": ratio for peer, ratio in zip(table[2].split(", "), it.split()[1:])}
+    return found
+
+
+def measured(quote):
+    """The number of the cell, with as many digits as are quoted, or None."""
+    number = cells(quote[3]).get(quote[4], tables.NOTHING)
+    digits = len(quote[2] or "")
+    return None if number == tables.NOTHING else f"{float(number):.{digits}f}"
+
+
+def faults():
+    for name in DOCUMENTS:
+        for quote in QUOTED.finditer(tables.read(tables.TOP / name)):
+            if measured(quote) != quote[1]:
+                yield f"{name}: {quote[0]} is {measured(quote)} in bench/results, which bench/tables.py writes there"
+
+
+def put():
+    """Writes what is measured into the documents."""
+    for name in DOCUMENTS:
+        text = tables.read(tables.TOP / name)
+        text = QUOTED.sub(lambda it: f"{measured(it) or it[1]}{it[0].removeprefix(it[1])}", text)
+        (tables.TOP / name).write_text(text, encoding="utf-8")
