@@ -18,10 +18,17 @@ CLEARED = {
     r"(?s)(fn empty\(&mut self\) \{\n).*?\n    \}": r"\1        self.clear();\n    }",
 }
 
+# Their `extend_from_slice` copies, so their items are numbers alone.
+COPIED = CLEARED | {
+    r"trait Item: Clone": "trait Item: Copy + Clone",
+    # A call that they lack, in a row that is left out.
+    r"self\.extract_if\(.*\)": "0..0",
+}
+
 # The toolchain's vectors in an array: `arrayvec`, `smallvec` and `ArrayString`.
-INLINE = CLEARED | {
+INLINE = COPIED | {
     # Calls that they lack, in rows that are left out.
-    r"self\.splice\(.*\)": "false",
+    r"(self|vec)\.(splice|replace_range)\(.*\)": "false",
     r"ArrayVec::dedup\(self\);": "",
     r"(ArrayVec|TinyVec|\$vec)(::)?<\[([$\w]+); (\w+)\]>": r"\1\2<\3, \4>",
     # Its `len` says that a list fits, these three calls do not.
@@ -36,28 +43,35 @@ INLINE = CLEARED | {
     r"\btinyvec_text::InlineText": "arrayvec::ArrayString",
     r"InlineText::new\(alloc\)": "ArrayString::new()",
     r"InlineText": "ArrayString",
+    # Its errors have two types, of which `?` takes neither.
+    r"type Refused = .*;": "type Refused = arrayvec::CapacityError;",
+    r"\bmade\.push(.*)\?;": r"made.try_push\1.map_err(|error| error.simplify())?;",
     r"\bmade\.push": "made.try_push",
     r"\bmade\.as_bytes\(\)": "made.as_str().as_bytes()",
 }
-NOT_INLINE = r"mod (form|growth|slices|splicing);|\bof_(forms|arrays|lists|slices|\w*splices)\b|of_texts::<R, (2|8|32)>"
+NOT_INLINE = (
+    r"mod (form|growth|nodes|slices|splicing|text_calls);|\bof_(arrays|forms|lists|nodes|slices|text_calls)\b"
+    r"|ArrayVec: of_cuts|\bsplices\b|\"(extract_half|splice_more)\"|of_texts::<R, (2|8|32)>"
+)
 
 # std's `Vec` and `String`. What the others do in an array, they do on the heap.
-STD = CLEARED | {
+STD = COPIED | {
     r"\buse tinyvec(_text)?::\w+;\n": "",
     r"(TinyVec|\$vec)(::)?<\[([$\w]+); \w+\]>": r"Vec\2<\3>",
-    r"vec\.move_to_the_heap\(\)\?": "{}",
+    r"let _ = vec\.move_to_the_heap\(\);": "",
     r"TinyVec::": "Vec::",
     r"\.finish\(\)(\.is_(ok|err)\(\))": r"\1",
     r"\.extend_exact_size\(": ".extend(",
+    r"self\.replace_range\((.*), numbers\)": r"self.splice(\1, numbers.iter().copied())",
     r"alloc, Place::Inline\b": "alloc, Place::Heap",
     r"InlineText<\w+>|InlineText": "String",
 }
-NOT_STD = r"mod (arrays|form|growth|slices);|\bof_(forms|arrays|lists|slices)\b"
+NOT_STD = r"mod (arrays|form|growth|nodes|slices);|\bof_(arrays|forms|lists|nodes|slices)\b|\"extract_half\""
 
 # Texts are printed into an `ArrayVec` of this library on each side.
 UNCHANGED = "src/printing.rt"
 # The files that name the modules, and the rows.
-LISTS = ("src/main.rt", "src/all.rt")
+LISTS = ("src/main.rt", "src/all.rt", "src/spilling.rt")
 
 
 class Made(crates.Crate):

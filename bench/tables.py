@@ -15,19 +15,24 @@ GROUPS = {
     "`TinyVec` in its array": "tiny_",
     "`TinyVec` on the heap": "tiny_heap_",
     "`TinyVec` on its way to the heap": "tiny_spill_",
+    "`TinyVec` out of four slots": "tiny_long_",
+    "`ArrayVec`, a quarter full": "few_",
+    "`TinyVec`, a quarter full": "tiny_few_",
+    "`ArrayVec` of items with a drop": "nodes_",
+    "`TinyVec` of items with a drop": "tiny_nodes_",
     "`SliceVec`": "slice_",
     "`InlineText`": "text_",
     "Borsh form": "borsh_",
 }
 
-# Peers that have another name than their program's, in all groups or in one.
+# Peers that have another name than their program's, in all groups or in those of one type.
 NAMES = {
     "inline": "smallvec", ("inline", "`ArrayVec`"): "arrayvec", ("inline", "`InlineText`"): "ArrayString",
     ("arrayvec", "`InlineText`"): "ArrayString",
     "std": "Vec", ("std", "`InlineText`"): "String", "vec": "Vec", ("vec", "`InlineText`"): "String",
 }
 
-CAPACITIES = [4, 16, 64, 1024]
+CAPACITIES = [4, 8, 16, 32, 64, 1024, 16384]
 
 # A cell of instructions above it has a reason.
 LIMIT = 1.2
@@ -47,7 +52,7 @@ def group_of(row):
 
 
 def name_of(peer, group):
-    return NAMES.get((peer, group), NAMES.get(peer, peer))
+    return NAMES.get((peer, re.match("`.*?`|", group)[0]), NAMES.get(peer, peer))
 
 
 def peers_of(measured, keys):

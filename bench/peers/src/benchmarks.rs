@@ -24,12 +24,12 @@ pub fn two_pushes_on_heap<T: Number, V: Growing<T, N>, const N: usize>(x: u64) -
     vec
 }
 
-/// Pushes until the vector is full, and pops until it is empty.
-#[inline(never)]
-pub fn push_and_pop<T: Number, V: Vector<T, N>, const N: usize>(vec: &mut V, x: u64) -> u64 {
-    vec.set_len(0);
-    push_until_full(vec, x);
-    pop_until_empty(vec)
+/// Pushes until the vector is full, and pops until it is empty. In one function LLVM would see that the second takes back what
+/// the first did.
+#[inline(always)]
+pub fn fill_and_empty<T: Number, V: Vector<T, N>, const N: usize>(vec: &mut V, x: u64) -> u64 {
+    push_all(vec, x);
+    pop_all(vec)
 }
 
 /// Pushes from none until the vector is full.
@@ -55,7 +55,9 @@ fn push_until_full<T: Number, V: Vector<T, N>, const N: usize>(vec: &mut V, x: u
     next
 }
 
-fn pop_until_empty<T: Number, V: Vector<T, N>, const N: usize>(vec: &mut V) -> u64 {
+// Pops until the vector is empty, and answers the sum.
+#[inline(never)]
+fn pop_all<T: Number, V: Vector<T, N>, const N: usize>(vec: &mut V) -> u64 {
     let mut sum: u64 = 0;
     while let Some(y) = vec.pop() {
         sum = sum.wrapping_add(y.value());
@@ -121,7 +123,7 @@ pub fn swap_remove<T: Number, V: Vector<T, N>, const N: usize>(vec: &mut V, x: u
 
 /// Makes the list the items of `source`, by one copy.
 #[inline(never)]
-pub fn extend_from_slice<T: Number, V: Vector<T, N>, const N: usize>(vec: &mut V, source: &[T], x: u64) -> u64 {
+pub fn extend_from_slice<T: Number + Copy, V: Vector<T, N>, const N: usize>(vec: &mut V, source: &[T], x: u64) -> u64 {
     vec.set_len(0);
     if V::IS_BOUNDED && source.len() > N {
         return 0;
@@ -195,12 +197,31 @@ pub fn splice<V: Vector<u64, N>, const N: usize>(vec: &mut V, source: &[u64], co
     x.wrapping_add(vec.as_slice().len() as u64)
 }
 
+/// The same, by the numbers of the second half of `source`.
+#[inline(never)]
+pub fn replace_range<V: Vector<u64, N>, const N: usize>(vec: &mut V, source: &[u64], x: u64) -> u64 {
+    let quarter = source.len() / 4;
+    extend_from_slice(vec, &source[..3 * quarter], x);
+    if vec.as_slice().len() < 2 * quarter {
+        return 0;
+    }
+    vec.splice(quarter..2 * quarter, source[2 * quarter..].iter().copied());
+    x.wrapping_add(vec.as_slice().len() as u64)
+}
+
+/// Fills the vector, and takes the odd items out.
+#[inline(never)]
+pub fn extract_half<V: Vector<u64, N>, const N: usize>(vec: &mut V, source: &[u64], x: u64) -> u64 {
+    extend_from_slice(vec, source, x);
+    vec.sum_of_extracted(|y| *y % 2 == 1, x)
+}
+
 /// The sum of the items and `x`.
 #[inline(never)]
 pub fn sum<T: Number, V: Vector<T, N>, const N: usize>(vec: &V, x: u64) -> u64 {
     let mut sum = x;
     for y in vec.as_slice().iter() {
-        sum = sum.wrapping_add((*y).value());
+        sum = sum.wrapping_add(y.value());
     }
     sum
 }
@@ -208,7 +229,7 @@ pub fn sum<T: Number, V: Vector<T, N>, const N: usize>(vec: &V, x: u64) -> u64 {
 /// The last item, or 0 where there is none.
 pub fn last<T: Number>(items: &[T]) -> u64 {
     match items.last() {
-        Some(x) => (*x).value(),
+        Some(x) => x.value(),
         None => 0,
     }
 }

@@ -17,6 +17,9 @@ pub trait Growing<T: Number, const N: usize>: Vector<T, N> {
     /// Makes room for so many items more.
     fn reserve(&mut self, n: usize);
 
+    /// A list of the items.
+    fn collected(items: impl Iterator<Item = T>) -> Self;
+
     fn append(&mut self, other: &mut Self);
     fn resize(&mut self, n: usize, x: T);
 }
@@ -37,6 +40,11 @@ macro_rules! shared_calls {
         #[inline(always)]
         fn reserve(&mut self, n: usize) {
             self.reserve(n)
+        }
+
+        #[inline(always)]
+        fn collected(items: impl Iterator<Item = T>) -> Self {
+            items.collect()
         }
 
         #[inline(always)]
@@ -64,7 +72,7 @@ where
     }
 }
 
-impl<T: Number, const N: usize> Growing<T, N> for smallvec::SmallVec<[T; N]> {
+impl<T: Number + Copy, const N: usize> Growing<T, N> for smallvec::SmallVec<[T; N]> {
     shared_calls!();
 
     fn on_heap(array: [T; N]) -> Self {

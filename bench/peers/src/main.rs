@@ -11,6 +11,7 @@ mod fnv;
 mod form;
 mod growing;
 mod growth;
+mod nodes;
 mod number;
 mod peers;
 mod printing;

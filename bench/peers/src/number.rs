@@ -3,11 +3,11 @@
 use std::fmt::Debug;
 use std::hash::Hash;
 
-/// A number that is made from a `u64` and adds up to one.
-pub trait Number: Copy + Default + PartialOrd + Hash + Debug {
+/// An item that is made from a `u64` and adds up to one.
+pub trait Number: Clone + Default + PartialOrd + Hash + Debug {
     fn of(x: u64) -> Self;
 
-    fn value(self) -> u64;
+    fn value(&self) -> u64;
 }
 
 impl Number for u64 {
@@ -15,8 +15,8 @@ impl Number for u64 {
         x
     }
 
-    fn value(self) -> u64 {
-        self
+    fn value(&self) -> u64 {
+        *self
     }
 }
 
@@ -25,8 +25,8 @@ impl Number for u8 {
         x as u8
     }
 
-    fn value(self) -> u64 {
-        self as u64
+    fn value(&self) -> u64 {
+        *self as u64
     }
 }
 
@@ -35,7 +35,7 @@ impl Number for u32 {
         x as u32
     }
 
-    fn value(self) -> u64 {
-        self as u64
+    fn value(&self) -> u64 {
+        *self as u64
     }
 }

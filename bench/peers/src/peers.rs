@@ -1,8 +1,11 @@
 //! Which rows a peer has, over which types.
 
 use crate::growth::{of_arrays, of_lists};
+use crate::nodes::Node;
 use crate::report::Report;
-use crate::rows::{of_bytes, of_dates, of_forms, of_heap, of_inline, of_slices, of_spilling, of_texts, of_words};
+use crate::rows::{
+    of_bytes, of_dates, of_few, of_forms, of_heap, of_inline, of_long, of_nodes, of_slices, of_spilling, of_texts, of_words,
+};
 
 /// The lengths of a list that grows.
 const LENGTHS: [usize; 10] = [4, 16, 64, 256, 1024, 4096, 16384, 65536, 262144, 1048576];
@@ -23,6 +26,26 @@ macro_rules! fixed {
     ($report:expr, $vector:ident) => {{
         at_each_capacity!(of_words, $report, $vector, [u64]);
         at_each_capacity!(of_bytes, $report, $vector, [u8]);
+        few!($report.with_prefix("few_"), $vector);
+        nodes!($report.with_prefix("nodes_"), $vector);
+    }};
+}
+
+/// The rows of lists that fill a quarter of the slots.
+macro_rules! few {
+    ($report:expr, $vector:ident) => {{
+        let report = $report;
+        of_few::<$vector!(u64, 8), 8>(&report);
+        of_few::<$vector!(u64, 32), 32>(&report);
+    }};
+}
+
+/// The rows of items that need a drop.
+macro_rules! nodes {
+    ($report:expr, $vector:ident) => {{
+        let report = $report;
+        of_nodes::<$vector!(Node, 4), 4>(&report);
+        of_nodes::<$vector!(Node, 16), 16>(&report);
     }};
 }
 
@@ -32,6 +55,13 @@ macro_rules! growing {
         at_each_capacity!(of_inline, $report.with_prefix("tiny_"), $vector, [u64, u8]);
         at_each_capacity!(of_heap, $report.with_prefix("tiny_heap_"), $vector, [u64, u8]);
         at_each_capacity!(of_spilling, $report.with_prefix("tiny_spill_"), $vector, [u64]);
+        few!($report.with_prefix("tiny_few_"), $vector);
+        nodes!($report.with_prefix("tiny_nodes_"), $vector);
+        let report = $report.with_prefix("tiny_long_");
+        of_long::<$vector!(u64, 4)>(&report, 16);
+        of_long::<$vector!(u64, 4)>(&report, 64);
+        of_long::<$vector!(u64, 4)>(&report, 1024);
+        of_long::<$vector!(u64, 4)>(&report, 16384);
     }};
 }
 

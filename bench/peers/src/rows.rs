@@ -1,10 +1,12 @@
 //! The rows, benchmark by benchmark, at one capacity.
 
 use crate::benchmarks::*;
-use crate::comparing::{compare, equal, hash};
+use crate::comparing::{compare, equal, hash, hash_key};
 use crate::dates::{text_iso_date, text_mail_date, Letters};
 use crate::form::{borsh_read, borsh_write};
 use crate::growing::Growing;
+use crate::nodes::Node;
+use crate::number::Number;
 use crate::printing::{debug_print, Text};
 use crate::report::Report;
 use crate::slices::*;
@@ -16,8 +18,13 @@ use tinyvec::{ArrayVec, SliceVec};
 
 /// Every benchmark of a vector of `u64`.
 pub fn of_words<V: Vector<u64, N>, const N: usize>(report: &Report) {
-    report.row("two_pushes", N, |x| last(two_pushes::<u64, V, N>(x).as_slice()));
+    report.row(made::<N>(), N, |x| last(two_pushes::<u64, V, N>(x).as_slice()));
     of_made_words(report, V::from_array);
+}
+
+// Of an array of 64 slots or more, most of the time goes into the moves of the vector.
+fn made<const N: usize>() -> &'static str {
+    if N < 64 { "two_pushes" } else { "returned" }
 }
 
 // Those that work on vectors that `make` gives.
@@ -30,7 +37,7 @@ fn of_made_words<V: Vector<u64, N>, const N: usize>(report: &Report, make: fn([u
 fn edits_of_words<V: Vector<u64, N>, const N: usize>(report: &Report, make: fn([u64; N]) -> V) {
     let source = scattered::<u64, N>();
     let mut vec = make(source);
-    report.row("push_and_pop", N, |x| push_and_pop(&mut vec, x));
+    report.row("fill_and_empty", N, |x| fill_and_empty(&mut vec, x));
     vec = make(source);
     report.row("insert_front", N, |x| insert_front(&mut vec, x));
     report.row("insert_middle", N, |x| insert_middle(&mut vec, x));
@@ -57,25 +64,40 @@ fn cuts_of_words<V: Vector<u64, N>, const N: usize>(report: &Report, make: fn([u
         report.row("splice_as_many", N, |x| splice(&mut vec, &source, count / 4, x));
         report.row("splice_fewer", N, |x| splice(&mut vec, &source, count / 8, x));
         report.row("splice_more", N, |x| splice(&mut vec, &source, count / 2, x));
+        report.row("replace_range", N, |x| replace_range(&mut vec, &source, x));
+    }
+    if V::HAS_EXTRACT {
+        report.row("extract_half", N, |x| extract_half(&mut vec, &runs, x));
     }
     vec = make(source);
     let odd = make(runs);
     report.row("clone", N, |x| last(clone_of(&vec, &odd, x).as_slice()));
+    report.row("clone_by_match", N, |x| last(clone_of(&vec, &odd, x).as_slice()));
     report.row("sum", N, |x| sum(&vec, x));
 }
 
 fn looks_at_words<V: Vector<u64, N>, const N: usize>(report: &Report, make: fn([u64; N]) -> V) {
     let source = scattered::<u64, N>();
-    let vec = make(source);
-    let same = make(source);
     let last_higher = make(higher_at(source, N.saturating_sub(1)));
     let first_higher = make(higher_at(source, 0));
+    looks_at(report, &make(source), &make(source), &last_higher, Some(&first_higher));
+}
+
+fn looks_at<V: Vector<u64, N>, const N: usize>(
+    report: &Report,
+    vec: &V,
+    same: &V,
+    last_higher: &V,
+    first_higher: Option<&V>,
+) {
     let mut text = Text::new();
-    report.row("equal", N, |x| equal(&vec, &same, x));
-    report.row("compare", N, |x| compare(&vec, &last_higher, x));
-    report.row("compare_first", N, |x| compare(&vec, &first_higher, x));
-    report.row("hash", N, |x| hash(&vec, x));
-    report.row("debug_print", N, |x| debug_print(&vec, &mut text, x));
+    report.row("equal", N, |x| equal(vec, same, x));
+    report.row("compare", N, |x| compare(vec, last_higher, x));
+    if let Some(first_higher) = first_higher {
+        report.row("compare_first", N, |x| compare(vec, first_higher, x));
+    }
+    report.row("hash", N, |x| hash(vec, x));
+    report.row("debug_print", N, |x| debug_print(vec, &mut text, x));
 }
 
 /// The benchmarks of a vector of `u8`, where the size of an item matters.
@@ -86,7 +108,7 @@ pub fn of_bytes<V: Vector<u8, N>, const N: usize>(report: &Report) {
 fn of_made_bytes<V: Vector<u8, N>, const N: usize>(report: &Report, make: fn([u8; N]) -> V) {
     let source = scattered::<u8, N>();
     let mut vec = make(source);
-    report.row("bytes_push_and_pop", N, |x| push_and_pop(&mut vec, x));
+    report.row("bytes_fill_and_empty", N, |x| fill_and_empty(&mut vec, x));
     vec = make(source);
     report.row("bytes_insert_front", N, |x| insert_front(&mut vec, x));
     report.row("bytes_remove_front", N, |x| remove_front(&mut vec, x));
@@ -95,7 +117,38 @@ fn of_made_bytes<V: Vector<u8, N>, const N: usize>(report: &Report, make: fn([u8
     report.row("bytes_clone", N, |x| last(clone_of(&vec, &odd, x).as_slice()));
     let same = make(source);
     report.row("bytes_equal", N, |x| equal(&vec, &same, x));
+    report.row("bytes_hash", N, |x| hash_key(&vec, x));
     report.row("bytes_sum", N, |x| sum(&vec, x));
+}
+
+/// The lists of items that need a drop.
+pub fn of_nodes<V: Vector<Node, N>, const N: usize>(report: &Report) {
+    let mut vec = V::new();
+    let odd = V::of_items(&[Node::of(1)]);
+    report.row("two_pushes", N, |x| last(two_pushes::<Node, V, N>(x).as_slice()));
+    report.row("fill_and_empty", N, |x| fill_and_empty(&mut vec, x));
+    truncate_and_refill(&mut vec, 0);
+    report.row("insert_front", N, |x| insert_front(&mut vec, x));
+    report.row("remove_front", N, |x| remove_front(&mut vec, x));
+    report.row("truncate_and_refill", N, |x| truncate_and_refill(&mut vec, x));
+    report.row("clone", N, |x| last(clone_of(&vec, &odd, x).as_slice()));
+}
+
+/// The lists of `u64` that fill a quarter of the slots.
+pub fn of_few<V: Vector<u64, N>, const N: usize>(report: &Report) {
+    let source = scattered::<u64, N>();
+    let few = &source[..N / 4];
+    let mut vec = V::of_items(few);
+    let odd = V::of_items(&pairs::<N>()[..N / 4]);
+    report.row("insert_front", N, |x| insert_front(&mut vec, x));
+    report.row("insert_middle", N, |x| insert_middle(&mut vec, x));
+    report.row("remove_front", N, |x| remove_front(&mut vec, x));
+    report.row("swap_remove", N, |x| swap_remove(&mut vec, x));
+    report.row("clone", N, |x| last(clone_of(&vec, &odd, x).as_slice()));
+    report.row("clone_by_match", N, |x| last(clone_of(&vec, &odd, x).as_slice()));
+    report.row("sum", N, |x| sum(&vec, x));
+    let last_higher = higher_at(source, (N / 4).saturating_sub(1));
+    looks_at(report, &V::of_items(few), &V::of_items(few), &V::of_items(&last_higher[..N / 4]), None);
 }
 
 /// The benchmarks of a vector over a lent slice of `u64`.
@@ -133,7 +186,7 @@ pub fn of_inline<W: Growing<u64, N>, B: Growing<u8, N>, const N: usize>(report: 
 
 /// The benchmarks of a vector that grows, on the heap.
 pub fn of_heap<W: Growing<u64, N>, B: Growing<u8, N>, const N: usize>(report: &Report) {
-    report.row("two_pushes", N, |x| last(two_pushes_on_heap::<u64, W, N>(x).as_slice()));
+    report.row(made::<N>(), N, |x| last(two_pushes_on_heap::<u64, W, N>(x).as_slice()));
     of_made_words(report, W::on_heap);
     of_made_bytes(report, B::on_heap);
 }
@@ -143,11 +196,8 @@ pub fn of_spilling<V: Growing<u64, N>, const N: usize>(report: &Report) {
     let source = scattered::<u64, N>();
     let count = N as u64;
     let mut other = V::empty();
-    report.row("push", N, |x| spilling::push::<V, N>(2 * count, x));
+    grown::<V, N>(report, N, 2 * N);
     report.row("extend_from_slice", N, |x| spilling::extend_from_slice::<V, N>(&source, x));
-    report.row("extend_from_range", N, |x| spilling::extend_from_range::<V, N>(2 * count, x));
-    report.row("reserve_and_extend", N, |x| spilling::reserve_and_extend::<V, N>(2 * N, x));
-    report.row("extend_exact_size", N, |x| spilling::extend_exact_size::<V, N>(2 * N, x));
     report.row("append", N, |x| spilling::append(&mut other, &source, x));
     report.row("insert_front", N, |x| spilling::insert::<V, N>(&source, 0, x));
     report.row("insert_middle", N, |x| spilling::insert::<V, N>(&source, N / 2, x));
@@ -155,6 +205,23 @@ pub fn of_spilling<V: Growing<u64, N>, const N: usize>(report: &Report) {
     if V::HAS_SPLICE {
         report.row("splice_more", N, |x| spilling::splice_more::<V, N>(&source, count + count / 4, x));
     }
+}
+
+/// Lists of so many numbers out of four slots.
+pub fn of_long<V: Growing<u64, 4>>(report: &Report, n: usize) {
+    grown::<V, 4>(report, n, n);
+    let vec = V::collected(0..n as u64);
+    report.row("clone", n, |x| last(clone_of(&vec, &vec, x).as_slice()));
+}
+
+fn grown<V: Growing<u64, N>, const N: usize>(report: &Report, capacity: usize, n: usize) {
+    let count = n as u64;
+    report.row("push", capacity, |x| spilling::push::<V, N>(count, x));
+    report.row("extend_from_range", capacity, |x| spilling::extend_from_range::<V, N>(count, x));
+    report.row("reserve_and_extend", capacity, |x| spilling::reserve_and_extend::<V, N>(n, x));
+    report.row("extend_exact_size", capacity, |x| spilling::extend_exact_size::<V, N>(n, x));
+    report.row("from_iter", capacity, |x| spilling::collect::<V, N>(count, x));
+    report.row("collect", capacity, |x| spilling::collect::<V, N>(count, x));
 }
 
 /// Lists of bytes and of `u32` written and read in the Borsh form.

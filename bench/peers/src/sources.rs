@@ -7,7 +7,7 @@ pub const LETTERS: &str = "abcdefghijklmnopqrstuvwxyzABCDEFGHIJKLMNOPQRSTUVWXYZ0
 
 /// Numbers that look random.
 pub fn scattered<T: Number, const N: usize>() -> [T; N] {
-    let mut numbers = [T::of(0); N];
+    let mut numbers = std::array::from_fn(|_| T::default());
     let mut state: u64 = 1;
     for slot in numbers.iter_mut() {
         state = state.wrapping_mul(6364136223846793005).wrapping_add(1442695040888963407);

@@ -59,6 +59,14 @@ pub fn extend_exact_size<V: Growing<u64, N>, const N: usize>(count: usize, x: u6
     look_at(vec.as_slice(), x)
 }
 
+/// The same numbers, collected.
+#[inline(never)]
+pub fn collect<V: Growing<u64, N>, const N: usize>(count: u64, x: u64) -> u64 {
+    let start = x % 65536;
+    let vec = V::collected(start..start.saturating_add(count));
+    look_at(vec.as_slice(), x)
+}
+
 /// Moves a list of as many items behind a full one.
 #[inline(never)]
 pub fn append<V: Growing<u64, N>, const N: usize>(other: &mut V, source: &[u64; N], x: u64) -> u64 {

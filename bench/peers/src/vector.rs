@@ -10,6 +10,7 @@ pub trait Vector<T: Number, const N: usize>: Clone + PartialOrd + Hash + Debug {
     /// Whether the peer has the call.
     const HAS_DEDUP: bool = true;
     const HAS_SPLICE: bool = true;
+    const HAS_EXTRACT: bool = false;
 
     /// Whether a splice puts its items in one by one, and moves what stands behind each time.
     const SPLICES_ONE_BY_ONE: bool = false;
@@ -19,6 +20,16 @@ pub trait Vector<T: Number, const N: usize>: Clone + PartialOrd + Hash + Debug {
 
     fn new() -> Self;
     fn from_array(array: [T; N]) -> Self;
+
+    /// A vector of these items.
+    fn of_items(items: &[T]) -> Self {
+        let mut vec = Self::new();
+        for item in items {
+            vec.push(item.clone());
+        }
+        vec
+    }
+
     fn as_slice(&self) -> &[T];
     fn push(&mut self, x: T);
     fn pop(&mut self) -> Option<T>;
@@ -26,7 +37,10 @@ pub trait Vector<T: Number, const N: usize>: Clone + PartialOrd + Hash + Debug {
     fn remove(&mut self, i: usize) -> T;
     fn swap_remove(&mut self, i: usize) -> T;
     fn truncate(&mut self, n: usize);
-    fn extend_from_slice(&mut self, source: &[T]);
+    fn extend_from_slice(&mut self, source: &[T])
+    where
+        T: Copy;
+
     fn extend(&mut self, items: impl Iterator<Item = T>);
     fn drain(&mut self, range: Range<usize>) -> impl Iterator<Item = T>;
     fn retain(&mut self, keeps: impl FnMut(&T) -> bool);
@@ -37,6 +51,11 @@ pub trait Vector<T: Number, const N: usize>: Clone + PartialOrd + Hash + Debug {
     fn dedup(&mut self) {}
 
     fn splice(&mut self, _range: Range<usize>, _items: impl Iterator<Item = T>) {}
+
+    /// Takes out what `is_taken` says, and returns the sum of the items' values and `x`.
+    fn sum_of_extracted(&mut self, _is_taken: impl FnMut(&mut T) -> bool, x: u64) -> u64 {
+        x
+    }
 
     fn is_full(&self) -> bool {
         self.as_slice().len() == N
@@ -112,7 +131,10 @@ impl<T: Number, const N: usize> Vector<T, N> for tinyvec::ArrayVec<[T; N]> {
     }
 
     #[inline(always)]
-    fn extend_from_slice(&mut self, source: &[T]) {
+    fn extend_from_slice(&mut self, source: &[T])
+    where
+        T: Copy,
+    {
         self.extend_from_slice(source)
     }
 
@@ -153,7 +175,10 @@ where
     }
 
     #[inline(always)]
-    fn extend_from_slice(&mut self, source: &[T]) {
+    fn extend_from_slice(&mut self, source: &[T])
+    where
+        T: Copy,
+    {
         self.extend_from_slice(source)
     }
 
@@ -189,7 +214,10 @@ impl<T: Number, const N: usize> Vector<T, N> for smallvec::SmallVec<[T; N]> {
     }
 
     #[inline(always)]
-    fn extend_from_slice(&mut self, source: &[T]) {
+    fn extend_from_slice(&mut self, source: &[T])
+    where
+        T: Copy,
+    {
         self.extend_from_slice(source)
     }
 
@@ -228,7 +256,10 @@ impl<T: Number, const N: usize> Vector<T, N> for arrayvec::ArrayVec<T, N> {
     }
 
     #[inline(always)]
-    fn extend_from_slice(&mut self, source: &[T]) {
+    fn extend_from_slice(&mut self, source: &[T])
+    where
+        T: Copy,
+    {
         self.try_extend_from_slice(source).unwrap()
     }
 
@@ -245,6 +276,8 @@ impl<T: Number, const N: usize> Vector<T, N> for arrayvec::ArrayVec<T, N> {
 }
 
 impl<T: Number, const N: usize> Vector<T, N> for Vec<T> {
+    const HAS_EXTRACT: bool = true;
+
     shared_calls!();
 
     #[inline(always)]
@@ -258,7 +291,10 @@ impl<T: Number, const N: usize> Vector<T, N> for Vec<T> {
     }
 
     #[inline(always)]
-    fn extend_from_slice(&mut self, source: &[T]) {
+    fn extend_from_slice(&mut self, source: &[T])
+    where
+        T: Copy,
+    {
         self.extend_from_slice(source)
     }
 
@@ -281,5 +317,14 @@ impl<T: Number, const N: usize> Vector<T, N> for Vec<T> {
     #[inline(always)]
     fn splice(&mut self, range: Range<usize>, items: impl Iterator<Item = T>) {
         drop(self.splice(range, items))
+    }
+
+    #[inline(always)]
+    fn sum_of_extracted(&mut self, is_taken: impl FnMut(&mut T) -> bool, x: u64) -> u64 {
+        let mut sum = x;
+        for y in self.extract_if(.., is_taken) {
+            sum = sum.wrapping_add(y.value());
+        }
+        sum
     }
 }

@@ -1,26 +1,25 @@
 //! The calls of an `ArrayVec`.
 ghost use Rattle.std.specs.Prelude.{◌<◌, length};
 
-use crate::number::{Number, is_odd, last};
+use crate::number::{Item, is_odd, last};
 use crate::vector::{Place, Vector, Words};
-use std::alloc::{AllocError, Global};
+use std::alloc::Global;
 use std::ops::Range;
 use tinyvec_array::ArrayVec;
 
-impl<T: Number, const N: usize> Vector<T, N> for ArrayVec<[T; N]> {
+impl<T: Item, const N: usize> Vector<T, N> for ArrayVec<[T; N]> {
     ghost has_room = { λ v. length (Self.items v) < N };
 
     #[inline(always)]
-    fn placed(_alloc: Global, _place: Place, items: &[T]) -> Result<Self, AllocError> {
+    fn placed(_alloc: Global, _place: Place, items: &[T]) -> Self {
         let mut vec = ArrayVec::new();
         // Pushed: a second call of `extend_from_slice` might not be inlined in its row.
         for item in items {
-            if vec.len() == vec.capacity() {
-                return Err(AllocError);
+            if vec.len() < vec.capacity() {
+                vec.push(T::of(item.value()));
             }
-            vec.push(*item);
         }
-        Ok(vec)
+        vec
     }
 
     #[inline(always)]
@@ -31,6 +30,11 @@ impl<T: Number, const N: usize> Vector<T, N> for ArrayVec<[T; N]> {
     #[inline(always)]
     fn last_of_clone(&self, _alloc: Global, odd: &Self, x: u64) -> u64 {
         last(clone_of(self, odd, x).as_slice())
+    }
+
+    #[inline(always)]
+    fn last_of_match(&self, _alloc: Global, odd: &Self, x: u64) -> u64 {
+        last(match_of(self, odd, x).as_slice())
     }
 
     #[inline(always)]
@@ -107,6 +111,15 @@ impl<const N: usize> Words<N> for ArrayVec<[u64; N]> {
     }
 
     #[inline(always)]
+    fn extract_odd(&mut self, x: u64) -> u64 {
+        let mut sum = x;
+        for y in self.extract_if(.., |y| is_odd(y)) {
+            sum = sum.wrapping_add(y);
+        }
+        sum
+    }
+
+    #[inline(always)]
     fn dedup(&mut self) {
         ArrayVec::dedup(self);
     }
@@ -115,11 +128,16 @@ impl<const N: usize> Words<N> for ArrayVec<[u64; N]> {
     fn splice(&mut self, start: usize, end: usize, count: u64) -> bool {
         self.splice(start..end, 0..count).finish().is_ok()
     }
+
+    #[inline(always)]
+    fn replace_range(&mut self, start: usize, end: usize, numbers: &[u64]) -> bool {
+        self.replace_range(start..end, numbers).is_ok()
+    }
 }
 
 // A new vector as long as `_like`, and two pushes.
 #[inline(never)]
-fn two_pushes<T: Number, const N: usize>(_like: &ArrayVec<[T; N]>, x: u64) -> ArrayVec<[T; N]> {
+fn two_pushes<T: Item, const N: usize>(_like: &ArrayVec<[T; N]>, x: u64) -> ArrayVec<[T; N]> {
     let mut vec = ArrayVec::new();
     if N >= 2 {
         vec.push(T::of(x));
@@ -130,7 +148,7 @@ fn two_pushes<T: Number, const N: usize>(_like: &ArrayVec<[T; N]>, x: u64) -> Ar
 
 // A clone of the one or the other, as `x` is even or odd.
 #[inline(never)]
-fn clone_of<T: Number, const N: usize>(
+fn clone_of<T: Item, const N: usize>(
     even: &ArrayVec<[T; N]>,
     odd: &ArrayVec<[T; N]>,
     x: u64,
@@ -140,4 +158,18 @@ fn clone_of<T: Number, const N: usize>(
         return ArrayVec::new();
     };
     copy
+}
+
+// The same, by a `match` of both results.
+#[inline(never)]
+fn match_of<T: Item, const N: usize>(
+    even: &ArrayVec<[T; N]>,
+    odd: &ArrayVec<[T; N]>,
+    x: u64,
+) -> ArrayVec<[T; N]> {
+    let vec = if x % 2 == 0 { even } else { odd };
+    match vec.clone() {
+        Ok(copy) => copy,
+        Err(_) => ArrayVec::new(),
+    }
 }

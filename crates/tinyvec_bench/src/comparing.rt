@@ -1,7 +1,7 @@
 //! Vectors compared and hashed, each as a whole.
 
 use crate::fnv::Fnv;
-use std::hash::{Hash, Hasher};
+use std::hash::{DefaultHasher, Hash, Hasher};
 
 /// `x` where the lists are equal.
 #[inline(never)]
@@ -27,4 +27,12 @@ pub fn hash<V: Hash>(vec: &V, x: u64) -> u64 {
     let mut state = Fnv::new(x);
     vec.hash(&mut state);
     state.finish()
+}
+
+/// The hash of the list as the key of a map, and `x`.
+#[inline(never)]
+pub fn hash_key<V: Hash>(vec: &V, x: u64) -> u64 {
+    let mut state = DefaultHasher::new();
+    vec.hash(&mut state);
+    x.wrapping_add(state.finish())
 }

@@ -12,6 +12,7 @@ pub enum Cut {
     DrainDropped,
     RetainHalf,
     Dedup,
+    ExtractHalf,
 }
 
 impl<V: Words<N>, const N: usize> Bench<Cut> for ListBench<'_, u64, V, N> {
@@ -24,6 +25,7 @@ impl<V: Words<N>, const N: usize> Bench<Cut> for ListBench<'_, u64, V, N> {
             Cut::DrainDropped => drain_dropped(self.vec, source, x),
             Cut::RetainHalf => retain_half(self.vec, source, x),
             Cut::Dedup => dedup(self.vec, source, x),
+            Cut::ExtractHalf => extract_half(self.vec, source, x),
         }
     }
 }
@@ -70,4 +72,11 @@ fn dedup<V: Words<N>, const N: usize>(vec: &mut V, runs: &[u64], x: u64) -> u64 
     extend_from_slice(vec, runs, x);
     vec.dedup();
     x.wrapping_add(vec.len() as u64)
+}
+
+// Fills the vector, and takes the odd items out.
+#[inline(never)]
+fn extract_half<V: Words<N>, const N: usize>(vec: &mut V, source: &[u64], x: u64) -> u64 {
+    extend_from_slice(vec, source, x);
+    vec.extract_odd(x)
 }

@@ -6,6 +6,9 @@ use std::alloc::Global;
 use std::rt::Runtime;
 use tinyvec_text::InlineText;
 
+// What a push that finds no room returns.
+type Refused = std::alloc::AllocError;
+
 /// How a date is printed.
 #[derive(Clone, Copy)]
 pub enum Style {
@@ -45,59 +48,67 @@ pub fn of_dates<R: Runtime, const N: usize>(
 #[inline(never)]
 fn text_mail_date<const N: usize>(alloc: Global, made: &mut InlineText<N>, x: u64) -> u64 {
     *made = InlineText::new(alloc);
-    push_mail_date::<N>(made, (x % 8) as u8);
-    look_at(made.as_bytes(), x)
+    match push_mail_date::<N>(made, (x % 8) as u8) {
+        Ok(()) => look_at(made.as_bytes(), x),
+        Err(_) => 0,
+    }
 }
 
-// Not inlined, as a printer that has several callers. If a text refused a piece, the checksum would differ.
+// Not inlined, as a printer that has several callers.
 #[inline(never)]
-fn push_mail_date<const N: usize>(made: &mut InlineText<N>, n: u8) {
-    let _ = made.push_str(weekday(n));
-    let _ = made.push_str(", ");
-    push_two::<N>(made, n);
-    let _ = made.push(' ');
-    let _ = made.push_str(month(n));
-    let _ = made.push(' ');
-    push_two::<N>(made, 20);
-    push_two::<N>(made, n);
-    let _ = made.push(' ');
-    push_time::<N>(made, n);
-    let _ = made.push_str(" +0000");
+fn push_mail_date<const N: usize>(made: &mut InlineText<N>, n: u8) -> Result<(), Refused> {
+    made.push_str(weekday(n))?;
+    made.push_str(", ")?;
+    push_two::<N>(made, n)?;
+    made.push(' ')?;
+    made.push_str(month(n))?;
+    made.push(' ')?;
+    push_two::<N>(made, 20)?;
+    push_two::<N>(made, n)?;
+    made.push(' ')?;
+    push_time::<N>(made, n)?;
+    made.push_str(" +0000")?;
+    Ok(())
 }
 
 // Makes a new text, and prints a date as `2024-07-13T15:09:59Z`.
 #[inline(never)]
 fn text_iso_date<const N: usize>(alloc: Global, made: &mut InlineText<N>, x: u64) -> u64 {
     *made = InlineText::new(alloc);
-    push_iso_date::<N>(made, (x % 8) as u8);
-    look_at(made.as_bytes(), x)
+    match push_iso_date::<N>(made, (x % 8) as u8) {
+        Ok(()) => look_at(made.as_bytes(), x),
+        Err(_) => 0,
+    }
 }
 
 #[inline(never)]
-fn push_iso_date<const N: usize>(made: &mut InlineText<N>, n: u8) {
-    push_two::<N>(made, 20);
-    push_two::<N>(made, n);
-    let _ = made.push('-');
-    push_two::<N>(made, n);
-    let _ = made.push('-');
-    push_two::<N>(made, n);
-    let _ = made.push('T');
-    push_time::<N>(made, n);
-    let _ = made.push('Z');
+fn push_iso_date<const N: usize>(made: &mut InlineText<N>, n: u8) -> Result<(), Refused> {
+    push_two::<N>(made, 20)?;
+    push_two::<N>(made, n)?;
+    made.push('-')?;
+    push_two::<N>(made, n)?;
+    made.push('-')?;
+    push_two::<N>(made, n)?;
+    made.push('T')?;
+    push_time::<N>(made, n)?;
+    made.push('Z')?;
+    Ok(())
 }
 
-fn push_time<const N: usize>(made: &mut InlineText<N>, n: u8) {
-    push_two::<N>(made, n);
-    let _ = made.push(':');
-    push_two::<N>(made, n);
-    let _ = made.push(':');
-    push_two::<N>(made, n);
+fn push_time<const N: usize>(made: &mut InlineText<N>, n: u8) -> Result<(), Refused> {
+    push_two::<N>(made, n)?;
+    made.push(':')?;
+    push_two::<N>(made, n)?;
+    made.push(':')?;
+    push_two::<N>(made, n)?;
+    Ok(())
 }
 
 // The last two digits of `n`.
-fn push_two<const N: usize>(made: &mut InlineText<N>, n: u8) {
-    let _ = made.push((b'0' + n / 10 % 10) as char);
-    let _ = made.push((b'0' + n % 10) as char);
+fn push_two<const N: usize>(made: &mut InlineText<N>, n: u8) -> Result<(), Refused> {
+    made.push((b'0' + n / 10 % 10) as char)?;
+    made.push((b'0' + n % 10) as char)?;
+    Ok(())
 }
 
 fn weekday(n: u8) -> &'static str {

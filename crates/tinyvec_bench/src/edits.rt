@@ -1,6 +1,6 @@
 //! What the rows of a vector work on, and those of lists of any number.
 
-use crate::number::Number;
+use crate::number::{Item, Number};
 use crate::report::Bench;
 use crate::vector::{Place, Vector};
 use std::alloc::Global;
@@ -25,7 +25,7 @@ impl<V: Vector<u64, N>, const N: usize> Bench<Place> for ListBench<'_, u64, V, N
 /// What is done with lists of `u64`.
 #[derive(Clone, Copy)]
 pub enum Edit {
-    PushAndPop,
+    FillAndEmpty,
     InsertFront,
     InsertMiddle,
     RemoveFront,
@@ -34,6 +34,7 @@ pub enum Edit {
     TruncateAndRefill,
     ExtendFromSlice,
     Clone,
+    CloneByMatch,
     Sum,
 }
 
@@ -42,7 +43,7 @@ impl<V: Vector<u64, N>, const N: usize> Bench<Edit> for ListBench<'_, u64, V, N>
     fn round(&mut self, benchmark: Edit, x: u64) -> u64 {
         let source = &self.source;
         match benchmark {
-            Edit::PushAndPop => push_and_pop(self.vec, x),
+            Edit::FillAndEmpty => fill_and_empty(self.vec, x),
             Edit::InsertFront => insert_front(self.vec, x),
             Edit::InsertMiddle => insert_middle(self.vec, x),
             Edit::RemoveFront => remove_front(self.vec, x),
@@ -51,6 +52,7 @@ impl<V: Vector<u64, N>, const N: usize> Bench<Edit> for ListBench<'_, u64, V, N>
             Edit::TruncateAndRefill => truncate_and_refill(self.vec, x),
             Edit::ExtendFromSlice => extend_from_slice(self.vec, source, x),
             Edit::Clone => self.vec.last_of_clone(self.alloc, self.odd, x),
+            Edit::CloneByMatch => self.vec.last_of_match(self.alloc, self.odd, x),
             Edit::Sum => sum(self.vec, x),
         }
     }
@@ -59,7 +61,7 @@ impl<V: Vector<u64, N>, const N: usize> Bench<Edit> for ListBench<'_, u64, V, N>
 /// What is done with lists of `u8`, where the size of an item matters.
 #[derive(Clone, Copy)]
 pub enum ByteEdit {
-    PushAndPop,
+    FillAndEmpty,
     InsertFront,
     RemoveFront,
     ExtendFromSlice,
@@ -71,7 +73,7 @@ impl<V: Vector<u8, N>, const N: usize> Bench<ByteEdit> for ListBench<'_, u8, V, 
     #[inline(always)]
     fn round(&mut self, benchmark: ByteEdit, x: u64) -> u64 {
         match benchmark {
-            ByteEdit::PushAndPop => push_and_pop(self.vec, x),
+            ByteEdit::FillAndEmpty => fill_and_empty(self.vec, x),
             ByteEdit::InsertFront => insert_front(self.vec, x),
             ByteEdit::RemoveFront => remove_front(self.vec, x),
             ByteEdit::ExtendFromSlice => extend_from_slice(self.vec, &self.source, x),
@@ -81,30 +83,30 @@ impl<V: Vector<u8, N>, const N: usize> Bench<ByteEdit> for ListBench<'_, u8, V, 
     }
 }
 
-// Pushes until there are `N` items, and pops until the vector is empty.
-#[inline(never)]
-fn push_and_pop<T: Number, V: Vector<T, N>, const N: usize>(vec: &mut V, x: u64) -> u64 {
-    vec.empty();
-    push_until_full(vec, x);
-    pop_until_empty(vec)
+/// Pushes until there are `N` items, and pops until the vector is empty. In one function LLVM would see that the second
+/// takes back what the first did.
+#[inline(always)]
+pub fn fill_and_empty<T: Item, V: Vector<T, N>, const N: usize>(vec: &mut V, x: u64) -> u64 {
+    push_all(vec, x);
+    pop_all(vec)
 }
 
 /// Pushes from none until there are `N` items.
 #[inline(never)]
-pub fn push_all<T: Number, V: Vector<T, N>, const N: usize>(vec: &mut V, x: u64) -> u64 {
+pub fn push_all<T: Item, V: Vector<T, N>, const N: usize>(vec: &mut V, x: u64) -> u64 {
     vec.empty();
     push_until_full(vec, x)
 }
 
-// Cuts the list to its first half, and pushes until there are `N` items.
+/// Cuts the list to its first half, and pushes until there are `N` items.
 #[inline(never)]
-fn truncate_and_refill<T: Number, V: Vector<T, N>, const N: usize>(vec: &mut V, x: u64) -> u64 {
+pub fn truncate_and_refill<T: Item, V: Vector<T, N>, const N: usize>(vec: &mut V, x: u64) -> u64 {
     vec.truncate(N / 2);
     push_until_full(vec, x)
 }
 
 // Answers the number that would have come next.
-fn push_until_full<T: Number, V: Vector<T, N>, const N: usize>(vec: &mut V, x: u64) -> u64 {
+fn push_until_full<T: Item, V: Vector<T, N>, const N: usize>(vec: &mut V, x: u64) -> u64 {
     let mut next = x;
     while vec.len() < N {
         if !vec.push(T::of(next)) {
@@ -115,8 +117,9 @@ fn push_until_full<T: Number, V: Vector<T, N>, const N: usize>(vec: &mut V, x: u
     next
 }
 
-// Answers the sum.
-fn pop_until_empty<T: Number, V: Vector<T, N>, const N: usize>(vec: &mut V) -> u64 {
+// Pops until the vector is empty, and answers the sum.
+#[inline(never)]
+fn pop_all<T: Item, V: Vector<T, N>, const N: usize>(vec: &mut V) -> u64 {
     let mut sum: u64 = 0;
     while let Some(y) = vec.pop() {
         sum = sum.wrapping_add(y.value());
@@ -124,9 +127,9 @@ fn pop_until_empty<T: Number, V: Vector<T, N>, const N: usize>(vec: &mut V) -> u
     sum
 }
 
-// Pops an item, and inserts one in front.
+/// Pops an item, and inserts one in front.
 #[inline(never)]
-fn insert_front<T: Number, V: Vector<T, N>, const N: usize>(vec: &mut V, x: u64) -> u64 {
+pub fn insert_front<T: Item, V: Vector<T, N>, const N: usize>(vec: &mut V, x: u64) -> u64 {
     let Some(last) = vec.pop() else {
         return 0;
     };
@@ -138,7 +141,7 @@ fn insert_front<T: Number, V: Vector<T, N>, const N: usize>(vec: &mut V, x: u64)
 
 // Pops an item, and inserts one in the middle.
 #[inline(never)]
-fn insert_middle<T: Number, V: Vector<T, N>, const N: usize>(vec: &mut V, x: u64) -> u64 {
+fn insert_middle<T: Item, V: Vector<T, N>, const N: usize>(vec: &mut V, x: u64) -> u64 {
     let Some(last) = vec.pop() else {
         return 0;
     };
@@ -149,9 +152,9 @@ fn insert_middle<T: Number, V: Vector<T, N>, const N: usize>(vec: &mut V, x: u64
     last.value()
 }
 
-// Removes the first item, and pushes one.
+/// Removes the first item, and pushes one.
 #[inline(never)]
-fn remove_front<T: Number, V: Vector<T, N>, const N: usize>(vec: &mut V, x: u64) -> u64 {
+pub fn remove_front<T: Item, V: Vector<T, N>, const N: usize>(vec: &mut V, x: u64) -> u64 {
     if vec.len() == 0 {
         return 0;
     }
@@ -164,7 +167,7 @@ fn remove_front<T: Number, V: Vector<T, N>, const N: usize>(vec: &mut V, x: u64)
 
 // Removes the item in the middle, and pushes one.
 #[inline(never)]
-fn remove_middle<T: Number, V: Vector<T, N>, const N: usize>(vec: &mut V, x: u64) -> u64 {
+fn remove_middle<T: Item, V: Vector<T, N>, const N: usize>(vec: &mut V, x: u64) -> u64 {
     if vec.len() == 0 {
         return 0;
     }
@@ -178,7 +181,7 @@ fn remove_middle<T: Number, V: Vector<T, N>, const N: usize>(vec: &mut V, x: u64
 
 // Swaps the item in the middle out, and pushes one.
 #[inline(never)]
-fn swap_remove<T: Number, V: Vector<T, N>, const N: usize>(vec: &mut V, x: u64) -> u64 {
+fn swap_remove<T: Item, V: Vector<T, N>, const N: usize>(vec: &mut V, x: u64) -> u64 {
     if vec.len() == 0 {
         return 0;
     }
@@ -192,7 +195,7 @@ fn swap_remove<T: Number, V: Vector<T, N>, const N: usize>(vec: &mut V, x: u64) 
 
 /// Makes the list the items of `source`, by one copy.
 #[inline(never)]
-pub fn extend_from_slice<T: Number, V: Vector<T, N>, const N: usize>(
+pub fn extend_from_slice<T: Item, V: Vector<T, N>, const N: usize>(
     vec: &mut V,
     source: &[T],
     x: u64,
@@ -206,10 +209,10 @@ pub fn extend_from_slice<T: Number, V: Vector<T, N>, const N: usize>(
 
 // The sum of the items and `x`.
 #[inline(never)]
-fn sum<T: Number, V: Vector<T, N>, const N: usize>(vec: &V, x: u64) -> u64 {
+fn sum<T: Item, V: Vector<T, N>, const N: usize>(vec: &V, x: u64) -> u64 {
     let mut sum = x;
     for y in vec.as_slice() {
-        sum = sum.wrapping_add((*y).value());
+        sum = sum.wrapping_add(y.value());
     }
     sum
 }

@@ -1,7 +1,7 @@
 //! Lists written and read in the Borsh form.
 ghost use Rattle.std.specs.Prelude.{◌*◌, ◌^◌, ◌<◌};
 
-use crate::number::{Number, last};
+use crate::number::{Item, Number, last};
 use crate::report::{Bench, Report};
 use crate::sources::scattered;
 use std::alloc::Global;
@@ -117,7 +117,7 @@ fn ends<T: Number>(list: &[T]) -> u64 {
     let Some(first) = list.first() else {
         return 0;
     };
-    (*first)
+    first
         .value()
         .wrapping_add(last(list))
         .wrapping_add(list.len() as u64)

@@ -8,7 +8,6 @@ use crate::sources::counting;
 use crate::spilling;
 use crate::splicing::splice;
 use std::alloc::Global;
-use std::io;
 use std::rt::Runtime;
 use tinyvec::TinyVec;
 use tinyvec_array::ArrayVec;
@@ -69,16 +68,12 @@ fn grown<R: Runtime, S: Bench<Growth>>(report: &mut Report<'_, R>, n: usize, lis
 }
 
 /// A `TinyVec` over four slots of this many numbers.
-pub fn of_lists<R: Runtime>(report: &mut Report<'_, R>, alloc: Global, n: usize) -> io::Result<()> {
-    let count = n as u64;
+pub fn of_lists<R: Runtime>(report: &mut Report<'_, R>, alloc: Global, n: usize) {
     let mut items = TinyVec::<[u64; 4]>::new(alloc);
-    if items.extend(0..count).is_err() {
-        return Err(io::Error::from(io::ErrorKind::OutOfMemory));
-    }
+    let _ = items.extend(0..n as u64);
     let vec = TinyVec::<[u64; 4]>::new(alloc);
     let source = items.as_slice();
     grown(report, n, &mut GrowBench { alloc, vec, source });
-    Ok(())
 }
 
 /// An `ArrayVec` of as many numbers as it has slots.

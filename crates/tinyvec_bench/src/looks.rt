@@ -1,6 +1,6 @@
 //! The rows of vectors that are looked at as a whole, whichever they are.
 
-use crate::comparing::{compare, equal, hash};
+use crate::comparing::{compare, equal, hash, hash_key};
 use crate::printing::{Text, debug_print};
 use crate::report::{Bench, Report};
 use std::fmt;
@@ -13,6 +13,7 @@ pub enum Look {
     Equal,
     Compare,
     Hash,
+    HashKey,
     DebugPrint,
 }
 
@@ -31,20 +32,19 @@ impl<V: PartialOrd + Hash + fmt::Debug> Bench<Look> for LookBench<'_, '_, V> {
             Look::Equal => equal(self.vec, self.other, x),
             Look::Compare => compare(self.vec, self.other, x),
             Look::Hash => hash(self.vec, x),
+            Look::HashKey => hash_key(self.vec, x),
             Look::DebugPrint => debug_print(self.vec, self.text, x),
         }
     }
 }
 
-/// Compares `vec` to an equal one, to one that is higher at its end, and, if one is given, to one that is higher at its
-/// start.
+/// Compares `vec` to an equal one and to one that is higher at its end, hashes it and prints it.
 pub fn looks<'v, R: Runtime, V: PartialOrd + Hash + fmt::Debug>(
     report: &mut Report<'_, R>,
     n: usize,
     vec: &'v V,
     same: &'v V,
     last_higher: &'v V,
-    first_higher: Option<&'v V>,
 ) {
     let mut text = Text::new();
     let mut look = LookBench {
@@ -55,10 +55,22 @@ pub fn looks<'v, R: Runtime, V: PartialOrd + Hash + fmt::Debug>(
     report.run("equal", n, Look::Equal, &mut look);
     look.other = last_higher;
     report.run("compare", n, Look::Compare, &mut look);
-    if let Some(first_higher) = first_higher {
-        look.other = first_higher;
-        report.run("compare_first", n, Look::Compare, &mut look);
-    }
     report.run("hash", n, Look::Hash, &mut look);
     report.run("debug_print", n, Look::DebugPrint, &mut look);
+}
+
+/// Compares `vec` to one that is higher at its start.
+pub fn look_at_first<R: Runtime, V: PartialOrd + Hash + fmt::Debug>(
+    report: &mut Report<'_, R>,
+    n: usize,
+    vec: &V,
+    first_higher: &V,
+) {
+    let mut text = Text::new();
+    let mut look = LookBench {
+        vec,
+        other: first_higher,
+        text: &mut text,
+    };
+    report.run("compare_first", n, Look::Compare, &mut look);
 }

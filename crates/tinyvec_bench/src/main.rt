@@ -13,6 +13,7 @@ mod fnv;
 mod form;
 mod growth;
 mod looks;
+mod nodes;
 mod number;
 mod printing;
 mod report;
@@ -21,6 +22,7 @@ mod slices;
 mod sources;
 mod spilling;
 mod splicing;
+mod text_calls;
 mod texts;
 mod tiny;
 mod vector;
@@ -41,9 +43,9 @@ fn main(rt: HostRuntime) -> io::Result<()> {
         Some(rounds) => Report::of_times(&rt, rounds_of(rounds.as_str())?),
     };
     if is_growth(command)? {
-        all_growth(&mut report, rt.alloc())?;
+        all_growth(&mut report, rt.alloc());
     } else {
-        all_rows(&mut report, rt.alloc())?;
+        all_rows(&mut report, rt.alloc());
     }
     report.finish()
 }

@@ -125,13 +125,16 @@ struct Begun {
     start: Option<Instant>,
 }
 
-// So that a run takes about as long for long lists as for short ones.
+// So that a run takes about as long for long lists as for short ones. Of the longest there are some more, or a run of twice
+// as many rounds would count as many.
 fn rounds_at(rounds: u64, capacity: usize) -> u64 {
     let share = (capacity / 16) as u64;
     if share < 2 {
         return rounds;
     }
-    (rounds / share).saturating_add(1)
+    (rounds / share)
+        .max((rounds / 32).min(24))
+        .saturating_add(1)
 }
 
 // The answers of the rounds so far, and one more.

@@ -65,7 +65,7 @@ fn looks_at_slices<R: Runtime, const N: usize>(report: &mut Report<'_, R>, sourc
     let vec = full_slice(&mut slots);
     let same = full_slice(&mut same_slots);
     let last_higher = full_slice(&mut higher_slots);
-    looks(report, N, &vec, &same, &last_higher, None);
+    looks(report, N, &vec, &same, &last_higher);
 }
 
 // A full vector over the slots.

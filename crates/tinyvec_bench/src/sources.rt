@@ -7,7 +7,7 @@ pub const LETTERS: &str = "abcdefghijklmnopqrstuvwxyzABCDEFGHIJKLMNOPQRSTUVWXYZ0
 
 /// Numbers that look random.
 pub fn scattered<T: Number, const N: usize>() -> [T; N] {
-    let mut numbers = [T::of(0); N];
+    let mut numbers: [T; N] = Default::default();
     let mut state: u64 = 1;
     for i in 0..N {
         state = state_behind(state);

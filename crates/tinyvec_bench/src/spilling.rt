@@ -3,6 +3,7 @@ ghost use Rattle.std.specs.Prelude.{◌*◌, ◌^◌, ◌<◌};
 
 use crate::report::{Bench, Report};
 use crate::sources::scattered;
+use crate::vector::Vector;
 use std::alloc::{AllocError, Global};
 use std::rt::Runtime;
 use tinyvec::TinyVec;
@@ -15,16 +16,21 @@ pub enum Spill {
     ExtendFromRange,
     ReserveAndExtend,
     ExtendExactSize,
+    FromIter,
+    Collect,
+    Clone,
     Append,
     InsertFront,
     InsertMiddle,
     Resize,
+    SpliceMore,
 }
 
-/// What the lists are filled with, and one that is appended.
+/// How many numbers the lists get, what they are filled with, and one that is appended or cloned.
 #[derive(Drop)]
 pub struct SpillBench<const N: usize> {
     pub alloc: Global,
+    pub count: usize,
     pub other: TinyVec<[u64; N]>,
     pub source: [u64; N],
 }
@@ -32,28 +38,31 @@ pub struct SpillBench<const N: usize> {
 impl<const N: usize> Bench<Spill> for SpillBench<N> {
     #[inline(always)]
     fn round(&mut self, benchmark: Spill, x: u64) -> u64 {
-        let count = N as u64;
-        let twice = count.saturating_add(count);
+        let count = self.count;
         match benchmark {
-            Spill::Push => push::<N>(self.alloc, &self.other, twice, x),
+            Spill::Push => push::<N>(self.alloc, &self.other, count as u64, x),
             Spill::ExtendFromSlice => extend_from_slice(self.alloc, &self.other, &self.source, x),
-            Spill::ExtendFromRange => extend_from_range::<N>(self.alloc, &self.other, twice, x),
-            Spill::ReserveAndExtend => {
-                reserve_and_extend::<N>(self.alloc, &self.other, N.saturating_add(N), x)
-            }
-            Spill::ExtendExactSize => {
-                extend_exact_size::<N>(self.alloc, &self.other, N.saturating_add(N), x)
-            }
+            Spill::ExtendFromRange => extend_from_range::<N>(
+                self.alloc,
+                &self.other,
+                count as u64,
+                x,
+            ),
+            Spill::ReserveAndExtend => reserve_and_extend::<N>(self.alloc, &self.other, count, x),
+            Spill::ExtendExactSize => extend_exact_size::<N>(self.alloc, &self.other, count, x),
+            Spill::FromIter => from_iter::<N>(self.alloc, &self.other, count as u64, x),
+            Spill::Collect => collect::<N>(self.alloc, &self.other, count as u64, x),
+            Spill::Clone => Vector::<u64, N>::last_of_clone(
+                &self.other,
+                self.alloc,
+                &self.other,
+                x,
+            ),
             Spill::Append => append(self.alloc, &mut self.other, &self.source, x),
             Spill::InsertFront => insert(self.alloc, &self.other, &self.source, 0, x),
             Spill::InsertMiddle => insert(self.alloc, &self.other, &self.source, N / 2, x),
-            Spill::Resize => resize(
-                self.alloc,
-                &self.other,
-                &self.source,
-                N.saturating_add(N),
-                x,
-            ),
+            Spill::Resize => resize(self.alloc, &self.other, &self.source, count, x),
+            Spill::SpliceMore => splice_more(self.alloc, &self.source, N as u64, x),
         }
     }
 }
@@ -65,18 +74,39 @@ pub fn of_spilling<R: Runtime, const N: usize>(report: &mut Report<'_, R>, alloc
     let source = scattered::<u64, N>();
     let mut list = SpillBench {
         alloc,
+        count: N.saturating_add(N),
         other: TinyVec::new(alloc),
         source,
     };
-    report.run("push", N, Spill::Push, &mut list);
+    grown(report, N, &mut list);
     report.run("extend_from_slice", N, Spill::ExtendFromSlice, &mut list);
-    report.run("extend_from_range", N, Spill::ExtendFromRange, &mut list);
-    report.run("reserve_and_extend", N, Spill::ReserveAndExtend, &mut list);
-    report.run("extend_exact_size", N, Spill::ExtendExactSize, &mut list);
     report.run("append", N, Spill::Append, &mut list);
     report.run("insert_front", N, Spill::InsertFront, &mut list);
     report.run("insert_middle", N, Spill::InsertMiddle, &mut list);
     report.run("resize", N, Spill::Resize, &mut list);
+    report.run("splice_more", N, Spill::SpliceMore, &mut list);
+}
+
+/// Lists of this many numbers out of four slots.
+pub fn of_long<R: Runtime>(report: &mut Report<'_, R>, alloc: Global, n: usize) {
+    let mut list = SpillBench::<4> {
+        alloc,
+        count: n,
+        other: TinyVec::new(alloc),
+        source: [0; 4],
+    };
+    grown(report, n, &mut list);
+    let _ = list.other.extend(0..n as u64);
+    report.run("clone", n, Spill::Clone, &mut list);
+}
+
+fn grown<R: Runtime, S: Bench<Spill>>(report: &mut Report<'_, R>, n: usize, list: &mut S) {
+    report.run("push", n, Spill::Push, list);
+    report.run("extend_from_range", n, Spill::ExtendFromRange, list);
+    report.run("reserve_and_extend", n, Spill::ReserveAndExtend, list);
+    report.run("extend_exact_size", n, Spill::ExtendExactSize, list);
+    report.run("from_iter", n, Spill::FromIter, list);
+    report.run("collect", n, Spill::Collect, list);
 }
 
 /// Pushes `count` numbers to a list over as many slots as `_like`.
@@ -178,6 +208,26 @@ fn extend_exact_size<const N: usize>(
     }
 }
 
+// The same numbers, by the call of the list.
+#[inline(never)]
+fn from_iter<const N: usize>(alloc: Global, _like: &TinyVec<[u64; N]>, count: u64, x: u64) -> u64 {
+    let start = x % 65536;
+    match TinyVec::<[u64; N]>::from_iter(alloc, start..start.saturating_add(count)) {
+        Ok(vec) => look_at(vec.as_slice(), x),
+        Err(_) => 0,
+    }
+}
+
+// The same numbers, by that of the iterator.
+#[inline(never)]
+fn collect<const N: usize>(alloc: Global, _like: &TinyVec<[u64; N]>, count: u64, x: u64) -> u64 {
+    let start = x % 65536;
+    match (start..start.saturating_add(count)).collect::<TinyVec<[u64; N]>>(alloc) {
+        Ok(vec) => look_at(vec.as_slice(), x),
+        Err(_) => 0,
+    }
+}
+
 // Moves a list of as many items after a full one.
 #[inline(never)]
 fn append<const N: usize>(
@@ -213,8 +263,22 @@ fn resize<const N: usize>(
     look_at(vec.as_slice(), x)
 }
 
-/// A new list of the items of `source`, in its array.
-pub fn filled<const N: usize>(
+// Puts a quarter more numbers than there were in the place of the second quarter of a full list.
+#[inline(never)]
+fn splice_more<const N: usize>(alloc: Global, source: &[u64; N], n: u64, x: u64) -> u64 {
+    let Ok(mut vec) = filled(alloc, source) else {
+        return 0;
+    };
+    let quarter = vec.len() / 4;
+    let numbers = 0..n.saturating_add(n / 4);
+    if vec.splice(quarter..2 * quarter, numbers).finish().is_err() {
+        return 0;
+    }
+    look_at(vec.as_slice(), x)
+}
+
+// A new list of the items of `source`, in its array.
+fn filled<const N: usize>(
     alloc: Global,
     source: &[u64; N],
 ) -> Result<TinyVec<[u64; N]>, AllocError> {
@@ -223,8 +287,8 @@ pub fn filled<const N: usize>(
     Ok(vec)
 }
 
-/// How many items there are, one of them and `x`, added up.
-pub fn look_at(items: &[u64], x: u64) -> u64 {
+// How many items there are, one of them and `x`, added up.
+fn look_at(items: &[u64], x: u64) -> u64 {
     let item = match items.get((x % 64) as usize) {
         Some(y) => *y,
         None => 0,

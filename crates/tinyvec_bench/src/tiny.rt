@@ -1,29 +1,29 @@
 //! The calls of a `TinyVec`.
 ghost use Rattle.std.specs.Prelude.{⊤};
 
-use crate::number::{Number, is_odd, last};
+use crate::number::{Item, is_odd, last};
 use crate::vector::{Place, Vector, Words};
-use std::alloc::{AllocError, Global};
+use std::alloc::Global;
 use std::ops::Range;
 use tinyvec::TinyVec;
 
-impl<T: Number, const N: usize> Vector<T, N> for TinyVec<[T; N]> {
+impl<T: Item, const N: usize> Vector<T, N> for TinyVec<[T; N]> {
     ghost has_room = { λ _. ⊤ };
 
     #[inline(always)]
-    fn placed(alloc: Global, place: Place, items: &[T]) -> Result<Self, AllocError> {
+    fn placed(alloc: Global, place: Place, items: &[T]) -> Self {
         let mut vec = TinyVec::new(alloc);
-        vec.reserve(items.len())?;
+        let _ = vec.reserve(items.len());
         for item in items {
-            if vec.push(*item).is_err() {
-                return Err(AllocError);
-            }
+            let _ = vec.push(T::of(item.value()));
         }
         match place {
             Place::Inline => {}
-            Place::Heap => vec.move_to_the_heap()?,
+            Place::Heap => {
+                let _ = vec.move_to_the_heap();
+            }
         }
-        Ok(vec)
+        vec
     }
 
     #[inline(always)]
@@ -37,6 +37,11 @@ impl<T: Number, const N: usize> Vector<T, N> for TinyVec<[T; N]> {
     #[inline(always)]
     fn last_of_clone(&self, alloc: Global, odd: &Self, x: u64) -> u64 {
         last(clone_of::<T, N>(alloc, self, odd, x).as_slice())
+    }
+
+    #[inline(always)]
+    fn last_of_match(&self, alloc: Global, odd: &Self, x: u64) -> u64 {
+        last(match_of::<T, N>(alloc, self, odd, x).as_slice())
     }
 
     #[inline(always)]
@@ -114,6 +119,15 @@ impl<const N: usize> Words<N> for TinyVec<[u64; N]> {
     }
 
     #[inline(always)]
+    fn extract_odd(&mut self, x: u64) -> u64 {
+        let mut sum = x;
+        for y in self.extract_if(.., |y| is_odd(y)) {
+            sum = sum.wrapping_add(y);
+        }
+        sum
+    }
+
+    #[inline(always)]
     fn dedup(&mut self) {
         self.dedup();
     }
@@ -122,11 +136,16 @@ impl<const N: usize> Words<N> for TinyVec<[u64; N]> {
     fn splice(&mut self, start: usize, end: usize, count: u64) -> bool {
         self.splice(start..end, 0..count).finish().is_ok()
     }
+
+    #[inline(always)]
+    fn replace_range(&mut self, start: usize, end: usize, numbers: &[u64]) -> bool {
+        self.replace_range(start..end, numbers).is_ok()
+    }
 }
 
 // A new vector as long as `_like`, and two pushes.
 #[inline(never)]
-fn two_pushes<T: Number, const N: usize>(
+fn two_pushes<T: Item, const N: usize>(
     alloc: Global,
     _like: &TinyVec<[T; N]>,
     x: u64,
@@ -139,7 +158,7 @@ fn two_pushes<T: Number, const N: usize>(
 
 // A new vector as long as `_like` with room on the heap, and two pushes.
 #[inline(never)]
-fn two_pushes_on_heap<T: Number, const N: usize>(
+fn two_pushes_on_heap<T: Item, const N: usize>(
     alloc: Global,
     _like: &TinyVec<[T; N]>,
     x: u64,
@@ -154,7 +173,7 @@ fn two_pushes_on_heap<T: Number, const N: usize>(
 
 // A clone of the one or the other, as `x` is even or odd.
 #[inline(never)]
-fn clone_of<T: Number, const N: usize>(
+fn clone_of<T: Item, const N: usize>(
     alloc: Global,
     even: &TinyVec<[T; N]>,
     odd: &TinyVec<[T; N]>,
@@ -165,4 +184,19 @@ fn clone_of<T: Number, const N: usize>(
         return TinyVec::new(alloc);
     };
     copy
+}
+
+// The same, by a `match` of both results.
+#[inline(never)]
+fn match_of<T: Item, const N: usize>(
+    alloc: Global,
+    even: &TinyVec<[T; N]>,
+    odd: &TinyVec<[T; N]>,
+    x: u64,
+) -> TinyVec<[T; N]> {
+    let vec = if x % 2 == 0 { even } else { odd };
+    match vec.clone() {
+        Ok(copy) => copy,
+        Err(_) => TinyVec::new(alloc),
+    }
 }

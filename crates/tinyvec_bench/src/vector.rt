@@ -2,8 +2,8 @@
 ghost use Rattle.std.specs.Prelude.{◌≡◌, ◌+◌, ◌<◌, ◌≤◌, length, OnSome};
 ghost use Rattle.std.specs.Bool.{OnTrue};
 
-use crate::number::Number;
-use std::alloc::{AllocError, Global};
+use crate::number::Item;
+use std::alloc::Global;
 use std::convert::AsSlice;
 use std::fmt::Debug;
 use std::hash::Hash;
@@ -17,18 +17,21 @@ pub enum Place {
 }
 
 /// The calls of a vector over `N` slots.
-pub trait Vector<T: Number, const N: usize>: AsSlice<T> + Debug + Drop + Hash + PartialOrd {
+pub trait Vector<T: Item, const N: usize>: AsSlice<T> + Drop {
     /// Whether an item may be pushed. A vector that grows always has room.
     ghost has_room: { Self → Type 0 };
 
-    /// A vector of the items, at this place. An array must have a slot for each.
-    fn placed(alloc: Global, place: Place, items: &[T]) -> Result<Self, AllocError>;
+    /// A vector of the items, at this place. One that finds no room is left out, as the checksums of the rows then tell.
+    fn placed(alloc: Global, place: Place, items: &[T]) -> Self;
 
-    /// The last number of the vector that the row `two_pushes` makes. A generic row would copy that vector.
+    /// The last number of the vector that the rows `two_pushes` and `returned` make. A generic row would copy that vector.
     fn last_of_two_pushes(&self, alloc: Global, place: Place, x: u64) -> u64;
 
     /// That of the vector that the row `clone` makes.
     fn last_of_clone(&self, alloc: Global, odd: &Self, x: u64) -> u64;
+
+    /// That of the vector that the row `clone_by_match` makes.
+    fn last_of_match(&self, alloc: Global, odd: &Self, x: u64) -> u64;
 
     fn len(&self) -> usize
         ensures value { result ≡ length (Self.items self.now) }
@@ -67,7 +70,7 @@ pub trait Vector<T: Number, const N: usize>: AsSlice<T> + Debug + Drop + Hash + 
 }
 
 /// The calls that only rows of `u64` make.
-pub trait Words<const N: usize>: Vector<u64, N> {
+pub trait Words<const N: usize>: Vector<u64, N> + Debug + Hash + PartialOrd {
     fn extend_from_range(&mut self, numbers: Range<u64>) -> bool;
 
     /// Takes a part out, and returns the sum of its items and `x`.
@@ -82,10 +85,18 @@ pub trait Words<const N: usize>: Vector<u64, N> {
 
     fn retain_odd(&mut self);
 
+    /// Takes the odd numbers out, and returns the sum of them and `x`.
+    fn extract_odd(&mut self, x: u64) -> u64;
+
     fn dedup(&mut self);
 
     /// Puts `count` numbers in the place of a part.
     fn splice(&mut self, start: usize, end: usize, count: u64) -> bool
+        requires start_le_end { start ≤ end }
+        requires in_bounds { end ≤ length (Self.items self.old) };
+
+    /// Puts the numbers in the place of a part.
+    fn replace_range(&mut self, start: usize, end: usize, numbers: &[u64]) -> bool
         requires start_le_end { start ≤ end }
         requires in_bounds { end ≤ length (Self.items self.old) };
 }

@@ -1,6 +1,6 @@
 use Rattle.std.proofs.Common.{length}
 use Rattle.std.specs.Bool.{⊤}
-use Rattle.tinyvec_bench.proofs.edits.pop_until_empty.Given as goal
+use Rattle.tinyvec_bench.proofs.edits.pop_all.Given as goal
 
 abbrev pub invariant-loop-y : goal.invariant-loop-y
 invariant-loop-y g l = ⊤
