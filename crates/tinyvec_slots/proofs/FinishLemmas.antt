@@ -1,9 +1,9 @@
 -- Lemmas on the end of a splice.
-use Rattle.std.proofs.Common.{◌≡◌, ◌+◌, ◌≤◌, ℕ, true, false, List, ◌∷◌, ◌++◌, length, Option, Some, None, Result, Ok, Err, MatchResult, refl, sym, ap, ◌∙◌, append_assoc, arith, length-append}
+use Rattle.std.proofs.Common.{◌≡◌, ◌+◌, ◌-◌, ◌*◌, ◌<◌, ◌≤◌, ℕ, true, false, List, ◌∷◌, ◌++◌, min, length, take, drop, Option, Some, None, Result, Ok, Err, MatchResult, refl, sym, ap, ◌∙◌, append_assoc, arith, length-append, length-take, length-drop}
 use Rattle.std.proofs.lemmas.Result.{MatchResult-weaker}
 use Rattle.std.specs.Iterator.{Drains, Yields, YieldsThen}
 use Rattle.tinyvec_slots.specs.Filling.{ShowsItems}
-use Rattle.tinyvec_slots.specs.AnySplice.{SpliceView, Finishes, FinishesWith}
+use Rattle.tinyvec_slots.specs.AnySplice.{SpliceView, Finishes, FinishesWith, FinishTouches}
 use Rattle.tinyvec_slots.specs.declared.no_room.SpliceRest.{SpliceRest}
 use Rattle.tinyvec_slots.proofs.FillingLemmas.{drained, refused}
 use Rattle.tinyvec_slots.proofs.Runs.{YieldsThen-join}
@@ -15,6 +15,13 @@ module _ {I T : Type 0} (gives : I → Option T → I → Type 0) (capacity : �
   finished_len result h =
       ap length h.list_is ∙ length-append (s.front ++ h.placed) s.back
       ∙ ap (λ n. n + length s.back) (length-append s.front h.placed)
+
+  -- it is no shorter than what it was put into
+  pub finished_longer : (at : ℕ) (xs : List T) → s.front ≡ take at xs → s.back ≡ drop at xs → (result : Result Unit (SpliceRest T I))
+      → Finishes gives capacity s result list → length xs ≤ length list
+  finished_longer at xs front back result h =
+      let long = finished_len result h in
+      omega (arith, ap length front ∙ length-take at xs, ap length back ∙ length-drop at xs)
 
   -- of a replacement of which it is known what it still gives
   pub finishes_with : (rest : I → List T) → ShowsItems gives rest → (result : Result Unit (SpliceRest T I))
@@ -71,4 +78,28 @@ module _ {I T : Type 0} (gives : I → Option T → I → Type 0) (capacity : �
         ∙ ap (λ l. s.front ++ (placed ++ h.placed) ++ l) back_is;
     full = h.full;
     fits = h.fits;
+  }
+
+-- How many touches `finish` needed of s, whose list was in `slots` slots, with the gap from `front` up to `back`.
+module _ {I T : Type 0} (s : SpliceView I T) (slots moved : ℕ) (list : List T) (front back : ℕ)
+    (front_len : length s.front ≡ min front slots) (back_len : length s.back ≡ slots - back) (within : back ≤ slots) where
+  -- the replacement ended at `at`, and the gap was closed
+  pub touches_closed : (at : ℕ) → front ≤ at → at < back → slots ≡ length list + (back - at)
+      → FinishTouches s slots moved list (s.touches + 2 * (at - front) + (slots - at))
+  touches_closed at least most shorter = record {
+    filled = λ e. absurd (omega arith);
+    closed = λ _. omega arith;
+    at_least = omega arith;
+    at_most = omega arith;
+  }
+
+  -- the gap was filled, and more was appended with n touches
+  pub touches_appended : {n filled : ℕ} → front ≤ back → slots ≤ length list → filled ≡ s.touches + 2 * (back - front)
+      → (length list ≡ slots → n ≡ filled) → filled + (length list - slots) ≤ n → n ≤ filled + (length list - slots) + (length list - back) + moved
+      → FinishTouches s slots moved list n
+  touches_appended order longer is none least most = record {
+    filled = λ e. omega (arith, none e);
+    closed = λ lt. absurd (omega arith);
+    at_least = omega arith;
+    at_most = omega arith;
   }

@@ -1,11 +1,11 @@
-use Rattle.std.proofs.Common.{◌≡◌, ◌≤◌, ◌++◌, take, drop, length, length-take, length-drop, Ok, ap, ◌∙◌, arith, rules}
+use Rattle.std.proofs.Common.{◌≡◌, ◌≤◌, ◌++◌, take, drop, length, length-take, length-drop, Ok, refl, sym, ap, ◌∙◌, arith}
 use Rattle.std.specs.declared.iter.Fuse.{Fuse}
 use Rattle.std.specs.Iterator.Adapters.{fuse_steps}
 use Rattle.tinyvec_slots.specs.Fused.{fused_rest}
 use Rattle.tinyvec_slots.specs.Gap.{gap_front, gap_back, gap_view}
 use Rattle.tinyvec_slots.specs.AnySplice.{SpliceView, Finishes}
 use Rattle.tinyvec_slots.proofs.Fused.{fused_first}
-use Rattle.tinyvec_slots.proofs.FinishLemmas.{finished_len, finishes_with, finishes_closed, finishes_appended}
+use Rattle.tinyvec_slots.proofs.FinishLemmas.{finished_longer, finishes_with, finishes_closed, finishes_appended, touches_closed, touches_appended}
 use Rattle.tinyvec_slots.proofs.splicing.splice_finish.Goals.{After-fill}
 use Rattle.tinyvec_slots.proofs.splicing.splice_finish.Goals as goal
 
@@ -49,6 +49,25 @@ module _ (g : _) (c : goal.After-drop-replacement g) where
       finishes_closed (fuse_steps g.I.Iterator.next_gives) (g.V.CanCut.room c.splice_stop.new.vec) (old g filled) (mid g filled) c.fill.ensures.placed.0 (front_is g filled) (back_is g filled)
       tt (g.V.CanCut.items c.splice_stop.new.vec) (rw c.if-not-fill.true at c.fill.ensures.placed.3) c.splice_stop.ensures.items c.splice_stop.ensures.shorter.fits
 
+pub returns-then-not-fill-clause-finished : goal.returns-then-not-fill-clause-finished
+returns-then-not-fill-clause-finished = closed
+
+pub returns-then-not-fill-clause-touches : goal.returns-then-not-fill-clause-touches
+returns-then-not-fill-clause-touches g c =
+    let xs = g.V.CanCut.items c.args.vec.now in
+    let same = same_len g (filled g c) in
+    rw (c.touches.ensures, c.splice_stop.ensures.touches, c.fill.ensures.touches, same) (
+    touches_closed (old g (filled g c)) (length xs) (g.V.CanSplice.moved c.args.vec.now c.splice_stop.new.vec) (g.V.CanCut.items c.splice_stop.new.vec) (gap_front c.args.gap) (gap_back c.args.gap)
+    (length-take (gap_front c.args.gap) xs) (length-drop (gap_back c.args.gap) xs) c.requires.ready.back_le_len
+    (gap_front c.fill.new.self) c.fill.ensures.in_order.0 (rw c.if-not-fill.true at c.fill.ensures.filled) (rw (same, c.fill.ensures.back) at c.splice_stop.ensures.len))
+
+pub returns-then-not-fill-clause-grown : goal.returns-then-not-fill-clause-grown
+returns-then-not-fill-clause-grown g c =
+    let laws = g.met.V.CanSplice in
+    let vec = refilled g (filled g c) in
+    let cut = laws.cut_grown vec c.splice_stop.new.vec c.splice_stop.ensures.shorter.cut c.splice_stop.ensures.shorter.fits in
+    laws.kept_grown c.args.vec.now vec c.splice_stop.new.vec c.splice_stop.new.vec (is_written g (filled g c)).1 cut (laws.kept_same c.splice_stop.new.vec)
+
 pub returns-then-not-fill-clause-listed : goal.returns-then-not-fill-clause-listed
 returns-then-not-fill-clause-listed g c = λ rest shows.
     let gives = g.I.Iterator.next_gives in
@@ -64,23 +83,33 @@ module _ (g : _) (c : goal.After-touches-2 g) where
       finishes_appended (fuse_steps g.I.Iterator.next_gives) (g.V.CanCut.room c.append_in-finished.new.vec) (old g filled-2) (mid g filled-2) c.fill.ensures.placed.0 (front_is g filled-2) (back_is g filled-2)
       c.append_in-finished.result (g.V.CanCut.items c.append_in-finished.new.vec) (rw c.if-not-fill.false at c.fill.ensures.placed.3) c.append_in-finished.ensures.finished
 
+  longer : length (g.V.CanCut.items (refilled g filled-2)) ≤ length (g.V.CanCut.items c.append_in-finished.new.vec)
+  longer =
+      finished_longer (fuse_steps g.I.Iterator.next_gives) _ (mid g filled-2) (g.V.CanCut.items c.append_in-finished.new.vec) (gap_front c.fill.new.self) (g.V.CanCut.items (refilled g filled-2)) refl
+      (ap (λ k. drop k (g.V.CanCut.items (refilled g filled-2))) (c.fill.ensures.back ∙ sym (rw c.if-not-fill.false at c.fill.ensures.filled).0)) c.append_in-finished.result c.append_in-finished.ensures.finished
+
 pub returns-clause-finished : goal.returns-clause-finished
 returns-clause-finished = appended
 
 pub returns-clause-touches : goal.returns-clause-touches
 returns-clause-touches g c =
-    let xs = g.V.CanCut.items (refilled g (filled-2 g c)) in
-    let long = finished_len (fuse_steps g.I.Iterator.next_gives) _ (mid g (filled-2 g c)) _ _ c.append_in-finished.ensures.finished in
-    let front = length-take (gap_front c.fill.new.self) xs in
-    let back = length-drop (gap_back c.fill.new.self) xs in
+    let xs = g.V.CanCut.items c.args.vec.now in
+    let vec = refilled g (filled-2 g c) in
     let same = same_len g (filled-2 g c) in
-    let filled = (rw c.if-not-fill.false at c.fill.ensures.filled).0 in
-    let longer : length (g.V.CanCut.items c.args.vec.now) ≤ length (g.V.CanCut.items c.append_in-finished.new.vec) = omega (arith, c.fill.ensures.back) in record {
-      filled = search rules;
-      closed = search rules;
-      at_least = search rules;
-      at_most = search rules;
-    }
+    let met = c.append_in-finished.ensures in
+    let at = (rw c.if-not-fill.false at c.fill.ensures.filled).0 in
+    let moved = g.met.V.CanSplice.kept_moved c.args.vec.now vec c.append_in-finished.new.vec c.append_in-finished.new.vec (is_written g (filled-2 g c)).1 (g.met.V.CanSplice.kept_same c.append_in-finished.new.vec) in
+    rw (c.touches-2.ensures, ← moved) (
+    touches_appended (old g (filled-2 g c)) (length xs) _ (g.V.CanCut.items c.append_in-finished.new.vec) (gap_front c.args.gap) (gap_back c.args.gap)
+    (length-take (gap_front c.args.gap) xs) (length-drop (gap_back c.args.gap) xs) c.requires.ready.back_le_len
+    (rw at at c.fill.ensures.in_order.0) (rw same at (longer g c)) (rw at at c.fill.ensures.touches) (rw same at met.none) (rw same at met.at_least) (rw (same, at) at met.at_most))
+
+pub returns-clause-grown : goal.returns-clause-grown
+returns-clause-grown g c =
+    let laws = g.met.V.CanSplice in
+    let vec = refilled g (filled-2 g c) in
+    let new = c.append_in-finished.new.vec in
+    laws.kept_grown c.args.vec.now vec new new (is_written g (filled-2 g c)).1 c.append_in-finished.ensures.grown (laws.kept_same new)
 
 pub returns-clause-listed : goal.returns-clause-listed
 returns-clause-listed g c = λ rest shows.

@@ -1,0 +1,48 @@
+use Rattle.std.proofs.Common.{◌≡◌, ℕ, ◌≤◌, List, ◌++◌, length, take, drop, length-take-le, sym, ap, subst, ◌∙◌, arith, append-nil, take_at, take_all}
+use Rattle.std.proofs.lemmas.List.{drop_all, get_or-take, take-take}
+use Rattle.std.specs.List.{AllZip}
+use Rattle.tinyvec_slots.specs.Clones.{ClonesOver}
+use Rattle.tinyvec_slots.proofs.tuned.cloning.clone_block.Goals as goal
+
+module _ {X : Type 0} (C : X → X → Type 0) (xs old new to : List X) (n : ℕ) where
+  -- the clones, moved from one list to another
+  clones_moved : ClonesOver C xs n old new → ClonesOver C xs n to (take n new ++ drop n to)
+  clones_moved h = record {
+    made = h.made;
+    clones = h.clones;
+    count = h.count;
+    written = ap (λ l. l ++ drop n to) (ap (take n) h.written ∙ take_at h.made (drop n old) n h.count);
+  }
+
+  -- a whole list of them
+  whole_moved : (k : ℕ) → n ≡ k → length xs ≤ n → length old ≤ n → ClonesOver C (take n xs) n old new → ClonesOver C xs k to (new ++ drop k to)
+  whole_moved k is few short h = record {
+    made = h.made;
+    clones = subst (λ l. AllZip C l h.made) (take_all n xs few) h.clones;
+    count = h.count ∙ is;
+    written = ap (λ l. l ++ drop k to) (h.written ∙ ap (λ l. h.made ++ l) (drop_all n old short) ∙ append-nil h.made);
+  }
+
+pub returns-then-made-clause-refused : goal.returns-then-made-clause-refused
+returns-then-made-clause-refused g c =
+    let from = c.args.from.now in
+    let n = c.clone_until_refused-made.result in
+    let block = c.clone_until_refused-made.new.to in
+    let first = length-take-le g.row.N from c.requires.enough in
+    let refused = c.clone_until_refused-made.ensures.refused (omega (arith, first, c.if-made.true)) in
+    let moved = clones_moved g.T.Clone.is_clone (take n (take g.row.N from)) c.default-block.result block c.args.to.now n c.clone_until_refused-made.ensures.cloned in
+    let cut = take-take n g.row.N from (omega (arith, c.if-made.true)) in (
+      n,
+      (omega (arith, c.if-made.true, c.requires.enough), λ d sure. refused.1 d (subst g.T.Clone.is_infallible (sym (get_or-take g.row.N from n d c.if-made.true)) sure)),
+      rw c.swap_with_slice.ensures.after (subst (λ l. ClonesOver g.T.Clone.is_clone l n c.args.to.now (take n block ++ drop n c.args.to.now)) cut moved),
+    )
+
+pub returns-clause-cloned : goal.returns-clause-cloned
+returns-clause-cloned g c =
+    let from = c.args.from.now in
+    let n = c.clone_until_refused-made.result in
+    let met = c.clone_until_refused-made.ensures in
+    let first = length-take-le g.row.N from c.requires.enough in
+    let is : n ≡ g.row.N = omega (arith, first, met.within, c.if-made.false) in
+    whole_moved g.T.Clone.is_clone (take g.row.N from) c.default-block.result c.clone_until_refused-made.new.to c.args.to.now n g.row.N is
+    (omega (arith, first, is)) (omega (arith, c.default-block.ensures.long, is)) met.cloned
