@@ -49,6 +49,7 @@ impl<const N: usize> Clone for InlineText<N> {
         ensures cases { MatchResult result (λ t. t.bytes ≡ self.now.bytes) (λ _. ¬ (IsTrue (lies_inline self.now.place))) }
         ensures place { IfOk result (λ t. lies_inline t.place ≡ lies_inline self.now.place) }
         ensures room { IfOk result (λ t. lies_inline t.place ≡ false → capacity_in N t.place ≡ text_len self.now) }
+        ensures succeeds_empty { lies_inline self.now.place ≡ false → text_len self.now ≡ 0 → IsOk result }
     {
         let list = self.list.clone()?;
         Ok(InlineText { list })
