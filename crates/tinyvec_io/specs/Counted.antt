@@ -5,12 +5,13 @@ use Rattle.std.specs.declared.io.Error.{Error}
 use Rattle.std.specs.declared.io.ErrorKind.TheVariants.{Interrupted}
 use Rattle.std.specs.Io.KnownBytes.{Appends, Consumes}
 
--- the reader or writer, and the number of its faults
+-- the reader or writer, the number of its faults, and that of the calls that failed
 pub record CountedView (E : Type 0) : Type 0 where
   pub inner : E
   pub faults : ℕ
+  pub failed : ℕ
 
--- one fault more, up to `u64::MAX`
+-- one more, up to `u64::MAX`
 abbrev pub one_more_fault : ℕ → ℕ
 one_more_fault faults = min (faults + 1) (2 ^ 64 - 1)
 

@@ -88,7 +88,7 @@ example-ReadsSpelling = (7 ∷ [], refl, search rules)
 
 -- a reader with these bytes left, or a writer that has taken them, without a fault
 abbrev pub holding : List ℕ → CountedView (List ℕ)
-holding bytes = record { inner = bytes; faults = 0 }
+holding bytes = record { inner = bytes; faults = 0; failed = 0 }
 
 abbrev pub known : List ℕ → Option (List ℕ)
 known bytes = Some bytes

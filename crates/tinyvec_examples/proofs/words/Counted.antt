@@ -5,9 +5,9 @@ use Rattle.tinyvec_io.specs.Counted.{CountedView, CountsFault, Reported, Retries
 abbrev pub wrote : ℕ → Result ℕ Unit
 wrote count = Ok count
 
--- a reader with two faults
+-- a reader with two faults, one of them an interruption after which it was tried again
 abbrev pub seen : {E : Type 0} → E → CountedView E
-seen reader = record { inner = reader; faults = 2 }
+seen reader = record { inner = reader; faults = 2; failed = 1 }
 
 -- a `CountedView` of two faults
 pub example-CountedView : {E : Type 0} (reader : E) → (seen reader).faults ≡ 2

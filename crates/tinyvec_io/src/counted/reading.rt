@@ -17,10 +17,12 @@ impl<R: Read> Read for Counted<R> {
         ensures bytes { ReadConsumes (R.remaining self.old.inner) (R.remaining self.new.inner)
             result buf.new }
         ensures faults { CountsFault (is_err result) self.old.faults self.new.faults }
+        ensures failed { CountsFault (is_err result) self.old.failed self.new.failed }
     {
         let result = self.inner.read(buf);
         if result.is_err() {
             self.count_fault();
+            self.count_failed();
         }
         result
     }
@@ -38,14 +40,21 @@ impl<R: Read> Counted<R> {
         ensures end { IfOk result (λ n. n ≡ 0 → IsAtEnd (R.remaining self.new.inner)) }
         ensures err { OnErr result (Keeps (R.remaining self.old.inner) (R.remaining self.new.inner)) }
         ensures faults { Retries self.old.faults self.new.faults result }
+        ensures failed { CountsFault (is_err result) self.old.failed self.new.failed }
     {
         for _tries in 0..u64::MAX {
-            match self.read(buf) {
+            match self.inner.read(buf) {
                 Ok(count) => return Ok(count),
-                Err(e) if e.kind() == ErrorKind::Interrupted => {}
-                Err(e) => return Err(e),
+                Err(e) => {
+                    self.count_fault();
+                    if e.kind() != ErrorKind::Interrupted {
+                        self.count_failed();
+                        return Err(e);
+                    }
+                }
             }
         }
+        self.count_failed();
         Err(io::Error::from(ErrorKind::TimedOut))
     }
 
@@ -60,6 +69,7 @@ impl<R: Read> Counted<R> {
             (R.remaining self.new.inner) buf.new) }
         ensures small { IfOk result (λ n. AllByRecursion (λ byte. byte < 256) (take n buf.new)) }
         ensures faults { Retries self.old.faults self.new.faults result }
+        ensures failed { CountsFault (is_err result) self.old.failed self.new.failed }
     {
         let mut filled = 0;
         while filled < buf.len() {

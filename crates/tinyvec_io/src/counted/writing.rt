@@ -16,6 +16,7 @@ impl<W: Write> Write for Counted<W> {
         ensures bytes { WriteAppends (W.contents self.old.inner) (W.contents self.new.inner)
             result buf.now }
         ensures faults { CountsFault (is_write_fault result buf.now) self.old.faults self.new.faults }
+        ensures failed { CountsFault (is_write_fault result buf.now) self.old.failed self.new.failed }
     {
         let result = self.inner.write(buf);
         let is_fault = match &result {
@@ -24,6 +25,7 @@ impl<W: Write> Write for Counted<W> {
         };
         if is_fault {
             self.count_fault();
+            self.count_failed();
         }
         result
     }
@@ -31,10 +33,12 @@ impl<W: Write> Write for Counted<W> {
     fn flush(&mut self) -> io::Result<()>
         ensures bytes { Keeps (W.contents self.old.inner) (W.contents self.new.inner) }
         ensures faults { CountsFault (is_err result) self.old.faults self.new.faults }
+        ensures failed { CountsFault (is_err result) self.old.failed self.new.failed }
     {
         let result = self.inner.flush();
         if result.is_err() {
             self.count_fault();
+            self.count_failed();
         }
         result
     }
@@ -49,6 +53,7 @@ impl<W: Write> Write for Counted<W> {
         ensures err { OnErr result (AppendsFront (W.contents self.old.inner)
             (W.contents self.new.inner) buf.now) }
         ensures faults { Retries self.old.faults self.new.faults result }
+        ensures failed { CountsFault (is_err result) self.old.failed self.new.failed }
     {
         let mut rest = buf;
         while !rest.is_empty() {
@@ -68,15 +73,26 @@ impl<W: Write> Counted<W> {
         ensures bytes { WriteAppends (W.contents self.old.inner) (W.contents self.new.inner)
             result buf.now }
         ensures faults { Retries self.old.faults self.new.faults result }
+        ensures failed { CountsFault (is_err result) self.old.failed self.new.failed }
     {
         for _tries in 0..u64::MAX {
-            match self.write(buf) {
-                Ok(0) => return Err(io::Error::from(ErrorKind::WriteZero)),
+            match self.inner.write(buf) {
+                Ok(0) => {
+                    self.count_fault();
+                    self.count_failed();
+                    return Err(io::Error::from(ErrorKind::WriteZero));
+                }
                 Ok(count) => return Ok(count),
-                Err(e) if e.kind() == ErrorKind::Interrupted => {}
-                Err(e) => return Err(e),
+                Err(e) => {
+                    self.count_fault();
+                    if e.kind() != ErrorKind::Interrupted {
+                        self.count_failed();
+                        return Err(e);
+                    }
+                }
             }
         }
+        self.count_failed();
         Err(io::Error::from(ErrorKind::TimedOut))
     }
 }

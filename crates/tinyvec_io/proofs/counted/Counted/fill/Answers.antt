@@ -14,5 +14,6 @@ loop-filled-preserved g c =
           (Consumes-trans _ _ _ _ _ c.loop-filled.invariant.bytes c.in_ok-count.ensures.bytes);
       small = small-front _ _ (λ i. omega (arith, c.type_inv.buf i));
       bound = omega (arith, length-part c.loop-filled.filled room c.loop-filled.buf c.read_some.new.buf (omega arith) long);
+      failed = search rules;
       grows = omega arith;
     }

@@ -1,4 +1,4 @@
-use Rattle.std.proofs.Common.{◌-◌, ◌<◌, ◌≤◌, length, take}
+use Rattle.std.proofs.Common.{◌≡◌, ◌-◌, ◌<◌, ◌≤◌, length, take}
 use Rattle.std.specs.List.{AllByRecursion}
 use Rattle.std.specs.Io.KnownBytes.{Consumes}
 use Rattle.tinyvec_io.proofs.counted.Counted.fill.Given as goal
@@ -9,6 +9,7 @@ invariant-loop-filled g l = record {
   bytes : Consumes (g.R.Read.remaining l.fn.self.inner) (g.R.Read.remaining l.self.inner) (take l.filled l.buf);
   small : AllByRecursion (λ byte. byte < 256) (take l.filled l.buf);
   bound : l.filled ≤ length l.buf;
+  failed : l.self.failed ≡ l.fn.self.failed;
   grows : l.fn.self.faults ≤ l.self.faults;
 }
 

@@ -8,5 +8,6 @@ abbrev pub invariant-loop-tries : goal.invariant-loop-tries
 invariant-loop-tries g l = record {
   bytes : Keeps (g.R.Read.remaining l.fn.self.inner) (g.R.Read.remaining l.self.inner);
   grows : l.fn.self.faults ≤ l.self.faults;
+  failed : l.self.failed ≡ l.fn.self.failed;
   fault : Reported l.fn.self.faults l.self.faults ⊎ (l._tries ≡ 0);
 }

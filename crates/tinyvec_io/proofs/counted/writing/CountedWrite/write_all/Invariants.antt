@@ -1,4 +1,4 @@
-use Rattle.std.proofs.Common.{◌≤◌, length}
+use Rattle.std.proofs.Common.{◌≡◌, ◌≤◌, length}
 use Rattle.tinyvec_io.proofs.Pieces.{AppendsUpTo}
 use Rattle.tinyvec_io.proofs.counted.writing.CountedWrite.write_all.Given as goal
 
@@ -6,6 +6,7 @@ use Rattle.tinyvec_io.proofs.counted.writing.CountedWrite.write_all.Given as goa
 abbrev pub invariant-loop-rest : goal.invariant-loop-rest
 invariant-loop-rest g l = record {
   bytes : AppendsUpTo (g.W.Write.contents l.fn.self.inner) (g.W.Write.contents l.self.inner) l.buf l.rest;
+  failed : l.self.failed ≡ l.fn.self.failed;
   grows : l.fn.self.faults ≤ l.self.faults;
 }
 
