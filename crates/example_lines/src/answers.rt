@@ -38,6 +38,8 @@ pub fn answer_lines<A: Answer, R: Read, W: Write>(
         × IsAtEnd (R.remaining reader.new.inner)
         × Appends (W.contents writer.old.inner) (W.contents writer.new.inner) output
         × IsAnswered A.IsAnswer program.old input output program.new) }
+    ensures none_failed { OnOk result ((reader.new.failed ≡ reader.old.failed)
+        × (writer.new.failed ≡ writer.old.failed)) }
 
     // Each line that came whole before the fault was answered.
     ensures input { (error : IoError) → IsErrOf result (Failure.Input error) → (input output line : List ℕ)
@@ -114,6 +116,7 @@ fn answer_chunk<A: Answer, W: Write>(
     ensures no_input { (error : IoError) → IsErrOf result (Failure.Input error) → ⊥ }
     ensures not_long { IsErrOf result Failure.TooLong → ⊥ }
     ensures faults_grow { writer.old.faults ≤ writer.new.faults }
+    ensures none_failed { OnOk result (writer.new.failed ≡ writer.old.failed) }
     ensures output_fault { (error : IoError) → IsErrOf result (Failure.Output error)
         → Reported writer.old.faults writer.new.faults }
 {
@@ -168,6 +171,7 @@ fn end_line<A: Answer, W: Write>(
     ensures no_input { (error : IoError) → IsErrOf result (Failure.Input error) → ⊥ }
     ensures not_long { IsErrOf result Failure.TooLong → ⊥ }
     ensures faults_grow { writer.old.faults ≤ writer.new.faults }
+    ensures none_failed { OnOk result (writer.new.failed ≡ writer.old.failed) }
     ensures output_fault { (error : IoError) → IsErrOf result (Failure.Output error)
         → Reported writer.old.faults writer.new.faults }
 {
@@ -197,6 +201,7 @@ fn answer_line<A: Answer, W: Write>(
     ensures no_input { (error : IoError) → IsErrOf result (Failure.Input error) → ⊥ }
     ensures not_long { IsErrOf result Failure.TooLong → ⊥ }
     ensures faults_grow { writer.old.faults ≤ writer.new.faults }
+    ensures none_failed { OnOk result (writer.new.failed ≡ writer.old.failed) }
     ensures output_fault { (error : IoError) → IsErrOf result (Failure.Output error)
         → Reported writer.old.faults writer.new.faults }
 {
@@ -237,6 +242,7 @@ fn finish<A: Answer, W: Write>(
     ensures no_input { (error : IoError) → IsErrOf result (Failure.Input error) → ⊥ }
     ensures not_long { IsErrOf result Failure.TooLong → ⊥ }
     ensures faults_grow { writer.old.faults ≤ writer.new.faults }
+    ensures none_failed { OnOk result (writer.new.failed ≡ writer.old.failed) }
     ensures output_fault { (error : IoError) → IsErrOf result (Failure.Output error)
         → Reported writer.old.faults writer.new.faults }
 {
@@ -255,6 +261,7 @@ fn flush<W: Write>(writer: &mut Counted<W>) -> Result<(), Failure>
     ensures no_input { (error : IoError) → IsErrOf result (Failure.Input error) → ⊥ }
     ensures not_long { IsErrOf result Failure.TooLong → ⊥ }
     ensures faults_grow { writer.old.faults ≤ writer.new.faults }
+    ensures none_failed { OnOk result (writer.new.failed ≡ writer.old.failed) }
     ensures output_fault { (error : IoError) → IsErrOf result (Failure.Output error)
         → Reported writer.old.faults writer.new.faults }
 {

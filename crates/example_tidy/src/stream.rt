@@ -61,6 +61,8 @@ pub fn tidy<R: Read, W: Write>(
         × IsAtEnd (R.remaining reader.new.inner)
         × Appends (W.contents writer.old.inner) (W.contents writer.new.inner) output
         × Tidied input output × Tidied output output) }
+    ensures none_failed { OnOk result ((reader.new.failed ≡ reader.old.failed)
+        × (writer.new.failed ≡ writer.old.failed)) }
 
     // What came before the fault was read, and the normal forms of its complete lines were written.
     ensures read { (error : IoError) → IsErrOf result (TidyError.Read error) → (input output line : List ℕ)
@@ -128,6 +130,7 @@ fn tidy_chunk<W: Write>(
     ensures no_read { (error : IoError) → IsErrOf result (TidyError.Read error) → ⊥ }
     ensures not_long { IsErrOf result TidyError.TooLong → ⊥ }
     ensures faults_grow { writer.old.faults ≤ writer.new.faults }
+    ensures none_failed { OnOk result (writer.new.failed ≡ writer.old.failed) }
     ensures write_fault { (error : IoError) → IsErrOf result (TidyError.Write error)
         → Reported writer.old.faults writer.new.faults }
 {
@@ -160,6 +163,7 @@ fn finish<W: Write>(alloc: Global, line: &[u8], writer: &mut Counted<W>) -> Resu
     ensures no_read { (error : IoError) → IsErrOf result (TidyError.Read error) → ⊥ }
     ensures not_long { IsErrOf result TidyError.TooLong → ⊥ }
     ensures faults_grow { writer.old.faults ≤ writer.new.faults }
+    ensures none_failed { OnOk result (writer.new.failed ≡ writer.old.failed) }
     ensures write_fault { (error : IoError) → IsErrOf result (TidyError.Write error)
         → Reported writer.old.faults writer.new.faults }
 {

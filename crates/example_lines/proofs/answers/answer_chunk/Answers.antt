@@ -1,4 +1,4 @@
-use Rattle.std.proofs.Common.{◌≡◌, ◌++◌, ◌∷◌, [], sym, subst, rules, arith, append-nil, Err}
+use Rattle.std.proofs.Common.{◌≡◌, ◌∙◌, ◌++◌, ◌∷◌, [], sym, subst, rules, arith, append-nil, Err}
 use Rattle.std.proofs.KnownBytes.{Appends-trans, Appends-kept}
 use Rattle.std.proofs.lemmas.Result.{on_ok_weaker}
 use Rattle.tinyvec_io.proofs.Pieces.{AppendsFront-then}
@@ -55,6 +55,7 @@ loop-front-preserved g c =
         advances_then g.A.Answer.IsAnswer c.args.program.now c.loop-front.program c.end_line.new.program c.args.line.now.items before next s.0 (front ++ 10 ∷ []) s.1 f.0 s.4 line,
       );
       grows = omega (arith, c.loop-front.invariant.grows, c.in_ok-end_line.ensures.faults_grow);
+      none_failed = c.in_ok-end_line.ensures.none_failed ∙ c.loop-front.invariant.none_failed;
     }
 
 pub returns-clause-ok : goal.returns-clause-ok

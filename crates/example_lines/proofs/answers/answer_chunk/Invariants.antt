@@ -10,6 +10,7 @@ invariant-loop-front g l = record {
       × Appends (g.W.Write.contents l.fn.writer.inner) (g.W.Write.contents l.writer.inner) said
       × Advances g.A.Answer.IsAnswer l.fn.program l.fn.line.items taken said l.line.items l.program;
   grows : l.fn.writer.faults ≤ l.writer.faults;
+  none_failed : l.writer.failed ≡ l.fn.writer.failed;
 }
 
 abbrev pub decreases-loop-front : goal.decreases-loop-front

@@ -103,4 +103,6 @@ loop-piece-preserved g c =
       so_far = (s.0 ++ bytes, s.1 ++ f.0, all, Appends-trans _ _ _ s.1 f.0 written f.1, f.2 c.args.program.now s.0 s.1 s.4, longer);
       read_grows = omega (arith, c.loop-piece.invariant.read_grows, c.in-Ok.ensures.faults.grows);
       write_grows = omega (arith, c.loop-piece.invariant.write_grows, c.flush.ensures.faults_grow, c.in_ok-answer_chunk.ensures.faults_grow);
+      read_none_failed = search rules;
+      write_none_failed = search rules;
     }

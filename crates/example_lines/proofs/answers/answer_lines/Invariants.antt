@@ -1,4 +1,4 @@
-use Rattle.std.proofs.Common.{◌≤◌, List, ℕ, length}
+use Rattle.std.proofs.Common.{◌≡◌, ◌≤◌, List, ℕ, length}
 use Rattle.std.specs.Io.KnownBytes.{Appends, Consumes}
 use Rattle.example_lines.specs.Answers.{AnswersUpTo}
 use Rattle.example_lines.proofs.answers.answer_lines.Given as goal
@@ -13,4 +13,6 @@ invariant-loop-piece g l = record {
       × (l._piece ≤ length input);
   read_grows : l.fn.reader.faults ≤ l.reader.faults;
   write_grows : l.fn.writer.faults ≤ l.writer.faults;
+  read_none_failed : l.reader.failed ≡ l.fn.reader.failed;
+  write_none_failed : l.writer.failed ≡ l.fn.writer.failed;
 }

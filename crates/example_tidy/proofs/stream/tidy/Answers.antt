@@ -16,6 +16,8 @@ loop-piece-init g c = record {
   chunk = search rules;
   read_grows = omega arith;
   write_grows = omega arith;
+  read_none_failed = search rules;
+  write_none_failed = search rules;
 }
 
 pub returns-then-count-eq0-clause-ok : goal.returns-then-count-eq0-clause-ok
@@ -115,4 +117,6 @@ loop-piece-preserved g c =
       chunk = search rules;
       read_grows = omega (arith, c.in-Ok.ensures.faults.grows);
       write_grows = omega (arith, c.in_ok-tidy_chunk.ensures.faults_grow);
+      read_none_failed = search rules;
+      write_none_failed = search rules;
     }

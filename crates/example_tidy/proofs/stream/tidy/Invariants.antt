@@ -1,4 +1,4 @@
-use Rattle.std.proofs.Common.{◌≤◌, List, ℕ, length}
+use Rattle.std.proofs.Common.{◌≡◌, ◌≤◌, List, ℕ, length}
 use Rattle.std.specs.Io.KnownBytes.{Appends, Consumes}
 use Rattle.tinyvec.specs.TinyVec.{tiny_items, tiny_capacity}
 use Rattle.example_tidy.specs.Tidy.{TidiedUpTo}
@@ -16,4 +16,6 @@ invariant-loop-piece g l = record {
   chunk : length l.chunk ≤ 4016;
   read_grows : l.fn.reader.faults ≤ l.reader.faults;
   write_grows : l.fn.writer.faults ≤ l.writer.faults;
+  read_none_failed : l.reader.failed ≡ l.fn.reader.failed;
+  write_none_failed : l.writer.failed ≡ l.fn.writer.failed;
 }
