@@ -25,7 +25,7 @@ module _ {W : Type 0} {contents : W → Option (List ℕ)} where
   pub gathers_nothing : {w : CountedView W} {gathered : Option (List ℕ)} → Gathers contents w gathered w gathered []
   gathers_nothing = record {
     after_error = λ e. (refl, e);
-    behind = λ bytes e. record { written = []; rest = bytes; appended = Appends-nil _; whole = append-nil bytes; grows = le_refl _; kept = inl e };
+    behind = λ bytes e. record { written = []; rest = bytes; appended = Appends-nil _; whole = append-nil bytes; grows = le_refl _; kept = inl (e, refl) };
   }
 
   -- a text was put behind what is gathered, of which nothing is written
@@ -39,7 +39,7 @@ module _ {W : Type 0} {contents : W → Option (List ℕ)} where
       appended = Appends-nil _;
       whole = (let same : bytes ≡ before = cc in ap (λ l. l ++ text) (sym same) ∙ sym is);
       grows = le_refl _;
-      kept = inl refl;
+      kept = inl (refl, refl);
     };
   }
   gathers_more (Some error) bytes more text is = record { after_error = λ e. (refl, refl); behind = λ before e. absurd (let no : None ≡ Some before = e in cc) }
@@ -51,7 +51,7 @@ module _ {W : Type 0} {contents : W → Option (List ℕ)} where
     after_error = λ e. let first = p.after_error e in let next = q.after_error first.1 in (next.0 ∙ first.0, next.1);
     behind = λ bytes e. let first = p.behind bytes e in elim first.kept [
       | inl goes_on ↦
-          (let next = q.behind first.rest goes_on in
+          (let next = q.behind first.rest goes_on.0 in
           record {
             written = first.written ++ next.written;
             rest = next.rest;
@@ -59,7 +59,7 @@ module _ {W : Type 0} {contents : W → Option (List ℕ)} where
             whole = sym (append_assoc bytes text more) ∙ ap (λ l. l ++ more) first.whole ∙ append_assoc first.written first.rest more
                 ∙ ap (λ l. first.written ++ l) next.whole ∙ sym (append_assoc first.written next.written next.rest);
             grows = le_trans first.grows next.grows;
-            kept = elim next.kept [ inl on ↦ inl on | inr off ↦ inr (off.0, reported_since _ _ _ first.grows off.1) ];
+            kept = elim next.kept [ inl on ↦ inl (on.0, on.1 ∙ goes_on.1) | inr off ↦ inr (off.0, reported_since _ _ _ first.grows off.1) ];
           })
       | inr failed ↦
           (let stays = q.after_error failed.0 in
@@ -98,13 +98,13 @@ module _ {W : Type 0} {contents : W → Option (List ℕ)} where
     after_error = λ none. absurd (true≢false (sym (q.after_error none).1 ∙ ap is_err was));
     behind = λ bytes some.
         let sent = rw was at (q.behind bytes some) in
-        record { written = bytes; rest = []; appended = sent.ok; whole = refl; grows = sent.grows; kept = inl (rw was at q.empty) };
+        record { written = bytes; rest = []; appended = sent.ok; whole = refl; grows = sent.grows; kept = inl (rw was at q.empty, sent.none_failed) };
   }
 
   -- where nothing is gathered, a text was written, or a front of it
   pub gathers_written : {old new : CountedView W} {text : List ℕ} → Appends (contents old.inner) (contents new.inner) text → old.faults ≤ new.faults
-      → Gathers contents old (Some []) new (Some []) text
-  gathers_written {text = text} q le = record {
+      → new.failed ≡ old.failed → Gathers contents old (Some []) new (Some []) text
+  gathers_written {text = text} q le none_failed = record {
     after_error = λ e. absurd (let no : Some [] ≡ None = e in cc);
     behind = λ bytes e. record {
       written = text;
@@ -112,7 +112,7 @@ module _ {W : Type 0} {contents : W → Option (List ℕ)} where
       appended = q;
       whole = (let none : [] ≡ bytes = cc in ap (λ l. l ++ text) (sym none) ∙ sym (append-nil text));
       grows = le;
-      kept = inl refl;
+      kept = inl (refl, none_failed);
     };
   }
 
@@ -132,21 +132,22 @@ module _ {W : Type 0} {contents : W → Option (List ℕ)} where
 
   -- a front of the text was written, and then the rest, or a front of it
   writes_behind : {T E : Type 0} {old mid new : CountedView W} (r : Result T E) (written rest text : List ℕ) → Appends (contents old.inner) (contents mid.inner) written
-      → text ≡ written ++ rest → old.faults ≤ mid.faults → Writes contents mid new r rest → Writes contents old new r text
-  writes_behind (Ok x) written rest text wrote is le sent =
-      record { ok = subst (Appends _ _) (sym is) (Appends-trans _ _ _ written rest wrote sent.ok); err = tt; grows = le_trans le sent.grows; fault = tt }
-  writes_behind (Err e) written rest text wrote is le sent = record {
+      → text ≡ written ++ rest → old.faults ≤ mid.faults → mid.failed ≡ old.failed → Writes contents mid new r rest → Writes contents old new r text
+  writes_behind (Ok x) written rest text wrote is le failed sent =
+      record { ok = subst (Appends _ _) (sym is) (Appends-trans _ _ _ written rest wrote sent.ok); err = tt; grows = le_trans le sent.grows; fault = tt; none_failed = sent.none_failed ∙ failed }
+  writes_behind (Err e) written rest text wrote is le failed sent = record {
     ok = tt;
     err = (written ++ sent.err.0, sent.err.1, is ∙ ap (λ l. written ++ l) sent.err.2 ∙ sym (append_assoc written _ _), Appends-trans _ _ _ written sent.err.0 wrote sent.err.3);
     grows = le_trans le sent.grows;
     fault = reported_since _ _ _ le sent.fault;
+    none_failed = tt;
   }
 
   -- or it failed before
   writes_failed : {T E : Type 0} {old new : CountedView W} (r : Result T E) (text : List ℕ) → IsErr r → AppendsFront (contents old.inner) (contents new.inner) text
       → old.faults ≤ new.faults → Reported old.faults new.faults → Writes contents old new r text
   writes_failed (Ok x) text err wrote le fault = absurd (true≢false (sym err))
-  writes_failed (Err e) text err wrote le fault = record { ok = tt; err = wrote; grows = le; fault = fault }
+  writes_failed (Err e) text err wrote le fault = record { ok = tt; err = wrote; grows = le; fault = fault; none_failed = tt }
 
   -- a text was put where nothing was gathered, and then what was gathered was written
   pub sends_then : {T E : Type 0} {old mid new : CountedView W} {b c : Option (List ℕ)} {r : Result T E} {text : List ℕ}
@@ -154,7 +155,7 @@ module _ {W : Type 0} {contents : W → Option (List ℕ)} where
   sends_then {r = r} {text = text} p q =
       let first = p.behind [] refl in
       elim first.kept [
-        | inl goes_on ↦ writes_behind r first.written first.rest text first.appended first.whole first.grows (q.behind first.rest goes_on)
+        | inl goes_on ↦ writes_behind r first.written first.rest text first.appended first.whole first.grows goes_on.1 (q.behind first.rest goes_on.0)
         | inr failed ↦
             (let stays = q.after_error failed.0 in
             writes_failed r text stays.1 (first.written, first.rest, first.whole, rw stays.0 first.appended) (rw stays.0 first.grows) (rw stays.0 failed.1))
@@ -163,12 +164,13 @@ module _ {W : Type 0} {contents : W → Option (List ℕ)} where
   -- it was flushed after that
   pub writes_flushed : {T F E : Type 0} {old mid new : CountedView W} {sent : Result T F} (r : Result T E) {x : T} {text : List ℕ} → sent ≡ Ok x
       → Writes contents old mid sent text → Keeps (contents mid.inner) (contents new.inner) → CountsFault (is_err r) mid.faults new.faults
-      → Writes contents old new r text
-  writes_flushed (Ok y) was p kept counted =
-      record { ok = Appends-kept _ _ _ _ (rw was at p.ok) kept; err = tt; grows = le_trans p.grows counted.grows; fault = tt }
-  writes_flushed (Err e) was p kept counted = record {
+      → CountsFault (is_err r) mid.failed new.failed → Writes contents old new r text
+  writes_flushed (Ok y) was p kept counted failed =
+      record { ok = Appends-kept _ _ _ _ (rw was at p.ok) kept; err = tt; grows = le_trans p.grows counted.grows; fault = tt; none_failed = failed.exact ∙ (rw was at p.none_failed) }
+  writes_flushed (Err e) was p kept counted failed = record {
     ok = tt;
     err = (_, [], sym (append-nil _), Appends-kept _ _ _ _ (rw was at p.ok) kept);
     grows = le_trans p.grows counted.grows;
     fault = reported_since _ _ _ p.grows (one_fault _ _ counted);
+    none_failed = tt;
   }

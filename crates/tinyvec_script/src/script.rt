@@ -60,6 +60,8 @@ pub fn run<R: Read, W: Write>(
         × IsAtEnd (R.remaining reader.new.inner)
         × Appends (W.contents writer.old.inner) (W.contents writer.new.inner) output
         × Script input output) }
+    ensures none_failed { OnOk result ((reader.new.failed ≡ reader.old.failed)
+        × (writer.new.failed ≡ writer.old.failed)) }
 
     // The complete lines before the fault were answered.
     ensures read { (error : Error) → IsErrOf result (RunError.Read error) → (input output : List ℕ)

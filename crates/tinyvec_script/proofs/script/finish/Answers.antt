@@ -5,7 +5,7 @@ pub returns-in-Ok : goal.returns-in-Ok
 returns-in-Ok g c =
     let answered = rw c.requires at c.answer_last.ensures in
     let flushed = c.flush.ensures in
-    (answered.0, writes_flushed c.flush.result c.in-Ok.is (sends_then answered.1 c.send.ensures) flushed.bytes flushed.faults, answered.2)
+    (answered.0, writes_flushed c.flush.result c.in-Ok.is (sends_then answered.1 c.send.ensures) flushed.bytes flushed.faults flushed.failed, answered.2)
 
 pub returns-in-Err : goal.returns-in-Err
 returns-in-Err g c =

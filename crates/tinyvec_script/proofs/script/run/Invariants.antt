@@ -16,4 +16,6 @@ invariant-loop-piece g l = record {
   empty : l.gathered ≡ Some [];
   read_grows : l.fn.reader.faults ≤ l.reader.faults;
   write_grows : l.fn.writer.faults ≤ l.writer.faults;
+  read_none_failed : l.reader.failed ≡ l.fn.reader.failed;
+  write_none_failed : l.writer.failed ≡ l.fn.writer.failed;
 }

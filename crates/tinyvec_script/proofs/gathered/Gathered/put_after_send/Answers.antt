@@ -18,4 +18,4 @@ pub returns-in_default-write_all : goal.returns-in_default-write_all
 returns-in_default-write_all g c =
     let wrote = rw c.in_default-write_all.is at c.write_all.ensures in
     let empty = rw c.in_default.is at c.send.ensures.empty in
-    gathers_then (gathers_sent c.in_default.is c.send.ensures) (rw empty (gathers_written wrote.bytes wrote.faults.grows))
+    gathers_then (gathers_sent c.in_default.is c.send.ensures) (rw empty (gathers_written wrote.bytes wrote.faults.grows wrote.failed.exact))
