@@ -1,11 +1,54 @@
-//! Bytes of a list that are replaced by others, by moves of memory.
-ghost use Rattle.std.specs.Prelude.{◌≡◌, ◌+◌, ◌-◌, ◌≤◌, ◌++◌, length, take, drop};
-ghost use Rattle.tinyvec.specs.TinyVec.{tiny_items, tiny_len, tiny_capacity, Becomes};
+//! Bytes of a list that are copied to the heap, or replaced by others, by moves of memory.
+ghost use Rattle.std.specs.Prelude.{◌≡◌, ◌+◌, ◌-◌, ◌≤◌, ◌++◌, length, take, drop, false, is_ok, if◌then◌else◌, IsOk, IfOk, OnErr};
+ghost use Rattle.tinyvec.specs.TinyVec.{tiny_items, tiny_len, tiny_capacity, is_inline, IsInline, IsTail, Becomes};
 
+use std::alloc::{AllocError, Global};
 use tinyvec::TinyVec;
 
 // So many bytes are moved at a time.
 const BLOCK: usize = 4096;
+
+/// A list on the heap that has these bytes, and no more room.
+pub fn copied_to_heap<const N: usize>(
+    alloc: Global,
+    bytes: &[u8],
+) -> Result<TinyVec<[u8; N]>, AllocError>
+    ensures items { IfOk result (λ v. tiny_items v ≡ bytes.now) }
+    ensures place { IfOk result (λ v. is_inline v ≡ false) }
+    ensures room { IfOk result (λ v. tiny_capacity N v ≡ length bytes.now) }
+    ensures succeeds { length bytes.now ≡ 0 → IsOk result }
+{
+    if bytes.is_empty() {
+        return Ok(TinyVec::from_vec(Vec::new(alloc)));
+    }
+    let copy = Vec::from_slice(alloc, bytes)?;
+    // It always is: `from_slice` copies faster than all that say so.
+    if copy.capacity() != bytes.len() {
+        return Err(AllocError);
+    }
+    Ok(TinyVec::from_vec(copy))
+}
+
+/// What `split_off` does, with one copy on the heap.
+pub fn split_bytes<const N: usize>(
+    list: &mut TinyVec<[u8; N]>,
+    at: usize,
+) -> Result<TinyVec<[u8; N]>, AllocError>
+    requires { at ≤ tiny_len list.old }
+    ensures becomes { Becomes (λ b. b ≡ 0) N list.old list.new
+        (if is_ok result then take at (tiny_items list.old) else tiny_items list.old) }
+    ensures tail { IfOk result (IsTail (λ b. b ≡ 0) N at list.old) }
+    ensures succeeds { IsInline list.old → IsOk result }
+    ensures succeeds_at_the_end { at ≡ tiny_len list.old → IsOk result }
+    ensures refused { OnErr result (list.new ≡ list.old) }
+{
+    if list.is_inline() {
+        return list.split_off(at);
+    }
+    let tail = copied_to_heap(*list.allocator(), &list.as_slice()[at..])?;
+    list.truncate(at);
+    Ok(tail)
+}
 
 /// Puts `bytes` in the place of those from `start` up to `end`, in a list that has room.
 pub fn replace_bytes<const N: usize>(
@@ -44,8 +87,8 @@ pub fn remove_bytes<const N: usize>(list: &mut TinyVec<[u8; N]>, start: usize, e
     list.truncate(left);
 }
 
-// Inserts `bytes` at `index` into a list that has room.
-fn insert_bytes<const N: usize>(list: &mut TinyVec<[u8; N]>, index: usize, bytes: &[u8])
+/// Inserts `bytes` at `index` into a list that has room.
+pub fn insert_bytes<const N: usize>(list: &mut TinyVec<[u8; N]>, index: usize, bytes: &[u8])
     requires in_list { index ≤ tiny_len list.old }
     requires room { tiny_len list.old + length bytes.now ≤ tiny_capacity N list.old }
     ensures { Becomes (λ b. b ≡ 0) N list.old list.new

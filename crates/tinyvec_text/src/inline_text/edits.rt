@@ -2,14 +2,13 @@
 ghost use Rattle.std.specs.Prelude.{◌≡◌, ◌+◌, ◌-◌, ◌%◌, ◌<◌, ◌≤◌, ◌++◌, ◌∷◌, [], ◌↔◌, length, if◌then◌else◌, is_ok, min, max, false, IsTrue, IsOk, IfOk, OnOk, OnErr, chars, encode_utf8, ◌&&◌, nat_le, ℕ, List, take, drop, All, IsSome, IfSome, IfNone, IsUtf8, slice_index};
 ghost use Rattle.std.specs.Char.{IsScalar};
 ghost use Rattle.tinyvec.specs.View.{lies_inline, capacity_in};
-ghost use Rattle.tinyvec.specs.TinyVec.{tiny_items, tiny_len, tiny_spare, tiny_capacity, is_inline, IsInline};
-ghost use Rattle.tinyvec_slots.specs.Slots.{AreDefaults};
+ghost use Rattle.tinyvec.specs.TinyVec.{tiny_items, tiny_spare, tiny_capacity, is_inline};
 ghost use Rattle.tinyvec_text.specs.InlineText.{text_chars, text_len, TextMakesRoom, TextReserves, TextShrinks, TextStaysInPlace, TextBecomes, TextKeepsFront, TextMadeFor, IsTextTail, IsFirstChar, IsBoundary};
 ghost use Rattle.tinyvec_slots.specs.Ranges.{range_start, range_end, before, after};
 ghost use Rattle.std.specs.String.Boundary.{IsSplitPoint};
 
 use super::InlineText;
-use super::bytes::{remove_bytes, replace_bytes};
+use super::bytes::{copied_to_heap, insert_bytes, remove_bytes, replace_bytes, split_bytes};
 use std::alloc::{AllocError, Global};
 use std::ops::RangeBounds;
 use tinyvec::TinyVec;
@@ -22,9 +21,13 @@ impl<const N: usize> InlineText<N> {
         ensures made { IfOk result (TextMadeFor N (length s.now)) }
         ensures succeeds { length s.now ≤ N → IsOk result }
     {
-        let mut text = Self::new(alloc);
-        text.push_str(s)?;
-        Ok(text)
+        if s.len() <= N {
+            let mut text = Self::new(alloc);
+            text.push_str_reserved(s);
+            return Ok(text);
+        }
+        let list = copied_to_heap(alloc, s.as_bytes())?;
+        Ok(InlineText { list })
     }
 
     /// Appends `string` to a text that has room. It allocates nothing, so it cannot fail.
@@ -167,7 +170,7 @@ impl<const N: usize> InlineText<N> {
         ensures lower_bound { min min_capacity (capacity_in N self.old.place) ≤ capacity_in N self.new.place }
         ensures fits { text_len self.new ≤ capacity_in N self.new.place }
     {
-        shrink_list(&mut self.list, min_capacity);
+        self.list.shrink_to(min_capacity);
     }
 
     /// Whether the bytes before `index` are those of some first characters.
@@ -234,7 +237,11 @@ impl<const N: usize> InlineText<N> {
         ensures room { TextMakesRoom (lies_inline self.old.place) N (text_len self.old + length string.now)
             self.old self.new result }
     {
-        self.replace_range(index..index, string)
+        // Shows the proof that the text fits.
+        let _len = self.list.len();
+        self.list.reserve(string.len())?;
+        insert_bytes(&mut self.list, index, string.as_bytes());
+        Ok(())
     }
 
     /// Puts `replace_with` in the place of the range, whose ends are boundaries. Allocates only if the bytes don't fit.
@@ -291,7 +298,7 @@ impl<const N: usize> InlineText<N> {
         ensures succeeds_at_the_end { at ≡ text_len self.old → IsOk result }
         ensures refused { OnErr result (self.new ≡ self.old) }
     {
-        let list = self.list.split_off(at)?;
+        let list = split_bytes(&mut self.list, at)?;
         Ok(InlineText { list })
     }
 
@@ -311,26 +318,6 @@ impl<const N: usize> InlineText<N> {
             return Some(last as char);
         }
         Some(pop_wide(&mut self.list, last))
-    }
-}
-
-// Shrinks the allocation of a list on the heap, or moves the list into the array if that has the room.
-fn shrink_list<const N: usize>(list: &mut TinyVec<[u8; N]>, min_capacity: usize)
-    ensures items { tiny_items list.new ≡ tiny_items list.old }
-    ensures place { is_inline list.old ≡ false → (IsInline list.new ↔ (max (tiny_len list.old) min_capacity ≤ N)) }
-    ensures spare { is_inline list.old ≡ false → IsInline list.new
-        → AreDefaults (λ b. b ≡ 0) (N - tiny_len list.old) (tiny_spare list.new) }
-    ensures kept { IsInline list.old → list.new ≡ list.old }
-    ensures capacity { is_inline list.new ≡ false → tiny_capacity N list.new ≤ tiny_capacity N list.old }
-    ensures lower_bound { min min_capacity (tiny_capacity N list.old) ≤ tiny_capacity N list.new }
-    ensures fits { tiny_len list.new ≤ tiny_capacity N list.new }
-{
-    if list.len().max(min_capacity) <= N {
-        list.shrink_to_fit();
-        return;
-    }
-    if let TinyVec::Heap(v) = list {
-        v.shrink_to(min_capacity);
     }
 }
 
@@ -387,13 +374,10 @@ fn next_byte(bits: u32) -> u8
 fn is_split_point(bytes: &[u8], i: usize) -> bool
     ensures { IsTrue result ↔ IsSplitPoint bytes.now i }
 {
-    if i == 0 || i == bytes.len() {
-        return true;
+    if i < bytes.len() {
+        return bytes[i] < 0x80 || 0xC0 <= bytes[i] || i == 0;
     }
-    if bytes.len() < i {
-        return false;
-    }
-    bytes[i] < 0x80 || 0xC0 <= bytes[i]
+    i == bytes.len()
 }
 
 // The first character, and how many bytes it takes. No more than its own bytes are read.

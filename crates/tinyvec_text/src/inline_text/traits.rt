@@ -11,6 +11,7 @@ ghost use Rattle.std.specs.Fmt.{debug_str};
 ghost use Rattle.std.specs.Hash as fed;
 
 use super::InlineText;
+use super::bytes::copied_to_heap;
 use std::alloc::{AllocError, Global};
 use std::cmp::Ordering;
 use std::default::{Emptied, MadeWith};
@@ -51,7 +52,11 @@ impl<const N: usize> Clone for InlineText<N> {
         ensures room { IfOk result (λ t. lies_inline t.place ≡ false → capacity_in N t.place ≡ text_len self.now) }
         ensures succeeds_empty { lies_inline self.now.place ≡ false → text_len self.now ≡ 0 → IsOk result }
     {
-        let list = self.list.clone()?;
+        if self.list.is_inline() {
+            let list = self.list.clone()?;
+            return Ok(InlineText { list });
+        }
+        let list = copied_to_heap(*self.list.allocator(), self.list.as_slice())?;
         Ok(InlineText { list })
     }
 }
@@ -98,7 +103,7 @@ impl<const N: usize> Ord for InlineText<N> {
     ghost matches_eq = { λ s t. texts_ties s.bytes t.bytes };
 
     fn cmp(&self, other: &Self) -> Ordering {
-        self.list.cmp(&other.list)
+        self.list.as_slice().cmp(other.list.as_slice())
     }
 }
 
