@@ -15,7 +15,7 @@ frame_code = tagged-code tag SpellsReading reading_code
 
 -- a record with nine samples is too long
 long : (input : List ℕ) → HasTooManySamples input → IsReadingTooLong input
-long input s = inr (record { content = s.content; fits = s.fits; parts = rest-so s.parts (inl (inl s.is_rest)) })
+long input s = inr (record { content = s.content; valid = s.valid; parts = rest-so s.parts (inl (inl s.is_rest)) })
 
 -- no record begins where the stream ends
 pub no-frame : (end : Result (Unit {0}) StreamError) (c : Said) (frame rest tail : List ℕ) → IsEnd end tail → ReadingFits c → SpellsFrame c frame → tail ≡ frame ++ rest → ⊥

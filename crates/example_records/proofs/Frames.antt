@@ -22,7 +22,7 @@ too-many input long = elim long [
   | inl none ↦ absurd (length_is_other.0 none.0)
   | inr s ↦ elim s.is_rest [
     | inl samples ↦ elim samples [
-      | inl many ↦ record { content = s.content; fits = s.fits; parts = rest-so s.parts many }
+      | inl many ↦ record { content = s.content; valid = s.valid; parts = rest-so s.parts many }
       | inr item ↦ absurd (length_is_other.0 item.left.0)
     ]
     | inr t ↦ absurd (never-too-long (SpellsNumber 1) (λ n. n < 2 ^ 8) (TooFewBytes 1) (CountsAbove 16) (λ input none. length_is_other.0 none.0) t.rest t.is_rest)

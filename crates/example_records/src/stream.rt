@@ -23,7 +23,7 @@ pub const TAG: u8 = b'R';
 pub fn append<W: Write>(reading: &Reading, writer: &mut Counted<W>) -> Result<(), BorshError>
     ensures ok { OnOk result (WritesSpelling (SpellsFrame (said reading.now))
         (W.contents writer.old.inner) (W.contents writer.new.inner)) }
-    ensures fits { OnOk result (ReadingFits (said reading.now)) }
+    ensures valid { OnOk result (ReadingFits (said reading.now)) }
     ensures err { IfErr result (λ e. (e ≡ BorshError.Io) × Reported writer.old.faults writer.new.faults) }
     ensures faults_grow { writer.old.faults ≤ writer.new.faults }
 {
@@ -35,7 +35,7 @@ pub fn append<W: Write>(reading: &Reading, writer: &mut Counted<W>) -> Result<()
 pub fn append_all<W: Write>(readings: &[Reading], writer: &mut Counted<W>) -> Result<(), BorshError>
     ensures ok { OnOk result (WritesSpelling (SpellsStream (map said readings.now))
         (W.contents writer.old.inner) (W.contents writer.new.inner)) }
-    ensures fit { OnOk result (AllByRecursion ReadingFits (map said readings.now)) }
+    ensures valid { OnOk result (AllByRecursion ReadingFits (map said readings.now)) }
     ensures err { IfErr result (λ e. (e ≡ BorshError.Io) × Reported writer.old.faults writer.new.faults) }
     ensures faults_grow { writer.old.faults ≤ writer.new.faults }
 {
@@ -73,7 +73,7 @@ pub fn read_all<R: Read>(alloc: Global, reader: &mut Counted<R>) -> Recovered
     // What was read is at the front of the input, in order, followed by what the end says.
     ensures stands { MayBe (R.remaining reader.old.inner)
         (BeginsWith (map said result.records.items) (StandsBehind result.end)) }
-    ensures fit { AllByRecursion ReadingFits (map said result.records.items) }
+    ensures valid { AllByRecursion ReadingFits (map said result.records.items) }
     ensures fault { IsErrOf result.end StreamError.Io → Reported reader.old.faults reader.new.faults }
 
     // The records at the front of the input are all read, and the end is described.

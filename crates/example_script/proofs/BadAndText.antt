@@ -66,7 +66,7 @@ text_line new text h = elim h [
       ∙ shown)
   | Answered.bad none no_text e same ↦
       (let is_text : IsUtf8 (codes "hi") = IsUtf8-from_ascii (codes "hi") (search (rules, arith)) in
-      absurd (no_text (add (codes "hi")) (record { spelled = refl; fits = (omega arith, is_text); short = omega arith })))
+      absurd (no_text (add (codes "hi")) (record { spelled = refl; valid = (omega arith, is_text); short = omega arith })))
 ]
 
 pub bad_then_text : (output : List ℕ) → Script (ended bad_and_text) output → output ≡ ended bad_and_text_answers

@@ -35,7 +35,7 @@ SpellsOnly line name call = (other : Name) (made : Call ℤ) → IsCommand line 
 pub only_push : (n : ℤ) → mag n < 2 ^ 63 → SpellsOnly (codes "A push " ++ signed_decimal n) A (Push n)
 only_push n small A (Push m) is =
     let same : signed_decimal n ≡ signed_decimal m = ap (drop 7) (spelled _ A (Push m) is) in
-    (refl, ap Push (sym (signed_decimal_injective n m small (mag_small m is.called.fits) same)))
+    (refl, ap Push (sym (signed_decimal_injective n m small (mag_small m is.called.valid) same)))
 only_push n small A made is = differ 3 _ _ (spelled _ A made is) refl
 only_push n small S made is = differ 0 _ _ (spelled _ S made is) refl
 only_push n small T made is = differ 0 _ _ (spelled _ T made is) refl
@@ -94,7 +94,7 @@ module _ (old new : State) (n : ℤ) (fits : FitsSigned w32 n) (digits : List �
       (record {
         text = codes "push " ++ digits;
         named = refl;
-        called = record { spelled = ap (λ d. codes "push " ++ d) (sym printed); fits = fits };
+        called = record { spelled = ap (λ d. codes "push " ++ d) (sym printed); valid = fits };
         has = tt;
         short = short;
       })
@@ -146,7 +146,7 @@ module _ (old new : State) (text : List ℕ) (xs zs : List ℤ) (last : ℤ) (he
   pop_step : (answer : Answer ℤ) × Steps A old Pop answer new × (text ≡ answer_text answer ++ codes " " ++ text_of A new)
   pop_step =
       called old new _ text A Pop
-      (record { text = codes "pop"; named = refl; called = record { spelled = refl; fits = tt }; has = tt; short = omega arith })
+      (record { text = codes "pop"; named = refl; called = record { spelled = refl; valid = tt }; has = tt; short = omega arith })
       only_pop no_pop_asks (λ said is. differ 0 _ _ is.spelled refl) answered
 
   pop_done : (x : ℤ) × (pop_step.0 ≡ answers.Some x) × (items old.a ≡ items new.a ++ x ∷ []) × SlotRule IsZero old.a new.a

@@ -95,7 +95,7 @@ record Puts (call : Call ℤ) : Type 0 where
 
 only_splice : (other : Name) (made : Call ℤ) → IsCommand (codes "A splice 0 1 - 1 2 3 4") other made → (other ≡ A) × Puts made
 only_splice A (Splice start end word numbers) is =
-    let fits = is.called.fits in
+    let fits = is.called.valid in
     let parts = splice_parts start end word.items numbers.items fits.0 fits.1 fits.2 (ap (drop 9) (spelled _ A (Splice start end word numbers) is)) in (
       refl,
       record {
@@ -157,7 +157,7 @@ shown_zeros = rw (decimal_digit 0 (omega arith)) refl
 only_setlen : SpellsOnly (codes "A setlen 2") A (SetLen 2)
 only_setlen A (SetLen n) is =
     let same : codes "2" ≡ decimal n = ap (drop 9) (spelled _ A (SetLen n) is) in
-    (refl, ap SetLen (decimal_injective n 2 is.called.fits (omega arith) (sym same ∙ sym (decimal_digit 2 (omega arith)))))
+    (refl, ap SetLen (decimal_injective n 2 is.called.valid (omega arith) (sym same ∙ sym (decimal_digit 2 (omega arith)))))
 only_setlen A made is = differ 4 _ _ (spelled _ A made is) refl
 only_setlen S made is = differ 0 _ _ (spelled _ S made is) refl
 only_setlen T made is = differ 0 _ _ (spelled _ T made is) refl
@@ -180,7 +180,7 @@ two_zeros new text answered =
     (record {
       text = codes "setlen 2";
       named = refl;
-      called = record { spelled = ap (λ d. codes "setlen " ++ d) (sym (decimal_digit 2 (omega arith))); fits = omega arith };
+      called = record { spelled = ap (λ d. codes "setlen " ++ d) (sym (decimal_digit 2 (omega arith))); valid = omega arith };
       has = tt;
       short = omega arith;
     })
@@ -219,7 +219,7 @@ splice_line alloc old new text held h = elim h [
       absurd (none A call (record {
         text = codes "splice 0 1 - 1 2 3 4";
         named = refl;
-        called = record { spelled = digits; fits = (omega arith, omega arith, four_fit) };
+        called = record { spelled = digits; valid = (omega arith, omega arith, four_fit) };
         has = tt;
         short = omega arith;
       })))

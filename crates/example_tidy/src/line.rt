@@ -21,7 +21,7 @@ pub type Output = TinyVec<[u8; 4096]>;
 pub fn end_line(alloc: Global, line: &[u8], output: &mut Output) -> Result<(), AllocError>
     ensures ok { OnOk result (tiny_items output.new ≡ tiny_items output.old ++ (normal_line line.now ++ 10 ∷ [])) }
     ensures refused { OnErr result (tiny_items output.new ≡ tiny_items output.old) }
-    ensures room { tiny_capacity 4096 output.old ≤ tiny_capacity 4096 output.new }
+    ensures capacity { tiny_capacity 4096 output.old ≤ tiny_capacity 4096 output.new }
     ensures succeeds { IsShort line.now
         → tiny_len output.old + length (normal_line line.now) < tiny_capacity 4096 output.old → IsOk result }
 {
@@ -58,7 +58,7 @@ fn push_words(line: &[u8], output: &mut Output) -> Result<(), AllocError>
     ensures ok { OnOk result (tiny_items output.new
         ≡ tiny_items output.old ++ (join_with_byte 32 (dedup bytes_eq (words line.now)) ++ 10 ∷ [])) }
     ensures refused { OnErr result ((front : List ℕ) × (tiny_items output.new ≡ tiny_items output.old ++ front)) }
-    ensures room { tiny_capacity 4096 output.old ≤ tiny_capacity 4096 output.new }
+    ensures capacity { tiny_capacity 4096 output.old ≤ tiny_capacity 4096 output.new }
     ensures succeeds { tiny_len output.old + length (join_with_byte 32 (dedup bytes_eq (words line.now)))
         < tiny_capacity 4096 output.old → IsOk result }
 {

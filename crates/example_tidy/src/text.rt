@@ -36,7 +36,7 @@ pub(crate) fn feed(
         × Refuses (tiny_items line.old) bytes.now said (tiny_items line.new) (tiny_capacity 80 line.old)
         (tiny_capacity 4096 output.old - tiny_len output.old)) }
     ensures line_room { tiny_capacity 80 line.old ≤ tiny_capacity 80 line.new }
-    ensures room { tiny_capacity 4096 output.old ≤ tiny_capacity 4096 output.new }
+    ensures capacity { tiny_capacity 4096 output.old ≤ tiny_capacity 4096 output.new }
 {
     for byte in bytes {
         feed_byte(alloc, line, output, *byte)?;
@@ -56,7 +56,7 @@ fn feed_byte(
     ensures refused { OnErr result (tiny_items output.new ≡ tiny_items output.old) }
     ensures line_kept { OnErr result (tiny_items line.new ≡ tiny_items line.old) }
     ensures line_room { tiny_capacity 80 line.old ≤ tiny_capacity 80 line.new }
-    ensures room { tiny_capacity 4096 output.old ≤ tiny_capacity 4096 output.new }
+    ensures capacity { tiny_capacity 4096 output.old ≤ tiny_capacity 4096 output.new }
     ensures succeeds { (byte ≢ 10 → tiny_len line.old < tiny_capacity 80 line.old)
         → (byte ≡ 10 → IsShort (tiny_items line.old)
         × (tiny_len output.old + length (normal_line (tiny_items line.old)) < tiny_capacity 4096 output.old))

@@ -36,7 +36,7 @@ module _ {A T : Type 0} where
   pub record MadeFor (D : T → Type 0) (slots n used : ℕ) (v : TinyVec A T) : Type 0 where
     pub spare : IsInline v → AreDefaults D (slots - used) (tiny_spare v)
     pub place : IsInline v ↔ (n ≤ slots)
-    pub room : n ≤ tiny_capacity slots v
+    pub enough : n ≤ tiny_capacity slots v
     pub exact : tiny_capacity slots v ≡ max n slots
 
   -- `v` is what collecting `xs` makes: inline if they fit the array, before defaults; on the heap its capacity doubled some number of
@@ -93,7 +93,7 @@ module _ {A T X E : Type 0} where
   pub record MovesToHeapWithRoom (slots n : ℕ) (old new : TinyVec A T) (result : Result X E) : Type 0 where
     pub items : tiny_items new ≡ tiny_items old
     pub place : OnOk result (is_inline new ≡ false)
-    pub room : OnOk result (tiny_len old + n ≤ tiny_capacity slots new)
+    pub enough : OnOk result (tiny_len old + n ≤ tiny_capacity slots new)
     pub fits : tiny_len new ≤ tiny_capacity slots new
     -- A list that moves has room for no further items. One on the heap grows as by `reserve`; if it has room, it allocates
     -- nothing, and nothing changes. Nor does it on failure.

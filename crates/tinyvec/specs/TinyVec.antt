@@ -99,7 +99,7 @@ module _ {A T : Type 0} where
     pub items : tiny_items v ≡ drop i (tiny_items old)
     pub place : is_inline v ≡ is_inline old
     pub spare : IsInline v → AreDefaults D (slots - tiny_len v) (tiny_spare v)
-    pub room : is_inline v ≡ false → tiny_capacity slots v ≡ tiny_len v
+    pub capacity : is_inline v ≡ false → tiny_capacity slots v ≡ tiny_len v
     pub fits : tiny_len v ≤ tiny_capacity slots v
 
   -- list, spare slots, place and capacity are unchanged
@@ -117,7 +117,7 @@ module _ {A T : Type 0} where
     pub spare : AllZip C (tiny_spare v) (tiny_spare w)
     pub if_clones_equal : ClonesAreEqual C → (tiny_items w ≡ tiny_items v) × (tiny_spare w ≡ tiny_spare v)
     pub place : is_inline w ≡ is_inline v
-    pub room : is_inline w ≡ false → tiny_capacity slots w ≡ tiny_len v
+    pub capacity : is_inline w ≡ false → tiny_capacity slots w ≡ tiny_len v
 
   -- `v.clone()` cannot fail: no clone can, if the list is inline; on the heap an empty list allocates nothing
   abbrev pub IsTinyInfallible : (T → Type 0) → TinyVec A T → Type 0

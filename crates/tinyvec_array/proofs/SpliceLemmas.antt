@@ -44,7 +44,7 @@ module _ {I T : Type 0} (rest : I → List T) (room : ℕ) (s : SpliceView (Fuse
       × IfErr result (λ refused. (placed : List T) × (rest (fuse_source s.replacement) ≡ placed ++ refused.item ∷ fused_rest rest refused.rest) × (list ≡ before ++ placed ++ after))
   puts_listed unasked front back h =
       let shown : fused_rest rest s.replacement ≡ rest (fuse_source s.replacement) = ap (λ ended. if ended then [] else rest (fuse_source s.replacement)) unasked in (
-        subst (λ n. IsOk result ↔ (n ≤ room)) (λ i. length (front i) + length (shown i) + length (back i)) h.fits,
+        subst (λ n. IsOk result ↔ (n ≤ room)) (λ i. length (front i) + length (shown i) + length (back i)) h.succeeds,
         subst (λ l. OnOk result (list ≡ l)) (λ i. front i ++ shown i ++ back i) h.all,
         IfErr-weaker result _ _ (λ refused t. (t.0, sym shown ∙ t.1, t.2 ∙ (λ i. front i ++ t.0 ++ back i))) h.refused,
       )

@@ -131,7 +131,7 @@ impl<A: Array> ArrayVec<A> {
     pub fn set_len(&mut self, new_len: usize)
         requires { new_len ≤ A.CAPACITY }
         ensures value { self.new ≡ split_at new_len (all_slots self.old) }
-        ensures fits { items_len self.new ≡ new_len }
+        ensures len { items_len self.new ≡ new_len }
     {
         // Tells the proof how many slots there are.
         let _slots = self.array.as_slice();

@@ -18,4 +18,4 @@ module _ {A : Type 0} (Spells : A → List ℕ → Type 0) (Fits : A → Type 0)
 
   pub fails-second : FrontsAreCut Spells Fits (ReasonA Ended) → (c : A) {old mid new : CountedView R} → ReadsSpelling (Spells c) (remaining old.inner) (remaining mid.inner) → Fits c → old.faults ≤ mid.faults
       → FailsFor {T = T} remaining ReasonB mid new (Err e) → FailsFor {T = U} remaining (InEither Spells Fits ReasonA ReasonB) old new (Err e)
-  fails-second fronts c t fits grows failed = fails-after (Spells c) t grows (λ front back some p. inl (fronts c front back some fits p)) (λ f input p. inr (record { content = c; fits = fits; parts = p })) failed
+  fails-second fronts c t fits grows failed = fails-after (Spells c) t grows (λ front back some p. inl (fronts c front back some fits p)) (λ f input p. inr (record { content = c; valid = fits; parts = p })) failed

@@ -35,4 +35,4 @@ text-reason slots Memory input why = why
 
 -- they were read, and are no text
 pub no-text : (bytes : List ℕ) (old new : Option (List ℕ)) → AreNoText bytes → ReadsSpelling (SpellsText bytes) old new → MayBe old (IsBehind SpellsText AreNoText (λ rest. Unit {0}))
-no-text bytes old new other t = maybe-behind old new (λ rest. Unit {0}) (IsBehind SpellsText AreNoText (λ rest. Unit {0})) t (λ input p. record { content = bytes; fits = other; parts = p }) (maybe-any new)
+no-text bytes old new other t = maybe-behind old new (λ rest. Unit {0}) (IsBehind SpellsText AreNoText (λ rest. Unit {0})) t (λ input p. record { content = bytes; valid = other; parts = p }) (maybe-any new)

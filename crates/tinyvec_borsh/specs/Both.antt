@@ -14,7 +14,7 @@ BothFit FirstFits SecondFits both = FirstFits both.0 × SecondFits both.1
 -- The input begins with a content that fits, and is so after it.
 pub record IsBehind {A : Type 0} (Spells : A → List ℕ → Type 0) (Fits : A → Type 0) (P : List ℕ → Type 0) (input : List ℕ) : Type 0 where
   pub content : A
-  pub fits : Fits content
+  pub valid : Fits content
   pub parts : HasParts (Spells content) P input
   pub open parts use *
 

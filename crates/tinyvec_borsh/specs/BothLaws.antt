@@ -41,10 +41,10 @@ module _ {A B : Type 0} {SpellsA : A → List ℕ → Type 0} {SpellsB : B → L
       one_reason = λ e f of_e of_f input r s. elim r [
         | inl r ↦ elim s [
           | inl s ↦ apart_a.one_reason e f of_e of_f input r s
-          | inr s ↦ absurd (apart_a.fits_or_refused e of_e s.content s.first s.rest s.fits s.is_first (subst (ReasonA e) s.whole r))
+          | inr s ↦ absurd (apart_a.fits_or_refused e of_e s.content s.first s.rest s.valid s.is_first (subst (ReasonA e) s.whole r))
         ]
         | inr r ↦ elim s [
-          | inl s ↦ absurd (apart_a.fits_or_refused f of_f r.content r.first r.rest r.fits r.is_first (subst (ReasonA f) r.whole s))
+          | inl s ↦ absurd (apart_a.fits_or_refused f of_f r.content r.first r.rest r.valid r.is_first (subst (ReasonA f) r.whole s))
           | inr s ↦
               let same = same-item SpellsA code_a r.content s.content r.first s.first r.rest s.rest r.is_first s.is_first (sym r.whole ∙ s.whole) in
               apart_b.one_reason e f of_e of_f s.rest (subst (ReasonB e) same.2 r.is_rest) s.is_rest

@@ -27,7 +27,7 @@ both-fronts SpellsA SpellsB FitsA FitsB ReasonA ReasonB fronts_a fronts_b c fron
   | inl f ↦ inl (fronts_a c.0 front f.0 f.2 fits.0 (subst (SpellsA c.0) f.1 p.is_first))
   | inr s ↦ inr (record {
     content = c.0;
-    fits = fits.0;
+    valid = fits.0;
     parts = record { first = p.first; rest = s.0; is_first = p.is_first; is_rest = fronts_b c.1 s.0 back some fits.1 (subst (SpellsB c.1) s.2 p.is_rest); whole = s.1 };
   })
 ]

@@ -26,13 +26,13 @@ module _ (slots : ℕ) where
   fits-or-refused InvalidLength of c bytes rest fits p refused = bytes_apart.fits_or_refused InvalidLength of c bytes rest fits.0 p refused
   fits-or-refused InvalidUtf8 of c bytes rest fits p refused =
       let same = same-item SpellsText text_code c refused.content bytes refused.first rest refused.rest p refused.is_first refused.whole in
-      refused.fits.1 (subst IsUtf8 same.0 fits.1)
+      refused.valid.1 (subst IsUtf8 same.0 fits.1)
   fits-or-refused Io of c bytes rest fits p refused = of
   fits-or-refused Memory of c bytes rest fits p refused = of
 
   -- bytes that are no text are not cut or too many
   no-text-alone : (e : BorshError) → IsOfInput e → (input : List ℕ) → IsBehind SpellsText AreNoText (λ rest. Unit {0}) input → ListReason (SpellsNumber 1) (λ n. n < 2 ^ 8) (TooFewBytes 1) (CountsAbove slots) (2 ^ 64 - 1) e input → ⊥
-  no-text-alone e of input r s = bytes_apart.fits_or_refused e of r.content r.first r.rest r.fits.0 r.is_first (subst (ListReason (SpellsNumber 1) (λ n. n < 2 ^ 8) (TooFewBytes 1) (CountsAbove slots) (2 ^ 64 - 1) e) r.whole s)
+  no-text-alone e of input r s = bytes_apart.fits_or_refused e of r.content r.first r.rest r.valid.0 r.is_first (subst (ListReason (SpellsNumber 1) (λ n. n < 2 ^ 8) (TooFewBytes 1) (CountsAbove slots) (2 ^ 64 - 1) e) r.whole s)
 
   one-reason : (e f : BorshError) → IsOfInput e → IsOfInput f → (input : List ℕ) → TextReason slots e input → TextReason slots f input → e ≡ f
   one-reason InvalidUtf8 InvalidUtf8 of_e of_f input r s = refl

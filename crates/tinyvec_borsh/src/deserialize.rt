@@ -25,7 +25,7 @@ pub trait BorshDeserialize: BorshForm + Sized {
     ) -> Result<Self, BorshError>
         ensures ok { IfOk result (λ v. ReadsSpelling (Self.Spells (Self.content_of v))
             (R.remaining reader.old.inner) (R.remaining reader.new.inner)) }
-        ensures fits { IfOk result (λ v. Self.Fits (Self.content_of v)) }
+        ensures valid { IfOk result (λ v. Self.Fits (Self.content_of v)) }
         ensures fails { FailsFor R.remaining Reason reader.old reader.new result };
 
     /// Reads a value into each slot, one after the other.
@@ -38,7 +38,7 @@ pub trait BorshDeserialize: BorshForm + Sized {
         Self: Drop,
         ensures ok { OnOk result (ReadsSpelling (SpellsItems Self.Spells (map Self.content_of slots.new))
             (R.remaining reader.old.inner) (R.remaining reader.new.inner)) }
-        ensures fits { OnOk result (AllByRecursion Self.Fits (map Self.content_of slots.new)) }
+        ensures valid { OnOk result (AllByRecursion Self.Fits (map Self.content_of slots.new)) }
         ensures fails { FailsFor R.remaining (AfterItems Self.Spells Self.Fits Reason (length slots.old))
             reader.old reader.new result }
     {

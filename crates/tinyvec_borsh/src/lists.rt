@@ -24,7 +24,7 @@ fn write_list<T: BorshSerialize, W: Write>(
     requires { len ≡ length items.now }
     ensures writes { WritesValue W.contents (SpellsList T.Spells (map T.content_of items.now))
         writer.old writer.new result }
-    ensures fit { OnOk result (AllByRecursion T.Fits (map T.content_of items.now)) }
+    ensures valid { OnOk result (AllByRecursion T.Fits (map T.content_of items.now)) }
 {
     (len as u64).serialize(writer)?;
     T::serialize_items(items, writer)

@@ -13,7 +13,7 @@ pub trait BorshSerialize: BorshForm {
     /// Writes the spelling of the value's content.
     fn serialize<W: Write>(&self, writer: &mut Counted<W>) -> Result<(), BorshError>
         ensures writes { WritesValue W.contents (Self.Spells (Self.content_of self.now)) writer.old writer.new result }
-        ensures fits { OnOk result (Self.Fits (Self.content_of self.now)) };
+        ensures valid { OnOk result (Self.Fits (Self.content_of self.now)) };
 
     /// Writes the items one after the other.
     fn serialize_items<W: Write>(items: &[Self], writer: &mut Counted<W>) -> Result<(), BorshError>
@@ -21,7 +21,7 @@ pub trait BorshSerialize: BorshForm {
         Self: Sized,
         ensures writes { WritesValue W.contents (SpellsItems Self.Spells (map Self.content_of items.now))
             writer.old writer.new result }
-        ensures fits { OnOk result (AllByRecursion Self.Fits (map Self.content_of items.now)) }
+        ensures valid { OnOk result (AllByRecursion Self.Fits (map Self.content_of items.now)) }
     {
         for item in items {
             item.serialize(writer)?;

@@ -18,7 +18,7 @@ module _ {S I T : Type 0} {view : S → SpliceView I T} {keeps : S → S → Typ
       → IsOk result ↔ (length before + length replacement + length after ≤ capacity)
   ended_fits result f =
       let sum = spliced_len view keeps rest s t word list before removed after replacement along ahead left behind whole in
-      (λ ok. let le = f.fits.0 ok in omega (arith, le, sum), λ le. f.fits.1 (omega (arith, le, sum)))
+      (λ ok. let le = f.succeeds.0 ok in omega (arith, le, sum), λ le. f.succeeds.1 (omega (arith, le, sum)))
 
   pub ended_list : (result : Result Unit (SpliceRest T I)) → FinishesWith rest capacity (view t) result list → OnOk result (list ≡ before ++ replacement ++ after)
   ended_list (Ok u) f = spliced_all view keeps rest s t word list before removed after replacement along ahead left behind whole f.all

@@ -96,14 +96,14 @@ module _ {S I T : Type 0} (view : S → SpliceView I T) (keeps : S → S → Typ
   pub splices_finished : (result : Result Unit (SpliceRest T I)) → FinishesWith rest capacity (view t) result new
       → ListSplices capacity old start end word replacement (given_items answers) (refused_items rest result) new
   splices_finished (Ok u) f =
-      let fits = f.fits.0 refl in
+      let fits = f.succeeds.0 refl in
       let is = spliced_all view keeps rest s t (word_of word) new _ _ _ replacement along ahead left behind whole f.all in record {
         yields_are = yields_are;
         placed = λ h. (refl, is);
         refused = λ more. absurd (omega (arith, fits, sum, more));
       }
   splices_finished (Err back) f =
-      let no : (length (view t).front + length (rest (view t).replacement) + length (view t).back ≤ capacity) → ⊥ = λ le. let e : false ≡ true = f.fits.1 le in cc in
+      let no : (length (view t).front + length (rest (view t).replacement) + length (view t).back ≤ capacity) → ⊥ = λ le. let e : false ≡ true = f.succeeds.1 le in cc in
       let h = f.refused in
       let n = length-slice_range old start end in_order in_list in
       let is = spliced_refused view keeps rest s t (word_of word) new _ _ _ replacement along ahead left behind whole h.0 back.item (rest back.rest) h.1 h.2 in record {
@@ -115,7 +115,7 @@ module _ {S I T : Type 0} (view : S → SpliceView I T) (keeps : S → S → Typ
   -- it was refused where the list does not fit
   pub refused_over : {P : Type 0} (result : Result Unit (SpliceRest T I)) → FinishesWith rest capacity (view t) result new → OnErr result P
       → capacity < start + length replacement + (length old - end) → P
-  refused_over (Ok u) f p over = let fits = f.fits.0 refl in absurd (omega (arith, fits, sum, over))
+  refused_over (Ok u) f p over = let fits = f.succeeds.0 refl in absurd (omega (arith, fits, sum, over))
   refused_over (Err back) f p over = p
 
   -- what is handed back is no longer than the replacement

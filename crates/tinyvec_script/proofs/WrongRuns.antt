@@ -51,4 +51,4 @@ pub memory_after_a_cut : (slots : ℕ) (text more : List ℕ) (index : ℕ) (old
     → TextStep slots old (add text) answers.Done first → TextStep slots first (cut index) answers.Done second
     → TextStep slots second (add more) answers.Memory new → text_len second + length more ≤ text_len first → ⊥
 memory_after_a_cut slots text more index old first second new added shortened refused within =
-    omega (arith, added.room.fits, shortened.frame.room, refused.0, within)
+    omega (arith, added.room.fits, shortened.frame.capacity, refused.0, within)

@@ -61,12 +61,12 @@ Fits (Splice start end word numbers) = (start < 2 ^ 64) × (end < 2 ^ 64) × All
 -- the text spells this call
 pub record IsCall (text : List ℕ) (call : Call ℤ) : Type 0 where
   pub spelled : text ≡ spelling call
-  pub fits : Fits call
+  pub valid : Fits call
 
 -- the text spells a splice by these letters and numbers, which have to be allocated
 pub record IsSplice (text : List ℕ) (start end : ℕ) (word : List End) (numbers : List ℤ) : Type 0 where
   pub spelled : text ≡ codes "splice " ++ splice_text start end word numbers
-  pub fits : (start < 2 ^ 64) × (end < 2 ^ 64) × All (FitsSigned w32) numbers
+  pub valid : (start < 2 ^ 64) × (end < 2 ^ 64) × All (FitsSigned w32) numbers
   pub some : 0 < length word + length numbers
 
 -- how a vector is named

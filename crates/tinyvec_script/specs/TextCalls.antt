@@ -32,7 +32,7 @@ TextFits (cut index) = index < 2 ^ 64
 -- the line spells this call of the text
 pub record IsTextCommand (line : List ℕ) (call : TextCall) : Type 0 where
   pub spelled : line ≡ codes "X " ++ text_spelling call
-  pub fits : TextFits call
+  pub valid : TextFits call
   pub short : length line ≤ 128
 
 -- the bytes were appended, with room for the joined length, as `push_str` makes it

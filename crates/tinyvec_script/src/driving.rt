@@ -39,7 +39,7 @@ pub(crate) fn answer_driven<T: Drop>(driven: Driven<T>) -> Answer<T>
 // Empty lists with this room.
 fn with_room<T: Drop>(alloc: Global, yields: usize, rest: usize) -> Result<Driven<T>, AllocError>
     ensures empty { IfOk result (λ driven. (driven.yields.items ≡ []) × (driven.rest.items ≡ [])) }
-    ensures room { IfOk result (λ driven. (yields ≤ vec_capacity driven.yields) × (rest ≤ vec_capacity driven.rest)) }
+    ensures enough { IfOk result (λ driven. (yields ≤ vec_capacity driven.yields) × (rest ≤ vec_capacity driven.rest)) }
     ensures needed { OnErr result (0 < yields + rest) }
 {
     let yields = Vec::with_capacity(alloc, yields)?;

@@ -100,7 +100,7 @@ impl<B: Lent> GenericSliceVec<B> {
         requires { new_len ≤ length (slots_of B.Lent self.old) }
         ensures lender { SameLender B.Lent self.old self.new }
         ensures value { view_of B.Lent self.new ≡ split_at new_len (slots_of B.Lent self.old) }
-        ensures fits { len_of B.Lent self.new ≡ new_len }
+        ensures len { len_of B.Lent self.new ≡ new_len }
     {
         self.len = new_len;
     }
@@ -236,7 +236,7 @@ impl<'s, T: Drop> GenericSliceVec<&'s mut [T]> {
     /// A vector whose list is the first `len` slots of the slice. `None` if the slice is too short; it is then
     /// unchanged. Limitation: the owner's proof learns neither; use `from_slice_at_most`.
     pub fn try_from_slice_len(slice: &'s mut [T], len: usize) -> Option<Self>
-        ensures fits { IsSome result ↔ (len ≤ length slice.old) }
+        ensures some { IsSome result ↔ (len ≤ length slice.old) }
         ensures same_reference { IfSome result (λ v. name v ≡ slice.entry.ghost_name) }
         ensures value { IfSome result (λ v. view v ≡ split_at len slice.old) }
     {

@@ -30,7 +30,7 @@ module _ {I T : Type 0} (gives : I → Option T → I → Type 0) (capacity : �
       let all : rest s.replacement ≡ h.placed = drained gives rest shows s.replacement h.placed h.ran.0 h.ran.1 in
       let long = finished_len (Ok u) h in
       let count = ap length all in record {
-        fits = (λ e. omega (arith, h.fits), λ le. refl);
+        succeeds = (λ e. omega (arith, h.fits), λ le. refl);
         all = h.list_is ∙ ap (λ xs. s.front ++ xs ++ s.back) (sym all);
         refused = tt;
       }
@@ -38,7 +38,7 @@ module _ {I T : Type 0} (gives : I → Option T → I → Type 0) (capacity : �
       let all : rest s.replacement ≡ h.placed ++ back.item ∷ rest back.rest = refused gives rest shows s.replacement h.placed back.item back.rest h.ran in
       let long = finished_len (Err back) h in
       let count = ap length all ∙ length-append h.placed (back.item ∷ rest back.rest) in record {
-        fits = (λ e. absurd (let no : false ≡ true = e in cc), λ le. absurd (omega (arith, h.full)));
+        succeeds = (λ e. absurd (let no : false ≡ true = e in cc), λ le. absurd (omega (arith, h.full)));
         all = tt;
         refused = (h.placed, all, h.list_is, h.full);
       }

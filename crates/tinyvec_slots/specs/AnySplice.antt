@@ -81,7 +81,7 @@ module _ {I T : Type 0} (gives : I → Option T → I → Type 0) (capacity : �
 -- the same, if it is known what the replacement still yields: all of it was placed, or it did not fit
 module _ {I T : Type 0} (rest : I → List T) (capacity : ℕ) where
   pub record FinishesWith (s : SpliceView I T) (result : Result Unit (SpliceRest T I)) (list : List T) : Type 0 where
-    pub fits : IsOk result ↔ (length s.front + length (rest s.replacement) + length s.back ≤ capacity)
+    pub succeeds : IsOk result ↔ (length s.front + length (rest s.replacement) + length s.back ≤ capacity)
     pub all : OnOk result (list ≡ s.front ++ rest s.replacement ++ s.back)
     pub refused : IfErr result (λ refused. (placed : List T) × (rest s.replacement ≡ placed ++ refused.item ∷ rest refused.rest)
         × (list ≡ s.front ++ placed ++ s.back) × (length list ≡ capacity))

@@ -68,14 +68,14 @@ pub record TextReserves {X E : Type 0} (slots n : ℕ) (old new : Text) (result 
 pub record TextShrinks (slots : ℕ) (old new : Text) : Type 0 where
   pub bytes : new.bytes ≡ old.bytes
   pub place : IsTrue (lies_inline new.place) ↔ (text_len old ≤ slots)
-  pub room : capacity_in slots new.place ≤ max (capacity_in slots old.place) slots
+  pub capacity : capacity_in slots new.place ≤ max (capacity_in slots old.place) slots
   pub fits : text_len new ≤ capacity_in slots new.place
   pub kept : IsTrue (lies_inline old.place) → new ≡ old
 
 -- a call that allocates nothing took `old` to `new`: place and room are unchanged
 pub record TextStaysInPlace (slots : ℕ) (old new : Text) : Type 0 where
   pub place : lies_inline new.place ≡ lies_inline old.place
-  pub room : capacity_in slots new.place ≡ capacity_in slots old.place
+  pub capacity : capacity_in slots new.place ≡ capacity_in slots old.place
   pub fits : text_len new ≤ capacity_in slots new.place
 
 -- a call that allocates nothing, and leaves these bytes, which spell these characters
@@ -94,7 +94,7 @@ pub record TextKeepsFront (slots n : ℕ) (old new : Text) : Type 0 where
 -- a text was made with room for `need` bytes, inline if they fit the array
 pub record TextMadeFor (slots need : ℕ) (t : Text) : Type 0 where
   pub place : IsTrue (lies_inline t.place) ↔ (need ≤ slots)
-  pub room : capacity_in slots t.place ≡ max need slots
+  pub exact : capacity_in slots t.place ≡ max need slots
 
 -- a text was collected, inline if its bytes fit the array; on the heap its room is less than twice as many
 pub record TextCollects (slots : ℕ) (t : Text) : Type 0 where
@@ -105,7 +105,7 @@ pub record TextCollects (slots : ℕ) (t : Text) : Type 0 where
 pub record IsTextTail (slots i : ℕ) (old t : Text) : Type 0 where
   pub bytes : t.bytes ≡ drop i old.bytes
   pub place : lies_inline t.place ≡ lies_inline old.place
-  pub room : lies_inline t.place ≡ false → capacity_in slots t.place ≡ text_len t
+  pub capacity : lies_inline t.place ≡ false → capacity_in slots t.place ≡ text_len t
   pub fits : text_len t ≤ capacity_in slots t.place
 
 -- the bytes begin with those of c, which are n, and UTF-8 follows

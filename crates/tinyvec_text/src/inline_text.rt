@@ -158,7 +158,7 @@ impl<const N: usize> InlineText<N> {
     /// allocator refuses, the text is returned.
     pub fn into_string(self) -> Result<String, NoMemory<Self>>
         ensures bytes { IfOk result (λ s. string_bytes s ≡ self.entry.bytes) }
-        ensures room { IfOk result (λ s. string_capacity s ≡ capacity_in (text_len self.entry) self.entry.place) }
+        ensures capacity { IfOk result (λ s. string_capacity s ≡ capacity_in (text_len self.entry) self.entry.place) }
         ensures succeeds { lies_inline self.entry.place ≡ false → IsOk result }
         ensures succeeds_empty { text_len self.entry ≡ 0 → IsOk result }
         ensures value_returned { IfErr result (λ refused. refused.0 ≡ self.entry) }

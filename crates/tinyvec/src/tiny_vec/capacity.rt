@@ -222,7 +222,7 @@ impl<A: Array> TinyVec<A> {
     /// allocator refuses, the vector is returned.
     pub fn into_vec(self) -> Result<Vec<A::Item>, NoMemory<Self>>
         ensures items { IfOk result (λ v. v.items ≡ tiny_items self) }
-        ensures room { IfOk result (λ v. IsInline self → vec_capacity v ≡ tiny_len self) }
+        ensures capacity { IfOk result (λ v. IsInline self → vec_capacity v ≡ tiny_len self) }
         ensures same_room { IfOk result (λ v. is_inline self ≡ false → vec_capacity v ≡ tiny_capacity A.CAPACITY self) }
         ensures succeeds { is_inline self ≡ false → IsOk result }
         ensures succeeds_empty { tiny_len self ≡ 0 → IsOk result }
@@ -253,7 +253,7 @@ impl<A: Array> TinyVec<A> {
 fn grow_heap<T>(heap: &mut Vec<T>, n: usize) -> Result<(), AllocError>
     requires { vec_capacity heap.old < vec_len heap.old + n }
     ensures items { heap.new.items ≡ heap.old.items }
-    ensures room { OnOk result (vec_capacity heap.new ≡ max (2 * vec_capacity heap.old) (vec_len heap.old + n)) }
+    ensures capacity { OnOk result (vec_capacity heap.new ≡ max (2 * vec_capacity heap.old) (vec_len heap.old + n)) }
     ensures refused { OnErr result (vec_capacity heap.new ≡ vec_capacity heap.old) }
 {
     let twice = 2 * heap.capacity() - heap.len();

@@ -52,7 +52,7 @@ where
     ) -> Result<Self, BorshError>
         ensures ok { IfOk result (λ v. ReadsSpelling (SpellsList A.Item.Spells (map A.Item.content_of (items v)))
             (R.remaining reader.old.inner) (R.remaining reader.new.inner)) }
-        ensures fits { IfOk result (λ v. ListFits A.Item.Spells A.Item.Fits A.CAPACITY
+        ensures valid { IfOk result (λ v. ListFits A.Item.Spells A.Item.Fits A.CAPACITY
             (map A.Item.content_of (items v))) }
         ensures fails { FailsFor R.remaining (ListReason A.Item.Spells A.Item.Fits A.Item.Reason (λ _. ⊥) A.CAPACITY)
             reader.old reader.new result }

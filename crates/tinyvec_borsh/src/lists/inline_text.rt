@@ -45,10 +45,10 @@ impl<const N: usize> BorshDeserialize for InlineText<N> {
     ) -> Result<Self, BorshError>
         ensures ok { IfOk result (λ t. ReadsSpelling (SpellsText t.bytes)
             (R.remaining reader.old.inner) (R.remaining reader.new.inner)) }
-        ensures fits { IfOk result (λ t. TextFits t.bytes) }
+        ensures valid { IfOk result (λ t. TextFits t.bytes) }
         ensures fails { FailsFor R.remaining (TextReason N) reader.old reader.new result }
         ensures place { IfOk result (λ t. IsTrue (lies_inline t.place) ↔ (text_len t ≤ N)) }
-        ensures room { IfOk result (λ t. capacity_in N t.place ≤ max N (2 * text_len t)) }
+        ensures capacity { IfOk result (λ t. capacity_in N t.place ≤ max N (2 * text_len t)) }
 
         // Of what is no text just its bytes were taken.
         ensures rest { IfErr result (λ e. e ≡ BorshError.InvalidUtf8 → (bytes : List ℕ) × AreNoText bytes

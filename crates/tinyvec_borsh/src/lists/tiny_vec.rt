@@ -77,7 +77,7 @@ where
     ) -> Result<Self, BorshError>
         ensures ok { IfOk result (λ v. ReadsSpelling (SpellsList A.Item.Spells (map A.Item.content_of (tiny_items v)))
             (R.remaining reader.old.inner) (R.remaining reader.new.inner)) }
-        ensures fits { IfOk result (λ v. ListFits A.Item.Spells A.Item.Fits (2 ^ 64 - 1)
+        ensures valid { IfOk result (λ v. ListFits A.Item.Spells A.Item.Fits (2 ^ 64 - 1)
             (map A.Item.content_of (tiny_items v))) }
         ensures fails { FailsFor R.remaining
             (ListReason A.Item.Spells A.Item.Fits A.Item.Reason (CountsAbove A.CAPACITY) (2 ^ 64 - 1))
@@ -85,7 +85,7 @@ where
         ensures place { IfOk result (λ v. IsInline v ↔ (tiny_len v ≤ A.CAPACITY)) }
         ensures spare { IfOk result (λ v. IsInline v
             → AreDefaults A.Item.is_default (A.CAPACITY - tiny_len v) (tiny_spare v)) }
-        ensures room { IfOk result (λ v. tiny_capacity A.CAPACITY v ≤ max A.CAPACITY (2 * tiny_len v)) }
+        ensures capacity { IfOk result (λ v. tiny_capacity A.CAPACITY v ≤ max A.CAPACITY (2 * tiny_len v)) }
     {
         let count = u64::deserialize_reader(alloc, reader)?;
         let ahead = count.min(items_ahead::<A::Item>() as u64) as usize;
@@ -115,7 +115,7 @@ where
         (R.remaining reader.old.inner) (R.remaining reader.new.inner)) }
     ensures place { OnOk result (PlaceRule A.CAPACITY (tiny_len v.new) v.old v.new) }
     ensures slot_rule { OnOk result (TinySlotRule A.Item.is_default v.old v.new) }
-    ensures room { OnOk result (tiny_capacity A.CAPACITY v.new ≤ max (tiny_capacity A.CAPACITY v.old) (2 * count)) }
+    ensures capacity { OnOk result (tiny_capacity A.CAPACITY v.new ≤ max (tiny_capacity A.CAPACITY v.old) (2 * count)) }
     ensures fails { FailsFor R.remaining
         (λ e input. AfterItems A.Item.Spells A.Item.Fits A.Item.Reason (count - tiny_len v.old) e input
         ⊎ ((e ≡ BorshError.Memory) × (tiny_capacity A.CAPACITY v.old < count))) reader.old reader.new result }

@@ -28,7 +28,7 @@ pub(crate) trait FixedWidth: Copy {
 
     fn to_bytes(self) -> Self::Bytes
         ensures bytes { Self.Bytes.slots result ≡ to_le_bytes form.width (form.to_bits self) }
-        ensures fits { form.Fits self };
+        ensures valid { form.Fits self };
 
     fn from_bytes(bytes: Self::Bytes) -> Self
         ensures { result ≡ form.of_bits (from_le_bytes form.width (Self.Bytes.slots bytes)) };
@@ -40,7 +40,7 @@ pub(crate) trait FixedWidth: Copy {
 pub(crate) trait Number: FixedWidth {
     fn write_all<W: Write>(items: &[Self], writer: &mut Counted<W>) -> Result<(), BorshError>
         ensures writes { WritesValue W.contents (SpellsItems Self.form.Spells items.now) writer.old writer.new result }
-        ensures fits { OnOk result (AllByRecursion Self.form.Fits items.now) }
+        ensures valid { OnOk result (AllByRecursion Self.form.Fits items.now) }
     {
         let width = Self::Bytes::CAPACITY;
         let mut room = [0; ROOM];
@@ -57,7 +57,7 @@ pub(crate) trait Number: FixedWidth {
     fn read_all<R: Read>(slots: &mut [Self], reader: &mut Counted<R>) -> Result<(), BorshError>
         ensures ok { OnOk result (ReadsSpelling (SpellsItems Self.form.Spells slots.new)
             (R.remaining reader.old.inner) (R.remaining reader.new.inner)) }
-        ensures fits { OnOk result (AllByRecursion Self.form.Fits slots.new) }
+        ensures valid { OnOk result (AllByRecursion Self.form.Fits slots.new) }
         ensures fails { FailsFor R.remaining
             (AfterItems Self.form.Spells Self.form.Fits (TooFewBytes (byte_len Self.form.width)) (length slots.old))
             reader.old reader.new result }
@@ -79,7 +79,7 @@ fn read_blocks<T: FixedWidth, R: Read, const MOST: usize>(
     requires few { MOST ≤ LONG_ROOM }
     ensures ok { OnOk result (ReadsSpelling (SpellsItems T.form.Spells slots.new)
         (R.remaining reader.old.inner) (R.remaining reader.new.inner)) }
-    ensures fits { OnOk result (AllByRecursion T.form.Fits slots.new) }
+    ensures valid { OnOk result (AllByRecursion T.form.Fits slots.new) }
     ensures fails { FailsFor R.remaining
         (AfterItems T.form.Spells T.form.Fits (TooFewBytes (byte_len T.form.width)) (length slots.old))
         reader.old reader.new result }
@@ -101,7 +101,7 @@ fn read_blocks<T: FixedWidth, R: Read, const MOST: usize>(
 pub(super) fn from_slice<T: FixedWidth>(spelling: &[u8]) -> T
     requires { length spelling.now ≡ T.Bytes.CAPACITY }
     ensures spelled { T.form.Spells result spelling.now }
-    ensures fits { T.form.Fits result }
+    ensures valid { T.form.Fits result }
 {
     let mut bytes = T::Bytes::default();
     bytes.as_slice_mut().copy_from_slice(spelling);
@@ -113,7 +113,7 @@ pub(super) fn from_slice<T: FixedWidth>(spelling: &[u8]) -> T
 fn decode<T: FixedWidth>(slots: &mut [T], bytes: &[u8])
     requires { length bytes.now ≡ length slots.old * T.Bytes.CAPACITY }
     ensures spelled { SpellsItems T.form.Spells slots.new bytes.now }
-    ensures fits { AllByRecursion T.form.Fits slots.new }
+    ensures valid { AllByRecursion T.form.Fits slots.new }
     ensures len { length slots.new ≡ length slots.old }
 {
     let width = T::Bytes::CAPACITY;
@@ -128,7 +128,7 @@ fn decode<T: FixedWidth>(slots: &mut [T], bytes: &[u8])
 fn encode<T: FixedWidth>(items: &[T], room: &mut [u8; ROOM])
     requires { length items.now * T.Bytes.CAPACITY ≤ 256 }
     ensures spelled { SpellsItems T.form.Spells items.now (take (length items.now * T.Bytes.CAPACITY) room.new) }
-    ensures fits { AllByRecursion T.form.Fits items.now }
+    ensures valid { AllByRecursion T.form.Fits items.now }
 {
     let width = T::Bytes::CAPACITY;
     for i in 0..items.len() {

@@ -80,7 +80,7 @@ module _ (A : Type 0) (alloc : Global) where
     items = refl;
     place = refl;
     spare = search rules;
-    room = λ outside. absurd (let no = outside in cc);
+    capacity = λ outside. absurd (let no = outside in cc);
     fits = omega arith;
   }
 
@@ -152,7 +152,7 @@ module _ (A : Type 0) (alloc : Global) where
     spare = (refl, (refl, (refl, tt)));
     if_clones_equal = λ _. (refl, refl);
     place = refl;
-    room = search rules;
+    capacity = search rules;
   }
 
   pub example-IsTinyInfallible : IsTinyInfallible I (inline (1 ∷ []) (0 ∷ 0 ∷ 0 ∷ []))

@@ -206,7 +206,7 @@ pub fn packed(text: &mut InlineText<8>)
 /// Room for `n` bytes, or for the text, is kept, and other room given back.
 pub fn with_less_room(text: &mut InlineText<8>, n: usize)
     ensures text { text_chars text.new ≡ text_chars text.old }
-    ensures room { n ≤ capacity_in 8 text.old.place → n ≤ capacity_in 8 text.new.place }
+    ensures capacity { n ≤ capacity_in 8 text.old.place → n ≤ capacity_in 8 text.new.place }
 {
     text.shrink_to(n);
 }

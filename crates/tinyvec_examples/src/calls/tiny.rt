@@ -36,7 +36,7 @@ pub fn of_slice(alloc: Global, numbers: &[u32]) -> Result<TinyVec<[u32; 4]>, All
 
 /// Room for `n` items, on the heap if the array has less.
 pub fn with_room(alloc: Global, n: usize) -> Result<TinyVec<[u8; 4]>, AllocError>
-    ensures room { IfOk result (λ v. n ≤ tiny_capacity 4 v) }
+    ensures enough { IfOk result (λ v. n ≤ tiny_capacity 4 v) }
     ensures place { IfOk result (λ v. IsInline v ↔ (n ≤ 4)) }
 {
     TinyVec::with_capacity(alloc, n)
@@ -255,7 +255,7 @@ pub fn try_with_exact_room<A: Array>(v: &mut TinyVec<A>, n: usize) -> Result<(),
 
 /// Room for `n` more items, or perhaps for more than that.
 pub fn with_some_room<A: Array>(v: &mut TinyVec<A>, n: usize) -> Result<(), AllocError>
-    ensures room { OnOk result (tiny_len v.old + n ≤ tiny_capacity A.CAPACITY v.new) }
+    ensures enough { OnOk result (tiny_len v.old + n ≤ tiny_capacity A.CAPACITY v.new) }
     ensures refused { OnErr result (Unchanged v.old v.new) }
 {
     v.try_reserve(n)
@@ -310,7 +310,7 @@ pub fn in_a_box(alloc: Global, x: u32) -> Result<Box<u32>, NoMemory<u32>>
 /// Room for `n` items, or for the list, is kept, and other room given back.
 pub fn with_less_room<A: Array>(v: &mut TinyVec<A>, n: usize)
     ensures items { tiny_items v.new ≡ tiny_items v.old }
-    ensures room { n ≤ tiny_capacity A.CAPACITY v.old → n ≤ tiny_capacity A.CAPACITY v.new }
+    ensures capacity { n ≤ tiny_capacity A.CAPACITY v.old → n ≤ tiny_capacity A.CAPACITY v.new }
 {
     v.shrink_to(n);
 }
@@ -335,7 +335,7 @@ pub fn on_heap<A: Array>(v: &mut TinyVec<A>) -> Result<(), AllocError>
 /// The list on the heap, with room for `n` more items.
 pub fn on_heap_with_room<A: Array>(v: &mut TinyVec<A>, n: usize) -> Result<(), AllocError>
     ensures items { tiny_items v.new ≡ tiny_items v.old }
-    ensures room { OnOk result (tiny_len v.old + n ≤ tiny_capacity A.CAPACITY v.new) }
+    ensures enough { OnOk result (tiny_len v.old + n ≤ tiny_capacity A.CAPACITY v.new) }
 {
     v.move_to_the_heap_and_reserve(n)
 }
@@ -343,7 +343,7 @@ pub fn on_heap_with_room<A: Array>(v: &mut TinyVec<A>, n: usize) -> Result<(), A
 /// The same, by the other name.
 pub fn try_on_heap_with_room<A: Array>(v: &mut TinyVec<A>, n: usize) -> Result<(), AllocError>
     ensures items { tiny_items v.new ≡ tiny_items v.old }
-    ensures room { OnOk result (tiny_len v.old + n ≤ tiny_capacity A.CAPACITY v.new) }
+    ensures enough { OnOk result (tiny_len v.old + n ≤ tiny_capacity A.CAPACITY v.new) }
 {
     v.try_move_to_the_heap_and_reserve(n)
 }

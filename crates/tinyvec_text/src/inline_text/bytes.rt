@@ -15,7 +15,7 @@ pub fn copied_to_heap<const N: usize>(
 ) -> Result<TinyVec<[u8; N]>, AllocError>
     ensures items { IfOk result (λ v. tiny_items v ≡ bytes.now) }
     ensures place { IfOk result (λ v. is_inline v ≡ false) }
-    ensures room { IfOk result (λ v. tiny_capacity N v ≡ length bytes.now) }
+    ensures capacity { IfOk result (λ v. tiny_capacity N v ≡ length bytes.now) }
     ensures succeeds { length bytes.now ≡ 0 → IsOk result }
 {
     if bytes.is_empty() {

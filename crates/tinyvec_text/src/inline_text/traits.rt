@@ -49,7 +49,7 @@ impl<const N: usize> Clone for InlineText<N> {
     fn clone(&self) -> Result<Self, AllocError>
         ensures cases { MatchResult result (λ t. t.bytes ≡ self.now.bytes) (λ _. ¬ (IsTrue (lies_inline self.now.place))) }
         ensures place { IfOk result (λ t. lies_inline t.place ≡ lies_inline self.now.place) }
-        ensures room { IfOk result (λ t. lies_inline t.place ≡ false → capacity_in N t.place ≡ text_len self.now) }
+        ensures capacity { IfOk result (λ t. lies_inline t.place ≡ false → capacity_in N t.place ≡ text_len self.now) }
         ensures succeeds_empty { lies_inline self.now.place ≡ false → text_len self.now ≡ 0 → IsOk result }
     {
         if self.list.is_inline() {

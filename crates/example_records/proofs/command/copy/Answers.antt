@@ -10,7 +10,7 @@ pub returns-in-Ok-clause-answers : goal.returns-in-Ok-clause-answers
 returns-in-Ok-clause-answers c =
     let none : length c.args.rest.now ≡ 0 = search rules in
     let given : c.new-2.result.inner.now ≡ c.args.stream.now = search rules in
-    let first : IsRead c.args.stream.now (map said c.read_all-recovered.result.records.items) c.read_all-recovered.result.end = is_read c.args.stream.now _ _ _ _ _ given c.new-2.ensures.faults c.read_all-recovered.ensures.stands c.read_all-recovered.ensures.fit c.read_all-recovered.ensures.all in
+    let first : IsRead c.args.stream.now (map said c.read_all-recovered.result.records.items) c.read_all-recovered.result.end = is_read c.args.stream.now _ _ _ _ _ given c.new-2.ensures.faults c.read_all-recovered.ensures.stands c.read_all-recovered.ensures.valid c.read_all-recovered.ensures.all in
     let told : IsTold c.read_all-recovered.result.end = search rules in
     let copied : IsCopy (map said c.read_all-recovered.result.records.items) (map said c.in-Ok.copy.records.items) c.in-Ok.copy.end = search rules in
     let read : IsReadOfCopy c.args.stream.now (map said c.in-Ok.copy.records.items) c.in-Ok.copy.end = record {

@@ -7,7 +7,7 @@ pub returns-then-is_empty-clause-answers : goal.returns-then-is_empty-clause-ans
 returns-then-is_empty-clause-answers c =
     let none : length c.args.rest.now ≡ 0 = search rules in
     let given : c.new.result.inner.now ≡ c.args.stream.now = search rules in
-    let read = is_read c.args.stream.now _ _ _ _ _ given c.new.ensures.faults c.read_all.ensures.stands c.read_all.ensures.fit c.read_all.ensures.all in
+    let read = is_read c.args.stream.now _ _ _ _ _ given c.new.ensures.faults c.read_all.ensures.stands c.read_all.ensures.valid c.read_all.ensures.all in
     record {
       carried_out = read_as c.args.rest.now c.args.stream.now c.read_all.result read;
       is_command = (Read, (refl, empty c.args.rest.now none));

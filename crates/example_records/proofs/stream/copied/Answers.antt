@@ -7,4 +7,4 @@ pub returns-clause-ok : goal.returns-clause-ok
 returns-clause-ok c =
     let wrote = c.in_ok-append_all.ensures.ok in
     let all : Some c.new-reader.result.inner.now ≡ Some wrote.0 = grind (arith, common_steps) in
-    copy-of _ _ _ _ _ (c.read_all.ensures.all _ wrote.0 [] (Ok tt) c.in_ok-append_all.ensures.fit wrote.1 refl (all ∙ ap Some (sym (append-nil wrote.0))))
+    copy-of _ _ _ _ _ (c.read_all.ensures.all _ wrote.0 [] (Ok tt) c.in_ok-append_all.ensures.valid wrote.1 refl (all ∙ ap Some (sym (append-nil wrote.0))))

@@ -15,4 +15,4 @@ returns-in_err-reading-clause-next g c =
     rw (p.1, p.2) (record-fails c.in-Ok.tag _ _ c.in-Ok.ensures.ok (search rules) _ _ _ c.in_err-reading.ensures.fails.err)
 
 pub returns-clause-next : goal.returns-clause-next
-returns-clause-next g c = (takes-tagged c.in-Ok.tag _ _ c.in-Ok.ensures.ok tag (search rules) SpellsReading _ _ c.in_ok-reading.ensures.ok, c.in_ok-reading.ensures.fits)
+returns-clause-next g c = (takes-tagged c.in-Ok.tag _ _ c.in-Ok.ensures.ok tag (search rules) SpellsReading _ _ c.in_ok-reading.ensures.ok, c.in_ok-reading.ensures.valid)

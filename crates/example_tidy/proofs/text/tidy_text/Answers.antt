@@ -44,5 +44,5 @@ returns-in_err-end_text-clause-succeeds c = λ each fits.
     let room : 4096 ≤ tiny_capacity 4096 c.new-output.result = search rules in
     let never : false ≡ true = rw c.as_slice.ensures at c.in_err-end_text.ensures.succeeds
     (short_end text output line so_far each)
-    (λ some. omega (arith, says_last text output line so_far some, fits, room, c.in_ok-feed.ensures.room)) in
+    (λ some. omega (arith, says_last text output line so_far some, fits, room, c.in_ok-feed.ensures.capacity)) in
     absurd cc

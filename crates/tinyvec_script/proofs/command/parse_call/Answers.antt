@@ -13,7 +13,7 @@ returns-in-Some-strip_prefix c =
     let rest = strip_prefix_is Decides-eqb c.args.text.now (codes "insert ") (Some c.in-Some-strip_prefix.rest) c.in-Some-strip_prefix.ensures.cases in (
       rw to_z-of_z (record {
         spelled = rest ∙ ap (λ l. codes "insert " ++ l) (c.in_ok-index.ensures ∙ ap (λ l. decimal c.in_ok-index.index ++ 32 ∷ l) c.in_ok-parse_number-2.ensures);
-        fits = (search rules, fits);
+        valid = (search rules, fits);
       }),
       tt,
       tt,

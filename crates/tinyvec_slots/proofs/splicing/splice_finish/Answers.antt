@@ -122,4 +122,4 @@ returns-clause-succeeds g c = λ rest shows within.
     let listed = returns-clause-listed g c rest shows in
     let same_room = g.met.V.CanSplice.kept_room c.args.vec.now (refilled g filled) (is_written g filled).1 in
     let more_room = g.met.V.CanSplice.grown_room (refilled g filled) c.append_in-finished.new.vec c.append_in-finished.ensures.grown in
-    listed.fits.1 (omega (arith, within, more_room, same_room))
+    listed.succeeds.1 (omega (arith, within, more_room, same_room))

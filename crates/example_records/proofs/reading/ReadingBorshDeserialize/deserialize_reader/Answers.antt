@@ -19,7 +19,7 @@ pub returns-in_err-samples-clause-fails : goal.returns-in_err-samples-clause-fai
 returns-in_err-samples-clause-fails g c =
     let p = err_from_is_err_and c.from_residual-in_err-samples.result c.from_residual-in_err-samples.ensures.1 in
     let station = c.in_ok-station.ensures in
-    rw (p.1, p.2) (fails-second (SpellsNumber 4) StationFits (TooFewBytes 4) ListsReason (number_apart 4 (lit< tt) StationFits).front_is_cut _ station.ok station.fits station.fails.grows
+    rw (p.1, p.2) (fails-second (SpellsNumber 4) StationFits (TooFewBytes 4) ListsReason (number_apart 4 (lit< tt) StationFits).front_is_cut _ station.ok station.valid station.fails.grows
     (fails-first SpellsSamples SamplesFit SamplesReason NoteReason {U = Unit {0}} c.in_err-samples.ensures.fails))
 
 pub returns-in_err-note-clause-fails : goal.returns-in_err-note-clause-fails
@@ -28,8 +28,8 @@ returns-in_err-note-clause-fails g c =
     let station = c.in_ok-station.ensures in
     let samples = c.in_ok-samples.ensures in
     let same = map-id (items c.in_ok-samples.samples) in
-    rw (p.1, p.2) (fails-second (SpellsNumber 4) StationFits (TooFewBytes 4) ListsReason (number_apart 4 (lit< tt) StationFits).front_is_cut _ station.ok station.fits station.fails.grows
-    (fails-second SpellsSamples SamplesFit SamplesReason NoteReason {U = Unit {0}} samples_apart.front_is_cut _ (rw same at samples.ok) (subst SamplesFit same samples.fits) samples.fails.grows c.in_err-note.ensures.fails))
+    rw (p.1, p.2) (fails-second (SpellsNumber 4) StationFits (TooFewBytes 4) ListsReason (number_apart 4 (lit< tt) StationFits).front_is_cut _ station.ok station.valid station.fails.grows
+    (fails-second SpellsSamples SamplesFit SamplesReason NoteReason {U = Unit {0}} samples_apart.front_is_cut _ (rw same at samples.ok) (subst SamplesFit same samples.valid) samples.fails.grows c.in_err-note.ensures.fails))
 
 pub returns-clause-ok : goal.returns-clause-ok
 returns-clause-ok g c =
@@ -42,4 +42,4 @@ pub returns-clause-fits : goal.returns-clause-fits
 returns-clause-fits g c =
     let samples = map-id (items c.in_ok-samples.samples) in
     let note = map-id (tiny_items c.in_ok-note.note) in
-    (c.in_ok-station.ensures.fits, (subst SamplesFit samples c.in_ok-samples.ensures.fits, rw note at c.in_ok-note.ensures.fits))
+    (c.in_ok-station.ensures.valid, (subst SamplesFit samples c.in_ok-samples.ensures.valid, rw note at c.in_ok-note.ensures.valid))

@@ -30,4 +30,4 @@ returns-clause-writes g c =
 
 pub returns-clause-fits : goal.returns-clause-fits
 returns-clause-fits g c =
-    on-ok c.serialize-3.result (λ fits. (c.in_ok-serialize.ensures.fits, (subst SamplesFit (map-id _) c.in_ok-serialize-2.ensures.fits, subst NoteFits (map-id _) fits))) c.serialize-3.ensures.fits
+    on-ok c.serialize-3.result (λ fits. (c.in_ok-serialize.ensures.valid, (subst SamplesFit (map-id _) c.in_ok-serialize-2.ensures.valid, subst NoteFits (map-id _) fits))) c.serialize-3.ensures.valid

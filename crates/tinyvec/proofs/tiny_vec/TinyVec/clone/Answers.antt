@@ -36,7 +36,7 @@ returns-in-Inline-clause-copied g c =
           rw c.in-Inline.is (ap (λ w. items w) same, ap (λ w. spare w) same);
       spare = rw c.in-Inline.is (spare_cloned g.A.Item.Clone.is_clone c.in-Inline.v c.in_ok-copy-in-Inline.copy made.items.len made.slots.each);
       place = sym (ap is_inline c.in-Inline.is);
-      room = λ heap. absurd (false≢true (sym heap));
+      capacity = λ heap. absurd (false≢true (sym heap));
     }
 
 pub returns-in-Inline-clause-refused : goal.returns-in-Inline-clause-refused
@@ -85,7 +85,7 @@ returns-clause-copied g c =
       if_clones_equal = λ rule. (all.if_clones_equal rule, rw c.in-Heap.is refl);
       spare = rw c.in-Heap.is tt;
       place = sym (ap is_inline c.in-Heap.is);
-      room = λ _. rw c.in-Heap.is (made.capacity ∙ c.in_ok-copy.ensures.exact ∙ c.len.ensures ∙ c.in-Heap.v.ok.0);
+      capacity = λ _. rw c.in-Heap.is (made.capacity ∙ c.in_ok-copy.ensures.exact ∙ c.len.ensures ∙ c.in-Heap.v.ok.0);
     }
 
 pub returns-clause-refused : goal.returns-clause-refused

@@ -30,6 +30,6 @@ returns-clause-made g c =
             subst (All g.A.Item.Default.is_default) (sym behind) (All-drop g.A.Item.Default.is_default n spare defaults.1),
           );
       place = search rules;
-      room = search rules;
+      enough = search rules;
       exact = search rules;
     }

@@ -10,6 +10,6 @@ returns-in-Inline-clause-tail g c =
       items = rw c.in-Inline.is made.tail;
       place = rw c.in-Inline.is refl;
       spare = λ _. subst (λ n. AreDefaults g.A.Item.Default.is_default (g.A.Array.CAPACITY - n) (spare c.split_off.result)) (sym long) made.tail_spare;
-      room = λ no. absurd (false≢true (sym no));
+      capacity = λ no. absurd (false≢true (sym no));
       fits = omega (arith, made.becomes.fits, long);
     }

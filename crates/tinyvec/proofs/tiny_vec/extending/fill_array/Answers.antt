@@ -46,7 +46,7 @@ returns-in-Ok-clause-fills g c =
             ∙ items_filled v made.0 c.fill_slots.new.slots (c.len-len.result + c.in-Ok.count) few (made.3 ∙ ap (λ l. made.0 ++ drop (length made.0) l) shown) more,
       );
       full = tt;
-      goes_on = omega (arith, made.4, made.1.1, c.len-len.ensures.value, c.set_len.ensures.fits);
+      goes_on = omega (arith, made.4, made.1.1, c.len-len.ensures.value, c.set_len.ensures.len);
     }
 
 pub returns-in-Ok-clause-gains : goal.returns-in-Ok-clause-gains
@@ -57,12 +57,12 @@ returns-in-Ok-clause-gains g c =
     let made = c.in-Ok.ensures.ran in
     let few : length made.0 ≤ length (spare v) = omega (arith, made.2, ap length shown) in
     let more : c.len-len.result + c.in-Ok.count ≡ items_len v + length made.0 = omega (arith, c.len-len.ensures.value, made.1.1) in
-    let used : length made.0 ≡ items_len new - items_len v = omega (arith, more, c.set_len.ensures.fits) in record {
+    let used : length made.0 ≡ items_len new - items_len v = omega (arith, more, c.set_len.ensures.len) in record {
       items = refl;
       spare = ap (λ w. spare w) c.set_len.ensures.value
           ∙ spare_filled v made.0 c.fill_slots.new.slots (c.len-len.result + c.in-Ok.count) few (made.3 ∙ ap (λ l. made.0 ++ drop (length made.0) l) shown) more
           ∙ ap (λ k. drop k (spare v)) used;
-      fits = omega (arith, room g (goal.at.returns-in-Ok-clause-gains g c).In-Ok, c.set_len.ensures.fits);
+      fits = omega (arith, room g (goal.at.returns-in-Ok-clause-gains g c).In-Ok, c.set_len.ensures.len);
     }
 
 pub returns-in-Err-clause-fills : goal.returns-in-Err-clause-fills
@@ -78,8 +78,8 @@ returns-in-Err-clause-fills g c =
         ap (λ w. items w) c.set_len-in-Err.ensures.value
             ∙ items_filled v made.0 c.fill_slots.new.slots c.CAPACITY.result few (made.3 ∙ ap (λ l. made.0 ++ drop (length made.0) l) shown) more,
       );
-      full = c.set_len-in-Err.ensures.fits ∙ c.CAPACITY.ensures;
-      goes_on = (made.4.0, made.4.1, omega (arith, made.4.2, more, c.set_len-in-Err.ensures.fits));
+      full = c.set_len-in-Err.ensures.len ∙ c.CAPACITY.ensures;
+      goes_on = (made.4.0, made.4.1, omega (arith, made.4.2, more, c.set_len-in-Err.ensures.len));
     }
 
 pub returns-in-Err-clause-gains : goal.returns-in-Err-clause-gains
@@ -90,10 +90,10 @@ returns-in-Err-clause-gains g c =
     let made = c.in-Err.ensures.ran in
     let few : length made.0 ≤ length (spare v) = omega (arith, made.2, ap length shown) in
     let more : c.CAPACITY.result ≡ items_len v + length made.0 = all_filled g c in
-    let used : length made.0 ≡ items_len new - items_len v = omega (arith, more, c.set_len-in-Err.ensures.fits) in record {
+    let used : length made.0 ≡ items_len new - items_len v = omega (arith, more, c.set_len-in-Err.ensures.len) in record {
       items = refl;
       spare = ap (λ w. spare w) c.set_len-in-Err.ensures.value
           ∙ spare_filled v made.0 c.fill_slots.new.slots c.CAPACITY.result few (made.3 ∙ ap (λ l. made.0 ++ drop (length made.0) l) shown) more
           ∙ ap (λ k. drop k (spare v)) used;
-      fits = omega (arith, c.CAPACITY.ensures, c.set_len-in-Err.ensures.fits);
+      fits = omega (arith, c.CAPACITY.ensures, c.set_len-in-Err.ensures.len);
     }

@@ -15,5 +15,5 @@ returns-clause-emptied g c =
       items = ap items c.set_len.ensures.value;
       spare = moved_out g.A.Item.Default.is_default c.args.other.now c.set_len.new.self c.append_slots.new.from
           (defaults.0 ∙ ap length c.as_mut_slice.ensures.value, defaults.1) c.set_len.ensures.value;
-      fits = omega (arith, c.requires, c.set_len.ensures.fits);
+      fits = omega (arith, c.requires, c.set_len.ensures.len);
     }

@@ -40,7 +40,7 @@ returns g c =
       items = rw (← c.as_slice.ensures, c.set_len.ensures.value, listed) (are_clones g.A.Item.Clone.is_clone source over.made over.clones);
       slot_rule = rw (c.set_len.ensures.value) (all_cloned g.A.Item.Default.is_default g.A.Item.Clone.is_infallible g.A.Item.Clone.is_clone c.args.self.now cut cut source n
           refl long fits c.truncate.ensures.items c.truncate.ensures.spare new (ap length listed ∙ over.count) behind);
-      fits = rw (c.set_len.ensures.fits) c.len-len.ensures.fits;
+      fits = rw (c.set_len.ensures.len) c.len-len.ensures.fits;
       refused = tt;
       succeeds = λ _. refl;
     }

@@ -55,7 +55,7 @@ returns g c =
             (taken.emptied.0 ∙ ap length shown, taken.emptied.1) c.set_len.ensures.value;
         fits = omega (arith, ap length empty, c.len-len.ensures.fits, value);
       };
-      fits = rw c.set_len.ensures.fits (omega arith);
+      fits = rw c.set_len.ensures.len (omega arith);
       refused = tt;
       too_long = λ long. absurd (omega (arith, long, few, value, small));
       succeeds_empty = λ _. refl;

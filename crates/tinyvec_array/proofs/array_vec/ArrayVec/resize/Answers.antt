@@ -20,7 +20,7 @@ returns-in-Ok g c =
     record {
       resized = record {
         items = rw (after, all, long) (written.0);
-        len = c.set_len.ensures.fits;
+        len = c.set_len.ensures.len;
         if_clones_equal = rw (after, all, long) (written.2);
         spare = λ _. rw (after, long) (written.3);
         kept = tt;
@@ -29,7 +29,7 @@ returns-in-Ok g c =
       };
       slot_rule = rw after (slots_used g.A.Item.Default.is_default v (split_at n new) (n - v.len) written.1 written.3);
       value_returned = tt;
-      fits = rw (c.set_len.ensures.fits) c.requires.room;
+      fits = rw (c.set_len.ensures.len) c.requires.room;
       cuts = λ _. refl;
     }
 

@@ -5,7 +5,7 @@ use Rattle.tinyvec_borsh.proofs.deserialize.BorshDeserialize.deserialize_slots.G
 
 pub loop-i-preserved : goal.loop-i-preserved
 loop-i-preserved g c = record {
-  read = took-slot g.Self.BorshForm.Spells g.Self.BorshForm.Fits g.Self.BorshForm.content_of _ _ _ _ _ _ (omega arith) c.loop-i.invariant.read c.in_ok-slots.ensures.ok c.in_ok-slots.ensures.fits;
+  read = took-slot g.Self.BorshForm.Spells g.Self.BorshForm.Fits g.Self.BorshForm.content_of _ _ _ _ _ _ (omega arith) c.loop-i.invariant.read c.in_ok-slots.ensures.ok c.in_ok-slots.ensures.valid;
   many = search rules;
   grows = omega arith;
 }

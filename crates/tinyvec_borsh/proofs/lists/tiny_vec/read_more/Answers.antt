@@ -42,8 +42,8 @@ returns-clause-slot_rule g c =
     let same : length c.read_items.new.slots ≡ tiny_len mid = search rules in
     on-ok c.read_items.result (λ _. tiny_slots_then_framed g.A.Item.Default.is_default c.args.v.now mid (tiny_with_items mid c.read_items.new.slots) c.resize_with.ensures.room.slot_rule (tiny_framed-with mid c.read_items.new.slots same)) c.read_items.ensures.ok
 
-pub returns-clause-room : goal.returns-clause-room
-returns-clause-room g c =
+pub returns-clause-capacity : goal.returns-clause-capacity
+returns-clause-capacity g c =
     let slots = g.A.Array.CAPACITY in
     let mid = c.resize_with.new.self in
     let same : length c.read_items.new.slots ≡ tiny_len mid = search rules in

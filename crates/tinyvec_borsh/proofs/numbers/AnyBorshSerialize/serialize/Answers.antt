@@ -6,7 +6,7 @@ use Rattle.tinyvec_borsh.proofs.numbers.AnyBorshSerialize.serialize.Goals as goa
 
 pub returns-clause-writes : goal.returns-clause-writes
 returns-clause-writes g c =
-    let spelled = subst (g.T.FixedWidth.form.Spells c.args.self.now) (sym (c.as_slice.ensures.value ∙ c.to_bytes.ensures.bytes)) (g.T.FixedWidth.form.written c.args.self.now c.to_bytes.ensures.fits) in
+    let spelled = subst (g.T.FixedWidth.form.Spells c.args.self.now) (sym (c.as_slice.ensures.value ∙ c.to_bytes.ensures.bytes)) (g.T.FixedWidth.form.written c.args.self.now c.to_bytes.ensures.valid) in
     let told = c.write_bytes.ensures in
     record {
       ok = on-ok c.write_bytes.result (λ h. (c.as_slice.result.now, spelled, h)) told.ok;

@@ -8,5 +8,5 @@ use Rattle.tinyvec_borsh.proofs.numbers.AnyBorshSerialize.serialize_items.Goals 
 pub returns-clause-writes : goal.returns-clause-writes
 returns-clause-writes g c = subst (λ xs. WritesValue g.W.Write.contents (SpellsItems g.T.FixedWidth.form.Spells xs) c.args.writer.now c.write_all.new.writer c.write_all.result) (sym (map-id c.args.items.now)) c.write_all.ensures.writes
 
-pub returns-clause-fits : goal.returns-clause-fits
-returns-clause-fits g c = subst (λ xs. OnOk c.write_all.result (AllByRecursion g.T.FixedWidth.form.Fits xs)) (sym (map-id c.args.items.now)) c.write_all.ensures.fits
+pub returns-clause-valid : goal.returns-clause-valid
+returns-clause-valid g c = subst (λ xs. OnOk c.write_all.result (AllByRecursion g.T.FixedWidth.form.Fits xs)) (sym (map-id c.args.items.now)) c.write_all.ensures.valid

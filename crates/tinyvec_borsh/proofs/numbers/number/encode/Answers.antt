@@ -14,7 +14,7 @@ loop-i-preserved g c =
     let put = take-block at (at + width) c.loop-i.room c.copy_from_slice.new.self (omega arith) (search rules) (omega (arith, long, c.as_slice.ensures.len, c.CAPACITY-width.ensures)) in
     record {
       spelled = spells-put g.T.FixedWidth.form.Spells g.T.FixedWidth.form.Fits width c.args.items.now c.loop-i.i c.index-items-i.result c.loop-i.room _ c.copy_from_slice.new.self (omega arith) (search rules) put c.loop-i.invariant.spelled
-          (subst (g.T.FixedWidth.form.Spells c.index-items-i.result) (sym same) (g.T.FixedWidth.form.written c.index-items-i.result c.to_bytes.ensures.fits));
-      fit = fit-put g.T.FixedWidth.form.Spells g.T.FixedWidth.form.Fits _ _ c.index-items-i.result (omega arith) (search rules) c.loop-i.invariant.fit c.to_bytes.ensures.fits;
+          (subst (g.T.FixedWidth.form.Spells c.index-items-i.result) (sym same) (g.T.FixedWidth.form.written c.index-items-i.result c.to_bytes.ensures.valid));
+      fit = fit-put g.T.FixedWidth.form.Spells g.T.FixedWidth.form.Fits _ _ c.index-items-i.result (omega arith) (search rules) c.loop-i.invariant.fit c.to_bytes.ensures.valid;
       room = same_len_mid _ _ _ _ c.copy_from_slice.ensures.len ∙ c.loop-i.invariant.room;
     }

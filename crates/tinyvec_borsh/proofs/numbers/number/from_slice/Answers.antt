@@ -10,5 +10,5 @@ returns g c =
     let read = g.T.FixedWidth.form.read c.args.spelling.now (c.requires ∙ g.met.T.FixedWidth.sized) (small_bytes c.args.spelling.now (λ i. omega (arith, c.type_inv.spelling i))) in
     record {
       spelled = subst (λ n. g.T.FixedWidth.form.Spells n c.args.spelling.now) (sym is) read.0;
-      fits = subst g.T.FixedWidth.form.Fits (sym is) read.1;
+      valid = subst g.T.FixedWidth.form.Fits (sym is) read.1;
     }

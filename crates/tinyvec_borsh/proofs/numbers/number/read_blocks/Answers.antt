@@ -19,7 +19,7 @@ loop-start-preserved g c =
     let room : length (c.read_bytes.new.buf ++ drop n c.loop-start.room) ≡ g.row.MOST = omega (arith, long, fits, c.read_bytes.auto.buf, length-append c.read_bytes.new.buf (drop n c.loop-start.room), length-drop n c.loop-start.room) in
     let joined = take-block c.loop-start.start end c.loop-start.slots c.decode.new.slots (omega arith) (omega arith) (search rules) in
     record {
-      read = took-block g.T.FixedWidth.form.Spells g.T.FixedWidth.form.Fits _ _ _ _ _ _ joined c.loop-start.invariant.read (c.read_bytes.new.buf, c.decode.ensures.spelled, c.in_ok-read_bytes.ensures.ok) c.decode.ensures.fits;
+      read = took-block g.T.FixedWidth.form.Spells g.T.FixedWidth.form.Fits _ _ _ _ _ _ joined c.loop-start.invariant.read (c.read_bytes.new.buf, c.decode.ensures.spelled, c.in_ok-read_bytes.ensures.ok) c.decode.ensures.valid;
       room = room;
       many = search rules;
       within = search rules;
@@ -32,8 +32,8 @@ returns-clause-ok g c =
     let all = take_all c.loop-start.start c.loop-start.slots (omega arith) in
     (taken.0, subst (λ xs. SpellsItems g.T.FixedWidth.form.Spells xs taken.0) all taken.1, taken.2)
 
-pub returns-clause-fits : goal.returns-clause-fits
-returns-clause-fits g c = subst (AllByRecursion g.T.FixedWidth.form.Fits) (take_all c.loop-start.start c.loop-start.slots (omega arith)) c.loop-start.invariant.read.fit
+pub returns-clause-valid : goal.returns-clause-valid
+returns-clause-valid g c = subst (AllByRecursion g.T.FixedWidth.form.Fits) (take_all c.loop-start.start c.loop-start.slots (omega arith)) c.loop-start.invariant.read.fit
 
 pub returns-in_err-read_bytes-clause-fails : goal.returns-in_err-read_bytes-clause-fails
 returns-in_err-read_bytes-clause-fails g c =

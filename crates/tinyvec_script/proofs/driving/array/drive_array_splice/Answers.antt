@@ -39,7 +39,7 @@ take_word-requires-clause-room g c word answers t asks =
     let count = ap length c.splice-splice.ensures.begins.left ∙ length-slice_range old c.args.start c.args.end c.requires.start_le_end c.requires.in_bounds in
     let none = ap length c.in-Ok.ensures.empty.0 in
     let held = c.in-Ok.driven.yields.ok.0 in
-    omega (arith, within, count, none, held, c.in-Ok.ensures.room.0)
+    omega (arith, within, count, none, held, c.in-Ok.ensures.enough.0)
 
 pub finish-requires : goal.finish-requires
 finish-requires g c =
@@ -65,7 +65,7 @@ keep_refused-requires g c =
     let none = ap length c.in-Ok.ensures.empty.1 in
     let held = c.in-Ok.driven.rest.ok.0 in
     let size = c.args.replacement.ok.0 in
-    omega (arith, within, none, held, size, c.in-Ok.ensures.room.1, c.len.ensures)
+    omega (arith, within, none, held, size, c.in-Ok.ensures.enough.1, c.len.ensures)
 
 pub returns-clause-splices : goal.returns-clause-splices
 returns-clause-splices g c =

@@ -44,7 +44,7 @@ returns g c =
           ∙ (λ j. chars (take i (c.self.view_is j).bytes) ++ chars_of_one (x ∷ []) x ascii own j ++ chars (drop i (c.self.view_is j).bytes));
       frame = record {
         place = left.place ∙ ap (λ (t : Text). lies_inline t.place) c.self.view_is;
-        room = left.capacity ∙ ap (λ (t : Text). capacity_in g.row.N t.place) c.self.view_is;
+        capacity = left.capacity ∙ ap (λ (t : Text). capacity_in g.row.N t.place) c.self.view_is;
         fits = left.fits;
       };
     }

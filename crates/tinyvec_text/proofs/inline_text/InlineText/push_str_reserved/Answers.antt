@@ -30,7 +30,7 @@ returns g c =
       text = ap chars joined ∙ chars-append _ _ (text_utf8 list c.self.invariant) ∙ ap (λ (t : Text). text_chars t ++ chars c.args.string.now) c.self.view_is;
       frame = record {
         place = place_stays g.row.N _ (text_of list) (text_of new) enough c.in-Ok.ensures.room.place ∙ ap (λ (t : Text). lies_inline t.place) c.self.view_is;
-        room = search rules;
+        capacity = search rules;
         fits = search rules;
       };
     }

@@ -46,7 +46,7 @@ returns-then-len-count-clause-fails g c =
     let one_more = length-append (map g.A.Item.BorshForm.content_of t.0) (g.A.Item.BorshForm.content_of c.in_ok-deserialize_reader.field-0 ∷ []) in
     let cs = map g.A.Item.BorshForm.content_of t.0 ++ g.A.Item.BorshForm.content_of c.in_ok-deserialize_reader.field-0 ∷ [] in
     let was = read-more g.A.Item.BorshForm.Spells g.A.Item.BorshForm.Fits c.in_ok-count.count _ _ _ _ _ (read-block g.A.Item.BorshForm.Spells g.A.Item.BorshForm.Fits _ [] _ _ _ _ (read-first g.A.Item.BorshForm.Spells g.A.Item.BorshForm.Fits _ _ _ count) t.4 t.3)
-    last.ok last.fits in
+    last.ok last.valid in
     record {
       err = maybe-so _ _ _ (λ input many. inl many) (too-many g.A.Item.BorshForm.Spells g.A.Item.BorshForm.Fits g.A.Array.CAPACITY _ _ _ _
           was (omega (arith, one_more, long, full, above)) (omega (arith, above)));
@@ -85,7 +85,7 @@ returns-then-len-count-clause-rest g c =
     let one_more = length-append (map g.A.Item.BorshForm.content_of t.0) (g.A.Item.BorshForm.content_of c.in_ok-deserialize_reader.field-0 ∷ []) in
     rest-many g.A.Item.BorshForm.Spells g.A.Item.BorshForm.Fits g.A.Array.CAPACITY _ _ _ _ _
     (read-more g.A.Item.BorshForm.Spells g.A.Item.BorshForm.Fits _ _ _ _ _ _ (read-block g.A.Item.BorshForm.Spells g.A.Item.BorshForm.Fits _ [] _ _ _ _ (read-first g.A.Item.BorshForm.Spells g.A.Item.BorshForm.Fits _ _ _ c.in_ok-count.ensures.ok) t.4 t.3)
-    c.in_ok-deserialize_reader.ensures.ok c.in_ok-deserialize_reader.ensures.fits)
+    c.in_ok-deserialize_reader.ensures.ok c.in_ok-deserialize_reader.ensures.valid)
     (omega (arith, one_more, long, full, above)) (omega (arith, above))
 
 pub returns-clause-ok : goal.returns-clause-ok
@@ -98,10 +98,10 @@ returns-clause-ok g c =
     rw same (read-all g.A.Item.BorshForm.Spells g.A.Item.BorshForm.Fits c.in_ok-count.count _ _ _ (omega (arith, long, full, all))
     (read-block g.A.Item.BorshForm.Spells g.A.Item.BorshForm.Fits _ [] _ _ _ _ (read-first g.A.Item.BorshForm.Spells g.A.Item.BorshForm.Fits _ _ _ c.in_ok-count.ensures.ok) t.4 t.3))
 
-pub returns-clause-fits : goal.returns-clause-fits
-returns-clause-fits g c =
+pub returns-clause-valid : goal.returns-clause-valid
+returns-clause-valid g c =
     let t = c.in_ok-read_items.ensures.ok in
     let same : items c.from_array_len.result ≡ t.0 = ap items c.from_array_len.ensures ∙ ap (take c.min-len.result) (g.met.A.Array.slots_of_slots _) ∙ t.1 in
     let long = length-map t.0 g.A.Item.BorshForm.content_of in
     let full : length t.0 ≡ min c.in_ok-count.count g.A.Array.CAPACITY = search rules in
-    rw same (record { few = omega (arith, long, full); counted = omega (arith, long, full, c.in_ok-count.ensures.fits); items = t.3 })
+    rw same (record { few = omega (arith, long, full); counted = omega (arith, long, full, c.in_ok-count.ensures.valid); items = t.3 })

@@ -7,7 +7,7 @@ use Rattle.tinyvec_borsh.proofs.lists.array_vec.ArrayVecBorshSerialize.serialize
 pub returns-clause-writes : goal.returns-clause-writes
 returns-clause-writes g c = rw c.as_slice.ensures at c.write_list.ensures.writes
 
-pub returns-clause-fits : goal.returns-clause-fits
-returns-clause-fits g c =
+pub returns-clause-valid : goal.returns-clause-valid
+returns-clause-valid g c =
     let long = length-map (items c.args.self.now) g.A.Item.BorshForm.content_of in
-    on-ok c.write_list.result (λ fit. record { few = omega (arith, long, c.len.ensures.value, c.len.ensures.fits); counted = omega (arith, long, c.len.ensures.value, c.len.type_inv); items = fit }) (rw c.as_slice.ensures at c.write_list.ensures.fit)
+    on-ok c.write_list.result (λ fit. record { few = omega (arith, long, c.len.ensures.value, c.len.ensures.fits); counted = omega (arith, long, c.len.ensures.value, c.len.type_inv); items = fit }) (rw c.as_slice.ensures at c.write_list.ensures.valid)

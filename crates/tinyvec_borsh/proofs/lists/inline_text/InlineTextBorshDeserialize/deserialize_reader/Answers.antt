@@ -25,9 +25,9 @@ pub returns-in-Some-clause-ok : goal.returns-in-Some-clause-ok
 returns-in-Some-clause-ok g c =
     subst (λ xs. ReadsSpelling (SpellsText xs) (g.R.Read.remaining c.args.reader.now.inner) (g.R.Read.remaining c.deserialize_reader.new.reader.inner)) (map-id (tiny_items c.in_ok-bytes.bytes) ∙ sym (ap (λ (t : Text). t.bytes) c.in-Some.ensures.value)) c.in_ok-bytes.ensures.ok
 
-pub returns-in-Some-clause-fits : goal.returns-in-Some-clause-fits
-returns-in-Some-clause-fits g c = (
-  subst AreBytes (map-id (tiny_items c.in_ok-bytes.bytes) ∙ sym (ap (λ (t : Text). t.bytes) c.in-Some.ensures.value)) c.in_ok-bytes.ensures.fits,
+pub returns-in-Some-clause-valid : goal.returns-in-Some-clause-valid
+returns-in-Some-clause-valid g c = (
+  subst AreBytes (map-id (tiny_items c.in_ok-bytes.bytes) ∙ sym (ap (λ (t : Text). t.bytes) c.in-Some.ensures.value)) c.in_ok-bytes.ensures.valid,
   subst IsUtf8 (sym (ap (λ (t : Text). t.bytes) c.in-Some.ensures.value)) (c.in-Some.ensures.variant.0 refl),
 )
 
@@ -35,7 +35,7 @@ pub returns-in-None-clause-fails : goal.returns-in-None-clause-fails
 returns-in-None-clause-fails g c =
     let read = c.in_ok-bytes.ensures in
     let bytes = map-id (tiny_items c.in_ok-bytes.bytes) in
-    let fits = subst AreBytes bytes read.fits in
+    let fits = subst AreBytes bytes read.valid in
     let ok = subst (λ xs. ReadsSpelling (SpellsText xs) (g.R.Read.remaining c.args.reader.now.inner) (g.R.Read.remaining c.deserialize_reader.new.reader.inner)) bytes read.ok in
     record {
       err = no-text (tiny_items c.in_ok-bytes.bytes) _ _ (fits, λ utf8. let is = c.in-None.ensures.variant.1 utf8 in cc) ok;
@@ -46,4 +46,4 @@ returns-in-None-clause-fails g c =
 pub returns-in-None-clause-rest : goal.returns-in-None-clause-rest
 returns-in-None-clause-rest g c =
     let bytes = map-id (tiny_items c.in_ok-bytes.bytes) in
-    λ is. (tiny_items c.in_ok-bytes.bytes, (subst AreBytes bytes c.in_ok-bytes.ensures.fits, λ utf8. let is = c.in-None.ensures.variant.1 utf8 in cc), subst (λ xs. ReadsSpelling (SpellsText xs) (g.R.Read.remaining c.args.reader.now.inner) (g.R.Read.remaining c.deserialize_reader.new.reader.inner)) bytes c.in_ok-bytes.ensures.ok)
+    λ is. (tiny_items c.in_ok-bytes.bytes, (subst AreBytes bytes c.in_ok-bytes.ensures.valid, λ utf8. let is = c.in-None.ensures.variant.1 utf8 in cc), subst (λ xs. ReadsSpelling (SpellsText xs) (g.R.Read.remaining c.args.reader.now.inner) (g.R.Read.remaining c.deserialize_reader.new.reader.inner)) bytes c.in_ok-bytes.ensures.ok)

@@ -35,7 +35,7 @@ loop-alloc-preserved g c =
       few = t.3;
       spare = spare-longer g.A.Item.Default.is_default g.A.Array.CAPACITY c.loop-alloc.v c.read_more.new.v (omega (arith, ap length t.1, length-append (tiny_items c.loop-alloc.v) t.0)) c.in_ok-read_more.ensures.place c.in_ok-read_more.ensures.slot_rule c.loop-alloc.invariant.spare;
       place = placed-longer g.A.Array.CAPACITY _ c.loop-alloc.v c.read_more.new.v t.3 c.in_ok-read_more.ensures.place c.loop-alloc.invariant.place;
-      room = omega (arith, c.in_ok-read_more.ensures.room, c.loop-alloc.invariant.room);
+      room = omega (arith, c.in_ok-read_more.ensures.capacity, c.loop-alloc.invariant.room);
       grows = omega arith;
     }
 
@@ -44,5 +44,5 @@ returns-in_err-read_more-clause-fails g c =
     let p = err_from_is_err_and c.from_residual-in_err-read_more.result c.from_residual-in_err-read_more.ensures.1 in
     let long = length-map (tiny_items c.loop-alloc.v) g.A.Item.BorshForm.content_of in
     rw (p.1, p.2) (fails-wanting g.A.Item.BorshForm.Spells g.A.Item.BorshForm.Fits g.A.Item.BorshDeserialize.Reason g.met.A.Item.BorshDeserialize.apart.front_is_cut g.A.Array.CAPACITY (2 ^ 64 - 1) c.in_ok-count.count _
-    _ _ c.loop-alloc.invariant.read (omega (arith, long, c.loop-alloc.invariant.few)) (omega (arith, long, c.loop-alloc.invariant.few, c.in_ok-count.ensures.fits)) c.loop-alloc.invariant.grows
+    _ _ c.loop-alloc.invariant.read (omega (arith, long, c.loop-alloc.invariant.few)) (omega (arith, long, c.loop-alloc.invariant.few, c.in_ok-count.ensures.valid)) c.loop-alloc.invariant.grows
     (λ wanting. wanting-above g.A.Array.CAPACITY c.in_ok-count.count c.loop-alloc.v wanting c.loop-alloc.invariant.place) c.in_err-read_more.ensures.fails)

@@ -16,7 +16,7 @@ loop-start-preserved g c =
     let many = length-take-le (start + count - start) (drop start c.args.items.now) (omega (arith, some)) in
     record {
       wrote = wrote-block g.Self.FixedWidth.form.Spells g.Self.FixedWidth.form.Fits g.Self.Bytes.Array.CAPACITY count _ _ _ _ c.encode.new.room _ _ _ joined (ap (λ m. take (count * m) c.encode.new.room) c.CAPACITY-width.ensures) (omega (arith, many)) c.loop-start.invariant.wrote c.encode.ensures.spelled c.in_ok-write_bytes.ensures.ok;
-      fit = fit-block g.Self.FixedWidth.form.Spells g.Self.FixedWidth.form.Fits _ _ _ joined c.loop-start.invariant.fit c.encode.ensures.fits;
+      fit = fit-block g.Self.FixedWidth.form.Spells g.Self.FixedWidth.form.Fits _ _ _ joined c.loop-start.invariant.fit c.encode.ensures.valid;
       room = search rules;
       within = omega arith;
       grows = omega arith;
@@ -33,8 +33,8 @@ returns-clause-writes g c =
       grows = c.loop-start.invariant.grows;
     }
 
-pub returns-clause-fits : goal.returns-clause-fits
-returns-clause-fits g c = subst (AllByRecursion g.Self.FixedWidth.form.Fits) (take_all c.loop-start.start c.args.items.now (omega arith)) c.loop-start.invariant.fit
+pub returns-clause-valid : goal.returns-clause-valid
+returns-clause-valid g c = subst (AllByRecursion g.Self.FixedWidth.form.Fits) (take_all c.loop-start.start c.args.items.now (omega arith)) c.loop-start.invariant.fit
 
 pub returns-in_err-write_bytes-clause-writes : goal.returns-in_err-write_bytes-clause-writes
 returns-in_err-write_bytes-clause-writes g c =

@@ -10,8 +10,8 @@ use Rattle.tinyvec_borsh.proofs.numbers.widths.U8Number.read_all.Goals as goal
 pub returns-clause-ok : goal.returns-clause-ok
 returns-clause-ok g c = on-both c.read_bytes.result (λ small taken. (c.read_bytes.new.buf, spells-bytes c.read_bytes.new.buf small, taken)) c.read_bytes.ensures.small c.read_bytes.ensures.ok
 
-pub returns-clause-fits : goal.returns-clause-fits
-returns-clause-fits g c = c.read_bytes.ensures.small
+pub returns-clause-valid : goal.returns-clause-valid
+returns-clause-valid g c = c.read_bytes.ensures.small
 
 pub returns-clause-fails : goal.returns-clause-fails
 returns-clause-fails g c =

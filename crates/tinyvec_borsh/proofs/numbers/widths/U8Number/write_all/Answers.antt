@@ -21,5 +21,5 @@ returns-clause-writes g c =
       grows = told.faults_grow;
     }
 
-pub returns-clause-fits : goal.returns-clause-fits
-returns-clause-fits g c = on-ok c.write_bytes.result (λ _. small_bytes c.args.items.now (λ i. omega (arith, c.type_inv.items i))) c.write_bytes.ensures.ok
+pub returns-clause-valid : goal.returns-clause-valid
+returns-clause-valid g c = on-ok c.write_bytes.result (λ _. small_bytes c.args.items.now (λ i. omega (arith, c.type_inv.items i))) c.write_bytes.ensures.ok
