@@ -1,0 +1,134 @@
+-- Lemmas on lists of clones. C is the `is_clone` of an item's `Clone`.
+use Rattle.std.proofs.Common.{◌≡◌, ℕ, Result, Ok, Err, ◌+◌, ◌-◌, ◌<◌, ◌≤◌, List, [], ◌∷◌, ◌++◌, length, take, drop, slice_range, get_or, replicate, refl, sym, ap, subst, ◌∙◌, append_assoc, arith, length-append, length-drop, length-take-le, append-nil, take_at, drop_at, take_all, take-append-drop}
+use Rattle.std.proofs.Math.Seq.{take-add}
+use Rattle.std.proofs.lemmas.List.{take_more, take_rest, drop_all, replicate_more, length-replicate, get_or-replicate, get_or_default, get_or_append_left, get_or-take, get_or-drop}
+use Rattle.std.proofs.lemmas.List.Elements.{AllZip-push, length_all_zip}
+use Rattle.std.specs.Prelude.{All, OnOk, OnErr, IsOk, if◌then◌else◌, is_ok}
+use Rattle.std.specs.List.{AllZip, AppendsClones}
+use Rattle.tinyvec_slots.specs.Clones.{RefusedAt}
+use Rattle.tinyvec_slots.specs.Slots.{Slots, items, items_len, spare, all_slots}
+use Rattle.tinyvec_slots.proofs.SlotsLemmas.{slots_are}
+use Rattle.tinyvec_slots.proofs.ClonesOverLemmas.{AllZip-drop, AllZip-join, all_granted}
+use borrow.Rule.Slice.PartMut.{post_of}
+
+module _ {T : Type 0} (C : T → T → Type 0) where
+  -- one more
+  appends_next : (old new xs more : List T) (x y : T) → xs ++ x ∷ [] ≡ more → C x y → AppendsClones C old new xs → AppendsClones C old (new ++ y ∷ []) more
+  appends_next old new xs more x y is clone h =
+      let ys : List T = h.0 in (
+        ys ++ y ∷ [],
+        ap (λ l. l ++ y ∷ []) h.1 ∙ append_assoc old ys (y ∷ []),
+        subst (λ l. AllZip C l (ys ++ y ∷ [])) is (AllZip-push C xs ys x y h.2 clone),
+      )
+
+  -- one more of the elements of a list
+  pub appends_of_next : (old new from : List T) (i n : ℕ) (x y : T) → i < length from → n ≡ i + 1 → x ≡ get_or from i x → C x y
+      → AppendsClones C old new (take i from) → AppendsClones C old (new ++ y ∷ []) (take n from)
+  appends_of_next old new from i n x y lt next is =
+      appends_next old new (take i from) (take n from) x y (ap (λ z. take i from ++ z ∷ []) is ∙ sym (take_more from i x lt) ∙ ap (λ k. take k from) (sym next))
+
+  -- one more of one value
+  pub appends_copy : (old new : List T) (i : ℕ) (x y : T) → C x y
+      → AppendsClones C old new (replicate i x) → AppendsClones C old (new ++ y ∷ []) (replicate (i + 1) x)
+  appends_copy old new i x y = appends_next old new (replicate i x) (replicate (i + 1) x) x y (replicate_more i x)
+
+  -- more behind those
+  pub appends_join : (old mid new xs ys zs : List T) → xs ++ ys ≡ zs → AppendsClones C old mid xs → AppendsClones C mid new ys → AppendsClones C old new zs
+  appends_join old mid new xs ys zs is h k = (
+    h.0 ++ k.0,
+    k.1 ∙ ap (λ l. l ++ k.0) h.1 ∙ append_assoc old h.0 k.0,
+    subst (λ l. AllZip C l (h.0 ++ k.0)) is (AllZip-join C xs h.0 ys k.0 h.2 k.2),
+  )
+
+  pub appends_len : (old new more : List T) → AppendsClones C old new more → length new ≡ length old + length more
+  appends_len old new more h =
+      ap length h.1 ∙ length-append old h.0 ∙ ap (λ n. length old + n) (sym (length_all_zip C more h.0 h.2))
+
+  -- behind an empty list
+  pub appends_alone : (old new more : List T) → old ≡ [] → AppendsClones C old new more → AllZip C more new
+  appends_alone old new more none h = subst (AllZip C more) (sym (h.1 ∙ ap (λ l. l ++ h.0) none)) h.2
+
+  -- behind clones of the first n
+  pub appends_rest : (mid new source seen other : List T) (n : ℕ) → seen ≡ source → other ≡ source → AllZip C (take n seen) mid
+      → AppendsClones C mid new (take (length other - n) (drop n other)) → AllZip C source new
+  appends_rest mid new source seen other n front back first h =
+      let rest : take (length other - n) (drop n other) ≡ drop n source =
+      take_all (length other - n) (drop n other) (omega (arith, length-drop n other)) ∙ ap (drop n) back in
+      let clones = AllZip-join C (take n seen) mid (take (length other - n) (drop n other)) h.0 first h.2 in
+      let all = ap (λ l. take n l ++ take (length other - n) (drop n other)) front ∙ ap (λ l. take n source ++ l) rest ∙ take-append-drop n source in
+      subst (λ l. AllZip C l new) all (subst (AllZip C (take n seen ++ take (length other - n) (drop n other))) (sym h.1) clones)
+
+  -- clones of all slots are clones of the spare ones
+  pub spare_cloned : (v w : Slots T) → items_len w ≡ items_len v → AllZip C (all_slots v) (all_slots w) → AllZip C (spare v) (spare w)
+  spare_cloned v w long h =
+      let k = items_len v in
+      let behind : drop k (all_slots v) ≡ spare v = ap (drop k) (slots_are v) ∙ drop_at (items v) (spare v) k refl in
+      let behind_clones : drop k (all_slots w) ≡ spare w = ap (drop k) (slots_are w) ∙ drop_at (items w) (spare w) k long in
+      subst (λ l. AllZip C l (spare w)) behind (subst (AllZip C (drop k (all_slots v))) behind_clones (AllZip-drop C k (all_slots v) (all_slots w) h))
+
+-- the clone of the element at i was refused
+pub refused_at : {T : Type 0} (I : T → Type 0) (from : List T) (i : ℕ) (x : T) → i < length from → x ≡ get_or from i x → (I x → ⊥) → (j : ℕ) × RefusedAt I from j
+refused_at I from i x lt is refused = (i, (lt, λ d sure. refused (subst I (get_or_default from i d x lt ∙ sym is) sure)))
+
+-- and that of one of n copies
+pub copy_refused : {T : Type 0} (I : T → Type 0) (n i : ℕ) (x : T) → i < n → (I x → ⊥) → RefusedAt I (replicate n x) i
+copy_refused I n i x lt refused = (omega (arith, lt, length-replicate n x), λ d sure. refused (subst I (get_or-replicate n i x d lt) sure))
+
+-- a call fails only if a clone was refused
+pub none_refused : {T X E : Type 0} (I : T → Type 0) (xs : List T) (r : Result X E) → OnErr r ((j : ℕ) × RefusedAt I xs j) → All I xs → IsOk r
+none_refused I xs (Ok x) refused all = refl
+none_refused I xs (Err e) refused all = absurd (all_granted I xs refused.0 all refused.1)
+
+-- Clones of the items of `old` from `start` up to i were appended, one by one.
+module _ {T : Type 0} (C : T → T → Type 0) (old new : List T) (start i : ℕ) (le : start ≤ i) (h : AppendsClones C old new (slice_range old start i)) where
+  pub within_len : i ≤ length old → length new ≡ length old + (i - start)
+  within_len last =
+      appends_len C old new (slice_range old start i) h
+      ∙ ap (λ n. length old + n) (length-take-le (i - start) (drop start old) (omega (arith, length-drop start old, le, last)))
+
+  module _ (x : T) (lt : i < length old) (is : x ≡ get_or new i x) where
+    within_read : x ≡ get_or (drop start old) (i - start) x
+    within_read =
+        let at : start + (i - start) ≡ i = omega (arith, le) in
+        is ∙ ap (λ l. get_or l i x) h.1 ∙ get_or_append_left old h.0 x i lt ∙ sym (get_or-drop start old (i - start) x ∙ ap (λ k. get_or old k x) at)
+
+    pub within_next : (y : T) → C x y → AppendsClones C old (new ++ y ∷ []) (slice_range old start (i + 1))
+    within_next y clone =
+        appends_of_next C old new (drop start old) (i - start) (i + 1 - start) x y (omega (arith, length-drop start old, le, lt)) (omega (arith, le)) within_read clone h
+
+    pub within_refused : (I : T → Type 0) (end : ℕ) → i < end → end ≤ length old → (I x → ⊥) → (j : ℕ) × RefusedAt I (slice_range old start end) j
+    within_refused I end before last refused =
+        let n = end - start in
+        let few : i - start < n = omega (arith, le, before) in
+        let long = length-take-le n (drop start old) (omega (arith, length-drop start old, last, le, before)) in
+        refused_at I (slice_range old start end) (i - start) x (omega (arith, long, few))
+        (within_read ∙ sym (get_or-take n (drop start old) (i - start) x few)) refused
+
+-- what a value is after each outcome of a call, said at once
+pub chosen : {T E A : Type 0} (r : Result T E) {x : A} (y z : A) → OnOk r (x ≡ y) → OnErr r (x ≡ z) → x ≡ (if is_ok r then y else z)
+chosen (Ok t) y z ok err = ok
+chosen (Err e) y z ok err = err
+
+-- behind the first a items of `from` the next n were appended
+pub appended_further : {T : Type 0} (old mid new from : List T) (a n : ℕ) → mid ≡ old ++ take a from → new ≡ mid ++ take n (take (length from - a) (drop a from)) → new ≡ old ++ take (a + n) from
+appended_further old mid new from a n first next =
+    let more = take n (drop a from) in
+    next ∙ ap (λ l. mid ++ take n l) (take_rest from a) ∙ ap (λ l. l ++ more) first ∙ append_assoc old (take a from) more ∙ ap (λ l. old ++ l) (sym (take-add a n from))
+
+-- A block was written over the last n elements, which lie behind `old`.
+module _ {T : Type 0} (old ys block now new items : List T) (at n m : ℕ) where
+  abbrev written : List T
+  written = take at now ++ (new ++ post_of at (length now - at) now)
+
+  pub written_last : now ≡ old ++ ys → length old ≡ at → length ys ≡ n → length block ≡ n → m ≡ length now
+      → new ≡ block ++ drop n (take (length now - at) (drop at now)) → take m (written ++ drop (length written) items) ≡ old ++ block
+  written_last is long behind whole all made =
+      let front : take at now ≡ old = ap (take at) is ∙ take_at old ys at long in
+      let back : drop at now ≡ ys = ap (drop at) is ∙ drop_at old ys at long in
+      let part : take (length now - at) (drop at now) ≡ ys = take_rest now at ∙ back in
+      let none : drop n ys ≡ [] = drop_all n ys (omega (arith, behind)) in
+      let over : new ≡ block = made ∙ ap (λ l. block ++ drop n l) part ∙ ap (λ l. block ++ l) none ∙ append-nil block in
+      let left : post_of at (length now - at) now ≡ [] = drop_all (length now - at) (drop at now) (omega (arith, length-drop at now)) in
+      let same : written ≡ old ++ block = ap (λ l. take at now ++ (new ++ l)) left ∙ ap (λ l. take at now ++ l) (append-nil new ∙ over) ∙ ap (λ l. l ++ block) front in
+      let sum : length (old ++ block) ≡ m = omega (arith, length-append old block, ap length is, length-append old ys, behind, whole, all) in
+      ap (λ l. take m (l ++ drop (length l) items)) same ∙ take_at (old ++ block) (drop (length (old ++ block)) items) m sum

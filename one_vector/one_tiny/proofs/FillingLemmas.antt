@@ -1,0 +1,68 @@
+-- Lemmas on items asked of an iterator by loops, one of which goes on where the other ended.
+use Rattle.std.proofs.Common.{◌≡◌, ℕ, ◌+◌, ◌<◌, ◌≤◌, List, [], ◌∷◌, ◌++◌, Option, Some, Result, Ok, Err, length, take, drop, slice_set, take_at, length-append, length-drop, append_assoc, refl, sym, ap, subst, ◌∙◌, arith, rules}
+use Rattle.std.proofs.lemmas.List.{same_lists, places, drop_at, get_or-set_same}
+use Rattle.std.proofs.lemmas.Bool.{cases_eq}
+use Rattle.std.specs.Prelude.{MatchResult, IsOk, IfErr, OnOk, OnErr}
+use Rattle.std.specs.declared.iter.Iterator as Iterator
+use Rattle.std.specs.Iterator.{Count, Yields, YieldsThen, Drains, AlwaysYields}
+use Rattle.tinyvec_slots.specs.Filling.{ShowsItems}
+use Rattle.tinyvec_slots.specs.declared.no_room.NoRoom.{NoRoom}
+use Rattle.one_tiny.specs.Following.{Follows, FillsRoom}
+use Rattle.tinyvec_slots.proofs.FillingLemmas.{drained, refused, drained_all, refused_early}
+
+module _ {S A : Type 0} (steps : S → Option A → S → Type 0) where
+  -- calls that gave xs, and then calls that gave ys and r
+  pub yields_then : (s : S) (xs : List A) (t : S) (ys : List A) (r : Option A) (u : S) → Yields steps s xs t
+      → YieldsThen steps t ys r u → YieldsThen steps s (xs ++ ys) r u
+  yields_then s [] t ys r u run more = subst (λ z. YieldsThen steps z ys r u) (sym run) more
+  yields_then s (x ∷ xs) t ys r u run more =
+      let rest = yields_then run.0 xs t ys r u run.2 more in
+      (rest.0, (run.0, run.1, rest.1), rest.2)
+
+  -- An answer tells that all items came, or which one found no room, and what follows it.
+  module _ {X E : Type 0} (item : E → A) (back : E → S) where
+    -- of an iterator whose items `rest` shows
+    pub told_listed : (r : Result X E) (rest : S → List A) → ShowsItems steps rest → (s : S) (xs : List A)
+        → MatchResult r (λ _. Drains steps s xs) (λ e. YieldsThen steps s xs (Some (item e)) (back e))
+        → MatchResult r (λ _. rest s ≡ xs) (λ e. rest s ≡ xs ++ item e ∷ rest (back e))
+    told_listed (Ok _) rest shows s xs ran = drained steps rest shows s xs ran.0 ran.1
+    told_listed (Err e) rest shows s xs ran = refused steps rest shows s xs (item e) (back e) ran
+
+    -- of items that are known: all are appended, and where there was room for them none is refused
+    pub told_known : (r : Result X E) (all : List A) (s : S) → AlwaysYields steps (λ x. x) s all → (xs old new : List A) (room most : ℕ)
+        → MatchResult r (λ _. Drains steps s xs) (λ e. YieldsThen steps s xs (Some (item e)) (back e)) → new ≡ old ++ xs
+        → room ≤ most → OnErr r (length new ≡ most)
+        → OnOk r (new ≡ old ++ all) × (length old + length all ≤ room → IsOk r × (new ≡ old ++ all))
+    told_known (Ok _) all s yields xs old new room most ran is le full =
+        let listed = is ∙ ap (λ ys. old ++ ys) (drained_all steps all s yields xs ran.0 ran.1) in
+        (listed, λ _. (refl, listed))
+    told_known (Err e) all s yields xs old new room most ran is le full =
+        let fewer = refused_early steps all s yields xs (back e) (item e) ran in
+        let long = ap length is ∙ length-append old xs in
+        (tt, λ fits. absurd (omega (arith, fewer, long, full, le, fits)))
+
+-- a call that filled room leaves no fewer items
+pub no_fewer : {S A X : Type 0} {g : Iterator.Ghosts S A} {s : S} {n : ℕ} {r : Result X (NoRoom A S)} (old new : List A) → FillsRoom g s n r old new → length old ≤ length new
+no_fewer old new h = omega (arith, ap length h.ran.2, length-append old h.ran.0)
+
+-- what it returns can be iterated further
+pub can_go_on : {S A X : Type 0} (can : S → Type 0) (left : S → Count) (s : S) (old new : ℕ) (r : Result X (NoRoom A S))
+    → Follows can left s old new r → IfErr r (λ refused. can refused.rest)
+can_go_on can left s old new (Ok _) h = tt
+can_go_on can left s old new (Err e) h = h.0
+
+-- What follows `front` was written, and xs stands over the first of it. The border was moved behind xs.
+module _ {T : Type 0} (front back xs ws : List T) (len : ℕ) (is : ws ≡ xs ++ drop (length xs) back) (more : len ≡ length front + length xs) where
+  written : front ++ ws ≡ (front ++ xs) ++ drop (length xs) back
+  written = ap (λ l. front ++ l) is ∙ sym (append_assoc front xs (drop (length xs) back))
+
+  pub items_filled : take len (front ++ ws) ≡ front ++ xs
+  items_filled = ap (take len) written ∙ take_at (front ++ xs) (drop (length xs) back) len (length-append front xs ∙ sym more)
+
+  pub spare_filled : drop len (front ++ ws) ≡ drop (length xs) back
+  spare_filled = ap (drop len) written ∙ drop_at (front ++ xs) (drop (length xs) back) len (length-append front xs ∙ sym more)
+
+-- one more slot, behind those of ys, is written
+pub slots_filled : {T : Type 0} (slots ys : List T) (n : ℕ) (x : T) → length ys ≡ n → n < length slots
+    → slice_set (ys ++ drop n slots) n x ≡ (ys ++ x ∷ []) ++ drop (n + 1) slots
+slots_filled slots ys n x long lt = same_lists _ _ (search (rules, places, long)) (λ k d h. grind (arith, places, long, get_or-set_same, cases_eq k n))

@@ -1,0 +1,12 @@
+pub mod TinyLemmas
+pub mod DrainLemmas
+pub mod CloneLemmas
+pub mod RefusedLemmas
+pub mod SpliceLemmas
+pub mod FillingLemmas
+pub mod ExtendingLemmas
+pub mod FrameLemmas
+pub mod ReplacingLemmas
+pub mod IntoIterLemmas
+pub mod PutsLemmas
+pub mod VectorLemmas

@@ -1,0 +1,118 @@
+-- Lemmas on what refused calls leave.
+use Rattle.std.proofs.Common.{◌≡◌, ℕ, ◌+◌, ◌-◌, ◌≤◌, List, [], ◌++◌, take, drop, slice_range, refl, sym, ap, subst, ◌∙◌, le_refl, arith, append-nil, length, length-take, length-take-le, length-drop}
+use Rattle.std.proofs.lemmas.List.{get_or-take, get_or-drop}
+use Rattle.std.specs.Prelude.{IsTrue}
+use Rattle.std.proofs.lemmas.List.Elements.{All-nil}
+use Rattle.tinyvec_slots.specs.Slots.{AreDefaults}
+use Rattle.std.specs.List.{AllZip}
+use Rattle.tinyvec_slots.specs.Clones.{RefusedAt, ClonesOver, ClonesInPart}
+use Rattle.tinyvec_slots.proofs.CloneLemmas.{drop_within}
+use Rattle.one_tiny.specs.View.{TinyView, view_len, view_inline, ViewInline, view_capacity, PlaceRule, TinySlotRule, SameFrame}
+use Rattle.one_tiny.specs.Room.{GrowsFor}
+use Rattle.one_tiny.specs.Refused.{RoomGranted}
+pub use Rattle.one_tiny.specs.FrameLaws.{place_kept}
+
+module _ {T : Type 0} (I : T → Type 0) (xs : List T) where
+  -- what was refused among the first n was refused
+  pub refused_in_front : (n j : ℕ) → RefusedAt I (take n xs) j → RefusedAt I xs j
+  refused_in_front n j h =
+      let below = h.0 in
+      let long = length-take n xs in
+      (omega (arith, below, long), λ d. subst (λ x. ¬ (I x)) (get_or-take n xs j d (omega (arith, below, long))) (h.1 d))
+
+  -- and among those behind them
+  pub refused_behind : (n j : ℕ) → RefusedAt I (drop n xs) j → RefusedAt I xs (n + j)
+  refused_behind n j h =
+      let below = h.0 in
+      let long = length-drop n xs in
+      (omega (arith, below, long), λ d. subst (λ x. ¬ (I x)) (get_or-drop n xs j d) (h.1 d))
+
+-- what stands behind the list, with defaults in the slots that were vacated from m on
+abbrev Behind : {T : Type 0} → (T → Type 0) → TinyView T → TinyView T → ℕ → List T → Type 0
+Behind {T} D old new m spares = (freed : List T) × AreDefaults D (view_len old - m) freed × (new.spare ≡ freed ++ spares)
+
+module _ {T : Type 0} (D I : T → Type 0) (C : T → T → Type 0) (source : List T) (old new : TinyView T) (m : ℕ) where
+  abbrev InPart : Type 0
+  InPart = ClonesInPart D I C source old.items new.items m (ViewInline new) old.spare new.spare
+
+  -- the refused clone is one of the first
+  pub partly_over : (j : ℕ) → j ≤ m → RefusedAt I source j → ClonesOver C (take j source) j (take m old.items) new.items
+      → (ViewInline new → Behind D old new m old.spare) → InPart
+  partly_over j le refused over spares =
+      let sum : j + 0 ≡ j = omega arith in
+      let none : m + 0 - m ≡ 0 = omega arith in
+      let nothing : slice_range source m (m + 0) ≡ [] = ap (λ n. take n (drop m source)) none in
+      record {
+        k = j;
+        j = 0;
+        made = over.made;
+        within = le;
+        in_order = λ h. absurd (omega (arith, h));
+        refused_at = rw sum refused;
+        clones = over.clones;
+        listed = over.written ∙ ap (λ l. over.made ++ l) (drop_within old.items j m le);
+        left = λ i.
+            let h = spares i in
+            (h.0, h.1, [], rw nothing tt, rw (append-nil h.0) h.2);
+      }
+
+  -- or one of those behind, and the list is as long
+  pub partly_behind : (j : ℕ) → m ≡ view_len old → RefusedAt I source (m + j) → AllZip C (take m source) new.items
+      → (ViewInline new → ClonesOver C (take j (drop m source)) j old.spare new.spare) → InPart
+  partly_behind j long refused clones spares =
+      let none : m - m ≡ 0 = omega arith in
+      let nothing : slice_range old.items m m ≡ [] = ap (λ n. take n (drop m old.items)) none in
+      let freed : 0 ≡ view_len old - m = omega arith in
+      let more : m + j - m ≡ j = omega arith in
+      record {
+        k = m;
+        j = j;
+        made = new.items;
+        within = le_refl m;
+        in_order = λ h. refl;
+        refused_at = refused;
+        clones = clones;
+        listed = sym (ap (λ l. new.items ++ l) nothing ∙ append-nil new.items);
+        left = λ i.
+            let over = spares i in
+            ([], (freed, All-nil D), over.made, rw more over.clones, over.written);
+      }
+
+module _ {T : Type 0} (D : T → Type 0) where
+  -- the slots that a cut vacated stand as defaults before the old spare ones
+  pub cut_freed : (old mid new : TinyView T) (m : ℕ) → SameFrame mid new → view_inline mid ≡ view_inline old → TinySlotRule D old mid
+      → mid.items ≡ take m old.items → m ≤ view_len old → ViewInline new → Behind D old new m old.spare
+  cut_freed old mid new m frame same rule cut le j =
+      let was = sym frame.place ∙ j in
+      let h = rule (sym same ∙ was) was in
+      let long : view_len mid ≡ m = ap length cut ∙ length-take-le m old.items le in
+      let no_more : view_len mid - view_len old ≡ 0 = omega arith in (
+        h.0,
+        (h.1.0 ∙ ap (λ n. view_len old - n) long, h.1.1),
+        frame.spare ∙ h.2 ∙ ap (λ n. h.0 ++ drop n old.spare) no_more,
+      )
+
+  -- a list that is as long vacated none
+  pub none_freed : (old new : TinyView T) (m : ℕ) → m ≡ view_len old → new.spare ≡ old.spare → Behind D old new m old.spare
+  none_freed old new m long same =
+      let freed : 0 ≡ view_len old - m = omega arith in
+      ([], (freed, All-nil D), same)
+
+-- room was made first: a list that is inline afterwards had its old spare slots then
+pub spare_kept : {T : Type 0} (old mid new : TinyView T) → (ViewInline mid → mid ≡ old) → view_inline new ≡ view_inline mid
+    → ViewInline new → mid.spare ≡ old.spare
+spare_kept old mid new stays place i = ap (λ v. v.spare) (stays (subst IsTrue place i))
+
+module _ {T : Type 0} (slots need : ℕ) where
+  -- a list that stayed where its room was granted
+  pub place_then : (old mid new : TinyView T) (n : ℕ) → n ≡ need → view_inline new ≡ view_inline mid → PlaceRule slots n old mid → PlaceRule slots need old new
+  place_then old mid new n same stays place = rw (← same, stays) place
+
+  -- and kept that room
+  pub granted_then : (old mid new : TinyView T) (n : ℕ) → n ≡ need → view_inline new ≡ view_inline mid → view_capacity slots new ≡ view_capacity slots mid
+      → PlaceRule slots n old mid → GrowsFor slots n old mid → RoomGranted slots need old new
+  granted_then old mid new n is stays same place grown = (place_then old mid new n is stays place, rw (← is, same) grown)
+
+  -- there was room before
+  pub granted_before : (old new : TinyView T) → view_inline new ≡ view_inline old → need ≤ view_capacity slots old → RoomGranted slots need old new
+  granted_before old new same le = (place_kept slots need old new same le, λ less. absurd (omega (arith, le, less)))

@@ -1,0 +1,145 @@
+-- Lemmas on the list, the spare slots and the place.
+use Rattle.std.proofs.Common.{Vec, Global, vec_capacity, ◌≡◌, ℕ, ◌+◌, ◌-◌, ◌<◌, ◌≤◌, List, replicate, [], ◌∷◌, length, drop, ◌++◌, refl, sym, ap, subst, ◌∙◌, length-set, length-drop, slice_set, insert, remove, All, arith, rules}
+use Rattle.std.specs.Prelude.{OnOk, OnErr, IsErr, IfOk, Result, Ok, Err}
+use Rattle.std.proofs.lemmas.List.{drop-drop, nil_from_length, length_push}
+use Rattle.std.proofs.lemmas.List.Edits.{length-insert, length-remove}
+use Rattle.std.proofs.lemmas.List.Elements.{All-drop, All-nil}
+use Rattle.tinyvec_slots.specs.Slots.{Slots, AreDefaults, Vacates, SlotRule, items, items_len, spare}
+use Rattle.tinyvec_slots.proofs.SlotsLemmas.{slots_used, slots_freed, defaults_are, items-with_slot, spare-with_slot}
+use Rattle.one_tiny.specs.View.{in_array, on_heap, Place, lies_inline, capacity_in, TinyView, view_len, view_inline, ViewInline, TinySlotRule, SameFrame, Unchanged}
+use Rattle.one_vec.specs.SliceVec.{view_of, items_of, slots_of}
+use Rattle.one_vec.specs.Lends.{at_slots}
+use Rattle.one_vec.specs.declared.storage.Storage as Storage
+use Rattle.one_vec.specs.declared.slice_vec.SlotVec.{SlotVec}
+use Rattle.one_tiny.specs.TinyVec.{tiny_items_of, tiny_len_of}
+use Rattle.one_tiny.specs.Lends.{tiny_with_item}
+use Rattle.one_tiny.specs.declared.tiny_vec.TinyVec.{TinyVec}
+use Rattle.one_tiny.specs.declared.tiny_vec.TinyVec.TheVariants.{Inline, Heap}
+pub use Rattle.one_tiny.specs.FrameLaws.{FrameOf, capacity_inline, SameFrame-refl, tiny_items-with, tiny_framed-with, tiny_slots_framed, tiny_slots_then_framed}
+
+-- what is read of a vector whose slots were written
+pub view_of-at : {B T : Type 0} (g : Storage.Ghosts B T) (v : SlotVec B) (xs : List T)
+    → view_of g (at_slots g v xs) ≡ record { slots = xs; len = (view_of g v).len }
+view_of-at g v xs i = record { slots = g.slots_written v.lent xs i; len = v.len }
+
+-- what is seen of an array, and of a list on the heap
+abbrev pub array_view : {T : Type 0} → Slots T → TinyView T
+array_view v = record { items = items v; spare = spare v; place = in_array }
+
+abbrev pub heap_view : {T : Type 0} → Vec T Global → TinyView T
+heap_view v = record { items = v.items; spare = []; place = on_heap (vec_capacity v) }
+
+-- two places that are both in the array, or both on the heap with one capacity
+pub same_place : (slots : ℕ) (p q : Place) → lies_inline q ≡ lies_inline p → capacity_in slots q ≡ capacity_in slots p → q ≡ p
+same_place slots in_array in_array same room = refl
+same_place slots in_array (on_heap n) same room = absurd (let no = same in cc)
+same_place slots (on_heap m) in_array same room = absurd (let no = same in cc)
+same_place slots (on_heap m) (on_heap n) same room = ap on_heap room
+
+-- what did not change looks the same
+pub view_unchanged : {T : Type 0} (old new : TinyView T) → Unchanged old new → new ≡ old
+view_unchanged old new h i = record { items = h.items i; spare = h.spare i; place = same_place 0 old.place new.place h.place (h.capacity 0) i }
+
+module _ {T : Type 0} where
+  pub SameFrame-then : (u v w : TinyView T) → SameFrame u v → SameFrame v w → SameFrame u w
+  SameFrame-then u v w h k = record {
+    len = k.len ∙ h.len;
+    spare = k.spare ∙ h.spare;
+    place = k.place ∙ h.place;
+    capacity = λ slots. k.capacity slots ∙ h.capacity slots;
+  }
+
+module _ {A T : Type 0} (g : Storage.Ghosts A T) where
+  -- a write of one item writes that item
+  pub tiny_items-with_item : (v : TinyVec A T) (i : ℕ) (x : T) → i < tiny_len_of g v → tiny_items_of g (tiny_with_item g v i x) ≡ slice_set (tiny_items_of g v) i x
+  tiny_items-with_item (Inline v alloc) i x h = ap items (view_of-at g v (slice_set (slots_of g v) i x)) ∙ items-with_slot (view_of g v) i x h
+  tiny_items-with_item (Heap v) i x h = refl
+
+  -- and leaves spare slots, place and room
+  pub tiny_framed-with_item : (v : TinyVec A T) (i : ℕ) (x : T) → i < tiny_len_of g v → FrameOf g v (tiny_with_item g v i x)
+  tiny_framed-with_item (Inline v alloc) i x h = record {
+    len = ap length (tiny_items-with_item (Inline v alloc) i x h) ∙ length-set (items_of g v) i x;
+    spare = ap spare (view_of-at g v (slice_set (slots_of g v) i x)) ∙ spare-with_slot (view_of g v) i x h;
+    place = refl;
+    capacity = λ slots. refl;
+  }
+  tiny_framed-with_item (Heap v) i x h = record { len = length-set v.items i x; spare = refl; place = refl; capacity = λ slots. refl }
+
+-- the slot rule of a call that pushed, inserted or removed one item
+module _ {T : Type 0} (D : T → Type 0) (old new : Slots T) where
+  pub slots_pushed : (x : T) → items new ≡ items old ++ x ∷ [] → spare new ≡ drop 1 (spare old) → SlotRule D old new
+  slots_pushed x is = slots_used D old new 1 (ap length is ∙ length_push (items old) x)
+
+  pub slots_inserted : (i : ℕ) (x : T) → i ≤ items_len old → items new ≡ insert (items old) i x → spare new ≡ drop 1 (spare old) → SlotRule D old new
+  slots_inserted i x in_list is = slots_used D old new 1 (ap length is ∙ length-insert (items old) i x in_list)
+
+  pub slots_removed : (i : ℕ) → i < items_len old → items new ≡ remove (items old) i → Vacates D 1 old new → SlotRule D old new
+  slots_removed i in_list is = slots_freed D old new 1 (sym (ap (λ l. length l + 1) is ∙ length-remove (items old) i in_list))
+
+module _ {T : Type 0} (D : T → Type 0) where
+  -- a list that used up k spare slots
+  pub slots_taken : (old new : TinyView T) (k : ℕ) → view_len new ≡ view_len old + k → new.spare ≡ drop k old.spare → TinySlotRule D old new
+  slots_taken old new k len behind i j =
+      let none : view_len old - view_len new ≡ 0 = omega arith in
+      let more : view_len new - view_len old ≡ k = omega arith in
+      ([], (sym none, All-nil D), behind ∙ ap (λ n. drop n old.spare) (sym more))
+
+  -- and what a list that got no shorter used up
+  pub taken : (old new : TinyView T) → view_len old ≤ view_len new → TinySlotRule D old new → ViewInline old → ViewInline new
+      → new.spare ≡ drop (view_len new - view_len old) old.spare
+  taken old new le rule i j =
+      let h = rule i j in
+      h.2 ∙ ap (λ ds. ds ++ drop (view_len new - view_len old) old.spare) (nil_from_length h.0 (omega (arith, h.1.0, le)))
+
+  -- an empty inline list among defaults was made longer: what is left of them
+  pub defaults_left : (slots : ℕ) (old new : TinyView T) → old.items ≡ [] → ViewInline old → AreDefaults D slots old.spare
+      → TinySlotRule D old new → ViewInline new → AreDefaults D (slots - view_len new) new.spare
+  defaults_left slots old new none inline made rule still =
+      let zero : view_len old ≡ 0 = ap length none in
+      let n = view_len new - view_len old in
+      let is = taken old new (omega (arith, zero)) rule inline still in
+      (ap length is ∙ length-drop n old.spare ∙ omega (arith, made.0, zero), subst (All D) (sym is) (All-drop D n old.spare made.1))
+
+  -- the slot rule of a call that first made room, and then made the list longer by k
+  pub tiny_slots_grown : (old mid new : TinyView T) (k : ℕ) → (ViewInline mid → mid ≡ old) → view_inline new ≡ view_inline mid
+      → view_len new ≡ view_len mid + k → new.spare ≡ drop k mid.spare → TinySlotRule D old new
+  tiny_slots_grown old mid new k stays place len behind i j =
+      subst (λ v. TinySlotRule D v new) (stays (sym place ∙ j)) (slots_taken mid new k len behind) i j
+
+  -- the slot rule over two calls, one after the other, that make the list longer
+  pub tiny_slots_then : (a b c : TinyView T) → (ViewInline c → ViewInline b) → view_len a ≤ view_len b → view_len b ≤ view_len c
+      → TinySlotRule D a b → TinySlotRule D b c → TinySlotRule D a c
+  tiny_slots_then a b c place le more g h i k =
+      let first = view_len b - view_len a in
+      let second = view_len c - view_len b in
+      let both : first + second ≡ view_len c - view_len a = omega arith in
+      slots_taken a c (view_len c - view_len a) (omega arith)
+      (taken b c more h (place k) k ∙ ap (drop second) (taken a b le g i (place k)) ∙ drop-drop second first a.spare ∙ ap (λ n. drop n a.spare) both) i k
+
+  module _ (c : T) (only : (x : T) → D x → x ≡ c) where
+    -- the slot rule where the item's `Default` answers one value only
+    pub tiny_slots_only : (old new : TinyView T) → ViewInline old → ViewInline new → TinySlotRule D old new
+        → new.spare ≡ replicate (view_len old - view_len new) c ++ drop (view_len new - view_len old) old.spare
+    tiny_slots_only old new i j rule =
+        let h = rule i j in
+        h.2 ∙ ap (λ ds. ds ++ drop (view_len new - view_len old) old.spare) (defaults_are D c only (view_len old - view_len new) h.0 h.1)
+
+-- two facts of a call that succeeded
+pub on_ok_two : {T E P Q R : Type 0} (r : Result T E) → OnOk r P → OnOk r Q → (P → Q → R) → OnOk r R
+on_ok_two (Ok x) p q f = f p q
+on_ok_two (Err e) p q f = tt
+
+-- and of one that was refused
+pub on_err_two : {T E P Q R : Type 0} (r : Result T E) → OnErr r P → OnErr r Q → (P → Q → R) → OnErr r R
+on_err_two (Ok x) p q f = tt
+on_err_two (Err e) p q f = f p q
+
+-- an error says nothing of success
+pub never_ok : {T E : Type 0} (P : Type 0) (r : Result T E) → IsErr r → OnOk r P
+never_ok P (Ok x) err = search rules
+never_ok P (Err e) err = tt
+
+-- nor of a value
+pub never_if_ok : {T E : Type 0} (P : T → Type 0) (r : Result T E) → IsErr r → IfOk r P
+never_if_ok P (Ok x) err = search rules
+never_if_ok P (Err e) err = tt

@@ -1,0 +1,24 @@
+use Rattle.std.proofs.Common.{◌+◌, ◌-◌, refl, arith, ap, ◌∙◌}
+use Rattle.std.specs.List.{remove_range}
+use Rattle.tinyvec_slots.proofs.Lists.{slice_range_last, remove_range-set}
+use Rattle.one_tiny.specs.TinyVec.{tiny_items_of}
+use Rattle.one_tiny.proofs.drain.TinyVecDrainDoubleEndedIterator.next_back.Goals as goal
+
+pub returns-clause-steps : goal.returns-clause-steps
+returns-clause-steps g c =
+    let d = c.args.self.now in
+    let xs = tiny_items_of g.A.Storage d.vec.now in
+    let end = d.start + d.gap in
+    let can = c.requires in
+    let after = c.take_at.ensures.after in
+    let frame = c.take_at.ensures.frame in (
+      rw after.2 (slice_range_last xs d.front d.back c.take_at.result after.0
+          (omega arith) (omega (arith, can.1, can.2)) c.take_at.ensures.value),
+      record {
+        same_reference = refl;
+        kept = ap (λ l. remove_range l d.start end) after.2
+            ∙ remove_range-set xs d.start end (d.back - 1) after.0 (omega (arith, can.0)) (omega (arith, can.1));
+        frame = frame;
+        ready = λ h. (h.0, omega (arith, h.1), omega (arith, frame.len, h.2));
+      },
+    )

@@ -1,0 +1,82 @@
+-- What a contract sees of a `TinyVec`: its list, its spare slots, its place, and its capacity.
+use Rattle.std.specs.Prelude.{ℕ, List, [], length, Bool, IsTrue, vec_capacity}
+use Rattle.std.specs.Global.{Global}
+use Rattle.std.specs.Vec.{vec_allocator}
+use Rattle.one_vec.specs.By.{items_by, spare_by}
+use Rattle.one_vec.specs.declared.storage.Storage as Storage
+use Rattle.one_tiny.specs.View.{Place, in_array, on_heap, lies_inline, capacity_in, TinyView}
+use Rattle.one_tiny.specs.declared.tiny_vec.TinyVec.{TinyVec}
+use Rattle.one_tiny.specs.declared.tiny_vec.TinyVec.TheVariants.{Inline, Heap}
+
+-- Where a list is. No word of it reads the slots.
+module _ {A T : Type 0} where
+  -- its place
+  abbrev pub place_of : TinyVec A T → Place
+  place_of (Inline v alloc) = in_array
+  place_of (Heap v) = on_heap (vec_capacity v)
+
+  -- `v.is_inline()`
+  abbrev pub is_inline : TinyVec A T → Bool
+  is_inline v = lies_inline (place_of v)
+
+  -- the list is in the array
+  abbrev pub IsInline : TinyVec A T → Type 0
+  IsInline v = IsTrue (is_inline v)
+
+  -- `v.capacity()`, if an array has this many slots
+  abbrev pub tiny_capacity : ℕ → TinyVec A T → ℕ
+  tiny_capacity slots v = capacity_in slots (place_of v)
+
+  -- `v.allocator()`
+  abbrev pub tiny_allocator : TinyVec A T → Global
+  tiny_allocator (Inline v alloc) = alloc
+  tiny_allocator (Heap v) = vec_allocator v
+
+-- the list and the spare slots, if `slots` says what the storage holds; on the heap there are no spare slots
+module _ {A T : Type 0} (slots : A → List T) where
+  abbrev pub tiny_items_by : TinyVec A T → List T
+  tiny_items_by (Inline v alloc) = items_by slots v
+  tiny_items_by (Heap v) = v.items
+
+  abbrev pub tiny_spare_by : TinyVec A T → List T
+  tiny_spare_by (Inline v alloc) = spare_by slots v
+  tiny_spare_by (Heap v) = []
+
+  abbrev pub tiny_view_by : TinyVec A T → TinyView T
+  tiny_view_by v = record { items = tiny_items_by v; spare = tiny_spare_by v; place = place_of v }
+
+-- the words of generic code, over what the trait says of the slots
+module _ {A T : Type 0} (g : Storage.Ghosts A T) where
+  -- the list
+  abbrev pub tiny_items_of : TinyVec A T → List T
+  tiny_items_of = tiny_items_by g.slots
+
+  -- the length of the list
+  abbrev pub tiny_len_of : TinyVec A T → ℕ
+  tiny_len_of v = length (tiny_items_of v)
+
+  -- the spare slots after the list; on the heap there are none
+  abbrev pub tiny_spare_of : TinyVec A T → List T
+  tiny_spare_of = tiny_spare_by g.slots
+
+  -- list, spare slots and place
+  abbrev pub tiny_view_of : TinyVec A T → TinyView T
+  tiny_view_of = tiny_view_by g.slots
+
+-- the same words of a vector whose slots are an array's
+module _ {T : Type 0} where
+  -- the list
+  abbrev pub tiny_items : TinyVec (List T) T → List T
+  tiny_items = tiny_items_by (λ a. a)
+
+  -- the length of the list
+  abbrev pub tiny_len : TinyVec (List T) T → ℕ
+  tiny_len v = length (tiny_items v)
+
+  -- the spare slots after the list; on the heap there are none
+  abbrev pub tiny_spare : TinyVec (List T) T → List T
+  tiny_spare = tiny_spare_by (λ a. a)
+
+  -- list, spare slots and place
+  abbrev pub tiny_view : TinyVec (List T) T → TinyView T
+  tiny_view = tiny_view_by (λ a. a)

@@ -1,0 +1,310 @@
+//! Items that are pushed, popped, inserted, removed and cut off.
+ghost use Rattle.std.specs.Prelude.{◌≡◌, ◌+◌, ◌-◌, ◌<◌, ◌↔◌, [], ◌∷◌, ◌++◌, take, slice_get, IsSome, IfSome, IsOk, OnErr, IfErr, ◌≤◌, if◌then◌else◌, is_ok, insert, remove, slice_index_or, vec_len, IfOk, IfNone};
+ghost use Rattle.one_tiny.specs.TinyVec.{tiny_items_of, tiny_len_of, tiny_capacity, IsInline, tiny_view_of};
+ghost use Rattle.one_tiny.specs.View.{IsTail, Becomes, Unchanged};
+ghost use Rattle.one_tiny.specs.Room.{Doubles, MakesRoom};
+ghost use Rattle.one_tiny.specs.OnHeap.{HeapBecomes};
+ghost use Rattle.std.specs.List.{swap_remove};
+ghost use Rattle.std.specs.Borrow.{sem};
+
+use crate::TinyVec;
+use crate::places::split_slots;
+use one_vec::Array;
+use std::alloc::AllocError;
+use tinyvec_slots::{NoMemory, move_to_end, remove_shifting};
+
+impl<A: Array> TinyVec<A> {
+    /// Appends `value` to a list that has room. It allocates nothing, so it cannot fail.
+    pub fn push_reserved(&mut self, value: A::Item)
+        requires { tiny_len_of A.Storage self.old < tiny_capacity A.CAPACITY self.old }
+        ensures { Becomes A.Item.is_default A.CAPACITY (tiny_view_of A.Storage self.old)
+            (tiny_view_of A.Storage self.new) (tiny_items_of A.Storage self.old ++ value ∷ []) }
+    {
+        match self {
+            TinyVec::Inline(v, _) => {
+                // Tells the proof how many slots there are.
+                let _slots = v.slot_count();
+                v.push(value)
+            }
+            TinyVec::Heap(v) => v.push_reserved(value),
+        }
+    }
+
+    /// Appends `value`. A full list first doubles its capacity, which moves an inline one to the heap. If the allocator refuses,
+    /// nothing changes and `value` is returned.
+    pub fn push(&mut self, value: A::Item) -> Result<(), NoMemory<A::Item>>
+        ensures items { tiny_items_of A.Storage self.new
+            ≡ (if is_ok result then tiny_items_of A.Storage self.old ++ value ∷ [] else tiny_items_of A.Storage self.old) }
+        ensures len { tiny_len_of A.Storage self.new ≡
+            (if is_ok result then tiny_len_of A.Storage self.old + 1 else tiny_len_of A.Storage self.old) }
+        ensures room { MakesRoom Doubles A.Item.is_default A.CAPACITY (tiny_len_of A.Storage self.old + 1)
+            (tiny_view_of A.Storage self.old) (tiny_view_of A.Storage self.new) result }
+        ensures succeeds_inline { IsInline self.old → tiny_len_of A.Storage self.old < A.CAPACITY → IsOk result }
+        ensures full { OnErr result (tiny_len_of A.Storage self.old ≡ tiny_capacity A.CAPACITY self.old) }
+        ensures value_returned { IfErr result (λ refused. refused.0 ≡ value) }
+    {
+        // Tells the proof how many slots there are.
+        let _len = self.len();
+        // One test of the variant; growing is kept out of the usual path.
+        match self {
+            TinyVec::Inline(v, _) if !v.is_full() => v.push(value),
+            TinyVec::Heap(v) if v.len() < v.capacity() => v.push_reserved(value),
+            _ => {
+                if self.grow_one().is_err() {
+                    return Err(NoMemory(value));
+                }
+                self.push_reserved(value);
+            }
+        }
+        Ok(())
+    }
+
+    ghost use Rattle.one_tiny.specs.Lends.{lends_added};
+
+    /// Appends `value`, and returns it for writing. A full list grows as by `push`. If the allocator refuses, nothing changes and
+    /// `value` is returned.
+    pub fn push_mut(&mut self, value: A::Item) -> Result<&mut A::Item, NoMemory<A::Item>>
+        ensures* writes_back { sem 𝓛 (lends_added A.row A.Item.row A.Storage self.entry A.Item.Default A.CAPACITY
+            (λ x. tiny_items_of A.Storage self.old ++ x ∷ []) result) }
+        ensures value { IfOk result (λ x. x.now ≡ value) }
+        ensures succeeds { tiny_len_of A.Storage self.old < tiny_capacity A.CAPACITY self.old → IsOk result }
+        ensures succeeds_inline { IsInline self.old → tiny_len_of A.Storage self.old < A.CAPACITY → IsOk result }
+        ensures full { OnErr result (tiny_len_of A.Storage self.old ≡ tiny_capacity A.CAPACITY self.old) }
+        ensures value_returned { IfErr result (λ refused. refused.0 ≡ value) }
+    {
+        let at = self.len();
+        if let Err(refused) = self.push(value) {
+            return Err(refused);
+        }
+        Ok(&mut self[at])
+    }
+
+    /// Removes the last item and returns it. Its slot is reset to a default if the list is inline.
+    pub fn pop(&mut self) -> Option<A::Item>
+        ensures variant { IsSome result ↔ (0 < tiny_len_of A.Storage self.old) }
+        ensures some { IfSome result (λ x. tiny_items_of A.Storage self.old ≡ tiny_items_of A.Storage self.new ++ x ∷ []) }
+        ensures value { result ≡ slice_get (tiny_items_of A.Storage self.old) (tiny_len_of A.Storage self.old - 1) }
+        ensures becomes { Becomes A.Item.is_default A.CAPACITY (tiny_view_of A.Storage self.old)
+            (tiny_view_of A.Storage self.new) (take (tiny_len_of A.Storage self.old - 1)
+            (tiny_items_of A.Storage self.old)) }
+    {
+        match self {
+            TinyVec::Inline(v, _) => {
+                // Tells the proof how many slots there are.
+                let _slots = v.slot_count();
+                v.pop()
+            }
+            TinyVec::Heap(v) => v.pop(),
+        }
+    }
+
+    // `insert` into a list that has room.
+    fn insert_reserved(&mut self, index: usize, element: A::Item)
+        requires in_list { index ≤ tiny_len_of A.Storage self.old }
+        requires room { tiny_len_of A.Storage self.old < tiny_capacity A.CAPACITY self.old }
+        ensures { Becomes A.Item.is_default A.CAPACITY (tiny_view_of A.Storage self.old)
+            (tiny_view_of A.Storage self.new) (insert (tiny_items_of A.Storage self.old) index element) }
+    {
+        match self {
+            TinyVec::Inline(v, _) => {
+                // Tells the proof how many slots there are.
+                let _slots = v.slot_count();
+                v.insert(index, element)
+            }
+            TinyVec::Heap(v) => {
+                let _room_was_there = v.insert(index, element);
+            }
+        }
+    }
+
+    /// Inserts `element` at `index`, and moves the later items up. A full list first doubles its capacity, which moves an inline one
+    /// to the heap. If the allocator refuses, nothing changes and `element` is returned.
+    // Inlined, so that the variant is tested once for this call and the next.
+    #[inline(always)]
+    pub fn insert(&mut self, index: usize, element: A::Item) -> Result<(), NoMemory<A::Item>>
+        requires { index ≤ tiny_len_of A.Storage self.old }
+        ensures items { tiny_items_of A.Storage self.new
+            ≡ (if is_ok result then insert
+            (tiny_items_of A.Storage self.old) index element else tiny_items_of A.Storage self.old) }
+        ensures len { tiny_len_of A.Storage self.new ≡
+            (if is_ok result then tiny_len_of A.Storage self.old + 1 else tiny_len_of A.Storage self.old) }
+        ensures room { MakesRoom Doubles A.Item.is_default A.CAPACITY (tiny_len_of A.Storage self.old + 1)
+            (tiny_view_of A.Storage self.old) (tiny_view_of A.Storage self.new) result }
+        ensures succeeds_inline { IsInline self.old → tiny_len_of A.Storage self.old < A.CAPACITY → IsOk result }
+        ensures full { OnErr result (tiny_len_of A.Storage self.old ≡ tiny_capacity A.CAPACITY self.old) }
+        ensures value_returned { IfErr result (λ refused. refused.0 ≡ element) }
+    {
+        // Tells the proof how many slots there are.
+        let _len = self.len();
+        match self {
+            TinyVec::Inline(v, _) if !v.is_full() => v.insert(index, element),
+            TinyVec::Heap(v) if v.len() < v.capacity() => {
+                let _room_was_there = v.insert(index, element);
+            }
+            _ => {
+                if self.grow_one().is_err() {
+                    return Err(NoMemory(element));
+                }
+                self.insert_reserved(index, element);
+            }
+        }
+        Ok(())
+    }
+
+    /// Inserts `element` at `index`, moves the later items up, and returns the new item for writing. A full list grows as by
+    /// `insert`. If the allocator refuses, nothing changes and `element` is returned.
+    pub fn insert_mut(
+        &mut self,
+        index: usize,
+        element: A::Item,
+    ) -> Result<&mut A::Item, NoMemory<A::Item>>
+        requires { index ≤ tiny_len_of A.Storage self.old }
+        ensures* writes_back { sem 𝓛 (lends_added A.row A.Item.row A.Storage self.entry A.Item.Default A.CAPACITY
+            (insert (tiny_items_of A.Storage self.old) index) result) }
+        ensures value { IfOk result (λ x. x.now ≡ element) }
+        ensures succeeds { tiny_len_of A.Storage self.old < tiny_capacity A.CAPACITY self.old → IsOk result }
+        ensures succeeds_inline { IsInline self.old → tiny_len_of A.Storage self.old < A.CAPACITY → IsOk result }
+        ensures full { OnErr result (tiny_len_of A.Storage self.old ≡ tiny_capacity A.CAPACITY self.old) }
+        ensures value_returned { IfErr result (λ refused. refused.0 ≡ element) }
+    {
+        if let Err(refused) = self.insert(index, element) {
+            return Err(refused);
+        }
+        Ok(&mut self[index])
+    }
+
+    /// Removes the item at `index` and returns it. The later ones move down.
+    // Inlined like `insert`.
+    #[inline(always)]
+    pub fn remove(&mut self, index: usize) -> A::Item
+        requires { index < tiny_len_of A.Storage self.old }
+        ensures value { result ≡ slice_index_or (tiny_items_of A.Storage self.old) index result }
+        ensures becomes { Becomes A.Item.is_default A.CAPACITY (tiny_view_of A.Storage self.old)
+            (tiny_view_of A.Storage self.new) (remove (tiny_items_of A.Storage self.old) index) }
+    {
+        match self {
+            TinyVec::Inline(v, _) => {
+                // Tells the proof how many slots there are.
+                let _slots = v.slot_count();
+                v.remove(index)
+            }
+            TinyVec::Heap(v) => remove_on_heap(v, index),
+        }
+    }
+
+    /// Removes the item at `index` and returns it. The last one takes its place.
+    pub fn swap_remove(&mut self, index: usize) -> A::Item
+        requires { index < tiny_len_of A.Storage self.old }
+        ensures value { result ≡ slice_index_or (tiny_items_of A.Storage self.old) index result }
+        ensures becomes { Becomes A.Item.is_default A.CAPACITY (tiny_view_of A.Storage self.old)
+            (tiny_view_of A.Storage self.new) (swap_remove (tiny_items_of A.Storage self.old) index result) }
+    {
+        match self {
+            TinyVec::Inline(v, _) => {
+                // Tells the proof how many slots there are.
+                let _slots = v.slot_count();
+                v.swap_remove(index)
+            }
+            TinyVec::Heap(v) => v.swap_remove(index),
+        }
+    }
+
+    /// Keeps the first `new_len` items, or all if there are no more. Each vacated slot is reset to a default if the list
+    /// is inline.
+    #[inline(always)]
+    pub fn truncate(&mut self, new_len: usize)
+        ensures { Becomes A.Item.is_default A.CAPACITY (tiny_view_of A.Storage self.old)
+            (tiny_view_of A.Storage self.new) (take new_len (tiny_items_of A.Storage self.old)) }
+    {
+        match self {
+            TinyVec::Inline(v, _) => {
+                // Tells the proof how many slots there are.
+                let _slots = v.slot_count();
+                v.truncate(new_len)
+            }
+            TinyVec::Heap(v) => v.truncate(new_len),
+        }
+    }
+
+    /// Empties the list. Each vacated slot is reset to a default if the list is inline.
+    pub fn clear(&mut self)
+        ensures { Becomes A.Item.is_default A.CAPACITY (tiny_view_of A.Storage self.old)
+            (tiny_view_of A.Storage self.new) [] }
+    {
+        match self {
+            TinyVec::Inline(v, _) => {
+                // Tells the proof how many slots there are.
+                let _slots = v.slot_count();
+                v.clear();
+                // After these writes LLVM has lost variant and length; setting the length restores both.
+                match self {
+                    TinyVec::Inline(v, _) => v.set_len(0),
+                    TinyVec::Heap(_) => unreachable!(),
+                }
+            }
+            TinyVec::Heap(v) => v.truncate(0),
+        }
+    }
+
+    /// Splits the list at `at` and returns the items from `at` on. The result is in the same place. An inline list
+    /// allocates nothing; one on the heap allocates room for those items.
+    pub fn split_off(&mut self, at: usize) -> Result<Self, AllocError>
+        requires { at ≤ tiny_len_of A.Storage self.old }
+        ensures becomes { Becomes A.Item.is_default A.CAPACITY (tiny_view_of A.Storage self.old)
+            (tiny_view_of A.Storage self.new)
+            (if is_ok result then take at (tiny_items_of A.Storage self.old) else tiny_items_of A.Storage self.old) }
+        ensures tail { IfOk result (λ v. IsTail A.Item.is_default A.CAPACITY at (tiny_view_of A.Storage self.old)
+            (tiny_view_of A.Storage v)) }
+        ensures succeeds { IsInline self.old → IsOk result }
+        ensures succeeds_at_the_end { at ≡ tiny_len_of A.Storage self.old → IsOk result }
+        ensures refused { OnErr result (self.new ≡ self.old) }
+    {
+        match self {
+            TinyVec::Inline(v, alloc) => {
+                // Tells the proof how many slots there are.
+                let _slots = v.slot_count();
+                Ok(TinyVec::Inline(split_slots(v, at), *alloc))
+            }
+            TinyVec::Heap(v) => {
+                let mut back = TinyVec::Heap(Vec::with_capacity(*v.allocator(), v.len() - at)?);
+                back.append_slots(&mut v.as_mut_slice()[at..]);
+                v.truncate(at);
+                Ok(back)
+            }
+        }
+    }
+
+    /// Removes the item at `index` and returns it, or returns `None` if the list has no such item. The later ones move down.
+    pub fn pop_at(&mut self, index: usize) -> Option<A::Item>
+        ensures variant { IsSome result ↔ (index < tiny_len_of A.Storage self.old) }
+        ensures value { result ≡ slice_get (tiny_items_of A.Storage self.old) index }
+        ensures none { IfNone result (Unchanged (tiny_view_of A.Storage self.old) (tiny_view_of A.Storage self.new)) }
+        ensures becomes { Becomes A.Item.is_default A.CAPACITY (tiny_view_of A.Storage self.old)
+            (tiny_view_of A.Storage self.new) (remove (tiny_items_of A.Storage self.old) index) }
+    {
+        if index >= self.len() {
+            return None;
+        }
+        Some(self.remove(index))
+    }
+}
+
+// Up to this many items, shifting one by one beats a rotation, and `Vec::remove`.
+const FEW: usize = 16;
+
+// `remove` of a list on the heap.
+#[inline(always)]
+fn remove_on_heap<T: Default + Drop>(heap: &mut Vec<T>, i: usize) -> T
+    requires { i < vec_len heap.old }
+    ensures value { result ≡ slice_index_or heap.old.items i result }
+    ensures becomes { HeapBecomes heap.old heap.new (remove heap.old.items i) }
+{
+    let len = heap.len();
+    if len - i > FEW {
+        move_to_end(heap.as_mut_slice(), i, i + 1);
+        return heap.pop().unwrap();
+    }
+    let item = remove_shifting(heap.as_mut_slice(), i, len);
+    heap.truncate(len - 1);
+    item
+}

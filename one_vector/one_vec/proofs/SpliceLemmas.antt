@@ -1,0 +1,52 @@
+-- A splice along a word of ends.
+use Rattle.std.proofs.Common.{◌≡◌, ℕ, ◌+◌, ◌≤◌, ◌↔◌, List, [], ◌∷◌, ◌++◌, length, Option, Result, false, if◌then◌else◌, IsOk, OnOk, IfErr, ap, refl, subst, sym, ◌∙◌}
+use Rattle.std.proofs.lemmas.Result.{IfErr-weaker}
+use Rattle.std.specs.declared.iter.Fuse.{Fuse}
+use Rattle.std.specs.Iterator.Adapters.{fuse_done, fuse_source}
+use Rattle.tinyvec_slots.specs.Ends.{End, TakesFromEnds, RunsWord}
+use Rattle.tinyvec_slots.specs.AnySplice.{SpliceView, FinishesWith}
+use Rattle.tinyvec_slots.specs.Fused.{HasTwoEnds, fused_rest}
+use Rattle.tinyvec_slots.specs.SplicedByWord.{SplicedByWord}
+use Rattle.tinyvec_slots.specs.declared.no_room.SpliceRest.{SpliceRest}
+use Rattle.tinyvec_slots.proofs.AnySpliceLemmas as all
+use Rattle.one_vec.specs.Splice.{splice_view, splice_left, SpliceKeeps, SpliceSteps, SpliceStepsBack}
+use Rattle.one_vec.specs.declared.storage.Slots as Storage
+use Rattle.one_vec.specs.declared.splice.ArrayVecSplice.{ArrayVecSplice}
+
+module _ {S I T L : Type 0} (g : Storage.Ghosts S T L) where
+  pub keeps_same : (s : ArrayVecSplice S (Fuse I) T L) → SpliceKeeps g s s
+  keeps_same s = record { same_reference = refl; same_slots = refl; spare = refl; len = refl; ready = λ can. can }
+
+  pub keeps_then : (s mid t : ArrayVecSplice S (Fuse I) T L) → SpliceKeeps g s mid → SpliceKeeps g mid t → SpliceKeeps g s t
+  keeps_then s mid t h k = record {
+    same_reference = k.same_reference ∙ h.same_reference;
+    same_slots = k.same_slots ∙ h.same_slots;
+    spare = k.spare ∙ h.spare;
+    len = k.len ∙ h.len;
+    ready = λ can. k.ready (h.ready can);
+  }
+
+  -- what its calls placed, of a replacement of which `rest` shows what it gives
+  pub RunsWord-splices : (rest : Fuse I → List T) (gives gives_back : Fuse I → Option T → Fuse I → Type 0) → HasTwoEnds gives gives_back rest
+      → (s : ArrayVecSplice S (Fuse I) T L) (word : List End) (answers : List (Option T)) (t : ArrayVecSplice S (Fuse I) T L)
+      → RunsWord (SpliceSteps g gives) (SpliceStepsBack g gives_back) s word answers t → SplicedByWord (splice_view g) (SpliceKeeps g) rest s word t
+  RunsWord-splices rest = all.RunsWord-splices (splice_view g) (SpliceKeeps g) rest keeps_same keeps_then
+
+  -- and the removed items that they gave
+  pub RunsWord-takes_removed : (gives gives_back : Fuse I → Option T → Fuse I → Type 0)
+      → (s : ArrayVecSplice S (Fuse I) T L) (word : List End) (answers : List (Option T)) (t : ArrayVecSplice S (Fuse I) T L)
+      → RunsWord (SpliceSteps g gives) (SpliceStepsBack g gives_back) s word answers t → TakesFromEnds (splice_left g s) word answers (splice_left g t)
+  RunsWord-takes_removed = all.RunsWord-takes_removed (splice_view g) (SpliceKeeps g)
+
+-- what `finish` puts between these two, if its replacement has not ended and `rest` shows what its source still yields
+module _ {I T : Type 0} (rest : I → List T) (room : ℕ) (s : SpliceView (Fuse I) T) (before after : List T) (result : Result Unit (SpliceRest T (Fuse I))) (list : List T) where
+  pub puts_listed : fuse_done s.replacement ≡ false → s.front ≡ before → s.back ≡ after → FinishesWith (fused_rest rest) room s result list
+      → (IsOk result ↔ (length before + length (rest (fuse_source s.replacement)) + length after ≤ room))
+      × OnOk result (list ≡ before ++ rest (fuse_source s.replacement) ++ after)
+      × IfErr result (λ refused. (placed : List T) × (rest (fuse_source s.replacement) ≡ placed ++ refused.item ∷ fused_rest rest refused.rest) × (list ≡ before ++ placed ++ after))
+  puts_listed unasked front back h =
+      let shown : fused_rest rest s.replacement ≡ rest (fuse_source s.replacement) = ap (λ ended. if ended then [] else rest (fuse_source s.replacement)) unasked in (
+        subst (λ n. IsOk result ↔ (n ≤ room)) (λ i. length (front i) + length (shown i) + length (back i)) h.fits,
+        subst (λ l. OnOk result (list ≡ l)) (λ i. front i ++ shown i ++ back i) h.all,
+        IfErr-weaker result _ _ (λ refused t. (t.0, sym shown ∙ t.1, t.2 ∙ (λ i. front i ++ t.0 ++ back i))) h.refused,
+      )

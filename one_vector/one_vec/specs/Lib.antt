@@ -1,0 +1,26 @@
+-- The words of `tinyvec_slots` that contracts here cite, so that a caller names one crate.
+pub use Rattle.tinyvec_slots.specs.Slots
+pub use Rattle.tinyvec_slots.specs.Ranges
+pub use Rattle.tinyvec_slots.specs.Ends
+pub use Rattle.tinyvec_slots.specs.Filling
+pub use Rattle.tinyvec_slots.specs.Filters
+pub use Rattle.tinyvec_slots.specs.Extracting
+pub use Rattle.tinyvec_slots.specs.Clones
+pub use Rattle.tinyvec_slots.specs.Texts
+pub use Rattle.tinyvec_slots.specs.Fused
+pub use Rattle.tinyvec_slots.specs.AnySplice
+pub use Rattle.tinyvec_slots.specs.SplicedByWord
+pub use Rattle.tinyvec_slots.specs.Replacing
+pub mod SliceParts
+pub mod SliceVec
+pub mod ArrayVec
+pub mod By
+pub mod Lends
+pub mod IterMut
+pub mod Drain
+pub mod IntoIter
+pub mod Making
+pub mod Appends
+pub mod CutLaws
+pub mod Splice
+pub mod SpliceLaws

@@ -1,0 +1,215 @@
+//! `ArrayVec` and `SliceVec`.
+ghost use Rattle.std.specs.Prelude.{◌≡◌, ◌<◌, ◌≤◌, ◌==◌, ◌+◌, ◌^◌, length, drop, slice_range, slice_index_or, slice_set, List, ◌++◌, ◌↔◌, [], ⊤};
+ghost use Rattle.std.specs.List.{remove_range};
+ghost use Rattle.tinyvec_slots.specs.Slots.{AreDefaults, split_at};
+ghost use Rattle.tinyvec_slots.specs.Ranges.{Within};
+ghost use Rattle.std.specs.Borrow.{sem};
+ghost use Rattle.one_vec.specs.SliceVec.{view_of, items_of, spare_of, slots_of, len_of, SameLender, Gains};
+ghost use Rattle.one_vec.specs.Lends.{lends_items, lends_inner, lends_spare};
+ghost use Rattle.tinyvec_slots.specs.Filling.{Iterates, IteratesMut};
+
+mod array;
+mod edits;
+mod extending;
+mod filters;
+mod in_slots;
+mod lent;
+mod traits;
+
+use crate::Slots;
+use crate::places::bounded_index;
+use std::alloc::AllocError;
+use std::convert::AsSlice;
+use std::{mem, slice};
+use tinyvec_slots::{fill_default, move_to_end_below, part_of};
+
+/// A list in slots: in an array, or in a slice that is lent for writing. The slots after the list are its spare slots: they
+/// hold values too, and vacated ones hold defaults. When a vector in a lent slice is dropped, the owner of the slots sees
+/// the list followed by the spare slots.
+#[derive(Drop)]
+pub struct ArrayVec<S: Drop, L: Drop = <S as Slots>::Len> {
+    len: L,
+    slots: S,
+}
+
+/// A list in a slice that is lent for writing.
+pub type SliceVec<'s, T> = ArrayVec<&'s mut [T]>;
+
+impl<S: Drop + Copy, L: Drop + Copy> Copy for ArrayVec<S, L> {}
+
+impl<S: Drop + Copy, L: Drop + Copy> Clone for ArrayVec<S, L> {
+    ghost is_clone = { λ v w. w ≡ v };
+
+    ghost is_infallible = { λ _. ⊤ };
+
+    fn clone(&self) -> Result<Self, AllocError> {
+        Ok(*self)
+    }
+}
+
+impl<S: Slots> ArrayVec<S> {
+    /// The number of items.
+    pub fn len(&self) -> usize
+        ensures value { result ≡ len_of S.Slots self.now }
+        ensures fits { result ≤ length (slots_of S.Slots self.now) }
+        ensures small { length (slots_of S.Slots self.now) < 2 ^ 64 }
+        ensures slot_count { S.Slots.Counts (slots_of S.Slots self.now) }
+    {
+        self.slots.used(&self.len)
+    }
+
+    /// The number of items that fit, which is that of the slots.
+    pub fn capacity(&self) -> usize
+        ensures value { result ≡ length (slots_of S.Slots self.now) }
+        ensures parts { result ≡ len_of S.Slots self.now + length (spare_of S.Slots self.now) }
+        ensures slot_count { S.Slots.Counts (slots_of S.Slots self.now) }
+    {
+        self.slots.all().len()
+    }
+
+    /// How many more items fit.
+    pub fn remaining_capacity(&self) -> usize
+        ensures value { result ≡ length (spare_of S.Slots self.now) }
+        ensures sum { len_of S.Slots self.now + result ≡ length (slots_of S.Slots self.now) }
+    {
+        self.capacity() - self.len()
+    }
+
+    /// Whether the list has no items.
+    pub fn is_empty(&self) -> bool
+        ensures { result ≡ (len_of S.Slots self.now == 0) }
+    {
+        self.len() == 0
+    }
+
+    /// Whether no more items fit.
+    pub fn is_full(&self) -> bool
+        ensures value { result ≡ (length (spare_of S.Slots self.now) == 0) }
+    {
+        self.len() >= self.capacity()
+    }
+
+    /// The items.
+    pub fn as_slice(&self) -> &[S::Item]
+        ensures { result.now ≡ items_of S.Slots self.now }
+    {
+        let slots = self.slots.all();
+        // The minimum is the length. It bounds the trip count of a loop over the items.
+        &slots[..self.len().min(slots.len())]
+    }
+
+    /// The spare slots.
+    pub fn grab_spare_slice(&self) -> &[S::Item]
+        ensures { result.now ≡ spare_of S.Slots self.now }
+    {
+        let len = self.len();
+        &self.slots.all()[len..]
+    }
+
+    /// Moves the border between the items and the spare slots. No slot is written.
+    pub fn set_len(&mut self, new_len: usize)
+        requires { new_len ≤ length (slots_of S.Slots self.old) }
+        ensures lender { SameLender S.Slots self.old self.new }
+        ensures value { view_of S.Slots self.new ≡ split_at new_len (slots_of S.Slots self.old) }
+        ensures fits { len_of S.Slots self.new ≡ new_len }
+    {
+        self.len = self.slots.to_len(new_len);
+    }
+
+    // Moves the items from `start` up to `end` after the others.
+    pub(crate) fn move_to_end(&mut self, start: usize, end: usize)
+        requires { Within start end (len_of S.Slots self.old) }
+        ensures { Gains S.Slots 0 self.old self.new
+            (remove_range (items_of S.Slots self.old) start end ++ slice_range (items_of S.Slots self.old) start end) }
+    {
+        let len = self.len();
+        move_to_end_below(self.slots.all_mut(), start, end, len);
+    }
+
+    /// The items, for writing.
+    pub fn as_mut_slice(&mut self) -> &mut [S::Item]
+        ensures* writes_back { sem 𝓛 (lends_items S.row S.Len.row S.Item.row S.Slots self.entry result) }
+        ensures value { result.now ≡ items_of S.Slots self.old }
+    {
+        let len = self.len();
+        part_of(self, 0, len)
+    }
+
+    /// The spare slots, for writing.
+    pub fn grab_spare_slice_mut(&mut self) -> &mut [S::Item]
+        ensures* writes_back { sem 𝓛 (lends_spare S.row S.Len.row S.Item.row S.Slots self.entry result) }
+        ensures value { result.now ≡ spare_of S.Slots self.old }
+    {
+        let len = self.len();
+        let all = self.capacity();
+        part_of(self, len, all)
+    }
+
+    /// The slots, spare slots too, for writing.
+    pub fn as_mut_slots(&mut self) -> &mut [S::Item]
+        ensures* writes_back { sem 𝓛 (lends_inner S.row S.Len.row S.Item.row S.Slots self.entry result) }
+        ensures value { result.now ≡ slots_of S.Slots self.old }
+    {
+        self.slots.all_mut()
+    }
+
+    ghost use Rattle.one_vec.specs.IterMut.{lends_iter};
+
+    /// Iterates over the items, in order or from the back.
+    pub fn iter(&self) -> slice::Iter<'_, S::Item>
+        ensures { Iterates (items_of S.Slots self.now) result }
+    {
+        self.as_slice().iter()
+    }
+
+    /// Iterates over the items for writing, in order or from the back.
+    pub fn iter_mut(&mut self) -> slice::IterMut<'_, S::Item>
+        ensures* writes_back { sem 𝓛 (lends_iter S.row S.Len.row S.Item.row S.Slots self.entry result) }
+        ensures yields { IteratesMut (items_of S.Slots self.old) result }
+    {
+        self.as_mut_slice().iter_mut()
+    }
+}
+
+impl<S: Slots> ArrayVec<S>
+where
+    S::Item: Default,
+{
+    // Takes the value of the spare slot at `i`, and leaves a default.
+    pub(crate) fn take_spare(&mut self, i: usize) -> S::Item
+        requires { i < length (spare_of S.Slots self.old) }
+        ensures lender { SameLender S.Slots self.old self.new }
+        ensures value { result ≡ slice_index_or (spare_of S.Slots self.old) i result }
+        ensures items { items_of S.Slots self.new ≡ items_of S.Slots self.old }
+        ensures spare { (d : S.Item) × S.Item.is_default d
+            × (spare_of S.Slots self.new ≡ slice_set (spare_of S.Slots self.old) i d) }
+    {
+        let len = self.len();
+        let most = self.slots.most();
+        let at = bounded_index(len, most) + bounded_index(i, most);
+        mem::take(&mut self.slots.all_mut()[at])
+    }
+
+    // Writes defaults into the first `n` spare slots, or none if there are fewer.
+    pub(crate) fn fill_spare_default(&mut self, n: usize)
+        ensures lender { SameLender S.Slots self.old self.new }
+        ensures items { items_of S.Slots self.new ≡ items_of S.Slots self.old }
+        ensures spare { n ≤ length (spare_of S.Slots self.old) → (ds : List S.Item) × AreDefaults S.Item.is_default n ds
+            × (spare_of S.Slots self.new ≡ ds ++ drop n (spare_of S.Slots self.old)) }
+        ensures none { length (spare_of S.Slots self.old) < n → self.new ≡ self.old }
+    {
+        let len = self.len();
+        if n <= self.capacity() - len {
+            let most = self.slots.most();
+            fill_default(self.slots.all_mut(), len, len + n, most);
+        }
+    }
+}
+
+impl<S: Slots> AsSlice<S::Item> for ArrayVec<S> {
+    ghost items = { items_of S.Slots };
+
+    fn as_slice(&self) -> &[S::Item] {
+        self.as_slice()
+    }
+}

@@ -1,0 +1,283 @@
+//! Items that are pushed, popped, inserted, removed and cut off.
+ghost use Rattle.std.specs.Prelude.{◌≡◌, ◌-◌, ◌<◌, ◌↔◌, [], ◌∷◌, ◌++◌, length, take, drop, slice_get, slice_index_or, IsSome, OnSome, IfNone, IfSome, ◌≤◌, ◌+◌, remove, insert, IsOk, OnOk, OnErr};
+ghost use Rattle.one_vec.specs.SliceVec.{items_of, spare_of, slots_of, len_of, items, spare, SameLender, Gains, Loses, Changes};
+ghost use Rattle.tinyvec_slots.specs.Ranges.{IsRangeOf, Within, before, after};
+ghost use Rattle.std.specs.Borrow.{sem};
+ghost use Rattle.std.specs.List.{swap_remove, SwappedAt};
+
+use crate::places::{bounded_index, prefers_shifting_in};
+use crate::{ArrayVec, CapacityError, Slots};
+use std::mem;
+use std::ops::{Range, RangeBounds};
+use tinyvec_slots::{
+    Gap, fill_default, insert_shifting, last_to, remove_shifting, resolve_range, slot_of,
+    splice_finish,
+};
+
+impl<S: Slots> ArrayVec<S> {
+    /// Appends `value`.
+    pub fn push(&mut self, value: S::Item)
+        requires { 0 < length (spare_of S.Slots self.old) }
+        ensures { Gains S.Slots 1 self.old self.new (items_of S.Slots self.old ++ value ∷ []) }
+    {
+        let len = self.len();
+        let at = bounded_index(len, self.slots.most());
+        self.slots.all_mut()[at] = value;
+        self.len = self.slots.to_len(len + 1);
+    }
+
+    /// Appends `value`, or returns it if the vector is full.
+    pub fn try_push(&mut self, value: S::Item) -> Option<S::Item>
+        ensures variant { IsSome result ↔ (length (spare_of S.Slots self.old) ≡ 0) }
+        ensures refused { IfSome result (λ y. (y ≡ value) × (self.new ≡ self.old)) }
+        ensures becomes { IfNone result (Gains S.Slots 1 self.old self.new (items_of S.Slots self.old ++ value ∷ [])) }
+    {
+        if self.is_full() {
+            return Some(value);
+        }
+        self.push(value);
+        None
+    }
+
+    ghost use Rattle.one_vec.specs.Lends.{lends_pushed};
+
+    /// Appends `value`, and returns it for writing.
+    pub fn push_mut(&mut self, value: S::Item) -> &mut S::Item
+        requires { 0 < length (spare_of S.Slots self.old) }
+        ensures* writes_back { sem 𝓛 (lends_pushed S.row S.Len.row S.Item.row S.Slots self.entry result) }
+        ensures value { result.now ≡ value }
+    {
+        let len = self.len();
+        self.len = self.slots.to_len(len + 1);
+        let slot = slot_of(self, len);
+        *slot = value;
+        slot
+    }
+
+    /// Inserts `element` at `index`, and moves the later items up.
+    pub fn insert(&mut self, index: usize, element: S::Item)
+        requires in_list { index ≤ len_of S.Slots self.old }
+        requires room { 0 < length (spare_of S.Slots self.old) }
+        ensures { Gains S.Slots 1 self.old self.new (insert (items_of S.Slots self.old) index element) }
+    {
+        self.put_in(index, element);
+    }
+
+    /// Inserts `element` at `index`, or returns it if the vector is full.
+    pub fn try_insert(&mut self, index: usize, element: S::Item) -> Option<S::Item>
+        requires { index ≤ len_of S.Slots self.old }
+        ensures variant { IsSome result ↔ (length (spare_of S.Slots self.old) ≡ 0) }
+        ensures refused { IfSome result (λ y. (y ≡ element) × (self.new ≡ self.old)) }
+        ensures becomes { IfNone result (Gains S.Slots 1 self.old self.new
+            (insert (items_of S.Slots self.old) index element)) }
+    {
+        if self.is_full() {
+            return Some(element);
+        }
+        self.insert(index, element);
+        None
+    }
+
+    ghost use Rattle.one_vec.specs.Lends.{lends_inserted, inserted_at};
+
+    /// Inserts `element` at `index`, moves the later items up, and returns the new item for writing.
+    pub fn insert_mut(&mut self, index: usize, element: S::Item) -> &mut S::Item
+        requires in_list { index ≤ len_of S.Slots self.old }
+        requires room { 0 < length (spare_of S.Slots self.old) }
+        ensures* writes_back { sem 𝓛 (lends_inserted S.row S.Len.row S.Item.row S.Slots self.entry index result) }
+        ensures value { result.now ≡ element }
+    {
+        self.put_in(index, element);
+        slot_of(self, index)
+    }
+
+    // Inserts `element` at `index`, by one write of the slots.
+    fn put_in(&mut self, index: usize, element: S::Item)
+        requires in_list { index ≤ len_of S.Slots self.old }
+        requires room { 0 < length (spare_of S.Slots self.old) }
+        ensures { self.new ≡ inserted_at S.Slots self.old index element }
+    {
+        let len = self.len();
+        let are_few = prefers_shifting_in(&self.slots, index, len);
+        self.len = self.slots.to_len(len + 1);
+        let slots = self.slots.all_mut();
+        if are_few {
+            insert_shifting(slots, index, len, element);
+            return;
+        }
+        slots[len] = element;
+        last_to(slots, index, len + 1);
+    }
+
+    // Swaps the items at `i` and `j`.
+    fn swap_items(&mut self, i: usize, j: usize)
+        requires first { i < len_of S.Slots self.old }
+        requires second { j < len_of S.Slots self.old }
+        ensures lender { SameLender S.Slots self.old self.new }
+        ensures swapped { SwappedAt (items_of S.Slots self.old) (items_of S.Slots self.new) i j }
+        ensures len { len_of S.Slots self.new ≡ len_of S.Slots self.old }
+        ensures spare { spare_of S.Slots self.new ≡ spare_of S.Slots self.old }
+    {
+        self.as_mut_slice().swap(i, j);
+    }
+}
+
+impl<S: Slots> ArrayVec<S>
+where
+    S::Item: Default,
+{
+    /// Removes the last item and returns it. Its slot is reset to a default.
+    pub fn pop(&mut self) -> Option<S::Item>
+        ensures variant { IsSome result ↔ (0 < len_of S.Slots self.old) }
+        ensures becomes { OnSome result (Loses S.Slots S.Item.is_default 1 self.old self.new
+            (take (len_of S.Slots self.old - 1) (items_of S.Slots self.old))) }
+        ensures some { IfSome result (λ x. items_of S.Slots self.old ≡ items_of S.Slots self.new ++ x ∷ []) }
+        ensures value { result ≡ slice_get (items_of S.Slots self.old) (len_of S.Slots self.old - 1) }
+        ensures none { IfNone result (self.new ≡ self.old) }
+    {
+        if self.is_empty() {
+            return None;
+        }
+        Some(self.take_last())
+    }
+
+    // Takes the last item.
+    pub(crate) fn take_last(&mut self) -> S::Item
+        requires { 0 < len_of S.Slots self.old }
+        ensures becomes { Loses S.Slots S.Item.is_default 1 self.old self.new
+            (take (len_of S.Slots self.old - 1) (items_of S.Slots self.old)) }
+        ensures last { items_of S.Slots self.old ≡ items_of S.Slots self.new ++ result ∷ [] }
+        ensures value { result ≡ slice_index_or (items_of S.Slots self.old) (len_of S.Slots self.old - 1) result }
+    {
+        let last = self.len() - 1;
+        let at = bounded_index(last, self.slots.most());
+        let item = mem::take(&mut self.slots.all_mut()[at]);
+        // Written last, so that LLVM knows the length in a loop of pops.
+        self.len = self.slots.to_len(last);
+        item
+    }
+}
+
+impl<S: Slots> ArrayVec<S>
+where
+    S::Item: Default,
+{
+    /// Removes the item at `index` and returns it. The later ones move down.
+    pub fn remove(&mut self, index: usize) -> S::Item
+        requires { index < len_of S.Slots self.old }
+        ensures value { result ≡ slice_index_or (items_of S.Slots self.old) index result }
+        ensures becomes { Loses S.Slots S.Item.is_default 1 self.old self.new (remove (items_of S.Slots self.old) index) }
+    {
+        let len = self.len();
+        if prefers_shifting_in(&self.slots, index, len) {
+            let item = remove_shifting(self.slots.all_mut(), index, len);
+            self.len = self.slots.to_len(len - 1);
+            return item;
+        }
+        self.move_to_end(index, index + 1);
+        self.take_last()
+    }
+
+    /// Removes the item at `index` and returns it, or returns `None` if the list has no such item. The later ones move
+    /// down.
+    pub fn pop_at(&mut self, index: usize) -> Option<S::Item>
+        ensures variant { IsSome result ↔ (index < len_of S.Slots self.old) }
+        ensures value { result ≡ slice_get (items_of S.Slots self.old) index }
+        ensures becomes { OnSome result (Loses S.Slots S.Item.is_default 1 self.old self.new
+            (remove (items_of S.Slots self.old) index)) }
+        ensures none { IfNone result (self.new ≡ self.old) }
+    {
+        if index >= self.len() {
+            return None;
+        }
+        Some(self.remove(index))
+    }
+
+    /// Removes the item at `index` and returns it. The last one takes its place.
+    pub fn swap_remove(&mut self, index: usize) -> S::Item
+        requires { index < len_of S.Slots self.old }
+        ensures value { result ≡ slice_index_or (items_of S.Slots self.old) index result }
+        ensures becomes { Loses S.Slots S.Item.is_default 1 self.old self.new
+            (swap_remove (items_of S.Slots self.old) index result) }
+    {
+        let last = self.len() - 1;
+        self.swap_items(index, last);
+        self.take_last()
+    }
+}
+
+impl<S: Slots> ArrayVec<S>
+where
+    S::Item: Default,
+{
+    /// Keeps the first `new_len` items, or all if there are no more. Each vacated slot is reset to a default.
+    pub fn truncate(&mut self, new_len: usize)
+        ensures { Loses S.Slots S.Item.is_default (len_of S.Slots self.old - new_len) self.old self.new
+            (take new_len (items_of S.Slots self.old)) }
+    {
+        let len = self.len();
+        if new_len < len {
+            let most = self.slots.most();
+            fill_default(self.slots.all_mut(), new_len, len, most);
+            self.len = self.slots.to_len(new_len);
+        }
+    }
+
+    /// Empties the list. Each vacated slot is reset to a default.
+    pub fn clear(&mut self)
+        ensures { Loses S.Slots S.Item.is_default (len_of S.Slots self.old) self.old self.new [] }
+    {
+        self.truncate(0);
+    }
+}
+
+impl<S: Slots> ArrayVec<S>
+where
+    S::Item: Default,
+{
+    /// Puts copies of the slice's items in the place of the range, whose items it drops. If they don't fit, fails and
+    /// changes nothing.
+    ///
+    /// `not_exhausted` fails only for a `RangeInclusive` that was iterated to its end.
+    pub fn replace_range<R: RangeBounds<usize>>(
+        &mut self,
+        range: R,
+        replacement: &[S::Item],
+    ) -> Result<(), CapacityError>
+    where
+        S::Item: Copy,
+        requires not_exhausted { R.has_bounds range }
+        requires in_list { IsRangeOf (items_of S.Slots self.old) (R.start_bound range) (R.end_bound range) }
+        ensures variant { IsOk result ↔ (length (before (items_of S.Slots self.old) (R.start_bound range))
+            + length replacement.now + length (after (items_of S.Slots self.old) (R.end_bound range))
+            ≤ length (slots_of S.Slots self.old)) }
+        ensures items { OnOk result (items_of S.Slots self.new
+            ≡ before (items_of S.Slots self.old) (R.start_bound range) ++ replacement.now
+            ++ after (items_of S.Slots self.old) (R.end_bound range)) }
+        ensures changes { Changes S.Slots S.Item.is_default self.old self.new }
+        ensures refused { OnErr result (self.new ≡ self.old) }
+    {
+        let part = resolve_range(range, self.len());
+        let kept = self.len() - (part.end - part.start);
+        if replacement.len() > self.capacity() - kept {
+            return Err(CapacityError);
+        }
+        self.replace_part(part, replacement);
+        Ok(())
+    }
+
+    // `replace_range` of a list that has room.
+    fn replace_part(&mut self, part: Range<usize>, replacement: &[S::Item])
+    where
+        S::Item: Copy,
+        requires in_list { Within part.start part.end (len_of S.Slots self.old) }
+        requires room { length (take part.start (items_of S.Slots self.old)) + length replacement.now
+            + length (drop part.end (items_of S.Slots self.old)) ≤ length (slots_of S.Slots self.old) }
+        ensures items { items_of S.Slots self.new ≡ take part.start (items_of S.Slots self.old) ++ replacement.now
+            ++ drop part.end (items_of S.Slots self.old) }
+        ensures changes { Changes S.Slots S.Item.is_default self.old self.new }
+    {
+        let copies = replacement.iter().copied().fuse();
+        let (_all_fit, _touches) = splice_finish(self, Gap::new(part.start, part.end), copies);
+    }
+}

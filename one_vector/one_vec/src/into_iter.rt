@@ -1,0 +1,44 @@
+//! The iterator that owns its items.
+ghost use Rattle.std.specs.Prelude.{codes, All};
+
+use crate::places::bounded_index;
+use crate::{Array, ArrayVec, Slots};
+use std::alloc::AllocError;
+use std::mem;
+use tinyvec_slots::{InSlots, OwnedItems, OwnsItems};
+
+/// Yields the items of a vector from both ends.
+pub type ArrayVecIterator<A> = OwnedItems<ArrayVec<A>>;
+
+impl<A: Array> OwnsItems for ArrayVec<A> {
+    ghost name = { codes "ArrayVecIterator" };
+
+    ghost infallible = { λ I. All I };
+
+    fn iterator_name() -> &'static str {
+        "ArrayVecIterator"
+    }
+
+    #[inline]
+    fn as_slice(&self) -> &[A::Item] {
+        self.as_slice()
+    }
+
+    #[inline]
+    fn take_at(&mut self, i: usize) -> A::Item {
+        let slots = self.slots_mut();
+        let at = bounded_index(i, slots.len());
+        mem::take(&mut slots[at])
+    }
+
+    fn clone_items(&self, part: &[A::Item]) -> Result<Self, AllocError>
+    where
+        A::Item: Clone,
+    {
+        // Tells the proof that a part of the list fits an array.
+        let _len = self.len();
+        let mut vec = ArrayVec::new();
+        vec.extend_from_slice(part)?;
+        Ok(vec)
+    }
+}
