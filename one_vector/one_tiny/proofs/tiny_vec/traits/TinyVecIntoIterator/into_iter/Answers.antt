@@ -1,5 +1,0 @@
-use Rattle.one_tiny.proofs.IntoIterLemmas.{iterates_over}
-use Rattle.one_tiny.proofs.tiny_vec.traits.TinyVecIntoIterator.into_iter.Goals as goal
-
-pub returns : goal.returns
-returns g c = record { into_iter_gives = iterates_over _ _ c.into_items.ensures.items c.into_items.ensures.bound }

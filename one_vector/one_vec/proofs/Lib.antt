@@ -1,7 +1,0 @@
-pub mod ViewLemmas
-pub mod InsertedLemmas
-pub mod AppendsLemmas
-pub mod DrainLemmas
-pub mod SpliceLemmas
-pub mod IntoIterLemmas
-mod ResizingLemmas
