@@ -29,6 +29,7 @@ COPIED = CLEARED | {
 INLINE = COPIED | {
     # Calls that they lack, in rows that are left out.
     r"(self|vec)\.(splice|replace_range)\(.*\)": "false",
+    r"(?s)(fn splice_more<[^{]*\{\n).*?\n\}": r"\1    0\n}",
     r"ArrayVec::dedup\(self\);": "",
     r"(ArrayVec|TinyVec|\$vec)(::)?<\[([$\w]+); (\w+)\]>": r"\1\2<\3, \4>",
     # Its `len` says that a list fits, these three calls do not.
