@@ -28,7 +28,7 @@ returns-in_err-note-clause-fails g c =
     let station = c.in_ok-station.ensures in
     let samples = c.in_ok-samples.ensures in
     let same = map-id (items c.in_ok-samples.samples) in
-    rw (p.1, p.2) (fails-second (SpellsNumber 4) StationFits (TooFewBytes 4) ListsReason (number_apart 4 (lit< tt) StationFits).front_is_cut _ station.ok station.valid station.fails.grows
+    rw (p.1, p.2) (fails-second (SpellsNumber 4) StationFits (TooFewBytes 4) ListsReason (number_apart 4 (lit< tt) StationFits).front_is_cut _ {mid = record { inner = _; faults = _; failed = 0 }} station.ok station.valid station.fails.grows
     (fails-second SpellsSamples SamplesFit SamplesReason NoteReason {U = Unit {0}} samples_apart.front_is_cut _ (rw same at samples.ok) (subst SamplesFit same samples.valid) samples.fails.grows c.in_err-note.ensures.fails))
 
 pub returns-clause-ok : goal.returns-clause-ok
@@ -38,8 +38,8 @@ returns-clause-ok g c =
     takes-both (SpellsNumber 4) (SpellsBoth SpellsSamples SpellsNote) _ _ _ _ _ c.in_ok-station.ensures.ok
     (takes-both SpellsSamples SpellsNote _ _ _ _ _ (rw samples at c.in_ok-samples.ensures.ok) (rw note at c.in_ok-note.ensures.ok))
 
-pub returns-clause-fits : goal.returns-clause-fits
-returns-clause-fits g c =
+pub returns-clause-valid : goal.returns-clause-valid
+returns-clause-valid g c =
     let samples = map-id (items c.in_ok-samples.samples) in
     let note = map-id (tiny_items c.in_ok-note.note) in
     (c.in_ok-station.ensures.valid, (subst SamplesFit samples c.in_ok-samples.ensures.valid, rw note at c.in_ok-note.ensures.valid))

@@ -28,6 +28,6 @@ returns-clause-writes g c =
     writes-both c.serialize-3.result ((number_code 4 (lit< tt)).one_spelling c.args.self.now.station) c.in_ok-serialize.ensures.writes
     (writes-both c.serialize-3.result (samples_code.one_spelling (items c.args.self.now.samples)) (rw samples at c.in_ok-serialize-2.ensures.writes) (rw note at c.serialize-3.ensures.writes))
 
-pub returns-clause-fits : goal.returns-clause-fits
-returns-clause-fits g c =
+pub returns-clause-valid : goal.returns-clause-valid
+returns-clause-valid g c =
     on-ok c.serialize-3.result (λ fits. (c.in_ok-serialize.ensures.valid, (subst SamplesFit (map-id _) c.in_ok-serialize-2.ensures.valid, subst NoteFits (map-id _) fits))) c.serialize-3.ensures.valid
