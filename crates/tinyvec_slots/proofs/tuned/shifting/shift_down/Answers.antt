@@ -1,6 +1,7 @@
 use Rattle.std.proofs.Common.{◌≡◌, ◌<◌, ◌≤◌, ◌+◌, ◌-◌, ◌∙◌, sym, ap, arith, rules, get_or, set, insert, remove, length, length-set, ◌++◌, ◌∷◌, []}
 use Rattle.std.proofs.lemmas.List.{places}
-use Rattle.tinyvec_slots.proofs.Lists.{insert_shifted_down, insert_taken, insert_removed, remove_in_front}
+use Rattle.std.proofs.lemmas.List.Edits.{remove-append_left}
+use Rattle.tinyvec_slots.proofs.Lists.{insert_shifted_down, insert_taken, insert_removed}
 use Rattle.tinyvec_slots.proofs.tuned.shifting.shift_down.Goals as goal
 
 pub loop-i-preserved : goal.loop-i-preserved
@@ -43,4 +44,4 @@ returns-clause-after g c =
     let at : i ≡ c.args.index = search rules in
     let le : i ≤ length c.loop-i.items = search rules in
     sym (insert_removed c.loop-i.items i c.loop-i.held le) ∙ ap (λ l. remove l i) inv.inserted ∙ ap (λ n. remove (xs ++ x ∷ []) n) at
-    ∙ remove_in_front xs c.args.index x c.requires
+    ∙ remove-append_left xs (x ∷ []) c.args.index c.requires

@@ -1,4 +1,4 @@
-use Rattle.std.proofs.Common.{◌≡◌, ◌<◌, ◌≤◌, ◌+◌, ◌∙◌, sym, ap, rules, get_or, set, take, drop, insert, length, length-set, take_all, ◌++◌, ◌∷◌, []}
+use Rattle.std.proofs.Common.{◌≡◌, ◌<◌, ◌≤◌, ◌+◌, ◌∙◌, ap, rules, get_or, set, insert, length, length-set, take_all}
 use Rattle.std.proofs.lemmas.List.{drop_all}
 use Rattle.tinyvec_slots.proofs.Lists.{insert_shifted}
 use Rattle.tinyvec_slots.proofs.tuned.shifting.shift_up.Goals as goal
@@ -20,8 +20,5 @@ returns g c =
     let inv = c.loop-i.invariant in
     let items = c.loop-i.items in
     let i = c.loop-i.i in
-    let x = c.loop-i.held in
     let le : length items ≤ i = search rules in
-    let all : take i items ≡ items = take_all i items le in
-    let none : drop i items ≡ [] = drop_all i items le in
-    sym (ap (λ l. l ++ x ∷ drop i items) all ∙ ap (λ l. items ++ x ∷ l) none) ∙ inv.0
+    rw (take_all i items le, drop_all i items le) at inv.0
