@@ -1,12 +1,14 @@
 -- Lemmas on items that are placed one by one.
-use Rattle.std.proofs.Common.{◌≡◌, ℕ, ◌+◌, ◌-◌, ◌<◌, ◌≤◌, List, ◌∷◌, ◌++◌, [], Option, Some, None, length, get_or, take, drop, set, inl, inr, true≢false, refl, sym, ap, subst, ◌∙◌, arith, rules, length-take, length-drop, length-append, drop-set-lt, append-nil, take_at, map, map-id}
+use Rattle.std.proofs.Common.{◌≡◌, ℕ, ◌+◌, ◌-◌, ◌<◌, ◌≤◌, List, ◌∷◌, ◌++◌, [], Option, Some, None, length, get_or, take, drop, set, inl, inr, true≢false, refl, sym, ap, subst, ◌∙◌, arith, length-take, length-drop, length-append, drop-set-lt, append-nil, take_at, map, map-id}
 use Rattle.std.proofs.lemmas.Bool.{cases_lt}
-use Rattle.std.proofs.lemmas.List.{drop-drop, drop_at, drop_all, take_all, get_or-drop, length_push, take_more}
+use Rattle.std.proofs.lemmas.Grind.{drop_more_same}
+use Rattle.std.proofs.lemmas.List.{drop-drop, drop_at, drop_all, take_all, length_push, take_more, nil_from_length}
 use Rattle.std.proofs.iter.Yields.{gives_left, gives_Drains}
 use Rattle.std.specs.Iterator.{Yields, YieldsThen, AlwaysYields}
 use Rattle.std.specs.Prelude.{Ok, Err}
 use Rattle.tinyvec_slots.specs.Filling.{YieldsUpTo, ShowsItems, Fills, Extends}
 use Rattle.tinyvec_slots.specs.Slots.{Slots, Vacates, SlotRule, items, spare, items_len}
+use Rattle.tinyvec_slots.proofs.Lists.{same_at}
 use Rattle.tinyvec_slots.proofs.SlotsLemmas.{slots_used, slots_freed}
 
 -- one more item used up one more spare slot
@@ -14,9 +16,8 @@ pub spare_after : {T : Type 0} (old mid new : Slots T) (x : T) → items_len old
     → spare mid ≡ drop (items_len mid - items_len old) (spare old) → spare new ≡ drop 1 (spare mid)
     → spare new ≡ drop (items_len new - items_len old) (spare old)
 spare_after old mid new x le more before after =
-    let grown : items_len new ≡ items_len mid + 1 = ap length more ∙ length_push (items mid) x in
-    let used : items_len mid - items_len old + 1 ≡ items_len new - items_len old = omega (arith, grown) in
-    after ∙ ap (drop 1) before ∙ drop-drop 1 (items_len mid - items_len old) (spare old) ∙ ap (λ k. drop k (spare old)) used
+    let used : items_len mid - items_len old + 1 ≡ items_len new - items_len old = omega (arith, ap length more, length_push (items mid) x) in
+    after ∙ rw (before, drop-drop, used)
 
 module _ {S A : Type 0} (steps : S → Option A → S → Type 0) (n : ℕ) (s : S) (xs : List A) (u : S) where
   -- the calls ended with the last item that there was room for
@@ -39,20 +40,11 @@ module _ {X : Type 0} (from first : List X) (i : ℕ) where
   -- what stands at i of a list that is left from i on as it was
   pub one_taken : (x : X) → i < length first → drop i from ≡ drop i first → x ≡ get_or from i x
       → take (i + 1) first ≡ take i first ++ x ∷ []
-  one_taken x lt rest is =
-      let zero : i + 0 ≡ i = omega arith in
-      let head : (l : List X) → get_or (drop i l) 0 x ≡ get_or l i x = λ l. get_or-drop i l 0 x ∙ ap (λ k. get_or l k x) zero in
-      let same : get_or first i x ≡ x = sym (head first) ∙ ap (λ l. get_or l 0 x) (sym rest) ∙ head from ∙ sym is in
-      take_more first i x lt ∙ ap (λ y. take i first ++ y ∷ []) same
+  one_taken x lt rest is = rw (take_more first i x lt, ← same_at from first i x rest, ← is)
 
   -- what lies behind it stays as it was
   pub rest_after_one : (d : X) → drop i from ≡ drop i first → drop (i + 1) (set from i d) ≡ drop (i + 1) first
-  rest_after_one d rest =
-      drop-set-lt (i + 1) from i d (omega arith) ∙ sym (drop-drop 1 i from) ∙ ap (drop 1) rest ∙ drop-drop 1 i first
-
-none_of : {T : Type 0} (ds : List T) → length ds ≡ 0 → (xs : List T) → ds ++ xs ≡ xs
-none_of [] e xs = search rules
-none_of (d ∷ ds) e xs = search (rules, arith)
+  rest_after_one d rest = drop-set-lt (i + 1) from i d (omega arith) ∙ drop_more_same from first i rest
 
 -- a list that is cut to n items, and then filled up to as many
 pub slots_resized : {T : Type 0} (D : T → Type 0) (old mid new : Slots T) (n : ℕ) → items mid ≡ take n (items old)
@@ -63,13 +55,12 @@ slots_resized D old mid new n cut frees le long used =
     elim (cases_lt (items_len old) n) [
       | inl more ↦
           let none : items_len old - n ≡ 0 = omega (arith, more) in
-          let same : spare mid ≡ spare old = frees.2 ∙ none_of frees.0 (frees.1.0 ∙ none) (spare old) in
+          let same : spare mid ≡ spare old = frees.2 ∙ rw (nil_from_length frees.0 (frees.1.0 ∙ none)) in
           let count : items_len new - items_len mid ≡ n - items_len old = omega (arith, more, short, long) in
-          slots_used D old new (n - items_len old) (omega (arith, more, long)) (used ∙ ap (drop (items_len new - items_len mid)) same ∙ ap (λ k. drop k (spare old)) count)
+          slots_used D old new (n - items_len old) (omega (arith, more, long)) (used ∙ rw (same, count))
       | inr less ↦
           let none : items_len new - items_len mid ≡ 0 = omega (arith, less, short, long) in
-          let same : spare new ≡ spare mid = used ∙ ap (λ k. drop k (spare mid)) none in
-          slots_freed D old new (items_len old - n) (omega (arith, less, long)) (frees.0, frees.1, same ∙ frees.2)
+          slots_freed D old new (items_len old - n) (omega (arith, less, long)) (frees.0, frees.1, rw (used, none) frees.2)
     ]
 
 -- of an iterator whose items `rest` shows
@@ -80,8 +71,7 @@ module _ {S A : Type 0} (steps : S → Option A → S → Type 0) (rest : S → 
 
   pub drained : (s : S) (xs : List A) (u : S) → YieldsThen steps s xs None u → rest s ≡ xs
   drained s xs u run =
-      let none = shows run.0 None u run.2 in
-      yielded s xs run.0 run.1 ∙ ap (λ l. xs ++ l) none.0 ∙ append-nil xs
+      yielded s xs run.0 run.1 ∙ rw ((shows run.0 None u run.2).0, append-nil)
 
   pub refused : (s : S) (xs : List A) (x : A) (u : S) → YieldsThen steps s xs (Some x) u → rest s ≡ xs ++ x ∷ rest u
   refused s xs x u run = yielded s xs run.0 run.1 ∙ ap (λ l. xs ++ l) (shows run.0 (Some x) u run.2)
@@ -93,12 +83,10 @@ module _ {S A : Type 0} (steps : S → Option A → S → Type 0) (rest : S → 
       elim (cases_lt (length xs) n) [
         | inl less ↦
             let all = drained s xs u (run.ended less) in
-            let le : length (rest s) ≤ n = omega (arith, less, ap length all) in
-            (sym all ∙ sym (take_all n (rest s) le), (shows _ None u (run.ended less).2).1 ∙ sym (drop_all n (rest s) le))
+            rw (all, take_all n xs (omega arith), drop_all n xs (omega arith)) (refl, (shows _ None u (run.ended less).2).1)
         | inr more ↦
             let full : length xs ≡ n = omega (arith, more, run.at_most_n) in
-            let all = yielded s xs u (run.stopped full) in
-            (sym (take_at xs (rest u) n full) ∙ ap (take n) (sym all), sym (drop_at xs (rest u) n full) ∙ ap (drop n) (sym all))
+            rw (yielded s xs u (run.stopped full), take_at xs (rest u) n full, drop_at xs (rest u) n full) (refl, refl)
       ]
 
 -- whether something lies behind the first n
