@@ -1,35 +1,26 @@
 -- The turns of the loops that keep some items of a slice.
-use Rattle.std.proofs.Common.{cond, ◌⊎◌, inl, inr, ◌≡◌, ℕ, zero, suc, ◌+◌, ◌-◌, ◌<◌, ◌≤◌, Bool, true, false, List, [], ◌∷◌, ◌++◌, length, get_or, set, take, drop, swap, refl, sym, ap, ◌∙◌, arith, length-set, drop-set-lt}
-use Rattle.std.proofs.lemmas.List.{drop_more, get_or-set_same, set-get_or, take-set-le, take-set, take-take, take_more_set, get_or-take, set_comm}
+use Rattle.std.proofs.Common.{cond, ◌≡◌, ℕ, suc, ◌+◌, ◌-◌, ◌<◌, ◌≤◌, Bool, true, false, List, [], ◌∷◌, ◌++◌, length, get_or, set, take, drop, swap, refl, sym, ap, ◌∙◌, arith, rules, length-set, drop-set-lt}
+use Rattle.std.proofs.lemmas.List.{same_lists, places, get_or_default, drop_more, get_or-set_same, set-get_or, take-set-le, take-set, take-take, take_more_set, get_or-take, set_comm}
 use Rattle.std.proofs.lemmas.List.Edits.{swap_is}
-use Rattle.std.proofs.lemmas.Bool.{cases_lt}
+use Rattle.std.proofs.lemmas.Bool.{cases_eq}
 use Rattle.tinyvec_slots.proofs.LastStateLemmas.{RetainMutInvariant, sift_on, DedupInvariant, merge_on}
 use Rattle.std.specs.List.{items_where_true}
 use Rattle.tinyvec_slots.specs.Filters.{AsksPair, RetainsTo, IsFilteredTo}
 
 -- after a swap of k and i, what stood at i stands behind the first k items, and those past i are the same
 module _ {X : Type 0} (ys : List X) (k i : ℕ) (x : X) (le : k ≤ i) (lt : i < length ys) (is : x ≡ get_or ys i x) where
-  -- the item goes down, or stays in its place
-  front_at : (k < i) ⊎ (i ≤ k) → take (k + 1) (set (set ys k (get_or ys i x)) i (get_or ys k x)) ≡ take k ys ++ x ∷ []
-  front_at (inl below) =
-      take-set-le (k + 1) (set ys k (get_or ys i x)) i (get_or ys k x) (omega arith)
-      ∙ take_more_set ys k (get_or ys i x) (omega arith) ∙ ap (λ y. take k ys ++ y ∷ []) (sym is)
-  front_at (inr same) =
-      let at : i ≡ k = omega arith in
-      ap (λ j. take (k + 1) (set (set ys k (get_or ys i x)) j (get_or ys k x))) at
-      ∙ take_more_set (set ys k (get_or ys i x)) k (get_or ys k x) (omega (arith, length-set ys k (get_or ys i x)))
-      ∙ (λ t. take-set ys k (get_or ys i x) t ++ get_or ys (sym at t) x ∷ []) ∙ ap (λ y. take k ys ++ y ∷ []) (sym is)
-
   swapped_front : take (k + 1) (swap ys k i) ≡ take k ys ++ x ∷ []
-  swapped_front = ap (take (k + 1)) (sym (swap_is ys k i x (omega arith) lt)) ∙ front_at (cases_lt k i)
+  swapped_front =
+      let one = length-set ys k (get_or ys i x) in
+      rw (← swap_is ys k i x (omega arith) lt)
+      (same_lists _ _ (search (rules, places)) (λ m e h. grind (arith, places, get_or-set_same, cases_eq m k, cases_eq k i, get_or_default ys i e x)))
 
   swapped_behind : drop (i + 1) (swap ys k i) ≡ drop (i + 1) ys
   swapped_behind =
-      ap (drop (i + 1)) (sym (swap_is ys k i x (omega arith) lt)) ∙ drop-set-lt (i + 1) (set ys k (get_or ys i x)) i (get_or ys k x) (omega arith)
-      ∙ drop-set-lt (i + 1) ys k (get_or ys i x) (omega arith)
+      rw (← swap_is ys k i x (omega arith) lt, drop-set-lt (i + 1) (set ys k (get_or ys i x)) i (get_or ys k x) (omega arith), drop-set-lt (i + 1) ys k (get_or ys i x) (omega arith))
 
   pub item_at : take 1 (drop i ys) ≡ x ∷ []
-  item_at = ap (take 1) (drop_more ys i x lt) ∙ ap (λ y. y ∷ []) (sym is)
+  item_at = rw (drop_more ys i x lt, ← is)
 
 module _ {S X : Type 0} (R : S → X → Bool → S → X → Type 0) (last : S) where
   -- the invariant reads the first k items and those from i on
@@ -138,16 +129,8 @@ module _ {S X : Type 0} (R : S → X → X → Bool → S → X → X → Type 0
         (merge_on R last s₀ xs s t ys k i a.shown a.beside a.left a.left_beside pos le lt a.shows.0 a.shows.1 h false a.asked).1
 
 module _ {X : Type 0} where
-  write_behind : (xs : List X) (i : ℕ) (x : X) → take i xs ++ set (drop i xs) 0 x ≡ set xs i x
-  write_behind [] zero x = refl
-  write_behind [] (suc i) x = refl
-  write_behind (z ∷ xs) zero x = refl
-  write_behind (z ∷ xs) (suc i) x = ap (λ l. z ∷ l) (write_behind xs i x)
-
   -- writes to the two parts of a slice that was cut at i
   pub joined_writes : (xs : List X) (i j : ℕ) (x y : X) → j < i → set (take i xs) j y ++ set (drop i xs) 0 x ≡ set (set xs i x) j y
-  joined_writes xs zero j x y lt = absurd (omega (arith, lt))
-  joined_writes [] (suc i) zero x y lt = refl
-  joined_writes [] (suc i) (suc j) x y lt = refl
-  joined_writes (z ∷ xs) (suc i) zero x y lt = ap (λ l. y ∷ l) (write_behind xs i x)
-  joined_writes (z ∷ xs) (suc i) (suc j) x y lt = ap (λ l. z ∷ l) (joined_writes xs i j x y (omega (arith, lt)))
+  joined_writes xs i j x y lt =
+      let long = length-set xs i x in
+      same_lists _ _ (search (rules, places)) (λ k e h. grind (arith, places, get_or-set_same, length-set (take i xs) j y, length-set (drop i xs) 0 x, cases_eq k j, cases_eq k i))

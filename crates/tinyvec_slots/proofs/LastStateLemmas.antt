@@ -1,31 +1,17 @@
 -- The invariants of the loops that keep some items of a slice, with the state in which the last question leaves the closure.
 -- `Rattle.std.proofs.RetainMut` has them for std's words, which hide that state. These are its proofs over the words that name it, of
 -- which `last` is a variable. At the end std's words follow.
-use Rattle.std.proofs.Common.{◌≡◌, refl, sym, ap, subst, ◌∙◌, Bool, true, false, cond, not, List, [], ◌∷◌, ◌++◌, append-nil, append_assoc, ℕ, zero, suc, ◌+◌, ◌-◌, ◌≤◌, ◌<◌, arith, length, get_or, set, take, drop, length-set, drop-cons, drop-set-lt, drop_of_length-le, take-suc, take-suc-set, get_or-set_same, MatchBool}
-use Rattle.std.proofs.lemmas.List.{take-set-le, get_or_default}
+use Rattle.std.proofs.Common.{◌≡◌, refl, sym, ap, subst, ◌∙◌, Bool, true, false, cond, not, List, [], ◌∷◌, ◌++◌, append-nil, append_assoc, ℕ, suc, ◌+◌, ◌-◌, ◌≤◌, ◌<◌, arith, length, get_or, set, take, drop, length-set, drop-set-lt, drop_of_length-le, take-suc, take-suc-set, get_or-set_same, MatchBool}
+use Rattle.std.proofs.lemmas.Grind.{drop_more_same}
+use Rattle.std.proofs.lemmas.List.{drop_more, take_more_set, take-set-le, get_or_default}
 use Rattle.std.specs.List.Retain.{RetainsInTurn, IsFiltered, DedupsFrom, DedupsAll, IsDeduped}
+use Rattle.tinyvec_slots.proofs.Lists.{an_element}
 use Rattle.tinyvec_slots.specs.Filters.{RetainsTo, IsFilteredTo, DedupsFromTo, DedupsAllTo, IsDedupedTo}
 
 module _ {X : Type 0} where
   -- from i on the two lists are one, and x stands there
   next : (xs ys : List X) (i : ℕ) (x : X) → i < length ys → x ≡ get_or ys i x → drop i ys ≡ drop i xs → drop i xs ≡ x ∷ drop (i + 1) ys
-  next xs ys i x lt is same =
-      let on : suc i ≡ i + 1 = omega arith in
-      sym same ∙ drop-cons ys i x lt ∙ (λ t. sym is t ∷ drop (on t) ys)
-
-  one : (xs : List X) → 0 < length xs → X
-  one [] p = absurd (omega arith)
-  one (x ∷ xs) p = x
-
-  drop_more : (i : ℕ) (xs : List X) → drop (suc i) xs ≡ drop 1 (drop i xs)
-  drop_more zero xs = refl
-  drop_more (suc i) [] = refl
-  drop_more (suc i) (x ∷ xs) = drop_more i xs
-
-  past : (xs ys : List X) (i : ℕ) → drop i ys ≡ drop i xs → drop (i + 1) ys ≡ drop (i + 1) xs
-  past xs ys i e =
-      let on : suc i ≡ i + 1 = omega arith in
-      subst (λ j. drop j ys ≡ drop j xs) on (drop_more i ys ∙ ap (drop 1) e ∙ sym (drop_more i xs))
+  next xs ys i x lt is same = sym same ∙ drop_more ys i x lt ∙ (λ t. sym is t ∷ drop (i + 1) ys)
 
 module _ {S X : Type 0} (R : S → X → Bool → S → X → Type 0) (last s₀ : S) (xs : List X) where
   -- k elements have stayed of the first i, ys is xs from i on, and the calls go on at s
@@ -35,14 +21,13 @@ module _ {S X : Type 0} (R : S → X → Bool → S → X → Type 0) (last s₀
   module _ (s t : S) (ys : List X) (k i : ℕ) (x y : X) (le : k ≤ i) (lt : i < length ys) (is : x ≡ get_or ys i x) (h : RetainMutInvariant s ys k i) where
     pub sift_on : (b : Bool) → R s x b t y → RetainMutInvariant t (set (set ys i y) k y) (cond b (k + 1) k) (i + 1)
     sift_on true r =
-        let on = past xs ys i h.0 in
-        let more : k + 1 ≡ suc k = omega arith in (
+        let on = drop_more_same ys xs i h.0 in (
           drop-set-lt (i + 1) (set ys i y) k y (omega arith) ∙ drop-set-lt (i + 1) ys i y (omega arith) ∙ on,
-          λ zs g. subst (λ l. RetainsTo R s₀ xs l last) (sym (ap (λ l. l ++ zs) (ap (λ j. take j (set (set ys i y) k y)) more ∙ take-suc-set (set ys i y) k y (omega (arith, length-set ys i y)) ∙ ap (λ l. l ++ y ∷ []) (take-set-le k ys i y le)) ∙ append_assoc (take k ys) (y ∷ []) zs))
+          λ zs g. subst (λ l. RetainsTo R s₀ xs l last) (sym (ap (λ l. l ++ zs) (take_more_set (set ys i y) k y (omega (arith, length-set ys i y)) ∙ ap (λ l. l ++ y ∷ []) (take-set-le k ys i y le)) ∙ append_assoc (take k ys) (y ∷ []) zs))
               (h.1 (y ∷ zs) (subst (λ l. RetainsTo R s l (y ∷ zs) last) (sym (next xs ys i x lt is h.0)) (true, t, y, r, zs, subst (λ l. RetainsTo R t l zs last) (sym on) g, refl))),
         )
     sift_on false r =
-        let on = past xs ys i h.0 in (
+        let on = drop_more_same ys xs i h.0 in (
           drop-set-lt (i + 1) (set ys i y) k y (omega arith) ∙ drop-set-lt (i + 1) ys i y (omega arith) ∙ on,
           λ zs g. subst (λ l. RetainsTo R s₀ xs (l ++ zs) last) (sym (take-set-le k (set ys i y) k y (omega arith) ∙ take-set-le k ys i y le))
               (h.1 zs (subst (λ l. RetainsTo R s l zs last) (sym (next xs ys i x lt is h.0)) (false, t, y, r, zs, subst (λ l. RetainsTo R t l zs last) (sym on) g, refl))),
@@ -62,7 +47,7 @@ module _ {S X : Type 0} (R : S → X → X → Bool → S → X → X → Type 0
 
     pub merge_on : (b : Bool) → R s x w b t x' w' → (0 < cond (not b) (k + 1) k) × DedupInvariant xs t (cond (not b) (set written k x') written) (cond (not b) (k + 1) k) (i + 1)
     merge_on true r =
-        let on = past xs ys i h.0 in
+        let on = drop_more_same ys xs i h.0 in
         let long = length-set ys (k - 1) w' in (
           pos,
           (
@@ -74,7 +59,7 @@ module _ {S X : Type 0} (R : S → X → X → Bool → S → X → X → Type 0
           ),
         )
     merge_on false r =
-        let on = past xs ys i h.0 in
+        let on = drop_more_same ys xs i h.0 in
         let long = length-set ys (k - 1) w' in
         let z : List X = set written k x' in
         let less : k ≡ k + 1 - 1 = omega arith in
@@ -92,7 +77,7 @@ module _ {S X : Type 0} (R : S → X → X → Bool → S → X → X → Type 0
 
   pub dedup_end : (xs : List X) (s : S) (ys : List X) (k i : ℕ) → 0 < k → k ≤ length ys → length xs ≤ i → last ≡ s → DedupInvariant xs s ys k i → IsDedupedTo R s₀ xs (take k ys) last
   dedup_end xs s ys k i pos le ended at h =
-      let d : X = one ys (omega arith) in
+      let d : X = an_element ys 0 (omega arith) in
       let w : X = get_or ys (k - 1) d in
       let more : suc (k - 1) ≡ k = omega arith in
       subst (λ l. IsDedupedTo R s₀ xs l last) (sym (take-suc ys (k - 1) d (omega arith)) ∙ ap (λ j. take j ys) more)

@@ -1,7 +1,7 @@
 -- Lemmas for proofs by hand of functions that lend on a part of a slice, which a call lent them.
 use mathlib.Core.Path.{◌≡◌, refl, sym, ap, ◌∙◌}
 use Prim.Native.Nat.{ℕ, zero, suc, ◌+◌, ◌-◌, ◌*◌, ◌^◌, ◌<◌, ◌≤◌}
-use native.Mathlib.Nat.{zero-mul, suc-mul, not-suc-le-zero}
+use native.Mathlib.Nat.{zero-mul, suc-mul}
 use native.Mathlib.Omega.{arith}
 use mathlib.Core.List.{List, [], ◌∷◌, ◌++◌}
 use seplogic.Ra.Ura.{Ura}
@@ -31,11 +31,6 @@ use borrow.Table.Elements.{at, at_mul, cut_app, join_app, focus_any, length-take
 pub uncapped : (i k : ℕ) → i * k < 2 ^ 64 → i * capped k ≡ i * k
 uncapped zero k h = zero-mul (capped k) ∙ sym (zero-mul k)
 uncapped (suc i) k h = let step = suc-mul i k in ap (λ (j : ℕ). suc i * j) (capped_is k (omega arith))
-
--- an element, where there is one
-pub an_element : {X : Type 0} (xs : List X) (i : ℕ) → i < length xs → X
-an_element [] i h = absurd (not-suc-le-zero h)
-an_element (x ∷ xs) i h = x
 
 module _ {M : Type 1} {𝓤 : Ura M} (𝓛 : Logic 𝓤) (R : RattleType) (κ : Lft) (q : Share) (b o : ℕ) (γ : GName) (xs : List R.Denot) where
   open 𝓛 use {H, A}

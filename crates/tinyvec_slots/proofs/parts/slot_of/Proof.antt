@@ -45,7 +45,8 @@ use types.Run.{stop, fld, addr, bin, size_lit, and_then, no_more, returns, enter
 use types.ByLocal.{alloc_all, pass_all, free_all, look_at, get, get_in, through, sets, lands_as}
 use denote.Slice.{MutSlice, Room, slice_val, mut_slice_Tells}
 use Rattle.std.proofs.lemmas.List.{get_or_default}
-use Rattle.tinyvec_slots.proofs.Walks.{an_element, lends_element}
+use Rattle.tinyvec_slots.proofs.Lists.{an_element}
+use Rattle.tinyvec_slots.proofs.Walks.{lends_element}
 use Rattle.tinyvec_slots.proofs.PartWalks.{Par, S, R, args, key, Con, asked}
 use Rattle.tinyvec_slots.specs.contracts.parts.slot_of as F
 use Rattle.tinyvec_slots.specs.contracts.parts.slot_of.Key.{name as #self}
