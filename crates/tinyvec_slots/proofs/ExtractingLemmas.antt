@@ -1,8 +1,9 @@
 -- The turns of the loop under `extract_if`, and what its steps yield.
-use Rattle.std.proofs.Common.{◌≡◌, ℕ, ◌+◌, ◌-◌, ◌<◌, ◌≤◌, Bool, true, false, List, [], ◌∷◌, ◌++◌, length, get_or, set, take, drop, slice_range, Option, Some, None, refl, sym, ap, ◌∙◌, subst, arith, append-nil, append_assoc, drop-set-lt, length-set, take-append-drop}
+use Rattle.std.proofs.Common.{◌≡◌, ℕ, ◌+◌, ◌-◌, ◌<◌, ◌≤◌, Bool, true, false, List, [], ◌∷◌, ◌++◌, length, get_or, set, take, drop, slice_range, Option, Some, None, refl, sym, ap, ◌∙◌, subst, arith, append-nil, append_assoc, drop-set-lt, length-set}
 use Rattle.std.proofs.lemmas.List.{take-set-le, get_or-set_same, drop-drop}
 use Rattle.std.proofs.iter.runs.Lists.{Everywhere, one_more, none-some, same_Some}
 use Rattle.std.proofs.iter.runs.Made.{took, each}
+use Rattle.std.proofs.lemmas.List.Edits.{between_none}
 use Rattle.std.specs.Borrow.{MutBor}
 use Rattle.std.specs.Fn.{CalledAtMut, Mut}
 use Rattle.std.specs.Iterator.{Yields}
@@ -11,18 +12,12 @@ use Rattle.tinyvec_slots.specs.Extracting.{EachIsChosen, ExtractSteps}
 use Rattle.tinyvec_slots.proofs.Lists.{slice_range_first}
 use Rattle.tinyvec_slots.proofs.FiltersLemmas.{item_at}
 
-pub drop_range : {X : Type 0} (xs : List X) (i j : ℕ) → i ≤ j → drop i xs ≡ slice_range xs i j ++ drop j xs
-drop_range xs i j le =
-    let on : i + (j - i) ≡ j = omega arith in
-    sym (take-append-drop (j - i) (drop i xs)) ∙ ap (λ l. take (j - i) (drop i xs) ++ l) (drop-drop (j - i) i xs ∙ ap (λ n. drop n xs) on)
-
 -- from j on the lists are one if they are so behind an i before it
 module _ {X : Type 0} (xs ys : List X) (i j : ℕ) (lt : i < j) (behind : drop (i + 1) ys ≡ drop (i + 1) xs) where
   same_back : drop j ys ≡ drop j xs
   same_back =
       let on : i + 1 + (j - (i + 1)) ≡ j = omega arith in
-      ap (λ n. drop n ys) (sym on) ∙ sym (drop-drop (j - (i + 1)) (i + 1) ys) ∙ ap (drop (j - (i + 1))) behind
-      ∙ drop-drop (j - (i + 1)) (i + 1) xs ∙ ap (λ n. drop n xs) on
+      rw (drop-drop, drop-drop, on) at (ap (drop (j - (i + 1))) behind)
 
 module _ {S X : Type 0} (R : S → X → Bool → S → X → Type 0) (s : S) (xs : List X) where
   -- R turned down the items of xs before ys, and left them as ks. It goes on at t.
@@ -36,19 +31,15 @@ module _ {S X : Type 0} (R : S → X → Bool → S → X → Type 0) (s : S) (x
   module _ (ks : List X) (t : S) (ys : List X) (passed : Passed ks t ys) where
     passed_more : (y z : X) (zs : List X) (u : S) → ys ≡ y ∷ zs → R t y false u z → Passed (ks ++ z ∷ []) u zs
     unfolding Passed
-    passed_more y z zs u is asked r v kept rest h =
-        subst (λ l. ExtractsNext R s xs r v l rest) (sym (append_assoc ks (z ∷ []) kept))
-        (passed r v (z ∷ kept) rest (subst (λ l. ExtractsNext R t l r v (z ∷ kept) rest) (sym is) (false, u, z, asked, (kept, h, refl))))
+    passed_more y z zs u is asked r v kept rest h = rw (append_assoc ks (z ∷ []) kept) (passed r v (z ∷ kept) rest (rw is (false, u, z, asked, (kept, h, refl))))
 
     passed_to : (y z : X) (zs : List X) (u : S) → ys ≡ y ∷ zs → R t y true u z → ExtractsNext R s xs (Some z) u ks zs
     unfolding Passed
-    passed_to y z zs u is asked =
-        subst (λ l. ExtractsNext R s xs (Some z) u l zs) (append-nil ks)
-        (passed (Some z) u [] zs (subst (λ l. ExtractsNext R t l (Some z) u [] zs) (sym is) (true, u, z, asked, (refl, refl, refl, refl))))
+    passed_to y z zs u is asked = rw (append-nil ks) at (passed (Some z) u [] zs (rw is (true, u, z, asked, (refl, refl, refl, refl))))
 
     passed_all : ys ≡ [] → ExtractsNext R s xs None t ks []
     unfolding Passed
-    passed_all none = subst (λ l. ExtractsNext R s xs None t l []) (append-nil ks) (passed None t [] [] (subst (λ l. ExtractsNext R t l None t [] []) (sym none) (refl, refl, refl, refl)))
+    passed_all none = rw (append-nil ks) at (passed None t [] [] (rw none (refl, refl, refl, refl)))
 
 module _ {S X : Type 0} (R : S → X → Bool → S → X → Type 0) (s : S) (xs : List X) (front gap end : ℕ) where
   -- R turned down the items of xs from `front + gap` up to i, which moved down over the gap. It goes on at t.
@@ -73,12 +64,11 @@ module _ {S X : Type 0} (R : S → X → Bool → S → X → Type 0) (s : S) (x
 
   -- at the end
   pub found_none : (t : S) (ys : List X) (i from : ℕ) → i ≡ end → from ≡ end → TurnedDown t ys i → Found None t ys (end - gap) from
-  found_none t ys i from last same h =
-      let none : (n : ℕ) → n ≡ end → slice_range ys n end ≡ [] = λ n e. let zero : end - n ≡ 0 = omega arith in ap (λ k. take k (drop n ys)) zero in (
-        h.kept,
-        subst (λ l. ExtractsNext R s (slice_range xs (front + gap) end) None t h.kept l) (sym (none from same)) (passed_all R s _ h.kept t _ h.passed (none i last)),
-        ap (λ n. take (n - gap) ys) (sym last) ∙ h.front_is,
-      )
+  found_none t ys i from last same h = (
+    h.kept,
+    rw (same, between_none ys end) (passed_all R s _ h.kept t _ h.passed (rw last (between_none ys end))),
+    ap (λ n. take (n - gap) ys) (sym last) ∙ h.front_is,
+  )
 
   -- a turn at i, where the question left y
   module _ (t u : S) (ys : List X) (i : ℕ) (x y : X) (low : gap ≤ i) (lt : i < end) (le : end ≤ length ys) (is : x ≡ get_or ys i x) (h : TurnedDown t ys i) where
@@ -100,8 +90,7 @@ module _ {S X : Type 0} (R : S → X → Bool → S → X → Type 0) (s : S) (x
           let long = length-set ys i y in
           let here = item_at (set ys i y) i i y (omega arith) (omega arith) (sym (get_or-set_same ys i y y (omega arith))) in record {
             kept = h.kept ++ y ∷ [];
-            passed = subst (Passed R s (slice_range xs (front + gap) end) (h.kept ++ y ∷ []) u) (ap (take (end - (i + 1))) (sym behind))
-                (passed_more R s _ h.kept t _ h.passed x y _ u seen asked);
+            passed = rw behind (passed_more R s _ h.kept t _ h.passed x y _ u seen asked);
             front_is = ap (λ n. take n zs) on ∙ moved ∙ ap (λ l. take (i - gap) (set ys i y) ++ l) here ∙ ap (λ l. l ++ y ∷ []) ahead ∙ append_assoc _ h.kept (y ∷ []);
             back = same_back (set ys i y) zs i end lt behind ∙ drop-set-lt end ys i y lt ∙ h.back;
           }
@@ -110,12 +99,9 @@ module _ {S X : Type 0} (R : S → X → Bool → S → X → Type 0) (s : S) (x
     module _ (d r : X) (asked : R t x true u y) (same : r ≡ y) (from : ℕ) (next : from ≡ i + 1) where
       pub found_some : Found (Some r) u (set (set ys i y) i d) (i - gap) from
       found_some =
-          let rest : slice_range (set ys i y) (i + 1) end ≡ slice_range (set (set ys i y) i d) from end =
-          ap (take (end - (i + 1))) (sym (drop-set-lt (i + 1) (set ys i y) i d (omega arith))) ∙ ap (λ n. slice_range (set (set ys i y) i d) n end) (sym next) in (
+          let rest : slice_range (set ys i y) (i + 1) end ≡ slice_range (set (set ys i y) i d) from end = rw (next, drop-set-lt (i + 1) (set ys i y) i d (omega arith)) in (
             h.kept,
-            subst (λ l. ExtractsNext R s (slice_range xs (front + gap) end) (Some r) u h.kept l) rest
-                (subst (λ z. ExtractsNext R s (slice_range xs (front + gap) end) (Some z) u h.kept (slice_range (set ys i y) (i + 1) end)) (sym same)
-                (passed_to R s _ h.kept t _ h.passed x y _ u seen asked)),
+            rw (← rest, same) (passed_to R s _ h.kept t _ h.passed x y _ u seen asked),
             take-set-le (i - gap) (set ys i y) i d (omega arith) ∙ ahead,
           )
 

@@ -131,9 +131,7 @@ module _ {V T F : Type 0} {items : V → List T} {room : V → ℕ} {Truncated :
     extracted_all {d} {xs} on last =
         let all = drives xs i d on last made.lies in
         let left : items v ≡ all.kept = all.items_are ∙ rw (made.front, made.back) (whole_left (items old.now) start end from to all.kept) in record {
-          asked = subst (ExtractsAll (CalledAtMut g) closure (items old.now) xs) (sym left)
-              (subst (λ f. ExtractsAll (CalledAtMut g) f (items old.now) xs all.kept) made.closure_is
-              (subst (λ l. ExtractsAll (CalledAtMut g) (extract_closure i) l xs all.kept) rest_is all.asked));
+          asked = rw (left, ← made.closure_is, ← rest_is) all.asked;
           cut = subst (λ u. Truncated u v) made.vec all.cut;
           same_reference = all.same_reference ∙ made.same_reference;
         }
@@ -143,8 +141,7 @@ module _ {V T F : Type 0} {items : V → List T} {room : V → ℕ} {Truncated :
         let left = leaves (s.keeps.lies made.lies) in
         let rest = extract_rest items e in record {
           kept = s.kept;
-          asked = subst (λ f. ExtractsNext (CalledAtMut g) f (items old.now) r (extract_closure e) s.kept rest) made.closure_is
-              (subst (λ l. ExtractsNext (CalledAtMut g) (extract_closure i) l r (extract_closure e) s.kept rest) rest_is s.asked);
+          asked = rw (← made.closure_is, ← rest_is) s.asked;
           items_are = left.items_are ∙ rw (s.front, made.front, s.keeps.back, made.back, append_assoc (take start (items old.now)) s.kept rest)
               (whole_left (items old.now) start end from to (s.kept ++ rest));
           same_reference = s.keeps.same_reference ∙ made.same_reference;
