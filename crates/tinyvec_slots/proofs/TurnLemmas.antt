@@ -1,8 +1,12 @@
 -- Lemmas on items that change their places by swaps.
-use Rattle.std.proofs.Common.{◌≡◌, ◌≢◌, ℕ, ◌+◌, ◌-◌, ◌<◌, ◌≤◌, List, [], ◌∷◌, ◌++◌, length, get_or, take, drop, slice_range, inl, inr, refl, sym, ap, ◌∙◌, arith, rules, append_assoc, append-nil, length-drop}
+use Rattle.std.proofs.Common.{◌≡◌, ◌≢◌, ℕ, suc, ◌-◌, ◌+◌, ◌<◌, ◌≤◌, List, [], ◌∷◌, ◌++◌, length, get_or, take, drop, slice_range, inl, inr, refl, sym, ap, ◌∙◌, arith, append_assoc, append-nil}
 use Rattle.std.specs.List.{SwappedAt}
+use Rattle.std.proofs.lemmas.Grind.{drop_more_same}
+use Rattle.std.proofs.lemmas.List.Edits.{between_none, between_more}
+use Rattle.std.proofs.lemmas.Slice.{between_to_end}
+use Rattle.tinyvec_slots.proofs.Lists.{same_at}
 use Rattle.std.proofs.lemmas.Bool.{cases_eq}
-use Rattle.std.proofs.lemmas.List.{same_lists, places, get_or_default, get_or-drop, drop_more, drop-drop, drop_all, take_all}
+use Rattle.std.proofs.lemmas.List.{same_lists, places, get_or_default, drop_more, drop_all}
 
 -- where the items at i and j stand in each other's place
 module _ {X : Type 0} (xs ys : List X) (i j : ℕ) (le : i ≤ j) (within : j < length xs) (long : length ys ≡ length xs) (is : SwappedAt xs ys i j) (d : X) where
@@ -40,15 +44,9 @@ module _ {X : Type 0} (xs ys : List X) (first middle next : ℕ) (some : first <
       let mid : slice_range ys middle (next + 1) ≡ slice_range xs middle next ++ p ∷ [] = slice_range-swapped xs ys first next (omega arith) within long is d middle some behind in
       let rest : slice_range ys (first + 1) middle ≡ slice_range xs (first + 1) middle = slice_range-between xs ys first next (omega arith) within long is d middle some behind in
       let from_next : drop next xs ≡ r ∷ drop (next + 1) xs = drop_more xs next d within in
-      let from_first : slice_range xs first middle ≡ p ∷ slice_range xs (first + 1) middle = slice_range-first xs first middle d some (omega arith) in
-      let A = take first xs in
-      let R = drop (next + 1) xs in
-      let Q = slice_range xs middle next in
-      let P = slice_range xs (first + 1) middle in
-      rw (left, right, mid, rest, from_next, from_first, append_assoc A (r ∷ []) R, append_assoc (A ++ (r ∷ R)) (Q ++ p ∷ []) P, append_assoc Q (p ∷ []) P, append_assoc (A ++ (r ∷ R)) Q (p ∷ P)) refl
-    where
-      slice_range-first : (xs : List X) (i j : ℕ) (d : X) → i < j → j ≤ length xs → slice_range xs i j ≡ get_or xs i d ∷ slice_range xs (i + 1) j
-      slice_range-first xs i j d lt le = same_lists _ _ (grind (arith, places)) (λ k e h. grind (arith, places, cases_eq k 0, get_or_default xs i d e))
+      let count : middle - first ≡ suc (middle - (first + 1)) = omega arith in
+      let from_first : slice_range xs first middle ≡ p ∷ slice_range xs (first + 1) middle = rw (drop_more xs first d (omega arith), count) in
+      rw (left, right, mid, rest, from_next, from_first) (simp append_assoc)
 
 -- the same where no value is at hand
 pub turned_step : {X : Type 0} (xs ys : List X) (first middle next : ℕ) → first < middle → middle ≤ next → next < length xs
@@ -58,24 +56,11 @@ turned_step (x ∷ xs) ys first middle next some behind within long is = turned_
 
 -- a part that ran out gives way to the next one
 module _ {X : Type 0} (xs : List X) where
-  none : (i : ℕ) → slice_range xs i i ≡ []
-  none i = search (rules, places)
-
   pub turned_last : (m n : ℕ) → turned xs m m n ≡ turned xs m n n
-  turned_last m n =
-      ap (λ l. take m xs ++ drop n xs ++ slice_range xs m n ++ l) (none m) ∙ append-nil _
-      ∙ ap (λ l. l ++ slice_range xs m n) (sym (append-nil (take m xs ++ drop n xs)))
-      ∙ ap (λ l. take m xs ++ drop n xs ++ l ++ slice_range xs m n) (sym (none n))
+  turned_last m n = rw (between_none xs m, between_none xs n) (simp append-nil)
 
   pub turned_first : (f m n : ℕ) → m ≤ n → n ≡ length xs → turned xs f m n ≡ turned xs f m m
-  turned_first f m n behind all =
-      let gone : drop n xs ≡ [] = drop_all n xs (omega arith) in
-      let whole : slice_range xs m n ≡ drop m xs = take_all (n - m) (drop m xs) (omega (arith, length-drop m xs)) in
-      ap (λ l. take f xs ++ l ++ slice_range xs m n ++ slice_range xs f m) gone
-      ∙ ap (λ l. l ++ slice_range xs m n ++ slice_range xs f m) (append-nil (take f xs))
-      ∙ ap (λ l. take f xs ++ l ++ slice_range xs f m) whole
-      ∙ ap (λ l. l ++ slice_range xs f m) (sym (append-nil (take f xs ++ drop m xs)))
-      ∙ ap (λ l. take f xs ++ drop m xs ++ l ++ slice_range xs f m) (sym (none m))
+  turned_first f m n behind all = rw (between_to_end xs m n (omega arith), drop_all n xs (omega arith), between_none xs m) (simp append-nil)
 
 -- where the parts begin once a part that ran out gave way
 module _ {X : Type 0} (xs : List X) (f m n a b : ℕ) (le : f ≤ m) (behind : m ≤ n) (within : n ≤ length xs)
@@ -117,12 +102,7 @@ module _ {X : Type 0} (first xs ys : List X) (i j : ℕ) (le : i ≤ j) (within 
       closed : (l : List X) → l ≡ first → (take (i + 1) ys ≡ take at first ++ slice_range first back (j + 1)) × (drop (j + 1) ys ≡ drop (j + 1) first)
       closed [] e = absurd (omega (arith, ap length e))
       closed (d ∷ l) e =
-          let zero : j + 0 ≡ j = omega arith in
-          let head : (zs : List X) → get_or (drop j zs) 0 d ≡ get_or zs j d = λ zs. get_or-drop j zs 0 d ∙ ap (λ k. get_or zs k d) zero in
-          let item : get_or xs j d ≡ get_or first j d = sym (head xs) ∙ ap (λ zs. get_or zs 0 d) rest ∙ head first in
-          let more : slice_range first back (j + 1) ≡ slice_range first back j ++ get_or first j d ∷ [] =
-          same_lists _ _ (grind (arith, places, same)) (λ k e h. grind (arith, places, same, cases_eq (back + k) j, get_or_default first j d e)) in (
-            take-swapped xs ys i j le within long is d ∙ ap (λ y. take i xs ++ y ∷ []) item ∙ ap (λ zs. zs ++ get_or first j d ∷ []) kept
-                ∙ append_assoc (take at first) (slice_range first back j) (get_or first j d ∷ []) ∙ ap (λ zs. take at first ++ zs) (sym more),
-            drop-swapped xs ys i j le within long is d ∙ sym (drop-drop 1 j xs) ∙ ap (drop 1) rest ∙ drop-drop 1 j first,
+          let item : get_or xs j d ≡ get_or first j d = same_at xs first j d rest in (
+            rw (take-swapped xs ys i j le within long is d, kept, item, between_more first back j d above (omega (arith, same)), append_assoc),
+            drop-swapped xs ys i j le within long is d ∙ drop_more_same xs first j rest,
           )
