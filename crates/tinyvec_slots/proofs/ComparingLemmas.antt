@@ -1,5 +1,5 @@
 -- Equality of lists, part by part.
-use Rattle.std.proofs.Common.{◌≡◌, ℕ, Option, Some, None, true≢false, min, suc, zero, ◌+◌, ◌-◌, ◌%◌, ◌<◌, ◌≤◌, Bool, true, false, ◌&&◌, List, [], ◌∷◌, ◌++◌, length, length-drop, length-take-le, get_or, take, drop, refl, sym, ◌∙◌, ap, arith, rules, add-one}
+use Rattle.std.proofs.Common.{◌≡◌, ℕ, Option, Some, None, true≢false, min, suc, zero, ◌+◌, ◌-◌, ◌%◌, ◌<◌, ◌≤◌, Bool, true, false, ◌&&◌, List, [], ◌∷◌, ◌++◌, length, length-drop, length-take-le, get_or, take, drop, refl, sym, ◌∙◌, ap, arith, rules}
 use Rattle.std.specs.Bool.{Decides}
 use Rattle.std.specs.Cmp.{Equal-is, first_so, second_so}
 use Rattle.std.specs.Prelude.{unwrap_or}
@@ -8,7 +8,7 @@ use Rattle.tinyvec_slots.specs.Comparing.{FirstDifference, DiffersAt}
 use Rattle.std.specs.Ordering.{eq_by_cmp, nat_cmp, partial_ordering_then}
 use Rattle.std.specs.declared.cmp.Ordering.{Ordering}
 use Rattle.std.specs.declared.cmp.Ordering.TheVariants.{Less, Equal, Greater}
-use Rattle.std.proofs.lemmas.List.{take_all, take_rest, get_or-take}
+use Rattle.std.proofs.lemmas.List.{take_more, take-append-drop, take_all, take_rest, get_or-take}
 use Rattle.std.proofs.Math.Seq.{take-add}
 use Rattle.std.proofs.Math.Nat.{mod-eq-sub-mod}
 use Rattle.std.proofs.lemmas.Nat.Gcd.{dvd_of_mod-eq-zero, le_of_dvd}
@@ -21,15 +21,6 @@ and_true : (a : Bool) → a && true ≡ a
 and_true true = refl
 and_true false = refl
 
-nat_cmp-less : (n : ℕ) → nat_cmp 0 (suc n) ≡ Less
-nat_cmp-less n = search rules
-
-nat_cmp-greater : (n : ℕ) → nat_cmp (suc n) 0 ≡ Greater
-nat_cmp-greater n = search rules
-
-nat_cmp-suc : (m n : ℕ) → nat_cmp (suc m) (suc n) ≡ nat_cmp m n
-nat_cmp-suc m n = search rules
-
 -- what is left consists of blocks of n, so there is one
 pub block_fits : (n left : ℕ) → left % n ≡ 0 → 0 < left → n ≤ left
 block_fits n left blocks some = le_of_dvd some (dvd_of_mod-eq-zero n blocks)
@@ -41,28 +32,6 @@ blocks_behind n done len blocks fits =
     rw e (sym (mod-eq-sub-mod fits) ∙ blocks)
 
 module _ {T : Type 0} (E : T → T → Bool) where
-  -- the first n items, and the others
-  pub pointwise_split : (n : ℕ) (xs ys : List T) → n ≤ length xs → n ≤ length ys
-      → pointwise E xs ys ≡ pointwise E (take n xs) (take n ys) && pointwise E (drop n xs) (drop n ys)
-  pointwise_split zero xs ys _ _ = refl
-  pointwise_split (suc n) (x ∷ xs) (y ∷ ys) h k =
-      ap (λ b. E x y && b) (pointwise_split n xs ys (omega arith) (omega arith)) ∙ sym (and_assoc (E x y) _ _)
-  pointwise_split (suc n) [] ys h k = absurd (omega arith)
-  pointwise_split (suc n) (x ∷ xs) [] h k = absurd (omega arith)
-
-  by_suc : (i : ℕ) (xs ys : List T) (x y : T) → i < length xs → i < length ys → x ≡ get_or xs i x → y ≡ get_or ys i y
-      → pointwise E (take (suc i) xs) (take (suc i) ys) ≡ pointwise E (take i xs) (take i ys) && E x y
-  by_suc zero (p ∷ xs) (q ∷ ys) x y h k ex ey = rw (ex, ey) (and_true (E p q))
-  by_suc (suc i) (p ∷ xs) (q ∷ ys) x y h k ex ey =
-      ap (λ b. E p q && b) (by_suc i xs ys x y (omega arith) (omega arith) ex ey) ∙ sym (and_assoc (E p q) _ _)
-  by_suc i [] ys x y h k ex ey = absurd (omega arith)
-  by_suc i (p ∷ xs) [] x y h k ex ey = absurd (omega arith)
-
-  -- one pair more
-  pub pointwise_take : (i : ℕ) (xs ys : List T) (x y : T) → i < length xs → i < length ys → x ≡ get_or xs i x → y ≡ get_or ys i y
-      → pointwise E (take (i + 1) xs) (take (i + 1) ys) ≡ pointwise E (take i xs) (take i ys) && E x y
-  pointwise_take i xs ys x y h k ex ey = rw add-one (by_suc i xs ys x y h k ex ey)
-
   -- lists that are as long in front
   pointwise_append : (xs ys more others : List T) → length xs ≡ length ys
       → pointwise E (xs ++ more) (ys ++ others) ≡ pointwise E xs ys && pointwise E more others
@@ -71,6 +40,20 @@ module _ {T : Type 0} (E : T → T → Bool) where
       ap (λ b. E x y && b) (pointwise_append xs ys more others (omega arith)) ∙ sym (and_assoc (E x y) _ _)
   pointwise_append [] (y ∷ ys) more others e = absurd (omega arith)
   pointwise_append (x ∷ xs) [] more others e = absurd (omega arith)
+
+  -- the first n items, and the others
+  pub pointwise_split : (n : ℕ) (xs ys : List T) → n ≤ length xs → n ≤ length ys
+      → pointwise E xs ys ≡ pointwise E (take n xs) (take n ys) && pointwise E (drop n xs) (drop n ys)
+  pointwise_split n xs ys h k =
+      (λ i. pointwise E (sym (take-append-drop n xs) i) (sym (take-append-drop n ys) i))
+      ∙ pointwise_append (take n xs) (take n ys) (drop n xs) (drop n ys) (length-take-le n xs h ∙ sym (length-take-le n ys k))
+
+  -- one pair more
+  pub pointwise_take : (i : ℕ) (xs ys : List T) (x y : T) → i < length xs → i < length ys → x ≡ get_or xs i x → y ≡ get_or ys i y
+      → pointwise E (take (i + 1) xs) (take (i + 1) ys) ≡ pointwise E (take i xs) (take i ys) && E x y
+  pointwise_take i xs ys x y h k ex ey =
+      let long = length-take-le i xs (omega arith) ∙ sym (length-take-le i ys (omega arith)) in
+      rw (take_more xs i x h, take_more ys i y k, ← ex, ← ey, pointwise_append (take i xs) (take i ys) (x ∷ []) (y ∷ []) long, and_true (E x y))
 
   -- i items are equal, and n more
   pub pointwise_more : (i n : ℕ) (xs ys : List T) → length xs ≡ length ys → i ≤ length xs
@@ -156,12 +139,13 @@ module _ {T : Type 0} (E : T → T → Bool) where
     pub partial_order_long : (m : ℕ) (xs ys : List T) → m ≡ min (length xs) (length ys) → pointwise E (take m xs) (take m ys) ≡ true
         → Some (nat_cmp (length xs) (length ys)) ≡ slice_partial_cmp C xs ys
     partial_order_long m [] [] e same = refl
-    partial_order_long m [] (q ∷ ys) e same = ap Some (nat_cmp-less (length ys))
-    partial_order_long m (p ∷ xs) [] e same = ap Some (nat_cmp-greater (length xs))
+    partial_order_long m [] (q ∷ ys) e same = search rules
+    partial_order_long m (p ∷ xs) [] e same = search rules
     partial_order_long zero (p ∷ xs) (q ∷ ys) e same = absurd (omega (arith, e))
     partial_order_long (suc m) (p ∷ xs) (q ∷ ys) e same =
         let now = (level p q).0 (first_so (E p q) (pointwise E (take m xs) (take m ys)) same) in
-        rw now (rw (nat_cmp-suc (length xs) (length ys)) (partial_order_long m xs ys (omega (arith, e)) (second_so (E p q) (pointwise E (take m xs) (take m ys)) same)))
+        let next : nat_cmp (suc (length xs)) (suc (length ys)) ≡ nat_cmp (length xs) (length ys) = search rules in
+        rw (now, next) (partial_order_long m xs ys (omega (arith, e)) (second_so (E p q) (pointwise E (take m xs) (take m ys)) same))
 
   -- the same where each pair has an order
   module _ (R : T → T → Ordering) (ties : (x y : T) → E x y ≡ eq_by_cmp R x y) where
