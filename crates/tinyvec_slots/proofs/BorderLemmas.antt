@@ -67,21 +67,21 @@ module _ {T : Type 0} {C : T → T → Type 0} {len n : ℕ} {more xs new : List
   whole = h.written ∙ append_assoc (take len xs) h.made (drop (len + n) xs)
 
   pub kept_in_front : take len new ≡ take len xs
-  kept_in_front = ap (take len) whole ∙ take_at (take len xs) _ len long
+  kept_in_front = rw whole (take_at (take len xs) _ len long)
 
   pub clones_behind : ClonesOver C more n (drop len xs) (drop len new)
   clones_behind = record {
     made = h.made;
     clones = h.clones;
     count = h.count;
-    written = ap (drop len) whole ∙ drop_at (take len xs) _ len long ∙ ap (λ l. h.made ++ l) (sym (drop-drop n len xs));
+    written = rw (whole, drop_at (take len xs) (h.made ++ drop (len + n) xs) len long, drop-drop);
   }
 
   front : length (take len xs ++ h.made) ≡ len + n
-  front = length-append (take len xs) h.made ∙ ap (λ k. k + length h.made) long ∙ ap (λ k. len + k) h.count
+  front = rw (length-append, long, h.count)
 
   listed : take (len + n) new ≡ take len xs ++ h.made
-  listed = ap (take (len + n)) h.written ∙ take_at (take len xs ++ h.made) (drop (len + n) xs) (len + n) front
+  listed = rw h.written (take_at (take len xs ++ h.made) (drop (len + n) xs) (len + n) front)
 
   -- a list that has these too
   pub clones_written : AppendsClones C (take len xs) (take (len + n) new) more
@@ -90,9 +90,9 @@ module _ {T : Type 0} {C : T → T → Type 0} {len n : ℕ} {more xs new : List
       × (drop (len + n) new ≡ drop n (drop len xs))
   clones_written = (
     (h.made, listed, h.clones),
-    ap length listed ∙ length-append (take len xs) h.made ∙ ap (λ k. length (take len xs) + k) h.count,
+    rw (listed, length-append, h.count),
     λ rule. listed ∙ ap (λ l. take len xs ++ l) (same_from_all_zip C more h.made h.clones rule),
-    ap (drop (len + n)) h.written ∙ drop_at (take len xs ++ h.made) (drop (len + n) xs) (len + n) front ∙ sym (drop-drop n len xs),
+    rw (h.written, drop_at (take len xs ++ h.made) (drop (len + n) xs) (len + n) front, drop-drop),
   )
 
 -- the items of a range, where they stand in slots
@@ -102,9 +102,7 @@ removed_in v first last n i j is start end range =
     let ends = end ∙ ap (range_end last) is in
     let le : i ≤ j = omega (arith, start, ends, range.0) in
     let inside : j ≤ n = omega (arith, ends, range.1, is) in
-    let same : slice_range v.slots i j ≡ removed (items v) first last =
-    sym (range_before v.slots i j n le inside) ∙ ap (λ l. slice_range l i j) (list_to v.len v.slots n is) ∙ ap (λ k. slice_range (items v) k j) start
-    ∙ ap (slice_range (items v) (range_start first)) ends in
+    let same : slice_range v.slots i j ≡ removed (items v) first last = rw (← range_before v.slots i j n le inside, list_to v.len v.slots n is, start, ends) in
     (same, sym (length-slice_range v.slots i j le (omega (arith, inside, within v.len v.slots n is))) ∙ ap length same)
 
 -- A call was to append clones of xs to a list of n items, and there is room.

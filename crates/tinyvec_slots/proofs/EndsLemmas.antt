@@ -110,19 +110,13 @@ module _ {S T : Type 0} (gives gives_back : S → Option T → S → Type 0) (re
     (last : (s : S) (r : Option T) (t : S) → gives_back s r t → YieldsLast rest s r t) where
   one_front : (s : S) (r : Option T) (t : S) (word : List End) (answers : List (Option T)) (left : List T)
       → YieldsFirst rest s r t → TakesFromEnds (rest t) word answers left → TakesFromEnds (rest s) (front ∷ word) (r ∷ answers) left
-  one_front s None t word answers left y h =
-      subst (λ l. TakesFromEnds l (front ∷ word) (None ∷ answers) left) (sym y.0)
-      (TakesFromEnds-none word front answers left (subst (λ l. TakesFromEnds l word answers left) y.1 h))
-  one_front s (Some x) t word answers left y h =
-      subst (λ l. TakesFromEnds l (front ∷ word) (Some x ∷ answers) left) (sym y) (TakesFromEnds-front x (rest t) word answers left h)
+  one_front s None t word answers left y h = rw y.0 (TakesFromEnds-none word front answers left (rw y.1 at h))
+  one_front s (Some x) t word answers left y h = rw y (TakesFromEnds-front x (rest t) word answers left h)
 
   one_back : (s : S) (r : Option T) (t : S) (word : List End) (answers : List (Option T)) (left : List T)
       → YieldsLast rest s r t → TakesFromEnds (rest t) word answers left → TakesFromEnds (rest s) (back ∷ word) (r ∷ answers) left
-  one_back s None t word answers left y h =
-      subst (λ l. TakesFromEnds l (back ∷ word) (None ∷ answers) left) (sym y.0)
-      (TakesFromEnds-none word back answers left (subst (λ l. TakesFromEnds l word answers left) y.1 h))
-  one_back s (Some x) t word answers left y h =
-      subst (λ l. TakesFromEnds l (back ∷ word) (Some x ∷ answers) left) (sym y) (TakesFromEnds-back x (rest t) word answers left h)
+  one_back s None t word answers left y h = rw y.0 (TakesFromEnds-none word back answers left (rw y.1 at h))
+  one_back s (Some x) t word answers left y h = rw y (TakesFromEnds-back x (rest t) word answers left h)
 
   pub RunsWord-takes : (from : S) (word : List End) (answers : List (Option T)) (to : S)
       → RunsWord gives gives_back from word answers to → TakesFromEnds (rest from) word answers (rest to)

@@ -6,7 +6,7 @@ use Rattle.std.specs.List.Retain.{PopsIf}
 
 module _ {F T : Type 0} (g : Once F (MutBor T × Unit {0}) (Bool × (MutBor T × Unit {0}))) (f : F) (xs : List T) (n : ℕ) (x y : T) (last : n + 1 ≡ length xs) (shown : x ≡ slice_index_or xs n x) where
   was : xs ≡ take n xs ++ x ∷ []
-  was = sym (take_all (n + 1) xs (omega arith)) ∙ take_more xs n x (omega arith) ∙ ap (λ z. take n xs ++ z ∷ []) (sym shown)
+  was = sym (take_all (n + 1) xs (omega arith)) ∙ take_more xs n x (omega arith) ∙ rw (← shown)
 
   is : slice_set xs n y ≡ take n xs ++ y ∷ []
   is = sym (take_all (n + 1) (slice_set xs n y) (omega (arith, length-set xs n y))) ∙ take_more_set xs n y (omega arith)
