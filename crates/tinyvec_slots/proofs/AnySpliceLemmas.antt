@@ -84,8 +84,7 @@ module _ {S I T : Type 0} (view : S → SpliceView I T) (keeps : S → S → Typ
       let fewer = ap length left in
       let less = ap length gave in
       let counts : take (min (length (front ∷ word)) (min (left_count s) (rest_count s))) (front ∷ word) ≡ front ∷ take (min (length word) (min (left_count mid) (rest_count mid))) word =
-      ap (λ n. take (min (length (front ∷ word)) (min n (rest_count s))) (front ∷ word)) fewer ∙ ap (λ m. take (min (length (front ∷ word)) (min (suc (left_count mid)) m)) (front ∷ word)) less
-      ∙ one_more front word (left_count mid) (rest_count mid) in
+      rw (fewer, less) (one_more front word (left_count mid) (rest_count mid)) in
       let more = ap fronts counts in
       let same = ap backs counts in record {
         in_front = y ∷ h.in_front;
@@ -124,8 +123,7 @@ module _ {S I T : Type 0} (view : S → SpliceView I T) (keeps : S → S → Typ
       let fewer : left_count s ≡ suc (left_count mid) = ap length left ∙ length_push (view mid).left x ∙ omega arith in
       let less : rest_count s ≡ suc (rest_count mid) = ap length gave ∙ length_push (rest (view mid).replacement) y ∙ omega arith in
       let counts : take (min (length (back ∷ word)) (min (left_count s) (rest_count s))) (back ∷ word) ≡ back ∷ take (min (length word) (min (left_count mid) (rest_count mid))) word =
-      ap (λ n. take (min (length (back ∷ word)) (min n (rest_count s))) (back ∷ word)) fewer ∙ ap (λ m. take (min (length (back ∷ word)) (min (suc (left_count mid)) m)) (back ∷ word)) less
-      ∙ one_more back word (left_count mid) (rest_count mid) in
+      rw (fewer, less) (one_more back word (left_count mid) (rest_count mid)) in
       let same = ap fronts counts in
       let more = ap backs counts in
       let long = length_push h.at_back y in record {
@@ -133,8 +131,7 @@ module _ {S I T : Type 0} (view : S → SpliceView I T) (keeps : S → S → Typ
         at_back = h.at_back ++ y ∷ [];
         front = h.front ∙ ap (λ l. l ++ h.in_front) ahead;
         back = h.back ∙ ap (λ l. h.at_back ++ l) behind ∙ sym (append_assoc h.at_back (y ∷ []) (view s).back);
-        replacement = gave ∙ ap (λ l. l ++ y ∷ []) h.replacement ∙ append_assoc h.in_front (rest (view t).replacement ++ h.at_back) (y ∷ [])
-            ∙ ap (λ l. h.in_front ++ l) (append_assoc (rest (view t).replacement) h.at_back (y ∷ []));
+        replacement = gave ∙ rw h.replacement (simp append_assoc);
         front_count = h.front_count ∙ sym same;
         back_count = long ∙ omega (arith, h.back_count, more);
         touches = omega (arith, h.touches, touches, fewer, long);
@@ -186,13 +183,12 @@ record CutOf {T : Type 0} (left middle right whole : List T) : Type 0 where
 
 cut_of : {T : Type 0} (left middle right whole : List T) → whole ≡ left ++ (middle ++ right) → CutOf left middle right whole
 cut_of left middle right whole is =
-    let long : length whole ≡ length left + (length middle + length right) = ap length is ∙ length-append left (middle ++ right) ∙ ap (λ n. length left + n) (length-append middle right) in
+    let long : length whole ≡ length left + (length middle + length right) = rw (is, length-append, length-append) in
     let count : length middle ≡ length whole - length right - length left = omega arith in
     let here : length (left ++ middle) ≡ length whole - length right = length-append left middle ∙ omega arith in record {
       long = long;
       first = ap (take (length left)) is ∙ take_at left _ _ refl;
-      between = ap (λ l. take (length whole - length right - length left) (drop (length left) l)) is
-          ∙ ap (take (length whole - length right - length left)) (drop_at left _ _ refl) ∙ take_at middle right _ count;
+      between = ap (λ l. take (length whole - length right - length left) (drop (length left) l)) is ∙ rw (drop_at left _ _ refl) (take_at middle right _ count);
       last = ap (drop (length whole - length right)) (is ∙ sym (append_assoc left middle right)) ∙ drop_at (left ++ middle) right _ here;
     }
 
@@ -214,35 +210,23 @@ module _ {S I T : Type 0} (view : S → SpliceView I T) (keeps : S → S → Typ
 
   pub spliced_len : length (view t).front + length still + length (view t).back ≡ length before + length replacement + length after
   spliced_len =
-      let one = ap length front_is ∙ length-append before h.in_front in
-      let two = ap length back_is ∙ length-append h.at_back after in
-      let all = ap length parts ∙ length-append h.in_front (still ++ h.at_back) ∙ ap (λ n. length h.in_front + n) (length-append still h.at_back) in
-      omega arith
+      rw (front_is, back_is, parts, length-append, length-append, length-append, length-append) (omega arith)
 
   pub spliced_all : list ≡ (view t).front ++ still ++ (view t).back → list ≡ before ++ replacement ++ after
-  spliced_all is =
-      is ∙ ap (λ l. l ++ still ++ (view t).back) front_is ∙ ap (λ l. before ++ h.in_front ++ still ++ l) back_is
-      ∙ sym (append_assoc (before ++ h.in_front ++ still) h.at_back after)
-      ∙ ap (λ l. l ++ after) (append_assoc (before ++ h.in_front) still h.at_back ∙ append_assoc before h.in_front (still ++ h.at_back) ∙ ap (λ l. before ++ l) (sym parts))
+  spliced_all is = is ∙ rw (front_is, back_is, parts) (simp append_assoc)
 
   pub spliced_refused : (placed : List T) (x : T) (others : List T) → still ≡ placed ++ x ∷ others → list ≡ (view t).front ++ placed ++ (view t).back
       → IsSpliceRefused word (length removed) before after replacement list (x ∷ others)
   spliced_refused placed x others split is =
-      let all : replacement ≡ (h.in_front ++ placed) ++ ((x ∷ others) ++ h.at_back) =
-      parts ∙ ap (λ l. h.in_front ++ (l ++ h.at_back)) split ∙ ap (λ l. h.in_front ++ l) (append_assoc placed (x ∷ others) h.at_back)
-      ∙ sym (append_assoc h.in_front placed ((x ∷ others) ++ h.at_back)) in
+      let all : replacement ≡ (h.in_front ++ placed) ++ ((x ∷ others) ++ h.at_back) = parts ∙ rw split (simp append_assoc) in
       let cut = cut_of (h.in_front ++ placed) (x ∷ others) h.at_back replacement all in
-      let fronts_are : length h.in_front ≡ placed_front word (length removed) (length replacement) =
-      h.front_count ∙ ap (λ l. placed_front word (length l) (length (rest (view s).replacement))) left ∙ ap (λ l. placed_front word (length removed) (length l)) whole in
-      let backs_are : length h.at_back ≡ placed_back word (length removed) (length replacement) =
-      h.back_count ∙ ap (λ l. placed_back word (length l) (length (rest (view s).replacement))) left ∙ ap (λ l. placed_back word (length removed) (length l)) whole in
+      let fronts_are : length h.in_front ≡ placed_front word (length removed) (length replacement) = rw (← left, ← whole) h.front_count in
+      let backs_are : length h.at_back ≡ placed_back word (length removed) (length replacement) = rw (← left, ← whole) h.back_count in
       let j : length replacement - placed_back word (length removed) (length replacement) ≡ length replacement - length h.at_back = ap (λ n. length replacement - n) (sym backs_are) in
       let size = length-append h.in_front placed in record {
         at = length (h.in_front ++ placed);
         from = omega (arith, size, fronts_are);
         below = rw j (omega (arith, cut.long));
-        list_is = rw (j, cut.first, cut.last)
-            (is ∙ ap (λ l. l ++ placed ++ (view t).back) front_is ∙ ap (λ l. before ++ h.in_front ++ placed ++ l) back_is
-            ∙ sym (append_assoc (before ++ h.in_front ++ placed) h.at_back after) ∙ ap (λ l. l ++ h.at_back ++ after) (append_assoc before h.in_front placed));
+        list_is = rw (j, cut.first, cut.last) (is ∙ rw (front_is, back_is) (simp append_assoc));
         rest_is = rw j (sym cut.between);
       }

@@ -1,20 +1,18 @@
 -- Lemmas on the end of a splice.
-use Rattle.std.proofs.Common.{◌≡◌, ◌+◌, ◌-◌, ◌*◌, ◌<◌, ◌≤◌, ℕ, true, false, List, ◌∷◌, ◌++◌, min, length, take, drop, Option, Some, None, Result, Ok, Err, MatchResult, refl, sym, ap, ◌∙◌, append_assoc, arith, length-append, length-take, length-drop}
+use Rattle.std.proofs.Common.{◌≡◌, ◌+◌, ◌-◌, ◌*◌, ◌<◌, ◌≤◌, ℕ, true, false, List, ◌∷◌, ◌++◌, min, length, take, drop, Option, Some, Result, Ok, Err, MatchResult, refl, sym, ap, ◌∙◌, append_assoc, arith, length-append, length-take, length-drop}
+use Rattle.std.proofs.iter.runs.Lists.{Yields-both}
 use Rattle.std.proofs.lemmas.Result.{MatchResult-weaker}
 use Rattle.std.specs.Iterator.{Drains, Yields, YieldsThen}
 use Rattle.tinyvec_slots.specs.Filling.{ShowsItems}
 use Rattle.tinyvec_slots.specs.AnySplice.{SpliceView, Finishes, FinishesWith, FinishTouches}
 use Rattle.tinyvec_slots.specs.declared.no_room.SpliceRest.{SpliceRest}
 use Rattle.tinyvec_slots.proofs.FillingLemmas.{drained, refused}
-use Rattle.tinyvec_slots.proofs.Runs.{YieldsThen-join}
 
 module _ {I T : Type 0} (gives : I → Option T → I → Type 0) (capacity : ℕ) (s : SpliceView I T) (list : List T) where
   -- how long the list is
   pub finished_len : (result : Result Unit (SpliceRest T I)) (h : Finishes gives capacity s result list)
       → length list ≡ length s.front + length h.placed + length s.back
-  finished_len result h =
-      ap length h.list_is ∙ length-append (s.front ++ h.placed) s.back
-      ∙ ap (λ n. n + length s.back) (length-append s.front h.placed)
+  finished_len result h = rw (h.list_is, length-append, length-append)
 
   -- it is no shorter than what it was put into
   pub finished_longer : (at : ℕ) (xs : List T) → s.front ≡ take at xs → s.back ≡ drop at xs → (result : Result Unit (SpliceRest T I))
@@ -51,8 +49,8 @@ Ran gives s placed result = MatchResult result (λ _. Drains gives s placed) (λ
 pub ran_on : {I T : Type 0} (gives : I → Option T → I → Type 0) (s t : I) (xs ys : List T) (result : Result Unit (SpliceRest T I))
     → Yields gives s xs t → Ran gives t ys result → Ran gives s (xs ++ ys) result
 ran_on gives s t xs ys result run ran =
-    MatchResult-weaker result ran (λ u h. (h.0, YieldsThen-join gives s xs t ys None h.0 run h.1))
-    (λ back h. YieldsThen-join gives s xs t ys (Some back.item) back.rest run h)
+    MatchResult-weaker result ran (λ u h. (h.0, (h.1.0, Yields-both gives xs ys s t h.1.0 run h.1.1, h.1.2)))
+    (λ back h. (h.0, Yields-both gives xs ys s t h.0 run h.1, h.2))
 
 -- how a splice ended that filled its gap with `placed`, which left `mid`
 module _ {I T : Type 0} (gives : I → Option T → I → Type 0) (capacity : ℕ) (s mid : SpliceView I T) (placed : List T)
@@ -63,7 +61,7 @@ module _ {I T : Type 0} (gives : I → Option T → I → Type 0) (capacity : �
   finishes_closed u list ran is fits = record {
     placed = placed;
     ran = ran;
-    list_is = is ∙ ap (λ l. l ++ mid.back) front_is ∙ ap (λ l. s.front ++ placed ++ l) back_is;
+    list_is = is ∙ rw (front_is, back_is);
     full = tt;
     fits = fits;
   }
@@ -74,8 +72,7 @@ module _ {I T : Type 0} (gives : I → Option T → I → Type 0) (capacity : �
   finishes_appended result list run h = record {
     placed = placed ++ h.placed;
     ran = ran_on gives s.replacement mid.replacement placed h.placed result run h.ran;
-    list_is = h.list_is ∙ ap (λ l. l ++ h.placed ++ mid.back) front_is ∙ ap (λ l. l ++ mid.back) (append_assoc s.front placed h.placed)
-        ∙ ap (λ l. s.front ++ (placed ++ h.placed) ++ l) back_is;
+    list_is = h.list_is ∙ rw (front_is, back_is, append_assoc s.front placed h.placed);
     full = h.full;
     fits = h.fits;
   }

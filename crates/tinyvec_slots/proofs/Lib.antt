@@ -13,7 +13,6 @@ pub mod FillingLemmas
 pub mod ComparingLemmas
 mod Walks
 mod PartWalks
-pub mod Runs
 pub mod Fused
 pub mod TurnLemmas
 pub mod FinishLemmas

@@ -1,5 +1,5 @@
 -- Lemmas on a splice whose replacement is known: what it leaves, and what std's iterators yield.
-use Rattle.std.proofs.Common.{◌≡◌, ℕ, ◌≤◌, List, [], ◌∷◌, ◌++◌, length, Bool, true, false, Option, Result, Ok, Err, refl, ap, ◌∙◌, arith, length-append, take, drop}
+use Rattle.std.proofs.Common.{◌≡◌, ℕ, ◌+◌, ◌≤◌, List, [], ◌∷◌, ◌++◌, length, Bool, true, false, Option, Result, Ok, Err, refl, ap, ◌∙◌, arith, length-append, take, drop}
 use Rattle.std.specs.Bool.{MatchBool}
 use Rattle.std.specs.declared.iter.Fuse.{Fuse}
 use Rattle.std.specs.Iterator.{AlwaysYields}
@@ -36,16 +36,14 @@ module _ {I T : Type 0} (steps : I → Option T → I → Type 0) (room granted 
       (is, λ fits. (refl, is))
   finished_known (Err refused) h =
       let fewer = refused_early (fuse_steps steps) xs s.replacement (fused_yields steps xs s.replacement yields) h.placed refused.rest refused.item h.ran in
-      let long = ap length h.list_is ∙ length-append (s.front ++ h.placed) s.back in
-      let front = length-append s.front h.placed in
-      (tt, λ fits. absurd (omega (arith, fewer, long, front, more, h.full, fits)))
+      let long : length list ≡ length s.front + length h.placed + length s.back = rw (h.list_is, length-append, length-append) in
+      (tt, λ fits. absurd (omega (arith, fewer, long, more, h.full, fits)))
 
 module _ {T : Type 0} (list : List T) where
   -- the same list by other names of its parts
   pub between : (front placed back before after : List T) → list ≡ front ++ placed ++ back → front ≡ before → back ≡ after
       → list ≡ before ++ placed ++ after
-  between front placed back before after is ahead behind =
-      is ∙ ap (λ l. l ++ placed ++ back) ahead ∙ ap (λ l. before ++ placed ++ l) behind
+  between front placed back before after is ahead behind = is ∙ rw (ahead, behind)
 
   -- a replacement in the place of a range, by other names of where it starts and ends
   pub placed_at : (xs placed : List T) (start end first last : ℕ) → list ≡ take start xs ++ placed ++ drop end xs → start ≡ first → end ≡ last
