@@ -1,5 +1,6 @@
 -- Lemmas on lists of clones. C is the `is_clone` of an item's `Clone`.
-use Rattle.std.proofs.Common.{◌≡◌, ℕ, Result, Ok, Err, ◌+◌, ◌-◌, ◌<◌, ◌≤◌, List, [], ◌∷◌, ◌++◌, length, take, drop, slice_range, get_or, replicate, refl, sym, ap, subst, ◌∙◌, append_assoc, arith, length-append, length-drop, length-take-le, append-nil, take_at, drop_at, take_all, take-append-drop}
+use Rattle.std.proofs.Common.{◌≡◌, ℕ, Result, Ok, Err, ◌+◌, ◌-◌, ◌<◌, ◌≤◌, List, [], ◌∷◌, ◌++◌, length, take, drop, slice_range, get_or, replicate, refl, sym, ap, subst, ◌∙◌, append_assoc, arith, length-append, length-drop, length-take-le, append-nil, take_at, drop_at, take-append-drop}
+use Rattle.std.proofs.Concat.{each_append}
 use Rattle.std.proofs.Math.Seq.{take-add}
 use Rattle.std.proofs.lemmas.List.{take_more, take_rest, drop_all, replicate_more, length-replicate, get_or-replicate, get_or_default, get_or_append_left, get_or-take, get_or-drop}
 use Rattle.std.proofs.lemmas.List.Elements.{AllZip-push, length_all_zip}
@@ -7,8 +8,8 @@ use Rattle.std.specs.Prelude.{All, OnOk, OnErr, IsOk, if◌then◌else◌, is_ok
 use Rattle.std.specs.List.{AllZip, AppendsClones}
 use Rattle.tinyvec_slots.specs.Clones.{RefusedAt}
 use Rattle.tinyvec_slots.specs.Slots.{Slots, items, items_len, spare, all_slots}
-use Rattle.tinyvec_slots.proofs.SlotsLemmas.{slots_are}
-use Rattle.tinyvec_slots.proofs.ClonesOverLemmas.{AllZip-drop, AllZip-join, all_granted}
+use Rattle.tinyvec_slots.proofs.BorderLemmas.{spare_from}
+use Rattle.tinyvec_slots.proofs.ClonesOverLemmas.{AllZip-cut, all_granted}
 use borrow.Rule.Slice.PartMut.{post_of}
 
 module _ {T : Type 0} (C : T → T → Type 0) where
@@ -37,12 +38,11 @@ module _ {T : Type 0} (C : T → T → Type 0) where
   appends_join old mid new xs ys zs is h k = (
     h.0 ++ k.0,
     k.1 ∙ ap (λ l. l ++ k.0) h.1 ∙ append_assoc old h.0 k.0,
-    subst (λ l. AllZip C l (h.0 ++ k.0)) is (AllZip-join C xs h.0 ys k.0 h.2 k.2),
+    subst (λ l. AllZip C l (h.0 ++ k.0)) is (each_append C xs h.0 ys k.0 h.2 k.2),
   )
 
   pub appends_len : (old new more : List T) → AppendsClones C old new more → length new ≡ length old + length more
-  appends_len old new more h =
-      ap length h.1 ∙ length-append old h.0 ∙ ap (λ n. length old + n) (sym (length_all_zip C more h.0 h.2))
+  appends_len old new more h = rw (h.1, length-append, length_all_zip C more h.0 h.2)
 
   -- behind an empty list
   pub appends_alone : (old new more : List T) → old ≡ [] → AppendsClones C old new more → AllZip C more new
@@ -52,19 +52,14 @@ module _ {T : Type 0} (C : T → T → Type 0) where
   pub appends_rest : (mid new source seen other : List T) (n : ℕ) → seen ≡ source → other ≡ source → AllZip C (take n seen) mid
       → AppendsClones C mid new (take (length other - n) (drop n other)) → AllZip C source new
   appends_rest mid new source seen other n front back first h =
-      let rest : take (length other - n) (drop n other) ≡ drop n source =
-      take_all (length other - n) (drop n other) (omega (arith, length-drop n other)) ∙ ap (drop n) back in
-      let clones = AllZip-join C (take n seen) mid (take (length other - n) (drop n other)) h.0 first h.2 in
-      let all = ap (λ l. take n l ++ take (length other - n) (drop n other)) front ∙ ap (λ l. take n source ++ l) rest ∙ take-append-drop n source in
-      subst (λ l. AllZip C l new) all (subst (AllZip C (take n seen ++ take (length other - n) (drop n other))) (sym h.1) clones)
+      let clones = each_append C (take n seen) mid (take (length other - n) (drop n other)) h.0 first h.2 in
+      rw h.1 (rw (take_rest other n, front, back, take-append-drop n source) at clones)
 
   -- clones of all slots are clones of the spare ones
   pub spare_cloned : (v w : Slots T) → items_len w ≡ items_len v → AllZip C (all_slots v) (all_slots w) → AllZip C (spare v) (spare w)
   spare_cloned v w long h =
       let k = items_len v in
-      let behind : drop k (all_slots v) ≡ spare v = ap (drop k) (slots_are v) ∙ drop_at (items v) (spare v) k refl in
-      let behind_clones : drop k (all_slots w) ≡ spare w = ap (drop k) (slots_are w) ∙ drop_at (items w) (spare w) k long in
-      subst (λ l. AllZip C l (spare w)) behind (subst (AllZip C (drop k (all_slots v))) behind_clones (AllZip-drop C k (all_slots v) (all_slots w) h))
+      rw (spare_from v.len v.slots k refl, spare_from w.len w.slots k (sym long)) at (AllZip-cut C k (all_slots v) (all_slots w) h).1
 
 -- the clone of the element at i was refused
 pub refused_at : {T : Type 0} (I : T → Type 0) (from : List T) (i : ℕ) (x : T) → i < length from → x ≡ get_or from i x → (I x → ⊥) → (j : ℕ) × RefusedAt I from j
@@ -111,9 +106,7 @@ chosen (Err e) y z ok err = err
 
 -- behind the first a items of `from` the next n were appended
 pub appended_further : {T : Type 0} (old mid new from : List T) (a n : ℕ) → mid ≡ old ++ take a from → new ≡ mid ++ take n (take (length from - a) (drop a from)) → new ≡ old ++ take (a + n) from
-appended_further old mid new from a n first next =
-    let more = take n (drop a from) in
-    next ∙ ap (λ l. mid ++ take n l) (take_rest from a) ∙ ap (λ l. l ++ more) first ∙ append_assoc old (take a from) more ∙ ap (λ l. old ++ l) (sym (take-add a n from))
+appended_further old mid new from a n first next = rw (next, take_rest from a, first, append_assoc, take-add a n from)
 
 -- A block was written over the last n elements, which lie behind `old`.
 module _ {T : Type 0} (old ys block now new items : List T) (at n m : ℕ) where
@@ -123,12 +116,10 @@ module _ {T : Type 0} (old ys block now new items : List T) (at n m : ℕ) where
   pub written_last : now ≡ old ++ ys → length old ≡ at → length ys ≡ n → length block ≡ n → m ≡ length now
       → new ≡ block ++ drop n (take (length now - at) (drop at now)) → take m (written ++ drop (length written) items) ≡ old ++ block
   written_last is long behind whole all made =
-      let front : take at now ≡ old = ap (take at) is ∙ take_at old ys at long in
-      let back : drop at now ≡ ys = ap (drop at) is ∙ drop_at old ys at long in
-      let part : take (length now - at) (drop at now) ≡ ys = take_rest now at ∙ back in
-      let none : drop n ys ≡ [] = drop_all n ys (omega (arith, behind)) in
-      let over : new ≡ block = made ∙ ap (λ l. block ++ drop n l) part ∙ ap (λ l. block ++ l) none ∙ append-nil block in
+      let front : take at now ≡ old = rw is (take_at old ys at long) in
+      let part : take (length now - at) (drop at now) ≡ ys = rw (take_rest now at, is) (drop_at old ys at long) in
+      let over : new ≡ block = rw (made, part, drop_all n ys (omega (arith, behind)), append-nil) in
       let left : post_of at (length now - at) now ≡ [] = drop_all (length now - at) (drop at now) (omega (arith, length-drop at now)) in
-      let same : written ≡ old ++ block = ap (λ l. take at now ++ (new ++ l)) left ∙ ap (λ l. take at now ++ l) (append-nil new ∙ over) ∙ ap (λ l. l ++ block) front in
+      let same : written ≡ old ++ block = rw (left, append-nil, over, front) in
       let sum : length (old ++ block) ≡ m = omega (arith, length-append old block, ap length is, length-append old ys, behind, whole, all) in
-      ap (λ l. take m (l ++ drop (length l) items)) same ∙ take_at (old ++ block) (drop (length (old ++ block)) items) m sum
+      rw same (take_at (old ++ block) (drop (length (old ++ block)) items) m sum)

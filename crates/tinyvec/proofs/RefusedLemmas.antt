@@ -6,7 +6,7 @@ use Rattle.std.proofs.lemmas.List.Elements.{All-nil}
 use Rattle.tinyvec_slots.specs.Slots.{AreDefaults}
 use Rattle.std.specs.List.{AllZip}
 use Rattle.tinyvec_slots.specs.Clones.{RefusedAt, ClonesOver, ClonesInPart}
-use Rattle.tinyvec_slots.proofs.CloneLemmas.{drop_within}
+use Rattle.std.proofs.lemmas.Slice.{between_is}
 use Rattle.tinyvec.specs.TinyVec.{tiny_items, tiny_len, tiny_spare, is_inline, tiny_capacity, IsInline, PlaceRule, TinySlotRule, SameFrame}
 use Rattle.tinyvec.specs.Room.{GrowsFor}
 use Rattle.tinyvec.specs.Refused.{RoomGranted}
@@ -51,7 +51,7 @@ module _ {A T : Type 0} (D I : T → Type 0) (C : T → T → Type 0) (source : 
         in_order = λ h. absurd (omega (arith, h));
         refused_at = rw sum refused;
         clones = over.clones;
-        listed = over.written ∙ ap (λ l. over.made ++ l) (drop_within (tiny_items old) j m le);
+        listed = over.written ∙ ap (λ l. over.made ++ l) (sym (between_is (tiny_items old) j m));
         left = λ i.
             let h = spares i in
             (h.0, h.1, [], rw nothing tt, rw (append-nil h.0) h.2);

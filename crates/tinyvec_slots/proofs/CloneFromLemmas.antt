@@ -1,21 +1,17 @@
 -- Lemmas on a list that is cut to the length of another, over whose slots clones of that other's items are then written.
-use Rattle.std.proofs.Common.{◌≡◌, ℕ, ◌+◌, ◌-◌, ◌<◌, ◌≤◌, ◌⊎◌, inl, inr, min, List, [], ◌++◌, length, take, drop, slice_range, refl, sym, ap, subst, ◌∙◌, le_refl, arith, length-take-le, length-take}
+use Rattle.std.proofs.Common.{◌≡◌, ℕ, ◌+◌, ◌-◌, ◌<◌, ◌≤◌, ◌⊎◌, inl, inr, min, List, [], ◌++◌, length, take, drop, slice_range, refl, sym, ap, ◌∙◌, le_refl, arith, length-take-le, length-take}
 use Rattle.std.proofs.lemmas.Bool.{cases_lt}
 use Rattle.std.proofs.lemmas.List.{drop-drop, take-take, take-append-le, take_min, append-nil, nil_from_length}
-use Rattle.std.proofs.lemmas.Slice.{drop-append-drop}
+use Rattle.std.proofs.lemmas.List.Edits.{between_none}
+use Rattle.std.proofs.lemmas.Slice.{between_is, drop-append-drop}
 use Rattle.std.proofs.Math.Nat.{min_comm}
 use Rattle.tinyvec_slots.specs.Slots.{Slots, AreDefaults, Vacates, SlotRule, items_len, all_slots, items, spare}
 use Rattle.std.proofs.lemmas.List.Elements.{length_all_zip}
 use Rattle.std.specs.Bool.{⊤}
 use Rattle.std.specs.List.{AllZip}
 use Rattle.tinyvec_slots.specs.Clones.{RefusedAt, ClonesInPart}
-use Rattle.tinyvec_slots.proofs.CloneLemmas.{drop_within, range_within, take_writes, drop_writes}
-use Rattle.tinyvec_slots.proofs.ClonesOverLemmas.{AllZip-take, AllZip-drop}
-
-empty_range : {X : Type 0} (xs : List X) (i j : ℕ) → j ≡ i → slice_range xs i j ≡ []
-empty_range xs i j e =
-    let none : j - i ≡ 0 = omega arith in
-    ap (λ n. take n (drop i xs)) none
+use Rattle.tinyvec_slots.proofs.CloneLemmas.{take_writes, drop_writes}
+use Rattle.tinyvec_slots.proofs.ClonesOverLemmas.{AllZip-cut}
 
 -- `cut` is `left`, which `truncate` left of `old` at n items, the length of `source`.
 module _ {T : Type 0} (D I : T → Type 0) (C : T → T → Type 0) (old left cut : Slots T) (source : List T) (n : ℕ) (same : cut ≡ left) (long : n ≡ length source)
@@ -55,13 +51,10 @@ module _ {T : Type 0} (D I : T → Type 0) (C : T → T → Type 0) (old left cu
         let L = items old in
         let within : j ≤ cut.len = rw cut_len le in
         let sum : j + 0 ≡ j = omega arith in
-        let kept : slice_range (all_slots cut) j cut.len ≡ slice_range L j lesser =
-        sym (range_within (all_slots cut) j cut.len within) ∙ ap (λ l. slice_range l j cut.len) as_listed
-        ∙ ap (λ n. slice_range (take lesser L) j n) cut_len ∙ range_within L j lesser le in
-        let start : take cut.len xs ≡ ws ++ slice_range L j lesser =
-        ap (take cut.len) written ∙ take_writes ws (all_slots cut) j cut.len made within ∙ ap (λ l. ws ++ l) kept in
-        let rest : drop cut.len xs ≡ freed.0 ++ spare old =
-        ap (drop cut.len) written ∙ drop-append-drop j (all_slots cut) ws cut.len within made ∙ freed.2 in
+        let zero : lesser + 0 ≡ lesser = omega arith in
+        let kept : slice_range (all_slots cut) j cut.len ≡ slice_range L j lesser = between_is (all_slots cut) j cut.len ∙ ap (drop j) as_listed ∙ sym (between_is L j lesser) in
+        let start : take cut.len xs ≡ ws ++ slice_range L j lesser = rw (written, take_writes ws (all_slots cut) j cut.len made within, kept) in
+        let rest : drop cut.len xs ≡ freed.0 ++ spare old = rw (written, drop-append-drop j (all_slots cut) ws cut.len within made) freed.2 in
         record {
           k = j;
           j = 0;
@@ -71,7 +64,7 @@ module _ {T : Type 0} (D I : T → Type 0) (C : T → T → Type 0) (old left cu
           refused_at = rw sum refused;
           clones = cloned;
           listed = start;
-          left = λ _. (freed.0, defaults, [], rw (empty_range source lesser (lesser + 0) (omega arith)) tt, rw (append-nil freed.0) rest);
+          left = λ _. (freed.0, defaults, [], rw (zero, between_none source lesser) tt, rw (append-nil freed.0) rest);
         }
 
     -- the list is as long as it was, and clones stand behind it
@@ -82,19 +75,12 @@ module _ {T : Type 0} (D I : T → Type 0) (C : T → T → Type 0) (old left cu
         let sum : lesser + (j - lesser) ≡ j = omega arith in
         let none : freed.0 ≡ [] = nil_from_length freed.0 (omega (arith, defaults.0)) in
         let start : take cut.len xs ≡ take lesser ws ++ slice_range (items old) lesser lesser =
-        ap (take cut.len) written ∙ take-append-le cut.len ws (drop j (all_slots cut)) (rw made le)
-        ∙ ap (λ n. take n ws) cut_len ∙ sym (ap (λ l. take lesser ws ++ l) (empty_range (items old) lesser lesser refl) ∙ append-nil (take lesser ws)) in
-        let count : j - lesser ≡ lesser + (j - lesser) - lesser = omega arith in
-        let first : AllZip C (take lesser source) (take lesser ws) =
-        subst (λ l. AllZip C l (take lesser ws)) (take-take lesser j source (omega arith)) (AllZip-take C lesser (take j source) ws cloned) in
-        let further : drop lesser (take j source) ≡ slice_range source lesser (lesser + (j - lesser)) =
-        drop_within source lesser j (omega arith) ∙ ap (λ n. take n (drop lesser source)) count in
-        let later = subst (λ l. AllZip C l (drop lesser ws)) further (AllZip-drop C lesser (take j source) ws cloned) in
-        let others : drop (j - cut.len) (spare cut) ≡ drop (j - lesser) (spare old) =
-        ap (λ n. drop (j - n) (spare cut)) cut_len ∙ ap (drop (j - lesser)) (freed.2 ∙ ap (λ ds. ds ++ spare old) none) in
-        let rest : drop cut.len xs ≡ drop lesser ws ++ drop (j - lesser) (spare old) =
-        ap (drop cut.len) written ∙ drop_writes ws (all_slots cut) j cut.len made le
-        ∙ ap (λ n. drop n ws ++ drop (j - cut.len) (spare cut)) cut_len ∙ ap (λ l. drop lesser ws ++ l) others in
+        rw (written, take-append-le cut.len ws (drop j (all_slots cut)) (rw made le), cut_len, between_none (items old) lesser, append-nil) in
+        let halves = AllZip-cut C lesser (take j source) ws cloned in
+        let first : AllZip C (take lesser source) (take lesser ws) = rw (take-take lesser j source (omega arith)) at halves.0 in
+        let further : drop lesser (take j source) ≡ slice_range source lesser (lesser + (j - lesser)) = rw sum (sym (between_is source lesser j)) in
+        let later = rw further at halves.1 in
+        let rest : drop cut.len xs ≡ drop lesser ws ++ drop (j - lesser) (spare old) = rw (written, drop_writes ws (all_slots cut) j cut.len made le, freed.2, none, cut_len) in
         record {
           k = lesser;
           j = j - lesser;
@@ -128,9 +114,6 @@ module _ {T : Type 0} (D I : T → Type 0) (C : T → T → Type 0) (old left cu
   -- every clone was made: what lies behind them is by the slot rule
   pub all_cloned : (new : Slots T) → items_len new ≡ length source → spare new ≡ drop (length source) (all_slots cut) → SlotRule D old new
   all_cloned new reaches behind =
-      let ends : length source ≡ cut.len + (length source - cut.len) = omega (arith, cut_len) in
-      let behind_cut : drop (length source) (all_slots cut) ≡ drop (length source - lesser) (freed.0 ++ spare old) =
-      ap (λ n. drop n (all_slots cut)) ends ∙ sym (drop-drop (length source - cut.len) cut.len (all_slots cut))
-      ∙ ap (λ n. drop (length source - n) (spare cut)) cut_len ∙ ap (drop (length source - lesser)) freed.2 in
-      let spared = behind ∙ behind_cut ∙ beyond (cases_lt (length source) (items_len old)) in
-      (freed.0, (freed.1.0 ∙ ap (λ n. items_len old - n) (sym reaches), freed.1.1), spared ∙ ap (λ n. freed.0 ++ drop (n - items_len old) (spare old)) (sym reaches))
+      let ends : cut.len + (length source - cut.len) ≡ length source = omega (arith, cut_len) in
+      let behind_cut : drop (length source) (all_slots cut) ≡ drop (length source - lesser) (freed.0 ++ spare old) = rw (← freed.2, ← cut_len, drop-drop, ends) in
+      rw reaches (freed.0, freed.1, behind ∙ behind_cut ∙ beyond (cases_lt (length source) (items_len old)))

@@ -1,6 +1,7 @@
 -- Lemmas on clones written over slots.
-use Rattle.std.proofs.Common.{◌≡◌, ℕ, ◌+◌, ◌-◌, ◌<◌, ◌≤◌, List, [], ◌∷◌, ◌++◌, length, take, drop, set, get_or, slice_range, sym, ap, ◌∙◌, le_refl, arith, append_assoc, length-take-le, length-append, length-drop, take-append-drop, Result, Ok, Err, OnErr}
-use Rattle.std.proofs.lemmas.List.{drop_more, set_at, drop-drop, drop-append-le, drop-take, take-take, take_at, drop_at}
+use Rattle.std.proofs.Common.{◌≡◌, ℕ, ◌+◌, ◌-◌, ◌<◌, ◌≤◌, List, [], ◌∷◌, ◌++◌, length, take, drop, set, get_or, slice_range, ap, ◌∙◌, arith, append_assoc, length-take-le, length-append, length-drop, take-append-drop, Result, Ok, Err, OnErr}
+use Rattle.std.proofs.lemmas.Slice.{between_is}
+use Rattle.std.proofs.lemmas.List.{drop_more, set_at, drop-drop, drop-append-le, take-take, take_at, drop_at}
 use Rattle.std.proofs.Math.Seq.{take-append-add}
 use Rattle.tinyvec_slots.specs.Slots.{Slots, SlotRule, all_slots, items, spare, split_at}
 use Rattle.tinyvec_slots.proofs.SlotsLemmas.{slots_used}
@@ -15,44 +16,21 @@ module _ {X : Type 0} where
   -- one more write behind those that were made
   pub set_next : (xs ys : List X) (i : ℕ) (y : X) → length xs ≡ i → i < length ys
       → set (xs ++ drop i ys) i y ≡ (xs ++ y ∷ []) ++ drop (i + 1) ys
-  set_next xs ys i y long lt =
-      ap (λ l. set (xs ++ l) i y) (drop_more ys i y lt) ∙ set_at xs (get_or ys i y) (drop (i + 1) ys) y i long
-      ∙ sym (append_assoc xs (y ∷ []) (drop (i + 1) ys))
+  set_next xs ys i y long lt = rw (drop_more ys i y lt, set_at xs (get_or ys i y) (drop (i + 1) ys) y i long, append_assoc)
 
   pub length-part : (xs : List X) (a k : ℕ) → a + k ≤ length xs → length (take k (drop a xs)) ≡ k
   length-part xs a k fits = length-take-le k (drop a xs) (omega (arith, length-drop a xs))
 
-  -- what j writes at the front of the k slots from a on leave of all the slots
-  pub in_part : (xs ws : List X) (a k j : ℕ) → j ≤ k → a + k ≤ length xs
-      → take a xs ++ ((ws ++ drop j (take k (drop a xs))) ++ post_of a k xs) ≡ take a xs ++ ws ++ drop (a + j) xs
-  in_part xs ws a k j le fits =
-      let part = drop a xs in
-      let long = length-part xs a k fits in
-      let rest : drop j (take k part) ++ drop k part ≡ drop (a + j) xs =
-      sym (drop-append-le j (take k part) (drop k part) (omega arith)) ∙ ap (drop j) (take-append-drop k part) ∙ drop-drop j a xs in
-      ap (λ l. take a xs ++ l) (append_assoc ws (drop j (take k part)) (drop k part) ∙ ap (λ l. ws ++ l) rest)
-      ∙ sym (append_assoc (take a xs) ws (drop (a + j) xs))
-
-  -- the same of the slots that were seen before, where the part then held the writes before what it held
+  -- What j writes at the front of the k slots from a on leave of all the slots. They were seen before, as the part held the writes before what it held.
   pub written_part : (xs seen ws new : List X) (a k j : ℕ) → xs ≡ seen → new ≡ ws ++ drop j (take k (drop a xs)) → j ≤ k → a + k ≤ length xs
       → take a xs ++ (new ++ post_of a k xs) ≡ take a seen ++ ws ++ drop (a + j) seen
   written_part xs seen ws new a k j same is le fits =
-      ap (λ l. take a xs ++ (l ++ post_of a k xs)) is ∙ in_part xs ws a k j le fits ∙ ap (λ l. take a l ++ ws ++ drop (a + j) l) same
-
-  -- the first j of m elements left out
-  pub drop_within : (xs : List X) (j m : ℕ) → j ≤ m → drop j (take m xs) ≡ take (m - j) (drop j xs)
-  drop_within xs j m le =
-      let ends : m ≡ j + (m - j) = omega arith in
-      ap (λ n. drop j (take n xs)) ends ∙ drop-take j (m - j) xs
+      let long = length-part xs a k fits in
+      rw (is, ← same, append_assoc, append_assoc, ← drop-append-le j (take k (drop a xs)) (drop k (drop a xs)) (omega arith), take-append-drop, drop-drop)
 
   -- a range does not see what lies behind its end
-  pub range_within : (xs : List X) (j m : ℕ) → j ≤ m → slice_range (take m xs) j m ≡ slice_range xs j m
-  range_within xs j m le = ap (take (m - j)) (drop_within xs j m le) ∙ take-take (m - j) (m - j) (drop j xs) (le_refl _)
-
-  -- nor what lies behind m
   pub range_before : (xs : List X) (i j m : ℕ) → i ≤ j → j ≤ m → slice_range (take m xs) i j ≡ slice_range xs i j
-  range_before xs i j m le within =
-      ap (take (j - i)) (drop_within xs i m (omega arith)) ∙ take-take (j - i) (m - i) (drop i xs) (omega arith)
+  range_before xs i j m le within = rw (between_is (take m xs) i j, between_is xs i j, take-take j m xs within)
 
   -- a list that starts with j writes, cut to no fewer
   pub take_writes : (ws xs : List X) (j m : ℕ) → length ws ≡ j → j ≤ m → take m (ws ++ drop j xs) ≡ ws ++ slice_range xs j m
@@ -64,7 +42,7 @@ module _ {X : Type 0} where
   pub drop_writes : (ws xs : List X) (j m : ℕ) → length ws ≡ j → m ≤ j → drop m (ws ++ drop j xs) ≡ drop m ws ++ drop (j - m) (drop m xs)
   drop_writes ws xs j m long le =
       let ends : m + (j - m) ≡ j = omega arith in
-      drop-append-le m ws (drop j xs) (omega arith) ∙ ap (λ l. drop m ws ++ l) (sym (drop-drop (j - m) m xs ∙ ap (λ n. drop n xs) ends))
+      rw (drop-append-le m ws (drop j xs) (omega arith), drop-drop, ends)
 
 -- a list that was made longer by writes over its spare slots
 module _ {T : Type 0} (old : Slots T) (ws xs : List T) (n : ℕ) (fits : old.len ≤ length (all_slots old)) (ends : old.len + length ws ≡ n)
@@ -73,11 +51,9 @@ module _ {T : Type 0} (old : Slots T) (ws xs : List T) (n : ℕ) (fits : old.len
   front = length-append (items old) ws ∙ ap (λ k. k + length ws) (length-take-le old.len (all_slots old) fits) ∙ ends
 
   pub grown_items : take n xs ≡ items old ++ ws
-  grown_items = ap (take n) is ∙ take_at (items old ++ ws) (drop n (all_slots old)) n front
+  grown_items = rw (is, take_at (items old ++ ws) (drop n (all_slots old)) n front)
 
   pub grown : (D : T → Type 0) → SlotRule D old (split_at n xs)
   grown D =
-      let behind : drop n xs ≡ drop (length ws) (spare old) =
-      ap (drop n) is ∙ drop_at (items old ++ ws) (drop n (all_slots old)) n front
-      ∙ sym (drop-drop (length ws) old.len (all_slots old) ∙ ap (λ k. drop k (all_slots old)) ends) in
+      let behind : drop n xs ≡ drop (length ws) (spare old) = rw (is, drop_at (items old ++ ws) (drop n (all_slots old)) n front, drop-drop, ends) in
       slots_used D old (split_at n xs) (length ws) (ap length grown_items ∙ length-append (items old) ws) behind

@@ -1,8 +1,9 @@
 -- Clones written over slots, block by block.
-use Rattle.std.proofs.Common.{◌≡◌, ℕ, zero, suc, ◌+◌, ◌-◌, ◌<◌, ◌≤◌, List, [], ◌∷◌, ◌++◌, All, length, take, drop, set, get_or, replicate, refl, sym, ap, subst, ◌∙◌, le_refl, arith, append-nil, append_assoc, length-append, length-drop, take_at, drop_at, take_all, drop-drop, get_or-drop}
-use Rattle.std.proofs.lemmas.List.{take_more, replicate_more, drop_all}
+use Rattle.std.proofs.Common.{◌≡◌, ℕ, zero, suc, ◌+◌, ◌-◌, ◌<◌, ◌≤◌, List, [], ◌∷◌, ◌++◌, All, length, take, drop, set, get_or, replicate, refl, sym, ap, subst, ◌∙◌, le_refl, arith, append-nil, append_assoc, length-append, take_at, drop_at, take_all, drop-drop, get_or-drop}
+use Rattle.std.proofs.lemmas.List.{take_more, replicate_more, drop_all, take_rest}
 use Rattle.std.proofs.lemmas.List.Elements.{All-get_or, All-take, All-drop, AllZip-push}
 use Rattle.std.proofs.lemmas.Result.{IfOk-from_err, on_ok_weaker, on_err_weaker}
+use Rattle.std.proofs.Concat.{each_append}
 use Rattle.std.proofs.Math.Seq.{take-add}
 use Rattle.std.specs.Prelude.{Result, IsErr}
 use Rattle.std.specs.declared.clone.Clone as Clone
@@ -17,12 +18,6 @@ all_granted I [] j all h = omega (arith, h.0)
 all_granted I (x ∷ xs) j all h = h.1 x (All-get_or I (x ∷ xs) j x h.0 all)
 
 module _ {X : Type 0} (C : X → X → Type 0) where
-  pub AllZip-join : (xs ys vs ws : List X) → AllZip C xs ys → AllZip C vs ws → AllZip C (xs ++ vs) (ys ++ ws)
-  AllZip-join [] [] vs ws h k = k
-  AllZip-join [] (y ∷ ys) vs ws h k = absurd h
-  AllZip-join (x ∷ xs) [] vs ws h k = absurd h
-  AllZip-join (x ∷ xs) (y ∷ ys) vs ws h k = (h.0, AllZip-join xs ys vs ws h.1 k)
-
   -- none yet
   pub clones_none : (from old : List X) → ClonesOver C (take 0 from) 0 old old
   clones_none from old = record { made = []; clones = tt; count = refl; written = refl }
@@ -52,7 +47,7 @@ module _ {X : Type 0} (C : X → X → Type 0) where
   pub clones_all : (from old new : List X) (n : ℕ) → length from ≤ n → ClonesOver C (take n from) n old new → n ≤ length from → ClonesOver C from (length from) old new
   clones_all from old new n le h fits =
       let same : n ≡ length from = omega arith in
-      subst (λ k. ClonesOver C from k old new) same (subst (λ l. ClonesOver C l n old new) (take_all n from le) h)
+      rw (take_all n from le, same) at h
 
   -- over k elements from `start` on, seen from all of them
   pub clones_from : (start k n : ℕ) (xs old new : List X) → start + k ≤ length old → n ≤ k
@@ -70,30 +65,20 @@ module _ {X : Type 0} (C : X → X → Type 0) where
     made = h.made;
     clones = h.clones;
     count = h.count;
-    written = ap (λ l. take at old ++ l) (h.written ∙ ap (λ l. h.made ++ l) (drop-drop n at old)) ∙ sym (append_assoc (take at old) h.made (drop (at + n) old));
+    written = rw (h.written, drop-drop, append_assoc);
   }
 
   -- over all elements
   pub clones_whole_of : (xs old new : List X) → length xs ≡ length old → ClonesOver C xs (length xs) old new → AllZip C xs new
-  clones_whole_of xs old new same h =
-      let whole : new ≡ h.made = h.written ∙ ap (λ l. h.made ++ l) (drop_all (length xs) old (omega (arith, same))) ∙ append-nil h.made in
-      subst (AllZip C xs) (sym whole) h.clones
+  clones_whole_of xs old new same h = rw (h.written, drop_all (length xs) old (omega (arith, same)), append-nil) h.clones
 
-  -- the first n of a list of clones
-  pub AllZip-take : (n : ℕ) (xs ys : List X) → AllZip C xs ys → AllZip C (take n xs) (take n ys)
-  AllZip-take zero xs ys h = tt
-  AllZip-take (suc n) [] [] h = tt
-  AllZip-take (suc n) [] (y ∷ ys) h = absurd h
-  AllZip-take (suc n) (x ∷ xs) [] h = absurd h
-  AllZip-take (suc n) (x ∷ xs) (y ∷ ys) h = (h.0, AllZip-take n xs ys h.1)
-
-  -- and the others
-  pub AllZip-drop : (n : ℕ) (xs ys : List X) → AllZip C xs ys → AllZip C (drop n xs) (drop n ys)
-  AllZip-drop zero xs ys h = h
-  AllZip-drop (suc n) [] [] h = tt
-  AllZip-drop (suc n) [] (y ∷ ys) h = absurd h
-  AllZip-drop (suc n) (x ∷ xs) [] h = absurd h
-  AllZip-drop (suc n) (x ∷ xs) (y ∷ ys) h = AllZip-drop n xs ys h.1
+  -- the first n of a list of clones, and the others
+  pub AllZip-cut : (n : ℕ) (xs ys : List X) → AllZip C xs ys → AllZip C (take n xs) (take n ys) × AllZip C (drop n xs) (drop n ys)
+  AllZip-cut zero xs ys h = (tt, h)
+  AllZip-cut (suc n) [] [] h = (tt, tt)
+  AllZip-cut (suc n) [] (y ∷ ys) h = absurd h
+  AllZip-cut (suc n) (x ∷ xs) [] h = absurd h
+  AllZip-cut (suc n) (x ∷ xs) (y ∷ ys) h = let cut = AllZip-cut n xs ys h.1 in ((h.0, cut.0), cut.1)
 
   -- more clones behind the first a
   module _ (from old to part : List X) (a : ℕ) (fits : length from ≤ length old) (long : length to ≡ length old)
@@ -108,7 +93,7 @@ module _ {X : Type 0} (C : X → X → Type 0) where
     written = take a to ++ (part ++ post_of a (length to - a) to)
 
     rest_whole : rest ≡ drop a from
-    rest_whole = take_all (length from - a) (drop a from) (omega (arith, length-drop a from))
+    rest_whole = take_rest from a
 
     rest_len : length rest ≡ length from - a
     rest_len = length-part from a (length from - a) (omega arith)
@@ -119,26 +104,22 @@ module _ {X : Type 0} (C : X → X → Type 0) where
         let ys : List X = done.made in
         let zs : List X = h.made in
         let ends : a + k ≤ length from = omega (arith, fit, rest_len) in
-        let start : take a (ys ++ drop a old) ≡ ys = take_at ys (drop a old) a done.count in
-        let end : drop (a + k) (ys ++ drop a old) ≡ drop (a + k) old =
-        sym (drop-drop k a (ys ++ drop a old)) ∙ ap (drop k) (drop_at ys (drop a old) a done.count) ∙ drop-drop k a old in
-        let clones = AllZip-join (take a from) ys (take k rest) zs done.clones h.clones in
-        let cut : take a from ++ take k rest ≡ take (a + k) from = ap (λ l. take a from ++ take k l) rest_whole ∙ sym (take-add a k from) in (
+        let end : drop (a + k) (ys ++ drop a old) ≡ drop (a + k) old = rw (← drop-drop k a (ys ++ drop a old), drop_at ys (drop a old) a done.count, drop-drop) in
+        let cut : take a from ++ take k rest ≡ take (a + k) from = rw (rest_whole, take-add a k from) in (
           ends,
           record {
             made = ys ++ zs;
-            clones = subst (λ l. AllZip C l (ys ++ zs)) cut clones;
-            count = length-append ys zs ∙ ap (λ n. n + length zs) done.count ∙ ap (λ n. a + n) h.count;
+            clones = rw cut at (each_append C (take a from) ys (take k rest) zs done.clones h.clones);
+            count = rw (length-append, done.count, h.count);
             written = written_part to (ys ++ drop a old) zs part a (length to - a) k done.written h.written (omega arith) (omega arith)
-                ∙ ap (λ l. l ++ zs ++ drop (a + k) (ys ++ drop a old)) start ∙ ap (λ l. ys ++ zs ++ l) end;
+                ∙ rw (take_at ys (drop a old) a done.count, end);
           },
         )
 
     -- all were written
     pub clones_whole : ClonesOver C rest (length rest) lent part → ClonesOver C from (length from) old written
     clones_whole h =
-        let whole : ClonesOver C (take (length rest) rest) (length rest) lent part = subst (λ l. ClonesOver C l (length rest) lent part) (sym (take_all (length rest) rest (le_refl _))) h in
-        let further = clones_further (length rest) (le_refl _) whole in
+        let further = clones_further (length rest) (le_refl _) (rw (take_all (length rest) rest (le_refl _)) h) in
         clones_all from old written (a + length rest) (omega (arith, rest_len)) further.1 further.0
 
     -- a clone was refused
@@ -147,8 +128,7 @@ module _ {X : Type 0} (C : X → X → Type 0) where
     clones_in_part I found =
         let j : ℕ = found.0 in
         let below : j < length rest = found.1.0 in
-        let refused : HoldsAt (λ x. ¬ (I x)) from (a + j) =
-        λ d. subst (λ x. ¬ (I x)) (ap (λ l. get_or l j d) rest_whole ∙ get_or-drop a from j d) (found.1.1 d) in (
+        let refused : HoldsAt (λ x. ¬ (I x)) from (a + j) = λ d. rw (← get_or-drop a from j d, ← rest_whole) (found.1.1 d) in (
           a + j,
           (omega (arith, below, rest_len), refused),
           (clones_further j (omega (arith, below)) found.2).1,

@@ -3,7 +3,7 @@ use Rattle.std.specs.List.{AllZip}
 use Rattle.std.proofs.lemmas.List.Elements.{same_from_all_zip}
 use Rattle.tinyvec_slots.specs.Slots.{all_slots, split_at}
 use Rattle.tinyvec_slots.specs.Clones.{are_clones}
-use Rattle.tinyvec_slots.proofs.ClonesOverLemmas.{AllZip-take}
+use Rattle.tinyvec_slots.proofs.ClonesOverLemmas.{AllZip-cut}
 use Rattle.tinyvec_array.proofs.array_vec.ArrayVec.clone.Goals as goal
 
 pub returns : goal.returns
@@ -12,7 +12,7 @@ returns g c =
     let v = c.args.self.now in
     let new = g.A.Array.slots c.clone_slots.new.to in
     let slots : AllZip C (all_slots v) new = rw (← c.as_inner.ensures.slots) c.in_ok-clone_slots.ensures.ok in
-    let items = AllZip-take C v.len (all_slots v) new slots in
+    let items = (AllZip-cut C v.len (all_slots v) new slots).0 in
     let after : c.from_array_len.result ≡ split_at v.len new = c.from_array_len.ensures ∙ ap (λ n. split_at n new) c.len-len.ensures.field in
     record {
       items = rw after (are_clones C _ _ items);

@@ -1,5 +1,5 @@
-use Rattle.std.proofs.Common.{◌≤◌, drop, sym, ap, ◌∙◌, arith}
-use Rattle.tinyvec_slots.proofs.CloneLemmas.{drop_within}
+use Rattle.std.proofs.Common.{drop, ap, ◌∙◌}
+use Rattle.std.proofs.lemmas.Slice.{between_is}
 use Rattle.tinyvec_slots.proofs.BorderLemmas.{list_to}
 use Rattle.tinyvec_slice.proofs.slice_vec.edits.GenericSliceVec+mut+slice+T.split_off.Goals as goal
 
@@ -9,6 +9,5 @@ returns-clause-tail g c =
     let n = c.len-len.result in
     let at = c.args.at in
     let long = c.len-len.ensures.value in
-    let within : at ≤ n = omega (arith, c.requires) in
     rw (c.split_at_mut-first.ensures.back, c.take-slots.ensures.value)
-    (sym (drop_within v.lent.now at n within) ∙ ap (drop at) (list_to v.len v.lent.now n long))
+    (between_is v.lent.now at n ∙ ap (drop at) (list_to v.len v.lent.now n long))
