@@ -1,14 +1,8 @@
 -- Texts that are extended piece by piece.
 use Rattle.std.proofs.Common.{◌≡◌, ℕ, ◌+◌, ◌≤◌, List, [], ◌∷◌, ◌++◌, Option, Some, length, length-append, encode_utf8, refl, sym, ap, subst, arith}
-use Rattle.std.specs.Prelude.{Result, Ok, Err, OnErr}
 use Rattle.std.specs.List.{flat_map}
 use Rattle.std.specs.Str.{encode_utf8_all}
 use Rattle.std.specs.Iterator.{YieldsThen, AlwaysYields}
-
--- what holds anyway holds on failure
-pub on_err : {X E : Type 0} (P : Type 0) (r : Result X E) → P → OnErr r P
-on_err P (Ok x) p = tt
-on_err P (Err e) p = p
 
 -- characters, one after another
 pub flat_encodes : (cs : List ℕ) → flat_map encode_utf8 cs ≡ encode_utf8_all cs

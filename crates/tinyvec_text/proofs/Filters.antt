@@ -5,9 +5,11 @@ use Rattle.std.specs.Str.{all_scalars, encode_utf8_all}
 use Rattle.std.specs.Char.{IsScalar}
 use Rattle.std.specs.String.{RetainsChars}
 use Rattle.std.specs.List.Retain.{IsFiltered}
-use Rattle.std.proofs.lemmas.List.{drop-drop, drop-set-lt, drop_all, get_or-drop}
+use Rattle.std.proofs.lemmas.Grind.{drop_more_same}
+use Rattle.tinyvec_slots.proofs.Lists.{same_at}
+use Rattle.std.proofs.lemmas.List.{take_more, drop-drop, drop-set-lt, drop_all, get_or-drop}
 use Rattle.std.proofs.lemmas.Str.{IsUtf8-append, IsUtf8-encode, IsUtf8-nil}
-use Rattle.std.proofs.Math.Seq.{take-suc, take-suc-set}
+use Rattle.std.proofs.Math.Seq.{take-suc-set}
 use denote.Param.Members.{Mut}
 
 -- bs is xs, with the i bytes at `from` copied to `to`
@@ -23,23 +25,16 @@ pub copied_more : (xs bs : List ℕ) (to from i : ℕ) → to ≤ from → from 
     → CopiedDown xs (set bs (to + i) (get_or bs (from + i) 0)) to from (i + 1)
 copied_more xs bs to from i down within h =
     let b = get_or bs (from + i) 0 in
-    let here : from + i + 0 ≡ from + i = omega arith in
-    let is : b ≡ get_or (drop from xs) i 0 =
-    ap (λ k. get_or bs k 0) (sym here) ∙ sym (get_or-drop (from + i) bs 0 0) ∙ ap (λ l. get_or l 0 0) h.rest
-    ∙ get_or-drop (from + i) xs 0 0 ∙ ap (λ k. get_or xs k 0) here ∙ sym (get_or-drop from xs i 0) in
+    let is : b ≡ get_or (drop from xs) i 0 = rw get_or-drop (same_at bs xs (from + i) 0 h.rest) in
     let left = length-drop from xs in
     let len = h.len in
     let on : to + (i + 1) ≡ suc (to + i) = omega arith in
-    let more : suc i ≡ i + 1 = omega arith in
     let past : from + i + 1 ≡ from + (i + 1) = omega arith in record {
       len = length-set bs (to + i) b ∙ len;
       front =
-          ap (λ k. take k (set bs (to + i) b)) on ∙ take-suc-set bs (to + i) b (omega (arith, within, down, len))
-          ∙ (λ j. h.front j ++ is j ∷ []) ∙ append_assoc (take to xs) (take i (drop from xs)) (get_or (drop from xs) i 0 ∷ [])
-          ∙ ap (λ l. take to xs ++ l) (sym (take-suc (drop from xs) i 0 (omega (arith, within, left))) ∙ ap (λ k. take k (drop from xs)) more);
-      rest =
-          drop-set-lt (from + (i + 1)) bs (to + i) b (omega (arith, down)) ∙ ap (λ k. drop k bs) (sym past) ∙ sym (drop-drop 1 (from + i) bs)
-          ∙ ap (drop 1) h.rest ∙ drop-drop 1 (from + i) xs ∙ ap (λ k. drop k xs) past;
+          rw (on, take-suc-set bs (to + i) b (omega (arith, within, down, len)), h.front, append_assoc)
+          (ap (λ l. take to xs ++ l) ((λ j. take i (drop from xs) ++ is j ∷ []) ∙ sym (take_more (drop from xs) i 0 (omega (arith, within, left)))));
+      rest = rw (← past, drop-set-lt (from + i + 1) bs (to + i) b (omega (arith, down))) (drop_more_same bs xs (from + i) h.rest);
     }
 
 module _ {F : Type 0} (g : Mut F (ℕ × Unit {0}) Bool) (first : F) (xs : List ℕ) where

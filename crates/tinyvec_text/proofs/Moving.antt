@@ -19,12 +19,8 @@ copied_block xs bs cs to from i k down h b =
     let on : to + i + k + (from - to) ≡ from + i + k = omega (arith, down) in
     let both : from + i + k ≡ from + (i + k) = omega arith in record {
       len = b.len ∙ h.len;
-      front =
-          ap (λ n. take n cs) up ∙ b.front ∙ (λ j. h.front j ++ take k (h.rest j)) ∙ append_assoc (take to xs) (take i (drop from xs)) (take k (drop (from + i) xs))
-          ∙ ap (λ l. take to xs ++ l) (ap (λ l. take i (drop from xs) ++ take k l) (sym (drop-drop i from xs)) ∙ sym (take-add i k (drop from xs)));
-      rest =
-          ap (λ n. drop n cs) past ∙ sym (drop-drop (from - to) (to + i + k) cs) ∙ ap (drop (from - to)) b.rest ∙ drop-drop (from - to) (to + i + k) bs
-          ∙ ap (λ n. drop n bs) on ∙ sym (drop-drop k (from + i) bs) ∙ ap (drop k) h.rest ∙ drop-drop k (from + i) xs ∙ ap (λ n. drop n xs) both;
+      front = rw (up, b.front, h.front, h.rest, append_assoc, take-add i k (drop from xs), drop-drop);
+      rest = rw (past, ← drop-drop (from - to) (to + i + k) cs, b.rest, drop-drop, on, ← drop-drop k (from + i) bs, h.rest, drop-drop, both);
     }
 
 -- bs is xs, with all but the first `left` of the `count` bytes at `from` copied to the end, which begins at `to`
@@ -42,20 +38,15 @@ copied_block_up xs bs cs from to count l k up within ends h b =
     let low : from + l ≤ to + l = omega (arith, up) in
     let joined : from + l + k ≡ from + (l + k) = omega arith in
     let past : to + l + k ≡ to + (l + k) = omega arith in
-    let moved : take k (drop (to + l) cs) ≡ take k (drop l m) =
-    sym (drop-take (to + l) k cs) ∙ ap (drop (to + l)) b.front ∙ drop_at (take (to + l) bs) (take k (drop (from + l) bs)) (to + l) inside
-    ∙ sym (drop-take (from + l) k bs) ∙ ap (λ n. drop (from + l) (take n bs)) joined ∙ ap (drop (from + l)) h.same
-    ∙ ap (λ n. drop (from + l) (take n xs)) (sym joined) ∙ drop-take (from + l) k xs ∙ ap (take k) (sym (drop-drop l from xs))
-    ∙ sym (drop-take l k (drop from xs)) ∙ ap (drop l) (sym (take-take (l + k) count (drop from xs) within)) ∙ drop-take l k m in
-    let stayed : drop k (drop (to + l) cs) ≡ drop k (drop l m) =
-    drop-drop k (to + l) cs ∙ b.rest ∙ ap (λ n. drop n bs) past ∙ h.back ∙ sym (drop-drop k l m) in
+    let source : take k (drop (from + l) bs) ≡ take k (drop l m) =
+    rw (← drop-take (from + l) k bs, joined, h.same, ← joined, drop-take (from + l) k xs, ← drop-drop l from xs, ← drop-take l k (drop from xs), ← take-take (l + k) count (drop from xs) within, drop-take) in
+    let moved : take k (drop (to + l) cs) ≡ take k (drop l m) = rw (← drop-take (to + l) k cs, b.front, drop_at (take (to + l) bs) (take k (drop (from + l) bs)) (to + l) inside) source in
+    let stayed : drop k (drop (to + l) cs) ≡ drop k (drop l m) = rw (drop-drop, b.rest, past, h.back, drop-drop) in
     record {
       len = b.len ∙ long;
       same =
-          sym (take-take (from + l) (to + l + k) cs (omega (arith, up))) ∙ ap (take (from + l)) b.front
-          ∙ take-append-le (from + l) (take (to + l) bs) (take k (drop (from + l) bs)) (omega (arith, inside, low))
-          ∙ take-take (from + l) (to + l) bs low ∙ sym (take-take (from + l) (from + (l + k)) bs (omega arith))
-          ∙ ap (take (from + l)) h.same ∙ take-take (from + l) (from + (l + k)) xs (omega arith);
+          rw (← take-take (from + l) (to + l + k) cs (omega (arith, up)), b.front, take-append-le (from + l) (take (to + l) bs) (take k (drop (from + l) bs)) (omega (arith, inside, low)), take-take (from + l) (to + l) bs low)
+          (rw (take-take (from + l) (from + (l + k)) bs (omega arith), take-take (from + l) (from + (l + k)) xs (omega arith)) at (ap (take (from + l)) h.same));
       back = sym (take-append-drop k (drop (to + l) cs)) ∙ (λ j. moved j ++ stayed j) ∙ take-append-drop k (drop l m);
     }
 
@@ -63,6 +54,4 @@ copied_block_up xs bs cs from to count l k up within ends h b =
 pub inserted : (xs bs ys : List ℕ) (i n : ℕ) → i ≤ length xs → n ≡ length xs - i → ys ≡ xs ++ bs → take i ys ++ bs ++ take n (drop i ys) ≡ take i xs ++ bs ++ drop i xs
 inserted xs bs ys i n le e is =
     let size : length (drop i xs) ≡ n = length-drop i xs ∙ sym e in
-    let front : take i ys ≡ take i xs = ap (take i) is ∙ take-append-le i xs bs le in
-    let back : take n (drop i ys) ≡ drop i xs = ap (λ l. take n (drop i l)) is ∙ ap (take n) (drop-append-le i xs bs le) ∙ take_at (drop i xs) bs n size in
-    λ j. front j ++ bs ++ back j
+    rw (is, take-append-le i xs bs le, drop-append-le i xs bs le, take_at (drop i xs) bs n size)

@@ -2,7 +2,8 @@ use Rattle.std.proofs.Common.{◌+◌, ◌<◌, ◌++◌, length, length-append,
 use Rattle.std.specs.List.{flat_map}
 use Rattle.tinyvec.specs.View.{capacity_in}
 use Rattle.tinyvec_text.specs.InlineText.{text_len}
-use Rattle.tinyvec_text.proofs.Extending.{on_err, flat_encodes, no_more}
+use Rattle.tinyvec_slots.proofs.CloneLemmas.{on_err}
+use Rattle.tinyvec_text.proofs.Extending.{flat_encodes, no_more}
 use Rattle.tinyvec_text.proofs.inline_text.extending.InlineTextExtendChar.extend.Goals as goal
 
 pub returns-in_err-push-clause-known : goal.returns-in_err-push-clause-known
@@ -20,7 +21,7 @@ pub returns-in_err-push-clause-full : goal.returns-in_err-push-clause-full
 returns-in_err-push-clause-full g c =
     let at = c.loop-c in
     let kept = c.in_err-push.ensures.room.refused in
-    on_err _ c.from_residual.result (
+    on_err c.from_residual.result (
       c.into_iter-rest.result,
       at.yielded,
       c.in-Some.c,

@@ -2,7 +2,8 @@ use Rattle.std.proofs.Common.{◌+◌, ◌<◌, length, length-append, ap, sym, 
 use Rattle.std.specs.List.{flat_map}
 use Rattle.tinyvec.specs.View.{capacity_in}
 use Rattle.tinyvec_text.specs.InlineText.{text_len}
-use Rattle.tinyvec_text.proofs.Extending.{on_err, no_more}
+use Rattle.tinyvec_slots.proofs.CloneLemmas.{on_err}
+use Rattle.tinyvec_text.proofs.Extending.{no_more}
 use Rattle.tinyvec_text.proofs.inline_text.extending.InlineTextExtendRefStr.extend.Goals as goal
 
 pub returns-in_err-push_str-clause-known : goal.returns-in_err-push_str-clause-known
@@ -19,7 +20,7 @@ pub returns-in_err-push_str-clause-full : goal.returns-in_err-push_str-clause-fu
 returns-in_err-push_str-clause-full g c =
     let at = c.loop-s in
     let kept = c.in_err-push_str.ensures.room.refused in
-    on_err _ c.from_residual.result (
+    on_err c.from_residual.result (
       c.into_iter-rest.result,
       at.yielded,
       c.in-Some.s,

@@ -1,6 +1,6 @@
 use Rattle.std.proofs.Common.{◌≤◌, ◌++◌, length, encode_utf8_all, ap, ◌∙◌, arith, rules}
 use Rattle.tinyvec.specs.View.{capacity_in}
-use Rattle.tinyvec_text.proofs.Extending.{on_err}
+use Rattle.tinyvec_slots.proofs.CloneLemmas.{on_err}
 use Rattle.tinyvec_text.proofs.inline_text.extending.InlineTextFromIteratorChar.from_iter.Goals as goal
 
 pub returns-clause-ran : goal.returns-clause-ran
@@ -15,4 +15,4 @@ returns-in_err-extend-clause-full g c =
     let no_room = full.7 in
     let len = ap length (full.6 ∙ ap (λ bs. bs ++ encode_utf8_all full.1) c.new-text.ensures.bytes) in
     let room : g.row.N ≤ capacity_in g.row.N c.extend.new.self.place = search rules in
-    on_err _ c.from_residual.result (full.0, full.1, full.2, full.3, full.4, full.5, omega (arith, no_room, len, room))
+    on_err c.from_residual.result (full.0, full.1, full.2, full.3, full.4, full.5, omega (arith, no_room, len, room))

@@ -1,7 +1,7 @@
 use Rattle.std.proofs.Common.{◌≤◌, ◌++◌, length, ap, ◌∙◌, arith, rules}
 use Rattle.std.specs.List.{flat_map}
 use Rattle.tinyvec.specs.View.{capacity_in}
-use Rattle.tinyvec_text.proofs.Extending.{on_err}
+use Rattle.tinyvec_slots.proofs.CloneLemmas.{on_err}
 use Rattle.tinyvec_text.proofs.inline_text.extending.InlineTextFromIteratorRefStr.from_iter.Goals as goal
 
 pub returns-clause-ran : goal.returns-clause-ran
@@ -16,4 +16,4 @@ returns-in_err-extend-clause-full g c =
     let no_room = full.7 in
     let len = ap length (full.6 ∙ ap (λ bs. bs ++ flat_map (λ x. x.now) full.1) c.new-text.ensures.bytes) in
     let room : g.row.N ≤ capacity_in g.row.N c.extend.new.self.place = search rules in
-    on_err _ c.from_residual.result (full.0, full.1, full.2, full.3, full.4, full.5, omega (arith, no_room, len, room))
+    on_err c.from_residual.result (full.0, full.1, full.2, full.3, full.4, full.5, omega (arith, no_room, len, room))
