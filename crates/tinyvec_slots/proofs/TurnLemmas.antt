@@ -1,10 +1,10 @@
 -- Lemmas on items that change their places by swaps.
-use Rattle.std.proofs.Common.{◌≡◌, ◌≢◌, ℕ, suc, ◌-◌, ◌+◌, ◌<◌, ◌≤◌, List, [], ◌∷◌, ◌++◌, length, get_or, take, drop, slice_range, inl, inr, refl, sym, ap, ◌∙◌, arith, append_assoc, append-nil}
+use Rattle.std.proofs.Common.{◌≡◌, ◌≢◌, ℕ, suc, ◌-◌, ◌+◌, ◌<◌, ◌≤◌, List, [], ◌∷◌, ◌++◌, length, get_or, take, drop, slice_range, inl, inr, sym, ap, ◌∙◌, arith, append_assoc, append-nil}
 use Rattle.std.specs.List.{SwappedAt}
 use Rattle.std.proofs.lemmas.Grind.{drop_more_same}
 use Rattle.std.proofs.lemmas.List.Edits.{between_none, between_more}
 use Rattle.std.proofs.lemmas.Slice.{between_to_end}
-use Rattle.tinyvec_slots.proofs.Lists.{same_at}
+use Rattle.tinyvec_slots.proofs.Lists.{an_element, same_at}
 use Rattle.std.proofs.lemmas.Bool.{cases_eq}
 use Rattle.std.proofs.lemmas.List.{same_lists, places, get_or_default, drop_more, drop_all}
 
@@ -51,8 +51,7 @@ module _ {X : Type 0} (xs ys : List X) (first middle next : ℕ) (some : first <
 -- the same where no value is at hand
 pub turned_step : {X : Type 0} (xs ys : List X) (first middle next : ℕ) → first < middle → middle ≤ next → next < length xs
     → length ys ≡ length xs → SwappedAt xs ys first next → turned ys (first + 1) middle (next + 1) ≡ turned xs first middle next
-turned_step [] ys first middle next some behind within long is = absurd (omega arith)
-turned_step (x ∷ xs) ys first middle next some behind within long is = turned_more (x ∷ xs) ys first middle next some behind within long is x
+turned_step xs ys first middle next some behind within long is = turned_more xs ys first middle next some behind within long is (an_element xs next within)
 
 -- a part that ran out gives way to the next one
 module _ {X : Type 0} (xs : List X) where
@@ -97,12 +96,9 @@ module _ {X : Type 0} (first xs ys : List X) (i j : ℕ) (le : i ≤ j) (within 
   pub closed_more : (at back : ℕ) → back ≤ j → SwappedAt xs ys i j → drop j xs ≡ drop j first
       → take i xs ≡ take at first ++ slice_range first back j
       → (take (i + 1) ys ≡ take at first ++ slice_range first back (j + 1)) × (drop (j + 1) ys ≡ drop (j + 1) first)
-  closed_more at back above is rest kept = closed first refl
-    where
-      closed : (l : List X) → l ≡ first → (take (i + 1) ys ≡ take at first ++ slice_range first back (j + 1)) × (drop (j + 1) ys ≡ drop (j + 1) first)
-      closed [] e = absurd (omega (arith, ap length e))
-      closed (d ∷ l) e =
-          let item : get_or xs j d ≡ get_or first j d = same_at xs first j d rest in (
-            rw (take-swapped xs ys i j le within long is d, kept, item, between_more first back j d above (omega (arith, same)), append_assoc),
-            drop-swapped xs ys i j le within long is d ∙ drop_more_same xs first j rest,
-          )
+  closed_more at back above is rest kept =
+      let d : X = an_element xs j within in
+      let item : get_or xs j d ≡ get_or first j d = same_at xs first j d rest in (
+        rw (take-swapped xs ys i j le within long is d, kept, item, between_more first back j d above (omega (arith, same)), append_assoc),
+        drop-swapped xs ys i j le within long is d ∙ drop_more_same xs first j rest,
+      )
