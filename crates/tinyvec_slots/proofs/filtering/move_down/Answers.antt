@@ -1,4 +1,4 @@
-use Rattle.std.proofs.Common.{◌≡◌, ℕ, ◌+◌, ◌<◌, ◌≤◌, List, [], ◌∷◌, ◌++◌, length, take, drop, set, get_or, swap, sym, ap, ◌∙◌, le_refl, arith, length-set, drop-set-lt}
+use Rattle.std.proofs.Common.{◌≡◌, ℕ, ◌+◌, ◌<◌, ◌≤◌, List, ◌++◌, length, take, drop, set, get_or, swap, ◌∙◌, le_refl, arith, length-set, drop-set-lt}
 use Rattle.std.proofs.lemmas.Grind.{common_steps}
 use Rattle.std.proofs.lemmas.List.{take-set-le, take_more_set}
 use Rattle.tinyvec_slots.proofs.FiltersLemmas.{item_at}
@@ -14,8 +14,7 @@ module _ {X : Type 0} (xs : List X) (k i : ℕ) (le : k ≤ i) (lt : i < length 
 
   put_front : (d x y : X) → x ≡ get_or xs i x → y ≡ get_or xs i x → take (k + 1) (set (set xs i d) k y) ≡ take k xs ++ take 1 (drop i xs)
   put_front d x y is value =
-      take_more_set (set xs i d) k y (omega (arith, length-set xs i d)) ∙ ap (λ l. l ++ y ∷ []) (take-set-le k xs i d le)
-      ∙ ap (λ z. take k xs ++ z ∷ []) (value ∙ sym is) ∙ ap (λ l. take k xs ++ l) (sym (item_at xs k i x le lt is))
+      rw (take_more_set (set xs i d) k y (omega (arith, length-set xs i d)), take-set-le k xs i d le, item_at xs k i x le lt is, value, ← is)
 
   -- it was swapped with that at k
   swap_behind : drop (i + 1) (swap xs k i) ≡ drop (i + 1) xs

@@ -1,4 +1,4 @@
-use Rattle.std.proofs.Common.{◌≡◌, ◌≤◌, ◌++◌, take, drop, length, length-take, length-drop, Ok, refl, sym, ap, ◌∙◌, arith}
+use Rattle.std.proofs.Common.{◌≡◌, ◌≤◌, ◌++◌, drop, length, length-take, length-drop, Ok, refl, sym, ap, ◌∙◌, arith}
 use Rattle.std.specs.declared.iter.Fuse.{Fuse}
 use Rattle.std.specs.Iterator.Adapters.{fuse_steps}
 use Rattle.tinyvec_slots.specs.Fused.{fused_rest}
@@ -30,14 +30,10 @@ module _ (g : _) (c : After-fill g) where
   mid = gap_view c.fill.new.self c.fill.new.replacement (g.V.CanCut.items refilled)
 
   front_is : mid.front ≡ old.front ++ c.fill.ensures.placed.0
-  front_is =
-      ap (take (gap_front c.fill.new.self)) is_written.0 ∙ c.fill.ensures.placed.1
-      ∙ ap (λ l. take (gap_front c.args.gap) l ++ c.fill.ensures.placed.0) c.as_mut_slice.ensures.value
+  front_is = rw (is_written.0, ← c.as_mut_slice.ensures.value) c.fill.ensures.placed.1
 
   back_is : mid.back ≡ old.back
-  back_is =
-      ap (drop (gap_back c.fill.new.self)) is_written.0 ∙ ap (λ k. drop k c.fill.new.slots) c.fill.ensures.back
-      ∙ c.fill.ensures.behind ∙ ap (drop (gap_back c.args.gap)) c.as_mut_slice.ensures.value
+  back_is = rw (is_written.0, c.fill.ensures.back, ← c.as_mut_slice.ensures.value) c.fill.ensures.behind
 
 -- the replacement ended in the gap
 module _ (g : _) (c : goal.After-drop-replacement g) where

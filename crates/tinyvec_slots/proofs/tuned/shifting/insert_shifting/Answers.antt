@@ -1,4 +1,4 @@
-use Rattle.std.proofs.Common.{◌≡◌, ◌+◌, ◌∙◌, ◌++◌, ◌∷◌, [], ap, rules, insert, take, drop}
+use Rattle.std.proofs.Common.{◌≡◌, ◌+◌, ◌++◌, ◌∷◌, [], rules, insert, take}
 use Rattle.tinyvec_slots.proofs.Lists.{insert_over}
 use Rattle.tinyvec_slots.proofs.tuned.shifting.insert_shifting.Goals as goal
 
@@ -7,6 +7,5 @@ returns g c =
     let xs = c.args.slots.now in
     let n = c.args.len in
     let end : c.min-end.result ≡ n + 1 = search rules in
-    let put : c.shift_up.new.items ++ c.shift_up.result ∷ [] ≡ insert (take (n + 1) xs) c.args.index c.args.x = c.shift_up.ensures ∙ ap (λ k. insert (take k xs) c.args.index c.args.x) end in
-    ap (λ l. l ++ drop c.min-end.result xs) (insert_over xs c.shift_up.new.items c.args.index n c.args.x c.shift_up.result c.requires.in_list c.requires.room put)
-    ∙ ap (λ k. insert (take n xs) c.args.index c.args.x ++ drop k xs) end
+    let put : c.shift_up.new.items ++ c.shift_up.result ∷ [] ≡ insert (take (n + 1) xs) c.args.index c.args.x = rw end at c.shift_up.ensures in
+    rw (insert_over xs c.shift_up.new.items c.args.index n c.args.x c.shift_up.result c.requires.in_list c.requires.room put, end)

@@ -1,4 +1,4 @@
-use Rattle.std.proofs.Common.{append_assoc, ◌≡◌, ◌∙◌, ◌++◌, ◌∷◌, [], ap, rules, get_or, take, drop, remove}
+use Rattle.std.proofs.Common.{append_assoc, ◌≡◌, ◌∙◌, ap, rules, get_or, take}
 use Rattle.std.proofs.lemmas.List.{get_or-take}
 use Rattle.tinyvec_slots.proofs.tuned.shifting.remove_shifting.Goals as goal
 
@@ -15,7 +15,5 @@ returns-clause-after g c =
     let end : c.min-end.result ≡ c.args.len = search rules in (
       c.default.result,
       c.default.ensures,
-      ap (λ l. l ++ drop c.min-end.result xs) c.shift_down.ensures.after
-          ∙ ap (λ n. (remove (take n xs) c.args.index ++ c.default.result ∷ []) ++ drop n xs) end
-          ∙ simp append_assoc,
+      rw (c.shift_down.ensures.after, end) (simp append_assoc),
     )
