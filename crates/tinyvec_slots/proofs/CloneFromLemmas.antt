@@ -36,14 +36,10 @@ module _ {T : Type 0} (D I : T → Type 0) (C : T → T → Type 0) (old left cu
     InPart = ClonesInPart D I C source (items old) (take cut.len xs) lesser ⊤ (spare old) (drop cut.len xs)
 
     made : length ws ≡ j
-    made =
-        let below : j < length source = refused.0 in
-        sym (length_all_zip C (take j source) ws cloned) ∙ length-take-le j source (omega arith)
+    made = sym (length_all_zip C (take j source) ws cloned) ∙ length-take-le j source (omega (arith, refused.0))
 
     defaults : AreDefaults D (items_len old - lesser) freed.0
-    defaults =
-        let count : items_len old - length source ≡ items_len old - lesser = omega arith in
-        (freed.1.0 ∙ count, freed.1.1)
+    defaults = (freed.1.0 ∙ omega arith, freed.1.1)
 
     -- the refused clone is one of the first
     early : j ≤ lesser → InPart
