@@ -1,20 +1,17 @@
 -- Lists of bytes as texts.
-use Rattle.std.proofs.Common.{◌≡◌, ℕ, ◌<◌, ◌≤◌, List, All, IsUtf8, IsTrue, inl, inr, subst, sym, ◌∙◌, refl, rules, arith}
-use Rattle.std.specs.Bool.{⊤}
-use Rattle.std.specs.Prelude.{Bool, true, false, Result, Ok, Err, IsErr}
+use Rattle.std.proofs.Common.{◌≡◌, ℕ, ◌≤◌, List, All, IsUtf8, IsTrue, subst, sym, ◌∙◌, refl, arith}
+use Rattle.std.specs.Prelude.{Bool, true, false, Ok}
 use Rattle.std.proofs.lemmas.List.Elements.{All-append, All-drop}
 use Rattle.std.proofs.lemmas.Str.{IsUtf8-had}
-use Rattle.tinyvec_slots.specs.Clones.{RefusedAt}
 use Rattle.tinyvec_slots.specs.Slots.{AreDefaults}
 use Rattle.tinyvec.specs.SpliceLaws.{frame_becomes}
-use Rattle.tinyvec.specs.TinyVec.{place_of, tiny_items, tiny_len, tiny_spare, tiny_capacity, is_inline, IsInline, TinySlotRule, SameFrame, Becomes, Unchanged}
-use Rattle.tinyvec.specs.Refused.{RefusedFor}
+use Rattle.tinyvec.specs.TinyVec.{tiny_items, tiny_len, tiny_spare, tiny_capacity, is_inline, IsInline, TinySlotRule, SameFrame, Becomes, Unchanged}
 use Rattle.tinyvec.specs.Room.{GrowsFor, RoomGrows, MakesRoom}
 use Rattle.tinyvec.specs.declared.tiny_vec.TinyVec.{TinyVec}
 use Rattle.tinyvec.specs.declared.tiny_vec.TinyVec.TheVariants.{Inline, Heap}
 use Rattle.std.specs.String.Boundary.{IsSplitPoint}
 use Rattle.tinyvec.specs.View.{Place, in_array, on_heap, lies_inline, capacity_in, ViewPlaceRule}
-use Rattle.tinyvec.proofs.TinyLemmas.{same_place, tiny_slots_then_framed}
+use Rattle.tinyvec.proofs.TinyLemmas.{tiny_slots_then_framed}
 use Rattle.tinyvec_text.specs.InlineText.{Text, IsText, text_of, text_view, text_chars, text_len, TextMakesRoom, IsBoundary}
 use Rattle.tinyvec_text.proofs.Boundaries.{split_from_boundary}
 
@@ -35,42 +32,7 @@ pub room_inline : (slots : ℕ) (p : Place) → IsTrue (lies_inline p) → capac
 room_inline slots in_array is = refl
 room_inline slots (on_heap n) is = absurd (let no = is in cc)
 
--- a refused call that needs room for more bytes than fit changes nothing
-refused_text : {X E : Type 0} (moves : Bool) (slots need : ℕ) (t : Text) (r : Result X E) → IsErr r → text_len t ≤ capacity_in slots t.place
-    → capacity_in slots t.place < need → TextMakesRoom moves slots need t t r
-refused_text moves slots need t (Ok x) err fits few = search rules
-refused_text moves slots need t (Err e) err fits few = record {
-  place = tt;
-  capacity = omega arith;
-  same_room = λ _. refl;
-  grown = tt;
-  fits = fits;
-  succeeds = λ enough. absurd (omega (arith, enough, few));
-  inline_succeeds = λ is enough. absurd (omega (arith, enough, few, room_inline slots t.place is));
-  full = few;
-  refused = refl;
-}
-
 module _ {A : Type 0} where
-  pub text_unchanged : (old new : TinyVec A ℕ) → Unchanged old new → text_of new ≡ text_of old
-  text_unchanged old new h i = record { bytes = h.items i; place = same_place 0 (place_of old) (place_of new) h.place (h.capacity 0) i }
-
-  -- the clone of a number cannot be refused, so a refusal was one of memory
-  pub refused_memory : (xs : List ℕ) (slots need : ℕ) (Q : ℕ → Type 0) (old new : TinyVec A ℕ)
-      → RefusedFor slots need ((j : ℕ) × RefusedAt (λ _. ⊤) xs j × Q j) old new → Unchanged old new
-  refused_memory xs slots need Q old new (inl h) = h.1
-  refused_memory xs slots need Q old new (inr h) = absurd (h.1.1.1 0 tt)
-
-  -- the same, seen from the list
-  pub refused_room : {X E : Type 0} (moves : Bool) (slots need : ℕ) (old new : TinyVec A ℕ) (t : Text) (r : Result X E) → IsErr r
-      → text_of old ≡ t → tiny_len new ≤ tiny_capacity slots new → tiny_capacity slots old < need → Unchanged old new
-      → TextMakesRoom moves slots need t (text_of new) r
-  refused_room moves slots need old new t r err same fits few h =
-      let is : text_of new ≡ t = text_unchanged old new h ∙ same in
-      subst (λ (u : Text). TextMakesRoom moves slots need t u r) (sym is)
-      (refused_text moves slots need t r err (subst (λ (u : Text). text_len u ≤ capacity_in slots u.place) is fits)
-      (subst (λ (u : Text). capacity_in slots u.place < need) same few))
-
   pub text_utf8 : (v : TinyVec A ℕ) → IsText v → IsUtf8 (tiny_items v)
   text_utf8 v is = IsUtf8-had _ is.0
 

@@ -1,9 +1,13 @@
 //! Bytes of a list that are copied to the heap, or replaced by others, by moves of memory.
-ghost use Rattle.std.specs.Prelude.{◌≡◌, ◌+◌, ◌-◌, ◌≤◌, ◌++◌, length, take, drop, false, is_ok, if◌then◌else◌, IsOk, IfOk, OnErr};
+ghost use Rattle.std.specs.Prelude.{◌≡◌, ◌+◌, ◌-◌, ◌*◌, ◌≤◌, ◌++◌, length, take, drop, false, is_ok, if◌then◌else◌, IsOk, IfOk, OnErr, vec_len, vec_capacity};
+ghost use Rattle.tinyvec_slots.specs.Slots.{Gains, items, items_len};
 ghost use Rattle.tinyvec.specs.TinyVec.{tiny_items, tiny_len, tiny_capacity, is_inline, IsInline, IsTail, Becomes};
+ghost use Rattle.tinyvec.specs.Room.{GrowsFor, MakesRoom};
+ghost use Rattle.tinyvec.specs.OnHeap.{HeapBecomes};
 
 use std::alloc::{AllocError, Global};
-use tinyvec::TinyVec;
+use std::mem;
+use tinyvec::{ArrayVec, TinyVec};
 
 // So many bytes are moved at a time.
 const BLOCK: usize = 4096;
@@ -153,4 +157,191 @@ fn move_block(bytes: &mut [u8], from: usize, to: usize, count: usize)
     let mut block = [0; BLOCK];
     block[..count].copy_from_slice(&bytes[from..from + count]);
     bytes[to..to + count].copy_from_slice(&block[..count]);
+}
+
+/// Appends `bytes`, as `extend_from_slice_copy` does.
+#[inline(always)]
+pub fn push_bytes<const N: usize>(
+    list: &mut TinyVec<[u8; N]>,
+    bytes: &[u8],
+) -> Result<(), AllocError>
+    ensures items { tiny_items list.new
+        ≡ (if is_ok result then tiny_items list.old ++ bytes.now else tiny_items list.old) }
+    ensures room { MakesRoom GrowsFor (λ b. b ≡ 0) N (tiny_len list.old + length bytes.now) list.old list.new result }
+{
+    match list {
+        TinyVec::Inline(v, _) if bytes.len() <= v.capacity() - v.len() => append_inline(v, bytes),
+        _ => {
+            list.reserve(bytes.len())?;
+            append_on_heap(list, bytes);
+        }
+    }
+    Ok(())
+}
+
+/// Appends `bytes` to a list that has room.
+#[inline(always)]
+pub fn append_bytes<const N: usize>(list: &mut TinyVec<[u8; N]>, bytes: &[u8])
+    requires { tiny_len list.old + length bytes.now ≤ tiny_capacity N list.old }
+    ensures { Becomes (λ b. b ≡ 0) N list.old list.new (tiny_items list.old ++ bytes.now) }
+{
+    match list {
+        TinyVec::Inline(v, _) => append_inline(v, bytes),
+        _ => append_on_heap(list, bytes),
+    }
+}
+
+// Appends `bytes` to a list in its array that has room.
+#[inline(always)]
+fn append_inline<const N: usize>(v: &mut ArrayVec<[u8; N]>, bytes: &[u8])
+    requires { length bytes.now ≤ N - items_len v.old }
+    ensures { Gains N (length bytes.now) v.old v.new (items v.old ++ bytes.now) }
+{
+    let len = v.len();
+    let end = bytes.len();
+    write_over(&mut v.grab_spare_slice_mut()[0..end], bytes, N);
+    v.set_len(len + end);
+}
+
+// Writes `bytes` over as many, which are not more than `most`. Up to 64 go by two blocks that overlap.
+#[inline(always)]
+fn write_over(to: &mut [u8], bytes: &[u8], most: usize)
+    requires same_len { length to.old ≡ length bytes.now }
+    requires bound { length bytes.now ≤ most }
+    ensures { to.new ≡ bytes.now }
+{
+    // The minimum is the length. It lets the compiler drop what is longer than `most`.
+    let count = bytes.len().min(most);
+    if 64 < count {
+        write_many(to, bytes);
+        return;
+    }
+    if 32 < count {
+        write_ends::<32>(to, bytes);
+        return;
+    }
+    if 16 < count {
+        write_ends::<16>(to, bytes);
+        return;
+    }
+    if 8 <= count {
+        write_ends::<8>(to, bytes);
+        return;
+    }
+    if 4 <= count {
+        write_ends::<4>(to, bytes);
+        return;
+    }
+    if 2 <= count {
+        write_ends::<2>(to, bytes);
+        return;
+    }
+    if count == 1 {
+        to[0] = bytes[0];
+    }
+}
+
+// `write_over` of any number of bytes. A call of its own, so that each push is short.
+#[inline(never)]
+fn write_many(to: &mut [u8], bytes: &[u8])
+    requires { length to.old ≡ length bytes.now }
+    ensures { to.new ≡ bytes.now }
+{
+    to.copy_from_slice(bytes);
+}
+
+// Writes the first W bytes and the last W, which are all of them.
+#[inline(always)]
+fn write_ends<const W: usize>(to: &mut [u8], bytes: &[u8])
+    requires same_len { length to.old ≡ length bytes.now }
+    requires enough { W ≤ length bytes.now }
+    requires all { length bytes.now ≤ 2 * W }
+    ensures { to.new ≡ bytes.now }
+{
+    let (Some(first), Some(last)) = (bytes.first_chunk::<W>(), bytes.last_chunk::<W>()) else {
+        unreachable!();
+    };
+    let Some(front) = to.first_chunk_mut::<W>() else {
+        unreachable!();
+    };
+    *front = *first;
+    let Some(back) = to.last_chunk_mut::<W>() else {
+        unreachable!();
+    };
+    *back = *last;
+}
+
+// Appends `bytes` to a list on the heap that has room. A call of its own, so that each push is short.
+#[inline(never)]
+fn append_on_heap<const N: usize>(list: &mut TinyVec<[u8; N]>, bytes: &[u8])
+    requires place { is_inline list.old ≡ false }
+    requires room { tiny_len list.old + length bytes.now ≤ tiny_capacity N list.old }
+    ensures { Becomes (λ b. b ≡ 0) N list.old list.new (tiny_items list.old ++ bytes.now) }
+{
+    let TinyVec::Heap(heap) = list else {
+        unreachable!();
+    };
+    // The block of so few is worth no `memmove`.
+    if bytes.len() < 16 {
+        append_few(heap, bytes);
+        return;
+    }
+    if bytes.len() <= BLOCK {
+        append_block(heap, bytes);
+        return;
+    }
+    append_many(heap, bytes);
+}
+
+// Appends a few bytes, one by one.
+#[inline(always)]
+fn append_few(heap: &mut Vec<u8>, bytes: &[u8])
+    requires room { vec_len heap.old + length bytes.now ≤ vec_capacity heap.old }
+    ensures { HeapBecomes heap.old heap.new (heap.old.items ++ bytes.now) }
+{
+    let mut vec = mem::replace(heap, Vec::new(*heap.allocator()));
+    for i in 0..bytes.len() {
+        vec.push_reserved(bytes[i]);
+    }
+    *heap = vec;
+}
+
+// Appends the bytes in blocks.
+#[inline(never)]
+fn append_many(heap: &mut Vec<u8>, bytes: &[u8])
+    requires room { vec_len heap.old + length bytes.now ≤ vec_capacity heap.old }
+    ensures { HeapBecomes heap.old heap.new (heap.old.items ++ bytes.now) }
+{
+    let mut done = 0;
+    while done < bytes.len() {
+        let some = BLOCK.min(bytes.len() - done);
+        append_block(heap, &bytes[done..done + some]);
+        done += some;
+    }
+}
+
+// Appends a block. `push_block` works on a local variable, whose length and pointer LLVM keeps in registers.
+fn append_block(heap: &mut Vec<u8>, bytes: &[u8])
+    requires few { length bytes.now ≤ 4096 }
+    requires room { vec_len heap.old + length bytes.now ≤ vec_capacity heap.old }
+    ensures { HeapBecomes heap.old heap.new (heap.old.items ++ bytes.now) }
+{
+    let mut vec = mem::replace(heap, Vec::new(*heap.allocator()));
+    push_block(&mut vec, bytes);
+    *heap = vec;
+}
+
+// Appends a block by way of the stack. LLVM makes one `memmove` of it, and no block.
+#[inline(always)]
+fn push_block(vec: &mut Vec<u8>, bytes: &[u8])
+    requires few { length bytes.now ≤ 4096 }
+    requires room { vec_len vec.old + length bytes.now ≤ vec_capacity vec.old }
+    ensures { HeapBecomes vec.old vec.new (vec.old.items ++ bytes.now) }
+{
+    let mut block = [0; BLOCK];
+    let count = bytes.len();
+    block[..count].copy_from_slice(bytes);
+    for i in 0..count {
+        vec.push_reserved(block[i]);
+    }
 }

@@ -8,7 +8,10 @@ ghost use Rattle.tinyvec_slots.specs.Ranges.{range_start, range_end, before, aft
 ghost use Rattle.std.specs.String.Boundary.{IsSplitPoint};
 
 use super::InlineText;
-use super::bytes::{copied_to_heap, insert_bytes, remove_bytes, replace_bytes, split_bytes};
+use super::bytes::{
+    append_bytes, copied_to_heap, insert_bytes, push_bytes, remove_bytes, replace_bytes,
+    split_bytes,
+};
 use std::alloc::{AllocError, Global};
 use std::ops::RangeBounds;
 use tinyvec::TinyVec;
@@ -37,9 +40,7 @@ impl<const N: usize> InlineText<N> {
         ensures { TextBecomes N self.old self.new
             (self.old.bytes ++ string.now) (text_chars self.old ++ chars string.now) }
     {
-        let Ok(()) = self.list.extend_from_slice(string.as_bytes()) else {
-            unreachable!();
-        };
+        append_bytes(&mut self.list, string.as_bytes());
     }
 
     /// Appends `ch` to a text that has room. It allocates nothing, so it cannot fail.
@@ -66,7 +67,7 @@ impl<const N: usize> InlineText<N> {
         ensures room { TextMakesRoom (lies_inline self.old.place) N (text_len self.old + length string.now)
             self.old self.new result }
     {
-        self.list.extend_from_slice(string.as_bytes())?;
+        push_bytes(&mut self.list, string.as_bytes())?;
         Ok(())
     }
 
