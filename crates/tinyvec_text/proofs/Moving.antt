@@ -50,8 +50,8 @@ copied_block_up xs bs cs from to count l k up within ends h b =
       back = sym (take-append-drop k (drop (to + l) cs)) ∙ (λ j. moved j ++ stayed j) ∙ take-append-drop k (drop l m);
     }
 
--- bs was appended to xs, and then moved to i
-pub inserted : (xs bs ys : List ℕ) (i n : ℕ) → i ≤ length xs → n ≡ length xs - i → ys ≡ xs ++ bs → take i ys ++ bs ++ take n (drop i ys) ≡ take i xs ++ bs ++ drop i xs
-inserted xs bs ys i n le e is =
+-- zs was appended to xs, and what is behind i moved over it to the end
+pub inserted : (xs zs bs ys : List ℕ) (i n : ℕ) → i ≤ length xs → n ≡ length xs - i → ys ≡ xs ++ zs → take i ys ++ bs ++ take n (drop i ys) ≡ take i xs ++ bs ++ drop i xs
+inserted xs zs bs ys i n le e is =
     let size : length (drop i xs) ≡ n = length-drop i xs ∙ sym e in
-    rw (is, take-append-le i xs bs le, drop-append-le i xs bs le, take_at (drop i xs) bs n size)
+    rw (is, take-append-le i xs zs le, drop-append-le i xs zs le, take_at (drop i xs) zs n size)

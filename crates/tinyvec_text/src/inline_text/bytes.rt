@@ -1,5 +1,5 @@
 //! Bytes of a list that are copied to the heap, or replaced by others, by moves of memory.
-ghost use Rattle.std.specs.Prelude.{◌≡◌, ◌+◌, ◌-◌, ◌*◌, ◌≤◌, ◌++◌, length, take, drop, false, is_ok, if◌then◌else◌, IsOk, IfOk, OnErr, vec_len, vec_capacity};
+ghost use Rattle.std.specs.Prelude.{◌≡◌, ◌+◌, ◌-◌, ◌*◌, ◌≤◌, ◌++◌, ◌∷◌, [], length, take, drop, false, is_ok, if◌then◌else◌, IsOk, IfOk, OnErr, vec_len, vec_capacity};
 ghost use Rattle.tinyvec_slots.specs.Slots.{Gains, items, items_len};
 ghost use Rattle.tinyvec.specs.TinyVec.{tiny_items, tiny_len, tiny_capacity, is_inline, IsInline, IsTail, Becomes};
 ghost use Rattle.tinyvec.specs.Room.{GrowsFor, MakesRoom};
@@ -91,8 +91,9 @@ pub fn remove_bytes<const N: usize>(list: &mut TinyVec<[u8; N]>, start: usize, e
     list.truncate(left);
 }
 
-/// Inserts `bytes` at `index` into a list that has room.
-pub fn insert_bytes<const N: usize>(list: &mut TinyVec<[u8; N]>, index: usize, bytes: &[u8])
+// Inserts `bytes` at `index` into a list that has room. A call of its own, since many ranges are not shorter.
+#[inline(never)]
+fn insert_bytes<const N: usize>(list: &mut TinyVec<[u8; N]>, index: usize, bytes: &[u8])
     requires in_list { index ≤ tiny_len list.old }
     requires room { tiny_len list.old + length bytes.now ≤ tiny_capacity N list.old }
     ensures { Becomes (λ b. b ≡ 0) N list.old list.new
@@ -105,6 +106,101 @@ pub fn insert_bytes<const N: usize>(list: &mut TinyVec<[u8; N]>, index: usize, b
     put_before(list.as_mut_slice(), index, behind, bytes);
 }
 
+/// Inserts `bytes` at `index`, and makes room as `push_bytes` does.
+#[inline(always)]
+pub fn put_bytes<const N: usize>(
+    list: &mut TinyVec<[u8; N]>,
+    index: usize,
+    bytes: &[u8],
+) -> Result<(), AllocError>
+    requires { index ≤ tiny_len list.old }
+    ensures items { tiny_items list.new ≡ (if is_ok result
+        then take index (tiny_items list.old) ++ bytes.now ++ drop index (tiny_items list.old) else tiny_items list.old) }
+    ensures room { MakesRoom GrowsFor (λ b. b ≡ 0) N (tiny_len list.old + length bytes.now) list.old list.new result }
+{
+    match list {
+        TinyVec::Inline(v, _) if bytes.len() <= v.capacity() - v.len() => insert_inline(
+            v, index, bytes,
+        ),
+        _ => {
+            list.reserve(bytes.len())?;
+            let TinyVec::Heap(heap) = list else {
+                unreachable!();
+            };
+            insert_on_heap(heap, index, bytes);
+        }
+    }
+    Ok(())
+}
+
+/// `put_bytes` of one byte, which goes onto the heap as `Vec` puts it.
+#[inline(always)]
+pub fn put_byte<const N: usize>(
+    list: &mut TinyVec<[u8; N]>,
+    index: usize,
+    byte: u8,
+) -> Result<(), AllocError>
+    requires { index ≤ tiny_len list.old }
+    ensures items { tiny_items list.new ≡ (if is_ok result
+        then take index (tiny_items list.old) ++ byte ∷ [] ++ drop index (tiny_items list.old) else tiny_items list.old) }
+    ensures room { MakesRoom GrowsFor (λ b. b ≡ 0) N (tiny_len list.old + 1) list.old list.new result }
+{
+    match list {
+        TinyVec::Inline(v, _) if v.len() < v.capacity() => insert_inline(v, index, &[byte]),
+        TinyVec::Heap(v) if v.len() < v.capacity() => {
+            let _room_was_there = v.insert(index, byte);
+        }
+        _ => return put_byte_slow(list, index, byte),
+    }
+    Ok(())
+}
+
+// `put_byte` into any list.
+#[cold]
+#[inline(never)]
+fn put_byte_slow<const N: usize>(
+    list: &mut TinyVec<[u8; N]>,
+    index: usize,
+    byte: u8,
+) -> Result<(), AllocError>
+    requires { index ≤ tiny_len list.old }
+    ensures items { tiny_items list.new ≡ (if is_ok result
+        then take index (tiny_items list.old) ++ byte ∷ [] ++ drop index (tiny_items list.old) else tiny_items list.old) }
+    ensures room { MakesRoom GrowsFor (λ b. b ≡ 0) N (tiny_len list.old + 1) list.old list.new result }
+{
+    put_bytes(list, index, &[byte])
+}
+
+// Inserts `bytes` at `index` into a list in its array that has room.
+#[inline(always)]
+fn insert_inline<const N: usize>(v: &mut ArrayVec<[u8; N]>, index: usize, bytes: &[u8])
+    requires in_list { index ≤ items_len v.old }
+    requires room { length bytes.now ≤ N - items_len v.old }
+    ensures { Gains N (length bytes.now) v.old v.new
+        (take index (items v.old) ++ bytes.now ++ drop index (items v.old)) }
+{
+    let len = v.len();
+    v.set_len(len + bytes.len());
+    // The minimum is all that is behind, which LLVM does not know.
+    put_few_before(v.as_mut_slice(), index, N.min(len - index), bytes, N);
+}
+
+// Inserts `bytes` at `index` into a list on the heap that has room.
+#[inline(always)]
+fn insert_on_heap(heap: &mut Vec<u8>, index: usize, bytes: &[u8])
+    requires in_list { index ≤ vec_len heap.old }
+    requires room { vec_len heap.old + length bytes.now ≤ vec_capacity heap.old }
+    ensures { HeapBecomes heap.old heap.new (take index heap.old.items ++ bytes.now ++ drop index heap.old.items) }
+{
+    let behind = heap.len() - index;
+    if bytes.len() < 16 {
+        append_few(heap, bytes);
+    } else {
+        append_many(heap, bytes);
+    }
+    put_few_before(heap.as_mut_slice(), index, behind, bytes, bytes.len());
+}
+
 // Moves the `behind` items at `index` to the end, and writes `bytes` in front of them.
 fn put_before(items: &mut [u8], index: usize, behind: usize, bytes: &[u8])
     requires { index + length bytes.now + behind ≡ length items.old }
@@ -113,6 +209,18 @@ fn put_before(items: &mut [u8], index: usize, behind: usize, bytes: &[u8])
     let end = index + bytes.len();
     move_up(items, index, end, behind);
     items[index..end].copy_from_slice(bytes);
+}
+
+// `put_before` of bytes that are not more than `most`.
+#[inline(always)]
+fn put_few_before(items: &mut [u8], index: usize, behind: usize, bytes: &[u8], most: usize)
+    requires ends { index + length bytes.now + behind ≡ length items.old }
+    requires bound { length bytes.now ≤ most }
+    ensures { items.new ≡ take index items.old ++ bytes.now ++ take behind (drop index items.old) }
+{
+    let end = index + bytes.len();
+    move_up(items, index, end, behind);
+    write_over(&mut items[index..end], bytes, most);
 }
 
 // Moves the bytes from `from` on down to `to`. As many as they moved by are left at the end.
@@ -137,6 +245,10 @@ fn move_up(bytes: &mut [u8], from: usize, to: usize, count: usize)
     ensures front { take from bytes.new ≡ take from bytes.old }
     ensures back { drop to bytes.new ≡ take count (drop from bytes.old) }
 {
+    if count <= BLOCK {
+        move_block(bytes, from, to, count);
+        return;
+    }
     let mut left = count;
     while 0 < left {
         let some = BLOCK.min(left);

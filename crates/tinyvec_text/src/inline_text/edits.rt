@@ -9,7 +9,7 @@ ghost use Rattle.std.specs.String.Boundary.{IsSplitPoint};
 
 use super::InlineText;
 use super::bytes::{
-    append_bytes, copied_to_heap, insert_bytes, push_bytes, remove_bytes, replace_bytes,
+    append_bytes, copied_to_heap, push_bytes, put_byte, put_bytes, remove_bytes, replace_bytes,
     split_bytes,
 };
 use std::alloc::{AllocError, Global};
@@ -206,29 +206,47 @@ impl<const N: usize> InlineText<N> {
         ensures room { TextMakesRoom (lies_inline self.old.place) N (text_len self.old + length (encode_utf8 ch))
             self.old self.new result }
     {
-        // Most characters are ASCII, and have room.
-        if ch.is_ascii() && self.len() < self.capacity() {
-            self.insert_ascii(index, ch);
-            return Ok(());
+        // Most characters are ASCII.
+        if ch.is_ascii() {
+            return self.insert_ascii(index, ch);
         }
+        self.insert_wide(index, ch)
+    }
+
+    // `insert` of a character that takes more than a byte. A call of its own, since most are ASCII.
+    #[inline(never)]
+    fn insert_wide(&mut self, index: usize, ch: char) -> Result<(), AllocError>
+        requires { IsBoundary (text_chars self.old) index }
+        ensures bytes { self.new.bytes
+            ≡ (if is_ok result then take index self.old.bytes ++ encode_utf8 ch ++ drop index self.old.bytes else self.old.bytes) }
+        ensures text { OnOk result (text_chars self.new
+            ≡ chars (take index self.old.bytes) ++ ch ∷ [] ++ chars (drop index self.old.bytes)) }
+        ensures room { TextMakesRoom (lies_inline self.old.place) N (text_len self.old + length (encode_utf8 ch))
+            self.old self.new result }
+    {
         let mut buffer = [0; 4];
         self.insert_str(index, ch.encode_utf8(&mut buffer))
     }
 
-    // `insert` of an ASCII character that has room.
-    fn insert_ascii(&mut self, index: usize, ch: char)
+    // `insert` of an ASCII character.
+    #[inline(always)]
+    fn insert_ascii(&mut self, index: usize, ch: char) -> Result<(), AllocError>
         requires boundary { IsBoundary (text_chars self.old) index }
         requires ascii { ch < 128 }
-        requires room { text_len self.old < capacity_in N self.old.place }
-        ensures { TextBecomes N self.old self.new (take index self.old.bytes ++ encode_utf8 ch ++ drop index self.old.bytes)
-            (chars (take index self.old.bytes) ++ ch ∷ [] ++ chars (drop index self.old.bytes)) }
+        ensures bytes { self.new.bytes
+            ≡ (if is_ok result then take index self.old.bytes ++ encode_utf8 ch ++ drop index self.old.bytes else self.old.bytes) }
+        ensures text { OnOk result (text_chars self.new
+            ≡ chars (take index self.old.bytes) ++ ch ∷ [] ++ chars (drop index self.old.bytes)) }
+        ensures room { TextMakesRoom (lies_inline self.old.place) N (text_len self.old + length (encode_utf8 ch))
+            self.old self.new result }
     {
-        let Ok(()) = self.list.insert(index, ch as u8) else {
-            unreachable!();
-        };
+        put_byte(&mut self.list, index, ch as u8)?;
+        Ok(())
     }
 
     /// Puts `string` at the byte `index`, where a character begins or the text ends. Allocates only if the bytes don't fit.
+    // Inlined, so that LLVM knows how many bytes there are.
+    #[inline(always)]
     pub fn insert_str(&mut self, index: usize, string: &str) -> Result<(), AllocError>
         requires { IsBoundary (text_chars self.old) index }
         ensures bytes { self.new.bytes
@@ -238,10 +256,7 @@ impl<const N: usize> InlineText<N> {
         ensures room { TextMakesRoom (lies_inline self.old.place) N (text_len self.old + length string.now)
             self.old self.new result }
     {
-        // Shows the proof that the text fits.
-        let _len = self.list.len();
-        self.list.reserve(string.len())?;
-        insert_bytes(&mut self.list, index, string.as_bytes());
+        put_bytes(&mut self.list, index, string.as_bytes())?;
         Ok(())
     }
 

@@ -16,6 +16,6 @@ returns g c =
     let long : length ws ≡ tiny_len mid = c.put_before.auto.items ∙ ap length c.as_mut_slice.ensures.value in
     let behind : tiny_len old - c.args.index ≡ c.len.result - c.args.index = ap (λ n. n - c.args.index) (sym c.len.ensures.value) in
     let is = tiny_items-with mid ws long ∙ c.put_before.ensures
-    ∙ inserted (tiny_items old) bs seen c.args.index (c.len.result - c.args.index) c.requires.in_list (sym behind) (c.as_mut_slice.ensures.value ∙ c.in-Ok.ensures.items) in
+    ∙ inserted (tiny_items old) bs bs seen c.args.index (c.len.result - c.args.index) c.requires.in_list (sym behind) (c.as_mut_slice.ensures.value ∙ c.in-Ok.ensures.items) in
     subst (Becomes (λ b. b ≡ 0) g.row.N old (tiny_with_items mid ws)) is
     (room_rewritten g.row.N (tiny_len old + length bs) old mid (tiny_with_items mid ws) _ c.requires.room c.in-Ok.ensures.room (tiny_framed-with mid ws long))

@@ -2,7 +2,7 @@ use Rattle.std.proofs.Common.{◌≡◌, ◌++◌, subst, chars, take, drop}
 use Rattle.std.specs.Prelude.{OnOk}
 use Rattle.tinyvec_text.specs.InlineText.{text_chars}
 use Rattle.tinyvec_text.proofs.Boundaries.{chars_of_one}
-use Rattle.tinyvec_text.proofs.inline_text.InlineText.insert.Goals as goal
+use Rattle.tinyvec_text.proofs.inline_text.InlineText.insert_wide.Goals as goal
 
 pub returns-clause-text : goal.returns-clause-text
 returns-clause-text g c =

@@ -1,0 +1,30 @@
+use Rattle.std.proofs.Common.{◌≡◌, ◌+◌, ◌-◌, ◌≤◌, ◌∷◌, ℕ, List, [], length, drop, ap, subst, sym, ◌∙◌, arith, rules}
+use Rattle.tinyvec_slots.specs.Slots.{items, items_len, spare}
+use Rattle.tinyvec.specs.TinyVec.{TinySlotRule}
+use Rattle.tinyvec.specs.declared.tiny_vec.TinyVec.TheVariants.{Inline}
+use Rattle.tinyvec_text.proofs.Boundaries.{replaced_len}
+use Rattle.tinyvec_text.proofs.inline_text.bytes.put_byte.Goals as goal
+
+pub returns-in-Inline-clause-room : goal.returns-in-Inline-clause-room
+returns-in-Inline-clause-room g c =
+    let v = c.in-Inline.v in
+    let new = c.insert_inline.new.v in
+    let made = c.insert_inline.ensures in
+    let inside : c.args.index ≤ items_len v = search rules in
+    let size : items_len new ≡ items_len v + 1 =
+    ap length made.items ∙ replaced_len (items v) (c.args.byte ∷ []) c.args.index c.args.index (omega arith) inside ∙ omega (arith, inside) in
+    let count : 1 ≡ items_len new - items_len v = omega (arith, size) in
+    let none : 0 ≡ items_len v - items_len new = omega (arith, size) in
+    let slots : TinySlotRule {A = List ℕ} (λ b. b ≡ 0) (Inline v c.in-Inline.field-1) (Inline new c.in-Inline.field-1) =
+    λ _ _. ([], (none, λ k d few. absurd (omega (arith, few))), made.spare ∙ ap (λ k. drop k (spare v)) count) in
+    record {
+      place = search rules;
+      slot_rule = subst (λ l. TinySlotRule {A = List ℕ} (λ b. b ≡ 0) l (Inline new c.in-Inline.field-1)) (sym c.in-Inline.is) slots;
+      capacity = search rules;
+      same_room = search rules;
+      grown = search rules;
+      fits = search rules;
+      succeeds = search rules;
+      full = search rules;
+      refused = search rules;
+    }
