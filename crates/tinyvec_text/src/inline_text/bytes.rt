@@ -303,6 +303,35 @@ pub fn append_bytes<const N: usize>(list: &mut TinyVec<[u8; N]>, bytes: &[u8])
     }
 }
 
+/// `push_bytes` of so few bytes, and a number that LLVM knows, that they go onto the heap one by one.
+#[inline(always)]
+pub fn push_few<const N: usize>(list: &mut TinyVec<[u8; N]>, bytes: &[u8]) -> Result<(), AllocError>
+    ensures items { tiny_items list.new
+        ≡ (if is_ok result then tiny_items list.old ++ bytes.now else tiny_items list.old) }
+    ensures room { MakesRoom GrowsFor (λ b. b ≡ 0) N (tiny_len list.old + length bytes.now) list.old list.new result }
+{
+    match list {
+        TinyVec::Inline(v, _) if bytes.len() <= v.capacity() - v.len() => append_inline(v, bytes),
+        TinyVec::Heap(v) if bytes.len() <= v.capacity() - v.len() => append_each(v, bytes),
+        _ => return push_few_slow(list, bytes),
+    }
+    Ok(())
+}
+
+// `push_few` onto any list.
+#[cold]
+#[inline(never)]
+fn push_few_slow<const N: usize>(
+    list: &mut TinyVec<[u8; N]>,
+    bytes: &[u8],
+) -> Result<(), AllocError>
+    ensures items { tiny_items list.new
+        ≡ (if is_ok result then tiny_items list.old ++ bytes.now else tiny_items list.old) }
+    ensures room { MakesRoom GrowsFor (λ b. b ≡ 0) N (tiny_len list.old + length bytes.now) list.old list.new result }
+{
+    push_bytes(list, bytes)
+}
+
 // Appends `bytes` to a list in its array that has room.
 #[inline(always)]
 fn append_inline<const N: usize>(v: &mut ArrayVec<[u8; N]>, bytes: &[u8])
@@ -405,17 +434,26 @@ fn append_on_heap<const N: usize>(list: &mut TinyVec<[u8; N]>, bytes: &[u8])
     append_many(heap, bytes);
 }
 
-// Appends a few bytes, one by one.
+// Appends a few bytes.
 #[inline(always)]
 fn append_few(heap: &mut Vec<u8>, bytes: &[u8])
     requires room { vec_len heap.old + length bytes.now ≤ vec_capacity heap.old }
     ensures { HeapBecomes heap.old heap.new (heap.old.items ++ bytes.now) }
 {
     let mut vec = mem::replace(heap, Vec::new(*heap.allocator()));
-    for i in 0..bytes.len() {
-        vec.push_reserved(bytes[i]);
-    }
+    append_each(&mut vec, bytes);
     *heap = vec;
+}
+
+// Appends bytes one by one. Of a number that LLVM knows, it makes a write or two.
+#[inline(always)]
+fn append_each(heap: &mut Vec<u8>, bytes: &[u8])
+    requires room { vec_len heap.old + length bytes.now ≤ vec_capacity heap.old }
+    ensures { HeapBecomes heap.old heap.new (heap.old.items ++ bytes.now) }
+{
+    for i in 0..bytes.len() {
+        heap.push_reserved(bytes[i]);
+    }
 }
 
 // Appends the bytes in blocks.

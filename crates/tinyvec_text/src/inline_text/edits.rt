@@ -9,8 +9,8 @@ ghost use Rattle.std.specs.String.Boundary.{IsSplitPoint};
 
 use super::InlineText;
 use super::bytes::{
-    append_bytes, copied_to_heap, push_bytes, put_byte, put_bytes, remove_bytes, replace_bytes,
-    split_bytes,
+    append_bytes, copied_to_heap, push_bytes, push_few, put_byte, put_bytes, remove_bytes,
+    replace_bytes, split_bytes,
 };
 use std::alloc::{AllocError, Global};
 use std::ops::RangeBounds;
@@ -140,7 +140,7 @@ impl<const N: usize> InlineText<N> {
         ensures room { TextMakesRoom (lies_inline self.old.place) N (text_len self.old + length (encode_utf8 c))
             self.old self.new result }
     {
-        self.list.extend_from_slice_copy(bytes)?;
+        push_few(&mut self.list, bytes)?;
         Ok(())
     }
 
@@ -386,12 +386,13 @@ fn next_byte(bits: u32) -> u8
     (0x80 + bits % 0x40) as u8
 }
 
-// Whether a character begins at `i`, or the bytes end there.
+// Whether a character begins at `i`, or the bytes end there. One begins at 0 if there are bytes.
 fn is_split_point(bytes: &[u8], i: usize) -> bool
+    requires { IsUtf8 bytes.now }
     ensures { IsTrue result ↔ IsSplitPoint bytes.now i }
 {
     if i < bytes.len() {
-        return bytes[i] < 0x80 || 0xC0 <= bytes[i] || i == 0;
+        return bytes[i] < 0x80 || 0xC0 <= bytes[i];
     }
     i == bytes.len()
 }
