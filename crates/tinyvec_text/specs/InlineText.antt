@@ -1,7 +1,7 @@
 -- What a contract sees of an `InlineText`: its bytes, and where they are.
-use Rattle.std.specs.Prelude.{◌≡◌, ℕ, ◌+◌, ◌*◌, ◌<◌, ◌≤◌, ◌↔◌, if◌then◌else◌, max, List, [], ◌++◌, length, take, drop, All, Bool, false, IsTrue, Result, IsOk, OnOk, OnErr, chars, encode_utf8, encode_utf8_all, IsUtf8}
+use Rattle.std.specs.Prelude.{◌≡◌, ℕ, ◌+◌, ◌*◌, ◌<◌, ◌≤◌, ◌↔◌, ◌&&◌, nat_le, if◌then◌else◌, max, List, [], ◌∷◌, ◌++◌, length, take, drop, All, Bool, false, IsTrue, Result, IsOk, OnOk, OnErr, chars, encode_utf8, encode_utf8_all, IsUtf8}
 use Rattle.std.specs.Char.{IsScalar}
-use Rattle.tinyvec.specs.View.{Place, lies_inline, capacity_in, TinyView, ViewPlaceRule, ViewKeepsRoom, ViewGrowsInSteps}
+use Rattle.tinyvec.specs.View.{Place, in_array, on_heap, lies_inline, capacity_in, TinyView, ViewPlaceRule, ViewKeepsRoom, ViewGrowsInSteps}
 use Rattle.tinyvec.specs.TinyVec.{tiny_items, tiny_spare, place_of}
 use Rattle.tinyvec.specs.declared.tiny_vec.TinyVec.{TinyVec}
 
@@ -44,6 +44,30 @@ pub record TextMakesRoom {X E : Type 0} (moves : Bool) (slots need : ℕ) (old n
   pub inline_succeeds : IsTrue (lies_inline old.place) → need ≤ slots → IsOk result
   pub full : OnErr result (capacity_in slots old.place < need)
   pub refused : OnErr result (new ≡ old)
+
+-- where a text is once there is room for `need` bytes: as it was if there is, else on the heap, with just that room if `moves` holds, else
+-- with twice the old room, or `need` if that is more
+abbrev pub place_for : (moves : Bool) → (slots need : ℕ) → Place → Place
+place_for moves slots need place =
+    if nat_le need (capacity_in slots place) then place else on_heap (if moves then need else max (2 * capacity_in slots place) need)
+
+-- where a text of n bytes is after these pieces were pushed one by one, whose bytes and ways to move `spell` and `moves` say
+abbrev pub place_after : {T : Type 0} → (moves : Place → T → Bool) → (spell : T → List ℕ) → (slots n : ℕ) → Place → List T → Place
+place_after moves spell slots n place [] = place
+place_after moves spell slots n place (x ∷ xs) =
+    place_after moves spell slots (n + length (spell x)) (place_for (moves place x) slots (n + length (spell x)) place) xs
+
+-- where the text is after these characters, each by `push`
+abbrev pub place_after_chars : ℕ → Text → List ℕ → Place
+place_after_chars slots t cs = place_after (λ place c. lies_inline place && nat_le 128 c) encode_utf8 slots (text_len t) t.place cs
+
+-- where the text is after the texts that `spell` shows, each by `push_str`
+abbrev pub place_after_texts : {T : Type 0} → (spell : T → List ℕ) → ℕ → Text → List T → Place
+place_after_texts spell slots t xs = place_after (λ place x. lies_inline place) spell slots (text_len t) t.place xs
+
+-- an empty text, inline
+abbrev pub empty_text : Text
+empty_text = record { bytes = []; place = in_array }
 
 -- A call that appends piece by piece took `old` to `new`: the text moves only if it outgrows the array, and grows to less
 -- than twice its bytes; one on the heap that grew at least doubled its room.
@@ -100,6 +124,7 @@ pub record TextMadeFor (slots need : ℕ) (t : Text) : Type 0 where
 pub record TextCollects (slots : ℕ) (t : Text) : Type 0 where
   pub place : IsTrue (lies_inline t.place) ↔ (text_len t ≤ slots)
   pub grown : slots < capacity_in slots t.place → capacity_in slots t.place < 2 * text_len t
+  pub fits : text_len t ≤ capacity_in slots t.place
 
 -- the text has the bytes of `old` from i on, in the same kind of place; on the heap its room is its length
 pub record IsTextTail (slots i : ℕ) (old t : Text) : Type 0 where

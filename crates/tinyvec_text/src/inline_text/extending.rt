@@ -4,20 +4,23 @@ ghost use Rattle.std.specs.List.{flat_map};
 ghost use Rattle.std.specs.Iterator.{IsFinite, HoldsAlong, YieldsThen, DrainsIf, ExtendsWithItems};
 ghost use Rattle.tinyvec_slots.specs.Filling.{IntoIterYields};
 ghost use Rattle.tinyvec.specs.View.{capacity_in};
-ghost use Rattle.tinyvec_text.specs.InlineText.{text_len, TextCollects, TextExtends};
+ghost use Rattle.tinyvec_text.specs.InlineText.{text_len, TextCollects, TextExtends, empty_text, place_after_chars, place_after_texts};
 
 use super::InlineText;
 use std::alloc::{AllocError, Global};
 
 /// Appends the characters. If the allocator refuses, those before stay.
 impl<const N: usize> Extend<char> for InlineText<N> {
-    ghost extend_gives = { λ t cs u. u.bytes ≡ t.bytes ++ encode_utf8_all cs };
+    // As pushes one after another leave it, also the capacity.
+    ghost extend_gives = { λ t cs u. (u.bytes ≡ t.bytes ++ encode_utf8_all cs)
+        × (u.place ≡ place_after_chars N t cs) };
 
     fn extend<U: IntoIterator<Item = char>>(&mut self, iter: U) -> Result<(), AllocError>
         requires { (it : U.IntoIter) → U.into_iter_gives iter it
             → U.IntoIter.can_next it × IsFinite (U.IntoIter.remaining it) × HoldsAlong U.IntoIter.next_gives it (λ _. ⊤) }
         ensures ran { ExtendsWithItems U.into_iter_gives U.IntoIter.next_gives
-            (λ t cs u. u.bytes ≡ t.bytes ++ encode_utf8_all cs) iter self.old self.new result }
+            (λ t cs u. (u.bytes ≡ t.bytes ++ encode_utf8_all cs) × (u.place ≡ place_after_chars N t cs))
+            iter self.old self.new result }
         ensures grows { TextExtends N self.old self.new }
 
         // It fails only at a character that finds no room.
@@ -42,13 +45,16 @@ impl<const N: usize> Extend<char> for InlineText<N> {
 
 /// Appends the texts. If the allocator refuses, those before stay.
 impl<'a, const N: usize> Extend<&'a str> for InlineText<N> {
-    ghost extend_gives = { λ t xs u. u.bytes ≡ t.bytes ++ flat_map (λ x. x.now) xs };
+    // As pushes one after another leave it, also the capacity.
+    ghost extend_gives = { λ t xs u. (u.bytes ≡ t.bytes ++ flat_map (λ x. x.now) xs)
+        × (u.place ≡ place_after_texts (λ x. x.now) N t xs) };
 
     fn extend<U: IntoIterator<Item = &'a str>>(&mut self, iter: U) -> Result<(), AllocError>
         requires { (it : U.IntoIter) → U.into_iter_gives iter it
             → U.IntoIter.can_next it × IsFinite (U.IntoIter.remaining it) × HoldsAlong U.IntoIter.next_gives it (λ _. ⊤) }
         ensures ran { ExtendsWithItems U.into_iter_gives U.IntoIter.next_gives
-            (λ t xs u. u.bytes ≡ t.bytes ++ flat_map (λ x. x.now) xs) iter self.old self.new result }
+            (λ t xs u. (u.bytes ≡ t.bytes ++ flat_map (λ x. x.now) xs)
+            × (u.place ≡ place_after_texts (λ x. x.now) N t xs)) iter self.old self.new result }
         ensures grows { TextExtends N self.old self.new }
 
         // It fails only at a text that finds no room.
@@ -75,7 +81,8 @@ impl<'a, const N: usize> Extend<&'a str> for InlineText<N> {
 impl<const N: usize> FromIterator<char> for InlineText<N> {
     type Alloc = Global;
 
-    ghost from_iter_gives = { λ cs t. (t.bytes ≡ encode_utf8_all cs) × TextCollects N t };
+    ghost from_iter_gives = { λ cs t. (t.bytes ≡ encode_utf8_all cs)
+        × (t.place ≡ place_after_chars N empty_text cs) × TextCollects N t };
 
     fn from_iter<U: IntoIterator<Item = char>>(
         alloc: Global,
@@ -84,7 +91,8 @@ impl<const N: usize> FromIterator<char> for InlineText<N> {
         requires { (it : U.IntoIter) → U.into_iter_gives iter it
             → U.IntoIter.can_next it × IsFinite (U.IntoIter.remaining it) × HoldsAlong U.IntoIter.next_gives it (λ _. ⊤) }
         ensures ran { IfOk result (λ t. (it : U.IntoIter) × (xs : List ℕ) × U.into_iter_gives iter it
-            × DrainsIf U.IntoIter.next_gives ⊤ it xs × ((t.bytes ≡ encode_utf8_all xs) × TextCollects N t)) }
+            × DrainsIf U.IntoIter.next_gives ⊤ it xs × ((t.bytes ≡ encode_utf8_all xs)
+            × (t.place ≡ place_after_chars N empty_text xs) × TextCollects N t)) }
         ensures collects { IfOk result (TextCollects N) }
 
         // It fails only at a character that neither the array nor the room on the heap has a place for.
@@ -106,7 +114,8 @@ impl<const N: usize> FromIterator<char> for InlineText<N> {
 impl<'a, const N: usize> FromIterator<&'a str> for InlineText<N> {
     type Alloc = Global;
 
-    ghost from_iter_gives = { λ xs t. (t.bytes ≡ flat_map (λ x. x.now) xs) × TextCollects N t };
+    ghost from_iter_gives = { λ xs t. (t.bytes ≡ flat_map (λ x. x.now) xs)
+        × (t.place ≡ place_after_texts (λ x. x.now) N empty_text xs) × TextCollects N t };
 
     fn from_iter<U: IntoIterator<Item = &'a str>>(
         alloc: Global,
@@ -115,7 +124,8 @@ impl<'a, const N: usize> FromIterator<&'a str> for InlineText<N> {
         requires { (it : U.IntoIter) → U.into_iter_gives iter it
             → U.IntoIter.can_next it × IsFinite (U.IntoIter.remaining it) × HoldsAlong U.IntoIter.next_gives it (λ _. ⊤) }
         ensures ran { IfOk result (λ t. (it : U.IntoIter) × (xs : _) × U.into_iter_gives iter it
-            × DrainsIf U.IntoIter.next_gives ⊤ it xs × ((t.bytes ≡ flat_map (λ x. x.now) xs) × TextCollects N t)) }
+            × DrainsIf U.IntoIter.next_gives ⊤ it xs × ((t.bytes ≡ flat_map (λ x. x.now) xs)
+            × (t.place ≡ place_after_texts (λ x. x.now) N empty_text xs) × TextCollects N t)) }
         ensures collects { IfOk result (TextCollects N) }
 
         // It fails only at a text that neither the array nor the room on the heap has a place for.

@@ -1,9 +1,10 @@
-use Rattle.std.proofs.Common.{◌+◌, ◌<◌, length, length-append, ap, sym, subst, ◌∙◌, arith}
+use Rattle.std.proofs.Common.{◌+◌, ◌<◌, length, length-append, ap, sym, subst, ◌∙◌, arith, rules}
+use Rattle.std.proofs.lemmas.Grind.{common_steps}
 use Rattle.std.specs.List.{flat_map}
-use Rattle.tinyvec.specs.View.{capacity_in}
+use Rattle.tinyvec.specs.View.{capacity_in, lies_inline}
 use Rattle.tinyvec_text.specs.InlineText.{text_len}
+use Rattle.tinyvec_text.proofs.Extending.{made_place, no_more, pushed_place}
 use Rattle.tinyvec_slots.proofs.CloneLemmas.{on_err}
-use Rattle.tinyvec_text.proofs.Extending.{no_more}
 use Rattle.tinyvec_text.proofs.inline_text.extending.InlineTextExtendRefStr.extend.Goals as goal
 
 pub returns-in_err-push_str-clause-known : goal.returns-in_err-push_str-clause-known
@@ -30,3 +31,24 @@ returns-in_err-push_str-clause-full g c =
       ap (λ t. t.bytes) kept ∙ at.invariant.bytes,
       subst (λ t. capacity_in g.row.N t.place < text_len t + length c.in-Some.s.now) (sym kept) c.in_err-push_str.ensures.room.full,
     )
+
+pub loop-s-preserved : goal.loop-s-preserved
+loop-s-preserved g c =
+    let at = c.loop-s in
+    let len = ap length at.invariant.bytes ∙ length-append c.args.self.now.bytes (flat_map (λ x. x.now) at.yielded) in
+    let room = c.in_ok-push_str.ensures.room in
+    record {
+      can = search rules;
+      ends = search rules;
+      bytes = grind (arith, common_steps);
+      place = pushed_place (λ place x. lies_inline place) (λ x. x.now) g.row.N _ _ _ _ _ at.yielded c.in-Some.s at.invariant.place (omega (arith, len)) (made_place _ g.row.N _ _ _ room.place room.same_room room.grown);
+      grows = record {
+        longer = grind (arith, common_steps);
+        place = grind (arith, common_steps);
+        capacity = grind (arith, common_steps);
+        same_room = grind (arith, common_steps);
+        grown = grind (arith, common_steps);
+        doubled = grind (arith, common_steps);
+        fits = grind (arith, common_steps);
+      };
+    }

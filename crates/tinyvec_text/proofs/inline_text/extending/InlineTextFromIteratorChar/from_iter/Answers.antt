@@ -1,5 +1,7 @@
-use Rattle.std.proofs.Common.{◌≤◌, ◌++◌, length, encode_utf8_all, ap, ◌∙◌, arith, rules}
-use Rattle.tinyvec.specs.View.{capacity_in}
+use Rattle.std.proofs.Common.{◌≤◌, ◌++◌, length, encode_utf8, encode_utf8_all, nat_le, ◌&&◌, ap, ◌∙◌, arith, rules}
+use Rattle.tinyvec.specs.View.{capacity_in, lies_inline}
+use Rattle.tinyvec_text.proofs.Extending.{of_empty}
+use Rattle.tinyvec_text.specs.InlineText.{place_after}
 use Rattle.tinyvec_slots.proofs.CloneLemmas.{on_err}
 use Rattle.tinyvec_text.proofs.inline_text.extending.InlineTextFromIteratorChar.from_iter.Goals as goal
 
@@ -7,7 +9,7 @@ pub returns-clause-ran : goal.returns-clause-ran
 returns-clause-ran g c =
     let ran = c.in_ok-extend.ensures.ran in
     let d = ran.4 in
-    (ran.0, ran.1, ran.2, (d.1.0, d.1.1, λ _. (d.0, d.1.2)), (ran.3 ∙ ap (λ bs. bs ++ encode_utf8_all ran.1) c.new-text.ensures.bytes, search rules))
+    (ran.0, ran.1, ran.2, (d.1.0, d.1.1, λ _. (d.0, d.1.2)), (ran.3.0 ∙ ap (λ bs. bs ++ encode_utf8_all ran.1) c.new-text.ensures.bytes, ran.3.1 ∙ of_empty (λ n p. place_after (λ place c. lies_inline place && nat_le 128 c) encode_utf8 g.row.N n p ran.1) c.new-text.result c.new-text.ensures.bytes c.new-text.ensures.place, search rules))
 
 pub returns-in_err-extend-clause-full : goal.returns-in_err-extend-clause-full
 returns-in_err-extend-clause-full g c =
