@@ -16,7 +16,7 @@ use Rattle.tinyvec_borsh.specs.ItemsLaws.{one-items}
 use Rattle.tinyvec_borsh.specs.TwoParts.{HasParts, joined}
 use Rattle.tinyvec_borsh.specs.Reading.{FewBytes, TakesSome}
 use Rattle.tinyvec_borsh.specs.Writing.{WritesSpelling, WritesValue, AddsFront}
-use Rattle.tinyvec_borsh.proofs.ItemByItem.{WroteItems}
+use Rattle.tinyvec_borsh.proofs.ItemByItem.{WroteItems, failed-since}
 
 pub on-err : {T E P Q : Type 0} (r : Result T E) → (P → Q) → OnErr r P → OnErr r Q
 on-err (Ok x) f p = tt
@@ -48,7 +48,7 @@ parts_around xs i k = sym (take-append-drop i xs) ∙ ap (λ l. take i xs ++ l) 
 module _ {W S T : Type 0} {contents : W → Option (List ℕ)} {P Q : List ℕ → Type 0} where
   -- the first part was not written
   pub writes-first : {old new : CountedView W} {e : BorshError} → WritesValue {T = S} contents P old new (Err e) → WritesValue {T = T} contents (HasParts P Q) old new (Err e)
-  writes-first failed = record { ok = tt; err = failed.err; front = front-first _ _ failed.front; grows = failed.grows }
+  writes-first failed = record { ok = tt; err = failed.err; front = front-first _ _ failed.front; grows = failed.grows; failed = failed.failed }
 
   -- it was, and then the rest, or a front of it
   pub writes-both : {old mid new : CountedView W} (r : Result T BorshError) {x : S} → ((a b : List ℕ) → P a → P b → a ≡ b) → WritesValue contents P old mid (Ok x) → WritesValue contents Q mid new r
@@ -58,12 +58,14 @@ module _ {W S T : Type 0} {contents : W → Option (List ℕ)} {P Q : List ℕ �
     err = tt;
     front = tt;
     grows = omega (arith, p.grows, q.grows);
+    failed = failed-since p.failed.exact q.failed;
   }
   writes-both (Err e) one p q = record {
     ok = tt;
     err = fault-since p.grows q.err;
     front = front-second _ _ _ one p.ok q.front;
     grows = omega (arith, p.grows, q.grows);
+    failed = failed-since p.failed.exact q.failed;
   }
 
 module _ {C : Type 0} (Spells : C → List ℕ → Type 0) (code : IsCode Spells) where

@@ -37,10 +37,10 @@ module _ {C : Type 0} (Spells : C → List ℕ → Type 0) (Fits : C → Type 0)
 
   -- an item was not read, and the input is so from it on
   pub fails-behind : {R T U : Type 0} {remaining : R → Option (List ℕ)} {old mid new : CountedView R} {e : BorshError} (Reason : BorshError → List ℕ → Type 0) → FrontsAreCut Spells Fits (Reason Ended) → (n : ℕ) (cs : List C)
-      → TookItems cs (remaining old.inner) (remaining mid.inner) → length cs < n → old.faults ≤ mid.faults
+      → TookItems cs (remaining old.inner) (remaining mid.inner) → length cs < n → old.faults ≤ mid.faults → mid.failed ≡ old.failed
       → FailsFor {T = T} remaining Reason mid new (Err e) → FailsFor {T = U} remaining (AfterItems Spells Fits Reason n) old new (Err e)
-  fails-behind Reason fronts n cs w fewer grows failed =
-      fails-after (SpellsItems Spells cs) w.taken grows (after-fronts Reason fronts n cs (omega (arith, fewer)) w.fit) (λ f input p. record { items = cs; fewer = fewer; fit = w.fit; parts = p }) failed
+  fails-behind Reason fronts n cs w fewer grows same failed =
+      fails-after (SpellsItems Spells cs) w.taken grows same (after-fronts Reason fronts n cs (omega (arith, fewer)) w.fit) (λ f input p. record { items = cs; fewer = fewer; fit = w.fit; parts = p }) failed
 
   -- what is wrong with the next items is wrong with all that are to come
   pub of-more : (Reason : BorshError → List ℕ → Type 0) (k n : ℕ) → k ≤ n → (e : BorshError) (input : List ℕ) → AfterItems Spells Fits Reason k e input → AfterItems Spells Fits Reason n e input

@@ -1,5 +1,5 @@
 -- Two contents that are written and read, one behind the other.
-use Rattle.std.proofs.Common.{ℕ, ◌≤◌, inl, inr, List, Option, Err}
+use Rattle.std.proofs.Common.{◌≡◌, ℕ, ◌≤◌, inl, inr, List, Option, Err}
 use Rattle.tinyvec_io.specs.Counted.{CountedView}
 use Rattle.tinyvec_borsh.specs.declared.borsh_error.BorshError.{BorshError}
 use Rattle.tinyvec_borsh.specs.declared.borsh_error.BorshError.TheVariants.{Ended}
@@ -16,6 +16,6 @@ module _ {A : Type 0} (Spells : A → List ℕ → Type 0) (Fits : A → Type 0)
   pub fails-first : {old new : CountedView R} → FailsFor {T = T} remaining ReasonA old new (Err e) → FailsFor {T = U} remaining (InEither Spells Fits ReasonA ReasonB) old new (Err e)
   fails-first failed = fails-as (λ f input is. inl is) failed
 
-  pub fails-second : FrontsAreCut Spells Fits (ReasonA Ended) → (c : A) {old mid new : CountedView R} → ReadsSpelling (Spells c) (remaining old.inner) (remaining mid.inner) → Fits c → old.faults ≤ mid.faults
+  pub fails-second : FrontsAreCut Spells Fits (ReasonA Ended) → (c : A) {old mid new : CountedView R} → ReadsSpelling (Spells c) (remaining old.inner) (remaining mid.inner) → Fits c → old.faults ≤ mid.faults → mid.failed ≡ old.failed
       → FailsFor {T = T} remaining ReasonB mid new (Err e) → FailsFor {T = U} remaining (InEither Spells Fits ReasonA ReasonB) old new (Err e)
-  fails-second fronts c t fits grows failed = fails-after (Spells c) t grows (λ front back some p. inl (fronts c front back some fits p)) (λ f input p. inr (record { content = c; valid = fits; parts = p })) failed
+  fails-second fronts c t fits grows same failed = fails-after (Spells c) t grows same (λ front back some p. inl (fronts c front back some fits p)) (λ f input p. inr (record { content = c; valid = fits; parts = p })) failed

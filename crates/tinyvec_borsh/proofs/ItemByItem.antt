@@ -1,5 +1,5 @@
 -- Lists that are written and read item after item.
-use Rattle.std.proofs.Common.{◌≡◌, ◌∙◌, ap, sym, subst, ℕ, ◌+◌, ◌<◌, ◌≤◌, ◌⊎◌, inl, inr, List, [], ◌∷◌, ◌++◌, length, refl, arith, append-nil, length-append, Option, None, Some, Result, Ok, Err, le_refl, map, take, get_or}
+use Rattle.std.proofs.Common.{◌≡◌, ◌∙◌, ap, sym, subst, ℕ, Bool, false, ◌+◌, ◌<◌, ◌≤◌, ◌⊎◌, inl, inr, List, [], ◌∷◌, ◌++◌, length, refl, arith, append-nil, length-append, Option, None, Some, Result, Ok, Err, le_refl, map, take, get_or}
 use Rattle.std.proofs.lemmas.List.{map-append, take_more}
 use Rattle.std.specs.Io.KnownBytes.{Appends, Consumes}
 use Rattle.std.proofs.KnownBytes.{Appends-trans, Consumes-trans}
@@ -12,7 +12,7 @@ use Rattle.tinyvec_borsh.specs.FrontsLaws.{counted-fronts, cut-place}
 use Rattle.tinyvec_borsh.specs.Number.{TooFewBytes}
 use Rattle.tinyvec_borsh.specs.TwoParts.{HasParts, first-so, group-first, group-rest, joined, rest-so, with-tail}
 use Rattle.tinyvec_borsh.specs.Reading.{MayBe, ReadsSpelling, Fails, FailsFor, LeavesRest, TakesSome}
-use Rattle.tinyvec_io.specs.Counted.{CountedView}
+use Rattle.tinyvec_io.specs.Counted.{CountedView, CountsFault}
 
 -- what was taken is so, as it was
 pub takes-so : {P Q : List ℕ → Type 0} (old new : Option (List ℕ)) → ((bytes : List ℕ) → P bytes → Q bytes) → ReadsSpelling P old new → ReadsSpelling Q old new
@@ -36,6 +36,14 @@ maybe-so (Some x) P Q then may = then x may
 pub maybe-any : (old : Option (List ℕ)) → MayBe old (λ _. Unit {0})
 maybe-any None = ([], tt)
 maybe-any (Some x) = tt
+
+-- calls that failed since a later state failed since an earlier one, if none did between
+pub failed-since : {b : Bool} {f g h : ℕ} → g ≡ f → CountsFault b g h → CountsFault b f h
+failed-since {b = b} {h = h} same failed = subst (λ n. CountsFault b n h) same failed
+
+-- no call failed
+pub none-failed : {old new : ℕ} → new ≡ old → CountsFault false old new
+none-failed same = record { exact = same; grows = omega (arith, same) }
 
 -- what is wrong with the rest of an input is wrong with the input
 pub fails-so : (Reason All : BorshError → List ℕ → Type 0) (old mid : Option (List ℕ)) (before between after : ℕ) (e : BorshError) → before ≤ between → Fails Reason mid between after e
@@ -66,14 +74,15 @@ module _ {IsCut All : List ℕ → Type 0} where
 
 module _ {R T U : Type 0} {remaining : R → Option (List ℕ)} {Inner Outer : BorshError → List ℕ → Type 0} {old mid new : CountedView R} {e : BorshError} where
   -- a reading failed behind what was read
-  pub fails-after : (S : List ℕ → Type 0) → ReadsSpelling S (remaining old.inner) (remaining mid.inner) → old.faults ≤ mid.faults
+  pub fails-after : (S : List ℕ → Type 0) → ReadsSpelling S (remaining old.inner) (remaining mid.inner) → old.faults ≤ mid.faults → mid.failed ≡ old.failed
       → ((front back : List ℕ) → 0 < length back → S (front ++ back) → Outer Ended front)
       → ((f : BorshError) (input : List ℕ) → HasParts S (Inner f) input → Outer f input)
       → FailsFor {T = T} remaining Inner mid new (Err e) → FailsFor {T = U} remaining Outer old new (Err e)
-  fails-after S t grows firsts so failed = record {
+  fails-after S t grows same firsts so failed = record {
     err = fails-so Inner Outer _ _ _ _ _ e grows failed.err (λ f may. maybe-behind _ _ (Inner f) (Outer f) t (so f) may);
     taken = some-then _ _ _ t.0 e t.2 (λ front back some is. firsts front back some (subst S is t.1)) (λ rest cut. so Ended (t.0 ++ rest) (joined t.0 rest t.1 cut)) failed.taken;
     grows = omega (arith, grows, failed.grows);
+    failed = failed-since same failed.failed;
   }
 
 module _ {R T U : Type 0} {remaining : R → Option (List ℕ)} {Inner Outer : BorshError → List ℕ → Type 0} {old new : CountedView R} {e : BorshError} where
@@ -84,12 +93,13 @@ module _ {R T U : Type 0} {remaining : R → Option (List ℕ)} {Inner Outer : B
     err = fails-so Inner Outer _ _ _ _ _ e (le_refl _) failed.err (λ f may. maybe-so _ (Inner f) (Outer f) (so f) may);
     taken = some-so _ _ e (so Ended) failed.taken;
     grows = failed.grows;
+    failed = failed.failed;
   }
 
 module _ {R T : Type 0} {remaining : R → Option (List ℕ)} {Inner Outer : BorshError → List ℕ → Type 0} {old new : CountedView R} where
   -- the same of a last call, whose result is returned
   pub fails-like : (r : Result T BorshError) → ((f : BorshError) (input : List ℕ) → Inner f input → Outer f input) → FailsFor remaining Inner old new r → FailsFor remaining Outer old new r
-  fails-like (Ok x) so told = record { err = tt; taken = tt; grows = told.grows }
+  fails-like (Ok x) so told = record { err = tt; taken = tt; grows = told.grows; failed = told.failed }
   fails-like (Err e) so told = fails-as so told
 
 module _ {C : Type 0} (Fits : C → Type 0) where
@@ -216,24 +226,24 @@ module _ {C : Type 0} (Spells : C → List ℕ → Type 0) where
 
       module _ (fronts : FrontsAreCut Spells Fits (Reason Ended)) (n : ℕ) (cs : List C) {old mid new : CountedView R} (w : WasRead n cs (remaining old.inner) (remaining mid.inner)) where
         -- an item was not read
-        pub fails-item : length cs < n → length cs ≤ room → old.faults ≤ mid.faults
+        pub fails-item : length cs < n → length cs ≤ room → old.faults ≤ mid.faults → mid.failed ≡ old.failed
             → FailsFor {T = T} remaining Reason mid new (Err e) → FailsFor {T = U} remaining (ListReason Spells Fits Reason Allocates room) old new (Err e)
-        fails-item more few grows failed =
-            fails-after (HasParts (IsCount n) (SpellsItems Spells cs)) w.taken grows (counted-fronts Spells Fits (Reason Ended) fronts room n cs (omega (arith, more)) (omega (arith, few)) w.fit) (λ f input p. inr (in-item (Reason f) room n cs w.fit more few input p)) failed
+        fails-item more few grows same failed =
+            fails-after (HasParts (IsCount n) (SpellsItems Spells cs)) w.taken grows same (counted-fronts Spells Fits (Reason Ended) fronts room n cs (omega (arith, more)) (omega (arith, few)) w.fit) (λ f input p. inr (in-item (Reason f) room n cs w.fit more few input p)) failed
 
         -- a block was not read
-        pub fails-block : (k : ℕ) → length cs + k ≤ n → length cs + k ≤ room + 1 → old.faults ≤ mid.faults
+        pub fails-block : (k : ℕ) → length cs + k ≤ n → length cs + k ≤ room + 1 → old.faults ≤ mid.faults → mid.failed ≡ old.failed
             → FailsFor {T = T} remaining (AfterItems Spells Fits Reason k) mid new (Err e) → FailsFor {T = U} remaining (ListReason Spells Fits Reason Allocates room) old new (Err e)
-        fails-block k more few grows failed =
-            fails-after (HasParts (IsCount n) (SpellsItems Spells cs)) w.taken grows (counted-fronts Spells Fits (Reason Ended) fronts room n cs (omega (arith, more)) (omega (arith, few)) w.fit) (λ f input p. inr (in-block Reason f room n k cs w.fit more few input p)) failed
+        fails-block k more few grows same failed =
+            fails-after (HasParts (IsCount n) (SpellsItems Spells cs)) w.taken grows same (counted-fronts Spells Fits (Reason Ended) fronts room n cs (omega (arith, more)) (omega (arith, few)) w.fit) (λ f input p. inr (in-block Reason f room n k cs w.fit more few input p)) failed
 
     module _ (Reason : BorshError → List ℕ → Type 0) (fronts : FrontsAreCut Spells Fits (Reason Ended)) (most room n k : ℕ) (cs : List C) (Wanting : Type 0) {R T U : Type 0} {remaining : R → Option (List ℕ)} {old mid new : CountedView R} {e : BorshError} where
       -- a block was not read, or memory for it was wanting, since the count is above this
-      pub fails-wanting : WasRead n cs (remaining old.inner) (remaining mid.inner) → length cs + k ≤ n → length cs + k ≤ room + 1 → old.faults ≤ mid.faults → (Wanting → most < n)
+      pub fails-wanting : WasRead n cs (remaining old.inner) (remaining mid.inner) → length cs + k ≤ n → length cs + k ≤ room + 1 → old.faults ≤ mid.faults → mid.failed ≡ old.failed → (Wanting → most < n)
           → FailsFor {T = T} remaining (λ f input. AfterItems Spells Fits Reason k f input ⊎ ((f ≡ Memory) × Wanting)) mid new (Err e)
           → FailsFor {T = U} remaining (ListReason Spells Fits Reason (CountsAbove most) room) old new (Err e)
-      fails-wanting w more few grows above failed =
-          fails-after (HasParts (IsCount n) (SpellsItems Spells cs)) w.taken grows (counted-fronts Spells Fits (Reason Ended) fronts room n cs (omega (arith, more)) (omega (arith, few)) w.fit) (λ f input p. elim p.is_rest [
+      fails-wanting w more few grows same above failed =
+          fails-after (HasParts (IsCount n) (SpellsItems Spells cs)) w.taken grows same (counted-fronts Spells Fits (Reason Ended) fronts room n cs (omega (arith, more)) (omega (arith, few)) w.fit) (λ f input p. elim p.is_rest [
             | inl so ↦ inr (in-block Reason f room n k cs w.fit more few input (rest-so p so))
             | inr wanting ↦ subst (λ f. ListReason Spells Fits Reason (CountsAbove most) room f input) (sym wanting.0) (inl (above-count most n cs (above wanting.1) input (rest-so p tt)))
           ]) failed

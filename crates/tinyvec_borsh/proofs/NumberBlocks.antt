@@ -97,9 +97,9 @@ module _ {C : Type 0} (Spells : C → List ℕ → Type 0) (Fits : C → Type 0)
 
   -- an item of the block was not read, and the input is so from it on
   pub fails-behind-block : {R T U : Type 0} {remaining : R → Option (List ℕ)} {old mid new : CountedView R} {e : BorshError} (Reason : BorshError → List ℕ → Type 0) → FrontsAreCut Spells Fits (Reason Ended) → (k n : ℕ) (cs : List C)
-      → TookItems Spells Fits cs (remaining old.inner) (remaining mid.inner) → length cs + k ≤ n → old.faults ≤ mid.faults
+      → TookItems Spells Fits cs (remaining old.inner) (remaining mid.inner) → length cs + k ≤ n → old.faults ≤ mid.faults → mid.failed ≡ old.failed
       → FailsFor {T = T} remaining (AfterItems Spells Fits Reason k) mid new (Err e) → FailsFor {T = U} remaining (AfterItems Spells Fits Reason n) old new (Err e)
-  fails-behind-block Reason fronts k n cs w fewer grows failed = fails-after (SpellsItems Spells cs) w.taken grows (after-fronts Spells Fits Reason fronts n cs (omega (arith, fewer)) w.fit) (λ f input p.
+  fails-behind-block Reason fronts k n cs w fewer grows same failed = fails-after (SpellsItems Spells cs) w.taken grows same (after-fronts Spells Fits Reason fronts n cs (omega (arith, fewer)) w.fit) (λ f input p.
       let so = p.is_rest in
       let q : HasParts (HasParts (SpellsItems Spells cs) (SpellsItems Spells so.items)) (Reason f) input = group-first (rest-so p so.parts) in
       record {

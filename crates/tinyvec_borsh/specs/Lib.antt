@@ -2,6 +2,7 @@ pub mod Apart
 pub mod Both
 pub mod BothLaws
 pub mod Code
+pub mod Failed
 pub mod Fronts
 pub mod FrontsLaws
 pub mod Items

@@ -4,6 +4,7 @@ use Rattle.std.specs.List.{AllByRecursion}
 use Rattle.std.specs.Io.KnownBytes.{Consumes, IsAtEnd}
 use Rattle.tinyvec_io.specs.Counted.{CountedView, Reported}
 use Rattle.tinyvec_borsh.specs.Apart.{IsOfInput}
+use Rattle.tinyvec_borsh.specs.Failed.{CountsIo}
 use Rattle.tinyvec_borsh.specs.Items.{IsCount, SpellsItems}
 use Rattle.tinyvec_borsh.specs.TwoParts.{HasParts}
 use Rattle.tinyvec_borsh.specs.declared.borsh_error.BorshError.{BorshError}
@@ -45,6 +46,8 @@ pub record FailsFor {R T : Type 0} (remaining : R → Option (List ℕ)) (Reason
   -- some bytes were taken, and no more than shows the error: all, if it is `Ended`; at `Io` and `Memory` no whole spelling
   pub taken : IfErr result (TakesSome (Reason Ended) (remaining old.inner) (remaining new.inner))
   pub grows : old.faults ≤ new.faults
+  -- one call failed at `Io`, else none: not at `Ok` either
+  pub failed : CountsIo old.failed new.failed result
 
 -- A value of the content was read, and what follows stays unread; or the reader reported a fault, or memory was refused that
 -- may be asked for to read this input.

@@ -3,6 +3,7 @@ ghost use Rattle.std.specs.Prelude.{◌≡◌, ◌<◌, ◌≤◌, length, IfErr
 ghost use Rattle.std.specs.Io.KnownBytes.{Appends, Consumes};
 ghost use Rattle.std.specs.List.{AllByRecursion};
 ghost use Rattle.tinyvec_io.specs.Counted.{AppendsFront, Reported};
+ghost use Rattle.tinyvec_borsh.specs.Failed.{CountsIo};
 ghost use Rattle.tinyvec_borsh.specs.Reading.{FailsFor, FewBytes};
 
 use crate::BorshError;
@@ -28,6 +29,7 @@ pub(crate) fn write_bytes<W: Write>(writer: &mut Counted<W>, bytes: &[u8]) -> Re
     ensures err { IfErr result (λ e. (e ≡ BorshError.Io) × Reported writer.old.faults writer.new.faults) }
     ensures front { OnErr result (AppendsFront (W.contents writer.old.inner) (W.contents writer.new.inner) bytes.now) }
     ensures faults_grow { writer.old.faults ≤ writer.new.faults }
+    ensures failed { CountsIo writer.old.failed writer.new.failed result }
 {
     match writer.write_all(bytes) {
         Ok(()) => Ok(()),

@@ -20,4 +20,5 @@ returns-in-Err-clause-fails g c =
         short = λ _. (refl, taken, few);
       };
       grows = c.in-Err.ensures.faults.grows;
+      failed = c.in-Err.ensures.failed;
     }

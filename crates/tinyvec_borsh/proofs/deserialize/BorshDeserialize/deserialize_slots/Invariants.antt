@@ -8,4 +8,5 @@ invariant-loop-i g l = record {
   read : TookItems g.Self.BorshForm.Spells g.Self.BorshForm.Fits (map g.Self.BorshForm.content_of (take l.i l.slots)) (g.R.Read.remaining l.fn.reader.inner) (g.R.Read.remaining l.reader.inner);
   many : length l.slots ≡ length l.fn.slots;
   grows : l.fn.reader.faults ≤ l.reader.faults;
+  failed : l.reader.failed ≡ l.fn.reader.failed;
 }

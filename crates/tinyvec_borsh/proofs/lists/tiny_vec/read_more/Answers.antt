@@ -4,7 +4,7 @@ use Rattle.tinyvec.specs.Lends.{tiny_with_items}
 use Rattle.tinyvec.proofs.TinyLemmas.{tiny_framed-with, tiny_items-with, tiny_slots_then_framed}
 use Rattle.tinyvec_borsh.specs.TwoParts.{joined}
 use Rattle.tinyvec_borsh.proofs.AtFaults.{some-cut}
-use Rattle.tinyvec_borsh.proofs.ItemByItem.{fails-like, maybe-any, maybe-so}
+use Rattle.tinyvec_borsh.proofs.ItemByItem.{fails-like, maybe-any, maybe-so, none-failed}
 use Rattle.std.proofs.KnownBytes.{Consumes-nil}
 use Rattle.tinyvec_borsh.proofs.Blocks.{grown, of-more}
 use Rattle.tinyvec_borsh.proofs.Outcomes.{on-ok}
@@ -63,4 +63,5 @@ returns-in_default-clause-fails g c = record {
   taken = some-cut _ _ [] (Consumes-nil _) (λ front back some is. absurd (omega (arith, some, ap length is, length-append front back)))
       (inl (record { items = []; fewer = search rules; fit = tt; parts = joined [] [] refl g.met.A.Item.BorshDeserialize.apart.none_is_cut }));
   grows = le_refl _;
+  failed = none-failed refl;
 }

@@ -13,4 +13,5 @@ returns-clause-writes g c =
       err = told.err;
       front = on-err c.write_bytes.result (λ h bytes p. subst (AppendsFront _ _) (g.T.FixedWidth.form.code.one_spelling c.args.self.now c.as_slice.result.now bytes spelled p) h) told.front;
       grows = told.faults_grow;
+      failed = told.failed;
     }

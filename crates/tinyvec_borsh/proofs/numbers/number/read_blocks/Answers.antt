@@ -24,6 +24,7 @@ loop-start-preserved g c =
       many = search rules;
       within = search rules;
       grows = omega arith;
+      failed = c.in_ok-read_bytes.ensures.fails.failed.exact ∙ c.loop-start.invariant.failed;
     }
 
 pub returns-clause-ok : goal.returns-clause-ok
@@ -43,7 +44,7 @@ returns-in_err-read_bytes-clause-fails g c =
     let many = length-take-le (count * c.CAPACITY-width.result) c.loop-start.room (omega (arith, fits)) ∙ ap (λ width. count * width) (c.CAPACITY-width.ensures ∙ g.met.T.FixedWidth.sized) in
     let before = length-take-le c.loop-start.start c.loop-start.slots (omega arith) in
     rw (p.1, p.2) (fails-behind-block g.T.FixedWidth.form.Spells g.T.FixedWidth.form.Fits {T = Unit {0}} _
-    (apart_by_length (byte_len g.T.FixedWidth.form.width) (bytes-of g.T.FixedWidth.form.width).1 g.T.FixedWidth.form.Spells g.T.FixedWidth.form.Fits g.T.FixedWidth.form.many).front_is_cut count (length c.args.slots.now) _ c.loop-start.invariant.read (omega (arith, before)) c.loop-start.invariant.grows
+    (apart_by_length (byte_len g.T.FixedWidth.form.width) (bytes-of g.T.FixedWidth.form.width).1 g.T.FixedWidth.form.Spells g.T.FixedWidth.form.Fits g.T.FixedWidth.form.many).front_is_cut count (length c.args.slots.now) _ c.loop-start.invariant.read (omega (arith, before)) c.loop-start.invariant.grows c.loop-start.invariant.failed
     (fails-as (few-bytes g.T.FixedWidth.form.Spells g.T.FixedWidth.form.Fits (byte_len g.T.FixedWidth.form.width) _ g.T.FixedWidth.form.read count _ many) c.in_err-read_bytes.ensures.fails))
 
 pub whole_as_front-bytes : goal.whole_as_front-bytes

@@ -10,6 +10,7 @@ invariant-loop-start g l = record {
   many : length l.slots ≡ length l.fn.slots;
   within : l.start ≤ length l.slots;
   grows : l.fn.reader.faults ≤ l.reader.faults;
+  failed : l.reader.failed ≡ l.fn.reader.failed;
 }
 
 abbrev pub decreases-loop-start : goal.decreases-loop-start

@@ -1,5 +1,5 @@
-use Rattle.std.proofs.Common.{rules, arith}
-use Rattle.tinyvec_borsh.proofs.ItemByItem.{fit-next, wrote-next}
+use Rattle.std.proofs.Common.{◌∙◌, rules, arith}
+use Rattle.tinyvec_borsh.proofs.ItemByItem.{failed-since, fit-next, wrote-next}
 use Rattle.std.proofs.lemmas.Result.{err_from_is_err_and}
 use Rattle.std.proofs.Common.{map, take, drop, ◌∷◌, suc}
 use Rattle.tinyvec_borsh.proofs.AtFaults.{fault-since, front-first, front-items, parts_at}
@@ -10,6 +10,7 @@ loop-item-preserved g c = record {
   wrote = wrote-next g.Self.BorshForm.Spells g.Self.BorshForm.content_of _ _ c.item-item.result _ _ _ (omega arith) (search rules) c.loop-item.invariant.wrote c.in_ok-serialize.ensures.writes.ok;
   fit = fit-next g.Self.BorshForm.content_of g.Self.BorshForm.Fits _ _ c.item-item.result (omega arith) (search rules) c.loop-item.invariant.fit c.in_ok-serialize.ensures.valid;
   grows = omega arith;
+  failed = c.in_ok-serialize.ensures.writes.failed.exact ∙ c.loop-item.invariant.failed;
 }
 
 pub returns-in_err-serialize-clause-writes : goal.returns-in_err-serialize-clause-writes
@@ -25,4 +26,5 @@ returns-in_err-serialize-clause-writes g c =
       front = front-items g.Self.BorshForm.Spells g.Self.BorshForm.code (map content (take i c.args.items.now)) (content item ∷ map content (drop (suc i) c.args.items.now)) _ _ _ _
           (parts_at content c.args.items.now i item (omega arith) (search rules)) c.loop-item.invariant.wrote (front-first _ _ failed.front);
       grows = omega arith;
+      failed = failed-since c.loop-item.invariant.failed failed.failed;
     })

@@ -6,7 +6,7 @@ use Rattle.tinyvec_borsh.specs.FrontsLaws.{counted-fronts}
 use Rattle.tinyvec_borsh.specs.Items.{IsCount, SpellsItems}
 use Rattle.tinyvec_borsh.specs.TwoParts.{HasParts}
 use Rattle.tinyvec_borsh.specs.declared.borsh_error.BorshError.TheVariants.{Ended}
-use Rattle.tinyvec_borsh.proofs.ItemByItem.{fails-block, fails-count, fails-item, maybe-so, read-all, read-block, read-first, read-more, rest-block, rest-item, rest-many, too-many}
+use Rattle.tinyvec_borsh.proofs.ItemByItem.{fails-block, fails-count, fails-item, maybe-so, none-failed, read-all, read-block, read-first, read-more, rest-block, rest-item, rest-many, too-many}
 use Rattle.tinyvec_borsh.proofs.AtFaults.{length_is_other, some-all}
 use Rattle.tinyvec_borsh.proofs.lists.array_vec.ArrayVecBorshDeserialize.deserialize_reader.Goals as goal
 
@@ -22,7 +22,7 @@ returns-in_err-read_items-clause-fails g c =
     let fits : c.min-len.result ≤ g.A.Array.CAPACITY = search rules in
     rw (p.1, p.2) (fails-block g.A.Item.BorshForm.Spells g.A.Item.BorshForm.Fits g.A.Item.BorshDeserialize.Reason (λ _. ⊥) g.A.Array.CAPACITY g.met.A.Item.BorshDeserialize.apart.front_is_cut
     c.in_ok-count.count [] (read-first g.A.Item.BorshForm.Spells g.A.Item.BorshForm.Fits _ _ _ c.in_ok-count.ensures.ok) (c.min-len.result - 0)
-    (omega (arith, below)) (omega (arith, fits)) c.in_ok-count.ensures.fails.grows c.in_err-read_items.ensures.fails)
+    (omega (arith, below)) (omega (arith, fits)) c.in_ok-count.ensures.fails.grows c.in_ok-count.ensures.fails.failed.exact c.in_err-read_items.ensures.fails)
 
 pub returns-in_err-deserialize_reader-clause-fails : goal.returns-in_err-deserialize_reader-clause-fails
 returns-in_err-deserialize_reader-clause-fails g c =
@@ -33,7 +33,8 @@ returns-in_err-deserialize_reader-clause-fails g c =
     let above : min c.in_ok-count.count g.A.Array.CAPACITY + 1 ≤ c.in_ok-count.count = search rules in
     rw (p.1, p.2) (fails-item g.A.Item.BorshForm.Spells g.A.Item.BorshForm.Fits g.A.Item.BorshDeserialize.Reason (λ _. ⊥) g.A.Array.CAPACITY g.met.A.Item.BorshDeserialize.apart.front_is_cut
     _ _ (read-block g.A.Item.BorshForm.Spells g.A.Item.BorshForm.Fits _ [] _ _ _ _ (read-first g.A.Item.BorshForm.Spells g.A.Item.BorshForm.Fits _ _ _ c.in_ok-count.ensures.ok) t.4 t.3)
-    (omega (arith, long, full, above)) (omega (arith, long, full, above)) (search rules) c.in_err-deserialize_reader.ensures.fails)
+    (omega (arith, long, full, above)) (omega (arith, long, full, above)) (search rules)
+    (c.in_ok-read_items.ensures.fails.failed.exact ∙ c.in_ok-count.ensures.fails.failed.exact) c.in_err-deserialize_reader.ensures.fails)
 
 pub returns-then-len-count-clause-fails : goal.returns-then-len-count-clause-fails
 returns-then-len-count-clause-fails g c =
@@ -54,6 +55,7 @@ returns-then-len-count-clause-fails g c =
           g.A.Array.CAPACITY c.in_ok-count.count cs (omega (arith, one_more, long, full, above)) (omega (arith, one_more, long, full)) was.fit front back some
           (subst (HasParts (IsCount c.in_ok-count.count) (SpellsItems g.A.Item.BorshForm.Spells cs)) is was.taken.1)) _ length_is_other;
       grows = omega arith;
+      failed = none-failed (last.fails.failed.exact ∙ c.in_ok-read_items.ensures.fails.failed.exact ∙ c.in_ok-count.ensures.fails.failed.exact);
     }
 
 pub returns-in_err-read_items-clause-rest : goal.returns-in_err-read_items-clause-rest

@@ -41,6 +41,7 @@ returns-in-None-clause-fails g c =
       err = no-text (tiny_items c.in_ok-bytes.bytes) _ _ (fits, λ utf8. let is = c.in-None.ensures.variant.1 utf8 in cc) ok;
       taken = some-all _ _ ok.0 ok.2 (λ front back some is. (bytes_apart g.row.N).front_is_cut (tiny_items c.in_ok-bytes.bytes) front back some fits (subst (SpellsText (tiny_items c.in_ok-bytes.bytes)) is ok.1)) _ utf8_is_other;
       grows = read.fails.grows;
+      failed = read.fails.failed;
     }
 
 pub returns-in-None-clause-rest : goal.returns-in-None-clause-rest

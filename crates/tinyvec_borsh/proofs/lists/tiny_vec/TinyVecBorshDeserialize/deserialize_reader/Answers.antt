@@ -1,4 +1,4 @@
-use Rattle.std.proofs.Common.{inl, inr, ap, length, length-append, arith, ◌-◌, ◌^◌}
+use Rattle.std.proofs.Common.{◌∙◌, inl, inr, ap, length, length-append, arith, ◌-◌, ◌^◌}
 use Rattle.tinyvec.specs.TinyVec.{tiny_items}
 use Rattle.std.proofs.lemmas.List.{length-map}
 use Rattle.std.proofs.lemmas.Result.{err_from_is_err_and}
@@ -25,6 +25,7 @@ returns-in_default-clause-fails g c =
           (inr (cut-after-count g.A.Item.BorshForm.Spells g.A.Item.BorshForm.Fits g.A.Item.BorshDeserialize.Reason
           g.met.A.Item.BorshDeserialize.apart.none_is_cut (2 ^ 64 - 1) c.in_ok-count.count count.ok.0 (omega (arith, above)) count.ok.1));
       grows = count.fails.grows;
+      failed = count.fails.failed;
     }
 
 pub loop-alloc-preserved : goal.loop-alloc-preserved
@@ -37,6 +38,7 @@ loop-alloc-preserved g c =
       place = placed-longer g.A.Array.CAPACITY _ c.loop-alloc.v c.read_more.new.v t.3 c.in_ok-read_more.ensures.place c.loop-alloc.invariant.place;
       room = omega (arith, c.in_ok-read_more.ensures.capacity, c.loop-alloc.invariant.room);
       grows = omega arith;
+      failed = c.in_ok-read_more.ensures.fails.failed.exact ∙ c.loop-alloc.invariant.failed;
     }
 
 pub returns-in_err-read_more-clause-fails : goal.returns-in_err-read_more-clause-fails
@@ -44,5 +46,5 @@ returns-in_err-read_more-clause-fails g c =
     let p = err_from_is_err_and c.from_residual-in_err-read_more.result c.from_residual-in_err-read_more.ensures.1 in
     let long = length-map (tiny_items c.loop-alloc.v) g.A.Item.BorshForm.content_of in
     rw (p.1, p.2) (fails-wanting g.A.Item.BorshForm.Spells g.A.Item.BorshForm.Fits g.A.Item.BorshDeserialize.Reason g.met.A.Item.BorshDeserialize.apart.front_is_cut g.A.Array.CAPACITY (2 ^ 64 - 1) c.in_ok-count.count _
-    _ _ c.loop-alloc.invariant.read (omega (arith, long, c.loop-alloc.invariant.few)) (omega (arith, long, c.loop-alloc.invariant.few, c.in_ok-count.ensures.valid)) c.loop-alloc.invariant.grows
+    _ _ c.loop-alloc.invariant.read (omega (arith, long, c.loop-alloc.invariant.few)) (omega (arith, long, c.loop-alloc.invariant.few, c.in_ok-count.ensures.valid)) c.loop-alloc.invariant.grows c.loop-alloc.invariant.failed
     (λ wanting. wanting-above g.A.Array.CAPACITY c.in_ok-count.count c.loop-alloc.v wanting c.loop-alloc.invariant.place) c.in_err-read_more.ensures.fails)

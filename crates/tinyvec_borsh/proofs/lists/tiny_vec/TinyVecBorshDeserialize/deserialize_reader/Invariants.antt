@@ -1,4 +1,4 @@
-use Rattle.std.proofs.Common.{◌-◌, ◌*◌, ◌≤◌, max, map}
+use Rattle.std.proofs.Common.{◌≡◌, ◌-◌, ◌*◌, ◌≤◌, max, map}
 use Rattle.tinyvec_slots.specs.Slots.{AreDefaults}
 use Rattle.tinyvec.specs.TinyVec.{IsInline, tiny_capacity, tiny_items, tiny_len, tiny_spare}
 use Rattle.tinyvec_borsh.proofs.ItemByItem.{WasRead}
@@ -14,6 +14,7 @@ invariant-loop-alloc g l = record {
   spare : IsInline l.v → AreDefaults g.A.Item.Default.is_default (g.A.Array.CAPACITY - tiny_len l.v) (tiny_spare l.v);
   room : tiny_capacity g.A.Array.CAPACITY l.v ≤ max g.A.Array.CAPACITY (2 * l.count);
   grows : l.fn.reader.faults ≤ l.reader.faults;
+  failed : l.reader.failed ≡ l.fn.reader.failed;
 }
 
 abbrev pub decreases-loop-alloc : goal.decreases-loop-alloc

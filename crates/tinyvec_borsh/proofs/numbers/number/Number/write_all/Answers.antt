@@ -1,7 +1,8 @@
-use Rattle.std.proofs.Common.{◌+◌, ◌-◌, ◌*◌, ap, arith, drop, length-drop, length-take-le, rules, subst, take}
+use Rattle.std.proofs.Common.{◌∙◌, ◌+◌, ◌-◌, ◌*◌, ap, arith, drop, length-drop, length-take-le, rules, subst, take}
 use Rattle.std.proofs.lemmas.List.{take_all}
 use Rattle.std.specs.List.{AllByRecursion}
 use Rattle.tinyvec_borsh.specs.Items.{SpellsItems}
+use Rattle.tinyvec_borsh.proofs.ItemByItem.{failed-since, none-failed}
 use Rattle.tinyvec_borsh.proofs.NumberBlocks.{fit-block, until-end, wrote-block}
 use Rattle.std.proofs.lemmas.Result.{err_from_is_err_and}
 use Rattle.tinyvec_borsh.proofs.AtFaults.{fault-since, front-next-block, parts_around}
@@ -20,6 +21,7 @@ loop-start-preserved g c =
       room = search rules;
       within = omega arith;
       grows = omega arith;
+      failed = c.in_ok-write_bytes.ensures.failed.exact ∙ c.loop-start.invariant.failed;
     }
 
 pub returns-clause-writes : goal.returns-clause-writes
@@ -31,6 +33,7 @@ returns-clause-writes g c =
       err = tt;
       front = tt;
       grows = c.loop-start.invariant.grows;
+      failed = none-failed c.loop-start.invariant.failed;
     }
 
 pub returns-clause-valid : goal.returns-clause-valid
@@ -50,4 +53,5 @@ returns-in_err-write_bytes-clause-writes g c =
       front = front-next-block g.Self.FixedWidth.form.Spells g.Self.FixedWidth.form.code g.Self.Bytes.Array.CAPACITY count (take start c.args.items.now) (take (start + count - start) (drop start c.args.items.now)) _ c.args.items.now _ c.encode.new.room _ _ _
           (parts_around c.args.items.now start (start + count - start)) (ap (λ m. take (count * m) c.encode.new.room) c.CAPACITY-width.ensures) (omega (arith, many)) c.loop-start.invariant.wrote c.encode.ensures.spelled failed.front;
       grows = omega arith;
+      failed = failed-since c.loop-start.invariant.failed failed.failed;
     })

@@ -11,6 +11,7 @@ invariant-loop-start g l = record {
   room : length l.room ≡ 256;
   within : l.start ≤ length l.items;
   grows : l.fn.writer.faults ≤ l.writer.faults;
+  failed : l.writer.failed ≡ l.fn.writer.failed;
 }
 
 abbrev pub decreases-loop-start : goal.decreases-loop-start

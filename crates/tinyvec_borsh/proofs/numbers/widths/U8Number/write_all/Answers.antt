@@ -19,6 +19,7 @@ returns-clause-writes g c =
       err = told.err;
       front = on-err c.write_bytes.result (λ h bytes p. subst (AppendsFront _ _) (one-items (unsigned w8).Spells (unsigned w8).code items items bytes spelled p) h) told.front;
       grows = told.faults_grow;
+      failed = told.failed;
     }
 
 pub returns-clause-valid : goal.returns-clause-valid
