@@ -1,7 +1,6 @@
 -- Lemmas on items asked of an iterator by loops, one of which goes on where the other ended.
-use Rattle.std.proofs.Common.{◌≡◌, ℕ, ◌+◌, ◌<◌, ◌≤◌, List, [], ◌∷◌, ◌++◌, Option, Some, Result, Ok, Err, length, take, drop, slice_set, take_at, length-append, length-drop, append_assoc, refl, sym, ap, subst, ◌∙◌, arith, rules}
-use Rattle.std.proofs.lemmas.List.{same_lists, places, drop_at, get_or-set_same}
-use Rattle.std.proofs.lemmas.Bool.{cases_eq}
+use Rattle.std.proofs.Common.{◌≡◌, ℕ, ◌+◌, ◌≤◌, List, [], ◌∷◌, ◌++◌, Option, Some, Result, Ok, Err, length, take, drop, take_at, length-append, length-drop, append_assoc, refl, sym, ap, subst, ◌∙◌, arith, rules}
+use Rattle.std.proofs.lemmas.List.{same_lists, places, drop_at}
 use Rattle.std.specs.Prelude.{MatchResult, IsOk, IfErr, OnOk, OnErr}
 use Rattle.std.specs.declared.iter.Iterator as Iterator
 use Rattle.std.specs.Iterator.{Count, Yields, YieldsThen, Drains, AlwaysYields}
@@ -68,8 +67,3 @@ module _ {T : Type 0} (v : Slots T) (xs ws : List T) (len : ℕ) (few : length x
 
   pub spare_filled : drop len (all_slots (with_spare v ws)) ≡ drop (length xs) (spare v)
   spare_filled = ap (drop len) written ∙ drop_at (items v ++ xs) (drop (length xs) (spare v)) len front
-
--- one more slot, behind those of ys, is written
-pub slots_filled : {T : Type 0} (slots ys : List T) (n : ℕ) (x : T) → length ys ≡ n → n < length slots
-    → slice_set (ys ++ drop n slots) n x ≡ (ys ++ x ∷ []) ++ drop (n + 1) slots
-slots_filled slots ys n x long lt = same_lists _ _ (search (rules, places, long)) (λ k d h. grind (arith, places, long, get_or-set_same, cases_eq k n))

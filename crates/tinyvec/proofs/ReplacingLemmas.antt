@@ -1,5 +1,5 @@
 -- Lemmas on a range that was replaced: where there is room, and of a list that was granted room for n more items first.
-use Rattle.std.proofs.Common.{◌≡◌, ◌∙◌, ℕ, ◌+◌, ◌-◌, ◌<◌, ◌≤◌, List, ◌++◌, take, drop, length, length-append, length-drop, length-take-le, Result, Ok, inl, inr, sym, subst, arith}
+use Rattle.std.proofs.Common.{◌≡◌, ◌∙◌, ℕ, ◌+◌, ◌-◌, ◌<◌, ◌≤◌, List, ◌++◌, take, drop, length, length-drop, length-take-le, Result, Ok, inl, inr, sym, subst, arith}
 use Rattle.std.proofs.lemmas.Bool.{cases_lt}
 use Rattle.tinyvec_slots.specs.Replacing.{PutsBetween}
 use Rattle.tinyvec.specs.TinyVec.{tiny_len, is_inline, tiny_capacity, PlaceRule, TinySlotRule, Becomes, IsInline}
@@ -8,14 +8,7 @@ use Rattle.tinyvec.specs.declared.tiny_vec.TinyVec.{TinyVec}
 use Rattle.tinyvec.proofs.TinyLemmas.{capacity_inline}
 use Rattle.tinyvec.proofs.FrameLemmas.{on_ok}
 
--- the length of a list with a range of it replaced
-pub length-replaced : {T : Type 0} (start end : ℕ) (put old : List T) → start ≤ end → end ≤ length old
-    → length (take start old ++ put ++ drop end old) ≡ length old - (end - start) + length put
-length-replaced start end put old le inside =
-    let ahead = length-take-le start old (omega (arith, le, inside)) in
-    omega (arith, length-append (take start old ++ put) (drop end old), length-append (take start old) put, ahead, length-drop end old, le, inside)
-
--- and that list, put where there is room for it
+-- a list with a range of it replaced, put where there is room for it
 pub replaced : {T X E : Type 0} (room start end : ℕ) (put old new : List T) (result : Result X E) → start ≤ end → end ≤ length old
     → length old - (end - start) + length put ≤ room → PutsBetween room (take start old) put (drop end old) result new
     → new ≡ take start old ++ put ++ drop end old

@@ -123,6 +123,11 @@ pub closed_by_ends : {X : Type 0} (xs part zs rest : List X) (i n b : ℕ) → i
     → take (length xs - n) (take i xs ++ (zs ++ rest)) ≡ remove_range xs i (i + n)
 closed_by_ends xs part zs rest i n b all is swapped = rw (swapped, is) (same_lists _ _ (search (rules, places)) (λ k e h. grind (arith, places)))
 
+-- the length of a list with a range of it replaced
+pub length-replaced : {X : Type 0} (start end : ℕ) (put old : List X) → start ≤ end → end ≤ length old
+    → length (take start old ++ put ++ drop end old) ≡ length old - (end - start) + length put
+length-replaced start end put old le inside = search (rules, places)
+
 -- what is put in is the same after it changed places with the item that it stood before
 pub insert_shifted : {X : Type 0} (xs : List X) (i : ℕ) (x y : X) → i < length xs → y ≡ get_or xs i y
     → insert (set xs i x) (i + 1) y ≡ insert xs i x

@@ -56,15 +56,6 @@ module _ (bs : List ℕ) (u : IsUtf8 bs) (i j : ℕ) (p : IsSplitPoint bs i) (q 
       chars-append (take i bs ++ put) (drop j bs) (IsUtf8-append (take i bs) put (IsUtf8-take-drop bs u i p).0 w)
       ∙ ap (λ cs. cs ++ chars (drop j bs)) (chars-append (take i bs) put (IsUtf8-take-drop bs u i p).0)
 
--- the length of a list in which `put` is in the place of the items from a up to b
-pub replaced_len : (bs put : List ℕ) (a b : ℕ) → a ≤ b → b ≤ length bs
-    → length (take a bs ++ put ++ drop b bs) ≡ length bs - (b - a) + length put
-replaced_len bs put a b order within =
-    let front = length-take-le a bs (omega (arith, order, within)) in
-    let rest = length-drop b bs in
-    let both = length-append (take a bs) put in
-    length-append (take a bs ++ put) (drop b bs) ∙ omega (arith, front, rest, both, order, within)
-
 -- the character whose bytes are the first n from i on
 module _ (bs : List ℕ) (u : IsUtf8 bs) (i : ℕ) (p : IsSplitPoint bs i) (n c : ℕ) (own : take n (drop i bs) ≡ encode_utf8 c)
     (w : IsUtf8 (drop n (drop i bs))) where

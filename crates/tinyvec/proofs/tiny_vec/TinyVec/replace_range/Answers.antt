@@ -2,7 +2,8 @@ use Rattle.std.proofs.Common.{◌≡◌, ◌≤◌, ◌++◌, take, drop, length
 use Rattle.tinyvec_slots.specs.Ranges.{range_end}
 use Rattle.tinyvec_slots.proofs.ReplacingLemmas.{placed_at}
 use Rattle.tinyvec.specs.TinyVec.{tiny_items}
-use Rattle.tinyvec.proofs.ReplacingLemmas.{length-replaced, replaced_room}
+use Rattle.tinyvec_slots.proofs.Lists.{length-replaced}
+use Rattle.tinyvec.proofs.ReplacingLemmas.{replaced_room}
 use Rattle.tinyvec.proofs.tiny_vec.TinyVec.replace_range.Goals as goal
 
 pub returns-clause-items : goal.returns-clause-items

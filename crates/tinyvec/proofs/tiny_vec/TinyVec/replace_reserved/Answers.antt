@@ -2,7 +2,8 @@ use Rattle.std.proofs.Common.{length, ap, subst, arith, rules}
 use Rattle.tinyvec_slots.proofs.KnownItems.{copied_yields}
 use Rattle.tinyvec.specs.TinyVec.{tiny_items, Becomes}
 use Rattle.tinyvec.proofs.FrameLemmas.{grows_in_room}
-use Rattle.tinyvec.proofs.ReplacingLemmas.{replaced, length-replaced}
+use Rattle.tinyvec_slots.proofs.Lists.{length-replaced}
+use Rattle.tinyvec.proofs.ReplacingLemmas.{replaced}
 use Rattle.tinyvec.proofs.tiny_vec.TinyVec.replace_reserved.Goals as goal
 
 pub returns : goal.returns

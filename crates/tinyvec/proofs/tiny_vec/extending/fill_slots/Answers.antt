@@ -1,6 +1,6 @@
 use Rattle.std.proofs.Common.{◌+◌, ◌<◌, length, ap, ◌∙◌, slice_set, arith, rules}
 use Rattle.std.proofs.lemmas.List.{length_push}
-use Rattle.tinyvec.proofs.FillingLemmas.{slots_filled}
+use Rattle.tinyvec_slots.proofs.CloneLemmas.{set_next}
 use Rattle.tinyvec.proofs.tiny_vec.extending.fill_slots.Goals as goal
 
 pub loop-item-preserved : goal.loop-item-preserved
@@ -16,5 +16,5 @@ loop-item-preserved g c =
       no_longer = omega (arith, went.2, inv.no_longer);
       count = length_push at.yielded x ∙ ap (λ k. k + 1) inv.count;
       in_bounds = omega (arith, lt);
-      filled = ap (λ l. slice_set l at.count x) inv.filled ∙ slots_filled slots at.yielded at.count x inv.count lt;
+      filled = ap (λ l. slice_set l at.count x) inv.filled ∙ set_next at.yielded slots at.count x inv.count lt;
     }

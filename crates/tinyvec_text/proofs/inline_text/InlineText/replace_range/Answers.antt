@@ -2,7 +2,8 @@ use Rattle.std.proofs.Common.{◌≡◌, ◌-◌, ◌+◌, ◌++◌, IsUtf8, ap,
 use Rattle.tinyvec.specs.TinyVec.{tiny_items}
 use Rattle.tinyvec.proofs.ReplacingLemmas.{replaced_room}
 use Rattle.tinyvec_slots.specs.Ranges.{range_start, range_end, before, after}
-use Rattle.tinyvec_text.proofs.Boundaries.{replaced_len, utf8_put, chars_put}
+use Rattle.tinyvec_slots.proofs.Lists.{length-replaced}
+use Rattle.tinyvec_text.proofs.Boundaries.{utf8_put, chars_put}
 use Rattle.tinyvec_text.proofs.Lists.{text_utf8, text_range, text_kept, text_same, text_stays, made_room}
 use Rattle.tinyvec_text.proofs.inline_text.InlineText.replace_range.Goals as goal
 
@@ -82,7 +83,7 @@ returns-clause-room g c =
     let same = c.in_ok-reserve.ensures.items in
     let whole : take part.start (tiny_items mid) ++ put ++ drop part.end (tiny_items mid) ≡ take a bs ++ put ++ drop (range_end end (length bs)) bs =
     λ i. take (starts i) (same i) ++ put ++ drop (ends i) (same i) in
-    let size = ap length (c.replace_bytes.ensures.items ∙ whole) ∙ replaced_len bs put a (range_end end (length bs)) cuts.order cuts.last.0 in
+    let size = ap length (c.replace_bytes.ensures.items ∙ whole) ∙ length-replaced a (range_end end (length bs)) put bs cuts.order cuts.last.0 in
     let more = c.saturating_sub-more.ensures in
     let inside = cuts.last.0 in
     let order = cuts.order in
