@@ -1,8 +1,5 @@
 -- What was gathered is written.
-use Rattle.std.proofs.Common.{◌≡◌, ℕ, ◌+◌, ◌-◌, ◌<◌, ◌≤◌, length, take, get_or, ◌∷◌, inl, inr, List, [], ◌++◌, Option, None, Some, ap, sym, refl, subst, ◌∙◌, append-nil, append_assoc, arith, le_refl, le_trans, Result, Ok, Err, IsErr, true, true≢false, is_err}
-use Rattle.std.specs.List.{flat_map}
-use Rattle.std.proofs.lemmas.List.{take_more}
-use Rattle.std.proofs.lemmas.Grind.{flat_map-append}
+use Rattle.std.proofs.Common.{◌≡◌, ℕ, ◌+◌, ◌-◌, ◌≤◌, inl, inr, List, [], ◌++◌, Option, None, Some, ap, sym, refl, subst, ◌∙◌, append-nil, append_assoc, arith, le_refl, le_trans, Result, Ok, Err, IsErr, true, true≢false, is_err}
 use Rattle.std.specs.Io.KnownBytes.{Appends, Keeps}
 use Rattle.std.proofs.KnownBytes.{Appends-nil, Appends-trans, Appends-kept}
 use Rattle.tinyvec_io.specs.Counted.{CountedView, CountsFault, AppendsFront, Reported}
@@ -12,10 +9,6 @@ use Rattle.tinyvec_script.specs.Writes.{gathered_of, Writes, Gathers, Sends}
 pub reported_since : (f g h : ℕ) → f ≤ g → Reported g h → Reported f h
 reported_since f g h le (inl more) = inl (omega arith)
 reported_since f g h le (inr most) = inr most
-
--- the text of one item more
-pub flat_map_more : {X : Type 0} (f : X → List ℕ) (xs : List X) (i : ℕ) (d : X) → i < length xs → flat_map f (take (i + 1) xs) ≡ flat_map f (take i xs) ++ f (get_or xs i d)
-flat_map_more f xs i d within = ap (flat_map f) (take_more xs i d within) ∙ flat_map-append f (take i xs) (get_or xs i d ∷ []) ∙ ap (λ l. flat_map f (take i xs) ++ l) (append-nil (f (get_or xs i d)))
 
 one_fault : (f g : ℕ) → CountsFault true f g → Reported f g
 one_fault f g counted = grind (arith, counted.exact)
