@@ -2,7 +2,7 @@ use Rattle.std.proofs.Common.{◌≡◌, ◌+◌, ◌-◌, ◌≤◌, ◌∷◌,
 use Rattle.tinyvec_slots.specs.Slots.{items, items_len, spare}
 use Rattle.tinyvec.specs.TinyVec.{TinySlotRule}
 use Rattle.tinyvec.specs.declared.tiny_vec.TinyVec.TheVariants.{Inline}
-use Rattle.tinyvec_text.proofs.Boundaries.{replaced_len}
+use Rattle.tinyvec_slots.proofs.Lists.{length-replaced}
 use Rattle.tinyvec_text.proofs.inline_text.bytes.put_byte.Goals as goal
 
 pub returns-in-Inline-clause-room : goal.returns-in-Inline-clause-room
@@ -12,7 +12,7 @@ returns-in-Inline-clause-room g c =
     let made = c.insert_inline.ensures in
     let inside : c.args.index ≤ items_len v = search rules in
     let size : items_len new ≡ items_len v + 1 =
-    ap length made.items ∙ replaced_len (items v) (c.args.byte ∷ []) c.args.index c.args.index (omega arith) inside ∙ omega (arith, inside) in
+    ap length made.items ∙ length-replaced c.args.index c.args.index (c.args.byte ∷ []) (items v) (omega arith) inside ∙ omega (arith, inside) in
     let count : 1 ≡ items_len new - items_len v = omega (arith, size) in
     let none : 0 ≡ items_len v - items_len new = omega (arith, size) in
     let slots : TinySlotRule {A = List ℕ} (λ b. b ≡ 0) (Inline v c.in-Inline.field-1) (Inline new c.in-Inline.field-1) =
