@@ -63,7 +63,7 @@ impl<const N: usize> InlineText<N> {
 
     /// The text of these bytes, in their place, or the bytes if they are not UTF-8. Allocates nothing. Sets the spare
     /// slots to zero.
-    pub fn from_utf8(bytes: TinyVec<[u8; N]>) -> Result<Self, FromUtf8Error<N>>
+    pub fn from_utf8(mut bytes: TinyVec<[u8; N]>) -> Result<Self, FromUtf8Error<N>>
         ensures variant { IsOk result ↔ IsUtf8 (tiny_items bytes.entry) }
         ensures value { IfOk result (λ t. t ≡ text_of bytes.entry) }
         ensures bytes_returned { IfErr result (λ refused. refused.bytes ≡ bytes.entry) }
@@ -74,23 +74,21 @@ impl<const N: usize> InlineText<N> {
         if let Err(error) = str::from_utf8(bytes.as_slice()) {
             return Err(FromUtf8Error { bytes, error });
         }
-        let mut list = bytes;
-        clear_spare(&mut list);
-        Ok(InlineText { list })
+        clear_spare(&mut bytes);
+        Ok(InlineText { list: bytes })
     }
 
     /// The text of these bytes, as by `from_utf8`, or `None` if they are not UTF-8, and then they are dropped.
     // A caller for every N can't prove that a `FromUtf8Error<N>` is small enough to be a value.
-    pub fn from_utf8_or_none(bytes: TinyVec<[u8; N]>) -> Option<Self>
+    pub fn from_utf8_or_none(mut bytes: TinyVec<[u8; N]>) -> Option<Self>
         ensures variant { IsSome result ↔ IsUtf8 (tiny_items bytes.entry) }
         ensures value { IfSome result (λ t. t ≡ text_of bytes.entry) }
     {
         if let Err(_) = str::from_utf8(bytes.as_slice()) {
             return None;
         }
-        let mut list = bytes;
-        clear_spare(&mut list);
-        Some(InlineText { list })
+        clear_spare(&mut bytes);
+        Some(InlineText { list: bytes })
     }
 
     /// The length in bytes.

@@ -422,13 +422,9 @@ fn append_on_heap<const N: usize>(list: &mut TinyVec<[u8; N]>, bytes: &[u8])
     let TinyVec::Heap(heap) = list else {
         unreachable!();
     };
-    // The block of so few is worth no `memmove`.
+    // So few bytes are worth no `memmove`.
     if bytes.len() < 16 {
         append_few(heap, bytes);
-        return;
-    }
-    if bytes.len() <= BLOCK {
-        append_block(heap, bytes);
         return;
     }
     append_many(heap, bytes);
@@ -456,9 +452,22 @@ fn append_each(heap: &mut Vec<u8>, bytes: &[u8])
     }
 }
 
-// Appends the bytes in blocks.
+// Appends many bytes. A call of its own, so that a few need no registers saved.
 #[inline(never)]
 fn append_many(heap: &mut Vec<u8>, bytes: &[u8])
+    requires room { vec_len heap.old + length bytes.now ≤ vec_capacity heap.old }
+    ensures { HeapBecomes heap.old heap.new (heap.old.items ++ bytes.now) }
+{
+    if bytes.len() <= BLOCK {
+        append_block(heap, bytes);
+        return;
+    }
+    append_blocks(heap, bytes);
+}
+
+// Appends the bytes in blocks.
+#[inline(never)]
+fn append_blocks(heap: &mut Vec<u8>, bytes: &[u8])
     requires room { vec_len heap.old + length bytes.now ≤ vec_capacity heap.old }
     ensures { HeapBecomes heap.old heap.new (heap.old.items ++ bytes.now) }
 {

@@ -1,7 +1,7 @@
 use Rattle.std.proofs.Common.{◌∙◌, ◌≡◌, ◌+◌, ◌-◌, ◌++◌, sym, take, arith, rules}
 use Rattle.std.proofs.lemmas.List.{take_rest}
 use Rattle.tinyvec.proofs.CloneLemmas.{appended_further}
-use Rattle.tinyvec_text.proofs.inline_text.bytes.append_many.Goals as goal
+use Rattle.tinyvec_text.proofs.inline_text.bytes.append_blocks.Goals as goal
 
 pub loop-done-preserved : goal.loop-done-preserved
 loop-done-preserved c =

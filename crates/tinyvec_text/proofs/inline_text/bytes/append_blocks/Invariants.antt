@@ -1,5 +1,5 @@
 use Rattle.std.proofs.Common.{◌≡◌, ◌≤◌, ◌-◌, ◌++◌, take, length, vec_capacity}
-use Rattle.tinyvec_text.proofs.inline_text.bytes.append_many.Given as goal
+use Rattle.tinyvec_text.proofs.inline_text.bytes.append_blocks.Given as goal
 
 abbrev pub invariant-loop-done : goal.invariant-loop-done
 invariant-loop-done l = (l.done ≤ length l.bytes) × (l.heap.items ≡ l.initial.heap.items ++ take l.done l.bytes) × (vec_capacity l.heap ≡ vec_capacity l.initial.heap)
