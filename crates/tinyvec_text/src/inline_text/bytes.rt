@@ -479,7 +479,8 @@ fn append_blocks(heap: &mut Vec<u8>, bytes: &[u8])
     }
 }
 
-// Appends a block. `push_block` works on a local variable, whose length and pointer LLVM keeps in registers.
+// Appends a block. `push_block` works on a local variable, whose length and pointer LLVM keeps in registers. Without
+// `inline(always)`: LLVM drops the block only if it has simplified this before it inlines it.
 fn append_block(heap: &mut Vec<u8>, bytes: &[u8])
     requires few { length bytes.now ≤ 4096 }
     requires room { vec_len heap.old + length bytes.now ≤ vec_capacity heap.old }
