@@ -1,5 +1,5 @@
 -- A stream: records one after the other, each after a tag.
-use Rattle.std.specs.Prelude.{◌≡◌, ◌≢◌, ℕ, ◌^◌, ◌<◌, List, [], ◌∷◌, ◌++◌, Option, None, Some, Ok, Err, Result}
+use Rattle.std.specs.Prelude.{◌≡◌, ◌≢◌, Bool, true, false, ℕ, ◌^◌, ◌<◌, List, [], ◌∷◌, ◌++◌, Option, None, Some, Ok, Err, Result}
 use Rattle.tinyvec_io.specs.Counted.{Reported}
 use Rattle.tinyvec_borsh.specs.Both.{IsBehind}
 use Rattle.tinyvec_borsh.specs.Items.{BeginsWithItems, HasTooMany, SpellsItems}
@@ -54,6 +54,12 @@ StandsBehind end tail = IsEnd end tail
 -- The input begins with these records, and is so after them.
 abbrev pub BeginsWith : List Said → (List ℕ → Type 0) → List ℕ → Type 0
 BeginsWith = BeginsWithItems SpellsFrame
+
+-- the reader failed, as the answer says
+abbrev pub ends_by_io : {T : Type 0} → Result T StreamError → Bool
+ends_by_io (Ok value) = false
+ends_by_io (Err Io) = true
+ends_by_io (Err error) = false
 
 -- A record was taken from the front of the input, or none, and then the input is as the answer says.
 abbrev pub NextIs : (old new : Option (List ℕ)) → Result (Option Reading) StreamError → Type 0

@@ -1,11 +1,12 @@
 //! A stream of records: a tag before each, and no byte after the last.
 ghost use Rattle.std.specs.Prelude.{◌≡◌, ◌≤◌, ◌++◌, ℕ, List, Result, Some, IfErr, IfOk, OnErr, OnOk, IsErrOf, map};
 ghost use Rattle.std.specs.List.{AllByRecursion};
-ghost use Rattle.tinyvec_io.specs.Counted.{Reported};
+ghost use Rattle.tinyvec_io.specs.Counted.{CountsFault, Reported};
+ghost use Rattle.tinyvec_borsh.specs.Failed.{CountsIo};
 ghost use Rattle.tinyvec_borsh.specs.Reading.{MayBe};
 ghost use Rattle.tinyvec_borsh.specs.Writing.{WritesSpelling};
 ghost use Rattle.example_records.specs.Readings.{ReadingFits, Said, said};
-ghost use Rattle.example_records.specs.Stream.{BeginsWith, Gives, GivesCut, IsCopy, IsEnd, NextIs, SpellsFrame};
+ghost use Rattle.example_records.specs.Stream.{BeginsWith, Gives, GivesCut, IsCopy, IsEnd, NextIs, SpellsFrame, ends_by_io};
 ghost use Rattle.example_records.specs.Stream.{SpellsStream, StandsBehind};
 ghost use Rattle.example_records.specs.declared.stream_error.StreamError.{StreamError};
 
@@ -26,6 +27,7 @@ pub fn append<W: Write>(reading: &Reading, writer: &mut Counted<W>) -> Result<()
     ensures valid { OnOk result (ReadingFits (said reading.now)) }
     ensures err { IfErr result (λ e. (e ≡ BorshError.Io) × Reported writer.old.faults writer.new.faults) }
     ensures faults_grow { writer.old.faults ≤ writer.new.faults }
+    ensures failed { CountsIo writer.old.failed writer.new.failed result }
 {
     TAG.serialize(writer)?;
     reading.serialize(writer)
@@ -38,6 +40,7 @@ pub fn append_all<W: Write>(readings: &[Reading], writer: &mut Counted<W>) -> Re
     ensures valid { OnOk result (AllByRecursion ReadingFits (map said readings.now)) }
     ensures err { IfErr result (λ e. (e ≡ BorshError.Io) × Reported writer.old.faults writer.new.faults) }
     ensures faults_grow { writer.old.faults ≤ writer.new.faults }
+    ensures failed { CountsIo writer.old.failed writer.new.failed result }
 {
     for reading in readings {
         append(reading, writer)?;
@@ -75,6 +78,9 @@ pub fn read_all<R: Read>(alloc: Global, reader: &mut Counted<R>) -> Recovered
         (BeginsWith (map said result.records.items) (StandsBehind result.end)) }
     ensures valid { AllByRecursion ReadingFits (map said result.records.items) }
     ensures fault { IsErrOf result.end StreamError.Io → Reported reader.old.faults reader.new.faults }
+
+    // One call of the reader failed if the end is the error `Io`, else none.
+    ensures failed { CountsFault (ends_by_io result.end) reader.old.failed reader.new.failed }
 
     // The records at the front of the input are all read, and the end is described.
     ensures all { (cs : List Said) (bytes tail : List ℕ) (end : Result (Unit {0}) StreamError)
@@ -115,6 +121,7 @@ fn read_records<R: Read>(
         × AllByRecursion ReadingFits (map said more)
         × MayBe (R.remaining reader.old.inner) (BeginsWith (map said more) (StandsBehind result)) }
     ensures fault { IsErrOf result StreamError.Io → Reported reader.old.faults reader.new.faults }
+    ensures failed { CountsFault (ends_by_io result) reader.old.failed reader.new.failed }
 {
     while let Some(reading) = read_next(alloc, reader)? {
         let Ok(()) = records.push(reading) else {
@@ -132,6 +139,7 @@ fn read_next<R: Read>(
     ensures next { NextIs (R.remaining reader.old.inner) (R.remaining reader.new.inner) result }
     ensures fault { IsErrOf result StreamError.Io → Reported reader.old.faults reader.new.faults }
     ensures faults_grow { reader.old.faults ≤ reader.new.faults }
+    ensures failed { CountsFault (ends_by_io result) reader.old.failed reader.new.failed }
 {
     let tag = match u8::deserialize_reader(alloc, reader) {
         Ok(tag) => tag,

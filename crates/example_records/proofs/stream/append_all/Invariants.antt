@@ -1,4 +1,4 @@
-use Rattle.std.proofs.Common.{◌≤◌, map, take}
+use Rattle.std.proofs.Common.{◌≡◌, ◌≤◌, map, take}
 use Rattle.std.specs.List.{AllByRecursion}
 use Rattle.tinyvec_borsh.proofs.ItemByItem.{WroteItems}
 use Rattle.example_records.specs.Readings.{ReadingFits, said}
@@ -11,4 +11,5 @@ invariant-loop-reading g l = record {
   wrote : WroteItems SpellsFrame (map said (take l.reading-index l.readings)) (g.W.Write.contents l.fn.writer.inner) (g.W.Write.contents l.writer.inner);
   fit : AllByRecursion ReadingFits (map said (take l.reading-index l.readings));
   grows : l.fn.writer.faults ≤ l.writer.faults;
+  failed : l.writer.failed ≡ l.fn.writer.failed;
 }

@@ -1,4 +1,4 @@
-use Rattle.std.proofs.Common.{◌≡◌, ◌++◌, ◌∷◌, [], arith, rules}
+use Rattle.std.proofs.Common.{◌≡◌, ◌∙◌, ◌++◌, ◌∷◌, [], arith, rules}
 use Rattle.std.proofs.lemmas.Result.{err_from_is_err_and}
 use Rattle.tinyvec_borsh.proofs.ReadItems.{read-next, read-then}
 use Rattle.example_records.specs.Readings.{ReadingFits, said}
@@ -18,6 +18,7 @@ loop-reading-preserved g c =
     record {
       read = read-next said SpellsFrame ReadingFits _ _ _ c.in-Some.reading _ _ _ c.loop-reading.invariant.read next.0 next.1 pushed;
       grows = omega arith;
+      failed = c.in_ok-reading.ensures.failed.exact ∙ c.loop-reading.invariant.failed;
     }
 
 pub returns-in_default-push-clause-stands : goal.returns-in_default-push-clause-stands

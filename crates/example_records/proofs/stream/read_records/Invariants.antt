@@ -1,4 +1,4 @@
-use Rattle.std.proofs.Common.{◌-◌, ◌^◌, ◌≤◌, length}
+use Rattle.std.proofs.Common.{◌≡◌, ◌-◌, ◌^◌, ◌≤◌, length}
 use Rattle.tinyvec_borsh.proofs.ReadItems.{ReadItems}
 use Rattle.example_records.specs.Readings.{ReadingFits, said}
 use Rattle.example_records.specs.Stream.{SpellsFrame}
@@ -9,6 +9,7 @@ abbrev pub invariant-loop-reading : goal.invariant-loop-reading
 invariant-loop-reading g l = record {
   read : ReadItems said SpellsFrame ReadingFits l.fn.records.items l.records.items (g.R.Read.remaining l.fn.reader.inner) (g.R.Read.remaining l.reader.inner);
   grows : l.fn.reader.faults ≤ l.reader.faults;
+  failed : l.reader.failed ≡ l.fn.reader.failed;
 }
 
 -- no vector has 2 ^ 64 items

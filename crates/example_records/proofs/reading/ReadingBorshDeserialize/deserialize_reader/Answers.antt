@@ -19,7 +19,7 @@ pub returns-in_err-samples-clause-fails : goal.returns-in_err-samples-clause-fai
 returns-in_err-samples-clause-fails g c =
     let p = err_from_is_err_and c.from_residual-in_err-samples.result c.from_residual-in_err-samples.ensures.1 in
     let station = c.in_ok-station.ensures in
-    rw (p.1, p.2) (fails-second (SpellsNumber 4) StationFits (TooFewBytes 4) ListsReason (number_apart 4 (lit< tt) StationFits).front_is_cut _ station.ok station.valid station.fails.grows
+    rw (p.1, p.2) (fails-second (SpellsNumber 4) StationFits (TooFewBytes 4) ListsReason (number_apart 4 (lit< tt) StationFits).front_is_cut _ station.ok station.valid station.fails.grows station.fails.failed.exact
     (fails-first SpellsSamples SamplesFit SamplesReason NoteReason {U = Unit {0}} c.in_err-samples.ensures.fails))
 
 pub returns-in_err-note-clause-fails : goal.returns-in_err-note-clause-fails
@@ -28,8 +28,8 @@ returns-in_err-note-clause-fails g c =
     let station = c.in_ok-station.ensures in
     let samples = c.in_ok-samples.ensures in
     let same = map-id (items c.in_ok-samples.samples) in
-    rw (p.1, p.2) (fails-second (SpellsNumber 4) StationFits (TooFewBytes 4) ListsReason (number_apart 4 (lit< tt) StationFits).front_is_cut _ {mid = record { inner = _; faults = _; failed = 0 }} station.ok station.valid station.fails.grows
-    (fails-second SpellsSamples SamplesFit SamplesReason NoteReason {U = Unit {0}} samples_apart.front_is_cut _ (rw same at samples.ok) (subst SamplesFit same samples.valid) samples.fails.grows c.in_err-note.ensures.fails))
+    rw (p.1, p.2) (fails-second (SpellsNumber 4) StationFits (TooFewBytes 4) ListsReason (number_apart 4 (lit< tt) StationFits).front_is_cut _ {mid = record { inner = _; faults = _; failed = _ }} station.ok station.valid station.fails.grows station.fails.failed.exact
+    (fails-second SpellsSamples SamplesFit SamplesReason NoteReason {U = Unit {0}} samples_apart.front_is_cut _ (rw same at samples.ok) (subst SamplesFit same samples.valid) samples.fails.grows samples.fails.failed.exact c.in_err-note.ensures.fails))
 
 pub returns-clause-ok : goal.returns-clause-ok
 returns-clause-ok g c =
