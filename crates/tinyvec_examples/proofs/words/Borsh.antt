@@ -1,11 +1,12 @@
 -- Examples of the Borsh form, of contents that are bytes: each spells itself, and an input without a byte is cut.
 use Rattle.std.proofs.Common.{◌≡◌, ℕ, ◌<◌, List, [], ◌∷◌, Option, Some, None, Ok, Err, inl, refl, ap, length, length-append, rules, arith}
 use Rattle.std.specs.Prelude.{IsUtf8}
+use Rattle.tinyvec_borsh.specs.Failed.{CountsIo}
 use Rattle.tinyvec_borsh.specs.Items.{SpellsItems, SpellsList, ListFits, AfterItems, InItem, ListReason, CountsAbove}
 use Rattle.tinyvec_borsh.specs.Reading.{ReadsSpelling, FailsFor, LeavesRest}
 use Rattle.tinyvec_borsh.specs.Writing.{WritesValue}
 use Rattle.tinyvec_io.specs.Counted.{CountedView}
-use Rattle.tinyvec_borsh.specs.declared.borsh_error.BorshError.TheVariants.{Ended}
+use Rattle.tinyvec_borsh.specs.declared.borsh_error.BorshError.TheVariants.{Ended, Io}
 use Rattle.tinyvec_borsh.specs.declared.borsh_error.BorshError.{BorshError}
 use Rattle.tinyvec_borsh.specs.Apart.{AreApart}
 use Rattle.tinyvec_borsh.specs.Code.{IsCode}
@@ -93,8 +94,11 @@ holding bytes = record { inner = bytes; faults = 0; failed = 0 }
 abbrev pub known : List ℕ → Option (List ℕ)
 known bytes = Some bytes
 
+pub example-CountsIo : CountsIo {T = ℕ} 3 4 (Err Io)
+example-CountsIo = record { exact = refl; grows = omega arith }
+
 pub example-FailsFor : FailsFor {T = ℕ} known Reason (holding []) (holding []) (Err Ended)
-example-FailsFor = record { err = example-TooFewBytes; taken = record { bytes = []; taken = search rules; end = λ is. refl; needed = λ front back some is. absurd (omega (arith, some, ap length is, length-append front back)); short = λ no. absurd (no tt) }; grows = omega arith }
+example-FailsFor = record { err = example-TooFewBytes; taken = record { bytes = []; taken = search rules; end = λ is. refl; needed = λ front back some is. absurd (omega (arith, some, ap length is, length-append front back)); short = λ no. absurd (no tt) }; grows = omega arith; failed = record { exact = refl; grows = omega arith } }
 
 pub example-SpellsText : SpellsText (104 ∷ []) (1 ∷ 0 ∷ 0 ∷ 0 ∷ 0 ∷ 0 ∷ 0 ∷ 0 ∷ 104 ∷ [])
 example-SpellsText = record {
@@ -119,4 +123,4 @@ pub example-LeavesRest : LeavesRest Spells IsNever 4 None None Ended
 example-LeavesRest = _
 
 pub example-WritesValue : WritesValue {T = ℕ} known (λ bytes. bytes ≡ 7 ∷ []) (holding (1 ∷ [])) (holding (1 ∷ 7 ∷ [])) (Ok 0)
-example-WritesValue = record { ok = (7 ∷ [], refl, search rules); err = tt; front = tt; grows = omega arith }
+example-WritesValue = record { ok = (7 ∷ [], refl, search rules); err = tt; front = tt; grows = omega arith; failed = record { exact = refl; grows = omega arith } }

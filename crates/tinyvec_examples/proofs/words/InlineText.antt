@@ -5,7 +5,7 @@ use Rattle.std.specs.Prelude.{All, chars}
 use Rattle.tinyvec.specs.declared.tiny_vec.TinyVec.{TinyVec}
 use Rattle.tinyvec.specs.View.{in_array, on_heap, lies_inline, capacity_in}
 use Rattle.tinyvec.specs.TinyVec.{tiny_items, tiny_spare}
-use Rattle.tinyvec_text.specs.InlineText.{Text, text_of, text_chars, text_len, IsText, TextStaysInPlace, TextBecomes, TextKeepsFront, TextMakesRoom, TextReserves, TextShrinks, TextExtends, TextMadeFor, TextCollects, IsTextTail, IsBoundary}
+use Rattle.tinyvec_text.specs.InlineText.{Text, text_of, text_chars, text_len, IsText, TextStaysInPlace, TextBecomes, TextKeepsFront, TextMakesRoom, TextReserves, TextShrinks, TextExtends, TextMadeFor, TextCollects, IsTextTail, IsBoundary, empty_text, place_after, place_after_chars, place_after_texts}
 
 -- these bytes, in the value
 abbrev pub inline : List ℕ → Text
@@ -68,3 +68,15 @@ example-TextMakesRoom = search rules
 
 pub example-TextExtends : TextExtends 4 (inline (97 ∷ [])) (inline (97 ∷ 98 ∷ []))
 example-TextExtends = search rules
+
+pub example-place_after : place_after {T = ℕ} (λ place c. false) (λ c. c ∷ []) 2 1 in_array (97 ∷ 98 ∷ []) ≡ on_heap 4
+example-place_after = refl
+
+pub example-place_after_chars : place_after_chars 2 (inline (97 ∷ [])) [] ≡ in_array
+example-place_after_chars = refl
+
+pub example-place_after_texts : place_after_texts {T = List ℕ} (λ x. x) 2 (inline (97 ∷ [])) ((98 ∷ 99 ∷ []) ∷ []) ≡ on_heap 3
+example-place_after_texts = refl
+
+pub example-empty_text : empty_text ≡ inline []
+example-empty_text = refl
