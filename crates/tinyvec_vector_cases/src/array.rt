@@ -1,5 +1,5 @@
 //! Rows of an `ArrayVec`.
-use crate::calls::{cut, extend_slots, filter, lend_slots, put_in_slots, ranged};
+use crate::calls::{cut, extend_slots, filter, lend_slots, put_in_slots, ranged, splice};
 use crate::held::Copies;
 use crate::steps::{Steps, iterated, step_at_ends, stepped};
 use crate::vector::Vector;
@@ -33,7 +33,10 @@ pub fn array_of<T: Read, A: Array<Item = T>>(slots: Slots<T>) -> Result<A, Wrong
 /// The vector of a list and the slots after it.
 pub fn made<T: Read, A: Array<Item = T>>(slots: Slots<T>) -> Result<ArrayVec<A>, Wrong> {
     let len = slots.0.len();
-    ArrayVec::try_from_array_len(array_of(slots)?, len).map_err(|_| Wrong::Value)
+    match ArrayVec::try_from_array_len(array_of(slots)?, len) {
+        Ok(v) => Ok(v),
+        Err(_) => Err(Wrong::Value),
+    }
 }
 
 impl<T: Item, A: Array<Item = T>> Vector for ArrayVec<A> {
@@ -50,7 +53,7 @@ impl<T: Item, A: Array<Item = T>> Vector for ArrayVec<A> {
     fn call(&mut self, other: &mut ArrayVec<A>, call: Call<T>, out: &mut String) -> Said {
         match call {
             Call::Cut(cut) => take_out(self, cut, out),
-            Call::Lend(lend) => lend_slots!(self, lend, out),
+            Call::Lend(lend) => look(self, lend, out),
             Call::Put(put) => put_in(self, put, out),
             Call::Extend(extend) => append(self, extend, out),
             Call::Filter(filter) => keep(self, filter, out),
@@ -78,6 +81,10 @@ impl<T: Item, A: Array<Item = T>> Vector for ArrayVec<A> {
 
 fn take_out<T: Item, A: Array<Item = T>>(v: &mut ArrayVec<A>, cut: Cut, out: &mut String) -> Said {
     cut!(v, cut, out)
+}
+
+fn look<T: Item, A: Array<Item = T>>(v: &mut ArrayVec<A>, lend: Lend<T>, out: &mut String) -> Said {
+    lend_slots!(v, lend, out)
 }
 
 fn put_in<T: Item, A: Array<Item = T>>(v: &mut ArrayVec<A>, put: Put<T>, out: &mut String) -> Said {
@@ -109,7 +116,16 @@ fn replace<T: Item, A: Array<Item = T>>(
     ranged: Ranged<T>,
     out: &mut String,
 ) -> Said {
-    ranged!(v, ranged, out)
+    ranged!(v, ranged, spliced, out)
+}
+
+fn spliced<T: Item, A: Array<Item = T>>(
+    v: &mut ArrayVec<A>,
+    range: Span,
+    replacement: (Vec<T>, Vec<Step>),
+    out: &mut String,
+) -> Said {
+    splice!(v, range, replacement, out)
 }
 
 fn both<T: Item, A: Array<Item = T>>(

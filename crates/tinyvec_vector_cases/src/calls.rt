@@ -1,11 +1,57 @@
 //! Calls that vectors have under the same names: arms of macros, since no trait has them.
-use std::slice;
-use tinyvec_rows::Item;
+use std::iter::Fuse;
+use std::{slice, vec};
+use tinyvec::{NoRoom, SpliceRest};
+use tinyvec_rows::{Item, Said, say, say_all, say_refused, say_rest};
 
 /// Adds to the numbers of all items.
 pub fn add_to_each<T: Item>(items: slice::IterMut<'_, T>, more: i32) {
     for x in items {
         x.add(more);
+    }
+}
+
+/// Writes the items that found no room.
+pub fn say_extended<T: Item>(
+    extended: Result<(), NoRoom<T, vec::IntoIter<T>>>,
+    out: &mut String,
+) -> Said {
+    match extended {
+        Ok(()) => Ok(()),
+        Err(NoRoom { item, rest }) => say_rest(out, &item, rest),
+    }
+}
+
+/// Writes the item that found no room.
+pub fn say_spliced<T: Item>(
+    spliced: Result<(), SpliceRest<T, Fuse<vec::IntoIter<T>>>>,
+    out: &mut String,
+) -> Said {
+    match spliced {
+        Ok(()) => Ok(()),
+        Err(refused) => say_refused(out, &refused.item),
+    }
+}
+
+/// Writes what a splice that was stopped did not place.
+pub fn say_stopped<T: Item>(stepped: Said, rest: Fuse<vec::IntoIter<T>>, out: &mut String) -> Said {
+    match stepped {
+        Ok(()) => say_all(out, rest),
+        Err(wrong) => Err(wrong),
+    }
+}
+
+/// Writes how many slots a finished splice touched, or the item that found no room.
+pub fn say_finished<T: Item>(
+    stepped: Said,
+    finished: (Result<(), SpliceRest<T, Fuse<vec::IntoIter<T>>>>, u128),
+    out: &mut String,
+) -> Said {
+    let (ended, touches) = finished;
+    match (stepped, ended) {
+        (Ok(()), Ok(())) => say(out, &touches),
+        (Ok(()), Err(refused)) => say_refused(out, &refused.item),
+        (Err(wrong), _) => Err(wrong),
     }
 }
 
@@ -86,10 +132,7 @@ macro_rules! put_in_slots {
 macro_rules! extend_slots {
     ($v:ident, $extend:ident, $out:ident, $($arm:tt)*) => {
         match $extend {
-            Extend::Extend(items) => match $v.extend(items) {
-                Ok(()) => Ok(()),
-                Err(tinyvec::NoRoom { item, rest }) => tinyvec_rows::say_rest($out, &item, rest),
-            },
+            Extend::Extend(items) => $crate::calls::say_extended($v.extend(items), $out),
             Extend::Fill(items) => {
                 let rest = $v.fill(items);
                 tinyvec_rows::say_all($out, rest.fuse())
@@ -156,20 +199,14 @@ macro_rules! drain {
     };
 }
 
-// Calls of a range of a vector that owns its items.
+// Calls of a range of a vector that owns its items. `$spliced` steps a splice.
 macro_rules! ranged {
-    ($v:ident, $ranged:ident, $out:ident) => {
+    ($v:ident, $ranged:ident, $spliced:ident, $out:ident) => {
         $crate::calls::drain!($v, $ranged, $out,
-            Ranged::Splice(range, items, mut steps) => {
-                $crate::calls::needs!(is_within(range, $v.len()));
-                $crate::calls::splice!($v.splice(range, items), steps, $out)
-            }
+            Ranged::Splice(range, items, steps) => $spliced($v, range, (items, steps), $out),
             Ranged::SpliceAll(range, items) => {
                 $crate::calls::needs!(is_within(range, $v.len()));
-                match $v.splice_all(range, items) {
-                    Ok(()) => Ok(()),
-                    Err(refused) => tinyvec_rows::say_refused($out, &refused.item),
-                }
+                $crate::calls::say_spliced($v.splice_all(range, items), $out)
             }
             Ranged::DrainEach(_, _) => Err(Wrong::Call),
         )
@@ -178,24 +215,19 @@ macro_rules! ranged {
 
 // Steps a splice. Then it is stopped, or finished, so that none is dropped.
 macro_rules! splice {
-    ($splice:expr, $steps:ident, $out:ident) => {{
-        let mut splice = $splice;
-        let is_stopped = $steps.last() == Some(&tinyvec_rows::Step::Stop);
+    ($v:ident, $range:ident, $replacement:ident, $out:ident) => {{
+        $crate::calls::needs!(is_within($range, $v.len()));
+        let (items, mut steps) = $replacement;
+        let is_stopped = steps.last() == Some(&tinyvec_rows::Step::Stop);
         if is_stopped {
-            let _stop = $steps.pop();
+            let _stop = steps.pop();
         }
-        let stepped = $crate::steps::stepped(&mut splice, $steps.as_slice(), $out);
+        let mut splice = $v.splice($range, items);
+        let stepped = $crate::steps::stepped(&mut splice, steps.as_slice(), $out);
         if is_stopped {
-            let rest = splice.stop();
-            stepped?;
-            return tinyvec_rows::say_all($out, rest);
+            return $crate::calls::say_stopped(stepped, splice.stop(), $out);
         }
-        let (finished, touches) = splice.finish_counted();
-        stepped?;
-        match finished {
-            Ok(()) => say($out, &touches),
-            Err(refused) => tinyvec_rows::say_refused($out, &refused.item),
-        }
+        $crate::calls::say_finished(stepped, splice.finish_counted(), $out)
     }};
 }
 

@@ -60,11 +60,11 @@ fn one<T: Item, B: Lent<Item = T>>(
 ) -> Said {
     match call {
         Call::Cut(cut) => take_out(v, cut, out),
-        Call::Lend(lend) => lend_slots!(v, lend, out),
+        Call::Lend(lend) => look(v, lend, out),
         Call::Put(put) => put_in(v, put, out),
         Call::Extend(extend) => append(v, extend, out),
         Call::Ranged(ranged) => drain_part(v, ranged, out),
-        Call::Filter(filter) => filter!(v, filter, out),
+        Call::Filter(filter) => keep(v, filter, out),
         _ => Err(Wrong::Call),
     }
 }
@@ -75,6 +75,14 @@ fn take_out<T: Item, B: Lent<Item = T>>(
     out: &mut String,
 ) -> Said {
     cut!(v, cut, out)
+}
+
+fn look<T: Item, B: Lent<Item = T>>(
+    v: &mut GenericSliceVec<B>,
+    lend: Lend<T>,
+    out: &mut String,
+) -> Said {
+    lend_slots!(v, lend, out)
 }
 
 fn put_in<T: Item, B: Lent<Item = T>>(
@@ -94,6 +102,14 @@ fn append<T: Item, B: Lent<Item = T>>(
         Extend::TryFromSlice(_) | Extend::ExactSize(_) => Err(Wrong::Call),
         _ => Err(Wrong::Place),
     )
+}
+
+fn keep<T: Item, B: Lent<Item = T>>(
+    v: &mut GenericSliceVec<B>,
+    filter: Filter,
+    out: &mut String,
+) -> Said {
+    filter!(v, filter, out)
 }
 
 fn drain_part<T: Item, B: Lent<Item = T>>(

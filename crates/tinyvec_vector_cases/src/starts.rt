@@ -2,10 +2,11 @@
 use crate::held::HeldBy;
 use crate::vector::Calls;
 use crate::{array, compare, tiny, vector};
+use std::alloc::Global;
 use std::fmt;
 use std::hash::Hash;
 use tinyvec::{Array, ArrayVec, SliceVec, TinyVec};
-use tinyvec_rows::{Read, Said, Wide, Words, Wrong, say_word};
+use tinyvec_rows::{Item, Read, Said, Wide, Words, Wrong, index_of, say_word};
 
 type Boxed = Option<Box<i32>>;
 
@@ -16,8 +17,9 @@ pub fn answer(kind: &str, words: &mut Words<'_>, calls: &mut Calls<'_>) -> Said 
         return answer_slice(held, words, calls);
     }
     let (item, count) = held.split_once(';').ok_or(Wrong::Vector)?;
-    let count = count.strip_suffix("]>").unwrap_or("");
-    let count = count.parse::<usize>().map_err(|_| Wrong::Vector)?;
+    let Ok(count) = index_of(count.strip_suffix("]>").unwrap_or("")) else {
+        return Err(Wrong::Vector);
+    };
     match kind {
         "ArrayVec" => answer_array(item, count, words, calls),
         "TinyVec" => answer_tiny(item, count, words, calls),
@@ -60,14 +62,25 @@ fn answer_tiny(item: &str, count: usize, words: &mut Words<'_>, calls: &mut Call
     }
 }
 
+fn answer_slice(item: &str, words: &mut Words<'_>, calls: &mut Calls<'_>) -> Said {
+    match item {
+        "i32>" => lend::<i32>(words, calls),
+        "u8>" => lend::<u8>(words, calls),
+        "()>" => lend::<()>(words, calls),
+        "Box>" => lend::<Boxed>(words, calls),
+        "f64>" => show_slice(words, calls),
+        _ => Err(Wrong::Vector),
+    }
+}
+
 fn compare_arrays<T: Read + Ord + Hash, A: Array<Item = T>>(
     words: &mut Words<'_>,
     calls: &mut Calls<'_>,
 ) -> Said {
-    let (v, w, _) = arrays::<T, A>(words)?;
     if calls.text != "compare" {
         return Err(Wrong::Call);
     }
+    let (v, w) = arrays::<T, A>(words.alloc, starts_in(words)?)?;
     compare::say_compared(&v, &w, v.as_slice(), calls.out)
 }
 
@@ -75,7 +88,7 @@ fn show_array<T: Read + PartialOrd + fmt::Display + fmt::Debug, A: Array<Item = 
     words: &mut Words<'_>,
     calls: &mut Calls<'_>,
 ) -> Said {
-    let (v, w, _) = arrays::<T, A>(words)?;
+    let (v, w) = arrays::<T, A>(words.alloc, starts_in(words)?)?;
     compare::answer(&v, &w, calls.text, calls.out)
 }
 
@@ -83,52 +96,15 @@ fn show_tiny<T: Read + PartialOrd + fmt::Display + fmt::Debug, A: Array<Item = T
     words: &mut Words<'_>,
     calls: &mut Calls<'_>,
 ) -> Said {
-    let (v, w, _) = tinies::<T, A>(words)?;
+    let (v, w) = tinies::<T, A>(words.alloc, tiny_starts_in(words)?)?;
     compare::answer(&v, &w, calls.text, calls.out)
 }
 
-// A type parameter `T` would have to hold for each lifetime of a lent slice.
-macro_rules! lend {
-    ($item:ty, $words:ident, $calls:ident) => {{
-        let (mut slots, len, mut others, other_len, pair) = lent::<$item>($words)?;
-        let (one, two) = ((slots.as_mut_slice(), len), (others.as_mut_slice(), other_len));
-        let shown = of_slices::<$item>(one, two, pair, $calls)?;
-        if !slots.starts_with(shown.as_slice()) {
-            say_word($calls.out, "but the owner of the slots sees others")?;
-        }
-        Ok(())
-    }};
-}
-
-fn lend_numbers(words: &mut Words<'_>, calls: &mut Calls<'_>) -> Said {
-    lend!(i32, words, calls)
-}
-
-fn lend_bytes(words: &mut Words<'_>, calls: &mut Calls<'_>) -> Said {
-    lend!(u8, words, calls)
-}
-
-fn lend_units(words: &mut Words<'_>, calls: &mut Calls<'_>) -> Said {
-    lend!((), words, calls)
-}
-
-fn lend_boxes(words: &mut Words<'_>, calls: &mut Calls<'_>) -> Said {
-    lend!(Boxed, words, calls)
-}
-
-fn answer_slice(item: &str, words: &mut Words<'_>, calls: &mut Calls<'_>) -> Said {
-    match item {
-        "i32>" => lend_numbers(words, calls),
-        "u8>" => lend_bytes(words, calls),
-        "()>" => lend_units(words, calls),
-        "Box>" => lend_boxes(words, calls),
-        "f64>" => show_slice(words, calls),
-        _ => Err(Wrong::Vector),
-    }
-}
-
 fn show_slice(words: &mut Words<'_>, calls: &mut Calls<'_>) -> Said {
-    let (mut one, len, mut two, other_len, _) = lent::<f64>(words)?;
+    let alloc = words.alloc;
+    let (one, two) = starts_in(words)?;
+    let (mut one, len) = all_slots::<f64>(alloc, one)?;
+    let (mut two, other_len) = all_slots::<f64>(alloc, two.unwrap_or("[]"))?;
     let v = SliceVec::from_slice_at_most(one.as_mut_slice(), len);
     let w = SliceVec::from_slice_at_most(two.as_mut_slice(), other_len);
     compare::answer(&v, &w, calls.text, calls.out)
@@ -138,88 +114,174 @@ fn of_array<T: HeldBy<ArrayVec<A>>, A: Array<Item = T>>(
     words: &mut Words<'_>,
     calls: &mut Calls<'_>,
 ) -> Said {
-    let (mut v, mut other, pair) = arrays::<T, A>(words)?;
-    vector::answer(&mut v, &mut other, pair, calls)
+    let starts = starts_in(words)?;
+    let (mut v, mut other) = arrays::<T, A>(words.alloc, starts)?;
+    vector::answer(&mut v, &mut other, starts.1.is_some(), calls)
 }
 
 fn of_tiny<T: HeldBy<TinyVec<A>>, A: Array<Item = T>>(
     words: &mut Words<'_>,
     calls: &mut Calls<'_>,
 ) -> Said {
-    let (mut v, mut other, pair) = tinies::<T, A>(words)?;
-    vector::answer(&mut v, &mut other, pair, calls)
+    let starts = tiny_starts_in(words)?;
+    let (mut v, mut other) = tinies::<T, A>(words.alloc, starts)?;
+    vector::answer(&mut v, &mut other, starts.1.is_some(), calls)
 }
 
-// Lends the slots of a row to its vectors. What they show of them, their owner has to see.
-fn of_slices<'s, T: HeldBy<SliceVec<'s, T>>>(
-    slots: (&'s mut [T], usize),
-    others: (&'s mut [T], usize),
-    pair: bool,
-    calls: &mut Calls<'_>,
-) -> Result<Vec<T>, Wrong> {
-    let alloc = *calls.out.allocator();
-    let mut v = SliceVec::from_slice_at_most(slots.0, slots.1);
-    let mut other = SliceVec::from_slice_at_most(others.0, others.1);
-    vector::answer(&mut v, &mut other, pair, calls)?;
-    Ok(v.as_inner().to_vec(alloc)?)
+// Lends the slots of a row to its vectors. What the first shows of them, their owner has to see.
+fn lend<T: InSlices>(words: &mut Words<'_>, calls: &mut Calls<'_>) -> Said {
+    let alloc = words.alloc;
+    let (one, two) = starts_in(words)?;
+    let (mut slots, len) = all_slots::<T>(alloc, one)?;
+    let (mut others, other_len) = all_slots::<T>(alloc, two.unwrap_or("[]"))?;
+    let mut v = SliceVec::from_slice_at_most(slots.as_mut_slice(), len);
+    let mut other = SliceVec::from_slice_at_most(others.as_mut_slice(), other_len);
+    T::answer(&mut v, &mut other, two.is_some(), calls)?;
+    let shown = v.as_inner().to_vec(alloc)?;
+    say_seen(slots.starts_with(shown.as_slice()), calls.out)
 }
 
-// Both vectors of a row, and whether it names the second.
-fn arrays<T: Read, A: Array<Item = T>>(
-    words: &mut Words<'_>,
-) -> Result<(ArrayVec<A>, ArrayVec<A>, bool), Wrong> {
-    let v = array::made::<T, A>(words.slots()?)?;
-    if words.goes_on("and")? {
-        let other = array::made::<T, A>(words.slots()?)?;
-        words.end()?;
-        return Ok((v, other, true));
+fn say_seen(is_seen: bool, out: &mut String) -> Said {
+    if is_seen {
+        return Ok(());
     }
-    Ok((v, ArrayVec::new(), false))
+    say_word(out, "but the owner of the slots sees others")
+}
+
+// What vectors over lent slots hold. No function of every `T` can say so for each lifetime of the slots.
+trait InSlices: Item {
+    fn answer<'s>(
+        v: &mut SliceVec<'s, Self>,
+        other: &mut SliceVec<'s, Self>,
+        pair: bool,
+        calls: &mut Calls<'_>,
+    ) -> Said;
+}
+
+impl InSlices for i32 {
+    fn answer<'s>(
+        v: &mut SliceVec<'s, i32>,
+        other: &mut SliceVec<'s, i32>,
+        pair: bool,
+        calls: &mut Calls<'_>,
+    ) -> Said {
+        vector::answer(v, other, pair, calls)
+    }
+}
+
+impl InSlices for u8 {
+    fn answer<'s>(
+        v: &mut SliceVec<'s, u8>,
+        other: &mut SliceVec<'s, u8>,
+        pair: bool,
+        calls: &mut Calls<'_>,
+    ) -> Said {
+        vector::answer(v, other, pair, calls)
+    }
+}
+
+impl InSlices for () {
+    fn answer<'s>(
+        v: &mut SliceVec<'s, ()>,
+        other: &mut SliceVec<'s, ()>,
+        pair: bool,
+        calls: &mut Calls<'_>,
+    ) -> Said {
+        vector::answer(v, other, pair, calls)
+    }
+}
+
+impl InSlices for Boxed {
+    fn answer<'s>(
+        v: &mut SliceVec<'s, Boxed>,
+        other: &mut SliceVec<'s, Boxed>,
+        pair: bool,
+        calls: &mut Calls<'_>,
+    ) -> Said {
+        vector::answer(v, other, pair, calls)
+    }
+}
+
+// The list of each vector that a row names.
+type Starts<'a> = (&'a str, Option<&'a str>);
+
+fn starts_in<'a>(words: &mut Words<'a>) -> Result<Starts<'a>, Wrong> {
+    let one = words.word()?;
+    let two = if words.goes_on("and")? {
+        Some(words.word()?)
+    } else {
+        None
+    };
+    words.end()?;
+    Ok((one, two))
+}
+
+// A place, a room, and a list, of each.
+type TinyStart<'a> = (&'a str, usize, &'a str);
+
+fn tiny_starts_in<'a>(
+    words: &mut Words<'a>,
+) -> Result<(TinyStart<'a>, Option<TinyStart<'a>>), Wrong> {
+    let one = tiny_start_in(words)?;
+    let two = if words.goes_on("and")? {
+        Some(tiny_start_in(words)?)
+    } else {
+        None
+    };
+    words.end()?;
+    Ok((one, two))
+}
+
+// `inline [1,2|0]`, `heap [1,2]`, or `room 8 [1,2]` with room for eight items.
+fn tiny_start_in<'a>(words: &mut Words<'a>) -> Result<TinyStart<'a>, Wrong> {
+    let place = words.word()?;
+    let room = if place == "room" { words.index()? } else { 0 };
+    Ok((place, room, words.word()?))
+}
+
+fn arrays<T: Read, A: Array<Item = T>>(
+    alloc: Global,
+    starts: Starts<'_>,
+) -> Result<(ArrayVec<A>, ArrayVec<A>), Wrong> {
+    let v = array::made::<T, A>(Words::new(alloc, starts.0).slots()?)?;
+    let other = match starts.1 {
+        Some(start) => array::made::<T, A>(Words::new(alloc, start).slots()?)?,
+        None => ArrayVec::new(),
+    };
+    Ok((v, other))
 }
 
 fn tinies<T: Read, A: Array<Item = T>>(
-    words: &mut Words<'_>,
-) -> Result<(TinyVec<A>, TinyVec<A>, bool), Wrong> {
-    let v = tiny_of::<T, A>(words)?;
-    if words.goes_on("and")? {
-        let other = tiny_of::<T, A>(words)?;
-        words.end()?;
-        return Ok((v, other, true));
-    }
-    Ok((v, TinyVec::new(words.alloc), false))
+    alloc: Global,
+    starts: (TinyStart<'_>, Option<TinyStart<'_>>),
+) -> Result<(TinyVec<A>, TinyVec<A>), Wrong> {
+    let v = tiny_of::<T, A>(alloc, starts.0)?;
+    let other = match starts.1 {
+        Some(start) => tiny_of::<T, A>(alloc, start)?,
+        None => TinyVec::new(alloc),
+    };
+    Ok((v, other))
 }
 
-// The slots of both vectors, how many of each are its list, and whether the row names the second.
-fn lent<T: Read>(words: &mut Words<'_>) -> Result<(Vec<T>, usize, Vec<T>, usize, bool), Wrong> {
-    let (slots, len) = all_slots(words)?;
-    if words.goes_on("and")? {
-        let (others, other_len) = all_slots(words)?;
-        words.end()?;
-        return Ok((slots, len, others, other_len, true));
+fn tiny_of<T: Read, A: Array<Item = T>>(
+    alloc: Global,
+    start: TinyStart<'_>,
+) -> Result<TinyVec<A>, Wrong> {
+    let (place, room, list) = start;
+    let mut list = Words::new(alloc, list);
+    match place {
+        "inline" => tiny::inline(alloc, list.slots()?),
+        "heap" | "room" => tiny::heap(alloc, list.items()?, room),
+        _ => Err(Wrong::Value),
     }
-    Ok((slots, len, Vec::new(words.alloc), 0, false))
 }
 
 // All slots, and how many of them are the list.
-fn all_slots<T: Read>(words: &mut Words<'_>) -> Result<(Vec<T>, usize), Wrong> {
-    let (mut slots, spare) = words.slots::<T>()?;
+fn all_slots<T: Read>(alloc: Global, start: &str) -> Result<(Vec<T>, usize), Wrong> {
+    let (mut slots, spare) = Words::new(alloc, start).slots::<T>()?;
     let len = slots.len();
     for x in spare {
         slots.push(x)?;
     }
     Ok((slots, len))
-}
-
-// `inline [1,2|0]`, `heap [1,2]`, or `room 8 [1,2]` with room for eight items.
-fn tiny_of<T: Read, A: Array<Item = T>>(words: &mut Words<'_>) -> Result<TinyVec<A>, Wrong> {
-    let alloc = words.alloc;
-    match words.word()? {
-        "inline" => tiny::inline(alloc, words.slots()?),
-        "heap" => tiny::heap(alloc, words.items()?, 0),
-        "room" => {
-            let room = words.index()?;
-            tiny::heap(alloc, words.items()?, room)
-        }
-        _ => Err(Wrong::Value),
-    }
 }

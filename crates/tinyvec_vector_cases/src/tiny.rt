@@ -1,6 +1,6 @@
 //! Rows of a `TinyVec`.
 use crate::array::{array_of, made, say_vec};
-use crate::calls::{cut, filter, lend, needs, ranged};
+use crate::calls::{cut, filter, lend, needs, ranged, say_extended, splice};
 use crate::held::Copies;
 use crate::steps::{Steps, iterated, step_at_ends, stepped};
 use crate::vector::Vector;
@@ -8,7 +8,7 @@ use std::alloc::{AllocError, Global};
 use std::fmt::Write;
 use std::iter::Fuse;
 use std::{mem, vec};
-use tinyvec::{Array, FromIterRest, NoMemory, NoRoom, TinyVec, TinyVecDrain, TinyVecSplice};
+use tinyvec::{Array, FromIterRest, NoMemory, TinyVec, TinyVecDrain, TinyVecSplice};
 use tinyvec_rows::call::{
     Call, Cut, Drained, Extend, Filter, Lend, Make, Pair, Put, Ranged, Room, Slots,
 };
@@ -142,10 +142,7 @@ fn append<T: Item, A: Array<Item = T>>(
     out: &mut String,
 ) -> Said {
     match extend {
-        Extend::Extend(items) => match v.extend(items) {
-            Ok(()) => Ok(()),
-            Err(NoRoom { item, rest }) => say_rest(out, &item, rest),
-        },
+        Extend::Extend(items) => say_extended(v.extend(items), out),
         Extend::FromSlice(items) => done(out, v.extend_from_slice(items.as_slice())),
         Extend::ExactSize(items) => done(out, v.extend_exact_size(items)),
         Extend::FromWithin(range) if is_within(range, v.len()) => done(
@@ -171,7 +168,16 @@ fn replace<T: Item, A: Array<Item = T>>(
     ranged: Ranged<T>,
     out: &mut String,
 ) -> Said {
-    ranged!(v, ranged, out)
+    ranged!(v, ranged, spliced, out)
+}
+
+fn spliced<T: Item, A: Array<Item = T>>(
+    v: &mut TinyVec<A>,
+    range: Span,
+    replacement: (Vec<T>, Vec<Step>),
+    out: &mut String,
+) -> Said {
+    splice!(v, range, replacement, out)
 }
 
 fn both<T: Item, A: Array<Item = T>>(

@@ -42,14 +42,18 @@ where
     let out = &mut *calls.out;
     for call in calls.text.split('\t') {
         answer_call(v, other, call, out)?;
-        v.say_state(out)?;
-        if pair {
-            out.push_str("and ")?;
-            other.say_state(out)?;
-        }
-        out.push('\t')?;
+        say_states(v, other, pair, out)?;
     }
     Ok(())
+}
+
+fn say_states<V: Vector>(v: &V, other: &V, pair: bool, out: &mut String) -> Said {
+    v.say_state(out)?;
+    if pair {
+        out.push_str("and ")?;
+        other.say_state(out)?;
+    }
+    Ok(out.push('\t')?)
 }
 
 fn answer_call<V: Vector>(v: &mut V, other: &mut V, call: &str, out: &mut String) -> Said
@@ -58,9 +62,9 @@ where
 {
     let alloc = *out.allocator();
     let (refused, mut words) = window::read(alloc, call)?;
-    let call = Call::read(&mut words)?;
     // No request of the row's own falls into the window.
     out.reserve(1 << 15)?;
+    let call = Call::read(&mut words)?;
     window::open(alloc, refused);
     let answered = made(v, other, call, out);
     window::close(alloc);
