@@ -1,5 +1,5 @@
 -- Where the bytes of a text may be cut, and which characters stand on each side.
-use Rattle.std.proofs.Common.{◌≡◌, ℕ, zero, suc, ◌+◌, ◌-◌, ◌<◌, ◌≤◌, slice_index, List, [], ◌∷◌, ◌++◌, length, take, drop, true, refl, sym, ap, ◌∙◌, take-append-drop, length-take-le, subst, arith, append-nil, encode_utf8, IsUtf8}
+use Rattle.std.proofs.Common.{◌≡◌, ℕ, ◌+◌, ◌-◌, ◌<◌, ◌≤◌, slice_index, List, [], ◌∷◌, ◌++◌, length, take, drop, true, refl, sym, ap, ◌∙◌, take-append-drop, length-take-le, subst, arith, append-nil, encode_utf8, IsUtf8}
 use Rattle.std.specs.Str.{chars, encode_utf8_all, all_scalars}
 use Rattle.std.specs.String.Boundary.{IsSplitPoint}
 use Rattle.std.proofs.CharBoundary.{IsUtf8-take-drop}
@@ -36,15 +36,10 @@ split_from_boundary bs u i (front, rest, parts, size) =
     rw size at split
 
 -- the first byte of a text is no later byte of a character
-first_byte : (bs : List ℕ) → IsUtf8 bs → 0 < length bs → 128 ≤ slice_index bs 0 → 192 ≤ slice_index bs 0
+pub first_byte : (bs : List ℕ) → IsUtf8 bs → 0 < length bs → 128 ≤ slice_index bs 0 → 192 ≤ slice_index bs 0
 first_byte bs u =
     let whole : bs ≡ [] ++ encode_utf8_all (chars bs) = sym (encodes-chars bs u) in
     (IsCharBoundary-at_seam bs [] (encode_utf8_all (chars bs)) whole (chars bs, (scalars-chars bs u, refl))).1
-
--- where it may be cut no later byte of a character stands
-pub lead_at_split : (bs : List ℕ) → IsUtf8 bs → (i : ℕ) → IsSplitPoint bs i → i < length bs → 128 ≤ slice_index bs i → 192 ≤ slice_index bs i
-lead_at_split bs u zero p few high = first_byte bs u few high
-lead_at_split bs u (suc i) p few high = p.1 (omega arith) few high
 
 -- bytes in the place of those from i up to j
 module _ (bs : List ℕ) (u : IsUtf8 bs) (i j : ℕ) (p : IsSplitPoint bs i) (q : IsSplitPoint bs j) (put : List ℕ) (w : IsUtf8 put) where

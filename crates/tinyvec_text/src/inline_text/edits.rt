@@ -388,7 +388,7 @@ fn next_byte(bits: u32) -> u8
 
 // Whether a character begins at `i`, or the bytes end there. One begins at 0 if there are bytes.
 fn is_split_point(bytes: &[u8], i: usize) -> bool
-    requires { IsUtf8 bytes.now }
+    requires { 0 < length bytes.now → 128 ≤ slice_index bytes.now 0 → 192 ≤ slice_index bytes.now 0 }
     ensures { IsTrue result ↔ IsSplitPoint bytes.now i }
 {
     if i < bytes.len() {

@@ -1,11 +1,11 @@
 use Rattle.std.proofs.Common.{IsUtf8, subst, sym}
 use Rattle.tinyvec_text.specs.InlineText.{Text, text_chars, IsBoundary}
-use Rattle.tinyvec_text.proofs.Boundaries.{boundary_from_split}
+use Rattle.tinyvec_text.proofs.Boundaries.{boundary_from_split, first_byte}
 use Rattle.tinyvec_text.proofs.Lists.{text_utf8, text_cut}
 use Rattle.tinyvec_text.proofs.inline_text.InlineText.is_char_boundary.Goals as goal
 
 pub is_split_point-requires : goal.is_split_point-requires
-is_split_point-requires g c = subst IsUtf8 (sym c.as_slice.ensures) (text_utf8 c.self.inside.list c.self.invariant)
+is_split_point-requires g c = first_byte _ (subst IsUtf8 (sym c.as_slice.ensures) (text_utf8 c.self.inside.list c.self.invariant))
 
 pub returns : goal.returns
 returns g c =
