@@ -5,7 +5,10 @@ use tinyvec_array::ArrayVec;
 pub fn fields(sentence: &str) -> Option<ArrayVec<[&str; 20]>> {
     let body = sentence.strip_prefix('$')?;
     let (body, _checksum) = body.split_once('*')?;
-    ArrayVec::from_iter(body.split(',')).ok()
+    match ArrayVec::from_iter(body.split(',')) {
+        Ok(fields) => Some(fields),
+        Err(_) => None,
+    }
 }
 
 /// The time of day, if the sentence is of a fix.
