@@ -6,6 +6,7 @@ TOP = pathlib.Path(__file__).resolve().parent.parent
 LIBRARIES = (
     "tinyvec_slots",
     "tinyvec_array",
+    "tinyvec_slice",
     "tinyvec",
     "tinyvec_text",
     "tinyvec_io",

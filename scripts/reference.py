@@ -23,7 +23,7 @@ MARK = "<!-- scripts/reference.py writes what follows -->"
 # The crate of each page, and the type whose methods are named without it.
 PAGES = {
     "ARRAY_VEC": ("tinyvec_array", "ArrayVec"),
-    "SLICE_VEC": ("tinyvec_array", "SliceVec"),
+    "SLICE_VEC": ("tinyvec_slice", "SliceVec"),
     "TINY_VEC": ("tinyvec", "TinyVec"),
     "INLINE_TEXT": ("tinyvec_text", "InlineText"),
     "BORSH": ("tinyvec_borsh", None),

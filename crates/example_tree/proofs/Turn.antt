@@ -46,7 +46,7 @@ module _ (fs : List Form) (id : ℕ) (ids now : List ℕ) (inside : id < length 
       (reading_after fs id ids now inside here is ordered (leaf_value names) total times total_law)
 
 -- the sum with this id was written out
-module _ (nodes : List Node) (id : ℕ) (ids : List ℕ) (terms : TinyVec (List ℕ) ℕ ℕ) (inside : id < length nodes) (here : form_at (forms nodes) id ≡ sum_form ids)
+module _ (nodes : List Node) (id : ℕ) (ids : List ℕ) (terms : TinyVec (List ℕ) ℕ) (inside : id < length nodes) (here : form_at (forms nodes) id ≡ sum_form ids)
     (is : tiny_items terms ≡ terms_at (forms nodes) id) (ordered : IsOrdered (forms nodes)) where
   abbrev pub written : List Node
   written = set nodes id (Joined Sum terms)

@@ -1,8 +1,8 @@
 //! The iterator that owns its items.
 ghost use Rattle.std.specs.Prelude.{codes, All};
 
-use crate::places::bounded_index;
-use crate::{Array, ArrayVec, Slots};
+use crate::slots::bounded_index;
+use crate::{Array, ArrayVec};
 use std::alloc::AllocError;
 use std::mem;
 use tinyvec_slots::{InSlots, OwnedItems, OwnsItems};

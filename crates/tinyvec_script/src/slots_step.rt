@@ -1,14 +1,14 @@
 //! One call of a vector whose slots are all there from the start, answered.
 ghost use Rattle.std.specs.Prelude.{◌≡◌};
-ghost use Rattle.tinyvec_array.specs.ArrayVec.{view_of, slots_of, SameLender};
-ghost use Rattle.tinyvec_script.specs.Step.{SlotsStep, SliceStep};
+ghost use Rattle.tinyvec_slice.specs.SliceVec.{view_of, name_of};
+ghost use Rattle.tinyvec_script.specs.Step.{ArrayStep, SliceStep};
 
 use crate::driving::answer_driven;
 use crate::{Answer, Call, drive_array_splice};
 use std::alloc::Global;
-use tinyvec::{ArrayVec, Slots};
+use tinyvec::{Array, ArrayVec, GenericSliceVec, Lent};
 
-// Makes the call. The caller adds how a splice is answered.
+// Makes the call, by methods that both vectors have under the same names. The caller adds how a splice is answered.
 macro_rules! answer_in_slots {
     ($alloc:ident, $vec:ident, $call:ident, $splice:pat => $spliced:expr) => {
         match $call {
@@ -74,16 +74,12 @@ macro_rules! answer_in_slots {
     };
 }
 
-pub(crate) fn answer_array<S: Slots>(
+pub(crate) fn answer_array<A: Array>(
     alloc: Global,
-    vec: &mut ArrayVec<S>,
-    call: Call<S::Item>,
-) -> Answer<S::Item>
-where
-    S::Item: Default,
-    ensures step { SlotsStep S.Item.is_default (view_of S.Slots vec.old) call result (view_of S.Slots vec.new) }
-    ensures lender { SameLender S.Slots vec.old vec.new }
-    ensures slot_count { S.Slots.Counts (slots_of S.Slots vec.old) }
+    vec: &mut ArrayVec<A>,
+    call: Call<A::Item>,
+) -> Answer<A::Item>
+    ensures { ArrayStep A.Item.is_default A.CAPACITY vec.old call result vec.new }
 {
     answer_in_slots!(alloc, vec, call, Call::Splice(start, end, word, replacement) => {
         if start > end || end > vec.len() {
@@ -96,15 +92,15 @@ where
     })
 }
 
-pub(crate) fn answer_slice<B: Slots>(
+pub(crate) fn answer_slice<B: Lent>(
     alloc: Global,
-    vec: &mut ArrayVec<B>,
+    vec: &mut GenericSliceVec<B>,
     call: Call<B::Item>,
 ) -> Answer<B::Item>
 where
     B::Item: Default,
-    ensures step { SliceStep B.Item.is_default (view_of B.Slots vec.old) call result (view_of B.Slots vec.new) }
-    ensures lender { SameLender B.Slots vec.old vec.new }
+    ensures step { SliceStep B.Item.is_default (view_of B.Lent vec.old) call result (view_of B.Lent vec.new) }
+    ensures same_slots { name_of B.Lent vec.new ≡ name_of B.Lent vec.old }
 {
     answer_in_slots!(alloc, vec, call, Call::Splice(_, _, _, _) => Answer::Unfit)
 }

@@ -199,16 +199,16 @@ macro_rules! drain {
     };
 }
 
-// Calls of a range of any vector. `$spliced` steps a splice, and `DrainEach` is the caller's.
+// Calls of a range of a vector that owns its items. `$spliced` steps a splice.
 macro_rules! ranged {
-    ($v:ident, $ranged:ident, $spliced:ident, $out:ident, $($arm:tt)*) => {
+    ($v:ident, $ranged:ident, $spliced:ident, $out:ident) => {
         $crate::calls::drain!($v, $ranged, $out,
             Ranged::Splice(range, items, steps) => $spliced($v, range, (items, steps), $out),
             Ranged::SpliceAll(range, items) => {
                 $crate::calls::needs!(is_within(range, $v.len()));
                 $crate::calls::say_spliced($v.splice_all(range, items), $out)
             }
-            $($arm)*
+            Ranged::DrainEach(_, _) => Err(Wrong::Call),
         )
     };
 }

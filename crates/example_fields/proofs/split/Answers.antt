@@ -1,7 +1,7 @@
-use Rattle.std.proofs.Common.{rules, arith, below_more, ◌≡◌, ◌<◌, ◌∙◌, refl, ap, length, length-drop}
-use Rattle.std.proofs.lemmas.List.{length-map, length_push}
+use Rattle.std.proofs.Common.{rules, arith, below_more, ◌≡◌, refl, ap, length}
+use Rattle.std.proofs.lemmas.List.{length-map}
 use Rattle.std.proofs.lemmas.List.Elements.{All-push, All-same}
-use Rattle.tinyvec_array.specs.ArrayVec.{items, items_len, spare}
+use Rattle.tinyvec_array.specs.Slots.{items, items_len}
 use Rattle.example_fields.specs.Fields.{bytes_of, IsIn}
 use Rattle.example_fields.proofs.Parts.{pushed, pushed_last, fewer}
 use Rattle.example_fields.proofs.split.Goals as goal
@@ -10,8 +10,7 @@ use Rattle.example_fields.proofs.split.Goals.{then-byte-separator+else-is_full, 
 -- a full vector, at a separator
 pub returns-then-is_full-clause-refused : goal.returns-then-is_full-clause-refused
 returns-then-is_full-clause-refused c =
-    let none : length (spare c.loop-index.fields) ≡ 0 = search rules in
-    let full : items_len c.loop-index.fields ≡ 8 = omega (arith, none, c.loop-index.invariant.slots) in
+    let full : items_len c.loop-index.fields ≡ 8 = search rules in
     let less = fewer c.args.separator c.args.line.now _ (items c.loop-index.fields) c.loop-index.invariant.so_far in
     (λ _. omega arith, λ _. refl)
 
@@ -26,29 +25,19 @@ loop-index-preserved c =
         none_since = λ k below behind. absurd (omega arith);
         order = omega arith;
         in_line = All-same (IsIn line) _ _ w.push.ensures.items (All-push (IsIn line) _ _ inv.in_line (omega arith, omega arith));
-        slots = let some : 0 < length (spare c.loop-index.fields) = search rules in omega (
-          arith,
-          some,
-          inv.slots,
-          ap length w.push.ensures.items ∙ length_push (items c.loop-index.fields) _,
-          ap length w.push.ensures.spare,
-          length-drop 1 (spare c.loop-index.fields),
-        );
       }
       | else-byte-separator w ↦ rw (w.fields-is, w.start-is) record {
         so_far = inv.so_far;
         none_since = below_more _ _ inv.none_since (λ _. w.if-byte-separator.false);
         order = omega arith;
         in_line = inv.in_line;
-        slots = inv.slots;
       }
     ]
 
 -- a full vector, at the end of the line
 pub returns-then-is_full-2-clause-refused : goal.returns-then-is_full-2-clause-refused
 returns-then-is_full-2-clause-refused c =
-    let none : length (spare c.loop-index.fields) ≡ 0 = search rules in
-    let full : items_len c.loop-index.fields ≡ 8 = omega (arith, none, c.loop-index.invariant.slots) in
+    let full : items_len c.loop-index.fields ≡ 8 = search rules in
     let less = fewer c.args.separator c.args.line.now _ (items c.loop-index.fields) c.loop-index.invariant.so_far in
     (λ _. omega arith, λ _. refl)
 
@@ -71,6 +60,4 @@ pub returns-clause-refused : goal.returns-clause-refused
 returns-clause-refused c =
     let count = ap length (returns-clause-fields c) in
     let mapped = length-map (items c.push-2.new.self) (bytes_of c.args.line.now) in
-    let some : 0 < length (spare c.loop-index.fields) = search rules in
-    let long = ap length c.push-2.ensures.items ∙ length_push (items c.loop-index.fields) _ in
-    (λ wrong. absurd (cc), λ more. absurd (omega (arith, more, count, mapped, some, c.loop-index.invariant.slots, long)))
+    (λ wrong. absurd (cc), λ more. absurd (omega arith))

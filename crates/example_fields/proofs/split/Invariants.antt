@@ -1,5 +1,5 @@
-use Rattle.std.proofs.Common.{◌≡◌, ◌≢◌, ℕ, ◌+◌, ◌<◌, ◌≤◌, ◌++◌, length, map, All, drop, get_or}
-use Rattle.tinyvec_array.specs.ArrayVec.{items, items_len, spare}
+use Rattle.std.proofs.Common.{◌≡◌, ◌≢◌, ℕ, ◌<◌, ◌≤◌, ◌++◌, map, All, drop, get_or}
+use Rattle.tinyvec_array.specs.Slots.{items}
 use Rattle.example_fields.specs.Fields.{bytes_of, parts, IsIn}
 use Rattle.example_fields.proofs.split.Given as goal
 
@@ -9,5 +9,4 @@ invariant-loop-index l = record {
   none_since : (k : ℕ) → k < l.index → l.start ≤ k → get_or l.line k 0 ≢ l.separator;
   order : l.start ≤ l.index;
   in_line : All (IsIn l.line) (items l.fields);
-  slots : items_len l.fields + length (spare l.fields) ≡ 8;
 }

@@ -1,7 +1,7 @@
 -- Examples of calls as values, of runs and of scripts.
 use Rattle.std.proofs.Common.{◌≡◌, ℕ, List, [], ◌∷◌, ◌++◌, length, rules, arith}
 use Rattle.tinyvec_slots.specs.Slots.{Slots, split_at}
-use Rattle.tinyvec.specs.View.{TinyView, in_array, view_len, PlaceRule}
+use Rattle.tinyvec.specs.View.{TinyView, in_array, view_len, ViewPlaceRule}
 use Rattle.tinyvec_script.specs.declared.call.Call.TheVariants.{Push, Pop}
 use Rattle.tinyvec_script.specs.declared.call.Answer.TheVariants as answers
 use Rattle.tinyvec_script.specs.declared.call.End.TheVariants.{Front}
@@ -40,7 +40,7 @@ example-SpliceComputes = search rules
 pub example-ArraySplices : (yields rest : List ℕ) (new : Slots ℕ) → ArraySplices D 8 (over (1 ∷ 2 ∷ 3 ∷ 4 ∷ []) (0 ∷ [])) 1 3 (Front ∷ []) (7 ∷ []) yields rest new → rest ≡ []
 example-ArraySplices yields rest new h = (h.list.placed (omega arith)).0
 
-pub example-TinySplices : (yields rest : List ℕ) (old new : TinyView ℕ) → TinySplices D 4 old 1 3 (Front ∷ []) (7 ∷ []) yields rest new → PlaceRule 4 (view_len new) old new
+pub example-TinySplices : (yields rest : List ℕ) (old new : TinyView ℕ) → TinySplices D 4 old 1 3 (Front ∷ []) (7 ∷ []) yields rest new → ViewPlaceRule 4 (view_len new) old new
 example-TinySplices yields rest old new h = h.grows.place
 
 pub example-Script : Script [] []

@@ -1,14 +1,14 @@
 -- Examples of a drain of a vector whose list is `[1]` then, and whose slots after it hold `[2, 3, 0]`: a drain of two items.
 use Rattle.std.proofs.Common.{◌≡◌, ℕ, [], ◌∷◌, Some, refl, ◌∙◌, rules}
 use Rattle.std.specs.Borrow.{MutBor}
-use Rattle.tinyvec_array.specs.declared.storage.Slots as Storage
-use Rattle.tinyvec_array.specs.declared.array_vec.ArrayVec.{ArrayVec}
-use Rattle.tinyvec_array.specs.declared.drain.ArrayVecDrain.{ArrayVecDrain}
-use Rattle.tinyvec_array.specs.ArrayVec.{items_of, spare_of, name_of}
-use Rattle.tinyvec_array.specs.Drain.{drain_left, drain_count, drain_lender, drain_items, drain_kept, drain_spare, drain_name, DrainCanStep, DrainLeaves, DrainSteps, DrainBegins}
+use Rattle.tinyvec_slice.specs.declared.lent.Lent as Lent
+use Rattle.tinyvec_slice.specs.declared.slice_vec.GenericSliceVec.{GenericSliceVec}
+use Rattle.tinyvec_slice.specs.declared.drain.GenericSliceVecDrain.{GenericSliceVecDrain}
+use Rattle.tinyvec_slice.specs.SliceVec.{items_of, spare_of, name_of}
+use Rattle.tinyvec_slice.specs.Drain.{drain_left, drain_count, drain_lender, drain_items, drain_kept, drain_spare, drain_name, DrainCanStep, DrainLeaves, DrainSteps, DrainBegins}
 use Rattle.tinyvec_examples.proofs.words.Shown.{D}
 
-module _ {B L : Type 0} (g : Storage.Ghosts B ℕ L) (d e : ArrayVecDrain B ℕ L) (list : items_of g d.vec.now ≡ 1 ∷ []) (after : spare_of g d.vec.now ≡ 2 ∷ 3 ∷ 0 ∷ []) (count : d.count ≡ 2) (first : d.front ≡ 0) where
+module _ {B : Type 0} (g : Lent.Ghosts B ℕ) (d e : GenericSliceVecDrain B ℕ) (list : items_of g d.vec.now ≡ 1 ∷ []) (after : spare_of g d.vec.now ≡ 2 ∷ 3 ∷ 0 ∷ []) (count : d.count ≡ 2) (first : d.front ≡ 0) where
   pub example-drain_left : drain_left d ≡ 2
   example-drain_left = rw (count, first) refl
 
@@ -33,11 +33,11 @@ module _ {B L : Type 0} (g : Storage.Ghosts B ℕ L) (d e : ArrayVecDrain B ℕ 
   pub example-DrainCanStep : DrainCanStep g d
   example-DrainCanStep = search rules
 
-  pub example-DrainLeaves : (v : ArrayVec B L) → DrainLeaves g D d v → items_of g v ≡ 1 ∷ []
+  pub example-DrainLeaves : (v : GenericSliceVec B ℕ) → DrainLeaves g D d v → items_of g v ≡ 1 ∷ []
   example-DrainLeaves v h = h.1 ∙ list
 
   pub example-DrainSteps : DrainSteps g d (Some 2) e → drain_items g d ≡ 2 ∷ drain_items g e
   example-DrainSteps h = h.0
 
-  pub example-DrainBegins : (v : MutBor (ArrayVec B L)) → DrainBegins g v (2 ∷ 3 ∷ []) (1 ∷ []) d → drain_items g d ≡ 2 ∷ 3 ∷ []
+  pub example-DrainBegins : (v : MutBor (GenericSliceVec B ℕ)) → DrainBegins g v (2 ∷ 3 ∷ []) (1 ∷ []) d → drain_items g d ≡ 2 ∷ 3 ∷ []
   example-DrainBegins v h = h.rest

@@ -1,10 +1,10 @@
 -- What a `SliceVec` in the slots `[1, 2, 0]`, whose list is `[1, 2]`, is once a loan ended: its slots, or those of its owner.
 use Rattle.std.proofs.Common.{◌≡◌, ℕ, List, [], ◌∷◌, ◌++◌, drop, insert, slice_set, refl}
-use Rattle.tinyvec_array.specs.SliceParts.{with_front, with_back}
-use Rattle.tinyvec_array.specs.Lends.{at_slots}
-use Rattle.tinyvec_array.specs.ArrayVec.{slots_of}
-use Rattle.tinyvec_array.specs.declared.storage.Slots as Storage
-use Rattle.tinyvec_array.specs.declared.array_vec.ArrayVec.{ArrayVec}
+use Rattle.tinyvec_slice.specs.SliceParts.{with_front, with_back}
+use Rattle.tinyvec_slice.specs.Lends.{at_slots}
+use Rattle.tinyvec_slice.specs.SliceVec.{slots_of}
+use Rattle.tinyvec_slice.specs.declared.lent.Lent as Lent
+use Rattle.tinyvec_slice.specs.declared.slice_vec.GenericSliceVec.{GenericSliceVec}
 use Rattle.tinyvec_examples.proofs.words.Shown.{nums}
 
 -- of tinyvec_slice.specs.Lends: `[1, 2, 0]` lent by `lends_items`, by a reference that shows `[3, 4]` last
@@ -36,5 +36,5 @@ pub example-lends_array : nums (3 ∷ 4 ∷ []) ≡ 3 ∷ 4 ∷ []
 example-lends_array = refl
 
 -- of tinyvec_slice.specs.Lends: a vector lent by `lends_inner`, by slots that show `ws` last
-pub example-lends_inner : {B L : Type 0} (g : Storage.Ghosts B ℕ L) (v : ArrayVec B L) (ws : List ℕ) → slots_of g (at_slots g v ws) ≡ g.slots (g.with_slots v.slots ws)
+pub example-lends_inner : {B : Type 0} (g : Lent.Ghosts B ℕ) (v : GenericSliceVec B ℕ) (ws : List ℕ) → slots_of g (at_slots g v ws) ≡ g.slots (g.with_slots v.lent ws)
 example-lends_inner g v ws = refl

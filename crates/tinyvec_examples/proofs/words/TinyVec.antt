@@ -1,25 +1,25 @@
 -- Examples of a `TinyVec` whose array has four slots. `inline xs ys` has the list xs in the array, and the spare slots ys.
-use Rattle.std.proofs.Common.{◌≡◌, ℕ, List, [], ◌∷◌, ◌++◌, length, Ok, Option, Result, true, false, refl, rules, arith}
+use Rattle.std.proofs.Common.{◌≡◌, ℕ, List, [], ◌∷◌, ◌++◌, Ok, Option, Result, true, false, refl, rules, arith}
 use Rattle.std.specs.Global.{Global}
 use Rattle.tinyvec.specs.declared.tiny_vec.TinyVec.{TinyVec}
 use Rattle.tinyvec.specs.declared.tiny_vec.TinyVec.TheVariants.{Inline}
-use Rattle.tinyvec.specs.TinyVec.{tiny_items, tiny_len, tiny_spare, is_inline, IsInline, tiny_capacity, tiny_allocator, tiny_view}
-use Rattle.tinyvec.specs.View.{HoldsInline, IsNew, SameFrame, Becomes, StaysInPlace, ShortensInPlace, IsTail, Unchanged, IsTinyClone, IsTinyInfallible, PlaceRule, in_array}
+use Rattle.tinyvec.specs.TinyVec.{tiny_items, tiny_len, tiny_spare, is_inline, IsInline, HoldsInline, IsNew, tiny_capacity, tiny_allocator, SameFrame, Becomes, StaysInPlace, ShortensInPlace, IsTail, Unchanged, IsTinyClone, IsTinyInfallible, PlaceRule, tiny_view}
 use Rattle.tinyvec.specs.Room.{Collects, Doubles, GrowsFor, Grows, RoomGrows, MadeFor, GrowsExactly, MakesRoom, MovesToHeap, MovesToHeapWithRoom}
+use Rattle.tinyvec.specs.View.{in_array}
 use Rattle.tinyvec.specs.Refused.{RefusedFor, ClonesBehind, ClonesRefused}
 use Rattle.tinyvec.specs.Following.{PushesItems}
 use Rattle.tinyvec_slots.specs.Filling.{IntoIterYields}
 use Rattle.tinyvec_slots.specs.declared.no_room.NoRoom.{NoRoom}
 use Rattle.tinyvec.specs.Lends.{tiny_with_items, tiny_with_item}
 use Rattle.tinyvec.specs.TinyVecSplice.{items_moved}
-use Rattle.tinyvec_examples.proofs.words.Shown.{D, C, I}
+use Rattle.tinyvec_examples.proofs.words.Shown.{D, C, I, over}
 
 abbrev pub done : Result Unit Unit
 done = Ok _
 
-module _ (alloc : Global) where
-  abbrev pub inline : List ℕ → List ℕ → TinyVec (List ℕ) ℕ ℕ
-  inline xs ys = Inline (record { slots = xs ++ ys; len = length xs }) alloc
+module _ (A : Type 0) (alloc : Global) where
+  abbrev pub inline : List ℕ → List ℕ → TinyVec A ℕ
+  inline xs ys = Inline (over xs ys) alloc
 
   pub example-tiny_items : tiny_items (inline (1 ∷ 2 ∷ []) (0 ∷ 0 ∷ [])) ≡ 1 ∷ 2 ∷ []
   example-tiny_items = refl
@@ -39,10 +39,10 @@ module _ (alloc : Global) where
   pub example-IsInline : IsInline (inline (1 ∷ 2 ∷ []) (0 ∷ 0 ∷ []))
   example-IsInline = search rules
 
-  pub example-HoldsInline : HoldsInline (1 ∷ 2 ∷ []) (0 ∷ 0 ∷ []) (tiny_view (inline (1 ∷ 2 ∷ []) (0 ∷ 0 ∷ [])))
+  pub example-HoldsInline : HoldsInline (1 ∷ 2 ∷ []) (0 ∷ 0 ∷ []) (inline (1 ∷ 2 ∷ []) (0 ∷ 0 ∷ []))
   example-HoldsInline = search rules
 
-  pub example-IsNew : IsNew D 2 (tiny_view (inline [] (0 ∷ 0 ∷ [])))
+  pub example-IsNew : IsNew D 2 (inline [] (0 ∷ 0 ∷ []))
   example-IsNew = record { items = refl; spare = search rules; place = search rules }
 
   pub example-tiny_capacity : tiny_capacity 4 (inline (1 ∷ 2 ∷ []) (0 ∷ 0 ∷ [])) ≡ 4
@@ -51,10 +51,10 @@ module _ (alloc : Global) where
   pub example-tiny_allocator : tiny_allocator (inline (1 ∷ 2 ∷ []) (0 ∷ 0 ∷ [])) ≡ alloc
   example-tiny_allocator = refl
 
-  pub example-SameFrame : SameFrame (tiny_view (inline (1 ∷ 2 ∷ []) (0 ∷ 0 ∷ []))) (tiny_view (inline (2 ∷ 1 ∷ []) (0 ∷ 0 ∷ [])))
+  pub example-SameFrame : SameFrame (inline (1 ∷ 2 ∷ []) (0 ∷ 0 ∷ [])) (inline (2 ∷ 1 ∷ []) (0 ∷ 0 ∷ []))
   example-SameFrame = search rules
 
-  pub example-Becomes : Becomes D 4 (tiny_view (inline (1 ∷ 2 ∷ []) (7 ∷ 8 ∷ []))) (tiny_view (inline (1 ∷ []) (0 ∷ 7 ∷ 8 ∷ []))) (1 ∷ [])
+  pub example-Becomes : Becomes D 4 (inline (1 ∷ 2 ∷ []) (7 ∷ 8 ∷ [])) (inline (1 ∷ []) (0 ∷ 7 ∷ 8 ∷ [])) (1 ∷ [])
   example-Becomes = record {
     items = refl;
     place = refl;
@@ -63,10 +63,10 @@ module _ (alloc : Global) where
     fits = omega arith;
   }
 
-  pub example-StaysInPlace : StaysInPlace D 4 (tiny_view (inline (1 ∷ 2 ∷ []) (7 ∷ 8 ∷ []))) (tiny_view (inline (1 ∷ []) (0 ∷ 7 ∷ 8 ∷ [])))
+  pub example-StaysInPlace : StaysInPlace D 4 (inline (1 ∷ 2 ∷ []) (7 ∷ 8 ∷ [])) (inline (1 ∷ []) (0 ∷ 7 ∷ 8 ∷ []))
   example-StaysInPlace = example-Becomes
 
-  pub example-ShortensInPlace : ShortensInPlace D 4 (tiny_view (inline (1 ∷ 2 ∷ []) (7 ∷ 8 ∷ []))) (tiny_view (inline (2 ∷ []) (0 ∷ 7 ∷ 8 ∷ [])))
+  pub example-ShortensInPlace : ShortensInPlace D 4 (inline (1 ∷ 2 ∷ []) (7 ∷ 8 ∷ [])) (inline (2 ∷ []) (0 ∷ 7 ∷ 8 ∷ []))
   example-ShortensInPlace = record {
     bound = omega arith;
     place = refl;
@@ -75,7 +75,7 @@ module _ (alloc : Global) where
     fits = omega arith;
   }
 
-  pub example-IsTail : IsTail D 4 1 (tiny_view (inline (1 ∷ 2 ∷ []) (7 ∷ 8 ∷ []))) (tiny_view (inline (2 ∷ []) (0 ∷ 0 ∷ 0 ∷ [])))
+  pub example-IsTail : IsTail D 4 1 (inline (1 ∷ 2 ∷ []) (7 ∷ 8 ∷ [])) (inline (2 ∷ []) (0 ∷ 0 ∷ 0 ∷ []))
   example-IsTail = record {
     items = refl;
     place = refl;
@@ -84,7 +84,7 @@ module _ (alloc : Global) where
     fits = omega arith;
   }
 
-  pub example-Unchanged : Unchanged (tiny_view (inline (1 ∷ []) (0 ∷ 0 ∷ 0 ∷ []))) (tiny_view (inline (1 ∷ []) (0 ∷ 0 ∷ 0 ∷ [])))
+  pub example-Unchanged : Unchanged (inline (1 ∷ []) (0 ∷ 0 ∷ 0 ∷ [])) (inline (1 ∷ []) (0 ∷ 0 ∷ 0 ∷ []))
   example-Unchanged = search rules
 
   pub example-tiny_with_items : tiny_with_items (inline (1 ∷ 2 ∷ []) (0 ∷ 0 ∷ [])) (3 ∷ 4 ∷ []) ≡ inline (3 ∷ 4 ∷ []) (0 ∷ 0 ∷ [])
@@ -104,34 +104,34 @@ module _ (alloc : Global) where
 
   -- of tinyvec.specs.Lends: `inline [1] [7, 8, 0]` lent by `lends_added` at the end, by a reference that shows 5 last
   pub example-lends_added : (tiny_items (inline (1 ∷ 5 ∷ []) (8 ∷ 0 ∷ [])) ≡ (1 ∷ []) ++ 5 ∷ [])
-      × RoomGrows Doubles D 4 2 (tiny_view (inline (1 ∷ []) (7 ∷ 8 ∷ 0 ∷ []))) (tiny_view (inline (1 ∷ 5 ∷ []) (8 ∷ 0 ∷ []))) done
+      × RoomGrows Doubles D 4 2 (inline (1 ∷ []) (7 ∷ 8 ∷ 0 ∷ [])) (inline (1 ∷ 5 ∷ []) (8 ∷ 0 ∷ [])) done
   example-lends_added = (refl, search rules)
 
-  pub example-Grows : Grows D 4 (tiny_view (inline (1 ∷ []) (7 ∷ 8 ∷ 0 ∷ []))) (tiny_view (inline (1 ∷ 5 ∷ []) (8 ∷ 0 ∷ [])))
+  pub example-Grows : Grows D 4 (inline (1 ∷ []) (7 ∷ 8 ∷ 0 ∷ [])) (inline (1 ∷ 5 ∷ []) (8 ∷ 0 ∷ []))
   example-Grows = search rules
 
-  pub example-RoomGrows : RoomGrows GrowsFor D 4 2 (tiny_view (inline (1 ∷ []) (7 ∷ 8 ∷ 0 ∷ []))) (tiny_view (inline (1 ∷ 5 ∷ []) (8 ∷ 0 ∷ []))) done
+  pub example-RoomGrows : RoomGrows GrowsFor D 4 2 (inline (1 ∷ []) (7 ∷ 8 ∷ 0 ∷ [])) (inline (1 ∷ 5 ∷ []) (8 ∷ 0 ∷ [])) done
   example-RoomGrows = search rules
 
-  pub example-MakesRoom : MakesRoom Doubles D 4 2 (tiny_view (inline (1 ∷ []) (7 ∷ 8 ∷ 0 ∷ []))) (tiny_view (inline (1 ∷ 5 ∷ []) (8 ∷ 0 ∷ []))) done
+  pub example-MakesRoom : MakesRoom Doubles D 4 2 (inline (1 ∷ []) (7 ∷ 8 ∷ 0 ∷ [])) (inline (1 ∷ 5 ∷ []) (8 ∷ 0 ∷ [])) done
   example-MakesRoom = search rules
 
-  pub example-MadeFor : MadeFor D 4 2 1 (tiny_view (inline (1 ∷ []) (0 ∷ 0 ∷ 0 ∷ [])))
+  pub example-MadeFor : MadeFor D 4 2 1 (inline (1 ∷ []) (0 ∷ 0 ∷ 0 ∷ []))
   example-MadeFor = search rules
 
-  pub example-PlaceRule : PlaceRule 4 2 (tiny_view (inline (1 ∷ []) (7 ∷ 8 ∷ 0 ∷ []))) (tiny_view (inline (1 ∷ 5 ∷ []) (8 ∷ 0 ∷ [])))
+  pub example-PlaceRule : PlaceRule 4 2 (inline (1 ∷ []) (7 ∷ 8 ∷ 0 ∷ [])) (inline (1 ∷ 5 ∷ []) (8 ∷ 0 ∷ []))
   example-PlaceRule = search rules
 
-  pub example-GrowsExactly : (v : TinyVec (List ℕ) ℕ ℕ) → GrowsExactly 4 9 (tiny_view (inline (1 ∷ []) (0 ∷ 0 ∷ 0 ∷ []))) (tiny_view v) → tiny_capacity 4 v ≡ 9
+  pub example-GrowsExactly : (v : TinyVec A ℕ) → GrowsExactly 4 9 (inline (1 ∷ []) (0 ∷ 0 ∷ 0 ∷ [])) v → tiny_capacity 4 v ≡ 9
   example-GrowsExactly v h = search rules
 
-  pub example-MovesToHeap : (v : TinyVec (List ℕ) ℕ ℕ) → MovesToHeap 4 (tiny_view (inline (1 ∷ []) (0 ∷ 0 ∷ 0 ∷ []))) (tiny_view v) done → tiny_capacity 4 v ≡ 1
+  pub example-MovesToHeap : (v : TinyVec A ℕ) → MovesToHeap 4 (inline (1 ∷ []) (0 ∷ 0 ∷ 0 ∷ [])) v done → tiny_capacity 4 v ≡ 1
   example-MovesToHeap v h = search rules
 
-  pub example-MovesToHeapWithRoom : (v : TinyVec (List ℕ) ℕ ℕ) → MovesToHeapWithRoom 4 2 (tiny_view (inline (1 ∷ []) (0 ∷ 0 ∷ 0 ∷ []))) (tiny_view v) done → tiny_capacity 4 v ≡ 3
+  pub example-MovesToHeapWithRoom : (v : TinyVec A ℕ) → MovesToHeapWithRoom 4 2 (inline (1 ∷ []) (0 ∷ 0 ∷ 0 ∷ [])) v done → tiny_capacity 4 v ≡ 3
   example-MovesToHeapWithRoom v h = search rules
 
-  pub example-ClonesBehind : ClonesBehind C (7 ∷ []) 1 (tiny_view (inline (1 ∷ []) (0 ∷ 0 ∷ 0 ∷ []))) (tiny_view (inline (1 ∷ []) (7 ∷ 0 ∷ 0 ∷ [])))
+  pub example-ClonesBehind : ClonesBehind C (7 ∷ []) 1 (inline (1 ∷ []) (0 ∷ 0 ∷ 0 ∷ [])) (inline (1 ∷ []) (7 ∷ 0 ∷ 0 ∷ []))
   example-ClonesBehind = λ _. record {
     made = 7 ∷ [];
     clones = (refl, tt);
@@ -142,10 +142,10 @@ module _ (alloc : Global) where
   pub example-RefusedFor : RefusedFor 4 5 ⊥ (inline (1 ∷ 2 ∷ 3 ∷ 4 ∷ []) []) (inline (1 ∷ 2 ∷ 3 ∷ 4 ∷ []) [])
   example-RefusedFor = search rules
 
-  pub example-ClonesRefused : ClonesRefused (record { is_clone = C; is_infallible = I }) 4 (5 ∷ []) (tiny_view (inline (1 ∷ 2 ∷ 3 ∷ 4 ∷ []) [])) (tiny_view (inline (1 ∷ 2 ∷ 3 ∷ 4 ∷ []) []))
+  pub example-ClonesRefused : ClonesRefused (record { is_clone = C; is_infallible = I }) 4 (5 ∷ []) (inline (1 ∷ 2 ∷ 3 ∷ 4 ∷ []) []) (inline (1 ∷ 2 ∷ 3 ∷ 4 ∷ []) [])
   example-ClonesRefused = search rules
 
-  pub example-IsTinyClone : IsTinyClone C 4 (tiny_view (inline (1 ∷ []) (0 ∷ 0 ∷ 0 ∷ []))) (tiny_view (inline (1 ∷ []) (0 ∷ 0 ∷ 0 ∷ [])))
+  pub example-IsTinyClone : IsTinyClone C 4 (inline (1 ∷ []) (0 ∷ 0 ∷ 0 ∷ [])) (inline (1 ∷ []) (0 ∷ 0 ∷ 0 ∷ []))
   example-IsTinyClone = record {
     items = (refl, tt);
     len = refl;
@@ -155,18 +155,18 @@ module _ (alloc : Global) where
     capacity = search rules;
   }
 
-  pub example-IsTinyInfallible : IsTinyInfallible I (tiny_view (inline (1 ∷ []) (0 ∷ 0 ∷ 0 ∷ [])))
+  pub example-IsTinyInfallible : IsTinyInfallible I (inline (1 ∷ []) (0 ∷ 0 ∷ 0 ∷ []))
   example-IsTinyInfallible = search rules
 
-  pub example-Collects : Collects D 4 (1 ∷ []) (tiny_view (inline (1 ∷ []) (0 ∷ 0 ∷ 0 ∷ [])))
+  pub example-Collects : Collects D 4 (1 ∷ []) (inline (1 ∷ []) (0 ∷ 0 ∷ 0 ∷ []))
   example-Collects = search rules
 
 -- two vectors that have room for four and for eight items
-module _ (v w : TinyVec (List ℕ) ℕ ℕ) (small : tiny_capacity 4 v ≡ 4) (large : tiny_capacity 4 w ≡ 8) where
-  pub example-Doubles : Doubles 4 5 (tiny_view v) (tiny_view w)
+module _ {A : Type 0} (v w : TinyVec A ℕ) (small : tiny_capacity 4 v ≡ 4) (large : tiny_capacity 4 w ≡ 8) where
+  pub example-Doubles : Doubles 4 5 v w
   example-Doubles = search rules
 
-  pub example-GrowsFor : is_inline v ≡ false → GrowsFor 4 5 (tiny_view v) (tiny_view w)
+  pub example-GrowsFor : is_inline v ≡ false → GrowsFor 4 5 v w
   example-GrowsFor outside = search rules
 
 pub example-items_moved : items_moved 4 true false ≡ 4

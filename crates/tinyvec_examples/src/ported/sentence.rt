@@ -5,10 +5,7 @@ use tinyvec_array::ArrayVec;
 pub fn fields(sentence: &str) -> Option<ArrayVec<[&str; 20]>> {
     let body = sentence.strip_prefix('$')?;
     let (body, _checksum) = body.split_once('*')?;
-    match ArrayVec::from_iter(body.split(',')) {
-        Ok(fields) => Some(fields),
-        Err(_) => None,
-    }
+    ArrayVec::from_iter(body.split(',')).ok()
 }
 
 /// The time of day, if the sentence is of a fix.

@@ -8,5 +8,5 @@ pub returns-clause-slot_rule : goal.returns-clause-slot_rule
 returns-clause-slot_rule g c =
     let s = c.splice-splice.result in
     let lender = c.splice-splice.ensures.same_reference in
-    let fact = ended_slots g.A.Slots g.A.Item.Default.is_default s s c.args.vec.now c.finish-finished.new.self.0 (keeps_same g.A.Slots s) c.splice-splice.ensures.slots c.finish-finished.ensures.changes.slot_rule in
-    subst (λ v. SlotRule g.A.Item.Default.is_default (view_of g.A.Slots c.args.vec.now) (view_of g.A.Slots v)) (search rules) fact
+    let fact = ended_slots g.A.Item.Default.is_default s s c.args.vec.now c.finish-finished.new.self.0 (keeps_same s) c.splice-splice.ensures.slots c.finish-finished.ensures.slot_rule in
+    subst (SlotRule g.A.Item.Default.is_default c.args.vec.now) (search rules) fact

@@ -2,7 +2,7 @@ use Rattle.std.proofs.Common.{refl, ◌≡◌, ◌++◌, List, ℕ, [], take, po
 use Rattle.tinyvec_slots.specs.Slots.{spare, split_at}
 use Rattle.tinyvec_slots.proofs.SlotsLemmas.{defaults_are}
 use Rattle.tinyvec_script.specs.Script.{start, zeros, State, IsZero}
-use Rattle.tinyvec_array.specs.SliceVec.{view}
+use Rattle.tinyvec_slice.specs.SliceVec.{view}
 use Rattle.tinyvec.specs.TinyVec.{tiny_view}
 use Rattle.tinyvec.specs.View.{Place, in_array, on_heap, lies_inline}
 use Rattle.std.proofs.KnownBytes.{Appends-nil, Appends-trans, Consumes-nil, Consumes-trans, Consumes-kept}

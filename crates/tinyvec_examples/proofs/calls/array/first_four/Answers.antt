@@ -1,5 +1,5 @@
 use Rattle.std.proofs.Common.{◌≡◌, refl, ◌∙◌}
-use Rattle.tinyvec_array.specs.ArrayVec.{items}
+use Rattle.tinyvec_array.specs.Slots.{items}
 use Rattle.tinyvec_examples.proofs.calls.array.first_four.Goals as goal
 
 pub returns : goal.returns

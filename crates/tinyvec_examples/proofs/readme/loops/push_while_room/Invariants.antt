@@ -1,5 +1,5 @@
 use Rattle.std.proofs.Common.{◌≡◌, ◌≤◌, ◌++◌, take}
-use Rattle.tinyvec_array.specs.ArrayVec.{items, items_len}
+use Rattle.tinyvec.specs.Slots.{items, items_len}
 use Rattle.tinyvec_examples.proofs.readme.loops.push_while_room.Given as goal
 
 abbrev pub invariant-loop-number : goal.invariant-loop-number

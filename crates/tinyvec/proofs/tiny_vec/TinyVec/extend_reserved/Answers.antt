@@ -1,0 +1,21 @@
+use Rattle.std.proofs.Common.{arith}
+use Rattle.tinyvec.proofs.ExtendingLemmas.{inline_clones, heap_clones}
+use Rattle.tinyvec.proofs.tiny_vec.TinyVec.extend_reserved.Goals as goal
+
+pub extend_from_slice-requires : goal.extend_from_slice-requires
+extend_from_slice-requires g c =
+    let room = rw c.in-Inline.is at c.requires.room in
+    record { room = omega (arith, room) }
+
+pub push_many_clones-requires : goal.push_many_clones-requires
+push_many_clones-requires g c =
+    let room = rw c.in-Heap.is at c.requires.room in
+    record { room = omega (arith, room, c.in-Heap.v.ok.0) }
+
+pub returns-in-Inline : goal.returns-in-Inline
+returns-in-Inline g c =
+    rw c.in-Inline.is (inline_clones g.A.Item.Clone _ _ _ c.in-Inline.v c.extend_from_slice.new.self c.in-Inline.field-1
+    c.extend_from_slice.ensures.clones c.extend_from_slice.ensures.fits)
+
+pub returns-in-Heap : goal.returns-in-Heap
+returns-in-Heap g c = rw c.in-Heap.is (heap_clones g.A.Item.Clone _ _ _ c.in-Heap.v c.push_many_clones.new.heap c.push_many_clones.ensures)

@@ -1,0 +1,16 @@
+use Rattle.std.proofs.Common.{length, ap, subst, arith, rules}
+use Rattle.tinyvec_slots.proofs.KnownItems.{copied_yields}
+use Rattle.tinyvec.specs.TinyVec.{tiny_items, Becomes}
+use Rattle.tinyvec.proofs.FrameLemmas.{grows_in_room}
+use Rattle.tinyvec_slots.proofs.Lists.{length-replaced}
+use Rattle.tinyvec.proofs.ReplacingLemmas.{replaced}
+use Rattle.tinyvec.proofs.tiny_vec.TinyVec.replace_reserved.Goals as goal
+
+pub returns : goal.returns
+returns g c =
+    let new = c.args.replacement.now in
+    let is = replaced _ _ _ new (tiny_items c.args.self.now) _ _ c.requires.start_le_end c.requires.in_list c.requires.room
+    (c.splice_all-all_fit.ensures.known new (λ it h. copied_yields new it (search rules))) in
+    let long = length-replaced _ _ new (tiny_items c.args.self.now) c.requires.start_le_end c.requires.in_list in
+    subst (Becomes g.A.Item.Default.is_default g.A.Array.CAPACITY c.args.self.now c.splice_all-all_fit.new.self) is
+    (grows_in_room _ _ _ _ (omega (arith, ap length is, long, c.requires.room)) c.splice_all-all_fit.ensures.grows)

@@ -1,0 +1,74 @@
+-- What a contract sees of the drain of a vector in lent slots.
+use Rattle.std.specs.Prelude.{◌≡◌, ℕ, ◌-◌, ◌≤◌, List, ◌++◌, length, drop, slice_range, Option}
+use Rattle.std.specs.Borrow.{GName, MutBor}
+use Rattle.std.specs.Iterator.Runs.{YieldsInOrder}
+use Rattle.tinyvec_slots.specs.Slots.{AreDefaults}
+use Rattle.tinyvec_slots.specs.AnyDrain.{Steps}
+use Rattle.tinyvec_slice.specs.SliceVec.{items_of, spare_of, name_of}
+use Rattle.tinyvec_slice.specs.declared.lent.Lent as Lent
+use Rattle.tinyvec_slice.specs.declared.slice_vec.GenericSliceVec.{GenericSliceVec}
+use Rattle.tinyvec_slice.specs.declared.drain.GenericSliceVecDrain.{GenericSliceVecDrain}
+
+module _ {B T : Type 0} where
+  -- how many items remain
+  abbrev pub drain_left : GenericSliceVecDrain B T → ℕ
+  drain_left d = d.count - d.front
+
+  -- how many slots are vacated
+  abbrev pub drain_count : GenericSliceVecDrain B T → ℕ
+  drain_count d = d.count
+
+  -- the ghost name of the reference to the vector
+  abbrev pub drain_lender : GenericSliceVecDrain B T → GName
+  drain_lender d = d.vec.ghost_name
+
+module _ {B T : Type 0} (g : Lent.Ghosts B T) where
+  -- the remaining items
+  abbrev pub drain_items : GenericSliceVecDrain B T → List T
+  drain_items d = slice_range (spare_of g d.vec.now) d.front d.count
+
+  -- the list of the vector
+  abbrev pub drain_kept : GenericSliceVecDrain B T → List T
+  drain_kept d = items_of g d.vec.now
+
+  -- the spare slots after the vacated ones
+  abbrev pub drain_spare : GenericSliceVecDrain B T → List T
+  drain_spare d = drop d.count (spare_of g d.vec.now)
+
+  -- the ghost name of the vector's own reference, which is to the slots
+  abbrev pub drain_name : GenericSliceVecDrain B T → GName
+  drain_name d = name_of g d.vec.now
+
+  -- the remaining items are in the vacated slots
+  abbrev pub DrainCanStep : GenericSliceVecDrain B T → Type 0
+  DrainCanStep d = (d.front ≤ d.count) × (d.count ≤ length (spare_of g d.vec.now))
+
+  -- what the vector is once d ended: the list as it was kept, and the vacated slots as defaults before the other spare ones
+  abbrev pub DrainLeaves : (T → Type 0) → GenericSliceVecDrain B T → GenericSliceVec B T → Type 0
+  DrainLeaves D d v = (name_of g v ≡ drain_name d) × (items_of g v ≡ drain_kept d)
+      × ((ds : List T) × AreDefaults D (drain_count d) ds × (spare_of g v ≡ ds ++ drain_spare d))
+
+  -- old and new borrow the same vector, and leave it the same
+  pub record DrainKeeps (old new : GenericSliceVecDrain B T) : Type 0 where
+    pub same_reference : drain_lender new ≡ drain_lender old
+    pub same_slots : drain_name new ≡ drain_name old
+    pub kept : drain_kept new ≡ drain_kept old
+    pub count : drain_count new ≡ drain_count old
+    pub spare : drain_spare new ≡ drain_spare old
+    pub ready : DrainCanStep old → DrainCanStep new
+
+  -- `next` took old to new, and returned the first item
+  abbrev pub DrainSteps : GenericSliceVecDrain B T → Option T → GenericSliceVecDrain B T → Type 0
+  DrainSteps = Steps drain_items DrainKeeps
+
+  -- d took xs out of the list of v, and left `others`. It yields xs in order. Once it is dropped, the vacated slots precede the
+  -- old spare slots. `same_reference` is of the reference to the vector; `same_slots` is what other calls name `same_reference`.
+  pub record DrainBegins (v : MutBor (GenericSliceVec B T)) (xs others : List T) (d : GenericSliceVecDrain B T) : Type 0 where
+    pub rest : drain_items d ≡ xs
+    pub ready : DrainCanStep d
+    pub runs : YieldsInOrder DrainSteps drain_items
+    pub same_reference : drain_lender d ≡ v.ghost_name
+    pub same_slots : drain_name d ≡ name_of g v.now
+    pub kept : drain_kept d ≡ others
+    pub count : drain_count d ≡ length (drain_items d)
+    pub spare : drain_spare d ≡ spare_of g v.now

@@ -1,0 +1,50 @@
+-- The laws of `CanSplice` of a vector in lent slots.
+use Rattle.std.proofs.Common.{◌≡◌, ℕ, ◌+◌, ◌-◌, ◌≤◌, length, refl, sym, ap, ◌∙◌, arith, length-append, take-append-drop}
+use Rattle.tinyvec_slots.specs.Slots.{SlotRule}
+use Rattle.tinyvec_slots.proofs.SlotsLemmas.{shortened}
+use Rattle.tinyvec_slice.specs.SliceVec.{view_of, items_of, spare_of, slots_of, SameLender, VacatesOf, Changes}
+use Rattle.tinyvec_slice.specs.CutLaws.{KeptOf, CutOf}
+use Rattle.tinyvec_slice.specs.declared.lent.Lent as Lent
+use Rattle.tinyvec_slice.specs.declared.slice_vec.GenericSliceVec.{GenericSliceVec}
+
+module _ {B T : Type 0} (g : Lent.Ghosts B T) where
+  pub parts_of : (v : GenericSliceVec B T) → length (slots_of g v) ≡ length (items_of g v) + length (spare_of g v)
+  parts_of v = ap length (sym (take-append-drop v.len (g.slots v.lent))) ∙ length-append (items_of g v) (spare_of g v)
+
+  pub kept_refl : (v : GenericSliceVec B T) → KeptOf g v v
+  kept_refl v = (refl, (refl, refl))
+
+  -- a write of the list leaves as many slots
+  pub kept_count : (v w : GenericSliceVec B T) → KeptOf g v w → length (slots_of g w) ≡ length (slots_of g v)
+  kept_count v w k = omega (arith, parts_of v, parts_of w, ap length k.1.0, k.1.1)
+
+  module _ (D : T → Type 0) where
+    -- so do calls that vacate slots
+    pub vacated_count : (old new : GenericSliceVec B T) (n : ℕ) → length (items_of g new) + n ≡ length (items_of g old)
+        → VacatesOf g D n old new → length (slots_of g new) ≡ length (slots_of g old)
+    vacated_count old new n shorter h =
+        let behind = ap length h.2 ∙ length-append h.0 (spare_of g old) in
+        omega (arith, parts_of new, parts_of old, behind, h.1.0, shorter)
+
+    pub cut_lender : (old new : GenericSliceVec B T) → CutOf g D old new → SameLender g old new
+    cut_lender old new h = record {
+      same_reference = h.0;
+      slot_count = vacated_count old new (length (items_of g old) - length (items_of g new)) (omega (arith, h.1.bound)) h.1.spare;
+    }
+
+    pub cut_changes : (v w : GenericSliceVec B T) → CutOf g D v w → Changes g D v w
+    cut_changes v w h = record { lender = cut_lender v w h; slot_rule = shortened D (view_of g v) (view_of g w) h.1 }
+
+    pub changed_around : (u v w x : GenericSliceVec B T) → KeptOf g u v → Changes g D v w → KeptOf g w x → Changes g D u x
+    changed_around u v w x k h j =
+        let first : SlotRule D (view_of g u) (view_of g w) = rw (sym k.1.0, sym k.1.1) h.slot_rule in
+        record {
+          lender = record {
+            same_reference = j.0 ∙ h.lender.same_reference ∙ k.0;
+            slot_count = kept_count w x j ∙ h.lender.slot_count ∙ kept_count u v k;
+          };
+          slot_rule = rw (j.1.0, j.1.1) first;
+        }
+
+    pub not_fewer : (v w : GenericSliceVec B T) → Changes g D v w → length (slots_of g v) ≤ length (slots_of g w)
+    not_fewer v w h = omega (arith, h.lender.slot_count)
