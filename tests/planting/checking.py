@@ -20,6 +20,8 @@ ERROR = re.compile(r"^(?:\./)?proofs/(\S+)/\w+\.antt:\d+:\d+: error: (.*(?:\n  .
 FOLLOWS = re.compile(r"which (?:was|were) rejected, (?:was|were) not checked")
 GONE = re.compile(r"has no field|is not in scope|has no `|was not admitted")
 DIFFERS = re.compile(r"the two types|but this has type|one side reads|≟")
+# What is said of a function where another edit of the round took the proof from one that it calls.
+HIDDEN = re.compile(r"no proof: (?:it calls |the borrow checker's part .* a call of `\S+`, which has no proof)")
 # How an edit is refused, from what shows most to what shows least.
 KINDS = ("refused", "refused by a written proof alone", "refused by a name that is gone")
 JUDGED = re.compile(r"^(?:logic=(?:not-)?proved\b|only=\d+ proved=\d+$)", re.M)
@@ -41,7 +43,7 @@ class Said:
         """Of which kind the refusal of a function is, or None where it is not refused, or only for another that it calls."""
         verdict, errors = self.verdicts[path], self.errors.get("/".join(path.split("::")[1:]), [])
         told = [it for it in errors if not FOLLOWS.search(it)]
-        if not verdict.startswith(("not proved", "no proof")) or verdict.startswith("no proof: it calls ") or errors and not told:
+        if not verdict.startswith(("not proved", "no proof")) or HIDDEN.match(verdict) or errors and not told:
             return None
         if verdict.startswith("no proof") or not all(GONE.search(it) or DIFFERS.search(it) for it in told) or not told:
             return KINDS[0]
