@@ -79,7 +79,7 @@ pub fn read_all<R: Read>(alloc: Global, reader: &mut Counted<R>) -> Recovered
     ensures valid { AllByRecursion ReadingFits (map said result.records.items) }
     ensures fault { IsErrOf result.end StreamError.Io → Reported reader.old.faults reader.new.faults }
 
-    // One call of the reader failed if the end is the error `Io`, else none.
+    // Exactly one call of the reader fails if `end` is `Err(Io)`, and none otherwise.
     ensures failed { CountsFault (ends_by_io result.end) reader.old.failed reader.new.failed }
 
     // The records at the front of the input are all read, and the end is described.
